@@ -1,6 +1,15 @@
-//! The objects of the product: polygon meshes as face lists, walks along their edges, elementary moves.
+//! The objects of the product: polygon meshes as face lists, walks along their edges, and the
+//! elementary moves that change a walk.
 #![tactic(auto)]
 
-mod names;
+pub mod edges;
+pub mod faces;
+pub mod moves;
+pub mod names;
+pub mod walks;
 
+pub use edges::Side;
+pub use faces::Faces;
+pub use moves::{Move, MoveList};
 pub use names::{CellName, DartName, EdgeName, FaceName, Spoke, VertexName};
+pub use walks::Walk;
