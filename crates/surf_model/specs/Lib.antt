@@ -5,3 +5,4 @@ pub mod StoredFaces
 pub mod Walks
 pub mod Moves
 pub mod Edges
+pub mod Examples

@@ -13,3 +13,6 @@ pub use faces::Faces;
 pub use moves::{Move, MoveList};
 pub use names::{CellName, DartName, EdgeName, FaceName, Spoke, VertexName};
 pub use walks::Walk;
+
+#[cfg(test)]
+mod tests;
