@@ -1,5 +1,5 @@
 //! Walks along the edges of a mesh.
-ghost use Rattle.std.specs.Prelude.{◌≡◌, ◌+◌, ◌<◌, ◌≤◌, ◌^◌, [], ◌∷◌, ◌++◌, slice_index, OnOk, OnErr, IfOk};
+ghost use Rattle.std.specs.Prelude.{◌≡◌, ◌+◌, ◌<◌, ◌≤◌, ◌^◌, [], ◌∷◌, ◌++◌, length, slice_index, OnOk, OnErr, IfOk};
 ghost use Rattle.surf_model.specs.Walks.{darts};
 
 use crate::names::VertexName;
@@ -47,7 +47,9 @@ impl Walk {
 
     /// The number of darts: one less than the number of entries.
     pub fn darts(&self) -> u32
-        ensures { result ≡ darts self.now }
+        ensures count { result ≡ darts self.now }
+        // What holds of every walk.
+        ensures starts { 0 < length self.now }
     {
         self.vertices.len() as u32 - 1
     }
