@@ -1,2 +1,9 @@
 pub mod PartsLemmas
 pub mod StoredLemmas
+pub mod StoredEdgeLemmas
+pub mod TableLemmas
+pub mod SortLemmas
+pub mod CutLemmas
+pub mod NumberLemmas
+pub mod FoundLemmas
+pub mod MeshTableLemmas

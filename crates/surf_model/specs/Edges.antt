@@ -1,5 +1,5 @@
 -- The table of the edges of a face list.
-use Rattle.std.specs.Prelude.{◌≡◌, ℕ, ◌<◌, ◌⊎◌, List, length, map, filter, All, Any, AllPairs, IsTrue}
+use Rattle.std.specs.Prelude.{◌≡◌, ℕ, ◌<◌, ◌⊎◌, List, [], length, map, filter, All, Any, AllPairs, IsTrue, slice_index_or}
 use Rattle.surf_model.specs.FaceLists.{FaceList, FaceSide, all_sides, joins}
 use Rattle.surf_model.specs.declared.edges.Side.{Side}
 
@@ -28,3 +28,15 @@ pub record IsTableOf (mesh : FaceList) (table : List Edge) : Type 0 where
   pub edges : All (IsEdgeOf mesh) table
   pub rising : AllPairs (λ (e f : Edge). IsPairBefore e.low e.high f.low f.high) table
   pub complete : All (λ (side : FaceSide). Any (λ (e : Edge). IsTrue (joins e.low e.high side)) table) (all_sides mesh)
+
+-- edge k of a table; an edge without sides where the table has no such edge
+abbrev pub edge_in : List Edge → ℕ → Edge
+edge_in table k = slice_index_or table k (record { low = 0; high = 0; sides = [] })
+
+-- the edge joins the two vertices, in either order
+abbrev pub HasEnds : ℕ → ℕ → Edge → Type 0
+HasEnds u v edge = ((edge.low ≡ u) × (edge.high ≡ v)) ⊎ ((edge.low ≡ v) × (edge.high ≡ u))
+
+-- the vertex is an end of the edge
+abbrev pub IsEndOf : ℕ → Edge → Type 0
+IsEndOf v edge = (edge.low ≡ v) ⊎ (edge.high ≡ v)

@@ -5,4 +5,5 @@ pub mod StoredFaces
 pub mod Walks
 pub mod Moves
 pub mod Edges
+pub mod StoredEdges
 pub mod Examples

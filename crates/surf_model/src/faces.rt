@@ -4,6 +4,7 @@ ghost use Rattle.surf_model.specs.FaceLists.{face_at, total_sides, IsFace, IsFac
 ghost use Rattle.surf_model.specs.Vertices.{numbers};
 
 use crate::names::{FaceName, VertexName};
+use crate::parts::start_of;
 use std::alloc::{AllocError, Global};
 use std::marker::Model;
 
@@ -88,7 +89,7 @@ impl Faces {
         requires { face.0 < length self.now.faces }
         ensures { result ≡ length (face_at self.now face.0) }
     {
-        self.ends[face.0 as usize] - start_of(&self.ends, face)
+        self.ends[face.0 as usize] - start_of(&self.ends, face.0)
     }
 
     /// The vertex at corner `t` of a face.
@@ -97,7 +98,7 @@ impl Faces {
         requires corner { t < length (face_at self.now face.0) }
         ensures { result.0 ≡ slice_index (face_at self.now face.0) t }
     {
-        self.corners[(start_of(&self.ends, face) + t) as usize]
+        self.corners[(start_of(&self.ends, face.0) + t) as usize]
     }
 
     /// The number of sides of all faces together.
@@ -105,17 +106,5 @@ impl Faces {
         ensures { result ≡ total_sides self.now }
     {
         self.corners.len() as u32
-    }
-}
-
-/// Where a face starts: where the one before it ends.
-fn start_of(ends: &[u32], face: FaceName) -> u32
-    requires { face.0 < length ends.now }
-    ensures { result ≡ slice_index (0 ∷ ends.now) face.0 }
-{
-    if face.0 == 0 {
-        0
-    } else {
-        ends[face.0 as usize - 1]
     }
 }

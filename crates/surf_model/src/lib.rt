@@ -6,13 +6,16 @@ pub mod edges;
 pub mod faces;
 pub mod moves;
 pub mod names;
+mod parts;
 pub mod walks;
 
-pub use edges::Side;
+pub use edges::{Side, Sides};
 pub use faces::Faces;
 pub use moves::{Move, MoveList};
 pub use names::{CellName, DartName, EdgeName, FaceName, Spoke, VertexName};
 pub use walks::Walk;
 
+#[cfg(test)]
+mod sides_tests;
 #[cfg(test)]
 mod tests;

@@ -1,0 +1,9 @@
+pub mod Rows
+pub mod MoveLaws
+pub mod MoveLines
+pub mod WalkLines
+pub mod Appending
+pub mod Long
+pub mod Stopping
+pub mod Verifying
+pub mod Outcomes

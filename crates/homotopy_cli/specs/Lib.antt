@@ -1,0 +1,9 @@
+pub mod Commands
+pub mod PlainWalks
+pub mod PlainMoves
+pub mod Reading
+pub mod Contents
+pub mod Outcomes
+pub mod Texts
+pub mod Numbers
+pub mod Stops

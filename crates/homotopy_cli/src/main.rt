@@ -1,0 +1,39 @@
+//! The homotopy tester for edge walks on polygon meshes.
+#![tactic(auto)]
+
+mod answer;
+mod certificate;
+mod command;
+mod files;
+mod plain;
+mod run;
+mod status;
+mod verify;
+mod walks;
+
+use crate::run::run;
+use crate::status::Status;
+use std::process::ExitCode;
+use std::rt::Env;
+use std::{env, io};
+use surf_io::{FileShelf, OutSink};
+
+fn main(rt: HostRuntime) -> ExitCode {
+    let words = match read_words(&rt) {
+        Ok(words) => words,
+        Err(error) if error.kind() == io::ErrorKind::OutOfMemory => {
+            return ExitCode::from(Status::OutOfMemory.number());
+        }
+        // Words that are no text are no command, as no words are.
+        Err(_) => Vec::new(rt.alloc()),
+    };
+    let mut shelf = FileShelf::new(&rt, rt.alloc());
+    let mut out = OutSink::new(&rt);
+    let status = run(rt.alloc(), &words, &mut shelf, &mut out);
+    ExitCode::from(status.number())
+}
+
+/// The words behind the program's name.
+fn read_words<R: Env + AllocGlobal>(rt: &R) -> io::Result<Vec<String>> {
+    Ok(env::args(rt)?.skip(1).collect(rt.alloc())?)
+}

@@ -1,0 +1,12 @@
+use Rattle.std.proofs.Common.{◌↔◌, List, ℕ, rules}
+use Rattle.std.specs.Prelude.{Option, IsSome, IsNone}
+use Rattle.move_checker.specs.declared.fault.MoveFault.{MoveFault}
+use Rattle.move_checker.proofs.Steps.{Judged, is_refused, is_allowed, judged}
+use Rattle.move_checker.proofs.laws.refused_with_reason.Goals as goal
+
+both : (refusal : Option MoveFault) (given : Option (List ℕ)) → Judged refusal given → IsNone refusal ↔ IsSome given
+both refusal given (is_refused fault r g ne) = rw (r, g) (search rules)
+both refusal given (is_allowed next r g) = rw (r, g) (search rules)
+
+pub returns : goal.returns
+returns c = both _ _ (judged c.args._faces.now c.args._walk.now c.args._mv)

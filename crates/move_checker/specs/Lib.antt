@@ -1,0 +1,4 @@
+pub mod Tapes
+pub mod Refusals
+pub mod Verdicts
+pub mod Examples

@@ -1,0 +1,2 @@
+pub mod PlainMesh
+pub mod Reading

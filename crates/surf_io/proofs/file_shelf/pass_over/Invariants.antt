@@ -1,0 +1,4 @@
+use Rattle.surf_io.proofs.file_shelf.pass_over.Given as goal
+
+abbrev pub decreases-loop-left : goal.decreases-loop-left
+decreases-loop-left g l = l.left

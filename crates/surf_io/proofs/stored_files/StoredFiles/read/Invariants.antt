@@ -1,0 +1,11 @@
+use Rattle.std.proofs.Common.{◌≡◌, map}
+use Rattle.std.specs.Ordering.{nat_cmp}
+use Rattle.std.specs.Cmp.Lexicographic.{slice_cmp}
+use Rattle.std.specs.FinMap as finite
+use Rattle.std.specs.VecDeque.Iter.{deque_iter_rest}
+use Rattle.surf_io.specs.Stored.{entry_of}
+use Rattle.surf_io.proofs.stored_files.StoredFiles.read.Given as goal
+
+abbrev pub invariant-loop-file : goal.invariant-loop-file
+invariant-loop-file l =
+    finite.get l.self l.name ≡ finite.find (slice_cmp nat_cmp) l.name (map entry_of (deque_iter_rest l.file-iterator))

@@ -1,0 +1,33 @@
+//! The world outside, as files to read by name and a sink to write to, with a count of faults.
+#![tactic(auto)]
+
+mod digits;
+mod fault_plan;
+mod faults;
+mod file_shelf;
+mod memory_shelf;
+mod memory_sink;
+mod out_sink;
+mod quiet_shelf;
+mod quiet_sink;
+mod read;
+mod shelf;
+mod sink;
+mod stored_files;
+mod write;
+
+pub use digits::{put_natural, put_signed};
+pub use faults::Failed;
+pub use file_shelf::FileShelf;
+pub use memory_shelf::MemoryShelf;
+pub use memory_sink::MemorySink;
+pub use out_sink::OutSink;
+pub use quiet_shelf::QuietShelf;
+pub use quiet_sink::QuietSink;
+pub use read::{ReadEnd, read_whole};
+pub use shelf::Shelf;
+pub use sink::Sink;
+pub use write::write_whole;
+
+#[cfg(test)]
+mod tests;

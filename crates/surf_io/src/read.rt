@@ -1,0 +1,84 @@
+//! Reading a whole file.
+ghost use Rattle.std.specs.Prelude.{◌≡◌, ℕ, ◌+◌, ◌<◌, ◌≤◌, List, length, take, drop, Option, None, IfOk, OnOk, IfSome, vec_len};
+ghost use Rattle.surf_io.specs.Faults.{Rose};
+ghost use Rattle.surf_io.specs.Files.{file_of, GivesFrom};
+
+use crate::shelf::Shelf;
+use std::alloc::{AllocError, Global};
+use std::error::Error;
+use std::fmt;
+
+/// Why a file was not read whole.
+#[derive(Clone, Copy, Debug, PartialEq, Eq)]
+pub enum ReadEnd {
+    /// A read failed, and the shelf counted a fault.
+    Fault,
+    /// The file has more bytes than the limit allows.
+    TooLarge,
+    /// There was no memory for the bytes.
+    OutOfMemory,
+}
+
+impl fmt::Display for ReadEnd {
+    fn fmt<W: fmt::Write>(&self, f: &mut fmt::Formatter<W>) -> fmt::Result {
+        match self {
+            ReadEnd::Fault => write!(f, "a read failed"),
+            ReadEnd::TooLarge => write!(f, "the file is too large"),
+            ReadEnd::OutOfMemory => write!(f, "out of memory"),
+        }
+    }
+}
+
+impl Error for ReadEnd {}
+
+/// The least room that a read is given, in bytes.
+const PIECE: usize = 65_536;
+
+/// Reads the file `name` from its first byte to its end. A file of more than `limit` bytes is too
+/// large.
+pub fn read_whole<S: Shelf>(
+    alloc: Global,
+    shelf: &mut S,
+    name: &str,
+    limit: u64,
+) -> Result<Vec<u8>, ReadEnd>
+    ensures within_limit { IfOk result (λ bytes. vec_len bytes ≤ limit) }
+    ensures whole_file { IfOk result (λ bytes. IfSome (file_of (S.held shelf.old) name.now) (λ file. bytes.items ≡ file)) }
+    ensures fault_only_on_fault { result ≡ Err ReadEnd.Fault → Rose (S.faults shelf.old) (S.faults shelf.new) }
+    ensures too_large { result ≡ Err ReadEnd.TooLarge → IfSome (file_of (S.held shelf.old) name.now) (λ file. limit < length file) }
+    ensures same_files { S.held shelf.new ≡ S.held shelf.old }
+    ensures never_falls { S.faults shelf.old ≤ S.faults shelf.new }
+{
+    let mut bytes = Vec::new(alloc);
+    let mut filled = 0;
+    loop {
+        let Ok(()) = make_room(&mut bytes, filled) else {
+            return Err(ReadEnd::OutOfMemory);
+        };
+        let Ok(count) = shelf.read(name, filled as u64, &mut bytes[filled..]) else {
+            return Err(ReadEnd::Fault);
+        };
+        if count == 0 {
+            bytes.truncate(filled);
+            return Ok(bytes);
+        }
+        filled += count;
+        if filled as u64 > limit {
+            return Err(ReadEnd::TooLarge);
+        }
+    }
+}
+
+// Makes room for a piece past the first `filled` bytes. The room doubles, so that a byte is moved
+// only a few times.
+fn make_room(bytes: &mut Vec<u8>, filled: usize) -> Result<(), AllocError>
+    requires { filled ≤ vec_len bytes.old }
+    ensures room { OnOk result (filled + PIECE ≤ vec_len bytes.new) }
+    ensures kept { OnOk result (take filled bytes.new.items ≡ take filled bytes.old.items) }
+{
+    if bytes.len() - filled < PIECE {
+        let grown = bytes.len().saturating_add(bytes.len().max(PIECE));
+        bytes.resize(grown, 0)?;
+    }
+    Ok(())
+}
