@@ -1,14 +1,13 @@
 -- The two laws of a move's line: what is read is spelled so, and what is spelled so is read.
-use Rattle.std.proofs.Common.{◌≡◌, ℕ, ◌+◌, ◌<◌, ◌^◌, Bool, true, false, List, [], ◌∷◌, ◌++◌, ◌⊎◌, inl, inr, refl, sym, ap, subst, ◌∙◌, append_assoc, arith}
+use Rattle.std.proofs.Common.{◌≡◌, ℕ, ◌<◌, ◌^◌, Bool, true, false, List, [], ◌∷◌, ◌++◌, ◌⊎◌, inl, inr, refl, sym, ap, subst, ◌∙◌, append_assoc}
 use Rattle.std.specs.Prelude.{Option, Some, None, option_map, codes, decimal}
 use Rattle.std.proofs.lemmas.Option.{none-some, same_Some, option_and_then_some}
 use Rattle.text_scan.specs.Plain.{line_of}
 use Rattle.text_scan.specs.Reading.{literal_at, number_then_at}
 use Rattle.text_scan.specs.declared.scan.Separator.TheVariants.{Blank, LineEnd}
 use Rattle.text_scan.proofs.Literals.{literal_again, literal_takes}
-use Rattle.text_scan.proofs.Numbers.{number_then_again, number_then_takes, IsTakenThen}
+use Rattle.text_scan.proofs.Numbers.{number_then_again, number_then_takes}
 use Rattle.surf_model.specs.declared.names.VertexName.{VertexName}
-use Rattle.surf_model.specs.declared.names.FaceName.{FaceName}
 use Rattle.surf_model.specs.declared.moves.Move.{Move}
 use Rattle.surf_model.specs.declared.moves.Move.TheVariants.{Insert, Remove, Across}
 use Rattle.homotopy_cli.specs.PlainMoves.{move_line, IsPlainMove, direction}

@@ -1,5 +1,5 @@
 -- The line of a walk, number by number.
-use Rattle.std.proofs.Common.{◌≡◌, ℕ, ◌+◌, ◌<◌, ◌≤◌, ◌^◌, List, [], ◌∷◌, ◌++◌, length, map, refl, sym, ap, subst, ◌∙◌, append_assoc, arith}
+use Rattle.std.proofs.Common.{◌≡◌, ℕ, ◌<◌, ◌^◌, List, [], ◌∷◌, ◌++◌, length, map, sym, ap, ◌∙◌, append_assoc, arith}
 use Rattle.std.specs.Prelude.{decimal, All}
 use Rattle.std.specs.List.{join_with_byte}
 use Rattle.std.proofs.lemmas.List.Elements.{All-head, All-tail}

@@ -8,6 +8,8 @@ mod files;
 mod plain;
 mod run;
 mod status;
+#[cfg(test)]
+mod tests;
 mod verify;
 mod walks;
 

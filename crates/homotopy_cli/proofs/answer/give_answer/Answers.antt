@@ -1,4 +1,4 @@
-use Rattle.std.proofs.Common.{◌≡◌, ◌∙◌, sym}
+use Rattle.std.proofs.Common.{◌∙◌}
 use Rattle.surf_io.specs.Bytes.{Appends}
 use Rattle.homotopy_cli.specs.Texts.{text_of}
 use Rattle.homotopy_cli.proofs.Appending.{AppendsPrefix-whole}

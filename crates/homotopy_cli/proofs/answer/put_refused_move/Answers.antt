@@ -1,4 +1,4 @@
-use Rattle.std.proofs.Common.{◌≡◌, ℕ, List, ◌++◌, length, sym, ap, ◌∙◌, subst, arith, rules}
+use Rattle.std.proofs.Common.{◌≡◌, ℕ, List, ◌++◌, sym, subst}
 use Rattle.std.specs.Prelude.{Option, Result, Ok, Err, OnOk, OnErr, codes, decimal}
 use Rattle.std.proofs.lemmas.Result.{err_from_is_err_and}
 use Rattle.surf_io.specs.Bytes.{Appends, AppendsPrefix}

@@ -1,9 +1,9 @@
-use Rattle.std.proofs.Common.{◌≡◌, ◌<◌, ◌≤◌, ◌^◌, ℕ, List, ◌++◌, length, refl, sym, ap, ◌∙◌, arith, rules}
-use Rattle.std.specs.Prelude.{Option, Some, None, Result, Ok, Err, IfOk, MatchResult, All, flat_map}
+use Rattle.std.proofs.Common.{◌≡◌, ◌≤◌, ℕ, List, length, refl, sym, ap, ◌∙◌, arith, rules}
+use Rattle.std.specs.Prelude.{Some, None, Result, Ok, Err, IfOk, MatchResult, All, flat_map}
 use Rattle.std.proofs.lemmas.Option.{none-some, same_Some}
 use Rattle.surf_model.specs.Moves.{PeakedMoves}
 use Rattle.surf_model.specs.declared.moves.Move.{Move}
-use Rattle.homotopy_cli.specs.PlainMoves.{move_line, IsPlainMove, IsPlainList, head_line}
+use Rattle.homotopy_cli.specs.PlainMoves.{move_line, IsPlainMove, IsPlainList}
 use Rattle.homotopy_cli.specs.Reading.{head_at}
 use Rattle.homotopy_cli.proofs.MoveLaws.{head_again, head_takes, IsHeadTaken}
 use Rattle.homotopy_cli.specs.declared.plain.PlainFault.{PlainFault}

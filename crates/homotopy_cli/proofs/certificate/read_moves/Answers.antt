@@ -1,10 +1,8 @@
-use Rattle.std.proofs.Common.{◌≡◌, ◌<◌, eqb, true, List, ℕ, [], ◌∷◌, ◌++◌, length, sym, ap, ◌∙◌, arith, rules}
-use Rattle.std.specs.Prelude.{Option, Some, None, option_map, max, All}
+use Rattle.std.proofs.Common.{◌≡◌, eqb, true, List, ℕ, [], ◌∷◌, ◌++◌, length, sym, ap, ◌∙◌, arith, rules}
+use Rattle.std.specs.Prelude.{Some, None, max}
 use Rattle.std.proofs.lemmas.List.Elements.{All-push, All-same}
 use Rattle.std.proofs.lemmas.List.{length_push}
 use Rattle.std.proofs.lemmas.Bool.{false≢true}
-use Rattle.surf_model.specs.Moves.{PeakedMoves}
-use Rattle.surf_model.specs.declared.moves.Move.{Move}
 use Rattle.homotopy_cli.specs.PlainMoves.{IsPlainMove}
 use Rattle.homotopy_cli.specs.Reading.{move_at}
 use Rattle.homotopy_cli.proofs.MoveLines.{lines_more, no_more_lines, all_lines}

@@ -1,5 +1,4 @@
-use Rattle.std.proofs.Common.{◌≡◌, List, ℕ, [], ◌∷◌, IfSome, length, get_or, sym, ap, arith, rules, subst}
-use Rattle.std.specs.Prelude.{string_bytes}
+use Rattle.std.proofs.Common.{◌≡◌, List, ℕ, [], ◌∷◌, IfSome, length, sym, ap, arith, subst}
 use Rattle.homotopy_cli.specs.Commands.{IsRow, texts}
 use Rattle.homotopy_cli.proofs.Rows.{texts_of_three, texts_of_four}
 use Rattle.homotopy_cli.proofs.command.read_command.Goals as goal

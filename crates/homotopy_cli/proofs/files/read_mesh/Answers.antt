@@ -1,6 +1,5 @@
-use Rattle.std.proofs.Common.{◌≡◌, List, ℕ, sym, ◌∙◌, subst}
+use Rattle.std.proofs.Common.{◌≡◌, sym, subst}
 use Rattle.std.proofs.lemmas.Result.{err_from_is_err_and}
-use Rattle.surf_model.specs.FaceLists.{FaceList}
 use Rattle.off_reader.specs.PlainMesh.{IsPlainMesh}
 use Rattle.homotopy_cli.specs.Stops.{stop_of_off}
 use Rattle.homotopy_cli.specs.declared.files.Stop.TheVariants.{NotBuilt}

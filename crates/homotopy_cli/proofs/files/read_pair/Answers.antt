@@ -1,4 +1,4 @@
-use Rattle.std.proofs.Common.{◌≡◌, List, ℕ, sym, ap, ◌∙◌, subst}
+use Rattle.std.proofs.Common.{◌≡◌, sym, ap, subst}
 use Rattle.std.proofs.lemmas.Result.{err_from_is_err_and}
 use Rattle.homotopy_cli.specs.PlainWalks.{IsPlainPair}
 use Rattle.homotopy_cli.specs.Stops.{stop_of_plain}

@@ -1,7 +1,4 @@
-use Rattle.std.proofs.Common.{◌≡◌, sym}
-use Rattle.std.specs.Prelude.{Some}
 use Rattle.std.proofs.lemmas.Option.{same_Some}
-use Rattle.homotopy_cli.specs.declared.command.Command.{Command}
 use Rattle.homotopy_cli.proofs.Outcomes.{wrong_words, other_row}
 use Rattle.homotopy_cli.proofs.run.find_answer.Goals as goal
 

@@ -1,4 +1,4 @@
-use Rattle.std.proofs.Common.{◌≡◌, true, false, sym, ◌∙◌, rules}
+use Rattle.std.proofs.Common.{sym, ◌∙◌}
 use Rattle.std.proofs.lemmas.Bool.{false≢true}
 use Rattle.homotopy_cli.proofs.walks.are_pair.Goals as goal
 use Rattle.homotopy_cli.proofs.walks.are_pair.Goals.{then-is_walk, else-is_walk}

@@ -1,9 +1,7 @@
-use Rattle.std.proofs.Common.{◌≡◌, ◌⊎◌, inl, inr, ℕ, ◌+◌, ◌-◌, ◌<◌, ◌≤◌, Bool, true, List, length, get_or, sym, ap, subst, ◌∙◌, below_more, arith, rules}
+use Rattle.std.proofs.Common.{◌≡◌, ℕ, ◌+◌, ◌<◌, true, List, length, sym, ap, subst, ◌∙◌, below_more, arith, rules}
 use Rattle.std.specs.Prelude.{slice_index, IsTrue, All, is_some}
 use Rattle.std.proofs.lemmas.List.{get_or_default}
-use Rattle.std.proofs.lemmas.Bool.{cases_lt}
-use Rattle.surf_model.specs.FaceLists.{FaceList, is_edge, is_used}
-use Rattle.surf_model.specs.Walks.{IsWalk, darts}
+use Rattle.surf_model.specs.FaceLists.{is_edge, is_used}
 use Rattle.homotopy_cli.proofs.walks.is_walk.Goals as goal
 
 -- entries that are used before a place, and the one there, are all used

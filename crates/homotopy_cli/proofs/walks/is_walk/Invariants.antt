@@ -1,4 +1,4 @@
-use Rattle.std.proofs.Common.{◌≡◌, ℕ, ◌+◌, ◌<◌}
+use Rattle.std.proofs.Common.{ℕ, ◌+◌, ◌<◌}
 use Rattle.std.specs.Prelude.{slice_index, IsTrue}
 use Rattle.surf_model.specs.FaceLists.{FaceList, is_edge, is_used}
 use Rattle.surf_model.specs.Edges.{IsTableOf}

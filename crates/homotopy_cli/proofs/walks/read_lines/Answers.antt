@@ -1,5 +1,4 @@
-use Rattle.std.proofs.Common.{◌≡◌, eqb, true, ℕ, List, [], ◌++◌, length, sym, ap, ◌∙◌, rules}
-use Rattle.std.specs.Prelude.{MatchResult}
+use Rattle.std.proofs.Common.{◌≡◌, eqb, true, ℕ, List, [], length, sym, ap, ◌∙◌}
 use Rattle.std.proofs.lemmas.Bool.{false≢true}
 use Rattle.std.proofs.lemmas.List.{append-nil}
 use Rattle.std.proofs.lemmas.Result.{err_from_is_err_and}

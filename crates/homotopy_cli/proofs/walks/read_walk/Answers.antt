@@ -1,15 +1,12 @@
-use Rattle.std.proofs.Common.{◌≡◌, false, refl, ◌<◌, ◌^◌, List, ℕ, [], ◌∷◌, ◌++◌, length, sym, ap, ◌∙◌, arith, rules}
-use Rattle.std.specs.Prelude.{Option, Some, None, All, decimal}
+use Rattle.std.proofs.Common.{◌≡◌, false, refl, List, ℕ, [], ◌∷◌, ◌++◌, length, sym, ap, ◌∙◌, arith, rules}
 use Rattle.std.proofs.lemmas.List.Elements.{All-push, All-same}
 use Rattle.std.proofs.lemmas.List.{length_push, length-append}
-use Rattle.text_scan.specs.Plain.{separator_byte, number_line}
-use Rattle.text_scan.specs.Reading.{number_at}
+use Rattle.text_scan.specs.Plain.{number_line}
 use Rattle.text_scan.specs.declared.scan.Separator.{Separator}
 use Rattle.text_scan.specs.declared.scan.Separator.TheVariants.{Blank, LineEnd}
 use Rattle.text_scan.specs.contracts.scan.Separator.{the_type}
 use denote.Enum.Bare.{sameb}
 use Rattle.text_scan.proofs.Numbers.{number_takes}
-use Rattle.homotopy_cli.specs.PlainWalks.{IsWalkLine}
 use Rattle.homotopy_cli.proofs.WalkLines.{Fits, numbers_to, numbers_to-push, begins_with, line_starts, one_line, plain_others}
 use Rattle.homotopy_cli.proofs.walks.read_walk.Goals as goal
 

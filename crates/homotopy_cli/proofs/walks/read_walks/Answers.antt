@@ -1,4 +1,4 @@
-use Rattle.std.proofs.Common.{◌≡◌, true, sym, ap, ◌∙◌, subst, List, ℕ}
+use Rattle.std.proofs.Common.{sym, ◌∙◌, subst, List, ℕ}
 use Rattle.std.proofs.lemmas.Bool.{false≢true}
 use Rattle.homotopy_cli.specs.PlainWalks.{AreWalksTogether}
 use Rattle.homotopy_cli.proofs.walks.read_walks.Goals as goal

@@ -1,0 +1,229 @@
+//! The whole program over files and output in memory. The wanted texts are worked examples.
+use crate::run::run;
+use crate::status::Status;
+use std::alloc::{AllocError, Global};
+use std::process::Abort;
+use surf_io::{MemoryShelf, MemorySink};
+
+const TETRAHEDRON: &str =
+    "OFF\n4 4 6\n0 0 0\n1 0 0\n0 1 0\n0 0 1\n3 0 1 2\n3 0 3 1\n3 0 2 3\n3 1 3 2\n";
+
+const TORUS: &str = "OFF\n7 14 0\n0 0 0\n0 0 0\n0 0 0\n0 0 0\n0 0 0\n0 0 0\n0 0 0\n\
+3 0 1 3\n3 1 2 4\n3 2 3 5\n3 3 4 6\n3 4 5 0\n3 5 6 1\n3 6 0 2\n\
+3 0 3 2\n3 1 4 3\n3 2 5 4\n3 3 6 5\n3 4 0 6\n3 5 1 0\n3 6 2 1\n";
+
+/// The walks of most examples: two sides of a face, and the third.
+const SIDES: &str = "0 1 2\n0 2\n";
+
+#[derive(Clone, Copy)]
+struct Example {
+    mesh: &'static str,
+    walks: &'static str,
+    certificate: &'static str,
+    text: &'static str,
+    status: Status,
+}
+
+const fn on_tetrahedron(
+    walks: &'static str,
+    certificate: &'static str,
+    text: &'static str,
+    status: Status,
+) -> Example {
+    Example {
+        mesh: TETRAHEDRON,
+        walks,
+        certificate,
+        text,
+        status,
+    }
+}
+
+fn words(alloc: Global, all: &[&str]) -> Result<Vec<String>, AllocError> {
+    let mut words = Vec::new(alloc);
+    for word in all {
+        words.push(String::from_str(alloc, word)?)?;
+    }
+    Ok(words)
+}
+
+fn shelf_of(
+    alloc: Global,
+    mesh: &str,
+    walks: &str,
+    certificate: &str,
+) -> Result<MemoryShelf, AllocError> {
+    let mut shelf = MemoryShelf::new(alloc);
+    shelf.put("mesh", mesh.as_bytes())?;
+    shelf.put("walks", walks.as_bytes())?;
+    shelf.put("certificate", certificate.as_bytes())?;
+    Ok(shelf)
+}
+
+#[test]
+fn examples_are_answered(rt: HostRuntime) -> Result<(), AllocError> {
+    let alloc = rt.alloc();
+    let verify = words(alloc, &["verify", "mesh", "walks", "certificate"])?;
+    let examples = [
+        on_tetrahedron(SIDES, "MOVES 1 2\nf 0 0 0 + 2\n", "accepted\n", Status::Yes),
+        on_tetrahedron(
+            SIDES,
+            "MOVES 1 2\nf 0 0 0 - 2\n",
+            "rejected: move 1 face\n",
+            Status::No,
+        ),
+        on_tetrahedron("0 1 2\n0 1 2\n", "MOVES 0 2\n", "accepted\n", Status::Yes),
+        on_tetrahedron(
+            "0 1 2\n0 1 2\n",
+            "MOVES 0 1\n",
+            "rejected: peak\n",
+            Status::No,
+        ),
+        on_tetrahedron(
+            "0\n0 1 0\n",
+            "MOVES 1 2\n+ 0 1\n",
+            "accepted\n",
+            Status::Yes,
+        ),
+        on_tetrahedron(
+            "0\n0 1 0\n",
+            "MOVES 1 1\n+ 0 1\n",
+            "rejected: move 1 peak\n",
+            Status::No,
+        ),
+        on_tetrahedron(
+            SIDES,
+            "MOVES 1 4\n+ 3 0\n",
+            "rejected: move 1 place\n",
+            Status::No,
+        ),
+        on_tetrahedron(
+            SIDES,
+            "MOVES 1 4\n+ 0 0\n",
+            "rejected: move 1 edge\n",
+            Status::No,
+        ),
+        on_tetrahedron(
+            SIDES,
+            "MOVES 1 4\n- 0 1\n",
+            "rejected: move 1 spur\n",
+            Status::No,
+        ),
+        on_tetrahedron(
+            SIDES,
+            "MOVES 1 4\nf 1 0 1 + 2\n",
+            "rejected: move 1 place\n",
+            Status::No,
+        ),
+        on_tetrahedron(
+            SIDES,
+            "MOVES 1 4\nf 0 4 0 + 2\n",
+            "rejected: move 1 face\n",
+            Status::No,
+        ),
+        on_tetrahedron(SIDES, "MOVES 0 2\n", "rejected: end\n", Status::No),
+        Example {
+            mesh: TORUS,
+            ..on_tetrahedron(
+                "0 1 3\n0 2 3\n",
+                "MOVES 2 2\nf 0 0 0 + 2\nf 0 7 0 + 1\n",
+                "accepted\n",
+                Status::Yes,
+            )
+        },
+    ];
+    for wanted in &examples {
+        let mut shelf = shelf_of(alloc, wanted.mesh, wanted.walks, wanted.certificate)?;
+        let mut out = MemorySink::new(alloc, 64);
+        let status = run(alloc, &verify, &mut shelf, &mut out);
+        assert!(rt; status == wanted.status, "{:?}", wanted.certificate);
+        assert!(rt;
+            out.bytes() == wanted.text.as_bytes(),
+            "{:?}",
+            wanted.certificate
+        );
+    }
+    Ok(())
+}
+
+#[test]
+fn a_file_is_read_only_where_those_before_it_are_in_order(
+    rt: HostRuntime,
+) -> Result<(), AllocError> {
+    let alloc = rt.alloc();
+    let verify = words(alloc, &["verify", "mesh", "absent", "absent"])?;
+    let mut shelf = shelf_of(alloc, "OFF\n", SIDES, "MOVES 0 2\n")?;
+    let mut out = MemorySink::new(alloc, 64);
+    assert_eq!(rt; run(alloc, &verify, &mut shelf, &mut out), Status::Refused);
+    assert!(rt; out.bytes() == b"refused: not built\n".as_slice());
+    Ok(())
+}
+
+#[test]
+fn each_read_may_fail(rt: HostRuntime) -> Result<(), AllocError> {
+    let alloc = rt.alloc();
+    let verify = words(alloc, &["verify", "mesh", "walks", "certificate"])?;
+    // Each of the three files takes one read for its bytes, and one that finds its end.
+    for call in 1..=7u64 {
+        let mut shelf = shelf_of(alloc, TETRAHEDRON, SIDES, "MOVES 1 2\nf 0 0 0 + 2\n")?;
+        shelf.fail_at(call)?;
+        let mut out = MemorySink::new(alloc, 64);
+        let status = run(alloc, &verify, &mut shelf, &mut out);
+        if call <= 6 {
+            assert_eq!(rt; status, Status::ReadFault);
+            assert!(rt; out.bytes().is_empty());
+        } else {
+            assert_eq!(rt; status, Status::Yes);
+        }
+    }
+    Ok(())
+}
+
+/// Runs with a sink of five bytes a call, of which one call fails, for each call up to `calls`.
+fn fail_each_write(
+    rt: &impl Abort,
+    alloc: Global,
+    certificate: &str,
+    text: &str,
+    calls: u64,
+    end: Status,
+) -> Result<(), AllocError> {
+    let verify = words(alloc, &["verify", "mesh", "walks", "certificate"])?;
+    for call in 1..=calls {
+        let mut shelf = shelf_of(alloc, TETRAHEDRON, SIDES, certificate)?;
+        let mut out = MemorySink::new(alloc, 5);
+        out.fail_at(call)?;
+        let status = run(alloc, &verify, &mut shelf, &mut out);
+        if call < calls {
+            assert!(rt; status == Status::WriteFault, "call {call}");
+            assert!(rt; text.as_bytes().starts_with(out.bytes()), "call {call}");
+        } else {
+            assert!(rt; status == end, "call {call}");
+            assert!(rt; out.bytes() == text.as_bytes(), "call {call}");
+        }
+    }
+    Ok(())
+}
+
+#[test]
+fn each_write_may_fail(rt: HostRuntime) -> Result<(), AllocError> {
+    let alloc = rt.alloc();
+    // Two writes and a flush.
+    fail_each_write(
+        &rt,
+        alloc,
+        "MOVES 1 2\nf 0 0 0 + 2\n",
+        "accepted\n",
+        4,
+        Status::Yes,
+    )?;
+    // Three writes for the front of the line, one for the number, two for the reason, and a flush.
+    fail_each_write(
+        &rt,
+        alloc,
+        "MOVES 1 2\nf 0 0 0 - 2\n",
+        "rejected: move 1 face\n",
+        8,
+        Status::No,
+    )
+}
