@@ -54,6 +54,10 @@ pub fn run<S: Shelf, K: Sink>(
         × (answer : Answer) × IsOutcome (texts words.now.items) contents answer
         × AppendsPrefix (K.written out.old) (K.written out.new) (text_of answer) }
 
+    // Where no count rose, there is an answer, unless memory was wanting.
+    ensures complete { (Rose (S.faults shelf.old) (S.faults shelf.new) → ⊥) → (Rose (K.faults out.old) (K.faults out.new) → ⊥)
+        → IsAnswered result ⊎ (result ≡ Status.OutOfMemory) }
+
     ensures same_files { S.held shelf.new ≡ S.held shelf.old }
     ensures shelf_never_falls { S.faults shelf.old ≤ S.faults shelf.new }
     ensures sink_never_falls { K.faults out.old ≤ K.faults out.new }
