@@ -1,0 +1,50 @@
+-- What a put means for a state, and for a recorder.
+use Rattle.std.proofs.Common.{◌≡◌, ℕ, ◌<◌, arith, sym, ◌∙◌, ap, ap₂, List, [], ◌∷◌, ◌++◌, length, reverse, Option, Some, None}
+use Rattle.std.proofs.lemmas.List.{reverse-reverse, append-nil}
+use Rattle.turn_words.specs.Modulo.{add, minus}
+use Rattle.turn_words.specs.Put.{put}
+use Rattle.turn_words.specs.Hyper_states.{HyperState, turn_to, value_at, hyper_next, BelongsTo}
+use Rattle.turn_words.specs.Steps.{after_steps}
+use Rattle.turn_words.specs.Noted.{NotesSteps, with_steps, put_steps}
+use Rattle.turn_words.specs.declared.step.Step.{Step}
+use Rattle.turn_words.specs.Lemmas.Put_laws.{put-good}
+use Rattle.turn_words.specs.Lemmas.Reaching.{put-reached}
+use Rattle.turn_words.specs.Lemmas.Hyper_laws.{good_word, turn_below, next_belongs}
+
+abbrev pub state-of : List ℕ → ℕ → HyperState
+state-of w n = record { word = w; number = n }
+
+pub notes-put : (places : List ℕ) (s : HyperState) (i t : ℕ) (new : List ℕ) (o p : Option (List Step)) → BelongsTo places s → t ≡ turn_to places s i →
+    reverse new ≡ (put (length places) (reverse s.word) t).word → p ≡ with_steps o (put_steps (length places) (reverse s.word) t) →
+    NotesSteps (length places) o p (s.word ++ (turn_to places s i ∷ [])) new
+notes-put places s i t new None p b turn left e = e
+notes-put places s i t new (Some before) p b turn left e =
+    let d = length places in
+    let reached = put-reached d b.own.five (reverse s.word) t [] (good_word places s b) tt in
+    let ended : reverse (put d (reverse s.word) t).word ++ [] ≡ new = append-nil _ ∙ ap reverse (sym left) ∙ reverse-reverse new in (
+      put_steps d (reverse s.word) t,
+      e,
+      ap (after_steps d (put_steps d (reverse s.word) t)) (ap₂ (λ w u. w ++ (u ∷ [])) (sym (reverse-reverse s.word)) (sym turn)) ∙ reached ∙ ap Some ended,
+    )
+
+pub change-below : (places : List ℕ) (s : HyperState) (i t : ℕ) → BelongsTo places s → i < length places → t ≡ turn_to places s i → (put (length places) (reverse s.word) t).change < length places
+change-below places s i t b below turn =
+    let turn_fits = turn_below places s i b below in
+    (put-good (length places) b.own.five (reverse s.word) t (good_word places s b) (omega arith)).1
+
+-- the fields that a put leaves are the state that the spoke leads to
+pub state-next : (places : List ℕ) (s : HyperState) (i t : ℕ) (new : List ℕ) (change number : ℕ) → t ≡ turn_to places s i →
+    reverse new ≡ (put (length places) (reverse s.word) t).word → change ≡ (put (length places) (reverse s.word) t).change →
+    number ≡ add (length places) (value_at places new i) (minus (length places) change) → state-of new number ≡ hyper_next places s i
+state-next places s i t new change number turn left is e =
+    let d = length places in
+    let p = put d (reverse s.word) (turn_to places s i) in
+    let word : new ≡ reverse p.word = sym (reverse-reverse new) ∙ ap reverse (left ∙ ap (λ u. (put d (reverse s.word) u).word) turn) in
+    let changed : change ≡ p.change = is ∙ ap (λ u. (put d (reverse s.word) u).change) turn in
+    ap₂ state-of word (e ∙ ap₂ (λ w n. add d (value_at places w i) (minus d n)) word changed)
+
+pub belongs-next : (places : List ℕ) (s : HyperState) (i t : ℕ) (new : List ℕ) (change number : ℕ) → BelongsTo places s → i < length places → t ≡ turn_to places s i →
+    reverse new ≡ (put (length places) (reverse s.word) t).word → change ≡ (put (length places) (reverse s.word) t).change →
+    number ≡ add (length places) (value_at places new i) (minus (length places) change) → BelongsTo places (state-of new number)
+belongs-next places s i t new change number b below turn left is e =
+    rw (state-next places s i t new change number turn left is e) (next_belongs places s i b below)

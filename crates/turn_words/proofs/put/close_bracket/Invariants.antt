@@ -1,0 +1,14 @@
+use Rattle.std.proofs.Common.{◌≡◌, ◌≤◌, reverse, vec_capacity}
+use Rattle.turn_words.specs.Noted.{close_steps, with_steps}
+use Rattle.turn_words.proofs.Loops.{Closing}
+use Rattle.turn_words.proofs.put.close_bracket.Given as goal
+
+abbrev pub invariant-loop-word : goal.invariant-loop-word
+invariant-loop-word g l = record {
+  closing : Closing l.degree l.fn.word.items l.word.items l.last l.twos;
+  noted : with_steps (g.R.Recorder.noted l.fn.recorder) (close_steps (reverse l.fn.word.items)) ≡ with_steps (g.R.Recorder.noted l.recorder) (close_steps (reverse l.word.items));
+  capacity : vec_capacity l.fn.word ≤ vec_capacity l.word;
+}
+
+abbrev pub decreases-loop-word : goal.decreases-loop-word
+decreases-loop-word g l = l.last

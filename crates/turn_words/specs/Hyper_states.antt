@@ -1,0 +1,62 @@
+-- The states of the form for degrees from 5 on, and where a spoke leads them. A wheel is its list of places, and the
+-- degree is the length of that list.
+use Rattle.std.specs.Prelude.{◌≡◌, ℕ, ◌<◌, ◌≤◌, ◌%◌, ◌==◌, if◌then◌else◌, List, [], length, reverse, slice_index}
+use Rattle.turn_words.specs.Modulo.{add, minus}
+use Rattle.turn_words.specs.Canonical.{IsCanonical}
+use Rattle.turn_words.specs.Put.{Put, put}
+use Rattle.turn_words.specs.Wheels.{IsWheel}
+
+-- a canonical word, and the number from which the next spoke's turn is counted
+pub record HyperState : Type 0 where
+  pub word : List ℕ
+  pub number : ℕ
+
+-- the state of the empty word
+abbrev pub empty_state : HyperState
+empty_state = record { word = []; number = 0 }
+
+-- the path stands at the vertex
+abbrev pub IsEven : HyperState → Type 0
+IsEven state = length state.word % 2 ≡ 0
+
+-- where a spoke comes: its place round the vertex, or its own number round the middle
+abbrev pub value_at : List ℕ → List ℕ → ℕ → ℕ
+value_at places word spoke = if length word % 2 == 0 then slice_index places spoke else spoke
+
+-- a turn put at the end of a word
+abbrev pub put_last : ℕ → List ℕ → ℕ → Put
+put_last degree word turn =
+    let ended = put degree (reverse word) turn in record { word = reverse ended.word; change = ended.change }
+
+-- the turn of a spoke, against the number
+abbrev pub turn_to : List ℕ → HyperState → ℕ → ℕ
+turn_to places state spoke =
+    add (length places) (value_at places state.word spoke) (minus (length places) state.number)
+
+-- the number after a spoke was put: where it comes now, less 0 in the first case and the last, less the entry that
+-- went in the second, less 1 in the third, and less -1 in the fourth
+abbrev pub number_after : List ℕ → Put → ℕ → ℕ
+number_after places ended spoke =
+    add (length places) (value_at places ended.word spoke) (minus (length places) ended.change)
+
+-- where a spoke leads a state
+abbrev pub hyper_next : List ℕ → HyperState → ℕ → HyperState
+hyper_next places state spoke =
+    let ended = put_last (length places) state.word (turn_to places state spoke) in
+    record { word = ended.word; number = number_after places ended spoke }
+
+-- a wheel with five spokes at least
+pub record IsHyperWheel (places : List ℕ) : Type 0 where
+  pub five : 5 ≤ length places
+  pub wheel : IsWheel places
+
+-- the state is one of the wheel's
+pub record BelongsTo (places : List ℕ) (state : HyperState) : Type 0 where
+  pub own : IsHyperWheel places
+  pub canonical : IsCanonical (length places) state.word
+  pub number_below : state.number < length places
+
+-- the form: its state, and for how many more spokes it has room
+pub record HyperView : Type 0 where
+  pub state : HyperState
+  pub spare : ℕ

@@ -1,0 +1,13 @@
+pub mod Modulo
+pub mod Steps
+pub mod Canonical
+pub mod Put
+pub mod Noted
+pub mod Wheels
+pub mod Faults
+pub mod Hyper_states
+pub mod Form_laws
+pub mod Five_cases
+pub mod Spoke_paths
+pub mod Word_faults
+pub mod Lemmas

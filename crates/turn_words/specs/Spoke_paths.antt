@@ -1,0 +1,20 @@
+-- The turn word of a list of spokes that starts at the vertex: a table over neighbouring spokes, with no reduction.
+use Rattle.std.specs.Prelude.{ℕ, Bool, false, not, if◌then◌else◌, List, [], ◌∷◌, length, slice_index}
+use Rattle.turn_words.specs.Modulo.{add, minus}
+
+-- where a spoke comes, round the vertex or round the middle
+abbrev pub place_round : List ℕ → Bool → ℕ → ℕ
+place_round places at_vertex spoke = if at_vertex then slice_index places spoke else spoke
+
+-- the turns of the spokes that come after a spoke: each is its place less that of the one before, round the point where
+-- the two meet
+abbrev pub turns_after : List ℕ → Bool → ℕ → List ℕ → List ℕ
+turns_after places at_vertex last [] = []
+turns_after places at_vertex last (spoke ∷ spokes) =
+    add (length places) (place_round places at_vertex spoke) (minus (length places) (place_round places at_vertex last))
+    ∷ turns_after places (not at_vertex) spoke spokes
+
+-- the place of the first spoke, and then the turns
+abbrev pub turn_word_of : List ℕ → List ℕ → List ℕ
+turn_word_of places [] = []
+turn_word_of places (spoke ∷ spokes) = slice_index places spoke ∷ turns_after places false spoke spokes

@@ -1,0 +1,77 @@
+//! The canonical word that a turn word reaches.
+ghost use Rattle.std.specs.Prelude.{◌≡◌, ℕ, ◌<◌, ◌≤◌, List, All, length, IfOk, MatchResult, MatchOption};
+ghost use Rattle.turn_words.specs.Canonical.{IsCanonical, IsCanonicalOf, IsTurnWord};
+ghost use Rattle.turn_words.specs.Steps.{Reaches};
+ghost use Rattle.turn_words.specs.Word_faults.{IsFirstAbove, IsWordFaultOf};
+
+use crate::counter::Steps;
+use crate::modulo::sum_modulo;
+use crate::put::put_turn;
+use crate::recorder::Silent;
+use crate::word::TurnWord;
+use std::alloc::{AllocError, Global};
+use std::sync::ledger::Ledger;
+
+/// Why a list of entries has no canonical word.
+#[derive(Clone, Copy, Debug, PartialEq, Eq)]
+pub enum WordFault {
+    /// The degree is below 5.
+    Degree,
+    /// The first entry that is not below the degree.
+    Range { at: u32 },
+    /// Memory ran out.
+    OutOfMemory,
+}
+
+impl From<AllocError> for WordFault {
+    ghost use Rattle.std.specs.Prelude.{◌≡◌};
+    ghost use Rattle.turn_words.specs.declared.canonising.WordFault.TheVariants.{OutOfMemory};
+
+    ghost from_gives = { λ _ fault. fault ≡ OutOfMemory };
+
+    fn from(_error: AllocError) -> WordFault {
+        WordFault::OutOfMemory
+    }
+}
+
+/// The canonical word that elementary steps reach from a word. There is no other, so a canonical word is
+/// given back. A degree that is too small is told before an entry that is too large.
+pub fn canonise<L: Ledger>(
+    alloc: Global,
+    degree: u32,
+    word: &[u32],
+    steps: &mut Steps<L>,
+) -> Result<TurnWord, WordFault>
+    requires { length word.now ≤ 1000000 }
+    ensures canonical { IfOk result (λ canonical. IsCanonicalOf degree word.now canonical) }
+    ensures only { IfOk result (λ canonical. (other : List ℕ) → IsCanonicalOf degree word.now other → other ≡ canonical) }
+    ensures same { IfOk result (λ canonical. IsCanonical degree word.now → canonical ≡ word.now) }
+    ensures cases { MatchResult result (λ _. IsTurnWord degree word.now) (IsWordFaultOf degree word.now) }
+{
+    if degree < 5 {
+        return Err(WordFault::Degree);
+    }
+    if let Some(at) = first_above(degree, word) {
+        return Err(WordFault::Range { at: at as u32 });
+    }
+    let mut canonical = Vec::new(alloc);
+    let mut change = 0;
+    for entry in word {
+        let turn = sum_modulo(degree, *entry, change);
+        change = put_turn(&mut canonical, degree, turn, &mut Silent)?;
+        steps.tick();
+    }
+    Ok(TurnWord::from_entries(canonical))
+}
+
+/// The first entry that is not below the degree.
+fn first_above(degree: u32, word: &[u32]) -> Option<usize>
+    ensures { MatchOption result (All (λ entry. entry < degree) word.now) (IsFirstAbove degree word.now) }
+{
+    for (at, entry) in word.iter().enumerate() {
+        if *entry >= degree {
+            return Some(at);
+        }
+    }
+    None
+}

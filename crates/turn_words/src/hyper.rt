@@ -1,0 +1,148 @@
+//! The form for degrees from 5 on.
+ghost use Rattle.std.specs.Prelude.{◌≡◌, ◌+◌, ◌-◌, ◌^◌, ◌<◌, ◌≤◌, ◌↔◌, ◌++◌, [], ◌∷◌, length, IsTrue, IsOk, OnOk, IfOk};
+ghost use Rattle.turn_words.specs.Hyper_states.{empty_state, hyper_next, turn_to, value_at, BelongsTo};
+ghost use Rattle.turn_words.specs.Noted.{NotesSteps};
+
+use crate::form::Form;
+use crate::modulo::{negative_modulo, sum_modulo};
+use crate::put::put_turn;
+use crate::recorder::Recorder;
+use crate::wheel::Wheel;
+use crate::word::TurnWord;
+use std::alloc::{AllocError, Global};
+use std::marker::Model;
+use surf_model::Spoke;
+
+/// The canonical word of a walk over a degree from 5 on, and the number from which the turn of its next
+/// spoke is counted.
+#[derive(Debug, Drop)]
+pub struct Hyper {
+    word: Vec<u32>,
+    number: u32,
+}
+
+impl Model for Hyper {
+    ghost use Rattle.std.specs.Prelude.{◌-◌, ◌<◌, ◌^◌, vec_len, vec_capacity};
+    ghost use Rattle.turn_words.specs.Hyper_states.{HyperView};
+
+    ghost Value = { HyperView };
+
+    ghost view = { λ hyper. record {
+      state = record { word = hyper.word.items; number = hyper.number };
+      spare = vec_capacity hyper.word - vec_len hyper.word;
+    } };
+
+    ghost invariant = { λ hyper. vec_len hyper.word < 2 ^ 32 };
+}
+
+impl Hyper {
+    /// The form in the state of the empty word. It takes no memory.
+    pub fn new(alloc: Global) -> Hyper
+        ensures { result.state ≡ empty_state }
+    {
+        Hyper {
+            word: Vec::new(alloc),
+            number: 0,
+        }
+    }
+
+    /// Makes room, so that as many spokes can be put without a want of memory. The state stays.
+    pub fn reserve(&mut self, spokes: u32) -> Result<(), AllocError>
+        ensures spare { OnOk result (spokes ≤ self.new.spare) }
+        ensures state { self.new.state ≡ self.old.state }
+        ensures kept { self.old.spare ≤ self.new.spare }
+    {
+        self.word.reserve(spokes as usize)
+    }
+
+    /// The canonical word, without the number.
+    pub fn word(&self, alloc: Global) -> Result<TurnWord, AllocError>
+        ensures { IfOk result (λ word. word ≡ self.now.state.word) }
+    {
+        TurnWord::of(alloc, &self.word)
+    }
+}
+
+impl Form for Hyper {
+    ghost use Rattle.std.specs.Prelude.{length};
+    ghost use Rattle.turn_words.specs.Hyper_states.{HyperState, empty_state, IsHyperWheel, BelongsTo, IsEven, hyper_next};
+    ghost use Rattle.turn_words.specs.Lemmas.Hyper_laws.{hyper_starts, hyper_stays, hyper_there_and_back, hyper_across};
+
+    ghost State = { HyperState };
+
+    ghost state = { λ hyper. hyper.state };
+
+    ghost empty = { empty_state };
+
+    ghost IsOwn = { IsHyperWheel };
+
+    ghost Belongs = { BelongsTo };
+
+    ghost IsAtVertex = { IsEven };
+
+    ghost size = { λ state. length state.word };
+
+    ghost next = { hyper_next };
+
+    ghost starts = { hyper_starts };
+
+    ghost stays = { hyper_stays };
+
+    ghost there_and_back = { hyper_there_and_back };
+
+    ghost across = { hyper_across };
+
+    fn restart(&mut self)
+        ensures state { self.new.state ≡ empty_state }
+        ensures spare { self.old.spare ≤ self.new.spare }
+    {
+        self.word.clear();
+        self.number = 0;
+    }
+
+    fn act<R: Recorder>(
+        &mut self,
+        wheel: &Wheel,
+        spoke: Spoke,
+        recorder: &mut R,
+    ) -> Result<(), AllocError>
+        requires belongs { BelongsTo wheel.now self.old.state }
+        requires spoke { spoke.0 < length wheel.now }
+        requires room { length self.old.state.word < 2 ^ 32 - 2 }
+        ensures state { OnOk result (self.new.state ≡ hyper_next wheel.now self.old.state spoke.0) }
+        ensures belongs { OnOk result (BelongsTo wheel.now self.new.state) }
+
+        // The steps noted lead from the word with the new turn put last to the word after.
+        ensures steps { OnOk result (NotesSteps (length wheel.now) (R.noted recorder.old) (R.noted recorder.new) (self.old.state.word ++ turn_to wheel.now self.old.state spoke.0 ∷ []) self.new.state.word) }
+
+        // With room for one spoke, only the recorder can refuse.
+        ensures sure { R.never_refuses → 1 ≤ self.old.spare → IsOk result }
+        ensures spare { self.old.spare ≤ self.new.spare + 1 }
+    {
+        let degree = wheel.degree();
+        let before = negative_modulo(degree, self.number);
+        let turn = sum_modulo(degree, value_of(&self.word, wheel, spoke), before);
+        let change = put_turn(&mut self.word, degree, turn, recorder)?;
+        let value = value_of(&self.word, wheel, spoke);
+        self.number = sum_modulo(degree, value, negative_modulo(degree, change));
+        Ok(())
+    }
+
+    fn same(&self, other: &Self) -> bool {
+        self.number == other.number && self.word.as_slice() == other.word.as_slice()
+    }
+}
+
+/// Where the spoke comes after the path of a word: its place round the vertex, or its own number round the
+/// middle.
+fn value_of(word: &[u32], wheel: &Wheel, spoke: Spoke) -> u32
+    requires { spoke.0 < length wheel.now }
+    ensures value { result ≡ value_at wheel.now word.now spoke.0 }
+    ensures below { result < length wheel.now }
+{
+    if word.len() % 2 == 0 {
+        wheel.place(spoke)
+    } else {
+        spoke.0
+    }
+}
