@@ -7,3 +7,4 @@ pub mod CutLemmas
 pub mod NumberLemmas
 pub mod FoundLemmas
 pub mod MeshTableLemmas
+pub mod ReplacementLemmas

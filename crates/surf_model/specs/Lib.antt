@@ -4,6 +4,7 @@ pub mod FaceLists
 pub mod StoredFaces
 pub mod Walks
 pub mod Moves
+pub mod Replacements
 pub mod Edges
 pub mod StoredEdges
 pub mod Examples

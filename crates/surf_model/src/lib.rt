@@ -4,6 +4,7 @@
 
 pub mod edges;
 pub mod faces;
+pub mod laws;
 pub mod moves;
 pub mod names;
 mod parts;

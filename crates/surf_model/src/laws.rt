@@ -1,0 +1,21 @@
+//! What holds of the table of moves, said of the definitions. A call of one of these functions does nothing;
+//! its contract is the law.
+ghost use Rattle.std.specs.Prelude.{◌≡◌, ◌+◌, ◌<◌, ◌↔◌, ℕ, List, ◌∷◌, ◌++◌, length, take, drop, slice_index, Some};
+ghost use Rattle.surf_model.specs.FaceLists.{FaceList};
+ghost use Rattle.surf_model.specs.Moves.{apply};
+ghost use Rattle.surf_model.specs.Replacements.{IsReplacement};
+ghost use Rattle.surf_model.specs.declared.moves.Move.TheVariants.{Insert, Remove};
+ghost use Rattle.surf_model.specs.declared.moves.Move.{Move};
+ghost use Rattle.surf_model.specs.declared.names.VertexName.{VertexName};
+
+/// A move is allowed, and gives a walk, exactly where that walk is the first one with a part replaced as the
+/// move says, at the place of the move.
+pub fn move_is_a_replacement()
+    ensures { (mesh : FaceList) (walk next : List ℕ) (move : Move) → 0 < length walk → (apply mesh walk move ≡ Some next) ↔ IsReplacement mesh move walk next }
+{}
+
+/// What the two spur moves leave: two entries more behind entry `at`, or two fewer.
+pub fn spur_rows()
+    ensures goes_in { (mesh : FaceList) (walk next : List ℕ) (at : ℕ) (via : VertexName) → 0 < length walk → apply mesh walk (Insert at via) ≡ Some next → next ≡ take (at + 1) walk ++ via.0 ∷ slice_index walk at ∷ drop (at + 1) walk }
+    ensures goes_out { (mesh : FaceList) (walk next : List ℕ) (at : ℕ) (via : VertexName) → 0 < length walk → apply mesh walk (Remove at via) ≡ Some next → next ≡ take (at + 1) walk ++ drop (at + 3) walk }
+{}
