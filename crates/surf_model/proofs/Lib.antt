@@ -2,7 +2,8 @@ pub mod PartsLemmas
 pub mod StoredLemmas
 pub mod StoredEdgeLemmas
 pub mod TableLemmas
-pub mod SortLemmas
+pub mod ChainLemmas
+pub mod GroupLemmas
 pub mod CutLemmas
 pub mod NumberLemmas
 pub mod FoundLemmas
