@@ -24,18 +24,32 @@ def triangles():
             yield here, across, below
 
 
-def write_mesh(name):
+class Names:
+    """How the points and the triangles are numbered: row by row, or at random."""
+
+    def __init__(self, rng=None):
+        self.vertices = list(range(SIZE * SIZE))
+        self.faces = list(range(2 * SIZE * SIZE))
+        if rng:
+            rng.shuffle(self.vertices)
+            rng.shuffle(self.faces)
+
+
+def write_mesh(name, names):
+    lines = [""] * len(names.faces)
+    for face, corners in zip(names.faces, triangles()):
+        lines[face] = "3 %d %d %d\n" % tuple(names.vertices[corner] for corner in corners)
     with open(name, "w") as out:
         count = SIZE * SIZE
         out.write("OFF\n%d %d %d\n" % (count, 2 * count, 3 * count))
         for row in range(SIZE):
             out.writelines("%d %d 0\n" % (row, column) for column in range(SIZE))
-        out.writelines("3 %d %d %d\n" % corners for corners in triangles())
+        out.writelines(lines)
 
 
-def row_walk(darts):
+def row_walk(darts, names):
     """A walk along a row of points, as often round as it takes."""
-    return [vertex(7, column) for column in range(darts + 1)]
+    return [names.vertices[vertex(7, column)] for column in range(darts + 1)]
 
 
 def write_walks(name, first, second):
@@ -50,11 +64,11 @@ def write_moves(name, moves, peak):
         out.writelines(line + "\n" for line in moves)
 
 
-def detours(places, walk):
+def detours(places, names):
     """At each place, one side of a triangle is replaced by its two others, and back."""
     for place in places:
         column = place % SIZE
-        face = 2 * vertex(7, column)
+        face = names.faces[2 * vertex(7, column)]
         yield "f %d %d 0 + 1" % (place, face)
         yield "f %d %d 0 - 2" % (place, face)
 
@@ -64,17 +78,23 @@ def main():
     os.makedirs(folder, exist_ok=True)
     path = lambda name: os.path.join(folder, name)
     rng = random.Random(1)
-    write_mesh(path("torus.off"))
 
-    short = row_walk(1000)
-    write_walks(path("short.walks"), short, short)
-    write_moves(path("short.moves"), list(detours((rng.randrange(1000) for _ in range(500)), short)), 1001)
+    def write_short(mesh, case, names):
+        write_mesh(path(mesh + ".off"), names)
+        walk = row_walk(1000, names)
+        write_walks(path(case + ".walks"), walk, walk)
+        write_moves(path(case + ".moves"), list(detours((rng.randrange(1000) for _ in range(500)), names)), 1001)
 
-    long = row_walk(1000000)
+    plain = Names()
+    write_short("torus", "short", plain)
+
+    long = row_walk(1000000, plain)
     write_walks(path("long.walks"), long, long)
-    write_moves(path("scattered.moves"), list(detours((rng.randrange(1000000) for _ in range(5000)), long)), 1000001)
+    write_moves(path("scattered.moves"), list(detours((rng.randrange(1000000) for _ in range(5000)), plain)), 1000001)
     near_end = 1000000 - 100
-    write_moves(path("close.moves"), list(detours((near_end + rng.randrange(100) for _ in range(500000)), long)), 1000001)
+    write_moves(path("close.moves"), list(detours((near_end + rng.randrange(100) for _ in range(500000)), plain)), 1000001)
+
+    write_short("shuffled", "shuffled", Names(rng))
 
 
 main()
