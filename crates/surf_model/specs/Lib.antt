@@ -6,5 +6,7 @@ pub mod Walks
 pub mod Moves
 pub mod Replacements
 pub mod Edges
+pub mod Darts
+pub mod Surfaces
 pub mod StoredEdges
 pub mod Examples
