@@ -1,2 +1,6 @@
 pub mod Plain
 pub mod Reading
+pub mod Lines
+pub mod Numbers
+pub mod Unread
+pub mod Examples

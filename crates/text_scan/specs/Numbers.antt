@@ -1,0 +1,49 @@
+-- Words that are numbers.
+use Rattle.std.specs.Prelude.{ℕ, ◌+◌, ◌-◌, ◌*◌, Bool, true, ◌==◌, ◌&&◌, ◌||◌, nat_le, if◌then◌else◌, List, [], ◌∷◌, ◌++◌, fold, Option, Some, None, option_map, codes, ℤ, pos, neg_ℤ}
+use Rattle.std.specs.List.{list_any, list_all, before_first, after_first}
+use Rattle.std.specs.Str.{bytes_eq}
+use Rattle.text_scan.specs.Lines.{is_filled}
+
+abbrev pub is_digit : ℕ → Bool
+is_digit byte = nat_le 48 byte && nat_le byte 57
+
+-- a natural: one or more digits, leading zeros among them or not
+unfoldable pub is_natural : List ℕ → Bool
+is_natural word = is_filled word && list_all is_digit word
+
+-- the number that digits stand for
+unfoldable pub value_of : List ℕ → ℕ
+value_of = fold (λ value digit. value * 10 + (digit - 48)) 0
+
+-- the number that a word is, if it is a natural; it may have any length
+abbrev pub natural_of : List ℕ → Option ℕ
+natural_of word = if is_natural word then Some (value_of word) else None
+
+-- the number that a word is, if it is a natural with a minus before it or none
+abbrev pub signed_of : List ℕ → Option ℤ
+signed_of [] = None
+signed_of (byte ∷ rest) = if byte == 45 then option_map (λ n. neg_ℤ (pos n)) (natural_of rest) else option_map pos (natural_of (byte ∷ rest))
+
+-- a word without the sign that it may begin with
+abbrev pub unsigned : List ℕ → List ℕ
+unsigned [] = []
+unsigned (byte ∷ rest) = if byte == 43 || byte == 45 then rest else byte ∷ rest
+
+-- whether a word is a number text, put together from a sign or none; `nan` or `inf`, or digits with a
+-- point before, among or behind them or none; and behind digits an exponent or none: `e` or `E`, a sign or none, and digits
+unfoldable pub is_number_text : List ℕ → Bool
+is_number_text word =
+    let body = unsigned word in
+    bytes_eq body (codes "nan") || bytes_eq body (codes "inf") || (is_decimal (before_first is_e body) && is_exponent body)
+  where
+    is_point : ℕ → Bool
+    is_point byte = byte == 46
+
+    is_e : ℕ → Bool
+    is_e byte = byte == 101 || byte == 69
+
+    is_decimal : List ℕ → Bool
+    is_decimal digits = is_natural (before_first is_point digits ++ after_first is_point digits)
+
+    is_exponent : List ℕ → Bool
+    is_exponent body = if list_any is_e body then is_natural (unsigned (after_first is_e body)) else true
