@@ -2,18 +2,22 @@
 //! elementary moves that change a walk.
 #![tactic(auto)]
 
+pub mod chains;
 pub mod edges;
 pub mod faces;
 pub mod laws;
 pub mod moves;
 pub mod names;
 mod parts;
+pub mod signs;
 pub mod walks;
 
+pub use chains::{ChainLink, OddChain};
 pub use edges::{Side, Sides};
 pub use faces::Faces;
 pub use moves::{Move, MoveList};
 pub use names::{CellName, DartName, EdgeName, FaceName, Spoke, VertexName};
+pub use signs::Signs;
 pub use walks::Walk;
 
 #[cfg(test)]

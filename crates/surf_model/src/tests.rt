@@ -1,5 +1,5 @@
 //! Each call once, on the numbers of the tetrahedron.
-use crate::{FaceName, Faces, Move, MoveList, VertexName, Walk};
+use crate::{ChainLink, FaceName, Faces, Move, MoveList, OddChain, Signs, VertexName, Walk};
 
 #[test]
 fn faces_are_read_back(rt: HostRuntime) {
@@ -41,4 +41,33 @@ fn move_lists_keep_their_peak(rt: HostRuntime) {
     assert_eq!(rt; list.len(), 2);
     assert_eq!(rt; list.peak(), 4);
     assert_eq!(rt; list.at(1), spur);
+}
+
+#[test]
+fn signs_are_read_back(rt: HostRuntime) {
+    let mut signs = Signs::new(rt.alloc());
+    signs.push(false).expect(&rt, "memory");
+    signs.push(true).expect(&rt, "memory");
+    assert_eq!(rt; signs.len(), 2);
+    assert!(rt; !signs.flipped(FaceName(0)));
+    assert!(rt; signs.flipped(FaceName(1)));
+}
+
+#[test]
+fn chains_are_read_back(rt: HostRuntime) {
+    let first = ChainLink {
+        face: FaceName(0),
+        low: VertexName(1),
+        high: VertexName(2),
+    };
+    let second = ChainLink {
+        face: FaceName(5),
+        low: VertexName(2),
+        high: VertexName(4),
+    };
+    let mut chain = OddChain::start(rt.alloc(), first).expect(&rt, "memory");
+    chain.push(second).expect(&rt, "memory");
+    assert_eq!(rt; chain.len(), 2);
+    assert_eq!(rt; chain.at(0), first);
+    assert_eq!(rt; chain.at(1), second);
 }
