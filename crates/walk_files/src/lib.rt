@@ -1,0 +1,8 @@
+//! The texts beside a mesh: walks, turn words and lists of moves, read and written.
+#![tactic(auto)]
+
+mod pair;
+mod walk_list;
+
+pub use pair::{PairFault, check_pair};
+pub use walk_list::WalkList;
