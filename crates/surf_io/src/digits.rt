@@ -9,7 +9,7 @@ use crate::sink::Sink;
 use crate::write::write_whole;
 
 /// The room that the digits of the greatest `u64` take.
-const MOST_DIGITS: usize = 20;
+pub(crate) const MOST_DIGITS: usize = 20;
 
 /// Writes `n` in decimal digits, with no leading zero. After a failure a first part was written.
 pub fn put_natural<K: Sink>(sink: &mut K, n: u64) -> Result<(), Failed>
@@ -38,7 +38,7 @@ pub fn put_signed<K: Sink>(sink: &mut K, n: i64) -> Result<(), Failed>
 }
 
 // Puts the digits of `n` at the end of `text`, and says where they begin.
-fn fill_digits(text: &mut [u8; MOST_DIGITS], n: u64) -> usize
+pub(crate) fn fill_digits(text: &mut [u8; MOST_DIGITS], n: u64) -> usize
     ensures start { result ≤ MOST_DIGITS }
     ensures digits { drop result text.new ≡ decimal n }
 {

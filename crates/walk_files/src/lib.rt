@@ -3,6 +3,8 @@
 
 mod pair;
 mod walk_list;
+mod write;
 
 pub use pair::{PairFault, check_pair};
 pub use walk_list::WalkList;
+pub use write::write_moves;

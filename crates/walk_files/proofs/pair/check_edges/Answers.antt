@@ -1,4 +1,4 @@
-use Rattle.std.proofs.Common.{◌≡◌, ℕ, ◌+◌, true, false, sym, ap, ◌∙◌, arith}
+use Rattle.std.proofs.Common.{◌≡◌, ◌+◌, false, sym, ap, ◌∙◌, arith}
 use Rattle.std.specs.Prelude.{not, slice_index, is_some, option_map}
 use Rattle.surf_model.specs.FaceLists.{is_edge}
 use Rattle.surf_model.specs.Walks.{darts}

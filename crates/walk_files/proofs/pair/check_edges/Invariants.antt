@@ -1,6 +1,6 @@
 use Rattle.std.proofs.Common.{◌≡◌, ℕ, ◌+◌, ◌<◌, true}
 use Rattle.std.specs.Prelude.{slice_index}
-use Rattle.surf_model.specs.FaceLists.{FaceList, is_edge, is_used}
+use Rattle.surf_model.specs.FaceLists.{FaceList, is_edge}
 use Rattle.surf_model.specs.Edges.{IsTableOf}
 use Rattle.walk_files.proofs.pair.check_edges.Given as goal
 

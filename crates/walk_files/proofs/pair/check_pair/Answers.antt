@@ -1,5 +1,5 @@
-use Rattle.std.proofs.Common.{◌≡◌, List, [], ◌∷◌, ℕ, ◌<◌, length, refl, subst, sym, ap, ◌∙◌, arith}
-use Rattle.std.specs.Prelude.{Result, Ok, Err, Option, Some, None, IsOk, OnOk, slice_get}
+use Rattle.std.proofs.Common.{◌≡◌, List, [], ◌∷◌, ℕ, ◌<◌, length, refl, subst, sym, ◌∙◌, arith}
+use Rattle.std.specs.Prelude.{Result, Ok, Err, Some, None, IsOk, OnOk, slice_get}
 use Rattle.std.specs.Result.{result_err}
 use Rattle.surf_model.specs.FaceLists.{FaceList}
 use Rattle.walk_files.specs.declared.pair.PairFault.{PairFault}

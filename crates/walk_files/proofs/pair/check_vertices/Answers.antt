@@ -1,5 +1,5 @@
 use Rattle.std.proofs.Common.{◌≡◌, ℕ, ◌+◌, ◌<◌, true, false, length, sym, ap, ◌∙◌, below_more, arith}
-use Rattle.std.specs.Prelude.{Bool, not, slice_index, option_map}
+use Rattle.std.specs.Prelude.{not, slice_index, option_map}
 use Rattle.surf_model.specs.FaceLists.{is_used}
 use Rattle.walk_files.specs.declared.pair.PairFault.TheVariants.{NoVertex}
 use Rattle.walk_files.proofs.PairLemmas.{least_below-some, least_below-none}
