@@ -9,3 +9,4 @@ pub mod NumberLemmas
 pub mod FoundLemmas
 pub mod MeshTableLemmas
 pub mod ReplacementLemmas
+pub mod PartnerLemmas

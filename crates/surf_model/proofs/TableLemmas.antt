@@ -128,7 +128,7 @@ end_from_used mesh table v h is =
     let here : joins e.low e.high any.1 ≡ true = subst (λ (s : FaceSide). joins e.low e.high s ≡ true) any.3 found.4 in
     (found.0, e, found.2, found.3, names_joins e.low e.high v any.1 here any.4)
 
-Contains-filter : {A : Type 0} (p : A → Bool) (xs : List A) (x : A) → p x ≡ true → Contains xs x → Contains (filter p xs) x
+pub Contains-filter : {A : Type 0} (p : A → Bool) (xs : List A) (x : A) → p x ≡ true → Contains xs x → Contains (filter p xs) x
 Contains-filter p [] x passes h = absurd (omega (arith, h.1))
 Contains-filter p (y ∷ ys) x passes (zero, l, is) = subst (λ zs. Contains zs x) (sym (cond-true (p y) (y ∷ filter p ys) (filter p ys) (ap p is ∙ passes))) (0, omega arith, is)
 Contains-filter p (y ∷ ys) x passes (suc k, l, is) =
@@ -150,7 +150,7 @@ face_side_from n (face ∷ faces) (suc f) t l b =
     rw at (Contains-append_right (sides_of_face n face) (flat_map (λ (p : ℕ × List ℕ). sides_of_face p.0 p.1) (enumerate_from (n + 1) faces)) (face_side (n + 1 + f) (get_or faces f []) t)
     (face_side_from (n + 1) faces f t (omega arith) b))
 
-face_side_in : (mesh : FaceList) (f t : ℕ) → f < length mesh.faces → t < length (face_at mesh f) → Contains (all_sides mesh) (face_side f (face_at mesh f) t)
+pub face_side_in : (mesh : FaceList) (f t : ℕ) → f < length mesh.faces → t < length (face_at mesh f) → Contains (all_sides mesh) (face_side f (face_at mesh f) t)
 unfolding all_sides
 face_side_in mesh f t l b =
     let at : 0 + f ≡ f = omega arith in
