@@ -10,3 +10,4 @@ pub mod FoundLemmas
 pub mod MeshTableLemmas
 pub mod ReplacementLemmas
 pub mod PartnerLemmas
+pub mod OneTableLemmas

@@ -1,9 +1,10 @@
 -- A list of lists kept as one list and the places where its parts end.
-use Rattle.std.proofs.Common.{◌≡◌, ℕ, zero, suc, ◌+◌, ◌-◌, ◌<◌, ◌≤◌, List, [], ◌∷◌, ◌++◌, length, get_or, take, drop, refl, ap, sym, ◌∙◌, arith}
+use Rattle.std.proofs.Common.{◌≡◌, inl, inr, ℕ, zero, suc, ◌+◌, ◌-◌, ◌*◌, ◌/◌, ◌<◌, ◌≤◌, List, [], ◌∷◌, ◌++◌, length, get_or, take, drop, refl, ap, sym, subst, ◌∙◌, add-one, arith}
 use Rattle.std.specs.Prelude.{sum_by}
-use Rattle.std.proofs.lemmas.List.{take-append-le, drop-append-le, length-take-le, length-drop, take_all, drop_at}
+use Rattle.std.proofs.lemmas.Bool.{cases_lt}
+use Rattle.std.proofs.lemmas.List.{take-append-le, drop-append-le, length-take-le, length-drop, take_all, drop_at, get_or_append_left, get_or_push, length_push}
 use Rattle.std.proofs.lemmas.List.Sums.{sum_by-cons}
-use Rattle.surf_model.specs.Parts.{parts, EndsRise}
+use Rattle.surf_model.specs.Parts.{parts, EndsRise, last_end, IsInPart, IsPartList}
 
 pub length-parts : {A : Type 0} (from : ℕ) (ends : List ℕ) (xs : List A) → length (parts from ends xs) ≡ length ends
 length-parts from [] xs = refl
@@ -62,3 +63,73 @@ sum_by-parts {A} from (end ∷ ends) xs h =
     let more : sum_by length (parts from (end ∷ ends) xs) ≡ (end - from) + sum_by length (parts end ends xs) =
     sum_by-cons length (take (end - from) (drop from xs)) (parts end ends xs) ∙ ap (λ k. k + sum_by length (parts end ends xs)) size in
     rw more (omega (arith, h.0, sum_by-parts end ends xs h.1))
+
+-- a part starts where the one before it ends
+pub start_after : (ends : List ℕ) (k : ℕ) → get_or (0 ∷ ends) (k + 1) 0 ≡ get_or ends k 0
+start_after ends k = ap (λ i. get_or (0 ∷ ends) i 0) (add-one k)
+
+start-push : (ends : List ℕ) (m k : ℕ) → k ≤ length ends → get_or (0 ∷ (ends ++ m ∷ [])) k 0 ≡ get_or (0 ∷ ends) k 0
+start-push ends m k l = get_or_append_left (0 ∷ ends) (m ∷ []) 0 k (omega (arith, l))
+
+pub last_end-push : (ends : List ℕ) (m : ℕ) → last_end (ends ++ m ∷ []) ≡ m
+last_end-push ends m =
+    ap (λ n. get_or (0 ∷ (ends ++ m ∷ [])) n 0) (length_push ends m)
+    ∙ start_after (ends ++ m ∷ []) (length ends) ∙ get_or_push ends m 0 (length ends) refl
+
+-- the last part ends where all end
+pub last_part_end : (ends : List ℕ) (k : ℕ) → k + 1 ≡ length ends → get_or ends k 0 ≡ last_end ends
+last_part_end ends k last = sym (start_after ends k) ∙ ap (λ n. get_or (0 ∷ ends) n 0) last
+
+-- rising ends rise to the last of them
+pub EndsRise-last : (ends : List ℕ) (n : ℕ) → EndsRise 0 ends n → last_end ends ≡ n
+EndsRise-last ends n = rises_to 0 ends n
+  where
+    rises_to : (from : ℕ) (ends : List ℕ) (n : ℕ) → EndsRise from ends n → get_or (from ∷ ends) (length ends) 0 ≡ n
+    rises_to from [] n h = h
+    rises_to from (end ∷ ends) n h = rises_to end ends n h.1
+
+-- a place lies in the same part where another is put last, or in that one
+pub in_part-push : (ends : List ℕ) (m place part : ℕ) → IsInPart ends place part → IsInPart (ends ++ m ∷ []) place part
+in_part-push ends m place part h = record {
+  there = omega (arith, h.there, length_push ends m);
+  from = omega (arith, h.from, start-push ends m part (omega (arith, h.there)));
+  to = omega (arith, h.to, get_or_append_left ends (m ∷ []) 0 part h.there);
+}
+
+pub in_last_part : (ends : List ℕ) (m place : ℕ) → last_end ends ≤ place → place < m → IsInPart (ends ++ m ∷ []) place (length ends)
+in_last_part ends m place from to = record {
+  there = omega (arith, length_push ends m);
+  from = omega (arith, from, start-push ends m (length ends) (omega arith));
+  to = omega (arith, to, get_or_push ends m 0 (length ends) refl);
+}
+
+pub part_list-push : (ends marks more : List ℕ) (m : ℕ) → IsPartList ends marks → last_end ends < m → m ≤ 4000000
+    → length more ≡ (m + 15) / 16
+    → ((k d : ℕ) → k < (m + 15) / 16 → k < length marks → get_or more k d ≡ get_or marks k d)
+    → ((k d : ℕ) → length marks ≤ k → k < (m + 15) / 16 → get_or more k d ≡ length ends)
+    → IsPartList (ends ++ m ∷ []) more
+part_list-push ends marks more m h some room long old new =
+    let last : last_end (ends ++ m ∷ []) ≡ m = last_end-push ends m in record {
+      rising = subst (EndsRise 0 (ends ++ m ∷ [])) (sym last) (EndsRise-push 0 ends (last_end ends) m h.rising (omega (arith, some)));
+      few = omega (arith, last, h.few, some, length_push ends m);
+      room = omega (arith, last, room);
+      each_sixteenth = long ∙ ap (λ n. (n + 15) / 16) (sym last);
+      marked = λ k l. elim (cases_lt k (length marks)) [
+        | inl less ↦ subst (IsInPart (ends ++ m ∷ []) (16 * k)) (sym (old k 0 (omega (arith, l, long)) less)) (in_part-push ends m (16 * k) (get_or marks k 0) (h.marked k less))
+        | inr le ↦ subst (IsInPart (ends ++ m ∷ []) (16 * k)) (sym (new k 0 le (omega (arith, l, long))))
+            (in_last_part ends m (16 * k) (omega (arith, le, h.each_sixteenth)) (omega (arith, l, long)))
+      ];
+    }
+
+-- the first parts together reach up to where the next one starts
+pub sum_by-take-parts : {A : Type 0} (from : ℕ) (ends : List ℕ) (xs : List A) (f : ℕ) → EndsRise from ends (length xs) → f ≤ length ends
+    → from + sum_by length (take f (parts from ends xs)) ≡ get_or (from ∷ ends) f 0
+sum_by-take-parts {A} from ends xs zero h l = omega arith
+sum_by-take-parts {A} from [] xs (suc f) h l = absurd (omega arith)
+sum_by-take-parts {A} from (end ∷ ends) xs (suc f) h l =
+    let w = ends_within end ends (length xs) h.1 in
+    let size : length (take (end - from) (drop from xs)) ≡ end - from =
+    length-take-le (end - from) (drop from xs) (omega (arith, h.0, w, length-drop from xs)) in
+    let more : sum_by length (take (suc f) (parts from (end ∷ ends) xs)) ≡ (end - from) + sum_by length (take f (parts end ends xs)) =
+    sum_by-cons length (take (end - from) (drop from xs)) (take f (parts end ends xs)) ∙ ap (λ k. k + sum_by length (take f (parts end ends xs))) size in
+    rw more (omega (arith, h.0, sum_by-take-parts end ends xs f h.1 (omega arith)))

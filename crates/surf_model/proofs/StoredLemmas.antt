@@ -1,40 +1,51 @@
 -- What the functions on stored face lists need, said of the plain lists.
-use Rattle.std.proofs.Common.{◌≡◌, ℕ, ◌+◌, ◌-◌, ◌<◌, ◌≤◌, List, [], ◌∷◌, ◌++◌, length, get_or, take, drop, ap, ◌∙◌, arith, length-append}
+use Rattle.std.proofs.Common.{◌≡◌, ℕ, ◌+◌, ◌-◌, ◌<◌, ◌≤◌, List, [], ◌∷◌, ◌++◌, length, get_or, take, drop, ap, sym, subst, ◌∙◌, arith, length-append}
 use Rattle.std.specs.Prelude.{All}
 use Rattle.std.proofs.lemmas.List.{get_or-take, get_or-drop, length-take-le, length-drop, length-map, map-append, length_push}
 use Rattle.std.proofs.lemmas.List.Elements.{All-push, All-same}
 use Rattle.surf_model.specs.Parts.{parts, EndsRise}
 use Rattle.surf_model.specs.Vertices.{numbers}
 use Rattle.surf_model.specs.FaceLists.{FaceList, face_at, total_sides, IsFace}
+use Rattle.surf_model.specs.Darts.{first_side}
 use Rattle.surf_model.specs.StoredFaces.{stored_mesh, IsStored}
 use Rattle.surf_model.specs.declared.names.VertexName.{VertexName}
-use Rattle.surf_model.proofs.PartsLemmas.{length-parts, get_or-parts, part_within, parts-push, EndsRise-push, sum_by-parts}
+use Rattle.surf_model.proofs.PartsLemmas.{length-parts, get_or-parts, part_within, parts-push, EndsRise-push, sum_by-parts, sum_by-take-parts}
 
--- where face f lies among all corners
-pub record LiesAt (count : ℕ) (ends : List ℕ) (corners : List VertexName) (f : ℕ) : Type 0 where
+-- where face f of a mesh lies among all corners
+pub record LiesAt (mesh : FaceList) (ends : List ℕ) (corners : List VertexName) (f : ℕ) : Type 0 where
   pub few : f < length ends
   pub rises : get_or (0 ∷ ends) f 0 ≤ get_or ends f 0
   pub within : get_or ends f 0 ≤ length corners
-  pub size : length (face_at (stored_mesh count ends corners) f) ≡ get_or ends f 0 - get_or (0 ∷ ends) f 0
-  pub corner : (t : ℕ) → t < get_or ends f 0 - get_or (0 ∷ ends) f 0
-      → get_or (face_at (stored_mesh count ends corners) f) t 0 ≡ get_or (numbers corners) (get_or (0 ∷ ends) f 0 + t) 0
+  pub first : first_side mesh f ≡ get_or (0 ∷ ends) f 0
+  pub size : length (face_at mesh f) ≡ get_or ends f 0 - get_or (0 ∷ ends) f 0
+  pub corner : (t : ℕ) → t < length (face_at mesh f) → get_or (face_at mesh f) t 0 ≡ get_or (numbers corners) (get_or (0 ∷ ends) f 0 + t) 0
 
-pub lies_at : (count : ℕ) (ends : List ℕ) (corners : List VertexName) (f : ℕ) → IsStored count ends corners
-    → f < length (stored_mesh count ends corners).faces → LiesAt count ends corners f
-lies_at count ends corners f h l =
+lies_stored : (count : ℕ) (ends : List ℕ) (corners : List VertexName) (f : ℕ) → EndsRise 0 ends (length corners)
+    → f < length (stored_mesh count ends corners).faces → LiesAt (stored_mesh count ends corners) ends corners f
+lies_stored count ends corners f h l =
     let few : f < length ends = omega (arith, l, length-parts 0 ends (numbers corners)) in
-    let w = part_within 0 ends (length corners) f h.rising few in
+    let w = part_within 0 ends (length corners) f h few in
     let start : ℕ = get_or (0 ∷ ends) f 0 in
     let face : face_at (stored_mesh count ends corners) f ≡ take (get_or ends f 0 - start) (drop start (numbers corners)) =
     get_or-parts 0 ends (numbers corners) f [] few in
     let long : length (numbers corners) ≡ length corners = length-map corners (λ v. v.0) in
+    let size : length (face_at (stored_mesh count ends corners) f) ≡ get_or ends f 0 - start =
+    rw face (length-take-le _ _ (omega (arith, w.rises, w.within, long, length-drop start (numbers corners)))) in
+    let rises : EndsRise 0 ends (length (numbers corners)) = rw long h in
     record {
       few = few;
       rises = w.rises;
       within = w.within;
-      size = rw face (length-take-le _ _ (omega (arith, w.rises, w.within, long, length-drop start (numbers corners))));
-      corner = λ t k. rw face (get_or-take _ _ t 0 k ∙ get_or-drop start (numbers corners) t 0);
+      first = omega (arith, sum_by-take-parts 0 ends (numbers corners) f rises (omega (arith, few)));
+      size = size;
+      corner = λ t k. ap (λ (vs : List ℕ). get_or vs t 0) face ∙ get_or-take _ _ t 0 (omega (arith, k, size)) ∙ get_or-drop start (numbers corners) t 0;
     }
+
+pub lies_at : (count : ℕ) (ends : List ℕ) (corners : List VertexName) (mesh : FaceList) (f : ℕ) → IsStored count ends corners
+    → stored_mesh count ends corners ≡ mesh → f < length mesh.faces → LiesAt mesh ends corners f
+lies_at count ends corners mesh f h seen l =
+    subst (λ (m : FaceList). LiesAt m ends corners f) seen
+    (lies_stored count ends corners f h.rising (subst (λ (m : FaceList). f < length m.faces) (sym seen) l))
 
 pub total_sides-stored_mesh : (count : ℕ) (ends : List ℕ) (corners : List VertexName) → EndsRise 0 ends (length corners)
     → total_sides (stored_mesh count ends corners) ≡ length corners
@@ -42,6 +53,14 @@ total_sides-stored_mesh count ends corners h =
     let long : length (numbers corners) ≡ length corners = length-map corners (λ v. v.0) in
     let rises : EndsRise 0 ends (length (numbers corners)) = rw long h in
     omega (arith, long, sum_by-parts 0 ends (numbers corners) rises)
+
+-- how many faces there are, and how many sides together
+pub length-faces : (count : ℕ) (ends : List ℕ) (corners : List VertexName) (mesh : FaceList) → stored_mesh count ends corners ≡ mesh → length mesh.faces ≡ length ends
+length-faces count ends corners mesh seen = ap (λ (m : FaceList). length m.faces) (sym seen) ∙ length-parts 0 ends (numbers corners)
+
+pub total_sides-seen : (count : ℕ) (ends : List ℕ) (corners : List VertexName) (mesh : FaceList) → IsStored count ends corners → stored_mesh count ends corners ≡ mesh
+    → total_sides mesh ≡ length corners
+total_sides-seen count ends corners mesh h seen = ap total_sides (sym seen) ∙ total_sides-stored_mesh count ends corners h.rising
 
 -- one more face at the end
 pub stored_mesh-push : (count : ℕ) (ends : List ℕ) (corners face : List VertexName) (m : ℕ) → EndsRise 0 ends (length corners) → m ≡ length corners + length face

@@ -1,5 +1,5 @@
 -- A list of lists, kept as one list and the places where its parts end.
-use Rattle.std.specs.Prelude.{◌≡◌, ℕ, ◌-◌, ◌≤◌, List, [], ◌∷◌, take, drop}
+use Rattle.std.specs.Prelude.{◌≡◌, ℕ, ◌+◌, ◌-◌, ◌*◌, ◌/◌, ◌<◌, ◌≤◌, List, [], ◌∷◌, length, take, drop, slice_index}
 
 -- the parts of xs that end at these places, the first of them starting at `from`
 abbrev pub parts : {A : Type 0} → ℕ → List ℕ → List A → List (List A)
@@ -10,3 +10,21 @@ parts from (end ∷ ends) xs = take (end - from) (drop from xs) ∷ parts end en
 abbrev pub EndsRise : ℕ → List ℕ → ℕ → Type 0
 EndsRise from [] n = from ≡ n
 EndsRise from (end ∷ ends) n = (from ≤ end) × EndsRise end ends n
+
+-- where the last part ends
+abbrev pub last_end : List ℕ → ℕ
+last_end ends = slice_index (0 ∷ ends) (length ends)
+
+-- the place lies in the part
+pub record IsInPart (ends : List ℕ) (place part : ℕ) : Type 0 where
+  pub there : part < length ends
+  pub from : slice_index (0 ∷ ends) part ≤ place
+  pub to : place < slice_index ends part
+
+-- what holds of the places where parts end, and of the parts that are marked: for each sixteenth place its part
+pub record IsPartList (ends marks : List ℕ) : Type 0 where
+  pub rising : EndsRise 0 ends (last_end ends)
+  pub few : length ends ≤ last_end ends
+  pub room : last_end ends ≤ 4000000
+  pub each_sixteenth : length marks ≡ (last_end ends + 15) / 16
+  pub marked : (k : ℕ) → k < length marks → IsInPart ends (16 * k) (slice_index marks k)

@@ -1,10 +1,12 @@
 //! Face lists: polygon meshes as lists of faces, each face the ring of its corners.
 ghost use Rattle.std.specs.Prelude.{◌≡◌, ◌+◌, ◌<◌, ◌≤◌, [], ◌∷◌, ◌++◌, length, slice_index, OnOk, OnErr};
-ghost use Rattle.surf_model.specs.FaceLists.{face_at, total_sides, IsFace, IsFaceList};
+ghost use Rattle.surf_model.specs.FaceLists.{face_at, next_corner, total_sides, IsFace, IsFaceList};
+ghost use Rattle.surf_model.specs.Darts.{first_side, IsSide, side_number, side_after};
 ghost use Rattle.surf_model.specs.Vertices.{numbers};
 
-use crate::names::{FaceName, VertexName};
-use crate::parts::start_of;
+use crate::edges::Side;
+use crate::names::{DartName, FaceName, VertexName};
+use crate::parts::Parts;
 use std::alloc::{AllocError, Global};
 use std::marker::Model;
 
@@ -15,8 +17,8 @@ use std::marker::Model;
 pub struct Faces {
     count: u32,
     corners: Vec<VertexName>,
-    /// For each face the place in `corners` where it ends.
-    ends: Vec<u32>,
+    /// The places in `corners` where the faces end.
+    parts: Parts,
 }
 
 impl Model for Faces {
@@ -25,9 +27,9 @@ impl Model for Faces {
 
     ghost Value = { FaceList };
 
-    ghost view = { λ a. stored_mesh a.count a.ends.items a.corners.items };
+    ghost view = { λ a. stored_mesh a.count a.parts a.corners.items };
 
-    ghost invariant = { λ a. IsStored a.count a.ends.items a.corners.items };
+    ghost invariant = { λ a. IsStored a.count a.parts a.corners.items };
 }
 
 impl Faces {
@@ -39,7 +41,7 @@ impl Faces {
         Faces {
             count,
             corners: Vec::new(alloc),
-            ends: Vec::new(alloc),
+            parts: Parts::new(alloc),
         }
     }
 
@@ -62,9 +64,9 @@ impl Faces {
             ≡ record { count = self.old.count; faces = self.old.faces ++ numbers face.now ∷ [] }) }
         ensures err { OnErr result (self.new ≡ self.old) }
     {
-        self.ends.reserve(1)?;
-        self.corners.extend_from_slice(face)?;
-        self.ends.push(self.corners.len() as u32).unwrap();
+        self.corners.reserve(face.len())?;
+        self.parts.push(face.len() as u32)?;
+        self.corners.extend_from_slice(face).unwrap();
         Ok(())
     }
 
@@ -81,7 +83,7 @@ impl Faces {
         // What holds of every face list.
         ensures valid { IsFaceList self.now }
     {
-        self.ends.len() as u32
+        self.parts.len()
     }
 
     /// The number of sides of a face.
@@ -89,7 +91,7 @@ impl Faces {
         requires { face.0 < length self.now.faces }
         ensures { result ≡ length (face_at self.now face.0) }
     {
-        self.ends[face.0 as usize] - start_of(&self.ends, face.0)
+        self.parts.end(face.0) - self.parts.start(face.0)
     }
 
     /// The vertex at corner `t` of a face.
@@ -98,7 +100,7 @@ impl Faces {
         requires corner { t < length (face_at self.now face.0) }
         ensures { result.0 ≡ slice_index (face_at self.now face.0) t }
     {
-        self.corners[(start_of(&self.ends, face.0) + t) as usize]
+        self.corners[(self.parts.start(face.0) + t) as usize]
     }
 
     /// The number of sides of all faces together.
@@ -106,5 +108,63 @@ impl Faces {
         ensures { result ≡ total_sides self.now }
     {
         self.corners.len() as u32
+    }
+
+    /// The number of a face's first side, where the sides are numbered from 0 on, face after face.
+    pub fn first_dart(&self, face: FaceName) -> DartName
+        requires { face.0 < length self.now.faces }
+        ensures { result.0 ≡ first_side self.now face.0 }
+    {
+        DartName(self.parts.start(face.0))
+    }
+
+    /// The number of a side.
+    pub fn dart(&self, side: Side) -> DartName
+        requires { IsSide self.now side }
+        ensures number { result.0 ≡ side_number self.now side }
+        // What holds of every side.
+        ensures below { result.0 < total_sides self.now }
+    {
+        DartName(self.parts.start(side.face.0) + side.at)
+    }
+
+    /// The side with a number.
+    pub fn side_at(&self, dart: DartName) -> Side
+        requires { dart.0 < total_sides self.now }
+        ensures side { IsSide self.now result }
+        ensures number { side_number self.now result ≡ dart.0 }
+    {
+        let face = self.parts.part_at(dart.0);
+        Side {
+            face: FaceName(face),
+            at: dart.0 - self.parts.start(face),
+        }
+    }
+
+    /// The side that follows a side in its face, where the first one follows the last.
+    pub fn after(&self, side: Side) -> Side
+        requires { IsSide self.now side }
+        ensures after { result ≡ side_after self.now side }
+        // What holds of every side.
+        ensures side { IsSide self.now result }
+    {
+        Side {
+            face: side.face,
+            at: corner_after(true, self.sides(side.face), side.at),
+        }
+    }
+}
+
+/// The corner after corner `t` of a face of so many sides, by rising places or by falling ones, going round.
+pub fn corner_after(rising: bool, sides: u32, t: u32) -> u32
+    requires { t < sides }
+    ensures corner { result ≡ next_corner rising sides t }
+    ensures within { result < sides }
+{
+    match rising {
+        true if t + 1 == sides => 0,
+        true => t + 1,
+        false if t == 0 => sides - 1,
+        false => t - 1,
     }
 }

@@ -1,5 +1,7 @@
 //! Each call once, on the numbers of the tetrahedron.
-use crate::{ChainLink, FaceName, Faces, Move, MoveList, OddChain, Signs, VertexName, Walk};
+use crate::{
+    ChainLink, DartName, FaceName, Faces, Move, MoveList, OddChain, Side, Signs, VertexName, Walk,
+};
 
 #[test]
 fn faces_are_read_back(rt: HostRuntime) {
@@ -17,6 +19,32 @@ fn faces_are_read_back(rt: HostRuntime) {
     assert_eq!(rt; faces.total(), 6);
     assert_eq!(rt; faces.sides(FaceName(1)), 3);
     assert_eq!(rt; faces.corner(FaceName(1), 1), VertexName(3));
+}
+
+#[test]
+fn sides_are_numbered_face_after_face(rt: HostRuntime) {
+    let mut faces = Faces::new(rt.alloc(), 3);
+    for _ in 0..9 {
+        assert!(rt; faces.count() == 3 && faces.total() < 100);
+        faces
+            .push_slice(&[VertexName(0), VertexName(1), VertexName(2)])
+            .expect(&rt, "memory");
+    }
+    assert_eq!(rt; faces.total(), 27);
+    assert_eq!(rt; faces.len(), 9);
+    assert_eq!(rt; faces.first_dart(FaceName(6)), DartName(18));
+    for number in 0..27 {
+        let side = faces.side_at(DartName(number));
+        assert_eq!(rt;
+            side,
+            Side {
+                face: FaceName(number / 3),
+                at: number % 3
+            }
+        );
+        assert_eq!(rt; faces.dart(side), DartName(number));
+        assert_eq!(rt; faces.after(side).at, (number + 1) % 3);
+    }
 }
 
 #[test]

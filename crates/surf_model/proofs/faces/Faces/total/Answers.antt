@@ -1,11 +1,6 @@
-use Rattle.std.proofs.Common.{◌≡◌, ap, arith}
-use Rattle.surf_model.specs.FaceLists.{total_sides}
-use Rattle.surf_model.specs.StoredFaces.{stored_mesh}
-use Rattle.surf_model.proofs.StoredLemmas.{total_sides-stored_mesh}
+use Rattle.std.proofs.Common.{arith}
+use Rattle.surf_model.proofs.StoredLemmas.{total_sides-seen}
 use Rattle.surf_model.proofs.faces.Faces.total.Goals as goal
 
 pub returns : goal.returns
-returns c =
-    let i = c.self.inside in
-    let seen : total_sides (stored_mesh i.count i.ends.items i.corners.items) ≡ total_sides c.args.self.now = ap total_sides c.self.view_is in
-    omega (arith, total_sides-stored_mesh i.count i.ends.items i.corners.items c.self.invariant.rising, seen, i.corners.ok.0)
+returns c = omega (arith, total_sides-seen _ _ _ c.args.self.now c.self.invariant c.self.view_is, c.self.inside.corners.ok.0)
