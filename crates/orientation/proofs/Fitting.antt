@@ -1,0 +1,81 @@
+-- Two sides of one edge run oppositely under signs exactly where the signs of their faces fit.
+use Rattle.std.proofs.Common.{◌≡◌, ◌≢◌, ◌⊎◌, inl, inr, ℕ, ◌<◌, Bool, true, false, eqb, ◌&&◌, List, [], ◌∷◌, map, refl, ap, sym, ◌∙◌, arith}
+use Rattle.std.specs.Prelude.{if◌then◌else◌}
+use Rattle.std.proofs.lemmas.Bool.Decides.{nat_tests}
+use Rattle.surf_model.specs.FaceLists.{FaceList, FaceSide, IsFaceList, joins}
+use Rattle.surf_model.specs.Darts.{IsSide, tail_of, head_of}
+use Rattle.surf_model.specs.Surfaces.{ArePartners, RunOppositely, is_flipped}
+use Rattle.surf_model.specs.declared.edges.Side.{Side}
+use Rattle.surf_model.specs.declared.chains.ChainLink.{ChainLink}
+use Rattle.orientation.specs.Chains.{LeadsTo, run_alike, is_turned}
+use Rattle.orientation.specs.Classes.{EachEdgeHasAtMostTwoSides}
+use Rattle.orientation.specs.Trees.{differ, runs_alike, Fit}
+use Rattle.orientation.proofs.Partners.{entry_of, are_all}
+
+pub ends_differ : (mesh : FaceList) (side : Side) → IsFaceList mesh → IsSide mesh side → tail_of mesh side ≢ head_of mesh side
+ends_differ mesh side h is = (h.faces side.face.0 [] is.face).neighbours side.at is.place
+
+fit_from : (t h u k : ℕ) (f g : Bool) → ((t ≡ u) × (h ≡ k)) ⊎ ((t ≡ k) × (h ≡ u)) → t ≢ h
+    → ((if f then h else t) ≡ (if g then u else k)) × ((if f then t else h) ≡ (if g then k else u)) → differ f g ≡ eqb t u
+fit_from t h u k true true e n o = grind (arith, nat_tests)
+fit_from t h u k true false e n o = grind (arith, nat_tests)
+fit_from t h u k false true e n o = grind (arith, nat_tests)
+fit_from t h u k false false e n o = grind (arith, nat_tests)
+
+fit_to : (t h u k : ℕ) (f g : Bool) → ((t ≡ u) × (h ≡ k)) ⊎ ((t ≡ k) × (h ≡ u)) → t ≢ h
+    → differ f g ≡ eqb t u → ((if f then h else t) ≡ (if g then u else k)) × ((if f then t else h) ≡ (if g then k else u))
+fit_to t h u k true true e n o = grind (arith, nat_tests)
+fit_to t h u k true false e n o = grind (arith, nat_tests)
+fit_to t h u k false true e n o = grind (arith, nat_tests)
+fit_to t h u k false false e n o = grind (arith, nat_tests)
+
+pub fit_if_opposite : (mesh : FaceList) (signs : List Bool) (side other : Side) → IsFaceList mesh → ArePartners mesh side other → RunOppositely mesh signs side other → Fit mesh signs side other
+fit_if_opposite mesh signs side other is h run =
+    fit_from (tail_of mesh side) (head_of mesh side) (tail_of mesh other) (head_of mesh other) (is_flipped signs side.face.0) (is_flipped signs other.face.0)
+    h.one_edge (ends_differ mesh side is h.first) (run.starts, run.ends)
+
+pub opposite_if_fit : (mesh : FaceList) (signs : List Bool) (side other : Side) → IsFaceList mesh → ArePartners mesh side other → Fit mesh signs side other → RunOppositely mesh signs side other
+opposite_if_fit mesh signs side other is h fit =
+    let run = fit_to (tail_of mesh side) (head_of mesh side) (tail_of mesh other) (head_of mesh other) (is_flipped signs side.face.0) (is_flipped signs other.face.0)
+    h.one_edge (ends_differ mesh side is h.first) fit in
+    record { starts = run.0; ends = run.1 }
+
+-- a link along the edge of two partners
+pub record IsAlong (mesh : FaceList) (side : Side) (low high : ℕ) : Type 0 where
+  pub ordered : low < high
+  pub joins : joins low high (entry_of mesh side) ≡ true
+
+pub eqb_swap : (m n : ℕ) → eqb m n ≡ eqb n m
+eqb_swap m n = grind (arith, nat_tests)
+
+pub one_test : (b : Bool) → (b && true) ≡ b
+one_test true = refl
+one_test false = refl
+
+pub link_leads : (mesh : FaceList) (side other : Side) (link : ChainLink) → EachEdgeHasAtMostTwoSides mesh → ArePartners mesh side other
+    → IsAlong mesh side link.low.0 link.high.0 → link.face.0 ≡ side.face.0 → LeadsTo mesh link other.face.0
+link_leads mesh side other link few h along face = record {
+  ordered = along.ordered;
+  faces = elim (are_all mesh link.low.0 link.high.0 side other few h along.joins) [
+    | inl a ↦ inl (ap (map (λ (s : FaceSide). s.face)) a ∙ ap (λ f. f ∷ other.face.0 ∷ []) (sym face))
+    | inr a ↦ inr (ap (map (λ (s : FaceSide). s.face)) a ∙ ap (λ f. other.face.0 ∷ f ∷ []) (sym face))
+  ];
+}
+
+pub link_leads_back : (mesh : FaceList) (side other : Side) (link : ChainLink) → EachEdgeHasAtMostTwoSides mesh → ArePartners mesh side other
+    → IsAlong mesh side link.low.0 link.high.0 → link.face.0 ≡ other.face.0 → LeadsTo mesh link side.face.0
+link_leads_back mesh side other link few h along face = record {
+  ordered = along.ordered;
+  faces = elim (are_all mesh link.low.0 link.high.0 side other few h along.joins) [
+    | inl a ↦ inr (ap (map (λ (s : FaceSide). s.face)) a ∙ ap (λ f. side.face.0 ∷ f ∷ []) (sym face))
+    | inr a ↦ inl (ap (map (λ (s : FaceSide). s.face)) a ∙ ap (λ f. f ∷ side.face.0 ∷ []) (sym face))
+  ];
+}
+
+pub link_turned : (mesh : FaceList) (side other : Side) (link : ChainLink) → EachEdgeHasAtMostTwoSides mesh → ArePartners mesh side other
+    → IsAlong mesh side link.low.0 link.high.0 → is_turned mesh link ≡ runs_alike mesh side other
+link_turned mesh side other link few h along =
+    elim (are_all mesh link.low.0 link.high.0 side other few h along.joins) [
+      | inl a ↦ ap run_alike a ∙ one_test _ ∙ eqb_swap _ _
+      | inr a ↦ ap run_alike a ∙ one_test _
+    ]

@@ -1,0 +1,5 @@
+pub mod Listed
+pub mod Partners
+pub mod Fitting
+pub mod ChainLemmas
+pub mod ClassLemmas

@@ -1,0 +1,19 @@
+//! What holds of signs and of odd chains, said of the definitions. A call of one of these functions does
+//! nothing; its contract is the law.
+ghost use Rattle.std.specs.Prelude.{◌≡◌, Bool, List};
+ghost use Rattle.surf_model.specs.FaceLists.{FaceList, IsFaceList};
+ghost use Rattle.surf_model.specs.Surfaces.{IsCoherent, IsOrientable};
+ghost use Rattle.surf_model.specs.declared.chains.ChainLink.{ChainLink};
+ghost use Rattle.orientation.specs.Chains.{IsOddChain};
+ghost use Rattle.orientation.specs.Classes.{IsLeastKept};
+
+/// A mesh with an odd chain has no coherent signs.
+pub fn odd_chain_excludes_signs()
+    ensures { (mesh : FaceList) (chain : List ChainLink) → IsFaceList mesh → IsOddChain mesh chain → IsOrientable mesh → ⊥ }
+{}
+
+/// Coherent signs that keep the least face of each class are the only ones.
+pub fn kept_signs_are_unique()
+    ensures { (mesh : FaceList) (signs others : List Bool) → IsFaceList mesh → IsCoherent mesh signs → IsLeastKept mesh signs
+        → IsCoherent mesh others → IsLeastKept mesh others → signs ≡ others }
+{}
