@@ -11,3 +11,11 @@ pub mod MeshTableLemmas
 pub mod ReplacementLemmas
 pub mod PartnerLemmas
 pub mod OneTableLemmas
+pub mod ContextLemmas
+pub mod EdgeLemmas
+pub mod RoundLemmas
+pub mod LinkLemmas
+pub mod WayBackLemmas
+pub mod StackLemmas
+pub mod TreeWalkLemmas
+pub mod FreeWalkLemmas

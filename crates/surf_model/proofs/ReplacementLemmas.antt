@@ -47,7 +47,7 @@ entry_of_part walk before part after at k e p =
     ∙ ap (λ (n : ℕ). get_or (before ++ (part ++ after)) (n + k) 0) (sym p)
     ∙ get_or-append-add before (part ++ after) k 0
 
-length-corners_from : (ring : List ℕ) (forward : Bool) (corner k : ℕ) → length (corners_from ring forward corner k) ≡ k + 1
+pub length-corners_from : (ring : List ℕ) (forward : Bool) (corner k : ℕ) → length (corners_from ring forward corner k) ≡ k + 1
 length-corners_from ring forward corner zero = refl
 length-corners_from ring forward corner (suc k) =
     let more : suc (k + 1) ≡ suc k + 1 = omega arith in

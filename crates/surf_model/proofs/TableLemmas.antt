@@ -26,17 +26,17 @@ list_any_from_filter p (x ∷ xs) h =
       | inr fails ↦ or_right (p x) (list_any p xs) (list_any_from_filter p xs (subst (λ ys. 0 < length ys) (cond-false (p x) _ _ fails) h))
     ]
 
-list_any_agree : {A : Type 0} (p q : A → Bool) → ((x : A) → p x ≡ q x) → (xs : List A) → list_any p xs ≡ list_any q xs
+pub list_any_agree : {A : Type 0} (p q : A → Bool) → ((x : A) → p x ≡ q x) → (xs : List A) → list_any p xs ≡ list_any q xs
 list_any_agree p q h [] = refl
 list_any_agree p q h (x ∷ xs) = rw (h x, list_any_agree p q h xs) refl
 
-joins_swap : (u v : ℕ) (s : FaceSide) → joins u v s ≡ joins v u s
+pub joins_swap : (u v : ℕ) (s : FaceSide) → joins u v s ≡ joins v u s
 joins_swap u v s = grind (arith, nat_tests)
 
 both_join : (u v a b : ℕ) (s : FaceSide) → joins u v s ≡ true → joins a b s ≡ true → ((a ≡ u) × (b ≡ v)) ⊎ ((a ≡ v) × (b ≡ u))
 both_join u v a b s h k = grind (arith, nat_tests)
 
-joins_names : (a b v : ℕ) (s : FaceSide) → joins a b s ≡ true → (a ≡ v) ⊎ (b ≡ v) → names v s ≡ true
+pub joins_names : (a b v : ℕ) (s : FaceSide) → joins a b s ≡ true → (a ≡ v) ⊎ (b ≡ v) → names v s ≡ true
 joins_names a b v s h e = grind (arith, nat_tests)
 
 names_joins : (a b v : ℕ) (s : FaceSide) → joins a b s ≡ true → names v s ≡ true → (a ≡ v) ⊎ (b ≡ v)
@@ -109,7 +109,7 @@ names_faces v n (face ∷ faces) =
     list_any-append (names v) (sides_of_face n face) (flat_map (λ (p : ℕ × List ℕ). sides_of_face p.0 p.1) (enumerate_from (n + 1) faces))
     ∙ (rw (names_face v n face, names_faces v (n + 1) faces) refl)
 
-names_mesh : (mesh : FaceList) (v : ℕ) → list_any (names v) (all_sides mesh) ≡ is_used mesh v
+pub names_mesh : (mesh : FaceList) (v : ℕ) → list_any (names v) (all_sides mesh) ≡ is_used mesh v
 unfolding is_used all_sides
 names_mesh mesh v = names_faces v 0 mesh.faces
 

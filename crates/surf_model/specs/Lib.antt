@@ -5,6 +5,8 @@ pub mod StoredFaces
 pub mod Walks
 pub mod Moves
 pub mod Replacements
+pub mod Rewriting
+pub mod FreeWalks
 pub mod Edges
 pub mod Darts
 pub mod Surfaces

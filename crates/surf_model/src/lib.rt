@@ -5,6 +5,7 @@
 pub mod chains;
 pub mod edges;
 pub mod faces;
+pub mod homotopy_laws;
 pub mod laws;
 pub mod moves;
 pub mod names;

@@ -1,6 +1,7 @@
 //! Elementary moves on walks, and lists of them.
 ghost use Rattle.std.specs.Prelude.{◌≡◌, ◌+◌, ◌<◌, [], ◌∷◌, ◌++◌, max, length, slice_get, Some, OnOk, OnErr};
 ghost use Rattle.surf_model.specs.declared.moves.Move.{Move};
+ghost use Rattle.surf_model.specs.Rewriting.{TakesAtMost, inverse_of};
 
 use crate::names::{FaceName, VertexName};
 use std::alloc::{AllocError, Global};
@@ -28,6 +29,33 @@ pub enum Move {
         forward: bool,
         taken: u32,
     },
+}
+
+impl Move {
+    /// The move back, where `sides` is the number of sides of the move's face: a spur goes out where one went
+    /// in, and the other way round; a face is gone round again from the same corner, in the other direction.
+    pub fn inverse(self, sides: u32) -> Move
+        requires { TakesAtMost sides self }
+        ensures { result ≡ inverse_of sides self }
+    {
+        match self {
+            Move::Insert { at, via } => Move::Remove { at, via },
+            Move::Remove { at, via } => Move::Insert { at, via },
+            Move::Across {
+                at,
+                face,
+                corner,
+                forward,
+                taken,
+            } => Move::Across {
+                at,
+                face,
+                corner,
+                forward: !forward,
+                taken: sides - taken,
+            },
+        }
+    }
 }
 
 /// A list of moves, with its peak: the greatest number of darts that it is declared to pass.
