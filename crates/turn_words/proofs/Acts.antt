@@ -1,31 +1,40 @@
 -- What a put means for a state, and for a recorder.
-use Rattle.std.proofs.Common.{◌≡◌, ℕ, ◌<◌, arith, sym, ◌∙◌, ap, ap₂, List, [], ◌∷◌, ◌++◌, length, reverse, Option, Some, None}
+use Rattle.std.proofs.Common.{◌≡◌, ℕ, ◌<◌, arith, sym, ◌∙◌, ap, ap₂, List, [], ◌∷◌, ◌++◌, length, reverse, Option, Some}
 use Rattle.std.proofs.lemmas.List.{reverse-reverse, append-nil}
 use Rattle.turn_words.specs.Modulo.{add, minus}
-use Rattle.turn_words.specs.Put.{put}
-use Rattle.turn_words.specs.Hyper_states.{HyperState, turn_to, value_at, hyper_next, BelongsTo}
-use Rattle.turn_words.specs.Steps.{after_steps}
-use Rattle.turn_words.specs.Noted.{NotesSteps, with_steps, put_steps}
+use Rattle.turn_words.specs.Put_turns.{put}
+use Rattle.turn_words.specs.Hyper_states.{HyperState, turn_to, value_at, hyper_next, BelongsTo, LeadOn}
+use Rattle.turn_words.specs.Step_table.{next_changed, after_steps}
+use Rattle.turn_words.specs.Recorded.{with_steps, TellsMore}
+use Rattle.turn_words.specs.Private.Put_steps.{put_steps}
 use Rattle.turn_words.specs.declared.step.Step.{Step}
 use Rattle.turn_words.specs.Lemmas.Put_laws.{put-good}
-use Rattle.turn_words.specs.Lemmas.Reaching.{put-reached}
+use Rattle.turn_words.proofs.Telling.{tells-steps}
+use Rattle.turn_words.proofs.Reaching.{IsNextBelow, put-reached}
 use Rattle.turn_words.specs.Lemmas.Hyper_laws.{good_word, turn_below, next_belongs}
 
-abbrev pub state-of : List ℕ → ℕ → HyperState
+abbrev state-of : List ℕ → ℕ → HyperState
 state-of w n = record { word = w; number = n }
 
-pub notes-put : (places : List ℕ) (s : HyperState) (i t : ℕ) (new : List ℕ) (o p : Option (List Step)) → BelongsTo places s → t ≡ turn_to places s i →
-    reverse new ≡ (put (length places) (reverse s.word) t).word → p ≡ with_steps o (put_steps (length places) (reverse s.word) t) →
-    NotesSteps (length places) o p (s.word ++ (turn_to places s i ∷ [])) new
-notes-put places s i t new None p b turn left e = e
-notes-put places s i t new (Some before) p b turn left e =
+-- the steps of a put lead on
+pub puts-lead : (places : List ℕ) (s : HyperState) (i : ℕ) → BelongsTo places s → LeadOn places s i (put_steps (length places) (reverse s.word) (turn_to places s i))
+puts-lead places s i b =
     let d = length places in
-    let reached = put-reached d b.own.five (reverse s.word) t [] (good_word places s b) tt in
-    let ended : reverse (put d (reverse s.word) t).word ++ [] ≡ new = append-nil _ ∙ ap reverse (sym left) ∙ reverse-reverse new in (
-      put_steps d (reverse s.word) t,
-      e,
-      ap (after_steps d (put_steps d (reverse s.word) t)) (ap₂ (λ w u. w ++ (u ∷ [])) (sym (reverse-reverse s.word)) (sym turn)) ∙ reached ∙ ap Some ended,
-    )
+    let t = turn_to places s i in
+    let good = good_word places s b in
+    let front : (w : List ℕ) → IsNextBelow d w →
+    after_steps d (put_steps d (reverse s.word) t) (s.word ++ (t ∷ w)) ≡ Some (reverse (put d (reverse s.word) t).word ++ next_changed d (put d (reverse s.word) t).change w)
+    = λ w below. ap (λ u. after_steps d (put_steps d (reverse s.word) t) (u ++ (t ∷ w))) (sym (reverse-reverse s.word)) ∙ put-reached d b.own.five (reverse s.word) t w good below in
+    record {
+      alone = front [] tt ∙ ap Some (append-nil _);
+      in_front = λ turn turns below. front (turn ∷ turns) below;
+    }
+
+pub notes-put : (places : List ℕ) (s : HyperState) (i t : ℕ) (o p : Option (List Step)) → BelongsTo places s → t ≡ turn_to places s i →
+    p ≡ with_steps o (put_steps (length places) (reverse s.word) t) → TellsMore (LeadOn places s i) o p
+notes-put places s i t o p b turn e =
+    tells-steps (LeadOn places s i) o p (put_steps (length places) (reverse s.word) (turn_to places s i))
+    (e ∙ ap (λ u. with_steps o (put_steps (length places) (reverse s.word) u)) turn) (puts-lead places s i b)
 
 pub change-below : (places : List ℕ) (s : HyperState) (i t : ℕ) → BelongsTo places s → i < length places → t ≡ turn_to places s i → (put (length places) (reverse s.word) t).change < length places
 change-below places s i t b below turn =

@@ -1,7 +1,13 @@
+pub mod Telling
+pub mod Reading
+pub mod Reaching
+pub mod Backward
+pub mod Unique
 pub mod Filling
 pub mod Loops
 pub mod Acts
-pub mod Unique
 pub mod Table
 pub mod Places
 pub mod Spokes
+pub mod Led
+pub mod Notes_along

@@ -3,11 +3,12 @@ use Rattle.std.proofs.Common.{◌≡◌, ◌≢◌, ℕ, ◌+◌, ◌-◌, ◌<�
 use Rattle.std.proofs.lemmas.Bool.{cases_eq, eq-eqb, ne_eqb}
 use Rattle.std.proofs.lemmas.List.{append-nil, reverse-append, length-reverse, take_more, take_all, replicate_more, set_at, length-take-le, get_or-take, take-take}
 use Rattle.turn_words.specs.Modulo.{add, minus}
-use Rattle.turn_words.specs.Put.{is_open, flipped, closed}
-use Rattle.turn_words.specs.Noted.{flip_steps, close_steps, with_steps}
+use Rattle.turn_words.specs.Put_turns.{is_open, flipped, closed}
+use Rattle.turn_words.specs.Recorded.{with_steps}
+use Rattle.turn_words.specs.Private.Put_steps.{flip_steps, close_steps}
 use Rattle.turn_words.specs.declared.step.Step.{Step}
 use Rattle.turn_words.specs.declared.step.Step.TheVariants.{SpurOut, Push}
-use Rattle.turn_words.specs.Lemmas.Ends.{IsCons, open-two, open-cases, flipped-run, flipped-end, closed-two}
+use Rattle.turn_words.specs.Lemmas.Word_ends.{IsCons, open-two, open-cases, flipped-run, flipped-end, closed-two}
 
 -- the last entry of a list
 pub last-split : (w : List ℕ) (at : ℕ) → at + 1 ≡ length w → w ≡ take at w ++ (get_or w at 0 ∷ [])

@@ -3,7 +3,7 @@ use Rattle.std.proofs.Common.{◌≡◌, ℕ, ◌+◌, ◌%◌, ◌<◌, ◌⊎�
 use Rattle.std.proofs.lemmas.Bool.{eq-eqb, ne_eqb}
 use Rattle.std.proofs.lemmas.List.{reverse-reverse}
 use Rattle.turn_words.specs.Modulo.{add, minus}
-use Rattle.turn_words.specs.Put.{put}
+use Rattle.turn_words.specs.Put_turns.{put}
 use Rattle.turn_words.specs.Canonical.{IsCanonicalOf, IsTurnWord}
 use Rattle.turn_words.specs.Wheels.{IsWheel}
 use Rattle.turn_words.specs.Hyper_states.{HyperState, empty_state, value_at, turn_to, hyper_next, IsHyperWheel, BelongsTo}
@@ -11,7 +11,8 @@ use Rattle.turn_words.specs.Form_laws.{led}
 use Rattle.turn_words.specs.Spoke_paths.{place_round, turns_after, turn_word_of}
 use Rattle.turn_words.specs.Lemmas.Sums.{add-cases, minus-cases, add-lt, minus-lt}
 use Rattle.turn_words.specs.Lemmas.Put_laws.{put-good}
-use Rattle.turn_words.specs.Lemmas.Reading.{InRange, read, state}
+use Rattle.turn_words.specs.Lemmas.Lists.{InRange}
+use Rattle.turn_words.proofs.Reading.{read, state}
 use Rattle.turn_words.specs.Lemmas.From_end.{in-range-from, all-from}
 use Rattle.turn_words.specs.Lemmas.Hyper_laws.{good_word, turn_below, next_belongs, length-next, hyper_starts}
 use Rattle.turn_words.proofs.Unique.{left, left-is-canonical}
@@ -20,7 +21,7 @@ place-below : (places : List ℕ) (at_vertex : Bool) (i : ℕ) → IsWheel place
 place-below places true i wheel below = wheel.inside i below
 place-below places false i wheel below = below
 
-turns-in-range : (places : List ℕ) (at_vertex : Bool) (last : ℕ) (spokes : List ℕ) → IsWheel places → last < length places → InRange (length places) spokes →
+pub turns-in-range : (places : List ℕ) (at_vertex : Bool) (last : ℕ) (spokes : List ℕ) → IsWheel places → last < length places → InRange (length places) spokes →
     InRange (length places) (turns_after places at_vertex last spokes)
 turns-in-range places at_vertex last [] wheel below s = tt
 turns-in-range places at_vertex last (i ∷ spokes) wheel below s = (
@@ -39,7 +40,7 @@ turns places spokes own s = record {
 }
 
 -- where a word stands: at the vertex or in the middle
-abbrev Stands : List ℕ → Bool → Type 0
+abbrev pub Stands : List ℕ → Bool → Type 0
 Stands word true = length word % 2 ≡ 0
 Stands word false = length word % 2 ≡ 1
 
@@ -67,15 +68,15 @@ turned d v l n hv hl hn =
     )
 
 -- a state whose number is counted from the last spoke reads the turns after it
-record Counts (places : List ℕ) (s : HyperState) (at_vertex : Bool) (last n : ℕ) : Type 0 where
-  belongs : BelongsTo places s
-  stands : Stands s.word at_vertex
-  last_below : last < length places
-  n_below : n < length places
-  number : s.number ≡ add (length places) (place_round places at_vertex last) (minus (length places) n)
+pub record Counts (places : List ℕ) (s : HyperState) (at_vertex : Bool) (last n : ℕ) : Type 0 where
+  pub belongs : BelongsTo places s
+  pub stands : Stands s.word at_vertex
+  pub last_below : last < length places
+  pub n_below : n < length places
+  pub number : s.number ≡ add (length places) (place_round places at_vertex last) (minus (length places) n)
 
 -- the state after a spoke counts from it
-counts-next : (places : List ℕ) (s : HyperState) (at_vertex : Bool) (i : ℕ) → BelongsTo places s → Stands s.word at_vertex → i < length places →
+pub counts-next : (places : List ℕ) (s : HyperState) (at_vertex : Bool) (i : ℕ) → BelongsTo places s → Stands s.word at_vertex → i < length places →
     Counts places (hyper_next places s i) (not at_vertex) i (put (length places) (reverse s.word) (turn_to places s i)).change
 counts-next places s at_vertex i b stands below =
     let next_stands = stands-next s.word (hyper_next places s i).word at_vertex stands (length-next places s i b) in
@@ -88,20 +89,34 @@ counts-next places s at_vertex i b stands below =
           (stands-value places (hyper_next places s i).word (not at_vertex) i next_stands);
     }
 
+-- the turn after the last spoke, changed, is the turn against the number
+pub counts-turn : (places : List ℕ) (s : HyperState) (at_vertex : Bool) (last n i : ℕ) → Counts places s at_vertex last n → i < length places →
+    add (length places) (add (length places) (place_round places at_vertex i) (minus (length places) (place_round places at_vertex last))) n ≡ turn_to places s i
+counts-turn places s at_vertex last n i c below =
+    let d = length places in
+    let wheel = c.belongs.own.wheel in
+    sym (ap₂ (λ v m. add d v (minus d m)) (stands-value places s.word at_vertex i c.stands) c.number
+    ∙ turned d (place_round places at_vertex i) (place_round places at_vertex last) n (place-below places at_vertex i wheel below) (place-below places at_vertex last wheel c.last_below) c.n_below)
+
 leads : (places : List ℕ) (s : HyperState) (at_vertex : Bool) (last n : ℕ) (spokes : List ℕ) → Counts places s at_vertex last n → InRange (length places) spokes →
     (read (length places) (state (reverse s.word) n) (turns_after places at_vertex last spokes)).word ≡ reverse (led hyper_next places s spokes).word
 leads places s at_vertex last n [] c s_in = refl
 leads places s at_vertex last n (i ∷ spokes) c s_in =
     let d = length places in
-    let y = add d (place_round places at_vertex i) (minus d (place_round places at_vertex last)) in
     let p = put d (reverse s.word) (turn_to places s i) in
-    let turn : add d y n ≡ turn_to places s i =
-    sym (ap₂ (λ v m. add d v (minus d m)) (stands-value places s.word at_vertex i c.stands) c.number
-    ∙ turned d (place_round places at_vertex i) (place_round places at_vertex last) n (place-below places at_vertex i c.belongs.own.wheel s_in.0) (place-below places at_vertex last c.belongs.own.wheel c.last_below) c.n_below) in
+    let turn = counts-turn places s at_vertex last n i c s_in.0 in
     let rest = leads places (hyper_next places s i) (not at_vertex) i p.change spokes (counts-next places s at_vertex i c.belongs c.stands s_in.0) s_in.1 in
     ap (λ t. (read d (put d (reverse s.word) t) (turns_after places (not at_vertex) i spokes)).word) turn
     ∙ ap (λ w. (read d (state w p.change) (turns_after places (not at_vertex) i spokes)).word) (sym (reverse-reverse p.word))
     ∙ rest
+
+pub start-turn : (places : List ℕ) (i : ℕ) → IsHyperWheel places → i < length places → add (length places) (slice_index places i) 0 ≡ turn_to places empty_state i
+start-turn places i own below =
+    let d = length places in
+    let five = own.five in
+    let inside = own.wheel.inside i below in
+    let zero_below : 0 < d = omega arith in
+    omega (arith, minus-cases d 0 zero_below, add-cases d (slice_index places i) 0, add-cases d (slice_index places i) (minus d 0))
 
 leads-start : (places spokes : List ℕ) → IsHyperWheel places → InRange (length places) spokes →
     (read (length places) (state [] 0) (turn_word_of places spokes)).word ≡ reverse (led hyper_next places empty_state spokes).word
@@ -110,10 +125,7 @@ leads-start places (i ∷ spokes) own s_in =
     let d = length places in
     let b = hyper_starts.belongs places own in
     let p = put d [] (turn_to places empty_state i) in
-    let five = own.five in
-    let inside = own.wheel.inside i s_in.0 in
-    let zero_below : 0 < d = omega arith in
-    let turn : add d (slice_index places i) 0 ≡ turn_to places empty_state i = omega (arith, minus-cases d 0 zero_below, add-cases d (slice_index places i) 0, add-cases d (slice_index places i) (minus d 0)) in
+    let turn = start-turn places i own s_in.0 in
     let rest = leads places (hyper_next places empty_state i) false i p.change spokes (counts-next places empty_state true i b refl s_in.0) s_in.1 in
     ap (λ t. (read d (put d [] t) (turns_after places false i spokes)).word) turn
     ∙ ap (λ w. (read d (state w p.change) (turns_after places false i spokes)).word) (sym (reverse-reverse p.word))

@@ -1,13 +1,15 @@
 -- A turn word reaches one canonical word: the one that is left when its entries are put one after another.
-use Rattle.std.proofs.Common.{◌≡◌, ℕ, ◌+◌, ◌<◌, ◌≤◌, arith, refl, sym, ◌∙◌, ap, ap₂, subst, zero, suc, List, [], ◌∷◌, ◌++◌, All, length, reverse, take, get_or}
+use Rattle.std.proofs.Common.{◌≡◌, ◌↔◌, ℕ, ◌+◌, ◌<◌, ◌≤◌, arith, refl, sym, ◌∙◌, ap, ap₂, subst, zero, suc, List, [], ◌∷◌, ◌++◌, All, length, reverse, take, get_or}
 use Rattle.std.proofs.lemmas.List.{reverse-reverse, take_more, take_all}
 use Rattle.turn_words.specs.Modulo.{add}
-use Rattle.turn_words.specs.Put.{put}
-use Rattle.turn_words.specs.Steps.{Reaches}
+use Rattle.turn_words.specs.Put_turns.{put}
+use Rattle.turn_words.specs.Step_table.{Reaches}
 use Rattle.turn_words.specs.Canonical.{IsCanonical, IsCanonicalOf, IsTurnWord}
-use Rattle.turn_words.specs.Lemmas.Ends.{IsGood}
-use Rattle.turn_words.specs.Lemmas.Reading.{InRange, read, IsSound, state}
-use Rattle.turn_words.specs.Lemmas.Reaching.{reached-good, left-reached, read-sound, start-sound, after_steps-append, read-append}
+use Rattle.turn_words.specs.Lemmas.Word_ends.{IsGood}
+use Rattle.turn_words.specs.Lemmas.Lists.{InRange}
+use Rattle.turn_words.proofs.Reading.{read, IsSound, state}
+use Rattle.turn_words.proofs.Backward.{both-ways}
+use Rattle.turn_words.proofs.Reaching.{reached-good, left-reached, read-sound, start-sound, after_steps-append, read-append}
 use Rattle.turn_words.specs.Lemmas.From_end.{canonical-from, good-from-canonical, in-range-from, all-from}
 
 -- what is left of a word
@@ -46,6 +48,15 @@ shared d w v c e t r f g =
       is_canonical = g.is_canonical;
       reached = (r.0 ++ g.reached.0, after_steps-append d r.0 g.reached.0 w v r.1 ∙ g.reached.1);
     })
+
+pub reach_each_other : (d : ℕ) (w v c e : List ℕ) → IsTurnWord d w → IsTurnWord d v → IsCanonicalOf d w c → IsCanonicalOf d v e → Reaches d w v ↔ (c ≡ e)
+reach_each_other d w v c e t u f g = (
+  (λ r. shared d w v c e t r f g),
+  (λ same.
+      let back = (both-ways d v e u g.reached).1 in
+      let there = subst (λ z. Reaches d w z) same f.reached in
+      (there.0 ++ back.0, after_steps-append d there.0 back.0 w e there.1 ∙ back.1)),
+)
 
 -- what is known after the first `i` entries
 pub record ReadsTo (d : ℕ) (w : List ℕ) (i : ℕ) (items : List ℕ) (change : ℕ) : Type 0 where

@@ -1,7 +1,8 @@
 -- What each form keeps to. A wheel is its list of places, and `next places state spoke` is the state that a spoke put
 -- last leads to.
-use Rattle.std.specs.Prelude.{◌≡◌, ℕ, ◌+◌, ◌<◌, ◌≤◌, List, [], ◌∷◌, length, slice_index}
+use Rattle.std.specs.Prelude.{◌≡◌, ℕ, ◌+◌, ◌<◌, ◌≤◌, List, [], ◌∷◌, ◌++◌, length, slice_index}
 use Rattle.turn_words.specs.Modulo.{add, minus}
+use Rattle.turn_words.specs.declared.step.Step.{Step}
 
 -- the spokes `a, a + 1` and the spokes `c + 1, c` are the two sides of a quad
 pub record IsQuad (places : List ℕ) (a c : ℕ) : Type 0 where
@@ -38,3 +39,11 @@ AcrossQuads {State} Belongs IsAtVertex next =
 abbrev pub led : {State : Type 0} → (List ℕ → State → ℕ → State) → List ℕ → State → List ℕ → State
 led next places s [] = s
 led next places s (spoke ∷ spokes) = led next places (next places s spoke) spokes
+
+-- the steps that are noted where a list of spokes is put: those of the first spoke, and then those of the others.
+-- `Notes places s spoke steps` holds of the steps that one spoke may note
+abbrev pub NotesAlong : {State : Type 0} → (List ℕ → State → ℕ → State) → (List ℕ → State → ℕ → List Step → Type 0) → List ℕ → State → List ℕ → List Step → Type 0
+NotesAlong next Notes places s [] steps = steps ≡ []
+NotesAlong next Notes places s (spoke ∷ spokes) steps =
+    (first : List Step) × (later : List Step) × (steps ≡ first ++ later) × Notes places s spoke first
+    × NotesAlong next Notes places (next places s spoke) spokes later

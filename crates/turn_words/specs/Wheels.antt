@@ -1,5 +1,5 @@
 -- The places of the spokes round the one vertex: the place of spoke `k` is number `k` of a list.
-use Rattle.std.specs.Prelude.{◌≡◌, ℕ, ◌<◌, ◌≤◌, ◌^◌, List, length, slice_index}
+use Rattle.std.specs.Prelude.{◌≡◌, ℕ, ◌<◌, ◌≤◌, List, length, slice_index}
 
 -- each place is below the number of spokes
 abbrev pub IsInside : List ℕ → Type 0
@@ -29,15 +29,3 @@ pub record IsFirstTwice (places : List ℕ) (place : ℕ) : Type 0 where
 pub record IsWheel (places : List ℕ) : Type 0 where
   pub inside : IsInside places
   pub once : (i j : ℕ) → i < length places → j < length places → slice_index places i ≡ slice_index places j → i ≡ j
-
--- the second list has the spoke of each place
-pub record IsInverse (places spokes : List ℕ) : Type 0 where
-  pub as_long : length spokes ≡ length places
-  pub inside : (place : ℕ) → place < length places → slice_index spokes place < length places
-  pub back : (place : ℕ) → place < length places → slice_index places (slice_index spokes place) ≡ place
-
--- a wheel as it is stored
-pub record IsStored (places spokes : List ℕ) : Type 0 where
-  pub few : length places < 2 ^ 32
-  pub wheel : IsWheel places
-  pub inverse : IsInverse places spokes

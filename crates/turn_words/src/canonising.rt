@@ -1,7 +1,7 @@
 //! The canonical word that a turn word reaches.
 ghost use Rattle.std.specs.Prelude.{◌≡◌, ℕ, ◌<◌, ◌≤◌, List, All, length, IfOk, MatchResult, MatchOption};
 ghost use Rattle.turn_words.specs.Canonical.{IsCanonical, IsCanonicalOf, IsTurnWord};
-ghost use Rattle.turn_words.specs.Steps.{Reaches};
+ghost use Rattle.turn_words.specs.Step_table.{Reaches};
 ghost use Rattle.turn_words.specs.Word_faults.{IsFirstAbove, IsWordFaultOf};
 
 use crate::counter::Steps;

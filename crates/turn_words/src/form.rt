@@ -1,6 +1,8 @@
 //! Forms: how the word of a walk is kept, spoke by spoke.
-ghost use Rattle.std.specs.Prelude.{◌≡◌, ℕ, ◌-◌, ◌^◌, ◌<◌, ◌↔◌, List, length, IsTrue, OnOk};
+ghost use Rattle.std.specs.Prelude.{◌≡◌, ℕ, ◌<◌, ◌↔◌, ⊤, List, length, IsTrue, OnOk};
+ghost use Rattle.turn_words.specs.Recorded.{TellsMore};
 ghost use Rattle.turn_words.specs.Form_laws.{StartsWell, StaysWell, ThereAndBack, AcrossQuads};
+ghost use Rattle.turn_words.specs.declared.step.Step.{Step};
 
 use crate::recorder::Recorder;
 use crate::wheel::Wheel;
@@ -33,8 +35,15 @@ pub trait Form {
     /// A number that each spoke raises by one at most.
     ghost size: { State → ℕ };
 
+    /// A spoke is put only where the size is below this number. So spokes whose count and the size make no
+    /// more together can be put one after another.
+    ghost limit: { ℕ };
+
     /// The state that a spoke put last leads to.
     ghost next: { List ℕ → State → ℕ → State };
+
+    /// What the steps do that are noted where a spoke is put last.
+    ghost Notes: { List ℕ → State → ℕ → List Step → Type 0 };
 
     /// Goes back to the state of the empty word.
     fn restart(&mut self)
@@ -50,9 +59,14 @@ pub trait Form {
     ) -> Result<(), AllocError>
         requires belongs { Belongs wheel.now (state self.old) }
         requires spoke { spoke.0 < length wheel.now }
-        requires room { size (state self.old) < 2 ^ 32 - 2 }
+        requires room { size (state self.old) < limit }
         ensures state { OnOk result (state self.new ≡ next wheel.now (state self.old) spoke.0) }
-        ensures belongs { OnOk result (Belongs wheel.now (state self.new)) };
+        ensures belongs { OnOk result (Belongs wheel.now (state self.new)) }
+        ensures notes { OnOk result (TellsMore (Notes wheel.now (state self.old) spoke.0)
+            (R.noted recorder.old) (R.noted recorder.new)) }
+
+        // Where memory runs out some of the steps may have been noted.
+        ensures kept { TellsMore (λ _. ⊤) (R.noted recorder.old) (R.noted recorder.new) };
 
     /// Tells whether two forms are in one state.
     fn same(&self, other: &Self) -> bool

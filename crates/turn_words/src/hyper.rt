@@ -1,7 +1,7 @@
 //! The form for degrees from 5 on.
-ghost use Rattle.std.specs.Prelude.{◌≡◌, ◌+◌, ◌-◌, ◌^◌, ◌<◌, ◌≤◌, ◌↔◌, ◌++◌, [], ◌∷◌, length, IsTrue, IsOk, OnOk, IfOk};
-ghost use Rattle.turn_words.specs.Hyper_states.{empty_state, hyper_next, turn_to, value_at, BelongsTo};
-ghost use Rattle.turn_words.specs.Noted.{NotesSteps};
+ghost use Rattle.std.specs.Prelude.{◌≡◌, ◌+◌, ◌-◌, ◌^◌, ◌<◌, ◌≤◌, ⊤, length, IsOk, OnOk, IfOk};
+ghost use Rattle.turn_words.specs.Hyper_states.{empty_state, hyper_next, value_at, BelongsTo, LeadOn};
+ghost use Rattle.turn_words.specs.Recorded.{TellsMore};
 
 use crate::form::Form;
 use crate::modulo::{negative_modulo, sum_modulo};
@@ -64,8 +64,8 @@ impl Hyper {
 }
 
 impl Form for Hyper {
-    ghost use Rattle.std.specs.Prelude.{length};
-    ghost use Rattle.turn_words.specs.Hyper_states.{HyperState, empty_state, IsHyperWheel, BelongsTo, IsEven, hyper_next};
+    ghost use Rattle.std.specs.Prelude.{◌-◌, ◌^◌, length};
+    ghost use Rattle.turn_words.specs.Hyper_states.{HyperState, empty_state, IsHyperWheel, BelongsTo, IsEven, hyper_next, LeadOn};
     ghost use Rattle.turn_words.specs.Lemmas.Hyper_laws.{hyper_starts, hyper_stays, hyper_there_and_back, hyper_across};
 
     ghost State = { HyperState };
@@ -82,7 +82,11 @@ impl Form for Hyper {
 
     ghost size = { λ state. length state.word };
 
+    ghost limit = { 2 ^ 32 - 2 };
+
     ghost next = { hyper_next };
+
+    ghost Notes = { LeadOn };
 
     ghost starts = { hyper_starts };
 
@@ -112,8 +116,12 @@ impl Form for Hyper {
         ensures state { OnOk result (self.new.state ≡ hyper_next wheel.now self.old.state spoke.0) }
         ensures belongs { OnOk result (BelongsTo wheel.now self.new.state) }
 
-        // The steps noted lead from the word with the new turn put last to the word after.
-        ensures steps { OnOk result (NotesSteps (length wheel.now) (R.noted recorder.old) (R.noted recorder.new) (self.old.state.word ++ turn_to wheel.now self.old.state spoke.0 ∷ []) self.new.state.word) }
+        ensures longer { OnOk result (length self.new.state.word ≤ length self.old.state.word + 1) }
+        ensures notes { OnOk result (TellsMore (LeadOn wheel.now self.old.state spoke.0)
+            (R.noted recorder.old) (R.noted recorder.new)) }
+
+        // Where memory runs out some of the steps may have been noted.
+        ensures kept { TellsMore (λ _. ⊤) (R.noted recorder.old) (R.noted recorder.new) }
 
         // With room for one spoke, only the recorder can refuse.
         ensures sure { R.never_refuses → 1 ≤ self.old.spare → IsOk result }

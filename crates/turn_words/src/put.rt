@@ -1,9 +1,10 @@
 //! A turn put at the end of a canonical word. The word is a plain list, and a run at its end is rewritten
 //! entry by entry.
-ghost use Rattle.std.specs.Prelude.{◌≡◌, ◌+◌, ◌-◌, ◌^◌, ◌<◌, ◌≤◌, ◌++◌, true, All, length, reverse, replicate, vec_len, vec_capacity, OnOk, IfOk, IsOk};
+ghost use Rattle.std.specs.Prelude.{◌≡◌, ◌+◌, ◌-◌, ◌^◌, ◌<◌, ◌≤◌, ◌++◌, true, All, length, reverse, replicate, vec_len, vec_capacity, OnOk, IfOk, IsOk, ⊤};
 ghost use Rattle.turn_words.specs.Modulo.{minus};
-ghost use Rattle.turn_words.specs.Put.{is_open, flipped, closed, put};
-ghost use Rattle.turn_words.specs.Noted.{flip_steps, close_steps, put_steps, with_steps};
+ghost use Rattle.turn_words.specs.Put_turns.{is_open, flipped, closed, put};
+ghost use Rattle.turn_words.specs.Recorded.{with_steps, TellsMore};
+ghost use Rattle.turn_words.specs.Private.Put_steps.{flip_steps, close_steps, put_steps};
 
 use crate::modulo::{negative_modulo, sum_modulo};
 use crate::recorder::Recorder;
@@ -24,7 +25,9 @@ pub(crate) fn put_turn<R: Recorder>(
     requires room { vec_len word.old < 2 ^ 32 - 2 }
     ensures word { OnOk result (reverse word.new.items ≡ (put degree (reverse word.old.items) turn).word) }
     ensures change { IfOk result (λ change. change ≡ (put degree (reverse word.old.items) turn).change) }
-    ensures noted { OnOk result (R.noted recorder.new ≡ with_steps (R.noted recorder.old) (put_steps degree (reverse word.old.items) turn)) }
+    ensures noted { OnOk result (R.noted recorder.new ≡ with_steps (R.noted recorder.old)
+        (put_steps degree (reverse word.old.items) turn)) }
+    ensures kept { TellsMore (λ _. ⊤) (R.noted recorder.old) (R.noted recorder.new) }
     ensures sure { R.never_refuses → vec_len word.old < vec_capacity word.old → IsOk result }
     ensures capacity { vec_capacity word.old ≤ vec_capacity word.new }
     ensures longer { vec_len word.new ≤ vec_len word.old + 1 }
@@ -79,7 +82,9 @@ fn flip_end<R: Recorder>(
     requires some { 0 < vec_len word.old }
     requires room { vec_len word.old < 2 ^ 32 - 2 }
     ensures word { OnOk result (reverse word.new.items ≡ flipped degree (reverse word.old.items)) }
-    ensures noted { OnOk result (R.noted recorder.new ≡ with_steps (R.noted recorder.old) (flip_steps degree (reverse word.old.items))) }
+    ensures noted { OnOk result (R.noted recorder.new ≡ with_steps (R.noted recorder.old)
+        (flip_steps degree (reverse word.old.items))) }
+    ensures kept { TellsMore (λ _. ⊤) (R.noted recorder.old) (R.noted recorder.new) }
     ensures sure { R.never_refuses → vec_len word.old < vec_capacity word.old → IsOk result }
     ensures capacity { vec_capacity word.old ≤ vec_capacity word.new }
     ensures longer { vec_len word.new ≤ vec_len word.old + 1 }
@@ -116,7 +121,9 @@ fn close_bracket<R: Recorder>(
     requires open { is_open (reverse word.old.items) ≡ true }
     requires room { vec_len word.old < 2 ^ 32 - 2 }
     ensures word { OnOk result (reverse word.new.items ≡ closed degree (reverse word.old.items)) }
-    ensures noted { OnOk result (R.noted recorder.new ≡ with_steps (R.noted recorder.old) (close_steps (reverse word.old.items))) }
+    ensures noted { OnOk result (R.noted recorder.new ≡ with_steps (R.noted recorder.old)
+        (close_steps (reverse word.old.items))) }
+    ensures kept { TellsMore (λ _. ⊤) (R.noted recorder.old) (R.noted recorder.new) }
     ensures sure { R.never_refuses → IsOk result }
     ensures capacity { vec_capacity word.old ≤ vec_capacity word.new }
     ensures longer { vec_len word.new ≤ vec_len word.old + 1 }

@@ -1,6 +1,6 @@
 //! Where the elementary steps are noted that rewrite a word.
 ghost use Rattle.std.specs.Prelude.{◌≡◌, List, [], ◌∷◌, ◌++◌, Option, Some, None, OnOk, OnErr, IsOk};
-ghost use Rattle.turn_words.specs.Noted.{with_steps};
+ghost use Rattle.turn_words.specs.Recorded.{with_steps};
 ghost use Rattle.turn_words.specs.declared.step.Step.{Step};
 
 use crate::step::Step;

@@ -4,11 +4,10 @@ use Rattle.std.specs.List.{AllByRecursion}
 use Rattle.std.proofs.lemmas.Bool.{cases_eq, cases_Bool, ne_eqb}
 use Rattle.std.proofs.lemmas.List.{append-nil, reverse-reverse}
 use Rattle.std.proofs.lemmas.List.Elements.{recursion_from_All, All-nil, All-cons}
-use Rattle.turn_words.specs.Put.{is_open}
+use Rattle.turn_words.specs.Put_turns.{is_open}
 use Rattle.turn_words.specs.Canonical.{turns_of, closes_bracket, AreReduced, IsCanonical}
-use Rattle.turn_words.specs.Lemmas.Ends.{IsGood, open-cases, open-two}
-use Rattle.turn_words.specs.Lemmas.Reading.{InRange}
-use Rattle.turn_words.specs.Lemmas.Reaching.{reverse-next}
+use Rattle.turn_words.specs.Lemmas.Word_ends.{IsGood, open-cases, open-two}
+use Rattle.turn_words.specs.Lemmas.Lists.{InRange, reverse-next}
 
 pub in-range-from : (d : ℕ) (w : List ℕ) → All (λ entry. entry < d) w → InRange d w
 in-range-from d w all = go w (recursion_from_All (λ entry. entry < d) w all)
@@ -60,12 +59,12 @@ reduced-from d x (y ∷ r) ts g a meets =
     (meets-next x y r ts g.1.no_close meets)
     )
 
-record Ends (d x : ℕ) (r ts : List ℕ) : Type 0 where
+record Splits (d x : ℕ) (r ts : List ℕ) : Type 0 where
   good : IsGood d (x ∷ r)
   reduced : AreReduced d ts
   meets : Meets (x ∷ r) ts
 
-good-from : (d x : ℕ) (r ts : List ℕ) → InRange d (x ∷ r) → AreReduced d (turns_of (reverse (x ∷ r) ++ ts)) → Ends d x r ts
+good-from : (d x : ℕ) (r ts : List ℕ) → InRange d (x ∷ r) → AreReduced d (turns_of (reverse (x ∷ r) ++ ts)) → Splits d x r ts
 good-from d x [] ts i a = record { good = i.0; reduced = a; meets = λ opened. absurd cc }
 good-from d x (y ∷ r) ts i a =
     let inner = good-from d y r (x ∷ ts) i.1 (rw (reverse-next x (y ∷ r) ts) at a) in

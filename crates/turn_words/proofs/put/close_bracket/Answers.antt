@@ -1,6 +1,7 @@
 use Rattle.std.proofs.Common.{arith, ◌≡◌, ◌≢◌, ◌<◌, ◌+◌, ◌-◌, ◌++◌, ℕ, replicate, set, length, get_or, take, reverse, sym, refl, subst, ◌∙◌, ap}
 use Rattle.std.proofs.lemmas.List.{get_or_read, length-reverse, length-take-le}
 use Rattle.turn_words.specs.Modulo.{add, minus}
+use Rattle.turn_words.proofs.Telling.{tells-nothing, tells-on, tells-still}
 use Rattle.turn_words.proofs.Loops.{Closing, open-long, closing-start, closing-step, closing-end, close-noted-step, close-noted-end, all-take}
 use Rattle.turn_words.proofs.put.close_bracket.Goals as goal
 
@@ -13,6 +14,7 @@ loop-word-init g c =
     record {
       closing = closing-start d c.requires.degree start at last c.requires.in_range c.requires.open;
       noted = refl;
+      kept = tells-nothing (λ _. Unit {0}) (g.R.Recorder.noted c.args.recorder.now) tt;
       capacity = omega arith;
     }
 
@@ -28,6 +30,7 @@ loop-word-preserved g c =
     record {
       closing = rw front (closing-step d c.requires.degree c.args.word.now.items now at c.loop-word.twos f two);
       noted = rw front (c.loop-word.invariant.noted ∙ close-noted-step d c.requires.degree now at _ (g.R.Recorder.noted c.note.new.self) last f.still_open two c.in_ok-note.ensures.ok);
+      kept = tells-on _ _ (g.R.Recorder.noted c.note.new.self) _ c.loop-word.invariant.kept c.in_ok-note.ensures.ok;
       capacity = omega (arith, c.loop-word.invariant.capacity, c.pop.ensures.capacity);
     }
 
@@ -74,3 +77,16 @@ returns-clause-noted g c =
     let last = f.last in
     let stop : get_or now at 0 ≢ 2 = λ e. c.if-index-ne2.true (get_or_read now at c.index.result.now (omega arith) c.index.ensures 0 ∙ e) in
     sym (c.loop-word.invariant.noted ∙ close-noted-end d c.requires.degree now at _ (g.R.Recorder.noted c.note.new.self) (g.R.Recorder.noted c.note-2.new.self) last f.still_open stop c.in_ok-note.ensures.ok c.in_ok-note-2.ensures.ok)
+
+pub returns-in_err-note-clause-kept : goal.returns-in_err-note-clause-kept
+returns-in_err-note-clause-kept g c = tells-still _ _ (g.R.Recorder.noted c.note.new.self) c.loop-word.invariant.kept c.in_err-note.ensures.err
+
+pub returns-in_err-note-2-clause-kept : goal.returns-in_err-note-2-clause-kept
+returns-in_err-note-2-clause-kept g c =
+    let pushed = tells-on _ _ (g.R.Recorder.noted c.note.new.self) _ c.loop-word.invariant.kept c.in_ok-note.ensures.ok in
+    tells-still _ _ (g.R.Recorder.noted c.note-2.new.self) pushed c.in_err-note-2.ensures.err
+
+pub returns-clause-kept : goal.returns-clause-kept
+returns-clause-kept g c =
+    let pushed = tells-on _ _ (g.R.Recorder.noted c.note.new.self) _ c.loop-word.invariant.kept c.in_ok-note.ensures.ok in
+    tells-on _ _ (g.R.Recorder.noted c.note-2.new.self) _ pushed c.in_ok-note-2.ensures.ok

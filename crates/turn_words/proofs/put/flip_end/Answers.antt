@@ -1,6 +1,7 @@
 use Rattle.std.proofs.Common.{arith, ◌≡◌, ◌≢◌, ◌<◌, ◌++◌, [], ◌∷◌, replicate, set, refl, get_or, take, sym, ◌∙◌, ap}
 use Rattle.std.proofs.lemmas.List.{get_or_read}
 use Rattle.turn_words.specs.Modulo.{add, minus}
+use Rattle.turn_words.proofs.Telling.{tells-on, tells-still}
 use Rattle.turn_words.proofs.Loops.{Flipping, flipping-step, flipping-end, flip-noted-step, flip-noted-end}
 use Rattle.turn_words.proofs.put.flip_end.Goals as goal
 use Rattle.turn_words.proofs.put.flip_end.Goals.{then-at-eq0-via-then-at-eq0, then-at-eq0-via-else-at-eq0+then-index-run}
@@ -21,6 +22,7 @@ loop-word-preserved g c =
     record {
       flipping = rw front stepped;
       noted = rw front (c.loop-word.invariant.noted ∙ noted);
+      kept = tells-on _ _ (g.R.Recorder.noted c.note.new.self) _ c.loop-word.invariant.kept c.in_ok-note.ensures.ok;
       capacity = omega (arith, c.loop-word.invariant.capacity, c.pop.ensures.capacity);
     }
 
@@ -53,3 +55,6 @@ returns-clause-noted g c =
       | then-at-eq0-via-else-at-eq0+then-index-run w ↦ λ _ e. w.if-index-run.true (get_or_read now at w.index.result.now (omega arith) w.index.ensures 0 ∙ e ∙ sym c.negative_modulo-run.ensures.negative)
     ] in
     sym (c.loop-word.invariant.noted ∙ flip-noted-end d c.requires.degree now at _ (g.R.Recorder.noted c.note.new.self) last stop c.in_ok-note.ensures.ok)
+
+pub returns-in_err-note-clause-kept : goal.returns-in_err-note-clause-kept
+returns-in_err-note-clause-kept g c = tells-still _ _ (g.R.Recorder.noted c.note.new.self) c.loop-word.invariant.kept c.in_err-note.ensures.err

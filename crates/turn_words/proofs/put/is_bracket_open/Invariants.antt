@@ -1,5 +1,5 @@
 use Rattle.std.proofs.Common.{◌≡◌, ◌≤◌, length, reverse, take}
-use Rattle.turn_words.specs.Put.{is_open}
+use Rattle.turn_words.specs.Put_turns.{is_open}
 use Rattle.turn_words.proofs.put.is_bracket_open.Given as goal
 
 abbrev pub invariant-loop-front : goal.invariant-loop-front

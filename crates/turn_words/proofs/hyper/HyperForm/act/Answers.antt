@@ -1,7 +1,8 @@
 use Rattle.std.proofs.Common.{arith, rules, ◌≡◌, length, reverse}
 use Rattle.turn_words.specs.Modulo.{add, minus}
-use Rattle.turn_words.specs.Put.{put}
-use Rattle.turn_words.specs.Noted.{with_steps, put_steps}
+use Rattle.turn_words.specs.Put_turns.{put}
+use Rattle.turn_words.specs.Recorded.{with_steps}
+use Rattle.turn_words.specs.Private.Put_steps.{put_steps}
 use Rattle.turn_words.specs.Hyper_states.{turn_to, value_at}
 use Rattle.turn_words.proofs.Acts.{notes-put, change-below, belongs-next}
 use Rattle.turn_words.proofs.hyper.HyperForm.act.Goals as goal
@@ -15,14 +16,13 @@ negative_modulo-requires g c =
     let is : c.in_ok-change.change ≡ (put (length places) (reverse state.word) c.sum_modulo-turn.result).change = search rules in
     omega arith
 
-pub returns-clause-steps : goal.returns-clause-steps
-returns-clause-steps g c =
+pub returns-clause-notes : goal.returns-clause-notes
+returns-clause-notes g c =
     let places = c.args.wheel.now in
     let state = c.args.self.now.state in
     let turn : c.sum_modulo-turn.result ≡ turn_to places state c.args.spoke.0 = search rules in
-    let left : reverse c.put_turn.new.word.items ≡ (put (length places) (reverse state.word) c.sum_modulo-turn.result).word = search rules in
     let noted : g.R.Recorder.noted c.put_turn.new.recorder ≡ with_steps (g.R.Recorder.noted c.args.recorder.now) (put_steps (length places) (reverse state.word) c.sum_modulo-turn.result) = search rules in
-    notes-put places state c.args.spoke.0 c.sum_modulo-turn.result c.put_turn.new.word.items _ _ c.requires.belongs turn left noted
+    notes-put places state c.args.spoke.0 c.sum_modulo-turn.result _ _ c.requires.belongs turn noted
 
 pub returns-clause-belongs : goal.returns-clause-belongs
 returns-clause-belongs g c =

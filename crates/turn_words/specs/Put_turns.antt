@@ -1,6 +1,6 @@
 -- How a turn is put at the end of a canonical word. Here a word is read from its end: the last entry comes first,
 -- and the start direction last.
-use Rattle.std.specs.Prelude.{ℕ, ◌==◌, Bool, false, ◌&&◌, ◌||◌, if◌then◌else◌, List, [], ◌∷◌}
+use Rattle.std.specs.Prelude.{ℕ, ◌==◌, Bool, false, ◌&&◌, ◌||◌, if◌then◌else◌, List, [], ◌∷◌, reverse}
 use Rattle.turn_words.specs.Modulo.{add, minus}
 
 -- a word, and the number by which the turn that comes next is changed
@@ -37,3 +37,8 @@ put degree (x ∷ before) turn =
     else if turn == 1 && is_open (x ∷ before)
     then record { word = closed degree (x ∷ before); change = minus degree 1 }
     else record { word = turn ∷ x ∷ before; change = 0 }
+
+-- the same with words written from their start, as they are everywhere else
+abbrev pub put_last : ℕ → List ℕ → ℕ → Put
+put_last degree word turn =
+    let ended = put degree (reverse word) turn in record { word = reverse ended.word; change = ended.change }

@@ -1,27 +1,21 @@
 -- The steps of a put lead to its word, in front of whatever comes next; so a word reaches what its entries, put one
 -- after another, leave.
-use Rattle.std.proofs.Common.{◌≡◌, ℕ, ◌<◌, ◌≤◌, inl, inr, arith, refl, sym, ◌∙◌, ap, true, false, List, [], ◌∷◌, ◌++◌, reverse, length, Option, Some, None, append_assoc}
+use Rattle.std.proofs.Common.{◌≡◌, ℕ, ◌<◌, ◌≤◌, inl, inr, arith, refl, sym, ◌∙◌, ap, true, false, List, [], ◌∷◌, ◌++◌, reverse, length, Option, Some, None}
 use Rattle.std.specs.Prelude.{option_map, option_and_then}
 use Rattle.std.proofs.lemmas.Bool.{cases_eq, eq-eqb, ne_eqb}
-use Rattle.std.proofs.lemmas.List.{append-nil, reverse-append, length-reverse}
+use Rattle.std.proofs.lemmas.List.{append-nil, length-reverse}
 use Rattle.turn_words.specs.Modulo.{add, minus}
-use Rattle.turn_words.specs.Put.{Put, is_open, flipped, closed, put}
-use Rattle.turn_words.specs.Noted.{flip_steps, close_steps, put_steps}
-use Rattle.turn_words.specs.Steps.{next_changed, spur_out, pushed, from_place, after_step, after_steps, Reaches}
+use Rattle.turn_words.specs.Put_turns.{Put, is_open, flipped, closed, put}
+use Rattle.turn_words.specs.Private.Put_steps.{flip_steps, close_steps, put_steps}
+use Rattle.turn_words.specs.Step_table.{next_changed, spur_out, pushed, from_place, after_step, after_steps, Reaches}
 use Rattle.turn_words.specs.declared.step.Step.{Step}
 use Rattle.turn_words.specs.declared.step.Step.TheVariants.{SpurOut, Push}
+use Rattle.turn_words.specs.Lemmas.Lists.{InRange, reverse-next, reverse-cons}
 use Rattle.turn_words.specs.Lemmas.Sums.{minus-one, add-zero, add_comm}
-use Rattle.turn_words.specs.Lemmas.Ends.{IsGood, open-cases, put-flip, put-close, put-else, good-head, good-tail, Follows}
+use Rattle.turn_words.specs.Lemmas.Word_ends.{IsGood, open-cases, put-flip, put-close, put-else, good-head, good-tail, Follows}
 use Rattle.turn_words.specs.Lemmas.Put_laws.{put-back, cases, spur, flip, close, other}
 use Rattle.turn_words.specs.Lemmas.Across.{two-up, one-one, one-minus, two-down, minus-minus}
-use Rattle.turn_words.specs.Lemmas.Reading.{InRange, read, IsSound, Keeps, state, put-sound, keeps-step}
-
-pub reverse-cons : (x : ℕ) (r : List ℕ) → reverse (x ∷ r) ≡ reverse r ++ (x ∷ [])
-reverse-cons x r = reverse-append (x ∷ []) r
-
--- the last entry of a word, read from its end
-pub reverse-next : (x : ℕ) (r w : List ℕ) → reverse (x ∷ r) ++ w ≡ reverse r ++ (x ∷ w)
-reverse-next x r w = ap (λ l. l ++ w) (reverse-cons x r) ∙ append_assoc (reverse r) (x ∷ []) w
+use Rattle.turn_words.proofs.Reading.{read, IsSound, Keeps, state, put-sound, keeps-step}
 
 -- a rule at the place behind a front changes what comes there
 from_place-append : (rule : List ℕ → Option (List ℕ)) (a b : List ℕ) → from_place (length a) rule (a ++ b) ≡ option_map (λ c. a ++ c) (rule b)
@@ -51,6 +45,15 @@ after-next d a b v (Some u) h e = h u e
 pub after_steps-append : (d : ℕ) (a b : List Step) (w v : List ℕ) → after_steps d a w ≡ Some v → after_steps d (a ++ b) w ≡ after_steps d b v
 after_steps-append d [] b w v e = let same : w ≡ v = cc in ap (after_steps d b) same
 after_steps-append d (s ∷ a) b w v e = after-next d a b v (after_step d s w) (λ u f. after_steps-append d a b u v f) e
+
+-- the entry that comes next is below the degree
+abbrev pub IsNextBelow : ℕ → List ℕ → Type 0
+IsNextBelow d [] = Unit {0}
+IsNextBelow d (y ∷ w) = y < d
+
+pub next-below : (d : ℕ) (w : List ℕ) → InRange d w → IsNextBelow d w
+next-below d [] i = tt
+next-below d (y ∷ w) i = i.0
 
 module _ (d : ℕ) (five : 5 ≤ d) where
   -- a step at the end of a front, and then the others
@@ -116,9 +119,9 @@ module _ (d : ℕ) (five : 5 ≤ d) where
         )
   ]
 
-  next-none : (w : List ℕ) → InRange d w → next_changed d 0 w ≡ w
+  next-none : (w : List ℕ) → IsNextBelow d w → next_changed d 0 w ≡ w
   next-none [] s = refl
-  next-none (y ∷ w) s = ap (λ z. z ∷ w) (add-zero d y s.0)
+  next-none (y ∷ w) s = ap (λ z. z ∷ w) (add-zero d y s)
 
   steps-flip : (x : ℕ) (r : List ℕ) → put_steps d (x ∷ r) (minus d 1) ≡ flip_steps d (x ∷ r)
   steps-flip x r =
@@ -138,7 +141,7 @@ module _ (d : ℕ) (five : 5 ≤ d) where
       ])
 
   -- the steps of a put lead to its word, and change what comes next
-  pub put-reached : (r : List ℕ) (t : ℕ) (w : List ℕ) → IsGood d r → InRange d w →
+  pub put-reached : (r : List ℕ) (t : ℕ) (w : List ℕ) → IsGood d r → IsNextBelow d w →
       after_steps d (put_steps d r t) (reverse r ++ (t ∷ w)) ≡ Some (reverse (put d r t).word ++ next_changed d (put d r t).change w)
   put-reached [] t w g s = ap (λ z. Some (t ∷ z)) (sym (next-none w s))
   put-reached (x ∷ r) t w g s = elim (cases d five (x ∷ r) t) [
@@ -157,7 +160,7 @@ module _ (d : ℕ) (five : 5 ≤ d) where
       let q = put d p.word (add d y p.change) in
       let later = read-reached q w (put-sound d five p y s i.0) i.1 in (
         put_steps d p.word (add d y p.change) ++ later.0,
-        after_steps-append d (put_steps d p.word (add d y p.change)) later.0 (reverse p.word ++ (add d y p.change ∷ w)) _ (put-reached p.word (add d y p.change) w s.good i.1) ∙ later.1,
+        after_steps-append d (put_steps d p.word (add d y p.change)) later.0 (reverse p.word ++ (add d y p.change ∷ w)) _ (put-reached p.word (add d y p.change) w s.good (next-below d w i.1)) ∙ later.1,
       )
 
   keeps-next : (step : Step) (steps : List Step) (p : Put) (w v : List ℕ) → IsSound d p → InRange d w → Keeps d (after_steps d steps) →
@@ -205,4 +208,4 @@ module _ (d : ℕ) (five : 5 ≤ d) where
 
   -- what is left is reached
   pub left-reached : (w : List ℕ) → InRange d w → Reaches d w (reverse (read d (state [] 0) w).word)
-  left-reached w i = let same = next-none w i in rw same at (read-reached (state [] 0) w start-sound i)
+  left-reached w i = let same = next-none w (next-below d w i) in rw same at (read-reached (state [] 0) w start-sound i)

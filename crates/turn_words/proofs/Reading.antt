@@ -3,19 +3,15 @@
 use Rattle.std.proofs.Common.{◌≡◌, ℕ, ◌<◌, ◌≤◌, inl, inr, arith, refl, sym, ◌∙◌, ap, ap₂, zero, suc, true, false, List, [], ◌∷◌, Option, Some, None}
 use Rattle.std.proofs.lemmas.Bool.{cases_eq, eq-eqb, ne_eqb, cases_lt, lt-ltb, le-ltb}
 use Rattle.turn_words.specs.Modulo.{add, minus}
-use Rattle.turn_words.specs.Put.{Put, put}
-use Rattle.turn_words.specs.Steps.{next_changed, spur_in, spur_out, pushed, from_place, after_step}
+use Rattle.turn_words.specs.Put_turns.{Put, put}
+use Rattle.turn_words.specs.Step_table.{next_changed, spur_in, spur_out, pushed, from_place, after_step}
 use Rattle.turn_words.specs.declared.step.Step.{Step}
 use Rattle.turn_words.specs.declared.step.Step.TheVariants.{SpurIn, SpurOut, Push}
 use Rattle.turn_words.specs.Lemmas.Sums.{add-cases, minus-cases, minus-one, add-lt, minus-lt, zero-add, add_assoc}
-use Rattle.turn_words.specs.Lemmas.Ends.{IsGood}
+use Rattle.turn_words.specs.Lemmas.Lists.{InRange}
+use Rattle.turn_words.specs.Lemmas.Word_ends.{IsGood}
 use Rattle.turn_words.specs.Lemmas.Put_laws.{put-good, put-put}
 use Rattle.turn_words.specs.Lemmas.Across.{first_side, second_side, across}
-
--- each entry is below the degree
-abbrev pub InRange : ℕ → List ℕ → Type 0
-InRange d [] = Unit {0}
-InRange d (x ∷ rest) = (x < d) × InRange d rest
 
 -- the entries put one after another, each changed by what the one before it left
 abbrev pub read : ℕ → Put → List ℕ → Put
@@ -73,7 +69,7 @@ module _ (d : ℕ) (five : 5 ≤ d) where
   ]
 
   -- an amount that is added and taken away again
-  next-back : (c : ℕ) (w : List ℕ) → c < d → InRange d w → next_changed d c (next_changed d (minus d c) w) ≡ w
+  pub next-back : (c : ℕ) (w : List ℕ) → c < d → InRange d w → next_changed d c (next_changed d (minus d c) w) ≡ w
   next-back c [] h s = refl
   next-back c (y ∷ rest) h s =
       ap (λ z. z ∷ rest) (omega (arith, minus-cases d c h, add-cases d y (minus d c), add-cases d (add d y (minus d c)) c, s.0))
@@ -143,7 +139,7 @@ module _ (d : ℕ) (five : 5 ≤ d) where
     | inr other ↦ let refused = rw (ne_eqb turn 1 other) at e in absurd cc
   ]
 
-  minus-next : (w : List ℕ) → InRange d w → next_changed d (minus d 1) (next_changed d 1 w) ≡ w
+  pub minus-next : (w : List ℕ) → InRange d w → next_changed d (minus d 1) (next_changed d 1 w) ≡ w
   minus-next [] s = refl
   minus-next (y ∷ rest) s =
       ap (λ z. z ∷ rest) (omega (arith, minus-one d five, add-cases d y 1, add-cases d (add d y 1) (minus d 1), s.0))

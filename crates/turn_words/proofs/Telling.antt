@@ -1,0 +1,41 @@
+-- What a recorder tells after more steps were noted, one after another.
+use Rattle.std.proofs.Common.{◌≡◌, refl, sym, ◌∙◌, ap, subst, List, [], ◌++◌, Option, Some, None, append_assoc}
+use Rattle.std.proofs.lemmas.List.{append-nil}
+use Rattle.turn_words.specs.Recorded.{with_steps, TellsMore}
+use Rattle.turn_words.specs.declared.step.Step.{Step}
+
+-- nothing is noted
+pub tells-nothing : (Such : List Step → Type 0) (o : Option (List Step)) → Such [] → TellsMore Such o o
+tells-nothing Such None h = refl
+tells-nothing Such (Some before) h = ([], ap Some (sym (append-nil before)), h)
+
+-- steps are noted
+pub tells-steps : (Such : List Step → Type 0) (o p : Option (List Step)) (steps : List Step) → p ≡ with_steps o steps → Such steps → TellsMore Such o p
+tells-steps Such None p steps e h = e
+tells-steps Such (Some before) p steps e h = (steps, e, h)
+
+-- steps are noted, and then others
+pub tells-both : (A B C : List Step → Type 0) (o p q : Option (List Step)) → TellsMore A o p → TellsMore B p q →
+    ((a b : List Step) → A a → B b → C (a ++ b)) → TellsMore C o q
+tells-both A B C None None q first second h = second
+tells-both A B C None (Some s) q first second h = absurd cc
+tells-both A B C (Some s) None q first second h = absurd (let e = first.1 in cc)
+tells-both A B C (Some s) (Some t) q first second h = (
+  first.0 ++ second.0,
+  second.1 ∙ (let is : t ≡ s ++ first.0 = let e = first.1 in cc in ap (λ u. Some (u ++ second.0)) is) ∙ ap Some (append_assoc s first.0 second.0),
+  h first.0 second.0 first.2 second.2,
+)
+
+-- the same steps, of which less is said
+pub tells-less : (A B : List Step → Type 0) (o p : Option (List Step)) → TellsMore A o p → ((a : List Step) → A a → B a) → TellsMore B o p
+tells-less A B None p t h = t
+tells-less A B (Some s) p t h = (t.0, t.1, h t.0 t.2)
+
+-- steps are noted by `with_steps` after others
+pub tells-on : (o p q : Option (List Step)) (steps : List Step) → TellsMore (λ _. Unit {0}) o p → q ≡ with_steps p steps → TellsMore (λ _. Unit {0}) o q
+tells-on o p q steps t e =
+    tells-both (λ _. Unit {0}) (λ _. Unit {0}) (λ _. Unit {0}) o p q t (tells-steps (λ _. Unit {0}) p q steps e tt) (λ a b x y. tt)
+
+-- what is told stays the same
+pub tells-still : (o p q : Option (List Step)) → TellsMore (λ _. Unit {0}) o p → q ≡ p → TellsMore (λ _. Unit {0}) o q
+tells-still o p q t e = subst (λ r. TellsMore (λ _. Unit {0}) o r) (sym e) t
