@@ -3,4 +3,6 @@ pub mod Reading
 pub mod Lines
 pub mod Numbers
 pub mod Unread
+pub mod Steps
+pub mod Kinds
 pub mod Examples

@@ -29,21 +29,25 @@ abbrev pub unsigned : List ℕ → List ℕ
 unsigned [] = []
 unsigned (byte ∷ rest) = if byte == 43 || byte == 45 then rest else byte ∷ rest
 
--- whether a word is a number text, put together from a sign or none; `nan` or `inf`, or digits with a
--- point before, among or behind them or none; and behind digits an exponent or none: `e` or `E`, a sign or none, and digits
+abbrev pub is_point : ℕ → Bool
+is_point byte = byte == 46
+
+abbrev pub is_exponent_mark : ℕ → Bool
+is_exponent_mark byte = byte == 101 || byte == 69
+
+-- digits, with a point before, among or behind them or none: one digit at least
+abbrev pub is_decimal : List ℕ → Bool
+is_decimal text = is_natural (before_first is_point text ++ after_first is_point text)
+
+-- no exponent; or `e` or `E`, a sign or none, and digits
+abbrev pub has_exponent_or_none : List ℕ → Bool
+has_exponent_or_none text = if list_any is_exponent_mark text then is_natural (unsigned (after_first is_exponent_mark text)) else true
+
+-- a number text without its sign: `nan`, `inf`, or digits with an exponent or none
+abbrev pub is_unsigned_text : List ℕ → Bool
+is_unsigned_text text =
+    bytes_eq text (codes "nan") || bytes_eq text (codes "inf") || (is_decimal (before_first is_exponent_mark text) && has_exponent_or_none text)
+
+-- whether a word is a number text: a sign or none, and what follows it
 unfoldable pub is_number_text : List ℕ → Bool
-is_number_text word =
-    let body = unsigned word in
-    bytes_eq body (codes "nan") || bytes_eq body (codes "inf") || (is_decimal (before_first is_e body) && is_exponent body)
-  where
-    is_point : ℕ → Bool
-    is_point byte = byte == 46
-
-    is_e : ℕ → Bool
-    is_e byte = byte == 101 || byte == 69
-
-    is_decimal : List ℕ → Bool
-    is_decimal digits = is_natural (before_first is_point digits ++ after_first is_point digits)
-
-    is_exponent : List ℕ → Bool
-    is_exponent body = if list_any is_e body then is_natural (unsigned (after_first is_e body)) else true
+is_number_text word = is_unsigned_text (unsigned word)

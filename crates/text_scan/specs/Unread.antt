@@ -1,7 +1,8 @@
 -- What a reader has still to read of a text.
-use Rattle.std.specs.Prelude.{ℕ, ◌+◌, ◌==◌, if◌then◌else◌, List, [], ◌∷◌, Bool}
+use Rattle.std.specs.Prelude.{ℕ, ◌+◌, ◌==◌, if◌then◌else◌, List, [], ◌∷◌, length, drop, Bool, false, Option, None, Some}
 use Rattle.std.specs.List.{before_first, after_first}
-use Rattle.text_scan.specs.Lines.{Line, is_filled, words, lines_from, end_line}
+use Rattle.text_scan.specs.Lines.{Line, is_filled, words, cut, lines_from}
+use Rattle.text_scan.specs.Numbers.{natural_of, is_number_text}
 
 -- a place in a text: the number of the present line, the words left in it, the lines behind it that are not blank,
 -- and the line where the text ends
@@ -22,16 +23,35 @@ at_line unread (line ∷ lines) = record unread { line = line.number; words = li
 
 -- past the first word left
 abbrev pub past_word : Unread → Unread
-past_word unread = record unread { words = rest unread.words }
-  where
-    rest : List (List ℕ) → List (List ℕ)
-    rest [] = []
-    rest (word ∷ others) = others
+past_word unread = record unread { words = drop 1 unread.words }
+
+-- the next word, if there is one
+abbrev pub next_word : List (List ℕ) → Option (List ℕ)
+next_word [] = None
+next_word (word ∷ others) = Some word
+
+-- the number that the next word is, if there is one and it is a natural
+abbrev pub next_natural : List (List ℕ) → Option ℕ
+next_natural [] = None
+next_natural (word ∷ others) = natural_of word
+
+-- whether there is a next word and it is a number text
+abbrev pub next_is_number_text : List (List ℕ) → Bool
+next_is_number_text [] = false
+next_is_number_text (word ∷ others) = is_number_text word
 
 abbrev pub is_line_feed : ℕ → Bool
 is_line_feed byte = byte == 10
 
--- what is left of a text at the bytes `rest`, in line `line` of it
+-- the words up to the end of the line, from a place in it on
+unfoldable pub words_here : List ℕ → List (List ℕ)
+words_here rest = words (before_first is_line_feed rest)
+
+-- the lines behind that line
+unfoldable pub behind : List ℕ → List ℕ
+behind = after_first is_line_feed
+
+-- what is left of a text without a mark where the bytes `rest` are left, the first of them in line `line`
 abbrev pub unread_at : List ℕ → ℕ → List ℕ → Unread
 unread_at text line rest =
-    record { line = line; words = words (before_first is_line_feed rest); lines = lines_from (line + 1) (after_first is_line_feed rest); end_line = end_line text }
+    record { line = line; words = words_here rest; lines = lines_from (line + 1) (behind rest); end_line = length (cut text) + 1 }

@@ -1,14 +1,18 @@
-//! Reading plain texts: lines that end with a line feed, each of one or more words with single
-//! blanks between them. A plain number is `0`, or decimal digits without a leading zero, of value at
-//! most 4,294,967,295.
+//! Reading texts: lines that end with a line feed, and their words.
 //!
-//! Each function reads at the front of the bytes and gives the bytes behind what it has read. It
-//! takes no memory.
+//! The functions of the plain spelling (single blanks between words, numbers without leading zeros)
+//! read at the front of the bytes and give the bytes behind what they have read. Nothing here takes
+//! memory.
 #![tactic(auto)]
 
+mod cursor;
 pub mod laws;
+mod naturals;
 mod scan;
+mod steps;
 
+pub use cursor::Cursor;
+pub use naturals::{NumberFault, is_number_text, natural};
 pub use scan::{Separator, literal, number, number_then};
 
 #[cfg(test)]

@@ -1,0 +1,422 @@
+-- One step over the bytes of a text.
+use Rattle.std.proofs.Common.{◌≡◌, ◌≢◌, ℕ, ◌+◌, ◌-◌, ◌*◌, ◌^◌, ◌<◌, ◌≤◌, min, Bool, true, false, cond, not, eqb, ◌||◌, List, [], ◌∷◌, ◌++◌, length, take, drop, get_or, length-append, length-drop, refl, sym, ap, ap₂, subst, ◌∙◌, append_assoc, append-nil, inl, inr, arith}
+use Rattle.std.specs.Prelude.{Some, None, option_map}
+use Rattle.std.specs.List.{list_all, before_first, position_or_len, onto_first}
+use Rattle.std.proofs.lemmas.List.{take_all}
+use Rattle.std.proofs.lemmas.Bool.{cases_Bool, not-true, not-false, not_from_false, ne_eqb, eq-eqb, and_parts, and_from, and_left, and_right, or_parts, or_cases, both_ways, cases_lt}
+use Rattle.std.proofs.lemmas.List.Sums.{fold-append, prefix_len-le-length}
+use Rattle.std.proofs.lemmas.List.Folds.{list_all-append}
+use Rattle.std.proofs.Math.Nat.{min-eq_left, min-eq_right}
+use Rattle.text_scan.specs.Lines.{is_filled, is_blank, cut, lines_from}
+use Rattle.text_scan.specs.Numbers.{is_digit, is_natural, value_of, natural_of}
+use Rattle.text_scan.specs.Unread.{is_line_feed, words_here, behind, next_natural}
+use Rattle.text_scan.specs.Steps.{ends_word, from_first, begins_with, begins_word, IsPast, IsFirstWord, ArePastDigits, IsLineEnd}
+use Rattle.text_scan.specs.Kinds.{kind_of}
+use Rattle.text_scan.specs.declared.steps.Kind.{Kind}
+use Rattle.text_scan.specs.declared.steps.Kind.TheVariants.{Blank, LineFeed, Hash, Word}
+use Rattle.text_scan.proofs.ListLemmas.{before_first-yes, before_first-no, from_first-yes, from_first-no, before_first-append, from_first-append}
+use Rattle.text_scan.proofs.PlaceLemmas.{is_hash, words_here-nil, words_here-line_feed, words_here-hash, words_here-blank, words_here-word, behind-nil, behind-line_feed, behind-other, cut_first, lines_from_here}
+
+-- all but the first byte, as the code takes it
+abbrev pub after_head : List ℕ → List ℕ
+after_head rest = take (length rest - 1) (drop 1 rest)
+
+after_head-cons : (byte : ℕ) (rest : List ℕ) → after_head (byte ∷ rest) ≡ rest
+after_head-cons byte rest = take_all (length (byte ∷ rest) - 1) rest (omega arith)
+
+-- what holds of a list with a first byte holds of one as the code takes it apart
+pub by_head : (P : ℕ → List ℕ → List ℕ → Type 0) → ((byte : ℕ) (rest : List ℕ) → P byte (byte ∷ rest) rest)
+    → (rest : List ℕ) → 1 ≤ length rest → P (get_or rest 0 0) rest (after_head rest)
+by_head P step [] h = absurd (omega (arith, h))
+by_head P step (byte ∷ rest) h = subst (P byte (byte ∷ rest)) (sym (after_head-cons byte rest)) (step byte rest)
+
+-- ---- kinds of bytes
+
+abbrev chosen : Bool → Bool → Bool → Kind
+chosen blank feed hash = cond blank Blank (cond feed LineFeed (cond hash Hash Word))
+
+chosen-Blank : (x y z : Bool) → chosen x y z ≡ Blank → x ≡ true
+chosen-Blank true y z e = refl
+chosen-Blank false true z e = cc
+chosen-Blank false false true e = cc
+chosen-Blank false false false e = cc
+
+chosen-LineFeed : (x y z : Bool) → chosen x y z ≡ LineFeed → y ≡ true
+chosen-LineFeed true y z e = cc
+chosen-LineFeed false true z e = refl
+chosen-LineFeed false false true e = cc
+chosen-LineFeed false false false e = cc
+
+chosen-Hash : (x y z : Bool) → chosen x y z ≡ Hash → z ≡ true
+chosen-Hash true y z e = cc
+chosen-Hash false true z e = cc
+chosen-Hash false false true e = refl
+chosen-Hash false false false e = cc
+
+chosen-Word : (x y z : Bool) → chosen x y z ≡ Word → (x || y || z) ≡ false
+chosen-Word true y z e = cc
+chosen-Word false true z e = cc
+chosen-Word false false true e = cc
+chosen-Word false false false e = refl
+
+chosen-other : (x y z : Bool) → chosen x y z ≢ Word → (x || y || z) ≡ true
+chosen-other true y z e = refl
+chosen-other false true z e = refl
+chosen-other false false true e = refl
+chosen-other false false false e = absurd (e refl)
+
+pub kind-Blank : (byte : ℕ) → kind_of byte ≡ Blank → is_blank byte ≡ true
+kind-Blank byte e = chosen-Blank (is_blank byte) (is_line_feed byte) (is_hash byte) e
+
+pub kind-not_Blank : (byte : ℕ) → kind_of byte ≢ Blank → is_blank byte ≡ false
+kind-not_Blank byte e = by_cases (is_blank byte) (is_line_feed byte) (is_hash byte) e
+  where
+    by_cases : (x y z : Bool) → chosen x y z ≢ Blank → x ≡ false
+    by_cases true y z e = absurd (e refl)
+    by_cases false y z e = refl
+
+pub kind-LineFeed : (byte : ℕ) → kind_of byte ≡ LineFeed → is_line_feed byte ≡ true
+kind-LineFeed byte e = chosen-LineFeed (is_blank byte) (is_line_feed byte) (is_hash byte) e
+
+pub kind-Hash : (byte : ℕ) → kind_of byte ≡ Hash → is_hash byte ≡ true
+kind-Hash byte e = chosen-Hash (is_blank byte) (is_line_feed byte) (is_hash byte) e
+
+pub kind-Word : (byte : ℕ) → kind_of byte ≡ Word → ends_word byte ≡ false
+kind-Word byte e = chosen-Word (is_blank byte) (is_line_feed byte) (is_hash byte) e
+
+pub kind-not_Word : (byte : ℕ) → kind_of byte ≢ Word → ends_word byte ≡ true
+kind-not_Word byte e = chosen-other (is_blank byte) (is_line_feed byte) (is_hash byte) e
+
+blank_is_no_feed : (byte : ℕ) → is_blank byte ≡ true → is_line_feed byte ≡ false
+blank_is_no_feed byte e = grind (arith, e)
+
+hash_is_no_feed : (byte : ℕ) → is_hash byte ≡ true → is_line_feed byte ≡ false
+hash_is_no_feed byte e = grind (arith, e)
+
+-- ---- past blanks, and to the end of a line
+
+pub here : (bytes : List ℕ) → IsPast 0 bytes bytes
+here bytes = record { words = refl; behind = refl; shorter = omega arith }
+
+pub past_blank : (bytes rest : List ℕ) → 1 ≤ length rest → kind_of (get_or rest 0 0) ≡ Blank → IsPast 0 bytes rest → IsPast 0 bytes (after_head rest)
+past_blank bytes = by_head (λ first rest after. kind_of first ≡ Blank → IsPast 0 bytes rest → IsPast 0 bytes after) (λ byte rest is_kind so_far.
+    let blank = kind-Blank byte is_kind in
+    record {
+      words = sym (words_here-blank byte rest blank) ∙ so_far.words;
+      behind = sym (behind-other byte rest (blank_is_no_feed byte blank)) ∙ so_far.behind;
+      shorter = omega (arith, so_far.shorter);
+    })
+
+pub no_blank : (rest : List ℕ) → 1 ≤ length rest → kind_of (get_or rest 0 0) ≢ Blank → begins_with is_blank rest ≡ false
+no_blank = by_head (λ first rest after. kind_of first ≢ Blank → begins_with is_blank rest ≡ false) (λ byte rest is_kind. kind-not_Blank byte is_kind)
+
+-- a byte that is no line feed
+pub on_in_line : (bytes rest : List ℕ) → 1 ≤ length rest → get_or rest 0 0 ≢ 10 → (behind rest ≡ behind bytes) × (length rest ≤ length bytes)
+    → (behind (after_head rest) ≡ behind bytes) × (length (after_head rest) ≤ length bytes)
+on_in_line bytes =
+    by_head (λ first rest after. first ≢ 10 → (behind rest ≡ behind bytes) × (length rest ≤ length bytes) → (behind after ≡ behind bytes) × (length after ≤ length bytes))
+    (λ byte rest other so_far. (sym (behind-other byte rest (ne_eqb byte 10 other)) ∙ so_far.0, omega (arith, so_far.1)))
+
+pub at_line_feed : (rest : List ℕ) → 1 ≤ length rest → get_or rest 0 0 ≡ 10 → words_here rest ≡ []
+at_line_feed = by_head (λ first rest after. first ≡ 10 → words_here rest ≡ []) (λ byte rest e. words_here-line_feed byte rest (eq-eqb byte 10 e))
+
+pub at_end : (rest : List ℕ) → length rest < 1 → words_here rest ≡ []
+at_end [] h = words_here-nil
+at_end (byte ∷ rest) h = absurd (omega (arith, h))
+
+-- ---- to the first word
+
+-- so far from line n on without a word
+abbrev pub SoFar : ℕ → List ℕ → ℕ → List ℕ → Type 0
+SoFar n bytes m rest = (lines_from n bytes ≡ lines_from m rest) × (m + length rest ≤ n + length bytes)
+
+-- lines from a place on do not change where its words and what is behind do not
+same_lines : (n : ℕ) (rest after : List ℕ) → words_here rest ≡ words_here after → behind rest ≡ behind after → lines_from n rest ≡ lines_from n after
+same_lines n rest after same_words same_behind = lines_from_here n rest ∙ rw (same_words, same_behind) (sym (lines_from_here n after))
+
+no_words : (n : ℕ) (rest : List ℕ) → words_here rest ≡ [] → lines_from n rest ≡ lines_from (n + 1) (behind rest)
+no_words n rest none = lines_from_here n rest ∙ rw none refl
+
+pub pass_blank : (n m : ℕ) (bytes rest : List ℕ) → 1 ≤ length rest → kind_of (get_or rest 0 0) ≡ Blank → SoFar n bytes m rest → SoFar n bytes m (after_head rest)
+pass_blank n m bytes = by_head (λ first rest after. kind_of first ≡ Blank → SoFar n bytes m rest → SoFar n bytes m after) (λ byte rest is_kind so_far.
+    let blank = kind-Blank byte is_kind in
+    (so_far.0 ∙ same_lines m (byte ∷ rest) rest (words_here-blank byte rest blank) (behind-other byte rest (blank_is_no_feed byte blank)), omega (arith, so_far.1)))
+
+pub pass_line_feed : (n m : ℕ) (bytes rest : List ℕ) → 1 ≤ length rest → kind_of (get_or rest 0 0) ≡ LineFeed → SoFar n bytes m rest → SoFar n bytes (m + 1) (after_head rest)
+pass_line_feed n m bytes = by_head (λ first rest after. kind_of first ≡ LineFeed → SoFar n bytes m rest → SoFar n bytes (m + 1) after) (λ byte rest is_kind so_far.
+    let feed = kind-LineFeed byte is_kind in
+    (so_far.0 ∙ no_words m (byte ∷ rest) (words_here-line_feed byte rest feed) ∙ ap (lines_from (m + 1)) (behind-line_feed byte rest feed), omega (arith, so_far.1)))
+
+pub pass_comment : (n m : ℕ) (bytes rest after : List ℕ) → 1 ≤ length rest → kind_of (get_or rest 0 0) ≡ Hash
+    → words_here after ≡ [] → behind after ≡ behind (after_head rest) → length after ≤ length (after_head rest)
+    → SoFar n bytes m rest → SoFar n bytes m after
+pass_comment n m bytes rest after =
+    by_head
+    (λ first rest tail. kind_of first ≡ Hash → words_here after ≡ [] → behind after ≡ behind tail → length after ≤ length tail → SoFar n bytes m rest → SoFar n bytes m after)
+    (λ byte tail is_kind none same shorter so_far.
+    let hash = kind-Hash byte is_kind in
+    (so_far.0 ∙ same_lines m (byte ∷ tail) after (words_here-hash byte tail hash ∙ sym none) (behind-other byte tail (hash_is_no_feed byte hash) ∙ sym same), omega (arith, so_far.1, shorter)))
+    rest
+
+pub at_word : (n m : ℕ) (bytes rest : List ℕ) → 1 ≤ length rest → kind_of (get_or rest 0 0) ≡ Word → SoFar n bytes m rest → IsFirstWord n bytes m rest
+at_word n m bytes = by_head (λ first rest after. kind_of first ≡ Word → SoFar n bytes m rest → IsFirstWord n bytes m rest) (λ byte rest is_kind so_far.
+    record { lines = so_far.0; word = not_from_false (ends_word byte) (kind-Word byte is_kind); shorter = so_far.1 })
+
+pub no_more : (n m : ℕ) (bytes rest : List ℕ) → length rest < 1 → SoFar n bytes m rest → lines_from n bytes ≡ []
+unfolding lines_from cut
+no_more n m bytes [] h so_far = so_far.0
+no_more n m bytes (byte ∷ rest) h so_far = absurd (omega (arith, h))
+
+-- ---- words
+
+-- bytes that do not end a word
+abbrev pub is_word : List ℕ → Bool
+is_word = list_all (λ byte. not (ends_word byte))
+
+ends_here : (after : List ℕ) → begins_word after ≡ false → (before_first ends_word after ≡ []) × (from_first ends_word after ≡ after)
+ends_here [] e = (refl, refl)
+ends_here (byte ∷ after) e =
+    let ends : ends_word byte ≡ true = not-false (ends_word byte) e in
+    (before_first-yes ends_word byte after ends, from_first-yes ends_word byte after ends)
+
+word_begins : (word after : List ℕ) → is_filled word ≡ true → is_word word ≡ true → begins_word (word ++ after) ≡ true
+word_begins [] after some all = cc
+word_begins (byte ∷ word) after some all = (and_parts (not (ends_word byte)) (is_word word) all).0
+
+-- a whole word
+pub word_first : (word after : List ℕ) → is_filled word ≡ true → is_word word ≡ true → begins_word after ≡ false → words_here (word ++ after) ≡ word ∷ words_here after
+word_first word after some all e =
+    let ends = ends_here after e in
+    words_here-word (word ++ after) (word_begins word after some all)
+    ∙ ap₂ (λ (w : List ℕ) (r : List ℕ). w ∷ words_here r)
+    (before_first-append ends_word word after all ∙ ap (λ t. word ++ t) ends.0 ∙ append-nil word)
+    (from_first-append ends_word word after all ∙ ends.1)
+
+pub word_behind : (word after : List ℕ) → is_word word ≡ true → behind (word ++ after) ≡ behind after
+word_behind [] after all = refl
+word_behind (byte ∷ word) after all =
+    let both = and_parts (not (ends_word byte)) (is_word word) all in
+    behind-other byte (word ++ after) (in_word byte (not-true (ends_word byte) both.0)) ∙ word_behind word after both.1
+  where
+    in_word : (b : ℕ) → ends_word b ≡ false → is_line_feed b ≡ false
+    in_word b e = (or_parts (is_blank b) (is_line_feed b) (or_parts (is_blank b || is_line_feed b) (is_hash b) e).0).1
+
+pub past_word : (word after : List ℕ) → is_filled word ≡ true → is_word word ≡ true → begins_word after ≡ false → IsPast 1 (word ++ after) after
+past_word word after some all e =
+    record {
+      words = sym (ap (λ t. drop 1 t) (word_first word after some all e));
+      behind = sym (word_behind word after all);
+      shorter = omega (arith, length-append word after);
+    }
+
+-- ---- naturals
+
+digit_in_word : (byte : ℕ) → is_digit byte ≡ true → not (ends_word byte) ≡ true
+digit_in_word byte e = grind (arith, e)
+
+pub digits_in_word : (digits : List ℕ) → list_all is_digit digits ≡ true → is_word digits ≡ true
+digits_in_word [] all = refl
+digits_in_word (byte ∷ digits) all =
+    let both = and_parts (is_digit byte) (list_all is_digit digits) all in
+    and_from _ _ (digit_in_word byte both.0) (digits_in_word digits both.1)
+
+capped_step : (v d cap : ℕ) → min (min (min v cap * 10) cap + d) cap ≡ min (v * 10 + d) cap
+capped_step v d cap =
+    elim (cases_lt cap v) as (λ _. min (min (min v cap * 10) cap + d) cap ≡ min (v * 10 + d) cap) [
+      | inl above ↦
+          let first : min v cap ≡ cap = min-eq_right (omega (arith, above)) in
+          let second : min (cap * 10) cap ≡ cap = min-eq_right (omega arith) in
+          let third : min (cap + d) cap ≡ cap = min-eq_right (omega arith) in
+          let whole : min (v * 10 + d) cap ≡ cap = min-eq_right (omega (arith, above)) in
+          rw (first, second, third, whole) refl
+      | inr below ↦ let first : min v cap ≡ v = min-eq_left below in
+          elim (cases_lt cap (v * 10)) as (λ _. min (min (min v cap * 10) cap + d) cap ≡ min (v * 10 + d) cap) [
+            | inl above ↦
+                let second : min (v * 10) cap ≡ cap = min-eq_right (omega (arith, above)) in
+                let third : min (cap + d) cap ≡ cap = min-eq_right (omega arith) in
+                let whole : min (v * 10 + d) cap ≡ cap = min-eq_right (omega (arith, above)) in
+                rw (first, second, third, whole) refl
+            | inr fits ↦ let second : min (v * 10) cap ≡ v * 10 = min-eq_left fits in rw (first, second) refl
+          ]
+    ]
+
+pub no_digits : (bytes : List ℕ) → ArePastDigits bytes 0 bytes
+unfolding value_of
+no_digits bytes = record { digits = []; parts = refl; all = refl; value = refl }
+
+pub one_digit : (bytes rest : List ℕ) (capped next : ℕ) → 1 ≤ length rest → is_digit (get_or rest 0 0) ≡ true
+    → next ≡ min (min (capped * 10) (2 ^ 64 - 1) + (get_or rest 0 0 - 48)) (2 ^ 64 - 1) → ArePastDigits bytes capped rest → ArePastDigits bytes next (after_head rest)
+unfolding value_of
+one_digit bytes rest capped next =
+    by_head
+    (λ first rest after. is_digit first ≡ true → next ≡ min (min (capped * 10) (2 ^ 64 - 1) + (first - 48)) (2 ^ 64 - 1) → ArePastDigits bytes capped rest → ArePastDigits bytes next after)
+    (λ byte rest digit is_next so_far. record {
+      digits = so_far.digits ++ byte ∷ [];
+      parts = so_far.parts ∙ sym (append_assoc so_far.digits (byte ∷ []) rest);
+      all = list_all-append is_digit so_far.digits (byte ∷ []) ∙ rw (so_far.all, digit) refl;
+      value = is_next ∙ ap (λ c. min (min (c * 10) (2 ^ 64 - 1) + (byte - 48)) (2 ^ 64 - 1)) so_far.value
+          ∙ capped_step (value_of so_far.digits) (byte - 48) (2 ^ 64 - 1)
+          ∙ ap (λ v. min v (2 ^ 64 - 1)) (sym (fold-append (λ value digit. value * 10 + (digit - 48)) 0 so_far.digits (byte ∷ [])));
+    })
+    rest
+
+-- the digits at the front are a whole word
+record IsNaturalFirst (rest : List ℕ) (capped : ℕ) (after : List ℕ) : Type 0 where
+  value : option_map (λ n. min n (2 ^ 64 - 1)) (next_natural (words_here rest)) ≡ Some capped
+  place : IsPast 1 rest after
+
+some_digits : (digits after : List ℕ) → length after ≢ length (digits ++ after) → is_filled digits ≡ true
+some_digits [] after h = absurd (h refl)
+some_digits (byte ∷ digits) after h = refl
+
+natural_first : (rest : List ℕ) (capped : ℕ) (after : List ℕ) → ArePastDigits rest capped after → length after ≢ length rest → begins_word after ≡ false
+    → IsNaturalFirst rest capped after
+unfolding is_natural
+natural_first rest capped after h shorter e =
+    let some : is_filled h.digits ≡ true = some_digits h.digits after (λ same. shorter (same ∙ sym (ap length h.parts))) in
+    let all = digits_in_word h.digits h.all in
+    let natural : is_natural h.digits ≡ true = and_from _ _ some h.all in
+    let first : words_here rest ≡ h.digits ∷ words_here after = ap words_here h.parts ∙ word_first h.digits after some all e in
+    record {
+      value = ap (λ ws. option_map (λ n. min n (2 ^ 64 - 1)) (next_natural ws)) first ∙ rw natural (ap Some (sym h.value));
+      place = subst (λ t. IsPast 1 t after) (sym h.parts) (past_word h.digits after some all e);
+    }
+
+pub natural_value : (rest : List ℕ) (capped : ℕ) (after : List ℕ) → ArePastDigits rest capped after → length after ≢ length rest → begins_word after ≡ false
+    → Some capped ≡ option_map (λ n. min n (2 ^ 64 - 1)) (next_natural (words_here rest))
+natural_value rest capped after h shorter e = sym (natural_first rest capped after h shorter e).value
+
+pub natural_place : (rest : List ℕ) (capped : ℕ) (after : List ℕ) → ArePastDigits rest capped after → length after ≢ length rest → begins_word after ≡ false → IsPast 1 rest after
+natural_place rest capped after h shorter e = (natural_first rest capped after h shorter e).place
+
+-- a word goes on behind the digits
+not_all_digits : (digits after : List ℕ) → begins_word after ≡ true → begins_with is_digit after ≡ false → is_natural (digits ++ before_first ends_word after) ≡ false
+unfolding is_natural
+not_all_digits digits [] word stop = cc
+not_all_digits digits (byte ∷ after) word stop =
+    let first = before_first-no ends_word byte after (not-true (ends_word byte) word) in
+    and_right _ _ (ap (λ t. list_all is_digit (digits ++ t)) first ∙ list_all-append is_digit digits (byte ∷ before_first ends_word after) ∙ and_right _ _ (and_left _ _ stop))
+
+word_goes_on : (digits after : List ℕ) → list_all is_digit digits ≡ true → begins_word after ≡ true → begins_with is_digit after ≡ false
+    → next_natural (words_here (digits ++ after)) ≡ None
+word_goes_on digits after all word stop =
+    let in_word = digits_in_word digits all in
+    let first : words_here (digits ++ after) ≡ before_first ends_word (digits ++ after) ∷ words_here (from_first ends_word (digits ++ after))
+    = words_here-word (digits ++ after) (begins digits after in_word word) in
+    ap next_natural first ∙ ap natural_of (before_first-append ends_word digits after in_word) ∙ rw (not_all_digits digits after word stop) refl
+  where
+    begins : (digits after : List ℕ) → is_word digits ≡ true → begins_word after ≡ true → begins_word (digits ++ after) ≡ true
+    begins [] after all word = word
+    begins (byte ∷ digits) after all word = (and_parts (not (ends_word byte)) (is_word digits) all).0
+
+pub no_word : (rest : List ℕ) → begins_with is_blank rest ≡ false → begins_word rest ≡ false → words_here rest ≡ []
+no_word [] no_blank e = words_here-nil
+no_word (byte ∷ rest) no_blank e =
+    let ends : (is_blank byte || is_line_feed byte || is_hash byte) ≡ true = not-false (ends_word byte) e in
+    elim (or_cases (is_blank byte || is_line_feed byte) (is_hash byte) ends) as (λ _. words_here (byte ∷ rest) ≡ []) [
+      | inl front ↦ elim (or_cases (is_blank byte) (is_line_feed byte) front) as (λ _. words_here (byte ∷ rest) ≡ []) [
+        | inl blank ↦ absurd (both_ways (is_blank byte) no_blank blank)
+        | inr feed ↦ words_here-line_feed byte rest feed
+      ]
+      | inr hash ↦ words_here-hash byte rest hash
+    ]
+
+pub no_natural : (rest : List ℕ) (capped : ℕ) (after : List ℕ) → ArePastDigits rest capped after → begins_with is_digit after ≡ false → begins_word after ≡ true
+    → None ≡ option_map (λ n. min n (2 ^ 64 - 1)) (next_natural (words_here rest))
+no_natural rest capped after h stop word =
+    sym (ap (λ t. option_map (λ n. min n (2 ^ 64 - 1)) (next_natural (words_here t))) h.parts ∙ ap (option_map (λ n. min n (2 ^ 64 - 1))) (word_goes_on h.digits after h.all word stop))
+
+-- no digits at the front
+pub no_natural_here : (rest : List ℕ) (capped : ℕ) (after : List ℕ) → ArePastDigits rest capped after → begins_with is_digit after ≡ false → begins_with is_blank rest ≡ false
+    → length rest ≤ length after → None ≡ option_map (λ n. min n (2 ^ 64 - 1)) (next_natural (words_here rest))
+no_natural_here rest capped after h stop no_blank same =
+    let all : rest ≡ after = nothing h.digits after rest h.parts same in
+    elim (cases_Bool (begins_word after)) as (λ _. None ≡ option_map (λ n. min n (2 ^ 64 - 1)) (next_natural (words_here rest))) [
+      | inl word ↦ no_natural rest capped after h stop word
+      | inr none ↦ ap (λ ws. option_map (λ n. min n (2 ^ 64 - 1)) (next_natural ws)) (sym (no_word rest no_blank (ap begins_word all ∙ none)))
+    ]
+  where
+    nothing : (digits after rest : List ℕ) → rest ≡ digits ++ after → length rest ≤ length after → rest ≡ after
+    nothing [] after rest parts same = parts
+    nothing (byte ∷ digits) after rest parts same = absurd (omega (arith, ap length parts, length-append digits after, same))
+
+-- ---- whole words
+
+length-from_first : (p : ℕ → Bool) (xs : List ℕ) → length xs - length (from_first p xs) ≡ position_or_len p xs
+length-from_first p xs = omega (arith, length-drop (position_or_len p xs) xs, prefix_len-le-length (λ x. not (p x)) xs)
+
+-- the bytes of the first word, as they are taken
+pub word_taken : (bytes after : List ℕ) → after ≡ from_first ends_word bytes → take (length bytes - length after) bytes ≡ before_first ends_word bytes
+word_taken bytes after e = ap (λ t. take (length bytes - length t) bytes) e ∙ ap (λ n. take n bytes) (length-from_first ends_word bytes)
+
+pub in_word : (bytes rest : List ℕ) → 1 ≤ length rest → kind_of (get_or rest 0 0) ≡ Word → from_first ends_word rest ≡ from_first ends_word bytes → from_first ends_word (after_head rest) ≡ from_first ends_word bytes
+in_word bytes =
+    by_head (λ first rest after. kind_of first ≡ Word → from_first ends_word rest ≡ from_first ends_word bytes → from_first ends_word after ≡ from_first ends_word bytes)
+    (λ byte rest is_kind so_far. sym (from_first-no ends_word byte rest (kind-Word byte is_kind)) ∙ so_far)
+
+pub at_word_end : (bytes rest : List ℕ) → 1 ≤ length rest → kind_of (get_or rest 0 0) ≢ Word → from_first ends_word rest ≡ from_first ends_word bytes → rest ≡ from_first ends_word bytes
+at_word_end bytes =
+    by_head (λ first rest after. kind_of first ≢ Word → from_first ends_word rest ≡ from_first ends_word bytes → rest ≡ from_first ends_word bytes)
+    (λ byte rest is_kind so_far. sym (from_first-yes ends_word byte rest (kind-not_Word byte is_kind)) ∙ so_far)
+
+pub all_word : (bytes rest : List ℕ) → length rest < 1 → from_first ends_word rest ≡ from_first ends_word bytes → rest ≡ from_first ends_word bytes
+all_word bytes [] h so_far = so_far
+all_word bytes (byte ∷ rest) h so_far = absurd (omega (arith, h))
+
+behind-word : (rest : List ℕ) → behind (from_first ends_word rest) ≡ behind rest
+behind-word [] = refl
+behind-word (byte ∷ rest) = by_test (ends_word byte) refl (behind-word rest)
+  where
+    in_line : (b : ℕ) → ends_word b ≡ false → is_line_feed b ≡ false
+    in_line b e = (or_parts (is_blank b) (is_line_feed b) (or_parts (is_blank b || is_line_feed b) (is_hash b) e).0).1
+
+    by_test : (t : Bool) → ends_word byte ≡ t → behind (from_first ends_word rest) ≡ behind rest → behind (from_first ends_word (byte ∷ rest)) ≡ behind (byte ∷ rest)
+    by_test true e later = ap behind (from_first-yes ends_word byte rest e)
+    by_test false e later = ap behind (from_first-no ends_word byte rest e) ∙ later ∙ sym (behind-other byte rest (in_line byte e))
+
+-- past the word at the front
+pub past_word_here : (rest : List ℕ) → begins_word rest ≡ true → IsPast 1 rest (from_first ends_word rest)
+past_word_here rest e =
+    record {
+      words = sym (ap (λ t. drop 1 t) (words_here-word rest e));
+      behind = behind-word rest;
+      shorter = omega (arith, length-drop (position_or_len ends_word rest) rest);
+    }
+
+-- ---- lines
+
+pub no_line_feed : (bytes rest : List ℕ) → eqb (length rest) 0 ≡ true → behind rest ≡ behind bytes → rest ≡ behind bytes
+no_line_feed bytes [] e same = sym behind-nil ∙ same
+no_line_feed bytes (byte ∷ rest) e same = absurd (grind (arith, e))
+
+pub past_line_feed : (bytes rest : List ℕ) → eqb (length rest) 0 ≡ false → IsLineEnd rest → behind rest ≡ behind bytes → after_head rest ≡ behind bytes
+past_line_feed bytes [] e feed same = absurd (grind (arith, e))
+past_line_feed bytes (byte ∷ rest) e feed same = after_head-cons byte rest ∙ sym (behind-line_feed byte rest (eq-eqb byte 10 feed)) ∙ same
+
+behind-shorter : (rest : List ℕ) → length (behind rest) ≤ length rest
+unfolding behind
+behind-shorter rest = omega (arith, length-drop (position_or_len is_line_feed rest + 1) rest)
+
+-- one line more
+pub one_line : (rest : List ℕ) → eqb (length rest) 0 ≡ false → (length (cut rest) ≡ length (cut (behind rest)) + 1) × (length (behind rest) < length rest)
+one_line [] some = absurd (grind (arith, some))
+one_line (byte ∷ rest) some = (omega (arith, ap length (cut_first byte rest)), shorter (is_line_feed byte) refl)
+  where
+    shorter : (b : Bool) → is_line_feed byte ≡ b → length (behind (byte ∷ rest)) < length (byte ∷ rest)
+    shorter true e = omega (arith, ap length (behind-line_feed byte rest e))
+    shorter false e = omega (arith, ap length (behind-other byte rest e), behind-shorter rest)
+
+pub no_lines : (rest : List ℕ) → eqb (length rest) 0 ≡ true → length (cut rest) ≡ 0
+unfolding cut
+no_lines [] none = refl
+no_lines (byte ∷ rest) none = absurd (grind (arith, none))
+
+pub few_lines : (text : List ℕ) → length (cut text) ≤ length text
+unfolding cut
+few_lines [] = omega arith
+few_lines (byte ∷ text) = by_test (is_line_feed byte) (cut text) (few_lines text)
+  where
+    by_test : (b : Bool) (lines : List (List ℕ)) → length lines ≤ length text → length (cond b ([] ∷ lines) (onto_first byte lines)) ≤ length (byte ∷ text)
+    by_test true lines few = omega (arith, few)
+    by_test false [] few = omega (arith, few)
+    by_test false (line ∷ lines) few = omega (arith, few)

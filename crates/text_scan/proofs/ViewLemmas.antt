@@ -1,0 +1,112 @@
+-- What the steps over the bytes are to what is left to read.
+use Rattle.std.proofs.Common.{◌≡◌, ℕ, ◌+◌, Bool, true, false, List, [], ◌∷◌, drop, refl, sym, ap, subst, ◌∙◌, take, drop-drop, arith}
+use Rattle.std.specs.Prelude.{Option, Some, None, MatchOption, unwrap_or}
+use Rattle.std.specs.List.{before_first}
+use Rattle.std.specs.Cmp.Lexicographic.{pointwise}
+use Rattle.std.proofs.Common.{Bor, eqb, length}
+use Rattle.text_scan.specs.Lines.{is_filled, is_blank, unmarked, lines_from, full_lines}
+use Rattle.text_scan.specs.Unread.{Unread, lines_left, at_line, past_word, next_word, words_here, behind, unread_at}
+use Rattle.text_scan.specs.Steps.{ends_word, begins_with, begins_word, IsPast, IsFirstWord}
+use Rattle.text_scan.proofs.PlaceLemmas.{words_here-word, lines_from_here}
+use Rattle.text_scan.proofs.StepLemmas.{no_word}
+
+pub lines_left-unread_at : (text : List ℕ) (n : ℕ) (rest : List ℕ) → lines_left (unread_at text n rest) ≡ lines_from n rest
+lines_left-unread_at text n rest = sym (lines_from_here n rest)
+
+-- ---- the beginning of a text
+
+pub starts_unmarked : (text : List ℕ) (stripped : Option (Bor (List ℕ))) (whole : Bor (List ℕ)) → whole.now ≡ text
+    → MatchOption stripped (pointwise eqb (take 3 text) (239 ∷ 187 ∷ 191 ∷ []) ≡ false)
+    (λ x. (pointwise eqb (take 3 text) (239 ∷ 187 ∷ 191 ∷ []) ≡ true) × (x.now ≡ drop 3 text) × (length x.now + 3 ≡ length text))
+    → (unwrap_or stripped whole).now ≡ unmarked text
+unfolding unmarked
+starts_unmarked text None whole same h = rw h same
+starts_unmarked text (Some x) whole same h = rw (h.0) h.1
+
+pub starts : (whole text rest : List ℕ) → rest ≡ unmarked text → lines_left (unread_at whole 1 rest) ≡ full_lines text
+starts whole text rest e = lines_left-unread_at whole 1 rest ∙ ap (lines_from 1) e
+
+-- ---- the next line with words
+
+record FindsNothing (unread : Unread) : Type 0 where
+  found : false ≡ is_filled (lines_left unread)
+  place : unread ≡ at_line unread (lines_left unread)
+
+finds_nothing : (text : List ℕ) (n : ℕ) (rest : List ℕ) → lines_from n rest ≡ [] → FindsNothing (unread_at text n rest)
+finds_nothing text n rest none =
+    let left : lines_left (unread_at text n rest) ≡ [] = lines_left-unread_at text n rest ∙ none in
+    record { found = sym (ap is_filled left); place = sym (ap (at_line (unread_at text n rest)) left) }
+
+pub none_found : (text : List ℕ) (n : ℕ) (rest : List ℕ) (unread : Unread) → unread_at text n rest ≡ unread → lines_from n rest ≡ [] → false ≡ is_filled (lines_left unread)
+none_found text n rest unread is none = (subst FindsNothing is (finds_nothing text n rest none)).found
+
+pub none_place : (text : List ℕ) (n : ℕ) (rest : List ℕ) (unread : Unread) → unread_at text n rest ≡ unread → lines_from n rest ≡ [] → unread ≡ at_line unread (lines_left unread)
+none_place text n rest unread is none = (subst FindsNothing is (finds_nothing text n rest none)).place
+
+record Finds (unread next : Unread) : Type 0 where
+  found : true ≡ is_filled (lines_left unread)
+  place : next ≡ at_line unread (lines_left unread)
+
+finds : (text : List ℕ) (n : ℕ) (rest : List ℕ) (m : ℕ) (after : List ℕ) → IsFirstWord n rest m after → Finds (unread_at text n rest) (unread_at text m after)
+finds text n rest m after h =
+    let some : is_filled (words_here after) ≡ true = ap is_filled (words_here-word after h.word) in
+    let first : lines_from m after ≡ record { number = m; words = words_here after } ∷ lines_from (m + 1) (behind after) = lines_from_here m after ∙ rw some refl in
+    let left : lines_left (unread_at text n rest) ≡ record { number = m; words = words_here after } ∷ lines_from (m + 1) (behind after)
+    = lines_left-unread_at text n rest ∙ h.lines ∙ first in
+    record { found = sym (ap is_filled left); place = sym (ap (at_line (unread_at text n rest)) left) }
+
+pub some_found : (text : List ℕ) (n : ℕ) (rest : List ℕ) (m : ℕ) (after : List ℕ) (unread : Unread) → unread_at text n rest ≡ unread → IsFirstWord n rest m after
+    → true ≡ is_filled (lines_left unread)
+some_found text n rest m after unread is h = (subst (λ u. Finds u (unread_at text m after)) is (finds text n rest m after h)).found
+
+pub some_place : (text : List ℕ) (n : ℕ) (rest : List ℕ) (m : ℕ) (after : List ℕ) (unread : Unread) → unread_at text n rest ≡ unread → IsFirstWord n rest m after
+    → unread_at text m after ≡ at_line unread (lines_left unread)
+some_place text n rest m after unread is h = (subst (λ u. Finds u (unread_at text m after)) is (finds text n rest m after h)).place
+
+-- ---- a word further on in the line
+
+pub moved : (text : List ℕ) (n : ℕ) (rest after : List ℕ) (unread : Unread) → unread_at text n rest ≡ unread → IsPast 1 rest after → unread_at text n after ≡ past_word unread
+moved text n rest after unread is h =
+    subst (λ u. unread_at text n after ≡ past_word u) is
+    (let new : Unread = unread_at text n rest in
+    let words : words_here after ≡ drop 1 (words_here rest) = h.words in
+    let lines : lines_from (n + 1) (behind after) ≡ lines_from (n + 1) (behind rest) = ap (lines_from (n + 1)) h.behind in
+    rw (words, lines) refl)
+
+-- ---- words left
+
+filled_here : (rest : List ℕ) → begins_with is_blank rest ≡ false → begins_word rest ≡ is_filled (words_here rest)
+filled_here rest no_blank = by_test (begins_word rest) refl
+  where
+    by_test : (b : Bool) → begins_word rest ≡ b → begins_word rest ≡ is_filled (words_here rest)
+    by_test true e = e ∙ sym (ap is_filled (words_here-word rest e))
+    by_test false e = e ∙ sym (ap is_filled (no_word rest no_blank e))
+
+pub has_word : (text : List ℕ) (n : ℕ) (rest after : List ℕ) (unread : Unread) → unread_at text n rest ≡ unread → IsPast 0 rest after → begins_with is_blank after ≡ false
+    → begins_word after ≡ is_filled unread.words
+has_word text n rest after unread is h no_blank = filled_here after no_blank ∙ ap is_filled h.words ∙ ap (λ (u : Unread). is_filled u.words) is
+
+pub no_word_left : (text : List ℕ) (n : ℕ) (rest after : List ℕ) (unread : Unread) → unread_at text n rest ≡ unread → IsPast 0 rest after → begins_with is_blank after ≡ false
+    → begins_word after ≡ false → unread.words ≡ []
+no_word_left text n rest after unread is h no_blank e = sym (ap (λ (u : Unread). u.words) is) ∙ sym h.words ∙ no_word after no_blank e
+
+-- the word at the front
+pub word_left : (text : List ℕ) (n : ℕ) (rest after word : List ℕ) (unread : Unread) → unread_at text n rest ≡ unread → IsPast 0 rest after → begins_word after ≡ true
+    → word ≡ before_first ends_word after → Some word ≡ next_word unread.words
+word_left text n rest after word unread is h begin same =
+    ap Some same ∙ sym (ap next_word (words_here-word after begin)) ∙ ap next_word h.words ∙ ap (λ (u : Unread). next_word u.words) is
+
+pub both_past : (n m : ℕ) (first second third : List ℕ) → IsPast n first second → IsPast m second third → IsPast (n + m) first third
+both_past n m first second third h k =
+    record {
+      words = k.words ∙ ap (λ t. drop m t) h.words ∙ drop-drop m n (words_here first) ∙ ap (λ i. drop i (words_here first)) (omega arith);
+      behind = k.behind ∙ h.behind;
+      shorter = omega (arith, h.shorter, k.shorter);
+    }
+
+pub moved_past : (text : List ℕ) (n : ℕ) (rest start after : List ℕ) (unread : Unread) → unread_at text n rest ≡ unread → IsPast 0 rest start → IsPast 1 start after
+    → unread_at text n after ≡ past_word unread
+moved_past text n rest start after unread is h k = moved text n rest after unread is (both_past 0 1 rest start after h k)
+
+pub nothing_past : (unread : Unread) → unread.words ≡ [] → unread ≡ past_word unread
+nothing_past unread none = ap (λ (ws : List (List ℕ)). record unread { words = ws }) (none ∙ sym (ap (λ (ws : List (List ℕ)). drop 1 ws) none))

@@ -1,0 +1,129 @@
+//! A reader's place in a text.
+ghost use Rattle.std.specs.Prelude.{◌≡◌, ◌+◌, ◌-◌, ◌^◌, ◌<◌, ◌≤◌, ◌↔◌, min, [], IsTrue, is_some, IfSome, IfNone, MatchOption, option_map, option_copied, if◌then◌else◌, length, slice_get};
+ghost use Rattle.text_scan.specs.Lines.{is_filled, full_lines, end_line};
+ghost use Rattle.text_scan.specs.Unread.{Unread, lines_left, at_line, past_word, next_word, next_natural, next_is_number_text, unread_at};
+
+use crate::steps::{
+    after_blanks, after_line, begins_word, first_word, line_count, natural_at, number_text_at,
+    word_at,
+};
+use std::marker::Model;
+
+/// The bytes of a byte-order mark, which a text may begin with.
+const MARK: &[u8] = b"\xEF\xBB\xBF";
+
+/// A place in a text, which goes on word by word and line by line. It takes no memory, and looks at
+/// each byte about once.
+#[derive(Debug, Drop)]
+pub struct Cursor<'a> {
+    /// The whole text, without a byte-order mark.
+    text: &'a [u8],
+    /// What is left of the text.
+    rest: &'a [u8],
+    /// The number of the present line.
+    line: u64,
+}
+
+impl<'a> Model for Cursor<'a> {
+    ghost use Rattle.std.specs.Prelude.{◌+◌, ◌^◌, ◌<◌, length};
+    ghost use Rattle.text_scan.specs.Unread.{Unread, unread_at};
+
+    ghost Value = { Unread };
+
+    ghost view = { λ a. unread_at a.text.now a.line a.rest.now };
+
+    ghost invariant = { λ a. a.line + length a.rest.now < 2 ^ 64 };
+}
+
+impl<'a> Cursor<'a> {
+    /// The beginning of a text, behind the byte-order mark that it may have.
+    pub fn new(text: &'a [u8]) -> Cursor<'a>
+        ensures lines { lines_left result ≡ full_lines text.now }
+        ensures end { result.end_line ≡ end_line text.now }
+    {
+        let text = text.strip_prefix(MARK).unwrap_or(text);
+        Cursor {
+            text,
+            rest: text,
+            line: 1,
+        }
+    }
+
+    /// Goes to the first line with words left: the present one if it has some left, else the next
+    /// that is not blank. `false` where there is none, and then nothing changes.
+    pub fn find_line(&mut self) -> bool
+        ensures found { result ≡ is_filled (lines_left self.old) }
+        ensures place { self.new ≡ at_line self.old (lines_left self.old) }
+    {
+        let Some((line, rest)) = first_word(self.line, self.rest) else {
+            return false;
+        };
+        self.line = line;
+        self.rest = rest;
+        true
+    }
+
+    /// Passes over the words left in the present line.
+    pub fn pass_line(&mut self)
+        ensures { self.new ≡ record self.old { words = [] } }
+    {
+        self.rest = after_line(self.rest);
+    }
+
+    /// The next natural of the present line, or 2^64 - 1 where it is larger than that, and goes past
+    /// it. `None` where the line has no further word or the next is no natural, and then nothing
+    /// changes.
+    pub fn natural(&mut self) -> Option<u64>
+        ensures value { result ≡ option_map (λ n. min n (2 ^ 64 - 1)) (next_natural self.old.words) }
+        ensures place { self.new ≡ (if is_some result then past_word self.old else self.old) }
+    {
+        let (value, rest) = natural_at(after_blanks(self.rest))?;
+        self.rest = rest;
+        Some(value)
+    }
+
+    /// Whether words are left in the present line.
+    pub fn has_word(&self) -> bool
+        ensures { result ≡ is_filled self.now.words }
+    {
+        begins_word(after_blanks(self.rest))
+    }
+
+    /// The next word of the present line, and goes past it. `None` where the line has no further
+    /// word.
+    pub fn word(&mut self) -> Option<&'a [u8]>
+        ensures word { option_map (λ word. word.now) result ≡ next_word self.old.words }
+        ensures place { self.new ≡ past_word self.old }
+    {
+        let (word, rest) = word_at(after_blanks(self.rest))?;
+        self.rest = rest;
+        Some(word)
+    }
+
+    /// Whether the present line has a further word and it is a number text, and goes past it if so.
+    /// Else nothing changes.
+    pub fn number_text(&mut self) -> bool
+        ensures answer { result ≡ next_is_number_text self.old.words }
+        ensures place { self.new ≡ (if result then past_word self.old else self.old) }
+    {
+        let Some(rest) = number_text_at(after_blanks(self.rest)) else {
+            return false;
+        };
+        self.rest = rest;
+        true
+    }
+
+    /// The line where the text ends: one more than its number of lines.
+    pub fn end_line(&self) -> u64
+        ensures { result ≡ self.now.end_line }
+    {
+        line_count(self.text) + 1
+    }
+
+    /// The number of the present line.
+    pub fn line(&self) -> u64
+        ensures { result ≡ self.now.line }
+    {
+        self.line
+    }
+}
