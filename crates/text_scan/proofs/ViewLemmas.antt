@@ -63,6 +63,10 @@ pub some_place : (text : List ℕ) (n : ℕ) (rest : List ℕ) (m : ℕ) (after 
     → unread_at text m after ≡ at_line unread (lines_left unread)
 some_place text n rest m after unread is h = (subst (λ u. Finds u (unread_at text m after)) is (finds text n rest m after h)).place
 
+-- a line that is found has a word left
+pub some_filled : (n : ℕ) (rest : List ℕ) (m : ℕ) (after : List ℕ) → IsFirstWord n rest m after → is_filled (words_here after) ≡ true
+some_filled n rest m after h = ap is_filled (words_here-word after h.word)
+
 -- ---- a word further on in the line
 
 pub moved : (text : List ℕ) (n : ℕ) (rest after : List ℕ) (unread : Unread) → unread_at text n rest ≡ unread → IsPast 1 rest after → unread_at text n after ≡ past_word unread

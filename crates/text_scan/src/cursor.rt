@@ -1,5 +1,6 @@
 //! A reader's place in a text.
 ghost use Rattle.std.specs.Prelude.{◌≡◌, ◌+◌, ◌-◌, ◌^◌, ◌<◌, ◌≤◌, ◌↔◌, min, [], IsTrue, is_some, IfSome, IfNone, MatchOption, option_map, option_copied, if◌then◌else◌, length, slice_get};
+ghost use Rattle.std.specs.Bool.{OnTrue};
 ghost use Rattle.text_scan.specs.Lines.{is_filled, full_lines, end_line};
 ghost use Rattle.text_scan.specs.Unread.{Unread, lines_left, at_line, past_word, next_word, next_natural, next_is_number_text, unread_at};
 
@@ -54,6 +55,8 @@ impl<'a> Cursor<'a> {
     pub fn find_line(&mut self) -> bool
         ensures found { result ≡ is_filled (lines_left self.old) }
         ensures place { self.new ≡ at_line self.old (lines_left self.old) }
+        // A line that is found has a word left.
+        ensures filled { OnTrue result (IsTrue (is_filled self.new.words)) }
     {
         let Some((line, rest)) = first_word(self.line, self.rest) else {
             return false;

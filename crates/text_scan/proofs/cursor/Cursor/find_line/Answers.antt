@@ -1,4 +1,4 @@
-use Rattle.text_scan.proofs.ViewLemmas.{none_found, none_place, some_found, some_place}
+use Rattle.text_scan.proofs.ViewLemmas.{none_found, none_place, some_found, some_place, some_filled}
 use Rattle.text_scan.proofs.cursor.Cursor.find_line.Goals as goal
 
 pub returns-in_default-clause-found : goal.returns-in_default-clause-found
@@ -14,3 +14,6 @@ returns-clause-found c =
 pub returns-clause-place : goal.returns-clause-place
 returns-clause-place c =
     some_place c.self.inside.text.now c.self.inside.line c.self.inside.rest.now c.in-Some.line c.in-Some.rest.now c.args.self.now c.self.view_is c.in-Some.ensures
+
+pub returns-clause-filled : goal.returns-clause-filled
+returns-clause-filled c = some_filled c.self.inside.line c.self.inside.rest.now c.in-Some.line c.in-Some.rest.now c.in-Some.ensures
