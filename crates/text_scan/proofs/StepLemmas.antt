@@ -1,19 +1,16 @@
 -- One step over the bytes of a text.
-use Rattle.std.proofs.Common.{◌≡◌, ◌≢◌, ℕ, ◌+◌, ◌-◌, ◌*◌, ◌^◌, ◌<◌, ◌≤◌, min, Bool, true, false, cond, not, eqb, ◌||◌, List, [], ◌∷◌, ◌++◌, length, take, drop, get_or, length-append, length-drop, refl, sym, ap, ap₂, subst, ◌∙◌, append_assoc, append-nil, inl, inr, arith}
+use Rattle.std.proofs.Common.{◌≡◌, ◌≢◌, ℕ, ◌+◌, ◌-◌, ◌*◌, ◌/◌, ◌^◌, ◌<◌, ◌≤◌, min, Bool, true, false, cond, not, eqb, ◌||◌, List, [], ◌∷◌, ◌++◌, length, take, drop, get_or, length-append, length-drop, refl, sym, ap, ap₂, subst, ◌∙◌, append_assoc, append-nil, inl, inr, arith}
 use Rattle.std.specs.Prelude.{Some, None, option_map}
 use Rattle.std.specs.List.{list_all, before_first, position_or_len, onto_first}
 use Rattle.std.proofs.lemmas.List.{take_all}
 use Rattle.std.proofs.lemmas.Bool.{cases_Bool, not-true, not-false, not_from_false, ne_eqb, eq-eqb, and_parts, and_from, and_left, and_right, or_parts, or_cases, both_ways, cases_lt}
-use Rattle.std.proofs.lemmas.List.Sums.{fold-append, prefix_len-le-length}
+use Rattle.std.proofs.lemmas.List.Sums.{fold-append}
 use Rattle.std.proofs.lemmas.List.Folds.{list_all-append}
 use Rattle.std.proofs.Math.Nat.{min-eq_left, min-eq_right}
 use Rattle.text_scan.specs.Lines.{is_filled, is_blank, cut, lines_from}
 use Rattle.text_scan.specs.Numbers.{is_digit, is_natural, value_of, natural_of}
 use Rattle.text_scan.specs.Unread.{is_line_feed, words_here, behind, next_natural}
 use Rattle.text_scan.specs.Steps.{ends_word, from_first, begins_with, begins_word, IsPast, IsFirstWord, ArePastDigits, IsLineEnd}
-use Rattle.text_scan.specs.Kinds.{kind_of}
-use Rattle.text_scan.specs.declared.steps.Kind.{Kind}
-use Rattle.text_scan.specs.declared.steps.Kind.TheVariants.{Blank, LineFeed, Hash, Word}
 use Rattle.text_scan.proofs.ListLemmas.{before_first-yes, before_first-no, from_first-yes, from_first-no, before_first-append, from_first-append}
 use Rattle.text_scan.proofs.PlaceLemmas.{is_hash, words_here-nil, words_here-line_feed, words_here-hash, words_here-blank, words_here-word, behind-nil, behind-line_feed, behind-other, cut_first, lines_from_here}
 
@@ -30,62 +27,7 @@ pub by_head : (P : ℕ → List ℕ → List ℕ → Type 0) → ((byte : ℕ) (
 by_head P step [] h = absurd (omega (arith, h))
 by_head P step (byte ∷ rest) h = subst (P byte (byte ∷ rest)) (sym (after_head-cons byte rest)) (step byte rest)
 
--- ---- kinds of bytes
-
-abbrev chosen : Bool → Bool → Bool → Kind
-chosen blank feed hash = cond blank Blank (cond feed LineFeed (cond hash Hash Word))
-
-chosen-Blank : (x y z : Bool) → chosen x y z ≡ Blank → x ≡ true
-chosen-Blank true y z e = refl
-chosen-Blank false true z e = cc
-chosen-Blank false false true e = cc
-chosen-Blank false false false e = cc
-
-chosen-LineFeed : (x y z : Bool) → chosen x y z ≡ LineFeed → y ≡ true
-chosen-LineFeed true y z e = cc
-chosen-LineFeed false true z e = refl
-chosen-LineFeed false false true e = cc
-chosen-LineFeed false false false e = cc
-
-chosen-Hash : (x y z : Bool) → chosen x y z ≡ Hash → z ≡ true
-chosen-Hash true y z e = cc
-chosen-Hash false true z e = cc
-chosen-Hash false false true e = refl
-chosen-Hash false false false e = cc
-
-chosen-Word : (x y z : Bool) → chosen x y z ≡ Word → (x || y || z) ≡ false
-chosen-Word true y z e = cc
-chosen-Word false true z e = cc
-chosen-Word false false true e = cc
-chosen-Word false false false e = refl
-
-chosen-other : (x y z : Bool) → chosen x y z ≢ Word → (x || y || z) ≡ true
-chosen-other true y z e = refl
-chosen-other false true z e = refl
-chosen-other false false true e = refl
-chosen-other false false false e = absurd (e refl)
-
-pub kind-Blank : (byte : ℕ) → kind_of byte ≡ Blank → is_blank byte ≡ true
-kind-Blank byte e = chosen-Blank (is_blank byte) (is_line_feed byte) (is_hash byte) e
-
-pub kind-not_Blank : (byte : ℕ) → kind_of byte ≢ Blank → is_blank byte ≡ false
-kind-not_Blank byte e = by_cases (is_blank byte) (is_line_feed byte) (is_hash byte) e
-  where
-    by_cases : (x y z : Bool) → chosen x y z ≢ Blank → x ≡ false
-    by_cases true y z e = absurd (e refl)
-    by_cases false y z e = refl
-
-pub kind-LineFeed : (byte : ℕ) → kind_of byte ≡ LineFeed → is_line_feed byte ≡ true
-kind-LineFeed byte e = chosen-LineFeed (is_blank byte) (is_line_feed byte) (is_hash byte) e
-
-pub kind-Hash : (byte : ℕ) → kind_of byte ≡ Hash → is_hash byte ≡ true
-kind-Hash byte e = chosen-Hash (is_blank byte) (is_line_feed byte) (is_hash byte) e
-
-pub kind-Word : (byte : ℕ) → kind_of byte ≡ Word → ends_word byte ≡ false
-kind-Word byte e = chosen-Word (is_blank byte) (is_line_feed byte) (is_hash byte) e
-
-pub kind-not_Word : (byte : ℕ) → kind_of byte ≢ Word → ends_word byte ≡ true
-kind-not_Word byte e = chosen-other (is_blank byte) (is_line_feed byte) (is_hash byte) e
+-- ---- bytes
 
 blank_is_no_feed : (byte : ℕ) → is_blank byte ≡ true → is_line_feed byte ≡ false
 blank_is_no_feed byte e = grind (arith, e)
@@ -98,17 +40,17 @@ hash_is_no_feed byte e = grind (arith, e)
 pub here : (bytes : List ℕ) → IsPast 0 bytes bytes
 here bytes = record { words = refl; behind = refl; shorter = omega arith }
 
-pub past_blank : (bytes rest : List ℕ) → 1 ≤ length rest → kind_of (get_or rest 0 0) ≡ Blank → IsPast 0 bytes rest → IsPast 0 bytes (after_head rest)
-past_blank bytes = by_head (λ first rest after. kind_of first ≡ Blank → IsPast 0 bytes rest → IsPast 0 bytes after) (λ byte rest is_kind so_far.
-    let blank = kind-Blank byte is_kind in
+pub past_blank : (bytes rest : List ℕ) → 1 ≤ length rest → is_blank (get_or rest 0 0) ≡ true → IsPast 0 bytes rest → IsPast 0 bytes (after_head rest)
+past_blank bytes = by_head (λ first rest after. is_blank first ≡ true → IsPast 0 bytes rest → IsPast 0 bytes after) (λ byte rest is_kind so_far.
+    let blank : is_blank byte ≡ true = is_kind in
     record {
       words = sym (words_here-blank byte rest blank) ∙ so_far.words;
       behind = sym (behind-other byte rest (blank_is_no_feed byte blank)) ∙ so_far.behind;
       shorter = omega (arith, so_far.shorter);
     })
 
-pub no_blank : (rest : List ℕ) → 1 ≤ length rest → kind_of (get_or rest 0 0) ≢ Blank → begins_with is_blank rest ≡ false
-no_blank = by_head (λ first rest after. kind_of first ≢ Blank → begins_with is_blank rest ≡ false) (λ byte rest is_kind. kind-not_Blank byte is_kind)
+pub no_blank : (rest : List ℕ) → 1 ≤ length rest → is_blank (get_or rest 0 0) ≡ false → begins_with is_blank rest ≡ false
+no_blank = by_head (λ first rest after. is_blank first ≡ false → begins_with is_blank rest ≡ false) (λ byte rest is_kind. is_kind)
 
 -- a byte that is no line feed
 pub on_in_line : (bytes rest : List ℕ) → 1 ≤ length rest → get_or rest 0 0 ≢ 10 → (behind rest ≡ behind bytes) × (length rest ≤ length bytes)
@@ -137,30 +79,36 @@ same_lines n rest after same_words same_behind = lines_from_here n rest ∙ rw (
 no_words : (n : ℕ) (rest : List ℕ) → words_here rest ≡ [] → lines_from n rest ≡ lines_from (n + 1) (behind rest)
 no_words n rest none = lines_from_here n rest ∙ rw none refl
 
-pub pass_blank : (n m : ℕ) (bytes rest : List ℕ) → 1 ≤ length rest → kind_of (get_or rest 0 0) ≡ Blank → SoFar n bytes m rest → SoFar n bytes m (after_head rest)
-pass_blank n m bytes = by_head (λ first rest after. kind_of first ≡ Blank → SoFar n bytes m rest → SoFar n bytes m after) (λ byte rest is_kind so_far.
-    let blank = kind-Blank byte is_kind in
+pub pass_blank : (n m : ℕ) (bytes rest : List ℕ) → 1 ≤ length rest → is_blank (get_or rest 0 0) ≡ true → SoFar n bytes m rest → SoFar n bytes m (after_head rest)
+pass_blank n m bytes = by_head (λ first rest after. is_blank first ≡ true → SoFar n bytes m rest → SoFar n bytes m after) (λ byte rest is_kind so_far.
+    let blank : is_blank byte ≡ true = is_kind in
     (so_far.0 ∙ same_lines m (byte ∷ rest) rest (words_here-blank byte rest blank) (behind-other byte rest (blank_is_no_feed byte blank)), omega (arith, so_far.1)))
 
-pub pass_line_feed : (n m : ℕ) (bytes rest : List ℕ) → 1 ≤ length rest → kind_of (get_or rest 0 0) ≡ LineFeed → SoFar n bytes m rest → SoFar n bytes (m + 1) (after_head rest)
-pass_line_feed n m bytes = by_head (λ first rest after. kind_of first ≡ LineFeed → SoFar n bytes m rest → SoFar n bytes (m + 1) after) (λ byte rest is_kind so_far.
-    let feed = kind-LineFeed byte is_kind in
+pub pass_line_feed : (n m : ℕ) (bytes rest : List ℕ) → 1 ≤ length rest → get_or rest 0 0 ≡ 10 → SoFar n bytes m rest → SoFar n bytes (m + 1) (after_head rest)
+pass_line_feed n m bytes = by_head (λ first rest after. first ≡ 10 → SoFar n bytes m rest → SoFar n bytes (m + 1) after) (λ byte rest is_kind so_far.
+    let feed = eq-eqb byte 10 is_kind in
     (so_far.0 ∙ no_words m (byte ∷ rest) (words_here-line_feed byte rest feed) ∙ ap (lines_from (m + 1)) (behind-line_feed byte rest feed), omega (arith, so_far.1)))
 
-pub pass_comment : (n m : ℕ) (bytes rest after : List ℕ) → 1 ≤ length rest → kind_of (get_or rest 0 0) ≡ Hash
+pub pass_comment : (n m : ℕ) (bytes rest after : List ℕ) → 1 ≤ length rest → get_or rest 0 0 ≡ 35
     → words_here after ≡ [] → behind after ≡ behind (after_head rest) → length after ≤ length (after_head rest)
     → SoFar n bytes m rest → SoFar n bytes m after
 pass_comment n m bytes rest after =
     by_head
-    (λ first rest tail. kind_of first ≡ Hash → words_here after ≡ [] → behind after ≡ behind tail → length after ≤ length tail → SoFar n bytes m rest → SoFar n bytes m after)
+    (λ first rest tail. first ≡ 35 → words_here after ≡ [] → behind after ≡ behind tail → length after ≤ length tail → SoFar n bytes m rest → SoFar n bytes m after)
     (λ byte tail is_kind none same shorter so_far.
-    let hash = kind-Hash byte is_kind in
+    let hash = eq-eqb byte 35 is_kind in
     (so_far.0 ∙ same_lines m (byte ∷ tail) after (words_here-hash byte tail hash ∙ sym none) (behind-other byte tail (hash_is_no_feed byte hash) ∙ sym same), omega (arith, so_far.1, shorter)))
     rest
 
-pub at_word : (n m : ℕ) (bytes rest : List ℕ) → 1 ≤ length rest → kind_of (get_or rest 0 0) ≡ Word → SoFar n bytes m rest → IsFirstWord n bytes m rest
-at_word n m bytes = by_head (λ first rest after. kind_of first ≡ Word → SoFar n bytes m rest → IsFirstWord n bytes m rest) (λ byte rest is_kind so_far.
-    record { lines = so_far.0; word = not_from_false (ends_word byte) (kind-Word byte is_kind); shorter = so_far.1 })
+pub at_word : (n m : ℕ) (bytes rest : List ℕ) → 1 ≤ length rest → is_blank (get_or rest 0 0) ≡ false → get_or rest 0 0 ≢ 10 → get_or rest 0 0 ≢ 35
+    → SoFar n bytes m rest → IsFirstWord n bytes m rest
+at_word n m bytes =
+    by_head (λ first rest after. is_blank first ≡ false → first ≢ 10 → first ≢ 35 → SoFar n bytes m rest → IsFirstWord n bytes m rest)
+    (λ byte rest no_blank no_feed no_hash so_far.
+    let feed : is_line_feed byte ≡ false = ne_eqb byte 10 no_feed in
+    let hash : is_hash byte ≡ false = ne_eqb byte 35 no_hash in
+    let ends : ends_word byte ≡ false = rw (no_blank, feed, hash) refl in
+    record { lines = so_far.0; word = not_from_false (ends_word byte) ends; shorter = so_far.1 })
 
 pub no_more : (n m : ℕ) (bytes rest : List ℕ) → length rest < 1 → SoFar n bytes m rest → lines_from n bytes ≡ []
 unfolding lines_from cut
@@ -260,6 +208,16 @@ one_digit bytes rest capped next =
     })
     rest
 
+-- a digit more, where it fits
+pub small_digit : (bytes rest : List ℕ) (capped : ℕ) → 1 ≤ length rest → is_digit (get_or rest 0 0) ≡ true → capped < (2 ^ 64 - 1) / 10
+    → ArePastDigits bytes capped rest → ArePastDigits bytes (capped * 10 + (get_or rest 0 0 - 48)) (after_head rest)
+small_digit bytes rest capped some digit small so_far =
+    let low : get_or rest 0 0 - 48 < 10 = grind (arith, digit) in
+    let first : min (capped * 10) (2 ^ 64 - 1) ≡ capped * 10 = min-eq_left (omega (arith, small)) in
+    let second : min (capped * 10 + (get_or rest 0 0 - 48)) (2 ^ 64 - 1) ≡ capped * 10 + (get_or rest 0 0 - 48) = min-eq_left (omega (arith, small, low)) in
+    one_digit bytes rest capped (capped * 10 + (get_or rest 0 0 - 48)) some digit
+    (sym (ap (λ n. min (n + (get_or rest 0 0 - 48)) (2 ^ 64 - 1)) first ∙ second)) so_far
+
 -- the digits at the front are a whole word
 record IsNaturalFirst (rest : List ℕ) (capped : ℕ) (after : List ℕ) : Type 0 where
   value : option_map (λ n. min n (2 ^ 64 - 1)) (next_natural (words_here rest)) ≡ Some capped
@@ -341,27 +299,6 @@ no_natural_here rest capped after h stop no_blank same =
     nothing (byte ∷ digits) after rest parts same = absurd (omega (arith, ap length parts, length-append digits after, same))
 
 -- ---- whole words
-
-length-from_first : (p : ℕ → Bool) (xs : List ℕ) → length xs - length (from_first p xs) ≡ position_or_len p xs
-length-from_first p xs = omega (arith, length-drop (position_or_len p xs) xs, prefix_len-le-length (λ x. not (p x)) xs)
-
--- the bytes of the first word, as they are taken
-pub word_taken : (bytes after : List ℕ) → after ≡ from_first ends_word bytes → take (length bytes - length after) bytes ≡ before_first ends_word bytes
-word_taken bytes after e = ap (λ t. take (length bytes - length t) bytes) e ∙ ap (λ n. take n bytes) (length-from_first ends_word bytes)
-
-pub in_word : (bytes rest : List ℕ) → 1 ≤ length rest → kind_of (get_or rest 0 0) ≡ Word → from_first ends_word rest ≡ from_first ends_word bytes → from_first ends_word (after_head rest) ≡ from_first ends_word bytes
-in_word bytes =
-    by_head (λ first rest after. kind_of first ≡ Word → from_first ends_word rest ≡ from_first ends_word bytes → from_first ends_word after ≡ from_first ends_word bytes)
-    (λ byte rest is_kind so_far. sym (from_first-no ends_word byte rest (kind-Word byte is_kind)) ∙ so_far)
-
-pub at_word_end : (bytes rest : List ℕ) → 1 ≤ length rest → kind_of (get_or rest 0 0) ≢ Word → from_first ends_word rest ≡ from_first ends_word bytes → rest ≡ from_first ends_word bytes
-at_word_end bytes =
-    by_head (λ first rest after. kind_of first ≢ Word → from_first ends_word rest ≡ from_first ends_word bytes → rest ≡ from_first ends_word bytes)
-    (λ byte rest is_kind so_far. sym (from_first-yes ends_word byte rest (kind-not_Word byte is_kind)) ∙ so_far)
-
-pub all_word : (bytes rest : List ℕ) → length rest < 1 → from_first ends_word rest ≡ from_first ends_word bytes → rest ≡ from_first ends_word bytes
-all_word bytes [] h so_far = so_far
-all_word bytes (byte ∷ rest) h so_far = absurd (omega (arith, h))
 
 behind-word : (rest : List ℕ) → behind (from_first ends_word rest) ≡ behind rest
 behind-word [] = refl

@@ -4,5 +4,4 @@ pub mod Lines
 pub mod Numbers
 pub mod Unread
 pub mod Steps
-pub mod Kinds
 pub mod Examples

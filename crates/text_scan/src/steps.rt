@@ -1,33 +1,24 @@
 //! Steps over the bytes of a text.
-ghost use Rattle.std.specs.Prelude.{◌≡◌, ◌+◌, ◌-◌, ◌^◌, ◌<◌, ◌≤◌, ◌==◌, min, not, true, false, [], IfSome, IfNone, IsTrue, is_some, MatchOption, option_map, length};
+ghost use Rattle.std.specs.Prelude.{◌≡◌, ℕ, List, ◌+◌, ◌-◌, ◌^◌, ◌<◌, ◌≤◌, ◌==◌, min, not, true, false, [], IfSome, IfNone, IsTrue, is_some, MatchOption, option_map, length};
 ghost use Rattle.text_scan.specs.Lines.{is_blank, cut, lines_from};
 ghost use Rattle.text_scan.specs.Numbers.{is_digit};
 ghost use Rattle.text_scan.specs.Unread.{words_here, behind, next_natural, next_is_number_text};
 ghost use Rattle.std.specs.List.{before_first};
-ghost use Rattle.text_scan.specs.Kinds.{kind_of};
 ghost use Rattle.text_scan.specs.Steps.{ends_word, from_first, begins_with, begins_word, IsPast, IsFirstWord, ArePastDigits, IsPastDecimal, IsLineEnd};
 
 use crate::naturals::{after_digits, after_sign, is_number_text};
 
-/// What a byte is in a text.
-#[derive(Clone, Copy, Debug, PartialEq, Eq)]
-enum Kind {
-    Blank,
-    LineFeed,
-    /// The beginning of a comment.
-    Hash,
-    Word,
+fn is_blank(byte: u8) -> bool
+    ensures { result ≡ is_blank byte }
+{
+    matches!(byte, b' ' | b'\t' | 0x0B | 0x0C | b'\r')
 }
 
-fn kind_of(byte: u8) -> Kind
-    ensures { result ≡ kind_of byte }
+/// Whether no word goes on at this byte.
+fn ends_word(byte: u8) -> bool
+    ensures { result ≡ ends_word byte }
 {
-    match byte {
-        b' ' | b'\t' | 0x0B | 0x0C | b'\r' => Kind::Blank,
-        b'\n' => Kind::LineFeed,
-        b'#' => Kind::Hash,
-        _ => Kind::Word,
-    }
+    matches!(byte, b' ' | b'\t'..=b'\r' | b'#')
 }
 
 /// The bytes from the first on that is no blank.
@@ -37,10 +28,10 @@ pub(crate) fn after_blanks(bytes: &[u8]) -> &[u8]
 {
     let mut rest = bytes;
     while let [byte, after @ ..] = rest {
-        match kind_of(*byte) {
-            Kind::Blank => rest = after,
-            _ => return rest,
+        if !is_blank(*byte) {
+            break;
         }
+        rest = after;
     }
     rest
 }
@@ -93,14 +84,15 @@ pub(crate) fn first_word(start: u64, bytes: &[u8]) -> Option<(u64, &[u8])>
     let mut line = start;
     let mut rest = bytes;
     while let [byte, after @ ..] = rest {
-        match kind_of(*byte) {
-            Kind::Blank => rest = after,
-            Kind::LineFeed => {
-                line += 1;
-                rest = after;
-            }
-            Kind::Hash => rest = after_line(after),
-            Kind::Word => return Some((line, rest)),
+        if is_blank(*byte) {
+            rest = after;
+        } else if *byte == b'\n' {
+            line += 1;
+            rest = after;
+        } else if *byte == b'#' {
+            rest = after_line(after);
+        } else {
+            return Some((line, rest));
         }
     }
     None
@@ -113,6 +105,27 @@ fn digits(bytes: &[u8]) -> (u64, &[u8])
     ensures stop { begins_with is_digit result.1.now ≡ false }
 {
     let mut value: u64 = 0;
+    let mut rest = bytes;
+    while let [byte, after @ ..] = rest {
+        if !byte.is_ascii_digit() {
+            break;
+        }
+        // One more digit would have to be looked at with care, which no number in use needs.
+        if value >= u64::MAX / 10 {
+            return more_digits(value, rest);
+        }
+        value = value * 10 + u64::from(byte - b'0');
+        rest = after;
+    }
+    (value, rest)
+}
+
+/// The same where the digits before have this value.
+fn more_digits(before: u64, bytes: &[u8]) -> (u64, &[u8])
+    ensures digits { (text : List ℕ) → ArePastDigits text before bytes.now → ArePastDigits text result.0 result.1.now }
+    ensures stop { begins_with is_digit result.1.now ≡ false }
+{
+    let mut value = before;
     let mut rest = bytes;
     while let [byte, after @ ..] = rest {
         if !byte.is_ascii_digit() {
@@ -131,7 +144,7 @@ pub(crate) fn begins_word(rest: &[u8]) -> bool
     ensures { result ≡ begins_word rest.now }
 {
     match rest {
-        [byte, ..] => matches!(kind_of(*byte), Kind::Word),
+        [byte, ..] => !ends_word(*byte),
         [] => false,
     }
 }
@@ -154,10 +167,10 @@ fn after_word(bytes: &[u8]) -> &[u8]
 {
     let mut rest = bytes;
     while let [byte, after @ ..] = rest {
-        match kind_of(*byte) {
-            Kind::Word => rest = after,
-            _ => return rest,
+        if ends_word(*byte) {
+            break;
         }
+        rest = after;
     }
     rest
 }
