@@ -1,10 +1,11 @@
 //! The files of the system as a shelf.
-ghost use Rattle.std.specs.Prelude.{◌≡◌, ◌≤◌, length, None, IfOk};
+ghost use Rattle.std.specs.Prelude.{◌≡◌, ◌≢◌, ◌≤◌, ◌↔◌, length, None, IfOk, IfErr, IsTrue, IsErrAnd};
+ghost use Rattle.std.specs.IoError.{error_kind};
 
 use crate::faults::Failed;
 use crate::shelf::Shelf;
 use std::alloc::Global;
-use std::io::Read;
+use std::io::{ErrorKind, Read};
 use std::rt::Files;
 use std::{fs, io};
 
@@ -21,6 +22,7 @@ struct OpenedFile<F> {
 
 /// The files of the system. A file is opened at the first read of its name, and stays open at the
 /// place that was read up to. A read at another place opens it anew and passes over what is before.
+/// A read that a signal interrupts is tried again.
 #[derive(Drop)]
 pub struct FileShelf<'a, R: Files> {
     rt: &'a R,
@@ -51,7 +53,7 @@ impl<'a, R: Files> FileShelf<'a, R> {
             Some(opened) => opened,
             None => self.open_at(name, at)?,
         };
-        let count = opened.file.read(into)?;
+        let count = read_again(&mut opened.file, into)?;
         opened.place = opened.place.saturating_add(count as u64);
         self.opened.push(opened)?;
         Ok(count)
@@ -107,11 +109,34 @@ fn pass_over<F: Read>(file: &mut F, count: u64) -> io::Result<()> {
     let mut left = count;
     while left > 0 {
         let room = left.min(SCRATCH as u64) as usize;
-        let passed = file.read(&mut scratch[..room])?;
+        let passed = read_again(file, &mut scratch[..room])?;
         if passed == 0 {
             break;
         }
         left -= passed as u64;
     }
     Ok(())
+}
+
+// Reads as often as a signal interrupts the read.
+fn read_again<F: Read>(file: &mut F, into: &mut [u8]) -> io::Result<usize>
+    ensures bound { IfOk result (λ n. n ≤ length into.new) }
+    ensures retried { IfErr result (λ e. error_kind e ≢ ErrorKind.Interrupted) }
+{
+    for _ in 0..u64::MAX {
+        let read = file.read(into);
+        if !is_interrupted(&read) {
+            return read;
+        }
+    }
+    Err(io::Error::from(ErrorKind::Other))
+}
+
+fn is_interrupted(read: &io::Result<usize>) -> bool
+    ensures { IsTrue result ↔ IsErrAnd read.now (λ e. error_kind e ≡ ErrorKind.Interrupted) }
+{
+    match read {
+        Ok(_) => false,
+        Err(error) => error.kind() == ErrorKind::Interrupted,
+    }
 }

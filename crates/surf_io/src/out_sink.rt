@@ -1,5 +1,5 @@
 //! Standard output as a sink.
-ghost use Rattle.std.specs.Prelude.{◌≡◌, ◌<◌, ◌≤◌, None, OnOk, OnErr};
+ghost use Rattle.std.specs.Prelude.{◌≡◌, ◌<◌, ◌≤◌, ◌↔◌, None, true, IsTrue, IsErr, OnOk, OnErr};
 ghost use Rattle.surf_io.specs.Faults.{Rose};
 ghost use Rattle.surf_io.specs.declared.out_sink.TheConstants.{ROOM};
 
@@ -10,12 +10,14 @@ use crate::sink::Sink;
 const ROOM: usize = 8_192;
 
 /// Standard output. Bytes are gathered and sent out many at once, and by a flush: without one at
-/// the end, the last of them are lost. What was gathered is lost too where sending it fails.
+/// the end, the last of them are lost. Where sending fails, bytes that were taken are lost; each
+/// write of a byte and each flush after it fails too, so that no flush settles what is not there.
 #[derive(Drop)]
 pub struct OutSink<'a, R: Print> {
     rt: &'a R,
     gathered: [u8; ROOM],
     count: usize,
+    lost: bool,
     faults: u64,
     ghost within: { count ≤ ROOM },
 }
@@ -29,25 +31,37 @@ impl<'a, R: Print> OutSink<'a, R> {
             rt,
             gathered: [0; ROOM],
             count: 0,
+            lost: false,
             faults: 0,
         }
     }
 
-    // Sends out what was gathered.
+    // Counts a fault, after which bytes are lost.
+    fn fail(&mut self) -> Failed
+        ensures lost { self.new.lost ≡ true }
+        ensures count { self.new.count ≡ self.old.count }
+        ensures counted { Rose self.old.faults self.new.faults }
+        ensures never_falls { self.old.faults ≤ self.new.faults }
+    {
+        self.lost = true;
+        self.faults = self.faults.saturating_add(1);
+        Failed
+    }
+
+    // Sends out what was gathered, unless bytes were lost before.
     fn send(&mut self) -> Result<(), Failed>
         ensures emptied { self.new.count ≡ 0 }
+        ensures lost { IsTrue self.new.lost ↔ IsErr result }
+        ensures stays_lost { IsTrue self.old.lost → IsErr result }
         ensures failed_only_on_fault { OnErr result (Rose self.old.faults self.new.faults) }
         ensures never_falls { self.old.faults ≤ self.new.faults }
     {
         let count = self.count;
         self.count = 0;
-        match self.rt.write_all(&self.gathered[..count]) {
-            Ok(()) => Ok(()),
-            Err(_) => {
-                self.faults = self.faults.saturating_add(1);
-                Err(Failed)
-            }
+        if self.lost || self.rt.write_all(&self.gathered[..count]).is_err() {
+            return Err(self.fail());
         }
+        Ok(())
     }
 
     // Sends out what was gathered where there is no room for more.
@@ -73,6 +87,9 @@ impl<R: Print> Sink for OutSink<'_, R> {
     fn write(&mut self, piece: &[u8]) -> Result<usize, Failed> {
         if piece.is_empty() {
             return Ok(0);
+        }
+        if self.lost {
+            return Err(self.fail());
         }
         self.make_room()?;
         let taken = piece.len().min(ROOM - self.count);

@@ -31,11 +31,11 @@ impl fmt::Display for ReadEnd {
 
 impl Error for ReadEnd {}
 
-/// The least room that a read is given, in bytes.
+/// The least room that a read is given, in bytes, unless the limit is near.
 const PIECE: usize = 65_536;
 
 /// Reads the file `name` from its first byte to its end. A file of more than `limit` bytes is too
-/// large.
+/// large. No more room is taken than for one byte past the limit.
 pub fn read_whole<S: Shelf>(
     alloc: Global,
     shelf: &mut S,
@@ -49,10 +49,11 @@ pub fn read_whole<S: Shelf>(
     ensures same_files { S.held shelf.new ≡ S.held shelf.old }
     ensures never_falls { S.faults shelf.old ≤ S.faults shelf.new }
 {
+    let most = limit.saturating_add(1) as usize;
     let mut bytes = Vec::new(alloc);
     let mut filled = 0;
     loop {
-        let Ok(()) = make_room(&mut bytes, filled) else {
+        let Ok(()) = make_room(&mut bytes, filled, most) else {
             return Err(ReadEnd::OutOfMemory);
         };
         let Ok(count) = shelf.read(name, filled as u64, &mut bytes[filled..]) else {
@@ -69,16 +70,21 @@ pub fn read_whole<S: Shelf>(
     }
 }
 
-// Makes room for a piece past the first `filled` bytes. The room doubles, so that a byte is moved
-// only a few times.
-fn make_room(bytes: &mut Vec<u8>, filled: usize) -> Result<(), AllocError>
-    requires { filled ≤ vec_len bytes.old }
-    ensures room { OnOk result (filled + PIECE ≤ vec_len bytes.new) }
+// Makes room past the first `filled` bytes: for a piece, or up to `most` bytes in all. The room
+// doubles, so that a byte is moved only a few times.
+fn make_room(bytes: &mut Vec<u8>, filled: usize, most: usize) -> Result<(), AllocError>
+    requires filled { filled ≤ vec_len bytes.old }
+    requires below { filled < most }
+    requires within { vec_len bytes.old ≤ most }
+    ensures room { OnOk result (filled < vec_len bytes.new) }
+    ensures within { OnOk result (vec_len bytes.new ≤ most) }
     ensures kept { OnOk result (take filled bytes.new.items ≡ take filled bytes.old.items) }
 {
-    if bytes.len() - filled < PIECE {
-        let grown = bytes.len().saturating_add(bytes.len().max(PIECE));
-        bytes.resize(grown, 0)?;
+    let len = bytes.len();
+    if len - filled < PIECE {
+        let wanted = len.saturating_add(len.max(PIECE)).min(most);
+        bytes.reserve_exact(wanted - len)?;
+        bytes.resize(wanted, 0)?;
     }
     Ok(())
 }

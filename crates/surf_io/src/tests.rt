@@ -1,5 +1,8 @@
 //! What no clause says: that calls succeed, and what the real files and the output do.
+mod fakes;
+
 use crate::*;
+use fakes::{FakeFiles, byte_at};
 use std::alloc::{AllocError, Global};
 use std::cell::{Cell, RefCell};
 use std::fmt::Display;
@@ -25,7 +28,8 @@ fn reads_a_long_file_up_to_the_limit(rt: HostRuntime) -> Result<(), Fail> {
     shelf.put(NAME, b"older")?;
     shelf.put(NAME, &bytes)?;
     shelf.put("other", b"")?;
-    assert!(rt; read_whole(rt.alloc(), &mut shelf, NAME, 200_000) == Ok(bytes));
+    let read = read_whole(rt.alloc(), &mut shelf, NAME, 200_000);
+    assert!(rt; read.is_ok_and(|whole| whole == bytes && whole.capacity() <= 200_001));
     assert!(rt; read_whole(rt.alloc(), &mut shelf, NAME, 199_999) == Err(ReadEnd::TooLarge));
     let empty = read_whole(rt.alloc(), &mut shelf, "other", 0);
     assert!(rt; empty == Ok(Vec::new(rt.alloc())));
@@ -117,6 +121,41 @@ fn reads_real_files(rt: HostRuntime) -> Result<(), Fail> {
     Ok(())
 }
 
+// Tells whether nine bytes read of a file are those from the place on.
+fn reads_nine<S: Shelf>(shelf: &mut S, name: &str, place: u64) -> bool {
+    let mut piece = [0; 9];
+    if shelf.read(name, place, &mut piece) != Ok(9) {
+        return false;
+    }
+    let mut at = place;
+    for byte in piece {
+        if byte != byte_at(name, at) {
+            return false;
+        }
+        at = at.saturating_add(1);
+    }
+    true
+}
+
+#[test]
+fn keeps_the_place_of_each_file(rt: HostRuntime) -> Result<(), Fail> {
+    let files = FakeFiles {
+        opens: Cell::new(0),
+    };
+    let mut shelf = FileShelf::new(&files, rt.alloc());
+    for place in [0, 9, 18] {
+        assert!(rt; reads_nine(&mut shelf, "a", place));
+        assert!(rt; reads_nine(&mut shelf, "b", place));
+    }
+    assert_eq!(rt; files.opens.get(), 2);
+    // Once more at one place: the file stands behind it.
+    assert!(rt; reads_nine(&mut shelf, "a", 18));
+    assert_eq!(rt; files.opens.get(), 3);
+    assert!(rt; reads_nine(&mut shelf, "b", 20_000));
+    assert_eq!(rt; files.opens.get(), 4);
+    Ok(())
+}
+
 // Keeps what is printed, and counts the calls. It fails while it is said to.
 #[derive(Drop)]
 struct Recorder {
@@ -167,6 +206,12 @@ fn gathers_small_pieces_for_the_output(rt: HostRuntime) -> Result<(), Fail> {
     recorder.fails.set(true);
     assert!(rt; write_whole(&mut sink, b"lost") == Ok(()));
     assert!(rt; sink.flush() == Err(Failed));
+    // Bytes are lost, so nothing is settled from then on.
+    recorder.fails.set(false);
+    assert!(rt; sink.write(b"later") == Err(Failed));
+    assert!(rt; sink.write(b"") == Ok(0));
+    assert!(rt; sink.flush() == Err(Failed));
+    assert_eq!(rt; recorder.calls.get(), 13);
     Ok(())
 }
 

@@ -15,10 +15,11 @@ loop-bytes-preserved g c =
     ap (take c.loop-bytes.filled) c.deref_mut.ensures.value ∙ c.in-Ok.ensures.kept in (
       within,
       omega arith,
+      c.in-Ok.ensures.within,
       told_more _ c.loop-bytes.bytes.items c.read.new.into _ _ _ bound
           (take-filled _ c.read.new.into _ _ _ _ _ started bound within ∙ ap (λ xs. xs ++ take c.in-Ok-read.count c.read.new.into) kept)
-          (rw c.loop-bytes.invariant.3 at c.in-Ok-read.ensures.file)
-          c.loop-bytes.invariant.2,
-      c.read.ensures.same_files ∙ c.loop-bytes.invariant.3,
-      omega (arith, c.loop-bytes.invariant.4, c.read.ensures.never_falls),
+          (rw c.loop-bytes.invariant.4 at c.in-Ok-read.ensures.file)
+          c.loop-bytes.invariant.3,
+      c.read.ensures.same_files ∙ c.loop-bytes.invariant.4,
+      omega (arith, c.loop-bytes.invariant.5, c.read.ensures.never_falls),
     )

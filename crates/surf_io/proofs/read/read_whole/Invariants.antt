@@ -7,6 +7,7 @@ abbrev pub invariant-loop-bytes : goal.invariant-loop-bytes
 invariant-loop-bytes g l =
     (l.filled ≤ vec_len l.bytes)
     × (l.filled ≤ l.limit)
+    × (vec_len l.bytes ≤ l.most)
     × IfSome (file_of (g.S.Shelf.held l.initial.shelf) l.name) (IsReadUpTo l.filled l.bytes.items)
     × (g.S.Shelf.held l.shelf ≡ g.S.Shelf.held l.initial.shelf)
     × (g.S.Shelf.faults l.initial.shelf ≤ g.S.Shelf.faults l.shelf)
