@@ -1,0 +1,67 @@
+-- The first condition of a closed surface that fails, with its least element.
+use Rattle.std.specs.Prelude.{◌≡◌, ◌≢◌, ℕ, ◌<◌, length, IsTrue}
+use Rattle.surf_model.specs.FaceLists.{FaceList, is_edge, is_used}
+use Rattle.surf_model.specs.Edges.{IsPairBefore}
+use Rattle.surf_model.specs.Surfaces.{sides_between, EachEdgeHasTwoSides, HasOneRing, AreJoinedByWalk}
+use Rattle.manifold_check.specs.declared.fault.SurfaceFault.{SurfaceFault}
+use Rattle.manifold_check.specs.declared.fault.SurfaceFault.TheVariants.{NoFace, EdgeSides, Pinched, Apart, OutOfMemory}
+
+-- at each used vertex the corners make one ring
+abbrev pub EachVertexHasOneRing : FaceList → Type 0
+EachVertexHasOneRing mesh = (v : ℕ) → IsTrue (is_used mesh v) → HasOneRing mesh v
+
+-- any two used vertices are joined by a walk
+abbrev pub EachTwoAreJoined : FaceList → Type 0
+EachTwoAreJoined mesh = (u v : ℕ) → IsTrue (is_used mesh u) → IsTrue (is_used mesh v) → AreJoinedByWalk mesh u v
+
+-- the least edge, by its lower and then by its higher vertex, that is not the edge of exactly two sides, with their number
+pub record IsLeastUnevenEdge (mesh : FaceList) (low high sides : ℕ) : Type 0 where
+  pub ordered : low < high
+  pub edge : IsTrue (is_edge mesh low high)
+  pub number : sides ≡ sides_between mesh low high
+  pub uneven : sides ≢ 2
+  pub least : (a b : ℕ) → a < b → IsTrue (is_edge mesh a b) → IsPairBefore a b low high → sides_between mesh a b ≡ 2
+
+-- the least used vertex whose corners do not make one ring
+pub record IsLeastPinch (mesh : FaceList) (v : ℕ) : Type 0 where
+  pub used : IsTrue (is_used mesh v)
+  pub pinched : HasOneRing mesh v → ⊥
+  pub least : (w : ℕ) → w < v → IsTrue (is_used mesh w) → HasOneRing mesh w
+
+-- the least used vertex
+pub record IsLeastUsed (mesh : FaceList) (v : ℕ) : Type 0 where
+  pub used : IsTrue (is_used mesh v)
+  pub least : (w : ℕ) → w < v → IsTrue (is_used mesh w) → ⊥
+
+-- the least used vertex, and the least used vertex that no walk joins to it
+pub record AreLeastApart (mesh : FaceList) (u v : ℕ) : Type 0 where
+  pub vertex : IsLeastUsed mesh u
+  pub used : IsTrue (is_used mesh v)
+  pub apart : AreJoinedByWalk mesh u v → ⊥
+  pub least : (w : ℕ) → w < v → IsTrue (is_used mesh w) → AreJoinedByWalk mesh u w
+
+-- an edge is at fault, where there is a face
+pub record IsEdgeFault (mesh : FaceList) (low high sides : ℕ) : Type 0 where
+  pub some_face : 0 < length mesh.faces
+  pub edge : IsLeastUnevenEdge mesh low high sides
+
+-- a vertex is pinched, where each edge has two sides
+pub record IsPinchFault (mesh : FaceList) (v : ℕ) : Type 0 where
+  pub some_face : 0 < length mesh.faces
+  pub two_sides : EachEdgeHasTwoSides mesh
+  pub vertex : IsLeastPinch mesh v
+
+-- two vertices are apart, where each vertex has one ring too
+pub record IsApartFault (mesh : FaceList) (u v : ℕ) : Type 0 where
+  pub some_face : 0 < length mesh.faces
+  pub two_sides : EachEdgeHasTwoSides mesh
+  pub one_ring : EachVertexHasOneRing mesh
+  pub vertices : AreLeastApart mesh u v
+
+-- the condition of the fault is the first that fails, and its element is the least; want of memory is no fault of the mesh
+abbrev pub IsFirstFault : FaceList → SurfaceFault → Type 0
+IsFirstFault mesh NoFace = length mesh.faces ≡ 0
+IsFirstFault mesh (EdgeSides low high sides) = IsEdgeFault mesh low.0 high.0 sides
+IsFirstFault mesh (Pinched vertex) = IsPinchFault mesh vertex.0
+IsFirstFault mesh (Apart vertex other) = IsApartFault mesh vertex.0 other.0
+IsFirstFault mesh OutOfMemory = ⊥
