@@ -1,0 +1,10 @@
+pub mod OrbitLemmas
+pub mod CornerLemmas
+pub mod NumberLemmas
+pub mod DartLemmas
+pub mod ListLemmas
+pub mod TwinLemmas
+pub mod VertexLemmas
+pub mod EdgeLemmas
+pub mod WalkLemmas
+pub mod SystemLemmas

@@ -1,0 +1,184 @@
+-- The two darts of an edge.
+use Rattle.std.proofs.Common.{◌≡◌, ◌≢◌, ◌⊎◌, inl, inr, ℕ, ◌+◌, ◌<◌, Bool, true, false, not, cond, eqb, ◌&&◌, length, get_or, refl, ap, sym, ◌∙◌, subst, arith}
+use Rattle.std.specs.Prelude.{unwrap_or}
+use Rattle.std.proofs.lemmas.Bool.{cases_Bool, cond-true, cond-false, both_ways, and_parts, and_from, eqb-true, eq-eqb}
+use Rattle.std.proofs.lemmas.Bool.Decides.{nat_tests}
+use Rattle.std.proofs.lemmas.List.{get_or_default}
+use Rattle.std.proofs.lemmas.List.Folds.{list_any_at}
+use Rattle.surf_model.specs.FaceLists.{FaceList, FaceSide, IsFaceList, IsFace, face_at, all_sides, next_corner, joins, is_edge}
+use Rattle.surf_model.specs.Surfaces.{is_flipped, AreOfOneEdge, ArePartners, RunOppositely, start_under, end_under}
+use Rattle.surf_model.specs.Darts.{first_side}
+use Rattle.surf_model.specs.declared.edges.Side.{Side}
+use Rattle.surf_model.proofs.NumberLemmas.{face_side, length-all_sides}
+use Rattle.halfedge_map.specs.OrientedMeshes.{OrientedMesh, IsOrientedSurface}
+use Rattle.halfedge_map.specs.DartMaps.{darts_of, side_of, origin_of, target_of, twin_of}
+use Rattle.halfedge_map.proofs.NumberLemmas.{IsNumberOf, HasPlace, placed}
+use Rattle.halfedge_map.proofs.ListLemmas.{IsFirstBelow, first_passes, HasOther, other_left}
+use Rattle.halfedge_map.proofs.DartLemmas.{side_at}
+
+-- the test of joining, read
+abbrev pub Joins : ℕ → ℕ → FaceSide → Type 0
+Joins u v side = ((side.tail ≡ u) × (side.head ≡ v)) ⊎ ((side.tail ≡ v) × (side.head ≡ u))
+
+pub joins_read : (u v : ℕ) (side : FaceSide) → joins u v side ≡ true → Joins u v side
+joins_read u v side h = grind (arith, nat_tests)
+
+pub joins_from : (u v : ℕ) (side : FaceSide) → Joins u v side → joins u v side ≡ true
+joins_from u v side h = grind (arith, nat_tests)
+
+pub joins_own : (side : FaceSide) → joins side.tail side.head side ≡ true
+joins_own side = joins_from side.tail side.head side (inl (refl, refl))
+
+-- sides that join the same two vertices
+pub joins_back : (a b : FaceSide) → joins a.tail a.head b ≡ true → joins b.tail b.head a ≡ true
+joins_back a b h =
+    elim (joins_read a.tail a.head b h) [
+      | inl same ↦ joins_from b.tail b.head a (inl (sym same.0, sym same.1))
+      | inr turned ↦ joins_from b.tail b.head a (inr (sym turned.1, sym turned.0))
+    ]
+
+pub joins_both : (u v : ℕ) (a b : FaceSide) → joins u v a ≡ true → joins u v b ≡ true → joins a.tail a.head b ≡ true
+joins_both u v a b h k =
+    elim (joins_read u v a h) [
+      | inl x ↦ elim (joins_read u v b k) [
+        | inl y ↦ joins_from a.tail a.head b (inl (y.0 ∙ sym x.0, y.1 ∙ sym x.1))
+        | inr y ↦ joins_from a.tail a.head b (inr (y.0 ∙ sym x.1, y.1 ∙ sym x.0))
+      ]
+      | inr x ↦ elim (joins_read u v b k) [
+        | inl y ↦ joins_from a.tail a.head b (inr (y.0 ∙ sym x.1, y.1 ∙ sym x.0))
+        | inr y ↦ joins_from a.tail a.head b (inl (y.0 ∙ sym x.0, y.1 ∙ sym x.1))
+      ]
+    ]
+
+-- whether two darts join the same two vertices
+unfoldable pub along : OrientedMesh → ℕ → ℕ → Bool
+along s d e = joins (side_of s d).tail (side_of s d).head (side_of s e)
+
+pub side_is : (s : OrientedMesh) (d : ℕ) (x : FaceSide) → d < darts_of s → get_or (all_sides s.mesh) d x ≡ side_of s d
+unfolding side_of
+side_is s d x l = get_or_default (all_sides s.mesh) d x _ (omega (arith, l, length-all_sides s.mesh))
+
+-- the other dart of the edge of d, the only one
+pub record IsTwin (s : OrientedMesh) (d e : ℕ) : Type 0 where
+  pub within : e < darts_of s
+  pub other : e ≢ d
+  pub joined : along s d e ≡ true
+  pub only : (k : ℕ) → k < darts_of s → along s d k ≡ true → k ≢ d → k ≡ e
+
+pub two_darts : (s : OrientedMesh) → IsOrientedSurface s → (d : ℕ) → d < darts_of s → IsTwin s d (twin_of s d)
+unfolding along twin_of is_edge
+two_darts s h d l =
+    let side : FaceSide = side_of s d in
+    let p : FaceSide → Bool = joins side.tail side.head in
+    let long : length (all_sides s.mesh) ≡ darts_of s = length-all_sides s.mesh in
+    let here : p (get_or (all_sides s.mesh) d side) ≡ true = ap p (side_is s d side l) ∙ joins_own side in
+    let edge : is_edge s.mesh side.tail side.head ≡ true = list_any_at p (all_sides s.mesh) d side (omega (arith, l, long)) here in
+    let other : HasOther p (all_sides s.mesh) side d = other_left p (all_sides s.mesh) side d (h.closed.two_sides side.tail side.head edge) (omega (arith, l, long)) here in
+    let o : ℕ = other.place in
+    let o_in : o < darts_of s = omega (arith, other.within, long) in
+    let test : ℕ → Bool = λ k. not (eqb k d) && p (side_of s k) in
+    let o_passes : test o ≡ true =
+    and_from (not (eqb o d)) (p (side_of s o)) (let ne : o ≢ d = other.other in grind (arith, nat_tests)) (ap p (sym (side_is s o side o_in)) ∙ other.passes) in
+    let found : IsFirstBelow test (darts_of s) = first_passes test (darts_of s) o o_in o_passes in
+    let t : ℕ = found.number in
+    let is : twin_of s d ≡ t = ap (λ r. unwrap_or r d) found.is in
+    let parts = and_parts (not (eqb t d)) (p (side_of s t)) found.passes in
+    let ne : t ≢ d = λ e. both_ways (eqb t d) (let f : not (eqb t d) ≡ true = parts.0 in grind (arith, nat_tests)) (eq-eqb t d e) in
+    let only : (k : ℕ) → k < darts_of s → p (side_of s k) ≡ true → k ≢ d → k ≡ o =
+    λ k k_in passes k_ne. other.only k (omega (arith, k_in, long)) (ap p (side_is s k side k_in) ∙ passes) k_ne in
+    subst (IsTwin s d) (sym is) (record {
+      within = found.within;
+      other = ne;
+      joined = parts.1;
+      only = λ k k_in passes k_ne. only k k_in passes k_ne ∙ sym (only t found.within parts.1 ne);
+    })
+
+pub twin_within : (s : OrientedMesh) → IsOrientedSurface s → (d : ℕ) → d < darts_of s → twin_of s d < darts_of s
+twin_within s h d l = (two_darts s h d l).within
+
+pub twin_other : (s : OrientedMesh) → IsOrientedSurface s → (d : ℕ) → d < darts_of s → twin_of s d ≢ d
+twin_other s h d l = (two_darts s h d l).other
+
+pub twin_along : (s : OrientedMesh) → IsOrientedSurface s → (d : ℕ) → d < darts_of s → along s (twin_of s d) d ≡ true
+unfolding along
+twin_along s h d l = joins_back (side_of s d) (side_of s (twin_of s d)) (two_darts s h d l).joined
+
+pub twin-twin : (s : OrientedMesh) → IsOrientedSurface s → (d : ℕ) → d < darts_of s → twin_of s (twin_of s d) ≡ d
+twin-twin s h d l =
+    let t : IsTwin s d (twin_of s d) = two_darts s h d l in
+    sym ((two_darts s h (twin_of s d) t.within).only d l (twin_along s h d l) (λ e. t.other (sym e)))
+
+-- a dart along the edge of d is d or its twin
+pub along_edge : (s : OrientedMesh) → IsOrientedSurface s → (d e : ℕ) → d < darts_of s → e < darts_of s → along s d e ≡ true → (e ≡ d) ⊎ (e ≡ twin_of s d)
+along_edge s h d e l k same =
+    elim (cases_Bool (eqb e d)) [
+      | inl is ↦ inl (eqb-true e d is)
+      | inr not_d ↦ inr ((two_darts s h d l).only e k same (λ is. both_ways (eqb e d) not_d (eq-eqb e d is)))
+    ]
+
+-- the name of a side, by its face and place
+pub named : ℕ → ℕ → Side
+named f t = record { face = record { 0 = f }; at = t }
+
+-- the two darts of an edge are partners
+partners : (s : OrientedMesh) → IsOrientedSurface s → (d f t g u : ℕ) → d < darts_of s → IsNumberOf s.mesh f t d → IsNumberOf s.mesh g u (twin_of s d)
+    → ArePartners s.mesh (named f t) (named g u)
+unfolding along named
+partners s h d f t g u l p q =
+    let twin : IsTwin s d (twin_of s d) = two_darts s h d l in
+    record {
+      first = record { face = p.face; place = p.place };
+      second = record { face = q.face; place = q.place };
+      different = λ e.
+          let faces : f ≡ g = ap (λ (x : Side). x.face.0) e in
+          let places : t ≡ u = ap (λ (x : Side). x.at) e in
+          twin.other (sym q.is ∙ ap (λ x. first_side s.mesh x + u) (sym faces) ∙ ap (λ x. first_side s.mesh f + x) (sym places) ∙ p.is);
+      one_edge =
+          elim (joins_read (side_of s d).tail (side_of s d).head (side_of s (twin_of s d)) twin.joined) [
+            | inl same ↦ inl (
+              ap (λ (x : FaceSide). x.tail) (sym (side_at s f t d p)) ∙ sym same.0 ∙ ap (λ (x : FaceSide). x.tail) (side_at s g u (twin_of s d) q),
+              ap (λ (x : FaceSide). x.head) (sym (side_at s f t d p)) ∙ sym same.1 ∙ ap (λ (x : FaceSide). x.head) (side_at s g u (twin_of s d) q),
+            )
+            | inr turned ↦ inr (
+              ap (λ (x : FaceSide). x.tail) (sym (side_at s f t d p)) ∙ sym turned.1 ∙ ap (λ (x : FaceSide). x.head) (side_at s g u (twin_of s d) q),
+              ap (λ (x : FaceSide). x.head) (sym (side_at s f t d p)) ∙ sym turned.0 ∙ ap (λ (x : FaceSide). x.tail) (side_at s g u (twin_of s d) q),
+            )
+          ];
+    }
+
+-- where the dart of a side starts and ends is where the side does under the signs
+pub origin_under : (s : OrientedMesh) (f t d : ℕ) → IsNumberOf s.mesh f t d → origin_of s d ≡ start_under s.mesh s.signs (named f t)
+unfolding origin_of named
+origin_under s f t d p = ap (λ (x : FaceSide). cond (is_flipped s.signs x.face) x.head x.tail) (side_at s f t d p)
+
+pub target_under : (s : OrientedMesh) (f t d : ℕ) → IsNumberOf s.mesh f t d → target_of s d ≡ end_under s.mesh s.signs (named f t)
+unfolding target_of named
+target_under s f t d p = ap (λ (x : FaceSide). cond (is_flipped s.signs x.face) x.tail x.head) (side_at s f t d p)
+
+-- twins run oppositely
+pub origin-twin : (s : OrientedMesh) → IsOrientedSurface s → (d : ℕ) → d < darts_of s → origin_of s (twin_of s d) ≡ target_of s d
+origin-twin s h d l =
+    let p : HasPlace s.mesh d = placed s.mesh d l in
+    let q : HasPlace s.mesh (twin_of s d) = placed s.mesh (twin_of s d) (twin_within s h d l) in
+    let opposite : RunOppositely s.mesh s.signs (named p.face p.place) (named q.face q.place) =
+    h.coherent.opposite (named p.face p.place) (named q.face q.place) (partners s h d p.face p.place q.face q.place l p.numbered q.numbered) in
+    origin_under s q.face q.place (twin_of s d) q.numbered ∙ sym opposite.ends ∙ sym (target_under s p.face p.place d p.numbered)
+
+pub target-twin : (s : OrientedMesh) → IsOrientedSurface s → (d : ℕ) → d < darts_of s → target_of s (twin_of s d) ≡ origin_of s d
+target-twin s h d l = sym (origin-twin s h (twin_of s d) (twin_within s h d l)) ∙ ap (origin_of s) (twin-twin s h d l)
+
+-- a dart joins two different vertices
+ends_differ : (flipped : Bool) (a b : ℕ) → a ≢ b → cond flipped b a ≢ cond flipped a b
+ends_differ true a b ne = λ e. ne (sym e)
+ends_differ false a b ne = ne
+
+pub no_loop : (s : OrientedMesh) → IsOrientedSurface s → (d : ℕ) → d < darts_of s → target_of s d ≢ origin_of s d
+unfolding origin_of target_of
+no_loop s h d l =
+    let p : HasPlace s.mesh d = placed s.mesh d l in
+    let ring = face_at s.mesh p.face in
+    let is_face : IsFace s.mesh.count ring = h.faces.faces p.face _ p.numbered.face in
+    let ne : get_or ring p.place 0 ≢ get_or ring (next_corner true (length ring) p.place) 0 = is_face.neighbours p.place p.numbered.place in
+    let side : side_of s d ≡ face_side p.face ring p.place = side_at s p.face p.place d p.numbered in
+    λ e. ends_differ (is_flipped s.signs p.face) (get_or ring p.place 0) (get_or ring (next_corner true (length ring) p.place) 0) ne
+    (sym (ap (λ (x : FaceSide). cond (is_flipped s.signs x.face) x.head x.tail) side) ∙ sym e ∙ ap (λ (x : FaceSide). cond (is_flipped s.signs x.face) x.tail x.head) side)

@@ -1,0 +1,4 @@
+pub mod Orbits
+pub mod OrientedMeshes
+pub mod DartMaps
+pub mod RotationSystems

@@ -1,0 +1,2 @@
+//! The half-edge map of a surface.
+#![tactic(auto)]
