@@ -7,7 +7,7 @@ use Rattle.surf_model.specs.Surfaces.{is_flipped, start_under, end_under}
 use Rattle.surf_model.specs.declared.edges.Side.{Side}
 use Rattle.surf_model.proofs.NumberLemmas.{face_side}
 use Rattle.halfedge_map.specs.OrientedMeshes.{OrientedMesh}
-use Rattle.halfedge_map.specs.DartMaps.{darts_of, side_of, face_of, origin_of, target_of, next_of, start_corner_of, end_corner_of, dart_at_corner}
+use Rattle.halfedge_map.specs.DartMaps.{darts_of, side_of, face_of, origin_of, target_of, next_of, start_corner_of, end_corner_of, dart_at_corner, StartsAtCorner, IsDartOfSide}
 use Rattle.halfedge_map.specs.Orbits.{after_steps, IsReached}
 use Rattle.halfedge_map.proofs.OrbitLemmas.{IsPermutationBelow}
 use Rattle.halfedge_map.proofs.CornerLemmas.{corner_within, corner_back, corners_permuted, corner_reached}
@@ -198,24 +198,21 @@ origin-next s d l =
     ∙ ap (vertex_at s p.face) (corner-next s d l) ∙ sym (target_at s p.face p.place d p.numbered)
 
 -- the dart that starts at a corner
-pub record IsDartAtCorner (s : OrientedMesh) (f corner : ℕ) : Type 0 where
-  pub within : dart_at_corner s f corner < darts_of s
-  pub face : face_of s (dart_at_corner s f corner) ≡ f
-  pub starts : start_corner_of s (dart_at_corner s f corner) ≡ corner
-
 corner_numbered : (s : OrientedMesh) (f c : ℕ) → f < length s.mesh.faces → c < corners s f
     → IsNumberOf s.mesh f (place_at (is_flipped s.signs f) (corners s f) c) (dart_at_corner s f c)
 unfolding dart_at_corner place_at
 corner_numbered s f c l k = record { face = l; place = place_within (is_flipped s.signs f) (corners s f) c k; is = refl }
 
-pub dart_starts : (s : OrientedMesh) (f c : ℕ) → f < length s.mesh.faces → c < corners s f → IsDartAtCorner s f c
+pub dart_starts : (s : OrientedMesh) (f c : ℕ) → f < length s.mesh.faces → c < corners s f → StartsAtCorner s f c (dart_at_corner s f c)
 dart_starts s f c l k =
     let h = corner_numbered s f c l k in
     let t : ℕ = place_at (is_flipped s.signs f) (corners s f) c in
+    let starts : start_corner_of s (dart_at_corner s f c) ≡ c = start_at s f t (dart_at_corner s f c) h ∙ place_starts (is_flipped s.signs f) (corners s f) c k in
     record {
       within = number_below s.mesh f t (dart_at_corner s f c) h;
       face = face_at_number s f t (dart_at_corner s f c) h;
-      starts = start_at s f t (dart_at_corner s f c) h ∙ place_starts (is_flipped s.signs f) (corners s f) c k;
+      starts = starts;
+      origin = origin_at s f t (dart_at_corner s f c) h ∙ ap (vertex_at s f) starts;
     }
 
 pub corner_of_start : (s : OrientedMesh) (f t d : ℕ) → IsNumberOf s.mesh f t d → dart_at_corner s f (start_corner_of s d) ≡ d
@@ -229,6 +226,41 @@ unfolding dart_at_corner place_at
 corner_of_end s f t d h =
     ap (dart_at_corner s f) (end_at s f t d h)
     ∙ ap (λ u. first_side s.mesh f + u) (end_is_place (is_flipped s.signs f) (corners s f) t h.place) ∙ sym (next_at s f t d h)
+
+-- the number of a side is that of its dart
+pub numbered : (s : OrientedMesh) (side : Side) → IsSide s.mesh side → IsNumberOf s.mesh side.face.0 side.at (side_number s.mesh side)
+numbered s side h = record { face = h.face; place = h.place; is = refl }
+
+pub origin_under : (s : OrientedMesh) (side : Side) → IsSide s.mesh side → origin_of s (side_number s.mesh side) ≡ start_under s.mesh s.signs side
+unfolding origin_of
+origin_under s side h = ap (λ (x : FaceSide). cond (is_flipped s.signs x.face) x.head x.tail) (side_at s side.face.0 side.at (side_number s.mesh side) (numbered s side h))
+
+pub target_under : (s : OrientedMesh) (side : Side) → IsSide s.mesh side → target_of s (side_number s.mesh side) ≡ end_under s.mesh s.signs side
+unfolding target_of
+target_under s side h = ap (λ (x : FaceSide). cond (is_flipped s.signs x.face) x.tail x.head) (side_at s side.face.0 side.at (side_number s.mesh side) (numbered s side h))
+
+-- one place on in a kept face, one place back in a flipped one
+turned_place : (flipped : Bool) (first m t d after : ℕ) → t < m → first + t ≡ d → after ≡ first + next_corner (not flipped) m (next_corner true m t) → flipped ≡ true → after ≡ d
+turned_place true first m t d after l is e flips = e ∙ ap (λ u. first + u) (corner_back true m t l) ∙ is
+turned_place false first m t d after l is e flips = cc
+
+pub dart_of_side : (s : OrientedMesh) (side : Side) → IsSide s.mesh side → IsDartOfSide s side (side_number s.mesh side)
+dart_of_side s side h =
+    let f : ℕ = side.face.0 in
+    let m : ℕ = corners s f in
+    let n : IsNumberOf s.mesh f side.at (side_number s.mesh side) = numbered s side h in
+    let after : IsNumberOf s.mesh f (next_corner true m side.at) (side_number s.mesh (side_after s.mesh side)) =
+    record { face = h.face; place = corner_within true m side.at h.place; is = refl } in
+    record {
+      within = number_below s.mesh f side.at (side_number s.mesh side) n;
+      face = face_at_number s f side.at (side_number s.mesh side) n;
+      origin = origin_under s side h;
+      target = target_under s side h;
+      kept = λ kept. next_at s f side.at (side_number s.mesh side) n ∙ ap (λ b. first_side s.mesh f + next_corner (not b) m side.at) kept;
+      flipped = turned_place (is_flipped s.signs f) (first_side s.mesh f) m side.at (side_number s.mesh side)
+          (next_of s (side_number s.mesh (side_after s.mesh side))) h.place refl
+          (next_at s f (next_corner true m side.at) (side_number s.mesh (side_after s.mesh side)) after);
+    }
 
 -- the two corners of a dart, in a kept and in a flipped face
 pub start_kept : (s : OrientedMesh) (f t d : ℕ) → IsNumberOf s.mesh f t d → is_flipped s.signs f ≡ false → start_corner_of s d ≡ t

@@ -6,7 +6,8 @@ use Rattle.std.proofs.lemmas.Bool.{cases_lt}
 use Rattle.std.proofs.lemmas.List.{get_or_append_left, get_or-append-add}
 use Rattle.std.proofs.lemmas.List.Sums.{sum_by-cons}
 use Rattle.surf_model.specs.FaceLists.{FaceList, FaceSide, face_at, all_sides, sides_of_face, total_sides, next_corner}
-use Rattle.surf_model.specs.Darts.{first_side}
+use Rattle.surf_model.specs.Darts.{first_side, IsSide, side_number}
+use Rattle.surf_model.specs.declared.edges.Side.{Side}
 use Rattle.surf_model.proofs.NumberLemmas.{face_side, length-sides_of_face, get_or-sides_of_face, length-all_sides}
 
 -- the sides of faces that are numbered from n on
@@ -75,3 +76,18 @@ pub placed : (mesh : FaceList) (number : ℕ) → number < total_sides mesh → 
 placed mesh number l =
     let h = place_of mesh.faces number l in
     record { face = h.0; place = h.1; numbered = record { face = h.2; place = h.3; is = h.4 } }
+
+-- the side that has a number
+pub record HasSide (mesh : FaceList) (n : ℕ) : Type 0 where
+  pub side : Side
+  pub in_mesh : IsSide mesh side
+  pub number : side_number mesh side ≡ n
+
+pub side_with_number : (mesh : FaceList) (number : ℕ) → number < total_sides mesh → HasSide mesh number
+side_with_number mesh number l =
+    let p : HasPlace mesh number = placed mesh number l in
+    record {
+      side = record { face = record { 0 = p.face }; at = p.place };
+      in_mesh = record { face = p.numbered.face; place = p.numbered.place };
+      number = p.numbered.is;
+    }

@@ -7,14 +7,14 @@ use Rattle.std.proofs.lemmas.List.{get_or_default}
 use Rattle.std.proofs.lemmas.List.Folds.{list_any_at}
 use Rattle.surf_model.specs.FaceLists.{FaceList, FaceSide, IsFaceList, IsFace, face_at, all_sides, next_corner, joins, is_edge}
 use Rattle.surf_model.specs.Surfaces.{is_flipped, AreOfOneEdge, ArePartners, RunOppositely, start_under, end_under}
-use Rattle.surf_model.specs.Darts.{first_side}
+use Rattle.surf_model.specs.Darts.{IsSide, side_number}
 use Rattle.surf_model.specs.declared.edges.Side.{Side}
 use Rattle.surf_model.proofs.NumberLemmas.{face_side, length-all_sides}
 use Rattle.halfedge_map.specs.OrientedMeshes.{OrientedMesh, IsOrientedSurface}
 use Rattle.halfedge_map.specs.DartMaps.{darts_of, side_of, origin_of, target_of, twin_of}
-use Rattle.halfedge_map.proofs.NumberLemmas.{IsNumberOf, HasPlace, placed}
+use Rattle.halfedge_map.proofs.NumberLemmas.{IsNumberOf, HasPlace, placed, number_below, HasSide, side_with_number}
 use Rattle.halfedge_map.proofs.ListLemmas.{IsFirstBelow, first_passes, HasOther, other_left}
-use Rattle.halfedge_map.proofs.DartLemmas.{side_at}
+use Rattle.halfedge_map.proofs.DartLemmas.{side_at, numbered, origin_under, target_under}
 
 -- the test of joining, read
 abbrev pub Joins : ℕ → ℕ → FaceSide → Type 0
@@ -116,53 +116,38 @@ along_edge s h d e l k same =
       | inr not_d ↦ inr ((two_darts s h d l).only e k same (λ is. both_ways (eqb e d) not_d (eq-eqb e d is)))
     ]
 
--- the name of a side, by its face and place
-pub named : ℕ → ℕ → Side
-named f t = record { face = record { 0 = f }; at = t }
-
--- the two darts of an edge are partners
-partners : (s : OrientedMesh) → IsOrientedSurface s → (d f t g u : ℕ) → d < darts_of s → IsNumberOf s.mesh f t d → IsNumberOf s.mesh g u (twin_of s d)
-    → ArePartners s.mesh (named f t) (named g u)
-unfolding along named
-partners s h d f t g u l p q =
-    let twin : IsTwin s d (twin_of s d) = two_darts s h d l in
+-- the sides of twins are partners
+partners : (s : OrientedMesh) → IsOrientedSurface s → (side other : Side) → IsSide s.mesh side → IsSide s.mesh other
+    → side_number s.mesh other ≡ twin_of s (side_number s.mesh side) → ArePartners s.mesh side other
+unfolding along
+partners s h side other in_mesh also is =
+    let d : ℕ = side_number s.mesh side in
+    let p : IsNumberOf s.mesh side.face.0 side.at d = numbered s side in_mesh in
+    let q : IsNumberOf s.mesh other.face.0 other.at (twin_of s d) = subst (IsNumberOf s.mesh other.face.0 other.at) is (numbered s other also) in
+    let twin : IsTwin s d (twin_of s d) = two_darts s h d (number_below s.mesh side.face.0 side.at d p) in
+    let x : FaceSide = face_side side.face.0 (face_at s.mesh side.face.0) side.at in
+    let y : FaceSide = face_side other.face.0 (face_at s.mesh other.face.0) other.at in
+    let joined : joins x.tail x.head y ≡ true =
+    ap (joins x.tail x.head) (sym (side_at s other.face.0 other.at (twin_of s d) q))
+    ∙ ap (λ (z : FaceSide). joins z.tail z.head (side_of s (twin_of s d))) (sym (side_at s side.face.0 side.at d p)) ∙ twin.joined in
     record {
-      first = record { face = p.face; place = p.place };
-      second = record { face = q.face; place = q.place };
-      different = λ e.
-          let faces : f ≡ g = ap (λ (x : Side). x.face.0) e in
-          let places : t ≡ u = ap (λ (x : Side). x.at) e in
-          twin.other (sym q.is ∙ ap (λ x. first_side s.mesh x + u) (sym faces) ∙ ap (λ x. first_side s.mesh f + x) (sym places) ∙ p.is);
-      one_edge =
-          elim (joins_read (side_of s d).tail (side_of s d).head (side_of s (twin_of s d)) twin.joined) [
-            | inl same ↦ inl (
-              ap (λ (x : FaceSide). x.tail) (sym (side_at s f t d p)) ∙ sym same.0 ∙ ap (λ (x : FaceSide). x.tail) (side_at s g u (twin_of s d) q),
-              ap (λ (x : FaceSide). x.head) (sym (side_at s f t d p)) ∙ sym same.1 ∙ ap (λ (x : FaceSide). x.head) (side_at s g u (twin_of s d) q),
-            )
-            | inr turned ↦ inr (
-              ap (λ (x : FaceSide). x.tail) (sym (side_at s f t d p)) ∙ sym turned.1 ∙ ap (λ (x : FaceSide). x.head) (side_at s g u (twin_of s d) q),
-              ap (λ (x : FaceSide). x.head) (sym (side_at s f t d p)) ∙ sym turned.0 ∙ ap (λ (x : FaceSide). x.tail) (side_at s g u (twin_of s d) q),
-            )
-          ];
+      first = in_mesh;
+      second = also;
+      different = λ same. twin.other (sym is ∙ ap (side_number s.mesh) (sym same));
+      one_edge = elim (joins_read x.tail x.head y joined) [
+        | inl same ↦ inl (sym same.0, sym same.1)
+        | inr turned ↦ inr (sym turned.1, sym turned.0)
+      ];
     }
-
--- where the dart of a side starts and ends is where the side does under the signs
-pub origin_under : (s : OrientedMesh) (f t d : ℕ) → IsNumberOf s.mesh f t d → origin_of s d ≡ start_under s.mesh s.signs (named f t)
-unfolding origin_of named
-origin_under s f t d p = ap (λ (x : FaceSide). cond (is_flipped s.signs x.face) x.head x.tail) (side_at s f t d p)
-
-pub target_under : (s : OrientedMesh) (f t d : ℕ) → IsNumberOf s.mesh f t d → target_of s d ≡ end_under s.mesh s.signs (named f t)
-unfolding target_of named
-target_under s f t d p = ap (λ (x : FaceSide). cond (is_flipped s.signs x.face) x.tail x.head) (side_at s f t d p)
 
 -- twins run oppositely
 pub origin-twin : (s : OrientedMesh) → IsOrientedSurface s → (d : ℕ) → d < darts_of s → origin_of s (twin_of s d) ≡ target_of s d
 origin-twin s h d l =
-    let p : HasPlace s.mesh d = placed s.mesh d l in
-    let q : HasPlace s.mesh (twin_of s d) = placed s.mesh (twin_of s d) (twin_within s h d l) in
-    let opposite : RunOppositely s.mesh s.signs (named p.face p.place) (named q.face q.place) =
-    h.coherent.opposite (named p.face p.place) (named q.face q.place) (partners s h d p.face p.place q.face q.place l p.numbered q.numbered) in
-    origin_under s q.face q.place (twin_of s d) q.numbered ∙ sym opposite.ends ∙ sym (target_under s p.face p.place d p.numbered)
+    let p : HasSide s.mesh d = side_with_number s.mesh d l in
+    let q : HasSide s.mesh (twin_of s d) = side_with_number s.mesh (twin_of s d) (twin_within s h d l) in
+    let opposite : RunOppositely s.mesh s.signs p.side q.side =
+    h.coherent.opposite p.side q.side (partners s h p.side q.side p.in_mesh q.in_mesh (q.number ∙ ap (twin_of s) (sym p.number))) in
+    ap (origin_of s) (sym q.number) ∙ origin_under s q.side q.in_mesh ∙ sym opposite.ends ∙ sym (target_under s p.side p.in_mesh) ∙ ap (target_of s) p.number
 
 pub target-twin : (s : OrientedMesh) → IsOrientedSurface s → (d : ℕ) → d < darts_of s → target_of s (twin_of s d) ≡ origin_of s d
 target-twin s h d l = sym (origin-twin s h (twin_of s d) (twin_within s h d l)) ∙ ap (origin_of s) (twin-twin s h d l)

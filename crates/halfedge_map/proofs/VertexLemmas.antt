@@ -13,7 +13,7 @@ use Rattle.halfedge_map.specs.OrientedMeshes.{OrientedMesh, IsOrientedSurface}
 use Rattle.halfedge_map.specs.DartMaps.{darts_of, side_of, face_of, origin_of, target_of, next_of, twin_of, start_corner_of, end_corner_of, dart_at_corner}
 use Rattle.halfedge_map.proofs.OrbitLemmas.{IsPermutationBelow, reached_refl, reached_step, reached_trans, reached_back, reached_keeps}
 use Rattle.halfedge_map.proofs.NumberLemmas.{IsNumberOf, HasPlace, placed, number_below}
-use Rattle.halfedge_map.proofs.DartLemmas.{corners, vertex_at, side_at, one_face, one_place, origin_at, target_at, next_within, next_injective, origin-next, corner_of_start, corner_of_end, start_kept, start_flipped, end_kept, end_flipped, start_corner_within}
+use Rattle.halfedge_map.proofs.DartLemmas.{corners, vertex_at, side_at, one_face, one_place, origin_at, target_at, next_within, next_injective, origin-next, corner_of_start, corner_of_end, start_kept, start_flipped, end_kept, end_flipped, start_corner_within, numbered}
 use Rattle.halfedge_map.proofs.TwinLemmas.{along, IsTwin, two_darts, twin_within, twin-twin, origin-twin, target-twin, no_loop, joins_from}
 
 -- the dart that follows round the vertex
@@ -35,9 +35,6 @@ origin-turned s h d l = origin-next s (twin_of s d) (twin_within s h d l) ∙ ta
 -- the dart that starts at a corner, which is named by a side
 abbrev pub dart_of : OrientedMesh → Side → ℕ
 dart_of s corner = dart_at_corner s corner.face.0 corner.at
-
-pub numbered : (s : OrientedMesh) (side : Side) → IsSide s.mesh side → IsNumberOf s.mesh side.face.0 side.at (side_number s.mesh side)
-numbered s side h = record { face = h.face; place = h.place; is = refl }
 
 -- the corner of a side at a vertex is where its dart starts, or where it ends
 corner_cases : (s : OrientedMesh) (v : ℕ) (side corner : Side) → IsSide s.mesh side → IsCornerOfSide s.mesh v side corner

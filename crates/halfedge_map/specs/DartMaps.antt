@@ -1,12 +1,13 @@
 -- The darts of a surface (half-edges), and the maps on them. A dart is a side of a face and bears its number. It runs as
 -- the face lists it if the face is kept, and the other way if the face is flipped.
-use Rattle.std.specs.Prelude.{ℕ, ◌+◌, Bool, true, false, not, ◌==◌, ◌&&◌, if◌then◌else◌, List, length, slice_index_or, find, Option, unwrap_or, count_by}
+use Rattle.std.specs.Prelude.{◌≡◌, ℕ, ◌+◌, ◌<◌, Bool, true, false, not, ◌==◌, ◌&&◌, if◌then◌else◌, length, slice_index, slice_index_or, find, Option, unwrap_or, count_by}
 use Rattle.std.specs.Prelude.{ℤ, pos, ◌+ℤ◌, ◌-ℤ◌}
 use Rattle.std.specs.List.{range_with_len}
 use Rattle.surf_model.specs.FaceLists.{FaceSide, all_sides, face_at, next_corner, joins, is_used, total_sides}
 use Rattle.surf_model.specs.Edges.{edge_in}
-use Rattle.surf_model.specs.Darts.{first_side}
-use Rattle.surf_model.specs.Surfaces.{is_flipped}
+use Rattle.surf_model.specs.Darts.{first_side, IsSide, side_number, side_after}
+use Rattle.surf_model.specs.Surfaces.{is_flipped, start_under, end_under}
+use Rattle.surf_model.specs.declared.edges.Side.{Side}
 use Rattle.halfedge_map.specs.OrientedMeshes.{OrientedMesh}
 
 -- how many darts there are
@@ -40,6 +41,15 @@ next_of surface dart =
     first_side surface.mesh side.face
     + next_corner (not (is_flipped surface.signs side.face)) (length (face_at surface.mesh side.face)) side.at
 
+-- the dart of a side: where it lies, starts and ends, and which dart follows, in a kept face and in a flipped one
+pub record IsDartOfSide (surface : OrientedMesh) (side : Side) (dart : ℕ) : Type 0 where
+  pub within : dart < darts_of surface
+  pub face : face_of surface dart ≡ side.face.0
+  pub origin : origin_of surface dart ≡ start_under surface.mesh surface.signs side
+  pub target : target_of surface dart ≡ end_under surface.mesh surface.signs side
+  pub kept : is_flipped surface.signs side.face.0 ≡ false → next_of surface dart ≡ side_number surface.mesh (side_after surface.mesh side)
+  pub flipped : is_flipped surface.signs side.face.0 ≡ true → next_of surface (side_number surface.mesh (side_after surface.mesh side)) ≡ dart
+
 -- the corners of its face at which a dart starts and ends
 unfoldable pub start_corner_of : OrientedMesh → ℕ → ℕ
 start_corner_of surface dart =
@@ -56,6 +66,13 @@ unfoldable pub dart_at_corner : OrientedMesh → ℕ → ℕ → ℕ
 dart_at_corner surface f corner =
     first_side surface.mesh f
     + (if is_flipped surface.signs f then next_corner false (length (face_at surface.mesh f)) corner else corner)
+
+-- the dart that starts at a corner of a face is a dart of the face, starts at the corner, and at the vertex there
+pub record StartsAtCorner (surface : OrientedMesh) (f corner dart : ℕ) : Type 0 where
+  pub within : dart < darts_of surface
+  pub face : face_of surface dart ≡ f
+  pub starts : start_corner_of surface dart ≡ corner
+  pub origin : origin_of surface dart ≡ slice_index (face_at surface.mesh f) corner
 
 -- the least number below n that passes a test
 abbrev pub first_below : (ℕ → Bool) → ℕ → Option ℕ
