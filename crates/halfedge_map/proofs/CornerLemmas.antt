@@ -1,9 +1,8 @@
 -- Going round a face, by rising and by falling places.
-use Rattle.std.proofs.Common.{◌≡◌, inl, inr, ℕ, zero, suc, ◌+◌, ◌-◌, ◌<◌, ◌≤◌, Bool, true, false, not, refl, ap, sym, ◌∙◌, subst, arith}
-use Rattle.std.proofs.lemmas.Bool.{cases_lt}
+use Rattle.std.proofs.Common.{◌≡◌, ℕ, zero, suc, ◌+◌, ◌-◌, ◌<◌, Bool, true, false, not, ap, sym, ◌∙◌, subst, arith}
 use Rattle.std.proofs.lemmas.Bool.Decides.{nat_tests}
 use Rattle.surf_model.specs.FaceLists.{next_corner}
-use Rattle.halfedge_map.specs.Orbits.{after_steps, IsReached}
+use Rattle.halfedge_map.specs.Orbits.{IsReached}
 use Rattle.halfedge_map.proofs.OrbitLemmas.{IsPermutationBelow, reached_trans, reached_undone}
 
 pub corner_within : (rising : Bool) (m t : ℕ) → t < m → next_corner rising m t < m
@@ -32,7 +31,8 @@ rising_up : (m t k : ℕ) → t + k < m → IsReached (next_corner true m) t (t 
 rising_up m t zero l = record { steps = 0; leads = omega arith }
 rising_up m t (suc k) l =
     let before : IsReached (next_corner true m) t (t + k) = rising_up m t k (omega arith) in
-    let one : next_corner true m (t + k) ≡ t + suc k = rising_one m (t + k) (omega arith) ∙ (let e : t + k + 1 ≡ t + suc k = omega arith in e) in
+    let one : next_corner true m (t + k) ≡ t + suc k = rising_one m (t + k) (omega arith)
+    ∙ (let e : t + k + 1 ≡ t + suc k = omega arith in e) in
     record { steps = suc before.steps; leads = ap (next_corner true m) before.leads ∙ one }
 
 rising_reached : (m t u : ℕ) → t < m → u < m → IsReached (next_corner true m) t u
@@ -47,4 +47,5 @@ rising_reached m t u l k =
 pub corner_reached : (rising : Bool) (m t u : ℕ) → t < m → u < m → IsReached (next_corner rising m) t u
 corner_reached true m t u l k = rising_reached m t u l k
 corner_reached false m t u l k =
-    reached_undone m (next_corner true m) (next_corner false m) (corners_permuted true m) (corner_back true m) u t k (rising_reached m u t k l)
+    reached_undone m (next_corner true m) (next_corner false m) (corners_permuted true m) (corner_back true m) u t k
+    (rising_reached m u t k l)

@@ -1,13 +1,14 @@
 -- The dart of a side, in a kept face and in a flipped one: here alone the flip is looked at.
-use Rattle.std.proofs.Common.{◌≡◌, ◌≢◌, inl, inr, ℕ, ◌+◌, ◌-◌, ◌<◌, ◌≤◌, Bool, true, false, not, cond, List, [], length, get_or, refl, ap, sym, ◌∙◌, subst, arith}
-use Rattle.std.proofs.lemmas.Bool.{cases_Bool, cond-true, cond-false}
-use Rattle.surf_model.specs.FaceLists.{FaceList, FaceSide, IsFaceList, IsFace, face_at, all_sides, total_sides, next_corner}
-use Rattle.surf_model.specs.Darts.{first_side, IsSide, side_number, side_after, tail_of, head_of}
+use Rattle.std.proofs.Common.{◌≡◌, ℕ, ◌+◌, ◌<◌, Bool, true, false, not, cond, List, length, get_or, refl, ap, sym, ◌∙◌, subst}
+use Rattle.std.proofs.lemmas.Bool.{cond-true, cond-false}
+use Rattle.surf_model.specs.FaceLists.{FaceSide, face_at, all_sides, next_corner}
+use Rattle.surf_model.specs.Darts.{first_side, IsSide, side_number, side_after}
 use Rattle.surf_model.specs.Surfaces.{is_flipped, start_under, end_under}
 use Rattle.surf_model.specs.declared.edges.Side.{Side}
 use Rattle.surf_model.proofs.NumberLemmas.{face_side}
 use Rattle.halfedge_map.specs.OrientedMeshes.{OrientedMesh}
-use Rattle.halfedge_map.specs.DartMaps.{darts_of, side_of, face_of, origin_of, target_of, next_of, start_corner_of, end_corner_of, dart_at_corner, StartsAtCorner, IsDartOfSide}
+use Rattle.halfedge_map.specs.DartMaps.{darts_of, side_of, face_of, origin_of, target_of, next_of, start_corner_of, end_corner_of}
+use Rattle.halfedge_map.specs.DartMaps.{dart_at_corner, StartsAtCorner, IsDartOfSide}
 use Rattle.halfedge_map.specs.Orbits.{after_steps, IsReached}
 use Rattle.halfedge_map.proofs.OrbitLemmas.{IsPermutationBelow}
 use Rattle.halfedge_map.proofs.CornerLemmas.{corner_within, corner_back, corners_permuted, corner_reached}
@@ -39,7 +40,7 @@ pub one_place : (s : OrientedMesh) (f t g u d : ℕ) → IsNumberOf s.mesh f t d
 one_place s f t g u d h k = ap (λ (x : FaceSide). x.at) (sym (side_at s f t d h) ∙ side_at s g u d k)
 
 -- where the dart of side t of a face starts and ends, by the sign of the face
-start_place : Bool → ℕ → ℕ → ℕ
+unfoldable pub start_place : Bool → ℕ → ℕ → ℕ
 start_place flipped m t = cond flipped (next_corner true m t) t
 
 end_place : Bool → ℕ → ℕ → ℕ
@@ -80,19 +81,23 @@ unfolding place_at end_place
 end_is_place true m t l = refl
 end_is_place false m t l = refl
 
-start_at : (s : OrientedMesh) (f t d : ℕ) → IsNumberOf s.mesh f t d → start_corner_of s d ≡ start_place (is_flipped s.signs f) (corners s f) t
+pub start_at : (s : OrientedMesh) (f t d : ℕ) → IsNumberOf s.mesh f t d
+    → start_corner_of s d ≡ start_place (is_flipped s.signs f) (corners s f) t
 unfolding start_corner_of start_place
 start_at s f t d h =
-    ap (λ (x : FaceSide). cond (is_flipped s.signs x.face) (next_corner true (length (face_at s.mesh x.face)) x.at) x.at) (side_at s f t d h)
+    ap (λ (x : FaceSide). cond (is_flipped s.signs x.face) (next_corner true (length (face_at s.mesh x.face)) x.at) x.at)
+    (side_at s f t d h)
 
 end_at : (s : OrientedMesh) (f t d : ℕ) → IsNumberOf s.mesh f t d → end_corner_of s d ≡ end_place (is_flipped s.signs f) (corners s f) t
 unfolding end_corner_of end_place
 end_at s f t d h =
-    ap (λ (x : FaceSide). cond (is_flipped s.signs x.face) x.at (next_corner true (length (face_at s.mesh x.face)) x.at)) (side_at s f t d h)
+    ap (λ (x : FaceSide). cond (is_flipped s.signs x.face) x.at (next_corner true (length (face_at s.mesh x.face)) x.at))
+    (side_at s f t d h)
 
 -- a dart starts and ends at the vertices of its two corners
 vertex_start : (flipped : Bool) (ring : List ℕ) (t : ℕ)
-    → cond flipped (get_or ring (next_corner true (length ring) t) 0) (get_or ring t 0) ≡ get_or ring (start_place flipped (length ring) t) 0
+    → cond flipped (get_or ring (next_corner true (length ring) t) 0) (get_or ring t 0) ≡ get_or ring
+    (start_place flipped (length ring) t) 0
 unfolding start_place
 vertex_start true ring t = refl
 vertex_start false ring t = refl
@@ -116,7 +121,7 @@ target_at s f t d h =
     ∙ vertex_end (is_flipped s.signs f) (face_at s.mesh f) t ∙ ap (vertex_at s f) (sym (end_at s f t d h))
 
 -- the next dart
-next_at : (s : OrientedMesh) (f t d : ℕ) → IsNumberOf s.mesh f t d
+pub next_at : (s : OrientedMesh) (f t d : ℕ) → IsNumberOf s.mesh f t d
     → next_of s d ≡ first_side s.mesh f + next_corner (not (is_flipped s.signs f)) (corners s f) t
 unfolding next_of
 next_at s f t d h =
@@ -137,7 +142,8 @@ steps_numbered : (s : OrientedMesh) (f t d k : ℕ) → IsNumberOf s.mesh f t d
     → IsNumberOf s.mesh f (after_steps (next_corner (not (is_flipped s.signs f)) (corners s f)) k t) (after_steps (next_of s) k d)
 steps_numbered s f t d ℕ.zero h = h
 steps_numbered s f t d (ℕ.suc k) h =
-    next_numbered s f (after_steps (next_corner (not (is_flipped s.signs f)) (corners s f)) k t) (after_steps (next_of s) k d) (steps_numbered s f t d k h)
+    next_numbered s f (after_steps (next_corner (not (is_flipped s.signs f)) (corners s f)) k t) (after_steps (next_of s) k d)
+    (steps_numbered s f t d k h)
 
 pub next_within : (s : OrientedMesh) (d : ℕ) → d < darts_of s → next_of s d < darts_of s
 next_within s d l =
@@ -150,14 +156,17 @@ next_injective s d e l k same =
     let q : HasPlace s.mesh e = placed s.mesh e k in
     let f : ℕ = p.face in
     let at_d : IsNumberOf s.mesh f (next_corner (not (is_flipped s.signs f)) (corners s f) p.place) (next_of s e) =
-    subst (IsNumberOf s.mesh f (next_corner (not (is_flipped s.signs f)) (corners s f) p.place)) same (next_numbered s f p.place d p.numbered) in
+    subst (IsNumberOf s.mesh f (next_corner (not (is_flipped s.signs f)) (corners s f) p.place)) same
+    (next_numbered s f p.place d p.numbered) in
     let at_e : IsNumberOf s.mesh q.face (next_corner (not (is_flipped s.signs q.face)) (corners s q.face) q.place) (next_of s e) =
     next_numbered s q.face q.place e q.numbered in
     let face : q.face ≡ f = one_face s q.face _ f _ (next_of s e) at_e at_d in
     let e_here : IsNumberOf s.mesh f q.place e = subst (λ g. IsNumberOf s.mesh g q.place e) face q.numbered in
-    let places : next_corner (not (is_flipped s.signs f)) (corners s f) p.place ≡ next_corner (not (is_flipped s.signs f)) (corners s f) q.place =
+    let places : next_corner (not (is_flipped s.signs f)) (corners s f) p.place ≡ next_corner (not (is_flipped s.signs f))
+    (corners s f) q.place =
     one_place s f _ f _ (next_of s e) at_d (next_numbered s f q.place e e_here) in
-    let place : p.place ≡ q.place = (corners_permuted (not (is_flipped s.signs f)) (corners s f)).injective p.place q.place p.numbered.place e_here.place places in
+    let place : p.place ≡ q.place = (corners_permuted (not (is_flipped s.signs f))
+    (corners s f)).injective p.place q.place p.numbered.place e_here.place places in
     sym p.numbered.is ∙ ap (λ t. first_side s.mesh f + t) place ∙ e_here.is
 
 pub next_permutes : (s : OrientedMesh) → IsPermutationBelow (darts_of s) (next_of s)
@@ -166,7 +175,8 @@ next_permutes s = record { within = next_within s; injective = next_injective s 
 pub face-next : (s : OrientedMesh) (d : ℕ) → d < darts_of s → face_of s (next_of s d) ≡ face_of s d
 face-next s d l =
     let p : HasPlace s.mesh d = placed s.mesh d l in
-    face_at_number s p.face _ (next_of s d) (next_numbered s p.face p.place d p.numbered) ∙ sym (face_at_number s p.face p.place d p.numbered)
+    face_at_number s p.face _ (next_of s d) (next_numbered s p.face p.place d p.numbered)
+    ∙ sym (face_at_number s p.face p.place d p.numbered)
 
 -- darts of one face are reached from one another
 pub face_reached : (s : OrientedMesh) (d e : ℕ) → d < darts_of s → e < darts_of s → face_of s d ≡ face_of s e → IsReached (next_of s) d e
@@ -207,7 +217,8 @@ pub dart_starts : (s : OrientedMesh) (f c : ℕ) → f < length s.mesh.faces →
 dart_starts s f c l k =
     let h = corner_numbered s f c l k in
     let t : ℕ = place_at (is_flipped s.signs f) (corners s f) c in
-    let starts : start_corner_of s (dart_at_corner s f c) ≡ c = start_at s f t (dart_at_corner s f c) h ∙ place_starts (is_flipped s.signs f) (corners s f) c k in
+    let starts : start_corner_of s (dart_at_corner s f c) ≡ c =
+    start_at s f t (dart_at_corner s f c) h ∙ place_starts (is_flipped s.signs f) (corners s f) c k in
     record {
       within = number_below s.mesh f t (dart_at_corner s f c) h;
       face = face_at_number s f t (dart_at_corner s f c) h;
@@ -231,16 +242,21 @@ corner_of_end s f t d h =
 pub numbered : (s : OrientedMesh) (side : Side) → IsSide s.mesh side → IsNumberOf s.mesh side.face.0 side.at (side_number s.mesh side)
 numbered s side h = record { face = h.face; place = h.place; is = refl }
 
-pub origin_under : (s : OrientedMesh) (side : Side) → IsSide s.mesh side → origin_of s (side_number s.mesh side) ≡ start_under s.mesh s.signs side
+pub origin_under : (s : OrientedMesh) (side : Side) → IsSide s.mesh side
+    → origin_of s (side_number s.mesh side) ≡ start_under s.mesh s.signs side
 unfolding origin_of
-origin_under s side h = ap (λ (x : FaceSide). cond (is_flipped s.signs x.face) x.head x.tail) (side_at s side.face.0 side.at (side_number s.mesh side) (numbered s side h))
+origin_under s side h = ap (λ (x : FaceSide). cond (is_flipped s.signs x.face) x.head x.tail)
+    (side_at s side.face.0 side.at (side_number s.mesh side) (numbered s side h))
 
-pub target_under : (s : OrientedMesh) (side : Side) → IsSide s.mesh side → target_of s (side_number s.mesh side) ≡ end_under s.mesh s.signs side
+pub target_under : (s : OrientedMesh) (side : Side) → IsSide s.mesh side
+    → target_of s (side_number s.mesh side) ≡ end_under s.mesh s.signs side
 unfolding target_of
-target_under s side h = ap (λ (x : FaceSide). cond (is_flipped s.signs x.face) x.tail x.head) (side_at s side.face.0 side.at (side_number s.mesh side) (numbered s side h))
+target_under s side h = ap (λ (x : FaceSide). cond (is_flipped s.signs x.face) x.tail x.head)
+    (side_at s side.face.0 side.at (side_number s.mesh side) (numbered s side h))
 
 -- one place on in a kept face, one place back in a flipped one
-turned_place : (flipped : Bool) (first m t d after : ℕ) → t < m → first + t ≡ d → after ≡ first + next_corner (not flipped) m (next_corner true m t) → flipped ≡ true → after ≡ d
+turned_place : (flipped : Bool) (first m t d after : ℕ) → t < m → first + t ≡ d
+    → after ≡ first + next_corner (not flipped) m (next_corner true m t) → flipped ≡ true → after ≡ d
 turned_place true first m t d after l is e flips = e ∙ ap (λ u. first + u) (corner_back true m t l) ∙ is
 turned_place false first m t d after l is e flips = cc
 
@@ -267,11 +283,13 @@ pub start_kept : (s : OrientedMesh) (f t d : ℕ) → IsNumberOf s.mesh f t d �
 unfolding start_place
 start_kept s f t d h kept = start_at s f t d h ∙ cond-false (is_flipped s.signs f) (next_corner true (corners s f) t) t kept
 
-pub start_flipped : (s : OrientedMesh) (f t d : ℕ) → IsNumberOf s.mesh f t d → is_flipped s.signs f ≡ true → start_corner_of s d ≡ next_corner true (corners s f) t
+pub start_flipped : (s : OrientedMesh) (f t d : ℕ) → IsNumberOf s.mesh f t d → is_flipped s.signs f ≡ true
+    → start_corner_of s d ≡ next_corner true (corners s f) t
 unfolding start_place
 start_flipped s f t d h flips = start_at s f t d h ∙ cond-true (is_flipped s.signs f) (next_corner true (corners s f) t) t flips
 
-pub end_kept : (s : OrientedMesh) (f t d : ℕ) → IsNumberOf s.mesh f t d → is_flipped s.signs f ≡ false → end_corner_of s d ≡ next_corner true (corners s f) t
+pub end_kept : (s : OrientedMesh) (f t d : ℕ) → IsNumberOf s.mesh f t d → is_flipped s.signs f ≡ false
+    → end_corner_of s d ≡ next_corner true (corners s f) t
 unfolding end_place
 end_kept s f t d h kept = end_at s f t d h ∙ cond-false (is_flipped s.signs f) t (next_corner true (corners s f) t) kept
 
@@ -280,4 +298,5 @@ unfolding end_place
 end_flipped s f t d h flips = end_at s f t d h ∙ cond-true (is_flipped s.signs f) t (next_corner true (corners s f) t) flips
 
 pub start_corner_within : (s : OrientedMesh) (f t d : ℕ) → IsNumberOf s.mesh f t d → start_corner_of s d < corners s f
-start_corner_within s f t d h = subst (λ c. c < corners s f) (sym (start_at s f t d h)) (start_within (is_flipped s.signs f) (corners s f) t h.place)
+start_corner_within s f t d h = subst (λ c. c < corners s f) (sym (start_at s f t d h))
+    (start_within (is_flipped s.signs f) (corners s f) t h.place)

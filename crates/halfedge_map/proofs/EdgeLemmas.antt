@@ -1,20 +1,27 @@
 -- The edges of the table and their darts.
-use Rattle.std.proofs.Common.{◌≡◌, ◌≢◌, ◌⊎◌, inl, inr, ℕ, ◌+◌, ◌<◌, Bool, true, false, cond, List, length, map, get_or, refl, ap, sym, ◌∙◌, subst, arith}
-use Rattle.std.specs.Prelude.{◌↔◌, All, AllPairs, Any, Contains, filter, unwrap_or}
-use Rattle.std.specs.List.{list_any}
-use Rattle.std.proofs.lemmas.Bool.{cases_Bool, cases_order, cond-true, cond-false}
-use Rattle.std.proofs.lemmas.List.{get_or_default, get_or-map, length-map}
+use Rattle.std.proofs.Common.{◌≡◌, ◌≢◌, ◌⊎◌, inl, inr, ℕ, ◌<◌, Bool, true, false, cond, List, length, get_or, refl, ap, sym, ◌∙◌, subst}
+use Rattle.std.proofs.Common.{arith}
+use Rattle.std.specs.Prelude.{◌↔◌, Contains, Some, filter, slice_get, unwrap_or}
+use Rattle.std.proofs.lemmas.Option.{slice_get_within, get_or_from_slice_get}
+use Rattle.std.proofs.lemmas.Bool.{cases_order}
+use Rattle.std.proofs.lemmas.List.{get_or_default, length-map}
 use Rattle.std.proofs.lemmas.List.Folds.{Any-from_list_any, list_any_at}
 use Rattle.surf_model.specs.FaceLists.{FaceList, FaceSide, face_at, all_sides, joins, is_edge}
-use Rattle.surf_model.specs.Edges.{Edge, IsEdgeOf, IsTableOf, IsPairBefore, edge_in, side_name}
+use Rattle.surf_model.specs.Edges.{Edge, IsEdgeOf, IsTableOf, IsPairBefore, HasEnds, edge_in, side_name}
+use Rattle.surf_model.specs.Darts.{IsSide, side_number}
 use Rattle.surf_model.specs.Surfaces.{is_flipped}
 use Rattle.surf_model.specs.declared.edges.Side.{Side}
-use Rattle.surf_model.proofs.NumberLemmas.{length-all_sides}
+use Rattle.surf_model.proofs.NumberLemmas.{face_side, length-all_sides}
+use Rattle.surf_model.proofs.TableLemmas.{edge_from_table}
+use Rattle.surf_model.proofs.PartnerLemmas.{IsSideOfEdge, side_of_edge, table_edge, edge_sides_rise}
 use Rattle.halfedge_map.specs.OrientedMeshes.{OrientedMesh, IsOrientedSurface}
 use Rattle.halfedge_map.specs.DartMaps.{darts_of, side_of, origin_of, target_of, twin_of, edge_of}
-use Rattle.halfedge_map.specs.RotationSystems.{rotations_of, IsDartFrom}
+use Rattle.halfedge_map.specs.RotationSystems.{rotations_of, IsDartFrom, IsEdgeWithEnds}
+use Rattle.halfedge_map.proofs.NumberLemmas.{IsNumberOf, number_below}
+use Rattle.halfedge_map.proofs.DartLemmas.{side_at, numbered}
 use Rattle.halfedge_map.proofs.ListLemmas.{IsFirstBelow, first_passes}
-use Rattle.halfedge_map.proofs.TwinLemmas.{along, IsTwin, two_darts, twin_within, twin-twin, twin_along, along_edge, origin-twin, target-twin, no_loop, Joins, joins_read, joins_from, joins_own, joins_both, side_is}
+use Rattle.halfedge_map.proofs.TwinLemmas.{along, twin_within, twin-twin, twin_along, along_edge, origin-twin, no_loop, joins_read}
+use Rattle.halfedge_map.proofs.TwinLemmas.{joins_from, joins_own, joins_both, side_is}
 
 -- a side that joins the ends of one that joins u and v joins them too
 joins_on : (u v : ℕ) (a b : FaceSide) → joins u v a ≡ true → joins a.tail a.head b ≡ true → joins u v b ≡ true
@@ -52,7 +59,8 @@ one_pair a b c d x l k h i =
 pub joins_edge : List Edge → ℕ → FaceSide → Bool
 joins_edge table k side = joins (edge_in table k).low (edge_in table k).high side
 
-edge_ordered : (mesh : FaceList) (table : List Edge) (k : ℕ) → IsTableOf mesh table → k < length table → (edge_in table k).low < (edge_in table k).high
+edge_ordered : (mesh : FaceList) (table : List Edge) (k : ℕ) → IsTableOf mesh table → k < length table
+    → (edge_in table k).low < (edge_in table k).high
 edge_ordered mesh table k h l = (h.edges k _ l).ordered
 
 not_before : (a b c d : ℕ) → AreSame a b c d → IsPairBefore a b c d → ⊥
@@ -61,13 +69,15 @@ not_before a b c d same h = elim h [ inl x ↦ omega (arith, same.low) | inr x �
 not_after : (a b c d : ℕ) → AreSame a b c d → IsPairBefore c d a b → ⊥
 not_after a b c d same h = elim h [ inl x ↦ omega (arith, same.low) | inr x ↦ omega (arith, x.1, same.high) ]
 
-pub one_edge : (mesh : FaceList) (table : List Edge) (i j : ℕ) (side : FaceSide) → IsTableOf mesh table → i < length table → j < length table
+pub one_edge : (mesh : FaceList) (table : List Edge) (i j : ℕ) (side : FaceSide) → IsTableOf mesh table → i < length table
+    → j < length table
     → joins_edge table i side ≡ true → joins_edge table j side ≡ true → i ≡ j
 unfolding joins_edge
 one_edge mesh table i j side h l k p q =
     let e : Edge = edge_in table i in
     let f : Edge = edge_in table j in
-    let same : AreSame e.low e.high f.low f.high = one_pair e.low e.high f.low f.high side (edge_ordered mesh table i h l) (edge_ordered mesh table j h k) p q in
+    let same : AreSame e.low e.high f.low f.high = one_pair e.low e.high f.low f.high side (edge_ordered mesh table i h l)
+    (edge_ordered mesh table j h k) p q in
     elim (cases_order i j) [
       | inl is ↦ is
       | inr other ↦ elim other [
@@ -89,19 +99,22 @@ dart_has_edge s h d l =
     let k : ℕ = some.0 in
     let edge : edge_in s.table k ≡ some.1 = get_or_default s.table k _ some.1 some.2 ∙ some.3 in
     let read : joins some.1.low some.1.high side ≡ true = ap (joins some.1.low some.1.high) (sym (side_is s d side l)) ∙ some.4 in
-    let here : joins (edge_in s.table k).low (edge_in s.table k).high side ≡ true = ap (λ (e : Edge). joins e.low e.high side) edge ∙ read in
+    let here : joins (edge_in s.table k).low (edge_in s.table k).high side ≡ true =
+    ap (λ (e : Edge). joins e.low e.high side) edge ∙ read in
     let first : IsFirstBelow (λ k. joins (edge_in s.table k).low (edge_in s.table k).high side) (length s.table) =
     first_passes (λ k. joins (edge_in s.table k).low (edge_in s.table k).high side) (length s.table) k some.2 here in
     let is : edge_of s d ≡ first.number = ap (λ r. unwrap_or r 0) first.is in
     subst (IsEdgeOfDart s d) (sym is) (record { within = first.within; joined = first.passes })
 
 -- an edge whose ends the dart joins is its edge
-pub edge_is : (s : OrientedMesh) → IsOrientedSurface s → (d k : ℕ) → d < darts_of s → k < length s.table → joins_edge s.table k (side_of s d) ≡ true → k ≡ edge_of s d
+pub edge_is : (s : OrientedMesh) → IsOrientedSurface s → (d k : ℕ) → d < darts_of s → k < length s.table
+    → joins_edge s.table k (side_of s d) ≡ true → k ≡ edge_of s d
 edge_is s h d k l b joined =
     let own : IsEdgeOfDart s d (edge_of s d) = dart_has_edge s h d l in
     one_edge s.mesh s.table k (edge_of s d) (side_of s d) h.table b own.within joined own.joined
 
-along_same : (s : OrientedMesh) → IsOrientedSurface s → (d e : ℕ) → d < darts_of s → e < darts_of s → along s d e ≡ true → edge_of s d ≡ edge_of s e
+along_same : (s : OrientedMesh) → IsOrientedSurface s → (d e : ℕ) → d < darts_of s → e < darts_of s → along s d e ≡ true
+    → edge_of s d ≡ edge_of s e
 unfolding along joins_edge
 along_same s h d e l k together =
     let own : IsEdgeOfDart s d (edge_of s d) = dart_has_edge s h d l in
@@ -111,13 +124,15 @@ along_same s h d e l k together =
 pub edge-twin : (s : OrientedMesh) → IsOrientedSurface s → (d : ℕ) → d < darts_of s → edge_of s (twin_of s d) ≡ edge_of s d
 edge-twin s h d l = along_same s h (twin_of s d) d (twin_within s h d l) l (twin_along s h d l)
 
-pub edge_darts : (s : OrientedMesh) → IsOrientedSurface s → (d e : ℕ) → d < darts_of s → e < darts_of s → (edge_of s d ≡ edge_of s e) ↔ ((e ≡ d) ⊎ (e ≡ twin_of s d))
+pub edge_darts : (s : OrientedMesh) → IsOrientedSurface s → (d e : ℕ) → d < darts_of s → e < darts_of s
+    → (edge_of s d ≡ edge_of s e) ↔ ((e ≡ d) ⊎ (e ≡ twin_of s d))
 unfolding along joins_edge
 edge_darts s h d e l k = (
   λ same.
       let a : IsEdgeOfDart s d (edge_of s d) = dart_has_edge s h d l in
       let b : IsEdgeOfDart s e (edge_of s d) = subst (IsEdgeOfDart s e) (sym same) (dart_has_edge s h e k) in
-      along_edge s h d e l k (joins_both (edge_in s.table (edge_of s d)).low (edge_in s.table (edge_of s d)).high (side_of s d) (side_of s e) a.joined b.joined),
+      along_edge s h d e l k (joins_both (edge_in s.table (edge_of s d)).low (edge_in s.table (edge_of s d)).high (side_of s d)
+      (side_of s e) a.joined b.joined),
   λ either. elim either [
     | inl is ↦ ap (edge_of s) (sym is)
     | inr twin ↦ sym (edge-twin s h d l) ∙ ap (edge_of s) (sym twin)
@@ -126,7 +141,8 @@ edge_darts s h d e l k = (
 
 -- a dart by its two ends
 ends_joined : (flipped : Bool) (u v : ℕ) (side : FaceSide) → joins u v side ≡ true
-    → ((cond flipped side.head side.tail ≡ u) × (cond flipped side.tail side.head ≡ v)) ⊎ ((cond flipped side.head side.tail ≡ v) × (cond flipped side.tail side.head ≡ u))
+    → ((cond flipped side.head side.tail ≡ u) × (cond flipped side.tail side.head ≡ v)) ⊎
+    ((cond flipped side.head side.tail ≡ v) × (cond flipped side.tail side.head ≡ u))
 ends_joined true u v side h = elim (joins_read u v side h) [ inl x ↦ inr (x.1, x.0) | inr x ↦ inl (x.1, x.0) ]
 ends_joined false u v side h = elim (joins_read u v side h) [ inl x ↦ inl x | inr x ↦ inr x ]
 
@@ -134,7 +150,8 @@ joined_ends : (flipped : Bool) (side : FaceSide) → joins (cond flipped side.he
 joined_ends true side = joins_from side.head side.tail side (inr (refl, refl))
 joined_ends false side = joins_own side
 
-pub dart_ends : (s : OrientedMesh) (d u v : ℕ) → joins u v (side_of s d) ≡ true → ((origin_of s d ≡ u) × (target_of s d ≡ v)) ⊎ ((origin_of s d ≡ v) × (target_of s d ≡ u))
+pub dart_ends : (s : OrientedMesh) (d u v : ℕ) → joins u v (side_of s d) ≡ true
+    → ((origin_of s d ≡ u) × (target_of s d ≡ v)) ⊎ ((origin_of s d ≡ v) × (target_of s d ≡ u))
 unfolding origin_of target_of
 dart_ends s d u v h = ends_joined (is_flipped s.signs (side_of s d).face) u v (side_of s d) h
 
@@ -143,7 +160,8 @@ unfolding origin_of target_of
 dart_joins s d = joined_ends (is_flipped s.signs (side_of s d).face) (side_of s d)
 
 -- vertices form an edge exactly where a dart leads from the one to the other
-pub dart_between : (s : OrientedMesh) → IsOrientedSurface s → (u v : ℕ) → is_edge s.mesh u v ≡ true → (d : ℕ) × IsDartFrom (rotations_of s) u v d
+pub dart_between : (s : OrientedMesh) → IsOrientedSurface s → (u v : ℕ) → is_edge s.mesh u v ≡ true
+    → (d : ℕ) × IsDartFrom (rotations_of s) u v d
 unfolding is_edge
 dart_between s h u v edge =
     let any = Any-from_list_any (joins u v) (all_sides s.mesh) edge in
@@ -152,11 +170,14 @@ dart_between s h u v edge =
     let here : joins u v (side_of s d) ≡ true = ap (joins u v) (sym (side_is s d any.1 l) ∙ any.3) ∙ any.4 in
     elim (dart_ends s d u v here) [
       | inl there ↦ (d, record { within = l; starts = there.0; ends = origin-twin s h d l ∙ there.1 })
-      | inr back ↦ (twin_of s d, record {
-        within = twin_within s h d l;
-        starts = origin-twin s h d l ∙ back.1;
-        ends = ap (origin_of s) (twin-twin s h d l) ∙ back.0;
-      })
+      | inr back ↦ (
+        twin_of s d,
+        record {
+          within = twin_within s h d l;
+          starts = origin-twin s h d l ∙ back.1;
+          ends = ap (origin_of s) (twin-twin s h d l) ∙ back.0;
+        },
+      )
     ]
 
 pub edge_of_dart : (s : OrientedMesh) → IsOrientedSurface s → (u v d : ℕ) → IsDartFrom (rotations_of s) u v d → is_edge s.mesh u v ≡ true
@@ -164,7 +185,8 @@ unfolding is_edge
 edge_of_dart s h u v d from =
     let target : target_of s d ≡ v = sym (origin-twin s h d from.within) ∙ from.ends in
     let here : joins u v (side_of s d) ≡ true =
-    subst (λ x. joins x v (side_of s d) ≡ true) from.starts (subst (λ x. joins (origin_of s d) x (side_of s d) ≡ true) target (dart_joins s d)) in
+    subst (λ x. joins x v (side_of s d) ≡ true) from.starts
+    (subst (λ x. joins (origin_of s d) x (side_of s d) ≡ true) target (dart_joins s d)) in
     list_any_at (joins u v) (all_sides s.mesh) d (side_of s d) (omega (arith, from.within, length-all_sides s.mesh))
     (ap (joins u v) (side_is s d (side_of s d) from.within) ∙ here)
 
@@ -175,8 +197,163 @@ unfolding along
 one_dart s h d e l k starts ends =
     let targets : target_of s d ≡ target_of s e = sym (origin-twin s h d l) ∙ ends ∙ origin-twin s h e k in
     let there : joins (origin_of s e) (target_of s e) (side_of s d) ≡ true =
-    subst (λ x. joins x (target_of s e) (side_of s d) ≡ true) starts (subst (λ x. joins (origin_of s d) x (side_of s d) ≡ true) targets (dart_joins s d)) in
+    subst (λ x. joins x (target_of s e) (side_of s d) ≡ true) starts
+    (subst (λ x. joins (origin_of s d) x (side_of s d) ≡ true) targets (dart_joins s d)) in
     elim (along_edge s h d e l k (joins_both (origin_of s e) (target_of s e) (side_of s d) (side_of s e) there (dart_joins s e))) [
       | inl is ↦ sym is
       | inr twin ↦ absurd (no_loop s h d l (sym (origin-twin s h d l) ∙ ap (origin_of s) (sym twin) ∙ sym starts))
     ]
+
+-- a side that the table has under an edge is the side of a dart of this edge
+pub record IsSideInTable (s : OrientedMesh) (k : ℕ) (side : Side) : Type 0 where
+  pub in_mesh : IsSide s.mesh side
+  pub within : side_number s.mesh side < darts_of s
+  pub edge : k ≡ edge_of s (side_number s.mesh side)
+
+pub side_in_table : (s : OrientedMesh) → IsOrientedSurface s → (k j : ℕ) (d : Side) → k < length s.table
+    → j < length (edge_in s.table k).sides
+    → IsSideInTable s k (get_or (edge_in s.table k).sides j d)
+unfolding joins_edge
+side_in_table s h k j d l b =
+    let side : Side = get_or (edge_in s.table k).sides j d in
+    let here : IsSideOfEdge s.mesh (edge_in s.table k) side = side_of_edge s.mesh (edge_in s.table k) j d
+    (table_edge s.mesh s.table k h.table l) b in
+    let number : IsNumberOf s.mesh side.face.0 side.at (side_number s.mesh side) = numbered s side here.side_of in
+    let dart : side_number s.mesh side < darts_of s = number_below s.mesh side.face.0 side.at (side_number s.mesh side) number in
+    let joined : joins (edge_in s.table k).low (edge_in s.table k).high (side_of s (side_number s.mesh side)) ≡ true =
+    ap (joins (edge_in s.table k).low (edge_in s.table k).high) (side_at s side.face.0 side.at (side_number s.mesh side) number)
+    ∙ joins_from (edge_in s.table k).low (edge_in s.table k).high (face_side side.face.0 (face_at s.mesh side.face.0) side.at) here.ends in
+    record { in_mesh = here.side_of; within = dart; edge = edge_is s h (side_number s.mesh side) k dart l joined }
+
+-- each edge has two sides, and these have different numbers
+pub two_sides : (s : OrientedMesh) → IsOrientedSurface s → (k : ℕ) → k < length s.table → length (edge_in s.table k).sides ≡ 2
+two_sides s h k l =
+    let edge : Edge = edge_in s.table k in
+    let is : IsEdgeOf s.mesh edge = table_edge s.mesh s.table k h.table l in
+    let pair : is_edge s.mesh edge.low edge.high ≡ true =
+    edge_from_table s.mesh s.table edge.low edge.high h.table (k, edge, l, get_or_default s.table k _ _ l, inl (refl, refl)) in
+    ap (λ (sides : List Side). length sides) is.sides ∙ length-map (filter (joins edge.low edge.high) (all_sides s.mesh)) side_name
+    ∙ h.closed.two_sides edge.low edge.high pair
+
+-- another dart of the edge of d is its twin
+pub twin_is : (s : OrientedMesh) → IsOrientedSurface s → (d e : ℕ) → d < darts_of s → e < darts_of s → edge_of s d ≡ edge_of s e
+    → e ≢ d → e ≡ twin_of s d
+twin_is s h d e l k same other =
+    elim ((edge_darts s h d e l k).0 same) [ inl is ↦ absurd (other is) | inr twin ↦ twin ]
+
+-- the edge between two vertices and the ends of its darts
+pub between_is : (s : OrientedMesh) → IsOrientedSurface s → (u v k d : ℕ) → k < length s.table → HasEnds u v (edge_in s.table k)
+    → d < darts_of s → edge_of s d ≡ k
+    → ((origin_of s d ≡ u) × (target_of s d ≡ v)) ⊎ ((origin_of s d ≡ v) × (target_of s d ≡ u))
+unfolding joins_edge
+between_is s h u v k d l ends b is =
+    let edge : Edge = edge_in s.table k in
+    let own : joins edge.low edge.high (side_of s d) ≡ true = (subst (IsEdgeOfDart s d) is (dart_has_edge s h d b)).joined in
+    elim ends [
+      | inl x ↦ dart_ends s d u v (subst (λ b. joins u b (side_of s d) ≡ true) x.1
+          (subst (λ a. joins a edge.high (side_of s d) ≡ true) x.0 own))
+      | inr x ↦ elim (dart_ends s d v u (subst (λ b. joins v b (side_of s d) ≡ true) x.1
+          (subst (λ a. joins a edge.high (side_of s d) ≡ true) x.0 own))) [
+            | inl y ↦ inr y
+            | inr y ↦ inl y
+          ]
+    ]
+
+-- a side that was read from an edge
+pub side_got : (s : OrientedMesh) → IsOrientedSurface s → (k j : ℕ) (side : Side) → k < length s.table
+    → slice_get (edge_in s.table k).sides j ≡ Some side → IsSideInTable s k side
+side_got s h k j side l is =
+    subst (IsSideInTable s k) (get_or_from_slice_get (edge_in s.table k).sides j side side is)
+    (side_in_table s h k j side l (slice_get_within (edge_in s.table k).sides j side is))
+
+-- a side that an edge contains
+pub side_kept : (s : OrientedMesh) → IsOrientedSurface s → (k : ℕ) (side : Side) → k < length s.table
+    → Contains (edge_in s.table k).sides side → IsSideInTable s k side
+side_kept s h k side l has = subst (IsSideInTable s k) has.2 (side_in_table s h k has.0 side l has.1)
+
+-- the two sides of an edge have different numbers
+pub sides_apart : (s : OrientedMesh) → IsOrientedSurface s → (k : ℕ) (first second : Side) → k < length s.table
+    → slice_get (edge_in s.table k).sides 0 ≡ Some first → slice_get (edge_in s.table k).sides 1 ≡ Some second
+    → side_number s.mesh second ≢ side_number s.mesh first
+sides_apart s h k first second l is also =
+    let edge : Edge = edge_in s.table k in
+    let rise = edge_sides_rise s.mesh edge (table_edge s.mesh s.table k h.table l) 0 1 first (omega arith)
+    (slice_get_within edge.sides 1 second also) in
+    let a : get_or edge.sides 0 first ≡ first = get_or_from_slice_get edge.sides 0 first first is in
+    let b : get_or edge.sides 1 first ≡ second = get_or_from_slice_get edge.sides 1 second first also in
+    let less : side_number s.mesh first < side_number s.mesh second =
+    subst (λ x. side_number s.mesh x < side_number s.mesh second) a
+    (subst (λ x. side_number s.mesh (get_or edge.sides 0 first) < side_number s.mesh x) b rise) in
+    λ same. omega (arith, less, same)
+
+-- of the two sides of its edge a dart has the first or the second, and its twin the other
+pub record IsAtEdge (s : OrientedMesh) (d k : ℕ) : Type 0 where
+  pub dart : d < darts_of s
+  pub edge : k < length s.table
+  pub is : k ≡ edge_of s d
+
+pub first_is_twin : (s : OrientedMesh) → IsOrientedSurface s → (d k : ℕ) (first : Side) → IsAtEdge s d k
+    → slice_get (edge_in s.table k).sides 0 ≡ Some first
+    → side_number s.mesh first ≢ d → side_number s.mesh first ≡ twin_of s d
+first_is_twin s h d k first at got other =
+    let side : IsSideInTable s k first = side_got s h k 0 first at.edge got in
+    twin_is s h d (side_number s.mesh first) at.dart side.within (sym at.is ∙ side.edge) other
+
+pub second_is_twin : (s : OrientedMesh) → IsOrientedSurface s → (d k : ℕ) (first second : Side) → IsAtEdge s d k
+    → slice_get (edge_in s.table k).sides 0 ≡ Some first
+    → slice_get (edge_in s.table k).sides 1 ≡ Some second → side_number s.mesh first ≡ d → side_number s.mesh second ≡ twin_of s d
+second_is_twin s h d k first second at got also own =
+    let side : IsSideInTable s k second = side_got s h k 1 second at.edge also in
+    twin_is s h d (side_number s.mesh second) at.dart side.within (sym at.is ∙ side.edge)
+    (λ same. sides_apart s h k first second at.edge got also (same ∙ sym own))
+
+-- the dart of an edge that starts at u, or else its twin, leads from u to v
+pub leads_on : (s : OrientedMesh) → IsOrientedSurface s → (u v k d : ℕ) → IsAtEdge s d k → HasEnds u v (edge_in s.table k)
+    → origin_of s d ≡ u → IsDartFrom (rotations_of s) u v d
+leads_on s h u v k d at ends starts =
+    elim (between_is s h u v k d at.edge ends at.dart (sym at.is)) [
+      | inl on ↦ record { within = at.dart; starts = starts; ends = origin-twin s h d at.dart ∙ on.1 }
+      | inr back ↦ absurd (no_loop s h d at.dart (back.1 ∙ sym starts))
+    ]
+
+pub leads_back : (s : OrientedMesh) → IsOrientedSurface s → (u v k d : ℕ) → IsAtEdge s d k → HasEnds u v (edge_in s.table k)
+    → origin_of s d ≢ u
+    → IsDartFrom (rotations_of s) u v (twin_of s d)
+leads_back s h u v k d at ends other =
+    elim (between_is s h u v k d at.edge ends at.dart (sym at.is)) [
+      | inl on ↦ absurd (other on.0)
+      | inr back ↦ record {
+        within = twin_within s h d at.dart;
+        starts = origin-twin s h d at.dart ∙ back.1;
+        ends = ap (origin_of s) (twin-twin s h d at.dart) ∙ back.0;
+      }
+    ]
+
+-- the edge of a dart joins the ends of the dart
+same_ends : (a b u v : ℕ) (side : FaceSide) → joins a b side ≡ true → joins u v side ≡ true → ((a ≡ u) × (b ≡ v)) ⊎ ((a ≡ v) × (b ≡ u))
+same_ends a b u v side h k =
+    elim (joins_read a b side h) [
+      | inl x ↦ elim (joins_read u v side k) [ inl y ↦ inl (sym x.0 ∙ y.0, sym x.1 ∙ y.1) | inr y ↦ inr (sym x.0 ∙ y.0, sym x.1 ∙ y.1) ]
+      | inr x ↦ elim (joins_read u v side k) [ inl y ↦ inr (sym x.1 ∙ y.1, sym x.0 ∙ y.0) | inr y ↦ inl (sym x.1 ∙ y.1, sym x.0 ∙ y.0) ]
+    ]
+
+pub edge_has_ends : (s : OrientedMesh) → IsOrientedSurface s → (d : ℕ) → d < darts_of s
+    → IsEdgeWithEnds s (origin_of s d) (origin_of s (twin_of s d)) (edge_of s d)
+unfolding joins_edge
+edge_has_ends s h d l =
+    let own : IsEdgeOfDart s d (edge_of s d) = dart_has_edge s h d l in
+    let edge : Edge = edge_in s.table (edge_of s d) in
+    let ends : joins (origin_of s d) (origin_of s (twin_of s d)) (side_of s d) ≡ true =
+    subst (λ x. joins (origin_of s d) x (side_of s d) ≡ true) (sym (origin-twin s h d l)) (dart_joins s d) in
+    record {
+      within = own.within;
+      ends = same_ends edge.low edge.high (origin_of s d) (origin_of s (twin_of s d))
+          (side_of s d) own.joined ends;
+    }
+
+pub edge_has_dart : (s : OrientedMesh) → IsOrientedSurface s → (k : ℕ) → k < length s.table → (d : ℕ) × (d < darts_of s) × (edge_of s d ≡ k)
+edge_has_dart s h k l =
+    let none : Side = record { face = record { 0 = 0 }; at = 0 } in
+    let side : IsSideInTable s k (get_or (edge_in s.table k).sides 0 none) =
+    side_in_table s h k 0 none l (omega (arith, two_sides s h k l)) in
+    (side_number s.mesh (get_or (edge_in s.table k).sides 0 none), side.within, sym side.edge)

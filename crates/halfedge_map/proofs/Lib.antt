@@ -8,3 +8,5 @@ pub mod VertexLemmas
 pub mod EdgeLemmas
 pub mod WalkLemmas
 pub mod SystemLemmas
+pub mod StoringLemmas
+pub mod EulerLemmas

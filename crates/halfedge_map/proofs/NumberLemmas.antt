@@ -1,14 +1,14 @@
 -- The sides of a mesh by their numbers.
-use Rattle.std.proofs.Common.{◌≡◌, ℕ, zero, suc, ◌+◌, ◌-◌, ◌<◌, ◌≤◌, true, List, [], ◌∷◌, ◌++◌, length, get_or, take, refl, ap, sym, ◌∙◌, subst, arith, inl, inr}
+use Rattle.std.proofs.Common.{◌≡◌, ℕ, zero, suc, ◌+◌, ◌-◌, ◌<◌, List, [], ◌∷◌, ◌++◌, length, get_or, take, ap, sym, ◌∙◌, arith, inl, inr}
 use Rattle.std.specs.Prelude.{flat_map, sum_by}
 use Rattle.std.specs.List.{enumerate_from}
 use Rattle.std.proofs.lemmas.Bool.{cases_lt}
 use Rattle.std.proofs.lemmas.List.{get_or_append_left, get_or-append-add}
 use Rattle.std.proofs.lemmas.List.Sums.{sum_by-cons}
-use Rattle.surf_model.specs.FaceLists.{FaceList, FaceSide, face_at, all_sides, sides_of_face, total_sides, next_corner}
+use Rattle.surf_model.specs.FaceLists.{FaceList, FaceSide, face_at, all_sides, sides_of_face, total_sides}
 use Rattle.surf_model.specs.Darts.{first_side, IsSide, side_number}
 use Rattle.surf_model.specs.declared.edges.Side.{Side}
-use Rattle.surf_model.proofs.NumberLemmas.{face_side, length-sides_of_face, get_or-sides_of_face, length-all_sides}
+use Rattle.surf_model.proofs.NumberLemmas.{face_side, length-sides_of_face, get_or-sides_of_face}
 
 -- the sides of faces that are numbered from n on
 sides_from : ℕ → List (List ℕ) → List FaceSide
@@ -40,11 +40,18 @@ unfolding all_sides sides_from
 side_numbered mesh f t d l b =
     side_numbered_from 0 mesh.faces f t d l b ∙ ap (λ k. face_side k (face_at mesh f) t) (let e : 0 + f ≡ f = omega arith in e)
 
-number_within : (faces : List (List ℕ)) (f t : ℕ) → f < length faces → t < length (get_or faces f []) → sum_by length (take f faces) + t < sum_by length faces
+number_within : (faces : List (List ℕ)) (f t : ℕ) → f < length faces → t < length (get_or faces f [])
+    → sum_by length (take f faces) + t < sum_by length faces
 number_within [] f t l b = absurd (omega arith)
 number_within (face ∷ faces) zero t l b = omega (arith, b, sum_by-cons {X = List ℕ} length face faces)
 number_within (face ∷ faces) (suc f) t l b =
-    omega (arith, number_within faces f t (omega arith) b, sum_by-cons {X = List ℕ} length face faces, sum_by-cons {X = List ℕ} length face (take f faces))
+    omega (
+      arith,
+      number_within faces f t (omega arith) b,
+      sum_by-cons {X = List ℕ} length face faces,
+      sum_by-cons {X =
+          List ℕ} length face (take f faces),
+    )
 
 -- the face and the place of a side, from its number
 pub record IsNumberOf (mesh : FaceList) (f t number : ℕ) : Type 0 where
@@ -62,8 +69,14 @@ place_of (face ∷ faces) number l =
     elim (cases_lt number (length face)) [
       | inl less ↦ (0, number, omega arith, less, omega arith)
       | inr more ↦
-          (let rest = place_of faces (number - length face) (omega (arith, l, more, sum_by-cons {X = List ℕ} length face faces)) in
-          (suc rest.0, rest.1, omega (arith, rest.2), rest.3, omega (arith, rest.4, more, sum_by-cons {X = List ℕ} length face (take rest.0 faces))))
+          (let rest = place_of faces (number - length face) (omega (arith, l, more, sum_by-cons {X = List ℕ} length face faces)) in (
+            suc rest.0,
+            rest.1,
+            omega (arith, rest.2),
+            rest.3,
+            omega
+                (arith, rest.4, more, sum_by-cons {X = List ℕ} length face (take rest.0 faces)),
+          ))
     ]
 
 -- each number below the count is that of a side

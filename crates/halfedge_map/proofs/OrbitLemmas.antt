@@ -1,5 +1,6 @@
 -- Orbits of a map that is injective on the numbers below n: each number comes back to itself, so what reaches is reached.
-use Rattle.std.proofs.Common.{◌≡◌, ◌≢◌, ◌⊎◌, inl, inr, ℕ, zero, suc, ◌+◌, ◌-◌, ◌<◌, ◌≤◌, Bool, true, false, cond, eqb, refl, ap, sym, ◌∙◌, subst, arith}
+use Rattle.std.proofs.Common.{◌≡◌, ◌≢◌, ◌⊎◌, inl, inr, ℕ, zero, suc, ◌+◌, ◌-◌, ◌<◌, Bool, true, false, cond, eqb, refl, ap, sym, ◌∙◌}
+use Rattle.std.proofs.Common.{subst, arith}
 use Rattle.std.proofs.lemmas.Bool.{cases_Bool, cases_lt, cond-true, cond-false, eqb-true, eq-eqb, both_ways}
 use Rattle.halfedge_map.specs.Orbits.{after_steps, IsReached}
 
@@ -87,10 +88,15 @@ pub reached_step : (f : ℕ → ℕ) (x : ℕ) → IsReached f x (f x)
 reached_step f x = record { steps = 1; leads = refl }
 
 pub reached_trans : (f : ℕ → ℕ) (x y z : ℕ) → IsReached f x y → IsReached f y z → IsReached f x z
-reached_trans f x y z h k = record { steps = k.steps + h.steps; leads = steps_add f k.steps h.steps x ∙ ap (after_steps f k.steps) h.leads ∙ k.leads }
+reached_trans f x y z h k = record {
+  steps = k.steps + h.steps;
+  leads = steps_add f k.steps h.steps x
+      ∙ ap (after_steps f k.steps) h.leads ∙ k.leads;
+}
 
 -- what is kept by each step is kept along an orbit
-pub reached_keeps : (n : ℕ) (f : ℕ → ℕ) (g : ℕ → ℕ) → IsPermutationBelow n f → ((x : ℕ) → x < n → g (f x) ≡ g x) → (x y : ℕ) → x < n → IsReached f x y → g y ≡ g x
+pub reached_keeps : (n : ℕ) (f : ℕ → ℕ) (g : ℕ → ℕ) → IsPermutationBelow n f → ((x : ℕ) → x < n → g (f x) ≡ g x) → (x y : ℕ) → x < n
+    → IsReached f x y → g y ≡ g x
 reached_keeps n f g h keeps x y l r = ap g (sym r.leads) ∙ go r.steps
   where
     go : (k : ℕ) → g (after_steps f k x) ≡ g x
@@ -98,7 +104,8 @@ reached_keeps n f g h keeps x y l r = ap g (sym r.leads) ∙ go r.steps
     go (suc k) = keeps (after_steps f k x) (steps_within n f h k x l) ∙ go k
 
 -- equal places of an orbit, traced back to its start
-strip : (n : ℕ) (f : ℕ → ℕ) (x i d : ℕ) → IsPermutationBelow n f → x < n → after_steps f i x ≡ after_steps f (i + d) x → x ≡ after_steps f d x
+strip : (n : ℕ) (f : ℕ → ℕ) (x i d : ℕ) → IsPermutationBelow n f → x < n → after_steps f i x ≡ after_steps f (i + d) x
+    → x ≡ after_steps f d x
 strip n f x zero d h l e = e ∙ ap (λ m. after_steps f m x) (let s : 0 + d ≡ d = omega arith in s)
 strip n f x (suc i) d h l e =
     strip n f x i d h l
@@ -137,7 +144,8 @@ reached_back n f h x y l r = subst (λ z. IsReached f z x) r.leads (go r.steps)
         reached_trans f (f z) z x (record { steps = round.less; leads = round.back }) (go k)
 
 -- a map that undoes the steps of another reaches back
-pub reached_undone : (n : ℕ) (f g : ℕ → ℕ) → IsPermutationBelow n f → ((x : ℕ) → x < n → g (f x) ≡ x) → (x y : ℕ) → x < n → IsReached f x y → IsReached g y x
+pub reached_undone : (n : ℕ) (f g : ℕ → ℕ) → IsPermutationBelow n f → ((x : ℕ) → x < n → g (f x) ≡ x) → (x y : ℕ) → x < n
+    → IsReached f x y → IsReached g y x
 reached_undone n f g h undoes x y l r = subst (λ z. IsReached g z x) r.leads (go r.steps)
   where
     go : (k : ℕ) → IsReached g (after_steps f k x) x

@@ -1,12 +1,13 @@
 -- The two darts of an edge.
-use Rattle.std.proofs.Common.{◌≡◌, ◌≢◌, ◌⊎◌, inl, inr, ℕ, ◌+◌, ◌<◌, Bool, true, false, not, cond, eqb, ◌&&◌, length, get_or, refl, ap, sym, ◌∙◌, subst, arith}
+use Rattle.std.proofs.Common.{◌≡◌, ◌≢◌, ◌⊎◌, inl, inr, ℕ, ◌<◌, Bool, true, false, not, cond, eqb, ◌&&◌, length, get_or, refl, ap, sym}
+use Rattle.std.proofs.Common.{◌∙◌, subst, arith}
 use Rattle.std.specs.Prelude.{unwrap_or}
-use Rattle.std.proofs.lemmas.Bool.{cases_Bool, cond-true, cond-false, both_ways, and_parts, and_from, eqb-true, eq-eqb}
+use Rattle.std.proofs.lemmas.Bool.{cases_Bool, both_ways, and_parts, and_from, eqb-true, eq-eqb}
 use Rattle.std.proofs.lemmas.Bool.Decides.{nat_tests}
 use Rattle.std.proofs.lemmas.List.{get_or_default}
 use Rattle.std.proofs.lemmas.List.Folds.{list_any_at}
-use Rattle.surf_model.specs.FaceLists.{FaceList, FaceSide, IsFaceList, IsFace, face_at, all_sides, next_corner, joins, is_edge}
-use Rattle.surf_model.specs.Surfaces.{is_flipped, AreOfOneEdge, ArePartners, RunOppositely, start_under, end_under}
+use Rattle.surf_model.specs.FaceLists.{FaceSide, IsFace, face_at, all_sides, next_corner, joins, is_edge}
+use Rattle.surf_model.specs.Surfaces.{is_flipped, ArePartners, RunOppositely}
 use Rattle.surf_model.specs.Darts.{IsSide, side_number}
 use Rattle.surf_model.specs.declared.edges.Side.{Side}
 use Rattle.surf_model.proofs.NumberLemmas.{face_side, length-all_sides}
@@ -73,12 +74,14 @@ two_darts s h d l =
     let long : length (all_sides s.mesh) ≡ darts_of s = length-all_sides s.mesh in
     let here : p (get_or (all_sides s.mesh) d side) ≡ true = ap p (side_is s d side l) ∙ joins_own side in
     let edge : is_edge s.mesh side.tail side.head ≡ true = list_any_at p (all_sides s.mesh) d side (omega (arith, l, long)) here in
-    let other : HasOther p (all_sides s.mesh) side d = other_left p (all_sides s.mesh) side d (h.closed.two_sides side.tail side.head edge) (omega (arith, l, long)) here in
+    let other : HasOther p (all_sides s.mesh) side d = other_left p (all_sides s.mesh) side d
+    (h.closed.two_sides side.tail side.head edge) (omega (arith, l, long)) here in
     let o : ℕ = other.place in
     let o_in : o < darts_of s = omega (arith, other.within, long) in
     let test : ℕ → Bool = λ k. not (eqb k d) && p (side_of s k) in
     let o_passes : test o ≡ true =
-    and_from (not (eqb o d)) (p (side_of s o)) (let ne : o ≢ d = other.other in grind (arith, nat_tests)) (ap p (sym (side_is s o side o_in)) ∙ other.passes) in
+    and_from (not (eqb o d)) (p (side_of s o)) (let ne : o ≢ d = other.other in grind (arith, nat_tests))
+    (ap p (sym (side_is s o side o_in)) ∙ other.passes) in
     let found : IsFirstBelow test (darts_of s) = first_passes test (darts_of s) o o_in o_passes in
     let t : ℕ = found.number in
     let is : twin_of s d ≡ t = ap (λ r. unwrap_or r d) found.is in
@@ -109,7 +112,8 @@ twin-twin s h d l =
     sym ((two_darts s h (twin_of s d) t.within).only d l (twin_along s h d l) (λ e. t.other (sym e)))
 
 -- a dart along the edge of d is d or its twin
-pub along_edge : (s : OrientedMesh) → IsOrientedSurface s → (d e : ℕ) → d < darts_of s → e < darts_of s → along s d e ≡ true → (e ≡ d) ⊎ (e ≡ twin_of s d)
+pub along_edge : (s : OrientedMesh) → IsOrientedSurface s → (d e : ℕ) → d < darts_of s → e < darts_of s → along s d e ≡ true
+    → (e ≡ d) ⊎ (e ≡ twin_of s d)
 along_edge s h d e l k same =
     elim (cases_Bool (eqb e d)) [
       | inl is ↦ inl (eqb-true e d is)
@@ -123,7 +127,8 @@ unfolding along
 partners s h side other in_mesh also is =
     let d : ℕ = side_number s.mesh side in
     let p : IsNumberOf s.mesh side.face.0 side.at d = numbered s side in_mesh in
-    let q : IsNumberOf s.mesh other.face.0 other.at (twin_of s d) = subst (IsNumberOf s.mesh other.face.0 other.at) is (numbered s other also) in
+    let q : IsNumberOf s.mesh other.face.0 other.at (twin_of s d) =
+    subst (IsNumberOf s.mesh other.face.0 other.at) is (numbered s other also) in
     let twin : IsTwin s d (twin_of s d) = two_darts s h d (number_below s.mesh side.face.0 side.at d p) in
     let x : FaceSide = face_side side.face.0 (face_at s.mesh side.face.0) side.at in
     let y : FaceSide = face_side other.face.0 (face_at s.mesh other.face.0) other.at in
@@ -147,7 +152,8 @@ origin-twin s h d l =
     let q : HasSide s.mesh (twin_of s d) = side_with_number s.mesh (twin_of s d) (twin_within s h d l) in
     let opposite : RunOppositely s.mesh s.signs p.side q.side =
     h.coherent.opposite p.side q.side (partners s h p.side q.side p.in_mesh q.in_mesh (q.number ∙ ap (twin_of s) (sym p.number))) in
-    ap (origin_of s) (sym q.number) ∙ origin_under s q.side q.in_mesh ∙ sym opposite.ends ∙ sym (target_under s p.side p.in_mesh) ∙ ap (target_of s) p.number
+    ap (origin_of s) (sym q.number) ∙ origin_under s q.side q.in_mesh ∙ sym opposite.ends ∙ sym (target_under s p.side p.in_mesh)
+    ∙ ap (target_of s) p.number
 
 pub target-twin : (s : OrientedMesh) → IsOrientedSurface s → (d : ℕ) → d < darts_of s → target_of s (twin_of s d) ≡ origin_of s d
 target-twin s h d l = sym (origin-twin s h (twin_of s d) (twin_within s h d l)) ∙ ap (origin_of s) (twin-twin s h d l)
@@ -166,4 +172,5 @@ no_loop s h d l =
     let ne : get_or ring p.place 0 ≢ get_or ring (next_corner true (length ring) p.place) 0 = is_face.neighbours p.place p.numbered.place in
     let side : side_of s d ≡ face_side p.face ring p.place = side_at s p.face p.place d p.numbered in
     λ e. ends_differ (is_flipped s.signs p.face) (get_or ring p.place 0) (get_or ring (next_corner true (length ring) p.place) 0) ne
-    (sym (ap (λ (x : FaceSide). cond (is_flipped s.signs x.face) x.head x.tail) side) ∙ sym e ∙ ap (λ (x : FaceSide). cond (is_flipped s.signs x.face) x.tail x.head) side)
+    (sym (ap (λ (x : FaceSide). cond (is_flipped s.signs x.face) x.head x.tail) side) ∙ sym e
+    ∙ ap (λ (x : FaceSide). cond (is_flipped s.signs x.face) x.tail x.head) side)

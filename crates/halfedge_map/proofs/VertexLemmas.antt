@@ -1,20 +1,24 @@
 -- Darts start at one vertex exactly where they are reached from one another round it: the link condition, in terms of darts.
-use Rattle.std.proofs.Common.{◌≡◌, ◌≢◌, ◌⊎◌, inl, inr, ℕ, ◌+◌, ◌<◌, Bool, true, false, eqb, List, [], ◌∷◌, length, get_or, refl, ap, sym, ◌∙◌, subst, arith}
+use Rattle.std.proofs.Common.{◌≡◌, ◌⊎◌, inl, inr, ℕ, ◌<◌, true, eqb, List, [], ◌∷◌, length, get_or, refl, ap, sym, ◌∙◌, subst}
 use Rattle.std.specs.List.{list_any}
-use Rattle.std.proofs.lemmas.Bool.{cases_Bool, eq-eqb}
-use Rattle.std.proofs.lemmas.List.Folds.{list_any_at}
-use Rattle.surf_model.specs.FaceLists.{FaceList, FaceSide, face_at, next_corner, joins, is_used}
-use Rattle.surf_model.specs.Surfaces.{is_flipped, AreOfOneEdge, ArePartners, IsCornerAt, IsCornerOfSide, IsStepAround, HasOneRing, IsPath, AreJoined}
-use Rattle.surf_model.specs.Darts.{first_side, IsSide, side_number, side_after, tail_of, head_of}
+use Rattle.std.proofs.lemmas.Bool.{cases_Bool, eq-eqb, eqb-true}
+use Rattle.std.proofs.lemmas.List.{get_or_default}
+use Rattle.std.proofs.lemmas.List.Folds.{list_any_at, Any-from_list_any}
+use Rattle.surf_model.specs.FaceLists.{FaceSide, face_at, next_corner, joins, is_used}
+use Rattle.surf_model.specs.Surfaces.{is_flipped, ArePartners, IsCornerAt, IsCornerOfSide, IsStepAround, IsPath}
+use Rattle.surf_model.specs.Darts.{IsSide, side_number}
 use Rattle.surf_model.specs.declared.edges.Side.{Side}
 use Rattle.surf_model.proofs.NumberLemmas.{face_side}
 use Rattle.halfedge_map.specs.Orbits.{IsReached}
 use Rattle.halfedge_map.specs.OrientedMeshes.{OrientedMesh, IsOrientedSurface}
-use Rattle.halfedge_map.specs.DartMaps.{darts_of, side_of, face_of, origin_of, target_of, next_of, twin_of, start_corner_of, end_corner_of, dart_at_corner}
-use Rattle.halfedge_map.proofs.OrbitLemmas.{IsPermutationBelow, reached_refl, reached_step, reached_trans, reached_back, reached_keeps}
+use Rattle.halfedge_map.specs.DartMaps.{darts_of, side_of, face_of, origin_of, target_of, next_of, twin_of, start_corner_of}
+use Rattle.halfedge_map.specs.DartMaps.{end_corner_of, dart_at_corner, StartsAtCorner}
+use Rattle.halfedge_map.proofs.OrbitLemmas.{IsPermutationBelow, reached_refl, reached_step, reached_trans, reached_back}
 use Rattle.halfedge_map.proofs.NumberLemmas.{IsNumberOf, HasPlace, placed, number_below}
-use Rattle.halfedge_map.proofs.DartLemmas.{corners, vertex_at, side_at, one_face, one_place, origin_at, target_at, next_within, next_injective, origin-next, corner_of_start, corner_of_end, start_kept, start_flipped, end_kept, end_flipped, start_corner_within, numbered}
-use Rattle.halfedge_map.proofs.TwinLemmas.{along, IsTwin, two_darts, twin_within, twin-twin, origin-twin, target-twin, no_loop, joins_from}
+use Rattle.halfedge_map.proofs.DartLemmas.{corners, vertex_at, side_at, face_at_number, dart_starts, one_face, one_place, origin_at}
+use Rattle.halfedge_map.proofs.DartLemmas.{target_at, next_within, next_injective, origin-next, corner_of_start, corner_of_end}
+use Rattle.halfedge_map.proofs.DartLemmas.{start_kept, start_flipped, end_kept, end_flipped, start_corner_within, numbered}
+use Rattle.halfedge_map.proofs.TwinLemmas.{along, two_darts, twin_within, twin-twin, origin-twin, target-twin, no_loop, joins_from}
 
 -- the dart that follows round the vertex
 abbrev pub turned : OrientedMesh → ℕ → ℕ
@@ -25,7 +29,8 @@ turns_permute s h =
     record {
       within = λ d l. next_within s (twin_of s d) (twin_within s h d l);
       injective = λ d e l k same.
-          let twins : twin_of s d ≡ twin_of s e = next_injective s (twin_of s d) (twin_of s e) (twin_within s h d l) (twin_within s h e k) same in
+          let twins : twin_of s d ≡ twin_of s e = next_injective s (twin_of s d) (twin_of s e) (twin_within s h d l)
+          (twin_within s h e k) same in
           sym (twin-twin s h d l) ∙ ap (twin_of s) twins ∙ twin-twin s h e k;
     }
 
@@ -104,7 +109,8 @@ pub record IsTurn (s : OrientedMesh) (d e : ℕ) : Type 0 where
   pub second : e < darts_of s
   pub way : (e ≡ turned s d) ⊎ (d ≡ turned s e)
 
-step_is_turn : (s : OrientedMesh) → IsOrientedSurface s → (v : ℕ) (corner other : Side) → IsStepAround s.mesh v corner other → IsTurn s (dart_of s corner) (dart_of s other)
+step_is_turn : (s : OrientedMesh) → IsOrientedSurface s → (v : ℕ) (corner other : Side) → IsStepAround s.mesh v corner other
+    → IsTurn s (dart_of s corner) (dart_of s other)
 step_is_turn s h v corner other step =
     let d : ℕ = side_number s.mesh step.side in
     let e : ℕ = side_number s.mesh step.partner in
@@ -134,12 +140,14 @@ turn_reached : (s : OrientedMesh) → IsOrientedSurface s → (d e : ℕ) → Is
 turn_reached s h d e turn =
     elim turn.way [
       | inl on ↦ subst (IsReached (turned s) d) (sym on) (reached_step (turned s) d)
-      | inr back ↦ reached_back (darts_of s) (turned s) (turns_permute s h) e d turn.second (subst (IsReached (turned s) e) (sym back) (reached_step (turned s) e))
+      | inr back ↦ reached_back (darts_of s) (turned s) (turns_permute s h) e d turn.second
+          (subst (IsReached (turned s) e) (sym back) (reached_step (turned s) e))
     ]
 
 path_reached : (s : OrientedMesh) → IsOrientedSurface s → (v : ℕ) (corner : Side) (path : List Side) (other : Side)
     → IsPath (IsStepAround s.mesh v) corner path other → IsReached (turned s) (dart_of s corner) (dart_of s other)
-path_reached s h v corner [] other is = subst (λ (x : Side). IsReached (turned s) (dart_of s corner) (dart_of s x)) is (reached_refl (turned s) (dart_of s corner))
+path_reached s h v corner [] other is = subst (λ (x : Side). IsReached (turned s) (dart_of s corner) (dart_of s x)) is
+    (reached_refl (turned s) (dart_of s corner))
 path_reached s h v corner (z ∷ path) other steps =
     reached_trans (turned s) (dart_of s corner) (dart_of s z) (dart_of s other)
     (turn_reached s h (dart_of s corner) (dart_of s z) (step_is_turn s h v corner z steps.0))
@@ -175,7 +183,8 @@ starts_at s v d l e =
 pub origin_used : (s : OrientedMesh) (d : ℕ) → d < darts_of s → is_used s.mesh (origin_of s d) ≡ true
 origin_used s d l = (starts_at s (origin_of s d) d l refl).used
 
-pub vertex_reached : (s : OrientedMesh) → IsOrientedSurface s → (d e : ℕ) → d < darts_of s → e < darts_of s → origin_of s d ≡ origin_of s e → IsReached (turned s) d e
+pub vertex_reached : (s : OrientedMesh) → IsOrientedSurface s → (d e : ℕ) → d < darts_of s → e < darts_of s
+    → origin_of s d ≡ origin_of s e → IsReached (turned s) d e
 vertex_reached s h d e l k same =
     let v : ℕ = origin_of s e in
     let a : StartsAt s v d = starts_at s v d l same in
@@ -183,3 +192,31 @@ vertex_reached s h d e l k same =
     let way = h.closed.one_ring v a.used a.corner b.corner a.is_at b.is_at in
     subst (IsReached (turned s) d) b.dart
     (subst (λ x. IsReached (turned s) x (dart_of s b.corner)) a.dart (path_reached s h v a.corner way.0 b.corner way.1))
+
+pub vertex_has_dart : (s : OrientedMesh) (v : ℕ) → is_used s.mesh v ≡ true → (d : ℕ) × (d < darts_of s) × (origin_of s d ≡ v)
+unfolding is_used
+vertex_has_dart s v used =
+    let some_face = Any-from_list_any (λ (face : List ℕ). list_any (λ corner. eqb corner v) face) s.mesh.faces used in
+    let f : ℕ = some_face.0 in
+    let ring : face_at s.mesh f ≡ some_face.1 = get_or_default s.mesh.faces f [] some_face.1 some_face.2 ∙ some_face.3 in
+    let some_corner = Any-from_list_any (λ corner. eqb corner v) some_face.1 some_face.4 in
+    let c : ℕ = some_corner.0 in
+    let c_in : c < corners s f = subst (λ (r : List ℕ). c < length r) (sym ring) some_corner.2 in
+    let vertex : vertex_at s f c ≡ v =
+    ap (λ (r : List ℕ). get_or r c 0) ring ∙ get_or_default some_face.1 c 0 some_corner.1 some_corner.2 ∙ some_corner.3
+    ∙ eqb-true some_corner.1 v some_corner.4 in
+    let dart : StartsAtCorner s f c (dart_at_corner s f c) = dart_starts s f c some_face.2 c_in in
+    (dart_at_corner s f c, dart.within, dart.origin ∙ vertex)
+
+-- what follows the corners of a dart
+pub at_start : (s : OrientedMesh) (d : ℕ) → d < darts_of s → dart_at_corner s (face_of s d) (start_corner_of s d) ≡ d
+at_start s d l =
+    let p : HasPlace s.mesh d = placed s.mesh d l in
+    ap (λ f. dart_at_corner s f (start_corner_of s d)) (face_at_number s p.face p.place d p.numbered)
+    ∙ corner_of_start s p.face p.place d p.numbered
+
+pub at_end : (s : OrientedMesh) (d : ℕ) → d < darts_of s → dart_at_corner s (face_of s d) (end_corner_of s d) ≡ next_of s d
+at_end s d l =
+    let p : HasPlace s.mesh d = placed s.mesh d l in
+    ap (λ f. dart_at_corner s f (end_corner_of s d)) (face_at_number s p.face p.place d p.numbered)
+    ∙ corner_of_end s p.face p.place d p.numbered

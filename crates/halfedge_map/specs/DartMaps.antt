@@ -1,13 +1,13 @@
 -- The darts of a surface (half-edges), and the maps on them. A dart is a side of a face and bears its number. It runs as
 -- the face lists it if the face is kept, and the other way if the face is flipped.
-use Rattle.std.specs.Prelude.{◌≡◌, ℕ, ◌+◌, ◌<◌, Bool, true, false, not, ◌==◌, ◌&&◌, if◌then◌else◌, length, slice_index, slice_index_or, find, Option, unwrap_or, count_by}
-use Rattle.std.specs.Prelude.{ℤ, pos, ◌+ℤ◌, ◌-ℤ◌}
-use Rattle.std.specs.List.{range_with_len}
+use Rattle.std.specs.Prelude.{◌≡◌, ℕ, ◌+◌, ◌<◌, true, false, not, ◌==◌, ◌&&◌, if◌then◌else◌, length, slice_index}
+use Rattle.std.specs.Prelude.{slice_index_or, unwrap_or, ℤ, pos, ◌+ℤ◌, ◌-ℤ◌}
 use Rattle.surf_model.specs.FaceLists.{FaceSide, all_sides, face_at, next_corner, joins, is_used, total_sides}
 use Rattle.surf_model.specs.Edges.{edge_in}
-use Rattle.surf_model.specs.Darts.{first_side, IsSide, side_number, side_after}
+use Rattle.surf_model.specs.Darts.{first_side, side_number, side_after}
 use Rattle.surf_model.specs.Surfaces.{is_flipped, start_under, end_under}
 use Rattle.surf_model.specs.declared.edges.Side.{Side}
+use Rattle.halfedge_map.specs.Numbers.{first_below, count_below}
 use Rattle.halfedge_map.specs.OrientedMeshes.{OrientedMesh}
 
 -- how many darts there are
@@ -47,8 +47,10 @@ pub record IsDartOfSide (surface : OrientedMesh) (side : Side) (dart : ℕ) : Ty
   pub face : face_of surface dart ≡ side.face.0
   pub origin : origin_of surface dart ≡ start_under surface.mesh surface.signs side
   pub target : target_of surface dart ≡ end_under surface.mesh surface.signs side
-  pub kept : is_flipped surface.signs side.face.0 ≡ false → next_of surface dart ≡ side_number surface.mesh (side_after surface.mesh side)
-  pub flipped : is_flipped surface.signs side.face.0 ≡ true → next_of surface (side_number surface.mesh (side_after surface.mesh side)) ≡ dart
+  pub kept : is_flipped surface.signs side.face.0 ≡ false
+      → next_of surface dart ≡ side_number surface.mesh (side_after surface.mesh side)
+  pub flipped : is_flipped surface.signs side.face.0 ≡ true
+      → next_of surface (side_number surface.mesh (side_after surface.mesh side)) ≡ dart
 
 -- the corners of its face at which a dart starts and ends
 unfoldable pub start_corner_of : OrientedMesh → ℕ → ℕ
@@ -74,10 +76,6 @@ pub record StartsAtCorner (surface : OrientedMesh) (f corner dart : ℕ) : Type 
   pub starts : start_corner_of surface dart ≡ corner
   pub origin : origin_of surface dart ≡ slice_index (face_at surface.mesh f) corner
 
--- the least number below n that passes a test
-abbrev pub first_below : (ℕ → Bool) → ℕ → Option ℕ
-first_below test n = find test (range_with_len 0 n)
-
 -- the other dart of its edge: the first one besides it that joins the same two vertices
 unfoldable pub twin_of : OrientedMesh → ℕ → ℕ
 twin_of surface dart =
@@ -95,7 +93,7 @@ edge_of surface dart =
 
 -- how many vertices are used
 unfoldable pub used_vertices : OrientedMesh → ℕ
-used_vertices surface = count_by (λ v. is_used surface.mesh v) (range_with_len 0 surface.mesh.count)
+used_vertices surface = count_below (is_used surface.mesh) surface.mesh.count
 
 -- the Euler characteristic: used vertices less edges plus faces
 unfoldable pub euler_of : OrientedMesh → ℤ

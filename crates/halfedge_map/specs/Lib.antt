@@ -1,4 +1,7 @@
 pub mod Orbits
+pub mod Numbers
 pub mod OrientedMeshes
 pub mod DartMaps
 pub mod RotationSystems
+pub mod StoredDarts
+pub mod Examples

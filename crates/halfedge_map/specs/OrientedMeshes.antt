@@ -1,5 +1,5 @@
 -- What a surface is made from: a mesh, the table of its edges, and a sign for each face.
-use Rattle.std.specs.Prelude.{ℕ, Bool, List}
+use Rattle.std.specs.Prelude.{Bool, List}
 use Rattle.surf_model.specs.FaceLists.{FaceList, IsFaceList}
 use Rattle.surf_model.specs.Edges.{Edge, IsTableOf}
 use Rattle.surf_model.specs.Surfaces.{IsClosed, IsCoherent}

@@ -1,5 +1,7 @@
 -- What the maps on the darts of a surface are, as plain maps of numbers.
-use Rattle.std.specs.Prelude.{◌≡◌, ◌≢◌, ◌⊎◌, ◌↔◌, ℕ, ◌<◌}
+use Rattle.std.specs.Prelude.{◌≡◌, ◌≢◌, ◌⊎◌, ◌↔◌, ℕ, ◌<◌, true, length}
+use Rattle.surf_model.specs.FaceLists.{is_used}
+use Rattle.surf_model.specs.Edges.{HasEnds, edge_in}
 use Rattle.surf_model.specs.Surfaces.{AreJoined}
 use Rattle.halfedge_map.specs.Orbits.{IsReached}
 use Rattle.halfedge_map.specs.OrientedMeshes.{OrientedMesh}
@@ -36,6 +38,11 @@ pub record IsDartFrom (maps : Rotations) (u v dart : ℕ) : Type 0 where
   pub starts : maps.origin dart ≡ u
   pub ends : maps.origin (maps.twin dart) ≡ v
 
+-- the edge of a number joins u and v
+pub record IsEdgeWithEnds (surface : OrientedMesh) (u v edge : ℕ) : Type 0 where
+  pub within : edge < length surface.table
+  pub ends : HasEnds u v (edge_in surface.table edge)
+
 -- some dart leads from u to v
 abbrev pub IsDartStep : Rotations → ℕ → ℕ → Type 0
 IsDartStep maps u v = (dart : ℕ) × IsDartFrom maps u v dart
@@ -53,5 +60,20 @@ pub record IsRotationSystem (maps : Rotations) : Type 0 where
   pub faces : (d e : ℕ) → d < maps.darts → e < maps.darts → (maps.face d ≡ maps.face e) ↔ IsReached maps.next d e
   pub edges : (d e : ℕ) → d < maps.darts → e < maps.darts → (maps.edge d ≡ maps.edge e) ↔ ((e ≡ d) ⊎ (e ≡ maps.twin d))
   pub vertices : (d e : ℕ) → d < maps.darts → e < maps.darts → (maps.origin d ≡ maps.origin e) ↔ IsReached (around maps) d e
-  pub one_dart : (d e : ℕ) → d < maps.darts → e < maps.darts → maps.origin d ≡ maps.origin e → maps.origin (maps.twin d) ≡ maps.origin (maps.twin e) → d ≡ e
+  pub one_dart : (d e : ℕ) → d < maps.darts → e < maps.darts → maps.origin d ≡ maps.origin e
+      → maps.origin (maps.twin d) ≡ maps.origin (maps.twin e) → d ≡ e
   pub connected : (d e : ℕ) → d < maps.darts → e < maps.darts → AreJoined (IsDartStep maps) (maps.origin d) (maps.origin e)
+
+-- some dart has this for its vertex, face or edge
+abbrev pub HasDart : OrientedMesh → (ℕ → ℕ) → ℕ → Type 0
+HasDart surface of_dart x = (dart : ℕ) × (dart < darts_of surface) × (of_dart dart ≡ x)
+
+-- the origins of darts are the used vertices, their faces all faces, and their edges all edges of the table
+pub record NamesAll (surface : OrientedMesh) : Type 0 where
+  pub vertex_below : (d : ℕ) → d < darts_of surface → origin_of surface d < surface.mesh.count
+  pub vertex_used : (d : ℕ) → d < darts_of surface → is_used surface.mesh (origin_of surface d) ≡ true
+  pub face_below : (d : ℕ) → d < darts_of surface → face_of surface d < length surface.mesh.faces
+  pub edge_below : (d : ℕ) → d < darts_of surface → edge_of surface d < length surface.table
+  pub each_vertex : (v : ℕ) → is_used surface.mesh v ≡ true → HasDart surface (origin_of surface) v
+  pub each_face : (f : ℕ) → f < length surface.mesh.faces → HasDart surface (face_of surface) f
+  pub each_edge : (e : ℕ) → e < length surface.table → HasDart surface (edge_of surface) e

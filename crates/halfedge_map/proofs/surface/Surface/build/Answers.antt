@@ -1,0 +1,21 @@
+use Rattle.surf_model.specs.FaceLists.{total_sides}
+use Rattle.halfedge_map.specs.OrientedMeshes.{OrientedMesh}
+use Rattle.halfedge_map.specs.DartMaps.{used_vertices}
+use Rattle.halfedge_map.proofs.StoringLemmas.{stored_signed}
+use Rattle.halfedge_map.proofs.surface.Surface.build.Goals as goal
+
+pub invariant_of-result : goal.invariant_of-result
+unfolding used_vertices
+invariant_of-result c =
+    let s : OrientedMesh = record { mesh = c.args.faces; table = c.args.sides; signs = c.args.signs } in
+    record {
+      oriented = record {
+        faces = c.in_ok-next.ensures.valid;
+        table = c.requires.table;
+        closed = c.requires.closed;
+        coherent = c.requires.coherent;
+      };
+      maps =
+          stored_signed s (total_sides c.args.faces) c.in_ok-next.field-0.next.items c.in_ok-next.field-0.origin.items c.in_ok-next.ensures.stored;
+      used = c.used_vertices-vertices.ensures;
+    }

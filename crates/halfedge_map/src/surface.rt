@@ -1,0 +1,193 @@
+//! A surface as its darts.
+ghost use Rattle.std.specs.Prelude.{◌≡◌, ◌<◌, IfOk};
+ghost use Rattle.surf_model.specs.Edges.{IsTableOf};
+ghost use Rattle.surf_model.specs.Surfaces.{IsClosed, IsCoherent};
+
+use crate::darts::{StoredDarts, stored_darts, used_vertices};
+use std::alloc::{AllocError, Global};
+use std::marker::Model;
+use surf_model::{DartName, EdgeName, FaceName, Faces, Sides, Signs, VertexName};
+
+/// A connected orientable closed surface: a mesh, the table of its edges, and signs under which the two sides of each
+/// edge run oppositely.
+///
+/// A dart (half-edge) is a side of a face and has its number, as sides are numbered face after face. It runs as the face
+/// lists it where the face is kept, and the other way where it is flipped.
+#[derive(Debug, Drop)]
+pub struct Surface {
+    faces: Faces,
+    sides: Sides,
+    signs: Signs,
+    /// For each dart the one that follows in its face.
+    next: Vec<DartName>,
+    /// For each dart the vertex where it starts.
+    origin: Vec<VertexName>,
+    /// The number of used vertices.
+    vertices: u32,
+}
+
+impl Model for Surface {
+    ghost use Rattle.halfedge_map.specs.OrientedMeshes.{OrientedMesh};
+    ghost use Rattle.halfedge_map.specs.StoredDarts.{IsStoredSurface};
+
+    ghost Value = { OrientedMesh };
+
+    ghost view = { λ a. record { mesh = a.faces; table = a.sides; signs = a.signs } };
+
+    ghost invariant = { λ a. IsStoredSurface (record { mesh = a.faces; table = a.sides; signs = a.signs })
+        a.next.items a.origin.items a.vertices };
+}
+
+impl Surface {
+    ghost use Rattle.std.specs.Prelude.{length, is_some, IfSome};
+    ghost use Rattle.halfedge_map.specs.OrientedMeshes.{OrientedMesh, IsOrientedSurface};
+    ghost use Rattle.halfedge_map.specs.DartMaps.{darts_of, next_of, twin_of, origin_of, face_of, edge_of, used_vertices, euler_of};
+    ghost use Rattle.halfedge_map.specs.RotationSystems.{rotations_of, IsDartFrom};
+    ghost use Rattle.surf_model.specs.FaceLists.{is_edge};
+
+    /// The surface of a mesh, from the table of its edges and from coherent signs of its faces.
+    pub fn build(
+        alloc: Global,
+        faces: Faces,
+        sides: Sides,
+        signs: Signs,
+    ) -> Result<Surface, AllocError>
+        requires table { IsTableOf faces sides }
+        requires closed { IsClosed faces }
+        requires coherent { IsCoherent faces signs }
+        ensures { IfOk result (λ surface. surface ≡ record { mesh = faces; table = sides; signs = signs }) }
+    {
+        let StoredDarts { next, origin } = stored_darts(alloc, &faces, &signs)?;
+        let vertices = used_vertices(&faces, &sides);
+        Ok(Surface {
+            faces,
+            sides,
+            signs,
+            next,
+            origin,
+            vertices,
+        })
+    }
+
+    /// The mesh.
+    pub fn faces(&self) -> &Faces
+        ensures mesh { result.now ≡ self.now.mesh }
+        // What holds of every surface.
+        ensures valid { IsOrientedSurface self.now }
+    {
+        &self.faces
+    }
+
+    /// The table of the edges.
+    pub fn sides(&self) -> &Sides
+        ensures { result.now ≡ self.now.table }
+    {
+        &self.sides
+    }
+
+    /// The signs of the faces.
+    pub fn signs(&self) -> &Signs
+        ensures { result.now ≡ self.now.signs }
+    {
+        &self.signs
+    }
+
+    /// The number of darts.
+    pub fn darts(&self) -> u32
+        ensures { result ≡ darts_of self.now }
+    {
+        self.faces.total()
+    }
+
+    /// The dart that follows in its face.
+    pub fn next(&self, dart: DartName) -> DartName
+        requires { dart.0 < darts_of self.now }
+        ensures next { result.0 ≡ next_of self.now dart.0 }
+        ensures within { result.0 < darts_of self.now }
+    {
+        self.next[dart.0 as usize]
+    }
+
+    /// The vertex where a dart starts.
+    pub fn origin(&self, dart: DartName) -> VertexName
+        requires { dart.0 < darts_of self.now }
+        ensures { result.0 ≡ origin_of self.now dart.0 }
+    {
+        self.origin[dart.0 as usize]
+    }
+
+    /// The face of a dart.
+    pub fn face_of(&self, dart: DartName) -> FaceName
+        requires { dart.0 < darts_of self.now }
+        ensures face { result.0 ≡ face_of self.now dart.0 }
+        ensures within { result.0 < length self.now.mesh.faces }
+    {
+        self.faces.side_at(dart).face
+    }
+
+    /// The edge of a dart.
+    pub fn edge_of(&self, dart: DartName) -> EdgeName
+        requires { dart.0 < darts_of self.now }
+        ensures edge { result.0 ≡ edge_of self.now dart.0 }
+        ensures within { result.0 < length self.now.table }
+    {
+        // The proof reads what holds of every surface.
+        let _ = &self.next;
+        self.sides.edge_at(self.faces.side_at(dart))
+    }
+
+    /// A dart of an edge. The other one is its twin.
+    pub fn dart_of(&self, edge: EdgeName) -> DartName
+        requires { edge.0 < length self.now.table }
+        ensures edge { edge_of self.now result.0 ≡ edge.0 }
+        ensures within { result.0 < darts_of self.now }
+    {
+        // The proof reads what holds of every surface.
+        let _ = &self.next;
+        self.faces.dart(self.sides.side(edge, 0))
+    }
+
+    /// The other dart of the edge of a dart.
+    pub fn twin(&self, dart: DartName) -> DartName
+        requires { dart.0 < darts_of self.now }
+        ensures twin { result.0 ≡ twin_of self.now dart.0 }
+        ensures within { result.0 < darts_of self.now }
+    {
+        let edge = self.edge_of(dart);
+        let first = self.faces.dart(self.sides.side(edge, 0));
+        if first == dart {
+            self.faces.dart(self.sides.side(edge, 1))
+        } else {
+            first
+        }
+    }
+
+    /// The dart from one vertex to another. Any numbers are allowed.
+    pub fn dart_between(&self, u: VertexName, v: VertexName) -> Option<DartName>
+        // It is there exactly where the two form an edge.
+        ensures edge { is_some result ≡ is_edge self.now.mesh u.0 v.0 }
+        ensures leads { IfSome result (λ dart. IsDartFrom (rotations_of self.now) u.0 v.0 dart.0) }
+    {
+        let edge = self.sides.between(u, v)?;
+        let dart = self.dart_of(edge);
+        if self.origin(dart) == u {
+            Some(dart)
+        } else {
+            Some(self.twin(dart))
+        }
+    }
+
+    /// The number of used vertices.
+    pub fn vertices(&self) -> u32
+        ensures { result ≡ used_vertices self.now }
+    {
+        self.vertices
+    }
+
+    /// The Euler characteristic: used vertices less edges plus faces.
+    pub fn euler(&self) -> i64
+        ensures { result ≡ euler_of self.now }
+    {
+        i64::from(self.vertices) - i64::from(self.sides.len()) + i64::from(self.faces.len())
+    }
+}
