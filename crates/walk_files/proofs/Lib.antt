@@ -1,2 +1,5 @@
 pub mod PairLemmas
 pub mod MoveLines
+pub mod EachLemmas
+pub mod NumberLemmas
+pub mod ListLemmas

@@ -1,0 +1,68 @@
+-- A reader of a certificate, which gives its moves one by one.
+use Rattle.std.specs.Prelude.{◌≡◌, ℕ, Bool, true, false, ◌+◌, ◌-◌, ◌==◌, if◌then◌else◌, List, [], ◌∷◌, drop, Option, Some, None, Result, Ok, Err, option_map}
+use Rattle.std.specs.Option.{ok_or}
+use Rattle.text_scan.specs.Lines.{Line, full_lines, end_line}
+use Rattle.text_scan.specs.Unread.{Unread, lines_left}
+use Rattle.surf_model.specs.declared.moves.Move.{Move}
+use Rattle.walk_files.specs.Certificates.{behind_head, move_of}
+use Rattle.walk_files.specs.declared.fault.CertFault.{CertFault}
+use Rattle.walk_files.specs.declared.fault.CertFault.TheVariants.{Bad, Ended, Extra}
+use Rattle.walk_files.specs.declared.certificate.CertHead.{CertHead}
+use Rattle.walk_files.specs.declared.certificate.CertHead.TheVariants.{Moves, Labels}
+
+-- the text, its head, how many moves were given, and the refusal that the reader keeps, if any
+pub record Certificate : Type 0 where
+  pub text : List ℕ
+  pub head : CertHead
+  pub given : ℕ
+  pub refusal : Option CertFault
+
+-- the reader of a text that has this head
+abbrev pub started : List ℕ → Result CertHead CertFault → Result Certificate CertFault
+started text (Err fault) = Err fault
+started text (Ok head) = Ok (record { text = text; head = head; given = 0; refusal = None })
+
+-- whether a list of moves is read
+abbrev pub is_list : Certificate → Bool
+is_list reader = by_head reader.head
+  where
+    by_head : CertHead → Bool
+    by_head (Moves count peak) = true
+    by_head (Labels degree) = false
+
+-- how many moves a head promises
+abbrev pub count_in : CertHead → ℕ
+count_in (Moves count peak) = count
+count_in (Labels degree) = 0
+
+-- how many moves are still to come
+abbrev pub moves_to_come : Certificate → ℕ
+moves_to_come reader = count_in reader.head - reader.given
+
+-- the lines that were not read yet
+abbrev pub lines_to_come : Certificate → List Line
+lines_to_come reader = drop reader.given (behind_head (full_lines reader.text))
+
+-- what the first of these lines gives, where `left` moves are still to come; `end` is the line where the text ends
+abbrev pub next_of : ℕ → ℕ → List Line → Result (Option Move) CertFault
+next_of end left [] = if left == 0 then Ok None else Err (Ended end)
+next_of end left (line ∷ lines) = if left == 0 then Err (Extra line.number) else ok_or (option_map Some (move_of line.words)) (Bad line.number)
+
+-- what the reader gives next: the refusal that it keeps, or what the next line gives
+abbrev pub next_answer : Certificate → Result (Option Move) CertFault
+next_answer reader = unless (reader.refusal)
+  where
+    unless : Option CertFault → Result (Option Move) CertFault
+    unless (Some fault) = Err fault
+    unless None = next_of (end_line reader.text) (moves_to_come reader) (lines_to_come reader)
+
+-- the reader behind an answer
+abbrev pub after_answer : Certificate → Result (Option Move) CertFault → Certificate
+after_answer reader (Ok (Some move)) = record reader { given = reader.given + 1 }
+after_answer reader (Ok None) = reader
+after_answer reader (Err fault) = record reader { refusal = Some fault }
+
+-- what is left of a text where some moves were given and no line was refused
+pub record IsAt (text : List ℕ) (given : ℕ) (refusal : Option CertFault) (left : Unread) : Type 0 where
+  pub lines : refusal ≡ None → lines_left left ≡ drop given (behind_head (full_lines text))
+  pub end : left.end_line ≡ end_line text

@@ -1,0 +1,104 @@
+//! Reading moves.
+ghost use Rattle.std.specs.Prelude.{◌≡◌, List, [], ◌∷◌, ◌<◌, drop, IfOk, IsSome, OnOk, OnSome};
+ghost use Rattle.text_scan.specs.Unread.{lines_left};
+ghost use Rattle.walk_files.specs.Certificates.{direction_of, spur_of, across_of, move_of};
+ghost use Rattle.walk_files.specs.Readers.{next_of};
+
+use crate::fault::CertFault;
+use crate::numbers::number;
+use surf_model::{FaceName, Move, VertexName};
+use text_scan::Cursor;
+
+/// Reads the next line, which holds a move where some are still to come.
+pub(crate) fn read_next(cursor: &mut Cursor<'_>, to_come: u64) -> Result<Option<Move>, CertFault>
+    ensures answer { result ≡ next_of cursor.old.end_line to_come (lines_left cursor.old) }
+    ensures place { OnOk result (lines_left cursor.new ≡ drop 1 (lines_left cursor.old)) }
+    ensures end { cursor.new.end_line ≡ cursor.old.end_line }
+    ensures some { IfOk result (λ mv. IsSome mv → 0 < to_come) }
+{
+    if !cursor.find_line() {
+        return if to_come == 0 {
+            Ok(None)
+        } else {
+            Err(CertFault::Ended {
+                line: cursor.end_line(),
+            })
+        };
+    }
+    let line = cursor.line();
+    if to_come == 0 {
+        return Err(CertFault::Extra { line });
+    }
+    match read_move(cursor) {
+        Some(mv) => Ok(Some(mv)),
+        None => Err(CertFault::Bad { line }),
+    }
+}
+
+/// The move that the words of the present line are.
+fn read_move(cursor: &mut Cursor<'_>) -> Option<Move>
+    ensures mv { result ≡ move_of cursor.old.words }
+    ensures place { cursor.new ≡ record cursor.old { words = cursor.new.words } }
+    ensures ended { OnSome result (cursor.new.words ≡ []) }
+{
+    match cursor.word()? {
+        b"+" => {
+            let (at, via) = read_spur(cursor)?;
+            Some(Move::Insert { at, via })
+        }
+        b"-" => {
+            let (at, via) = read_spur(cursor)?;
+            Some(Move::Remove { at, via })
+        }
+        b"f" => read_across(cursor),
+        _ => None,
+    }
+}
+
+/// The place and the vertex of a spur, to the end of the line.
+fn read_spur(cursor: &mut Cursor<'_>) -> Option<(u32, VertexName)>
+    ensures spur { result ≡ spur_of cursor.old.words }
+    ensures place { cursor.new ≡ record cursor.old { words = cursor.new.words } }
+    ensures ended { OnSome result (cursor.new.words ≡ []) }
+{
+    let at = number(cursor)?;
+    let via = number(cursor)?;
+    if cursor.has_word() {
+        return None;
+    }
+    Some((at, VertexName(via)))
+}
+
+/// A move across a face, to the end of the line.
+fn read_across(cursor: &mut Cursor<'_>) -> Option<Move>
+    ensures across { result ≡ across_of cursor.old.words }
+    ensures place { cursor.new ≡ record cursor.old { words = cursor.new.words } }
+    ensures ended { OnSome result (cursor.new.words ≡ []) }
+{
+    let at = number(cursor)?;
+    let face = FaceName(number(cursor)?);
+    let corner = number(cursor)?;
+    let forward = read_direction(cursor.word()?)?;
+    let taken = number(cursor)?;
+    if cursor.has_word() {
+        return None;
+    }
+    Some(Move::Across {
+        at,
+        face,
+        corner,
+        forward,
+        taken,
+    })
+}
+
+/// Whether a word is that of the forward or of the backward direction round a face.
+fn read_direction(word: &[u8]) -> Option<bool>
+    ensures { result ≡ direction_of word.now }
+{
+    match word {
+        b"+" => Some(true),
+        b"-" => Some(false),
+        _ => None,
+    }
+}

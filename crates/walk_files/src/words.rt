@@ -1,0 +1,66 @@
+//! Reading turn words.
+ghost use Rattle.std.specs.Prelude.{◌≡◌, ◌⊎◌, ◌++◌, [], ◌∷◌, length, IsTrue, OnOk, MatchResult, Ok, Err};
+ghost use Rattle.text_scan.specs.Lines.{is_filled};
+ghost use Rattle.walk_files.specs.declared.fault.WalkFault.TheVariants.{OutOfMemory};
+ghost use Rattle.walk_files.specs.declared.limits.TheConstants.{MOST_ENTRIES};
+ghost use Rattle.walk_files.specs.NumberTexts.{words_of, entries_of, numbers_on};
+
+use crate::fault::WalkFault;
+use crate::limits::{MOST_ENTRIES, MOST_LINES};
+use crate::number_lines::NumberLines;
+use crate::numbers::{fault_of_line, number, number_of_word};
+use std::alloc::{AllocError, Global};
+use text_scan::Cursor;
+
+/// The turn words of a text, one on each line with words.
+pub fn read_words(alloc: Global, bytes: &[u8]) -> Result<NumberLines, WalkFault>
+    ensures { (result ≡ words_of bytes.now) ⊎ (result ≡ Err OutOfMemory) }
+{
+    let mut cursor = Cursor::new(bytes);
+    let mut lists = NumberLines::new(alloc);
+    let mut entries = Vec::new(alloc);
+    while cursor.find_line() {
+        let line = cursor.line();
+        if lists.len() == MOST_LINES {
+            return Err(WalkFault::TooMany { line });
+        }
+        entries.clear();
+        read_entries(&mut cursor, &mut entries)?;
+        lists.push(line, &entries)?;
+    }
+    Ok(lists)
+}
+
+/// Puts the entries of the present line, of which no word was read yet, into an empty list.
+fn read_entries(cursor: &mut Cursor<'_>, entries: &mut Vec<u32>) -> Result<(), WalkFault>
+    requires words { IsTrue (is_filled cursor.old.words) }
+    requires empty { entries.old.items ≡ [] }
+    ensures entries { MatchResult result (λ _. Ok entries.new.items ≡ numbers_on entries_of MOST_ENTRIES cursor.old.line cursor.old.words)
+        (λ fault. (Err fault ≡ numbers_on entries_of MOST_ENTRIES cursor.old.line cursor.old.words) ⊎ (fault ≡ OutOfMemory)) }
+    ensures place { OnOk result (cursor.new ≡ record cursor.old { words = [] }) }
+{
+    let Some(word) = cursor.word() else {
+        return Ok(());
+    };
+    if word == b"empty".as_slice() && !cursor.has_word() {
+        return Ok(());
+    }
+    let mut room = MOST_ENTRIES - 1;
+    let Some(first) = number_of_word(word) else {
+        return Err(fault_of_line(cursor, room));
+    };
+    entries.push(first).map_err(AllocError::from)?;
+    while cursor.has_word() {
+        if room == 0 {
+            return Err(WalkFault::TooLong {
+                line: cursor.line(),
+            });
+        }
+        room -= 1;
+        let Some(entry) = number(cursor) else {
+            return Err(fault_of_line(cursor, room));
+        };
+        entries.push(entry).map_err(AllocError::from)?;
+    }
+    Ok(())
+}
