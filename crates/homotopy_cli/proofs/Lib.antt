@@ -1,9 +1,8 @@
-pub mod Rows
 pub mod MoveLaws
 pub mod MoveLines
 pub mod WalkLines
-pub mod Appending
-pub mod Long
-pub mod Stopping
+pub mod Checking
+pub mod Writing
 pub mod Verifying
+pub mod Sound
 pub mod Outcomes

@@ -46,7 +46,8 @@ unfolding direction_at literal_at
 direction_again true rest = refl
 direction_again false rest = refl
 
-across_again : (at face corner : ℕ) (forward : Bool) (taken : ℕ) (rest : List ℕ) → at < 2 ^ 32 → face < 2 ^ 32 → corner < 2 ^ 32 → taken < 2 ^ 32
+across_again : (at face corner : ℕ) (forward : Bool) (taken : ℕ) (rest : List ℕ) → at < 2 ^ 32 → face < 2 ^ 32 → corner < 2 ^ 32
+    → taken < 2 ^ 32
     → across_at (codes "f " ++ (decimal at ++ 32 ∷ (decimal face ++ 32 ∷ (decimal corner ++ 32 ∷ (direction forward ++ 32 ∷ (decimal taken ++ 10 ∷ rest))))))
     ≡ Some (Across at (record { 0 = face }) corner forward taken, rest)
 unfolding across_at
@@ -139,7 +140,8 @@ remove_takes bytes read e =
     })))
 
 -- which of two readings it was
-which_read : {A : Type 0} (first second : Option A) (read : A) → or_else first second ≡ Some read → (first ≡ Some read) ⊎ (second ≡ Some read)
+which_read : {A : Type 0} (first second : Option A) (read : A) → or_else first second ≡ Some read
+    → (first ≡ Some read) ⊎ (second ≡ Some read)
 which_read None second read e = inr e
 which_read (Some x) second read e = inl e
 

@@ -45,7 +45,8 @@ first_read (m ∷ ms) (n ∷ ns) rest p q e =
     }
 
 -- one more line that was read
-pub lines_more : (bytes : List ℕ) (read : List Move) (rest : List ℕ) (move : Move) (behind : List ℕ) → bytes ≡ flat_map move_line read ++ rest
+pub lines_more : (bytes : List ℕ) (read : List Move) (rest : List ℕ) (move : Move) (behind : List ℕ)
+    → bytes ≡ flat_map move_line read ++ rest
     → move_at rest ≡ Some (move, behind) → (bytes ≡ flat_map move_line (read ++ move ∷ []) ++ behind) × IsPlainMove move
 lines_more bytes read rest move behind e h =
     let taken = move_takes rest (move, behind) h in

@@ -1,80 +1,154 @@
--- The answers that come before any file is looked at.
-use Rattle.std.proofs.Common.{◌≡◌, ◌≢◌, ◌↔◌, ◌⊎◌, inl, inr, ◌≤◌, ℕ, List, [], refl, sym, ap, ◌∙◌, subst}
-use Rattle.std.specs.Prelude.{Option, Some, None, IfSome, IsSomeAnd}
-use Rattle.surf_io.specs.Files.{Files, file_of}
+-- The outcome of a list of words: that it is there, that it is one, and what follows for `verify`.
+use Rattle.std.proofs.Common.{◌≡◌, ◌↔◌, ◌⊎◌, inl, inr, ℕ, ◌≤◌, List, [], length, refl, sym, ap, ◌∙◌, subst, arith}
+use Rattle.std.specs.Prelude.{Option, slice_index, slice_index_or, flat_map}
+use Rattle.std.proofs.lemmas.List.{append-nil}
+use Rattle.std.proofs.lemmas.Option.{same_Some}
+use Rattle.surf_io.specs.Files.{Files}
 use Rattle.surf_model.specs.FaceLists.{FaceList}
 use Rattle.surf_model.specs.Moves.{PeakedMoves, Leads, greatest_darts}
+use Rattle.surf_model.specs.declared.moves.Move.{Move}
+use Rattle.off_reader.specs.PlainMesh.{IsPlainMesh}
+use Rattle.off_reader.proofs.Meshes.{one_mesh}
 use Rattle.move_checker.specs.Verdicts.{verdict_of}
 use Rattle.move_checker.specs.declared.judge.Verdict.{Verdict}
 use Rattle.move_checker.specs.declared.judge.Verdict.TheVariants.{Accepted, Peak, AtMove, End}
 use Rattle.move_checker.proofs.Judgement.{accepted_exactly}
-use Rattle.homotopy_cli.specs.Commands.{IsRow}
-use Rattle.homotopy_cli.specs.Contents.{Contents, AreContents, IsVerifyInput, IsMeshFile, IsWalkFile, IsListFile}
-use Rattle.homotopy_cli.specs.Outcomes.{IsOutcome}
-use Rattle.homotopy_cli.specs.declared.command.Command.{Command}
-use Rattle.homotopy_cli.specs.declared.command.Command.TheVariants.{Verify}
-use Rattle.homotopy_cli.specs.declared.answer.Answer.{Answer}
-use Rattle.homotopy_cli.specs.declared.answer.Answer.TheVariants.{WrongWords, NotBuilt, Judged}
+use Rattle.text_scan.specs.Plain.{number_line}
+use Rattle.homotopy_cli.specs.Answers.{Outcome, Judged}
+use Rattle.homotopy_cli.specs.Checks.{Refuse, Pass, IsTold}
+use Rattle.homotopy_cli.specs.Commands.{Row, Surface, Decide, Certify, Verify, Reduce, Trial, IsRow}
+use Rattle.homotopy_cli.specs.Inputs.{mesh_in, pair_in, moves_in}
+use Rattle.homotopy_cli.specs.Outcomes.{answer_to, answer_of, IsOutcome, AllTold, IsAnswerOf, Answers}
+use Rattle.homotopy_cli.specs.PlainMoves.{move_line, IsPlainList}
+use Rattle.homotopy_cli.specs.PlainWalks.{IsPlainPair}
+use Rattle.homotopy_cli.specs.Reading.{head_at}
+use Rattle.homotopy_cli.specs.Replies.{Replies, reply_status, reply_text}
+use Rattle.homotopy_cli.specs.Statuses.{verdict_status, IsAnswered}
+use Rattle.homotopy_cli.specs.Stops.{Stops}
+use Rattle.homotopy_cli.specs.Verify.{verify, IsVerifyInput}
+use Rattle.homotopy_cli.specs.declared.refusal.Input.TheVariants.{Mesh, Walks, Certificate}
+use Rattle.homotopy_cli.specs.declared.refusal.Refusal.{Refusal}
+use Rattle.homotopy_cli.specs.declared.reply.Reply.{Reply}
+use Rattle.homotopy_cli.specs.declared.reply.Reply.TheVariants as replies
 use Rattle.homotopy_cli.specs.declared.status.Status.{Status}
 use Rattle.homotopy_cli.specs.declared.status.Status.TheVariants.{Yes, WriteFault}
-use Rattle.homotopy_cli.specs.Texts.{verdict_status, IsAnswered}
+use Rattle.homotopy_cli.specs.declared.stop.Stop.TheVariants as stops
+use Rattle.homotopy_cli.proofs.MoveLaws.{head_again}
+use Rattle.homotopy_cli.proofs.MoveLines.{all_lines}
+use Rattle.homotopy_cli.proofs.WalkLines.{one_line}
+use Rattle.homotopy_cli.proofs.Sound.{IsSound, sound-then, sound-pass, sound-refuse, sound-found, sound-file, held}
 
--- contents of an answer for which no file was looked at
-pub empty : Contents
-empty = record { mesh = []; walks = []; certificate = [] }
+-- ---- the rows
 
--- an outcome of contents that are told so
-abbrev pub IsToldOutcome : Option Files → List (List ℕ) → Answer → Type 0
-IsToldOutcome held words answer = (contents : Contents) × AreContents held words contents × IsOutcome words contents answer
+-- the first letters of the commands differ
+letter_of : Row → ℕ
+letter_of (Surface mesh) = 115
+letter_of (Decide mesh walks) = 100
+letter_of (Certify mesh walks) = 99
+letter_of (Verify mesh walks certificate) = 118
+letter_of (Reduce degree list) = 114
+letter_of (Trial genus grid) = 116
 
-pub wrong_words : (held : Option Files) (words : List (List ℕ)) → ((command : Command) → IsRow words command → ⊥) → IsToldOutcome held words WrongWords
-wrong_words held words none = (
-  empty,
-  λ mesh walks certificate e. absurd (none Verify (mesh, walks, certificate, e)),
-  record {
-    wrong = λ _. refl;
-    others = λ command row _. absurd (none command row);
-    verify = λ row. absurd (none Verify row);
-  },
-)
+letter_in : List (List ℕ) → ℕ
+letter_in words = slice_index (slice_index_or words 0 []) 0
 
-pub other_row : (held : Option Files) (words : List (List ℕ)) (command : Command) → IsRow words command
-    → ((other : Command) → IsRow words other → command ≡ other) → command ≢ Verify → IsToldOutcome held words NotBuilt
-other_row held words command row only no_verify = (
-  empty,
-  λ mesh walks certificate e. absurd (no_verify (only Verify (mesh, walks, certificate, e))),
-  record {
-    wrong = λ none. absurd (none command row);
-    others = λ _ _ _. refl;
-    verify = λ verify. absurd (no_verify (only Verify verify));
-  },
-)
+letter-row : (words : List (List ℕ)) (row : Row) → IsRow words row → letter_in words ≡ letter_of row
+unfolding letter_of letter_in
+letter-row words (Surface mesh) p = ap letter_in p
+letter-row words (Decide mesh walks) p = ap letter_in p
+letter-row words (Certify mesh walks) p = ap letter_in p
+letter-row words (Verify mesh walks certificate) p = ap letter_in p
+letter-row words (Reduce degree list) p = ap letter_in p.1
+letter-row words (Trial genus grid) p = ap letter_in p.2
 
--- what is told of a file is what agrees with it
-same_as_told : (file : Option (List ℕ)) (bytes : List ℕ) (P : List ℕ → Type 0) → IfSome file (λ told. bytes ≡ told) → IsSomeAnd file P → P bytes
-same_as_told None bytes P agrees holds = absurd holds
-same_as_told (Some told) bytes P agrees holds = subst P (sym agrees) holds
+-- words are one row at most
+pub one_row : (words : List (List ℕ)) (a b : Row) → IsRow words a → IsRow words b → a ≡ b
+unfolding letter_of
+one_row words (Surface a) (Surface b) p q = cc
+one_row words (Decide a b) (Decide c d) p q = cc
+one_row words (Certify a b) (Certify c d) p q = cc
+one_row words (Verify a b c) (Verify d e f) p q = cc
+one_row words (Reduce a b) (Reduce c d) p q = cc
+one_row words (Trial a b) (Trial c d) p q = cc
+one_row words a b p q = absurd (omega (arith, letter-row words a p, letter-row words b q))
 
--- of files that are told and plain, the outcome is the verdict
-pub told_verdict : (held : Option Files) (words : List (List ℕ)) (answer : Answer) (mesh : FaceList) (first second : List ℕ) (list : PeakedMoves)
-    → IsVerifyInput held words mesh first second list → IsToldOutcome held words answer → answer ≡ Judged (verdict_of mesh first second list)
-told_verdict held words answer mesh first second list input told =
-    let contents = told.0 in
-    let agree = told.1 input.mesh_name input.walks_name input.list_name input.words_are in
-    let table = told.2.verify (input.mesh_name, input.walks_name, input.list_name, input.words_are) in
-    table.judged mesh first second list
-    (same_as_told (file_of held input.mesh_name) contents.mesh (λ bytes. IsMeshFile bytes mesh) agree.mesh_file input.mesh_file)
-    (same_as_told (file_of held input.walks_name) contents.walks (λ bytes. IsWalkFile mesh bytes first second) agree.walks_file input.walks_file)
-    (same_as_told (file_of held input.list_name) contents.certificate (λ bytes. IsListFile bytes list) agree.certificate_file input.list_file)
+-- ---- the files
+
+same_pair : (a b c d : List ℕ) → a ≡ b → c ≡ d → (let p : List ℕ × List ℕ = (a, c) in p) ≡ (b, d)
+same_pair a b c d e f = ap (λ (x : List ℕ). let p : List ℕ × List ℕ = (x, c) in p) e ∙ ap (λ (x : List ℕ). let p : List ℕ × List ℕ = (b, x) in p) f
+
+peaked : List Move → ℕ → PeakedMoves
+peaked moves peak = record { moves = moves; peak = peak }
+
+same_peaked : (a b : List Move) (p q : ℕ) → a ≡ b → p ≡ q → peaked a p ≡ peaked b q
+same_peaked a b p q e f = cc
+
+one_pair : (mesh : FaceList) (bytes : List ℕ) (a b : List ℕ × List ℕ) → IsPlainPair mesh a.0 a.1 bytes → IsPlainPair mesh b.0 b.1 bytes
+    → a ≡ b
+one_pair mesh bytes a b p q =
+    let first = one_line a.0 b.0 (number_line a.1) (number_line b.1) p.lines.first_line.some q.lines.first_line.some p.lines.first_line.plain
+    q.lines.first_line.plain (sym p.lines.text ∙ q.lines.text) in
+    let second = one_line a.1 b.1 [] [] p.lines.second_line.some q.lines.second_line.some p.lines.second_line.plain q.lines.second_line.plain
+    (append-nil (number_line a.1) ∙ first.1 ∙ sym (append-nil (number_line b.1))) in
+    same_pair a.0 b.0 a.1 b.1 first.0 second.0
+
+one_list : (bytes : List ℕ) (a b : PeakedMoves) → IsPlainList a bytes → IsPlainList b bytes → a ≡ b
+unfolding peaked
+one_list bytes a b p q =
+    let left : ℕ × ℕ × List ℕ = (length a.moves, a.peak, flat_map move_line a.moves) in
+    let right : ℕ × ℕ × List ℕ = (length b.moves, b.peak, flat_map move_line b.moves) in
+    let heads : left ≡ right =
+    same_Some left right
+    (sym (head_again (length a.moves) a.peak (flat_map move_line a.moves) p.count (omega (arith, p.peak))) ∙ ap head_at (sym p.text ∙ q.text)
+    ∙ head_again (length b.moves) b.peak (flat_map move_line b.moves) q.count (omega (arith, q.peak))) in
+    let count : length a.moves ≡ length b.moves = ap (λ (x : ℕ × ℕ × List ℕ). x.0) heads in
+    let peak : a.peak ≡ b.peak = ap (λ (x : ℕ × ℕ × List ℕ). x.1) heads in
+    let texts : flat_map move_line a.moves ≡ flat_map move_line b.moves = ap (λ (x : ℕ × ℕ × List ℕ). x.2) heads in
+    let moves = all_lines (flat_map move_line a.moves) a.moves [] b.moves (sym (append-nil (flat_map move_line a.moves))) p.plain count q.plain texts in
+    same_peaked a.moves b.moves a.peak b.peak moves.0 peak
+
+pub sound-mesh : (held : Option Files) (name : List ℕ) → IsSound held (mesh_in held name)
+sound-mesh held name =
+    sound-then held _ _ (sound-file held name _) (λ bytes _. sound-found held _ _ (λ a b p q. one_mesh bytes a b p q))
+
+pub sound-pair : (held : Option Files) (name : List ℕ) (mesh : FaceList) → IsSound held (pair_in held name mesh)
+sound-pair held name mesh =
+    sound-then held _ _ (sound-file held name _) (λ bytes _. sound-found held _ _ (λ a b p q. one_pair mesh bytes a b p q))
+
+pub sound-moves : (held : Option Files) (name : List ℕ) → IsSound held (moves_in held name)
+sound-moves held name =
+    sound-then held _ _ (sound-file held name _) (λ bytes _. sound-found held _ _ (λ a b p q. one_list bytes a b p q))
+
+-- ---- the commands
+
+sound-verify : (held : Option Files) (mesh walks certificate : List ℕ) → IsSound held (verify held mesh walks certificate)
+sound-verify held mesh walks certificate =
+    sound-then held _ _ (sound-mesh held mesh)
+    (λ faces _. sound-then held _ _ (sound-pair held walks faces)
+    (λ pair _. sound-then held _ _ (sound-moves held certificate) (λ list _. sound-pass held _)))
+
+sound-row : (held : Option Files) (row : Row) → IsSound held (answer_to held row)
+sound-row held (Surface mesh) = sound-refuse held _
+sound-row held (Decide mesh walks) = sound-refuse held _
+sound-row held (Certify mesh walks) = sound-refuse held _
+sound-row held (Verify mesh walks certificate) = sound-verify held mesh walks certificate
+sound-row held (Reduce degree list) = sound-refuse held _
+sound-row held (Trial genus grid) = sound-refuse held _
+
+pub sound-words : (held : Option Files) (words : List (List ℕ)) → IsSound held (answer_of held words)
+sound-words held words = sound-then held _ _ (sound-found held _ _ (one_row words)) (λ row _. sound-row held row)
+
+-- ---- `verify` in the words of the mesh
 
 -- the status is yes exactly where the verdict is that the list is accepted
-pub yes_accepted : (verdict : Verdict) → verdict_status verdict ≡ Yes → verdict ≡ Accepted
+yes_accepted : (verdict : Verdict) → verdict_status verdict ≡ Yes → verdict ≡ Accepted
 yes_accepted Accepted e = refl
 yes_accepted Peak e = cc
 yes_accepted (AtMove number fault) e = cc
 yes_accepted End e = cc
 
-pub yes_exactly : (status : Status) (mesh : FaceList) (first second : List ℕ) (list : PeakedMoves) → status ≡ verdict_status (verdict_of mesh first second list)
+yes_exactly : (status : Status) (mesh : FaceList) (first second : List ℕ) (list : PeakedMoves)
+    → status ≡ verdict_status (verdict_of mesh first second list)
     → (status ≡ Yes) ↔ (Leads mesh first list.moves second × (greatest_darts mesh first list.moves ≤ list.peak))
 yes_exactly status mesh first second list e =
     let exact = accepted_exactly mesh first second list (verdict_of mesh first second list) refl in (
@@ -82,9 +156,86 @@ yes_exactly status mesh first second list e =
       λ leads. e ∙ ap verdict_status (exact.1 leads),
     )
 
--- a status that tells of an answer is that of the answer
+-- each file that such words look at is told
+told_input : (held_files : Option Files) (words : List (List ℕ)) (mesh : FaceList) (first second : List ℕ) (list : PeakedMoves)
+    → IsVerifyInput held_files words mesh first second list → AllTold held_files words
+told_input files words mesh first second list input = (
+  tt,
+  λ row is.
+      subst (λ (r : Row). (answer_to files r).EachFile (IsTold files)) (one_row words (Verify input.mesh_name input.walks_name input.list_name) row input.words_are is) (
+        ((held files input.mesh_name (IsPlainMesh mesh) input.mesh_file).told, λ _ _. tt),
+        λ faces _. (
+          ((held files input.walks_name (IsPlainPair mesh first second) input.walks_file).told, λ _ _. tt),
+          λ pair _. (((held files input.list_name (IsPlainList list) input.list_file).told, λ _ _. tt), λ _ _. tt),
+        ),
+      ),
+)
+
+-- and the verdict is their outcome
+verdict_outcome : (files : Option Files) (words : List (List ℕ)) (mesh : FaceList) (first second : List ℕ) (list : PeakedMoves)
+    → IsVerifyInput files words mesh first second list → IsOutcome files words (Pass (Judged (verdict_of mesh first second list)))
+verdict_outcome files words mesh first second list input =
+    let mesh_file = held files input.mesh_name (IsPlainMesh mesh) input.mesh_file in
+    let walks_file = held files input.walks_name (IsPlainPair mesh first second) input.walks_file in
+    let list_file = held files input.list_name (IsPlainList list) input.list_file in
+    let pair : List ℕ × List ℕ = (first, second) in
+    inr (
+      Verify input.mesh_name input.walks_name input.list_name,
+      input.words_are,
+      inr (
+        mesh,
+        inr (mesh_file.bytes, mesh_file.passes Mesh, mesh_file.holds),
+        inr (pair, inr (walks_file.bytes, walks_file.passes Walks, walks_file.holds), inr (list, inr (list_file.bytes, list_file.passes Certificate, list_file.holds), refl)),
+      ),
+    )
+
+-- what is answered by an outcome is answered exactly, where the files are told, and is what the command is for
+pub answers : (files : Option Files) (words : List (List ℕ)) (outcome : Outcome) (status : Status) (text : List ℕ)
+    → IsOutcome files words outcome
+    → IsAnswerOf outcome status text → Answers files words status text
+answers files words outcome status text is answer =
+    let exact : AllTold files words → (other : Outcome) → IsOutcome files words other → IsAnswerOf other status text =
+    λ told other other_is.
+    subst (λ (o : Outcome). IsAnswerOf o status text) ((sound-words files words).one told outcome other is other_is) answer in
+    let judged : (mesh : FaceList) (first second : List ℕ) (list : PeakedMoves) → IsVerifyInput files words mesh first second list
+    → IsAnswerOf (Pass (Judged (verdict_of mesh first second list))) status text =
+    λ mesh first second list input.
+    exact (told_input files words mesh first second list input) (Pass (Judged (verdict_of mesh first second list)))
+    (verdict_outcome files words mesh first second list input) in
+    record {
+      outcome = outcome;
+      is_outcome = is;
+      is_answer = answer;
+      exact = exact;
+      verified =
+          record {
+            judged = λ mesh first second list input. let a = judged mesh first second list input in (a.status_is, a.text_is);
+            accepted = λ mesh first second list input. yes_exactly status mesh first second list (judged mesh first second list input).status_is;
+          };
+    }
+
+pub reply_answers : (files : Option Files) (words : List (List ℕ)) (reply : Reply) → Replies (answer_of files words) reply
+    → Answers files words (reply_status reply) (reply_text reply)
+reply_answers files words reply found = answers files words (Pass found.answer) (reply_status reply) (reply_text reply) found.passes found.is_answer
+
+pub refusal_answers : (files : Option Files) (words : List (List ℕ)) (refusal : Refusal)
+    → Stops (answer_of files words) (stops.Refused refusal)
+    → Answers files words (reply_status (replies.Refused refusal)) (reply_text (replies.Refused refusal))
+refusal_answers files words refusal h =
+    answers files words (Refuse refusal) (reply_status (replies.Refused refusal)) (reply_text (replies.Refused refusal)) h (record { status_is = refl; text_is = refl })
+
+-- ---- the status of a run
+
+-- a status that tells of an answer is that of the reply
 pub answered_status : (status wanted : Status) → IsAnswered status → (status ≡ wanted) ⊎ (status ≡ WriteFault) → status ≡ wanted
 answered_status status wanted answered (inl e) = e
 answered_status status wanted (inl accepted) (inr e) = cc
 answered_status status wanted (inr (inl rejected)) (inr e) = cc
 answered_status status wanted (inr (inr faulty)) (inr e) = cc
+
+pub is_answered : (reply : Reply) → IsAnswered (reply_status reply)
+is_answered (replies.Refused refusal) = inr (inr refl)
+is_answered (replies.Judged Accepted) = inl refl
+is_answered (replies.Judged Peak) = inr (inl refl)
+is_answered (replies.Judged (AtMove number fault)) = inr (inl refl)
+is_answered (replies.Judged End) = inr (inl refl)

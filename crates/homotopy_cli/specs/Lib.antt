@@ -1,9 +1,13 @@
+pub mod Checks
 pub mod Commands
 pub mod PlainWalks
 pub mod PlainMoves
 pub mod Reading
-pub mod Contents
-pub mod Outcomes
+pub mod Inputs
+pub mod Answers
 pub mod Texts
-pub mod Numbers
+pub mod Statuses
+pub mod Verify
+pub mod Outcomes
 pub mod Stops
+pub mod Replies

@@ -1,30 +1,52 @@
--- What the program is to answer, as a table over the words and the contents of the files.
-use Rattle.std.specs.Prelude.{◌≡◌, ◌≢◌, ℕ, List}
-use Rattle.surf_model.specs.FaceLists.{FaceList}
-use Rattle.surf_model.specs.Moves.{PeakedMoves}
-use Rattle.move_checker.specs.Verdicts.{verdict_of}
-use Rattle.homotopy_cli.specs.Commands.{IsRow}
-use Rattle.homotopy_cli.specs.Contents.{Contents, IsMeshFile, IsWalkFile, IsListFile}
-use Rattle.homotopy_cli.specs.declared.command.Command.{Command}
-use Rattle.homotopy_cli.specs.declared.command.Command.TheVariants.{Verify}
-use Rattle.homotopy_cli.specs.declared.answer.Answer.{Answer}
-use Rattle.homotopy_cli.specs.declared.answer.Answer.TheVariants.{WrongWords, NotBuilt, Judged}
+-- The outcome of a list of words, and what is told of a run.
+use Rattle.std.specs.Prelude.{◌≡◌, ℕ, List, Option}
+use Rattle.surf_io.specs.Files.{Files}
+use Rattle.homotopy_cli.specs.Answers.{Answer, Outcome}
+use Rattle.homotopy_cli.specs.Checks.{Check, refuse, found_or, IsTold, ◌>>=◌}
+use Rattle.homotopy_cli.specs.Commands.{Row, Surface, Decide, Certify, Verify, Reduce, Trial, IsRow}
+use Rattle.homotopy_cli.specs.Statuses.{status_of}
+use Rattle.homotopy_cli.specs.Texts.{IsText}
+use Rattle.homotopy_cli.specs.Verify.{verify, IsVerified}
+use Rattle.homotopy_cli.specs.declared.refusal.Refusal.TheVariants.{WrongWords, NotBuilt}
+use Rattle.homotopy_cli.specs.declared.status.Status.{Status}
 
--- The answer of `verify`. The first file that is of no plain form decides, and the files behind it are not looked at.
-pub record IsVerifyAnswer (contents : Contents) (answer : Answer) : Type 0 where
-  pub no_mesh : ((mesh : FaceList) → IsMeshFile contents.mesh mesh → ⊥) → answer ≡ NotBuilt
-  pub no_walks : (mesh : FaceList) → IsMeshFile contents.mesh mesh
-      → ((first second : List ℕ) → IsWalkFile mesh contents.walks first second → ⊥)
-      → answer ≡ NotBuilt
-  pub no_list : (mesh : FaceList) (first second : List ℕ) → IsMeshFile contents.mesh mesh → IsWalkFile mesh contents.walks first second
-      → ((list : PeakedMoves) → IsListFile contents.certificate list → ⊥)
-      → answer ≡ NotBuilt
-  pub judged : (mesh : FaceList) (first second : List ℕ) (list : PeakedMoves) → IsMeshFile contents.mesh mesh → IsWalkFile mesh contents.walks first second
-      → IsListFile contents.certificate list
-      → answer ≡ Judged (verdict_of mesh first second list)
+-- the answer to a row of the table of commands
+abbrev pub answer_to : Option Files → Row → Check Answer
+answer_to held (Surface mesh) = refuse NotBuilt
+answer_to held (Decide mesh walks) = refuse NotBuilt
+answer_to held (Certify mesh walks) = refuse NotBuilt
+answer_to held (Verify mesh walks certificate) = verify held mesh walks certificate
+answer_to held (Reduce degree list) = refuse NotBuilt
+answer_to held (Trial genus grid) = refuse NotBuilt
 
--- The answer to the words: those that are no row of the table are wrong, and of the rows only `verify` is built.
-pub record IsOutcome (words : List (List ℕ)) (contents : Contents) (answer : Answer) : Type 0 where
-  pub wrong : ((command : Command) → IsRow words command → ⊥) → answer ≡ WrongWords
-  pub others : (command : Command) → IsRow words command → command ≢ Verify → answer ≡ NotBuilt
-  pub verify : IsRow words Verify → IsVerifyAnswer contents answer
+-- the answer to the words: those that are no row are wrong
+abbrev pub answer_of : Option Files → List (List ℕ) → Check Answer
+answer_of held words = do
+  row ← found_or WrongWords (IsRow words)
+  answer_to held row
+
+-- the outcome of the words
+abbrev pub IsOutcome : Option Files → List (List ℕ) → Outcome → Type 0
+IsOutcome held words outcome = (answer_of held words).Ends outcome
+
+-- each file that the outcome looks at is told
+abbrev pub AllTold : Option Files → List (List ℕ) → Type 0
+AllTold held words = (answer_of held words).EachFile (IsTold held)
+
+-- the outcome looks at no file
+abbrev pub LooksAtNone : Option Files → List (List ℕ) → Type 0
+LooksAtNone held words = (answer_of held words).EachFile (λ _. ⊥)
+
+-- the status and the text are those of the outcome
+pub record IsAnswerOf (outcome : Outcome) (status : Status) (text : List ℕ) : Type 0 where
+  pub status_is : status ≡ status_of outcome
+  pub text_is : IsText outcome text
+
+-- The status and the text are those of an outcome of the words. Where each file that is looked at is told, there is no
+-- other outcome. And what is answered is what the command is for.
+pub record Answers (held : Option Files) (words : List (List ℕ)) (status : Status) (text : List ℕ) : Type 0 where
+  pub outcome : Outcome
+  pub is_outcome : IsOutcome held words outcome
+  pub is_answer : IsAnswerOf outcome status text
+  pub exact : AllTold held words → (other : Outcome) → IsOutcome held words other → IsAnswerOf other status text
+  pub verified : IsVerified held words status text

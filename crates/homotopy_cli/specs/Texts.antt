@@ -1,17 +1,39 @@
--- What is printed, and with which status the program ends.
-use Rattle.std.specs.Prelude.{◌≡◌, ℕ, ◌⊎◌, List, [], ◌∷◌, ◌++◌, codes, decimal}
+-- What is printed: lines of phrases, with single blanks between them.
+use Rattle.std.specs.Prelude.{◌≡◌, ℕ, List, [], ◌∷◌, ◌++◌, codes, decimal, flat_map}
 use Rattle.move_checker.specs.declared.fault.MoveFault.{MoveFault}
 use Rattle.move_checker.specs.declared.fault.MoveFault.TheVariants.{Place, NoEdge, NotSpur, NotOnFace, OverPeak}
 use Rattle.move_checker.specs.declared.judge.Verdict.{Verdict}
 use Rattle.move_checker.specs.declared.judge.Verdict.TheVariants.{Accepted, Peak, AtMove, End}
-use Rattle.homotopy_cli.specs.declared.answer.Answer.{Answer}
-use Rattle.homotopy_cli.specs.declared.answer.Answer.TheVariants.{WrongWords, NotBuilt, Judged}
-use Rattle.homotopy_cli.specs.declared.status.Status.{Status}
-use Rattle.homotopy_cli.specs.declared.status.Status.TheVariants.{Yes, No, Refused}
+use Rattle.homotopy_cli.specs.Answers.{Outcome, Judged}
+use Rattle.homotopy_cli.specs.Checks.{Refuse, Pass}
+use Rattle.homotopy_cli.specs.declared.refusal.Input.{Input}
+use Rattle.homotopy_cli.specs.declared.refusal.Input.TheVariants.{Mesh, Walks, Certificate}
+use Rattle.homotopy_cli.specs.declared.refusal.Refusal.{Refusal}
+use Rattle.homotopy_cli.specs.declared.refusal.Refusal.TheVariants.{WrongWords, NotBuilt, TooLarge}
 
--- a line of text
-abbrev pub line : List ℕ → List ℕ
-line text = text ++ 10 ∷ []
+-- a phrase behind another
+abbrev pub behind_blank : List ℕ → List ℕ
+behind_blank phrase = 32 ∷ phrase
+
+-- a line: a first phrase, and the others behind it
+abbrev pub line : List ℕ → List (List ℕ) → List ℕ
+line first others = (first ++ flat_map behind_blank others) ++ 10 ∷ []
+
+-- what the lines call a file
+abbrev pub input_word : Input → List ℕ
+input_word Mesh = codes "off"
+input_word Walks = codes "walks"
+input_word Certificate = codes "certificate"
+
+-- why something is refused
+abbrev pub refusal_phrases : Refusal → List (List ℕ)
+refusal_phrases WrongWords = codes "words" ∷ []
+refusal_phrases NotBuilt = codes "not built" ∷ []
+refusal_phrases (TooLarge input) = input_word input ∷ codes "too large" ∷ []
+
+-- the line of a refusal
+abbrev pub refusal_line : Refusal → List ℕ
+refusal_line refusal = line (codes "refused:") (refusal_phrases refusal)
 
 -- why a move is refused, in one word
 abbrev pub fault_word : MoveFault → List ℕ
@@ -22,31 +44,13 @@ fault_word NotOnFace = codes "face"
 fault_word OverPeak = codes "peak"
 
 -- the line of a verdict
-abbrev pub verdict_text : Verdict → List ℕ
-verdict_text Accepted = line (codes "accepted")
-verdict_text Peak = line (codes "rejected: peak")
-verdict_text (AtMove number fault) = line (codes "rejected: move " ++ decimal number ++ codes " " ++ fault_word fault)
-verdict_text End = line (codes "rejected: end")
+abbrev pub verdict_line : Verdict → List ℕ
+verdict_line Accepted = line (codes "accepted") []
+verdict_line Peak = line (codes "rejected: peak") []
+verdict_line (AtMove number fault) = line (codes "rejected: move") (decimal number ∷ fault_word fault ∷ [])
+verdict_line End = line (codes "rejected: end") []
 
--- the text of an answer
-abbrev pub text_of : Answer → List ℕ
-text_of WrongWords = line (codes "refused: words")
-text_of NotBuilt = line (codes "refused: not built")
-text_of (Judged verdict) = verdict_text verdict
-
--- the status of a verdict
-abbrev pub verdict_status : Verdict → Status
-verdict_status Accepted = Yes
-verdict_status Peak = No
-verdict_status (AtMove number fault) = No
-verdict_status End = No
-
--- the status of an answer
-abbrev pub status_of : Answer → Status
-status_of WrongWords = Refused
-status_of NotBuilt = Refused
-status_of (Judged verdict) = verdict_status verdict
-
--- the status tells that an answer was written whole
-abbrev pub IsAnswered : Status → Type 0
-IsAnswered status = (status ≡ Yes) ⊎ ((status ≡ No) ⊎ (status ≡ Refused))
+-- the text is one of those that the outcome may have
+abbrev pub IsText : Outcome → List ℕ → Type 0
+IsText (Refuse refusal) text = text ≡ refusal_line refusal
+IsText (Pass (Judged verdict)) text = text ≡ verdict_line verdict

@@ -1,13 +1,17 @@
 //! The homotopy tester for edge walks on polygon meshes.
 #![tactic(auto)]
 
-mod answer;
 mod certificate;
 mod command;
-mod files;
+mod inputs;
+mod laws;
+mod line;
 mod plain;
+mod refusal;
+mod reply;
 mod run;
 mod status;
+mod stop;
 #[cfg(test)]
 mod tests;
 mod verify;

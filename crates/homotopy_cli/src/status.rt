@@ -1,6 +1,6 @@
 //! How the program ends.
 ghost use Rattle.std.specs.Prelude.{◌≡◌};
-ghost use Rattle.homotopy_cli.specs.Numbers.{status_number};
+ghost use Rattle.homotopy_cli.specs.Statuses.{status_number};
 
 /// How a run ends.
 #[derive(Clone, Copy, Debug, PartialEq, Eq)]

@@ -1,9 +1,11 @@
 //! The whole program over files and output in memory. The wanted texts are worked examples.
+ghost use Rattle.std.specs.Prelude.{None};
+
 use crate::run::run;
 use crate::status::Status;
 use std::alloc::{AllocError, Global};
 use std::process::Abort;
-use surf_io::{MemoryShelf, MemorySink};
+use surf_io::{Failed, MemoryShelf, MemorySink, Shelf};
 
 const TETRAHEDRON: &str =
     "OFF\n4 4 6\n0 0 0\n1 0 0\n0 1 0\n0 0 1\n3 0 1 2\n3 0 3 1\n3 0 2 3\n3 1 3 2\n";
@@ -146,16 +148,79 @@ fn examples_are_answered(rt: HostRuntime) -> Result<(), AllocError> {
     Ok(())
 }
 
-#[test]
-fn a_file_is_read_only_where_those_before_it_are_in_order(
-    rt: HostRuntime,
+/// Runs words of which each file behind the first refusal is absent.
+fn refused(
+    rt: &impl Abort,
+    alloc: Global,
+    all: &[&str],
+    walks: &str,
+    text: &str,
 ) -> Result<(), AllocError> {
-    let alloc = rt.alloc();
-    let verify = words(alloc, &["verify", "mesh", "absent", "absent"])?;
-    let mut shelf = shelf_of(alloc, "OFF\n", SIDES, "MOVES 0 2\n")?;
+    let words = words(alloc, all)?;
+    let mut shelf = shelf_of(alloc, TETRAHEDRON, walks, "")?;
     let mut out = MemorySink::new(alloc, 64);
-    assert_eq!(rt; run(alloc, &verify, &mut shelf, &mut out), Status::Refused);
-    assert!(rt; out.bytes() == b"refused: not built\n".as_slice());
+    let status = run(alloc, &words, &mut shelf, &mut out);
+    assert!(rt; status == Status::Refused, "{text:?}");
+    assert!(rt; out.bytes() == text.as_bytes(), "{text:?}");
+    Ok(())
+}
+
+#[test]
+fn no_file_is_read_behind_a_refusal(rt: HostRuntime) -> Result<(), AllocError> {
+    let alloc = rt.alloc();
+    let absent = "absent";
+    refused(&rt, alloc, &["verify", absent], SIDES, "refused: words\n")?;
+    refused(
+        &rt,
+        alloc,
+        &["surface", absent],
+        SIDES,
+        "refused: not built\n",
+    )?;
+    refused(
+        &rt,
+        alloc,
+        &["verify", "walks", absent, absent],
+        SIDES,
+        "refused: not built\n",
+    )?;
+    refused(
+        &rt,
+        alloc,
+        &["verify", "mesh", "walks", absent],
+        "0 1\n0 2\n",
+        "refused: not built\n",
+    )
+}
+
+/// A mesh that never ends, and no other file.
+#[derive(Drop)]
+struct EndlessMesh {
+    faults: u64,
+}
+
+impl Shelf for EndlessMesh {
+    ghost held = { λ _. None };
+
+    ghost faults = { λ s. s.faults };
+
+    fn read(&mut self, name: &str, _at: u64, into: &mut [u8]) -> Result<usize, Failed> {
+        if name == "mesh" {
+            return Ok(into.len());
+        }
+        self.faults = self.faults.saturating_add(1);
+        Err(Failed)
+    }
+}
+
+#[test]
+fn a_mesh_is_too_large_before_the_walks_are_read(rt: HostRuntime) -> Result<(), AllocError> {
+    let alloc = rt.alloc();
+    let verify = words(alloc, &["verify", "mesh", "walks", "certificate"])?;
+    let mut out = MemorySink::new(alloc, 64);
+    let status = run(alloc, &verify, &mut EndlessMesh { faults: 0 }, &mut out);
+    assert_eq!(rt; status, Status::Refused);
+    assert!(rt; out.bytes() == b"refused: off too large\n".as_slice());
     Ok(())
 }
 
@@ -208,22 +273,23 @@ fn fail_each_write(
 #[test]
 fn each_write_may_fail(rt: HostRuntime) -> Result<(), AllocError> {
     let alloc = rt.alloc();
-    // Two writes and a flush.
+    // Two writes, one for the line feed, and a flush.
     fail_each_write(
         &rt,
         alloc,
         "MOVES 1 2\nf 0 0 0 + 2\n",
         "accepted\n",
-        4,
+        5,
         Status::Yes,
     )?;
-    // Three writes for the front of the line, one for the number, two for the reason, and a flush.
+    // Three writes for the front of the line, one for each blank, the number, the reason and the line feed,
+    // and a flush.
     fail_each_write(
         &rt,
         alloc,
         "MOVES 1 2\nf 0 0 0 - 2\n",
         "rejected: move 1 face\n",
-        8,
+        10,
         Status::No,
     )
 }

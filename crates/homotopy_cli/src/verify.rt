@@ -1,11 +1,14 @@
 //! The command `verify`: judging a certificate against the mesh and the walks alone.
-ghost use Rattle.std.specs.Prelude.{◌≡◌, ◌≤◌, IfOk, Err};
+ghost use Rattle.std.specs.Prelude.{◌≡◌, MatchResult, Err};
+ghost use Rattle.surf_io.specs.Calls.{OnlyReads};
 ghost use Rattle.surf_io.specs.Faults.{Rose};
-ghost use Rattle.homotopy_cli.specs.Contents.{Contents, AgreeAll};
-ghost use Rattle.homotopy_cli.specs.Outcomes.{IsVerifyAnswer};
+ghost use Rattle.homotopy_cli.specs.Answers.{Judged};
+ghost use Rattle.homotopy_cli.specs.Checks.{Passes};
+ghost use Rattle.homotopy_cli.specs.Stops.{Stops};
+ghost use Rattle.homotopy_cli.specs.Verify as of_verify;
 
-use crate::answer::Answer;
-use crate::files::{Stop, read_list, read_mesh, read_pair};
+use crate::inputs::{read_list, read_mesh, read_pair};
+use crate::stop::Stop;
 use move_checker::{Verdict, check_moves};
 use std::alloc::Global;
 use surf_io::Shelf;
@@ -20,13 +23,11 @@ pub fn verify<S: Shelf>(
     walks: &str,
     certificate: &str,
 ) -> Result<Verdict, Stop>
-    ensures judged { IfOk result (λ verdict. (contents : Contents)
-        × AgreeAll (S.held shelf.old) mesh.now walks.now certificate.now contents × IsVerifyAnswer contents (Answer.Judged verdict)) }
-    ensures none { result ≡ Err Stop.NotBuilt → (contents : Contents)
-        × AgreeAll (S.held shelf.old) mesh.now walks.now certificate.now contents × IsVerifyAnswer contents Answer.NotBuilt }
+    ensures end { MatchResult result
+        (λ verdict. Passes (of_verify.verify (S.held shelf.old) mesh.now walks.now certificate.now) (Judged verdict))
+        (Stops (of_verify.verify (S.held shelf.old) mesh.now walks.now certificate.now)) }
     ensures fault { result ≡ Err Stop.ReadFault → Rose (S.faults shelf.old) (S.faults shelf.new) }
-    ensures same_files { S.held shelf.new ≡ S.held shelf.old }
-    ensures never_falls { S.faults shelf.old ≤ S.faults shelf.new }
+    ensures only_reads { OnlyReads S.held S.faults shelf.old shelf.new }
 {
     let faces = read_mesh(alloc, shelf, mesh)?;
     let sides = Sides::build(alloc, &faces)?;

@@ -1,3 +1,3 @@
 mod Lines
 mod Loops
-mod Meshes
+pub mod Meshes

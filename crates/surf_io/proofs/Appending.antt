@@ -1,10 +1,12 @@
 -- One write after another.
-use Rattle.std.proofs.Common.{◌≡◌, ℕ, ◌+◌, ◌-◌, ◌≤◌, List, ◌++◌, length, take, drop, Option, None, Some, refl, sym, ap, ◌∙◌, arith}
+use Rattle.std.proofs.Common.{◌≡◌, ℕ, ◌+◌, ◌-◌, ◌≤◌, List, ◌++◌, length, take, drop, Option, None, Some, refl, sym, ap, ◌∙◌, subst, arith}
 use Rattle.std.proofs.Math.Seq.{take-add, take-append-add}
 use Rattle.std.proofs.Math.ListN.{length-append}
 use Rattle.std.proofs.lemmas.List.{take_rest, take-append-le, length-drop}
 use mathlib.Core.List.{append_assoc}
+use Rattle.std.specs.Prelude.{Result, Ok, Err, OnErr}
 use Rattle.surf_io.specs.Bytes.{append_told, Appends, AppendsPrefix}
+use Rattle.surf_io.specs.Calls.{WroteAll, WrotePart}
 
 pub append_told-append : (old : Option (List ℕ)) (xs ys : List ℕ) → append_told (append_told old xs) ys ≡ append_told old (xs ++ ys)
 append_told-append None xs ys = refl
@@ -46,3 +48,34 @@ pub within_rest : (bytes : List ℕ) (at n : ℕ) → at ≤ length bytes → n 
 within_rest bytes at n started bound =
     let rest : n ≤ length (drop at bytes) = rw (take_rest bytes at) at bound in
     omega (arith, length-drop at bytes)
+
+-- a write, and then one that failed, of the first bytes of what was to follow
+pub part_after : {X : Type 0} (written : X → Option (List ℕ)) (faults : X → ℕ) (old mid new : X) (xs ys rest bytes : List ℕ) → WroteAll written old mid xs
+    → faults old ≤ faults mid → bytes ≡ xs ++ (ys ++ rest) → WrotePart written faults mid new ys → WrotePart written faults old new bytes
+part_after written faults old mid new xs ys rest bytes first never_falls is second = record {
+  part =
+      subst (AppendsPrefix (written old) (written new)) (sym is)
+      (prefix_after (written old) (written mid) (written new) xs (ys ++ rest) first (prefix_wider (written mid) (written new) ys rest second.part));
+  fault = λ below. omega (arith, second.fault below);
+}
+
+-- the same where nothing was to follow
+pub part_last : {X : Type 0} (written : X → Option (List ℕ)) (faults : X → ℕ) (old mid new : X) (xs ys : List ℕ) → WroteAll written old mid xs
+    → faults old ≤ faults mid → WrotePart written faults mid new ys → WrotePart written faults old new (xs ++ ys)
+part_last written faults old mid new xs ys first never_falls second = record {
+  part = prefix_after (written old) (written mid) (written new) xs ys first second.part;
+  fault = λ below. omega (arith, second.fault below);
+}
+
+-- a write that failed, of the first of the bytes
+pub part_first : {X : Type 0} (written : X → Option (List ℕ)) (faults : X → ℕ) (old new : X) (xs rest bytes : List ℕ) → bytes ≡ xs ++ rest
+    → WrotePart written faults old new xs → WrotePart written faults old new bytes
+part_first written faults old new xs rest bytes is first = record {
+  part = subst (AppendsPrefix (written old) (written new)) (sym is) (prefix_wider (written old) (written new) xs rest first.part);
+  fault = first.fault;
+}
+
+-- what holds of an error holds of it in other words
+pub on_err : {X Y P Q : Type 0} (result : Result X Y) → (P → Q) → OnErr result P → OnErr result Q
+on_err (Ok x) f h = tt
+on_err (Err e) f h = f h

@@ -1,8 +1,7 @@
 //! Numbers in decimal digits.
 ghost use Rattle.std.specs.Prelude.{◌≡◌, ℕ, ◌≤◌, length, drop, OnOk, OnErr};
 ghost use Rattle.std.specs.Fmt.{decimal, signed_decimal};
-ghost use Rattle.surf_io.specs.Faults.{Rose};
-ghost use Rattle.surf_io.specs.Bytes.{Appends, AppendsPrefix};
+ghost use Rattle.surf_io.specs.Calls.{OnlyWrites, WroteAll, WrotePart};
 
 use crate::faults::Failed;
 use crate::sink::Sink;
@@ -13,11 +12,9 @@ pub(crate) const MOST_DIGITS: usize = 20;
 
 /// Writes `n` in decimal digits, with no leading zero. After a failure a first part was written.
 pub fn put_natural<K: Sink>(sink: &mut K, n: u64) -> Result<(), Failed>
-    ensures ok { OnOk result (Appends (K.written sink.old) (K.written sink.new) (decimal n)) }
-    ensures failed { OnErr result (AppendsPrefix (K.written sink.old) (K.written sink.new) (decimal n)) }
-    ensures failed_only_on_fault { OnErr result (Rose (K.faults sink.old) (K.faults sink.new)) }
-    ensures never_falls { K.faults sink.old ≤ K.faults sink.new }
-    ensures same_settled { K.settled sink.new ≡ K.settled sink.old }
+    ensures ok { OnOk result (WroteAll K.written sink.old sink.new (decimal n)) }
+    ensures failed { OnErr result (WrotePart K.written K.faults sink.old sink.new (decimal n)) }
+    ensures only_writes { OnlyWrites K.settled K.faults sink.old sink.new }
 {
     let mut text = [0; MOST_DIGITS];
     let start = fill_digits(&mut text, n);
@@ -26,11 +23,9 @@ pub fn put_natural<K: Sink>(sink: &mut K, n: u64) -> Result<(), Failed>
 
 /// Writes `n` as `put_natural` does, with `-` before a negative number.
 pub fn put_signed<K: Sink>(sink: &mut K, n: i64) -> Result<(), Failed>
-    ensures ok { OnOk result (Appends (K.written sink.old) (K.written sink.new) (signed_decimal n)) }
-    ensures failed { OnErr result (AppendsPrefix (K.written sink.old) (K.written sink.new) (signed_decimal n)) }
-    ensures failed_only_on_fault { OnErr result (Rose (K.faults sink.old) (K.faults sink.new)) }
-    ensures never_falls { K.faults sink.old ≤ K.faults sink.new }
-    ensures same_settled { K.settled sink.new ≡ K.settled sink.old }
+    ensures ok { OnOk result (WroteAll K.written sink.old sink.new (signed_decimal n)) }
+    ensures failed { OnErr result (WrotePart K.written K.faults sink.old sink.new (signed_decimal n)) }
+    ensures only_writes { OnlyWrites K.settled K.faults sink.old sink.new }
 {
     let mut text = [0; MOST_DIGITS];
     let start = fill_signed_digits(&mut text, n);

@@ -1,5 +1,6 @@
 //! Reading a whole file.
 ghost use Rattle.std.specs.Prelude.{◌≡◌, ℕ, ◌+◌, ◌<◌, ◌≤◌, List, length, take, drop, Option, None, IfOk, OnOk, IfSome, vec_len};
+ghost use Rattle.surf_io.specs.Calls.{OnlyReads};
 ghost use Rattle.surf_io.specs.Faults.{Rose};
 ghost use Rattle.surf_io.specs.Files.{file_of, GivesFrom};
 
@@ -46,8 +47,7 @@ pub fn read_whole<S: Shelf>(
     ensures whole_file { IfOk result (λ bytes. IfSome (file_of (S.held shelf.old) name.now) (λ file. bytes.items ≡ file)) }
     ensures fault_only_on_fault { result ≡ Err ReadEnd.Fault → Rose (S.faults shelf.old) (S.faults shelf.new) }
     ensures too_large { result ≡ Err ReadEnd.TooLarge → IfSome (file_of (S.held shelf.old) name.now) (λ file. limit < length file) }
-    ensures same_files { S.held shelf.new ≡ S.held shelf.old }
-    ensures never_falls { S.faults shelf.old ≤ S.faults shelf.new }
+    ensures only_reads { OnlyReads S.held S.faults shelf.old shelf.new }
 {
     let most = limit.saturating_add(1) as usize;
     let mut bytes = Vec::new(alloc);

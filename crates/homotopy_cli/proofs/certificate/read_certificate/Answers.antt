@@ -11,7 +11,8 @@ use Rattle.homotopy_cli.specs.declared.plain.PlainFault.TheVariants.{OutOfMemory
 use Rattle.homotopy_cli.proofs.certificate.read_certificate.Goals as goal
 
 -- what the head of a plain list reads as
-head_of : (list : PeakedMoves) (bytes : List ℕ) → IsPlainList list bytes → head_at bytes ≡ Some (length list.moves, list.peak, flat_map move_line list.moves)
+head_of : (list : PeakedMoves) (bytes : List ℕ) → IsPlainList list bytes
+    → head_at bytes ≡ Some (length list.moves, list.peak, flat_map move_line list.moves)
 head_of list bytes h = ap head_at h.text ∙ head_again (length list.moves) list.peak (flat_map move_line list.moves) h.count (omega (arith, h.peak))
 
 same_list : (a b : PeakedMoves) → a.moves ≡ b.moves → a.peak ≡ b.peak → a ≡ b
@@ -20,7 +21,8 @@ same_list a b p q =
     ∙ ap (λ (k : ℕ). let x : PeakedMoves = record { moves = b.moves; peak = k } in x) q
 
 -- what was read of the moves, and the head, make a plain list
-whole : (result : Result PeakedMoves PlainFault) (count peak : ℕ) (rest bytes : List ℕ) → IsHeadTaken bytes (count, peak, rest) → peak ≤ 16000000
+whole : (result : Result PeakedMoves PlainFault) (count peak : ℕ) (rest bytes : List ℕ) → IsHeadTaken bytes (count, peak, rest)
+    → peak ≤ 16000000
     → IfOk result (λ list. list.peak ≡ peak) → IfOk result (λ list. length list.moves ≡ count) → IfOk result (λ list. All IsPlainMove list.moves)
     → IfOk result (λ list. rest ≡ flat_map move_line list.moves) → IfOk result (λ list. IsPlainList list bytes)
 whole (Err e) count peak rest bytes head low p q r s = tt
@@ -32,7 +34,8 @@ whole (Ok list) count peak rest bytes head low p q r s =
       plain = r;
     }
 
-only_whole : (result : Result PeakedMoves PlainFault) (list : PeakedMoves) (peak : ℕ) → peak ≡ list.peak → IfOk result (λ read. read.peak ≡ peak)
+only_whole : (result : Result PeakedMoves PlainFault) (list : PeakedMoves) (peak : ℕ) → peak ≡ list.peak
+    → IfOk result (λ read. read.peak ≡ peak)
     → MatchResult result (λ read. read.moves ≡ list.moves) (λ fault. fault ≡ OutOfMemory)
     → MatchResult result (λ read. read ≡ list) (λ fault. fault ≡ OutOfMemory)
 only_whole (Err e) list peak same p h = h

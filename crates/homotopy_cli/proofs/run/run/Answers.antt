@@ -1,35 +1,48 @@
-use Rattle.std.proofs.Common.{ap, ◌∙◌, subst}
-use Rattle.surf_io.specs.Bytes.{Appends}
+use Rattle.std.proofs.Common.{◌≡◌, ◌⊎◌, inl, inr, sym, subst}
 use Rattle.homotopy_cli.specs.Commands.{texts}
-use Rattle.homotopy_cli.specs.Texts.{text_of, status_of}
-use Rattle.homotopy_cli.specs.declared.answer.Answer.{Answer}
-use Rattle.homotopy_cli.specs.declared.answer.Answer.TheVariants.{NotBuilt}
-use Rattle.homotopy_cli.proofs.Outcomes.{told_verdict, answered_status, yes_exactly}
+use Rattle.homotopy_cli.specs.Outcomes.{Answers, answer_of}
+use Rattle.homotopy_cli.specs.Replies.{reply_status, reply_text}
+use Rattle.homotopy_cli.specs.Statuses.{IsAnswered}
+use Rattle.homotopy_cli.specs.Stops.{Stops}
+use Rattle.homotopy_cli.specs.declared.reply.Reply.{Reply}
+use Rattle.homotopy_cli.specs.declared.status.Status.{Status}
+use Rattle.homotopy_cli.specs.declared.status.Status.TheVariants.{OutOfMemory}
+use Rattle.homotopy_cli.proofs.Outcomes.{reply_answers, refusal_answers, answered_status, is_answered}
+use Rattle.homotopy_cli.proofs.run.run.Given as given
 use Rattle.homotopy_cli.proofs.run.run.Goals as goal
+use Rattle.homotopy_cli.proofs.run.run.Goals.{in-Ok, in-Err-Refused}
 
-pub returns-in-Ok-clause-judged : goal.returns-in-Ok-clause-judged
-returns-in-Ok-clause-judged g c = λ mesh first second list input answered.
-    let is = told_verdict (g.S.Shelf.held c.args.shelf.now) (texts c.args.words.now.items) c.in-Ok.answer mesh first second list input c.in-Ok.ensures.found in (
-      answered_status c.give_answer.result (status_of c.in-Ok.answer) answered c.give_answer.ensures.either ∙ ap status_of is,
-      subst (λ (a : Answer). Appends (g.K.Sink.written c.args.out.now) (g.K.Sink.written c.give_answer.new.out) (text_of a)) is (c.give_answer.ensures.written answered),
+-- the reply answers the words
+all : (g : given.Over) (c : goal.After-give g)
+    → Answers (g.S.Shelf.held c.args.shelf.now) (texts c.args.words.now.items) (reply_status c.match-find_answer.reply) (reply_text c.match-find_answer.reply)
+all g c =
+    let files = g.S.Shelf.held c.args.shelf.now in
+    let words = texts c.args.words.now.items in
+    elim c.match-find_answer.branch [
+      | in-Ok w ↦
+          subst (λ (r : Reply). Answers files words (reply_status r) (reply_text r)) (sym w.reply-is) (reply_answers files words w.in-Ok.reply w.in-Ok.ensures.end)
+      | in-Err-Refused w ↦
+          subst (λ (r : Reply). Answers files words (reply_status r) (reply_text r)) (sym w.reply-is)
+          (refusal_answers files words w.in-Err-Refused.refusal (subst (Stops (answer_of files words)) w.in-Err-Refused.field-0-is w.in-Err-Refused.ensures.end))
+    ]
+
+pub returns-clause-answered : goal.returns-clause-answered
+returns-clause-answered g c = λ answered.
+    let reply = c.match-find_answer.reply in (
+      reply_text reply,
+      subst (λ (s : Status). Answers (g.S.Shelf.held c.args.shelf.now) (texts c.args.words.now.items) s (reply_text reply))
+          (sym (answered_status c.give.result (reply_status reply) answered c.give.ensures.either)) (all g c),
+      c.give.ensures.written answered,
     )
 
-pub returns-in-Ok-clause-accepted : goal.returns-in-Ok-clause-accepted
-returns-in-Ok-clause-accepted g c = λ mesh first second list input answered.
-    let is = told_verdict (g.S.Shelf.held c.args.shelf.now) (texts c.args.words.now.items) c.in-Ok.answer mesh first second list input c.in-Ok.ensures.found in
-    yes_exactly c.give_answer.result mesh first second list
-    (answered_status c.give_answer.result (status_of c.in-Ok.answer) answered c.give_answer.ensures.either ∙ ap status_of is)
+pub returns-clause-write_fault : goal.returns-clause-write_fault
+returns-clause-write_fault g c = λ e.
+    let reply = c.match-find_answer.reply in
+    (reply_status reply, reply_text reply, all g c, c.give.ensures.write_fault e)
 
-pub returns-in-Err-NotBuilt-clause-judged : goal.returns-in-Err-NotBuilt-clause-judged
-returns-in-Err-NotBuilt-clause-judged g c = λ mesh first second list input answered.
-    let is = told_verdict (g.S.Shelf.held c.args.shelf.now) (texts c.args.words.now.items) NotBuilt mesh first second list input (c.in-Err-NotBuilt.ensures.none cc) in (
-      answered_status c.give_answer-in-Err-NotBuilt.result (status_of NotBuilt) answered c.give_answer-in-Err-NotBuilt.ensures.either ∙ ap status_of is,
-      subst (λ (a : Answer). Appends (g.K.Sink.written c.args.out.now) (g.K.Sink.written c.give_answer-in-Err-NotBuilt.new.out) (text_of a)) is
-          (c.give_answer-in-Err-NotBuilt.ensures.written answered),
-    )
-
-pub returns-in-Err-NotBuilt-clause-accepted : goal.returns-in-Err-NotBuilt-clause-accepted
-returns-in-Err-NotBuilt-clause-accepted g c = λ mesh first second list input answered.
-    let is = told_verdict (g.S.Shelf.held c.args.shelf.now) (texts c.args.words.now.items) NotBuilt mesh first second list input (c.in-Err-NotBuilt.ensures.none cc) in
-    yes_exactly c.give_answer-in-Err-NotBuilt.result mesh first second list
-    (answered_status c.give_answer-in-Err-NotBuilt.result (status_of NotBuilt) answered c.give_answer-in-Err-NotBuilt.ensures.either ∙ ap status_of is)
+pub returns-clause-complete : goal.returns-clause-complete
+returns-clause-complete g c = λ reads writes.
+    elim c.give.ensures.either as (λ _. IsAnswered c.give.result ⊎ (c.give.result ≡ OutOfMemory)) [
+      | inl e ↦ inl (subst IsAnswered (sym e) (is_answered c.match-find_answer.reply))
+      | inr e ↦ absurd (writes (c.give.ensures.write_fault e).fault)
+    ]

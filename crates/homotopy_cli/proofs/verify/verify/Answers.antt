@@ -1,66 +1,43 @@
-use Rattle.std.proofs.Common.{◌∙◌, subst}
+use Rattle.std.proofs.Common.{ℕ, List, ◌∙◌, subst}
 use Rattle.std.specs.Prelude.{Option}
 use Rattle.std.proofs.lemmas.Result.{err_from_is_err_and}
-use Rattle.surf_io.specs.Files.{Files, file_of}
-use Rattle.homotopy_cli.specs.Contents.{Agrees}
-use Rattle.homotopy_cli.proofs.Verifying.{told, told_agrees, no_mesh_answer, no_walks_answer, no_list_answer, judged_answer}
+use Rattle.surf_io.specs.Files.{Files}
+use Rattle.homotopy_cli.specs.Checks.{Passes}
+use Rattle.homotopy_cli.specs.Inputs.{pair_in, moves_in}
+use Rattle.homotopy_cli.specs.Stops.{Stops}
+use Rattle.homotopy_cli.proofs.Verifying.{walks_stop, list_stops, judged}
 use Rattle.homotopy_cli.proofs.verify.verify.Goals as goal
 
-pub returns-in_err-faces-clause-none : goal.returns-in_err-faces-clause-none
-returns-in_err-faces-clause-none g c = λ e.
-    let held = g.S.Shelf.held c.args.shelf.now in
-    let p = err_from_is_err_and c.from_residual.result c.from_residual.ensures.1 in
-    let mesh = c.in_err-faces.ensures.none (cc (p.1, p.2, e)) in (
-      record { mesh = mesh.0; walks = told (file_of held c.args.walks.now); certificate = told (file_of held c.args.certificate.now) },
-      record {
-        mesh_file = mesh.1;
-        walks_file = told_agrees (file_of held c.args.walks.now);
-        certificate_file = told_agrees (file_of held c.args.certificate.now);
-      },
-      no_mesh_answer _ mesh.2,
-    )
-
-pub returns-in_err-first-clause-none : goal.returns-in_err-first-clause-none
-returns-in_err-first-clause-none g c = λ e.
-    let held = g.S.Shelf.held c.args.shelf.now in
+pub returns-in_err-first-clause-end : goal.returns-in_err-first-clause-end
+returns-in_err-first-clause-end g c =
+    let faces = c.in_ok-faces.faces in
+    let stop = c.in_err-first.field-0.0 in
     let p = err_from_is_err_and c.from_residual-in_err-first.result c.from_residual-in_err-first.ensures.1 in
-    let mesh = c.in_ok-faces.ensures.found in
-    let walks = c.in_err-first.ensures.none c.in_ok-faces.faces c.in_ok-sides.ensures (cc (p.1, p.2, e)) in (
-      record { mesh = mesh.0; walks = walks.0; certificate = told (file_of held c.args.certificate.now) },
-      record {
-        mesh_file = mesh.1;
-        walks_file = subst (λ (files : Option Files). Agrees files c.args.walks.now walks.0) c.in_ok-faces.ensures.same_files walks.1;
-        certificate_file = told_agrees (file_of held c.args.certificate.now);
-      },
-      no_walks_answer _ c.in_ok-faces.faces mesh.2 walks.2,
-    )
+    let stops = c.in_err-first.ensures.end faces c.in_ok-sides.ensures in
+    rw (p.1, p.2)
+    (walks_stop (g.S.Shelf.held c.args.shelf.now) c.args.mesh.now c.args.walks.now c.args.certificate.now faces stop c.in_ok-faces.ensures.end
+    (subst (λ (files : Option Files). Stops (pair_in files c.args.walks.now faces) stop) c.in_ok-faces.ensures.only_reads.same_files stops))
 
-pub returns-in_err-list-clause-none : goal.returns-in_err-list-clause-none
-returns-in_err-list-clause-none g c = λ e.
+pub returns-in_err-list-clause-end : goal.returns-in_err-list-clause-end
+returns-in_err-list-clause-end g c =
+    let faces = c.in_ok-faces.faces in
+    let pair : List ℕ × List ℕ = (c.in_ok-first.first, c.in_ok-first.second) in
+    let stop = c.in_err-list.field-0.0 in
+    let same = c.in_ok-faces.ensures.only_reads.same_files in
     let p = err_from_is_err_and c.from_residual-in_err-list.result c.from_residual-in_err-list.ensures.1 in
-    let mesh = c.in_ok-faces.ensures.found in
-    let walks = c.in_ok-first.ensures.found c.in_ok-faces.faces c.in_ok-sides.ensures in
-    let list = c.in_err-list.ensures.none (cc (p.1, p.2, e)) in (
-      record { mesh = mesh.0; walks = walks.0; certificate = list.0 },
-      record {
-        mesh_file = mesh.1;
-        walks_file = subst (λ (files : Option Files). Agrees files c.args.walks.now walks.0) c.in_ok-faces.ensures.same_files walks.1;
-        certificate_file = subst (λ (files : Option Files). Agrees files c.args.certificate.now list.0) (c.in_ok-first.ensures.same_files ∙ c.in_ok-faces.ensures.same_files) list.1;
-      },
-      no_list_answer _ c.in_ok-faces.faces c.in_ok-first.first c.in_ok-first.second mesh.2 walks.2 list.2,
-    )
+    rw (p.1, p.2)
+    (list_stops (g.S.Shelf.held c.args.shelf.now) c.args.mesh.now c.args.walks.now c.args.certificate.now faces pair stop c.in_ok-faces.ensures.end
+    (subst (λ (files : Option Files). Passes (pair_in files c.args.walks.now faces) pair) same (c.in_ok-first.ensures.end faces c.in_ok-sides.ensures))
+    (subst (λ (files : Option Files). Stops (moves_in files c.args.certificate.now) stop) (c.in_ok-first.ensures.only_reads.same_files ∙ same) c.in_err-list.ensures.end))
 
-pub returns-clause-judged : goal.returns-clause-judged
-returns-clause-judged g c =
-    let mesh = c.in_ok-faces.ensures.found in
-    let walks = c.in_ok-first.ensures.found c.in_ok-faces.faces c.in_ok-sides.ensures in
-    let list = c.in_ok-list.ensures.found in (
-      record { mesh = mesh.0; walks = walks.0; certificate = list.0 },
-      record {
-        mesh_file = mesh.1;
-        walks_file = subst (λ (files : Option Files). Agrees files c.args.walks.now walks.0) c.in_ok-faces.ensures.same_files walks.1;
-        certificate_file = subst (λ (files : Option Files). Agrees files c.args.certificate.now list.0) (c.in_ok-first.ensures.same_files ∙ c.in_ok-faces.ensures.same_files) list.1;
-      },
-      judged_answer _ c.in_ok-faces.faces c.in_ok-first.first c.in_ok-first.second c.in_ok-list.list c.in_ok-check_moves.field-0 mesh.2 walks.2 list.2
-          c.in_ok-check_moves.ensures.verdict,
-    )
+pub returns-clause-end : goal.returns-clause-end
+returns-clause-end g c =
+    let faces = c.in_ok-faces.faces in
+    let pair : List ℕ × List ℕ = (c.in_ok-first.first, c.in_ok-first.second) in
+    let list = c.in_ok-list.list in
+    let same = c.in_ok-faces.ensures.only_reads.same_files in
+    judged (g.S.Shelf.held c.args.shelf.now) c.args.mesh.now c.args.walks.now c.args.certificate.now faces pair list c.in_ok-check_moves.field-0
+    c.in_ok-faces.ensures.end
+    (subst (λ (files : Option Files). Passes (pair_in files c.args.walks.now faces) pair) same (c.in_ok-first.ensures.end faces c.in_ok-sides.ensures))
+    (subst (λ (files : Option Files). Passes (moves_in files c.args.certificate.now) list) (c.in_ok-first.ensures.only_reads.same_files ∙ same) c.in_ok-list.ensures.end)
+    c.in_ok-check_moves.ensures.verdict

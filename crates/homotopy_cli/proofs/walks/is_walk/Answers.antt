@@ -5,7 +5,8 @@ use Rattle.surf_model.specs.FaceLists.{is_edge, is_used}
 use Rattle.homotopy_cli.proofs.walks.is_walk.Goals as goal
 
 -- entries that are used before a place, and the one there, are all used
-all_used : (P : ℕ → Type 0) (walk : List ℕ) (last : ℕ) → length walk ≡ last + 1 → ((k : ℕ) → k < last → P (slice_index walk k)) → P (slice_index walk last) → All P walk
+all_used : (P : ℕ → Type 0) (walk : List ℕ) (last : ℕ) → length walk ≡ last + 1 → ((k : ℕ) → k < last → P (slice_index walk k))
+    → P (slice_index walk last) → All P walk
 all_used P walk last whole before here = λ k d below.
     subst P (get_or_default walk k 0 d below) (below_more (λ j. P (slice_index walk j)) last before here k (omega (arith, whole, below)))
 

@@ -1,0 +1,12 @@
+-- What the program answers.
+use Rattle.move_checker.specs.declared.judge.Verdict.{Verdict}
+use Rattle.homotopy_cli.specs.Checks.{End}
+
+-- what is answered where nothing is refused
+pub data Answer : Type 0 where
+  -- `verify`
+  Judged : Verdict → Answer
+
+-- the outcome of a run: a refusal, or an answer
+abbrev pub Outcome : Type 0
+Outcome = End Answer

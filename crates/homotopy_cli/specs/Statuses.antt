@@ -1,0 +1,33 @@
+-- The status with which the program ends, and its number.
+use Rattle.std.specs.Prelude.{◌≡◌, ℕ, ◌⊎◌}
+use Rattle.move_checker.specs.declared.judge.Verdict.{Verdict}
+use Rattle.move_checker.specs.declared.judge.Verdict.TheVariants.{Accepted, Peak, AtMove, End}
+use Rattle.homotopy_cli.specs.Answers.{Outcome, Judged}
+use Rattle.homotopy_cli.specs.Checks.{Refuse, Pass}
+use Rattle.homotopy_cli.specs.declared.status.Status.{Status}
+use Rattle.homotopy_cli.specs.declared.status.Status.TheVariants.{Yes, No, Refused, ReadFault, WriteFault, OutOfMemory}
+
+-- yes where the certificate is accepted
+abbrev pub verdict_status : Verdict → Status
+verdict_status Accepted = Yes
+verdict_status Peak = No
+verdict_status (AtMove number fault) = No
+verdict_status End = No
+
+-- the status of an outcome
+abbrev pub status_of : Outcome → Status
+status_of (Refuse refusal) = Refused
+status_of (Pass (Judged verdict)) = verdict_status verdict
+
+-- the status tells that an answer was written whole
+abbrev pub IsAnswered : Status → Type 0
+IsAnswered status = (status ≡ Yes) ⊎ ((status ≡ No) ⊎ (status ≡ Refused))
+
+-- the number with which the program ends
+abbrev pub status_number : Status → ℕ
+status_number Yes = 0
+status_number No = 1
+status_number Refused = 2
+status_number ReadFault = 3
+status_number WriteFault = 4
+status_number OutOfMemory = 5

@@ -1,0 +1,120 @@
+//! What the program writes.
+ghost use Rattle.std.specs.Prelude.{◌≡◌, ◌⊎◌, ◌≤◌, codes, length, OnOk, OnErr, IfSome};
+ghost use Rattle.surf_io.specs.Calls.{OnlyWrites, WroteAll, WrotePart};
+ghost use Rattle.homotopy_cli.specs.Replies.{reply_text, reply_status};
+ghost use Rattle.homotopy_cli.specs.Statuses.{verdict_status, IsAnswered};
+ghost use Rattle.homotopy_cli.specs.Texts.{input_word, refusal_line, fault_word, verdict_line};
+
+use crate::line::{Phrase, put_line};
+use crate::refusal::{Input, Refusal};
+use crate::status::Status;
+use move_checker::{MoveFault, Verdict};
+use surf_io::{Failed, Sink};
+
+/// What is written.
+#[derive(Clone, Copy, Debug, PartialEq, Eq)]
+pub enum Reply {
+    /// Why the input is refused.
+    Refused(Refusal),
+    /// The verdict on a certificate.
+    Judged(Verdict),
+}
+
+/// Writes the reply, and settles it.
+pub fn give<K: Sink>(out: &mut K, reply: Reply) -> Status
+    ensures either { (result ≡ reply_status reply) ⊎ (result ≡ Status.WriteFault) }
+    ensures written { IsAnswered result → WroteAll K.written out.old out.new (reply_text reply) }
+    ensures settled { IsAnswered result → IfSome (K.written out.new) (λ bytes. K.settled out.new ≡ length bytes) }
+    ensures write_fault { result ≡ Status.WriteFault → WrotePart K.written K.faults out.old out.new (reply_text reply) }
+    ensures never_falls { K.faults out.old ≤ K.faults out.new }
+{
+    let Ok(()) = put_reply(out, reply) else {
+        return Status::WriteFault;
+    };
+    let Ok(()) = out.flush() else {
+        return Status::WriteFault;
+    };
+    status_of_reply(reply)
+}
+
+fn status_of_reply(reply: Reply) -> Status
+    ensures { result ≡ reply_status reply }
+{
+    match reply {
+        Reply::Refused(_) => Status::Refused,
+        Reply::Judged(Verdict::Accepted) => Status::Yes,
+        Reply::Judged(_) => Status::No,
+    }
+}
+
+fn put_reply<K: Sink>(out: &mut K, reply: Reply) -> Result<(), Failed>
+    ensures ok { OnOk result (WroteAll K.written out.old out.new (reply_text reply)) }
+    ensures failed { OnErr result (WrotePart K.written K.faults out.old out.new (reply_text reply)) }
+    ensures only_writes { OnlyWrites K.settled K.faults out.old out.new }
+{
+    match reply {
+        Reply::Refused(refusal) => put_refusal(out, refusal),
+        Reply::Judged(verdict) => put_verdict(out, verdict),
+    }
+}
+
+fn put_refusal<K: Sink>(out: &mut K, refusal: Refusal) -> Result<(), Failed>
+    ensures ok { OnOk result (WroteAll K.written out.old out.new (refusal_line refusal)) }
+    ensures failed { OnErr result (WrotePart K.written K.faults out.old out.new (refusal_line refusal)) }
+    ensures only_writes { OnlyWrites K.settled K.faults out.old out.new }
+{
+    let refused = Phrase::Text("refused:");
+    match refusal {
+        Refusal::WrongWords => put_line(out, refused, &[Phrase::Text("words")]),
+        Refusal::NotBuilt => put_line(out, refused, &[Phrase::Text("not built")]),
+        Refusal::TooLarge(input) => put_line(
+            out,
+            refused,
+            &[
+                Phrase::Text(word_of_input(input)),
+                Phrase::Text("too large"),
+            ],
+        ),
+    }
+}
+
+/// What the lines call a file.
+fn word_of_input(input: Input) -> &'static str
+    ensures { result.now ≡ input_word input }
+{
+    match input {
+        Input::Mesh => "off",
+        Input::Walks => "walks",
+        Input::Certificate => "certificate",
+    }
+}
+
+fn put_verdict<K: Sink>(out: &mut K, verdict: Verdict) -> Result<(), Failed>
+    ensures ok { OnOk result (WroteAll K.written out.old out.new (verdict_line verdict)) }
+    ensures failed { OnErr result (WrotePart K.written K.faults out.old out.new (verdict_line verdict)) }
+    ensures only_writes { OnlyWrites K.settled K.faults out.old out.new }
+{
+    match verdict {
+        Verdict::Accepted => put_line(out, Phrase::Text("accepted"), &[]),
+        Verdict::Peak => put_line(out, Phrase::Text("rejected: peak"), &[]),
+        Verdict::AtMove { number, fault } => put_line(
+            out,
+            Phrase::Text("rejected: move"),
+            &[Phrase::Number(number), Phrase::Text(word_of_fault(fault))],
+        ),
+        Verdict::End => put_line(out, Phrase::Text("rejected: end"), &[]),
+    }
+}
+
+/// Why a move is refused, in one word.
+fn word_of_fault(fault: MoveFault) -> &'static str
+    ensures { result.now ≡ fault_word fault }
+{
+    match fault {
+        MoveFault::Place => "place",
+        MoveFault::NoEdge => "edge",
+        MoveFault::NotSpur => "spur",
+        MoveFault::NotOnFace => "face",
+        MoveFault::OverPeak => "peak",
+    }
+}
