@@ -1,0 +1,75 @@
+-- The laws of splits, from those of rotation systems.
+use Rattle.std.proofs.Common.{◌≡◌, ℕ, zero, suc, ◌+◌, ◌*◌, ◌<◌, true, not, length, refl, arith}
+use Rattle.surf_model.specs.FaceLists.{is_used}
+use Rattle.halfedge_map.specs.Numbers.{count_below}
+use Rattle.halfedge_map.specs.OrientedMeshes.{OrientedMesh, IsOrientedSurface}
+use Rattle.halfedge_map.specs.DartMaps.{used_vertices}
+use Rattle.halfedge_map.specs.RotationSystems.{rotations_of, NamesAll}
+use Rattle.halfedge_map.proofs.SystemLemmas.{rotation_system, names_all}
+use Rattle.tree_cotree.specs.SpanningTrees.{HasOneRing}
+use Rattle.tree_cotree.specs.Splits.{SplitView, HasTrees, kind_of, is_tree_kind, is_cotree_kind, is_left_kind, in_tree, in_cotree, is_left}
+use Rattle.tree_cotree.specs.declared.split.Kind.{Kind}
+use Rattle.tree_cotree.specs.declared.split.Kind.TheVariants.{Tree, Cotree, Left}
+use Rattle.tree_cotree.proofs.GrowthLemmas.{HasNodes}
+use Rattle.tree_cotree.proofs.SplitLemmas.{OneOfThree, tree_one, cotree_one, left_one, tree_ring, cotree_ring, count_three}
+use Rattle.tree_cotree.proofs.LeftoverLemmas.{even_left}
+
+vertex_nodes : (s : OrientedMesh) → NamesAll s
+    → HasNodes (rotations_of s) (rotations_of s).origin (is_used s.mesh) s.mesh.count (length s.table)
+vertex_nodes s h = record {
+  edge_within = h.edge_below;
+  node_within = h.vertex_below;
+  is_of_dart = h.vertex_used;
+  has_dart = λ v _ is. h.each_vertex v is;
+}
+
+face_nodes : (s : OrientedMesh) → NamesAll s
+    → HasNodes (rotations_of s) (rotations_of s).face (λ f. true) (length s.mesh.faces) (length s.table)
+face_nodes s h = record {
+  edge_within = h.edge_below;
+  node_within = h.face_below;
+  is_of_dart = λ d l. refl;
+  has_dart = λ f l _. h.each_face f l;
+}
+
+pub one_of_three : (split : SplitView) (e : ℕ) → OneOfThree (in_tree split e) (in_cotree split e) (is_left split e)
+one_of_three split e = go (kind_of split e)
+  where
+    go : (k : Kind) → OneOfThree (is_tree_kind k) (is_cotree_kind k) (is_left_kind k)
+    go Tree = tree_one
+    go Cotree = cotree_one
+    go Left = left_one
+
+pub tree_has_ring : (s : OrientedMesh) (split : SplitView) → IsOrientedSurface s → HasTrees s split
+    → HasOneRing (rotations_of s) (in_tree split)
+tree_has_ring s split o t =
+    tree_ring (rotations_of s) (is_used s.mesh) s.mesh.count (length s.table) (in_tree split) (rotation_system s o) (vertex_nodes s (names_all s o)) t.tree
+
+pub rest_has_ring : (s : OrientedMesh) (split : SplitView) → IsOrientedSurface s → HasTrees s split
+    → HasOneRing (rotations_of s) (λ e. not (in_cotree split e))
+rest_has_ring s split o t =
+    cotree_ring (rotations_of s) (λ f. true) (length s.mesh.faces) (length s.table) (in_cotree split) (rotation_system s o) (face_nodes s (names_all s o)) t.cotree
+
+-- a closed surface has a dart
+some_dart : (s : OrientedMesh) → IsOrientedSurface s → 0 < (rotations_of s).darts
+some_dart s o =
+    let dart = (names_all s o).each_face 0 o.closed.some_face in
+    omega (arith, dart.1)
+
+pub even : (s : OrientedMesh) (split : SplitView) → IsOrientedSurface s → HasTrees s split
+    → (g : ℕ) × (count_below (is_left split) (length s.table) ≡ 2 * g)
+even s split o t =
+    even_left (rotations_of s) (in_tree split) (in_cotree split) (is_left split) (length s.table) (rotation_system s o) (names_all s o).edge_below
+    (names_all s o).each_edge (λ e l. one_of_three split e) (some_dart s o) (tree_has_ring s split o t) (rest_has_ring s split o t)
+
+count_all : (n : ℕ) → count_below (λ f. true) n ≡ n
+count_all zero = refl
+count_all (suc n) = rw (count_all n) (omega arith)
+
+pub exact : (s : OrientedMesh) (split : SplitView) → HasTrees s split → (g : ℕ) → count_below (is_left split) (length s.table) ≡ 2 * g
+    → used_vertices s + length s.mesh.faces + 2 * g ≡ length s.table + 2
+unfolding used_vertices
+exact s split t g e =
+    let all : count_below (in_tree split) (length s.table) + count_below (in_cotree split) (length s.table) + count_below (is_left split) (length s.table) ≡ length s.table =
+    count_three (in_tree split) (in_cotree split) (is_left split) (length s.table) (λ k l. one_of_three split k) in
+    omega (arith, all, t.tree.count, t.cotree.count, count_all (length s.mesh.faces), e)

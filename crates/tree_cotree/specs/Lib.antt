@@ -1,0 +1,3 @@
+pub mod RingCounts
+pub mod SpanningTrees
+pub mod Splits

@@ -1,0 +1,32 @@
+//! What holds of every split of a surface, however it was made, said of the definitions. A call of one of these
+//! functions does nothing; its contract is the law.
+ghost use Rattle.std.specs.Prelude.{◌≡◌, ◌≢◌, ℕ, ◌+◌, ◌*◌, ◌<◌, Bool, true, false, not, length};
+ghost use Rattle.halfedge_map.specs.Numbers.{count_below};
+ghost use Rattle.halfedge_map.specs.OrientedMeshes.{OrientedMesh, IsOrientedSurface};
+ghost use Rattle.halfedge_map.specs.DartMaps.{used_vertices};
+ghost use Rattle.halfedge_map.specs.RotationSystems.{rotations_of};
+ghost use Rattle.tree_cotree.specs.SpanningTrees.{HasOneRing};
+ghost use Rattle.tree_cotree.specs.Splits.{SplitView, HasTrees, IsSplit, in_tree, in_cotree, is_left};
+
+/// All darts stand on one ring of the tree, and on one ring of the edges outside the cotree, which are those of the tree
+/// and the leftover ones.
+pub fn split_leaves_one_ring()
+    ensures tree { (surface : OrientedMesh) (split : SplitView) → IsOrientedSurface surface → IsSplit surface split
+        → HasOneRing (rotations_of surface) (in_tree split) }
+    ensures tree_and_left { (surface : OrientedMesh) (split : SplitView) → IsOrientedSurface surface → IsSplit surface split
+        → HasOneRing (rotations_of surface) (λ e. not (in_cotree split e)) }
+{}
+
+/// Used vertices, faces and twice the genus are two more than the edges: the genus is the one of the Euler
+/// characteristic.
+pub fn genus_is_exact()
+    ensures { (surface : OrientedMesh) (split : SplitView) → IsOrientedSurface surface → IsSplit surface split
+        → used_vertices surface + length surface.mesh.faces + 2 * split.genus ≡ length surface.table + 2 }
+{}
+
+/// The number of leftover edges is even, whatever tree and cotree are taken.
+pub fn leftover_edges_are_even()
+    ensures { (surface : OrientedMesh) (split : SplitView) → IsOrientedSurface surface
+        → HasTrees surface split
+        → (genus : ℕ) × (count_below (is_left split) (length surface.table) ≡ 2 * genus) }
+{}
