@@ -20,15 +20,15 @@ search_below p (suc n) =
     ]
 
 -- two places below a bound with one value
-record AreAlike (g : ℕ → ℕ) (n : ℕ) : Type 0 where
-  first : ℕ
-  second : ℕ
-  before : first < second
-  within : second < n
-  same : g first ≡ g second
+pub record AreAlike (g : ℕ → ℕ) (n : ℕ) : Type 0 where
+  pub first : ℕ
+  pub second : ℕ
+  pub before : first < second
+  pub within : second < n
+  pub same : g first ≡ g second
 
 -- n numbers of which each is below n - 1 are not all different
-two_alike : (n : ℕ) (g : ℕ → ℕ) → ((i : ℕ) → i < suc n → g i < n) → AreAlike g (suc n)
+pub two_alike : (n : ℕ) (g : ℕ → ℕ) → ((i : ℕ) → i < suc n → g i < n) → AreAlike g (suc n)
 two_alike zero g small = absurd (omega (arith, small 0 (omega arith)))
 two_alike (suc n) g small =
     elim (search_below (λ i. eqb (g i) (g (suc n))) (suc n)) [

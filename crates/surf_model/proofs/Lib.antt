@@ -19,3 +19,4 @@ pub mod WayBackLemmas
 pub mod StackLemmas
 pub mod TreeWalkLemmas
 pub mod FreeWalkLemmas
+pub mod ListedLemmas

@@ -17,7 +17,7 @@ use Rattle.surf_model.proofs.RoundLemmas.{corner_after, corners_before, first_co
 use Rattle.surf_model.proofs.LinkLemmas.{Linked, links, walk_from, together, front_of, rest_of, round_linked, round_used, all_more, none_yet}
 
 -- two lists with one first and one last entry
-record AreAlike (part other : List ℕ) : Type 0 where
+pub record AreAlike (part other : List ℕ) : Type 0 where
   pub first : ℕ
   pub last : ℕ
   pub part_rest : List ℕ
@@ -29,7 +29,7 @@ record AreAlike (part other : List ℕ) : Type 0 where
   pub other_begins : other ≡ first ∷ other_rest
   pub other_ends : other ≡ other_front ++ last ∷ []
 
-alike : (mesh : FaceList) (move : Move) (part other : List ℕ) → Replaces mesh move part other → AreAlike part other
+pub alike : (mesh : FaceList) (move : Move) (part other : List ℕ) → Replaces mesh move part other → AreAlike part other
 alike mesh (Insert at via) part other h = record {
   first = h.0;
   last = h.0;
@@ -96,10 +96,10 @@ other_used mesh (Across at face corner forward taken) part other h used =
     rw h.4 (round_used mesh face.0 (not forward) corner (length (face_at mesh face.0) - taken) h.0 h.1)
 
 -- the walk taken apart before the first entry of the part, and before its last
-at_first : (before part after rest : List ℕ) (x : ℕ) → part ≡ x ∷ rest → before ++ part ++ after ≡ before ++ (x ∷ (rest ++ after))
+pub at_first : (before part after rest : List ℕ) (x : ℕ) → part ≡ x ∷ rest → before ++ part ++ after ≡ before ++ (x ∷ (rest ++ after))
 at_first before part after rest x e = ap (λ (l : List ℕ). before ++ l ++ after) e ∙ append_assoc before (x ∷ rest) after
 
-at_last : (before part after front : List ℕ) (x : ℕ) → part ≡ front ++ x ∷ [] → before ++ part ++ after ≡ before ++ front ++ (x ∷ after)
+pub at_last : (before part after front : List ℕ) (x : ℕ) → part ≡ front ++ x ∷ [] → before ++ part ++ after ≡ before ++ front ++ (x ∷ after)
 at_last before part after front x e = ap (λ (l : List ℕ). before ++ l ++ after) e ∙ simp append_assoc
 
 replaced_linked : (mesh : FaceList) (before part other after : List ℕ) → AreAlike part other → Linked mesh other

@@ -1,0 +1,4 @@
+pub mod PolygonLemmas
+pub mod PlaceLemmas
+pub mod QuadLemmas
+pub mod LawLemmas

@@ -1,0 +1,194 @@
+-- Places round the one vertex: the numbers of the sides, taken as they come by turning, get falling places.
+use Rattle.std.proofs.Common.{◌≡◌, ◌≢◌, ◌⊎◌, inl, inr, ℕ, zero, suc, ◌+◌, ◌-◌, ◌<◌, ◌≤◌, Bool, refl, ap, sym, ◌∙◌, subst, arith}
+use Rattle.std.proofs.lemmas.Bool.{cases_eq, cases_lt}
+use Rattle.std.proofs.lemmas.Bool.Decides.{nat_tests}
+use Rattle.halfedge_map.specs.Orbits.{after_steps, IsReached}
+use Rattle.halfedge_map.specs.RotationSystems.{Rotations, IsRotationSystem}
+use Rattle.polygon_cut.specs.Polygons.{one_up, one_down, PolygonView, side_at, label_of, across, IsLabelled}
+use Rattle.halfedge_map.proofs.OrbitLemmas.{IsPermutationBelow, AreAlike, two_alike, Returns, returns_to, step_first, steps_add}
+use Rattle.tree_cotree.proofs.ExchangeLemmas.{reached_soon}
+use Rattle.tree_cotree.proofs.AfterLemmas.{twin_edge}
+use Rattle.polygon_cut.proofs.PolygonLemmas.{one_up_below, is_own_side}
+
+-- the side across is below the degree, is another one, and lies across again
+pub record Crosses (degree : ℕ) (t : ℕ → ℕ) : Type 0 where
+  pub below : (i : ℕ) → i < degree → t i < degree
+  pub other : (i : ℕ) → i < degree → t i ≢ i
+  pub back : (i : ℕ) → i < degree → t (t i) ≡ i
+
+pub sides_cross : (maps : Rotations) (ring : ℕ → ℕ) (left : ℕ → Bool) (polygon : PolygonView) → IsRotationSystem maps
+    → IsLabelled maps ring left polygon
+    → Crosses polygon.degree (across maps polygon)
+sides_cross maps ring left polygon r h = record {
+  below = λ i l. h.label_below (maps.twin (side_at polygon i)) (r.twin_within (side_at polygon i) (h.side_is_left i l).0);
+  other = λ i l e. r.twin_other (side_at polygon i) (h.side_is_left i l).0 (sym (twin_side i l) ∙ ap (side_at polygon) e);
+  back = λ i l.
+      ap (λ (d : ℕ). label_of polygon (maps.twin d)) (twin_side i l)
+      ∙ ap (label_of polygon) (r.twin_back (side_at polygon i) (h.side_is_left i l).0) ∙ h.own_number i l;
+}
+  where
+    twin_side : (i : ℕ) → i < polygon.degree → side_at polygon (across maps polygon i) ≡ maps.twin (side_at polygon i)
+    twin_side i l =
+        let d : ℕ = side_at polygon i in
+        let in_range : d < maps.darts = (h.side_is_left i l).0 in
+        is_own_side maps ring left polygon h (maps.twin d) (r.twin_within d in_range) (ap left (sym (twin_edge maps r d in_range)) ∙ (h.side_is_left i l).1)
+
+up_apart : (degree i j : ℕ) → i < degree → j < degree → one_up degree i ≡ one_up degree j → i ≡ j
+up_apart degree i j l k e = elim (cases_eq (i + 1) degree) [
+  | inl last ↦ elim (cases_eq (j + 1) degree) [
+    | inl too ↦ (omega arith)
+    | inr more ↦
+        let one : one_up degree i ≡ 0 = grind (arith, nat_tests) in
+        let two : one_up degree j ≡ j + 1 = grind (arith, nat_tests) in
+        absurd (omega arith)
+  ]
+  | inr less ↦
+      let one : one_up degree i ≡ i + 1 = grind (arith, nat_tests) in
+      elim (cases_eq (j + 1) degree) [
+        | inl last ↦ (let two : one_up degree j ≡ 0 = grind (arith, nat_tests) in absurd (omega arith))
+        | inr more ↦ (let two : one_up degree j ≡ j + 1 = grind (arith, nat_tests) in omega arith)
+      ]
+]
+
+pub turning_permutes : (degree : ℕ) (t : ℕ → ℕ) → Crosses degree t → IsPermutationBelow degree (λ i. one_up degree (t i))
+turning_permutes degree t c = record {
+  within = λ i l. one_up_below degree (t i) (c.below i l);
+  injective = λ i j l k e. sym (c.back i l) ∙ ap t (up_apart degree (t i) (t j) (c.below i l) (c.below j k) e) ∙ c.back j k;
+}
+
+-- where all numbers are reached from 0, it takes as many steps to come back as there are numbers
+whole_round : (degree : ℕ) (f : ℕ → ℕ) → IsPermutationBelow degree f → 0 < degree → ((j : ℕ) → j < degree → IsReached f 0 j)
+    → (n : ℕ) → n < degree → after_steps f n (f 0) ≡ 0 → suc n ≡ degree
+whole_round degree f p some all n few back = elim (cases_eq (suc n) degree) [
+  | inl same ↦ same
+  | inr less ↦ absurd (clash (two_alike (degree - 1) place (λ i l. placed_below less i (omega arith))))
+]
+  where
+    -- in at most n steps every number is reached
+    soon : (fuel k j : ℕ) → k < fuel → after_steps f k 0 ≡ j → (m : ℕ) × (m < suc n) × (after_steps f m 0 ≡ j)
+    soon zero k j l e = absurd (omega arith)
+    soon (suc fuel) k j l e = elim (cases_lt k (suc n)) [
+      | inl less ↦ (k, less, e)
+      | inr more ↦
+          let sum : k - suc n + suc n ≡ k = omega arith in
+          let round : after_steps f (suc n) 0 ≡ 0 = sym (step_first f n 0) ∙ back in
+          let shorter : after_steps f (k - suc n) 0 ≡ j =
+          ap (after_steps f (k - suc n)) (sym round) ∙ sym (steps_add f (k - suc n) (suc n) 0) ∙ ap (λ (m : ℕ). after_steps f m 0) sum ∙ e in
+          soon fuel (k - suc n) j (omega arith) shorter
+    ]
+
+    found : (j : ℕ) → j < degree → (m : ℕ) × (m < suc n) × (after_steps f m 0 ≡ j)
+    found j l = let r = all j l in soon (suc r.steps) r.steps j (omega arith) r.leads
+
+    at : (j : ℕ) → (j < degree) ⊎ (degree ≤ j) → ℕ
+    at j (inl l) = (found j l).0
+    at j (inr _) = 0
+
+    at_leads : (j : ℕ) (c : (j < degree) ⊎ (degree ≤ j)) → j < degree → (at j c < suc n) × (after_steps f (at j c) 0 ≡ j)
+    at_leads j (inl l) k = ((found j l).1, (found j l).2)
+    at_leads j (inr m) k = absurd (omega arith)
+
+    place : ℕ → ℕ
+    place j = at j (cases_lt j degree)
+
+    placed : (j : ℕ) → j < degree → (place j < suc n) × (after_steps f (place j) 0 ≡ j)
+    placed j l = at_leads j (cases_lt j degree) l
+
+    placed_below : suc n ≢ degree → (j : ℕ) → j < degree → place j < degree - 1
+    placed_below less j l = let one : place j < suc n = (placed j l).0 in omega arith
+
+    clash : AreAlike place (suc (degree - 1)) → ⊥
+    clash a =
+        let i_in : a.first < degree = omega (arith, a.before, a.within) in
+        let j_in : a.second < degree = omega (arith, a.within) in
+        let same : a.first ≡ a.second = sym (placed a.first i_in).1 ∙ ap (λ (m : ℕ). after_steps f m 0) a.same ∙ (placed a.second j_in).1 in
+        omega (arith, a.before, same)
+
+-- a list of places that falls by one with each turn from 0
+pub record PlacedByTurns (degree : ℕ) (f place : ℕ → ℕ) : Type 0 where
+  pub first : place 0 ≡ 0
+  pub others : (k : ℕ) → 0 < k → k < degree → place (after_steps f k 0) ≡ degree - k
+
+-- such places fall, are below the degree, and differ
+pub record FallingPlaces (degree : ℕ) (f place : ℕ → ℕ) : Type 0 where
+  pub below : (i : ℕ) → i < degree → place i < degree
+  pub apart : (i j : ℕ) → i < degree → j < degree → place i ≡ place j → i ≡ j
+  pub falls : (i : ℕ) → i < degree → place (f i) ≡ one_down degree (place i)
+
+pub falling : (degree : ℕ) (f place : ℕ → ℕ) → IsPermutationBelow degree f → 0 < degree → ((j : ℕ) → j < degree → IsReached f 0 j)
+    → PlacedByTurns degree f place
+    → FallingPlaces degree f place
+falling degree f place p some all h = record {
+  below = λ i l. (let s = turns i l in at_below s.0 s.1 i s.2);
+  apart = λ i j l k e. (let s = turns i l in let t = turns j k in sym s.2 ∙ ap (λ (m : ℕ). after_steps f m 0) (same_turns s.0 t.0 s.1 t.1 (ap place s.2 ∙ e ∙ sym (ap place t.2))) ∙ t.2);
+  falls = λ i l. (let s = turns i l in subst (λ (x : ℕ). place (f x) ≡ one_down degree (place x)) s.2 (next_falls s.0 s.1));
+}
+  where
+    turns : (j : ℕ) → j < degree → (k : ℕ) × (k < degree) × (after_steps f k 0 ≡ j)
+    turns j l = let r = all j l in reached_soon degree f p 0 some (suc r.steps) r.steps j (omega arith) r.leads
+
+    value : (k : ℕ) → k < degree → ((k ≡ 0) × (place (after_steps f k 0) ≡ 0)) ⊎ ((0 < k) × (place (after_steps f k 0) ≡ degree - k))
+    value k l = elim (cases_eq k 0) [
+      | inl none ↦ inl (none, ap (λ (m : ℕ). place (after_steps f m 0)) none ∙ h.first)
+      | inr more ↦ inr (omega arith, h.others k (omega arith) l)
+    ]
+
+    at_below : (k : ℕ) → k < degree → (i : ℕ) → after_steps f k 0 ≡ i → place i < degree
+    at_below k l i e = elim (value k l) [
+      | inl v ↦ (let is : place i ≡ 0 = ap place (sym e) ∙ v.1 in omega arith)
+      | inr v ↦ (let is : place i ≡ degree - k = ap place (sym e) ∙ v.1 in omega (arith, v.0))
+    ]
+
+    same_turns : (k m : ℕ) → k < degree → m < degree → place (after_steps f k 0) ≡ place (after_steps f m 0) → k ≡ m
+    same_turns k m l n e = elim (value k l) [
+      | inl v ↦ elim (value m n) [
+        | inl w ↦ v.0 ∙ sym w.0
+        | inr w ↦ absurd (omega (arith, v.1, w.0, w.1))
+      ]
+      | inr v ↦ elim (value m n) [
+        | inl w ↦ absurd (omega (arith, v.0, v.1, w.1))
+        | inr w ↦ omega (arith, v.0, v.1, w.0, w.1)
+      ]
+    ]
+
+    down_zero : one_down degree 0 ≡ degree - 1
+    down_zero = refl
+
+    down_more : (x : ℕ) → 0 < x → one_down degree x ≡ x - 1
+    down_more x l = grind (arith, nat_tests)
+
+    round : Returns degree f 0
+    round = returns_to degree f p 0 some
+
+    period : suc round.less ≡ degree
+    period = whole_round degree f p some all round.less round.few round.back
+
+    home : (k : ℕ) → suc k ≡ degree → after_steps f (suc k) 0 ≡ 0
+    home k e =
+        let same : round.less ≡ k = omega (arith, period, e) in
+        ap (λ (m : ℕ). after_steps f (suc m) 0) (sym same) ∙ sym (step_first f round.less 0) ∙ round.back
+
+    next_falls : (k : ℕ) → k < degree → place (f (after_steps f k 0)) ≡ one_down degree (place (after_steps f k 0))
+    next_falls k l = elim (cases_eq (suc k) degree) [
+      | inl last ↦
+          let to : place (after_steps f (suc k) 0) ≡ 0 = ap place (home k last) ∙ h.first in
+          elim (value k l) [
+            | inl v ↦
+                let one : degree - 1 ≡ 0 = omega (arith, v.0, last) in
+                to ∙ sym (ap (one_down degree) v.1 ∙ one)
+            | inr v ↦
+                let one : place (after_steps f k 0) ≡ 1 = omega (arith, v.1, last) in
+                to ∙ sym (ap (one_down degree) one ∙ down_more 1 (omega arith))
+          ]
+      | inr more ↦
+          let to : place (after_steps f (suc k) 0) ≡ degree - suc k = h.others (suc k) (omega arith) (omega arith) in
+          elim (value k l) [
+            | inl v ↦
+                let one : degree - suc k ≡ degree - 1 = omega (arith, v.0) in
+                to ∙ one ∙ sym (ap (one_down degree) v.1)
+            | inr v ↦
+                let some_place : 0 < degree - k = omega arith in
+                let one : degree - suc k ≡ degree - k - 1 = omega arith in
+                to ∙ one ∙ sym (ap (one_down degree) v.1 ∙ down_more (degree - k) some_place)
+          ]
+    ]

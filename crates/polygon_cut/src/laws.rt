@@ -1,0 +1,37 @@
+//! What holds of every polygon cut from a surface, said of the definitions. A call of one of these functions does
+//! nothing; its contract is the law.
+ghost use Rattle.std.specs.Prelude.{◌≡◌, ℕ, ◌+◌, ◌<◌, true};
+ghost use Rattle.halfedge_map.specs.Orbits.{IsReached};
+ghost use Rattle.halfedge_map.specs.OrientedMeshes.{OrientedMesh, IsOrientedSurface};
+ghost use Rattle.halfedge_map.specs.DartMaps.{darts_of, twin_of, edge_of};
+ghost use Rattle.halfedge_map.specs.RotationSystems.{rotations_of};
+ghost use Rattle.tree_cotree.specs.Splits.{SplitView, IsSplit, in_tree, in_cotree, is_left};
+ghost use Rattle.polygon_cut.specs.Polygons.{PolygonView, IsCutFrom, KindLabels, label_of, place_of, turned, one_up, one_down};
+
+/// One step along the ring of tree and leftover edges keeps the label, or raises it by one past a leftover dart: along a
+/// tree edge both labels are one, across a cotree edge they are, and along a leftover edge the label rises by one.
+pub fn labels_ride_along_the_ring()
+    ensures { (surface : OrientedMesh) (split : SplitView) (polygon : PolygonView) (dart : ℕ) → IsOrientedSurface surface
+        → IsSplit surface split → IsCutFrom surface split polygon → 0 < polygon.degree → dart < darts_of surface
+        → KindLabels (rotations_of surface) (in_tree split) (in_cotree split) (is_left split) polygon dart }
+{}
+
+/// Turning round the one vertex, from side to side, every side is reached from side 0.
+pub fn turning_reaches_every_side()
+    ensures { (surface : OrientedMesh) (split : SplitView) (polygon : PolygonView) (side : ℕ) → IsOrientedSurface surface
+        → IsSplit surface split → IsCutFrom surface split polygon → side < polygon.degree
+        → IsReached (turned (rotations_of surface) polygon) 0 side }
+{}
+
+/// The places meet the leftover rule: where a leftover dart has the label `a` and its twin `c`, the spoke `c + 1` stands one
+/// place before `a`. For four sides they rise by one with the spokes.
+pub fn places_turn_round_the_vertex()
+    ensures leftover { (surface : OrientedMesh) (split : SplitView) (polygon : PolygonView) (dart : ℕ) → IsOrientedSurface surface
+        → IsSplit surface split → IsCutFrom surface split polygon → 0 < polygon.degree → dart < darts_of surface
+        → is_left split (edge_of surface dart) ≡ true
+        → place_of polygon (one_up polygon.degree (label_of polygon (twin_of surface dart)))
+        ≡ one_down polygon.degree (place_of polygon (label_of polygon dart)) }
+    ensures four { (surface : OrientedMesh) (split : SplitView) (polygon : PolygonView) (spoke : ℕ) → IsOrientedSurface surface
+        → IsSplit surface split → IsCutFrom surface split polygon → polygon.degree ≡ 4 → spoke < 4
+        → place_of polygon (one_up 4 spoke) ≡ one_up 4 (place_of polygon spoke) }
+{}

@@ -1,0 +1,5 @@
+//! The polygon into which a surface is cut along its tree and its leftover edges, and the places of its spokes round the one
+//! vertex.
+#![tactic(auto)]
+
+pub mod laws;

@@ -1,0 +1,3 @@
+pub mod Labellings
+pub mod GoodLabellings
+pub mod QuadPaths

@@ -1,0 +1,22 @@
+//! What holds of good labellings, said of the definitions. A call of one of these functions does nothing; its
+//! contract is the law.
+ghost use Rattle.std.specs.Prelude.{◌≡◌, ℕ, List};
+ghost use Rattle.surf_model.specs.FaceLists.{FaceList, IsFaceList};
+ghost use Rattle.surf_model.specs.Walks.{IsWalk};
+ghost use Rattle.surf_model.specs.Moves.{Homotopic};
+ghost use Rattle.turn_words.specs.Form_laws.{led};
+ghost use Rattle.quad_system.specs.Labellings.{LabellingView};
+ghost use Rattle.quad_system.specs.GoodLabellings.{IsGood};
+ghost use Rattle.quad_system.specs.QuadPaths.{quad_path};
+
+use turn_words::Form;
+
+/// The fold law. Under a good labelling of any mesh, the spokes of two homotopic walks lead a state at the vertex to one
+/// state, in every form whose states belong to the places of the labelling.
+pub fn moves_keep_the_state<F: Form>()
+    ensures { (mesh : FaceList) (labelling : LabellingView) (first second : List ℕ) (state : F.State) → IsFaceList mesh
+        → IsGood mesh labelling → IsWalk mesh first → Homotopic mesh first second
+        → F.Belongs labelling.places state → F.IsAtVertex state
+        → led F.next labelling.places state (quad_path mesh labelling first)
+        ≡ led F.next labelling.places state (quad_path mesh labelling second) }
+{}
