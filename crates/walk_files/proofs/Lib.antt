@@ -3,3 +3,4 @@ pub mod MoveLines
 pub mod EachLemmas
 pub mod NumberLemmas
 pub mod ListLemmas
+pub mod ReaderLemmas

@@ -4,7 +4,8 @@ use Rattle.std.specs.Option.{ok_or}
 use Rattle.text_scan.specs.Lines.{Line, full_lines, end_line}
 use Rattle.text_scan.specs.Unread.{Unread, lines_left}
 use Rattle.surf_model.specs.declared.moves.Move.{Move}
-use Rattle.walk_files.specs.Certificates.{behind_head, move_of}
+use Rattle.walk_files.specs.Each.{ok_first}
+use Rattle.walk_files.specs.Certificates.{behind_head, move_of, moves_in}
 use Rattle.walk_files.specs.declared.fault.CertFault.{CertFault}
 use Rattle.walk_files.specs.declared.fault.CertFault.TheVariants.{Bad, Ended, Extra}
 use Rattle.walk_files.specs.declared.certificate.CertHead.{CertHead}
@@ -48,13 +49,24 @@ abbrev pub next_of : ℕ → ℕ → List Line → Result (Option Move) CertFaul
 next_of end left [] = if left == 0 then Ok None else Err (Ended end)
 next_of end left (line ∷ lines) = if left == 0 then Err (Extra line.number) else ok_or (option_map Some (move_of line.words)) (Bad line.number)
 
--- what the reader gives next: the refusal that it keeps, or what the next line gives
+-- what is read, unless the reader keeps a refusal
+abbrev pub unless_refused : {A : Type 0} → Option CertFault → Result A CertFault → Result A CertFault
+unless_refused (Some fault) read = Err fault
+unless_refused None read = read
+
+-- what the reader gives next
 abbrev pub next_answer : Certificate → Result (Option Move) CertFault
-next_answer reader = unless (reader.refusal)
-  where
-    unless : Option CertFault → Result (Option Move) CertFault
-    unless (Some fault) = Err fault
-    unless None = next_of (end_line reader.text) (moves_to_come reader) (lines_to_come reader)
+next_answer reader = unless_refused reader.refusal (next_of (end_line reader.text) (moves_to_come reader) (lines_to_come reader))
+
+-- all moves that the reader has still to give, or the first fault among the lines left
+abbrev pub moves_left : Certificate → Result (List Move) CertFault
+moves_left reader = unless_refused reader.refusal (moves_in (end_line reader.text) (moves_to_come reader) (lines_to_come reader))
+
+-- an answer before the moves that are left behind it
+abbrev pub answer_first : Result (Option Move) CertFault → Result (List Move) CertFault → Result (List Move) CertFault
+answer_first (Err fault) others = Err fault
+answer_first (Ok None) others = Ok []
+answer_first (Ok (Some move)) others = ok_first (Ok move) others
 
 -- the reader behind an answer
 abbrev pub after_answer : Certificate → Result (Option Move) CertFault → Certificate

@@ -34,7 +34,7 @@ impl<'a> Model for CertReader<'a> {
 }
 
 impl<'a> CertReader<'a> {
-    ghost use Rattle.walk_files.specs.Readers.{Certificate, started, is_list, next_answer, after_answer};
+    ghost use Rattle.walk_files.specs.Readers.{Certificate, started, is_list, next_answer, after_answer, moves_left, answer_first};
 
     /// Reads the lines up to the head.
     pub fn start(bytes: &'a [u8]) -> Result<CertReader<'a>, CertFault>
@@ -64,6 +64,8 @@ impl<'a> CertReader<'a> {
         requires { IsTrue (is_list self.old) }
         ensures answer { result ≡ next_answer self.old }
         ensures after { self.new ≡ after_answer self.old result }
+        // So the moves are those of the text, up to its first fault.
+        ensures left { moves_left self.old ≡ answer_first result (moves_left self.new) }
     {
         if let Some(fault) = self.refusal {
             return Err(fault);

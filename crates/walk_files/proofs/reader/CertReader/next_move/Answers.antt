@@ -1,7 +1,10 @@
-use Rattle.std.proofs.Common.{◌≡◌, ◌<◌, drop, refl, ap, ◌∙◌, drop-drop, arith}
+use Rattle.std.proofs.Common.{◌≡◌, ◌+◌, ◌<◌, drop, refl, ap, ◌∙◌, drop-drop, arith, rules}
 use Rattle.text_scan.specs.Lines.{full_lines}
 use Rattle.text_scan.specs.Unread.{lines_left}
 use Rattle.walk_files.specs.Certificates.{behind_head}
+use Rattle.std.specs.Prelude.{Ok, Some}
+use Rattle.walk_files.specs.Readers.{Certificate, next_answer, after_answer}
+use Rattle.walk_files.proofs.ReaderLemmas.{left_after}
 use Rattle.walk_files.proofs.reader.CertReader.next_move.Goals as goal
 
 pub overflow_add-self : goal.overflow_add-self
@@ -16,3 +19,12 @@ invariant_of-self c =
       lines = λ none. place ∙ ap (drop 1) (c.self.invariant.lines none) ∙ drop-drop 1 c.self.inside.given (behind_head (full_lines c.self.inside.text.now));
       end = c.read_next.ensures.end ∙ c.self.invariant.end;
     }
+
+pub returns-in-Ok-Some-clause-left : goal.returns-in-Ok-Some-clause-left
+returns-in-Ok-Some-clause-left c =
+    let i = c.self.inside in
+    let new : Certificate = record { text = i.text.now; head = i.head; given = i.given + 1; refusal = i.refusal } in
+    let answer : Ok (Some c.in-Ok-Some.mv) ≡ next_answer c.args.self.now = search rules in
+    let after : new ≡ after_answer c.args.self.now (Ok (Some c.in-Ok-Some.mv)) =
+    ap (λ (r : Certificate). let s : Certificate = record r { given = r.given + 1 } in s) c.self.view_is in
+    left_after c.args.self.now new (Ok (Some c.in-Ok-Some.mv)) answer after
