@@ -94,8 +94,12 @@ impl Surface {
 
     /// The number of darts.
     pub fn darts(&self) -> u32
-        ensures { result ≡ darts_of self.now }
+        ensures count { result ≡ darts_of self.now }
+        // What holds of every surface.
+        ensures valid { IsOrientedSurface self.now }
     {
+        // The proof reads it there.
+        let _ = &self.next;
         self.faces.total()
     }
 
@@ -141,6 +145,8 @@ impl Surface {
         requires { edge.0 < length self.now.table }
         ensures edge { edge_of self.now result.0 ≡ edge.0 }
         ensures within { result.0 < darts_of self.now }
+        // What holds of every surface.
+        ensures valid { IsOrientedSurface self.now }
     {
         // The proof reads what holds of every surface.
         let _ = &self.next;

@@ -6,3 +6,4 @@ pub mod GrowthLemmas
 pub mod SplitLemmas
 pub mod LeftoverLemmas
 pub mod LawLemmas
+pub mod RingLemmas

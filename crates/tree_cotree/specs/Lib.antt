@@ -1,3 +1,4 @@
 pub mod RingCounts
 pub mod SpanningTrees
 pub mod Splits
+pub mod RingViews

@@ -2,6 +2,8 @@
 #![tactic(auto)]
 
 pub mod laws;
+pub mod rings;
 pub mod split;
 
+pub use rings::Rings;
 pub use split::Kind;
