@@ -84,7 +84,7 @@ turned_if mesh signs link a b is h faces =
     ap (λ n. differ (is_flipped signs n) (is_flipped signs b)) (sym two.is_a) ∙ ap (λ n. differ (is_flipped signs s.face) (is_flipped signs n)) (sym two.is_b)
     ∙ fit ∙ sym tails ∙ sym (one_test (eqb t.tail s.tail)) ∙ sym (ap run_alike two.are)
 
-differ_swap : (a b : Bool) → differ a b ≡ differ b a
+pub differ_swap : (a b : Bool) → differ a b ≡ differ b a
 differ_swap true true = refl
 differ_swap true false = refl
 differ_swap false true = refl

@@ -1,5 +1,5 @@
 -- Two sides of one edge run oppositely under signs exactly where the signs of their faces fit.
-use Rattle.std.proofs.Common.{◌≡◌, ◌≢◌, ◌⊎◌, inl, inr, ℕ, ◌<◌, Bool, true, false, eqb, ◌&&◌, List, [], ◌∷◌, map, refl, ap, sym, ◌∙◌, arith}
+use Rattle.std.proofs.Common.{◌≡◌, ◌≢◌, ◌⊎◌, inl, inr, ℕ, Bool, true, false, eqb, ◌&&◌, List, [], ◌∷◌, map, refl, ap, sym, ◌∙◌, arith}
 use Rattle.std.specs.Prelude.{if◌then◌else◌}
 use Rattle.std.proofs.lemmas.Bool.Decides.{nat_tests}
 use Rattle.surf_model.specs.FaceLists.{FaceList, FaceSide, IsFaceList, joins}
@@ -9,7 +9,7 @@ use Rattle.surf_model.specs.declared.edges.Side.{Side}
 use Rattle.surf_model.specs.declared.chains.ChainLink.{ChainLink}
 use Rattle.orientation.specs.Chains.{LeadsTo, run_alike, is_turned}
 use Rattle.orientation.specs.Classes.{EachEdgeHasAtMostTwoSides}
-use Rattle.orientation.specs.Trees.{differ, runs_alike, Fit}
+use Rattle.orientation.specs.Trees.{IsAlong, differ, runs_alike, Fit}
 use Rattle.orientation.proofs.Partners.{entry_of, are_all}
 
 pub ends_differ : (mesh : FaceList) (side : Side) → IsFaceList mesh → IsSide mesh side → tail_of mesh side ≢ head_of mesh side
@@ -40,10 +40,8 @@ opposite_if_fit mesh signs side other is h fit =
     h.one_edge (ends_differ mesh side is h.first) fit in
     record { starts = run.0; ends = run.1 }
 
--- a link along the edge of two partners
-pub record IsAlong (mesh : FaceList) (side : Side) (low high : ℕ) : Type 0 where
-  pub ordered : low < high
-  pub joins : joins low high (entry_of mesh side) ≡ true
+joined_along : (mesh : FaceList) (side : Side) (low high : ℕ) → IsAlong mesh side low high → joins low high (entry_of mesh side) ≡ true
+joined_along mesh side low high h = let ends = h.ends in grind (arith, nat_tests)
 
 pub eqb_swap : (m n : ℕ) → eqb m n ≡ eqb n m
 eqb_swap m n = grind (arith, nat_tests)
@@ -56,7 +54,7 @@ pub link_leads : (mesh : FaceList) (side other : Side) (link : ChainLink) → Ea
     → IsAlong mesh side link.low.0 link.high.0 → link.face.0 ≡ side.face.0 → LeadsTo mesh link other.face.0
 link_leads mesh side other link few h along face = record {
   ordered = along.ordered;
-  faces = elim (are_all mesh link.low.0 link.high.0 side other few h along.joins) [
+  faces = elim (are_all mesh link.low.0 link.high.0 side other few h (joined_along mesh side link.low.0 link.high.0 along)) [
     | inl a ↦ inl (ap (map (λ (s : FaceSide). s.face)) a ∙ ap (λ f. f ∷ other.face.0 ∷ []) (sym face))
     | inr a ↦ inr (ap (map (λ (s : FaceSide). s.face)) a ∙ ap (λ f. other.face.0 ∷ f ∷ []) (sym face))
   ];
@@ -66,7 +64,7 @@ pub link_leads_back : (mesh : FaceList) (side other : Side) (link : ChainLink) �
     → IsAlong mesh side link.low.0 link.high.0 → link.face.0 ≡ other.face.0 → LeadsTo mesh link side.face.0
 link_leads_back mesh side other link few h along face = record {
   ordered = along.ordered;
-  faces = elim (are_all mesh link.low.0 link.high.0 side other few h along.joins) [
+  faces = elim (are_all mesh link.low.0 link.high.0 side other few h (joined_along mesh side link.low.0 link.high.0 along)) [
     | inl a ↦ inr (ap (map (λ (s : FaceSide). s.face)) a ∙ ap (λ f. side.face.0 ∷ f ∷ []) (sym face))
     | inr a ↦ inl (ap (map (λ (s : FaceSide). s.face)) a ∙ ap (λ f. f ∷ side.face.0 ∷ []) (sym face))
   ];
@@ -75,7 +73,7 @@ link_leads_back mesh side other link few h along face = record {
 pub link_turned : (mesh : FaceList) (side other : Side) (link : ChainLink) → EachEdgeHasAtMostTwoSides mesh → ArePartners mesh side other
     → IsAlong mesh side link.low.0 link.high.0 → is_turned mesh link ≡ runs_alike mesh side other
 link_turned mesh side other link few h along =
-    elim (are_all mesh link.low.0 link.high.0 side other few h along.joins) [
+    elim (are_all mesh link.low.0 link.high.0 side other few h (joined_along mesh side link.low.0 link.high.0 along)) [
       | inl a ↦ ap run_alike a ∙ one_test _ ∙ eqb_swap _ _
       | inr a ↦ ap run_alike a ∙ one_test _
     ]

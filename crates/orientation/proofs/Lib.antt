@@ -3,3 +3,7 @@ pub mod Partners
 pub mod Fitting
 pub mod ChainLemmas
 pub mod ClassLemmas
+pub mod AcrossLemmas
+pub mod TreeLemmas
+pub mod SearchLemmas
+pub mod ClimbLemmas

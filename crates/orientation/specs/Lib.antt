@@ -1,4 +1,5 @@
 pub mod Chains
 pub mod Classes
 pub mod Trees
+pub mod Searches
 pub mod Examples

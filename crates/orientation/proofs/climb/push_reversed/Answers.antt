@@ -1,0 +1,15 @@
+use Rattle.std.proofs.Common.{length, List, ap, arith}
+use Rattle.std.proofs.lemmas.List.{length_push}
+use Rattle.surf_model.specs.declared.chains.ChainLink.{ChainLink}
+use Rattle.orientation.proofs.ClimbLemmas.{length-reversed}
+use Rattle.orientation.proofs.climb.push_reversed.Goals as goal
+
+pub push-requires : goal.push-requires
+push-requires c =
+    omega (
+      arith,
+      c.requires,
+      length-reversed c.loop-last.chain c.loop-last.links.items c.args.chain.now c.args.links.items c.loop-last.invariant,
+      ap (λ (xs : List ChainLink). length xs) c.in-Some.ensures.items,
+      length_push c.pop.new.self.items c.in-Some.last,
+    )

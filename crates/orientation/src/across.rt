@@ -1,0 +1,48 @@
+//! What lies on the other side of an edge.
+ghost use Rattle.std.specs.Prelude.{◌≡◌, ◌<◌, ◌↔◌, IsTrue};
+ghost use Rattle.surf_model.specs.Darts.{IsSide};
+ghost use Rattle.surf_model.specs.Edges.{IsTableOf};
+ghost use Rattle.surf_model.specs.Surfaces.{ArePartners};
+ghost use Rattle.orientation.specs.Classes.{EachEdgeHasAtMostTwoSides};
+ghost use Rattle.orientation.specs.Trees.{IsAcross, IsAlong, runs_alike};
+
+use surf_model::{ChainLink, FaceName, Faces, Side, Sides};
+
+/// The other side of a side's edge, where the edge has two.
+pub(crate) fn across(_faces: &Faces, sides: &Sides, side: Side) -> Option<Side>
+    requires table { IsTableOf _faces.now sides.now }
+    requires two { EachEdgeHasAtMostTwoSides _faces.now }
+    requires side { IsSide _faces.now side }
+    ensures { IsAcross _faces.now side result }
+{
+    let edge = sides.edge_at(side);
+    if sides.sides_of(edge) < 2 {
+        return None;
+    }
+    let first = sides.side(edge, 0);
+    if first == side {
+        Some(sides.side(edge, 1))
+    } else {
+        Some(first)
+    }
+}
+
+/// Whether two sides of one edge run the same way, as their faces list them.
+pub(crate) fn run_alike(faces: &Faces, side: Side, other: Side) -> bool
+    requires side { IsSide faces.now side }
+    requires other { IsSide faces.now other }
+    ensures { result ≡ runs_alike faces.now side other }
+{
+    faces.corner(side.face, side.at) == faces.corner(other.face, other.at)
+}
+
+/// The link from a face across the edge of a side.
+pub(crate) fn link(_faces: &Faces, sides: &Sides, face: FaceName, side: Side) -> ChainLink
+    requires table { IsTableOf _faces.now sides.now }
+    requires side { IsSide _faces.now side }
+    ensures face { result.face ≡ face }
+    ensures edge { IsAlong _faces.now side result.low.0 result.high.0 }
+{
+    let (low, high) = sides.ends(sides.edge_at(side));
+    ChainLink { face, low, high }
+}
