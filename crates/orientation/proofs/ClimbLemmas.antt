@@ -25,15 +25,15 @@ pub record IsWay (mesh : FaceList) (signs : List Bool) (parity : ℕ) (from : �
   pub leads : LeadOnTo mesh links to
   pub parity_is : (count_by (is_turned mesh) links + bit (is_flipped signs from) + bit (is_flipped signs to)) % 2 ≡ parity
 
-first_face-append : (xs ys : List ChainLink) (to : ℕ) → first_face (xs ++ ys) to ≡ first_face xs (first_face ys to)
+pub first_face-append : (xs ys : List ChainLink) (to : ℕ) → first_face (xs ++ ys) to ≡ first_face xs (first_face ys to)
 first_face-append [] ys to = refl
 first_face-append (x ∷ xs) ys to = refl
 
-LeadOnTo-append : (mesh : FaceList) (xs ys : List ChainLink) (to : ℕ) → LeadOnTo mesh xs (first_face ys to) → LeadOnTo mesh ys to → LeadOnTo mesh (xs ++ ys) to
+pub LeadOnTo-append : (mesh : FaceList) (xs ys : List ChainLink) (to : ℕ) → LeadOnTo mesh xs (first_face ys to) → LeadOnTo mesh ys to → LeadOnTo mesh (xs ++ ys) to
 LeadOnTo-append mesh [] ys to h k = k
 LeadOnTo-append mesh (x ∷ xs) ys to h k = (subst (LeadsTo mesh x) (sym (first_face-append xs ys to)) h.0, LeadOnTo-append mesh xs ys to h.1 k)
 
-count-append : (mesh : FaceList) (xs ys : List ChainLink) → count_by (is_turned mesh) (xs ++ ys) ≡ count_by (is_turned mesh) xs + count_by (is_turned mesh) ys
+pub count-append : (mesh : FaceList) (xs ys : List ChainLink) → count_by (is_turned mesh) (xs ++ ys) ≡ count_by (is_turned mesh) xs + count_by (is_turned mesh) ys
 count-append mesh xs ys = sum_by-append (λ l. cond (is_turned mesh l) 1 0) xs ys
 
 join_parity : (a b c m n p : ℕ) → (m + a + b) % 2 ≡ p → (n + b + c) % 2 ≡ 0 → (m + n + a + c) % 2 ≡ p
@@ -55,7 +55,7 @@ no_way false = refl
 pub way_none : (mesh : FaceList) (signs : List Bool) (a : ℕ) → IsWay mesh signs 0 a [] a
 way_none mesh signs a = record { starts = refl; leads = tt; parity_is = no_way (is_flipped signs a) }
 
-count-one : (mesh : FaceList) (link : ChainLink) → count_by (is_turned mesh) (link ∷ []) ≡ bit (is_turned mesh link)
+pub count-one : (mesh : FaceList) (link : ChainLink) → count_by (is_turned mesh) (link ∷ []) ≡ bit (is_turned mesh link)
 count-one mesh link = let e = sum_by-cons (λ l. cond (is_turned mesh l) 1 0) link [] in omega (arith, e)
 
 -- the way of one link

@@ -5,7 +5,7 @@ ghost use Rattle.surf_model.specs.FaceLists.{FaceList, IsFaceList};
 ghost use Rattle.surf_model.specs.Surfaces.{IsCoherent, IsOrientable};
 ghost use Rattle.surf_model.specs.declared.chains.ChainLink.{ChainLink};
 ghost use Rattle.orientation.specs.Chains.{IsOddChain};
-ghost use Rattle.orientation.specs.Classes.{IsLeastKept};
+ghost use Rattle.orientation.specs.Classes.{EachEdgeHasAtMostTwoSides, IsLeastKept};
 
 /// A mesh with an odd chain has no coherent signs.
 pub fn odd_chain_excludes_signs()
@@ -16,4 +16,12 @@ pub fn odd_chain_excludes_signs()
 pub fn kept_signs_are_unique()
     ensures { (mesh : FaceList) (signs others : List Bool) → IsFaceList mesh → IsCoherent mesh signs → IsLeastKept mesh signs
         → IsCoherent mesh others → IsLeastKept mesh others → signs ≡ others }
+{}
+
+/// A mesh whose edges have at most two sides is not without both: coherent signs that keep the least face of each
+/// class, and an odd chain.
+pub fn signs_or_chain()
+    ensures { (mesh : FaceList) → IsFaceList mesh → EachEdgeHasAtMostTwoSides mesh
+        → ((signs : List Bool) → IsCoherent mesh signs → IsLeastKept mesh signs → ⊥)
+        → ((chain : List ChainLink) → IsOddChain mesh chain → ⊥) → ⊥ }
 {}
