@@ -1,3 +1,4 @@
 pub mod Labellings
 pub mod GoodLabellings
 pub mod QuadPaths
+pub mod PolygonLabellings

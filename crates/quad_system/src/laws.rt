@@ -1,6 +1,6 @@
 //! What holds of good labellings, said of the definitions. A call of one of these functions does nothing; its
 //! contract is the law.
-ghost use Rattle.std.specs.Prelude.{◌≡◌, ℕ, List};
+ghost use Rattle.std.specs.Prelude.{◌≡◌, ℕ, ◌<◌, List};
 ghost use Rattle.surf_model.specs.FaceLists.{FaceList, IsFaceList};
 ghost use Rattle.surf_model.specs.Walks.{IsWalk};
 ghost use Rattle.surf_model.specs.Moves.{Homotopic};
@@ -8,6 +8,10 @@ ghost use Rattle.turn_words.specs.Form_laws.{led};
 ghost use Rattle.quad_system.specs.Labellings.{LabellingView};
 ghost use Rattle.quad_system.specs.GoodLabellings.{IsGood};
 ghost use Rattle.quad_system.specs.QuadPaths.{quad_path};
+ghost use Rattle.quad_system.specs.PolygonLabellings.{labelling_from, IsFull};
+ghost use Rattle.halfedge_map.specs.OrientedMeshes.{OrientedMesh, IsOrientedSurface};
+ghost use Rattle.tree_cotree.specs.Splits.{SplitView, IsSplit};
+ghost use Rattle.polygon_cut.specs.Polygons.{PolygonView, IsCutFrom};
 
 use turn_words::Form;
 
@@ -19,4 +23,14 @@ pub fn moves_keep_the_state<F: Form>()
         → F.Belongs labelling.places state → F.IsAtVertex state
         → led F.next labelling.places state (quad_path mesh labelling first)
         ≡ led F.next labelling.places state (quad_path mesh labelling second) }
+{}
+
+/// The labelling that a polygon gives is good, whatever tree and cotree it was cut along, and it is full.
+pub fn polygon_labelling_is_good_and_full()
+    ensures good { (surface : OrientedMesh) (split : SplitView) (polygon : PolygonView) → IsOrientedSurface surface
+        → IsSplit surface split → IsCutFrom surface split polygon → 0 < polygon.degree
+        → IsGood surface.mesh (labelling_from surface polygon) }
+    ensures full { (surface : OrientedMesh) (split : SplitView) (polygon : PolygonView) → IsOrientedSurface surface
+        → IsSplit surface split → IsCutFrom surface split polygon → 0 < polygon.degree
+        → IsFull surface.mesh (labelling_from surface polygon) }
 {}

@@ -1,0 +1,48 @@
+-- The labelling that a polygon gives: the corner of a face has the label of the face's dart that starts there.
+use Rattle.std.specs.Prelude.{◌≡◌, ℕ, ◌<◌, length, map}
+use Rattle.std.specs.List.{enumerate_from, range_with_len}
+use Rattle.surf_model.specs.FaceLists.{FaceList}
+use Rattle.surf_model.specs.Darts.{IsSide}
+use Rattle.surf_model.specs.Surfaces.{ArePartners, is_flipped}
+use Rattle.surf_model.specs.declared.edges.Side.{Side}
+use Rattle.halfedge_map.specs.OrientedMeshes.{OrientedMesh}
+use Rattle.halfedge_map.specs.DartMaps.{dart_at_corner}
+use Rattle.polygon_cut.specs.Polygons.{PolygonView, label_of}
+use Rattle.quad_system.specs.Labellings.{FaceLabels, LabellingView, tail_label, head_label}
+use Rattle.quad_system.specs.GoodLabellings.{MeetsLeftoverRule}
+
+-- the sign of face f, which has so many corners, and their labels
+abbrev pub face_labels : OrientedMesh → PolygonView → ℕ → ℕ → FaceLabels
+face_labels surface polygon f corners =
+    record {
+      flipped = is_flipped surface.signs f;
+      labels = map (λ t. label_of polygon (dart_at_corner surface f t)) (range_with_len 0 corners);
+    }
+
+abbrev pub labelling_from : OrientedMesh → PolygonView → LabellingView
+labelling_from surface polygon =
+    record {
+      degree = polygon.degree;
+      faces = map (λ p. face_labels surface polygon p.0 (length p.1)) (enumerate_from 0 surface.mesh.faces);
+      places = polygon.places;
+    }
+
+-- the edge of a side meets the leftover rule
+abbrev pub IsLeftoverSide : FaceList → LabellingView → Side → Type 0
+IsLeftoverSide mesh labelling side =
+    (other : Side) × ArePartners mesh side other
+    × MeetsLeftoverRule labelling.places (tail_label mesh labelling side) (head_label mesh labelling side) (tail_label mesh labelling other)
+    (head_label mesh labelling other)
+
+-- just one side of a leftover edge has the label i at its tail
+pub record HasOneSide (mesh : FaceList) (labelling : LabellingView) (i : ℕ) : Type 0 where
+  pub side : Side
+  pub side_of : IsSide mesh side
+  pub leftover : IsLeftoverSide mesh labelling side
+  pub label : tail_label mesh labelling side ≡ i
+  pub alone : (other : Side) → IsSide mesh other → IsLeftoverSide mesh labelling other → tail_label mesh labelling other ≡ i → other ≡ side
+
+-- A full labelling covers the polygon: for each number below the degree just one side of the leftover edges has it at its tail.
+-- This is no part of good.
+abbrev pub IsFull : FaceList → LabellingView → Type 0
+IsFull mesh labelling = (i : ℕ) → i < labelling.degree → HasOneSide mesh labelling i
