@@ -1,5 +1,6 @@
 pub mod SideLemmas
 pub mod FoldLemmas
 pub mod KeepingLemmas
+pub mod StoredLabellingLemmas
 pub mod PolygonLabelLemmas
 pub mod FullLemmas

@@ -1,4 +1,5 @@
 pub mod Labellings
+pub mod StoredLabellings
 pub mod GoodLabellings
 pub mod QuadPaths
 pub mod PolygonLabellings
