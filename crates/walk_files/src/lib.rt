@@ -24,3 +24,6 @@ pub use walk_list::WalkList;
 pub use walks::read_walks;
 pub use words::read_words;
 pub use write::write_moves;
+
+#[cfg(test)]
+mod tests;
