@@ -1,15 +1,12 @@
 -- The sides of a mesh, numbered face after face.
-use Rattle.std.proofs.Common.{◌≡◌, ℕ, ◌+◌, ◌<◌, ◌≤◌, true, List, [], ◌∷◌, ◌++◌, length, map, get_or, take, drop, refl, ap, sym, ◌∙◌, subst, arith, length-append}
-use Rattle.std.specs.Prelude.{All, flat_map, sum_by}
+use Rattle.std.proofs.Common.{◌≡◌, ℕ, ◌+◌, ◌<◌, ◌≤◌, true, List, [], ◌∷◌, ◌++◌, length, get_or, take, drop, refl, ap, sym, ◌∙◌, arith, length-append}
+use Rattle.std.specs.Prelude.{flat_map, sum_by}
 use Rattle.std.specs.List.{enumerate_from, range_with_len}
-use Rattle.std.proofs.lemmas.List.{append-nil, length-map, get_or-map, get_or_append_left, get_or-append-add, get_or_push, length_push, take_more, take_all, take-append-drop, get_or_default}
+use Rattle.std.proofs.lemmas.List.{append-nil, length-map, take_more, take_all, take-append-drop}
 use Rattle.std.proofs.lemmas.List.Sums.{sum_by-cons}
 use Rattle.std.proofs.lemmas.List.Concat.{flat_map-append}
-use Rattle.std.proofs.lemmas.List.Elements.{All-append, All-weaker, All-from_get_or}
 use Rattle.std.proofs.lemmas.List.FromFn.{length-range_with_len, get_or-map-range_with_len, length-enumerate_from, get_or-enumerate_from}
 use Rattle.surf_model.specs.FaceLists.{FaceList, FaceSide, face_at, all_sides, sides_of_face, next_corner, total_sides}
-use Rattle.surf_model.specs.StoredEdges.{entry_of, number_of, IsNumbered}
-use Rattle.surf_model.specs.declared.edges.SideEntry.{SideEntry}
 
 -- side t of a face
 abbrev pub face_side : ℕ → List ℕ → ℕ → FaceSide
@@ -72,43 +69,3 @@ length-sides_up_to mesh n =
     let split : flat_map sides_at faces ≡ flat_map sides_at (take n faces) ++ flat_map sides_at (drop n faces) =
     ap (flat_map sides_at) (sym (take-append-drop n faces)) ∙ flat_map-append sides_at (take n faces) (drop n faces) in
     omega (arith, length-from 0 mesh.faces, ap (λ (xs : List FaceSide). length xs) split, length-append (flat_map sides_at (take n faces)) (flat_map sides_at (drop n faces)))
-
--- one more face: its first side has the number of all sides before it
-pub numbered_more : (starts : List ℕ) (entries : List SideEntry) (face : List ℕ) (f : ℕ) (m : ℕ) → f ≡ length starts → m ≡ length entries
-    → All (IsNumbered starts entries) entries
-    → All (IsNumbered (starts ++ m ∷ []) (entries ++ map entry_of (sides_of_face f face))) (entries ++ map entry_of (sides_of_face f face))
-numbered_more starts entries face f m is_face is_end h =
-    let new : List SideEntry = map entry_of (sides_of_face f face) in
-    let starts_more : List ℕ = starts ++ m ∷ [] in
-    let all : List SideEntry = entries ++ new in
-    let wide : length starts_more ≡ length starts + 1 = length_push starts m in
-    let long : length all ≡ length entries + length new = length-append entries new in
-    let size : length new ≡ length face = length-map (sides_of_face f face) entry_of ∙ length-sides_of_face f face in
-    All-append (IsNumbered starts_more all) entries new
-    (All-weaker (IsNumbered starts entries) (IsNumbered starts_more all)
-    (λ e old.
-    let start : get_or starts_more e.side.face.0 0 ≡ get_or starts e.side.face.0 0 = get_or_append_left starts (m ∷ []) 0 e.side.face.0 old.face in
-    let number : number_of starts_more e ≡ number_of starts e = ap (λ k. k + e.side.at) start in
-    record {
-      face = omega (arith, old.face, wide);
-      place = omega (arith, old.place, number, long);
-      there = ap (λ k. get_or all k e) number ∙ get_or_append_left entries new e (number_of starts e) old.place ∙ old.there;
-    })
-    entries h)
-    (All-from_get_or (IsNumbered starts_more all) new (entry_of (face_side f face 0))
-    (λ t l.
-    let few : t < length face = omega (arith, l, size) in
-    let e : SideEntry = entry_of (face_side f face t) in
-    let here : get_or new t (entry_of (face_side f face 0)) ≡ e =
-    get_or-map entry_of (sides_of_face f face) t (face_side f face 0) (entry_of (face_side f face 0)) (omega (arith, few, length-sides_of_face f face))
-    ∙ ap entry_of (get_or-sides_of_face f face t (face_side f face 0) few) in
-    let start : get_or starts_more f 0 ≡ m = get_or_push starts m 0 f (sym is_face) in
-    let number : number_of starts_more e ≡ length entries + t = omega (arith, start, is_end) in
-    let is : IsNumbered starts_more all e = record {
-      face = omega (arith, is_face, wide);
-      place = omega (arith, number, long, l);
-      there =
-          ap (λ k. get_or all k e) number ∙ get_or-append-add entries new t e
-          ∙ get_or_default new t e (entry_of (face_side f face 0)) l ∙ here;
-    } in
-    subst (IsNumbered starts_more all) (sym here) is))

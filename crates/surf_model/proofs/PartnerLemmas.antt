@@ -1,6 +1,6 @@
 -- Which sides are the two sides of one edge, said of the table of the mesh.
-use Rattle.std.proofs.Common.{◌≡◌, ◌≢◌, ◌⊎◌, inl, inr, ℕ, zero, suc, ◌+◌, ◌-◌, ◌<◌, ◌≤◌, Bool, true, List, [], ◌∷◌, ◌++◌, length, map, get_or, take, refl, ap, sym, ◌∙◌, subst, arith, length-append}
-use Rattle.std.specs.Prelude.{All, AllPairs, Any, Contains, filter, flat_map, sum_by, slice_index}
+use Rattle.std.proofs.Common.{◌≡◌, ◌⊎◌, inl, inr, ℕ, suc, ◌+◌, ◌-◌, ◌<◌, Bool, true, List, [], ◌∷◌, ◌++◌, length, get_or, take, refl, ap, sym, ◌∙◌, subst, arith, length-append}
+use Rattle.std.specs.Prelude.{AllPairs, Any, Contains, filter, flat_map, sum_by}
 use Rattle.std.specs.List.{enumerate_from}
 use Rattle.std.proofs.lemmas.Bool.{cases_lt}
 use Rattle.std.proofs.lemmas.Bool.Decides.{nat_tests}
@@ -8,10 +8,10 @@ use Rattle.std.proofs.lemmas.List.{length-map, get_or-map, get_or_default, get_o
 use Rattle.std.proofs.lemmas.List.Sums.{sum_by-cons}
 use Rattle.std.proofs.lemmas.List.Elements.{All-filter, filter_passes, All-contains}
 use Rattle.std.proofs.lemmas.List.Kept.{AllPairs-filter}
-use Rattle.surf_model.specs.FaceLists.{FaceList, FaceSide, face_at, all_sides, next_corner, joins}
+use Rattle.surf_model.specs.FaceLists.{FaceList, FaceSide, face_at, all_sides, joins}
 use Rattle.surf_model.specs.Edges.{Edge, IsTableOf, IsEdgeOf, side_name, edge_in}
-use Rattle.surf_model.specs.Darts.{IsSide, side_number, first_side, tail_of, head_of}
-use Rattle.surf_model.specs.Surfaces.{ArePartners, AreOfOneEdge}
+use Rattle.surf_model.specs.Darts.{IsSide, side_number, tail_of, head_of}
+use Rattle.surf_model.specs.Surfaces.{ArePartners}
 use Rattle.surf_model.specs.declared.edges.Side.{Side}
 use Rattle.surf_model.proofs.NumberLemmas.{face_side, sides_at, length-sides_of_face, get_or-sides_of_face}
 use Rattle.surf_model.proofs.TableLemmas.{face_side_in, Contains-filter}

@@ -1,15 +1,16 @@
 -- What the functions on stored face lists need, said of the plain lists.
 use Rattle.std.proofs.Common.{◌≡◌, ℕ, ◌+◌, ◌-◌, ◌<◌, ◌≤◌, List, [], ◌∷◌, ◌++◌, length, get_or, take, drop, ap, sym, subst, ◌∙◌, arith, length-append}
 use Rattle.std.specs.Prelude.{All}
-use Rattle.std.proofs.lemmas.List.{get_or-take, get_or-drop, length-take-le, length-drop, length-map, map-append, length_push}
+use Rattle.std.proofs.lemmas.List.{get_or-take, get_or-drop, length-take-le, length-drop, length-map, map-append, length_push, take-map, drop-map}
 use Rattle.std.proofs.lemmas.List.Elements.{All-push, All-same}
-use Rattle.surf_model.specs.Parts.{parts, EndsRise}
+use Rattle.surf_model.specs.Parts.{parts, EndsRise, last_end}
+use Rattle.surf_model.specs.StoredEdges.{IsNumbering}
 use Rattle.surf_model.specs.Vertices.{numbers}
 use Rattle.surf_model.specs.FaceLists.{FaceList, face_at, total_sides, IsFace}
 use Rattle.surf_model.specs.Darts.{first_side}
 use Rattle.surf_model.specs.StoredFaces.{stored_mesh, IsStored}
 use Rattle.surf_model.specs.declared.names.VertexName.{VertexName}
-use Rattle.surf_model.proofs.PartsLemmas.{length-parts, get_or-parts, part_within, parts-push, EndsRise-push, sum_by-parts, sum_by-take-parts}
+use Rattle.surf_model.proofs.PartsLemmas.{length-parts, get_or-parts, part_within, parts-push, EndsRise-push, EndsRise-last, sum_by-parts, sum_by-take-parts}
 
 -- where face f of a mesh lies among all corners
 pub record LiesAt (mesh : FaceList) (ends : List ℕ) (corners : List VertexName) (f : ℕ) : Type 0 where
@@ -18,6 +19,7 @@ pub record LiesAt (mesh : FaceList) (ends : List ℕ) (corners : List VertexName
   pub within : get_or ends f 0 ≤ length corners
   pub first : first_side mesh f ≡ get_or (0 ∷ ends) f 0
   pub size : length (face_at mesh f) ≡ get_or ends f 0 - get_or (0 ∷ ends) f 0
+  pub ring : face_at mesh f ≡ take (get_or ends f 0 - get_or (0 ∷ ends) f 0) (drop (get_or (0 ∷ ends) f 0) (numbers corners))
   pub corner : (t : ℕ) → t < length (face_at mesh f) → get_or (face_at mesh f) t 0 ≡ get_or (numbers corners) (get_or (0 ∷ ends) f 0 + t) 0
 
 lies_stored : (count : ℕ) (ends : List ℕ) (corners : List VertexName) (f : ℕ) → EndsRise 0 ends (length corners)
@@ -38,6 +40,7 @@ lies_stored count ends corners f h l =
       within = w.within;
       first = omega (arith, sum_by-take-parts 0 ends (numbers corners) f rises (omega (arith, few)));
       size = size;
+      ring = face;
       corner = λ t k. ap (λ (vs : List ℕ). get_or vs t 0) face ∙ get_or-take _ _ t 0 (omega (arith, k, size)) ∙ get_or-drop start (numbers corners) t 0;
     }
 
@@ -53,6 +56,10 @@ total_sides-stored_mesh count ends corners h =
     let long : length (numbers corners) ≡ length corners = length-map corners (λ v. v.0) in
     let rises : EndsRise 0 ends (length (numbers corners)) = rw long h in
     omega (arith, long, sum_by-parts 0 ends (numbers corners) rises)
+
+-- the numbers of a part of the corners
+pub numbers-part : (n s : ℕ) (corners : List VertexName) → numbers (take n (drop s corners)) ≡ take n (drop s (numbers corners))
+numbers-part n s corners = sym (take-map (λ (v : VertexName). v.0) n (drop s corners)) ∙ ap (take n) (sym (drop-map (λ (v : VertexName). v.0) s corners))
 
 -- how many faces there are, and how many sides together
 pub length-faces : (count : ℕ) (ends : List ℕ) (corners : List VertexName) (mesh : FaceList) → stored_mesh count ends corners ≡ mesh → length mesh.faces ≡ length ends
@@ -98,4 +105,18 @@ IsStored-push count ends corners face m h ok room e =
       rising = rises_whole;
       few_corners = omega (arith, whole, e, total, room);
       few_faces = omega (arith, h.few_faces, polygon, length-append corners face, length_push ends m);
+    }
+
+-- the places where the faces end number the sides of the mesh
+pub numbering : (count : ℕ) (ends : List ℕ) (corners : List VertexName) (mesh : FaceList) → IsStored count ends corners → stored_mesh count ends corners ≡ mesh → IsNumbering mesh ends
+numbering count ends corners mesh h seen =
+    let many : length mesh.faces ≡ length ends = length-faces count ends corners mesh seen in
+    let last : last_end ends ≡ length corners = EndsRise-last ends (length corners) h.rising in
+    let lies : (f : ℕ) → f < length ends → LiesAt mesh ends corners f = λ f l. lies_at count ends corners mesh f h seen (omega (arith, l, many)) in
+    record {
+      each_face = sym many;
+      starts = λ f l. sym (lies f l).first;
+      ends = λ f l. omega (arith, (lies f l).first, (lies f l).size, (lies f l).rises);
+      rising = subst (EndsRise 0 ends) (sym last) h.rising;
+      few = omega (arith, last, h.few_corners);
     }

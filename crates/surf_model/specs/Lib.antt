@@ -10,5 +10,9 @@ pub mod FreeWalks
 pub mod Edges
 pub mod Darts
 pub mod Surfaces
+pub mod EdgeDarts
+pub mod EdgeLists
+pub mod Building
+pub mod Links
 pub mod StoredEdges
 pub mod Examples

@@ -1,7 +1,8 @@
 //! Face lists: polygon meshes as lists of faces, each face the ring of its corners.
-ghost use Rattle.std.specs.Prelude.{◌≡◌, ◌+◌, ◌<◌, ◌≤◌, [], ◌∷◌, ◌++◌, length, slice_index, OnOk, OnErr};
+ghost use Rattle.std.specs.Prelude.{◌≡◌, ◌+◌, ◌<◌, ◌≤◌, [], ◌∷◌, ◌++◌, length, slice_index, OnOk, OnErr, IfOk};
 ghost use Rattle.surf_model.specs.FaceLists.{face_at, next_corner, total_sides, IsFace, IsFaceList};
 ghost use Rattle.surf_model.specs.Darts.{first_side, IsSide, side_number, side_after};
+ghost use Rattle.surf_model.specs.StoredEdges.{IsNumbering};
 ghost use Rattle.surf_model.specs.Vertices.{numbers};
 
 use crate::edges::Side;
@@ -103,6 +104,15 @@ impl Faces {
         self.corners[(self.parts.start(face.0) + t) as usize]
     }
 
+    /// The vertices at the corners of a face, in order.
+    pub fn ring(&self, face: FaceName) -> &[VertexName]
+        requires { face.0 < length self.now.faces }
+        ensures { numbers result.now ≡ face_at self.now face.0 }
+    {
+        let (start, end) = (self.parts.start(face.0), self.parts.end(face.0));
+        &self.corners[start as usize..end as usize]
+    }
+
     /// The number of sides of all faces together.
     pub fn total(&self) -> u32
         ensures { result ≡ total_sides self.now }
@@ -139,6 +149,15 @@ impl Faces {
             face: FaceName(face),
             at: dart.0 - self.parts.start(face),
         }
+    }
+
+    /// The numbers at which the sides of the faces end.
+    pub(crate) fn numbering(&self) -> Result<Parts, AllocError>
+        ensures numbering { IfOk result (IsNumbering self.now) }
+        // What holds of every face list.
+        ensures valid { IfOk result (λ _. IsFaceList self.now) }
+    {
+        self.parts.copy()
     }
 
     /// The side that follows a side in its face, where the first one follows the last.

@@ -2,11 +2,14 @@
 //! elementary moves that change a walk.
 #![tactic(auto)]
 
+mod building;
 pub mod chains;
+mod edge_list;
 pub mod edges;
 pub mod faces;
 pub mod homotopy_laws;
 pub mod laws;
+mod linking;
 pub mod moves;
 pub mod names;
 mod parts;

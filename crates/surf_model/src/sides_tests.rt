@@ -1,8 +1,9 @@
 //! The table of edges, on small meshes.
 ghost use Rattle.std.specs.Prelude.{◌<◌, length};
-ghost use Rattle.surf_model.specs.Edges.{edge_in};
+ghost use Rattle.surf_model.specs.Edges.{edge_in, IsTableOf};
+ghost use Rattle.surf_model.specs.FaceLists.{total_sides};
 
-use crate::{EdgeName, FaceName, Faces, Side, Sides, VertexName};
+use crate::{DartName, EdgeName, FaceName, Faces, Side, Sides, VertexName};
 use std::process::Abort;
 
 #[test]
@@ -33,6 +34,8 @@ fn tetrahedron_has_six_edges(rt: HostRuntime) {
     assert!(rt; sides.used(VertexName(3)));
     assert!(rt; !sides.used(VertexName(4)));
     assert!(rt; !sides.used(VertexName(5)));
+    check_number(&rt, &faces, &sides, 5, (4, 9));
+    check_number(&rt, &faces, &sides, 9, (4, 5));
 }
 
 #[test]
@@ -57,6 +60,9 @@ fn edges_may_have_one_side_or_three(rt: HostRuntime) {
         &[side(0, 0), side(1, 1), side(2, 0)],
     );
     check_edge(&rt, &sides, 4, (1, 2), &[side(0, 1)]);
+    check_number(&rt, &faces, &sides, 4, (0, 6));
+    check_number(&rt, &faces, &sides, 6, (0, 0));
+    check_number(&rt, &faces, &sides, 1, (4, 1));
 }
 
 #[test]
@@ -90,6 +96,15 @@ fn check_side(rt: &impl Abort, sides: &Sides, edge: EdgeName, k: u32, expected: 
     let side = sides.side(edge, k);
     assert_eq!(rt; side, expected);
     assert_eq!(rt; sides.edge_at(side), edge);
+}
+
+/// Checks the edge of the side with a number, and the number of the next side of that edge.
+fn check_number(rt: &impl Abort, faces: &Faces, sides: &Sides, number: u32, expected: (u32, u32))
+    requires table { IsTableOf faces.now sides.now }
+    requires below { number < total_sides faces.now }
+{
+    assert_eq!(rt; sides.edge_of(DartName(number)), EdgeName(expected.0));
+    assert_eq!(rt; sides.other(DartName(number)), DartName(expected.1));
 }
 
 fn side(face: u32, at: u32) -> Side {

@@ -1,0 +1,13 @@
+use Rattle.std.proofs.Common.{◌≡◌, ◌<◌, ◌≤◌, ℕ, length, get_or}
+use Rattle.surf_model.specs.EdgeLists.{dart_edge_in}
+use Rattle.surf_model.specs.Links.{IsLinked}
+use Rattle.surf_model.proofs.linking.link_sides.Given as goal
+
+abbrev pub invariant-loop-edge : goal.invariant-loop-edge
+invariant-loop-edge l = record {
+  within : l.edge ≤ length l.edges;
+  each_edge : length l.edge_of.items ≡ l.sides;
+  each_other : length l.other.items ≡ l.sides;
+  linked : (k t : ℕ) → k < l.edge → t < length (dart_edge_in l.edges k).darts
+      → IsLinked l.edges l.edge_of.items l.other.items (get_or (dart_edge_in l.edges k).darts t 0);
+}
