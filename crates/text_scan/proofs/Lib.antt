@@ -1,8 +1,8 @@
 pub mod Literals
 pub mod Numbers
 pub mod Lines
-mod ListLemmas
-mod PlaceLemmas
+pub mod ListLemmas
+pub mod PlaceLemmas
 mod StepLemmas
 mod ViewLemmas
 mod NaturalLemmas

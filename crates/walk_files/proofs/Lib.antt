@@ -4,3 +4,5 @@ pub mod EachLemmas
 pub mod NumberLemmas
 pub mod ListLemmas
 pub mod ReaderLemmas
+pub mod WrittenLemmas
+pub mod RoundTrip

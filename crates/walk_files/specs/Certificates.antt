@@ -128,15 +128,17 @@ moves_in end left (line ∷ lines) =
 abbrev pub moves_of_text : ℕ → List ℕ → Result (List Move) CertFault
 moves_of_text count text = moves_in (end_line text) count (behind_head (full_lines text))
 
+-- a list of moves with its peak
+abbrev pub with_peak : ℕ → Result (List Move) CertFault → Result PeakedMoves CertFault
+with_peak peak (Err fault) = Err fault
+with_peak peak (Ok moves) = Ok (record { moves = moves; peak = peak })
+
+-- the list behind a head; nothing behind the head of a labelling
+abbrev pub list_behind : Result CertHead CertFault → List ℕ → Option (Result PeakedMoves CertFault)
+list_behind (Err fault) text = Some (Err fault)
+list_behind (Ok (Moves count peak)) text = Some (with_peak peak (moves_of_text count text))
+list_behind (Ok (Labels degree)) text = None
+
 -- the list of moves that a text is, or its first fault; nothing where it has the head of a labelling
 abbrev pub list_of_text : List ℕ → Option (Result PeakedMoves CertFault)
-list_of_text text = by_head (head_of_text text)
-  where
-    with_peak : ℕ → Result (List Move) CertFault → Result PeakedMoves CertFault
-    with_peak peak (Err fault) = Err fault
-    with_peak peak (Ok moves) = Ok (record { moves = moves; peak = peak })
-
-    by_head : Result CertHead CertFault → Option (Result PeakedMoves CertFault)
-    by_head (Err fault) = Some (Err fault)
-    by_head (Ok (Moves count peak)) = Some (with_peak peak (moves_of_text count text))
-    by_head (Ok (Labels degree)) = None
+list_of_text text = list_behind (head_of_text text) text

@@ -3,6 +3,7 @@
 
 mod certificate;
 mod fault;
+pub mod laws;
 mod limits;
 mod moves;
 mod number_lines;

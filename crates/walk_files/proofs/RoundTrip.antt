@@ -1,0 +1,111 @@
+-- A list of moves that was written is read again.
+use Rattle.std.proofs.Common.{◌≡◌, ℕ, ◌+◌, ◌-◌, ◌^◌, ◌<◌, eqb, Bool, true, false, List, [], ◌∷◌, length, map, refl, ap, ◌∙◌, arith}
+use Rattle.std.specs.Prelude.{Some, None, Ok, decimal, All}
+use Rattle.std.proofs.lemmas.Bool.{le-ltb, ne_eqb}
+use Rattle.std.proofs.lemmas.List.Elements.{All-head, All-tail, All-cons, All-nil}
+use Rattle.text_scan.specs.Lines.{unmarked, lines_from, full_lines, end_line}
+use Rattle.surf_model.specs.Moves.{PeakedMoves}
+use Rattle.surf_model.specs.declared.moves.Move.{Move}
+use Rattle.surf_model.specs.declared.moves.Move.TheVariants.{Insert, Remove, Across}
+use Rattle.walk_files.specs.declared.certificate.CertHead.TheVariants.{Moves}
+use Rattle.walk_files.specs.NumberTexts.{number_of}
+use Rattle.walk_files.specs.Certificates.{head_of, head_among, behind_head, direction_of, move_of, moves_in, head_of_text, fitting_head, moves_of_text, list_behind, list_of_text, with_peak}
+use Rattle.walk_files.specs.MoveTexts.{direction_word, move_words, head_words, list_lines, list_text, FitsFormat, MoveFits}
+use Rattle.walk_files.proofs.WrittenLemmas.{IsWritable, IsLine, numbered, lines_from-written, decimal-writable, number_below-decimal}
+
+-- ---- the words that are written
+
+-- each of some words is writable
+abbrev AreWritable : List (List ℕ) → Type 0
+AreWritable [] = Unit {0}
+AreWritable (word ∷ words) = IsWritable word × AreWritable words
+
+all_writable : (words : List (List ℕ)) → AreWritable words → All IsWritable words
+all_writable [] each = All-nil IsWritable
+all_writable (word ∷ words) each = All-cons IsWritable word words each.0 (all_writable words each.1)
+
+small : (n : ℕ) → n < 2 ^ 32 → IsWritable (decimal n)
+small n fits = decimal-writable n (omega arith)
+
+direction-writable : (forward : Bool) → IsWritable (direction_word forward)
+direction-writable true = record { filled = refl; inside = refl }
+direction-writable false = record { filled = refl; inside = refl }
+
+move-is_line : (move : Move) → MoveFits move → IsLine (move_words move)
+move-is_line (Insert at via) fits = record {
+  filled = refl;
+  writable = all_writable (move_words (Insert at via)) (direction-writable true, (small at fits.0, (small via.0 fits.1, tt)));
+}
+move-is_line (Remove at via) fits = record {
+  filled = refl;
+  writable = all_writable (move_words (Remove at via)) (direction-writable false, (small at fits.0, (small via.0 fits.1, tt)));
+}
+move-is_line (Across at face corner forward taken) fits = record {
+  filled = refl;
+  writable = all_writable (move_words (Across at face corner forward taken)) (
+    record { filled = refl; inside = refl },
+    (small at fits.0, (small face.0 fits.1, (small corner fits.2, (direction-writable forward, (small taken fits.3, tt))))),
+  );
+}
+
+moves-are_lines : (moves : List Move) → All MoveFits moves → All IsLine (map move_words moves)
+moves-are_lines [] all = All-nil IsLine
+moves-are_lines (move ∷ moves) all =
+    All-cons IsLine (move_words move) (map move_words moves) (move-is_line move (All-head MoveFits move moves all))
+    (moves-are_lines moves (All-tail MoveFits move moves all))
+
+head-is_line : (list : PeakedMoves) → FitsFormat list → IsLine (head_words list)
+head-is_line list fits = record {
+  filled = refl;
+  writable = all_writable (head_words list) (
+    record { filled = refl; inside = refl },
+    (decimal-writable (length list.moves) fits.count, (decimal-writable list.peak (omega (arith, fits.peak)), tt)),
+  );
+}
+
+-- ---- what is read of them
+
+number : (n : ℕ) → n < 2 ^ 32 → number_of (decimal n) ≡ Some n
+number n fits = number_below-decimal (2 ^ 32) n fits (omega arith)
+
+direction : (forward : Bool) → direction_of (direction_word forward) ≡ Some forward
+direction true = refl
+direction false = refl
+
+move_of-move_words : (move : Move) → MoveFits move → move_of (move_words move) ≡ Some move
+move_of-move_words (Insert at via) fits = rw (number at fits.0, number via.0 fits.1) refl
+move_of-move_words (Remove at via) fits = rw (number at fits.0, number via.0 fits.1) refl
+move_of-move_words (Across at face corner forward taken) fits =
+    rw (number at fits.0, number face.0 fits.1, number corner fits.2, direction forward, number taken fits.3) refl
+
+head_of-head_words : (list : PeakedMoves) → FitsFormat list → head_of (head_words list) ≡ Some (Moves (length list.moves) list.peak)
+head_of-head_words list fits =
+    rw (number_below-decimal (2 ^ 64) (length list.moves) fits.count fits.count, number list.peak (omega (arith, fits.peak))) refl
+
+moves_in-numbered : (end n : ℕ) (moves : List Move) → All MoveFits moves → moves_in end (length moves) (numbered n (map move_words moves)) ≡ Ok moves
+moves_in-numbered end n [] all = refl
+moves_in-numbered end n (move ∷ moves) all =
+    let some : eqb (length (move ∷ moves)) 0 ≡ false = ne_eqb (length (move ∷ moves)) 0 (λ e. omega (arith, e)) in
+    let fewer : length (move ∷ moves) - 1 ≡ length moves = omega arith in
+    rw (some, move_of-move_words move (All-head MoveFits move moves all), fewer, moves_in-numbered end (n + 1) moves (All-tail MoveFits move moves all)) refl
+
+-- ---- the whole text
+
+unmarked-list_text : (list : PeakedMoves) → unmarked (list_text list) ≡ list_text list
+unfolding unmarked
+unmarked-list_text list = refl
+
+full_lines-list_text : (list : PeakedMoves) → FitsFormat list → full_lines (list_text list) ≡ record { number = 1; words = head_words list } ∷ numbered 2 (map move_words list.moves)
+full_lines-list_text list fits =
+    ap (lines_from 1) (unmarked-list_text list)
+    ∙ lines_from-written 1 (list_lines list) (All-cons IsLine (head_words list) (map move_words list.moves) (head-is_line list fits) (moves-are_lines list.moves fits.moves))
+
+pub list_of_text-list_text : (list : PeakedMoves) → FitsFormat list → list_of_text (list_text list) ≡ Some (Ok list)
+list_of_text-list_text list fits =
+    let lines = full_lines-list_text list fits in
+    let end = end_line (list_text list) in
+    let head : head_of_text (list_text list) ≡ Ok (Moves (length list.moves) list.peak) =
+    ap (head_among end) lines ∙ ap (fitting_head None 1) (head_of-head_words list fits) ∙ rw (le-ltb 16000000 list.peak fits.peak) refl in
+    let moves : moves_of_text (length list.moves) (list_text list) ≡ Ok list.moves =
+    ap (λ ls. moves_in end (length list.moves) (behind_head ls)) lines ∙ moves_in-numbered end 2 list.moves fits.moves in
+    ap (λ h. list_behind h (list_text list)) head ∙ ap (λ m. Some (with_peak list.peak m)) moves
