@@ -4,3 +4,4 @@ pub mod KeepingLemmas
 pub mod StoredLabellingLemmas
 pub mod PolygonLabelLemmas
 pub mod FullLemmas
+pub mod ReadingLemmas
