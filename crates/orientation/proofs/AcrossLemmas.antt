@@ -1,17 +1,18 @@
 -- The other side of an edge, read from the table.
-use Rattle.std.proofs.Common.{◌≡◌, ◌≢◌, ◌⊎◌, inl, inr, ℕ, ◌<◌, ◌≤◌, true, false, eqb, ◌&&◌, List, length, get_or, ap, sym, ◌∙◌, subst, arith}
-use Rattle.std.specs.Prelude.{Contains, Some, None, filter, slice_get}
-use Rattle.std.proofs.lemmas.Bool.{cases_lt, and_parts, and_from, eqb-true, eq-eqb, both_ways}
+use Rattle.std.proofs.Common.{map, ◌≡◌, ◌≢◌, ◌⊎◌, inl, inr, ℕ, ◌<◌, ◌≤◌, true, List, length, get_or, ap, sym, ◌∙◌, subst, arith}
+use Rattle.std.specs.Prelude.{Contains, Some, None, filter}
+use Rattle.std.proofs.lemmas.Bool.{cases_lt}
 use Rattle.std.proofs.lemmas.Bool.Decides.{nat_tests}
-use Rattle.std.proofs.lemmas.List.{length-map}
-use Rattle.std.proofs.lemmas.Option.{get_or_from_slice_get}
-use Rattle.surf_model.specs.FaceLists.{FaceList, all_sides, joins}
+use Rattle.std.proofs.lemmas.List.{length-map, get_or-map, get_or_default}
+use Rattle.surf_model.specs.FaceLists.{FaceList, FaceSide, all_sides, joins, next_corner, total_sides}
 use Rattle.surf_model.specs.Edges.{Edge, IsTableOf, IsEdgeOf, edge_in, side_name}
-use Rattle.surf_model.specs.Darts.{tail_of, head_of}
+use Rattle.surf_model.specs.Darts.{IsSide, side_number, tail_of, head_of}
 use Rattle.surf_model.specs.Surfaces.{ArePartners}
 use Rattle.surf_model.specs.declared.edges.Side.{Side}
-use Rattle.surf_model.proofs.TableLemmas.{face_side_in}
-use Rattle.surf_model.proofs.PartnerLemmas.{IsSideOfEdge, side_of_edge, edge_has_side, table_edge, partners_of_edge}
+use Rattle.surf_model.proofs.TableLemmas.{face_side_in, next_within}
+use Rattle.surf_model.proofs.SideNumberLemmas.{side_below}
+use Rattle.surf_model.specs.EdgeDarts.{IsNextInEdge}
+use Rattle.surf_model.proofs.PartnerLemmas.{whole_side, IsSideOfEdge, side_of_edge, edge_has_side, table_edge, partners_of_edge}
 use Rattle.orientation.specs.Classes.{EachEdgeHasAtMostTwoSides}
 use Rattle.orientation.specs.Trees.{IsAcross, IsAlong}
 use Rattle.orientation.proofs.Partners.{entry_of, partners_swap, two_of, joined_edge, one_partner}
@@ -22,17 +23,6 @@ pub record IsOnEdge (mesh : FaceList) (table : List Edge) (k : ℕ) (side : Side
   pub few : EachEdgeHasAtMostTwoSides mesh
   pub in_table : k < length table
   pub has : Contains (edge_in table k).sides side
-
-same_side : (a b : Side) → a.face.0 ≡ b.face.0 → a.at ≡ b.at → a ≡ b
-same_side a b face at =
-    ap (λ n. let s : Side = record { face = record { 0 = n }; at = a.at } in s) face ∙ ap (λ n. let s : Side = record { face = record { 0 = b.face.0 }; at = n } in s) at
-
-pub side_from_test : (a b : Side) → (eqb a.face.0 b.face.0 && eqb a.at b.at) ≡ true → a ≡ b
-side_from_test a b test = let both = and_parts _ _ test in same_side a b (eqb-true _ _ both.0) (eqb-true _ _ both.1)
-
-pub side_not_from_test : (a b : Side) → (eqb a.face.0 b.face.0 && eqb a.at b.at) ≡ false → a ≢ b
-side_not_from_test a b test same =
-    both_ways _ test (and_from _ _ (eq-eqb _ _ (ap (λ (s : Side). s.face.0) same)) (eq-eqb _ _ (ap (λ (s : Side). s.at) same)))
 
 on_edge : (mesh : FaceList) (table : List Edge) (k : ℕ) (side : Side) → IsTableOf mesh table → k < length table → Contains (edge_in table k).sides side → IsSideOfEdge mesh (edge_in table k) side
 on_edge mesh table k side h l has =
@@ -72,32 +62,107 @@ none_across mesh table k side h one = λ partner partners.
       | inr two ↦ omega (arith, ap (λ (xs : List Side). length xs) two)
     ]
 
-two_are_partners : (mesh : FaceList) (table : List Edge) (k : ℕ) (first second : Side) → IsTableOf mesh table → k < length table
-    → slice_get (edge_in table k).sides 0 ≡ Some first → slice_get (edge_in table k).sides 1 ≡ Some second → 2 ≤ length (edge_in table k).sides → ArePartners mesh first second
-two_are_partners mesh table k first second h l one two long =
-    let sides : List Side = (edge_in table k).sides in
-    subst (λ s. ArePartners mesh s second) (get_or_from_slice_get sides 0 first first one)
-    (subst (ArePartners mesh (get_or sides 0 first)) (get_or_from_slice_get sides 1 second first two) (partners_of_edge mesh table k 0 1 first h l (omega arith) (omega arith)))
+-- sides with one number are one
+pub one_number : (mesh : FaceList) (a b : Side) → IsSide mesh a → IsSide mesh b → side_number mesh a ≡ side_number mesh b → a ≡ b
+one_number mesh a b is_a is_b same =
+    let all : List FaceSide = all_sides mesh in
+    let at_a : Contains all (entry_of mesh a) = face_side_in mesh a.face.0 a.at is_a.face is_a.place in
+    let at_b : Contains all (entry_of mesh b) = face_side_in mesh b.face.0 b.at is_b.face is_b.place in
+    let number : (s : Side) (at : Contains all (entry_of mesh s)) → side_number mesh s ≡ at.0 =
+    λ s at. ap (λ (x : FaceSide). side_number mesh (side_name x)) (sym at.2) ∙ (whole_side mesh at.0 (entry_of mesh s) at.1).number in
+    let place : at_a.0 ≡ at_b.0 = sym (number a at_a) ∙ same ∙ number b at_b in
+    ap side_name (sym at_a.2 ∙ get_or_default all at_a.0 (entry_of mesh a) (entry_of mesh b) at_a.1 ∙ ap (λ k. get_or all k (entry_of mesh b)) place ∙ at_b.2)
 
-pub second_across : (mesh : FaceList) (table : List Edge) (k : ℕ) (side first second : Side) → IsOnEdge mesh table k side → 2 ≤ length (edge_in table k).sides
-    → slice_get (edge_in table k).sides 0 ≡ Some first → slice_get (edge_in table k).sides 1 ≡ Some second → first ≡ side → IsAcross mesh side (Some second)
-second_across mesh table k side first second h long one two same =
-    let partners : ArePartners mesh side second = subst (λ s. ArePartners mesh s second) same (two_are_partners mesh table k first second h.table_of h.in_table one two long) in
-    (partners, λ partner more. one_partner mesh side second partner h.few partners more)
+-- a side at a place of edge k, and the next side there, by their numbers
+record IsBeside (mesh : FaceList) (table : List Edge) (k i : ℕ) (side : Side) (next : ℕ) : Type 0 where
+  on : IsOnEdge mesh table k side
+  place : i < length (edge_in table k).sides
+  here : get_or (edge_in table k).sides i side ≡ side
+  there : side_number mesh (get_or (edge_in table k).sides (next_corner true (length (edge_in table k).sides) i) side) ≡ next
 
--- where the first side is another, the side is the second
-pub first_across : (mesh : FaceList) (table : List Edge) (k : ℕ) (side first : Side) → IsOnEdge mesh table k side → 2 ≤ length (edge_in table k).sides
-    → slice_get (edge_in table k).sides 0 ≡ Some first → first ≢ side → IsAcross mesh side (Some first)
-first_across mesh table k side first h long one other =
+beside : (mesh : FaceList) (table : List Edge) (side : Side) (dart next : ℕ) → IsTableOf mesh table → EachEdgeHasAtMostTwoSides mesh → IsSide mesh side
+    → dart ≡ side_number mesh side → (h : IsNextInEdge mesh table dart next) → IsBeside mesh table h.edge h.place side next
+beside mesh table side dart next is two in_mesh number h =
+    let sides : List Side = (edge_in table h.edge).sides in
+    let size : length (map (side_number mesh) sides) ≡ length sides = length-map sides (side_number mesh) in
+    let few : h.place < length sides = omega (arith, h.in_edge, size) in
+    let at : side_number mesh (get_or sides h.place side) ≡ dart = sym (get_or-map (side_number mesh) sides h.place side 0 few) ∙ h.here in
+    let stands : IsSideOfEdge mesh (edge_in table h.edge) (get_or sides h.place side) = side_of_edge mesh (edge_in table h.edge) h.place side (table_edge mesh table h.edge is h.in_table) few in
+    let same : get_or sides h.place side ≡ side = one_number mesh (get_or sides h.place side) side stands.side_of in_mesh (at ∙ number) in
+    let next_few : next_corner true (length sides) h.place < length sides = next_within (length sides) h.place few in
+    record {
+      on = record { table_of = is; few = two; in_table = h.in_table; has = (h.place, few, same) };
+      place = few;
+      here = same;
+      there =
+          sym (get_or-map (side_number mesh) sides (next_corner true (length sides) h.place) side 0 next_few)
+          ∙ ap (λ m. get_or (map (side_number mesh) sides) (next_corner true m h.place) 0) (sym size) ∙ h.there;
+    }
+
+next_of_two : (m i : ℕ) → i < m → m ≤ 2 → 2 ≤ m → ((i ≡ 0) × (next_corner true m i ≡ 1)) ⊎ ((i ≡ 1) × (next_corner true m i ≡ 0))
+next_of_two m i few most least = grind (arith, nat_tests)
+
+-- on an edge of two sides the next one is another
+pub record IsOther (mesh : FaceList) (side : Side) (next : ℕ) : Type 0 where
+  pub other : Side
+  pub partners : ArePartners mesh side other
+  pub number : side_number mesh other ≡ next
+
+other_of_two : (mesh : FaceList) (table : List Edge) (k i : ℕ) (side : Side) (next : ℕ) → IsBeside mesh table k i side next → 2 ≤ length (edge_in table k).sides → IsOther mesh side next
+other_of_two mesh table k i side next h long =
     let sides : List Side = (edge_in table k).sides in
-    let start : get_or sides 0 side ≡ first = get_or_from_slice_get sides 0 first side one in
-    let place : h.has.0 ≡ 1 = elim (cases_lt 0 h.has.0) [
-      | inl more ↦ omega (arith, h.has.1, at_most_two mesh table k side h)
-      | inr less ↦ absurd (other (sym start ∙ ap (λ i. get_or sides i side) (let e : 0 ≡ h.has.0 = omega arith in e) ∙ h.has.2))
-    ] in
-    let here : get_or sides 1 side ≡ side = ap (λ i. get_or sides i side) (sym place) ∙ h.has.2 in
-    let partners : ArePartners mesh side first =
-    partners_swap mesh first side
-    (subst (λ s. ArePartners mesh s side) start
-    (subst (ArePartners mesh (get_or sides 0 side)) here (partners_of_edge mesh table k 0 1 side h.table_of h.in_table (omega arith) (omega arith)))) in
-    (partners, λ partner more. one_partner mesh side first partner h.few partners more)
+    let pair : ArePartners mesh (get_or sides 0 side) (get_or sides 1 side) = partners_of_edge mesh table k 0 1 side h.on.table_of h.on.in_table (omega arith) (omega arith) in
+    elim (next_of_two (length sides) i h.place (at_most_two mesh table k side h.on) long) [
+      | inl first ↦
+          (let here : get_or sides 0 side ≡ side = ap (λ j. get_or sides j side) (sym first.0) ∙ h.here in
+          record {
+            other = get_or sides 1 side;
+            partners = subst (λ s. ArePartners mesh s (get_or sides 1 side)) here pair;
+            number = ap (λ j. side_number mesh (get_or sides j side)) (sym first.1) ∙ h.there;
+          })
+      | inr second ↦
+          (let here : get_or sides 1 side ≡ side = ap (λ j. get_or sides j side) (sym second.0) ∙ h.here in
+          record {
+            other = get_or sides 0 side;
+            partners = partners_swap mesh (get_or sides 0 side) side (subst (ArePartners mesh (get_or sides 0 side)) here pair);
+            number = ap (λ j. side_number mesh (get_or sides j side)) (sym second.1) ∙ h.there;
+          })
+    ]
+
+-- where the next one is the side itself, nothing is across
+pub alone : (mesh : FaceList) (table : List Edge) (side : Side) (dart next : ℕ) → IsTableOf mesh table → EachEdgeHasAtMostTwoSides mesh → IsSide mesh side
+    → dart ≡ side_number mesh side → IsNextInEdge mesh table dart next → next ≡ dart → IsAcross mesh side None
+alone mesh table side dart next is two in_mesh number h same =
+    let b : IsBeside mesh table h.edge h.place side next = beside mesh table side dart next is two in_mesh number h in
+    elim (cases_lt (length (edge_in table h.edge).sides) 2) [
+      | inl one ↦ none_across mesh table h.edge side b.on one
+      | inr more ↦
+          (let o : IsOther mesh side next = other_of_two mesh table h.edge h.place side next b more in
+          absurd (o.partners.different (one_number mesh side o.other in_mesh o.partners.second (sym number ∙ sym same ∙ sym o.number))))
+    ]
+
+one_next : (m i : ℕ) → i < m → m < 2 → next_corner true m i ≡ i
+one_next m i few one = grind (arith, nat_tests)
+
+-- where it is another, that one is across
+pub has_other : (mesh : FaceList) (table : List Edge) (side : Side) (dart next : ℕ) → IsTableOf mesh table → EachEdgeHasAtMostTwoSides mesh → IsSide mesh side
+    → dart ≡ side_number mesh side → IsNextInEdge mesh table dart next → next ≢ dart → IsOther mesh side next
+has_other mesh table side dart next is two in_mesh number h other =
+    let b : IsBeside mesh table h.edge h.place side next = beside mesh table side dart next is two in_mesh number h in
+    let sides : List Side = (edge_in table h.edge).sides in
+    elim (cases_lt (length sides) 2) [
+      | inl one ↦
+          (let turned : next_corner true (length sides) h.place ≡ h.place = one_next (length sides) h.place b.place one in
+          absurd (other (sym b.there ∙ ap (λ j. side_number mesh (get_or sides j side)) turned ∙ ap (side_number mesh) b.here ∙ sym number)))
+      | inr more ↦ other_of_two mesh table h.edge h.place side next b more
+    ]
+
+pub other_below : (mesh : FaceList) (side : Side) (next : ℕ) → IsOther mesh side next → next < total_sides mesh
+other_below mesh side next o = omega (arith, o.number, side_below mesh o.other.face.0 o.other.at o.partners.second.face o.partners.second.place)
+
+pub other_across : (mesh : FaceList) (side : Side) (next : ℕ) (result : Side) → EachEdgeHasAtMostTwoSides mesh → IsOther mesh side next → IsSide mesh result → side_number mesh result ≡ next
+    → IsAcross mesh side (Some result)
+other_across mesh side next result two o is number =
+    let same : o.other ≡ result = one_number mesh o.other result o.partners.second is (o.number ∙ sym number) in
+    let partners : ArePartners mesh side result = subst (ArePartners mesh side) same o.partners in
+    (partners, λ partner more. one_partner mesh side result partner two partners more)

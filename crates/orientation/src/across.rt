@@ -9,21 +9,18 @@ ghost use Rattle.orientation.specs.Trees.{IsAcross, IsAlong, runs_alike};
 use surf_model::{ChainLink, FaceName, Faces, Side, Sides};
 
 /// The other side of a side's edge, where the edge has two.
-pub(crate) fn across(_faces: &Faces, sides: &Sides, side: Side) -> Option<Side>
-    requires table { IsTableOf _faces.now sides.now }
-    requires two { EachEdgeHasAtMostTwoSides _faces.now }
-    requires side { IsSide _faces.now side }
-    ensures { IsAcross _faces.now side result }
+pub(crate) fn across(faces: &Faces, sides: &Sides, side: Side) -> Option<Side>
+    requires table { IsTableOf faces.now sides.now }
+    requires two { EachEdgeHasAtMostTwoSides faces.now }
+    requires side { IsSide faces.now side }
+    ensures { IsAcross faces.now side result }
 {
-    let edge = sides.edge_at(side);
-    if sides.sides_of(edge) < 2 {
-        return None;
-    }
-    let first = sides.side(edge, 0);
-    if first == side {
-        Some(sides.side(edge, 1))
+    let dart = faces.dart(side);
+    let other = sides.other(dart);
+    if other == dart {
+        None
     } else {
-        Some(first)
+        Some(faces.side_at(other))
     }
 }
 

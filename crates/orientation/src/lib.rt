@@ -12,3 +12,6 @@ mod trees;
 pub use fault::OrientFault;
 pub use orienting::orient;
 pub use surf_model::{ChainLink, OddChain, Signs};
+
+#[cfg(test)]
+mod tests;

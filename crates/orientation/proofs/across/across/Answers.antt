@@ -1,27 +1,22 @@
-use Rattle.std.proofs.Common.{◌≤◌, length, arith, ◌∙◌, sym}
-use Rattle.surf_model.specs.Edges.{edge_in}
-use Rattle.surf_model.proofs.TableLemmas.{has_side}
-use Rattle.orientation.proofs.AcrossLemmas.{IsOnEdge, none_across, second_across, first_across, side_from_test, side_not_from_test}
+use Rattle.std.proofs.Common.{sym, ◌∙◌}
+use Rattle.std.proofs.lemmas.Bool.{eqb-true, both_ways, eq-eqb}
+use Rattle.orientation.proofs.AcrossLemmas.{alone, has_other, other_below, other_across}
 use Rattle.orientation.proofs.across.across.Goals as goal
-
-pub edge_at-edge-requires : goal.edge_at-edge-requires
-edge_at-edge-requires c = has_side c.args._faces.now c.args.sides.now c.args.side.face.0 c.args.side.at c.requires.table c.requires.side.face c.requires.side.place
-
-pub returns-then-sides_of-lt2 : goal.returns-then-sides_of-lt2
-returns-then-sides_of-lt2 c =
-    let on : IsOnEdge c.args._faces.now c.args.sides.now c.edge_at-edge.result.0 c.args.side = record { table_of = c.requires.table; few = c.requires.two; in_table = c.edge_at-edge.ensures.found; has = c.edge_at-edge.ensures.side } in
-    none_across c.args._faces.now c.args.sides.now c.edge_at-edge.result.0 c.args.side on (omega (arith, c.sides_of.ensures, c.if-sides_of-lt2.true))
 
 pub returns-then-eq : goal.returns-then-eq
 returns-then-eq c =
-    let on : IsOnEdge c.args._faces.now c.args.sides.now c.edge_at-edge.result.0 c.args.side = record { table_of = c.requires.table; few = c.requires.two; in_table = c.edge_at-edge.ensures.found; has = c.edge_at-edge.ensures.side } in
-    let long : 2 ≤ length (edge_in c.args.sides.now c.edge_at-edge.result.0).sides = omega (arith, c.sides_of.ensures, c.if-sides_of-lt2.false) in
-    second_across c.args._faces.now c.args.sides.now c.edge_at-edge.result.0 c.args.side c.side-first.result c.side.result on long c.side-first.ensures c.side.ensures
-    (side_from_test c.side-first.result c.args.side (sym c.eq.ensures ∙ c.if-eq.true))
+    alone c.args.faces.now c.args.sides.now c.args.side c.dart-dart.result.0 c.other-other.result.0 c.requires.table c.requires.two c.requires.side c.dart-dart.ensures.number
+    (c.other-other.ensures c.args.faces.now c.requires.table) (eqb-true c.other-other.result.0 c.dart-dart.result.0 (sym c.eq.ensures ∙ c.if-eq.true))
+
+pub side_at-requires : goal.side_at-requires
+side_at-requires c =
+    other_below c.args.faces.now c.args.side c.other-other.result.0
+    (has_other c.args.faces.now c.args.sides.now c.args.side c.dart-dart.result.0 c.other-other.result.0 c.requires.table c.requires.two c.requires.side c.dart-dart.ensures.number
+    (c.other-other.ensures c.args.faces.now c.requires.table) (λ same. both_ways _ (sym c.eq.ensures ∙ c.if-eq.false) (eq-eqb c.other-other.result.0 c.dart-dart.result.0 same)))
 
 pub returns-else-eq : goal.returns-else-eq
 returns-else-eq c =
-    let on : IsOnEdge c.args._faces.now c.args.sides.now c.edge_at-edge.result.0 c.args.side = record { table_of = c.requires.table; few = c.requires.two; in_table = c.edge_at-edge.ensures.found; has = c.edge_at-edge.ensures.side } in
-    let long : 2 ≤ length (edge_in c.args.sides.now c.edge_at-edge.result.0).sides = omega (arith, c.sides_of.ensures, c.if-sides_of-lt2.false) in
-    first_across c.args._faces.now c.args.sides.now c.edge_at-edge.result.0 c.args.side c.side-first.result on long c.side-first.ensures
-    (side_not_from_test c.side-first.result c.args.side (sym c.eq.ensures ∙ c.if-eq.false))
+    other_across c.args.faces.now c.args.side c.other-other.result.0 c.side_at.result c.requires.two
+    (has_other c.args.faces.now c.args.sides.now c.args.side c.dart-dart.result.0 c.other-other.result.0 c.requires.table c.requires.two c.requires.side c.dart-dart.ensures.number
+    (c.other-other.ensures c.args.faces.now c.requires.table) (λ same. both_ways _ (sym c.eq.ensures ∙ c.if-eq.false) (eq-eqb c.other-other.result.0 c.dart-dart.result.0 same)))
+    c.side_at.ensures.side c.side_at.ensures.number
