@@ -7,5 +7,3 @@ pub mod ComponentLemmas
 pub mod CornerLemmas
 pub mod RingLemmas
 pub mod LinkLemmas
-pub mod OutcomeLemmas
-pub mod RingExamples

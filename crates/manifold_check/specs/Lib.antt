@@ -2,4 +2,3 @@ pub mod Classes
 pub mod Partitions
 pub mod Links
 pub mod Faults
-pub mod Examples

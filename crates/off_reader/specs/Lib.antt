@@ -1,2 +1,5 @@
 pub mod PlainMesh
 pub mod Reading
+pub mod OffTexts
+pub mod OffSteps
+pub mod OffExamples

@@ -2,8 +2,13 @@
 #![tactic(auto)]
 
 mod fault;
+mod header;
+mod keyword;
 pub mod laws;
+pub mod mesh;
+mod off_fault;
 mod reading;
+mod ring;
 
 pub use fault::OffFault;
 pub use reading::read_off;

@@ -70,7 +70,7 @@ at_end (byte ∷ rest) h = absurd (omega (arith, h))
 
 -- so far from line n on without a word
 abbrev pub SoFar : ℕ → List ℕ → ℕ → List ℕ → Type 0
-SoFar n bytes m rest = (lines_from n bytes ≡ lines_from m rest) × (m + length rest ≤ n + length bytes)
+SoFar n bytes m rest = (lines_from n bytes ≡ lines_from m rest) × (m + length rest ≤ n + length bytes) × (n ≤ m)
 
 -- lines from a place on do not change where its words and what is behind do not
 same_lines : (n : ℕ) (rest after : List ℕ) → words_here rest ≡ words_here after → behind rest ≡ behind after → lines_from n rest ≡ lines_from n after
@@ -82,12 +82,12 @@ no_words n rest none = lines_from_here n rest ∙ rw none refl
 pub pass_blank : (n m : ℕ) (bytes rest : List ℕ) → 1 ≤ length rest → is_blank (get_or rest 0 0) ≡ true → SoFar n bytes m rest → SoFar n bytes m (after_head rest)
 pass_blank n m bytes = by_head (λ first rest after. is_blank first ≡ true → SoFar n bytes m rest → SoFar n bytes m after) (λ byte rest is_kind so_far.
     let blank : is_blank byte ≡ true = is_kind in
-    (so_far.0 ∙ same_lines m (byte ∷ rest) rest (words_here-blank byte rest blank) (behind-other byte rest (blank_is_no_feed byte blank)), omega (arith, so_far.1)))
+    (so_far.0 ∙ same_lines m (byte ∷ rest) rest (words_here-blank byte rest blank) (behind-other byte rest (blank_is_no_feed byte blank)), omega (arith, so_far.1), omega (arith, so_far.2)))
 
 pub pass_line_feed : (n m : ℕ) (bytes rest : List ℕ) → 1 ≤ length rest → get_or rest 0 0 ≡ 10 → SoFar n bytes m rest → SoFar n bytes (m + 1) (after_head rest)
 pass_line_feed n m bytes = by_head (λ first rest after. first ≡ 10 → SoFar n bytes m rest → SoFar n bytes (m + 1) after) (λ byte rest is_kind so_far.
     let feed = eq-eqb byte 10 is_kind in
-    (so_far.0 ∙ no_words m (byte ∷ rest) (words_here-line_feed byte rest feed) ∙ ap (lines_from (m + 1)) (behind-line_feed byte rest feed), omega (arith, so_far.1)))
+    (so_far.0 ∙ no_words m (byte ∷ rest) (words_here-line_feed byte rest feed) ∙ ap (lines_from (m + 1)) (behind-line_feed byte rest feed), omega (arith, so_far.1), omega (arith, so_far.2)))
 
 pub pass_comment : (n m : ℕ) (bytes rest after : List ℕ) → 1 ≤ length rest → get_or rest 0 0 ≡ 35
     → words_here after ≡ [] → behind after ≡ behind (after_head rest) → length after ≤ length (after_head rest)
@@ -97,7 +97,7 @@ pass_comment n m bytes rest after =
     (λ first rest tail. first ≡ 35 → words_here after ≡ [] → behind after ≡ behind tail → length after ≤ length tail → SoFar n bytes m rest → SoFar n bytes m after)
     (λ byte tail is_kind none same shorter so_far.
     let hash = eq-eqb byte 35 is_kind in
-    (so_far.0 ∙ same_lines m (byte ∷ tail) after (words_here-hash byte tail hash ∙ sym none) (behind-other byte tail (hash_is_no_feed byte hash) ∙ sym same), omega (arith, so_far.1, shorter)))
+    (so_far.0 ∙ same_lines m (byte ∷ tail) after (words_here-hash byte tail hash ∙ sym none) (behind-other byte tail (hash_is_no_feed byte hash) ∙ sym same), omega (arith, so_far.1, shorter), so_far.2))
     rest
 
 pub at_word : (n m : ℕ) (bytes rest : List ℕ) → 1 ≤ length rest → is_blank (get_or rest 0 0) ≡ false → get_or rest 0 0 ≢ 10 → get_or rest 0 0 ≢ 35
@@ -108,7 +108,7 @@ at_word n m bytes =
     let feed : is_line_feed byte ≡ false = ne_eqb byte 10 no_feed in
     let hash : is_hash byte ≡ false = ne_eqb byte 35 no_hash in
     let ends : ends_word byte ≡ false = rw (no_blank, feed, hash) refl in
-    record { lines = so_far.0; word = not_from_false (ends_word byte) ends; shorter = so_far.1 })
+    record { lines = so_far.0; word = not_from_false (ends_word byte) ends; shorter = so_far.1; later = so_far.2 })
 
 pub no_more : (n m : ℕ) (bytes rest : List ℕ) → length rest < 1 → SoFar n bytes m rest → lines_from n bytes ≡ []
 unfolding lines_from cut

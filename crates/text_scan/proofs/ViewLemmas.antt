@@ -1,11 +1,11 @@
 -- What the steps over the bytes are to what is left to read.
-use Rattle.std.proofs.Common.{◌≡◌, ℕ, ◌+◌, Bool, true, false, List, [], ◌∷◌, drop, refl, sym, ap, subst, ◌∙◌, take, drop-drop, arith}
+use Rattle.std.proofs.Common.{◌≡◌, ℕ, ◌+◌, Bool, true, false, List, [], ◌∷◌, drop, refl, sym, ap, subst, ◌∙◌, take, drop-drop, length-take, filter, cond, ◌<◌, ◌≤◌, ◌^◌, ◌-◌, arith}
 use Rattle.std.specs.Prelude.{Option, Some, None, MatchOption, unwrap_or}
-use Rattle.std.specs.List.{before_first}
+use Rattle.std.specs.List.{before_first, position_or_len, slice_split, onto_first}
 use Rattle.std.specs.Cmp.Lexicographic.{pointwise}
 use Rattle.std.proofs.Common.{Bor, eqb, length}
-use Rattle.text_scan.specs.Lines.{is_filled, is_blank, unmarked, lines_from, full_lines}
-use Rattle.text_scan.specs.Unread.{Unread, lines_left, at_line, past_word, next_word, words_here, behind, unread_at}
+use Rattle.text_scan.specs.Lines.{is_filled, is_blank, uncommented, words, unmarked, lines_from, full_lines}
+use Rattle.text_scan.specs.Unread.{Unread, lines_left, at_line, past_word, next_word, is_line_feed, words_here, behind, unread_at}
 use Rattle.text_scan.specs.Steps.{ends_word, begins_with, begins_word, IsPast, IsFirstWord}
 use Rattle.text_scan.proofs.PlaceLemmas.{words_here-word, lines_from_here}
 use Rattle.text_scan.proofs.StepLemmas.{no_word}
@@ -114,3 +114,30 @@ moved_past text n rest start after unread is h k = moved text n rest after unrea
 
 pub nothing_past : (unread : Unread) → unread.words ≡ [] → unread ≡ past_word unread
 nothing_past unread none = ap (λ (ws : List (List ℕ)). record unread { words = ws }) (none ∙ sym (ap (λ (ws : List (List ℕ)). drop 1 ws) none))
+
+-- ---- how many words are left
+
+few_parts : (line : List ℕ) → length (filter is_filled (slice_split is_blank line)) ≤ length line
+few_parts [] = omega arith
+few_parts (byte ∷ line) = by_test (is_blank byte) (slice_split is_blank line) (few_parts line)
+  where
+    by_test : (b : Bool) (parts : List (List ℕ)) → length (filter is_filled parts) ≤ length line
+        → length (filter is_filled (cond b ([] ∷ parts) (onto_first byte parts))) ≤ length (byte ∷ line)
+    by_test true parts few = omega (arith, few)
+    by_test false [] few = omega (arith, few)
+    by_test false ([] ∷ parts) few = omega (arith, few)
+    by_test false ((first ∷ part) ∷ parts) few = omega (arith, few)
+
+few_words : (rest : List ℕ) → length (words_here rest) ≤ length rest
+unfolding words_here words
+few_words rest =
+    let line : List ℕ = before_first is_line_feed rest in
+    omega (arith, few_parts (uncommented line), length-take (position_or_len (λ byte. eqb byte 35) line) line, length-take (position_or_len is_line_feed rest) rest)
+
+-- further on there are no more words than bytes
+pub few_left : (n : ℕ) (rest start after : List ℕ) → 0 < n → n + length rest < 2 ^ 64 → IsPast 0 rest start → IsPast 1 start after
+    → length (words_here after) < 2 ^ 64 - 1
+few_left n rest start after some fits h k = omega (arith, some, fits, few_words after, h.shorter, k.shorter)
+
+pub few_here : (text : List ℕ) (n : ℕ) (rest : List ℕ) (unread : Unread) → unread_at text n rest ≡ unread → 0 < n → n + length rest < 2 ^ 64 → length unread.words < 2 ^ 64 - 1
+few_here text n rest unread is some fits = omega (arith, some, fits, few_words rest, ap (λ (u : Unread). length u.words) is)

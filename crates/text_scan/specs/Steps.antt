@@ -32,6 +32,7 @@ pub record IsFirstWord (n : ℕ) (rest : List ℕ) (m : ℕ) (after : List ℕ) 
   pub lines : lines_from n rest ≡ lines_from m after
   pub word : begins_word after ≡ true
   pub shorter : m + length after ≤ n + length rest
+  pub later : n ≤ m
 
 -- past digits at the front, whose value is `capped`, or 2^64 - 1 where it is larger
 pub record ArePastDigits (rest : List ℕ) (capped : ℕ) (after : List ℕ) : Type 0 where

@@ -33,7 +33,7 @@ impl<'a> Model for Cursor<'a> {
 
     ghost view = { λ a. unread_at a.text.now a.line a.rest.now };
 
-    ghost invariant = { λ a. a.line + length a.rest.now < 2 ^ 64 };
+    ghost invariant = { λ a. (0 < a.line) × (a.line + length a.rest.now < 2 ^ 64) };
 }
 
 impl<'a> Cursor<'a> {
@@ -79,6 +79,8 @@ impl<'a> Cursor<'a> {
     pub fn natural(&mut self) -> Option<u64>
         ensures value { result ≡ option_map (λ n. min n (2 ^ 64 - 1)) (next_natural self.old.words) }
         ensures place { self.new ≡ (if is_some result then past_word self.old else self.old) }
+        // Fewer words are left than the largest answer, so that no number that it stands for counts them.
+        ensures few { length self.new.words < 2 ^ 64 - 1 }
     {
         let (value, rest) = natural_at(after_blanks(self.rest))?;
         self.rest = rest;

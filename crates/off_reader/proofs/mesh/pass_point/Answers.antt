@@ -1,0 +1,15 @@
+use Rattle.std.proofs.Common.{sym, ap, ◌∙◌}
+use Rattle.text_scan.specs.Numbers.{is_number_text}
+use Rattle.text_scan.specs.Unread.{Unread}
+use Rattle.off_reader.proofs.RingLemmas.{one_read, next_text, bad_point}
+use Rattle.off_reader.proofs.mesh.pass_point.Goals as goal
+
+pub returns-then-not-number_text-clause-fault : goal.returns-then-not-number_text-clause-fault
+returns-then-not-number_text-clause-fault c =
+    bad_point c.args.coordinates c.loop.counter c.line.result c.args.cursor.now c.loop.cursor c.loop-test.true c.if-not-number_text.ensures.answer
+    (c.line.ensures ∙ ap (λ (u : Unread). u.line) c.if-not-number_text.ensures.place) c.loop.invariant
+
+pub loop-preserved : goal.loop-preserved
+loop-preserved c =
+    one_read is_number_text c.args.cursor.now c.loop.cursor c.number_text.new.self c.loop.counter (sym (c.if-not-number_text.ensures.answer ∙ next_text c.loop.cursor.words))
+    c.if-not-number_text.ensures.place c.loop.invariant

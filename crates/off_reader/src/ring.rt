@@ -1,0 +1,116 @@
+//! The corners in the line of a face.
+ghost use Rattle.std.specs.Prelude.{◌≡◌, ◌⊎◌, ◌+◌, ◌-◌, ◌^◌, ◌<◌, ◌≤◌, ◌&&◌, nat_le, nat_lt, if◌then◌else◌, true, Some, None, length, take, map, MatchResult, IfErr};
+ghost use Rattle.std.specs.List.{list_all};
+ghost use Rattle.text_scan.specs.Numbers.{is_natural, value_of};
+ghost use Rattle.surf_model.specs.FaceLists.{next_corner};
+ghost use Rattle.surf_model.specs.Vertices.{numbers};
+ghost use Rattle.off_reader.specs.OffTexts.{corners_among, corners_of, has_equal_neighbours, ring_fault};
+ghost use Rattle.off_reader.specs.OffSteps.{IsSameLine, ReadsCorners};
+
+use crate::off_fault::OffFault;
+use surf_model::VertexName;
+use text_scan::Cursor;
+
+/// The most sides that all faces have together.
+const MOST_SIDES: u32 = 4_000_000;
+
+/// Reads the corners of a face among `vertices` vertices into `ring`, where the faces before have
+/// `sides_before` sides. What stood in `ring` goes.
+pub(crate) fn read_ring(
+    cursor: &mut Cursor,
+    vertices: u32,
+    sides_before: u32,
+    ring: &mut Vec<VertexName>,
+) -> Result<(), OffFault>
+    requires vertices { vertices ≤ 1000000 }
+    requires sides { sides_before ≤ 4000000 }
+    ensures ring { MatchResult result
+        (λ _. (corners_of cursor.old.words ≡ Some (numbers ring.new.items))
+        × (ring_fault vertices sides_before cursor.old.line (corners_of cursor.old.words) ≡ None))
+        (λ fault. (fault ≡ OffFault.OutOfMemory)
+        ⊎ (ring_fault vertices sides_before cursor.old.line (corners_of cursor.old.words) ≡ Some fault)) }
+    ensures line { IsSameLine cursor.old cursor.new }
+{
+    let line = cursor.line();
+    let sides = match cursor.natural() {
+        Some(sides) if sides >= 3 => sides,
+        _ => return Err(OffFault::BadFace { line }),
+    };
+    if sides > u64::from(MOST_SIDES - sides_before) {
+        return Err(fault_of_many(cursor, sides));
+    }
+    if !read_corners(cursor, vertices, sides as u32, ring)? {
+        return Err(OffFault::IndexRange { line });
+    }
+    if has_equal_neighbours(ring) {
+        return Err(OffFault::EqualNeighbours { line });
+    }
+    Ok(())
+}
+
+/// The fault of a face with more sides than there is room for.
+fn fault_of_many(cursor: &mut Cursor, sides: u64) -> OffFault
+    ensures fault { result ≡ (if nat_le sides (length cursor.old.words) && list_all is_natural (take sides cursor.old.words)
+        then OffFault.TooMany cursor.old.line else OffFault.BadFace cursor.old.line) }
+    ensures line { IsSameLine cursor.old cursor.new }
+{
+    let line = cursor.line();
+    for _ in 0..sides {
+        let Some(_corner) = cursor.natural() else {
+            return OffFault::BadFace { line };
+        };
+    }
+    OffFault::TooMany { line }
+}
+
+/// Reads so many corners into `ring`, and says whether all of them are below `vertices`.
+fn read_corners(
+    cursor: &mut Cursor,
+    vertices: u32,
+    sides: u32,
+    ring: &mut Vec<VertexName>,
+) -> Result<bool, OffFault>
+    requires vertices { vertices ≤ 1000000 }
+    requires polygon { 3 ≤ sides }
+    ensures corners { ReadsCorners vertices sides cursor.old result (numbers ring.new.items) }
+    ensures line { IsSameLine cursor.old cursor.new }
+{
+    let line = cursor.line();
+    ring.clear();
+    let mut in_range = true;
+    for _ in 0..sides {
+        let Some(corner) = cursor.natural() else {
+            return Err(OffFault::BadFace { line });
+        };
+        if corner >= u64::from(vertices) {
+            in_range = false;
+            continue;
+        }
+        if ring.push(VertexName(corner as u32)).is_err() {
+            return Err(OffFault::OutOfMemory);
+        }
+    }
+    Ok(in_range)
+}
+
+/// Whether two neighbours round the face are one vertex.
+fn has_equal_neighbours(ring: &[VertexName]) -> bool
+    ensures { result ≡ has_equal_neighbours (numbers ring.now) }
+{
+    let sides = ring.len();
+    for corner in 0..sides {
+        let next = next_corner(corner, sides);
+        if ring[corner].0 == ring[next].0 {
+            return true;
+        }
+    }
+    false
+}
+
+fn next_corner(corner: usize, sides: usize) -> usize
+    requires { corner < sides }
+    ensures corner { result ≡ next_corner true sides corner }
+    ensures within { result < sides }
+{
+    if corner + 1 == sides { 0 } else { corner + 1 }
+}
