@@ -15,3 +15,5 @@ pub use reading::read_off;
 
 #[cfg(test)]
 mod tests;
+#[cfg(test)]
+mod mesh_tests;
