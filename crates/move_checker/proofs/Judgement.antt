@@ -51,25 +51,25 @@ verdict_end mesh peak second number walk ne =
     rw t refl
 
 -- the darts that a list of moves passes, the first move taken off
-greatest_darts-more : (mesh : FaceList) (walk next : List ℕ) (move : Move) (moves : List Move) → apply mesh walk move ≡ Some next
+pub greatest_darts-more : (mesh : FaceList) (walk next : List ℕ) (move : Move) (moves : List Move) → apply mesh walk move ≡ Some next
     → greatest_darts mesh walk (move ∷ moves) ≡ max (darts walk) (greatest_darts mesh next moves)
 unfolding greatest_darts
 greatest_darts-more mesh walk next move moves e = rw e refl
 
-greatest_darts-first : (mesh : FaceList) (walk : List ℕ) (moves : List Move) → darts walk ≤ greatest_darts mesh walk moves
+pub greatest_darts-first : (mesh : FaceList) (walk : List ℕ) (moves : List Move) → darts walk ≤ greatest_darts mesh walk moves
 unfolding greatest_darts
 greatest_darts-first mesh walk [] = omega arith
 greatest_darts-first mesh walk (move ∷ moves) = omega arith
 
-greatest_darts-none : (mesh : FaceList) (walk : List ℕ) → greatest_darts mesh walk [] ≡ darts walk
+pub greatest_darts-none : (mesh : FaceList) (walk : List ℕ) → greatest_darts mesh walk [] ≡ darts walk
 unfolding greatest_darts
 greatest_darts-none mesh walk = refl
 
-Leads-more : (mesh : FaceList) (walk next : List ℕ) (move : Move) (moves : List Move) (second : List ℕ) → apply mesh walk move ≡ Some next
+pub Leads-more : (mesh : FaceList) (walk next : List ℕ) (move : Move) (moves : List Move) (second : List ℕ) → apply mesh walk move ≡ Some next
     → apply_all mesh walk (move ∷ moves) ≡ apply_all mesh next moves
 Leads-more mesh walk next move moves second e = rw e refl
 
-Leads-none : (mesh : FaceList) (walk : List ℕ) (move : Move) (moves : List Move) (second : List ℕ) → apply mesh walk move ≡ None
+pub Leads-none : (mesh : FaceList) (walk : List ℕ) (move : Move) (moves : List Move) (second : List ℕ) → apply mesh walk move ≡ None
     → Leads mesh walk (move ∷ moves) second → ⊥
 Leads-none mesh walk move moves second e leads =
     let none : apply_all mesh walk (move ∷ moves) ≡ None = rw e refl in

@@ -5,3 +5,4 @@ pub mod Replacements
 pub mod Steps
 pub mod Outcomes
 pub mod Judgement
+pub mod VerdictLaws

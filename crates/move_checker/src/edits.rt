@@ -1,7 +1,7 @@
 //! Moves on the vector that keeps a walk. Only the entries behind a move's place go to other places.
 ghost use Rattle.std.specs.Prelude.{◌≡◌, ◌+◌, ◌-◌, ◌<◌, ◌≤◌, length, take, drop, vec_len, vec_capacity, not, ◌&&◌, ◌^◌, nat_lt, nat_le, MatchResult, OnErr, Ok, Err};
 ghost use Rattle.surf_model.specs.declared.moves.Move.TheVariants.{Insert, Remove, Across};
-ghost use Rattle.surf_model.specs.FaceLists.{FaceList, face_at, corners_from, is_edge, next_corner};
+ghost use Rattle.surf_model.specs.FaceLists.{FaceList, face_at, corners_from, is_edge};
 ghost use Rattle.surf_model.specs.Edges.{IsTableOf};
 ghost use Rattle.surf_model.specs.Moves.{same_walk, replaced};
 ghost use Rattle.surf_model.specs.Vertices.{numbers};
@@ -9,6 +9,7 @@ ghost use Rattle.move_checker.specs.Tapes.{HasRoom};
 ghost use Rattle.move_checker.specs.Refusals.{step_of};
 
 use crate::fault::MoveFault;
+use surf_model::faces::corner_after;
 use surf_model::{FaceName, Faces, Move, Sides, VertexName};
 
 /// A way round a face: from a corner on, by rising places if `forward`, else by falling ones.
@@ -237,21 +238,6 @@ fn make_room(vertices: &mut Vec<VertexName>, at: usize, taken: usize, put: usize
     }
 }
 
-/// The corner that comes next on a way round a face of `sides` sides.
-fn step_round(forward: bool, sides: u32, corner: u32) -> u32
-    requires { corner < sides }
-    ensures next { result ≡ next_corner forward sides corner }
-    ensures corner { result < sides }
-{
-    if forward {
-        if corner + 1 == sides { 0 } else { corner + 1 }
-    } else if corner == 0 {
-        sides - 1
-    } else {
-        corner - 1
-    }
-}
-
 /// Whether the entries are the vertices that a way round a face meets.
 fn reads_face(entries: &[VertexName], faces: &Faces, way: Way) -> bool
     requires face { way.face.0 < length faces.now.faces }
@@ -266,7 +252,7 @@ fn reads_face(entries: &[VertexName], faces: &Faces, way: Way) -> bool
         if *entry != faces.corner(way.face, corner) {
             return false;
         }
-        corner = step_round(way.forward, sides, corner);
+        corner = corner_after(way.forward, sides, corner);
     }
     true
 }
@@ -283,6 +269,6 @@ fn write_face(entries: &mut [VertexName], faces: &Faces, way: Way)
     let mut corner = way.corner;
     for entry in entries.iter_mut() {
         *entry = faces.corner(way.face, corner);
-        corner = step_round(way.forward, sides, corner);
+        corner = corner_after(way.forward, sides, corner);
     }
 }

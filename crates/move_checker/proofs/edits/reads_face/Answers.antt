@@ -24,11 +24,11 @@ loop-entry-preserved c =
     let ring = face_at c.args.faces.now c.args.way.face.0 in
     let entries = c.args.entries.now in
     on_way_more ring c.args.way.forward c.args.way.corner (numbers entries) (numbers entries) i c.loop-entry.corner
-    c.step_round-corner.result c.loop-entry.invariant
+    c.corner_after-corner.result c.loop-entry.invariant
     (λ k h. refl)
     (sym (entry entries i (record { 0 = 0 }) c.loop-entry-test.true) ∙ same_vertex _ _ (sym c.if-ne.ensures) ∙ c.corner.ensures)
-    (c.step_round-corner.ensures.next ∙ ap (λ m. next_corner c.args.way.forward m c.loop-entry.corner) c.sides-sides.ensures)
-    (omega (arith, c.step_round-corner.ensures.corner, c.sides-sides.ensures))
+    (c.corner_after-corner.ensures.corner ∙ ap (λ m. next_corner c.args.way.forward m c.loop-entry.corner) c.sides-sides.ensures)
+    (omega (arith, c.corner_after-corner.ensures.within, c.sides-sides.ensures))
 
 pub returns : goal.returns
 returns c =

@@ -15,11 +15,11 @@ loop-entry-preserved c =
     map-set (λ (v : VertexName). v.0) c.loop-entry.entries i c.corner.result in
     let below : i < length before = omega (arith, length-map c.loop-entry.entries (λ (v : VertexName). v.0)) in
     on_way_more ring c.args.way.forward c.args.way.corner before (numbers (set c.loop-entry.entries i c.corner.result)) i c.loop-entry.corner
-    c.step_round-corner.result c.loop-entry.invariant
+    c.corner_after-corner.result c.loop-entry.invariant
     (λ k h. rw written (get_or-set_other before i k c.corner.result.0 0 (λ e. absurd (omega arith))))
     (rw written (get_or-set_same before i c.corner.result.0 0 below ∙ c.corner.ensures))
-    (c.step_round-corner.ensures.next ∙ ap (λ m. next_corner c.args.way.forward m c.loop-entry.corner) c.sides-sides.ensures)
-    (omega (arith, c.step_round-corner.ensures.corner, c.sides-sides.ensures))
+    (c.corner_after-corner.ensures.corner ∙ ap (λ m. next_corner c.args.way.forward m c.loop-entry.corner) c.sides-sides.ensures)
+    (omega (arith, c.corner_after-corner.ensures.within, c.sides-sides.ensures))
 
 pub returns : goal.returns
 returns c =

@@ -9,4 +9,4 @@ both refusal given (is_refused fault r g ne) = rw (r, g) (search rules)
 both refusal given (is_allowed next r g) = rw (r, g) (search rules)
 
 pub returns : goal.returns
-returns c = both _ _ (judged c.args._faces.now c.args._walk.now c.args._mv)
+returns c = λ mesh walk move. both _ _ (judged mesh walk move)
