@@ -5,3 +5,4 @@ pub mod StoredLabellingLemmas
 pub mod PolygonLabelLemmas
 pub mod FullLemmas
 pub mod ReadingLemmas
+pub mod EdgeRuleLemmas

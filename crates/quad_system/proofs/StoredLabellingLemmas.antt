@@ -43,6 +43,7 @@ pub record LabelsLieAt (labelling : LabellingView) (signs : List Bool) (ends lab
   pub within : get_or ends f 0 ≤ length labels
   pub short : get_or ends f 0 - get_or (0 ∷ ends) f 0 < 2 ^ 32
   pub signs_are : signs_of labelling ≡ signs
+  pub is : labels_at labelling f ≡ take (get_or ends f 0 - get_or (0 ∷ ends) f 0) (drop (get_or (0 ∷ ends) f 0) labels)
   pub size : length (labels_at labelling f) ≡ get_or ends f 0 - get_or (0 ∷ ends) f 0
   pub label : (t : ℕ) → t < length (labels_at labelling f) → get_or (labels_at labelling f) t 0 ≡ get_or labels (get_or (0 ∷ ends) f 0 + t) 0
 
@@ -65,6 +66,7 @@ lie-at degree signs ends labels places f s h =
       within = here.within;
       short = s.few_labels f few;
       signs_are = signs-with_signs signs ps each;
+      is = is;
       size = ap length is ∙ size;
       label = λ t below. ap (λ xs. get_or xs t 0) is ∙ get_or-take (end - start) (drop start labels) t 0 (omega (arith, ap length is, size)) ∙ get_or-drop start labels t 0;
     }

@@ -1,5 +1,5 @@
 //! Labellings: a label for each corner of a mesh, with a sign for each face and the places of the spokes.
-ghost use Rattle.std.specs.Prelude.{◌≡◌, ◌-◌, ◌^◌, ◌<◌, [], ◌∷◌, ◌++◌, length, slice_index, OnOk, OnErr};
+ghost use Rattle.std.specs.Prelude.{◌≡◌, ◌-◌, ◌^◌, ◌<◌, ◌≤◌, [], ◌∷◌, ◌++◌, length, take, drop, slice_index, OnOk, OnErr};
 ghost use Rattle.surf_model.specs.Surfaces.{is_flipped};
 ghost use Rattle.quad_system.specs.Labellings.{labels_at, signs_of};
 
@@ -111,6 +111,24 @@ impl Labelling {
         self.labels[start_of(&self.ends, face) + corner as usize]
     }
 
+    /// The labels of a face.
+    pub(crate) fn labels(&self, face: FaceName) -> &[u32]
+        requires { face.0 < length self.now.faces }
+        ensures { result.now ≡ labels_at self.now face.0 }
+    {
+        let end = self.ends[face.0 as usize];
+        part(&self.labels, start_of(&self.ends, face), end)
+    }
+
+    /// The places of all spokes.
+    pub(crate) fn all_places(&self) -> &[u32]
+        ensures places { result.now ≡ self.now.places }
+        // What holds of every labelling.
+        ensures few { length result.now < 2 ^ 32 }
+    {
+        self.places.as_slice()
+    }
+
     /// The number of places.
     pub fn places(&self) -> u32
         ensures { result ≡ length self.now.places }
@@ -137,4 +155,13 @@ fn start_of(ends: &[usize], face: FaceName) -> usize
     } else {
         ends[face.0 as usize - 1]
     }
+}
+
+/// The part of a list between two places.
+fn part(labels: &[u32], from: usize, to: usize) -> &[u32]
+    requires rises { from ≤ to }
+    requires within { to ≤ length labels.now }
+    ensures { result.now ≡ take (to - from) (drop from labels.now) }
+{
+    &labels[from..to]
 }
