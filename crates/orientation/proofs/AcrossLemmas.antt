@@ -24,16 +24,20 @@ pub record IsOnEdge (mesh : FaceList) (table : List Edge) (k : ℕ) (side : Side
   pub in_table : k < length table
   pub has : Contains (edge_in table k).sides side
 
-on_edge : (mesh : FaceList) (table : List Edge) (k : ℕ) (side : Side) → IsTableOf mesh table → k < length table → Contains (edge_in table k).sides side → IsSideOfEdge mesh (edge_in table k) side
+on_edge : (mesh : FaceList) (table : List Edge) (k : ℕ) (side : Side) → IsTableOf mesh table → k < length table
+    → Contains (edge_in table k).sides side → IsSideOfEdge mesh (edge_in table k) side
 on_edge mesh table k side h l has =
     subst (IsSideOfEdge mesh (edge_in table k)) has.2 (side_of_edge mesh (edge_in table k) has.0 side (table_edge mesh table k h l) has.1)
 
 -- a side of an edge runs along it
-pub along_edge : (mesh : FaceList) (table : List Edge) (k : ℕ) (side : Side) → IsTableOf mesh table → k < length table → Contains (edge_in table k).sides side
+pub along_edge : (mesh : FaceList) (table : List Edge) (k : ℕ) (side : Side) → IsTableOf mesh table → k < length table
+    → Contains (edge_in table k).sides side
     → IsAlong mesh side (edge_in table k).low (edge_in table k).high
-along_edge mesh table k side h l has = record { ordered = (table_edge mesh table k h l).ordered; ends = (on_edge mesh table k side h l has).ends }
+along_edge mesh table k side h l has =
+    record { ordered = (table_edge mesh table k h l).ordered; ends = (on_edge mesh table k side h l has).ends }
 
-ends_join : (mesh : FaceList) (side : Side) (low high : ℕ) → ((tail_of mesh side ≡ low) × (head_of mesh side ≡ high)) ⊎ ((tail_of mesh side ≡ high) × (head_of mesh side ≡ low))
+ends_join : (mesh : FaceList) (side : Side) (low high : ℕ)
+    → ((tail_of mesh side ≡ low) × (head_of mesh side ≡ high)) ⊎ ((tail_of mesh side ≡ high) × (head_of mesh side ≡ low))
     → joins low high (entry_of mesh side) ≡ true
 ends_join mesh side low high e = grind (arith, nat_tests)
 
@@ -47,16 +51,26 @@ at_most_two mesh table k side h =
     let on : IsSideOfEdge mesh edge side = on_edge mesh table k side h.table_of h.in_table h.has in
     let joined : joins edge.low edge.high (entry_of mesh side) ≡ true = ends_join mesh side edge.low edge.high on.ends in
     let few : length (filter (joins edge.low edge.high) (all_sides mesh)) ≤ 2 =
-    h.few edge.low edge.high (joined_edge mesh edge.low edge.high (entry_of mesh side) (face_side_in mesh side.face.0 side.at on.side_of.face on.side_of.place) joined) in
-    omega (arith, few, ap (λ (xs : List Side). length xs) (table_edge mesh table k h.table_of h.in_table).sides, length-map (filter (joins edge.low edge.high) (all_sides mesh)) side_name)
+    h.few edge.low edge.high
+    (joined_edge mesh edge.low edge.high (entry_of mesh side) (face_side_in mesh side.face.0 side.at on.side_of.face on.side_of.place)
+    joined) in
+    omega (
+      arith,
+      few,
+      ap (λ (xs : List Side). length xs) (table_edge mesh table k h.table_of h.in_table).sides,
+      length-map
+          (filter (joins edge.low edge.high) (all_sides mesh)) side_name,
+    )
 
 -- an edge of one side has no partner for it
-pub none_across : (mesh : FaceList) (table : List Edge) (k : ℕ) (side : Side) → IsOnEdge mesh table k side → length (edge_in table k).sides < 2 → IsAcross mesh side None
+pub none_across : (mesh : FaceList) (table : List Edge) (k : ℕ) (side : Side) → IsOnEdge mesh table k side
+    → length (edge_in table k).sides < 2 → IsAcross mesh side None
 none_across mesh table k side h one = λ partner partners.
     let edge : Edge = edge_in table k in
     let is : IsEdgeOf mesh edge = table_edge mesh table k h.table_of h.in_table in
     let on : IsSideOfEdge mesh edge side = on_edge mesh table k side h.table_of h.in_table h.has in
-    let has : Contains edge.sides partner = edge_has_side mesh edge partner is partners.second (other_ends _ _ _ _ edge.low edge.high on.ends partners.one_edge) in
+    let has : Contains edge.sides partner = edge_has_side mesh edge partner is partners.second
+    (other_ends _ _ _ _ edge.low edge.high on.ends partners.one_edge) in
     elim (two_of edge.sides side partner (omega arith) h.has has partners.different) [
       | inl two ↦ omega (arith, ap (λ (xs : List Side). length xs) two)
       | inr two ↦ omega (arith, ap (λ (xs : List Side). length xs) two)
@@ -71,7 +85,8 @@ one_number mesh a b is_a is_b same =
     let number : (s : Side) (at : Contains all (entry_of mesh s)) → side_number mesh s ≡ at.0 =
     λ s at. ap (λ (x : FaceSide). side_number mesh (side_name x)) (sym at.2) ∙ (whole_side mesh at.0 (entry_of mesh s) at.1).number in
     let place : at_a.0 ≡ at_b.0 = sym (number a at_a) ∙ same ∙ number b at_b in
-    ap side_name (sym at_a.2 ∙ get_or_default all at_a.0 (entry_of mesh a) (entry_of mesh b) at_a.1 ∙ ap (λ k. get_or all k (entry_of mesh b)) place ∙ at_b.2)
+    ap side_name (sym at_a.2 ∙ get_or_default all at_a.0 (entry_of mesh a) (entry_of mesh b) at_a.1 ∙ ap
+    (λ k. get_or all k (entry_of mesh b)) place ∙ at_b.2)
 
 -- a side at a place of edge k, and the next side there, by their numbers
 record IsBeside (mesh : FaceList) (table : List Edge) (k i : ℕ) (side : Side) (next : ℕ) : Type 0 where
@@ -80,14 +95,16 @@ record IsBeside (mesh : FaceList) (table : List Edge) (k i : ℕ) (side : Side) 
   here : get_or (edge_in table k).sides i side ≡ side
   there : side_number mesh (get_or (edge_in table k).sides (next_corner true (length (edge_in table k).sides) i) side) ≡ next
 
-beside : (mesh : FaceList) (table : List Edge) (side : Side) (dart next : ℕ) → IsTableOf mesh table → EachEdgeHasAtMostTwoSides mesh → IsSide mesh side
+beside : (mesh : FaceList) (table : List Edge) (side : Side) (dart next : ℕ) → IsTableOf mesh table → EachEdgeHasAtMostTwoSides mesh
+    → IsSide mesh side
     → dart ≡ side_number mesh side → (h : IsNextInEdge mesh table dart next) → IsBeside mesh table h.edge h.place side next
 beside mesh table side dart next is two in_mesh number h =
     let sides : List Side = (edge_in table h.edge).sides in
     let size : length (map (side_number mesh) sides) ≡ length sides = length-map sides (side_number mesh) in
     let few : h.place < length sides = omega (arith, h.in_edge, size) in
     let at : side_number mesh (get_or sides h.place side) ≡ dart = sym (get_or-map (side_number mesh) sides h.place side 0 few) ∙ h.here in
-    let stands : IsSideOfEdge mesh (edge_in table h.edge) (get_or sides h.place side) = side_of_edge mesh (edge_in table h.edge) h.place side (table_edge mesh table h.edge is h.in_table) few in
+    let stands : IsSideOfEdge mesh (edge_in table h.edge) (get_or sides h.place side) = side_of_edge mesh (edge_in table h.edge) h.place
+    side (table_edge mesh table h.edge is h.in_table) few in
     let same : get_or sides h.place side ≡ side = one_number mesh (get_or sides h.place side) side stands.side_of in_mesh (at ∙ number) in
     let next_few : next_corner true (length sides) h.place < length sides = next_within (length sides) h.place few in
     record {
@@ -108,10 +125,12 @@ pub record IsOther (mesh : FaceList) (side : Side) (next : ℕ) : Type 0 where
   pub partners : ArePartners mesh side other
   pub number : side_number mesh other ≡ next
 
-other_of_two : (mesh : FaceList) (table : List Edge) (k i : ℕ) (side : Side) (next : ℕ) → IsBeside mesh table k i side next → 2 ≤ length (edge_in table k).sides → IsOther mesh side next
+other_of_two : (mesh : FaceList) (table : List Edge) (k i : ℕ) (side : Side) (next : ℕ) → IsBeside mesh table k i side next
+    → 2 ≤ length (edge_in table k).sides → IsOther mesh side next
 other_of_two mesh table k i side next h long =
     let sides : List Side = (edge_in table k).sides in
-    let pair : ArePartners mesh (get_or sides 0 side) (get_or sides 1 side) = partners_of_edge mesh table k 0 1 side h.on.table_of h.on.in_table (omega arith) (omega arith) in
+    let pair : ArePartners mesh (get_or sides 0 side) (get_or sides 1 side) = partners_of_edge mesh table k 0 1 side h.on.table_of
+    h.on.in_table (omega arith) (omega arith) in
     elim (next_of_two (length sides) i h.place (at_most_two mesh table k side h.on) long) [
       | inl first ↦
           (let here : get_or sides 0 side ≡ side = ap (λ j. get_or sides j side) (sym first.0) ∙ h.here in
@@ -130,7 +149,8 @@ other_of_two mesh table k i side next h long =
     ]
 
 -- where the next one is the side itself, nothing is across
-pub alone : (mesh : FaceList) (table : List Edge) (side : Side) (dart next : ℕ) → IsTableOf mesh table → EachEdgeHasAtMostTwoSides mesh → IsSide mesh side
+pub alone : (mesh : FaceList) (table : List Edge) (side : Side) (dart next : ℕ) → IsTableOf mesh table → EachEdgeHasAtMostTwoSides mesh
+    → IsSide mesh side
     → dart ≡ side_number mesh side → IsNextInEdge mesh table dart next → next ≡ dart → IsAcross mesh side None
 alone mesh table side dart next is two in_mesh number h same =
     let b : IsBeside mesh table h.edge h.place side next = beside mesh table side dart next is two in_mesh number h in
@@ -145,7 +165,8 @@ one_next : (m i : ℕ) → i < m → m < 2 → next_corner true m i ≡ i
 one_next m i few one = grind (arith, nat_tests)
 
 -- where it is another, that one is across
-pub has_other : (mesh : FaceList) (table : List Edge) (side : Side) (dart next : ℕ) → IsTableOf mesh table → EachEdgeHasAtMostTwoSides mesh → IsSide mesh side
+pub has_other : (mesh : FaceList) (table : List Edge) (side : Side) (dart next : ℕ) → IsTableOf mesh table
+    → EachEdgeHasAtMostTwoSides mesh → IsSide mesh side
     → dart ≡ side_number mesh side → IsNextInEdge mesh table dart next → next ≢ dart → IsOther mesh side next
 has_other mesh table side dart next is two in_mesh number h other =
     let b : IsBeside mesh table h.edge h.place side next = beside mesh table side dart next is two in_mesh number h in
@@ -153,14 +174,17 @@ has_other mesh table side dart next is two in_mesh number h other =
     elim (cases_lt (length sides) 2) [
       | inl one ↦
           (let turned : next_corner true (length sides) h.place ≡ h.place = one_next (length sides) h.place b.place one in
-          absurd (other (sym b.there ∙ ap (λ j. side_number mesh (get_or sides j side)) turned ∙ ap (side_number mesh) b.here ∙ sym number)))
+          absurd (other (sym b.there ∙ ap (λ j. side_number mesh (get_or sides j side)) turned ∙ ap (side_number mesh) b.here ∙ sym
+          number)))
       | inr more ↦ other_of_two mesh table h.edge h.place side next b more
     ]
 
 pub other_below : (mesh : FaceList) (side : Side) (next : ℕ) → IsOther mesh side next → next < total_sides mesh
-other_below mesh side next o = omega (arith, o.number, side_below mesh o.other.face.0 o.other.at o.partners.second.face o.partners.second.place)
+other_below mesh side next o =
+    omega (arith, o.number, side_below mesh o.other.face.0 o.other.at o.partners.second.face o.partners.second.place)
 
-pub other_across : (mesh : FaceList) (side : Side) (next : ℕ) (result : Side) → EachEdgeHasAtMostTwoSides mesh → IsOther mesh side next → IsSide mesh result → side_number mesh result ≡ next
+pub other_across : (mesh : FaceList) (side : Side) (next : ℕ) (result : Side) → EachEdgeHasAtMostTwoSides mesh → IsOther mesh side next
+    → IsSide mesh result → side_number mesh result ≡ next
     → IsAcross mesh side (Some result)
 other_across mesh side next result two o is number =
     let same : o.other ≡ result = one_number mesh o.other result o.partners.second is (o.number ∙ sym number) in

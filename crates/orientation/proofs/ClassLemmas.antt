@@ -10,9 +10,11 @@ use Rattle.orientation.proofs.Partners.{partners_swap}
 use Rattle.orientation.proofs.Fitting.{fit_if_opposite}
 
 pub step_back : (mesh : FaceList) (f g : ℕ) → IsFaceStep mesh f g → IsFaceStep mesh g f
-step_back mesh f g h = record { side = h.partner; partner = h.side; partners = partners_swap mesh h.side h.partner h.partners; from = h.to; to = h.from }
+step_back mesh f g h =
+    record { side = h.partner; partner = h.side; partners = partners_swap mesh h.side h.partner h.partners; from = h.to; to = h.from }
 
-pub path-append : {A : Type 0} (step : A → A → Type 0) (x y z : A) (path more : List A) → IsPath step x path y → IsPath step y more z → IsPath step x (path ++ more) z
+pub path-append : {A : Type 0} (step : A → A → Type 0) (x y z : A) (path more : List A) → IsPath step x path y → IsPath step y more z
+    → IsPath step x (path ++ more) z
 path-append step x y z [] more h k = subst (λ w. IsPath step w more z) (sym h) k
 path-append step x y z (w ∷ path) more h k = (h.0, path-append step w y z path more h.1 k)
 
@@ -22,7 +24,8 @@ joined_more step x y z h k = (h.0 ++ k.0, path-append step x y z h.0 k.0 h.1 k.1
 pub joined_step : {A : Type 0} (step : A → A → Type 0) (x y : A) → step x y → AreJoined step x y
 joined_step step x y h = (y ∷ [], (h, refl))
 
-pub joined_back : {A : Type 0} (step : A → A → Type 0) → ((a b : A) → step a b → step b a) → (x y : A) → AreJoined step x y → AreJoined step y x
+pub joined_back : {A : Type 0} (step : A → A → Type 0) → ((a b : A) → step a b → step b a) → (x y : A) → AreJoined step x y
+    → AreJoined step y x
 joined_back {A} step back x y h = turned x h.0 h.1
   where
     turned : (x : A) (path : List A) → IsPath step x path y → AreJoined step y x
@@ -41,13 +44,18 @@ agree_before false false true d h e = cc
 agree_on_step : (mesh : FaceList) (signs others : List Bool) (f g : ℕ) → IsFaceList mesh → IsCoherent mesh signs → IsCoherent mesh others
     → IsFaceStep mesh f g → is_flipped signs g ≡ is_flipped others g → is_flipped signs f ≡ is_flipped others f
 agree_on_step mesh signs others f g is h k step same =
-    let one : Fit mesh signs step.side step.partner = fit_if_opposite mesh signs step.side step.partner is step.partners (h.opposite step.side step.partner step.partners) in
-    let two : Fit mesh others step.side step.partner = fit_if_opposite mesh others step.side step.partner is step.partners (k.opposite step.side step.partner step.partners) in
-    let there : is_flipped signs step.partner.face.0 ≡ is_flipped others step.partner.face.0 = subst (λ n. is_flipped signs n ≡ is_flipped others n) (sym step.to) same in
+    let one : Fit mesh signs step.side step.partner = fit_if_opposite mesh signs step.side step.partner is step.partners
+    (h.opposite step.side step.partner step.partners) in
+    let two : Fit mesh others step.side step.partner = fit_if_opposite mesh others step.side step.partner is step.partners
+    (k.opposite step.side step.partner step.partners) in
+    let there : is_flipped signs step.partner.face.0 ≡ is_flipped others step.partner.face.0 = subst
+    (λ n. is_flipped signs n ≡ is_flipped others n) (sym step.to) same in
     subst (λ n. is_flipped signs n ≡ is_flipped others n) step.from
-    (agree_before (is_flipped signs step.side.face.0) (is_flipped signs step.partner.face.0) (is_flipped others step.side.face.0) (is_flipped others step.partner.face.0) (one ∙ sym two) there)
+    (agree_before (is_flipped signs step.side.face.0) (is_flipped signs step.partner.face.0) (is_flipped others step.side.face.0)
+    (is_flipped others step.partner.face.0) (one ∙ sym two) there)
 
-agree_on_path : (mesh : FaceList) (signs others : List Bool) (f g : ℕ) (path : List ℕ) → IsFaceList mesh → IsCoherent mesh signs → IsCoherent mesh others
+agree_on_path : (mesh : FaceList) (signs others : List Bool) (f g : ℕ) (path : List ℕ) → IsFaceList mesh → IsCoherent mesh signs
+    → IsCoherent mesh others
     → IsPath (IsFaceStep mesh) f path g → is_flipped signs g ≡ is_flipped others g → is_flipped signs f ≡ is_flipped others f
 agree_on_path mesh signs others f g [] is h k path same = subst (λ n. is_flipped signs n ≡ is_flipped others n) (sym path) same
 agree_on_path mesh signs others f g (w ∷ more) is h k path same =
@@ -59,7 +67,8 @@ bool_cases true false = inr (λ h. cc)
 bool_cases false true = inr (λ h. cc)
 bool_cases false false = inl refl
 
-agree_below : (mesh : FaceList) (signs others : List Bool) → IsFaceList mesh → IsCoherent mesh signs → IsCoherent mesh others → IsLeastKept mesh signs → IsLeastKept mesh others
+agree_below : (mesh : FaceList) (signs others : List Bool) → IsFaceList mesh → IsCoherent mesh signs → IsCoherent mesh others
+    → IsLeastKept mesh signs → IsLeastKept mesh others
     → (n f : ℕ) → f < n → f < length mesh.faces → is_flipped signs f ≡ is_flipped others f
 agree_below mesh signs others is h k keep keeps zero f below few = absurd (omega arith)
 agree_below mesh signs others is h k keep keeps (suc n) f below few =
@@ -67,13 +76,16 @@ agree_below mesh signs others is h k keep keeps (suc n) f below few =
       | inl same ↦ same
       | inr other ↦
           (let least : IsLeastOfClass mesh f = λ g joined. elim (cases_lt g f) [
-            | inl less ↦ absurd (other (agree_on_path mesh signs others f g joined.0 is h k joined.1 (agree_below mesh signs others is h k keep keeps n g (omega arith) (omega arith))))
+            | inl less ↦ absurd (other
+                (agree_on_path mesh signs others f g joined.0 is h k joined.1
+                (agree_below mesh signs others is h k keep keeps n g (omega arith) (omega arith))))
             | inr more ↦ more
           ] in
           keep f few least ∙ sym (keeps f few least))
     ]
 
-pub signs_unique : (mesh : FaceList) (signs others : List Bool) → IsFaceList mesh → IsCoherent mesh signs → IsCoherent mesh others → IsLeastKept mesh signs → IsLeastKept mesh others → signs ≡ others
+pub signs_unique : (mesh : FaceList) (signs others : List Bool) → IsFaceList mesh → IsCoherent mesh signs → IsCoherent mesh others
+    → IsLeastKept mesh signs → IsLeastKept mesh others → signs ≡ others
 signs_unique mesh signs others is h k keep keeps =
     ext_get_or false signs others (h.each_face ∙ sym k.each_face)
     (λ f few. agree_below mesh signs others is h k keep keeps (f + 1) f (omega arith) (omega (arith, few, h.each_face)))

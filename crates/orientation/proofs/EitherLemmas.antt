@@ -44,7 +44,8 @@ band-append mesh a b f g h x y = record {
 min_or_max : (t h : ℕ) → ((t ≡ min t h) × (h ≡ max t h)) ⊎ ((t ≡ max t h) × (h ≡ min t h))
 min_or_max t h = elim (cases_lt t h) [ inl less ↦ inl (omega arith, omega arith) | inr more ↦ inr (omega arith, omega arith) ]
 
-along_itself : (mesh : FaceList) (side : Side) → tail_of mesh side ≢ head_of mesh side → IsAlong mesh side (min (tail_of mesh side) (head_of mesh side)) (max (tail_of mesh side) (head_of mesh side))
+along_itself : (mesh : FaceList) (side : Side) → tail_of mesh side ≢ head_of mesh side
+    → IsAlong mesh side (min (tail_of mesh side) (head_of mesh side)) (max (tail_of mesh side) (head_of mesh side))
 along_itself mesh side apart = record { ordered = omega arith; ends = min_or_max (tail_of mesh side) (head_of mesh side) }
 
 twice : (b : Bool) → (bit b + bit b) % 2 ≡ 0
@@ -73,7 +74,8 @@ record AreBanded (mesh : FaceList) (odd : Bool) (f g : ℕ) : Type 0 where
   to : HasBand mesh odd f g
   back : HasBand mesh odd g f
 
-step_both : (mesh : FaceList) (f g : ℕ) → IsFaceList mesh → EachEdgeHasAtMostTwoSides mesh → IsFaceStep mesh f g → (odd : Bool) × AreBanded mesh odd f g
+step_both : (mesh : FaceList) (f g : ℕ) → IsFaceList mesh → EachEdgeHasAtMostTwoSides mesh → IsFaceStep mesh f g
+    → (odd : Bool) × AreBanded mesh odd f g
 step_both mesh f g is two step =
     let alike : Bool = runs_alike mesh step.side step.partner in
     let to : HasBand mesh alike step.side.face.0 step.partner.face.0 = step_band mesh step.side step.partner is two step.partners in
@@ -87,8 +89,10 @@ step_both mesh f g is two step =
       },
     )
 
-path_both : (mesh : FaceList) (f g : ℕ) (path : List ℕ) → IsFaceList mesh → EachEdgeHasAtMostTwoSides mesh → IsPath (IsFaceStep mesh) f path g → (odd : Bool) × AreBanded mesh odd f g
-path_both mesh f g [] is two path = subst (λ n. (odd : Bool) × AreBanded mesh odd f n) path (false, record { to = no_band mesh f; back = no_band mesh f })
+path_both : (mesh : FaceList) (f g : ℕ) (path : List ℕ) → IsFaceList mesh → EachEdgeHasAtMostTwoSides mesh
+    → IsPath (IsFaceStep mesh) f path g → (odd : Bool) × AreBanded mesh odd f g
+path_both mesh f g [] is two path =
+    subst (λ n. (odd : Bool) × AreBanded mesh odd f n) path (false, record { to = no_band mesh f; back = no_band mesh f })
 path_both mesh f g (h ∷ more) is two path =
     let first = step_both mesh f h is two path.0 in
     let rest = path_both mesh h g more is two path.1 in (
@@ -108,7 +112,8 @@ odd_band mesh f h = (h.links, ring h.links h.starts h.leads h.parity)
     odd_number : (n : ℕ) → (n + 1) % 2 ≡ 0 → n % 2 ≡ 1
     odd_number n h = omega arith
 
-    ring : (links : List ChainLink) → first_face links f ≡ f → LeadOnTo mesh links f → (count_by (is_turned mesh) links + 1) % 2 ≡ 0 → IsOddChain mesh links
+    ring : (links : List ChainLink) → first_face links f ≡ f → LeadOnTo mesh links f → (count_by (is_turned mesh) links + 1) % 2 ≡ 0
+        → IsOddChain mesh links
     ring [] starts leads parity = cc
     ring (link ∷ links) starts leads parity = record {
       some_link = omega arith;
@@ -124,7 +129,9 @@ record HasSign (mesh : FaceList) (f : ℕ) (sign : Bool) : Type 0 where
   bands : AreBanded mesh sign f root
 
 -- no face is without one
-signed_face : (mesh : FaceList) (n f : ℕ) → IsFaceList mesh → EachEdgeHasAtMostTwoSides mesh → f < n → ((sign : Bool) → HasSign mesh f sign → ⊥) → ⊥
+signed_face : (mesh : FaceList) (n f : ℕ) → IsFaceList mesh → EachEdgeHasAtMostTwoSides mesh → f < n →
+    ((sign : Bool) → HasSign mesh f sign → ⊥)
+    → ⊥
 signed_face mesh zero f is two below none = omega arith
 signed_face mesh (suc n) f is two below none =
     let least : IsLeastOfClass mesh f = λ g joined. elim (cases_lt g f) [
@@ -138,7 +145,8 @@ signed_face mesh (suc n) f is two below none =
             joined = joined_more (IsFaceStep mesh) f g h.root joined h.joined;
             bands = record {
               to = band-append mesh bands.0 sign f g h.root bands.1.to h.bands.to;
-              back = subst (λ b. HasBand mesh b h.root f) (differ_swap sign bands.0) (band-append mesh sign bands.0 h.root g f h.bands.back bands.1.back);
+              back = subst (λ b. HasBand mesh b h.root f) (differ_swap sign bands.0)
+                  (band-append mesh sign bands.0 h.root g f h.bands.back bands.1.back);
             };
           })))
       | inr more ↦ more
@@ -150,7 +158,9 @@ record AreSigns (mesh : FaceList) (n : ℕ) (signs : List Bool) : Type 0 where
   long : length signs ≡ n
   each : (f : ℕ) → f < n → HasSign mesh f (is_flipped signs f)
 
-some_signs : (mesh : FaceList) (n : ℕ) → IsFaceList mesh → EachEdgeHasAtMostTwoSides mesh → ((signs : List Bool) → AreSigns mesh n signs → ⊥) → ⊥
+some_signs : (mesh : FaceList) (n : ℕ) → IsFaceList mesh → EachEdgeHasAtMostTwoSides mesh →
+    ((signs : List Bool) → AreSigns mesh n signs → ⊥)
+    → ⊥
 some_signs mesh zero is two none = none [] (record { long = refl; each = λ f less. absurd (omega arith) })
 some_signs mesh (suc n) is two none =
     some_signs mesh n is two
@@ -176,32 +186,40 @@ same_or_odd false true = inr refl
 same_or_odd false false = inl refl
 
 -- without an odd chain such signs fit
-signs_fit : (mesh : FaceList) (signs : List Bool) (side other : Side) → IsFaceList mesh → EachEdgeHasAtMostTwoSides mesh → AreSigns mesh (length mesh.faces) signs
+signs_fit : (mesh : FaceList) (signs : List Bool) (side other : Side) → IsFaceList mesh → EachEdgeHasAtMostTwoSides mesh
+    → AreSigns mesh (length mesh.faces) signs
     → ((chain : List ChainLink) → IsOddChain mesh chain → ⊥) → ArePartners mesh side other → Fit mesh signs side other
 signs_fit mesh signs side other is two h none partners =
     let f : ℕ = side.face.0 in
     let g : ℕ = other.face.0 in
     let a : HasSign mesh f (is_flipped signs f) = h.each f partners.first.face in
     let b : HasSign mesh g (is_flipped signs g) = h.each g partners.second.face in
-    let step : AreOfOneClass mesh f g = joined_step (IsFaceStep mesh) f g (record { side = side; partner = other; partners = partners; from = refl; to = refl }) in
+    let step : AreOfOneClass mesh f g = joined_step (IsFaceStep mesh) f g
+    (record { side = side; partner = other; partners = partners; from = refl; to = refl }) in
     let back : (x y : ℕ) → AreOfOneClass mesh x y → AreOfOneClass mesh y x = joined_back (IsFaceStep mesh) (step_back mesh) in
-    let roots : AreOfOneClass mesh a.root b.root = joined_more (IsFaceStep mesh) a.root f b.root (back f a.root a.joined) (joined_more (IsFaceStep mesh) f g b.root step b.joined) in
+    let roots : AreOfOneClass mesh a.root b.root = joined_more (IsFaceStep mesh) a.root f b.root (back f a.root a.joined)
+    (joined_more (IsFaceStep mesh) f g b.root step b.joined) in
     let below : a.root ≤ b.root = a.least b.root roots in
     let above : b.root ≤ a.root = b.least a.root (back a.root b.root roots) in
     let one : b.root ≡ a.root = omega arith in
     let alike : Bool = runs_alike mesh side other in
     -- from the face to the least one, to the other face, and back across the edge
     let way : HasBand mesh (differ (is_flipped signs f) (is_flipped signs g)) f g =
-    band-append mesh (is_flipped signs f) (is_flipped signs g) f a.root g a.bands.to (subst (λ n. HasBand mesh (is_flipped signs g) n g) one b.bands.back) in
+    band-append mesh (is_flipped signs f) (is_flipped signs g) f a.root g a.bands.to
+    (subst (λ n. HasBand mesh (is_flipped signs g) n g) one b.bands.back) in
     let edge : HasBand mesh alike g f =
-    subst (λ x. HasBand mesh x g f) (eqb_swap (tail_of mesh other) (tail_of mesh side)) (step_band mesh other side is two (partners_swap mesh side other partners)) in
-    let ring : HasBand mesh (differ (differ (is_flipped signs f) (is_flipped signs g)) alike) f f = band-append mesh (differ (is_flipped signs f) (is_flipped signs g)) alike f g f way edge in
+    subst (λ x. HasBand mesh x g f) (eqb_swap (tail_of mesh other) (tail_of mesh side))
+    (step_band mesh other side is two (partners_swap mesh side other partners)) in
+    let ring : HasBand mesh (differ (differ (is_flipped signs f) (is_flipped signs g)) alike) f f = band-append mesh
+    (differ (is_flipped signs f) (is_flipped signs g)) alike f g f way edge in
     elim (same_or_odd (differ (is_flipped signs f) (is_flipped signs g)) alike) [
       | inl same ↦ same
       | inr odd ↦ (let chain = odd_band mesh f (subst (λ x. HasBand mesh x f f) odd ring) in absurd (none chain.0 chain.1))
     ]
 
-signs_kept : (mesh : FaceList) (signs : List Bool) → AreSigns mesh (length mesh.faces) signs → ((chain : List ChainLink) → IsOddChain mesh chain → ⊥) → IsLeastKept mesh signs
+signs_kept : (mesh : FaceList) (signs : List Bool) → AreSigns mesh (length mesh.faces) signs →
+    ((chain : List ChainLink) → IsOddChain mesh chain → ⊥)
+    → IsLeastKept mesh signs
 signs_kept mesh signs h none f few least =
     let a : HasSign mesh f (is_flipped signs f) = h.each f few in
     let below : f ≤ a.root = least a.root a.joined in
@@ -213,11 +231,16 @@ signs_kept mesh signs h none f few least =
       | inr kept ↦ kept
     ]
 
-pub signs_or_chain : (mesh : FaceList) → IsFaceList mesh → EachEdgeHasAtMostTwoSides mesh → ((signs : List Bool) → IsCoherent mesh signs → IsLeastKept mesh signs → ⊥)
+pub signs_or_chain : (mesh : FaceList) → IsFaceList mesh → EachEdgeHasAtMostTwoSides mesh →
+    ((signs : List Bool) → IsCoherent mesh signs → IsLeastKept mesh signs → ⊥)
     → ((chain : List ChainLink) → IsOddChain mesh chain → ⊥) → ⊥
 signs_or_chain mesh is two no_signs no_chain =
     some_signs mesh (length mesh.faces) is two
     (λ signs h.
     no_signs signs
-    (record { each_face = h.long; opposite = λ side other partners. opposite_if_fit mesh signs side other is partners (signs_fit mesh signs side other is two h no_chain partners) })
+    (record {
+      each_face = h.long;
+      opposite = λ side other partners. opposite_if_fit mesh signs side other is partners
+          (signs_fit mesh signs side other is two h no_chain partners);
+    })
     (signs_kept mesh signs h no_chain))

@@ -29,14 +29,18 @@ fit_to t h u k true false e n o = grind (arith, nat_tests)
 fit_to t h u k false true e n o = grind (arith, nat_tests)
 fit_to t h u k false false e n o = grind (arith, nat_tests)
 
-pub fit_if_opposite : (mesh : FaceList) (signs : List Bool) (side other : Side) → IsFaceList mesh → ArePartners mesh side other → RunOppositely mesh signs side other → Fit mesh signs side other
+pub fit_if_opposite : (mesh : FaceList) (signs : List Bool) (side other : Side) → IsFaceList mesh → ArePartners mesh side other
+    → RunOppositely mesh signs side other → Fit mesh signs side other
 fit_if_opposite mesh signs side other is h run =
-    fit_from (tail_of mesh side) (head_of mesh side) (tail_of mesh other) (head_of mesh other) (is_flipped signs side.face.0) (is_flipped signs other.face.0)
+    fit_from (tail_of mesh side) (head_of mesh side) (tail_of mesh other) (head_of mesh other) (is_flipped signs side.face.0)
+    (is_flipped signs other.face.0)
     h.one_edge (ends_differ mesh side is h.first) (run.starts, run.ends)
 
-pub opposite_if_fit : (mesh : FaceList) (signs : List Bool) (side other : Side) → IsFaceList mesh → ArePartners mesh side other → Fit mesh signs side other → RunOppositely mesh signs side other
+pub opposite_if_fit : (mesh : FaceList) (signs : List Bool) (side other : Side) → IsFaceList mesh → ArePartners mesh side other
+    → Fit mesh signs side other → RunOppositely mesh signs side other
 opposite_if_fit mesh signs side other is h fit =
-    let run = fit_to (tail_of mesh side) (head_of mesh side) (tail_of mesh other) (head_of mesh other) (is_flipped signs side.face.0) (is_flipped signs other.face.0)
+    let run = fit_to (tail_of mesh side) (head_of mesh side) (tail_of mesh other) (head_of mesh other) (is_flipped signs side.face.0)
+    (is_flipped signs other.face.0)
     h.one_edge (ends_differ mesh side is h.first) fit in
     record { starts = run.0; ends = run.1 }
 
@@ -60,7 +64,8 @@ link_leads mesh side other link few h along face = record {
   ];
 }
 
-pub link_leads_back : (mesh : FaceList) (side other : Side) (link : ChainLink) → EachEdgeHasAtMostTwoSides mesh → ArePartners mesh side other
+pub link_leads_back : (mesh : FaceList) (side other : Side) (link : ChainLink) → EachEdgeHasAtMostTwoSides mesh
+    → ArePartners mesh side other
     → IsAlong mesh side link.low.0 link.high.0 → link.face.0 ≡ other.face.0 → LeadsTo mesh link side.face.0
 link_leads_back mesh side other link few h along face = record {
   ordered = along.ordered;

@@ -24,7 +24,8 @@ partners_swap mesh side other h = record {
 }
 
 -- a list of at most two elements that has two different ones
-pub two_of : {A : Type 0} (xs : List A) (a b : A) → length xs ≤ 2 → Contains xs a → Contains xs b → a ≢ b → (xs ≡ a ∷ b ∷ []) ⊎ (xs ≡ b ∷ a ∷ [])
+pub two_of : {A : Type 0} (xs : List A) (a b : A) → length xs ≤ 2 → Contains xs a → Contains xs b → a ≢ b
+    → (xs ≡ a ∷ b ∷ []) ⊎ (xs ≡ b ∷ a ∷ [])
 two_of [] a b few (i, l, is) has_b other = absurd (omega arith)
 two_of (x ∷ []) a b few (zero, l, is) (zero, m, js) other = absurd (other (sym is ∙ js))
 two_of (x ∷ []) a b few (zero, l, is) (suc j, m, js) other = absurd (omega arith)
@@ -38,7 +39,8 @@ two_of (x ∷ y ∷ []) a b few (suc zero, l, is) (suc (suc j), m, js) other = a
 two_of (x ∷ y ∷ []) a b few (suc (suc i), l, is) has_b other = absurd (omega arith)
 two_of (x ∷ y ∷ z ∷ xs) a b few has_a has_b other = absurd (omega arith)
 
-joins_other : (u v : ℕ) (s t : FaceSide) → joins u v s ≡ true → ((s.tail ≡ t.tail) × (s.head ≡ t.head)) ⊎ ((s.tail ≡ t.head) × (s.head ≡ t.tail)) → joins u v t ≡ true
+joins_other : (u v : ℕ) (s t : FaceSide) → joins u v s ≡ true
+    → ((s.tail ≡ t.tail) × (s.head ≡ t.head)) ⊎ ((s.tail ≡ t.head) × (s.head ≡ t.tail)) → joins u v t ≡ true
 joins_other u v s t h e = grind (arith, nat_tests)
 
 pub joined_edge : (mesh : FaceList) (u v : ℕ) (s : FaceSide) → Contains (all_sides mesh) s → joins u v s ≡ true → is_edge mesh u v ≡ true
@@ -46,8 +48,10 @@ unfolding is_edge
 joined_edge mesh u v s has h = list_any-from_Any (joins u v) (all_sides mesh) (has.0, s, has.1, has.2, h)
 
 -- partners are all the sides of their edge
-pub are_all : (mesh : FaceList) (u v : ℕ) (side other : Side) → EachEdgeHasAtMostTwoSides mesh → ArePartners mesh side other → joins u v (entry_of mesh side) ≡ true
-    → (filter (joins u v) (all_sides mesh) ≡ entry_of mesh side ∷ entry_of mesh other ∷ []) ⊎ (filter (joins u v) (all_sides mesh) ≡ entry_of mesh other ∷ entry_of mesh side ∷ [])
+pub are_all : (mesh : FaceList) (u v : ℕ) (side other : Side) → EachEdgeHasAtMostTwoSides mesh → ArePartners mesh side other
+    → joins u v (entry_of mesh side) ≡ true
+    → (filter (joins u v) (all_sides mesh) ≡ entry_of mesh side ∷ entry_of mesh other ∷ []) ⊎
+    (filter (joins u v) (all_sides mesh) ≡ entry_of mesh other ∷ entry_of mesh side ∷ [])
 are_all mesh u v side other few h joined =
     let s : FaceSide = entry_of mesh side in
     let t : FaceSide = entry_of mesh other in
@@ -60,7 +64,8 @@ are_all mesh u v side other few h joined =
     (λ same. h.different (ap (λ (x : FaceSide). let name : Side = record { face = record { 0 = x.face }; at = x.at } in name) same))
 
 -- a side has one partner at most
-pub one_partner : (mesh : FaceList) (side other third : Side) → EachEdgeHasAtMostTwoSides mesh → ArePartners mesh side other → ArePartners mesh side third → third ≡ other
+pub one_partner : (mesh : FaceList) (side other third : Side) → EachEdgeHasAtMostTwoSides mesh → ArePartners mesh side other
+    → ArePartners mesh side third → third ≡ other
 one_partner mesh side other third few h k =
     let joined : joins (tail_of mesh side) (head_of mesh side) (entry_of mesh side) ≡ true = grind (arith, nat_tests) in
     let name : FaceSide → Side = λ x. record { face = record { 0 = x.face }; at = x.at } in

@@ -14,17 +14,22 @@ use Rattle.orientation.specs.declared.trees.Place.{Place}
 use Rattle.orientation.proofs.TreeLemmas.{found, fits_then, frontier_put, fitting, with_face_extends, count-with_face, extends_more, extends_itself, explored_none, explored_more, explored_up_to_kept, explored_all, frontier_done, frontier_last, planted, all_coherent, all_kept}
 
 -- what crossing an edge to a new face gives
-pub record Crossed (mesh : FaceList) (old : Growth) (waited : List FaceName) (side other : Side) (new : Growth) (waiting : List FaceName) : Type 0 where
+pub record Crossed (mesh : FaceList) (old : Growth) (waited : List FaceName) (side other : Side) (new : Growth)
+    (waiting : List FaceName) : Type 0 where
   pub search : IsSearch mesh new (side.face ∷ waiting)
   pub goes_on : GoesOn old waited new waiting
   pub fits : (is_seen new other.face.0 ≡ true) × Fit mesh new.flipped side other
 
-crossed_to : (mesh : FaceList) (old : Growth) (waiting : List FaceName) (side other : Side) (b : Bool) (p : Place) → IsSearch mesh old (side.face ∷ waiting)
-    → ArePartners mesh side other → is_seen old other.face.0 ≡ false → b ≡ not (beq (is_flipped old.flipped side.face.0) (runs_alike mesh side other))
-    → p.from ≡ side → p.depth ≡ (place_of old side.face.0).depth + 1 → Crossed mesh old waiting side other (with_face old other.face.0 b p) (waiting ++ other.face ∷ [])
+crossed_to : (mesh : FaceList) (old : Growth) (waiting : List FaceName) (side other : Side) (b : Bool) (p : Place)
+    → IsSearch mesh old (side.face ∷ waiting)
+    → ArePartners mesh side other → is_seen old other.face.0 ≡ false → b ≡ not
+    (beq (is_flipped old.flipped side.face.0) (runs_alike mesh side other))
+    → p.from ≡ side → p.depth ≡ (place_of old side.face.0).depth + 1 → Crossed mesh old waiting side other
+    (with_face old other.face.0 b p) (waiting ++ other.face ∷ [])
 crossed_to mesh old waiting side other b p h partners none is from depth =
     let seen : is_seen old side.face.0 ≡ true = h.frontier.queued 0 side.face (omega arith) in
-    let fits : differ (is_flipped old.flipped side.face.0) b ≡ runs_alike mesh side other = ap (differ (is_flipped old.flipped side.face.0)) is ∙ fitting (is_flipped old.flipped side.face.0) (runs_alike mesh side other) in
+    let fits : differ (is_flipped old.flipped side.face.0) b ≡ runs_alike mesh side other = ap
+    (differ (is_flipped old.flipped side.face.0)) is ∙ fitting (is_flipped old.flipped side.face.0) (runs_alike mesh side other) in
     record {
       search = record {
         trees = found mesh old side other b p h.trees partners seen none fits from depth;
@@ -32,29 +37,40 @@ crossed_to mesh old waiting side other b p h partners none is from depth =
       };
       goes_on = record {
         extends = with_face_extends old other.face.0 b p none;
-        count = omega (arith, count-with_face old other.face.0 b p (omega (arith, partners.second.face, h.trees.each_face)) none, length_push waiting other.face);
+        count = omega (
+          arith,
+          count-with_face old other.face.0 b p (omega (arith, partners.second.face, h.trees.each_face)) none,
+          length_push waiting other.face,
+        );
       };
       fits = fits_then mesh old side other b p h.trees partners seen none fits;
     }
 
-pub crossed : (mesh : FaceList) (old : Growth) (waited : List FaceName) (side other : Side) (b : Bool) (p : Place) (new : Growth) (waiting : List FaceName)
+pub crossed : (mesh : FaceList) (old : Growth) (waited : List FaceName) (side other : Side) (b : Bool) (p : Place) (new : Growth)
+    (waiting : List FaceName)
     → IsSearch mesh old (side.face ∷ waited) → ArePartners mesh side other → is_seen old other.face.0 ≡ false
-    → b ≡ not (beq (is_flipped old.flipped side.face.0) (runs_alike mesh side other)) → p.from ≡ side → p.depth ≡ (place_of old side.face.0).depth + 1
+    → b ≡ not (beq (is_flipped old.flipped side.face.0) (runs_alike mesh side other)) → p.from ≡ side → p.depth ≡
+    (place_of old side.face.0).depth + 1
     → new ≡ with_face old other.face.0 b p → waiting ≡ waited ++ other.face ∷ [] → Crossed mesh old waited side other new waiting
 crossed mesh old waited side other b p new waiting h partners none is from depth grown pushed =
     subst (λ g. Crossed mesh old waited side other g waiting) (sym grown)
-    (subst (Crossed mesh old waited side other (with_face old other.face.0 b p)) (sym pushed) (crossed_to mesh old waited side other b p h partners none is from depth))
+    (subst (Crossed mesh old waited side other (with_face old other.face.0 b p)) (sym pushed)
+    (crossed_to mesh old waited side other b p h partners none is from depth))
 
-pub goes_on_more : (old new newer : Growth) (waited waiting wait : List FaceName) → GoesOn old waited new waiting → GoesOn new waiting newer wait → GoesOn old waited newer wait
-goes_on_more old new newer waited waiting wait h k = record { extends = extends_more old new newer h.extends k.extends; count = omega (arith, h.count, k.count) }
+pub goes_on_more : (old new newer : Growth) (waited waiting wait : List FaceName) → GoesOn old waited new waiting
+    → GoesOn new waiting newer wait → GoesOn old waited newer wait
+goes_on_more old new newer waited waiting wait h k =
+    record { extends = extends_more old new newer h.extends k.extends; count = omega (arith, h.count, k.count) }
 
 -- a face that is being explored, as far as one of its sides
-pub record IsExploring (mesh : FaceList) (start : Growth) (waited : List FaceName) (growth : Growth) (waiting : List FaceName) (face : FaceName) (at : ℕ) : Type 0 where
+pub record IsExploring (mesh : FaceList) (start : Growth) (waited : List FaceName) (growth : Growth) (waiting : List FaceName)
+    (face : FaceName) (at : ℕ) : Type 0 where
   pub search : IsSearch mesh growth (face ∷ waiting)
   pub up_to : IsExploredUpTo mesh growth face.0 at
   pub goes_on : GoesOn start waited growth waiting
 
-pub exploring_first : (mesh : FaceList) (growth : Growth) (waiting : List FaceName) (face : FaceName) → IsSearch mesh growth (face ∷ waiting) → IsExploring mesh growth waiting growth waiting face 0
+pub exploring_first : (mesh : FaceList) (growth : Growth) (waiting : List FaceName) (face : FaceName)
+    → IsSearch mesh growth (face ∷ waiting) → IsExploring mesh growth waiting growth waiting face 0
 exploring_first mesh growth waiting face h = record {
   search = h;
   up_to = explored_none mesh growth face.0;
@@ -72,9 +88,11 @@ exploring_past mesh start waited growth waiting side h none = record {
 }
 
 -- a side across which the search went
-pub exploring_across : (mesh : FaceList) (start : Growth) (waited : List FaceName) (growth : Growth) (waiting : List FaceName) (side other : Side) (new : Growth) (more : List FaceName)
+pub exploring_across : (mesh : FaceList) (start : Growth) (waited : List FaceName) (growth : Growth) (waiting : List FaceName)
+    (side other : Side) (new : Growth) (more : List FaceName)
     → IsExploring mesh start waited growth waiting side.face side.at → ((partner : Side) → ArePartners mesh side partner → partner ≡ other)
-    → IsSearch mesh new (side.face ∷ more) → GoesOn growth waiting new more → (is_seen new other.face.0 ≡ true) × Fit mesh new.flipped side other
+    → IsSearch mesh new (side.face ∷ more) → GoesOn growth waiting new more → (is_seen new other.face.0 ≡ true) × Fit mesh new.flipped
+    side other
     → IsExploring mesh start waited new more side.face (side.at + 1)
 exploring_across mesh start waited growth waiting side other new more h only search on fits = record {
   search = search;
@@ -85,7 +103,8 @@ exploring_across mesh start waited growth waiting side other new more h only sea
   goes_on = goes_on_more start growth new waited waiting more h.goes_on on;
 }
 
-pub exploring_last : (mesh : FaceList) (start : Growth) (waited : List FaceName) (growth : Growth) (waiting : List FaceName) (face : FaceName) (at : ℕ)
+pub exploring_last : (mesh : FaceList) (start : Growth) (waited : List FaceName) (growth : Growth) (waiting : List FaceName)
+    (face : FaceName) (at : ℕ)
     → IsExploring mesh start waited growth waiting face at → length (face_at mesh face.0) ≤ at → IsSearch mesh growth waiting
 exploring_last mesh start waited growth waiting face at h long = record {
   trees = h.search.trees;
@@ -106,8 +125,10 @@ pub record IsGrowing (mesh : FaceList) (start : Growth) (root : ℕ) (growth : G
   pub extends : Extends start growth
   pub seen : is_seen growth root ≡ true
 
-pub growing_first : (mesh : FaceList) (start : Growth) (root : FaceName) (p : Place) (new : Growth) (waiting : List FaceName) → IsSearch mesh start [] → root.0 < length mesh.faces
-    → is_seen start root.0 ≡ false → ((g : ℕ) → g < root.0 → is_seen start g ≡ true) → p.depth ≡ 0 → new ≡ with_face start root.0 false p → waiting ≡ root ∷ []
+pub growing_first : (mesh : FaceList) (start : Growth) (root : FaceName) (p : Place) (new : Growth) (waiting : List FaceName)
+    → IsSearch mesh start [] → root.0 < length mesh.faces
+    → is_seen start root.0 ≡ false → ((g : ℕ) → g < root.0 → is_seen start g ≡ true) → p.depth ≡ 0 → new ≡ with_face start root.0 false
+    p → waiting ≡ root ∷ []
     → IsGrowing mesh start root.0 new waiting
 growing_first mesh start root p new waiting h few none before depth grown pushed =
     let here : IsGrowing mesh start root.0 (with_face start root.0 false p) (root ∷ []) = record {
@@ -118,7 +139,8 @@ growing_first mesh start root p new waiting h few none before depth grown pushed
       extends = with_face_extends start root.0 false p none;
       seen = get_or-set_same start.seen root.0 true false (omega (arith, few, h.trees.each_face));
     } in
-    subst (λ g. IsGrowing mesh start root.0 g waiting) (sym grown) (subst (IsGrowing mesh start root.0 (with_face start root.0 false p)) (sym pushed) here)
+    subst (λ g. IsGrowing mesh start root.0 g waiting) (sym grown)
+    (subst (IsGrowing mesh start root.0 (with_face start root.0 false p)) (sym pushed) here)
 
 -- whichever face is taken, it may be taken as the first
 pub taken : (mesh : FaceList) (growth : Growth) (face : FaceName) (rest waiting : List FaceName) → IsSearch mesh growth waiting
@@ -126,10 +148,15 @@ pub taken : (mesh : FaceList) (growth : Growth) (face : FaceName) (rest waiting 
 taken mesh growth face rest waiting h which =
     elim which [
       | inl first ↦ subst (IsSearch mesh growth) first h
-      | inr last ↦ record { trees = h.trees; frontier = frontier_last mesh growth face rest (subst (IsFrontier mesh growth) last h.frontier) }
+      | inr last ↦ record {
+        trees = h.trees;
+        frontier = frontier_last mesh growth face rest
+            (subst (IsFrontier mesh growth) last h.frontier);
+      }
     ]
 
-pub length-taken : (face : FaceName) (rest waiting : List FaceName) → (waiting ≡ face ∷ rest) ⊎ (waiting ≡ rest ++ face ∷ []) → length waiting ≡ length rest + 1
+pub length-taken : (face : FaceName) (rest waiting : List FaceName) → (waiting ≡ face ∷ rest) ⊎ (waiting ≡ rest ++ face ∷ [])
+    → length waiting ≡ length rest + 1
 length-taken face rest waiting which =
     elim which [
       | inl first ↦ omega (arith, ap (λ (xs : List FaceName). length xs) first)
@@ -139,7 +166,8 @@ length-taken face rest waiting which =
 pub seen_later : (old new : Growth) (f : ℕ) → Extends old new → is_seen old f ≡ true → is_seen new f ≡ true
 seen_later old new f h seen = (h.kept f seen).seen
 
-pub growing_more : (mesh : FaceList) (start : Growth) (root : ℕ) (growth : Growth) (waiting : List FaceName) (new : Growth) (more : List FaceName)
+pub growing_more : (mesh : FaceList) (start : Growth) (root : ℕ) (growth : Growth) (waiting : List FaceName) (new : Growth)
+    (more : List FaceName)
     → IsGrowing mesh start root growth waiting → Extends growth new → IsSearch mesh new more → IsGrowing mesh start root new more
 growing_more mesh start root growth waiting new more h on search = record {
   search = search;
@@ -160,10 +188,12 @@ none_seen n f =
       | inr more ↦ get_or_past (replicate n false) f false (omega (arith, more, length-replicate n false))
     ]
 
-pub through_none : (mesh : FaceList) (n : ℕ) (growth : Growth) (waiting : List FaceName) → IsFaceList mesh → n ≡ length mesh.faces → growth ≡ unseen n → waiting ≡ []
+pub through_none : (mesh : FaceList) (n : ℕ) (growth : Growth) (waiting : List FaceName) → IsFaceList mesh → n ≡ length mesh.faces
+    → growth ≡ unseen n → waiting ≡ []
     → IsThrough mesh growth waiting 0
 through_none mesh n growth waiting is size fresh empty =
-    let none : (f : ℕ) → is_seen growth f ≡ true → ⊥ = λ f seen. both_ways (is_seen growth f) (ap (λ g. is_seen g f) fresh ∙ none_seen n f) seen in
+    let none : (f : ℕ) → is_seen growth f ≡ true → ⊥ = λ f seen. both_ways (is_seen growth f)
+    (ap (λ g. is_seen g f) fresh ∙ none_seen n f) seen in
     record {
       search = record {
         trees = record {
@@ -180,7 +210,8 @@ through_none mesh n growth waiting is size fresh empty =
       before = λ f less. absurd (omega arith);
     }
 
-pub through_grown : (mesh : FaceList) (growth : Growth) (waiting : List FaceName) (face : ℕ) (new : Growth) (more : List FaceName) → IsThrough mesh growth waiting face
+pub through_grown : (mesh : FaceList) (growth : Growth) (waiting : List FaceName) (face : ℕ) (new : Growth) (more : List FaceName)
+    → IsThrough mesh growth waiting face
     → Extends growth new → is_seen new face ≡ true → IsSearch mesh new [] → more ≡ [] → IsThrough mesh new more (face + 1)
 through_grown mesh growth waiting face new more h on seen search empty = record {
   search = search;
@@ -188,7 +219,8 @@ through_grown mesh growth waiting face new more h on seen search empty = record 
   before = below_more (λ f. is_seen new f ≡ true) face (λ f less. seen_later growth new f on (h.before f less)) seen;
 }
 
-pub through_seen : (mesh : FaceList) (growth : Growth) (waiting : List FaceName) (face : ℕ) → IsThrough mesh growth waiting face → is_seen growth face ≡ true
+pub through_seen : (mesh : FaceList) (growth : Growth) (waiting : List FaceName) (face : ℕ) → IsThrough mesh growth waiting face
+    → is_seen growth face ≡ true
     → IsThrough mesh growth waiting (face + 1)
 through_seen mesh growth waiting face h seen = record {
   search = h.search;
@@ -196,7 +228,8 @@ through_seen mesh growth waiting face h seen = record {
   before = below_more (λ f. is_seen growth f ≡ true) face h.before seen;
 }
 
-pub through_all : (mesh : FaceList) (growth : Growth) (waiting : List FaceName) (face : ℕ) → IsThrough mesh growth waiting face → length mesh.faces ≤ face
+pub through_all : (mesh : FaceList) (growth : Growth) (waiting : List FaceName) (face : ℕ) → IsThrough mesh growth waiting face
+    → length mesh.faces ≤ face
     → IsCoherent mesh growth.flipped × IsLeastKept mesh growth.flipped
 through_all mesh growth waiting face h long =
     let all : (f : ℕ) → f < length mesh.faces → is_seen growth f ≡ true = λ f less. h.before f (omega arith) in

@@ -33,7 +33,8 @@ extends_more old new newer h k = record {
 seen_differs : (growth : Growth) (f g : ℕ) → is_seen growth f ≡ true → is_seen growth g ≡ false → f ≢ g
 seen_differs growth f g h k same = both_ways (is_seen growth g) k (ap (is_seen growth) (sym same) ∙ h)
 
-pub with_face_extends : (growth : Growth) (g : ℕ) (b : Bool) (p : Place) → is_seen growth g ≡ false → Extends growth (with_face growth g b p)
+pub with_face_extends : (growth : Growth) (g : ℕ) (b : Bool) (p : Place) → is_seen growth g ≡ false
+    → Extends growth (with_face growth g b p)
 with_face_extends growth g b p none = record {
   kept = λ f seen.
       let other : f ≢ g = seen_differs growth f g seen none in
@@ -45,7 +46,8 @@ with_face_extends growth g b p none = record {
 }
 
 -- a face that is seen then was seen before, or is the new one
-pub seen_before : (growth : Growth) (g f : ℕ) (b : Bool) (p : Place) → is_seen (with_face growth g b p) f ≡ true → (f ≡ g) ⊎ (is_seen growth f ≡ true)
+pub seen_before : (growth : Growth) (g f : ℕ) (b : Bool) (p : Place) → is_seen (with_face growth g b p) f ≡ true
+    → (f ≡ g) ⊎ (is_seen growth f ≡ true)
 seen_before growth g f b p seen =
     elim (cases_Nat f g) [
       | inl same ↦ inl same
@@ -71,13 +73,15 @@ first_kept mesh old new f more seen h =
     let same : IsKept old new f = more.kept f seen in
     record { depth = ap (λ (p : Place). p.depth) same.place ∙ h.depth; kept = same.sign ∙ h.kept; least = h.least }
 
-fit_kept : (mesh : FaceList) (old new : Growth) (side other : Side) → Extends old new → is_seen old side.face.0 ≡ true → is_seen old other.face.0 ≡ true
+fit_kept : (mesh : FaceList) (old new : Growth) (side other : Side) → Extends old new → is_seen old side.face.0 ≡ true
+    → is_seen old other.face.0 ≡ true
     → Fit mesh old.flipped side other → Fit mesh new.flipped side other
 fit_kept mesh old new side other more seen too fit =
     ap (λ b. differ b (is_flipped new.flipped other.face.0)) (more.kept side.face.0 seen).sign
     ∙ ap (differ (is_flipped old.flipped side.face.0)) (more.kept other.face.0 too).sign ∙ fit
 
-found_kept : (mesh : FaceList) (old new : Growth) (f : ℕ) → Extends old new → is_seen old f ≡ true → IsFoundFrom mesh old f (place_of old f).from
+found_kept : (mesh : FaceList) (old new : Growth) (f : ℕ) → Extends old new → is_seen old f ≡ true
+    → IsFoundFrom mesh old f (place_of old f).from
     → IsFoundFrom mesh new f (place_of new f).from
 found_kept mesh old new f more seen h =
     let same : IsKept old new f = more.kept f seen in
@@ -91,23 +95,34 @@ found_kept mesh old new f more seen h =
       fit = fit_kept mesh old new (place_of old f).from h.side more h.seen (subst (λ n. is_seen old n ≡ true) (sym h.here) seen) h.fit;
     })
 
-pub explored_kept : (mesh : FaceList) (old new : Growth) (f : ℕ) → Extends old new → is_seen old f ≡ true → IsExplored mesh old f → IsExplored mesh new f
+pub explored_kept : (mesh : FaceList) (old new : Growth) (f : ℕ) → Extends old new → is_seen old f ≡ true → IsExplored mesh old f
+    → IsExplored mesh new f
 explored_kept mesh old new f more seen h side other partners here =
-    let was = h side other partners here in
-    ((more.kept other.face.0 was.0).seen, fit_kept mesh old new side other more (subst (λ n. is_seen old n ≡ true) (sym here) seen) was.0 was.1)
+    let was = h side other partners here in (
+      (more.kept other.face.0 was.0).seen,
+      fit_kept mesh old new side other more (subst (λ n. is_seen old n ≡ true) (sym here) seen)
+          was.0 was.1,
+    )
 
-pub explored_up_to_kept : (mesh : FaceList) (old new : Growth) (f at : ℕ) → Extends old new → is_seen old f ≡ true → IsExploredUpTo mesh old f at → IsExploredUpTo mesh new f at
+pub explored_up_to_kept : (mesh : FaceList) (old new : Growth) (f at : ℕ) → Extends old new → is_seen old f ≡ true
+    → IsExploredUpTo mesh old f at → IsExploredUpTo mesh new f at
 explored_up_to_kept mesh old new f at more seen h side other partners here below =
-    let was = h side other partners here below in
-    ((more.kept other.face.0 was.0).seen, fit_kept mesh old new side other more (subst (λ n. is_seen old n ≡ true) (sym here) seen) was.0 was.1)
+    let was = h side other partners here below in (
+      (more.kept other.face.0 was.0).seen,
+      fit_kept mesh old new side other more (subst (λ n. is_seen old n ≡ true) (sym here) seen)
+          was.0 was.1,
+    )
 
 -- one more face, which is either a first one or found from another
-put_kept : (mesh : FaceList) (growth : Growth) (g : ℕ) (b : Bool) (p : Place) → AreTrees mesh growth → g < length mesh.faces → is_seen growth g ≡ false
-    → IsFirst mesh (with_face growth g b p) g ⊎ IsFoundFrom mesh (with_face growth g b p) g p.from → p.depth + count_unseen growth ≤ length mesh.faces
+put_kept : (mesh : FaceList) (growth : Growth) (g : ℕ) (b : Bool) (p : Place) → AreTrees mesh growth → g < length mesh.faces
+    → is_seen growth g ≡ false
+    → IsFirst mesh (with_face growth g b p) g ⊎ IsFoundFrom mesh (with_face growth g b p) g p.from → p.depth + count_unseen growth ≤
+    length mesh.faces
     → AreTrees mesh (with_face growth g b p)
 put_kept mesh growth g b p h few none new shallow =
     let more : Extends growth (with_face growth g b p) = with_face_extends growth g b p none in
-    let count : count_unseen (with_face growth g b p) + 1 ≡ count_unseen growth = count-with_face growth g b p (omega (arith, few, h.each_face)) none in
+    let count : count_unseen (with_face growth g b p) + 1 ≡ count_unseen growth = count-with_face growth g b p
+    (omega (arith, few, h.each_face)) none in
     let place : place_of (with_face growth g b p) g ≡ p = get_or-set_same growth.places g p _ (omega (arith, few, h.places)) in
     record {
       mesh_is = h.mesh_is;
@@ -116,9 +131,15 @@ put_kept mesh growth g b p h few none new shallow =
       places = length-set growth.places g p ∙ h.places;
       placed = λ f seen. elim (seen_before growth g f b p seen) [
         | inl same ↦
-            (let at_g : IsFirst mesh (with_face growth g b p) g ⊎ IsFoundFrom mesh (with_face growth g b p) g (place_of (with_face growth g b p) g).from =
-            elim new [ inl first ↦ inl first | inr found ↦ inr (subst (λ (q : Place). IsFoundFrom mesh (with_face growth g b p) g q.from) (sym place) found) ] in
-            subst (λ n. IsFirst mesh (with_face growth g b p) n ⊎ IsFoundFrom mesh (with_face growth g b p) n (place_of (with_face growth g b p) n).from) (sym same) at_g)
+            (let at_g : IsFirst mesh (with_face growth g b p) g ⊎ IsFoundFrom mesh (with_face growth g b p) g
+            (place_of (with_face growth g b p) g).from =
+            elim new [
+              | inl first ↦ inl first
+              | inr found ↦ inr
+                  (subst (λ (q : Place). IsFoundFrom mesh (with_face growth g b p) g q.from) (sym place) found)
+            ] in
+            subst (λ n. IsFirst mesh (with_face growth g b p) n ⊎ IsFoundFrom mesh (with_face growth g b p) n
+            (place_of (with_face growth g b p) n).from) (sym same) at_g)
         | inr before ↦ elim (h.placed f before) [
           | inl first ↦ inl (first_kept mesh growth (with_face growth g b p) f more before first)
           | inr found ↦ inr (found_kept mesh growth (with_face growth g b p) f more before found)
@@ -152,11 +173,13 @@ least_unseen mesh growth f h none before other joined =
       | inr explored ↦ explored
     ] in
     elim (cases_lt other f) [
-      | inl less ↦ absurd (both_ways (is_seen growth other) (unseen_path mesh growth f other joined.0 all none joined.1) (before other less))
+      | inl less ↦ absurd (both_ways (is_seen growth other) (unseen_path mesh growth f other joined.0 all none joined.1)
+          (before other less))
       | inr more ↦ more
     ]
 
-pub planted : (mesh : FaceList) (growth : Growth) (f : ℕ) (p : Place) → AreTrees mesh growth → IsFrontier mesh growth [] → f < length mesh.faces → is_seen growth f ≡ false
+pub planted : (mesh : FaceList) (growth : Growth) (f : ℕ) (p : Place) → AreTrees mesh growth → IsFrontier mesh growth []
+    → f < length mesh.faces → is_seen growth f ≡ false
     → ((g : ℕ) → g < f → is_seen growth g ≡ true) → p.depth ≡ 0 → AreTrees mesh (with_face growth f false p)
 planted mesh growth f p h frontier few none before depth =
     put_kept mesh growth f false p h few none
@@ -171,8 +194,10 @@ planted mesh growth f p h frontier few none before depth =
     unseen_few growth = count_by-le-length not growth.seen
 
 -- a face that is found across the edge of a side, with the sign that fits
-pub found : (mesh : FaceList) (growth : Growth) (from side : Side) (b : Bool) (p : Place) → AreTrees mesh growth → ArePartners mesh from side
-    → is_seen growth from.face.0 ≡ true → is_seen growth side.face.0 ≡ false → differ (is_flipped growth.flipped from.face.0) b ≡ runs_alike mesh from side
+pub found : (mesh : FaceList) (growth : Growth) (from side : Side) (b : Bool) (p : Place) → AreTrees mesh growth
+    → ArePartners mesh from side
+    → is_seen growth from.face.0 ≡ true → is_seen growth side.face.0 ≡ false → differ (is_flipped growth.flipped from.face.0) b ≡
+    runs_alike mesh from side
     → p.from ≡ from → p.depth ≡ (place_of growth from.face.0).depth + 1 → AreTrees mesh (with_face growth side.face.0 b p)
 found mesh growth from side b p h partners seen none fits is depth =
     let g : ℕ = side.face.0 in
@@ -189,24 +214,30 @@ found mesh growth from side b p h partners seen none fits is depth =
       deeper =
           ap (λ (q : Place). q.depth) (get_or-set_same growth.places g p _ (omega (arith, few, h.places))) ∙ depth
           ∙ ap (λ (q : Place). q.depth + 1) (sym kept.place);
-      fit = ap (λ c. differ c (is_flipped (with_face growth g b p).flipped g)) kept.sign ∙ ap (differ (is_flipped growth.flipped from.face.0)) sign ∙ fits;
+      fit = ap (λ c. differ c (is_flipped (with_face growth g b p).flipped g)) kept.sign ∙ ap
+          (differ (is_flipped growth.flipped from.face.0)) sign ∙ fits;
     })))
     (omega (arith, depth, h.shallow from.face.0 seen))
 
-pub fits_then : (mesh : FaceList) (growth : Growth) (from side : Side) (b : Bool) (p : Place) → AreTrees mesh growth → ArePartners mesh from side
-    → is_seen growth from.face.0 ≡ true → is_seen growth side.face.0 ≡ false → differ (is_flipped growth.flipped from.face.0) b ≡ runs_alike mesh from side
+pub fits_then : (mesh : FaceList) (growth : Growth) (from side : Side) (b : Bool) (p : Place) → AreTrees mesh growth
+    → ArePartners mesh from side
+    → is_seen growth from.face.0 ≡ true → is_seen growth side.face.0 ≡ false → differ (is_flipped growth.flipped from.face.0) b ≡
+    runs_alike mesh from side
     → (is_seen (with_face growth side.face.0 b p) side.face.0 ≡ true) × Fit mesh (with_face growth side.face.0 b p).flipped from side
 fits_then mesh growth from side b p h partners seen none fits =
     let g : ℕ = side.face.0 in
     let few : g < length mesh.faces = partners.second.face in
     let kept : IsKept growth (with_face growth g b p) from.face.0 = (with_face_extends growth g b p none).kept from.face.0 seen in
-    let sign : is_flipped (with_face growth g b p).flipped g ≡ b = get_or-set_same growth.flipped g b false (omega (arith, few, h.signs)) in (
+    let sign : is_flipped (with_face growth g b p).flipped g ≡ b = get_or-set_same growth.flipped g b false
+    (omega (arith, few, h.signs)) in (
       get_or-set_same growth.seen g true false (omega (arith, few, h.each_face)),
-      ap (λ c. differ c (is_flipped (with_face growth g b p).flipped g)) kept.sign ∙ ap (differ (is_flipped growth.flipped from.face.0)) sign ∙ fits,
+      ap (λ c. differ c (is_flipped (with_face growth g b p).flipped g)) kept.sign ∙ ap (differ (is_flipped growth.flipped from.face.0))
+          sign ∙ fits,
     )
 
 -- the frontier, as it moves
-pub frontier_put : (mesh : FaceList) (growth : Growth) (g : FaceName) (b : Bool) (p : Place) (waiting : List FaceName) → AreTrees mesh growth → g.0 < length mesh.faces
+pub frontier_put : (mesh : FaceList) (growth : Growth) (g : FaceName) (b : Bool) (p : Place) (waiting : List FaceName)
+    → AreTrees mesh growth → g.0 < length mesh.faces
     → is_seen growth g.0 ≡ false → IsFrontier mesh growth waiting → IsFrontier mesh (with_face growth g.0 b p) (waiting ++ g ∷ [])
 frontier_put mesh growth g b p waiting trees few none h =
     let new : Growth = with_face growth g.0 b p in
@@ -214,10 +245,12 @@ frontier_put mesh growth g b p waiting trees few none h =
     record {
       queued =
           All-push (λ (f : FaceName). is_seen new f.0 ≡ true) waiting g
-          (All-weaker (λ (f : FaceName). is_seen growth f.0 ≡ true) (λ (f : FaceName). is_seen new f.0 ≡ true) (λ f seen. (more.kept f.0 seen).seen) waiting h.queued)
+          (All-weaker (λ (f : FaceName). is_seen growth f.0 ≡ true) (λ (f : FaceName). is_seen new f.0 ≡ true)
+          (λ f seen. (more.kept f.0 seen).seen) waiting h.queued)
           (get_or-set_same growth.seen g.0 true false (omega (arith, few, trees.each_face)));
       explored = λ f seen. elim (seen_before growth g.0 f.0 b p seen) [
-        | inl same ↦ inl (subst (Contains (waiting ++ g ∷ [])) (ap (λ n. let name : FaceName = record { 0 = n } in name) (sym same)) (Contains-push waiting g))
+        | inl same ↦ inl (subst (Contains (waiting ++ g ∷ [])) (ap (λ n. let name : FaceName = record { 0 = n } in name) (sym same))
+            (Contains-push waiting g))
         | inr before ↦ elim (h.explored f before) [
           | inl waits ↦ inl (Contains-append_left waiting (g ∷ []) f waits)
           | inr explored ↦ inr (explored_kept mesh growth new f.0 more before explored)
@@ -230,12 +263,15 @@ first_or_rest x y xs (zero, l, is) = inl is
 first_or_rest x y xs (suc k, l, is) = inr (k, omega arith, is)
 
 -- the last one that waits may be taken as the first
-pub frontier_last : (mesh : FaceList) (growth : Growth) (f : FaceName) (waiting : List FaceName) → IsFrontier mesh growth (waiting ++ f ∷ []) → IsFrontier mesh growth (f ∷ waiting)
+pub frontier_last : (mesh : FaceList) (growth : Growth) (f : FaceName) (waiting : List FaceName)
+    → IsFrontier mesh growth (waiting ++ f ∷ []) → IsFrontier mesh growth (f ∷ waiting)
 frontier_last mesh growth f waiting h = record {
   queued =
       λ k d l. elim (first_or_rest f (get_or (f ∷ waiting) k d) waiting (Contains-get_or (f ∷ waiting) k d l)) [
-        | inl same ↦ subst (λ (x : FaceName). is_seen growth x.0 ≡ true) same (All-contains (λ (x : FaceName). is_seen growth x.0 ≡ true) (waiting ++ f ∷ []) f h.queued (Contains-push waiting f))
-        | inr later ↦ All-contains (λ (x : FaceName). is_seen growth x.0 ≡ true) (waiting ++ f ∷ []) (get_or (f ∷ waiting) k d) h.queued (Contains-append_left waiting (f ∷ []) (get_or (f ∷ waiting) k d) later)
+        | inl same ↦ subst (λ (x : FaceName). is_seen growth x.0 ≡ true) same
+            (All-contains (λ (x : FaceName). is_seen growth x.0 ≡ true) (waiting ++ f ∷ []) f h.queued (Contains-push waiting f))
+        | inr later ↦ All-contains (λ (x : FaceName). is_seen growth x.0 ≡ true) (waiting ++ f ∷ []) (get_or (f ∷ waiting) k d) h.queued
+            (Contains-append_left waiting (f ∷ []) (get_or (f ∷ waiting) k d) later)
       ];
   explored = λ g seen. elim (h.explored g seen) [
     | inl waits ↦ elim (Contains-push_cases waiting f g waits) [
@@ -247,7 +283,8 @@ frontier_last mesh growth f waiting h = record {
 }
 
 -- the first one that waits is explored
-pub frontier_done : (mesh : FaceList) (growth : Growth) (f : FaceName) (waiting : List FaceName) → IsFrontier mesh growth (f ∷ waiting) → IsExplored mesh growth f.0 → IsFrontier mesh growth waiting
+pub frontier_done : (mesh : FaceList) (growth : Growth) (f : FaceName) (waiting : List FaceName) → IsFrontier mesh growth (f ∷ waiting)
+    → IsExplored mesh growth f.0 → IsFrontier mesh growth waiting
 frontier_done mesh growth f waiting h done = record {
   queued = All-tail (λ (x : FaceName). is_seen growth x.0 ≡ true) f waiting h.queued;
   explored = λ g seen. elim (h.explored g seen) [
@@ -260,8 +297,10 @@ frontier_done mesh growth f waiting h done = record {
 }
 
 -- one side more
-pub explored_more : (mesh : FaceList) (growth : Growth) (f at : ℕ) (here : Side) → here.face.0 ≡ f → here.at ≡ at → IsExploredUpTo mesh growth f at
-    → ((other : Side) → ArePartners mesh here other → (is_seen growth other.face.0 ≡ true) × Fit mesh growth.flipped here other) → IsExploredUpTo mesh growth f (at + 1)
+pub explored_more : (mesh : FaceList) (growth : Growth) (f at : ℕ) (here : Side) → here.face.0 ≡ f → here.at ≡ at
+    → IsExploredUpTo mesh growth f at
+    → ((other : Side) → ArePartners mesh here other → (is_seen growth other.face.0 ≡ true) × Fit mesh growth.flipped here other) →
+    IsExploredUpTo mesh growth f (at + 1)
 explored_more mesh growth f at here is_face is_at h one side other partners face below =
     elim (cases_lt side.at at) [
       | inl less ↦ h side other partners face less
@@ -271,18 +310,21 @@ explored_more mesh growth f at here is_face is_at h one side other partners face
           let same : here ≡ side =
           ap (λ n. let s : Side = record { face = record { 0 = n }; at = here.at } in s) same_face
           ∙ ap (λ n. let s : Side = record { face = record { 0 = side.face.0 }; at = n } in s) same_at in
-          subst (λ s. (is_seen growth other.face.0 ≡ true) × Fit mesh growth.flipped s other) same (one other (subst (λ s. ArePartners mesh s other) (sym same) partners)))
+          subst (λ s. (is_seen growth other.face.0 ≡ true) × Fit mesh growth.flipped s other) same
+          (one other (subst (λ s. ArePartners mesh s other) (sym same) partners)))
     ]
 
 pub explored_none : (mesh : FaceList) (growth : Growth) (f : ℕ) → IsExploredUpTo mesh growth f 0
 explored_none mesh growth f side other partners here below = absurd (omega arith)
 
-pub explored_all : (mesh : FaceList) (growth : Growth) (f at : ℕ) → length (face_at mesh f) ≤ at → IsExploredUpTo mesh growth f at → IsExplored mesh growth f
+pub explored_all : (mesh : FaceList) (growth : Growth) (f at : ℕ) → length (face_at mesh f) ≤ at → IsExploredUpTo mesh growth f at
+    → IsExplored mesh growth f
 explored_all mesh growth f at long h side other partners here =
     h side other partners here (omega (arith, long, partners.first.place, ap (λ n. length (face_at mesh n)) here))
 
 -- where all faces were seen and none waits, the signs are coherent, and the least face of each class is kept
-pub all_coherent : (mesh : FaceList) (growth : Growth) → AreTrees mesh growth → IsFrontier mesh growth [] → ((f : ℕ) → f < length mesh.faces → is_seen growth f ≡ true)
+pub all_coherent : (mesh : FaceList) (growth : Growth) → AreTrees mesh growth → IsFrontier mesh growth [] →
+    ((f : ℕ) → f < length mesh.faces → is_seen growth f ≡ true)
     → IsCoherent mesh growth.flipped
 all_coherent mesh growth trees h all = record {
   each_face = trees.signs;
@@ -292,10 +334,18 @@ all_coherent mesh growth trees h all = record {
   ];
 }
 
-pub up_joined : (mesh : FaceList) (growth : Growth) (f : ℕ) → IsFoundFrom mesh growth f (place_of growth f).from → AreOfOneClass mesh f (place_of growth f).from.face.0
+pub up_joined : (mesh : FaceList) (growth : Growth) (f : ℕ) → IsFoundFrom mesh growth f (place_of growth f).from
+    → AreOfOneClass mesh f (place_of growth f).from.face.0
 up_joined mesh growth f h =
     joined_step (IsFaceStep mesh) f (place_of growth f).from.face.0
-    (record { side = h.side; partner = (place_of growth f).from; partners = partners_swap mesh (place_of growth f).from h.side h.partners; from = h.here; to = refl })
+    (record {
+      side = h.side;
+      partner = (place_of growth f).from;
+      partners = partners_swap mesh (place_of growth f).from h.side
+          h.partners;
+      from = h.here;
+      to = refl;
+    })
 
 -- the first face of the tree of a face
 pub record HasFirst (mesh : FaceList) (growth : Growth) (f : ℕ) : Type 0 where
@@ -303,7 +353,8 @@ pub record HasFirst (mesh : FaceList) (growth : Growth) (f : ℕ) : Type 0 where
   pub is_first : IsFirst mesh growth first
   pub joined : AreOfOneClass mesh f first
 
-first_above : (mesh : FaceList) (growth : Growth) (n f : ℕ) → AreTrees mesh growth → is_seen growth f ≡ true → (place_of growth f).depth < n → HasFirst mesh growth f
+first_above : (mesh : FaceList) (growth : Growth) (n f : ℕ) → AreTrees mesh growth → is_seen growth f ≡ true
+    → (place_of growth f).depth < n → HasFirst mesh growth f
 first_above mesh growth zero f h seen depth = absurd (omega arith)
 first_above mesh growth (suc n) f h seen depth =
     elim (h.placed f seen) [
@@ -311,13 +362,19 @@ first_above mesh growth (suc n) f h seen depth =
       | inr from ↦
           (let parent : ℕ = (place_of growth f).from.face.0 in
           let next : HasFirst mesh growth parent = first_above mesh growth n parent h from.seen (omega (arith, from.deeper)) in
-          record { first = next.first; is_first = next.is_first; joined = joined_more (IsFaceStep mesh) f parent next.first (up_joined mesh growth f from) next.joined })
+          record {
+            first = next.first;
+            is_first = next.is_first;
+            joined = joined_more (IsFaceStep mesh) f parent next.first
+                (up_joined mesh growth f from) next.joined;
+          })
     ]
 
 pub has_first : (mesh : FaceList) (growth : Growth) (f : ℕ) → AreTrees mesh growth → is_seen growth f ≡ true → HasFirst mesh growth f
 has_first mesh growth f h seen = first_above mesh growth ((place_of growth f).depth + 1) f h seen (omega arith)
 
-pub all_kept : (mesh : FaceList) (growth : Growth) → AreTrees mesh growth → ((f : ℕ) → f < length mesh.faces → is_seen growth f ≡ true) → IsLeastKept mesh growth.flipped
+pub all_kept : (mesh : FaceList) (growth : Growth) → AreTrees mesh growth → ((f : ℕ) → f < length mesh.faces → is_seen growth f ≡ true)
+    → IsLeastKept mesh growth.flipped
 all_kept mesh growth h all f few least =
     elim (h.placed f (all f few)) [
       | inl is_first ↦ is_first.kept
@@ -330,7 +387,8 @@ all_kept mesh growth h all f few least =
     ]
 
 -- of two different faces of one class, one that lies no less deep than the other was found from another
-pub deeper_found : (mesh : FaceList) (growth : Growth) (f g : ℕ) → AreTrees mesh growth → is_seen growth f ≡ true → is_seen growth g ≡ true → AreOfOneClass mesh f g → f ≢ g
+pub deeper_found : (mesh : FaceList) (growth : Growth) (f g : ℕ) → AreTrees mesh growth → is_seen growth f ≡ true
+    → is_seen growth g ≡ true → AreOfOneClass mesh f g → f ≢ g
     → (place_of growth g).depth ≤ (place_of growth f).depth → IsFoundFrom mesh growth f (place_of growth f).from
 deeper_found mesh growth f g h seen too joined other depth =
     elim (h.placed f seen) [
@@ -348,7 +406,12 @@ deeper_found mesh growth f g h seen too joined other depth =
 faces_few : (count : ℕ) (faces : List (List ℕ)) → All (IsFace count) faces → 3 * length faces ≤ sum_by length faces
 faces_few count [] h = omega arith
 faces_few count (face ∷ faces) h =
-    omega (arith, (All-head (IsFace count) face faces h).polygon, faces_few count faces (All-tail (IsFace count) face faces h), sum_by-cons {X = List ℕ} length face faces)
+    omega (
+      arith,
+      (All-head (IsFace count) face faces h).polygon,
+      faces_few count faces (All-tail (IsFace count) face faces h),
+      sum_by-cons {X = List ℕ} length face faces,
+    )
 
 pub few_faces : (mesh : FaceList) → IsFaceList mesh → 3 * length mesh.faces ≤ 4000000
 few_faces mesh h = omega (arith, faces_few mesh.count mesh.faces h.faces, h.few_sides)

@@ -8,10 +8,14 @@ use Rattle.surf_model.specs.declared.chains.ChainLink.{ChainLink}
 abbrev pub sides_across : FaceList → ChainLink → List FaceSide
 sides_across mesh link = filter (joins link.low.0 link.high.0) (all_sides mesh)
 
+-- the faces of these sides
+abbrev pub faces_across : FaceList → ChainLink → List ℕ
+faces_across mesh link = map (λ side. side.face) (sides_across mesh link)
+
 -- a link leads from its face to another: its edge has exactly two sides, one of each of the two faces
 pub record LeadsTo (mesh : FaceList) (link : ChainLink) (next : ℕ) : Type 0 where
   pub ordered : link.low.0 < link.high.0
-  pub faces : (map (λ side. side.face) (sides_across mesh link) ≡ link.face.0 ∷ next ∷ []) ⊎ (map (λ side. side.face) (sides_across mesh link) ≡ next ∷ link.face.0 ∷ [])
+  pub faces : (faces_across mesh link ≡ link.face.0 ∷ next ∷ []) ⊎ (faces_across mesh link ≡ next ∷ link.face.0 ∷ [])
 
 -- the face at which some links start, or another one where there are none
 abbrev pub first_face : List ChainLink → ℕ → ℕ

@@ -13,7 +13,9 @@ abbrev plane : FaceList
 plane =
     record {
       count = 6;
-      faces = (0 ∷ 1 ∷ 2 ∷ []) ∷ (0 ∷ 2 ∷ 3 ∷ []) ∷ (0 ∷ 3 ∷ 4 ∷ []) ∷ (0 ∷ 4 ∷ 5 ∷ []) ∷ (0 ∷ 5 ∷ 1 ∷ []) ∷ (1 ∷ 2 ∷ 4 ∷ []) ∷ (2 ∷ 3 ∷ 5 ∷ []) ∷ (3 ∷ 4 ∷ 1 ∷ [])
+      faces =
+          (0 ∷ 1 ∷ 2 ∷ []) ∷ (0 ∷ 2 ∷ 3 ∷ []) ∷ (0 ∷ 3 ∷ 4 ∷ []) ∷ (0 ∷ 4 ∷ 5 ∷ []) ∷ (0 ∷ 5 ∷ 1 ∷ [])
+          ∷ (1 ∷ 2 ∷ 4 ∷ []) ∷ (2 ∷ 3 ∷ 5 ∷ []) ∷ (3 ∷ 4 ∷ 1 ∷ [])
           ∷ (4 ∷ 5 ∷ 2 ∷ []) ∷ (5 ∷ 1 ∷ 3 ∷ []) ∷ [];
     }
 
@@ -41,7 +43,10 @@ odd_on_plane = record {
     record { ordered = lit< tt; faces = inl refl },
     (
       record { ordered = lit< tt; faces = inl refl },
-      (record { ordered = lit< tt; faces = inr refl }, (record { ordered = lit< tt; faces = inl refl }, (record { ordered = lit< tt; faces = inr refl }, tt))),
+      (
+        record { ordered = lit< tt; faces = inr refl },
+        (record { ordered = lit< tt; faces = inl refl }, (record { ordered = lit< tt; faces = inr refl }, tt)),
+      ),
     ),
   );
   odd = refl;
@@ -61,7 +66,10 @@ odd_on_band = record {
     record { ordered = lit< tt; faces = inl refl },
     (
       record { ordered = lit< tt; faces = inl refl },
-      (record { ordered = lit< tt; faces = inl refl }, (record { ordered = lit< tt; faces = inl refl }, (record { ordered = lit< tt; faces = inr refl }, tt))),
+      (
+        record { ordered = lit< tt; faces = inl refl },
+        (record { ordered = lit< tt; faces = inl refl }, (record { ordered = lit< tt; faces = inr refl }, tt)),
+      ),
     ),
   );
   odd = refl;

@@ -52,7 +52,12 @@ place_of growth f = slice_index_or growth.places f no_place
 
 -- face f is put into a tree
 abbrev pub with_face : Growth → ℕ → Bool → Place → Growth
-with_face growth f flipped place = record { seen = slice_set growth.seen f true; flipped = slice_set growth.flipped f flipped; places = slice_set growth.places f place }
+with_face growth f flipped place =
+    record {
+      seen = slice_set growth.seen f true;
+      flipped = slice_set growth.flipped f flipped;
+      places = slice_set growth.places f place;
+    }
 
 -- how many faces were not seen
 abbrev pub count_unseen : Growth → ℕ
@@ -85,11 +90,13 @@ pub record AreTrees (mesh : FaceList) (growth : Growth) : Type 0 where
 -- all faces across the sides of face f before one place were seen, with signs that fit
 abbrev pub IsExploredUpTo : FaceList → Growth → ℕ → ℕ → Type 0
 IsExploredUpTo mesh growth f at =
-    (side other : Side) → ArePartners mesh side other → side.face.0 ≡ f → side.at < at → (is_seen growth other.face.0 ≡ true) × Fit mesh growth.flipped side other
+    (side other : Side) → ArePartners mesh side other → side.face.0 ≡ f → side.at < at
+    → (is_seen growth other.face.0 ≡ true) × Fit mesh growth.flipped side other
 
 -- all faces across the sides of face f were seen, with signs that fit
 abbrev pub IsExplored : FaceList → Growth → ℕ → Type 0
-IsExplored mesh growth f = (side other : Side) → ArePartners mesh side other → side.face.0 ≡ f → (is_seen growth other.face.0 ≡ true) × Fit mesh growth.flipped side other
+IsExplored mesh growth f = (side other : Side) → ArePartners mesh side other → side.face.0 ≡ f
+    → (is_seen growth other.face.0 ≡ true) × Fit mesh growth.flipped side other
 
 -- the faces that wait were seen, and each other face that was seen is explored
 pub record IsFrontier (mesh : FaceList) (growth : Growth) (waiting : List FaceName) : Type 0 where

@@ -9,21 +9,36 @@ use Rattle.orientation.proofs.climb.chain_round.Goals as goal
 
 pub loop-face-init : goal.loop-face-init
 loop-face-init c =
-    subst (λ chain. IsClimb c.args.faces.now c.args.trees.now c.args.tear.other.face.0 chain c.new-down.result.items c.args.tear.side.face.0 c.args.tear.other.face.0) (sym c.in_ok-chain.ensures)
-    (subst (λ down. IsClimb c.args.faces.now c.args.trees.now c.args.tear.other.face.0 (c.link.result ∷ []) down c.args.tear.side.face.0 c.args.tear.other.face.0) (sym c.new-down.ensures.items)
-    (climb_first c.args.faces.now c.args.trees.now c.args.tear c.link.result c.requires.two c.requires.trees c.requires.tear c.link.ensures.edge (ap (λ (f : FaceName). f.0) c.link.ensures.face)))
+    subst (λ chain. IsClimb c.args.faces.now c.args.trees.now c.args.tear.other.face.0 chain c.new-down.result.items
+    c.args.tear.side.face.0 c.args.tear.other.face.0) (sym c.in_ok-chain.ensures)
+    (subst (λ down. IsClimb c.args.faces.now c.args.trees.now c.args.tear.other.face.0 (c.link.result ∷ []) down c.args.tear.side.face.0
+    c.args.tear.other.face.0) (sym c.new-down.ensures.items)
+    (climb_first c.args.faces.now c.args.trees.now c.args.tear c.link.result c.requires.two c.requires.trees c.requires.tear
+    c.link.ensures.edge (ap (λ (f : FaceName). f.0) c.link.ensures.face)))
 
 pub place-place-requires : goal.place-place-requires
-place-place-requires c = omega (arith, seen_below c.args.faces.now c.args.trees.now c.loop-face.face.0 c.requires.trees c.loop-face.invariant.seen, c.requires.trees.each_face)
+place-place-requires c =
+    omega (
+      arith,
+      seen_below c.args.faces.now c.args.trees.now c.loop-face.face.0 c.requires.trees c.loop-face.invariant.seen,
+      c.requires.trees.each_face,
+    )
 
 pub place-other_place-requires : goal.place-other_place-requires
-place-other_place-requires c = omega (arith, seen_below c.args.faces.now c.args.trees.now c.loop-face.other.0 c.requires.trees c.loop-face.invariant.other_seen, c.requires.trees.each_face)
+place-other_place-requires c =
+    omega (
+      arith,
+      seen_below c.args.faces.now c.args.trees.now c.loop-face.other.0 c.requires.trees c.loop-face.invariant.other_seen,
+      c.requires.trees.each_face,
+    )
 
 pub link-requires-then-place-other_place-clause-side : goal.link-requires-then-place-other_place-clause-side
 link-requires-then-place-other_place-clause-side c =
     let found : IsFoundFrom c.args.faces.now c.args.trees.now c.loop-face.face.0 c.place-place.result.from =
-    found_up c.args.faces.now c.args.trees.now c.args.tear.other.face.0 c.loop-face.chain c.loop-face.down.items c.loop-face.face.0 c.loop-face.other.0 c.place-place.result c.place-other_place.result
-    c.requires.trees c.loop-face.invariant (apart_from_test c.loop-face.face.0 c.loop-face.other.0 (sym c.ne.ensures ∙ c.loop-face-test.true))
+    found_up c.args.faces.now c.args.trees.now c.args.tear.other.face.0 c.loop-face.chain c.loop-face.down.items c.loop-face.face.0
+    c.loop-face.other.0 c.place-place.result c.place-other_place.result
+    c.requires.trees c.loop-face.invariant
+    (apart_from_test c.loop-face.face.0 c.loop-face.other.0 (sym c.ne.ensures ∙ c.loop-face-test.true))
     c.place-place.ensures c.place-other_place.ensures c.if-place-other_place.true in
     found.partners.first
 
@@ -33,8 +48,10 @@ push-requires c = omega (arith, c.loop-face.invariant.size, few_faces c.args.fac
 pub link-requires-else-place-other_place-clause-side : goal.link-requires-else-place-other_place-clause-side
 link-requires-else-place-other_place-clause-side c =
     let found : IsFoundFrom c.args.faces.now c.args.trees.now c.loop-face.other.0 c.place-other_place.result.from =
-    found_down c.args.faces.now c.args.trees.now c.args.tear.other.face.0 c.loop-face.chain c.loop-face.down.items c.loop-face.face.0 c.loop-face.other.0 c.place-place.result c.place-other_place.result
-    c.requires.trees c.loop-face.invariant (apart_from_test c.loop-face.face.0 c.loop-face.other.0 (sym c.ne.ensures ∙ c.loop-face-test.true))
+    found_down c.args.faces.now c.args.trees.now c.args.tear.other.face.0 c.loop-face.chain c.loop-face.down.items c.loop-face.face.0
+    c.loop-face.other.0 c.place-place.result c.place-other_place.result
+    c.requires.trees c.loop-face.invariant
+    (apart_from_test c.loop-face.face.0 c.loop-face.other.0 (sym c.ne.ensures ∙ c.loop-face-test.true))
     c.place-place.ensures c.place-other_place.ensures c.if-place-other_place.false in
     found.partners.first
 
@@ -44,41 +61,54 @@ push_reversed-requires c = omega (arith, c.loop-face.invariant.size, few_faces c
 pub loop-face-smaller-then-place-other_place : goal.loop-face-smaller-then-place-other_place
 loop-face-smaller-then-place-other_place c =
     let found : IsFoundFrom c.args.faces.now c.args.trees.now c.loop-face.face.0 c.place-place.result.from =
-    found_up c.args.faces.now c.args.trees.now c.args.tear.other.face.0 c.loop-face.chain c.loop-face.down.items c.loop-face.face.0 c.loop-face.other.0 c.place-place.result c.place-other_place.result
-    c.requires.trees c.loop-face.invariant (apart_from_test c.loop-face.face.0 c.loop-face.other.0 (sym c.ne.ensures ∙ c.loop-face-test.true))
+    found_up c.args.faces.now c.args.trees.now c.args.tear.other.face.0 c.loop-face.chain c.loop-face.down.items c.loop-face.face.0
+    c.loop-face.other.0 c.place-place.result c.place-other_place.result
+    c.requires.trees c.loop-face.invariant
+    (apart_from_test c.loop-face.face.0 c.loop-face.other.0 (sym c.ne.ensures ∙ c.loop-face-test.true))
     c.place-place.ensures c.place-other_place.ensures c.if-place-other_place.true in
     omega (arith, found.deeper)
 
 pub loop-face-preserved-then-place-other_place : goal.loop-face-preserved-then-place-other_place
 loop-face-preserved-then-place-other_place c =
     let found : IsFoundFrom c.args.faces.now c.args.trees.now c.loop-face.face.0 c.place-place.result.from =
-    found_up c.args.faces.now c.args.trees.now c.args.tear.other.face.0 c.loop-face.chain c.loop-face.down.items c.loop-face.face.0 c.loop-face.other.0 c.place-place.result c.place-other_place.result
-    c.requires.trees c.loop-face.invariant (apart_from_test c.loop-face.face.0 c.loop-face.other.0 (sym c.ne.ensures ∙ c.loop-face-test.true))
+    found_up c.args.faces.now c.args.trees.now c.args.tear.other.face.0 c.loop-face.chain c.loop-face.down.items c.loop-face.face.0
+    c.loop-face.other.0 c.place-place.result c.place-other_place.result
+    c.requires.trees c.loop-face.invariant
+    (apart_from_test c.loop-face.face.0 c.loop-face.other.0 (sym c.ne.ensures ∙ c.loop-face-test.true))
     c.place-place.ensures c.place-other_place.ensures c.if-place-other_place.true in
-    climbed_up c.args.faces.now c.args.trees.now c.args.tear.other.face.0 c.loop-face.chain c.loop-face.down.items c.loop-face.face.0 c.loop-face.other.0 c.link-then-place-other_place.result
-    c.place-place.result c.push.new.self c.requires.two c.loop-face.invariant c.place-place.ensures found c.link-then-place-other_place.ensures.edge
+    climbed_up c.args.faces.now c.args.trees.now c.args.tear.other.face.0 c.loop-face.chain c.loop-face.down.items c.loop-face.face.0
+    c.loop-face.other.0 c.link-then-place-other_place.result
+    c.place-place.result c.push.new.self c.requires.two c.loop-face.invariant c.place-place.ensures found
+    c.link-then-place-other_place.ensures.edge
     (ap (λ (f : FaceName). f.0) c.link-then-place-other_place.ensures.face) c.in_ok-push.ensures.ok
 
 pub loop-face-smaller : goal.loop-face-smaller
 loop-face-smaller c =
     let found : IsFoundFrom c.args.faces.now c.args.trees.now c.loop-face.other.0 c.place-other_place.result.from =
-    found_down c.args.faces.now c.args.trees.now c.args.tear.other.face.0 c.loop-face.chain c.loop-face.down.items c.loop-face.face.0 c.loop-face.other.0 c.place-place.result c.place-other_place.result
-    c.requires.trees c.loop-face.invariant (apart_from_test c.loop-face.face.0 c.loop-face.other.0 (sym c.ne.ensures ∙ c.loop-face-test.true))
+    found_down c.args.faces.now c.args.trees.now c.args.tear.other.face.0 c.loop-face.chain c.loop-face.down.items c.loop-face.face.0
+    c.loop-face.other.0 c.place-place.result c.place-other_place.result
+    c.requires.trees c.loop-face.invariant
+    (apart_from_test c.loop-face.face.0 c.loop-face.other.0 (sym c.ne.ensures ∙ c.loop-face-test.true))
     c.place-place.ensures c.place-other_place.ensures c.if-place-other_place.false in
     omega (arith, found.deeper)
 
 pub loop-face-preserved : goal.loop-face-preserved
 loop-face-preserved c =
     let found : IsFoundFrom c.args.faces.now c.args.trees.now c.loop-face.other.0 c.place-other_place.result.from =
-    found_down c.args.faces.now c.args.trees.now c.args.tear.other.face.0 c.loop-face.chain c.loop-face.down.items c.loop-face.face.0 c.loop-face.other.0 c.place-place.result c.place-other_place.result
-    c.requires.trees c.loop-face.invariant (apart_from_test c.loop-face.face.0 c.loop-face.other.0 (sym c.ne.ensures ∙ c.loop-face-test.true))
+    found_down c.args.faces.now c.args.trees.now c.args.tear.other.face.0 c.loop-face.chain c.loop-face.down.items c.loop-face.face.0
+    c.loop-face.other.0 c.place-place.result c.place-other_place.result
+    c.requires.trees c.loop-face.invariant
+    (apart_from_test c.loop-face.face.0 c.loop-face.other.0 (sym c.ne.ensures ∙ c.loop-face-test.true))
     c.place-place.ensures c.place-other_place.ensures c.if-place-other_place.false in
-    climbed_down c.args.faces.now c.args.trees.now c.args.tear.other.face.0 c.loop-face.chain c.loop-face.down.items c.loop-face.face.0 c.loop-face.other.0 c.link-else-place-other_place.result
-    c.place-other_place.result c.push-else-place-other_place.new.self.items c.requires.two c.loop-face.invariant c.place-other_place.ensures found c.link-else-place-other_place.ensures.edge
+    climbed_down c.args.faces.now c.args.trees.now c.args.tear.other.face.0 c.loop-face.chain c.loop-face.down.items c.loop-face.face.0
+    c.loop-face.other.0 c.link-else-place-other_place.result
+    c.place-other_place.result c.push-else-place-other_place.new.self.items c.requires.two c.loop-face.invariant
+    c.place-other_place.ensures found c.link-else-place-other_place.ensures.edge
     (ap (λ (f : FaceName). f.0) c.link-else-place-other_place.ensures.face) c.in_ok-push-2.ensures.items
 
 pub returns : goal.returns
 returns c =
     subst (IsOddChain c.args.faces.now) (sym c.in_ok-push_reversed.ensures)
-    (climb_last c.args.faces.now c.args.trees.now c.args.tear.other.face.0 c.loop-face.chain c.loop-face.down.items c.loop-face.face.0 c.loop-face.other.0 c.loop-face.invariant
+    (climb_last c.args.faces.now c.args.trees.now c.args.tear.other.face.0 c.loop-face.chain c.loop-face.down.items c.loop-face.face.0
+    c.loop-face.other.0 c.loop-face.invariant
     (same_from_test c.loop-face.face.0 c.loop-face.other.0 (sym c.ne.ensures ∙ c.loop-face-test.false)))

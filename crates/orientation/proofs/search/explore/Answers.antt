@@ -7,26 +7,33 @@ use Rattle.orientation.proofs.search.explore.Goals as goal
 use Rattle.orientation.proofs.search.explore.Goals.{in-Some+in_ok-cross+else-not-branch, in_default}
 
 pub sides-at-end-requires : goal.sides-at-end-requires
-sides-at-end-requires c = seen_below c.args.faces.now c.args.trees.now c.args.face.0 c.requires.search.trees (c.requires.search.frontier.queued 0 c.args.face (omega arith))
+sides-at-end-requires c =
+    seen_below c.args.faces.now c.args.trees.now c.args.face.0 c.requires.search.trees
+    (c.requires.search.frontier.queued 0 c.args.face (omega arith))
 
 pub loop-at-preserved : goal.loop-at-preserved
 loop-at-preserved c =
     let mesh = c.args.faces.now in
     let side : Side = record { face = c.args.face; at = c.loop-at.at } in
-    let P : Growth → List FaceName → Type 0 = λ growth waiting. IsExploring mesh c.args.trees.now c.args.waiting.now.items growth waiting c.args.face (c.loop-at.at + 1) in
+    let P : Growth → List FaceName → Type 0 = λ growth waiting. IsExploring mesh c.args.trees.now c.args.waiting.now.items growth
+    waiting c.args.face (c.loop-at.at + 1) in
     elim c.match-across.branch [
       | in-Some+in_ok-cross+else-not-branch w ↦
           (let here : P w.cross.new.trees w.cross.new.waiting.items =
-          exploring_across mesh c.args.trees.now c.args.waiting.now.items c.loop-at.trees c.loop-at.waiting.items side w.in-Some.other w.cross.new.trees w.cross.new.waiting.items
-          c.loop-at.invariant w.in-Some.ensures.1 w.in_ok-cross.ensures.search w.in_ok-cross.ensures.goes_on (w.in_ok-cross.ensures.fits w.if-not-branch.false) in
+          exploring_across mesh c.args.trees.now c.args.waiting.now.items c.loop-at.trees c.loop-at.waiting.items side w.in-Some.other
+          w.cross.new.trees w.cross.new.waiting.items
+          c.loop-at.invariant w.in-Some.ensures.1 w.in_ok-cross.ensures.search w.in_ok-cross.ensures.goes_on
+          (w.in_ok-cross.ensures.fits w.if-not-branch.false) in
           subst (λ g. P g c.match-across.waiting.items) (sym w.trees-is) (subst (λ v. P w.cross.new.trees v.items) (sym w.waiting-is) here))
       | in_default w ↦
           (let here : P c.loop-at.trees c.loop-at.waiting.items =
-          exploring_past mesh c.args.trees.now c.args.waiting.now.items c.loop-at.trees c.loop-at.waiting.items side c.loop-at.invariant w.in_default.ensures in
+          exploring_past mesh c.args.trees.now c.args.waiting.now.items c.loop-at.trees c.loop-at.waiting.items side c.loop-at.invariant
+          w.in_default.ensures in
           subst (λ g. P g c.match-across.waiting.items) (sym w.trees-is) (subst (λ v. P c.loop-at.trees v.items) (sym w.waiting-is) here))
     ]
 
 pub returns-clause-search : goal.returns-clause-search
 returns-clause-search c =
-    exploring_last c.args.faces.now c.args.trees.now c.args.waiting.now.items c.loop-at.trees c.loop-at.waiting.items c.args.face c.loop-at.at c.loop-at.invariant
+    exploring_last c.args.faces.now c.args.trees.now c.args.waiting.now.items c.loop-at.trees c.loop-at.waiting.items c.args.face
+    c.loop-at.at c.loop-at.invariant
     (omega (arith, c.sides-at-end.ensures, c.loop-at-test.false))
