@@ -52,6 +52,12 @@ def row_walk(darts, names):
     return [names.vertices[vertex(7, column)] for column in range(darts + 1)]
 
 
+def long_way(darts, names):
+    """A walk over all rows: along each row once round, and then down to the next one."""
+    rows = [step // (SIZE + 1) for step in range(darts + 1)]
+    return [names.vertices[vertex(row, step - row)] for step, row in enumerate(rows)]
+
+
 def write_walks(name, first, second):
     with open(name, "w") as out:
         for walk in (first, second):
@@ -94,7 +100,14 @@ def main():
     near_end = 1000000 - 100
     write_moves(path("close.moves"), list(detours((near_end + rng.randrange(100) for _ in range(500000)), plain)), 1000001)
 
-    write_short("shuffled", "shuffled", Names(rng))
+    # Walks of a million darts and no moves: each dart is a look-up of an edge. On the way over a mesh that is numbered at
+    # random the look-ups jump about in memory.
+    write_moves(path("along.moves"), [], 1000000)
+    write_moves(path("jumping.moves"), [], 1000000)
+    mixed = Names(rng)
+    write_short("shuffled", "shuffled", mixed)
+    jumps = long_way(1000000, mixed)
+    write_walks(path("jumping.walks"), jumps, jumps)
 
 
 main()
