@@ -1,5 +1,5 @@
 -- Corners at a vertex, and steps round it.
-use Rattle.std.proofs.Common.{◌≡◌, ◌≢◌, ◌⊎◌, inl, inr, ℕ, ◌<◌, true, eqb, List, [], ◌∷◌, length, get_or, refl, ap, sym, ◌∙◌, subst, arith}
+use Rattle.std.proofs.Common.{◌≡◌, ◌≢◌, ◌⊎◌, inl, inr, ℕ, ◌<◌, true, eqb, List, [], ◌∷◌, length, get_or, ap, sym, ◌∙◌, subst, arith}
 use Rattle.std.specs.Prelude.{Contains}
 use Rattle.std.specs.List.{list_any}
 use Rattle.std.proofs.lemmas.Bool.{eq-eqb}
@@ -95,21 +95,6 @@ partners_swap mesh side other h = record {
   one_edge = elim h.one_edge [ inl e ↦ inl (sym e.0, sym e.1) | inr e ↦ inr (sym e.1, sym e.0) ];
 }
 
--- partners have their ends in common
-pub partner_corner : (mesh : FaceList) (v : ℕ) (side other : Side) → ArePartners mesh side other → (tail_of mesh side ≡ v) ⊎ (head_of mesh side ≡ v)
-    → (corner : Side) × IsCornerOfSide mesh v other corner
-partner_corner mesh v side other h end =
-    elim end [
-      | inl e ↦ elim h.one_edge [
-        | inl same ↦ (other, inl (sym same.0 ∙ e, refl))
-        | inr swapped ↦ (side_after mesh other, inr (sym swapped.0 ∙ e, refl))
-      ]
-      | inr e ↦ elim h.one_edge [
-        | inl same ↦ (side_after mesh other, inr (sym same.1 ∙ e, refl))
-        | inr swapped ↦ (other, inl (sym swapped.1 ∙ e, refl))
-      ]
-    ]
-
 pub corner_end : (mesh : FaceList) (v : ℕ) (side corner : Side) → IsCornerOfSide mesh v side corner → (tail_of mesh side ≡ v) ⊎ (head_of mesh side ≡ v)
 corner_end mesh v side corner h = elim h [ inl e ↦ inl e.0 | inr e ↦ inr e.0 ]
 
@@ -150,3 +135,6 @@ unfolding is_used
 corner_used mesh v corner h =
     list_any_at (λ (face : List ℕ). list_any (λ c. eqb c v) face) mesh.faces corner.face.0 [] h.side.face
     (list_any_at (λ c. eqb c v) (face_at mesh corner.face.0) corner.at 0 h.side.place (eq-eqb (tail_of mesh corner) v h.vertex))
+
+pub corner_below : (mesh : FaceList) (side : Side) → IsFaceList mesh → IsSide mesh side → tail_of mesh side < mesh.count
+corner_below mesh side valid h = (valid.faces side.face.0 [] h.face).in_range side.at 0 h.place

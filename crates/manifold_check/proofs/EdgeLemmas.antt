@@ -1,17 +1,20 @@
 -- Edges of a mesh, by its table.
-use Rattle.std.proofs.Common.{◌≡◌, ◌⊎◌, inl, inr, ℕ, ◌<◌, true, eqb, List, length, get_or, refl, ap, sym, ◌∙◌, subst, arith}
+use Rattle.std.proofs.Common.{◌≡◌, ◌≢◌, ◌⊎◌, inl, inr, ℕ, ◌<◌, true, eqb, List, length, get_or, refl, ap, sym, ◌∙◌, subst, arith}
 use Rattle.std.specs.Prelude.{filter}
 use Rattle.std.specs.List.{list_any}
 use Rattle.std.proofs.lemmas.Bool.{cases_lt, cases_eq, eqb-true}
 use Rattle.std.proofs.lemmas.Bool.Decides.{nat_tests}
 use Rattle.std.proofs.lemmas.List.{length-map, get_or_default}
 use Rattle.std.proofs.lemmas.List.Elements.{filter_agree}
-use Rattle.std.proofs.lemmas.List.Folds.{Any-from_list_any}
+use Rattle.std.proofs.lemmas.List.Folds.{Any-from_list_any, list_any-from_Any}
 use Rattle.surf_model.specs.FaceLists.{FaceList, FaceSide, IsFace, IsFaceList, all_sides, joins, is_edge, is_used}
+use Rattle.surf_model.specs.Darts.{IsSide, side_after, tail_of, head_of}
 use Rattle.surf_model.specs.Edges.{Edge, IsTableOf, IsEdgeOf, HasEnds, IsPairBefore, side_name, edge_in}
 use Rattle.surf_model.specs.Surfaces.{sides_between, EachEdgeHasTwoSides}
 use Rattle.surf_model.specs.declared.edges.Side.{Side}
-use Rattle.surf_model.proofs.TableLemmas.{edge_from_table, used_from_table}
+use Rattle.surf_model.proofs.TableLemmas.{edge_from_table}
+use Rattle.surf_model.proofs.PartnerLemmas.{IsWholeSide, whole_side}
+use Rattle.manifold_check.proofs.CornerLemmas.{after_in_mesh, ends_differ, corner_used}
 use Rattle.manifold_check.specs.Faults.{IsLeastUnevenEdge}
 use Rattle.manifold_check.specs.Partitions.{IsFirstUneven}
 
@@ -39,28 +42,55 @@ table_pair mesh table k h l =
     let edge : Edge = edge_in table k in
     edge_from_table mesh table edge.low edge.high h (k, edge, l, get_or_default table k _ _ l, inl (refl, refl))
 
-pub edge_swap : (mesh : FaceList) (table : List Edge) (u v : ℕ) → IsTableOf mesh table → is_edge mesh u v ≡ true → is_edge mesh v u ≡ true
-edge_swap mesh table u v h is =
-    let found : IsEdgeBetween table u v = edge_between mesh table u v h is in
-    edge_from_table mesh table v u h (
-      found.edge,
-      edge_in table found.edge,
-      found.in_table,
-      get_or_default table found.edge _ _ found.in_table,
-      elim found.ends [ inl e ↦ inr e | inr e ↦ inl e ],
-    )
+joins_swap : (u v : ℕ) (s : FaceSide) → joins u v s ≡ joins v u s
+joins_swap u v s = grind (arith, nat_tests)
+
+pub edge_swap : (mesh : FaceList) (u v : ℕ) → is_edge mesh u v ≡ true → is_edge mesh v u ≡ true
+unfolding is_edge
+edge_swap mesh u v is =
+    let any = Any-from_list_any (joins u v) (all_sides mesh) is in
+    list_any-from_Any (joins v u) (all_sides mesh) (any.0, any.1, any.2, any.3, sym (joins_swap u v any.1) ∙ any.4)
+
+joins_ends : (u v : ℕ) (s : FaceSide) → joins u v s ≡ true → ((s.tail ≡ u) × (s.head ≡ v)) ⊎ ((s.tail ≡ v) × (s.head ≡ u))
+joins_ends u v s h = grind (arith, nat_tests)
+
+-- some side joins the two vertices of an edge
+record HasSideBetween (mesh : FaceList) (u v : ℕ) : Type 0 where
+  pub side : Side
+  pub in_mesh : IsSide mesh side
+  pub ends : ((tail_of mesh side ≡ u) × (head_of mesh side ≡ v)) ⊎ ((tail_of mesh side ≡ v) × (head_of mesh side ≡ u))
+
+side_between : (mesh : FaceList) (u v : ℕ) → is_edge mesh u v ≡ true → HasSideBetween mesh u v
+unfolding is_edge
+side_between mesh u v is =
+    let any = Any-from_list_any (joins u v) (all_sides mesh) is in
+    let whole : IsWholeSide mesh any.0 any.1 = subst (IsWholeSide mesh any.0) any.3 (whole_side mesh any.0 any.1 any.2) in
+    record {
+      side = side_name any.1;
+      in_mesh = whole.side_of;
+      ends = elim (joins_ends u v any.1 any.4) [
+        | inl e ↦ inl (sym whole.tail ∙ e.0, sym whole.head ∙ e.1)
+        | inr e ↦ inr (sym whole.tail ∙ e.0, sym whole.head ∙ e.1)
+      ];
+    }
 
 -- both ends of an edge are used
-pub edge_used : (mesh : FaceList) (table : List Edge) (u v : ℕ) → IsTableOf mesh table → is_edge mesh u v ≡ true → is_used mesh v ≡ true
-edge_used mesh table u v h is =
-    let found : IsEdgeBetween table u v = edge_between mesh table u v h is in
-    used_from_table mesh table v h (
-      found.edge,
-      edge_in table found.edge,
-      found.in_table,
-      get_or_default table found.edge _ _ found.in_table,
-      elim found.ends [ inl e ↦ inr e.1 | inr e ↦ inl e.0 ],
-    )
+pub edge_used : (mesh : FaceList) (u v : ℕ) → is_edge mesh u v ≡ true → is_used mesh v ≡ true
+edge_used mesh u v is =
+    let found : HasSideBetween mesh u v = side_between mesh u v is in
+    elim found.ends [
+      | inl e ↦ corner_used mesh v (side_after mesh found.side) (record { side = after_in_mesh mesh found.side found.in_mesh; vertex = e.1 })
+      | inr e ↦ corner_used mesh v found.side (record { side = found.in_mesh; vertex = e.0 })
+    ]
+
+pub edge_differs : (mesh : FaceList) (u v : ℕ) → IsFaceList mesh → is_edge mesh u v ≡ true → u ≢ v
+edge_differs mesh u v valid is same =
+    let found : HasSideBetween mesh u v = side_between mesh u v is in
+    ends_differ mesh found.side valid found.in_mesh
+    (elim found.ends [
+      | inl e ↦ e.0 ∙ same ∙ sym e.1
+      | inr e ↦ e.0 ∙ sym same ∙ sym e.1
+    ])
 
 pub used_below : (mesh : FaceList) (v : ℕ) → IsFaceList mesh → is_used mesh v ≡ true → v < mesh.count
 unfolding is_used
@@ -76,18 +106,15 @@ pub ends_below : (mesh : FaceList) (table : List Edge) (k : ℕ) → IsFaceList 
 ends_below mesh table k valid h l =
     let edge : Edge = edge_in table k in
     let is : is_edge mesh edge.low edge.high ≡ true = table_pair mesh table k h l in (
-      used_below mesh edge.low valid (edge_used mesh table edge.high edge.low h (edge_swap mesh table edge.low edge.high h is)),
-      used_below mesh edge.high valid (edge_used mesh table edge.low edge.high h is),
+      used_below mesh edge.low valid (edge_used mesh edge.high edge.low (edge_swap mesh edge.low edge.high is)),
+      used_below mesh edge.high valid (edge_used mesh edge.low edge.high is),
     )
 
 -- the number of sides of an edge of the table
 sides_of_edge : (mesh : FaceList) (edge : Edge) → IsEdgeOf mesh edge → length edge.sides ≡ sides_between mesh edge.low edge.high
 sides_of_edge mesh edge h = ap (λ (sides : List Side). length sides) h.sides ∙ length-map (filter (joins edge.low edge.high) (all_sides mesh)) side_name
 
-joins_swap : (u v : ℕ) (s : FaceSide) → joins u v s ≡ joins v u s
-joins_swap u v s = grind (arith, nat_tests)
-
-sides_between_swap : (mesh : FaceList) (u v : ℕ) → sides_between mesh u v ≡ sides_between mesh v u
+pub sides_between_swap : (mesh : FaceList) (u v : ℕ) → sides_between mesh u v ≡ sides_between mesh v u
 sides_between_swap mesh u v = ap (λ (sides : List FaceSide). length sides) (filter_agree (joins u v) (joins v u) (joins_swap u v) (all_sides mesh))
 
 pub sides_by_table : (mesh : FaceList) (table : List Edge) (u v : ℕ) (h : IsTableOf mesh table) (is : is_edge mesh u v ≡ true)

@@ -5,7 +5,7 @@ use Rattle.std.proofs.lemmas.Bool.{cases_lt, cases_eq}
 use Rattle.std.proofs.lemmas.Bool.Decides.{nat_tests}
 use Rattle.std.proofs.lemmas.List.{length-set, length-map, map-id, get_or-set_same, get_or-set_other, get_or_past, get_or-map, ext_get_or}
 use Rattle.std.proofs.lemmas.List.FromFn.{length-range_with_len, get_or-range_with_len, get_or-map-range_with_len, map-range_with_len_more}
-use Rattle.manifold_check.specs.Classes.{renamed, joined_at, IsForest, ancestor, root_of, roots_of, HasSameRoots}
+use Rattle.manifold_check.specs.Classes.{renamed, joined_at, AreLeastMembers, IsForest, ancestor, root_of, roots_of, HasSameRoots}
 
 -- no parent is greater, past the end too
 pub parent_le : (parents : List ℕ) (x : ℕ) → IsForest parents → get_or parents x 0 ≤ x
@@ -242,3 +242,16 @@ roots_of-range n =
     get_or-roots_of numbers x 0 (omega (arith, few, long))
     ∙ (root_labels numbers (range_forest n)).own x (omega (arith, few, long)) (get_or-range_with_len 0 n x 0 few ∙ omega arith)
     ∙ sym (get_or-range_with_len 0 n x 0 few ∙ omega arith))
+
+pub roots_are_least : (parents : List ℕ) → IsForest parents → AreLeastMembers (roots_of parents)
+roots_are_least parents h =
+    let size : length (roots_of parents) ≡ length parents = length-roots_of parents in
+    let read : (x : ℕ) → x < length parents → get_or (roots_of parents) x 0 ≡ root_of parents x = λ x l. get_or-roots_of parents x 0 l in
+    record {
+      lesser = λ x l. omega (arith, read x (omega (arith, l, size)), root_le parents x h);
+      itself = λ x l.
+          let few : x < length parents = omega (arith, l, size) in
+          let root : ℕ = root_of parents x in
+          let below : root < length parents = omega (arith, few, root_le parents x h) in
+          ap (λ y. get_or (roots_of parents) y 0) (read x few) ∙ read root below ∙ root_own parents root h below (root_root parents x h few) ∙ sym (read x few);
+    }

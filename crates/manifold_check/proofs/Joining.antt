@@ -22,6 +22,14 @@ joined_step step x y h = (y ∷ [], (h, refl))
 pub joined_trans : {X : Type 0} (step : X → X → Type 0) (x y z : X) → AreJoined step x y → AreJoined step y z → AreJoined step x z
 joined_trans step x y z h k = (h.0 ++ k.0, path-append step x h.0 y k.0 z h.1 k.1)
 
+joined_back : {X : Type 0} (step : X → X → Type 0) → ((x y : X) → step x y → step y x) → (x : X) (path : List X) (y : X) → IsPath step x path y → AreJoined step y x
+joined_back step back x [] y h = joined_refl step y x (sym h)
+joined_back step back x (z ∷ path) y h = joined_trans step y z x (joined_back step back z path y h.1) (joined_step step z x (back x z h.0))
+
+-- steps that lead back too
+pub joined_sym : {X : Type 0} (step : X → X → Type 0) → ((x y : X) → step x y → step y x) → (x y : X) → AreJoined step x y → AreJoined step y x
+joined_sym step back x y h = joined_back step back x h.0 y h.1
+
 -- what steps keep is the same at both ends
 pub joined_keep : {X Y : Type 0} (step : X → X → Type 0) (f : X → Y) → ((x y : X) → step x y → f x ≡ f y) → (x : X) (path : List X) (y : X) → IsPath step x path y → f x ≡ f y
 joined_keep step f keeps x [] y h = ap f h

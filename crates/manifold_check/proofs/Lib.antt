@@ -7,3 +7,5 @@ pub mod ComponentLemmas
 pub mod CornerLemmas
 pub mod RingLemmas
 pub mod LinkLemmas
+pub mod OutcomeLemmas
+pub mod RingExamples

@@ -8,7 +8,15 @@ renamed old new x = if x == old then new else x
 
 -- the least members once the classes of x and y are made one: the greater of the two gives way to the lesser
 abbrev pub joined_at : List ℕ → ℕ → ℕ → List ℕ
-joined_at least x y = map (renamed (max (slice_index least x) (slice_index least y)) (min (slice_index least x) (slice_index least y))) least
+joined_at least x y =
+    let a = slice_index least x in
+    let b = slice_index least y in
+    map (renamed (max a b) (min a b)) least
+
+-- each number has a member of its own class, which is not greater, and which has itself
+pub record AreLeastMembers (least : List ℕ) : Type 0 where
+  pub lesser : (x : ℕ) → x < length least → slice_index least x ≤ x
+  pub itself : (x : ℕ) → x < length least → slice_index least (slice_index least x) ≡ slice_index least x
 
 -- each number has a parent that is not greater; a root is its own
 pub record IsForest (parents : List ℕ) : Type 0 where

@@ -2,3 +2,4 @@ pub mod Classes
 pub mod Partitions
 pub mod Links
 pub mod Faults
+pub mod Examples

@@ -1,7 +1,7 @@
 //! Classes of numbers: at first each number is a class of its own, and then classes are joined two by two.
 ghost use Rattle.std.specs.Prelude.{◌≡◌, ◌<◌, ◌≤◌, ◌^◌, ℕ, length, slice_index, IfOk};
 ghost use Rattle.std.specs.List.{range_with_len};
-ghost use Rattle.manifold_check.specs.Classes.{IsForest, root_of, roots_of, joined_at, HasSameRoots};
+ghost use Rattle.manifold_check.specs.Classes.{IsForest, AreLeastMembers, root_of, roots_of, joined_at, HasSameRoots};
 
 use std::alloc::{AllocError, Global};
 use std::marker::Model;
@@ -48,7 +48,9 @@ impl Classes {
 
     /// For each number the least member of its class.
     pub fn into_least(self) -> Vec<u32>
-        ensures { result.items ≡ self }
+        ensures members { result.items ≡ self }
+        // What holds of all classes.
+        ensures least { AreLeastMembers result.items }
     {
         let Classes { mut parents } = self;
         settle(&mut parents);

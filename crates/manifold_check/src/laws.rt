@@ -1,6 +1,6 @@
 //! What the definitions of this crate say together. The functions do nothing.
 ghost use Rattle.std.specs.Prelude.{◌≡◌};
-ghost use Rattle.surf_model.specs.FaceLists.{FaceList};
+ghost use Rattle.surf_model.specs.FaceLists.{FaceList, IsFaceList};
 ghost use Rattle.surf_model.specs.Surfaces.{IsClosed};
 ghost use Rattle.manifold_check.specs.Faults.{IsFirstFault};
 ghost use Rattle.manifold_check.specs.declared.fault.SurfaceFault.{SurfaceFault};
@@ -13,4 +13,10 @@ pub fn one_first_fault()
 /// A closed surface has none.
 pub fn closed_without_fault()
     ensures { (mesh : FaceList) (fault : SurfaceFault) → IsClosed mesh → IsFirstFault mesh fault → ⊥ }
+{}
+
+/// No face list is neither closed nor at fault.
+pub fn closed_or_fault()
+    ensures { (mesh : FaceList) → IsFaceList mesh → (IsClosed mesh → ⊥)
+        → ((fault : SurfaceFault) → IsFirstFault mesh fault → ⊥) → ⊥ }
 {}

@@ -6,30 +6,29 @@ ghost use Rattle.surf_model.specs.Darts.{IsSide, tail_of, head_of};
 ghost use Rattle.surf_model.specs.Surfaces.{EachEdgeHasTwoSides};
 ghost use Rattle.manifold_check.specs.Faults.{EachVertexHasOneRing, IsLeastPinch};
 ghost use Rattle.manifold_check.specs.Partitions.{AreRings};
+ghost use Rattle.manifold_check.specs.Classes.{AreLeastMembers};
 ghost use Rattle.manifold_check.specs.Links.{IsCornerNumber, AreLinks, IsFirstPinched, with_ring, link_at};
 
 use crate::classes::Classes;
 use std::alloc::{AllocError, Global};
-use surf_model::{EdgeName, Faces, Side, Sides, VertexName};
+use surf_model::{DartName, EdgeName, Faces, Side, Sides, VertexName};
 
-/// The rings of the corners that are met at a vertex.
+/// How many rings are met at a vertex.
 #[derive(Clone, Copy, PartialEq, Eq)]
 enum Link {
-    NoCorner,
-    /// All corners are in one ring, which goes by the number of its least corner.
-    OneRing(u32),
+    NoRing,
+    OneRing,
     Pinched,
 }
 
 impl Link {
-    /// The link once a corner of a ring is met too.
-    fn with_ring(self, ring: u32) -> Link
-        ensures { result ≡ with_ring self ring }
+    /// The link once a ring more is met.
+    fn with_ring(self) -> Link
+        ensures { result ≡ with_ring self }
     {
         match self {
-            Link::NoCorner => Link::OneRing(ring),
-            Link::OneRing(other) if other == ring => self,
-            Link::OneRing(_) | Link::Pinched => Link::Pinched,
+            Link::NoRing => Link::OneRing,
+            Link::OneRing | Link::Pinched => Link::Pinched,
         }
     }
 }
@@ -47,7 +46,7 @@ pub fn pinched_vertex(
         MatchOption found (EachVertexHasOneRing faces.now) (λ vertex. IsLeastPinch faces.now vertex.0)) }
 {
     let rings = rings(alloc, faces, sides)?;
-    let links = links(alloc, faces, sides, &rings)?;
+    let links = links(alloc, faces, &rings)?;
     Ok(first_pinched(&links))
 }
 
@@ -58,6 +57,7 @@ fn rings(alloc: Global, faces: &Faces, sides: &Sides) -> Result<Vec<u32>, AllocE
     requires two { EachEdgeHasTwoSides faces.now }
     ensures count { IfOk result (λ rings. length rings.items ≡ total_sides faces.now) }
     ensures rings { IfOk result (λ rings. AreRings faces.now rings.items) }
+    ensures least { IfOk result (λ rings. AreLeastMembers rings.items) }
 {
     let mut corners = Classes::new(alloc, faces.total())?;
     for edge in 0..sides.len() {
@@ -89,41 +89,32 @@ fn corner_of(faces: &Faces, side: Side, vertex: VertexName) -> u32
     }
 }
 
-/// The link of each vertex, by the rings of the corners.
-fn links(
-    alloc: Global,
-    faces: &Faces,
-    sides: &Sides,
-    rings: &[u32],
-) -> Result<Vec<Link>, AllocError>
+/// The link of each vertex. Each ring is met at its least corner.
+fn links(alloc: Global, faces: &Faces, rings: &[u32]) -> Result<Vec<Link>, AllocError>
     requires valid { IsFaceList faces.now }
-    requires table { IsTableOf faces.now sides.now }
-    requires two { EachEdgeHasTwoSides faces.now }
     requires count { length rings.now ≡ total_sides faces.now }
     requires rings { AreRings faces.now rings.now }
+    requires least { AreLeastMembers rings.now }
     ensures { IfOk result (λ links. AreLinks faces.now rings.now links.items) }
 {
-    let mut links = vec![in alloc; Link::NoCorner; faces.count() as usize]?;
-    // The corners of the other side of an edge are in the same rings.
-    for edge in 0..sides.len() {
-        let edge = EdgeName(edge);
-        let (low, high) = sides.ends(edge);
-        let side = sides.side(edge, 0);
-        let at_low = corner_of(faces, side, low);
-        add_corner(&mut links, low, rings[at_low as usize]);
-        let at_high = corner_of(faces, side, high);
-        add_corner(&mut links, high, rings[at_high as usize]);
+    let mut links = vec![in alloc; Link::NoRing; faces.count() as usize]?;
+    for corner in 0..faces.total() {
+        if rings[corner as usize] == corner {
+            let side = faces.side_at(DartName(corner));
+            let vertex = faces.corner(side.face, side.at);
+            add_ring(&mut links, vertex);
+        }
     }
     Ok(links)
 }
 
-/// Puts the ring of a corner at a vertex to its link.
-fn add_corner(links: &mut [Link], vertex: VertexName, ring: u32)
+/// Puts a ring more to the link of a vertex.
+fn add_ring(links: &mut [Link], vertex: VertexName)
     requires { vertex.0 < length links.old }
-    ensures { links.new ≡ slice_set links.old vertex.0 (with_ring (link_at links.old vertex.0) ring) }
+    ensures { links.new ≡ slice_set links.old vertex.0 (with_ring (link_at links.old vertex.0)) }
 {
     let link = links[vertex.0 as usize];
-    links[vertex.0 as usize] = link.with_ring(ring);
+    links[vertex.0 as usize] = link.with_ring();
 }
 
 /// The first vertex whose link is pinched.

@@ -94,3 +94,18 @@ fn face_that_names_its_edges_twice(rt: HostRuntime) {
     };
     check(&rt, rt.alloc(), &faces, Err(fault));
 }
+
+#[test]
+fn two_tetrahedra_share_an_edge(rt: HostRuntime) {
+    let mut faces = Faces::new(rt.alloc(), 6);
+    push_open_tetrahedron(&rt, &mut faces, 0, 1, 2, 3);
+    push(&rt, &mut faces, 1, 3, 2);
+    push_open_tetrahedron(&rt, &mut faces, 4, 1, 3, 5);
+    push(&rt, &mut faces, 1, 5, 3);
+    let fault = SurfaceFault::EdgeSides {
+        low: VertexName(1),
+        high: VertexName(3),
+        sides: 4,
+    };
+    check(&rt, rt.alloc(), &faces, Err(fault));
+}

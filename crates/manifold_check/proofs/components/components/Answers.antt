@@ -27,5 +27,5 @@ loop-edge-preserved c =
 
 pub returns-clause-components : goal.returns-clause-components
 returns-clause-components c =
-    subst (AreComponents c.args.faces.now) (sym c.into_least.ensures)
+    subst (AreComponents c.args.faces.now) (sym c.into_least.ensures.members)
     (edges_all c.args.faces.now c.args.sides.now c.loop-edge.vertices c.loop-edge.edge c.requires.table (omega arith) c.loop-edge.invariant)

@@ -1,5 +1,5 @@
-use Rattle.manifold_check.proofs.LinkLemmas.{KnowsCornersUpTo}
+use Rattle.manifold_check.specs.Links.{AreLinksUpTo}
 use Rattle.manifold_check.proofs.links.links.Given as goal
 
-abbrev pub invariant-loop-edge : goal.invariant-loop-edge
-invariant-loop-edge l = KnowsCornersUpTo l.faces l.sides l.rings l.links.items l.edge
+abbrev pub invariant-loop-corner : goal.invariant-loop-corner
+invariant-loop-corner l = AreLinksUpTo l.faces l.rings l.corner l.links.items

@@ -74,5 +74,8 @@ loop-edge-preserved c =
 
 pub returns-clause-rings : goal.returns-clause-rings
 returns-clause-rings c =
-    subst (AreRings c.args.faces.now) (sym c.into_least.ensures)
+    subst (AreRings c.args.faces.now) (sym c.into_least.ensures.members)
     (corners_all c.args.faces.now c.args.sides.now c.loop-edge.corners c.loop-edge.edge c.requires.table c.requires.two (omega arith) c.loop-edge.invariant)
+
+pub returns-clause-least : goal.returns-clause-least
+returns-clause-least c = c.into_least.ensures.least
