@@ -1,11 +1,16 @@
 -- Turn words read as products in a group: each spoke puts its element at the vertex, and takes it away in the middle. Where the
 -- quads hold in the group, elementary steps change nothing, so words that reach one another read alike.
-use Rattle.std.proofs.Common.{◌≡◌, ℕ, suc, ◌<◌, Bool, true, false, List, [], ◌∷◌, refl, ap, sym, ◌∙◌, subst, arith}
-use Rattle.std.specs.Prelude.{All}
+use Rattle.std.proofs.Common.{◌≡◌, ◌≢◌, ◌⊎◌, inl, inr, ℕ, zero, suc, ◌+◌, ◌-◌, ◌<◌, ◌≤◌, Bool, true, false, not, eqb, List, [], ◌∷◌, ◌++◌, length, get_or, refl, ap, sym, ◌∙◌, subst, arith}
+use Rattle.std.specs.Prelude.{All, Option, Some, None, option_map, option_and_then, cond, nat_lt}
+use Rattle.std.proofs.lemmas.Bool.{cases_Bool, both_ways, eqb-true, eq-eqb, ltb-true}
+use Rattle.std.proofs.lemmas.Bool.Decides.{nat_tests}
 use Rattle.turn_words.specs.Modulo.{add, minus}
-use Rattle.turn_words.specs.Lemmas.Sums.{add-lt, minus-lt, add_comm, add_assoc, add-zero, add-minus}
-use Rattle.turn_words.specs.Step_table.{next_changed}
-use Rattle.polygon_cut.proofs.GroupLemmas.{IsGroup, quotient}
+use Rattle.turn_words.specs.Lemmas.Sums.{add-lt, minus-lt, add_comm, add_assoc, add-zero, zero-add, add-minus}
+use Rattle.turn_words.specs.Step_table.{next_changed, spur_in, spur_out, pushed, from_place, after_step, after_steps, Reaches}
+use Rattle.turn_words.specs.Spoke_paths.{place_round, turns_after, turn_word_of}
+use Rattle.turn_words.specs.declared.step.Step.{Step}
+use Rattle.turn_words.specs.declared.step.Step.TheVariants.{SpurIn, SpurOut, Push}
+use Rattle.polygon_cut.proofs.GroupLemmas.{IsGroup, quotient, middle}
 
 -- The spokes of a wheel as elements of a group: places are undone by `spoke_at`, and each number has a partner with which it
 -- makes a quad.
@@ -176,3 +181,197 @@ push_reads Same mul inv one g element degree place spoke_at q false m x word l k
     subst (λ z. Same z (read mul inv one element degree place spoke_at false m (add degree x less ∷ less ∷ next_changed degree less word))) (sym begin)
     (subst (λ z. Same (mul (inv (element c_up)) (mul (element a) rest)) z) (sym shape)
     (change_two Same mul inv one g (inv (element c_up)) (element a) (inv (element c)) (element a_up) rest (q.around_vertex a a_in)))
+
+-- changed there and back
+unchanged : (degree a b : ℕ) (word : List ℕ) → Within degree word → a < degree → b < degree → add degree a b ≡ 0 → next_changed degree b (next_changed degree a word) ≡ word
+unchanged degree a b [] h l k e = refl
+unchanged degree a b (y ∷ word) h l k e = ap (λ x. x ∷ word) (add_assoc degree y a b h.0 l k ∙ ap (add degree y) e ∙ add-zero degree y h.0)
+
+-- one rule used at the front of a word
+abbrev Reads : {X : Type 0} → (X → X → Type 0) → (X → X → X) → (X → X) → X → (ℕ → X) → ℕ → (ℕ → ℕ) → (ℕ → ℕ) → List ℕ → List ℕ → Type 0
+Reads Same mul inv one element degree place spoke_at w v =
+    (at_vertex : Bool) (m : ℕ) → m < degree
+    → Same (read mul inv one element degree place spoke_at at_vertex m w) (read mul inv one element degree place spoke_at at_vertex m v)
+
+some_is : (test : Bool) (x v : List ℕ) → cond test (Some x) None ≡ Some v → (test ≡ true) × (x ≡ v)
+some_is true x v e = (refl, let same : x ≡ v = cc in same)
+some_is false x v e = cc
+
+record Rewritten {X : Type 0} (Same : X → X → Type 0) (mul : X → X → X) (inv : X → X) (one : X) (element : ℕ → X) (degree : ℕ) (place spoke_at : ℕ → ℕ) (w v : List ℕ) : Type 0 where
+  within : Within degree v
+  reads : Reads Same mul inv one element degree place spoke_at w v
+
+spur_in_reads : {X : Type 0} (Same : X → X → Type 0) (mul : X → X → X) (inv : X → X) (one : X) → IsGroup Same mul inv one → (element : ℕ → X) (degree : ℕ) (place spoke_at : ℕ → ℕ)
+    → HasQuads Same mul inv element degree place spoke_at → (first : ℕ) (w v : List ℕ) → Within degree w → spur_in degree first w ≡ Some v
+    → Rewritten Same mul inv one element degree place spoke_at w v
+spur_in_reads Same mul inv one g element degree place spoke_at q first w v h e =
+    let told = some_is (nat_lt first degree) (first ∷ 0 ∷ next_changed degree (minus degree first) w) v e in
+    let first_in : first < degree = ltb-true first degree told.0 in
+    let changed : Within degree (next_changed degree (minus degree first) w) = changed_within degree (minus degree first) w (minus-lt degree first first_in) h in
+    let home : next_changed degree first (next_changed degree (minus degree first) w) ≡ w =
+    unchanged degree (minus degree first) first w h (minus-lt degree first first_in) first_in (add_comm degree (minus degree first) first ∙ add-minus degree first first_in) in
+    record {
+      within = subst (Within degree) told.1 (first_in, (omega (arith, first_in), changed));
+      reads = λ at_vertex m l.
+          let out = spur_reads Same mul inv one g element degree place spoke_at q at_vertex m first (next_changed degree (minus degree first) w) l first_in changed in
+          g.turn (read mul inv one element degree place spoke_at at_vertex m v) (read mul inv one element degree place spoke_at at_vertex m w)
+          (subst (λ x. Same (read mul inv one element degree place spoke_at at_vertex m x) (read mul inv one element degree place spoke_at at_vertex m w)) told.1
+          (subst (λ x. Same (read mul inv one element degree place spoke_at at_vertex m (first ∷ 0 ∷ next_changed degree (minus degree first) w)) (read mul inv one element degree place spoke_at at_vertex m x)) home out));
+    }
+
+spur_out_reads : {X : Type 0} (Same : X → X → Type 0) (mul : X → X → X) (inv : X → X) (one : X) → IsGroup Same mul inv one → (element : ℕ → X) (degree : ℕ) (place spoke_at : ℕ → ℕ)
+    → HasQuads Same mul inv element degree place spoke_at → (w v : List ℕ) → Within degree w → spur_out degree w ≡ Some v
+    → Rewritten Same mul inv one element degree place spoke_at w v
+spur_out_reads Same mul inv one g element degree place spoke_at q [] v h e = cc
+spur_out_reads Same mul inv one g element degree place spoke_at q (x ∷ []) v h e = cc
+spur_out_reads Same mul inv one g element degree place spoke_at q (x ∷ turn ∷ w) v h e =
+    let told = some_is (eqb turn 0) (next_changed degree x w) v e in
+    let zero_is : turn ≡ 0 = eqb-true turn 0 told.0 in
+    record {
+      within = subst (Within degree) told.1 (changed_within degree x w h.0 h.1.1);
+      reads = λ at_vertex m l.
+          subst (λ z. Same (read mul inv one element degree place spoke_at at_vertex m (x ∷ turn ∷ w)) (read mul inv one element degree place spoke_at at_vertex m z)) told.1
+          (subst (λ z. Same (read mul inv one element degree place spoke_at at_vertex m (x ∷ z ∷ w)) (read mul inv one element degree place spoke_at at_vertex m (next_changed degree x w))) (sym zero_is)
+          (spur_reads Same mul inv one g element degree place spoke_at q at_vertex m x w l h.0 h.1.1));
+    }
+
+pushed_reads : {X : Type 0} (Same : X → X → Type 0) (mul : X → X → X) (inv : X → X) (one : X) → IsGroup Same mul inv one → (element : ℕ → X) (degree : ℕ) (place spoke_at : ℕ → ℕ)
+    → HasQuads Same mul inv element degree place spoke_at → (up : Bool) (w v : List ℕ) → Within degree w → pushed degree up w ≡ Some v
+    → Rewritten Same mul inv one element degree place spoke_at w v
+pushed_reads Same mul inv one g element degree place spoke_at q up [] v h e = cc
+pushed_reads Same mul inv one g element degree place spoke_at q up (x ∷ []) v h e = cc
+pushed_reads Same mul inv one g element degree place spoke_at q false (x ∷ turn ∷ w) v h e =
+    let less : ℕ = minus degree 1 in
+    let less_in : less < degree = minus-lt degree 1 q.large in
+    let told = some_is (eqb turn 1) (add degree x less ∷ less ∷ next_changed degree less w) v e in
+    let one_is : turn ≡ 1 = eqb-true turn 1 told.0 in
+    record {
+      within = subst (Within degree) told.1 (add-lt degree x less h.0 less_in, (less_in, changed_within degree less w less_in h.1.1));
+      reads = λ at_vertex m l.
+          subst (λ z. Same (read mul inv one element degree place spoke_at at_vertex m (x ∷ turn ∷ w)) (read mul inv one element degree place spoke_at at_vertex m z)) told.1
+          (subst (λ z. Same (read mul inv one element degree place spoke_at at_vertex m (x ∷ z ∷ w)) (read mul inv one element degree place spoke_at at_vertex m (add degree x less ∷ less ∷ next_changed degree less w))) (sym one_is)
+          (push_reads Same mul inv one g element degree place spoke_at q at_vertex m x w l h.0 h.1.1));
+    }
+pushed_reads Same mul inv one g element degree place spoke_at q true (x ∷ turn ∷ w) v h e =
+    let less : ℕ = minus degree 1 in
+    let less_in : less < degree = minus-lt degree 1 q.large in
+    let told = some_is (eqb turn less) (add degree x 1 ∷ 1 ∷ next_changed degree 1 w) v e in
+    let less_is : turn ≡ less = eqb-true turn less told.0 in
+    let x_up : add degree x 1 < degree = add-lt degree x 1 h.0 q.large in
+    let changed : Within degree (next_changed degree 1 w) = changed_within degree 1 w q.large h.1.1 in
+    let home : next_changed degree less (next_changed degree 1 w) ≡ w = unchanged degree 1 less w h.1.1 q.large less_in (add-minus degree 1 q.large) in
+    let x_home : add degree (add degree x 1) less ≡ x = add_back degree x q.large h.0 in
+    record {
+      within = subst (Within degree) told.1 (x_up, (q.large, changed));
+      reads = λ at_vertex m l.
+          let down = push_reads Same mul inv one g element degree place spoke_at q at_vertex m (add degree x 1) (next_changed degree 1 w) l x_up changed in
+          let to_word : Same (read mul inv one element degree place spoke_at at_vertex m (add degree x 1 ∷ 1 ∷ next_changed degree 1 w)) (read mul inv one element degree place spoke_at at_vertex m (x ∷ turn ∷ w)) =
+          subst (λ z. Same (read mul inv one element degree place spoke_at at_vertex m (add degree x 1 ∷ 1 ∷ next_changed degree 1 w)) (read mul inv one element degree place spoke_at at_vertex m (x ∷ z ∷ w))) (sym less_is)
+          (subst (λ z. Same (read mul inv one element degree place spoke_at at_vertex m (add degree x 1 ∷ 1 ∷ next_changed degree 1 w)) (read mul inv one element degree place spoke_at at_vertex m (z ∷ less ∷ w))) x_home
+          (subst (λ z. Same (read mul inv one element degree place spoke_at at_vertex m (add degree x 1 ∷ 1 ∷ next_changed degree 1 w)) (read mul inv one element degree place spoke_at at_vertex m (add degree (add degree x 1) less ∷ less ∷ z))) home down)) in
+          g.turn (read mul inv one element degree place spoke_at at_vertex m v) (read mul inv one element degree place spoke_at at_vertex m (x ∷ turn ∷ w))
+          (subst (λ z. Same (read mul inv one element degree place spoke_at at_vertex m z) (read mul inv one element degree place spoke_at at_vertex m (x ∷ turn ∷ w))) told.1 to_word);
+    }
+
+-- a rule used further on in the word
+mapped_is : (o : Option (List ℕ)) (x : ℕ) (v : List ℕ) → option_map (λ changed. x ∷ changed) o ≡ Some v → (w : List ℕ) × (o ≡ Some w) × (x ∷ w ≡ v)
+mapped_is None x v e = cc
+mapped_is (Some w) x v e = (w, refl, let same : x ∷ w ≡ v = cc in same)
+
+further_on : {X : Type 0} (Same : X → X → Type 0) (mul : X → X → X) (inv : X → X) (one : X) → IsGroup Same mul inv one → (element : ℕ → X) (degree : ℕ) (place spoke_at : ℕ → ℕ)
+    → HasQuads Same mul inv element degree place spoke_at → (rule : List ℕ → Option (List ℕ))
+    → ((w v : List ℕ) → Within degree w → rule w ≡ Some v → Rewritten Same mul inv one element degree place spoke_at w v)
+    → (at : ℕ) (w v : List ℕ) → Within degree w → from_place at rule w ≡ Some v → Rewritten Same mul inv one element degree place spoke_at w v
+further_on Same mul inv one g element degree place spoke_at q rule ok zero w v h e = ok w v h e
+further_on Same mul inv one g element degree place spoke_at q rule ok (suc at) [] v h e = cc
+further_on Same mul inv one g element degree place spoke_at q rule ok (suc at) (x ∷ w) v h e =
+    let told = mapped_is (from_place at rule w) x v e in
+    let rest : Rewritten Same mul inv one element degree place spoke_at w told.0 = further_on Same mul inv one g element degree place spoke_at q rule ok at w told.0 h.1 told.1 in
+    record {
+      within = subst (Within degree) told.2 (h.0, rest.within);
+      reads = λ at_vertex m l.
+          subst (λ z. Same (read mul inv one element degree place spoke_at at_vertex m (x ∷ w)) (read mul inv one element degree place spoke_at at_vertex m z)) told.2 (behind at_vertex m l rest);
+    }
+  where
+    behind : {u : List ℕ} (at_vertex : Bool) (m : ℕ) → m < degree → Rewritten Same mul inv one element degree place spoke_at w u
+        → Same (read mul inv one element degree place spoke_at at_vertex m (x ∷ w)) (read mul inv one element degree place spoke_at at_vertex m (x ∷ u))
+    behind {u} true m l rest =
+        let i : ℕ = spoke_at (add degree m x) in
+        g.mul_same (element i) (element i) (read mul inv one element degree place spoke_at false i w) (read mul inv one element degree place spoke_at false i u) (g.itself (element i))
+        (rest.reads false i (q.spoke_in (add degree m x) (add-lt degree m x l h.0)))
+    behind {u} false m l rest =
+        let i : ℕ = add degree m x in
+        g.mul_same (inv (element i)) (inv (element i)) (read mul inv one element degree place spoke_at true (place i) w) (read mul inv one element degree place spoke_at true (place i) u)
+        (g.itself (inv (element i))) (rest.reads true (place i) (q.place_in i (add-lt degree m x l h.0)))
+
+step_reads : {X : Type 0} (Same : X → X → Type 0) (mul : X → X → X) (inv : X → X) (one : X) → IsGroup Same mul inv one → (element : ℕ → X) (degree : ℕ) (place spoke_at : ℕ → ℕ)
+    → HasQuads Same mul inv element degree place spoke_at → (step : Step) (w v : List ℕ) → Within degree w → after_step degree step w ≡ Some v
+    → Rewritten Same mul inv one element degree place spoke_at w v
+step_reads Same mul inv one g element degree place spoke_at q (SpurIn at first) w v h e =
+    further_on Same mul inv one g element degree place spoke_at q (spur_in degree first) (spur_in_reads Same mul inv one g element degree place spoke_at q first) at w v h e
+step_reads Same mul inv one g element degree place spoke_at q (SpurOut at) w v h e =
+    further_on Same mul inv one g element degree place spoke_at q (spur_out degree) (spur_out_reads Same mul inv one g element degree place spoke_at q) at w v h e
+step_reads Same mul inv one g element degree place spoke_at q (Push at up) w v h e =
+    further_on Same mul inv one g element degree place spoke_at q (pushed degree up) (pushed_reads Same mul inv one g element degree place spoke_at q up) at w v h e
+
+then_is : (f : List ℕ → Option (List ℕ)) (o : Option (List ℕ)) (v : List ℕ) → option_and_then f o ≡ Some v → (w : List ℕ) × (o ≡ Some w) × (f w ≡ Some v)
+then_is f None v e = cc
+then_is f (Some w) v e = (w, refl, e)
+
+-- a word that another reaches reads as that one does
+pub reached_reads : {X : Type 0} (Same : X → X → Type 0) (mul : X → X → X) (inv : X → X) (one : X) → IsGroup Same mul inv one → (element : ℕ → X) (degree : ℕ) (place spoke_at : ℕ → ℕ)
+    → HasQuads Same mul inv element degree place spoke_at → (steps : List Step) (w v : List ℕ) → Within degree w → after_steps degree steps w ≡ Some v
+    → (at_vertex : Bool) (m : ℕ) → m < degree
+    → Same (read mul inv one element degree place spoke_at at_vertex m w) (read mul inv one element degree place spoke_at at_vertex m v)
+reached_reads Same mul inv one g element degree place spoke_at q [] w v h e at_vertex m l =
+    let same : w ≡ v = cc in
+    subst (λ z. Same (read mul inv one element degree place spoke_at at_vertex m w) (read mul inv one element degree place spoke_at at_vertex m z)) same (g.itself (read mul inv one element degree place spoke_at at_vertex m w))
+reached_reads Same mul inv one g element degree place spoke_at q (step ∷ steps) w v h e at_vertex m l =
+    let told = then_is (after_steps degree steps) (after_step degree step w) v e in
+    let first : Rewritten Same mul inv one element degree place spoke_at w told.0 = step_reads Same mul inv one g element degree place spoke_at q step w told.0 h told.1 in
+    g.on (read mul inv one element degree place spoke_at at_vertex m w) (read mul inv one element degree place spoke_at at_vertex m told.0) (read mul inv one element degree place spoke_at at_vertex m v)
+    (first.reads at_vertex m l) (reached_reads Same mul inv one g element degree place spoke_at q steps told.0 v first.within told.2 at_vertex m l)
+
+-- the product of a list of spokes, in turn put and taken away
+abbrev pub along_spokes : {X : Type 0} → (X → X → X) → (X → X) → X → (ℕ → X) → Bool → List ℕ → X
+along_spokes mul inv one element at_vertex [] = one
+along_spokes mul inv one element true (i ∷ spokes) = mul (element i) (along_spokes mul inv one element false spokes)
+along_spokes mul inv one element false (i ∷ spokes) = mul (inv (element i)) (along_spokes mul inv one element true spokes)
+
+-- it is what its turn word reads to
+turns_read : {X : Type 0} (mul : X → X → X) (inv : X → X) (one : X) (element : ℕ → X) (places : List ℕ) (spoke_at : ℕ → ℕ)
+    → ((i : ℕ) → i < length places → get_or places i 0 < length places) → ((i : ℕ) → i < length places → spoke_at (get_or places i 0) ≡ i)
+    → (spokes : List ℕ) (at_vertex : Bool) (last : ℕ) → last < length places → All (λ i. i < length places) spokes
+    → read mul inv one element (length places) (λ i. get_or places i 0) spoke_at at_vertex (place_round places at_vertex last) (turns_after places at_vertex last spokes)
+    ≡ along_spokes mul inv one element at_vertex spokes
+turns_read mul inv one element places spoke_at place_in back [] at_vertex last l h = refl
+turns_read mul inv one element places spoke_at place_in back (i ∷ spokes) true last l h =
+    let d : ℕ = length places in
+    let here : i < d = h 0 i (omega arith) in
+    let sum : add d (get_or places last 0) (add d (get_or places i 0) (minus d (get_or places last 0))) ≡ get_or places i 0 =
+    ap (add d (get_or places last 0)) (add_comm d (get_or places i 0) (minus d (get_or places last 0)))
+    ∙ sym (add_assoc d (get_or places last 0) (minus d (get_or places last 0)) (get_or places i 0) (place_in last l) (minus-lt d (get_or places last 0) (place_in last l)) (place_in i here))
+    ∙ ap (λ x. add d x (get_or places i 0)) (add-minus d (get_or places last 0) (place_in last l)) ∙ zero-add d (get_or places i 0) (place_in i here) in
+    let is : spoke_at (add d (get_or places last 0) (add d (get_or places i 0) (minus d (get_or places last 0)))) ≡ i = ap spoke_at sum ∙ back i here in
+    ap (λ x. mul (element x) (read mul inv one element d (λ j. get_or places j 0) spoke_at false x (turns_after places false i spokes))) is
+    ∙ ap (mul (element i)) (turns_read mul inv one element places spoke_at place_in back spokes false i here (λ k e m. h (suc k) e (omega arith)))
+turns_read mul inv one element places spoke_at place_in back (i ∷ spokes) false last l h =
+    let d : ℕ = length places in
+    let here : i < d = h 0 i (omega arith) in
+    let is : add d last (add d i (minus d last)) ≡ i =
+    ap (add d last) (add_comm d i (minus d last)) ∙ sym (add_assoc d last (minus d last) i l (minus-lt d last l) here)
+    ∙ ap (λ x. add d x i) (add-minus d last l) ∙ zero-add d i here in
+    ap (λ x. mul (inv (element x)) (read mul inv one element d (λ j. get_or places j 0) spoke_at true (get_or places x 0) (turns_after places true i spokes))) is
+    ∙ ap (mul (inv (element i))) (turns_read mul inv one element places spoke_at place_in back spokes true i here (λ k e m. h (suc k) e (omega arith)))
+
+pub spokes_read : {X : Type 0} (mul : X → X → X) (inv : X → X) (one : X) (element : ℕ → X) (places : List ℕ) (spoke_at : ℕ → ℕ)
+    → ((i : ℕ) → i < length places → get_or places i 0 < length places) → ((i : ℕ) → i < length places → spoke_at (get_or places i 0) ≡ i)
+    → (spokes : List ℕ) → All (λ i. i < length places) spokes
+    → read mul inv one element (length places) (λ i. get_or places i 0) spoke_at true 0 (turn_word_of places spokes) ≡ along_spokes mul inv one element true spokes
+spokes_read mul inv one element places spoke_at place_in back [] h = refl
+spokes_read mul inv one element places spoke_at place_in back (i ∷ spokes) h =
+    let d : ℕ = length places in
+    let here : i < d = h 0 i (omega arith) in
+    let is : spoke_at (add d 0 (get_or places i 0)) ≡ i = ap spoke_at (zero-add d (get_or places i 0) (place_in i here)) ∙ back i here in
+    ap (λ x. mul (element x) (read mul inv one element d (λ j. get_or places j 0) spoke_at false x (turns_after places false i spokes))) is
+    ∙ ap (mul (element i)) (turns_read mul inv one element places spoke_at place_in back spokes false i here (λ k e m. h (suc k) e (omega arith)))
