@@ -5,3 +5,4 @@ pub mod LawLemmas
 pub mod GroupLemmas
 pub mod LoopLemmas
 pub mod ValueLemmas
+pub mod TreeWayLemmas
