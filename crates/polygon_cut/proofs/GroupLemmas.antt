@@ -48,3 +48,24 @@ pub left_factor : {X : Type 0} (Same : X → X → Type 0) (mul : X → X → X)
     → Same (mul v (quotient mul inv x y)) one → Same v (quotient mul inv y x)
 left_factor Same mul inv one g v x y h =
     g.on v (inv (quotient mul inv x y)) (quotient mul inv y x) (inverse_unique Same mul inv one g v (quotient mul inv x y) h) (inverse_of_quotient Same mul inv one g x y)
+
+pub inverse_of_product : {X : Type 0} (Same : X → X → Type 0) (mul : X → X → X) (inv : X → X) (one : X) → IsGroup Same mul inv one → (x y : X) → Same (inv (mul x y)) (mul (inv y) (inv x))
+inverse_of_product Same mul inv one g x y =
+    g.turn (mul (inv y) (inv x)) (inv (mul x y)) (inverse_unique Same mul inv one g (mul (inv y) (inv x)) (mul x y) product)
+  where
+    inner : Same (mul (inv x) (mul x y)) y
+    inner = g.on (mul (inv x) (mul x y)) (mul (mul (inv x) x) y) y (g.turn (mul (mul (inv x) x) y) (mul (inv x) (mul x y)) (g.associates (inv x) x y))
+        (g.on (mul (mul (inv x) x) y) (mul one y) y (g.mul_same (mul (inv x) x) one y y (g.cancels_back x) (g.itself y)) (g.one_left y))
+    product : Same (mul (mul (inv y) (inv x)) (mul x y)) one
+    product = g.on (mul (mul (inv y) (inv x)) (mul x y)) (mul (inv y) (mul (inv x) (mul x y))) one (g.associates (inv y) (inv x) (mul x y))
+        (g.on (mul (inv y) (mul (inv x) (mul x y))) (mul (inv y) y) one (g.mul_same (inv y) (inv y) (mul (inv x) (mul x y)) y (g.itself (inv y)) inner) (g.cancels_back y))
+
+-- x (v⁻¹ x)⁻¹ is v
+pub one_step : {X : Type 0} (Same : X → X → Type 0) (mul : X → X → X) (inv : X → X) (one : X) → IsGroup Same mul inv one → (v x : X) → Same (quotient mul inv x (mul (inv v) x)) v
+one_step Same mul inv one g v x =
+    let turned : Same (inv (mul (inv v) x)) (mul (inv x) v) =
+    g.on (inv (mul (inv v) x)) (mul (inv x) (inv (inv v))) (mul (inv x) v) (inverse_of_product Same mul inv one g (inv v) x)
+    (g.mul_same (inv x) (inv x) (inv (inv v)) v (g.itself (inv x)) (inverse_twice Same mul inv one g v)) in
+    g.on (mul x (inv (mul (inv v) x))) (mul x (mul (inv x) v)) v (g.mul_same x x (inv (mul (inv v) x)) (mul (inv x) v) (g.itself x) turned)
+    (g.on (mul x (mul (inv x) v)) (mul (mul x (inv x)) v) v (g.turn (mul (mul x (inv x)) v) (mul x (mul (inv x) v)) (g.associates x (inv x) v))
+    (g.on (mul (mul x (inv x)) v) (mul one v) v (g.mul_same (mul x (inv x)) one v v (g.cancels x) (g.itself v)) (g.one_left v)))

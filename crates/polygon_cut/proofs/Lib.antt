@@ -6,3 +6,5 @@ pub mod GroupLemmas
 pub mod LoopLemmas
 pub mod ValueLemmas
 pub mod TreeWayLemmas
+pub mod FaceRoundLemmas
+pub mod SpokeLemmas

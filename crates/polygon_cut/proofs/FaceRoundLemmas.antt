@@ -1,0 +1,210 @@
+-- Round a face: the darts from a dart on, as many as the face has sides, go along its whole boundary, which one move contracts.
+use Rattle.std.proofs.Common.{◌≡◌, ◌≢◌, ◌⊎◌, inl, inr, ℕ, zero, suc, ◌+◌, ◌-◌, ◌<◌, ◌≤◌, Bool, true, false, not, List, [], ◌∷◌, ◌++◌, length, get_or, refl, ap, sym, ◌∙◌, subst, arith}
+use Rattle.std.specs.Prelude.{IsTrue, Some}
+use Rattle.std.proofs.lemmas.Bool.{cases_Bool, cases_eq, cases_lt, both_ways}
+use Rattle.std.proofs.lemmas.Bool.Decides.{nat_tests}
+use Rattle.surf_model.specs.FaceLists.{FaceList, face_at, next_corner, corners_from, is_edge, is_used}
+use Rattle.surf_model.specs.Surfaces.{is_flipped}
+use Rattle.surf_model.specs.Moves.{apply, Homotopic}
+use Rattle.surf_model.specs.declared.moves.Move.{Move}
+use Rattle.surf_model.specs.declared.moves.Move.TheVariants.{Across}
+use Rattle.surf_model.proofs.ReplacementLemmas.{by_replacing}
+use Rattle.surf_model.proofs.RoundLemmas.{corner_after}
+use Rattle.halfedge_map.specs.Orbits.{after_steps}
+use Rattle.halfedge_map.specs.OrientedMeshes.{OrientedMesh, IsOrientedSurface}
+use Rattle.halfedge_map.specs.DartMaps.{darts_of, next_of, origin_of, face_of, start_corner_of, end_corner_of, dart_at_corner}
+use Rattle.halfedge_map.specs.RotationSystems.{Rotations, rotations_of, IsRotationSystem, IsDartFrom}
+use Rattle.halfedge_map.proofs.OrbitLemmas.{step_first}
+use Rattle.halfedge_map.proofs.NumberLemmas.{IsNumberOf, HasPlace, placed}
+use Rattle.halfedge_map.proofs.CornerLemmas.{corner_back}
+use Rattle.halfedge_map.proofs.DartLemmas.{face_at_number, origin_at, corner-next, start_kept, start_flipped, end_kept, end_flipped, start_corner_within}
+use Rattle.halfedge_map.proofs.EdgeLemmas.{edge_of_dart}
+use Rattle.halfedge_map.proofs.VertexLemmas.{at_start}
+use Rattle.halfedge_map.proofs.SystemLemmas.{rotation_system}
+
+-- where k steps round m corners lead, and that fewer than m steps, but some, lead away
+rises : (m t k : ℕ) → t < m → t + k < m → corner_after true m t k ≡ t + k
+rises m t zero h l = omega arith
+rises m t (suc k) h l =
+    let next : next_corner true m t ≡ t + 1 = grind (arith, nat_tests) in
+    rw next (rises m (t + 1) k (omega arith) (omega arith) ∙ omega arith)
+
+rises_past : (m t k : ℕ) → t < m → k ≤ m → m ≤ t + k → corner_after true m t k ≡ t + k - m
+rises_past m t zero h l p = absurd (omega arith)
+rises_past m t (suc k) h l p = elim (cases_lt (t + 1) m) [
+  | inl more ↦
+      let next : next_corner true m t ≡ t + 1 = grind (arith, nat_tests) in
+      rw next (rises_past m (t + 1) k more (omega arith) (omega arith) ∙ omega arith)
+  | inr last ↦
+      let next : next_corner true m t ≡ 0 = grind (arith, nat_tests) in
+      rw next (rises m 0 k (omega arith) (omega arith) ∙ omega arith)
+]
+
+falls : (m t k : ℕ) → t < m → k ≤ t → corner_after false m t k ≡ t - k
+falls m t zero h l = omega arith
+falls m t (suc k) h l =
+    let next : next_corner false m t ≡ t - 1 = grind (arith, nat_tests) in
+    rw next (falls m (t - 1) k (omega arith) (omega arith) ∙ omega arith)
+
+falls_past : (m t k : ℕ) → t < m → k ≤ m → t < k → corner_after false m t k ≡ t + m - k
+falls_past m t zero h l p = absurd (omega arith)
+falls_past m t (suc k) h l p = elim (cases_lt 0 t) [
+  | inl more ↦
+      let next : next_corner false m t ≡ t - 1 = grind (arith, nat_tests) in
+      rw next (falls_past m (t - 1) k (omega arith) (omega arith) (omega arith) ∙ omega arith)
+  | inr first ↦
+      let next : next_corner false m t ≡ m - 1 = grind (arith, nat_tests) in
+      rw next (falls m (m - 1) k (omega arith) (omega arith) ∙ omega arith)
+]
+
+corner_apart : (rising : Bool) (m t k : ℕ) → t < m → 0 < k → k < m → corner_after rising m t k ≢ t
+corner_apart true m t k h some l same = elim (cases_lt (t + k) m) [
+  | inl within ↦ (let is : corner_after true m t k ≡ t + k = rises m t k h within in omega arith)
+  | inr past ↦ (let is : corner_after true m t k ≡ t + k - m = rises_past m t k h (omega arith) past in omega arith)
+]
+corner_apart false m t k h some l same = elim (cases_lt t k) [
+  | inl past ↦ (let is : corner_after false m t k ≡ t + m - k = falls_past m t k h (omega arith) past in omega arith)
+  | inr within ↦ (let is : corner_after false m t k ≡ t - k = falls m t k h within in omega arith)
+]
+
+corner_home : (rising : Bool) (m t : ℕ) → t < m → corner_after rising m t m ≡ t
+corner_home true m t h = rises_past m t m h (omega arith) (omega arith) ∙ omega arith
+corner_home false m t h = falls_past m t m h (omega arith) h ∙ omega arith
+
+-- the direction in which darts go round a face
+dir : OrientedMesh → ℕ → Bool
+dir s f = not (is_flipped s.signs f)
+
+-- a dart ends one corner on from where it starts
+end_is : (s : OrientedMesh) (f t d : ℕ) → IsNumberOf s.mesh f t d → end_corner_of s d ≡ next_corner (dir s f) (length (face_at s.mesh f)) (start_corner_of s d)
+unfolding dir
+end_is s f t d n = by (is_flipped s.signs f) refl
+  where
+    m : ℕ
+    m = length (face_at s.mesh f)
+    by : (b : Bool) → is_flipped s.signs f ≡ b → end_corner_of s d ≡ next_corner (not (is_flipped s.signs f)) m (start_corner_of s d)
+    by false e = end_kept s f t d n e ∙ sym (ap (λ b. next_corner (not b) m (start_corner_of s d)) e ∙ ap (next_corner true m) (start_kept s f t d n e))
+    by true e =
+        end_flipped s f t d n e
+        ∙ sym (ap (λ b. next_corner (not b) m (start_corner_of s d)) e ∙ ap (next_corner false m) (start_flipped s f t d n e) ∙ corner_back true m t n.place)
+
+corner_after_suc : (rising : Bool) (m t k : ℕ) → corner_after rising m t (suc k) ≡ next_corner rising m (corner_after rising m t k)
+corner_after_suc rising m t zero = refl
+corner_after_suc rising m t (suc k) = corner_after_suc rising m (next_corner rising m t) k
+
+-- where the darts round a face start
+record OnRound (s : OrientedMesh) (d k : ℕ) : Type 0 where
+  within : after_steps (next_of s) k d < darts_of s
+  face : face_of s (after_steps (next_of s) k d) ≡ face_of s d
+  corner : start_corner_of s (after_steps (next_of s) k d) ≡ corner_after (dir s (face_of s d)) (length (face_at s.mesh (face_of s d))) (start_corner_of s d) k
+
+on_round : (s : OrientedMesh) → IsOrientedSurface s → (k d : ℕ) → d < darts_of s → OnRound s d k
+on_round s o zero d l = record { within = l; face = refl; corner = refl }
+on_round s o (suc k) d l =
+    let maps : Rotations = rotations_of s in
+    let r : IsRotationSystem maps = rotation_system s o in
+    let before : OnRound s d k = on_round s o k d l in
+    let x : ℕ = after_steps (next_of s) k d in
+    let place : HasPlace s.mesh x = placed s.mesh x before.within in
+    let f_is : face_of s x ≡ place.face = face_at_number s place.face place.place x place.numbered in
+    let face_on : face_of s (next_of s x) ≡ face_of s x =
+    sym ((r.faces x (next_of s x) before.within (r.next_within x before.within)).1 (record { steps = 1; leads = refl })) in
+    let step : start_corner_of s (next_of s x) ≡ next_corner (dir s (face_of s x)) (length (face_at s.mesh (face_of s x))) (start_corner_of s x) =
+    corner-next s x before.within ∙ end_is s place.face place.place x place.numbered
+    ∙ ap (λ f. next_corner (dir s f) (length (face_at s.mesh f)) (start_corner_of s x)) (sym f_is) in
+    record {
+      within = r.next_within x before.within;
+      face = face_on ∙ before.face;
+      corner =
+          step ∙ ap (λ f. next_corner (dir s f) (length (face_at s.mesh f)) (start_corner_of s x)) before.face
+          ∙ ap (next_corner (dir s (face_of s d)) (length (face_at s.mesh (face_of s d)))) before.corner
+          ∙ sym (corner_after_suc (dir s (face_of s d)) (length (face_at s.mesh (face_of s d))) (start_corner_of s d) k);
+    }
+
+record AtFace (s : OrientedMesh) (d : ℕ) : Type 0 where
+  in_list : face_of s d < length s.mesh.faces
+  in_face : start_corner_of s d < length (face_at s.mesh (face_of s d))
+  vertex : origin_of s d ≡ get_or (face_at s.mesh (face_of s d)) (start_corner_of s d) 0
+
+at_face : (s : OrientedMesh) (d : ℕ) → d < darts_of s → AtFace s d
+at_face s d l =
+    let place : HasPlace s.mesh d = placed s.mesh d l in
+    let f_is : place.face ≡ face_of s d = sym (face_at_number s place.face place.place d place.numbered) in
+    record {
+      in_list = subst (λ f. f < length s.mesh.faces) f_is place.numbered.face;
+      in_face = subst (λ f. start_corner_of s d < length (face_at s.mesh f)) f_is (start_corner_within s place.face place.place d place.numbered);
+      vertex = subst (λ f. origin_of s d ≡ get_or (face_at s.mesh f) (start_corner_of s d) 0) f_is (origin_at s place.face place.place d place.numbered);
+    }
+
+-- round the whole face one comes back to the dart, and not before
+pub comes_round : (s : OrientedMesh) → IsOrientedSurface s → (d : ℕ) → d < darts_of s → after_steps (next_of s) (length (face_at s.mesh (face_of s d))) d ≡ d
+comes_round s o d l =
+    let m : ℕ = length (face_at s.mesh (face_of s d)) in
+    let end : OnRound s d m = on_round s o m d l in
+    let here : AtFace s d = at_face s d l in
+    let x : ℕ = after_steps (next_of s) m d in
+    let corner : start_corner_of s x ≡ start_corner_of s d = end.corner ∙ corner_home (dir s (face_of s d)) m (start_corner_of s d) here.in_face in
+    sym (at_start s x end.within) ∙ ap (λ f. dart_at_corner s f (start_corner_of s x)) end.face ∙ ap (dart_at_corner s (face_of s d)) corner ∙ at_start s d l
+
+pub not_before : (s : OrientedMesh) → IsOrientedSurface s → (d k : ℕ) → d < darts_of s → 0 < k → k < length (face_at s.mesh (face_of s d)) → after_steps (next_of s) k d ≢ d
+not_before s o d k l some few same =
+    let m : ℕ = length (face_at s.mesh (face_of s d)) in
+    let on : OnRound s d k = on_round s o k d l in
+    corner_apart (dir s (face_of s d)) m (start_corner_of s d) k (at_face s d l).in_face some few (sym on.corner ∙ ap (start_corner_of s) same)
+
+-- the vertices behind the origin of a dart, k darts on
+abbrev pub vertices_on : OrientedMesh → ℕ → ℕ → List ℕ
+vertices_on s zero d = []
+vertices_on s (suc k) d = origin_of s (next_of s d) ∷ vertices_on s k (next_of s d)
+
+corners_read : (s : OrientedMesh) → IsOrientedSurface s → (k d : ℕ) → d < darts_of s
+    → corners_from (face_at s.mesh (face_of s d)) (dir s (face_of s d)) (start_corner_of s d) k ≡ origin_of s d ∷ vertices_on s k d
+corners_read s o zero d l = ap (λ x. x ∷ []) (sym (at_face s d l).vertex)
+corners_read s o (suc k) d l =
+    let on : OnRound s d 1 = on_round s o 1 d l in
+    let rest : corners_from (face_at s.mesh (face_of s (next_of s d))) (dir s (face_of s (next_of s d))) (start_corner_of s (next_of s d)) k
+    ≡ origin_of s (next_of s d) ∷ vertices_on s k (next_of s d) = corners_read s o k (next_of s d) on.within in
+    let moved : corners_from (face_at s.mesh (face_of s d)) (dir s (face_of s d)) (next_corner (dir s (face_of s d)) (length (face_at s.mesh (face_of s d))) (start_corner_of s d)) k
+    ≡ corners_from (face_at s.mesh (face_of s (next_of s d))) (dir s (face_of s (next_of s d))) (start_corner_of s (next_of s d)) k =
+    ap (λ c. corners_from (face_at s.mesh (face_of s d)) (dir s (face_of s d)) c k) (sym on.corner)
+    ∙ ap (λ f. corners_from (face_at s.mesh f) (dir s f) (start_corner_of s (next_of s d)) k) (sym on.face) in
+    ap (λ x. x ∷ corners_from (face_at s.mesh (face_of s d)) (dir s (face_of s d)) (next_corner (dir s (face_of s d)) (length (face_at s.mesh (face_of s d))) (start_corner_of s d)) k) (sym (at_face s d l).vertex)
+    ∙ ap (λ (w : List ℕ). origin_of s d ∷ w) (moved ∙ rest)
+
+-- one move leads from the origin round the whole face
+pub boundary : (s : OrientedMesh) → IsOrientedSurface s → (d : ℕ) → d < darts_of s
+    → Homotopic s.mesh (origin_of s d ∷ []) (origin_of s d ∷ vertices_on s (length (face_at s.mesh (face_of s d))) d)
+boundary s o d l =
+    let here : AtFace s d = at_face s d l in
+    let f : ℕ = face_of s d in
+    let m : ℕ = length (face_at s.mesh f) in
+    let move : Move = Across 0 (record { 0 = f }) (start_corner_of s d) (not (dir s f)) 0 in
+    let twice : not (not (dir s f)) ≡ dir s f = twice_not (dir s f) in
+    let none_taken : m ≡ m - 0 = omega arith in
+    let one : apply s.mesh (origin_of s d ∷ []) move ≡ Some (origin_of s d ∷ vertices_on s m d) =
+    (by_replacing s.mesh (origin_of s d ∷ []) (origin_of s d ∷ vertices_on s m d) move (omega arith)).1
+    (record {
+      before = [];
+      part = origin_of s d ∷ [];
+      other = origin_of s d ∷ vertices_on s m d;
+      after = [];
+      walk_is = refl;
+      next_is = ap (λ (w : List ℕ). origin_of s d ∷ w) (sym (append_none (vertices_on s m d)));
+      place = refl;
+      replaces = (
+        here.in_list,
+        here.in_face,
+        omega arith,
+        ap (λ x. x ∷ []) here.vertex,
+        sym (corners_read s o m d l) ∙ ap (λ b. corners_from (face_at s.mesh f) b (start_corner_of s d) m) (sym twice)
+            ∙ ap (corners_from (face_at s.mesh f) (not (not (dir s f))) (start_corner_of s d)) none_taken,
+      );
+    }) in
+    (move ∷ [], rw one refl)
+  where
+    twice_not : (b : Bool) → not (not b) ≡ b
+    twice_not true = refl
+    twice_not false = refl
+    append_none : (xs : List ℕ) → xs ++ [] ≡ xs
+    append_none [] = refl
+    append_none (x ∷ xs) = ap (λ (w : List ℕ). x ∷ w) (append_none xs)
