@@ -59,7 +59,7 @@ abbrev pub group_of : (s : OrientedMesh) (split : SplitView) (t : IsSplit s spli
 group_of s split t = loops_make_a_group s.mesh t.parents.root t.parents.root_used
 
 -- twins have inverse values
-value_twin : (s : OrientedMesh) (split : SplitView) (o : IsOrientedSurface s) (t : IsSplit s split) (d : ℕ) → d < darts_of s
+pub value_twin : (s : OrientedMesh) (split : SplitView) (o : IsOrientedSurface s) (t : IsSplit s split) (d : ℕ) → d < darts_of s
     → SameLoop (value s split o t (twin_of s d)) (loop_inv (value s split o t d))
 value_twin s split o t d l =
     let r : IsRotationSystem (rotations_of s) = rotation_system s o in

@@ -94,7 +94,7 @@ label_is s polygon corner h =
     ap (λ (xs : List ℕ). get_or xs corner.at 0) (labels_of_labelling s polygon corner.face.0 h.face)
     ∙ get_or-map-range_with_len (λ t. label_of polygon (dart_at_corner s corner.face.0 t)) 0 (length (face_at s.mesh corner.face.0)) corner.at corner.at 0 h.place (omega arith)
 
-flips_are : (s : OrientedMesh) (polygon : PolygonView) (f : ℕ) → f < length s.mesh.faces
+pub flips_are : (s : OrientedMesh) (polygon : PolygonView) (f : ℕ) → f < length s.mesh.faces
     → is_flipped (signs_of (labelling_from s polygon)) f ≡ is_flipped s.signs f
 flips_are s polygon f l =
     let faces : List FaceLabels = (labelling_from s polygon).faces in
