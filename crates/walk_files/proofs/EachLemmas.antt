@@ -21,10 +21,12 @@ before_ok-none (Err fault) = refl
 before_ok-none (Ok zs) = refl
 
 -- one more is read
-pub before_some-more : {B : Type 0} (ys : List B) (y : B) (o : Option (List B)) → before_some ys (some_first (Some y) o) ≡ before_some (ys ++ y ∷ []) o
+pub before_some-more : {B : Type 0} (ys : List B) (y : B) (o : Option (List B))
+    → before_some ys (some_first (Some y) o) ≡ before_some (ys ++ y ∷ []) o
 before_some-more ys y None = refl
 before_some-more ys y (Some zs) = ap Some (sym (append_assoc ys (y ∷ []) zs))
 
-pub before_ok-more : {B E : Type 0} (ys : List B) (y : B) (r : Result (List B) E) → before_ok ys (ok_first (Ok y) r) ≡ before_ok (ys ++ y ∷ []) r
+pub before_ok-more : {B E : Type 0} (ys : List B) (y : B) (r : Result (List B) E)
+    → before_ok ys (ok_first (Ok y) r) ≡ before_ok (ys ++ y ∷ []) r
 before_ok-more ys y (Err fault) = refl
 before_ok-more ys y (Ok zs) = ap Ok (sym (append_assoc ys (y ∷ []) zs))

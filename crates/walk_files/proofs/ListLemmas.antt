@@ -16,19 +16,22 @@ list_at-append numbers more place within =
     (ap (take (place.end - place.start)) (drop-append-le place.start numbers more (omega arith))
     ∙ take-append-le (place.end - place.start) (drop place.start numbers) more (omega (arith, length-drop place.start numbers)))
 
-pub stored_lists-append : (places : List Place) (numbers more : List ℕ) → AreWithin places numbers → stored_lists places (numbers ++ more) ≡ stored_lists places numbers
+pub stored_lists-append : (places : List Place) (numbers more : List ℕ) → AreWithin places numbers
+    → stored_lists places (numbers ++ more) ≡ stored_lists places numbers
 stored_lists-append [] numbers more within = refl
 stored_lists-append (place ∷ places) numbers more within =
     ap (λ l. l ∷ stored_lists places (numbers ++ more)) (list_at-append numbers more place (All-head (IsWithin numbers) place places within))
     ∙ ap (λ ls. list_at numbers place ∷ ls) (stored_lists-append places numbers more (All-tail (IsWithin numbers) place places within))
 
 -- one more list
-pub stored_lists-push : (places : List Place) (numbers more : List ℕ) (place : Place) → AreWithin places numbers → place.start ≡ length numbers
+pub stored_lists-push : (places : List Place) (numbers more : List ℕ) (place : Place) → AreWithin places numbers
+    → place.start ≡ length numbers
     → place.end ≡ length numbers + length more
     → stored_lists (places ++ place ∷ []) (numbers ++ more) ≡ stored_lists places numbers ++ record { line = place.line; numbers = more } ∷ []
 stored_lists-push places numbers more place within start end =
     let all : take (place.end - place.start) (drop place.start (numbers ++ more)) ≡ more =
-    ap (take (place.end - place.start)) (drop_at numbers more place.start (sym start)) ∙ take_all (place.end - place.start) more (omega arith) in
+    ap (take (place.end - place.start)) (drop_at numbers more place.start (sym start))
+    ∙ take_all (place.end - place.start) more (omega arith) in
     map-append (list_at (numbers ++ more)) places (place ∷ [])
     ∙ ap (λ ls. ls ++ list_at (numbers ++ more) place ∷ []) (stored_lists-append places numbers more within)
     ∙ ap (λ ns. stored_lists places numbers ++ record { line = place.line; numbers = ns } ∷ []) all

@@ -34,7 +34,8 @@ written-none old piece head same =
     appends_nothing (Some held) = ap Some (sym (append-nil held))
 
 -- the piece is written
-pub written-out : (a b c : Option (List ℕ)) (piece head : List ℕ) (moves : List Move) → IsWritten a b piece head moves → Appends b c piece → IsWritten a c [] head moves
+pub written-out : (a b c : Option (List ℕ)) (piece head : List ℕ) (moves : List Move) → IsWritten a b piece head moves
+    → Appends b c piece → IsWritten a c [] head moves
 written-out a b c piece head moves so_far out = record {
   done = so_far.done ++ piece;
   appended = appends_twice a b c so_far.done piece so_far.appended out;
@@ -42,7 +43,8 @@ written-out a b c piece head moves so_far out = record {
 }
 
 -- the line of one move more is put
-pub written-more : (a b : Option (List ℕ)) (piece head : List ℕ) (moves : List Move) (k : ℕ) (mv : Move) → IsWritten a b piece head (take k moves)
+pub written-more : (a b : Option (List ℕ)) (piece head : List ℕ) (moves : List Move) (k : ℕ) (mv : Move)
+    → IsWritten a b piece head (take k moves)
     → slice_get moves k ≡ Some mv → IsWritten a b (piece ++ move_line mv) head (take (k + 1) moves)
 written-more a b piece head moves k mv so_far here = record {
   done = so_far.done;
@@ -64,7 +66,8 @@ written-more a b piece head moves k mv so_far here = record {
         ∙ ap (λ t. flat_map move_line (take k moves) ++ t) (append-nil (move_line mv)))
 
 -- all is written
-pub written-all : (a b c : Option (List ℕ)) (piece head : List ℕ) (moves : List Move) (k : ℕ) → IsWritten a b piece head (take k moves) → length moves ≤ k
+pub written-all : (a b c : Option (List ℕ)) (piece head : List ℕ) (moves : List Move) (k : ℕ) → IsWritten a b piece head (take k moves)
+    → length moves ≤ k
     → Appends b c piece → Appends a c (head ++ flat_map line_of (map move_words moves))
 written-all a b c piece head moves k so_far all out =
     appends_twice a b c so_far.done piece so_far.appended out

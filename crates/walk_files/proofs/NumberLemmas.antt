@@ -17,7 +17,8 @@ number-more done (word ∷ words) ns n e =
     ap (λ o. before_some ns (some_first o (each_some number_of words))) e ∙ before_some-more ns n (each_some number_of words)
 
 -- the next word is no number
-pub number-none : (words : List (List ℕ)) (ns : List ℕ) → IsTrue (is_filled words) → first_number words ≡ None → before_some ns (each_some number_of words) ≡ None
+pub number-none : (words : List (List ℕ)) (ns : List ℕ) → IsTrue (is_filled words) → first_number words ≡ None
+    → before_some ns (each_some number_of words) ≡ None
 number-none [] ns some e = cc
 number-none (word ∷ words) ns some e = ap (λ o. before_some ns (some_first o (each_some number_of words))) e
 

@@ -32,7 +32,8 @@ some_from test a (suc n) i low high here before =
           ∙ some_from test (a + 1) n i (omega arith) (omega arith) here (λ k above below. before k (omega arith) below)
     ]
 
-pub least_below-some : (test : ℕ → Bool) (n i : ℕ) → i < n → test i ≡ true → ((k : ℕ) → k < i → test k ≡ false) → least_below test n ≡ Some i
+pub least_below-some : (test : ℕ → Bool) (n i : ℕ) → i < n → test i ≡ true → ((k : ℕ) → k < i → test k ≡ false)
+    → least_below test n ≡ Some i
 least_below-some test n i high here before = some_from test 0 n i (omega arith) (omega arith) here (λ k low less. before k less)
 
 by_first : (b : Bool) (a : ℕ) (rest : Option ℕ) → cond b (Some a) rest ≡ None → (b ≡ false) × (rest ≡ None)
@@ -61,7 +62,8 @@ no_fault_at : (test : ℕ → Bool) (n : ℕ) (f : ℕ → PairFault) → option
 no_fault_at test n f e = least_below-false test n (map-none f (least_below test n) e)
 
 -- where all places pass, none is at fault
-none_at_fault : (test : ℕ → Bool) (n : ℕ) (f : ℕ → PairFault) → ((k : ℕ) → k < n → test k ≡ false) → option_map f (least_below test n) ≡ None
+none_at_fault : (test : ℕ → Bool) (n : ℕ) (f : ℕ → PairFault) → ((k : ℕ) → k < n → test k ≡ false)
+    → option_map f (least_below test n) ≡ None
 none_at_fault test n f h = ap (option_map f) (least_below-none test n h)
 
 both_none : {A : Type 0} (a b : Option A) → option_or a b ≡ None → (a ≡ None) × (b ≡ None)
@@ -73,7 +75,8 @@ not-false true e = refl
 not-false false e = cc
 
 -- the walk has entries, and nothing is wrong with them and its darts
-walk_of_none : (mesh : FaceList) (number : ℕ) (walk : List ℕ) → 0 < length walk → vertex_fault mesh number walk ≡ None → edge_fault mesh number walk ≡ None
+walk_of_none : (mesh : FaceList) (number : ℕ) (walk : List ℕ) → 0 < length walk → vertex_fault mesh number walk ≡ None
+    → edge_fault mesh number walk ≡ None
     → IsWalk mesh walk
 walk_of_none mesh number walk some used edges = record {
   starts = some;
@@ -108,7 +111,8 @@ ends_of_none first second none =
     record { starts = eqb-true _ _ starts.0; ends = eqb-true _ _ ends.0 }
 
 -- nothing is wrong with two walks that have entries exactly where they are a pair
-pub pair_of_none : (mesh : FaceList) (first second : List ℕ) → 0 < length first → 0 < length second → pair_fault mesh (first ∷ second ∷ []) ≡ None
+pub pair_of_none : (mesh : FaceList) (first second : List ℕ) → 0 < length first → 0 < length second
+    → pair_fault mesh (first ∷ second ∷ []) ≡ None
     → IsPair mesh (first ∷ second ∷ [])
 pair_of_none mesh first second some more none =
     let one = both_none (vertex_fault mesh 1 first) _ none in

@@ -39,14 +39,16 @@ step text head given (line ∷ lines) at = by_test (count_in head - given == 0)
     by_move None = refl
     by_move (Some move) = rw (fewer, behind) refl
 
-    by_test : (b : Bool) → cond b (Err (Extra line.number)) (ok_first (ok_or (move_of line.words) (Bad line.number)) (moves_in (end_line text) (count_in head - given - 1) lines))
+    by_test : (b : Bool)
+        → cond b (Err (Extra line.number)) (ok_first (ok_or (move_of line.words) (Bad line.number)) (moves_in (end_line text) (count_in head - given - 1) lines))
         ≡ answer_first (cond b (Err (Extra line.number)) (ok_or (option_map Some (move_of line.words)) (Bad line.number)))
         (moves_left (after_answer (state text head given None) (cond b (Err (Extra line.number)) (ok_or (option_map Some (move_of line.words)) (Bad line.number)))))
     by_test true = refl
     by_test false = by_move (move_of line.words)
 
 -- the moves left are the next answer, and what is left behind it
-pub moves_left-step : (reader : Certificate) → moves_left reader ≡ answer_first (next_answer reader) (moves_left (after_answer reader (next_answer reader)))
+pub moves_left-step : (reader : Certificate)
+    → moves_left reader ≡ answer_first (next_answer reader) (moves_left (after_answer reader (next_answer reader)))
 moves_left-step reader = by_refusal reader.refusal
   where
     by_refusal : (r : Option CertFault)
@@ -56,7 +58,8 @@ moves_left-step reader = by_refusal reader.refusal
     by_refusal (Some fault) = refl
     by_refusal None = step reader.text reader.head reader.given (drop reader.given (behind_head (full_lines reader.text))) refl
 
-pub left_after : (reader next : Certificate) (answer : Result (Option Move) CertFault) → answer ≡ next_answer reader → next ≡ after_answer reader answer
+pub left_after : (reader next : Certificate) (answer : Result (Option Move) CertFault) → answer ≡ next_answer reader
+    → next ≡ after_answer reader answer
     → moves_left reader ≡ answer_first answer (moves_left next)
 left_after reader next answer gives leads =
     moves_left-step reader

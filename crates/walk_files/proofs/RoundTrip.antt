@@ -82,7 +82,8 @@ head_of-head_words : (list : PeakedMoves) → FitsFormat list → head_of (head_
 head_of-head_words list fits =
     rw (number_below-decimal (2 ^ 64) (length list.moves) fits.count fits.count, number list.peak (omega (arith, fits.peak))) refl
 
-moves_in-numbered : (end n : ℕ) (moves : List Move) → All MoveFits moves → moves_in end (length moves) (numbered n (map move_words moves)) ≡ Ok moves
+moves_in-numbered : (end n : ℕ) (moves : List Move) → All MoveFits moves
+    → moves_in end (length moves) (numbered n (map move_words moves)) ≡ Ok moves
 moves_in-numbered end n [] all = refl
 moves_in-numbered end n (move ∷ moves) all =
     let some : eqb (length (move ∷ moves)) 0 ≡ false = ne_eqb (length (move ∷ moves)) 0 (λ e. omega (arith, e)) in
@@ -95,7 +96,8 @@ unmarked-list_text : (list : PeakedMoves) → unmarked (list_text list) ≡ list
 unfolding unmarked
 unmarked-list_text list = refl
 
-full_lines-list_text : (list : PeakedMoves) → FitsFormat list → full_lines (list_text list) ≡ record { number = 1; words = head_words list } ∷ numbered 2 (map move_words list.moves)
+full_lines-list_text : (list : PeakedMoves) → FitsFormat list
+    → full_lines (list_text list) ≡ record { number = 1; words = head_words list } ∷ numbered 2 (map move_words list.moves)
 full_lines-list_text list fits =
     ap (lines_from 1) (unmarked-list_text list)
     ∙ lines_from-written 1 (list_lines list) (All-cons IsLine (head_words list) (map move_words list.moves) (head-is_line list fits) (moves-are_lines list.moves fits.moves))

@@ -49,26 +49,31 @@ behind-word (byte ∷ word) rest w =
 line-one : (word rest : List ℕ) → line_of (word ∷ []) ++ rest ≡ word ++ 10 ∷ rest
 line-one word rest = append_assoc word (10 ∷ []) rest
 
-line-more : (word next : List ℕ) (words : List (List ℕ)) (rest : List ℕ) → line_of (word ∷ next ∷ words) ++ rest ≡ word ++ 32 ∷ (line_of (next ∷ words) ++ rest)
+line-more : (word next : List ℕ) (words : List (List ℕ)) (rest : List ℕ)
+    → line_of (word ∷ next ∷ words) ++ rest ≡ word ++ 32 ∷ (line_of (next ∷ words) ++ rest)
 line-more word next words rest =
     ap (λ t. t ++ rest) (append_assoc word (32 ∷ join_with_byte 32 (next ∷ words)) (10 ∷ []))
     ∙ append_assoc word (32 ∷ (join_with_byte 32 (next ∷ words) ++ 10 ∷ [])) rest
 
 -- its words are read
-pub words_here-line : (word : List ℕ) (words : List (List ℕ)) (rest : List ℕ) → All IsWritable (word ∷ words) → words_here (line_of (word ∷ words) ++ rest) ≡ word ∷ words
+pub words_here-line : (word : List ℕ) (words : List (List ℕ)) (rest : List ℕ) → All IsWritable (word ∷ words)
+    → words_here (line_of (word ∷ words) ++ rest) ≡ word ∷ words
 words_here-line word [] rest all =
     ap words_here (line-one word rest) ∙ first_word word 10 rest (All-head IsWritable word [] all) refl
     ∙ ap (λ t. word ∷ t) (words_here-line_feed 10 rest refl)
 words_here-line word (next ∷ words) rest all =
-    ap words_here (line-more word next words rest) ∙ first_word word 32 (line_of (next ∷ words) ++ rest) (All-head IsWritable word (next ∷ words) all) refl
+    ap words_here (line-more word next words rest)
+    ∙ first_word word 32 (line_of (next ∷ words) ++ rest) (All-head IsWritable word (next ∷ words) all) refl
     ∙ ap (λ t. word ∷ t) (words_here-blank 32 (line_of (next ∷ words) ++ rest) refl ∙ words_here-line next words rest (All-tail IsWritable word (next ∷ words) all))
 
 -- and the text goes on behind it
-pub behind-line : (word : List ℕ) (words : List (List ℕ)) (rest : List ℕ) → All IsWritable (word ∷ words) → behind (line_of (word ∷ words) ++ rest) ≡ rest
+pub behind-line : (word : List ℕ) (words : List (List ℕ)) (rest : List ℕ) → All IsWritable (word ∷ words)
+    → behind (line_of (word ∷ words) ++ rest) ≡ rest
 behind-line word [] rest all =
     ap behind (line-one word rest) ∙ behind-word word (10 ∷ rest) (All-head IsWritable word [] all).inside ∙ behind-line_feed 10 rest refl
 behind-line word (next ∷ words) rest all =
-    ap behind (line-more word next words rest) ∙ behind-word word (32 ∷ (line_of (next ∷ words) ++ rest)) (All-head IsWritable word (next ∷ words) all).inside
+    ap behind (line-more word next words rest)
+    ∙ behind-word word (32 ∷ (line_of (next ∷ words) ++ rest)) (All-head IsWritable word (next ∷ words) all).inside
     ∙ behind-other 32 (line_of (next ∷ words) ++ rest) refl ∙ behind-line next words rest (All-tail IsWritable word (next ∷ words) all)
 
 -- lines of writable words
@@ -81,7 +86,8 @@ abbrev pub numbered : ℕ → List (List (List ℕ)) → List Line
 numbered n [] = []
 numbered n (words ∷ lines) = record { number = n; words = words } ∷ numbered (n + 1) lines
 
-pub lines_from-written : (n : ℕ) (lines : List (List (List ℕ))) → All IsLine lines → lines_from n (flat_map line_of lines) ≡ numbered n lines
+pub lines_from-written : (n : ℕ) (lines : List (List (List ℕ))) → All IsLine lines
+    → lines_from n (flat_map line_of lines) ≡ numbered n lines
 unfolding lines_from cut
 lines_from-written n [] all = refl
 lines_from-written n ([] ∷ lines) all = let first = All-head IsLine [] lines all in cc
@@ -122,7 +128,8 @@ decimal_is = decimal_by_steps IsDecimal
     (λ n ds many so_far. record {
       filled = is_filled-push ds (48 + n % 10);
       all = list_all-push is_digit ds (48 + n % 10) so_far.all (is_digit-below (n % 10) (omega arith));
-      value = fold-push (λ value digit. value * 10 + (digit - 48)) 0 ds (48 + n % 10) ∙ ap (λ v. v * 10 + (48 + n % 10 - 48)) so_far.value ∙ omega arith;
+      value = fold-push (λ value digit. value * 10 + (digit - 48)) 0 ds (48 + n % 10)
+          ∙ ap (λ v. v * 10 + (48 + n % 10 - 48)) so_far.value ∙ omega arith;
     })
 
 digits_inside : (ds : List ℕ) → list_all is_digit ds ≡ true → list_all (λ byte. not (ends_word byte)) ds ≡ true

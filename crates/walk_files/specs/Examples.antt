@@ -31,7 +31,9 @@ unfolding unmarked cut words lines_from is_natural value_of
 past_32_bits = refl
 
 -- The word `empty` stands for no entries, where it stands alone.
-turn_words : words_of (text ([] ∷ codes "7 1" ∷ codes "empty" ∷ [])) ≡ Ok (record { line = 2; numbers = 7 ∷ 1 ∷ [] } ∷ record { line = 3; numbers = [] } ∷ [])
+turn_words :
+    words_of (text ([] ∷ codes "7 1" ∷ codes "empty" ∷ []))
+    ≡ Ok (record { line = 2; numbers = 7 ∷ 1 ∷ [] } ∷ record { line = 3; numbers = [] } ∷ [])
 unfolding unmarked cut words lines_from is_natural value_of
 turn_words = refl
 
@@ -43,7 +45,9 @@ empty_is_no_walk : walks_of (codes "empty") ≡ Err (BadNumber 1)
 unfolding unmarked cut words lines_from is_natural value_of
 empty_is_no_walk = refl
 
-one_move : list_of_text (text (codes "homotopic" ∷ codes "MOVES 1 2" ∷ codes "f 0 0 0 - 2" ∷ [])) ≡ Some (Ok (record { moves = Across 0 (record { 0 = 0 }) 0 false 2 ∷ []; peak = 2 }))
+one_move :
+    list_of_text (text (codes "homotopic" ∷ codes "MOVES 1 2" ∷ codes "f 0 0 0 - 2" ∷ []))
+    ≡ Some (Ok (record { moves = Across 0 (record { 0 = 0 }) 0 false 2 ∷ []; peak = 2 }))
 unfolding unmarked cut words lines_from is_natural value_of
 one_move = refl
 
@@ -51,7 +55,9 @@ no_moves : list_of_text (codes "MOVES 0 2") ≡ Some (Ok (record { moves = []; p
 unfolding unmarked cut words lines_from is_natural value_of
 no_moves = refl
 
-two_spurs : list_of_text (text (codes "MOVES 2 9" ∷ codes "+ 0 1" ∷ codes "- 0 1" ∷ [])) ≡ Some (Ok (record { moves = Insert 0 (record { 0 = 1 }) ∷ Remove 0 (record { 0 = 1 }) ∷ []; peak = 9 }))
+two_spurs :
+    list_of_text (text (codes "MOVES 2 9" ∷ codes "+ 0 1" ∷ codes "- 0 1" ∷ []))
+    ≡ Some (Ok (record { moves = Insert 0 (record { 0 = 1 }) ∷ Remove 0 (record { 0 = 1 }) ∷ []; peak = 9 }))
 unfolding unmarked cut words lines_from is_natural value_of
 two_spurs = refl
 
@@ -103,6 +109,8 @@ unfolding unmarked cut words lines_from is_natural value_of
 word_too_many = refl
 
 -- What is written.
-written : list_text (record { moves = Across 0 (record { 0 = 1 }) 2 true 3 ∷ Insert 4 (record { 0 = 5 }) ∷ []; peak = 16 }) ≡ text (codes "MOVES 2 16" ∷ codes "f 0 1 2 + 3" ∷ codes "+ 4 5" ∷ [])
+written :
+    list_text (record { moves = Across 0 (record { 0 = 1 }) 2 true 3 ∷ Insert 4 (record { 0 = 5 }) ∷ []; peak = 16 })
+    ≡ text (codes "MOVES 2 16" ∷ codes "f 0 1 2 + 3" ∷ codes "+ 4 5" ∷ [])
 unfolding digits
 written = refl

@@ -47,7 +47,8 @@ lines_to_come reader = drop reader.given (behind_head (full_lines reader.text))
 -- what the first of these lines gives, where `left` moves are still to come; `end` is the line where the text ends
 abbrev pub next_of : ℕ → ℕ → List Line → Result (Option Move) CertFault
 next_of end left [] = if left == 0 then Ok None else Err (Ended end)
-next_of end left (line ∷ lines) = if left == 0 then Err (Extra line.number) else ok_or (option_map Some (move_of line.words)) (Bad line.number)
+next_of end left (line ∷ lines) =
+    if left == 0 then Err (Extra line.number) else ok_or (option_map Some (move_of line.words)) (Bad line.number)
 
 -- what is read, unless the reader keeps a refusal
 abbrev pub unless_refused : {A : Type 0} → Option CertFault → Result A CertFault → Result A CertFault

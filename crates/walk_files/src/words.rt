@@ -35,7 +35,8 @@ pub fn read_words(alloc: Global, bytes: &[u8]) -> Result<NumberLines, WalkFault>
 fn read_entries(cursor: &mut Cursor<'_>, entries: &mut Vec<u32>) -> Result<(), WalkFault>
     requires words { IsTrue (is_filled cursor.old.words) }
     requires empty { entries.old.items ≡ [] }
-    ensures entries { MatchResult result (λ _. Ok entries.new.items ≡ numbers_on entries_of MOST_ENTRIES cursor.old.line cursor.old.words)
+    ensures entries { MatchResult result
+        (λ _. Ok entries.new.items ≡ numbers_on entries_of MOST_ENTRIES cursor.old.line cursor.old.words)
         (λ fault. (Err fault ≡ numbers_on entries_of MOST_ENTRIES cursor.old.line cursor.old.words) ⊎ (fault ≡ OutOfMemory)) }
     ensures place { OnOk result (cursor.new ≡ record cursor.old { words = [] }) }
 {

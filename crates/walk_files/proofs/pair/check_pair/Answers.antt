@@ -7,7 +7,8 @@ use Rattle.walk_files.specs.Pairs.{IsPair, pair_fault}
 use Rattle.walk_files.proofs.PairLemmas.{pair_of_none, none_of_pair}
 use Rattle.walk_files.proofs.pair.check_pair.Goals as goal
 
-two_are : (walks : List (List ℕ)) (a b : List ℕ) → length walks ≡ 2 → slice_get walks 0 ≡ Some a → slice_get walks 1 ≡ Some b → walks ≡ a ∷ b ∷ []
+two_are : (walks : List (List ℕ)) (a b : List ℕ) → length walks ≡ 2 → slice_get walks 0 ≡ Some a → slice_get walks 1 ≡ Some b
+    → walks ≡ a ∷ b ∷ []
 two_are [] a b e f g = absurd (omega arith)
 two_are (x ∷ []) a b e f g = absurd (omega arith)
 two_are (x ∷ y ∷ []) a b e f g = cc

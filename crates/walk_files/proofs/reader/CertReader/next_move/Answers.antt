@@ -16,7 +16,8 @@ pub invariant_of-self : goal.invariant_of-self
 invariant_of-self c =
     let place : lines_left c.read_next.new.cursor ≡ drop 1 (lines_left c.self.inside.cursor) = c.in-Ok-Some.ensures.place in
     record {
-      lines = λ none. place ∙ ap (drop 1) (c.self.invariant.lines none) ∙ drop-drop 1 c.self.inside.given (behind_head (full_lines c.self.inside.text.now));
+      lines = λ none. place ∙ ap (drop 1) (c.self.invariant.lines none)
+          ∙ drop-drop 1 c.self.inside.given (behind_head (full_lines c.self.inside.text.now));
       end = c.read_next.ensures.end ∙ c.self.invariant.end;
     }
 
