@@ -4,8 +4,8 @@ use Rattle.std.specs.Prelude.{Option, Some, None, MatchOption, unwrap_or}
 use Rattle.std.specs.List.{before_first, position_or_len, slice_split, onto_first}
 use Rattle.std.specs.Cmp.Lexicographic.{pointwise}
 use Rattle.std.proofs.Common.{Bor, eqb, length}
-use Rattle.text_scan.specs.Lines.{is_filled, is_blank, uncommented, words, unmarked, lines_from, full_lines}
-use Rattle.text_scan.specs.Unread.{Unread, lines_left, at_line, past_word, next_word, is_line_feed, words_here, behind, unread_at}
+use Rattle.text_scan.specs.Lines.{Line, cut, is_filled, is_blank, uncommented, words, unmarked, lines_from, full_lines}
+use Rattle.text_scan.specs.Unread.{Unread, LinesLeft, lines_left, at_line, past_word, next_word, is_line_feed, words_here, behind, unread_at}
 use Rattle.text_scan.specs.Steps.{ends_word, begins_with, begins_word, IsPast, IsFirstWord}
 use Rattle.text_scan.proofs.PlaceLemmas.{words_here-word, lines_from_here}
 use Rattle.text_scan.proofs.StepLemmas.{no_word}
@@ -141,3 +141,27 @@ few_left n rest start after some fits h k = omega (arith, some, fits, few_words 
 
 pub few_here : (text : List ℕ) (n : ℕ) (rest : List ℕ) (unread : Unread) → unread_at text n rest ≡ unread → 0 < n → n + length rest < 2 ^ 64 → length unread.words < 2 ^ 64 - 1
 few_here text n rest unread is some fits = omega (arith, some, fits, few_words rest, ap (λ (u : Unread). length u.words) is)
+
+-- ---- line by line
+
+pub no_line : (n : ℕ) (rest : List ℕ) (left : LinesLeft) (text : List ℕ) → record { lines = lines_from n rest; count = length (cut text) } ≡ left → lines_from n rest ≡ [] → left.lines ≡ []
+no_line n rest left text is none = sym (ap (λ (l : LinesLeft). l.lines) is) ∙ none
+
+pub a_line : (n m : ℕ) (rest found after text : List ℕ) (left : LinesLeft) → record { lines = lines_from n rest; count = length (cut text) } ≡ left → IsFirstWord n rest m found
+    → words_here after ≡ [] → behind after ≡ behind found
+    → left ≡ record { lines = record { number = m; words = words_here found } ∷ lines_from m after; count = length (cut text) }
+a_line n m rest found after text left is h none same =
+    let some : is_filled (words_here found) ≡ true = ap is_filled (words_here-word found h.word) in
+    let first : lines_from m found ≡ record { number = m; words = words_here found } ∷ lines_from (m + 1) (behind found) = lines_from_here m found ∙ rw some refl in
+    let others : lines_from m after ≡ lines_from (m + 1) (behind found) = lines_from_here m after ∙ rw none (ap (lines_from (m + 1)) same) in
+    sym is ∙ ap (λ (ls : List Line). record { lines = ls; count = length (cut text) }) (h.lines ∙ first ∙ ap (λ (ls : List Line). record { number = m; words = words_here found } ∷ ls) (sym others))
+
+pub none_in_line : (rest after : List ℕ) (left : List (List ℕ)) → words_here rest ≡ left → IsPast 0 rest after → begins_with is_blank after ≡ false → begins_word after ≡ false → left ≡ []
+none_in_line rest after left is h no_blank e = sym is ∙ sym h.words ∙ no_word after no_blank e
+
+pub first_in_line : (rest after word : List ℕ) (left : List (List ℕ)) → words_here rest ≡ left → IsPast 0 rest after → begins_word after ≡ true
+    → word ≡ before_first ends_word after → Some word ≡ next_word left
+first_in_line rest after word left is h begin same = ap Some same ∙ sym (ap next_word (words_here-word after begin)) ∙ ap next_word (h.words ∙ is)
+
+pub others_in_line : (rest start after : List ℕ) (left : List (List ℕ)) → words_here rest ≡ left → IsPast 0 rest start → IsPast 1 start after → words_here after ≡ drop 1 left
+others_in_line rest start after left is h k = k.words ∙ ap (λ (ws : List (List ℕ)). drop 1 ws) (h.words ∙ is)

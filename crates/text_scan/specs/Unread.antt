@@ -12,6 +12,11 @@ pub record Unread : Type 0 where
   pub lines : List Line
   pub end_line : ℕ
 
+-- the lines with words that are left of a text, and how many lines the whole text has
+pub record LinesLeft : Type 0 where
+  pub lines : List Line
+  pub count : ℕ
+
 -- the lines with words left, the present one among them
 abbrev pub lines_left : Unread → List Line
 lines_left unread = if is_filled unread.words then record { number = unread.line; words = unread.words } ∷ unread.lines else unread.lines

@@ -1,7 +1,7 @@
 //! A reader's place in a text.
 ghost use Rattle.std.specs.Prelude.{◌≡◌, ◌+◌, ◌-◌, ◌^◌, ◌<◌, ◌≤◌, ◌↔◌, min, [], IsTrue, is_some, IfSome, IfNone, MatchOption, option_map, option_copied, if◌then◌else◌, length, slice_get};
 ghost use Rattle.std.specs.Bool.{OnTrue};
-ghost use Rattle.text_scan.specs.Lines.{is_filled, full_lines, end_line};
+ghost use Rattle.text_scan.specs.Lines.{is_filled, unmarked, full_lines, end_line};
 ghost use Rattle.text_scan.specs.Unread.{Unread, lines_left, at_line, past_word, next_word, next_natural, next_is_number_text, unread_at};
 
 use crate::steps::{
@@ -12,6 +12,13 @@ use std::marker::Model;
 
 /// The bytes of a byte-order mark, which a text may begin with.
 const MARK: &[u8] = b"\xEF\xBB\xBF";
+
+/// A text without the byte-order mark that it may begin with.
+pub(crate) fn unmarked(text: &[u8]) -> &[u8]
+    ensures { result.now ≡ unmarked text.now }
+{
+    text.strip_prefix(MARK).unwrap_or(text)
+}
 
 /// A place in a text, which goes on word by word and line by line. It takes no memory, and looks at
 /// each byte about once.
@@ -42,7 +49,7 @@ impl<'a> Cursor<'a> {
         ensures lines { lines_left result ≡ full_lines text.now }
         ensures end { result.end_line ≡ end_line text.now }
     {
-        let text = text.strip_prefix(MARK).unwrap_or(text);
+        let text = unmarked(text);
         Cursor {
             text,
             rest: text,

@@ -7,6 +7,7 @@
 
 mod cursor;
 pub mod laws;
+pub mod line_by_line;
 mod naturals;
 mod scan;
 mod steps;

@@ -1,4 +1,6 @@
 use super::*;
+use crate::line_by_line::Lines;
+use std::test::Fail;
 
 #[test]
 fn plain_numbers(rt: HostRuntime) {
@@ -35,7 +37,9 @@ fn wanted_separators(rt: HostRuntime) {
 
 #[test]
 fn a_text_word_by_word(rt: HostRuntime) {
-    let mut cursor = Cursor::new(b"\xEF\xBB\xBF# title\r\n\r\n 7\t-.5E+1 red#9\n18446744073709551616");
+    let mut cursor = Cursor::new(
+        b"\xEF\xBB\xBF# title\r\n\r\n 7\t-.5E+1 red#9\n18446744073709551616",
+    );
     assert!(rt; cursor.find_line());
     assert_eq!(rt; cursor.line(), 3);
     assert_eq!(rt; cursor.natural(), Some(7));
@@ -63,8 +67,26 @@ fn words_passed_over(rt: HostRuntime) {
 #[test]
 fn numbers_in_words(rt: HostRuntime) {
     assert_eq!(rt; natural(b"00018446744073709551615"), Ok(u64::MAX));
-    assert_eq!(rt; natural(b"18446744073709551616"), Err(NumberFault::TooLarge));
+    assert_eq!(rt;
+        natural(b"18446744073709551616"),
+        Err(NumberFault::TooLarge)
+    );
     assert_eq!(rt; natural(b"1.0"), Err(NumberFault::NotDigits));
     assert!(rt; is_number_text(b"+12.50e-3") && is_number_text(b"-inf"));
     assert!(rt; !is_number_text(b"1e") && !is_number_text(b"."));
+}
+
+#[test]
+fn lines_and_their_words(rt: HostRuntime) -> Result<(), Fail> {
+    let mut lines = Lines::new(b"# title\n\n 7 red\n8");
+    assert_eq!(rt; lines.count(), 4);
+    let line = lines.next().ok_or("a line")?;
+    assert_eq!(rt; line.number(), 3);
+    let mut words = line.words();
+    assert!(rt; words.next() == Some(b"7"));
+    assert!(rt; words.next() == Some(b"red"));
+    assert!(rt; words.next().is_none());
+    assert_eq!(rt; lines.next().ok_or("a line")?.number(), 4);
+    assert!(rt; lines.next().is_none());
+    Ok(())
 }
