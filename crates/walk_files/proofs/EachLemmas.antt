@@ -1,7 +1,7 @@
 -- Reading one thing after another.
 use Rattle.std.proofs.Common.{◌≡◌, List, [], ◌∷◌, ◌++◌, refl, sym, ap, append_assoc}
 use Rattle.std.specs.Prelude.{Option, Some, None, Result, Ok, Err}
-use Rattle.walk_files.specs.Each.{some_first, ok_first}
+use Rattle.walk_files.specs.Each.{ok_first}
 
 -- what was read before the rest
 abbrev pub before_some : {B : Type 0} → List B → Option (List B) → Option (List B)
@@ -12,20 +12,7 @@ abbrev pub before_ok : {B E : Type 0} → List B → Result (List B) E → Resul
 before_ok ys (Err fault) = Err fault
 before_ok ys (Ok zs) = Ok (ys ++ zs)
 
-pub before_some-none : {B : Type 0} (o : Option (List B)) → before_some [] o ≡ o
-before_some-none None = refl
-before_some-none (Some zs) = refl
-
-pub before_ok-none : {B E : Type 0} (r : Result (List B) E) → before_ok [] r ≡ r
-before_ok-none (Err fault) = refl
-before_ok-none (Ok zs) = refl
-
 -- one more is read
-pub before_some-more : {B : Type 0} (ys : List B) (y : B) (o : Option (List B))
-    → before_some ys (some_first (Some y) o) ≡ before_some (ys ++ y ∷ []) o
-before_some-more ys y None = refl
-before_some-more ys y (Some zs) = ap Some (sym (append_assoc ys (y ∷ []) zs))
-
 pub before_ok-more : {B E : Type 0} (ys : List B) (y : B) (r : Result (List B) E)
     → before_ok ys (ok_first (Ok y) r) ≡ before_ok (ys ++ y ∷ []) r
 before_ok-more ys y (Err fault) = refl

@@ -1,7 +1,6 @@
 pub mod PairLemmas
 pub mod MoveLines
 pub mod EachLemmas
-pub mod NumberLemmas
 pub mod ListLemmas
 pub mod ReaderLemmas
 pub mod WrittenLemmas
