@@ -6,3 +6,5 @@ pub mod PolygonLabelLemmas
 pub mod FullLemmas
 pub mod ReadingLemmas
 pub mod EdgeRuleLemmas
+pub mod SpokeProductLemmas
+pub mod EqualWordLemmas
