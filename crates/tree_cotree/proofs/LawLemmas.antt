@@ -14,7 +14,7 @@ use Rattle.tree_cotree.proofs.GrowthLemmas.{HasNodes}
 use Rattle.tree_cotree.proofs.SplitLemmas.{OneOfThree, tree_one, cotree_one, left_one, tree_ring, cotree_ring, count_three}
 use Rattle.tree_cotree.proofs.LeftoverLemmas.{even_left}
 
-vertex_nodes : (s : OrientedMesh) → NamesAll s
+pub vertex_nodes : (s : OrientedMesh) → NamesAll s
     → HasNodes (rotations_of s) (rotations_of s).origin (is_used s.mesh) s.mesh.count (length s.table)
 vertex_nodes s h = record {
   edge_within = h.edge_below;
@@ -23,7 +23,7 @@ vertex_nodes s h = record {
   has_dart = λ v _ is. h.each_vertex v is;
 }
 
-face_nodes : (s : OrientedMesh) → NamesAll s
+pub face_nodes : (s : OrientedMesh) → NamesAll s
     → HasNodes (rotations_of s) (rotations_of s).face (λ f. true) (length s.mesh.faces) (length s.table)
 face_nodes s h = record {
   edge_within = h.edge_below;
@@ -51,7 +51,7 @@ rest_has_ring s split o t =
     cotree_ring (rotations_of s) (λ f. true) (length s.mesh.faces) (length s.table) (in_cotree split) (rotation_system s o) (face_nodes s (names_all s o)) t.cotree
 
 -- a closed surface has a dart
-some_dart : (s : OrientedMesh) → IsOrientedSurface s → 0 < (rotations_of s).darts
+pub some_dart : (s : OrientedMesh) → IsOrientedSurface s → 0 < (rotations_of s).darts
 some_dart s o =
     let dart = (names_all s o).each_face 0 o.closed.some_face in
     omega (arith, dart.1)
@@ -62,7 +62,7 @@ even s split o t =
     even_left (rotations_of s) (in_tree split) (in_cotree split) (is_left split) (length s.table) (rotation_system s o) (names_all s o).edge_below
     (names_all s o).each_edge (λ e l. one_of_three split e) (some_dart s o) (tree_has_ring s split o t) (rest_has_ring s split o t)
 
-count_all : (n : ℕ) → count_below (λ f. true) n ≡ n
+pub count_all : (n : ℕ) → count_below (λ f. true) n ≡ n
 count_all zero = refl
 count_all (suc n) = rw (count_all n) (omega arith)
 

@@ -7,3 +7,6 @@ pub mod SplitLemmas
 pub mod LeftoverLemmas
 pub mod LawLemmas
 pub mod RingLemmas
+pub mod SearchLemmas
+pub mod TreeLemmas
+pub mod SplittingLemmas

@@ -2,3 +2,6 @@ pub mod RingCounts
 pub mod SpanningTrees
 pub mod Splits
 pub mod RingViews
+pub mod Searches
+pub mod Markings
+pub mod StoredSplits

@@ -2,8 +2,10 @@
 #![tactic(auto)]
 
 pub mod laws;
+mod marking;
 pub mod rings;
+mod search;
 pub mod split;
 
 pub use rings::Rings;
-pub use split::Kind;
+pub use split::{Kind, Split, split_edges};

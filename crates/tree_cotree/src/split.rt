@@ -1,4 +1,14 @@
 //! Splits of a surface.
+ghost use Rattle.std.specs.Prelude.{◌≡◌, ◌<◌, length, IfOk};
+ghost use Rattle.std.specs.Option.{option_map};
+ghost use Rattle.tree_cotree.specs.Splits.{IsSplit};
+
+use crate::marking::{faces_below, leftover_dart, leftover_edges, mark};
+use crate::search::{Nodes, search_over};
+use halfedge_map::Surface;
+use std::alloc::{AllocError, Global};
+use std::marker::Model;
+use surf_model::{DartName, EdgeName, FaceName, VertexName};
 
 /// What an edge is in a split.
 #[derive(Clone, Copy, Debug, PartialEq, Eq)]
@@ -9,4 +19,118 @@ pub enum Kind {
     Cotree,
     /// A leftover edge, of neither.
     Left,
+}
+
+/// A split of a surface: a tree of edges that spans the used vertices, a cotree of edges across which the faces hang
+/// together, and the leftover edges.
+#[derive(Debug, Drop)]
+pub struct Split {
+    /// For each edge its kind.
+    kinds: Vec<Kind>,
+    /// For each vertex the dart to its parent in the tree.
+    parents: Vec<Option<DartName>>,
+    /// For each edge the face below it in the cotree.
+    child_faces: Vec<Option<FaceName>>,
+    root_face: FaceName,
+    genus: u32,
+}
+
+impl Model for Split {
+    ghost use Rattle.tree_cotree.specs.Splits.{SplitView};
+    ghost use Rattle.tree_cotree.specs.StoredSplits.{made_split};
+
+    ghost Value = { SplitView };
+
+    ghost view = { λ a. made_split a.kinds.items a.parents.items a.child_faces.items a.root_face.0 a.genus };
+}
+
+impl Split {
+    ghost use Rattle.tree_cotree.specs.Splits.{kind_of, parent_dart, child_face};
+
+    /// What an edge is.
+    pub fn kind(&self, edge: EdgeName) -> Kind
+        requires { edge.0 < length self.now.kinds }
+        ensures { result ≡ kind_of self.now edge.0 }
+    {
+        self.kinds[edge.0 as usize]
+    }
+
+    /// A tree dart from a vertex to its parent; none for the root and for unused vertices.
+    pub fn parent(&self, vertex: VertexName) -> Option<DartName>
+        requires { vertex.0 < length self.now.parents }
+        ensures { option_map (λ dart. dart.0) result ≡ parent_dart self.now vertex.0 }
+    {
+        self.parents[vertex.0 as usize]
+    }
+
+    /// The face below a cotree edge; none for other edges.
+    pub fn child_face(&self, edge: EdgeName) -> Option<FaceName>
+        requires { edge.0 < length self.now.child_faces }
+        ensures { option_map (λ face. face.0) result ≡ child_face self.now edge.0 }
+    {
+        self.child_faces[edge.0 as usize]
+    }
+
+    /// The root of the cotree. It has a leftover dart where there is one.
+    pub fn root_face(&self) -> FaceName
+        ensures { result.0 ≡ self.now.root_face }
+    {
+        self.root_face
+    }
+
+    /// The genus: half the number of leftover edges.
+    pub fn genus(&self) -> u32
+        ensures { result ≡ self.now.genus }
+    {
+        self.genus
+    }
+}
+
+/// Splits a surface. The tree and the cotree are found breadth first.
+pub fn split_edges(alloc: Global, surface: &Surface) -> Result<Split, AllocError>
+    ensures { IfOk result (IsSplit surface.now) }
+{
+    let faces = surface.faces().len();
+    let mut kinds = vec![in alloc; Kind::Left; surface.sides().len() as usize]?;
+    let parents = search_over(
+        alloc,
+        surface,
+        Nodes::Vertices,
+        surface.faces().count(),
+        &kinds,
+        Kind::Left,
+        DartName(0),
+    )?;
+    mark(&mut kinds, surface, &parents, Kind::Tree);
+    let across = search_over(
+        alloc,
+        surface,
+        Nodes::Faces,
+        faces,
+        &kinds,
+        Kind::Left,
+        DartName(0),
+    )?;
+    mark(&mut kinds, surface, &across, Kind::Cotree);
+    drop(across);
+    // Once more across the cotree, from a face that has a leftover dart.
+    let start = leftover_dart(surface, &kinds);
+    let hanging = search_over(
+        alloc,
+        surface,
+        Nodes::Faces,
+        faces,
+        &kinds,
+        Kind::Cotree,
+        start,
+    )?;
+    let child_faces = faces_below(alloc, surface, &hanging)?;
+    let genus = leftover_edges(&kinds) / 2;
+    Ok(Split {
+        kinds,
+        parents,
+        child_faces,
+        root_face: surface.face_of(start),
+        genus,
+    })
 }

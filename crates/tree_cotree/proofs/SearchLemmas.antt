@@ -1,0 +1,339 @@
+-- What an order of a search needs to grow, and what it is when it grows no more.
+use Rattle.std.proofs.Common.{◌≡◌, ◌≢◌, ◌⊎◌, inl, inr, ℕ, zero, suc, ◌+◌, ◌-◌, ◌<◌, ◌≤◌, Bool, true, false, List, [], ◌∷◌, ◌++◌, length, get_or, refl, ap, sym, ◌∙◌, subst, arith}
+use Rattle.std.proofs.Math.ListN.{set}
+use Rattle.std.specs.Prelude.{Option, Some, None, is_some}
+use Rattle.std.specs.Option.{option_map}
+use Rattle.std.proofs.lemmas.Bool.{cases_eq, cases_lt}
+use Rattle.std.proofs.lemmas.List.{length_push, get_or_push, get_or_append_left, get_or-set_same, get_or-set_other, length-set, get_or_read, map-append}
+use Rattle.surf_model.specs.declared.names.DartName.{DartName}
+use Rattle.halfedge_map.specs.Orbits.{after_steps, IsReached}
+use Rattle.halfedge_map.specs.OrientedMeshes.{OrientedMesh, IsOrientedSurface}
+use Rattle.halfedge_map.specs.RotationSystems.{Rotations, rotations_of, IsRotationSystem}
+use Rattle.halfedge_map.proofs.DartLemmas.{next_permutes, face-next}
+use Rattle.halfedge_map.proofs.VertexLemmas.{turns_permute, origin-turned}
+use Rattle.halfedge_map.proofs.SystemLemmas.{rotation_system}
+use Rattle.tree_cotree.specs.declared.search.Nodes.{Nodes}
+use Rattle.tree_cotree.specs.declared.search.Nodes.TheVariants.{Vertices, Faces}
+use Rattle.halfedge_map.proofs.OrbitLemmas.{IsPermutationBelow, AreAlike, two_alike, steps_within, reached_keeps}
+use Rattle.tree_cotree.specs.RingViews.{dart_numbers}
+use Rattle.tree_cotree.specs.Searches.{node_of, turn_of, back_at, IsFound, IsNamed, LeadsBack, IsOrder, IsCrossed, IsSearched, GoesOn}
+use Rattle.tree_cotree.proofs.AfterLemmas.{twin_edge}
+use Rattle.tree_cotree.proofs.ExchangeLemmas.{reached_soon}
+
+-- reading an order with one more dart
+old_at : (order : List ℕ) (x j : ℕ) → j < length order → get_or (order ++ x ∷ []) j 0 ≡ get_or order j 0
+old_at order x j l = get_or_append_left order (x ∷ []) 0 j l
+
+new_at : (order : List ℕ) (x j : ℕ) → j ≡ length order → get_or (order ++ x ∷ []) j 0 ≡ x
+new_at order x j e = get_or_push order x 0 j (sym e)
+
+-- what is kept for a node, after another dart is kept
+kept_same : (from : List (Option DartName)) (v : ℕ) (x : DartName) → v < length from → back_at (set from v (Some x)) v ≡ Some x.0
+kept_same from v x l = ap (option_map (λ (d : DartName). d.0)) (get_or-set_same from v (Some x) None l)
+
+kept_other : (from : List (Option DartName)) (v w : ℕ) (x : DartName) → w ≢ v → back_at (set from v (Some x)) w ≡ back_at from w
+kept_other from v w x ne = ap (option_map (λ (d : DartName). d.0)) (get_or-set_other from v w (Some x) None ne)
+
+-- a dart with a new node across an allowed edge
+pub record IsNewDart (maps : Rotations) (node : ℕ → ℕ) (allowed : ℕ → Bool) (bound root : ℕ) (order : List ℕ) (from : List (Option DartName)) (d : ℕ) : Type 0 where
+  pub dart : d < maps.darts
+  pub from_found : IsFound node order (node d)
+  pub crosses : allowed (maps.edge d) ≡ true
+  pub below : node (maps.twin d) < bound
+  pub not_root : node (maps.twin d) ≢ root
+  pub none_kept : back_at from (node (maps.twin d)) ≡ None
+
+some_is_none : (o : Option ℕ) (x : ℕ) → o ≡ Some x → o ≡ None → ⊥
+some_is_none o x e k = cc
+
+pub order_more : (maps : Rotations) (node : ℕ → ℕ) (allowed : ℕ → Bool) (bound root : ℕ) (order : List ℕ) (from : List (Option DartName)) (d : ℕ) (x : DartName)
+    → IsRotationSystem maps → IsOrder maps node allowed bound root order from → IsNewDart maps node allowed bound root order from d → x.0 ≡ maps.twin d
+    → IsOrder maps node allowed bound root (order ++ x.0 ∷ []) (set from (node (maps.twin d)) (Some x))
+order_more maps node allowed bound root order from d x r h new is =
+    let v : ℕ = node (maps.twin d) in
+    let n : ℕ = length order in
+    let more : List ℕ = order ++ x.0 ∷ [] in
+    let kept : List (Option DartName) = set from v (Some x) in
+    let long : length more ≡ n + 1 = length_push order x.0 in
+    let v_in : v < length from = omega (arith, new.below, h.long) in
+    let x_node : node x.0 ≡ v = ap node is in
+    let old : (j : ℕ) → j < n → get_or more j 0 ≡ get_or order j 0 = old_at order x.0 in
+    let last : (j : ℕ) → j ≡ n → get_or more j 0 ≡ x.0 = new_at order x.0 in
+    let unlike : (i : ℕ) → i < n → node (get_or order i 0) ≢ v =
+    λ i l e. elim (cases_eq i 0) [
+      | inl at_root ↦ new.not_root (sym e ∙ ap (λ k. node (get_or order k 0)) at_root ∙ h.first)
+      | inr later ↦ some_is_none (back_at from v) (get_or order i 0) (ap (back_at from) (sym e) ∙ h.named i (omega (arith, later)) l) new.none_kept
+    ] in
+    record {
+      long = length-set from v (Some x) ∙ h.long;
+      some = omega (arith, long);
+      first = ap node (old 0 h.some) ∙ h.first;
+      within = λ j l. elim (cases_lt j n) [
+        | inl less ↦ subst (λ y. y < maps.darts) (sym (old j less)) (h.within j less)
+        | inr at_end ↦ subst (λ y. y < maps.darts) (sym (last j (omega (arith, l, long, at_end)) ∙ is)) (r.twin_within d new.dart)
+      ];
+      fresh = λ i j less l e. elim (cases_lt j n) [
+        | inl before ↦ h.fresh i j less before (ap node (sym (old i (omega arith))) ∙ e ∙ ap node (old j before))
+        | inr at_end ↦ unlike i (omega (arith, less, l, long)) (ap node (sym (old i (omega (arith, less, l, long)))) ∙ e ∙ ap node (last j (omega (arith, l, long, at_end))) ∙ x_node)
+      ];
+      back = λ j later l. elim (cases_lt j n) [
+        | inl less ↦
+            (let b : LeadsBack maps node order j = h.back j later less in
+            record { place = b.place; before = b.before; is = ap (λ y. node (maps.twin y)) (old j less) ∙ b.is ∙ ap node (sym (old b.place (omega (arith, b.before, less)))) })
+        | inr at_end ↦ record {
+          place = new.from_found.place;
+          before = omega (arith, at_end, new.from_found.within);
+          is = ap (λ y. node (maps.twin y)) (last j (omega (arith, l, long, at_end)) ∙ is) ∙ ap node (r.twin_back d new.dart)
+              ∙ sym new.from_found.is ∙ ap node (sym (old new.from_found.place new.from_found.within));
+        }
+      ];
+      inside = λ j later l. elim (cases_lt j n) [
+        | inl less ↦ ap (λ y. allowed (maps.edge y)) (old j less) ∙ h.inside j later less
+        | inr at_end ↦ ap (λ y. allowed (maps.edge y)) (last j (omega (arith, l, long, at_end)) ∙ is)
+            ∙ ap allowed (sym (twin_edge maps r d new.dart)) ∙ new.crosses
+      ];
+      named = λ j later l. elim (cases_lt j n) [
+        | inl less ↦
+            ap (λ y. back_at kept (node y)) (old j less) ∙ kept_other from v (node (get_or order j 0)) x (unlike j less)
+            ∙ h.named j later less
+            ∙ ap Some (sym (old j less))
+        | inr at_end ↦
+            (let here : get_or more j 0 ≡ x.0 = last j (omega (arith, l, long, at_end)) in
+            ap (λ y. back_at kept (node y)) here ∙ ap (back_at kept) x_node ∙ kept_same from v x v_in ∙ ap Some (sym here))
+      ];
+      only = λ w y k. elim (cases_eq w v) [
+        | inl same ↦
+            (let own : Some y ≡ Some x.0 = sym k ∙ ap (back_at kept) same ∙ kept_same from v x v_in in
+            let is_x : y ≡ x.0 = cc in
+            record {
+              place = n;
+              later = h.some;
+              within = omega (arith, long);
+              is = last n refl ∙ sym is_x;
+              of_node = ap node is_x ∙ x_node ∙ sym same;
+            })
+        | inr other ↦
+            (let before : IsNamed node order w y = h.only w y (sym (kept_other from v w x other) ∙ k) in
+            record {
+              place = before.place;
+              later = before.later;
+              within = omega (arith, before.within, long);
+              is = old before.place before.within ∙ before.is;
+              of_node = before.of_node;
+            })
+      ];
+    }
+
+-- the order of a start
+pub order_start : (maps : Rotations) (node : ℕ → ℕ) (allowed : ℕ → Bool) (bound start : ℕ) (order : List ℕ) (from : List (Option DartName))
+    → order ≡ start ∷ [] → start < maps.darts → length from ≡ bound → ((v : ℕ) → back_at from v ≡ None) → IsOrder maps node allowed bound (node start) order from
+order_start maps node allowed bound start order from is l long none =
+    let one : length order ≡ 1 = ap (λ (xs : List ℕ). length xs) is in
+    let head : get_or order 0 0 ≡ start = ap (λ (xs : List ℕ). get_or xs 0 0) is in
+    record {
+      long = long;
+      some = omega (arith, one);
+      first = ap node head;
+      within = λ j b. let first : j ≡ 0 = omega (arith, b, one) in subst (λ y. y < maps.darts) (sym (ap (λ k. get_or order k 0) first ∙ head)) l;
+      fresh = λ i j less b. absurd (omega (arith, less, b, one));
+      back = λ j later b. absurd (omega (arith, later, b, one));
+      inside = λ j later b. absurd (omega (arith, later, b, one));
+      named = λ j later b. absurd (omega (arith, later, b, one));
+      only = λ v x e. absurd (some_is_none (back_at from v) x e (none v));
+    }
+
+-- the order goes on
+pub goes_nowhere : (order : List ℕ) → GoesOn order order
+goes_nowhere order = record { longer = omega arith; same = λ j l. refl }
+
+pub goes_more : (old order : List ℕ) (x : ℕ) → GoesOn old order → GoesOn old (order ++ x ∷ [])
+goes_more old order x h =
+    record {
+      longer = omega (arith, h.longer, length_push order x);
+      same = λ j l. old_at order x j (omega (arith, l, h.longer)) ∙ h.same j l;
+    }
+
+pub found_on : (node : ℕ → ℕ) (old new : List ℕ) (v : ℕ) → GoesOn old new → IsFound node old v → IsFound node new v
+found_on node old new v h found =
+    record { place = found.place; within = omega (arith, found.within, h.longer); is = ap node (h.same found.place found.within) ∙ found.is }
+
+-- an order has no more darts than there are numbers of nodes
+pub order_few : (maps : Rotations) (node : ℕ → ℕ) (allowed : ℕ → Bool) (bound root : ℕ) (order : List ℕ) (from : List (Option DartName))
+    → IsOrder maps node allowed bound root order from → ((d : ℕ) → d < maps.darts → node d < bound) → length order ≤ bound
+order_few maps node allowed bound root order from h below =
+    elim (cases_lt bound (length order)) [
+      | inl more ↦
+          (let alike : AreAlike (λ j. node (get_or order j 0)) (suc bound) =
+          two_alike bound (λ j. node (get_or order j 0)) (λ j l. below (get_or order j 0) (h.within j (omega (arith, l, more)))) in
+          absurd (h.fresh alike.first alike.second alike.before (omega (arith, alike.within, more)) alike.same))
+      | inr few ↦ few
+    ]
+
+-- going round once is going round all
+round : (f : ℕ → ℕ) (x p i : ℕ) → 0 < p → after_steps f p x ≡ x → (j : ℕ) × (j < p) × (after_steps f i x ≡ after_steps f j x)
+round f x p zero l e = (0, l, refl)
+round f x p (suc i) l e =
+    let before = round f x p i l e in
+    elim (cases_lt (suc before.0) p) [
+      | inl less ↦ (suc before.0, less, ap f before.2)
+      | inr more ↦
+          (let last : suc before.0 ≡ p = omega (arith, more, before.1) in
+          (0, l, ap f before.2 ∙ ap (λ k. after_steps f k x) last ∙ e))
+    ]
+
+-- a map that goes round the darts of each node
+pub record IsTurning (maps : Rotations) (node turn : ℕ → ℕ) : Type 0 where
+  pub permutes : IsPermutationBelow maps.darts turn
+  pub reaches : (d e : ℕ) → d < maps.darts → e < maps.darts → node d ≡ node e → IsReached turn d e
+  pub keeps : (d : ℕ) → d < maps.darts → node (turn d) ≡ node d
+
+-- the darts of a node up to so many turns are crossed
+abbrev pub CrossedUpTo : Rotations → (ℕ → ℕ) → (ℕ → Bool) → (ℕ → ℕ) → List ℕ → ℕ → ℕ → Type 0
+CrossedUpTo maps node allowed turn order first k =
+    (i : ℕ) → i < k → allowed (maps.edge (after_steps turn i first)) ≡ true
+    → IsFound node order (node (maps.twin (after_steps turn i first)))
+
+pub crossed_round : (maps : Rotations) (node : ℕ → ℕ) (allowed : ℕ → Bool) (turn : ℕ → ℕ) (order : List ℕ) (first k : ℕ)
+    → IsTurning maps node turn → first < maps.darts
+    → CrossedUpTo maps node allowed turn order first k → (0 < k) × (after_steps turn k first ≡ first) → IsCrossed maps node allowed order (node first)
+crossed_round maps node allowed turn order first k t l crossed comes d b same passes =
+    let way : IsReached turn first d = t.reaches first d l b (sym same) in
+    let soon = round turn first k way.steps comes.0 comes.1 in
+    let is : after_steps turn soon.0 first ≡ d = sym soon.2 ∙ way.leads in
+    subst (λ y. IsFound node order (node (maps.twin y))) is (crossed soon.0 soon.1 (ap (λ y. allowed (maps.edge y)) is ∙ passes))
+
+pub crossed_all : (maps : Rotations) (node : ℕ → ℕ) (allowed : ℕ → Bool) (turn : ℕ → ℕ) (order : List ℕ) (first k : ℕ)
+    → IsTurning maps node turn → first < maps.darts
+    → CrossedUpTo maps node allowed turn order first k → maps.darts ≤ k → IsCrossed maps node allowed order (node first)
+crossed_all maps node allowed turn order first k t l crossed many d b same passes =
+    let way : IsReached turn first d = t.reaches first d l b (sym same) in
+    let soon = reached_soon maps.darts turn t.permutes first l (suc way.steps) way.steps d (omega arith) way.leads in
+    subst (λ y. IsFound node order (node (maps.twin y))) soon.2 (crossed soon.0 (omega (arith, soon.1, many)) (ap (λ y. allowed (maps.edge y)) soon.2 ∙ passes))
+
+-- one more turn
+pub crossed_more : (maps : Rotations) (node : ℕ → ℕ) (allowed : ℕ → Bool) (turn : ℕ → ℕ) (old new : List ℕ) (first k : ℕ) → GoesOn old new
+    → CrossedUpTo maps node allowed turn old first k
+    → (allowed (maps.edge (after_steps turn k first)) ≡ true → IsFound node new (node (maps.twin (after_steps turn k first))))
+    → CrossedUpTo maps node allowed turn new first (k + 1)
+crossed_more maps node allowed turn old new first k h crossed here i l passes =
+    elim (cases_lt i k) [
+      | inl less ↦ found_on node old new (node (maps.twin (after_steps turn i first))) h (crossed i less passes)
+      | inr more ↦
+          (let same : i ≡ k = omega (arith, l, more) in
+          subst (λ j. IsFound node new (node (maps.twin (after_steps turn j first)))) (sym same)
+          (here (ap (λ j. allowed (maps.edge (after_steps turn j first))) (sym same) ∙ passes)))
+    ]
+
+pub goes_on_on : (first second third : List ℕ) → GoesOn first second → GoesOn second third → GoesOn first third
+goes_on_on first second third h k =
+    record { longer = omega (arith, h.longer, k.longer); same = λ j l. k.same j (omega (arith, l, h.longer)) ∙ h.same j l }
+
+pub crossed_on : (maps : Rotations) (node : ℕ → ℕ) (allowed : ℕ → Bool) (old new : List ℕ) (v : ℕ) → GoesOn old new
+    → IsCrossed maps node allowed old v → IsCrossed maps node allowed new v
+crossed_on maps node allowed old new v h crossed d l is passes = found_on node old new (node (maps.twin d)) h (crossed d l is passes)
+
+-- round a vertex by the next dart of the twin, round a face by the next dart
+pub turning : (s : OrientedMesh) → IsOrientedSurface s → (nodes : Nodes)
+    → IsTurning (rotations_of s) (node_of nodes (rotations_of s)) (turn_of nodes (rotations_of s))
+turning s h Vertices =
+    let r : IsRotationSystem (rotations_of s) = rotation_system s h in
+    record {
+      permutes = turns_permute s h;
+      reaches = λ d e l k same. (r.vertices d e l k).0 same;
+      keeps = λ d l. origin-turned s h d l;
+    }
+turning s h Faces =
+    let r : IsRotationSystem (rotations_of s) = rotation_system s h in
+    record {
+      permutes = next_permutes s;
+      reaches = λ d e l k same. (r.faces d e l k).0 same;
+      keeps = λ d l. face-next s d l;
+    }
+
+-- a node that is the root, or for which a dart is kept, is found
+pub root_found : (maps : Rotations) (node : ℕ → ℕ) (allowed : ℕ → Bool) (bound root : ℕ) (order : List ℕ) (from : List (Option DartName)) (v : ℕ)
+    → IsOrder maps node allowed bound root order from → v ≡ root → IsFound node order v
+root_found maps node allowed bound root order from v h is = record { place = 0; within = h.some; is = h.first ∙ sym is }
+
+named_found : (node : ℕ → ℕ) (order : List ℕ) (v x : ℕ) → IsNamed node order v x → IsFound node order v
+named_found node order v x h = record { place = h.place; within = h.within; is = ap node h.is ∙ h.of_node }
+
+kept_is : (from : List (Option DartName)) (v : ℕ) (o : Option DartName) → v < length from → o ≡ get_or from v o → get_or from v None ≡ o
+kept_is from v o l e = sym (get_or_read from v o l e None)
+
+pub kept_found : (maps : Rotations) (node : ℕ → ℕ) (allowed : ℕ → Bool) (bound root : ℕ) (order : List ℕ) (from : List (Option DartName)) (v : ℕ) (o : Option DartName)
+    → IsOrder maps node allowed bound root order from → v < length from → o ≡ get_or from v o → is_some o ≡ true → IsFound node order v
+kept_found maps node allowed bound root order from v None h l e some = cc
+kept_found maps node allowed bound root order from v (Some x) h l e some =
+    named_found node order v x.0 (h.only v x.0 (ap (option_map (λ (d : DartName). d.0)) (kept_is from v (Some x) l e)))
+
+pub none_kept : (from : List (Option DartName)) (v : ℕ) (o : Option DartName) → v < length from → o ≡ get_or from v o
+    → is_some o ≡ false → back_at from v ≡ None
+none_kept from v None l e none = ap (option_map (λ (d : DartName). d.0)) (kept_is from v None l e)
+none_kept from v (Some x) l e none = cc
+
+pub numbers_push : (xs ys : List DartName) (x : DartName) → ys ≡ xs ++ x ∷ [] → dart_numbers ys ≡ dart_numbers xs ++ x.0 ∷ []
+numbers_push xs ys x e = ap dart_numbers e ∙ map-append (λ (d : DartName). d.0) xs (x ∷ [])
+
+pub order_pushed : (maps : Rotations) (node : ℕ → ℕ) (allowed : ℕ → Bool) (bound root : ℕ) (xs ys : List DartName) (from : List (Option DartName)) (d v : ℕ) (x : DartName)
+    → IsRotationSystem maps → IsOrder maps node allowed bound root (dart_numbers xs) from → IsNewDart maps node allowed bound root (dart_numbers xs) from d
+    → x.0 ≡ maps.twin d → v ≡ node (maps.twin d) → ys ≡ xs ++ x ∷ [] → IsOrder maps node allowed bound root (dart_numbers ys) (set from v (Some x))
+order_pushed maps node allowed bound root xs ys from d v x r h new is at pushed =
+    rw (numbers_push xs ys x pushed, at) (order_more maps node allowed bound root (dart_numbers xs) from d x r h new is)
+
+pub found_pushed : (maps : Rotations) (node : ℕ → ℕ) (xs ys : List DartName) (d : ℕ) (x : DartName) → x.0 ≡ maps.twin d → ys ≡ xs ++ x ∷ []
+    → IsFound node (dart_numbers ys) (node (maps.twin d))
+found_pushed maps node xs ys d x is pushed =
+    let more : dart_numbers ys ≡ dart_numbers xs ++ x.0 ∷ [] = numbers_push xs ys x pushed in
+    record {
+      place = length (dart_numbers xs);
+      within = omega (arith, ap (λ (zs : List ℕ). length zs) more, length_push (dart_numbers xs) x.0);
+      is = ap node (ap (λ (zs : List ℕ). get_or zs (length (dart_numbers xs)) 0) more ∙ new_at (dart_numbers xs) x.0 (length (dart_numbers xs)) refl ∙ is);
+    }
+
+pub grown_pushed : (xs ys : List DartName) (x : DartName) → ys ≡ xs ++ x ∷ [] → GoesOn (dart_numbers xs) (dart_numbers ys)
+grown_pushed xs ys x pushed = rw (numbers_push xs ys x pushed) (goes_more (dart_numbers xs) (dart_numbers xs) x.0 (goes_nowhere (dart_numbers xs)))
+
+-- going round a node: so many turns are done, and all that they cross is found
+pub record IsVisiting (maps : Rotations) (node : ℕ → ℕ) (allowed : ℕ → Bool) (turn : ℕ → ℕ) (bound root : ℕ) (before order : List ℕ) (from : List (Option DartName)) (first dart k : ℕ) : Type 0 where
+  pub is_order : IsOrder maps node allowed bound root order from
+  pub grown : GoesOn before order
+  pub at : dart ≡ after_steps turn k first
+  pub crossed : CrossedUpTo maps node allowed turn order first k
+
+pub visit_start : (maps : Rotations) (node : ℕ → ℕ) (allowed : ℕ → Bool) (turn : ℕ → ℕ) (bound root : ℕ) (order : List ℕ) (from : List (Option DartName)) (first : ℕ)
+    → IsOrder maps node allowed bound root order from → IsVisiting maps node allowed turn bound root order order from first first 0
+visit_start maps node allowed turn bound root order from first h =
+    record { is_order = h; grown = goes_nowhere order; at = refl; crossed = λ i l passes. absurd (omega arith) }
+
+pub visit_more : (maps : Rotations) (node : ℕ → ℕ) (allowed : ℕ → Bool) (turn : ℕ → ℕ) (bound root : ℕ) (before order new : List ℕ) (from kept : List (Option DartName)) (first dart next k : ℕ)
+    → IsVisiting maps node allowed turn bound root before order from first dart k → IsOrder maps node allowed bound root new kept → GoesOn order new
+    → (allowed (maps.edge dart) ≡ true → IsFound node new (node (maps.twin dart))) → next ≡ turn dart
+    → IsVisiting maps node allowed turn bound root before new kept first next (k + 1)
+visit_more maps node allowed turn bound root before order new from kept first dart next k h is goes here turned =
+    let more : k + 1 ≡ suc k = omega arith in
+    record {
+      is_order = is;
+      grown = goes_on_on before order new h.grown goes;
+      at = turned ∙ ap turn h.at ∙ ap (λ j. after_steps turn j first) (sym more);
+      crossed = crossed_more maps node allowed turn order new first k goes h.crossed
+          (subst (λ d. allowed (maps.edge d) ≡ true → IsFound node new (node (maps.twin d))) h.at here);
+    }
+
+pub visit_within : (maps : Rotations) (node : ℕ → ℕ) (turn : ℕ → ℕ) (first dart k : ℕ) → IsTurning maps node turn → first < maps.darts
+    → dart ≡ after_steps turn k first → dart < maps.darts
+visit_within maps node turn first dart k t l at = subst (λ d. d < maps.darts) (sym at) (steps_within maps.darts turn t.permutes k first l)
+
+pub visit_found : (maps : Rotations) (node : ℕ → ℕ) (allowed : ℕ → Bool) (turn : ℕ → ℕ) (bound root : ℕ) (before order : List ℕ) (from : List (Option DartName)) (first dart k : ℕ)
+    → IsTurning maps node turn → first < maps.darts → IsFound node before (node first)
+    → IsVisiting maps node allowed turn bound root before order from first dart k → IsFound node order (node dart)
+visit_found maps node allowed turn bound root before order from first dart k t l found h =
+    let same : node dart ≡ node first =
+    ap node h.at
+    ∙ reached_keeps maps.darts turn node t.permutes t.keeps first (after_steps turn k first) l (record { steps = k; leads = refl }) in
+    subst (IsFound node order) (sym same) (found_on node before order (node first) h.grown found)
+
+-- the order and its bound
+pub rebound : (maps : Rotations) (node : ℕ → ℕ) (allowed : ℕ → Bool) (bound other root : ℕ) (order : List ℕ) (from : List (Option DartName)) → bound ≡ other
+    → IsOrder maps node allowed bound root order from → IsOrder maps node allowed other root order from
+rebound maps node allowed bound other root order from e h = subst (λ b. IsOrder maps node allowed b root order from) e h

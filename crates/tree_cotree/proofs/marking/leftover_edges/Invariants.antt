@@ -1,0 +1,8 @@
+use Rattle.std.proofs.Common.{◌≡◌, ◌≤◌}
+use Rattle.halfedge_map.specs.Numbers.{count_below}
+use Rattle.tree_cotree.specs.Searches.{has_kind}
+use Rattle.tree_cotree.specs.declared.split.Kind.TheVariants.{Left}
+use Rattle.tree_cotree.proofs.marking.leftover_edges.Given as goal
+
+abbrev pub invariant-loop-edge : goal.invariant-loop-edge
+invariant-loop-edge l = record { counted : l.left ≡ count_below (has_kind l.kinds Left) l.edge; few : l.left ≤ l.edge }

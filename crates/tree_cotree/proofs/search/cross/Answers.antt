@@ -1,0 +1,56 @@
+use Rattle.std.proofs.Common.{◌≡◌, ◌≢◌, ◌<◌, ℕ, true, false, List, length, refl, ap, sym, ◌∙◌, subst, arith, rules}
+use Rattle.std.specs.Prelude.{is_some}
+use Rattle.std.proofs.lemmas.Bool.{eq-eqb, both_ways}
+use Rattle.halfedge_map.specs.RotationSystems.{Rotations, rotations_of}
+use Rattle.halfedge_map.proofs.SystemLemmas.{rotation_system}
+use Rattle.tree_cotree.specs.RingViews.{dart_numbers}
+use Rattle.tree_cotree.specs.Searches.{node_of, has_kind, IsFound}
+use Rattle.tree_cotree.proofs.SearchLemmas.{IsNewDart, root_found, kept_found, none_kept, order_pushed, found_pushed}
+use Rattle.tree_cotree.proofs.search.cross.Goals.{then-across-root-via-then-across-root, then-across-root-via-else-across-root+then-is_some}
+use Rattle.tree_cotree.proofs.search.cross.Goals as goal
+
+pub returns-then-across-root-clause-crossed : goal.returns-then-across-root-clause-crossed
+returns-then-across-root-clause-crossed c =
+    let maps : Rotations = rotations_of c.args.surface.now in
+    let node : ℕ → ℕ = node_of c.args.nodes maps in
+    let across : c.node-across.result ≡ node (maps.twin c.args.dart.0) = c.node-across.ensures ∙ ap node c.twin-back.ensures.twin in
+    let order : List ℕ = dart_numbers c.args.search.now.order.items in
+    let from = c.args.search.now.from.items in
+    let below : c.node-across.result < length from = rw across (c.requires.below (maps.twin c.args.dart.0) ((rotation_system c.args.surface.now c.requires.valid).twin_within c.args.dart.0 c.requires.dart)) in
+    λ passes. subst (IsFound node order) across (elim c.then-across-root.branch [
+      | then-across-root-via-then-across-root w ↦
+          root_found maps node (has_kind c.args.kinds.now c.args.allowed) (length from) c.args.root order from c.node-across.result c.requires.order w.if-across-root.true
+      | then-across-root-via-else-across-root+then-is_some w ↦
+          kept_found maps node (has_kind c.args.kinds.now c.args.allowed) (length from) c.args.root order from c.node-across.result w.index.result.now c.requires.order
+          below w.index.ensures (sym w.is_some.ensures ∙ w.if-is_some.true)
+    ])
+
+pub returns-clause-order : goal.returns-clause-order
+returns-clause-order c =
+    let maps : Rotations = rotations_of c.args.surface.now in
+    let node : ℕ → ℕ = node_of c.args.nodes maps in
+    let d : ℕ = c.args.dart.0 in
+    let order : List ℕ = dart_numbers c.args.search.now.order.items in
+    let from = c.args.search.now.from.items in
+    let allowed = has_kind c.args.kinds.now c.args.allowed in
+    let system = rotation_system c.args.surface.now c.requires.valid in
+    let across : c.node-across.result ≡ node (maps.twin d) = c.node-across.ensures ∙ ap node c.twin-back.ensures.twin in
+    let below : node (maps.twin d) < length from = c.requires.below (maps.twin d) (system.twin_within d c.requires.dart) in
+    let same : c.is_same.result ≡ true = search rules in
+    let none = none_kept from c.node-across.result c.index.result.now (rw across below) c.index.ensures (sym c.is_some.ensures ∙ c.if-is_some.false) in
+    let new : IsNewDart maps node allowed (length from) c.args.root order from d = record {
+      dart = c.requires.dart;
+      from_found = c.requires.found;
+      crosses = ap allowed (sym c.edge_of.ensures.edge) ∙ sym c.is_same.ensures ∙ same;
+      below = below;
+      not_root = λ e. c.if-across-root.false (across ∙ e);
+      none_kept = rw across at none;
+    } in
+    order_pushed maps node allowed (length from) c.args.root c.args.search.now.order.items c.push.new.self.items from d c.node-across.result c.twin-back.result
+    system c.requires.order new c.twin-back.ensures.twin across c.in_ok-push.ensures.items
+
+pub returns-clause-crossed : goal.returns-clause-crossed
+returns-clause-crossed c =
+    let maps : Rotations = rotations_of c.args.surface.now in
+    let node : ℕ → ℕ = node_of c.args.nodes maps in
+    λ passes. found_pushed maps node c.args.search.now.order.items c.push.new.self.items c.args.dart.0 c.twin-back.result c.twin-back.ensures.twin c.in_ok-push.ensures.items

@@ -1,0 +1,83 @@
+use Rattle.std.proofs.Common.{◌≡◌, ◌+◌, ◌<◌, ◌≤◌, ℕ, List, length, sym, ap, ◌∙◌, subst, arith}
+use Rattle.std.proofs.lemmas.Bool.{eqb-true}
+use Rattle.halfedge_map.specs.RotationSystems.{Rotations, rotations_of}
+use Rattle.tree_cotree.specs.RingViews.{dart_numbers}
+use Rattle.tree_cotree.specs.Searches.{node_of, turn_of, has_kind, AreBelow}
+use Rattle.tree_cotree.proofs.SearchLemmas.{IsTurning, IsVisiting, turning, visit_start, visit_more, visit_within, visit_found, rebound, crossed_round, crossed_all}
+use Rattle.tree_cotree.proofs.search.visit.Goals as goal
+
+pub loop-turn-init : goal.loop-turn-init
+loop-turn-init c =
+    let maps : Rotations = rotations_of c.args.surface.now in
+    visit_start maps (node_of c.args.nodes maps) (has_kind c.args.kinds.now c.args.allowed) (turn_of c.args.nodes maps) (length c.args.search.now.from.items) c.args.root
+    (dart_numbers c.args.search.now.order.items) c.args.search.now.from.items c.args.first.0 c.requires.order
+
+pub cross-requires-clause-below : goal.cross-requires-clause-below
+cross-requires-clause-below c =
+    let maps : Rotations = rotations_of c.args.surface.now in
+    subst (AreBelow maps (node_of c.args.nodes maps)) (sym c.loop-turn.invariant.is_order.long) c.requires.below
+
+pub cross-requires-clause-dart : goal.cross-requires-clause-dart
+cross-requires-clause-dart c =
+    let maps : Rotations = rotations_of c.args.surface.now in
+    visit_within maps (node_of c.args.nodes maps) (turn_of c.args.nodes maps) c.args.first.0 c.loop-turn.dart.0 c.loop-turn._turn
+    (turning c.args.surface.now c.darts-turn-end.ensures.valid c.args.nodes) c.requires.dart c.loop-turn.invariant.at
+
+pub cross-requires-clause-found : goal.cross-requires-clause-found
+cross-requires-clause-found c =
+    let maps : Rotations = rotations_of c.args.surface.now in
+    visit_found maps (node_of c.args.nodes maps) (has_kind c.args.kinds.now c.args.allowed) (turn_of c.args.nodes maps) (length c.args.search.now.from.items) c.args.root
+    (dart_numbers c.args.search.now.order.items) (dart_numbers c.loop-turn.search.order.items) c.loop-turn.search.from.items c.args.first.0 c.loop-turn.dart.0 c.loop-turn._turn
+    (turning c.args.surface.now c.darts-turn-end.ensures.valid c.args.nodes) c.requires.dart c.requires.found c.loop-turn.invariant
+
+pub cross-requires-clause-order : goal.cross-requires-clause-order
+cross-requires-clause-order c =
+    let maps : Rotations = rotations_of c.args.surface.now in
+    rebound maps (node_of c.args.nodes maps) (has_kind c.args.kinds.now c.args.allowed) (length c.args.search.now.from.items) (length c.loop-turn.search.from.items) c.args.root
+    (dart_numbers c.loop-turn.search.order.items) c.loop-turn.search.from.items (sym c.loop-turn.invariant.is_order.long) c.loop-turn.invariant.is_order
+
+pub turn-dart-requires : goal.turn-dart-requires
+turn-dart-requires c =
+    let maps : Rotations = rotations_of c.args.surface.now in
+    visit_within maps (node_of c.args.nodes maps) (turn_of c.args.nodes maps) c.args.first.0 c.loop-turn.dart.0 c.loop-turn._turn
+    (turning c.args.surface.now c.darts-turn-end.ensures.valid c.args.nodes) c.requires.dart c.loop-turn.invariant.at
+
+pub loop-turn-preserved : goal.loop-turn-preserved
+loop-turn-preserved c =
+    let maps : Rotations = rotations_of c.args.surface.now in
+    let node : ℕ → ℕ = node_of c.args.nodes maps in
+    let allowed = has_kind c.args.kinds.now c.args.allowed in
+    let order : List ℕ = dart_numbers c.loop-turn.search.order.items in
+    let new : List ℕ = dart_numbers c.cross.new.search.order.items in
+    visit_more maps node allowed (turn_of c.args.nodes maps) (length c.args.search.now.from.items) c.args.root (dart_numbers c.args.search.now.order.items) order new
+    c.loop-turn.search.from.items c.cross.new.search.from.items c.args.first.0 c.loop-turn.dart.0 c.turn-dart.result.0 c.loop-turn._turn c.loop-turn.invariant
+    (rebound maps node allowed (length c.loop-turn.search.from.items) (length c.args.search.now.from.items) c.args.root new c.cross.new.search.from.items
+    c.loop-turn.invariant.is_order.long c.in_ok-cross.ensures.order)
+    c.in_ok-cross.ensures.grown c.in_ok-cross.ensures.crossed c.turn-dart.ensures.turn
+
+pub returns-then-eq-clause-crossed : goal.returns-then-eq-clause-crossed
+returns-then-eq-clause-crossed c =
+    let maps : Rotations = rotations_of c.args.surface.now in
+    let node : ℕ → ℕ = node_of c.args.nodes maps in
+    let turn : ℕ → ℕ = turn_of c.args.nodes maps in
+    let allowed = has_kind c.args.kinds.now c.args.allowed in
+    let order : List ℕ = dart_numbers c.loop-turn.search.order.items in
+    let new : List ℕ = dart_numbers c.cross.new.search.order.items in
+    let k : ℕ = c.loop-turn._turn in
+    let more : IsVisiting maps node allowed turn (length c.args.search.now.from.items) c.args.root (dart_numbers c.args.search.now.order.items) new
+    c.cross.new.search.from.items c.args.first.0 c.turn-dart.result.0 (k + 1) =
+    visit_more maps node allowed turn (length c.args.search.now.from.items) c.args.root (dart_numbers c.args.search.now.order.items) order new
+    c.loop-turn.search.from.items c.cross.new.search.from.items c.args.first.0 c.loop-turn.dart.0 c.turn-dart.result.0 k c.loop-turn.invariant
+    (rebound maps node allowed (length c.loop-turn.search.from.items) (length c.args.search.now.from.items) c.args.root new c.cross.new.search.from.items
+    c.loop-turn.invariant.is_order.long c.in_ok-cross.ensures.order)
+    c.in_ok-cross.ensures.grown c.in_ok-cross.ensures.crossed c.turn-dart.ensures.turn in
+    let home : c.turn-dart.result.0 ≡ c.args.first.0 = eqb-true c.turn-dart.result.0 c.args.first.0 (sym c.eq.ensures ∙ c.if-eq.true) in
+    crossed_round maps node allowed turn new c.args.first.0 (k + 1) (turning c.args.surface.now c.darts-turn-end.ensures.valid c.args.nodes) c.requires.dart
+    more.crossed (omega arith, sym more.at ∙ home)
+
+pub returns-clause-crossed : goal.returns-clause-crossed
+returns-clause-crossed c =
+    let maps : Rotations = rotations_of c.args.surface.now in
+    let all : maps.darts ≤ c.loop-turn._turn = omega (arith, c.loop-turn-test.false, c.darts-turn-end.ensures.count) in
+    crossed_all maps (node_of c.args.nodes maps) (has_kind c.args.kinds.now c.args.allowed) (turn_of c.args.nodes maps) (dart_numbers c.loop-turn.search.order.items)
+    c.args.first.0 c.loop-turn._turn (turning c.args.surface.now c.darts-turn-end.ensures.valid c.args.nodes) c.requires.dart c.loop-turn.invariant.crossed all
