@@ -38,7 +38,8 @@ pub(crate) fn faces_below(
     requires valid { IsOrientedSurface surface.now }
     requires few { length from.now < 2 ^ 32 }
     requires apart { AreApart (rotations_of surface.now) from.now }
-    ensures { IfOk result (λ below. AreBelowEdges (rotations_of surface.now) from.now (length surface.now.table) below.items (length from.now)) }
+    ensures { IfOk result (λ below. AreBelowEdges (rotations_of surface.now) from.now (length surface.now.table) below.items
+        (length from.now)) }
 {
     let mut below = vec![in alloc; None; surface.sides().len() as usize]?;
     for face in 0..from.len() {

@@ -4,7 +4,8 @@ ghost use Rattle.halfedge_map.specs.OrientedMeshes.{IsOrientedSurface};
 ghost use Rattle.halfedge_map.specs.DartMaps.{darts_of};
 ghost use Rattle.halfedge_map.specs.RotationSystems.{rotations_of};
 ghost use Rattle.tree_cotree.specs.RingViews.{dart_numbers};
-ghost use Rattle.tree_cotree.specs.Searches.{node_of, turn_of, same_kind, has_kind, AreBelow, IsFound, IsOrder, IsCrossed, IsSearched, GoesOn};
+ghost use Rattle.tree_cotree.specs.Searches.{node_of, turn_of, same_kind, has_kind};
+ghost use Rattle.tree_cotree.specs.Searches.{AreBelow, IsFound, IsOrder, IsCrossed, IsSearched, GoesOn};
 
 use crate::split::Kind;
 use halfedge_map::Surface;
@@ -118,8 +119,8 @@ fn visit(
     ensures order { OnOk result (IsOrder (rotations_of surface.now) (node_of nodes (rotations_of surface.now)) (has_kind kinds.now allowed)
         (length search.old.from.items) root (dart_numbers search.new.order.items) search.new.from.items) }
     ensures grown { OnOk result (GoesOn (dart_numbers search.old.order.items) (dart_numbers search.new.order.items)) }
-    ensures crossed { OnOk result (IsCrossed (rotations_of surface.now) (node_of nodes (rotations_of surface.now)) (has_kind kinds.now allowed)
-        (dart_numbers search.new.order.items) (node_of nodes (rotations_of surface.now) first.0)) }
+    ensures crossed { OnOk result (IsCrossed (rotations_of surface.now) (node_of nodes (rotations_of surface.now))
+        (has_kind kinds.now allowed) (dart_numbers search.new.order.items) (node_of nodes (rotations_of surface.now) first.0)) }
 {
     let mut dart = first;
     for _turn in 0..surface.darts() {
