@@ -1,10 +1,10 @@
 -- A split, made by three searches: over the vertices, over the faces across the edges outside the tree, and once more over the faces,
 -- across the cotree, from a face that has a leftover dart.
-use Rattle.std.proofs.Common.{◌≡◌, ◌≢◌, ◌⊎◌, inl, inr, ℕ, zero, suc, ◌+◌, ◌*◌, ◌/◌, ◌<◌, ◌≤◌, Bool, true, false, not, List, [], ◌∷◌, length, map, get_or, refl, ap, sym, ◌∙◌, subst, arith}
-use Rattle.std.specs.Prelude.{◌↔◌, Option, Some, None, is_some, replicate}
+use Rattle.std.proofs.Common.{◌≡◌, ◌⊎◌, inl, inr, ℕ, zero, suc, ◌+◌, ◌/◌, ◌<◌, Bool, true, false, not, List, [], ◌∷◌, length, map, get_or, refl, ap, sym, ◌∙◌, subst, arith}
+use Rattle.std.specs.Prelude.{Option, Some, None, is_some, replicate}
 use Rattle.std.specs.Option.{option_map}
-use Rattle.std.proofs.lemmas.Bool.{cases_Bool, cases_lt, both_ways}
-use Rattle.std.proofs.lemmas.List.{length-map, length-replicate, get_or-replicate, get_or_past}
+use Rattle.std.proofs.lemmas.Bool.{cases_Bool, both_ways}
+use Rattle.std.proofs.lemmas.List.{length-map, length-replicate, get_or-replicate}
 use Rattle.surf_model.specs.FaceLists.{is_used}
 use Rattle.surf_model.specs.Surfaces.{AreJoined}
 use Rattle.surf_model.specs.declared.names.DartName.{DartName}
@@ -16,12 +16,12 @@ use Rattle.halfedge_map.proofs.SystemLemmas.{rotation_system, names_all}
 use Rattle.tree_cotree.specs.declared.split.Kind.{Kind}
 use Rattle.tree_cotree.specs.declared.split.Kind.TheVariants.{Tree, Cotree, Left}
 use Rattle.tree_cotree.specs.SpanningTrees.{IsSpanningTree, HasOneRing}
-use Rattle.tree_cotree.specs.Searches.{same_kind, has_kind, back_at, IsFound, IsNamed, IsOrder, IsSearched}
-use Rattle.tree_cotree.specs.Markings.{AreApart, AreMarked, IsMarked, AreBelowEdges, face_below}
+use Rattle.tree_cotree.specs.Searches.{same_kind, has_kind, back_at, IsFound, IsNamed, IsSearched}
+use Rattle.tree_cotree.specs.Markings.{AreMarked, IsMarked, AreBelowEdges, face_below}
 use Rattle.tree_cotree.specs.Splits.{SplitView, HasParents, HasChildFaces, HasTrees, IsSplit, StepsToParent, StepsUp, in_tree, in_cotree, is_left, is_tree_kind, is_cotree_kind, is_left_kind}
 use Rattle.tree_cotree.specs.StoredSplits.{dart_options, face_options, made_split}
 use Rattle.tree_cotree.proofs.ClassLemmas.{count_same}
-use Rattle.tree_cotree.proofs.SetLemmas.{with_one, with_cases, with_keeps, with_itself, count_with, same_from_count}
+use Rattle.tree_cotree.proofs.SetLemmas.{with_one, with_cases, with_keeps, count_with, same_from_count}
 use Rattle.tree_cotree.proofs.GrowthLemmas.{HasNodes}
 use Rattle.tree_cotree.proofs.SplitLemmas.{tree_ring, cotree_ring, closed_holds_all}
 use Rattle.tree_cotree.proofs.LawLemmas.{vertex_nodes, face_nodes, some_dart, even}

@@ -1,11 +1,10 @@
-use Rattle.std.proofs.Common.{◌≡◌, ◌+◌, ◌<◌, ℕ, length, get_or, sym, ap, ◌∙◌, subst, arith}
-use Rattle.std.specs.Prelude.{Option, Some, None}
+use Rattle.std.proofs.Common.{◌≡◌, ◌+◌, ◌<◌, ℕ, length, sym, ap, ◌∙◌, subst, arith}
+use Rattle.std.specs.Prelude.{Some}
 use Rattle.std.specs.Option.{option_map}
 use Rattle.std.proofs.Math.ListN.{set}
 use Rattle.surf_model.specs.declared.names.DartName.{DartName}
 use Rattle.halfedge_map.specs.DartMaps.{edge_of}
 use Rattle.halfedge_map.specs.RotationSystems.{Rotations, rotations_of}
-use Rattle.halfedge_map.proofs.SystemLemmas.{names_all}
 use Rattle.tree_cotree.specs.Searches.{back_at}
 use Rattle.tree_cotree.specs.Markings.{IsMarked}
 use Rattle.tree_cotree.proofs.TreeLemmas.{marks_skip, marks_more}

@@ -1,6 +1,4 @@
-use Rattle.std.proofs.Common.{◌≡◌, ◌≢◌, ◌<◌, ℕ, true, false, List, length, refl, ap, sym, ◌∙◌, subst, arith, rules}
-use Rattle.std.specs.Prelude.{is_some}
-use Rattle.std.proofs.lemmas.Bool.{eq-eqb, both_ways}
+use Rattle.std.proofs.Common.{◌≡◌, ◌<◌, ℕ, true, List, length, ap, sym, ◌∙◌, subst, rules}
 use Rattle.halfedge_map.specs.RotationSystems.{Rotations, rotations_of}
 use Rattle.halfedge_map.proofs.SystemLemmas.{rotation_system}
 use Rattle.tree_cotree.specs.RingViews.{dart_numbers}

@@ -1,9 +1,9 @@
-use Rattle.std.proofs.Common.{◌≡◌, ◌+◌, ◌<◌, ◌≤◌, ℕ, List, length, sym, ap, ◌∙◌, subst, arith}
+use Rattle.std.proofs.Common.{◌≡◌, ◌+◌, ◌≤◌, ℕ, List, length, sym, ◌∙◌, subst, arith}
 use Rattle.std.proofs.lemmas.Bool.{eqb-true}
 use Rattle.halfedge_map.specs.RotationSystems.{Rotations, rotations_of}
 use Rattle.tree_cotree.specs.RingViews.{dart_numbers}
 use Rattle.tree_cotree.specs.Searches.{node_of, turn_of, has_kind, AreBelow}
-use Rattle.tree_cotree.proofs.SearchLemmas.{IsTurning, IsVisiting, turning, visit_start, visit_more, visit_within, visit_found, rebound, crossed_round, crossed_all}
+use Rattle.tree_cotree.proofs.SearchLemmas.{IsVisiting, turning, visit_start, visit_more, visit_within, visit_found, rebound, crossed_round, crossed_all}
 use Rattle.tree_cotree.proofs.search.visit.Goals as goal
 
 pub loop-turn-init : goal.loop-turn-init
