@@ -1,14 +1,14 @@
 -- The edges of the table and their darts.
-use Rattle.std.proofs.Common.{◌≡◌, ◌≢◌, ◌⊎◌, inl, inr, ℕ, ◌<◌, Bool, true, false, cond, List, length, get_or, refl, ap, sym, ◌∙◌, subst}
-use Rattle.std.proofs.Common.{arith}
+use Rattle.std.proofs.Common.{◌≡◌, ◌≢◌, ◌⊎◌, inl, inr, ℕ, zero, suc, ◌<◌, Bool, true, false, cond, List, length, get_or, refl, ap, sym, ◌∙◌, subst, arith}
 use Rattle.std.specs.Prelude.{◌↔◌, Contains, Some, filter, slice_get, unwrap_or}
 use Rattle.std.proofs.lemmas.Option.{slice_get_within, get_or_from_slice_get}
-use Rattle.std.proofs.lemmas.Bool.{cases_order}
-use Rattle.std.proofs.lemmas.List.{get_or_default, length-map}
+use Rattle.std.proofs.lemmas.Bool.{cases_order, cases_lt}
+use Rattle.std.proofs.lemmas.List.{get_or_default, get_or-map, length-map}
 use Rattle.std.proofs.lemmas.List.Folds.{Any-from_list_any, list_any_at}
-use Rattle.surf_model.specs.FaceLists.{FaceList, FaceSide, face_at, all_sides, joins, is_edge}
+use Rattle.surf_model.specs.FaceLists.{FaceList, FaceSide, face_at, all_sides, next_corner, joins, is_edge}
 use Rattle.surf_model.specs.Edges.{Edge, IsEdgeOf, IsTableOf, IsPairBefore, HasEnds, edge_in, side_name}
 use Rattle.surf_model.specs.Darts.{IsSide, side_number}
+use Rattle.surf_model.specs.EdgeDarts.{IsNextInEdge, darts_of as edge_darts_of}
 use Rattle.surf_model.specs.Surfaces.{is_flipped}
 use Rattle.surf_model.specs.declared.edges.Side.{Side}
 use Rattle.surf_model.proofs.NumberLemmas.{face_side, length-all_sides}
@@ -266,46 +266,56 @@ side_got s h k j side l is =
     subst (IsSideInTable s k) (get_or_from_slice_get (edge_in s.table k).sides j side side is)
     (side_in_table s h k j side l (slice_get_within (edge_in s.table k).sides j side is))
 
--- a side that an edge contains
-pub side_kept : (s : OrientedMesh) → IsOrientedSurface s → (k : ℕ) (side : Side) → k < length s.table
-    → Contains (edge_in s.table k).sides side → IsSideInTable s k side
-side_kept s h k side l has = subst (IsSideInTable s k) has.2 (side_in_table s h k has.0 side l has.1)
+-- a dart whose number an edge keeps
+pub dart_kept : (s : OrientedMesh) → IsOrientedSurface s → (k d : ℕ) → k < length s.table
+    → Contains (edge_darts_of s.mesh (edge_in s.table k)) d → k ≡ edge_of s d
+dart_kept s h k d l has =
+    let sides : List Side = (edge_in s.table k).sides in
+    let none : Side = record { face = record { 0 = 0 }; at = 0 } in
+    let few : has.0 < length sides = omega (arith, has.1, length-map sides (side_number s.mesh)) in
+    let number : side_number s.mesh (get_or sides has.0 none) ≡ d = sym (get_or-map (side_number s.mesh) sides has.0 none d few) ∙ has.2 in
+    (side_in_table s h k has.0 none l few).edge ∙ ap (edge_of s) number
 
--- the two sides of an edge have different numbers
-pub sides_apart : (s : OrientedMesh) → IsOrientedSurface s → (k : ℕ) (first second : Side) → k < length s.table
-    → slice_get (edge_in s.table k).sides 0 ≡ Some first → slice_get (edge_in s.table k).sides 1 ≡ Some second
-    → side_number s.mesh second ≢ side_number s.mesh first
-sides_apart s h k first second l is also =
-    let edge : Edge = edge_in s.table k in
-    let rise = edge_sides_rise s.mesh edge (table_edge s.mesh s.table k h.table l) 0 1 first (omega arith)
-    (slice_get_within edge.sides 1 second also) in
-    let a : get_or edge.sides 0 first ≡ first = get_or_from_slice_get edge.sides 0 first first is in
-    let b : get_or edge.sides 1 first ≡ second = get_or_from_slice_get edge.sides 1 second first also in
-    let less : side_number s.mesh first < side_number s.mesh second =
-    subst (λ x. side_number s.mesh x < side_number s.mesh second) a
-    (subst (λ x. side_number s.mesh (get_or edge.sides 0 first) < side_number s.mesh x) b rise) in
-    λ same. omega (arith, less, same)
-
--- of the two sides of its edge a dart has the first or the second, and its twin the other
+-- a dart and its edge
 pub record IsAtEdge (s : OrientedMesh) (d k : ℕ) : Type 0 where
   pub dart : d < darts_of s
   pub edge : k < length s.table
   pub is : k ≡ edge_of s d
 
-pub first_is_twin : (s : OrientedMesh) → IsOrientedSurface s → (d k : ℕ) (first : Side) → IsAtEdge s d k
-    → slice_get (edge_in s.table k).sides 0 ≡ Some first
-    → side_number s.mesh first ≢ d → side_number s.mesh first ≡ twin_of s d
-first_is_twin s h d k first at got other =
-    let side : IsSideInTable s k first = side_got s h k 0 first at.edge got in
-    twin_is s h d (side_number s.mesh first) at.dart side.within (sym at.is ∙ side.edge) other
+-- of the two sides of an edge the one follows the other
+corner_of_two : (p : ℕ) → p < 2 → (next_corner true 2 p < 2) × (next_corner true 2 p ≢ p)
+corner_of_two zero l = (omega arith, λ e. omega (arith, e))
+corner_of_two (suc zero) l = (omega arith, λ e. omega (arith, e))
+corner_of_two (suc (suc p)) l = absurd (omega arith)
 
-pub second_is_twin : (s : OrientedMesh) → IsOrientedSurface s → (d k : ℕ) (first second : Side) → IsAtEdge s d k
-    → slice_get (edge_in s.table k).sides 0 ≡ Some first
-    → slice_get (edge_in s.table k).sides 1 ≡ Some second → side_number s.mesh first ≡ d → side_number s.mesh second ≡ twin_of s d
-second_is_twin s h d k first second at got also own =
-    let side : IsSideInTable s k second = side_got s h k 1 second at.edge also in
-    twin_is s h d (side_number s.mesh second) at.dart side.within (sym at.is ∙ side.edge)
-    (λ same. sides_apart s h k first second at.edge got also (same ∙ sym own))
+pub next_is_twin : (s : OrientedMesh) → IsOrientedSurface s → (d e : ℕ) → d < darts_of s → IsNextInEdge s.mesh s.table d e → e ≡ twin_of s d
+next_is_twin s h d e l next =
+    let k : ℕ = next.edge in
+    let edge : Edge = edge_in s.table k in
+    let none : Side = record { face = record { 0 = 0 }; at = 0 } in
+    let two : length edge.sides ≡ 2 = two_sides s h k next.in_table in
+    let long : length (edge_darts_of s.mesh edge) ≡ 2 = length-map edge.sides (side_number s.mesh) ∙ two in
+    let p : ℕ = next.place in
+    let q : ℕ = next_corner true 2 p in
+    let corner = corner_of_two p (omega (arith, next.in_edge, long)) in
+    let p_in : p < length edge.sides = omega (arith, next.in_edge, long, two) in
+    let q_in : q < length edge.sides = omega (arith, corner.0, two) in
+    let read : (j : ℕ) → j < length edge.sides → get_or (edge_darts_of s.mesh edge) j 0 ≡ side_number s.mesh (get_or edge.sides j none) =
+    λ j b. get_or-map (side_number s.mesh) edge.sides j none 0 b in
+    let d_is : side_number s.mesh (get_or edge.sides p none) ≡ d = sym (read p p_in) ∙ next.here in
+    let e_is : side_number s.mesh (get_or edge.sides q none) ≡ e =
+    sym (read q q_in) ∙ ap (λ m. get_or (edge_darts_of s.mesh edge) (next_corner true m p) 0) (sym long) ∙ next.there in
+    let one : IsSideInTable s k (get_or edge.sides p none) = side_in_table s h k p none next.in_table p_in in
+    let other : IsSideInTable s k (get_or edge.sides q none) = side_in_table s h k q none next.in_table q_in in
+    let e_in : e < darts_of s = subst (λ x. x < darts_of s) e_is other.within in
+    let same : edge_of s d ≡ edge_of s e = ap (edge_of s) (sym d_is) ∙ sym one.edge ∙ other.edge ∙ ap (edge_of s) e_is in
+    let is_edge_here : IsEdgeOf s.mesh edge = table_edge s.mesh s.table k h.table next.in_table in
+    twin_is s h d e l e_in same (λ is. elim (cases_lt p q) [
+      | inl less ↦ omega (arith, edge_sides_rise s.mesh edge is_edge_here p q none less q_in, d_is, e_is, is)
+      | inr more ↦
+          (let rises : q < p = (let ne : q ≢ p = corner.1 in omega arith) in
+          omega (arith, edge_sides_rise s.mesh edge is_edge_here q p none rises p_in, d_is, e_is, is))
+    ])
 
 -- the dart of an edge that starts at u, or else its twin, leads from u to v
 pub leads_on : (s : OrientedMesh) → IsOrientedSurface s → (u v k d : ℕ) → IsAtEdge s d k → HasEnds u v (edge_in s.table k)
