@@ -47,14 +47,16 @@ unfolding counts_at
 bad_second c number first [] lines e = refl
 bad_second c number first (word ∷ words) lines e = rw (and_right (is_natural first) (is_natural word) (no_natural word e)) refl
 
-two : (first : List ℕ) (words : List (List ℕ)) (v f : ℕ) → natural_of first ≡ Some v → next_natural words ≡ Some f → two_naturals (first ∷ words) ≡ Some (v, f)
+two : (first : List ℕ) (words : List (List ℕ)) (v f : ℕ) → natural_of first ≡ Some v → next_natural words ≡ Some f
+    → two_naturals (first ∷ words) ≡ Some (v, f)
 two first [] v f e g = absurd (none-some f g)
 two first (word ∷ words) v f e g =
     let a = cond_some (is_natural first) (value_of first) v e in
     let b = cond_some (is_natural word) (value_of word) f g in
     rw (a.0, b.0, a.1, b.1) refl
 
-two_counts : (c number : ℕ) (first : List ℕ) (words : List (List ℕ)) (lines : List Line) (v f : ℕ) → natural_of first ≡ Some v → next_natural words ≡ Some f
+two_counts : (c number : ℕ) (first : List ℕ) (words : List (List ℕ)) (lines : List Line) (v f : ℕ) → natural_of first ≡ Some v
+    → next_natural words ≡ Some f
     → counts_at c (record { number = number; words = first ∷ words } ∷ lines) ≡ counted c (record { number = number; words = first ∷ words }) lines (Some (v, f))
 unfolding counts_at
 two_counts c number first words lines v f e g = ap (counted c (record { number = number; words = first ∷ words }) lines) (two first words v f e g)
@@ -69,7 +71,8 @@ kept whole n bound e small below =
 more : (whole n bound : ℕ) → n ≡ min whole (2 ^ 64 - 1) → bound < n → bound < whole
 more whole n bound e above = omega (arith, e, above, min-le_left whole (2 ^ 64 - 1))
 
-pub good_counts : (c number : ℕ) (first : List ℕ) (words : List (List ℕ)) (lines : List Line) (v f : ℕ) → Some v ≡ option_map (λ n. min n (2 ^ 64 - 1)) (natural_of first)
+pub good_counts : (c number : ℕ) (first : List ℕ) (words : List (List ℕ)) (lines : List Line) (v f : ℕ)
+    → Some v ≡ option_map (λ n. min n (2 ^ 64 - 1)) (natural_of first)
     → Some f ≡ option_map (λ n. min n (2 ^ 64 - 1)) (next_natural words) → v ≤ 1000000 → f ≤ 1333333
     → counts_at c (record { number = number; words = first ∷ words } ∷ lines) ≡ Ok (record { coordinates = c; vertices = v; faces = f; lines = lines })
 good_counts c number first words lines v f e g small_v small_f =
@@ -81,7 +84,8 @@ good_counts c number first words lines v f e g small_v small_f =
     let few_f : leb b.whole 1333333 ≡ true = le-leb _ _ (omega (arith, same_f, small_f)) in
     two_counts c number first words lines a.whole b.whole a.is b.is ∙ rw (few_v, few_f, sym same_v, sym same_f) refl
 
-pub many_counts : (c number : ℕ) (first : List ℕ) (words : List (List ℕ)) (lines : List Line) (v f : ℕ) → Some v ≡ option_map (λ n. min n (2 ^ 64 - 1)) (natural_of first)
+pub many_counts : (c number : ℕ) (first : List ℕ) (words : List (List ℕ)) (lines : List Line) (v f : ℕ)
+    → Some v ≡ option_map (λ n. min n (2 ^ 64 - 1)) (natural_of first)
     → Some f ≡ option_map (λ n. min n (2 ^ 64 - 1)) (next_natural words) → (1000000 < v) ⊎ (1333333 < f)
     → counts_at c (record { number = number; words = first ∷ words } ∷ lines) ≡ Err (TooMany number)
 many_counts c number first words lines v f e g many =
@@ -115,7 +119,8 @@ pub keyword_header : (left lines : List Line) (n : ℕ) (word : List ℕ) (words
 unfolding header_of
 keyword_header left lines n word words keyword is e = ap header_of is ∙ rw (sym e) refl
 
-pub plain_header : (left lines : List Line) (n : ℕ) (word : List ℕ) (words : List (List ℕ)) → left ≡ record { number = n; words = word ∷ words } ∷ lines → None ≡ keyword_of word
+pub plain_header : (left lines : List Line) (n : ℕ) (word : List ℕ) (words : List (List ℕ))
+    → left ≡ record { number = n; words = word ∷ words } ∷ lines → None ≡ keyword_of word
     → header_of left ≡ counts_at 3 (record { number = n; words = word ∷ words } ∷ lines)
 unfolding header_of
 plain_header left lines n word words is e = ap header_of is ∙ rw (sym e) refl

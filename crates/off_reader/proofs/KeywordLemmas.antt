@@ -22,7 +22,8 @@ unfolding are_pieces
 single_piece bytes [] a is e = ap are_pieces is ∙ e
 single_piece bytes (b ∷ rest) a is e = ap are_pieces is ∙ rw (e, no_pair a b e) (or-false (are_pieces (b ∷ rest)))
 
-pair_step : (bytes : List ℕ) → bytes_eq (take 2 bytes) (codes "ST") ≡ true → (are_pieces bytes ≡ are_pieces (drop 2 bytes)) × (length (drop 2 bytes) < length bytes)
+pair_step : (bytes : List ℕ) → bytes_eq (take 2 bytes) (codes "ST") ≡ true
+    → (are_pieces bytes ≡ are_pieces (drop 2 bytes)) × (length (drop 2 bytes) < length bytes)
 unfolding are_pieces
 pair_step [] e = cc
 pair_step (a ∷ []) e = absurd (grind (arith, e))
@@ -30,7 +31,8 @@ pair_step (a ∷ b ∷ rest) e =
     let other : is_single_piece a ≡ false = grind (arith, e) in
     (rw (other, e) refl, omega arith)
 
-no_piece : (bytes after : List ℕ) (a : ℕ) → bytes ≡ a ∷ after → is_single_piece a ≡ false → bytes_eq (take 2 bytes) (codes "ST") ≡ false → are_pieces bytes ≡ false
+no_piece : (bytes after : List ℕ) (a : ℕ) → bytes ≡ a ∷ after → is_single_piece a ≡ false → bytes_eq (take 2 bytes) (codes "ST") ≡ false
+    → are_pieces bytes ≡ false
 unfolding are_pieces
 no_piece bytes [] a is e none = ap are_pieces is ∙ e
 no_piece bytes (b ∷ rest) a is e none =
@@ -42,7 +44,8 @@ IsStripped s p r =
     MatchOption r (pointwise eqb (take (length p) s) p ≡ false)
     (λ x. (pointwise eqb (take (length p) s) p ≡ true) × (x.now ≡ drop (length p) s) × (length x.now + length p ≡ length s))
 
-pub pair_none : (bytes after : List ℕ) (a : ℕ) (r : Option (Bor (List ℕ))) → bytes ≡ a ∷ after → is_single_piece a ≡ false → IsStripped bytes (codes "ST") r
+pub pair_none : (bytes after : List ℕ) (a : ℕ) (r : Option (Bor (List ℕ))) → bytes ≡ a ∷ after → is_single_piece a ≡ false
+    → IsStripped bytes (codes "ST") r
     → IfNone r (0 < length bytes → are_pieces bytes ≡ false)
 pair_none bytes after a None is e h = λ some. no_piece bytes after a is e h
 pair_none bytes after a (Some x) is e h = tt
@@ -97,19 +100,22 @@ with_o word at e =
     rw (same, long) refl
 
 -- what stands behind the pieces is not OFF
-pub no_title : (word behind : List ℕ) (at : ℕ) → position is_o word ≡ Some at → behind ≡ drop at word → bytes_eq (take 3 behind) (codes "OFF") ≡ false → keyword_of word ≡ None
+pub no_title : (word behind : List ℕ) (at : ℕ) → position is_o word ≡ Some at → behind ≡ drop at word
+    → bytes_eq (take 3 behind) (codes "OFF") ≡ false → keyword_of word ≡ None
 no_title word behind at e is none =
     with_o word at e
     ∙ ap (λ b. cond b (Some (record { pieces = take at word; rest = drop 3 (drop at word) })) None)
     (and_right (are_pieces (take at word)) _ (ap (λ (t : List ℕ). bytes_eq (take 3 t) (codes "OFF")) (sym is) ∙ none))
 
-pub no_pieces : (word pieces : List ℕ) (at : ℕ) → position is_o word ≡ Some at → pieces ≡ take at word → are_pieces pieces ≡ false → keyword_of word ≡ None
+pub no_pieces : (word pieces : List ℕ) (at : ℕ) → position is_o word ≡ Some at → pieces ≡ take at word → are_pieces pieces ≡ false
+    → keyword_of word ≡ None
 no_pieces word pieces at e is none =
     with_o word at e
     ∙ ap (λ b. cond b (Some (record { pieces = take at word; rest = drop 3 (drop at word) })) None)
     (and_left (are_pieces (take at word)) _ (ap are_pieces (sym is) ∙ none))
 
-pub a_keyword : (word pieces behind rest : List ℕ) (at : ℕ) → position is_o word ≡ Some at → pieces ≡ take at word → behind ≡ drop at word → are_pieces pieces ≡ true
+pub a_keyword : (word pieces behind rest : List ℕ) (at : ℕ) → position is_o word ≡ Some at → pieces ≡ take at word → behind ≡ drop at word
+    → are_pieces pieces ≡ true
     → bytes_eq (take 3 behind) (codes "OFF") ≡ true → rest ≡ drop 3 behind → keyword_of word ≡ Some (record { pieces = pieces; rest = rest })
 a_keyword word pieces behind rest at e first second good title is =
     let p : are_pieces (take at word) ≡ true = ap are_pieces (sym first) ∙ good in

@@ -19,23 +19,27 @@ Check = List Line → Line → Option OffFault
 left_one : (n count : ℕ) → n < count → count - n ≡ suc (count - (n + 1))
 left_one n count below = omega (arith, below)
 
-all_taken : (check : Check) (end : ℕ) (before lines : List Line) (n count : ℕ) → n ≡ count → taken check end before (count - n) lines ≡ Ok (before, lines)
+all_taken : (check : Check) (end : ℕ) (before lines : List Line) (n count : ℕ) → n ≡ count
+    → taken check end before (count - n) lines ≡ Ok (before, lines)
 unfolding taken
 all_taken check end before lines n count same =
     let none : count - n ≡ 0 = omega (arith, same) in
     ap (λ k. taken check end before k lines) none
 
-one_taken : (check : Check) (end : ℕ) (before rest lines : List Line) (line : Line) (n count : ℕ) → n < count → lines ≡ line ∷ rest → check before line ≡ None
+one_taken : (check : Check) (end : ℕ) (before rest lines : List Line) (line : Line) (n count : ℕ) → n < count → lines ≡ line ∷ rest
+    → check before line ≡ None
     → taken check end before (count - n) lines ≡ taken check end (before ++ line ∷ []) (count - (n + 1)) rest
 unfolding taken
 one_taken check end before rest lines line n count below is good = ap₂ (λ k ls. taken check end before k ls) (left_one n count below) is ∙ rw good refl
 
-bad_taken : (check : Check) (end : ℕ) (before rest lines : List Line) (line : Line) (fault : OffFault) (n count : ℕ) → n < count → lines ≡ line ∷ rest → check before line ≡ Some fault
+bad_taken : (check : Check) (end : ℕ) (before rest lines : List Line) (line : Line) (fault : OffFault) (n count : ℕ) → n < count
+    → lines ≡ line ∷ rest → check before line ≡ Some fault
     → taken check end before (count - n) lines ≡ Err fault
 unfolding taken
 bad_taken check end before rest lines line fault n count below is bad = ap₂ (λ k ls. taken check end before k ls) (left_one n count below) is ∙ rw bad refl
 
-none_taken : (check : Check) (end : ℕ) (before lines : List Line) (n count : ℕ) → n < count → lines ≡ [] → taken check end before (count - n) lines ≡ Err (Ended end)
+none_taken : (check : Check) (end : ℕ) (before lines : List Line) (n count : ℕ) → n < count → lines ≡ []
+    → taken check end before (count - n) lines ≡ Err (Ended end)
 unfolding taken
 none_taken check end before lines n count below is = ap₂ (λ k ls. taken check end before k ls) (left_one n count below) is
 
@@ -50,7 +54,8 @@ pub no_points : (coordinates count : ℕ) (u : Unread) → IsPointsTo coordinate
 no_points coordinates count u = record { before = []; same = ap (λ k. taken (point_fault coordinates) u.end_line [] k u.lines) (omega arith); end = refl }
 
 -- the next line, and what stands in it
-pub one_point : (coordinates count : ℕ) (old mid line new : Unread) (n : ℕ) → n < count → mid.lines ≡ line_at line ∷ line.lines → line.end_line ≡ mid.end_line
+pub one_point : (coordinates count : ℕ) (old mid line new : Unread) (n : ℕ) → n < count → mid.lines ≡ line_at line ∷ line.lines
+    → line.end_line ≡ mid.end_line
     → None ≡ point_fault coordinates [] (line_at line) → IsSameLine line new → IsPointsTo coordinates count old n mid → IsPointsTo coordinates count old (n + 1) new
 one_point coordinates count old mid line new n below is end good same h =
     record {
@@ -60,17 +65,20 @@ one_point coordinates count old mid line new n below is end good same h =
       end = same.end_line ∙ end ∙ h.end;
     }
 
-pub bad_point_line : (coordinates count : ℕ) (old mid line : Unread) (fault : OffFault) (n : ℕ) → n < count → mid.lines ≡ line_at line ∷ line.lines
+pub bad_point_line : (coordinates count : ℕ) (old mid line : Unread) (fault : OffFault) (n : ℕ) → n < count
+    → mid.lines ≡ line_at line ∷ line.lines
     → Some fault ≡ point_fault coordinates [] (line_at line) → IsPointsTo coordinates count old n mid → taken (point_fault coordinates) old.end_line [] count old.lines ≡ Err fault
 bad_point_line coordinates count old mid line fault n below is bad h =
     sym h.same ∙ bad_taken (point_fault coordinates) old.end_line h.before line.lines mid.lines (line_at line) fault n count below is (sym bad)
 
-pub no_point_line : (coordinates count : ℕ) (old mid : Unread) (fault : OffFault) (n : ℕ) → n < count → mid.lines ≡ [] → fault ≡ Ended mid.end_line
+pub no_point_line : (coordinates count : ℕ) (old mid : Unread) (fault : OffFault) (n : ℕ) → n < count → mid.lines ≡ []
+    → fault ≡ Ended mid.end_line
     → IsPointsTo coordinates count old n mid → taken (point_fault coordinates) old.end_line [] count old.lines ≡ Err fault
 no_point_line coordinates count old mid fault n below none is h =
     sym h.same ∙ none_taken (point_fault coordinates) old.end_line h.before mid.lines n count below none ∙ ap (λ k. Err (Ended k)) (sym h.end) ∙ ap Err (sym is)
 
-pub all_points : (coordinates count : ℕ) (old new : Unread) (n : ℕ) → n ≡ count → IsPointsTo coordinates count old n new → (points : List Line)
+pub all_points : (coordinates count : ℕ) (old new : Unread) (n : ℕ) → n ≡ count → IsPointsTo coordinates count old n new
+    → (points : List Line)
     × (taken (point_fault coordinates) old.end_line [] count old.lines ≡ Ok (points, new.lines))
 all_points coordinates count old new n same h =
     (h.before, sym h.same ∙ all_taken (point_fault coordinates) old.end_line h.before new.lines n count same)
@@ -84,10 +92,12 @@ pub record IsFacesTo (vertices count : ℕ) (old : Unread) (n : ℕ) (new : Unre
   pub mesh : faces ≡ record { count = vertices; faces = rings_of before }
   pub few : total_sides faces ≤ 4000000
 
-pub no_faces : (vertices count : ℕ) (u : Unread) (faces : FaceList) → faces ≡ record { count = vertices; faces = [] } → IsFacesTo vertices count u 0 u faces
+pub no_faces : (vertices count : ℕ) (u : Unread) (faces : FaceList) → faces ≡ record { count = vertices; faces = [] }
+    → IsFacesTo vertices count u 0 u faces
 no_faces vertices count u faces is = record { before = []; same = ap (λ k. taken (face_fault vertices) u.end_line [] k u.lines) (omega arith); end = refl; mesh = is; few = omega (arith, ap total_sides is) }
 
-rings_of-append : (before : List Line) (line : Line) (ring : List ℕ) → corners_of line.words ≡ Some ring → rings_of (before ++ line ∷ []) ≡ rings_of before ++ ring ∷ []
+rings_of-append : (before : List Line) (line : Line) (ring : List ℕ) → corners_of line.words ≡ Some ring
+    → rings_of (before ++ line ∷ []) ≡ rings_of before ++ ring ∷ []
 rings_of-append [] line ring e = rw e refl
 rings_of-append (first ∷ before) line ring e = by_test (corners_of first.words) (rings_of-append before line ring e)
   where
@@ -96,11 +106,13 @@ rings_of-append (first ∷ before) line ring e = by_test (corners_of first.words
     by_test (Some r) later = ap (λ (t : List (List ℕ)). r ∷ t) later
 
 -- the fault of a line is that of its corners, where the faces before are those read
-fault_in : (vertices : ℕ) (before : List Line) (u : Unread) (faces : FaceList) → faces ≡ record { count = vertices; faces = rings_of before }
+fault_in : (vertices : ℕ) (before : List Line) (u : Unread) (faces : FaceList)
+    → faces ≡ record { count = vertices; faces = rings_of before }
     → face_fault vertices before (line_at u) ≡ ring_fault vertices (total_sides faces) u.line (corners_of u.words)
 fault_in vertices before u faces is = ap (λ (m : FaceList). ring_fault vertices (total_sides m) u.line (corners_of u.words)) (sym is)
 
-pub one_face : (vertices count : ℕ) (old mid line new : Unread) (faces more : FaceList) (ring : List ℕ) (n : ℕ) → n < count → mid.lines ≡ line_at line ∷ line.lines
+pub one_face : (vertices count : ℕ) (old mid line new : Unread) (faces more : FaceList) (ring : List ℕ) (n : ℕ) → n < count
+    → mid.lines ≡ line_at line ∷ line.lines
     → line.end_line ≡ mid.end_line → corners_of line.words ≡ Some ring → ring_fault vertices (total_sides faces) line.line (corners_of line.words) ≡ None → IsSameLine line new
     → more ≡ record { count = faces.count; faces = faces.faces ++ ring ∷ [] } → total_sides faces + length ring ≤ 4000000
     → IsFacesTo vertices count old n mid faces → IsFacesTo vertices count old (n + 1) new more
@@ -116,25 +128,29 @@ one_face vertices count old mid line new faces more ring n below is end corners 
       few = omega (arith, room, ap total_sides grown, sum_by-append length faces.faces (ring ∷ []));
     }
 
-pub bad_face_line : (vertices count : ℕ) (old mid line : Unread) (faces : FaceList) (fault : OffFault) (n : ℕ) → n < count → mid.lines ≡ line_at line ∷ line.lines
+pub bad_face_line : (vertices count : ℕ) (old mid line : Unread) (faces : FaceList) (fault : OffFault) (n : ℕ) → n < count
+    → mid.lines ≡ line_at line ∷ line.lines
     → ring_fault vertices (total_sides faces) line.line (corners_of line.words) ≡ Some fault → IsFacesTo vertices count old n mid faces
     → taken (face_fault vertices) old.end_line [] count old.lines ≡ Err fault
 bad_face_line vertices count old mid line faces fault n below is bad h =
     sym h.same
     ∙ bad_taken (face_fault vertices) old.end_line h.before line.lines mid.lines (line_at line) fault n count below is (fault_in vertices h.before line faces h.mesh ∙ bad)
 
-pub no_face_line : (vertices count : ℕ) (old mid : Unread) (faces : FaceList) (fault : OffFault) (n : ℕ) → n < count → mid.lines ≡ [] → fault ≡ Ended mid.end_line
+pub no_face_line : (vertices count : ℕ) (old mid : Unread) (faces : FaceList) (fault : OffFault) (n : ℕ) → n < count → mid.lines ≡ []
+    → fault ≡ Ended mid.end_line
     → IsFacesTo vertices count old n mid faces → taken (face_fault vertices) old.end_line [] count old.lines ≡ Err fault
 no_face_line vertices count old mid faces fault n below none is h =
     sym h.same ∙ none_taken (face_fault vertices) old.end_line h.before mid.lines n count below none ∙ ap (λ k. Err (Ended k)) (sym h.end) ∙ ap Err (sym is)
 
-pub all_faces : (vertices count : ℕ) (old new : Unread) (faces : FaceList) (n : ℕ) → n ≡ count → IsFacesTo vertices count old n new faces → TakesFaces vertices count old (Ok faces)
+pub all_faces : (vertices count : ℕ) (old new : Unread) (faces : FaceList) (n : ℕ) → n ≡ count → IsFacesTo vertices count old n new faces
+    → TakesFaces vertices count old (Ok faces)
 all_faces vertices count old new faces n same h =
     (h.before, new.lines, sym h.same ∙ all_taken (face_fault vertices) old.end_line h.before new.lines n count same, h.mesh)
 
 -- ---- the whole text
 
-pub header_fault : (text : List ℕ) (left : List Line) (fault : OffFault) → left ≡ full_lines text → header_of left ≡ Err fault → meaning_of text ≡ Err fault
+pub header_fault : (text : List ℕ) (left : List Line) (fault : OffFault) → left ≡ full_lines text → header_of left ≡ Err fault
+    → meaning_of text ≡ Err fault
 unfolding mesh_of
 header_fault text left fault is bad = rw (ap header_of (sym is) ∙ bad) refl
 

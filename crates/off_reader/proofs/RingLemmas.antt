@@ -67,7 +67,8 @@ next_word test (first ∷ words) (suc n) e =
     plus : (n : ℕ) → suc (n + 1) ≡ suc n + 1
     plus n = omega arith
 
-pub one_read : (test : List ℕ → Bool) (old mid new : Unread) (n : ℕ) → next_passes test mid.words ≡ true → new ≡ past_word mid → IsReadTo test old n mid → IsReadTo test old (n + 1) new
+pub one_read : (test : List ℕ → Bool) (old mid new : Unread) (n : ℕ) → next_passes test mid.words ≡ true → new ≡ past_word mid
+    → IsReadTo test old n mid → IsReadTo test old (n + 1) new
 one_read test old mid new n e is h =
     let next = next_word test old.words n (ap (next_passes test) (sym h.left) ∙ e) in
     subst (IsReadTo test old (n + 1)) (sym is) (record {
@@ -84,7 +85,8 @@ pass_to test n words = leb n (length words) && list_all test (take n words)
 pub all_read : (test : List ℕ → Bool) (old new : Unread) (n : ℕ) → IsReadTo test old n new → pass_to test n old.words ≡ true
 all_read test old new n h = and_from _ _ (le-leb _ _ h.fits) h.passes
 
-not_all : (test : List ℕ → Bool) (words : List (List ℕ)) (n count : ℕ) → n < count → next_passes test (drop n words) ≡ false → pass_to test count words ≡ false
+not_all : (test : List ℕ → Bool) (words : List (List ℕ)) (n count : ℕ) → n < count → next_passes test (drop n words) ≡ false
+    → pass_to test count words ≡ false
 not_all test words n zero below e = absurd (omega (arith, below))
 not_all test [] n (suc count) below e = and_left (leb (suc count) 0) (list_all test (take (suc count) [])) (lt-leb (suc count) 0 (omega arith))
 not_all test (word ∷ words) zero (suc count) below e = and_right _ _ (and_left _ _ e)
@@ -98,7 +100,8 @@ not_all test (word ∷ words) (suc n) (suc count) below e =
     later : length words < count → suc (length words) < suc count
     later h = omega (arith, h)
 
-pub not_read : (test : List ℕ → Bool) (old mid : Unread) (n count : ℕ) → n < count → next_passes test mid.words ≡ false → IsReadTo test old n mid → pass_to test count old.words ≡ false
+pub not_read : (test : List ℕ → Bool) (old mid : Unread) (n count : ℕ) → n < count → next_passes test mid.words ≡ false
+    → IsReadTo test old n mid → pass_to test count old.words ≡ false
 not_read test old mid n count below e h = not_all test old.words n count below (ap (next_passes test) (sym h.left) ∙ e)
 
 -- ---- vertices
@@ -110,7 +113,8 @@ next_text (word ∷ words) = refl
 pub good_point : (c : ℕ) (old new : Unread) → IsReadTo is_number_text old c new → None ≡ point_fault c [] (line_at old)
 good_point c old new h = sym (rw (all_read is_number_text old new c h) refl)
 
-pub bad_point : (c n line : ℕ) (old mid : Unread) → n < c → false ≡ next_is_number_text mid.words → line ≡ mid.line → IsReadTo is_number_text old n mid
+pub bad_point : (c n line : ℕ) (old mid : Unread) → n < c → false ≡ next_is_number_text mid.words → line ≡ mid.line
+    → IsReadTo is_number_text old n mid
     → Some (BadVertex line) ≡ point_fault c [] (line_at old)
 bad_point c n line old mid below e is h =
     let none = not_read is_number_text old mid n c below (sym (e ∙ next_text mid.words)) h in
@@ -118,16 +122,19 @@ bad_point c n line old mid below e is h =
 
 -- ---- corners
 
-pub next_is_natural : (words : List (List ℕ)) (n : ℕ) → Some n ≡ option_map (λ n. min n (2 ^ 64 - 1)) (next_natural words) → next_passes is_natural words ≡ true
+pub next_is_natural : (words : List (List ℕ)) (n : ℕ) → Some n ≡ option_map (λ n. min n (2 ^ 64 - 1)) (next_natural words)
+    → next_passes is_natural words ≡ true
 next_is_natural [] n e = absurd (none-some n (sym e))
 next_is_natural (word ∷ words) n e = (cond_some (is_natural word) (value_of word) (a_cap (natural_of word) n e).whole (a_cap (natural_of word) n e).is).0
 
-pub next_is_none : (words : List (List ℕ)) → None ≡ option_map (λ n. min n (2 ^ 64 - 1)) (next_natural words) → next_passes is_natural words ≡ false
+pub next_is_none : (words : List (List ℕ)) → None ≡ option_map (λ n. min n (2 ^ 64 - 1)) (next_natural words)
+    → next_passes is_natural words ≡ false
 next_is_none [] e = refl
 next_is_none (word ∷ words) e = no_natural word (no_cap (natural_of word) e)
 
 -- the value of the next word, where it is kept whole or is large
-next_value : (old mid : Unread) (n v : ℕ) → Some v ≡ option_map (λ n. min n (2 ^ 64 - 1)) (next_natural mid.words) → IsReadTo is_natural old n mid
+next_value : (old mid : Unread) (n v : ℕ) → Some v ≡ option_map (λ n. min n (2 ^ 64 - 1)) (next_natural mid.words)
+    → IsReadTo is_natural old n mid
     → (word : List ℕ) × (map value_of (take (n + 1) old.words) ≡ map value_of (take n old.words) ++ value_of word ∷ []) × (v ≡ min (value_of word) (2 ^ 64 - 1))
 next_value old mid n v e h =
     let passes = next_is_natural mid.words v e in
@@ -145,7 +152,8 @@ pub record IsCornersTo (vertices : ℕ) (old : Unread) (n : ℕ) (new : Unread) 
 pub no_corners : (vertices : ℕ) (u : Unread) (ring : List ℕ) → ring ≡ [] → IsCornersTo vertices u 0 u true ring
 no_corners vertices u ring none = record { read = none_read is_natural u; range = refl; corners = λ e. none }
 
-pub corner_in : (vertices : ℕ) (old mid new : Unread) (n v : ℕ) (in_range : Bool) (ring : List ℕ) → vertices ≤ 1000000 → Some v ≡ option_map (λ n. min n (2 ^ 64 - 1)) (next_natural mid.words)
+pub corner_in : (vertices : ℕ) (old mid new : Unread) (n v : ℕ) (in_range : Bool) (ring : List ℕ) → vertices ≤ 1000000
+    → Some v ≡ option_map (λ n. min n (2 ^ 64 - 1)) (next_natural mid.words)
     → new ≡ past_word mid → v < vertices → IsCornersTo vertices old n mid in_range ring → IsCornersTo vertices old (n + 1) new in_range (ring ++ v ∷ [])
 corner_in vertices old mid new n v in_range ring few e is below h =
     let next = next_value old mid n v e h.read in
@@ -161,7 +169,8 @@ corner_in vertices old mid new n v in_range ring few e is below h =
     and-true true = refl
     and-true false = refl
 
-pub corner_out : (vertices : ℕ) (old mid new : Unread) (n v : ℕ) (in_range : Bool) (ring : List ℕ) → Some v ≡ option_map (λ n. min n (2 ^ 64 - 1)) (next_natural mid.words)
+pub corner_out : (vertices : ℕ) (old mid new : Unread) (n v : ℕ) (in_range : Bool) (ring : List ℕ)
+    → Some v ≡ option_map (λ n. min n (2 ^ 64 - 1)) (next_natural mid.words)
     → new ≡ past_word mid → vertices ≤ v → IsCornersTo vertices old n mid in_range ring → IsCornersTo vertices old (n + 1) new false ring
 corner_out vertices old mid new n v in_range ring e is past h =
     let next = next_value old mid n v e h.read in
@@ -172,17 +181,20 @@ corner_out vertices old mid new n v in_range ring e is past h =
       corners = λ e. cc;
     }
 
-among : (words : List (List ℕ)) (sides : ℕ) → 3 ≤ sides → corners_among words sides ≡ cond (pass_to is_natural sides words) (Some (map value_of (take sides words))) None
+among : (words : List (List ℕ)) (sides : ℕ) → 3 ≤ sides
+    → corners_among words sides ≡ cond (pass_to is_natural sides words) (Some (map value_of (take sides words))) None
 among words sides three =
     let polygon : leb 3 sides ≡ true = le-leb _ _ three in
     rw polygon refl
 
-pub all_corners : (vertices sides : ℕ) (old new : Unread) (in_range : Bool) (ring : List ℕ) → 3 ≤ sides → IsCornersTo vertices old sides new in_range ring → ReadsCorners vertices sides old (Ok in_range) ring
+pub all_corners : (vertices sides : ℕ) (old new : Unread) (in_range : Bool) (ring : List ℕ) → 3 ≤ sides
+    → IsCornersTo vertices old sides new in_range ring → ReadsCorners vertices sides old (Ok in_range) ring
 all_corners vertices sides old new in_range ring three h =
     let all = all_read is_natural old new sides h.read in
     (among old.words sides three ∙ rw all refl, h.range, h.corners)
 
-pub missing_corner : (vertices sides n line : ℕ) (old mid : Unread) (in_range : Bool) (ring later : List ℕ) → 3 ≤ sides → n < sides → None ≡ option_map (λ n. min n (2 ^ 64 - 1)) (next_natural mid.words)
+pub missing_corner : (vertices sides n line : ℕ) (old mid : Unread) (in_range : Bool) (ring later : List ℕ) → 3 ≤ sides → n < sides
+    → None ≡ option_map (λ n. min n (2 ^ 64 - 1)) (next_natural mid.words)
     → line ≡ old.line → IsCornersTo vertices old n mid in_range ring → ReadsCorners vertices sides old (Err (BadFace line)) later
 missing_corner vertices sides n line old mid in_range ring later three below e is h =
     let none = not_read is_natural old mid n sides below (next_is_none mid.words e) h.read in
@@ -209,18 +221,21 @@ has_sides (word ∷ words) v e =
     let capped = a_cap (natural_of word) v e in
     record { sides = capped.whole; corners = ap (option_and_then (corners_among words)) capped.is; capped = capped.capped }
 
-pub few_sides : (words : List (List ℕ)) (v : ℕ) → Some v ≡ option_map (λ n. min n (2 ^ 64 - 1)) (next_natural words) → v < 3 → corners_of words ≡ None
+pub few_sides : (words : List (List ℕ)) (v : ℕ) → Some v ≡ option_map (λ n. min n (2 ^ 64 - 1)) (next_natural words) → v < 3
+    → corners_of words ≡ None
 few_sides words v e small =
     let h = has_sides words v e in
     let same : v ≡ h.sides = kept h.sides v 2 h.capped (omega (arith, small)) (omega arith) in
     let no_polygon : leb 3 h.sides ≡ false = lt-leb _ _ (omega (arith, same, small)) in
     h.corners ∙ rw no_polygon refl
 
-pub faulty : (vertices sides number line : ℕ) (corners : Option (List ℕ)) → corners ≡ None → line ≡ number → ring_fault vertices sides number corners ≡ Some (BadFace line)
+pub faulty : (vertices sides number line : ℕ) (corners : Option (List ℕ)) → corners ≡ None → line ≡ number
+    → ring_fault vertices sides number corners ≡ Some (BadFace line)
 faulty vertices sides number line corners none is = ap (ring_fault vertices sides number) none ∙ ap (λ k. Some (BadFace k)) (sym is)
 
 -- the number at the front passes what is kept of it only where no words are left for either
-same_pass : (words : List (List ℕ)) (sides v : ℕ) → v ≡ min sides (2 ^ 64 - 1) → length words < 2 ^ 64 - 1 → pass_to is_natural v words ≡ pass_to is_natural sides words
+same_pass : (words : List (List ℕ)) (sides v : ℕ) → v ≡ min sides (2 ^ 64 - 1) → length words < 2 ^ 64 - 1
+    → pass_to is_natural v words ≡ pass_to is_natural sides words
 same_pass words sides v e few =
     elim (cases_lt (2 ^ 64 - 1) sides) as (λ _. pass_to is_natural v words ≡ pass_to is_natural sides words) [
       | inl above ↦
@@ -234,7 +249,8 @@ same_pass words sides v e few =
 length_values : (words : List (List ℕ)) (n : ℕ) → n ≤ length words → length (map value_of (take n words)) ≡ n
 length_values words n fits = length-map (take n words) value_of ∙ length-take-le n words fits
 
-pub many_sides : (vertices before v : ℕ) (old mid : Unread) (fault : OffFault) → Some v ≡ option_map (λ n. min n (2 ^ 64 - 1)) (next_natural old.words) → mid ≡ past_word old
+pub many_sides : (vertices before v : ℕ) (old mid : Unread) (fault : OffFault)
+    → Some v ≡ option_map (λ n. min n (2 ^ 64 - 1)) (next_natural old.words) → mid ≡ past_word old
     → length mid.words < 2 ^ 64 - 1 → 3 ≤ v → before ≤ 4000000 → 4000000 - before < v
     → fault ≡ cond (pass_to is_natural v mid.words) (TooMany mid.line) (BadFace mid.line) → ring_fault vertices before old.line (corners_of old.words) ≡ Some fault
 many_sides vertices before v old mid fault e is few three fits many said =
@@ -261,17 +277,20 @@ many_sides vertices before v old mid fault e is few three fits many said =
 
 -- ---- a face with room for its sides
 
-fits_ring : (before v : ℕ) (words : List (List ℕ)) → Some v ≡ option_map (λ n. min n (2 ^ 64 - 1)) (next_natural words) → before ≤ 4000000 → v ≤ 4000000 - before
+fits_ring : (before v : ℕ) (words : List (List ℕ)) → Some v ≡ option_map (λ n. min n (2 ^ 64 - 1)) (next_natural words) → before ≤ 4000000
+    → v ≤ 4000000 - before
     → corners_of words ≡ corners_among (drop 1 words) v
 fits_ring before v words e few fits =
     let h = has_sides words v e in
     let same : v ≡ h.sides = kept h.sides v 4000000 h.capped (omega (arith, fits)) (omega arith) in
     h.corners ∙ ap (corners_among (drop 1 words)) (sym same)
 
-no_overflow : (words : List (List ℕ)) (before v : ℕ) → before ≤ 4000000 → v ≤ 4000000 - before → ltb 4000000 (before + length (map value_of (take v words))) ≡ false
+no_overflow : (words : List (List ℕ)) (before v : ℕ) → before ≤ 4000000 → v ≤ 4000000 - before
+    → ltb 4000000 (before + length (map value_of (take v words))) ≡ false
 no_overflow words before v few fits = le-ltb _ _ (omega (arith, few, fits, length-map (take v words) value_of, length-take v words, min-le_left v (length words)))
 
-pub missing_ring : (vertices before v : ℕ) (old mid : Unread) (fault : OffFault) (ring : List ℕ) → Some v ≡ option_map (λ n. min n (2 ^ 64 - 1)) (next_natural old.words) → mid ≡ past_word old
+pub missing_ring : (vertices before v : ℕ) (old mid : Unread) (fault : OffFault) (ring : List ℕ)
+    → Some v ≡ option_map (λ n. min n (2 ^ 64 - 1)) (next_natural old.words) → mid ≡ past_word old
     → before ≤ 4000000 → v ≤ 4000000 - before → ReadsCorners vertices v mid (Err fault) ring
     → (fault ≡ OutOfMemory) ⊎ (ring_fault vertices before old.line (corners_of old.words) ≡ Some fault)
 missing_ring vertices before v old mid fault ring e is few fits (inl memory) = inl memory
@@ -288,7 +307,8 @@ record IsRing (vertices before : ℕ) (old : Unread) (in_range : Bool) (ring : L
   range : in_range ≡ list_all (λ v. ltb v vertices) values
   same : in_range ≡ true → ring ≡ values
 
-is_ring : (vertices before v : ℕ) (old mid : Unread) (in_range : Bool) (ring : List ℕ) → Some v ≡ option_map (λ n. min n (2 ^ 64 - 1)) (next_natural old.words) → mid ≡ past_word old
+is_ring : (vertices before v : ℕ) (old mid : Unread) (in_range : Bool) (ring : List ℕ)
+    → Some v ≡ option_map (λ n. min n (2 ^ 64 - 1)) (next_natural old.words) → mid ≡ past_word old
     → before ≤ 4000000 → v ≤ 4000000 - before → ReadsCorners vertices v mid (Ok in_range) ring → IsRing vertices before old in_range ring
 is_ring vertices before v old mid in_range ring e is few fits h =
     let words : mid.words ≡ drop 1 old.words = ap (λ (u : Unread). u.words) is in
@@ -300,14 +320,16 @@ is_ring vertices before v old mid in_range ring e is few fits h =
       same = h.2;
     }
 
-pub out_of_range : (vertices before v : ℕ) (old mid : Unread) (line : ℕ) (ring : List ℕ) → Some v ≡ option_map (λ n. min n (2 ^ 64 - 1)) (next_natural old.words) → mid ≡ past_word old
+pub out_of_range : (vertices before v : ℕ) (old mid : Unread) (line : ℕ) (ring : List ℕ)
+    → Some v ≡ option_map (λ n. min n (2 ^ 64 - 1)) (next_natural old.words) → mid ≡ past_word old
     → before ≤ 4000000 → v ≤ 4000000 - before → line ≡ old.line → ReadsCorners vertices v mid (Ok false) ring
     → ring_fault vertices before old.line (corners_of old.words) ≡ Some (IndexRange line)
 out_of_range vertices before v old mid line ring e is few fits at h =
     let r = is_ring vertices before v old mid false ring e is few fits h in
     ap (ring_fault vertices before old.line) r.corners ∙ rw (r.room, sym r.range) (ap (λ k. Some (IndexRange k)) (sym at))
 
-pub equal_neighbours : (vertices before v : ℕ) (old mid : Unread) (line : ℕ) (ring : List ℕ) → Some v ≡ option_map (λ n. min n (2 ^ 64 - 1)) (next_natural old.words) → mid ≡ past_word old
+pub equal_neighbours : (vertices before v : ℕ) (old mid : Unread) (line : ℕ) (ring : List ℕ)
+    → Some v ≡ option_map (λ n. min n (2 ^ 64 - 1)) (next_natural old.words) → mid ≡ past_word old
     → before ≤ 4000000 → v ≤ 4000000 - before → line ≡ old.line → ReadsCorners vertices v mid (Ok true) ring → has_equal_neighbours ring ≡ true
     → ring_fault vertices before old.line (corners_of old.words) ≡ Some (EqualNeighbours line)
 equal_neighbours vertices before v old mid line ring e is few fits at h equal =
@@ -315,7 +337,8 @@ equal_neighbours vertices before v old mid line ring e is few fits at h equal =
     let twice : has_equal_neighbours r.values ≡ true = ap has_equal_neighbours (sym (r.same refl)) ∙ equal in
     ap (ring_fault vertices before old.line) r.corners ∙ rw (r.room, sym r.range, twice) (ap (λ k. Some (EqualNeighbours k)) (sym at))
 
-pub good_ring : (vertices before v : ℕ) (old mid : Unread) (ring : List ℕ) → Some v ≡ option_map (λ n. min n (2 ^ 64 - 1)) (next_natural old.words) → mid ≡ past_word old
+pub good_ring : (vertices before v : ℕ) (old mid : Unread) (ring : List ℕ)
+    → Some v ≡ option_map (λ n. min n (2 ^ 64 - 1)) (next_natural old.words) → mid ≡ past_word old
     → before ≤ 4000000 → v ≤ 4000000 - before → ReadsCorners vertices v mid (Ok true) ring → has_equal_neighbours ring ≡ false
     → (corners_of old.words ≡ Some ring) × (ring_fault vertices before old.line (corners_of old.words) ≡ None)
 good_ring vertices before v old mid ring e is few fits h differ =
@@ -354,19 +377,22 @@ entry (v ∷ ring) zero d below = refl
 entry (v ∷ ring) (suc t) d below = entry ring t d (omega (arith, below))
 
 -- the same of vertex names
-next_entry : (ring : List VertexName) (t next : ℕ) (d : VertexName) → t < length ring → next ≡ next_corner true (length ring) t → next < length ring
+next_entry : (ring : List VertexName) (t next : ℕ) (d : VertexName) → t < length ring → next ≡ next_corner true (length ring) t
+    → next < length ring
     → (other : Bool) → eqb (get_or ring t d).0 (get_or ring next d).0 ≡ other → is_equal_at (numbers ring) t ≡ other
 next_entry ring t next d below is within other e =
     let long : length (numbers ring) ≡ length ring = length-map ring (λ (v : VertexName). v.0) in
     let there : next_corner true (length (numbers ring)) t ≡ next = ap (λ m. next_corner true m t) long ∙ sym is in
     ap₂ eqb (entry ring t d below) (ap (λ k. get_or (numbers ring) k 0) there ∙ entry ring next d within) ∙ e
 
-pub at_equal : (ring : List VertexName) (t next : ℕ) (d : VertexName) → t < length ring → next ≡ next_corner true (length ring) t → next < length ring
+pub at_equal : (ring : List VertexName) (t next : ℕ) (d : VertexName) → t < length ring → next ≡ next_corner true (length ring) t
+    → next < length ring
     → (get_or ring t d).0 ≡ (get_or ring next d).0 → true ≡ has_equal_neighbours (numbers ring)
 at_equal ring t next d below is within same =
     equal_found (numbers ring) t (omega (arith, below, length-map ring (λ (v : VertexName). v.0))) (next_entry ring t next d below is within true (eq-eqb _ _ same))
 
-pub at_differ : (ring : List VertexName) (t next : ℕ) (d : VertexName) → t < length ring → next ≡ next_corner true (length ring) t → next < length ring
+pub at_differ : (ring : List VertexName) (t next : ℕ) (d : VertexName) → t < length ring → next ≡ next_corner true (length ring) t
+    → next < length ring
     → (get_or ring t d).0 ≢ (get_or ring next d).0 → DifferTo (numbers ring) t → DifferTo (numbers ring) (t + 1)
 at_differ ring t next d below is within differ so_far =
     differ_more (numbers ring) t (omega (arith, below, length-map ring (λ (v : VertexName). v.0))) (next_entry ring t next d below is within false (ne_eqb _ _ differ)) so_far
@@ -375,12 +401,14 @@ pub at_end : (ring : List VertexName) (n : ℕ) → length ring ≤ n → Differ
 at_end ring n past so_far = differ_all (numbers ring) n (omega (arith, past, length-map ring (λ (v : VertexName). v.0))) so_far
 
 -- a corner more
-pub pushed : (old new : List VertexName) (v : VertexName) (b : Bool) → new ≡ cond b (old ++ v ∷ []) old → b ≡ true → numbers new ≡ numbers old ++ v.0 ∷ []
+pub pushed : (old new : List VertexName) (v : VertexName) (b : Bool) → new ≡ cond b (old ++ v ∷ []) old → b ≡ true
+    → numbers new ≡ numbers old ++ v.0 ∷ []
 pushed old new v b is e = ap numbers is ∙ rw e (map-append (λ (x : VertexName). x.0) old (v ∷ []))
 
 -- ---- a ring without a fault is a face
 
-differ_at : (ring : List ℕ) → has_equal_neighbours ring ≡ false → (t : ℕ) → t < length ring → get_or ring t 0 ≢ get_or ring (next_corner true (length ring) t) 0
+differ_at : (ring : List ℕ) → has_equal_neighbours ring ≡ false → (t : ℕ) → t < length ring
+    → get_or ring t 0 ≢ get_or ring (next_corner true (length ring) t) 0
 differ_at ring none t below same = both_ways (has_equal_neighbours ring) none (sym (equal_found ring t below (eq-eqb _ _ same)))
 
 all_below : (vertices : ℕ) (ring : List ℕ) → list_all (λ v. ltb v vertices) ring ≡ true → All (λ v. v < vertices) ring
@@ -403,7 +431,8 @@ record IsGoodRing (vertices before : ℕ) (ring : List ℕ) : Type 0 where
   range : list_all (λ v. ltb v vertices) ring ≡ true
   apart : has_equal_neighbours ring ≡ false
 
-good_parts : (vertices before number : ℕ) (ring : List ℕ) → ring_fault vertices before number (Some ring) ≡ None → IsGoodRing vertices before ring
+good_parts : (vertices before number : ℕ) (ring : List ℕ) → ring_fault vertices before number (Some ring) ≡ None
+    → IsGoodRing vertices before ring
 good_parts vertices before number ring e =
     first (ltb 4000000 (before + length ring)) (list_all (λ v. ltb v vertices) ring) (has_equal_neighbours ring) refl refl refl e
   where
@@ -414,12 +443,14 @@ good_parts vertices before number ring e =
     first false true true p q r e = absurd (none-some (EqualNeighbours number) (sym e))
     first false true false p q r e = record { room = ltb-false 4000000 (before + length ring) p; range = q; apart = r }
 
-pub ring_face : (vertices before number : ℕ) (words : List (List ℕ)) (ring : List ℕ) → corners_of words ≡ Some ring → ring_fault vertices before number (corners_of words) ≡ None
+pub ring_face : (vertices before number : ℕ) (words : List (List ℕ)) (ring : List ℕ) → corners_of words ≡ Some ring
+    → ring_fault vertices before number (corners_of words) ≡ None
     → IsFace vertices ring
 ring_face vertices before number words ring corners good =
     let parts = good_parts vertices before number ring (ap (ring_fault vertices before number) (sym corners) ∙ good) in
     record { polygon = polygon words ring corners; in_range = all_below vertices ring parts.range; neighbours = differ_at ring parts.apart }
 
-pub ring_room : (vertices before number : ℕ) (words : List (List ℕ)) (ring : List ℕ) → corners_of words ≡ Some ring → ring_fault vertices before number (corners_of words) ≡ None
+pub ring_room : (vertices before number : ℕ) (words : List (List ℕ)) (ring : List ℕ) → corners_of words ≡ Some ring
+    → ring_fault vertices before number (corners_of words) ≡ None
     → before + length ring ≤ 4000000
 ring_room vertices before number words ring corners good = (good_parts vertices before number ring (ap (ring_fault vertices before number) (sym corners) ∙ good)).room

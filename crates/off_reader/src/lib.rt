@@ -14,6 +14,6 @@ pub use fault::OffFault;
 pub use reading::read_off;
 
 #[cfg(test)]
-mod tests;
-#[cfg(test)]
 mod mesh_tests;
+#[cfg(test)]
+mod tests;

@@ -4,12 +4,14 @@ use surf_model::{FaceName, VertexName};
 
 /// A tetrahedron with colours, comments, a byte-order mark and carriage returns, its counts on the
 /// line of the keyword, and a line behind its end.
-const DECORATED: &[u8] = b"\xEF\xBB\xBFCOFF4 4 0   # counts on the keyword's line\r\n# a tetrahedron with colours\r\n\
+const DECORATED: &[u8] =
+    b"\xEF\xBB\xBFCOFF4 4 0   # counts on the keyword's line\r\n# a tetrahedron with colours\r\n\
 0 0 0 255 0 0 255\r\n1e0 0 0 0 255 0 255\r\n\r\n0 1. 0 0 0 255 255\r\n0 0 -.5E+1 9 9 9 255\r\n\
 3 0 1 2 0.5 0.5 0.5\r\n3 0 3 1\r\n3 0 2 3 255 0 0\r\n3 1 3 2\r\nthis line is not looked at";
 
 /// Faces of three, four and twelve sides over thirteen vertices on one line each.
-const MIXED: &[u8] = b"OFF 13 3 6\n0 0 0\n0 0 0\n0 0 0\n0 0 0\n0 0 0\n0 0 0\n0 0 nan\n0 0 1e-3\n0 0 0\n0\t0  0 \n0 0 0\n0 0 0\n0 0 0\n\
+const MIXED: &[u8] =
+    b"OFF 13 3 6\n0 0 0\n0 0 0\n0 0 0\n0 0 0\n0 0 0\n0 0 0\n0 0 nan\n0 0 1e-3\n0 0 0\n0\t0  0 \n0 0 0\n0 0 0\n0 0 0\n\
 3 0 1 2\n4 0 2 3 12\n12 0 1 2 3 4 5 6 7 8 9 10 11";
 
 #[test]
@@ -48,7 +50,15 @@ fn faults_of_the_header(rt: HostRuntime) {
 fn faults_of_lines(rt: HostRuntime) {
     assert!(rt; fault_of(&rt, b"OFF\n1 0 0\n0 0\n") == Some(OffFault::BadVertex { line: 3 }));
     assert!(rt; fault_of(&rt, b"OFF\n1 0 0\n") == Some(OffFault::Ended { line: 3 }));
-    assert!(rt; fault_of(&rt, b"3 1 0\n0 0 0\n0 0 0\n0 0 0\n3 1 3") == Some(OffFault::BadFace { line: 5 }));
-    assert!(rt; fault_of(&rt, b"3 1 0\n0 0 0\n0 0 0\n0 0 0\n3 0 3 4") == Some(OffFault::IndexRange { line: 5 }));
-    assert!(rt; fault_of(&rt, b"3 1 0\n0 0 0\n0 0 0\n0 0 0\n3 0 0 1") == Some(OffFault::EqualNeighbours { line: 5 }));
+    assert!(rt;
+        fault_of(&rt, b"3 1 0\n0 0 0\n0 0 0\n0 0 0\n3 1 3") == Some(OffFault::BadFace { line: 5 })
+    );
+    assert!(rt;
+        fault_of(&rt, b"3 1 0\n0 0 0\n0 0 0\n0 0 0\n3 0 3 4")
+            == Some(OffFault::IndexRange { line: 5 })
+    );
+    assert!(rt;
+        fault_of(&rt, b"3 1 0\n0 0 0\n0 0 0\n0 0 0\n3 0 0 1")
+            == Some(OffFault::EqualNeighbours { line: 5 })
+    );
 }

@@ -23,7 +23,8 @@ pub from_first-no : (p : ℕ → Bool) (x : ℕ) (xs : List ℕ) → p x ≡ fal
 from_first-no p x xs e = rw (e, one-add) refl
 
 -- elements that do not pass, and what comes behind them
-pub before_first-append : {A : Type 0} (p : A → Bool) (xs ys : List A) → list_all (λ x. not (p x)) xs ≡ true → before_first p (xs ++ ys) ≡ xs ++ before_first p ys
+pub before_first-append : {A : Type 0} (p : A → Bool) (xs ys : List A) → list_all (λ x. not (p x)) xs ≡ true
+    → before_first p (xs ++ ys) ≡ xs ++ before_first p ys
 before_first-append p [] ys none = refl
 before_first-append p (x ∷ xs) ys none =
     let first = and_parts _ _ none in

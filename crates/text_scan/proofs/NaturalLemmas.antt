@@ -17,7 +17,8 @@ use Rattle.text_scan.proofs.StepLemmas.{after_head, by_head}
 pub at_front : (bytes : List ℕ) → IsPastDigits bytes bytes
 at_front bytes = record { digits = []; parts = refl; all = refl }
 
-pub past_digit : (bytes rest : List ℕ) → 1 ≤ length rest → is_digit (get_or rest 0 0) ≡ true → IsPastDigits bytes rest → IsPastDigits bytes (after_head rest)
+pub past_digit : (bytes rest : List ℕ) → 1 ≤ length rest → is_digit (get_or rest 0 0) ≡ true → IsPastDigits bytes rest
+    → IsPastDigits bytes (after_head rest)
 past_digit bytes =
     by_head (λ first rest after. is_digit first ≡ true → IsPastDigits bytes rest → IsPastDigits bytes after)
     (λ byte rest digit so_far. record {
@@ -26,7 +27,8 @@ past_digit bytes =
       all = list_all-append is_digit so_far.digits (byte ∷ []) ∙ rw (so_far.all, digit) refl;
     })
 
-pub all_digits : (bytes after : List ℕ) → eqb (length bytes) 0 ≡ false → IsPastDigits bytes after → begins_with is_digit after ≡ false → eqb (length after) 0 ≡ is_natural bytes
+pub all_digits : (bytes after : List ℕ) → eqb (length bytes) 0 ≡ false → IsPastDigits bytes after → begins_with is_digit after ≡ false
+    → eqb (length after) 0 ≡ is_natural bytes
 unfolding is_natural
 all_digits [] after some h stop = cc
 all_digits (byte ∷ bytes) [] some h stop = sym (ap (list_all is_digit) h.parts ∙ ap (list_all is_digit) (append-nil h.digits) ∙ h.all)
@@ -41,7 +43,8 @@ no_bytes (byte ∷ bytes) none = absurd (grind (arith, none))
 
 -- ---- the value of digits
 
-pub value_step : (digits : List ℕ) (i : ℕ) → i < length digits → value_of (take (i + 1) digits) ≡ value_of (take i digits) * 10 + (get_or digits i 0 - 48)
+pub value_step : (digits : List ℕ) (i : ℕ) → i < length digits
+    → value_of (take (i + 1) digits) ≡ value_of (take i digits) * 10 + (get_or digits i 0 - 48)
 unfolding value_of
 value_step digits i below =
     ap (fold (λ value digit. value * 10 + (digit - 48)) 0) (take_more digits i 0 below) ∙ fold-append (λ value digit. value * 10 + (digit - 48)) 0 (take i digits) (get_or digits i 0 ∷ [])
@@ -60,7 +63,8 @@ value_take digits i =
     = ap (fold (λ value digit. value * 10 + (digit - 48)) 0) (take-append-drop i digits) in
     omega (arith, whole, same, value_grows (drop i digits) (fold (λ value digit. value * 10 + (digit - 48)) 0 (take i digits)))
 
-pub value_past : (digits : List ℕ) (i bound : ℕ) → i < length digits → bound ≤ value_of (take i digits) * 10 + (get_or digits i 0 - 48) → bound ≤ value_of digits
+pub value_past : (digits : List ℕ) (i bound : ℕ) → i < length digits → bound ≤ value_of (take i digits) * 10 + (get_or digits i 0 - 48)
+    → bound ≤ value_of digits
 value_past digits i bound below past = omega (arith, value_step digits i below, value_take digits (i + 1), past)
 
 digit_at : (digits : List ℕ) (i : ℕ) → list_all is_digit digits ≡ true → i < length digits → 48 ≤ get_or digits i 0
@@ -74,7 +78,8 @@ natural_digit digits i natural below = digit_at digits i (and_parts (is_filled d
 
 -- ---- naturals in two parts
 
-natural-append : (front back : List ℕ) → is_filled front ≡ true → is_natural (front ++ back) ≡ (list_all is_digit front && list_all is_digit back)
+natural-append : (front back : List ℕ) → is_filled front ≡ true
+    → is_natural (front ++ back) ≡ (list_all is_digit front && list_all is_digit back)
 unfolding is_natural
 natural-append [] back some = cc
 natural-append (byte ∷ front) back some = list_all-append is_digit (byte ∷ front) back
@@ -83,7 +88,8 @@ filled : (bytes : List ℕ) → eqb (length bytes) 0 ≡ false → is_filled byt
 filled [] some = cc
 filled (byte ∷ bytes) some = refl
 
-pub natural_both : (front back : List ℕ) → eqb (length front) 0 ≡ false → is_natural front ≡ true → eqb (length back) 0 ≡ false → is_natural back ≡ is_natural (front ++ back)
+pub natural_both : (front back : List ℕ) → eqb (length front) 0 ≡ false → is_natural front ≡ true → eqb (length back) 0 ≡ false
+    → is_natural back ≡ is_natural (front ++ back)
 unfolding is_natural
 natural_both front back some natural more =
     let first = filled front some in
@@ -145,7 +151,8 @@ nan = codes "nan"
 abbrev pub inf : List ℕ
 inf = codes "inf"
 
-pub with_exponent : (text : List ℕ) (at : ℕ) → position is_exponent_mark text ≡ Some at → bytes_eq text nan ≡ false → bytes_eq text inf ≡ false → is_decimal (take at text) ≡ true
+pub with_exponent : (text : List ℕ) (at : ℕ) → position is_exponent_mark text ≡ Some at → bytes_eq text nan ≡ false
+    → bytes_eq text inf ≡ false → is_decimal (take at text) ≡ true
     → is_natural (unsigned (take (length text - (at + 1)) (drop (at + 1) text))) ≡ is_unsigned_text text
 with_exponent text at e no_nan no_inf decimal =
     let first = is_first is_exponent_mark text at e in
@@ -159,7 +166,8 @@ with_exponent text at e no_nan no_inf decimal =
         → has_exponent_or_none text ≡ back → is_unsigned_text text ≡ (front && back)
     parts_of text front back no_nan no_inf first second = rw (no_nan, no_inf, first, second) refl
 
-pub without_exponent : (text : List ℕ) → position is_exponent_mark text ≡ None → bytes_eq text nan ≡ false → bytes_eq text inf ≡ false → is_decimal text ≡ is_unsigned_text text
+pub without_exponent : (text : List ℕ) → position is_exponent_mark text ≡ None → bytes_eq text nan ≡ false → bytes_eq text inf ≡ false
+    → is_decimal text ≡ is_unsigned_text text
 without_exponent text e no_nan no_inf =
     let past = nowhere is_exponent_mark text e in
     let none : list_any is_exponent_mark text ≡ false = list_any-none is_exponent_mark text past in

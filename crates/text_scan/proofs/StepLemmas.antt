@@ -40,7 +40,8 @@ hash_is_no_feed byte e = grind (arith, e)
 pub here : (bytes : List ℕ) → IsPast 0 bytes bytes
 here bytes = record { words = refl; behind = refl; shorter = omega arith }
 
-pub past_blank : (bytes rest : List ℕ) → 1 ≤ length rest → is_blank (get_or rest 0 0) ≡ true → IsPast 0 bytes rest → IsPast 0 bytes (after_head rest)
+pub past_blank : (bytes rest : List ℕ) → 1 ≤ length rest → is_blank (get_or rest 0 0) ≡ true → IsPast 0 bytes rest
+    → IsPast 0 bytes (after_head rest)
 past_blank bytes = by_head (λ first rest after. is_blank first ≡ true → IsPast 0 bytes rest → IsPast 0 bytes after) (λ byte rest is_kind so_far.
     let blank : is_blank byte ≡ true = is_kind in
     record {
@@ -53,7 +54,8 @@ pub no_blank : (rest : List ℕ) → 1 ≤ length rest → is_blank (get_or rest
 no_blank = by_head (λ first rest after. is_blank first ≡ false → begins_with is_blank rest ≡ false) (λ byte rest is_kind. is_kind)
 
 -- a byte that is no line feed
-pub on_in_line : (bytes rest : List ℕ) → 1 ≤ length rest → get_or rest 0 0 ≢ 10 → (behind rest ≡ behind bytes) × (length rest ≤ length bytes)
+pub on_in_line : (bytes rest : List ℕ) → 1 ≤ length rest → get_or rest 0 0 ≢ 10
+    → (behind rest ≡ behind bytes) × (length rest ≤ length bytes)
     → (behind (after_head rest) ≡ behind bytes) × (length (after_head rest) ≤ length bytes)
 on_in_line bytes =
     by_head (λ first rest after. first ≢ 10 → (behind rest ≡ behind bytes) × (length rest ≤ length bytes) → (behind after ≡ behind bytes) × (length after ≤ length bytes))
@@ -73,18 +75,21 @@ abbrev pub SoFar : ℕ → List ℕ → ℕ → List ℕ → Type 0
 SoFar n bytes m rest = (lines_from n bytes ≡ lines_from m rest) × (m + length rest ≤ n + length bytes) × (n ≤ m)
 
 -- lines from a place on do not change where its words and what is behind do not
-same_lines : (n : ℕ) (rest after : List ℕ) → words_here rest ≡ words_here after → behind rest ≡ behind after → lines_from n rest ≡ lines_from n after
+same_lines : (n : ℕ) (rest after : List ℕ) → words_here rest ≡ words_here after → behind rest ≡ behind after
+    → lines_from n rest ≡ lines_from n after
 same_lines n rest after same_words same_behind = lines_from_here n rest ∙ rw (same_words, same_behind) (sym (lines_from_here n after))
 
 no_words : (n : ℕ) (rest : List ℕ) → words_here rest ≡ [] → lines_from n rest ≡ lines_from (n + 1) (behind rest)
 no_words n rest none = lines_from_here n rest ∙ rw none refl
 
-pub pass_blank : (n m : ℕ) (bytes rest : List ℕ) → 1 ≤ length rest → is_blank (get_or rest 0 0) ≡ true → SoFar n bytes m rest → SoFar n bytes m (after_head rest)
+pub pass_blank : (n m : ℕ) (bytes rest : List ℕ) → 1 ≤ length rest → is_blank (get_or rest 0 0) ≡ true → SoFar n bytes m rest
+    → SoFar n bytes m (after_head rest)
 pass_blank n m bytes = by_head (λ first rest after. is_blank first ≡ true → SoFar n bytes m rest → SoFar n bytes m after) (λ byte rest is_kind so_far.
     let blank : is_blank byte ≡ true = is_kind in
     (so_far.0 ∙ same_lines m (byte ∷ rest) rest (words_here-blank byte rest blank) (behind-other byte rest (blank_is_no_feed byte blank)), omega (arith, so_far.1), omega (arith, so_far.2)))
 
-pub pass_line_feed : (n m : ℕ) (bytes rest : List ℕ) → 1 ≤ length rest → get_or rest 0 0 ≡ 10 → SoFar n bytes m rest → SoFar n bytes (m + 1) (after_head rest)
+pub pass_line_feed : (n m : ℕ) (bytes rest : List ℕ) → 1 ≤ length rest → get_or rest 0 0 ≡ 10 → SoFar n bytes m rest
+    → SoFar n bytes (m + 1) (after_head rest)
 pass_line_feed n m bytes = by_head (λ first rest after. first ≡ 10 → SoFar n bytes m rest → SoFar n bytes (m + 1) after) (λ byte rest is_kind so_far.
     let feed = eq-eqb byte 10 is_kind in
     (so_far.0 ∙ no_words m (byte ∷ rest) (words_here-line_feed byte rest feed) ∙ ap (lines_from (m + 1)) (behind-line_feed byte rest feed), omega (arith, so_far.1), omega (arith, so_far.2)))
@@ -100,7 +105,8 @@ pass_comment n m bytes rest after =
     (so_far.0 ∙ same_lines m (byte ∷ tail) after (words_here-hash byte tail hash ∙ sym none) (behind-other byte tail (hash_is_no_feed byte hash) ∙ sym same), omega (arith, so_far.1, shorter), so_far.2))
     rest
 
-pub at_word : (n m : ℕ) (bytes rest : List ℕ) → 1 ≤ length rest → is_blank (get_or rest 0 0) ≡ false → get_or rest 0 0 ≢ 10 → get_or rest 0 0 ≢ 35
+pub at_word : (n m : ℕ) (bytes rest : List ℕ) → 1 ≤ length rest → is_blank (get_or rest 0 0) ≡ false → get_or rest 0 0 ≢ 10
+    → get_or rest 0 0 ≢ 35
     → SoFar n bytes m rest → IsFirstWord n bytes m rest
 at_word n m bytes =
     by_head (λ first rest after. is_blank first ≡ false → first ≢ 10 → first ≢ 35 → SoFar n bytes m rest → IsFirstWord n bytes m rest)
@@ -132,7 +138,8 @@ word_begins [] after some all = cc
 word_begins (byte ∷ word) after some all = (and_parts (not (ends_word byte)) (is_word word) all).0
 
 -- a whole word
-pub word_first : (word after : List ℕ) → is_filled word ≡ true → is_word word ≡ true → begins_word after ≡ false → words_here (word ++ after) ≡ word ∷ words_here after
+pub word_first : (word after : List ℕ) → is_filled word ≡ true → is_word word ≡ true → begins_word after ≡ false
+    → words_here (word ++ after) ≡ word ∷ words_here after
 word_first word after some all e =
     let ends = ends_here after e in
     words_here-word (word ++ after) (word_begins word after some all)
@@ -149,7 +156,8 @@ word_behind (byte ∷ word) after all =
     in_word : (b : ℕ) → ends_word b ≡ false → is_line_feed b ≡ false
     in_word b e = (or_parts (is_blank b) (is_line_feed b) (or_parts (is_blank b || is_line_feed b) (is_hash b) e).0).1
 
-pub past_word : (word after : List ℕ) → is_filled word ≡ true → is_word word ≡ true → begins_word after ≡ false → IsPast 1 (word ++ after) after
+pub past_word : (word after : List ℕ) → is_filled word ≡ true → is_word word ≡ true → begins_word after ≡ false
+    → IsPast 1 (word ++ after) after
 past_word word after some all e =
     record {
       words = sym (ap (λ t. drop 1 t) (word_first word after some all e));
@@ -227,7 +235,8 @@ some_digits : (digits after : List ℕ) → length after ≢ length (digits ++ a
 some_digits [] after h = absurd (h refl)
 some_digits (byte ∷ digits) after h = refl
 
-natural_first : (rest : List ℕ) (capped : ℕ) (after : List ℕ) → ArePastDigits rest capped after → length after ≢ length rest → begins_word after ≡ false
+natural_first : (rest : List ℕ) (capped : ℕ) (after : List ℕ) → ArePastDigits rest capped after → length after ≢ length rest
+    → begins_word after ≡ false
     → IsNaturalFirst rest capped after
 unfolding is_natural
 natural_first rest capped after h shorter e =
@@ -240,15 +249,18 @@ natural_first rest capped after h shorter e =
       place = subst (λ t. IsPast 1 t after) (sym h.parts) (past_word h.digits after some all e);
     }
 
-pub natural_value : (rest : List ℕ) (capped : ℕ) (after : List ℕ) → ArePastDigits rest capped after → length after ≢ length rest → begins_word after ≡ false
+pub natural_value : (rest : List ℕ) (capped : ℕ) (after : List ℕ) → ArePastDigits rest capped after → length after ≢ length rest
+    → begins_word after ≡ false
     → Some capped ≡ option_map (λ n. min n (2 ^ 64 - 1)) (next_natural (words_here rest))
 natural_value rest capped after h shorter e = sym (natural_first rest capped after h shorter e).value
 
-pub natural_place : (rest : List ℕ) (capped : ℕ) (after : List ℕ) → ArePastDigits rest capped after → length after ≢ length rest → begins_word after ≡ false → IsPast 1 rest after
+pub natural_place : (rest : List ℕ) (capped : ℕ) (after : List ℕ) → ArePastDigits rest capped after → length after ≢ length rest
+    → begins_word after ≡ false → IsPast 1 rest after
 natural_place rest capped after h shorter e = (natural_first rest capped after h shorter e).place
 
 -- a word goes on behind the digits
-not_all_digits : (digits after : List ℕ) → begins_word after ≡ true → begins_with is_digit after ≡ false → is_natural (digits ++ before_first ends_word after) ≡ false
+not_all_digits : (digits after : List ℕ) → begins_word after ≡ true → begins_with is_digit after ≡ false
+    → is_natural (digits ++ before_first ends_word after) ≡ false
 unfolding is_natural
 not_all_digits digits [] word stop = cc
 not_all_digits digits (byte ∷ after) word stop =
@@ -279,13 +291,15 @@ no_word (byte ∷ rest) no_blank e =
       | inr hash ↦ words_here-hash byte rest hash
     ]
 
-pub no_natural : (rest : List ℕ) (capped : ℕ) (after : List ℕ) → ArePastDigits rest capped after → begins_with is_digit after ≡ false → begins_word after ≡ true
+pub no_natural : (rest : List ℕ) (capped : ℕ) (after : List ℕ) → ArePastDigits rest capped after → begins_with is_digit after ≡ false
+    → begins_word after ≡ true
     → None ≡ option_map (λ n. min n (2 ^ 64 - 1)) (next_natural (words_here rest))
 no_natural rest capped after h stop word =
     sym (ap (λ t. option_map (λ n. min n (2 ^ 64 - 1)) (next_natural (words_here t))) h.parts ∙ ap (option_map (λ n. min n (2 ^ 64 - 1))) (word_goes_on h.digits after h.all word stop))
 
 -- no digits at the front
-pub no_natural_here : (rest : List ℕ) (capped : ℕ) (after : List ℕ) → ArePastDigits rest capped after → begins_with is_digit after ≡ false → begins_with is_blank rest ≡ false
+pub no_natural_here : (rest : List ℕ) (capped : ℕ) (after : List ℕ) → ArePastDigits rest capped after → begins_with is_digit after ≡ false
+    → begins_with is_blank rest ≡ false
     → length rest ≤ length after → None ≡ option_map (λ n. min n (2 ^ 64 - 1)) (next_natural (words_here rest))
 no_natural_here rest capped after h stop no_blank same =
     let all : rest ≡ after = nothing h.digits after rest h.parts same in
@@ -326,7 +340,8 @@ pub no_line_feed : (bytes rest : List ℕ) → eqb (length rest) 0 ≡ true → 
 no_line_feed bytes [] e same = sym behind-nil ∙ same
 no_line_feed bytes (byte ∷ rest) e same = absurd (grind (arith, e))
 
-pub past_line_feed : (bytes rest : List ℕ) → eqb (length rest) 0 ≡ false → IsLineEnd rest → behind rest ≡ behind bytes → after_head rest ≡ behind bytes
+pub past_line_feed : (bytes rest : List ℕ) → eqb (length rest) 0 ≡ false → IsLineEnd rest → behind rest ≡ behind bytes
+    → after_head rest ≡ behind bytes
 past_line_feed bytes [] e feed same = absurd (grind (arith, e))
 past_line_feed bytes (byte ∷ rest) e feed same = after_head-cons byte rest ∙ sym (behind-line_feed byte rest (eq-eqb byte 10 feed)) ∙ same
 
@@ -335,7 +350,8 @@ unfolding behind
 behind-shorter rest = omega (arith, length-drop (position_or_len is_line_feed rest + 1) rest)
 
 -- one line more
-pub one_line : (rest : List ℕ) → eqb (length rest) 0 ≡ false → (length (cut rest) ≡ length (cut (behind rest)) + 1) × (length (behind rest) < length rest)
+pub one_line : (rest : List ℕ) → eqb (length rest) 0 ≡ false
+    → (length (cut rest) ≡ length (cut (behind rest)) + 1) × (length (behind rest) < length rest)
 one_line [] some = absurd (grind (arith, some))
 one_line (byte ∷ rest) some = (omega (arith, ap length (cut_first byte rest)), shorter (is_line_feed byte) refl)
   where

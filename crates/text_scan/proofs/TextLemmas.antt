@@ -32,7 +32,8 @@ digits_plain (byte ∷ digits) all =
     let both = and_parts (is_digit byte) (list_all is_digit digits) all in
     and_from _ _ (or_left (is_digit byte) (is_point byte) both.0) (digits_plain digits both.1)
 
-after_first-append : (digits rest : List ℕ) → list_all is_digit digits ≡ true → after_first is_point (digits ++ rest) ≡ after_first is_point rest
+after_first-append : (digits rest : List ℕ) → list_all is_digit digits ≡ true
+    → after_first is_point (digits ++ rest) ≡ after_first is_point rest
 after_first-append [] rest all = refl
 after_first-append (byte ∷ digits) rest all =
     let both = and_parts (is_digit byte) (list_all is_digit digits) all in
@@ -42,7 +43,8 @@ after_first-append (byte ∷ digits) rest all =
     no_point byte e = grind (arith, e)
 
 -- the digits at the front are some where there is one
-first_digits : (digits after : List ℕ) → begins_with is_digit (digits ++ after) ≡ true → begins_with is_digit after ≡ false → begins_with is_digit digits ≡ true
+first_digits : (digits after : List ℕ) → begins_with is_digit (digits ++ after) ≡ true → begins_with is_digit after ≡ false
+    → begins_with is_digit digits ≡ true
 first_digits [] after first stop = absurd (both_ways (begins_with is_digit after) stop first)
 first_digits (byte ∷ digits) after first stop = first
 
@@ -55,7 +57,8 @@ unfolding is_natural
 natural_first [] first all = cc
 natural_first (byte ∷ digits) first all = all
 
-pub whole_digits : (bytes after : List ℕ) → begins_with is_digit bytes ≡ true → IsPastDigits bytes after → begins_with is_digit after ≡ false → IsPastDecimal bytes after
+pub whole_digits : (bytes after : List ℕ) → begins_with is_digit bytes ≡ true → IsPastDigits bytes after
+    → begins_with is_digit after ≡ false → IsPastDecimal bytes after
 whole_digits bytes after first h stop =
     let some : begins_with is_digit h.digits ≡ true = first_digits h.digits after (ap (begins_with is_digit) (sym h.parts) ∙ first) stop in
     let front : before_first is_point h.digits ≡ h.digits
@@ -69,7 +72,8 @@ whole_digits bytes after first h stop =
       decimal = ap₂ (λ a b. is_natural (a ++ b)) front back ∙ ap is_natural (append-nil h.digits) ∙ natural_first h.digits some h.all;
     }
 
-pub with_fraction : (bytes rest after : List ℕ) → begins_with is_digit bytes ≡ true → IsPastDigits bytes (46 ∷ rest) → IsPastDigits rest after → IsPastDecimal bytes after
+pub with_fraction : (bytes rest after : List ℕ) → begins_with is_digit bytes ≡ true → IsPastDigits bytes (46 ∷ rest)
+    → IsPastDigits rest after → IsPastDecimal bytes after
 with_fraction bytes rest after first whole fraction =
     let some : begins_with is_digit whole.digits ≡ true = first_digits whole.digits (46 ∷ rest) (ap (begins_with is_digit) (sym whole.parts) ∙ first) refl in
     let front : before_first is_point (whole.digits ++ 46 ∷ fraction.digits) ≡ whole.digits
@@ -84,7 +88,8 @@ with_fraction bytes rest after first whole fraction =
       decimal = ap₂ (λ a b. is_natural (a ++ b)) front back ∙ natural_first (whole.digits ++ fraction.digits) (first_append whole.digits fraction.digits some) all;
     }
 
-pub with_point : (bytes rest after : List ℕ) → begins_with is_digit bytes ≡ true → IsPastDigits bytes rest → 1 ≤ length rest → get_or rest 0 0 ≡ 46 → IsPastDigits (after_head rest) after → IsPastDecimal bytes after
+pub with_point : (bytes rest after : List ℕ) → begins_with is_digit bytes ≡ true → IsPastDigits bytes rest → 1 ≤ length rest
+    → get_or rest 0 0 ≡ 46 → IsPastDigits (after_head rest) after → IsPastDecimal bytes after
 with_point bytes rest after first whole some point fraction =
     by_head (λ head rest tail. IsPastDigits bytes rest → head ≡ 46 → IsPastDigits tail after → IsPastDecimal bytes after)
     (λ byte tail whole point fraction. with_fraction bytes tail after first (subst (λ b. IsPastDigits bytes (b ∷ tail)) point whole) fraction)
@@ -128,7 +133,8 @@ plain_word (byte ∷ text) all =
 plain_no_mark : (byte : ℕ) → is_plain byte ≡ true → is_exponent_mark byte ≡ false
 plain_no_mark byte e = grind (arith, e)
 
-no_mark : (text : List ℕ) → list_all is_plain text ≡ true → (list_all (λ byte. not (is_exponent_mark byte)) text ≡ true) × (list_any is_exponent_mark text ≡ false)
+no_mark : (text : List ℕ) → list_all is_plain text ≡ true
+    → (list_all (λ byte. not (is_exponent_mark byte)) text ≡ true) × (list_any is_exponent_mark text ≡ false)
 no_mark [] all = (refl, refl)
 no_mark (byte ∷ text) all =
     let both = and_parts (is_plain byte) (list_all is_plain text) all in
@@ -150,7 +156,8 @@ begins_filled [] [] first = cc
 begins_filled [] (byte ∷ text) first = refl
 begins_filled (byte ∷ sign) text first = refl
 
-pub plain_number : (rest after : List ℕ) → IsPastDecimal (unsigned rest) after → begins_word after ≡ false → (next_is_number_text (words_here rest) ≡ true) × IsPast 1 rest after
+pub plain_number : (rest after : List ℕ) → IsPastDecimal (unsigned rest) after → begins_word after ≡ false
+    → (next_is_number_text (words_here rest) ≡ true) × IsPast 1 rest after
 unfolding is_number_text
 plain_number rest after h stop =
     let s = signed rest in
@@ -165,7 +172,8 @@ plain_number rest after h stop =
 
 -- ---- any number text
 
-pub text_first : (rest word : List ℕ) → begins_word rest ≡ true → word ≡ before_first ends_word rest → next_is_number_text (words_here rest) ≡ is_number_text word
+pub text_first : (rest word : List ℕ) → begins_word rest ≡ true → word ≡ before_first ends_word rest
+    → next_is_number_text (words_here rest) ≡ is_number_text word
 text_first rest word begin is = ap next_is_number_text (words_here-word rest begin) ∙ ap is_number_text (sym is)
 
 pub no_text : (rest : List ℕ) → begins_with is_blank rest ≡ false → begins_word rest ≡ false → next_is_number_text (words_here rest) ≡ false

@@ -37,17 +37,20 @@ finds_nothing text n rest none =
     let left : lines_left (unread_at text n rest) ≡ [] = lines_left-unread_at text n rest ∙ none in
     record { found = sym (ap is_filled left); place = sym (ap (at_line (unread_at text n rest)) left) }
 
-pub none_found : (text : List ℕ) (n : ℕ) (rest : List ℕ) (unread : Unread) → unread_at text n rest ≡ unread → lines_from n rest ≡ [] → false ≡ is_filled (lines_left unread)
+pub none_found : (text : List ℕ) (n : ℕ) (rest : List ℕ) (unread : Unread) → unread_at text n rest ≡ unread → lines_from n rest ≡ []
+    → false ≡ is_filled (lines_left unread)
 none_found text n rest unread is none = (subst FindsNothing is (finds_nothing text n rest none)).found
 
-pub none_place : (text : List ℕ) (n : ℕ) (rest : List ℕ) (unread : Unread) → unread_at text n rest ≡ unread → lines_from n rest ≡ [] → unread ≡ at_line unread (lines_left unread)
+pub none_place : (text : List ℕ) (n : ℕ) (rest : List ℕ) (unread : Unread) → unread_at text n rest ≡ unread → lines_from n rest ≡ []
+    → unread ≡ at_line unread (lines_left unread)
 none_place text n rest unread is none = (subst FindsNothing is (finds_nothing text n rest none)).place
 
 record Finds (unread next : Unread) : Type 0 where
   found : true ≡ is_filled (lines_left unread)
   place : next ≡ at_line unread (lines_left unread)
 
-finds : (text : List ℕ) (n : ℕ) (rest : List ℕ) (m : ℕ) (after : List ℕ) → IsFirstWord n rest m after → Finds (unread_at text n rest) (unread_at text m after)
+finds : (text : List ℕ) (n : ℕ) (rest : List ℕ) (m : ℕ) (after : List ℕ) → IsFirstWord n rest m after
+    → Finds (unread_at text n rest) (unread_at text m after)
 finds text n rest m after h =
     let some : is_filled (words_here after) ≡ true = ap is_filled (words_here-word after h.word) in
     let first : lines_from m after ≡ record { number = m; words = words_here after } ∷ lines_from (m + 1) (behind after) = lines_from_here m after ∙ rw some refl in
@@ -55,11 +58,13 @@ finds text n rest m after h =
     = lines_left-unread_at text n rest ∙ h.lines ∙ first in
     record { found = sym (ap is_filled left); place = sym (ap (at_line (unread_at text n rest)) left) }
 
-pub some_found : (text : List ℕ) (n : ℕ) (rest : List ℕ) (m : ℕ) (after : List ℕ) (unread : Unread) → unread_at text n rest ≡ unread → IsFirstWord n rest m after
+pub some_found : (text : List ℕ) (n : ℕ) (rest : List ℕ) (m : ℕ) (after : List ℕ) (unread : Unread) → unread_at text n rest ≡ unread
+    → IsFirstWord n rest m after
     → true ≡ is_filled (lines_left unread)
 some_found text n rest m after unread is h = (subst (λ u. Finds u (unread_at text m after)) is (finds text n rest m after h)).found
 
-pub some_place : (text : List ℕ) (n : ℕ) (rest : List ℕ) (m : ℕ) (after : List ℕ) (unread : Unread) → unread_at text n rest ≡ unread → IsFirstWord n rest m after
+pub some_place : (text : List ℕ) (n : ℕ) (rest : List ℕ) (m : ℕ) (after : List ℕ) (unread : Unread) → unread_at text n rest ≡ unread
+    → IsFirstWord n rest m after
     → unread_at text m after ≡ at_line unread (lines_left unread)
 some_place text n rest m after unread is h = (subst (λ u. Finds u (unread_at text m after)) is (finds text n rest m after h)).place
 
@@ -69,7 +74,8 @@ some_filled n rest m after h = ap is_filled (words_here-word after h.word)
 
 -- ---- a word further on in the line
 
-pub moved : (text : List ℕ) (n : ℕ) (rest after : List ℕ) (unread : Unread) → unread_at text n rest ≡ unread → IsPast 1 rest after → unread_at text n after ≡ past_word unread
+pub moved : (text : List ℕ) (n : ℕ) (rest after : List ℕ) (unread : Unread) → unread_at text n rest ≡ unread → IsPast 1 rest after
+    → unread_at text n after ≡ past_word unread
 moved text n rest after unread is h =
     subst (λ u. unread_at text n after ≡ past_word u) is
     (let new : Unread = unread_at text n rest in
@@ -86,16 +92,19 @@ filled_here rest no_blank = by_test (begins_word rest) refl
     by_test true e = e ∙ sym (ap is_filled (words_here-word rest e))
     by_test false e = e ∙ sym (ap is_filled (no_word rest no_blank e))
 
-pub has_word : (text : List ℕ) (n : ℕ) (rest after : List ℕ) (unread : Unread) → unread_at text n rest ≡ unread → IsPast 0 rest after → begins_with is_blank after ≡ false
+pub has_word : (text : List ℕ) (n : ℕ) (rest after : List ℕ) (unread : Unread) → unread_at text n rest ≡ unread → IsPast 0 rest after
+    → begins_with is_blank after ≡ false
     → begins_word after ≡ is_filled unread.words
 has_word text n rest after unread is h no_blank = filled_here after no_blank ∙ ap is_filled h.words ∙ ap (λ (u : Unread). is_filled u.words) is
 
-pub no_word_left : (text : List ℕ) (n : ℕ) (rest after : List ℕ) (unread : Unread) → unread_at text n rest ≡ unread → IsPast 0 rest after → begins_with is_blank after ≡ false
+pub no_word_left : (text : List ℕ) (n : ℕ) (rest after : List ℕ) (unread : Unread) → unread_at text n rest ≡ unread → IsPast 0 rest after
+    → begins_with is_blank after ≡ false
     → begins_word after ≡ false → unread.words ≡ []
 no_word_left text n rest after unread is h no_blank e = sym (ap (λ (u : Unread). u.words) is) ∙ sym h.words ∙ no_word after no_blank e
 
 -- the word at the front
-pub word_left : (text : List ℕ) (n : ℕ) (rest after word : List ℕ) (unread : Unread) → unread_at text n rest ≡ unread → IsPast 0 rest after → begins_word after ≡ true
+pub word_left : (text : List ℕ) (n : ℕ) (rest after word : List ℕ) (unread : Unread) → unread_at text n rest ≡ unread
+    → IsPast 0 rest after → begins_word after ≡ true
     → word ≡ before_first ends_word after → Some word ≡ next_word unread.words
 word_left text n rest after word unread is h begin same =
     ap Some same ∙ sym (ap next_word (words_here-word after begin)) ∙ ap next_word h.words ∙ ap (λ (u : Unread). next_word u.words) is
@@ -108,7 +117,8 @@ both_past n m first second third h k =
       shorter = omega (arith, h.shorter, k.shorter);
     }
 
-pub moved_past : (text : List ℕ) (n : ℕ) (rest start after : List ℕ) (unread : Unread) → unread_at text n rest ≡ unread → IsPast 0 rest start → IsPast 1 start after
+pub moved_past : (text : List ℕ) (n : ℕ) (rest start after : List ℕ) (unread : Unread) → unread_at text n rest ≡ unread
+    → IsPast 0 rest start → IsPast 1 start after
     → unread_at text n after ≡ past_word unread
 moved_past text n rest start after unread is h k = moved text n rest after unread is (both_past 0 1 rest start after h k)
 
@@ -139,15 +149,18 @@ pub few_left : (n : ℕ) (rest start after : List ℕ) → 0 < n → n + length 
     → length (words_here after) < 2 ^ 64 - 1
 few_left n rest start after some fits h k = omega (arith, some, fits, few_words after, h.shorter, k.shorter)
 
-pub few_here : (text : List ℕ) (n : ℕ) (rest : List ℕ) (unread : Unread) → unread_at text n rest ≡ unread → 0 < n → n + length rest < 2 ^ 64 → length unread.words < 2 ^ 64 - 1
+pub few_here : (text : List ℕ) (n : ℕ) (rest : List ℕ) (unread : Unread) → unread_at text n rest ≡ unread → 0 < n
+    → n + length rest < 2 ^ 64 → length unread.words < 2 ^ 64 - 1
 few_here text n rest unread is some fits = omega (arith, some, fits, few_words rest, ap (λ (u : Unread). length u.words) is)
 
 -- ---- line by line
 
-pub no_line : (n : ℕ) (rest : List ℕ) (left : LinesLeft) (text : List ℕ) → record { lines = lines_from n rest; count = length (cut text) } ≡ left → lines_from n rest ≡ [] → left.lines ≡ []
+pub no_line : (n : ℕ) (rest : List ℕ) (left : LinesLeft) (text : List ℕ)
+    → record { lines = lines_from n rest; count = length (cut text) } ≡ left → lines_from n rest ≡ [] → left.lines ≡ []
 no_line n rest left text is none = sym (ap (λ (l : LinesLeft). l.lines) is) ∙ none
 
-pub a_line : (n m : ℕ) (rest found after text : List ℕ) (left : LinesLeft) → record { lines = lines_from n rest; count = length (cut text) } ≡ left → IsFirstWord n rest m found
+pub a_line : (n m : ℕ) (rest found after text : List ℕ) (left : LinesLeft)
+    → record { lines = lines_from n rest; count = length (cut text) } ≡ left → IsFirstWord n rest m found
     → words_here after ≡ [] → behind after ≡ behind found
     → left ≡ record { lines = record { number = m; words = words_here found } ∷ lines_from m after; count = length (cut text) }
 a_line n m rest found after text left is h none same =
@@ -156,12 +169,15 @@ a_line n m rest found after text left is h none same =
     let others : lines_from m after ≡ lines_from (m + 1) (behind found) = lines_from_here m after ∙ rw none (ap (lines_from (m + 1)) same) in
     sym is ∙ ap (λ (ls : List Line). record { lines = ls; count = length (cut text) }) (h.lines ∙ first ∙ ap (λ (ls : List Line). record { number = m; words = words_here found } ∷ ls) (sym others))
 
-pub none_in_line : (rest after : List ℕ) (left : List (List ℕ)) → words_here rest ≡ left → IsPast 0 rest after → begins_with is_blank after ≡ false → begins_word after ≡ false → left ≡ []
+pub none_in_line : (rest after : List ℕ) (left : List (List ℕ)) → words_here rest ≡ left → IsPast 0 rest after
+    → begins_with is_blank after ≡ false → begins_word after ≡ false → left ≡ []
 none_in_line rest after left is h no_blank e = sym is ∙ sym h.words ∙ no_word after no_blank e
 
-pub first_in_line : (rest after word : List ℕ) (left : List (List ℕ)) → words_here rest ≡ left → IsPast 0 rest after → begins_word after ≡ true
+pub first_in_line : (rest after word : List ℕ) (left : List (List ℕ)) → words_here rest ≡ left → IsPast 0 rest after
+    → begins_word after ≡ true
     → word ≡ before_first ends_word after → Some word ≡ next_word left
 first_in_line rest after word left is h begin same = ap Some same ∙ sym (ap next_word (words_here-word after begin)) ∙ ap next_word (h.words ∙ is)
 
-pub others_in_line : (rest start after : List ℕ) (left : List (List ℕ)) → words_here rest ≡ left → IsPast 0 rest start → IsPast 1 start after → words_here after ≡ drop 1 left
+pub others_in_line : (rest start after : List ℕ) (left : List (List ℕ)) → words_here rest ≡ left → IsPast 0 rest start
+    → IsPast 1 start after → words_here after ≡ drop 1 left
 others_in_line rest start after left is h k = k.words ∙ ap (λ (ws : List (List ℕ)). drop 1 ws) (h.words ∙ is)
