@@ -1,13 +1,16 @@
 -- Walks with common ends and one canonical word are homotopic: their turn words reach one another, so they read to the same product
 -- of spokes, and the walks are these products.
 use Rattle.std.proofs.Common.{◌≡◌, ◌⊎◌, inl, inr, ℕ, zero, suc, ◌<◌, ◌≤◌, Bool, true, false, ◌&&◌, eqb, List, [], ◌∷◌, ◌++◌, length, get_or, refl, ap, sym, ◌∙◌, subst, arith}
-use Rattle.std.specs.Prelude.{All}
+use Rattle.std.specs.Prelude.{All, slice_index, IsTrue}
 use Rattle.std.proofs.lemmas.Bool.{cases_Bool}
 use Rattle.std.proofs.lemmas.List.Elements.{All-append, All-nil, All-cons}
+use Rattle.surf_model.specs.FaceLists.{FaceList, is_used}
+use Rattle.surf_model.specs.Walks.{IsWalk, HaveCommonEnds, darts}
 use Rattle.surf_model.specs.Moves.{Homotopic}
+use Rattle.surf_model.proofs.LinkLemmas.{Linked, links}
 use Rattle.halfedge_map.specs.OrientedMeshes.{OrientedMesh, IsOrientedSurface}
 use Rattle.halfedge_map.specs.DartMaps.{darts_of, next_of, twin_of, origin_of}
-use Rattle.halfedge_map.specs.RotationSystems.{rotations_of}
+use Rattle.halfedge_map.specs.RotationSystems.{Rotations, rotations_of}
 use Rattle.halfedge_map.proofs.EdgeLemmas.{dart_between}
 use Rattle.halfedge_map.proofs.SystemLemmas.{rotation_system}
 use Rattle.turn_words.specs.Canonical.{IsCanonicalOf, IsTurnWord}
@@ -15,7 +18,8 @@ use Rattle.turn_words.specs.Spoke_paths.{turn_word_of}
 use Rattle.turn_words.specs.Hyper_states.{IsHyperWheel}
 use Rattle.turn_words.proofs.Spokes.{turns}
 use Rattle.tree_cotree.specs.Splits.{SplitView, IsSplit}
-use Rattle.polygon_cut.specs.Polygons.{PolygonView, IsCutFrom, label_of, place_of}
+use Rattle.polygon_cut.specs.Polygons.{PolygonView, IsCutFrom, HasPlaces, label_of, place_of}
+use Rattle.polygon_cut.proofs.GroupLemmas.{IsGroup}
 use Rattle.polygon_cut.proofs.LoopLemmas.{IsWay, HasWays, SameLoop, loop_mul, loop_inv, loop_one, loop_of, from_loops}
 use Rattle.polygon_cut.proofs.TreeWayLemmas.{up, tree_ways}
 use Rattle.polygon_cut.proofs.SpokeLemmas.{Loops, spoke, group_of}
@@ -47,3 +51,100 @@ path_below s split polygon o t c some u v (w ∷ rest) way =
     (subst (All (λ i. i < polygon.degree)) (sym labels.are) (both_below polygon.degree (label_of polygon d) (label_of polygon (next_of s d)) labels.c labels.e a_in b_in))) in
     All-append (λ i. i < polygon.degree) (spokes s.mesh (labelling_from s polygon) u w) (quad_path s.mesh (labelling_from s polygon) (w ∷ rest)) here
     (path_below s split polygon o t c some w v rest way.1)
+
+-- lists of spokes whose turn words reach one canonical word have one product
+one_product : {X : Type 0} (Same : X → X → Type 0) (mul : X → X → X) (inv : X → X) (one : X) → IsGroup Same mul inv one → (element : ℕ → X) (places : List ℕ) (spoke_at : ℕ → ℕ)
+    → HasQuads Same mul inv element (length places) (λ i. get_or places i 0) spoke_at → IsHyperWheel places → (first second canonical : List ℕ)
+    → All (λ i. i < length places) first → All (λ i. i < length places) second
+    → IsCanonicalOf (length places) (turn_word_of places first) canonical → IsCanonicalOf (length places) (turn_word_of places second) canonical
+    → Same (along_spokes mul inv one element true first) (along_spokes mul inv one element true second)
+one_product Same mul inv one g element places spoke_at q own first second canonical f s to_first to_second =
+    let d : ℕ = length places in
+    let five : 5 ≤ d = own.five in
+    let reading : List ℕ → _ = read mul inv one element d (λ i. get_or places i 0) spoke_at true 0 in
+    let reads : (spokes : List ℕ) → All (λ i. i < d) spokes → IsCanonicalOf d (turn_word_of places spokes) canonical
+    → Same (along_spokes mul inv one element true spokes) (reading canonical) =
+    λ spokes h c.
+    subst (λ x. Same x (reading canonical)) (spokes_read mul inv one element places spoke_at q.place_in q.spoke_of_place spokes h)
+    (reached_reads Same mul inv one g element d (λ i. get_or places i 0) spoke_at q c.reached.0 (turn_word_of places spokes) canonical
+    (within_from d (turn_word_of places spokes) (turns places spokes own h).in_range) c.reached.1 true 0 (omega arith)) in
+    g.on (along_spokes mul inv one element true first) (reading canonical) (along_spokes mul inv one element true second)
+    (reads first f to_first) (g.turn (along_spokes mul inv one element true second) (reading canonical) (reads second s to_second))
+
+-- the places of a polygon with five spokes at least
+own_wheel : (maps : Rotations) (polygon : PolygonView) → HasPlaces maps polygon → 5 ≤ polygon.degree → IsHyperWheel polygon.places
+own_wheel maps polygon h five = record {
+  five = subst (λ n. 5 ≤ n) (sym h.each_spoke) five;
+  wheel = record {
+    inside = λ i l. subst (λ n. slice_index polygon.places i < n) (sym h.each_spoke) (h.below i (subst (λ n. i < n) h.each_spoke l));
+    once = λ i j l k e. h.apart i j (subst (λ n. i < n) h.each_spoke l) (subst (λ n. j < n) h.each_spoke k) e;
+  };
+}
+
+-- a walk is a way to its last entry
+way_from : (mesh : FaceList) (u : ℕ) (rest : List ℕ) → Linked mesh (u ∷ rest) → All (λ v. IsTrue (is_used mesh v)) (u ∷ rest)
+    → IsWay mesh u (slice_index (u ∷ rest) (length rest)) rest
+way_from mesh u [] h k = (refl, k 0 u (omega arith))
+way_from mesh u (x ∷ rest) h k = (h.0, way_from mesh x rest h.1 (λ i d l. k (suc i) d (omega arith)))
+
+walk_way : (mesh : FaceList) (u : ℕ) (rest : List ℕ) → IsWalk mesh (u ∷ rest) → IsWay mesh u (slice_index (u ∷ rest) (length rest)) rest
+walk_way mesh u rest w = way_from mesh u rest (links mesh (u ∷ rest) w) w.used
+
+-- walks with common ends whose turn words have one canonical word are homotopic
+pub equal_words : (surface : OrientedMesh) (split : SplitView) (polygon : PolygonView) (first second canonical : List ℕ)
+    → IsOrientedSurface surface → IsSplit surface split → IsCutFrom surface split polygon → 5 ≤ polygon.degree
+    → IsWalk surface.mesh first → IsWalk surface.mesh second → HaveCommonEnds first second
+    → IsCanonicalOf polygon.degree (turn_word_of polygon.places (quad_path surface.mesh (labelling_from surface polygon) first)) canonical
+    → IsCanonicalOf polygon.degree (turn_word_of polygon.places (quad_path surface.mesh (labelling_from surface polygon) second)) canonical
+    → Homotopic surface.mesh first second
+equal_words s split polygon [] second canonical o t c five w z ends f g =
+    let none : 0 < 0 = w.starts in
+    absurd (omega arith)
+equal_words s split polygon (u ∷ rest) [] canonical o t c five w z ends f g =
+    let none : 0 < 0 = z.starts in
+    absurd (omega arith)
+equal_words s split polygon (u ∷ rest) (v ∷ others) canonical o t c five w z ends f g =
+    let some : 0 < polygon.degree = omega arith in
+    let way : IsWay s.mesh u (slice_index (u ∷ rest) (length rest)) rest = walk_way s.mesh u rest w in
+    let other : IsWay s.mesh v (slice_index (v ∷ others) (length others)) others = walk_way s.mesh v others z in
+    let last : length rest ≡ darts (u ∷ rest) = omega arith in
+    let other_last : length others ≡ darts (v ∷ others) = omega arith in
+    let same_end : slice_index (u ∷ rest) (length rest) ≡ slice_index (v ∷ others) (length others) =
+    ap (slice_index (u ∷ rest)) last ∙ ends.ends ∙ sym (ap (slice_index (v ∷ others)) other_last) in
+    let along : IsWay s.mesh u (slice_index (u ∷ rest) (length rest)) others =
+    subst (λ x. IsWay s.mesh x (slice_index (u ∷ rest) (length rest)) others) (sym ends.starts)
+    (subst (λ x. IsWay s.mesh v x others) (sym same_end) other) in
+    let same_start : Homotopic s.mesh (u ∷ rest) (u ∷ others) =
+    from_loops s.mesh t.parents.root (up s split t) (tree_ways s split o t) u (slice_index (u ∷ rest) (length rest)) rest others way along
+    (through s split polygon o t c five u (slice_index (u ∷ rest) (length rest)) rest others canonical way along f
+    (subst (λ x. IsCanonicalOf polygon.degree (turn_word_of polygon.places (quad_path s.mesh (labelling_from s polygon) (x ∷ others))) canonical) (sym ends.starts) g)) in
+    subst (λ x. Homotopic s.mesh (u ∷ rest) (x ∷ others)) ends.starts same_start
+  where
+    through : (s : OrientedMesh) (split : SplitView) (polygon : PolygonView) (o : IsOrientedSurface s) (t : IsSplit s split) → IsCutFrom s split polygon → 5 ≤ polygon.degree
+        → (u v : ℕ) (rest others canonical : List ℕ) (way : IsWay s.mesh u v rest) (along : IsWay s.mesh u v others)
+        → IsCanonicalOf polygon.degree (turn_word_of polygon.places (quad_path s.mesh (labelling_from s polygon) (u ∷ rest))) canonical
+        → IsCanonicalOf polygon.degree (turn_word_of polygon.places (quad_path s.mesh (labelling_from s polygon) (u ∷ others))) canonical
+        → SameLoop (loop_of s.mesh t.parents.root (up s split t) (tree_ways s split o t) u v rest way)
+        (loop_of s.mesh t.parents.root (up s split t) (tree_ways s split o t) u v others along)
+    through s split polygon o t c five u v rest others canonical way along f g =
+        let some : 0 < polygon.degree = omega arith in
+        let number : polygon.degree ≡ length polygon.places = sym (c.places some).each_spoke in
+        let group = group_of s split t in
+        let one : Loops s split t = loop_one s.mesh t.parents.root t.parents.root_used in
+        let element : ℕ → Loops s split t = spoke s split o t polygon in
+        let first : List ℕ = quad_path s.mesh (labelling_from s polygon) (u ∷ rest) in
+        let second : List ℕ = quad_path s.mesh (labelling_from s polygon) (u ∷ others) in
+        let x : Loops s split t = loop_of s.mesh t.parents.root (up s split t) (tree_ways s split o t) u v rest way in
+        let y : Loops s split t = loop_of s.mesh t.parents.root (up s split t) (tree_ways s split o t) u v others along in
+        let a : Loops s split t = along_spokes loop_mul loop_inv one element true first in
+        let b : Loops s split t = along_spokes loop_mul loop_inv one element true second in
+        let quads : HasQuads {X = Loops s split t} SameLoop loop_mul loop_inv element (length polygon.places) (place_of polygon) (spoke_at polygon) =
+        subst (λ n. HasQuads {X = Loops s split t} SameLoop loop_mul loop_inv element n (place_of polygon) (spoke_at polygon)) number (polygon_quads s split o t polygon c some) in
+        let equal : SameLoop a b =
+        one_product SameLoop loop_mul loop_inv one group element polygon.places (spoke_at polygon) quads (own_wheel (rotations_of s) polygon (c.places some) five) first second canonical
+        (subst (λ n. All (λ i. i < n) first) number (path_below s split polygon o t c some u v rest way))
+        (subst (λ n. All (λ i. i < n) second) number (path_below s split polygon o t c some u v others along))
+        (subst (λ n. IsCanonicalOf n (turn_word_of polygon.places first) canonical) number f)
+        (subst (λ n. IsCanonicalOf n (turn_word_of polygon.places second) canonical) number g) in
+        group.on x a y (walk_product s split o t polygon c some u v rest way)
+        (group.on a b y equal (group.turn y b (walk_product s split o t polygon c some u v others along)))

@@ -101,6 +101,7 @@ all_places n f below once x l = elim (cases_Bool (any_below (λ i. eqb (f i) x) 
   where
     missed : any_below (λ i. eqb (f i) x) n ≡ false → (i : ℕ) → i < n → f i ≢ x
     missed none i k e = both_ways (any_below (λ j. eqb (f j) x) n) none (passes_below (λ j. eqb (f j) x) n i k (eq-eqb (f i) x e))
+
     small : any_below (λ i. eqb (f i) x) n ≡ false → (i : ℕ) → i < n → squeeze f n x i < n - 1
     small none i k = elim (cases_eq (f i) (n - 1)) [
       | inl top ↦
@@ -112,6 +113,7 @@ all_places n f below once x l = elim (cases_Bool (any_below (λ i. eqb (f i) x) 
           let under : f i < n = below i k in
           omega arith
     ]
+
     clash : any_below (λ i. eqb (f i) x) n ≡ false → AreAlike (squeeze f n x) (suc (n - 1)) → ⊥
     clash none a =
         let i : ℕ = a.first in
@@ -155,14 +157,19 @@ polygon_quads s split o t polygon c some = record {
   where
     S : ℕ → Loops s split t
     S = spoke s split o t polygon
+
     large : 1 < polygon.degree
-    large = elim (degree_is s split polygon c some) [ | inl four ↦ omega arith | inr more ↦ omega arith ]
+    large = elim (degree_is s split polygon c some) [ inl four ↦ omega arith | inr more ↦ omega arith ]
+
     place_in : (i : ℕ) → i < polygon.degree → place_of polygon i < polygon.degree
     place_in = (c.places some).below
+
     reached : (x : ℕ) → x < polygon.degree → any_below (λ i. eqb (place_of polygon i) x) polygon.degree ≡ true
     reached = all_places polygon.degree (place_of polygon) (c.places some).below (c.places some).apart
+
     cross : Crosses polygon.degree (across (rotations_of s) polygon)
     cross = sides_cross (rotations_of s) (after_dart (rotations_of s) (λ e. not (in_cotree split e))) (is_left split) polygon (rotation_system s o) (c.labels some)
+
     -- a side of the polygon has the value of its own spoke and the next
     side_value : (a : ℕ) → a < polygon.degree → SameLoop (value s split o t (side_at polygon a)) (quotient loop_mul loop_inv (S a) (S (add polygon.degree a 1)))
     side_value a l =
@@ -173,6 +180,7 @@ polygon_quads s split o t polygon c some = record {
         (labels_ride s split polygon d o t c some is_side.0).of_left is_side.1 ∙ ap (one_up polygon.degree) tail ∙ sym (up_is_add polygon.degree a l) in
         subst (λ x. SameLoop (value s split o t d) (quotient loop_mul loop_inv (S x) (S (add polygon.degree a 1)))) tail
         (subst (λ y. SameLoop (value s split o t d) (quotient loop_mul loop_inv (S (label_of polygon d)) (S y))) head (dart_is_two_spokes s split o t polygon c some d is_side.0))
+
     middle_quad : (a : ℕ) → a < polygon.degree → SameLoop (quotient loop_mul loop_inv (S a) (S (add polygon.degree a 1)))
         (quotient loop_mul loop_inv (S (add polygon.degree (across (rotations_of s) polygon a) 1)) (S (across (rotations_of s) polygon a)))
     middle_quad a l =

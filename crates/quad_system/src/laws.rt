@@ -1,10 +1,12 @@
 //! What holds of good labellings, said of the definitions. A call of one of these functions does nothing; its
 //! contract is the law.
-ghost use Rattle.std.specs.Prelude.{◌≡◌, ℕ, ◌<◌, List};
+ghost use Rattle.std.specs.Prelude.{◌≡◌, ℕ, ◌<◌, ◌≤◌, List};
 ghost use Rattle.surf_model.specs.FaceLists.{FaceList, IsFaceList};
-ghost use Rattle.surf_model.specs.Walks.{IsWalk};
+ghost use Rattle.surf_model.specs.Walks.{IsWalk, HaveCommonEnds};
 ghost use Rattle.surf_model.specs.Moves.{Homotopic};
 ghost use Rattle.turn_words.specs.Form_laws.{led};
+ghost use Rattle.turn_words.specs.Canonical.{IsCanonicalOf};
+ghost use Rattle.turn_words.specs.Spoke_paths.{turn_word_of};
 ghost use Rattle.quad_system.specs.Labellings.{LabellingView};
 ghost use Rattle.quad_system.specs.GoodLabellings.{IsGood};
 ghost use Rattle.quad_system.specs.QuadPaths.{quad_path};
@@ -33,4 +35,18 @@ pub fn polygon_labelling_is_good_and_full()
     ensures full { (surface : OrientedMesh) (split : SplitView) (polygon : PolygonView) → IsOrientedSurface surface
         → IsSplit surface split → IsCutFrom surface split polygon → 0 < polygon.degree
         → IsFull surface.mesh (labelling_from surface polygon) }
+{}
+
+/// What one word proves. On a cut with five sides at least, two walks with common ends are homotopic where their turn
+/// words reach one canonical word: each walk is homotopic to the product of the spokes that it passes, and the steps by
+/// which turn words reach one another do not change that product.
+pub fn equal_words_are_homotopic()
+    ensures { (surface : OrientedMesh) (split : SplitView) (polygon : PolygonView) (first second canonical : List ℕ)
+        → IsOrientedSurface surface → IsSplit surface split → IsCutFrom surface split polygon → 5 ≤ polygon.degree
+        → IsWalk surface.mesh first → IsWalk surface.mesh second → HaveCommonEnds first second
+        → IsCanonicalOf polygon.degree
+        (turn_word_of polygon.places (quad_path surface.mesh (labelling_from surface polygon) first)) canonical
+        → IsCanonicalOf polygon.degree
+        (turn_word_of polygon.places (quad_path surface.mesh (labelling_from surface polygon) second)) canonical
+        → Homotopic surface.mesh first second }
 {}
