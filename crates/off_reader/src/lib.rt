@@ -1,4 +1,5 @@
-//! Reading plain mesh texts: triangle meshes in the format OFF, in its plain spelling.
+//! Reading mesh texts in the format OFF: `mesh::read_off` reads every one of them, and `read_off`
+//! those in the plain spelling.
 #![tactic(auto)]
 
 mod fault;

@@ -1,4 +1,5 @@
-//! Reading texts: lines that end with a line feed, and their words.
+//! Reading texts: lines that end with a line feed, and their words. A `Cursor` goes over a text word
+//! by word; `line_by_line` has the lines and the words one after the other.
 //!
 //! The functions of the plain spelling (single blanks between words, numbers without leading zeros)
 //! read at the front of the bytes and give the bytes behind what they have read. Nothing here takes
