@@ -1,7 +1,5 @@
-pub mod MoveLaws
-pub mod MoveLines
-pub mod WalkLines
 pub mod Checking
+pub mod Gathering
 pub mod Writing
 pub mod Verifying
 pub mod Sound

@@ -1,42 +1,39 @@
 -- The outcome of a list of words: that it is there, that it is one, and what follows for `verify`.
-use Rattle.std.proofs.Common.{◌≡◌, ◌↔◌, ◌⊎◌, inl, inr, ℕ, ◌≤◌, List, [], length, refl, sym, ap, ◌∙◌, subst, arith}
-use Rattle.std.specs.Prelude.{Option, slice_index, slice_index_or, flat_map}
-use Rattle.std.proofs.lemmas.List.{append-nil}
-use Rattle.std.proofs.lemmas.Option.{same_Some}
+use Rattle.std.proofs.Common.{◌≡◌, ◌↔◌, ◌⊎◌, inl, inr, ℕ, ◌≤◌, List, [], ◌∷◌, length, refl, sym, ap, ◌∙◌, subst, arith}
+use Rattle.std.specs.Prelude.{Option, Some, None, Result, Ok, Err, slice_index, slice_index_or}
 use Rattle.surf_io.specs.Files.{Files}
 use Rattle.surf_model.specs.FaceLists.{FaceList}
 use Rattle.surf_model.specs.Moves.{PeakedMoves, Leads, greatest_darts}
-use Rattle.surf_model.specs.declared.moves.Move.{Move}
-use Rattle.off_reader.specs.PlainMesh.{IsPlainMesh}
-use Rattle.off_reader.proofs.Meshes.{one_mesh}
+use Rattle.off_reader.specs.OffTexts.{meaning_of}
 use Rattle.move_checker.specs.Verdicts.{verdict_of}
 use Rattle.move_checker.specs.declared.judge.Verdict.{Verdict}
 use Rattle.move_checker.specs.declared.judge.Verdict.TheVariants.{Accepted, Peak, AtMove, End}
 use Rattle.move_checker.proofs.Judgement.{accepted_exactly}
-use Rattle.text_scan.specs.Plain.{number_line}
+use Rattle.walk_files.specs.Certificates.{list_of_text}
+use Rattle.walk_files.specs.NumberTexts.{walks_of}
+use Rattle.walk_files.specs.Pairs.{IsPair, pair_fault}
+use Rattle.walk_files.specs.declared.fault.CertFault.{CertFault}
+use Rattle.walk_files.specs.declared.fault.WalkFault.{WalkFault}
+use Rattle.walk_files.proofs.PairLemmas.{none_of_pair}
 use Rattle.homotopy_cli.specs.Answers.{Outcome, Judged}
-use Rattle.homotopy_cli.specs.Checks.{Refuse, Pass, IsTold}
+use Rattle.homotopy_cli.specs.Checks.{Refuse, Pass, IsTold, meant, pass_unless, ◌>>=◌}
 use Rattle.homotopy_cli.specs.Commands.{Row, Surface, Decide, Certify, Verify, Reduce, Trial, IsRow}
-use Rattle.homotopy_cli.specs.Inputs.{mesh_in, pair_in, moves_in}
+use Rattle.homotopy_cli.specs.Inputs.{mesh_in, pair_in, moves_in, list_meant, SpellsMesh, SpellsPair, SpellsList}
 use Rattle.homotopy_cli.specs.Outcomes.{answer_to, answer_of, IsOutcome, AllTold, IsAnswerOf, Answers}
-use Rattle.homotopy_cli.specs.PlainMoves.{move_line, IsPlainList}
-use Rattle.homotopy_cli.specs.PlainWalks.{IsPlainPair}
-use Rattle.homotopy_cli.specs.Reading.{head_at}
 use Rattle.homotopy_cli.specs.Replies.{Replies, reply_status, reply_text}
 use Rattle.homotopy_cli.specs.Statuses.{verdict_status, IsAnswered}
 use Rattle.homotopy_cli.specs.Stops.{Stops}
 use Rattle.homotopy_cli.specs.Verify.{verify, IsVerifyInput}
-use Rattle.homotopy_cli.specs.declared.refusal.Input.TheVariants.{Mesh, Walks, Certificate}
+use Rattle.homotopy_cli.specs.declared.refusal.Input.TheVariants as inputs
 use Rattle.homotopy_cli.specs.declared.refusal.Refusal.{Refusal}
+use Rattle.homotopy_cli.specs.declared.refusal.Refusal.TheVariants.{Off, Walks, Pair, Certificate}
 use Rattle.homotopy_cli.specs.declared.reply.Reply.{Reply}
 use Rattle.homotopy_cli.specs.declared.reply.Reply.TheVariants as replies
 use Rattle.homotopy_cli.specs.declared.status.Status.{Status}
 use Rattle.homotopy_cli.specs.declared.status.Status.TheVariants.{Yes, WriteFault}
 use Rattle.homotopy_cli.specs.declared.stop.Stop.TheVariants as stops
-use Rattle.homotopy_cli.proofs.MoveLaws.{head_again}
-use Rattle.homotopy_cli.proofs.MoveLines.{all_lines}
-use Rattle.homotopy_cli.proofs.WalkLines.{one_line}
-use Rattle.homotopy_cli.proofs.Sound.{IsSound, sound-then, sound-pass, sound-refuse, sound-found, sound-file, held}
+use Rattle.homotopy_cli.proofs.Checking.{pair_passes}
+use Rattle.homotopy_cli.proofs.Sound.{IsSound, sound-then, sound-pass, sound-refuse, sound-found, sound-meant, sound-pass_unless, sound-file, held}
 
 -- ---- the rows
 
@@ -74,50 +71,20 @@ one_row words a b p q = absurd (omega (arith, letter-row words a p, letter-row w
 
 -- ---- the files
 
-same_pair : (a b c d : List ℕ) → a ≡ b → c ≡ d → (let p : List ℕ × List ℕ = (a, c) in p) ≡ (b, d)
-same_pair a b c d e f = ap (λ (x : List ℕ). let p : List ℕ × List ℕ = (x, c) in p) e ∙ ap (λ (x : List ℕ). let p : List ℕ × List ℕ = (b, x) in p) f
-
-peaked : List Move → ℕ → PeakedMoves
-peaked moves peak = record { moves = moves; peak = peak }
-
-same_peaked : (a b : List Move) (p q : ℕ) → a ≡ b → p ≡ q → peaked a p ≡ peaked b q
-same_peaked a b p q e f = cc
-
-one_pair : (mesh : FaceList) (bytes : List ℕ) (a b : List ℕ × List ℕ) → IsPlainPair mesh a.0 a.1 bytes → IsPlainPair mesh b.0 b.1 bytes
-    → a ≡ b
-one_pair mesh bytes a b p q =
-    let first = one_line a.0 b.0 (number_line a.1) (number_line b.1) p.lines.first_line.some q.lines.first_line.some p.lines.first_line.plain
-    q.lines.first_line.plain (sym p.lines.text ∙ q.lines.text) in
-    let second = one_line a.1 b.1 [] [] p.lines.second_line.some q.lines.second_line.some p.lines.second_line.plain q.lines.second_line.plain
-    (append-nil (number_line a.1) ∙ first.1 ∙ sym (append-nil (number_line b.1))) in
-    same_pair a.0 b.0 a.1 b.1 first.0 second.0
-
-one_list : (bytes : List ℕ) (a b : PeakedMoves) → IsPlainList a bytes → IsPlainList b bytes → a ≡ b
-unfolding peaked
-one_list bytes a b p q =
-    let left : ℕ × ℕ × List ℕ = (length a.moves, a.peak, flat_map move_line a.moves) in
-    let right : ℕ × ℕ × List ℕ = (length b.moves, b.peak, flat_map move_line b.moves) in
-    let heads : left ≡ right =
-    same_Some left right
-    (sym (head_again (length a.moves) a.peak (flat_map move_line a.moves) p.count (omega (arith, p.peak))) ∙ ap head_at (sym p.text ∙ q.text)
-    ∙ head_again (length b.moves) b.peak (flat_map move_line b.moves) q.count (omega (arith, q.peak))) in
-    let count : length a.moves ≡ length b.moves = ap (λ (x : ℕ × ℕ × List ℕ). x.0) heads in
-    let peak : a.peak ≡ b.peak = ap (λ (x : ℕ × ℕ × List ℕ). x.1) heads in
-    let texts : flat_map move_line a.moves ≡ flat_map move_line b.moves = ap (λ (x : ℕ × ℕ × List ℕ). x.2) heads in
-    let moves = all_lines (flat_map move_line a.moves) a.moves [] b.moves (sym (append-nil (flat_map move_line a.moves))) p.plain count q.plain texts in
-    same_peaked a.moves b.moves a.peak b.peak moves.0 peak
-
 pub sound-mesh : (held : Option Files) (name : List ℕ) → IsSound held (mesh_in held name)
-sound-mesh held name =
-    sound-then held _ _ (sound-file held name _) (λ bytes _. sound-found held _ _ (λ a b p q. one_mesh bytes a b p q))
+sound-mesh held name = sound-then held _ _ (sound-file held name _) (λ bytes _. sound-meant held Off (meaning_of bytes))
 
 pub sound-pair : (held : Option Files) (name : List ℕ) (mesh : FaceList) → IsSound held (pair_in held name mesh)
 sound-pair held name mesh =
-    sound-then held _ _ (sound-file held name _) (λ bytes _. sound-found held _ _ (λ a b p q. one_pair mesh bytes a b p q))
+    sound-then held _ _ (sound-file held name _)
+    (λ bytes _. sound-then held _ _ (sound-meant held Walks (walks_of bytes)) (λ walks _. sound-pass_unless held Pair (pair_fault mesh walks) walks))
+
+sound-list : (held : Option Files) (list : Option (Result PeakedMoves CertFault)) → IsSound held (list_meant list)
+sound-list held None = sound-refuse held _
+sound-list held (Some list) = sound-meant held Certificate list
 
 pub sound-moves : (held : Option Files) (name : List ℕ) → IsSound held (moves_in held name)
-sound-moves held name =
-    sound-then held _ _ (sound-file held name _) (λ bytes _. sound-found held _ _ (λ a b p q. one_list bytes a b p q))
+sound-moves held name = sound-then held _ _ (sound-file held name _) (λ bytes _. sound-list held (list_of_text bytes))
 
 -- ---- the commands
 
@@ -156,6 +123,23 @@ yes_exactly status mesh first second list e =
       λ leads. e ∙ ap verdict_status (exact.1 leads),
     )
 
+meant_told : {T F : Type 0} (files : Option Files) (refusal : F → Refusal) (read : Result T F) → (meant refusal read).EachFile (IsTold files)
+meant_told files refusal (Ok thing) = tt
+meant_told files refusal (Err fault) = tt
+
+unless_told : {T F : Type 0} (files : Option Files) (refusal : F → Refusal) (fault : Option F) (thing : T)
+    → (pass_unless refusal fault thing).EachFile (IsTold files)
+unless_told files refusal None thing = tt
+unless_told files refusal (Some fault) thing = tt
+
+walks_told : (files : Option Files) (mesh : FaceList) (read : Result (List (List ℕ)) WalkFault)
+    → (meant Walks read >>= (λ walks. pass_unless Pair (pair_fault mesh walks) walks)).EachFile (IsTold files)
+walks_told files mesh read = (meant_told files Walks read, λ walks _. unless_told files Pair (pair_fault mesh walks) walks)
+
+list_told : (files : Option Files) (read : Option (Result PeakedMoves CertFault)) → (list_meant read).EachFile (IsTold files)
+list_told files None = tt
+list_told files (Some read) = meant_told files Certificate read
+
 -- each file that such words look at is told
 told_input : (held_files : Option Files) (words : List (List ℕ)) (mesh : FaceList) (first second : List ℕ) (list : PeakedMoves)
     → IsVerifyInput held_files words mesh first second list → AllTold held_files words
@@ -163,10 +147,13 @@ told_input files words mesh first second list input = (
   tt,
   λ row is.
       subst (λ (r : Row). (answer_to files r).EachFile (IsTold files)) (one_row words (Verify input.mesh_name input.walks_name input.list_name) row input.words_are is) (
-        ((held files input.mesh_name (IsPlainMesh mesh) input.mesh_file).told, λ _ _. tt),
+        ((held files input.mesh_name (SpellsMesh mesh) input.mesh_file).told, λ bytes _. meant_told files Off (meaning_of bytes)),
         λ faces _. (
-          ((held files input.walks_name (IsPlainPair mesh first second) input.walks_file).told, λ _ _. tt),
-          λ pair _. (((held files input.list_name (IsPlainList list) input.list_file).told, λ _ _. tt), λ _ _. tt),
+          ((held files input.walks_name (SpellsPair mesh first second) input.walks_file).told, λ bytes _. walks_told files faces (walks_of bytes)),
+          λ pair _. (
+            ((held files input.list_name (SpellsList list) input.list_file).told, λ bytes _. list_told files (list_of_text bytes)),
+            λ _ _. tt,
+          ),
         ),
       ),
 )
@@ -175,17 +162,29 @@ told_input files words mesh first second list input = (
 verdict_outcome : (files : Option Files) (words : List (List ℕ)) (mesh : FaceList) (first second : List ℕ) (list : PeakedMoves)
     → IsVerifyInput files words mesh first second list → IsOutcome files words (Pass (Judged (verdict_of mesh first second list)))
 verdict_outcome files words mesh first second list input =
-    let mesh_file = held files input.mesh_name (IsPlainMesh mesh) input.mesh_file in
-    let walks_file = held files input.walks_name (IsPlainPair mesh first second) input.walks_file in
-    let list_file = held files input.list_name (IsPlainList list) input.list_file in
-    let pair : List ℕ × List ℕ = (first, second) in
+    let mesh_file = held files input.mesh_name (SpellsMesh mesh) input.mesh_file in
+    let walks_file = held files input.walks_name (SpellsPair mesh first second) input.walks_file in
+    let list_file = held files input.list_name (SpellsList list) input.list_file in
+    let pair : List (List ℕ) = first ∷ second ∷ [] in
+    let spelled = walks_file.holds in
+    let is_pair : IsPair mesh pair =
+    record {
+      first = first;
+      second = second;
+      two = refl;
+      first_walk = spelled.first_walk;
+      second_walk = spelled.second_walk;
+      ends = spelled.ends;
+    } in
+    let no_fault = none_of_pair mesh pair is_pair in
+    let passed = pair_passes files input.walks_name mesh walks_file.bytes pair (walks_file.passes inputs.Walks) spelled.text no_fault in
     inr (
       Verify input.mesh_name input.walks_name input.list_name,
       input.words_are,
       inr (
         mesh,
-        inr (mesh_file.bytes, mesh_file.passes Mesh, mesh_file.holds),
-        inr (pair, inr (walks_file.bytes, walks_file.passes Walks, walks_file.holds), inr (list, inr (list_file.bytes, list_file.passes Certificate, list_file.holds), refl)),
+        inr (mesh_file.bytes, mesh_file.passes inputs.Mesh, rw mesh_file.holds refl),
+        inr (pair, passed, inr (list, inr (list_file.bytes, list_file.passes inputs.Certificate, rw list_file.holds refl), refl)),
       ),
     )
 

@@ -1,9 +1,9 @@
 -- What holds of checks, part by part: no check is without an end, and it has one where the files that it looks at are told.
 use Rattle.std.proofs.Common.{◌≡◌, ◌⊎◌, inl, inr, ℕ, ◌<◌, ◌≤◌, List, [], length, refl, sym, ap, ◌∙◌, subst, arith}
-use Rattle.std.specs.Prelude.{Option, Some, None, IfSome, IsSome, IsSomeAnd}
+use Rattle.std.specs.Prelude.{Option, Some, None, Result, Ok, Err, IfSome, IsSome, IsSomeAnd}
 use Rattle.std.proofs.lemmas.Bool.{cases_lt}
 use Rattle.surf_io.specs.Files.{Files, file_of}
-use Rattle.homotopy_cli.specs.Checks.{Check, End, Refuse, Pass, Passes, IsTold, Holds, pass, refuse, file, found_or, ◌>>=◌}
+use Rattle.homotopy_cli.specs.Checks.{Check, End, Refuse, Pass, Passes, IsTold, Holds, pass, refuse, file, found_or, meant, pass_unless, ◌>>=◌}
 use Rattle.homotopy_cli.specs.declared.inputs.TheConstants.{MOST_BYTES}
 use Rattle.homotopy_cli.specs.declared.refusal.Input.{Input}
 use Rattle.homotopy_cli.specs.declared.refusal.Refusal.{Refusal}
@@ -61,6 +61,15 @@ sound-found held refusal P one =
       some = λ none. none (Refuse refusal) (λ thing holds. none (Pass thing) holds, refl);
       one = λ _ a b p q. one_found refusal P one a b p q;
     }
+
+pub sound-meant : {T F : Type 0} (held : Option Files) (refusal : F → Refusal) (read : Result T F) → IsSound held (meant refusal read)
+sound-meant held refusal (Ok thing) = sound-pass held thing
+sound-meant held refusal (Err fault) = sound-refuse held (refusal fault)
+
+pub sound-pass_unless : {T F : Type 0} (held : Option Files) (refusal : F → Refusal) (fault : Option F) (thing : T)
+    → IsSound held (pass_unless refusal fault thing)
+sound-pass_unless held refusal None thing = sound-pass held thing
+sound-pass_unless held refusal (Some fault) thing = sound-refuse held (refusal fault)
 
 some_file : (told : Option (List ℕ)) (limit : ℕ) → ((bytes : List ℕ) → IfSome told (λ f. bytes ≡ f) → (limit < length bytes) ⊎ (length bytes ≤ limit) → ⊥)
     → ⊥

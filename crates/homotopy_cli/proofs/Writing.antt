@@ -7,7 +7,7 @@ use Rattle.std.proofs.lemmas.Grind.{flat_map-append}
 use Rattle.surf_io.specs.Bytes.{append_told, Appends, AppendsPrefix}
 use Rattle.surf_io.specs.Calls.{WroteAll, WrotePart}
 use Rattle.surf_io.proofs.Appending.{part_after}
-use Rattle.homotopy_cli.specs.Texts.{line, behind_blank}
+use Rattle.homotopy_cli.specs.Refusals.{line, behind_blank}
 use Rattle.homotopy_cli.specs.Replies.{phrase_text}
 use Rattle.homotopy_cli.specs.declared.line.Phrase.{Phrase}
 

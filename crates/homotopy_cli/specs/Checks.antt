@@ -1,5 +1,5 @@
 -- Checks: what is looked at, one thing after another, up to the first refusal.
-use Rattle.std.specs.Prelude.{◌≡◌, ℕ, ◌<◌, ◌≤◌, ◌⊎◌, List, length, Option, IfSome, IsSome, IsSomeAnd, ⊤}
+use Rattle.std.specs.Prelude.{◌≡◌, ℕ, ◌<◌, ◌≤◌, ◌⊎◌, List, length, Option, None, Some, IfSome, IsSome, IsSomeAnd, Result, Ok, Err, ⊤}
 use Rattle.surf_io.specs.Files.{Files, file_of}
 use Rattle.homotopy_cli.specs.declared.inputs.TheConstants.{MOST_BYTES}
 use Rattle.homotopy_cli.specs.declared.refusal.Input.{Input}
@@ -39,6 +39,16 @@ found_or {T} refusal P = without_files ends
     ends : End T → Type 0
     ends (Refuse given) = ((thing : T) → P thing → ⊥) × (given ≡ refusal)
     ends (Pass thing) = P thing
+
+-- what is meant passes, and a fault in it is refused
+abbrev pub meant : {T F : Type 0} → (F → Refusal) → Result T F → Check T
+meant refusal (Ok thing) = pass thing
+meant refusal (Err fault) = refuse (refusal fault)
+
+-- the thing passes where nothing is wrong with it, and else the fault is refused
+abbrev pub pass_unless : {T F : Type 0} → (F → Refusal) → Option F → T → Check T
+pass_unless refusal None thing = pass thing
+pass_unless refusal (Some fault) thing = refuse (refusal fault)
 
 -- the bytes are those of the file with that name, if the files are told and it is one of them
 abbrev pub Agrees : Option Files → List ℕ → List ℕ → Type 0

@@ -1,10 +1,8 @@
 pub mod Checks
 pub mod Commands
-pub mod PlainWalks
-pub mod PlainMoves
-pub mod Reading
 pub mod Inputs
 pub mod Answers
+pub mod Refusals
 pub mod Texts
 pub mod Statuses
 pub mod Verify

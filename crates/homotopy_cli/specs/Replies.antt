@@ -3,8 +3,9 @@ use Rattle.std.specs.Prelude.{ℕ, List, decimal}
 use Rattle.homotopy_cli.specs.Answers.{Answer}
 use Rattle.homotopy_cli.specs.Checks.{Check, Pass, Passes}
 use Rattle.homotopy_cli.specs.Outcomes.{IsAnswerOf}
+use Rattle.homotopy_cli.specs.Refusals.{refusal_line}
 use Rattle.homotopy_cli.specs.Statuses.{verdict_status}
-use Rattle.homotopy_cli.specs.Texts.{refusal_line, verdict_line}
+use Rattle.homotopy_cli.specs.Texts.{verdict_line}
 use Rattle.homotopy_cli.specs.declared.line.Phrase.{Phrase}
 use Rattle.homotopy_cli.specs.declared.line.Phrase.TheVariants.{Text, Number}
 use Rattle.homotopy_cli.specs.declared.reply.Reply.{Reply}

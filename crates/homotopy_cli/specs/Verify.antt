@@ -5,12 +5,9 @@ use Rattle.surf_model.specs.FaceLists.{FaceList}
 use Rattle.surf_model.specs.Moves.{PeakedMoves, Leads, greatest_darts}
 use Rattle.move_checker.specs.Verdicts.{verdict_of}
 use Rattle.homotopy_cli.specs.Answers.{Answer, Judged}
-use Rattle.off_reader.specs.PlainMesh.{IsPlainMesh}
 use Rattle.homotopy_cli.specs.Checks.{Check, Holds, pass, ◌>>=◌}
 use Rattle.homotopy_cli.specs.Commands.{IsRow, Verify}
-use Rattle.homotopy_cli.specs.Inputs.{mesh_in, pair_in, moves_in}
-use Rattle.homotopy_cli.specs.PlainMoves.{IsPlainList}
-use Rattle.homotopy_cli.specs.PlainWalks.{IsPlainPair}
+use Rattle.homotopy_cli.specs.Inputs.{mesh_in, pair_in, moves_in, walk_at, SpellsMesh, SpellsPair, SpellsList}
 use Rattle.homotopy_cli.specs.Texts.{verdict_line}
 use Rattle.homotopy_cli.specs.Statuses.{verdict_status}
 use Rattle.homotopy_cli.specs.declared.status.Status.{Status}
@@ -24,9 +21,9 @@ pub record IsVerifyInput (held : Option Files) (words : List (List ℕ))
   pub walks_name : List ℕ
   pub list_name : List ℕ
   pub words_are : IsRow words (Verify mesh_name walks_name list_name)
-  pub mesh_file : Holds held mesh_name (IsPlainMesh mesh)
-  pub walks_file : Holds held walks_name (IsPlainPair mesh first second)
-  pub list_file : Holds held list_name (IsPlainList list)
+  pub mesh_file : Holds held mesh_name (SpellsMesh mesh)
+  pub walks_file : Holds held walks_name (SpellsPair mesh first second)
+  pub list_file : Holds held list_name (SpellsList list)
 
 -- What `verify` answers of such an input: the first reason why the list is rejected, with status 1; and `accepted`,
 -- with status 0, exactly where the moves lead from the first walk to the second within the declared peak.
@@ -42,4 +39,4 @@ verify held mesh walks certificate = do
   faces ← mesh_in held mesh
   pair ← pair_in held walks faces
   list ← moves_in held certificate
-  pass (Judged (verdict_of faces pair.0 pair.1 list))
+  pass (Judged (verdict_of faces (walk_at pair 0) (walk_at pair 1) list))

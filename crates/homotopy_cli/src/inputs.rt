@@ -1,21 +1,27 @@
 //! Reading the files that the words name.
-ghost use Rattle.std.specs.Prelude.{◌≡◌, MatchResult, Err};
+ghost use Rattle.std.specs.Prelude.{◌≡◌, ◌⊎◌, MatchResult, Ok, Err};
 ghost use Rattle.surf_io.specs.Calls.{OnlyReads};
 ghost use Rattle.surf_io.specs.Faults.{Rose};
 ghost use Rattle.surf_model.specs.FaceLists.{FaceList};
 ghost use Rattle.surf_model.specs.Edges.{IsTableOf};
+ghost use Rattle.off_reader.specs.OffTexts.{meaning_of};
+ghost use Rattle.off_reader.specs.declared.off_fault.OffFault.{OffFault};
+ghost use Rattle.walk_files.specs.NumberTexts.{walks_of};
+ghost use Rattle.walk_files.specs.declared.fault.WalkFault.{WalkFault};
 ghost use Rattle.homotopy_cli.specs.Checks.{file, Passes};
 ghost use Rattle.homotopy_cli.specs.Inputs.{mesh_in, pair_in, moves_in};
 ghost use Rattle.homotopy_cli.specs.Stops.{Stops};
+ghost use Rattle.homotopy_cli.specs.declared.refusal.Refusal.{Refusal};
+ghost use Rattle.homotopy_cli.specs.declared.stop.Stop.{Stop};
 
 use crate::certificate::read_certificate;
 use crate::refusal::{Input, Refusal};
 use crate::stop::Stop;
-use crate::walks::read_walks;
-use off_reader::read_off;
+use off_reader::mesh::{OffFault, read_off};
 use std::alloc::Global;
 use surf_io::{ReadEnd, Shelf, read_whole};
-use surf_model::{Faces, MoveList, Sides, Walk};
+use surf_model::{Faces, MoveList, Sides};
+use walk_files::{WalkFault, WalkList, check_pair, read_walks};
 
 /// The most bytes that a file may have.
 pub const MOST_BYTES: u64 = 268_435_456;
@@ -47,7 +53,20 @@ pub fn read_mesh<S: Shelf>(alloc: Global, shelf: &mut S, name: &str) -> Result<F
     ensures only_reads { OnlyReads S.held S.faults shelf.old shelf.new }
 {
     let bytes = read_file(alloc, shelf, name, Input::Mesh)?;
-    Ok(read_off(alloc, &bytes)?)
+    mesh_of_bytes(alloc, &bytes)
+}
+
+/// The mesh that the bytes spell.
+fn mesh_of_bytes(alloc: Global, bytes: &[u8]) -> Result<Faces, Stop>
+    ensures end { MatchResult result (λ mesh. meaning_of bytes.now ≡ Ok mesh)
+        (λ stop. (stop ≡ Stop.OutOfMemory) ⊎ ((fault : OffFault) × (meaning_of bytes.now ≡ Err fault)
+        × (stop ≡ Stop.Refused (Refusal.Off fault)))) }
+{
+    match read_off(alloc, bytes) {
+        Ok(mesh) => Ok(mesh),
+        Err(OffFault::OutOfMemory) => Err(Stop::OutOfMemory),
+        Err(fault) => Err(Stop::Refused(Refusal::Off(fault))),
+    }
 }
 
 /// Reads the two walks of the mesh with this table.
@@ -56,15 +75,29 @@ pub fn read_pair<S: Shelf>(
     shelf: &mut S,
     name: &str,
     sides: &Sides,
-) -> Result<(Walk, Walk), Stop>
+) -> Result<WalkList, Stop>
     ensures end { (mesh : FaceList) → IsTableOf mesh sides.now
-        → MatchResult result (λ pair. Passes (pair_in (S.held shelf.old) name.now mesh) (pair.0, pair.1))
-        (Stops (pair_in (S.held shelf.old) name.now mesh)) }
+        → MatchResult result (Passes (pair_in (S.held shelf.old) name.now mesh)) (Stops (pair_in (S.held shelf.old) name.now mesh)) }
     ensures fault { result ≡ Err Stop.ReadFault → Rose (S.faults shelf.old) (S.faults shelf.new) }
     ensures only_reads { OnlyReads S.held S.faults shelf.old shelf.new }
 {
     let bytes = read_file(alloc, shelf, name, Input::Walks)?;
-    Ok(read_walks(alloc, sides, &bytes)?)
+    let walks = walks_of_bytes(alloc, &bytes)?;
+    check_pair(sides, &walks)?;
+    Ok(walks)
+}
+
+/// The walks that the bytes spell.
+fn walks_of_bytes(alloc: Global, bytes: &[u8]) -> Result<WalkList, Stop>
+    ensures end { MatchResult result (λ walks. walks_of bytes.now ≡ Ok walks)
+        (λ stop. (stop ≡ Stop.OutOfMemory) ⊎ ((fault : WalkFault) × (walks_of bytes.now ≡ Err fault)
+        × (stop ≡ Stop.Refused (Refusal.Walks fault)))) }
+{
+    match read_walks(alloc, bytes) {
+        Ok(walks) => Ok(walks),
+        Err(WalkFault::OutOfMemory) => Err(Stop::OutOfMemory),
+        Err(fault) => Err(Stop::Refused(Refusal::Walks(fault))),
+    }
 }
 
 /// Reads the list of moves.
@@ -74,5 +107,5 @@ pub fn read_list<S: Shelf>(alloc: Global, shelf: &mut S, name: &str) -> Result<M
     ensures only_reads { OnlyReads S.held S.faults shelf.old shelf.new }
 {
     let bytes = read_file(alloc, shelf, name, Input::Certificate)?;
-    Ok(read_certificate(alloc, &bytes)?)
+    read_certificate(alloc, &bytes)
 }

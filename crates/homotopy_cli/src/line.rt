@@ -1,7 +1,7 @@
 //! Writing a line.
 ghost use Rattle.std.specs.Prelude.{OnOk, OnErr, map};
 ghost use Rattle.surf_io.specs.Calls.{OnlyWrites, WroteAll, WrotePart};
-ghost use Rattle.homotopy_cli.specs.Texts.{line, behind_blank};
+ghost use Rattle.homotopy_cli.specs.Refusals.{line, behind_blank};
 ghost use Rattle.homotopy_cli.specs.Replies.{phrase_text};
 
 use surf_io::{Failed, Sink, put_natural, write_whole};

@@ -6,8 +6,8 @@ mod command;
 mod inputs;
 mod laws;
 mod line;
-mod plain;
 mod refusal;
+mod refusal_line;
 mod reply;
 mod run;
 mod status;
@@ -15,7 +15,6 @@ mod stop;
 #[cfg(test)]
 mod tests;
 mod verify;
-mod walks;
 
 use crate::run::run;
 use crate::status::Status;

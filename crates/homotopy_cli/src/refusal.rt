@@ -1,4 +1,6 @@
 //! Why an input is refused.
+use off_reader::mesh::OffFault;
+use walk_files::{CertFault, PairFault, WalkFault};
 
 /// A file that a command reads, by what it is to be.
 #[derive(Clone, Copy, Debug, PartialEq, Eq)]
@@ -11,7 +13,7 @@ pub enum Input {
     Certificate,
 }
 
-/// Why an input is refused, in the order in which things are looked at.
+/// Why an input is refused. A fault of want of memory never stands here.
 #[derive(Clone, Copy, Debug, PartialEq, Eq)]
 pub enum Refusal {
     /// The words are no command.
@@ -20,4 +22,12 @@ pub enum Refusal {
     NotBuilt,
     /// A file has too many bytes.
     TooLarge(Input),
+    /// The mesh is not spelled as it should be.
+    Off(OffFault),
+    /// The walks are not spelled as they should be.
+    Walks(WalkFault),
+    /// The walks are not two walks of the mesh with common ends.
+    Pair(PairFault),
+    /// The certificate is not spelled as it should be.
+    Certificate(CertFault),
 }

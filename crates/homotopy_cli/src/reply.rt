@@ -1,12 +1,13 @@
 //! What the program writes.
-ghost use Rattle.std.specs.Prelude.{◌≡◌, ◌⊎◌, ◌≤◌, codes, length, OnOk, OnErr, IfSome};
+ghost use Rattle.std.specs.Prelude.{◌≡◌, ◌⊎◌, ◌≤◌, length, OnOk, OnErr, IfSome};
 ghost use Rattle.surf_io.specs.Calls.{OnlyWrites, WroteAll, WrotePart};
 ghost use Rattle.homotopy_cli.specs.Replies.{reply_text, reply_status};
 ghost use Rattle.homotopy_cli.specs.Statuses.{verdict_status, IsAnswered};
-ghost use Rattle.homotopy_cli.specs.Texts.{input_word, refusal_line, fault_word, verdict_line};
+ghost use Rattle.homotopy_cli.specs.Texts.{fault_word, verdict_line};
 
 use crate::line::{Phrase, put_line};
-use crate::refusal::{Input, Refusal};
+use crate::refusal::Refusal;
+use crate::refusal_line::put_refusal;
 use crate::status::Status;
 use move_checker::{MoveFault, Verdict};
 use surf_io::{Failed, Sink};
@@ -55,37 +56,6 @@ fn put_reply<K: Sink>(out: &mut K, reply: Reply) -> Result<(), Failed>
     match reply {
         Reply::Refused(refusal) => put_refusal(out, refusal),
         Reply::Judged(verdict) => put_verdict(out, verdict),
-    }
-}
-
-fn put_refusal<K: Sink>(out: &mut K, refusal: Refusal) -> Result<(), Failed>
-    ensures ok { OnOk result (WroteAll K.written out.old out.new (refusal_line refusal)) }
-    ensures failed { OnErr result (WrotePart K.written K.faults out.old out.new (refusal_line refusal)) }
-    ensures only_writes { OnlyWrites K.settled K.faults out.old out.new }
-{
-    let refused = Phrase::Text("refused:");
-    match refusal {
-        Refusal::WrongWords => put_line(out, refused, &[Phrase::Text("words")]),
-        Refusal::NotBuilt => put_line(out, refused, &[Phrase::Text("not built")]),
-        Refusal::TooLarge(input) => put_line(
-            out,
-            refused,
-            &[
-                Phrase::Text(word_of_input(input)),
-                Phrase::Text("too large"),
-            ],
-        ),
-    }
-}
-
-/// What the lines call a file.
-fn word_of_input(input: Input) -> &'static str
-    ensures { result.now ≡ input_word input }
-{
-    match input {
-        Input::Mesh => "off",
-        Input::Walks => "walks",
-        Input::Certificate => "certificate",
     }
 }
 

@@ -1,10 +1,9 @@
 //! What stops a command before it has an answer.
 ghost use Rattle.std.specs.Prelude.{◌≡◌};
 
-use crate::plain::PlainFault;
 use crate::refusal::Refusal;
-use off_reader::OffFault;
 use std::alloc::AllocError;
+use walk_files::{CertFault, PairFault};
 
 /// What stops a command before it has an answer.
 #[derive(Clone, Copy, Debug, PartialEq, Eq)]
@@ -37,28 +36,24 @@ impl From<AllocError> for Stop {
     }
 }
 
-impl From<PlainFault> for Stop {
-    ghost use Rattle.homotopy_cli.specs.Stops.{stop_of_plain};
+impl From<PairFault> for Stop {
+    ghost use Rattle.homotopy_cli.specs.declared.refusal.Refusal.TheVariants.{Pair};
+    ghost use Rattle.homotopy_cli.specs.declared.stop.Stop.TheVariants.{Refused};
 
-    ghost from_gives = { λ fault e. e ≡ stop_of_plain fault };
+    ghost from_gives = { λ fault e. e ≡ Refused (Pair fault) };
 
-    fn from(fault: PlainFault) -> Stop {
-        match fault {
-            PlainFault::NotPlain => Stop::Refused(Refusal::NotBuilt),
-            PlainFault::OutOfMemory => Stop::OutOfMemory,
-        }
+    fn from(fault: PairFault) -> Stop {
+        Stop::Refused(Refusal::Pair(fault))
     }
 }
 
-impl From<OffFault> for Stop {
-    ghost use Rattle.homotopy_cli.specs.Stops.{stop_of_off};
+impl From<CertFault> for Stop {
+    ghost use Rattle.homotopy_cli.specs.declared.refusal.Refusal.TheVariants.{Certificate};
+    ghost use Rattle.homotopy_cli.specs.declared.stop.Stop.TheVariants.{Refused};
 
-    ghost from_gives = { λ fault e. e ≡ stop_of_off fault };
+    ghost from_gives = { λ fault e. e ≡ Refused (Certificate fault) };
 
-    fn from(fault: OffFault) -> Stop {
-        match fault {
-            OffFault::NotPlain => Stop::Refused(Refusal::NotBuilt),
-            OffFault::OutOfMemory => Stop::OutOfMemory,
-        }
+    fn from(fault: CertFault) -> Stop {
+        Stop::Refused(Refusal::Certificate(fault))
     }
 }

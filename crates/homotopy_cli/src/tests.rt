@@ -19,21 +19,19 @@ const SIDES: &str = "0 1 2\n0 2\n";
 
 #[derive(Clone, Copy)]
 struct Example {
-    mesh: &'static str,
     walks: &'static str,
     certificate: &'static str,
     text: &'static str,
     status: Status,
 }
 
-const fn on_tetrahedron(
+const fn files(
     walks: &'static str,
     certificate: &'static str,
     text: &'static str,
     status: Status,
 ) -> Example {
     Example {
-        mesh: TETRAHEDRON,
         walks,
         certificate,
         text,
@@ -62,90 +60,112 @@ fn shelf_of(
     Ok(shelf)
 }
 
-#[test]
-fn examples_are_answered(rt: HostRuntime) -> Result<(), AllocError> {
-    let alloc = rt.alloc();
+/// Runs `verify` on the files.
+fn check_verify(
+    rt: &impl Abort,
+    alloc: Global,
+    mesh: &str,
+    wanted: Example,
+) -> Result<(), AllocError> {
     let verify = words(alloc, &["verify", "mesh", "walks", "certificate"])?;
+    let mut shelf = shelf_of(alloc, mesh, wanted.walks, wanted.certificate)?;
+    let mut out = MemorySink::new(alloc, 64);
+    let status = run(alloc, &verify, &mut shelf, &mut out);
+    assert!(rt; status == wanted.status, "{:?}", wanted.certificate);
+    assert!(rt;
+        out.bytes() == wanted.text.as_bytes(),
+        "{:?}",
+        wanted.certificate
+    );
+    Ok(())
+}
+
+#[test]
+fn lists_are_judged(rt: HostRuntime) -> Result<(), AllocError> {
+    let (yes, no) = (Status::Yes, Status::No);
     let examples = [
-        on_tetrahedron(SIDES, "MOVES 1 2\nf 0 0 0 + 2\n", "accepted\n", Status::Yes),
-        on_tetrahedron(
+        files(SIDES, "MOVES 1 2\nf 0 0 0 + 2\n", "accepted\n", yes),
+        files(
             SIDES,
             "MOVES 1 2\nf 0 0 0 - 2\n",
             "rejected: move 1 face\n",
-            Status::No,
+            no,
         ),
-        on_tetrahedron("0 1 2\n0 1 2\n", "MOVES 0 2\n", "accepted\n", Status::Yes),
-        on_tetrahedron(
-            "0 1 2\n0 1 2\n",
-            "MOVES 0 1\n",
-            "rejected: peak\n",
-            Status::No,
-        ),
-        on_tetrahedron(
-            "0\n0 1 0\n",
-            "MOVES 1 2\n+ 0 1\n",
-            "accepted\n",
-            Status::Yes,
-        ),
-        on_tetrahedron(
+        files("0 1 2\n0 1 2\n", "MOVES 0 2\n", "accepted\n", yes),
+        files("0 1 2\n0 1 2\n", "MOVES 0 1\n", "rejected: peak\n", no),
+        files("0\n0 1 0\n", "MOVES 1 2\n+ 0 1\n", "accepted\n", yes),
+        files(
             "0\n0 1 0\n",
             "MOVES 1 1\n+ 0 1\n",
             "rejected: move 1 peak\n",
-            Status::No,
+            no,
         ),
-        on_tetrahedron(
-            SIDES,
-            "MOVES 1 4\n+ 3 0\n",
-            "rejected: move 1 place\n",
-            Status::No,
-        ),
-        on_tetrahedron(
-            SIDES,
-            "MOVES 1 4\n+ 0 0\n",
-            "rejected: move 1 edge\n",
-            Status::No,
-        ),
-        on_tetrahedron(
-            SIDES,
-            "MOVES 1 4\n- 0 1\n",
-            "rejected: move 1 spur\n",
-            Status::No,
-        ),
-        on_tetrahedron(
+        files(SIDES, "MOVES 1 4\n+ 3 0\n", "rejected: move 1 place\n", no),
+        files(SIDES, "MOVES 1 4\n+ 0 0\n", "rejected: move 1 edge\n", no),
+        files(SIDES, "MOVES 1 4\n- 0 1\n", "rejected: move 1 spur\n", no),
+        files(
             SIDES,
             "MOVES 1 4\nf 1 0 1 + 2\n",
             "rejected: move 1 place\n",
-            Status::No,
+            no,
         ),
-        on_tetrahedron(
+        files(
             SIDES,
             "MOVES 1 4\nf 0 4 0 + 2\n",
             "rejected: move 1 face\n",
-            Status::No,
+            no,
         ),
-        on_tetrahedron(SIDES, "MOVES 0 2\n", "rejected: end\n", Status::No),
-        Example {
-            mesh: TORUS,
-            ..on_tetrahedron(
-                "0 1 3\n0 2 3\n",
-                "MOVES 2 2\nf 0 0 0 + 2\nf 0 7 0 + 1\n",
-                "accepted\n",
-                Status::Yes,
-            )
-        },
+        files(SIDES, "MOVES 0 2\n", "rejected: end\n", no),
     ];
     for wanted in &examples {
-        let mut shelf = shelf_of(alloc, wanted.mesh, wanted.walks, wanted.certificate)?;
-        let mut out = MemorySink::new(alloc, 64);
-        let status = run(alloc, &verify, &mut shelf, &mut out);
-        assert!(rt; status == wanted.status, "{:?}", wanted.certificate);
-        assert!(rt;
-            out.bytes() == wanted.text.as_bytes(),
-            "{:?}",
-            wanted.certificate
-        );
+        check_verify(&rt, rt.alloc(), TETRAHEDRON, *wanted)?;
     }
-    Ok(())
+    let across = "MOVES 2 2\nf 0 0 0 + 2\nf 0 7 0 + 1\n";
+    let wanted = files("0 1 3\n0 2 3\n", across, "accepted\n", yes);
+    check_verify(&rt, rt.alloc(), TORUS, wanted)
+}
+
+#[test]
+fn faults_of_the_texts_are_named(rt: HostRuntime) -> Result<(), AllocError> {
+    let no = Status::Refused;
+    let examples = [
+        files("0 x\n0\n", "", "refused: walks line 1 number\n", no),
+        files("0 1\n", "", "refused: walks count 1\n", no),
+        files("0 4\n0\n", "", "refused: walk 1 place 1 vertex\n", no),
+        files("0\n0 0\n", "", "refused: walk 2 place 0 edge\n", no),
+        files("1 0\n2 0\n", "", "refused: walks start\n", no),
+        files(SIDES, "# none\n", "refused: certificate no head\n", no),
+        files(
+            SIDES,
+            "homotopic\nMOVES 1\n",
+            "refused: certificate line 2 bad\n",
+            no,
+        ),
+        files(
+            SIDES,
+            "MOVES 2 2\nf 0 0 0 + 2\n",
+            "refused: certificate line 3 ended\n",
+            no,
+        ),
+        files(
+            SIDES,
+            "MOVES 0 2\n\n+ 0 1\n",
+            "refused: certificate line 3 extra\n",
+            no,
+        ),
+        files(
+            SIDES,
+            "MOVES 0 16000001\n",
+            "refused: certificate line 1 peak\n",
+            no,
+        ),
+        files(SIDES, "different\nLABELS 4\n", "refused: not built\n", no),
+    ];
+    for wanted in &examples {
+        check_verify(&rt, rt.alloc(), TETRAHEDRON, *wanted)?;
+    }
+    let wanted = files(SIDES, "", "refused: off line 3 ended\n", no);
+    check_verify(&rt, rt.alloc(), "OFF\n1 0 0\n", wanted)
 }
 
 /// Runs words of which each file behind the first refusal is absent.
@@ -182,14 +202,14 @@ fn no_file_is_read_behind_a_refusal(rt: HostRuntime) -> Result<(), AllocError> {
         alloc,
         &["verify", "walks", absent, absent],
         SIDES,
-        "refused: not built\n",
+        "refused: off line 2 face\n",
     )?;
     refused(
         &rt,
         alloc,
         &["verify", "mesh", "walks", absent],
         "0 1\n0 2\n",
-        "refused: not built\n",
+        "refused: walks end\n",
     )
 }
 

@@ -31,7 +31,7 @@ pub fn verify<S: Shelf>(
 {
     let faces = read_mesh(alloc, shelf, mesh)?;
     let sides = Sides::build(alloc, &faces)?;
-    let (first, second) = read_pair(alloc, shelf, walks, &sides)?;
+    let pair = read_pair(alloc, shelf, walks, &sides)?;
     let list = read_list(alloc, shelf, certificate)?;
-    Ok(check_moves(alloc, &faces, &sides, &first, &second, &list)?)
+    Ok(check_moves(alloc, &faces, &sides, pair.at(0), pair.at(1), &list)?)
 }

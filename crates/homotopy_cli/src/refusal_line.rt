@@ -1,0 +1,164 @@
+//! Writing the line of a refusal.
+ghost use Rattle.std.specs.Prelude.{◌≡◌, OnOk, OnErr, map};
+ghost use Rattle.surf_io.specs.Calls.{OnlyWrites, WroteAll, WrotePart};
+ghost use Rattle.homotopy_cli.specs.Refusals.{refused, refused_at, too_large_line, off_line, numbers_line, place_line, pair_line, certificate_line, refusal_line};
+ghost use Rattle.homotopy_cli.specs.Replies.{phrase_text};
+
+use crate::line::{Phrase, put_line};
+use crate::refusal::{Input, Refusal};
+use off_reader::mesh::OffFault;
+use surf_io::{Failed, Sink};
+use walk_files::{CertFault, PairFault, WalkFault};
+
+/// Writes the line of a refusal.
+pub fn put_refusal<K: Sink>(out: &mut K, refusal: Refusal) -> Result<(), Failed>
+    ensures ok { OnOk result (WroteAll K.written out.old out.new (refusal_line refusal)) }
+    ensures failed { OnErr result (WrotePart K.written K.faults out.old out.new (refusal_line refusal)) }
+    ensures only_writes { OnlyWrites K.settled K.faults out.old out.new }
+{
+    match refusal {
+        Refusal::WrongWords => put_refused(out, &[Phrase::Text("words")]),
+        Refusal::NotBuilt => put_refused(out, &[Phrase::Text("not built")]),
+        Refusal::TooLarge(input) => put_too_large(out, input),
+        Refusal::Off(fault) => put_off_fault(out, fault),
+        Refusal::Walks(fault) => put_numbers_fault(out, "walks", fault),
+        Refusal::Pair(fault) => put_pair_fault(out, fault),
+        Refusal::Certificate(fault) => put_certificate_fault(out, fault),
+    }
+}
+
+fn put_refused<K: Sink>(out: &mut K, phrases: &[Phrase]) -> Result<(), Failed>
+    ensures ok { OnOk result (WroteAll K.written out.old out.new (refused (map phrase_text phrases.now))) }
+    ensures failed { OnErr result (WrotePart K.written K.faults out.old out.new (refused (map phrase_text phrases.now))) }
+    ensures only_writes { OnlyWrites K.settled K.faults out.old out.new }
+{
+    put_line(out, Phrase::Text("refused:"), phrases)
+}
+
+/// Writes what is at fault in a line of a file.
+fn put_refused_at<K: Sink>(
+    out: &mut K,
+    what: &'static str,
+    line: u64,
+    cause: &'static str,
+) -> Result<(), Failed>
+    ensures ok { OnOk result (WroteAll K.written out.old out.new (refused_at what.now line cause.now)) }
+    ensures failed { OnErr result (WrotePart K.written K.faults out.old out.new (refused_at what.now line cause.now)) }
+    ensures only_writes { OnlyWrites K.settled K.faults out.old out.new }
+{
+    put_refused(
+        out,
+        &[
+            Phrase::Text(what),
+            Phrase::Text("line"),
+            Phrase::Number(line),
+            Phrase::Text(cause),
+        ],
+    )
+}
+
+fn put_too_large<K: Sink>(out: &mut K, input: Input) -> Result<(), Failed>
+    ensures ok { OnOk result (WroteAll K.written out.old out.new (too_large_line input)) }
+    ensures failed { OnErr result (WrotePart K.written K.faults out.old out.new (too_large_line input)) }
+    ensures only_writes { OnlyWrites K.settled K.faults out.old out.new }
+{
+    let large = Phrase::Text("too large");
+    match input {
+        Input::Mesh => put_refused(out, &[Phrase::Text("off"), large]),
+        Input::Walks => put_refused(out, &[Phrase::Text("walks"), large]),
+        Input::Certificate => put_refused(out, &[Phrase::Text("certificate"), large]),
+    }
+}
+
+fn put_off_fault<K: Sink>(out: &mut K, fault: OffFault) -> Result<(), Failed>
+    ensures ok { OnOk result (WroteAll K.written out.old out.new (off_line fault)) }
+    ensures failed { OnErr result (WrotePart K.written K.faults out.old out.new (off_line fault)) }
+    ensures only_writes { OnlyWrites K.settled K.faults out.old out.new }
+{
+    match fault {
+        OffFault::NoCounts => put_refused(out, &[Phrase::Text("off no counts")]),
+        OffFault::BadCounts { line } => put_refused_at(out, "off", line, "counts"),
+        OffFault::UnreadForm { line } => put_refused_at(out, "off", line, "form"),
+        OffFault::BadVertex { line } => put_refused_at(out, "off", line, "vertex"),
+        OffFault::Ended { line } => put_refused_at(out, "off", line, "ended"),
+        OffFault::BadFace { line } => put_refused_at(out, "off", line, "face"),
+        OffFault::IndexRange { line } => put_refused_at(out, "off", line, "index"),
+        OffFault::EqualNeighbours { line } => put_refused_at(out, "off", line, "neighbours"),
+        OffFault::TooMany { line } => put_refused_at(out, "off", line, "many"),
+        OffFault::OutOfMemory => put_refused(out, &[Phrase::Text("off")]),
+    }
+}
+
+fn put_numbers_fault<K: Sink>(
+    out: &mut K,
+    what: &'static str,
+    fault: WalkFault,
+) -> Result<(), Failed>
+    ensures ok { OnOk result (WroteAll K.written out.old out.new (numbers_line what.now fault)) }
+    ensures failed { OnErr result (WrotePart K.written K.faults out.old out.new (numbers_line what.now fault)) }
+    ensures only_writes { OnlyWrites K.settled K.faults out.old out.new }
+{
+    match fault {
+        WalkFault::BadNumber { line } => put_refused_at(out, what, line, "number"),
+        WalkFault::TooLong { line } => put_refused_at(out, what, line, "long"),
+        WalkFault::TooMany { line } => put_refused_at(out, what, line, "many"),
+        WalkFault::OutOfMemory => put_refused(out, &[Phrase::Text(what)]),
+    }
+}
+
+/// Writes what is at fault at a place of a walk.
+fn put_at_place<K: Sink>(
+    out: &mut K,
+    walk: u32,
+    place: u32,
+    cause: &'static str,
+) -> Result<(), Failed>
+    ensures ok { OnOk result (WroteAll K.written out.old out.new (place_line walk place cause.now)) }
+    ensures failed { OnErr result (WrotePart K.written K.faults out.old out.new (place_line walk place cause.now)) }
+    ensures only_writes { OnlyWrites K.settled K.faults out.old out.new }
+{
+    put_refused(
+        out,
+        &[
+            Phrase::Text("walk"),
+            Phrase::Number(walk as u64),
+            Phrase::Text("place"),
+            Phrase::Number(place as u64),
+            Phrase::Text(cause),
+        ],
+    )
+}
+
+fn put_pair_fault<K: Sink>(out: &mut K, fault: PairFault) -> Result<(), Failed>
+    ensures ok { OnOk result (WroteAll K.written out.old out.new (pair_line fault)) }
+    ensures failed { OnErr result (WrotePart K.written K.faults out.old out.new (pair_line fault)) }
+    ensures only_writes { OnlyWrites K.settled K.faults out.old out.new }
+{
+    match fault {
+        PairFault::NotTwo { count } => put_refused(
+            out,
+            &[Phrase::Text("walks count"), Phrase::Number(count)],
+        ),
+        PairFault::NoVertex { walk, place } => put_at_place(out, walk, place, "vertex"),
+        PairFault::NoEdge { walk, place } => put_at_place(out, walk, place, "edge"),
+        PairFault::EndsDiffer { at_start: true } => {
+            put_refused(out, &[Phrase::Text("walks start")])
+        }
+        PairFault::EndsDiffer { at_start: false } => put_refused(out, &[Phrase::Text("walks end")]),
+    }
+}
+
+fn put_certificate_fault<K: Sink>(out: &mut K, fault: CertFault) -> Result<(), Failed>
+    ensures ok { OnOk result (WroteAll K.written out.old out.new (certificate_line fault)) }
+    ensures failed { OnErr result (WrotePart K.written K.faults out.old out.new (certificate_line fault)) }
+    ensures only_writes { OnlyWrites K.settled K.faults out.old out.new }
+{
+    let certificate = "certificate";
+    match fault {
+        CertFault::NoHead => put_refused(out, &[Phrase::Text("certificate no head")]),
+        CertFault::Bad { line } => put_refused_at(out, certificate, line, "bad"),
+        CertFault::Ended { line } => put_refused_at(out, certificate, line, "ended"),
+        CertFault::Extra { line } => put_refused_at(out, certificate, line, "extra"),
+        CertFault::Peak { line } => put_refused_at(out, certificate, line, "peak"),
+    }
+}
