@@ -34,8 +34,8 @@ fn tetrahedron_has_six_edges(rt: HostRuntime) {
     assert!(rt; sides.used(VertexName(3)));
     assert!(rt; !sides.used(VertexName(4)));
     assert!(rt; !sides.used(VertexName(5)));
-    check_number(&rt, &faces, &sides, 5, (4, 9));
-    check_number(&rt, &faces, &sides, 9, (4, 5));
+    check_number(&rt, &faces, &sides, 4, (4, 9));
+    check_number(&rt, &faces, &sides, 9, (4, 4));
 }
 
 #[test]
