@@ -1,6 +1,6 @@
--- Walks with common ends and one canonical word are homotopic: their turn words reach one another, so they read to the same product
+-- Walks with common ends are homotopic exactly where they have one canonical word. From one word to moves: their turn words reach one another, so they read to the same product
 -- of spokes, and the walks are these products.
-use Rattle.std.proofs.Common.{◌≡◌, ◌⊎◌, inl, inr, ℕ, zero, suc, ◌<◌, ◌≤◌, Bool, true, false, ◌&&◌, eqb, List, [], ◌∷◌, ◌++◌, length, get_or, refl, ap, sym, ◌∙◌, subst, arith}
+use Rattle.std.proofs.Common.{◌≡◌, ◌↔◌, ◌⊎◌, inl, inr, ℕ, zero, suc, ◌<◌, ◌≤◌, Bool, true, false, ◌&&◌, eqb, List, [], ◌∷◌, ◌++◌, length, get_or, refl, ap, sym, ◌∙◌, subst, arith}
 use Rattle.std.specs.Prelude.{All, slice_index, IsTrue}
 use Rattle.std.proofs.lemmas.Bool.{cases_Bool}
 use Rattle.std.proofs.lemmas.List.Elements.{All-append, All-nil, All-cons}
@@ -15,16 +15,23 @@ use Rattle.halfedge_map.proofs.EdgeLemmas.{dart_between}
 use Rattle.halfedge_map.proofs.SystemLemmas.{rotation_system}
 use Rattle.turn_words.specs.Canonical.{IsCanonicalOf, IsTurnWord}
 use Rattle.turn_words.specs.Spoke_paths.{turn_word_of}
-use Rattle.turn_words.specs.Hyper_states.{IsHyperWheel}
-use Rattle.turn_words.proofs.Spokes.{turns}
+use Rattle.turn_words.specs.Form_laws.{led}
+use Rattle.turn_words.specs.Hyper_states.{HyperState, IsHyperWheel, BelongsTo, IsEven, empty_state, hyper_next}
+use Rattle.turn_words.specs.Lemmas.Hyper_laws.{hyper_starts, hyper_stays, hyper_there_and_back, hyper_across}
+use Rattle.turn_words.proofs.Unique.{unique}
+use Rattle.turn_words.proofs.Spokes.{turns, canonical}
 use Rattle.tree_cotree.specs.Splits.{SplitView, IsSplit}
 use Rattle.polygon_cut.specs.Polygons.{PolygonView, IsCutFrom, HasPlaces, label_of, place_of}
 use Rattle.polygon_cut.proofs.GroupLemmas.{IsGroup}
-use Rattle.polygon_cut.proofs.LoopLemmas.{IsWay, HasWays, SameLoop, loop_mul, loop_inv, loop_one, loop_of, from_loops}
+use Rattle.polygon_cut.proofs.LoopLemmas.{IsWay, way_walk, HasWays, SameLoop, loop_mul, loop_inv, loop_one, loop_of, from_loops}
 use Rattle.polygon_cut.proofs.TreeWayLemmas.{up, tree_ways}
 use Rattle.polygon_cut.proofs.SpokeLemmas.{Loops, spoke, group_of}
+use Rattle.quad_system.specs.Labellings.{LabellingView}
 use Rattle.quad_system.specs.QuadPaths.{spokes, spokes_by_labels, quad_path}
 use Rattle.quad_system.specs.PolygonLabellings.{labelling_from}
+use Rattle.quad_system.proofs.FoldLemmas.{PutLaws}
+use Rattle.quad_system.proofs.KeepingLemmas.{moves_keep}
+use Rattle.quad_system.proofs.PolygonLabelLemmas.{polygon_good}
 use Rattle.quad_system.proofs.ReadingLemmas.{HasQuads, Within, within_from, read, reached_reads, along_spokes, spokes_read}
 use Rattle.quad_system.proofs.SpokeProductLemmas.{DartSpokes, dart_spokes, polygon_quads, spoke_at, walk_product}
 
@@ -91,7 +98,7 @@ walk_way : (mesh : FaceList) (u : ℕ) (rest : List ℕ) → IsWalk mesh (u ∷ 
 walk_way mesh u rest w = way_from mesh u rest (links mesh (u ∷ rest) w) w.used
 
 -- walks with common ends whose turn words have one canonical word are homotopic
-pub equal_words : (surface : OrientedMesh) (split : SplitView) (polygon : PolygonView) (first second canonical : List ℕ)
+equal_words : (surface : OrientedMesh) (split : SplitView) (polygon : PolygonView) (first second canonical : List ℕ)
     → IsOrientedSurface surface → IsSplit surface split → IsCutFrom surface split polygon → 5 ≤ polygon.degree
     → IsWalk surface.mesh first → IsWalk surface.mesh second → HaveCommonEnds first second
     → IsCanonicalOf polygon.degree (turn_word_of polygon.places (quad_path surface.mesh (labelling_from surface polygon) first)) canonical
@@ -148,3 +155,64 @@ equal_words s split polygon (u ∷ rest) (v ∷ others) canonical o t c five w z
         (subst (λ n. IsCanonicalOf n (turn_word_of polygon.places second) canonical) number g) in
         group.on x a y (walk_product s split o t polygon c some u v rest way)
         (group.on a b y equal (group.turn y b (walk_product s split o t polygon c some u v others along)))
+
+-- homotopic walks have one canonical word: moves keep the state, and its word is canonical
+same_words : (s : OrientedMesh) (split : SplitView) (polygon : PolygonView) (u v : ℕ) (rest others one two : List ℕ)
+    → IsOrientedSurface s → IsSplit s split → IsCutFrom s split polygon → 5 ≤ polygon.degree → IsWay s.mesh u v rest → IsWay s.mesh u v others
+    → IsCanonicalOf polygon.degree (turn_word_of polygon.places (quad_path s.mesh (labelling_from s polygon) (u ∷ rest))) one
+    → IsCanonicalOf polygon.degree (turn_word_of polygon.places (quad_path s.mesh (labelling_from s polygon) (u ∷ others))) two
+    → Homotopic s.mesh (u ∷ rest) (u ∷ others) → one ≡ two
+same_words s split polygon u v rest others one two o t c five way along f g homotopic =
+    let some : 0 < polygon.degree = omega arith in
+    let number : polygon.degree ≡ length polygon.places = sym (c.places some).each_spoke in
+    let own : IsHyperWheel polygon.places = own_wheel (rotations_of s) polygon (c.places some) five in
+    let labelling : LabellingView = labelling_from s polygon in
+    let first : List ℕ = quad_path s.mesh labelling (u ∷ rest) in
+    let second : List ℕ = quad_path s.mesh labelling (u ∷ others) in
+    let laws : PutLaws polygon.places hyper_next (BelongsTo polygon.places) IsEven = record {
+      stays = λ x i b l. hyper_stays.belongs polygon.places x i b l;
+      vertex = λ x i j b e l m. hyper_stays.at_vertex polygon.places x i j b e l m;
+      back = λ x i b l. hyper_there_and_back polygon.places x i b l;
+      quad = λ x a d b e q. hyper_across polygon.places x a d b e q;
+    } in
+    let state : led hyper_next polygon.places empty_state first ≡ led hyper_next polygon.places empty_state second =
+    moves_keep s.mesh labelling hyper_next (BelongsTo polygon.places) IsEven laws o.faces (polygon_good s split polygon o t c some)
+    homotopic.0 (u ∷ rest) (u ∷ others) (way_walk s.mesh u v rest way) homotopic.1 empty_state (hyper_starts.belongs polygon.places own, hyper_starts.at_vertex) in
+    let word : (spokes word : List ℕ) → All (λ i. i < polygon.degree) spokes → IsCanonicalOf polygon.degree (turn_word_of polygon.places spokes) word
+    → word ≡ (led hyper_next polygon.places empty_state spokes).word =
+    λ spokes w below k.
+    let h : All (λ i. i < length polygon.places) spokes = subst (λ n. All (λ i. i < n) spokes) number below in
+    unique (length polygon.places) (turn_word_of polygon.places spokes) w (led hyper_next polygon.places empty_state spokes).word
+    (turns polygon.places spokes own h) (subst (λ n. IsCanonicalOf n (turn_word_of polygon.places spokes) w) number k) (canonical polygon.places spokes own h) in
+    word first one (path_below s split polygon o t c some u v rest way) f ∙ ap (λ (x : HyperState). x.word) state
+    ∙ sym (word second two (path_below s split polygon o t c some u v others along) g)
+
+-- walks with common ends are homotopic exactly where their canonical words are one
+pub one_word : (s : OrientedMesh) (split : SplitView) (polygon : PolygonView) (first second one two : List ℕ)
+    → IsOrientedSurface s → IsSplit s split → IsCutFrom s split polygon → 5 ≤ polygon.degree
+    → IsWalk s.mesh first → IsWalk s.mesh second → HaveCommonEnds first second
+    → IsCanonicalOf polygon.degree (turn_word_of polygon.places (quad_path s.mesh (labelling_from s polygon) first)) one
+    → IsCanonicalOf polygon.degree (turn_word_of polygon.places (quad_path s.mesh (labelling_from s polygon) second)) two
+    → Homotopic s.mesh first second ↔ (one ≡ two)
+one_word s split polygon [] second one two o t c five w z ends f g =
+    let none : 0 < 0 = w.starts in
+    absurd (omega arith)
+one_word s split polygon (u ∷ rest) [] one two o t c five w z ends f g =
+    let none : 0 < 0 = z.starts in
+    absurd (omega arith)
+one_word s split polygon (u ∷ rest) (v ∷ others) one two o t c five w z ends f g = (
+  (λ homotopic.
+      let last : length rest ≡ darts (u ∷ rest) = omega arith in
+      let other_last : length others ≡ darts (v ∷ others) = omega arith in
+      let same_end : slice_index (u ∷ rest) (length rest) ≡ slice_index (v ∷ others) (length others) =
+      ap (slice_index (u ∷ rest)) last ∙ ends.ends ∙ sym (ap (slice_index (v ∷ others)) other_last) in
+      let along : IsWay s.mesh u (slice_index (u ∷ rest) (length rest)) others =
+      subst (λ x. IsWay s.mesh x (slice_index (u ∷ rest) (length rest)) others) (sym ends.starts)
+      (subst (λ x. IsWay s.mesh v x others) (sym same_end) (walk_way s.mesh v others z)) in
+      same_words s split polygon u (slice_index (u ∷ rest) (length rest)) rest others one two o t c five (walk_way s.mesh u rest w) along f
+      (subst (λ x. IsCanonicalOf polygon.degree (turn_word_of polygon.places (quad_path s.mesh (labelling_from s polygon) (x ∷ others))) two) (sym ends.starts) g)
+      (subst (λ x. Homotopic s.mesh (u ∷ rest) (x ∷ others)) (sym ends.starts) homotopic)),
+  (λ same.
+      equal_words s split polygon (u ∷ rest) (v ∷ others) one o t c five w z ends f
+      (subst (IsCanonicalOf polygon.degree (turn_word_of polygon.places (quad_path s.mesh (labelling_from s polygon) (v ∷ others)))) (sym same) g)),
+)

@@ -1,6 +1,6 @@
 //! What holds of good labellings, said of the definitions. A call of one of these functions does nothing; its
 //! contract is the law.
-ghost use Rattle.std.specs.Prelude.{◌≡◌, ℕ, ◌<◌, ◌≤◌, List};
+ghost use Rattle.std.specs.Prelude.{◌≡◌, ◌↔◌, ℕ, ◌<◌, ◌≤◌, List};
 ghost use Rattle.surf_model.specs.FaceLists.{FaceList, IsFaceList};
 ghost use Rattle.surf_model.specs.Walks.{IsWalk, HaveCommonEnds};
 ghost use Rattle.surf_model.specs.Moves.{Homotopic};
@@ -37,16 +37,16 @@ pub fn polygon_labelling_is_good_and_full()
         → IsFull surface.mesh (labelling_from surface polygon) }
 {}
 
-/// What one word proves. On a cut with five sides at least, two walks with common ends are homotopic where their turn
-/// words reach one canonical word: each walk is homotopic to the product of the spokes that it passes, and the steps by
-/// which turn words reach one another do not change that product.
-pub fn equal_words_are_homotopic()
-    ensures { (surface : OrientedMesh) (split : SplitView) (polygon : PolygonView) (first second canonical : List ℕ)
+/// What canonical words decide. On a cut with five sides at least, two walks with common ends are homotopic exactly where
+/// the turn words of their quad paths have one canonical word. Moves keep the word by the fold law; and where the words
+/// are one, each walk is homotopic to the product of the spokes that it passes, which steps on turn words do not change.
+pub fn homotopic_where_the_words_are_one()
+    ensures { (surface : OrientedMesh) (split : SplitView) (polygon : PolygonView) (first second one other : List ℕ)
         → IsOrientedSurface surface → IsSplit surface split → IsCutFrom surface split polygon → 5 ≤ polygon.degree
         → IsWalk surface.mesh first → IsWalk surface.mesh second → HaveCommonEnds first second
         → IsCanonicalOf polygon.degree
-        (turn_word_of polygon.places (quad_path surface.mesh (labelling_from surface polygon) first)) canonical
+        (turn_word_of polygon.places (quad_path surface.mesh (labelling_from surface polygon) first)) one
         → IsCanonicalOf polygon.degree
-        (turn_word_of polygon.places (quad_path surface.mesh (labelling_from surface polygon) second)) canonical
-        → Homotopic surface.mesh first second }
+        (turn_word_of polygon.places (quad_path surface.mesh (labelling_from surface polygon) second)) other
+        → Homotopic surface.mesh first second ↔ (one ≡ other) }
 {}
