@@ -13,3 +13,6 @@ pub use check::check_labelling;
 pub use fault::LabelFault;
 pub use good::GoodLabelling;
 pub use labelling::Labelling;
+
+#[cfg(test)]
+mod tests;

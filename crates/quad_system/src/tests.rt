@@ -1,0 +1,109 @@
+//! The torus of seven vertices, cut open into a square: its labelling, and what is wrong with others.
+use crate::{LabelFault, Labelling, check_labelling};
+use std::alloc::Global;
+use std::process::Abort;
+use surf_model::{FaceName, Faces, Sides, VertexName};
+
+const FACES: [[u32; 3]; 14] = [
+    [0, 1, 3],
+    [1, 2, 4],
+    [2, 3, 5],
+    [3, 4, 6],
+    [4, 5, 0],
+    [5, 6, 1],
+    [6, 0, 2],
+    [0, 3, 2],
+    [1, 4, 3],
+    [2, 5, 4],
+    [3, 6, 5],
+    [4, 0, 6],
+    [5, 1, 0],
+    [6, 2, 1],
+];
+
+const LABELS: [[u32; 3]; 14] = [
+    [0, 0, 0],
+    [3, 0, 2],
+    [0, 0, 2],
+    [0, 1, 1],
+    [2, 2, 2],
+    [2, 1, 2],
+    [0, 0, 0],
+    [0, 0, 0],
+    [0, 1, 0],
+    [0, 2, 2],
+    [0, 1, 2],
+    [1, 1, 1],
+    [2, 2, 2],
+    [0, 0, 3],
+];
+
+fn mesh(alloc: Global, rt: &impl Abort) -> Faces {
+    let mut faces = Faces::new(alloc, 7);
+    for [a, b, c] in FACES {
+        assert!(rt; a < faces.count() && b < faces.count() && c < faces.count());
+        assert!(rt; a != b && b != c && c != a);
+        assert!(rt; faces.total() < 1000);
+        faces
+            .push_slice(&[VertexName(a), VertexName(b), VertexName(c)])
+            .expect(rt, "memory");
+    }
+    faces
+}
+
+/// A labelling of the torus with these places, where the last face may have other labels.
+fn labelling(alloc: Global, rt: &impl Abort, places: &[u32], last: Option<[u32; 3]>) -> Labelling {
+    let mut labelling = Labelling::new(alloc, 4);
+    for (face, labels) in LABELS.iter().enumerate() {
+        let labels = match last {
+            Some(changed) if face == 13 => changed,
+            _ => *labels,
+        };
+        assert!(rt; labelling.faces() < 1000);
+        labelling.push_face(false, &labels).expect(rt, "memory");
+    }
+    for place in places {
+        assert!(rt; labelling.places() < 1000);
+        labelling.push_place(*place).expect(rt, "memory");
+    }
+    labelling
+}
+
+fn fault(alloc: Global, rt: &impl Abort, labelling: Labelling) -> Option<LabelFault> {
+    let faces = mesh(alloc, rt);
+    let sides = Sides::build(alloc, &faces).expect(rt, "memory");
+    check_labelling(alloc, &faces, &sides, labelling).err()
+}
+
+#[test]
+fn the_square_is_good(rt: HostRuntime) {
+    let square = labelling(rt.alloc(), &rt, &[0, 1, 2, 3], None);
+    let faces = mesh(rt.alloc(), &rt);
+    let sides = Sides::build(rt.alloc(), &faces).expect(&rt, "memory");
+    let good = check_labelling(rt.alloc(), &faces, &sides, square).expect(&rt, "a good labelling");
+    assert_eq!(rt; good.wheel().degree(), 4);
+    assert_eq!(rt; good.labelling().degree(), 4);
+    let back = good.into_labelling();
+    assert_eq!(rt; back.faces(), 14);
+    assert_eq!(rt; back.corners(FaceName(13)), 3);
+    assert!(rt; !back.flipped(FaceName(13)));
+}
+
+#[test]
+fn other_labellings_are_refused(rt: HostRuntime) {
+    let alloc = rt.alloc();
+    let short = labelling(alloc, &rt, &[0, 1, 2], None);
+    assert_eq!(rt; fault(alloc, &rt, short), Some(LabelFault::Shape));
+    let turned = labelling(alloc, &rt, &[3, 2, 1, 0], None);
+    assert_eq!(rt;
+        fault(alloc, &rt, turned),
+        Some(LabelFault::Degree { degree: 4 })
+    );
+    // The edge of 1 and 6 is a leftover edge, of which the last face has a side.
+    let changed = labelling(alloc, &rt, &[0, 1, 2, 3], Some([0, 0, 2]));
+    let edge = LabelFault::EdgeRule {
+        low: VertexName(1),
+        high: VertexName(2),
+    };
+    assert_eq!(rt; fault(alloc, &rt, changed), Some(edge));
+}
