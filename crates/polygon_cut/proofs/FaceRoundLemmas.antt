@@ -82,6 +82,7 @@ end_is s f t d n = by (is_flipped s.signs f) refl
   where
     m : ℕ
     m = length (face_at s.mesh f)
+
     by : (b : Bool) → is_flipped s.signs f ≡ b → end_corner_of s d ≡ next_corner (not (is_flipped s.signs f)) m (start_corner_of s d)
     by false e = end_kept s f t d n e ∙ sym (ap (λ b. next_corner (not b) m (start_corner_of s d)) e ∙ ap (next_corner true m) (start_kept s f t d n e))
     by true e =
@@ -205,6 +206,7 @@ boundary s o d l =
     twice_not : (b : Bool) → not (not b) ≡ b
     twice_not true = refl
     twice_not false = refl
+
     append_none : (xs : List ℕ) → xs ++ [] ≡ xs
     append_none [] = refl
     append_none (x ∷ xs) = ap (λ (w : List ℕ). x ∷ w) (append_none xs)

@@ -56,6 +56,7 @@ inverse_of_product Same mul inv one g x y =
     inner : Same (mul (inv x) (mul x y)) y
     inner = g.on (mul (inv x) (mul x y)) (mul (mul (inv x) x) y) y (g.turn (mul (mul (inv x) x) y) (mul (inv x) (mul x y)) (g.associates (inv x) x y))
         (g.on (mul (mul (inv x) x) y) (mul one y) y (g.mul_same (mul (inv x) x) one y y (g.cancels_back x) (g.itself y)) (g.one_left y))
+
     product : Same (mul (mul (inv y) (inv x)) (mul x y)) one
     product = g.on (mul (mul (inv y) (inv x)) (mul x y)) (mul (inv y) (mul (inv x) (mul x y))) one (g.associates (inv y) (inv x) (mul x y))
         (g.on (mul (inv y) (mul (inv x) (mul x y))) (mul (inv y) y) one (g.mul_same (inv y) (inv y) (mul (inv x) (mul x y)) y (g.itself (inv y)) inner) (g.cancels_back y))

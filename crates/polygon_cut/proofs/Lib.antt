@@ -8,3 +8,5 @@ pub mod ValueLemmas
 pub mod TreeWayLemmas
 pub mod FaceRoundLemmas
 pub mod SpokeLemmas
+pub mod WalkLemmas
+pub mod SphereLemmas

@@ -97,9 +97,11 @@ behind mesh u v rest more others h k = go u rest h
     front_of : (x : ℕ) (way : List ℕ) → IsWay mesh x v way → (front : List ℕ) × ((y : List ℕ) → x ∷ (way ++ y) ≡ front ++ (v ∷ y))
     front_of x [] w = ([], λ y. ap (λ z. z ∷ y) w.0)
     front_of x (z ∷ way) w = (let f = front_of z way w.1 in (x ∷ f.0, λ y. ap (λ (l : List ℕ). x ∷ l) (f.1 y)))
+
     nil : (xs : List ℕ) → xs ++ [] ≡ xs
     nil [] = refl
     nil (x ∷ xs) = ap (λ (l : List ℕ). x ∷ l) (nil xs)
+
     go : (x : ℕ) (way : List ℕ) → IsWay mesh x v way → Homotopic mesh (x ∷ (way ++ more)) (x ∷ (way ++ others))
     go x way w =
         let f = front_of x way w in
@@ -192,8 +194,10 @@ loops_make_a_group mesh root used = record {
   where
     home : (x : Loop mesh root) → IsWay mesh root root (back root x.rest)
     home x = way_home mesh root root x.rest x.is_way
+
     walk_of : (rest : List ℕ) → IsWay mesh root root rest → IsWalk mesh (root ∷ rest)
     walk_of rest h = way_walk mesh root root rest h
+
     mul_same : (a b x y : Loop mesh root) → SameLoop a b → SameLoop x y → SameLoop (loop_mul a x) (loop_mul b y)
     mul_same a b x y h k =
         leads_on mesh (root ∷ (a.rest ++ x.rest)) (root ∷ (b.rest ++ x.rest)) (root ∷ (b.rest ++ y.rest)) (before mesh root a.rest b.rest x.rest h)
@@ -223,18 +227,23 @@ from_loops mesh root up ways u v rest others h k same =
   where
     u_way : IsWay mesh u root (up u)
     u_way = ways.way u (start_used mesh u v rest h)
+
     v_way : IsWay mesh v root (up v)
     v_way = ways.way v (end_used mesh u v rest h)
+
     whole : List ℕ → List ℕ
     whole x = up u ++ ((back u (up u) ++ (x ++ up v)) ++ back v (up v))
+
     whole_way : (x : List ℕ) → IsWay mesh u v x → IsWay mesh u v (whole x)
     whole_way x w =
         way_on mesh u root v (up u) ((back u (up u) ++ (x ++ up v)) ++ back v (up v)) u_way
         (way_on mesh root root v (back u (up u) ++ (x ++ up v)) (back v (up v))
         (way_on mesh root u root (back u (up u)) (x ++ up v) (way_home mesh u root (up u) u_way) (way_on mesh u v root x (up v) w v_way)) (way_home mesh v root (up v) v_way))
+
     across : Homotopic mesh (u ∷ whole rest) (u ∷ whole others)
     across = behind mesh u root (up u) ((back u (up u) ++ (rest ++ up v)) ++ back v (up v)) ((back u (up u) ++ (others ++ up v)) ++ back v (up v)) u_way
         (before mesh root (back u (up u) ++ (rest ++ up v)) (back u (up u) ++ (others ++ up v)) (back v (up v)) same)
+
     contracts : (x : List ℕ) → IsWay mesh u v x → Homotopic mesh (u ∷ whole x) (u ∷ x)
     contracts x w =
         let shape : up u ++ ((back u (up u) ++ (x ++ up v)) ++ back v (up v)) ≡ (up u ++ back u (up u)) ++ (x ++ (up v ++ back v (up v))) = simp append_assoc in

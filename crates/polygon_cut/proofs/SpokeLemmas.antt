@@ -30,11 +30,10 @@ Loops s split t = Loop s.mesh t.parents.root
 
 -- a dart as a way
 pub dart_way : (s : OrientedMesh) → IsOrientedSurface s → (d : ℕ) → d < darts_of s → IsWay s.mesh (origin_of s d) (origin_of s (twin_of s d)) (origin_of s (twin_of s d) ∷ [])
-dart_way s o d l =
-    (
-      edge_of_dart s o (origin_of s d) (origin_of s (twin_of s d)) d (record { within = l; starts = refl; ends = refl }),
-      (refl, (names_all s o).vertex_used (twin_of s d) ((rotation_system s o).twin_within d l)),
-    )
+dart_way s o d l = (
+  edge_of_dart s o (origin_of s d) (origin_of s (twin_of s d)) d (record { within = l; starts = refl; ends = refl }),
+  (refl, (names_all s o).vertex_used (twin_of s d) ((rotation_system s o).twin_within d l)),
+)
 
 -- the value of a dart
 pub pick_value : (s : OrientedMesh) (split : SplitView) → IsOrientedSurface s → (t : IsSplit s split) → (d : ℕ) → (d < darts_of s) ⊎ (darts_of s ≤ d) → Loops s split t
@@ -93,7 +92,7 @@ value_twin s split o t d l =
         (t.parents.root ∷ (back (origin_of s (twin_of s d)) (up s split t (origin_of s (twin_of s d))) ++ ((y ∷ []) ++ up s split t y)))) e h
 
 -- tree darts are nothing
-value_tree : (s : OrientedMesh) (split : SplitView) (o : IsOrientedSurface s) (t : IsSplit s split) (d : ℕ) → d < darts_of s → in_tree split (edge_of s d) ≡ true
+pub value_tree : (s : OrientedMesh) (split : SplitView) (o : IsOrientedSurface s) (t : IsSplit s split) (d : ℕ) → d < darts_of s → in_tree split (edge_of s d) ≡ true
     → SameLoop (value s split o t d) (loop_one s.mesh t.parents.root t.parents.root_used)
 value_tree s split o t d l is =
     let r : IsRotationSystem (rotations_of s) = rotation_system s o in
@@ -169,7 +168,7 @@ round_is s split o t (suc k) d l v way =
         (t.parents.root ∷ (value s split o t d).rest)) e h
 
 -- round a whole face the values make nothing
-face_rounds : (s : OrientedMesh) (split : SplitView) (o : IsOrientedSurface s) (t : IsSplit s split) (d : ℕ) → d < darts_of s
+pub face_rounds : (s : OrientedMesh) (split : SplitView) (o : IsOrientedSurface s) (t : IsSplit s split) (d : ℕ) → d < darts_of s
     → WholeRound SameLoop loop_mul (loop_one s.mesh t.parents.root t.parents.root_used) (value s split o t) (next_of s) d
 face_rounds s split o t d l =
     let r : IsRotationSystem (rotations_of s) = rotation_system s o in
@@ -221,8 +220,10 @@ surface_valued s split o t polygon c some = record {
   where
     last_is : (i : ℕ) → i + 1 ≡ polygon.degree → i ≡ polygon.degree - 1
     last_is i e = omega arith
+
     unfolded : (i : ℕ) → SameLoop (quotient loop_mul loop_inv (spoke s split o t polygon i) (loop_mul (loop_inv (value s split o t (side_at polygon i))) (spoke s split o t polygon i))) (value s split o t (side_at polygon i))
     unfolded i = one_step SameLoop loop_mul loop_inv (loop_one s.mesh t.parents.root t.parents.root_used) (group_of s split t) (value s split o t (side_at polygon i)) (spoke s split o t polygon i)
+
     left : (d : ℕ) → d < darts_of s → is_left split (edge_of s d) ≡ true → (d ≡ side_at polygon (polygon.degree - 1) → ⊥)
         → SameLoop (value s split o t d) (by_labels loop_mul loop_inv (spoke s split o t polygon) (label_of polygon) (next_of s) d)
     left d l is other =

@@ -118,8 +118,10 @@ image_count f bound below (suc n) once =
   where
     new : ℕ → Bool
     new e = any_below (λ v. hits (f v) e) (suc n)
+
     old : ℕ → Bool
     old e = any_below (λ v. hits (f v) e) n
+
     go : (o : Option ℕ) → f n ≡ o → count_below old bound ≡ count_below (λ v. is_some (f v)) n → count_below new bound ≡ count_below (λ v. is_some (f v)) (suc n)
     go None is before =
         let count : count_below (λ v. is_some (f v)) (suc n) ≡ count_below (λ v. is_some (f v)) n + 0 = ap (λ o. count_below (λ v. is_some (f v)) n + cond (is_some o) 1 0) is in
@@ -160,6 +162,7 @@ edge_up_is s split v e h = by (parent_dart split v) refl h
     lift : Option ℕ → Option ℕ
     lift None = None
     lift (Some d) = Some ((rotations_of s).edge d)
+
     by : (o : Option ℕ) → parent_dart split v ≡ o → edge_up s split v ≡ Some e → (d : ℕ) × (parent_dart split v ≡ Some d) × ((rotations_of s).edge d ≡ e)
     by None is k = (let none : None ≡ Some e = rw is at k in cc)
     by (Some d) is k = (let one : Some ((rotations_of s).edge d) ≡ Some e = rw is at k in let same : (rotations_of s).edge d ≡ e = cc in (d, is, same))
@@ -210,12 +213,13 @@ has_parent s split o t =
   where
     at_root : is_some (edge_up s split t.parents.root) ≡ false
     at_root = let none : parent_dart split t.parents.root ≡ None = (t.parents.none t.parents.root (root_below s split o t)).1 (inl refl) in rw none refl
+
     others : (v : ℕ) → v < s.mesh.count → v ≢ t.parents.root → is_used s.mesh v ≡ is_some (edge_up s split v)
     others v l ne = by (parent_dart split v) refl
       where
         by : (p : Option ℕ) → parent_dart split v ≡ p → is_used s.mesh v ≡ is_some (edge_up s split v)
         by None is =
-            let off : is_used s.mesh v ≡ false = elim ((t.parents.none v l).0 is) [ | inl root ↦ absurd (ne root) | inr unused ↦ unused ] in
+            let off : is_used s.mesh v ≡ false = elim ((t.parents.none v l).0 is) [ inl root ↦ absurd (ne root) | inr unused ↦ unused ] in
             off ∙ sym (rw is refl)
         by (Some d) is = used_at s split o t v d is ∙ sym (rw is refl)
 

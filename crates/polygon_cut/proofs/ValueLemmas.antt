@@ -101,16 +101,18 @@ depth_bound : (s : OrientedMesh) (split : SplitView) → IsOrientedSurface s →
 depth_bound s split o t zero l = (0, λ f k path p. absurd (omega arith))
 depth_bound s split o t (suc n) l =
     let before = depth_bound s split o t n (omega arith) in
-    let own = t.child_faces.to_root n (omega arith) in
-    (before.0 + length own.0, λ f k path p. elim (cases_lt f n) [
-      | inl less ↦ (let few : length path ≤ before.0 = before.1 f less path p in omega arith)
-      | inr more ↦
-          let same : f ≡ n = omega arith in
-          let here : IsPath (StepsUp (rotations_of s) split) f own.0 split.root_face =
-          subst (λ x. IsPath (StepsUp (rotations_of s) split) x own.0 split.root_face) (sym same) own.1 in
-          let long : length path ≡ length own.0 = one_length s split o t f path own.0 p here in
-          omega arith
-    ])
+    let own = t.child_faces.to_root n (omega arith) in (
+      before.0 + length own.0,
+      λ f k path p. elim (cases_lt f n) [
+        | inl less ↦ (let few : length path ≤ before.0 = before.1 f less path p in omega arith)
+        | inr more ↦
+            let same : f ≡ n = omega arith in
+            let here : IsPath (StepsUp (rotations_of s) split) f own.0 split.root_face =
+            subst (λ x. IsPath (StepsUp (rotations_of s) split) x own.0 split.root_face) (sym same) own.1 in
+            let long : length path ≡ length own.0 = one_length s split o t f path own.0 p here in
+            omega arith
+      ],
+    )
 
 -- What is known of the values of a surface's darts: twins have inverse values, each face has the value one, tree darts have it, and
 -- leftover darts have the value of their labels, but for the last side, which lies in the root face.
@@ -184,10 +186,13 @@ plain_value {X = X} Same mul inv one g s split val spoke label last o t v edge_i
   where
     maps : Rotations
     maps = rotations_of s
+
     edge : ℕ
     edge = (rotations_of s).edge d
+
     want : X
     want = by_labels mul inv spoke label (rotations_of s).next d
+
     by_kind : (a b c : Bool) → OneOfThree a b c → in_tree split edge ≡ a → in_cotree split edge ≡ b → is_left split edge ≡ c → Same (val d) want
     by_kind a b c tree_one p q w =
         let stays : label (maps.next d) ≡ label d = v.of_tree d l p in
@@ -250,6 +255,7 @@ parents_known Same mul inv one gr s split val spoke label last o t v edge_in fac
   where
     no_root : f ≡ split.root_face → ⊥
     no_root same = no_step_from_root s split t g (subst (λ y. StepsUp (rotations_of s) split y g) same (d, step))
+
     no_loop : (q : List ℕ) → IsPath (StepsUp (rotations_of s) split) f q split.root_face → (e : ℕ) → IsStepUp (rotations_of s) split f f e → ⊥
     no_loop [] q e loop = no_root q
     no_loop (h ∷ rest) q e loop =
@@ -257,6 +263,7 @@ parents_known Same mul inv one gr s split val spoke label last o t v edge_in fac
         let rest_path : IsPath (StepsUp (rotations_of s) split) f rest split.root_face = subst (λ y. IsPath (StepsUp (rotations_of s) split) y rest split.root_face) same q.1 in
         let long : suc (length rest) ≡ length rest = one_length s split o t f (h ∷ rest) rest q rest_path in
         omega arith
+
     no_own : (x : ℕ) → {h : ℕ} → IsStepUp (rotations_of s) split h ((rotations_of s).face ((rotations_of s).twin x)) x → x < darts_of s → (rotations_of s).face x ≡ f → x ≢ d → ⊥
     no_own x {h} own x_in x_face ne =
         let r : IsRotationSystem (rotations_of s) = rotation_system s o in

@@ -1,6 +1,8 @@
 //! What holds of every polygon cut from a surface, said of the definitions. A call of one of these functions does
 //! nothing; its contract is the law.
-ghost use Rattle.std.specs.Prelude.{◌≡◌, ℕ, ◌+◌, ◌<◌, true};
+ghost use Rattle.std.specs.Prelude.{◌≡◌, ℕ, ◌+◌, ◌<◌, true, List};
+ghost use Rattle.surf_model.specs.Walks.{IsWalk, HaveCommonEnds};
+ghost use Rattle.surf_model.specs.Moves.{Homotopic};
 ghost use Rattle.halfedge_map.specs.Orbits.{IsReached};
 ghost use Rattle.halfedge_map.specs.OrientedMeshes.{OrientedMesh, IsOrientedSurface};
 ghost use Rattle.halfedge_map.specs.DartMaps.{darts_of, twin_of, edge_of};
@@ -34,4 +36,11 @@ pub fn places_turn_round_the_vertex()
     ensures four { (surface : OrientedMesh) (split : SplitView) (polygon : PolygonView) (spoke : ℕ) → IsOrientedSurface surface
         → IsSplit surface split → IsCutFrom surface split polygon → polygon.degree ≡ 4 → spoke < 4
         → place_of polygon (one_up 4 spoke) ≡ one_up 4 (place_of polygon spoke) }
+{}
+
+/// On a sphere, where nothing is left over, any two walks with common ends are homotopic.
+pub fn walks_on_a_sphere_are_homotopic()
+    ensures { (surface : OrientedMesh) (split : SplitView) (first second : List ℕ) → IsOrientedSurface surface
+        → IsSplit surface split → split.genus ≡ 0 → IsWalk surface.mesh first → IsWalk surface.mesh second
+        → HaveCommonEnds first second → Homotopic surface.mesh first second }
 {}

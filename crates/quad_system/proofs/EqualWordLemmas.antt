@@ -5,9 +5,8 @@ use Rattle.std.specs.Prelude.{All, slice_index, IsTrue}
 use Rattle.std.proofs.lemmas.Bool.{cases_Bool}
 use Rattle.std.proofs.lemmas.List.Elements.{All-append, All-nil, All-cons}
 use Rattle.surf_model.specs.FaceLists.{FaceList, is_used}
-use Rattle.surf_model.specs.Walks.{IsWalk, HaveCommonEnds, darts}
+use Rattle.surf_model.specs.Walks.{IsWalk, HaveCommonEnds}
 use Rattle.surf_model.specs.Moves.{Homotopic}
-use Rattle.surf_model.proofs.LinkLemmas.{Linked, links}
 use Rattle.halfedge_map.specs.OrientedMeshes.{OrientedMesh, IsOrientedSurface}
 use Rattle.halfedge_map.specs.DartMaps.{darts_of, next_of, twin_of, origin_of}
 use Rattle.halfedge_map.specs.RotationSystems.{Rotations, rotations_of}
@@ -24,6 +23,7 @@ use Rattle.tree_cotree.specs.Splits.{SplitView, IsSplit}
 use Rattle.polygon_cut.specs.Polygons.{PolygonView, IsCutFrom, HasPlaces, label_of, place_of}
 use Rattle.polygon_cut.proofs.GroupLemmas.{IsGroup}
 use Rattle.polygon_cut.proofs.LoopLemmas.{IsWay, way_walk, HasWays, SameLoop, loop_mul, loop_inv, loop_one, loop_of, from_loops}
+use Rattle.polygon_cut.proofs.WalkLemmas.{walk_way, other_way}
 use Rattle.polygon_cut.proofs.TreeWayLemmas.{up, tree_ways}
 use Rattle.polygon_cut.proofs.SpokeLemmas.{Loops, spoke, group_of}
 use Rattle.quad_system.specs.Labellings.{LabellingView}
@@ -88,15 +88,6 @@ own_wheel maps polygon h five = record {
   };
 }
 
--- a walk is a way to its last entry
-way_from : (mesh : FaceList) (u : ℕ) (rest : List ℕ) → Linked mesh (u ∷ rest) → All (λ v. IsTrue (is_used mesh v)) (u ∷ rest)
-    → IsWay mesh u (slice_index (u ∷ rest) (length rest)) rest
-way_from mesh u [] h k = (refl, k 0 u (omega arith))
-way_from mesh u (x ∷ rest) h k = (h.0, way_from mesh x rest h.1 (λ i d l. k (suc i) d (omega arith)))
-
-walk_way : (mesh : FaceList) (u : ℕ) (rest : List ℕ) → IsWalk mesh (u ∷ rest) → IsWay mesh u (slice_index (u ∷ rest) (length rest)) rest
-walk_way mesh u rest w = way_from mesh u rest (links mesh (u ∷ rest) w) w.used
-
 -- walks with common ends whose turn words have one canonical word are homotopic
 equal_words : (surface : OrientedMesh) (split : SplitView) (polygon : PolygonView) (first second canonical : List ℕ)
     → IsOrientedSurface surface → IsSplit surface split → IsCutFrom surface split polygon → 5 ≤ polygon.degree
@@ -113,14 +104,7 @@ equal_words s split polygon (u ∷ rest) [] canonical o t c five w z ends f g =
 equal_words s split polygon (u ∷ rest) (v ∷ others) canonical o t c five w z ends f g =
     let some : 0 < polygon.degree = omega arith in
     let way : IsWay s.mesh u (slice_index (u ∷ rest) (length rest)) rest = walk_way s.mesh u rest w in
-    let other : IsWay s.mesh v (slice_index (v ∷ others) (length others)) others = walk_way s.mesh v others z in
-    let last : length rest ≡ darts (u ∷ rest) = omega arith in
-    let other_last : length others ≡ darts (v ∷ others) = omega arith in
-    let same_end : slice_index (u ∷ rest) (length rest) ≡ slice_index (v ∷ others) (length others) =
-    ap (slice_index (u ∷ rest)) last ∙ ends.ends ∙ sym (ap (slice_index (v ∷ others)) other_last) in
-    let along : IsWay s.mesh u (slice_index (u ∷ rest) (length rest)) others =
-    subst (λ x. IsWay s.mesh x (slice_index (u ∷ rest) (length rest)) others) (sym ends.starts)
-    (subst (λ x. IsWay s.mesh v x others) (sym same_end) other) in
+    let along : IsWay s.mesh u (slice_index (u ∷ rest) (length rest)) others = other_way s.mesh u v rest others z ends in
     let same_start : Homotopic s.mesh (u ∷ rest) (u ∷ others) =
     from_loops s.mesh t.parents.root (up s split t) (tree_ways s split o t) u (slice_index (u ∷ rest) (length rest)) rest others way along
     (through s split polygon o t c five u (slice_index (u ∷ rest) (length rest)) rest others canonical way along f
@@ -202,13 +186,7 @@ one_word s split polygon (u ∷ rest) [] one two o t c five w z ends f g =
     absurd (omega arith)
 one_word s split polygon (u ∷ rest) (v ∷ others) one two o t c five w z ends f g = (
   (λ homotopic.
-      let last : length rest ≡ darts (u ∷ rest) = omega arith in
-      let other_last : length others ≡ darts (v ∷ others) = omega arith in
-      let same_end : slice_index (u ∷ rest) (length rest) ≡ slice_index (v ∷ others) (length others) =
-      ap (slice_index (u ∷ rest)) last ∙ ends.ends ∙ sym (ap (slice_index (v ∷ others)) other_last) in
-      let along : IsWay s.mesh u (slice_index (u ∷ rest) (length rest)) others =
-      subst (λ x. IsWay s.mesh x (slice_index (u ∷ rest) (length rest)) others) (sym ends.starts)
-      (subst (λ x. IsWay s.mesh v x others) (sym same_end) (walk_way s.mesh v others z)) in
+      let along : IsWay s.mesh u (slice_index (u ∷ rest) (length rest)) others = other_way s.mesh u v rest others z ends in
       same_words s split polygon u (slice_index (u ∷ rest) (length rest)) rest others one two o t c five (walk_way s.mesh u rest w) along f
       (subst (λ x. IsCanonicalOf polygon.degree (turn_word_of polygon.places (quad_path s.mesh (labelling_from s polygon) (x ∷ others))) two) (sym ends.starts) g)
       (subst (λ x. Homotopic s.mesh (u ∷ rest) (x ∷ others)) (sym ends.starts) homotopic)),

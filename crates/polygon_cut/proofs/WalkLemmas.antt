@@ -1,0 +1,27 @@
+-- Walks as ways: two walks with common ends are ways from one vertex to one vertex.
+use Rattle.std.proofs.Common.{◌≡◌, ℕ, zero, suc, ◌<◌, ◌≤◌, List, [], ◌∷◌, length, refl, ap, sym, ◌∙◌, subst, arith}
+use Rattle.std.specs.Prelude.{All, IsTrue, slice_index}
+use Rattle.surf_model.specs.FaceLists.{FaceList, is_used}
+use Rattle.surf_model.specs.Walks.{IsWalk, HaveCommonEnds, darts}
+use Rattle.surf_model.proofs.LinkLemmas.{Linked, links}
+use Rattle.polygon_cut.proofs.LoopLemmas.{IsWay}
+
+-- a walk is a way to its last entry
+way_from : (mesh : FaceList) (u : ℕ) (rest : List ℕ) → Linked mesh (u ∷ rest) → All (λ v. IsTrue (is_used mesh v)) (u ∷ rest)
+    → IsWay mesh u (slice_index (u ∷ rest) (length rest)) rest
+way_from mesh u [] h k = (refl, k 0 u (omega arith))
+way_from mesh u (x ∷ rest) h k = (h.0, way_from mesh x rest h.1 (λ i d l. k (suc i) d (omega arith)))
+
+pub walk_way : (mesh : FaceList) (u : ℕ) (rest : List ℕ) → IsWalk mesh (u ∷ rest) → IsWay mesh u (slice_index (u ∷ rest) (length rest)) rest
+walk_way mesh u rest w = way_from mesh u rest (links mesh (u ∷ rest) w) w.used
+
+-- so is another walk with the same ends
+pub other_way : (mesh : FaceList) (u v : ℕ) (rest others : List ℕ) → IsWalk mesh (v ∷ others) → HaveCommonEnds (u ∷ rest) (v ∷ others)
+    → IsWay mesh u (slice_index (u ∷ rest) (length rest)) others
+other_way mesh u v rest others w ends =
+    let last : length rest ≡ darts (u ∷ rest) = omega arith in
+    let other_last : length others ≡ darts (v ∷ others) = omega arith in
+    let same_end : slice_index (u ∷ rest) (length rest) ≡ slice_index (v ∷ others) (length others) =
+    ap (slice_index (u ∷ rest)) last ∙ ends.ends ∙ sym (ap (slice_index (v ∷ others)) other_last) in
+    subst (λ x. IsWay mesh x (slice_index (u ∷ rest) (length rest)) others) (sym ends.starts)
+    (subst (λ x. IsWay mesh v x others) (sym same_end) (walk_way mesh v others w))
