@@ -42,7 +42,7 @@ both_below n a b c d l k = elim (cases_Bool (eqb a b && eqb c d)) [
 ]
 
 -- the spokes of a walk are spokes of the wheel
-path_below : (s : OrientedMesh) (split : SplitView) (polygon : PolygonView) → IsOrientedSurface s → IsSplit s split → IsCutFrom s split polygon → 0 < polygon.degree
+pub path_below : (s : OrientedMesh) (split : SplitView) (polygon : PolygonView) → IsOrientedSurface s → IsSplit s split → IsCutFrom s split polygon → 0 < polygon.degree
     → (u v : ℕ) (rest : List ℕ) → IsWay s.mesh u v rest → All (λ i. i < polygon.degree) (quad_path s.mesh (labelling_from s polygon) (u ∷ rest))
 path_below s split polygon o t c some u v [] way = All-nil (λ i. i < polygon.degree)
 path_below s split polygon o t c some u v (w ∷ rest) way =

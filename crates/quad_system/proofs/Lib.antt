@@ -8,3 +8,5 @@ pub mod ReadingLemmas
 pub mod EdgeRuleLemmas
 pub mod SpokeProductLemmas
 pub mod EqualWordLemmas
+pub mod PlaneGroupLemmas
+pub mod FlatWordLemmas

@@ -7,6 +7,8 @@ ghost use Rattle.surf_model.specs.Moves.{Homotopic};
 ghost use Rattle.turn_words.specs.Form_laws.{led};
 ghost use Rattle.turn_words.specs.Canonical.{IsCanonicalOf};
 ghost use Rattle.turn_words.specs.Spoke_paths.{turn_word_of};
+ghost use Rattle.flat_forms.specs.Vectors.{origin};
+ghost use Rattle.flat_forms.specs.Flat_states.{flat_next};
 ghost use Rattle.quad_system.specs.Labellings.{LabellingView};
 ghost use Rattle.quad_system.specs.GoodLabellings.{IsGood};
 ghost use Rattle.quad_system.specs.QuadPaths.{quad_path};
@@ -49,4 +51,15 @@ pub fn homotopic_where_the_words_are_one()
         → IsCanonicalOf polygon.degree
         (turn_word_of polygon.places (quad_path surface.mesh (labelling_from surface polygon) second)) other
         → Homotopic surface.mesh first second ↔ (one ≡ other) }
+{}
+
+/// What the plane decides. On a cut with four sides, two walks with common ends are homotopic exactly where their quad
+/// paths lead the form of the degree 4 from the origin to one point of the plane.
+pub fn homotopic_where_the_points_are_one()
+    ensures { (surface : OrientedMesh) (split : SplitView) (polygon : PolygonView) (first second : List ℕ)
+        → IsOrientedSurface surface → IsSplit surface split → IsCutFrom surface split polygon → polygon.degree ≡ 4
+        → IsWalk surface.mesh first → IsWalk surface.mesh second → HaveCommonEnds first second
+        → Homotopic surface.mesh first second
+        ↔ (led flat_next polygon.places origin (quad_path surface.mesh (labelling_from surface polygon) first)
+        ≡ led flat_next polygon.places origin (quad_path surface.mesh (labelling_from surface polygon) second)) }
 {}
