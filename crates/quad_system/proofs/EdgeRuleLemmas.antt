@@ -38,7 +38,7 @@ sides-swap mesh labelling side other h = record {
 }
 
 -- two elements of a list of two are those of the list
-two-of : {A : Type 0} (xs : List A) (d a b x y : A) → length xs ≡ 2 → get_or xs 0 d ≡ x → get_or xs 1 d ≡ y → Contains xs a → Contains xs b → a ≢ b →
+pub two-of : {A : Type 0} (xs : List A) (d a b x y : A) → length xs ≡ 2 → get_or xs 0 d ≡ x → get_or xs 1 d ≡ y → Contains xs a → Contains xs b → a ≢ b →
     ((a ≡ x) × (b ≡ y)) ⊎ ((a ≡ y) × (b ≡ x))
 two-of [] d a b x y two first second has_a has_b apart = absurd (omega arith)
 two-of (p ∷ []) d a b x y two first second has_a has_b apart = absurd (omega arith)
@@ -55,7 +55,7 @@ two-of (p ∷ q ∷ []) d a b x y two first second (suc (suc k), la, a_is) has_b
 sides-of-edge : (mesh : FaceList) (edge : Edge) → IsEdgeOf mesh edge → length edge.sides ≡ sides_between mesh edge.low edge.high
 sides-of-edge mesh edge h = ap (λ (sides : List Side). length sides) h.sides ∙ length-map (filter (joins edge.low edge.high) (all_sides mesh)) side_name
 
-ends-agree : (t h u v low high : ℕ) → ((t ≡ low) × (h ≡ high)) ⊎ ((t ≡ high) × (h ≡ low)) → ((t ≡ u) × (h ≡ v)) ⊎ ((t ≡ v) × (h ≡ u)) →
+pub ends-agree : (t h u v low high : ℕ) → ((t ≡ low) × (h ≡ high)) ⊎ ((t ≡ high) × (h ≡ low)) → ((t ≡ u) × (h ≡ v)) ⊎ ((t ≡ v) × (h ≡ u)) →
     ((u ≡ low) × (v ≡ high)) ⊎ ((u ≡ high) × (v ≡ low))
 ends-agree t h u v low high first second = grind arith
 
@@ -107,7 +107,7 @@ edge-between mesh table u v h is =
     record { edge = found.0; in_table = found.2; ends = subst (HasEnds u v) (sym at) (both-join u v found.1.low found.1.high any.1 any.4 here) }
 
 -- the ends of an edge of the table form an edge
-table-pair : (mesh : FaceList) (table : List Edge) (k : ℕ) → IsTableOf mesh table → k < length table → is_edge mesh (edge_in table k).low (edge_in table k).high ≡ true
+pub table-pair : (mesh : FaceList) (table : List Edge) (k : ℕ) → IsTableOf mesh table → k < length table → is_edge mesh (edge_in table k).low (edge_in table k).high ≡ true
 table-pair mesh table k h l =
     let edge : Edge = edge_in table k in
     edge_from_table mesh table edge.low edge.high h (k, edge, l, get_or_default table k _ _ l, inl (refl, refl))

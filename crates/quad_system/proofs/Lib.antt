@@ -10,3 +10,4 @@ pub mod SpokeProductLemmas
 pub mod EqualWordLemmas
 pub mod PlaneGroupLemmas
 pub mod FlatWordLemmas
+pub mod SpokeLemmas

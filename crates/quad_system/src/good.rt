@@ -1,8 +1,14 @@
 //! Labellings that were found to be good.
-ghost use Rattle.std.specs.Prelude.{◌≡◌};
+ghost use Rattle.std.specs.Prelude.{◌≡◌, [], ◌∷◌, IsTrue, MatchOption};
+ghost use Rattle.surf_model.specs.FaceLists.{is_edge};
+ghost use Rattle.surf_model.specs.Edges.{IsTableOf};
+ghost use Rattle.quad_system.specs.GoodLabellings.{IsGood};
+ghost use Rattle.quad_system.specs.QuadPaths.{spokes};
 
+use crate::darts::spokes_between;
 use crate::labelling::Labelling;
 use std::marker::Model;
+use surf_model::{Faces, Sides, Spoke, VertexName};
 use turn_words::Wheel;
 
 /// A labelling whose places make a wheel, and that wheel. `check_labelling` makes it of a labelling that is good for a
@@ -45,6 +51,27 @@ impl GoodLabelling {
         ensures { result.now ≡ self.now.places }
     {
         &self.wheel
+    }
+
+    /// The spokes of a dart: none by the tree rule, and else the label at its tail, whose spoke leads to the middle of the
+    /// polygon, and the label at its head, whose spoke leads back.
+    pub fn spokes(
+        &self,
+        faces: &Faces,
+        sides: &Sides,
+        from: VertexName,
+        to: VertexName,
+    ) -> Option<(Spoke, Spoke)>
+        requires table { IsTableOf faces.now sides.now }
+        requires good { IsGood faces.now self.now }
+        requires edge { IsTrue (is_edge faces.now from.0 to.0) }
+        ensures { MatchOption result (spokes faces.now self.now from.0 to.0 ≡ [])
+            (λ pair. spokes faces.now self.now from.0 to.0 ≡ pair.0.0 ∷ pair.1.0 ∷ []) }
+    {
+        let Some(edge) = sides.between(from, to) else {
+            return None;
+        };
+        spokes_between(faces, sides, &self.labelling, edge, from, to)
     }
 
     /// The labelling itself.

@@ -2,6 +2,7 @@
 #![tactic(auto)]
 
 mod check;
+mod darts;
 mod fault;
 mod good;
 mod labelling;

@@ -2,7 +2,7 @@
 use crate::{LabelFault, Labelling, check_labelling};
 use std::alloc::Global;
 use std::process::Abort;
-use surf_model::{FaceName, Faces, Sides, VertexName};
+use surf_model::{FaceName, Faces, Sides, Spoke, VertexName};
 
 const FACES: [[u32; 3]; 14] = [
     [0, 1, 3],
@@ -83,6 +83,14 @@ fn the_square_is_good(rt: HostRuntime) {
     let good = check_labelling(rt.alloc(), &faces, &sides, square).expect(&rt, "a good labelling");
     assert_eq!(rt; good.wheel().degree(), 4);
     assert_eq!(rt; good.labelling().degree(), 4);
+    let (zero, one, two) = (VertexName(0), VertexName(1), VertexName(2));
+    assert!(rt; sides.between(zero, one).is_some());
+    assert_eq!(rt; good.spokes(&faces, &sides, zero, one), None);
+    assert!(rt; sides.between(one, two).is_some() && sides.between(two, one).is_some());
+    let there = Some((Spoke(3), Spoke(0)));
+    assert_eq!(rt; good.spokes(&faces, &sides, one, two), there);
+    let back = Some((Spoke(0), Spoke(3)));
+    assert_eq!(rt; good.spokes(&faces, &sides, two, one), back);
     let back = good.into_labelling();
     assert_eq!(rt; back.faces(), 14);
     assert_eq!(rt; back.corners(FaceName(13)), 3);
