@@ -23,6 +23,7 @@ use Rattle.homotopy_cli.specs.Outcomes.{answer_to, answer_of, IsOutcome, AllTold
 use Rattle.homotopy_cli.specs.Replies.{Replies, reply_status, reply_text}
 use Rattle.homotopy_cli.specs.Statuses.{verdict_status, IsAnswered}
 use Rattle.homotopy_cli.specs.Stops.{Stops}
+use Rattle.homotopy_cli.specs.Surface.{surface_in, surface}
 use Rattle.homotopy_cli.specs.Verify.{verify, IsVerifyInput}
 use Rattle.homotopy_cli.specs.declared.refusal.Input.TheVariants as inputs
 use Rattle.homotopy_cli.specs.declared.refusal.Refusal.{Refusal}
@@ -33,7 +34,9 @@ use Rattle.homotopy_cli.specs.declared.status.Status.{Status}
 use Rattle.homotopy_cli.specs.declared.status.Status.TheVariants.{Yes, WriteFault}
 use Rattle.homotopy_cli.specs.declared.stop.Stop.TheVariants as stops
 use Rattle.homotopy_cli.proofs.Checking.{pair_passes}
+use Rattle.homotopy_cli.proofs.MeshTexts.{mesh_valid}
 use Rattle.homotopy_cli.proofs.Sound.{IsSound, sound-then, sound-pass, sound-refuse, sound-found, sound-meant, sound-pass_unless, sound-file, held}
+use Rattle.homotopy_cli.proofs.Surfaces.{sound-closed}
 
 -- ---- the rows
 
@@ -88,6 +91,12 @@ sound-moves held name = sound-then held _ _ (sound-file held name _) (λ bytes _
 
 -- ---- the commands
 
+sound-surface_in : (held : Option Files) (name : List ℕ) → IsSound held (surface_in held name)
+sound-surface_in held name = sound-then held _ _ (sound-mesh held name) (λ mesh h. sound-closed held mesh (mesh_valid held name mesh h))
+
+sound-surface : (held : Option Files) (name : List ℕ) → IsSound held (surface held name)
+sound-surface held name = sound-then held _ _ (sound-surface_in held name) (λ _ _. sound-refuse held _)
+
 sound-verify : (held : Option Files) (mesh walks certificate : List ℕ) → IsSound held (verify held mesh walks certificate)
 sound-verify held mesh walks certificate =
     sound-then held _ _ (sound-mesh held mesh)
@@ -95,7 +104,7 @@ sound-verify held mesh walks certificate =
     (λ pair _. sound-then held _ _ (sound-moves held certificate) (λ list _. sound-pass held _)))
 
 sound-row : (held : Option Files) (row : Row) → IsSound held (answer_to held row)
-sound-row held (Surface mesh) = sound-refuse held _
+sound-row held (Surface mesh) = sound-surface held mesh
 sound-row held (Decide mesh walks) = sound-refuse held _
 sound-row held (Certify mesh walks) = sound-refuse held _
 sound-row held (Verify mesh walks certificate) = sound-verify held mesh walks certificate

@@ -6,6 +6,7 @@ pub mod Refusals
 pub mod Texts
 pub mod Statuses
 pub mod Verify
+pub mod Surface
 pub mod Outcomes
 pub mod Stops
 pub mod Replies

@@ -5,6 +5,7 @@ use Rattle.homotopy_cli.specs.Answers.{Answer, Outcome}
 use Rattle.homotopy_cli.specs.Checks.{Check, refuse, found_or, IsTold, ◌>>=◌}
 use Rattle.homotopy_cli.specs.Commands.{Row, Surface, Decide, Certify, Verify, Reduce, Trial, IsRow}
 use Rattle.homotopy_cli.specs.Statuses.{status_of}
+use Rattle.homotopy_cli.specs.Surface.{surface}
 use Rattle.homotopy_cli.specs.Texts.{IsText}
 use Rattle.homotopy_cli.specs.Verify.{verify, IsVerified}
 use Rattle.homotopy_cli.specs.declared.refusal.Refusal.TheVariants.{WrongWords, NotBuilt}
@@ -12,7 +13,7 @@ use Rattle.homotopy_cli.specs.declared.status.Status.{Status}
 
 -- the answer to a row of the table of commands
 abbrev pub answer_to : Option Files → Row → Check Answer
-answer_to held (Surface mesh) = refuse NotBuilt
+answer_to held (Surface mesh) = surface held mesh
 answer_to held (Decide mesh walks) = refuse NotBuilt
 answer_to held (Certify mesh walks) = refuse NotBuilt
 answer_to held (Verify mesh walks certificate) = verify held mesh walks certificate

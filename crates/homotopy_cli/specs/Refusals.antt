@@ -1,5 +1,7 @@
 -- The lines of refusals. Each line of the program is a list of phrases, with single blanks between them.
 use Rattle.std.specs.Prelude.{ℕ, Bool, true, false, List, [], ◌∷◌, ◌++◌, codes, decimal, flat_map}
+use Rattle.manifold_check.specs.declared.fault.SurfaceFault.{SurfaceFault}
+use Rattle.manifold_check.specs.declared.fault.SurfaceFault.TheVariants as surfaces
 use Rattle.off_reader.specs.declared.off_fault.OffFault.{OffFault}
 use Rattle.off_reader.specs.declared.off_fault.OffFault.TheVariants as off
 use Rattle.walk_files.specs.declared.fault.CertFault.{CertFault}
@@ -11,7 +13,7 @@ use Rattle.walk_files.specs.declared.pair.PairFault.TheVariants.{NotTwo, NoVerte
 use Rattle.homotopy_cli.specs.declared.refusal.Input.{Input}
 use Rattle.homotopy_cli.specs.declared.refusal.Input.TheVariants as inputs
 use Rattle.homotopy_cli.specs.declared.refusal.Refusal.{Refusal}
-use Rattle.homotopy_cli.specs.declared.refusal.Refusal.TheVariants.{WrongWords, NotBuilt, TooLarge, Off, Walks, Pair, Certificate}
+use Rattle.homotopy_cli.specs.declared.refusal.Refusal.TheVariants.{WrongWords, NotBuilt, TooLarge, Off, NotClosed, Walks, Pair, Certificate}
 
 -- a phrase behind another
 abbrev pub behind_blank : List ℕ → List ℕ
@@ -49,6 +51,16 @@ off_line (off.TooMany number) = refused_at (codes "off") number (codes "many")
 -- never printed
 off_line off.OutOfMemory = refused (codes "off" ∷ [])
 
+-- the first condition of a closed surface that fails, with its least element
+abbrev pub surface_line : SurfaceFault → List ℕ
+surface_line surfaces.NoFace = refused (codes "no face" ∷ [])
+surface_line (surfaces.EdgeSides low high sides) =
+    refused (codes "edge" ∷ decimal low.0 ∷ decimal high.0 ∷ codes "sides" ∷ decimal sides ∷ [])
+surface_line (surfaces.Pinched vertex) = refused (codes "vertex" ∷ decimal vertex.0 ∷ codes "pinched" ∷ [])
+surface_line (surfaces.Apart vertex other) = refused (codes "vertices" ∷ decimal vertex.0 ∷ decimal other.0 ∷ codes "apart" ∷ [])
+-- never printed
+surface_line surfaces.OutOfMemory = refused (codes "surface" ∷ [])
+
 -- the fault of a text of which each line is a list of numbers
 abbrev pub numbers_line : List ℕ → WalkFault → List ℕ
 numbers_line what (walks.BadNumber number) = refused_at what number (codes "number")
@@ -83,6 +95,7 @@ refusal_line WrongWords = refused (codes "words" ∷ [])
 refusal_line NotBuilt = refused (codes "not built" ∷ [])
 refusal_line (TooLarge input) = too_large_line input
 refusal_line (Off fault) = off_line fault
+refusal_line (NotClosed fault) = surface_line fault
 refusal_line (Walks fault) = numbers_line (codes "walks") fault
 refusal_line (Pair fault) = pair_line fault
 refusal_line (Certificate fault) = certificate_line fault

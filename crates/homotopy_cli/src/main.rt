@@ -12,6 +12,7 @@ mod reply;
 mod run;
 mod status;
 mod stop;
+mod surface;
 #[cfg(test)]
 mod tests;
 mod verify;

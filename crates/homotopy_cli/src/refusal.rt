@@ -1,4 +1,5 @@
 //! Why an input is refused.
+use manifold_check::SurfaceFault;
 use off_reader::mesh::OffFault;
 use walk_files::{CertFault, PairFault, WalkFault};
 
@@ -24,6 +25,8 @@ pub enum Refusal {
     TooLarge(Input),
     /// The mesh is not spelled as it should be.
     Off(OffFault),
+    /// The mesh is no closed surface.
+    NotClosed(SurfaceFault),
     /// The walks are not spelled as they should be.
     Walks(WalkFault),
     /// The walks are not two walks of the mesh with common ends.

@@ -1,11 +1,12 @@
 //! Writing the line of a refusal.
 ghost use Rattle.std.specs.Prelude.{◌≡◌, OnOk, OnErr, map};
 ghost use Rattle.surf_io.specs.Calls.{OnlyWrites, WroteAll, WrotePart};
-ghost use Rattle.homotopy_cli.specs.Refusals.{refused, refused_at, too_large_line, off_line, numbers_line, place_line, pair_line, certificate_line, refusal_line};
+ghost use Rattle.homotopy_cli.specs.Refusals.{refused, refused_at, too_large_line, off_line, surface_line, numbers_line, place_line, pair_line, certificate_line, refusal_line};
 ghost use Rattle.homotopy_cli.specs.Replies.{phrase_text};
 
 use crate::line::{Phrase, put_line};
 use crate::refusal::{Input, Refusal};
+use manifold_check::SurfaceFault;
 use off_reader::mesh::OffFault;
 use surf_io::{Failed, Sink};
 use walk_files::{CertFault, PairFault, WalkFault};
@@ -21,6 +22,7 @@ pub fn put_refusal<K: Sink>(out: &mut K, refusal: Refusal) -> Result<(), Failed>
         Refusal::NotBuilt => put_refused(out, &[Phrase::Text("not built")]),
         Refusal::TooLarge(input) => put_too_large(out, input),
         Refusal::Off(fault) => put_off_fault(out, fault),
+        Refusal::NotClosed(fault) => put_surface_fault(out, fault),
         Refusal::Walks(fault) => put_numbers_fault(out, "walks", fault),
         Refusal::Pair(fault) => put_pair_fault(out, fault),
         Refusal::Certificate(fault) => put_certificate_fault(out, fault),
@@ -86,6 +88,45 @@ fn put_off_fault<K: Sink>(out: &mut K, fault: OffFault) -> Result<(), Failed>
         OffFault::EqualNeighbours { line } => put_refused_at(out, "off", line, "neighbours"),
         OffFault::TooMany { line } => put_refused_at(out, "off", line, "many"),
         OffFault::OutOfMemory => put_refused(out, &[Phrase::Text("off")]),
+    }
+}
+
+/// Writes why the mesh is no closed surface.
+fn put_surface_fault<K: Sink>(out: &mut K, fault: SurfaceFault) -> Result<(), Failed>
+    ensures ok { OnOk result (WroteAll K.written out.old out.new (surface_line fault)) }
+    ensures failed { OnErr result (WrotePart K.written K.faults out.old out.new (surface_line fault)) }
+    ensures only_writes { OnlyWrites K.settled K.faults out.old out.new }
+{
+    match fault {
+        SurfaceFault::NoFace => put_refused(out, &[Phrase::Text("no face")]),
+        SurfaceFault::EdgeSides { low, high, sides } => put_refused(
+            out,
+            &[
+                Phrase::Text("edge"),
+                Phrase::Number(low.0 as u64),
+                Phrase::Number(high.0 as u64),
+                Phrase::Text("sides"),
+                Phrase::Number(sides as u64),
+            ],
+        ),
+        SurfaceFault::Pinched { vertex } => put_refused(
+            out,
+            &[
+                Phrase::Text("vertex"),
+                Phrase::Number(vertex.0 as u64),
+                Phrase::Text("pinched"),
+            ],
+        ),
+        SurfaceFault::Apart { vertex, other } => put_refused(
+            out,
+            &[
+                Phrase::Text("vertices"),
+                Phrase::Number(vertex.0 as u64),
+                Phrase::Number(other.0 as u64),
+                Phrase::Text("apart"),
+            ],
+        ),
+        SurfaceFault::OutOfMemory => put_refused(out, &[Phrase::Text("surface")]),
     }
 }
 

@@ -14,6 +14,7 @@ use crate::refusal::Refusal;
 use crate::reply::{Reply, give};
 use crate::status::Status;
 use crate::stop::Stop;
+use crate::surface::read_surface;
 use crate::verify::verify;
 use std::alloc::Global;
 use surf_io::{Shelf, Sink};
@@ -73,8 +74,11 @@ fn find_answer<S: Shelf>(alloc: Global, words: &Vec<String>, shelf: &mut S) -> R
             walks,
             certificate,
         } => Ok(Reply::Judged(verify(alloc, shelf, mesh, walks, certificate)?)),
-        Command::Surface { .. }
-        | Command::Decide { .. }
+        Command::Surface { mesh } => {
+            let _surface = read_surface(alloc, shelf, mesh)?;
+            Err(Stop::Refused(Refusal::NotBuilt))
+        }
+        Command::Decide { .. }
         | Command::Certify { .. }
         | Command::Reduce { .. }
         | Command::Trial { .. } => Err(Stop::Refused(Refusal::NotBuilt)),
