@@ -193,7 +193,7 @@ fn no_file_is_read_behind_a_refusal(rt: HostRuntime) -> Result<(), AllocError> {
     refused(
         &rt,
         alloc,
-        &["surface", absent],
+        &["decide", absent, absent],
         SIDES,
         "refused: not built\n",
     )?;
@@ -211,6 +211,42 @@ fn no_file_is_read_behind_a_refusal(rt: HostRuntime) -> Result<(), AllocError> {
         "0 1\n0 2\n",
         "refused: walks end\n",
     )
+}
+
+/// Two tetrahedra that share vertex 0.
+const PINCHED: &str = "OFF\n7 8 0\n0 0 0\n0 0 0\n0 0 0\n0 0 0\n0 0 0\n0 0 0\n0 0 0\n\
+3 0 1 2\n3 0 3 1\n3 0 2 3\n3 1 3 2\n3 0 4 5\n3 0 6 4\n3 0 5 6\n3 4 6 5\n";
+
+/// Two tetrahedra without a common vertex.
+const APART: &str = "OFF\n8 8 0\n0 0 0\n0 0 0\n0 0 0\n0 0 0\n0 0 0\n0 0 0\n0 0 0\n0 0 0\n\
+3 0 1 2\n3 0 3 1\n3 0 2 3\n3 1 3 2\n3 7 4 5\n3 7 6 4\n3 7 5 6\n3 4 6 5\n";
+
+/// Runs `surface` on the mesh.
+fn check_surface(rt: &impl Abort, alloc: Global, mesh: &str, text: &str) -> Result<(), AllocError> {
+    let surface = words(alloc, &["surface", "mesh"])?;
+    let mut shelf = shelf_of(alloc, mesh, "", "")?;
+    let mut out = MemorySink::new(alloc, 64);
+    let status = run(alloc, &surface, &mut shelf, &mut out);
+    assert!(rt; status == Status::Refused, "{text:?}");
+    assert!(rt; out.bytes() == text.as_bytes(), "{text:?}");
+    Ok(())
+}
+
+#[test]
+fn faults_of_surfaces_are_named(rt: HostRuntime) -> Result<(), AllocError> {
+    let open = "OFF\n4 3 0\n0 0 0\n1 0 0\n0 1 0\n0 0 1\n3 0 1 2\n3 0 3 1\n3 0 2 3\n";
+    let examples = [
+        ("OFF\n0 0 0\n", "refused: no face\n"),
+        ("OFF\n1 0 0\n", "refused: off line 3 ended\n"),
+        (open, "refused: edge 1 2 sides 1\n"),
+        (PINCHED, "refused: vertex 0 pinched\n"),
+        (APART, "refused: vertices 0 4 apart\n"),
+        (TORUS, "refused: not built\n"),
+    ];
+    for (mesh, text) in &examples {
+        check_surface(&rt, rt.alloc(), *mesh, *text)?;
+    }
+    Ok(())
 }
 
 /// A mesh that never ends, and no other file.
