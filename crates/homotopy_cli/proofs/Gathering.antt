@@ -1,5 +1,5 @@
 -- A list of moves, line by line.
-use Rattle.std.proofs.Common.{◌≡◌, ◌⊎◌, inl, inr, ℕ, ◌+◌, ◌-◌, ◌<◌, ◌≤◌, Bool, true, false, List, [], ◌∷◌, ◌++◌, drop, refl, sym, ap, ◌∙◌, subst, arith}
+use Rattle.std.proofs.Common.{◌≡◌, ◌⊎◌, inl, inr, ℕ, ◌<◌, ◌≤◌, Bool, true, false, List, [], ◌∷◌, ◌++◌, refl, sym, ap, ◌∙◌, subst, arith}
 use Rattle.std.specs.Prelude.{◌==◌, nat_lt, if◌then◌else◌, Option, Some, None, Result, Ok, Err, MatchResult, option_map, is_some}
 use Rattle.std.specs.Option.{ok_or}
 use Rattle.std.proofs.lemmas.Bool.Decides.{nat_tests}
@@ -7,8 +7,7 @@ use Rattle.std.proofs.lemmas.List.{append-nil}
 use Rattle.surf_model.specs.Moves.{PeakedMoves}
 use Rattle.surf_model.specs.declared.moves.Move.{Move}
 use Rattle.text_scan.specs.Lines.{Line, full_lines, end_line}
-use Rattle.walk_files.specs.Certificates.{moves_in, moves_of_text, move_of, behind_head, head_of_text, head_among, head_in, first_head, fitting_head, within_peak, fits, answer_of, head_of, list_of_text}
-use Rattle.walk_files.specs.Each.{ok_first}
+use Rattle.walk_files.specs.Certificates.{moves_of_text, move_of, head_of_text, head_among, head_in, first_head, fitting_head, within_peak, fits, answer_of, head_of, list_of_text}
 use Rattle.walk_files.specs.Readers.{Certificate, next_of, unless_refused, started, next_answer, answer_first, after_answer, moves_left, moves_to_come, lines_to_come}
 use Rattle.walk_files.specs.declared.certificate.CertHead.{CertHead}
 use Rattle.walk_files.specs.declared.certificate.CertHead.TheVariants.{Moves, Labels}

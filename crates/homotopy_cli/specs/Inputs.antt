@@ -1,5 +1,5 @@
 -- The checks of the files that a command reads, each with what it passes.
-use Rattle.std.specs.Prelude.{◌≡◌, ℕ, List, [], ◌∷◌, slice_index_or, Option, None, Some, Result, Ok, Err}
+use Rattle.std.specs.Prelude.{◌≡◌, ℕ, List, [], ◌∷◌, slice_index_or, Option, None, Some, Result, Ok}
 use Rattle.surf_io.specs.Files.{Files}
 use Rattle.surf_model.specs.FaceLists.{FaceList}
 use Rattle.surf_model.specs.Moves.{PeakedMoves}

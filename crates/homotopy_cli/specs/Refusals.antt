@@ -1,5 +1,5 @@
 -- The lines of refusals. Each line of the program is a list of phrases, with single blanks between them.
-use Rattle.std.specs.Prelude.{ℕ, Bool, true, false, List, [], ◌∷◌, ◌++◌, codes, decimal, flat_map}
+use Rattle.std.specs.Prelude.{ℕ, true, false, List, [], ◌∷◌, ◌++◌, codes, decimal, flat_map}
 use Rattle.manifold_check.specs.declared.fault.SurfaceFault.{SurfaceFault}
 use Rattle.manifold_check.specs.declared.fault.SurfaceFault.TheVariants as surfaces
 use Rattle.off_reader.specs.declared.off_fault.OffFault.{OffFault}
