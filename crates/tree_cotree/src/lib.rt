@@ -9,3 +9,6 @@ pub mod split;
 
 pub use rings::Rings;
 pub use split::{Kind, Split, split_edges};
+
+#[cfg(test)]
+mod tests;

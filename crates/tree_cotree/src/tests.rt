@@ -1,0 +1,118 @@
+//! The half-edge map, its rings and its split, on small meshes: the tetrahedron, and the torus of seven vertices.
+use crate::{Rings, split_edges};
+use halfedge_map::Surface;
+use manifold_check::check_closed;
+use orientation::orient;
+use std::alloc::Global;
+use std::process::Abort;
+use surf_model::{DartName, EdgeName, FaceName, Faces, Sides, VertexName};
+
+const TETRAHEDRON: [[u32; 3]; 4] = [[0, 1, 2], [0, 3, 1], [0, 2, 3], [1, 3, 2]];
+
+/// The tetrahedron, with its last face listed the other way round.
+const TURNED: [[u32; 3]; 4] = [[0, 1, 2], [0, 3, 1], [0, 2, 3], [1, 2, 3]];
+
+const TORUS: [[u32; 3]; 14] = [
+    [0, 1, 3],
+    [1, 2, 4],
+    [2, 3, 5],
+    [3, 4, 6],
+    [4, 5, 0],
+    [5, 6, 1],
+    [6, 0, 2],
+    [0, 3, 2],
+    [1, 4, 3],
+    [2, 5, 4],
+    [3, 6, 5],
+    [4, 0, 6],
+    [5, 1, 0],
+    [6, 2, 1],
+];
+
+#[test]
+fn darts_of_the_tetrahedron(rt: HostRuntime) {
+    let surface = surface_of(rt.alloc(), &rt, 5, &TETRAHEDRON);
+    assert_eq!(rt; surface.darts(), 12);
+    assert_eq!(rt; surface.vertices(), 4);
+    assert_eq!(rt; surface.euler(), 2);
+    assert_eq!(rt;
+        surface.dart_between(VertexName(0), VertexName(1)),
+        Some(DartName(0))
+    );
+    assert_eq!(rt;
+        surface.dart_between(VertexName(1), VertexName(0)),
+        Some(DartName(5))
+    );
+    assert_eq!(rt; surface.dart_between(VertexName(0), VertexName(4)), None);
+    assert_eq!(rt; surface.next(DartName(0)), DartName(1));
+    assert_eq!(rt; surface.twin(DartName(0)), DartName(5));
+    assert_eq!(rt; surface.face_of(DartName(5)), FaceName(1));
+    assert_eq!(rt; surface.edge_of(DartName(5)), EdgeName(0));
+}
+
+#[test]
+fn darts_of_a_flipped_face(rt: HostRuntime) {
+    let surface = surface_of(rt.alloc(), &rt, 4, &TURNED);
+    assert_eq!(rt; surface.darts(), 12);
+    assert_eq!(rt; surface.origin(DartName(9)), VertexName(2));
+    assert_eq!(rt;
+        surface.dart_between(VertexName(2), VertexName(1)),
+        Some(DartName(9))
+    );
+    assert_eq!(rt; surface.next(DartName(9)), DartName(11));
+}
+
+#[test]
+fn a_sphere_has_no_leftover_edge(rt: HostRuntime) {
+    let surface = surface_of(rt.alloc(), &rt, 4, &TURNED);
+    let split = split_edges(rt.alloc(), &surface).expect(&rt, "memory for the split");
+    assert_eq!(rt; split.genus(), 0);
+}
+
+#[test]
+fn the_torus_has_genus_one(rt: HostRuntime) {
+    let surface = surface_of(rt.alloc(), &rt, 7, &TORUS);
+    assert_eq!(rt; surface.euler(), 0);
+    let split = split_edges(rt.alloc(), &surface).expect(&rt, "memory for the split");
+    assert_eq!(rt; split.genus(), 1);
+}
+
+#[test]
+fn an_edge_put_in_and_out_leaves_the_rings(rt: HostRuntime) {
+    let surface = surface_of(rt.alloc(), &rt, 4, &TETRAHEDRON);
+    let mut rings = Rings::start(rt.alloc(), &surface).expect(&rt, "memory for the rings");
+    assert!(rt; 0 < surface.darts() && 0 < surface.sides().len());
+    let before = rings.after(DartName(0));
+    rings.swap(&surface, EdgeName(0));
+    assert_eq!(rt; rings.after(DartName(0)), surface.next(DartName(0)));
+    rings.swap(&surface, EdgeName(0));
+    assert_eq!(rt; rings.after(DartName(0)), before);
+}
+
+/// The surface of a mesh of triangles.
+fn surface_of(alloc: Global, rt: &impl Abort, count: u32, triangles: &[[u32; 3]]) -> Surface {
+    assert!(rt; count <= 1000);
+    let mut faces = Faces::new(alloc, count);
+    for triangle in triangles {
+        push_triangle(rt, &mut faces, triangle[0], triangle[1], triangle[2]);
+    }
+    let sides = Sides::build(alloc, &faces).expect(rt, "memory for the table");
+    match check_closed(alloc, &faces, &sides) {
+        Ok(()) => {}
+        Err(_) => panic!(rt; "not closed"),
+    }
+    let signs = match orient(alloc, &faces, &sides) {
+        Ok(signs) => signs,
+        Err(_) => panic!(rt; "no signs"),
+    };
+    Surface::build(alloc, faces, sides, signs).expect(rt, "memory for the surface")
+}
+
+fn push_triangle(rt: &impl Abort, faces: &mut Faces, a: u32, b: u32, c: u32) {
+    assert!(rt; a != b && b != c && c != a);
+    assert!(rt; a < faces.count() && b < faces.count() && c < faces.count());
+    assert!(rt; faces.total() < 1000);
+    faces
+        .push_slice(&[VertexName(a), VertexName(b), VertexName(c)])
+        .expect(rt, "memory for a face");
+}
