@@ -1,5 +1,5 @@
 -- Words that are numbers.
-use Rattle.std.specs.Prelude.{ℕ, ◌+◌, ◌-◌, ◌*◌, Bool, true, ◌==◌, ◌&&◌, ◌||◌, nat_le, if◌then◌else◌, List, [], ◌∷◌, ◌++◌, fold, Option, Some, None, option_map, codes, ℤ, pos, neg_ℤ}
+use Rattle.std.specs.Prelude.{ℕ, ◌+◌, ◌-◌, ◌*◌, Bool, true, ◌==◌, ◌&&◌, ◌||◌, nat_le, nat_lt, ◌^◌, if◌then◌else◌, List, [], ◌∷◌, ◌++◌, fold, Option, Some, None, option_map, codes, ℤ, pos, negsuc, neg_ℤ}
 use Rattle.std.specs.List.{list_any, list_all, before_first, after_first}
 use Rattle.std.specs.Str.{bytes_eq}
 use Rattle.text_scan.specs.Lines.{is_filled}
@@ -23,6 +23,11 @@ natural_of word = if is_natural word then Some (value_of word) else None
 abbrev pub signed_of : List ℕ → Option ℤ
 signed_of [] = None
 signed_of (byte ∷ rest) = if byte == 45 then option_map (λ n. neg_ℤ (pos n)) (natural_of rest) else option_map pos (natural_of (byte ∷ rest))
+
+-- whether an integer is one of 64 bits with a sign
+abbrev pub fits_i64 : ℤ → Bool
+fits_i64 (pos n) = nat_lt n (2 ^ 63)
+fits_i64 (negsuc n) = nat_lt n (2 ^ 63)
 
 -- a word without the sign that it may begin with
 abbrev pub unsigned : List ℕ → List ℕ

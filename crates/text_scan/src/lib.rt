@@ -14,7 +14,7 @@ mod scan;
 mod steps;
 
 pub use cursor::Cursor;
-pub use naturals::{NumberFault, is_number_text, natural};
+pub use naturals::{NumberFault, is_number_text, natural, signed};
 pub use scan::{Separator, literal, number, number_then};
 
 #[cfg(test)]

@@ -1,6 +1,6 @@
 //! Words that are numbers.
-ghost use Rattle.std.specs.Prelude.{◌≡◌, ◌^◌, ◌≤◌, ◌++◌, nat_lt, true, false, if◌then◌else◌, MatchOption, position};
-ghost use Rattle.text_scan.specs.Numbers.{is_digit, is_natural, value_of, natural_of, unsigned, is_point, is_exponent_mark, is_decimal, is_unsigned_text, is_number_text};
+ghost use Rattle.std.specs.Prelude.{◌≡◌, ◌^◌, ◌≤◌, ◌++◌, nat_lt, true, false, if◌then◌else◌, MatchOption, option_map, position, pos, neg_ℤ};
+ghost use Rattle.text_scan.specs.Numbers.{is_digit, is_natural, value_of, natural_of, signed_of, fits_i64, unsigned, is_point, is_exponent_mark, is_decimal, is_unsigned_text, is_number_text};
 ghost use Rattle.text_scan.specs.Steps.{begins_with, IsPastDigits};
 
 /// Why a word is no number.
@@ -21,6 +21,46 @@ pub fn natural(bytes: &[u8]) -> Result<u64, NumberFault>
         return Err(NumberFault::NotDigits);
     }
     value_of(bytes).ok_or(NumberFault::TooLarge)
+}
+
+/// The number that a word is: digits with a `-` before them or none; leading zeros are allowed.
+pub fn signed(bytes: &[u8]) -> Result<i64, NumberFault>
+    ensures { MatchOption (signed_of bytes.now) (result ≡ Err NumberFault.NotDigits)
+        (λ n. result ≡ (if fits_i64 n then Ok n else Err NumberFault.TooLarge)) }
+{
+    match after_minus(bytes) {
+        Some(digits) => negated(natural(digits)?),
+        None => unnegated(natural(bytes)?),
+    }
+}
+
+#[tactic(auto, unfolding(crate::specs::Numbers::is_natural))]
+/// The bytes behind the `-` that the word begins with, if it does.
+fn after_minus(bytes: &[u8]) -> Option<&[u8]>
+    ensures { MatchOption result (signed_of bytes.now ≡ option_map pos (natural_of bytes.now))
+        (λ digits. signed_of bytes.now ≡ option_map (λ n. neg_ℤ (pos n)) (natural_of digits.now)) }
+{
+    match bytes {
+        [b'-', digits @ ..] => Some(digits),
+        [_, ..] => None,
+        [] => None,
+    }
+}
+
+/// The number as an integer with a sign.
+fn unnegated(number: u64) -> Result<i64, NumberFault>
+    ensures { result ≡ (if fits_i64 (pos number) then Ok (pos number) else Err NumberFault.TooLarge) }
+{
+    0i64.checked_add_unsigned(number)
+        .ok_or(NumberFault::TooLarge)
+}
+
+/// The integer that is so much below zero.
+fn negated(number: u64) -> Result<i64, NumberFault>
+    ensures { result ≡ (if fits_i64 (neg_ℤ (pos number)) then Ok (neg_ℤ (pos number)) else Err NumberFault.TooLarge) }
+{
+    0i64.checked_sub_unsigned(number)
+        .ok_or(NumberFault::TooLarge)
 }
 
 /// Whether the word is a number text: a sign or none, and then `nan`, `inf`, or digits with a point

@@ -90,3 +90,14 @@ fn lines_and_their_words(rt: HostRuntime) -> Result<(), Fail> {
     assert!(rt; lines.next().is_none());
     Ok(())
 }
+
+#[test]
+fn integers_with_a_sign(rt: HostRuntime) {
+    assert_eq!(rt; signed(b"-9223372036854775808"), Ok(i64::MIN));
+    assert_eq!(rt; signed(b"9223372036854775807"), Ok(i64::MAX));
+    assert_eq!(rt; signed(b"-9223372036854775809"), Err(NumberFault::TooLarge));
+    assert_eq!(rt; signed(b"9223372036854775808"), Err(NumberFault::TooLarge));
+    assert_eq!(rt; signed(b"-0"), Ok(0));
+    assert_eq!(rt; signed(b"-"), Err(NumberFault::NotDigits));
+    assert_eq!(rt; signed(b"+7"), Err(NumberFault::NotDigits));
+}
