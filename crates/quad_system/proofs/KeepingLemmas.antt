@@ -39,7 +39,7 @@ found_in p (y ∷ ys) x h = elim (cases_Bool (p y)) [
       (suc more.0, omega (arith, more.1), more.2)
 ]
 
-found_side : (mesh : FaceList) (labelling : LabellingView) (u v : ℕ) (x : FaceSide) → side_from mesh labelling u v ≡ Some x
+pub found_side : (mesh : FaceList) (labelling : LabellingView) (u v : ℕ) (x : FaceSide) → side_from mesh labelling u v ≡ Some x
     → IsSide mesh (side_name x)
 unfolding side_from
 found_side mesh labelling u v x h =

@@ -11,3 +11,4 @@ pub mod EqualWordLemmas
 pub mod PlaneGroupLemmas
 pub mod FlatWordLemmas
 pub mod SpokeLemmas
+pub mod WalkWordLemmas

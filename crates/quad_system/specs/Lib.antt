@@ -5,3 +5,5 @@ pub mod LabelFaults
 pub mod TableRules
 pub mod QuadPaths
 pub mod PolygonLabellings
+pub mod WalkWords
+pub mod Denials

@@ -112,7 +112,7 @@ impl Labelling {
     }
 
     /// The labels of a face.
-    pub(crate) fn labels(&self, face: FaceName) -> &[u32]
+    pub fn labels(&self, face: FaceName) -> &[u32]
         requires { face.0 < length self.now.faces }
         ensures { result.now ≡ labels_at self.now face.0 }
     {
@@ -121,7 +121,7 @@ impl Labelling {
     }
 
     /// The places of all spokes.
-    pub(crate) fn all_places(&self) -> &[u32]
+    pub fn all_places(&self) -> &[u32]
         ensures places { result.now ≡ self.now.places }
         // What holds of every labelling.
         ensures few { length result.now < 2 ^ 32 }

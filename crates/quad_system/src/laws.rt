@@ -13,6 +13,10 @@ ghost use Rattle.quad_system.specs.Labellings.{LabellingView};
 ghost use Rattle.quad_system.specs.GoodLabellings.{IsGood};
 ghost use Rattle.quad_system.specs.QuadPaths.{quad_path};
 ghost use Rattle.quad_system.specs.PolygonLabellings.{labelling_from, IsFull};
+ghost use Rattle.quad_system.specs.WalkWords.{IsWordOf};
+ghost use Rattle.quad_system.specs.Denials.{DenialHolds};
+ghost use Rattle.quad_system.specs.declared.denial.Denial.{Denial};
+ghost use Rattle.turn_words.specs.declared.word.Word.{Word};
 ghost use Rattle.halfedge_map.specs.OrientedMeshes.{OrientedMesh, IsOrientedSurface};
 ghost use Rattle.tree_cotree.specs.Splits.{SplitView, IsSplit};
 ghost use Rattle.polygon_cut.specs.Polygons.{PolygonView, IsCutFrom};
@@ -62,4 +66,18 @@ pub fn homotopic_where_the_points_are_one()
         → Homotopic surface.mesh first second
         ↔ (led flat_next polygon.places origin (quad_path surface.mesh (labelling_from surface polygon) first)
         ≡ led flat_next polygon.places origin (quad_path surface.mesh (labelling_from surface polygon) second)) }
+{}
+
+/// What words of walks tell. Under a good labelling of any mesh, a walk has one word, and homotopic walks have the same.
+pub fn homotopic_walks_have_one_word()
+    ensures { (mesh : FaceList) (labelling : LabellingView) (first second : List ℕ) (one other : Word) → IsFaceList mesh
+        → IsGood mesh labelling → IsWalk mesh first → Homotopic mesh first second
+        → IsWordOf mesh labelling first one → IsWordOf mesh labelling second other → one ≡ other }
+{}
+
+/// What a denial shows. Where it holds, no list of moves leads from the first walk to the second, on any mesh, whoever
+/// made it.
+pub fn no_list_of_moves_leads_where_a_denial_holds()
+    ensures { (mesh : FaceList) (first second : List ℕ) (denial : Denial) → IsFaceList mesh → IsWalk mesh first
+        → DenialHolds mesh first second denial → Homotopic mesh first second → ⊥ }
 {}

@@ -3,6 +3,7 @@
 
 mod check;
 mod darts;
+mod denial;
 mod fault;
 mod good;
 mod labelling;
@@ -11,6 +12,7 @@ mod rules;
 mod shape;
 
 pub use check::check_labelling;
+pub use denial::Denial;
 pub use fault::LabelFault;
 pub use good::GoodLabelling;
 pub use labelling::Labelling;
