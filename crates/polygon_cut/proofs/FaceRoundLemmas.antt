@@ -1,9 +1,9 @@
 -- Round a face: the darts from a dart on, as many as the face has sides, go along its whole boundary, which one move contracts.
-use Rattle.std.proofs.Common.{◌≡◌, ◌≢◌, ◌⊎◌, inl, inr, ℕ, zero, suc, ◌+◌, ◌-◌, ◌<◌, ◌≤◌, Bool, true, false, not, List, [], ◌∷◌, ◌++◌, length, get_or, refl, ap, sym, ◌∙◌, subst, arith}
-use Rattle.std.specs.Prelude.{IsTrue, Some}
-use Rattle.std.proofs.lemmas.Bool.{cases_Bool, cases_eq, cases_lt, both_ways}
+use Rattle.std.proofs.Common.{◌≡◌, ◌≢◌, inl, inr, ℕ, zero, suc, ◌+◌, ◌-◌, ◌<◌, ◌≤◌, Bool, true, false, not, List, [], ◌∷◌, ◌++◌, length, get_or, refl, ap, sym, ◌∙◌, subst, arith}
+use Rattle.std.specs.Prelude.{Some}
+use Rattle.std.proofs.lemmas.Bool.{cases_lt}
 use Rattle.std.proofs.lemmas.Bool.Decides.{nat_tests}
-use Rattle.surf_model.specs.FaceLists.{FaceList, face_at, next_corner, corners_from, is_edge, is_used}
+use Rattle.surf_model.specs.FaceLists.{face_at, next_corner, corners_from}
 use Rattle.surf_model.specs.Surfaces.{is_flipped}
 use Rattle.surf_model.specs.Moves.{apply, Homotopic}
 use Rattle.surf_model.specs.declared.moves.Move.{Move}
@@ -13,12 +13,10 @@ use Rattle.surf_model.proofs.RoundLemmas.{corner_after}
 use Rattle.halfedge_map.specs.Orbits.{after_steps}
 use Rattle.halfedge_map.specs.OrientedMeshes.{OrientedMesh, IsOrientedSurface}
 use Rattle.halfedge_map.specs.DartMaps.{darts_of, next_of, origin_of, face_of, start_corner_of, end_corner_of, dart_at_corner}
-use Rattle.halfedge_map.specs.RotationSystems.{Rotations, rotations_of, IsRotationSystem, IsDartFrom}
-use Rattle.halfedge_map.proofs.OrbitLemmas.{step_first}
+use Rattle.halfedge_map.specs.RotationSystems.{Rotations, rotations_of, IsRotationSystem}
 use Rattle.halfedge_map.proofs.NumberLemmas.{IsNumberOf, HasPlace, placed}
 use Rattle.halfedge_map.proofs.CornerLemmas.{corner_back}
 use Rattle.halfedge_map.proofs.DartLemmas.{face_at_number, origin_at, corner-next, start_kept, start_flipped, end_kept, end_flipped, start_corner_within}
-use Rattle.halfedge_map.proofs.EdgeLemmas.{edge_of_dart}
 use Rattle.halfedge_map.proofs.VertexLemmas.{at_start}
 use Rattle.halfedge_map.proofs.SystemLemmas.{rotation_system}
 

@@ -1,5 +1,4 @@
 -- Groups up to a relation of sameness, and sums of elements: what neighbours cancel may be left out.
-use Rattle.std.proofs.Common.{◌≡◌, ℕ, zero, suc, ◌+◌, refl, ap, sym, ◌∙◌, subst}
 
 pub record IsGroup {X : Type 0} (Same : X → X → Type 0) (mul : X → X → X) (inv : X → X) (one : X) : Type 0 where
   pub itself : (x : X) → Same x x

@@ -1,7 +1,13 @@
 pub mod PolygonLemmas
+pub mod RoundLemmas
+pub mod CountLemmas
 pub mod PlaceLemmas
 pub mod QuadLemmas
 pub mod LawLemmas
+pub mod WalkedLemmas
+pub mod RingWalkLemmas
+pub mod TurningLemmas
+pub mod CutLemmas
 pub mod GroupLemmas
 pub mod LoopLemmas
 pub mod ValueLemmas

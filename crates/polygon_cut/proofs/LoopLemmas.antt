@@ -1,17 +1,16 @@
 -- Closed walks at a root, up to homotopy, as a group; and walks as products of the loops of their darts, where a way leads from each
 -- vertex to the root. A walk from u is kept as the list of the vertices behind u.
-use Rattle.std.proofs.Common.{◌≡◌, ◌≢◌, ◌⊎◌, inl, inr, ℕ, zero, suc, ◌+◌, ◌-◌, ◌<◌, ◌≤◌, Bool, true, false, List, [], ◌∷◌, ◌++◌, length, get_or, refl, ap, sym, ◌∙◌, subst, arith, append_assoc, length-append}
+use Rattle.std.proofs.Common.{◌≡◌, ℕ, ◌<◌, List, [], ◌∷◌, ◌++◌, length, refl, ap, sym, ◌∙◌, subst, arith, append_assoc}
 use Rattle.std.specs.Prelude.{IsTrue, All, Some}
 use Rattle.surf_model.specs.FaceLists.{FaceList, is_edge, is_used}
-use Rattle.surf_model.specs.Walks.{IsWalk, HaveCommonEnds, darts}
-use Rattle.surf_model.specs.Moves.{apply, apply_all, Leads, Homotopic}
+use Rattle.surf_model.specs.Walks.{IsWalk}
+use Rattle.surf_model.specs.Moves.{apply, Homotopic}
 use Rattle.surf_model.specs.Rewriting.{all_raised, way_back}
 use Rattle.surf_model.specs.declared.moves.Move.{Move}
-use Rattle.surf_model.specs.declared.moves.Move.TheVariants.{Insert, Remove, Across}
-use Rattle.surf_model.specs.declared.names.VertexName.{VertexName}
+use Rattle.surf_model.specs.declared.moves.Move.TheVariants.{Remove}
 use Rattle.surf_model.proofs.ReplacementLemmas.{by_replacing}
 use Rattle.surf_model.proofs.ContextLemmas.{list_in_context, one_after_another}
-use Rattle.surf_model.proofs.EdgeLemmas.{edge_swap, tail_used, head_used}
+use Rattle.surf_model.proofs.EdgeLemmas.{edge_swap, tail_used}
 use Rattle.surf_model.proofs.LinkLemmas.{Linked, walk_from, all_more, none_yet}
 use Rattle.surf_model.proofs.WayBackLemmas.{list_undone}
 use Rattle.polygon_cut.proofs.GroupLemmas.{IsGroup}

@@ -1,14 +1,15 @@
 -- Places round the one vertex: the numbers of the sides, taken as they come by turning, get falling places.
-use Rattle.std.proofs.Common.{◌≡◌, ◌≢◌, ◌⊎◌, inl, inr, ℕ, zero, suc, ◌+◌, ◌-◌, ◌<◌, ◌≤◌, Bool, refl, ap, sym, ◌∙◌, subst, arith}
-use Rattle.std.proofs.lemmas.Bool.{cases_eq, cases_lt}
+use Rattle.std.proofs.Common.{◌≡◌, ◌≢◌, ◌⊎◌, inl, inr, ℕ, suc, ◌+◌, ◌-◌, ◌<◌, Bool, refl, ap, sym, ◌∙◌, subst, arith}
+use Rattle.std.proofs.lemmas.Bool.{cases_eq}
 use Rattle.std.proofs.lemmas.Bool.Decides.{nat_tests}
 use Rattle.halfedge_map.specs.Orbits.{after_steps, IsReached}
 use Rattle.halfedge_map.specs.RotationSystems.{Rotations, IsRotationSystem}
 use Rattle.polygon_cut.specs.Polygons.{one_up, one_down, PolygonView, side_at, label_of, across, IsLabelled}
-use Rattle.halfedge_map.proofs.OrbitLemmas.{IsPermutationBelow, AreAlike, two_alike, Returns, returns_to, step_first, steps_add}
+use Rattle.halfedge_map.proofs.OrbitLemmas.{IsPermutationBelow, Returns, returns_to, step_first}
 use Rattle.tree_cotree.proofs.ExchangeLemmas.{reached_soon}
 use Rattle.tree_cotree.proofs.AfterLemmas.{twin_edge}
 use Rattle.polygon_cut.proofs.PolygonLemmas.{one_up_below, is_own_side}
+use Rattle.polygon_cut.proofs.RoundLemmas.{whole_round}
 
 -- the side across is below the degree, is another one, and lies across again
 pub record Crosses (degree : ℕ) (t : ℕ → ℕ) : Type 0 where
@@ -55,54 +56,6 @@ turning_permutes degree t c = record {
   within = λ i l. one_up_below degree (t i) (c.below i l);
   injective = λ i j l k e. sym (c.back i l) ∙ ap t (up_apart degree (t i) (t j) (c.below i l) (c.below j k) e) ∙ c.back j k;
 }
-
--- where all numbers are reached from 0, it takes as many steps to come back as there are numbers
-whole_round : (degree : ℕ) (f : ℕ → ℕ) → IsPermutationBelow degree f → 0 < degree → ((j : ℕ) → j < degree → IsReached f 0 j)
-    → (n : ℕ) → n < degree → after_steps f n (f 0) ≡ 0 → suc n ≡ degree
-whole_round degree f p some all n few back = elim (cases_eq (suc n) degree) [
-  | inl same ↦ same
-  | inr less ↦ absurd (clash (two_alike (degree - 1) place (λ i l. placed_below less i (omega arith))))
-]
-  where
-    -- in at most n steps every number is reached
-    soon : (fuel k j : ℕ) → k < fuel → after_steps f k 0 ≡ j → (m : ℕ) × (m < suc n) × (after_steps f m 0 ≡ j)
-    soon zero k j l e = absurd (omega arith)
-    soon (suc fuel) k j l e = elim (cases_lt k (suc n)) [
-      | inl less ↦ (k, less, e)
-      | inr more ↦
-          let sum : k - suc n + suc n ≡ k = omega arith in
-          let round : after_steps f (suc n) 0 ≡ 0 = sym (step_first f n 0) ∙ back in
-          let shorter : after_steps f (k - suc n) 0 ≡ j =
-          ap (after_steps f (k - suc n)) (sym round) ∙ sym (steps_add f (k - suc n) (suc n) 0) ∙ ap (λ (m : ℕ). after_steps f m 0) sum ∙ e in
-          soon fuel (k - suc n) j (omega arith) shorter
-    ]
-
-    found : (j : ℕ) → j < degree → (m : ℕ) × (m < suc n) × (after_steps f m 0 ≡ j)
-    found j l = let r = all j l in soon (suc r.steps) r.steps j (omega arith) r.leads
-
-    at : (j : ℕ) → (j < degree) ⊎ (degree ≤ j) → ℕ
-    at j (inl l) = (found j l).0
-    at j (inr _) = 0
-
-    at_leads : (j : ℕ) (c : (j < degree) ⊎ (degree ≤ j)) → j < degree → (at j c < suc n) × (after_steps f (at j c) 0 ≡ j)
-    at_leads j (inl l) k = ((found j l).1, (found j l).2)
-    at_leads j (inr m) k = absurd (omega arith)
-
-    place : ℕ → ℕ
-    place j = at j (cases_lt j degree)
-
-    placed : (j : ℕ) → j < degree → (place j < suc n) × (after_steps f (place j) 0 ≡ j)
-    placed j l = at_leads j (cases_lt j degree) l
-
-    placed_below : suc n ≢ degree → (j : ℕ) → j < degree → place j < degree - 1
-    placed_below less j l = let one : place j < suc n = (placed j l).0 in omega arith
-
-    clash : AreAlike place (suc (degree - 1)) → ⊥
-    clash a =
-        let i_in : a.first < degree = omega (arith, a.before, a.within) in
-        let j_in : a.second < degree = omega (arith, a.within) in
-        let same : a.first ≡ a.second = sym (placed a.first i_in).1 ∙ ap (λ (m : ℕ). after_steps f m 0) a.same ∙ (placed a.second j_in).1 in
-        omega (arith, a.before, same)
 
 -- a list of places that falls by one with each turn from 0
 pub record PlacedByTurns (degree : ℕ) (f place : ℕ → ℕ) : Type 0 where
@@ -161,7 +114,7 @@ falling degree f place p some all h = record {
     round = returns_to degree f p 0 some
 
     period : suc round.less ≡ degree
-    period = whole_round degree f p some all round.less round.few round.back
+    period = whole_round degree f p 0 all round.less round.few round.back
 
     home : (k : ℕ) → suc k ≡ degree → after_steps f (suc k) 0 ≡ 0
     home k e =

@@ -1,19 +1,19 @@
 -- On a sphere nothing is left over: each dart's loop is nothing, so any two walks with common ends are homotopic.
-use Rattle.std.proofs.Common.{◌≡◌, ◌≢◌, ◌⊎◌, inl, inr, ℕ, zero, suc, ◌+◌, ◌*◌, ◌<◌, ◌≤◌, Bool, true, false, List, [], ◌∷◌, ◌++◌, refl, ap, sym, ◌∙◌, subst, arith}
+use Rattle.std.proofs.Common.{◌≡◌, inl, inr, ℕ, zero, suc, ◌+◌, ◌*◌, ◌<◌, Bool, true, List, [], ◌∷◌, ◌++◌, refl, ap, sym, ◌∙◌, subst, arith}
 use Rattle.std.specs.Prelude.{length, slice_index, if◌then◌else◌}
 use Rattle.std.proofs.lemmas.Bool.{cases_eq}
 use Rattle.surf_model.specs.Walks.{IsWalk, HaveCommonEnds}
 use Rattle.surf_model.specs.Moves.{Homotopic}
 use Rattle.halfedge_map.specs.Numbers.{count_below}
 use Rattle.halfedge_map.specs.OrientedMeshes.{OrientedMesh, IsOrientedSurface}
-use Rattle.halfedge_map.specs.DartMaps.{darts_of, next_of, twin_of, origin_of, edge_of}
+use Rattle.halfedge_map.specs.DartMaps.{darts_of, twin_of, origin_of, edge_of}
 use Rattle.halfedge_map.proofs.EdgeLemmas.{dart_between}
 use Rattle.halfedge_map.proofs.SystemLemmas.{names_all}
 use Rattle.tree_cotree.specs.Splits.{SplitView, IsSplit, is_left}
-use Rattle.polygon_cut.proofs.GroupLemmas.{IsGroup, quotient}
+use Rattle.polygon_cut.proofs.GroupLemmas.{quotient}
 use Rattle.polygon_cut.proofs.LoopLemmas.{IsWay, HasWays, SameLoop, loop_mul, loop_inv, loop_one, loop_of, no_dart, first_dart, from_loops, start_used, back}
 use Rattle.polygon_cut.proofs.TreeWayLemmas.{up, tree_ways}
-use Rattle.polygon_cut.proofs.ValueLemmas.{Valued, by_labels, all_values}
+use Rattle.polygon_cut.proofs.ValueLemmas.{Valued, all_values}
 use Rattle.polygon_cut.proofs.SpokeLemmas.{Loops, value, value_is, value_twin, value_tree, face_rounds, group_of, dart_way}
 use Rattle.polygon_cut.proofs.WalkLemmas.{walk_way, other_way}
 

@@ -1,23 +1,23 @@
 -- The values of a surface's darts: each is the loop down the tree to the dart, along it, and up again. Twins are inverse, tree
 -- darts are nothing, and round a face the values make nothing; so each dart is a product of two spokes.
-use Rattle.std.proofs.Common.{◌≡◌, ◌≢◌, ◌⊎◌, inl, inr, ℕ, zero, suc, ◌+◌, ◌-◌, ◌*◌, ◌<◌, ◌≤◌, Bool, true, false, not, List, [], ◌∷◌, ◌++◌, length, refl, ap, sym, ◌∙◌, subst, arith}
+use Rattle.std.proofs.Common.{◌≡◌, ◌≢◌, ◌⊎◌, inl, inr, ℕ, zero, suc, ◌+◌, ◌-◌, ◌<◌, ◌≤◌, true, not, [], ◌∷◌, ◌++◌, length, refl, ap, sym, ◌∙◌, subst, arith}
 use Rattle.std.specs.Prelude.{IsTrue}
-use Rattle.std.proofs.lemmas.Bool.{cases_Bool, cases_eq, cases_lt, both_ways}
+use Rattle.std.proofs.lemmas.Bool.{cases_lt}
 use Rattle.std.proofs.lemmas.Bool.Decides.{nat_tests}
-use Rattle.surf_model.specs.FaceLists.{FaceList, face_at, is_edge, is_used}
+use Rattle.surf_model.specs.FaceLists.{face_at, is_edge, is_used}
 use Rattle.surf_model.specs.Moves.{Homotopic}
 use Rattle.halfedge_map.specs.Orbits.{after_steps}
 use Rattle.halfedge_map.specs.OrientedMeshes.{OrientedMesh, IsOrientedSurface}
 use Rattle.halfedge_map.specs.DartMaps.{darts_of, next_of, twin_of, origin_of, face_of, edge_of}
-use Rattle.halfedge_map.specs.RotationSystems.{Rotations, rotations_of, IsRotationSystem, IsDartFrom, NamesAll}
+use Rattle.halfedge_map.specs.RotationSystems.{rotations_of, IsRotationSystem}
 use Rattle.halfedge_map.proofs.OrbitLemmas.{step_first}
 use Rattle.halfedge_map.proofs.EdgeLemmas.{edge_of_dart}
 use Rattle.halfedge_map.proofs.SystemLemmas.{rotation_system, names_all}
 use Rattle.tree_cotree.specs.SpanningTrees.{after_dart}
 use Rattle.tree_cotree.specs.Splits.{SplitView, IsSplit, in_tree, in_cotree, is_left}
-use Rattle.polygon_cut.specs.Polygons.{PolygonView, IsCutFrom, KindLabels, side_at, label_of, one_up}
-use Rattle.polygon_cut.proofs.GroupLemmas.{IsGroup, quotient, inverse_of_quotient, inverse_unique, inverse_twice, middle, one_step}
-use Rattle.polygon_cut.proofs.LoopLemmas.{back, IsWay, HasWays, Loop, SameLoop, loop_mul, loop_inv, loop_one, loops_make_a_group, loop_of, no_dart, first_dart, dart_back, dart_up, to_loops, start_used, end_used, leads_to}
+use Rattle.polygon_cut.specs.Polygons.{PolygonView, IsCutFrom, side_at, label_of, one_up}
+use Rattle.polygon_cut.proofs.GroupLemmas.{IsGroup, quotient, one_step}
+use Rattle.polygon_cut.proofs.LoopLemmas.{back, IsWay, HasWays, Loop, SameLoop, loop_mul, loop_inv, loop_one, loops_make_a_group, loop_of, no_dart, first_dart, dart_back, dart_up, to_loops, leads_to}
 use Rattle.polygon_cut.proofs.PolygonLemmas.{is_own_side}
 use Rattle.polygon_cut.proofs.LawLemmas.{labels_ride}
 use Rattle.polygon_cut.proofs.TreeWayLemmas.{up, tree_ways, tree_dart}

@@ -1,18 +1,18 @@
 -- The way up the tree from each vertex, and that each tree edge is that of a dart to a parent.
-use Rattle.std.proofs.Common.{◌≡◌, ◌≢◌, ◌⊎◌, inl, inr, ℕ, zero, suc, ◌+◌, ◌-◌, ◌<◌, ◌≤◌, Bool, true, false, not, ◌&&◌, ◌||◌, eqb, cond, List, [], ◌∷◌, length, refl, ap, sym, ◌∙◌, subst, arith}
+use Rattle.std.proofs.Common.{◌≡◌, ◌≢◌, ◌⊎◌, inl, inr, ℕ, zero, suc, ◌+◌, ◌<◌, Bool, true, false, ◌||◌, eqb, cond, List, [], ◌∷◌, length, refl, ap, sym, ◌∙◌, subst, arith}
 use Rattle.std.specs.Prelude.{IsTrue, Option, Some, None}
-use Rattle.std.proofs.lemmas.Bool.{cases_Bool, cases_eq, cases_lt, both_ways, eqb-true, eq-eqb, or_cases, or_left, or_right, and_parts}
+use Rattle.std.proofs.lemmas.Bool.{cases_Bool, both_ways, eqb-true, eq-eqb, or_right}
 use Rattle.surf_model.specs.FaceLists.{is_used, is_edge}
-use Rattle.surf_model.specs.Surfaces.{IsPath, AreJoined}
+use Rattle.surf_model.specs.Surfaces.{IsPath}
 use Rattle.halfedge_map.specs.Numbers.{count_below}
 use Rattle.halfedge_map.specs.OrientedMeshes.{OrientedMesh, IsOrientedSurface}
 use Rattle.halfedge_map.specs.DartMaps.{darts_of}
-use Rattle.halfedge_map.specs.RotationSystems.{Rotations, rotations_of, IsRotationSystem, IsDartFrom, NamesAll}
+use Rattle.halfedge_map.specs.RotationSystems.{Rotations, rotations_of, IsRotationSystem}
 use Rattle.halfedge_map.proofs.SystemLemmas.{rotation_system, names_all}
 use Rattle.halfedge_map.proofs.EdgeLemmas.{edge_of_dart}
 use Rattle.tree_cotree.specs.RingCounts.{any_below}
-use Rattle.tree_cotree.specs.Splits.{SplitView, IsSplit, in_tree, parent_dart, StepsToParent, IsParentStep}
-use Rattle.tree_cotree.proofs.ClassLemmas.{found_below, passes_below, count_same, count_less}
+use Rattle.tree_cotree.specs.Splits.{SplitView, IsSplit, in_tree, parent_dart, StepsToParent}
+use Rattle.tree_cotree.proofs.ClassLemmas.{found_below, count_same, count_less}
 use Rattle.tree_cotree.proofs.SetLemmas.{same_from_count}
 use Rattle.polygon_cut.proofs.LoopLemmas.{IsWay, HasWays}
 

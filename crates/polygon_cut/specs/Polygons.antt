@@ -4,7 +4,7 @@ use Rattle.std.specs.Prelude.{◌≡◌, ℕ, not, ◌+◌, ◌-◌, ◌*◌, �
 use Rattle.halfedge_map.specs.Orbits.{after_steps}
 use Rattle.halfedge_map.specs.OrientedMeshes.{OrientedMesh}
 use Rattle.halfedge_map.specs.RotationSystems.{Rotations, rotations_of}
-use Rattle.tree_cotree.specs.Splits.{SplitView, in_cotree, is_left}
+use Rattle.tree_cotree.specs.Splits.{SplitView, IsSplit, in_cotree, is_left}
 use Rattle.tree_cotree.specs.SpanningTrees.{after_dart}
 
 -- the number after i, and the number before it, of so many round
@@ -72,6 +72,10 @@ pub record IsCutFrom (surface : OrientedMesh) (split : SplitView) (polygon : Pol
       → IsLabelled (rotations_of surface) (after_dart (rotations_of surface) (λ e. not (in_cotree split e))) (is_left split) polygon
   pub last_side : 0 < polygon.degree → (rotations_of surface).face (side_at polygon (polygon.degree - 1)) ≡ split.root_face
   pub places : 0 < polygon.degree → HasPlaces (rotations_of surface) polygon
+
+-- a polygon that was cut from a surface along some split of it
+abbrev pub IsPolygonOf : OrientedMesh → PolygonView → Type 0
+IsPolygonOf surface polygon = (split : SplitView) × IsSplit surface split × IsCutFrom surface split polygon
 
 -- The labels at the tail and at the head of a dart and of its twin, by the kind of their edge.
 pub record KindLabels (maps : Rotations) (tree cotree left : ℕ → Bool) (polygon : PolygonView) (d : ℕ) : Type 0 where

@@ -2,4 +2,11 @@
 //! vertex.
 #![tactic(auto)]
 
+mod cutting;
 pub mod laws;
+mod polygon;
+mod ring;
+mod turning;
+
+pub use cutting::cut;
+pub use polygon::Polygon;

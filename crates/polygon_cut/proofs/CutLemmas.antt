@@ -1,0 +1,131 @@
+-- What the cut of a surface makes is a polygon of the surface and its split.
+use Rattle.std.proofs.Common.{◌≡◌, ℕ, ◌*◌, ◌^◌, ◌<◌, true, false, List, length, ◌-◌, ap, sym, ◌∙◌, subst, arith, inl, inr}
+use Rattle.std.specs.Prelude.{slice_index}
+use Rattle.std.proofs.lemmas.Bool.{cases_Bool, both_ways}
+use Rattle.surf_model.specs.declared.names.DartName.{DartName}
+use Rattle.halfedge_map.specs.Numbers.{count_below}
+use Rattle.halfedge_map.specs.Orbits.{after_steps}
+use Rattle.halfedge_map.specs.OrientedMeshes.{OrientedMesh, IsOrientedSurface}
+use Rattle.halfedge_map.specs.DartMaps.{darts_of, edge_of, face_of}
+use Rattle.halfedge_map.specs.RotationSystems.{Rotations, rotations_of, IsRotationSystem}
+use Rattle.halfedge_map.proofs.OrbitLemmas.{steps_within}
+use Rattle.halfedge_map.proofs.SystemLemmas.{rotation_system, names_all}
+use Rattle.tree_cotree.specs.RingViews.{dart_numbers}
+use Rattle.tree_cotree.specs.Splits.{SplitView, IsSplit, in_tree, in_cotree, is_left}
+use Rattle.tree_cotree.proofs.LawLemmas.{one_of_three, tree_has_ring}
+use Rattle.polygon_cut.specs.Polygons.{PolygonView, IsLabelled, IsCutFrom, across, turned}
+use Rattle.polygon_cut.specs.StoredPolygons.{outer_ring, left_at, without_places, IsWalked, TurnsRound, IsPlaced}
+use Rattle.polygon_cut.proofs.CountLemmas.{count_at_most, count_along, count_darts, count_nothing}
+use Rattle.polygon_cut.proofs.PlaceLemmas.{Crosses, sides_cross, turning_permutes}
+use Rattle.polygon_cut.proofs.PolygonLemmas.{turning_reaches_all}
+use Rattle.polygon_cut.proofs.RoundLemmas.{GoesRound, round_apart, round_reaches}
+use Rattle.polygon_cut.proofs.WalkedLemmas.{IsWholeWalk, walk_labels, last_is}
+use Rattle.polygon_cut.proofs.RingWalkLemmas.{ring_goes_round}
+use Rattle.polygon_cut.proofs.TurningLemmas.{places_are}
+
+abbrev pub polygon_of : ℕ → List ℕ → List ℕ → List ℕ → PolygonView
+polygon_of degree sides labels places = record { degree = degree; sides = sides; labels = labels; places = places }
+
+-- a whole walk along the ring of a split
+abbrev pub IsRingWalk : OrientedMesh → SplitView → ℕ → List ℕ → List ℕ → Type 0
+IsRingWalk s split last sides labels = IsWholeWalk (rotations_of s) (outer_ring s split) (is_left split) last sides labels
+
+labelled : (s : OrientedMesh) (split : SplitView) (last degree : ℕ) (sides labels places : List ℕ) → IsRingWalk s split last sides labels
+    → degree ≡ length sides → IsLabelled (rotations_of s) (outer_ring s split) (is_left split) (polygon_of degree sides labels places)
+labelled s split last degree sides labels places w is =
+    subst (λ (n : ℕ). IsLabelled (rotations_of s) (outer_ring s split) (is_left split) (polygon_of n sides labels places)) (sym is)
+    (walk_labels (rotations_of s) (outer_ring s split) (is_left split) last sides labels places w)
+
+pub turns_round : (s : OrientedMesh) (split : SplitView) (last degree : ℕ) (sides labels places : List ℕ) → IsOrientedSurface s → IsSplit s split
+    → IsRingWalk s split last sides labels → degree ≡ length sides → TurnsRound (rotations_of s) (polygon_of degree sides labels places)
+turns_round s split last degree sides labels places o t w is =
+    let maps : Rotations = rotations_of s in
+    let polygon : PolygonView = polygon_of degree sides labels places in
+    let r : IsRotationSystem maps = rotation_system s o in
+    let h : IsLabelled maps (outer_ring s split) (is_left split) polygon = labelled s split last degree sides labels places w is in
+    let crosses : Crosses degree (across maps polygon) = sides_cross maps (outer_ring s split) (is_left split) polygon r h in
+    record {
+      each_dart = h.each_dart;
+      side_within = λ i l. (h.side_is_left i l).0;
+      twin_within = r.twin_within;
+      across_within = crosses.below;
+      injective = (turning_permutes degree (across maps polygon) crosses).injective;
+      reaches = λ j l.
+          turning_reaches_all maps (in_tree split) (in_cotree split) (is_left split) polygon r (λ e k. one_of_three split (maps.edge e)) h
+          (tree_has_ring s split o t.trees) j l;
+    }
+
+-- there are four sides to each handle
+four_each : (s : OrientedMesh) (split : SplitView) (last : ℕ) (sides labels : List ℕ) → IsOrientedSurface s → IsSplit s split
+    → IsRingWalk s split last sides labels → length sides ≡ 4 * split.genus
+four_each s split last sides labels o t w =
+    let maps : Rotations = rotations_of s in
+    let n : ℕ = darts_of s in
+    let ring : ℕ → ℕ = outer_ring s split in
+    let start : ℕ = ring last in
+    let g : GoesRound n ring start = w.round in
+    let along : count_below (left_at maps ring (is_left split) start) n ≡ count_below (λ d. is_left split (maps.edge d)) n =
+    count_along (λ d. is_left split (maps.edge d)) (λ k. after_steps ring k start) n (λ k l. steps_within n ring g.permutes k start g.start)
+    (round_apart n ring start g) (round_reaches n ring start g) in
+    let doubled : count_below (λ d. is_left split (maps.edge d)) n ≡ 2 * count_below (is_left split) (length s.table) =
+    count_darts maps (length s.table) (is_left split) (rotation_system s o) (names_all s o).edge_below (names_all s o).each_edge in
+    omega (arith, along, doubled, t.genus, w.walked.each_left)
+
+-- the sides are few
+pub few_sides : (s : OrientedMesh) (split : SplitView) (last : ℕ) (sides labels : List ℕ) → IsOrientedSurface s
+    → IsRingWalk s split last sides labels → length sides < 2 ^ 32
+few_sides s split last sides labels o w =
+    omega (
+      arith,
+      count_at_most (left_at (rotations_of s) (outer_ring s split) (is_left split) (outer_ring s split last)) (darts_of s),
+      w.walked.each_left,
+      o.faces.few_sides,
+    )
+
+-- the walk that `last` ends
+pub ring_walk : (s : OrientedMesh) (split : SplitView) (last : ℕ) (sides labels : List ℕ) → IsOrientedSurface s → IsSplit s split
+    → last < darts_of s → is_left split (edge_of s last) ≡ true
+    → IsWalked (rotations_of s) (outer_ring s split) (is_left split) (outer_ring s split last) (darts_of s) sides labels
+    → IsRingWalk s split last sides labels
+ring_walk s split last sides labels o t l is w =
+    record { round = ring_goes_round s split last o t l; last_in = l; last_left = is; walked = w }
+
+pub cut_is : (s : OrientedMesh) (split : SplitView) (last degree : ℕ) (sides labels places : List ℕ) → IsOrientedSurface s → IsSplit s split
+    → IsRingWalk s split last sides labels → degree ≡ length sides → face_of s last ≡ split.root_face
+    → IsPlaced degree (turned (rotations_of s) (polygon_of degree sides labels places)) degree places
+    → IsCutFrom s split (polygon_of degree sides labels places)
+cut_is s split last degree sides labels places o t w is root placed =
+    let maps : Rotations = rotations_of s in
+    let before : degree - 1 ≡ length sides - 1 = ap (λ (k : ℕ). k - 1) is in
+    record {
+      degree = is ∙ four_each s split last sides labels o t w;
+      labels = λ some. labelled s split last degree sides labels places w is;
+      last_side = λ some.
+          ap (λ (k : ℕ). face_of s (slice_index sides k)) before
+          ∙ ap (face_of s) (last_is maps (outer_ring s split) (is_left split) last sides labels w) ∙ root;
+      places = λ some. places_are maps (polygon_of degree sides labels places) (turns_round s split last degree sides labels places o t w is) some placed;
+    }
+
+-- places by turning, said of lists that are the same
+pub placed_too : (s : OrientedMesh) (sides those : List DartName) (labels these : List ℕ) (degree : ℕ) (places : List ℕ) → sides ≡ those
+    → labels ≡ these → degree ≡ length those
+    → IsPlaced (length sides) (turned (rotations_of s) (without_places sides labels)) (length sides) places
+    → IsPlaced degree (turned (rotations_of s) (polygon_of degree (dart_numbers those) these places)) degree places
+placed_too s sides those labels these degree places one two three h =
+    subst (λ (n : ℕ). IsPlaced n (turned (rotations_of s) (polygon_of n (dart_numbers those) these places)) n places) (sym three)
+    (subst (λ (ys : List ℕ). IsPlaced (length those) (turned (rotations_of s) (without_places those ys)) (length those) places) two
+    (subst (λ (xs : List DartName). IsPlaced (length xs) (turned (rotations_of s) (without_places xs labels)) (length xs) places) one h))
+
+-- without a leftover dart in the root face there is none at all
+pub nothing_left : (s : OrientedMesh) (split : SplitView) → IsOrientedSurface s → IsSplit s split
+    → ((d : ℕ) → d < darts_of s → face_of s d ≡ split.root_face → is_left split (edge_of s d) ≡ false) → split.genus ≡ 0
+nothing_left s split o t none =
+    let count : count_below (is_left split) (length s.table) ≡ 0 = count_nothing (is_left split) (length s.table) (λ e l.
+    let dart = (names_all s o).each_edge e l in
+    elim (cases_Bool (is_left split e)) [
+      | inl left ↦
+          let found = t.root_left dart.0 dart.1 (ap (is_left split) dart.2 ∙ left) in
+          absurd (both_ways (is_left split (edge_of s found.0)) (none found.0 found.1 found.3) found.2)
+      | inr other ↦ other
+    ]) in
+    omega (arith, count, t.genus)
