@@ -41,7 +41,10 @@ impl Model for Polygon {
 impl Polygon {
     /// The number of sides, which is four times the genus.
     pub fn degree(&self) -> u32
-        ensures { result ≡ self.now.degree }
+        ensures degree { result ≡ self.now.degree }
+        // What holds of every polygon.
+        ensures sides { length self.now.sides ≡ self.now.degree }
+        ensures places { length self.now.places ≡ self.now.degree }
     {
         self.degree
     }

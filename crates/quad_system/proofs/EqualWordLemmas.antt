@@ -1,18 +1,17 @@
 -- Walks with common ends are homotopic exactly where they have one canonical word. From one word to moves: their turn words reach one another, so they read to the same product
 -- of spokes, and the walks are these products.
-use Rattle.std.proofs.Common.{◌≡◌, ◌↔◌, ◌⊎◌, inl, inr, ℕ, zero, suc, ◌<◌, ◌≤◌, Bool, true, false, ◌&&◌, eqb, List, [], ◌∷◌, ◌++◌, length, get_or, refl, ap, sym, ◌∙◌, subst, arith}
-use Rattle.std.specs.Prelude.{All, slice_index, IsTrue}
+use Rattle.std.proofs.Common.{◌≡◌, ◌↔◌, inl, inr, ℕ, ◌<◌, ◌≤◌, true, ◌&&◌, eqb, List, [], ◌∷◌, length, get_or, ap, sym, ◌∙◌, subst, arith}
+use Rattle.std.specs.Prelude.{All, slice_index}
 use Rattle.std.proofs.lemmas.Bool.{cases_Bool}
 use Rattle.std.proofs.lemmas.List.Elements.{All-append, All-nil, All-cons}
-use Rattle.surf_model.specs.FaceLists.{FaceList, is_used}
 use Rattle.surf_model.specs.Walks.{IsWalk, HaveCommonEnds}
 use Rattle.surf_model.specs.Moves.{Homotopic}
 use Rattle.halfedge_map.specs.OrientedMeshes.{OrientedMesh, IsOrientedSurface}
-use Rattle.halfedge_map.specs.DartMaps.{darts_of, next_of, twin_of, origin_of}
+use Rattle.halfedge_map.specs.DartMaps.{darts_of, next_of, origin_of}
 use Rattle.halfedge_map.specs.RotationSystems.{Rotations, rotations_of}
 use Rattle.halfedge_map.proofs.EdgeLemmas.{dart_between}
 use Rattle.halfedge_map.proofs.SystemLemmas.{rotation_system}
-use Rattle.turn_words.specs.Canonical.{IsCanonicalOf, IsTurnWord}
+use Rattle.turn_words.specs.Canonical.{IsCanonicalOf}
 use Rattle.turn_words.specs.Spoke_paths.{turn_word_of}
 use Rattle.turn_words.specs.Form_laws.{led}
 use Rattle.turn_words.specs.Hyper_states.{HyperState, IsHyperWheel, BelongsTo, IsEven, empty_state, hyper_next}
@@ -22,7 +21,7 @@ use Rattle.turn_words.proofs.Spokes.{turns, canonical}
 use Rattle.tree_cotree.specs.Splits.{SplitView, IsSplit}
 use Rattle.polygon_cut.specs.Polygons.{PolygonView, IsCutFrom, HasPlaces, label_of, place_of}
 use Rattle.polygon_cut.proofs.GroupLemmas.{IsGroup}
-use Rattle.polygon_cut.proofs.LoopLemmas.{IsWay, way_walk, HasWays, SameLoop, loop_mul, loop_inv, loop_one, loop_of, from_loops}
+use Rattle.polygon_cut.proofs.LoopLemmas.{IsWay, way_walk, SameLoop, loop_mul, loop_inv, loop_one, loop_of, from_loops}
 use Rattle.polygon_cut.proofs.WalkLemmas.{walk_way, other_way}
 use Rattle.polygon_cut.proofs.TreeWayLemmas.{up, tree_ways}
 use Rattle.polygon_cut.proofs.SpokeLemmas.{Loops, spoke, group_of}
@@ -32,7 +31,7 @@ use Rattle.quad_system.specs.PolygonLabellings.{labelling_from}
 use Rattle.quad_system.proofs.FoldLemmas.{PutLaws}
 use Rattle.quad_system.proofs.KeepingLemmas.{moves_keep}
 use Rattle.quad_system.proofs.PolygonLabelLemmas.{polygon_good}
-use Rattle.quad_system.proofs.ReadingLemmas.{HasQuads, Within, within_from, read, reached_reads, along_spokes, spokes_read}
+use Rattle.quad_system.proofs.ReadingLemmas.{HasQuads, within_from, read, reached_reads, along_spokes, spokes_read}
 use Rattle.quad_system.proofs.SpokeProductLemmas.{DartSpokes, dart_spokes, polygon_quads, spoke_at, walk_product}
 
 both_below : (n a b c d : ℕ) → a < n → b < n → All (λ i. i < n) (spokes_by_labels a b c d)

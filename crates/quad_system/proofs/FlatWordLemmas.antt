@@ -1,31 +1,29 @@
 -- Walks on a torus: with four sides, walks with common ends are homotopic exactly where their quad paths lead the flat form to one
 -- point. From one point to moves: a walk is the product of its spokes, and that product depends on the point alone.
-use Rattle.std.proofs.Common.{◌≡◌, ◌↔◌, ◌⊎◌, inl, inr, ℕ, zero, suc, ◌+◌, ◌<◌, ◌≤◌, Bool, true, false, ◌&&◌, eqb, List, [], ◌∷◌, ◌++◌, length, refl, ap, sym, ◌∙◌, subst, arith}
+use Rattle.std.proofs.Common.{◌≡◌, ◌↔◌, inl, inr, ℕ, suc, ◌<◌, true, ◌&&◌, eqb, List, [], ◌∷◌, ◌++◌, length, refl, ap, sym, ◌∙◌, subst, arith}
 use Rattle.std.specs.Prelude.{All, slice_index}
 use Rattle.std.proofs.lemmas.Bool.{cases_Bool, cases_eq}
-use Rattle.surf_model.specs.FaceLists.{FaceList}
 use Rattle.surf_model.specs.Walks.{IsWalk, HaveCommonEnds}
 use Rattle.surf_model.specs.Moves.{Homotopic}
 use Rattle.halfedge_map.specs.OrientedMeshes.{OrientedMesh, IsOrientedSurface}
-use Rattle.halfedge_map.specs.DartMaps.{darts_of, next_of, twin_of, origin_of}
+use Rattle.halfedge_map.specs.DartMaps.{next_of, origin_of}
 use Rattle.halfedge_map.proofs.EdgeLemmas.{dart_between}
 use Rattle.turn_words.specs.Modulo.{add, minus}
 use Rattle.turn_words.specs.Lemmas.Sums.{add-cases, add-lt}
 use Rattle.turn_words.specs.Form_laws.{led}
-use Rattle.flat_forms.specs.Vectors.{Vector, origin}
+use Rattle.flat_forms.specs.Vectors.{origin}
 use Rattle.flat_forms.specs.Flat_states.{IsEven, IsFlatWheel, flat_next}
 use Rattle.flat_forms.specs.Pairs.{spokes_of, sum_of_pairs}
 use Rattle.flat_forms.specs.Lemmas.Flat_laws.{flat_starts, flat_stays, flat_there_and_back, flat_across}
 use Rattle.flat_forms.proofs.Sums_of_pairs.{leads-to-sum}
 use Rattle.tree_cotree.specs.Splits.{SplitView, IsSplit}
-use Rattle.polygon_cut.specs.Polygons.{PolygonView, IsCutFrom, label_of, place_of, one_up}
+use Rattle.polygon_cut.specs.Polygons.{PolygonView, IsCutFrom, label_of, place_of}
 use Rattle.polygon_cut.proofs.GroupLemmas.{IsGroup, quotient}
 use Rattle.polygon_cut.proofs.LawLemmas.{four_places}
-use Rattle.polygon_cut.proofs.LoopLemmas.{IsWay, way_walk, SameLoop, loop_mul, loop_inv, loop_one, loop_of, from_loops}
+use Rattle.polygon_cut.proofs.LoopLemmas.{IsWay, SameLoop, loop_mul, loop_inv, loop_one, loop_of, from_loops}
 use Rattle.polygon_cut.proofs.WalkLemmas.{walk_way, other_way}
 use Rattle.polygon_cut.proofs.TreeWayLemmas.{up, tree_ways}
 use Rattle.polygon_cut.proofs.SpokeLemmas.{Loops, spoke, group_of}
-use Rattle.quad_system.specs.Labellings.{LabellingView}
 use Rattle.quad_system.specs.QuadPaths.{spokes, spokes_by_labels, quad_path}
 use Rattle.quad_system.specs.PolygonLabellings.{labelling_from}
 use Rattle.quad_system.proofs.FoldLemmas.{PutLaws}
@@ -34,7 +32,7 @@ use Rattle.quad_system.proofs.PolygonLabelLemmas.{polygon_good, up_is_add}
 use Rattle.quad_system.proofs.ReadingLemmas.{HasQuads, along_spokes}
 use Rattle.quad_system.proofs.SpokeProductLemmas.{DartSpokes, dart_spokes, polygon_quads, spoke_at, walk_product}
 use Rattle.quad_system.proofs.EqualWordLemmas.{path_below}
-use Rattle.quad_system.proofs.PlaneGroupLemmas.{along_first, along_second, over_firsts, over_seconds, AreBelow, balance, undo, right_off, times, grid, Over, over_product, over_same}
+use Rattle.quad_system.proofs.PlaneGroupLemmas.{along_first, along_second, over_firsts, over_seconds, AreBelow, balance, undo, right_off, grid, Over, over_product, over_same}
 
 -- places that rise by one with the spokes
 abbrev Rises : (ℕ → ℕ) → Type 0

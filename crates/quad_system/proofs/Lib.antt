@@ -12,3 +12,4 @@ pub mod PlaneGroupLemmas
 pub mod FlatWordLemmas
 pub mod SpokeLemmas
 pub mod WalkWordLemmas
+pub mod PolygonMakingLemmas

@@ -1,15 +1,12 @@
 -- Four spokes whose quads hold in a group: the group elements of two sides of a quad commute, and a product of spokes depends on
 -- nothing but how often it goes along each of the two.
-use Rattle.std.proofs.Common.{◌≡◌, ◌⊎◌, inl, inr, ℕ, zero, suc, ◌+◌, ◌<◌, ◌≤◌, Bool, true, false, eqb, List, [], ◌∷◌, refl, ap, ap₂, sym, ◌∙◌, subst, arith, ℤ, pos, negsuc, ◌+ℤ◌, ◌-ℤ◌}
+use Rattle.std.proofs.Common.{◌≡◌, inl, inr, ℕ, zero, suc, ◌+◌, ◌<◌, List, [], ◌∷◌, refl, ap, ap₂, subst, arith, pos, ◌+ℤ◌}
 use Rattle.std.specs.Prelude.{if◌then◌else◌, ◌==◌}
 use Rattle.std.proofs.lemmas.Bool.{cases_eq, eq-eqb, ne_eqb}
 use Rattle.std.proofs.lemmas.Int.{ints}
-use Rattle.turn_words.specs.Modulo.{add, minus}
-use Rattle.turn_words.specs.Lemmas.Sums.{add-cases, add-lt}
-use Rattle.flat_forms.specs.Vectors.{Vector, origin, plus, less, unit_step}
-use Rattle.flat_forms.specs.Pairs.{spokes_of, sum_of_pairs}
+use Rattle.flat_forms.specs.Vectors.{Vector, unit_step}
+use Rattle.flat_forms.specs.Pairs.{sum_of_pairs}
 use Rattle.polygon_cut.proofs.GroupLemmas.{IsGroup, quotient}
-use Rattle.quad_system.proofs.ReadingLemmas.{HasQuads, along_spokes}
 
 -- how often each spoke lies along the two sides, from spoke 0 on
 abbrev pub along_first : ℕ → ℕ

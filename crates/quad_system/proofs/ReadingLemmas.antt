@@ -1,16 +1,15 @@
 -- Turn words read as products in a group: each spoke puts its element at the vertex, and takes it away in the middle. Where the
 -- quads hold in the group, elementary steps change nothing, so words that reach one another read alike.
-use Rattle.std.proofs.Common.{◌≡◌, ◌≢◌, ◌⊎◌, inl, inr, ℕ, zero, suc, ◌+◌, ◌-◌, ◌<◌, ◌≤◌, Bool, true, false, not, eqb, List, [], ◌∷◌, ◌++◌, length, get_or, refl, ap, sym, ◌∙◌, subst, arith}
+use Rattle.std.proofs.Common.{◌≡◌, ℕ, zero, suc, ◌<◌, Bool, true, false, eqb, List, [], ◌∷◌, length, get_or, refl, ap, sym, ◌∙◌, subst, arith}
 use Rattle.std.specs.Prelude.{All, Option, Some, None, option_map, option_and_then, cond, nat_lt}
-use Rattle.std.proofs.lemmas.Bool.{cases_Bool, both_ways, eqb-true, eq-eqb, ltb-true}
-use Rattle.std.proofs.lemmas.Bool.Decides.{nat_tests}
+use Rattle.std.proofs.lemmas.Bool.{eqb-true, ltb-true}
 use Rattle.turn_words.specs.Modulo.{add, minus}
 use Rattle.turn_words.specs.Lemmas.Sums.{add-lt, minus-lt, add_comm, add_assoc, add-zero, zero-add, add-minus}
-use Rattle.turn_words.specs.Step_table.{next_changed, spur_in, spur_out, pushed, from_place, after_step, after_steps, Reaches}
+use Rattle.turn_words.specs.Step_table.{next_changed, spur_in, spur_out, pushed, from_place, after_step, after_steps}
 use Rattle.turn_words.specs.Spoke_paths.{place_round, turns_after, turn_word_of}
 use Rattle.turn_words.specs.declared.step.Step.{Step}
 use Rattle.turn_words.specs.declared.step.Step.TheVariants.{SpurIn, SpurOut, Push}
-use Rattle.polygon_cut.proofs.GroupLemmas.{IsGroup, quotient, middle}
+use Rattle.polygon_cut.proofs.GroupLemmas.{IsGroup, quotient}
 
 -- The spokes of a wheel as elements of a group: places are undone by `spoke_at`, and each number has a partner with which it
 -- makes a quad.

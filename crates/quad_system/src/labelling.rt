@@ -1,5 +1,5 @@
 //! Labellings: a label for each corner of a mesh, with a sign for each face and the places of the spokes.
-ghost use Rattle.std.specs.Prelude.{◌≡◌, ◌-◌, ◌^◌, ◌<◌, ◌≤◌, [], ◌∷◌, ◌++◌, length, take, drop, slice_index, OnOk, OnErr};
+ghost use Rattle.std.specs.Prelude.{◌≡◌, ◌-◌, ◌^◌, ◌<◌, ◌≤◌, [], ◌∷◌, ◌++◌, length, take, drop, slice_index, IfOk, OnOk, OnErr};
 ghost use Rattle.surf_model.specs.Surfaces.{is_flipped};
 ghost use Rattle.quad_system.specs.Labellings.{labels_at, signs_of};
 
@@ -43,6 +43,24 @@ impl Labelling {
             labels: Vec::new(alloc),
             places: Vec::new(alloc),
         }
+    }
+
+    /// A labelling of no faces, with no places, and with room for so many of both and so many labels.
+    pub(crate) fn with_room(
+        alloc: Global,
+        degree: u32,
+        faces: u32,
+        labels: u32,
+    ) -> Result<Labelling, AllocError>
+        ensures { IfOk result (λ labelling. labelling ≡ record { degree = degree; faces = []; places = [] }) }
+    {
+        Ok(Labelling {
+            degree,
+            signs: Vec::with_capacity(alloc, faces as usize)?,
+            ends: Vec::with_capacity(alloc, faces as usize)?,
+            labels: Vec::with_capacity(alloc, labels as usize)?,
+            places: Vec::with_capacity(alloc, degree as usize)?,
+        })
     }
 
     /// Puts a face last: whether it is turned round, and the labels of its corners. Where memory runs out the labelling

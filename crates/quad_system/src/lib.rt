@@ -5,6 +5,7 @@ mod check;
 mod darts;
 mod denial;
 mod fault;
+mod from_polygon;
 mod good;
 mod labelling;
 pub mod laws;
