@@ -1,0 +1,84 @@
+use Rattle.std.proofs.Common.{◌≡◌, ◌+◌, ◌-◌, ◌<◌, ◌≤◌, List, [], ◌∷◌, ◌++◌, length, drop, ℕ, sym, ap, ◌∙◌, subst, arith}
+use Rattle.std.specs.Prelude.{All}
+use Rattle.std.proofs.lemmas.List.{length-drop}
+use Rattle.std.proofs.lemmas.Result.{IfOk-weaker}
+use Rattle.surf_model.specs.FaceLists.{FaceList}
+use Rattle.surf_model.specs.Moves.{PeakedMoves}
+use Rattle.surf_model.specs.FreeWalks.{HasNoSpur}
+use Rattle.surf_model.specs.Walks.{darts, HaveCommonEnds}
+use Rattle.move_lifting.specs.Lifts.{LeadsAtPeak, IsRemoval}
+use Rattle.move_lifting.specs.Tracks.{TrackView}
+use Rattle.move_lifting.specs.declared.lifted.Lifted.{Lifted}
+use Rattle.move_lifting.proofs.ListLemmas.{one_no_spur}
+use Rattle.move_lifting.proofs.MoveLemmas.{starts_whole, ends_whole, goes_along, removals_peak, same_ends}
+use Rattle.move_lifting.proofs.lifted.reduce_free.Goals as goal
+
+pub loop-place-init : goal.loop-place-init
+loop-place-init c =
+    let walk : List ℕ = c.args.walk.now in
+    let begun : c.start-track.result ≡ record { walk = c.at.result.0 ∷ []; list = c.new.result } = c.start-track.ensures in
+    let w : c.start-track.result.walk ≡ c.at.result.0 ∷ [] = ap (λ (t : TrackView). t.walk) begun in
+    let l : c.start-track.result.list ≡ record { moves = []; peak = c.darts-darts.result } = ap (λ (t : TrackView). t.list) begun ∙ c.new.ensures in
+    let noted : c.start-track.result.list ≡ record { moves = []; peak = darts walk } =
+    subst (λ (n : ℕ). c.start-track.result.list ≡ record { moves = []; peak = n }) c.darts-darts.ensures.count l in
+    record {
+      no_spur = subst HasNoSpur (sym w) (one_no_spur c.at.result.0);
+      long = subst (λ (x : List ℕ). length x ≤ 1) (sym w) (omega arith);
+      removals = subst (All IsRemoval) (sym (ap (λ (x : PeakedMoves). x.moves) l)) (λ k d h. absurd (omega arith));
+      leads = λ mesh. subst (λ (x : List ℕ). LeadsAtPeak mesh walk c.start-track.result.list (x ++ drop 1 walk)) (sym w)
+          (starts_whole mesh walk c.at.result.0 c.start-track.result.list c.darts-darts.ensures.starts (sym c.at.ensures) noted);
+    }
+
+pub loop-place-preserved : goal.loop-place-preserved
+loop-place-preserved c =
+    let walk : List ℕ = c.args.walk.now in
+    let place : ℕ = c.loop-place.place + 1 in
+    let within : place < length walk = omega (arith, c.darts-darts.ensures.count, c.darts-darts.ensures.starts, c.loop-place-test.true) in
+    let behind : length (drop (place + 1) walk) ≡ c.darts-darts.result - c.loop-place.place - 1 =
+    length-drop (place + 1) walk ∙ omega (arith, c.darts-darts.ensures.count, c.darts-darts.ensures.starts) in
+    record {
+      no_spur = c.in_ok-put.ensures.no_spur;
+      long = omega (arith, c.in_ok-put.ensures.long, c.loop-place.invariant.long);
+      removals = c.in_ok-put.ensures.removals c.loop-place.invariant.removals;
+      leads = λ mesh. goes_along mesh walk c.loop-place.track.walk c.put.new.self.walk c.loop-place.track.list c.put.new.self.list place
+          c.at-in-loop-place.result.0 (c.darts-darts.result - c.loop-place.place - 1) (c.in_ok-put.ensures.leads mesh) within
+          (sym c.at-in-loop-place.ensures) behind (c.loop-place.invariant.leads mesh);
+    }
+
+finished : (walk : List ℕ) (track : TrackView) (n : ℕ) → 0 < length walk → length walk ≤ n → All IsRemoval track.list.moves
+    → ((mesh : FaceList) → LeadsAtPeak mesh walk track.list (track.walk ++ drop n walk))
+    → ((mesh : FaceList) → LeadsAtPeak mesh walk track.list track.walk) × (track.list.peak ≡ darts walk) × HaveCommonEnds walk track.walk
+finished walk track n some past removals h =
+    let none : FaceList = record { count = 0; faces = [] } in
+    let whole : (mesh : FaceList) → LeadsAtPeak mesh walk track.list track.walk = λ mesh. ends_whole mesh walk track.walk track.list n past (h mesh) in (
+      whole,
+      (whole none).peak ∙ removals_peak none track.list.moves walk track.walk some removals (whole none).leads,
+      same_ends walk track.walk track.list some whole,
+    )
+
+pub returns-clause-leads : goal.returns-clause-leads
+returns-clause-leads c =
+    let walk : List ℕ = c.args.walk.now in
+    let end = finished walk c.loop-place.track (c.loop-place.place + 1) c.darts-darts.ensures.starts
+    (omega (arith, c.darts-darts.ensures.count, c.loop-place-test.false)) c.loop-place.invariant.removals c.loop-place.invariant.leads in
+    IfOk-weaker c.finish.result (λ (x : Lifted). x ≡ record { walk = c.loop-place.track.walk; moves = c.loop-place.track.list })
+    (λ (x : Lifted). (mesh : FaceList) → LeadsAtPeak mesh walk x.moves x.walk)
+    (λ x e. subst (λ (y : Lifted). (mesh : FaceList) → LeadsAtPeak mesh walk y.moves y.walk) (sym e) end.0) c.finish.ensures
+
+pub returns-clause-peak : goal.returns-clause-peak
+returns-clause-peak c =
+    let walk : List ℕ = c.args.walk.now in
+    let end = finished walk c.loop-place.track (c.loop-place.place + 1) c.darts-darts.ensures.starts
+    (omega (arith, c.darts-darts.ensures.count, c.loop-place-test.false)) c.loop-place.invariant.removals c.loop-place.invariant.leads in
+    IfOk-weaker c.finish.result (λ (x : Lifted). x ≡ record { walk = c.loop-place.track.walk; moves = c.loop-place.track.list })
+    (λ (x : Lifted). x.moves.peak ≡ darts walk)
+    (λ x e. subst (λ (y : Lifted). y.moves.peak ≡ darts walk) (sym e) end.1) c.finish.ensures
+
+pub returns-clause-ends : goal.returns-clause-ends
+returns-clause-ends c =
+    let walk : List ℕ = c.args.walk.now in
+    let end = finished walk c.loop-place.track (c.loop-place.place + 1) c.darts-darts.ensures.starts
+    (omega (arith, c.darts-darts.ensures.count, c.loop-place-test.false)) c.loop-place.invariant.removals c.loop-place.invariant.leads in
+    IfOk-weaker c.finish.result (λ (x : Lifted). x ≡ record { walk = c.loop-place.track.walk; moves = c.loop-place.track.list })
+    (λ (x : Lifted). HaveCommonEnds walk x.walk)
+    (λ x e. subst (λ (y : Lifted). HaveCommonEnds walk y.walk) (sym e) end.2) c.finish.ensures

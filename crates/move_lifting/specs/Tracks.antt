@@ -1,0 +1,24 @@
+-- A walk that is laid vertex by vertex, with the moves that led to it.
+use Rattle.std.specs.Prelude.{◌≡◌, ℕ, ◌+◌, ◌-◌, max, List, [], ◌∷◌, ◌++◌, length}
+use Rattle.surf_model.specs.FaceLists.{FaceList}
+use Rattle.surf_model.specs.Moves.{PeakedMoves}
+use Rattle.surf_model.specs.declared.moves.Move.TheVariants.{Remove}
+use Rattle.surf_model.specs.declared.names.VertexName.{VertexName}
+use Rattle.move_lifting.specs.Lifts.{LeadsAtPeak}
+
+pub record TrackView : Type 0 where
+  pub walk : List ℕ
+  pub list : PeakedMoves
+
+-- What is done at the end of a walk may be done wherever so many entries stand behind: if the moves before lead to the first walk with
+-- them behind it, the moves after lead to the second walk with them behind it.
+abbrev pub GoesOn : FaceList → ℕ → List ℕ → PeakedMoves → List ℕ → PeakedMoves → Type 0
+GoesOn mesh behind walk list next more =
+    (first rest : List ℕ) → length rest ≡ behind → LeadsAtPeak mesh first list (walk ++ rest) → LeadsAtPeak mesh first more (next ++ rest)
+
+-- the last entry goes, by a removal at the entry before it
+pub record IsStepBack (behind : ℕ) (old new : TrackView) : Type 0 where
+  pub via : VertexName
+  pub walk : old.walk ≡ new.walk ++ via.0 ∷ []
+  pub list : new.list
+      ≡ record { moves = old.list.moves ++ Remove (length old.walk - 2) via ∷ []; peak = max old.list.peak (length old.walk - 2 + behind) }

@@ -1,0 +1,109 @@
+//! A walk that is laid vertex by vertex, without spurs, and the moves that led to it.
+ghost use Rattle.std.specs.Prelude.{◌≡◌, ◌+◌, ◌-◌, ◌<◌, ◌≤◌, ◌^◌, ◌↔◌, [], ◌∷◌, ◌++◌, length, slice_index, IfOk, OnOk, All, IsTrue};
+ghost use Rattle.surf_model.specs.FaceLists.{FaceList};
+ghost use Rattle.surf_model.specs.FreeWalks.{HasNoSpur};
+ghost use Rattle.move_lifting.specs.Lifts.{IsRemoval};
+ghost use Rattle.move_lifting.specs.Tracks.{GoesOn, IsStepBack};
+
+use crate::lifted::Lifted;
+use std::alloc::{AllocError, Global};
+use std::marker::Model;
+use surf_model::{Move, MoveList, VertexName, Walk};
+
+/// The part of a walk that is laid, and the moves so far. What stands behind that part is the caller's to know.
+#[derive(Drop)]
+pub(crate) struct Track {
+    /// The vertices before the last one.
+    earlier: Vec<VertexName>,
+    last: VertexName,
+    moves: MoveList,
+}
+
+impl Model for Track {
+    ghost use Rattle.std.specs.Prelude.{◌++◌, [], ◌∷◌};
+    ghost use Rattle.surf_model.specs.Vertices.{numbers};
+    ghost use Rattle.move_lifting.specs.Tracks.{TrackView};
+
+    ghost Value = { TrackView };
+
+    ghost view = { λ a. record { walk = numbers a.earlier.items ++ a.last.0 ∷ []; list = a.moves } };
+}
+
+impl Track {
+    /// The track of one vertex, and the moves that led to it.
+    pub(crate) fn start(alloc: Global, start: VertexName, moves: MoveList) -> Track
+        ensures { result ≡ record { walk = start.0 ∷ []; list = moves } }
+    {
+        Track {
+            earlier: Vec::new(alloc),
+            last: start,
+            moves,
+        }
+    }
+
+    /// Goes on to the vertex that stands next in the walk, with `behind` entries behind it. Where that leads straight
+    /// back, the spur is taken out.
+    pub(crate) fn put(&mut self, next: VertexName, behind: u32) -> Result<(), AllocError>
+        requires no_spur { HasNoSpur self.old.walk }
+        requires room { length self.old.walk + behind < 2 ^ 31 }
+        ensures leads { OnOk result ((mesh : FaceList)
+            → GoesOn mesh behind (self.old.walk ++ next.0 ∷ []) self.old.list self.new.walk self.new.list) }
+        ensures no_spur { OnOk result (HasNoSpur self.new.walk) }
+        ensures removals { OnOk result (All IsRemoval self.old.list.moves → All IsRemoval self.new.list.moves) }
+        ensures long { OnOk result (length self.new.walk ≤ length self.old.walk + 1) }
+    {
+        if self.came_from(next) {
+            self.step_back(behind)
+        } else {
+            self.step_on(next)
+        }
+    }
+
+    /// Whether the vertex before the last one is this one.
+    fn came_from(&self, vertex: VertexName) -> bool
+        ensures { IsTrue result ↔ ((1 < length self.now.walk) × (slice_index self.now.walk (length self.now.walk - 2) ≡ vertex.0)) }
+    {
+        let before = self.earlier.len();
+        before > 0 && self.earlier[before - 1] == vertex
+    }
+
+    /// Takes out the spur that a step back to the vertex before the last one makes, with `behind` entries behind that step.
+    fn step_back(&mut self, behind: u32) -> Result<(), AllocError>
+        requires some { 1 < length self.old.walk }
+        requires room { length self.old.walk + behind < 2 ^ 31 }
+        ensures { OnOk result (IsStepBack behind self.old self.new) }
+    {
+        let at = self.earlier.len() as u32 - 1;
+        let via = self.last;
+        self.moves.push(Move::Remove { at, via }, at + behind)?;
+        self.last = self.earlier.pop().unwrap();
+        Ok(())
+    }
+
+    /// Lays one more vertex.
+    fn step_on(&mut self, next: VertexName) -> Result<(), AllocError>
+        ensures { OnOk result (self.new ≡ record { walk = self.old.walk ++ next.0 ∷ []; list = self.old.list }) }
+    {
+        self.earlier.push(self.last)?;
+        self.last = next;
+        Ok(())
+    }
+
+    /// The walk that is laid, with the moves.
+    pub(crate) fn finish(self, alloc: Global) -> Result<Lifted, AllocError>
+        requires { length self.walk ≤ 2 ^ 31 }
+        ensures { IfOk result (λ lifted. lifted ≡ record { walk = self.walk; moves = self.list }) }
+    {
+        let Track {
+            mut earlier,
+            last,
+            moves,
+        } = self;
+        earlier.push(last)?;
+        let mut walk = Walk::new(alloc, earlier[0])?;
+        for vertex in &earlier[1..] {
+            walk.push(*vertex)?;
+        }
+        Ok(Lifted { walk, moves })
+    }
+}
