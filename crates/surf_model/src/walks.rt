@@ -50,6 +50,7 @@ impl Walk {
         ensures count { result ≡ darts self.now }
         // What holds of every walk.
         ensures starts { 0 < length self.now }
+        ensures few { result < 2 ^ 31 }
     {
         self.vertices.len() as u32 - 1
     }
