@@ -88,6 +88,7 @@ certificate_line (certificates.Bad number) = refused_at (codes "certificate") nu
 certificate_line (certificates.Ended number) = refused_at (codes "certificate") number (codes "ended")
 certificate_line (certificates.Extra number) = refused_at (codes "certificate") number (codes "extra")
 certificate_line (certificates.Peak number) = refused_at (codes "certificate") number (codes "peak")
+certificate_line certificates.OutOfMemory = refused (codes "certificate" ∷ [])
 
 -- the line of a refusal
 abbrev pub refusal_line : Refusal → List ℕ

@@ -201,5 +201,6 @@ fn put_certificate_fault<K: Sink>(out: &mut K, fault: CertFault) -> Result<(), F
         CertFault::Ended { line } => put_refused_at(out, certificate, line, "ended"),
         CertFault::Extra { line } => put_refused_at(out, certificate, line, "extra"),
         CertFault::Peak { line } => put_refused_at(out, certificate, line, "peak"),
+        CertFault::OutOfMemory => put_refused(out, &[Phrase::Text(certificate)]),
     }
 }

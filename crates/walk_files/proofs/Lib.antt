@@ -5,3 +5,5 @@ pub mod ListLemmas
 pub mod ReaderLemmas
 pub mod WrittenLemmas
 pub mod RoundTrip
+pub mod FewLemmas
+pub mod DenialLines

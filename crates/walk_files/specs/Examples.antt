@@ -11,7 +11,7 @@ use Rattle.walk_files.specs.declared.fault.WalkFault.TheVariants.{BadNumber}
 use Rattle.walk_files.specs.declared.fault.CertFault.TheVariants.{NoHead, Bad, Ended, Extra, Peak}
 
 -- a text of these lines
-abbrev text : List (List ℕ) → List ℕ
+abbrev pub text : List (List ℕ) → List ℕ
 text = flat_map (λ line. line ++ 10 ∷ [])
 
 two_walks : walks_of (text (codes "0 01 2" ∷ codes "# the other" ∷ codes " 0  2 # direct" ∷ [])) ≡ Ok ((0 ∷ 1 ∷ 2 ∷ []) ∷ (0 ∷ 2 ∷ []) ∷ [])

@@ -1,27 +1,30 @@
--- A reader of a certificate, which gives its moves one by one.
-use Rattle.std.specs.Prelude.{◌≡◌, ℕ, Bool, true, false, ◌+◌, ◌-◌, ◌==◌, if◌then◌else◌, List, [], ◌∷◌, drop, Option, Some, None, Result, Ok, Err, option_map}
+-- A reader of a certificate, which gives its moves one by one, or its denial.
+use Rattle.std.specs.Prelude.{◌≡◌, ℕ, Bool, true, false, not, ◌+◌, ◌-◌, ◌==◌, if◌then◌else◌, List, [], ◌∷◌, drop, Option, Some, None, Result, Ok, Err, option_map}
 use Rattle.std.specs.Option.{ok_or}
 use Rattle.text_scan.specs.Lines.{Line, full_lines, end_line}
 use Rattle.text_scan.specs.Unread.{Unread, lines_left}
 use Rattle.surf_model.specs.declared.moves.Move.{Move}
+use Rattle.quad_system.specs.declared.denial.Denial.{Denial}
 use Rattle.walk_files.specs.Each.{ok_first}
 use Rattle.walk_files.specs.Certificates.{behind_head, move_of, moves_in}
+use Rattle.walk_files.specs.Denials.{denial_in, unlabelled}
 use Rattle.walk_files.specs.declared.fault.CertFault.{CertFault}
 use Rattle.walk_files.specs.declared.fault.CertFault.TheVariants.{Bad, Ended, Extra}
 use Rattle.walk_files.specs.declared.certificate.CertHead.{CertHead}
 use Rattle.walk_files.specs.declared.certificate.CertHead.TheVariants.{Moves, Labels}
 
--- the text, its head, how many moves were given, and the refusal that the reader keeps, if any
+-- the text, its head, how many moves were given, whether the denial was given, and the refusal that the reader keeps, if any
 pub record Certificate : Type 0 where
   pub text : List ℕ
   pub head : CertHead
   pub given : ℕ
+  pub denied : Bool
   pub refusal : Option CertFault
 
 -- the reader of a text that has this head
 abbrev pub started : List ℕ → Result CertHead CertFault → Result Certificate CertFault
 started text (Err fault) = Err fault
-started text (Ok head) = Ok (record { text = text; head = head; given = 0; refusal = None })
+started text (Ok head) = Ok (record { text = text; head = head; given = 0; denied = false; refusal = None })
 
 -- whether a list of moves is read
 abbrev pub is_list : Certificate → Bool
@@ -75,7 +78,28 @@ after_answer reader (Ok (Some move)) = record reader { given = reader.given + 1 
 after_answer reader (Ok None) = reader
 after_answer reader (Err fault) = record reader { refusal = Some fault }
 
--- what is left of a text where some moves were given and no line was refused
-pub record IsAt (text : List ℕ) (given : ℕ) (refusal : Option CertFault) (left : Unread) : Type 0 where
-  pub lines : refusal ≡ None → lines_left left ≡ drop given (behind_head (full_lines text))
-  pub end : left.end_line ≡ end_line text
+-- whether a denial is read
+abbrev pub is_denial : Certificate → Bool
+is_denial reader = not (is_list reader)
+
+-- the degree of a head; 0 at that of a list of moves
+abbrev pub degree_in : CertHead → ℕ
+degree_in (Moves count peak) = 0
+degree_in (Labels degree) = degree
+
+-- the denial that the reader has to give, or the first fault among the lines left
+abbrev pub denial_left : Certificate → Result Denial CertFault
+denial_left reader =
+    unless_refused reader.refusal (denial_in (end_line reader.text) (unlabelled (degree_in reader.head)) (lines_to_come reader))
+
+-- the reader behind that answer
+abbrev pub after_denial : Certificate → Result Denial CertFault → Certificate
+after_denial reader (Ok denial) = record reader { denied = true }
+after_denial reader (Err fault) = record reader { refusal = Some fault }
+
+-- What is left of a text where some moves were given and no line was refused. Behind a denial no lines are told; it is given behind
+-- the head of a labelling alone.
+pub record IsAt (reader : Certificate) (left : Unread) : Type 0 where
+  pub lines : reader.denied ≡ false → reader.refusal ≡ None → lines_left left ≡ lines_to_come reader
+  pub end : left.end_line ≡ end_line reader.text
+  pub denial : is_list reader ≡ true → reader.denied ≡ false

@@ -27,7 +27,7 @@ pub enum CertHead {
 }
 
 impl CertHead {
-    ghost use Rattle.walk_files.specs.Readers.{count_in};
+    ghost use Rattle.walk_files.specs.Readers.{count_in, degree_in};
 
     /// How many moves follow: none behind the head of a labelling.
     pub(crate) fn count(self) -> u64
@@ -36,6 +36,16 @@ impl CertHead {
         match self {
             CertHead::Moves { count, .. } => count,
             CertHead::Labels { .. } => 0,
+        }
+    }
+
+    /// The degree of the labelling that follows: 0 behind the head of a list of moves.
+    pub(crate) fn degree(self) -> u32
+        ensures { result ≡ degree_in self }
+    {
+        match self {
+            CertHead::Moves { .. } => 0,
+            CertHead::Labels { degree } => degree,
         }
     }
 }

@@ -1,6 +1,5 @@
 //! Why a text is not read.
 ghost use Rattle.std.specs.Prelude.{◌≡◌};
-ghost use Rattle.walk_files.specs.declared.fault.WalkFault.TheVariants.{OutOfMemory};
 
 use std::alloc::AllocError;
 use thiserror::Error;
@@ -40,12 +39,27 @@ pub enum CertFault {
     /// The peak in the head is too large.
     #[error("line {line}: the peak is too large")]
     Peak { line: u64 },
+    /// No memory was left for what was read.
+    #[error("no memory was left for what was read")]
+    OutOfMemory,
 }
 
 impl From<AllocError> for WalkFault {
+    ghost use Rattle.walk_files.specs.declared.fault.WalkFault.TheVariants.{OutOfMemory};
+
     ghost from_gives = { λ _ e. e ≡ OutOfMemory };
 
     fn from(_: AllocError) -> WalkFault {
         WalkFault::OutOfMemory
+    }
+}
+
+impl From<AllocError> for CertFault {
+    ghost use Rattle.walk_files.specs.declared.fault.CertFault.TheVariants.{OutOfMemory};
+
+    ghost from_gives = { λ _ e. e ≡ OutOfMemory };
+
+    fn from(_: AllocError) -> CertFault {
+        CertFault::OutOfMemory
     }
 }

@@ -11,6 +11,7 @@
 #![tactic(auto)]
 
 mod certificate;
+mod denial;
 mod fault;
 pub mod laws;
 mod limits;

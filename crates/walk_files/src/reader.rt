@@ -1,17 +1,21 @@
-//! A reader that gives the moves of a certificate one by one.
-ghost use Rattle.std.specs.Prelude.{◌≡◌, IsTrue};
+//! A reader that gives the moves of a certificate one by one, or its denial.
+ghost use Rattle.std.specs.Prelude.{◌≡◌, ◌⊎◌, ◌^◌, ◌<◌, length, IsTrue, false, None, Err};
 ghost use Rattle.walk_files.specs.Certificates.{head_of_text};
+ghost use Rattle.walk_files.specs.declared.fault.CertFault.TheVariants.{OutOfMemory};
 
 use crate::certificate::{CertHead, read_head};
+use crate::denial::read_denial;
 use crate::fault::CertFault;
 use crate::moves::read_next;
+use quad_system::Denial;
+use std::alloc::Global;
 use std::marker::Model;
 use surf_model::Move;
 use text_scan::Cursor;
 
 /// A certificate, of which the head and some lines behind it were read.
 ///
-/// Once it has refused a line, it gives that refusal again. It takes no memory.
+/// Once it has refused, it gives that refusal again. Only a denial takes memory.
 #[derive(Debug, Drop)]
 pub struct CertReader<'a> {
     text: &'a [u8],
@@ -20,6 +24,8 @@ pub struct CertReader<'a> {
     head: CertHead,
     /// How many moves were given.
     given: u64,
+    /// Whether the denial was given.
+    denied: bool,
     refusal: Option<CertFault>,
 }
 
@@ -28,13 +34,15 @@ impl<'a> Model for CertReader<'a> {
 
     ghost Value = { Certificate };
 
-    ghost view = { λ a. record { text = a.text.now; head = a.head; given = a.given; refusal = a.refusal } };
+    ghost view = { λ a.
+        record { text = a.text.now; head = a.head; given = a.given; denied = a.denied; refusal = a.refusal } };
 
-    ghost invariant = { λ a. IsAt a.text.now a.given a.refusal a.cursor };
+    ghost invariant = { λ a.
+        IsAt (record { text = a.text.now; head = a.head; given = a.given; denied = a.denied; refusal = a.refusal }) a.cursor };
 }
 
 impl<'a> CertReader<'a> {
-    ghost use Rattle.walk_files.specs.Readers.{Certificate, started, is_list, next_answer, after_answer, moves_left, answer_first};
+    ghost use Rattle.walk_files.specs.Readers.{Certificate, started, is_list, next_answer, after_answer, moves_left, answer_first, is_denial, denial_left, after_denial};
 
     /// Reads the lines up to the head.
     pub fn start(bytes: &'a [u8]) -> Result<CertReader<'a>, CertFault>
@@ -47,6 +55,7 @@ impl<'a> CertReader<'a> {
             cursor,
             head,
             given: 0,
+            denied: false,
             refusal: None,
         })
     }
@@ -82,5 +91,24 @@ impl<'a> CertReader<'a> {
                 Err(fault)
             }
         }
+    }
+    /// The denial that all lines behind the head are, or the first fault among them. Memory is taken for what was read
+    /// alone, and none by the degree in the head.
+    pub fn denial(&mut self, alloc: Global) -> Result<Denial, CertFault>
+        requires head { IsTrue (is_denial self.old) }
+        requires once { self.old.denied ≡ false }
+        requires short { length self.old.text < 2 ^ 32 }
+        ensures answer { (result ≡ denial_left self.old) ⊎ ((self.old.refusal ≡ None) × (result ≡ Err OutOfMemory)) }
+        ensures after { self.new ≡ after_denial self.old result }
+    {
+        if let Some(fault) = self.refusal {
+            return Err(fault);
+        }
+        let answer = read_denial(alloc, &mut self.cursor, self.head.degree());
+        match &answer {
+            Ok(_) => self.denied = true,
+            Err(fault) => self.refusal = Some(*fault),
+        }
+        answer
     }
 }
