@@ -15,6 +15,7 @@ use Rattle.halfedge_map.specs.DartMaps.{darts_of, side_of, next_of, origin_of, s
 use Rattle.halfedge_map.specs.StoredDarts.{StoreDarts, signed}
 use Rattle.halfedge_map.proofs.NumberLemmas.{IsNumberOf, number_below}
 use Rattle.halfedge_map.proofs.DartLemmas.{corners, vertex_at, next_at, origin_at, start_at, start_place}
+use Rattle.surf_model.specs.declared.limits.TheConstants.{MOST_SIDES}
 
 pub first_side-more : (mesh : FaceList) (f : ℕ) → f < length mesh.faces
     → first_side mesh (f + 1) ≡ first_side mesh f + length (face_at mesh f)
@@ -82,8 +83,8 @@ unfolding next_of origin_of side_of
 stored_signed s n next origin h = record { next_long = h.next_long; origin_long = h.origin_long; nexts = h.nexts; origins = h.origins }
 
 -- the numbers of darts are small
-pub dart_small : (mesh : FaceList) (f t : ℕ) → total_sides mesh ≤ 4000000 → IsNumberOf mesh f t (first_side mesh f + t)
-    → first_side mesh f + t < 4000000
+pub dart_small : (mesh : FaceList) (f t : ℕ) → total_sides mesh ≤ MOST_SIDES → IsNumberOf mesh f t (first_side mesh f + t)
+    → first_side mesh f + t < MOST_SIDES
 dart_small mesh f t h n = omega (arith, number_below mesh f t (first_side mesh f + t) n)
 
 -- what is read at a dart

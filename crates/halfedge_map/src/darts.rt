@@ -6,6 +6,7 @@ ghost use Rattle.surf_model.specs.Edges.{IsTableOf};
 ghost use Rattle.surf_model.specs.Surfaces.{is_flipped};
 ghost use Rattle.halfedge_map.specs.Numbers.{count_below};
 ghost use Rattle.halfedge_map.specs.StoredDarts.{StoreDarts, signed};
+ghost use Rattle.surf_model.specs.declared.limits.TheConstants.{MOST_SIDES};
 
 use std::alloc::{AllocError, Global};
 use surf_model::faces::corner_after;
@@ -50,7 +51,7 @@ fn push_darts(
 ) -> Result<(), AllocError>
     requires signs { length signs.now ≡ length faces.now.faces }
     requires face { face.0 < length faces.now.faces }
-    requires few { total_sides faces.now ≤ 4000000 }
+    requires few { total_sides faces.now ≤ MOST_SIDES }
     requires before { StoreDarts (signed faces.now signs.now) (first_side faces.now face.0)
         darts.old.next.items darts.old.origin.items }
     ensures { OnOk result (StoreDarts (signed faces.now signs.now) (first_side faces.now (face.0 + 1))

@@ -7,7 +7,8 @@ use Rattle.surf_model.specs.Edges.{Edge, IsTableOf, edge_in}
 use Rattle.manifold_check.specs.Classes.{joined_at}
 use Rattle.manifold_check.specs.Partitions.{JoinsOnlyBySteps, IsEdgeStep, AreComponents}
 use Rattle.manifold_check.proofs.Joining.{length-joined_at, joined_at_ends, joined_at_keeps, joins_only-joined_at, joins_only-alone}
-use Rattle.manifold_check.proofs.EdgeLemmas.{IsEdgeBetween, edge_between, table_pair, edge_swap, ends_below}
+use Rattle.surf_model.proofs.TableEdgeLemmas.{IsEdgeBetween, edge_between, table_pair}
+use Rattle.manifold_check.proofs.EdgeLemmas.{edge_swap, ends_below}
 
 -- the ends of the first k edges have one entry each two, and equal entries come by edges alone
 pub record JoinsEdgesUpTo (mesh : FaceList) (table : List Edge) (least : List ℕ) (k : ℕ) : Type 0 where

@@ -1,49 +1,20 @@
 -- Edges of a mesh, by its table.
-use Rattle.std.proofs.Common.{◌≡◌, ◌≢◌, ◌⊎◌, inl, inr, ℕ, ◌<◌, true, eqb, List, length, get_or, refl, ap, sym, ◌∙◌, subst, arith}
-use Rattle.std.specs.Prelude.{filter}
+use Rattle.std.proofs.Common.{◌≡◌, ◌≢◌, ◌⊎◌, inl, inr, ℕ, ◌<◌, true, eqb, List, length, get_or, ap, sym, ◌∙◌, subst, arith}
 use Rattle.std.specs.List.{list_any}
-use Rattle.std.proofs.lemmas.Bool.{cases_lt, cases_eq, eqb-true}
+use Rattle.std.proofs.lemmas.Bool.{eqb-true}
 use Rattle.std.proofs.lemmas.Bool.Decides.{nat_tests}
-use Rattle.std.proofs.lemmas.List.{length-map, get_or_default}
-use Rattle.std.proofs.lemmas.List.Elements.{filter_agree}
 use Rattle.std.proofs.lemmas.List.Folds.{Any-from_list_any, list_any-from_Any}
 use Rattle.surf_model.specs.FaceLists.{FaceList, FaceSide, IsFace, IsFaceList, all_sides, joins, is_edge, is_used}
 use Rattle.surf_model.specs.Darts.{IsSide, side_after, tail_of, head_of}
-use Rattle.surf_model.specs.Edges.{Edge, IsTableOf, IsEdgeOf, HasEnds, IsPairBefore, side_name, edge_in}
+use Rattle.surf_model.specs.Edges.{Edge, IsTableOf, IsEdgeOf, IsPairBefore, side_name, edge_in}
 use Rattle.surf_model.specs.Surfaces.{sides_between, EachEdgeHasTwoSides}
 use Rattle.surf_model.specs.declared.edges.Side.{Side}
-use Rattle.surf_model.proofs.TableLemmas.{edge_from_table}
+use Rattle.surf_model.proofs.TableLemmas.{joins_swap}
+use Rattle.surf_model.proofs.TableEdgeLemmas.{IsEdgeBetween, edge_between, table_pair, sides_of_edge, sides_between_swap, same_pair, place_before}
 use Rattle.surf_model.proofs.PartnerLemmas.{IsWholeSide, whole_side}
 use Rattle.manifold_check.proofs.CornerLemmas.{after_in_mesh, ends_differ, corner_used}
 use Rattle.manifold_check.specs.Faults.{IsLeastUnevenEdge}
 use Rattle.manifold_check.specs.Partitions.{IsFirstUneven}
-
--- the edge of two vertices, by its place in the table
-pub record IsEdgeBetween (table : List Edge) (u v : ℕ) : Type 0 where
-  pub edge : ℕ
-  pub in_table : edge < length table
-  pub ends : HasEnds u v (edge_in table edge)
-
-both_join : (u v a b : ℕ) (s : FaceSide) → joins u v s ≡ true → joins a b s ≡ true → ((a ≡ u) × (b ≡ v)) ⊎ ((a ≡ v) × (b ≡ u))
-both_join u v a b s h k = grind (arith, nat_tests)
-
-pub edge_between : (mesh : FaceList) (table : List Edge) (u v : ℕ) → IsTableOf mesh table → is_edge mesh u v ≡ true → IsEdgeBetween table u v
-unfolding is_edge
-edge_between mesh table u v h is =
-    let any = Any-from_list_any (joins u v) (all_sides mesh) is in
-    let found = h.complete any.0 any.1 any.2 in
-    let here : joins found.1.low found.1.high any.1 ≡ true = subst (λ (s : FaceSide). joins found.1.low found.1.high s ≡ true) any.3 found.4 in
-    let at : edge_in table found.0 ≡ found.1 = get_or_default table found.0 _ found.1 found.2 ∙ found.3 in
-    record { edge = found.0; in_table = found.2; ends = subst (HasEnds u v) (sym at) (both_join u v found.1.low found.1.high any.1 any.4 here) }
-
--- the ends of an edge of the table form an edge
-pub table_pair : (mesh : FaceList) (table : List Edge) (k : ℕ) → IsTableOf mesh table → k < length table → is_edge mesh (edge_in table k).low (edge_in table k).high ≡ true
-table_pair mesh table k h l =
-    let edge : Edge = edge_in table k in
-    edge_from_table mesh table edge.low edge.high h (k, edge, l, get_or_default table k _ _ l, inl (refl, refl))
-
-joins_swap : (u v : ℕ) (s : FaceSide) → joins u v s ≡ joins v u s
-joins_swap u v s = grind (arith, nat_tests)
 
 pub edge_swap : (mesh : FaceList) (u v : ℕ) → is_edge mesh u v ≡ true → is_edge mesh v u ≡ true
 unfolding is_edge
@@ -110,13 +81,6 @@ ends_below mesh table k valid h l =
       used_below mesh edge.high valid (edge_used mesh edge.low edge.high is),
     )
 
--- the number of sides of an edge of the table
-sides_of_edge : (mesh : FaceList) (edge : Edge) → IsEdgeOf mesh edge → length edge.sides ≡ sides_between mesh edge.low edge.high
-sides_of_edge mesh edge h = ap (λ (sides : List Side). length sides) h.sides ∙ length-map (filter (joins edge.low edge.high) (all_sides mesh)) side_name
-
-pub sides_between_swap : (mesh : FaceList) (u v : ℕ) → sides_between mesh u v ≡ sides_between mesh v u
-sides_between_swap mesh u v = ap (λ (sides : List FaceSide). length sides) (filter_agree (joins u v) (joins v u) (joins_swap u v) (all_sides mesh))
-
 pub sides_by_table : (mesh : FaceList) (table : List Edge) (u v : ℕ) (h : IsTableOf mesh table) (is : is_edge mesh u v ≡ true)
     → sides_between mesh u v ≡ length (edge_in table (edge_between mesh table u v h is).edge).sides
 sides_by_table mesh table u v h is =
@@ -138,30 +102,6 @@ pub table_from_two_sides : (mesh : FaceList) (table : List Edge) (k : ℕ) → I
     → length (edge_in table k).sides ≡ 2
 table_from_two_sides mesh table k h two l =
     sides_of_edge mesh (edge_in table k) (h.edges k _ l) ∙ two (edge_in table k).low (edge_in table k).high (table_pair mesh table k h l)
-
-same_pair : (a b c d : ℕ) → a < b → c < d → ((c ≡ a) × (d ≡ b)) ⊎ ((c ≡ b) × (d ≡ a)) → (c ≡ a) × (d ≡ b)
-same_pair a b c d up rise h = (grind arith, grind arith)
-
-not_both_before : (a b c d : ℕ) → IsPairBefore a b c d → IsPairBefore c d a b → ⊥
-not_both_before a b c d h k = grind arith
-
--- a pair that comes before an edge of the table has its place before it
-place_before : (mesh : FaceList) (table : List Edge) (j k : ℕ) → IsTableOf mesh table → j < length table → k < length table
-    → IsPairBefore (edge_in table j).low (edge_in table j).high (edge_in table k).low (edge_in table k).high → j < k
-place_before mesh table j k h lj lk before =
-    let e : Edge = edge_in table j in
-    let f : Edge = edge_in table k in
-    elim (cases_lt j k) [
-      | inl less ↦ less
-      | inr more ↦ elim (cases_eq j k) [
-        | inl same ↦
-            absurd
-            (not_both_before e.low e.high e.low e.high
-            (subst (λ m. IsPairBefore e.low e.high (edge_in table m).low (edge_in table m).high) (sym same) before)
-            (subst (λ m. IsPairBefore e.low e.high (edge_in table m).low (edge_in table m).high) (sym same) before))
-        | inr other ↦ absurd (not_both_before e.low e.high f.low f.high before (h.rising k j _ (omega arith) lj))
-      ]
-    ]
 
 least_uneven : (mesh : FaceList) (table : List Edge) (k : ℕ) → IsTableOf mesh table → IsFirstUneven table k
     → IsLeastUnevenEdge mesh (edge_in table k).low (edge_in table k).high (length (edge_in table k).sides)

@@ -6,7 +6,8 @@ use Rattle.surf_model.specs.Surfaces.{IsClosed, EachEdgeHasTwoSides, HasOneRing,
 use Rattle.manifold_check.specs.Faults.{IsFirstFault, IsLeastUsed, EachVertexHasOneRing, EachTwoAreJoined}
 use Rattle.manifold_check.specs.declared.fault.SurfaceFault.{SurfaceFault}
 use Rattle.manifold_check.specs.declared.fault.SurfaceFault.TheVariants.{NoFace, EdgeSides, Pinched, Apart}
-use Rattle.manifold_check.proofs.EdgeLemmas.{edge_swap, edge_differs, sides_between_swap, used_below}
+use Rattle.surf_model.proofs.TableEdgeLemmas.{sides_between_swap}
+use Rattle.manifold_check.proofs.EdgeLemmas.{edge_swap, edge_differs, used_below}
 use Rattle.manifold_check.proofs.WalkLemmas.{walk_between_ends}
 
 -- nothing is a first fault of the mesh

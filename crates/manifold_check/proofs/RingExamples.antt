@@ -2,7 +2,8 @@
 use Rattle.std.proofs.Common.{◌≡◌, inl, inr, ℕ, refl, ap, arith, lit<}
 use Rattle.surf_model.specs.Surfaces.{IsStepAround}
 use Rattle.surf_model.specs.declared.edges.Side.{Side}
-use Rattle.manifold_check.specs.Examples.{tetrahedron, slit}
+use Rattle.surf_model.specs.Meshes.{tetrahedron}
+use Rattle.manifold_check.specs.Examples.{slit}
 
 -- side t of face f, and the corner where it starts
 abbrev side : ℕ → ℕ → Side

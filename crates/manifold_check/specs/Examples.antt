@@ -2,20 +2,14 @@
 -- what `check_closed` answers on such meshes is in the tests.
 use Rattle.std.specs.Prelude.{◌≡◌, ℕ, List, [], ◌∷◌, map, refl}
 use Rattle.surf_model.specs.FaceLists.{FaceList, all_sides}
+use Rattle.surf_model.specs.Meshes.{tetrahedron, moebius_band}
 use Rattle.surf_model.specs.Surfaces.{sides_between}
 use Rattle.manifold_check.specs.Faults.{IsFirstFault}
 use Rattle.manifold_check.specs.declared.fault.SurfaceFault.TheVariants.{NoFace}
 
-abbrev pub tetrahedron : FaceList
-tetrahedron = record { count = 4; faces = (0 ∷ 1 ∷ 2 ∷ []) ∷ (0 ∷ 3 ∷ 1 ∷ []) ∷ (0 ∷ 2 ∷ 3 ∷ []) ∷ (1 ∷ 3 ∷ 2 ∷ []) ∷ [] }
-
--- without its last face
+-- the tetrahedron without its last face
 abbrev open_tetrahedron : FaceList
 open_tetrahedron = record { count = 4; faces = (0 ∷ 1 ∷ 2 ∷ []) ∷ (0 ∷ 3 ∷ 1 ∷ []) ∷ (0 ∷ 2 ∷ 3 ∷ []) ∷ [] }
-
--- five triangles in a ring, each with two vertices of the one before
-abbrev moebius_band : FaceList
-moebius_band = record { count = 5; faces = (0 ∷ 1 ∷ 2 ∷ []) ∷ (1 ∷ 2 ∷ 3 ∷ []) ∷ (2 ∷ 3 ∷ 4 ∷ []) ∷ (3 ∷ 4 ∷ 0 ∷ []) ∷ (4 ∷ 0 ∷ 1 ∷ []) ∷ [] }
 
 -- a sphere of one face, which goes along two edges and back
 abbrev pub slit : FaceList

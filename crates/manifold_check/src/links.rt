@@ -8,6 +8,7 @@ ghost use Rattle.manifold_check.specs.Faults.{EachVertexHasOneRing, IsLeastPinch
 ghost use Rattle.manifold_check.specs.Partitions.{AreRings};
 ghost use Rattle.manifold_check.specs.Classes.{AreLeastMembers};
 ghost use Rattle.manifold_check.specs.Links.{IsCornerNumber, AreLinks, IsFirstPinched, with_ring, link_at};
+ghost use Rattle.surf_model.specs.declared.limits.TheConstants.{MOST_VERTICES};
 
 use crate::classes::Classes;
 use std::alloc::{AllocError, Global};
@@ -119,7 +120,7 @@ fn add_ring(links: &mut [Link], vertex: VertexName)
 
 /// The first vertex whose link is pinched.
 fn first_pinched(links: &[Link]) -> Option<VertexName>
-    requires { length links.now ≤ 1000000 }
+    requires { length links.now ≤ MOST_VERTICES }
     ensures some { IfSome result (λ vertex. IsFirstPinched links.now vertex.0) }
     ensures none { IfNone result ((v : ℕ) → v < length links.now → link_at links.now v ≡ Link.Pinched → ⊥) }
 {

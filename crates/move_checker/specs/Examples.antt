@@ -1,6 +1,7 @@
 -- What the definitions give on two small meshes: a tetrahedron, and the torus of seven vertices.
 use Rattle.std.specs.Prelude.{◌≡◌, ℕ, Bool, true, false, List, [], ◌∷◌, refl, Result, Ok, Err}
-use Rattle.surf_model.specs.FaceLists.{FaceList, all_sides, is_edge}
+use Rattle.surf_model.specs.FaceLists.{all_sides, is_edge}
+use Rattle.surf_model.specs.Meshes.{tetrahedron, torus}
 use Rattle.surf_model.specs.Moves.{PeakedMoves, apply}
 use Rattle.surf_model.specs.declared.moves.Move.{Move}
 use Rattle.surf_model.specs.declared.moves.Move.TheVariants.{Insert, Remove, Across}
@@ -10,17 +11,6 @@ use Rattle.move_checker.specs.Verdicts.{verdict_from, verdict_of}
 use Rattle.move_checker.specs.declared.fault.MoveFault.{MoveFault}
 use Rattle.move_checker.specs.declared.fault.MoveFault.TheVariants.{Place, NoEdge, NotSpur, NotOnFace, OverPeak}
 use Rattle.move_checker.specs.declared.judge.Verdict.TheVariants.{Accepted, Peak, AtMove, End}
-
-abbrev pub tetrahedron : FaceList
-tetrahedron = record { count = 4; faces = (0 ∷ 1 ∷ 2 ∷ []) ∷ (0 ∷ 3 ∷ 1 ∷ []) ∷ (0 ∷ 2 ∷ 3 ∷ []) ∷ (1 ∷ 3 ∷ 2 ∷ []) ∷ [] }
-
-abbrev pub torus : FaceList
-torus = record {
-  count = 7;
-  faces =
-      (0 ∷ 1 ∷ 3 ∷ []) ∷ (1 ∷ 2 ∷ 4 ∷ []) ∷ (2 ∷ 3 ∷ 5 ∷ []) ∷ (3 ∷ 4 ∷ 6 ∷ []) ∷ (4 ∷ 5 ∷ 0 ∷ []) ∷ (5 ∷ 6 ∷ 1 ∷ []) ∷ (6 ∷ 0 ∷ 2 ∷ [])
-      ∷ (0 ∷ 3 ∷ 2 ∷ []) ∷ (1 ∷ 4 ∷ 3 ∷ []) ∷ (2 ∷ 5 ∷ 4 ∷ []) ∷ (3 ∷ 6 ∷ 5 ∷ []) ∷ (4 ∷ 0 ∷ 6 ∷ []) ∷ (5 ∷ 1 ∷ 0 ∷ []) ∷ (6 ∷ 2 ∷ 1 ∷ []) ∷ [];
-}
 
 abbrev pub vertex : ℕ → VertexName
 vertex v = record { 0 = v }

@@ -1,5 +1,6 @@
 -- A walk that steps change in place, and how it lies in memory.
 use Rattle.std.specs.Prelude.{ℕ, ◌+◌, ◌<◌, ◌≤◌, List}
+use Rattle.surf_model.specs.declared.limits.TheConstants.{MOST_PEAK}
 
 -- a walk, with the greatest number of darts that it may ever have
 pub record PeakedWalk : Type 0 where
@@ -11,4 +12,4 @@ pub record HasRoom (peak capacity entries : ℕ) : Type 0 where
   pub starts : 0 < entries
   pub within_peak : entries ≤ peak + 1
   pub reserved : peak + 1 ≤ capacity
-  pub few : peak ≤ 16000000
+  pub few : peak ≤ MOST_PEAK

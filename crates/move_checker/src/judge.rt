@@ -3,6 +3,7 @@ ghost use Rattle.std.specs.Prelude.{◌≡◌, ◌≤◌, ◌↔◌, IfOk};
 ghost use Rattle.surf_model.specs.Edges.{IsTableOf};
 ghost use Rattle.surf_model.specs.Moves.{Leads, greatest_darts};
 ghost use Rattle.move_checker.specs.Verdicts.{verdict_of};
+ghost use Rattle.surf_model.specs.declared.limits.TheConstants.{MOST_PEAK};
 
 use crate::fault::MoveFault;
 use crate::tape::{Tape, TapeFault};
@@ -34,7 +35,7 @@ pub fn check_moves(
     list: &MoveList,
 ) -> Result<Verdict, AllocError>
     requires table { IsTableOf faces.now sides.now }
-    requires peak { list.now.peak ≤ 16000000 }
+    requires peak { list.now.peak ≤ MOST_PEAK }
     ensures verdict { IfOk result (λ verdict. verdict ≡ verdict_of faces.now first.now second.now list.now) }
     // In the words of the mesh: the moves lead from walk to walk, and pass no more darts than is declared.
     ensures accepted { IfOk result (λ verdict. (verdict ≡ Verdict.Accepted)

@@ -4,6 +4,7 @@ ghost use Rattle.surf_model.specs.Walks.{darts};
 ghost use Rattle.surf_model.specs.Moves.{apply};
 ghost use Rattle.surf_model.specs.Edges.{IsTableOf};
 ghost use Rattle.move_checker.specs.Refusals.{step_of};
+ghost use Rattle.surf_model.specs.declared.limits.TheConstants.{MOST_PEAK};
 
 use crate::edits::do_move;
 use crate::fault::MoveFault;
@@ -45,7 +46,7 @@ impl Tape {
     /// Lays a walk on a tape with room for `peak` darts. The error is that the walk has more, or
     /// that there is no memory for so many.
     pub fn start(alloc: Global, walk: &Walk, peak: u32) -> Result<Tape, TapeFault>
-        requires { peak ≤ 16000000 }
+        requires { peak ≤ MOST_PEAK }
         ensures ok { IfOk result (λ tape. tape ≡ record { walk = walk.now; peak = peak }) }
         ensures over { (result ≡ Err TapeFault.OverPeak) ↔ (peak < darts walk.now) }
     {

@@ -1,5 +1,6 @@
 //! Steps and verdicts on a tetrahedron and on the torus of seven vertices, worked by hand.
 ghost use Rattle.std.specs.Prelude.{◌≤◌};
+ghost use Rattle.surf_model.specs.declared.limits.TheConstants.{MOST_PEAK, MOST_VERTICES};
 
 use crate::fault::MoveFault;
 use crate::judge::{Verdict, check_moves};
@@ -28,7 +29,7 @@ const TORUS: [[u32; 3]; 14] = [
 ];
 
 fn mesh_of(alloc: Global, rt: &impl Abort, count: u32, triangles: &[[u32; 3]]) -> Faces
-    requires { count ≤ 1000000 }
+    requires { count ≤ MOST_VERTICES }
 {
     let mut faces = Faces::new(alloc, count);
     for triangle in triangles {
@@ -90,7 +91,7 @@ fn try_step(
     want: Result<(), MoveFault>,
     after: &Walk,
 )
-    requires { peak ≤ 16000000 }
+    requires { peak ≤ MOST_PEAK }
 {
     let faces = mesh_of(alloc, rt, 4, &TETRAHEDRON);
     let sides = Sides::build(alloc, &faces).expect(rt, "memory for the edges");

@@ -10,6 +10,8 @@ use Rattle.text_scan.specs.Unread.{Unread, lines_left, next_natural}
 use Rattle.off_reader.specs.OffTexts.{Keyword, two_naturals, counted, counts_at, bare_counts, counts_behind, keyword_of, header_of, line_before}
 use Rattle.off_reader.specs.OffSteps.{line_at}
 use Rattle.off_reader.specs.declared.off_fault.OffFault.TheVariants.{NoCounts, BadCounts, TooMany}
+use Rattle.surf_model.specs.declared.limits.TheConstants.{MOST_VERTICES}
+use Rattle.off_reader.specs.declared.header.TheConstants.{MOST_FACES}
 
 abbrev cap : ℕ
 cap = 2 ^ 64 - 1
@@ -73,28 +75,28 @@ more whole n bound e above = omega (arith, e, above, min-le_left whole (2 ^ 64 -
 
 pub good_counts : (c number : ℕ) (first : List ℕ) (words : List (List ℕ)) (lines : List Line) (v f : ℕ)
     → Some v ≡ option_map (λ n. min n (2 ^ 64 - 1)) (natural_of first)
-    → Some f ≡ option_map (λ n. min n (2 ^ 64 - 1)) (next_natural words) → v ≤ 1000000 → f ≤ 1333333
+    → Some f ≡ option_map (λ n. min n (2 ^ 64 - 1)) (next_natural words) → v ≤ MOST_VERTICES → f ≤ MOST_FACES
     → counts_at c (record { number = number; words = first ∷ words } ∷ lines) ≡ Ok (record { coordinates = c; vertices = v; faces = f; lines = lines })
 good_counts c number first words lines v f e g small_v small_f =
     let a = a_cap (natural_of first) v e in
     let b = a_cap (next_natural words) f g in
-    let same_v : v ≡ a.whole = kept a.whole v 1000000 a.capped small_v (omega arith) in
-    let same_f : f ≡ b.whole = kept b.whole f 1333333 b.capped small_f (omega arith) in
-    let few_v : leb a.whole 1000000 ≡ true = le-leb _ _ (omega (arith, same_v, small_v)) in
-    let few_f : leb b.whole 1333333 ≡ true = le-leb _ _ (omega (arith, same_f, small_f)) in
+    let same_v : v ≡ a.whole = kept a.whole v MOST_VERTICES a.capped small_v (omega arith) in
+    let same_f : f ≡ b.whole = kept b.whole f MOST_FACES b.capped small_f (omega arith) in
+    let few_v : leb a.whole MOST_VERTICES ≡ true = le-leb _ _ (omega (arith, same_v, small_v)) in
+    let few_f : leb b.whole MOST_FACES ≡ true = le-leb _ _ (omega (arith, same_f, small_f)) in
     two_counts c number first words lines a.whole b.whole a.is b.is ∙ rw (few_v, few_f, sym same_v, sym same_f) refl
 
 pub many_counts : (c number : ℕ) (first : List ℕ) (words : List (List ℕ)) (lines : List Line) (v f : ℕ)
     → Some v ≡ option_map (λ n. min n (2 ^ 64 - 1)) (natural_of first)
-    → Some f ≡ option_map (λ n. min n (2 ^ 64 - 1)) (next_natural words) → (1000000 < v) ⊎ (1333333 < f)
+    → Some f ≡ option_map (λ n. min n (2 ^ 64 - 1)) (next_natural words) → (MOST_VERTICES < v) ⊎ (MOST_FACES < f)
     → counts_at c (record { number = number; words = first ∷ words } ∷ lines) ≡ Err (TooMany number)
 many_counts c number first words lines v f e g many =
     let a = a_cap (natural_of first) v e in
     let b = a_cap (next_natural words) f g in
-    let over : (leb a.whole 1000000 && leb b.whole 1333333) ≡ false
-    = elim many as (λ _. (leb a.whole 1000000 && leb b.whole 1333333) ≡ false) [
-      | inl large ↦ and_left _ _ (lt-leb _ _ (more a.whole v 1000000 a.capped large))
-      | inr large ↦ and_right _ _ (lt-leb _ _ (more b.whole f 1333333 b.capped large))
+    let over : (leb a.whole MOST_VERTICES && leb b.whole MOST_FACES) ≡ false
+    = elim many as (λ _. (leb a.whole MOST_VERTICES && leb b.whole MOST_FACES) ≡ false) [
+      | inl large ↦ and_left _ _ (lt-leb _ _ (more a.whole v MOST_VERTICES a.capped large))
+      | inr large ↦ and_right _ _ (lt-leb _ _ (more b.whole f MOST_FACES b.capped large))
     ] in
     two_counts c number first words lines a.whole b.whole a.is b.is ∙ rw over refl
 

@@ -10,6 +10,7 @@ use Rattle.off_reader.specs.OffTexts.{taken, point_fault, face_fault, ring_fault
 use Rattle.off_reader.specs.OffSteps.{line_at, IsSameLine, TakesFaces}
 use Rattle.off_reader.specs.declared.off_fault.OffFault.{OffFault}
 use Rattle.off_reader.specs.declared.off_fault.OffFault.TheVariants.{Ended, OutOfMemory}
+use Rattle.surf_model.specs.declared.limits.TheConstants.{MOST_SIDES}
 
 abbrev Check : Type 0
 Check = List Line → Line → Option OffFault
@@ -90,7 +91,7 @@ pub record IsFacesTo (vertices count : ℕ) (old : Unread) (n : ℕ) (new : Unre
   pub same : taken (face_fault vertices) old.end_line before (count - n) new.lines ≡ taken (face_fault vertices) old.end_line [] count old.lines
   pub end : new.end_line ≡ old.end_line
   pub mesh : faces ≡ record { count = vertices; faces = rings_of before }
-  pub few : total_sides faces ≤ 4000000
+  pub few : total_sides faces ≤ MOST_SIDES
 
 pub no_faces : (vertices count : ℕ) (u : Unread) (faces : FaceList) → faces ≡ record { count = vertices; faces = [] }
     → IsFacesTo vertices count u 0 u faces
@@ -114,7 +115,7 @@ fault_in vertices before u faces is = ap (λ (m : FaceList). ring_fault vertices
 pub one_face : (vertices count : ℕ) (old mid line new : Unread) (faces more : FaceList) (ring : List ℕ) (n : ℕ) → n < count
     → mid.lines ≡ line_at line ∷ line.lines
     → line.end_line ≡ mid.end_line → corners_of line.words ≡ Some ring → ring_fault vertices (total_sides faces) line.line (corners_of line.words) ≡ None → IsSameLine line new
-    → more ≡ record { count = faces.count; faces = faces.faces ++ ring ∷ [] } → total_sides faces + length ring ≤ 4000000
+    → more ≡ record { count = faces.count; faces = faces.faces ++ ring ∷ [] } → total_sides faces + length ring ≤ MOST_SIDES
     → IsFacesTo vertices count old n mid faces → IsFacesTo vertices count old (n + 1) new more
 one_face vertices count old mid line new faces more ring n below is end corners good same grown room h =
     let fine : face_fault vertices h.before (line_at line) ≡ None = fault_in vertices h.before line faces h.mesh ∙ good in

@@ -19,6 +19,7 @@ use Rattle.off_reader.specs.OffSteps.{line_at, IsSameLine, ReadsCorners}
 use Rattle.off_reader.specs.declared.off_fault.OffFault.{OffFault}
 use Rattle.off_reader.specs.declared.off_fault.OffFault.TheVariants.{BadVertex, BadFace, IndexRange, EqualNeighbours, TooMany, OutOfMemory}
 use Rattle.off_reader.proofs.HeaderLemmas.{a_cap, no_cap, kept, no_natural}
+use Rattle.surf_model.specs.declared.limits.TheConstants.{MOST_VERTICES, MOST_SIDES}
 
 -- ---- words that pass a test
 
@@ -152,12 +153,12 @@ pub record IsCornersTo (vertices : ℕ) (old : Unread) (n : ℕ) (new : Unread) 
 pub no_corners : (vertices : ℕ) (u : Unread) (ring : List ℕ) → ring ≡ [] → IsCornersTo vertices u 0 u true ring
 no_corners vertices u ring none = record { read = none_read is_natural u; range = refl; corners = λ e. none }
 
-pub corner_in : (vertices : ℕ) (old mid new : Unread) (n v : ℕ) (in_range : Bool) (ring : List ℕ) → vertices ≤ 1000000
+pub corner_in : (vertices : ℕ) (old mid new : Unread) (n v : ℕ) (in_range : Bool) (ring : List ℕ) → vertices ≤ MOST_VERTICES
     → Some v ≡ option_map (λ n. min n (2 ^ 64 - 1)) (next_natural mid.words)
     → new ≡ past_word mid → v < vertices → IsCornersTo vertices old n mid in_range ring → IsCornersTo vertices old (n + 1) new in_range (ring ++ v ∷ [])
 corner_in vertices old mid new n v in_range ring few e is below h =
     let next = next_value old mid n v e h.read in
-    let same : v ≡ value_of next.0 = kept (value_of next.0) v 1000000 next.2 (omega (arith, below, few)) (omega arith) in
+    let same : v ≡ value_of next.0 = kept (value_of next.0) v MOST_VERTICES next.2 (omega (arith, below, few)) (omega arith) in
     let small : ltb (value_of next.0) vertices ≡ true = lt-ltb _ _ (omega (arith, below, same)) in
     record {
       read = one_read is_natural old mid new n (next_is_natural mid.words v e) is h.read;
@@ -251,7 +252,7 @@ length_values words n fits = length-map (take n words) value_of ∙ length-take-
 
 pub many_sides : (vertices before v : ℕ) (old mid : Unread) (fault : OffFault)
     → Some v ≡ option_map (λ n. min n (2 ^ 64 - 1)) (next_natural old.words) → mid ≡ past_word old
-    → length mid.words < 2 ^ 64 - 1 → 3 ≤ v → before ≤ 4000000 → 4000000 - before < v
+    → length mid.words < 2 ^ 64 - 1 → 3 ≤ v → before ≤ MOST_SIDES → MOST_SIDES - before < v
     → fault ≡ cond (pass_to is_natural v mid.words) (TooMany mid.line) (BadFace mid.line) → ring_fault vertices before old.line (corners_of old.words) ≡ Some fault
 many_sides vertices before v old mid fault e is few three fits many said =
     let h = has_sides old.words v e in
@@ -266,32 +267,32 @@ many_sides vertices before v old mid fault e is few three fits many said =
     (ap (ring_fault vertices before old.line) corners)
     (said ∙ ap₂ (λ (b : Bool) (k : ℕ). cond b (TooMany k) (BadFace k)) same line)
   where
-    by_test : (words : List (List ℕ)) (sides : ℕ) (b : Bool) → pass_to is_natural sides words ≡ b → 4000000 - before < sides
+    by_test : (words : List (List ℕ)) (sides : ℕ) (b : Bool) → pass_to is_natural sides words ≡ b → MOST_SIDES - before < sides
         → ring_fault vertices before old.line (corners_of old.words) ≡ ring_fault vertices before old.line (cond b (Some (map value_of (take sides words))) None)
         → fault ≡ cond b (TooMany old.line) (BadFace old.line) → ring_fault vertices before old.line (corners_of old.words) ≡ Some fault
     by_test words sides true passes over so said =
         let enough : sides ≤ length words = leb-true _ _ (and_parts _ _ passes).0 in
-        let past : ltb 4000000 (before + length (map value_of (take sides words))) ≡ true = lt-ltb _ _ (omega (arith, over, fits, length_values words sides enough)) in
+        let past : ltb MOST_SIDES (before + length (map value_of (take sides words))) ≡ true = lt-ltb _ _ (omega (arith, over, fits, length_values words sides enough)) in
         so ∙ rw past (ap Some (sym said))
     by_test words sides false passes over so said = so ∙ ap Some (sym said)
 
 -- ---- a face with room for its sides
 
-fits_ring : (before v : ℕ) (words : List (List ℕ)) → Some v ≡ option_map (λ n. min n (2 ^ 64 - 1)) (next_natural words) → before ≤ 4000000
-    → v ≤ 4000000 - before
+fits_ring : (before v : ℕ) (words : List (List ℕ)) → Some v ≡ option_map (λ n. min n (2 ^ 64 - 1)) (next_natural words) → before ≤ MOST_SIDES
+    → v ≤ MOST_SIDES - before
     → corners_of words ≡ corners_among (drop 1 words) v
 fits_ring before v words e few fits =
     let h = has_sides words v e in
-    let same : v ≡ h.sides = kept h.sides v 4000000 h.capped (omega (arith, fits)) (omega arith) in
+    let same : v ≡ h.sides = kept h.sides v MOST_SIDES h.capped (omega (arith, fits)) (omega arith) in
     h.corners ∙ ap (corners_among (drop 1 words)) (sym same)
 
-no_overflow : (words : List (List ℕ)) (before v : ℕ) → before ≤ 4000000 → v ≤ 4000000 - before
-    → ltb 4000000 (before + length (map value_of (take v words))) ≡ false
+no_overflow : (words : List (List ℕ)) (before v : ℕ) → before ≤ MOST_SIDES → v ≤ MOST_SIDES - before
+    → ltb MOST_SIDES (before + length (map value_of (take v words))) ≡ false
 no_overflow words before v few fits = le-ltb _ _ (omega (arith, few, fits, length-map (take v words) value_of, length-take v words, min-le_left v (length words)))
 
 pub missing_ring : (vertices before v : ℕ) (old mid : Unread) (fault : OffFault) (ring : List ℕ)
     → Some v ≡ option_map (λ n. min n (2 ^ 64 - 1)) (next_natural old.words) → mid ≡ past_word old
-    → before ≤ 4000000 → v ≤ 4000000 - before → ReadsCorners vertices v mid (Err fault) ring
+    → before ≤ MOST_SIDES → v ≤ MOST_SIDES - before → ReadsCorners vertices v mid (Err fault) ring
     → (fault ≡ OutOfMemory) ⊎ (ring_fault vertices before old.line (corners_of old.words) ≡ Some fault)
 missing_ring vertices before v old mid fault ring e is few fits (inl memory) = inl memory
 missing_ring vertices before v old mid fault ring e is few fits (inr bad) =
@@ -303,13 +304,13 @@ missing_ring vertices before v old mid fault ring e is few fits (inr bad) =
 record IsRing (vertices before : ℕ) (old : Unread) (in_range : Bool) (ring : List ℕ) : Type 0 where
   values : List ℕ
   corners : corners_of old.words ≡ Some values
-  room : ltb 4000000 (before + length values) ≡ false
+  room : ltb MOST_SIDES (before + length values) ≡ false
   range : in_range ≡ list_all (λ v. ltb v vertices) values
   same : in_range ≡ true → ring ≡ values
 
 is_ring : (vertices before v : ℕ) (old mid : Unread) (in_range : Bool) (ring : List ℕ)
     → Some v ≡ option_map (λ n. min n (2 ^ 64 - 1)) (next_natural old.words) → mid ≡ past_word old
-    → before ≤ 4000000 → v ≤ 4000000 - before → ReadsCorners vertices v mid (Ok in_range) ring → IsRing vertices before old in_range ring
+    → before ≤ MOST_SIDES → v ≤ MOST_SIDES - before → ReadsCorners vertices v mid (Ok in_range) ring → IsRing vertices before old in_range ring
 is_ring vertices before v old mid in_range ring e is few fits h =
     let words : mid.words ≡ drop 1 old.words = ap (λ (u : Unread). u.words) is in
     record {
@@ -322,7 +323,7 @@ is_ring vertices before v old mid in_range ring e is few fits h =
 
 pub out_of_range : (vertices before v : ℕ) (old mid : Unread) (line : ℕ) (ring : List ℕ)
     → Some v ≡ option_map (λ n. min n (2 ^ 64 - 1)) (next_natural old.words) → mid ≡ past_word old
-    → before ≤ 4000000 → v ≤ 4000000 - before → line ≡ old.line → ReadsCorners vertices v mid (Ok false) ring
+    → before ≤ MOST_SIDES → v ≤ MOST_SIDES - before → line ≡ old.line → ReadsCorners vertices v mid (Ok false) ring
     → ring_fault vertices before old.line (corners_of old.words) ≡ Some (IndexRange line)
 out_of_range vertices before v old mid line ring e is few fits at h =
     let r = is_ring vertices before v old mid false ring e is few fits h in
@@ -330,7 +331,7 @@ out_of_range vertices before v old mid line ring e is few fits at h =
 
 pub equal_neighbours : (vertices before v : ℕ) (old mid : Unread) (line : ℕ) (ring : List ℕ)
     → Some v ≡ option_map (λ n. min n (2 ^ 64 - 1)) (next_natural old.words) → mid ≡ past_word old
-    → before ≤ 4000000 → v ≤ 4000000 - before → line ≡ old.line → ReadsCorners vertices v mid (Ok true) ring → has_equal_neighbours ring ≡ true
+    → before ≤ MOST_SIDES → v ≤ MOST_SIDES - before → line ≡ old.line → ReadsCorners vertices v mid (Ok true) ring → has_equal_neighbours ring ≡ true
     → ring_fault vertices before old.line (corners_of old.words) ≡ Some (EqualNeighbours line)
 equal_neighbours vertices before v old mid line ring e is few fits at h equal =
     let r = is_ring vertices before v old mid true ring e is few fits h in
@@ -339,7 +340,7 @@ equal_neighbours vertices before v old mid line ring e is few fits at h equal =
 
 pub good_ring : (vertices before v : ℕ) (old mid : Unread) (ring : List ℕ)
     → Some v ≡ option_map (λ n. min n (2 ^ 64 - 1)) (next_natural old.words) → mid ≡ past_word old
-    → before ≤ 4000000 → v ≤ 4000000 - before → ReadsCorners vertices v mid (Ok true) ring → has_equal_neighbours ring ≡ false
+    → before ≤ MOST_SIDES → v ≤ MOST_SIDES - before → ReadsCorners vertices v mid (Ok true) ring → has_equal_neighbours ring ≡ false
     → (corners_of old.words ≡ Some ring) × (ring_fault vertices before old.line (corners_of old.words) ≡ None)
 good_ring vertices before v old mid ring e is few fits h differ =
     let r = is_ring vertices before v old mid true ring e is few fits h in
@@ -427,21 +428,21 @@ polygon (word ∷ words) ring e =
     omega (arith, leb-true 3 sides some.0, length_values words sides (leb-true sides (length words) some.1), ap length test.1))
 
 record IsGoodRing (vertices before : ℕ) (ring : List ℕ) : Type 0 where
-  room : before + length ring ≤ 4000000
+  room : before + length ring ≤ MOST_SIDES
   range : list_all (λ v. ltb v vertices) ring ≡ true
   apart : has_equal_neighbours ring ≡ false
 
 good_parts : (vertices before number : ℕ) (ring : List ℕ) → ring_fault vertices before number (Some ring) ≡ None
     → IsGoodRing vertices before ring
 good_parts vertices before number ring e =
-    first (ltb 4000000 (before + length ring)) (list_all (λ v. ltb v vertices) ring) (has_equal_neighbours ring) refl refl refl e
+    first (ltb MOST_SIDES (before + length ring)) (list_all (λ v. ltb v vertices) ring) (has_equal_neighbours ring) refl refl refl e
   where
-    first : (a b c : Bool) → ltb 4000000 (before + length ring) ≡ a → list_all (λ v. ltb v vertices) ring ≡ b → has_equal_neighbours ring ≡ c
+    first : (a b c : Bool) → ltb MOST_SIDES (before + length ring) ≡ a → list_all (λ v. ltb v vertices) ring ≡ b → has_equal_neighbours ring ≡ c
         → cond a (Some (TooMany number)) (cond (not b) (Some (IndexRange number)) (cond c (Some (EqualNeighbours number)) None)) ≡ None → IsGoodRing vertices before ring
     first true b c p q r e = absurd (none-some (TooMany number) (sym e))
     first false false c p q r e = absurd (none-some (IndexRange number) (sym e))
     first false true true p q r e = absurd (none-some (EqualNeighbours number) (sym e))
-    first false true false p q r e = record { room = ltb-false 4000000 (before + length ring) p; range = q; apart = r }
+    first false true false p q r e = record { room = ltb-false MOST_SIDES (before + length ring) p; range = q; apart = r }
 
 pub ring_face : (vertices before number : ℕ) (words : List (List ℕ)) (ring : List ℕ) → corners_of words ≡ Some ring
     → ring_fault vertices before number (corners_of words) ≡ None
@@ -452,5 +453,5 @@ ring_face vertices before number words ring corners good =
 
 pub ring_room : (vertices before number : ℕ) (words : List (List ℕ)) (ring : List ℕ) → corners_of words ≡ Some ring
     → ring_fault vertices before number (corners_of words) ≡ None
-    → before + length ring ≤ 4000000
+    → before + length ring ≤ MOST_SIDES
 ring_room vertices before number words ring corners good = (good_parts vertices before number ring (ap (ring_fault vertices before number) (sym corners) ∙ good)).room

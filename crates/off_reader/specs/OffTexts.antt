@@ -6,6 +6,8 @@ use Rattle.text_scan.specs.Numbers.{is_natural, value_of, natural_of, is_number_
 use Rattle.surf_model.specs.FaceLists.{FaceList, next_corner}
 use Rattle.off_reader.specs.declared.off_fault.OffFault.{OffFault}
 use Rattle.off_reader.specs.declared.off_fault.OffFault.TheVariants.{NoCounts, BadCounts, UnreadForm, BadVertex, Ended, BadFace, IndexRange, EqualNeighbours, TooMany}
+use Rattle.surf_model.specs.declared.limits.TheConstants.{MOST_VERTICES, MOST_SIDES}
+use Rattle.off_reader.specs.declared.header.TheConstants.{MOST_FACES}
 
 -- one reading after the other, up to the first fault
 infixl 10 ◌>>=◌
@@ -64,7 +66,7 @@ two_naturals (word ∷ other ∷ others) = if is_natural word && is_natural othe
 abbrev pub counted : ℕ → Line → List Line → Option (ℕ × ℕ) → Result Header OffFault
 counted coordinates line lines None = Err (BadCounts line.number)
 counted coordinates line lines (Some counts) =
-    if nat_le counts.0 1000000 && nat_le counts.1 1333333
+    if nat_le counts.0 MOST_VERTICES && nat_le counts.1 MOST_FACES
     then Ok (record { coordinates = coordinates; vertices = counts.0; faces = counts.1; lines = lines })
     else Err (TooMany line.number)
 
@@ -142,7 +144,7 @@ has_equal_neighbours ring =
 abbrev pub ring_fault : ℕ → ℕ → ℕ → Option (List ℕ) → Option OffFault
 ring_fault vertices sides number None = Some (BadFace number)
 ring_fault vertices sides number (Some ring) =
-    if nat_lt 4000000 (sides + length ring) then Some (TooMany number)
+    if nat_lt MOST_SIDES (sides + length ring) then Some (TooMany number)
     else if not (list_all (λ v. nat_lt v vertices) ring) then Some (IndexRange number)
     else if has_equal_neighbours ring then Some (EqualNeighbours number)
     else None

@@ -4,17 +4,18 @@ ghost use Rattle.text_scan.specs.Numbers.{natural_of};
 ghost use Rattle.text_scan.specs.Unread.{Unread, lines_left};
 ghost use Rattle.off_reader.specs.OffTexts.{header_of, counts_at, bare_counts, counts_behind, coordinates_of};
 ghost use Rattle.off_reader.specs.OffSteps.{line_at, keyword_seen, SaysHeader};
+ghost use Rattle.surf_model.specs.declared.limits.TheConstants.{MOST_VERTICES};
 
 use crate::keyword::{Keyword, keyword_of};
 use crate::off_fault::OffFault;
+use surf_model::{MOST_SIDES, MOST_VERTICES};
 use text_scan::{Cursor, NumberFault, natural};
 
 /// The word behind the keyword of a form that is not read.
 const BINARY: &[u8] = b"BINARY";
 
-const MOST_VERTICES: u64 = 1_000_000;
-
-const MOST_FACES: u64 = 1_333_333;
+/// The most faces of a mesh: each has three sides at least.
+pub const MOST_FACES: u32 = MOST_SIDES / 3;
 
 /// What the header of a text says.
 #[derive(Clone, Copy, Debug)]
@@ -28,7 +29,7 @@ pub(crate) struct Header {
 /// Reads up to the counts.
 pub(crate) fn read_header(cursor: &mut Cursor) -> Result<Header, OffFault>
     ensures header { SaysHeader (header_of (lines_left cursor.old)) result cursor.new }
-    ensures limits { IfOk result (λ header. header.vertices ≤ 1000000) }
+    ensures limits { IfOk result (λ header. header.vertices ≤ MOST_VERTICES) }
     ensures end { cursor.new.end_line ≡ cursor.old.end_line }
 {
     let Some(word) = first_word(cursor) else {
@@ -56,7 +57,7 @@ fn first_word<'a>(cursor: &mut Cursor<'a>) -> Option<&'a [u8]>
 /// The counts behind a keyword, which is the word before.
 fn behind_keyword(cursor: &mut Cursor, keyword: &Keyword) -> Result<Header, OffFault>
     ensures header { SaysHeader (counts_behind (keyword_seen keyword.now) (line_at cursor.old) cursor.old.lines) result cursor.new }
-    ensures limits { IfOk result (λ header. header.vertices ≤ 1000000) }
+    ensures limits { IfOk result (λ header. header.vertices ≤ MOST_VERTICES) }
     ensures end { cursor.new.end_line ≡ cursor.old.end_line }
 {
     if keyword.has_piece(b'n') {
@@ -81,7 +82,7 @@ fn coordinates_of(keyword: &Keyword) -> u32
 /// The counts behind a keyword with nothing behind `OFF`.
 fn behind_bare_keyword(cursor: &mut Cursor, coordinates: u32) -> Result<Header, OffFault>
     ensures header { SaysHeader (bare_counts coordinates (line_at cursor.old) cursor.old.lines) result cursor.new }
-    ensures limits { IfOk result (λ header. header.vertices ≤ 1000000) }
+    ensures limits { IfOk result (λ header. header.vertices ≤ MOST_VERTICES) }
     ensures end { cursor.new.end_line ≡ cursor.old.end_line }
 {
     let line = cursor.line();
@@ -99,7 +100,7 @@ fn behind_bare_keyword(cursor: &mut Cursor, coordinates: u32) -> Result<Header, 
 fn counts_from(cursor: &mut Cursor, coordinates: u32, first: &[u8]) -> Result<Header, OffFault>
     ensures header { SaysHeader (counts_at coordinates
         (record { number = cursor.old.line; words = first.now ∷ cursor.old.words } ∷ cursor.old.lines)) result cursor.new }
-    ensures limits { IfOk result (λ header. header.vertices ≤ 1000000) }
+    ensures limits { IfOk result (λ header. header.vertices ≤ MOST_VERTICES) }
     ensures end { cursor.new.end_line ≡ cursor.old.end_line }
 {
     let line = cursor.line();
@@ -109,7 +110,7 @@ fn counts_from(cursor: &mut Cursor, coordinates: u32, first: &[u8]) -> Result<He
     let Some(faces) = cursor.natural() else {
         return Err(OffFault::BadCounts { line });
     };
-    if vertices > MOST_VERTICES || faces > MOST_FACES {
+    if vertices > MOST_VERTICES as u64 || faces > MOST_FACES as u64 {
         return Err(OffFault::TooMany { line });
     }
     Ok(Header {

@@ -5,6 +5,7 @@ ghost use Rattle.text_scan.specs.Lines.{Line};
 ghost use Rattle.text_scan.specs.Unread.{Unread};
 ghost use Rattle.off_reader.specs.OffTexts.{taken, point_fault, face_fault, rings_of, meaning_of};
 ghost use Rattle.off_reader.specs.OffSteps.{line_at, IsSameLine, TakesPoints, TakesFaces};
+ghost use Rattle.surf_model.specs.declared.limits.TheConstants.{MOST_VERTICES};
 
 use crate::header::{Header, read_header};
 pub use crate::off_fault::OffFault;
@@ -72,7 +73,7 @@ fn pass_point(cursor: &mut Cursor, coordinates: u32) -> Result<(), OffFault>
 
 /// Reads the lines of the faces.
 fn read_faces(alloc: Global, cursor: &mut Cursor, header: Header) -> Result<Faces, OffFault>
-    requires { header.vertices ≤ 1000000 }
+    requires { header.vertices ≤ MOST_VERTICES }
     ensures { TakesFaces header.vertices header.faces cursor.old result }
 {
     let mut faces = Faces::new(alloc, header.vertices);

@@ -6,13 +6,11 @@ ghost use Rattle.surf_model.specs.FaceLists.{next_corner};
 ghost use Rattle.surf_model.specs.Vertices.{numbers};
 ghost use Rattle.off_reader.specs.OffTexts.{corners_among, corners_of, has_equal_neighbours, ring_fault};
 ghost use Rattle.off_reader.specs.OffSteps.{IsSameLine, ReadsCorners};
+ghost use Rattle.surf_model.specs.declared.limits.TheConstants.{MOST_VERTICES, MOST_SIDES};
 
 use crate::off_fault::OffFault;
-use surf_model::VertexName;
+use surf_model::{MOST_SIDES, VertexName};
 use text_scan::Cursor;
-
-/// The most sides that all faces have together.
-const MOST_SIDES: u32 = 4_000_000;
 
 /// Reads the corners of a face among `vertices` vertices into `ring`, where the faces before have
 /// `sides_before` sides. What stood in `ring` goes.
@@ -22,8 +20,8 @@ pub(crate) fn read_ring(
     sides_before: u32,
     ring: &mut Vec<VertexName>,
 ) -> Result<(), OffFault>
-    requires vertices { vertices ≤ 1000000 }
-    requires sides { sides_before ≤ 4000000 }
+    requires vertices { vertices ≤ MOST_VERTICES }
+    requires sides { sides_before ≤ MOST_SIDES }
     ensures ring { MatchResult result
         (λ _. (corners_of cursor.old.words ≡ Some (numbers ring.new.items))
         × (ring_fault vertices sides_before cursor.old.line (corners_of cursor.old.words) ≡ None))
@@ -70,7 +68,7 @@ fn read_corners(
     sides: u32,
     ring: &mut Vec<VertexName>,
 ) -> Result<bool, OffFault>
-    requires vertices { vertices ≤ 1000000 }
+    requires vertices { vertices ≤ MOST_VERTICES }
     requires polygon { 3 ≤ sides }
     ensures corners { ReadsCorners vertices sides cursor.old result (numbers ring.new.items) }
     ensures line { IsSameLine cursor.old cursor.new }

@@ -1,4 +1,3 @@
-pub mod Listed
 pub mod Partners
 pub mod Fitting
 pub mod ChainLemmas

@@ -18,6 +18,7 @@ use Rattle.orientation.specs.declared.trees.Place.{Place}
 use Rattle.orientation.proofs.Partners.{partners_swap}
 use Rattle.orientation.proofs.Fitting.{opposite_if_fit}
 use Rattle.orientation.proofs.ClassLemmas.{step_back, joined_more, joined_step, joined_back}
+use Rattle.surf_model.specs.declared.limits.TheConstants.{MOST_SIDES}
 
 pub extends_itself : (growth : Growth) → Extends growth growth
 extends_itself growth = record { kept = λ f seen. record { seen = seen; sign = refl; place = refl } }
@@ -413,7 +414,7 @@ faces_few count (face ∷ faces) h =
       sum_by-cons {X = List ℕ} length face faces,
     )
 
-pub few_faces : (mesh : FaceList) → IsFaceList mesh → 3 * length mesh.faces ≤ 4000000
+pub few_faces : (mesh : FaceList) → IsFaceList mesh → 3 * length mesh.faces ≤ MOST_SIDES
 few_faces mesh h = omega (arith, faces_few mesh.count mesh.faces h.faces, h.few_sides)
 
 -- the sign that fits

@@ -2,26 +2,12 @@
 use Rattle.std.specs.Prelude.{◌≡◌, ℕ, true, false, map, List, [], ◌∷◌, refl}
 use Rattle.std.proofs.Common.{inl, inr, lit<}
 use Rattle.surf_model.specs.FaceLists.{FaceList, all_sides}
+use Rattle.surf_model.specs.Meshes.{projective_plane, moebius_band}
 use Rattle.surf_model.specs.declared.chains.ChainLink.{ChainLink}
 use Rattle.orientation.specs.Chains.{LeadsTo, IsOddChain, is_turned}
 
 abbrev link : ℕ → ℕ → ℕ → ChainLink
 link face low high = record { face = record { 0 = face }; low = record { 0 = low }; high = record { 0 = high } }
-
--- the projective plane of six vertices
-abbrev plane : FaceList
-plane =
-    record {
-      count = 6;
-      faces =
-          (0 ∷ 1 ∷ 2 ∷ []) ∷ (0 ∷ 2 ∷ 3 ∷ []) ∷ (0 ∷ 3 ∷ 4 ∷ []) ∷ (0 ∷ 4 ∷ 5 ∷ []) ∷ (0 ∷ 5 ∷ 1 ∷ [])
-          ∷ (1 ∷ 2 ∷ 4 ∷ []) ∷ (2 ∷ 3 ∷ 5 ∷ []) ∷ (3 ∷ 4 ∷ 1 ∷ [])
-          ∷ (4 ∷ 5 ∷ 2 ∷ []) ∷ (5 ∷ 1 ∷ 3 ∷ []) ∷ [];
-    }
-
--- the Moebius band of five triangles, each with two edges in the band and one at its border
-abbrev band : FaceList
-band = record { count = 5; faces = (0 ∷ 1 ∷ 2 ∷ []) ∷ (1 ∷ 2 ∷ 3 ∷ []) ∷ (2 ∷ 3 ∷ 4 ∷ []) ∷ (3 ∷ 4 ∷ 0 ∷ []) ∷ (4 ∷ 0 ∷ 1 ∷ []) ∷ [] }
 
 -- one face that is glued to itself along the edge of 0 and 1, both times from 0 to 1
 abbrev folded : FaceList
@@ -31,11 +17,11 @@ folded = record { count = 4; faces = (0 ∷ 1 ∷ 2 ∷ 0 ∷ 1 ∷ 3 ∷ []) �
 abbrev plane_chain : List ChainLink
 plane_chain = link 0 1 2 ∷ link 5 2 4 ∷ link 8 4 5 ∷ link 3 0 5 ∷ link 4 0 1 ∷ []
 
-turned_on_plane : map (is_turned plane) plane_chain ≡ true ∷ true ∷ true ∷ false ∷ false ∷ []
+turned_on_plane : map (is_turned projective_plane) plane_chain ≡ true ∷ true ∷ true ∷ false ∷ false ∷ []
 unfolding all_sides
 turned_on_plane = refl
 
-odd_on_plane : IsOddChain plane plane_chain
+odd_on_plane : IsOddChain projective_plane plane_chain
 unfolding all_sides
 odd_on_plane = record {
   some_link = lit< tt;
@@ -53,12 +39,12 @@ odd_on_plane = record {
 }
 
 -- The chain needs its last link: the edge of 0 and 5 does not lead back to face 0.
-closed_too_early : LeadsTo plane (link 3 0 5) 0 → ⊥
+closed_too_early : LeadsTo projective_plane (link 3 0 5) 0 → ⊥
 unfolding all_sides
 closed_too_early h = elim h.faces [ inl one_way ↦ cc | inr other_way ↦ cc ]
 
 -- Round the band: all five links are turned.
-odd_on_band : IsOddChain band (link 0 1 2 ∷ link 1 2 3 ∷ link 2 3 4 ∷ link 3 0 4 ∷ link 4 0 1 ∷ [])
+odd_on_band : IsOddChain moebius_band (link 0 1 2 ∷ link 1 2 3 ∷ link 2 3 4 ∷ link 3 0 4 ∷ link 4 0 1 ∷ [])
 unfolding all_sides
 odd_on_band = record {
   some_link = lit< tt;

@@ -3,6 +3,7 @@ ghost use Rattle.std.specs.Prelude.{◌≤◌, IsTrue};
 ghost use Rattle.surf_model.specs.Edges.{IsTableOf};
 ghost use Rattle.surf_model.specs.FaceLists.{FaceList};
 ghost use Rattle.orientation.specs.Classes.{EachEdgeHasAtMostTwoSides};
+ghost use Rattle.surf_model.specs.declared.limits.TheConstants.{MOST_VERTICES};
 
 use crate::{OddChain, OrientFault, Signs, orient};
 use std::alloc::Global;
@@ -125,7 +126,7 @@ fn have_few_sides(sides: &Sides) -> bool
 }
 
 fn mesh_of(alloc: Global, rt: &impl Abort, count: u32, triangles: &[[u32; 3]]) -> Faces
-    requires { count ≤ 1000000 }
+    requires { count ≤ MOST_VERTICES }
 {
     let mut faces = Faces::new(alloc, count);
     for triangle in triangles {

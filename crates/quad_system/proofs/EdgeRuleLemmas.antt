@@ -10,8 +10,9 @@ use Rattle.surf_model.specs.FaceLists.{FaceList, FaceSide, all_sides, joins, is_
 use Rattle.surf_model.specs.Edges.{Edge, IsTableOf, IsEdgeOf, HasEnds, IsPairBefore, side_name, edge_in}
 use Rattle.surf_model.specs.Surfaces.{sides_between, ArePartners}
 use Rattle.surf_model.specs.declared.edges.Side.{Side}
-use Rattle.surf_model.proofs.TableLemmas.{edge_from_table}
-use Rattle.surf_model.proofs.PartnerLemmas.{HasSideEnds, side_of_edge, edge_has_side, partners_of_edge}
+use Rattle.surf_model.proofs.TableLemmas.{joins_swap}
+use Rattle.surf_model.proofs.PartnerLemmas.{HasSideEnds, side_of_edge, edge_has_side, partners_of_edge, ends_agree}
+use Rattle.surf_model.proofs.TableEdgeLemmas.{IsEdgeBetween, edge_between, table_pair, sides_of_edge, sides_between_swap, same_pair, place_before}
 use Rattle.quad_system.specs.Labellings.{LabellingView}
 use Rattle.quad_system.specs.GoodLabellings.{MeetsSomeRule, SidesMeetRule, EdgeMeetsRule}
 use Rattle.quad_system.specs.LabelFaults.{IsLeastAgainstRules}
@@ -51,14 +52,6 @@ two-of (p ∷ q ∷ []) d a b x y two first second (zero, la, a_is) (suc (suc k)
 two-of (p ∷ q ∷ []) d a b x y two first second (suc zero, la, a_is) (suc (suc k), lb, b_is) apart = absurd (omega arith)
 two-of (p ∷ q ∷ []) d a b x y two first second (suc (suc k), la, a_is) has_b apart = absurd (omega arith)
 
--- the number of sides of an edge of the table
-sides-of-edge : (mesh : FaceList) (edge : Edge) → IsEdgeOf mesh edge → length edge.sides ≡ sides_between mesh edge.low edge.high
-sides-of-edge mesh edge h = ap (λ (sides : List Side). length sides) h.sides ∙ length-map (filter (joins edge.low edge.high) (all_sides mesh)) side_name
-
-pub ends-agree : (t h u v low high : ℕ) → ((t ≡ low) × (h ≡ high)) ⊎ ((t ≡ high) × (h ≡ low)) → ((t ≡ u) × (h ≡ v)) ⊎ ((t ≡ v) × (h ≡ u)) →
-    ((u ≡ low) × (v ≡ high)) ⊎ ((u ≡ high) × (v ≡ low))
-ends-agree t h u v low high first second = grind arith
-
 module _ (mesh : FaceList) (table : List Edge) (labelling : LabellingView) (k : ℕ) (a b d : Side) (h : IsTableOf mesh table) (l : k < length table)
     (first : get_or (edge_in table k).sides 0 d ≡ a) (second : get_or (edge_in table k).sides 1 d ≡ b) where
   pub rule-from-sides : length (edge_in table k).sides ≡ 2 → SidesMeetRule mesh labelling a b → EdgeMeetsRule mesh labelling (edge_in table k).low (edge_in table k).high
@@ -66,10 +59,10 @@ module _ (mesh : FaceList) (table : List Edge) (labelling : LabellingView) (k : 
       let edge : Edge = edge_in table k in
       let is : IsEdgeOf mesh edge = h.edges k _ l in
       record {
-        two_sides = sym (sides-of-edge mesh edge is) ∙ two;
+        two_sides = sym (sides_of_edge mesh edge is) ∙ two;
         sides = λ side other partners ends.
             let here : Contains edge.sides side = edge_has_side mesh edge side is partners.first ends in
-            let there : Contains edge.sides other = edge_has_side mesh edge other is partners.second (ends-agree _ _ _ _ edge.low edge.high ends partners.one_edge) in
+            let there : Contains edge.sides other = edge_has_side mesh edge other is partners.second (ends_agree _ _ _ _ edge.low edge.high ends partners.one_edge) in
             elim (two-of edge.sides d side other a b two first second here there partners.different) [
               | inl as_listed ↦ subst (λ x. SidesMeetRule mesh labelling x other) (sym as_listed.0) (subst (λ x. SidesMeetRule mesh labelling a x) (sym as_listed.1) meets)
               | inr turned ↦ sides-swap mesh labelling other side
@@ -78,7 +71,7 @@ module _ (mesh : FaceList) (table : List Edge) (labelling : LabellingView) (k : 
       }
 
   pub two-from-rule : EdgeMeetsRule mesh labelling (edge_in table k).low (edge_in table k).high → length (edge_in table k).sides ≡ 2
-  two-from-rule meets = sides-of-edge mesh (edge_in table k) (h.edges k _ l) ∙ meets.two_sides
+  two-from-rule meets = sides_of_edge mesh (edge_in table k) (h.edges k _ l) ∙ meets.two_sides
 
   pub sides-from-rule : EdgeMeetsRule mesh labelling (edge_in table k).low (edge_in table k).high → SidesMeetRule mesh labelling a b
   sides-from-rule meets =
@@ -88,68 +81,17 @@ module _ (mesh : FaceList) (table : List Edge) (labelling : LabellingView) (k : 
       let ends : HasSideEnds mesh edge.low edge.high (get_or edge.sides 0 d) = (side_of_edge mesh edge 0 d (h.edges k _ l) (omega arith)).ends in
       subst (λ x. SidesMeetRule mesh labelling x b) first (subst (λ x. SidesMeetRule mesh labelling (get_or edge.sides 0 d) x) second (meets.sides _ _ partners ends))
 
--- the edge of two vertices, by its place in the table
-record IsEdgeBetween (table : List Edge) (u v : ℕ) : Type 0 where
-  edge : ℕ
-  in_table : edge < length table
-  ends : HasEnds u v (edge_in table edge)
-
-both-join : (u v a b : ℕ) (s : FaceSide) → joins u v s ≡ true → joins a b s ≡ true → ((a ≡ u) × (b ≡ v)) ⊎ ((a ≡ v) × (b ≡ u))
-both-join u v a b s h k = grind (arith, nat_tests)
-
-edge-between : (mesh : FaceList) (table : List Edge) (u v : ℕ) → IsTableOf mesh table → is_edge mesh u v ≡ true → IsEdgeBetween table u v
-unfolding is_edge
-edge-between mesh table u v h is =
-    let any = Any-from_list_any (joins u v) (all_sides mesh) is in
-    let found = h.complete any.0 any.1 any.2 in
-    let here : joins found.1.low found.1.high any.1 ≡ true = subst (λ (s : FaceSide). joins found.1.low found.1.high s ≡ true) any.3 found.4 in
-    let at : edge_in table found.0 ≡ found.1 = get_or_default table found.0 _ found.1 found.2 ∙ found.3 in
-    record { edge = found.0; in_table = found.2; ends = subst (HasEnds u v) (sym at) (both-join u v found.1.low found.1.high any.1 any.4 here) }
-
--- the ends of an edge of the table form an edge
-pub table-pair : (mesh : FaceList) (table : List Edge) (k : ℕ) → IsTableOf mesh table → k < length table → is_edge mesh (edge_in table k).low (edge_in table k).high ≡ true
-table-pair mesh table k h l =
-    let edge : Edge = edge_in table k in
-    edge_from_table mesh table edge.low edge.high h (k, edge, l, get_or_default table k _ _ l, inl (refl, refl))
-
-joins-swap : (u v : ℕ) (s : FaceSide) → joins u v s ≡ joins v u s
-joins-swap u v s = grind (arith, nat_tests)
-
 edge-rule-swap : (mesh : FaceList) (labelling : LabellingView) (u v : ℕ) → EdgeMeetsRule mesh labelling u v → EdgeMeetsRule mesh labelling v u
 edge-rule-swap mesh labelling u v h = record {
-  two_sides = ap (λ (sides : List FaceSide). length sides) (filter_agree (joins v u) (joins u v) (joins-swap v u) (all_sides mesh)) ∙ h.two_sides;
+  two_sides = sides_between_swap mesh v u ∙ h.two_sides;
   sides = λ side other partners ends. h.sides side other partners (elim ends [ inl e ↦ inr e | inr e ↦ inl e ]);
 }
-
-same-pair : (a b c d : ℕ) → a < b → c < d → ((c ≡ a) × (d ≡ b)) ⊎ ((c ≡ b) × (d ≡ a)) → (c ≡ a) × (d ≡ b)
-same-pair a b c d up rise h = (grind arith, grind arith)
-
-not-both-before : (a b c d : ℕ) → IsPairBefore a b c d → IsPairBefore c d a b → ⊥
-not-both-before a b c d h k = grind arith
-
--- a pair that comes before an edge of the table has its place before it
-place-before : (mesh : FaceList) (table : List Edge) (j k : ℕ) → IsTableOf mesh table → j < length table → k < length table →
-    IsPairBefore (edge_in table j).low (edge_in table j).high (edge_in table k).low (edge_in table k).high → j < k
-place-before mesh table j k h lj lk before =
-    let e : Edge = edge_in table j in
-    let f : Edge = edge_in table k in
-    elim (cases_lt j k) [
-      | inl less ↦ less
-      | inr more ↦ elim (cases_eq j k) [
-        | inl same ↦
-            absurd
-            (not-both-before e.low e.high e.low e.high
-            (subst (λ m. IsPairBefore e.low e.high (edge_in table m).low (edge_in table m).high) (sym same) before)
-            (subst (λ m. IsPairBefore e.low e.high (edge_in table m).low (edge_in table m).high) (sym same) before))
-        | inr other ↦ absurd (not-both-before e.low e.high f.low f.high before (h.rising k j _ (omega arith) lj))
-      ]
-    ]
 
 -- where each edge of the table meets a rule, each edge of the mesh does
 pub each-edge : (mesh : FaceList) (table : List Edge) (labelling : LabellingView) → IsTableOf mesh table →
     ((k : ℕ) → k < length table → EntryMeetsRule mesh table labelling k) → (u v : ℕ) → IsTrue (is_edge mesh u v) → EdgeMeetsRule mesh labelling u v
 each-edge mesh table labelling h all u v is =
-    let found : IsEdgeBetween table u v = edge-between mesh table u v h is in
+    let found : IsEdgeBetween table u v = edge_between mesh table u v h is in
     let meets = all found.edge found.in_table in
     elim found.ends [
       | inl e ↦ subst (λ x. EdgeMeetsRule mesh labelling x v) e.0 (subst (λ x. EdgeMeetsRule mesh labelling (edge_in table found.edge).low x) e.1 meets)
@@ -165,15 +107,15 @@ least-against mesh table labelling k h first =
     let is : IsEdgeOf mesh edge = h.edges k _ first.in_table in
     record {
       ordered = is.ordered;
-      edge = table-pair mesh table k h first.in_table;
+      edge = table_pair mesh table k h first.in_table;
       against = first.against;
       least = λ a b up is_ab before.
-          let found : IsEdgeBetween table a b = edge-between mesh table a b h is_ab in
+          let found : IsEdgeBetween table a b = edge_between mesh table a b h is_ab in
           let other : Edge = edge_in table found.edge in
           let is_other : IsEdgeOf mesh other = h.edges found.edge _ found.in_table in
-          let same = same-pair a b other.low other.high up is_other.ordered found.ends in
+          let same = same_pair a b other.low other.high up is_other.ordered found.ends in
           let there : IsPairBefore other.low other.high edge.low edge.high =
           subst (λ x. IsPairBefore x other.high edge.low edge.high) (sym same.0) (subst (λ x. IsPairBefore a x edge.low edge.high) (sym same.1) before) in
-          let meets = first.first found.edge (place-before mesh table found.edge k h found.in_table first.in_table there) in
+          let meets = first.first found.edge (place_before mesh table found.edge k h found.in_table first.in_table there) in
           subst (λ x. EdgeMeetsRule mesh labelling x b) same.0 (subst (λ x. EdgeMeetsRule mesh labelling other.low x) same.1 meets);
     }

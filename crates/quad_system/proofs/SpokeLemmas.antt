@@ -6,12 +6,13 @@ use Rattle.surf_model.specs.Edges.{Edge, IsTableOf, IsEdgeOf, HasEnds, edge_in}
 use Rattle.surf_model.specs.Darts.{tail_of, head_of}
 use Rattle.surf_model.specs.Surfaces.{ArePartners, is_flipped, start_under, end_under}
 use Rattle.surf_model.specs.declared.edges.Side.{Side}
-use Rattle.surf_model.proofs.PartnerLemmas.{HasSideEnds, side_of_edge, edge_has_side, partners_of_edge}
+use Rattle.surf_model.proofs.PartnerLemmas.{HasSideEnds, side_of_edge, edge_has_side, partners_of_edge, ends_agree}
 use Rattle.quad_system.specs.Labellings.{LabellingView, signs_of, tail_label, head_label}
 use Rattle.quad_system.specs.GoodLabellings.{IsGood}
 use Rattle.quad_system.specs.QuadPaths.{spokes, spokes_by_labels}
 use Rattle.quad_system.proofs.SideLemmas.{SpokesOfSide, spokes_of_side}
-use Rattle.quad_system.proofs.EdgeRuleLemmas.{ends-agree, table-pair, two-of, two-from-rule}
+use Rattle.surf_model.proofs.TableEdgeLemmas.{table_pair}
+use Rattle.quad_system.proofs.EdgeRuleLemmas.{two-of, two-from-rule}
 
 -- where a side starts and ends under signs are its two ends, in one of the two orders
 ends-under : (mesh : FaceList) (signs : List Bool) (side : Side) →
@@ -35,7 +36,7 @@ module _ (mesh : FaceList) (table : List Edge) (labelling : LabellingView) (k u 
   two : length (edge_in table k).sides ≡ 2
   two =
       let edge : Edge = edge_in table k in
-      two-from-rule mesh table labelling k a b d h l first second (good.edges edge.low edge.high (table-pair mesh table k h l))
+      two-from-rule mesh table labelling k a b d h l first second (good.edges edge.low edge.high (table_pair mesh table k h l))
 
   partners : ArePartners mesh a b
   partners =
@@ -53,7 +54,7 @@ module _ (mesh : FaceList) (table : List Edge) (labelling : LabellingView) (k u 
       let ends : HasSideEnds mesh edge.low edge.high a = subst (HasSideEnds mesh edge.low edge.high) first (side_of_edge mesh edge 0 d is (omega (arith, two))).ends in
       let p = of-a.partner.partners in
       let here : Contains edge.sides a = edge_has_side mesh edge a is p.first ends in
-      let there : Contains edge.sides of-a.partner.partner = edge_has_side mesh edge of-a.partner.partner is p.second (ends-agree _ _ _ _ edge.low edge.high ends p.one_edge) in
+      let there : Contains edge.sides of-a.partner.partner = edge_has_side mesh edge of-a.partner.partner is p.second (ends_agree _ _ _ _ edge.low edge.high ends p.one_edge) in
       elim (two-of edge.sides d a of-a.partner.partner a b two first second here there p.different) [
         | inl as_listed ↦ as_listed.1
         | inr turned ↦ absurd (partners.different turned.0)
@@ -91,4 +92,4 @@ pub two-sides : (mesh : FaceList) (table : List Edge) (labelling : LabellingView
 two-sides mesh table labelling k good h l =
     let none : Side = record { face = record { 0 = 0 }; at = 0 } in
     two-from-rule mesh table labelling k (get_or (edge_in table k).sides 0 none) (get_or (edge_in table k).sides 1 none) none h l refl refl
-    (good.edges (edge_in table k).low (edge_in table k).high (table-pair mesh table k h l))
+    (good.edges (edge_in table k).low (edge_in table k).high (table_pair mesh table k h l))

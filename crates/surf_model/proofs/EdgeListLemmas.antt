@@ -9,6 +9,7 @@ use Rattle.surf_model.specs.declared.edge_list.EdgeEnds.{EdgeEnds}
 use Rattle.surf_model.specs.declared.edge_list.SideEntry.{SideEntry}
 use Rattle.surf_model.specs.declared.names.DartName.{DartName}
 use Rattle.surf_model.proofs.PartsLemmas.{length-parts, get_or-parts, part_within, parts-push, EndsRise-push, sum_by-parts}
+use Rattle.surf_model.specs.declared.limits.TheConstants.{MOST_SIDES}
 
 -- the edge with these ends whose sides are these
 abbrev pub edge_of_part : EdgeEnds → List DartName → DartEdge
@@ -107,7 +108,7 @@ map-map f g (x ∷ xs) = ap (λ ys. f (g x) ∷ ys) (map-map f g xs)
 
 -- one more edge at the end
 pub edge_list-push : (pairs : List EdgeEnds) (stops : List ℕ) (darts new : List DartName) (ends : EdgeEnds) (m : ℕ) → IsEdgeList pairs stops darts
-    → 0 < length new → m ≡ length darts + length new → m ≤ 4000000 → IsEdgeList (pairs ++ ends ∷ []) (stops ++ m ∷ []) (darts ++ new)
+    → 0 < length new → m ≡ length darts + length new → m ≤ MOST_SIDES → IsEdgeList (pairs ++ ends ∷ []) (stops ++ m ∷ []) (darts ++ new)
 edge_list-push pairs stops darts new ends m h some is room =
     let whole : m ≡ length (darts ++ new) = omega (arith, is, length-append darts new) in
     record {

@@ -1,8 +1,10 @@
 -- Spur moves leave a walk the same up to spurs, so walks without spurs to which they lead are equal.
 use Rattle.std.proofs.Common.{◌≡◌, ℕ, suc, ◌<◌, List, [], ◌∷◌, ◌++◌, length, refl, ap, sym, ◌∙◌, subst, arith, append_assoc}
 use Rattle.std.specs.Prelude.{All, Some}
+use Rattle.std.proofs.lemmas.List.Elements.{All-nil, All-cons, All-append, All-map}
 use Rattle.surf_model.specs.FaceLists.{FaceList}
 use Rattle.surf_model.specs.Moves.{apply, apply_all}
+use Rattle.surf_model.specs.Rewriting.{raised, all_raised, inverse_of, sides_of_move, way_back}
 use Rattle.surf_model.specs.FreeWalks.{HasNoSpur, IsSpurMove, AreFreelyEqual}
 use Rattle.surf_model.specs.declared.moves.Move.{Move}
 use Rattle.surf_model.specs.declared.moves.Move.TheVariants.{Insert, Remove, Across}
@@ -51,3 +53,25 @@ spur_list_same mesh (move ∷ moves) walk next start spurs e stack n =
 pub one_reduced_walk : (mesh : FaceList) (first second : List ℕ) → 0 < length first → AreFreelyEqual mesh first second → HasNoSpur first
     → HasNoSpur second → first ≡ second
 one_reduced_walk mesh first second start free h k = same_equal first second h k (spur_list_same mesh free.0 first second start free.1 free.2)
+
+-- spur moves stay spur moves in a longer walk, and on the way back
+spur_raised : (n : ℕ) (move : Move) → IsSpurMove move → IsSpurMove (raised n move)
+spur_raised n (Insert at via) spur = tt
+spur_raised n (Remove at via) spur = tt
+spur_raised n (Across at face corner forward taken) spur = absurd spur
+
+pub spurs_raised : (n : ℕ) (moves : List Move) → All IsSpurMove moves → All IsSpurMove (all_raised n moves)
+spurs_raised n moves spurs = All-map IsSpurMove (raised n) moves (λ k d l. spur_raised n _ (spurs k d l))
+
+spur_back : (sides : ℕ) (move : Move) → IsSpurMove move → IsSpurMove (inverse_of sides move)
+spur_back sides (Insert at via) spur = tt
+spur_back sides (Remove at via) spur = tt
+spur_back sides (Across at face corner forward taken) spur = absurd spur
+
+pub spurs_back : (mesh : FaceList) (moves : List Move) → All IsSpurMove moves → All IsSpurMove (way_back mesh moves)
+spurs_back mesh [] spurs = All-nil IsSpurMove
+spurs_back mesh (move ∷ moves) spurs =
+    let back : Move = inverse_of (sides_of_move mesh move) move in
+    let rest : All IsSpurMove moves = λ k d l. spurs (suc k) d (omega arith) in
+    All-append IsSpurMove (way_back mesh moves) (back ∷ []) (spurs_back mesh moves rest)
+    (All-cons IsSpurMove back [] (spur_back (sides_of_move mesh move) move (spurs 0 move (omega arith))) (All-nil IsSpurMove))

@@ -6,6 +6,7 @@ pub mod SideNumberLemmas
 pub mod TableLemmas
 pub mod OneTableLemmas
 pub mod PartnerLemmas
+pub mod TableEdgeLemmas
 pub mod EdgeListLemmas
 pub mod TallyLemmas
 pub mod CutGroupLemmas

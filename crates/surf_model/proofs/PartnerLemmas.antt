@@ -169,7 +169,7 @@ edge_of_side mesh table side h in_mesh =
     }
 
 -- two sides with the same ends
-ends_agree : (t h u v low high : ℕ) → ((t ≡ low) × (h ≡ high)) ⊎ ((t ≡ high) × (h ≡ low)) → ((t ≡ u) × (h ≡ v)) ⊎ ((t ≡ v) × (h ≡ u))
+pub ends_agree : (t h u v low high : ℕ) → ((t ≡ low) × (h ≡ high)) ⊎ ((t ≡ high) × (h ≡ low)) → ((t ≡ u) × (h ≡ v)) ⊎ ((t ≡ v) × (h ≡ u))
     → ((u ≡ low) × (v ≡ high)) ⊎ ((u ≡ high) × (v ≡ low))
 ends_agree t h u v low high first second = grind arith
 

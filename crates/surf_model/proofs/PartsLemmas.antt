@@ -5,6 +5,7 @@ use Rattle.std.proofs.lemmas.Bool.{cases_lt}
 use Rattle.std.proofs.lemmas.List.{take-append-le, drop-append-le, length-take-le, length-drop, take_all, drop_at, get_or_append_left, get_or_push, length_push}
 use Rattle.std.proofs.lemmas.List.Sums.{sum_by-cons}
 use Rattle.surf_model.specs.Parts.{parts, EndsRise, last_end, IsInPart, IsPartList}
+use Rattle.surf_model.specs.declared.limits.TheConstants.{MOST_SIDES}
 
 pub length-parts : {A : Type 0} (from : ℕ) (ends : List ℕ) (xs : List A) → length (parts from ends xs) ≡ length ends
 length-parts from [] xs = refl
@@ -103,7 +104,7 @@ in_last_part ends m place from to = record {
   to = omega (arith, to, get_or_push ends m 0 (length ends) refl);
 }
 
-pub part_list-push : (ends marks more : List ℕ) (m : ℕ) → IsPartList ends marks → last_end ends < m → m ≤ 4000000
+pub part_list-push : (ends marks more : List ℕ) (m : ℕ) → IsPartList ends marks → last_end ends < m → m ≤ MOST_SIDES
     → length more ≡ (m + 15) / 16
     → ((k d : ℕ) → k < (m + 15) / 16 → k < length marks → get_or more k d ≡ get_or marks k d)
     → ((k d : ℕ) → length marks ≤ k → k < (m + 15) / 16 → get_or more k d ≡ length ends)

@@ -25,13 +25,13 @@ first_corner face rising t zero = ([], refl)
 first_corner face rising t (suc k) = (corners_from face rising (next_corner rising (length face) t) k, refl)
 
 -- rising, the corners are counted up, and from the last on they begin anew
-rises : (m t k : ℕ) → t < m → t + k < m → corner_after true m t k ≡ t + k
+pub rises : (m t k : ℕ) → t < m → t + k < m → corner_after true m t k ≡ t + k
 rises m t zero h l = omega arith
 rises m t (suc k) h l =
     let next : next_corner true m t ≡ t + 1 = grind (arith, nat_tests) in
     rw next (rises m (t + 1) k (omega arith) (omega arith) ∙ omega arith)
 
-rises_past : (m t k : ℕ) → t < m → k ≤ m → m ≤ t + k → corner_after true m t k ≡ t + k - m
+pub rises_past : (m t k : ℕ) → t < m → k ≤ m → m ≤ t + k → corner_after true m t k ≡ t + k - m
 rises_past m t zero h l p = absurd (omega arith)
 rises_past m t (suc k) h l p = elim (cases_lt (t + 1) m) [
   | inl more ↦
@@ -42,13 +42,13 @@ rises_past m t (suc k) h l p = elim (cases_lt (t + 1) m) [
       rw next (rises m 0 k (omega arith) (omega arith) ∙ omega arith)
 ]
 
-falls : (m t k : ℕ) → t < m → k ≤ t → corner_after false m t k ≡ t - k
+pub falls : (m t k : ℕ) → t < m → k ≤ t → corner_after false m t k ≡ t - k
 falls m t zero h l = omega arith
 falls m t (suc k) h l =
     let next : next_corner false m t ≡ t - 1 = grind (arith, nat_tests) in
     rw next (falls m (t - 1) k (omega arith) (omega arith) ∙ omega arith)
 
-falls_past : (m t k : ℕ) → t < m → k ≤ m → t < k → corner_after false m t k ≡ t + m - k
+pub falls_past : (m t k : ℕ) → t < m → k ≤ m → t < k → corner_after false m t k ≡ t + m - k
 falls_past m t zero h l p = absurd (omega arith)
 falls_past m t (suc k) h l p = elim (cases_lt 0 t) [
   | inl more ↦

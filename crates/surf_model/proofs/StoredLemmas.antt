@@ -11,6 +11,7 @@ use Rattle.surf_model.specs.Darts.{first_side}
 use Rattle.surf_model.specs.StoredFaces.{stored_mesh, IsStored}
 use Rattle.surf_model.specs.declared.names.VertexName.{VertexName}
 use Rattle.surf_model.proofs.PartsLemmas.{length-parts, get_or-parts, part_within, parts-push, EndsRise-push, EndsRise-last, sum_by-parts, sum_by-take-parts}
+use Rattle.surf_model.specs.declared.limits.TheConstants.{MOST_SIDES}
 
 -- where face f of a mesh lies among all corners
 pub record LiesAt (mesh : FaceList) (ends : List ℕ) (corners : List VertexName) (f : ℕ) : Type 0 where
@@ -82,7 +83,7 @@ stored_mesh-push count ends corners face m h e =
     ap (λ (fs : List (List ℕ)). let mesh : FaceList = record { count = count; faces = fs } in mesh) (ap (parts 0 (ends ++ m ∷ [])) joined ∙ faces)
 
 pub IsStored-push : (count : ℕ) (ends : List ℕ) (corners face : List VertexName) (m : ℕ) → IsStored count ends corners → IsFace count (numbers face)
-    → total_sides (stored_mesh count ends corners) + length face ≤ 4000000 → m ≡ length corners + length face
+    → total_sides (stored_mesh count ends corners) + length face ≤ MOST_SIDES → m ≡ length corners + length face
     → IsStored count (ends ++ m ∷ []) (corners ++ face)
 IsStored-push count ends corners face m h ok room e =
     let whole : length (corners ++ face) ≡ m = omega (arith, e, length-append corners face) in

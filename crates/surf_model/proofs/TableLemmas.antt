@@ -33,7 +33,7 @@ list_any_agree p q h (x ∷ xs) = rw (h x, list_any_agree p q h xs) refl
 pub joins_swap : (u v : ℕ) (s : FaceSide) → joins u v s ≡ joins v u s
 joins_swap u v s = grind (arith, nat_tests)
 
-both_join : (u v a b : ℕ) (s : FaceSide) → joins u v s ≡ true → joins a b s ≡ true → ((a ≡ u) × (b ≡ v)) ⊎ ((a ≡ v) × (b ≡ u))
+pub both_join : (u v a b : ℕ) (s : FaceSide) → joins u v s ≡ true → joins a b s ≡ true → ((a ≡ u) × (b ≡ v)) ⊎ ((a ≡ v) × (b ≡ u))
 both_join u v a b s h k = grind (arith, nat_tests)
 
 pub joins_names : (a b v : ℕ) (s : FaceSide) → joins a b s ≡ true → (a ≡ v) ⊎ (b ≡ v) → names v s ≡ true

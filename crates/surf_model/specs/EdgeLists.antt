@@ -4,6 +4,7 @@ use Rattle.surf_model.specs.Parts.{parts, EndsRise}
 use Rattle.surf_model.specs.declared.edge_list.EdgeEnds.{EdgeEnds}
 use Rattle.surf_model.specs.declared.edge_list.SideEntry.{SideEntry}
 use Rattle.surf_model.specs.declared.names.DartName.{DartName}
+use Rattle.surf_model.specs.declared.limits.TheConstants.{MOST_SIDES}
 
 -- an edge: its two vertices, and the numbers of its sides
 pub record DartEdge : Type 0 where
@@ -37,4 +38,4 @@ pub record IsEdgeList (pairs : List EdgeEnds) (stops : List ℕ) (darts : List D
   pub each_edge : length pairs ≡ length stops
   pub rising : EndsRise 0 stops (length darts)
   pub few_edges : length stops ≤ length darts
-  pub few_sides : length darts ≤ 4000000
+  pub few_sides : length darts ≤ MOST_SIDES

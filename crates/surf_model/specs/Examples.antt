@@ -3,26 +3,9 @@ use Rattle.std.specs.Prelude.{◌≡◌, ℕ, true, false, [], ◌∷◌, Some, 
 use Rattle.surf_model.specs.declared.names.VertexName.{VertexName}
 use Rattle.surf_model.specs.declared.names.FaceName.{FaceName}
 use Rattle.surf_model.specs.declared.moves.Move.TheVariants.{Insert, Remove, Across}
-use Rattle.surf_model.specs.FaceLists.{FaceList, all_sides, is_edge, is_used}
+use Rattle.surf_model.specs.FaceLists.{all_sides, is_edge, is_used}
+use Rattle.surf_model.specs.Meshes.{tetrahedron, cube, torus}
 use Rattle.surf_model.specs.Moves.{apply, apply_all, greatest_darts}
-
-abbrev tetrahedron : FaceList
-tetrahedron = record { count = 4; faces = (0 ∷ 1 ∷ 2 ∷ []) ∷ (0 ∷ 3 ∷ 1 ∷ []) ∷ (0 ∷ 2 ∷ 3 ∷ []) ∷ (1 ∷ 3 ∷ 2 ∷ []) ∷ [] }
-
-abbrev cube : FaceList
-cube =
-    record {
-      count = 8;
-      faces = (0 ∷ 3 ∷ 2 ∷ 1 ∷ []) ∷ (4 ∷ 5 ∷ 6 ∷ 7 ∷ []) ∷ (0 ∷ 1 ∷ 5 ∷ 4 ∷ []) ∷ (1 ∷ 2 ∷ 6 ∷ 5 ∷ []) ∷ (2 ∷ 3 ∷ 7 ∷ 6 ∷ []) ∷ (3 ∷ 0 ∷ 4 ∷ 7 ∷ []) ∷ [];
-    }
-
--- the first eight of its fourteen triangles
-abbrev torus_part : FaceList
-torus_part =
-    record {
-      count = 7;
-      faces = (0 ∷ 1 ∷ 3 ∷ []) ∷ (1 ∷ 2 ∷ 4 ∷ []) ∷ (2 ∷ 3 ∷ 5 ∷ []) ∷ (3 ∷ 4 ∷ 6 ∷ []) ∷ (4 ∷ 5 ∷ 0 ∷ []) ∷ (5 ∷ 6 ∷ 1 ∷ []) ∷ (6 ∷ 0 ∷ 2 ∷ []) ∷ (0 ∷ 3 ∷ 2 ∷ []) ∷ [];
-    }
 
 abbrev vertex : ℕ → VertexName
 vertex v = record { 0 = v }
@@ -86,10 +69,10 @@ three_faces :
 unfolding apply
 three_faces = refl
 
-two_faces : apply_all torus_part (0 ∷ 1 ∷ 3 ∷ []) (Across 0 (face 0) 0 true 2 ∷ Across 0 (face 7) 0 true 1 ∷ []) ≡ Some (0 ∷ 2 ∷ 3 ∷ [])
+two_faces : apply_all torus (0 ∷ 1 ∷ 3 ∷ []) (Across 0 (face 0) 0 true 2 ∷ Across 0 (face 7) 0 true 1 ∷ []) ≡ Some (0 ∷ 2 ∷ 3 ∷ [])
 unfolding apply
 two_faces = refl
 
-peak_of_two_faces : greatest_darts torus_part (0 ∷ 1 ∷ 3 ∷ []) (Across 0 (face 0) 0 true 2 ∷ Across 0 (face 7) 0 true 1 ∷ []) ≡ 2
+peak_of_two_faces : greatest_darts torus (0 ∷ 1 ∷ 3 ∷ []) (Across 0 (face 0) 0 true 2 ∷ Across 0 (face 7) 0 true 1 ∷ []) ≡ 2
 unfolding greatest_darts apply
 peak_of_two_faces = refl

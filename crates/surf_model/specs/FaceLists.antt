@@ -1,6 +1,7 @@
 -- Face lists: polygon meshes in the usual combinatorial sense, each face the ring of its corners.
 use Rattle.std.specs.Prelude.{ℕ, zero, suc, ◌+◌, ◌-◌, ◌<◌, ◌≤◌, ◌≢◌, Bool, true, ◌==◌, ◌&&◌, ◌||◌, if◌then◌else◌, List, [], ◌∷◌, length, map, slice_index, slice_index_or, flat_map, sum_by, All}
 use Rattle.std.specs.List.{list_any, enumerate_from, range_with_len}
+use Rattle.surf_model.specs.declared.limits.TheConstants.{MOST_VERTICES, MOST_SIDES}
 
 -- a vertex count, and the faces: each the vertices at its corners, in order round the face
 pub record FaceList : Type 0 where
@@ -33,8 +34,8 @@ total_sides mesh = sum_by length mesh.faces
 -- what holds of each face list of the program; the bounds are those of a mesh file
 pub record IsFaceList (mesh : FaceList) : Type 0 where
   pub faces : All (IsFace mesh.count) mesh.faces
-  pub few_vertices : mesh.count ≤ 1000000
-  pub few_sides : total_sides mesh ≤ 4000000
+  pub few_vertices : mesh.count ≤ MOST_VERTICES
+  pub few_sides : total_sides mesh ≤ MOST_SIDES
 
 -- a side of a face: the face, the place of the corner that it starts at, and the vertices at its two ends
 pub record FaceSide : Type 0 where

@@ -15,4 +15,5 @@ pub mod EdgeLists
 pub mod Building
 pub mod Links
 pub mod StoredEdges
+pub mod Meshes
 pub mod Examples

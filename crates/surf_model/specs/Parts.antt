@@ -1,5 +1,6 @@
 -- A list of lists, kept as one list and the places where its parts end.
 use Rattle.std.specs.Prelude.{◌≡◌, ℕ, ◌+◌, ◌-◌, ◌*◌, ◌/◌, ◌<◌, ◌≤◌, List, [], ◌∷◌, length, take, drop, slice_index}
+use Rattle.surf_model.specs.declared.limits.TheConstants.{MOST_SIDES}
 
 -- the parts of xs that end at these places, the first of them starting at `from`
 abbrev pub parts : {A : Type 0} → ℕ → List ℕ → List A → List (List A)
@@ -25,6 +26,6 @@ pub record IsInPart (ends : List ℕ) (place part : ℕ) : Type 0 where
 pub record IsPartList (ends marks : List ℕ) : Type 0 where
   pub rising : EndsRise 0 ends (last_end ends)
   pub few : length ends ≤ last_end ends
-  pub room : last_end ends ≤ 4000000
+  pub room : last_end ends ≤ MOST_SIDES
   pub each_sixteenth : length marks ≡ (last_end ends + 15) / 16
   pub marked : (k : ℕ) → k < length marks → IsInPart ends (16 * k) (slice_index marks k)

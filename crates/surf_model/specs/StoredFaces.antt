@@ -4,6 +4,7 @@ use Rattle.surf_model.specs.Parts.{parts, EndsRise}
 use Rattle.surf_model.specs.Vertices.{numbers}
 use Rattle.surf_model.specs.FaceLists.{FaceList, IsFaceList}
 use Rattle.surf_model.specs.declared.names.VertexName.{VertexName}
+use Rattle.surf_model.specs.declared.limits.TheConstants.{MOST_SIDES}
 
 -- the face list that lies so
 abbrev pub stored_mesh : ℕ → List ℕ → List VertexName → FaceList
@@ -12,5 +13,5 @@ stored_mesh count ends corners = record { count = count; faces = parts 0 ends (n
 pub record IsStored (count : ℕ) (ends : List ℕ) (corners : List VertexName) : Type 0 where
   pub mesh : IsFaceList (stored_mesh count ends corners)
   pub rising : EndsRise 0 ends (length corners)
-  pub few_corners : length corners ≤ 4000000
+  pub few_corners : length corners ≤ MOST_SIDES
   pub few_faces : 3 * length ends ≤ length corners

@@ -1,6 +1,7 @@
 //! The edges as they lie in memory: their sides by number, edge after edge.
 ghost use Rattle.std.specs.Prelude.{◌≡◌, ◌+◌, ◌<◌, ◌≤◌, [], ◌∷◌, ◌++◌, length, map, slice_index, OnOk, OnErr, IfOk};
 ghost use Rattle.surf_model.specs.EdgeLists.{dart_edge_in, dart_count, dart_of};
+ghost use Rattle.surf_model.specs.declared.limits.TheConstants.{MOST_SIDES};
 
 use crate::names::{DartName, VertexName};
 use crate::parts::start_of;
@@ -58,7 +59,7 @@ impl EdgeList {
     /// Puts an edge last, whose sides are these.
     pub(crate) fn push(&mut self, ends: EdgeEnds, sides: &[SideEntry]) -> Result<(), AllocError>
         requires some { 0 < length sides.now }
-        requires room { dart_count self.old + length sides.now ≤ 4000000 }
+        requires room { dart_count self.old + length sides.now ≤ MOST_SIDES }
         ensures { OnOk result (self.new
             ≡ self.old ++ record { low = ends.low.0; high = ends.high.0; darts = map dart_of sides.now } ∷ []) }
     {

@@ -4,6 +4,7 @@ ghost use Rattle.surf_model.specs.FaceLists.{face_at, next_corner, total_sides, 
 ghost use Rattle.surf_model.specs.Darts.{first_side, IsSide, side_number, side_after};
 ghost use Rattle.surf_model.specs.StoredEdges.{IsNumbering};
 ghost use Rattle.surf_model.specs.Vertices.{numbers};
+ghost use Rattle.surf_model.specs.declared.limits.TheConstants.{MOST_VERTICES, MOST_SIDES};
 
 use crate::edges::Side;
 use crate::names::{DartName, FaceName, VertexName};
@@ -36,7 +37,7 @@ impl Model for Faces {
 impl Faces {
     /// A list of no faces over `count` vertices. It takes no memory.
     pub fn new(alloc: Global, count: u32) -> Faces
-        requires { count ≤ 1000000 }
+        requires { count ≤ MOST_VERTICES }
         ensures { result ≡ record { count = count; faces = [] } }
     {
         Faces {
@@ -49,7 +50,7 @@ impl Faces {
     /// Puts a face last.
     pub fn push(&mut self, face: Vec<VertexName>) -> Result<(), AllocError>
         requires face { IsFace self.old.count (numbers face.items) }
-        requires room { total_sides self.old + length face.items ≤ 4000000 }
+        requires room { total_sides self.old + length face.items ≤ MOST_SIDES }
         ensures ok { OnOk result (self.new
             ≡ record { count = self.old.count; faces = self.old.faces ++ numbers face.items ∷ [] }) }
         ensures err { OnErr result (self.new ≡ self.old) }
@@ -60,7 +61,7 @@ impl Faces {
     /// Puts a face last, as `push` does, from corners that the caller keeps.
     pub fn push_slice(&mut self, face: &[VertexName]) -> Result<(), AllocError>
         requires face { IsFace self.old.count (numbers face.now) }
-        requires room { total_sides self.old + length face.now ≤ 4000000 }
+        requires room { total_sides self.old + length face.now ≤ MOST_SIDES }
         ensures ok { OnOk result (self.new
             ≡ record { count = self.old.count; faces = self.old.faces ++ numbers face.now ∷ [] }) }
         ensures err { OnErr result (self.new ≡ self.old) }

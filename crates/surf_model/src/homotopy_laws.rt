@@ -45,6 +45,17 @@ pub fn homotopy_is_a_congruence()
         → Homotopic mesh (before ++ first ++ after) (before ++ second ++ after) }
 {}
 
+/// To be joined by spur moves alone is an equivalence too, and such parts of a walk may take each other's place.
+pub fn free_equality_is_a_congruence()
+    ensures reflexive { (mesh : FaceList) (walk : List ℕ) → AreFreelyEqual mesh walk walk }
+    ensures symmetric { (mesh : FaceList) (first second : List ℕ) → IsWalk mesh first → AreFreelyEqual mesh first second
+        → AreFreelyEqual mesh second first }
+    ensures transitive { (mesh : FaceList) (first second third : List ℕ) → AreFreelyEqual mesh first second
+        → AreFreelyEqual mesh second third → AreFreelyEqual mesh first third }
+    ensures in_context { (mesh : FaceList) (first second before after : List ℕ) → 0 < length first → AreFreelyEqual mesh first second
+        → AreFreelyEqual mesh (before ++ first ++ after) (before ++ second ++ after) }
+{}
+
 /// Of the walks that spur moves alone join, one at most has no spur.
 pub fn reduced_walk_is_unique()
     ensures { (mesh : FaceList) (first second : List ℕ) → 0 < length first → AreFreelyEqual mesh first second → HasNoSpur first

@@ -1,6 +1,7 @@
 //! A list of lists, kept as one vector and the places where its parts end.
 ghost use Rattle.std.specs.Prelude.{◌≡◌, ◌+◌, ◌<◌, ◌≤◌, [], ◌∷◌, ◌++◌, length, slice_index, OnOk, OnErr, IfOk};
 ghost use Rattle.surf_model.specs.Parts.{last_end, IsInPart};
+ghost use Rattle.surf_model.specs.declared.limits.TheConstants.{MOST_SIDES};
 
 use std::alloc::{AllocError, Global};
 use std::marker::Model;
@@ -52,7 +53,7 @@ impl Parts {
     /// Puts a part of this size last.
     pub(crate) fn push(&mut self, size: u32) -> Result<(), AllocError>
         requires some { 0 < size }
-        requires room { last_end self.old + size ≤ 4000000 }
+        requires room { last_end self.old + size ≤ MOST_SIDES }
         ensures ok { OnOk result (self.new ≡ self.old ++ (last_end self.old + size) ∷ []) }
         ensures err { OnErr result (self.new ≡ self.old) }
     {

@@ -3,6 +3,7 @@ ghost use Rattle.std.specs.Prelude.{◌≡◌, ℕ, ◌<◌, ◌≤◌, List, Al
 ghost use Rattle.turn_words.specs.Canonical.{IsCanonical, IsCanonicalOf, IsTurnWord};
 ghost use Rattle.turn_words.specs.Step_table.{Reaches};
 ghost use Rattle.turn_words.specs.Word_faults.{IsFirstAbove, IsWordFaultOf};
+ghost use Rattle.turn_words.specs.declared.canonising.TheConstants.{MOST_ENTRIES};
 
 use crate::counter::Steps;
 use crate::modulo::sum_modulo;
@@ -11,6 +12,9 @@ use crate::recorder::Silent;
 use crate::word::TurnWord;
 use std::alloc::{AllocError, Global};
 use std::sync::ledger::Ledger;
+
+/// The most entries of a word whose canonical word is looked for.
+pub const MOST_ENTRIES: u32 = 1_000_000;
 
 /// Why a list of entries has no canonical word.
 #[derive(Clone, Copy, Debug, PartialEq, Eq)]
@@ -42,7 +46,7 @@ pub fn canonise<L: Ledger>(
     word: &[u32],
     steps: &mut Steps<L>,
 ) -> Result<TurnWord, WordFault>
-    requires { length word.now ≤ 1000000 }
+    requires { length word.now ≤ MOST_ENTRIES }
     ensures canonical { IfOk result (λ canonical. IsCanonicalOf degree word.now canonical) }
     ensures only { IfOk result (λ canonical. (other : List ℕ) → IsCanonicalOf degree word.now other → other ≡ canonical) }
     ensures same { IfOk result (λ canonical. IsCanonical degree word.now → canonical ≡ word.now) }

@@ -1,6 +1,7 @@
 //! What no clause says: that the calls succeed with ample memory, and worked examples from outside.
 ghost use Rattle.std.specs.Prelude.{◌≡◌, ◌<◌, ◌≤◌, length, IfOk};
 ghost use Rattle.turn_words.specs.Wheels.{IsWheel};
+ghost use Rattle.turn_words.specs.declared.canonising.TheConstants.{MOST_ENTRIES};
 
 use super::*;
 use std::alloc::Global;
@@ -25,7 +26,7 @@ fn canonise_from<L: Ledger>(
     requires name { blank.name ≡ L.name }
     requires parts { blank.parts ≡ L.parts }
     requires some { 0 < L.parts }
-    requires short { length word.now ≤ 1000000 }
+    requires short { length word.now ≤ MOST_ENTRIES }
 {
     let mut steps: Steps<L> = Steps::new(blank);
     canonise(alloc, degree, word, &mut steps)
@@ -33,7 +34,7 @@ fn canonise_from<L: Ledger>(
 
 /// Tells whether the canonical word of the one list is the other.
 fn gives(alloc: Global, degree: u32, word: &[u32], expected: &[u32]) -> Result<bool, WordFault>
-    requires { length word.now ≤ 1000000 }
+    requires { length word.now ≤ MOST_ENTRIES }
 {
     let canonical = canonise_from::<Brand>(alloc, degree, word, Blank::new(1))?;
     if canonical.len() as usize != expected.len() {

@@ -8,13 +8,14 @@ use Rattle.halfedge_map.specs.StoredDarts.{StoreDarts, signed}
 use Rattle.halfedge_map.proofs.StoringLemmas.{first_side-more, stored_more, dart_small}
 use Rattle.halfedge_map.proofs.darts.push_darts.Goals.{then-flipped, else-flipped}
 use Rattle.halfedge_map.proofs.darts.push_darts.Goals as goal
+use Rattle.surf_model.specs.declared.limits.TheConstants.{MOST_SIDES}
 
 pub overflow_add-first : goal.overflow_add-first
 overflow_add-first c =
     let mesh = c.args.faces.now in
     let f : ℕ = c.args.face.0 in
     let t : ℕ = c.corner_after.result in
-    let small : first_side mesh f + t < 4000000 = dart_small mesh f t c.requires.few
+    let small : first_side mesh f + t < MOST_SIDES = dart_small mesh f t c.requires.few
     (record { face = c.requires.face; place = omega (arith, c.corner_after.ensures.within, c.sides-sides.ensures); is = refl }) in
     omega (arith, small, c.first_dart-first.ensures)
 

@@ -5,6 +5,7 @@ use Rattle.surf_model.specs.Vertices.{numbers}
 use Rattle.surf_model.proofs.PartsLemmas.{EndsRise-last}
 use Rattle.surf_model.proofs.StoredLemmas.{IsStored-push, stored_mesh-push, total_sides-seen}
 use Rattle.surf_model.proofs.faces.Faces.push_slice.Goals as goal
+use Rattle.surf_model.specs.declared.limits.TheConstants.{MOST_SIDES}
 
 pub push-requires-clause-room : goal.push-requires-clause-room
 push-requires-clause-room c =
@@ -15,7 +16,7 @@ invariant_of-self-2 c =
     let i = c.self.inside in
     let corners : c.extend_from_slice.new.self.items ≡ i.corners.items ++ c.args.face.now = search rules in
     let face = subst (λ (m : FaceList). IsFace m.count (numbers c.args.face.now)) (sym c.self.view_is) c.requires.face in
-    let room = subst (λ (m : FaceList). total_sides m + length c.args.face.now ≤ 4000000) (sym c.self.view_is) c.requires.room in
+    let room = subst (λ (m : FaceList). total_sides m + length c.args.face.now ≤ MOST_SIDES) (sym c.self.view_is) c.requires.room in
     let size : last_end i.parts + length c.args.face.now ≡ length i.corners.items + length c.args.face.now = omega (arith, EndsRise-last i.parts _ c.self.invariant.rising) in
     rw (corners, c.in_ok-push.ensures.ok) (IsStored-push i.count i.parts i.corners.items c.args.face.now _ c.self.invariant face room size)
 
