@@ -28,7 +28,8 @@ dart_of side = side.dart.0
 abbrev pub zipped_edges : List EdgeEnds → List (List DartName) → List DartEdge
 zipped_edges [] sides = []
 zipped_edges (pair ∷ pairs) [] = []
-zipped_edges (pair ∷ pairs) (part ∷ sides) = record { low = pair.low.0; high = pair.high.0; darts = map (λ d. d.0) part } ∷ zipped_edges pairs sides
+zipped_edges (pair ∷ pairs) (part ∷ sides) =
+    record { low = pair.low.0; high = pair.high.0; darts = map (λ d. d.0) part } ∷ zipped_edges pairs sides
 
 abbrev pub stored_edges : List EdgeEnds → List ℕ → List DartName → List DartEdge
 stored_edges pairs stops darts = zipped_edges pairs (parts 0 stops darts)

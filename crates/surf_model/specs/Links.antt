@@ -18,7 +18,9 @@ pub record IsLinked (edges : List DartEdge) (edge_of : List EdgeName) (other : L
   pub edge : edge_at edge_of n < length edges
   pub in_edge : place < length (dart_edge_in edges (edge_at edge_of n)).darts
   pub here : slice_index (dart_edge_in edges (edge_at edge_of n)).darts place ≡ n
-  pub next : slice_index (dart_edge_in edges (edge_at edge_of n)).darts (next_corner true (length (dart_edge_in edges (edge_at edge_of n)).darts) place) ≡ dart_at other n
+  pub next :
+      slice_index (dart_edge_in edges (edge_at edge_of n)).darts
+      (next_corner true (length (dart_edge_in edges (edge_at edge_of n)).darts) place) ≡ dart_at other n
 
 -- whether the vertex is an end of the edge
 abbrev pub is_end : ℕ → DartEdge → Bool

@@ -21,7 +21,8 @@ torus =
       count = 7;
       faces =
           (0 ∷ 1 ∷ 3 ∷ []) ∷ (1 ∷ 2 ∷ 4 ∷ []) ∷ (2 ∷ 3 ∷ 5 ∷ []) ∷ (3 ∷ 4 ∷ 6 ∷ []) ∷ (4 ∷ 5 ∷ 0 ∷ []) ∷ (5 ∷ 6 ∷ 1 ∷ []) ∷ (6 ∷ 0 ∷ 2 ∷ [])
-          ∷ (0 ∷ 3 ∷ 2 ∷ []) ∷ (1 ∷ 4 ∷ 3 ∷ []) ∷ (2 ∷ 5 ∷ 4 ∷ []) ∷ (3 ∷ 6 ∷ 5 ∷ []) ∷ (4 ∷ 0 ∷ 6 ∷ []) ∷ (5 ∷ 1 ∷ 0 ∷ []) ∷ (6 ∷ 2 ∷ 1 ∷ []) ∷ [];
+          ∷ (0 ∷ 3 ∷ 2 ∷ []) ∷ (1 ∷ 4 ∷ 3 ∷ []) ∷ (2 ∷ 5 ∷ 4 ∷ []) ∷ (3 ∷ 6 ∷ 5 ∷ [])
+          ∷ (4 ∷ 0 ∷ 6 ∷ []) ∷ (5 ∷ 1 ∷ 0 ∷ []) ∷ (6 ∷ 2 ∷ 1 ∷ []) ∷ [];
     }
 
 -- the projective plane of six vertices
@@ -36,4 +37,5 @@ projective_plane =
 
 -- the Moebius band of five triangles, each with two edges in the band and one at its rim
 abbrev pub moebius_band : FaceList
-moebius_band = record { count = 5; faces = (0 ∷ 1 ∷ 2 ∷ []) ∷ (1 ∷ 2 ∷ 3 ∷ []) ∷ (2 ∷ 3 ∷ 4 ∷ []) ∷ (3 ∷ 4 ∷ 0 ∷ []) ∷ (4 ∷ 0 ∷ 1 ∷ []) ∷ [] }
+moebius_band =
+    record { count = 5; faces = (0 ∷ 1 ∷ 2 ∷ []) ∷ (1 ∷ 2 ∷ 3 ∷ []) ∷ (2 ∷ 3 ∷ 4 ∷ []) ∷ (3 ∷ 4 ∷ 0 ∷ []) ∷ (4 ∷ 0 ∷ 1 ∷ []) ∷ [] }

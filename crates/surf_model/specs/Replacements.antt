@@ -13,7 +13,8 @@ place_of (Across at face corner forward taken) = at
 -- the move replaces the first part by the second
 abbrev pub Replaces : FaceList → Move → List ℕ → List ℕ → Type 0
 -- a vertex by a spur: along an edge to `via`, and straight back
-Replaces mesh (Insert at via) part other = (here : ℕ) × IsTrue (is_edge mesh here via.0) × (part ≡ here ∷ []) × (other ≡ here ∷ via.0 ∷ here ∷ [])
+Replaces mesh (Insert at via) part other =
+    (here : ℕ) × IsTrue (is_edge mesh here via.0) × (part ≡ here ∷ []) × (other ≡ here ∷ via.0 ∷ here ∷ [])
 -- a spur by its vertex
 Replaces mesh (Remove at via) part other = (here : ℕ) × (part ≡ here ∷ via.0 ∷ here ∷ []) × (other ≡ here ∷ [])
 -- the way along `taken` sides of a face from a corner on, by the way along the other sides

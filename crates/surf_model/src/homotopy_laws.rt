@@ -65,5 +65,6 @@ pub fn reduced_walk_is_unique()
 /// Two walks along one tree with common ends and without spurs are equal.
 pub fn walk_along_a_tree_is_unique()
     ensures { (parent : ℕ → Option ℕ) (rank : ℕ → ℕ) (first second : List ℕ) → RankFalls parent rank → 0 < length first → 0 < length second
-        → IsAlongTree parent first → IsAlongTree parent second → HasNoSpur first → HasNoSpur second → HaveCommonEnds first second → first ≡ second }
+        → IsAlongTree parent first → IsAlongTree parent second → HasNoSpur first → HasNoSpur second → HaveCommonEnds first second
+        → first ≡ second }
 {}

@@ -1,5 +1,16 @@
 //! The objects of the product: polygon meshes as face lists, walks along their edges, and the
 //! elementary moves that change a walk.
+//!
+//! A caller sees a mesh as a vertex count and the list of its faces, the table of its edges as a list
+//! of edges with their sides, a walk as the list of its vertices, and a list of moves with its peak.
+//! Proved: the table is that of the mesh, and answers what the mesh says; a mesh has one table; a move
+//! puts one part of a walk in another's place, and its inverse leads back; being joined by moves is a
+//! congruence; and of the walks that spur moves join, one at most has no spur.
+//!
+//!     let mut faces = Faces::new(alloc, 4);
+//!     faces.push_slice(&[VertexName(0), VertexName(1), VertexName(2)])?;
+//!     let sides = Sides::build(alloc, &faces)?;
+//!     let edge = sides.between(VertexName(2), VertexName(0));
 #![tactic(auto)]
 
 mod building;
