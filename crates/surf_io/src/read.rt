@@ -71,7 +71,7 @@ pub fn read_whole<S: Shelf>(
 }
 
 // Makes room past the first `filled` bytes: for a piece, or up to `most` bytes in all. The room
-// doubles, so that a byte is moved only a few times.
+// grows by a quarter, so that little of it stays empty, and a byte is moved only a few times.
 fn make_room(bytes: &mut Vec<u8>, filled: usize, most: usize) -> Result<(), AllocError>
     requires filled { filled ≤ vec_len bytes.old }
     requires below { filled < most }
@@ -82,7 +82,7 @@ fn make_room(bytes: &mut Vec<u8>, filled: usize, most: usize) -> Result<(), Allo
 {
     let len = bytes.len();
     if len - filled < PIECE {
-        let wanted = len.saturating_add(len.max(PIECE)).min(most);
+        let wanted = len.saturating_add((len / 4).max(PIECE)).min(most);
         bytes.reserve_exact(wanted - len)?;
         bytes.resize(wanted, 0)?;
     }
