@@ -1,2 +1,5 @@
 pub mod PathLemmas
 pub mod FoldingLemmas
+pub mod WordLemmas
+pub mod LabelLemmas
+pub mod DecidingLemmas

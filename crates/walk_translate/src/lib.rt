@@ -1,6 +1,13 @@
-//! From walks to words: the spokes that a walk passes under a good labelling, put into a form one after another.
+//! From walks to words: the spokes that a walk passes under a good labelling, and the word that tells which walks are
+//! homotopic.
 #![tactic(auto)]
 
+mod deciding;
 mod folding;
+mod labels;
+mod word;
 
+pub use deciding::{Answer, decide};
 pub use folding::fold;
+pub use labels::label_surface;
+pub use word::word_of;

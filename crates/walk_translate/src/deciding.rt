@@ -1,0 +1,75 @@
+//! Deciding homotopy.
+ghost use Rattle.std.specs.Prelude.{◌≡◌, ◌↔◌, IfOk, IsTrue};
+ghost use Rattle.surf_model.specs.Walks.{IsWalk, HaveCommonEnds};
+ghost use Rattle.surf_model.specs.Moves.{Homotopic};
+
+use crate::labels::label_by_cut;
+use crate::word::word_of;
+use halfedge_map::Surface;
+use std::alloc::{AllocError, Global};
+use surf_model::Walk;
+use turn_words::{TurnWord, Word};
+
+/// Whether one walk may take the place of another.
+#[derive(Clone, Copy, Debug, PartialEq, Eq)]
+pub enum Answer {
+    /// Some list of moves leads from the first walk to the second.
+    Homotopic,
+    /// No list of moves does.
+    Different,
+}
+
+/// Decides whether two walks of a surface with common ends are homotopic.
+///
+/// On a sphere they always are. On every other surface their words are compared, under the labelling of a polygon into which
+/// the surface is cut.
+pub fn decide(
+    alloc: Global,
+    surface: &Surface,
+    first: &Walk,
+    second: &Walk,
+) -> Result<Answer, AllocError>
+    requires first { IsWalk surface.now.mesh first.now }
+    requires second { IsWalk surface.now.mesh second.now }
+    requires ends { HaveCommonEnds first.now second.now }
+    ensures { IfOk result (λ answer. (answer ≡ Answer.Homotopic) ↔ Homotopic surface.now.mesh first.now second.now) }
+{
+    let faces = surface.faces();
+    let sides = surface.sides();
+    let Some(good) = label_by_cut(alloc, surface)? else {
+        return Ok(Answer::Homotopic);
+    };
+    let one = word_of(alloc, faces, sides, &good, first)?;
+    let other = word_of(alloc, faces, sides, &good, second)?;
+    if are_same(&one, &other) {
+        Ok(Answer::Homotopic)
+    } else {
+        Ok(Answer::Different)
+    }
+}
+
+/// Tells whether two words are one.
+fn are_same(one: &Word, other: &Word) -> bool
+    ensures { IsTrue result ↔ (one.now ≡ other.now) }
+{
+    match (one, other) {
+        (Word::Turns(one), Word::Turns(other)) => are_same_turns(one, other),
+        (Word::Flat { x, y }, Word::Flat { x: right, y: up }) => x == right && y == up,
+        _ => false,
+    }
+}
+
+/// Tells whether two turn words are one.
+fn are_same_turns(one: &TurnWord, other: &TurnWord) -> bool
+    ensures { IsTrue result ↔ (one.now ≡ other.now) }
+{
+    if one.len() != other.len() {
+        return false;
+    }
+    for k in 0..one.len() {
+        if one.at(k) != other.at(k) {
+            return false;
+        }
+    }
+    true
+}

@@ -1,0 +1,36 @@
+//! Labellings of a surface.
+ghost use Rattle.std.specs.Prelude.{IfOk, MatchOption};
+ghost use Rattle.walk_translate.specs.SurfaceLabels.{IsSphere, IsSurfaceLabelling, HasSphereSplit, IsLabelledByCut};
+
+use halfedge_map::Surface;
+use polygon_cut::cut;
+use quad_system::GoodLabelling;
+use std::alloc::{AllocError, Global};
+use tree_cotree::split_edges;
+
+/// A labelling of a surface that is good and full and has the signs of the surface, with four spokes for each handle; none
+/// where the surface is a sphere.
+pub fn label_surface(alloc: Global, surface: &Surface) -> Result<Option<GoodLabelling>, AllocError>
+    ensures { IfOk result (λ found. MatchOption found (IsSphere surface.now) (IsSurfaceLabelling surface.now)) }
+{
+    // The proof reads what holds of every surface.
+    let _ = surface.faces();
+    label_by_cut(alloc, surface)
+}
+
+/// The labelling of a polygon into which the surface is cut; none where no edge is left over.
+pub(crate) fn label_by_cut(
+    alloc: Global,
+    surface: &Surface,
+) -> Result<Option<GoodLabelling>, AllocError>
+    ensures { IfOk result (λ found. MatchOption found (HasSphereSplit surface.now) (IsLabelledByCut surface.now)) }
+{
+    let split = split_edges(alloc, surface)?;
+    if split.genus() == 0 {
+        return Ok(None);
+    }
+    let polygon = cut(alloc, surface, &split)?;
+    drop(split);
+    let good = GoodLabelling::from_polygon(alloc, surface, &polygon)?;
+    Ok(Some(good))
+}
