@@ -10,3 +10,6 @@ mod turning;
 
 pub use cutting::cut;
 pub use polygon::Polygon;
+
+#[cfg(test)]
+mod tests;
