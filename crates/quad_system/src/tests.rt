@@ -1,8 +1,14 @@
-//! The torus of seven vertices, cut open into a square: its labelling, and what is wrong with others.
-use crate::{LabelFault, Labelling, check_labelling};
+//! The torus of seven vertices, cut open into a square: its labelling, and what is wrong with others; and the labelling that a
+//! cut of a double torus gives.
+use crate::{GoodLabelling, LabelFault, Labelling, check_labelling};
+use halfedge_map::Surface;
+use manifold_check::check_closed;
+use orientation::orient;
+use polygon_cut::cut;
 use std::alloc::Global;
 use std::process::Abort;
 use surf_model::{FaceName, Faces, Sides, Spoke, VertexName};
+use tree_cotree::split_edges;
 
 const FACES: [[u32; 3]; 14] = [
     [0, 1, 3],
@@ -38,9 +44,45 @@ const LABELS: [[u32; 3]; 14] = [
     [0, 0, 3],
 ];
 
+/// Two such tori without the triangle 0 1 3, along which they hang together. The last face is listed the other way round.
+const DOUBLE_FACES: [[u32; 3]; 26] = [
+    [1, 2, 4],
+    [2, 3, 5],
+    [3, 4, 6],
+    [4, 5, 0],
+    [5, 6, 1],
+    [6, 0, 2],
+    [0, 3, 2],
+    [1, 4, 3],
+    [2, 5, 4],
+    [3, 6, 5],
+    [4, 0, 6],
+    [5, 1, 0],
+    [6, 2, 1],
+    [1, 8, 7],
+    [7, 9, 3],
+    [3, 10, 8],
+    [8, 0, 9],
+    [9, 1, 10],
+    [10, 7, 0],
+    [0, 7, 3],
+    [1, 3, 8],
+    [7, 8, 9],
+    [3, 9, 10],
+    [8, 10, 0],
+    [9, 0, 1],
+    [10, 7, 1],
+];
+
 fn mesh(alloc: Global, rt: &impl Abort) -> Faces {
-    let mut faces = Faces::new(alloc, 7);
-    for [a, b, c] in FACES {
+    mesh_of(alloc, rt, 7, &FACES)
+}
+
+fn mesh_of(alloc: Global, rt: &impl Abort, count: u32, triangles: &[[u32; 3]]) -> Faces {
+    assert!(rt; count <= 1000);
+    let mut faces = Faces::new(alloc, count);
+    for triangle in triangles {
+        let (a, b, c) = (triangle[0], triangle[1], triangle[2]);
         assert!(rt; a < faces.count() && b < faces.count() && c < faces.count());
         assert!(rt; a != b && b != c && c != a);
         assert!(rt; faces.total() < 1000);
@@ -114,4 +156,36 @@ fn other_labellings_are_refused(rt: HostRuntime) {
         high: VertexName(2),
     };
     assert_eq!(rt; fault(alloc, &rt, changed), Some(edge));
+}
+
+/// The surface of a mesh.
+fn surface_of(alloc: Global, rt: &impl Abort, faces: Faces) -> Surface {
+    let sides = Sides::build(alloc, &faces).expect(rt, "memory");
+    match check_closed(alloc, &faces, &sides) {
+        Ok(()) => {}
+        Err(_) => panic!(rt; "not closed"),
+    }
+    let signs = match orient(alloc, &faces, &sides) {
+        Ok(signs) => signs,
+        Err(_) => panic!(rt; "no signs"),
+    };
+    Surface::build(alloc, faces, sides, signs).expect(rt, "memory")
+}
+
+/// The labellings of a polygon pass the check.
+#[test]
+fn polygons_give_good_labellings(rt: HostRuntime) {
+    let alloc = rt.alloc();
+    let surface = surface_of(alloc, &rt, mesh_of(alloc, &rt, 11, &DOUBLE_FACES));
+    let split = split_edges(alloc, &surface).expect(&rt, "memory");
+    let polygon = cut(alloc, &surface, &split).expect(&rt, "memory");
+    assert_eq!(rt; polygon.degree(), 8);
+    let good = GoodLabelling::from_polygon(alloc, &surface, &polygon).expect(&rt, "memory");
+    assert_eq!(rt; good.wheel().degree(), 8);
+    let labelling = good.into_labelling();
+    assert!(rt; labelling.faces() == 26);
+    let flips = labelling.flipped(FaceName(0)) != labelling.flipped(FaceName(25));
+    assert!(rt; flips);
+    let checked = check_labelling(alloc, surface.faces(), surface.sides(), labelling);
+    assert!(rt; checked.is_ok());
 }
