@@ -70,7 +70,7 @@ corner_home true m t h = rises_past m t m h (omega arith) (omega arith) ∙ omeg
 corner_home false m t h = falls_past m t m h (omega arith) h ∙ omega arith
 
 -- the direction in which darts go round a face
-dir : OrientedMesh → ℕ → Bool
+unfoldable pub dir : OrientedMesh → ℕ → Bool
 dir s f = not (is_flipped s.signs f)
 
 -- a dart ends one corner on from where it starts
@@ -87,17 +87,17 @@ end_is s f t d n = by (is_flipped s.signs f) refl
         end_flipped s f t d n e
         ∙ sym (ap (λ b. next_corner (not b) m (start_corner_of s d)) e ∙ ap (next_corner false m) (start_flipped s f t d n e) ∙ corner_back true m t n.place)
 
-corner_after_suc : (rising : Bool) (m t k : ℕ) → corner_after rising m t (suc k) ≡ next_corner rising m (corner_after rising m t k)
+pub corner_after_suc : (rising : Bool) (m t k : ℕ) → corner_after rising m t (suc k) ≡ next_corner rising m (corner_after rising m t k)
 corner_after_suc rising m t zero = refl
 corner_after_suc rising m t (suc k) = corner_after_suc rising m (next_corner rising m t) k
 
 -- where the darts round a face start
-record OnRound (s : OrientedMesh) (d k : ℕ) : Type 0 where
-  within : after_steps (next_of s) k d < darts_of s
-  face : face_of s (after_steps (next_of s) k d) ≡ face_of s d
-  corner : start_corner_of s (after_steps (next_of s) k d) ≡ corner_after (dir s (face_of s d)) (length (face_at s.mesh (face_of s d))) (start_corner_of s d) k
+pub record OnRound (s : OrientedMesh) (d k : ℕ) : Type 0 where
+  pub within : after_steps (next_of s) k d < darts_of s
+  pub face : face_of s (after_steps (next_of s) k d) ≡ face_of s d
+  pub corner : start_corner_of s (after_steps (next_of s) k d) ≡ corner_after (dir s (face_of s d)) (length (face_at s.mesh (face_of s d))) (start_corner_of s d) k
 
-on_round : (s : OrientedMesh) → IsOrientedSurface s → (k d : ℕ) → d < darts_of s → OnRound s d k
+pub on_round : (s : OrientedMesh) → IsOrientedSurface s → (k d : ℕ) → d < darts_of s → OnRound s d k
 on_round s o zero d l = record { within = l; face = refl; corner = refl }
 on_round s o (suc k) d l =
     let maps : Rotations = rotations_of s in
@@ -120,12 +120,12 @@ on_round s o (suc k) d l =
           ∙ sym (corner_after_suc (dir s (face_of s d)) (length (face_at s.mesh (face_of s d))) (start_corner_of s d) k);
     }
 
-record AtFace (s : OrientedMesh) (d : ℕ) : Type 0 where
-  in_list : face_of s d < length s.mesh.faces
-  in_face : start_corner_of s d < length (face_at s.mesh (face_of s d))
-  vertex : origin_of s d ≡ get_or (face_at s.mesh (face_of s d)) (start_corner_of s d) 0
+pub record AtFace (s : OrientedMesh) (d : ℕ) : Type 0 where
+  pub in_list : face_of s d < length s.mesh.faces
+  pub in_face : start_corner_of s d < length (face_at s.mesh (face_of s d))
+  pub vertex : origin_of s d ≡ get_or (face_at s.mesh (face_of s d)) (start_corner_of s d) 0
 
-at_face : (s : OrientedMesh) (d : ℕ) → d < darts_of s → AtFace s d
+pub at_face : (s : OrientedMesh) (d : ℕ) → d < darts_of s → AtFace s d
 at_face s d l =
     let place : HasPlace s.mesh d = placed s.mesh d l in
     let f_is : place.face ≡ face_of s d = sym (face_at_number s place.face place.place d place.numbered) in
@@ -156,7 +156,7 @@ abbrev pub vertices_on : OrientedMesh → ℕ → ℕ → List ℕ
 vertices_on s zero d = []
 vertices_on s (suc k) d = origin_of s (next_of s d) ∷ vertices_on s k (next_of s d)
 
-corners_read : (s : OrientedMesh) → IsOrientedSurface s → (k d : ℕ) → d < darts_of s
+pub corners_read : (s : OrientedMesh) → IsOrientedSurface s → (k d : ℕ) → d < darts_of s
     → corners_from (face_at s.mesh (face_of s d)) (dir s (face_of s d)) (start_corner_of s d) k ≡ origin_of s d ∷ vertices_on s k d
 corners_read s o zero d l = ap (λ x. x ∷ []) (sym (at_face s d l).vertex)
 corners_read s o (suc k) d l =

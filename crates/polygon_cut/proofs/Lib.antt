@@ -10,9 +10,13 @@ pub mod TurningLemmas
 pub mod CutLemmas
 pub mod GroupLemmas
 pub mod LoopLemmas
+pub mod FreeLoopLemmas
+pub mod FreeProductLemmas
 pub mod ValueLemmas
 pub mod TreeWayLemmas
 pub mod FaceRoundLemmas
 pub mod SpokeLemmas
+pub mod FreeSpokeLemmas
+pub mod FreeRoundLemmas
 pub mod WalkLemmas
 pub mod SphereLemmas

@@ -54,7 +54,7 @@ way_home mesh u v (w ∷ rest) h =
     way_on mesh v w u (back w rest) (u ∷ []) (way_home mesh w v rest h.1)
     (edge_swap mesh w u ∙ h.0, (refl, tail_used mesh u w h.0))
 
-back-append : (u : ℕ) (rest more : List ℕ) (v : ℕ) → (mesh : FaceList) → IsWay mesh u v rest → back u (rest ++ more) ≡ back v more ++ back u rest
+pub back-append : (u : ℕ) (rest more : List ℕ) (v : ℕ) → (mesh : FaceList) → IsWay mesh u v rest → back u (rest ++ more) ≡ back v more ++ back u rest
 back-append u [] more v mesh h = ap (λ x. back x more) h.0 ∙ sym (append_nil (back v more))
   where
     append_nil : (xs : List ℕ) → xs ++ [] ≡ xs
@@ -154,10 +154,10 @@ loop_inv {mesh} {root} a = record { rest = back root a.rest; is_way = way_home m
 abbrev pub loop_one : (mesh : FaceList) (root : ℕ) → IsTrue (is_used mesh root) → Loop mesh root
 loop_one mesh root used = record { rest = []; is_way = (refl, used) }
 
-loop_start : (mesh : FaceList) (root : ℕ) (a : Loop mesh root) → IsWalk mesh (root ∷ a.rest)
+pub loop_start : (mesh : FaceList) (root : ℕ) (a : Loop mesh root) → IsWalk mesh (root ∷ a.rest)
 loop_start mesh root a = way_walk mesh root root a.rest a.is_way
 
-append_none : (xs : List ℕ) → xs ++ [] ≡ xs
+pub append_none : (xs : List ℕ) → xs ++ [] ≡ xs
 append_none [] = refl
 append_none (x ∷ xs) = ap (λ (l : List ℕ). x ∷ l) (append_none xs)
 

@@ -36,7 +36,7 @@ dart_way s o d l = (
 )
 
 -- the value of a dart
-pub pick_value : (s : OrientedMesh) (split : SplitView) → IsOrientedSurface s → (t : IsSplit s split) → (d : ℕ) → (d < darts_of s) ⊎ (darts_of s ≤ d) → Loops s split t
+unfoldable pub pick_value : (s : OrientedMesh) (split : SplitView) → IsOrientedSurface s → (t : IsSplit s split) → (d : ℕ) → (d < darts_of s) ⊎ (darts_of s ≤ d) → Loops s split t
 pick_value s split o t d (inl l) = loop_of s.mesh t.parents.root (up s split t) (tree_ways s split o t) (origin_of s d) (origin_of s (twin_of s d)) (origin_of s (twin_of s d) ∷ []) (dart_way s o d l)
 pick_value s split o t d (inr _) = loop_one s.mesh t.parents.root t.parents.root_used
 
@@ -123,7 +123,7 @@ value_tree s split o t d l is =
     ]
 
 -- k darts round a face, as a way and as a product
-ends_on : (s : OrientedMesh) → IsOrientedSurface s → (k d : ℕ) → d < darts_of s → IsWay s.mesh (origin_of s d) (origin_of s (after_steps (next_of s) k d)) (vertices_on s k d)
+pub ends_on : (s : OrientedMesh) → IsOrientedSurface s → (k d : ℕ) → d < darts_of s → IsWay s.mesh (origin_of s d) (origin_of s (after_steps (next_of s) k d)) (vertices_on s k d)
 ends_on s o zero d l = (refl, (names_all s o).vertex_used d l)
 ends_on s o (suc k) d l =
     let r : IsRotationSystem (rotations_of s) = rotation_system s o in
@@ -202,7 +202,7 @@ unfoldable pub spoke : (s : OrientedMesh) (split : SplitView) → IsOrientedSurf
 spoke s split o t polygon zero = loop_one s.mesh t.parents.root t.parents.root_used
 spoke s split o t polygon (suc i) = loop_mul (loop_inv (value s split o t (side_at polygon i))) (spoke s split o t polygon i)
 
-up_plain : (degree i : ℕ) → i + 1 ≢ degree → one_up degree i ≡ i + 1
+pub up_plain : (degree i : ℕ) → i + 1 ≢ degree → one_up degree i ≡ i + 1
 up_plain degree i ne = grind (arith, nat_tests)
 
 surface_valued : (s : OrientedMesh) (split : SplitView) (o : IsOrientedSurface s) (t : IsSplit s split) (polygon : PolygonView) → IsCutFrom s split polygon → 0 < polygon.degree

@@ -32,7 +32,7 @@ abbrev pub by_labels : {X : Type 0} → (X → X → X) → (X → X) → (ℕ �
 by_labels mul inv spoke label next d = quotient mul inv (spoke (label d)) (spoke (label (next d)))
 
 -- labels telescope
-telescopes : {X : Type 0} (Same : X → X → Type 0) (mul : X → X → X) (inv : X → X) (one : X) → IsGroup Same mul inv one → (val spoke : ℕ → X) (label next : ℕ → ℕ)
+pub telescopes : {X : Type 0} (Same : X → X → Type 0) (mul : X → X → X) (inv : X → X) (one : X) → IsGroup Same mul inv one → (val spoke : ℕ → X) (label next : ℕ → ℕ)
     → (k d : ℕ) → ((j : ℕ) → j < k → Same (val (after_steps next j d)) (by_labels mul inv spoke label next (after_steps next j d)))
     → Same (round mul one val next k d) (quotient mul inv (spoke (label d)) (spoke (label (after_steps next k d))))
 telescopes Same mul inv one g val spoke label next zero d h =
@@ -81,7 +81,7 @@ up_edge s split o t f g h d e p q =
           sym f_is_g ∙ sym h_is_f
     ]
 
-no_step_from_root : (s : OrientedMesh) (split : SplitView) → IsSplit s split → (g : ℕ) → StepsUp (rotations_of s) split split.root_face g → ⊥
+pub no_step_from_root : (s : OrientedMesh) (split : SplitView) → IsSplit s split → (g : ℕ) → StepsUp (rotations_of s) split split.root_face g → ⊥
 no_step_from_root s split t g step = t.child_faces.not_root ((rotations_of s).edge step.0) step.1.below
 
 -- the ways up from a face are equally long

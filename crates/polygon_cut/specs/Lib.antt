@@ -1,2 +1,3 @@
 pub mod Polygons
 pub mod StoredPolygons
+pub mod SpokeLoops

@@ -1,0 +1,37 @@
+-- What a walk is worth in the loops of a polygon, up to spurs alone: which moves keep that, and which walks have no cotree dart left.
+use Rattle.std.specs.Prelude.{◌≡◌, ◌⊎◌, ℕ, ◌+◌, ◌<◌, Bool, false, not, ◌==◌, ◌&&◌, List, length, slice_index, unwrap_or, Some}
+use Rattle.surf_model.specs.Surfaces.{is_flipped}
+use Rattle.surf_model.specs.declared.moves.Move.{Move}
+use Rattle.surf_model.specs.declared.moves.Move.TheVariants.{Insert, Remove, Across}
+use Rattle.halfedge_map.specs.Numbers.{first_below}
+use Rattle.halfedge_map.specs.OrientedMeshes.{OrientedMesh}
+use Rattle.halfedge_map.specs.DartMaps.{darts_of, next_of, origin_of, target_of, face_of, edge_of, start_corner_of}
+use Rattle.tree_cotree.specs.Splits.{SplitView, in_cotree, child_face}
+
+-- the dart from u to v: the first one that starts at u and ends at v
+unfoldable pub dart_from : OrientedMesh → ℕ → ℕ → ℕ
+dart_from surface u v = unwrap_or (first_below (λ d. origin_of surface d == u && target_of surface d == v) (darts_of surface)) 0
+
+-- the edges of the walk are in the tree or left over
+abbrev pub IsOffCotree : OrientedMesh → SplitView → List ℕ → Type 0
+IsOffCotree surface split walk =
+    (k : ℕ) → k + 1 < length walk
+    → in_cotree split (edge_of surface (dart_from surface (slice_index walk k) (slice_index walk (k + 1)))) ≡ false
+
+-- The way round a face, from a corner on and in a direction, begins with the cotree edge that the face is below: along the dart of
+-- that edge in the face, or against it. That edge alone is taken.
+pub record CrossesBelow (surface : OrientedMesh) (split : SplitView) (face corner : ℕ) (forward : Bool) (taken : ℕ) : Type 0 where
+  pub dart : ℕ
+  pub within : dart < darts_of surface
+  pub inside : face_of surface dart ≡ face
+  pub below : child_face split (edge_of surface dart) ≡ Some face
+  pub one : taken ≡ 1
+  pub way :
+      ((forward ≡ not (is_flipped surface.signs face)) × (corner ≡ start_corner_of surface dart))
+      ⊎ ((forward ≡ is_flipped surface.signs face) × (corner ≡ start_corner_of surface (next_of surface dart)))
+
+-- the move puts a spur in, takes one out, or goes round the face below a cotree edge in place of that edge
+abbrev pub LeavesCotree : OrientedMesh → SplitView → Move → Type 0
+LeavesCotree surface split (Insert at via) = Unit {0}
+LeavesCotree surface split (Remove at via) = Unit {0}
+LeavesCotree surface split (Across at face corner forward taken) = CrossesBelow surface split face.0 corner forward taken
