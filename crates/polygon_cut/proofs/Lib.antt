@@ -18,5 +18,6 @@ pub mod FaceRoundLemmas
 pub mod SpokeLemmas
 pub mod FreeSpokeLemmas
 pub mod FreeRoundLemmas
+pub mod FreeMoveLemmas
 pub mod WalkLemmas
 pub mod SphereLemmas
