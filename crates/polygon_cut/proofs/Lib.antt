@@ -12,6 +12,7 @@ pub mod GroupLemmas
 pub mod LoopLemmas
 pub mod FreeLoopLemmas
 pub mod FreeProductLemmas
+pub mod GroupWordLemmas
 pub mod ValueLemmas
 pub mod TreeWayLemmas
 pub mod FaceRoundLemmas
