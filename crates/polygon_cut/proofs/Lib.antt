@@ -13,6 +13,7 @@ pub mod LoopLemmas
 pub mod FreeLoopLemmas
 pub mod FreeProductLemmas
 pub mod GroupWordLemmas
+pub mod RelatorLemmas
 pub mod ValueLemmas
 pub mod TreeWayLemmas
 pub mod FaceRoundLemmas
