@@ -21,5 +21,6 @@ pub mod SpokeLemmas
 pub mod FreeSpokeLemmas
 pub mod FreeRoundLemmas
 pub mod FreeMoveLemmas
+pub mod FreeQuadLemmas
 pub mod WalkLemmas
 pub mod SphereLemmas
