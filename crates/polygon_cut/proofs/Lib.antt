@@ -22,5 +22,6 @@ pub mod FreeSpokeLemmas
 pub mod FreeRoundLemmas
 pub mod FreeMoveLemmas
 pub mod FreeQuadLemmas
+pub mod FreeWayLemmas
 pub mod WalkLemmas
 pub mod SphereLemmas

@@ -1,12 +1,14 @@
 -- What a walk is worth in the loops of a polygon, up to spurs alone: which moves keep that, and which walks have no cotree dart left.
-use Rattle.std.specs.Prelude.{◌≡◌, ◌⊎◌, ℕ, ◌+◌, ◌<◌, Bool, false, not, ◌==◌, ◌&&◌, List, length, slice_index, unwrap_or, Some}
+use Rattle.std.specs.Prelude.{◌≡◌, ◌≢◌, ◌⊎◌, ℕ, ◌+◌, ◌-◌, ◌<◌, Bool, false, not, ◌==◌, ◌&&◌, List, [], ◌∷◌, length, slice_index, unwrap_or, Some}
 use Rattle.surf_model.specs.Surfaces.{is_flipped}
 use Rattle.surf_model.specs.declared.moves.Move.{Move}
 use Rattle.surf_model.specs.declared.moves.Move.TheVariants.{Insert, Remove, Across}
 use Rattle.halfedge_map.specs.Numbers.{first_below}
 use Rattle.halfedge_map.specs.OrientedMeshes.{OrientedMesh}
 use Rattle.halfedge_map.specs.DartMaps.{darts_of, next_of, origin_of, target_of, face_of, edge_of, start_corner_of}
+use Rattle.halfedge_map.specs.RotationSystems.{rotations_of}
 use Rattle.tree_cotree.specs.Splits.{SplitView, in_cotree, child_face}
+use Rattle.polygon_cut.specs.Polygons.{PolygonView, side_at, label_of, across}
 
 -- the dart from u to v: the first one that starts at u and ends at v
 unfoldable pub dart_from : OrientedMesh → ℕ → ℕ → ℕ
@@ -35,3 +37,18 @@ abbrev pub LeavesCotree : OrientedMesh → SplitView → Move → Type 0
 LeavesCotree surface split (Insert at via) = Unit {0}
 LeavesCotree surface split (Remove at via) = Unit {0}
 LeavesCotree surface split (Across at face corner forward taken) = CrossesBelow surface split face.0 corner forward taken
+
+-- the last side, and the number of the side across from it
+abbrev pub last_side : PolygonView → ℕ
+last_side polygon = side_at polygon (polygon.degree - 1)
+
+abbrev pub across_last : OrientedMesh → PolygonView → ℕ
+across_last surface polygon = across (rotations_of surface) polygon (polygon.degree - 1)
+
+-- The spokes of a dart: those of the labels at its tail and at its head, or none where these are one. The last side has those of the side
+-- across from it, at its head and at its tail.
+pub record HasFreeSpokes (surface : OrientedMesh) (polygon : PolygonView) (dart : ℕ) (path : List ℕ) : Type 0 where
+  pub last : dart ≡ last_side polygon → path ≡ (across_last surface polygon + 1) ∷ across_last surface polygon ∷ []
+  pub other : dart ≢ last_side polygon
+      → (path ≡ label_of polygon dart ∷ label_of polygon (next_of surface dart) ∷ [])
+      ⊎ ((path ≡ []) × (label_of polygon dart ≡ label_of polygon (next_of surface dart)))
