@@ -3,7 +3,7 @@
 use Rattle.std.proofs.Common.{◌≡◌, ℕ, suc, ◌<◌, List, [], ◌∷◌, ◌++◌, length, refl, ap, sym, ◌∙◌, subst, arith, append_assoc}
 use Rattle.std.specs.Prelude.{IsTrue, Some, All}
 use Rattle.std.proofs.lemmas.List.Elements.{All-nil, All-cons, All-append, All-map}
-use Rattle.surf_model.specs.FaceLists.{FaceList, is_edge, is_used}
+use Rattle.surf_model.specs.FaceLists.{FaceList, is_used}
 use Rattle.surf_model.specs.Walks.{IsWalk}
 use Rattle.surf_model.specs.Moves.{apply}
 use Rattle.surf_model.specs.FreeWalks.{IsSpurMove, AreFreelyEqual}

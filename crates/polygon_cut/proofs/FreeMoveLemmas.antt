@@ -1,8 +1,7 @@
 -- Moves that put spurs in, take them out, or go round the face below a cotree edge in its place keep what a walk is worth, up to spurs.
-use Rattle.std.proofs.Common.{◌≡◌, ◌≢◌, inl, inr, ℕ, zero, suc, ◌+◌, ◌-◌, ◌<◌, ◌≤◌, Bool, true, false, not, List, [], ◌∷◌, ◌++◌, length, get_or, refl, ap, sym, ◌∙◌, subst, arith}
+use Rattle.std.proofs.Common.{◌≡◌, ◌≢◌, inl, inr, ℕ, suc, ◌-◌, ◌<◌, Bool, true, false, not, List, [], ◌∷◌, ◌++◌, length, refl, ap, sym, ◌∙◌, subst, arith}
 use Rattle.std.specs.Prelude.{IsTrue, All, Some}
-use Rattle.std.proofs.lemmas.Bool.{both_ways}
-use Rattle.surf_model.specs.FaceLists.{FaceList, face_at, is_edge, corners_from}
+use Rattle.surf_model.specs.FaceLists.{face_at, is_edge, corners_from}
 use Rattle.surf_model.specs.Surfaces.{is_flipped}
 use Rattle.surf_model.specs.Walks.{IsWalk}
 use Rattle.surf_model.specs.Moves.{apply, apply_all, Leads}
@@ -17,16 +16,14 @@ use Rattle.surf_model.proofs.WayBackLemmas.{keeps_walk, at_first}
 use Rattle.halfedge_map.specs.Orbits.{after_steps}
 use Rattle.halfedge_map.specs.OrientedMeshes.{OrientedMesh, IsOrientedSurface}
 use Rattle.halfedge_map.specs.DartMaps.{darts_of, next_of, origin_of, face_of, edge_of, start_corner_of}
-use Rattle.halfedge_map.specs.RotationSystems.{rotations_of, IsRotationSystem}
 use Rattle.halfedge_map.proofs.SystemLemmas.{rotation_system, names_all}
-use Rattle.tree_cotree.specs.Splits.{SplitView, IsSplit, in_cotree, child_face}
+use Rattle.tree_cotree.specs.Splits.{SplitView, IsSplit, in_cotree}
 use Rattle.polygon_cut.specs.Polygons.{PolygonView, IsCutFrom}
-use Rattle.polygon_cut.specs.SpokeLoops.{dart_from, CrossesBelow, LeavesCotree}
+use Rattle.polygon_cut.specs.SpokeLoops.{CrossesBelow, LeavesCotree}
 use Rattle.polygon_cut.proofs.GroupLemmas.{IsGroup, inverse_twice}
 use Rattle.polygon_cut.proofs.LoopLemmas.{IsWay, back, way_home, loop_mul, loop_inv, loop_one}
 use Rattle.polygon_cut.proofs.FreeLoopLemmas.{SameFreely}
 use Rattle.polygon_cut.proofs.FreeProductLemmas.{product_from, walk_product, end_of, way_end, part_replaced, product_back, spur_nothing}
-use Rattle.polygon_cut.proofs.ValueLemmas.{round}
 use Rattle.polygon_cut.proofs.FaceRoundLemmas.{dir, OnRound, on_round, at_face, corners_read, vertices_on}
 use Rattle.polygon_cut.proofs.SpokeLemmas.{Loops, ends_on}
 use Rattle.polygon_cut.proofs.FreeSpokeLemmas.{free_group, free_value}

@@ -1,5 +1,5 @@
 -- Products along a walk in a group: each step from a vertex to the next has a value. A walk is a vertex and the vertices behind it.
-use Rattle.std.proofs.Common.{◌≡◌, ℕ, List, [], ◌∷◌, ◌++◌, refl, ap, sym, ◌∙◌, subst, append_assoc}
+use Rattle.std.proofs.Common.{◌≡◌, ℕ, List, [], ◌∷◌, ◌++◌, sym, subst, append_assoc}
 use Rattle.std.specs.Prelude.{IsTrue}
 use Rattle.surf_model.specs.FaceLists.{FaceList, is_edge}
 use Rattle.polygon_cut.proofs.GroupLemmas.{IsGroup, inverse_unique, inverse_of_product}

@@ -1,17 +1,16 @@
 -- The quads of a polygon's sides, up to spurs alone: each side has the value of its spoke and the one after it, counted on without going
 -- round, so that all quads hold but the one of the last side, which costs the loop of the last side.
-use Rattle.std.proofs.Common.{◌≡◌, ◌≢◌, ◌⊎◌, inl, inr, ℕ, suc, ◌+◌, ◌-◌, ◌<◌, ◌≤◌, Bool, true, false, not, List, [], ◌∷◌, refl, ap, sym, ◌∙◌, subst, arith}
-use Rattle.std.proofs.lemmas.Bool.Decides.{nat_tests}
+use Rattle.std.proofs.Common.{◌≡◌, ℕ, suc, ◌-◌, ◌<◌, true, false, not, [], ◌∷◌, refl, ap, sym, ◌∙◌, subst, arith}
 use Rattle.halfedge_map.specs.OrientedMeshes.{OrientedMesh, IsOrientedSurface}
-use Rattle.halfedge_map.specs.DartMaps.{darts_of, next_of, twin_of, origin_of, face_of, edge_of}
-use Rattle.halfedge_map.specs.RotationSystems.{rotations_of, IsRotationSystem}
+use Rattle.halfedge_map.specs.DartMaps.{darts_of, twin_of, edge_of}
+use Rattle.halfedge_map.specs.RotationSystems.{rotations_of}
 use Rattle.halfedge_map.proofs.EdgeLemmas.{edge-twin}
 use Rattle.halfedge_map.proofs.SystemLemmas.{rotation_system}
 use Rattle.tree_cotree.specs.SpanningTrees.{after_dart}
 use Rattle.tree_cotree.specs.Splits.{SplitView, IsSplit, in_cotree, is_left}
-use Rattle.polygon_cut.specs.Polygons.{PolygonView, IsCutFrom, side_at, label_of, across, one_up}
-use Rattle.polygon_cut.proofs.GroupLemmas.{IsGroup, quotient, inverse_twice, one_step}
-use Rattle.polygon_cut.proofs.GroupWordLemmas.{Term, Var, One, Mul, Inv, by_words, by_relation}
+use Rattle.polygon_cut.specs.Polygons.{PolygonView, IsCutFrom, side_at, across}
+use Rattle.polygon_cut.proofs.GroupLemmas.{IsGroup}
+use Rattle.polygon_cut.proofs.GroupWordLemmas.{Var, One, Mul, Inv, by_relation}
 use Rattle.polygon_cut.proofs.RelatorLemmas.{spoke_product, relator, CostlyPushes, costly_pushes}
 use Rattle.polygon_cut.proofs.LoopLemmas.{loop_mul, loop_inv, loop_one}
 use Rattle.polygon_cut.proofs.FreeLoopLemmas.{SameFreely}

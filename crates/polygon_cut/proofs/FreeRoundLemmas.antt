@@ -1,15 +1,13 @@
 -- The way round a face but for one of its darts, forward and backward: as the corners that a move reads, and as a value, up to spurs.
-use Rattle.std.proofs.Common.{◌≡◌, ◌≢◌, ◌⊎◌, inl, inr, ℕ, zero, suc, ◌+◌, ◌-◌, ◌<◌, ◌≤◌, Bool, true, false, not, ◌&&◌, eqb, List, [], ◌∷◌, ◌++◌, length, get_or, refl, ap, sym, ◌∙◌, subst, arith}
-use Rattle.std.specs.Prelude.{IsTrue, Some, unwrap_or}
+use Rattle.std.proofs.Common.{◌≡◌, ◌≢◌, ℕ, zero, suc, ◌-◌, ◌<◌, ◌≤◌, Bool, true, not, ◌&&◌, eqb, List, [], ◌∷◌, ◌++◌, length, get_or, refl, ap, sym, ◌∙◌, subst, arith}
+use Rattle.std.specs.Prelude.{unwrap_or}
 use Rattle.std.proofs.lemmas.Bool.{eqb-true, eq-eqb, and_parts}
-use Rattle.std.proofs.lemmas.Bool.Decides.{nat_tests}
-use Rattle.surf_model.specs.FaceLists.{face_at, is_edge, next_corner, corners_from}
+use Rattle.surf_model.specs.FaceLists.{face_at, next_corner, corners_from}
 use Rattle.surf_model.proofs.RoundLemmas.{corner_after}
 use Rattle.surf_model.proofs.EdgeLemmas.{step_within}
-use Rattle.halfedge_map.specs.Numbers.{first_below}
 use Rattle.halfedge_map.specs.Orbits.{after_steps}
 use Rattle.halfedge_map.specs.OrientedMeshes.{OrientedMesh, IsOrientedSurface}
-use Rattle.halfedge_map.specs.DartMaps.{darts_of, next_of, twin_of, origin_of, target_of, face_of, edge_of, start_corner_of}
+use Rattle.halfedge_map.specs.DartMaps.{darts_of, next_of, twin_of, origin_of, target_of, face_of, edge_of}
 use Rattle.halfedge_map.specs.RotationSystems.{rotations_of, IsRotationSystem, IsDartFrom}
 use Rattle.halfedge_map.proofs.ListLemmas.{IsFirstBelow, first_passes}
 use Rattle.halfedge_map.proofs.CornerLemmas.{corner_back}
@@ -17,15 +15,15 @@ use Rattle.halfedge_map.proofs.TwinLemmas.{origin-twin}
 use Rattle.halfedge_map.proofs.EdgeLemmas.{dart_between}
 use Rattle.halfedge_map.proofs.OrbitLemmas.{step_first}
 use Rattle.halfedge_map.proofs.SystemLemmas.{rotation_system, names_all}
-use Rattle.tree_cotree.specs.Splits.{SplitView, IsSplit, in_cotree, IsStepUp}
+use Rattle.tree_cotree.specs.Splits.{SplitView, IsSplit, in_cotree}
 use Rattle.polygon_cut.specs.Polygons.{PolygonView, IsCutFrom, side_at, label_of}
 use Rattle.polygon_cut.specs.SpokeLoops.{dart_from}
-use Rattle.polygon_cut.proofs.GroupLemmas.{IsGroup, quotient, inverse_of_quotient}
+use Rattle.polygon_cut.proofs.GroupLemmas.{quotient, inverse_of_quotient}
 use Rattle.polygon_cut.proofs.LoopLemmas.{back, loop_mul, loop_inv, loop_one}
 use Rattle.polygon_cut.proofs.FreeLoopLemmas.{SameFreely}
 use Rattle.polygon_cut.proofs.FreeProductLemmas.{product_from, end_of, StepsTurn}
 use Rattle.polygon_cut.proofs.ValueLemmas.{round, by_labels, telescopes}
-use Rattle.polygon_cut.proofs.FaceRoundLemmas.{dir, OnRound, on_round, at_face, corner_after_suc, corners_read, vertices_on, comes_round, not_before}
+use Rattle.polygon_cut.proofs.FaceRoundLemmas.{on_round, corner_after_suc, vertices_on, comes_round, not_before}
 use Rattle.polygon_cut.proofs.SpokeLemmas.{Loops, spoke}
 use Rattle.polygon_cut.proofs.FreeSpokeLemmas.{free_group, free_value, of_cotree_dart, free_twin, free_is_two_spokes}
 

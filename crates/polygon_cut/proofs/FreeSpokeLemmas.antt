@@ -1,17 +1,17 @@
 -- Values of a surface's darts, up to spurs alone: a tree or leftover dart has its loop, down the tree, along it, and up again, and a
 -- cotree dart has two spokes, those of the labels at its tail and at its head. Then every dart but the last side has its two spokes.
 use Rattle.std.proofs.Common.{◌≡◌, ◌≢◌, ◌⊎◌, inl, inr, ℕ, suc, ◌+◌, ◌-◌, ◌<◌, ◌≤◌, Bool, true, false, not, [], ◌∷◌, ◌++◌, refl, ap, sym, ◌∙◌, subst, arith}
-use Rattle.std.proofs.lemmas.Bool.{cases_Bool, cases_lt, both_ways}
+use Rattle.std.proofs.lemmas.Bool.{cases_Bool, cases_lt}
 use Rattle.surf_model.specs.FreeWalks.{AreFreelyEqual}
 use Rattle.halfedge_map.specs.OrientedMeshes.{OrientedMesh, IsOrientedSurface}
-use Rattle.halfedge_map.specs.DartMaps.{darts_of, next_of, twin_of, origin_of, face_of, edge_of}
+use Rattle.halfedge_map.specs.DartMaps.{darts_of, next_of, twin_of, origin_of, edge_of}
 use Rattle.halfedge_map.specs.RotationSystems.{rotations_of, IsRotationSystem}
 use Rattle.halfedge_map.proofs.SystemLemmas.{rotation_system}
 use Rattle.tree_cotree.specs.SpanningTrees.{after_dart}
 use Rattle.tree_cotree.specs.Splits.{SplitView, IsSplit, in_tree, in_cotree, is_left}
 use Rattle.tree_cotree.proofs.SplitLemmas.{OneOfThree, tree_one, cotree_one, left_one}
 use Rattle.tree_cotree.proofs.LawLemmas.{one_of_three}
-use Rattle.polygon_cut.specs.Polygons.{PolygonView, IsCutFrom, side_at, label_of, one_up}
+use Rattle.polygon_cut.specs.Polygons.{PolygonView, IsCutFrom, side_at, label_of}
 use Rattle.polygon_cut.proofs.GroupLemmas.{IsGroup, quotient, inverse_of_quotient, one_step}
 use Rattle.polygon_cut.proofs.LoopLemmas.{back, IsWay, HasWays, loop_mul, loop_inv, loop_one, loop_of}
 use Rattle.polygon_cut.proofs.FreeLoopLemmas.{SameFreely, freely_itself, loops_make_a_free_group, freely_dart_back, freely_dart_up}
@@ -100,7 +100,6 @@ freely_value_tree s split o t d l is =
           subst (λ x. SameFreely (value s split o t x) (loop_inv (value s split o t twin))) (r.twin_back d l) turned in
           g.on (value s split o t d) (loop_inv (value s split o t twin)) nothing_at_all same (g.inv_same (value s split o t twin) nothing_at_all nothing)
     ]
-
 
 -- The free value of a dart: two spokes where its edge is in the cotree, and else its loop.
 pub pick_free : (s : OrientedMesh) (split : SplitView) → IsOrientedSurface s → (t : IsSplit s split) → PolygonView → Bool → ℕ → Loops s split t

@@ -1,28 +1,25 @@
 -- Walks and what they are worth, up to spurs: a walk off the cotree is what its darts are worth, that is the product of the spokes of its
 -- darts, and the way once round the root face is the loop of the last side.
-use Rattle.std.proofs.Common.{◌≡◌, ◌≢◌, ◌⊎◌, inl, inr, ℕ, zero, suc, ◌+◌, ◌-◌, ◌<◌, ◌≤◌, Bool, true, false, not, List, [], ◌∷◌, ◌++◌, length, get_or, refl, ap, sym, ◌∙◌, subst, arith, append_assoc}
-use Rattle.std.specs.Prelude.{IsTrue}
+use Rattle.std.proofs.Common.{◌≡◌, inl, inr, ℕ, suc, ◌+◌, ◌-◌, ◌<◌, Bool, true, false, List, [], ◌∷◌, ◌++◌, length, get_or, refl, ap, sym, ◌∙◌, subst, arith, append_assoc}
 use Rattle.std.proofs.lemmas.Bool.{cases_eq, both_ways}
 use Rattle.std.proofs.lemmas.Bool.Decides.{nat_tests}
-use Rattle.surf_model.specs.FaceLists.{FaceList, face_at, is_edge, is_used}
+use Rattle.surf_model.specs.FaceLists.{FaceList, face_at}
 use Rattle.surf_model.specs.FreeWalks.{AreFreelyEqual, HasNoSpur}
 use Rattle.surf_model.proofs.FreeWalkLemmas.{one_reduced_walk}
 use Rattle.halfedge_map.specs.OrientedMeshes.{OrientedMesh, IsOrientedSurface}
 use Rattle.halfedge_map.specs.DartMaps.{darts_of, next_of, twin_of, origin_of, face_of, edge_of}
-use Rattle.halfedge_map.specs.RotationSystems.{rotations_of, IsRotationSystem, IsDartFrom}
+use Rattle.halfedge_map.specs.RotationSystems.{rotations_of, IsDartFrom}
 use Rattle.halfedge_map.proofs.EdgeLemmas.{dart_between}
-use Rattle.halfedge_map.proofs.SystemLemmas.{rotation_system}
 use Rattle.tree_cotree.specs.Splits.{SplitView, IsSplit, in_tree, in_cotree, is_left}
 use Rattle.tree_cotree.proofs.SplitLemmas.{OneOfThree, tree_one, cotree_one, left_one}
 use Rattle.tree_cotree.proofs.LawLemmas.{one_of_three}
 use Rattle.polygon_cut.specs.Polygons.{PolygonView, IsCutFrom, side_at, label_of, across, one_up}
 use Rattle.polygon_cut.specs.SpokeLoops.{dart_from, IsOffCotree, HasFreeSpokes}
 use Rattle.polygon_cut.proofs.GroupLemmas.{IsGroup, quotient, inverse_unique}
-use Rattle.polygon_cut.proofs.GroupWordLemmas.{Term, Var, One, Mul, Inv, by_words, by_relation}
-use Rattle.polygon_cut.proofs.RelatorLemmas.{spoke_product, loop_in, relator}
+use Rattle.polygon_cut.proofs.GroupWordLemmas.{Var, Mul, Inv, by_words, by_relation}
+use Rattle.polygon_cut.proofs.RelatorLemmas.{spoke_product, loop_in}
 use Rattle.polygon_cut.proofs.LoopLemmas.{IsWay, back, start_used, way_on, way_home, HasWays, Loop, loop_mul, loop_inv, loop_one, loop_of, back_back}
-use Rattle.polygon_cut.proofs.FreeLoopLemmas.{SameFreely, freely_itself, freely_on, freely_behind, freely_before, freely_home, loops_make_a_free_group, freely_from_loops, freely_to_loops, freely_no_dart, freely_first_dart, freely_back}
-use Rattle.polygon_cut.proofs.FreeProductLemmas.{product_from}
+use Rattle.polygon_cut.proofs.FreeLoopLemmas.{SameFreely, freely_itself, freely_behind, freely_before, freely_home, loops_make_a_free_group, freely_from_loops, freely_to_loops, freely_no_dart, freely_first_dart}
 use Rattle.polygon_cut.proofs.LawLemmas.{labels_ride}
 use Rattle.polygon_cut.proofs.TreeWayLemmas.{up, tree_ways}
 use Rattle.polygon_cut.proofs.FaceRoundLemmas.{vertices_on}

@@ -2,7 +2,7 @@
 -- products differ by a loop, is that loop put in at a place.
 use Rattle.std.proofs.Common.{◌≡◌, ℕ, suc, Bool, true, false, not, List, [], ◌∷◌, ◌++◌, refl, subst}
 use Rattle.polygon_cut.proofs.GroupLemmas.{IsGroup}
-use Rattle.polygon_cut.proofs.GroupWordLemmas.{Term, Var, One, Mul, Inv, by_words, by_relation, value_of}
+use Rattle.polygon_cut.proofs.GroupWordLemmas.{Term, Var, One, Mul, Inv, by_words, by_relation}
 
 -- the product of a list of spokes, from the vertex or from the middle
 abbrev pub spoke_product : {X : Type 0} → (X → X → X) → (X → X) → X → (ℕ → X) → Bool → List ℕ → X
