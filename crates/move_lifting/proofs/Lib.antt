@@ -1,2 +1,9 @@
 pub mod ListLemmas
 pub mod MoveLemmas
+pub mod CountLemmas
+pub mod FaceTreeLemmas
+pub mod LoadLemmas
+pub mod RoundLemmas
+pub mod RestLemmas
+pub mod CrossingLemmas
+pub mod ExpandLemmas

@@ -151,3 +151,7 @@ pub ends_whole : (mesh : FaceList) (walk last : List ℕ) (list : PeakedMoves) (
     → LeadsAtPeak mesh walk list last
 ends_whole mesh walk last list n past h =
     subst (LeadsAtPeak mesh walk list) (ap (λ (rest : List ℕ). last ++ rest) (drop_all n walk past) ∙ append-nil last) h
+
+pub step_back_some : (behind : ℕ) (old new : TrackView) → 1 < length old.walk → IsStepBack behind old new → 0 < length new.walk
+step_back_some behind old new some back =
+    omega (arith, some, ap (λ (l : List ℕ). length l) back.walk, length-append new.walk (back.via.0 ∷ []))

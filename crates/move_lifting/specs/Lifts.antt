@@ -1,8 +1,12 @@
--- Lists of moves that lead from a walk to a walk, with their peaks.
-use Rattle.std.specs.Prelude.{◌≡◌, ℕ, List}
+-- Lists of moves that lead from a walk to a walk, with their peaks, and walks that keep off the cotree.
+use Rattle.std.specs.Prelude.{◌≡◌, ℕ, ◌+◌, ◌<◌, false, List, length, slice_index}
 use Rattle.surf_model.specs.FaceLists.{FaceList}
 use Rattle.surf_model.specs.Moves.{PeakedMoves, Leads, greatest_darts}
 use Rattle.surf_model.specs.declared.moves.Move.{Move}
+use Rattle.halfedge_map.specs.OrientedMeshes.{OrientedMesh}
+use Rattle.halfedge_map.specs.DartMaps.{edge_of}
+use Rattle.halfedge_map.specs.RotationSystems.{rotations_of, IsDartFrom}
+use Rattle.tree_cotree.specs.Splits.{SplitView, in_cotree}
 use Rattle.surf_model.specs.declared.moves.Move.TheVariants.{Insert, Remove, Across}
 
 -- The moves lead from the first walk to the second, and the peak is the greatest number of darts among the walks that they pass, both
@@ -16,3 +20,9 @@ abbrev pub IsRemoval : Move → Type 0
 IsRemoval (Insert at via) = ⊥
 IsRemoval (Remove at via) = Unit {0}
 IsRemoval (Across at face corner forward taken) = ⊥
+
+-- no dart of the walk lies on a cotree edge
+abbrev pub AvoidsCotree : OrientedMesh → SplitView → List ℕ → Type 0
+AvoidsCotree surface split walk =
+    (k dart : ℕ) → k + 1 < length walk → IsDartFrom (rotations_of surface) (slice_index walk k) (slice_index walk (k + 1)) dart
+    → in_cotree split (edge_of surface dart) ≡ false

@@ -1,5 +1,5 @@
 -- A walk that is laid vertex by vertex, with the moves that led to it.
-use Rattle.std.specs.Prelude.{◌≡◌, ℕ, ◌+◌, ◌-◌, max, List, [], ◌∷◌, ◌++◌, length}
+use Rattle.std.specs.Prelude.{◌≡◌, ◌⊎◌, ℕ, ◌+◌, ◌-◌, max, List, [], ◌∷◌, ◌++◌, length, slice_index}
 use Rattle.surf_model.specs.FaceLists.{FaceList}
 use Rattle.surf_model.specs.Moves.{PeakedMoves}
 use Rattle.surf_model.specs.declared.moves.Move.TheVariants.{Remove}
@@ -22,3 +22,11 @@ pub record IsStepBack (behind : ℕ) (old new : TrackView) : Type 0 where
   pub walk : old.walk ≡ new.walk ++ via.0 ∷ []
   pub list : new.list
       ≡ record { moves = old.list.moves ++ Remove (length old.walk - 2) via ∷ []; peak = max old.list.peak (length old.walk - 2 + behind) }
+
+-- the last entry of a walk
+abbrev pub last_of : List ℕ → ℕ
+last_of walk = slice_index walk (length walk - 1)
+
+-- one entry comes, or the last one goes
+abbrev pub GrowsOrShrinks : List ℕ → List ℕ → ℕ → Type 0
+GrowsOrShrinks old new next = (new ≡ old ++ next ∷ []) ⊎ ((via : ℕ) × (old ≡ new ++ via ∷ []))

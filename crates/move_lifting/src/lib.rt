@@ -2,6 +2,8 @@
 //! walk to another.
 #![tactic(auto)]
 
+mod crossing;
+mod expand;
 pub mod lifted;
 mod track;
 

@@ -1,9 +1,10 @@
 //! A walk that is laid vertex by vertex, without spurs, and the moves that led to it.
-ghost use Rattle.std.specs.Prelude.{◌≡◌, ◌+◌, ◌-◌, ◌<◌, ◌≤◌, ◌^◌, ◌↔◌, [], ◌∷◌, ◌++◌, length, slice_index, IfOk, OnOk, All, IsTrue};
+ghost use Rattle.std.specs.Prelude.{◌≡◌, ◌+◌, ◌-◌, ◌<◌, ◌≤◌, ◌^◌, ◌↔◌, [], ◌∷◌, ◌++◌, max, length, slice_index, IfOk, OnOk, All, IsTrue};
 ghost use Rattle.surf_model.specs.FaceLists.{FaceList};
 ghost use Rattle.surf_model.specs.FreeWalks.{HasNoSpur};
+ghost use Rattle.surf_model.specs.Walks.{darts};
 ghost use Rattle.move_lifting.specs.Lifts.{IsRemoval};
-ghost use Rattle.move_lifting.specs.Tracks.{GoesOn, IsStepBack};
+ghost use Rattle.move_lifting.specs.Tracks.{GoesOn, IsStepBack, GrowsOrShrinks, last_of};
 
 use crate::lifted::Lifted;
 use std::alloc::{AllocError, Global};
@@ -51,6 +52,9 @@ impl Track {
         ensures no_spur { OnOk result (HasNoSpur self.new.walk) }
         ensures removals { OnOk result (All IsRemoval self.old.list.moves → All IsRemoval self.new.list.moves) }
         ensures long { OnOk result (length self.new.walk ≤ length self.old.walk + 1) }
+        ensures some { OnOk result (0 < length self.new.walk) }
+        ensures last { OnOk result (last_of self.new.walk ≡ next.0) }
+        ensures shape { OnOk result (GrowsOrShrinks self.old.walk self.new.walk next.0) }
     {
         if self.came_from(next) {
             self.step_back(behind)
@@ -87,6 +91,34 @@ impl Track {
         self.earlier.push(self.last)?;
         self.last = next;
         Ok(())
+    }
+
+    /// The last vertex.
+    pub(crate) fn last(&self) -> VertexName
+        ensures vertex { result.0 ≡ last_of self.now.walk }
+        // What holds of every track.
+        ensures starts { 0 < length self.now.walk }
+    {
+        self.last
+    }
+
+    /// The place of the last vertex in the walk.
+    pub(crate) fn place(&self) -> u32
+        requires { length self.now.walk < 2 ^ 31 }
+        ensures { result ≡ darts self.now.walk }
+    {
+        self.earlier.len() as u32
+    }
+
+    /// Notes a move that leaves what is laid, and `behind` entries behind it.
+    pub(crate) fn note(&mut self, mv: Move, behind: u32) -> Result<(), AllocError>
+        requires { length self.old.walk + behind < 2 ^ 31 }
+        ensures walk { OnOk result (self.new.walk ≡ self.old.walk) }
+        ensures list { OnOk result (self.new.list
+            ≡ record { moves = self.old.list.moves ++ mv ∷ []; peak = max self.old.list.peak (darts self.old.walk + behind) }) }
+    {
+        let darts = self.earlier.len() as u32 + behind;
+        self.moves.push(mv, darts)
     }
 
     /// The walk that is laid, with the moves.

@@ -1,5 +1,5 @@
 use Rattle.std.proofs.lemmas.Result.{on_ok_weaker}
-use Rattle.move_lifting.proofs.MoveLemmas.{step_back_goes, step_back_no_spur, step_back_removes}
+use Rattle.move_lifting.proofs.MoveLemmas.{step_back_goes, step_back_no_spur, step_back_removes, step_back_some}
 use Rattle.move_lifting.proofs.track.Track.put.Goals as goal
 
 pub returns-then-came_from-clause-leads : goal.returns-then-came_from-clause-leads
@@ -16,3 +16,8 @@ returns-then-came_from-clause-no_spur c =
 pub returns-then-came_from-clause-removals : goal.returns-then-came_from-clause-removals
 returns-then-came_from-clause-removals c =
     on_ok_weaker c.step_back.result (step_back_removes c.args.behind c.args.self.now c.step_back.new.self) c.step_back.ensures
+
+pub returns-then-came_from-clause-some : goal.returns-then-came_from-clause-some
+returns-then-came_from-clause-some c =
+    let came = c.came_from.ensures.0 c.if-came_from.true in
+    on_ok_weaker c.step_back.result (step_back_some c.args.behind c.args.self.now c.step_back.new.self came.0) c.step_back.ensures

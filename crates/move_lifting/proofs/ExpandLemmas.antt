@@ -1,0 +1,367 @@
+-- A walk that is led off the cotree, step by step: what holds on the way.
+use Rattle.std.proofs.Common.{◌≡◌, ◌≢◌, ◌⊎◌, inl, inr, ℕ, zero, suc, ◌+◌, ◌-◌, ◌<◌, ◌≤◌, Bool, true, false, not, max, List, [], ◌∷◌, ◌++◌, length, take, get_or, refl, ap, sym, ◌∙◌, subst, arith, append_assoc, length-append}
+use Rattle.std.specs.Prelude.{IsTrue, Some, None, reverse}
+use Rattle.std.proofs.lemmas.Bool.{cases_lt}
+use Rattle.std.proofs.lemmas.List.{map-append, length-map, append-nil, reverse-append, length-reverse, get_or-append-add, get_or_append_left}
+use Rattle.surf_model.specs.FaceLists.{FaceList, face_at, next_corner, corners_from, is_edge, IsFaceList, IsFace}
+use Rattle.surf_model.specs.FreeWalks.{HasNoSpur}
+use Rattle.surf_model.specs.Walks.{darts}
+use Rattle.surf_model.specs.Moves.{PeakedMoves, apply}
+use Rattle.surf_model.specs.declared.moves.Move.TheVariants.{Across}
+use Rattle.surf_model.specs.Vertices.{numbers}
+use Rattle.surf_model.specs.declared.names.VertexName.{VertexName}
+use Rattle.surf_model.proofs.ReplacementLemmas.{by_replacing, length-corners_from}
+use Rattle.surf_model.proofs.RoundLemmas.{corner_after, corners_before, last_corner}
+use Rattle.surf_model.proofs.LinkLemmas.{Linked, together, round_linked}
+use Rattle.halfedge_map.specs.OrientedMeshes.{OrientedMesh, IsOrientedSurface}
+use Rattle.halfedge_map.specs.DartMaps.{darts_of, edge_of}
+use Rattle.halfedge_map.specs.RotationSystems.{rotations_of, IsDartFrom}
+use Rattle.halfedge_map.proofs.DartLemmas.{vertex_at}
+use Rattle.halfedge_map.proofs.EdgeLemmas.{dart_between}
+use Rattle.tree_cotree.specs.Splits.{SplitView, IsSplit, child_face, in_cotree}
+use Rattle.move_lifting.specs.Lifts.{LeadsAtPeak, AvoidsCotree}
+use Rattle.move_lifting.specs.Tracks.{TrackView, GoesOn, GrowsOrShrinks, last_of}
+use Rattle.move_lifting.specs.Crossings.{beyond, IsStepOf, IsFaceBelow, IsCrossed}
+use Rattle.move_lifting.specs.declared.crossing.FaceStep.{FaceStep}
+use Rattle.move_lifting.proofs.ListLemmas.{front_and_last}
+use Rattle.move_lifting.proofs.MoveLemmas.{one_more}
+use Rattle.move_lifting.proofs.RoundLemmas.{before-from, rest_turned, rest_ends}
+use Rattle.move_lifting.proofs.RestLemmas.{load, load-join, load_long, pair_weight, pair_positive, pair_most, rest_falls}
+
+-- a walk with a last entry
+pub last_entry : (walk : List ℕ) → 0 < length walk → walk ≡ take (length walk - 1) walk ++ last_of walk ∷ []
+last_entry walk some = front_and_last walk (length walk - 1) (omega arith)
+
+pub last-push : (front : List ℕ) (v : ℕ) → last_of (front ++ v ∷ []) ≡ v
+last-push front v =
+    let at : length (front ++ v ∷ []) - 1 ≡ length front + 0 = omega (arith, length-append front (v ∷ [])) in
+    ap (λ (n : ℕ). get_or (front ++ v ∷ []) n 0) at ∙ get_or-append-add front (v ∷ []) 0 0
+
+-- keeping off the cotree: a part in front does, and one more dart that is not of the cotree
+pub avoids_front : (s : OrientedMesh) (split : SplitView) (front rest : List ℕ) → AvoidsCotree s split (front ++ rest) → AvoidsCotree s split front
+avoids_front s split front rest h k d l from =
+    let more : k + 1 < length (front ++ rest) = omega (arith, length-append front rest, l) in
+    let one : get_or front k 0 ≡ get_or (front ++ rest) k 0 = sym (get_or_append_left front rest 0 k (omega arith)) in
+    let two : get_or front (k + 1) 0 ≡ get_or (front ++ rest) (k + 1) 0 = sym (get_or_append_left front rest 0 (k + 1) l) in
+    h k d more (subst (λ (x : ℕ). IsDartFrom (rotations_of s) x (get_or (front ++ rest) (k + 1) 0) d) one
+    (subst (λ (x : ℕ). IsDartFrom (rotations_of s) (get_or front k 0) x d) two from))
+
+pub avoids_on : (s : OrientedMesh) (split : SplitView) (walk : List ℕ) (v : ℕ) → 0 < length walk → AvoidsCotree s split walk
+    → ((d : ℕ) → IsDartFrom (rotations_of s) (last_of walk) v d → in_cotree split (edge_of s d) ≡ false) → AvoidsCotree s split (walk ++ v ∷ [])
+avoids_on s split walk v some h last k d l from =
+    let long : k + 1 < length walk + 1 = omega (arith, length-append walk (v ∷ []), l) in
+    let one : get_or (walk ++ v ∷ []) k 0 ≡ get_or walk k 0 = get_or_append_left walk (v ∷ []) 0 k (omega arith) in
+    let here : IsDartFrom (rotations_of s) (get_or walk k 0) (get_or (walk ++ v ∷ []) (k + 1) 0) d =
+    subst (λ (x : ℕ). IsDartFrom (rotations_of s) x (get_or (walk ++ v ∷ []) (k + 1) 0) d) one from in
+    elim (cases_lt (k + 1) (length walk)) [
+      | inl within ↦
+          h k d within (subst (λ (x : ℕ). IsDartFrom (rotations_of s) (get_or walk k 0) x d) (get_or_append_left walk (v ∷ []) 0 (k + 1) within) here)
+      | inr past ↦
+          let at : k ≡ length walk - 1 = omega arith in
+          let end : k + 1 ≡ length walk + 0 = omega arith in
+          let two : get_or (walk ++ v ∷ []) (k + 1) 0 ≡ v = ap (λ (n : ℕ). get_or (walk ++ v ∷ []) n 0) end ∙ get_or-append-add walk (v ∷ []) 0 0 in
+          last d (subst (λ (x : ℕ). IsDartFrom (rotations_of s) (get_or walk x 0) v d) at
+          (subst (λ (x : ℕ). IsDartFrom (rotations_of s) (get_or walk k 0) x d) two here))
+    ]
+
+-- what holds while a walk is led on to a vertex: so many steps are done, and the vertices that are still to come are pending, the next
+-- one last
+pub record IsUnderWay (s : OrientedMesh) (split : SplitView) (behind to : ℕ) (begun : TrackView) (track : TrackView) (pending : List ℕ) (steps : ℕ) : Type 0 where
+  pub some : 0 < length track.walk
+  pub no_spur : HasNoSpur track.walk
+  pub off_cotree : AvoidsCotree s split track.walk
+  pub linked : Linked s.mesh (last_of track.walk ∷ reverse pending)
+  pub falls : (t : IsSplit s split) → load s split t (last_of track.walk ∷ reverse pending) + steps ≤ darts_of s
+  pub long : length track.walk ≤ length begun.walk + steps
+  pub goes : GoesOn s.mesh behind (begun.walk ++ to ∷ []) begun.list (track.walk ++ reverse pending) track.list
+  pub ends : last_of (last_of track.walk ∷ reverse pending) ≡ to
+
+-- at the start
+pub under_way : (s : OrientedMesh) (split : SplitView) → IsOrientedSurface s → (behind to : ℕ) (track : TrackView) (pending : List ℕ) → pending ≡ to ∷ []
+    → 0 < length track.walk → HasNoSpur track.walk → AvoidsCotree s split track.walk → is_edge s.mesh (last_of track.walk) to ≡ true
+    → IsUnderWay s split behind to track track pending 0
+under_way s split o behind to track pending is some no_spur off edge =
+    let found = dart_between s o (last_of track.walk) to edge in
+    let darts_there : 0 < darts_of s = (let within : found.0 < darts_of s = found.1.within in omega arith) in
+    subst (λ (l : List ℕ). IsUnderWay s split behind to track track l 0) (sym is)
+    (record {
+      some = some;
+      no_spur = no_spur;
+      off_cotree = off;
+      linked = (edge, tt);
+      falls = λ t. omega (arith, pair_most s split t (last_of track.walk) to darts_there);
+      long = omega arith;
+      goes = λ first rest l h. h;
+      ends = refl;
+    })
+
+-- a vertex is taken from what is pending
+reverse-push : (pending : List ℕ) (v : ℕ) → reverse (pending ++ v ∷ []) ≡ v ∷ reverse pending
+reverse-push pending v = reverse-append pending (v ∷ [])
+
+-- a step that keeps off the cotree: the vertex is put on the track
+pub put_on_way : (s : OrientedMesh) (split : SplitView) (behind to : ℕ) (begun track new : TrackView) (pending rest : List ℕ) (v steps after : ℕ)
+    → IsUnderWay s split behind to begun track pending steps → pending ≡ rest ++ v ∷ [] → after ≡ length rest + behind
+    → ((d : ℕ) → IsDartFrom (rotations_of s) (last_of track.walk) v d → in_cotree split (edge_of s d) ≡ false)
+    → ((mesh : FaceList) → GoesOn mesh after (track.walk ++ v ∷ []) track.list new.walk new.list) → HasNoSpur new.walk
+    → length new.walk ≤ length track.walk + 1 → last_of new.walk ≡ v → GrowsOrShrinks track.walk new.walk v → 0 < length new.walk
+    → IsUnderWay s split behind to begun new rest (steps + 1)
+put_on_way s split behind to begun track new pending rest v steps after on popped counted off goes no_spur long last shape some =
+    let turned : reverse pending ≡ v ∷ reverse rest = ap (λ (l : List ℕ). reverse l) popped ∙ reverse-push rest v in
+    let u : ℕ = last_of track.walk in
+    let linked : Linked s.mesh (u ∷ v ∷ reverse rest) = subst (λ (l : List ℕ). Linked s.mesh (u ∷ l)) turned on.linked in
+    record {
+      some = some;
+      no_spur = no_spur;
+      off_cotree = elim shape [
+        | inl grown ↦ subst (AvoidsCotree s split) (sym grown) (avoids_on s split track.walk v on.some on.off_cotree off)
+        | inr shrunk ↦ avoids_front s split new.walk (shrunk.0 ∷ []) (subst (AvoidsCotree s split) shrunk.1 on.off_cotree)
+      ];
+      linked = subst (λ (x : ℕ). Linked s.mesh (x ∷ reverse rest)) (sym last) linked.1;
+      falls = λ t.
+          let before : load s split t (u ∷ v ∷ reverse rest) + steps ≤ darts_of s =
+          subst (λ (l : List ℕ). load s split t (u ∷ l) + steps ≤ darts_of s) turned (on.falls t) in
+          subst (λ (x : ℕ). load s split t (x ∷ reverse rest) + (steps + 1) ≤ darts_of s) (sym last)
+          (omega (arith, before, pair_positive s split t u v));
+      long = omega (arith, long, on.long);
+      goes = λ first others l h.
+          let there : LeadsAtPeak s.mesh first track.list (track.walk ++ reverse pending ++ others) = on.goes first others l h in
+          let shape_is : track.walk ++ reverse pending ++ others ≡ track.walk ++ v ∷ [] ++ (reverse rest ++ others) =
+          ap (λ (l : List ℕ). track.walk ++ l ++ others) turned ∙ simp append_assoc in
+          let count : length (reverse rest ++ others) ≡ after =
+          length-append (reverse rest) others ∙ omega (arith, length-reverse rest, l, counted) in
+          subst (LeadsAtPeak s.mesh first new.list) (sym (append_assoc new.walk (reverse rest) others))
+          (goes s.mesh first (reverse rest ++ others) count (subst (LeadsAtPeak s.mesh first track.list) shape_is there));
+      ends = subst (λ (x : ℕ). last_of (x ∷ reverse rest) ≡ to) (sym last) (last_below u v (reverse rest) ∙ subst (λ (l : List ℕ). last_of (u ∷ l) ≡ to) turned on.ends);
+    }
+  where
+    last_below : (u v : ℕ) (rest : List ℕ) → last_of (v ∷ rest) ≡ last_of (u ∷ v ∷ rest)
+    last_below u v rest =
+        let at : length (u ∷ v ∷ rest) - 1 ≡ suc (length (v ∷ rest) - 1) = omega arith in
+        sym (ap (λ (n : ℕ). get_or (u ∷ v ∷ rest) n 0) at)
+
+last-behind : (front rest : List ℕ) (x : ℕ) → last_of (front ++ x ∷ rest) ≡ last_of (x ∷ rest)
+last-behind front rest x =
+    let at : length (front ++ x ∷ rest) - 1 ≡ length front + (length (x ∷ rest) - 1) = omega (arith, length-append front (x ∷ rest)) in
+    ap (λ (n : ℕ). get_or (front ++ x ∷ rest) n 0) at ∙ get_or-append-add front (x ∷ rest) (length (x ∷ rest) - 1) 0
+
+-- round a face the other way, from the start of a step to its end
+record IsRest (mesh : FaceList) (step : FaceStep) (u v : ℕ) : Type 0 where
+  front : List ℕ
+  ends : corners_from (face_at mesh step.face.0) (not step.forward) step.corner (length (face_at mesh step.face.0) - 1) ≡ front ++ v ∷ []
+  turned : corners_from (face_at mesh step.face.0) (not step.forward) step.corner (length (face_at mesh step.face.0) - 1) ≡ u ∷ reverse (beyond mesh step)
+  long : length (beyond mesh step) + 1 ≡ length (face_at mesh step.face.0)
+
+rest_of_step : (s : OrientedMesh) (split : SplitView) → IsFaceList s.mesh → (u v : ℕ) (step : FaceStep) → IsFaceBelow s split u v step → IsRest s.mesh step u v
+rest_of_step s split valid u v step under =
+    let ring : List ℕ = face_at s.mesh step.face.0 in
+    let m : ℕ = length ring in
+    let b : Bool = step.forward in
+    let c : ℕ = step.corner in
+    let face : IsFace s.mesh.count ring = valid.faces step.face.0 [] under.is_step.face in
+    let big : 3 ≤ m = face.polygon in
+    let k : ℕ = m - 2 in
+    let one_more_than : m - 1 ≡ suc k = omega arith in
+    let start : get_or ring c 0 ≡ u = under.starts in
+    let end : get_or ring (corner_after (not b) m c (m - 1)) 0 ≡ v =
+    ap (λ (x : ℕ). get_or ring x 0) (rest_ends b m c under.is_step.corner) ∙ under.ends in
+    let beyond_is : beyond s.mesh step ≡ corners_from ring b (next_corner b m c) k =
+    ap (corners_before ring b (next_corner b m c)) one_more_than ∙ before-from ring b (next_corner b m c) k in
+    let back : reverse (beyond s.mesh step) ≡ corners_from ring (not b) (next_corner (not b) m c) k =
+    ap (λ (l : List ℕ). reverse l) beyond_is ∙ rest_turned ring b c k under.is_step.corner (omega arith) in
+    record {
+      front = corners_before ring (not b) c (m - 1);
+      ends = last_corner ring (not b) c (m - 1) ∙ ap (λ (x : ℕ). corners_before ring (not b) c (m - 1) ++ x ∷ []) end;
+      turned = ap (corners_from ring (not b) c) one_more_than
+          ∙ ap (λ (x : ℕ). x ∷ corners_from ring (not b) (next_corner (not b) m c) k) start ∙ ap (λ (l : List ℕ). u ∷ l) (sym back);
+      long = omega (arith, ap (λ (l : List ℕ). length l) beyond_is, length-corners_from ring b (next_corner b m c) k);
+    }
+
+-- the move across the face
+face_crossed : (s : OrientedMesh) (split : SplitView) (u v : ℕ) (step : FaceStep) (front behind : List ℕ) → IsFaceBelow s split u v step → 3 ≤ length (face_at s.mesh step.face.0)
+    → apply s.mesh (front ++ u ∷ v ∷ behind) (Across (length front) step.face step.corner step.forward 1)
+    ≡ Some (front ++ corners_from (face_at s.mesh step.face.0) (not step.forward) step.corner (length (face_at s.mesh step.face.0) - 1) ++ behind)
+face_crossed s split u v step front behind under big =
+    let ring : List ℕ = face_at s.mesh step.face.0 in
+    let other : List ℕ = corners_from ring (not step.forward) step.corner (length ring - 1) in
+    let some : 0 < length (front ++ u ∷ v ∷ behind) = rw length-append (omega arith) in
+    (by_replacing s.mesh (front ++ u ∷ v ∷ behind) (front ++ other ++ behind) (Across (length front) step.face step.corner step.forward 1) some).1
+    (record {
+      before = front;
+      part = u ∷ v ∷ [];
+      other = other;
+      after = behind;
+      walk_is = sym (append_assoc front (u ∷ v ∷ []) behind);
+      next_is = refl;
+      place = refl;
+      replaces = (
+        under.is_step.face,
+        under.is_step.corner,
+        omega arith,
+        ap (λ (x : ℕ). x ∷ v ∷ []) (sym under.starts) ∙ ap (λ (x : ℕ). get_or ring step.corner 0 ∷ x ∷ []) (sym under.ends),
+        refl,
+      );
+    })
+
+regroup : (front back rest others : List ℕ) (u : ℕ) → front ++ (u ∷ back) ++ (rest ++ others) ≡ front ++ u ∷ [] ++ (back ++ rest) ++ others
+regroup front back rest others u = simp append_assoc
+
+crossing_goes : (s : OrientedMesh) (split : SplitView) → IsFaceList s.mesh → (behind to : ℕ) (begun track new : TrackView) (pending rest left : List ℕ) (v steps : ℕ) (step : FaceStep)
+    → IsUnderWay s split behind to begun track pending steps → pending ≡ rest ++ v ∷ [] → IsFaceBelow s split (last_of track.walk) v step
+    → IsCrossed s.mesh step behind track rest new left
+    → GoesOn s.mesh behind (begun.walk ++ to ∷ []) begun.list (new.walk ++ reverse left) new.list
+crossing_goes s split valid behind to begun track new pending rest left v steps step on popped under crossed first others l h =
+    let u : ℕ = last_of track.walk in
+    let ring : List ℕ = face_at s.mesh step.face.0 in
+    let round : List ℕ = corners_from ring (not step.forward) step.corner (length ring - 1) in
+    let around : IsRest s.mesh step u v = rest_of_step s split valid u v step under in
+    let big : 3 ≤ length ring = (valid.faces step.face.0 [] under.is_step.face).polygon in
+    let walk : List ℕ = track.walk in
+    let front : List ℕ = take (length walk - 1) walk in
+    let walk_is : walk ≡ front ++ u ∷ [] = last_entry walk on.some in
+    let front_long : length front ≡ darts walk = omega (arith, ap (λ (x : List ℕ). length x) walk_is, length-append front (u ∷ []), on.some) in
+    let turned : reverse pending ≡ v ∷ reverse rest = ap (λ (x : List ℕ). reverse x) popped ∙ reverse-push rest v in
+    let there : LeadsAtPeak s.mesh first track.list (walk ++ reverse pending ++ others) = on.goes first others l h in
+    let from : walk ++ reverse pending ++ others ≡ front ++ u ∷ v ∷ (reverse rest ++ others) =
+    ap (λ (x : List ℕ). walk ++ x ++ others) turned ∙ ap (λ (x : List ℕ). x ++ (v ∷ reverse rest) ++ others) walk_is ∙ simp append_assoc in
+    let left_is : reverse left ≡ reverse (beyond s.mesh step) ++ reverse rest =
+    ap (λ (x : List ℕ). reverse x) crossed.comes ∙ reverse-append rest (beyond s.mesh step) in
+    let end : List ℕ = front ++ round ++ (reverse rest ++ others) in
+    let to_is : end ≡ new.walk ++ reverse left ++ others =
+    ap (λ (x : List ℕ). front ++ x ++ (reverse rest ++ others)) around.turned
+    ∙ regroup front (reverse (beyond s.mesh step)) (reverse rest) others u
+    ∙ ap (λ (x : List ℕ). x ++ (reverse (beyond s.mesh step) ++ reverse rest) ++ others) (sym (crossed.walk ∙ walk_is))
+    ∙ ap (λ (x : List ℕ). new.walk ++ x ++ others) (sym left_is) in
+    let count : darts end ≡ darts walk + (length left + behind) =
+    omega (
+      arith,
+      length-append (front ++ round) (reverse rest ++ others),
+      length-append front round,
+      length-append (reverse rest) others,
+      length-reverse rest,
+      length-corners_from ring (not step.forward) step.corner (length ring - 1),
+      ap (λ (x : List ℕ). length x) crossed.comes,
+      length-append rest (beyond s.mesh step),
+      around.long,
+    ) in
+    let noted : new.list ≡ record { moves = track.list.moves ++ Across (length front) step.face step.corner step.forward 1 ∷ []; peak = max track.list.peak (darts end) } =
+    subst (λ (n : ℕ). new.list ≡ record { moves = track.list.moves ++ Across (length front) step.face step.corner step.forward 1 ∷ []; peak = max track.list.peak n }) (sym count)
+    (subst (λ (n : ℕ). new.list ≡ record { moves = track.list.moves ++ Across n step.face step.corner step.forward 1 ∷ []; peak = max track.list.peak (darts walk + (length left + behind)) })
+    (sym front_long) crossed.list) in
+    subst (LeadsAtPeak s.mesh first new.list) to_is
+    (one_more s.mesh first (front ++ u ∷ v ∷ (reverse rest ++ others)) end (Across (length front) step.face step.corner step.forward 1) track.list new.list
+    (subst (LeadsAtPeak s.mesh first track.list) from there) (face_crossed s split u v step front (reverse rest ++ others) under big) noted)
+
+-- a step across the face below an edge
+pub cross_on_way : (s : OrientedMesh) (split : SplitView) → IsOrientedSurface s → (behind to : ℕ) (begun track new : TrackView) (pending rest left : List ℕ) (v steps : ℕ) (step : FaceStep)
+    → IsUnderWay s split behind to begun track pending steps → pending ≡ rest ++ v ∷ [] → IsFaceBelow s split (last_of track.walk) v step
+    → IsCrossed s.mesh step behind track rest new left
+    → IsUnderWay s split behind to begun new left (steps + 1)
+cross_on_way s split o behind to begun track new pending rest left v steps step on popped under crossed =
+    let u : ℕ = last_of track.walk in
+    let ring : List ℕ = face_at s.mesh step.face.0 in
+    let round : List ℕ = corners_from ring (not step.forward) step.corner (length ring - 1) in
+    let around : IsRest s.mesh step u v = rest_of_step s split o.faces u v step under in
+    let turned : reverse pending ≡ v ∷ reverse rest = ap (λ (x : List ℕ). reverse x) popped ∙ reverse-push rest v in
+    let left_is : reverse left ≡ reverse (beyond s.mesh step) ++ reverse rest =
+    ap (λ (x : List ℕ). reverse x) crossed.comes ∙ reverse-append rest (beyond s.mesh step) in
+    let whole : u ∷ reverse left ≡ around.front ++ v ∷ reverse rest =
+    ap (λ (x : List ℕ). u ∷ x) left_is ∙ ap (λ (x : List ℕ). x ++ reverse rest) (sym around.turned ∙ around.ends) ∙ append_assoc around.front (v ∷ []) (reverse rest) in
+    let same_end : last_of new.walk ≡ u = ap last_of crossed.walk in
+    let linked : Linked s.mesh (u ∷ v ∷ reverse rest) = subst (λ (l : List ℕ). Linked s.mesh (u ∷ l)) turned on.linked in
+    let round_is_linked : Linked s.mesh (around.front ++ v ∷ []) =
+    subst (Linked s.mesh) around.ends (round_linked s.mesh step.face.0 (not step.forward) step.corner (length ring - 1) under.is_step.face under.is_step.corner) in
+    record {
+      some = subst (λ (l : List ℕ). 0 < length l) (sym crossed.walk) on.some;
+      no_spur = subst HasNoSpur (sym crossed.walk) on.no_spur;
+      off_cotree = subst (AvoidsCotree s split) (sym crossed.walk) on.off_cotree;
+      linked = subst (λ (x : ℕ). Linked s.mesh (x ∷ reverse left)) (sym same_end)
+          (subst (Linked s.mesh) (sym whole) (together s.mesh v around.front (reverse rest) round_is_linked linked.1));
+      falls = λ t.
+          let before : load s split t (u ∷ v ∷ reverse rest) + steps ≤ darts_of s =
+          subst (λ (l : List ℕ). load s split t (u ∷ l) + steps ≤ darts_of s) turned (on.falls t) in
+          let fall : load s split t round + 1 ≤ pair_weight s split t u v =
+          rest_falls s split o t step.face.0 step.corner step.forward u v under.dart under.is_step.face under.is_step.corner under.starts under.ends under.from under.below in
+          let joined : load s split t (around.front ++ v ∷ reverse rest) ≡ load s split t (around.front ++ v ∷ []) + load s split t (v ∷ reverse rest) =
+          load-join s split t around.front (reverse rest) v in
+          let first_part : load s split t (around.front ++ v ∷ []) ≡ load s split t round = ap (load s split t) (sym around.ends) in
+          let all : load s split t (u ∷ reverse left) ≡ load s split t (around.front ++ v ∷ reverse rest) = ap (load s split t) whole in
+          subst (λ (x : ℕ). load s split t (x ∷ reverse left) + (steps + 1) ≤ darts_of s) (sym same_end)
+          (omega (arith, before, fall, joined, first_part, all));
+      long = omega (arith, on.long, ap (λ (l : List ℕ). length l) crossed.walk);
+      goes = crossing_goes s split o.faces behind to begun track new pending rest left v steps step on popped under crossed;
+      ends = subst (λ (x : ℕ). last_of (x ∷ reverse left) ≡ to) (sym same_end)
+          (ap last_of whole ∙ last-behind around.front (reverse rest) v ∙ sym (last-behind (u ∷ []) (reverse rest) v)
+          ∙ subst (λ (l : List ℕ). last_of (u ∷ l) ≡ to) turned on.ends);
+    }
+
+-- after as many steps as there are darts nothing is pending
+pub all_come : (s : OrientedMesh) (split : SplitView) → IsSplit s split → (behind to : ℕ) (begun track : TrackView) (pending : List ℕ) (steps : ℕ)
+    → IsUnderWay s split behind to begun track pending steps → darts_of s ≤ steps → length pending ≡ 0
+all_come s split t behind to begun track pending steps on done =
+    omega (arith, on.falls t, load_long s split t (last_of track.walk ∷ reverse pending), length-reverse pending)
+
+-- where nothing is pending, the walk is led on
+pub led_on : (s : OrientedMesh) (split : SplitView) (behind to : ℕ) (begun track : TrackView) (pending : List ℕ) (steps : ℕ)
+    → IsUnderWay s split behind to begun track pending steps → pending ≡ []
+    → GoesOn s.mesh behind (begun.walk ++ to ∷ []) begun.list track.walk track.list × (last_of track.walk ≡ to)
+led_on s split behind to begun track pending steps on none =
+    let goes : GoesOn s.mesh behind (begun.walk ++ to ∷ []) begun.list (track.walk ++ []) track.list =
+    subst (λ (l : List ℕ). GoesOn s.mesh behind (begun.walk ++ to ∷ []) begun.list (track.walk ++ reverse l) track.list) none on.goes in
+    let ends : last_of (last_of track.walk ∷ []) ≡ to = subst (λ (l : List ℕ). last_of (last_of track.walk ∷ reverse l) ≡ to) none on.ends in
+    (subst (λ (l : List ℕ). GoesOn s.mesh behind (begun.walk ++ to ∷ []) begun.list l track.list) (append-nil track.walk) goes, ends)
+
+-- the numbers of what is pending
+pub none_left : (xs : List VertexName) → length xs ≡ 0 → xs ≡ []
+none_left [] h = refl
+none_left (x ∷ xs) h = absurd (omega arith)
+
+pub one_pending : (xs ys : List VertexName) (v : VertexName) → xs ≡ ys ++ v ∷ [] → numbers xs ≡ numbers ys ++ v.0 ∷ []
+one_pending xs ys v is = ap numbers is ∙ map-append (λ (x : VertexName). x.0) ys (v ∷ [])
+
+pub length-numbers : (xs : List VertexName) → length (numbers xs) ≡ length xs
+length-numbers xs = length-map xs (λ (x : VertexName). x.0)
+
+-- the next vertex is reached along an edge
+pub next_edge : (s : OrientedMesh) (split : SplitView) (behind to : ℕ) (begun track : TrackView) (pending rest : List ℕ) (v steps : ℕ)
+    → IsUnderWay s split behind to begun track pending steps → pending ≡ rest ++ v ∷ [] → is_edge s.mesh (last_of track.walk) v ≡ true
+next_edge s split behind to begun track pending rest v steps on popped =
+    (subst (λ (l : List ℕ). Linked s.mesh (last_of track.walk ∷ l)) (ap (λ (l : List ℕ). reverse l) popped ∙ reverse-push rest v) on.linked).0
+
+-- there is room for a step along the edge, and for one across a face
+pub room_along : (s : OrientedMesh) (split : SplitView) → IsSplit s split → (behind to : ℕ) (begun track : TrackView) (pending rest : List ℕ) (v steps : ℕ)
+    → IsUnderWay s split behind to begun track pending steps → pending ≡ rest ++ v ∷ []
+    → length track.walk + length rest + 1 ≤ length begun.walk + darts_of s
+room_along s split t behind to begun track pending rest v steps on popped =
+    omega (
+      arith,
+      on.long,
+      on.falls t,
+      load_long s split t (last_of track.walk ∷ reverse pending),
+      length-reverse pending,
+      ap (λ (l : List ℕ). length l) popped,
+      length-append rest (v ∷ []),
+    )
+
+pub room_across : (s : OrientedMesh) (split : SplitView) → IsOrientedSurface s → IsSplit s split → (behind to : ℕ) (begun track : TrackView) (pending rest : List ℕ) (v steps : ℕ) (step : FaceStep)
+    → IsUnderWay s split behind to begun track pending steps → pending ≡ rest ++ v ∷ [] → IsFaceBelow s split (last_of track.walk) v step
+    → length track.walk + length rest + length (face_at s.mesh step.face.0) ≤ length begun.walk + darts_of s
+room_across s split o t behind to begun track pending rest v steps step on popped under =
+    let u : ℕ = last_of track.walk in
+    let ring : List ℕ = face_at s.mesh step.face.0 in
+    let round : List ℕ = corners_from ring (not step.forward) step.corner (length ring - 1) in
+    let before : load s split t (u ∷ v ∷ reverse rest) + steps ≤ darts_of s =
+    subst (λ (l : List ℕ). load s split t (u ∷ l) + steps ≤ darts_of s) (ap (λ (l : List ℕ). reverse l) popped ∙ reverse-push rest v) (on.falls t) in
+    let fall : load s split t round + 1 ≤ pair_weight s split t u v =
+    rest_falls s split o t step.face.0 step.corner step.forward u v under.dart under.is_step.face under.is_step.corner under.starts under.ends under.from under.below in
+    omega (
+      arith,
+      on.long,
+      before,
+      fall,
+      under.is_step.corner,
+      load_long s split t (v ∷ reverse rest),
+      length-reverse rest,
+      load_long s split t round,
+      length-corners_from ring (not step.forward) step.corner (length ring - 1),
+    )

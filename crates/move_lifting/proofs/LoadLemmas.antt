@@ -1,0 +1,178 @@
+-- The load of a walk: for each dart on a cotree edge the number of darts that hang below the edge, and one for each other dart. Where a
+-- dart is replaced by the rest of the face below it, the load falls.
+use Rattle.std.proofs.Common.{◌≡◌, ◌≢◌, ◌⊎◌, inl, inr, ℕ, zero, suc, ◌+◌, ◌<◌, ◌≤◌, Bool, true, false, ◌&&◌, eqb, List, [], ◌∷◌, ◌++◌, length, refl, ap, sym, ◌∙◌, subst, arith}
+use Rattle.std.specs.Prelude.{Option, Some, None}
+use Rattle.std.proofs.lemmas.Bool.{cases_Bool, cases_eq, both_ways, eqb-true, eq-eqb, and_parts}
+use Rattle.halfedge_map.specs.Numbers.{count_below}
+use Rattle.halfedge_map.specs.OrientedMeshes.{OrientedMesh, IsOrientedSurface}
+use Rattle.halfedge_map.specs.DartMaps.{darts_of}
+use Rattle.halfedge_map.specs.RotationSystems.{Rotations, rotations_of, IsRotationSystem, IsDartFrom}
+use Rattle.halfedge_map.proofs.SystemLemmas.{rotation_system, names_all}
+use Rattle.tree_cotree.specs.Splits.{SplitView, IsSplit, child_face, StepsUp}
+use Rattle.move_lifting.proofs.CountLemmas.{sum_below, sum_same, disjoint_counts_less, count_most, count_some, count_one}
+use Rattle.move_lifting.proofs.FaceTreeLemmas.{below, below_itself, below_higher, below_once, not_above, not_itself}
+
+-- whether a dart hangs below the edge of a dart; below an edge that is not of the cotree hangs the dart alone
+hangs_at : (s : OrientedMesh) (split : SplitView) → IsSplit s split → Option ℕ → ℕ → ℕ → Bool
+hangs_at s split t None dart z = eqb z dart
+hangs_at s split t (Some c) dart z = below s split t c ((rotations_of s).face z)
+
+-- how many hang below an edge
+weight_at : (s : OrientedMesh) (split : SplitView) → IsSplit s split → Option ℕ → ℕ
+weight_at s split t None = 1
+weight_at s split t (Some c) = count_below (λ z. below s split t c ((rotations_of s).face z)) (darts_of s)
+
+pub weight : (s : OrientedMesh) (split : SplitView) → IsSplit s split → ℕ → ℕ
+weight s split t e = weight_at s split t (child_face split e)
+
+weight_is : (s : OrientedMesh) (split : SplitView) (t : IsSplit s split) (d : ℕ) → d < darts_of s
+    → weight s split t ((rotations_of s).edge d) ≡ count_below (hangs_at s split t (child_face split ((rotations_of s).edge d)) d) (darts_of s)
+unfolding weight weight_at hangs_at
+weight_is s split t d l = by (child_face split ((rotations_of s).edge d))
+  where
+    by : (o : Option ℕ) → weight_at s split t o ≡ count_below (hangs_at s split t o d) (darts_of s)
+    by None = sym (count_one (darts_of s) d l)
+    by (Some c) = refl
+
+pub weight_none : (s : OrientedMesh) (split : SplitView) (t : IsSplit s split) (e : ℕ) → child_face split e ≡ None → weight s split t e ≡ 1
+unfolding weight weight_at
+weight_none s split t e is = ap (weight_at s split t) is
+
+weight_some : (s : OrientedMesh) (split : SplitView) (t : IsSplit s split) (e c : ℕ) → child_face split e ≡ Some c
+    → weight s split t e ≡ count_below (λ z. below s split t c ((rotations_of s).face z)) (darts_of s)
+unfolding weight weight_at
+weight_some s split t e c is = ap (weight_at s split t) is
+
+cases_child : (o : Option ℕ) → (o ≡ None) ⊎ ((c : ℕ) × (o ≡ Some c))
+cases_child None = inl refl
+cases_child (Some c) = inr (c, refl)
+
+pub weight_positive : (s : OrientedMesh) (split : SplitView) (t : IsSplit s split) (e : ℕ) → 0 < weight s split t e
+weight_positive s split t e = elim (cases_child (child_face split e)) [
+  | inl none ↦ (let one : weight s split t e ≡ 1 = weight_none s split t e none in omega arith)
+  | inr some ↦
+      let c : ℕ = some.0 in
+      let dart = t.child_faces.step e c some.1 in
+      let here : below s split t c ((rotations_of s).face dart.0) ≡ true = ap (below s split t c) dart.3 ∙ below_itself s split t c in
+      let count : 0 < count_below (λ z. below s split t c ((rotations_of s).face z)) (darts_of s) =
+      count_some (λ z. below s split t c ((rotations_of s).face z)) (darts_of s) dart.0 dart.1 here in
+      omega (arith, weight_some s split t e c some.1)
+]
+
+pub weight_most : (s : OrientedMesh) (split : SplitView) (t : IsSplit s split) (e : ℕ) → 0 < darts_of s → weight s split t e ≤ darts_of s
+weight_most s split t e l = elim (cases_child (child_face split e)) [
+  | inl none ↦ (let one : weight s split t e ≡ 1 = weight_none s split t e none in omega arith)
+  | inr some ↦ omega (arith, weight_some s split t e some.0 some.1, count_most (λ z. below s split t some.0 ((rotations_of s).face z)) (darts_of s))
+]
+
+-- the face below the edge of a dart of f, which is not the face f itself, steps up to f
+steps_up : (s : OrientedMesh) (split : SplitView) → IsOrientedSurface s → IsSplit s split → (x c f : ℕ) → x < darts_of s → (rotations_of s).face x ≡ f
+    → child_face split ((rotations_of s).edge x) ≡ Some c → c ≢ f → StepsUp (rotations_of s) split c f
+steps_up s split o t x c f l in_f is other =
+    let maps : Rotations = rotations_of s in
+    let r : IsRotationSystem maps = rotation_system s o in
+    let dart = t.child_faces.step (maps.edge x) c is in
+    elim ((r.edges x dart.0 l dart.1).0 (sym dart.2)) [
+      | inl same ↦ absurd (other (sym dart.3 ∙ ap maps.face same ∙ in_f))
+      | inr turned ↦
+          let back : maps.face (maps.twin dart.0) ≡ f = ap (λ (d : ℕ). maps.face (maps.twin d)) turned ∙ ap maps.face (r.twin_back x l) ∙ in_f in
+          (dart.0, record { within = dart.1; below = ap (child_face split) dart.2 ∙ is; inside = dart.3; leads = back })
+    ]
+
+-- two darts of a face on one edge with the face f below it are one dart
+one_below : (s : OrientedMesh) (split : SplitView) → IsOrientedSurface s → IsSplit s split → (x h f : ℕ) → x < darts_of s → h < darts_of s
+    → (rotations_of s).face x ≡ f → (rotations_of s).face h ≡ f → child_face split ((rotations_of s).edge h) ≡ Some f
+    → (rotations_of s).edge x ≡ (rotations_of s).edge h → x ≡ h
+one_below s split o t x h f l k in_f h_in is same =
+    let maps : Rotations = rotations_of s in
+    let r : IsRotationSystem maps = rotation_system s o in
+    elim ((r.edges h x k l).0 (sym same)) [
+      | inl one ↦ one
+      | inr turned ↦
+          let step : StepsUp maps split f f = (h, record { within = k; below = is; inside = h_in; leads = ap maps.face (sym turned) ∙ in_f }) in
+          absurd (not_itself s split o t f step)
+    ]
+
+-- darts of a face f besides the one on the edge above f
+pub record AreBeside (s : OrientedMesh) (f h k : ℕ) (x : ℕ → ℕ) : Type 0 where
+  pub within : (j : ℕ) → j < k → x j < darts_of s
+  pub inside : (j : ℕ) → j < k → (rotations_of s).face (x j) ≡ f
+  pub beside : (j : ℕ) → j < k → x j ≢ h
+  pub apart : (i j : ℕ) → i < j → j < k → x i ≢ x j
+
+-- together they weigh less than the edge above the face
+pub weights_fall : (s : OrientedMesh) (split : SplitView) → IsOrientedSurface s → (t : IsSplit s split) → (f h k : ℕ) (x : ℕ → ℕ) → h < darts_of s
+    → (rotations_of s).face h ≡ f → child_face split ((rotations_of s).edge h) ≡ Some f → AreBeside s f h k x
+    → sum_below (λ j. weight s split t ((rotations_of s).edge (x j))) k + 1 ≤ weight s split t ((rotations_of s).edge h)
+unfolding hangs_at
+weights_fall s split o t f h k x l h_in is are =
+    let n : ℕ = darts_of s in
+    let maps : Rotations = rotations_of s in
+    let q : ℕ → Bool = λ z. below s split t f (maps.face z) in
+    let p : ℕ → ℕ → Bool = λ j. hangs_at s split t (child_face split (maps.edge (x j))) (x j) in
+    let counted : sum_below (λ j. weight s split t (maps.edge (x j))) k ≡ sum_below (λ j. count_below (p j) n) k =
+    sum_same (λ j. weight s split t (maps.edge (x j))) (λ j. count_below (p j) n) k (λ j m. weight_is s split t (x j) (are.within j m)) in
+    let h_passes : q h ≡ true = ap (below s split t f) h_in ∙ below_itself s split t f in
+    let less : sum_below (λ j. count_below (p j) n) k + 1 ≤ count_below q n =
+    disjoint_counts_less p q k n h l h_passes (λ j z m z_in. inside j z m z_in) (λ j m. left_out j m) (λ i j z i_j m z_in. apart i j z i_j m z_in) in
+    omega (arith, counted, less, weight_some s split t (maps.edge h) f is)
+  where
+    maps : Rotations
+    maps = rotations_of s
+
+    up : (j c : ℕ) → j < k → child_face split ((rotations_of s).edge (x j)) ≡ Some c → StepsUp (rotations_of s) split c f
+    up j c m below_x =
+        steps_up s split o t (x j) c f (are.within j m) (are.inside j m) below_x
+        (λ same. are.beside j m (one_below s split o t (x j) h f (are.within j m) l (are.inside j m) h_in is
+        (t.child_faces.once ((rotations_of s).edge (x j)) ((rotations_of s).edge h) f (below_x ∙ ap Some same) is)))
+
+    inside : (j z : ℕ) → j < k → z < darts_of s → hangs_at s split t (child_face split ((rotations_of s).edge (x j))) (x j) z ≡ true
+        → below s split t f ((rotations_of s).face z) ≡ true
+    inside j z m z_in = by (child_face split ((rotations_of s).edge (x j))) refl
+      where
+        by : (c : Option ℕ) → child_face split ((rotations_of s).edge (x j)) ≡ c → hangs_at s split t c (x j) z ≡ true
+            → below s split t f ((rotations_of s).face z) ≡ true
+        by None _ hit = ap (λ (d : ℕ). below s split t f ((rotations_of s).face d)) (eqb-true z (x j) hit) ∙ ap (below s split t f) (are.inside j m) ∙ below_itself s split t f
+        by (Some c) below_x hit = below_higher s split o t c f ((rotations_of s).face z) (up j c m below_x) ((names_all s o).face_below z z_in) hit
+
+    left_out : (j : ℕ) → j < k → hangs_at s split t (child_face split ((rotations_of s).edge (x j))) (x j) h ≡ true → ⊥
+    left_out j m = by (child_face split ((rotations_of s).edge (x j))) refl
+      where
+        by : (c : Option ℕ) → child_face split ((rotations_of s).edge (x j)) ≡ c → hangs_at s split t c (x j) h ≡ true → ⊥
+        by None _ hit = are.beside j m (sym (eqb-true h (x j) hit))
+        by (Some c) below_x hit = not_above s split o t c f (up j c m below_x) (ap (below s split t c) (sym h_in) ∙ hit)
+
+    -- a dart of the face f hangs below no face under f
+    not_lower : (i j c z : ℕ) → i < k → j < k → child_face split ((rotations_of s).edge (x j)) ≡ Some c → z ≡ x i
+        → below s split t c ((rotations_of s).face z) ≡ true → ⊥
+    not_lower i j c z m_i m_j below_x same hit =
+        not_above s split o t c f (up j c m_j below_x)
+        (ap (below s split t c) (sym (ap (rotations_of s).face same ∙ are.inside i m_i)) ∙ hit)
+
+    apart : (i j z : ℕ) → i < j → j < k → z < darts_of s → hangs_at s split t (child_face split ((rotations_of s).edge (x i))) (x i) z ≡ true
+        → hangs_at s split t (child_face split ((rotations_of s).edge (x j))) (x j) z ≡ true → ⊥
+    apart i j z i_j m z_in = by (child_face split ((rotations_of s).edge (x i))) (child_face split ((rotations_of s).edge (x j))) refl refl
+      where
+        m_i : i < k
+        m_i = omega arith
+
+        by : (c d : Option ℕ) → child_face split ((rotations_of s).edge (x i)) ≡ c → child_face split ((rotations_of s).edge (x j)) ≡ d
+            → hangs_at s split t c (x i) z ≡ true → hangs_at s split t d (x j) z ≡ true → ⊥
+        by None None _ _ a b = are.apart i j i_j m (sym (eqb-true z (x i) a) ∙ eqb-true z (x j) b)
+        by None (Some d) _ below_j a b = not_lower i j d z m_i m below_j (eqb-true z (x i) a) b
+        by (Some c) None below_i _ a b = not_lower j i c z m m_i below_i (eqb-true z (x j) b) a
+        by (Some c) (Some d) below_i below_j a b =
+            let same : c ≡ d =
+            below_once s split o t c d f ((rotations_of s).face z) (up i c m_i below_i) (up j d m below_j) ((names_all s o).face_below z z_in) a b in
+            let edges : (rotations_of s).edge (x i) ≡ (rotations_of s).edge (x j) =
+            t.child_faces.once ((rotations_of s).edge (x i)) ((rotations_of s).edge (x j)) d (below_i ∙ ap Some same) below_j in
+            elim (((rotation_system s o).edges (x i) (x j) (are.within i m_i) (are.within j m)).0 edges) [
+              | inl one ↦ are.apart i j i_j m (sym one)
+              | inr turned ↦
+                  let dart = t.child_faces.step ((rotations_of s).edge (x i)) c below_i in
+                  let c_is_f : c ≡ f = elim (((rotation_system s o).edges (x i) dart.0 (are.within i m_i) dart.1).0 (sym dart.2)) [
+                    | inl here ↦ sym dart.3 ∙ ap (rotations_of s).face here ∙ are.inside i m_i
+                    | inr there ↦ sym dart.3 ∙ ap (rotations_of s).face (there ∙ sym turned) ∙ are.inside j m
+                  ] in
+                  not_itself s split o t f (subst (λ (y : ℕ). StepsUp (rotations_of s) split y f) c_is_f (up i c m_i below_i))
+            ]

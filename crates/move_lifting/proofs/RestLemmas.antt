@@ -1,0 +1,256 @@
+-- The rest of a face below a cotree edge weighs less than the edge.
+use Rattle.std.proofs.Common.{◌≡◌, ◌≢◌, ◌⊎◌, inl, inr, ℕ, zero, suc, ◌+◌, ◌-◌, ◌<◌, ◌≤◌, Bool, true, false, not, ◌&&◌, eqb, cond, List, [], ◌∷◌, ◌++◌, length, get_or, refl, ap, sym, ◌∙◌, subst, arith, append_assoc}
+use Rattle.std.specs.Prelude.{Option, Some, None}
+use Rattle.std.proofs.lemmas.Bool.{cases_Bool, cases_eq, eqb-true, eq-eqb, and_parts}
+use Rattle.surf_model.specs.FaceLists.{FaceList, face_at, next_corner, corners_from}
+use Rattle.surf_model.specs.Darts.{first_side}
+use Rattle.surf_model.specs.Surfaces.{is_flipped}
+use Rattle.surf_model.proofs.RoundLemmas.{corner_after, corners_before, last_corner, meet}
+use Rattle.halfedge_map.specs.OrientedMeshes.{OrientedMesh, IsOrientedSurface}
+use Rattle.halfedge_map.specs.DartMaps.{darts_of, twin_of, origin_of, target_of, edge_of, start_corner_of, end_corner_of}
+use Rattle.halfedge_map.specs.RotationSystems.{Rotations, rotations_of, IsRotationSystem, IsDartFrom}
+use Rattle.halfedge_map.proofs.NumberLemmas.{IsNumberOf, number_below}
+use Rattle.halfedge_map.proofs.CornerLemmas.{corner_within, corner_back}
+use Rattle.halfedge_map.proofs.DartLemmas.{face_at_number, origin_at, target_at, vertex_at, start_kept, start_flipped, end_kept, end_flipped}
+use Rattle.halfedge_map.proofs.TwinLemmas.{origin-twin}
+use Rattle.halfedge_map.proofs.EdgeLemmas.{edge-twin}
+use Rattle.halfedge_map.proofs.SystemLemmas.{rotation_system}
+use Rattle.tree_cotree.specs.Splits.{SplitView, IsSplit, child_face}
+use Rattle.move_lifting.proofs.CountLemmas.{sum_below}
+use Rattle.move_lifting.proofs.LoadLemmas.{weight, weight_positive, weight_most, AreBeside, weights_fall}
+use Rattle.move_lifting.proofs.RoundLemmas.{corner_after_suc, corner_in, corners_apart, before-from, corners_more}
+
+-- the dart from one vertex to another
+pick_below : (ℕ → Bool) → ℕ → ℕ
+pick_below p zero = 0
+pick_below p (suc n) = cond (p n) n (pick_below p n)
+
+pick_passes : (p : ℕ → Bool) (n i : ℕ) → i < n → p i ≡ true → (pick_below p n < n) × (p (pick_below p n) ≡ true)
+unfolding pick_below
+pick_passes p zero i l h = absurd (omega arith)
+pick_passes p (suc n) i l h = elim (cases_Bool (p n)) [
+  | inl here ↦
+      let is : pick_below p (suc n) ≡ n = ap (λ (b : Bool). cond b n (pick_below p n)) here in
+      (omega arith, ap p is ∙ here)
+  | inr other ↦
+      let is : pick_below p (suc n) ≡ pick_below p n = ap (λ (b : Bool). cond b n (pick_below p n)) other in
+      let less : i < n = elim (cases_eq i n) [ inl same ↦ absurd (no (p n) other (sym (ap p same) ∙ h)) | inr apart ↦ omega arith ] in
+      let before = pick_passes p n i less h in
+      (omega (arith, is, before.0), ap p is ∙ before.1)
+]
+  where
+    no : (b : Bool) → b ≡ false → b ≡ true → ⊥
+    no b off on = (let both : false ≡ true = sym off ∙ on in cc)
+
+pub dart_from : OrientedMesh → ℕ → ℕ → ℕ
+dart_from s u v = pick_below (λ d. eqb (origin_of s d) u && eqb (origin_of s (twin_of s d)) v) (darts_of s)
+
+pub found_is : (s : OrientedMesh) → IsOrientedSurface s → (u v d : ℕ) → IsDartFrom (rotations_of s) u v d → dart_from s u v ≡ d
+unfolding dart_from
+found_is s o u v d from =
+    let p : ℕ → Bool = λ x. eqb (origin_of s x) u && eqb (origin_of s (twin_of s x)) v in
+    let one : eqb (origin_of s d) u ≡ true = eq-eqb (origin_of s d) u from.starts in
+    let two : eqb (origin_of s (twin_of s d)) v ≡ true = eq-eqb (origin_of s (twin_of s d)) v from.ends in
+    let passes : p d ≡ true = ap (λ (b : Bool). b && eqb (origin_of s (twin_of s d)) v) one ∙ two in
+    let picked = pick_passes p (darts_of s) d from.within passes in
+    let x : ℕ = pick_below p (darts_of s) in
+    let parts = and_parts (eqb (origin_of s x) u) (eqb (origin_of s (twin_of s x)) v) picked.1 in
+    (rotation_system s o).one_dart x d picked.0 from.within (eqb-true (origin_of s x) u parts.0 ∙ sym from.starts)
+    (eqb-true (origin_of s (twin_of s x)) v parts.1 ∙ sym from.ends)
+
+-- the edge between two vertices is that of each dart with these ends
+pub record HasTheseEnds (s : OrientedMesh) (x u v : ℕ) : Type 0 where
+  pub within : x < darts_of s
+  pub ends : ((origin_of s x ≡ u) × (target_of s x ≡ v)) ⊎ ((origin_of s x ≡ v) × (target_of s x ≡ u))
+
+edge_between : (s : OrientedMesh) → IsOrientedSurface s → (u v x : ℕ) → HasTheseEnds s x u v → edge_of s (dart_from s u v) ≡ edge_of s x
+edge_between s o u v x has = elim has.ends [
+  | inl on ↦
+      ap (edge_of s) (found_is s o u v x (record { within = has.within; starts = on.0; ends = origin-twin s o x has.within ∙ on.1 }))
+  | inr back ↦
+      let r : IsRotationSystem (rotations_of s) = rotation_system s o in
+      ap (edge_of s) (found_is s o u v (twin_of s x) (record {
+        within = r.twin_within x has.within;
+        starts = origin-twin s o x has.within ∙ back.1;
+        ends = ap (origin_of s) (r.twin_back x has.within) ∙ back.0;
+      }))
+      ∙ edge-twin s o x has.within
+]
+
+-- a side of a face goes between its two corners
+pub side_ends : (s : OrientedMesh) (f t x : ℕ) → IsNumberOf s.mesh f t x
+    → HasTheseEnds s x (vertex_at s f t) (vertex_at s f (next_corner true (length (face_at s.mesh f)) t))
+side_ends s f t x n = record { within = number_below s.mesh f t x n; ends = by (is_flipped s.signs f) refl }
+  where
+    u : ℕ
+    u = vertex_at s f t
+
+    v : ℕ
+    v = vertex_at s f (next_corner true (length (face_at s.mesh f)) t)
+
+    by : (b : Bool) → is_flipped s.signs f ≡ b → ((origin_of s x ≡ u) × (target_of s x ≡ v)) ⊎ ((origin_of s x ≡ v) × (target_of s x ≡ u))
+    by false e = inl (
+      origin_at s f t x n ∙ ap (vertex_at s f) (start_kept s f t x n e),
+      target_at s f t x n ∙ ap (vertex_at s f) (end_kept s f t x n e),
+    )
+    by true e = inr (
+      origin_at s f t x n ∙ ap (vertex_at s f) (start_flipped s f t x n e),
+      target_at s f t x n ∙ ap (vertex_at s f) (end_flipped s f t x n e),
+    )
+
+-- the side that a step round a face goes along
+abbrev pub side_place : Bool → ℕ → ℕ → ℕ
+side_place true m t = t
+side_place false m t = next_corner false m t
+
+side_in : (rising : Bool) (m t : ℕ) → t < m → side_place rising m t < m
+side_in true m t l = l
+side_in false m t l = corner_within false m t l
+
+numbered : (s : OrientedMesh) (f t : ℕ) → f < length s.mesh.faces → t < length (face_at s.mesh f) → IsNumberOf s.mesh f t (first_side s.mesh f + t)
+numbered s f t l k = record { face = l; place = k; is = refl }
+
+swapped : (s : OrientedMesh) (x u v : ℕ) → HasTheseEnds s x u v → HasTheseEnds s x v u
+swapped s x u v has = record { within = has.within; ends = elim has.ends [ inl on ↦ inr (on.0, on.1) | inr back ↦ inl (back.0, back.1) ] }
+
+pub step_edge : (s : OrientedMesh) → IsOrientedSurface s → (f : ℕ) (rising : Bool) (t : ℕ) → f < length s.mesh.faces → t < length (face_at s.mesh f)
+    → edge_of s (dart_from s (vertex_at s f t) (vertex_at s f (next_corner rising (length (face_at s.mesh f)) t)))
+    ≡ edge_of s (first_side s.mesh f + side_place rising (length (face_at s.mesh f)) t)
+step_edge s o f true t l k =
+    edge_between s o (vertex_at s f t) (vertex_at s f (next_corner true (length (face_at s.mesh f)) t)) (first_side s.mesh f + t)
+    (side_ends s f t (first_side s.mesh f + t) (numbered s f t l k))
+step_edge s o f false t l k =
+    let m : ℕ = length (face_at s.mesh f) in
+    let p : ℕ = next_corner false m t in
+    let x : ℕ = first_side s.mesh f + p in
+    let back : next_corner true m p ≡ t = corner_back false m t k in
+    let ends : HasTheseEnds s x (vertex_at s f p) (vertex_at s f t) =
+    subst (λ (c : ℕ). HasTheseEnds s x (vertex_at s f p) (vertex_at s f c)) back (side_ends s f p x (numbered s f p l (corner_within false m t k))) in
+    edge_between s o (vertex_at s f t) (vertex_at s f p) x (swapped s x (vertex_at s f p) (vertex_at s f t) ends)
+
+-- the load of a walk
+pub pair_weight : (s : OrientedMesh) (split : SplitView) → IsSplit s split → ℕ → ℕ → ℕ
+pair_weight s split t u v = weight s split t (edge_of s (dart_from s u v))
+
+abbrev pub load : (s : OrientedMesh) (split : SplitView) → IsSplit s split → List ℕ → ℕ
+load s split t [] = 0
+load s split t (u ∷ []) = 0
+load s split t (u ∷ v ∷ rest) = pair_weight s split t u v + load s split t (v ∷ rest)
+
+pub load-join : (s : OrientedMesh) (split : SplitView) (t : IsSplit s split) (front rest : List ℕ) (v : ℕ)
+    → load s split t (front ++ v ∷ rest) ≡ load s split t (front ++ v ∷ []) + load s split t (v ∷ rest)
+load-join s split t [] rest v = omega arith
+load-join s split t (u ∷ []) rest v = omega arith
+load-join s split t (u ∷ w ∷ front) rest v = omega (arith, load-join s split t (w ∷ front) rest v)
+
+pub pair_positive : (s : OrientedMesh) (split : SplitView) (t : IsSplit s split) (u v : ℕ) → 0 < pair_weight s split t u v
+unfolding pair_weight
+pair_positive s split t u v = weight_positive s split t (edge_of s (dart_from s u v))
+
+pub pair_most : (s : OrientedMesh) (split : SplitView) (t : IsSplit s split) (u v : ℕ) → 0 < darts_of s → pair_weight s split t u v ≤ darts_of s
+unfolding pair_weight
+pair_most s split t u v l = weight_most s split t (edge_of s (dart_from s u v)) l
+
+pub load_long : (s : OrientedMesh) (split : SplitView) (t : IsSplit s split) (walk : List ℕ) → length walk ≤ load s split t walk + 1
+load_long s split t [] = omega arith
+load_long s split t (u ∷ []) = omega arith
+load_long s split t (u ∷ v ∷ rest) = omega (arith, load_long s split t (v ∷ rest), pair_positive s split t u v)
+
+-- the load of steps round a face
+pub round_load : (s : OrientedMesh) (split : SplitView) → IsOrientedSurface s → (t : IsSplit s split) → (f : ℕ) (rising : Bool) (c k : ℕ) → f < length s.mesh.faces
+    → c < length (face_at s.mesh f)
+    → load s split t (corners_from (face_at s.mesh f) rising c k)
+    ≡ sum_below
+    (λ j. weight s split t (edge_of s (first_side s.mesh f + side_place rising (length (face_at s.mesh f)) (corner_after rising (length (face_at s.mesh f)) c j)))) k
+unfolding pair_weight
+round_load s split o t f rising c zero l b = refl
+round_load s split o t f rising c (suc k) l b =
+    let ring : List ℕ = face_at s.mesh f in
+    let m : ℕ = length ring in
+    let at : ℕ = corner_after rising m c k in
+    let u : ℕ = get_or ring at 0 in
+    let v : ℕ = get_or ring (next_corner rising m at) 0 in
+    let front : List ℕ = corners_before ring rising c k in
+    let before : load s split t (corners_from ring rising c k)
+    ≡ sum_below (λ j. weight s split t (edge_of s (first_side s.mesh f + side_place rising m (corner_after rising m c j)))) k =
+    round_load s split o t f rising c k l b in
+    let read : corners_from ring rising c k ≡ front ++ u ∷ [] = last_corner ring rising c k in
+    let end : get_or ring (corner_after rising m c (suc k)) 0 ≡ v = ap (λ (x : ℕ). get_or ring x 0) (corner_after_suc rising m c k) in
+    let whole : corners_from ring rising c (suc k) ≡ front ++ u ∷ v ∷ [] =
+    corners_more ring rising c k ∙ ap (λ (x : ℕ). corners_from ring rising c k ++ x ∷ []) end ∙ ap (λ (w : List ℕ). w ++ v ∷ []) read
+    ∙ append_assoc front (u ∷ []) (v ∷ []) in
+    let step : pair_weight s split t u v ≡ weight s split t (edge_of s (first_side s.mesh f + side_place rising m at)) =
+    ap (weight s split t) (step_edge s o f rising at l (corner_in rising m c k b)) in
+    let joined : load s split t (front ++ u ∷ v ∷ []) ≡ load s split t (front ++ u ∷ []) + (pair_weight s split t u v + 0) =
+    load-join s split t front (v ∷ []) u in
+    let shorter : load s split t (front ++ u ∷ []) ≡ load s split t (corners_from ring rising c k) = ap (load s split t) (sym read) in
+    ap (load s split t) whole ∙ omega (arith, joined, shorter, before, step)
+
+-- where the side of a step stands among the corners
+shift : Bool → ℕ
+shift true = 0
+shift false = 1
+
+side-after : (rising : Bool) (m t j : ℕ) → side_place rising m (corner_after rising m t j) ≡ corner_after rising m t (j + shift rising)
+unfolding shift
+side-after true m t j = ap (corner_after true m t) (let e : j ≡ j + 0 = omega arith in e)
+side-after false m t j = sym (corner_after_suc false m t j) ∙ ap (corner_after false m t) (let e : suc j ≡ j + 1 = omega arith in e)
+
+shift_most : (rising : Bool) → shift rising ≤ 1
+unfolding shift
+shift_most true = omega arith
+shift_most false = omega arith
+
+-- the sides of the rest of a face are apart from each other, and from the side of the step
+rest_apart : (rising : Bool) (m c i j : ℕ) → c < m → i < j → j < m - 1
+    → side_place rising m (corner_after rising m c i) ≢ side_place rising m (corner_after rising m c j)
+rest_apart rising m c i j b less few same =
+    let most : shift rising ≤ 1 = shift_most rising in
+    corners_apart rising m c (i + shift rising) (j + shift rising) b (omega arith) (omega arith) (omega arith)
+    (sym (side-after rising m c i) ∙ same ∙ side-after rising m c j)
+
+rest_beside : (rising : Bool) (m c j : ℕ) → c < m → j < m - 1
+    → side_place (not rising) m (corner_after (not rising) m c j) ≢ side_place rising m c
+unfolding shift
+rest_beside true m c j b few same =
+    corners_apart false m c 0 (j + 1) b (omega arith) (omega arith) (omega arith) (sym same ∙ side-after false m c j)
+rest_beside false m c j b few same =
+    corners_apart true m c j (m - 1) b (omega arith) (omega arith) (omega arith) (same ∙ meet false m c 1 b (omega arith))
+
+rest_sides : (s : OrientedMesh) (f c : ℕ) (rising : Bool) → f < length s.mesh.faces → c < length (face_at s.mesh f)
+    → AreBeside s f (first_side s.mesh f + side_place rising (length (face_at s.mesh f)) c) (length (face_at s.mesh f) - 1)
+    (λ j. first_side s.mesh f + side_place (not rising) (length (face_at s.mesh f)) (corner_after (not rising) (length (face_at s.mesh f)) c j))
+rest_sides s f c rising l b =
+    let m : ℕ = length (face_at s.mesh f) in
+    let back : Bool = not rising in
+    let place : ℕ → ℕ = λ j. side_place back m (corner_after back m c j) in
+    let number : (j : ℕ) → IsNumberOf s.mesh f (place j) (first_side s.mesh f + place j) =
+    λ j. numbered s f (place j) l (side_in back m (corner_after back m c j) (corner_in back m c j b)) in
+    record {
+      within = λ j h. number_below s.mesh f (place j) (first_side s.mesh f + place j) (number j);
+      inside = λ j h. face_at_number s f (place j) (first_side s.mesh f + place j) (number j);
+      beside = λ j h same. rest_beside rising m c j b h (plus_same (first_side s.mesh f) (place j) (side_place rising m c) same);
+      apart = λ i j less h same. rest_apart back m c i j b less h (plus_same (first_side s.mesh f) (place i) (place j) same);
+    }
+  where
+    plus_same : (x y z : ℕ) → x + y ≡ x + z → y ≡ z
+    plus_same x y z e = omega arith
+
+-- the rest of the face below an edge weighs less than a step along the edge
+pub rest_falls : (s : OrientedMesh) (split : SplitView) → IsOrientedSurface s → (t : IsSplit s split) → (f c : ℕ) (rising : Bool) (u v d : ℕ)
+    → f < length s.mesh.faces → c < length (face_at s.mesh f) → vertex_at s f c ≡ u → vertex_at s f (next_corner rising (length (face_at s.mesh f)) c) ≡ v
+    → IsDartFrom (rotations_of s) u v d → child_face split (edge_of s d) ≡ Some f
+    → load s split t (corners_from (face_at s.mesh f) (not rising) c (length (face_at s.mesh f) - 1)) + 1 ≤ pair_weight s split t u v
+unfolding pair_weight
+rest_falls s split o t f c rising u v d l b starts ends from under =
+    let m : ℕ = length (face_at s.mesh f) in
+    let h : ℕ = first_side s.mesh f + side_place rising m c in
+    let n : IsNumberOf s.mesh f (side_place rising m c) h = numbered s f (side_place rising m c) l (side_in rising m c b) in
+    let h_edge : edge_of s (dart_from s u v) ≡ edge_of s h =
+    subst (λ (x : ℕ). edge_of s (dart_from s x v) ≡ edge_of s h) starts
+    (subst (λ (x : ℕ). edge_of s (dart_from s (vertex_at s f c) x) ≡ edge_of s h) ends (step_edge s o f rising c l b)) in
+    let d_edge : edge_of s (dart_from s u v) ≡ edge_of s d = ap (edge_of s) (found_is s o u v d from) in
+    let below_h : child_face split (edge_of s h) ≡ Some f = ap (child_face split) (sym h_edge ∙ d_edge) ∙ under in
+    let fall = weights_fall s split o t f h (m - 1) (λ j. first_side s.mesh f + side_place (not rising) m (corner_after (not rising) m c j))
+    (number_below s.mesh f (side_place rising m c) h n) (face_at_number s f (side_place rising m c) h n) below_h (rest_sides s f c rising l b) in
+    omega (arith, fall, round_load s split o t f (not rising) c (m - 1) l b, ap (weight s split t) h_edge)

@@ -1,0 +1,13 @@
+use Rattle.std.proofs.Common.{◌≡◌, ◌++◌, length}
+use Rattle.surf_model.specs.FaceLists.{face_at, next_corner}
+use Rattle.surf_model.specs.Vertices.{numbers}
+use Rattle.surf_model.proofs.RoundLemmas.{corner_after, corners_before}
+use Rattle.move_lifting.proofs.crossing.push_rest.Given as goal
+
+abbrev pub invariant-loop-count : goal.invariant-loop-count
+invariant-loop-count l = record {
+  here : l.corner ≡ corner_after l.step.forward (length (face_at l.faces l.step.face.0)) l.step.corner l._count;
+  pushed : numbers l.vertices.items ≡ numbers l.initial.vertices.items
+      ++ corners_before (face_at l.faces l.step.face.0) l.step.forward
+      (next_corner l.step.forward (length (face_at l.faces l.step.face.0)) l.step.corner) l._count;
+}
