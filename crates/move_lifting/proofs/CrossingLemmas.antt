@@ -1,25 +1,25 @@
 -- The step across the face below a cotree edge, and the vertices of the rest of the face.
-use Rattle.std.proofs.Common.{◌≡◌, ◌≢◌, ◌⊎◌, inl, inr, ℕ, zero, suc, ◌+◌, ◌-◌, ◌<◌, Bool, true, false, List, [], ◌∷◌, ◌++◌, length, get_or, refl, ap, sym, ◌∙◌, subst, arith, append_assoc, length-append}
-use Rattle.std.specs.Prelude.{Some, None, map}
+use Rattle.std.proofs.Common.{◌≡◌, ◌⊎◌, inl, inr, ℕ, zero, suc, ◌+◌, ◌-◌, ◌<◌, Bool, true, false, List, [], ◌∷◌, ◌++◌, length, get_or, refl, ap, sym, ◌∙◌, subst, arith, append_assoc, length-append}
+use Rattle.std.specs.Prelude.{Some, None}
 use Rattle.std.proofs.lemmas.List.{map-append, length-map}
 use Rattle.surf_model.specs.FaceLists.{FaceList, face_at, next_corner}
-use Rattle.surf_model.specs.Darts.{IsSide, side_number, tail_of}
+use Rattle.surf_model.specs.Darts.{IsSide, side_number}
 use Rattle.surf_model.specs.Vertices.{numbers}
 use Rattle.surf_model.specs.declared.edges.Side.{Side}
 use Rattle.surf_model.specs.declared.names.VertexName.{VertexName}
 use Rattle.surf_model.proofs.RoundLemmas.{corner_after, corners_before}
 use Rattle.halfedge_map.specs.OrientedMeshes.{OrientedMesh, IsOrientedSurface}
 use Rattle.halfedge_map.specs.DartMaps.{darts_of, twin_of, origin_of, target_of, edge_of, face_of}
-use Rattle.halfedge_map.specs.RotationSystems.{Rotations, rotations_of, IsRotationSystem, IsDartFrom}
+use Rattle.halfedge_map.specs.RotationSystems.{rotations_of, IsRotationSystem, IsDartFrom}
 use Rattle.halfedge_map.proofs.NumberLemmas.{IsNumberOf}
 use Rattle.halfedge_map.proofs.CornerLemmas.{corner_within, corner_back}
 use Rattle.halfedge_map.proofs.DartLemmas.{face_at_number, vertex_at}
 use Rattle.halfedge_map.proofs.TwinLemmas.{origin-twin}
 use Rattle.halfedge_map.proofs.SystemLemmas.{rotation_system, names_all}
 use Rattle.tree_cotree.specs.Splits.{SplitView, IsSplit, child_face, in_cotree}
-use Rattle.move_lifting.specs.Crossings.{beyond, IsStepOf, GoesAlong, IsOneIn, IsFaceBelow}
+use Rattle.move_lifting.specs.Crossings.{beyond, GoesAlong, IsOneIn, IsFaceBelow}
 use Rattle.move_lifting.specs.declared.crossing.FaceStep.{FaceStep}
-use Rattle.move_lifting.proofs.RestLemmas.{HasTheseEnds, side_ends}
+use Rattle.move_lifting.proofs.RestLemmas.{side_ends}
 use Rattle.move_lifting.proofs.RoundLemmas.{corner_after_suc}
 
 -- one corner more before the last

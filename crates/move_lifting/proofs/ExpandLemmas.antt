@@ -1,8 +1,8 @@
 -- A walk that is led off the cotree, step by step: what holds on the way.
-use Rattle.std.proofs.Common.{◌≡◌, ◌≢◌, ◌⊎◌, inl, inr, ℕ, zero, suc, ◌+◌, ◌-◌, ◌<◌, ◌≤◌, Bool, true, false, not, max, List, [], ◌∷◌, ◌++◌, length, take, get_or, refl, ap, sym, ◌∙◌, subst, arith, append_assoc, length-append}
-use Rattle.std.specs.Prelude.{IsTrue, Some, None, reverse}
+use Rattle.std.proofs.Common.{◌≡◌, inl, inr, ℕ, suc, ◌+◌, ◌-◌, ◌<◌, ◌≤◌, Bool, true, false, not, max, List, [], ◌∷◌, ◌++◌, length, take, drop, get_or, refl, ap, sym, ◌∙◌, subst, arith, append_assoc, length-append}
+use Rattle.std.specs.Prelude.{Some, reverse}
 use Rattle.std.proofs.lemmas.Bool.{cases_lt}
-use Rattle.std.proofs.lemmas.List.{map-append, length-map, append-nil, reverse-append, length-reverse, get_or-append-add, get_or_append_left}
+use Rattle.std.proofs.lemmas.List.{map-append, length-map, drop_more, drop_all, length-drop, append-nil, reverse-append, length-reverse, get_or-append-add, get_or_append_left}
 use Rattle.surf_model.specs.FaceLists.{FaceList, face_at, next_corner, corners_from, is_edge, IsFaceList, IsFace}
 use Rattle.surf_model.specs.FreeWalks.{HasNoSpur}
 use Rattle.surf_model.specs.Walks.{darts}
@@ -16,15 +16,14 @@ use Rattle.surf_model.proofs.LinkLemmas.{Linked, together, round_linked}
 use Rattle.halfedge_map.specs.OrientedMeshes.{OrientedMesh, IsOrientedSurface}
 use Rattle.halfedge_map.specs.DartMaps.{darts_of, edge_of}
 use Rattle.halfedge_map.specs.RotationSystems.{rotations_of, IsDartFrom}
-use Rattle.halfedge_map.proofs.DartLemmas.{vertex_at}
 use Rattle.halfedge_map.proofs.EdgeLemmas.{dart_between}
-use Rattle.tree_cotree.specs.Splits.{SplitView, IsSplit, child_face, in_cotree}
+use Rattle.tree_cotree.specs.Splits.{SplitView, IsSplit, in_cotree}
 use Rattle.move_lifting.specs.Lifts.{LeadsAtPeak, AvoidsCotree}
 use Rattle.move_lifting.specs.Tracks.{TrackView, GoesOn, GrowsOrShrinks, last_of}
-use Rattle.move_lifting.specs.Crossings.{beyond, IsStepOf, IsFaceBelow, IsCrossed}
+use Rattle.move_lifting.specs.Crossings.{beyond, IsFaceBelow, IsCrossed}
 use Rattle.move_lifting.specs.declared.crossing.FaceStep.{FaceStep}
-use Rattle.move_lifting.proofs.ListLemmas.{front_and_last}
-use Rattle.move_lifting.proofs.MoveLemmas.{one_more}
+use Rattle.move_lifting.proofs.ListLemmas.{front_and_last, read_on, one_no_spur}
+use Rattle.move_lifting.proofs.MoveLemmas.{one_more, leads_nowhere}
 use Rattle.move_lifting.proofs.RoundLemmas.{before-from, rest_turned, rest_ends}
 use Rattle.move_lifting.proofs.RestLemmas.{load, load-join, load_long, pair_weight, pair_positive, pair_most, rest_falls}
 
@@ -365,3 +364,63 @@ room_across s split o t behind to begun track pending rest v steps step on poppe
       load_long s split t round,
       length-corners_from ring (not step.forward) step.corner (length ring - 1),
     )
+
+-- what holds while a walk is led off the cotree, dart by dart, when its first n entries are read
+pub record IsLedSoFar (s : OrientedMesh) (split : SplitView) (behind : ℕ) (walk : List ℕ) (begun : PeakedMoves) (track : TrackView) (n : ℕ) : Type 0 where
+  pub some : 0 < length track.walk
+  pub no_spur : HasNoSpur track.walk
+  pub off_cotree : AvoidsCotree s split track.walk
+  pub last : last_of track.walk ≡ get_or walk (n - 1) 0
+  pub goes : GoesOn s.mesh behind walk begun (track.walk ++ drop n walk) track.list
+
+pub led_first : (s : OrientedMesh) (split : SplitView) (behind : ℕ) (walk : List ℕ) (begun : PeakedMoves) (track : TrackView) (v : ℕ) → 0 < length walk
+    → get_or walk 0 0 ≡ v → track ≡ record { walk = v ∷ []; list = begun } → IsLedSoFar s split behind walk begun track 1
+led_first s split behind walk begun track v some is start =
+    let whole : walk ≡ v ∷ [] ++ drop 1 walk = drop_more walk 0 0 some ∙ ap (λ (x : ℕ). x ∷ drop 1 walk) is in
+    subst (λ (t : TrackView). IsLedSoFar s split behind walk begun t 1) (sym start)
+    (record {
+      some = omega arith;
+      no_spur = one_no_spur v;
+      off_cotree = λ k d l. absurd (omega arith);
+      last = sym is;
+      goes = λ first rest l h. subst (λ (w : List ℕ). LeadsAtPeak s.mesh first begun (w ++ rest)) whole h;
+    })
+
+pub led_more : (s : OrientedMesh) (split : SplitView) (behind : ℕ) (walk : List ℕ) (begun : PeakedMoves) (track new : TrackView) (n v after : ℕ)
+    → IsLedSoFar s split behind walk begun track n → n < length walk → get_or walk n 0 ≡ v → after ≡ length walk - n - 1 + behind
+    → GoesOn s.mesh after (track.walk ++ v ∷ []) track.list new.walk new.list → 0 < length new.walk → HasNoSpur new.walk → AvoidsCotree s split new.walk
+    → last_of new.walk ≡ v → IsLedSoFar s split behind walk begun new (n + 1)
+led_more s split behind walk begun track new n v after led l is counted goes some no_spur off last =
+    let place : n + 1 - 1 ≡ n = omega arith in
+    record {
+      some = some;
+      no_spur = no_spur;
+      off_cotree = off;
+      last = last ∙ sym is ∙ ap (λ (k : ℕ). get_or walk k 0) (sym place);
+      goes = λ first rest k h.
+          let there : LeadsAtPeak s.mesh first track.list (track.walk ++ drop n walk ++ rest) = led.goes first rest k h in
+          let read : track.walk ++ drop n walk ++ rest ≡ track.walk ++ v ∷ [] ++ (drop (n + 1) walk ++ rest) =
+          ap (λ (w : List ℕ). w ++ rest) (read_on track.walk walk n v l is) ∙ append_assoc (track.walk ++ v ∷ []) (drop (n + 1) walk) rest in
+          let count : length (drop (n + 1) walk ++ rest) ≡ after =
+          length-append (drop (n + 1) walk) rest ∙ omega (arith, length-drop (n + 1) walk, k, counted) in
+          subst (LeadsAtPeak s.mesh first new.list) (sym (append_assoc new.walk (drop (n + 1) walk) rest))
+          (goes first (drop (n + 1) walk ++ rest) count (subst (LeadsAtPeak s.mesh first track.list) read there));
+    }
+
+-- when all entries are read
+pub led_all : (s : OrientedMesh) (split : SplitView) (behind : ℕ) (walk : List ℕ) (begun : PeakedMoves) (track : TrackView) (n : ℕ)
+    → IsLedSoFar s split behind walk begun track n → n ≡ length walk
+    → GoesOn s.mesh behind walk begun track.walk track.list × (last_of track.walk ≡ last_of walk)
+led_all s split behind walk begun track n led all = (
+  subst (λ (w : List ℕ). GoesOn s.mesh behind walk begun w track.list)
+      (ap (λ (w : List ℕ). track.walk ++ w) (drop_all n walk (omega arith)) ∙ append-nil track.walk) led.goes,
+  led.last ∙ ap (λ (k : ℕ). get_or walk (k - 1) 0) all,
+)
+
+-- a walk that is led on from itself
+pub led_whole : (s : OrientedMesh) (walk vertices : List ℕ) (begun : PeakedMoves) (track : TrackView) → vertices ≡ walk
+    → begun ≡ record { moves = []; peak = darts walk } → GoesOn s.mesh 0 vertices begun track.walk track.list → LeadsAtPeak s.mesh walk track.list track.walk
+led_whole s walk vertices begun track same nowhere goes =
+    let start : LeadsAtPeak s.mesh walk begun (vertices ++ []) =
+    subst (LeadsAtPeak s.mesh walk begun) (sym (append-nil vertices ∙ same)) (leads_nowhere s.mesh walk begun nowhere) in
+    subst (LeadsAtPeak s.mesh walk track.list) (append-nil track.walk) (goes walk [] refl start)

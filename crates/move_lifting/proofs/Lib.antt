@@ -7,3 +7,6 @@ pub mod RoundLemmas
 pub mod RestLemmas
 pub mod CrossingLemmas
 pub mod ExpandLemmas
+pub mod TreeLiftLemmas
+pub mod CloseLemmas
+pub mod LiftLemmas

@@ -1,14 +1,14 @@
 -- The rest of a face below a cotree edge weighs less than the edge.
 use Rattle.std.proofs.Common.{◌≡◌, ◌≢◌, ◌⊎◌, inl, inr, ℕ, zero, suc, ◌+◌, ◌-◌, ◌<◌, ◌≤◌, Bool, true, false, not, ◌&&◌, eqb, cond, List, [], ◌∷◌, ◌++◌, length, get_or, refl, ap, sym, ◌∙◌, subst, arith, append_assoc}
-use Rattle.std.specs.Prelude.{Option, Some, None}
+use Rattle.std.specs.Prelude.{Some}
 use Rattle.std.proofs.lemmas.Bool.{cases_Bool, cases_eq, eqb-true, eq-eqb, and_parts}
-use Rattle.surf_model.specs.FaceLists.{FaceList, face_at, next_corner, corners_from}
+use Rattle.surf_model.specs.FaceLists.{face_at, next_corner, corners_from}
 use Rattle.surf_model.specs.Darts.{first_side}
 use Rattle.surf_model.specs.Surfaces.{is_flipped}
 use Rattle.surf_model.proofs.RoundLemmas.{corner_after, corners_before, last_corner, meet}
 use Rattle.halfedge_map.specs.OrientedMeshes.{OrientedMesh, IsOrientedSurface}
-use Rattle.halfedge_map.specs.DartMaps.{darts_of, twin_of, origin_of, target_of, edge_of, start_corner_of, end_corner_of}
-use Rattle.halfedge_map.specs.RotationSystems.{Rotations, rotations_of, IsRotationSystem, IsDartFrom}
+use Rattle.halfedge_map.specs.DartMaps.{darts_of, twin_of, origin_of, target_of, edge_of}
+use Rattle.halfedge_map.specs.RotationSystems.{rotations_of, IsRotationSystem, IsDartFrom}
 use Rattle.halfedge_map.proofs.NumberLemmas.{IsNumberOf, number_below}
 use Rattle.halfedge_map.proofs.CornerLemmas.{corner_within, corner_back}
 use Rattle.halfedge_map.proofs.DartLemmas.{face_at_number, origin_at, target_at, vertex_at, start_kept, start_flipped, end_kept, end_flipped}
@@ -18,7 +18,7 @@ use Rattle.halfedge_map.proofs.SystemLemmas.{rotation_system}
 use Rattle.tree_cotree.specs.Splits.{SplitView, IsSplit, child_face}
 use Rattle.move_lifting.proofs.CountLemmas.{sum_below}
 use Rattle.move_lifting.proofs.LoadLemmas.{weight, weight_positive, weight_most, AreBeside, weights_fall}
-use Rattle.move_lifting.proofs.RoundLemmas.{corner_after_suc, corner_in, corners_apart, before-from, corners_more}
+use Rattle.move_lifting.proofs.RoundLemmas.{corner_after_suc, corner_in, corners_apart, corners_more}
 
 -- the dart from one vertex to another
 pick_below : (ℕ → Bool) → ℕ → ℕ

@@ -1,7 +1,7 @@
 -- Steps round a face, and the face below an edge of the cotree.
 use Rattle.std.specs.Prelude.{◌≡◌, ◌≢◌, ◌⊎◌, ℕ, ◌+◌, ◌-◌, ◌<◌, true, false, max, List, [], ◌∷◌, ◌++◌, length, slice_index, Some}
 use Rattle.surf_model.specs.FaceLists.{FaceList, face_at, next_corner}
-use Rattle.surf_model.specs.Darts.{IsSide, tail_of}
+use Rattle.surf_model.specs.Darts.{tail_of}
 use Rattle.surf_model.specs.Walks.{darts}
 use Rattle.surf_model.specs.declared.edges.Side.{Side}
 use Rattle.surf_model.specs.declared.moves.Move.TheVariants.{Across}
@@ -47,7 +47,8 @@ beyond mesh step =
     corners_before face step.forward (next_corner step.forward (length face) step.corner) (length face - 1)
 
 -- the rest of the face comes to what is pending, and the move is noted
-pub record IsCrossed (mesh : FaceList) (step : FaceStep) (behind : ℕ) (old : TrackView) (pending : List ℕ) (new : TrackView) (left : List ℕ) : Type 0 where
+pub record IsCrossed (mesh : FaceList) (step : FaceStep) (behind : ℕ) (old : TrackView) (pending : List ℕ) (new : TrackView)
+    (left : List ℕ) : Type 0 where
   pub walk : new.walk ≡ old.walk
   pub comes : left ≡ pending ++ beyond mesh step
   pub list : new.list

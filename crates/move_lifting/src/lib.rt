@@ -3,8 +3,11 @@
 #![tactic(auto)]
 
 mod crossing;
-mod expand;
+pub mod expanding;
 pub mod lifted;
+pub mod lifting;
 mod track;
 
+pub use expanding::{MOST_LIFTED_DARTS, MOST_LIFTED_SIDES, expand};
 pub use lifted::{Lifted, reduce_free};
+pub use lifting::lift;

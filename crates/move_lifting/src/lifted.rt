@@ -1,5 +1,5 @@
 //! Walks with the moves that lead to them.
-ghost use Rattle.std.specs.Prelude.{◌≡◌, ◌<◌, ◌^◌, IfOk, All};
+ghost use Rattle.std.specs.Prelude.{◌≡◌, IfOk, All};
 ghost use Rattle.surf_model.specs.FaceLists.{FaceList};
 ghost use Rattle.surf_model.specs.FreeWalks.{HasNoSpur};
 ghost use Rattle.surf_model.specs.Walks.{darts, HaveCommonEnds};
@@ -21,7 +21,6 @@ pub struct Lifted {
 /// It goes over the walk once. The moves are allowed on every mesh; removals make no walk longer, so the peak is the
 /// number of darts of the walk.
 pub fn reduce_free(alloc: Global, walk: &Walk) -> Result<Lifted, AllocError>
-    requires { darts walk.now < 2 ^ 31 }
     ensures leads { IfOk result (λ lifted. (mesh : FaceList) → LeadsAtPeak mesh walk.now lifted.moves lifted.walk) }
     ensures no_spur { IfOk result (λ lifted. HasNoSpur lifted.walk) }
     ensures removals { IfOk result (λ lifted. All IsRemoval lifted.moves.moves) }

@@ -121,6 +121,18 @@ impl Track {
         self.moves.push(mv, darts)
     }
 
+    /// The moves.
+    pub(crate) fn into_moves(self) -> MoveList
+        ensures { result ≡ self.list }
+    {
+        let Track {
+            earlier: _,
+            last: _,
+            moves,
+        } = self;
+        moves
+    }
+
     /// The walk that is laid, with the moves.
     pub(crate) fn finish(self, alloc: Global) -> Result<Lifted, AllocError>
         requires { length self.walk ≤ 2 ^ 31 }

@@ -1,6 +1,6 @@
 use Rattle.surf_model.specs.Vertices.{numbers}
 use Rattle.move_lifting.proofs.ExpandLemmas.{IsUnderWay}
-use Rattle.move_lifting.proofs.expand.lead_on.Given as goal
+use Rattle.move_lifting.proofs.expanding.lead_on.Given as goal
 
 abbrev pub invariant-loop-step : goal.invariant-loop-step
 invariant-loop-step l = IsUnderWay l.surface l.split l.behind l.fn.to.0 l.fn.track l.track (numbers l.pending.items) l._step

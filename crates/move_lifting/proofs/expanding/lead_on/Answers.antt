@@ -1,4 +1,4 @@
-use Rattle.std.proofs.Common.{◌≡◌, ℕ, ◌+◌, ◌≤◌, ◌<◌, false, List, [], ◌∷◌, ◌++◌, length, sym, ap, ◌∙◌, subst, arith}
+use Rattle.std.proofs.Common.{◌≡◌, ℕ, ◌+◌, ◌≤◌, false, List, [], ◌∷◌, ◌++◌, length, sym, ap, ◌∙◌, subst, arith}
 use Rattle.surf_model.specs.FaceLists.{FaceList, face_at, is_edge}
 use Rattle.surf_model.specs.Vertices.{numbers}
 use Rattle.surf_model.specs.declared.names.VertexName.{VertexName}
@@ -8,8 +8,8 @@ use Rattle.tree_cotree.specs.Splits.{in_cotree}
 use Rattle.move_lifting.specs.Tracks.{last_of}
 use Rattle.move_lifting.specs.Crossings.{IsFaceBelow, IsCrossed}
 use Rattle.move_lifting.proofs.ExpandLemmas.{under_way, led_on, all_come, none_left, one_pending, length-numbers, next_edge, room_along, room_across, put_on_way, cross_on_way}
-use Rattle.move_lifting.proofs.expand.lead_on.Goals as goal
-use Rattle.move_lifting.proofs.expand.lead_on.Goals.{in-Some-face_below+in_ok-cross-in-Some-face_below, in-None+in_ok-put-in-None}
+use Rattle.move_lifting.proofs.expanding.lead_on.Goals as goal
+use Rattle.move_lifting.proofs.expanding.lead_on.Goals.{in-Some-face_below+in_ok-cross-in-Some-face_below, in-None+in_ok-put-in-None}
 
 pub loop-step-init : goal.loop-step-init
 loop-step-init c =

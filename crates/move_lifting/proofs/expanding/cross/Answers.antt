@@ -1,6 +1,6 @@
 use Rattle.std.proofs.Common.{arith}
 use Rattle.move_lifting.proofs.CrossingLemmas.{come_long}
-use Rattle.move_lifting.proofs.expand.cross.Goals as goal
+use Rattle.move_lifting.proofs.expanding.cross.Goals as goal
 
 pub overflow_cast-len : goal.overflow_cast-len
 overflow_cast-len c =

@@ -1,0 +1,29 @@
+use Rattle.std.proofs.Common.{◌≡◌, ℕ, ◌+◌, ◌-◌, ◌<◌, List, length, arith}
+use Rattle.std.proofs.lemmas.List.{get_or-map}
+use Rattle.surf_model.specs.Vertices.{numbers}
+use Rattle.surf_model.specs.declared.names.VertexName.{VertexName}
+use Rattle.move_lifting.proofs.ExpandLemmas.{led_more, led_all, length-numbers}
+use Rattle.move_lifting.proofs.expanding.lead_all.Goals as goal
+
+pub loop-place-preserved : goal.loop-place-preserved
+loop-place-preserved c =
+    let walk : List ℕ = numbers c.args.walk.now in
+    let n : ℕ = c.loop-place.place in
+    let within : n < length c.args.walk.now = omega (arith, c.loop-place-test.true) in
+    let long : length walk ≡ length c.args.walk.now = length-numbers c.args.walk.now in
+    let here : n < length walk = omega arith in
+    record {
+      led = led_more c.args.surface.now c.args.split.now c.args.behind walk c.args.moves c.loop-place.track c.lead_on.new.track n _
+          (length c.args.walk.now - n - 1 + c.args.behind) c.loop-place.invariant.led here
+          (get_or-map (λ (x : VertexName). x.0) c.args.walk.now n _ 0 within) (omega arith) c.in_ok-lead_on.ensures.leads c.in_ok-lead_on.ensures.some
+          c.in_ok-lead_on.ensures.no_spur c.in_ok-lead_on.ensures.off_cotree c.in_ok-lead_on.ensures.last;
+      pending = c.in_ok-lead_on.ensures.pending;
+      few = omega (arith, c.in_ok-lead_on.ensures.long, c.loop-place.invariant.few, c.requires.sides);
+    }
+
+pub returns-clause-leads : goal.returns-clause-leads
+returns-clause-leads c =
+    let all : c.loop-place.place ≡ length (numbers c.args.walk.now) =
+    omega (arith, c.loop-place-test.false, c.loop-place.auto.place-end, length-numbers c.args.walk.now, c.requires.walk.starts) in
+    (led_all c.args.surface.now c.args.split.now c.args.behind (numbers c.args.walk.now) c.args.moves c.loop-place.track c.loop-place.place
+    c.loop-place.invariant.led all).0

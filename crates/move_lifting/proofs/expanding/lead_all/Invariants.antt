@@ -1,0 +1,11 @@
+use Rattle.std.proofs.Common.{◌≡◌, ◌+◌, ◌*◌, ◌≤◌, [], length}
+use Rattle.surf_model.specs.Vertices.{numbers}
+use Rattle.move_lifting.proofs.ExpandLemmas.{IsLedSoFar}
+use Rattle.move_lifting.proofs.expanding.lead_all.Given as goal
+
+abbrev pub invariant-loop-place : goal.invariant-loop-place
+invariant-loop-place l = record {
+  led : IsLedSoFar l.surface l.split l.behind (numbers l.walk) l.fn.moves l.track l.place;
+  pending : l.pending.items ≡ [];
+  few : length l.track.walk ≤ 1 + l.place * 16384;
+}

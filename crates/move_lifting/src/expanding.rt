@@ -1,0 +1,159 @@
+//! Walks that are led off the cotree of a surface.
+ghost use Rattle.std.specs.Prelude.{◌≡◌, ◌+◌, ◌<◌, ◌≤◌, ◌^◌, [], ◌∷◌, ◌++◌, true, length, IfOk, OnOk};
+ghost use Rattle.surf_model.specs.FaceLists.{face_at, is_edge};
+ghost use Rattle.surf_model.specs.FreeWalks.{HasNoSpur};
+ghost use Rattle.surf_model.specs.Vertices.{numbers};
+ghost use Rattle.surf_model.specs.Walks.{IsWalk, HaveCommonEnds, darts};
+ghost use Rattle.halfedge_map.specs.DartMaps.{darts_of};
+ghost use Rattle.halfedge_map.specs.OrientedMeshes.{IsOrientedSurface};
+ghost use Rattle.tree_cotree.specs.Splits.{IsSplit};
+ghost use Rattle.move_lifting.specs.Lifts.{AvoidsCotree, LeadsAtPeak};
+ghost use Rattle.move_lifting.specs.Tracks.{GoesOn, last_of};
+ghost use Rattle.move_lifting.specs.Crossings.{IsStepOf, IsCrossed};
+
+use crate::crossing::{FaceStep, face_below, push_rest};
+use crate::lifted::Lifted;
+use crate::track::Track;
+use halfedge_map::Surface;
+use std::alloc::{AllocError, Global};
+use surf_model::{Faces, Move, MoveList, VertexName, Walk};
+use tree_cotree::Split;
+
+/// The most sides of a surface on which lists of moves are made.
+pub const MOST_LIFTED_SIDES: u32 = 16_384;
+
+/// The most darts of the walks between which a list of moves is made, together.
+pub const MOST_LIFTED_DARTS: u32 = 512;
+
+/// Leads a walk off the cotree of a surface: every dart on a cotree edge is replaced by the rest of the face below the
+/// edge, again and again, and spurs are taken out.
+///
+/// It goes over the walk once. The peak is that of the moves.
+pub fn expand(
+    alloc: Global,
+    surface: &Surface,
+    split: &Split,
+    walk: &Walk,
+) -> Result<Lifted, AllocError>
+    requires split { IsSplit surface.now split.now }
+    requires walk { IsWalk surface.now.mesh walk.now }
+    requires sides { darts_of surface.now ≤ MOST_LIFTED_SIDES }
+    requires few { darts walk.now ≤ MOST_LIFTED_DARTS }
+    ensures leads { IfOk result (λ lifted. LeadsAtPeak surface.now.mesh walk.now lifted.moves lifted.walk) }
+    ensures off_cotree { IfOk result (λ lifted. AvoidsCotree surface.now split.now lifted.walk) }
+    ensures no_spur { IfOk result (λ lifted. HasNoSpur lifted.walk) }
+    ensures ends { IfOk result (λ lifted. HaveCommonEnds walk.now lifted.walk) }
+{
+    let vertices = vertices_of(alloc, walk)?;
+    let moves = MoveList::new(alloc, walk.darts());
+    let track = lead_all(alloc, surface, split, &vertices, 0, moves)?;
+    track.finish(alloc)
+}
+
+/// The vertices of a walk.
+pub(crate) fn vertices_of(alloc: Global, walk: &Walk) -> Result<Vec<VertexName>, AllocError>
+    ensures { IfOk result (λ vertices. numbers vertices.items ≡ walk.now) }
+{
+    let mut vertices = Vec::new(alloc);
+    for place in 0..=walk.darts() {
+        vertices.push(walk.at(place))?;
+    }
+    Ok(vertices)
+}
+
+/// Leads a walk off the cotree, with `behind` entries behind it, by moves that come after those that led to it.
+pub(crate) fn lead_all(
+    alloc: Global,
+    surface: &Surface,
+    split: &Split,
+    walk: &[VertexName],
+    behind: u32,
+    moves: MoveList,
+) -> Result<Track, AllocError>
+    requires split { IsSplit surface.now split.now }
+    requires walk { IsWalk surface.now.mesh (numbers walk.now) }
+    requires sides { darts_of surface.now ≤ MOST_LIFTED_SIDES }
+    requires few { length walk.now ≤ MOST_LIFTED_DARTS + 1 }
+    requires behind { behind ≤ MOST_LIFTED_DARTS }
+    ensures leads { IfOk result (λ track. GoesOn surface.now.mesh behind (numbers walk.now) moves track.walk track.list) }
+    ensures off_cotree { IfOk result (λ track. AvoidsCotree surface.now split.now track.walk) }
+    ensures no_spur { IfOk result (λ track. HasNoSpur track.walk) }
+    ensures last { IfOk result (λ track. last_of track.walk ≡ last_of (numbers walk.now)) }
+    ensures some { IfOk result (λ track. 0 < length track.walk) }
+    ensures few { IfOk result (λ track. length track.walk < 2 ^ 31) }
+    // What holds of every surface.
+    ensures valid { IfOk result (λ _. IsOrientedSurface surface.now) }
+{
+    let mut track = Track::start(alloc, walk[0], moves);
+    let mut pending = Vec::with_capacity(alloc, surface.darts() as usize)?;
+    for place in 1..walk.len() {
+        let after = (walk.len() - place - 1) as u32 + behind;
+        lead_on(&mut track, &mut pending, surface, split, walk[place], after)?;
+    }
+    Ok(track)
+}
+
+/// Leads a track on to the vertex that stands next in the walk, with `behind` entries behind it, off the cotree: a step
+/// across a cotree edge is replaced by the rest of the face below, step by step.
+///
+/// `pending` is empty before and after: it keeps the vertices that are still to come, the next one last.
+fn lead_on(
+    track: &mut Track,
+    pending: &mut Vec<VertexName>,
+    surface: &Surface,
+    split: &Split,
+    to: VertexName,
+    behind: u32,
+) -> Result<(), AllocError>
+    requires split { IsSplit surface.now split.now }
+    requires pending { pending.old.items ≡ [] }
+    requires some { 0 < length track.old.walk }
+    requires no_spur { HasNoSpur track.old.walk }
+    requires off_cotree { AvoidsCotree surface.now split.now track.old.walk }
+    requires edge { is_edge surface.now.mesh (last_of track.old.walk) to.0 ≡ true }
+    requires room { length track.old.walk + darts_of surface.now + behind < 2 ^ 31 }
+    ensures pending { OnOk result (pending.new.items ≡ []) }
+    ensures some { OnOk result (0 < length track.new.walk) }
+    ensures no_spur { OnOk result (HasNoSpur track.new.walk) }
+    ensures off_cotree { OnOk result (AvoidsCotree surface.now split.now track.new.walk) }
+    ensures last { OnOk result (last_of track.new.walk ≡ to.0) }
+    ensures long { OnOk result (length track.new.walk ≤ length track.old.walk + darts_of surface.now) }
+    ensures leads { OnOk result (GoesOn surface.now.mesh behind (track.old.walk ++ to.0 ∷ []) track.old.list
+        track.new.walk track.new.list) }
+{
+    pending.push(to)?;
+    // With each step one of the darts below the edge goes for good, so there are no more steps than darts.
+    for _step in 0..surface.darts() {
+        let Some(next) = pending.pop() else {
+            return Ok(());
+        };
+        match face_below(surface, split, track.last(), next) {
+            Some(step) => cross(track, pending, surface.faces(), step, behind)?,
+            None => track.put(next, pending.len() as u32 + behind)?,
+        }
+    }
+    Ok(())
+}
+
+/// Replaces the step from the last vertex of a track, whose end is taken from `pending`, by the rest of its face.
+fn cross(
+    track: &mut Track,
+    pending: &mut Vec<VertexName>,
+    faces: &Faces,
+    step: FaceStep,
+    behind: u32,
+) -> Result<(), AllocError>
+    requires step { IsStepOf faces.now step }
+    requires room { length track.old.walk + length pending.old.items + length (face_at faces.now step.face.0) + behind < 2 ^ 31 }
+    ensures { OnOk result (IsCrossed faces.now step behind track.old (numbers pending.old.items) track.new (numbers pending.new.items)) }
+{
+    push_rest(pending, faces, step)?;
+    let across = Move::Across {
+        at: track.place(),
+        face: step.face,
+        corner: step.corner,
+        forward: step.forward,
+        taken: 1,
+    };
+    track.note(across, pending.len() as u32 + behind)
+}
