@@ -1,24 +1,27 @@
 -- How checks that follow one another end.
-use Rattle.std.proofs.Common.{◌≡◌, inl, inr, ℕ, ◌+◌, ◌<◌, List, [], ◌∷◌, length, refl, ap, ◌∙◌, arith}
-use Rattle.std.specs.Prelude.{Option, Some, None, IfSome, Result, Ok, Err, replicate}
+use Rattle.std.proofs.Common.{◌≡◌, ◌⊎◌, inl, inr, ℕ, ◌+◌, ◌<◌, List, [], ◌∷◌, length, refl, sym, ap, ◌∙◌, subst, arith}
+use Rattle.std.specs.Prelude.{Option, Some, None, IfSome, Result, Ok, Err, MatchResult, replicate}
 use Rattle.std.proofs.lemmas.List.{length-replicate}
 use Rattle.surf_io.specs.Files.{Files}
 use Rattle.surf_model.specs.FaceLists.{FaceList}
+use Rattle.homotopy_cli.specs.Causes.{Exactly}
 use Rattle.homotopy_cli.specs.Checks.{Check, Pass, Passes, file, meant, pass_unless, ◌>>=◌}
-use Rattle.homotopy_cli.specs.Inputs.{pair_in}
+use Rattle.homotopy_cli.specs.Inputs.{mesh_in, pair_in}
+use Rattle.off_reader.specs.OffTexts.{meaning_of}
+use Rattle.off_reader.specs.declared.off_fault.OffFault.{OffFault}
 use Rattle.walk_files.specs.NumberTexts.{walks_of}
 use Rattle.walk_files.specs.Pairs.{pair_fault}
 use Rattle.walk_files.specs.declared.fault.WalkFault.{WalkFault}
 use Rattle.walk_files.specs.declared.pair.PairFault.{PairFault}
 use Rattle.homotopy_cli.specs.declared.refusal.Input.TheVariants as inputs
-use Rattle.homotopy_cli.specs.declared.refusal.Refusal.TheVariants.{Walks, Pair}
+use Rattle.homotopy_cli.specs.declared.refusal.Refusal.TheVariants.{Off, Walks, Pair}
 use Rattle.homotopy_cli.specs.Stops.{Stops}
 use Rattle.homotopy_cli.specs.declared.stop.Stop.{Stop}
 use Rattle.homotopy_cli.specs.declared.stop.Stop.TheVariants.{Refused, ReadFault, OutOfMemory}
 
 -- what stops the first check stops the sequence
 pub stops_first : {A B : Type 0} (first : Check A) (next : A → Check B) (stop : Stop) → Stops first stop → Stops (first >>= next) stop
-stops_first first next (Refused refusal) h = inl (refusal, h, refl)
+stops_first first next (Refused refusal) h = (h.0, inl (h.0, h.1, refl), h.2)
 stops_first first next ReadFault h = tt
 stops_first first next OutOfMemory h = tt
 
@@ -26,20 +29,44 @@ stops_first first next OutOfMemory h = tt
 pub stops_next : {A B : Type 0} (first : Check A) (next : A → Check B) (thing : A) (stop : Stop) → first.Ends (Pass thing)
     → Stops (next thing) stop
     → Stops (first >>= next) stop
-stops_next first next thing (Refused refusal) p h = inr (thing, p, h)
+stops_next first next thing (Refused refusal) p h = (h.0, inr (thing, p, h.1), h.2)
 stops_next first next thing ReadFault p h = tt
 stops_next first next thing OutOfMemory p h = tt
+
+-- and however the next check ends, the sequence does
+pub next_end : {A B : Type 0} (first : Check A) (next : A → Check B) (thing : A) (result : Result B Stop) → first.Ends (Pass thing)
+    → MatchResult result (Passes (next thing)) (Stops (next thing))
+    → MatchResult result (Passes (first >>= next)) (Stops (first >>= next))
+next_end first next thing (Ok found) p h = inr (thing, p, h)
+next_end first next thing (Err stop) p h = stops_next first next thing stop p h
+
+-- a mesh file, by what its bytes mean
+pub mesh_end : (held : Option Files) (name bytes : List ℕ) (result : Result FaceList Stop) → Passes (file held name inputs.Mesh) bytes
+    → MatchResult result (λ mesh. meaning_of bytes ≡ Ok mesh)
+    (λ stop. (stop ≡ OutOfMemory) ⊎ ((fault : OffFault) × (meaning_of bytes ≡ Err fault) × (stop ≡ Refused (Off fault))))
+    → MatchResult result (Passes (mesh_in held name)) (Stops (mesh_in held name))
+mesh_end held name bytes (Ok mesh) p h = inr (bytes, p, rw h refl)
+mesh_end held name bytes (Err stop) p (inl e) = subst (Stops (mesh_in held name)) (sym e) tt
+mesh_end held name bytes (Err stop) p (inr f) =
+    subst (Stops (mesh_in held name)) (sym f.2) (Exactly (Off f.0), inr (bytes, p, rw f.1 refl), refl)
 
 -- a walk file that is refused for its text
 pub walks_stop : (held : Option Files) (name : List ℕ) (mesh : FaceList) (bytes : List ℕ) (fault : WalkFault) → Passes (file held name inputs.Walks) bytes
     → walks_of bytes ≡ Err fault → Stops (pair_in held name mesh) (Refused (Walks fault))
-walks_stop held name mesh bytes fault p e = inr (bytes, p, inl (Walks fault, rw e refl, refl))
+walks_stop held name mesh bytes fault p e = (Exactly (Walks fault), inr (bytes, p, inl (Exactly (Walks fault), rw e refl, refl)), refl)
+
+pub walks_text_stops : (held : Option Files) (name : List ℕ) (mesh : FaceList) (bytes : List ℕ) (stop : Stop) → Passes (file held name inputs.Walks) bytes
+    → (stop ≡ OutOfMemory) ⊎ ((fault : WalkFault) × (walks_of bytes ≡ Err fault) × (stop ≡ Refused (Walks fault)))
+    → Stops (pair_in held name mesh) stop
+walks_text_stops held name mesh bytes stop p (inl e) = subst (Stops (pair_in held name mesh)) (sym e) tt
+walks_text_stops held name mesh bytes stop p (inr f) =
+    subst (Stops (pair_in held name mesh)) (sym f.2) (walks_stop held name mesh bytes f.0 p f.1)
 
 -- a walk file whose walks are no pair
 pub pair_stops : (held : Option Files) (name : List ℕ) (mesh : FaceList) (bytes : List ℕ) (walks : List (List ℕ)) (fault : PairFault)
     → Passes (file held name inputs.Walks) bytes → walks_of bytes ≡ Ok walks → pair_fault mesh walks ≡ Some fault
     → Stops (pair_in held name mesh) (Refused (Pair fault))
-pair_stops held name mesh bytes walks fault p e f = inr (bytes, p, inr (walks, rw e refl, rw f refl))
+pair_stops held name mesh bytes walks fault p e f = (Exactly (Pair fault), inr (bytes, p, inr (walks, rw e refl, rw f refl)), refl)
 
 -- a walk file that passes
 pub pair_passes : (held : Option Files) (name : List ℕ) (mesh : FaceList) (bytes : List ℕ) (walks : List (List ℕ))

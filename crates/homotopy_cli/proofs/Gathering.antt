@@ -17,6 +17,7 @@ use Rattle.walk_files.specs.declared.limits.TheConstants.{MOST_PEAK}
 use Rattle.walk_files.proofs.EachLemmas.{before_ok, before_ok-more}
 use Rattle.walk_files.proofs.ReaderLemmas.{moves_left-started}
 use Rattle.surf_io.specs.Files.{Files}
+use Rattle.homotopy_cli.specs.Causes.{Exactly}
 use Rattle.homotopy_cli.specs.Checks.{Passes}
 use Rattle.homotopy_cli.specs.Inputs.{list_meant, moves_in as moves_from}
 use Rattle.homotopy_cli.specs.Stops.{Stops}
@@ -92,6 +93,16 @@ list-wrong text count peak fault e f = rw (e, f) refl
 pub left_start : (reader : Certificate) (text : List ℕ) (count peak : ℕ) → reader.text ≡ text → reader.head ≡ Moves count peak → reader.given ≡ 0
     → reader.refusal ≡ None → moves_left reader ≡ moves_of_text count text
 left_start reader text count peak is_text is_head is_given kept = rw (is_text, is_head, is_given, kept) (moves_left-started text count peak)
+
+-- a text whose head is refused
+pub head_stops : (text : List ℕ) (fault : CertFault) → head_of_text text ≡ Err fault
+    → Stops (list_meant (list_of_text text)) (Refused (refusals.Certificate fault))
+head_stops text fault e = (Exactly (refusals.Certificate fault), rw (list-err text fault e) refl, refl)
+
+-- a text whose head is that of labels
+pub labels_stop : (text : List ℕ) (degree : ℕ) → head_of_text text ≡ Ok (Labels degree)
+    → Stops (list_meant (list_of_text text)) (Refused refusals.NotBuilt)
+labels_stop text degree h = (Exactly refusals.NotBuilt, rw (list-labels text degree h) refl, refl)
 
 -- ---- the peak of a head is within the limit
 
@@ -171,4 +182,5 @@ gathered text count peak reader (Err stop) h left (inl e) = subst (Stops (list_m
 gathered text count peak reader (Err stop) h left (inr p) =
     let is : list_of_text text ≡ Some (Err p.0) = list-wrong text count peak p.0 h (sym left ∙ p.1) in
     subst (Stops (list_meant (list_of_text text))) (sym p.2)
-    (subst (λ (read : Option (Result PeakedMoves CertFault)). Stops (list_meant read) (Refused (refusals.Certificate p.0))) (sym is) refl)
+    (subst (λ (read : Option (Result PeakedMoves CertFault)). Stops (list_meant read) (Refused (refusals.Certificate p.0))) (sym is)
+    (Exactly (refusals.Certificate p.0), refl, refl))

@@ -1,5 +1,6 @@
 pub mod Checking
 pub mod Gathering
+pub mod Pieces
 pub mod Writing
 pub mod Verifying
 pub mod Sound

@@ -1,6 +1,6 @@
 -- The outcome of a list of words: that it is there, that it is one, and what follows for `verify`.
 use Rattle.std.proofs.Common.{◌≡◌, ◌↔◌, ◌⊎◌, inl, inr, ℕ, ◌≤◌, List, [], ◌∷◌, refl, sym, ap, ◌∙◌, subst, arith}
-use Rattle.std.specs.Prelude.{Option, Some, None, Result, Ok, Err, slice_index, slice_index_or}
+use Rattle.std.specs.Prelude.{Option, Some, None, Result, Ok, Err, MatchResult, slice_index, slice_index_or}
 use Rattle.surf_io.specs.Files.{Files}
 use Rattle.surf_model.specs.FaceLists.{FaceList}
 use Rattle.surf_model.specs.Moves.{PeakedMoves, Leads, greatest_darts}
@@ -16,27 +16,31 @@ use Rattle.walk_files.specs.declared.fault.CertFault.{CertFault}
 use Rattle.walk_files.specs.declared.fault.WalkFault.{WalkFault}
 use Rattle.walk_files.proofs.PairLemmas.{none_of_pair}
 use Rattle.homotopy_cli.specs.Answers.{Outcome, Judged}
-use Rattle.homotopy_cli.specs.Checks.{Refuse, Pass, IsTold, meant, pass_unless, ◌>>=◌}
+use Rattle.homotopy_cli.specs.Causes.{Exactly}
+use Rattle.homotopy_cli.specs.Checks.{Refuse, Pass, Passes, IsTold, found_or, refuse, meant, pass_unless, ◌>>=◌}
 use Rattle.homotopy_cli.specs.Commands.{Row, Surface, Decide, Certify, Verify, Reduce, Trial, IsRow}
 use Rattle.homotopy_cli.specs.Inputs.{mesh_in, pair_in, moves_in, list_meant, SpellsMesh, SpellsPair, SpellsList}
 use Rattle.homotopy_cli.specs.Outcomes.{answer_to, answer_of, IsOutcome, AllTold, IsAnswerOf, Answers}
 use Rattle.homotopy_cli.specs.Replies.{Replies, reply_status, reply_text}
 use Rattle.homotopy_cli.specs.Statuses.{verdict_status, IsAnswered}
 use Rattle.homotopy_cli.specs.Stops.{Stops}
-use Rattle.homotopy_cli.specs.Surface.{surface_in, surface}
+use Rattle.homotopy_cli.specs.Surface.{surface}
+use Rattle.homotopy_cli.specs.SurfaceInput.{surface_in}
 use Rattle.homotopy_cli.specs.Verify.{verify, IsVerifyInput}
 use Rattle.homotopy_cli.specs.declared.refusal.Input.TheVariants as inputs
 use Rattle.homotopy_cli.specs.declared.refusal.Refusal.{Refusal}
 use Rattle.homotopy_cli.specs.declared.refusal.Refusal.TheVariants.{Off, Walks, Pair, Certificate}
+use Rattle.homotopy_cli.specs.declared.refusal.Refusal.TheVariants as refusals
 use Rattle.homotopy_cli.specs.declared.reply.Reply.{Reply}
 use Rattle.homotopy_cli.specs.declared.reply.Reply.TheVariants as replies
 use Rattle.homotopy_cli.specs.declared.status.Status.{Status}
 use Rattle.homotopy_cli.specs.declared.status.Status.TheVariants.{Yes, WriteFault}
+use Rattle.homotopy_cli.specs.declared.stop.Stop.{Stop}
 use Rattle.homotopy_cli.specs.declared.stop.Stop.TheVariants as stops
-use Rattle.homotopy_cli.proofs.Checking.{pair_passes}
+use Rattle.homotopy_cli.proofs.Checking.{pair_passes, stops_next}
 use Rattle.homotopy_cli.proofs.MeshTexts.{mesh_valid}
 use Rattle.homotopy_cli.proofs.Sound.{IsSound, sound-then, sound-pass, sound-refuse, sound-found, sound-meant, sound-pass_unless, sound-file, held}
-use Rattle.homotopy_cli.proofs.Surfaces.{sound-closed}
+use Rattle.homotopy_cli.proofs.Surfaces.{sound-as_surface}
 
 -- ---- the rows
 
@@ -92,7 +96,9 @@ sound-moves held name = sound-then held _ _ (sound-file held name _) (λ bytes _
 -- ---- the commands
 
 sound-surface_in : (held : Option Files) (name : List ℕ) → IsSound held (surface_in held name)
-sound-surface_in held name = sound-then held _ _ (sound-mesh held name) (λ mesh h. sound-closed held mesh (mesh_valid held name mesh h))
+sound-surface_in held name =
+    sound-then held _ _ (sound-mesh held name)
+    (λ mesh h. sound-as_surface held mesh (mesh_valid held name mesh h))
 
 sound-surface : (held : Option Files) (name : List ℕ) → IsSound held (surface held name)
 sound-surface held name = sound-then held _ _ (sound-surface_in held name) (λ _ _. sound-refuse held _)
@@ -230,7 +236,30 @@ pub refusal_answers : (files : Option Files) (words : List (List ℕ)) (refusal 
     → Stops (answer_of files words) (stops.Refused refusal)
     → Answers files words (reply_status (replies.Refused refusal)) (reply_text (replies.Refused refusal))
 refusal_answers files words refusal h =
-    answers files words (Refuse refusal) (reply_status (replies.Refused refusal)) (reply_text (replies.Refused refusal)) h (record { status_is = refl; text_is = refl })
+    answers files words (Refuse h.0) (reply_status (replies.Refused refusal)) (reply_text (replies.Refused refusal)) h.1
+    (record { status_is = refl; text_is = (refusal, h.2, refl) })
+
+-- ---- the reply to a list of words
+
+-- words that are no row
+pub wrong_words : (files : Option Files) (words : List (List ℕ)) → ((row : Row) → IsRow words row → ⊥)
+    → Stops (answer_of files words) (stops.Refused refusals.WrongWords)
+wrong_words files words none = (Exactly refusals.WrongWords, inl (Exactly refusals.WrongWords, (none, refl), refl), refl)
+
+-- words that are a row: the reply is the one to the row
+pub row_end : (files : Option Files) (words : List (List ℕ)) (row : Row) (result : Result Reply Stop) → IsRow words row
+    → MatchResult result (Replies (answer_to files row)) (Stops (answer_to files row))
+    → MatchResult result (Replies (answer_of files words)) (Stops (answer_of files words))
+row_end files words row (Ok reply) is h = record { answer = h.answer; passes = inr (row, is, h.passes); is_answer = h.is_answer }
+row_end files words row (Err stop) is h = stops_next (found_or refusals.WrongWords (IsRow words)) (answer_to files) row stop is h
+
+-- a row that is not built
+pub not_built : {T : Type 0} → Stops (refuse {T = T} refusals.NotBuilt) (stops.Refused refusals.NotBuilt)
+not_built = (Exactly refusals.NotBuilt, refl, refl)
+
+pub surface_not_built : (files : Option Files) (name : List ℕ) (mesh : FaceList) → Passes (surface_in files name) mesh
+    → Stops (surface files name) (stops.Refused refusals.NotBuilt)
+surface_not_built files name mesh p = stops_next (surface_in files name) (λ _. refuse refusals.NotBuilt) mesh (stops.Refused refusals.NotBuilt) p not_built
 
 -- ---- the status of a run
 

@@ -3,6 +3,7 @@ use Rattle.std.proofs.Common.{◌≡◌, ◌⊎◌, inl, inr, ℕ, ◌<◌, ◌�
 use Rattle.std.specs.Prelude.{Option, Some, None, Result, Ok, Err, IfSome, IsSome, IsSomeAnd}
 use Rattle.std.proofs.lemmas.Bool.{cases_lt}
 use Rattle.surf_io.specs.Files.{Files, file_of}
+use Rattle.homotopy_cli.specs.Causes.{Exactly}
 use Rattle.homotopy_cli.specs.Checks.{Check, End, Refuse, Pass, Passes, IsTold, Holds, pass, refuse, file, found_or, meant, pass_unless, ◌>>=◌}
 use Rattle.homotopy_cli.specs.declared.inputs.TheConstants.{MOST_BYTES}
 use Rattle.homotopy_cli.specs.declared.refusal.Input.{Input}
@@ -17,7 +18,7 @@ pub record IsSound {T : Type 0} (held : Option Files) (check : Check T) : Type 0
 
 no_end : {A B : Type 0} (held : Option Files) (first : Check A) (next : A → Check B) → ((thing : A) → Passes first thing → IsSound held (next thing))
     → ((end : End B) → (first >>= next).Ends end → ⊥) → (end : End A) → first.Ends end → ⊥
-no_end held first next sound none (Refuse refusal) h = none (Refuse refusal) (inl (refusal, h, refl))
+no_end held first next sound none (Refuse cause) h = none (Refuse cause) (inl (cause, h, refl))
 no_end held first next sound none (Pass thing) h = (sound thing h).some (λ end more. none end (inr (thing, h, more)))
 
 one_end : {A B : Type 0} (held : Option Files) (first : Check A) (next : A → Check B) → ((x y : End A) → first.Ends x → first.Ends y → x ≡ y)
@@ -45,7 +46,7 @@ pub sound-pass : {T : Type 0} (held : Option Files) (thing : T) → IsSound held
 sound-pass held thing = record { some = λ none. none (Pass thing) refl; one = λ _ a b p q. p ∙ sym q }
 
 pub sound-refuse : {T : Type 0} (held : Option Files) (refusal : Refusal) → IsSound held (refuse {T = T} refusal)
-sound-refuse held refusal = record { some = λ none. none (Refuse refusal) refl; one = λ _ a b p q. p ∙ sym q }
+sound-refuse held refusal = record { some = λ none. none (Refuse (Exactly refusal)) refl; one = λ _ a b p q. p ∙ sym q }
 
 one_found : {T : Type 0} (refusal : Refusal) (P : T → Type 0) → ((x y : T) → P x → P y → x ≡ y) → (a b : End T)
     → (found_or refusal P).Ends a → (found_or refusal P).Ends b → a ≡ b
@@ -58,7 +59,7 @@ pub sound-found : {T : Type 0} (held : Option Files) (refusal : Refusal) (P : T 
     → IsSound held (found_or refusal P)
 sound-found held refusal P one =
     record {
-      some = λ none. none (Refuse refusal) (λ thing holds. none (Pass thing) holds, refl);
+      some = λ none. none (Refuse (Exactly refusal)) (λ thing holds. none (Pass thing) holds, refl);
       one = λ _ a b p q. one_found refusal P one a b p q;
     }
 
@@ -99,7 +100,7 @@ sound-file held name input =
   where
     some_end : ((end : End (List ℕ)) → (file held name input).Ends end → ⊥) → (bytes : List ℕ) → IfSome (file_of held name) (λ f. bytes ≡ f)
         → (MOST_BYTES < length bytes) ⊎ (length bytes ≤ MOST_BYTES) → ⊥
-    some_end none bytes agrees (inl large) = none (Refuse (TooLarge input)) (bytes, agrees, large, refl)
+    some_end none bytes agrees (inl large) = none (Refuse (Exactly (TooLarge input))) (bytes, agrees, large, refl)
     some_end none bytes agrees (inr small) = none (Pass bytes) (agrees, small)
 
 -- ---- a file that is told, within the limit, and of which this holds

@@ -16,14 +16,15 @@ use Rattle.homotopy_cli.specs.declared.stop.Stop.TheVariants.{Refused, ReadFault
 
 pub walks_stop : (held : Option Files) (mesh walks certificate : List ℕ) (faces : FaceList) (stop : Stop) → Passes (mesh_in held mesh) faces
     → Stops (pair_in held walks faces) stop → Stops (verify held mesh walks certificate) stop
-walks_stop held mesh walks certificate faces (Refused refusal) p h = inr (faces, p, inl (refusal, h, refl))
+walks_stop held mesh walks certificate faces (Refused refusal) p h = (h.0, inr (faces, p, inl (h.0, h.1, refl)), h.2)
 walks_stop held mesh walks certificate faces ReadFault p h = tt
 walks_stop held mesh walks certificate faces OutOfMemory p h = tt
 
 pub list_stops : (held : Option Files) (mesh walks certificate : List ℕ) (faces : FaceList) (pair : List (List ℕ)) (stop : Stop)
     → Passes (mesh_in held mesh) faces → Passes (pair_in held walks faces) pair → Stops (moves_in held certificate) stop
     → Stops (verify held mesh walks certificate) stop
-list_stops held mesh walks certificate faces pair (Refused refusal) p q h = inr (faces, p, inr (pair, q, inl (refusal, h, refl)))
+list_stops held mesh walks certificate faces pair (Refused refusal) p q h =
+    (h.0, inr (faces, p, inr (pair, q, inl (h.0, h.1, refl))), h.2)
 list_stops held mesh walks certificate faces pair ReadFault p q h = tt
 list_stops held mesh walks certificate faces pair OutOfMemory p q h = tt
 

@@ -1,14 +1,15 @@
 -- Checks: what is looked at, one thing after another, up to the first refusal.
 use Rattle.std.specs.Prelude.{◌≡◌, ℕ, ◌<◌, ◌≤◌, ◌⊎◌, List, length, Option, None, Some, IfSome, IsSome, IsSomeAnd, Result, Ok, Err, ⊤}
 use Rattle.surf_io.specs.Files.{Files, file_of}
+use Rattle.homotopy_cli.specs.Causes.{Cause, Exactly}
 use Rattle.homotopy_cli.specs.declared.inputs.TheConstants.{MOST_BYTES}
 use Rattle.homotopy_cli.specs.declared.refusal.Input.{Input}
 use Rattle.homotopy_cli.specs.declared.refusal.Refusal.{Refusal}
 use Rattle.homotopy_cli.specs.declared.refusal.Refusal.TheVariants.{TooLarge}
 
--- how a check of a thing ends: with a refusal, or with the thing
+-- how a check of a thing ends: with a cause to refuse, or with the thing
 pub data End (T : Type 0) : Type 0 where
-  Refuse : Refusal → End T
+  Refuse : Cause → End T
   Pass : T → End T
 
 -- a check of a thing
@@ -30,14 +31,14 @@ pass thing = without_files (λ end. end ≡ Pass thing)
 
 -- the refusal comes
 abbrev pub refuse : {T : Type 0} → Refusal → Check T
-refuse refusal = without_files (λ end. end ≡ Refuse refusal)
+refuse refusal = without_files (λ end. end ≡ Refuse (Exactly refusal))
 
 -- a thing of which this holds passes; where there is none, the refusal comes
 abbrev pub found_or : {T : Type 0} → Refusal → (T → Type 0) → Check T
 found_or {T} refusal P = without_files ends
   where
     ends : End T → Type 0
-    ends (Refuse given) = ((thing : T) → P thing → ⊥) × (given ≡ refusal)
+    ends (Refuse cause) = ((thing : T) → P thing → ⊥) × (cause ≡ Exactly refusal)
     ends (Pass thing) = P thing
 
 -- what is meant passes, and a fault in it is refused
@@ -59,7 +60,7 @@ abbrev pub file : Option Files → List ℕ → Input → Check (List ℕ)
 file held name input = record { Ends = ends; EachFile = λ P. P name }
   where
     ends : End (List ℕ) → Type 0
-    ends (Refuse refusal) = (bytes : List ℕ) × Agrees held name bytes × (MOST_BYTES < length bytes) × (refusal ≡ TooLarge input)
+    ends (Refuse cause) = (bytes : List ℕ) × Agrees held name bytes × (MOST_BYTES < length bytes) × (cause ≡ Exactly (TooLarge input))
     ends (Pass bytes) = Agrees held name bytes × (length bytes ≤ MOST_BYTES)
 
 -- one check after another: a refusal of the first is the end, and of what the first passes the next is made
@@ -67,7 +68,7 @@ infixl 10 ◌>>=◌
 abbrev pub ◌>>=◌ : {A B : Type 0} → Check A → (A → Check B) → Check B
 ◌>>=◌ {A} {B} first next =
     record {
-      Ends = λ end. ((refusal : Refusal) × first.Ends (Refuse refusal) × (end ≡ Refuse refusal))
+      Ends = λ end. ((cause : Cause) × first.Ends (Refuse cause) × (end ≡ Refuse cause))
           ⊎ ((thing : A) × first.Ends (Pass thing) × (next thing).Ends end);
       EachFile = λ P. first.EachFile P × ((thing : A) → first.Ends (Pass thing) → (next thing).EachFile P);
     }

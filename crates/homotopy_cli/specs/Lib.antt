@@ -1,3 +1,4 @@
+pub mod Causes
 pub mod Checks
 pub mod Commands
 pub mod Inputs
@@ -6,6 +7,7 @@ pub mod Refusals
 pub mod Texts
 pub mod Statuses
 pub mod Verify
+pub mod SurfaceInput
 pub mod Surface
 pub mod Outcomes
 pub mod Stops

@@ -2,6 +2,7 @@
 use Rattle.std.specs.Prelude.{ℕ, true, false, List, [], ◌∷◌, ◌++◌, codes, decimal, flat_map}
 use Rattle.manifold_check.specs.declared.fault.SurfaceFault.{SurfaceFault}
 use Rattle.manifold_check.specs.declared.fault.SurfaceFault.TheVariants as surfaces
+use Rattle.surf_model.specs.declared.chains.ChainLink.{ChainLink}
 use Rattle.off_reader.specs.declared.off_fault.OffFault.{OffFault}
 use Rattle.off_reader.specs.declared.off_fault.OffFault.TheVariants as off
 use Rattle.walk_files.specs.declared.fault.CertFault.{CertFault}
@@ -13,7 +14,7 @@ use Rattle.walk_files.specs.declared.pair.PairFault.TheVariants.{NotTwo, NoVerte
 use Rattle.homotopy_cli.specs.declared.refusal.Input.{Input}
 use Rattle.homotopy_cli.specs.declared.refusal.Input.TheVariants as inputs
 use Rattle.homotopy_cli.specs.declared.refusal.Refusal.{Refusal}
-use Rattle.homotopy_cli.specs.declared.refusal.Refusal.TheVariants.{WrongWords, NotBuilt, TooLarge, Off, NotClosed, Walks, Pair, Certificate}
+use Rattle.homotopy_cli.specs.declared.refusal.Refusal.TheVariants.{WrongWords, NotBuilt, TooLarge, Off, NotClosed, NotOrientable, Walks, Pair, Certificate}
 
 -- a phrase behind another
 abbrev pub behind_blank : List ℕ → List ℕ
@@ -61,6 +62,14 @@ surface_line (surfaces.Apart vertex other) = refused (codes "vertices" ∷ decim
 -- never printed
 surface_line surfaces.OutOfMemory = refused (codes "surface" ∷ [])
 
+-- a link of an odd chain: its face, and the two vertices of its edge
+abbrev pub link_phrases : ChainLink → List (List ℕ)
+link_phrases link = decimal link.face.0 ∷ decimal link.low.0 ∷ decimal link.high.0 ∷ []
+
+-- an odd chain
+abbrev pub odd_chain_line : List ChainLink → List ℕ
+odd_chain_line chain = refused (codes "not orientable" ∷ flat_map link_phrases chain)
+
 -- the fault of a text of which each line is a list of numbers
 abbrev pub numbers_line : List ℕ → WalkFault → List ℕ
 numbers_line what (walks.BadNumber number) = refused_at what number (codes "number")
@@ -97,6 +106,7 @@ refusal_line NotBuilt = refused (codes "not built" ∷ [])
 refusal_line (TooLarge input) = too_large_line input
 refusal_line (Off fault) = off_line fault
 refusal_line (NotClosed fault) = surface_line fault
+refusal_line (NotOrientable chain) = odd_chain_line chain
 refusal_line (Walks fault) = numbers_line (codes "walks") fault
 refusal_line (Pair fault) = pair_line fault
 refusal_line (Certificate fault) = certificate_line fault

@@ -16,7 +16,7 @@ verdict_status End = No
 
 -- the status of an outcome
 abbrev pub status_of : Outcome → Status
-status_of (Refuse refusal) = Refused
+status_of (Refuse cause) = Refused
 status_of (Pass (Judged verdict)) = verdict_status verdict
 
 -- the status tells that an answer was written whole

@@ -5,8 +5,10 @@ use Rattle.move_checker.specs.declared.fault.MoveFault.TheVariants.{Place, NoEdg
 use Rattle.move_checker.specs.declared.judge.Verdict.{Verdict}
 use Rattle.move_checker.specs.declared.judge.Verdict.TheVariants.{Accepted, Peak, AtMove, End}
 use Rattle.homotopy_cli.specs.Answers.{Outcome, Judged}
+use Rattle.homotopy_cli.specs.Causes.{Tells}
 use Rattle.homotopy_cli.specs.Checks.{Refuse, Pass}
 use Rattle.homotopy_cli.specs.Refusals.{line, refusal_line}
+use Rattle.homotopy_cli.specs.declared.refusal.Refusal.{Refusal}
 
 -- why a move is refused, in one word
 abbrev pub fault_word : MoveFault → List ℕ
@@ -25,5 +27,5 @@ verdict_line End = line (codes "rejected: end") []
 
 -- the text is one of those that the outcome may have
 abbrev pub IsText : Outcome → List ℕ → Type 0
-IsText (Refuse refusal) text = text ≡ refusal_line refusal
+IsText (Refuse cause) text = (refusal : Refusal) × Tells refusal cause × (text ≡ refusal_line refusal)
 IsText (Pass (Judged verdict)) text = text ≡ verdict_line verdict

@@ -6,13 +6,14 @@ mod command;
 mod inputs;
 mod laws;
 mod line;
+mod odd_chain_line;
 mod refusal;
 mod refusal_line;
 mod reply;
 mod run;
 mod status;
 mod stop;
-mod surface;
+mod surface_input;
 #[cfg(test)]
 mod tests;
 mod verify;

@@ -1,6 +1,7 @@
 //! Why an input is refused.
 use manifold_check::SurfaceFault;
 use off_reader::mesh::OffFault;
+use surf_model::OddChain;
 use walk_files::{CertFault, PairFault, WalkFault};
 
 /// A file that a command reads, by what it is to be.
@@ -15,7 +16,7 @@ pub enum Input {
 }
 
 /// Why an input is refused. A fault of want of memory never stands here.
-#[derive(Clone, Copy, Debug, PartialEq, Eq)]
+#[derive(Debug, Drop)]
 pub enum Refusal {
     /// The words are no command.
     WrongWords,
@@ -27,6 +28,8 @@ pub enum Refusal {
     Off(OffFault),
     /// The mesh is no closed surface.
     NotClosed(SurfaceFault),
+    /// The faces of the mesh cannot be listed coherently, as this odd chain shows.
+    NotOrientable(OddChain),
     /// The walks are not spelled as they should be.
     Walks(WalkFault),
     /// The walks are not two walks of the mesh with common ends.

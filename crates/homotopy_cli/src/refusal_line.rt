@@ -5,6 +5,7 @@ ghost use Rattle.homotopy_cli.specs.Refusals.{refused, refused_at, too_large_lin
 ghost use Rattle.homotopy_cli.specs.Replies.{phrase_text};
 
 use crate::line::{Phrase, put_line};
+use crate::odd_chain_line::put_odd_chain;
 use crate::refusal::{Input, Refusal};
 use manifold_check::SurfaceFault;
 use off_reader::mesh::OffFault;
@@ -12,20 +13,21 @@ use surf_io::{Failed, Sink};
 use walk_files::{CertFault, PairFault, WalkFault};
 
 /// Writes the line of a refusal.
-pub fn put_refusal<K: Sink>(out: &mut K, refusal: Refusal) -> Result<(), Failed>
-    ensures ok { OnOk result (WroteAll K.written out.old out.new (refusal_line refusal)) }
-    ensures failed { OnErr result (WrotePart K.written K.faults out.old out.new (refusal_line refusal)) }
+pub fn put_refusal<K: Sink>(out: &mut K, refusal: &Refusal) -> Result<(), Failed>
+    ensures ok { OnOk result (WroteAll K.written out.old out.new (refusal_line refusal.now)) }
+    ensures failed { OnErr result (WrotePart K.written K.faults out.old out.new (refusal_line refusal.now)) }
     ensures only_writes { OnlyWrites K.settled K.faults out.old out.new }
 {
     match refusal {
         Refusal::WrongWords => put_refused(out, &[Phrase::Text("words")]),
         Refusal::NotBuilt => put_refused(out, &[Phrase::Text("not built")]),
-        Refusal::TooLarge(input) => put_too_large(out, input),
-        Refusal::Off(fault) => put_off_fault(out, fault),
-        Refusal::NotClosed(fault) => put_surface_fault(out, fault),
-        Refusal::Walks(fault) => put_numbers_fault(out, "walks", fault),
-        Refusal::Pair(fault) => put_pair_fault(out, fault),
-        Refusal::Certificate(fault) => put_certificate_fault(out, fault),
+        Refusal::TooLarge(input) => put_too_large(out, *input),
+        Refusal::Off(fault) => put_off_fault(out, *fault),
+        Refusal::NotClosed(fault) => put_surface_fault(out, *fault),
+        Refusal::NotOrientable(chain) => put_odd_chain(out, chain),
+        Refusal::Walks(fault) => put_numbers_fault(out, "walks", *fault),
+        Refusal::Pair(fault) => put_pair_fault(out, *fault),
+        Refusal::Certificate(fault) => put_certificate_fault(out, *fault),
     }
 }
 

@@ -13,7 +13,7 @@ use move_checker::{MoveFault, Verdict};
 use surf_io::{Failed, Sink};
 
 /// What is written.
-#[derive(Clone, Copy, Debug, PartialEq, Eq)]
+#[derive(Debug, Drop)]
 pub enum Reply {
     /// Why the input is refused.
     Refused(Refusal),
@@ -29,17 +29,17 @@ pub fn give<K: Sink>(out: &mut K, reply: Reply) -> Status
     ensures write_fault { result ≡ Status.WriteFault → WrotePart K.written K.faults out.old out.new (reply_text reply) }
     ensures never_falls { K.faults out.old ≤ K.faults out.new }
 {
-    let Ok(()) = put_reply(out, reply) else {
+    let Ok(()) = put_reply(out, &reply) else {
         return Status::WriteFault;
     };
     let Ok(()) = out.flush() else {
         return Status::WriteFault;
     };
-    status_of_reply(reply)
+    status_of_reply(&reply)
 }
 
-fn status_of_reply(reply: Reply) -> Status
-    ensures { result ≡ reply_status reply }
+fn status_of_reply(reply: &Reply) -> Status
+    ensures { result ≡ reply_status reply.now }
 {
     match reply {
         Reply::Refused(_) => Status::Refused,
@@ -48,14 +48,14 @@ fn status_of_reply(reply: Reply) -> Status
     }
 }
 
-fn put_reply<K: Sink>(out: &mut K, reply: Reply) -> Result<(), Failed>
-    ensures ok { OnOk result (WroteAll K.written out.old out.new (reply_text reply)) }
-    ensures failed { OnErr result (WrotePart K.written K.faults out.old out.new (reply_text reply)) }
+fn put_reply<K: Sink>(out: &mut K, reply: &Reply) -> Result<(), Failed>
+    ensures ok { OnOk result (WroteAll K.written out.old out.new (reply_text reply.now)) }
+    ensures failed { OnErr result (WrotePart K.written K.faults out.old out.new (reply_text reply.now)) }
     ensures only_writes { OnlyWrites K.settled K.faults out.old out.new }
 {
     match reply {
         Reply::Refused(refusal) => put_refusal(out, refusal),
-        Reply::Judged(verdict) => put_verdict(out, verdict),
+        Reply::Judged(verdict) => put_verdict(out, *verdict),
     }
 }
 

@@ -2,8 +2,8 @@
 ghost use Rattle.std.specs.Prelude.{◌≡◌, ◌⊎◌, ◌≤◌, ℕ, List, length, Err, IfSome, MatchResult};
 ghost use Rattle.surf_io.specs.Calls.{OnlyReads, WroteAll, WrotePart};
 ghost use Rattle.surf_io.specs.Faults.{Rose};
-ghost use Rattle.homotopy_cli.specs.Commands.{texts};
-ghost use Rattle.homotopy_cli.specs.Outcomes.{Answers, LooksAtNone, answer_of};
+ghost use Rattle.homotopy_cli.specs.Commands.{row_of, texts};
+ghost use Rattle.homotopy_cli.specs.Outcomes.{Answers, LooksAtNone, answer_of, answer_to};
 ghost use Rattle.homotopy_cli.specs.Replies.{Replies};
 ghost use Rattle.homotopy_cli.specs.Statuses.{IsAnswered};
 ghost use Rattle.homotopy_cli.specs.Stops.{Stops};
@@ -14,7 +14,7 @@ use crate::refusal::Refusal;
 use crate::reply::{Reply, give};
 use crate::status::Status;
 use crate::stop::Stop;
-use crate::surface::read_surface;
+use crate::surface_input::read_surface;
 use crate::verify::verify;
 use std::alloc::Global;
 use surf_io::{Shelf, Sink};
@@ -68,16 +68,30 @@ fn find_answer<S: Shelf>(alloc: Global, words: &Vec<String>, shelf: &mut S) -> R
     ensures shelf_untouched { LooksAtNone (S.held shelf.old) (texts words.now.items) → shelf.new ≡ shelf.old }
     ensures only_reads { OnlyReads S.held S.faults shelf.old shelf.new }
 {
-    match read_command(words).ok_or(Refusal::WrongWords)? {
+    let Some(command) = read_command(words) else {
+        return Err(Stop::Refused(Refusal::WrongWords));
+    };
+    answer(alloc, shelf, command)
+}
+
+/// What is to be written as the answer to a command.
+fn answer<S: Shelf>(alloc: Global, shelf: &mut S, command: Command<'_>) -> Result<Reply, Stop>
+    ensures end { MatchResult result (Replies (answer_to (S.held shelf.old) (row_of command.entry)))
+        (Stops (answer_to (S.held shelf.old) (row_of command.entry))) }
+    ensures fault { result ≡ Err Stop.ReadFault → Rose (S.faults shelf.old) (S.faults shelf.new) }
+    ensures shelf_untouched { (answer_to (S.held shelf.old) (row_of command.entry)).EachFile (λ _. ⊥) → shelf.new ≡ shelf.old }
+    ensures only_reads { OnlyReads S.held S.faults shelf.old shelf.new }
+{
+    match command {
+        Command::Surface { mesh } => {
+            let _surface = read_surface(alloc, shelf, mesh)?;
+            Err(Stop::Refused(Refusal::NotBuilt))
+        }
         Command::Verify {
             mesh,
             walks,
             certificate,
         } => Ok(Reply::Judged(verify(alloc, shelf, mesh, walks, certificate)?)),
-        Command::Surface { mesh } => {
-            let _surface = read_surface(alloc, shelf, mesh)?;
-            Err(Stop::Refused(Refusal::NotBuilt))
-        }
         Command::Decide { .. }
         | Command::Certify { .. }
         | Command::Reduce { .. }

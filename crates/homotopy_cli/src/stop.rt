@@ -6,7 +6,7 @@ use std::alloc::AllocError;
 use walk_files::{CertFault, PairFault};
 
 /// What stops a command before it has an answer.
-#[derive(Clone, Copy, Debug, PartialEq, Eq)]
+#[derive(Debug, Drop)]
 pub enum Stop {
     /// The input is refused.
     Refused(Refusal),

@@ -241,6 +241,11 @@ fn faults_of_surfaces_are_named(rt: HostRuntime) -> Result<(), AllocError> {
         (open, "refused: edge 1 2 sides 1\n"),
         (PINCHED, "refused: vertex 0 pinched\n"),
         (APART, "refused: vertices 0 4 apart\n"),
+        // A face of six sides, two of which run the same way along one edge.
+        (
+            "4 2 0\n0 0 0\n0 0 0\n0 0 0\n0 0 0\n6 0 1 2 0 1 3\n4 0 3 1 2\n",
+            "refused: not orientable 0 0 1\n",
+        ),
         (TORUS, "refused: not built\n"),
     ];
     for (mesh, text) in &examples {
