@@ -10,3 +10,5 @@ pub mod RingLemmas
 pub mod SearchLemmas
 pub mod TreeLemmas
 pub mod SplittingLemmas
+pub mod EdgeTables
+pub mod GenusLemmas

@@ -1,6 +1,9 @@
 //! What holds of every split of a surface, however it was made, said of the definitions. A call of one of these
 //! functions does nothing; its contract is the law.
-ghost use Rattle.std.specs.Prelude.{◌≡◌, ◌≢◌, ℕ, ◌+◌, ◌*◌, ◌<◌, Bool, true, false, not, length};
+ghost use Rattle.std.specs.Prelude.{◌≡◌, ◌≢◌, ℕ, ◌+◌, ◌*◌, ◌<◌, Bool, true, false, not, List, length};
+ghost use Rattle.surf_model.specs.FaceLists.{FaceList, IsFaceList, is_used};
+ghost use Rattle.surf_model.specs.Edges.{Edge, IsTableOf};
+ghost use Rattle.surf_model.specs.Surfaces.{IsSurface};
 ghost use Rattle.halfedge_map.specs.Numbers.{count_below};
 ghost use Rattle.halfedge_map.specs.OrientedMeshes.{OrientedMesh, IsOrientedSurface};
 ghost use Rattle.halfedge_map.specs.DartMaps.{used_vertices};
@@ -22,6 +25,13 @@ pub fn split_leaves_one_ring()
 pub fn genus_is_exact()
     ensures { (surface : OrientedMesh) (split : SplitView) → IsOrientedSurface surface → IsSplit surface split
         → used_vertices surface + length surface.mesh.faces + 2 * split.genus ≡ length surface.table + 2 }
+{}
+
+/// Each connected orientable closed surface has a table of its edges, and a genus: used vertices, faces and twice the genus
+/// are two more than the edges.
+pub fn each_surface_has_a_genus()
+    ensures { (mesh : FaceList) → IsFaceList mesh → IsSurface mesh → (table : List Edge) × IsTableOf mesh table
+        × (genus : ℕ) × (count_below (is_used mesh) mesh.count + length mesh.faces + 2 * genus ≡ length table + 2) }
 {}
 
 /// The number of leftover edges is even, whatever tree and cotree are taken.
