@@ -2,6 +2,7 @@ pub mod PairLemmas
 pub mod MoveLines
 pub mod EachLemmas
 pub mod ListLemmas
+pub mod WordLists
 pub mod ReaderLemmas
 pub mod WrittenLemmas
 pub mod RoundTrip
