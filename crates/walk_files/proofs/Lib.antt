@@ -8,3 +8,5 @@ pub mod WrittenLemmas
 pub mod RoundTrip
 pub mod FewLemmas
 pub mod DenialLines
+pub mod GatherLemmas
+pub mod DenialRoundTrip

@@ -99,10 +99,10 @@ lines_from-written n ((word ∷ words) ∷ lines) all =
 
 -- ---- numbers that are written
 
-record IsDecimal (n : ℕ) (digits : List ℕ) : Type 0 where
-  filled : is_filled digits ≡ true
-  all : list_all is_digit digits ≡ true
-  value : value_of digits ≡ n
+pub record IsDecimal (n : ℕ) (digits : List ℕ) : Type 0 where
+  pub filled : is_filled digits ≡ true
+  pub all : list_all is_digit digits ≡ true
+  pub value : value_of digits ≡ n
 
 is_digit-below : (n : ℕ) → n < 10 → is_digit (48 + n) ≡ true
 is_digit-below n less = and_from (nat_le 48 (48 + n)) (nat_le (48 + n) 57) (le-leb 48 (48 + n) (omega arith)) (le-leb (48 + n) 57 (omega arith))
@@ -121,7 +121,7 @@ is_filled-push : (xs : List ℕ) (x : ℕ) → is_filled (xs ++ x ∷ []) ≡ tr
 is_filled-push [] x = refl
 is_filled-push (y ∷ xs) x = refl
 
-decimal_is : (n : ℕ) → n < 2 ^ 64 → IsDecimal n (decimal n)
+pub decimal_is : (n : ℕ) → n < 2 ^ 64 → IsDecimal n (decimal n)
 unfolding value_of
 decimal_is = decimal_by_steps IsDecimal
     (λ n less. record { filled = refl; all = and_from (is_digit (48 + n)) true (is_digit-below n less) refl; value = omega arith })

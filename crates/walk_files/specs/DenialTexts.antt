@@ -1,11 +1,11 @@
 -- How a denial is written.
-use Rattle.std.specs.Prelude.{◌≡◌, ℕ, ◌<◌, ◌^◌, Bool, true, if◌then◌else◌, List, [], ◌∷◌, map, codes, decimal, flat_map, All}
+use Rattle.std.specs.Prelude.{◌≡◌, ℕ, ◌<◌, ◌^◌, Bool, true, if◌then◌else◌, List, [], ◌∷◌, ◌++◌, map, codes, decimal, flat_map, All}
 use Rattle.std.specs.Fmt.{signed_decimal}
 use Rattle.text_scan.specs.Plain.{line_of}
 use Rattle.text_scan.specs.Numbers.{fits_i64}
 use Rattle.turn_words.specs.declared.word.Word.{Word}
 use Rattle.turn_words.specs.declared.word.Word.TheVariants.{Turns, Flat}
-use Rattle.quad_system.specs.Labellings.{FaceLabels}
+use Rattle.quad_system.specs.Labellings.{FaceLabels, LabellingView}
 use Rattle.quad_system.specs.declared.denial.Denial.{Denial}
 
 -- how the sign of a face is written
@@ -38,18 +38,34 @@ labels_head_words degree = codes "LABELS" ∷ decimal degree ∷ []
 abbrev pub lines_behind_faces : Denial → List (List (List ℕ))
 lines_behind_faces denial = places_words denial.labelling.places ∷ word_words denial.first ∷ word_words denial.second ∷ []
 
--- the lines of the faces, and of what comes behind them
-abbrev pub face_lines : List FaceLabels → List (List (List ℕ)) → List (List (List ℕ))
-face_lines [] behind = behind
-face_lines (face ∷ faces) behind = face_words face ∷ face_lines faces behind
-
 -- the lines of a denial: the head, one for each face, the places, and the two words
 abbrev pub denial_lines : Denial → List (List (List ℕ))
-denial_lines denial = labels_head_words denial.labelling.degree ∷ face_lines denial.labelling.faces (lines_behind_faces denial)
+denial_lines denial = labels_head_words denial.labelling.degree ∷ (map face_words denial.labelling.faces ++ lines_behind_faces denial)
 
 -- the text of a denial
 abbrev pub denial_text : Denial → List ℕ
 denial_text denial = flat_map line_of (denial_lines denial)
+
+-- ---- its parts, which private contracts cite alone
+
+-- a number behind a blank
+abbrev pub spaced : ℕ → List ℕ
+spaced n = 32 ∷ decimal n
+
+-- the first entry of a turn word, or `empty`
+abbrev pub first_entry : List ℕ → List ℕ
+first_entry [] = codes "empty"
+first_entry (entry ∷ entries) = decimal entry
+
+-- the lines up to the places
+abbrev pub labelling_text : LabellingView → List ℕ
+labelling_text labelling =
+    line_of (labels_head_words labelling.degree)
+    ++ (flat_map (λ face. line_of (face_words face)) labelling.faces ++ line_of (places_words labelling.places))
+
+-- the lines of the words
+abbrev pub words_text : Denial → List ℕ
+words_text denial = line_of (word_words denial.first) ++ line_of (word_words denial.second)
 
 -- ---- denials that read back
 

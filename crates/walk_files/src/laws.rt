@@ -1,10 +1,18 @@
-//! What holds of all lists of moves.
+//! What holds of all lists of moves and of all denials.
 ghost use Rattle.std.specs.Prelude.{◌≡◌, Some, Ok};
 ghost use Rattle.surf_model.specs.Moves.{PeakedMoves};
 ghost use Rattle.walk_files.specs.MoveTexts.{list_text, FitsFormat};
 ghost use Rattle.walk_files.specs.Certificates.{list_of_text};
+ghost use Rattle.quad_system.specs.declared.denial.Denial.{Denial};
+ghost use Rattle.walk_files.specs.DenialTexts.{denial_text, ReadsBack};
+ghost use Rattle.walk_files.specs.Denials.{denial_of_text};
 
 /// What was written reads back as the list that it was.
 pub fn written_lists_read_back()
     ensures { (list : PeakedMoves) → FitsFormat list → list_of_text (list_text list) ≡ Some (Ok list) }
+{}
+
+/// What was written reads back as the denial that it was, where its words are points exactly if its degree is 4.
+pub fn written_denials_read_back()
+    ensures { (denial : Denial) → ReadsBack denial → denial_of_text (denial_text denial) ≡ Some (Ok denial) }
 {}

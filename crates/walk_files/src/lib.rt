@@ -12,6 +12,7 @@
 
 mod certificate;
 mod denial;
+mod denial_writing;
 mod fault;
 pub mod laws;
 mod limits;
@@ -26,6 +27,7 @@ mod words;
 mod write;
 
 pub use certificate::CertHead;
+pub use denial_writing::write_denial;
 pub use fault::{CertFault, WalkFault};
 pub use limits::{MOST_ENTRIES, MOST_LINES, MOST_PEAK, MOST_WALK_VERTICES};
 pub use number_lines::NumberLines;

@@ -1,0 +1,207 @@
+-- A denial that was written is read again.
+use Rattle.std.proofs.Common.{◌≡◌, ℕ, zero, suc, ◌+◌, ◌^◌, ◌<◌, ◌==◌, Bool, true, false, List, [], ◌∷◌, ◌++◌, length, map, refl, ap, sym, subst, ◌∙◌, arith, append_assoc}
+use Rattle.std.specs.Prelude.{Some, None, Ok, Option, Result, decimal, codes, cond, All, ℤ, pos, negsuc, option_map, flat_map}
+use Rattle.std.specs.Fmt.{signed_decimal}
+use Rattle.std.specs.Str.{bytes_eq}
+use Rattle.std.specs.List.{list_all}
+use Rattle.std.proofs.lemmas.Bool.{and_parts, and_from, ne_eqb}
+use Rattle.std.proofs.lemmas.List.{append-nil}
+use Rattle.std.proofs.lemmas.List.Elements.{All-head, All-tail, All-cons, All-nil}
+use Rattle.text_scan.specs.Lines.{Line, is_filled, unmarked, lines_from, full_lines, end_line}
+use Rattle.text_scan.specs.Numbers.{is_digit, is_natural, value_of, natural_of, signed_of, fits_i64}
+use Rattle.text_scan.specs.Steps.{ends_word}
+use Rattle.turn_words.specs.declared.word.Word.{Word}
+use Rattle.turn_words.specs.declared.word.Word.TheVariants.{Turns, Flat}
+use Rattle.quad_system.specs.Labellings.{FaceLabels, LabellingView}
+use Rattle.quad_system.specs.declared.denial.Denial.{Denial}
+use Rattle.walk_files.specs.Each.{each_some}
+use Rattle.walk_files.specs.declared.certificate.CertHead.TheVariants.{Labels}
+use Rattle.walk_files.specs.declared.fault.CertFault.{CertFault}
+use Rattle.walk_files.specs.NumberTexts.{number_of, entries_of}
+use Rattle.walk_files.specs.Certificates.{head_of, head_among, behind_head, head_of_text, fitting_head}
+use Rattle.walk_files.specs.Denials.{sign_of, face_of, is_places, places_of, integer_of, point_of, word_of, words_in, denial_in, unlabelled, denial_behind, denial_of_text}
+use Rattle.walk_files.specs.DenialTexts.{sign_word, face_words, places_words, entry_words, word_words, labels_head_words, lines_behind_faces, denial_lines, denial_text, AreNumbers, FitsDegree, ReadsBack}
+use Rattle.walk_files.proofs.WrittenLemmas.{IsWritable, IsLine, IsDecimal, decimal_is, numbered, lines_from-written, decimal-writable, number_below-decimal}
+
+-- ---- the words that are written
+
+decimals-writable : (numbers : List ℕ) → AreNumbers numbers → All IsWritable (map decimal numbers)
+decimals-writable [] small = All-nil IsWritable
+decimals-writable (n ∷ numbers) small =
+    let fits : n < 2 ^ 32 = All-head (λ m. m < 2 ^ 32) n numbers small in
+    All-cons IsWritable (decimal n) (map decimal numbers) (decimal-writable n (omega (arith, fits))) (decimals-writable numbers (All-tail (λ m. m < 2 ^ 32) n numbers small))
+
+sign-writable : (flipped : Bool) → IsWritable (sign_word flipped)
+sign-writable true = record { filled = refl; inside = refl }
+sign-writable false = record { filled = refl; inside = refl }
+
+face-line : (face : FaceLabels) → AreNumbers face.labels → IsLine (face_words face)
+face-line face small = record {
+  filled = refl;
+  writable = All-cons IsWritable (sign_word face.flipped) (map decimal face.labels) (sign-writable face.flipped) (decimals-writable face.labels small);
+}
+
+places-line : (places : List ℕ) → AreNumbers places → IsLine (places_words places)
+places-line places small = record {
+  filled = refl;
+  writable = All-cons IsWritable (codes "places") (map decimal places) (record { filled = refl; inside = refl }) (decimals-writable places small);
+}
+
+-- an integer of 64 bits, and its digits
+below-64 : (z : ℤ) → fits_i64 z ≡ true → IsWritable (signed_decimal z)
+below-64 (pos n) fits = decimal-writable n (grind (arith, fits))
+below-64 (negsuc n) fits =
+    let digits : IsWritable (decimal (suc n)) = decimal-writable (suc n) (grind (arith, fits)) in
+    record { filled = refl; inside = digits.inside }
+
+word-line : (degree : ℕ) (word : Word) → FitsDegree degree word → IsLine (word_words word)
+word-line degree (Turns []) fits =
+    record { filled = refl; writable = All-cons IsWritable (codes "empty") [] (record { filled = refl; inside = refl }) (All-nil IsWritable) }
+word-line degree (Turns (entry ∷ entries)) fits = record { filled = refl; writable = decimals-writable (entry ∷ entries) fits.1 }
+word-line degree (Flat x y) fits = record {
+  filled = refl;
+  writable =
+      All-cons IsWritable (signed_decimal x) (signed_decimal y ∷ []) (below-64 x fits.1)
+      (All-cons IsWritable (signed_decimal y) [] (below-64 y fits.2) (All-nil IsWritable));
+}
+
+-- ---- what is read of them
+
+numbers-read : (numbers : List ℕ) → AreNumbers numbers → each_some number_of (map decimal numbers) ≡ Some numbers
+numbers-read [] small = refl
+numbers-read (n ∷ numbers) small =
+    let fits : n < 2 ^ 32 = All-head (λ m. m < 2 ^ 32) n numbers small in
+    rw (number_below-decimal (2 ^ 32) n fits (omega (arith, fits)), numbers-read numbers (All-tail (λ m. m < 2 ^ 32) n numbers small)) refl
+
+sign-read : (flipped : Bool) → sign_of (sign_word flipped) ≡ Some flipped
+sign-read true = refl
+sign-read false = refl
+
+face-read : (face : FaceLabels) → AreNumbers face.labels → face_of (face_words face) ≡ Some face
+face-read face small = rw (sign-read face.flipped, numbers-read face.labels small) refl
+
+no_places : (face : FaceLabels) → is_places (face_words face) ≡ false
+no_places face = by_sign face.flipped
+  where
+    by_sign : (flipped : Bool) → bytes_eq (sign_word flipped) (codes "places") ≡ false
+    by_sign true = refl
+    by_sign false = refl
+
+-- digits are not the word `empty`, and begin with no minus
+digits-no_empty : (word : List ℕ) → list_all is_digit word ≡ true → bytes_eq word (codes "empty") ≡ false
+digits-no_empty [] digits = refl
+digits-no_empty (byte ∷ word) digits =
+    let first = (and_parts (is_digit byte) (list_all is_digit word) digits).0 in
+    not_e byte first
+  where
+    not_e : (byte : ℕ) → is_digit byte ≡ true → bytes_eq (byte ∷ word) (codes "empty") ≡ false
+    not_e byte digit = let other : (byte == 101) ≡ false = grind (arith, digit) in rw other refl
+
+entries-read : (entries : List ℕ) → AreNumbers entries → entries_of (entry_words entries) ≡ Some entries
+entries-read [] small = refl
+entries-read (entry ∷ []) small =
+    let fits : entry < 2 ^ 32 = All-head (λ m. m < 2 ^ 32) entry [] small in
+    let digits = (decimal_is entry (omega (arith, fits))).all in
+    ap (λ b. cond b (Some []) (each_some number_of (decimal entry ∷ []))) (digits-no_empty (decimal entry) digits) ∙ numbers-read (entry ∷ []) small
+entries-read (entry ∷ next ∷ entries) small = numbers-read (entry ∷ next ∷ entries) small
+
+natural-read : (n : ℕ) → n < 2 ^ 64 → natural_of (decimal n) ≡ Some n
+unfolding is_natural
+natural-read n fits =
+    let d = decimal_is n fits in
+    let natural : is_natural (decimal n) ≡ true = and_from (is_filled (decimal n)) (list_all is_digit (decimal n)) d.filled d.all in
+    rw (natural, d.value) refl
+
+no_minus : (word : List ℕ) → is_filled word ≡ true → list_all is_digit word ≡ true → signed_of word ≡ option_map pos (natural_of word)
+no_minus [] filled digits = cc
+no_minus (byte ∷ word) filled digits =
+    let first = (and_parts (is_digit byte) (list_all is_digit word) digits).0 in
+    let other : (byte == 45) ≡ false = no byte first in
+    rw other refl
+  where
+    no : (byte : ℕ) → is_digit byte ≡ true → (byte == 45) ≡ false
+    no byte digit = grind (arith, digit)
+
+integer-read : (z : ℤ) → fits_i64 z ≡ true → integer_of (signed_decimal z) ≡ Some z
+integer-read (pos n) fits =
+    let few : n < 2 ^ 64 = grind (arith, fits) in
+    let d = decimal_is n few in
+    rw (no_minus (decimal n) d.filled d.all, natural-read n few, fits) refl
+integer-read (negsuc n) fits =
+    let few : suc n < 2 ^ 64 = grind (arith, fits) in
+    rw (natural-read (suc n) few, fits) refl
+
+word-read : (degree : ℕ) (word : Word) → FitsDegree degree word → word_of degree (word_words word) ≡ Some word
+word-read degree (Turns entries) fits = rw (ne_eqb degree 4 fits.0, entries-read entries fits.1) refl
+word-read degree (Flat x y) fits = subst (λ d. word_of d (word_words (Flat x y)) ≡ Some (Flat x y)) (sym fits.0) (rw (integer-read x fits.1, integer-read y fits.2) refl)
+
+-- ---- the lines
+
+words-read : (end n degree : ℕ) (denial : Denial) (faces : List FaceLabels) → ReadsBack denial → faces ≡ denial.labelling.faces
+    → denial_in end (record { degree = denial.labelling.degree; faces = faces; places = [] }) (numbered n (lines_behind_faces denial)) ≡ Ok denial
+words-read end n degree denial faces back same =
+    rw (
+      numbers-read denial.labelling.places back.places,
+      word-read denial.labelling.degree denial.first back.first,
+      word-read denial.labelling.degree denial.second back.second,
+      same,
+    ) refl
+
+faces-read : (end n : ℕ) (denial : Denial) (done faces : List FaceLabels) → ReadsBack denial → All (λ face. AreNumbers face.labels) faces
+    → done ++ faces ≡ denial.labelling.faces
+    → denial_in end (record { degree = denial.labelling.degree; faces = done; places = [] }) (numbered n (map face_words faces ++ lines_behind_faces denial))
+    ≡ Ok denial
+faces-read end n denial done [] back small whole = words-read end n denial.labelling.degree denial done back (sym (append-nil done) ∙ whole)
+faces-read end n denial done (face ∷ faces) back small whole =
+    let here : AreNumbers face.labels = All-head (λ (f : FaceLabels). AreNumbers f.labels) face faces small in
+    rw (no_places face, face-read face here)
+    (faces-read end (n + 1) denial (done ++ face ∷ []) faces back (All-tail (λ (f : FaceLabels). AreNumbers f.labels) face faces small)
+    (append_assoc done (face ∷ []) faces ∙ whole))
+
+-- ---- the whole text
+
+faces-lines : (denial : Denial) (faces : List FaceLabels) → ReadsBack denial → All (λ face. AreNumbers face.labels) faces
+    → All IsLine (map face_words faces ++ lines_behind_faces denial)
+faces-lines denial [] back small =
+    All-cons IsLine (places_words denial.labelling.places) (word_words denial.first ∷ word_words denial.second ∷ []) (places-line denial.labelling.places back.places)
+    (All-cons IsLine (word_words denial.first) (word_words denial.second ∷ []) (word-line denial.labelling.degree denial.first back.first)
+    (All-cons IsLine (word_words denial.second) [] (word-line denial.labelling.degree denial.second back.second) (All-nil IsLine)))
+faces-lines denial (face ∷ faces) back small =
+    All-cons IsLine (face_words face) (map face_words faces ++ lines_behind_faces denial)
+    (face-line face (All-head (λ (f : FaceLabels). AreNumbers f.labels) face faces small))
+    (faces-lines denial faces back (All-tail (λ (f : FaceLabels). AreNumbers f.labels) face faces small))
+
+head-line : (degree : ℕ) → degree < 2 ^ 32 → IsLine (labels_head_words degree)
+head-line degree fits = record {
+  filled = refl;
+  writable =
+      All-cons IsWritable (codes "LABELS") (decimal degree ∷ []) (record { filled = refl; inside = refl })
+      (All-cons IsWritable (decimal degree) [] (decimal-writable degree (omega (arith, fits))) (All-nil IsWritable));
+}
+
+head-read : (degree : ℕ) → degree < 2 ^ 32 → head_of (labels_head_words degree) ≡ Some (Labels degree)
+head-read degree fits = rw (number_below-decimal (2 ^ 32) degree fits (omega (arith, fits))) refl
+
+unmarked-denial_text : (denial : Denial) → unmarked (denial_text denial) ≡ denial_text denial
+unfolding unmarked
+unmarked-denial_text denial = refl
+
+full_lines-denial_text : (denial : Denial) → ReadsBack denial
+    → full_lines (denial_text denial)
+    ≡ record { number = 1; words = labels_head_words denial.labelling.degree } ∷ numbered 2 (map face_words denial.labelling.faces ++ lines_behind_faces denial)
+full_lines-denial_text denial back =
+    ap (lines_from 1) (unmarked-denial_text denial)
+    ∙ lines_from-written 1 (denial_lines denial)
+    (All-cons IsLine (labels_head_words denial.labelling.degree) (map face_words denial.labelling.faces ++ lines_behind_faces denial)
+    (head-line denial.labelling.degree back.degree) (faces-lines denial denial.labelling.faces back back.labels))
+
+pub denial_of_text-denial_text : (denial : Denial) → ReadsBack denial → denial_of_text (denial_text denial) ≡ Some (Ok denial)
+denial_of_text-denial_text denial back =
+    let lines = full_lines-denial_text denial back in
+    let end = end_line (denial_text denial) in
+    let degree = denial.labelling.degree in
+    let head : head_of_text (denial_text denial) ≡ Ok (Labels degree) =
+    ap (head_among end) lines ∙ ap (fitting_head None 1) (head-read degree back.degree) in
+    ap (λ h. denial_behind h (denial_text denial)) head
+    ∙ ap (λ ls. Some (denial_in end (unlabelled degree) (behind_head ls))) lines
+    ∙ ap (λ (r : Result Denial CertFault). Some r) (faces-read end 2 denial [] denial.labelling.faces back back.labels refl)

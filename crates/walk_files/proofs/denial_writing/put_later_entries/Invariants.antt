@@ -1,0 +1,9 @@
+use Rattle.std.proofs.Common.{drop, ◌-◌}
+use Rattle.walk_files.specs.DenialTexts.{spaced}
+use Rattle.walk_files.proofs.GatherLemmas.{EachPut}
+use Rattle.walk_files.proofs.denial_writing.put_later_entries.Given as goal
+
+-- the entries so far, behind the first, were put
+abbrev pub invariant-loop-k : goal.invariant-loop-k
+invariant-loop-k g l =
+    EachPut g.K.Sink.written g.K.Sink.settled g.K.Sink.faults l.initial.sink l.sink l.initial.piece l.piece spaced (drop 1 l.word) (l.k - 1)
