@@ -39,4 +39,6 @@ pub use words::read_words;
 pub use write::write_moves;
 
 #[cfg(test)]
+mod denial_tests;
+#[cfg(test)]
 mod tests;

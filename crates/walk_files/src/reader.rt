@@ -1,5 +1,5 @@
 //! A reader that gives the moves of a certificate one by one, or its denial.
-ghost use Rattle.std.specs.Prelude.{◌≡◌, ◌⊎◌, ◌^◌, ◌<◌, length, IsTrue, false, None, Err};
+ghost use Rattle.std.specs.Prelude.{◌≡◌, ◌⊎◌, ◌^◌, ◌<◌, length, IsTrue, IfOk, false, None, Err};
 ghost use Rattle.walk_files.specs.Certificates.{head_of_text};
 ghost use Rattle.walk_files.specs.declared.fault.CertFault.TheVariants.{OutOfMemory};
 
@@ -46,7 +46,9 @@ impl<'a> CertReader<'a> {
 
     /// Reads the lines up to the head.
     pub fn start(bytes: &'a [u8]) -> Result<CertReader<'a>, CertFault>
-        ensures { result ≡ started bytes.now (head_of_text bytes.now) }
+        ensures started { result ≡ started bytes.now (head_of_text bytes.now) }
+        // So no denial was given yet.
+        ensures fresh { IfOk result (λ reader. (reader.text ≡ bytes.now) × (reader.denied ≡ false) × (reader.refusal ≡ None)) }
     {
         let mut cursor = Cursor::new(bytes);
         let head = read_head(&mut cursor)?;

@@ -3,3 +3,4 @@ pub mod FoldingLemmas
 pub mod WordLemmas
 pub mod LabelLemmas
 pub mod DecidingLemmas
+pub mod VerdictLemmas

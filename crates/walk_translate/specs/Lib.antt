@@ -1,2 +1,3 @@
 pub mod Spokes
 pub mod SurfaceLabels
+pub mod DenialVerdicts

@@ -49,7 +49,7 @@ pub fn decide(
 }
 
 /// Tells whether two words are one.
-fn are_same(one: &Word, other: &Word) -> bool
+pub(crate) fn are_same(one: &Word, other: &Word) -> bool
     ensures { IsTrue result ↔ (one.now ≡ other.now) }
 {
     match (one, other) {

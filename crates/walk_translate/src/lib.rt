@@ -2,11 +2,13 @@
 //! homotopic.
 #![tactic(auto)]
 
+mod checking;
 mod deciding;
 mod folding;
 mod labels;
 mod word;
 
+pub use checking::{DenialVerdict, check_denial};
 pub use deciding::{Answer, decide};
 pub use folding::fold;
 pub use labels::label_surface;

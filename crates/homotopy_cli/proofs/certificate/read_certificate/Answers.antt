@@ -9,7 +9,7 @@ pub returns-clause-end : goal.returns-clause-end
 returns-clause-end c =
     let text = c.args.bytes.now in
     let reader = c.in_ok-reader.reader in
-    let started = started_ok text (head_of_text text) reader c.in_ok-reader.ensures in
+    let started = started_ok text (head_of_text text) reader c.in_ok-reader.ensures.started in
     let head = sym c.in-Moves.ensures in
     gathered text c.in-Moves.count c.in-Moves.peak reader c.gather.result (started.0 ∙ ap Ok head)
     (left_start reader text c.in-Moves.count c.in-Moves.peak started.1 head started.2 started.3) c.gather.ensures
