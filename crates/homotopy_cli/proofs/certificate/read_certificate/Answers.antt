@@ -19,10 +19,10 @@ returns-in_err-reader-clause-end c =
     let text = c.args.bytes.now in
     let fault = c.in_err-reader.field-0.0 in
     let p = err_from_is_err_and c.from_residual.result c.from_residual.ensures.1 in
-    rw (p.1, p.2) (head_stops text fault (started_err text (head_of_text text) fault c.in_err-reader.ensures))
+    rw (p.1, p.2) (head_stops text fault (started_err text (head_of_text text) fault c.in_err-reader.ensures.started))
 
 pub returns-in_default-clause-end : goal.returns-in_default-clause-end
 returns-in_default-clause-end c =
     let text = c.args.bytes.now in
-    let started = started_ok text (head_of_text text) c.in_ok-reader.reader c.in_ok-reader.ensures in
+    let started = started_ok text (head_of_text text) c.in_ok-reader.reader c.in_ok-reader.ensures.started in
     labels_stop text c.in_default.field-0 (started.0 ∙ ap Ok (sym c.in_default.ensures))
