@@ -13,30 +13,9 @@ use Rattle.surf_model.specs.declared.moves.Move.TheVariants.{Insert, Remove, Acr
 use Rattle.surf_model.proofs.ReplacementLemmas.{by_replacing}
 use Rattle.surf_model.proofs.ContextLemmas.{list_in_context, one_after_another}
 use Rattle.surf_model.proofs.WayBackLemmas.{list_undone}
+use Rattle.surf_model.proofs.FreeWalkLemmas.{spurs_raised, spurs_back}
 use Rattle.polygon_cut.proofs.GroupLemmas.{IsGroup}
 use Rattle.polygon_cut.proofs.LoopLemmas.{IsWay, back, way_walk, start_used, end_used, way_on, way_home, back-append, back_back, append_none, Loop, loop_mul, loop_inv, loop_one, loop_start, HasWays, loop_of}
-
--- spur moves stay spur moves in a longer walk, and on the way back
-spur_raised : (n : ℕ) (move : Move) → IsSpurMove move → IsSpurMove (raised n move)
-spur_raised n (Insert at via) spur = tt
-spur_raised n (Remove at via) spur = tt
-spur_raised n (Across at face corner forward taken) spur = absurd spur
-
-spurs_raised : (n : ℕ) (moves : List Move) → All IsSpurMove moves → All IsSpurMove (all_raised n moves)
-spurs_raised n moves spurs = All-map IsSpurMove (raised n) moves (λ k d l. spur_raised n _ (spurs k d l))
-
-spur_back : (sides : ℕ) (move : Move) → IsSpurMove move → IsSpurMove (inverse_of sides move)
-spur_back sides (Insert at via) spur = tt
-spur_back sides (Remove at via) spur = tt
-spur_back sides (Across at face corner forward taken) spur = absurd spur
-
-spurs_back : (mesh : FaceList) (moves : List Move) → All IsSpurMove moves → All IsSpurMove (way_back mesh moves)
-spurs_back mesh [] spurs = All-nil IsSpurMove
-spurs_back mesh (move ∷ moves) spurs =
-    let home : Move = inverse_of (sides_of_move mesh move) move in
-    let rest : All IsSpurMove moves = λ k d l. spurs (suc k) d (omega arith) in
-    All-append IsSpurMove (way_back mesh moves) (home ∷ []) (spurs_back mesh moves rest)
-    (All-cons IsSpurMove home [] (spur_back (sides_of_move mesh move) move (spurs 0 move (omega arith))) (All-nil IsSpurMove))
 
 -- spur moves make an equivalence, in which parts may be replaced
 pub freely_itself : (mesh : FaceList) (walk : List ℕ) → AreFreelyEqual mesh walk walk

@@ -1,13 +1,13 @@
 -- Moves that put spurs in, take them out, or go round the face below a cotree edge in its place keep what a walk is worth, up to spurs.
-use Rattle.std.proofs.Common.{◌≡◌, ◌≢◌, inl, inr, ℕ, suc, ◌-◌, ◌<◌, Bool, true, false, not, List, [], ◌∷◌, ◌++◌, length, refl, ap, sym, ◌∙◌, subst, arith}
+use Rattle.std.proofs.Common.{◌≡◌, ◌≢◌, ◌⊎◌, inl, inr, ℕ, suc, ◌-◌, ◌<◌, Bool, true, false, not, List, [], ◌∷◌, ◌++◌, length, get_or, refl, ap, sym, ◌∙◌, subst, arith}
 use Rattle.std.specs.Prelude.{IsTrue, All, Some}
-use Rattle.surf_model.specs.FaceLists.{face_at, is_edge, corners_from}
-use Rattle.surf_model.specs.Surfaces.{is_flipped}
+use Rattle.surf_model.specs.FaceLists.{face_at, is_edge, next_corner, corners_from}
 use Rattle.surf_model.specs.Walks.{IsWalk}
 use Rattle.surf_model.specs.Moves.{apply, apply_all, Leads}
 use Rattle.surf_model.specs.Replacements.{Replaces}
 use Rattle.surf_model.specs.declared.moves.Move.{Move}
 use Rattle.surf_model.specs.declared.moves.Move.TheVariants.{Insert, Remove, Across}
+use Rattle.surf_model.proofs.EdgeLemmas.{step_within}
 use Rattle.surf_model.proofs.RoundLemmas.{corner_after}
 use Rattle.surf_model.proofs.ReplacementLemmas.{by_replacing}
 use Rattle.surf_model.proofs.ContextLemmas.{first_answer}
@@ -15,9 +15,12 @@ use Rattle.surf_model.proofs.LinkLemmas.{Linked, links, rest_of}
 use Rattle.surf_model.proofs.WayBackLemmas.{keeps_walk, at_first}
 use Rattle.halfedge_map.specs.Orbits.{after_steps}
 use Rattle.halfedge_map.specs.OrientedMeshes.{OrientedMesh, IsOrientedSurface}
-use Rattle.halfedge_map.specs.DartMaps.{darts_of, next_of, origin_of, face_of, edge_of, start_corner_of}
+use Rattle.halfedge_map.specs.DartMaps.{darts_of, next_of, twin_of, origin_of, face_of, edge_of, start_corner_of, dart_at_corner}
+use Rattle.halfedge_map.specs.RotationSystems.{rotations_of, IsRotationSystem}
+use Rattle.halfedge_map.proofs.CornerLemmas.{corner_back}
+use Rattle.halfedge_map.proofs.DartLemmas.{dart_starts}
 use Rattle.halfedge_map.proofs.SystemLemmas.{rotation_system, names_all}
-use Rattle.tree_cotree.specs.Splits.{SplitView, IsSplit, in_cotree}
+use Rattle.tree_cotree.specs.Splits.{SplitView, IsSplit, in_cotree, child_face}
 use Rattle.polygon_cut.specs.Polygons.{PolygonView, IsCutFrom}
 use Rattle.polygon_cut.specs.SpokeLoops.{CrossesBelow, LeavesCotree}
 use Rattle.polygon_cut.proofs.GroupLemmas.{IsGroup, inverse_twice}
@@ -78,21 +81,121 @@ round_dart s o d l =
       rest_way = subst (λ x. IsWay s.mesh (origin_of s next) (origin_of s x) (vertices_on s m next)) home (ends_on s o m next next_in);
     }
 
+-- The way round a face, from a corner on and in a direction, begins with the edge that the face is below: along the dart of that edge in
+-- the face, or against it. That edge alone is taken.
+record BeginsBelow (s : OrientedMesh) (split : SplitView) (f corner : ℕ) (forward : Bool) (taken : ℕ) : Type 0 where
+  dart : ℕ
+  within : dart < darts_of s
+  inside : face_of s dart ≡ f
+  below : child_face split (edge_of s dart) ≡ Some f
+  one : taken ≡ 1
+  way : ((forward ≡ dir s f) × (corner ≡ start_corner_of s dart)) ⊎ ((forward ≡ not (dir s f)) × (corner ≡ start_corner_of s (next_of s dart)))
+
+-- the dart that starts at a corner, and the corner where it ends
+record FromCorner (s : OrientedMesh) (f corner d : ℕ) : Type 0 where
+  within : d < darts_of s
+  inside : face_of s d ≡ f
+  corner_is : start_corner_of s d ≡ corner
+  origin : origin_of s d ≡ get_or (face_at s.mesh f) corner 0
+  next_corner_is : start_corner_of s (next_of s d) ≡ next_corner (dir s f) (length (face_at s.mesh f)) corner
+  target : origin_of s (twin_of s d) ≡ get_or (face_at s.mesh f) (next_corner (dir s f) (length (face_at s.mesh f)) corner) 0
+
+from_corner : (s : OrientedMesh) → IsOrientedSurface s → (f corner : ℕ) → f < length s.mesh.faces → corner < length (face_at s.mesh f) → FromCorner s f corner (dart_at_corner s f corner)
+from_corner s o f corner f_in l =
+    let h = dart_starts s f corner f_in l in
+    let d : ℕ = dart_at_corner s f corner in
+    let r : IsRotationSystem (rotations_of s) = rotation_system s o in
+    let next : ℕ = next_of s d in
+    let next_in : next < darts_of s = r.next_within d h.within in
+    let on : OnRound s d 1 = on_round s o 1 d h.within in
+    let step : start_corner_of s next ≡ next_corner (dir s f) (length (face_at s.mesh f)) corner =
+    on.corner ∙ ap (λ x. next_corner (dir s x) (length (face_at s.mesh x)) (start_corner_of s d)) h.face ∙ ap (next_corner (dir s f) (length (face_at s.mesh f))) h.starts in
+    record {
+      within = h.within;
+      inside = h.face;
+      corner_is = h.starts;
+      origin = h.origin;
+      next_corner_is = step;
+      target =
+          sym (r.follows d h.within) ∙ (at_face s next next_in).vertex ∙ ap (λ x. get_or (face_at s.mesh x) (start_corner_of s next) 0) (on.face ∙ h.face)
+          ∙ ap (λ x. get_or (face_at s.mesh f) x 0) step;
+    }
+
+begins_below : (s : OrientedMesh) (split : SplitView) → IsOrientedSurface s → IsSplit s split → (f corner taken : ℕ) (forward : Bool) → CrossesBelow s split f corner forward taken
+    → BeginsBelow s split f corner forward taken
+begins_below s split o t f corner taken forward cross = elim (either forward (dir s f)) [
+  | inl along ↦
+      let at : FromCorner s f corner (dart_at_corner s f corner) = from_corner s o f corner f_in cross.corner_in in
+      let x : ℕ = dart_at_corner s f corner in
+      let same : x ≡ d =
+      r.one_dart x d at.within cross.within (at.origin ∙ cross.starts)
+      (at.target ∙ ap (λ b. get_or (face_at s.mesh f) (next_corner b m corner) 0) (sym along) ∙ cross.ends) in
+      record {
+        dart = x;
+        within = at.within;
+        inside = at.inside;
+        below = ap (λ y. child_face split (edge_of s y)) same ∙ cross.below;
+        one = cross.one;
+        way = inl (along, sym at.corner_is);
+      }
+  | inr against ↦
+      let c : ℕ = next_corner (not (dir s f)) m corner in
+      let c_in : c < m = step_within (not (dir s f)) m corner cross.corner_in in
+      let at : FromCorner s f c (dart_at_corner s f c) = from_corner s o f c f_in c_in in
+      let x : ℕ = dart_at_corner s f c in
+      let home : next_corner (dir s f) m c ≡ corner =
+      ap (λ b. next_corner b m c) (sym (twice (dir s f))) ∙ corner_back (not (dir s f)) m corner cross.corner_in in
+      let twin_in : twin_of s d < darts_of s = r.twin_within d cross.within in
+      let same : x ≡ twin_of s d =
+      r.one_dart x (twin_of s d) at.within twin_in
+      (at.origin ∙ ap (λ b. get_or (face_at s.mesh f) (next_corner b m corner) 0) (sym against) ∙ cross.ends)
+      (at.target ∙ ap (λ y. get_or (face_at s.mesh f) y 0) home ∙ cross.starts ∙ ap (origin_of s) (sym (r.twin_back d cross.within))) in
+      let same_edge : edge_of s x ≡ edge_of s d = ap (edge_of s) same ∙ sym ((r.edges d (twin_of s d) cross.within twin_in).1 (inr refl)) in
+      record {
+        dart = x;
+        within = at.within;
+        inside = at.inside;
+        below = ap (child_face split) same_edge ∙ cross.below;
+        one = cross.one;
+        way = inr (against, sym (at.next_corner_is ∙ home));
+      }
+]
+  where
+    r : IsRotationSystem (rotations_of s)
+    r = rotation_system s o
+
+    d : ℕ
+    d = cross.dart
+
+    m : ℕ
+    m = length (face_at s.mesh f)
+
+    f_in : f < length s.mesh.faces
+    f_in = let own = t.child_faces.step (edge_of s d) f cross.below in subst (λ x. x < length s.mesh.faces) own.3 ((names_all s o).face_below own.0 own.1)
+
+    twice : (b : Bool) → not (not b) ≡ b
+    twice true = refl
+    twice false = refl
+
+    either : (a b : Bool) → (a ≡ b) ⊎ (a ≡ not b)
+    either true true = inl refl
+    either true false = inr refl
+    either false true = inr refl
+    either false false = inl refl
+
 -- across the face below a cotree edge
 crosses_alike : (s : OrientedMesh) (split : SplitView) (o : IsOrientedSurface s) (t : IsSplit s split) (polygon : PolygonView) → IsCutFrom s split polygon → 0 < polygon.degree
-    → (f corner taken : ℕ) (forward : Bool) → CrossesBelow s split f corner forward taken
+    → (f corner taken : ℕ) (forward : Bool) → BeginsBelow s split f corner forward taken
     → ArePartsAlike {X = Loops s split t} SameFreely loop_mul (loop_one s.mesh t.parents.root t.parents.root_used) (step_value s split o t polygon)
     (corners_from (face_at s.mesh f) forward corner taken) (corners_from (face_at s.mesh f) (not forward) corner (length (face_at s.mesh f) - taken))
-unfolding dir
 crosses_alike s split o t polygon c some f corner taken forward cross =
     subst (λ x. Alike x corner forward taken) cross.inside (subst (λ k. Alike (face_of s d) corner forward k) (sym cross.one) (elim cross.way [
       | inl along ↦
           subst (λ x. Alike (face_of s d) x forward 1) (sym along.1)
-          (subst (λ b. Alike (face_of s d) (start_corner_of s d) b 1) (sym (along.0 ∙ ap (λ x. not (is_flipped s.signs x)) (sym cross.inside))) going_along)
+          (subst (λ b. Alike (face_of s d) (start_corner_of s d) b 1) (sym (along.0 ∙ ap (dir s) (sym cross.inside))) going_along)
       | inr against ↦
           subst (λ x. Alike (face_of s d) x forward 1) (sym against.1)
-          (subst (λ b. Alike (face_of s d) (start_corner_of s next) b 1)
-          (sym (against.0 ∙ ap (λ x. is_flipped s.signs x) (sym cross.inside) ∙ sym (twice (is_flipped s.signs (face_of s d))))) going_against)
+          (subst (λ b. Alike (face_of s d) (start_corner_of s next) b 1) (sym (against.0 ∙ ap (λ x. not (dir s x)) (sym cross.inside))) going_against)
     ]))
   where
     d : ℕ
@@ -161,7 +264,7 @@ crosses_alike s split o t polygon c some f corner taken forward cross =
     dart_there : IsWay s.mesh (origin_of s d) (origin_of s next) (origin_of s next ∷ [])
     dart_there = ends_on s o 1 d l
 
-    going_along : Alike (face_of s d) (start_corner_of s d) (not (is_flipped s.signs (face_of s d))) 1
+    going_along : Alike (face_of s d) (start_corner_of s d) (dir s (face_of s d)) 1
     going_along =
         let home : Loops s split t = product_from loop_mul nothing step (origin_of s d) (back (origin_of s next) rest) in
         let home_is : SameFreely home (loop_inv others) =
@@ -179,7 +282,7 @@ crosses_alike s split o t polygon c some f corner taken forward cross =
           same = g.on forth value home forth_is (g.turn home value twice_turned);
         }
 
-    going_against : Alike (face_of s d) (start_corner_of s next) (not (not (is_flipped s.signs (face_of s d)))) 1
+    going_against : Alike (face_of s d) (start_corner_of s next) (not (dir s (face_of s d))) 1
     going_against =
         let home : Loops s split t = product_from loop_mul nothing step (origin_of s next) (origin_of s d ∷ []) in
         let home_is : SameFreely home (loop_inv forth) =
@@ -191,7 +294,7 @@ crosses_alike s split o t polygon c some f corner taken forward cross =
           rest = origin_of s d ∷ [];
           others = rest;
           part_is = parts.against;
-          other_is = ap (λ b. corners_from (face_at s.mesh (face_of s d)) b (start_corner_of s next) (others_of s d)) (twice (not (is_flipped s.signs (face_of s d)))) ∙ parts.rest;
+          other_is = ap (λ b. corners_from (face_at s.mesh (face_of s d)) b (start_corner_of s next) (others_of s d)) (twice (dir s (face_of s d))) ∙ parts.rest;
           ends = sym (way_end s.mesh (origin_of s next) (origin_of s d) rest parts.rest_way);
           same = g.on home (loop_inv value) others turned (g.turn others (loop_inv value) others_are);
         }
@@ -231,7 +334,7 @@ parts_alike s split o t polygon c some (Remove at via) part other before after w
       same = spur_nothing SameFreely loop_mul loop_inv nothing g s.mesh step (steps_turn s split o t polygon c some) r.0 via.0 edge;
     }
 parts_alike s split o t polygon c some (Across at face corner forward taken) part other before after w h r =
-    let a = crosses_alike s split o t polygon c some face.0 corner taken forward h in
+    let a = crosses_alike s split o t polygon c some face.0 corner taken forward (begins_below s split o t face.0 corner taken forward h) in
     record { start = a.start; rest = a.rest; others = a.others; part_is = r.3 ∙ a.part_is; other_is = r.4 ∙ a.other_is; ends = a.ends; same = a.same }
 
 -- what a walk is worth: the product of the free values of its darts

@@ -5,6 +5,7 @@ use Rattle.std.proofs.lemmas.Bool.{eqb-true, eq-eqb, and_parts}
 use Rattle.surf_model.specs.FaceLists.{face_at, next_corner, corners_from}
 use Rattle.surf_model.proofs.RoundLemmas.{corner_after}
 use Rattle.surf_model.proofs.EdgeLemmas.{step_within}
+use Rattle.halfedge_map.specs.Numbers.{first_below}
 use Rattle.halfedge_map.specs.Orbits.{after_steps}
 use Rattle.halfedge_map.specs.OrientedMeshes.{OrientedMesh, IsOrientedSurface}
 use Rattle.halfedge_map.specs.DartMaps.{darts_of, next_of, twin_of, origin_of, target_of, face_of, edge_of}
@@ -17,7 +18,6 @@ use Rattle.halfedge_map.proofs.OrbitLemmas.{step_first}
 use Rattle.halfedge_map.proofs.SystemLemmas.{rotation_system, names_all}
 use Rattle.tree_cotree.specs.Splits.{SplitView, IsSplit, in_cotree}
 use Rattle.polygon_cut.specs.Polygons.{PolygonView, IsCutFrom, side_at, label_of}
-use Rattle.polygon_cut.specs.SpokeLoops.{dart_from}
 use Rattle.polygon_cut.proofs.GroupLemmas.{quotient, inverse_of_quotient}
 use Rattle.polygon_cut.proofs.LoopLemmas.{back, loop_mul, loop_inv, loop_one}
 use Rattle.polygon_cut.proofs.FreeLoopLemmas.{SameFreely}
@@ -79,7 +79,10 @@ read_back face rising t k u rest l is =
     ∙ ap (λ (x : List ℕ). get_or face c 0 ∷ x) (behind_back face rising t k l ∙ ap (λ x. back x (corners_behind face rising t k)) first ∙ ap (back u) others)
     ∙ ap (λ x. x ∷ back u rest) (sym (behind_end face rising t k) ∙ ap (λ x. end_of x (corners_behind face rising t k)) first ∙ ap (end_of u) others)
 
--- The dart from u to v is found.
+-- The dart from u to v: the first one that starts at u and ends at v.
+pub dart_from : OrientedMesh → ℕ → ℕ → ℕ
+dart_from s u v = unwrap_or (first_below (λ d. eqb (origin_of s d) u && eqb (target_of s d) v) (darts_of s)) 0
+
 pub from_is : (s : OrientedMesh) → IsOrientedSurface s → (u v d : ℕ) → IsDartFrom (rotations_of s) u v d → dart_from s u v ≡ d
 unfolding dart_from
 from_is s o u v d h =

@@ -14,7 +14,7 @@ use Rattle.tree_cotree.specs.Splits.{SplitView, IsSplit, in_tree, in_cotree, is_
 use Rattle.tree_cotree.proofs.SplitLemmas.{OneOfThree, tree_one, cotree_one, left_one}
 use Rattle.tree_cotree.proofs.LawLemmas.{one_of_three}
 use Rattle.polygon_cut.specs.Polygons.{PolygonView, IsCutFrom, side_at, label_of, across, one_up}
-use Rattle.polygon_cut.specs.SpokeLoops.{dart_from, IsOffCotree, HasFreeSpokes}
+use Rattle.polygon_cut.specs.SpokeLoops.{IsOffCotree, HasFreeSpokes}
 use Rattle.polygon_cut.proofs.GroupLemmas.{IsGroup, quotient, inverse_unique}
 use Rattle.polygon_cut.proofs.GroupWordLemmas.{Var, Mul, Inv, by_words, by_relation}
 use Rattle.polygon_cut.proofs.RelatorLemmas.{spoke_product, loop_in}
@@ -26,7 +26,7 @@ use Rattle.polygon_cut.proofs.FaceRoundLemmas.{vertices_on}
 use Rattle.polygon_cut.proofs.ValueLemmas.{round}
 use Rattle.polygon_cut.proofs.SpokeLemmas.{Loops, dart_way, value, spoke}
 use Rattle.polygon_cut.proofs.FreeSpokeLemmas.{free_group, freely_value_is, free_value, of_other_dart, free_is_two_spokes}
-use Rattle.polygon_cut.proofs.FreeRoundLemmas.{from_is, step_value, steps_round, others_of, some_sides, others_of_last}
+use Rattle.polygon_cut.proofs.FreeRoundLemmas.{dart_from, from_is, step_value, steps_round, others_of, some_sides, others_of_last}
 use Rattle.polygon_cut.proofs.FreeMoveLemmas.{walk_value}
 use Rattle.polygon_cut.proofs.FreeQuadLemmas.{last_loop, spoke_across}
 
@@ -113,9 +113,9 @@ nothing_left mesh root up ways u rest h clean same =
 
 -- a walk behind its first dart is off the cotree where the walk is
 off_behind : (s : OrientedMesh) (split : SplitView) (u w : ℕ) (rest : List ℕ) → IsOffCotree s split (u ∷ w ∷ rest) → IsOffCotree s split (w ∷ rest)
-off_behind s split u w rest h k l =
-    let up_one : suc k + 1 ≡ suc (k + 1) = omega arith in
-    subst (λ (n : ℕ). in_cotree split (edge_of s (dart_from s (get_or (u ∷ w ∷ rest) (suc k) 0) (get_or (u ∷ w ∷ rest) n 0))) ≡ false) up_one (h (suc k) (omega arith))
+off_behind s split u w rest h k d l from =
+    let up_one : suc (k + 1) ≡ suc k + 1 = omega arith in
+    h (suc k) d (omega arith) (subst (λ (n : ℕ). IsDartFrom (rotations_of s) (get_or (u ∷ w ∷ rest) (suc k) 0) (get_or (u ∷ w ∷ rest) n 0) d) up_one from)
 
 -- A walk off the cotree is what its darts are worth.
 pub off_cotree : (s : OrientedMesh) (split : SplitView) (o : IsOrientedSurface s) (t : IsSplit s split) (polygon : PolygonView) (u v : ℕ) (rest : List ℕ) (way : IsWay s.mesh u v rest)
@@ -129,7 +129,7 @@ off_cotree s split o t polygon u v (w ∷ rest) way off =
     let d : ℕ = found.0 in
     let l : d < darts_of s = found.1.within in
     let is : dart_from s u w ≡ d = from_is s o u w d found.1 in
-    let here : in_cotree split (edge_of s d) ≡ false = ap (λ x. in_cotree split (edge_of s x)) (sym is) ∙ off 0 (omega arith) in
+    let here : in_cotree split (edge_of s d) ≡ false = off 0 d (omega arith) found.1 in
     let one_way : IsWay s.mesh u w (w ∷ []) = (way.0, (refl, start_used s.mesh w v rest way.1)) in
     let raw : IsWay s.mesh (origin_of s d) (origin_of s (twin_of s d)) (origin_of s (twin_of s d) ∷ []) = dart_way s o d l in
     let x : Loops s split t = loop_of s.mesh t.parents.root (up s split t) ways u w (w ∷ []) one_way in

@@ -1,36 +1,29 @@
 -- What a walk is worth in the loops of a polygon, up to spurs alone: which moves keep that, and which walks have no cotree dart left.
-use Rattle.std.specs.Prelude.{◌≡◌, ◌≢◌, ◌⊎◌, ℕ, ◌+◌, ◌-◌, ◌<◌, Bool, false, not, ◌==◌, ◌&&◌, List, [], ◌∷◌, length, slice_index, unwrap_or, Some}
-use Rattle.surf_model.specs.Surfaces.{is_flipped}
+use Rattle.std.specs.Prelude.{◌≡◌, ◌≢◌, ◌⊎◌, ℕ, ◌+◌, ◌-◌, ◌<◌, Bool, false, List, [], ◌∷◌, length, slice_index, Some}
+use Rattle.surf_model.specs.FaceLists.{face_at, next_corner}
 use Rattle.surf_model.specs.declared.moves.Move.{Move}
 use Rattle.surf_model.specs.declared.moves.Move.TheVariants.{Insert, Remove, Across}
-use Rattle.halfedge_map.specs.Numbers.{first_below}
 use Rattle.halfedge_map.specs.OrientedMeshes.{OrientedMesh}
-use Rattle.halfedge_map.specs.DartMaps.{darts_of, next_of, origin_of, target_of, face_of, edge_of, start_corner_of}
-use Rattle.halfedge_map.specs.RotationSystems.{rotations_of}
+use Rattle.halfedge_map.specs.DartMaps.{darts_of, next_of, twin_of, origin_of, edge_of}
+use Rattle.halfedge_map.specs.RotationSystems.{rotations_of, IsDartFrom}
 use Rattle.tree_cotree.specs.Splits.{SplitView, in_cotree, child_face}
 use Rattle.polygon_cut.specs.Polygons.{PolygonView, side_at, label_of, across}
-
--- the dart from u to v: the first one that starts at u and ends at v
-unfoldable pub dart_from : OrientedMesh → ℕ → ℕ → ℕ
-dart_from surface u v = unwrap_or (first_below (λ d. origin_of surface d == u && target_of surface d == v) (darts_of surface)) 0
 
 -- the edges of the walk are in the tree or left over
 abbrev pub IsOffCotree : OrientedMesh → SplitView → List ℕ → Type 0
 IsOffCotree surface split walk =
-    (k : ℕ) → k + 1 < length walk
-    → in_cotree split (edge_of surface (dart_from surface (slice_index walk k) (slice_index walk (k + 1)))) ≡ false
+    (k dart : ℕ) → k + 1 < length walk → IsDartFrom (rotations_of surface) (slice_index walk k) (slice_index walk (k + 1)) dart
+    → in_cotree split (edge_of surface dart) ≡ false
 
--- The way round a face, from a corner on and in a direction, begins with the cotree edge that the face is below: along the dart of
--- that edge in the face, or against it. That edge alone is taken.
+-- One step round a face, from a corner on and in a direction, goes along a dart of the cotree edge that the face is below.
 pub record CrossesBelow (surface : OrientedMesh) (split : SplitView) (face corner : ℕ) (forward : Bool) (taken : ℕ) : Type 0 where
   pub dart : ℕ
   pub within : dart < darts_of surface
-  pub inside : face_of surface dart ≡ face
   pub below : child_face split (edge_of surface dart) ≡ Some face
+  pub corner_in : corner < length (face_at surface.mesh face)
+  pub starts : slice_index (face_at surface.mesh face) corner ≡ origin_of surface dart
+  pub ends : slice_index (face_at surface.mesh face) (next_corner forward (length (face_at surface.mesh face)) corner) ≡ origin_of surface (twin_of surface dart)
   pub one : taken ≡ 1
-  pub way :
-      ((forward ≡ not (is_flipped surface.signs face)) × (corner ≡ start_corner_of surface dart))
-      ⊎ ((forward ≡ is_flipped surface.signs face) × (corner ≡ start_corner_of surface (next_of surface dart)))
 
 -- the move puts a spur in, takes one out, or goes round the face below a cotree edge in place of that edge
 abbrev pub LeavesCotree : OrientedMesh → SplitView → Move → Type 0
