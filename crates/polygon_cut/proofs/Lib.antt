@@ -23,5 +23,6 @@ pub mod FreeRoundLemmas
 pub mod FreeMoveLemmas
 pub mod FreeQuadLemmas
 pub mod FreeWayLemmas
+pub mod FreeLawLemmas
 pub mod WalkLemmas
 pub mod SphereLemmas

@@ -28,12 +28,12 @@ root_below s split o t =
     let dart = (names_all s o).each_vertex t.parents.root t.parents.root_used in
     subst (λ x. x < s.mesh.count) dart.2 ((names_all s o).vertex_below dart.0 dart.1)
 
-no_parent_of_root : (s : OrientedMesh) (split : SplitView) → IsOrientedSurface s → (t : IsSplit s split) → (v : ℕ) → StepsToParent (rotations_of s) split t.parents.root v → ⊥
+pub no_parent_of_root : (s : OrientedMesh) (split : SplitView) → IsOrientedSurface s → (t : IsSplit s split) → (v : ℕ) → StepsToParent (rotations_of s) split t.parents.root v → ⊥
 no_parent_of_root s split o t v p =
     let none : parent_dart split t.parents.root ≡ None = (t.parents.none t.parents.root (root_below s split o t)).1 (inl refl) in
     (let both : None ≡ Some p.0 = sym none ∙ p.1.is_parent in cc)
 
-one_path : (s : OrientedMesh) (split : SplitView) → IsOrientedSurface s → (t : IsSplit s split) → (v : ℕ) (path other : List ℕ)
+pub one_path : (s : OrientedMesh) (split : SplitView) → IsOrientedSurface s → (t : IsSplit s split) → (v : ℕ) (path other : List ℕ)
     → IsPath (StepsToParent (rotations_of s) split) v path t.parents.root → IsPath (StepsToParent (rotations_of s) split) v other t.parents.root → path ≡ other
 one_path s split o t v [] [] p q = refl
 one_path s split o t v [] (w ∷ other) p q = absurd (no_parent_of_root s split o t w (subst (λ x. StepsToParent (rotations_of s) split x w) p q.0))
@@ -51,7 +51,7 @@ pick s split t v (inr _) = []
 abbrev pub up : (s : OrientedMesh) (split : SplitView) → IsSplit s split → ℕ → List ℕ
 up s split t v = pick s split t v (cases_Bool (is_used s.mesh v))
 
-up_path : (s : OrientedMesh) (split : SplitView) (t : IsSplit s split) (v : ℕ) → is_used s.mesh v ≡ true → IsPath (StepsToParent (rotations_of s) split) v (up s split t v) t.parents.root
+pub up_path : (s : OrientedMesh) (split : SplitView) (t : IsSplit s split) (v : ℕ) → is_used s.mesh v ≡ true → IsPath (StepsToParent (rotations_of s) split) v (up s split t v) t.parents.root
 unfolding pick
 up_path s split t v used = go (cases_Bool (is_used s.mesh v))
   where

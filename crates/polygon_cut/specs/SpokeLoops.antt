@@ -1,12 +1,13 @@
 -- What a walk is worth in the loops of a polygon, up to spurs alone: which moves keep that, and which walks have no cotree dart left.
-use Rattle.std.specs.Prelude.{◌≡◌, ◌≢◌, ◌⊎◌, ℕ, ◌+◌, ◌-◌, ◌<◌, Bool, false, List, [], ◌∷◌, length, slice_index, Some}
-use Rattle.surf_model.specs.FaceLists.{face_at, next_corner}
+use Rattle.std.specs.Prelude.{◌≡◌, ◌≢◌, ◌⊎◌, ℕ, zero, suc, ◌+◌, ◌-◌, ◌<◌, Bool, true, false, not, List, [], ◌∷◌, ◌++◌, length, slice_index, Some}
+use Rattle.surf_model.specs.FaceLists.{face_at, next_corner, corners_from, is_used}
+use Rattle.surf_model.specs.Surfaces.{IsPath, is_flipped}
 use Rattle.surf_model.specs.declared.moves.Move.{Move}
 use Rattle.surf_model.specs.declared.moves.Move.TheVariants.{Insert, Remove, Across}
 use Rattle.halfedge_map.specs.OrientedMeshes.{OrientedMesh}
-use Rattle.halfedge_map.specs.DartMaps.{darts_of, next_of, twin_of, origin_of, edge_of}
+use Rattle.halfedge_map.specs.DartMaps.{darts_of, next_of, twin_of, origin_of, edge_of, start_corner_of}
 use Rattle.halfedge_map.specs.RotationSystems.{rotations_of, IsDartFrom}
-use Rattle.tree_cotree.specs.Splits.{SplitView, in_cotree, child_face}
+use Rattle.tree_cotree.specs.Splits.{SplitView, in_cotree, child_face, StepsToParent}
 use Rattle.polygon_cut.specs.Polygons.{PolygonView, side_at, label_of, across}
 
 -- the edges of the walk are in the tree or left over
@@ -45,3 +46,63 @@ pub record HasFreeSpokes (surface : OrientedMesh) (polygon : PolygonView) (dart 
   pub other : dart ≢ last_side polygon
       → (path ≡ label_of polygon dart ∷ label_of polygon (next_of surface dart) ∷ [])
       ⊎ ((path ≡ []) × (label_of polygon dart ≡ label_of polygon (next_of surface dart)))
+
+-- Loops are closed walks at the root of the tree, kept as the vertices behind it.
+
+-- a way up the tree to the root from each used vertex, as the vertices behind it
+abbrev pub AreWaysUp : OrientedMesh → SplitView → ℕ → (ℕ → List ℕ) → Type 0
+AreWaysUp surface split root up = (v : ℕ) → is_used surface.mesh v ≡ true → IsPath (StepsToParent (rotations_of surface) split) v (up v) root
+
+-- the walk from u back from its end, as the vertices behind that end
+abbrev pub backward : ℕ → List ℕ → List ℕ
+backward u [] = []
+backward u (v ∷ rest) = backward v rest ++ u ∷ []
+
+-- the loop of a dart: down the tree, along the dart, and up again
+abbrev pub dart_loop : OrientedMesh → (ℕ → List ℕ) → ℕ → List ℕ
+dart_loop surface up dart =
+    backward (origin_of surface dart) (up (origin_of surface dart)) ++ origin_of surface (twin_of surface dart) ∷ up (origin_of surface (twin_of surface dart))
+
+-- the loop of a spoke: that of spoke 0 is nothing, and the next one goes back along the side between the two first
+abbrev pub spoke_loop : OrientedMesh → PolygonView → ℕ → (ℕ → List ℕ) → ℕ → List ℕ
+spoke_loop surface polygon root up zero = []
+spoke_loop surface polygon root up (suc i) = backward root (dart_loop surface up (side_at polygon i)) ++ spoke_loop surface polygon root up i
+
+-- the loop of a list of spokes: along the first, back along the second, and so on; or back along the first
+abbrev pub path_loop : OrientedMesh → PolygonView → ℕ → (ℕ → List ℕ) → Bool → List ℕ → List ℕ
+path_loop surface polygon root up along [] = []
+path_loop surface polygon root up true (i ∷ path) = spoke_loop surface polygon root up i ++ path_loop surface polygon root up false path
+path_loop surface polygon root up false (i ∷ path) = backward root (spoke_loop surface polygon root up i) ++ path_loop surface polygon root up true path
+
+-- the walk from u to v by way of a loop: up the tree, the loop, and down the tree
+abbrev pub by_loop : (ℕ → List ℕ) → ℕ → ℕ → List ℕ → List ℕ
+by_loop up u v loop = u ∷ (up u ++ (loop ++ backward v (up v)))
+
+-- the spokes of a walk, where each of its steps has some
+abbrev pub spokes_along : (ℕ → ℕ → List ℕ) → List ℕ → List ℕ
+spokes_along spokes [] = []
+spokes_along spokes (u ∷ []) = []
+spokes_along spokes (u ∷ v ∷ walk) = spokes u v ++ spokes_along spokes (v ∷ walk)
+
+-- each dart has its spokes
+abbrev pub HaveFreeSpokes : OrientedMesh → PolygonView → (ℕ → ℕ → List ℕ) → Type 0
+HaveFreeSpokes surface polygon spokes = (u v dart : ℕ) → IsDartFrom (rotations_of surface) u v dart → HasFreeSpokes surface polygon dart (spokes u v)
+
+-- the loop of the last side: along it, and back by the spokes at its head and at its tail, where the one at its head is spoke 0
+abbrev pub last_side_loop : OrientedMesh → PolygonView → ℕ → (ℕ → List ℕ) → List ℕ
+last_side_loop surface polygon root up = dart_loop surface up (last_side polygon) ++ path_loop surface polygon root up true (0 ∷ (polygon.degree - 1) ∷ [])
+
+-- a loop put in at the end of another, and back: there, round, back, and on
+abbrev pub put_behind : ℕ → List ℕ → List ℕ → List ℕ → List ℕ
+put_behind root there turn more = there ++ (turn ++ (backward root there ++ more))
+
+-- whether so many spokes lead back to the vertex, or to the middle
+abbrev pub comes_back : List ℕ → Bool
+comes_back [] = true
+comes_back (i ∷ path) = not (comes_back path)
+
+-- the way once round the root face, from where a dart of it starts and in its direction
+abbrev pub way_round : OrientedMesh → SplitView → ℕ → List ℕ
+way_round surface split dart =
+    let face = face_at surface.mesh split.root_face in
+    corners_from face (not (is_flipped surface.signs split.root_face)) (start_corner_of surface dart) (length face)

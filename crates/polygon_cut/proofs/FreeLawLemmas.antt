@@ -1,0 +1,205 @@
+-- The laws on walks and loops as lists, from those on the loops of a split.
+use Rattle.std.proofs.Common.{◌≡◌, ◌≢◌, inl, inr, ℕ, zero, suc, ◌+◌, ◌-◌, ◌<◌, ◌≤◌, Bool, true, false, not, List, [], ◌∷◌, ◌++◌, length, get_or, refl, ap, sym, ◌∙◌, subst, arith, append_assoc}
+use Rattle.std.specs.Prelude.{All, IsTrue, slice_index}
+use Rattle.std.proofs.lemmas.Bool.{cases_lt}
+use Rattle.std.proofs.Math.ListN.{get_or-eq_default}
+use Rattle.surf_model.specs.FaceLists.{FaceList, face_at, corners_from, is_used}
+use Rattle.surf_model.specs.Surfaces.{IsPath, is_flipped}
+use Rattle.surf_model.specs.Walks.{IsWalk}
+use Rattle.surf_model.specs.Moves.{Leads}
+use Rattle.surf_model.specs.FreeWalks.{AreFreelyEqual}
+use Rattle.surf_model.specs.declared.moves.Move.{Move}
+use Rattle.surf_model.proofs.WayBackLemmas.{list_keeps_walk}
+use Rattle.halfedge_map.specs.OrientedMeshes.{OrientedMesh, IsOrientedSurface}
+use Rattle.halfedge_map.specs.DartMaps.{darts_of, twin_of, origin_of, face_of, start_corner_of}
+use Rattle.halfedge_map.specs.RotationSystems.{rotations_of, IsDartFrom}
+use Rattle.halfedge_map.proofs.SystemLemmas.{rotation_system, names_all}
+use Rattle.tree_cotree.specs.Splits.{SplitView, IsSplit, StepsToParent}
+use Rattle.polygon_cut.specs.Polygons.{PolygonView, IsCutFrom, side_at, across}
+use Rattle.polygon_cut.specs.SpokeLoops.{AreWaysUp, way_round, backward, dart_loop, spoke_loop, path_loop, by_loop, spokes_along, HaveFreeSpokes, last_side, last_side_loop, across_last, put_behind, comes_back, LeavesCotree, IsOffCotree}
+use Rattle.polygon_cut.proofs.GroupLemmas.{IsGroup}
+use Rattle.polygon_cut.proofs.RelatorLemmas.{spoke_product, ends_at_vertex}
+use Rattle.polygon_cut.proofs.LoopLemmas.{IsWay, way_walk, start_used, end_used, way_on, way_home, append_none, back, HasWays, Loop, loop_mul, loop_inv, loop_one, loop_of}
+use Rattle.polygon_cut.proofs.FreeLoopLemmas.{SameFreely, freely_on, freely_back, freely_behind, freely_before, freely_home}
+use Rattle.polygon_cut.proofs.FreeSpokeLemmas.{free_group}
+use Rattle.polygon_cut.proofs.FreeMoveLemmas.{walk_value, moves_keep_value}
+use Rattle.polygon_cut.proofs.FreeWayLemmas.{off_cotree, path_along, path_value, root_round}
+use Rattle.polygon_cut.proofs.FreeQuadLemmas.{last_loop}
+use Rattle.polygon_cut.proofs.FaceRoundLemmas.{corners_read, dir, vertices_on}
+use Rattle.polygon_cut.proofs.WalkLemmas.{walk_way}
+use Rattle.polygon_cut.proofs.TreeWayLemmas.{up, tree_ways, up_path, one_path, no_parent_of_root}
+use Rattle.polygon_cut.proofs.SpokeLemmas.{Loops, pick_value, value, spoke}
+
+-- the tree's root, and the ways up to it, are one
+root_is : (s : OrientedMesh) (split : SplitView) → IsOrientedSurface s → (t : IsSplit s split) → (root : ℕ) (ups : ℕ → List ℕ) → AreWaysUp s split root ups → t.parents.root ≡ root
+root_is s split o t root ups h = by (ups t.parents.root) (h t.parents.root t.parents.root_used)
+  where
+    by : (path : List ℕ) → IsPath (StepsToParent (rotations_of s) split) t.parents.root path root → t.parents.root ≡ root
+    by [] p = p
+    by (w ∷ path) p = absurd (no_parent_of_root s split o t w p.0)
+
+up_is : (s : OrientedMesh) (split : SplitView) → IsOrientedSurface s → (t : IsSplit s split) → (ups : ℕ → List ℕ) → AreWaysUp s split t.parents.root ups → (v : ℕ) → is_used s.mesh v ≡ true
+    → ups v ≡ up s split t v
+up_is s split o t ups h v used = one_path s split o t v (ups v) (up s split t v) (h v used) (up_path s split t v used)
+
+backward_is : (u : ℕ) (rest : List ℕ) → backward u rest ≡ back u rest
+backward_is u [] = refl
+backward_is u (v ∷ rest) = ap (λ (l : List ℕ). l ++ u ∷ []) (backward_is v rest)
+
+value_list : (s : OrientedMesh) (split : SplitView) (o : IsOrientedSurface s) (t : IsSplit s split) (d : ℕ) → d < darts_of s
+    → back (origin_of s d) (up s split t (origin_of s d)) ++ (origin_of s (twin_of s d) ∷ up s split t (origin_of s (twin_of s d))) ≡ (value s split o t d).rest
+unfolding pick_value
+value_list s split o t d l = go (cases_lt d (darts_of s))
+  where
+    go : (c : _) → back (origin_of s d) (up s split t (origin_of s d)) ++ (origin_of s (twin_of s d) ∷ up s split t (origin_of s (twin_of s d))) ≡ (pick_value s split o t d c).rest
+    go (inl k) = refl
+    go (inr k) = absurd (omega arith)
+
+loop_list : (s : OrientedMesh) (split : SplitView) (o : IsOrientedSurface s) (t : IsSplit s split) (ups : ℕ → List ℕ) → AreWaysUp s split t.parents.root ups → (d : ℕ) → d < darts_of s
+    → dart_loop s ups d ≡ (value s split o t d).rest
+loop_list s split o t ups h d l =
+    let u : ℕ = origin_of s d in
+    let w : ℕ = origin_of s (twin_of s d) in
+    let u_up : ups u ≡ up s split t u = up_is s split o t ups h u ((names_all s o).vertex_used d l) in
+    let w_up : ups w ≡ up s split t w = up_is s split o t ups h w ((names_all s o).vertex_used (twin_of s d) ((rotation_system s o).twin_within d l)) in
+    ap (λ (l : List ℕ). l ++ w ∷ ups w) (backward_is u (ups u)) ∙ ap (λ (x : List ℕ). back u x ++ w ∷ ups w) u_up
+    ∙ ap (λ (x : List ℕ). back u (up s split t u) ++ w ∷ x) w_up ∙ value_list s split o t d l
+
+-- each number names a dart
+side_in : (s : OrientedMesh) (split : SplitView) (polygon : PolygonView) → IsCutFrom s split polygon → 0 < polygon.degree → (i : ℕ) → side_at polygon i < darts_of s
+side_in s split polygon c some i = elim (cases_lt i polygon.degree) [
+  | inl less ↦ ((c.labels some).side_is_left i less).0
+  | inr more ↦
+      let first : side_at polygon 0 < darts_of s = ((c.labels some).side_is_left 0 some).0 in
+      let none : side_at polygon i ≡ 0 = get_or-eq_default polygon.sides 0 (omega (arith, (c.labels some).each_side, more)) in
+      omega (arith, none, first)
+]
+
+spoke_list : (s : OrientedMesh) (split : SplitView) (o : IsOrientedSurface s) (t : IsSplit s split) (polygon : PolygonView) → IsCutFrom s split polygon → 0 < polygon.degree
+    → (ups : ℕ → List ℕ) → AreWaysUp s split t.parents.root ups → (i : ℕ) → spoke_loop s polygon t.parents.root ups i ≡ (spoke s split o t polygon i).rest
+unfolding spoke
+spoke_list s split o t polygon c some ups h zero = refl
+spoke_list s split o t polygon c some ups h (suc i) =
+    let root : ℕ = t.parents.root in
+    let d : ℕ = side_at polygon i in
+    ap (λ (x : List ℕ). x ++ spoke_loop s polygon root ups i) (backward_is root (dart_loop s ups d) ∙ ap (back root) (loop_list s split o t ups h d (side_in s split polygon c some i)))
+    ∙ ap (λ (x : List ℕ). back root (value s split o t d).rest ++ x) (spoke_list s split o t polygon c some ups h i)
+
+path_list : (s : OrientedMesh) (split : SplitView) (o : IsOrientedSurface s) (t : IsSplit s split) (polygon : PolygonView) → IsCutFrom s split polygon → 0 < polygon.degree
+    → (ups : ℕ → List ℕ) → AreWaysUp s split t.parents.root ups → (along : Bool) (path : List ℕ)
+    → path_loop s polygon t.parents.root ups along path
+    ≡ (spoke_product loop_mul loop_inv (loop_one s.mesh t.parents.root t.parents.root_used) (spoke s split o t polygon) along path).rest
+path_list s split o t polygon c some ups h along [] = refl
+path_list s split o t polygon c some ups h true (i ∷ path) =
+    let root : ℕ = t.parents.root in
+    ap (λ (x : List ℕ). x ++ path_loop s polygon root ups false path) (spoke_list s split o t polygon c some ups h i)
+    ∙ ap (λ (x : List ℕ). (spoke s split o t polygon i).rest ++ x) (path_list s split o t polygon c some ups h false path)
+path_list s split o t polygon c some ups h false (i ∷ path) =
+    let root : ℕ = t.parents.root in
+    ap (λ (x : List ℕ). x ++ path_loop s polygon root ups true path)
+    (backward_is root (spoke_loop s polygon root ups i) ∙ ap (back root) (spoke_list s split o t polygon c some ups h i))
+    ∙ ap (λ (x : List ℕ). back root (spoke s split o t polygon i).rest ++ x) (path_list s split o t polygon c some ups h true path)
+
+turned_parity : (at_vertex : Bool) (path : List ℕ) → ends_at_vertex (not at_vertex) path ≡ not (ends_at_vertex at_vertex path)
+turned_parity at_vertex [] = refl
+turned_parity at_vertex (i ∷ path) = turned_parity (not at_vertex) path
+
+parity : (path : List ℕ) → ends_at_vertex true path ≡ comes_back path
+parity [] = refl
+parity (i ∷ path) = turned_parity true path ∙ ap not (parity path)
+
+-- a walk whose loop is another is that loop, up the tree before and down the tree behind
+by_own_loop : (mesh : FaceList) (root : ℕ) (up : ℕ → List ℕ) (ways : HasWays mesh root up) (u v : ℕ) (rest : List ℕ) (h : IsWay mesh u v rest) (loop : Loop mesh root)
+    → SameFreely (loop_of mesh root up ways u v rest h) loop → AreFreelyEqual mesh (u ∷ rest) (u ∷ (up u ++ (loop.rest ++ back v (up v))))
+by_own_loop mesh root up ways u v rest h loop same =
+    let u_way : IsWay mesh u root (up u) = ways.way u (start_used mesh u v rest h) in
+    let v_way : IsWay mesh v root (up v) = ways.way v (end_used mesh u v rest h) in
+    let own : List ℕ = back u (up u) ++ (rest ++ up v) in
+    let whole : List ℕ = up u ++ (own ++ back v (up v)) in
+    let shape : whole ≡ (up u ++ back u (up u)) ++ (rest ++ (up v ++ back v (up v))) = simp append_assoc in
+    let front : AreFreelyEqual mesh (u ∷ ((up u ++ back u (up u)) ++ (rest ++ (up v ++ back v (up v))))) (u ∷ (rest ++ (up v ++ back v (up v)))) =
+    freely_before mesh u (up u ++ back u (up u)) [] (rest ++ (up v ++ back v (up v))) (freely_home mesh u root (up u) u_way) in
+    let end : AreFreelyEqual mesh (u ∷ (rest ++ (up v ++ back v (up v)))) (u ∷ rest) =
+    subst (λ (l : List ℕ). AreFreelyEqual mesh (u ∷ (rest ++ (up v ++ back v (up v)))) (u ∷ l)) (append_none rest)
+    (freely_behind mesh u v rest (up v ++ back v (up v)) [] h (freely_home mesh v root (up v) v_way)) in
+    let contracts : AreFreelyEqual mesh (u ∷ whole) (u ∷ rest) =
+    subst (λ (l : List ℕ). AreFreelyEqual mesh (u ∷ l) (u ∷ rest)) (sym shape)
+    (freely_on mesh (u ∷ ((up u ++ back u (up u)) ++ (rest ++ (up v ++ back v (up v))))) (u ∷ (rest ++ (up v ++ back v (up v)))) (u ∷ rest) front end) in
+    let whole_way : IsWay mesh u v whole =
+    way_on mesh u root v (up u) (own ++ back v (up v)) u_way
+    (way_on mesh root root v own (back v (up v)) (loop_of mesh root up ways u v rest h).is_way (way_home mesh v root (up v) v_way)) in
+    let across : AreFreelyEqual mesh (u ∷ whole) (u ∷ (up u ++ (loop.rest ++ back v (up v)))) =
+    freely_behind mesh u root (up u) (own ++ back v (up v)) (loop.rest ++ back v (up v)) u_way (freely_before mesh root own loop.rest (back v (up v)) same) in
+    freely_on mesh (u ∷ rest) (u ∷ whole) (u ∷ (up u ++ (loop.rest ++ back v (up v))))
+    (freely_back mesh (u ∷ whole) (u ∷ rest) (way_walk mesh u v whole whole_way) contracts) across
+
+-- the same in the words of the laws
+by_loop_is : (s : OrientedMesh) (split : SplitView) → IsOrientedSurface s → (t : IsSplit s split) → (ups : ℕ → List ℕ) → AreWaysUp s split t.parents.root ups → (u v : ℕ) (loop : List ℕ)
+    → is_used s.mesh u ≡ true → is_used s.mesh v ≡ true → by_loop ups u v loop ≡ u ∷ (up s split t u ++ (loop ++ back v (up s split t v)))
+by_loop_is s split o t ups h u v loop u_used v_used =
+    ap (λ (x : List ℕ). u ∷ (x ++ (loop ++ backward v (ups v)))) (up_is s split o t ups h u u_used)
+    ∙ ap (λ (x : List ℕ). u ∷ (up s split t u ++ (loop ++ x))) (backward_is v (ups v) ∙ ap (back v) (up_is s split o t ups h v v_used))
+
+off_walk : (s : OrientedMesh) (split : SplitView) (o : IsOrientedSurface s) (t : IsSplit s split) (polygon : PolygonView) (ups : ℕ → List ℕ) → AreWaysUp s split t.parents.root ups
+    → (u v : ℕ) (rest : List ℕ) → IsWay s.mesh u v rest → IsOffCotree s split (u ∷ rest) → (loop : Loops s split t)
+    → SameFreely (walk_value s split o t polygon (u ∷ rest)) loop → AreFreelyEqual s.mesh (u ∷ rest) (by_loop ups u v loop.rest)
+off_walk s split o t polygon ups h u v rest way off loop same =
+    let root : ℕ = t.parents.root in
+    let ways : HasWays s.mesh root (up s split t) = tree_ways s split o t in
+    let own : Loops s split t = loop_of s.mesh root (up s split t) ways u v rest way in
+    let is : SameFreely own loop =
+    (free_group s split t).on own (walk_value s split o t polygon (u ∷ rest)) loop (off_cotree s split o t polygon u v rest way off) same in
+    subst (AreFreelyEqual s.mesh (u ∷ rest)) (sym (by_loop_is s split o t ups h u v loop.rest (start_used s.mesh u v rest way) (end_used s.mesh u v rest way)))
+    (by_own_loop s.mesh root (up s split t) ways u v rest way loop is)
+
+path_is : (spokes : ℕ → ℕ → List ℕ) (u : ℕ) (rest : List ℕ) → spokes_along spokes (u ∷ rest) ≡ path_along spokes u rest
+path_is spokes u [] = refl
+path_is spokes u (v ∷ rest) = ap (λ (l : List ℕ). spokes u v ++ l) (path_is spokes v rest)
+
+-- a walk led off the cotree is its spokes
+pub led_off : (s : OrientedMesh) (split : SplitView) (polygon : PolygonView) (root : ℕ) (ups : ℕ → List ℕ) (spokes : ℕ → ℕ → List ℕ) (first second : List ℕ) (moves : List Move)
+    → IsOrientedSurface s → IsSplit s split → IsCutFrom s split polygon → 0 < polygon.degree → AreWaysUp s split root ups → HaveFreeSpokes s polygon spokes → IsWalk s.mesh first
+    → Leads s.mesh first moves second → All (LeavesCotree s split) moves → IsOffCotree s split second
+    → AreFreelyEqual s.mesh second
+    (by_loop ups (slice_index second 0) (slice_index second (length second - 1)) (path_loop s polygon root ups true (spokes_along spokes first)))
+led_off s split polygon root ups spokes [] second moves o t c some h each w leads keeps off =
+    let none : 0 < 0 = w.starts in
+    absurd (omega arith)
+led_off s split polygon root ups spokes (u ∷ rest) second moves o t c some h each w leads keeps off = by second leads off (list_keeps_walk s.mesh moves (u ∷ rest) second w leads)
+  where
+    own_ways : AreWaysUp s split t.parents.root ups
+    own_ways = subst (λ x. AreWaysUp s split x ups) (sym (root_is s split o t root ups h)) h
+
+    product : List ℕ → Loops s split t
+    product path = spoke_product loop_mul loop_inv (loop_one s.mesh t.parents.root t.parents.root_used) (spoke s split o t polygon) true path
+
+    loop_is : (product (path_along spokes u rest)).rest ≡ path_loop s polygon root ups true (spokes_along spokes (u ∷ rest))
+    loop_is =
+        sym (path_list s split o t polygon c some ups own_ways true (path_along spokes u rest))
+        ∙ ap (λ x. path_loop s polygon x ups true (path_along spokes u rest)) (root_is s split o t root ups h)
+        ∙ ap (path_loop s polygon root ups true) (sym (path_is spokes u rest))
+
+    by : (walk : List ℕ) → Leads s.mesh (u ∷ rest) moves walk → IsOffCotree s split walk → IsWalk s.mesh walk
+        → AreFreelyEqual s.mesh walk (by_loop ups (slice_index walk 0) (slice_index walk (length walk - 1)) (path_loop s polygon root ups true (spokes_along spokes (u ∷ rest))))
+    by [] k f z = (let none : 0 < 0 = z.starts in absurd (omega arith))
+    by (v ∷ others) k f z =
+        let g = free_group s split t in
+        let way : IsWay s.mesh u (slice_index (u ∷ rest) (length rest)) rest = walk_way s.mesh u rest w in
+        let along : IsWay s.mesh v (slice_index (v ∷ others) (length others)) others = walk_way s.mesh v others z in
+        let a : Loops s split t = walk_value s split o t polygon (v ∷ others) in
+        let b : Loops s split t = walk_value s split o t polygon (u ∷ rest) in
+        let p : Loops s split t = product (path_along spokes u rest) in
+        let worth : SameFreely a p =
+        g.on a b p (g.turn b a (moves_keep_value s split o t polygon c some moves (u ∷ rest) (v ∷ others) w keeps k))
+        (path_value s split o t polygon c some spokes each u (slice_index (u ∷ rest) (length rest)) rest way) in
+        let at_end : length others ≡ length (v ∷ others) - 1 = omega arith in
+        subst (λ n. AreFreelyEqual s.mesh (v ∷ others) (by_loop ups v (slice_index (v ∷ others) n) (path_loop s polygon root ups true (spokes_along spokes (u ∷ rest))))) at_end
+        (subst (λ (x : List ℕ). AreFreelyEqual s.mesh (v ∷ others) (by_loop ups v (slice_index (v ∷ others) (length others)) x)) loop_is
+        (off_walk s split o t polygon ups own_ways v (slice_index (v ∷ others) (length others)) others along f p worth))
+
+-- the way once round the root face, led off the cotree, is the loop of the last side
+pub led_round : (s : OrientedMesh) (split : SplitView) (polygon : PolygonView) (root : ℕ) (ups : ℕ → List ℕ) (second : List ℕ) (moves : List Move)
+    → IsOrientedSurface s → IsSplit s split → IsCutFrom s split polygon → 0 < polygon.degree → AreWaysUp s split root ups
+    → Leads s.mesh (way_round s split (last_side polygon)) moves second → All (LeavesCotree s split) moves → IsOffCotree s split second
+    → AreFreelyEqual s.mesh second (by_loop ups (origin_of s (last_side polygon)) (origin_of s (last_side polygon)) (last_side_loop s polygon root ups))
+led_round s split polygon root ups second moves o t c some h leads keeps off = ?
