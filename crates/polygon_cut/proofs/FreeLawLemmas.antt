@@ -9,26 +9,28 @@ use Rattle.surf_model.specs.Walks.{IsWalk}
 use Rattle.surf_model.specs.Moves.{Leads}
 use Rattle.surf_model.specs.FreeWalks.{AreFreelyEqual}
 use Rattle.surf_model.specs.declared.moves.Move.{Move}
-use Rattle.surf_model.proofs.WayBackLemmas.{list_keeps_walk}
+use Rattle.surf_model.proofs.WayBackLemmas.{list_keeps_walk, list_keeps_ends}
 use Rattle.halfedge_map.specs.OrientedMeshes.{OrientedMesh, IsOrientedSurface}
 use Rattle.halfedge_map.specs.DartMaps.{darts_of, twin_of, origin_of, face_of, start_corner_of}
 use Rattle.halfedge_map.specs.RotationSystems.{rotations_of, IsDartFrom}
 use Rattle.halfedge_map.proofs.SystemLemmas.{rotation_system, names_all}
 use Rattle.tree_cotree.specs.Splits.{SplitView, IsSplit, StepsToParent}
 use Rattle.polygon_cut.specs.Polygons.{PolygonView, IsCutFrom, side_at, across}
-use Rattle.polygon_cut.specs.SpokeLoops.{AreWaysUp, way_round, backward, dart_loop, spoke_loop, path_loop, by_loop, spokes_along, HaveFreeSpokes, last_side, last_side_loop, across_last, put_behind, comes_back, LeavesCotree, IsOffCotree}
+use Rattle.polygon_cut.specs.SpokeLoops.{AreWaysUp, way_round, backward, dart_loop, spoke_loop, path_loop, by_loop, spokes_along, HaveFreeSpokes, last_side, last_side_loop, across_last, put_behind, comes_back, PutBehind, ArePushedFreely, ArePushedWithLoop, LeavesCotree, IsOffCotree}
 use Rattle.polygon_cut.proofs.GroupLemmas.{IsGroup}
-use Rattle.polygon_cut.proofs.RelatorLemmas.{spoke_product, ends_at_vertex}
+use Rattle.polygon_cut.proofs.RelatorLemmas.{spoke_product, ends_at_vertex, loop_in, free_push}
+use Rattle.polygon_cut.proofs.GroupWordLemmas.{Var, One, Mul, Inv, by_words}
+use Rattle.polygon_cut.proofs.FreeProductLemmas.{way_end}
 use Rattle.polygon_cut.proofs.LoopLemmas.{IsWay, way_walk, start_used, end_used, way_on, way_home, append_none, back, HasWays, Loop, loop_mul, loop_inv, loop_one, loop_of}
 use Rattle.polygon_cut.proofs.FreeLoopLemmas.{SameFreely, freely_on, freely_back, freely_behind, freely_before, freely_home}
 use Rattle.polygon_cut.proofs.FreeSpokeLemmas.{free_group}
 use Rattle.polygon_cut.proofs.FreeMoveLemmas.{walk_value, moves_keep_value}
 use Rattle.polygon_cut.proofs.FreeWayLemmas.{off_cotree, path_along, path_value, root_round}
-use Rattle.polygon_cut.proofs.FreeQuadLemmas.{last_loop}
-use Rattle.polygon_cut.proofs.FaceRoundLemmas.{corners_read, dir, vertices_on}
-use Rattle.polygon_cut.proofs.WalkLemmas.{walk_way}
+use Rattle.polygon_cut.proofs.FreeQuadLemmas.{last_loop, free_quads, last_pushes}
+use Rattle.polygon_cut.proofs.FaceRoundLemmas.{corners_read, dir, vertices_on, comes_round}
+use Rattle.polygon_cut.proofs.WalkLemmas.{walk_way, other_way}
 use Rattle.polygon_cut.proofs.TreeWayLemmas.{up, tree_ways, up_path, one_path, no_parent_of_root}
-use Rattle.polygon_cut.proofs.SpokeLemmas.{Loops, pick_value, value, spoke}
+use Rattle.polygon_cut.proofs.SpokeLemmas.{Loops, pick_value, value, spoke, ends_on}
 
 -- the tree's root, and the ways up to it, are one
 root_is : (s : OrientedMesh) (split : SplitView) → IsOrientedSurface s → (t : IsSplit s split) → (root : ℕ) (ups : ℕ → List ℕ) → AreWaysUp s split root ups → t.parents.root ≡ root
@@ -197,9 +199,195 @@ led_off s split polygon root ups spokes (u ∷ rest) second moves o t c some h e
         (subst (λ (x : List ℕ). AreFreelyEqual s.mesh (v ∷ others) (by_loop ups v (slice_index (v ∷ others) (length others)) x)) loop_is
         (off_walk s split o t polygon ups own_ways v (slice_index (v ∷ others) (length others)) others along f p worth))
 
+-- a loop along the last side, and back by its spokes, two ways to write it
+last_loop_as : (s : OrientedMesh) (split : SplitView) → IsOrientedSurface s → (t : IsSplit s split) → PolygonView → Loops s split t
+last_loop_as s split o t polygon =
+    loop_mul (value s split o t (last_side polygon))
+    (spoke_product loop_mul loop_inv (loop_one s.mesh t.parents.root t.parents.root_used) (spoke s split o t polygon) true (0 ∷ (polygon.degree - 1) ∷ []))
+
+last_loops : (s : OrientedMesh) (split : SplitView) (o : IsOrientedSurface s) (t : IsSplit s split) (polygon : PolygonView)
+    → SameFreely (last_loop s split o t polygon) (last_loop_as s split o t polygon)
+unfolding last_loop_as
+last_loops s split o t polygon =
+    by_words SameFreely loop_mul loop_inv (loop_one s.mesh t.parents.root t.parents.root_used) (free_group s split t)
+    (value s split o t (last_side polygon) ∷ spoke s split o t polygon 0 ∷ spoke s split o t polygon (polygon.degree - 1) ∷ [])
+    (Mul (Var 0) (Mul (Var 1) (Inv (Var 2)))) (Mul (Var 0) (Mul (Var 1) (Mul (Inv (Var 2)) One))) refl
+
+last_list : (s : OrientedMesh) (split : SplitView) (o : IsOrientedSurface s) (t : IsSplit s split) (polygon : PolygonView) → IsCutFrom s split polygon → 0 < polygon.degree
+    → (ups : ℕ → List ℕ) → AreWaysUp s split t.parents.root ups → (last_loop_as s split o t polygon).rest ≡ last_side_loop s polygon t.parents.root ups
+unfolding last_loop_as
+last_list s split o t polygon c some ups h =
+    let path : List ℕ = 0 ∷ (polygon.degree - 1) ∷ [] in
+    let nothing : Loops s split t = loop_one s.mesh t.parents.root t.parents.root_used in
+    sym
+    (ap (λ (l : List ℕ). l ++ path_loop s polygon t.parents.root ups true path) (loop_list s split o t ups h (last_side polygon) (side_in s split polygon c some (polygon.degree - 1)))
+    ∙ ap (λ (l : List ℕ). (value s split o t (last_side polygon)).rest ++ l) (path_list s split o t polygon c some ups h true path))
+
 -- the way once round the root face, led off the cotree, is the loop of the last side
 pub led_round : (s : OrientedMesh) (split : SplitView) (polygon : PolygonView) (root : ℕ) (ups : ℕ → List ℕ) (second : List ℕ) (moves : List Move)
     → IsOrientedSurface s → IsSplit s split → IsCutFrom s split polygon → 0 < polygon.degree → AreWaysUp s split root ups
     → Leads s.mesh (way_round s split (last_side polygon)) moves second → All (LeavesCotree s split) moves → IsOffCotree s split second
     → AreFreelyEqual s.mesh second (by_loop ups (origin_of s (last_side polygon)) (origin_of s (last_side polygon)) (last_side_loop s polygon root ups))
-led_round s split polygon root ups second moves o t c some h leads keeps off = ?
+unfolding dir
+led_round s split polygon root ups second moves o t c some h leads keeps off =
+    by second (subst (λ (l : List ℕ). Leads s.mesh l moves second) round_is leads) off
+  where
+    d : ℕ
+    d = last_side polygon
+
+    l : d < darts_of s
+    l = side_in s split polygon c some (polygon.degree - 1)
+
+    m : ℕ
+    m = length (face_at s.mesh (face_of s d))
+
+    round_is : way_round s split d ≡ origin_of s d ∷ vertices_on s m d
+    round_is =
+        ap (λ f. corners_from (face_at s.mesh f) (not (is_flipped s.signs f)) (start_corner_of s d) (length (face_at s.mesh f))) (sym (c.last_side some))
+        ∙ corners_read s o m d l
+
+    own_ways : AreWaysUp s split t.parents.root ups
+    own_ways = subst (λ x. AreWaysUp s split x ups) (sym (root_is s split o t root ups h)) h
+
+    loop : Loops s split t
+    loop = last_loop_as s split o t polygon
+
+    loop_is : loop.rest ≡ last_side_loop s polygon root ups
+    loop_is = last_list s split o t polygon c some ups own_ways ∙ ap (λ x. last_side_loop s polygon x ups) (root_is s split o t root ups h)
+
+    round_way : IsWay s.mesh (origin_of s d) (origin_of s d) (vertices_on s m d)
+    round_way = subst (λ x. IsWay s.mesh (origin_of s d) (origin_of s x) (vertices_on s m d)) (comes_round s o d l) (ends_on s o m d l)
+
+    first : List ℕ
+    first = origin_of s d ∷ vertices_on s m d
+
+    is_walk : IsWalk s.mesh first
+    is_walk = way_walk s.mesh (origin_of s d) (origin_of s d) (vertices_on s m d) round_way
+
+    by : (walk : List ℕ) → Leads s.mesh first moves walk → IsOffCotree s split walk
+        → AreFreelyEqual s.mesh walk (by_loop ups (origin_of s d) (origin_of s d) (last_side_loop s polygon root ups))
+    by [] k f =
+        let none : 0 < 0 = (list_keeps_walk s.mesh moves first [] is_walk k).starts in
+        absurd (omega arith)
+    by (v ∷ others) k f =
+        let g = free_group s split t in
+        let z : IsWalk s.mesh (v ∷ others) = list_keeps_walk s.mesh moves first (v ∷ others) is_walk k in
+        let ends = list_keeps_ends s.mesh moves first (v ∷ others) is_walk.starts k in
+        let along_raw : IsWay s.mesh (origin_of s d) (slice_index first (length (vertices_on s m d))) others = other_way s.mesh (origin_of s d) v (vertices_on s m d) others z ends in
+        let own_end : slice_index first (length (vertices_on s m d)) ≡ origin_of s d =
+        sym (way_end s.mesh (origin_of s d) (slice_index first (length (vertices_on s m d))) (vertices_on s m d) (walk_way s.mesh (origin_of s d) (vertices_on s m d) is_walk))
+        ∙ way_end s.mesh (origin_of s d) (origin_of s d) (vertices_on s m d) round_way in
+        let along : IsWay s.mesh (origin_of s d) (origin_of s d) others = subst (λ x. IsWay s.mesh (origin_of s d) x others) own_end along_raw in
+        let starts : v ≡ origin_of s d = sym ends.starts in
+        let a : Loops s split t = walk_value s split o t polygon (v ∷ others) in
+        let b : Loops s split t = walk_value s split o t polygon first in
+        let own : Loops s split t = last_loop s split o t polygon in
+        let worth : SameFreely a loop =
+        g.on a b loop (g.turn b a (moves_keep_value s split o t polygon c some moves first (v ∷ others) is_walk keeps k))
+        (g.on b own loop (root_round s split o t polygon c some d refl) (last_loops s split o t polygon)) in
+        let from_own : AreFreelyEqual s.mesh (origin_of s d ∷ others) (by_loop ups (origin_of s d) (origin_of s d) loop.rest) =
+        off_walk s split o t polygon ups own_ways (origin_of s d) (origin_of s d) others along (subst (λ x. IsOffCotree s split (x ∷ others)) starts f) loop
+        (subst (λ x. SameFreely (walk_value s split o t polygon (x ∷ others)) loop) starts worth) in
+        subst (λ x. AreFreelyEqual s.mesh (x ∷ others) (by_loop ups (origin_of s d) (origin_of s d) (last_side_loop s polygon root ups))) (sym starts)
+        (subst (λ (x : List ℕ). AreFreelyEqual s.mesh (origin_of s d ∷ others) (by_loop ups (origin_of s d) (origin_of s d) x)) loop_is from_own)
+
+-- the product of a list of spokes
+product_of : (s : OrientedMesh) (split : SplitView) → IsOrientedSurface s → (t : IsSplit s split) → PolygonView → List ℕ → Loops s split t
+product_of s split o t polygon path = spoke_product loop_mul loop_inv (loop_one s.mesh t.parents.root t.parents.root_used) (spoke s split o t polygon) true path
+
+-- products of spokes as loops in the words of the laws
+record InWords (s : OrientedMesh) (split : SplitView) (o : IsOrientedSurface s) (t : IsSplit s split) (polygon : PolygonView) (root : ℕ) (ups : ℕ → List ℕ) : Type 0 where
+  path : (x y : List ℕ) → SameFreely (product_of s split o t polygon x) (product_of s split o t polygon y)
+      → AreFreelyEqual s.mesh (root ∷ path_loop s polygon root ups true x) (root ∷ path_loop s polygon root ups true y)
+  with_loop : (x front y : List ℕ) → SameFreely (product_of s split o t polygon x)
+      (loop_in loop_mul loop_inv (product_of s split o t polygon front) (last_loop s split o t polygon) (product_of s split o t polygon y))
+      → AreFreelyEqual s.mesh (root ∷ path_loop s polygon root ups true x)
+      (root ∷ put_behind root (path_loop s polygon root ups true front) (last_side_loop s polygon root ups) (path_loop s polygon root ups true y))
+
+in_words : (s : OrientedMesh) (split : SplitView) (o : IsOrientedSurface s) (t : IsSplit s split) (polygon : PolygonView) → IsCutFrom s split polygon → 0 < polygon.degree
+    → (root : ℕ) (ups : ℕ → List ℕ) → AreWaysUp s split root ups → InWords s split o t polygon root ups
+unfolding product_of
+in_words s split o t polygon c some root ups h =
+    subst (λ x. InWords s split o t polygon x ups) (root_is s split o t root ups h) (at_root (subst (λ x. AreWaysUp s split x ups) (sym (root_is s split o t root ups h)) h))
+  where
+    at_root : AreWaysUp s split t.parents.root ups → InWords s split o t polygon t.parents.root ups
+    at_root own =
+        let root : ℕ = t.parents.root in
+        let g = free_group s split t in
+        let list : (x : List ℕ) → (product_of s split o t polygon x).rest ≡ path_loop s polygon root ups true x =
+        λ x. sym (path_list s split o t polygon c some ups own true x) in
+        record {
+          path = λ x y same.
+              subst (λ (l : List ℕ). AreFreelyEqual s.mesh (root ∷ l) (root ∷ path_loop s polygon root ups true y)) (list x)
+              (subst (λ (l : List ℕ). AreFreelyEqual s.mesh (root ∷ (product_of s split o t polygon x).rest) (root ∷ l)) (list y) same);
+          with_loop = λ x front y same.
+              let a : Loops s split t = product_of s split o t polygon x in
+              let f : Loops s split t = product_of s split o t polygon front in
+              let b : Loops s split t = product_of s split o t polygon y in
+              let one_loop : Loops s split t = last_loop s split o t polygon in
+              let other_loop : Loops s split t = last_loop_as s split o t polygon in
+              let rest : Loops s split t = loop_mul (loop_inv f) b in
+              let put : SameFreely a (loop_in loop_mul loop_inv f other_loop b) =
+              g.on a (loop_in loop_mul loop_inv f one_loop b) (loop_in loop_mul loop_inv f other_loop b) same
+              (g.mul_same f f (loop_mul one_loop rest) (loop_mul other_loop rest) (g.itself f) (g.mul_same one_loop other_loop rest rest (last_loops s split o t polygon) (g.itself rest))) in
+              let shape : f.rest ++ (other_loop.rest ++ (back root f.rest ++ b.rest))
+              ≡ put_behind root (path_loop s polygon root ups true front) (last_side_loop s polygon root ups) (path_loop s polygon root ups true y) =
+              ap (λ (l : List ℕ). l ++ (other_loop.rest ++ (back root l ++ b.rest))) (list front)
+              ∙ ap (λ (l : List ℕ). path_loop s polygon root ups true front ++ (l ++ (back root (path_loop s polygon root ups true front) ++ b.rest))) (last_list s split o t polygon c some ups own)
+              ∙ ap (λ (l : List ℕ). path_loop s polygon root ups true front ++ (last_side_loop s polygon root ups ++ (l ++ b.rest))) (sym (backward_is root (path_loop s polygon root ups true front)))
+              ∙ ap (λ (l : List ℕ). path_loop s polygon root ups true front ++ (last_side_loop s polygon root ups ++ (backward root (path_loop s polygon root ups true front) ++ l))) (list y) in
+              subst (λ (l : List ℕ). AreFreelyEqual s.mesh (root ∷ l)
+              (root ∷ put_behind root (path_loop s polygon root ups true front) (last_side_loop s polygon root ups) (path_loop s polygon root ups true y))) (list x)
+              (subst (λ (l : List ℕ). AreFreelyEqual s.mesh (root ∷ a.rest) (root ∷ l)) shape put);
+        }
+
+-- pushes, in the words of the laws
+counted : (k : ℕ) → k + 1 ≡ suc k
+counted k = omega arith
+
+pub free_pushes : (s : OrientedMesh) (split : SplitView) (polygon : PolygonView) (root : ℕ) (ups : ℕ → List ℕ) → IsOrientedSurface s → IsSplit s split → IsCutFrom s split polygon
+    → AreWaysUp s split root ups → (side : ℕ) → side < polygon.degree → ArePushedFreely s polygon root ups side
+unfolding product_of
+free_pushes s split polygon root ups o t c h a l =
+    let some : 0 < polygon.degree = omega arith in
+    let nothing : Loops s split t = loop_one s.mesh t.parents.root t.parents.root_used in
+    let k : ℕ = across (rotations_of s) polygon a in
+    let words : InWords s split o t polygon root ups = in_words s split o t polygon c some root ups h in
+    let quads = free_quads s split o t polygon c in
+    record {
+      round_middle = λ before after even.
+          subst (λ n. AreFreelyEqual s.mesh (root ∷ path_loop s polygon root ups true (before ++ a ∷ n ∷ after)) (root ∷ path_loop s polygon root ups true (before ++ (k + 1) ∷ k ∷ after))) (sym (counted a))
+          (subst (λ n. AreFreelyEqual s.mesh (root ∷ path_loop s polygon root ups true (before ++ a ∷ suc a ∷ after)) (root ∷ path_loop s polygon root ups true (before ++ n ∷ k ∷ after))) (sym (counted k))
+          (words.path (before ++ a ∷ suc a ∷ after) (before ++ suc k ∷ k ∷ after)
+          (free_push SameFreely loop_mul loop_inv nothing (free_group s split t) (spoke s split o t polygon) true before after a (suc a) (suc k) k (parity before ∙ even) (quads.round_middle a l))));
+      round_vertex = λ before after odd.
+          subst (λ n. AreFreelyEqual s.mesh (root ∷ path_loop s polygon root ups true (before ++ n ∷ a ∷ after)) (root ∷ path_loop s polygon root ups true (before ++ k ∷ (a + 1) ∷ after))) (sym (counted k))
+          (subst (λ n. AreFreelyEqual s.mesh (root ∷ path_loop s polygon root ups true (before ++ suc k ∷ a ∷ after)) (root ∷ path_loop s polygon root ups true (before ++ k ∷ n ∷ after))) (sym (counted a))
+          (words.path (before ++ suc k ∷ a ∷ after) (before ++ k ∷ suc a ∷ after)
+          (free_push SameFreely loop_mul loop_inv nothing (free_group s split t) (spoke s split o t polygon) false before after (suc k) a k (suc a) (parity before ∙ odd) (quads.round_vertex a l))));
+    }
+
+pub pushes_with_loop : (s : OrientedMesh) (split : SplitView) (polygon : PolygonView) (root : ℕ) (ups : ℕ → List ℕ) → IsOrientedSurface s → IsSplit s split → IsCutFrom s split polygon
+    → 0 < polygon.degree → AreWaysUp s split root ups → ArePushedWithLoop s polygon root ups (polygon.degree - 1) (across_last s polygon)
+unfolding product_of
+pushes_with_loop s split polygon root ups o t c some h =
+    let z : ℕ = polygon.degree - 1 in
+    let k : ℕ = across_last s polygon in
+    let words : InWords s split o t polygon root ups = in_words s split o t polygon c some root ups h in
+    let pushes = last_pushes s split o t polygon c some in
+    let up_k : suc k ≡ k + 1 = sym (counted k) in
+    record {
+      from_last = λ before after even.
+          subst (λ n. PutBehind s polygon root ups before (before ++ z ∷ 0 ∷ after) (before ++ n ∷ k ∷ after)) up_k
+          (subst (λ (l : List ℕ). PutBehind s polygon root ups l (before ++ z ∷ 0 ∷ after) (before ++ suc k ∷ k ∷ after)) (append_none before)
+          (words.with_loop (before ++ suc k ∷ k ∷ after) (before ++ []) (before ++ z ∷ 0 ∷ after) (pushes.from_last before after (parity before ∙ even))));
+      to_last = λ before after even.
+          subst (λ n. PutBehind s polygon root ups (before ++ k ∷ n ∷ []) (before ++ k ∷ n ∷ after) (before ++ 0 ∷ z ∷ after)) up_k
+          (words.with_loop (before ++ 0 ∷ z ∷ after) (before ++ k ∷ suc k ∷ []) (before ++ k ∷ suc k ∷ after) (pushes.to_last before after (parity before ∙ even)));
+      round_tail = λ before after odd.
+          subst (λ n. PutBehind s polygon root ups (before ++ n ∷ []) (before ++ n ∷ z ∷ after) (before ++ k ∷ 0 ∷ after)) up_k
+          (words.with_loop (before ++ k ∷ 0 ∷ after) (before ++ suc k ∷ []) (before ++ suc k ∷ z ∷ after) (pushes.round_tail before after (parity before ∙ odd)));
+      round_head = λ before after odd.
+          subst (λ n. PutBehind s polygon root ups (before ++ z ∷ []) (before ++ 0 ∷ k ∷ after) (before ++ z ∷ n ∷ after)) up_k
+          (words.with_loop (before ++ z ∷ suc k ∷ after) (before ++ z ∷ []) (before ++ 0 ∷ k ∷ after) (pushes.round_head before after (parity before ∙ odd)));
+    }

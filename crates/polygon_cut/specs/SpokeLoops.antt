@@ -2,6 +2,7 @@
 use Rattle.std.specs.Prelude.{◌≡◌, ◌≢◌, ◌⊎◌, ℕ, zero, suc, ◌+◌, ◌-◌, ◌<◌, Bool, true, false, not, List, [], ◌∷◌, ◌++◌, length, slice_index, Some}
 use Rattle.surf_model.specs.FaceLists.{face_at, next_corner, corners_from, is_used}
 use Rattle.surf_model.specs.Surfaces.{IsPath, is_flipped}
+use Rattle.surf_model.specs.FreeWalks.{AreFreelyEqual}
 use Rattle.surf_model.specs.declared.moves.Move.{Move}
 use Rattle.surf_model.specs.declared.moves.Move.TheVariants.{Insert, Remove, Across}
 use Rattle.halfedge_map.specs.OrientedMeshes.{OrientedMesh}
@@ -106,3 +107,32 @@ abbrev pub way_round : OrientedMesh → SplitView → ℕ → List ℕ
 way_round surface split dart =
     let face = face_at surface.mesh split.root_face in
     corners_from face (not (is_flipped surface.signs split.root_face)) (start_corner_of surface dart) (length face)
+
+-- Pushes across the quad of a side and of the one across from it, whose numbers are c and a: round the middle the spokes a, a + 1 give
+-- way to c + 1, c, and round the vertex c + 1, a give way to c, a + 1. The loop stays, up to spurs. Numbers are counted on, so after the
+-- last spoke comes one more, and not spoke 0: the quads of the last side are none of these.
+pub record ArePushedFreely (surface : OrientedMesh) (polygon : PolygonView) (root : ℕ) (up : ℕ → List ℕ) (a : ℕ) : Type 0 where
+  pub round_middle : (before after : List ℕ) → comes_back before ≡ true
+      → AreFreelyEqual surface.mesh (root ∷ path_loop surface polygon root up true (before ++ a ∷ (a + 1) ∷ after))
+      (root ∷ path_loop surface polygon root up true (before ++ (across (rotations_of surface) polygon a + 1) ∷ across (rotations_of surface) polygon a ∷ after))
+  pub round_vertex : (before after : List ℕ) → comes_back before ≡ false
+      → AreFreelyEqual surface.mesh (root ∷ path_loop surface polygon root up true (before ++ (across (rotations_of surface) polygon a + 1) ∷ a ∷ after))
+      (root ∷ path_loop surface polygon root up true (before ++ across (rotations_of surface) polygon a ∷ (a + 1) ∷ after))
+
+-- the loop of the one list of spokes is that of the other with the loop of the last side put in behind the first spokes, up to spurs
+abbrev pub PutBehind : OrientedMesh → PolygonView → ℕ → (ℕ → List ℕ) → List ℕ → List ℕ → List ℕ → Type 0
+PutBehind surface polygon root up front old new =
+    AreFreelyEqual surface.mesh (root ∷ path_loop surface polygon root up true new)
+    (root ∷ put_behind root (path_loop surface polygon root up true front) (last_side_loop surface polygon root up) (path_loop surface polygon root up true old))
+
+-- Pushes across the quad of the last side z and of the side k across from it: each costs the loop of the last side once. Round the middle
+-- z, 0 give way to k + 1, k, or k, k + 1 to 0, z; round the vertex k + 1, z give way to k, 0, or 0, k to z, k + 1.
+pub record ArePushedWithLoop (surface : OrientedMesh) (polygon : PolygonView) (root : ℕ) (up : ℕ → List ℕ) (z k : ℕ) : Type 0 where
+  pub from_last : (before after : List ℕ) → comes_back before ≡ true
+      → PutBehind surface polygon root up before (before ++ z ∷ 0 ∷ after) (before ++ (k + 1) ∷ k ∷ after)
+  pub to_last : (before after : List ℕ) → comes_back before ≡ true
+      → PutBehind surface polygon root up (before ++ k ∷ (k + 1) ∷ []) (before ++ k ∷ (k + 1) ∷ after) (before ++ 0 ∷ z ∷ after)
+  pub round_tail : (before after : List ℕ) → comes_back before ≡ false
+      → PutBehind surface polygon root up (before ++ (k + 1) ∷ []) (before ++ (k + 1) ∷ z ∷ after) (before ++ k ∷ 0 ∷ after)
+  pub round_head : (before after : List ℕ) → comes_back before ≡ false
+      → PutBehind surface polygon root up (before ++ z ∷ []) (before ++ 0 ∷ k ∷ after) (before ++ z ∷ (k + 1) ∷ after)
