@@ -1,15 +1,15 @@
 -- Closed walks at a root, up to spurs alone, as a group; and walks as products of the loops of their darts, where a way leads from
 -- each vertex to the root.
-use Rattle.std.proofs.Common.{◌≡◌, ℕ, suc, ◌<◌, List, [], ◌∷◌, ◌++◌, length, refl, ap, sym, ◌∙◌, subst, arith, append_assoc}
-use Rattle.std.specs.Prelude.{IsTrue, Some, All}
-use Rattle.std.proofs.lemmas.List.Elements.{All-nil, All-cons, All-append, All-map}
+use Rattle.std.proofs.Common.{◌≡◌, ℕ, ◌<◌, List, [], ◌∷◌, ◌++◌, length, refl, ap, sym, ◌∙◌, subst, arith, append_assoc}
+use Rattle.std.specs.Prelude.{IsTrue, Some}
+use Rattle.std.proofs.lemmas.List.Elements.{All-nil, All-cons, All-append}
 use Rattle.surf_model.specs.FaceLists.{FaceList, is_used}
 use Rattle.surf_model.specs.Walks.{IsWalk}
 use Rattle.surf_model.specs.Moves.{apply}
 use Rattle.surf_model.specs.FreeWalks.{IsSpurMove, AreFreelyEqual}
-use Rattle.surf_model.specs.Rewriting.{raised, all_raised, inverse_of, sides_of_move, way_back}
+use Rattle.surf_model.specs.Rewriting.{all_raised, way_back}
 use Rattle.surf_model.specs.declared.moves.Move.{Move}
-use Rattle.surf_model.specs.declared.moves.Move.TheVariants.{Insert, Remove, Across}
+use Rattle.surf_model.specs.declared.moves.Move.TheVariants.{Remove}
 use Rattle.surf_model.proofs.ReplacementLemmas.{by_replacing}
 use Rattle.surf_model.proofs.ContextLemmas.{list_in_context, one_after_another}
 use Rattle.surf_model.proofs.WayBackLemmas.{list_undone}

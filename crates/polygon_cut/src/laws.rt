@@ -1,14 +1,18 @@
 //! What holds of every polygon cut from a surface, said of the definitions. A call of one of these functions does
 //! nothing; its contract is the law.
-ghost use Rattle.std.specs.Prelude.{◌≡◌, ℕ, ◌+◌, ◌<◌, true, List};
+ghost use Rattle.std.specs.Prelude.{◌≡◌, ℕ, ◌+◌, ◌-◌, ◌<◌, true, List, length, slice_index, All};
 ghost use Rattle.surf_model.specs.Walks.{IsWalk, HaveCommonEnds};
-ghost use Rattle.surf_model.specs.Moves.{Homotopic};
+ghost use Rattle.surf_model.specs.Moves.{Homotopic, Leads};
+ghost use Rattle.surf_model.specs.FreeWalks.{AreFreelyEqual};
+ghost use Rattle.surf_model.specs.declared.moves.Move.{Move};
 ghost use Rattle.halfedge_map.specs.Orbits.{IsReached};
 ghost use Rattle.halfedge_map.specs.OrientedMeshes.{OrientedMesh, IsOrientedSurface};
-ghost use Rattle.halfedge_map.specs.DartMaps.{darts_of, twin_of, edge_of};
+ghost use Rattle.halfedge_map.specs.DartMaps.{darts_of, twin_of, edge_of, origin_of};
 ghost use Rattle.halfedge_map.specs.RotationSystems.{rotations_of};
 ghost use Rattle.tree_cotree.specs.Splits.{SplitView, IsSplit, in_tree, in_cotree, is_left};
 ghost use Rattle.polygon_cut.specs.Polygons.{PolygonView, IsCutFrom, KindLabels, label_of, place_of, turned, one_up, one_down};
+ghost use Rattle.polygon_cut.specs.SpokeLoops.{AreWaysUp, HaveFreeSpokes, LeavesCotree, IsOffCotree, by_loop, path_loop, spokes_along};
+ghost use Rattle.polygon_cut.specs.SpokeLoops.{way_round, last_side, last_side_loop, across_last, ArePushedFreely, ArePushedWithLoop};
 
 /// One step along the ring of tree and leftover edges keeps the label, or raises it by one past a leftover dart: along a
 /// tree edge both labels are one, across a cotree edge they are, and along a leftover edge the label rises by one.
@@ -43,4 +47,44 @@ pub fn walks_on_a_sphere_are_homotopic()
     ensures { (surface : OrientedMesh) (split : SplitView) (first second : List ℕ) → IsOrientedSurface surface
         → IsSplit surface split → split.genus ≡ 0 → IsWalk surface.mesh first → IsWalk surface.mesh second
         → HaveCommonEnds first second → Homotopic surface.mesh first second }
+{}
+
+// Up to spurs alone: walks as products of the loops of spokes.
+
+/// A walk off the cotree, to which spur moves and ways round the faces below cotree edges lead from another walk, is the
+/// loop of that walk's spokes, with the way up the tree before it and the way down behind it, up to spurs.
+pub fn walks_are_freely_their_spokes()
+    ensures { (surface : OrientedMesh) (split : SplitView) (polygon : PolygonView) (root : ℕ) (up : ℕ → List ℕ)
+        (spokes : ℕ → ℕ → List ℕ) (first second : List ℕ) (moves : List Move) → IsOrientedSurface surface
+        → IsSplit surface split → IsCutFrom surface split polygon → 0 < polygon.degree → AreWaysUp surface split root up
+        → HaveFreeSpokes surface polygon spokes → IsWalk surface.mesh first → Leads surface.mesh first moves second
+        → All (LeavesCotree surface split) moves → IsOffCotree surface split second
+        → AreFreelyEqual surface.mesh second
+        (by_loop up (slice_index second 0) (slice_index second (length second - 1))
+        (path_loop surface polygon root up true (spokes_along spokes first))) }
+{}
+
+/// The way once round the root face from the last side, led off the cotree by such moves, is the loop of the last side,
+/// with the way up the tree before it and the way down behind it, up to spurs.
+pub fn root_face_is_freely_the_loop_of_the_last_side()
+    ensures { (surface : OrientedMesh) (split : SplitView) (polygon : PolygonView) (root : ℕ) (up : ℕ → List ℕ)
+        (second : List ℕ) (moves : List Move) → IsOrientedSurface surface → IsSplit surface split
+        → IsCutFrom surface split polygon → 0 < polygon.degree → AreWaysUp surface split root up
+        → Leads surface.mesh (way_round surface split (last_side polygon)) moves second
+        → All (LeavesCotree surface split) moves → IsOffCotree surface split second
+        → AreFreelyEqual surface.mesh second
+        (by_loop up (origin_of surface (last_side polygon)) (origin_of surface (last_side polygon))
+        (last_side_loop surface polygon root up)) }
+{}
+
+/// A push across the quad of a side and of the one across from it leaves the loop of a list of spokes as it is, up to
+/// spurs. Across the quad of the last side it puts the loop of the last side in once.
+pub fn pushes_are_free_but_at_the_last_side()
+    ensures others { (surface : OrientedMesh) (split : SplitView) (polygon : PolygonView) (root : ℕ) (up : ℕ → List ℕ)
+        (side : ℕ) → IsOrientedSurface surface → IsSplit surface split → IsCutFrom surface split polygon
+        → AreWaysUp surface split root up → side < polygon.degree → ArePushedFreely surface polygon root up side }
+    ensures last { (surface : OrientedMesh) (split : SplitView) (polygon : PolygonView) (root : ℕ) (up : ℕ → List ℕ)
+        → IsOrientedSurface surface → IsSplit surface split → IsCutFrom surface split polygon → 0 < polygon.degree
+        → AreWaysUp surface split root up
+        → ArePushedWithLoop surface polygon root up (polygon.degree - 1) (across_last surface polygon) }
 {}
