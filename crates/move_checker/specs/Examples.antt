@@ -77,10 +77,12 @@ pub another_end : verdict_of tetrahedron (0 ∷ 1 ∷ 2 ∷ []) (0 ∷ 2 ∷ [])
 unfolding verdict_of verdict_from
 another_end = refl
 
-pub the_second_move : verdict_of tetrahedron (0 ∷ 1 ∷ 2 ∷ []) (0 ∷ 2 ∷ []) (moves_within 2 (across 0 0 0 true 2 ∷ Insert 0 (vertex 0) ∷ [])) ≡ AtMove 2 NoEdge
+pub the_second_move : verdict_of tetrahedron (0 ∷ 1 ∷ 2 ∷ []) (0 ∷ 2 ∷ [])
+    (moves_within 2 (across 0 0 0 true 2 ∷ Insert 0 (vertex 0) ∷ [])) ≡ AtMove 2 NoEdge
 unfolding verdict_of verdict_from step_of refusal apply is_edge all_sides
 the_second_move = refl
 
-pub across_two_faces : verdict_of torus (0 ∷ 1 ∷ 3 ∷ []) (0 ∷ 2 ∷ 3 ∷ []) (moves_within 2 (across 0 0 0 true 2 ∷ across 0 7 0 true 1 ∷ [])) ≡ Accepted
+pub across_two_faces : verdict_of torus (0 ∷ 1 ∷ 3 ∷ []) (0 ∷ 2 ∷ 3 ∷ [])
+    (moves_within 2 (across 0 0 0 true 2 ∷ across 0 7 0 true 1 ∷ [])) ≡ Accepted
 unfolding verdict_of verdict_from step_of refusal apply
 across_two_faces = refl

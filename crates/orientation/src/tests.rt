@@ -1,34 +1,18 @@
 //! Signs and chains of small meshes, worked by hand.
-ghost use Rattle.std.specs.Prelude.{◌≤◌, IsTrue};
+ghost use Rattle.std.specs.Prelude.{IsTrue};
 ghost use Rattle.surf_model.specs.Edges.{IsTableOf};
 ghost use Rattle.surf_model.specs.FaceLists.{FaceList};
 ghost use Rattle.orientation.specs.Classes.{EachEdgeHasAtMostTwoSides};
-ghost use Rattle.surf_model.specs.declared.limits.TheConstants.{MOST_VERTICES};
 
 use crate::{OddChain, OrientFault, Signs, orient};
+use small_meshes::{PROJECTIVE_PLANE, TURNED_TETRAHEDRON, mesh_of};
 use std::alloc::Global;
 use std::process::Abort;
 use surf_model::{EdgeName, FaceName, Faces, Sides, VertexName};
 
-/// The tetrahedron, with its last face listed the other way round.
-const TETRAHEDRON: [[u32; 3]; 4] = [[0, 1, 2], [0, 3, 1], [0, 2, 3], [1, 2, 3]];
-
-const PROJECTIVE_PLANE: [[u32; 3]; 10] = [
-    [0, 1, 2],
-    [0, 2, 3],
-    [0, 3, 4],
-    [0, 4, 5],
-    [0, 5, 1],
-    [1, 2, 4],
-    [2, 3, 5],
-    [3, 4, 1],
-    [4, 5, 2],
-    [5, 1, 3],
-];
-
 #[test]
 fn a_turned_face_is_flipped(rt: HostRuntime) {
-    let faces = mesh_of(rt.alloc(), &rt, 4, &TETRAHEDRON);
+    let faces = mesh_of(rt.alloc(), 4, &TURNED_TETRAHEDRON).expect(&rt, "a mesh");
     let signs = signs_of(rt.alloc(), &rt, &faces);
     assert_eq!(rt; signs.len(), 4);
     for face in 0..signs.len() {
@@ -38,7 +22,7 @@ fn a_turned_face_is_flipped(rt: HostRuntime) {
 
 #[test]
 fn the_projective_plane_has_a_short_chain(rt: HostRuntime) {
-    let faces = mesh_of(rt.alloc(), &rt, 6, &PROJECTIVE_PLANE);
+    let faces = mesh_of(rt.alloc(), 6, &PROJECTIVE_PLANE).expect(&rt, "a mesh");
     let chain = chain_of(rt.alloc(), &rt, &faces);
     assert!(rt; chain.len() <= 5);
 }
@@ -123,23 +107,4 @@ fn have_few_sides(sides: &Sides) -> bool
         }
     }
     true
-}
-
-fn mesh_of(alloc: Global, rt: &impl Abort, count: u32, triangles: &[[u32; 3]]) -> Faces
-    requires { count ≤ MOST_VERTICES }
-{
-    let mut faces = Faces::new(alloc, count);
-    for triangle in triangles {
-        push_triangle(rt, &mut faces, triangle[0], triangle[1], triangle[2]);
-    }
-    faces
-}
-
-fn push_triangle(rt: &impl Abort, faces: &mut Faces, a: u32, b: u32, c: u32) {
-    assert!(rt; a != b && b != c && c != a);
-    assert!(rt; a < faces.count() && b < faces.count() && c < faces.count());
-    assert!(rt; faces.total() < 1000);
-    faces
-        .push_slice(&[VertexName(a), VertexName(b), VertexName(c)])
-        .expect(rt, "memory for a face");
 }

@@ -9,7 +9,7 @@ use Rattle.surf_model.specs.Moves.{apply, Homotopic}
 use Rattle.surf_model.specs.declared.moves.Move.{Move}
 use Rattle.surf_model.specs.declared.moves.Move.TheVariants.{Across}
 use Rattle.surf_model.proofs.ReplacementLemmas.{by_replacing}
-use Rattle.surf_model.proofs.RoundLemmas.{corner_after}
+use Rattle.surf_model.proofs.RoundLemmas.{corner_after, rises, rises_past, falls, falls_past}
 use Rattle.halfedge_map.specs.Orbits.{after_steps}
 use Rattle.halfedge_map.specs.OrientedMeshes.{OrientedMesh, IsOrientedSurface}
 use Rattle.halfedge_map.specs.DartMaps.{darts_of, next_of, origin_of, face_of, start_corner_of, end_corner_of, dart_at_corner}
@@ -20,41 +20,7 @@ use Rattle.halfedge_map.proofs.DartLemmas.{face_at_number, origin_at, corner-nex
 use Rattle.halfedge_map.proofs.VertexLemmas.{at_start}
 use Rattle.halfedge_map.proofs.SystemLemmas.{rotation_system}
 
--- where k steps round m corners lead, and that fewer than m steps, but some, lead away
-rises : (m t k : ℕ) → t < m → t + k < m → corner_after true m t k ≡ t + k
-rises m t zero h l = omega arith
-rises m t (suc k) h l =
-    let next : next_corner true m t ≡ t + 1 = grind (arith, nat_tests) in
-    rw next (rises m (t + 1) k (omega arith) (omega arith) ∙ omega arith)
-
-rises_past : (m t k : ℕ) → t < m → k ≤ m → m ≤ t + k → corner_after true m t k ≡ t + k - m
-rises_past m t zero h l p = absurd (omega arith)
-rises_past m t (suc k) h l p = elim (cases_lt (t + 1) m) [
-  | inl more ↦
-      let next : next_corner true m t ≡ t + 1 = grind (arith, nat_tests) in
-      rw next (rises_past m (t + 1) k more (omega arith) (omega arith) ∙ omega arith)
-  | inr last ↦
-      let next : next_corner true m t ≡ 0 = grind (arith, nat_tests) in
-      rw next (rises m 0 k (omega arith) (omega arith) ∙ omega arith)
-]
-
-falls : (m t k : ℕ) → t < m → k ≤ t → corner_after false m t k ≡ t - k
-falls m t zero h l = omega arith
-falls m t (suc k) h l =
-    let next : next_corner false m t ≡ t - 1 = grind (arith, nat_tests) in
-    rw next (falls m (t - 1) k (omega arith) (omega arith) ∙ omega arith)
-
-falls_past : (m t k : ℕ) → t < m → k ≤ m → t < k → corner_after false m t k ≡ t + m - k
-falls_past m t zero h l p = absurd (omega arith)
-falls_past m t (suc k) h l p = elim (cases_lt 0 t) [
-  | inl more ↦
-      let next : next_corner false m t ≡ t - 1 = grind (arith, nat_tests) in
-      rw next (falls_past m (t - 1) k (omega arith) (omega arith) (omega arith) ∙ omega arith)
-  | inr first ↦
-      let next : next_corner false m t ≡ m - 1 = grind (arith, nat_tests) in
-      rw next (falls m (m - 1) k (omega arith) (omega arith) ∙ omega arith)
-]
-
+-- fewer steps than corners, but some, lead away
 corner_apart : (rising : Bool) (m t k : ℕ) → t < m → 0 < k → k < m → corner_after rising m t k ≢ t
 corner_apart true m t k h some l same = elim (cases_lt (t + k) m) [
   | inl within ↦ (let is : corner_after true m t k ≡ t + k = rises m t k h within in omega arith)

@@ -5,27 +5,11 @@ use halfedge_map::Surface;
 use manifold_check::check_closed;
 use orientation::orient;
 use polygon_cut::cut;
+use small_meshes::{DOUBLE_TORUS, TORUS, mesh_of};
 use std::alloc::Global;
 use std::process::Abort;
 use surf_model::{FaceName, Faces, Sides, Spoke, VertexName};
 use tree_cotree::split_edges;
-
-const FACES: [[u32; 3]; 14] = [
-    [0, 1, 3],
-    [1, 2, 4],
-    [2, 3, 5],
-    [3, 4, 6],
-    [4, 5, 0],
-    [5, 6, 1],
-    [6, 0, 2],
-    [0, 3, 2],
-    [1, 4, 3],
-    [2, 5, 4],
-    [3, 6, 5],
-    [4, 0, 6],
-    [5, 1, 0],
-    [6, 2, 1],
-];
 
 const LABELS: [[u32; 3]; 14] = [
     [0, 0, 0],
@@ -43,55 +27,6 @@ const LABELS: [[u32; 3]; 14] = [
     [2, 2, 2],
     [0, 0, 3],
 ];
-
-/// Two such tori without the triangle 0 1 3, along which they hang together. The last face is listed the other way round.
-const DOUBLE_FACES: [[u32; 3]; 26] = [
-    [1, 2, 4],
-    [2, 3, 5],
-    [3, 4, 6],
-    [4, 5, 0],
-    [5, 6, 1],
-    [6, 0, 2],
-    [0, 3, 2],
-    [1, 4, 3],
-    [2, 5, 4],
-    [3, 6, 5],
-    [4, 0, 6],
-    [5, 1, 0],
-    [6, 2, 1],
-    [1, 8, 7],
-    [7, 9, 3],
-    [3, 10, 8],
-    [8, 0, 9],
-    [9, 1, 10],
-    [10, 7, 0],
-    [0, 7, 3],
-    [1, 3, 8],
-    [7, 8, 9],
-    [3, 9, 10],
-    [8, 10, 0],
-    [9, 0, 1],
-    [10, 7, 1],
-];
-
-fn mesh(alloc: Global, rt: &impl Abort) -> Faces {
-    mesh_of(alloc, rt, 7, &FACES)
-}
-
-fn mesh_of(alloc: Global, rt: &impl Abort, count: u32, triangles: &[[u32; 3]]) -> Faces {
-    assert!(rt; count <= 1000);
-    let mut faces = Faces::new(alloc, count);
-    for triangle in triangles {
-        let (a, b, c) = (triangle[0], triangle[1], triangle[2]);
-        assert!(rt; a < faces.count() && b < faces.count() && c < faces.count());
-        assert!(rt; a != b && b != c && c != a);
-        assert!(rt; faces.total() < 1000);
-        faces
-            .push_slice(&[VertexName(a), VertexName(b), VertexName(c)])
-            .expect(rt, "memory");
-    }
-    faces
-}
 
 /// A labelling of the torus with these places, where the last face may have other labels.
 fn labelling(alloc: Global, rt: &impl Abort, places: &[u32], last: Option<[u32; 3]>) -> Labelling {
@@ -112,7 +47,7 @@ fn labelling(alloc: Global, rt: &impl Abort, places: &[u32], last: Option<[u32; 
 }
 
 fn fault(alloc: Global, rt: &impl Abort, labelling: Labelling) -> Option<LabelFault> {
-    let faces = mesh(alloc, rt);
+    let faces = mesh_of(alloc, 7, &TORUS).expect(rt, "a mesh");
     let sides = Sides::build(alloc, &faces).expect(rt, "memory");
     check_labelling(alloc, &faces, &sides, labelling).err()
 }
@@ -120,7 +55,7 @@ fn fault(alloc: Global, rt: &impl Abort, labelling: Labelling) -> Option<LabelFa
 #[test]
 fn the_square_is_good(rt: HostRuntime) {
     let square = labelling(rt.alloc(), &rt, &[0, 1, 2, 3], None);
-    let faces = mesh(rt.alloc(), &rt);
+    let faces = mesh_of(rt.alloc(), 7, &TORUS).expect(&rt, "a mesh");
     let sides = Sides::build(rt.alloc(), &faces).expect(&rt, "memory");
     let good = check_labelling(rt.alloc(), &faces, &sides, square).expect(&rt, "a good labelling");
     assert_eq!(rt; good.wheel().degree(), 4);
@@ -176,7 +111,8 @@ fn surface_of(alloc: Global, rt: &impl Abort, faces: Faces) -> Surface {
 #[test]
 fn polygons_give_good_labellings(rt: HostRuntime) {
     let alloc = rt.alloc();
-    let surface = surface_of(alloc, &rt, mesh_of(alloc, &rt, 11, &DOUBLE_FACES));
+    let faces = mesh_of(alloc, 11, &DOUBLE_TORUS).expect(&rt, "a mesh");
+    let surface = surface_of(alloc, &rt, faces);
     let split = split_edges(alloc, &surface).expect(&rt, "memory");
     let polygon = cut(alloc, &surface, &split).expect(&rt, "memory");
     assert_eq!(rt; polygon.degree(), 8);

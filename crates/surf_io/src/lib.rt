@@ -1,4 +1,11 @@
 //! The world outside, as files to read by name and a sink to write to, with a count of faults.
+//!
+//! A caller sees a shelf as the files that it holds and a sink as the bytes that it took, where they tell; and each as a
+//! count of faults. Proved: what is read whole is the file, what is written is appended, digits and all, and a read or a
+//! write fails only where the count rose. The files of the system and standard output tell nothing; they are tested.
+//!
+//!     let bytes = read_whole(alloc, &mut shelf, "mesh.off", limit)?;
+//!     write_whole(&mut sink, &bytes)?;
 #![tactic(auto)]
 
 mod digits;

@@ -72,7 +72,8 @@ impl Shelf for MemoryShelf {
     fn read(&mut self, name: &str, at: u64, into: &mut [u8]) -> Result<usize, Failed>
         ensures fails_as_planned { Contains self.old.failing (count_up self.old.calls) → IsErr result }
         ensures fails_without_file { map.get self.old.files name.now ≡ None → IsErr result }
-        ensures fails_only_so { IsErr result → Contains self.old.failing (count_up self.old.calls) ⊎ (map.get self.old.files name.now ≡ None) }
+        ensures fails_only_so { IsErr result
+            → Contains self.old.failing (count_up self.old.calls) ⊎ (map.get self.old.files name.now ≡ None) }
         ensures full { IfOk result (λ n. IsSomeAnd (map.get self.old.files name.now)
             (λ bytes. n ≡ min (length into.new) (length bytes - at))) }
         ensures calls { self.new.calls ≡ count_up self.old.calls }

@@ -3,31 +3,10 @@ use crate::{Rings, split_edges};
 use halfedge_map::Surface;
 use manifold_check::check_closed;
 use orientation::orient;
+use small_meshes::{TETRAHEDRON, TORUS, TURNED_TETRAHEDRON, Triangle, mesh_of};
 use std::alloc::Global;
 use std::process::Abort;
-use surf_model::{DartName, EdgeName, FaceName, Faces, Sides, VertexName};
-
-const TETRAHEDRON: [[u32; 3]; 4] = [[0, 1, 2], [0, 3, 1], [0, 2, 3], [1, 3, 2]];
-
-/// The tetrahedron, with its last face listed the other way round.
-const TURNED: [[u32; 3]; 4] = [[0, 1, 2], [0, 3, 1], [0, 2, 3], [1, 2, 3]];
-
-const TORUS: [[u32; 3]; 14] = [
-    [0, 1, 3],
-    [1, 2, 4],
-    [2, 3, 5],
-    [3, 4, 6],
-    [4, 5, 0],
-    [5, 6, 1],
-    [6, 0, 2],
-    [0, 3, 2],
-    [1, 4, 3],
-    [2, 5, 4],
-    [3, 6, 5],
-    [4, 0, 6],
-    [5, 1, 0],
-    [6, 2, 1],
-];
+use surf_model::{DartName, EdgeName, FaceName, Sides, VertexName};
 
 #[test]
 fn darts_of_the_tetrahedron(rt: HostRuntime) {
@@ -52,7 +31,7 @@ fn darts_of_the_tetrahedron(rt: HostRuntime) {
 
 #[test]
 fn darts_of_a_flipped_face(rt: HostRuntime) {
-    let surface = surface_of(rt.alloc(), &rt, 4, &TURNED);
+    let surface = surface_of(rt.alloc(), &rt, 4, &TURNED_TETRAHEDRON);
     assert_eq!(rt; surface.darts(), 12);
     assert_eq!(rt; surface.origin(DartName(9)), VertexName(2));
     assert_eq!(rt;
@@ -64,7 +43,7 @@ fn darts_of_a_flipped_face(rt: HostRuntime) {
 
 #[test]
 fn a_sphere_has_no_leftover_edge(rt: HostRuntime) {
-    let surface = surface_of(rt.alloc(), &rt, 4, &TURNED);
+    let surface = surface_of(rt.alloc(), &rt, 4, &TURNED_TETRAHEDRON);
     let split = split_edges(rt.alloc(), &surface).expect(&rt, "memory for the split");
     assert_eq!(rt; split.genus(), 0);
 }
@@ -90,12 +69,9 @@ fn an_edge_put_in_and_out_leaves_the_rings(rt: HostRuntime) {
 }
 
 /// The surface of a mesh of triangles.
-fn surface_of(alloc: Global, rt: &impl Abort, count: u32, triangles: &[[u32; 3]]) -> Surface {
-    assert!(rt; count <= 1000);
-    let mut faces = Faces::new(alloc, count);
-    for triangle in triangles {
-        push_triangle(rt, &mut faces, triangle[0], triangle[1], triangle[2]);
-    }
+fn surface_of(alloc: Global, rt: &impl Abort, count: u32, triangles: &[Triangle]) -> Surface {
+    assert!(rt; count <= 1000 && triangles.len() <= 1000);
+    let faces = mesh_of(alloc, count, triangles).expect(rt, "a mesh");
     let sides = Sides::build(alloc, &faces).expect(rt, "memory for the table");
     match check_closed(alloc, &faces, &sides) {
         Ok(()) => {}
@@ -106,13 +82,4 @@ fn surface_of(alloc: Global, rt: &impl Abort, count: u32, triangles: &[[u32; 3]]
         Err(_) => panic!(rt; "no signs"),
     };
     Surface::build(alloc, faces, sides, signs).expect(rt, "memory for the surface")
-}
-
-fn push_triangle(rt: &impl Abort, faces: &mut Faces, a: u32, b: u32, c: u32) {
-    assert!(rt; a != b && b != c && c != a);
-    assert!(rt; a < faces.count() && b < faces.count() && c < faces.count());
-    assert!(rt; faces.total() < 1000);
-    faces
-        .push_slice(&[VertexName(a), VertexName(b), VertexName(c)])
-        .expect(rt, "memory for a face");
 }

@@ -63,7 +63,8 @@ unfolding add minus
 no_push_at_the_turn_2 = refl
 
 -- the whole way from a bracket to its other side, step by step
-pub a_bracket_goes : after_steps 8 (Push 3 false ∷ Push 2 false ∷ Push 1 false ∷ SpurOut 0 ∷ []) (1 ∷ 1 ∷ 2 ∷ 2 ∷ 1 ∷ []) ≡ Some (0 ∷ 6 ∷ 6 ∷ [])
+pub a_bracket_goes : after_steps 8 (Push 3 false ∷ Push 2 false ∷ Push 1 false ∷ SpurOut 0 ∷ []) (1 ∷ 1 ∷ 2 ∷ 2 ∷ 1 ∷ [])
+    ≡ Some (0 ∷ 6 ∷ 6 ∷ [])
 unfolding add minus
 a_bracket_goes = refl
 

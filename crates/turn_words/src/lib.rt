@@ -1,5 +1,12 @@
 //! Turn words: the words that decide whether two walks on a closed surface are homotopic.
 //!
+//! A caller sees a turn word as the list of its turns, a wheel as the list of its places, and a form as a state that
+//! spokes lead on. Proved: `canonise` gives the one canonical word that elementary steps reach; a form meets two laws,
+//! that a spoke put twice in a row changes nothing and that the two sides of a quad lead to one state; and the steps
+//! that a form notes lead to its word.
+//!
+//!     let canonical = canonise(alloc, 8, &[1, 0, 3], &mut steps)?;
+//!
 //! After Erickson and Whittlesey, "Transforming curves on surfaces redux" (2013). docs/TURN-WORDS.md
 //! tells what a turn, a step and a canonical word are, and why a canonical word is unique.
 #![tactic(auto)]

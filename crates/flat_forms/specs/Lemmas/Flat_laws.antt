@@ -89,5 +89,6 @@ pub flat_across : AcrossQuads (λ places _. IsFlatWheel places) IsEven flat_next
 flat_across places s a c own even quad =
     let a_below : a < 4 = rw (own.four) at quad.a_below in
     rw (own.four) (
-    next-next places s a (add 4 a 1) even ∙ round s a c a_below (across-is places a c own quad) ∙ sym (next-next places s (add 4 c 1) c even)
+    next-next places s a (add 4 a 1) even ∙ round s a c a_below (across-is places a c own quad)
+    ∙ sym (next-next places s (add 4 c 1) c even)
     )

@@ -54,18 +54,26 @@ module _ (s e : Vector) where
   -- a unit step changes the parity
   pub parity-plus : IsUnit e → parity (plus s e) + parity s ≡ 1
   parity-plus unit = elim unit [
-    | right_one a b ↦ let is : (s.x +ℤ e.x) +ℤ (s.y +ℤ e.y) ≡ (s.x +ℤ s.y) +ℤ pos 1 = omega (arith, ints, a, b) in rw is (up-parity (s.x +ℤ s.y))
-    | up_one a b ↦ let is : (s.x +ℤ e.x) +ℤ (s.y +ℤ e.y) ≡ (s.x +ℤ s.y) +ℤ pos 1 = omega (arith, ints, a, b) in rw is (up-parity (s.x +ℤ s.y))
-    | left_one a b ↦ let is : (s.x +ℤ e.x) +ℤ (s.y +ℤ e.y) ≡ (s.x +ℤ s.y) +ℤ negsuc 0 = omega (arith, ints, a, b) in rw is (down-parity (s.x +ℤ s.y))
-    | down_one a b ↦ let is : (s.x +ℤ e.x) +ℤ (s.y +ℤ e.y) ≡ (s.x +ℤ s.y) +ℤ negsuc 0 = omega (arith, ints, a, b) in rw is (down-parity (s.x +ℤ s.y))
+    | right_one a b ↦
+        let is : (s.x +ℤ e.x) +ℤ (s.y +ℤ e.y) ≡ (s.x +ℤ s.y) +ℤ pos 1 = omega (arith, ints, a, b) in rw is (up-parity (s.x +ℤ s.y))
+    | up_one a b ↦
+        let is : (s.x +ℤ e.x) +ℤ (s.y +ℤ e.y) ≡ (s.x +ℤ s.y) +ℤ pos 1 = omega (arith, ints, a, b) in rw is (up-parity (s.x +ℤ s.y))
+    | left_one a b ↦
+        let is : (s.x +ℤ e.x) +ℤ (s.y +ℤ e.y) ≡ (s.x +ℤ s.y) +ℤ negsuc 0 = omega (arith, ints, a, b) in rw is (down-parity (s.x +ℤ s.y))
+    | down_one a b ↦
+        let is : (s.x +ℤ e.x) +ℤ (s.y +ℤ e.y) ≡ (s.x +ℤ s.y) +ℤ negsuc 0 = omega (arith, ints, a, b) in rw is (down-parity (s.x +ℤ s.y))
   ]
 
   pub parity-less : IsUnit e → parity (less s e) + parity s ≡ 1
   parity-less unit = elim unit [
-    | right_one a b ↦ let is : (s.x -ℤ e.x) +ℤ (s.y -ℤ e.y) ≡ (s.x +ℤ s.y) +ℤ negsuc 0 = omega (arith, ints, a, b) in rw is (down-parity (s.x +ℤ s.y))
-    | up_one a b ↦ let is : (s.x -ℤ e.x) +ℤ (s.y -ℤ e.y) ≡ (s.x +ℤ s.y) +ℤ negsuc 0 = omega (arith, ints, a, b) in rw is (down-parity (s.x +ℤ s.y))
-    | left_one a b ↦ let is : (s.x -ℤ e.x) +ℤ (s.y -ℤ e.y) ≡ (s.x +ℤ s.y) +ℤ pos 1 = omega (arith, ints, a, b) in rw is (up-parity (s.x +ℤ s.y))
-    | down_one a b ↦ let is : (s.x -ℤ e.x) +ℤ (s.y -ℤ e.y) ≡ (s.x +ℤ s.y) +ℤ pos 1 = omega (arith, ints, a, b) in rw is (up-parity (s.x +ℤ s.y))
+    | right_one a b ↦
+        let is : (s.x -ℤ e.x) +ℤ (s.y -ℤ e.y) ≡ (s.x +ℤ s.y) +ℤ negsuc 0 = omega (arith, ints, a, b) in rw is (down-parity (s.x +ℤ s.y))
+    | up_one a b ↦
+        let is : (s.x -ℤ e.x) +ℤ (s.y -ℤ e.y) ≡ (s.x +ℤ s.y) +ℤ negsuc 0 = omega (arith, ints, a, b) in rw is (down-parity (s.x +ℤ s.y))
+    | left_one a b ↦
+        let is : (s.x -ℤ e.x) +ℤ (s.y -ℤ e.y) ≡ (s.x +ℤ s.y) +ℤ pos 1 = omega (arith, ints, a, b) in rw is (up-parity (s.x +ℤ s.y))
+    | down_one a b ↦
+        let is : (s.x -ℤ e.x) +ℤ (s.y -ℤ e.y) ≡ (s.x +ℤ s.y) +ℤ pos 1 = omega (arith, ints, a, b) in rw is (up-parity (s.x +ℤ s.y))
   ]
 
   -- what was added is taken away again, and what was taken away is added again
@@ -84,7 +92,8 @@ module _ (s e : Vector) where
     | down_one a b ↦ grown s.x (s.y +ℤ negsuc 0) (omega (arith, ints, a)) (omega (arith, ints, b)) (omega arith) (down-size s.y)
   ]
     where
-      grown : (x y : ℤ) → s.x +ℤ e.x ≡ x → s.y +ℤ e.y ≡ y → unsigned_abs x ≤ unsigned_abs s.x + 1 → unsigned_abs y ≤ unsigned_abs s.y + 1 → size_of (plus s e) ≤ size_of s + 1
+      grown : (x y : ℤ) → s.x +ℤ e.x ≡ x → s.y +ℤ e.y ≡ y → unsigned_abs x ≤ unsigned_abs s.x + 1
+          → unsigned_abs y ≤ unsigned_abs s.y + 1 → size_of (plus s e) ≤ size_of s + 1
       grown x y a b x_small y_small = rw (a, b) (omega arith)
 
   pub size-less : IsUnit e → size_of (less s e) ≤ size_of s + 1
@@ -95,7 +104,8 @@ module _ (s e : Vector) where
     | down_one a b ↦ grown s.x (s.y +ℤ pos 1) (omega (arith, ints, a)) (omega (arith, ints, b)) (omega arith) (up-size s.y)
   ]
     where
-      grown : (x y : ℤ) → s.x -ℤ e.x ≡ x → s.y -ℤ e.y ≡ y → unsigned_abs x ≤ unsigned_abs s.x + 1 → unsigned_abs y ≤ unsigned_abs s.y + 1 → size_of (less s e) ≤ size_of s + 1
+      grown : (x y : ℤ) → s.x -ℤ e.x ≡ x → s.y -ℤ e.y ≡ y → unsigned_abs x ≤ unsigned_abs s.x + 1
+          → unsigned_abs y ≤ unsigned_abs s.y + 1 → size_of (less s e) ≤ size_of s + 1
       grown x y a b x_small y_small = rw (a, b) (omega arith)
 
 -- where a spoke leads
@@ -106,7 +116,8 @@ pub next-odd : (places : List ℕ) (s : Vector) (spoke : ℕ) → ¬ IsEven s �
 next-odd places s spoke e = rw (ne_eqb (parity s) 0 e) refl
 
 -- two spokes from the vertex
-pub next-next : (places : List ℕ) (s : Vector) (i j : ℕ) → IsEven s → flat_next places (flat_next places s i) j ≡ less (plus s (unit_step i)) (unit_step j)
+pub next-next : (places : List ℕ) (s : Vector) (i j : ℕ) → IsEven s
+    → flat_next places (flat_next places s i) j ≡ less (plus s (unit_step i)) (unit_step j)
 next-next places s i j e =
     let turned = parity-plus s (unit_step i) (is-unit i) in
     ap (λ z. flat_next places z j) (next-even places s i e) ∙ next-odd places (plus s (unit_step i)) j (λ even. absurd (omega arith))

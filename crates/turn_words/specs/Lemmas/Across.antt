@@ -52,7 +52,8 @@ module _ (d : ℕ) (five : 5 ≤ d) where
   zero-down = zero-add d (minus d 1) (omega (arith, minus-one d five))
 
   -- a turn 0: the last entry goes
-  across-zero-end : (x : ℕ) (r : List ℕ) → IsGood d (x ∷ r) → (IsCons r → x ≢ minus d 2) → put d r (add d 1 x) ≡ record { word = add d x 1 ∷ r; change = 0 }
+  across-zero-end : (x : ℕ) (r : List ℕ) → IsGood d (x ∷ r) → (IsCons r → x ≢ minus d 2)
+      → put d r (add d 1 x) ≡ record { word = add d x 1 ∷ r; change = 0 }
   across-zero-end x [] g h = let turned = add_comm d 1 x in rw turned refl
   across-zero-end x (y ∷ r) g h =
       let turned = add_comm d 1 x in
@@ -61,7 +62,13 @@ module _ (d : ℕ) (five : 5 ≤ d) where
   -- on the empty word
   across-start : (t : ℕ) → t < d → Agree d (first_side d [] t) (second_side d [] (add d t (minus d 1)))
   across-start t h =
-      rw (one-zero, put-else d five (t ∷ []) 1 tt (follows-one d five (t ∷ []) refl), minus-zero, put-flip d five (add d t (minus d 1) ∷ []) tt, up-down d five t h)
+      rw (
+        one-zero,
+        put-else d five (t ∷ []) 1 tt (follows-one d five (t ∷ []) refl),
+        minus-zero,
+        put-flip d five (add d t (minus d 1) ∷ []) tt,
+        up-down d five t h,
+      )
       (record { word = refl; change = zero-up })
 
   -- a spur against a flip
@@ -71,7 +78,8 @@ module _ (d : ℕ) (five : 5 ≤ d) where
       rw (put-flip d five (minus d 2 ∷ y ∷ r) tt, flipped-run d five (y ∷ r) tt, minus-up, turned, two-up, put-flip d five (y ∷ r) tt)
       (record { word = refl; change = one-one })
 
-  across-zero-last : (x : ℕ) (r : List ℕ) → IsGood d (x ∷ r) → (IsCons r → x ≢ minus d 2) → flipped d (x ∷ r) ≡ 1 ∷ add d x 1 ∷ r → Agree d (first_side d (x ∷ r) 0) (second_side d (x ∷ r) (minus d 1))
+  across-zero-last : (x : ℕ) (r : List ℕ) → IsGood d (x ∷ r) → (IsCons r → x ≢ minus d 2) → flipped d (x ∷ r) ≡ 1 ∷ add d x 1 ∷ r
+      → Agree d (first_side d (x ∷ r) 0) (second_side d (x ∷ r) (minus d 1))
   across-zero-last x r g h f =
       rw (across-zero-end x r g h, put-flip d five (x ∷ r) tt, minus-up, f)
       (record { word = refl; change = zero-up })
@@ -113,14 +121,22 @@ module _ (d : ℕ) (five : 5 ≤ d) where
             );
       }
 
-  put-down : (x : ℕ) (r : List ℕ) → IsGood d (x ∷ r) → is_open (x ∷ r) ≡ false → put d r (add d x (minus d 1)) ≡ record { word = add d x (minus d 1) ∷ r; change = 0 }
+  put-down : (x : ℕ) (r : List ℕ) → IsGood d (x ∷ r) → is_open (x ∷ r) ≡ false
+      → put d r (add d x (minus d 1)) ≡ record { word = add d x (minus d 1) ∷ r; change = 0 }
   put-down x [] g o = refl
   put-down x (y ∷ r) g o = put-else d five (y ∷ r) (add d x (minus d 1)) tt (follows-down x y r g o)
 
-  across-one-none : (x : ℕ) (r : List ℕ) → IsGood d (x ∷ r) → is_open (x ∷ r) ≡ false → Agree d (first_side d (x ∷ r) 1) (second_side d (x ∷ r) 0)
+  across-one-none : (x : ℕ) (r : List ℕ) → IsGood d (x ∷ r) → is_open (x ∷ r) ≡ false
+      → Agree d (first_side d (x ∷ r) 1) (second_side d (x ∷ r) 0)
   across-one-none x r g o =
       let turned = add_comm d (minus d 1) x in
-      rw (put-else d five (x ∷ r) 1 tt (follows-one d five (x ∷ r) o), one-zero, put-close d five (1 ∷ x ∷ r) refl, turned, put-down x r g o)
+      rw (
+        put-else d five (x ∷ r) 1 tt (follows-one d five (x ∷ r) o),
+        one-zero,
+        put-close d five (1 ∷ x ∷ r) refl,
+        turned,
+        put-down x r g o,
+      )
       (record { word = refl; change = minus-up })
 
   -- a flip against a turn -2
@@ -164,7 +180,8 @@ module _ (d : ℕ) (five : 5 ≤ d) where
       ) (record { word = refl; change = zero-up })
 
   -- every other turn
-  across-other : (x t : ℕ) (r : List ℕ) → t < d → t ≢ 0 → t ≢ 1 → t ≢ 2 → t ≢ minus d 1 → Agree d (first_side d (x ∷ r) t) (second_side d (x ∷ r) (add d t (minus d 1)))
+  across-other : (x t : ℕ) (r : List ℕ) → t < d → t ≢ 0 → t ≢ 1 → t ≢ 2 → t ≢ minus d 1
+      → Agree d (first_side d (x ∷ r) t) (second_side d (x ∷ r) (add d t (minus d 1)))
   across-other x t r below a b c e =
       let one = minus-one d five in
       let two = minus-two d five in
@@ -186,7 +203,8 @@ module _ (d : ℕ) (five : 5 ≤ d) where
         up-down d five t below,
       ) (record { word = refl; change = zero-up })
 
-  across-one-open : (x : ℕ) (r : List ℕ) → IsGood d (x ∷ r) → is_open (x ∷ r) ≡ true → Agree d (first_side d (x ∷ r) 1) (second_side d (x ∷ r) 0)
+  across-one-open : (x : ℕ) (r : List ℕ) → IsGood d (x ∷ r) → is_open (x ∷ r) ≡ true
+      → Agree d (first_side d (x ∷ r) 1) (second_side d (x ∷ r) 0)
   across-one-open x [] g o = absurd cc
   across-one-open x (y ∷ r) g o = elim ((open-cases x (y ∷ r) o).1) [
     | inl one ↦ rw one (across-one-bracket y r (subst (λ n. IsGood d (n ∷ y ∷ r)) one g))

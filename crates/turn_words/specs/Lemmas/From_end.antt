@@ -50,7 +50,8 @@ meets-next x y r ts none meets opened = elim (cases_eq x 1) [
   ]
 ]
 
-reduced-from : (d x : ℕ) (r ts : List ℕ) → IsGood d (x ∷ r) → AreReduced d ts → Meets (x ∷ r) ts → AreReduced d (turns_of (reverse (x ∷ r) ++ ts))
+reduced-from : (d x : ℕ) (r ts : List ℕ) → IsGood d (x ∷ r) → AreReduced d ts → Meets (x ∷ r) ts
+    → AreReduced d (turns_of (reverse (x ∷ r) ++ ts))
 reduced-from d x [] ts g a meets = a
 reduced-from d x (y ∷ r) ts g a meets =
     rw (reverse-next x (y ∷ r) ts) (

@@ -42,7 +42,13 @@ module _ (d : ℕ) (five : 5 ≤ d) where
   take-back : (a b : ℕ) → a < d → b < d → add d a (minus d (add d a (minus d b))) ≡ b
   take-back a b ha hb =
       let inner = add-lt d a (minus d b) ha (minus-lt d b hb) in
-      omega (arith, minus-cases d b hb, add-cases d a (minus d b), minus-cases d (add d a (minus d b)) inner, add-cases d a (minus d (add d a (minus d b))))
+      omega (
+        arith,
+        minus-cases d b hb,
+        add-cases d a (minus d b),
+        minus-cases d (add d a (minus d b)) inner,
+        add-cases d a (minus d (add d a (minus d b))),
+      )
 
   -- one more than a number, and a number taken away from it
   next-turn : (a n : ℕ) → a < d → n < d → add d (add d a 1) (minus d (add d a (minus d n))) ≡ add d 1 n
@@ -112,9 +118,11 @@ value-below places w i wheel below = elim (cases_eq (length w % 2) 0) [
 ]
 
 -- a spoke leads where its turn does
-next-is : (places : List ℕ) (s : HyperState) (i : ℕ) (u : List ℕ) (n : ℕ) → put (length places) (reverse s.word) (turn_to places s i) ≡ record { word = u; change = n } →
+next-is : (places : List ℕ) (s : HyperState) (i : ℕ) (u : List ℕ) (n : ℕ)
+    → put (length places) (reverse s.word) (turn_to places s i) ≡ record { word = u; change = n } →
     hyper_next places s i ≡ record_state (reverse u) (add (length places) (value_at places (reverse u) i) (minus (length places) n))
-next-is places s i u n e = ap (λ q. record_state (reverse q.word) (add (length places) (value_at places (reverse q.word) i) (minus (length places) q.change))) e
+next-is places s i u n e =
+    ap (λ q. record_state (reverse q.word) (add (length places) (value_at places (reverse q.word) i) (minus (length places) q.change))) e
 
 pub good_word : (places : List ℕ) (s : HyperState) → BelongsTo places s → IsGood (length places) (reverse s.word)
 good_word places s b = good-from-canonical (length places) (reverse s.word) (rw (reverse-reverse s.word) b.canonical)
@@ -123,7 +131,8 @@ pub turn_below : (places : List ℕ) (s : HyperState) (i : ℕ) → BelongsTo pl
 turn_below places s i b below =
     add-lt (length places) _ _ (value-below places s.word i b.own.wheel below) (minus-lt (length places) s.number b.number_below)
 
-pub next_belongs : (places : List ℕ) (s : HyperState) (i : ℕ) → BelongsTo places s → i < length places → BelongsTo places (hyper_next places s i)
+pub next_belongs : (places : List ℕ) (s : HyperState) (i : ℕ) → BelongsTo places s → i < length places
+    → BelongsTo places (hyper_next places s i)
 next_belongs places s i b below =
     let d = length places in
     let kept = put-good d b.own.five (reverse s.word) (turn_to places s i) (good_word places s b) (turn_below places s i b below) in
@@ -175,20 +184,24 @@ hyper_there_and_back places s i b below =
     let good = good_word places s b in
     let kept = put-good d b.own.five (reverse s.word) t good (turn_below places s i b below) in
     let middle = hyper_next places s i in
-    let turn : turn_to places middle i ≡ p.change = take-back d b.own.five (value_at places (reverse p.word) i) p.change (value-below places _ i b.own.wheel below) kept.1 in
+    let turn : turn_to places middle i ≡ p.change =
+    take-back d b.own.five (value_at places (reverse p.word) i) p.change (value-below places _ i b.own.wheel below) kept.1 in
     let back : put d (reverse (reverse p.word)) (turn_to places middle i) ≡ record { word = reverse s.word; change = t } =
     ap₂ (put d) (reverse-reverse p.word) turn ∙ put-put d b.own.five (reverse s.word) t good in
     next-is places middle i (reverse s.word) t back
     ∙ ap (λ w. record_state w (add d (value_at places w i) (minus d t))) (reverse-reverse s.word)
-    ∙ ap (record_state s.word) (take-back d b.own.five (value_at places s.word i) s.number (value-below places s.word i b.own.wheel below) b.number_below)
+    ∙ ap (record_state s.word)
+    (take-back d b.own.five (value_at places s.word i) s.number (value-below places s.word i b.own.wheel below) b.number_below)
 
 -- two spokes one after the other
 two-next : (places : List ℕ) (s : HyperState) (i j t turn : ℕ) → BelongsTo places s → IsEven s → i < length places → j < length places →
     turn_to places s i ≡ t →
-    add (length places) j (minus (length places) (add (length places) i (minus (length places) (put (length places) (reverse s.word) t).change))) ≡ turn →
+    add (length places) j
+    (minus (length places) (add (length places) i (minus (length places) (put (length places) (reverse s.word) t).change))) ≡ turn →
     hyper_next places (hyper_next places s i) j
     ≡ record_state (reverse (put (length places) (put (length places) (reverse s.word) t).word turn).word)
-    (add (length places) (slice_index places j) (minus (length places) (put (length places) (put (length places) (reverse s.word) t).word turn).change))
+    (add (length places) (slice_index places j)
+    (minus (length places) (put (length places) (put (length places) (reverse s.word) t).word turn).change))
 two-next places s i j t turn b even i_below j_below first second =
     let d = length places in
     let p = put d (reverse s.word) t in
@@ -196,15 +209,18 @@ two-next places s i j t turn b even i_below j_below first second =
     let belongs = next_belongs places s i b i_below in
     let once = length-next places s i b in
     let twice = length-next places (hyper_next places s i) j belongs in
-    let start : hyper_next places s i ≡ record_state (reverse p.word) (add d (value_at places (reverse p.word) i) (minus d p.change)) = next-is places s i p.word p.change (ap (put d (reverse s.word)) first) in
+    let start : hyper_next places s i ≡ record_state (reverse p.word) (add d (value_at places (reverse p.word) i) (minus d p.change)) =
+    next-is places s i p.word p.change (ap (put d (reverse s.word)) first) in
     let middle_word : length (hyper_next places s i).word ≡ length (reverse p.word) = ap (λ z. length z.word) start in
     let odd : length (reverse p.word) % 2 ≢ 0 = λ e. absurd (omega arith) in
     let middle : hyper_next places s i ≡ record_state (reverse p.word) (add d i (minus d p.change)) =
     start ∙ ap (λ v. record_state (reverse p.word) (add d v (minus d p.change))) (odd-value places (reverse p.word) i odd) in
     let turned : turn_to places (record_state (reverse p.word) (add d i (minus d p.change))) j ≡ turn =
     ap (λ v. add d v (minus d (add d i (minus d p.change)))) (odd-value places (reverse p.word) j odd) ∙ second in
-    let ended : hyper_next places (record_state (reverse p.word) (add d i (minus d p.change))) j ≡ record_state (reverse q.word) (add d (value_at places (reverse q.word) j) (minus d q.change)) =
-    next-is places (record_state (reverse p.word) (add d i (minus d p.change))) j q.word q.change (ap₂ (put d) (reverse-reverse p.word) turned) in
+    let ended : hyper_next places (record_state (reverse p.word) (add d i (minus d p.change))) j
+    ≡ record_state (reverse q.word) (add d (value_at places (reverse q.word) j) (minus d q.change)) =
+    next-is places (record_state (reverse p.word) (add d i (minus d p.change))) j q.word q.change
+    (ap₂ (put d) (reverse-reverse p.word) turned) in
     let whole = ap (λ z. hyper_next places z j) middle ∙ ended in
     let last_word : length (hyper_next places (hyper_next places s i) j).word ≡ length (reverse q.word) = ap (λ z. length z.word) whole in
     let vertex : length (reverse q.word) % 2 ≡ 0 = omega arith in
@@ -232,12 +248,20 @@ hyper_across places s a c b even quad =
     let other_turn : turn_to places s (add d c 1) ≡ low =
     ap (λ v. add d v (minus d s.number)) (even-value places s.word (add d c 1) even ∙ quad.a_place)
     ∙ lower-turn d five (slice_index places a) s.number a_place_below b.number_below in
-    let one = two-next places s a (add d a 1) t _ b even quad.a_below a_next first_turn (next-turn d five a (put d u t).change quad.a_below first_kept.1) in
-    let two = two-next places s (add d c 1) c low _ b even c_next quad.c_below other_turn (back-turn d five c (put d u low).change quad.c_below other_kept.1) in
+    let one =
+    two-next places s a (add d a 1) t _ b even quad.a_below a_next first_turn
+    (next-turn d five a (put d u t).change quad.a_below first_kept.1) in
+    let two =
+    two-next places s (add d c 1) c low _ b even c_next quad.c_below other_turn
+    (back-turn d five c (put d u low).change quad.c_below other_kept.1) in
     let agree = across d five u t good t_below in
     let first_end = put-good d five (put d u t).word (add d 1 (put d u t).change) first_kept.0 (add-lt d 1 _ one_below first_kept.1) in
-    let other_end = put-good d five (put d u low).word (add d (minus d 1) (put d u low).change) other_kept.0 (add-lt d (minus d 1) _ (minus-lt d 1 one_below) other_kept.1) in
-    let numbers : add d (slice_index places (add d a 1)) (minus d (first_side d u t).change) ≡ add d (slice_index places c) (minus d (second_side d u low).change) =
+    let other_end =
+    put-good d five (put d u low).word (add d (minus d 1) (put d u low).change) other_kept.0
+    (add-lt d (minus d 1) _ (minus-lt d 1 one_below) other_kept.1) in
+    let numbers : add d (slice_index places (add d a 1)) (minus d (first_side d u t).change)
+    ≡ add d (slice_index places c) (minus d (second_side d u low).change) =
     ap (λ v. add d v (minus d (first_side d u t).change)) quad.c_place
-    ∙ last-number d five (slice_index places c) (first_side d u t).change (second_side d u low).change c_place_below first_end.1 other_end.1 agree.change in
+    ∙ last-number d five (slice_index places c) (first_side d u t).change
+    (second_side d u low).change c_place_below first_end.1 other_end.1 agree.change in
     one ∙ ap₂ record_state (ap reverse agree.word) numbers ∙ sym two

@@ -90,7 +90,8 @@ module _ (d : ℕ) (five : 5 ≤ d) where
   flipped-good x (y ∷ r) g = elim (cases_eq x (minus d 2)) [
     | inl e ↦
         let below : 2 < d = omega arith in
-        rw (e, flipped-run d five (y ∷ r) tt) (good-cons d 2 (flipped d (y ∷ r)) (flipped-cons d five y r) below (follows-two _) (flipped-good y r g.2))
+        rw (e, flipped-run d five (y ∷ r) tt)
+        (good-cons d 2 (flipped d (y ∷ r)) (flipped-cons d five y r) below (follows-two _) (flipped-good y r g.2))
     | inr e ↦ rw (flipped-end d five x (y ∷ r) e) (flipped-end-good x (y ∷ r) g (λ c. e))
   ]
 
@@ -153,7 +154,8 @@ module _ (d : ℕ) (five : 5 ≤ d) where
   no-minus x [] g c = absurd c
   no-minus x (y ∷ r) g c = g.1.no_flip
 
-  flipped-closed-one : (x : ℕ) (r : List ℕ) → IsGood d (x ∷ r) → (IsCons r → x ≢ minus d 1) → flipped d (add d x (minus d 1) ∷ r) ≡ 1 ∷ x ∷ r
+  flipped-closed-one : (x : ℕ) (r : List ℕ) → IsGood d (x ∷ r) → (IsCons r → x ≢ minus d 1)
+      → flipped d (add d x (minus d 1) ∷ r) ≡ 1 ∷ x ∷ r
   flipped-closed-one x [] g h = let back = up-down x g in rw back refl
   flipped-closed-one x (y ∷ r) g h =
       let one = minus-one d five in
