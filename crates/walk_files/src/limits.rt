@@ -10,4 +10,4 @@ pub const MOST_WALK_VERTICES: u64 = 1_000_001;
 pub const MOST_ENTRIES: u64 = 1_000_000;
 
 /// The greatest peak that a list of moves may declare.
-pub const MOST_PEAK: u32 = 16_000_000;
+pub const MOST_PEAK: u32 = surf_model::MOST_PEAK;
