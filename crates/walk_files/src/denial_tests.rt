@@ -81,6 +81,6 @@ fn written_in_part(rt: HostRuntime) -> Result<(), Fail> {
     let mut sink = MemorySink::new(rt.alloc(), 7);
     sink.fail_at(3)?;
     assert_eq!(rt; write_denial(&denial, &mut sink), Err(Failed));
-    assert_eq!(rt; sink.bytes(), b"LABELS 4\n+ 0 ".as_slice());
+    assert_eq!(rt; sink.bytes(), b"LABELS 4\n+ 0 0".as_slice());
     Ok(())
 }
