@@ -1,5 +1,5 @@
 -- The labelling of a polygon as it is made: face after face, corner after corner.
-use Rattle.std.proofs.Common.{◌≡◌, inl, inr, ℕ, ◌+◌, ◌-◌, ◌<◌, ◌^◌, true, false, List, [], ◌∷◌, ◌++◌, length, get_or, take, map, refl, ap, ◌∙◌, arith}
+use Rattle.std.proofs.Common.{◌≡◌, inl, inr, ℕ, ◌+◌, ◌-◌, ◌<◌, ◌^◌, Bool, false, cond, List, [], ◌∷◌, ◌++◌, length, get_or, take, map, refl, ap, sym, ◌∙◌, arith}
 use Rattle.std.specs.List.{enumerate_from, range_with_len}
 use Rattle.std.proofs.lemmas.Bool.{cases_lt}
 use Rattle.std.proofs.lemmas.List.{take_more, take_all, map-append}
@@ -12,7 +12,7 @@ use Rattle.halfedge_map.specs.DartMaps.{darts_of, dart_at_corner}
 use Rattle.halfedge_map.proofs.NumberLemmas.{number_below}
 use Rattle.halfedge_map.proofs.DartLemmas.{dart_starts}
 use Rattle.polygon_cut.specs.Polygons.{PolygonView, label_of}
-use Rattle.quad_system.specs.Labellings.{FaceLabels}
+use Rattle.quad_system.specs.Labellings.{FaceLabels, LabellingView}
 use Rattle.quad_system.specs.PolygonLabellings.{face_labels, labelling_from}
 
 -- the labels of the first so many corners of a face
@@ -24,15 +24,11 @@ pub first_labels_more : (s : OrientedMesh) (polygon : PolygonView) (f corner : �
 first_labels_more s polygon f corner =
     map-range_with_len_more (λ t. label_of polygon (dart_at_corner s f t)) 0 corner corner (omega arith)
 
-pub corner_kept : (s : OrientedMesh) (f corner first : ℕ) → first ≡ first_side s.mesh f → is_flipped s.signs f ≡ false
-    → first + corner ≡ dart_at_corner s f corner
+pub dart_from_corner : (s : OrientedMesh) (f corner first sides : ℕ) (flipped : Bool) → first ≡ first_side s.mesh f
+    → sides ≡ length (face_at s.mesh f) → flipped ≡ is_flipped s.signs f
+    → first + cond flipped (next_corner false sides corner) corner ≡ dart_at_corner s f corner
 unfolding dart_at_corner
-corner_kept s f corner first is kept = rw (is, kept) refl
-
-pub corner_flipped : (s : OrientedMesh) (f corner first before : ℕ) → first ≡ first_side s.mesh f → is_flipped s.signs f ≡ true
-    → before ≡ next_corner false (length (face_at s.mesh f)) corner → first + before ≡ dart_at_corner s f corner
-unfolding dart_at_corner
-corner_flipped s f corner first before is flipped there = rw (is, flipped, there) refl
+dart_from_corner s f corner first sides flipped is long turned = rw (is, long, turned) refl
 
 pub corner_within : (s : OrientedMesh) (f corner : ℕ) → f < length s.mesh.faces → corner < length (face_at s.mesh f)
     → dart_at_corner s f corner < darts_of s
@@ -78,3 +74,12 @@ pub all_faces : (s : OrientedMesh) (polygon : PolygonView) (k : ℕ) → k ≡ l
 all_faces s polygon k is =
     ap (map (λ (p : ℕ × List ℕ). face_labels s polygon p.0 (length p.1)))
     (take_all k (enumerate_from 0 s.mesh.faces) (omega (arith, is, length-enumerate_from 0 s.mesh.faces)))
+
+-- a labelling with one place more
+pub one_place_more : (labelling : LabellingView) (degree : ℕ) (faces : List FaceLabels) (places : List ℕ) (k place : ℕ) → k < length places
+    → place ≡ get_or places k 0 → labelling ≡ record { degree = degree; faces = faces; places = take k places }
+    → record labelling { places = labelling.places ++ place ∷ [] } ≡ record { degree = degree; faces = faces; places = take (k + 1) places }
+one_place_more labelling degree faces places k place l at is =
+    ap (λ (old : LabellingView). record { degree = old.degree; faces = old.faces; places = old.places ++ place ∷ [] }) is
+    ∙ ap (λ (ps : List ℕ). record { degree = degree; faces = faces; places = ps })
+    (ap (λ (p : ℕ). take k places ++ p ∷ []) at ∙ sym (take_more places k 0 l))

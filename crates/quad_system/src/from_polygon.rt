@@ -1,6 +1,6 @@
 //! The labelling that a polygon gives.
-ghost use Rattle.std.specs.Prelude.{◌≡◌, ◌<◌, length, IfOk, OnOk};
-ghost use Rattle.surf_model.specs.FaceLists.{face_at};
+ghost use Rattle.std.specs.Prelude.{◌≡◌, ◌<◌, false, if◌then◌else◌, length, IfOk, OnOk};
+ghost use Rattle.surf_model.specs.FaceLists.{face_at, next_corner};
 ghost use Rattle.halfedge_map.specs.OrientedMeshes.{IsOrientedSurface};
 ghost use Rattle.halfedge_map.specs.DartMaps.{darts_of};
 ghost use Rattle.polygon_cut.specs.Polygons.{IsPolygonOf};
@@ -61,14 +61,23 @@ fn put_labels(
     let sides = surface.faces().sides(face);
     let flipped = surface.signs().flipped(face);
     for corner in 0..sides {
-        let at = if flipped {
-            corner_after(false, sides, corner)
-        } else {
-            corner
-        };
-        labels.push(polygon.label(DartName(first + at)).0)?;
+        let dart = DartName(first + side_from(flipped, sides, corner));
+        labels.push(polygon.label(dart).0)?;
     }
     Ok(())
+}
+
+/// The place of the side whose dart starts at a corner: the one before it where the face is flipped.
+fn side_from(flipped: bool, sides: u32, corner: u32) -> u32
+    requires { corner < sides }
+    ensures side { result ≡ (if flipped then next_corner false sides corner else corner) }
+    ensures within { result < sides }
+{
+    if flipped {
+        corner_after(false, sides, corner)
+    } else {
+        corner
+    }
 }
 
 impl GoodLabelling {

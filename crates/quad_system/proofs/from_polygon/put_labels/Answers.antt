@@ -1,12 +1,11 @@
-use Rattle.std.proofs.Common.{◌≡◌, ◌+◌, ◌∷◌, [], ◌++◌, false, length, sym, ap, ◌∙◌}
-use Rattle.surf_model.specs.FaceLists.{face_at, next_corner}
+use Rattle.std.proofs.Common.{◌≡◌, ◌+◌, ◌∷◌, [], ◌++◌, length, sym, ap, ◌∙◌}
+use Rattle.surf_model.specs.FaceLists.{face_at}
 use Rattle.surf_model.specs.Darts.{first_side}
 use Rattle.surf_model.specs.Surfaces.{is_flipped}
 use Rattle.halfedge_map.specs.DartMaps.{dart_at_corner}
 use Rattle.polygon_cut.specs.Polygons.{label_of}
-use Rattle.quad_system.proofs.PolygonMakingLemmas.{first_labels_more, corner_kept, corner_flipped}
+use Rattle.quad_system.proofs.PolygonMakingLemmas.{first_labels_more, dart_from_corner}
 use Rattle.quad_system.proofs.from_polygon.put_labels.Goals as goal
-use Rattle.quad_system.proofs.from_polygon.put_labels.Goals.{then-flipped, else-flipped}
 
 pub loop-corner-preserved : goal.loop-corner-preserved
 loop-corner-preserved c =
@@ -19,14 +18,8 @@ loop-corner-preserved c =
     c.sides-sides.ensures ∙ ap (λ mesh. length (face_at mesh f)) c.faces-2.ensures.mesh in
     let turned : c.flipped-flipped.result ≡ is_flipped s.signs f =
     c.flipped-flipped.ensures ∙ ap (λ signs. is_flipped signs f) c.signs.ensures in
-    let dart : c.first_dart-first.result.0 + c.if-flipped.at ≡ dart_at_corner s f corner = elim c.if-flipped.branch [
-      | then-flipped w ↦
-          corner_flipped s f corner c.first_dart-first.result.0 c.if-flipped.at first (sym turned ∙ w.if-flipped.true)
-          (w.at-is ∙ w.corner_after-at.ensures.corner ∙ ap (λ n. next_corner false n corner) sides)
-      | else-flipped w ↦
-          ap (λ at. c.first_dart-first.result.0 + at) w.at-is
-          ∙ corner_kept s f corner c.first_dart-first.result.0 first (sym turned ∙ w.if-flipped.false)
-    ] in
+    let dart = ap (λ at. c.first_dart-first.result.0 + at) c.side_from.ensures.side
+    ∙ dart_from_corner s f corner c.first_dart-first.result.0 c.sides-sides.result c.flipped-flipped.result first sides turned in
     c.in_ok-push.ensures.items
     ∙ ap (λ label. c.loop-corner.labels.items ++ label ∷ []) (c.label.ensures ∙ ap (label_of c.args.polygon.now) dart)
     ∙ ap (λ labels. labels ++ label_of c.args.polygon.now (dart_at_corner s f corner) ∷ []) c.loop-corner.invariant

@@ -3,7 +3,7 @@ use Rattle.std.proofs.lemmas.List.{take_all}
 use Rattle.surf_model.specs.FaceLists.{face_at}
 use Rattle.surf_model.specs.Surfaces.{is_flipped}
 use Rattle.quad_system.specs.Labellings.{FaceLabels, LabellingView}
-use Rattle.quad_system.proofs.PolygonMakingLemmas.{face_few, labels_long, first_labels, first_faces, first_faces_more, all_faces}
+use Rattle.quad_system.proofs.PolygonMakingLemmas.{face_few, labels_long, first_labels, first_faces, first_faces_more, all_faces, one_place_more}
 use Rattle.quad_system.proofs.labelling.Labelling.from_polygon.Goals as goal
 
 abbrev one_face : Bool → List ℕ → FaceLabels
@@ -52,3 +52,13 @@ returns-clause-labelling c =
     (omega (arith, c.loop-spoke-test.false, c.degree-spoke-end.ensures.degree, c.degree-spoke-end.ensures.places)) in
     c.loop-spoke.invariant
     ∙ ap₂ (λ faces places. labelling_of polygon.degree faces places) faces places
+
+pub loop-spoke-preserved : goal.loop-spoke-preserved
+loop-spoke-preserved c =
+    let polygon = c.args.polygon.now in
+    let k = c.loop-spoke.spoke in
+    let within : k < length polygon.places =
+    omega (arith, c.loop-spoke-test.true, c.degree-spoke-end.ensures.degree, c.degree-spoke-end.ensures.places) in
+    c.in_ok-push_place.ensures.ok
+    ∙ one_place_more c.loop-spoke.labelling polygon.degree (first_faces c.args.surface.now polygon (length c.args.surface.now.mesh.faces))
+    polygon.places k c.place.result within c.place.ensures c.loop-spoke.invariant
