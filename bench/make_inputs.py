@@ -47,6 +47,37 @@ def write_mesh(name, names):
         out.writelines(lines)
 
 
+def chain_of_tori(genus, grid):
+    """Square tori of grid times grid points in a row: the square at (3, 3) of each is joined to the one at (0, 0) of the
+    next, and both are left out. The number of points, and the squares."""
+    corners = ((0, 0), (0, 1), (1, 1), (1, 0))
+    count, squares, last = 0, [], None
+    for torus in range(genus):
+        names = {}
+        if last:
+            names = {corner: last[3 + corner[0], 3 + corner[1]] for corner in corners}
+        for row in range(grid):
+            for column in range(grid):
+                if (row, column) not in names:
+                    names[row, column] = count
+                    count += 1
+        for row in range(grid):
+            for column in range(grid):
+                joined = (row, column) == (0, 0) and torus > 0 or (row, column) == (3, 3) and torus + 1 < genus
+                if not joined:
+                    squares.append([names[(row + r) % grid, (column + c) % grid] for r, c in corners])
+        last = names
+    return count, squares
+
+
+def write_chain(name, genus, grid):
+    count, squares = chain_of_tori(genus, grid)
+    with open(name, "w") as out:
+        out.write("OFF\n%d %d 0\n" % (count, len(squares)))
+        out.writelines("%d 0 0\n" % point for point in range(count))
+        out.writelines("4 %d %d %d %d\n" % tuple(square) for square in squares)
+
+
 def row_walk(darts, names):
     """A walk along a row of points, as often round as it takes."""
     return [names.vertices[vertex(7, column)] for column in range(darts + 1)]
@@ -108,6 +139,9 @@ def main():
     write_short("shuffled", "shuffled", mixed)
     jumps = long_way(1000000, mixed)
     write_walks(path("jumping.walks"), jumps, jumps)
+
+    # Genus 20,000, on 3,760,008 sides.
+    write_chain(path("chain.off"), 20000, 7)
 
 
 main()

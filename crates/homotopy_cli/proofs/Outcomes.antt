@@ -3,6 +3,7 @@ use Rattle.std.proofs.Common.{◌≡◌, ◌↔◌, ◌⊎◌, inl, inr, ℕ, �
 use Rattle.std.specs.Prelude.{Option, Some, None, Result, Ok, Err, MatchResult, slice_index, slice_index_or}
 use Rattle.surf_io.specs.Files.{Files}
 use Rattle.surf_model.specs.FaceLists.{FaceList}
+use Rattle.surf_model.specs.Surfaces.{IsSurface}
 use Rattle.surf_model.specs.Moves.{PeakedMoves, Leads, greatest_darts}
 use Rattle.off_reader.specs.OffTexts.{meaning_of}
 use Rattle.move_checker.specs.Verdicts.{verdict_of}
@@ -15,17 +16,20 @@ use Rattle.walk_files.specs.Pairs.{IsPair, pair_fault}
 use Rattle.walk_files.specs.declared.fault.CertFault.{CertFault}
 use Rattle.walk_files.specs.declared.fault.WalkFault.{WalkFault}
 use Rattle.walk_files.proofs.PairLemmas.{none_of_pair}
-use Rattle.homotopy_cli.specs.Answers.{Outcome, Judged}
-use Rattle.homotopy_cli.specs.Causes.{Exactly}
-use Rattle.homotopy_cli.specs.Checks.{Refuse, Pass, Passes, IsTold, found_or, refuse, meant, pass_unless, ◌>>=◌}
+use Rattle.homotopy_cli.specs.Answers.{Outcome, Measured, Judged}
+use Rattle.homotopy_cli.specs.Causes.{Exactly, NotOrientable}
+use Rattle.homotopy_cli.specs.Checks.{Refuse, Pass, Passes, Holds, IsTold, found_or, refuse, meant, pass_unless, ◌>>=◌}
 use Rattle.homotopy_cli.specs.Commands.{Row, Surface, Decide, Certify, Verify, Reduce, Trial, IsRow}
 use Rattle.homotopy_cli.specs.Inputs.{mesh_in, pair_in, moves_in, list_meant, SpellsMesh, SpellsPair, SpellsList}
 use Rattle.homotopy_cli.specs.Outcomes.{answer_to, answer_of, IsOutcome, AllTold, IsAnswerOf, Answers}
 use Rattle.homotopy_cli.specs.Replies.{Replies, reply_status, reply_text}
 use Rattle.homotopy_cli.specs.Statuses.{verdict_status, IsAnswered}
 use Rattle.homotopy_cli.specs.Stops.{Stops}
-use Rattle.homotopy_cli.specs.Surface.{surface}
-use Rattle.homotopy_cli.specs.SurfaceInput.{surface_in}
+use Rattle.homotopy_cli.specs.Surface.{surface, AreNumbersOf, IsSurfaceInput, IsMeasured}
+use Rattle.homotopy_cli.specs.SurfaceInput.{as_surface, surface_in}
+use Rattle.homotopy_cli.specs.Refusals.{refusal_line}
+use Rattle.homotopy_cli.specs.Texts.{numbers_text}
+use Rattle.homotopy_cli.specs.declared.numbers.SurfaceNumbers.{SurfaceNumbers}
 use Rattle.homotopy_cli.specs.Verify.{verify, IsVerifyInput}
 use Rattle.homotopy_cli.specs.declared.refusal.Input.TheVariants as inputs
 use Rattle.homotopy_cli.specs.declared.refusal.Refusal.{Refusal}
@@ -38,6 +42,7 @@ use Rattle.homotopy_cli.specs.declared.status.Status.TheVariants.{Yes, WriteFaul
 use Rattle.homotopy_cli.specs.declared.stop.Stop.{Stop}
 use Rattle.homotopy_cli.specs.declared.stop.Stop.TheVariants as stops
 use Rattle.homotopy_cli.proofs.Checking.{pair_passes, stops_next}
+use Rattle.homotopy_cli.proofs.Measuring.{sound-numbers, some_numbers, surface_passed, answered_surface, behind_mesh, with_numbers, fault_ends, turned_ends, numbers_end}
 use Rattle.homotopy_cli.proofs.MeshTexts.{mesh_valid}
 use Rattle.homotopy_cli.proofs.Sound.{IsSound, sound-then, sound-pass, sound-refuse, sound-found, sound-meant, sound-pass_unless, sound-file, held}
 use Rattle.homotopy_cli.proofs.Surfaces.{sound-as_surface}
@@ -101,7 +106,10 @@ sound-surface_in held name =
     (λ mesh h. sound-as_surface held mesh (mesh_valid held name mesh h))
 
 sound-surface : (held : Option Files) (name : List ℕ) → IsSound held (surface held name)
-sound-surface held name = sound-then held _ _ (sound-surface_in held name) (λ _ _. sound-refuse held _)
+sound-surface held name =
+    sound-then held _ _ (sound-surface_in held name)
+    (λ mesh h. let is = surface_passed held name mesh h in
+    sound-then held _ _ (sound-numbers held mesh is.0 is.1) (λ numbers _. sound-pass held _))
 
 sound-verify : (held : Option Files) (mesh walks certificate : List ℕ) → IsSound held (verify held mesh walks certificate)
 sound-verify held mesh walks certificate =
@@ -203,6 +211,71 @@ verdict_outcome files words mesh first second list input =
       ),
     )
 
+-- ---- `surface` in the words of the mesh
+
+mesh_told : (files : Option Files) (name : List ℕ) (mesh : FaceList) → Holds files name (SpellsMesh mesh) → (mesh_in files name).EachFile (IsTold files)
+mesh_told files name mesh h = ((held files name (SpellsMesh mesh) h).told, λ bytes _. meant_told files Off (meaning_of bytes))
+
+-- each file that such words look at is told
+told_surface : (files : Option Files) (words : List (List ℕ)) (mesh : FaceList) → IsSurfaceInput files words mesh → AllTold files words
+told_surface files words mesh input = (
+  tt,
+  λ row is.
+      subst (λ (r : Row). (answer_to files r).EachFile (IsTold files)) (one_row words (Surface input.mesh_name) row input.words_are is) (
+        (mesh_told files input.mesh_name mesh input.mesh_file, λ faces _. (tt, λ _ _. tt)),
+        λ _ _. (tt, λ _ _. tt),
+      ),
+)
+
+-- the file passes its mesh
+mesh_passes : (files : Option Files) (name : List ℕ) (mesh : FaceList) → Holds files name (SpellsMesh mesh) → Passes (mesh_in files name) mesh
+mesh_passes files name mesh h =
+    let file = held files name (SpellsMesh mesh) h in
+    inr (file.bytes, file.passes inputs.Mesh, rw file.holds refl)
+
+-- as the checks behind the mesh end, the words do
+surface_outcome : (files : Option Files) (words : List (List ℕ)) (mesh : FaceList) (outcome : Outcome) → IsSurfaceInput files words mesh
+    → (as_surface mesh >>= with_numbers).Ends outcome → IsOutcome files words outcome
+surface_outcome files words mesh outcome input h =
+    inr (Surface input.mesh_name, input.words_are, behind_mesh files input.mesh_name mesh outcome (mesh_passes files input.mesh_name mesh input.mesh_file) h)
+
+-- a status of yes tells of a surface
+yes_surface : (files : Option Files) (words : List (List ℕ)) (mesh : FaceList) (outcome : Outcome) (status : Status) (text : List ℕ)
+    → IsSurfaceInput files words mesh → IsOutcome files words outcome → IsAnswerOf outcome status text → status ≡ Yes → IsSurface mesh
+yes_surface files words mesh (Refuse cause) status text input is answer told = let e = sym told ∙ answer.status_is in cc
+yes_surface files words mesh (Pass found) status text input (inl p) answer told = let e = p.2 in cc
+yes_surface files words mesh (Pass found) status text input (inr p) answer told =
+    let row : (answer_to files (Surface input.mesh_name)).Ends (Pass found) =
+    subst (λ (r : Row). (answer_to files r).Ends (Pass found)) (one_row words p.0 (Surface input.mesh_name) p.1 input.words_are) p.2 in
+    answered_surface files input.mesh_name mesh found (mesh_passes files input.mesh_name mesh input.mesh_file)
+    ((sound-mesh files input.mesh_name).one (mesh_told files input.mesh_name mesh input.mesh_file)) row
+
+-- what is answered of such an input, where an answer is exact
+measured : (files : Option Files) (words : List (List ℕ)) (outcome : Outcome) (status : Status) (text : List ℕ) → IsOutcome files words outcome
+    → IsAnswerOf outcome status text → (AllTold files words → (other : Outcome) → IsOutcome files words other → IsAnswerOf other status text)
+    → IsMeasured files words status text
+measured files words outcome status text is answer exact =
+    record {
+      surface = λ mesh input. (λ told. yes_surface files words mesh outcome status text input is answer told, λ surface. (numbers_told mesh input surface).0);
+      numbers = λ mesh input surface. (numbers_told mesh input surface).1;
+      not_closed = λ mesh fault input first.
+          let a = exact (told_surface files words mesh input) (Refuse (Exactly (refusals.NotClosed fault)))
+          (surface_outcome files words mesh (Refuse (Exactly (refusals.NotClosed fault))) input (fault_ends mesh fault first)) in
+          (a.status_is, a.text_is.2 ∙ ap refusal_line a.text_is.1);
+      not_orientable = λ mesh input closed turned.
+          let a = exact (told_surface files words mesh input) (Refuse (NotOrientable mesh))
+          (surface_outcome files words mesh (Refuse (NotOrientable mesh)) input (turned_ends mesh closed turned)) in
+          (a.status_is, a.text_is.1.0, a.text_is.1.1, a.text_is.2 ∙ ap refusal_line a.text_is.1.2);
+    }
+  where
+    numbers_told : (mesh : FaceList) → IsSurfaceInput files words mesh → IsSurface mesh
+        → (status ≡ Yes) × ((numbers : SurfaceNumbers) × AreNumbersOf mesh numbers × (text ≡ numbers_text numbers))
+    numbers_told mesh input surface =
+        let some = some_numbers mesh (mesh_valid files input.mesh_name mesh (mesh_passes files input.mesh_name mesh input.mesh_file)) surface in
+        let a = exact (told_surface files words mesh input) (Pass (Measured some.0))
+        (surface_outcome files words mesh (Pass (Measured some.0)) input (numbers_end mesh some.0 surface some.1)) in
+        (a.status_is, (some.0, some.1, a.text_is))
+
 -- what is answered by an outcome is answered exactly, where the files are told, and is what the command is for
 pub answers : (files : Option Files) (words : List (List ℕ)) (outcome : Outcome) (status : Status) (text : List ℕ)
     → IsOutcome files words outcome
@@ -221,6 +294,7 @@ answers files words outcome status text is answer =
       is_outcome = is;
       is_answer = answer;
       exact = exact;
+      measured = measured files words outcome status text is answer exact;
       verified =
           record {
             judged = λ mesh first second list input. let a = judged mesh first second list input in (a.status_is, a.text_is);
@@ -257,10 +331,6 @@ row_end files words row (Err stop) is h = stops_next (found_or refusals.WrongWor
 pub not_built : {T : Type 0} → Stops (refuse {T = T} refusals.NotBuilt) (stops.Refused refusals.NotBuilt)
 not_built = (Exactly refusals.NotBuilt, refl, refl)
 
-pub surface_not_built : (files : Option Files) (name : List ℕ) (mesh : FaceList) → Passes (surface_in files name) mesh
-    → Stops (surface files name) (stops.Refused refusals.NotBuilt)
-surface_not_built files name mesh p = stops_next (surface_in files name) (λ _. refuse refusals.NotBuilt) mesh (stops.Refused refusals.NotBuilt) p not_built
-
 -- ---- the status of a run
 
 -- a status that tells of an answer is that of the reply
@@ -272,6 +342,7 @@ answered_status status wanted (inr (inr faulty)) (inr e) = cc
 
 pub is_answered : (reply : Reply) → IsAnswered (reply_status reply)
 is_answered (replies.Refused refusal) = inr (inr refl)
+is_answered (replies.Measured numbers) = inl refl
 is_answered (replies.Judged Accepted) = inl refl
 is_answered (replies.Judged Peak) = inr (inl refl)
 is_answered (replies.Judged (AtMove number fault)) = inr (inl refl)

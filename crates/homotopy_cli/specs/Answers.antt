@@ -1,9 +1,12 @@
 -- What the program answers.
 use Rattle.move_checker.specs.declared.judge.Verdict.{Verdict}
 use Rattle.homotopy_cli.specs.Checks.{End}
+use Rattle.homotopy_cli.specs.declared.numbers.SurfaceNumbers.{SurfaceNumbers}
 
 -- what is answered where nothing is refused
 pub data Answer : Type 0 where
+  -- `surface`
+  Measured : SurfaceNumbers → Answer
   -- `verify`
   Judged : Verdict → Answer
 

@@ -5,7 +5,7 @@ use Rattle.homotopy_cli.specs.Answers.{Answer, Outcome}
 use Rattle.homotopy_cli.specs.Checks.{Check, refuse, found_or, IsTold, ◌>>=◌}
 use Rattle.homotopy_cli.specs.Commands.{Row, Surface, Decide, Certify, Verify, Reduce, Trial, IsRow}
 use Rattle.homotopy_cli.specs.Statuses.{status_of}
-use Rattle.homotopy_cli.specs.Surface.{surface}
+use Rattle.homotopy_cli.specs.Surface.{surface, IsMeasured}
 use Rattle.homotopy_cli.specs.Texts.{IsText}
 use Rattle.homotopy_cli.specs.Verify.{verify, IsVerified}
 use Rattle.homotopy_cli.specs.declared.refusal.Refusal.TheVariants.{WrongWords, NotBuilt}
@@ -50,4 +50,5 @@ pub record Answers (held : Option Files) (words : List (List ℕ)) (status : Sta
   pub is_outcome : IsOutcome held words outcome
   pub is_answer : IsAnswerOf outcome status text
   pub exact : AllTold held words → (other : Outcome) → IsOutcome held words other → IsAnswerOf other status text
+  pub measured : IsMeasured held words status text
   pub verified : IsVerified held words status text

@@ -5,13 +5,13 @@ use Rattle.homotopy_cli.specs.Checks.{Check, Pass, Passes}
 use Rattle.homotopy_cli.specs.Outcomes.{IsAnswerOf}
 use Rattle.homotopy_cli.specs.Refusals.{refusal_line}
 use Rattle.homotopy_cli.specs.Statuses.{verdict_status}
-use Rattle.homotopy_cli.specs.Texts.{verdict_line}
+use Rattle.homotopy_cli.specs.Texts.{numbers_text, verdict_line}
 use Rattle.homotopy_cli.specs.declared.line.Phrase.{Phrase}
 use Rattle.homotopy_cli.specs.declared.line.Phrase.TheVariants.{Text, Number}
 use Rattle.homotopy_cli.specs.declared.reply.Reply.{Reply}
 use Rattle.homotopy_cli.specs.declared.reply.Reply.TheVariants as replies
 use Rattle.homotopy_cli.specs.declared.status.Status.{Status}
-use Rattle.homotopy_cli.specs.declared.status.Status.TheVariants.{Refused}
+use Rattle.homotopy_cli.specs.declared.status.Status.TheVariants.{Yes, Refused}
 
 -- the bytes of a part of a line
 abbrev pub phrase_text : Phrase → List ℕ
@@ -21,11 +21,13 @@ phrase_text (Number number) = decimal number
 -- the text of a reply
 abbrev pub reply_text : Reply → List ℕ
 reply_text (replies.Refused refusal) = refusal_line refusal
+reply_text (replies.Measured numbers) = numbers_text numbers
 reply_text (replies.Judged verdict) = verdict_line verdict
 
 -- the status behind a reply
 abbrev pub reply_status : Reply → Status
 reply_status (replies.Refused refusal) = Refused
+reply_status (replies.Measured numbers) = Yes
 reply_status (replies.Judged verdict) = verdict_status verdict
 
 -- the reply is to an answer that the check may pass

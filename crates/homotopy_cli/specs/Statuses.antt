@@ -2,7 +2,7 @@
 use Rattle.std.specs.Prelude.{◌≡◌, ℕ, ◌⊎◌}
 use Rattle.move_checker.specs.declared.judge.Verdict.{Verdict}
 use Rattle.move_checker.specs.declared.judge.Verdict.TheVariants.{Accepted, Peak, AtMove, End}
-use Rattle.homotopy_cli.specs.Answers.{Outcome, Judged}
+use Rattle.homotopy_cli.specs.Answers.{Outcome, Measured, Judged}
 use Rattle.homotopy_cli.specs.Checks.{Refuse, Pass}
 use Rattle.homotopy_cli.specs.declared.status.Status.{Status}
 use Rattle.homotopy_cli.specs.declared.status.Status.TheVariants.{Yes, No, Refused, ReadFault, WriteFault, OutOfMemory}
@@ -17,6 +17,7 @@ verdict_status End = No
 -- the status of an outcome
 abbrev pub status_of : Outcome → Status
 status_of (Refuse cause) = Refused
+status_of (Pass (Measured numbers)) = Yes
 status_of (Pass (Judged verdict)) = verdict_status verdict
 
 -- the status tells that an answer was written whole

@@ -1,13 +1,15 @@
 -- What is printed.
-use Rattle.std.specs.Prelude.{◌≡◌, ℕ, List, [], ◌∷◌, codes, decimal}
+use Rattle.std.specs.Prelude.{◌≡◌, ℕ, List, [], ◌∷◌, ◌++◌, codes, decimal}
+use Rattle.std.specs.Fmt.{signed_decimal}
 use Rattle.move_checker.specs.declared.fault.MoveFault.{MoveFault}
 use Rattle.move_checker.specs.declared.fault.MoveFault.TheVariants.{Place, NoEdge, NotSpur, NotOnFace, OverPeak}
 use Rattle.move_checker.specs.declared.judge.Verdict.{Verdict}
 use Rattle.move_checker.specs.declared.judge.Verdict.TheVariants.{Accepted, Peak, AtMove, End}
-use Rattle.homotopy_cli.specs.Answers.{Outcome, Judged}
+use Rattle.homotopy_cli.specs.Answers.{Outcome, Measured, Judged}
 use Rattle.homotopy_cli.specs.Causes.{Tells}
 use Rattle.homotopy_cli.specs.Checks.{Refuse, Pass}
 use Rattle.homotopy_cli.specs.Refusals.{line, refusal_line}
+use Rattle.homotopy_cli.specs.declared.numbers.SurfaceNumbers.{SurfaceNumbers}
 use Rattle.homotopy_cli.specs.declared.refusal.Refusal.{Refusal}
 
 -- why a move is refused, in one word
@@ -25,7 +27,15 @@ verdict_line Peak = line (codes "rejected: peak") []
 verdict_line (AtMove number fault) = line (codes "rejected: move") (decimal number ∷ fault_word fault ∷ [])
 verdict_line End = line (codes "rejected: end") []
 
+-- the numbers of a surface, a line each
+abbrev pub numbers_text : SurfaceNumbers → List ℕ
+numbers_text numbers =
+    line (codes "V") (decimal numbers.vertices ∷ []) ++ line (codes "E") (decimal numbers.edges ∷ [])
+    ++ line (codes "F") (decimal numbers.faces ∷ []) ++ line (codes "chi") (signed_decimal numbers.euler ∷ [])
+    ++ line (codes "genus") (decimal numbers.genus ∷ [])
+
 -- the text is one of those that the outcome may have
 abbrev pub IsText : Outcome → List ℕ → Type 0
 IsText (Refuse cause) text = (refusal : Refusal) × Tells refusal cause × (text ≡ refusal_line refusal)
+IsText (Pass (Measured numbers)) text = text ≡ numbers_text numbers
 IsText (Pass (Judged verdict)) text = text ≡ verdict_line verdict

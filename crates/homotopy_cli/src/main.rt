@@ -6,6 +6,7 @@ mod command;
 mod inputs;
 mod laws;
 mod line;
+mod numbers;
 mod odd_chain_line;
 mod refusal;
 mod refusal_line;
@@ -13,6 +14,7 @@ mod reply;
 mod run;
 mod status;
 mod stop;
+mod surface;
 mod surface_input;
 #[cfg(test)]
 mod tests;

@@ -6,6 +6,7 @@ ghost use Rattle.homotopy_cli.specs.Statuses.{verdict_status, IsAnswered};
 ghost use Rattle.homotopy_cli.specs.Texts.{fault_word, verdict_line};
 
 use crate::line::{Phrase, put_line};
+use crate::numbers::{SurfaceNumbers, put_numbers};
 use crate::refusal::Refusal;
 use crate::refusal_line::put_refusal;
 use crate::status::Status;
@@ -17,6 +18,8 @@ use surf_io::{Failed, Sink};
 pub enum Reply {
     /// Why the input is refused.
     Refused(Refusal),
+    /// The numbers of a surface.
+    Measured(SurfaceNumbers),
     /// The verdict on a certificate.
     Judged(Verdict),
 }
@@ -43,7 +46,7 @@ fn status_of_reply(reply: &Reply) -> Status
 {
     match reply {
         Reply::Refused(_) => Status::Refused,
-        Reply::Judged(Verdict::Accepted) => Status::Yes,
+        Reply::Measured(_) | Reply::Judged(Verdict::Accepted) => Status::Yes,
         Reply::Judged(_) => Status::No,
     }
 }
@@ -55,6 +58,7 @@ fn put_reply<K: Sink>(out: &mut K, reply: &Reply) -> Result<(), Failed>
 {
     match reply {
         Reply::Refused(refusal) => put_refusal(out, refusal),
+        Reply::Measured(numbers) => put_numbers(out, numbers),
         Reply::Judged(verdict) => put_verdict(out, *verdict),
     }
 }

@@ -14,7 +14,7 @@ use crate::refusal::Refusal;
 use crate::reply::{Reply, give};
 use crate::status::Status;
 use crate::stop::Stop;
-use crate::surface_input::read_surface;
+use crate::surface::measure;
 use crate::verify::verify;
 use std::alloc::Global;
 use surf_io::{Shelf, Sink};
@@ -83,10 +83,7 @@ fn answer<S: Shelf>(alloc: Global, shelf: &mut S, command: Command<'_>) -> Resul
     ensures only_reads { OnlyReads S.held S.faults shelf.old shelf.new }
 {
     match command {
-        Command::Surface { mesh } => {
-            let _surface = read_surface(alloc, shelf, mesh)?;
-            Err(Stop::Refused(Refusal::NotBuilt))
-        }
+        Command::Surface { mesh } => Ok(Reply::Measured(measure(alloc, shelf, mesh)?)),
         Command::Verify {
             mesh,
             walks,

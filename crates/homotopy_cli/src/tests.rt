@@ -222,12 +222,18 @@ const APART: &str = "OFF\n8 8 0\n0 0 0\n0 0 0\n0 0 0\n0 0 0\n0 0 0\n0 0 0\n0 0 0
 3 0 1 2\n3 0 3 1\n3 0 2 3\n3 1 3 2\n3 7 4 5\n3 7 6 4\n3 7 5 6\n3 4 6 5\n";
 
 /// Runs `surface` on the mesh.
-fn check_surface(rt: &impl Abort, alloc: Global, mesh: &str, text: &str) -> Result<(), AllocError> {
+fn check_surface(
+    rt: &impl Abort,
+    alloc: Global,
+    mesh: &str,
+    text: &str,
+    end: Status,
+) -> Result<(), AllocError> {
     let surface = words(alloc, &["surface", "mesh"])?;
     let mut shelf = shelf_of(alloc, mesh, "", "")?;
     let mut out = MemorySink::new(alloc, 64);
     let status = run(alloc, &surface, &mut shelf, &mut out);
-    assert!(rt; status == Status::Refused, "{text:?}");
+    assert!(rt; status == end, "{text:?}");
     assert!(rt; out.bytes() == text.as_bytes(), "{text:?}");
     Ok(())
 }
@@ -246,10 +252,52 @@ fn faults_of_surfaces_are_named(rt: HostRuntime) -> Result<(), AllocError> {
             "4 2 0\n0 0 0\n0 0 0\n0 0 0\n0 0 0\n6 0 1 2 0 1 3\n4 0 3 1 2\n",
             "refused: not orientable 0 0 1\n",
         ),
-        (TORUS, "refused: not built\n"),
     ];
     for (mesh, text) in &examples {
-        check_surface(&rt, rt.alloc(), *mesh, *text)?;
+        check_surface(&rt, rt.alloc(), *mesh, *text, Status::Refused)?;
+    }
+    Ok(())
+}
+
+/// What `surface` writes of the torus.
+const TORUS_NUMBERS: &str = "V 7\nE 21\nF 14\nchi 0\ngenus 1\n";
+
+#[test]
+fn surfaces_are_counted(rt: HostRuntime) -> Result<(), AllocError> {
+    let turned =
+        "OFF\n5 4 6\n0 0 0\n1 0 0\n0 1 0\n0 0 1\n0 0 0\n3 0 1 2\n3 0 3 1\n3 0 2 3\n3 1 2 3\n";
+    // Two tori that share a triangle, which is left out.
+    let double =
+        "11 26 0\n0 0 0\n0 0 0\n0 0 0\n0 0 0\n0 0 0\n0 0 0\n0 0 0\n0 0 0\n0 0 0\n0 0 0\n0 0 0\n\
+3 1 2 4\n3 2 3 5\n3 3 4 6\n3 4 5 0\n3 5 6 1\n3 6 0 2\n3 0 3 2\n3 1 4 3\n3 2 5 4\n\
+3 3 6 5\n3 4 0 6\n3 5 1 0\n3 6 2 1\n3 1 8 7\n3 7 9 3\n3 3 10 8\n3 8 0 9\n3 9 1 10\n\
+3 10 7 0\n3 0 7 3\n3 1 3 8\n3 7 8 9\n3 3 9 10\n3 8 10 0\n3 9 0 1\n3 10 1 7\n";
+    let examples = [
+        (turned, "V 4\nE 6\nF 4\nchi 2\ngenus 0\n"),
+        (TORUS, TORUS_NUMBERS),
+        (double, "V 11\nE 39\nF 26\nchi -2\ngenus 2\n"),
+    ];
+    for (mesh, text) in &examples {
+        check_surface(&rt, rt.alloc(), *mesh, *text, Status::Yes)?;
+    }
+    Ok(())
+}
+
+#[test]
+fn numbers_may_be_cut_off(rt: HostRuntime) -> Result<(), AllocError> {
+    let alloc = rt.alloc();
+    let surface = words(alloc, &["surface", "mesh"])?;
+    // Six writes of at most five bytes, and a flush.
+    for call in 1..=7u64 {
+        let mut shelf = shelf_of(alloc, TORUS, "", "")?;
+        let mut out = MemorySink::new(alloc, 5);
+        out.fail_at(call)?;
+        let status = run(alloc, &surface, &mut shelf, &mut out);
+        assert!(rt; status == Status::WriteFault, "call {call}");
+        assert!(rt;
+            TORUS_NUMBERS.as_bytes().starts_with(out.bytes()),
+            "call {call}"
+        );
     }
     Ok(())
 }

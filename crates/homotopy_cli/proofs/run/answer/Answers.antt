@@ -1,11 +1,11 @@
 use Rattle.std.proofs.Common.{◌≡◌, inl, inr, refl, arith}
 use Rattle.std.proofs.lemmas.Result.{err_from_is_err_and}
-use Rattle.homotopy_cli.specs.Answers.{Judged}
+use Rattle.homotopy_cli.specs.Answers.{Measured, Judged}
 use Rattle.homotopy_cli.specs.Checks.{refuse}
 use Rattle.homotopy_cli.specs.Commands.{row_of}
 use Rattle.homotopy_cli.specs.Outcomes.{answer_to}
 use Rattle.homotopy_cli.specs.declared.refusal.Refusal.TheVariants.{NotBuilt}
-use Rattle.homotopy_cli.proofs.Outcomes.{not_built, surface_not_built}
+use Rattle.homotopy_cli.proofs.Outcomes.{not_built}
 use Rattle.homotopy_cli.proofs.run.answer.Goals as goal
 
 pub returns-in_err-verify-in-Verify-clause-end : goal.returns-in_err-verify-in-Verify-clause-end
@@ -21,9 +21,18 @@ returns-in_ok-verify-in-Verify-clause-end g c =
       is_answer = record { status_is = refl; text_is = refl };
     })
 
-pub returns-in_ok-_surface-in-Surface-clause-end : goal.returns-in_ok-_surface-in-Surface-clause-end
-returns-in_ok-_surface-in-Surface-clause-end g c =
-    rw c.in-Surface.is (surface_not_built (g.S.Shelf.held c.args.shelf.now) c.in-Surface.mesh.now c.in_ok-_surface-in-Surface._surface.mesh c.in_ok-_surface-in-Surface.ensures.end)
+pub returns-in_err-measure-in-Surface-clause-end : goal.returns-in_err-measure-in-Surface-clause-end
+returns-in_err-measure-in-Surface-clause-end g c =
+    let p = err_from_is_err_and c.from_residual.result c.from_residual.ensures.1 in
+    rw (p.1, p.2, c.in-Surface.is) c.in_err-measure-in-Surface.ensures.end
+
+pub returns-in_ok-measure-in-Surface-clause-end : goal.returns-in_ok-measure-in-Surface-clause-end
+returns-in_ok-measure-in-Surface-clause-end g c =
+    rw c.in-Surface.is (record {
+      answer = Measured c.in_ok-measure-in-Surface.field-0;
+      passes = c.in_ok-measure-in-Surface.ensures.end;
+      is_answer = record { status_is = refl; text_is = refl };
+    })
 
 pub returns-in-Decide : goal.returns-in-Decide
 returns-in-Decide g c =
