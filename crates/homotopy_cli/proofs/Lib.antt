@@ -7,4 +7,5 @@ pub mod Sound
 pub mod MeshTexts
 pub mod Surfaces
 pub mod Measuring
+pub mod Deciding
 pub mod Outcomes

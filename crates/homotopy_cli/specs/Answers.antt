@@ -1,5 +1,6 @@
 -- What the program answers.
 use Rattle.move_checker.specs.declared.judge.Verdict.{Verdict}
+use Rattle.walk_translate.specs.declared.deciding.Answer as deciding
 use Rattle.homotopy_cli.specs.Checks.{End}
 use Rattle.homotopy_cli.specs.declared.numbers.SurfaceNumbers.{SurfaceNumbers}
 
@@ -9,6 +10,8 @@ pub data Answer : Type 0 where
   Measured : SurfaceNumbers → Answer
   -- `verify`
   Judged : Verdict → Answer
+  -- `decide`
+  Decided : deciding.Answer → Answer
 
 -- the outcome of a run: a refusal, or an answer
 abbrev pub Outcome : Type 0

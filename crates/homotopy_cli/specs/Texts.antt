@@ -5,7 +5,9 @@ use Rattle.move_checker.specs.declared.fault.MoveFault.{MoveFault}
 use Rattle.move_checker.specs.declared.fault.MoveFault.TheVariants.{Place, NoEdge, NotSpur, NotOnFace, OverPeak}
 use Rattle.move_checker.specs.declared.judge.Verdict.{Verdict}
 use Rattle.move_checker.specs.declared.judge.Verdict.TheVariants.{Accepted, Peak, AtMove, End}
-use Rattle.homotopy_cli.specs.Answers.{Outcome, Measured, Judged}
+use Rattle.walk_translate.specs.declared.deciding.Answer as deciding
+use Rattle.walk_translate.specs.declared.deciding.Answer.TheVariants.{Homotopic, Different}
+use Rattle.homotopy_cli.specs.Answers.{Outcome, Measured, Judged, Decided}
 use Rattle.homotopy_cli.specs.Causes.{Tells}
 use Rattle.homotopy_cli.specs.Checks.{Refuse, Pass}
 use Rattle.homotopy_cli.specs.Refusals.{line, refusal_line}
@@ -34,8 +36,14 @@ numbers_text numbers =
     ++ line (codes "F") (decimal numbers.faces ∷ []) ++ line (codes "chi") (signed_decimal numbers.euler ∷ [])
     ++ line (codes "genus") (decimal numbers.genus ∷ [])
 
+-- the line of a decision
+abbrev pub decision_line : deciding.Answer → List ℕ
+decision_line Homotopic = line (codes "homotopic") []
+decision_line Different = line (codes "different") []
+
 -- the text is one of those that the outcome may have
 abbrev pub IsText : Outcome → List ℕ → Type 0
 IsText (Refuse cause) text = (refusal : Refusal) × Tells refusal cause × (text ≡ refusal_line refusal)
 IsText (Pass (Measured numbers)) text = text ≡ numbers_text numbers
 IsText (Pass (Judged verdict)) text = text ≡ verdict_line verdict
+IsText (Pass (Decided decision)) text = text ≡ decision_line decision

@@ -10,6 +10,7 @@ ghost use Rattle.homotopy_cli.specs.Stops.{Stops};
 ghost use Rattle.homotopy_cli.specs.declared.status.Status.{Status};
 
 use crate::command::{Command, read_command};
+use crate::decide::decide;
 use crate::refusal::Refusal;
 use crate::reply::{Reply, give};
 use crate::status::Status;
@@ -84,14 +85,16 @@ fn answer<S: Shelf>(alloc: Global, shelf: &mut S, command: Command<'_>) -> Resul
 {
     match command {
         Command::Surface { mesh } => Ok(Reply::Measured(measure(alloc, shelf, mesh)?)),
+        Command::Decide { mesh, walks } => {
+            Ok(Reply::Decided(decide(alloc, shelf, mesh, walks)?))
+        }
         Command::Verify {
             mesh,
             walks,
             certificate,
         } => Ok(Reply::Judged(verify(alloc, shelf, mesh, walks, certificate)?)),
-        Command::Decide { .. }
-        | Command::Certify { .. }
-        | Command::Reduce { .. }
-        | Command::Trial { .. } => Err(Stop::Refused(Refusal::NotBuilt)),
+        Command::Certify { .. } | Command::Reduce { .. } | Command::Trial { .. } => {
+            Err(Stop::Refused(Refusal::NotBuilt))
+        }
     }
 }
