@@ -8,4 +8,7 @@ pub mod MeshTexts
 pub mod Surfaces
 pub mod Measuring
 pub mod Deciding
+pub mod GatheredLemmas
+pub mod WordLines
+pub mod Reducing
 pub mod Outcomes

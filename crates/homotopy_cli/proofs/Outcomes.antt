@@ -17,15 +17,16 @@ use Rattle.walk_files.specs.declared.fault.CertFault.{CertFault}
 use Rattle.walk_files.specs.declared.fault.WalkFault.{WalkFault}
 use Rattle.walk_files.proofs.PairLemmas.{none_of_pair}
 use Rattle.walk_translate.specs.declared.deciding.Answer.TheVariants.{Homotopic, Different}
-use Rattle.homotopy_cli.specs.Answers.{Outcome, Measured, Judged}
+use Rattle.homotopy_cli.specs.Answers.{Outcome, Measured, Judged, Reduced}
 use Rattle.homotopy_cli.specs.Causes.{Exactly, NotOrientable}
 use Rattle.homotopy_cli.specs.Checks.{Refuse, Pass, Passes, Holds, IsTold, found_or, refuse, meant, pass_unless, ◌>>=◌}
 use Rattle.homotopy_cli.specs.Commands.{Row, Surface, Decide, Certify, Verify, Reduce, Trial, IsRow}
 use Rattle.homotopy_cli.specs.Decide.{decide, IsDecideInput}
 use Rattle.homotopy_cli.specs.Inputs.{mesh_in, pair_in, moves_in, list_meant, walk_at, SpellsMesh, SpellsPair, SpellsList}
 use Rattle.homotopy_cli.specs.Outcomes.{answer_to, answer_of, IsOutcome, AllTold, IsAnswerOf, Answers}
+use Rattle.homotopy_cli.specs.Reduce.{IsReduceInput, AreCanonicalOf, IsReduced, reduce}
 use Rattle.homotopy_cli.specs.Replies.{Replies, reply_status, reply_text}
-use Rattle.homotopy_cli.specs.Statuses.{verdict_status, IsAnswered}
+use Rattle.homotopy_cli.specs.Statuses.{verdict_status, status_of, IsAnswered}
 use Rattle.homotopy_cli.specs.Stops.{Stops}
 use Rattle.homotopy_cli.specs.Surface.{surface, AreNumbersOf, IsSurfaceInput, IsMeasured}
 use Rattle.homotopy_cli.specs.SurfaceInput.{as_surface, surface_in}
@@ -47,6 +48,7 @@ use Rattle.homotopy_cli.proofs.Checking.{pair_passes, stops_next}
 use Rattle.homotopy_cli.proofs.Measuring.{sound-numbers, some_numbers, surface_passed, answered_surface, behind_mesh, with_numbers, fault_ends, turned_ends, numbers_end}
 use Rattle.homotopy_cli.proofs.Deciding.{IsRightAnswer, sound-decided, right_answer, behind, after_pair, after_surface}
 use Rattle.homotopy_cli.proofs.MeshTexts.{mesh_valid}
+use Rattle.homotopy_cli.proofs.Reducing.{canonical_there, sound-reduce, reduce_passes, reduce_told, yes_input, input_words, input_told}
 use Rattle.homotopy_cli.proofs.Sound.{IsSound, sound-then, sound-pass, sound-refuse, sound-found, sound-meant, sound-pass_unless, sound-file, held}
 use Rattle.homotopy_cli.proofs.Surfaces.{sound-as_surface}
 
@@ -130,7 +132,7 @@ sound-row held (Surface mesh) = sound-surface held mesh
 sound-row held (Decide mesh walks) = sound-decide held mesh walks
 sound-row held (Certify mesh walks) = sound-refuse held _
 sound-row held (Verify mesh walks certificate) = sound-verify held mesh walks certificate
-sound-row held (Reduce degree list) = sound-refuse held _
+sound-row held (Reduce degree list) = sound-reduce held degree list
 sound-row held (Trial genus grid) = sound-refuse held _
 
 pub sound-words : (held : Option Files) (words : List (List ℕ)) → IsSound held (answer_of held words)
@@ -322,6 +324,42 @@ decides files words outcome status text mesh first second is answer input =
     (walks_file.told, λ bytes _. walks_told files mesh (walks_of bytes)) passed walks in
     right_answer mesh first second outcome status text decision answer
 
+-- ---- `reduce` in the words of the list
+
+-- where the words are those of `reduce`, each of their outcomes is one of it
+reduce_outcome : (files : Option Files) (words : List (List ℕ)) (degree : ℕ) (name : List ℕ) (outcome : Outcome) → IsRow words (Reduce degree name)
+    → IsOutcome files words outcome → status_of outcome ≡ Yes → (reduce files degree name).Ends outcome
+reduce_outcome files words degree name outcome row (inl p) e = let refused = ap status_of p.2 in cc
+reduce_outcome files words degree name outcome row (inr p) e =
+    subst (λ (r : Row). (answer_to files r).Ends outcome) (one_row words p.0 (Reduce degree name) p.1 row) p.2
+
+reduce_all_told : (files : Option Files) (words : List (List ℕ)) (degree : ℕ) (name : List ℕ) → IsRow words (Reduce degree name) → IsTold files name
+    → AllTold files words
+reduce_all_told files words degree name row told = (
+  tt,
+  λ other is.
+      subst (λ (r : Row). (answer_to files r).EachFile (IsTold files)) (one_row words (Reduce degree name) other row is) (reduce_told files degree name told),
+)
+
+reduced : (files : Option Files) (words : List (List ℕ)) (outcome : Outcome) (status : Status) (text : List ℕ) → IsOutcome files words outcome
+    → IsAnswerOf outcome status text
+    → (AllTold files words → (other : Outcome) → IsOutcome files words other → IsAnswerOf other status text) → IsReduced files words status text
+reduced files words outcome status text is answer exact =
+    let good : (degree : ℕ) (name : List ℕ) (turns canonical : List (List ℕ)) → IsRow words (Reduce degree name) → IsReduceInput files degree name turns
+    → AreCanonicalOf degree turns canonical → IsAnswerOf (Pass (Reduced canonical)) status text =
+    λ degree name turns canonical row input are.
+    exact (reduce_all_told files words degree name row (input_told files degree name turns input)) (Pass (Reduced canonical))
+    (inr (Reduce degree name, row, reduce_passes files degree name turns canonical input are)) in
+    record {
+      yes = λ degree name row told. (
+        λ e. yes_input files degree name outcome told (reduce_outcome files words degree name outcome row is (sym answer.status_is ∙ e)) (sym answer.status_is ∙ e),
+        λ given.
+            let there = canonical_there degree given.0 (input_words files degree name given.0 given.1) in
+            (good degree name given.0 there.0 row given.1 there.1).status_is,
+      );
+      lines = λ degree name turns canonical row input are. (good degree name turns canonical row input are).text_is;
+    }
+
 -- what is answered by an outcome is answered exactly, where the files are told, and is what the command is for
 pub answers : (files : Option Files) (words : List (List ℕ)) (outcome : Outcome) (status : Status) (text : List ℕ)
     → IsOutcome files words outcome
@@ -351,6 +389,7 @@ answers files words outcome status text is answer =
             judged = λ mesh first second list input. let a = judged mesh first second list input in (a.status_is, a.text_is);
             accepted = λ mesh first second list input. yes_exactly status mesh first second list (judged mesh first second list input).status_is;
           };
+      reduced = reduced files words outcome status text is answer exact;
     }
 
 pub reply_answers : (files : Option Files) (words : List (List ℕ)) (reply : Reply) → Replies (answer_of files words) reply
@@ -400,3 +439,4 @@ is_answered (replies.Judged (AtMove number fault)) = inr (inl refl)
 is_answered (replies.Judged End) = inr (inl refl)
 is_answered (replies.Decided Homotopic) = inl refl
 is_answered (replies.Decided Different) = inr (inl refl)
+is_answered (replies.Reduced words) = inl refl

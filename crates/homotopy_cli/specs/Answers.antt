@@ -1,4 +1,5 @@
 -- What the program answers.
+use Rattle.std.specs.Prelude.{ℕ, List}
 use Rattle.move_checker.specs.declared.judge.Verdict.{Verdict}
 use Rattle.walk_translate.specs.declared.deciding.Answer as deciding
 use Rattle.homotopy_cli.specs.Checks.{End}
@@ -12,6 +13,8 @@ pub data Answer : Type 0 where
   Judged : Verdict → Answer
   -- `decide`
   Decided : deciding.Answer → Answer
+  -- `reduce`: a word for each turn word
+  Reduced : List (List ℕ) → Answer
 
 -- the outcome of a run: a refusal, or an answer
 abbrev pub Outcome : Type 0

@@ -10,6 +10,8 @@ pub mod Verify
 pub mod SurfaceInput
 pub mod Surface
 pub mod Decide
+pub mod Reduce
+pub mod Gathered
 pub mod Outcomes
 pub mod Stops
 pub mod Replies

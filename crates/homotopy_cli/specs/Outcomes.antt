@@ -5,6 +5,7 @@ use Rattle.homotopy_cli.specs.Answers.{Answer, Outcome}
 use Rattle.homotopy_cli.specs.Checks.{Check, refuse, found_or, IsTold, ◌>>=◌}
 use Rattle.homotopy_cli.specs.Commands.{Row, Surface, Decide, Certify, Verify, Reduce, Trial, IsRow}
 use Rattle.homotopy_cli.specs.Decide.{decide, IsDecided}
+use Rattle.homotopy_cli.specs.Reduce.{reduce, IsReduced}
 use Rattle.homotopy_cli.specs.Statuses.{status_of}
 use Rattle.homotopy_cli.specs.Surface.{surface, IsMeasured}
 use Rattle.homotopy_cli.specs.Texts.{IsText}
@@ -18,7 +19,7 @@ answer_to held (Surface mesh) = surface held mesh
 answer_to held (Decide mesh walks) = decide held mesh walks
 answer_to held (Certify mesh walks) = refuse NotBuilt
 answer_to held (Verify mesh walks certificate) = verify held mesh walks certificate
-answer_to held (Reduce degree list) = refuse NotBuilt
+answer_to held (Reduce degree list) = reduce held degree list
 answer_to held (Trial genus grid) = refuse NotBuilt
 
 -- the answer to the words: those that are no row are wrong
@@ -54,3 +55,4 @@ pub record Answers (held : Option Files) (words : List (List ℕ)) (status : Sta
   pub measured : IsMeasured held words status text
   pub decided : IsDecided held words status text
   pub verified : IsVerified held words status text
+  pub reduced : IsReduced held words status text

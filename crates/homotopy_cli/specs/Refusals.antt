@@ -14,7 +14,7 @@ use Rattle.walk_files.specs.declared.pair.PairFault.TheVariants.{NotTwo, NoVerte
 use Rattle.homotopy_cli.specs.declared.refusal.Input.{Input}
 use Rattle.homotopy_cli.specs.declared.refusal.Input.TheVariants as inputs
 use Rattle.homotopy_cli.specs.declared.refusal.Refusal.{Refusal}
-use Rattle.homotopy_cli.specs.declared.refusal.Refusal.TheVariants.{WrongWords, NotBuilt, TooLarge, Off, NotClosed, NotOrientable, Walks, Pair, Certificate}
+use Rattle.homotopy_cli.specs.declared.refusal.Refusal.TheVariants.{WrongWords, NotBuilt, TooLarge, Degree, Off, NotClosed, NotOrientable, Walks, Pair, Certificate, TurnWords, Range}
 
 -- a phrase behind another
 abbrev pub behind_blank : List ℕ → List ℕ
@@ -37,6 +37,7 @@ abbrev pub too_large_line : Input → List ℕ
 too_large_line inputs.Mesh = refused (codes "off" ∷ codes "too large" ∷ [])
 too_large_line inputs.Walks = refused (codes "walks" ∷ codes "too large" ∷ [])
 too_large_line inputs.Certificate = refused (codes "certificate" ∷ codes "too large" ∷ [])
+too_large_line inputs.TurnWords = refused (codes "list" ∷ codes "too large" ∷ [])
 
 -- the fault of a mesh text
 abbrev pub off_line : OffFault → List ℕ
@@ -103,6 +104,7 @@ certificate_line certificates.OutOfMemory = refused (codes "certificate" ∷ [])
 abbrev pub refusal_line : Refusal → List ℕ
 refusal_line WrongWords = refused (codes "words" ∷ [])
 refusal_line NotBuilt = refused (codes "not built" ∷ [])
+refusal_line (Degree degree) = refused (codes "degree" ∷ decimal degree ∷ [])
 refusal_line (TooLarge input) = too_large_line input
 refusal_line (Off fault) = off_line fault
 refusal_line (NotClosed fault) = surface_line fault
@@ -110,3 +112,5 @@ refusal_line (NotOrientable chain) = odd_chain_line chain
 refusal_line (Walks fault) = numbers_line (codes "walks") fault
 refusal_line (Pair fault) = pair_line fault
 refusal_line (Certificate fault) = certificate_line fault
+refusal_line (TurnWords fault) = numbers_line (codes "list") fault
+refusal_line (Range line) = refused_at (codes "list") line (codes "range")

@@ -5,7 +5,7 @@ use Rattle.homotopy_cli.specs.Checks.{Check, Pass, Passes}
 use Rattle.homotopy_cli.specs.Outcomes.{IsAnswerOf}
 use Rattle.homotopy_cli.specs.Refusals.{refusal_line}
 use Rattle.homotopy_cli.specs.Statuses.{verdict_status, decision_status}
-use Rattle.homotopy_cli.specs.Texts.{numbers_text, verdict_line, decision_line}
+use Rattle.homotopy_cli.specs.Texts.{numbers_text, verdict_line, decision_line, words_text}
 use Rattle.homotopy_cli.specs.declared.line.Phrase.{Phrase}
 use Rattle.homotopy_cli.specs.declared.line.Phrase.TheVariants.{Text, Number}
 use Rattle.homotopy_cli.specs.declared.reply.Reply.{Reply}
@@ -24,6 +24,7 @@ reply_text (replies.Refused refusal) = refusal_line refusal
 reply_text (replies.Measured numbers) = numbers_text numbers
 reply_text (replies.Judged verdict) = verdict_line verdict
 reply_text (replies.Decided decision) = decision_line decision
+reply_text (replies.Reduced words) = words_text words.items
 
 -- the status behind a reply
 abbrev pub reply_status : Reply → Status
@@ -31,6 +32,7 @@ reply_status (replies.Refused refusal) = Refused
 reply_status (replies.Measured numbers) = Yes
 reply_status (replies.Judged verdict) = verdict_status verdict
 reply_status (replies.Decided decision) = decision_status decision
+reply_status (replies.Reduced words) = Yes
 
 -- the reply is to an answer that the check may pass
 pub record Replies (check : Check Answer) (reply : Reply) : Type 0 where

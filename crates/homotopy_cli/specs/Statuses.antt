@@ -4,7 +4,7 @@ use Rattle.move_checker.specs.declared.judge.Verdict.{Verdict}
 use Rattle.move_checker.specs.declared.judge.Verdict.TheVariants.{Accepted, Peak, AtMove, End}
 use Rattle.walk_translate.specs.declared.deciding.Answer as deciding
 use Rattle.walk_translate.specs.declared.deciding.Answer.TheVariants.{Homotopic, Different}
-use Rattle.homotopy_cli.specs.Answers.{Outcome, Measured, Judged, Decided}
+use Rattle.homotopy_cli.specs.Answers.{Outcome, Measured, Judged, Decided, Reduced}
 use Rattle.homotopy_cli.specs.Checks.{Refuse, Pass}
 use Rattle.homotopy_cli.specs.declared.status.Status.{Status}
 use Rattle.homotopy_cli.specs.declared.status.Status.TheVariants.{Yes, No, Refused, ReadFault, WriteFault, OutOfMemory}
@@ -27,6 +27,7 @@ status_of (Refuse cause) = Refused
 status_of (Pass (Measured numbers)) = Yes
 status_of (Pass (Judged verdict)) = verdict_status verdict
 status_of (Pass (Decided decision)) = decision_status decision
+status_of (Pass (Reduced words)) = Yes
 
 -- the status tells that an answer was written whole
 abbrev pub IsAnswered : Status → Type 0

@@ -1,5 +1,5 @@
 -- What is printed.
-use Rattle.std.specs.Prelude.{◌≡◌, ℕ, List, [], ◌∷◌, ◌++◌, codes, decimal}
+use Rattle.std.specs.Prelude.{◌≡◌, ℕ, List, [], ◌∷◌, ◌++◌, map, flat_map, codes, decimal}
 use Rattle.std.specs.Fmt.{signed_decimal}
 use Rattle.move_checker.specs.declared.fault.MoveFault.{MoveFault}
 use Rattle.move_checker.specs.declared.fault.MoveFault.TheVariants.{Place, NoEdge, NotSpur, NotOnFace, OverPeak}
@@ -7,7 +7,7 @@ use Rattle.move_checker.specs.declared.judge.Verdict.{Verdict}
 use Rattle.move_checker.specs.declared.judge.Verdict.TheVariants.{Accepted, Peak, AtMove, End}
 use Rattle.walk_translate.specs.declared.deciding.Answer as deciding
 use Rattle.walk_translate.specs.declared.deciding.Answer.TheVariants.{Homotopic, Different}
-use Rattle.homotopy_cli.specs.Answers.{Outcome, Measured, Judged, Decided}
+use Rattle.homotopy_cli.specs.Answers.{Outcome, Measured, Judged, Decided, Reduced}
 use Rattle.homotopy_cli.specs.Causes.{Tells}
 use Rattle.homotopy_cli.specs.Checks.{Refuse, Pass}
 use Rattle.homotopy_cli.specs.Refusals.{line, refusal_line}
@@ -41,9 +41,19 @@ abbrev pub decision_line : deciding.Answer → List ℕ
 decision_line Homotopic = line (codes "homotopic") []
 decision_line Different = line (codes "different") []
 
+-- the line of a turn word: its entries, or `empty` where it has none
+abbrev pub word_line : List ℕ → List ℕ
+word_line [] = line (codes "empty") []
+word_line (entry ∷ entries) = line (decimal entry) (map decimal entries)
+
+-- a line for each turn word
+abbrev pub words_text : List (List ℕ) → List ℕ
+words_text words = flat_map word_line words
+
 -- the text is one of those that the outcome may have
 abbrev pub IsText : Outcome → List ℕ → Type 0
 IsText (Refuse cause) text = (refusal : Refusal) × Tells refusal cause × (text ≡ refusal_line refusal)
 IsText (Pass (Measured numbers)) text = text ≡ numbers_text numbers
 IsText (Pass (Judged verdict)) text = text ≡ verdict_line verdict
 IsText (Pass (Decided decision)) text = text ≡ decision_line decision
+IsText (Pass (Reduced words)) text = text ≡ words_text words

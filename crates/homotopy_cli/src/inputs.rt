@@ -28,7 +28,7 @@ use walk_files::{WalkFault, WalkList, check_pair, read_walks};
 pub const MOST_BYTES: u64 = 268_435_456;
 
 /// Reads a file whole, within the limit.
-fn read_file<S: Shelf>(
+pub fn read_file<S: Shelf>(
     alloc: Global,
     shelf: &mut S,
     name: &str,

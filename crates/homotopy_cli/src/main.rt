@@ -9,6 +9,9 @@ mod laws;
 mod line;
 mod numbers;
 mod odd_chain_line;
+mod reduce;
+#[cfg(test)]
+mod reduce_tests;
 mod refusal;
 mod refusal_line;
 mod reply;
@@ -20,6 +23,7 @@ mod surface_input;
 #[cfg(test)]
 mod tests;
 mod verify;
+mod word_lines;
 
 use crate::run::run;
 use crate::status::Status;

@@ -13,6 +13,8 @@ pub enum Input {
     Walks,
     /// The certificate.
     Certificate,
+    /// The list of turn words.
+    TurnWords,
 }
 
 /// Why an input is refused. A fault of want of memory never stands here.
@@ -22,6 +24,8 @@ pub enum Refusal {
     WrongWords,
     /// The command, or the form of a file, is not built yet.
     NotBuilt,
+    /// The degree of turn words is too small.
+    Degree(u32),
     /// A file has too many bytes.
     TooLarge(Input),
     /// The mesh is not spelled as it should be.
@@ -36,4 +40,8 @@ pub enum Refusal {
     Pair(PairFault),
     /// The certificate is not spelled as it should be.
     Certificate(CertFault),
+    /// The list of turn words is not spelled as it should be.
+    TurnWords(WalkFault),
+    /// The line of the first turn word with an entry that is not below the degree.
+    Range(u64),
 }

@@ -21,6 +21,10 @@ pub fn put_refusal<K: Sink>(out: &mut K, refusal: &Refusal) -> Result<(), Failed
     match refusal {
         Refusal::WrongWords => put_refused(out, &[Phrase::Text("words")]),
         Refusal::NotBuilt => put_refused(out, &[Phrase::Text("not built")]),
+        Refusal::Degree(degree) => put_refused(
+            out,
+            &[Phrase::Text("degree"), Phrase::Number(u64::from(*degree))],
+        ),
         Refusal::TooLarge(input) => put_too_large(out, *input),
         Refusal::Off(fault) => put_off_fault(out, *fault),
         Refusal::NotClosed(fault) => put_surface_fault(out, *fault),
@@ -28,6 +32,8 @@ pub fn put_refusal<K: Sink>(out: &mut K, refusal: &Refusal) -> Result<(), Failed
         Refusal::Walks(fault) => put_numbers_fault(out, "walks", *fault),
         Refusal::Pair(fault) => put_pair_fault(out, *fault),
         Refusal::Certificate(fault) => put_certificate_fault(out, *fault),
+        Refusal::TurnWords(fault) => put_numbers_fault(out, "list", *fault),
+        Refusal::Range(line) => put_refused_at(out, "list", *line, "range"),
     }
 }
 
@@ -71,6 +77,7 @@ fn put_too_large<K: Sink>(out: &mut K, input: Input) -> Result<(), Failed>
         Input::Mesh => put_refused(out, &[Phrase::Text("off"), large]),
         Input::Walks => put_refused(out, &[Phrase::Text("walks"), large]),
         Input::Certificate => put_refused(out, &[Phrase::Text("certificate"), large]),
+        Input::TurnWords => put_refused(out, &[Phrase::Text("list"), large]),
     }
 }
 

@@ -3,15 +3,17 @@ ghost use Rattle.std.specs.Prelude.{◌≡◌, ◌⊎◌, ◌≤◌, length, OnO
 ghost use Rattle.surf_io.specs.Calls.{OnlyWrites, WroteAll, WrotePart};
 ghost use Rattle.homotopy_cli.specs.Replies.{reply_text, reply_status};
 ghost use Rattle.homotopy_cli.specs.Statuses.{verdict_status, IsAnswered};
-ghost use Rattle.homotopy_cli.specs.Texts.{decision_line, fault_word, verdict_line};
+ghost use Rattle.homotopy_cli.specs.Texts.{decision_line, fault_word, verdict_line, words_text};
 
 use crate::line::{Phrase, put_line};
 use crate::numbers::{SurfaceNumbers, put_numbers};
 use crate::refusal::Refusal;
 use crate::refusal_line::put_refusal;
 use crate::status::Status;
+use crate::word_lines::put_words;
 use move_checker::{MoveFault, Verdict};
 use surf_io::{Failed, Sink};
+use turn_words::TurnWord;
 use walk_translate::Answer;
 
 /// What is written.
@@ -25,6 +27,8 @@ pub enum Reply {
     Judged(Verdict),
     /// Whether two walks are homotopic.
     Decided(Answer),
+    /// Canonical words, one for each line of a list.
+    Reduced(Vec<TurnWord>),
 }
 
 /// Writes the reply, and settles it.
@@ -49,7 +53,7 @@ fn status_of_reply(reply: &Reply) -> Status
 {
     match reply {
         Reply::Refused(_) => Status::Refused,
-        Reply::Measured(_) | Reply::Judged(Verdict::Accepted) => Status::Yes,
+        Reply::Measured(_) | Reply::Judged(Verdict::Accepted) | Reply::Reduced(_) => Status::Yes,
         Reply::Judged(_) => Status::No,
         Reply::Decided(Answer::Homotopic) => Status::Yes,
         Reply::Decided(Answer::Different) => Status::No,
@@ -66,6 +70,7 @@ fn put_reply<K: Sink>(out: &mut K, reply: &Reply) -> Result<(), Failed>
         Reply::Measured(numbers) => put_numbers(out, numbers),
         Reply::Judged(verdict) => put_verdict(out, *verdict),
         Reply::Decided(decision) => put_decision(out, *decision),
+        Reply::Reduced(words) => put_words(out, words),
     }
 }
 

@@ -11,6 +11,7 @@ ghost use Rattle.homotopy_cli.specs.declared.status.Status.{Status};
 
 use crate::command::{Command, read_command};
 use crate::decide::decide;
+use crate::reduce::reduce;
 use crate::refusal::Refusal;
 use crate::reply::{Reply, give};
 use crate::status::Status;
@@ -93,7 +94,10 @@ fn answer<S: Shelf>(alloc: Global, shelf: &mut S, command: Command<'_>) -> Resul
             walks,
             certificate,
         } => Ok(Reply::Judged(verify(alloc, shelf, mesh, walks, certificate)?)),
-        Command::Certify { .. } | Command::Reduce { .. } | Command::Trial { .. } => {
+        Command::Reduce { degree, list } => {
+            Ok(Reply::Reduced(reduce(alloc, shelf, degree, list)?))
+        }
+        Command::Certify { .. } | Command::Trial { .. } => {
             Err(Stop::Refused(Refusal::NotBuilt))
         }
     }

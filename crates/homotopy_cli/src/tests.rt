@@ -45,7 +45,7 @@ const fn files(
     }
 }
 
-fn words(alloc: Global, all: &[&str]) -> Result<Vec<String>, AllocError> {
+pub(crate) fn words(alloc: Global, all: &[&str]) -> Result<Vec<String>, AllocError> {
     let mut words = Vec::new(alloc);
     for word in all {
         words.push(String::from_str(alloc, word)?)?;

@@ -1,11 +1,12 @@
 use Rattle.std.proofs.Common.{◌≡◌, inl, inr, refl, arith}
 use Rattle.std.proofs.lemmas.Result.{err_from_is_err_and}
-use Rattle.homotopy_cli.specs.Answers.{Measured, Decided, Judged}
+use Rattle.homotopy_cli.specs.Answers.{Measured, Decided, Judged, Reduced}
 use Rattle.homotopy_cli.specs.Checks.{refuse}
 use Rattle.homotopy_cli.specs.Commands.{row_of}
 use Rattle.homotopy_cli.specs.Outcomes.{answer_to}
 use Rattle.homotopy_cli.specs.declared.refusal.Refusal.TheVariants.{NotBuilt}
 use Rattle.homotopy_cli.proofs.Outcomes.{not_built}
+use Rattle.homotopy_cli.proofs.Reducing.{untouched}
 use Rattle.homotopy_cli.proofs.run.answer.Goals as goal
 
 pub returns-in_err-decide-in-Decide-clause-end : goal.returns-in_err-decide-in-Decide-clause-end
@@ -47,13 +48,31 @@ returns-in_ok-measure-in-Surface-clause-end g c =
       is_answer = record { status_is = refl; text_is = refl };
     })
 
+pub returns-in_err-reduce-in-Reduce-clause-end : goal.returns-in_err-reduce-in-Reduce-clause-end
+returns-in_err-reduce-in-Reduce-clause-end g c =
+    let p = err_from_is_err_and c.from_residual-in_err-reduce-in-Reduce.result c.from_residual-in_err-reduce-in-Reduce.ensures.1 in
+    rw (p.1, p.2, c.in-Reduce.is) c.in_err-reduce-in-Reduce.ensures.end
+
+pub returns-in_err-reduce-in-Reduce-clause-shelf_untouched : goal.returns-in_err-reduce-in-Reduce-clause-shelf_untouched
+returns-in_err-reduce-in-Reduce-clause-shelf_untouched g c = λ none.
+    untouched (g.S.Shelf.held c.args.shelf.now) c.in-Reduce.degree c.in-Reduce.list.now c.args.shelf.now c.reduce.new.shelf (rw c.in-Reduce.is at none)
+    c.reduce.ensures.unread
+
+pub returns-in_ok-reduce-in-Reduce-clause-end : goal.returns-in_ok-reduce-in-Reduce-clause-end
+returns-in_ok-reduce-in-Reduce-clause-end g c =
+    rw c.in-Reduce.is (record {
+      answer = Reduced c.in_ok-reduce-in-Reduce.field-0.items;
+      passes = c.in_ok-reduce-in-Reduce.ensures.end;
+      is_answer = record { status_is = refl; text_is = refl };
+    })
+
 pub returns-in-Certify : goal.returns-in-Certify
 returns-in-Certify g c =
     let files = g.S.Shelf.held c.args.shelf.now in
     let none : answer_to files (row_of c.args.command) ≡ refuse NotBuilt =
     elim c.in-Certify.is [
       | inl certify ↦ rw certify.2 refl
-      | inr more ↦ elim more [ inl reduce ↦ rw reduce.2 refl | inr trial ↦ rw trial.2 refl ]
+      | inr trial ↦ rw trial.2 refl
     ] in
     record {
       end = rw none not_built;
