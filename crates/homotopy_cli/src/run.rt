@@ -97,8 +97,6 @@ fn answer<S: Shelf>(alloc: Global, shelf: &mut S, command: Command<'_>) -> Resul
         Command::Reduce { degree, list } => {
             Ok(Reply::Reduced(reduce(alloc, shelf, degree, list)?))
         }
-        Command::Certify { .. } | Command::Trial { .. } => {
-            Err(Stop::Refused(Refusal::NotBuilt))
-        }
+        Command::Certify { .. } | Command::Trial { .. } => { Err(Stop::Refused(Refusal::NotBuilt)) }
     }
 }

@@ -1,4 +1,4 @@
-use Rattle.std.proofs.Common.{◌≡◌, ◌⊎◌, inl, inr, List, ℕ, ◌<◌, length, take, sym, ap, subst, ◌∙◌, arith, rules}
+use Rattle.std.proofs.Common.{List, ℕ, ◌<◌, length, subst, arith, rules}
 use Rattle.std.specs.Prelude.{All}
 use Rattle.std.proofs.lemmas.Result.{err_from_is_err_and}
 use Rattle.turn_words.specs.Canonical.{IsTurnWord}

@@ -1,7 +1,11 @@
 use Rattle.std.proofs.Common.{◌≡◌, List, ℕ, sym, ap, subst, ◌∙◌, arith}
 use Rattle.std.proofs.lemmas.Result.{err_from_is_err_and}
-use Rattle.homotopy_cli.proofs.Reducing.{lines_stop, short_lines, words_end}
+use Rattle.homotopy_cli.proofs.Reducing.{degree_stops, lines_stop, short_lines, words_end}
 use Rattle.homotopy_cli.proofs.reduce.reduce.Goals as goal
+
+pub returns-then-degree-lt-LEAST_DEGREE-clause-end : goal.returns-then-degree-lt-LEAST_DEGREE-clause-end
+returns-then-degree-lt-LEAST_DEGREE-clause-end g c =
+    degree_stops (g.S.Shelf.held c.args.shelf.now) c.args.degree c.args.list.now c.if-degree-lt-LEAST_DEGREE.true
 
 pub returns-in_err-lines-clause-end : goal.returns-in_err-lines-clause-end
 returns-in_err-lines-clause-end g c =

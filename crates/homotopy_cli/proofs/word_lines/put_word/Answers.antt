@@ -1,4 +1,4 @@
-use Rattle.std.proofs.Common.{◌≡◌, ℕ, ◌<◌, [], length, ◌∙◌, arith}
+use Rattle.std.proofs.Common.{◌∙◌, arith}
 use Rattle.std.proofs.lemmas.Result.{err_from_is_err_and}
 use Rattle.homotopy_cli.proofs.WordLines.{filled, line-more-put, line-ends, line-stops}
 use Rattle.homotopy_cli.proofs.word_lines.put_word.Goals as goal
