@@ -6,4 +6,5 @@ pub mod Verifying
 pub mod Sound
 pub mod MeshTexts
 pub mod Surfaces
+pub mod Deciding
 pub mod Outcomes

@@ -15,11 +15,13 @@ use Rattle.walk_files.specs.Pairs.{IsPair, pair_fault}
 use Rattle.walk_files.specs.declared.fault.CertFault.{CertFault}
 use Rattle.walk_files.specs.declared.fault.WalkFault.{WalkFault}
 use Rattle.walk_files.proofs.PairLemmas.{none_of_pair}
+use Rattle.walk_translate.specs.declared.deciding.Answer.TheVariants.{Homotopic, Different}
 use Rattle.homotopy_cli.specs.Answers.{Outcome, Judged}
 use Rattle.homotopy_cli.specs.Causes.{Exactly}
 use Rattle.homotopy_cli.specs.Checks.{Refuse, Pass, Passes, IsTold, found_or, refuse, meant, pass_unless, ◌>>=◌}
 use Rattle.homotopy_cli.specs.Commands.{Row, Surface, Decide, Certify, Verify, Reduce, Trial, IsRow}
-use Rattle.homotopy_cli.specs.Inputs.{mesh_in, pair_in, moves_in, list_meant, SpellsMesh, SpellsPair, SpellsList}
+use Rattle.homotopy_cli.specs.Decide.{decide, IsDecideInput}
+use Rattle.homotopy_cli.specs.Inputs.{mesh_in, pair_in, moves_in, list_meant, walk_at, SpellsMesh, SpellsPair, SpellsList}
 use Rattle.homotopy_cli.specs.Outcomes.{answer_to, answer_of, IsOutcome, AllTold, IsAnswerOf, Answers}
 use Rattle.homotopy_cli.specs.Replies.{Replies, reply_status, reply_text}
 use Rattle.homotopy_cli.specs.Statuses.{verdict_status, IsAnswered}
@@ -38,6 +40,7 @@ use Rattle.homotopy_cli.specs.declared.status.Status.TheVariants.{Yes, WriteFaul
 use Rattle.homotopy_cli.specs.declared.stop.Stop.{Stop}
 use Rattle.homotopy_cli.specs.declared.stop.Stop.TheVariants as stops
 use Rattle.homotopy_cli.proofs.Checking.{pair_passes, stops_next}
+use Rattle.homotopy_cli.proofs.Deciding.{IsRightAnswer, sound-decided, right_answer, behind, after_pair, after_surface}
 use Rattle.homotopy_cli.proofs.MeshTexts.{mesh_valid}
 use Rattle.homotopy_cli.proofs.Sound.{IsSound, sound-then, sound-pass, sound-refuse, sound-found, sound-meant, sound-pass_unless, sound-file, held}
 use Rattle.homotopy_cli.proofs.Surfaces.{sound-as_surface}
@@ -109,9 +112,14 @@ sound-verify held mesh walks certificate =
     (λ faces _. sound-then held _ _ (sound-pair held walks faces)
     (λ pair _. sound-then held _ _ (sound-moves held certificate) (λ list _. sound-pass held _)))
 
+sound-decide : (held : Option Files) (mesh walks : List ℕ) → IsSound held (decide held mesh walks)
+sound-decide held mesh walks =
+    sound-then held _ _ (sound-surface_in held mesh)
+    (λ surface _. sound-then held _ _ (sound-pair held walks surface) (λ pair _. sound-decided held surface (walk_at pair 0) (walk_at pair 1)))
+
 sound-row : (held : Option Files) (row : Row) → IsSound held (answer_to held row)
 sound-row held (Surface mesh) = sound-surface held mesh
-sound-row held (Decide mesh walks) = sound-refuse held _
+sound-row held (Decide mesh walks) = sound-decide held mesh walks
 sound-row held (Certify mesh walks) = sound-refuse held _
 sound-row held (Verify mesh walks certificate) = sound-verify held mesh walks certificate
 sound-row held (Reduce degree list) = sound-refuse held _
@@ -203,6 +211,44 @@ verdict_outcome files words mesh first second list input =
       ),
     )
 
+-- ---- `decide` in the words of the mesh
+
+surface_told : (files : Option Files) (name : List ℕ) → IsTold files name → (surface_in files name).EachFile (IsTold files)
+surface_told files name told = ((told, λ bytes _. meant_told files Off (meaning_of bytes)), λ _ _. (tt, λ _ _. tt))
+
+-- what is answered of such an input
+decides : (files : Option Files) (words : List (List ℕ)) (outcome : Outcome) (status : Status) (text : List ℕ) (mesh : FaceList) (first second : List ℕ)
+    → IsOutcome files words outcome → IsAnswerOf outcome status text → IsDecideInput files words mesh first second
+    → IsRightAnswer mesh first second status text
+decides files words outcome status text mesh first second is answer input =
+    let mesh_file = held files input.mesh_name (SpellsMesh mesh) input.mesh_file in
+    let walks_file = held files input.walks_name (SpellsPair mesh first second) input.walks_file in
+    let spelled = walks_file.holds in
+    let pair : List (List ℕ) = first ∷ second ∷ [] in
+    let is_pair : IsPair mesh pair =
+    record {
+      first = first;
+      second = second;
+      two = refl;
+      first_walk = spelled.first_walk;
+      second_walk = spelled.second_walk;
+      ends = spelled.ends;
+    } in
+    let passed = pair_passes files input.walks_name mesh walks_file.bytes pair (walks_file.passes inputs.Walks) spelled.text (none_of_pair mesh pair is_pair) in
+    let surface : Passes (surface_in files input.mesh_name) mesh =
+    inr (
+      mesh,
+      inr (mesh_file.bytes, mesh_file.passes inputs.Mesh, rw mesh_file.holds refl),
+      inr (mesh, (input.is_surface.closed, refl), (input.is_surface.orientable, refl)),
+    ) in
+    let row = behind files (found_or refusals.WrongWords (IsRow words)) (answer_to files) (Decide input.mesh_name input.walks_name) outcome
+    (sound-found files _ _ (one_row words)) tt input.words_are is in
+    let walks = behind files (surface_in files input.mesh_name) (after_surface files input.walks_name) mesh outcome (sound-surface_in files input.mesh_name)
+    (surface_told files input.mesh_name mesh_file.told) surface row in
+    let decision = behind files (pair_in files input.walks_name mesh) (after_pair mesh) pair outcome (sound-pair files input.walks_name mesh)
+    (walks_file.told, λ bytes _. walks_told files mesh (walks_of bytes)) passed walks in
+    right_answer mesh first second outcome status text decision answer
+
 -- what is answered by an outcome is answered exactly, where the files are told, and is what the command is for
 pub answers : (files : Option Files) (words : List (List ℕ)) (outcome : Outcome) (status : Status) (text : List ℕ)
     → IsOutcome files words outcome
@@ -221,6 +267,11 @@ answers files words outcome status text is answer =
       is_outcome = is;
       is_answer = answer;
       exact = exact;
+      decided =
+          record {
+            answered = λ mesh first second input. (decides files words outcome status text mesh first second is answer input).answered;
+            exactly = λ mesh first second input. (decides files words outcome status text mesh first second is answer input).exactly;
+          };
       verified =
           record {
             judged = λ mesh first second list input. let a = judged mesh first second list input in (a.status_is, a.text_is);
@@ -276,3 +327,5 @@ is_answered (replies.Judged Accepted) = inl refl
 is_answered (replies.Judged Peak) = inr (inl refl)
 is_answered (replies.Judged (AtMove number fault)) = inr (inl refl)
 is_answered (replies.Judged End) = inr (inl refl)
+is_answered (replies.Decided Homotopic) = inl refl
+is_answered (replies.Decided Different) = inr (inl refl)

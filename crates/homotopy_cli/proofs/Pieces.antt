@@ -6,7 +6,7 @@ use Rattle.std.proofs.lemmas.List.Concat.{flat_map-append}
 use Rattle.std.proofs.lemmas.Option.{slice_get_within, get_or_from_slice_get}
 use Rattle.std.proofs.Math.Seq.{take-suc}
 use Rattle.surf_io.specs.Bytes.{append_told, Appends, AppendsPrefix}
-use Rattle.surf_io.specs.Calls.{WroteAll, WrotePart}
+use Rattle.surf_io.specs.Calls.{WrotePart}
 use Rattle.surf_io.specs.Faults.{Rose}
 use Rattle.surf_io.proofs.Appending.{appends_twice, prefix_after, prefix_wider}
 use Rattle.surf_model.specs.declared.chains.ChainLink.{ChainLink}

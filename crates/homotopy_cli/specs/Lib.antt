@@ -9,6 +9,7 @@ pub mod Statuses
 pub mod Verify
 pub mod SurfaceInput
 pub mod Surface
+pub mod Decide
 pub mod Outcomes
 pub mod Stops
 pub mod Replies

@@ -4,6 +4,7 @@ use Rattle.surf_io.specs.Files.{Files}
 use Rattle.homotopy_cli.specs.Answers.{Answer, Outcome}
 use Rattle.homotopy_cli.specs.Checks.{Check, refuse, found_or, IsTold, ◌>>=◌}
 use Rattle.homotopy_cli.specs.Commands.{Row, Surface, Decide, Certify, Verify, Reduce, Trial, IsRow}
+use Rattle.homotopy_cli.specs.Decide.{decide, IsDecided}
 use Rattle.homotopy_cli.specs.Statuses.{status_of}
 use Rattle.homotopy_cli.specs.Surface.{surface}
 use Rattle.homotopy_cli.specs.Texts.{IsText}
@@ -14,7 +15,7 @@ use Rattle.homotopy_cli.specs.declared.status.Status.{Status}
 -- the answer to a row of the table of commands
 abbrev pub answer_to : Option Files → Row → Check Answer
 answer_to held (Surface mesh) = surface held mesh
-answer_to held (Decide mesh walks) = refuse NotBuilt
+answer_to held (Decide mesh walks) = decide held mesh walks
 answer_to held (Certify mesh walks) = refuse NotBuilt
 answer_to held (Verify mesh walks certificate) = verify held mesh walks certificate
 answer_to held (Reduce degree list) = refuse NotBuilt
@@ -50,4 +51,5 @@ pub record Answers (held : Option Files) (words : List (List ℕ)) (status : Sta
   pub is_outcome : IsOutcome held words outcome
   pub is_answer : IsAnswerOf outcome status text
   pub exact : AllTold held words → (other : Outcome) → IsOutcome held words other → IsAnswerOf other status text
+  pub decided : IsDecided held words status text
   pub verified : IsVerified held words status text

@@ -4,8 +4,8 @@ use Rattle.homotopy_cli.specs.Answers.{Answer}
 use Rattle.homotopy_cli.specs.Checks.{Check, Pass, Passes}
 use Rattle.homotopy_cli.specs.Outcomes.{IsAnswerOf}
 use Rattle.homotopy_cli.specs.Refusals.{refusal_line}
-use Rattle.homotopy_cli.specs.Statuses.{verdict_status}
-use Rattle.homotopy_cli.specs.Texts.{verdict_line}
+use Rattle.homotopy_cli.specs.Statuses.{verdict_status, decision_status}
+use Rattle.homotopy_cli.specs.Texts.{verdict_line, decision_line}
 use Rattle.homotopy_cli.specs.declared.line.Phrase.{Phrase}
 use Rattle.homotopy_cli.specs.declared.line.Phrase.TheVariants.{Text, Number}
 use Rattle.homotopy_cli.specs.declared.reply.Reply.{Reply}
@@ -22,11 +22,13 @@ phrase_text (Number number) = decimal number
 abbrev pub reply_text : Reply → List ℕ
 reply_text (replies.Refused refusal) = refusal_line refusal
 reply_text (replies.Judged verdict) = verdict_line verdict
+reply_text (replies.Decided decision) = decision_line decision
 
 -- the status behind a reply
 abbrev pub reply_status : Reply → Status
 reply_status (replies.Refused refusal) = Refused
 reply_status (replies.Judged verdict) = verdict_status verdict
+reply_status (replies.Decided decision) = decision_status decision
 
 -- the reply is to an answer that the check may pass
 pub record Replies (check : Check Answer) (reply : Reply) : Type 0 where

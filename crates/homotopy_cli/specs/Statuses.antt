@@ -2,7 +2,9 @@
 use Rattle.std.specs.Prelude.{◌≡◌, ℕ, ◌⊎◌}
 use Rattle.move_checker.specs.declared.judge.Verdict.{Verdict}
 use Rattle.move_checker.specs.declared.judge.Verdict.TheVariants.{Accepted, Peak, AtMove, End}
-use Rattle.homotopy_cli.specs.Answers.{Outcome, Judged}
+use Rattle.walk_translate.specs.declared.deciding.Answer as deciding
+use Rattle.walk_translate.specs.declared.deciding.Answer.TheVariants.{Homotopic, Different}
+use Rattle.homotopy_cli.specs.Answers.{Outcome, Judged, Decided}
 use Rattle.homotopy_cli.specs.Checks.{Refuse, Pass}
 use Rattle.homotopy_cli.specs.declared.status.Status.{Status}
 use Rattle.homotopy_cli.specs.declared.status.Status.TheVariants.{Yes, No, Refused, ReadFault, WriteFault, OutOfMemory}
@@ -14,10 +16,16 @@ verdict_status Peak = No
 verdict_status (AtMove number fault) = No
 verdict_status End = No
 
+-- yes where the walks are homotopic
+abbrev pub decision_status : deciding.Answer → Status
+decision_status Homotopic = Yes
+decision_status Different = No
+
 -- the status of an outcome
 abbrev pub status_of : Outcome → Status
 status_of (Refuse cause) = Refused
 status_of (Pass (Judged verdict)) = verdict_status verdict
+status_of (Pass (Decided decision)) = decision_status decision
 
 -- the status tells that an answer was written whole
 abbrev pub IsAnswered : Status → Type 0

@@ -4,7 +4,9 @@ use Rattle.move_checker.specs.declared.fault.MoveFault.{MoveFault}
 use Rattle.move_checker.specs.declared.fault.MoveFault.TheVariants.{Place, NoEdge, NotSpur, NotOnFace, OverPeak}
 use Rattle.move_checker.specs.declared.judge.Verdict.{Verdict}
 use Rattle.move_checker.specs.declared.judge.Verdict.TheVariants.{Accepted, Peak, AtMove, End}
-use Rattle.homotopy_cli.specs.Answers.{Outcome, Judged}
+use Rattle.walk_translate.specs.declared.deciding.Answer as deciding
+use Rattle.walk_translate.specs.declared.deciding.Answer.TheVariants.{Homotopic, Different}
+use Rattle.homotopy_cli.specs.Answers.{Outcome, Judged, Decided}
 use Rattle.homotopy_cli.specs.Causes.{Tells}
 use Rattle.homotopy_cli.specs.Checks.{Refuse, Pass}
 use Rattle.homotopy_cli.specs.Refusals.{line, refusal_line}
@@ -25,7 +27,13 @@ verdict_line Peak = line (codes "rejected: peak") []
 verdict_line (AtMove number fault) = line (codes "rejected: move") (decimal number ∷ fault_word fault ∷ [])
 verdict_line End = line (codes "rejected: end") []
 
+-- the line of a decision
+abbrev pub decision_line : deciding.Answer → List ℕ
+decision_line Homotopic = line (codes "homotopic") []
+decision_line Different = line (codes "different") []
+
 -- the text is one of those that the outcome may have
 abbrev pub IsText : Outcome → List ℕ → Type 0
 IsText (Refuse cause) text = (refusal : Refusal) × Tells refusal cause × (text ≡ refusal_line refusal)
 IsText (Pass (Judged verdict)) text = text ≡ verdict_line verdict
+IsText (Pass (Decided decision)) text = text ≡ decision_line decision

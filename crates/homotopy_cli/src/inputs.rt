@@ -1,5 +1,5 @@
 //! Reading the files that the words name.
-ghost use Rattle.std.specs.Prelude.{◌≡◌, ◌⊎◌, MatchResult, Ok, Err};
+ghost use Rattle.std.specs.Prelude.{◌≡◌, ◌⊎◌, MatchResult, IfOk, Ok, Err};
 ghost use Rattle.surf_io.specs.Calls.{OnlyReads};
 ghost use Rattle.surf_io.specs.Faults.{Rose};
 ghost use Rattle.surf_model.specs.FaceLists.{FaceList};
@@ -7,6 +7,7 @@ ghost use Rattle.surf_model.specs.Edges.{IsTableOf};
 ghost use Rattle.off_reader.specs.OffTexts.{meaning_of};
 ghost use Rattle.off_reader.specs.declared.off_fault.OffFault.{OffFault};
 ghost use Rattle.walk_files.specs.NumberTexts.{walks_of};
+ghost use Rattle.walk_files.specs.Pairs.{IsPair};
 ghost use Rattle.walk_files.specs.declared.fault.WalkFault.{WalkFault};
 ghost use Rattle.homotopy_cli.specs.Checks.{file, Passes};
 ghost use Rattle.homotopy_cli.specs.Inputs.{mesh_in, pair_in, moves_in};
@@ -78,6 +79,7 @@ pub fn read_pair<S: Shelf>(
 ) -> Result<WalkList, Stop>
     ensures end { (mesh : FaceList) → IsTableOf mesh sides.now
         → MatchResult result (Passes (pair_in (S.held shelf.old) name.now mesh)) (Stops (pair_in (S.held shelf.old) name.now mesh)) }
+    ensures pair { IfOk result (λ walks. (mesh : FaceList) → IsTableOf mesh sides.now → IsPair mesh walks) }
     ensures fault { result ≡ Err Stop.ReadFault → Rose (S.faults shelf.old) (S.faults shelf.new) }
     ensures only_reads { OnlyReads S.held S.faults shelf.old shelf.new }
 {

@@ -3,6 +3,7 @@
 
 mod certificate;
 mod command;
+mod decide;
 mod inputs;
 mod laws;
 mod line;

@@ -3,7 +3,7 @@ ghost use Rattle.std.specs.Prelude.{◌≡◌, ◌⊎◌, ◌≤◌, length, OnO
 ghost use Rattle.surf_io.specs.Calls.{OnlyWrites, WroteAll, WrotePart};
 ghost use Rattle.homotopy_cli.specs.Replies.{reply_text, reply_status};
 ghost use Rattle.homotopy_cli.specs.Statuses.{verdict_status, IsAnswered};
-ghost use Rattle.homotopy_cli.specs.Texts.{fault_word, verdict_line};
+ghost use Rattle.homotopy_cli.specs.Texts.{decision_line, fault_word, verdict_line};
 
 use crate::line::{Phrase, put_line};
 use crate::refusal::Refusal;
@@ -11,6 +11,7 @@ use crate::refusal_line::put_refusal;
 use crate::status::Status;
 use move_checker::{MoveFault, Verdict};
 use surf_io::{Failed, Sink};
+use walk_translate::Answer;
 
 /// What is written.
 #[derive(Debug, Drop)]
@@ -19,6 +20,8 @@ pub enum Reply {
     Refused(Refusal),
     /// The verdict on a certificate.
     Judged(Verdict),
+    /// Whether two walks are homotopic.
+    Decided(Answer),
 }
 
 /// Writes the reply, and settles it.
@@ -45,6 +48,8 @@ fn status_of_reply(reply: &Reply) -> Status
         Reply::Refused(_) => Status::Refused,
         Reply::Judged(Verdict::Accepted) => Status::Yes,
         Reply::Judged(_) => Status::No,
+        Reply::Decided(Answer::Homotopic) => Status::Yes,
+        Reply::Decided(Answer::Different) => Status::No,
     }
 }
 
@@ -56,6 +61,18 @@ fn put_reply<K: Sink>(out: &mut K, reply: &Reply) -> Result<(), Failed>
     match reply {
         Reply::Refused(refusal) => put_refusal(out, refusal),
         Reply::Judged(verdict) => put_verdict(out, *verdict),
+        Reply::Decided(decision) => put_decision(out, *decision),
+    }
+}
+
+fn put_decision<K: Sink>(out: &mut K, decision: Answer) -> Result<(), Failed>
+    ensures ok { OnOk result (WroteAll K.written out.old out.new (decision_line decision)) }
+    ensures failed { OnErr result (WrotePart K.written K.faults out.old out.new (decision_line decision)) }
+    ensures only_writes { OnlyWrites K.settled K.faults out.old out.new }
+{
+    match decision {
+        Answer::Homotopic => put_line(out, Phrase::Text("homotopic"), &[]),
+        Answer::Different => put_line(out, Phrase::Text("different"), &[]),
     }
 }
 

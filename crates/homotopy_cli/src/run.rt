@@ -10,6 +10,7 @@ ghost use Rattle.homotopy_cli.specs.Stops.{Stops};
 ghost use Rattle.homotopy_cli.specs.declared.status.Status.{Status};
 
 use crate::command::{Command, read_command};
+use crate::decide::decide;
 use crate::refusal::Refusal;
 use crate::reply::{Reply, give};
 use crate::status::Status;
@@ -87,14 +88,16 @@ fn answer<S: Shelf>(alloc: Global, shelf: &mut S, command: Command<'_>) -> Resul
             let _surface = read_surface(alloc, shelf, mesh)?;
             Err(Stop::Refused(Refusal::NotBuilt))
         }
+        Command::Decide { mesh, walks } => {
+            Ok(Reply::Decided(decide(alloc, shelf, mesh, walks)?))
+        }
         Command::Verify {
             mesh,
             walks,
             certificate,
         } => Ok(Reply::Judged(verify(alloc, shelf, mesh, walks, certificate)?)),
-        Command::Decide { .. }
-        | Command::Certify { .. }
-        | Command::Reduce { .. }
-        | Command::Trial { .. } => Err(Stop::Refused(Refusal::NotBuilt)),
+        Command::Certify { .. } | Command::Reduce { .. } | Command::Trial { .. } => {
+            Err(Stop::Refused(Refusal::NotBuilt))
+        }
     }
 }

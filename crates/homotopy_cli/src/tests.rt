@@ -14,6 +14,12 @@ const TORUS: &str = "OFF\n7 14 0\n0 0 0\n0 0 0\n0 0 0\n0 0 0\n0 0 0\n0 0 0\n0 0 
 3 0 1 3\n3 1 2 4\n3 2 3 5\n3 3 4 6\n3 4 5 0\n3 5 6 1\n3 6 0 2\n\
 3 0 3 2\n3 1 4 3\n3 2 5 4\n3 3 6 5\n3 4 0 6\n3 5 1 0\n3 6 2 1\n";
 
+const DOUBLE: &str =
+    "OFF\n11 26 0\n0 0 0\n0 0 0\n0 0 0\n0 0 0\n0 0 0\n0 0 0\n0 0 0\n0 0 0\n0 0 0\n0 0 0\n0 0 0\n\
+3 1 2 4\n3 2 3 5\n3 3 4 6\n3 4 5 0\n3 5 6 1\n3 6 0 2\n3 0 3 2\n3 1 4 3\n3 2 5 4\n3 3 6 5\n3 4 0 6\n3 5 1 0\n3 6 2 1\n\
+3 1 8 7\n3 7 9 3\n3 3 10 8\n3 8 0 9\n3 9 1 10\n3 10 7 0\n3 0 7 3\n3 1 3 8\n3 7 8 9\n3 3 9 10\n3 10 8 0\n3 9 0 1\n\
+3 10 1 7\n";
+
 /// The walks of most examples: two sides of a face, and the third.
 const SIDES: &str = "0 1 2\n0 2\n";
 
@@ -193,7 +199,7 @@ fn no_file_is_read_behind_a_refusal(rt: HostRuntime) -> Result<(), AllocError> {
     refused(
         &rt,
         alloc,
-        &["decide", absent, absent],
+        &["certify", absent, absent],
         SIDES,
         "refused: not built\n",
     )?;
@@ -252,6 +258,58 @@ fn faults_of_surfaces_are_named(rt: HostRuntime) -> Result<(), AllocError> {
         check_surface(&rt, rt.alloc(), *mesh, *text)?;
     }
     Ok(())
+}
+
+/// Runs `decide` on the files.
+fn check_decide(
+    rt: &impl Abort,
+    alloc: Global,
+    mesh: &str,
+    walks: &str,
+    text: &str,
+    wanted: Status,
+) -> Result<(), AllocError> {
+    let decide = words(alloc, &["decide", "mesh", "walks"])?;
+    let mut shelf = shelf_of(alloc, mesh, walks, "")?;
+    let mut out = MemorySink::new(alloc, 64);
+    let status = run(alloc, &decide, &mut shelf, &mut out);
+    assert!(rt; status == wanted, "{walks:?}");
+    assert!(rt; out.bytes() == text.as_bytes(), "{walks:?}");
+    Ok(())
+}
+
+#[test]
+fn walks_on_the_torus_are_decided(rt: HostRuntime) -> Result<(), AllocError> {
+    let examples = [
+        ("0 1 3\n0 2 3\n", "homotopic\n", Status::Yes),
+        ("0 1 2 3\n0 3\n", "different\n", Status::No),
+        ("0 1 2 0 2 4 0\n0 2 4 0 1 2 0\n", "homotopic\n", Status::Yes),
+        (
+            "0 1 2 0 1 2 0 1 2 0 2 4 0\n0 1 2 3 4 5 6 0\n",
+            "homotopic\n",
+            Status::Yes,
+        ),
+        ("0\n0\n", "homotopic\n", Status::Yes),
+        ("0 1 2 0\n0\n", "different\n", Status::No),
+        ("0 1\n0 2\n", "refused: walks end\n", Status::Refused),
+    ];
+    for (walks, text, status) in &examples {
+        check_decide(&rt, rt.alloc(), TORUS, *walks, *text, *status)?;
+    }
+    Ok(())
+}
+
+#[test]
+fn walks_on_other_surfaces_are_decided(rt: HostRuntime) -> Result<(), AllocError> {
+    let commuting = "0 1 2 0 2 4 0\n0 2 4 0 1 2 0\n";
+    let (yes, no) = (Status::Yes, Status::No);
+    let alloc = rt.alloc();
+    check_decide(&rt, alloc, DOUBLE, commuting, "different\n", no)?;
+    check_decide(&rt, alloc, DOUBLE, "0 1 3 0\n0\n", "different\n", no)?;
+    check_decide(&rt, alloc, DOUBLE, "0 3 2 0\n0\n", "homotopic\n", yes)?;
+    check_decide(&rt, alloc, TETRAHEDRON, SIDES, "homotopic\n", yes)?;
+    let pinched = "refused: vertex 0 pinched\n";
+    check_decide(&rt, alloc, PINCHED, "0 x\n", pinched, Status::Refused)
 }
 
 /// A mesh that never ends, and no other file.

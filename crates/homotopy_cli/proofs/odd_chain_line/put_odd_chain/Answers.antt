@@ -1,8 +1,7 @@
-use Rattle.std.proofs.Common.{◌≡◌, ◌+◌, ◌<◌, ◌≤◌, [], ◌∷◌, ◌++◌, length, take, sym, subst, ◌∙◌, arith}
+use Rattle.std.proofs.Common.{◌≡◌, ◌+◌, ◌<◌, ◌≤◌, ◌++◌, length, take, sym, subst, ◌∙◌, arith}
 use Rattle.std.specs.Prelude.{flat_map}
 use Rattle.std.proofs.lemmas.Result.{err_from_is_err_and}
-use Rattle.surf_io.specs.Bytes.{Appends, AppendsPrefix}
-use Rattle.surf_io.proofs.Appending.{on_err}
+use Rattle.surf_io.specs.Bytes.{Appends}
 use Rattle.homotopy_cli.specs.Refusals.{behind_blank, link_phrases}
 use Rattle.homotopy_cli.proofs.Pieces.{IsGathered, gathered-out, gathered-more, chain_so_far, chain-more, chain_part, chain_written, chain_cut, ok_then}
 use Rattle.homotopy_cli.proofs.odd_chain_line.put_odd_chain.Goals as goal
