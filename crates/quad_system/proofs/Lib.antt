@@ -6,7 +6,9 @@ pub mod PolygonLabelLemmas
 pub mod FullLemmas
 pub mod ReadingLemmas
 pub mod EdgeRuleLemmas
+pub mod PushPathLemmas
 pub mod SpokeProductLemmas
+pub mod PushWorthLemmas
 pub mod EqualWordLemmas
 pub mod PlaneGroupLemmas
 pub mod FlatWordLemmas

@@ -44,7 +44,7 @@ pub within_from : (degree : ℕ) (word : List ℕ) → All (λ entry. entry < de
 within_from degree [] h = tt
 within_from degree (x ∷ word) h = (h 0 x (omega arith), within_from degree word (λ k d l. h (suc k) d (omega arith)))
 
-changed_within : (degree amount : ℕ) (word : List ℕ) → amount < degree → Within degree word → Within degree (next_changed degree amount word)
+pub changed_within : (degree amount : ℕ) (word : List ℕ) → amount < degree → Within degree word → Within degree (next_changed degree amount word)
 changed_within degree amount [] l h = tt
 changed_within degree amount (y ∷ word) l h = (add-lt degree y amount h.0 l, h.1)
 

@@ -1,0 +1,313 @@
+-- What a push on a turn word does to the loop of its spokes, up to spurs: nothing, but across the quad of the last side it puts the loop of
+-- the last side in.
+use Rattle.std.proofs.Common.{◌≡◌, ◌≢◌, ℕ, suc, ◌+◌, ◌-◌, ◌<◌, Bool, true, false, not, List, [], ◌∷◌, ◌++◌, length, refl, ap, sym, ◌∙◌, subst, arith}
+use Rattle.std.specs.Prelude.{Some}
+use Rattle.std.proofs.lemmas.Bool.Decides.{nat_tests}
+use Rattle.halfedge_map.specs.OrientedMeshes.{OrientedMesh, IsOrientedSurface}
+use Rattle.halfedge_map.specs.RotationSystems.{rotations_of}
+use Rattle.halfedge_map.proofs.SystemLemmas.{rotation_system}
+use Rattle.turn_words.specs.Modulo.{add}
+use Rattle.turn_words.specs.Step_table.{after_step}
+use Rattle.turn_words.specs.declared.step.Step.TheVariants.{SpurOut, Push}
+use Rattle.tree_cotree.specs.SpanningTrees.{after_dart}
+use Rattle.tree_cotree.specs.Splits.{SplitView, IsSplit, in_cotree, is_left}
+use Rattle.polygon_cut.specs.Polygons.{PolygonView, IsCutFrom, place_of, across, one_up}
+use Rattle.polygon_cut.proofs.GroupLemmas.{IsGroup}
+use Rattle.polygon_cut.proofs.RelatorLemmas.{spoke_product, ends_at_vertex, loop_in, loop_out, free_push, free_spur}
+use Rattle.polygon_cut.proofs.LoopLemmas.{loop_mul, loop_inv, loop_one}
+use Rattle.polygon_cut.proofs.FreeLoopLemmas.{SameFreely}
+use Rattle.polygon_cut.proofs.PlaceLemmas.{Crosses, sides_cross}
+use Rattle.polygon_cut.proofs.SpokeLemmas.{Loops, spoke, up_plain}
+use Rattle.polygon_cut.proofs.FreeSpokeLemmas.{free_group}
+use Rattle.polygon_cut.proofs.FreeQuadLemmas.{FreeQuads, free_quads, last_loop, last_pushes}
+use Rattle.quad_system.proofs.PolygonLabelLemmas.{up_is_add, down_is_add}
+use Rattle.quad_system.proofs.ReadingLemmas.{Within}
+use Rattle.quad_system.proofs.SpokeProductLemmas.{polygon_quads, spoke_at}
+use Rattle.quad_system.proofs.PushPathLemmas.{IsQuadWheel, path_of, upper_side, lower_side, turned, IsChangedBehind, IsPushedDown, PushedOneWay, spur_out_changes, push_changes}
+
+-- the wheel of a polygon
+pub polygon_wheel : (s : OrientedMesh) (split : SplitView) (o : IsOrientedSurface s) (t : IsSplit s split) (polygon : PolygonView) (c : IsCutFrom s split polygon) → 0 < polygon.degree
+    → IsQuadWheel polygon.degree (place_of polygon) (spoke_at polygon) (across (rotations_of s) polygon)
+polygon_wheel s split o t polygon c some =
+    let q = polygon_quads s split o t polygon c some in
+    let cross : Crosses polygon.degree (across (rotations_of s) polygon) =
+    sides_cross (rotations_of s) (after_dart (rotations_of s) (λ e. not (in_cotree split e))) (is_left split) polygon (rotation_system s o) (c.labels some) in
+    record {
+      large = q.large;
+      place_in = q.place_in;
+      spoke_in = q.spoke_in;
+      place_of_spoke = q.place_of_spoke;
+      spoke_of_place = q.spoke_of_place;
+      partner_in = cross.below;
+      partner_back = cross.back;
+      one_before = λ a l.
+          ap (place_of polygon) (up_is_add polygon.degree (across (rotations_of s) polygon a) (cross.below a l)) ∙ (c.places some).falls a l
+          ∙ sym (down_is_add polygon.degree (place_of polygon a) (q.place_in a l) q.large);
+    }
+
+-- the loop of a list of spokes
+abbrev pub loop_of_path : (s : OrientedMesh) (split : SplitView) → IsOrientedSurface s → (t : IsSplit s split) → PolygonView → List ℕ → Loops s split t
+loop_of_path s split o t polygon path = spoke_product loop_mul loop_inv (loop_one s.mesh t.parents.root t.parents.root_used) (spoke s split o t polygon) true path
+
+-- the spokes behind which the loop of the last side goes in, at the vertex or in the middle, where the side pushed over is the last one, or
+-- the one across from it
+abbrev pub front_of_last : ℕ → Bool → List ℕ
+front_of_last k true = []
+front_of_last k false = suc k ∷ []
+
+abbrev pub front_of_across : ℕ → ℕ → Bool → List ℕ
+front_of_across z k true = k ∷ suc k ∷ []
+front_of_across z k false = z ∷ []
+
+-- a push down over the side a, behind some spokes
+record DownWorth (s : OrientedMesh) (split : SplitView) (o : IsOrientedSurface s) (t : IsSplit s split) (polygon : PolygonView) (at_vertex : Bool) (a : ℕ) (before after : List ℕ) : Type 0 where
+  other : a ≢ polygon.degree - 1 → a ≢ across (rotations_of s) polygon (polygon.degree - 1)
+      → SameFreely (loop_of_path s split o t polygon (before ++ upper_side polygon.degree (across (rotations_of s) polygon) at_vertex a after))
+      (loop_of_path s split o t polygon (before ++ lower_side polygon.degree (across (rotations_of s) polygon) at_vertex a after))
+  last : a ≡ polygon.degree - 1
+      → SameFreely (loop_of_path s split o t polygon (before ++ lower_side polygon.degree (across (rotations_of s) polygon) at_vertex a after))
+      (loop_in loop_mul loop_inv (loop_of_path s split o t polygon (before ++ front_of_last (across (rotations_of s) polygon (polygon.degree - 1)) at_vertex)) (last_loop s split o t polygon)
+      (loop_of_path s split o t polygon (before ++ upper_side polygon.degree (across (rotations_of s) polygon) at_vertex a after)))
+  opposite : a ≡ across (rotations_of s) polygon (polygon.degree - 1)
+      → SameFreely (loop_of_path s split o t polygon (before ++ lower_side polygon.degree (across (rotations_of s) polygon) at_vertex a after))
+      (loop_in loop_mul loop_inv (loop_of_path s split o t polygon (before ++ front_of_across (polygon.degree - 1) (across (rotations_of s) polygon (polygon.degree - 1)) at_vertex))
+      (last_loop s split o t polygon)
+      (loop_of_path s split o t polygon (before ++ upper_side polygon.degree (across (rotations_of s) polygon) at_vertex a after)))
+
+down_worth : (s : OrientedMesh) (split : SplitView) (o : IsOrientedSurface s) (t : IsSplit s split) (polygon : PolygonView) (c : IsCutFrom s split polygon) → 0 < polygon.degree
+    → (at_vertex : Bool) (a : ℕ) (before after : List ℕ) → a < polygon.degree → ends_at_vertex true before ≡ at_vertex → DownWorth s split o t polygon at_vertex a before after
+down_worth s split o t polygon c some at_vertex a before after l parity = record {
+  other = λ ne nk. other at_vertex parity ne nk;
+  last = λ e. subst (λ x. Last at_vertex x) (sym e) (last at_vertex parity);
+  opposite = λ e. subst (λ x. Opposite at_vertex x) (sym e) (opposite at_vertex parity);
+}
+  where
+    degree : ℕ
+    degree = polygon.degree
+
+    z : ℕ
+    z = polygon.degree - 1
+
+    partner : ℕ → ℕ
+    partner = across (rotations_of s) polygon
+
+    k : ℕ
+    k = across (rotations_of s) polygon (polygon.degree - 1)
+
+    nothing : Loops s split t
+    nothing = loop_one s.mesh t.parents.root t.parents.root_used
+
+    g : IsGroup {X = Loops s split t} SameFreely loop_mul loop_inv nothing
+    g = free_group s split t
+
+    I : List ℕ → Loops s split t
+    I path = loop_of_path s split o t polygon path
+
+    loop : Loops s split t
+    loop = last_loop s split o t polygon
+
+    cross : Crosses polygon.degree (across (rotations_of s) polygon)
+    cross = sides_cross (rotations_of s) (after_dart (rotations_of s) (λ e. not (in_cotree split e))) (is_left split) polygon (rotation_system s o) (c.labels some)
+
+    z_in : polygon.degree - 1 < polygon.degree
+    z_in = omega arith
+
+    plain : (x : ℕ) → x < polygon.degree → x ≢ polygon.degree - 1 → add polygon.degree x 1 ≡ suc x
+    plain x m ne =
+        let more : x + 1 ≢ polygon.degree = omega arith in
+        up_is_add polygon.degree x m ∙ up_plain polygon.degree x more ∙ omega arith
+
+    wraps : add polygon.degree (polygon.degree - 1) 1 ≡ 0
+    wraps = up_is_add polygon.degree (polygon.degree - 1) z_in ∙ goes_round polygon.degree some
+      where
+        goes_round : (n : ℕ) → 0 < n → one_up n (n - 1) ≡ 0
+        goes_round n m = grind (arith, nat_tests)
+
+    k_up : add polygon.degree k 1 ≡ suc k
+    k_up = plain k (cross.below (polygon.degree - 1) z_in) (cross.other (polygon.degree - 1) z_in)
+
+    k_back : partner k ≡ z
+    k_back = cross.back (polygon.degree - 1) z_in
+
+    Last : Bool → ℕ → Type 0
+    Last flag x =
+        SameFreely (I (before ++ lower_side degree partner flag x after)) (loop_in loop_mul loop_inv (I (before ++ front_of_last k flag)) loop (I (before ++ upper_side degree partner flag x after)))
+
+    Opposite : Bool → ℕ → Type 0
+    Opposite flag x =
+        SameFreely (I (before ++ lower_side degree partner flag x after)) (loop_in loop_mul loop_inv (I (before ++ front_of_across z k flag)) loop (I (before ++ upper_side degree partner flag x after)))
+
+    last : (flag : Bool) → ends_at_vertex true before ≡ flag → Last flag z
+    last true p =
+        subst (λ n. SameFreely (I (before ++ (n ∷ k ∷ after))) (loop_in loop_mul loop_inv (I (before ++ [])) loop (I (before ++ (z ∷ add degree z 1 ∷ after))))) (sym k_up)
+        (subst (λ n. SameFreely (I (before ++ (suc k ∷ k ∷ after))) (loop_in loop_mul loop_inv (I (before ++ [])) loop (I (before ++ (z ∷ n ∷ after))))) (sym wraps)
+        ((last_pushes s split o t polygon c some).from_last before after p))
+    last false p =
+        subst (λ n. SameFreely (I (before ++ (k ∷ n ∷ after))) (loop_in loop_mul loop_inv (I (before ++ (suc k ∷ []))) loop (I (before ++ (add degree k 1 ∷ z ∷ after))))) (sym wraps)
+        (subst (λ n. SameFreely (I (before ++ (k ∷ 0 ∷ after))) (loop_in loop_mul loop_inv (I (before ++ (suc k ∷ []))) loop (I (before ++ (n ∷ z ∷ after))))) (sym k_up)
+        ((last_pushes s split o t polygon c some).round_tail before after p))
+
+    opposite : (flag : Bool) → ends_at_vertex true before ≡ flag → Opposite flag k
+    opposite true p =
+        subst (λ n. SameFreely (I (before ++ (add degree n 1 ∷ n ∷ after))) (loop_in loop_mul loop_inv (I (before ++ (k ∷ suc k ∷ []))) loop (I (before ++ (k ∷ add degree k 1 ∷ after))))) (sym k_back)
+        (subst (λ n. SameFreely (I (before ++ (n ∷ z ∷ after))) (loop_in loop_mul loop_inv (I (before ++ (k ∷ suc k ∷ []))) loop (I (before ++ (k ∷ add degree k 1 ∷ after))))) (sym wraps)
+        (subst (λ n. SameFreely (I (before ++ (0 ∷ z ∷ after))) (loop_in loop_mul loop_inv (I (before ++ (k ∷ suc k ∷ []))) loop (I (before ++ (k ∷ n ∷ after))))) (sym k_up)
+        ((last_pushes s split o t polygon c some).to_last before after p)))
+    opposite false p =
+        subst (λ n. SameFreely (I (before ++ (n ∷ add degree k 1 ∷ after))) (loop_in loop_mul loop_inv (I (before ++ (z ∷ []))) loop (I (before ++ (add degree n 1 ∷ k ∷ after))))) (sym k_back)
+        (subst (λ n. SameFreely (I (before ++ (z ∷ add degree k 1 ∷ after))) (loop_in loop_mul loop_inv (I (before ++ (z ∷ []))) loop (I (before ++ (n ∷ k ∷ after))))) (sym wraps)
+        (subst (λ n. SameFreely (I (before ++ (z ∷ n ∷ after))) (loop_in loop_mul loop_inv (I (before ++ (z ∷ []))) loop (I (before ++ (0 ∷ k ∷ after))))) (sym k_up)
+        ((last_pushes s split o t polygon c some).round_head before after p)))
+
+    other : (flag : Bool) → ends_at_vertex true before ≡ flag → a ≢ z → a ≢ k
+        → SameFreely (I (before ++ upper_side degree partner flag a after)) (I (before ++ lower_side degree partner flag a after))
+    other flag p ne nk = by flag p
+      where
+        b : ℕ
+        b = partner a
+
+        a_up : add degree a 1 ≡ suc a
+        a_up = plain a l ne
+
+        b_up : add degree b 1 ≡ suc b
+        b_up = plain b (cross.below a l) (λ e. nk (sym (cross.back a l) ∙ ap partner e))
+
+        quads : FreeQuads {X = Loops s split t} SameFreely loop_mul loop_inv nothing (spoke s split o t polygon) polygon.degree (across (rotations_of s) polygon)
+        quads = free_quads s split o t polygon c
+
+        by : (which : Bool) → ends_at_vertex true before ≡ which
+            → SameFreely (I (before ++ upper_side degree partner which a after)) (I (before ++ lower_side degree partner which a after))
+        by true e =
+            subst (λ n. SameFreely (I (before ++ (a ∷ n ∷ after))) (I (before ++ (add degree b 1 ∷ b ∷ after)))) (sym a_up)
+            (subst (λ n. SameFreely (I (before ++ (a ∷ suc a ∷ after))) (I (before ++ (n ∷ b ∷ after)))) (sym b_up)
+            (free_push SameFreely loop_mul loop_inv nothing g (spoke s split o t polygon) true before after a (suc a) (suc b) b e (quads.round_middle a l)))
+        by false e =
+            subst (λ n. SameFreely (I (before ++ (add degree b 1 ∷ a ∷ after))) (I (before ++ (b ∷ n ∷ after)))) (sym a_up)
+            (subst (λ n. SameFreely (I (before ++ (n ∷ a ∷ after))) (I (before ++ (b ∷ suc a ∷ after)))) (sym b_up)
+            (free_push SameFreely loop_mul loop_inv nothing g (spoke s split o t polygon) false before after (suc b) a b (suc a) e (quads.round_vertex a l)))
+
+-- where so many spokes end
+ends_by_length : (at_vertex : Bool) (path : List ℕ) → ends_at_vertex at_vertex path ≡ turned (length path) at_vertex
+ends_by_length at_vertex [] = refl
+ends_by_length at_vertex (i ∷ path) = ends_by_length (not at_vertex) path
+
+-- the loop put in, or its inverse
+abbrev pub signed_loop : (s : OrientedMesh) (split : SplitView) → IsOrientedSurface s → (t : IsSplit s split) → PolygonView → Bool → Loops s split t
+signed_loop s split o t polygon false = last_loop s split o t polygon
+signed_loop s split o t polygon true = loop_inv (last_loop s split o t polygon)
+
+-- What a push at a place of a word does to the loop of its spokes: `side` is the side pushed over. A push down puts the loop of the last
+-- side in, a push up its inverse, and only where the side is the last one or the one across from it.
+pub record PushWorth (s : OrientedMesh) (split : SplitView) (o : IsOrientedSurface s) (t : IsSplit s split) (polygon : PolygonView) (up : Bool) (at : ℕ) (path other : List ℕ) : Type 0 where
+  pub side : ℕ
+  pub side_in : side < polygon.degree
+  pub before : List ℕ
+  pub after : List ℕ
+  pub long : length before ≡ at
+  pub down : up ≡ false → (path ≡ before ++ upper_side polygon.degree (across (rotations_of s) polygon) (turned at true) side after)
+      × (other ≡ before ++ lower_side polygon.degree (across (rotations_of s) polygon) (turned at true) side after)
+  pub rises : up ≡ true → (path ≡ before ++ lower_side polygon.degree (across (rotations_of s) polygon) (turned at true) side after)
+      × (other ≡ before ++ upper_side polygon.degree (across (rotations_of s) polygon) (turned at true) side after)
+  pub free : side ≢ polygon.degree - 1 → side ≢ across (rotations_of s) polygon (polygon.degree - 1)
+      → SameFreely (loop_of_path s split o t polygon path) (loop_of_path s split o t polygon other)
+  pub last : side ≡ polygon.degree - 1
+      → SameFreely (loop_of_path s split o t polygon other)
+      (loop_in loop_mul loop_inv (loop_of_path s split o t polygon (before ++ front_of_last (across (rotations_of s) polygon (polygon.degree - 1)) (turned at true)))
+      (signed_loop s split o t polygon up) (loop_of_path s split o t polygon path))
+  pub opposite : side ≡ across (rotations_of s) polygon (polygon.degree - 1)
+      → SameFreely (loop_of_path s split o t polygon other)
+      (loop_in loop_mul loop_inv (loop_of_path s split o t polygon (before ++ front_of_across (polygon.degree - 1) (across (rotations_of s) polygon (polygon.degree - 1)) (turned at true)))
+      (signed_loop s split o t polygon up) (loop_of_path s split o t polygon path))
+
+push_worth_of : (s : OrientedMesh) (split : SplitView) (o : IsOrientedSurface s) (t : IsSplit s split) (polygon : PolygonView) → IsCutFrom s split polygon → 0 < polygon.degree
+    → (up : Bool) (at : ℕ) (path other : List ℕ) → IsChangedBehind (PushedOneWay polygon.degree (across (rotations_of s) polygon) up) true at path other
+    → PushWorth s split o t polygon up at path other
+push_worth_of s split o t polygon c some false at path other h =
+    let flag : Bool = turned at true in
+    let parity : ends_at_vertex true h.before ≡ flag = ends_by_length true h.before ∙ ap (λ n. turned n true) h.long in
+    let push : IsPushedDown polygon.degree (across (rotations_of s) polygon) flag h.part h.instead =
+    subst (λ b. IsPushedDown polygon.degree (across (rotations_of s) polygon) b h.part h.instead) h.ends_is h.changed in
+    let worth : DownWorth s split o t polygon flag push.side h.before push.after = down_worth s split o t polygon c some flag push.side h.before push.after push.side_in parity in
+    let from : path ≡ h.before ++ upper_side polygon.degree (across (rotations_of s) polygon) flag push.side push.after = h.path_is ∙ ap (λ (l : List ℕ). h.before ++ l) push.from in
+    let to : other ≡ h.before ++ lower_side polygon.degree (across (rotations_of s) polygon) flag push.side push.after = h.other_is ∙ ap (λ (l : List ℕ). h.before ++ l) push.to in
+    let I : List ℕ → Loops s split t = loop_of_path s split o t polygon in
+    let P : List ℕ = h.before ++ upper_side polygon.degree (across (rotations_of s) polygon) flag push.side push.after in
+    let loop : Loops s split t = last_loop s split o t polygon in
+    record {
+      side = push.side;
+      side_in = push.side_in;
+      before = h.before;
+      after = push.after;
+      long = h.long;
+      down = λ _. (from, to);
+      rises = λ e. cc;
+      free = λ ne nk. subst (λ (l : List ℕ). SameFreely (I l) (I other)) (sym from) (subst (λ (l : List ℕ). SameFreely (I P) (I l)) (sym to) (worth.other ne nk));
+      last = λ e.
+          let front : Loops s split t = I (h.before ++ front_of_last (across (rotations_of s) polygon (polygon.degree - 1)) flag) in
+          subst (λ (l : List ℕ). SameFreely (I l) (loop_in loop_mul loop_inv front loop (I path))) (sym to)
+          (subst (λ (l : List ℕ). SameFreely (I (h.before ++ lower_side polygon.degree (across (rotations_of s) polygon) flag push.side push.after)) (loop_in loop_mul loop_inv front loop (I l))) (sym from) (worth.last e));
+      opposite = λ e.
+          let front : Loops s split t = I (h.before ++ front_of_across (polygon.degree - 1) (across (rotations_of s) polygon (polygon.degree - 1)) flag) in
+          subst (λ (l : List ℕ). SameFreely (I l) (loop_in loop_mul loop_inv front loop (I path))) (sym to)
+          (subst (λ (l : List ℕ). SameFreely (I (h.before ++ lower_side polygon.degree (across (rotations_of s) polygon) flag push.side push.after)) (loop_in loop_mul loop_inv front loop (I l))) (sym from) (worth.opposite e));
+    }
+push_worth_of s split o t polygon c some true at path other h =
+    let g = free_group s split t in
+    let nothing : Loops s split t = loop_one s.mesh t.parents.root t.parents.root_used in
+    let flag : Bool = turned at true in
+    let parity : ends_at_vertex true h.before ≡ flag = ends_by_length true h.before ∙ ap (λ n. turned n true) h.long in
+    let push : IsPushedDown polygon.degree (across (rotations_of s) polygon) flag h.instead h.part =
+    subst (λ b. IsPushedDown polygon.degree (across (rotations_of s) polygon) b h.instead h.part) h.ends_is h.changed in
+    let worth : DownWorth s split o t polygon flag push.side h.before push.after = down_worth s split o t polygon c some flag push.side h.before push.after push.side_in parity in
+    let to : other ≡ h.before ++ upper_side polygon.degree (across (rotations_of s) polygon) flag push.side push.after = h.other_is ∙ ap (λ (l : List ℕ). h.before ++ l) push.from in
+    let from : path ≡ h.before ++ lower_side polygon.degree (across (rotations_of s) polygon) flag push.side push.after = h.path_is ∙ ap (λ (l : List ℕ). h.before ++ l) push.to in
+    let I : List ℕ → Loops s split t = loop_of_path s split o t polygon in
+    let P : List ℕ = h.before ++ upper_side polygon.degree (across (rotations_of s) polygon) flag push.side push.after in
+    let Q : List ℕ = h.before ++ lower_side polygon.degree (across (rotations_of s) polygon) flag push.side push.after in
+    let loop : Loops s split t = last_loop s split o t polygon in
+    record {
+      side = push.side;
+      side_in = push.side_in;
+      before = h.before;
+      after = push.after;
+      long = h.long;
+      down = λ e. cc;
+      rises = λ _. (from, to);
+      free = λ ne nk.
+          subst (λ (l : List ℕ). SameFreely (I l) (I other)) (sym from)
+          (subst (λ (l : List ℕ). SameFreely (I Q) (I l)) (sym to) (g.turn (I P) (I Q) (worth.other ne nk)));
+      last = λ e.
+          let front : Loops s split t = I (h.before ++ front_of_last (across (rotations_of s) polygon (polygon.degree - 1)) flag) in
+          subst (λ (l : List ℕ). SameFreely (I l) (loop_in loop_mul loop_inv front (loop_inv loop) (I path))) (sym to)
+          (subst (λ (l : List ℕ). SameFreely (I P) (loop_in loop_mul loop_inv front (loop_inv loop) (I l))) (sym from)
+          (loop_out SameFreely loop_mul loop_inv nothing g front loop (I P) (I Q) (worth.last e)));
+      opposite = λ e.
+          let front : Loops s split t = I (h.before ++ front_of_across (polygon.degree - 1) (across (rotations_of s) polygon (polygon.degree - 1)) flag) in
+          subst (λ (l : List ℕ). SameFreely (I l) (loop_in loop_mul loop_inv front (loop_inv loop) (I path))) (sym to)
+          (subst (λ (l : List ℕ). SameFreely (I P) (loop_in loop_mul loop_inv front (loop_inv loop) (I l))) (sym from)
+          (loop_out SameFreely loop_mul loop_inv nothing g front loop (I P) (I Q) (worth.opposite e)));
+    }
+
+-- the spokes of a word under a polygon
+abbrev pub word_spokes : PolygonView → List ℕ → List ℕ
+word_spokes polygon word = path_of polygon.degree (place_of polygon) (spoke_at polygon) true 0 word
+
+pub push_worth : (s : OrientedMesh) (split : SplitView) (o : IsOrientedSurface s) (t : IsSplit s split) (polygon : PolygonView) → IsCutFrom s split polygon → 0 < polygon.degree
+    → (up : Bool) (at : ℕ) (w v : List ℕ) → Within polygon.degree w → after_step polygon.degree (Push at up) w ≡ Some v
+    → PushWorth s split o t polygon up at (word_spokes polygon w) (word_spokes polygon v)
+push_worth s split o t polygon c some up at w v h e =
+    push_worth_of s split o t polygon c some up at (word_spokes polygon w) (word_spokes polygon v)
+    (push_changes polygon.degree (place_of polygon) (spoke_at polygon) (across (rotations_of s) polygon) (polygon_wheel s split o t polygon c some) at up w v h e)
+
+-- a spur that goes out costs nothing
+pub spur_out_worth : (s : OrientedMesh) (split : SplitView) (o : IsOrientedSurface s) (t : IsSplit s split) (polygon : PolygonView) → IsCutFrom s split polygon → 0 < polygon.degree
+    → (at : ℕ) (w v : List ℕ) → Within polygon.degree w → after_step polygon.degree (SpurOut at) w ≡ Some v
+    → SameFreely (loop_of_path s split o t polygon (word_spokes polygon w)) (loop_of_path s split o t polygon (word_spokes polygon v))
+spur_out_worth s split o t polygon c some at w v h e =
+    let r = spur_out_changes polygon.degree (place_of polygon) (spoke_at polygon) (across (rotations_of s) polygon) (polygon_wheel s split o t polygon c some) at w v h e in
+    let I : List ℕ → Loops s split t = loop_of_path s split o t polygon in
+    let p : ℕ = r.changed.spoke in
+    let from : word_spokes polygon w ≡ r.before ++ (p ∷ p ∷ r.instead) = r.path_is ∙ ap (λ (l : List ℕ). r.before ++ l) r.changed.is in
+    subst (λ (l : List ℕ). SameFreely (I l) (I (word_spokes polygon v))) (sym from)
+    (subst (λ (l : List ℕ). SameFreely (I (r.before ++ (p ∷ p ∷ r.instead))) (I l)) (sym r.other_is)
+    (free_spur SameFreely loop_mul loop_inv (loop_one s.mesh t.parents.root t.parents.root_used) (free_group s split t) (spoke s split o t polygon) r.before r.instead p))
