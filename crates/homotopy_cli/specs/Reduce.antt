@@ -59,7 +59,8 @@ lines_in held name = do
 -- the number of the first line with an entry that is not below the degree
 abbrev pub range_fault : ℕ → List NumberLine → Option ℕ
 range_fault degree [] = None
-range_fault degree (line ∷ lines) = if list_all (λ entry. nat_lt entry degree) line.numbers then range_fault degree lines else Some line.line
+range_fault degree (line ∷ lines) =
+    if list_all (λ entry. nat_lt entry degree) line.numbers then range_fault degree lines else Some line.line
 
 -- the canonical words that the turn words reach
 abbrev pub canonical_words : ℕ → List (List ℕ) → Check (List (List ℕ))

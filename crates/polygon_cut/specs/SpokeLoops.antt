@@ -24,7 +24,8 @@ pub record CrossesBelow (surface : OrientedMesh) (split : SplitView) (face corne
   pub below : child_face split (edge_of surface dart) ≡ Some face
   pub corner_in : corner < length (face_at surface.mesh face)
   pub starts : slice_index (face_at surface.mesh face) corner ≡ origin_of surface dart
-  pub ends : slice_index (face_at surface.mesh face) (next_corner forward (length (face_at surface.mesh face)) corner) ≡ origin_of surface (twin_of surface dart)
+  pub ends : slice_index (face_at surface.mesh face) (next_corner forward (length (face_at surface.mesh face)) corner)
+      ≡ origin_of surface (twin_of surface dart)
   pub one : taken ≡ 1
 
 -- the move puts a spur in, takes one out, or goes round the face below a cotree edge in place of that edge
@@ -52,7 +53,8 @@ pub record HasFreeSpokes (surface : OrientedMesh) (polygon : PolygonView) (dart 
 
 -- a way up the tree to the root from each used vertex, as the vertices behind it
 abbrev pub AreWaysUp : OrientedMesh → SplitView → ℕ → (ℕ → List ℕ) → Type 0
-AreWaysUp surface split root up = (v : ℕ) → is_used surface.mesh v ≡ true → IsPath (StepsToParent (rotations_of surface) split) v (up v) root
+AreWaysUp surface split root up =
+    (v : ℕ) → is_used surface.mesh v ≡ true → IsPath (StepsToParent (rotations_of surface) split) v (up v) root
 
 -- the walk from u back from its end, as the vertices behind that end
 abbrev pub backward : ℕ → List ℕ → List ℕ
@@ -62,18 +64,21 @@ backward u (v ∷ rest) = backward v rest ++ u ∷ []
 -- the loop of a dart: down the tree, along the dart, and up again
 abbrev pub dart_loop : OrientedMesh → (ℕ → List ℕ) → ℕ → List ℕ
 dart_loop surface up dart =
-    backward (origin_of surface dart) (up (origin_of surface dart)) ++ origin_of surface (twin_of surface dart) ∷ up (origin_of surface (twin_of surface dart))
+    backward (origin_of surface dart) (up (origin_of surface dart))
+    ++ origin_of surface (twin_of surface dart) ∷ up (origin_of surface (twin_of surface dart))
 
 -- the loop of a spoke: that of spoke 0 is nothing, and the next one goes back along the side between the two first
 abbrev pub spoke_loop : OrientedMesh → PolygonView → ℕ → (ℕ → List ℕ) → ℕ → List ℕ
 spoke_loop surface polygon root up zero = []
-spoke_loop surface polygon root up (suc i) = backward root (dart_loop surface up (side_at polygon i)) ++ spoke_loop surface polygon root up i
+spoke_loop surface polygon root up (suc i) =
+    backward root (dart_loop surface up (side_at polygon i)) ++ spoke_loop surface polygon root up i
 
 -- the loop of a list of spokes: along the first, back along the second, and so on; or back along the first
 abbrev pub path_loop : OrientedMesh → PolygonView → ℕ → (ℕ → List ℕ) → Bool → List ℕ → List ℕ
 path_loop surface polygon root up along [] = []
 path_loop surface polygon root up true (i ∷ path) = spoke_loop surface polygon root up i ++ path_loop surface polygon root up false path
-path_loop surface polygon root up false (i ∷ path) = backward root (spoke_loop surface polygon root up i) ++ path_loop surface polygon root up true path
+path_loop surface polygon root up false (i ∷ path) =
+    backward root (spoke_loop surface polygon root up i) ++ path_loop surface polygon root up true path
 
 -- the walk from u to v by way of a loop: up the tree, the loop, and down the tree
 abbrev pub by_loop : (ℕ → List ℕ) → ℕ → ℕ → List ℕ → List ℕ
@@ -87,11 +92,13 @@ spokes_along spokes (u ∷ v ∷ walk) = spokes u v ++ spokes_along spokes (v �
 
 -- each dart has its spokes
 abbrev pub HaveFreeSpokes : OrientedMesh → PolygonView → (ℕ → ℕ → List ℕ) → Type 0
-HaveFreeSpokes surface polygon spokes = (u v dart : ℕ) → IsDartFrom (rotations_of surface) u v dart → HasFreeSpokes surface polygon dart (spokes u v)
+HaveFreeSpokes surface polygon spokes =
+    (u v dart : ℕ) → IsDartFrom (rotations_of surface) u v dart → HasFreeSpokes surface polygon dart (spokes u v)
 
 -- the loop of the last side: along it, and back by the spokes at its head and at its tail, where the one at its head is spoke 0
 abbrev pub last_side_loop : OrientedMesh → PolygonView → ℕ → (ℕ → List ℕ) → List ℕ
-last_side_loop surface polygon root up = dart_loop surface up (last_side polygon) ++ path_loop surface polygon root up true (0 ∷ (polygon.degree - 1) ∷ [])
+last_side_loop surface polygon root up =
+    dart_loop surface up (last_side polygon) ++ path_loop surface polygon root up true (0 ∷ (polygon.degree - 1) ∷ [])
 
 -- a loop put in at the end of another, and back: there, round, back, and on
 abbrev pub put_behind : ℕ → List ℕ → List ℕ → List ℕ → List ℕ
@@ -114,16 +121,19 @@ way_round surface split dart =
 pub record ArePushedFreely (surface : OrientedMesh) (polygon : PolygonView) (root : ℕ) (up : ℕ → List ℕ) (a : ℕ) : Type 0 where
   pub round_middle : (before after : List ℕ) → comes_back before ≡ true
       → AreFreelyEqual surface.mesh (root ∷ path_loop surface polygon root up true (before ++ a ∷ (a + 1) ∷ after))
-      (root ∷ path_loop surface polygon root up true (before ++ (across (rotations_of surface) polygon a + 1) ∷ across (rotations_of surface) polygon a ∷ after))
+      (root ∷ path_loop surface polygon root up true
+      (before ++ (across (rotations_of surface) polygon a + 1) ∷ across (rotations_of surface) polygon a ∷ after))
   pub round_vertex : (before after : List ℕ) → comes_back before ≡ false
-      → AreFreelyEqual surface.mesh (root ∷ path_loop surface polygon root up true (before ++ (across (rotations_of surface) polygon a + 1) ∷ a ∷ after))
+      → AreFreelyEqual surface.mesh
+      (root ∷ path_loop surface polygon root up true (before ++ (across (rotations_of surface) polygon a + 1) ∷ a ∷ after))
       (root ∷ path_loop surface polygon root up true (before ++ across (rotations_of surface) polygon a ∷ (a + 1) ∷ after))
 
 -- the loop of the one list of spokes is that of the other with the loop of the last side put in behind the first spokes, up to spurs
 abbrev pub PutBehind : OrientedMesh → PolygonView → ℕ → (ℕ → List ℕ) → List ℕ → List ℕ → List ℕ → Type 0
 PutBehind surface polygon root up front old new =
     AreFreelyEqual surface.mesh (root ∷ path_loop surface polygon root up true new)
-    (root ∷ put_behind root (path_loop surface polygon root up true front) (last_side_loop surface polygon root up) (path_loop surface polygon root up true old))
+    (root ∷ put_behind root (path_loop surface polygon root up true front) (last_side_loop surface polygon root up)
+    (path_loop surface polygon root up true old))
 
 -- Pushes across the quad of the last side z and of the side k across from it: each costs the loop of the last side once. Round the middle
 -- z, 0 give way to k + 1, k, or k, k + 1 to 0, z; round the vertex k + 1, z give way to k, 0, or 0, k to z, k + 1.
