@@ -9,6 +9,7 @@ pub mod EdgeRuleLemmas
 pub mod PushPathLemmas
 pub mod SpokeProductLemmas
 pub mod PushWorthLemmas
+pub mod FreePathLemmas
 pub mod EqualWordLemmas
 pub mod PlaneGroupLemmas
 pub mod FlatWordLemmas
