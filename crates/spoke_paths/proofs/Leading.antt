@@ -1,0 +1,31 @@
+-- Steps put behind steps.
+use Rattle.std.proofs.Common.{◌≡◌, ℕ, ◌<◌, arith, refl, ◌∙◌, ap, zero, suc, Bool, not, List, [], ◌∷◌, ◌++◌, length, get_or, take, drop, Some}
+use Rattle.std.specs.Prelude.{option_map, option_and_then}
+use Rattle.std.specs.List.{remove}
+use Rattle.std.proofs.lemmas.Bool.{eq-eqb}
+use Rattle.std.proofs.lemmas.List.{append-nil, take_all, drop_all}
+use Rattle.std.proofs.lemmas.Option.{option_and_then_some}
+use Rattle.spoke_paths.specs.Path_steps.{spur_goes, from_spoke, after_path_step, after_path_steps, PathLeads}
+use Rattle.spoke_paths.specs.declared.step.PathStep.{PathStep}
+
+pub leads-more : (places : List ℕ) (steps : List PathStep) (step : PathStep) (begin path next : List ℕ) → PathLeads places begin steps path →
+    after_path_step places step path ≡ Some next → PathLeads places begin (steps ++ step ∷ []) next
+leads-more places [] step begin path next e f =
+    let same : begin ≡ path = cc in
+    ap (λ p. option_and_then (after_path_steps places []) (after_path_step places step p)) same ∙ ap (option_and_then (after_path_steps places [])) f
+leads-more places (first ∷ steps) step begin path next e f =
+    option_and_then_some (after_path_steps places steps) (after_path_step places first begin) path e (λ middle is rest.
+    ap (option_and_then (after_path_steps places (steps ++ step ∷ []))) is ∙ leads-more places steps step middle path next rest f)
+
+-- two equal neighbours go
+pub spur-at : (n : ℕ) (b : Bool) (path rest : List ℕ) → suc n < length path → get_or path n 0 ≡ get_or path (suc n) 0 →
+    from_spoke n b (λ at_vertex. spur_goes) (path ++ rest) ≡ Some (remove (remove path (suc n)) n ++ rest)
+spur-at n b [] rest h e = absurd (omega arith)
+spur-at zero b (x ∷ []) rest h e = absurd (omega arith)
+spur-at zero b (x ∷ y ∷ path) rest h e = rw (eq-eqb x y e) refl
+spur-at (suc n) b (x ∷ path) rest h e = ap (option_map (λ changed. x ∷ changed)) (spur-at n (not b) path rest (omega arith) e)
+
+-- what was written through a slice of a whole list
+pub written : (n : ℕ) (new old : List ℕ) → length new ≡ n → length old ≡ n → take n (new ++ drop (length new) old) ≡ new
+written n new old e f =
+    ap (λ z. take n (new ++ z)) (drop_all (length new) old (omega arith)) ∙ ap (take n) (append-nil new) ∙ take_all n new (omega arith)

@@ -1,0 +1,9 @@
+pub mod Reduced_turns
+pub mod Steps_keep
+pub mod Reduced_plane
+pub mod Ways
+pub mod Turning
+pub mod Closing
+pub mod Leading
+pub mod Shortening
+pub mod Leaving_nothing

@@ -1,0 +1,5 @@
+use Rattle.spoke_paths.proofs.Reduced_turns.{hyper-empty}
+use Rattle.spoke_paths.proofs.laws.reduced_path_without_a_word_is_empty.Goals as goal
+
+pub returns : goal.returns
+returns c = hyper-empty
