@@ -40,14 +40,14 @@ fn reads_a_long_file_up_to_the_limit(rt: HostRuntime) -> Result<(), Fail> {
 #[test]
 fn each_read_that_fails_is_a_fault(rt: HostRuntime) -> Result<(), Fail> {
     let bytes = pattern(rt.alloc(), 200_000)?;
-    // Pieces of 65,536 and 65,536 bytes, the 68,928 that are left, and the end.
-    for call in 1..=5 {
+    // Three pieces of 65,536 bytes, the 3,392 that are left, and the end.
+    for call in 1..=6 {
         let mut shelf = MemoryShelf::new(rt.alloc());
         shelf.put(NAME, &bytes)?;
         shelf.fail_at(call)?;
         let read = read_whole(rt.alloc(), &mut shelf, NAME, 1_000_000);
-        assert!(rt; read.is_ok() == (call == 5));
-        assert!(rt; call == 5 || read == Err(ReadEnd::Fault));
+        assert!(rt; read.is_ok() == (call == 6));
+        assert!(rt; call == 6 || read == Err(ReadEnd::Fault));
     }
     Ok(())
 }
