@@ -18,7 +18,7 @@ ghost use Rattle.homotopy_cli.specs.declared.stop.Stop.{Stop};
 use crate::certificate::read_certificate;
 use crate::refusal::{Input, Refusal};
 use crate::stop::Stop;
-use off_reader::mesh::{OffFault, read_off};
+use off_reader::{OffFault, read_off};
 use std::alloc::Global;
 use surf_io::{ReadEnd, Shelf, read_whole};
 use surf_model::{Faces, MoveList, Sides};

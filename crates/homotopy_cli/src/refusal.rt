@@ -1,6 +1,6 @@
 //! Why an input is refused.
 use manifold_check::SurfaceFault;
-use off_reader::mesh::OffFault;
+use off_reader::OffFault;
 use surf_model::OddChain;
 use walk_files::{CertFault, PairFault, WalkFault};
 

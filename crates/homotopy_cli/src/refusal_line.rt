@@ -8,7 +8,7 @@ use crate::line::{Phrase, put_line};
 use crate::odd_chain_line::put_odd_chain;
 use crate::refusal::{Input, Refusal};
 use manifold_check::SurfaceFault;
-use off_reader::mesh::OffFault;
+use off_reader::OffFault;
 use surf_io::{Failed, Sink};
 use walk_files::{CertFault, PairFault, WalkFault};
 

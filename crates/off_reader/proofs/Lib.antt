@@ -1,6 +1,3 @@
-mod Lines
-mod Loops
-pub mod Meshes
 mod KeywordLemmas
 mod HeaderLemmas
 pub mod RingLemmas

@@ -8,7 +8,7 @@ ghost use Rattle.off_reader.specs.OffSteps.{line_at, IsSameLine, TakesPoints, Ta
 ghost use Rattle.surf_model.specs.declared.limits.TheConstants.{MOST_VERTICES};
 
 use crate::header::{Header, read_header};
-pub use crate::off_fault::OffFault;
+use crate::off_fault::OffFault;
 use crate::ring::read_ring;
 use std::alloc::Global;
 use surf_model::Faces;

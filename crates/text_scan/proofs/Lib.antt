@@ -1,6 +1,3 @@
-pub mod Literals
-pub mod Numbers
-pub mod Lines
 pub mod ListLemmas
 pub mod PlaceLemmas
 mod StepLemmas

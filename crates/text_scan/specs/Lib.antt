@@ -1,5 +1,4 @@
 pub mod Plain
-pub mod Reading
 pub mod Lines
 pub mod Numbers
 pub mod Unread
