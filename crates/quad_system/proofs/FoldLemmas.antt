@@ -110,7 +110,7 @@ head_within mesh labelling good side h =
     (label_within mesh labelling good side h) (label_within mesh labelling good (side_after mesh side) (after_is_side mesh side h))
 
 -- by the labels of both sides, the spokes of a dart do what the two labels do
-labels_do : {State : Type 0} (places : List ℕ) (next : List ℕ → State → ℕ → State) (Belongs IsAtVertex : State → Type 0)
+pub labels_do : {State : Type 0} (places : List ℕ) (next : List ℕ → State → ℕ → State) (Belongs IsAtVertex : State → Type 0)
     → PutLaws places next Belongs IsAtVertex
     → (a b c d : ℕ) → a < length places → (s : State) → Belongs s → led next places s (spokes_by_labels a b c d) ≡ pair places next s a b
 labels_do places next Belongs IsAtVertex laws a b c d a_in s in_wheel = elim (cases_Bool (eqb a b && eqb c d)) [

@@ -1,6 +1,6 @@
 //! What holds of good labellings, said of the definitions. A call of one of these functions does nothing; its
 //! contract is the law.
-ghost use Rattle.std.specs.Prelude.{◌≡◌, ◌↔◌, ℕ, ◌<◌, ◌≤◌, List};
+ghost use Rattle.std.specs.Prelude.{◌≡◌, ◌↔◌, ℕ, ◌<◌, ◌≤◌, List, All, length};
 ghost use Rattle.surf_model.specs.FaceLists.{FaceList, IsFaceList};
 ghost use Rattle.surf_model.specs.Walks.{IsWalk, HaveCommonEnds};
 ghost use Rattle.surf_model.specs.Moves.{Homotopic};
@@ -20,6 +20,7 @@ ghost use Rattle.turn_words.specs.declared.word.Word.{Word};
 ghost use Rattle.halfedge_map.specs.OrientedMeshes.{OrientedMesh, IsOrientedSurface};
 ghost use Rattle.tree_cotree.specs.Splits.{SplitView, IsSplit};
 ghost use Rattle.polygon_cut.specs.Polygons.{PolygonView, IsCutFrom};
+ghost use Rattle.polygon_cut.specs.SpokeLoops.{HaveFreeSpokes, spokes_along};
 
 use turn_words::Form;
 
@@ -41,6 +42,22 @@ pub fn polygon_labelling_is_good_and_full()
     ensures full { (surface : OrientedMesh) (split : SplitView) (polygon : PolygonView) → IsOrientedSurface surface
         → IsSplit surface split → IsCutFrom surface split polygon → 0 < polygon.degree
         → IsFull surface.mesh (labelling_from surface polygon) }
+{}
+
+/// What a walk is told by up to spurs. Spokes of its darts, with those of the side across in place of the last side's,
+/// are spokes of the polygon, and lead a state at the vertex to the same state as the quad path, in every form whose
+/// states belong to the places.
+pub fn free_spokes_lead_where_the_quad_path_does<F: Form>()
+    ensures below { (surface : OrientedMesh) (split : SplitView) (polygon : PolygonView) (spokes : ℕ → ℕ → List ℕ)
+        (walk : List ℕ) → IsOrientedSurface surface → IsSplit surface split → IsCutFrom surface split polygon
+        → 0 < polygon.degree → HaveFreeSpokes surface polygon spokes → IsWalk surface.mesh walk
+        → All (λ spoke. spoke < length polygon.places) (spokes_along spokes walk) }
+    ensures state { (surface : OrientedMesh) (split : SplitView) (polygon : PolygonView) (spokes : ℕ → ℕ → List ℕ)
+        (walk : List ℕ) (state : F.State) → IsOrientedSurface surface → IsSplit surface split
+        → IsCutFrom surface split polygon → 0 < polygon.degree → HaveFreeSpokes surface polygon spokes
+        → IsWalk surface.mesh walk → F.Belongs polygon.places state → F.IsAtVertex state
+        → led F.next polygon.places state (spokes_along spokes walk)
+        ≡ led F.next polygon.places state (quad_path surface.mesh (labelling_from surface polygon) walk) }
 {}
 
 /// What canonical words decide. On a cut with five sides at least, two walks with common ends are homotopic exactly where
