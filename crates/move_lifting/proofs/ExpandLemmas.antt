@@ -18,10 +18,11 @@ use Rattle.halfedge_map.specs.DartMaps.{darts_of, edge_of}
 use Rattle.halfedge_map.specs.RotationSystems.{rotations_of, IsDartFrom}
 use Rattle.halfedge_map.proofs.EdgeLemmas.{dart_between}
 use Rattle.tree_cotree.specs.Splits.{SplitView, IsSplit, in_cotree}
-use Rattle.move_lifting.specs.Lifts.{LeadsAtPeak, AvoidsCotree}
+use Rattle.move_lifting.specs.Lifts.{LeadsAtPeak, AvoidsCotree, MoreRemove, MoreLeaveCotree}
 use Rattle.move_lifting.specs.Tracks.{TrackView, GoesOn, GrowsOrShrinks, last_of}
 use Rattle.move_lifting.specs.Crossings.{beyond, IsFaceBelow, IsCrossed}
 use Rattle.move_lifting.specs.declared.crossing.FaceStep.{FaceStep}
+use Rattle.move_lifting.proofs.LeavingLemmas.{none_leave, leave_on, removed_leave, crossed_leaves}
 use Rattle.move_lifting.proofs.ListLemmas.{front_and_last, read_on, one_no_spur}
 use Rattle.move_lifting.proofs.MoveLemmas.{one_more, leads_nowhere}
 use Rattle.move_lifting.proofs.RoundLemmas.{before-from, rest_turned, rest_ends}
@@ -74,6 +75,7 @@ pub record IsUnderWay (s : OrientedMesh) (split : SplitView) (behind to : ℕ) (
   pub long : length track.walk ≤ length begun.walk + steps
   pub goes : GoesOn s.mesh behind (begun.walk ++ to ∷ []) begun.list (track.walk ++ reverse pending) track.list
   pub ends : last_of (last_of track.walk ∷ reverse pending) ≡ to
+  pub leaves : MoreLeaveCotree s split begun.list.moves track.list.moves
 
 -- at the start
 pub under_way : (s : OrientedMesh) (split : SplitView) → IsOrientedSurface s → (behind to : ℕ) (track : TrackView) (pending : List ℕ) → pending ≡ to ∷ []
@@ -92,6 +94,7 @@ under_way s split o behind to track pending is some no_spur off edge =
       long = omega arith;
       goes = λ first rest l h. h;
       ends = refl;
+      leaves = none_leave s split track.list.moves;
     })
 
 -- a vertex is taken from what is pending
@@ -104,8 +107,8 @@ pub put_on_way : (s : OrientedMesh) (split : SplitView) (behind to : ℕ) (begun
     → ((d : ℕ) → IsDartFrom (rotations_of s) (last_of track.walk) v d → in_cotree split (edge_of s d) ≡ false)
     → ((mesh : FaceList) → GoesOn mesh after (track.walk ++ v ∷ []) track.list new.walk new.list) → HasNoSpur new.walk
     → length new.walk ≤ length track.walk + 1 → last_of new.walk ≡ v → GrowsOrShrinks track.walk new.walk v → 0 < length new.walk
-    → IsUnderWay s split behind to begun new rest (steps + 1)
-put_on_way s split behind to begun track new pending rest v steps after on popped counted off goes no_spur long last shape some =
+    → MoreRemove track.list.moves new.list.moves → IsUnderWay s split behind to begun new rest (steps + 1)
+put_on_way s split behind to begun track new pending rest v steps after on popped counted off goes no_spur long last shape some more =
     let turned : reverse pending ≡ v ∷ reverse rest = ap (λ (l : List ℕ). reverse l) popped ∙ reverse-push rest v in
     let u : ℕ = last_of track.walk in
     let linked : Linked s.mesh (u ∷ v ∷ reverse rest) = subst (λ (l : List ℕ). Linked s.mesh (u ∷ l)) turned on.linked in
@@ -132,6 +135,7 @@ put_on_way s split behind to begun track new pending rest v steps after on poppe
           subst (LeadsAtPeak s.mesh first new.list) (sym (append_assoc new.walk (reverse rest) others))
           (goes s.mesh first (reverse rest ++ others) count (subst (LeadsAtPeak s.mesh first track.list) shape_is there));
       ends = subst (λ (x : ℕ). last_of (x ∷ reverse rest) ≡ to) (sym last) (last_below u v (reverse rest) ∙ subst (λ (l : List ℕ). last_of (u ∷ l) ≡ to) turned on.ends);
+      leaves = leave_on s split begun.list.moves track.list.moves new.list.moves on.leaves (removed_leave s split track.list.moves new.list.moves more);
     }
   where
     last_below : (u v : ℕ) (rest : List ℕ) → last_of (v ∷ rest) ≡ last_of (u ∷ v ∷ rest)
@@ -292,6 +296,7 @@ cross_on_way s split o behind to begun track new pending rest left v steps step 
       ends = subst (λ (x : ℕ). last_of (x ∷ reverse left) ≡ to) (sym same_end)
           (ap last_of whole ∙ last-behind around.front (reverse rest) v ∙ sym (last-behind (u ∷ []) (reverse rest) v)
           ∙ subst (λ (l : List ℕ). last_of (u ∷ l) ≡ to) turned on.ends);
+      leaves = leave_on s split begun.list.moves track.list.moves new.list.moves on.leaves (crossed_leaves s split u v behind step track new rest left under crossed);
     }
 
 -- after as many steps as there are darts nothing is pending
@@ -372,6 +377,7 @@ pub record IsLedSoFar (s : OrientedMesh) (split : SplitView) (behind : ℕ) (wal
   pub off_cotree : AvoidsCotree s split track.walk
   pub last : last_of track.walk ≡ get_or walk (n - 1) 0
   pub goes : GoesOn s.mesh behind walk begun (track.walk ++ drop n walk) track.list
+  pub leaves : MoreLeaveCotree s split begun.moves track.list.moves
 
 pub led_first : (s : OrientedMesh) (split : SplitView) (behind : ℕ) (walk : List ℕ) (begun : PeakedMoves) (track : TrackView) (v : ℕ) → 0 < length walk
     → get_or walk 0 0 ≡ v → track ≡ record { walk = v ∷ []; list = begun } → IsLedSoFar s split behind walk begun track 1
@@ -384,13 +390,14 @@ led_first s split behind walk begun track v some is start =
       off_cotree = λ k d l. absurd (omega arith);
       last = sym is;
       goes = λ first rest l h. subst (λ (w : List ℕ). LeadsAtPeak s.mesh first begun (w ++ rest)) whole h;
+      leaves = none_leave s split begun.moves;
     })
 
 pub led_more : (s : OrientedMesh) (split : SplitView) (behind : ℕ) (walk : List ℕ) (begun : PeakedMoves) (track new : TrackView) (n v after : ℕ)
     → IsLedSoFar s split behind walk begun track n → n < length walk → get_or walk n 0 ≡ v → after ≡ length walk - n - 1 + behind
     → GoesOn s.mesh after (track.walk ++ v ∷ []) track.list new.walk new.list → 0 < length new.walk → HasNoSpur new.walk → AvoidsCotree s split new.walk
-    → last_of new.walk ≡ v → IsLedSoFar s split behind walk begun new (n + 1)
-led_more s split behind walk begun track new n v after led l is counted goes some no_spur off last =
+    → last_of new.walk ≡ v → MoreLeaveCotree s split track.list.moves new.list.moves → IsLedSoFar s split behind walk begun new (n + 1)
+led_more s split behind walk begun track new n v after led l is counted goes some no_spur off last more =
     let place : n + 1 - 1 ≡ n = omega arith in
     record {
       some = some;
@@ -405,6 +412,7 @@ led_more s split behind walk begun track new n v after led l is counted goes som
           length-append (drop (n + 1) walk) rest ∙ omega (arith, length-drop (n + 1) walk, k, counted) in
           subst (LeadsAtPeak s.mesh first new.list) (sym (append_assoc new.walk (drop (n + 1) walk) rest))
           (goes first (drop (n + 1) walk ++ rest) count (subst (LeadsAtPeak s.mesh first track.list) read there));
+      leaves = leave_on s split begun.moves track.list.moves new.list.moves led.leaves more;
     }
 
 -- when all entries are read

@@ -6,6 +6,7 @@ pub mod LoadLemmas
 pub mod RoundLemmas
 pub mod RestLemmas
 pub mod CrossingLemmas
+pub mod LeavingLemmas
 pub mod ExpandLemmas
 pub mod TreeLiftLemmas
 pub mod CloseLemmas

@@ -1,5 +1,5 @@
 -- Lists of moves that lead from a walk to a walk, with their peaks, and walks that keep off the cotree.
-use Rattle.std.specs.Prelude.{◌≡◌, ℕ, ◌+◌, ◌<◌, false, List, length, slice_index}
+use Rattle.std.specs.Prelude.{◌≡◌, ℕ, ◌+◌, ◌<◌, false, List, ◌++◌, length, slice_index, All}
 use Rattle.surf_model.specs.FaceLists.{FaceList}
 use Rattle.surf_model.specs.Moves.{PeakedMoves, Leads, greatest_darts}
 use Rattle.surf_model.specs.declared.moves.Move.{Move}
@@ -7,6 +7,7 @@ use Rattle.halfedge_map.specs.OrientedMeshes.{OrientedMesh}
 use Rattle.halfedge_map.specs.DartMaps.{edge_of}
 use Rattle.halfedge_map.specs.RotationSystems.{rotations_of, IsDartFrom}
 use Rattle.tree_cotree.specs.Splits.{SplitView, in_cotree}
+use Rattle.polygon_cut.specs.SpokeLoops.{LeavesCotree}
 use Rattle.surf_model.specs.declared.moves.Move.TheVariants.{Insert, Remove, Across}
 
 -- The moves lead from the first walk to the second, and the peak is the greatest number of darts among the walks that they pass, both
@@ -20,6 +21,14 @@ abbrev pub IsRemoval : Move → Type 0
 IsRemoval (Insert at via) = ⊥
 IsRemoval (Remove at via) = Unit {0}
 IsRemoval (Across at face corner forward taken) = ⊥
+
+-- more removals come
+abbrev pub MoreRemove : List Move → List Move → Type 0
+MoreRemove old new = (more : List Move) × (new ≡ old ++ more) × All IsRemoval more
+
+-- more moves come, and each puts a spur in, takes one out, or goes round the face below a cotree edge in place of that edge
+abbrev pub MoreLeaveCotree : OrientedMesh → SplitView → List Move → List Move → Type 0
+MoreLeaveCotree surface split old new = (more : List Move) × (new ≡ old ++ more) × All (LeavesCotree surface split) more
 
 -- no dart of the walk lies on a cotree edge
 abbrev pub AvoidsCotree : OrientedMesh → SplitView → List ℕ → Type 0

@@ -1,5 +1,5 @@
 //! Walks that are led off the cotree of a surface.
-ghost use Rattle.std.specs.Prelude.{◌≡◌, ◌+◌, ◌<◌, ◌≤◌, ◌^◌, [], ◌∷◌, ◌++◌, true, length, IfOk, OnOk};
+ghost use Rattle.std.specs.Prelude.{◌≡◌, ◌+◌, ◌<◌, ◌≤◌, ◌^◌, [], ◌∷◌, ◌++◌, true, length, IfOk, OnOk, All};
 ghost use Rattle.surf_model.specs.FaceLists.{face_at, is_edge};
 ghost use Rattle.surf_model.specs.FreeWalks.{HasNoSpur};
 ghost use Rattle.surf_model.specs.Vertices.{numbers};
@@ -7,7 +7,8 @@ ghost use Rattle.surf_model.specs.Walks.{IsWalk, HaveCommonEnds, darts};
 ghost use Rattle.halfedge_map.specs.DartMaps.{darts_of};
 ghost use Rattle.halfedge_map.specs.OrientedMeshes.{IsOrientedSurface};
 ghost use Rattle.tree_cotree.specs.Splits.{IsSplit};
-ghost use Rattle.move_lifting.specs.Lifts.{AvoidsCotree, LeadsAtPeak};
+ghost use Rattle.polygon_cut.specs.SpokeLoops.{LeavesCotree};
+ghost use Rattle.move_lifting.specs.Lifts.{AvoidsCotree, LeadsAtPeak, MoreLeaveCotree};
 ghost use Rattle.move_lifting.specs.Tracks.{GoesOn, last_of};
 ghost use Rattle.move_lifting.specs.Crossings.{IsStepOf, IsCrossed};
 
@@ -43,6 +44,7 @@ pub fn expand(
     ensures off_cotree { IfOk result (λ lifted. AvoidsCotree surface.now split.now lifted.walk) }
     ensures no_spur { IfOk result (λ lifted. HasNoSpur lifted.walk) }
     ensures ends { IfOk result (λ lifted. HaveCommonEnds walk.now lifted.walk) }
+    ensures leaves { IfOk result (λ lifted. All (LeavesCotree surface.now split.now) lifted.moves.moves) }
 {
     let vertices = vertices_of(alloc, walk)?;
     let moves = MoveList::new(alloc, walk.darts());
@@ -81,6 +83,7 @@ pub(crate) fn lead_all(
     ensures last { IfOk result (λ track. last_of track.walk ≡ last_of (numbers walk.now)) }
     ensures some { IfOk result (λ track. 0 < length track.walk) }
     ensures few { IfOk result (λ track. length track.walk < 2 ^ 31) }
+    ensures leaves { IfOk result (λ track. MoreLeaveCotree surface.now split.now moves.moves track.list.moves) }
     // What holds of every surface.
     ensures valid { IfOk result (λ _. IsOrientedSurface surface.now) }
 {
@@ -120,6 +123,7 @@ fn lead_on(
     ensures long { OnOk result (length track.new.walk ≤ length track.old.walk + darts_of surface.now) }
     ensures leads { OnOk result (GoesOn surface.now.mesh behind (track.old.walk ++ to.0 ∷ []) track.old.list
         track.new.walk track.new.list) }
+    ensures leaves { OnOk result (MoreLeaveCotree surface.now split.now track.old.list.moves track.new.list.moves) }
 {
     pending.push(to)?;
     // With each step one of the darts below the edge goes for good, so there are no more steps than darts.

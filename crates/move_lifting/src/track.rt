@@ -3,7 +3,7 @@ ghost use Rattle.std.specs.Prelude.{◌≡◌, ◌+◌, ◌-◌, ◌<◌, ◌≤
 ghost use Rattle.surf_model.specs.FaceLists.{FaceList};
 ghost use Rattle.surf_model.specs.FreeWalks.{HasNoSpur};
 ghost use Rattle.surf_model.specs.Walks.{darts};
-ghost use Rattle.move_lifting.specs.Lifts.{IsRemoval};
+ghost use Rattle.move_lifting.specs.Lifts.{IsRemoval, MoreRemove};
 ghost use Rattle.move_lifting.specs.Tracks.{GoesOn, IsStepBack, GrowsOrShrinks, last_of};
 
 use crate::lifted::Lifted;
@@ -51,6 +51,7 @@ impl Track {
             → GoesOn mesh behind (self.old.walk ++ next.0 ∷ []) self.old.list self.new.walk self.new.list) }
         ensures no_spur { OnOk result (HasNoSpur self.new.walk) }
         ensures removals { OnOk result (All IsRemoval self.old.list.moves → All IsRemoval self.new.list.moves) }
+        ensures more { OnOk result (MoreRemove self.old.list.moves self.new.list.moves) }
         ensures long { OnOk result (length self.new.walk ≤ length self.old.walk + 1) }
         ensures some { OnOk result (0 < length self.new.walk) }
         ensures last { OnOk result (last_of self.new.walk ≡ next.0) }

@@ -1,16 +1,10 @@
 -- An edge meets a rule exactly where its entry in the table of the mesh has two sides that do.
-use Rattle.std.proofs.Common.{◌≡◌, ◌≢◌, ◌⊎◌, inl, inr, ℕ, zero, suc, ◌<◌, true, List, [], ◌∷◌, length, get_or, refl, ap, sym, ◌∙◌, subst, arith}
-use Rattle.std.specs.Prelude.{filter, Contains, IsTrue}
-use Rattle.std.proofs.lemmas.Bool.{cases_lt, cases_eq}
-use Rattle.std.proofs.lemmas.Bool.Decides.{nat_tests}
-use Rattle.std.proofs.lemmas.List.{length-map, get_or_default}
-use Rattle.std.proofs.lemmas.List.Elements.{filter_agree}
-use Rattle.std.proofs.lemmas.List.Folds.{Any-from_list_any}
-use Rattle.surf_model.specs.FaceLists.{FaceList, FaceSide, all_sides, joins, is_edge}
-use Rattle.surf_model.specs.Edges.{Edge, IsTableOf, IsEdgeOf, HasEnds, IsPairBefore, side_name, edge_in}
-use Rattle.surf_model.specs.Surfaces.{sides_between, ArePartners}
+use Rattle.std.proofs.Common.{◌≡◌, ◌≢◌, ◌⊎◌, inl, inr, ℕ, zero, suc, ◌<◌, List, [], ◌∷◌, length, get_or, sym, ◌∙◌, subst, arith}
+use Rattle.std.specs.Prelude.{Contains, IsTrue}
+use Rattle.surf_model.specs.FaceLists.{FaceList, is_edge}
+use Rattle.surf_model.specs.Edges.{Edge, IsTableOf, IsEdgeOf, IsPairBefore, edge_in}
+use Rattle.surf_model.specs.Surfaces.{ArePartners}
 use Rattle.surf_model.specs.declared.edges.Side.{Side}
-use Rattle.surf_model.proofs.TableLemmas.{joins_swap}
 use Rattle.surf_model.proofs.PartnerLemmas.{HasSideEnds, side_of_edge, edge_has_side, partners_of_edge, ends_agree}
 use Rattle.surf_model.proofs.TableEdgeLemmas.{IsEdgeBetween, edge_between, table_pair, sides_of_edge, sides_between_swap, same_pair, place_before}
 use Rattle.quad_system.specs.Labellings.{LabellingView}

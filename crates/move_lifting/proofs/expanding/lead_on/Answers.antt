@@ -113,7 +113,7 @@ loop-step-preserved c =
           rw (w.track-is, w.pending-is)
           (put_on_way s split c.args.behind c.args.to.0 c.args.track.now c.loop-step.track w.put.new.self (numbers c.loop-step.pending.items)
           (numbers c.pop.new.self.items) v c.loop-step._step (w.len.result + c.args.behind) c.loop-step.invariant popped after off
-          put.leads put.no_spur put.long put.last put.shape put.some)
+          put.leads put.no_spur put.long put.last put.shape put.some put.more)
     ]
 
 pub returns-clause-pending : goal.returns-clause-pending

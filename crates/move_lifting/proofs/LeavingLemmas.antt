@@ -1,0 +1,63 @@
+-- Moves that come to a list of moves: removals, and moves that lead off the cotree.
+use Rattle.std.proofs.Common.{◌≡◌, ℕ, ◌-◌, List, [], ◌∷◌, ◌++◌, length, refl, ap, sym, ◌∙◌, subst, append_assoc}
+use Rattle.std.specs.Prelude.{All}
+use Rattle.std.proofs.lemmas.List.{append-nil}
+use Rattle.std.proofs.lemmas.List.Elements.{All-append, All-nil, All-cons}
+use Rattle.surf_model.specs.Walks.{darts}
+use Rattle.surf_model.specs.declared.moves.Move.{Move}
+use Rattle.surf_model.specs.declared.moves.Move.TheVariants.{Insert, Remove, Across}
+use Rattle.halfedge_map.specs.OrientedMeshes.{OrientedMesh}
+use Rattle.tree_cotree.specs.Splits.{SplitView}
+use Rattle.polygon_cut.specs.SpokeLoops.{LeavesCotree}
+use Rattle.move_lifting.specs.Lifts.{IsRemoval, MoreRemove, MoreLeaveCotree}
+use Rattle.move_lifting.specs.Tracks.{TrackView, IsStepBack}
+use Rattle.move_lifting.specs.Crossings.{IsFaceBelow, IsCrossed}
+use Rattle.move_lifting.specs.declared.crossing.FaceStep.{FaceStep}
+
+pub no_more_removed : (moves : List Move) → MoreRemove moves moves
+no_more_removed moves = ([], sym (append-nil moves), All-nil IsRemoval)
+
+pub stepped_back : (behind : ℕ) (old new : TrackView) → IsStepBack behind old new → MoreRemove old.list.moves new.list.moves
+stepped_back behind old new back = (Remove (length old.walk - 2) back.via ∷ [], ap (λ l. l.moves) back.list, All-cons IsRemoval (Remove (length old.walk - 2) back.via) [] tt (All-nil IsRemoval))
+
+pub none_leave : (s : OrientedMesh) (split : SplitView) (moves : List Move) → MoreLeaveCotree s split moves moves
+none_leave s split moves = ([], sym (append-nil moves), All-nil (LeavesCotree s split))
+
+pub leave_on : (s : OrientedMesh) (split : SplitView) (a b c : List Move) → MoreLeaveCotree s split a b → MoreLeaveCotree s split b c → MoreLeaveCotree s split a c
+leave_on s split a b c one two = (
+  one.0 ++ two.0,
+  two.1 ∙ ap (λ (l : List Move). l ++ two.0) one.1 ∙ append_assoc a one.0 two.0,
+  All-append (LeavesCotree s split) one.0 two.0 one.2 two.2,
+)
+
+-- a removal is such a move
+removal_leaves : (s : OrientedMesh) (split : SplitView) (move : Move) → IsRemoval move → LeavesCotree s split move
+removal_leaves s split (Insert at via) h = absurd h
+removal_leaves s split (Remove at via) h = tt
+removal_leaves s split (Across at face corner forward taken) h = absurd h
+
+pub removed_leave : (s : OrientedMesh) (split : SplitView) (a b : List Move) → MoreRemove a b → MoreLeaveCotree s split a b
+removed_leave s split a b more = (more.0, more.1, λ k d l. removal_leaves s split _ (more.2 k d l))
+
+-- and so is a step across the face below an edge
+pub crossed_leaves : (s : OrientedMesh) (split : SplitView) (u v behind : ℕ) (step : FaceStep) (old new : TrackView) (pending left : List ℕ) → IsFaceBelow s split u v step
+    → IsCrossed s.mesh step behind old pending new left → MoreLeaveCotree s split old.list.moves new.list.moves
+crossed_leaves s split u v behind step old new pending left under crossed = (
+  Across (darts old.walk) step.face step.corner step.forward 1 ∷ [],
+  ap (λ l. l.moves) crossed.list,
+  All-cons (LeavesCotree s split) (Across (darts old.walk) step.face step.corner step.forward 1) []
+      (record {
+        dart = under.dart;
+        within = under.from.within;
+        below = under.below;
+        corner_in = under.is_step.corner;
+        starts = under.starts ∙ sym under.from.starts;
+        ends = under.ends ∙ sym under.from.ends;
+        one = refl;
+      })
+      (All-nil (LeavesCotree s split)),
+)
+
+-- all moves, where there were none before
+pub all_leave : (s : OrientedMesh) (split : SplitView) (old new : List Move) → old ≡ [] → MoreLeaveCotree s split old new → All (LeavesCotree s split) new
+all_leave s split old new none more = subst (All (LeavesCotree s split)) (sym (more.1 ∙ ap (λ (l : List Move). l ++ more.0) none)) more.2
