@@ -1,14 +1,12 @@
 //! The torus of seven vertices, cut open into a square: its labelling, and what is wrong with others; and the labelling that a
 //! cut of a double torus gives.
 use crate::{GoodLabelling, LabelFault, Labelling, check_labelling};
-use halfedge_map::Surface;
-use manifold_check::check_closed;
-use orientation::orient;
 use polygon_cut::cut;
 use small_meshes::{DOUBLE_TORUS, TORUS, mesh_of};
+use small_surfaces::surface_of;
 use std::alloc::Global;
 use std::process::Abort;
-use surf_model::{FaceName, Faces, Sides, Spoke, VertexName};
+use surf_model::{FaceName, Sides, Spoke, VertexName};
 use tree_cotree::split_edges;
 
 const LABELS: [[u32; 3]; 14] = [
@@ -93,26 +91,11 @@ fn other_labellings_are_refused(rt: HostRuntime) {
     assert_eq!(rt; fault(alloc, &rt, changed), Some(edge));
 }
 
-/// The surface of a mesh.
-fn surface_of(alloc: Global, rt: &impl Abort, faces: Faces) -> Surface {
-    let sides = Sides::build(alloc, &faces).expect(rt, "memory");
-    match check_closed(alloc, &faces, &sides) {
-        Ok(()) => {}
-        Err(_) => panic!(rt; "not closed"),
-    }
-    let signs = match orient(alloc, &faces, &sides) {
-        Ok(signs) => signs,
-        Err(_) => panic!(rt; "no signs"),
-    };
-    Surface::build(alloc, faces, sides, signs).expect(rt, "memory")
-}
-
 /// The labellings of a polygon pass the check.
 #[test]
 fn polygons_give_good_labellings(rt: HostRuntime) {
     let alloc = rt.alloc();
-    let faces = mesh_of(alloc, 11, &DOUBLE_TORUS).expect(&rt, "a mesh");
-    let surface = surface_of(alloc, &rt, faces);
+    let surface = surface_of(alloc, 11, &DOUBLE_TORUS).expect(&rt, "a surface");
     let split = split_edges(alloc, &surface).expect(&rt, "memory");
     let polygon = cut(alloc, &surface, &split).expect(&rt, "memory");
     assert_eq!(rt; polygon.degree(), 8);

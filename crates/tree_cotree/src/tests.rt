@@ -1,16 +1,12 @@
 //! The half-edge map, its rings and its split, on small meshes: the tetrahedron, and the torus of seven vertices.
 use crate::{Rings, split_edges};
-use halfedge_map::Surface;
-use manifold_check::check_closed;
-use orientation::orient;
-use small_meshes::{TETRAHEDRON, TORUS, TURNED_TETRAHEDRON, Triangle, mesh_of};
-use std::alloc::Global;
-use std::process::Abort;
-use surf_model::{DartName, EdgeName, FaceName, Sides, VertexName};
+use small_meshes::{TETRAHEDRON, TORUS, TURNED_TETRAHEDRON};
+use small_surfaces::surface_of;
+use surf_model::{DartName, EdgeName, FaceName, VertexName};
 
 #[test]
 fn darts_of_the_tetrahedron(rt: HostRuntime) {
-    let surface = surface_of(rt.alloc(), &rt, 5, &TETRAHEDRON);
+    let surface = surface_of(rt.alloc(), 5, &TETRAHEDRON).expect(&rt, "a surface");
     assert_eq!(rt; surface.darts(), 12);
     assert_eq!(rt; surface.vertices(), 4);
     assert_eq!(rt; surface.euler(), 2);
@@ -31,7 +27,7 @@ fn darts_of_the_tetrahedron(rt: HostRuntime) {
 
 #[test]
 fn darts_of_a_flipped_face(rt: HostRuntime) {
-    let surface = surface_of(rt.alloc(), &rt, 4, &TURNED_TETRAHEDRON);
+    let surface = surface_of(rt.alloc(), 4, &TURNED_TETRAHEDRON).expect(&rt, "a surface");
     assert_eq!(rt; surface.darts(), 12);
     assert_eq!(rt; surface.origin(DartName(9)), VertexName(2));
     assert_eq!(rt;
@@ -43,14 +39,14 @@ fn darts_of_a_flipped_face(rt: HostRuntime) {
 
 #[test]
 fn a_sphere_has_no_leftover_edge(rt: HostRuntime) {
-    let surface = surface_of(rt.alloc(), &rt, 4, &TURNED_TETRAHEDRON);
+    let surface = surface_of(rt.alloc(), 4, &TURNED_TETRAHEDRON).expect(&rt, "a surface");
     let split = split_edges(rt.alloc(), &surface).expect(&rt, "memory for the split");
     assert_eq!(rt; split.genus(), 0);
 }
 
 #[test]
 fn the_torus_has_genus_one(rt: HostRuntime) {
-    let surface = surface_of(rt.alloc(), &rt, 7, &TORUS);
+    let surface = surface_of(rt.alloc(), 7, &TORUS).expect(&rt, "a surface");
     assert_eq!(rt; surface.euler(), 0);
     let split = split_edges(rt.alloc(), &surface).expect(&rt, "memory for the split");
     assert_eq!(rt; split.genus(), 1);
@@ -58,7 +54,7 @@ fn the_torus_has_genus_one(rt: HostRuntime) {
 
 #[test]
 fn an_edge_put_in_and_out_leaves_the_rings(rt: HostRuntime) {
-    let surface = surface_of(rt.alloc(), &rt, 4, &TETRAHEDRON);
+    let surface = surface_of(rt.alloc(), 4, &TETRAHEDRON).expect(&rt, "a surface");
     let mut rings = Rings::start(rt.alloc(), &surface).expect(&rt, "memory for the rings");
     assert!(rt; 0 < surface.darts() && 0 < surface.sides().len());
     let before = rings.after(DartName(0));
@@ -66,20 +62,4 @@ fn an_edge_put_in_and_out_leaves_the_rings(rt: HostRuntime) {
     assert_eq!(rt; rings.after(DartName(0)), surface.next(DartName(0)));
     rings.swap(&surface, EdgeName(0));
     assert_eq!(rt; rings.after(DartName(0)), before);
-}
-
-/// The surface of a mesh of triangles.
-fn surface_of(alloc: Global, rt: &impl Abort, count: u32, triangles: &[Triangle]) -> Surface {
-    assert!(rt; count <= 1000 && triangles.len() <= 1000);
-    let faces = mesh_of(alloc, count, triangles).expect(rt, "a mesh");
-    let sides = Sides::build(alloc, &faces).expect(rt, "memory for the table");
-    match check_closed(alloc, &faces, &sides) {
-        Ok(()) => {}
-        Err(_) => panic!(rt; "not closed"),
-    }
-    let signs = match orient(alloc, &faces, &sides) {
-        Ok(signs) => signs,
-        Err(_) => panic!(rt; "no signs"),
-    };
-    Surface::build(alloc, faces, sides, signs).expect(rt, "memory for the surface")
 }
