@@ -10,4 +10,6 @@ pub mod LeavingLemmas
 pub mod ExpandLemmas
 pub mod TreeLiftLemmas
 pub mod CloseLemmas
+pub mod PathLemmas
+pub mod WorthLemmas
 pub mod LiftLemmas

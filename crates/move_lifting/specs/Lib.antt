@@ -2,3 +2,4 @@ pub mod Lifts
 pub mod Tracks
 pub mod Crossings
 pub mod LoopsPutIn
+pub mod LoopFronts

@@ -32,18 +32,18 @@ use Rattle.polygon_cut.proofs.TreeWayLemmas.{up, tree_ways, up_path, one_path, n
 use Rattle.polygon_cut.proofs.SpokeLemmas.{Loops, pick_value, value, spoke, ends_on}
 
 -- the tree's root, and the ways up to it, are one
-root_is : (s : OrientedMesh) (split : SplitView) → IsOrientedSurface s → (t : IsSplit s split) → (root : ℕ) (ups : ℕ → List ℕ) → AreWaysUp s split root ups → t.parents.root ≡ root
+pub root_is : (s : OrientedMesh) (split : SplitView) → IsOrientedSurface s → (t : IsSplit s split) → (root : ℕ) (ups : ℕ → List ℕ) → AreWaysUp s split root ups → t.parents.root ≡ root
 root_is s split o t root ups h = by (ups t.parents.root) (h t.parents.root t.parents.root_used)
   where
     by : (path : List ℕ) → IsPath (StepsToParent (rotations_of s) split) t.parents.root path root → t.parents.root ≡ root
     by [] p = p
     by (w ∷ path) p = absurd (no_parent_of_root s split o t w p.0)
 
-up_is : (s : OrientedMesh) (split : SplitView) → IsOrientedSurface s → (t : IsSplit s split) → (ups : ℕ → List ℕ) → AreWaysUp s split t.parents.root ups → (v : ℕ) → is_used s.mesh v ≡ true
+pub up_is : (s : OrientedMesh) (split : SplitView) → IsOrientedSurface s → (t : IsSplit s split) → (ups : ℕ → List ℕ) → AreWaysUp s split t.parents.root ups → (v : ℕ) → is_used s.mesh v ≡ true
     → ups v ≡ up s split t v
 up_is s split o t ups h v used = one_path s split o t v (ups v) (up s split t v) (h v used) (up_path s split t v used)
 
-backward_is : (u : ℕ) (rest : List ℕ) → backward u rest ≡ back u rest
+pub backward_is : (u : ℕ) (rest : List ℕ) → backward u rest ≡ back u rest
 backward_is u [] = refl
 backward_is u (v ∷ rest) = ap (λ (l : List ℕ). l ++ u ∷ []) (backward_is v rest)
 
@@ -86,7 +86,7 @@ spoke_list s split o t polygon c some ups h (suc i) =
     ap (λ (x : List ℕ). x ++ spoke_loop s polygon root ups i) (backward_is root (dart_loop s ups d) ∙ ap (back root) (loop_list s split o t ups h d (side_in s split polygon c some i)))
     ∙ ap (λ (x : List ℕ). back root (value s split o t d).rest ++ x) (spoke_list s split o t polygon c some ups h i)
 
-path_list : (s : OrientedMesh) (split : SplitView) (o : IsOrientedSurface s) (t : IsSplit s split) (polygon : PolygonView) → IsCutFrom s split polygon → 0 < polygon.degree
+pub path_list : (s : OrientedMesh) (split : SplitView) (o : IsOrientedSurface s) (t : IsSplit s split) (polygon : PolygonView) → IsCutFrom s split polygon → 0 < polygon.degree
     → (ups : ℕ → List ℕ) → AreWaysUp s split t.parents.root ups → (along : Bool) (path : List ℕ)
     → path_loop s polygon t.parents.root ups along path
     ≡ (spoke_product loop_mul loop_inv (loop_one s.mesh t.parents.root t.parents.root_used) (spoke s split o t polygon) along path).rest
@@ -199,12 +199,12 @@ led_off s split polygon root ups spokes (u ∷ rest) second moves o t c some h e
         (off_walk s split o t polygon ups own_ways v (slice_index (v ∷ others) (length others)) others along f p worth))
 
 -- a loop along the last side, and back by its spokes, two ways to write it
-last_loop_as : (s : OrientedMesh) (split : SplitView) → IsOrientedSurface s → (t : IsSplit s split) → PolygonView → Loops s split t
+pub last_loop_as : (s : OrientedMesh) (split : SplitView) → IsOrientedSurface s → (t : IsSplit s split) → PolygonView → Loops s split t
 last_loop_as s split o t polygon =
     loop_mul (value s split o t (last_side polygon))
     (spoke_product loop_mul loop_inv (loop_one s.mesh t.parents.root t.parents.root_used) (spoke s split o t polygon) true (0 ∷ (polygon.degree - 1) ∷ []))
 
-last_loops : (s : OrientedMesh) (split : SplitView) (o : IsOrientedSurface s) (t : IsSplit s split) (polygon : PolygonView)
+pub last_loops : (s : OrientedMesh) (split : SplitView) (o : IsOrientedSurface s) (t : IsSplit s split) (polygon : PolygonView)
     → SameFreely (last_loop s split o t polygon) (last_loop_as s split o t polygon)
 unfolding last_loop_as
 last_loops s split o t polygon =
@@ -212,7 +212,7 @@ last_loops s split o t polygon =
     (value s split o t (last_side polygon) ∷ spoke s split o t polygon 0 ∷ spoke s split o t polygon (polygon.degree - 1) ∷ [])
     (Mul (Var 0) (Mul (Var 1) (Inv (Var 2)))) (Mul (Var 0) (Mul (Var 1) (Mul (Inv (Var 2)) One))) refl
 
-last_list : (s : OrientedMesh) (split : SplitView) (o : IsOrientedSurface s) (t : IsSplit s split) (polygon : PolygonView) → IsCutFrom s split polygon → 0 < polygon.degree
+pub last_list : (s : OrientedMesh) (split : SplitView) (o : IsOrientedSurface s) (t : IsSplit s split) (polygon : PolygonView) → IsCutFrom s split polygon → 0 < polygon.degree
     → (ups : ℕ → List ℕ) → AreWaysUp s split t.parents.root ups → (last_loop_as s split o t polygon).rest ≡ last_side_loop s polygon t.parents.root ups
 unfolding last_loop_as
 last_list s split o t polygon c some ups h =
@@ -291,7 +291,7 @@ led_round s split polygon root ups second moves o t c some h leads keeps off =
         (subst (λ (x : List ℕ). AreFreelyEqual s.mesh (origin_of s d ∷ others) (by_loop ups (origin_of s d) (origin_of s d) x)) loop_is from_own)
 
 -- the product of a list of spokes
-product_of : (s : OrientedMesh) (split : SplitView) → IsOrientedSurface s → (t : IsSplit s split) → PolygonView → List ℕ → Loops s split t
+pub product_of : (s : OrientedMesh) (split : SplitView) → IsOrientedSurface s → (t : IsSplit s split) → PolygonView → List ℕ → Loops s split t
 product_of s split o t polygon path = spoke_product loop_mul loop_inv (loop_one s.mesh t.parents.root t.parents.root_used) (spoke s split o t polygon) true path
 
 -- products of spokes as loops in the words of the laws

@@ -40,7 +40,7 @@ path_shifted degree place spoke_at false m amount (y ∷ word) l k h =
     add_assoc degree m amount y l k h.0 ∙ ap (add degree m) (add_comm degree amount y) in
     ap (λ x. x ∷ path_of degree place spoke_at true (place x) word) same
 
-add_back : (degree x : ℕ) → 1 < degree → x < degree → add degree (add degree x 1) (minus degree 1) ≡ x
+pub add_back : (degree x : ℕ) → 1 < degree → x < degree → add degree (add degree x 1) (minus degree 1) ≡ x
 add_back degree x m l = add_assoc degree x 1 (minus degree 1) l m (minus-lt degree 1 m) ∙ ap (add degree x) (add-minus degree 1 m) ∙ add-zero degree x l
 
 -- two equal neighbours go out

@@ -60,21 +60,21 @@ front_of_across z k true = k ∷ suc k ∷ []
 front_of_across z k false = z ∷ []
 
 -- a push down over the side a, behind some spokes
-record DownWorth (s : OrientedMesh) (split : SplitView) (o : IsOrientedSurface s) (t : IsSplit s split) (polygon : PolygonView) (at_vertex : Bool) (a : ℕ) (before after : List ℕ) : Type 0 where
-  other : a ≢ polygon.degree - 1 → a ≢ across (rotations_of s) polygon (polygon.degree - 1)
+pub record DownWorth (s : OrientedMesh) (split : SplitView) (o : IsOrientedSurface s) (t : IsSplit s split) (polygon : PolygonView) (at_vertex : Bool) (a : ℕ) (before after : List ℕ) : Type 0 where
+  pub other : a ≢ polygon.degree - 1 → a ≢ across (rotations_of s) polygon (polygon.degree - 1)
       → SameFreely (loop_of_path s split o t polygon (before ++ upper_side polygon.degree (across (rotations_of s) polygon) at_vertex a after))
       (loop_of_path s split o t polygon (before ++ lower_side polygon.degree (across (rotations_of s) polygon) at_vertex a after))
-  last : a ≡ polygon.degree - 1
+  pub last : a ≡ polygon.degree - 1
       → SameFreely (loop_of_path s split o t polygon (before ++ lower_side polygon.degree (across (rotations_of s) polygon) at_vertex a after))
       (loop_in loop_mul loop_inv (loop_of_path s split o t polygon (before ++ front_of_last (across (rotations_of s) polygon (polygon.degree - 1)) at_vertex)) (last_loop s split o t polygon)
       (loop_of_path s split o t polygon (before ++ upper_side polygon.degree (across (rotations_of s) polygon) at_vertex a after)))
-  opposite : a ≡ across (rotations_of s) polygon (polygon.degree - 1)
+  pub opposite : a ≡ across (rotations_of s) polygon (polygon.degree - 1)
       → SameFreely (loop_of_path s split o t polygon (before ++ lower_side polygon.degree (across (rotations_of s) polygon) at_vertex a after))
       (loop_in loop_mul loop_inv (loop_of_path s split o t polygon (before ++ front_of_across (polygon.degree - 1) (across (rotations_of s) polygon (polygon.degree - 1)) at_vertex))
       (last_loop s split o t polygon)
       (loop_of_path s split o t polygon (before ++ upper_side polygon.degree (across (rotations_of s) polygon) at_vertex a after)))
 
-down_worth : (s : OrientedMesh) (split : SplitView) (o : IsOrientedSurface s) (t : IsSplit s split) (polygon : PolygonView) (c : IsCutFrom s split polygon) → 0 < polygon.degree
+pub down_worth : (s : OrientedMesh) (split : SplitView) (o : IsOrientedSurface s) (t : IsSplit s split) (polygon : PolygonView) (c : IsCutFrom s split polygon) → 0 < polygon.degree
     → (at_vertex : Bool) (a : ℕ) (before after : List ℕ) → a < polygon.degree → ends_at_vertex true before ≡ at_vertex → DownWorth s split o t polygon at_vertex a before after
 down_worth s split o t polygon c some at_vertex a before after l parity = record {
   other = λ ne nk. other at_vertex parity ne nk;

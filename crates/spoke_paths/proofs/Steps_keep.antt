@@ -45,12 +45,12 @@ spur-is (x ∷ y ∷ rest) q e = elim (cases_eq x y) [
 ]
 
 -- two spokes become two others
-record Becomes (x y v w : ℕ) (p q : List ℕ) : Type 0 where
-  rest : List ℕ
-  from : p ≡ x ∷ y ∷ rest
-  to : q ≡ v ∷ w ∷ rest
+pub record Becomes (x y v w : ℕ) (p q : List ℕ) : Type 0 where
+  pub rest : List ℕ
+  pub from : p ≡ x ∷ y ∷ rest
+  pub to : q ≡ v ∷ w ∷ rest
 
-becomes-is : (x y v w : ℕ) (p q : List ℕ) → two_become (x ∷ y ∷ []) (v ∷ w ∷ []) p ≡ Some q → Becomes x y v w p q
+pub becomes-is : (x y v w : ℕ) (p q : List ℕ) → two_become (x ∷ y ∷ []) (v ∷ w ∷ []) p ≡ Some q → Becomes x y v w p q
 becomes-is x y v w [] q e = absurd cc
 becomes-is x y v w (first ∷ []) q e = absurd cc
 becomes-is x y v w (first ∷ second ∷ rest) q e = elim (cases_Bool (eqb first x && eqb second y)) [
@@ -63,7 +63,7 @@ becomes-is x y v w (first ∷ second ∷ rest) q e = elim (cases_Bool (eqb first
 ]
 
 -- a turn is a quad's, and changes the one way into the other
-turned-is : (places : List ℕ) (a c : ℕ) (up at_vertex : Bool) (p q : List ℕ) → quad_turned places a c up at_vertex p ≡ Some q →
+pub turned-is : (places : List ℕ) (a c : ℕ) (up at_vertex : Bool) (p q : List ℕ) → quad_turned places a c up at_vertex p ≡ Some q →
     IsQuad places a c
     × ((if up
     then two_become (lower_way (length places) at_vertex a c) (upper_way (length places) at_vertex a c) p
@@ -73,7 +73,7 @@ turned-is places a c up at_vertex p q e = elim (cases_Bool (is_quad places a c))
   | inr none ↦ let refused = rw none at e in absurd cc
 ]
 
-mapped-is : (o : Option (List ℕ)) (x : ℕ) (v : List ℕ) → option_map (λ changed. x ∷ changed) o ≡ Some v → (w : List ℕ) × (o ≡ Some w) × (x ∷ w ≡ v)
+pub mapped-is : (o : Option (List ℕ)) (x : ℕ) (v : List ℕ) → option_map (λ changed. x ∷ changed) o ≡ Some v → (w : List ℕ) × (o ≡ Some w) × (x ∷ w ≡ v)
 mapped-is None x v e = absurd cc
 mapped-is (Some w) x v e = (w, refl, let same : x ∷ w ≡ v = cc in same)
 
@@ -124,12 +124,12 @@ step-range places (Spur at) p q h e = from-range (length places) (λ b. spur_goe
 step-range places (Turn at a c up) p q h e = from-range (length places) (quad_turned places a c up) (turn-range places a c up) at true p q h e
 
 -- one step, and then the others
-record Later (places : List ℕ) (step : PathStep) (steps : List PathStep) (path end : List ℕ) : Type 0 where
-  next : List ℕ
-  first : after_path_step places step path ≡ Some next
-  rest : after_path_steps places steps next ≡ Some end
+pub record Later (places : List ℕ) (step : PathStep) (steps : List PathStep) (path end : List ℕ) : Type 0 where
+  pub next : List ℕ
+  pub first : after_path_step places step path ≡ Some next
+  pub rest : after_path_steps places steps next ≡ Some end
 
-later-is : (places : List ℕ) (step : PathStep) (steps : List PathStep) (path end : List ℕ) → PathLeads places path (step ∷ steps) end → Later places step steps path end
+pub later-is : (places : List ℕ) (step : PathStep) (steps : List PathStep) (path end : List ℕ) → PathLeads places path (step ∷ steps) end → Later places step steps path end
 later-is places step steps path end e =
     option_and_then_some (after_path_steps places steps) (after_path_step places step path) end e (λ next first rest. record { next = next; first = first; rest = rest })
 
