@@ -12,4 +12,5 @@ pub mod TreeLiftLemmas
 pub mod CloseLemmas
 pub mod PathLemmas
 pub mod WorthLemmas
+pub mod HomeLemmas
 pub mod LiftLemmas

@@ -1,6 +1,6 @@
 -- Steps on a path of spokes, told by the spokes before them and behind them; and that the places of a polygon make quads.
-use Rattle.std.proofs.Common.{◌≡◌, inl, inr, ℕ, zero, suc, ◌+◌, ◌*◌, ◌<◌, ◌≤◌, Bool, true, false, not, List, [], ◌∷◌, ◌++◌, length, get_or, take, refl, ap, sym, ◌∙◌, subst, arith, Option, Some}
-use Rattle.std.specs.Prelude.{option_map, if◌then◌else◌}
+use Rattle.std.proofs.Common.{◌≡◌, ℕ, zero, suc, ◌<◌, Bool, true, false, not, List, [], ◌∷◌, ◌++◌, length, get_or, take, refl, ap, sym, ◌∙◌, arith, Option, Some}
+use Rattle.std.specs.Prelude.{if◌then◌else◌}
 use Rattle.halfedge_map.specs.OrientedMeshes.{OrientedMesh, IsOrientedSurface}
 use Rattle.halfedge_map.specs.RotationSystems.{rotations_of}
 use Rattle.tree_cotree.specs.Splits.{SplitView, IsSplit}
@@ -12,10 +12,10 @@ use Rattle.polygon_cut.proofs.RelatorLemmas.{ends_at_vertex}
 use Rattle.quad_system.proofs.PushPathLemmas.{IsQuadWheel, add_back}
 use Rattle.quad_system.proofs.FreePathLemmas.{places_wheel}
 use Rattle.quad_system.proofs.SpokeProductLemmas.{spoke_at}
-use Rattle.spoke_paths.specs.Path_steps.{upper_way, lower_way, two_become, quad_turned, from_spoke}
+use Rattle.spoke_paths.specs.Path_steps.{upper_way, lower_way, quad_turned, from_spoke}
 use Rattle.spoke_paths.specs.Path_turns.{from_vertex, HasQuads}
-use Rattle.spoke_paths.proofs.Steps_keep.{mapped-is, turned-is, becomes-is, Becomes}
-use Rattle.spoke_paths.proofs.Turning.{from-next, not-not}
+use Rattle.spoke_paths.proofs.Steps_keep.{mapped-is, turned-is, becomes-is}
+use Rattle.spoke_paths.proofs.Turning.{from-next}
 
 -- a rule that was used at a place: the spokes before it stay
 pub record AtPlace (rule : Bool → List ℕ → Option (List ℕ)) (at : ℕ) (b : Bool) (path next : List ℕ) : Type 0 where

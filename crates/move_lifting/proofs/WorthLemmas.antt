@@ -22,7 +22,7 @@ use Rattle.polygon_cut.proofs.FreeLawLemmas.{root_is, up_is, backward_is, path_l
 use Rattle.polygon_cut.proofs.FreeQuadLemmas.{last_loop}
 use Rattle.polygon_cut.proofs.FreeSpokeLemmas.{free_group}
 use Rattle.polygon_cut.proofs.SpokeLemmas.{Loops, spoke}
-use Rattle.polygon_cut.proofs.TreeWayLemmas.{up, tree_ways}
+use Rattle.polygon_cut.proofs.TreeWayLemmas.{tree_ways}
 use Rattle.quad_system.proofs.PushPathLemmas.{IsQuadWheel, upper_side, lower_side}
 use Rattle.quad_system.proofs.PushWorthLemmas.{loop_of_path, front_of_last, front_of_across, DownWorth, down_worth, polygon_wheel}
 use Rattle.quad_system.proofs.PushWorthLemmas.{signed_loop as own_loop}
