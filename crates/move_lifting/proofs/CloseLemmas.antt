@@ -15,7 +15,7 @@ use Rattle.move_lifting.proofs.MoveLemmas.{one_more}
 use Rattle.move_lifting.proofs.ExpandLemmas.{last_entry}
 
 -- a spur comes in
-spur_comes : (mesh : FaceList) (front rest : List ℕ) (here : ℕ) (via : VertexName) → is_edge mesh here via.0 ≡ true
+pub spur_comes : (mesh : FaceList) (front rest : List ℕ) (here : ℕ) (via : VertexName) → is_edge mesh here via.0 ≡ true
     → apply mesh (front ++ here ∷ rest) (Insert (length front) via) ≡ Some (front ++ here ∷ via.0 ∷ here ∷ rest)
 spur_comes mesh front rest here via edge =
     let some : 0 < length (front ++ here ∷ rest) = rw length-append (omega arith) in

@@ -14,3 +14,7 @@ pub mod PathLemmas
 pub mod WorthLemmas
 pub mod HomeLemmas
 pub mod LiftLemmas
+pub mod BackLemmas
+pub mod InsertLemmas
+pub mod SpurLemmas
+pub mod TurnLemmas

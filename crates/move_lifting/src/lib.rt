@@ -4,6 +4,7 @@
 
 mod crossing;
 pub mod expanding;
+mod inserting;
 pub mod lifted;
 pub mod lifting;
 mod track;

@@ -2,6 +2,7 @@
 ghost use Rattle.std.specs.Prelude.{◌≡◌, ◌+◌, ◌-◌, ◌<◌, ◌≤◌, ◌^◌, ◌↔◌, [], ◌∷◌, ◌++◌, max, length, slice_index, IfOk, OnOk, All, IsTrue};
 ghost use Rattle.surf_model.specs.FaceLists.{FaceList};
 ghost use Rattle.surf_model.specs.FreeWalks.{HasNoSpur};
+ghost use Rattle.surf_model.specs.Vertices.{numbers};
 ghost use Rattle.surf_model.specs.Walks.{darts};
 ghost use Rattle.move_lifting.specs.Lifts.{IsRemoval, MoreRemove};
 ghost use Rattle.move_lifting.specs.Tracks.{GoesOn, IsStepBack, GrowsOrShrinks, last_of};
@@ -132,6 +133,20 @@ impl Track {
             moves,
         } = self;
         moves
+    }
+
+    /// The vertices that are laid, and the moves.
+    pub(crate) fn into_parts(self) -> Result<(Vec<VertexName>, MoveList), AllocError>
+        ensures vertices { IfOk result (λ parts. numbers parts.0.items ≡ self.walk) }
+        ensures moves { IfOk result (λ parts. parts.1 ≡ self.list) }
+    {
+        let Track {
+            mut earlier,
+            last,
+            moves,
+        } = self;
+        earlier.push(last)?;
+        Ok((earlier, moves))
     }
 
     /// The walk that is laid, with the moves.

@@ -1,0 +1,27 @@
+use Rattle.std.proofs.Common.{◌-◌, List, length, drop, get_or, sym, ◌∙◌, arith}
+use Rattle.std.proofs.lemmas.List.{get_or-map, take_all, length-drop}
+use Rattle.surf_model.specs.Vertices.{numbers}
+use Rattle.surf_model.specs.declared.names.VertexName.{VertexName}
+use Rattle.polygon_cut.specs.SpokeLoops.{backward}
+use Rattle.move_lifting.proofs.BackLemmas.{back_so_far, one_longer, length-backward}
+use Rattle.move_lifting.proofs.ExpandLemmas.{length-numbers}
+use Rattle.move_lifting.proofs.inserting.back_along.Goals as goal
+
+pub loop-done-preserved : goal.loop-done-preserved
+loop-done-preserved c =
+    let walk : List VertexName = c.args.walk.now in
+    let pushed = c.in_ok-push.ensures.items in
+    record {
+      long = omega (arith, one_longer c.push.new.self.items c.loop-done.back.items _ pushed, c.loop-done.invariant.long);
+      so_far = back_so_far walk c.loop-done.back.items c.push.new.self.items c.loop-done.done _ c.loop-done.invariant.long c.loop-done-test.true pushed
+          (sym (get_or-map (λ (x : VertexName). x.0) walk (length walk - c.loop-done.done - 1) _ 0 (omega (arith, c.loop-done-test.true, c.loop-done.auto.done))))
+          c.loop-done.invariant.so_far;
+    }
+
+pub returns : goal.returns
+returns c =
+    let walk : List _ = numbers c.args.walk.now in
+    let back : List _ = backward (get_or walk 0 0) (drop 1 walk) in
+    c.loop-done.invariant.so_far
+    ∙ take_all (length c.loop-done.back.items) back
+    (omega (arith, length-backward (get_or walk 0 0) (drop 1 walk), length-drop 1 walk, length-numbers c.args.walk.now, c.loop-done.invariant.long, c.loop-done-test.false))

@@ -1,0 +1,10 @@
+use Rattle.std.proofs.Common.{◌≡◌, ◌+◌, take, drop, length, get_or}
+use Rattle.surf_model.specs.Vertices.{numbers}
+use Rattle.polygon_cut.specs.SpokeLoops.{backward}
+use Rattle.move_lifting.proofs.inserting.back_along.Given as goal
+
+abbrev pub invariant-loop-done : goal.invariant-loop-done
+invariant-loop-done l = record {
+  long : length l.back.items + 1 ≡ l.done;
+  so_far : numbers l.back.items ≡ take (length l.back.items) (backward (get_or (numbers l.walk) 0 0) (drop 1 (numbers l.walk)));
+}

@@ -1,0 +1,9 @@
+use Rattle.std.proofs.Common.{◌≡◌, ◌≤◌, take}
+use Rattle.surf_model.specs.Vertices.{numbers}
+use Rattle.move_lifting.proofs.inserting.common_start.Given as goal
+
+abbrev pub invariant-loop-place : goal.invariant-loop-place
+invariant-loop-place l = record {
+  within : l.place ≤ l.most;
+  same : take l.place (numbers l.first) ≡ take l.place (numbers l.second);
+}

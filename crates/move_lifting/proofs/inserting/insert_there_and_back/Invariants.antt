@@ -1,0 +1,18 @@
+use Rattle.std.proofs.Common.{◌≡◌, ℕ, ◌+◌, ◌++◌, List, length, take, drop}
+use Rattle.surf_model.specs.FaceLists.{FaceList}
+use Rattle.surf_model.specs.Vertices.{numbers}
+use Rattle.surf_model.specs.Walks.{IsWalk}
+use Rattle.polygon_cut.specs.SpokeLoops.{backward}
+use Rattle.move_lifting.specs.Lifts.{LeadsAtPeak}
+use Rattle.move_lifting.specs.Tracks.{last_of}
+use Rattle.move_lifting.proofs.inserting.insert_there_and_back.Given as goal
+
+abbrev pub invariant-loop-place : goal.invariant-loop-place
+invariant-loop-place l =
+    let walk : List ℕ = numbers l.approach in
+    let back : List ℕ = backward (last_of (take l.common walk)) (drop l.common (take l.place walk)) in
+    record {
+      count : l.behind + l.common ≡ l.after + l.place;
+      leads : (mesh : FaceList) (first rest : List ℕ) → IsWalk mesh walk → length rest ≡ l.after
+          → LeadsAtPeak mesh first l.initial.moves (take l.common walk ++ rest) → LeadsAtPeak mesh first l.moves (take l.place walk ++ (back ++ rest));
+    }

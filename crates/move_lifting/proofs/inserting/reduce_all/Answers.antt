@@ -1,0 +1,30 @@
+use Rattle.std.proofs.Common.{◌≡◌, ℕ, ◌+◌, ◌-◌, ◌<◌, List, length, arith}
+use Rattle.std.proofs.lemmas.List.{get_or-map}
+use Rattle.surf_model.specs.Vertices.{numbers}
+use Rattle.surf_model.specs.declared.names.VertexName.{VertexName}
+use Rattle.move_lifting.proofs.ExpandLemmas.{length-numbers}
+use Rattle.move_lifting.proofs.SpurLemmas.{reduced_more, reduced_all}
+use Rattle.move_lifting.proofs.inserting.reduce_all.Goals as goal
+
+pub loop-place-preserved : goal.loop-place-preserved
+loop-place-preserved c =
+    let walk : List ℕ = numbers c.args.walk.now in
+    let n : ℕ = c.loop-place.place in
+    let within : n < length c.args.walk.now = c.loop-place-test.true in
+    let long : length walk ≡ length c.args.walk.now = length-numbers c.args.walk.now in
+    let here : n < length walk = omega arith in
+    reduced_more c.args.behind walk c.args.moves c.loop-place.track c.put.new.self n _ (length c.args.walk.now - n - 1 + c.args.behind) c.loop-place.invariant
+    (omega (arith, c.loop-place.auto.place)) here (get_or-map (λ (x : VertexName). x.0) c.args.walk.now n _ 0 within) (omega arith) c.in_ok-put.ensures.leads
+    c.in_ok-put.ensures.some c.in_ok-put.ensures.no_spur c.in_ok-put.ensures.last c.in_ok-put.ensures.long c.in_ok-put.ensures.shape
+
+pub returns-clause-leads : goal.returns-clause-leads
+returns-clause-leads c =
+    let all : c.loop-place.place ≡ length (numbers c.args.walk.now) =
+    omega (arith, c.loop-place-test.false, c.loop-place.auto.place-end, length-numbers c.args.walk.now, c.requires.some) in
+    (reduced_all c.args.behind (numbers c.args.walk.now) c.args.moves c.loop-place.track c.loop-place.place c.loop-place.invariant all).0
+
+pub returns-clause-freely : goal.returns-clause-freely
+returns-clause-freely c =
+    let all : c.loop-place.place ≡ length (numbers c.args.walk.now) =
+    omega (arith, c.loop-place-test.false, c.loop-place.auto.place-end, length-numbers c.args.walk.now, c.requires.some) in
+    (reduced_all c.args.behind (numbers c.args.walk.now) c.args.moves c.loop-place.track c.loop-place.place c.loop-place.invariant all).1
