@@ -1,10 +1,14 @@
 //! Surfaces of small meshes, for the tests of the crates that stand on surfaces.
 //!
-//! A caller sees one call, that makes the surface of some triangles. Proved: its mesh has these triangles in their order,
-//! and a list is refused, but for want of memory, only where there is no such surface.
+//! A caller sees two calls, that make the surface of some triangles and a walk on a surface. Proved: the mesh has these
+//! triangles in their order, and a list is refused, but for want of memory, only where there is no such surface; the walk
+//! has these vertices, and there is none exactly where they are no walk.
 //!
 //!     let torus = surface_of(alloc, 7, &TORUS)?;
+//!     let walk = walk_on(alloc, &torus, &[0, 1, 2, 3])?;
 #![tactic(auto)]
+
+mod walk;
 
 ghost use Rattle.std.specs.Prelude.{◌≡◌, ◌⊎◌, ◌*◌, ◌≤◌, length, IfOk, IfErr};
 ghost use Rattle.surf_model.specs.declared.limits.TheConstants.{MOST_SIDES, MOST_VERTICES};
@@ -16,6 +20,7 @@ use orientation::{OrientFault, orient};
 use small_meshes::{Triangle, TriangleFault, mesh_of};
 use std::alloc::{AllocError, Global};
 use surf_model::Sides;
+pub use walk::walk_on;
 
 /// Why triangles make no surface.
 #[derive(Clone, Copy, Debug, PartialEq, Eq)]
