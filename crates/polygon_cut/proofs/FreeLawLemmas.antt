@@ -1,5 +1,5 @@
 -- The laws on walks and loops as lists, from those on the loops of a split.
-use Rattle.std.proofs.Common.{◌≡◌, inl, inr, ℕ, zero, suc, ◌+◌, ◌-◌, ◌<◌, Bool, true, false, not, List, [], ◌∷◌, ◌++◌, length, refl, ap, sym, ◌∙◌, subst, arith, append_assoc}
+use Rattle.std.proofs.Common.{◌≡◌, inl, inr, ℕ, zero, suc, ◌+◌, ◌-◌, ◌<◌, Bool, true, false, not, List, [], ◌∷◌, ◌++◌, length, drop, refl, ap, sym, ◌∙◌, subst, arith, append_assoc}
 use Rattle.std.specs.Prelude.{All, slice_index}
 use Rattle.std.proofs.lemmas.Bool.{cases_lt}
 use Rattle.std.proofs.Math.ListN.{get_or-eq_default}
@@ -16,13 +16,14 @@ use Rattle.halfedge_map.specs.RotationSystems.{rotations_of}
 use Rattle.halfedge_map.proofs.SystemLemmas.{rotation_system, names_all}
 use Rattle.tree_cotree.specs.Splits.{SplitView, IsSplit, StepsToParent}
 use Rattle.polygon_cut.specs.Polygons.{PolygonView, IsCutFrom, side_at, across}
-use Rattle.polygon_cut.specs.SpokeLoops.{AreWaysUp, way_round, backward, dart_loop, spoke_loop, path_loop, by_loop, spokes_along, HaveFreeSpokes, last_side, last_side_loop, across_last, put_behind, comes_back, PutBehind, ArePushedFreely, ArePushedWithLoop, LeavesCotree, IsOffCotree}
+use Rattle.polygon_cut.specs.SpokeLoops.{AreWaysUp, way_round, way_back_round, backward, dart_loop, spoke_loop, path_loop, by_loop, spokes_along, HaveFreeSpokes, last_side, last_side_loop, across_last, put_behind, comes_back, PutBehind, ArePushedFreely, ArePushedWithLoop, LeavesCotree, IsOffCotree}
 use Rattle.polygon_cut.proofs.RelatorLemmas.{spoke_product, ends_at_vertex, loop_in, free_push}
 use Rattle.polygon_cut.proofs.GroupWordLemmas.{Var, One, Mul, Inv, by_words}
-use Rattle.polygon_cut.proofs.FreeProductLemmas.{way_end}
+use Rattle.polygon_cut.proofs.FreeProductLemmas.{way_end, product_back}
 use Rattle.polygon_cut.proofs.LoopLemmas.{IsWay, way_walk, start_used, end_used, way_on, way_home, append_none, back, HasWays, Loop, loop_mul, loop_inv, loop_one, loop_of}
 use Rattle.polygon_cut.proofs.FreeLoopLemmas.{SameFreely, freely_on, freely_back, freely_behind, freely_before, freely_home}
 use Rattle.polygon_cut.proofs.FreeSpokeLemmas.{free_group}
+use Rattle.polygon_cut.proofs.FreeRoundLemmas.{step_value, steps_turn}
 use Rattle.polygon_cut.proofs.FreeMoveLemmas.{walk_value, moves_keep_value}
 use Rattle.polygon_cut.proofs.FreeWayLemmas.{off_cotree, path_along, path_value, root_round}
 use Rattle.polygon_cut.proofs.FreeQuadLemmas.{last_loop, free_quads, last_pushes}
@@ -56,7 +57,7 @@ value_list s split o t d l = go (cases_lt d (darts_of s))
     go (inl k) = refl
     go (inr k) = absurd (omega arith)
 
-loop_list : (s : OrientedMesh) (split : SplitView) (o : IsOrientedSurface s) (t : IsSplit s split) (ups : ℕ → List ℕ) → AreWaysUp s split t.parents.root ups → (d : ℕ) → d < darts_of s
+pub loop_list : (s : OrientedMesh) (split : SplitView) (o : IsOrientedSurface s) (t : IsSplit s split) (ups : ℕ → List ℕ) → AreWaysUp s split t.parents.root ups → (d : ℕ) → d < darts_of s
     → dart_loop s ups d ≡ (value s split o t d).rest
 loop_list s split o t ups h d l =
     let u : ℕ = origin_of s d in
@@ -67,7 +68,7 @@ loop_list s split o t ups h d l =
     ∙ ap (λ (x : List ℕ). back u (up s split t u) ++ w ∷ x) w_up ∙ value_list s split o t d l
 
 -- each number names a dart
-side_in : (s : OrientedMesh) (split : SplitView) (polygon : PolygonView) → IsCutFrom s split polygon → 0 < polygon.degree → (i : ℕ) → side_at polygon i < darts_of s
+pub side_in : (s : OrientedMesh) (split : SplitView) (polygon : PolygonView) → IsCutFrom s split polygon → 0 < polygon.degree → (i : ℕ) → side_at polygon i < darts_of s
 side_in s split polygon c some i = elim (cases_lt i polygon.degree) [
   | inl less ↦ ((c.labels some).side_is_left i less).0
   | inr more ↦
@@ -76,7 +77,7 @@ side_in s split polygon c some i = elim (cases_lt i polygon.degree) [
       omega (arith, none, first)
 ]
 
-spoke_list : (s : OrientedMesh) (split : SplitView) (o : IsOrientedSurface s) (t : IsSplit s split) (polygon : PolygonView) → IsCutFrom s split polygon → 0 < polygon.degree
+pub spoke_list : (s : OrientedMesh) (split : SplitView) (o : IsOrientedSurface s) (t : IsSplit s split) (polygon : PolygonView) → IsCutFrom s split polygon → 0 < polygon.degree
     → (ups : ℕ → List ℕ) → AreWaysUp s split t.parents.root ups → (i : ℕ) → spoke_loop s polygon t.parents.root ups i ≡ (spoke s split o t polygon i).rest
 unfolding spoke
 spoke_list s split o t polygon c some ups h zero = refl
@@ -110,7 +111,7 @@ parity [] = refl
 parity (i ∷ path) = turned_parity true path ∙ ap not (parity path)
 
 -- a walk whose loop is another is that loop, up the tree before and down the tree behind
-by_own_loop : (mesh : FaceList) (root : ℕ) (up : ℕ → List ℕ) (ways : HasWays mesh root up) (u v : ℕ) (rest : List ℕ) (h : IsWay mesh u v rest) (loop : Loop mesh root)
+pub by_own_loop : (mesh : FaceList) (root : ℕ) (up : ℕ → List ℕ) (ways : HasWays mesh root up) (u v : ℕ) (rest : List ℕ) (h : IsWay mesh u v rest) (loop : Loop mesh root)
     → SameFreely (loop_of mesh root up ways u v rest h) loop → AreFreelyEqual mesh (u ∷ rest) (u ∷ (up u ++ (loop.rest ++ back v (up v))))
 by_own_loop mesh root up ways u v rest h loop same =
     let u_way : IsWay mesh u root (up u) = ways.way u (start_used mesh u v rest h) in
@@ -135,7 +136,7 @@ by_own_loop mesh root up ways u v rest h loop same =
     (freely_back mesh (u ∷ whole) (u ∷ rest) (way_walk mesh u v whole whole_way) contracts) across
 
 -- the same in the words of the laws
-by_loop_is : (s : OrientedMesh) (split : SplitView) → IsOrientedSurface s → (t : IsSplit s split) → (ups : ℕ → List ℕ) → AreWaysUp s split t.parents.root ups → (u v : ℕ) (loop : List ℕ)
+pub by_loop_is : (s : OrientedMesh) (split : SplitView) → IsOrientedSurface s → (t : IsSplit s split) → (ups : ℕ → List ℕ) → AreWaysUp s split t.parents.root ups → (u v : ℕ) (loop : List ℕ)
     → is_used s.mesh u ≡ true → is_used s.mesh v ≡ true → by_loop ups u v loop ≡ u ∷ (up s split t u ++ (loop ++ back v (up s split t v)))
 by_loop_is s split o t ups h u v loop u_used v_used =
     ap (λ (x : List ℕ). u ∷ (x ++ (loop ++ backward v (ups v)))) (up_is s split o t ups h u u_used)
@@ -222,73 +223,114 @@ last_list s split o t polygon c some ups h =
     (ap (λ (l : List ℕ). l ++ path_loop s polygon t.parents.root ups true path) (loop_list s split o t ups h (last_side polygon) (side_in s split polygon c some (polygon.degree - 1)))
     ∙ ap (λ (l : List ℕ). (value s split o t (last_side polygon)).rest ++ l) (path_list s split o t polygon c some ups h true path))
 
+-- A closed walk that is worth a loop, led off the cotree, is that loop.
+led_closed : (s : OrientedMesh) (split : SplitView) (o : IsOrientedSurface s) (t : IsSplit s split) (polygon : PolygonView) → IsCutFrom s split polygon → 0 < polygon.degree
+    → (ups : ℕ → List ℕ) → AreWaysUp s split t.parents.root ups → (u : ℕ) (rest second : List ℕ) (moves : List Move) → IsWay s.mesh u u rest → (loop : Loops s split t)
+    → SameFreely (walk_value s split o t polygon (u ∷ rest)) loop → Leads s.mesh (u ∷ rest) moves second → All (LeavesCotree s split) moves → IsOffCotree s split second
+    → AreFreelyEqual s.mesh second (by_loop ups u u loop.rest)
+led_closed s split o t polygon c some ups h u rest second moves way loop worth leads keeps off = by second leads off
+  where
+    is_walk : IsWalk s.mesh (u ∷ rest)
+    is_walk = way_walk s.mesh u u rest way
+
+    by : (walk : List ℕ) → Leads s.mesh (u ∷ rest) moves walk → IsOffCotree s split walk → AreFreelyEqual s.mesh walk (by_loop ups u u loop.rest)
+    by [] k f =
+        let none : 0 < 0 = (list_keeps_walk s.mesh moves (u ∷ rest) [] is_walk k).starts in
+        absurd (omega arith)
+    by (v ∷ others) k f =
+        let g = free_group s split t in
+        let z : IsWalk s.mesh (v ∷ others) = list_keeps_walk s.mesh moves (u ∷ rest) (v ∷ others) is_walk k in
+        let ends = list_keeps_ends s.mesh moves (u ∷ rest) (v ∷ others) is_walk.starts k in
+        let own_end : slice_index (u ∷ rest) (length rest) ≡ u =
+        sym (way_end s.mesh u (slice_index (u ∷ rest) (length rest)) rest (walk_way s.mesh u rest is_walk)) ∙ way_end s.mesh u u rest way in
+        let along : IsWay s.mesh u u others = subst (λ x. IsWay s.mesh u x others) own_end (other_way s.mesh u v rest others z ends) in
+        let starts : v ≡ u = sym ends.starts in
+        let a : Loops s split t = walk_value s split o t polygon (v ∷ others) in
+        let b : Loops s split t = walk_value s split o t polygon (u ∷ rest) in
+        let same : SameFreely a loop = g.on a b loop (g.turn b a (moves_keep_value s split o t polygon c some moves (u ∷ rest) (v ∷ others) is_walk keeps k)) worth in
+        subst (λ x. AreFreelyEqual s.mesh (x ∷ others) (by_loop ups u u loop.rest)) (sym starts)
+        (off_walk s split o t polygon ups h u u others along (subst (λ x. IsOffCotree s split (x ∷ others)) starts f) loop
+        (subst (λ x. SameFreely (walk_value s split o t polygon (x ∷ others)) loop) starts same))
+
+-- the way once round the root face
+record IsRound (s : OrientedMesh) (split : SplitView) (polygon : PolygonView) (d : ℕ) : Type 0 where
+  rest : List ℕ
+  round_is : way_round s split d ≡ origin_of s d ∷ rest
+  rest_is : rest ≡ vertices_on s (length (face_at s.mesh (face_of s d))) d
+  way : IsWay s.mesh (origin_of s d) (origin_of s d) rest
+
+goes_round : (s : OrientedMesh) (split : SplitView) (polygon : PolygonView) → IsOrientedSurface s → IsCutFrom s split polygon → 0 < polygon.degree
+    → IsRound s split polygon (last_side polygon)
+unfolding dir
+goes_round s split polygon o c some =
+    let d : ℕ = last_side polygon in
+    let l : d < darts_of s = side_in s split polygon c some (polygon.degree - 1) in
+    let m : ℕ = length (face_at s.mesh (face_of s d)) in
+    record {
+      rest = vertices_on s m d;
+      round_is =
+          ap (λ f. corners_from (face_at s.mesh f) (not (is_flipped s.signs f)) (start_corner_of s d) (length (face_at s.mesh f))) (sym (c.last_side some))
+          ∙ corners_read s o m d l;
+      rest_is = refl;
+      way = subst (λ x. IsWay s.mesh (origin_of s d) (origin_of s x) (vertices_on s m d)) (comes_round s o d l) (ends_on s o m d l);
+    }
+
+-- it is worth the loop of the last side
+round_worth : (s : OrientedMesh) (split : SplitView) (o : IsOrientedSurface s) (t : IsSplit s split) (polygon : PolygonView) → IsCutFrom s split polygon → 0 < polygon.degree
+    → (r : IsRound s split polygon (last_side polygon))
+    → SameFreely (walk_value s split o t polygon (origin_of s (last_side polygon) ∷ r.rest)) (last_loop_as s split o t polygon)
+round_worth s split o t polygon c some r =
+    let d : ℕ = last_side polygon in
+    let g = free_group s split t in
+    let whole : Loops s split t = walk_value s split o t polygon (origin_of s d ∷ vertices_on s (length (face_at s.mesh (face_of s d))) d) in
+    subst (λ (l : List ℕ). SameFreely (walk_value s split o t polygon (origin_of s d ∷ l)) (last_loop_as s split o t polygon)) (sym r.rest_is)
+    (g.on whole (last_loop s split o t polygon) (last_loop_as s split o t polygon) (root_round s split o t polygon c some d refl) (last_loops s split o t polygon))
+
 -- the way once round the root face, led off the cotree, is the loop of the last side
 pub led_round : (s : OrientedMesh) (split : SplitView) (polygon : PolygonView) (root : ℕ) (ups : ℕ → List ℕ) (second : List ℕ) (moves : List Move)
     → IsOrientedSurface s → IsSplit s split → IsCutFrom s split polygon → 0 < polygon.degree → AreWaysUp s split root ups
     → Leads s.mesh (way_round s split (last_side polygon)) moves second → All (LeavesCotree s split) moves → IsOffCotree s split second
     → AreFreelyEqual s.mesh second (by_loop ups (origin_of s (last_side polygon)) (origin_of s (last_side polygon)) (last_side_loop s polygon root ups))
-unfolding dir
 led_round s split polygon root ups second moves o t c some h leads keeps off =
-    by second (subst (λ (l : List ℕ). Leads s.mesh l moves second) round_is leads) off
-  where
-    d : ℕ
-    d = last_side polygon
+    let d : ℕ = last_side polygon in
+    let r : IsRound s split polygon d = goes_round s split polygon o c some in
+    let own_ways : AreWaysUp s split t.parents.root ups = subst (λ x. AreWaysUp s split x ups) (sym (root_is s split o t root ups h)) h in
+    let loop : Loops s split t = last_loop_as s split o t polygon in
+    let loop_is : loop.rest ≡ last_side_loop s polygon root ups =
+    last_list s split o t polygon c some ups own_ways ∙ ap (λ x. last_side_loop s polygon x ups) (root_is s split o t root ups h) in
+    subst (λ (x : List ℕ). AreFreelyEqual s.mesh second (by_loop ups (origin_of s d) (origin_of s d) x)) loop_is
+    (led_closed s split o t polygon c some ups own_ways (origin_of s d) r.rest second moves r.way loop (round_worth s split o t polygon c some r)
+    (subst (λ (l : List ℕ). Leads s.mesh l moves second) r.round_is leads) keeps off)
 
-    l : d < darts_of s
-    l = side_in s split polygon c some (polygon.degree - 1)
-
-    m : ℕ
-    m = length (face_at s.mesh (face_of s d))
-
-    round_is : way_round s split d ≡ origin_of s d ∷ vertices_on s m d
-    round_is =
-        ap (λ f. corners_from (face_at s.mesh f) (not (is_flipped s.signs f)) (start_corner_of s d) (length (face_at s.mesh f))) (sym (c.last_side some))
-        ∙ corners_read s o m d l
-
-    own_ways : AreWaysUp s split t.parents.root ups
-    own_ways = subst (λ x. AreWaysUp s split x ups) (sym (root_is s split o t root ups h)) h
-
-    loop : Loops s split t
-    loop = last_loop_as s split o t polygon
-
-    loop_is : loop.rest ≡ last_side_loop s polygon root ups
-    loop_is = last_list s split o t polygon c some ups own_ways ∙ ap (λ x. last_side_loop s polygon x ups) (root_is s split o t root ups h)
-
-    round_way : IsWay s.mesh (origin_of s d) (origin_of s d) (vertices_on s m d)
-    round_way = subst (λ x. IsWay s.mesh (origin_of s d) (origin_of s x) (vertices_on s m d)) (comes_round s o d l) (ends_on s o m d l)
-
-    first : List ℕ
-    first = origin_of s d ∷ vertices_on s m d
-
-    is_walk : IsWalk s.mesh first
-    is_walk = way_walk s.mesh (origin_of s d) (origin_of s d) (vertices_on s m d) round_way
-
-    by : (walk : List ℕ) → Leads s.mesh first moves walk → IsOffCotree s split walk
-        → AreFreelyEqual s.mesh walk (by_loop ups (origin_of s d) (origin_of s d) (last_side_loop s polygon root ups))
-    by [] k f =
-        let none : 0 < 0 = (list_keeps_walk s.mesh moves first [] is_walk k).starts in
-        absurd (omega arith)
-    by (v ∷ others) k f =
-        let g = free_group s split t in
-        let z : IsWalk s.mesh (v ∷ others) = list_keeps_walk s.mesh moves first (v ∷ others) is_walk k in
-        let ends = list_keeps_ends s.mesh moves first (v ∷ others) is_walk.starts k in
-        let along_raw : IsWay s.mesh (origin_of s d) (slice_index first (length (vertices_on s m d))) others = other_way s.mesh (origin_of s d) v (vertices_on s m d) others z ends in
-        let own_end : slice_index first (length (vertices_on s m d)) ≡ origin_of s d =
-        sym (way_end s.mesh (origin_of s d) (slice_index first (length (vertices_on s m d))) (vertices_on s m d) (walk_way s.mesh (origin_of s d) (vertices_on s m d) is_walk))
-        ∙ way_end s.mesh (origin_of s d) (origin_of s d) (vertices_on s m d) round_way in
-        let along : IsWay s.mesh (origin_of s d) (origin_of s d) others = subst (λ x. IsWay s.mesh (origin_of s d) x others) own_end along_raw in
-        let starts : v ≡ origin_of s d = sym ends.starts in
-        let a : Loops s split t = walk_value s split o t polygon (v ∷ others) in
-        let b : Loops s split t = walk_value s split o t polygon first in
-        let own : Loops s split t = last_loop s split o t polygon in
-        let worth : SameFreely a loop =
-        g.on a b loop (g.turn b a (moves_keep_value s split o t polygon c some moves first (v ∷ others) is_walk keeps k))
-        (g.on b own loop (root_round s split o t polygon c some d refl) (last_loops s split o t polygon)) in
-        let from_own : AreFreelyEqual s.mesh (origin_of s d ∷ others) (by_loop ups (origin_of s d) (origin_of s d) loop.rest) =
-        off_walk s split o t polygon ups own_ways (origin_of s d) (origin_of s d) others along (subst (λ x. IsOffCotree s split (x ∷ others)) starts f) loop
-        (subst (λ x. SameFreely (walk_value s split o t polygon (x ∷ others)) loop) starts worth) in
-        subst (λ x. AreFreelyEqual s.mesh (x ∷ others) (by_loop ups (origin_of s d) (origin_of s d) (last_side_loop s polygon root ups))) (sym starts)
-        (subst (λ (x : List ℕ). AreFreelyEqual s.mesh (origin_of s d ∷ others) (by_loop ups (origin_of s d) (origin_of s d) x)) loop_is from_own)
+-- the way back round it is the way back along that loop
+pub led_back_round : (s : OrientedMesh) (split : SplitView) (polygon : PolygonView) (root : ℕ) (ups : ℕ → List ℕ) (second : List ℕ) (moves : List Move)
+    → IsOrientedSurface s → IsSplit s split → IsCutFrom s split polygon → 0 < polygon.degree → AreWaysUp s split root ups
+    → Leads s.mesh (way_back_round s split (last_side polygon)) moves second → All (LeavesCotree s split) moves → IsOffCotree s split second
+    → AreFreelyEqual s.mesh second
+    (by_loop ups (origin_of s (last_side polygon)) (origin_of s (last_side polygon)) (backward root (last_side_loop s polygon root ups)))
+led_back_round s split polygon root ups second moves o t c some h leads keeps off =
+    let d : ℕ = last_side polygon in
+    let u : ℕ = origin_of s d in
+    let g = free_group s split t in
+    let r : IsRound s split polygon d = goes_round s split polygon o c some in
+    let own_ways : AreWaysUp s split t.parents.root ups = subst (λ x. AreWaysUp s split x ups) (sym (root_is s split o t root ups h)) h in
+    let loop : Loops s split t = last_loop_as s split o t polygon in
+    let there : Loops s split t = walk_value s split o t polygon (u ∷ r.rest) in
+    let home : Loops s split t = walk_value s split o t polygon (u ∷ back u r.rest) in
+    let loop_is : loop.rest ≡ last_side_loop s polygon root ups =
+    last_list s split o t polygon c some ups own_ways ∙ ap (λ x. last_side_loop s polygon x ups) (root_is s split o t root ups h) in
+    let back_is : back t.parents.root loop.rest ≡ backward root (last_side_loop s polygon root ups) =
+    ap (λ x. back x loop.rest) (root_is s split o t root ups h) ∙ ap (back root) loop_is ∙ sym (backward_is root (last_side_loop s polygon root ups)) in
+    let way_is : way_back_round s split d ≡ u ∷ back u r.rest =
+    ap (λ (l : List ℕ). u ∷ backward u (drop 1 l)) r.round_is ∙ ap (λ (l : List ℕ). u ∷ l) (backward_is u r.rest) in
+    let home_is : SameFreely home (loop_inv there) =
+    product_back SameFreely loop_mul loop_inv (loop_one s.mesh t.parents.root t.parents.root_used) g s.mesh (step_value s split o t polygon)
+    (steps_turn s split o t polygon c some) u u r.rest r.way in
+    let worth : SameFreely home (loop_inv loop) =
+    g.on home (loop_inv there) (loop_inv loop) home_is (g.inv_same there loop (round_worth s split o t polygon c some r)) in
+    subst (λ (x : List ℕ). AreFreelyEqual s.mesh second (by_loop ups u u x)) back_is
+    (led_closed s split o t polygon c some ups own_ways u (back u r.rest) second moves (way_home s.mesh u u r.rest r.way) (loop_inv loop) worth
+    (subst (λ (l : List ℕ). Leads s.mesh l moves second) way_is leads) keeps off)
 
 -- the product of a list of spokes
 pub product_of : (s : OrientedMesh) (split : SplitView) → IsOrientedSurface s → (t : IsSplit s split) → PolygonView → List ℕ → Loops s split t

@@ -1,5 +1,5 @@
 -- What a walk is worth in the loops of a polygon, up to spurs alone: which moves keep that, and which walks have no cotree dart left.
-use Rattle.std.specs.Prelude.{◌≡◌, ◌≢◌, ◌⊎◌, ℕ, zero, suc, ◌+◌, ◌-◌, ◌<◌, Bool, true, false, not, List, [], ◌∷◌, ◌++◌, length, slice_index, Some}
+use Rattle.std.specs.Prelude.{◌≡◌, ◌≢◌, ◌⊎◌, ℕ, zero, suc, ◌+◌, ◌-◌, ◌<◌, Bool, true, false, not, List, [], ◌∷◌, ◌++◌, length, drop, slice_index, Some}
 use Rattle.surf_model.specs.FaceLists.{face_at, next_corner, corners_from, is_used}
 use Rattle.surf_model.specs.Surfaces.{IsPath, is_flipped}
 use Rattle.surf_model.specs.FreeWalks.{AreFreelyEqual}
@@ -114,6 +114,10 @@ abbrev pub way_round : OrientedMesh → SplitView → ℕ → List ℕ
 way_round surface split dart =
     let face = face_at surface.mesh split.root_face in
     corners_from face (not (is_flipped surface.signs split.root_face)) (start_corner_of surface dart) (length face)
+
+-- the same way backward
+abbrev pub way_back_round : OrientedMesh → SplitView → ℕ → List ℕ
+way_back_round surface split dart = origin_of surface dart ∷ backward (origin_of surface dart) (drop 1 (way_round surface split dart))
 
 -- Pushes across the quad of a side and of the one across from it, whose numbers are c and a: round the middle the spokes a, a + 1 give
 -- way to c + 1, c, and round the vertex c + 1, a give way to c, a + 1. The loop stays, up to spurs. Numbers are counted on, so after the

@@ -12,7 +12,7 @@ ghost use Rattle.halfedge_map.specs.RotationSystems.{rotations_of};
 ghost use Rattle.tree_cotree.specs.Splits.{SplitView, IsSplit, in_tree, in_cotree, is_left};
 ghost use Rattle.polygon_cut.specs.Polygons.{PolygonView, IsCutFrom, KindLabels, label_of, place_of, turned, one_up, one_down};
 ghost use Rattle.polygon_cut.specs.SpokeLoops.{AreWaysUp, HaveFreeSpokes, LeavesCotree, IsOffCotree, by_loop, path_loop, spokes_along};
-ghost use Rattle.polygon_cut.specs.SpokeLoops.{way_round, last_side, last_side_loop, across_last, ArePushedFreely, ArePushedWithLoop};
+ghost use Rattle.polygon_cut.specs.SpokeLoops.{backward, way_round, way_back_round, last_side, last_side_loop, across_last, ArePushedFreely, ArePushedWithLoop};
 
 /// One step along the ring of tree and leftover edges keeps the label, or raises it by one past a leftover dart: along a
 /// tree edge both labels are one, across a cotree edge they are, and along a leftover edge the label rises by one.
@@ -65,9 +65,10 @@ pub fn walks_are_freely_their_spokes()
 {}
 
 /// The way once round the root face from the last side, led off the cotree by such moves, is the loop of the last side,
-/// with the way up the tree before it and the way down behind it, up to spurs.
+/// with the way up the tree before it and the way down behind it, up to spurs; and the same way backward is that loop
+/// backward.
 pub fn root_face_is_freely_the_loop_of_the_last_side()
-    ensures { (surface : OrientedMesh) (split : SplitView) (polygon : PolygonView) (root : ℕ) (up : ℕ → List ℕ)
+    ensures forward { (surface : OrientedMesh) (split : SplitView) (polygon : PolygonView) (root : ℕ) (up : ℕ → List ℕ)
         (second : List ℕ) (moves : List Move) → IsOrientedSurface surface → IsSplit surface split
         → IsCutFrom surface split polygon → 0 < polygon.degree → AreWaysUp surface split root up
         → Leads surface.mesh (way_round surface split (last_side polygon)) moves second
@@ -75,6 +76,14 @@ pub fn root_face_is_freely_the_loop_of_the_last_side()
         → AreFreelyEqual surface.mesh second
         (by_loop up (origin_of surface (last_side polygon)) (origin_of surface (last_side polygon))
         (last_side_loop surface polygon root up)) }
+    ensures back { (surface : OrientedMesh) (split : SplitView) (polygon : PolygonView) (root : ℕ) (up : ℕ → List ℕ)
+        (second : List ℕ) (moves : List Move) → IsOrientedSurface surface → IsSplit surface split
+        → IsCutFrom surface split polygon → 0 < polygon.degree → AreWaysUp surface split root up
+        → Leads surface.mesh (way_back_round surface split (last_side polygon)) moves second
+        → All (LeavesCotree surface split) moves → IsOffCotree surface split second
+        → AreFreelyEqual surface.mesh second
+        (by_loop up (origin_of surface (last_side polygon)) (origin_of surface (last_side polygon))
+        (backward root (last_side_loop surface polygon root up))) }
 {}
 
 /// A push across the quad of a side and of the one across from it leaves the loop of a list of spokes as it is, up to
