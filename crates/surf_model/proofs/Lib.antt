@@ -11,6 +11,7 @@ pub mod EdgeListLemmas
 pub mod TallyLemmas
 pub mod CutGroupLemmas
 pub mod TableBelowLemmas
+pub mod BlockLemmas
 pub mod LinkingLemmas
 pub mod StoredEdgeLemmas
 pub mod SearchLemmas

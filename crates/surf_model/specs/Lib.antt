@@ -13,6 +13,7 @@ pub mod Surfaces
 pub mod EdgeDarts
 pub mod EdgeLists
 pub mod Building
+pub mod Blocks
 pub mod Links
 pub mod StoredEdges
 pub mod Meshes

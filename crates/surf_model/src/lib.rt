@@ -13,10 +13,12 @@
 //!     let edge = sides.between(VertexName(2), VertexName(0));
 #![tactic(auto)]
 
+mod blocks;
 mod building;
 pub mod chains;
 mod edge_list;
 pub mod edges;
+mod ends;
 pub mod faces;
 pub mod homotopy_laws;
 pub mod laws;
