@@ -1,29 +1,34 @@
--- A list of moves, line by line.
+-- A certificate, line by line.
 use Rattle.std.proofs.Common.{◌≡◌, ◌⊎◌, inl, inr, ℕ, ◌<◌, ◌≤◌, Bool, true, false, List, [], ◌∷◌, ◌++◌, refl, sym, ap, ◌∙◌, subst, arith}
-use Rattle.std.specs.Prelude.{◌==◌, nat_lt, if◌then◌else◌, Option, Some, None, Result, Ok, Err, MatchResult, option_map, is_some}
+use Rattle.std.specs.Prelude.{◌==◌, nat_lt, if◌then◌else◌, Option, Some, None, Result, Ok, Err, option_map, is_some}
 use Rattle.std.specs.Option.{ok_or}
 use Rattle.std.proofs.lemmas.Bool.Decides.{nat_tests}
 use Rattle.std.proofs.lemmas.List.{append-nil}
 use Rattle.surf_model.specs.Moves.{PeakedMoves}
 use Rattle.surf_model.specs.declared.moves.Move.{Move}
 use Rattle.text_scan.specs.Lines.{Line, full_lines, end_line}
-use Rattle.walk_files.specs.Certificates.{moves_of_text, move_of, head_of_text, head_among, head_in, first_head, fitting_head, within_peak, fits, answer_of, head_of, list_of_text}
-use Rattle.walk_files.specs.Readers.{Certificate, next_of, unless_refused, started, next_answer, answer_first, after_answer, moves_left, moves_to_come, lines_to_come}
+use Rattle.quad_system.specs.declared.denial.Denial.{Denial}
+use Rattle.walk_files.specs.Certificates.{moves_of_text, move_of, head_of_text, head_among, head_in, first_head, fitting_head, within_peak, fits, answer_of, head_of, with_peak}
+use Rattle.walk_files.specs.Denials.{denial_of_lines}
+use Rattle.walk_files.specs.Readers.{Certificate, next_of, unless_refused, started, next_answer, answer_first, after_answer, moves_left, moves_to_come, lines_to_come, denial_left}
 use Rattle.walk_files.specs.declared.certificate.CertHead.{CertHead}
 use Rattle.walk_files.specs.declared.certificate.CertHead.TheVariants.{Moves, Labels}
 use Rattle.walk_files.specs.declared.fault.CertFault.{CertFault}
-use Rattle.walk_files.specs.declared.fault.CertFault.TheVariants.{Bad, Ended, Extra, Peak}
+use Rattle.walk_files.specs.declared.fault.CertFault.TheVariants.{NoHead, Bad, Ended, Extra, Peak}
+use Rattle.walk_files.specs.declared.fault.CertFault.TheVariants as faults
 use Rattle.walk_files.specs.declared.limits.TheConstants.{MOST_PEAK}
 use Rattle.walk_files.proofs.EachLemmas.{before_ok, before_ok-more}
 use Rattle.walk_files.proofs.ReaderLemmas.{moves_left-started}
 use Rattle.surf_io.specs.Files.{Files}
 use Rattle.homotopy_cli.specs.Causes.{Exactly}
-use Rattle.homotopy_cli.specs.Checks.{Passes}
-use Rattle.homotopy_cli.specs.Inputs.{list_meant, moves_in as moves_from}
-use Rattle.homotopy_cli.specs.Stops.{Stops}
+use Rattle.homotopy_cli.specs.Checks.{Passes, meant}
+use Rattle.homotopy_cli.specs.Inputs.{as_certificate, certificate_behind, certificate_of, certificate_in, IsPeakRead}
+use Rattle.homotopy_cli.specs.Stops.{Stops, certificate_stop}
+use Rattle.homotopy_cli.specs.declared.certificate.Certificate.{Certificate as Certified}
+use Rattle.homotopy_cli.specs.declared.certificate.Certificate.TheVariants as certificates
 use Rattle.homotopy_cli.specs.declared.refusal.Refusal.TheVariants as refusals
 use Rattle.homotopy_cli.specs.declared.stop.Stop.{Stop}
-use Rattle.homotopy_cli.specs.declared.stop.Stop.TheVariants.{Refused, OutOfMemory}
+use Rattle.homotopy_cli.specs.declared.stop.Stop.TheVariants.{OutOfMemory}
 
 -- ---- the measure
 
@@ -75,18 +80,12 @@ pub started_err : (text : List ℕ) (head : Result CertHead CertFault) (fault : 
 started_err text (Err other) fault e = cc
 started_err text (Ok head) fault e = cc
 
-pub list-err : (text : List ℕ) (fault : CertFault) → head_of_text text ≡ Err fault → list_of_text text ≡ Some (Err fault)
-list-err text fault e = rw e refl
-
-pub list-labels : (text : List ℕ) (degree : ℕ) → head_of_text text ≡ Ok (Labels degree) → list_of_text text ≡ None
-list-labels text degree e = rw e refl
-
 pub list-moves : (text : List ℕ) (count peak : ℕ) (moves : List Move) → head_of_text text ≡ Ok (Moves count peak)
-    → moves_of_text count text ≡ Ok moves → list_of_text text ≡ Some (Ok (record { moves = moves; peak = peak }))
+    → moves_of_text count text ≡ Ok moves → certificate_of text ≡ Ok (certificates.Moves (record { moves = moves; peak = peak }))
 list-moves text count peak moves e f = rw (e, f) refl
 
 pub list-wrong : (text : List ℕ) (count peak : ℕ) (fault : CertFault) → head_of_text text ≡ Ok (Moves count peak)
-    → moves_of_text count text ≡ Err fault → list_of_text text ≡ Some (Err fault)
+    → moves_of_text count text ≡ Err fault → certificate_of text ≡ Err fault
 list-wrong text count peak fault e f = rw (e, f) refl
 
 -- a reader that has just started has all moves of the text to come
@@ -94,15 +93,24 @@ pub left_start : (reader : Certificate) (text : List ℕ) (count peak : ℕ) →
     → reader.refusal ≡ None → moves_left reader ≡ moves_of_text count text
 left_start reader text count peak is_text is_head is_given kept = rw (is_text, is_head, is_given, kept) (moves_left-started text count peak)
 
--- a text whose head is refused
-pub head_stops : (text : List ℕ) (fault : CertFault) → head_of_text text ≡ Err fault
-    → Stops (list_meant (list_of_text text)) (Refused (refusals.Certificate fault))
-head_stops text fault e = (Exactly (refusals.Certificate fault), rw (list-err text fault e) refl, refl)
+-- what a fault of a certificate stops stops the check of it
+pub fault_stops : (fault : CertFault) → Stops {T = Certified} (meant refusals.Certificate (Err fault)) (certificate_stop fault)
+fault_stops NoHead = (Exactly (refusals.Certificate NoHead), refl, refl)
+fault_stops (Bad line) = (Exactly (refusals.Certificate (Bad line)), refl, refl)
+fault_stops (Ended line) = (Exactly (refusals.Certificate (Ended line)), refl, refl)
+fault_stops (Extra line) = (Exactly (refusals.Certificate (Extra line)), refl, refl)
+fault_stops (Peak line) = (Exactly (refusals.Certificate (Peak line)), refl, refl)
+fault_stops faults.OutOfMemory = tt
 
--- a text whose head is that of labels
-pub labels_stop : (text : List ℕ) (degree : ℕ) → head_of_text text ≡ Ok (Labels degree)
-    → Stops (list_meant (list_of_text text)) (Refused refusals.NotBuilt)
-labels_stop text degree h = (Exactly refusals.NotBuilt, rw (list-labels text degree h) refl, refl)
+-- a text with this fault
+pub text_stops : (text : List ℕ) (fault : CertFault) → certificate_of text ≡ Err fault
+    → Stops (meant refusals.Certificate (certificate_of text)) (certificate_stop fault)
+text_stops text fault e =
+    subst (λ (read : Result Certified CertFault). Stops (meant refusals.Certificate read) (certificate_stop fault)) (sym e) (fault_stops fault)
+
+pub head_stops : (text : List ℕ) (fault : CertFault) → head_of_text text ≡ Err fault
+    → Stops (meant refusals.Certificate (certificate_of text)) (certificate_stop fault)
+head_stops text fault e = text_stops text fault (rw e refl)
 
 -- ---- the peak of a head is within the limit
 
@@ -142,45 +150,83 @@ among end (line ∷ lines) count peak e = by_test (is_some (answer_of line.words
     by_test true e = first line.words end lines count peak e
     by_test false e = alone line.number (head_of line.words) count peak e
 
-by_moves : (text : List ℕ) (count peak : ℕ) (list : PeakedMoves) (moves : Result (List Move) CertFault) → head_of_text text ≡ Ok (Moves count peak)
-    → moves_of_text count text ≡ moves → list_of_text text ≡ Some (Ok list) → list.peak ≤ MOST_PEAK
-by_moves text count peak list (Err fault) h m e = let wrong = list-wrong text count peak fault h m in cc
-by_moves text count peak list (Ok moves) h m e =
-    let is = list-moves text count peak moves h m in
-    let same : peak ≡ list.peak = cc in
-    subst (λ (q : ℕ). q ≤ MOST_PEAK) same (among (end_line text) (full_lines text) count peak h)
+by_moves : (text : List ℕ) (count peak : ℕ) (shown : Certified) (moves : Result (List Move) CertFault) → head_of_text text ≡ Ok (Moves count peak)
+    → as_certificate certificates.Moves (with_peak peak moves) ≡ Ok shown → IsPeakRead shown
+by_moves text count peak shown (Err fault) h e = cc
+by_moves text count peak shown (Ok moves) h e =
+    let same : certificates.Moves (record { moves = moves; peak = peak }) ≡ shown = cc in
+    subst IsPeakRead same (among (end_line text) (full_lines text) count peak h)
 
-by_head : (text : List ℕ) (list : PeakedMoves) (head : Result CertHead CertFault) → head_of_text text ≡ head → list_of_text text ≡ Some (Ok list)
-    → list.peak ≤ MOST_PEAK
-by_head text list (Err fault) h e = let wrong = list-err text fault h in cc
-by_head text list (Ok (Labels degree)) h e = let wrong = list-labels text degree h in cc
-by_head text list (Ok (Moves count peak)) h e = by_moves text count peak list (moves_of_text count text) h refl e
+by_denial : (shown : Certified) (denial : Result Denial CertFault) → as_certificate certificates.Denial denial ≡ Ok shown → IsPeakRead shown
+by_denial shown (Err fault) e = cc
+by_denial shown (Ok denial) e = let same : certificates.Denial denial ≡ shown = cc in subst IsPeakRead same tt
 
-by_list : (text : List ℕ) (list : PeakedMoves) (read : Option (Result PeakedMoves CertFault)) → list_of_text text ≡ read → Passes (list_meant read) list
-    → list.peak ≤ MOST_PEAK
-by_list text list None e h = cc
-by_list text list (Some (Err fault)) e h = cc
-by_list text list (Some (Ok other)) e h = let same : other ≡ list = cc in by_head text list (head_of_text text) refl (e ∙ ap (λ (l : PeakedMoves). Some (Ok l)) same)
+by_head : (text : List ℕ) (shown : Certified) (head : Result CertHead CertFault) → head_of_text text ≡ head → certificate_behind head text ≡ Ok shown
+    → IsPeakRead shown
+by_head text shown (Err fault) h e = cc
+by_head text shown (Ok (Labels degree)) h e = by_denial shown (denial_of_lines degree text) e
+by_head text shown (Ok (Moves count peak)) h e = by_moves text count peak shown (moves_of_text count text) h e
 
-pub peak_within : (held : Option Files) (name : List ℕ) (list : PeakedMoves) → Passes (moves_from held name) list → list.peak ≤ MOST_PEAK
-peak_within held name list (inl p) = let e = p.2 in cc
-peak_within held name list (inr p) = by_list p.0 list (list_of_text p.0) refl p.2
+by_text : (text : List ℕ) (shown : Certified) (read : Result Certified CertFault) → certificate_of text ≡ read → Passes (meant refusals.Certificate read) shown
+    → IsPeakRead shown
+by_text text shown (Err fault) e h = cc
+by_text text shown (Ok other) e h =
+    let same : other ≡ shown = cc in
+    by_head text shown (head_of_text text) refl (e ∙ ap (λ (c : Certified). let r : Result Certified CertFault = Ok c in r) same)
 
--- ---- what was gathered is what the text means
+pub peak_within : (held : Option Files) (name : List ℕ) (shown : Certified) → Passes (certificate_in held name) shown → IsPeakRead shown
+peak_within held name shown (inl p) = let e = p.2 in cc
+peak_within held name shown (inr p) = by_text p.0 shown (certificate_of p.0) refl p.2
 
-pub gathered : (text : List ℕ) (count peak : ℕ) (reader : Certificate) (result : Result PeakedMoves Stop) → head_of_text text ≡ Ok (Moves count peak)
-    → moves_left reader ≡ moves_of_text count text
-    → MatchResult result (λ list. (list.peak ≡ peak) × (moves_left reader ≡ Ok list.moves))
-    (λ stop. (stop ≡ OutOfMemory) ⊎ ((fault : CertFault) × (moves_left reader ≡ Err fault) × (stop ≡ Refused (refusals.Certificate fault))))
-    → MatchResult result (Passes (list_meant (list_of_text text))) (Stops (list_meant (list_of_text text)))
-gathered text count peak reader (Ok list) h left p =
-    let is : list_of_text text ≡ Some (Ok list) =
-    list-moves text count peak list.moves h (sym left ∙ p.1)
-    ∙ ap (λ (p : ℕ). let r : Option (Result PeakedMoves CertFault) = Some (Ok (record { moves = list.moves; peak = p })) in r) (sym p.0) in
-    subst (λ (read : Option (Result PeakedMoves CertFault)). Passes (list_meant read) list) (sym is) refl
-gathered text count peak reader (Err stop) h left (inl e) = subst (Stops (list_meant (list_of_text text))) (sym e) tt
-gathered text count peak reader (Err stop) h left (inr p) =
-    let is : list_of_text text ≡ Some (Err p.0) = list-wrong text count peak p.0 h (sym left ∙ p.1) in
-    subst (Stops (list_meant (list_of_text text))) (sym p.2)
-    (subst (λ (read : Option (Result PeakedMoves CertFault)). Stops (list_meant read) (Refused (refusals.Certificate p.0))) (sym is)
-    (Exactly (refusals.Certificate p.0), refl, refl))
+-- ---- what was read is what the text means
+
+-- a list that was gathered
+pub gathered : (text : List ℕ) (count peak : ℕ) (list : PeakedMoves) (left : Result (List Move) CertFault) → head_of_text text ≡ Ok (Moves count peak)
+    → left ≡ moves_of_text count text → list.peak ≡ peak → left ≡ Ok list.moves
+    → Passes (meant refusals.Certificate (certificate_of text)) (certificates.Moves list)
+gathered text count peak list left h is_left is_peak is_moves =
+    let is : certificate_of text ≡ Ok (certificates.Moves list) =
+    list-moves text count peak list.moves h (sym is_left ∙ is_moves)
+    ∙ ap (λ (p : ℕ). let r : Result Certified CertFault = Ok (certificates.Moves (record { moves = list.moves; peak = p })) in r) (sym is_peak) in
+    subst (λ (read : Result Certified CertFault). Passes (meant refusals.Certificate read) (certificates.Moves list)) (sym is) refl
+
+-- and one with a fault
+pub not_gathered : (text : List ℕ) (count peak : ℕ) (stop : Stop) (left : Result (List Move) CertFault) → head_of_text text ≡ Ok (Moves count peak)
+    → left ≡ moves_of_text count text
+    → (stop ≡ OutOfMemory) ⊎ ((fault : CertFault) × (left ≡ Err fault) × (stop ≡ certificate_stop fault))
+    → Stops (meant refusals.Certificate (certificate_of text)) stop
+not_gathered text count peak stop left h is_left (inl e) = subst (Stops (meant refusals.Certificate (certificate_of text))) (sym e) tt
+not_gathered text count peak stop left h is_left (inr p) =
+    subst (Stops (meant refusals.Certificate (certificate_of text))) (sym p.2)
+    (text_stops text p.0 (list-wrong text count peak p.0 h (sym is_left ∙ p.1)))
+
+-- a reader that has just started has the whole denial of the text to give
+pub denial_start : (reader : Certificate) (text : List ℕ) (degree : ℕ) → reader.text ≡ text → reader.head ≡ Labels degree → reader.given ≡ 0
+    → reader.refusal ≡ None → denial_left reader ≡ denial_of_lines degree text
+denial_start reader text degree is_text is_head is_given kept = rw (is_text, is_head, is_given, kept) refl
+
+pub denial_passes : (text : List ℕ) (degree : ℕ) (denial : Denial) → head_of_text text ≡ Ok (Labels degree) → denial_of_lines degree text ≡ Ok denial
+    → Passes (meant refusals.Certificate (certificate_of text)) (certificates.Denial denial)
+denial_passes text degree denial h e =
+    let is : certificate_of text ≡ Ok (certificates.Denial denial) = rw (h, e) refl in
+    subst (λ (read : Result Certified CertFault). Passes (meant refusals.Certificate read) (certificates.Denial denial)) (sym is) refl
+
+pub denial_stops : (text : List ℕ) (degree : ℕ) (fault : CertFault) → head_of_text text ≡ Ok (Labels degree)
+    → (Err fault ≡ denial_of_lines degree text) ⊎ (fault ≡ faults.OutOfMemory)
+    → Stops (meant refusals.Certificate (certificate_of text)) (certificate_stop fault)
+denial_stops text degree fault h (inl e) = text_stops text fault (rw (h, ← e) refl)
+denial_stops text degree fault h (inr e) =
+    subst (λ (f : CertFault). Stops (meant refusals.Certificate (certificate_of text)) (certificate_stop f)) (sym e) tt
+
+-- what a reader of a denial gives is that of the text, unless memory is wanting
+pub denial_or_memory : (text : List ℕ) (degree : ℕ) (reader : Certificate) (fault : CertFault) → denial_left reader ≡ denial_of_lines degree text
+    → (Err fault ≡ denial_left reader) ⊎ ((reader.refusal ≡ None) × (let wanting : Result Denial CertFault = Err faults.OutOfMemory in Err fault ≡ wanting))
+    → (Err fault ≡ denial_of_lines degree text) ⊎ (fault ≡ faults.OutOfMemory)
+denial_or_memory text degree reader fault start (inl given) = inl (given ∙ start)
+denial_or_memory text degree reader fault start (inr wanting) = let e = wanting.1 in inr cc
+
+pub denial_given : (text : List ℕ) (degree : ℕ) (reader : Certificate) (denial : Denial) → denial_left reader ≡ denial_of_lines degree text
+    → (Ok denial ≡ denial_left reader) ⊎ ((reader.refusal ≡ None) × (Ok denial ≡ Err faults.OutOfMemory))
+    → denial_of_lines degree text ≡ Ok denial
+denial_given text degree reader denial start (inl given) = sym (given ∙ start)
+denial_given text degree reader denial start (inr wanting) = let e = wanting.1 in cc

@@ -11,4 +11,10 @@ pub mod Deciding
 pub mod GatheredLemmas
 pub mod WordLines
 pub mod Reducing
+pub mod SomeVerdict
+pub mod Rows
+pub mod SurfaceOutcomes
+pub mod DecideOutcomes
+pub mod VerifyOutcomes
+pub mod ReduceOutcomes
 pub mod Outcomes

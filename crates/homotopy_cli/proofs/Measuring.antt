@@ -1,10 +1,10 @@
 -- The numbers of a surface: that they are there, that they are one, and what `surface` answers.
-use Rattle.std.proofs.Common.{◌≡◌, ◌⊎◌, inl, inr, ℕ, ◌+◌, ◌*◌, List, [], ◌∷◌, length, refl, sym, ap, ◌∙◌, subst, arith}
+use Rattle.std.proofs.Common.{◌≡◌, inl, inr, ℕ, ◌+◌, ◌*◌, List, length, refl, sym, ap, ◌∙◌, subst, arith}
 use Rattle.std.specs.Prelude.{ℤ, pos, ◌+ℤ◌, ◌-ℤ◌, Option}
 use Rattle.std.proofs.lemmas.Int.{ints}
 use Rattle.surf_io.specs.Files.{Files}
 use Rattle.surf_model.specs.FaceLists.{FaceList, IsFaceList, is_used}
-use Rattle.surf_model.specs.Edges.{Edge, IsTableOf}
+use Rattle.surf_model.specs.Edges.{Edge}
 use Rattle.surf_model.specs.Surfaces.{IsClosed, IsOrientable, IsSurface}
 use Rattle.manifold_check.specs.Faults.{IsFirstFault}
 use Rattle.manifold_check.specs.declared.fault.SurfaceFault.{SurfaceFault}

@@ -1,364 +1,33 @@
--- The outcome of a list of words: that it is there, that it is one, and what follows for `verify`.
-use Rattle.std.proofs.Common.{◌≡◌, ◌↔◌, ◌⊎◌, inl, inr, ℕ, ◌≤◌, List, [], ◌∷◌, refl, sym, ap, ◌∙◌, subst, arith}
-use Rattle.std.specs.Prelude.{Option, Some, None, Result, Ok, Err, MatchResult, slice_index, slice_index_or}
+-- The outcome of a list of words, and what is told of a run.
+use Rattle.std.proofs.Common.{◌≡◌, ◌⊎◌, inl, inr, ℕ, List, refl, subst}
+use Rattle.std.specs.Prelude.{Option, Result, Ok, Err, MatchResult}
 use Rattle.surf_io.specs.Files.{Files}
-use Rattle.surf_model.specs.FaceLists.{FaceList}
-use Rattle.surf_model.specs.Surfaces.{IsSurface}
-use Rattle.surf_model.specs.Moves.{PeakedMoves, Leads, greatest_darts}
-use Rattle.off_reader.specs.OffTexts.{meaning_of}
-use Rattle.move_checker.specs.Verdicts.{verdict_of}
-use Rattle.move_checker.specs.declared.judge.Verdict.{Verdict}
 use Rattle.move_checker.specs.declared.judge.Verdict.TheVariants.{Accepted, Peak, AtMove, End}
-use Rattle.move_checker.proofs.Judgement.{accepted_exactly}
-use Rattle.walk_files.specs.Certificates.{list_of_text}
-use Rattle.walk_files.specs.NumberTexts.{walks_of}
-use Rattle.walk_files.specs.Pairs.{IsPair, pair_fault}
-use Rattle.walk_files.specs.declared.fault.CertFault.{CertFault}
-use Rattle.walk_files.specs.declared.fault.WalkFault.{WalkFault}
-use Rattle.walk_files.proofs.PairLemmas.{none_of_pair}
+use Rattle.walk_translate.specs.declared.checking.DenialVerdict.TheVariants as verdicts
 use Rattle.walk_translate.specs.declared.deciding.Answer.TheVariants.{Homotopic, Different}
-use Rattle.homotopy_cli.specs.Answers.{Outcome, Measured, Judged, Reduced}
-use Rattle.homotopy_cli.specs.Causes.{Exactly, NotOrientable}
-use Rattle.homotopy_cli.specs.Checks.{Refuse, Pass, Passes, Holds, IsTold, found_or, refuse, meant, pass_unless, ◌>>=◌}
-use Rattle.homotopy_cli.specs.Commands.{Row, Surface, Decide, Certify, Verify, Reduce, Trial, IsRow}
-use Rattle.homotopy_cli.specs.Decide.{decide, IsDecideInput}
-use Rattle.homotopy_cli.specs.Inputs.{mesh_in, pair_in, moves_in, list_meant, walk_at, SpellsMesh, SpellsPair, SpellsList}
+use Rattle.homotopy_cli.specs.Answers.{Outcome}
+use Rattle.homotopy_cli.specs.Causes.{Exactly}
+use Rattle.homotopy_cli.specs.Checks.{Refuse, Pass, found_or, refuse}
+use Rattle.homotopy_cli.specs.Commands.{Row, IsRow}
 use Rattle.homotopy_cli.specs.Outcomes.{answer_to, answer_of, IsOutcome, AllTold, IsAnswerOf, Answers}
-use Rattle.homotopy_cli.specs.Reduce.{IsReduceInput, AreCanonicalOf, IsReduced, reduce}
 use Rattle.homotopy_cli.specs.Replies.{Replies, reply_status, reply_text}
-use Rattle.homotopy_cli.specs.Statuses.{verdict_status, status_of, IsAnswered}
+use Rattle.homotopy_cli.specs.Statuses.{IsAnswered}
 use Rattle.homotopy_cli.specs.Stops.{Stops}
-use Rattle.homotopy_cli.specs.Surface.{surface, AreNumbersOf, IsSurfaceInput, IsMeasured}
-use Rattle.homotopy_cli.specs.SurfaceInput.{as_surface, surface_in}
-use Rattle.homotopy_cli.specs.Refusals.{refusal_line}
-use Rattle.homotopy_cli.specs.Texts.{numbers_text}
-use Rattle.homotopy_cli.specs.declared.numbers.SurfaceNumbers.{SurfaceNumbers}
-use Rattle.homotopy_cli.specs.Verify.{verify, IsVerifyInput}
-use Rattle.homotopy_cli.specs.declared.refusal.Input.TheVariants as inputs
 use Rattle.homotopy_cli.specs.declared.refusal.Refusal.{Refusal}
-use Rattle.homotopy_cli.specs.declared.refusal.Refusal.TheVariants.{Off, Walks, Pair, Certificate}
 use Rattle.homotopy_cli.specs.declared.refusal.Refusal.TheVariants as refusals
 use Rattle.homotopy_cli.specs.declared.reply.Reply.{Reply}
 use Rattle.homotopy_cli.specs.declared.reply.Reply.TheVariants as replies
 use Rattle.homotopy_cli.specs.declared.status.Status.{Status}
-use Rattle.homotopy_cli.specs.declared.status.Status.TheVariants.{Yes, WriteFault}
+use Rattle.homotopy_cli.specs.declared.status.Status.TheVariants.{WriteFault}
 use Rattle.homotopy_cli.specs.declared.stop.Stop.{Stop}
 use Rattle.homotopy_cli.specs.declared.stop.Stop.TheVariants as stops
-use Rattle.homotopy_cli.proofs.Checking.{pair_passes, stops_next}
-use Rattle.homotopy_cli.proofs.Measuring.{sound-numbers, some_numbers, surface_passed, answered_surface, behind_mesh, with_numbers, fault_ends, turned_ends, numbers_end}
-use Rattle.homotopy_cli.proofs.Deciding.{IsRightAnswer, sound-decided, right_answer, behind, after_pair, after_surface}
-use Rattle.homotopy_cli.proofs.MeshTexts.{mesh_valid}
-use Rattle.homotopy_cli.proofs.Reducing.{canonical_there, sound-reduce, reduce_passes, reduce_told, yes_input, input_words, input_told}
-use Rattle.homotopy_cli.proofs.Sound.{IsSound, sound-then, sound-pass, sound-refuse, sound-found, sound-meant, sound-pass_unless, sound-file, held}
-use Rattle.homotopy_cli.proofs.Surfaces.{sound-as_surface}
-
--- ---- the rows
-
--- the first letters of the commands differ
-letter_of : Row → ℕ
-letter_of (Surface mesh) = 115
-letter_of (Decide mesh walks) = 100
-letter_of (Certify mesh walks) = 99
-letter_of (Verify mesh walks certificate) = 118
-letter_of (Reduce degree list) = 114
-letter_of (Trial genus grid) = 116
-
-letter_in : List (List ℕ) → ℕ
-letter_in words = slice_index (slice_index_or words 0 []) 0
-
-letter-row : (words : List (List ℕ)) (row : Row) → IsRow words row → letter_in words ≡ letter_of row
-unfolding letter_of letter_in
-letter-row words (Surface mesh) p = ap letter_in p
-letter-row words (Decide mesh walks) p = ap letter_in p
-letter-row words (Certify mesh walks) p = ap letter_in p
-letter-row words (Verify mesh walks certificate) p = ap letter_in p
-letter-row words (Reduce degree list) p = ap letter_in p.1
-letter-row words (Trial genus grid) p = ap letter_in p.2
-
--- words are one row at most
-pub one_row : (words : List (List ℕ)) (a b : Row) → IsRow words a → IsRow words b → a ≡ b
-unfolding letter_of
-one_row words (Surface a) (Surface b) p q = cc
-one_row words (Decide a b) (Decide c d) p q = cc
-one_row words (Certify a b) (Certify c d) p q = cc
-one_row words (Verify a b c) (Verify d e f) p q = cc
-one_row words (Reduce a b) (Reduce c d) p q = cc
-one_row words (Trial a b) (Trial c d) p q = cc
-one_row words a b p q = absurd (omega (arith, letter-row words a p, letter-row words b q))
-
--- ---- the files
-
-pub sound-mesh : (held : Option Files) (name : List ℕ) → IsSound held (mesh_in held name)
-sound-mesh held name = sound-then held _ _ (sound-file held name _) (λ bytes _. sound-meant held Off (meaning_of bytes))
-
-pub sound-pair : (held : Option Files) (name : List ℕ) (mesh : FaceList) → IsSound held (pair_in held name mesh)
-sound-pair held name mesh =
-    sound-then held _ _ (sound-file held name _)
-    (λ bytes _. sound-then held _ _ (sound-meant held Walks (walks_of bytes)) (λ walks _. sound-pass_unless held Pair (pair_fault mesh walks) walks))
-
-sound-list : (held : Option Files) (list : Option (Result PeakedMoves CertFault)) → IsSound held (list_meant list)
-sound-list held None = sound-refuse held _
-sound-list held (Some list) = sound-meant held Certificate list
-
-pub sound-moves : (held : Option Files) (name : List ℕ) → IsSound held (moves_in held name)
-sound-moves held name = sound-then held _ _ (sound-file held name _) (λ bytes _. sound-list held (list_of_text bytes))
-
--- ---- the commands
-
-sound-surface_in : (held : Option Files) (name : List ℕ) → IsSound held (surface_in held name)
-sound-surface_in held name =
-    sound-then held _ _ (sound-mesh held name)
-    (λ mesh h. sound-as_surface held mesh (mesh_valid held name mesh h))
-
-sound-surface : (held : Option Files) (name : List ℕ) → IsSound held (surface held name)
-sound-surface held name =
-    sound-then held _ _ (sound-surface_in held name)
-    (λ mesh h. let is = surface_passed held name mesh h in
-    sound-then held _ _ (sound-numbers held mesh is.0 is.1) (λ numbers _. sound-pass held _))
-
-sound-verify : (held : Option Files) (mesh walks certificate : List ℕ) → IsSound held (verify held mesh walks certificate)
-sound-verify held mesh walks certificate =
-    sound-then held _ _ (sound-mesh held mesh)
-    (λ faces _. sound-then held _ _ (sound-pair held walks faces)
-    (λ pair _. sound-then held _ _ (sound-moves held certificate) (λ list _. sound-pass held _)))
-
-sound-decide : (held : Option Files) (mesh walks : List ℕ) → IsSound held (decide held mesh walks)
-sound-decide held mesh walks =
-    sound-then held _ _ (sound-surface_in held mesh)
-    (λ surface _. sound-then held _ _ (sound-pair held walks surface) (λ pair _. sound-decided held surface (walk_at pair 0) (walk_at pair 1)))
-
-sound-row : (held : Option Files) (row : Row) → IsSound held (answer_to held row)
-sound-row held (Surface mesh) = sound-surface held mesh
-sound-row held (Decide mesh walks) = sound-decide held mesh walks
-sound-row held (Certify mesh walks) = sound-refuse held _
-sound-row held (Verify mesh walks certificate) = sound-verify held mesh walks certificate
-sound-row held (Reduce degree list) = sound-reduce held degree list
-sound-row held (Trial genus grid) = sound-refuse held _
-
-pub sound-words : (held : Option Files) (words : List (List ℕ)) → IsSound held (answer_of held words)
-sound-words held words = sound-then held _ _ (sound-found held _ _ (one_row words)) (λ row _. sound-row held row)
-
--- ---- `verify` in the words of the mesh
-
--- the status is yes exactly where the verdict is that the list is accepted
-yes_accepted : (verdict : Verdict) → verdict_status verdict ≡ Yes → verdict ≡ Accepted
-yes_accepted Accepted e = refl
-yes_accepted Peak e = cc
-yes_accepted (AtMove number fault) e = cc
-yes_accepted End e = cc
-
-yes_exactly : (status : Status) (mesh : FaceList) (first second : List ℕ) (list : PeakedMoves)
-    → status ≡ verdict_status (verdict_of mesh first second list)
-    → (status ≡ Yes) ↔ (Leads mesh first list.moves second × (greatest_darts mesh first list.moves ≤ list.peak))
-yes_exactly status mesh first second list e =
-    let exact = accepted_exactly mesh first second list (verdict_of mesh first second list) refl in (
-      λ yes. exact.0 (yes_accepted (verdict_of mesh first second list) (sym e ∙ yes)),
-      λ leads. e ∙ ap verdict_status (exact.1 leads),
-    )
-
-meant_told : {T F : Type 0} (files : Option Files) (refusal : F → Refusal) (read : Result T F) → (meant refusal read).EachFile (IsTold files)
-meant_told files refusal (Ok thing) = tt
-meant_told files refusal (Err fault) = tt
-
-unless_told : {T F : Type 0} (files : Option Files) (refusal : F → Refusal) (fault : Option F) (thing : T)
-    → (pass_unless refusal fault thing).EachFile (IsTold files)
-unless_told files refusal None thing = tt
-unless_told files refusal (Some fault) thing = tt
-
-walks_told : (files : Option Files) (mesh : FaceList) (read : Result (List (List ℕ)) WalkFault)
-    → (meant Walks read >>= (λ walks. pass_unless Pair (pair_fault mesh walks) walks)).EachFile (IsTold files)
-walks_told files mesh read = (meant_told files Walks read, λ walks _. unless_told files Pair (pair_fault mesh walks) walks)
-
-list_told : (files : Option Files) (read : Option (Result PeakedMoves CertFault)) → (list_meant read).EachFile (IsTold files)
-list_told files None = tt
-list_told files (Some read) = meant_told files Certificate read
-
--- each file that such words look at is told
-told_input : (held_files : Option Files) (words : List (List ℕ)) (mesh : FaceList) (first second : List ℕ) (list : PeakedMoves)
-    → IsVerifyInput held_files words mesh first second list → AllTold held_files words
-told_input files words mesh first second list input = (
-  tt,
-  λ row is.
-      subst (λ (r : Row). (answer_to files r).EachFile (IsTold files)) (one_row words (Verify input.mesh_name input.walks_name input.list_name) row input.words_are is) (
-        ((held files input.mesh_name (SpellsMesh mesh) input.mesh_file).told, λ bytes _. meant_told files Off (meaning_of bytes)),
-        λ faces _. (
-          ((held files input.walks_name (SpellsPair mesh first second) input.walks_file).told, λ bytes _. walks_told files faces (walks_of bytes)),
-          λ pair _. (
-            ((held files input.list_name (SpellsList list) input.list_file).told, λ bytes _. list_told files (list_of_text bytes)),
-            λ _ _. tt,
-          ),
-        ),
-      ),
-)
-
--- and the verdict is their outcome
-verdict_outcome : (files : Option Files) (words : List (List ℕ)) (mesh : FaceList) (first second : List ℕ) (list : PeakedMoves)
-    → IsVerifyInput files words mesh first second list → IsOutcome files words (Pass (Judged (verdict_of mesh first second list)))
-verdict_outcome files words mesh first second list input =
-    let mesh_file = held files input.mesh_name (SpellsMesh mesh) input.mesh_file in
-    let walks_file = held files input.walks_name (SpellsPair mesh first second) input.walks_file in
-    let list_file = held files input.list_name (SpellsList list) input.list_file in
-    let pair : List (List ℕ) = first ∷ second ∷ [] in
-    let spelled = walks_file.holds in
-    let is_pair : IsPair mesh pair =
-    record {
-      first = first;
-      second = second;
-      two = refl;
-      first_walk = spelled.first_walk;
-      second_walk = spelled.second_walk;
-      ends = spelled.ends;
-    } in
-    let no_fault = none_of_pair mesh pair is_pair in
-    let passed = pair_passes files input.walks_name mesh walks_file.bytes pair (walks_file.passes inputs.Walks) spelled.text no_fault in
-    inr (
-      Verify input.mesh_name input.walks_name input.list_name,
-      input.words_are,
-      inr (
-        mesh,
-        inr (mesh_file.bytes, mesh_file.passes inputs.Mesh, rw mesh_file.holds refl),
-        inr (pair, passed, inr (list, inr (list_file.bytes, list_file.passes inputs.Certificate, rw list_file.holds refl), refl)),
-      ),
-    )
-
--- ---- `surface` in the words of the mesh
-
-mesh_told : (files : Option Files) (name : List ℕ) (mesh : FaceList) → Holds files name (SpellsMesh mesh) → (mesh_in files name).EachFile (IsTold files)
-mesh_told files name mesh h = ((held files name (SpellsMesh mesh) h).told, λ bytes _. meant_told files Off (meaning_of bytes))
-
--- each file that such words look at is told
-told_surface : (files : Option Files) (words : List (List ℕ)) (mesh : FaceList) → IsSurfaceInput files words mesh → AllTold files words
-told_surface files words mesh input = (
-  tt,
-  λ row is.
-      subst (λ (r : Row). (answer_to files r).EachFile (IsTold files)) (one_row words (Surface input.mesh_name) row input.words_are is) (
-        (mesh_told files input.mesh_name mesh input.mesh_file, λ faces _. (tt, λ _ _. tt)),
-        λ _ _. (tt, λ _ _. tt),
-      ),
-)
-
--- the file passes its mesh
-mesh_passes : (files : Option Files) (name : List ℕ) (mesh : FaceList) → Holds files name (SpellsMesh mesh) → Passes (mesh_in files name) mesh
-mesh_passes files name mesh h =
-    let file = held files name (SpellsMesh mesh) h in
-    inr (file.bytes, file.passes inputs.Mesh, rw file.holds refl)
-
--- as the checks behind the mesh end, the words do
-surface_outcome : (files : Option Files) (words : List (List ℕ)) (mesh : FaceList) (outcome : Outcome) → IsSurfaceInput files words mesh
-    → (as_surface mesh >>= with_numbers).Ends outcome → IsOutcome files words outcome
-surface_outcome files words mesh outcome input h =
-    inr (Surface input.mesh_name, input.words_are, behind_mesh files input.mesh_name mesh outcome (mesh_passes files input.mesh_name mesh input.mesh_file) h)
-
--- a status of yes tells of a surface
-yes_surface : (files : Option Files) (words : List (List ℕ)) (mesh : FaceList) (outcome : Outcome) (status : Status) (text : List ℕ)
-    → IsSurfaceInput files words mesh → IsOutcome files words outcome → IsAnswerOf outcome status text → status ≡ Yes → IsSurface mesh
-yes_surface files words mesh (Refuse cause) status text input is answer told = let e = sym told ∙ answer.status_is in cc
-yes_surface files words mesh (Pass found) status text input (inl p) answer told = let e = p.2 in cc
-yes_surface files words mesh (Pass found) status text input (inr p) answer told =
-    let row : (answer_to files (Surface input.mesh_name)).Ends (Pass found) =
-    subst (λ (r : Row). (answer_to files r).Ends (Pass found)) (one_row words p.0 (Surface input.mesh_name) p.1 input.words_are) p.2 in
-    answered_surface files input.mesh_name mesh found (mesh_passes files input.mesh_name mesh input.mesh_file)
-    ((sound-mesh files input.mesh_name).one (mesh_told files input.mesh_name mesh input.mesh_file)) row
-
--- what is answered of such an input, where an answer is exact
-measured : (files : Option Files) (words : List (List ℕ)) (outcome : Outcome) (status : Status) (text : List ℕ) → IsOutcome files words outcome
-    → IsAnswerOf outcome status text → (AllTold files words → (other : Outcome) → IsOutcome files words other → IsAnswerOf other status text)
-    → IsMeasured files words status text
-measured files words outcome status text is answer exact =
-    record {
-      surface = λ mesh input. (λ told. yes_surface files words mesh outcome status text input is answer told, λ surface. (numbers_told mesh input surface).0);
-      numbers = λ mesh input surface. (numbers_told mesh input surface).1;
-      not_closed = λ mesh fault input first.
-          let a = exact (told_surface files words mesh input) (Refuse (Exactly (refusals.NotClosed fault)))
-          (surface_outcome files words mesh (Refuse (Exactly (refusals.NotClosed fault))) input (fault_ends mesh fault first)) in
-          (a.status_is, a.text_is.2 ∙ ap refusal_line a.text_is.1);
-      not_orientable = λ mesh input closed turned.
-          let a = exact (told_surface files words mesh input) (Refuse (NotOrientable mesh))
-          (surface_outcome files words mesh (Refuse (NotOrientable mesh)) input (turned_ends mesh closed turned)) in
-          (a.status_is, a.text_is.1.0, a.text_is.1.1, a.text_is.2 ∙ ap refusal_line a.text_is.1.2);
-    }
-  where
-    numbers_told : (mesh : FaceList) → IsSurfaceInput files words mesh → IsSurface mesh
-        → (status ≡ Yes) × ((numbers : SurfaceNumbers) × AreNumbersOf mesh numbers × (text ≡ numbers_text numbers))
-    numbers_told mesh input surface =
-        let some = some_numbers mesh (mesh_valid files input.mesh_name mesh (mesh_passes files input.mesh_name mesh input.mesh_file)) surface in
-        let a = exact (told_surface files words mesh input) (Pass (Measured some.0))
-        (surface_outcome files words mesh (Pass (Measured some.0)) input (numbers_end mesh some.0 surface some.1)) in
-        (a.status_is, (some.0, some.1, a.text_is))
-
--- ---- `decide` in the words of the mesh
-
-surface_told : (files : Option Files) (name : List ℕ) → IsTold files name → (surface_in files name).EachFile (IsTold files)
-surface_told files name told = ((told, λ bytes _. meant_told files Off (meaning_of bytes)), λ _ _. (tt, λ _ _. tt))
-
--- what is answered of such an input
-decides : (files : Option Files) (words : List (List ℕ)) (outcome : Outcome) (status : Status) (text : List ℕ) (mesh : FaceList) (first second : List ℕ)
-    → IsOutcome files words outcome → IsAnswerOf outcome status text → IsDecideInput files words mesh first second
-    → IsRightAnswer mesh first second status text
-decides files words outcome status text mesh first second is answer input =
-    let mesh_file = held files input.mesh_name (SpellsMesh mesh) input.mesh_file in
-    let walks_file = held files input.walks_name (SpellsPair mesh first second) input.walks_file in
-    let spelled = walks_file.holds in
-    let pair : List (List ℕ) = first ∷ second ∷ [] in
-    let is_pair : IsPair mesh pair =
-    record {
-      first = first;
-      second = second;
-      two = refl;
-      first_walk = spelled.first_walk;
-      second_walk = spelled.second_walk;
-      ends = spelled.ends;
-    } in
-    let passed = pair_passes files input.walks_name mesh walks_file.bytes pair (walks_file.passes inputs.Walks) spelled.text (none_of_pair mesh pair is_pair) in
-    let surface : Passes (surface_in files input.mesh_name) mesh =
-    inr (
-      mesh,
-      inr (mesh_file.bytes, mesh_file.passes inputs.Mesh, rw mesh_file.holds refl),
-      inr (mesh, (input.is_surface.closed, refl), (input.is_surface.orientable, refl)),
-    ) in
-    let row = behind files (found_or refusals.WrongWords (IsRow words)) (answer_to files) (Decide input.mesh_name input.walks_name) outcome
-    (sound-found files _ _ (one_row words)) tt input.words_are is in
-    let walks = behind files (surface_in files input.mesh_name) (after_surface files input.walks_name) mesh outcome (sound-surface_in files input.mesh_name)
-    (surface_told files input.mesh_name mesh_file.told) surface row in
-    let decision = behind files (pair_in files input.walks_name mesh) (after_pair mesh) pair outcome (sound-pair files input.walks_name mesh)
-    (walks_file.told, λ bytes _. walks_told files mesh (walks_of bytes)) passed walks in
-    right_answer mesh first second outcome status text decision answer
-
--- ---- `reduce` in the words of the list
-
--- where the words are those of `reduce`, each of their outcomes is one of it
-reduce_outcome : (files : Option Files) (words : List (List ℕ)) (degree : ℕ) (name : List ℕ) (outcome : Outcome) → IsRow words (Reduce degree name)
-    → IsOutcome files words outcome → status_of outcome ≡ Yes → (reduce files degree name).Ends outcome
-reduce_outcome files words degree name outcome row (inl p) e = let refused = ap status_of p.2 in cc
-reduce_outcome files words degree name outcome row (inr p) e =
-    subst (λ (r : Row). (answer_to files r).Ends outcome) (one_row words p.0 (Reduce degree name) p.1 row) p.2
-
-reduce_all_told : (files : Option Files) (words : List (List ℕ)) (degree : ℕ) (name : List ℕ) → IsRow words (Reduce degree name) → IsTold files name
-    → AllTold files words
-reduce_all_told files words degree name row told = (
-  tt,
-  λ other is.
-      subst (λ (r : Row). (answer_to files r).EachFile (IsTold files)) (one_row words (Reduce degree name) other row is) (reduce_told files degree name told),
-)
-
-reduced : (files : Option Files) (words : List (List ℕ)) (outcome : Outcome) (status : Status) (text : List ℕ) → IsOutcome files words outcome
-    → IsAnswerOf outcome status text
-    → (AllTold files words → (other : Outcome) → IsOutcome files words other → IsAnswerOf other status text) → IsReduced files words status text
-reduced files words outcome status text is answer exact =
-    let good : (degree : ℕ) (name : List ℕ) (turns canonical : List (List ℕ)) → IsRow words (Reduce degree name) → IsReduceInput files degree name turns
-    → AreCanonicalOf degree turns canonical → IsAnswerOf (Pass (Reduced canonical)) status text =
-    λ degree name turns canonical row input are.
-    exact (reduce_all_told files words degree name row (input_told files degree name turns input)) (Pass (Reduced canonical))
-    (inr (Reduce degree name, row, reduce_passes files degree name turns canonical input are)) in
-    record {
-      yes = λ degree name row told. (
-        λ e. yes_input files degree name outcome told (reduce_outcome files words degree name outcome row is (sym answer.status_is ∙ e)) (sym answer.status_is ∙ e),
-        λ given.
-            let there = canonical_there degree given.0 (input_words files degree name given.0 given.1) in
-            (good degree name given.0 there.0 row given.1 there.1).status_is,
-      );
-      lines = λ degree name turns canonical row input are. (good degree name turns canonical row input are).text_is;
-    }
+use Rattle.homotopy_cli.specs.declared.verify.Judgement.TheVariants.{OnMoves, OnDenial}
+use Rattle.homotopy_cli.proofs.Checking.{stops_next}
+use Rattle.homotopy_cli.proofs.DecideOutcomes.{decides}
+use Rattle.homotopy_cli.proofs.ReduceOutcomes.{reduced}
+use Rattle.homotopy_cli.proofs.Rows.{sound-words}
+use Rattle.homotopy_cli.proofs.SurfaceOutcomes.{measured}
+use Rattle.homotopy_cli.proofs.VerifyOutcomes.{verified, denial_verified}
 
 -- what is answered by an outcome is answered exactly, where the files are told, and is what the command is for
 pub answers : (files : Option Files) (words : List (List ℕ)) (outcome : Outcome) (status : Status) (text : List ℕ)
@@ -368,11 +37,6 @@ answers files words outcome status text is answer =
     let exact : AllTold files words → (other : Outcome) → IsOutcome files words other → IsAnswerOf other status text =
     λ told other other_is.
     subst (λ (o : Outcome). IsAnswerOf o status text) ((sound-words files words).one told outcome other is other_is) answer in
-    let judged : (mesh : FaceList) (first second : List ℕ) (list : PeakedMoves) → IsVerifyInput files words mesh first second list
-    → IsAnswerOf (Pass (Judged (verdict_of mesh first second list))) status text =
-    λ mesh first second list input.
-    exact (told_input files words mesh first second list input) (Pass (Judged (verdict_of mesh first second list)))
-    (verdict_outcome files words mesh first second list input) in
     record {
       outcome = outcome;
       is_outcome = is;
@@ -384,11 +48,8 @@ answers files words outcome status text is answer =
             answered = λ mesh first second input. (decides files words outcome status text mesh first second is answer input).answered;
             exactly = λ mesh first second input. (decides files words outcome status text mesh first second is answer input).exactly;
           };
-      verified =
-          record {
-            judged = λ mesh first second list input. let a = judged mesh first second list input in (a.status_is, a.text_is);
-            accepted = λ mesh first second list input. yes_exactly status mesh first second list (judged mesh first second list input).status_is;
-          };
+      verified = verified files words status text exact;
+      denial_verified = denial_verified files words status text exact outcome is answer;
       reduced = reduced files words outcome status text is answer exact;
     }
 
@@ -433,10 +94,14 @@ answered_status status wanted (inr (inr faulty)) (inr e) = cc
 pub is_answered : (reply : Reply) → IsAnswered (reply_status reply)
 is_answered (replies.Refused refusal) = inr (inr refl)
 is_answered (replies.Measured numbers) = inl refl
-is_answered (replies.Judged Accepted) = inl refl
-is_answered (replies.Judged Peak) = inr (inl refl)
-is_answered (replies.Judged (AtMove number fault)) = inr (inl refl)
-is_answered (replies.Judged End) = inr (inl refl)
+is_answered (replies.Judged (OnMoves Accepted)) = inl refl
+is_answered (replies.Judged (OnMoves Peak)) = inr (inl refl)
+is_answered (replies.Judged (OnMoves (AtMove number fault))) = inr (inl refl)
+is_answered (replies.Judged (OnMoves End)) = inr (inl refl)
+is_answered (replies.Judged (OnDenial verdicts.Accepted)) = inl refl
+is_answered (replies.Judged (OnDenial (verdicts.Label fault))) = inr (inl refl)
+is_answered (replies.Judged (OnDenial (verdicts.WordWrong walk))) = inr (inl refl)
+is_answered (replies.Judged (OnDenial verdicts.Equal)) = inr (inl refl)
 is_answered (replies.Decided Homotopic) = inl refl
 is_answered (replies.Decided Different) = inr (inl refl)
 is_answered (replies.Reduced words) = inl refl

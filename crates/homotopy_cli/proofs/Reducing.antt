@@ -1,7 +1,7 @@
 -- How the checks of `reduce` end.
-use Rattle.std.proofs.Common.{◌≡◌, ◌⊎◌, inl, inr, ℕ, zero, suc, ◌+◌, ◌<◌, ◌≤◌, Bool, true, false, List, [], ◌∷◌, ◌++◌, length, get_or, take, map, refl, sym, ap, ◌∙◌, subst, arith}
-use Rattle.std.specs.Prelude.{nat_lt, ◌&&◌, if◌then◌else◌, Option, Some, None, Result, Ok, Err, IfSome, IsSome, IsSomeAnd, All, MatchResult}
-use Rattle.std.specs.List.{list_all, AllZip}
+use Rattle.std.proofs.Common.{◌≡◌, ◌⊎◌, inl, inr, ℕ, zero, suc, ◌+◌, ◌<◌, ◌≤◌, Bool, true, false, List, [], ◌∷◌, ◌++◌, length, get_or, take, refl, sym, ap, ◌∙◌, subst, arith}
+use Rattle.std.specs.Prelude.{nat_lt, if◌then◌else◌, Option, Some, None, Result, Ok, Err, IfSome, IsSome, IsSomeAnd, All, MatchResult}
+use Rattle.std.specs.List.{list_all}
 use Rattle.std.proofs.lemmas.Bool.{and_parts, ltb-true, ltb-false, cases_lt}
 use Rattle.std.proofs.lemmas.List.{length-map, take_all}
 use Rattle.std.proofs.lemmas.List.Elements.{All-nil, All-cons, All-head, All-tail, All-more, all_zip_more}
@@ -15,7 +15,7 @@ use Rattle.walk_files.specs.declared.limits.TheConstants.{MOST_ENTRIES}
 use Rattle.walk_files.proofs.WordLists.{words_of-short}
 use Rattle.homotopy_cli.specs.Answers.{Outcome, Reduced}
 use Rattle.homotopy_cli.specs.Causes.{Exactly}
-use Rattle.homotopy_cli.specs.Checks.{Check, End, Refuse, Pass, Passes, IsTold, Holds, file, meant, pass_unless}
+use Rattle.homotopy_cli.specs.Checks.{End, Refuse, Pass, Passes, IsTold, file, meant, pass_unless}
 use Rattle.homotopy_cli.specs.Reduce.{SpellsTurnWords, IsReduceInput, AreCanonicalOf, entries_on, degree_fault, lines_in, range_fault, canonical_words, reduce}
 use Rattle.homotopy_cli.specs.Statuses.{status_of}
 use Rattle.homotopy_cli.specs.Stops.{Stops}

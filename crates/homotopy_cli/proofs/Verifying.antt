@@ -1,36 +1,40 @@
--- How the checks of `verify` end, by the place where the reading ends.
-use Rattle.std.proofs.Common.{◌≡◌, inl, inr, ℕ, List, refl, ap}
+-- How the checks of `verify` end, by the place where the reading ends, and the verdicts on a denial.
+use Rattle.std.proofs.Common.{inr, ℕ, List}
 use Rattle.std.specs.Prelude.{Option}
 use Rattle.surf_io.specs.Files.{Files}
 use Rattle.surf_model.specs.FaceLists.{FaceList}
-use Rattle.surf_model.specs.Moves.{PeakedMoves}
-use Rattle.move_checker.specs.Verdicts.{verdict_of}
-use Rattle.move_checker.specs.declared.judge.Verdict.{Verdict}
 use Rattle.homotopy_cli.specs.Answers.{Answer, Judged}
-use Rattle.homotopy_cli.specs.Checks.{End, Pass, Passes}
-use Rattle.homotopy_cli.specs.Inputs.{mesh_in, pair_in, moves_in, walk_at}
+use Rattle.homotopy_cli.specs.Checks.{Check, Passes, ◌>>=◌}
+use Rattle.homotopy_cli.specs.Inputs.{mesh_in, pair_in, certificate_in, walk_at}
 use Rattle.homotopy_cli.specs.Stops.{Stops}
-use Rattle.homotopy_cli.specs.Verify.{verify}
+use Rattle.homotopy_cli.specs.Verify.{judgement, verify}
+use Rattle.homotopy_cli.specs.declared.certificate.Certificate.{Certificate}
 use Rattle.homotopy_cli.specs.declared.stop.Stop.{Stop}
-use Rattle.homotopy_cli.specs.declared.stop.Stop.TheVariants.{Refused, ReadFault, OutOfMemory}
+use Rattle.homotopy_cli.specs.declared.verify.Judgement.{Judgement}
+use Rattle.homotopy_cli.proofs.Checking.{stops_first, stops_next}
+
+-- what is looked at behind the walks, and behind the mesh
+abbrev pub after_pair : Option Files → List ℕ → FaceList → List (List ℕ) → Check Answer
+after_pair held certificate faces pair = certificate_in held certificate >>= judgement faces (walk_at pair 0) (walk_at pair 1)
+
+abbrev pub after_mesh : Option Files → (walks certificate : List ℕ) → FaceList → Check Answer
+after_mesh held walks certificate faces = pair_in held walks faces >>= after_pair held certificate faces
 
 pub walks_stop : (held : Option Files) (mesh walks certificate : List ℕ) (faces : FaceList) (stop : Stop) → Passes (mesh_in held mesh) faces
     → Stops (pair_in held walks faces) stop → Stops (verify held mesh walks certificate) stop
-walks_stop held mesh walks certificate faces (Refused refusal) p h = (h.0, inr (faces, p, inl (h.0, h.1, refl)), h.2)
-walks_stop held mesh walks certificate faces ReadFault p h = tt
-walks_stop held mesh walks certificate faces OutOfMemory p h = tt
+walks_stop held mesh walks certificate faces stop p h =
+    stops_next (mesh_in held mesh) (after_mesh held walks certificate) faces stop p
+    (stops_first (pair_in held walks faces) (after_pair held certificate faces) stop h)
 
-pub list_stops : (held : Option Files) (mesh walks certificate : List ℕ) (faces : FaceList) (pair : List (List ℕ)) (stop : Stop)
-    → Passes (mesh_in held mesh) faces → Passes (pair_in held walks faces) pair → Stops (moves_in held certificate) stop
+pub certificate_stops : (held : Option Files) (mesh walks certificate : List ℕ) (faces : FaceList) (pair : List (List ℕ)) (stop : Stop)
+    → Passes (mesh_in held mesh) faces → Passes (pair_in held walks faces) pair → Stops (certificate_in held certificate) stop
     → Stops (verify held mesh walks certificate) stop
-list_stops held mesh walks certificate faces pair (Refused refusal) p q h =
-    (h.0, inr (faces, p, inr (pair, q, inl (h.0, h.1, refl))), h.2)
-list_stops held mesh walks certificate faces pair ReadFault p q h = tt
-list_stops held mesh walks certificate faces pair OutOfMemory p q h = tt
+certificate_stops held mesh walks certificate faces pair stop p q h =
+    stops_next (mesh_in held mesh) (after_mesh held walks certificate) faces stop p
+    (stops_next (pair_in held walks faces) (after_pair held certificate faces) pair stop q
+    (stops_first (certificate_in held certificate) (judgement faces (walk_at pair 0) (walk_at pair 1)) stop h))
 
-pub judged : (held : Option Files) (mesh walks certificate : List ℕ) (faces : FaceList) (pair : List (List ℕ)) (list : PeakedMoves) (verdict : Verdict)
-    → Passes (mesh_in held mesh) faces → Passes (pair_in held walks faces) pair → Passes (moves_in held certificate) list
-    → verdict ≡ verdict_of faces (walk_at pair 0) (walk_at pair 1) list → Passes (verify held mesh walks certificate) (Judged verdict)
-judged held mesh walks certificate faces pair list verdict p q r is =
-    let same : Pass (Judged verdict) ≡ Pass (Judged (verdict_of faces (walk_at pair 0) (walk_at pair 1) list)) = ap (λ (v : Verdict). let e : End Answer = Pass (Judged v) in e) is in
-    inr (faces, p, inr (pair, q, inr (list, r, same)))
+pub judged : (held : Option Files) (mesh walks certificate : List ℕ) (faces : FaceList) (pair : List (List ℕ)) (shown : Certificate) (answer : Judgement)
+    → Passes (mesh_in held mesh) faces → Passes (pair_in held walks faces) pair → Passes (certificate_in held certificate) shown
+    → Passes (judgement faces (walk_at pair 0) (walk_at pair 1) shown) (Judged answer) → Passes (verify held mesh walks certificate) (Judged answer)
+judged held mesh walks certificate faces pair shown answer p q r is = inr (faces, p, inr (pair, q, inr (shown, r, is)))

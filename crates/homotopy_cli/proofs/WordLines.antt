@@ -6,7 +6,7 @@ use Rattle.std.proofs.lemmas.List.{append-nil, map-append, take_all, take_more}
 use Rattle.std.proofs.lemmas.Grind.{flat_map-append}
 use Rattle.surf_io.specs.Calls.{WrotePart}
 use Rattle.homotopy_cli.specs.Gathered.{Gathers}
-use Rattle.homotopy_cli.specs.Refusals.{line, behind_blank}
+use Rattle.homotopy_cli.specs.Refusals.{behind_blank}
 use Rattle.homotopy_cli.specs.Texts.{word_line, words_text}
 use Rattle.homotopy_cli.proofs.GatheredLemmas.{gathers-put, gathers-then, gathers-fails, gathers-stops}
 

@@ -1,16 +1,16 @@
 -- What the program answers.
 use Rattle.std.specs.Prelude.{ℕ, List}
-use Rattle.move_checker.specs.declared.judge.Verdict.{Verdict}
 use Rattle.walk_translate.specs.declared.deciding.Answer as deciding
 use Rattle.homotopy_cli.specs.Checks.{End}
 use Rattle.homotopy_cli.specs.declared.numbers.SurfaceNumbers.{SurfaceNumbers}
+use Rattle.homotopy_cli.specs.declared.verify.Judgement.{Judgement}
 
 -- what is answered where nothing is refused
 pub data Answer : Type 0 where
   -- `surface`
   Measured : SurfaceNumbers → Answer
   -- `verify`
-  Judged : Verdict → Answer
+  Judged : Judgement → Answer
   -- `decide`
   Decided : deciding.Answer → Answer
   -- `reduce`: a word for each turn word

@@ -1,17 +1,23 @@
 -- The checks of the files that a command reads, each with what it passes.
-use Rattle.std.specs.Prelude.{◌≡◌, ℕ, List, [], ◌∷◌, slice_index_or, Option, None, Some, Result, Ok}
+use Rattle.std.specs.Prelude.{◌≡◌, ℕ, ◌≤◌, List, [], ◌∷◌, slice_index_or, Option, Result, Ok, Err}
 use Rattle.surf_io.specs.Files.{Files}
 use Rattle.surf_model.specs.FaceLists.{FaceList}
-use Rattle.surf_model.specs.Moves.{PeakedMoves}
 use Rattle.surf_model.specs.Walks.{IsWalk, HaveCommonEnds}
 use Rattle.off_reader.specs.OffTexts.{meaning_of}
-use Rattle.walk_files.specs.Certificates.{list_of_text}
+use Rattle.walk_files.specs.Certificates.{head_of_text, moves_of_text, with_peak}
+use Rattle.walk_files.specs.Denials.{denial_of_lines}
 use Rattle.walk_files.specs.NumberTexts.{walks_of}
 use Rattle.walk_files.specs.Pairs.{pair_fault}
+use Rattle.walk_files.specs.declared.certificate.CertHead.{CertHead}
+use Rattle.walk_files.specs.declared.certificate.CertHead.TheVariants as heads
 use Rattle.walk_files.specs.declared.fault.CertFault.{CertFault}
-use Rattle.homotopy_cli.specs.Checks.{Check, file, meant, pass_unless, refuse, ◌>>=◌}
+use Rattle.walk_files.specs.declared.limits.TheConstants.{MOST_PEAK}
+use Rattle.homotopy_cli.specs.Checks.{Check, file, meant, pass_unless, ◌>>=◌}
+use Rattle.homotopy_cli.specs.declared.certificate.Certificate.{Certificate}
+use Rattle.homotopy_cli.specs.declared.certificate.Certificate.TheVariants.{Moves, Denial}
 use Rattle.homotopy_cli.specs.declared.refusal.Input.TheVariants as inputs
-use Rattle.homotopy_cli.specs.declared.refusal.Refusal.TheVariants.{NotBuilt, Off, Walks, Pair, Certificate}
+use Rattle.homotopy_cli.specs.declared.refusal.Refusal.TheVariants as refusals
+use Rattle.homotopy_cli.specs.declared.refusal.Refusal.TheVariants.{Off, Walks, Pair}
 
 -- the mesh that the file spells
 abbrev pub mesh_in : Option Files → List ℕ → Check FaceList
@@ -30,16 +36,31 @@ pair_in held name mesh = do
 abbrev pub walk_at : List (List ℕ) → ℕ → List ℕ
 walk_at walks k = slice_index_or walks k []
 
--- a list of moves passes; a certificate with labels is not built yet
-abbrev pub list_meant : Option (Result PeakedMoves CertFault) → Check PeakedMoves
-list_meant None = refuse NotBuilt
-list_meant (Some list) = meant Certificate list
+-- what is read of a certificate, as one
+abbrev pub as_certificate : {A : Type 0} → (A → Certificate) → Result A CertFault → Result Certificate CertFault
+as_certificate make (Err fault) = Err fault
+as_certificate make (Ok thing) = Ok (make thing)
 
--- the list of moves that the file spells
-abbrev pub moves_in : Option Files → List ℕ → Check PeakedMoves
-moves_in held name = do
+-- the certificate behind a head, or the first fault of the lines there
+abbrev pub certificate_behind : Result CertHead CertFault → List ℕ → Result Certificate CertFault
+certificate_behind (Err fault) text = Err fault
+certificate_behind (Ok (heads.Moves count peak)) text = as_certificate Moves (with_peak peak (moves_of_text count text))
+certificate_behind (Ok (heads.Labels degree)) text = as_certificate Denial (denial_of_lines degree text)
+
+-- the certificate that a text is, or its first fault
+abbrev pub certificate_of : List ℕ → Result Certificate CertFault
+certificate_of text = certificate_behind (head_of_text text) text
+
+-- the peak of a list of moves is one that is read
+abbrev pub IsPeakRead : Certificate → Type 0
+IsPeakRead (Moves list) = list.peak ≤ MOST_PEAK
+IsPeakRead (Denial denial) = Unit {0}
+
+-- the certificate that the file spells
+abbrev pub certificate_in : Option Files → List ℕ → Check Certificate
+certificate_in held name = do
   bytes ← file held name inputs.Certificate
-  list_meant (list_of_text bytes)
+  meant refusals.Certificate (certificate_of bytes)
 
 -- ---- what the bytes of a file spell
 
@@ -54,6 +75,6 @@ pub record SpellsPair (mesh : FaceList) (first second bytes : List ℕ) : Type 0
   pub second_walk : IsWalk mesh second
   pub ends : HaveCommonEnds first second
 
--- a list of moves
-abbrev pub SpellsList : PeakedMoves → List ℕ → Type 0
-SpellsList list bytes = list_of_text bytes ≡ Some (Ok list)
+-- a certificate
+abbrev pub SpellsCertificate : Certificate → List ℕ → Type 0
+SpellsCertificate certificate bytes = certificate_of bytes ≡ Ok certificate

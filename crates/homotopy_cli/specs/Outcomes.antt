@@ -9,7 +9,7 @@ use Rattle.homotopy_cli.specs.Reduce.{reduce, IsReduced}
 use Rattle.homotopy_cli.specs.Statuses.{status_of}
 use Rattle.homotopy_cli.specs.Surface.{surface, IsMeasured}
 use Rattle.homotopy_cli.specs.Texts.{IsText}
-use Rattle.homotopy_cli.specs.Verify.{verify, IsVerified}
+use Rattle.homotopy_cli.specs.Verify.{verify, IsVerified, IsDenialVerified}
 use Rattle.homotopy_cli.specs.declared.refusal.Refusal.TheVariants.{WrongWords, NotBuilt}
 use Rattle.homotopy_cli.specs.declared.status.Status.{Status}
 
@@ -55,4 +55,5 @@ pub record Answers (held : Option Files) (words : List (List ℕ)) (status : Sta
   pub measured : IsMeasured held words status text
   pub decided : IsDecided held words status text
   pub verified : IsVerified held words status text
+  pub denial_verified : IsDenialVerified held words status text
   pub reduced : IsReduced held words status text

@@ -4,8 +4,8 @@ use Rattle.homotopy_cli.specs.Answers.{Answer}
 use Rattle.homotopy_cli.specs.Checks.{Check, Pass, Passes}
 use Rattle.homotopy_cli.specs.Outcomes.{IsAnswerOf}
 use Rattle.homotopy_cli.specs.Refusals.{refusal_line}
-use Rattle.homotopy_cli.specs.Statuses.{verdict_status, decision_status}
-use Rattle.homotopy_cli.specs.Texts.{numbers_text, verdict_line, decision_line, words_text}
+use Rattle.homotopy_cli.specs.Statuses.{judgement_status, decision_status}
+use Rattle.homotopy_cli.specs.Texts.{numbers_text, judgement_line, decision_line, words_text}
 use Rattle.homotopy_cli.specs.declared.line.Phrase.{Phrase}
 use Rattle.homotopy_cli.specs.declared.line.Phrase.TheVariants.{Text, Number}
 use Rattle.homotopy_cli.specs.declared.reply.Reply.{Reply}
@@ -22,7 +22,7 @@ phrase_text (Number number) = decimal number
 abbrev pub reply_text : Reply → List ℕ
 reply_text (replies.Refused refusal) = refusal_line refusal
 reply_text (replies.Measured numbers) = numbers_text numbers
-reply_text (replies.Judged verdict) = verdict_line verdict
+reply_text (replies.Judged judgement) = judgement_line judgement
 reply_text (replies.Decided decision) = decision_line decision
 reply_text (replies.Reduced words) = words_text words.items
 
@@ -30,7 +30,7 @@ reply_text (replies.Reduced words) = words_text words.items
 abbrev pub reply_status : Reply → Status
 reply_status (replies.Refused refusal) = Refused
 reply_status (replies.Measured numbers) = Yes
-reply_status (replies.Judged verdict) = verdict_status verdict
+reply_status (replies.Judged judgement) = judgement_status judgement
 reply_status (replies.Decided decision) = decision_status decision
 reply_status (replies.Reduced words) = Yes
 

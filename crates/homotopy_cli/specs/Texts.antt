@@ -5,6 +5,9 @@ use Rattle.move_checker.specs.declared.fault.MoveFault.{MoveFault}
 use Rattle.move_checker.specs.declared.fault.MoveFault.TheVariants.{Place, NoEdge, NotSpur, NotOnFace, OverPeak}
 use Rattle.move_checker.specs.declared.judge.Verdict.{Verdict}
 use Rattle.move_checker.specs.declared.judge.Verdict.TheVariants.{Accepted, Peak, AtMove, End}
+use Rattle.quad_system.specs.declared.fault.LabelFault.TheVariants.{Shape, Degree, PlaceTwice, EdgeRule, OutOfMemory}
+use Rattle.walk_translate.specs.declared.checking.DenialVerdict.{DenialVerdict}
+use Rattle.walk_translate.specs.declared.checking.DenialVerdict.TheVariants as denials
 use Rattle.walk_translate.specs.declared.deciding.Answer as deciding
 use Rattle.walk_translate.specs.declared.deciding.Answer.TheVariants.{Homotopic, Different}
 use Rattle.homotopy_cli.specs.Answers.{Outcome, Measured, Judged, Decided, Reduced}
@@ -13,6 +16,8 @@ use Rattle.homotopy_cli.specs.Checks.{Refuse, Pass}
 use Rattle.homotopy_cli.specs.Refusals.{line, refusal_line}
 use Rattle.homotopy_cli.specs.declared.numbers.SurfaceNumbers.{SurfaceNumbers}
 use Rattle.homotopy_cli.specs.declared.refusal.Refusal.{Refusal}
+use Rattle.homotopy_cli.specs.declared.verify.Judgement.{Judgement}
+use Rattle.homotopy_cli.specs.declared.verify.Judgement.TheVariants.{OnMoves, OnDenial}
 
 -- why a move is refused, in one word
 abbrev pub fault_word : MoveFault → List ℕ
@@ -28,6 +33,23 @@ verdict_line Accepted = line (codes "accepted") []
 verdict_line Peak = line (codes "rejected: peak") []
 verdict_line (AtMove number fault) = line (codes "rejected: move") (decimal number ∷ fault_word fault ∷ [])
 verdict_line End = line (codes "rejected: end") []
+
+-- the line of a verdict on a denial
+abbrev pub denial_line : DenialVerdict → List ℕ
+denial_line denials.Accepted = line (codes "accepted") []
+denial_line (denials.Label Shape) = line (codes "rejected: shape") []
+denial_line (denials.Label (Degree degree)) = line (codes "rejected: degree") (decimal degree ∷ [])
+denial_line (denials.Label (PlaceTwice place)) = line (codes "rejected: place") (decimal place ∷ [])
+denial_line (denials.Label (EdgeRule low high)) = line (codes "rejected: edge") (decimal low.0 ∷ decimal high.0 ∷ [])
+-- never printed
+denial_line (denials.Label OutOfMemory) = line (codes "rejected") []
+denial_line (denials.WordWrong walk) = line (codes "rejected: word") (decimal walk ∷ [])
+denial_line denials.Equal = line (codes "rejected: equal") []
+
+-- the line of a judgement
+abbrev pub judgement_line : Judgement → List ℕ
+judgement_line (OnMoves verdict) = verdict_line verdict
+judgement_line (OnDenial verdict) = denial_line verdict
 
 -- the numbers of a surface, a line each
 abbrev pub numbers_text : SurfaceNumbers → List ℕ
@@ -54,6 +76,6 @@ words_text words = flat_map word_line words
 abbrev pub IsText : Outcome → List ℕ → Type 0
 IsText (Refuse cause) text = (refusal : Refusal) × Tells refusal cause × (text ≡ refusal_line refusal)
 IsText (Pass (Measured numbers)) text = text ≡ numbers_text numbers
-IsText (Pass (Judged verdict)) text = text ≡ verdict_line verdict
+IsText (Pass (Judged judgement)) text = text ≡ judgement_line judgement
 IsText (Pass (Decided decision)) text = text ≡ decision_line decision
 IsText (Pass (Reduced words)) text = text ≡ words_text words

@@ -1,30 +1,41 @@
-//! Reading a certificate: a list of moves.
-ghost use Rattle.std.specs.Prelude.{◌≡◌, ◌⊎◌, MatchResult, IsTrue, Ok, Err};
-ghost use Rattle.walk_files.specs.Certificates.{list_of_text};
+//! Reading a certificate: a list of moves, or a denial.
+ghost use Rattle.std.specs.Prelude.{◌≡◌, ◌⊎◌, ◌≤◌, length, MatchResult, IsTrue, Ok, Err};
 ghost use Rattle.walk_files.specs.Readers.{is_list, moves_left};
 ghost use Rattle.walk_files.specs.declared.fault.CertFault.{CertFault};
-ghost use Rattle.homotopy_cli.specs.Checks.{Passes};
-ghost use Rattle.homotopy_cli.specs.Inputs.{list_meant};
-ghost use Rattle.homotopy_cli.specs.Stops.{Stops};
-ghost use Rattle.homotopy_cli.specs.declared.refusal.Refusal.TheVariants.{Certificate};
+ghost use Rattle.homotopy_cli.specs.Checks.{Passes, meant};
+ghost use Rattle.homotopy_cli.specs.Inputs.{certificate_of};
+ghost use Rattle.homotopy_cli.specs.Stops.{Stops, certificate_stop};
+ghost use Rattle.homotopy_cli.specs.declared.inputs.TheConstants.{MOST_BYTES};
+ghost use Rattle.homotopy_cli.specs.declared.refusal.Refusal.TheVariants as refusals;
 ghost use Rattle.homotopy_cli.specs.declared.stop.Stop.{Stop};
 
-use crate::refusal::Refusal;
 use crate::stop::Stop;
+use quad_system::Denial;
 use std::alloc::Global;
 use surf_model::MoveList;
 use walk_files::{CertHead, CertReader};
 
-/// The list of moves that the bytes spell. A certificate with labels is not built yet.
-pub fn read_certificate(alloc: Global, bytes: &[u8]) -> Result<MoveList, Stop>
-    ensures end { MatchResult result (Passes (list_meant (list_of_text bytes.now))) (Stops (list_meant (list_of_text bytes.now))) }
+/// What is to show whether one walk may take the place of another.
+#[derive(Debug, Drop)]
+pub enum Certificate {
+    /// Moves that are to lead from the first walk to the second.
+    Moves(MoveList),
+    /// What is to show that no moves do.
+    Denial(Denial),
+}
+
+/// The certificate that the bytes spell.
+pub fn read_certificate(alloc: Global, bytes: &[u8]) -> Result<Certificate, Stop>
+    requires { length bytes.now ≤ MOST_BYTES }
+    ensures end { MatchResult result (Passes (meant refusals.Certificate (certificate_of bytes.now)))
+        (Stops (meant refusals.Certificate (certificate_of bytes.now))) }
     ensures no_fault { result ≡ Err Stop.ReadFault → ⊥ }
 {
-    let reader = CertReader::start(bytes)?;
-    let CertHead::Moves { peak, .. } = reader.head() else {
-        return Err(Stop::Refused(Refusal::NotBuilt));
-    };
-    gather(alloc, reader, peak)
+    let mut reader = CertReader::start(bytes)?;
+    match reader.head() {
+        CertHead::Moves { peak, .. } => Ok(Certificate::Moves(gather(alloc, reader, peak)?)),
+        CertHead::Labels { .. } => Ok(Certificate::Denial(reader.denial(alloc)?)),
+    }
 }
 
 /// The moves that the reader gives, up to the end of the text.
@@ -32,7 +43,7 @@ fn gather(alloc: Global, mut reader: CertReader<'_>, peak: u32) -> Result<MoveLi
     requires { IsTrue (is_list reader) }
     ensures { MatchResult result (λ list. (list.peak ≡ peak) × (moves_left reader.entry ≡ Ok list.moves))
         (λ stop. (stop ≡ Stop.OutOfMemory) ⊎ ((fault : CertFault) × (moves_left reader.entry ≡ Err fault)
-        × (stop ≡ Stop.Refused (Certificate fault)))) }
+        × (stop ≡ certificate_stop fault))) }
 {
     let mut list = MoveList::new(alloc, peak);
     'moves: while let Some(mv) = reader.next_move()? {

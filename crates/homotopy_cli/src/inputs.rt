@@ -10,18 +10,18 @@ ghost use Rattle.walk_files.specs.NumberTexts.{walks_of};
 ghost use Rattle.walk_files.specs.Pairs.{IsPair};
 ghost use Rattle.walk_files.specs.declared.fault.WalkFault.{WalkFault};
 ghost use Rattle.homotopy_cli.specs.Checks.{file, Passes};
-ghost use Rattle.homotopy_cli.specs.Inputs.{mesh_in, pair_in, moves_in};
+ghost use Rattle.homotopy_cli.specs.Inputs.{mesh_in, pair_in, certificate_in};
 ghost use Rattle.homotopy_cli.specs.Stops.{Stops};
 ghost use Rattle.homotopy_cli.specs.declared.refusal.Refusal.{Refusal};
 ghost use Rattle.homotopy_cli.specs.declared.stop.Stop.{Stop};
 
-use crate::certificate::read_certificate;
+use crate::certificate::{Certificate, read_certificate};
 use crate::refusal::{Input, Refusal};
 use crate::stop::Stop;
 use off_reader::{OffFault, read_off};
 use std::alloc::Global;
 use surf_io::{ReadEnd, Shelf, read_whole};
-use surf_model::{Faces, MoveList, Sides};
+use surf_model::{Faces, Sides};
 use walk_files::{WalkFault, WalkList, check_pair, read_walks};
 
 /// The most bytes that a file may have.
@@ -102,9 +102,10 @@ fn walks_of_bytes(alloc: Global, bytes: &[u8]) -> Result<WalkList, Stop>
     }
 }
 
-/// Reads the list of moves.
-pub fn read_list<S: Shelf>(alloc: Global, shelf: &mut S, name: &str) -> Result<MoveList, Stop>
-    ensures end { MatchResult result (Passes (moves_in (S.held shelf.old) name.now)) (Stops (moves_in (S.held shelf.old) name.now)) }
+/// Reads the certificate. The bytes of its file are given back.
+pub fn read_cert<S: Shelf>(alloc: Global, shelf: &mut S, name: &str) -> Result<Certificate, Stop>
+    ensures end { MatchResult result (Passes (certificate_in (S.held shelf.old) name.now))
+        (Stops (certificate_in (S.held shelf.old) name.now)) }
     ensures fault { result ≡ Err Stop.ReadFault → Rose (S.faults shelf.old) (S.faults shelf.new) }
     ensures only_reads { OnlyReads S.held S.faults shelf.old shelf.new }
 {

@@ -4,6 +4,8 @@
 mod certificate;
 mod command;
 mod decide;
+#[cfg(test)]
+mod denial_tests;
 mod inputs;
 mod laws;
 mod line;

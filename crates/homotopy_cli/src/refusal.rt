@@ -22,7 +22,7 @@ pub enum Input {
 pub enum Refusal {
     /// The words are no command.
     WrongWords,
-    /// The command, or the form of a file, is not built yet.
+    /// The command is not built yet.
     NotBuilt,
     /// The degree of turn words is too small.
     Degree(u32),

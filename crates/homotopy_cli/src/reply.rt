@@ -2,19 +2,22 @@
 ghost use Rattle.std.specs.Prelude.{◌≡◌, ◌⊎◌, ◌≤◌, length, OnOk, OnErr, IfSome};
 ghost use Rattle.surf_io.specs.Calls.{OnlyWrites, WroteAll, WrotePart};
 ghost use Rattle.homotopy_cli.specs.Replies.{reply_text, reply_status};
-ghost use Rattle.homotopy_cli.specs.Statuses.{verdict_status, IsAnswered};
-ghost use Rattle.homotopy_cli.specs.Texts.{decision_line, fault_word, verdict_line, words_text};
+ghost use Rattle.homotopy_cli.specs.Statuses.{IsAnswered};
+ghost use Rattle.walk_translate.specs.declared.checking.DenialVerdict.{DenialVerdict};
+ghost use Rattle.homotopy_cli.specs.Texts.{decision_line, denial_line, fault_word, judgement_line, verdict_line, words_text};
 
 use crate::line::{Phrase, put_line};
 use crate::numbers::{SurfaceNumbers, put_numbers};
 use crate::refusal::Refusal;
 use crate::refusal_line::put_refusal;
 use crate::status::Status;
+use crate::verify::Judgement;
 use crate::word_lines::put_words;
 use move_checker::{MoveFault, Verdict};
+use quad_system::LabelFault;
 use surf_io::{Failed, Sink};
 use turn_words::TurnWord;
-use walk_translate::Answer;
+use walk_translate::{Answer, DenialVerdict};
 
 /// What is written.
 #[derive(Debug, Drop)]
@@ -23,8 +26,8 @@ pub enum Reply {
     Refused(Refusal),
     /// The numbers of a surface.
     Measured(SurfaceNumbers),
-    /// The verdict on a certificate.
-    Judged(Verdict),
+    /// The judgement on a certificate.
+    Judged(Judgement),
     /// Whether two walks are homotopic.
     Decided(Answer),
     /// Canonical words, one for each line of a list.
@@ -53,7 +56,9 @@ fn status_of_reply(reply: &Reply) -> Status
 {
     match reply {
         Reply::Refused(_) => Status::Refused,
-        Reply::Measured(_) | Reply::Judged(Verdict::Accepted) | Reply::Reduced(_) => Status::Yes,
+        Reply::Measured(_) | Reply::Reduced(_) => Status::Yes,
+        Reply::Judged(Judgement::OnMoves(Verdict::Accepted)) => Status::Yes,
+        Reply::Judged(Judgement::OnDenial(DenialVerdict::Accepted)) => Status::Yes,
         Reply::Judged(_) => Status::No,
         Reply::Decided(Answer::Homotopic) => Status::Yes,
         Reply::Decided(Answer::Different) => Status::No,
@@ -68,7 +73,7 @@ fn put_reply<K: Sink>(out: &mut K, reply: &Reply) -> Result<(), Failed>
     match reply {
         Reply::Refused(refusal) => put_refusal(out, refusal),
         Reply::Measured(numbers) => put_numbers(out, numbers),
-        Reply::Judged(verdict) => put_verdict(out, *verdict),
+        Reply::Judged(judgement) => put_judgement(out, *judgement),
         Reply::Decided(decision) => put_decision(out, *decision),
         Reply::Reduced(words) => put_words(out, words),
     }
@@ -82,6 +87,17 @@ fn put_decision<K: Sink>(out: &mut K, decision: Answer) -> Result<(), Failed>
     match decision {
         Answer::Homotopic => put_line(out, Phrase::Text("homotopic"), &[]),
         Answer::Different => put_line(out, Phrase::Text("different"), &[]),
+    }
+}
+
+fn put_judgement<K: Sink>(out: &mut K, judgement: Judgement) -> Result<(), Failed>
+    ensures ok { OnOk result (WroteAll K.written out.old out.new (judgement_line judgement)) }
+    ensures failed { OnErr result (WrotePart K.written K.faults out.old out.new (judgement_line judgement)) }
+    ensures only_writes { OnlyWrites K.settled K.faults out.old out.new }
+{
+    match judgement {
+        Judgement::OnMoves(verdict) => put_verdict(out, verdict),
+        Judgement::OnDenial(verdict) => put_denial_verdict(out, verdict),
     }
 }
 
@@ -99,6 +115,53 @@ fn put_verdict<K: Sink>(out: &mut K, verdict: Verdict) -> Result<(), Failed>
             &[Phrase::Number(number), Phrase::Text(word_of_fault(fault))],
         ),
         Verdict::End => put_line(out, Phrase::Text("rejected: end"), &[]),
+    }
+}
+
+fn put_denial_verdict<K: Sink>(out: &mut K, verdict: DenialVerdict) -> Result<(), Failed>
+    ensures ok { OnOk result (WroteAll K.written out.old out.new (denial_line verdict)) }
+    ensures failed { OnErr result (WrotePart K.written K.faults out.old out.new (denial_line verdict)) }
+    ensures only_writes { OnlyWrites K.settled K.faults out.old out.new }
+{
+    match verdict {
+        DenialVerdict::Accepted => put_line(out, Phrase::Text("accepted"), &[]),
+        DenialVerdict::Label(fault) => put_label_fault(out, fault),
+        DenialVerdict::WordWrong { walk } => put_line(
+            out,
+            Phrase::Text("rejected: word"),
+            &[Phrase::Number(u64::from(walk))],
+        ),
+        DenialVerdict::Equal => put_line(out, Phrase::Text("rejected: equal"), &[]),
+    }
+}
+
+/// Writes why a labelling is not good.
+fn put_label_fault<K: Sink>(out: &mut K, fault: LabelFault) -> Result<(), Failed>
+    ensures ok { OnOk result (WroteAll K.written out.old out.new (denial_line (DenialVerdict.Label fault))) }
+    ensures failed { OnErr result (WrotePart K.written K.faults out.old out.new (denial_line (DenialVerdict.Label fault))) }
+    ensures only_writes { OnlyWrites K.settled K.faults out.old out.new }
+{
+    match fault {
+        LabelFault::Shape => put_line(out, Phrase::Text("rejected: shape"), &[]),
+        LabelFault::Degree { degree } => put_line(
+            out,
+            Phrase::Text("rejected: degree"),
+            &[Phrase::Number(u64::from(degree))],
+        ),
+        LabelFault::PlaceTwice { place } => put_line(
+            out,
+            Phrase::Text("rejected: place"),
+            &[Phrase::Number(u64::from(place))],
+        ),
+        LabelFault::EdgeRule { low, high } => put_line(
+            out,
+            Phrase::Text("rejected: edge"),
+            &[
+                Phrase::Number(u64::from(low.0)),
+                Phrase::Number(u64::from(high.0)),
+            ],
+        ),
+        LabelFault::OutOfMemory => put_line(out, Phrase::Text("rejected"), &[]),
     }
 }
 

@@ -48,12 +48,14 @@ impl From<PairFault> for Stop {
 }
 
 impl From<CertFault> for Stop {
-    ghost use Rattle.homotopy_cli.specs.declared.refusal.Refusal.TheVariants.{Certificate};
-    ghost use Rattle.homotopy_cli.specs.declared.stop.Stop.TheVariants.{Refused};
+    ghost use Rattle.homotopy_cli.specs.Stops.{certificate_stop};
 
-    ghost from_gives = { λ fault e. e ≡ Refused (Certificate fault) };
+    ghost from_gives = { λ fault e. e ≡ certificate_stop fault };
 
     fn from(fault: CertFault) -> Stop {
-        Stop::Refused(Refusal::Certificate(fault))
+        match fault {
+            CertFault::OutOfMemory => Stop::OutOfMemory,
+            _ => Stop::Refused(Refusal::Certificate(fault)),
+        }
     }
 }

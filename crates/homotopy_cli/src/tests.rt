@@ -10,14 +10,14 @@ use surf_io::{Failed, MemoryShelf, MemorySink, Shelf};
 const TETRAHEDRON: &str =
     "OFF\n4 4 6\n0 0 0\n1 0 0\n0 1 0\n0 0 1\n3 0 1 2\n3 0 3 1\n3 0 2 3\n3 1 3 2\n";
 
-const TORUS: &str = "OFF\n7 14 0\n0 0 0\n0 0 0\n0 0 0\n0 0 0\n0 0 0\n0 0 0\n0 0 0\n\
+pub(crate) const TORUS: &str = "OFF\n7 14 0\n0 0 0\n0 0 0\n0 0 0\n0 0 0\n0 0 0\n0 0 0\n0 0 0\n\
 3 0 1 3\n3 1 2 4\n3 2 3 5\n3 3 4 6\n3 4 5 0\n3 5 6 1\n3 6 0 2\n\
 3 0 3 2\n3 1 4 3\n3 2 5 4\n3 3 6 5\n3 4 0 6\n3 5 1 0\n3 6 2 1\n";
 
-const DOUBLE: &str =
+pub(crate) const DOUBLE: &str =
     "OFF\n11 26 0\n0 0 0\n0 0 0\n0 0 0\n0 0 0\n0 0 0\n0 0 0\n0 0 0\n0 0 0\n0 0 0\n0 0 0\n0 0 0\n\
 3 1 2 4\n3 2 3 5\n3 3 4 6\n3 4 5 0\n3 5 6 1\n3 6 0 2\n3 0 3 2\n3 1 4 3\n3 2 5 4\n3 3 6 5\n3 4 0 6\n3 5 1 0\n3 6 2 1\n\
-3 1 8 7\n3 7 9 3\n3 3 10 8\n3 8 0 9\n3 9 1 10\n3 10 7 0\n3 0 7 3\n3 1 3 8\n3 7 8 9\n3 3 9 10\n3 10 8 0\n3 9 0 1\n\
+3 1 8 7\n3 7 9 3\n3 3 10 8\n3 8 0 9\n3 9 1 10\n3 10 7 0\n3 0 7 3\n3 1 3 8\n3 7 8 9\n3 3 9 10\n3 8 10 0\n3 9 0 1\n\
 3 10 1 7\n";
 
 /// The walks of most examples: two sides of a face, and the third.
@@ -165,7 +165,18 @@ fn faults_of_the_texts_are_named(rt: HostRuntime) -> Result<(), AllocError> {
             "refused: certificate line 1 peak\n",
             no,
         ),
-        files(SIDES, "different\nLABELS 4\n", "refused: not built\n", no),
+        files(
+            SIDES,
+            "different\nLABELS 4\n",
+            "refused: certificate line 3 ended\n",
+            no,
+        ),
+        files(
+            SIDES,
+            "LABELS 4\n+ 0 x 0\n",
+            "refused: certificate line 2 bad\n",
+            no,
+        ),
     ];
     for wanted in &examples {
         check_verify(&rt, rt.alloc(), TETRAHEDRON, *wanted)?;

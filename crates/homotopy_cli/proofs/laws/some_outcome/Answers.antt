@@ -1,4 +1,4 @@
-use Rattle.homotopy_cli.proofs.Outcomes.{sound-words}
+use Rattle.homotopy_cli.proofs.Rows.{sound-words}
 use Rattle.homotopy_cli.proofs.laws.some_outcome.Goals as goal
 
 pub returns : goal.returns

@@ -1,4 +1,3 @@
-use Rattle.std.proofs.Common.{◌≡◌, List, ℕ, sym, ap, subst, ◌∙◌, arith}
 use Rattle.std.proofs.lemmas.Result.{err_from_is_err_and}
 use Rattle.homotopy_cli.proofs.Reducing.{degree_stops, lines_stop, short_lines, words_end}
 use Rattle.homotopy_cli.proofs.reduce.reduce.Goals as goal
