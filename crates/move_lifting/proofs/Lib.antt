@@ -11,6 +11,7 @@ pub mod ExpandLemmas
 pub mod TreeLiftLemmas
 pub mod CloseLemmas
 pub mod PathLemmas
+pub mod ReductionLemmas
 pub mod WorthLemmas
 pub mod HomeLemmas
 pub mod LiftLemmas

@@ -15,7 +15,7 @@ use Rattle.polygon_cut.specs.Polygons.{PolygonView, IsCutFrom, place_of, across}
 use Rattle.polygon_cut.specs.SpokeLoops.{AreWaysUp, backward, by_loop, path_loop, put_behind, last_side_loop}
 use Rattle.polygon_cut.proofs.GroupLemmas.{IsGroup}
 use Rattle.polygon_cut.proofs.PlaceLemmas.{sides_cross}
-use Rattle.polygon_cut.proofs.RelatorLemmas.{ends_at_vertex, loop_in, loop_out, free_spur}
+use Rattle.polygon_cut.proofs.RelatorLemmas.{loop_in, loop_out, free_spur}
 use Rattle.polygon_cut.proofs.LoopLemmas.{IsWay, back, loop_mul, loop_inv, loop_one}
 use Rattle.polygon_cut.proofs.FreeLoopLemmas.{SameFreely, freely_on, freely_behind, freely_before}
 use Rattle.polygon_cut.proofs.FreeLawLemmas.{root_is, up_is, backward_is, path_list, last_loop_as, last_loops, last_list}
@@ -30,10 +30,11 @@ use Rattle.quad_system.proofs.SpokeProductLemmas.{spoke_at}
 use Rattle.turn_words.specs.Modulo.{add}
 use Rattle.spoke_paths.specs.Path_steps.{upper_way, lower_way, spur_goes, quad_turned, from_spoke}
 use Rattle.spoke_paths.specs.Path_turns.{from_vertex}
+use Rattle.spoke_paths.proofs.Placing.{AtPlace, at-place, take-front, old_way, new_way, IsTurned, is-turned}
 use Rattle.spoke_paths.proofs.Steps_keep.{spur-is}
 use Rattle.move_lifting.specs.LoopsPutIn.{signed_loop, IsFreelyPath, HasLoopIn}
 use Rattle.move_lifting.specs.LoopFronts.{spokes_in_front}
-use Rattle.move_lifting.proofs.PathLemmas.{AtPlace, at_place, ends_at, take_front, old_way, new_way, IsTurned, is_turned, quad_partner}
+use Rattle.move_lifting.proofs.PathLemmas.{ends_at, quad_partner}
 
 -- the ways round a quad, by the partner of the side
 upper_is : (d n : ℕ) (partner : ℕ → ℕ) (at_vertex : Bool) (a c : ℕ) (after : List ℕ) → d ≡ n → c ≡ partner a
@@ -117,14 +118,14 @@ module _ (s : OrientedMesh) (split : SplitView) (o : IsOrientedSurface s) (t : I
       k : ℕ
       k = across (rotations_of s) polygon (polygon.degree - 1)
 
-      r : AtPlace (quad_turned polygon.places a c rises) at true path next
-      r = at_place (quad_turned polygon.places a c rises) at true path next e
+      r : AtPlace (quad_turned polygon.places a c rises) at path next
+      r = at-place (quad_turned polygon.places a c rises) at path next e
 
       flag : Bool
-      flag = ends_at_vertex true r.before
+      flag = from_vertex at
 
       turned : IsTurned polygon.places a c rises flag r.part r.instead
-      turned = is_turned polygon.places a c rises flag r.part r.instead r.does
+      turned = is-turned polygon.places a c rises flag r.part r.instead r.does
 
       same : length polygon.places ≡ polygon.degree
       same = (cut.places some).each_spoke
@@ -145,7 +146,7 @@ module _ (s : OrientedMesh) (split : SplitView) (o : IsOrientedSurface s) (t : I
       back_is = ap (across (rotations_of s) polygon) is ∙ q.partner_back a a_in
 
       worth : DownWorth s split o t polygon flag a r.before turned.after
-      worth = down_worth s split o t polygon cut some flag a r.before turned.after a_in refl
+      worth = down_worth s split o t polygon cut some flag a r.before turned.after a_in (ends_at r.before ∙ ap from_vertex r.long)
 
       upper : List ℕ
       upper = r.before ++ upper_side polygon.degree (across (rotations_of s) polygon) flag a turned.after
@@ -164,17 +165,13 @@ module _ (s : OrientedMesh) (split : SplitView) (o : IsOrientedSurface s) (t : I
           ∙ new_is rises (length polygon.places) polygon.degree (across (rotations_of s) polygon) flag a c r.before turned.after same is
 
       front_is : take at path ≡ r.before
-      front_is = ap (take at) r.path_is ∙ ap (λ n. take n (r.before ++ r.part)) (sym r.long) ∙ take_front r.before r.part
-
-      flag_is : from_vertex at ≡ flag
-      flag_is = sym (ends_at r.before ∙ ap from_vertex r.long)
+      front_is = ap (take at) r.path_is ∙ ap (λ n. take n (r.before ++ r.part)) (sym r.long) ∙ take-front r.before r.part
 
       spokes_are : (extra : List ℕ)
           → (if a == z then (if flag then [] else (c + 1) ∷ []) else (if flag then a ∷ (a + 1) ∷ [] else z ∷ [])) ≡ extra
           → spokes_in_front (polygon.degree - 1) path at a c ≡ r.before ++ extra
       spokes_are extra h =
           ap (λ (l : List ℕ). l ++ (if a == z then (if from_vertex at then [] else (c + 1) ∷ []) else (if from_vertex at then a ∷ (a + 1) ∷ [] else z ∷ []))) front_is
-          ∙ ap (λ b. r.before ++ (if a == z then (if b then [] else (c + 1) ∷ []) else (if b then a ∷ (a + 1) ∷ [] else z ∷ []))) flag_is
           ∙ ap (λ (l : List ℕ). r.before ++ l) h
 
       apart : across (rotations_of s) polygon (polygon.degree - 1) ≢ polygon.degree - 1
@@ -201,7 +198,7 @@ module _ (s : OrientedMesh) (split : SplitView) (o : IsOrientedSurface s) (t : I
   -- a spur that goes leaves the loop as it is
   pub spur_worth : (at : ℕ) (path next : List ℕ) → from_spoke at true (λ at_vertex. spur_goes) path ≡ Some next → SameFreely (I path) (I next)
   spur_worth at path next e =
-      let r : AtPlace (λ at_vertex. spur_goes) at true path next = at_place (λ at_vertex. spur_goes) at true path next e in
+      let r : AtPlace (λ at_vertex. spur_goes) at path next = at-place (λ at_vertex. spur_goes) at path next e in
       let goes = spur-is r.part r.instead r.does in
       let x : ℕ = goes.x in
       let from : path ≡ r.before ++ (x ∷ x ∷ r.instead) = r.path_is ∙ ap (λ (l : List ℕ). r.before ++ l) goes.is in

@@ -3,3 +3,4 @@ pub mod Tracks
 pub mod Crossings
 pub mod LoopsPutIn
 pub mod LoopFronts
+pub mod Reductions

@@ -7,6 +7,7 @@ pub mod expanding;
 mod inserting;
 pub mod lifted;
 pub mod lifting;
+mod reducing;
 mod track;
 
 pub use expanding::{MOST_LIFTED_DARTS, MOST_LIFTED_SIDES, expand};

@@ -7,3 +7,4 @@ pub mod Closing
 pub mod Leading
 pub mod Shortening
 pub mod Leaving_nothing
+pub mod Placing

@@ -14,7 +14,9 @@
 pub mod laws;
 mod reduce;
 mod step;
+mod take;
 mod turn;
 
 pub use reduce::reduce_spokes;
 pub use step::PathStep;
+pub use take::take_step;

@@ -22,7 +22,7 @@ fn difference(degree: u32, a: u32, b: u32) -> u32
 }
 
 /// The number that comes after a number, modulo the degree.
-fn next_number(degree: u32, a: u32) -> u32
+pub(crate) fn next_number(degree: u32, a: u32) -> u32
     requires { a < degree }
     ensures next { result ≡ add degree a 1 }
     ensures below { result < degree }

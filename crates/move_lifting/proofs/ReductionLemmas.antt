@@ -1,0 +1,167 @@
+-- The spokes of a walk, dart by dart, and how many are left after some steps.
+use Rattle.std.proofs.Common.{◌≡◌, ◌≢◌, inl, inr, ℕ, zero, suc, ◌+◌, ◌*◌, ◌-◌, ◌<◌, ◌≤◌, Bool, true, false, List, [], ◌∷◌, ◌++◌, length, get_or, take, refl, ap, sym, ◌∙◌, subst, arith, append_assoc, length-append, Some}
+use Rattle.std.proofs.lemmas.Bool.{cases_eq, eq-eqb, ne_eqb}
+use Rattle.std.proofs.lemmas.List.{append-nil, take_all}
+use Rattle.halfedge_map.specs.OrientedMeshes.{OrientedMesh, IsOrientedSurface}
+use Rattle.halfedge_map.specs.DartMaps.{next_of}
+use Rattle.halfedge_map.specs.RotationSystems.{rotations_of, IsDartFrom}
+use Rattle.turn_words.specs.Wheels.{IsWheel}
+use Rattle.tree_cotree.specs.Splits.{SplitView}
+use Rattle.polygon_cut.specs.Polygons.{PolygonView, IsCutFrom, label_of}
+use Rattle.polygon_cut.specs.SpokeLoops.{HasFreeSpokes, HaveFreeSpokes, spokes_along, last_side}
+use Rattle.polygon_cut.proofs.FreeRoundLemmas.{dart_from, from_is}
+use Rattle.spoke_paths.specs.Path_steps.{PathLeads, spur_goes, quad_turned, after_path_step}
+use Rattle.spoke_paths.specs.declared.step.PathStep.{PathStep}
+use Rattle.spoke_paths.specs.declared.step.PathStep.TheVariants.{Spur, Turn}
+use Rattle.spoke_paths.specs.Path_turns.{from_vertex}
+use Rattle.spoke_paths.proofs.Placing.{AtPlace, at-place, old_way, new_way, IsTurned, is-turned}
+use Rattle.spoke_paths.proofs.Steps_keep.{spur-is, later-is}
+use Rattle.move_lifting.specs.Reductions.{spokes_of_dart, HasSpokesMore, AreSpokesOf, spurs_of}
+
+-- the spokes of the dart from u to v
+pub own_spokes : OrientedMesh → PolygonView → ℕ → ℕ → List ℕ
+own_spokes s polygon u v = spokes_of_dart s polygon (dart_from s u v)
+
+pub own_is : (s : OrientedMesh) (polygon : PolygonView) → IsOrientedSurface s → (u v d : ℕ) → IsDartFrom (rotations_of s) u v d → own_spokes s polygon u v ≡ spokes_of_dart s polygon d
+unfolding own_spokes
+own_is s polygon o u v d from = ap (spokes_of_dart s polygon) (from_is s o u v d from)
+
+of_dart : (s : OrientedMesh) (polygon : PolygonView) (d : ℕ) → HasFreeSpokes s polygon d (spokes_of_dart s polygon d)
+of_dart s polygon d = record {
+  last = λ e. rw (eq-eqb d (last_side polygon) e) refl;
+  other = λ ne. elim (cases_eq (label_of polygon d) (label_of polygon (next_of s d))) [
+    | inl same ↦ inr (rw (ne_eqb d (last_side polygon) ne, eq-eqb (label_of polygon d) (label_of polygon (next_of s d)) same) refl, same)
+    | inr apart ↦ inl (rw (ne_eqb d (last_side polygon) ne, ne_eqb (label_of polygon d) (label_of polygon (next_of s d)) apart) refl)
+  ];
+}
+
+pub have_own : (s : OrientedMesh) (polygon : PolygonView) → IsOrientedSurface s → HaveFreeSpokes s polygon (own_spokes s polygon)
+have_own s polygon o u v d from = subst (HasFreeSpokes s polygon d) (sym (own_is s polygon o u v d from)) (of_dart s polygon d)
+
+pub few_of_dart : (s : OrientedMesh) (polygon : PolygonView) (d : ℕ) → length (spokes_of_dart s polygon d) ≤ 2
+few_of_dart s polygon d = elim (cases_eq d (last_side polygon)) [
+  | inl last ↦ rw (eq-eqb d (last_side polygon) last) (omega arith)
+  | inr other ↦ elim (cases_eq (label_of polygon d) (label_of polygon (next_of s d))) [
+    | inl same ↦ rw (ne_eqb d (last_side polygon) other, eq-eqb (label_of polygon d) (label_of polygon (next_of s d)) same) (omega arith)
+    | inr apart ↦ rw (ne_eqb d (last_side polygon) other, ne_eqb (label_of polygon d) (label_of polygon (next_of s d)) apart) (omega arith)
+  ]
+]
+
+pub none_of_dart : (s : OrientedMesh) (polygon : PolygonView) (d : ℕ) → d ≢ last_side polygon → label_of polygon d ≡ label_of polygon (next_of s d)
+    → spokes_of_dart s polygon d ≡ []
+none_of_dart s polygon d other same = rw (ne_eqb d (last_side polygon) other, eq-eqb (label_of polygon d) (label_of polygon (next_of s d)) same) refl
+
+-- one dart more
+along_next : (spokes : ℕ → ℕ → List ℕ) (walk : List ℕ) (k : ℕ) → k + 1 < length walk
+    → spokes_along spokes (take (suc (suc k)) walk) ≡ spokes_along spokes (take (suc k) walk) ++ spokes (get_or walk k 0) (get_or walk (suc k) 0)
+along_next spokes [] k l = absurd (omega arith)
+along_next spokes (u ∷ []) k l = absurd (omega arith)
+along_next spokes (u ∷ v ∷ walk) zero l = append-nil (spokes u v)
+along_next spokes (u ∷ v ∷ walk) (suc k) l =
+    ap (λ (rest : List ℕ). spokes u v ++ rest) (along_next spokes (v ∷ walk) k (omega arith))
+    ∙ sym (append_assoc (spokes u v) (spokes_along spokes (take (suc k) (v ∷ walk))) (spokes (get_or (v ∷ walk) k 0) (get_or walk k 0)))
+
+-- the spokes of the first n entries of a walk
+pub record AreSpokesSoFar (s : OrientedMesh) (polygon : PolygonView) (walk : List ℕ) (n : ℕ) (path : List ℕ) : Type 0 where
+  pub is : path ≡ spokes_along (own_spokes s polygon) (take n walk)
+  pub few : length path ≤ 2 * n
+
+pub none_so_far : (s : OrientedMesh) (polygon : PolygonView) (walk : List ℕ) → AreSpokesSoFar s polygon walk 1 []
+none_so_far s polygon [] = record { is = refl; few = omega arith }
+none_so_far s polygon (u ∷ walk) = record { is = refl; few = omega arith }
+
+pub more_so_far : (s : OrientedMesh) (polygon : PolygonView) → IsOrientedSurface s → (walk : List ℕ) (n u v : ℕ) (old new : List ℕ) → 1 ≤ n → n < length walk
+    → get_or walk (n - 1) 0 ≡ u → get_or walk n 0 ≡ v → AreSpokesSoFar s polygon walk n old → HasSpokesMore s polygon u v old new
+    → AreSpokesSoFar s polygon walk (n + 1) new
+more_so_far s polygon o walk zero u v old new some l one two so_far more = absurd (omega arith)
+more_so_far s polygon o walk (suc k) u v old new some l one two so_far more =
+    let here : own_spokes s polygon (get_or walk k 0) (get_or walk (suc k) 0) ≡ spokes_of_dart s polygon more.dart =
+    ap (λ x. own_spokes s polygon (get_or walk x 0) (get_or walk (suc k) 0)) (let e : k ≡ suc k - 1 = omega arith in e)
+    ∙ ap (λ x. own_spokes s polygon x (get_or walk (suc k) 0)) one ∙ ap (own_spokes s polygon u) two ∙ own_is s polygon o u v more.dart more.from in
+    let up_one : suc (suc k) ≡ suc k + 1 = omega arith in
+    record {
+      is = more.come ∙ ap (λ (l : List ℕ). l ++ spokes_of_dart s polygon more.dart) so_far.is
+          ∙ ap (λ (l : List ℕ). spokes_along (own_spokes s polygon) (take (suc k) walk) ++ l) (sym here)
+          ∙ sym (along_next (own_spokes s polygon) walk k (omega arith)) ∙ ap (λ n. spokes_along (own_spokes s polygon) (take n walk)) up_one;
+      few = omega (
+        arith,
+        so_far.few,
+        ap (λ (l : List ℕ). length l) more.come,
+        length-append old (spokes_of_dart s polygon more.dart),
+        few_of_dart s polygon more.dart,
+      );
+    }
+
+pub all_spokes : (s : OrientedMesh) (polygon : PolygonView) → IsOrientedSurface s → (walk : List ℕ) (n : ℕ) (path : List ℕ) → length walk ≤ n
+    → AreSpokesSoFar s polygon walk n path → AreSpokesOf s polygon walk path
+all_spokes s polygon o walk n path all so_far = record {
+  spokes = own_spokes s polygon;
+  free = have_own s polygon o;
+  path_is = so_far.is ∙ ap (spokes_along (own_spokes s polygon)) (take_all n walk all);
+}
+
+-- the places of a polygon make a wheel
+pub places_make_wheel : (s : OrientedMesh) (split : SplitView) (polygon : PolygonView) → IsCutFrom s split polygon → 0 < polygon.degree → IsWheel polygon.places
+places_make_wheel s split polygon cut some =
+    let places = cut.places some in
+    record {
+      inside = λ i l. subst (λ n. get_or polygon.places i 0 < n) (sym places.each_spoke) (places.below i (subst (λ n. i < n) places.each_spoke l));
+      once = λ i j l k e. places.apart i j (subst (λ n. i < n) places.each_spoke l) (subst (λ n. j < n) places.each_spoke k) e;
+    }
+
+-- how many spurs are taken out
+spurs_on : (steps more : List PathStep) → spurs_of (steps ++ more) ≡ spurs_of steps + spurs_of more
+spurs_on [] more = omega arith
+spurs_on (Spur at ∷ steps) more = (let on = spurs_on steps more in omega (arith, on))
+spurs_on (Turn at side partner up ∷ steps) more = spurs_on steps more
+
+pub spurs_next : (steps : List PathStep) (n : ℕ) (d : PathStep) → n < length steps → spurs_of (take (suc n) steps) ≡ spurs_of (take n steps) + spurs_of (get_or steps n d ∷ [])
+spurs_next [] n d l = absurd (omega arith)
+spurs_next (Spur at ∷ steps) zero d l = omega arith
+spurs_next (Turn at side partner up ∷ steps) zero d l = omega arith
+spurs_next (Spur at ∷ steps) (suc n) d l = (let on = spurs_next steps n d (omega arith) in omega (arith, on))
+spurs_next (Turn at side partner up ∷ steps) (suc n) d l = spurs_next steps n d (omega arith)
+
+pub few_spurs : (steps : List PathStep) → spurs_of steps ≤ length steps
+few_spurs [] = omega arith
+few_spurs (Spur at ∷ steps) = (let on = few_spurs steps in omega (arith, on))
+few_spurs (Turn at side partner up ∷ steps) = (let on = few_spurs steps in omega (arith, on))
+
+-- each takes out two spokes
+long_turn : (up : Bool) (degree : ℕ) (at_vertex : Bool) (a c : ℕ) (after : List ℕ) → length (new_way up degree at_vertex a c ++ after) ≡ length (old_way up degree at_vertex a c ++ after)
+long_turn true degree true a c after = refl
+long_turn true degree false a c after = refl
+long_turn false degree true a c after = refl
+long_turn false degree false a c after = refl
+
+pub step_long : (places : List ℕ) (step : PathStep) (path next : List ℕ) → after_path_step places step path ≡ Some next → length next + 2 * spurs_of (step ∷ []) ≡ length path
+step_long places (Spur at) path next e =
+    let r : AtPlace (λ at_vertex. spur_goes) at path next = at-place (λ at_vertex. spur_goes) at path next e in
+    let goes = spur-is r.part r.instead r.does in
+    omega (
+      arith,
+      ap (λ (l : List ℕ). length l) r.path_is,
+      ap (λ (l : List ℕ). length l) r.next_is,
+      length-append r.before r.part,
+      length-append r.before r.instead,
+      ap (λ (l : List ℕ). length l) goes.is,
+    )
+step_long places (Turn at a c up) path next e =
+    let r : AtPlace (quad_turned places a c up) at path next = at-place (quad_turned places a c up) at path next e in
+    let turned : IsTurned places a c up (from_vertex at) r.part r.instead = is-turned places a c up (from_vertex at) r.part r.instead r.does in
+    omega (
+      arith,
+      ap (λ (l : List ℕ). length l) r.path_is,
+      ap (λ (l : List ℕ). length l) r.next_is,
+      length-append r.before r.part,
+      length-append r.before r.instead,
+      ap (λ (l : List ℕ). length l) turned.from,
+      ap (λ (l : List ℕ). length l) turned.to,
+      long_turn up (length places) (from_vertex at) a c turned.after,
+    )
+
+pub steps_long : (places : List ℕ) (steps : List PathStep) (path end : List ℕ) → PathLeads places path steps end → length end + 2 * spurs_of steps ≡ length path
+steps_long places [] path end e = (let same : path ≡ end = cc in omega (arith, ap (λ (l : List ℕ). length l) same))
+steps_long places (step ∷ steps) path end e =
+    let l = later-is places step steps path end e in
+    omega (arith, step_long places step path l.next l.first, steps_long places steps l.next end l.rest, spurs_on (step ∷ []) steps)

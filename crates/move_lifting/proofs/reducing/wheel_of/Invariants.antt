@@ -1,0 +1,5 @@
+use Rattle.std.proofs.Common.{◌≡◌, take}
+use Rattle.move_lifting.proofs.reducing.wheel_of.Given as goal
+
+abbrev pub invariant-loop-spoke : goal.invariant-loop-spoke
+invariant-loop-spoke l = l.places.items ≡ take l.spoke l.polygon.places

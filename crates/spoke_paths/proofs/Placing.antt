@@ -1,0 +1,167 @@
+-- Steps on a path of spokes, told by the spokes before them and behind them.
+use Rattle.std.proofs.Common.{◌≡◌, ℕ, zero, suc, ◌+◌, ◌<◌, Bool, true, false, not, List, [], ◌∷◌, ◌++◌, length, set, take, refl, ap, sym, ◌∙◌, arith, length-append, Option, Some}
+use Rattle.std.specs.Prelude.{if◌then◌else◌}
+use Rattle.std.specs.List.{remove}
+use Rattle.turn_words.specs.Modulo.{add}
+use Rattle.turn_words.specs.Form_laws.{IsQuad}
+use Rattle.spoke_paths.specs.Path_steps.{upper_way, lower_way, quad_turned, spur_goes, from_spoke}
+use Rattle.spoke_paths.specs.Path_turns.{from_vertex}
+use Rattle.spoke_paths.proofs.Steps_keep.{mapped-is, turned-is, becomes-is, spur-is}
+use Rattle.spoke_paths.proofs.Turning.{turned}
+use Rattle.spoke_paths.proofs.Turning.{turned-is as end-is}
+
+-- a rule that was used at a place: the spokes before it stay
+pub record AtPlace (rule : Bool → List ℕ → Option (List ℕ)) (at : ℕ) (path next : List ℕ) : Type 0 where
+  pub before : List ℕ
+  pub part : List ℕ
+  pub instead : List ℕ
+  pub long : length before ≡ at
+  pub path_is : path ≡ before ++ part
+  pub next_is : next ≡ before ++ instead
+  pub does : rule (from_vertex at) part ≡ Some instead
+
+-- the same, counted on from a point
+record PlacedFrom (rule : Bool → List ℕ → Option (List ℕ)) (at : ℕ) (b : Bool) (path next : List ℕ) : Type 0 where
+  before : List ℕ
+  part : List ℕ
+  instead : List ℕ
+  long : length before ≡ at
+  path_is : path ≡ before ++ part
+  next_is : next ≡ before ++ instead
+  does : rule (turned at b) part ≡ Some instead
+
+placed-from : (rule : Bool → List ℕ → Option (List ℕ)) (at : ℕ) (b : Bool) (path next : List ℕ) → from_spoke at b rule path ≡ Some next → PlacedFrom rule at b path next
+placed-from rule zero b path next e = record { before = []; part = path; instead = next; long = refl; path_is = refl; next_is = refl; does = e }
+placed-from rule (suc at) b [] next e = absurd cc
+placed-from rule (suc at) b (x ∷ path) next e =
+    let inner = mapped-is (from_spoke at (not b) rule path) x next e in
+    let rest : PlacedFrom rule at (not b) path inner.0 = placed-from rule at (not b) path inner.0 inner.1 in
+    record {
+      before = x ∷ rest.before;
+      part = rest.part;
+      instead = rest.instead;
+      long = ap suc rest.long;
+      path_is = ap (λ (l : List ℕ). x ∷ l) rest.path_is;
+      next_is = sym inner.2 ∙ ap (λ (l : List ℕ). x ∷ l) rest.next_is;
+      does = rest.does;
+    }
+
+pub at-place : (rule : Bool → List ℕ → Option (List ℕ)) (at : ℕ) (path next : List ℕ) → from_spoke at true rule path ≡ Some next → AtPlace rule at path next
+at-place rule at path next e =
+    let r : PlacedFrom rule at true path next = placed-from rule at true path next e in
+    record {
+      before = r.before;
+      part = r.part;
+      instead = r.instead;
+      long = r.long;
+      path_is = r.path_is;
+      next_is = r.next_is;
+      does = ap (λ b. rule b r.part) (sym (end-is at)) ∙ r.does;
+    }
+
+pub take-front : (front rest : List ℕ) → take (length front) (front ++ rest) ≡ front
+take-front [] rest = refl
+take-front (x ∷ front) rest = ap (λ (l : List ℕ). x ∷ l) (take-front front rest)
+
+-- two neighbours taken the other way round a quad
+abbrev pub old_way : Bool → ℕ → Bool → ℕ → ℕ → List ℕ
+old_way up degree at_vertex a c = if up then lower_way degree at_vertex a c else upper_way degree at_vertex a c
+
+abbrev pub new_way : Bool → ℕ → Bool → ℕ → ℕ → List ℕ
+new_way up degree at_vertex a c = if up then upper_way degree at_vertex a c else lower_way degree at_vertex a c
+
+pub record IsTurned (places : List ℕ) (a c : ℕ) (up at_vertex : Bool) (part instead : List ℕ) : Type 0 where
+  pub quad : IsQuad places a c
+  pub after : List ℕ
+  pub from : part ≡ old_way up (length places) at_vertex a c ++ after
+  pub to : instead ≡ new_way up (length places) at_vertex a c ++ after
+
+pub is-turned : (places : List ℕ) (a c : ℕ) (up at_vertex : Bool) (part instead : List ℕ) → quad_turned places a c up at_vertex part ≡ Some instead
+    → IsTurned places a c up at_vertex part instead
+is-turned places a c true true part instead e =
+    let is = turned-is places a c true true part instead e in
+    let two = becomes-is (add (length places) c 1) c a (add (length places) a 1) part instead is.1 in
+    record { quad = is.0; after = two.rest; from = two.from; to = two.to }
+is-turned places a c true false part instead e =
+    let is = turned-is places a c true false part instead e in
+    let two = becomes-is c (add (length places) a 1) (add (length places) c 1) a part instead is.1 in
+    record { quad = is.0; after = two.rest; from = two.from; to = two.to }
+is-turned places a c false true part instead e =
+    let is = turned-is places a c false true part instead e in
+    let two = becomes-is a (add (length places) a 1) (add (length places) c 1) c part instead is.1 in
+    record { quad = is.0; after = two.rest; from = two.from; to = two.to }
+is-turned places a c false false part instead e =
+    let is = turned-is places a c false false part instead e in
+    let two = becomes-is (add (length places) c 1) a c (add (length places) a 1) part instead is.1 in
+    record { quad = is.0; after = two.rest; from = two.from; to = two.to }
+
+-- what is written at a place
+set-two : (before after : List ℕ) (x y v u : ℕ) → set (set (before ++ x ∷ y ∷ after) (length before) v) (length before + 1) u ≡ before ++ v ∷ u ∷ after
+set-two [] after x y v u = refl
+set-two (b ∷ before) after x y v u =
+    let up-one : suc (length before) + 1 ≡ suc (length before + 1) = omega arith in
+    ap (λ n. set (set (b ∷ (before ++ x ∷ y ∷ after)) (suc (length before)) v) n u) up-one ∙ ap (λ (l : List ℕ). b ∷ l) (set-two before after x y v u)
+
+remove-two : (before after : List ℕ) (x y : ℕ) → remove (remove (before ++ x ∷ y ∷ after) (length before + 1)) (length before) ≡ before ++ after
+remove-two [] after x y = refl
+remove-two (b ∷ before) after x y =
+    let up-one : suc (length before) + 1 ≡ suc (length before + 1) = omega arith in
+    ap (λ n. remove (remove (b ∷ (before ++ x ∷ y ∷ after)) n) (suc (length before))) up-one ∙ ap (λ (l : List ℕ). b ∷ l) (remove-two before after x y)
+
+-- a turn is two spokes written, and a spur two taken out
+pub record IsWritten (at v u : ℕ) (path next : List ℕ) : Type 0 where
+  pub within : at + 1 < length path
+  pub is : next ≡ set (set path at v) (at + 1) u
+
+pub turn-written : (places : List ℕ) (a c : ℕ) (up : Bool) (at v u : ℕ) (path next : List ℕ) → from_spoke at true (quad_turned places a c up) path ≡ Some next
+    → new_way up (length places) (from_vertex at) a c ≡ v ∷ u ∷ [] → IsWritten at v u path next × IsQuad places a c
+turn-written places a c up at v u path next e new =
+    let r : AtPlace (quad_turned places a c up) at path next = at-place (quad_turned places a c up) at path next e in
+    let t : IsTurned places a c up (from_vertex at) r.part r.instead = is-turned places a c up (from_vertex at) r.part r.instead r.does in
+    let old = old-two up (length places) (from_vertex at) a c in
+    let x : ℕ = old.0 in
+    let y : ℕ = old.1 in
+    let from : path ≡ r.before ++ x ∷ y ∷ t.after = r.path_is ∙ ap (λ (l : List ℕ). r.before ++ l) (t.from ∙ ap (λ (l : List ℕ). l ++ t.after) old.2) in
+    let to : next ≡ r.before ++ v ∷ u ∷ t.after = r.next_is ∙ ap (λ (l : List ℕ). r.before ++ l) (t.to ∙ ap (λ (l : List ℕ). l ++ t.after) new) in (
+      record {
+        within = omega (arith, ap (λ (l : List ℕ). length l) from, length-append r.before (x ∷ y ∷ t.after), r.long);
+        is = to ∙ sym (set-two r.before t.after x y v u) ∙ ap (λ n. set (set (r.before ++ x ∷ y ∷ t.after) n v) (n + 1) u) r.long
+            ∙ ap (λ (l : List ℕ). set (set l at v) (at + 1) u) (sym from);
+      },
+      t.quad,
+    )
+  where
+    old-two : (rises : Bool) (d : ℕ) (b : Bool) (side partner : ℕ) → (x y : ℕ) × (old_way rises d b side partner ≡ x ∷ y ∷ [])
+    old-two true d true side partner = (add d partner 1, partner, refl)
+    old-two true d false side partner = (partner, add d side 1, refl)
+    old-two false d true side partner = (side, add d side 1, refl)
+    old-two false d false side partner = (add d partner 1, side, refl)
+
+pub record AreTakenOut (at : ℕ) (path next : List ℕ) : Type 0 where
+  pub within : at + 1 < length path
+  pub is : next ≡ remove (remove path (at + 1)) at
+
+pub spur-taken : (at : ℕ) (path next : List ℕ) → from_spoke at true (λ at_vertex. spur_goes) path ≡ Some next → AreTakenOut at path next
+spur-taken at path next e =
+    let r : AtPlace (λ at_vertex. spur_goes) at path next = at-place (λ at_vertex. spur_goes) at path next e in
+    let goes = spur-is r.part r.instead r.does in
+    let x : ℕ = goes.x in
+    let from : path ≡ r.before ++ x ∷ x ∷ r.instead = r.path_is ∙ ap (λ (l : List ℕ). r.before ++ l) goes.is in
+    record {
+      within = omega (arith, ap (λ (l : List ℕ). length l) from, length-append r.before (x ∷ x ∷ r.instead), r.long);
+      is = r.next_is ∙ sym (remove-two r.before r.instead x x) ∙ ap (λ n. remove (remove (r.before ++ x ∷ x ∷ r.instead) (n + 1)) n) r.long
+          ∙ ap (λ (l : List ℕ). remove (remove l (at + 1)) at) (sym from);
+    }
+
+pub some-turn : (places : List ℕ) (a c : ℕ) (up : Bool) (at : ℕ) (path next : List ℕ) → from_spoke at true (quad_turned places a c up) path ≡ Some next
+    → (at + 1 < length path) × IsQuad places a c
+some-turn places a c up at path next e =
+    let new = new-two up (length places) (from_vertex at) a c in
+    let t = turn-written places a c up at new.0 new.1 path next e new.2 in
+    (t.0.within, t.1)
+  where
+    new-two : (rises : Bool) (d : ℕ) (b : Bool) (side partner : ℕ) → (x y : ℕ) × (new_way rises d b side partner ≡ x ∷ y ∷ [])
+    new-two true d true side partner = (side, add d side 1, refl)
+    new-two true d false side partner = (add d partner 1, side, refl)
+    new-two false d true side partner = (add d partner 1, partner, refl)
+    new-two false d false side partner = (partner, add d side 1, refl)
