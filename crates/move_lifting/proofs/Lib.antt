@@ -19,3 +19,4 @@ pub mod BackLemmas
 pub mod InsertLemmas
 pub mod SpurLemmas
 pub mod TurnLemmas
+pub mod LastLoopLemmas

@@ -1,13 +1,14 @@
 -- Steps round a face, and the face below an edge of the cotree.
-use Rattle.std.specs.Prelude.{◌≡◌, ◌≢◌, ◌⊎◌, ℕ, ◌+◌, ◌-◌, ◌<◌, true, false, max, List, [], ◌∷◌, ◌++◌, length, slice_index, Some}
+use Rattle.std.specs.Prelude.{◌≡◌, ◌≢◌, ◌⊎◌, ℕ, ◌+◌, ◌-◌, ◌<◌, Bool, true, false, not, if◌then◌else◌, max, List, [], ◌∷◌, ◌++◌, length, slice_index, Some}
 use Rattle.surf_model.specs.FaceLists.{FaceList, face_at, next_corner}
 use Rattle.surf_model.specs.Darts.{tail_of}
+use Rattle.surf_model.specs.Surfaces.{is_flipped}
 use Rattle.surf_model.specs.Walks.{darts}
 use Rattle.surf_model.specs.declared.edges.Side.{Side}
 use Rattle.surf_model.specs.declared.moves.Move.TheVariants.{Across}
 use Rattle.surf_model.proofs.RoundLemmas.{corners_before}
 use Rattle.halfedge_map.specs.OrientedMeshes.{OrientedMesh}
-use Rattle.halfedge_map.specs.DartMaps.{darts_of, edge_of, face_of, twin_of}
+use Rattle.halfedge_map.specs.DartMaps.{darts_of, edge_of, face_of, start_corner_of, twin_of}
 use Rattle.halfedge_map.specs.RotationSystems.{rotations_of, IsDartFrom}
 use Rattle.tree_cotree.specs.Splits.{SplitView, child_face}
 use Rattle.move_lifting.specs.Tracks.{TrackView}
@@ -23,6 +24,12 @@ pub record GoesAlong (mesh : FaceList) (side : Side) (from : ℕ) (step : FaceSt
   pub face : step.face ≡ side.face
   pub way : ((tail_of mesh side ≡ from) × (step.corner ≡ side.at) × (step.forward ≡ true))
       ⊎ ((tail_of mesh side ≢ from) × (step.corner ≡ next_corner true (length (face_at mesh side.face.0)) side.at) × (step.forward ≡ false))
+
+-- the step begins where the dart starts in its face, and goes along it, or if `back` the other way round the face
+pub record IsStepFrom (surface : OrientedMesh) (dart : ℕ) (back : Bool) (step : FaceStep) : Type 0 where
+  pub face : step.face.0 ≡ face_of surface dart
+  pub corner : step.corner ≡ start_corner_of surface dart
+  pub way : step.forward ≡ (if back then is_flipped surface.signs (face_of surface dart) else not (is_flipped surface.signs (face_of surface dart)))
 
 -- of a dart and its twin, the dart itself if it lies in the face, and else the twin
 pub record IsOneIn (surface : OrientedMesh) (dart face chosen : ℕ) : Type 0 where

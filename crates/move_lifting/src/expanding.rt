@@ -75,7 +75,7 @@ pub(crate) fn lead_all(
     requires split { IsSplit surface.now split.now }
     requires walk { IsWalk surface.now.mesh (numbers walk.now) }
     requires sides { darts_of surface.now ≤ MOST_LIFTED_SIDES }
-    requires few { length walk.now ≤ MOST_LIFTED_DARTS + 1 }
+    requires few { length walk.now ≤ MOST_LIFTED_SIDES + 1 }
     requires behind { behind ≤ MOST_LIFTED_DARTS }
     ensures leads { IfOk result (λ track. GoesOn surface.now.mesh behind (numbers walk.now) moves track.walk track.list) }
     ensures off_cotree { IfOk result (λ track. AvoidsCotree surface.now split.now track.walk) }

@@ -5,6 +5,7 @@
 mod crossing;
 pub mod expanding;
 mod inserting;
+mod last_loop;
 pub mod lifted;
 pub mod lifting;
 mod reducing;
