@@ -32,7 +32,7 @@ impl fmt::Display for ReadEnd {
 
 impl Error for ReadEnd {}
 
-/// The least room that a read is given, in bytes, unless the limit is near.
+/// How many bytes are read at once, unless the limit is near.
 const PIECE: usize = 65_536;
 
 /// Reads the file `name` from its first byte to its end. A file of more than `limit` bytes is too
@@ -70,8 +70,8 @@ pub fn read_whole<S: Shelf>(
     }
 }
 
-// Makes room past the first `filled` bytes: for a piece, or up to `most` bytes in all. The room
-// grows by a quarter, so that little of it stays empty, and a byte is moved only a few times.
+// Makes room past the first `filled` bytes: for a piece, or up to `most` bytes in all. The room is doubled where it is at
+// its end, so that a byte is moved only a few times; what is not filled yet is not touched, and takes no memory.
 fn make_room(bytes: &mut Vec<u8>, filled: usize, most: usize) -> Result<(), AllocError>
     requires filled { filled ≤ vec_len bytes.old }
     requires below { filled < most }
@@ -80,10 +80,12 @@ fn make_room(bytes: &mut Vec<u8>, filled: usize, most: usize) -> Result<(), Allo
     ensures within { OnOk result (vec_len bytes.new ≤ most) }
     ensures kept { OnOk result (take filled bytes.new.items ≡ take filled bytes.old.items) }
 {
-    let len = bytes.len();
-    if len - filled < PIECE {
-        let wanted = len.saturating_add((len / 4).max(PIECE)).min(most);
-        bytes.reserve_exact(wanted - len)?;
+    let wanted = filled.saturating_add(PIECE).min(most);
+    if wanted > bytes.capacity() {
+        let room = wanted.saturating_add(filled).min(most);
+        bytes.reserve_exact(room - bytes.len())?;
+    }
+    if wanted > bytes.len() {
         bytes.resize(wanted, 0)?;
     }
     Ok(())
