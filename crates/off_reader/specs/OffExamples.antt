@@ -30,22 +30,26 @@ prefixed : keyword_of (codes "STCN4nOFF12") ≡ Some (record { pieces = codes "S
 unfolding keyword_of are_pieces
 prefixed = refl
 
-no_keywords : map keyword_of (codes "off" ∷ codes "TOFF" ∷ codes "SOFF" ∷ codes "OF" ∷ codes "xOFF" ∷ codes "12" ∷ []) ≡ None ∷ None ∷ None ∷ None ∷ None ∷ None ∷ []
+no_keywords : map keyword_of (codes "off" ∷ codes "TOFF" ∷ codes "SOFF" ∷ codes "OF" ∷ codes "xOFF" ∷ codes "12" ∷ [])
+    ≡ None ∷ None ∷ None ∷ None ∷ None ∷ None ∷ []
 unfolding keyword_of are_pieces
 no_keywords = refl
 
 -- One mesh in two spellings: the second with a byte-order mark, carriage returns, colours, a comment, the counts on the
 -- keyword's line, blank lines and a line behind the end.
 plain : meaning_of (three_points (codes "3 1 3") (codes "3 0 1 2" ∷ [])) ≡ triangle
-unfolding unmarked cut words lines_from is_natural value_of is_number_text keyword_of are_pieces counts_at header_of taken corners_of has_equal_neighbours mesh_of
+unfolding unmarked cut words lines_from is_natural value_of is_number_text keyword_of are_pieces
+    counts_at header_of taken corners_of has_equal_neighbours mesh_of
 plain = refl
 
 decorated :
     meaning_of
     (239 ∷ 187 ∷ 191 ∷ lines_with (13 ∷ 10 ∷ [])
-    (codes "# a triangle" ∷ codes "COFF3 1 0# counts" ∷ [] ∷ codes "0 0 0 255" ∷ codes "1e0 0 0" ∷ codes "   " ∷ codes " 0 1. -.5E+1" ∷ codes "3 0 1 2 0.5" ∷ codes "more" ∷ []))
+    (codes "# a triangle" ∷ codes "COFF3 1 0# counts" ∷ [] ∷ codes "0 0 0 255" ∷ codes "1e0 0 0"
+    ∷ codes "   " ∷ codes " 0 1. -.5E+1" ∷ codes "3 0 1 2 0.5" ∷ codes "more" ∷ []))
     ≡ triangle
-unfolding unmarked cut words lines_from is_natural value_of is_number_text keyword_of are_pieces counts_at header_of taken corners_of has_equal_neighbours mesh_of
+unfolding unmarked cut words lines_from is_natural value_of is_number_text keyword_of are_pieces
+    counts_at header_of taken corners_of has_equal_neighbours mesh_of
 decorated = refl
 
 -- The counts: behind the keyword in its line, in the next line, or without a keyword; a fault is that of their line.
@@ -61,15 +65,22 @@ binary : map meaning_of (one_line (codes "COFF BINARY") ∷ one_line (codes "nOF
 unfolding unmarked cut words lines_from keyword_of are_pieces counts_at header_of mesh_of
 binary = refl
 
-no_binary : map meaning_of (one_line (codes "OFFBINARY") ∷ one_line (codes "OFF4 BINARY") ∷ text (codes "OFF" ∷ codes "BINARY" ∷ []) ∷ []) ≡ Err (BadCounts 1) ∷ Err (BadCounts 1) ∷ Err (BadCounts 2) ∷ []
+no_binary : map meaning_of (one_line (codes "OFFBINARY") ∷ one_line (codes "OFF4 BINARY") ∷ text (codes "OFF" ∷ codes "BINARY" ∷ []) ∷ [])
+    ≡ Err (BadCounts 1) ∷ Err (BadCounts 1) ∷ Err (BadCounts 2) ∷ []
 unfolding unmarked cut words lines_from is_natural keyword_of are_pieces counts_at header_of mesh_of
 no_binary = refl
 
-bad_counts : map meaning_of (text (codes "OFF" ∷ codes "4 x" ∷ []) ∷ one_line (codes "4") ∷ one_line (codes "99999999999999999999999999 -1") ∷ []) ≡ Err (BadCounts 2) ∷ Err (BadCounts 1) ∷ Err (BadCounts 1) ∷ []
+bad_counts :
+    map meaning_of
+    (text (codes "OFF" ∷ codes "4 x" ∷ []) ∷ one_line (codes "4") ∷ one_line (codes "99999999999999999999999999 -1") ∷ [])
+    ≡ Err (BadCounts 2) ∷ Err (BadCounts 1) ∷ Err (BadCounts 1) ∷ []
 unfolding unmarked cut words lines_from is_natural value_of keyword_of are_pieces counts_at header_of mesh_of
 bad_counts = refl
 
-many_counts : map meaning_of (text (codes "OFF" ∷ codes "1000001 4 0" ∷ []) ∷ one_line (codes "99999999999999999999999999 0") ∷ one_line (codes "0 1333334 x") ∷ []) ≡ Err (TooMany 2) ∷ Err (TooMany 1) ∷ Err (TooMany 1) ∷ []
+many_counts :
+    map meaning_of
+    (text (codes "OFF" ∷ codes "1000001 4 0" ∷ []) ∷ one_line (codes "99999999999999999999999999 0") ∷ one_line (codes "0 1333334 x") ∷ [])
+    ≡ Err (TooMany 2) ∷ Err (TooMany 1) ∷ Err (TooMany 1) ∷ []
 unfolding unmarked cut words lines_from is_natural value_of keyword_of are_pieces counts_at header_of mesh_of
 many_counts = refl
 
@@ -94,28 +105,38 @@ no_number = refl
 abbrev with_face : List ℕ → Result FaceList OffFault
 with_face face = meaning_of (three_points (codes "3 1 3") (face ∷ []))
 
-faulty_faces : map with_face (codes "3 1 2" ∷ codes "2 1 2" ∷ codes "3 0 1 x" ∷ codes "3 9 9 -1" ∷ codes "x" ∷ codes "99999999999999999999999999 0 1 2" ∷ [])
+faulty_faces :
+    map with_face
+    (codes "3 1 2" ∷ codes "2 1 2" ∷ codes "3 0 1 x" ∷ codes "3 9 9 -1" ∷ codes "x" ∷ codes "99999999999999999999999999 0 1 2" ∷ [])
     ≡ Err (BadFace 6) ∷ Err (BadFace 6) ∷ Err (BadFace 6) ∷ Err (BadFace 6) ∷ Err (BadFace 6) ∷ Err (BadFace 6) ∷ []
-unfolding unmarked cut words lines_from is_natural value_of is_number_text keyword_of are_pieces counts_at header_of taken corners_of has_equal_neighbours mesh_of
+unfolding unmarked cut words lines_from is_natural value_of is_number_text keyword_of are_pieces
+    counts_at header_of taken corners_of has_equal_neighbours mesh_of
 faulty_faces = refl
 
-no_such_vertex : map with_face (codes "3 0 0 3" ∷ codes "3 0 1 99999999999999999999999999" ∷ []) ≡ Err (IndexRange 6) ∷ Err (IndexRange 6) ∷ []
-unfolding unmarked cut words lines_from is_natural value_of is_number_text keyword_of are_pieces counts_at header_of taken corners_of has_equal_neighbours mesh_of
+no_such_vertex : map with_face (codes "3 0 0 3" ∷ codes "3 0 1 99999999999999999999999999" ∷ [])
+    ≡ Err (IndexRange 6) ∷ Err (IndexRange 6) ∷ []
+unfolding unmarked cut words lines_from is_natural value_of is_number_text keyword_of are_pieces
+    counts_at header_of taken corners_of has_equal_neighbours mesh_of
 no_such_vertex = refl
 
 equal_neighbours : map with_face (codes "3 0 0 1" ∷ codes "3 0 1 0" ∷ []) ≡ Err (EqualNeighbours 6) ∷ Err (EqualNeighbours 6) ∷ []
-unfolding unmarked cut words lines_from is_natural value_of is_number_text keyword_of are_pieces counts_at header_of taken corners_of has_equal_neighbours mesh_of
+unfolding unmarked cut words lines_from is_natural value_of is_number_text keyword_of are_pieces
+    counts_at header_of taken corners_of has_equal_neighbours mesh_of
 equal_neighbours = refl
 
 -- A face may name a vertex more than once, and words behind its corners are not looked at.
 twice : with_face (codes "4 0 1 2 1 red") ≡ Ok (record { count = 3; faces = (0 ∷ 1 ∷ 2 ∷ 1 ∷ []) ∷ [] })
-unfolding unmarked cut words lines_from is_natural value_of is_number_text keyword_of are_pieces counts_at header_of taken corners_of has_equal_neighbours mesh_of
+unfolding unmarked cut words lines_from is_natural value_of is_number_text keyword_of are_pieces
+    counts_at header_of taken corners_of has_equal_neighbours mesh_of
 twice = refl
 
 -- Cut off after some of its bytes, a text has the fault of its first faulty line, or ends there.
 abbrev cut_off : ℕ → Result FaceList OffFault
 cut_off n = meaning_of (take n (three_points (codes "3 1 3") (codes "3 0 1 2" ∷ [])))
 
-cut_short : map cut_off (4 ∷ 9 ∷ 13 ∷ 26 ∷ 28 ∷ 30 ∷ 34 ∷ 35 ∷ []) ≡ Err NoCounts ∷ Err (Ended 3) ∷ Err (BadVertex 3) ∷ Err (BadVertex 5) ∷ Err (Ended 6) ∷ Err (BadFace 6) ∷ Err (BadFace 6) ∷ triangle ∷ []
-unfolding unmarked cut words lines_from is_natural value_of is_number_text keyword_of are_pieces counts_at header_of taken corners_of has_equal_neighbours mesh_of
+cut_short : map cut_off (4 ∷ 9 ∷ 13 ∷ 26 ∷ 28 ∷ 30 ∷ 34 ∷ 35 ∷ [])
+    ≡ Err NoCounts ∷ Err (Ended 3) ∷ Err (BadVertex 3) ∷ Err (BadVertex 5) ∷ Err (Ended 6)
+    ∷ Err (BadFace 6) ∷ Err (BadFace 6) ∷ triangle ∷ []
+unfolding unmarked cut words lines_from is_natural value_of is_number_text keyword_of are_pieces
+    counts_at header_of taken corners_of has_equal_neighbours mesh_of
 cut_short = refl

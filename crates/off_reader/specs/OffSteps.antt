@@ -37,7 +37,8 @@ ReadsCorners vertices sides old (Ok in_range) ring =
     (corners_among old.words sides ≡ Some (map value_of (take sides old.words)))
     × (in_range ≡ list_all (λ v. nat_lt v vertices) (map value_of (take sides old.words)))
     × (in_range ≡ true → ring ≡ map value_of (take sides old.words))
-ReadsCorners vertices sides old (Err fault) ring = (fault ≡ OutOfMemory) ⊎ ((fault ≡ BadFace old.line) × (corners_among old.words sides ≡ None))
+ReadsCorners vertices sides old (Err fault) ring =
+    (fault ≡ OutOfMemory) ⊎ ((fault ≡ BadFace old.line) × (corners_among old.words sides ≡ None))
 
 -- the lines of the vertices were taken up to here, or the fault of one
 abbrev pub TakesPoints : ℕ → ℕ → Unread → Result (Unit {0}) OffFault → Unread → Type 0
@@ -50,4 +51,5 @@ abbrev pub TakesFaces : ℕ → ℕ → Unread → Result FaceList OffFault → 
 TakesFaces vertices count old (Ok mesh) =
     (lines : List Line) × (behind : List Line) × (taken (face_fault vertices) old.end_line [] count old.lines ≡ Ok (lines, behind))
     × (mesh ≡ record { count = vertices; faces = rings_of lines })
-TakesFaces vertices count old (Err fault) = (fault ≡ OutOfMemory) ⊎ (taken (face_fault vertices) old.end_line [] count old.lines ≡ Err fault)
+TakesFaces vertices count old (Err fault) =
+    (fault ≡ OutOfMemory) ⊎ (taken (face_fault vertices) old.end_line [] count old.lines ≡ Err fault)

@@ -120,12 +120,14 @@ taken fault end before (suc n) (line ∷ lines) = unless (fault before line) (ta
 -- the line of a vertex begins with so many number texts
 abbrev pub point_fault : ℕ → List Line → Line → Option OffFault
 point_fault coordinates before line =
-    if nat_le coordinates (length line.words) && list_all is_number_text (take coordinates line.words) then None else Some (BadVertex line.number)
+    if nat_le coordinates (length line.words) && list_all is_number_text (take coordinates line.words) then None
+    else Some (BadVertex line.number)
 
 -- the corners in a line of a face: as many naturals as its first word says, three at least
 abbrev pub corners_among : List (List ℕ) → ℕ → Option (List ℕ)
 corners_among words sides =
-    if nat_le 3 sides && nat_le sides (length words) && list_all is_natural (take sides words) then Some (map value_of (take sides words)) else None
+    if nat_le 3 sides && nat_le sides (length words) && list_all is_natural (take sides words) then Some (map value_of (take sides words))
+    else None
 
 unfoldable pub corners_of : List (List ℕ) → Option (List ℕ)
 corners_of [] = None

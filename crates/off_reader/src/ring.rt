@@ -2,13 +2,13 @@
 ghost use Rattle.std.specs.Prelude.{◌≡◌, ◌⊎◌, ◌+◌, ◌-◌, ◌^◌, ◌<◌, ◌≤◌, ◌&&◌, nat_le, nat_lt, if◌then◌else◌, true, Some, None, length, take, map, MatchResult, IfErr};
 ghost use Rattle.std.specs.List.{list_all};
 ghost use Rattle.text_scan.specs.Numbers.{is_natural, value_of};
-ghost use Rattle.surf_model.specs.FaceLists.{next_corner};
 ghost use Rattle.surf_model.specs.Vertices.{numbers};
 ghost use Rattle.off_reader.specs.OffTexts.{corners_among, corners_of, has_equal_neighbours, ring_fault};
 ghost use Rattle.off_reader.specs.OffSteps.{IsSameLine, ReadsCorners};
 ghost use Rattle.surf_model.specs.declared.limits.TheConstants.{MOST_VERTICES, MOST_SIDES};
 
 use crate::off_fault::OffFault;
+use surf_model::faces::corner_after;
 use surf_model::{MOST_SIDES, VertexName};
 use text_scan::Cursor;
 
@@ -93,22 +93,15 @@ fn read_corners(
 
 /// Whether two neighbours round the face are one vertex.
 fn has_equal_neighbours(ring: &[VertexName]) -> bool
+    requires { length ring.now ≤ MOST_SIDES }
     ensures { result ≡ has_equal_neighbours (numbers ring.now) }
 {
-    let sides = ring.len();
+    let sides = ring.len() as u32;
     for corner in 0..sides {
-        let next = next_corner(corner, sides);
-        if ring[corner].0 == ring[next].0 {
+        let next = corner_after(true, sides, corner);
+        if ring[corner as usize].0 == ring[next as usize].0 {
             return true;
         }
     }
     false
-}
-
-fn next_corner(corner: usize, sides: usize) -> usize
-    requires { corner < sides }
-    ensures corner { result ≡ next_corner true sides corner }
-    ensures within { result < sides }
-{
-    if corner + 1 == sides { 0 } else { corner + 1 }
 }

@@ -35,7 +35,8 @@ unfolding words
 only_a_comment = refl
 
 -- Blank lines are passed over and counted.
-numbered : full_lines (text (codes "# title" ∷ codes "OFF" ∷ [] ∷ codes " 4 4" ∷ [])) ≡ line 2 (codes "OFF" ∷ []) ∷ line 4 (codes "4" ∷ codes "4" ∷ []) ∷ []
+numbered : full_lines (text (codes "# title" ∷ codes "OFF" ∷ [] ∷ codes " 4 4" ∷ []))
+    ≡ line 2 (codes "OFF" ∷ []) ∷ line 4 (codes "4" ∷ codes "4" ∷ []) ∷ []
 unfolding unmarked cut words lines_from
 numbered = refl
 
@@ -70,12 +71,17 @@ whole_numbers : map signed_of (codes "-0" ∷ codes "-12" ∷ codes "7" ∷ code
 unfolding is_natural value_of
 whole_numbers = refl
 
-number_texts : map is_number_text (codes "0" ∷ codes "1." ∷ codes "-.5E+1" ∷ codes "1e0" ∷ codes "+12.50e-3" ∷ codes "nan" ∷ codes "-inf" ∷ [])
+number_texts :
+    map is_number_text
+    (codes "0" ∷ codes "1." ∷ codes "-.5E+1" ∷ codes "1e0" ∷ codes "+12.50e-3" ∷ codes "nan" ∷ codes "-inf" ∷ [])
     ≡ true ∷ true ∷ true ∷ true ∷ true ∷ true ∷ true ∷ []
 unfolding is_number_text is_natural
 number_texts = refl
 
-no_number_texts : map is_number_text ([] ∷ codes "." ∷ codes "-" ∷ codes "1e" ∷ codes "e5" ∷ codes "1.2.3" ∷ codes "--1" ∷ codes "infinity" ∷ codes "0x1" ∷ codes "1e5.0" ∷ codes "1,5" ∷ [])
+no_number_texts :
+    map is_number_text
+    ([] ∷ codes "." ∷ codes "-" ∷ codes "1e" ∷ codes "e5" ∷ codes "1.2.3" ∷ codes "--1"
+    ∷ codes "infinity" ∷ codes "0x1" ∷ codes "1e5.0" ∷ codes "1,5" ∷ [])
     ≡ false ∷ false ∷ false ∷ false ∷ false ∷ false ∷ false ∷ false ∷ false ∷ false ∷ false ∷ []
 unfolding is_number_text is_natural
 no_number_texts = refl

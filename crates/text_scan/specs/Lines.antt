@@ -36,7 +36,8 @@ pub record Line : Type 0 where
 
 -- the lines of a text that have words, where its first line has number n
 unfoldable pub lines_from : ℕ → List ℕ → List Line
-lines_from n text = filter (λ line. is_filled line.words) (map (λ p. record { number = p.0; words = words p.1 }) (enumerate_from n (cut text)))
+lines_from n text =
+    filter (λ line. is_filled line.words) (map (λ p. record { number = p.0; words = words p.1 }) (enumerate_from n (cut text)))
 
 -- the lines of a whole text that are not blank: lines are counted from 1, blank ones too
 abbrev pub full_lines : List ℕ → List Line

@@ -22,7 +22,9 @@ natural_of word = if is_natural word then Some (value_of word) else None
 -- the number that a word is, if it is a natural with a minus before it or none
 abbrev pub signed_of : List ℕ → Option ℤ
 signed_of [] = None
-signed_of (byte ∷ rest) = if byte == 45 then option_map (λ n. neg_ℤ (pos n)) (natural_of rest) else option_map pos (natural_of (byte ∷ rest))
+signed_of (byte ∷ rest) =
+    if byte == 45 then option_map (λ n. neg_ℤ (pos n)) (natural_of rest)
+    else option_map pos (natural_of (byte ∷ rest))
 
 -- whether an integer is one of 64 bits with a sign
 abbrev pub fits_i64 : ℤ → Bool
@@ -51,7 +53,8 @@ has_exponent_or_none text = if list_any is_exponent_mark text then is_natural (u
 -- a number text without its sign: `nan`, `inf`, or digits with an exponent or none
 abbrev pub is_unsigned_text : List ℕ → Bool
 is_unsigned_text text =
-    bytes_eq text (codes "nan") || bytes_eq text (codes "inf") || (is_decimal (before_first is_exponent_mark text) && has_exponent_or_none text)
+    bytes_eq text (codes "nan") || bytes_eq text (codes "inf")
+    || (is_decimal (before_first is_exponent_mark text) && has_exponent_or_none text)
 
 -- whether a word is a number text: a sign or none, and what follows it
 unfoldable pub is_number_text : List ℕ → Bool
