@@ -2,3 +2,4 @@ mod KeywordLemmas
 mod HeaderLemmas
 pub mod RingLemmas
 pub mod MeshLemmas
+pub mod FaultLineLemmas

@@ -1,3 +1,4 @@
 pub mod OffTexts
+pub mod FaultLines
 pub mod OffSteps
 pub mod OffExamples

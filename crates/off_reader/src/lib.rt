@@ -9,6 +9,7 @@
 
 mod header;
 mod keyword;
+pub mod laws;
 mod mesh;
 mod off_fault;
 mod ring;
