@@ -14,7 +14,9 @@ pub mod PathLemmas
 pub mod ReductionLemmas
 pub mod WorthLemmas
 pub mod HomeLemmas
+pub mod StartLemmas
 pub mod LiftLemmas
+pub mod ContractLemmas
 pub mod BackLemmas
 pub mod InsertLemmas
 pub mod SpurLemmas

@@ -1,14 +1,28 @@
 -- The closed walk along the first and back along the second is contracted, and the second is left.
-use Rattle.std.proofs.Common.{◌≡◌, ℕ, ◌<◌, List, [], ◌∷◌, ◌++◌, length, drop, get_or, ap, sym, ◌∙◌, subst}
+use Rattle.std.proofs.Common.{◌≡◌, ℕ, ◌<◌, refl, List, [], ◌∷◌, ◌++◌, length, drop, get_or, ap, sym, ◌∙◌, subst}
+use Rattle.std.specs.Prelude.{All, Some, option_and_then}
+use Rattle.std.proofs.lemmas.Option.{option_and_then_some}
 use Rattle.std.proofs.lemmas.List.{drop_more, length-drop, get_or_append_left}
 use Rattle.surf_model.specs.FaceLists.{FaceList}
 use Rattle.surf_model.specs.FreeWalks.{HasNoSpur}
 use Rattle.surf_model.specs.Walks.{IsWalk, HaveCommonEnds, darts}
-use Rattle.surf_model.specs.Moves.{PeakedMoves}
+use Rattle.surf_model.specs.Moves.{PeakedMoves, Leads, Homotopic, apply, apply_all}
+use Rattle.surf_model.specs.declared.moves.Move.{Move}
 use Rattle.surf_model.proofs.WayBackLemmas.{list_keeps_walk, list_keeps_ends}
 use Rattle.halfedge_map.specs.OrientedMeshes.{OrientedMesh, IsOrientedSurface}
 use Rattle.tree_cotree.specs.Splits.{SplitView, IsSplit}
-use Rattle.move_lifting.specs.Lifts.{LeadsAtPeak, AvoidsCotree}
+use Rattle.polygon_cut.specs.SpokeLoops.{LeavesCotree}
+use Rattle.polygon_cut.specs.Polygons.{PolygonView, IsCutFrom}
+use Rattle.polygon_cut.specs.SpokeLoops.{spokes_along}
+use Rattle.quad_system.proofs.FreePathLemmas.{free_walk_below}
+use Rattle.spoke_paths.specs.Path_steps.{PathLeads}
+use Rattle.move_lifting.specs.Contractions.{IsLedFrom, LeavesNothing}
+use Rattle.move_lifting.specs.LoopsPutIn.{IsFreelyPath}
+use Rattle.move_lifting.specs.Reductions.{IsReductionOf}
+use Rattle.move_lifting.specs.declared.reducing.Reduction.{Reduction}
+use Rattle.move_lifting.proofs.HomeLemmas.{nothing_is_left}
+use Rattle.move_lifting.proofs.StartLemmas.{starts_freely}
+use Rattle.move_lifting.specs.Lifts.{LeadsAtPeak, AvoidsCotree, MoreLeaveCotree}
 use Rattle.move_lifting.specs.Tracks.{TrackView, GoesOn, last_of}
 use Rattle.move_lifting.proofs.MoveLemmas.{leads_nowhere}
 use Rattle.move_lifting.proofs.TreeLiftLemmas.{one_vertex, walk_front}
@@ -43,3 +57,86 @@ second_left s split o t sphere first closed second list track w some common h go
     let one : track.walk ≡ v ∷ [] = one_vertex s split o t sphere track.walk v walk off no_spur start last in
     let whole : track.walk ++ rest ≡ second = ap (λ (l : List ℕ). l ++ rest) one ∙ sym (drop_more second 0 0 some) in
     subst (LeadsAtPeak s.mesh first track.list) whole there
+
+-- what a list of moves does behind another
+leads_rest : (mesh : FaceList) (moves more : List Move) (a b c : List ℕ) → Leads mesh a moves b → Leads mesh a (moves ++ more) c → Leads mesh b more c
+leads_rest mesh [] more a b c h k = (let same : a ≡ b = (let e : Some a ≡ Some b = h in cc) in subst (λ (l : List ℕ). Leads mesh l more c) same k)
+leads_rest mesh (move ∷ moves) more a b c h k =
+    option_and_then_some (λ next. apply_all mesh next moves) (apply mesh a move) b h
+    (λ middle is rest.
+    leads_rest mesh moves more middle b c rest (sym (ap (option_and_then (λ next. apply_all mesh next (moves ++ more))) is) ∙ k))
+
+-- The closed walk that was led off the cotree, with the second walk behind it.
+pub record IsBegun (s : OrientedMesh) (split : SplitView) (first closed second : List ℕ) (track : TrackView) : Type 0 where
+  pub led : IsLedFrom s.mesh (darts second) track
+  pub walk : IsWalk s.mesh closed
+  pub there : Homotopic s.mesh first (closed ++ drop 1 second)
+  pub start : get_or track.walk 0 0 ≡ get_or second 0 0
+  pub home : last_of track.walk ≡ get_or track.walk 0 0
+  pub leads : (first ≡ led.first) × (drop 1 second ≡ led.rest)
+  pub more : List Move
+  pub goes : Leads s.mesh (closed ++ drop 1 second) more (track.walk ++ drop 1 second)
+  pub leaves : All (LeavesCotree s split) more
+
+pub begun_from : (s : OrientedMesh) (split : SplitView) (first closed second : List ℕ) (list : PeakedMoves) (track : TrackView) → IsWalk s.mesh first → IsWalk s.mesh second
+    → get_or first 0 0 ≡ get_or second 0 0 → LeadsAtPeak s.mesh first list (closed ++ drop 1 second) → 0 < length closed
+    → GoesOn s.mesh (darts second) closed list track.walk track.list → MoreLeaveCotree s split list.moves track.list.moves → 0 < length track.walk
+    → last_of track.walk ≡ get_or second 0 0 → IsBegun s split first closed second track
+begun_from s split first closed second list track w z common h closed_some goes more track_some last =
+    let rest : List ℕ = drop 1 second in
+    let there : LeadsAtPeak s.mesh first track.list (track.walk ++ rest) = goes first rest (length-drop 1 second) h in
+    let ends : HaveCommonEnds first (track.walk ++ rest) = list_keeps_ends s.mesh track.list.moves first (track.walk ++ rest) w.starts there.leads in
+    let start : get_or track.walk 0 0 ≡ get_or second 0 0 = sym (get_or_append_left track.walk rest 0 0 track_some) ∙ sym ends.starts ∙ common in
+    record {
+      led = record { first = first; rest = rest; starts = w; long = length-drop 1 second; leads = there; some = track_some };
+      walk = closed_walk s.mesh first closed rest list w h closed_some;
+      there = (list.moves, h.leads);
+      start = start;
+      home = last ∙ sym start;
+      leads = (refl, refl);
+      more = more.0;
+      goes = leads_rest s.mesh list.moves more.0 first (closed ++ rest) (track.walk ++ rest) h.leads
+          (subst (λ (l : List Move). Leads s.mesh first l (track.walk ++ rest)) more.1 there.leads);
+      leaves = more.2;
+    }
+
+-- and the second walk is left behind one vertex
+pub second_stays : (s : OrientedMesh) (split : SplitView) (first closed second : List ℕ) (track after : TrackView) → IsBegun s split first closed second track → 0 < length second
+    → GoesOn s.mesh (darts second) track.walk track.list after.walk after.list → after.walk ≡ get_or track.walk 0 0 ∷ [] → LeadsAtPeak s.mesh first after.list second
+second_stays s split first closed second track after begun some goes one =
+    let rest : List ℕ = drop 1 second in
+    let there : LeadsAtPeak s.mesh begun.led.first after.list (after.walk ++ begun.led.rest) = goes begun.led.first begun.led.rest begun.led.long begun.led.leads in
+    let whole : after.walk ++ rest ≡ second = ap (λ (l : List ℕ). l ++ rest) (one ∙ ap (λ x. x ∷ []) begun.start) ∙ sym (drop_more second 0 0 some) in
+    subst (λ (l : List ℕ). LeadsAtPeak s.mesh l after.list second) (sym begun.leads.0)
+    (subst (LeadsAtPeak s.mesh begun.led.first after.list) (ap (λ (l : List ℕ). after.walk ++ l) (sym begun.leads.1) ∙ whole) there)
+
+-- Nothing is left of the spokes where the walks are homotopic, and the steps that leave nothing may be followed.
+pub homotopic_leaves_nothing : (s : OrientedMesh) (split : SplitView) (polygon : PolygonView) → IsOrientedSurface s → IsSplit s split → IsCutFrom s split polygon → 0 < polygon.degree
+    → (first closed second vertices : List ℕ) (list : PeakedMoves) (reduction : Reduction) (r : IsReductionOf s polygon vertices reduction) → vertices ≡ closed → IsWalk s.mesh first
+    → 0 < length closed → 0 < length second → last_of closed ≡ get_or second 0 0 → LeadsAtPeak s.mesh first list (closed ++ drop 1 second) → Homotopic s.mesh first second → r.end ≡ []
+homotopic_leaves_nothing s split polygon o t cut some first closed second vertices list reduction r is w closed_some second_some meets led same =
+    nothing_is_left s split polygon o t cut some r.spokes.spokes r.spokes.free first closed second r.end reduction.steps.items w
+    (closed_walk s.mesh first closed (drop 1 second) list w led closed_some) second_some meets (list.moves, led.leads)
+    (subst (λ (l : List ℕ). PathLeads polygon.places l reduction.steps.items r.end) (r.spokes.path_is ∙ ap (spokes_along r.spokes.spokes) is) r.leads) r.reduced same
+
+pub steps_to_nothing : (s : OrientedMesh) (split : SplitView) (polygon : PolygonView) → IsOrientedSurface s → IsSplit s split → IsCutFrom s split polygon → 0 < polygon.degree
+    → (closed vertices : List ℕ) (reduction : Reduction) (r : IsReductionOf s polygon vertices reduction) → vertices ≡ closed → IsWalk s.mesh closed → r.end ≡ []
+    → LeavesNothing polygon reduction
+steps_to_nothing s split polygon o t cut some closed vertices reduction r is w none = record {
+  wheel = r.wheel;
+  below = subst (λ (l : List ℕ). All (λ i. i < polygon.degree) l) (sym (r.spokes.path_is ∙ ap (spokes_along r.spokes.spokes) is))
+      (subst (λ n. All (λ i. i < n) (spokes_along r.spokes.spokes closed)) (cut.places some).each_spoke
+      (free_walk_below s split polygon o t cut some r.spokes.spokes r.spokes.free closed w));
+  leads = subst (λ (l : List ℕ). PathLeads polygon.places reduction.spokes.items reduction.steps.items l) none r.leads;
+}
+
+-- and the walk of the track is the loop of the spokes, up to spurs
+pub begun_freely : (s : OrientedMesh) (split : SplitView) (polygon : PolygonView) → IsOrientedSurface s → IsSplit s split → IsCutFrom s split polygon → 0 < polygon.degree
+    → (first closed second vertices : List ℕ) (list : PeakedMoves) (track : TrackView) (reduction : Reduction) (r : IsReductionOf s polygon vertices reduction) → vertices ≡ closed
+    → IsWalk s.mesh first → 0 < length closed → last_of closed ≡ get_or second 0 0 → LeadsAtPeak s.mesh first list (closed ++ drop 1 second)
+    → IsBegun s split first closed second track → AvoidsCotree s split track.walk → last_of track.walk ≡ get_or second 0 0
+    → IsFreelyPath s split polygon reduction.spokes.items track.walk
+begun_freely s split polygon o t cut some first closed second vertices list track reduction r is w closed_some meets led begun off last =
+    subst (λ (l : List ℕ). IsFreelyPath s split polygon l track.walk) (sym (r.spokes.path_is ∙ ap (spokes_along r.spokes.spokes) is))
+    (starts_freely s split polygon o t cut some r.spokes.spokes r.spokes.free closed track.walk (drop 1 second) begun.more
+    (list_keeps_walk s.mesh list.moves first (closed ++ drop 1 second) w led.leads) begun.goes begun.leaves off closed_some begun.led.some (last ∙ sym meets) (sym begun.home))

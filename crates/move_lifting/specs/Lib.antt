@@ -4,3 +4,4 @@ pub mod Crossings
 pub mod LoopsPutIn
 pub mod LoopFronts
 pub mod Reductions
+pub mod Contractions

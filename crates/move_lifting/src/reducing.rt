@@ -38,7 +38,9 @@ impl Reduction {
         requires some { 0 < polygon.now.degree }
         requires walk { IsWalk surface.now.mesh (numbers walk.now) }
         requires few { length walk.now ≤ MOST_LIFTED_DARTS + 1 }
-        ensures { IfOk result (IsReductionOf surface.now polygon.now (numbers walk.now)) }
+        ensures reduction { IfOk result (IsReductionOf surface.now polygon.now (numbers walk.now)) }
+        // What holds of every surface.
+        ensures valid { IfOk result (λ _. IsOrientedSurface surface.now) }
     {
         // The proof reads what holds of every surface.
         let _ = surface.faces();

@@ -142,7 +142,7 @@ by_loop_is s split o t ups h u v loop u_used v_used =
     ap (λ (x : List ℕ). u ∷ (x ++ (loop ++ backward v (ups v)))) (up_is s split o t ups h u u_used)
     ∙ ap (λ (x : List ℕ). u ∷ (up s split t u ++ (loop ++ x))) (backward_is v (ups v) ∙ ap (back v) (up_is s split o t ups h v v_used))
 
-off_walk : (s : OrientedMesh) (split : SplitView) (o : IsOrientedSurface s) (t : IsSplit s split) (polygon : PolygonView) (ups : ℕ → List ℕ) → AreWaysUp s split t.parents.root ups
+pub off_walk : (s : OrientedMesh) (split : SplitView) (o : IsOrientedSurface s) (t : IsSplit s split) (polygon : PolygonView) (ups : ℕ → List ℕ) → AreWaysUp s split t.parents.root ups
     → (u v : ℕ) (rest : List ℕ) → IsWay s.mesh u v rest → IsOffCotree s split (u ∷ rest) → (loop : Loops s split t)
     → SameFreely (walk_value s split o t polygon (u ∷ rest)) loop → AreFreelyEqual s.mesh (u ∷ rest) (by_loop ups u v loop.rest)
 off_walk s split o t polygon ups h u v rest way off loop same =
@@ -154,7 +154,7 @@ off_walk s split o t polygon ups h u v rest way off loop same =
     subst (AreFreelyEqual s.mesh (u ∷ rest)) (sym (by_loop_is s split o t ups h u v loop.rest (start_used s.mesh u v rest way) (end_used s.mesh u v rest way)))
     (by_own_loop s.mesh root (up s split t) ways u v rest way loop is)
 
-path_is : (spokes : ℕ → ℕ → List ℕ) (u : ℕ) (rest : List ℕ) → spokes_along spokes (u ∷ rest) ≡ path_along spokes u rest
+pub path_is : (spokes : ℕ → ℕ → List ℕ) (u : ℕ) (rest : List ℕ) → spokes_along spokes (u ∷ rest) ≡ path_along spokes u rest
 path_is spokes u [] = refl
 path_is spokes u (v ∷ rest) = ap (λ (l : List ℕ). spokes u v ++ l) (path_is spokes v rest)
 
