@@ -8,6 +8,7 @@ pub mod LeftoverLemmas
 pub mod LawLemmas
 pub mod RingLemmas
 pub mod SearchLemmas
+pub mod WaitingLemmas
 pub mod TreeLemmas
 pub mod SplittingLemmas
 pub mod EdgeTables

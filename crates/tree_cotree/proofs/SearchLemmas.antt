@@ -4,7 +4,7 @@ use Rattle.std.proofs.Math.ListN.{set}
 use Rattle.std.specs.Prelude.{Option, Some, None, is_some}
 use Rattle.std.specs.Option.{option_map}
 use Rattle.std.proofs.lemmas.Bool.{cases_eq, cases_lt}
-use Rattle.std.proofs.lemmas.List.{length_push, get_or_push, get_or_append_left, get_or-set_same, get_or-set_other, length-set, get_or_read, map-append}
+use Rattle.std.proofs.lemmas.List.{length_push, get_or_push, get_or_append_left, get_or-set_same, get_or-set_other, length-set, get_or_read, map-append, append-nil, append_assoc, length-append}
 use Rattle.surf_model.specs.declared.names.DartName.{DartName}
 use Rattle.halfedge_map.specs.Orbits.{after_steps, IsReached}
 use Rattle.halfedge_map.specs.OrientedMeshes.{OrientedMesh, IsOrientedSurface}
@@ -16,7 +16,7 @@ use Rattle.tree_cotree.specs.declared.search.Nodes.{Nodes}
 use Rattle.tree_cotree.specs.declared.search.Nodes.TheVariants.{Vertices, Faces}
 use Rattle.halfedge_map.proofs.OrbitLemmas.{IsPermutationBelow, AreAlike, two_alike, steps_within, reached_keeps}
 use Rattle.tree_cotree.specs.RingViews.{dart_numbers}
-use Rattle.tree_cotree.specs.Searches.{node_of, turn_of, back_at, IsFound, IsNamed, LeadsBack, IsOrder, IsCrossed, GoesOn}
+use Rattle.tree_cotree.specs.Searches.{node_of, turn_of, back_at, IsFound, IsNamed, LeadsBack, IsOrder, IsCrossed, AreAdded}
 use Rattle.tree_cotree.proofs.AfterLemmas.{twin_edge}
 use Rattle.tree_cotree.proofs.ExchangeLemmas.{reached_soon}
 
@@ -142,16 +142,10 @@ order_start maps node allowed bound start order from is l long none =
       only = λ v x e. absurd (some_is_none (back_at from v) x e (none v));
     }
 
--- the order goes on
-pub goes_nowhere : (order : List ℕ) → GoesOn order order
-goes_nowhere order = record { longer = omega arith; same = λ j l. refl }
-
-pub goes_more : (old order : List ℕ) (x : ℕ) → GoesOn old order → GoesOn old (order ++ x ∷ [])
-goes_more old order x h =
-    record {
-      longer = omega (arith, h.longer, length_push order x);
-      same = λ j l. old_at order x j (omega (arith, l, h.longer)) ∙ h.same j l;
-    }
+-- an order goes on from another
+pub record GoesOn (old new : List ℕ) : Type 0 where
+  pub longer : length old ≤ length new
+  pub same : (j : ℕ) → j < length old → get_or new j 0 ≡ get_or old j 0
 
 pub found_on : (node : ℕ → ℕ) (old new : List ℕ) (v : ℕ) → GoesOn old new → IsFound node old v → IsFound node new v
 found_on node old new v h found =
@@ -291,32 +285,54 @@ found_pushed maps node xs ys d x is pushed =
       is = ap node (ap (λ (zs : List ℕ). get_or zs (length (dart_numbers xs)) 0) more ∙ new_at (dart_numbers xs) x.0 (length (dart_numbers xs)) refl ∙ is);
     }
 
-pub grown_pushed : (xs ys : List DartName) (x : DartName) → ys ≡ xs ++ x ∷ [] → GoesOn (dart_numbers xs) (dart_numbers ys)
-grown_pushed xs ys x pushed = rw (numbers_push xs ys x pushed) (goes_more (dart_numbers xs) (dart_numbers xs) x.0 (goes_nowhere (dart_numbers xs)))
+-- what is added
+pub added_none : (xs ws : List ℕ) → AreAdded xs ws xs ws
+added_none xs ws = record { added = []; order = sym (append-nil xs); waits = sym (append-nil ws) }
+
+pub added_pushed : (xs ys ws vs : List DartName) (x : DartName) → ys ≡ xs ++ x ∷ [] → vs ≡ ws ++ x ∷ []
+    → AreAdded (dart_numbers xs) (dart_numbers ws) (dart_numbers ys) (dart_numbers vs)
+added_pushed xs ys ws vs x pushed waits = record { added = x.0 ∷ []; order = numbers_push xs ys x pushed; waits = numbers_push ws vs x waits }
+
+pub added_on : (xs ws ys vs zs us : List ℕ) → AreAdded xs ws ys vs → AreAdded ys vs zs us → AreAdded xs ws zs us
+added_on xs ws ys vs zs us h k =
+    record {
+      added = h.added ++ k.added;
+      order = k.order ∙ ap (λ (ts : List ℕ). ts ++ k.added) h.order ∙ append_assoc xs h.added k.added;
+      waits = k.waits ∙ ap (λ (ts : List ℕ). ts ++ k.added) h.waits ∙ append_assoc ws h.added k.added;
+    }
+
+pub added_goes : (xs ws ys vs : List ℕ) → AreAdded xs ws ys vs → GoesOn xs ys
+added_goes xs ws ys vs h =
+    record {
+      longer = omega (arith, ap (λ (ts : List ℕ). length ts) h.order, length-append xs h.added);
+      same = λ j l. ap (λ (ts : List ℕ). get_or ts j 0) h.order ∙ get_or_append_left xs h.added 0 j l;
+    }
 
 -- going round a node: so many turns are done, and all that they cross is found
-pub record IsVisiting (maps : Rotations) (node : ℕ → ℕ) (allowed : ℕ → Bool) (turn : ℕ → ℕ) (bound root : ℕ) (before order : List ℕ) (from : List (Option DartName)) (first dart k : ℕ) : Type 0 where
+pub record IsVisiting (maps : Rotations) (node : ℕ → ℕ) (allowed : ℕ → Bool) (turn : ℕ → ℕ) (bound root : ℕ) (before waited order waiting : List ℕ) (from : List (Option DartName)) (first dart k : ℕ) : Type 0 where
   pub is_order : IsOrder maps node allowed bound root order from
-  pub grown : GoesOn before order
+  pub added : AreAdded before waited order waiting
   pub at : dart ≡ after_steps turn k first
   pub crossed : CrossedUpTo maps node allowed turn order first k
 
-pub visit_start : (maps : Rotations) (node : ℕ → ℕ) (allowed : ℕ → Bool) (turn : ℕ → ℕ) (bound root : ℕ) (order : List ℕ) (from : List (Option DartName)) (first : ℕ)
-    → IsOrder maps node allowed bound root order from → IsVisiting maps node allowed turn bound root order order from first first 0
-visit_start maps node allowed turn bound root order from first h =
-    record { is_order = h; grown = goes_nowhere order; at = refl; crossed = λ i l passes. absurd (omega arith) }
+pub visit_start : (maps : Rotations) (node : ℕ → ℕ) (allowed : ℕ → Bool) (turn : ℕ → ℕ) (bound root : ℕ) (order waiting : List ℕ) (from : List (Option DartName)) (first : ℕ)
+    → IsOrder maps node allowed bound root order from
+    → IsVisiting maps node allowed turn bound root order waiting order waiting from first first 0
+visit_start maps node allowed turn bound root order waiting from first h =
+    record { is_order = h; added = added_none order waiting; at = refl; crossed = λ i l passes. absurd (omega arith) }
 
-pub visit_more : (maps : Rotations) (node : ℕ → ℕ) (allowed : ℕ → Bool) (turn : ℕ → ℕ) (bound root : ℕ) (before order new : List ℕ) (from kept : List (Option DartName)) (first dart next k : ℕ)
-    → IsVisiting maps node allowed turn bound root before order from first dart k → IsOrder maps node allowed bound root new kept → GoesOn order new
-    → (allowed (maps.edge dart) ≡ true → IsFound node new (node (maps.twin dart))) → next ≡ turn dart
-    → IsVisiting maps node allowed turn bound root before new kept first next (k + 1)
-visit_more maps node allowed turn bound root before order new from kept first dart next k h is goes here turned =
-    let more : k + 1 ≡ suc k = omega arith in
+pub visit_more : (maps : Rotations) (node : ℕ → ℕ) (allowed : ℕ → Bool) (turn : ℕ → ℕ) (bound root : ℕ)
+    (before waited order waiting new more : List ℕ) (from kept : List (Option DartName)) (first dart next k : ℕ)
+    → IsVisiting maps node allowed turn bound root before waited order waiting from first dart k → IsOrder maps node allowed bound root new kept
+    → AreAdded order waiting new more → (allowed (maps.edge dart) ≡ true → IsFound node new (node (maps.twin dart))) → next ≡ turn dart
+    → IsVisiting maps node allowed turn bound root before waited new more kept first next (k + 1)
+visit_more maps node allowed turn bound root before waited order waiting new more from kept first dart next k h is adds here turned =
+    let step : k + 1 ≡ suc k = omega arith in
     record {
       is_order = is;
-      grown = goes_on_on before order new h.grown goes;
-      at = turned ∙ ap turn h.at ∙ ap (λ j. after_steps turn j first) (sym more);
-      crossed = crossed_more maps node allowed turn order new first k goes h.crossed
+      added = added_on before waited order waiting new more h.added adds;
+      at = turned ∙ ap turn h.at ∙ ap (λ j. after_steps turn j first) (sym step);
+      crossed = crossed_more maps node allowed turn order new first k (added_goes order waiting new more adds) h.crossed
           (subst (λ d. allowed (maps.edge d) ≡ true → IsFound node new (node (maps.twin d))) h.at here);
     }
 
@@ -324,14 +340,15 @@ pub visit_within : (maps : Rotations) (node : ℕ → ℕ) (turn : ℕ → ℕ) 
     → dart ≡ after_steps turn k first → dart < maps.darts
 visit_within maps node turn first dart k t l at = subst (λ d. d < maps.darts) (sym at) (steps_within maps.darts turn t.permutes k first l)
 
-pub visit_found : (maps : Rotations) (node : ℕ → ℕ) (allowed : ℕ → Bool) (turn : ℕ → ℕ) (bound root : ℕ) (before order : List ℕ) (from : List (Option DartName)) (first dart k : ℕ)
+pub visit_found : (maps : Rotations) (node : ℕ → ℕ) (allowed : ℕ → Bool) (turn : ℕ → ℕ) (bound root : ℕ)
+    (before waited order waiting : List ℕ) (from : List (Option DartName)) (first dart k : ℕ)
     → IsTurning maps node turn → first < maps.darts → IsFound node before (node first)
-    → IsVisiting maps node allowed turn bound root before order from first dart k → IsFound node order (node dart)
-visit_found maps node allowed turn bound root before order from first dart k t l found h =
+    → IsVisiting maps node allowed turn bound root before waited order waiting from first dart k → IsFound node order (node dart)
+visit_found maps node allowed turn bound root before waited order waiting from first dart k t l found h =
     let same : node dart ≡ node first =
     ap node h.at
     ∙ reached_keeps maps.darts turn node t.permutes t.keeps first (after_steps turn k first) l (record { steps = k; leads = refl }) in
-    subst (IsFound node order) (sym same) (found_on node before order (node first) h.grown found)
+    subst (IsFound node order) (sym same) (found_on node before order (node first) (added_goes before waited order waiting h.added) found)
 
 -- the order and its bound
 pub rebound : (maps : Rotations) (node : ℕ → ℕ) (allowed : ℕ → Bool) (bound other root : ℕ) (order : List ℕ) (from : List (Option DartName)) → bound ≡ other

@@ -110,7 +110,7 @@ spans maps node allowed bound root edges is_node from old inside r n f l m none 
 -- the parts of a split that is made so
 pub record IsMade (s : OrientedMesh) (k0 k1 k2 : List Kind) (p q t : List (Option DartName)) (below : List (Option FaceName)) (start : ℕ) : Type 0 where
   pub first : k0 ≡ replicate (length s.table) Left
-  pub tree : IsSearched (rotations_of s) (rotations_of s).origin (has_kind k0 Left) s.mesh.count ((rotations_of s).origin 0) p
+  pub tree : IsSearched (rotations_of s) (rotations_of s).origin (λ e. true) s.mesh.count ((rotations_of s).origin 0) p
   pub marked : IsMarked (rotations_of s) p Tree k0 k1 (length p)
   pub cotree : IsSearched (rotations_of s) (rotations_of s).face (has_kind k1 Left) (length s.mesh.faces) ((rotations_of s).face 0) q
   pub crossed : IsMarked (rotations_of s) q Cotree k1 k2 (length q)
@@ -127,19 +127,19 @@ all_left s k0 e is l = ap (λ (ks : List Kind). get_or ks e Tree) is ∙ get_or-
 
 pub tree_found : (s : OrientedMesh) → IsOrientedSurface s → (k0 : List Kind) (p : List (Option DartName))
     → k0 ≡ replicate (length s.table) Left
-    → IsSearched (rotations_of s) (rotations_of s).origin (has_kind k0 Left) s.mesh.count ((rotations_of s).origin 0) p
-    → FindsAll (rotations_of s) (rotations_of s).origin (has_kind k0 Left) s.mesh.count ((rotations_of s).origin 0) p
+    → IsSearched (rotations_of s) (rotations_of s).origin (λ e. true) s.mesh.count ((rotations_of s).origin 0) p
+    → FindsAll (rotations_of s) (rotations_of s).origin (λ e. true) s.mesh.count ((rotations_of s).origin 0) p
 tree_found s h k0 p is searched =
-    vertices_found (rotations_of s) (has_kind k0 Left) s.mesh.count 0 p (rotation_system s h) (some_dart s h) searched
-    (λ d l. ap (λ k. same_kind k Left) (all_left s k0 ((rotations_of s).edge d) is ((names_all s h).edge_below d l)))
+    vertices_found (rotations_of s) (λ e. true) s.mesh.count 0 p (rotation_system s h) (some_dart s h) searched
+    (λ d l. refl)
 
 tree_spans : (s : OrientedMesh) → IsOrientedSurface s → (k0 k1 : List Kind) (p : List (Option DartName))
     → k0 ≡ replicate (length s.table) Left
-    → FindsAll (rotations_of s) (rotations_of s).origin (has_kind k0 Left) s.mesh.count ((rotations_of s).origin 0) p → IsMarked (rotations_of s) p Tree k0 k1 (length p)
+    → FindsAll (rotations_of s) (rotations_of s).origin (λ e. true) s.mesh.count ((rotations_of s).origin 0) p → IsMarked (rotations_of s) p Tree k0 k1 (length p)
     → IsSpanningTree (rotations_of s) (rotations_of s).origin (is_used s.mesh) s.mesh.count (length s.table) (has_kind k1 Tree)
 tree_spans s h k0 k1 p is f m =
     let long : length k0 ≡ length s.table = ap (λ (ks : List Kind). length ks) is ∙ length-replicate (length s.table) Left in
-    spans (rotations_of s) (rotations_of s).origin (has_kind k0 Left) s.mesh.count ((rotations_of s).origin 0) (length s.table) (is_used s.mesh) p
+    spans (rotations_of s) (rotations_of s).origin (λ e. true) s.mesh.count ((rotations_of s).origin 0) (length s.table) (is_used s.mesh) p
     (has_kind k0 Tree) (has_kind k1 Tree) (rotation_system s h) (vertex_nodes s (names_all s h)) f ((names_all s h).vertex_below 0 (some_dart s h))
     (subst (λ n. AreMarked (rotations_of s) p n (has_kind k0 Tree) (has_kind k1 Tree) (length p)) long m.sets)
     (λ e l. ap (λ k. same_kind k Tree) (all_left s k0 e is l))
@@ -152,7 +152,7 @@ left_after s k0 k1 p e is m l out = ap (λ k. same_kind k Left) (m.others e out 
 
 pub cotree_found : (s : OrientedMesh) → IsOrientedSurface s → (k0 k1 : List Kind) (p q : List (Option DartName))
     → k0 ≡ replicate (length s.table) Left
-    → FindsAll (rotations_of s) (rotations_of s).origin (has_kind k0 Left) s.mesh.count ((rotations_of s).origin 0) p → IsMarked (rotations_of s) p Tree k0 k1 (length p)
+    → FindsAll (rotations_of s) (rotations_of s).origin (λ e. true) s.mesh.count ((rotations_of s).origin 0) p → IsMarked (rotations_of s) p Tree k0 k1 (length p)
     → IsSearched (rotations_of s) (rotations_of s).face (has_kind k1 Left) (length s.mesh.faces) ((rotations_of s).face 0) q
     → FindsAll (rotations_of s) (rotations_of s).face (has_kind k1 Left) (length s.mesh.faces) ((rotations_of s).face 0) q
 cotree_found s h k0 k1 p q is f m searched =
@@ -255,13 +255,13 @@ split_parents s h k0 k1 k2 p q t below start genus m =
     let maps : Rotations = rotations_of s in
     let names : NamesAll s = names_all s h in
     let root : ℕ = maps.origin 0 in
-    let f : FindsAll maps maps.origin (has_kind k0 Left) s.mesh.count root p = tree_found s h k0 p m.first m.tree in
+    let f : FindsAll maps maps.origin (λ e. true) s.mesh.count root p = tree_found s h k0 p m.first m.tree in
     let g = cotree_found s h k0 k1 p q m.first f m.marked m.cotree in
     let n = vertex_nodes s names in
     let split : SplitView = made_split k2 p below (maps.face start) genus in
     let kept : ℕ → Bool = λ w. is_some (back_at p w) in
     let read : (v : ℕ) → get_or (dart_options p) v None ≡ back_at p v = options_read (λ (d : DartName). d.0) p in
-    let used : (v : ℕ) → v < s.mesh.count → is_used s.mesh v ≡ with_one kept root v = kept_nodes maps maps.origin (has_kind k0 Left) s.mesh.count root (length s.table) (is_used s.mesh) p n f in
+    let used : (v : ℕ) → v < s.mesh.count → is_used s.mesh v ≡ with_one kept root v = kept_nodes maps maps.origin (λ e. true) s.mesh.count root (length s.table) (is_used s.mesh) p n f in
     record {
       root = root;
       root_used = names.vertex_used 0 (some_dart s h);
@@ -277,7 +277,7 @@ split_parents s h k0 k1 k2 p q t below start genus m =
         λ either. elim (option_cases (back_at p v)) [
           | inl none ↦ read v ∙ none
           | inr some ↦ elim either [
-            | inl at_root ↦ absurd (root_not_kept maps maps.origin (has_kind k0 Left) s.mesh.count root f.order p some.0 f.is_order (ap (back_at p) (sym at_root) ∙ some.1))
+            | inl at_root ↦ absurd (root_not_kept maps maps.origin (λ e. true) s.mesh.count root f.order p some.0 f.is_order (ap (back_at p) (sym at_root) ∙ some.1))
             | inr out ↦ absurd (both_ways (is_used s.mesh v) out (used v l ∙ with_keeps kept root v (ap is_some some.1)))
           ]
         ],
@@ -289,11 +289,11 @@ split_parents s h k0 k1 k2 p q t below start genus m =
           let some : back_at p v ≡ Some dart = sym (read v) ∙ e in
           tree_kind (get_or k2 (maps.edge dart) Tree)
           ∙ tree_stays s k1 k2 q (length s.mesh.faces) (maps.face 0) m.crossed g (maps.edge dart)
-          ∙ m.marked.sets.marked v dart (kept_below maps maps.origin (has_kind k0 Left) s.mesh.count root (length s.table) (is_used s.mesh) p v dart n f some) some;
+          ∙ m.marked.sets.marked v dart (kept_below maps maps.origin (λ e. true) s.mesh.count root (length s.table) (is_used s.mesh) p v dart n f some) some;
       to_root = λ v is.
           let dart = names.each_vertex v is in
           subst (λ u. AreJoined (StepsToParent maps split) u root) dart.2
-          (all_to_root (StepsToParent maps split) maps maps.origin (has_kind k0 Left) s.mesh.count root p f
+          (all_to_root (StepsToParent maps split) maps maps.origin (λ e. true) s.mesh.count root p f
           (λ u x e. (x, record { is_parent = read u ∙ e; ends = refl })) dart.0 dart.1);
     }
 

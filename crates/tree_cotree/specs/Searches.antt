@@ -1,6 +1,6 @@
 -- A search over the vertices or over the faces of a surface, across allowed edges: the nodes in the order in which they are found, each
 -- by a dart of it that leads back to one found before.
-use Rattle.std.specs.Prelude.{◌≡◌, ◌≢◌, ℕ, ◌<◌, ◌≤◌, true, false, Bool, List, length, slice_index, slice_index_or, Option, Some, None}
+use Rattle.std.specs.Prelude.{◌≡◌, ◌≢◌, ℕ, ◌<◌, ◌≤◌, true, false, Bool, List, ◌++◌, length, slice_index, slice_index_or, Option, Some, None}
 use Rattle.std.specs.Option.{option_map}
 use Rattle.surf_model.specs.declared.names.DartName.{DartName}
 use Rattle.halfedge_map.specs.RotationSystems.{Rotations, around}
@@ -8,6 +8,8 @@ use Rattle.tree_cotree.specs.declared.split.Kind.{Kind}
 use Rattle.tree_cotree.specs.declared.split.Kind.TheVariants.{Tree, Cotree, Left}
 use Rattle.tree_cotree.specs.declared.search.Nodes.{Nodes}
 use Rattle.tree_cotree.specs.declared.search.Nodes.TheVariants.{Vertices, Faces}
+use Rattle.tree_cotree.specs.declared.search.Edges.{Edges}
+use Rattle.tree_cotree.specs.declared.search.Edges.TheVariants.{Every, OfKind}
 
 -- the node that a dart belongs to: where it starts, or its face
 abbrev pub node_of : Nodes → Rotations → ℕ → ℕ
@@ -67,10 +69,11 @@ pub record IsSearched (maps : Rotations) (node : ℕ → ℕ) (allowed : ℕ →
   pub is_order : IsOrder maps node allowed bound root order from
   pub closed : (j : ℕ) → j < length order → IsCrossed maps node allowed order (node (slice_index order j))
 
--- an order goes on from another
-pub record GoesOn (old new : List ℕ) : Type 0 where
-  pub longer : length old ≤ length new
-  pub same : (j : ℕ) → j < length old → slice_index new j ≡ slice_index old j
+-- the darts of the nodes found since are put last, both to the order and to those that wait
+pub record AreAdded (old waited new waiting : List ℕ) : Type 0 where
+  pub added : List ℕ
+  pub order : new ≡ old ++ added
+  pub waits : waiting ≡ waited ++ added
 
 -- whether two kinds are one
 abbrev pub same_kind : Kind → Kind → Bool
@@ -82,6 +85,11 @@ same_kind _ _ = false
 -- the edges of a kind
 abbrev pub has_kind : List Kind → Kind → ℕ → Bool
 has_kind kinds kind e = same_kind (slice_index_or kinds e Tree) kind
+
+-- the edges that a search may cross
+abbrev pub is_allowed : Edges → List Kind → ℕ → Bool
+is_allowed Every kinds = λ e. true
+is_allowed (OfKind kind) kinds = has_kind kinds kind
 
 -- each dart belongs to a node below the bound
 abbrev pub AreBelow : Rotations → (ℕ → ℕ) → ℕ → Type 0

@@ -1,15 +1,16 @@
 //! A search over the vertices or the faces of a surface.
-ghost use Rattle.std.specs.Prelude.{◌≡◌, ◌<◌, ◌∷◌, true, length, slice_index, OnOk, IfOk};
+ghost use Rattle.std.specs.Prelude.{◌≡◌, ◌⊎◌, ◌<◌, [], ◌∷◌, ◌++◌, true, length, OnOk, IfOk, IfNone, IfSome};
 ghost use Rattle.halfedge_map.specs.OrientedMeshes.{IsOrientedSurface};
 ghost use Rattle.halfedge_map.specs.DartMaps.{darts_of};
 ghost use Rattle.halfedge_map.specs.RotationSystems.{rotations_of};
 ghost use Rattle.tree_cotree.specs.RingViews.{dart_numbers};
-ghost use Rattle.tree_cotree.specs.Searches.{node_of, turn_of, same_kind, has_kind};
-ghost use Rattle.tree_cotree.specs.Searches.{AreBelow, IsFound, IsOrder, IsCrossed, IsSearched, GoesOn};
+ghost use Rattle.tree_cotree.specs.Searches.{node_of, turn_of, same_kind, is_allowed};
+ghost use Rattle.tree_cotree.specs.Searches.{AreBelow, IsFound, IsOrder, IsCrossed, IsSearched, AreAdded};
 
 use crate::split::Kind;
 use halfedge_map::Surface;
 use std::alloc::{AllocError, Global};
+use std::collections::VecDeque;
 use surf_model::DartName;
 
 /// What a search goes over.
@@ -17,6 +18,22 @@ use surf_model::DartName;
 pub enum Nodes {
     Vertices,
     Faces,
+}
+
+/// Which of the nodes that wait comes next.
+#[derive(Clone, Copy, Debug, PartialEq, Eq)]
+pub enum Order {
+    /// The one that was found first: the ways in the tree are short.
+    FirstFound,
+    /// The one that was found last: neighbours in the mesh come one after another, which is much faster.
+    LastFound,
+}
+
+/// The edges that a search may cross.
+#[derive(Clone, Copy, Debug, PartialEq, Eq)]
+pub enum Edges {
+    Every,
+    OfKind(Kind),
 }
 
 /// The number of the node that a dart belongs to: the vertex where it starts, or its face.
@@ -54,20 +71,46 @@ pub(crate) fn is_same(kind: Kind, other: Kind) -> bool
     }
 }
 
-/// The darts of a search, in the order in which their nodes were found, and the dart of each node but the first.
+/// Whether a search may cross the edge of a dart.
+fn may_cross(edges: Edges, kinds: &[Kind], surface: &Surface, dart: DartName) -> bool
+    requires kinds { length kinds.now ≡ length surface.now.table }
+    requires dart { dart.0 < darts_of surface.now }
+    ensures { result ≡ is_allowed edges kinds.now ((rotations_of surface.now).edge dart.0) }
+{
+    match edges {
+        Edges::Every => true,
+        Edges::OfKind(kind) => is_same(kinds[surface.edge_of(dart).0 as usize], kind),
+    }
+}
+
+/// The darts of a search in the order in which their nodes were found, those of them that wait for what lies round their
+/// nodes, and the dart of each node but the first.
 #[derive(Drop)]
 struct Search {
     order: Vec<DartName>,
+    waiting: VecDeque<DartName>,
     from: Vec<Option<DartName>>,
 }
 
-/// Goes across the edge of a dart, if it is of the kind that is allowed, and keeps the node beyond it, if it is new.
+/// The dart that comes next leaves those that wait.
+fn take(waiting: &mut VecDeque<DartName>, order: Order) -> Option<DartName>
+    ensures none { IfNone result (waiting.old.items ≡ []) }
+    ensures some { IfSome result (λ dart. (waiting.old.items ≡ dart ∷ waiting.new.items)
+        ⊎ (waiting.old.items ≡ waiting.new.items ++ dart ∷ [])) }
+{
+    match order {
+        Order::FirstFound => waiting.pop_front(),
+        Order::LastFound => waiting.pop_back(),
+    }
+}
+
+/// Goes across the edge of a dart, if it may be crossed, and keeps the node beyond it, if it is new.
 fn cross(
     search: &mut Search,
     surface: &Surface,
     nodes: Nodes,
     kinds: &[Kind],
-    allowed: Kind,
+    edges: Edges,
     root: u32,
     dart: DartName,
 ) -> Result<(), AllocError>
@@ -77,16 +120,17 @@ fn cross(
     requires dart { dart.0 < darts_of surface.now }
     requires found { IsFound (node_of nodes (rotations_of surface.now)) (dart_numbers search.old.order.items)
         (node_of nodes (rotations_of surface.now) dart.0) }
-    requires order { IsOrder (rotations_of surface.now) (node_of nodes (rotations_of surface.now)) (has_kind kinds.now allowed)
+    requires order { IsOrder (rotations_of surface.now) (node_of nodes (rotations_of surface.now)) (is_allowed edges kinds.now)
         (length search.old.from.items) root (dart_numbers search.old.order.items) search.old.from.items }
-    ensures order { OnOk result (IsOrder (rotations_of surface.now) (node_of nodes (rotations_of surface.now)) (has_kind kinds.now allowed)
+    ensures order { OnOk result (IsOrder (rotations_of surface.now) (node_of nodes (rotations_of surface.now)) (is_allowed edges kinds.now)
         (length search.old.from.items) root (dart_numbers search.new.order.items) search.new.from.items) }
-    ensures grown { OnOk result (GoesOn (dart_numbers search.old.order.items) (dart_numbers search.new.order.items)) }
-    ensures crossed { OnOk result (has_kind kinds.now allowed ((rotations_of surface.now).edge dart.0) ≡ true
+    ensures added { OnOk result (AreAdded (dart_numbers search.old.order.items) (dart_numbers search.old.waiting.items)
+        (dart_numbers search.new.order.items) (dart_numbers search.new.waiting.items)) }
+    ensures crossed { OnOk result (is_allowed edges kinds.now ((rotations_of surface.now).edge dart.0) ≡ true
         → IsFound (node_of nodes (rotations_of surface.now)) (dart_numbers search.new.order.items)
         (node_of nodes (rotations_of surface.now) ((rotations_of surface.now).twin dart.0))) }
 {
-    if !is_same(kinds[surface.edge_of(dart).0 as usize], allowed) {
+    if !may_cross(edges, kinds, surface, dart) {
         return Ok(());
     }
     let back = surface.twin(dart);
@@ -95,17 +139,18 @@ fn cross(
         return Ok(());
     }
     search.order.push(back)?;
+    search.waiting.push_back(back)?;
     search.from[across as usize] = Some(back);
     Ok(())
 }
 
-/// Goes round the node of a dart and across all its edges of the kind that is allowed.
+/// Goes round the node of a dart and across all its edges that may be crossed.
 fn visit(
     search: &mut Search,
     surface: &Surface,
     nodes: Nodes,
     kinds: &[Kind],
-    allowed: Kind,
+    edges: Edges,
     root: u32,
     first: DartName,
 ) -> Result<(), AllocError>
@@ -114,17 +159,18 @@ fn visit(
     requires dart { first.0 < darts_of surface.now }
     requires found { IsFound (node_of nodes (rotations_of surface.now)) (dart_numbers search.old.order.items)
         (node_of nodes (rotations_of surface.now) first.0) }
-    requires order { IsOrder (rotations_of surface.now) (node_of nodes (rotations_of surface.now)) (has_kind kinds.now allowed)
+    requires order { IsOrder (rotations_of surface.now) (node_of nodes (rotations_of surface.now)) (is_allowed edges kinds.now)
         (length search.old.from.items) root (dart_numbers search.old.order.items) search.old.from.items }
-    ensures order { OnOk result (IsOrder (rotations_of surface.now) (node_of nodes (rotations_of surface.now)) (has_kind kinds.now allowed)
+    ensures order { OnOk result (IsOrder (rotations_of surface.now) (node_of nodes (rotations_of surface.now)) (is_allowed edges kinds.now)
         (length search.old.from.items) root (dart_numbers search.new.order.items) search.new.from.items) }
-    ensures grown { OnOk result (GoesOn (dart_numbers search.old.order.items) (dart_numbers search.new.order.items)) }
+    ensures added { OnOk result (AreAdded (dart_numbers search.old.order.items) (dart_numbers search.old.waiting.items)
+        (dart_numbers search.new.order.items) (dart_numbers search.new.waiting.items)) }
     ensures crossed { OnOk result (IsCrossed (rotations_of surface.now) (node_of nodes (rotations_of surface.now))
-        (has_kind kinds.now allowed) (dart_numbers search.new.order.items) (node_of nodes (rotations_of surface.now) first.0)) }
+        (is_allowed edges kinds.now) (dart_numbers search.new.order.items) (node_of nodes (rotations_of surface.now) first.0)) }
 {
     let mut dart = first;
     for _turn in 0..surface.darts() {
-        cross(search, surface, nodes, kinds, allowed, root, dart)?;
+        cross(search, surface, nodes, kinds, edges, root, dart)?;
         dart = turn(nodes, surface, dart);
         if dart == first {
             return Ok(());
@@ -133,33 +179,34 @@ fn visit(
     Ok(())
 }
 
-/// Searches from the node of a dart across all edges of a kind. It gives for each node but the root a dart that leads back.
+/// Searches from the node of a dart across all edges that may be crossed. It gives for each node but the root a dart that
+/// leads back.
 pub(crate) fn search_over(
     alloc: Global,
     surface: &Surface,
     nodes: Nodes,
+    order: Order,
     bound: u32,
     kinds: &[Kind],
-    allowed: Kind,
+    edges: Edges,
     start: DartName,
 ) -> Result<Vec<Option<DartName>>, AllocError>
     requires kinds { length kinds.now ≡ length surface.now.table }
     requires below { AreBelow (rotations_of surface.now) (node_of nodes (rotations_of surface.now)) bound }
     requires dart { start.0 < darts_of surface.now }
     ensures { IfOk result (λ from. IsSearched (rotations_of surface.now) (node_of nodes (rotations_of surface.now))
-        (has_kind kinds.now allowed) bound (node_of nodes (rotations_of surface.now) start.0) from.items) }
+        (is_allowed edges kinds.now) bound (node_of nodes (rotations_of surface.now) start.0) from.items) }
 {
     let mut search = Search {
         order: Vec::with_capacity(alloc, bound as usize)?,
+        waiting: VecDeque::new(alloc),
         from: vec![in alloc; None; bound as usize]?,
     };
     search.order.push(start)?;
+    search.waiting.push_back(start)?;
     let root = node(nodes, surface, start);
-    let mut at = 0;
-    while at < search.order.len() {
-        let first = search.order[at];
-        visit(&mut search, surface, nodes, kinds, allowed, root, first)?;
-        at += 1;
+    while let Some(first) = take(&mut search.waiting, order) {
+        visit(&mut search, surface, nodes, kinds, edges, root, first)?;
     }
     Ok(search.from)
 }

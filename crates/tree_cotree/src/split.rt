@@ -4,7 +4,7 @@ ghost use Rattle.std.specs.Option.{option_map};
 ghost use Rattle.tree_cotree.specs.Splits.{IsSplit};
 
 use crate::marking::{faces_below, leftover_dart, leftover_edges, mark};
-use crate::search::{Nodes, search_over};
+use crate::search::{Edges, Nodes, Order, search_over};
 use halfedge_map::Surface;
 use std::alloc::{AllocError, Global};
 use std::marker::Model;
@@ -96,9 +96,10 @@ pub fn split_edges(alloc: Global, surface: &Surface) -> Result<Split, AllocError
         alloc,
         surface,
         Nodes::Vertices,
+        Order::FirstFound,
         surface.faces().count(),
         &kinds,
-        Kind::Left,
+        Edges::Every,
         DartName(0),
     )?;
     mark(&mut kinds, surface, &parents, Kind::Tree);
@@ -106,9 +107,10 @@ pub fn split_edges(alloc: Global, surface: &Surface) -> Result<Split, AllocError
         alloc,
         surface,
         Nodes::Faces,
+        Order::LastFound,
         faces,
         &kinds,
-        Kind::Left,
+        Edges::OfKind(Kind::Left),
         DartName(0),
     )?;
     mark(&mut kinds, surface, &across, Kind::Cotree);
@@ -119,9 +121,10 @@ pub fn split_edges(alloc: Global, surface: &Surface) -> Result<Split, AllocError
         alloc,
         surface,
         Nodes::Faces,
+        Order::LastFound,
         faces,
         &kinds,
-        Kind::Cotree,
+        Edges::OfKind(Kind::Cotree),
         start,
     )?;
     let child_faces = faces_below(alloc, surface, &hanging)?;

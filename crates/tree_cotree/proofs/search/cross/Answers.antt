@@ -2,7 +2,7 @@ use Rattle.std.proofs.Common.{◌≡◌, ◌<◌, ℕ, true, List, length, ap, s
 use Rattle.halfedge_map.specs.RotationSystems.{Rotations, rotations_of}
 use Rattle.halfedge_map.proofs.SystemLemmas.{rotation_system}
 use Rattle.tree_cotree.specs.RingViews.{dart_numbers}
-use Rattle.tree_cotree.specs.Searches.{node_of, has_kind, IsFound}
+use Rattle.tree_cotree.specs.Searches.{node_of, is_allowed, IsFound}
 use Rattle.tree_cotree.proofs.SearchLemmas.{IsNewDart, root_found, kept_found, none_kept, order_pushed, found_pushed}
 use Rattle.tree_cotree.proofs.search.cross.Goals.{then-across-root-via-then-across-root, then-across-root-via-else-across-root+then-is_some}
 use Rattle.tree_cotree.proofs.search.cross.Goals as goal
@@ -17,9 +17,9 @@ returns-then-across-root-clause-crossed c =
     let below : c.node-across.result < length from = rw across (c.requires.below (maps.twin c.args.dart.0) ((rotation_system c.args.surface.now c.requires.valid).twin_within c.args.dart.0 c.requires.dart)) in
     λ passes. subst (IsFound node order) across (elim c.then-across-root.branch [
       | then-across-root-via-then-across-root w ↦
-          root_found maps node (has_kind c.args.kinds.now c.args.allowed) (length from) c.args.root order from c.node-across.result c.requires.order w.if-across-root.true
+          root_found maps node (is_allowed c.args.edges c.args.kinds.now) (length from) c.args.root order from c.node-across.result c.requires.order w.if-across-root.true
       | then-across-root-via-else-across-root+then-is_some w ↦
-          kept_found maps node (has_kind c.args.kinds.now c.args.allowed) (length from) c.args.root order from c.node-across.result w.index.result.now c.requires.order
+          kept_found maps node (is_allowed c.args.edges c.args.kinds.now) (length from) c.args.root order from c.node-across.result w.index.result.now c.requires.order
           below w.index.ensures (sym w.is_some.ensures ∙ w.if-is_some.true)
     ])
 
@@ -30,16 +30,16 @@ returns-clause-order c =
     let d : ℕ = c.args.dart.0 in
     let order : List ℕ = dart_numbers c.args.search.now.order.items in
     let from = c.args.search.now.from.items in
-    let allowed = has_kind c.args.kinds.now c.args.allowed in
+    let allowed = is_allowed c.args.edges c.args.kinds.now in
     let system = rotation_system c.args.surface.now c.requires.valid in
     let across : c.node-across.result ≡ node (maps.twin d) = c.node-across.ensures ∙ ap node c.twin-back.ensures.twin in
     let below : node (maps.twin d) < length from = c.requires.below (maps.twin d) (system.twin_within d c.requires.dart) in
-    let same : c.is_same.result ≡ true = search rules in
+    let same : c.may_cross.result ≡ true = search rules in
     let none = none_kept from c.node-across.result c.index.result.now (rw across below) c.index.ensures (sym c.is_some.ensures ∙ c.if-is_some.false) in
     let new : IsNewDart maps node allowed (length from) c.args.root order from d = record {
       dart = c.requires.dart;
       from_found = c.requires.found;
-      crosses = ap allowed (sym c.edge_of.ensures.edge) ∙ sym c.is_same.ensures ∙ same;
+      crosses = sym c.may_cross.ensures ∙ same;
       below = below;
       not_root = λ e. c.if-across-root.false (across ∙ e);
       none_kept = rw across at none;

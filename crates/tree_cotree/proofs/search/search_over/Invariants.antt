@@ -1,18 +1,15 @@
-use Rattle.std.proofs.Common.{◌-◌, ◌<◌, ◌≤◌, ℕ, length, get_or}
+use Rattle.std.proofs.Common.{◌+◌, ◌-◌, length}
 use Rattle.halfedge_map.specs.RotationSystems.{rotations_of}
 use Rattle.tree_cotree.specs.RingViews.{dart_numbers}
-use Rattle.tree_cotree.specs.Searches.{node_of, has_kind, IsOrder, IsCrossed}
+use Rattle.tree_cotree.specs.Searches.{node_of, is_allowed}
+use Rattle.tree_cotree.proofs.WaitingLemmas.{IsUnderway}
 use Rattle.tree_cotree.proofs.search.search_over.Given as goal
 
-abbrev pub invariant-loop-at : goal.invariant-loop-at
-invariant-loop-at l = record {
-  is_order : IsOrder (rotations_of l.surface) (node_of l.nodes (rotations_of l.surface)) (has_kind l.kinds l.allowed) l.bound l.root
-      (dart_numbers l.search.order.items) l.search.from.items;
-  reached : l.at ≤ length l.search.order.items;
-  crossed : (j : ℕ) → j < l.at
-      → IsCrossed (rotations_of l.surface) (node_of l.nodes (rotations_of l.surface)) (has_kind l.kinds l.allowed) (dart_numbers l.search.order.items)
-      (node_of l.nodes (rotations_of l.surface) (get_or (dart_numbers l.search.order.items) j 0));
-}
+abbrev pub invariant-loop-first : goal.invariant-loop-first
+invariant-loop-first l =
+    IsUnderway (rotations_of l.surface) (node_of l.nodes (rotations_of l.surface)) (is_allowed l.edges l.kinds) l.bound l.root
+    (dart_numbers l.search.order.items) (dart_numbers l.search.waiting.items) l.search.from.items
 
-abbrev pub decreases-loop-at : goal.decreases-loop-at
-decreases-loop-at l = l.bound - l.at
+-- each node waits once at most
+abbrev pub decreases-loop-first : goal.decreases-loop-first
+decreases-loop-first l = l.bound - length l.search.order.items + length l.search.waiting.items

@@ -2,15 +2,15 @@ use Rattle.std.proofs.Common.{◌≡◌, ◌+◌, ◌≤◌, ℕ, List, length, 
 use Rattle.std.proofs.lemmas.Bool.{eqb-true}
 use Rattle.halfedge_map.specs.RotationSystems.{Rotations, rotations_of}
 use Rattle.tree_cotree.specs.RingViews.{dart_numbers}
-use Rattle.tree_cotree.specs.Searches.{node_of, turn_of, has_kind, AreBelow}
-use Rattle.tree_cotree.proofs.SearchLemmas.{IsVisiting, turning, visit_start, visit_more, visit_within, visit_found, rebound, crossed_round, crossed_all}
+use Rattle.tree_cotree.specs.Searches.{node_of, turn_of, is_allowed, AreBelow}
+use Rattle.tree_cotree.proofs.SearchLemmas.{IsVisiting, turning, visit_start, visit_more, visit_within, visit_found, rebound, added_on, crossed_round, crossed_all}
 use Rattle.tree_cotree.proofs.search.visit.Goals as goal
 
 pub loop-turn-init : goal.loop-turn-init
 loop-turn-init c =
     let maps : Rotations = rotations_of c.args.surface.now in
-    visit_start maps (node_of c.args.nodes maps) (has_kind c.args.kinds.now c.args.allowed) (turn_of c.args.nodes maps) (length c.args.search.now.from.items) c.args.root
-    (dart_numbers c.args.search.now.order.items) c.args.search.now.from.items c.args.first.0 c.requires.order
+    visit_start maps (node_of c.args.nodes maps) (is_allowed c.args.edges c.args.kinds.now) (turn_of c.args.nodes maps) (length c.args.search.now.from.items) c.args.root
+    (dart_numbers c.args.search.now.order.items) (dart_numbers c.args.search.now.waiting.items) c.args.search.now.from.items c.args.first.0 c.requires.order
 
 pub cross-requires-clause-below : goal.cross-requires-clause-below
 cross-requires-clause-below c =
@@ -26,14 +26,15 @@ cross-requires-clause-dart c =
 pub cross-requires-clause-found : goal.cross-requires-clause-found
 cross-requires-clause-found c =
     let maps : Rotations = rotations_of c.args.surface.now in
-    visit_found maps (node_of c.args.nodes maps) (has_kind c.args.kinds.now c.args.allowed) (turn_of c.args.nodes maps) (length c.args.search.now.from.items) c.args.root
-    (dart_numbers c.args.search.now.order.items) (dart_numbers c.loop-turn.search.order.items) c.loop-turn.search.from.items c.args.first.0 c.loop-turn.dart.0 c.loop-turn._turn
+    visit_found maps (node_of c.args.nodes maps) (is_allowed c.args.edges c.args.kinds.now) (turn_of c.args.nodes maps) (length c.args.search.now.from.items) c.args.root
+    (dart_numbers c.args.search.now.order.items) (dart_numbers c.args.search.now.waiting.items) (dart_numbers c.loop-turn.search.order.items)
+    (dart_numbers c.loop-turn.search.waiting.items) c.loop-turn.search.from.items c.args.first.0 c.loop-turn.dart.0 c.loop-turn._turn
     (turning c.args.surface.now c.darts-turn-end.ensures.valid c.args.nodes) c.requires.dart c.requires.found c.loop-turn.invariant
 
 pub cross-requires-clause-order : goal.cross-requires-clause-order
 cross-requires-clause-order c =
     let maps : Rotations = rotations_of c.args.surface.now in
-    rebound maps (node_of c.args.nodes maps) (has_kind c.args.kinds.now c.args.allowed) (length c.args.search.now.from.items) (length c.loop-turn.search.from.items) c.args.root
+    rebound maps (node_of c.args.nodes maps) (is_allowed c.args.edges c.args.kinds.now) (length c.args.search.now.from.items) (length c.loop-turn.search.from.items) c.args.root
     (dart_numbers c.loop-turn.search.order.items) c.loop-turn.search.from.items (sym c.loop-turn.invariant.is_order.long) c.loop-turn.invariant.is_order
 
 pub turn-dart-requires : goal.turn-dart-requires
@@ -46,38 +47,64 @@ pub loop-turn-preserved : goal.loop-turn-preserved
 loop-turn-preserved c =
     let maps : Rotations = rotations_of c.args.surface.now in
     let node : ℕ → ℕ = node_of c.args.nodes maps in
-    let allowed = has_kind c.args.kinds.now c.args.allowed in
+    let allowed = is_allowed c.args.edges c.args.kinds.now in
     let order : List ℕ = dart_numbers c.loop-turn.search.order.items in
+    let waiting : List ℕ = dart_numbers c.loop-turn.search.waiting.items in
     let new : List ℕ = dart_numbers c.cross.new.search.order.items in
-    visit_more maps node allowed (turn_of c.args.nodes maps) (length c.args.search.now.from.items) c.args.root (dart_numbers c.args.search.now.order.items) order new
+    let more : List ℕ = dart_numbers c.cross.new.search.waiting.items in
+    visit_more maps node allowed (turn_of c.args.nodes maps) (length c.args.search.now.from.items) c.args.root (dart_numbers c.args.search.now.order.items)
+    (dart_numbers c.args.search.now.waiting.items) order waiting new more
     c.loop-turn.search.from.items c.cross.new.search.from.items c.args.first.0 c.loop-turn.dart.0 c.turn-dart.result.0 c.loop-turn._turn c.loop-turn.invariant
     (rebound maps node allowed (length c.loop-turn.search.from.items) (length c.args.search.now.from.items) c.args.root new c.cross.new.search.from.items
     c.loop-turn.invariant.is_order.long c.in_ok-cross.ensures.order)
-    c.in_ok-cross.ensures.grown c.in_ok-cross.ensures.crossed c.turn-dart.ensures.turn
+    c.in_ok-cross.ensures.added c.in_ok-cross.ensures.crossed c.turn-dart.ensures.turn
 
 pub returns-then-eq-clause-crossed : goal.returns-then-eq-clause-crossed
 returns-then-eq-clause-crossed c =
     let maps : Rotations = rotations_of c.args.surface.now in
     let node : ℕ → ℕ = node_of c.args.nodes maps in
     let turn : ℕ → ℕ = turn_of c.args.nodes maps in
-    let allowed = has_kind c.args.kinds.now c.args.allowed in
+    let allowed = is_allowed c.args.edges c.args.kinds.now in
     let order : List ℕ = dart_numbers c.loop-turn.search.order.items in
+    let waiting : List ℕ = dart_numbers c.loop-turn.search.waiting.items in
     let new : List ℕ = dart_numbers c.cross.new.search.order.items in
+    let more : List ℕ = dart_numbers c.cross.new.search.waiting.items in
     let k : ℕ = c.loop-turn._turn in
-    let more : IsVisiting maps node allowed turn (length c.args.search.now.from.items) c.args.root (dart_numbers c.args.search.now.order.items) new
+    let visited : IsVisiting maps node allowed turn (length c.args.search.now.from.items) c.args.root (dart_numbers c.args.search.now.order.items)
+    (dart_numbers c.args.search.now.waiting.items) new more
     c.cross.new.search.from.items c.args.first.0 c.turn-dart.result.0 (k + 1) =
-    visit_more maps node allowed turn (length c.args.search.now.from.items) c.args.root (dart_numbers c.args.search.now.order.items) order new
+    visit_more maps node allowed turn (length c.args.search.now.from.items) c.args.root (dart_numbers c.args.search.now.order.items)
+    (dart_numbers c.args.search.now.waiting.items) order waiting new more
     c.loop-turn.search.from.items c.cross.new.search.from.items c.args.first.0 c.loop-turn.dart.0 c.turn-dart.result.0 k c.loop-turn.invariant
     (rebound maps node allowed (length c.loop-turn.search.from.items) (length c.args.search.now.from.items) c.args.root new c.cross.new.search.from.items
     c.loop-turn.invariant.is_order.long c.in_ok-cross.ensures.order)
-    c.in_ok-cross.ensures.grown c.in_ok-cross.ensures.crossed c.turn-dart.ensures.turn in
+    c.in_ok-cross.ensures.added c.in_ok-cross.ensures.crossed c.turn-dart.ensures.turn in
     let home : c.turn-dart.result.0 ≡ c.args.first.0 = eqb-true c.turn-dart.result.0 c.args.first.0 (sym c.eq.ensures ∙ c.if-eq.true) in
     crossed_round maps node allowed turn new c.args.first.0 (k + 1) (turning c.args.surface.now c.darts-turn-end.ensures.valid c.args.nodes) c.requires.dart
-    more.crossed (omega arith, sym more.at ∙ home)
+    visited.crossed (omega arith, sym visited.at ∙ home)
 
 pub returns-clause-crossed : goal.returns-clause-crossed
 returns-clause-crossed c =
     let maps : Rotations = rotations_of c.args.surface.now in
     let all : maps.darts ≤ c.loop-turn._turn = omega (arith, c.loop-turn-test.false, c.darts-turn-end.ensures.count) in
-    crossed_all maps (node_of c.args.nodes maps) (has_kind c.args.kinds.now c.args.allowed) (turn_of c.args.nodes maps) (dart_numbers c.loop-turn.search.order.items)
+    crossed_all maps (node_of c.args.nodes maps) (is_allowed c.args.edges c.args.kinds.now) (turn_of c.args.nodes maps) (dart_numbers c.loop-turn.search.order.items)
     c.args.first.0 c.loop-turn._turn (turning c.args.surface.now c.darts-turn-end.ensures.valid c.args.nodes) c.requires.dart c.loop-turn.invariant.crossed all
+
+pub returns-then-eq-clause-order : goal.returns-then-eq-clause-order
+returns-then-eq-clause-order c =
+    let maps : Rotations = rotations_of c.args.surface.now in
+    rebound maps (node_of c.args.nodes maps) (is_allowed c.args.edges c.args.kinds.now) (length c.loop-turn.search.from.items)
+    (length c.args.search.now.from.items) c.args.root (dart_numbers c.cross.new.search.order.items) c.cross.new.search.from.items
+    c.loop-turn.invariant.is_order.long c.in_ok-cross.ensures.order
+
+pub returns-then-eq-clause-added : goal.returns-then-eq-clause-added
+returns-then-eq-clause-added c =
+    added_on (dart_numbers c.args.search.now.order.items) (dart_numbers c.args.search.now.waiting.items) (dart_numbers c.loop-turn.search.order.items)
+    (dart_numbers c.loop-turn.search.waiting.items) (dart_numbers c.cross.new.search.order.items) (dart_numbers c.cross.new.search.waiting.items)
+    c.loop-turn.invariant.added c.in_ok-cross.ensures.added
+
+pub returns-clause-order : goal.returns-clause-order
+returns-clause-order c = c.loop-turn.invariant.is_order
+
+pub returns-clause-added : goal.returns-clause-added
+returns-clause-added c = c.loop-turn.invariant.added

@@ -1,4 +1,4 @@
-use Rattle.std.proofs.Common.{◌≡◌, ◌<◌, ◌/◌, ℕ, List, length, sym, ap, ◌∙◌, subst, rules}
+use Rattle.std.proofs.Common.{◌≡◌, ◌<◌, ◌/◌, ℕ, true, List, length, sym, ap, ◌∙◌, subst, rules}
 use Rattle.std.specs.Prelude.{Option, replicate}
 use Rattle.std.proofs.lemmas.List.{length-replicate}
 use Rattle.surf_model.specs.FaceLists.{FaceList}
@@ -29,7 +29,7 @@ mark-requires-clause-apart c =
     let maps : Rotations = rotations_of s in
     let searched = c.in_ok-parents.ensures in
     subst (AreApart maps) (sym c.deref-2.ensures.value)
-    (kept_apart maps maps.origin (has_kind c.deref.result.now Left) c.count.result (maps.origin 0) searched.order c.in_ok-parents.parents.items
+    (kept_apart maps maps.origin (λ e. true) c.count.result (maps.origin 0) searched.order c.in_ok-parents.parents.items
     (rotation_system s c.faces.ensures.valid) searched.is_order)
 
 pub mark-requires-clause-free : goal.mark-requires-clause-free

@@ -1,0 +1,173 @@
+-- The darts that wait while a search is underway: each found node is crossed, or a dart of it waits.
+use Rattle.std.proofs.Common.{◌≡◌, ◌⊎◌, inl, inr, ℕ, zero, suc, ◌+◌, ◌-◌, ◌<◌, ◌≤◌, Bool, true, false, List, [], ◌∷◌, ◌++◌, length, get_or, refl, ap, sym, ◌∙◌, subst, arith}
+use Rattle.std.specs.Prelude.{Option}
+use Rattle.std.proofs.lemmas.Bool.{cases_lt}
+use Rattle.std.proofs.lemmas.List.{length-append, length_push, get_or_append_left, get_or-append_right, get_or-append-add, map-append}
+use Rattle.surf_model.specs.declared.names.DartName.{DartName}
+use Rattle.halfedge_map.specs.RotationSystems.{Rotations}
+use Rattle.tree_cotree.specs.RingViews.{dart_numbers}
+use Rattle.tree_cotree.specs.Searches.{IsFound, IsOrder, IsCrossed, IsSearched, AreAdded}
+use Rattle.tree_cotree.proofs.SearchLemmas.{GoesOn, added_goes, crossed_on}
+
+-- a number stands in a list
+pub record IsAmong (xs : List ℕ) (x : ℕ) : Type 0 where
+  pub place : ℕ
+  pub within : place < length xs
+  pub is : get_or xs place 0 ≡ x
+
+among_first : (x : ℕ) (xs : List ℕ) → IsAmong (x ∷ xs) x
+among_first x xs = record { place = 0; within = omega arith; is = refl }
+
+among_rest : (x y : ℕ) (xs : List ℕ) → IsAmong xs y → IsAmong (x ∷ xs) y
+among_rest x y xs h = record { place = suc h.place; within = omega (arith, h.within); is = h.is }
+
+among_left : (xs ys : List ℕ) (x : ℕ) → IsAmong xs x → IsAmong (xs ++ ys) x
+among_left xs ys x h = record {
+  place = h.place;
+  within = omega (arith, h.within, length-append xs ys);
+  is = get_or_append_left xs ys 0 h.place h.within ∙ h.is;
+}
+
+among_right : (xs ys : List ℕ) (x : ℕ) → IsAmong ys x → IsAmong (xs ++ ys) x
+among_right xs ys x h = record {
+  place = length xs + h.place;
+  within = omega (arith, h.within, length-append xs ys);
+  is = get_or-append-add xs ys h.place 0 ∙ h.is;
+}
+
+-- what stands behind the first part of a list stands in the second
+among_behind : (xs ys : List ℕ) (j : ℕ) → length xs ≤ j → j < length (xs ++ ys) → IsAmong ys (get_or (xs ++ ys) j 0)
+among_behind xs ys j more l = record {
+  place = j - length xs;
+  within = omega (arith, more, l, length-append xs ys);
+  is = sym (get_or-append_right xs ys (length xs) j 0 refl more);
+}
+
+among_parts : (xs ys : List ℕ) (x : ℕ) → IsAmong (xs ++ ys) x → IsAmong xs x ⊎ IsAmong ys x
+among_parts xs ys x h =
+    elim (cases_lt h.place (length xs)) [
+      | inl less ↦ inl (record { place = h.place; within = less; is = sym (get_or_append_left xs ys 0 h.place less) ∙ h.is })
+      | inr more ↦ inr (subst (IsAmong ys) h.is (among_behind xs ys h.place more h.within))
+    ]
+
+-- a number leaves a list, at its front or at its end
+pub record IsTaken (old new : List ℕ) (x : ℕ) : Type 0 where
+  pub stood : IsAmong old x
+  pub stays : (y : ℕ) → IsAmong new y → IsAmong old y
+  pub others : (y : ℕ) → IsAmong old y → (y ≡ x) ⊎ IsAmong new y
+  pub longer : length old ≡ length new + 1
+
+taken_first : (x : ℕ) (xs : List ℕ) → IsTaken (x ∷ xs) xs x
+taken_first x xs = record {
+  stood = among_first x xs;
+  stays = λ y h. among_rest x y xs h;
+  others = λ y h. first_or_rest y h.place h.within h.is;
+  longer = omega arith;
+}
+  where
+    first_or_rest : (y k : ℕ) → k < length (x ∷ xs) → get_or (x ∷ xs) k 0 ≡ y → (y ≡ x) ⊎ IsAmong xs y
+    first_or_rest y zero l e = inl (sym e)
+    first_or_rest y (suc k) l e = inr (record { place = k; within = omega (arith, l); is = e })
+
+taken_last : (x : ℕ) (xs : List ℕ) → IsTaken (xs ++ x ∷ []) xs x
+taken_last x xs = record {
+  stood = among_right xs (x ∷ []) x (among_first x []);
+  stays = λ y h. among_left xs (x ∷ []) y h;
+  others = λ y h. elim (among_parts xs (x ∷ []) y h) [
+    | inl before ↦ inr before
+    | inr last ↦ inl (only y last.place last.within last.is)
+  ];
+  longer = length_push xs x;
+}
+  where
+    only : (y k : ℕ) → k < length (x ∷ []) → get_or (x ∷ []) k 0 ≡ y → y ≡ x
+    only y zero l e = sym e
+    only y (suc k) l e = absurd (omega (arith, l))
+
+pub taken : (first : DartName) (rest waiting : List DartName) → (waiting ≡ first ∷ rest) ⊎ (waiting ≡ rest ++ first ∷ [])
+    → IsTaken (dart_numbers waiting) (dart_numbers rest) first.0
+taken first rest waiting which =
+    elim which [
+      | inl front ↦ subst (λ (ws : List DartName). IsTaken (dart_numbers ws) (dart_numbers rest) first.0) (sym front) (taken_first first.0 (dart_numbers rest))
+      | inr end ↦ subst (λ ws. IsTaken ws (dart_numbers rest) first.0)
+          (sym (ap dart_numbers end ∙ map-append (λ (d : DartName). d.0) rest (first ∷ []))) (taken_last first.0 (dart_numbers rest))
+    ]
+
+-- a search that is underway
+pub record IsUnderway (maps : Rotations) (node : ℕ → ℕ) (allowed : ℕ → Bool) (bound root : ℕ) (order waiting : List ℕ) (from : List (Option DartName)) : Type 0 where
+  pub is_order : IsOrder maps node allowed bound root order from
+  pub known : (x : ℕ) → IsAmong waiting x → IsAmong order x
+  pub either : (j : ℕ) → j < length order → IsCrossed maps node allowed order (node (get_or order j 0)) ⊎ IsAmong waiting (get_or order j 0)
+
+pub underway_start : (maps : Rotations) (node : ℕ → ℕ) (allowed : ℕ → Bool) (bound root start : ℕ) (order waiting : List ℕ) (from : List (Option DartName))
+    → IsOrder maps node allowed bound root order from → order ≡ start ∷ [] → waiting ≡ start ∷ []
+    → IsUnderway maps node allowed bound root order waiting from
+underway_start maps node allowed bound root start order waiting from h one waits =
+    let same : waiting ≡ order = waits ∙ sym one in
+    record {
+      is_order = h;
+      known = λ x among. subst (λ ws. IsAmong ws x) same among;
+      either = λ j l. inr (subst (λ ws. IsAmong ws (get_or order j 0)) (sym same) (record { place = j; within = l; is = refl }));
+    }
+
+-- the dart that is taken is one, of a node that was found
+pub taken_dart : (maps : Rotations) (node : ℕ → ℕ) (allowed : ℕ → Bool) (bound root : ℕ) (order waiting rest : List ℕ) (from : List (Option DartName)) (x : ℕ)
+    → IsUnderway maps node allowed bound root order waiting from → IsTaken waiting rest x → x < maps.darts
+taken_dart maps node allowed bound root order waiting rest from x h t =
+    let among : IsAmong order x = h.known x t.stood in
+    subst (λ d. d < maps.darts) among.is (h.is_order.within among.place among.within)
+
+pub taken_found : (maps : Rotations) (node : ℕ → ℕ) (allowed : ℕ → Bool) (bound root : ℕ) (order waiting rest : List ℕ) (from : List (Option DartName)) (x : ℕ)
+    → IsUnderway maps node allowed bound root order waiting from → IsTaken waiting rest x → IsFound node order (node x)
+taken_found maps node allowed bound root order waiting rest from x h t =
+    let among : IsAmong order x = h.known x t.stood in
+    record { place = among.place; within = among.within; is = ap node among.is }
+
+-- one more node is crossed
+pub underway_more : (maps : Rotations) (node : ℕ → ℕ) (allowed : ℕ → Bool) (bound root : ℕ) (order waiting rest new more : List ℕ) (from kept : List (Option DartName)) (x : ℕ)
+    → IsUnderway maps node allowed bound root order waiting from → IsTaken waiting rest x → IsOrder maps node allowed bound root new kept
+    → AreAdded order rest new more → IsCrossed maps node allowed new (node x) → IsUnderway maps node allowed bound root new more kept
+underway_more maps node allowed bound root order waiting rest new more from kept x h t is adds crossed =
+    let goes : GoesOn order new = added_goes order rest new more adds in
+    let on : (y : ℕ) → IsAmong order y → IsAmong new y = λ y among. subst (λ ts. IsAmong ts y) (sym adds.order) (among_left order adds.added y among) in
+    let waits_on : (y : ℕ) → IsAmong rest y → IsAmong more y = λ y among. subst (λ ts. IsAmong ts y) (sym adds.waits) (among_left rest adds.added y among) in
+    record {
+      is_order = is;
+      known = λ y among. elim (among_parts rest adds.added y (subst (λ ts. IsAmong ts y) adds.waits among)) [
+        | inl before ↦ on y (h.known y (t.stays y before))
+        | inr later ↦ subst (λ ts. IsAmong ts y) (sym adds.order) (among_right order adds.added y later)
+      ];
+      either = λ j l. elim (cases_lt j (length order)) [
+        | inl less ↦
+            (let old : get_or new j 0 ≡ get_or order j 0 = goes.same j less in
+            elim (h.either j less) [
+              | inl closed ↦ inl (subst (λ y. IsCrossed maps node allowed new (node y)) (sym old)
+                  (crossed_on maps node allowed order new (node (get_or order j 0)) goes closed))
+              | inr waits ↦ elim (t.others (get_or order j 0) waits) [
+                | inl same ↦ inl (subst (λ y. IsCrossed maps node allowed new (node y)) (sym (old ∙ same)) crossed)
+                | inr stays ↦ inr (subst (IsAmong more) (sym old) (waits_on (get_or order j 0) stays))
+              ]
+            ])
+        | inr late ↦
+            (let behind : IsAmong adds.added (get_or (order ++ adds.added) j 0) =
+            among_behind order adds.added j late (subst (λ (ts : List ℕ). j < length ts) adds.order l) in
+            inr (subst (λ ts. IsAmong ts (get_or new j 0)) (sym adds.waits)
+            (among_right rest adds.added (get_or new j 0) (subst (λ (ts : List ℕ). IsAmong adds.added (get_or ts j 0)) (sym adds.order) behind))))
+      ];
+    }
+
+-- where none waits, the search is done
+pub underway_done : (maps : Rotations) (node : ℕ → ℕ) (allowed : ℕ → Bool) (bound root : ℕ) (order waiting : List ℕ) (from : List (Option DartName))
+    → IsUnderway maps node allowed bound root order waiting from → waiting ≡ [] → IsSearched maps node allowed bound root from
+underway_done maps node allowed bound root order waiting from h none =
+    record {
+      order = order;
+      is_order = h.is_order;
+      closed = λ j l. elim (h.either j l) [
+        | inl closed ↦ closed
+        | inr waits ↦ absurd (nobody waits.place (subst (λ (ws : List ℕ). waits.place < length ws) none waits.within))
+      ];
+    }
+  where
+    nobody : (k : ℕ) → k < 0 → ⊥
+    nobody k l = omega (arith, l)
