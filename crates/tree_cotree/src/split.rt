@@ -1,6 +1,8 @@
 //! Splits of a surface.
 ghost use Rattle.std.specs.Prelude.{◌≡◌, ◌<◌, length, IfOk};
 ghost use Rattle.std.specs.Option.{option_map};
+ghost use Rattle.halfedge_map.specs.DartMaps.{darts_of};
+ghost use Rattle.tree_cotree.specs.Markings.{AreHanging};
 ghost use Rattle.tree_cotree.specs.Splits.{IsSplit};
 
 use crate::marking::{faces_below, leftover_dart, leftover_edges, mark};
@@ -86,7 +88,8 @@ impl Split {
     }
 }
 
-/// Splits a surface. The tree and the cotree are found breadth first.
+/// Splits a surface. The tree is found breadth first, so that walks to its root are short; the cotree with a stack, which is
+/// quicker.
 pub fn split_edges(alloc: Global, surface: &Surface) -> Result<Split, AllocError>
     ensures { IfOk result (IsSplit surface.now) }
 {
@@ -115,19 +118,8 @@ pub fn split_edges(alloc: Global, surface: &Surface) -> Result<Split, AllocError
     )?;
     mark(&mut kinds, surface, &across, Kind::Cotree);
     drop(across);
-    // Once more across the cotree, from a face that has a leftover dart.
     let start = leftover_dart(surface, &kinds);
-    let hanging = search_over(
-        alloc,
-        surface,
-        Nodes::Faces,
-        Order::LastFound,
-        faces,
-        &kinds,
-        Edges::OfKind(Kind::Cotree),
-        start,
-    )?;
-    let child_faces = faces_below(alloc, surface, &hanging)?;
+    let child_faces = hanging_faces(alloc, surface, &kinds, start)?;
     let genus = leftover_edges(&kinds) / 2;
     Ok(Split {
         kinds,
@@ -136,4 +128,28 @@ pub fn split_edges(alloc: Global, surface: &Surface) -> Result<Split, AllocError
         root_face: surface.face_of(start),
         genus,
     })
+}
+
+/// For each edge of the cotree the face below it, where the root is the face of a dart.
+fn hanging_faces(
+    alloc: Global,
+    surface: &Surface,
+    kinds: &[Kind],
+    start: DartName,
+) -> Result<Vec<Option<FaceName>>, AllocError>
+    requires kinds { length kinds.now ≡ length surface.now.table }
+    requires start { start.0 < darts_of surface.now }
+    ensures { IfOk result (λ below. AreHanging surface.now kinds.now start.0 below.items) }
+{
+    let hanging = search_over(
+        alloc,
+        surface,
+        Nodes::Faces,
+        Order::LastFound,
+        surface.faces().len(),
+        kinds,
+        Edges::OfKind(Kind::Cotree),
+        start,
+    )?;
+    faces_below(alloc, surface, &hanging)
 }

@@ -1,9 +1,9 @@
-use Rattle.std.proofs.Common.{◌≡◌, ◌<◌, ◌≤◌, ℕ, List, length, sym, ap, ◌∙◌, subst, arith}
+use Rattle.std.proofs.Common.{◌≡◌, ◌≤◌, ℕ, List, length, sym, ap, subst, arith}
 use Rattle.std.proofs.lemmas.List.{length-map, length-append}
 use Rattle.surf_model.specs.declared.names.DartName.{DartName}
 use Rattle.halfedge_map.specs.RotationSystems.{Rotations, rotations_of}
 use Rattle.tree_cotree.specs.RingViews.{dart_numbers}
-use Rattle.tree_cotree.specs.Searches.{node_of, is_allowed, AreBelow, IsOrder, IsSearched}
+use Rattle.tree_cotree.specs.Searches.{node_of, is_allowed, AreBelow, IsSearched}
 use Rattle.tree_cotree.proofs.SearchLemmas.{order_few, rebound}
 use Rattle.tree_cotree.proofs.WaitingLemmas.{IsTaken, taken, taken_dart, taken_found, underway_more, underway_done}
 use Rattle.tree_cotree.proofs.search.search_over.Goals as goal

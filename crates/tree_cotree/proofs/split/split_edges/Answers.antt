@@ -10,7 +10,7 @@ use Rattle.halfedge_map.specs.RotationSystems.{Rotations, rotations_of, NamesAll
 use Rattle.halfedge_map.proofs.SystemLemmas.{rotation_system, names_all}
 use Rattle.tree_cotree.specs.declared.split.Kind.{Kind}
 use Rattle.tree_cotree.specs.declared.split.Kind.TheVariants.{Tree, Cotree, Left}
-use Rattle.tree_cotree.specs.Searches.{same_kind, has_kind}
+use Rattle.tree_cotree.specs.Searches.{same_kind, has_kind, IsSearched}
 use Rattle.tree_cotree.specs.Markings.{AreApart}
 use Rattle.tree_cotree.proofs.TreeLemmas.{kept_apart}
 use Rattle.tree_cotree.proofs.SplittingLemmas.{IsMade, all_left, split_is}
@@ -57,23 +57,6 @@ mark-requires-2-clause-apart c =
     (kept_apart maps maps.face (has_kind c.deref-3.result.now Left) c.len-faces.result (maps.face 0) searched.order c.in_ok-across.across.items
     (rotation_system s c.faces.ensures.valid) searched.is_order)
 
-pub search_over-requires-3-clause-below : goal.search_over-requires-3-clause-below
-search_over-requires-3-clause-below c =
-    let s : OrientedMesh = c.args.surface.now in
-    let names : NamesAll s = names_all s c.faces.ensures.valid in
-    let count : c.len-faces.result ≡ length s.mesh.faces = c.len-faces.ensures.count
-    ∙ ap (λ (m : FaceList). length m.faces) c.faces.ensures.mesh in
-    λ d l. subst (λ n. (rotations_of s).face d < n) (sym count) (names.face_below d l)
-
-pub faces_below-requires-clause-apart : goal.faces_below-requires-clause-apart
-faces_below-requires-clause-apart c =
-    let s : OrientedMesh = c.args.surface.now in
-    let maps : Rotations = rotations_of s in
-    let searched = c.in_ok-hanging.ensures in
-    subst (AreApart maps) (sym c.deref-7.ensures.value)
-    (kept_apart maps maps.face (has_kind c.deref-6.result.now Cotree) c.len-faces.result (maps.face c.leftover_dart-start.result.0) searched.order
-    c.in_ok-hanging.hanging.items (rotation_system s c.faces.ensures.valid) searched.is_order)
-
 pub returns : goal.returns
 returns c =
     let s : OrientedMesh = c.args.surface.now in
@@ -83,7 +66,8 @@ returns c =
     let k2 : List Kind = c.mark-2.new.kinds.items in
     let p : List (Option DartName) = c.in_ok-parents.parents.items in
     let q : List (Option DartName) = c.in_ok-across.across.items in
-    let t : List (Option DartName) = c.in_ok-hanging.hanging.items in
+    let hung = c.in_ok-child_faces.ensures in
+    let t : List (Option DartName) = hung.from in
     let below : List (Option FaceName) = c.in_ok-child_faces.child_faces.items in
     let start : ℕ = c.leftover_dart-start.result.0 in
     let first : k0 ≡ replicate (length s.table) Left = search rules in
@@ -95,13 +79,13 @@ returns c =
       crossed = rw c.deref-4.ensures.value at c.mark-2.ensures;
       start_in = c.leftover_dart-start.ensures.within;
       start_left = rw c.deref-5.ensures.value at c.leftover_dart-start.ensures.left;
-      hanging = rw (c.deref-6.ensures.value, c.len-faces.ensures.count, c.faces.ensures.mesh) at c.in_ok-hanging.ensures;
-      faces = rw c.deref-7.ensures.value at c.in_ok-child_faces.ensures;
+      hanging = subst (λ ks. IsSearched maps maps.face (has_kind ks Cotree) (length s.mesh.faces) (maps.face start) t) c.deref-6.ensures.value hung.searched;
+      faces = hung.faces;
     } in
     let long : length k2 ≡ length s.table =
     c.mark-2.ensures.long ∙ c.mark.ensures.long ∙ ap (λ (ks : List Kind). length ks) first ∙ length-replicate (length s.table) Left in
     let half : c.leftover_edges-genus.result / 2 ≡ count_below (has_kind k2 Left) (length s.table) / 2 =
     ap (λ n. n / 2)
-    (c.leftover_edges-genus.ensures ∙ ap (λ (ks : List Kind). count_below (has_kind ks Left) (length ks)) c.deref-8.ensures.value
+    (c.leftover_edges-genus.ensures ∙ ap (λ (ks : List Kind). count_below (has_kind ks Left) (length ks)) c.deref-7.ensures.value
     ∙ ap (count_below (has_kind k2 Left)) long) in
     rw c.face_of.ensures.face (split_is s c.faces.ensures.valid k0 k1 k2 p q t below start (c.leftover_edges-genus.result / 2) made half)
