@@ -22,3 +22,6 @@ pub mod InsertLemmas
 pub mod SpurLemmas
 pub mod TurnLemmas
 pub mod LastLoopLemmas
+pub mod LayLemmas
+pub mod TreeUpLemmas
+pub mod ApproachLemmas

@@ -5,3 +5,4 @@ pub mod LoopsPutIn
 pub mod LoopFronts
 pub mod Reductions
 pub mod Contractions
+pub mod SpokeWalks

@@ -6,10 +6,13 @@ mod crossing;
 pub mod expanding;
 mod inserting;
 mod last_loop;
+mod laying;
 pub mod lifted;
 pub mod lifting;
 mod reducing;
+mod spoke_walks;
 mod track;
+mod tree_way;
 
 pub use expanding::{MOST_LIFTED_DARTS, MOST_LIFTED_SIDES, expand};
 pub use lifted::{Lifted, reduce_free};

@@ -1,0 +1,89 @@
+-- Walks laid without spurs, up to spurs.
+use Rattle.std.proofs.Common.{◌≡◌, ◌≢◌, inl, inr, ℕ, ◌+◌, ◌-◌, ◌<◌, ◌≤◌, List, [], ◌∷◌, ◌++◌, length, take, drop, get_or, refl, ap, sym, ◌∙◌, subst, arith, append_assoc, length-append}
+use Rattle.std.proofs.lemmas.List.{append-nil, map-append, drop-map, get_or-map, get_or_append_left, take_all, take_more, take_rest}
+use Rattle.surf_model.specs.FaceLists.{FaceList}
+use Rattle.surf_model.specs.FreeWalks.{AreFreelyEqual, HasNoSpur}
+use Rattle.surf_model.specs.Vertices.{numbers}
+use Rattle.surf_model.specs.declared.names.VertexName.{VertexName}
+use Rattle.polygon_cut.proofs.FreeLoopLemmas.{freely_itself}
+use Rattle.move_lifting.specs.Tracks.{GrowsOrShrinks, last_of}
+use Rattle.move_lifting.proofs.ExpandLemmas.{last_entry, length-numbers, last-push, one_pending}
+use Rattle.move_lifting.proofs.ListLemmas.{no_spur_front, no_spur_on}
+use Rattle.move_lifting.proofs.SpurLemmas.{put_freely, freely_further}
+
+-- what is laid so far, with one vertex more
+pub laid_more : (mesh : FaceList) (begun old new vertices : List VertexName) (k : ℕ) (d : VertexName) → 0 < length begun → k < length vertices
+    → AreFreelyEqual mesh (numbers begun ++ numbers (take k vertices)) (numbers old) → AreFreelyEqual mesh (numbers old ++ (get_or vertices k d).0 ∷ []) (numbers new)
+    → AreFreelyEqual mesh (numbers begun ++ numbers (take (k + 1) vertices)) (numbers new)
+laid_more mesh begun old new vertices k d some l so_far one =
+    let v : VertexName = get_or vertices k d in
+    let more : numbers (take (k + 1) vertices) ≡ numbers (take k vertices) ++ v.0 ∷ [] =
+    ap numbers (take_more vertices k d l) ∙ map-append (λ (x : VertexName). x.0) (take k vertices) (v ∷ []) in
+    let whole : numbers begun ++ numbers (take (k + 1) vertices) ≡ numbers begun ++ numbers (take k vertices) ++ v.0 ∷ [] =
+    ap (λ (l : List ℕ). numbers begun ++ l) more ∙ sym (append_assoc (numbers begun) (numbers (take k vertices)) (v.0 ∷ [])) in
+    let begun_some : 0 < length (numbers begun ++ numbers (take k vertices)) = omega (arith, length-append (numbers begun) (numbers (take k vertices)), length-numbers begun) in
+    subst (λ (w : List ℕ). AreFreelyEqual mesh w (numbers new)) (sym whole)
+    (freely_further mesh (numbers begun ++ numbers (take k vertices)) (numbers old) (numbers new) (v.0 ∷ []) begun_some so_far one)
+
+pub laid_none : (mesh : FaceList) (begun : List VertexName) (vertices : List VertexName) → AreFreelyEqual mesh (numbers begun ++ numbers (take 0 vertices)) (numbers begun)
+laid_none mesh begun vertices =
+    subst (λ (w : List ℕ). AreFreelyEqual mesh w (numbers begun)) (sym (append-nil (numbers begun))) (freely_itself mesh (numbers begun))
+
+-- the last vertex taken off
+pub popped_off : (old new : List VertexName) (n : ℕ) (d : VertexName) → 0 < length old → n ≡ length old → new ≡ take (n - 1) old
+    → old ≡ new ++ get_or old (n - 1) d ∷ []
+popped_off old new n d some count is =
+    let up : n - 1 + 1 ≡ length old = omega arith in
+    sym (take_all (length old) old (omega arith)) ∙ ap (λ (n : ℕ). take n old) (sym up) ∙ take_more old (n - 1) d (omega arith)
+    ∙ ap (λ (l : List VertexName). l ++ get_or old (n - 1) d ∷ []) (sym is)
+
+-- one vertex goes where the walk leads straight back
+pub goes_out : (mesh : FaceList) (old new : List VertexName) (next via : VertexName) → 1 < length old → get_or (numbers old) (length old - 2) 0 ≡ next.0
+    → old ≡ new ++ via ∷ [] → AreFreelyEqual mesh (numbers old ++ next.0 ∷ []) (numbers new)
+goes_out mesh old new next via long came popped =
+    let parts : numbers old ≡ numbers new ++ via.0 ∷ [] = one_pending old new via popped in
+    let count : length old ≡ length new + 1 = ap (λ (l : List VertexName). length l) popped ∙ length-append new (via ∷ []) in
+    let new_long : length (numbers new) ≡ length new = length-numbers new in
+    let at : length (numbers new) - 1 ≡ length old - 2 = omega arith in
+    let last : last_of (numbers new) ≡ next.0 =
+    ap (λ (n : ℕ). get_or (numbers new) n 0) at ∙ sym (get_or_append_left (numbers new) (via.0 ∷ []) 0 (length old - 2) (omega arith))
+    ∙ ap (λ (l : List ℕ). get_or l (length old - 2) 0) (sym parts) ∙ came in
+    put_freely mesh (numbers old) (numbers new) next.0 (inr (via.0, parts)) (omega arith) last
+
+pub goes_out_clean : (old new : List VertexName) (via : VertexName) → old ≡ new ++ via ∷ [] → HasNoSpur (numbers old) → HasNoSpur (numbers new)
+goes_out_clean old new via popped h = no_spur_front (numbers new) (via.0 ∷ []) (subst HasNoSpur (one_pending old new via popped) h)
+
+-- one vertex comes
+pub comes_in : (mesh : FaceList) (old new : List VertexName) (next : VertexName) → new ≡ old ++ next ∷ [] → AreFreelyEqual mesh (numbers old ++ next.0 ∷ []) (numbers new)
+comes_in mesh old new next pushed =
+    subst (AreFreelyEqual mesh (numbers old ++ next.0 ∷ [])) (sym (one_pending new old next pushed)) (freely_itself mesh (numbers old ++ next.0 ∷ []))
+
+pub comes_in_clean : (old new : List VertexName) (next : VertexName) → new ≡ old ++ next ∷ [] → (1 < length old → get_or (numbers old) (length old - 2) 0 ≢ next.0)
+    → HasNoSpur (numbers old) → HasNoSpur (numbers new)
+comes_in_clean old new next pushed other h =
+    subst HasNoSpur (sym (one_pending new old next pushed))
+    (no_spur_on (numbers old) next.0 h (λ k l same.
+        let long : length (numbers old) ≡ length old = length-numbers old in
+        let at : k ≡ length old - 2 = omega arith in
+        other (omega arith) (ap (λ (n : ℕ). get_or (numbers old) n 0) (sym at) ∙ same)))
+
+-- three parts laid on one vertex
+pub laid_three : (mesh : FaceList) (x : ℕ) (start first second third down up rest : List ℕ) → start ≡ x ∷ [] → AreFreelyEqual mesh (start ++ down) first
+    → AreFreelyEqual mesh (first ++ up) second → AreFreelyEqual mesh (second ++ rest) third → AreFreelyEqual mesh (x ∷ (down ++ (up ++ rest))) third
+laid_three mesh x start first second third down up rest is a b c =
+    let one : AreFreelyEqual mesh (x ∷ down) first = subst (λ (l : List ℕ). AreFreelyEqual mesh (l ++ down) first) is a in
+    let two : AreFreelyEqual mesh (x ∷ down ++ up) second = freely_further mesh (x ∷ down) first second up (omega arith) one b in
+    subst (λ (l : List ℕ). AreFreelyEqual mesh (x ∷ l) third) (append_assoc down up rest)
+    (freely_further mesh (x ∷ down ++ up) second third rest (omega arith) two c)
+
+-- the first name alone
+pub first_alone : (none one names : List VertexName) (v d : VertexName) → none ≡ [] → one ≡ none ++ v ∷ [] → v ≡ get_or names 0 d → 0 < length names
+    → numbers one ≡ get_or (numbers names) 0 0 ∷ []
+first_alone none one names v d nothing pushed is some =
+    one_pending one none v pushed ∙ ap (λ (l : List VertexName). numbers l ++ v.0 ∷ []) nothing
+    ∙ ap (λ (x : ℕ). x ∷ []) (ap (λ (y : VertexName). y.0) is ∙ sym (get_or-map (λ (y : VertexName). y.0) names 0 d 0 some))
+
+-- the names behind the first one
+pub behind_first : (names part : List VertexName) → part ≡ take (length names - 1) (drop 1 names) → numbers part ≡ drop 1 (numbers names)
+behind_first names part is =
+    ap numbers (is ∙ take_rest names 1) ∙ sym (drop-map (λ (y : VertexName). y.0) 1 names)

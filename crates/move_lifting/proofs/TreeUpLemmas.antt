@@ -1,0 +1,141 @@
+-- Ways up the tree: how they go on, and how long they are at most.
+use Rattle.std.proofs.Common.{◌≡◌, ◌≢◌, ◌⊎◌, inl, inr, ℕ, zero, suc, ◌+◌, ◌-◌, ◌<◌, ◌≤◌, Bool, true, false, List, [], ◌∷◌, ◌++◌, length, get_or, refl, ap, sym, ◌∙◌, subst, arith, append_assoc, length-append, eqb}
+use Rattle.std.specs.Prelude.{Some, None}
+use Rattle.std.proofs.lemmas.Bool.{eqb-true, eq-eqb}
+use Rattle.surf_model.specs.FaceLists.{is_used}
+use Rattle.surf_model.specs.Surfaces.{IsPath}
+use Rattle.surf_model.specs.Vertices.{numbers}
+use Rattle.surf_model.specs.declared.names.VertexName.{VertexName}
+use Rattle.halfedge_map.specs.OrientedMeshes.{OrientedMesh, IsOrientedSurface}
+use Rattle.halfedge_map.specs.DartMaps.{darts_of, origin_of, twin_of}
+use Rattle.halfedge_map.specs.Numbers.{count_below}
+use Rattle.halfedge_map.specs.RotationSystems.{rotations_of}
+use Rattle.halfedge_map.proofs.SystemLemmas.{rotation_system, names_all}
+use Rattle.tree_cotree.specs.Splits.{SplitView, IsSplit, StepsToParent, parent_dart}
+use Rattle.polygon_cut.specs.SpokeLoops.{AreWaysUp}
+use Rattle.polygon_cut.proofs.FreeLawLemmas.{root_is, up_is}
+use Rattle.polygon_cut.proofs.TreeWayLemmas.{up, up_path, one_path, no_parent_of_root}
+use Rattle.move_lifting.specs.Tracks.{last_of}
+use Rattle.move_lifting.proofs.BackLemmas.{last_behind}
+use Rattle.move_lifting.proofs.ExpandLemmas.{length-numbers}
+use Rattle.move_lifting.proofs.CountLemmas.{sum_below, sum_same, disjoint_counts, count_most, count_one}
+
+-- the dart to the parent leads to a vertex that is used, from which the way up goes on
+pub used_parent : (s : OrientedMesh) (split : SplitView) → IsOrientedSurface s → (t : IsSplit s split) → (v d : ℕ) → parent_dart split v ≡ Some d
+    → is_used s.mesh (origin_of s (twin_of s d)) ≡ true
+used_parent s split o t v d is = (names_all s o).vertex_used (twin_of s d) ((rotation_system s o).twin_within d (t.parents.within v d is))
+
+pub used_below : (s : OrientedMesh) (split : SplitView) → IsOrientedSurface s → (t : IsSplit s split) → (v : ℕ) → is_used s.mesh v ≡ true → v < length split.parents
+used_below s split o t v used =
+    let dart = (names_all s o).each_vertex v used in
+    let below : v < s.mesh.count = subst (λ (x : ℕ). x < s.mesh.count) dart.2 ((names_all s o).vertex_below dart.0 dart.1) in
+    omega (arith, below, t.parents.each_vertex)
+
+pub own_ways : (s : OrientedMesh) (split : SplitView) → IsOrientedSurface s → (t : IsSplit s split) → (root : ℕ) (ways : ℕ → List ℕ) → AreWaysUp s split root ways
+    → AreWaysUp s split t.parents.root ways
+own_ways s split o t root ways h = subst (λ (x : ℕ). AreWaysUp s split x ways) (sym (root_is s split o t root ways h)) h
+
+pub goes_up : (s : OrientedMesh) (split : SplitView) → IsOrientedSurface s → (t : IsSplit s split) → (root : ℕ) (ways : ℕ → List ℕ) → AreWaysUp s split root ways
+    → (v d : ℕ) → is_used s.mesh v ≡ true → parent_dart split v ≡ Some d → ways v ≡ origin_of s (twin_of s d) ∷ ways (origin_of s (twin_of s d))
+goes_up s split o t root ways h v d used is =
+    let w : ℕ = origin_of s (twin_of s d) in
+    let own : AreWaysUp s split t.parents.root ways = own_ways s split o t root ways h in
+    one_path s split o t v (ways v) (w ∷ ways w) (own v used) ((d, record { is_parent = is; ends = refl }), own w (used_parent s split o t v d is))
+
+-- without a parent there is no way further
+pub ends_up : (s : OrientedMesh) (split : SplitView) → IsOrientedSurface s → (t : IsSplit s split) → (root : ℕ) (ways : ℕ → List ℕ) → AreWaysUp s split root ways
+    → (v : ℕ) → is_used s.mesh v ≡ true → parent_dart split v ≡ None → ways v ≡ []
+ends_up s split o t root ways h v used none = by (ways v) (h v used)
+  where
+    by : (path : List ℕ) → IsPath (StepsToParent (rotations_of s) split) v path root → path ≡ []
+    by [] p = refl
+    by (w ∷ path) p = (let both : None ≡ Some p.0.0 = sym none ∙ p.0.1.is_parent in cc)
+
+-- one step up
+pub one_up_more : (s : OrientedMesh) (split : SplitView) → IsOrientedSurface s → (t : IsSplit s split) → (root : ℕ) (ways : ℕ → List ℕ) → AreWaysUp s split root ways
+    → (v d : ℕ) (whole laid more : List ℕ) → is_used s.mesh v ≡ true → parent_dart split v ≡ Some d → more ≡ laid ++ v ∷ [] → whole ≡ laid ++ (v ∷ ways v)
+    → whole ≡ more ++ (origin_of s (twin_of s d) ∷ ways (origin_of s (twin_of s d)))
+one_up_more s split o t root ways h v d whole laid more used is pushed so_far =
+    let w : ℕ = origin_of s (twin_of s d) in
+    so_far ∙ ap (λ (l : List ℕ). laid ++ (v ∷ l)) (goes_up s split o t root ways h v d used is) ∙ sym (append_assoc laid (v ∷ []) (w ∷ ways w))
+    ∙ ap (λ (l : List ℕ). l ++ (w ∷ ways w)) (sym pushed)
+
+-- so many numbers below a bound, all different, are no more than the bound
+few_numbers : (f : ℕ → ℕ) (k n : ℕ) → ((j : ℕ) → j < k → f j < n) → ((i j : ℕ) → i < j → j < k → f i ≢ f j) → k ≤ n
+few_numbers f k n below apart =
+    let ones : sum_below (λ j. count_below (λ z. eqb z (f j)) n) k ≡ sum_below (λ j. 1) k =
+    sum_same (λ j. count_below (λ z. eqb z (f j)) n) (λ j. 1) k (λ j l. count_one n (f j) (below j l)) in
+    let most : sum_below (λ j. count_below (λ z. eqb z (f j)) n) k ≤ count_below (λ z. true) n =
+    disjoint_counts (λ j z. eqb z (f j)) (λ z. true) k n (λ j z l m is. refl)
+    (λ i j z l m z_in x y. apart i j l m (sym (eqb-true z (f i) x) ∙ eqb-true z (f j) y)) in
+    omega (arith, ones, most, count_most (λ z. true) n, as_many k)
+  where
+    as_many : (k : ℕ) → sum_below (λ j. 1) k ≡ k
+    as_many zero = refl
+    as_many (suc k) = omega (arith, as_many k)
+
+-- what stands on a way up: a vertex of the mesh, from which the way goes on so far
+record IsOnWay (s : OrientedMesh) (split : SplitView) (t : IsSplit s split) (v left : ℕ) : Type 0 where
+  below : v < s.mesh.count
+  left_is : length (up s split t v) ≡ left
+
+on_way : (s : OrientedMesh) (split : SplitView) → IsOrientedSurface s → (t : IsSplit s split) → (v : ℕ) (path : List ℕ) → is_used s.mesh v ≡ true
+    → IsPath (StepsToParent (rotations_of s) split) v path t.parents.root → (j : ℕ) → j ≤ length path → IsOnWay s split t (get_or (v ∷ path) j 0) (length path - j)
+on_way s split o t v path used p zero l =
+    let dart = (names_all s o).each_vertex v used in
+    let whole : length path ≡ length path - 0 = omega arith in
+    record {
+      below = subst (λ (x : ℕ). x < s.mesh.count) dart.2 ((names_all s o).vertex_below dart.0 dart.1);
+      left_is = ap (λ (x : List ℕ). length x) (one_path s split o t v (up s split t v) path (up_path s split t v used) p) ∙ whole;
+    }
+on_way s split o t v [] used p (suc j) l = absurd (omega arith)
+on_way s split o t v (w ∷ path) used p (suc j) l =
+    let d : ℕ = p.0.0 in
+    let w_used : is_used s.mesh w ≡ true = subst (λ (x : ℕ). is_used s.mesh x ≡ true) p.0.1.ends (used_parent s split o t v d p.0.1.is_parent) in
+    let count : length path - j ≡ length (w ∷ path) - suc j = omega arith in
+    let rest = on_way s split o t w path w_used p.1 j (omega arith) in
+    record { below = rest.below; left_is = rest.left_is ∙ count }
+
+-- a way up passes no vertex twice, so it is short
+pub way_short : (s : OrientedMesh) (split : SplitView) → IsOrientedSurface s → (t : IsSplit s split) → (v : ℕ) → is_used s.mesh v ≡ true
+    → length (v ∷ up s split t v) ≤ s.mesh.count
+way_short s split o t v used =
+    let path : List ℕ = up s split t v in
+    let at : (j : ℕ) → j < length (v ∷ path) → IsOnWay s split t (get_or (v ∷ path) j 0) (length path - j) =
+    λ j l. on_way s split o t v path used (up_path s split t v used) j (omega arith) in
+    few_numbers (λ j. get_or (v ∷ path) j 0) (length (v ∷ path)) s.mesh.count (λ j l. (at j l).below)
+    (λ i j l m same.
+        let one : length path - i ≡ length path - j =
+        sym (at i (omega arith)).left_is ∙ ap (λ (x : ℕ). length (up s split t x)) same ∙ (at j m).left_is in
+        omega (arith, one))
+
+-- the same of any ways up
+pub way_ends : (s : OrientedMesh) (split : SplitView) → IsOrientedSurface s → (t : IsSplit s split) → (v last n : ℕ) (laid : List ℕ) → is_used s.mesh v ≡ true
+    → length laid ≡ n → s.mesh.count ≤ n → ((root : ℕ) (ways : ℕ → List ℕ) → AreWaysUp s split root ways → v ∷ ways v ≡ laid ++ (last ∷ ways last)) → ⊥
+way_ends s split o t v last n laid used long all so_far =
+    let whole : v ∷ up s split t v ≡ laid ++ (last ∷ up s split t last) = so_far t.parents.root (up s split t) (λ x x_used. up_path s split t x x_used) in
+    omega (
+      arith,
+      way_short s split o t v used,
+      ap (λ (l : List ℕ). length l) whole,
+      length-append laid (last ∷ up s split t last),
+    )
+
+-- a way up as names: it is not empty, and ends at the root
+pub way_some : (s : OrientedMesh) (split : SplitView) → (t : IsSplit s split) → (v : ℕ) (names : List VertexName)
+    → ((root : ℕ) (ways : ℕ → List ℕ) → AreWaysUp s split root ways → numbers names ≡ v ∷ ways v) → 0 < length names
+way_some s split t v names is =
+    let whole : numbers names ≡ v ∷ up s split t v = is t.parents.root (up s split t) (λ x used. up_path s split t x used) in
+    omega (arith, ap (λ (l : List ℕ). length l) whole, length-numbers names)
+
+pub way_top : (s : OrientedMesh) (split : SplitView) (root : ℕ) (ways : ℕ → List ℕ) → AreWaysUp s split root ways → (v : ℕ) → is_used s.mesh v ≡ true
+    → last_of (v ∷ ways v) ≡ root
+way_top s split root ways h v used = by v (ways v) (h v used)
+  where
+    by : (x : ℕ) (path : List ℕ) → IsPath (StepsToParent (rotations_of s) split) x path root → last_of (x ∷ path) ≡ root
+    by x [] p = p
+    by x (w ∷ path) p = last_behind (x ∷ []) (w ∷ path) (omega arith) ∙ by w path p.1
+
+-- where a dart starts is a used vertex
+pub origin_used : (s : OrientedMesh) → IsOrientedSurface s → (d v : ℕ) → d < darts_of s → v ≡ origin_of s d → is_used s.mesh v ≡ true
+origin_used s o d v l is = subst (λ (x : ℕ). is_used s.mesh x ≡ true) (sym is) ((names_all s o).vertex_used d l)
