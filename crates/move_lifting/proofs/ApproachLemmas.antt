@@ -1,24 +1,26 @@
 -- The loops of spokes, as walks without spurs.
-use Rattle.std.proofs.Common.{◌≡◌, inl, inr, ℕ, zero, suc, ◌+◌, ◌-◌, ◌<◌, ◌≤◌, Bool, true, false, not, List, [], ◌∷◌, ◌++◌, length, drop, get_or, refl, ap, sym, ◌∙◌, subst, arith, append_assoc, length-append}
-use Rattle.std.specs.Prelude.{IsTrue, All}
+use Rattle.std.proofs.Common.{◌≡◌, inl, inr, ℕ, suc, ◌+◌, ◌<◌, Bool, true, List, [], ◌∷◌, ◌++◌, length, drop, get_or, refl, ap, sym, ◌∙◌, subst, arith, append_assoc, length-append}
+use Rattle.std.specs.Prelude.{IsTrue, All, Some}
 use Rattle.std.proofs.lemmas.Bool.{cases_lt}
-use Rattle.std.proofs.lemmas.List.{get_or_append_left, get_or-append-add}
+use Rattle.std.proofs.lemmas.List.{drop_more, get_or_append_left, get_or-append-add, get_or_default}
 use Rattle.surf_model.specs.FaceLists.{FaceList, is_used}
 use Rattle.surf_model.specs.Walks.{IsWalk}
+use Rattle.surf_model.specs.Moves.{apply_all}
+use Rattle.surf_model.specs.declared.moves.Move.{Move}
 use Rattle.surf_model.specs.FreeWalks.{AreFreelyEqual, HasNoSpur}
 use Rattle.surf_model.proofs.WayBackLemmas.{list_keeps_walk, list_keeps_ends}
 use Rattle.halfedge_map.specs.OrientedMeshes.{OrientedMesh, IsOrientedSurface}
 use Rattle.halfedge_map.specs.DartMaps.{darts_of, origin_of, twin_of}
-use Rattle.halfedge_map.proofs.SystemLemmas.{rotation_system, names_all}
+use Rattle.halfedge_map.proofs.SystemLemmas.{names_all}
 use Rattle.tree_cotree.specs.Splits.{SplitView, IsSplit}
 use Rattle.polygon_cut.specs.Polygons.{PolygonView, IsCutFrom, side_at}
 use Rattle.polygon_cut.specs.SpokeLoops.{AreWaysUp, backward, dart_loop, spoke_loop, path_loop}
 use Rattle.polygon_cut.proofs.FreeLawLemmas.{root_is, up_is, loop_list, side_in, spoke_list, path_list}
-use Rattle.polygon_cut.proofs.FreeLoopLemmas.{freely_itself, freely_on, freely_behind, freely_before, loops_make_a_free_group}
+use Rattle.polygon_cut.proofs.FreeLoopLemmas.{freely_itself, freely_on, freely_behind}
 use Rattle.polygon_cut.proofs.FreeProductLemmas.{way_end}
-use Rattle.polygon_cut.proofs.LoopLemmas.{IsWay, HasWays, Loop, loop_mul, loop_inv, loop_one, back, back_back, way_home, way_walk}
+use Rattle.polygon_cut.proofs.LoopLemmas.{IsWay, HasWays, loop_mul, loop_inv, loop_one, back, back_back, way_home, way_walk}
 use Rattle.polygon_cut.proofs.RelatorLemmas.{spoke_product}
-use Rattle.polygon_cut.proofs.SpokeLemmas.{Loops, value, spoke}
+use Rattle.polygon_cut.proofs.SpokeLemmas.{value, spoke}
 use Rattle.polygon_cut.proofs.TreeWayLemmas.{up, up_path, tree_ways}
 use Rattle.polygon_cut.proofs.WalkLemmas.{walk_way, other_way}
 use Rattle.move_lifting.specs.SpokeWalks.{IsSpokeWalk, AreSpokeWalks}
@@ -27,13 +29,14 @@ use Rattle.move_lifting.proofs.BackLemmas.{backward-append, backward_is, last_ba
 use Rattle.move_lifting.proofs.ListLemmas.{one_no_spur}
 use Rattle.move_lifting.proofs.TreeUpLemmas.{own_ways, way_top}
 
--- a walk that spur moves join to a way is a way from and to the same vertices
-pub record IsFreeWay (mesh : FaceList) (u v : ℕ) (walk : List ℕ) : Type 0 where
+-- the walk is a way from u to v
+pub record GoesFrom (mesh : FaceList) (u v : ℕ) (walk : List ℕ) : Type 0 where
   pub rest : List ℕ
   pub walk_is : walk ≡ u ∷ rest
   pub way : IsWay mesh u v rest
 
-pub free_way : (mesh : FaceList) (u v : ℕ) (rest walk : List ℕ) → IsWay mesh u v rest → AreFreelyEqual mesh (u ∷ rest) walk → IsFreeWay mesh u v walk
+-- a walk that spur moves join to a way is a way from and to the same vertices
+pub free_way : (mesh : FaceList) (u v : ℕ) (rest walk : List ℕ) → IsWay mesh u v rest → AreFreelyEqual mesh (u ∷ rest) walk → GoesFrom mesh u v walk
 free_way mesh u v rest [] h free =
     let none : 0 < 0 = (list_keeps_walk mesh free.0 (u ∷ rest) [] (way_walk mesh u v rest h) free.2).starts in
     absurd (omega arith)
@@ -78,7 +81,7 @@ path_way s split o t polygon c some ways h along path =
 
 -- what is told of the walk of a spoke
 pub spoke_walk : (s : OrientedMesh) (split : SplitView) → IsOrientedSurface s → (t : IsSplit s split) → (polygon : PolygonView) → IsCutFrom s split polygon
-    → 0 < polygon.degree → (i : ℕ) (walk : List ℕ) → IsSpokeWalk s split polygon i walk → IsFreeWay s.mesh t.parents.root t.parents.root walk
+    → 0 < polygon.degree → (i : ℕ) (walk : List ℕ) → IsSpokeWalk s split polygon i walk → GoesFrom s.mesh t.parents.root t.parents.root walk
 spoke_walk s split o t polygon c some i walk is =
     let ups : ℕ → List ℕ = up s split t in
     let own : AreWaysUp s split t.parents.root ups = λ v used. up_path s split t v used in
@@ -181,3 +184,43 @@ spokes_more s split polygon n walks more walk all one is = record {
 
 pub no_spokes : (s : OrientedMesh) (split : SplitView) (polygon : PolygonView) → AreSpokeWalks s split polygon 0 []
 no_spokes s split polygon = record { count = refl; each = λ i l. absurd (omega arith) }
+
+pub spokes_some : (s : OrientedMesh) (split : SplitView) → IsOrientedSurface s → (t : IsSplit s split) → (polygon : PolygonView) → IsCutFrom s split polygon
+    → 0 < polygon.degree → (walks : List (List ℕ)) → AreSpokeWalks s split polygon polygon.degree walks → All (λ (walk : List ℕ). 0 < length walk) walks
+spokes_some s split o t polygon c some walks all k d l =
+    let below : k < polygon.degree = omega (arith, l, all.count) in
+    subst (λ (w : List ℕ). 0 < length w) (get_or_default walks k [] d l) (spoke_some s split o t polygon c some k (get_or walks k []) (all.each k below))
+
+-- where a way ends
+pub goes_end : (mesh : FaceList) (u v : ℕ) (walk : List ℕ) → GoesFrom mesh u v walk → last_of walk ≡ v
+goes_end mesh u v walk g =
+    ap last_of g.walk_is ∙ sym (way_end mesh u (last_of (u ∷ g.rest)) g.rest (way_of mesh u g.rest (way_walk mesh u v g.rest g.way))) ∙ way_end mesh u v g.rest g.way
+
+pub goes_start : (mesh : FaceList) (u v : ℕ) (walk : List ℕ) → GoesFrom mesh u v walk → get_or walk 0 0 ≡ u
+goes_start mesh u v walk g = ap (λ (l : List ℕ). get_or l 0 0) g.walk_is
+
+pub goes_some : (mesh : FaceList) (u v : ℕ) (walk : List ℕ) → GoesFrom mesh u v walk → 0 < length walk
+goes_some mesh u v walk g = omega (arith, ap (λ (l : List ℕ). length l) g.walk_is)
+
+pub goes_walk : (mesh : FaceList) (u v : ℕ) (walk : List ℕ) → GoesFrom mesh u v walk → IsWalk mesh walk
+goes_walk mesh u v walk g = subst (IsWalk mesh) (sym g.walk_is) (way_walk mesh u v g.rest g.way)
+
+-- a walk, from its first entry to its last
+pub walk_goes : (mesh : FaceList) (walk : List ℕ) → IsWalk mesh walk → GoesFrom mesh (get_or walk 0 0) (last_of walk) walk
+walk_goes mesh walk w =
+    let whole : walk ≡ get_or walk 0 0 ∷ drop 1 walk = drop_more walk 0 0 w.starts in
+    record {
+      rest = drop 1 walk;
+      walk_is = whole;
+      way = subst (λ (x : ℕ). IsWay mesh (get_or walk 0 0) x (drop 1 walk)) (ap last_of (sym whole))
+          (way_of mesh (get_or walk 0 0) (drop 1 walk) (subst (IsWalk mesh) whole w));
+    }
+
+-- where moves lead from a single vertex
+pub turn_goes_home : (mesh : FaceList) (y : ℕ) (walk : List ℕ) (moves : List Move) → IsTrue (is_used mesh y) → apply_all mesh (y ∷ []) moves ≡ Some walk
+    → GoesFrom mesh y y walk
+turn_goes_home mesh y walk moves used leads =
+    let one : IsWalk mesh (y ∷ []) = way_walk mesh y y [] (refl, used) in
+    let ends = list_keeps_ends mesh moves (y ∷ []) walk one.starts leads in
+    let here : GoesFrom mesh (get_or walk 0 0) (last_of walk) walk = walk_goes mesh walk (list_keeps_walk mesh moves (y ∷ []) walk one leads) in
+    subst (λ (x : ℕ). GoesFrom mesh y x walk) (sym ends.ends) (subst (λ (x : ℕ). GoesFrom mesh x (last_of walk) walk) (sym ends.starts) here)

@@ -1,13 +1,13 @@
 -- Walks laid without spurs, up to spurs.
-use Rattle.std.proofs.Common.{◌≡◌, ◌≢◌, inl, inr, ℕ, ◌+◌, ◌-◌, ◌<◌, ◌≤◌, List, [], ◌∷◌, ◌++◌, length, take, drop, get_or, refl, ap, sym, ◌∙◌, subst, arith, append_assoc, length-append}
+use Rattle.std.proofs.Common.{◌≡◌, ◌≢◌, inr, ℕ, ◌+◌, ◌-◌, ◌<◌, List, [], ◌∷◌, ◌++◌, length, take, drop, get_or, ap, sym, ◌∙◌, subst, arith, append_assoc, length-append}
 use Rattle.std.proofs.lemmas.List.{append-nil, map-append, drop-map, get_or-map, get_or_append_left, take_all, take_more, take_rest}
 use Rattle.surf_model.specs.FaceLists.{FaceList}
 use Rattle.surf_model.specs.FreeWalks.{AreFreelyEqual, HasNoSpur}
 use Rattle.surf_model.specs.Vertices.{numbers}
 use Rattle.surf_model.specs.declared.names.VertexName.{VertexName}
 use Rattle.polygon_cut.proofs.FreeLoopLemmas.{freely_itself}
-use Rattle.move_lifting.specs.Tracks.{GrowsOrShrinks, last_of}
-use Rattle.move_lifting.proofs.ExpandLemmas.{last_entry, length-numbers, last-push, one_pending}
+use Rattle.move_lifting.specs.Tracks.{last_of}
+use Rattle.move_lifting.proofs.ExpandLemmas.{length-numbers, one_pending}
 use Rattle.move_lifting.proofs.ListLemmas.{no_spur_front, no_spur_on}
 use Rattle.move_lifting.proofs.SpurLemmas.{put_freely, freely_further}
 
@@ -63,9 +63,9 @@ pub comes_in_clean : (old new : List VertexName) (next : VertexName) → new ≡
 comes_in_clean old new next pushed other h =
     subst HasNoSpur (sym (one_pending new old next pushed))
     (no_spur_on (numbers old) next.0 h (λ k l same.
-        let long : length (numbers old) ≡ length old = length-numbers old in
-        let at : k ≡ length old - 2 = omega arith in
-        other (omega arith) (ap (λ (n : ℕ). get_or (numbers old) n 0) (sym at) ∙ same)))
+    let long : length (numbers old) ≡ length old = length-numbers old in
+    let at : k ≡ length old - 2 = omega arith in
+    other (omega arith) (ap (λ (n : ℕ). get_or (numbers old) n 0) (sym at) ∙ same)))
 
 -- three parts laid on one vertex
 pub laid_three : (mesh : FaceList) (x : ℕ) (start first second third down up rest : List ℕ) → start ≡ x ∷ [] → AreFreelyEqual mesh (start ++ down) first

@@ -25,3 +25,5 @@ pub mod LastLoopLemmas
 pub mod LayLemmas
 pub mod TreeUpLemmas
 pub mod ApproachLemmas
+pub mod FrontLemmas
+pub mod LoopInLemmas

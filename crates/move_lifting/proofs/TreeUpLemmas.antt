@@ -1,7 +1,7 @@
 -- Ways up the tree: how they go on, and how long they are at most.
-use Rattle.std.proofs.Common.{◌≡◌, ◌≢◌, ◌⊎◌, inl, inr, ℕ, zero, suc, ◌+◌, ◌-◌, ◌<◌, ◌≤◌, Bool, true, false, List, [], ◌∷◌, ◌++◌, length, get_or, refl, ap, sym, ◌∙◌, subst, arith, append_assoc, length-append, eqb}
+use Rattle.std.proofs.Common.{◌≡◌, ◌≢◌, ℕ, zero, suc, ◌-◌, ◌<◌, ◌≤◌, true, List, [], ◌∷◌, ◌++◌, length, get_or, refl, ap, sym, ◌∙◌, subst, arith, append_assoc, length-append, eqb}
 use Rattle.std.specs.Prelude.{Some, None}
-use Rattle.std.proofs.lemmas.Bool.{eqb-true, eq-eqb}
+use Rattle.std.proofs.lemmas.Bool.{eqb-true}
 use Rattle.surf_model.specs.FaceLists.{is_used}
 use Rattle.surf_model.specs.Surfaces.{IsPath}
 use Rattle.surf_model.specs.Vertices.{numbers}
@@ -13,8 +13,8 @@ use Rattle.halfedge_map.specs.RotationSystems.{rotations_of}
 use Rattle.halfedge_map.proofs.SystemLemmas.{rotation_system, names_all}
 use Rattle.tree_cotree.specs.Splits.{SplitView, IsSplit, StepsToParent, parent_dart}
 use Rattle.polygon_cut.specs.SpokeLoops.{AreWaysUp}
-use Rattle.polygon_cut.proofs.FreeLawLemmas.{root_is, up_is}
-use Rattle.polygon_cut.proofs.TreeWayLemmas.{up, up_path, one_path, no_parent_of_root}
+use Rattle.polygon_cut.proofs.FreeLawLemmas.{root_is}
+use Rattle.polygon_cut.proofs.TreeWayLemmas.{up, up_path, one_path}
 use Rattle.move_lifting.specs.Tracks.{last_of}
 use Rattle.move_lifting.proofs.BackLemmas.{last_behind}
 use Rattle.move_lifting.proofs.ExpandLemmas.{length-numbers}
@@ -105,9 +105,9 @@ way_short s split o t v used =
     λ j l. on_way s split o t v path used (up_path s split t v used) j (omega arith) in
     few_numbers (λ j. get_or (v ∷ path) j 0) (length (v ∷ path)) s.mesh.count (λ j l. (at j l).below)
     (λ i j l m same.
-        let one : length path - i ≡ length path - j =
-        sym (at i (omega arith)).left_is ∙ ap (λ (x : ℕ). length (up s split t x)) same ∙ (at j m).left_is in
-        omega (arith, one))
+    let one : length path - i ≡ length path - j =
+    sym (at i (omega arith)).left_is ∙ ap (λ (x : ℕ). length (up s split t x)) same ∙ (at j m).left_is in
+    omega (arith, one))
 
 -- the same of any ways up
 pub way_ends : (s : OrientedMesh) (split : SplitView) → IsOrientedSurface s → (t : IsSplit s split) → (v last n : ℕ) (laid : List ℕ) → is_used s.mesh v ≡ true

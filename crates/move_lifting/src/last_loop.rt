@@ -1,17 +1,14 @@
 //! The loop of the last side of a polygon, with the moves that put it in.
-ghost use Rattle.std.specs.Prelude.{◌≡◌, ◌<◌, ◌≤◌, ◌∷◌, [], ℕ, List, not, length, slice_index, IfOk};
+ghost use Rattle.std.specs.Prelude.{◌≡◌, ◌<◌, ◌≤◌, not, length, slice_index, IfOk};
 ghost use Rattle.surf_model.specs.FaceLists.{corners_from, face_at};
-ghost use Rattle.surf_model.specs.FreeWalks.{AreFreelyEqual, HasNoSpur};
 ghost use Rattle.surf_model.specs.Vertices.{numbers};
 ghost use Rattle.surf_model.specs.declared.moves.Move.TheVariants.{Across};
-ghost use Rattle.halfedge_map.specs.DartMaps.{darts_of, origin_of};
+ghost use Rattle.halfedge_map.specs.DartMaps.{darts_of};
 ghost use Rattle.halfedge_map.specs.OrientedMeshes.{IsOrientedSurface};
 ghost use Rattle.tree_cotree.specs.Splits.{IsSplit};
 ghost use Rattle.polygon_cut.specs.Polygons.{IsCutFrom};
-ghost use Rattle.polygon_cut.specs.SpokeLoops.{AreWaysUp, by_loop, last_side};
 ghost use Rattle.move_lifting.specs.Crossings.{IsStepOf, IsStepFrom};
-ghost use Rattle.move_lifting.specs.Lifts.{LeadsAtPeak};
-ghost use Rattle.move_lifting.specs.LoopsPutIn.{signed_loop};
+ghost use Rattle.move_lifting.specs.SpokeWalks.{IsLastLoop};
 
 use crate::crossing::{FaceStep, push_rest};
 use crate::expanding::{MOST_LIFTED_SIDES, lead_all};
@@ -38,13 +35,7 @@ pub(crate) fn last_loop(
     requires cut { IsCutFrom surface.now split.now polygon.now }
     requires some { 0 < polygon.now.degree }
     requires sides { darts_of surface.now ≤ MOST_LIFTED_SIDES }
-    ensures leads { IfOk result (λ lifted. LeadsAtPeak surface.now.mesh (origin_of surface.now (last_side polygon.now) ∷ [])
-        lifted.moves lifted.walk) }
-    ensures no_spur { IfOk result (λ lifted. HasNoSpur lifted.walk) }
-    ensures freely { IfOk result (λ lifted. (root : ℕ) (ways : ℕ → List ℕ) → AreWaysUp surface.now split.now root ways
-        → AreFreelyEqual surface.now.mesh lifted.walk
-        (by_loop ways (origin_of surface.now (last_side polygon.now)) (origin_of surface.now (last_side polygon.now))
-        (signed_loop surface.now polygon.now root ways back))) }
+    ensures { IfOk result (IsLastLoop surface.now split.now polygon.now back) }
 {
     let dart = polygon.side(polygon.degree() - 1);
     let step = step_from(surface, dart, back);

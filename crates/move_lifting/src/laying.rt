@@ -8,10 +8,7 @@ use std::alloc::AllocError;
 use surf_model::VertexName;
 
 /// Goes on along more vertices. Where that leads straight back, the spur is taken out.
-pub(crate) fn put_all(
-    walk: &mut Vec<VertexName>,
-    vertices: &[VertexName],
-) -> Result<(), AllocError>
+pub(crate) fn put_all(walk: &mut Vec<VertexName>, vertices: &[VertexName]) -> Result<(), AllocError>
     requires some { 0 < length walk.old.items }
     requires no_spur { HasNoSpur (numbers walk.old.items) }
     ensures some { OnOk result (0 < length walk.new.items) }

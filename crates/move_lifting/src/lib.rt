@@ -9,6 +9,7 @@ mod last_loop;
 mod laying;
 pub mod lifted;
 pub mod lifting;
+mod looping;
 mod reducing;
 mod spoke_walks;
 mod track;

@@ -118,9 +118,9 @@ fn next_spoke(
     ensures no_spur { IfOk result (λ next. HasNoSpur (numbers next.items)) }
     ensures freely { IfOk result (λ next. (root : ℕ) (ways : ℕ → List ℕ) → AreWaysUp surface.now split.now root ways
         → AreFreelyEqual surface.now.mesh (slice_index (numbers spoke.now) 0
-          ∷ (backward (origin_of surface.now (twin_of surface.now dart.0)) (ways (origin_of surface.now (twin_of surface.now dart.0)))
-          ++ (origin_of surface.now dart.0 ∷ (ways (origin_of surface.now dart.0) ++ drop 1 (numbers spoke.now)))))
-          (numbers next.items)) }
+        ∷ (backward (origin_of surface.now (twin_of surface.now dart.0)) (ways (origin_of surface.now (twin_of surface.now dart.0)))
+        ++ (origin_of surface.now dart.0 ∷ (ways (origin_of surface.now dart.0) ++ drop 1 (numbers spoke.now)))))
+        (numbers next.items)) }
 {
     // The proof reads what holds of every surface.
     let _ = surface.faces();

@@ -104,6 +104,17 @@ impl Track {
         self.last
     }
 
+    /// The first vertex.
+    pub(crate) fn first(&self) -> VertexName
+        ensures { result.0 ≡ slice_index self.now.walk 0 }
+    {
+        if self.earlier.is_empty() {
+            self.last
+        } else {
+            self.earlier[0]
+        }
+    }
+
     /// The place of the last vertex in the walk.
     pub(crate) fn place(&self) -> u32
         requires { length self.now.walk < 2 ^ 31 }

@@ -2,7 +2,6 @@ use Rattle.std.proofs.Common.{◌≡◌, ℕ, ◌-◌, ◌<◌, ◌∷◌, ◌++
 use Rattle.std.proofs.lemmas.List.{append-nil}
 use Rattle.std.proofs.lemmas.Result.{IfOk-weaker}
 use Rattle.surf_model.specs.FaceLists.{FaceList, face_at}
-use Rattle.surf_model.specs.FreeWalks.{AreFreelyEqual}
 use Rattle.surf_model.specs.Moves.{PeakedMoves, apply}
 use Rattle.surf_model.specs.Vertices.{numbers}
 use Rattle.surf_model.specs.Walks.{IsWalk, darts}
@@ -11,10 +10,10 @@ use Rattle.surf_model.specs.declared.moves.Move.TheVariants.{Across}
 use Rattle.surf_model.specs.declared.names.VertexName.{VertexName}
 use Rattle.halfedge_map.specs.DartMaps.{darts_of, origin_of}
 use Rattle.polygon_cut.specs.Polygons.{side_at}
-use Rattle.polygon_cut.specs.SpokeLoops.{by_loop, last_side}
+use Rattle.polygon_cut.specs.SpokeLoops.{last_side}
 use Rattle.move_lifting.specs.Crossings.{IsStepOf}
 use Rattle.move_lifting.specs.Lifts.{LeadsAtPeak}
-use Rattle.move_lifting.specs.LoopsPutIn.{signed_loop}
+use Rattle.move_lifting.specs.SpokeWalks.{IsLastLoop}
 use Rattle.move_lifting.specs.Tracks.{GoesOn}
 use Rattle.move_lifting.specs.declared.lifted.Lifted.{Lifted}
 use Rattle.move_lifting.proofs.ExpandLemmas.{length-numbers}
@@ -94,32 +93,8 @@ lead_all-requires-clause-few c =
       c.requires.sides,
     )
 
-pub returns-clause-leads : goal.returns-clause-leads
-returns-clause-leads c =
-    let s = c.args.surface.now in
-    let d : ℕ = c.side-dart.result.0 in
-    let round : IsAllRound s c.args.split.now c.args.polygon.now c.args.back c.step_from-step.result (numbers c.in_ok-around.around.items) =
-    gone_round s c.args.split.now c.args.polygon.now c.step_from-step.ensures.valid c.requires.cut c.requires.some c.args.back d c.step_from-step.result
-    c.faces.result.now c.in_ok-around.around.items
-    (c.side-dart.ensures ∙ ap (λ (n : ℕ). side_at c.args.polygon.now (n - 1)) c.degree.ensures.degree) c.step_from-step.ensures.step c.faces.ensures.mesh
-    c.in_ok-around.ensures in
-    let v : ℕ = origin_of s (last_side c.args.polygon.now) in
-    let around : List ℕ = numbers c.in_ok-around.around.items in
-    let count : c.len.result - 1 ≡ darts around = omega (arith, c.len.ensures, length-numbers c.in_ok-around.around.items) in
-    let noted : LeadsAtPeak s.mesh (v ∷ []) c.push.new.self around =
-    round_leads s.mesh v (c.len.result - 1) c.move_round.result around c.new-moves.result c.push.new.self c.new-moves.ensures
-    (ap (apply s.mesh (v ∷ [])) c.move_round.ensures ∙ round.leads) count c.in_ok-push.ensures.ok in
-    let goes : GoesOn s.mesh 0 around c.push.new.self c.in_ok-track.track.walk c.in_ok-track.track.list =
-    subst (λ (l : List VertexName). GoesOn s.mesh 0 (numbers l) c.push.new.self c.in_ok-track.track.walk c.in_ok-track.track.list) c.deref.ensures.value
-    c.in_ok-track.ensures.leads in
-    let led : LeadsAtPeak s.mesh (v ∷ []) c.in_ok-track.track.list c.in_ok-track.track.walk =
-    subst (LeadsAtPeak s.mesh (v ∷ []) c.in_ok-track.track.list) (append-nil c.in_ok-track.track.walk)
-    (goes (v ∷ []) [] refl (subst (LeadsAtPeak s.mesh (v ∷ []) c.push.new.self) (sym (append-nil around)) noted)) in
-    IfOk-weaker c.finish.result _ _
-    (λ (lifted : Lifted) is. subst (λ (l : Lifted). LeadsAtPeak s.mesh (v ∷ []) l.moves l.walk) (sym is) led) c.finish.ensures
-
-pub returns-clause-freely : goal.returns-clause-freely
-returns-clause-freely c =
+pub returns : goal.returns
+returns c =
     let s = c.args.surface.now in
     let d : ℕ = c.side-dart.result.0 in
     let round : IsAllRound s c.args.split.now c.args.polygon.now c.args.back c.step_from-step.result (numbers c.in_ok-around.around.items) =
@@ -142,10 +117,15 @@ returns-clause-freely c =
     let begun : c.push.new.self.moves ≡ Across 0 c.step_from-step.result.face c.step_from-step.result.corner (not c.step_from-step.result.forward) 0 ∷ [] =
     ap (λ (l : PeakedMoves). l.moves) c.in_ok-push.ensures.ok ∙ ap (λ (l : PeakedMoves). l.moves ++ c.move_round.result ∷ []) c.new-moves.ensures
     ∙ ap (λ (m : Move). m ∷ []) c.move_round.ensures in
+    let made : IsLastLoop s c.args.split.now c.args.polygon.now c.args.back
+    (record { walk = c.in_ok-track.track.walk; moves = c.in_ok-track.track.list }) =
+    record {
+      leads = led;
+      no_spur = c.in_ok-track.ensures.no_spur;
+      freely = λ root ways h.
+          round_freely s c.args.split.now c.args.polygon.now c.args.back c.step_from-step.result around c.new-moves.result c.push.new.self c.in_ok-track.track
+          c.step_from-step.ensures.valid c.requires.split c.requires.cut c.requires.some round led begun c.in_ok-track.ensures.leaves
+          c.in_ok-track.ensures.off_cotree root ways h;
+    } in
     IfOk-weaker c.finish.result _ _
-    (λ (lifted : Lifted) is root ways h.
-    subst (λ (l : Lifted). AreFreelyEqual s.mesh l.walk (by_loop ways v v (signed_loop s c.args.polygon.now root ways c.args.back))) (sym is)
-    (round_freely s c.args.split.now c.args.polygon.now c.args.back c.step_from-step.result around c.new-moves.result c.push.new.self c.in_ok-track.track
-    c.step_from-step.ensures.valid c.requires.split c.requires.cut c.requires.some round led begun c.in_ok-track.ensures.leaves
-    c.in_ok-track.ensures.off_cotree root ways h))
-    c.finish.ensures
+    (λ (lifted : Lifted) is. subst (IsLastLoop s c.args.split.now c.args.polygon.now c.args.back) (sym is) made) c.finish.ensures

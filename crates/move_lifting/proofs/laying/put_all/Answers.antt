@@ -1,4 +1,4 @@
-use Rattle.std.proofs.Common.{◌≡◌, ◌++◌, take, subst, length, List, arith}
+use Rattle.std.proofs.Common.{◌++◌, subst, List, arith}
 use Rattle.std.proofs.lemmas.List.{take_all}
 use Rattle.surf_model.specs.FreeWalks.{AreFreelyEqual}
 use Rattle.surf_model.specs.Vertices.{numbers}

@@ -1,6 +1,5 @@
-use Rattle.std.proofs.Common.{◌≡◌, ℕ, suc, ◌+◌, ◌-◌, ◌<◌, List, [], length, get_or, ap, sym, ◌∙◌, subst, arith}
+use Rattle.std.proofs.Common.{◌≡◌, ℕ, suc, ◌-◌, ◌<◌, List, [], length, get_or, ap, sym, subst, arith}
 use Rattle.surf_model.specs.Vertices.{numbers}
-use Rattle.polygon_cut.specs.Polygons.{side_at}
 use Rattle.move_lifting.specs.SpokeWalks.{IsSpokeWalk, AreSpokeWalks}
 use Rattle.move_lifting.proofs.ApproachLemmas.{spoke_some, first_spoke, spoke_after, spokes_more, no_spokes}
 use Rattle.move_lifting.proofs.ExpandLemmas.{length-numbers}

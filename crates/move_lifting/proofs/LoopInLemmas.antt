@@ -1,0 +1,301 @@
+-- The loop of the last side, put into a walk behind the spokes in front, by way of the tree.
+use Rattle.std.proofs.Common.{◌≡◌, ℕ, suc, ◌-◌, ◌<◌, Bool, true, false, List, [], ◌∷◌, ◌++◌, drop, get_or, ap, sym, ◌∙◌, subst, arith, append_assoc}
+use Rattle.std.specs.Prelude.{IsTrue, All, Some, if◌then◌else◌}
+use Rattle.surf_model.specs.FaceLists.{FaceList, is_used}
+use Rattle.surf_model.specs.Vertices.{numbers}
+use Rattle.surf_model.specs.Walks.{IsWalk}
+use Rattle.surf_model.specs.declared.names.VertexName.{VertexName}
+use Rattle.surf_model.specs.FreeWalks.{AreFreelyEqual}
+use Rattle.surf_model.specs.Moves.{apply_all}
+use Rattle.halfedge_map.specs.OrientedMeshes.{OrientedMesh, IsOrientedSurface}
+use Rattle.halfedge_map.specs.DartMaps.{origin_of}
+use Rattle.tree_cotree.specs.Splits.{SplitView, IsSplit}
+use Rattle.polygon_cut.specs.Polygons.{PolygonView, IsCutFrom}
+use Rattle.polygon_cut.specs.SpokeLoops.{AreWaysUp, backward, by_loop, dart_loop, last_side, last_side_loop, path_loop, put_behind, spoke_loop}
+use Rattle.polygon_cut.proofs.FreeLawLemmas.{by_own_loop, root_is, side_in}
+use Rattle.polygon_cut.proofs.FreeLoopLemmas.{SameFreely, freely_itself, freely_on, freely_back, freely_behind, freely_before, freely_there, freely_to_loops, loops_make_a_free_group}
+use Rattle.polygon_cut.proofs.FreeWayLemmas.{put_in}
+use Rattle.polygon_cut.proofs.LoopLemmas.{IsWay, HasWays, Loop, loop_mul, loop_inv, loop_of, append_none, back, start_used, end_used, way_home, way_on, way_walk}
+use Rattle.polygon_cut.proofs.RelatorLemmas.{loop_in}
+use Rattle.polygon_cut.proofs.TreeWayLemmas.{up, up_path}
+use Rattle.move_lifting.specs.Lifts.{LeadsAtPeak}
+use Rattle.move_lifting.specs.LoopsPutIn.{signed_loop, HasLoopIn}
+use Rattle.move_lifting.specs.SpokeWalks.{IsSpokeWalk, AreSpokeWalks, IsLastLoop, IsLooper, along_or_back, walks_loop}
+use Rattle.move_lifting.specs.Tracks.{last_of}
+use Rattle.move_lifting.specs.declared.lifted.Lifted.{Lifted}
+use Rattle.move_lifting.specs.declared.looping.Looper.{Looper}
+use Rattle.move_lifting.proofs.ApproachLemmas.{GoesFrom, free_way, goes_end, goes_walk, walk_goes, turn_goes_home, has_ways, dart_loop_way, spoke_way, path_way, spoke_walk}
+use Rattle.move_lifting.proofs.BackLemmas.{backward_is}
+use Rattle.move_lifting.proofs.TreeUpLemmas.{own_ways}
+
+-- The walks of spokes go the way of their loops, up to spurs.
+piece : (s : OrientedMesh) (split : SplitView) → IsOrientedSurface s → (t : IsSplit s split) → (polygon : PolygonView) → IsCutFrom s split polygon → 0 < polygon.degree
+    → (ways : ℕ → List ℕ) → AreWaysUp s split t.parents.root ways → (i : ℕ) (walk : List ℕ) → IsSpokeWalk s split polygon i walk
+    → (AreFreelyEqual s.mesh (t.parents.root ∷ spoke_loop s polygon t.parents.root ways i) (t.parents.root ∷ along_or_back true walk)
+    × IsWay s.mesh t.parents.root t.parents.root (along_or_back true walk))
+    × (AreFreelyEqual s.mesh (t.parents.root ∷ backward t.parents.root (spoke_loop s polygon t.parents.root ways i)) (t.parents.root ∷ along_or_back false walk)
+    × IsWay s.mesh t.parents.root t.parents.root (along_or_back false walk))
+piece s split o t polygon c some ways h i walk is =
+    let root : ℕ = t.parents.root in
+    let known : GoesFrom s.mesh root root walk = spoke_walk s split o t polygon c some i walk is in
+    let loop : List ℕ = spoke_loop s polygon root ways i in
+    let a : Loop s.mesh root = record { rest = loop; is_way = spoke_way s split o t polygon c some ways h i } in
+    let b : Loop s.mesh root = record { rest = known.rest; is_way = known.way } in
+    let same : SameFreely a b = subst (AreFreelyEqual s.mesh (root ∷ loop)) known.walk_is (is.freely root ways h) in
+    let there : known.rest ≡ along_or_back true walk = sym (ap (drop 1) known.walk_is) in
+    let home : back root known.rest ≡ along_or_back false walk =
+    sym (ap (λ (l : List ℕ). backward (get_or l 0 0) (drop 1 l)) known.walk_is ∙ backward_is root known.rest) in
+    let turned : AreFreelyEqual s.mesh (root ∷ back root loop) (root ∷ back root known.rest) =
+    (loops_make_a_free_group s.mesh root t.parents.root_used).inv_same a b same in (
+      (
+        subst (λ (l : List ℕ). AreFreelyEqual s.mesh (root ∷ loop) (root ∷ l)) there same,
+        subst (IsWay s.mesh root root) there known.way,
+      ),
+      (
+        subst (λ (l : List ℕ). AreFreelyEqual s.mesh (root ∷ l) (root ∷ along_or_back false walk)) (sym (backward_is root loop))
+            (subst (λ (l : List ℕ). AreFreelyEqual s.mesh (root ∷ back root loop) (root ∷ l)) home turned),
+        subst (IsWay s.mesh root root) home (way_home s.mesh root root known.rest known.way),
+      ),
+    )
+
+front_free : (s : OrientedMesh) (split : SplitView) → IsOrientedSurface s → (t : IsSplit s split) → (polygon : PolygonView) → IsCutFrom s split polygon → 0 < polygon.degree
+    → (ways : ℕ → List ℕ) → AreWaysUp s split t.parents.root ways → (walks : List (List ℕ)) → AreSpokeWalks s split polygon polygon.degree walks
+    → (along : Bool) (path : List ℕ) → All (λ i. i < polygon.degree) path
+    → AreFreelyEqual s.mesh (t.parents.root ∷ path_loop s polygon t.parents.root ways along path) (t.parents.root ∷ walks_loop walks along path)
+front_free s split o t polygon c some ways h walks all along [] below = freely_itself s.mesh (t.parents.root ∷ [])
+front_free s split o t polygon c some ways h walks all true (i ∷ path) below =
+    let root : ℕ = t.parents.root in
+    let one = (piece s split o t polygon c some ways h i (get_or walks i []) (all.each i (below 0 i (omega arith)))).0 in
+    let rest = front_free s split o t polygon c some ways h walks all false path (λ k d l. below (suc k) d (omega arith)) in
+    let first : List ℕ = along_or_back true (get_or walks i []) in
+    let more : List ℕ = path_loop s polygon root ways false path in
+    freely_on s.mesh (root ∷ (spoke_loop s polygon root ways i ++ more)) (root ∷ (first ++ more)) (root ∷ (first ++ walks_loop walks false path))
+    (freely_before s.mesh root (spoke_loop s polygon root ways i) first more one.0)
+    (freely_behind s.mesh root root first more (walks_loop walks false path) one.1 rest)
+front_free s split o t polygon c some ways h walks all false (i ∷ path) below =
+    let root : ℕ = t.parents.root in
+    let one = (piece s split o t polygon c some ways h i (get_or walks i []) (all.each i (below 0 i (omega arith)))).1 in
+    let rest = front_free s split o t polygon c some ways h walks all true path (λ k d l. below (suc k) d (omega arith)) in
+    let first : List ℕ = along_or_back false (get_or walks i []) in
+    let more : List ℕ = path_loop s polygon root ways true path in
+    freely_on s.mesh (root ∷ (backward root (spoke_loop s polygon root ways i) ++ more)) (root ∷ (first ++ more)) (root ∷ (first ++ walks_loop walks true path))
+    (freely_before s.mesh root (backward root (spoke_loop s polygon root ways i)) first more one.0)
+    (freely_behind s.mesh root root first more (walks_loop walks true path) one.1 rest)
+
+-- a loop, up the tree before it and down the tree behind it
+whole_way : (mesh : FaceList) (root : ℕ) (ways : ℕ → List ℕ) (w : HasWays mesh root ways) (u v : ℕ) (loop : Loop mesh root) → IsTrue (is_used mesh u) → IsTrue (is_used mesh v)
+    → IsWay mesh u v (ways u ++ (loop.rest ++ back v (ways v)))
+whole_way mesh root ways w u v loop u_used v_used =
+    way_on mesh u root v (ways u) (loop.rest ++ back v (ways v)) (w.way u u_used)
+    (way_on mesh root root v loop.rest (back v (ways v)) loop.is_way (way_home mesh v root (ways v) (w.way v v_used)))
+
+-- its loop is that loop
+own_loop : (mesh : FaceList) (root : ℕ) (ways : ℕ → List ℕ) (w : HasWays mesh root ways) (u v : ℕ) (loop : Loop mesh root) (k : IsWay mesh u v (ways u ++ (loop.rest ++ back v (ways v))))
+    → SameFreely (loop_of mesh root ways w u v (ways u ++ (loop.rest ++ back v (ways v))) k) loop
+own_loop mesh root ways w u v loop k =
+    let u_way : IsWay mesh u root (ways u) = w.way u (start_used mesh u v (ways u ++ (loop.rest ++ back v (ways v))) k) in
+    let v_way : IsWay mesh v root (ways v) = w.way v (end_used mesh u v (ways u ++ (loop.rest ++ back v (ways v))) k) in
+    let down : List ℕ = back u (ways u) in
+    let home : List ℕ = back v (ways v) in
+    let shape : down ++ ((ways u ++ (loop.rest ++ home)) ++ ways v) ≡ (down ++ ways u) ++ (loop.rest ++ (home ++ ways v)) = simp append_assoc in
+    let front : AreFreelyEqual mesh (root ∷ ((down ++ ways u) ++ (loop.rest ++ (home ++ ways v)))) (root ∷ (loop.rest ++ (home ++ ways v))) =
+    freely_before mesh root (down ++ ways u) [] (loop.rest ++ (home ++ ways v)) (freely_there mesh u root (ways u) u_way) in
+    let end : AreFreelyEqual mesh (root ∷ (loop.rest ++ (home ++ ways v))) (root ∷ loop.rest) =
+    subst (λ (l : List ℕ). AreFreelyEqual mesh (root ∷ (loop.rest ++ (home ++ ways v))) (root ∷ l)) (append_none loop.rest)
+    (freely_behind mesh root root loop.rest (home ++ ways v) [] loop.is_way (freely_there mesh v root (ways v) v_way)) in
+    subst (λ (l : List ℕ). AreFreelyEqual mesh (root ∷ l) (root ∷ loop.rest)) (sym shape)
+    (freely_on mesh (root ∷ ((down ++ ways u) ++ (loop.rest ++ (home ++ ways v)))) (root ∷ (loop.rest ++ (home ++ ways v))) (root ∷ loop.rest) front end)
+
+-- so is that of a walk that spur moves lead to it
+loop_by : (mesh : FaceList) (root : ℕ) (ways : ℕ → List ℕ) (w : HasWays mesh root ways) (u v : ℕ) (rest : List ℕ) (loop : Loop mesh root) (k : IsWay mesh u v rest)
+    → AreFreelyEqual mesh (u ∷ rest) (by_loop ways u v loop.rest) → SameFreely (loop_of mesh root ways w u v rest k) loop
+loop_by mesh root ways w u v rest loop k free =
+    let g = loops_make_a_free_group mesh root w.root_used in
+    let whole : List ℕ = ways u ++ (loop.rest ++ back v (ways v)) in
+    let way : IsWay mesh u v whole = whole_way mesh root ways w u v loop (start_used mesh u v rest k) (end_used mesh u v rest k) in
+    let own : AreFreelyEqual mesh (u ∷ rest) (u ∷ whole) =
+    subst (λ (l : List ℕ). AreFreelyEqual mesh (u ∷ rest) (u ∷ (ways u ++ (loop.rest ++ l)))) (backward_is v (ways v)) free in
+    g.on (loop_of mesh root ways w u v rest k) (loop_of mesh root ways w u v whole way) loop (freely_to_loops mesh root ways w u v rest whole k way own)
+    (own_loop mesh root ways w u v loop way)
+
+-- the loop of the last side, or the way back along it
+signed : (s : OrientedMesh) (split : SplitView) → IsOrientedSurface s → (t : IsSplit s split) → (polygon : PolygonView) → IsCutFrom s split polygon → 0 < polygon.degree
+    → (ways : ℕ → List ℕ) → AreWaysUp s split t.parents.root ways → (back_too : Bool) → IsWay s.mesh t.parents.root t.parents.root (signed_loop s polygon t.parents.root ways back_too)
+signed s split o t polygon c some ways h back_too = by back_too
+  where
+    root : ℕ
+    root = t.parents.root
+
+    forth : IsWay s.mesh root root (last_side_loop s polygon root ways)
+    forth =
+        let z : ℕ = polygon.degree - 1 in
+        way_on s.mesh root root root (dart_loop s ways (last_side polygon)) (path_loop s polygon root ways true (0 ∷ z ∷ []))
+        (dart_loop_way s split o t ways h (last_side polygon) (side_in s split polygon c some z)) (path_way s split o t polygon c some ways h true (0 ∷ z ∷ []))
+
+    by : (b : Bool) → IsWay s.mesh root root (signed_loop s polygon root ways b)
+    by true = subst (IsWay s.mesh root root) (sym (backward_is root (last_side_loop s polygon root ways))) (way_home s.mesh root root (last_side_loop s polygon root ways) forth)
+    by false = forth
+
+-- The loop is put in where the approach leads.
+put_in_there : (s : OrientedMesh) (split : SplitView) → IsOrientedSurface s → (t : IsSplit s split) → (polygon : PolygonView) → IsCutFrom s split polygon → 0 < polygon.degree
+    → (ways : ℕ → List ℕ) → AreWaysUp s split t.parents.root ways → (front path : List ℕ) (against : Bool) (x y : ℕ) (there turn more new : List ℕ)
+    → IsWay s.mesh x y there → IsWay s.mesh y y turn → IsWay s.mesh x x more
+    → AreFreelyEqual s.mesh (by_loop ways x y (path_loop s polygon t.parents.root ways true front)) (x ∷ there)
+    → AreFreelyEqual s.mesh (y ∷ turn) (by_loop ways y y (signed_loop s polygon t.parents.root ways against))
+    → AreFreelyEqual s.mesh (x ∷ more) (by_loop ways x x (path_loop s polygon t.parents.root ways true path))
+    → AreFreelyEqual s.mesh (x ∷ put_behind x there turn more) new
+    → AreFreelyEqual s.mesh new
+    (by_loop ways x x
+    (put_behind t.parents.root (path_loop s polygon t.parents.root ways true front) (signed_loop s polygon t.parents.root ways against)
+    (path_loop s polygon t.parents.root ways true path)))
+put_in_there s split o t polygon c some ways h front path against x y there turn more new there_way turn_way more_way a l m n =
+    let root : ℕ = t.parents.root in
+    let mesh : FaceList = s.mesh in
+    let w : HasWays mesh root ways = has_ways s split o t ways h in
+    let g = loops_make_a_free_group mesh root w.root_used in
+    let f : Loop mesh root = record { rest = path_loop s polygon root ways true front; is_way = path_way s split o t polygon c some ways h true front } in
+    let z : Loop mesh root = record { rest = signed_loop s polygon root ways against; is_way = signed s split o t polygon c some ways h against } in
+    let p : Loop mesh root = record { rest = path_loop s polygon root ways true path; is_way = path_way s split o t polygon c some ways h true path } in
+    let x_used : IsTrue (is_used mesh x) = start_used mesh x y there there_way in
+    let y_used : IsTrue (is_used mesh y) = end_used mesh x y there there_way in
+    let out : IsWay mesh x y (ways x ++ (f.rest ++ backward y (ways y))) =
+    subst (λ (k : List ℕ). IsWay mesh x y (ways x ++ (f.rest ++ k))) (sym (backward_is y (ways y))) (whole_way mesh root ways w x y f x_used y_used) in
+    let there_free : AreFreelyEqual mesh (x ∷ there) (by_loop ways x y f.rest) =
+    freely_back mesh (by_loop ways x y f.rest) (x ∷ there) (way_walk mesh x y (ways x ++ (f.rest ++ backward y (ways y))) out) a in
+    let there_loop : Loop mesh root = loop_of mesh root ways w x y there there_way in
+    let turn_loop : Loop mesh root = loop_of mesh root ways w y y turn turn_way in
+    let more_loop : Loop mesh root = loop_of mesh root ways w x x more more_way in
+    let there_is : SameFreely there_loop f = loop_by mesh root ways w x y there f there_way there_free in
+    let turn_is : SameFreely turn_loop z = loop_by mesh root ways w y y turn z turn_way l in
+    let more_is : SameFreely more_loop p = loop_by mesh root ways w x x more p more_way m in
+    let rest : List ℕ = there ++ (turn ++ (back x there ++ more)) in
+    let rest_way : IsWay mesh x x rest =
+    way_on mesh x y x there (turn ++ (back x there ++ more)) there_way
+    (way_on mesh y y x turn (back x there ++ more) turn_way (way_on mesh y x x (back x there) more (way_home mesh x y there there_way) more_way)) in
+    let inner : Loop mesh root = loop_in loop_mul loop_inv there_loop turn_loop more_loop in
+    let outer : Loop mesh root = loop_in loop_mul loop_inv f z p in
+    let inverse : SameFreely (loop_inv there_loop) (loop_inv f) = g.inv_same there_loop f there_is in
+    let last : SameFreely (loop_mul (loop_inv there_loop) more_loop) (loop_mul (loop_inv f) p) =
+    g.mul_same (loop_inv there_loop) (loop_inv f) more_loop p inverse more_is in
+    let both : SameFreely (loop_mul turn_loop (loop_mul (loop_inv there_loop) more_loop)) (loop_mul z (loop_mul (loop_inv f) p)) =
+    g.mul_same turn_loop z (loop_mul (loop_inv there_loop) more_loop) (loop_mul (loop_inv f) p) turn_is last in
+    let all : SameFreely inner outer =
+    g.mul_same there_loop f (loop_mul turn_loop (loop_mul (loop_inv there_loop) more_loop)) (loop_mul z (loop_mul (loop_inv f) p)) there_is both in
+    let worth : SameFreely (loop_of mesh root ways w x x rest rest_way) outer =
+    g.on (loop_of mesh root ways w x x rest rest_way) inner outer (put_in mesh root ways w x y x there turn more there_way turn_way more_way rest_way) all in
+    let by_outer : AreFreelyEqual mesh (x ∷ rest) (x ∷ (ways x ++ (outer.rest ++ back x (ways x)))) = by_own_loop mesh root ways w x x rest rest_way outer worth in
+    let shape : x ∷ (ways x ++ (outer.rest ++ back x (ways x))) ≡ by_loop ways x x (put_behind root f.rest z.rest p.rest) =
+    ap (λ (k : List ℕ). x ∷ (ways x ++ ((f.rest ++ (z.rest ++ (k ++ p.rest))) ++ back x (ways x)))) (sym (backward_is root f.rest))
+    ∙ ap (λ (k : List ℕ). x ∷ (ways x ++ (put_behind root f.rest z.rest p.rest ++ k))) (sym (backward_is x (ways x))) in
+    let own : AreFreelyEqual mesh (x ∷ rest) new =
+    subst (λ (k : List ℕ). AreFreelyEqual mesh (x ∷ (there ++ (turn ++ (k ++ more)))) new) (backward_is x there) n in
+    freely_on mesh new (x ∷ rest) (by_loop ways x x (put_behind root f.rest z.rest p.rest))
+    (freely_back mesh (x ∷ rest) new (way_walk mesh x x rest rest_way) own) (subst (AreFreelyEqual mesh (x ∷ rest)) shape by_outer)
+
+-- the way along the walks is the way along the loops, up the tree before it and down the tree behind it
+approach_free : (s : OrientedMesh) (split : SplitView) → IsOrientedSurface s → (t : IsSplit s split) → (polygon : PolygonView) → IsCutFrom s split polygon
+    → 0 < polygon.degree → (ways : ℕ → List ℕ) → AreWaysUp s split t.parents.root ways → (walks : List (List ℕ))
+    → AreSpokeWalks s split polygon polygon.degree walks → (front : List ℕ) → All (λ i. i < polygon.degree) front → (x y : ℕ) (walk : List ℕ) → IsTrue (is_used s.mesh x)
+    → AreFreelyEqual s.mesh (by_loop ways x y (walks_loop walks true front)) walk
+    → AreFreelyEqual s.mesh (by_loop ways x y (path_loop s polygon t.parents.root ways true front)) walk
+approach_free s split o t polygon c some ways h walks all front below x y walk used free =
+    let root : ℕ = t.parents.root in
+    let path : List ℕ = path_loop s polygon root ways true front in
+    let laid : List ℕ = walks_loop walks true front in
+    let down : List ℕ = backward y (ways y) in
+    freely_on s.mesh (by_loop ways x y path) (by_loop ways x y laid) walk
+    (freely_behind s.mesh x root (ways x) (path ++ down) (laid ++ down) ((has_ways s split o t ways h).way x used)
+    (freely_before s.mesh root path laid down (front_free s split o t polygon c some ways h walks all true front below)))
+    free
+
+-- the approach is a way
+pub approach_goes : (s : OrientedMesh) (split : SplitView) → IsOrientedSurface s → (t : IsSplit s split) → (polygon : PolygonView) → IsCutFrom s split polygon
+    → 0 < polygon.degree → (walks : List (List ℕ)) → AreSpokeWalks s split polygon polygon.degree walks → (front : List ℕ) → All (λ i. i < polygon.degree) front
+    → (x y : ℕ) (walk : List ℕ) → IsTrue (is_used s.mesh x) → IsTrue (is_used s.mesh y)
+    → ((root : ℕ) (ways : ℕ → List ℕ) → AreWaysUp s split root ways → AreFreelyEqual s.mesh (by_loop ways x y (walks_loop walks true front)) walk)
+    → GoesFrom s.mesh x y walk
+approach_goes s split o t polygon c some walks all front below x y walk x_used y_used free =
+    let root : ℕ = t.parents.root in
+    let ways : ℕ → List ℕ = up s split t in
+    let h : AreWaysUp s split root ways = λ v used. up_path s split t v used in
+    let w : HasWays s.mesh root ways = has_ways s split o t ways h in
+    let loop : Loop s.mesh root = record { rest = path_loop s polygon root ways true front; is_way = path_way s split o t polygon c some ways h true front } in
+    let way : IsWay s.mesh x y (ways x ++ (loop.rest ++ backward y (ways y))) =
+    subst (λ (k : List ℕ). IsWay s.mesh x y (ways x ++ (loop.rest ++ k))) (sym (backward_is y (ways y))) (whole_way s.mesh root ways w x y loop x_used y_used) in
+    free_way s.mesh x y (ways x ++ (loop.rest ++ backward y (ways y))) walk way
+    (approach_free s split o t polygon c some ways h walks all front below x y walk x_used (free root ways h))
+
+-- the loop of the last side is put in
+pub loop_put_in : (s : OrientedMesh) (split : SplitView) → IsOrientedSurface s → (t : IsSplit s split) → (polygon : PolygonView) → IsCutFrom s split polygon
+    → 0 < polygon.degree → (walks : List (List ℕ)) → AreSpokeWalks s split polygon polygon.degree walks → (turn : Lifted) (against : Bool)
+    → IsLastLoop s split polygon against turn → (front : List ℕ) → All (λ i. i < polygon.degree) front → (walk approach new : List ℕ) (y : ℕ)
+    → y ≡ origin_of s (last_side polygon) → IsTrue (is_used s.mesh y) → IsWalk s.mesh walk → last_of walk ≡ get_or walk 0 0
+    → ((root : ℕ) (ways : ℕ → List ℕ) → AreWaysUp s split root ways
+    → AreFreelyEqual s.mesh (by_loop ways (get_or walk 0 0) y (walks_loop walks true front)) approach)
+    → (IsWalk s.mesh approach
+    → AreFreelyEqual s.mesh (get_or walk 0 0 ∷ put_behind (get_or walk 0 0) (drop 1 approach) (drop 1 turn.walk) (drop 1 walk)) new)
+    → HasLoopIn s split polygon front against walk new
+loop_put_in s split o t polygon c some walks all turn against last front below walk approach new y y_is y_used w closed free put root ways path h path_below old =
+    let x : ℕ = get_or walk 0 0 in
+    let own : AreWaysUp s split t.parents.root ways = own_ways s split o t root ways h in
+    let same : t.parents.root ≡ root = root_is s split o t root ways h in
+    let here : GoesFrom s.mesh x (last_of walk) walk = walk_goes s.mesh walk w in
+    let x_used : IsTrue (is_used s.mesh x) = start_used s.mesh x (last_of walk) here.rest here.way in
+    let there : GoesFrom s.mesh x y approach = approach_goes s split o t polygon c some walks all front below x y approach x_used y_used free in
+    let round : GoesFrom s.mesh y y turn.walk =
+    turn_goes_home s.mesh y turn.walk turn.moves.moves y_used
+    (subst (λ (v : ℕ). apply_all s.mesh (v ∷ []) turn.moves.moves ≡ Some turn.walk) (sym y_is) last.leads.leads) in
+    let home : IsWay s.mesh x x here.rest = subst (λ (v : ℕ). IsWay s.mesh x v here.rest) closed here.way in
+    let there_rest : drop 1 approach ≡ there.rest = ap (drop 1) there.walk_is in
+    let round_rest : drop 1 turn.walk ≡ round.rest = ap (drop 1) round.walk_is in
+    let here_rest : drop 1 walk ≡ here.rest = ap (drop 1) here.walk_is in
+    let out : AreFreelyEqual s.mesh (by_loop ways x y (path_loop s polygon t.parents.root ways true front)) (x ∷ there.rest) =
+    subst (AreFreelyEqual s.mesh (by_loop ways x y (path_loop s polygon t.parents.root ways true front))) there.walk_is
+    (approach_free s split o t polygon c some ways own walks all front below x y approach x_used (free t.parents.root ways own)) in
+    let turned : AreFreelyEqual s.mesh (y ∷ round.rest) (by_loop ways y y (signed_loop s polygon t.parents.root ways against)) =
+    subst (λ (l : List ℕ). AreFreelyEqual s.mesh l (by_loop ways y y (signed_loop s polygon t.parents.root ways against))) round.walk_is
+    (subst (λ (v : ℕ). AreFreelyEqual s.mesh turn.walk (by_loop ways v v (signed_loop s polygon t.parents.root ways against))) (sym y_is) (last.freely t.parents.root ways own)) in
+    let begun : AreFreelyEqual s.mesh (x ∷ here.rest) (by_loop ways x x (path_loop s polygon t.parents.root ways true path)) =
+    subst (λ (l : List ℕ). AreFreelyEqual s.mesh l (by_loop ways x x (path_loop s polygon t.parents.root ways true path))) here.walk_is
+    (subst (λ (r : ℕ). AreFreelyEqual s.mesh walk (by_loop ways x x (path_loop s polygon r ways true path))) (sym same) old) in
+    let made : AreFreelyEqual s.mesh (x ∷ put_behind x there.rest round.rest here.rest) new =
+    subst (λ (l : List ℕ). AreFreelyEqual s.mesh (x ∷ put_behind x l round.rest here.rest) new) there_rest
+    (subst (λ (l : List ℕ). AreFreelyEqual s.mesh (x ∷ put_behind x (drop 1 approach) l here.rest) new) round_rest
+    (subst (λ (l : List ℕ). AreFreelyEqual s.mesh (x ∷ put_behind x (drop 1 approach) (drop 1 turn.walk) l) new) here_rest (put (goes_walk s.mesh x y approach there)))) in
+    subst
+    (λ (r : ℕ).
+    AreFreelyEqual s.mesh new
+    (by_loop ways x x
+    (put_behind r (path_loop s polygon r ways true front) (signed_loop s polygon r ways against) (path_loop s polygon r ways true path)))) same
+    (put_in_there s split o t polygon c some ways own front path against x y there.rest round.rest here.rest new there.way round.way home out turned begun made)
+
+-- the loop of the last side that is taken, or the way back along it
+pub picked : (s : OrientedMesh) (split : SplitView) (polygon : PolygonView) (looper : Looper) (against : Bool) (turn : Lifted) → IsLooper s split polygon looper
+    → turn ≡ (if against then looper.back else looper.forth) → IsLastLoop s split polygon against turn
+picked s split polygon looper true turn l is = subst (IsLastLoop s split polygon true) (sym is) l.back
+picked s split polygon looper false turn l is = subst (IsLastLoop s split polygon false) (sym is) l.forth
+
+-- what is ready to be put in
+pub record IsReady (mesh : FaceList) (x y : ℕ) (approach : List ℕ) (turn : Lifted) : Type 0 where
+  pub there : GoesFrom mesh x y approach
+  pub round : GoesFrom mesh y y turn.walk
+  pub leads : LeadsAtPeak mesh (last_of approach ∷ []) turn.moves turn.walk
+
+pub is_ready : (s : OrientedMesh) (split : SplitView) → IsOrientedSurface s → (t : IsSplit s split) → (polygon : PolygonView) → IsCutFrom s split polygon
+    → 0 < polygon.degree → (looper : Looper) → IsLooper s split polygon looper → (turn : Lifted) (against : Bool)
+    → turn ≡ (if against then looper.back else looper.forth) → (front : List ℕ) → All (λ i. i < polygon.degree) front → (x y : ℕ) (names read : List VertexName)
+    → y ≡ origin_of s (last_side polygon) → IsTrue (is_used s.mesh x) → IsTrue (is_used s.mesh y) → read ≡ names
+    → ((root : ℕ) (ways : ℕ → List ℕ) → AreWaysUp s split root ways
+    → AreFreelyEqual s.mesh (by_loop ways x y (walks_loop looper.spokes true front)) (numbers names))
+    → IsReady s.mesh x y (numbers read) turn
+is_ready s split o t polygon c some looper l turn against is front below x y names read y_is x_used y_used same free =
+    let last : IsLastLoop s split polygon against turn = picked s split polygon looper against turn l is in
+    let from_y : LeadsAtPeak s.mesh (y ∷ []) turn.moves turn.walk = subst (λ (v : ℕ). LeadsAtPeak s.mesh (v ∷ []) turn.moves turn.walk) (sym y_is) last.leads in
+    let there : GoesFrom s.mesh x y (numbers read) =
+    subst (λ (k : List VertexName). GoesFrom s.mesh x y (numbers k)) (sym same)
+    (approach_goes s split o t polygon c some looper.spokes l.spokes front below x y (numbers names) x_used y_used free) in
+    record {
+      there = there;
+      round = turn_goes_home s.mesh y turn.walk turn.moves.moves y_used from_y.leads;
+      leads = subst (λ (v : ℕ). LeadsAtPeak s.mesh (v ∷ []) turn.moves turn.walk) (sym (goes_end s.mesh x y (numbers read) there)) from_y;
+    }

@@ -1,0 +1,25 @@
+use Rattle.std.proofs.Common.{◌≡◌, ◌++◌, ◌-◌, Bool, List, ℕ, length, take, drop, refl, ap, sym, ◌∙◌, subst}
+use Rattle.std.proofs.lemmas.Result.{on_ok_weaker}
+use Rattle.surf_model.specs.FreeWalks.{AreFreelyEqual}
+use Rattle.surf_model.specs.Vertices.{numbers}
+use Rattle.move_lifting.specs.SpokeWalks.{along_or_back}
+use Rattle.move_lifting.proofs.LayLemmas.{behind_first}
+use Rattle.move_lifting.proofs.looping.put_spoke.Goals as goal
+
+pub returns-then-along-clause-freely : goal.returns-then-along-clause-freely
+returns-then-along-clause-freely c =
+    let spoke = c.args.spoke.now in
+    let rest : numbers (take (length spoke - 1) (drop 1 spoke)) ≡ along_or_back c.args.along (numbers spoke) =
+    behind_first spoke (take (length spoke - 1) (drop 1 spoke)) refl ∙ ap (λ (b : Bool). along_or_back b (numbers spoke)) (sym c.if-along.true) in
+    on_ok_weaker c.put_all.result
+    (λ free mesh. subst (λ (l : List ℕ). AreFreelyEqual mesh (numbers c.args.walk.now.items ++ l) (numbers c.put_all.new.walk.items)) rest (free mesh))
+    c.put_all.ensures.freely
+
+pub returns-in_ok-back-clause-freely : goal.returns-in_ok-back-clause-freely
+returns-in_ok-back-clause-freely c =
+    let rest : numbers c.deref.result.now ≡ along_or_back c.args.along (numbers c.args.spoke.now) =
+    ap numbers c.deref.ensures.value ∙ c.in_ok-back.ensures ∙ ap (λ (b : Bool). along_or_back b (numbers c.args.spoke.now)) (sym c.if-along.false) in
+    on_ok_weaker c.put_all-else-along.result
+    (λ free mesh.
+    subst (λ (l : List ℕ). AreFreelyEqual mesh (numbers c.args.walk.now.items ++ l) (numbers c.put_all-else-along.new.walk.items)) rest (free mesh))
+    c.put_all-else-along.ensures.freely
