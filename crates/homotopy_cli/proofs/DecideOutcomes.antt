@@ -1,26 +1,21 @@
 -- `decide` in the words of the mesh.
-use Rattle.std.proofs.Common.{inr, ℕ, List, [], ◌∷◌, refl}
+use Rattle.std.proofs.Common.{ℕ, List, [], ◌∷◌}
 use Rattle.std.specs.Prelude.{Option}
 use Rattle.surf_io.specs.Files.{Files}
 use Rattle.surf_model.specs.FaceLists.{FaceList}
-use Rattle.off_reader.specs.OffTexts.{meaning_of}
 use Rattle.homotopy_cli.specs.Answers.{Outcome}
-use Rattle.homotopy_cli.specs.Checks.{Passes, IsTold, found_or}
+use Rattle.homotopy_cli.specs.Checks.{found_or}
 use Rattle.homotopy_cli.specs.Commands.{Decide, IsRow}
 use Rattle.homotopy_cli.specs.Decide.{IsDecideInput}
 use Rattle.homotopy_cli.specs.Inputs.{pair_in, SpellsMesh, SpellsPair}
 use Rattle.homotopy_cli.specs.Outcomes.{answer_to, IsOutcome, IsAnswerOf}
 use Rattle.homotopy_cli.specs.SurfaceInput.{surface_in}
-use Rattle.homotopy_cli.specs.declared.refusal.Input.TheVariants as inputs
 use Rattle.homotopy_cli.specs.declared.refusal.Refusal.TheVariants.{Off, Walks, Pair, Certificate}
 use Rattle.homotopy_cli.specs.declared.refusal.Refusal.TheVariants as refusals
 use Rattle.homotopy_cli.specs.declared.status.Status.{Status}
 use Rattle.homotopy_cli.proofs.Deciding.{IsRightAnswer, right_answer, behind, after_pair, after_surface}
 use Rattle.homotopy_cli.proofs.Sound.{sound-found, held}
-use Rattle.homotopy_cli.proofs.Rows.{one_row, sound-pair, sound-surface_in, meant_told, pair_told, spelled_pair}
-
-surface_told : (files : Option Files) (name : List ℕ) → IsTold files name → (surface_in files name).EachFile (IsTold files)
-surface_told files name told = ((told, λ bytes _. meant_told files Off (meaning_of bytes)), λ _ _. (tt, λ _ _. tt))
+use Rattle.homotopy_cli.proofs.Rows.{one_row, sound-pair, sound-surface_in, surface_told, pair_told, spelled_pair, spelled_surface}
 
 -- what is answered of such an input
 pub decides : (files : Option Files) (words : List (List ℕ)) (outcome : Outcome) (status : Status) (text : List ℕ) (mesh : FaceList) (first second : List ℕ)
@@ -31,12 +26,7 @@ decides files words outcome status text mesh first second is answer input =
     let walks_file = held files input.walks_name (SpellsPair mesh first second) input.walks_file in
     let pair : List (List ℕ) = first ∷ second ∷ [] in
     let passed = spelled_pair files input.walks_name mesh first second input.walks_file in
-    let surface : Passes (surface_in files input.mesh_name) mesh =
-    inr (
-      mesh,
-      inr (mesh_file.bytes, mesh_file.passes inputs.Mesh, rw mesh_file.holds refl),
-      inr (mesh, (input.is_surface.closed, refl), (input.is_surface.orientable, refl)),
-    ) in
+    let surface = spelled_surface files input.mesh_name mesh input.mesh_file input.is_surface in
     let row = behind files (found_or refusals.WrongWords (IsRow words)) (answer_to files) (Decide input.mesh_name input.walks_name) outcome
     (sound-found files _ _ (one_row words)) tt input.words_are is in
     let walks = behind files (surface_in files input.mesh_name) (after_surface files input.walks_name) mesh outcome (sound-surface_in files input.mesh_name)

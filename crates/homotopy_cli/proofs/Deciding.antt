@@ -10,6 +10,7 @@ use Rattle.walk_files.specs.Pairs.{IsPair}
 use Rattle.walk_translate.specs.declared.deciding.Answer as deciding
 use Rattle.walk_translate.specs.declared.deciding.Answer.TheVariants.{Homotopic, Different}
 use Rattle.homotopy_cli.specs.Answers.{Answer, Outcome, Decided}
+use Rattle.homotopy_cli.specs.Causes.{Cause}
 use Rattle.homotopy_cli.specs.Checks.{Check, End, Refuse, Pass, Passes, IsTold, ◌>>=◌}
 use Rattle.homotopy_cli.specs.Decide.{decide, decided}
 use Rattle.homotopy_cli.specs.Inputs.{pair_in, walk_at}
@@ -27,7 +28,7 @@ use Rattle.homotopy_cli.proofs.Sound.{IsSound}
 -- ---- a decision
 
 -- two decisions that are right are one
-one_decision : {P : Type 0} (a b : deciding.Answer) → (a ≡ Homotopic) ↔ P → (b ≡ Homotopic) ↔ P → a ≡ b
+pub one_decision : {P : Type 0} (a b : deciding.Answer) → (a ≡ Homotopic) ↔ P → (b ≡ Homotopic) ↔ P → a ≡ b
 one_decision Homotopic Homotopic p q = refl
 one_decision Homotopic Different p q = sym (q.1 (p.0 refl))
 one_decision Different Homotopic p q = p.1 (q.0 refl)
@@ -41,7 +42,7 @@ one_decided mesh first second (Pass x) (Pass y) p q =
     let answers : x ≡ y = p.1 ∙ ap Decided same ∙ sym q.1 in
     cc
 
-differs : Different ≡ Homotopic → ⊥
+pub differs : Different ≡ Homotopic → ⊥
 differs e = cc
 
 pub sound-decided : (held : Option Files) (mesh : FaceList) (first second : List ℕ) → IsSound held (decided mesh first second)
@@ -87,6 +88,15 @@ behind {A} {B} held first next thing end sound told p (inr q) =
     let e = sound.one told (Pass q.0) (Pass thing) q.1 p in
     let same : q.0 ≡ thing = cc in
     subst (λ (x : A). (next x).Ends end) same q.2
+
+-- a sequence of which the first check is known to refuse
+pub refused_behind : {A B : Type 0} (held : Option Files) (first : Check A) (next : A → Check B) (cause : Cause) (end : End B) → IsSound held first
+    → first.EachFile (IsTold held) → first.Ends (Refuse cause) → (first >>= next).Ends end → end ≡ Refuse cause
+refused_behind held first next cause end sound told p (inl q) =
+    let e = sound.one told (Refuse q.0) (Refuse cause) q.1 p in
+    let same : q.0 ≡ cause = cc in
+    q.2 ∙ ap (λ c. Refuse c) same
+refused_behind held first next cause end sound told p (inr q) = let e = sound.one told (Pass q.0) (Refuse cause) q.1 p in cc
 
 -- ---- the parts of the command
 

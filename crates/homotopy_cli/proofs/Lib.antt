@@ -11,10 +11,12 @@ pub mod Deciding
 pub mod GatheredLemmas
 pub mod WordLines
 pub mod Reducing
+pub mod Certifying
 pub mod SomeVerdict
 pub mod Rows
 pub mod SurfaceOutcomes
 pub mod DecideOutcomes
+pub mod CertifyOutcomes
 pub mod VerifyOutcomes
 pub mod ReduceOutcomes
 pub mod Outcomes

@@ -75,7 +75,7 @@ some_numbers mesh valid is =
 abbrev five : (v e f : ℕ) (x : ℤ) (g : ℕ) → SurfaceNumbers
 five v e f x g = record { vertices = v; edges = e; faces = f; euler = x; genus = g }
 
-one_numbers : (mesh : FaceList) (a b : SurfaceNumbers) → AreNumbersOf mesh a → AreNumbersOf mesh b → a ≡ b
+pub one_numbers : (mesh : FaceList) (a b : SurfaceNumbers) → AreNumbersOf mesh a → AreNumbersOf mesh b → a ≡ b
 one_numbers mesh a b p q =
     let v : a.vertices ≡ b.vertices = p.vertices ∙ sym q.vertices in
     let e : a.edges ≡ b.edges = p.edges ∙ ap (λ (t : List Edge). length t) (one_table mesh p.table q.table p.is_table q.is_table) ∙ sym q.edges in

@@ -22,6 +22,8 @@ use Rattle.homotopy_cli.specs.declared.status.Status.TheVariants.{WriteFault}
 use Rattle.homotopy_cli.specs.declared.stop.Stop.{Stop}
 use Rattle.homotopy_cli.specs.declared.stop.Stop.TheVariants as stops
 use Rattle.homotopy_cli.specs.declared.verify.Judgement.TheVariants.{OnMoves, OnDenial}
+use Rattle.homotopy_cli.specs.declared.certificate.Certificate.TheVariants.{Moves, Denial}
+use Rattle.homotopy_cli.proofs.CertifyOutcomes.{certified_so}
 use Rattle.homotopy_cli.proofs.Checking.{stops_next}
 use Rattle.homotopy_cli.proofs.DecideOutcomes.{decides}
 use Rattle.homotopy_cli.proofs.ReduceOutcomes.{reduced}
@@ -48,6 +50,7 @@ answers files words outcome status text is answer =
             answered = λ mesh first second input. (decides files words outcome status text mesh first second is answer input).answered;
             exactly = λ mesh first second input. (decides files words outcome status text mesh first second is answer input).exactly;
           };
+      certified = certified_so files words outcome status text is answer;
       verified = verified files words status text exact;
       denial_verified = denial_verified files words status text exact outcome is answer;
       reduced = reduced files words outcome status text is answer exact;
@@ -104,4 +107,6 @@ is_answered (replies.Judged (OnDenial (verdicts.WordWrong walk))) = inr (inl ref
 is_answered (replies.Judged (OnDenial verdicts.Equal)) = inr (inl refl)
 is_answered (replies.Decided Homotopic) = inl refl
 is_answered (replies.Decided Different) = inr (inl refl)
+is_answered (replies.Certified (Moves list)) = inl refl
+is_answered (replies.Certified (Denial denial)) = inr (inl refl)
 is_answered (replies.Reduced words) = inl refl

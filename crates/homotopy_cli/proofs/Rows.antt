@@ -28,6 +28,10 @@ use Rattle.homotopy_cli.proofs.Reducing.{sound-reduce}
 use Rattle.homotopy_cli.proofs.Sound.{IsSound, sound-then, sound-pass, sound-refuse, sound-found, sound-meant, sound-pass_unless, sound-file, held}
 use Rattle.homotopy_cli.proofs.SomeVerdict.{sound-judgement}
 use Rattle.homotopy_cli.proofs.Surfaces.{sound-as_surface}
+use Rattle.surf_model.specs.Surfaces.{IsSurface}
+use Rattle.homotopy_cli.specs.Certify.{certify, limit_fault}
+use Rattle.homotopy_cli.specs.Inputs.{SpellsMesh}
+use Rattle.homotopy_cli.proofs.Certifying.{sound-certified}
 
 -- ---- the rows
 
@@ -102,10 +106,17 @@ sound-decide held mesh walks =
     sound-then held _ _ (sound-surface_in held mesh)
     (λ surface _. sound-then held _ _ (sound-pair held walks surface) (λ pair _. sound-decided held surface (walk_at pair 0) (walk_at pair 1)))
 
+sound-certify : (held : Option Files) (mesh walks : List ℕ) → IsSound held (certify held mesh walks)
+sound-certify held mesh walks =
+    sound-then held _ _ (sound-surface_in held mesh)
+    (λ surface _. sound-then held _ _ (sound-pair held walks surface)
+    (λ pair _. sound-then held _ _ (sound-pass_unless held (λ refusal. refusal) (limit_fault surface (walk_at pair 0) (walk_at pair 1)) pair)
+    (λ _ _. sound-certified held surface (walk_at pair 0) (walk_at pair 1))))
+
 sound-row : (held : Option Files) (row : Row) → IsSound held (answer_to held row)
 sound-row held (Surface mesh) = sound-surface held mesh
 sound-row held (Decide mesh walks) = sound-decide held mesh walks
-sound-row held (Certify mesh walks) = sound-refuse held _
+sound-row held (Certify mesh walks) = sound-certify held mesh walks
 sound-row held (Verify mesh walks certificate) = sound-verify held mesh walks certificate
 sound-row held (Reduce degree list) = sound-reduce held degree list
 sound-row held (Trial genus grid) = sound-refuse held _
@@ -157,3 +168,12 @@ spelled_pair files name mesh first second h =
 
 pub pair_told : (files : Option Files) (name : List ℕ) (mesh : FaceList) → IsTold files name → (pair_in files name mesh).EachFile (IsTold files)
 pair_told files name mesh told = (told, λ bytes _. walks_told files mesh (walks_of bytes))
+
+pub surface_told : (files : Option Files) (name : List ℕ) → IsTold files name → (surface_in files name).EachFile (IsTold files)
+surface_told files name told = ((told, λ bytes _. meant_told files Off (meaning_of bytes)), λ _ _. (tt, λ _ _. tt))
+
+-- a file that spells a surface passes it
+pub spelled_surface : (files : Option Files) (name : List ℕ) (mesh : FaceList) → Holds files name (SpellsMesh mesh) → IsSurface mesh
+    → Passes (surface_in files name) mesh
+spelled_surface files name mesh h is =
+    inr (mesh, mesh_passes files name mesh h, inr (mesh, (is.closed, refl), (is.orientable, refl)))

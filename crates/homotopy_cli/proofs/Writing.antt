@@ -1,6 +1,6 @@
 -- What is written piece by piece.
 use Rattle.std.proofs.Common.{◌≡◌, ℕ, suc, ◌<◌, ◌≤◌, List, [], ◌∷◌, ◌++◌, length, get_or, take, drop, sym, ap, ◌∙◌, append_assoc, arith}
-use Rattle.std.specs.Prelude.{Option, map, flat_map}
+use Rattle.std.specs.Prelude.{Option, Result, Ok, Err, OnOk, OnErr, map, flat_map}
 use Rattle.std.proofs.Math.Seq.{split_at}
 use Rattle.std.proofs.lemmas.List.{take_all, map-append, append-nil}
 use Rattle.std.proofs.lemmas.Grind.{flat_map-append}
@@ -15,6 +15,15 @@ use Rattle.homotopy_cli.specs.declared.line.Phrase.{Phrase}
 pub AppendsPrefix-whole : (a b : Option (List ℕ)) (bytes : List ℕ) → Appends a b bytes → AppendsPrefix a b bytes
 AppendsPrefix-whole a b bytes p =
     record { count = length bytes; within = omega arith; appended = p ∙ ap (append_told a) (sym (take_all (length bytes) bytes (omega arith))) }
+
+-- what failed, where two things are known of it
+pub both_err : {X Y P Q R : Type 0} (result : Result X Y) → (P → Q → R) → OnErr result P → OnErr result Q → OnErr result R
+both_err (Ok x) f p q = tt
+both_err (Err e) f p q = f p q
+
+pub both_ok : {X Y P Q : Type 0} (result : Result X Y) → (P → Q) → OnOk result P → OnOk result Q
+both_ok (Ok x) f p = f p
+both_ok (Err e) f p = tt
 
 -- a first phrase, and others behind it
 abbrev pub so_far : Phrase → List Phrase → List ℕ

@@ -1,5 +1,6 @@
 -- What the program answers.
 use Rattle.std.specs.Prelude.{ℕ, List}
+use Rattle.surf_model.specs.FaceLists.{FaceList}
 use Rattle.walk_translate.specs.declared.deciding.Answer as deciding
 use Rattle.homotopy_cli.specs.Checks.{End}
 use Rattle.homotopy_cli.specs.declared.numbers.SurfaceNumbers.{SurfaceNumbers}
@@ -13,6 +14,8 @@ pub data Answer : Type 0 where
   Judged : Judgement → Answer
   -- `decide`
   Decided : deciding.Answer → Answer
+  -- `certify`, for two walks of a mesh; any certificate that convinces is printed behind the decision
+  Certified : FaceList → (first second : List ℕ) → deciding.Answer → Answer
   -- `reduce`: a word for each turn word
   Reduced : List (List ℕ) → Answer
 

@@ -2,6 +2,7 @@ pub mod Causes
 pub mod Checks
 pub mod Commands
 pub mod Inputs
+pub mod Certificates
 pub mod Answers
 pub mod Refusals
 pub mod Texts
@@ -10,6 +11,7 @@ pub mod Verify
 pub mod SurfaceInput
 pub mod Surface
 pub mod Decide
+pub mod Certify
 pub mod Reduce
 pub mod Gathered
 pub mod Outcomes

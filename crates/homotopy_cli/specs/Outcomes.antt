@@ -3,6 +3,7 @@ use Rattle.std.specs.Prelude.{◌≡◌, ℕ, List, Option}
 use Rattle.surf_io.specs.Files.{Files}
 use Rattle.homotopy_cli.specs.Answers.{Answer, Outcome}
 use Rattle.homotopy_cli.specs.Checks.{Check, refuse, found_or, IsTold, ◌>>=◌}
+use Rattle.homotopy_cli.specs.Certify.{certify, IsCertified}
 use Rattle.homotopy_cli.specs.Commands.{Row, Surface, Decide, Certify, Verify, Reduce, Trial, IsRow}
 use Rattle.homotopy_cli.specs.Decide.{decide, IsDecided}
 use Rattle.homotopy_cli.specs.Reduce.{reduce, IsReduced}
@@ -17,7 +18,7 @@ use Rattle.homotopy_cli.specs.declared.status.Status.{Status}
 abbrev pub answer_to : Option Files → Row → Check Answer
 answer_to held (Surface mesh) = surface held mesh
 answer_to held (Decide mesh walks) = decide held mesh walks
-answer_to held (Certify mesh walks) = refuse NotBuilt
+answer_to held (Certify mesh walks) = certify held mesh walks
 answer_to held (Verify mesh walks certificate) = verify held mesh walks certificate
 answer_to held (Reduce degree list) = reduce held degree list
 answer_to held (Trial genus grid) = refuse NotBuilt
@@ -54,6 +55,7 @@ pub record Answers (held : Option Files) (words : List (List ℕ)) (status : Sta
   pub exact : AllTold held words → (other : Outcome) → IsOutcome held words other → IsAnswerOf other status text
   pub measured : IsMeasured held words status text
   pub decided : IsDecided held words status text
+  pub certified : IsCertified held words status text
   pub verified : IsVerified held words status text
   pub denial_verified : IsDenialVerified held words status text
   pub reduced : IsReduced held words status text

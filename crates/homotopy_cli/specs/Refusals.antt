@@ -14,7 +14,7 @@ use Rattle.walk_files.specs.declared.pair.PairFault.TheVariants.{NotTwo, NoVerte
 use Rattle.homotopy_cli.specs.declared.refusal.Input.{Input}
 use Rattle.homotopy_cli.specs.declared.refusal.Input.TheVariants as inputs
 use Rattle.homotopy_cli.specs.declared.refusal.Refusal.{Refusal}
-use Rattle.homotopy_cli.specs.declared.refusal.Refusal.TheVariants.{WrongWords, NotBuilt, TooLarge, Degree, Off, NotClosed, NotOrientable, Walks, Pair, Certificate, TurnWords, Range}
+use Rattle.homotopy_cli.specs.declared.refusal.Refusal.TheVariants.{WrongWords, NotBuilt, TooLarge, Degree, Off, NotClosed, NotOrientable, Walks, Pair, CertifySides, CertifyDarts, Certificate, TurnWords, Range}
 
 -- a phrase behind another
 abbrev pub behind_blank : List ℕ → List ℕ
@@ -113,4 +113,6 @@ refusal_line (Walks fault) = numbers_line (codes "walks") fault
 refusal_line (Pair fault) = pair_line fault
 refusal_line (Certificate fault) = certificate_line fault
 refusal_line (TurnWords fault) = numbers_line (codes "list") fault
+refusal_line (CertifySides sides) = refused (codes "certify sides" ∷ decimal sides ∷ [])
+refusal_line (CertifyDarts darts) = refused (codes "certify darts" ∷ decimal darts ∷ [])
 refusal_line (Range line) = refused_at (codes "list") line (codes "range")

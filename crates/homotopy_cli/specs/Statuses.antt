@@ -6,7 +6,7 @@ use Rattle.walk_translate.specs.declared.checking.DenialVerdict.{DenialVerdict}
 use Rattle.walk_translate.specs.declared.checking.DenialVerdict.TheVariants as denials
 use Rattle.walk_translate.specs.declared.deciding.Answer as deciding
 use Rattle.walk_translate.specs.declared.deciding.Answer.TheVariants.{Homotopic, Different}
-use Rattle.homotopy_cli.specs.Answers.{Outcome, Measured, Judged, Decided, Reduced}
+use Rattle.homotopy_cli.specs.Answers.{Outcome, Measured, Judged, Decided, Certified, Reduced}
 use Rattle.homotopy_cli.specs.Checks.{Refuse, Pass}
 use Rattle.homotopy_cli.specs.declared.verify.Judgement.{Judgement}
 use Rattle.homotopy_cli.specs.declared.verify.Judgement.TheVariants.{OnMoves, OnDenial}
@@ -43,6 +43,7 @@ status_of (Refuse cause) = Refused
 status_of (Pass (Measured numbers)) = Yes
 status_of (Pass (Judged judgement)) = judgement_status judgement
 status_of (Pass (Decided decision)) = decision_status decision
+status_of (Pass (Certified mesh first second decision)) = decision_status decision
 status_of (Pass (Reduced words)) = Yes
 
 -- the status tells that an answer was written whole

@@ -10,10 +10,15 @@ use Rattle.walk_translate.specs.declared.checking.DenialVerdict.{DenialVerdict}
 use Rattle.walk_translate.specs.declared.checking.DenialVerdict.TheVariants as denials
 use Rattle.walk_translate.specs.declared.deciding.Answer as deciding
 use Rattle.walk_translate.specs.declared.deciding.Answer.TheVariants.{Homotopic, Different}
-use Rattle.homotopy_cli.specs.Answers.{Outcome, Measured, Judged, Decided, Reduced}
+use Rattle.homotopy_cli.specs.Answers.{Outcome, Measured, Judged, Decided, Certified, Reduced}
+use Rattle.walk_files.specs.DenialTexts.{denial_text}
+use Rattle.walk_files.specs.MoveTexts.{list_text}
 use Rattle.homotopy_cli.specs.Causes.{Tells}
+use Rattle.homotopy_cli.specs.Certificates.{Convinces, decision_of}
 use Rattle.homotopy_cli.specs.Checks.{Refuse, Pass}
 use Rattle.homotopy_cli.specs.Refusals.{line, refusal_line}
+use Rattle.homotopy_cli.specs.declared.certificate.Certificate.{Certificate}
+use Rattle.homotopy_cli.specs.declared.certificate.Certificate.TheVariants.{Moves, Denial}
 use Rattle.homotopy_cli.specs.declared.numbers.SurfaceNumbers.{SurfaceNumbers}
 use Rattle.homotopy_cli.specs.declared.refusal.Refusal.{Refusal}
 use Rattle.homotopy_cli.specs.declared.verify.Judgement.{Judgement}
@@ -63,6 +68,11 @@ abbrev pub decision_line : deciding.Answer → List ℕ
 decision_line Homotopic = line (codes "homotopic") []
 decision_line Different = line (codes "different") []
 
+-- a certificate behind the line of the decision that it is for
+abbrev pub certificate_text : Certificate → List ℕ
+certificate_text (Moves list) = decision_line Homotopic ++ list_text list
+certificate_text (Denial denial) = decision_line Different ++ denial_text denial
+
 -- the line of a turn word: its entries, or `empty` where it has none
 abbrev pub word_line : List ℕ → List ℕ
 word_line [] = line (codes "empty") []
@@ -78,4 +88,6 @@ IsText (Refuse cause) text = (refusal : Refusal) × Tells refusal cause × (text
 IsText (Pass (Measured numbers)) text = text ≡ numbers_text numbers
 IsText (Pass (Judged judgement)) text = text ≡ judgement_line judgement
 IsText (Pass (Decided decision)) text = text ≡ decision_line decision
+IsText (Pass (Certified mesh first second decision)) text =
+    (shown : Certificate) × Convinces mesh first second shown × (decision_of shown ≡ decision) × (text ≡ certificate_text shown)
 IsText (Pass (Reduced words)) text = text ≡ words_text words

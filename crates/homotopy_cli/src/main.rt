@@ -2,6 +2,9 @@
 #![tactic(auto)]
 
 mod certificate;
+mod certify;
+#[cfg(test)]
+mod certify_tests;
 mod command;
 mod decide;
 #[cfg(test)]

@@ -38,6 +38,10 @@ pub enum Refusal {
     Walks(WalkFault),
     /// The walks are not two walks of the mesh with common ends.
     Pair(PairFault),
+    /// The surface has so many sides, which are too many for `certify`.
+    CertifySides(u32),
+    /// The two walks have so many darts together, which are too many for `certify`.
+    CertifyDarts(u32),
     /// The certificate is not spelled as it should be.
     Certificate(CertFault),
     /// The list of turn words is not spelled as it should be.

@@ -31,6 +31,20 @@ pub fn put_refusal<K: Sink>(out: &mut K, refusal: &Refusal) -> Result<(), Failed
         Refusal::NotOrientable(chain) => put_odd_chain(out, chain),
         Refusal::Walks(fault) => put_numbers_fault(out, "walks", *fault),
         Refusal::Pair(fault) => put_pair_fault(out, *fault),
+        Refusal::CertifySides(sides) => put_refused(
+            out,
+            &[
+                Phrase::Text("certify sides"),
+                Phrase::Number(u64::from(*sides)),
+            ],
+        ),
+        Refusal::CertifyDarts(darts) => put_refused(
+            out,
+            &[
+                Phrase::Text("certify darts"),
+                Phrase::Number(u64::from(*darts)),
+            ],
+        ),
         Refusal::Certificate(fault) => put_certificate_fault(out, *fault),
         Refusal::TurnWords(fault) => put_numbers_fault(out, "list", *fault),
         Refusal::Range(line) => put_refused_at(out, "list", *line, "range"),

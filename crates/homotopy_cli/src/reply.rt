@@ -1,11 +1,13 @@
 //! What the program writes.
 ghost use Rattle.std.specs.Prelude.{◌≡◌, ◌⊎◌, ◌≤◌, length, OnOk, OnErr, IfSome};
 ghost use Rattle.surf_io.specs.Calls.{OnlyWrites, WroteAll, WrotePart};
+ghost use Rattle.homotopy_cli.specs.declared.certificate.Certificate.{Certificate};
 ghost use Rattle.homotopy_cli.specs.Replies.{reply_text, reply_status};
 ghost use Rattle.homotopy_cli.specs.Statuses.{IsAnswered};
 ghost use Rattle.walk_translate.specs.declared.checking.DenialVerdict.{DenialVerdict};
-ghost use Rattle.homotopy_cli.specs.Texts.{decision_line, denial_line, fault_word, judgement_line, verdict_line, words_text};
+ghost use Rattle.homotopy_cli.specs.Texts.{certificate_text, decision_line, denial_line, fault_word, judgement_line, verdict_line, words_text};
 
+use crate::certificate::Certificate;
 use crate::line::{Phrase, put_line};
 use crate::numbers::{SurfaceNumbers, put_numbers};
 use crate::refusal::Refusal;
@@ -14,9 +16,11 @@ use crate::status::Status;
 use crate::verify::Judgement;
 use crate::word_lines::put_words;
 use move_checker::{MoveFault, Verdict};
-use quad_system::LabelFault;
+use quad_system::{Denial, LabelFault};
 use surf_io::{Failed, Sink};
+use surf_model::MoveList;
 use turn_words::TurnWord;
+use walk_files::{write_denial, write_moves};
 use walk_translate::{Answer, DenialVerdict};
 
 /// What is written.
@@ -30,6 +34,8 @@ pub enum Reply {
     Judged(Judgement),
     /// Whether two walks are homotopic.
     Decided(Answer),
+    /// A certificate of whether two walks are homotopic.
+    Certified(Certificate),
     /// Canonical words, one for each line of a list.
     Reduced(Vec<TurnWord>),
 }
@@ -62,6 +68,8 @@ fn status_of_reply(reply: &Reply) -> Status
         Reply::Judged(_) => Status::No,
         Reply::Decided(Answer::Homotopic) => Status::Yes,
         Reply::Decided(Answer::Different) => Status::No,
+        Reply::Certified(Certificate::Moves(_)) => Status::Yes,
+        Reply::Certified(Certificate::Denial(_)) => Status::No,
     }
 }
 
@@ -75,6 +83,7 @@ fn put_reply<K: Sink>(out: &mut K, reply: &Reply) -> Result<(), Failed>
         Reply::Measured(numbers) => put_numbers(out, numbers),
         Reply::Judged(judgement) => put_judgement(out, *judgement),
         Reply::Decided(decision) => put_decision(out, *decision),
+        Reply::Certified(certificate) => put_certificate(out, certificate),
         Reply::Reduced(words) => put_words(out, words),
     }
 }
@@ -88,6 +97,38 @@ fn put_decision<K: Sink>(out: &mut K, decision: Answer) -> Result<(), Failed>
         Answer::Homotopic => put_line(out, Phrase::Text("homotopic"), &[]),
         Answer::Different => put_line(out, Phrase::Text("different"), &[]),
     }
+}
+
+/// Writes a certificate behind the answer that it is for.
+fn put_certificate<K: Sink>(out: &mut K, certificate: &Certificate) -> Result<(), Failed>
+    ensures ok { OnOk result (WroteAll K.written out.old out.new (certificate_text certificate.now)) }
+    ensures failed { OnErr result (WrotePart K.written K.faults out.old out.new (certificate_text certificate.now)) }
+    ensures only_writes { OnlyWrites K.settled K.faults out.old out.new }
+{
+    match certificate {
+        Certificate::Moves(list) => put_moves(out, list),
+        Certificate::Denial(denial) => put_denial(out, denial),
+    }
+}
+
+/// Writes a list of moves behind its answer.
+fn put_moves<K: Sink>(out: &mut K, list: &MoveList) -> Result<(), Failed>
+    ensures ok { OnOk result (WroteAll K.written out.old out.new (certificate_text (Certificate.Moves list.now))) }
+    ensures failed { OnErr result (WrotePart K.written K.faults out.old out.new (certificate_text (Certificate.Moves list.now))) }
+    ensures only_writes { OnlyWrites K.settled K.faults out.old out.new }
+{
+    put_decision(out, Answer::Homotopic)?;
+    write_moves(list, out)
+}
+
+/// Writes a denial behind its answer.
+fn put_denial<K: Sink>(out: &mut K, denial: &Denial) -> Result<(), Failed>
+    ensures ok { OnOk result (WroteAll K.written out.old out.new (certificate_text (Certificate.Denial denial.now))) }
+    ensures failed { OnErr result (WrotePart K.written K.faults out.old out.new (certificate_text (Certificate.Denial denial.now))) }
+    ensures only_writes { OnlyWrites K.settled K.faults out.old out.new }
+{
+    put_decision(out, Answer::Different)?;
+    write_denial(denial, out)
 }
 
 fn put_judgement<K: Sink>(out: &mut K, judgement: Judgement) -> Result<(), Failed>

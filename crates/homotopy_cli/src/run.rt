@@ -9,6 +9,7 @@ ghost use Rattle.homotopy_cli.specs.Statuses.{IsAnswered};
 ghost use Rattle.homotopy_cli.specs.Stops.{Stops};
 ghost use Rattle.homotopy_cli.specs.declared.status.Status.{Status};
 
+use crate::certify::certify;
 use crate::command::{Command, read_command};
 use crate::decide::decide;
 use crate::reduce::reduce;
@@ -97,6 +98,9 @@ fn answer<S: Shelf>(alloc: Global, shelf: &mut S, command: Command<'_>) -> Resul
         Command::Reduce { degree, list } => {
             Ok(Reply::Reduced(reduce(alloc, shelf, degree, list)?))
         }
-        Command::Certify { .. } | Command::Trial { .. } => { Err(Stop::Refused(Refusal::NotBuilt)) }
+        Command::Certify { mesh, walks } => {
+            Ok(Reply::Certified(certify(alloc, shelf, mesh, walks)?))
+        }
+        Command::Trial { .. } => Err(Stop::Refused(Refusal::NotBuilt)),
     }
 }

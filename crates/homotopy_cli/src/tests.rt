@@ -7,7 +7,7 @@ use std::alloc::{AllocError, Global};
 use std::process::Abort;
 use surf_io::{Failed, MemoryShelf, MemorySink, Shelf};
 
-const TETRAHEDRON: &str =
+pub(crate) const TETRAHEDRON: &str =
     "OFF\n4 4 6\n0 0 0\n1 0 0\n0 1 0\n0 0 1\n3 0 1 2\n3 0 3 1\n3 0 2 3\n3 1 3 2\n";
 
 pub(crate) const TORUS: &str = "OFF\n7 14 0\n0 0 0\n0 0 0\n0 0 0\n0 0 0\n0 0 0\n0 0 0\n0 0 0\n\
@@ -210,7 +210,7 @@ fn no_file_is_read_behind_a_refusal(rt: HostRuntime) -> Result<(), AllocError> {
     refused(
         &rt,
         alloc,
-        &["certify", absent, absent],
+        &["trial", "1", "5"],
         SIDES,
         "refused: not built\n",
     )?;

@@ -1,6 +1,7 @@
-use Rattle.std.proofs.Common.{◌≡◌, inl, inr, refl, arith}
+use Rattle.std.proofs.Common.{◌≡◌, refl, arith}
 use Rattle.std.proofs.lemmas.Result.{err_from_is_err_and}
-use Rattle.homotopy_cli.specs.Answers.{Measured, Decided, Judged, Reduced}
+use Rattle.homotopy_cli.specs.Answers.{Measured, Decided, Judged, Certified, Reduced}
+use Rattle.homotopy_cli.specs.Certificates.{decision_of}
 use Rattle.homotopy_cli.specs.Checks.{refuse}
 use Rattle.homotopy_cli.specs.Commands.{row_of}
 use Rattle.homotopy_cli.specs.Outcomes.{answer_to}
@@ -66,14 +67,24 @@ returns-in_ok-reduce-in-Reduce-clause-end g c =
       is_answer = record { status_is = refl; text_is = refl };
     })
 
-pub returns-in-Certify : goal.returns-in-Certify
-returns-in-Certify g c =
+pub returns-in_err-certify-in-Certify-clause-end : goal.returns-in_err-certify-in-Certify-clause-end
+returns-in_err-certify-in-Certify-clause-end g c =
+    let p = err_from_is_err_and c.from_residual-in_err-certify-in-Certify.result c.from_residual-in_err-certify-in-Certify.ensures.1 in
+    rw (p.1, p.2, c.in-Certify.is) c.in_err-certify-in-Certify.ensures.end
+
+pub returns-in_ok-certify-in-Certify-clause-end : goal.returns-in_ok-certify-in-Certify-clause-end
+returns-in_ok-certify-in-Certify-clause-end g c =
+    let found = c.in_ok-certify-in-Certify.ensures.end in
+    rw c.in-Certify.is (record {
+      answer = Certified found.mesh found.first found.second (decision_of c.in_ok-certify-in-Certify.field-0);
+      passes = found.passes;
+      is_answer = record { status_is = refl; text_is = (c.in_ok-certify-in-Certify.field-0, found.convinces, refl, refl) };
+    })
+
+pub returns-in-Trial : goal.returns-in-Trial
+returns-in-Trial g c =
     let files = g.S.Shelf.held c.args.shelf.now in
-    let none : answer_to files (row_of c.args.command) ≡ refuse NotBuilt =
-    elim c.in-Certify.is [
-      | inl certify ↦ rw certify.2 refl
-      | inr trial ↦ rw trial.2 refl
-    ] in
+    let none : answer_to files (row_of c.args.command) ≡ refuse NotBuilt = rw c.in-Trial.is refl in
     record {
       end = rw none not_built;
       fault = λ e. cc;

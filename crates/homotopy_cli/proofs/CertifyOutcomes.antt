@@ -1,0 +1,144 @@
+-- `certify` in the words of the mesh.
+use Rattle.std.proofs.Common.{◌≡◌, ◌⊎◌, inl, inr, ℕ, ◌+◌, ◌<◌, ◌≤◌, true, false, List, [], ◌∷◌, refl, sym, ap, ◌∙◌, subst, arith}
+use Rattle.std.specs.Prelude.{◌↔◌, nat_lt, Option, Some, None}
+use Rattle.std.proofs.lemmas.Bool.Decides.{nat_tests}
+use Rattle.surf_io.specs.Files.{Files}
+use Rattle.surf_model.specs.FaceLists.{FaceList, total_sides}
+use Rattle.surf_model.specs.Moves.{Homotopic}
+use Rattle.surf_model.specs.Walks.{darts}
+use Rattle.move_lifting.specs.declared.expanding.TheConstants.{MOST_LIFTED_SIDES, MOST_LIFTED_DARTS}
+use Rattle.walk_translate.specs.declared.deciding.Answer as deciding
+use Rattle.walk_translate.specs.declared.deciding.Answer.TheVariants as answers
+use Rattle.homotopy_cli.specs.Answers.{Answer, Outcome, Certified}
+use Rattle.homotopy_cli.specs.Causes.{Exactly}
+use Rattle.homotopy_cli.specs.Certify.{IsCertifyInput, IsWithinLimits, IsUnbuilt, IsCertificatePrinted, IsCertified, limit_fault, certified}
+use Rattle.homotopy_cli.specs.Checks.{Refuse, Pass, found_or}
+use Rattle.homotopy_cli.specs.Commands.{Certify, IsRow}
+use Rattle.homotopy_cli.specs.Inputs.{pair_in, SpellsMesh, SpellsPair}
+use Rattle.homotopy_cli.specs.Outcomes.{answer_to, IsOutcome, IsAnswerOf}
+use Rattle.homotopy_cli.specs.Refusals.{refusal_line}
+use Rattle.homotopy_cli.specs.Statuses.{decision_status}
+use Rattle.homotopy_cli.specs.SurfaceInput.{surface_in}
+use Rattle.homotopy_cli.specs.declared.refusal.Refusal.{Refusal}
+use Rattle.homotopy_cli.specs.declared.refusal.Refusal.TheVariants as refusals
+use Rattle.homotopy_cli.specs.declared.status.Status.{Status}
+use Rattle.homotopy_cli.specs.declared.status.Status.TheVariants.{Yes, No, Refused}
+use Rattle.homotopy_cli.proofs.Certifying.{after_surface, after_pair, after_limits, limited}
+use Rattle.homotopy_cli.proofs.Deciding.{behind, refused_behind, differs}
+use Rattle.homotopy_cli.proofs.Rows.{one_row, sound-pair, sound-surface_in, surface_told, pair_told, unless_told, spelled_pair, spelled_surface}
+use Rattle.homotopy_cli.proofs.Sound.{held, sound-found, sound-pass_unless}
+
+-- a refusal that such an outcome is
+refused_so : (refusal : Refusal) (outcome : Outcome) (status : Status) (text : List ℕ) → outcome ≡ Refuse (Exactly refusal)
+    → IsAnswerOf outcome status text → (status ≡ Refused) × (text ≡ refusal_line refusal)
+refused_so refusal outcome status text e answer =
+    let a : IsAnswerOf (Refuse (Exactly refusal)) status text = subst (λ (o : Outcome). IsAnswerOf o status text) e answer in
+    (a.status_is, a.text_is.2 ∙ ap refusal_line a.text_is.1)
+
+-- the limits, as the check has them
+no_limit : (mesh : FaceList) (first second : List ℕ) → IsWithinLimits mesh first second → limit_fault mesh first second ≡ None
+no_limit mesh first second within =
+    let sides : nat_lt MOST_LIFTED_SIDES (total_sides mesh) ≡ false = let few = within.sides in grind (arith, nat_tests) in
+    let few : nat_lt MOST_LIFTED_DARTS (darts first + darts second) ≡ false = let few = within.few in grind (arith, nat_tests) in
+    rw (sides, few) refl
+
+side_limit : (mesh : FaceList) (first second : List ℕ) → MOST_LIFTED_SIDES < total_sides mesh
+    → limit_fault mesh first second ≡ Some (refusals.CertifySides (total_sides mesh))
+side_limit mesh first second many =
+    let sides : nat_lt MOST_LIFTED_SIDES (total_sides mesh) ≡ true = grind (arith, nat_tests) in
+    rw sides refl
+
+dart_limit : (mesh : FaceList) (first second : List ℕ) → total_sides mesh ≤ MOST_LIFTED_SIDES → MOST_LIFTED_DARTS < darts first + darts second
+    → limit_fault mesh first second ≡ Some (refusals.CertifyDarts (darts first + darts second))
+dart_limit mesh first second few many =
+    let sides : nat_lt MOST_LIFTED_SIDES (total_sides mesh) ≡ false = grind (arith, nat_tests) in
+    let long : nat_lt MOST_LIFTED_DARTS (darts first + darts second) ≡ true = grind (arith, nat_tests) in
+    rw (sides, long) refl
+
+-- what the end of the check tells
+no_and_refused : No ≡ Refused → ⊥
+no_and_refused e = cc
+
+yes_and_no : Yes ≡ No → ⊥
+yes_and_no e = cc
+
+pub record IsAnsweredSo (mesh : FaceList) (first second : List ℕ) (status : Status) (text : List ℕ) : Type 0 where
+  pub answered : IsCertificatePrinted mesh first second status text
+      ⊎ (IsUnbuilt mesh first second × (status ≡ Refused) × (text ≡ refusal_line refusals.NotBuilt))
+  pub different : (status ≡ No) ↔ (Homotopic mesh first second → ⊥)
+
+status_tells : {P : Type 0} (decision : deciding.Answer) (status : Status) → status ≡ decision_status decision → (decision ≡ answers.Homotopic) ↔ P
+    → (status ≡ No) ↔ (P → ⊥)
+status_tells answers.Homotopic status e right = ((λ no. absurd (yes_and_no (sym e ∙ no))), (λ apart. absurd (apart (right.0 refl))))
+status_tells answers.Different status e right = ((λ _ p. differs (right.1 p)), (λ _. e))
+
+by_certified : (mesh : FaceList) (first second : List ℕ) (outcome : Outcome) (status : Status) (text : List ℕ) → (certified mesh first second).Ends outcome
+    → IsAnswerOf outcome status text → IsAnsweredSo mesh first second status text
+by_certified mesh first second (Refuse cause) status text p answer =
+    let told = refused_so refusals.NotBuilt (Refuse cause) status text (ap (λ c. Refuse c) p.1) answer in
+    record {
+      answered = inr (p.0, told.0, told.1);
+      different = ((λ no. absurd (no_and_refused (sym no ∙ told.0))), (λ apart. absurd (apart p.0.homotopic)));
+    }
+by_certified mesh first second (Pass x) status text p answer =
+    let here : IsAnswerOf (Pass (Certified mesh first second p.0)) status text = subst (λ (y : Answer). IsAnswerOf (Pass y) status text) p.1 answer in
+    let shown = here.text_is in
+    record {
+      answered = inl (record {
+        shown = shown.0;
+        convinces = shown.1;
+        status_is = here.status_is ∙ ap decision_status (sym shown.2);
+        text_is = shown.3;
+      });
+      different = status_tells p.0 status here.status_is p.2;
+    }
+
+-- ---- such an input
+
+module _ (files : Option Files) (words : List (List ℕ)) (mesh : FaceList) (first second : List ℕ) (outcome : Outcome) (status : Status) (text : List ℕ)
+    (is : IsOutcome files words outcome) (answer : IsAnswerOf outcome status text) (input : IsCertifyInput files words mesh first second) where
+  two : List (List ℕ)
+  two = first ∷ second ∷ []
+
+  -- as such words end, the checks behind the walks do
+  behind_walks : (after_pair mesh two).Ends outcome
+  unfolding two
+  behind_walks =
+      let row = behind files (found_or refusals.WrongWords (IsRow words)) (answer_to files) (Certify input.mesh_name input.walks_name) outcome
+      (sound-found files _ _ (one_row words)) tt input.words_are is in
+      let walks = behind files (surface_in files input.mesh_name) (after_surface files input.walks_name) mesh outcome (sound-surface_in files input.mesh_name)
+      (surface_told files input.mesh_name (held files input.mesh_name (SpellsMesh mesh) input.mesh_file).told)
+      (spelled_surface files input.mesh_name mesh input.mesh_file input.is_surface) row in
+      behind files (pair_in files input.walks_name mesh) (after_pair mesh) two outcome (sound-pair files input.walks_name mesh)
+      (pair_told files input.walks_name mesh (held files input.walks_name (SpellsPair mesh first second) input.walks_file).told)
+      (spelled_pair files input.walks_name mesh first second input.walks_file) walks
+
+  pub answers_input : IsWithinLimits mesh first second → IsAnsweredSo mesh first second status text
+  unfolding two
+  answers_input within =
+      by_certified mesh first second outcome status text
+      (behind files (limited mesh two) (after_limits mesh two) two outcome (sound-pass_unless files (λ refusal. refusal) (limit_fault mesh first second) two)
+      (unless_told files (λ refusal. refusal) (limit_fault mesh first second) two) (rw (no_limit mesh first second within) refl) behind_walks) answer
+
+  pub refuses_input : (refusal : Refusal) → limit_fault mesh first second ≡ Some refusal → (status ≡ Refused) × (text ≡ refusal_line refusal)
+  unfolding two
+  refuses_input refusal e =
+      refused_so refusal outcome status text
+      (refused_behind files (limited mesh two) (after_limits mesh two) (Exactly refusal) outcome
+      (sound-pass_unless files (λ refusal. refusal) (limit_fault mesh first second) two)
+      (unless_told files (λ refusal. refusal) (limit_fault mesh first second) two) (rw e refl) behind_walks) answer
+
+-- what is answered of such an input
+pub certified_so : (files : Option Files) (words : List (List ℕ)) (outcome : Outcome) (status : Status) (text : List ℕ) → IsOutcome files words outcome
+    → IsAnswerOf outcome status text → IsCertified files words status text
+certified_so files words outcome status text is answer =
+    record {
+      answered = λ mesh first second input within. (answers_input files words mesh first second outcome status text is answer input within).answered;
+      different = λ mesh first second input within. (answers_input files words mesh first second outcome status text is answer input within).different;
+      many_sides = λ mesh first second input many.
+          refuses_input files words mesh first second outcome status text is answer input (refusals.CertifySides (total_sides mesh))
+          (side_limit mesh first second many);
+      many_darts = λ mesh first second input few many.
+          refuses_input files words mesh first second outcome status text is answer input (refusals.CertifyDarts (darts first + darts second))
+          (dart_limit mesh first second few many);
+    }

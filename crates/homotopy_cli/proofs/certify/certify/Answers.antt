@@ -1,0 +1,101 @@
+use Rattle.std.proofs.Common.{◌≡◌, ◌∙◌, ℕ, List, ap, subst, arith}
+use Rattle.std.specs.Prelude.{Option, Some}
+use Rattle.std.proofs.lemmas.Option.{get_or_from_slice_get}
+use Rattle.std.proofs.lemmas.Result.{err_from_is_err_and}
+use Rattle.surf_io.specs.Files.{Files}
+use Rattle.surf_model.specs.Edges.{IsTableOf}
+use Rattle.homotopy_cli.specs.Certify.{limit_fault}
+use Rattle.homotopy_cli.specs.Checks.{Passes}
+use Rattle.homotopy_cli.specs.Inputs.{pair_in, walk_at}
+use Rattle.homotopy_cli.specs.Stops.{Stops}
+use Rattle.homotopy_cli.proofs.Certifying.{walks_stop, limits_stop, allowed, certificate_end}
+use Rattle.homotopy_cli.proofs.Checking.{two_walks}
+use Rattle.homotopy_cli.proofs.Deciding.{walks_of_pair}
+use Rattle.homotopy_cli.proofs.certify.certify.Goals as goal
+
+pub returns-in_err-pair-clause-end : goal.returns-in_err-pair-clause-end
+returns-in_err-pair-clause-end g c =
+    let surface = c.in_ok-surface.surface in
+    let stop = c.in_err-pair.field-0.0 in
+    let p = err_from_is_err_and c.from_residual-in_err-pair.result c.from_residual-in_err-pair.ensures.1 in
+    let table : IsTableOf surface.mesh c.sides.result.now = rw c.sides.ensures c.faces.ensures.valid.table in
+    let stops = c.in_err-pair.ensures.end surface.mesh table in
+    rw (p.1, p.2)
+    (walks_stop (g.S.Shelf.held c.args.shelf.now) c.args.mesh.now c.args.walks.now surface.mesh stop c.in_ok-surface.ensures.end
+    (subst (λ (files : Option Files). Stops (pair_in files c.args.walks.now surface.mesh) stop) c.in_ok-surface.ensures.only_reads.same_files stops))
+
+pub at-first-requires : goal.at-first-requires
+at-first-requires g c =
+    let surface = c.in_ok-surface.surface in
+    let table : IsTableOf surface.mesh c.sides.result.now = rw c.sides.ensures c.faces.ensures.valid.table in
+    omega (arith, two_walks _ _ surface.mesh c.in_ok-pair.pair (c.in_ok-pair.ensures.end surface.mesh table))
+
+pub at-second-requires : goal.at-second-requires
+at-second-requires g c =
+    let surface = c.in_ok-surface.surface in
+    let table : IsTableOf surface.mesh c.sides.result.now = rw c.sides.ensures c.faces.ensures.valid.table in
+    omega (arith, two_walks _ _ surface.mesh c.in_ok-pair.pair (c.in_ok-pair.ensures.end surface.mesh table))
+
+pub returns-in_err-check_limits-clause-end : goal.returns-in_err-check_limits-clause-end
+returns-in_err-check_limits-clause-end g c =
+    let surface = c.in_ok-surface.surface in
+    let pair = c.in_ok-pair.pair in
+    let refusal = c.in_err-check_limits.field-0.0 in
+    let table : IsTableOf surface.mesh c.sides.result.now = rw c.sides.ensures c.faces.ensures.valid.table in
+    let passed : Passes (pair_in (g.S.Shelf.held c.args.shelf.now) c.args.walks.now surface.mesh) pair =
+    subst (λ (files : Option Files). Passes (pair_in files c.args.walks.now surface.mesh) pair) c.in_ok-surface.ensures.only_reads.same_files
+    (c.in_ok-pair.ensures.end surface.mesh table) in
+    let p = err_from_is_err_and c.from_residual-in_err-check_limits.result c.from_residual-in_err-check_limits.ensures.1 in
+    let first : walk_at pair 0 ≡ c.at-first.result.now = get_or_from_slice_get pair 0 c.at-first.result.now _ c.at-first.ensures in
+    let second : walk_at pair 1 ≡ c.at-second.result.now = get_or_from_slice_get pair 1 c.at-second.result.now _ c.at-second.ensures in
+    let fault : limit_fault surface.mesh (walk_at pair 0) (walk_at pair 1) ≡ Some refusal =
+    ap (λ (w : List ℕ). limit_fault surface.mesh w (walk_at pair 1)) first
+    ∙ ap (λ (w : List ℕ). limit_fault surface.mesh c.at-first.result.now w) second ∙ c.in_err-check_limits.ensures in
+    rw (p.1, p.2)
+    (limits_stop (g.S.Shelf.held c.args.shelf.now) c.args.mesh.now c.args.walks.now surface.mesh pair refusal c.in_ok-surface.ensures.end
+    passed fault)
+
+pub find_certificate-requires-clause-first : goal.find_certificate-requires-clause-first
+find_certificate-requires-clause-first g c =
+    let surface = c.in_ok-surface.surface in
+    let pair = c.in_ok-pair.pair in
+    let table : IsTableOf surface.mesh c.sides.result.now = rw c.sides.ensures c.faces.ensures.valid.table in
+    (walks_of_pair surface.mesh pair c.at-first.result.now c.at-second.result.now (c.in_ok-pair.ensures.pair surface.mesh table) c.at-first.ensures
+    c.at-second.ensures).first_walk
+
+pub find_certificate-requires-clause-second : goal.find_certificate-requires-clause-second
+find_certificate-requires-clause-second g c =
+    let surface = c.in_ok-surface.surface in
+    let pair = c.in_ok-pair.pair in
+    let table : IsTableOf surface.mesh c.sides.result.now = rw c.sides.ensures c.faces.ensures.valid.table in
+    (walks_of_pair surface.mesh pair c.at-first.result.now c.at-second.result.now (c.in_ok-pair.ensures.pair surface.mesh table) c.at-first.ensures
+    c.at-second.ensures).second_walk
+
+pub find_certificate-requires-clause-ends : goal.find_certificate-requires-clause-ends
+find_certificate-requires-clause-ends g c =
+    let surface = c.in_ok-surface.surface in
+    let pair = c.in_ok-pair.pair in
+    let table : IsTableOf surface.mesh c.sides.result.now = rw c.sides.ensures c.faces.ensures.valid.table in
+    (walks_of_pair surface.mesh pair c.at-first.result.now c.at-second.result.now (c.in_ok-pair.ensures.pair surface.mesh table) c.at-first.ensures
+    c.at-second.ensures).ends
+
+pub find_certificate-requires-clause-limits : goal.find_certificate-requires-clause-limits
+find_certificate-requires-clause-limits g c =
+    allowed c.in_ok-surface.surface.mesh c.at-first.result.now c.at-second.result.now c.in_ok-check_limits.ensures
+
+pub returns-clause-end : goal.returns-clause-end
+returns-clause-end g c =
+    let surface = c.in_ok-surface.surface in
+    let pair = c.in_ok-pair.pair in
+    let table : IsTableOf surface.mesh c.sides.result.now = rw c.sides.ensures c.faces.ensures.valid.table in
+    let passed : Passes (pair_in (g.S.Shelf.held c.args.shelf.now) c.args.walks.now surface.mesh) pair =
+    subst (λ (files : Option Files). Passes (pair_in files c.args.walks.now surface.mesh) pair) c.in_ok-surface.ensures.only_reads.same_files
+    (c.in_ok-pair.ensures.end surface.mesh table) in
+    let known =
+    walks_of_pair surface.mesh pair c.at-first.result.now c.at-second.result.now (c.in_ok-pair.ensures.pair surface.mesh table) c.at-first.ensures
+    c.at-second.ensures in
+    let first : walk_at pair 0 ≡ c.at-first.result.now = get_or_from_slice_get pair 0 c.at-first.result.now _ c.at-first.ensures in
+    let second : walk_at pair 1 ≡ c.at-second.result.now = get_or_from_slice_get pair 1 c.at-second.result.now _ c.at-second.ensures in
+    certificate_end (g.S.Shelf.held c.args.shelf.now) c.args.mesh.now c.args.walks.now surface.mesh pair c.at-first.result.now c.at-second.result.now
+    c.find_certificate.result c.faces.ensures.valid.faces known.first_walk c.in_ok-surface.ensures.end passed first second
+    c.in_ok-check_limits.ensures c.find_certificate.ensures.end
