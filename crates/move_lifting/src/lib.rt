@@ -2,6 +2,7 @@
 //! walk to another.
 #![tactic(auto)]
 
+mod contracting;
 mod crossing;
 pub mod expanding;
 mod inserting;

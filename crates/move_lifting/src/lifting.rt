@@ -6,12 +6,16 @@ ghost use Rattle.surf_model.specs.Vertices.{numbers};
 ghost use Rattle.surf_model.specs.Walks.{IsWalk, HaveCommonEnds, darts};
 ghost use Rattle.halfedge_map.specs.DartMaps.{darts_of};
 ghost use Rattle.tree_cotree.specs.Splits.{IsSplit};
+ghost use Rattle.polygon_cut.specs.Polygons.{IsCutFrom};
 ghost use Rattle.move_lifting.specs.Lifts.{LeadsAtPeak};
 ghost use Rattle.move_lifting.specs.Tracks.{last_of};
 ghost use Rattle.move_lifting.specs.declared.expanding.TheConstants.{MOST_LIFTED_SIDES, MOST_LIFTED_DARTS};
 
+use crate::contracting::contract;
 use crate::expanding::{lead_all, vertices_of};
+use crate::reducing::Reduction;
 use halfedge_map::Surface;
+use polygon_cut::Polygon;
 use std::alloc::{AllocError, Global};
 use surf_model::{Move, MoveList, VertexName, Walk};
 use tree_cotree::Split;
@@ -19,17 +23,21 @@ use tree_cotree::Split;
 /// A list of moves from the first walk to the second; none where there is no such list.
 ///
 /// The second walk comes behind the first, backward and forward. Then the closed walk that goes along the first and back
-/// along the second is contracted to its start: off the cotree of a sphere it goes along the tree, so that without spurs
-/// one vertex is left of it, and the second walk behind it.
+/// along the second is contracted to its start, and the second walk behind it is left: it is led off the cotree, and follows
+/// the steps that leave nothing of its spokes. The steps leave something exactly where the walks are not homotopic. On a
+/// sphere there are no spokes, and off the cotree nothing but the tree is left to go along.
+///
+/// A walk of 2^31 vertices on the way is answered as want of memory.
 pub fn lift(
     alloc: Global,
     surface: &Surface,
     split: &Split,
+    polygon: &Polygon,
     first: &Walk,
     second: &Walk,
 ) -> Result<Option<MoveList>, AllocError>
     requires split { IsSplit surface.now split.now }
-    requires sphere { split.now.genus ≡ 0 }
+    requires cut { IsCutFrom surface.now split.now polygon.now }
     requires first { IsWalk surface.now.mesh first.now }
     requires second { IsWalk surface.now.mesh second.now }
     requires ends { HaveCommonEnds first.now second.now }
@@ -42,7 +50,17 @@ pub fn lift(
     let mut closed = vertices_of(alloc, first)?;
     let mut moves = MoveList::new(alloc, first.darts());
     append_back(&mut closed, &mut moves, second)?;
-    let track = lead_all(alloc, surface, split, &closed, second.darts(), moves)?;
+    let behind = second.darts();
+    if polygon.degree() == 0 {
+        let track = lead_all(alloc, surface, split, &closed, behind, moves)?;
+        return Ok(Some(track.into_moves()));
+    }
+    let reduction = Reduction::of(alloc, surface, polygon, &closed)?;
+    if !reduction.leaves_nothing() {
+        return Ok(None);
+    }
+    let track = lead_all(alloc, surface, split, &closed, behind, moves)?;
+    let track = contract(alloc, surface, split, polygon, reduction, track, behind)?;
     Ok(Some(track.into_moves()))
 }
 

@@ -1,0 +1,58 @@
+use Rattle.std.proofs.Common.{◌≡◌, ℕ, List, [], get_or, refl, ap, sym, ◌∙◌, subst, arith, Some}
+use Rattle.spoke_paths.specs.Path_steps.{after_path_step, PathLeads}
+use Rattle.spoke_paths.specs.declared.step.PathStep.{PathStep}
+use Rattle.spoke_paths.specs.declared.step.PathStep.TheVariants.{Spur}
+use Rattle.move_lifting.specs.LoopsPutIn.{IsFreelyPath}
+use Rattle.move_lifting.proofs.ContractLemmas.{led_walk, next_allowed, contracted_on, all_contracted}
+use Rattle.move_lifting.proofs.contracting.contract.Goals as goal
+
+pub loop-step-init : goal.loop-step-init
+loop-step-init c = record {
+  goes = λ first rest l h. h;
+  there = c.requires.led.some;
+  no_spur = c.requires.no_spur;
+  starts = refl;
+  last = refl;
+  spokes = c.requires.spokes;
+  below = c.requires.reduction.below;
+  leads = subst (λ (x : List PathStep). PathLeads c.args.polygon.now.places c.args.reduction.spokes.items x []) (sym c.deref-step-items.ensures.value)
+      c.requires.reduction.leads;
+}
+
+pub follow-requires-clause-allowed : goal.follow-requires-clause-allowed
+follow-requires-clause-allowed c =
+    let allowed = next_allowed c.args.surface.now c.args.split.now c.faces.ensures.valid c.requires.split c.args.polygon.now c.requires.cut c.requires.some c.args.behind c.args.track c.loop-step.track
+    c.loop-step.path.items c.deref-step-items.result.now c.loop-step.step-index (Spur 0) c.loop-step-test.true c.loop-step.invariant in
+    (allowed.0, ap (after_path_step c.args.polygon.now.places _) c.deref.ensures.value ∙ allowed.1)
+
+pub follow-requires-clause-walk : goal.follow-requires-clause-walk
+follow-requires-clause-walk c =
+    led_walk c.args.surface.now c.args.split.now c.faces.ensures.valid c.requires.split c.args.polygon.now c.requires.cut c.requires.some c.args.behind c.args.track c.loop-step.track
+    c.loop-step.path.items _ c.requires.led c.loop-step.invariant
+
+pub take_step-requires : goal.take_step-requires
+take_step-requires c =
+    let allowed = next_allowed c.args.surface.now c.args.split.now c.faces.ensures.valid c.requires.split c.args.polygon.now c.requires.cut c.requires.some c.args.behind c.args.track c.loop-step.track
+    c.loop-step.path.items c.deref-step-items.result.now c.loop-step.step-index (Spur 0) c.loop-step-test.true c.loop-step.invariant in
+    (allowed.0, ap (λ (places : List ℕ). after_path_step places (get_or c.deref-step-items.result.now c.loop-step.step-index (Spur 0)) c.loop-step.path.items) c.requires.reduction.wheel ∙ allowed.1)
+
+pub loop-step-preserved : goal.loop-step-preserved
+loop-step-preserved c =
+    let step : PathStep = get_or c.deref-step-items.result.now c.loop-step.step-index (Spur 0) in
+    let taken : after_path_step c.args.polygon.now.places step c.loop-step.path.items ≡ Some c.take_step.new.path.items =
+    subst (λ (places : List ℕ). after_path_step places step c.loop-step.path.items ≡ Some c.take_step.new.path.items) c.requires.reduction.wheel c.take_step.ensures in
+    contracted_on c.args.surface.now c.args.split.now c.faces.ensures.valid c.requires.split c.args.polygon.now c.requires.cut c.requires.some c.args.behind c.args.track c.loop-step.track c.in_ok-track.track
+    c.loop-step.path.items c.take_step.new.path.items c.deref-step-items.result.now c.loop-step.step-index (Spur 0) c.loop-step-test.true c.loop-step.invariant taken
+    c.in_ok-track.ensures.leads c.in_ok-track.ensures.some c.in_ok-track.ensures.no_spur c.in_ok-track.ensures.starts c.in_ok-track.ensures.last
+    (λ other e.
+    c.in_ok-track.ensures.spokes other (ap (after_path_step c.args.polygon.now.places step) c.deref.ensures.value ∙ e))
+
+pub returns-clause-nothing : goal.returns-clause-nothing
+returns-clause-nothing c =
+    all_contracted c.args.surface.now c.args.split.now c.faces.ensures.valid c.requires.split c.args.polygon.now c.requires.cut c.requires.some c.args.behind c.args.track c.loop-step.track
+    c.loop-step.path.items c.deref-step-items.result.now c.loop-step.step-index (omega (arith, c.loop-step-test.false)) c.requires.led c.loop-step.invariant
+
+pub follow-requires-clause-spokes : goal.follow-requires-clause-spokes
+follow-requires-clause-spokes c =
+    subst (λ (l : List ℕ). IsFreelyPath c.args.surface.now c.args.split.now c.args.polygon.now l c.loop-step.track.walk) (sym c.deref.ensures.value)
+    c.loop-step.invariant.spokes

@@ -1,0 +1,6 @@
+use Rattle.std.proofs.Common.{drop}
+use Rattle.move_lifting.proofs.ContractLemmas.{IsContracted}
+use Rattle.move_lifting.proofs.contracting.contract.Given as goal
+
+abbrev pub invariant-loop-step : goal.invariant-loop-step
+invariant-loop-step l = IsContracted l.surface l.split l.polygon l.behind l.fn.track l.track l.path.items (drop l.step-index l.step-items)
