@@ -10,6 +10,7 @@ pub mod RingLemmas
 pub mod SearchLemmas
 pub mod WaitingLemmas
 pub mod TreeLemmas
+pub mod TurningLemmas
 pub mod SplittingLemmas
 pub mod EdgeTables
 pub mod GenusLemmas

@@ -1,6 +1,6 @@
--- A split, made by three searches: over the vertices, over the faces across the edges outside the tree, and once more over the faces,
--- across the cotree, from a face that has a leftover dart.
-use Rattle.std.proofs.Common.{◌≡◌, ◌⊎◌, inl, inr, ℕ, zero, suc, ◌+◌, ◌/◌, ◌<◌, Bool, true, false, not, List, [], ◌∷◌, length, map, get_or, refl, ap, sym, ◌∙◌, subst, arith}
+-- A split, made by two searches: over the vertices, and over the faces across the edges outside the tree. The tree of the second is then
+-- turned round, so that its root is a face that has a leftover dart.
+use Rattle.std.proofs.Common.{◌≡◌, ◌⊎◌, inl, inr, ℕ, zero, suc, ◌+◌, ◌/◌, ◌<◌, Bool, true, false, List, [], ◌∷◌, length, map, get_or, refl, ap, sym, ◌∙◌, subst, arith}
 use Rattle.std.specs.Prelude.{Option, Some, None, is_some, replicate}
 use Rattle.std.specs.Option.{option_map}
 use Rattle.std.proofs.lemmas.Bool.{cases_Bool, both_ways}
@@ -16,16 +16,16 @@ use Rattle.halfedge_map.proofs.SystemLemmas.{rotation_system, names_all}
 use Rattle.tree_cotree.specs.declared.split.Kind.{Kind}
 use Rattle.tree_cotree.specs.declared.split.Kind.TheVariants.{Tree, Cotree, Left}
 use Rattle.tree_cotree.specs.SpanningTrees.{IsSpanningTree, HasOneRing}
-use Rattle.tree_cotree.specs.Searches.{same_kind, has_kind, back_at, IsFound, IsNamed, IsSearched}
+use Rattle.tree_cotree.specs.Searches.{same_kind, has_kind, back_at, IsFound, IsNamed, IsSearched, FindsAll}
 use Rattle.tree_cotree.specs.Markings.{AreMarked, IsMarked, AreBelowEdges, face_below}
 use Rattle.tree_cotree.specs.Splits.{SplitView, HasParents, HasChildFaces, HasTrees, IsSplit, StepsToParent, StepsUp, in_tree, in_cotree, is_left, is_tree_kind, is_cotree_kind, is_left_kind}
 use Rattle.tree_cotree.specs.StoredSplits.{dart_options, face_options, made_split}
 use Rattle.tree_cotree.proofs.ClassLemmas.{count_same}
 use Rattle.tree_cotree.proofs.SetLemmas.{with_one, with_cases, with_keeps, count_with, same_from_count}
 use Rattle.tree_cotree.proofs.GrowthLemmas.{HasNodes}
-use Rattle.tree_cotree.proofs.SplitLemmas.{tree_ring, cotree_ring, closed_holds_all}
+use Rattle.tree_cotree.proofs.SplitLemmas.{tree_ring, closed_holds_all}
 use Rattle.tree_cotree.proofs.LawLemmas.{vertex_nodes, face_nodes, some_dart, even}
-use Rattle.tree_cotree.proofs.TreeLemmas.{FindsAll, crossed_from, vertices_found, kept_nodes, root_not_kept, kept_join, all_to_root, kept_allowed}
+use Rattle.tree_cotree.proofs.TreeLemmas.{crossed_from, vertices_found, kept_nodes, root_not_kept, kept_join, all_to_root, kept_allowed}
 
 option_cases : (o : Option ℕ) → (o ≡ None) ⊎ ((x : ℕ) × (o ≡ Some x))
 option_cases None = inl refl
@@ -88,7 +88,7 @@ count_nodes maps node allowed bound root edges is_node from n f l =
     ∙ ap (λ k. suc (count_below (λ w. is_some (back_at from w)) k)) (sym f.is_order.long)
     ∙ (let e : suc (count_below (λ w. is_some (back_at from w)) (length from)) ≡ count_below (λ w. is_some (back_at from w)) (length from) + 1 = omega arith in e)
 
-kept_below : (maps : Rotations) (node : ℕ → ℕ) (allowed : ℕ → Bool) (bound root edges : ℕ) (is_node : ℕ → Bool) (from : List (Option DartName)) (v x : ℕ)
+pub kept_below : (maps : Rotations) (node : ℕ → ℕ) (allowed : ℕ → Bool) (bound root edges : ℕ) (is_node : ℕ → Bool) (from : List (Option DartName)) (v x : ℕ)
     → HasNodes maps node is_node bound edges → FindsAll maps node allowed bound root from → back_at from v ≡ Some x → v < length from
 kept_below maps node allowed bound root edges is_node from v x n f e =
     let name : IsNamed node f.order v x = f.is_order.only v x e in
@@ -117,7 +117,7 @@ pub record IsMade (s : OrientedMesh) (k0 k1 k2 : List Kind) (p q t : List (Optio
   pub start_in : start < (rotations_of s).darts
   pub start_left : (d : ℕ) → d < (rotations_of s).darts → has_kind k2 Left ((rotations_of s).edge d) ≡ true
       → has_kind k2 Left ((rotations_of s).edge start) ≡ true
-  pub hanging : IsSearched (rotations_of s) (rotations_of s).face (has_kind k2 Cotree) (length s.mesh.faces) ((rotations_of s).face start) t
+  pub hanging : FindsAll (rotations_of s) (rotations_of s).face (has_kind k2 Cotree) (length s.mesh.faces) ((rotations_of s).face start) t
   pub faces : AreBelowEdges (rotations_of s) t (length s.table) below (length t)
 
 -- the first search: all edges are allowed
@@ -200,30 +200,6 @@ tree_stays s k1 k2 q bound root c f e =
             other_kind k1 Left Tree e refl left)
       ])
     ]
-
--- the third search finds all faces too
-pub hanging_found : (s : OrientedMesh) → IsOrientedSurface s → (k2 : List Kind) (t : List (Option DartName)) (start : ℕ)
-    → start < (rotations_of s).darts
-    → IsSpanningTree (rotations_of s) (rotations_of s).face (λ f. true) (length s.mesh.faces) (length s.table) (has_kind k2 Cotree)
-    → IsSearched (rotations_of s) (rotations_of s).face (has_kind k2 Cotree) (length s.mesh.faces) ((rotations_of s).face start) t
-    → FindsAll (rotations_of s) (rotations_of s).face (has_kind k2 Cotree) (length s.mesh.faces) ((rotations_of s).face start) t
-hanging_found s h k2 t start l span searched =
-    let maps : Rotations = rotations_of s in
-    let r : IsRotationSystem maps = rotation_system s h in
-    let ring : HasOneRing maps (λ e. not (has_kind k2 Cotree e)) =
-    cotree_ring maps (λ f. true) (length s.mesh.faces) (length s.table) (has_kind k2 Cotree) r (face_nodes s (names_all s h)) span in
-    record {
-      order = searched.order;
-      is_order = searched.is_order;
-      all = λ d k. closed_holds_all maps (λ e. not (has_kind k2 Cotree e)) (IsFound maps.face searched.order) r ring
-          (λ e b out found. crossed_from maps maps.face (has_kind k2 Cotree) (length s.mesh.faces) (maps.face start) t searched e b
-          (from_not (has_kind k2 Cotree (maps.edge e)) out) found)
-          start d l k (record { place = 0; within = searched.is_order.some; is = searched.is_order.first });
-    }
-  where
-    from_not : (b : Bool) → not b ≡ false → b ≡ true
-    from_not true e = refl
-    from_not false e = cc
 
 options_read : {A : Type 0} (g : A → ℕ) (xs : List (Option A)) (v : ℕ)
     → get_or (map (option_map g) xs) v None ≡ option_map g (get_or xs v None)
@@ -330,7 +306,7 @@ split_child_faces s h k0 k1 k2 p q t below start genus m =
     let f = tree_found s h k0 p m.first m.tree in
     let g = cotree_found s h k0 k1 p q m.first f m.marked m.cotree in
     let span = cotree_spans s h k0 k1 k2 p q m.first m.marked g m.crossed in
-    let a : FindsAll maps maps.face (has_kind k2 Cotree) (length s.mesh.faces) root t = hanging_found s h k2 t start m.start_in span m.hanging in
+    let a : FindsAll maps maps.face (has_kind k2 Cotree) (length s.mesh.faces) root t = m.hanging in
     let read : (e : ℕ) → get_or (face_options below) e None ≡ face_below below e = options_read (λ (x : FaceName). x.0) below in
     let is_cotree : (e : ℕ) → e < length s.table → is_some (face_below below e) ≡ has_kind k2 Cotree e = below_is_cotree s h k2 t below start m.start_in span a m.faces in
     let dart_in : (v x : ℕ) → back_at t v ≡ Some x → x < maps.darts =

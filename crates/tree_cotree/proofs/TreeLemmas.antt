@@ -12,7 +12,7 @@ use Rattle.tree_cotree.specs.SpanningTrees.{StepsIn}
 use Rattle.std.proofs.lemmas.List.{get_or-set_same, get_or-set_other, length-set}
 use Rattle.tree_cotree.specs.declared.split.Kind.{Kind}
 use Rattle.tree_cotree.specs.declared.split.Kind.TheVariants.{Tree, Cotree, Left}
-use Rattle.tree_cotree.specs.Searches.{same_kind, has_kind, back_at, IsFound, IsNamed, LeadsBack, IsOrder, IsSearched}
+use Rattle.tree_cotree.specs.Searches.{same_kind, has_kind, back_at, IsFound, IsNamed, LeadsBack, IsOrder, IsSearched, FindsAll}
 use Rattle.tree_cotree.specs.Markings.{AreApart, AreMarked, IsMarked, AreBelowEdges, face_below}
 use Rattle.surf_model.specs.declared.names.FaceName.{FaceName}
 use Rattle.tree_cotree.proofs.SetLemmas.{with_one, with_itself, with_other, with_cases, with_keeps, count_with}
@@ -28,12 +28,6 @@ joined_more step u v w (x ∷ path) more h k = (h.0, joined_more step x v w path
 
 pub join : (step : ℕ → ℕ → Type 0) (u v w : ℕ) → AreJoined step u v → AreJoined step v w → AreJoined step u w
 join step u v w h k = (h.0 ++ k.0, joined_more step u v w h.0 k.0 h.1 k.1)
-
--- an order that finds every node
-pub record FindsAll (maps : Rotations) (node : ℕ → ℕ) (allowed : ℕ → Bool) (bound root : ℕ) (from : List (Option DartName)) : Type 0 where
-  pub order : List ℕ
-  pub is_order : IsOrder maps node allowed bound root order from
-  pub all : (d : ℕ) → d < maps.darts → IsFound node order (node d)
 
 pub crossed_from : (maps : Rotations) (node : ℕ → ℕ) (allowed : ℕ → Bool) (bound root : ℕ) (from : List (Option DartName)) (s : IsSearched maps node allowed bound root from)
     → (d : ℕ) → d < maps.darts → allowed (maps.edge d) ≡ true → IsFound node s.order (node d) → IsFound node s.order (node (maps.twin d))

@@ -4,11 +4,10 @@ use Rattle.std.specs.Option.{option_map}
 use Rattle.surf_model.specs.declared.names.DartName.{DartName}
 use Rattle.surf_model.specs.declared.names.FaceName.{FaceName}
 use Rattle.halfedge_map.specs.Numbers.{count_below}
-use Rattle.halfedge_map.specs.OrientedMeshes.{OrientedMesh}
-use Rattle.halfedge_map.specs.RotationSystems.{Rotations, rotations_of}
+use Rattle.halfedge_map.specs.RotationSystems.{Rotations}
 use Rattle.tree_cotree.specs.declared.split.Kind.{Kind}
-use Rattle.tree_cotree.specs.declared.split.Kind.TheVariants.{Tree, Cotree}
-use Rattle.tree_cotree.specs.Searches.{back_at, has_kind, IsSearched}
+use Rattle.tree_cotree.specs.declared.split.Kind.TheVariants.{Tree}
+use Rattle.tree_cotree.specs.Searches.{back_at, has_kind}
 
 -- each kept dart is a dart, and no two of them lie on one edge
 pub record AreApart (maps : Rotations) (from : List (Option DartName)) : Type 0 where
@@ -33,16 +32,9 @@ abbrev pub face_below : List (Option FaceName) → ℕ → Option ℕ
 face_below below e = option_map (λ f. f.0) (slice_index_or below e None)
 
 -- for the edges of the darts that are kept for the first n faces, these faces
-pub record AreBelowEdges (maps : Rotations) (from : List (Option DartName)) (edges : ℕ) (below : List (Option FaceName)) (n : ℕ) : Type 0 where
+pub record AreBelowEdges (maps : Rotations) (from : List (Option DartName)) (edges : ℕ) (below : List (Option FaceName)) (n : ℕ)
+    : Type 0 where
   pub long : length below ≡ edges
   pub sets : AreMarked maps from edges (λ e. false) (λ e. is_some (face_below below e)) n
   pub faces : (e f : ℕ) → face_below below e ≡ Some f → (x : ℕ) × (f < n) × (back_at from f ≡ Some x) × (maps.edge x ≡ e)
   pub keeps : (f x : ℕ) → f < n → back_at from f ≡ Some x → face_below below (maps.edge x) ≡ Some f
-
--- the faces below the edges of the cotree, where these hang from the face of a dart
-pub record AreHanging (surface : OrientedMesh) (kinds : List Kind) (start : ℕ) (below : List (Option FaceName)) : Type 0 where
-  pub from : List (Option DartName)
-  pub searched :
-      IsSearched (rotations_of surface) (rotations_of surface).face (has_kind kinds Cotree) (length surface.mesh.faces)
-      ((rotations_of surface).face start) from
-  pub faces : AreBelowEdges (rotations_of surface) from (length surface.table) below (length from)

@@ -47,7 +47,8 @@ pub record LeadsBack (maps : Rotations) (node : ℕ → ℕ) (order : List ℕ) 
 
 -- Darts in the order of a search from a root: no node twice, each but the first across an allowed edge from a node before it, and
 -- kept for its node.
-pub record IsOrder (maps : Rotations) (node : ℕ → ℕ) (allowed : ℕ → Bool) (bound root : ℕ) (order : List ℕ) (from : List (Option DartName)) : Type 0 where
+pub record IsOrder (maps : Rotations) (node : ℕ → ℕ) (allowed : ℕ → Bool) (bound root : ℕ) (order : List ℕ)
+    (from : List (Option DartName)) : Type 0 where
   pub long : length from ≡ bound
   pub some : 0 < length order
   pub first : node (slice_index order 0) ≡ root
@@ -68,6 +69,12 @@ pub record IsSearched (maps : Rotations) (node : ℕ → ℕ) (allowed : ℕ →
   pub order : List ℕ
   pub is_order : IsOrder maps node allowed bound root order from
   pub closed : (j : ℕ) → j < length order → IsCrossed maps node allowed order (node (slice_index order j))
+
+-- a search that found the nodes of all darts
+pub record FindsAll (maps : Rotations) (node : ℕ → ℕ) (allowed : ℕ → Bool) (bound root : ℕ) (from : List (Option DartName)) : Type 0 where
+  pub order : List ℕ
+  pub is_order : IsOrder maps node allowed bound root order from
+  pub all : (d : ℕ) → d < maps.darts → IsFound node order (node d)
 
 -- the darts of the nodes found since are put last, both to the order and to those that wait
 pub record AreAdded (old waited new waiting : List ℕ) : Type 0 where

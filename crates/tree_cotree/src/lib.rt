@@ -13,6 +13,7 @@ mod marking;
 pub mod rings;
 mod search;
 pub mod split;
+mod turning;
 
 pub use rings::Rings;
 pub use split::{Kind, Split, split_edges};

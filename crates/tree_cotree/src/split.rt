@@ -1,12 +1,11 @@
 //! Splits of a surface.
 ghost use Rattle.std.specs.Prelude.{◌≡◌, ◌<◌, length, IfOk};
 ghost use Rattle.std.specs.Option.{option_map};
-ghost use Rattle.halfedge_map.specs.DartMaps.{darts_of};
-ghost use Rattle.tree_cotree.specs.Markings.{AreHanging};
 ghost use Rattle.tree_cotree.specs.Splits.{IsSplit};
 
 use crate::marking::{faces_below, leftover_dart, leftover_edges, mark};
 use crate::search::{Edges, Nodes, Order, search_over};
+use crate::turning::turn_round;
 use halfedge_map::Surface;
 use std::alloc::{AllocError, Global};
 use std::marker::Model;
@@ -106,7 +105,7 @@ pub fn split_edges(alloc: Global, surface: &Surface) -> Result<Split, AllocError
         DartName(0),
     )?;
     mark(&mut kinds, surface, &parents, Kind::Tree);
-    let across = search_over(
+    let mut across = search_over(
         alloc,
         surface,
         Nodes::Faces,
@@ -117,9 +116,9 @@ pub fn split_edges(alloc: Global, surface: &Surface) -> Result<Split, AllocError
         DartName(0),
     )?;
     mark(&mut kinds, surface, &across, Kind::Cotree);
-    drop(across);
     let start = leftover_dart(surface, &kinds);
-    let child_faces = hanging_faces(alloc, surface, &kinds, start)?;
+    turn_round(alloc, surface, &mut across, start)?;
+    let child_faces = faces_below(alloc, surface, &across)?;
     let genus = leftover_edges(&kinds) / 2;
     Ok(Split {
         kinds,
@@ -128,28 +127,4 @@ pub fn split_edges(alloc: Global, surface: &Surface) -> Result<Split, AllocError
         root_face: surface.face_of(start),
         genus,
     })
-}
-
-/// For each edge of the cotree the face below it, where the root is the face of a dart.
-fn hanging_faces(
-    alloc: Global,
-    surface: &Surface,
-    kinds: &[Kind],
-    start: DartName,
-) -> Result<Vec<Option<FaceName>>, AllocError>
-    requires kinds { length kinds.now ≡ length surface.now.table }
-    requires start { start.0 < darts_of surface.now }
-    ensures { IfOk result (λ below. AreHanging surface.now kinds.now start.0 below.items) }
-{
-    let hanging = search_over(
-        alloc,
-        surface,
-        Nodes::Faces,
-        Order::LastFound,
-        surface.faces().len(),
-        kinds,
-        Edges::OfKind(Kind::Cotree),
-        start,
-    )?;
-    faces_below(alloc, surface, &hanging)
 }

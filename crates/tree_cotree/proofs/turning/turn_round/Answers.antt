@@ -1,0 +1,74 @@
+use Rattle.std.proofs.Common.{◌≡◌, ◌<◌, ℕ, List, [], length, ap, sym, ◌∙◌, subst, arith, rules}
+use Rattle.std.specs.Prelude.{Option, Some, None}
+use Rattle.std.proofs.Math.ListN.{set}
+use Rattle.std.proofs.lemmas.List.{length-set}
+use Rattle.surf_model.specs.declared.names.DartName.{DartName}
+use Rattle.halfedge_map.specs.OrientedMeshes.{OrientedMesh}
+use Rattle.halfedge_map.specs.RotationSystems.{Rotations, rotations_of}
+use Rattle.halfedge_map.proofs.SystemLemmas.{rotation_system, names_all}
+use Rattle.tree_cotree.specs.RingViews.{dart_numbers}
+use Rattle.tree_cotree.specs.Ways.{IsWayUp}
+use Rattle.tree_cotree.proofs.SearchLemmas.{numbers_push}
+use Rattle.tree_cotree.proofs.TurningLemmas.{IsPartlyTurned, turning_start, turning_more, turning_done, last_in}
+use Rattle.tree_cotree.proofs.turning.turn_round.Goals as goal
+
+pub loop-dart-init : goal.loop-dart-init
+loop-dart-init c =
+    let s : OrientedMesh = c.args.surface.now in
+    let maps : Rotations = rotations_of s in
+    let up : IsWayUp maps c.args.from.now (maps.face c.args.start.0) (dart_numbers c.in_ok-way.way.items) = c.in_ok-way.ensures in
+    turning_start maps c.args.from.now (maps.face c.args.start.0) (dart_numbers c.in_ok-way.way.items) up
+    ((names_all s c.requires.valid).each_face up.top (subst (λ n. up.top < n) c.requires.each_face up.within))
+
+pub twin-back-requires : goal.twin-back-requires
+twin-back-requires c =
+    let maps : Rotations = rotations_of c.args.surface.now in
+    last_in maps c.args.from.now (maps.face c.args.start.0) c.loop-dart.from (dart_numbers c.loop-dart.way.items)
+    (dart_numbers c.pop.new.self.items) c.in-Some.dart.0 c.loop-dart.invariant
+    (numbers_push c.pop.new.self.items c.loop-dart.way.items c.in-Some.dart c.in-Some.ensures.items)
+
+pub bounds-from-face_of : goal.bounds-from-face_of
+bounds-from-face_of c = omega (arith, c.face_of.ensures.within, c.requires.each_face, c.loop-dart.auto.from)
+
+pub face_of-requires-in-Some : goal.face_of-requires-in-Some
+face_of-requires-in-Some c =
+    let maps : Rotations = rotations_of c.args.surface.now in
+    last_in maps c.args.from.now (maps.face c.args.start.0) c.loop-dart.from (dart_numbers c.loop-dart.way.items)
+    (dart_numbers c.pop.new.self.items) c.in-Some.dart.0 c.loop-dart.invariant
+    (numbers_push c.pop.new.self.items c.loop-dart.way.items c.in-Some.dart c.in-Some.ensures.items)
+
+pub bounds-from-face_of-in-Some : goal.bounds-from-face_of-in-Some
+bounds-from-face_of-in-Some c =
+    omega (
+      arith,
+      c.face_of-in-Some.ensures.within,
+      c.requires.each_face,
+      c.loop-dart.auto.from,
+      length-set c.loop-dart.from c.face_of.result.0 (Some c.twin-back.result),
+    )
+
+pub loop-dart-preserved : goal.loop-dart-preserved
+loop-dart-preserved c =
+    let s : OrientedMesh = c.args.surface.now in
+    let maps : Rotations = rotations_of s in
+    let start : ℕ = maps.face c.args.start.0 in
+    let d : ℕ = c.in-Some.dart.0 in
+    let x : DartName = c.twin-back.result in
+    let from : List (Option DartName) = c.loop-dart.from in
+    let way : List ℕ = dart_numbers c.pop.new.self.items in
+    let long : length from ≡ length s.mesh.faces = c.loop-dart.auto.from ∙ c.requires.each_face in
+    let turned : IsPartlyTurned maps c.args.from.now start (set (set from (maps.face x.0) (Some x)) (maps.face d) None) way =
+    turning_more maps c.args.from.now start from way d x (rotation_system s c.requires.valid)
+    (λ e l. subst (λ n. maps.face e < n) (sym long) ((names_all s c.requires.valid).face_below e l))
+    (subst (IsPartlyTurned maps c.args.from.now start from) (numbers_push c.pop.new.self.items c.loop-dart.way.items c.in-Some.dart c.in-Some.ensures.items)
+    c.loop-dart.invariant)
+    c.twin-back.ensures.twin in
+    subst (λ v. IsPartlyTurned maps c.args.from.now start (set (set from v (Some x)) c.face_of-in-Some.result.0 None) way) (sym c.face_of.ensures.face)
+    (subst (λ w. IsPartlyTurned maps c.args.from.now start (set (set from (maps.face x.0) (Some x)) w None) way) (sym c.face_of-in-Some.ensures.face) turned)
+
+pub returns : goal.returns
+returns c =
+    let maps : Rotations = rotations_of c.args.surface.now in
+    let empty : c.loop-dart.way.items ≡ [] = search rules in
+    turning_done maps c.args.from.now (maps.face c.args.start.0) c.loop-dart.from (dart_numbers c.loop-dart.way.items) c.loop-dart.invariant
+    (ap dart_numbers empty)
