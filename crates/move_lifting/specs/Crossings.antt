@@ -29,7 +29,8 @@ pub record GoesAlong (mesh : FaceList) (side : Side) (from : ℕ) (step : FaceSt
 pub record IsStepFrom (surface : OrientedMesh) (dart : ℕ) (back : Bool) (step : FaceStep) : Type 0 where
   pub face : step.face.0 ≡ face_of surface dart
   pub corner : step.corner ≡ start_corner_of surface dart
-  pub way : step.forward ≡ (if back then is_flipped surface.signs (face_of surface dart) else not (is_flipped surface.signs (face_of surface dart)))
+  pub way : step.forward
+      ≡ (if back then is_flipped surface.signs (face_of surface dart) else not (is_flipped surface.signs (face_of surface dart)))
 
 -- of a dart and its twin, the dart itself if it lies in the face, and else the twin
 pub record IsOneIn (surface : OrientedMesh) (dart face chosen : ℕ) : Type 0 where

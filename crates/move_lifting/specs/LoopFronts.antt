@@ -6,8 +6,8 @@ use Rattle.spoke_paths.specs.Path_turns.{from_vertex}
 abbrev pub is_of_last : ℕ → ℕ → ℕ → Bool
 is_of_last last side partner = side == last || partner == last
 
--- The spokes behind which a turn at a place of the path puts the loop in: those before the place, and where the loop starts further on, those
--- of one way round the quad that lead there.
+-- The spokes behind which a turn at a place of the path puts the loop in: those before the place, and where the loop starts further
+-- on, those of one way round the quad that lead there.
 abbrev pub spokes_in_front : ℕ → List ℕ → ℕ → ℕ → ℕ → List ℕ
 spokes_in_front last path at side partner =
     take at path

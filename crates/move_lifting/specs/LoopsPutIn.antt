@@ -15,7 +15,8 @@ signed_loop surface polygon root ways up =
 abbrev pub IsFreelyPath : OrientedMesh → SplitView → PolygonView → List ℕ → List ℕ → Type 0
 IsFreelyPath surface split polygon path walk =
     (root : ℕ) (ways : ℕ → List ℕ) → AreWaysUp surface split root ways
-    → AreFreelyEqual surface.mesh walk (by_loop ways (slice_index walk 0) (slice_index walk 0) (path_loop surface polygon root ways true path))
+    → AreFreelyEqual surface.mesh walk
+    (by_loop ways (slice_index walk 0) (slice_index walk 0) (path_loop surface polygon root ways true path))
 
 -- Where the one walk is the loop of some spokes, up to spurs, the other walk, from the same vertex, is that loop with the loop of the last
 -- side put in behind the spokes in front, or where it goes up the way back along it.

@@ -18,7 +18,8 @@ pub record IsSpokeWalk (surface : OrientedMesh) (split : SplitView) (polygon : P
       → AreFreelyEqual surface.mesh (root ∷ spoke_loop surface polygon root ways spoke) walk
 
 -- so many walks, each that of its spoke
-pub record AreSpokeWalks (surface : OrientedMesh) (split : SplitView) (polygon : PolygonView) (many : ℕ) (walks : List (List ℕ)) : Type 0 where
+pub record AreSpokeWalks (surface : OrientedMesh) (split : SplitView) (polygon : PolygonView) (many : ℕ) (walks : List (List ℕ))
+    : Type 0 where
   pub count : length walks ≡ many
   pub each : (spoke : ℕ) → spoke < many → IsSpokeWalk surface split polygon spoke (slice_index_or walks spoke [])
 
@@ -32,13 +33,15 @@ abbrev pub walks_loop : List (List ℕ) → Bool → List ℕ → List ℕ
 walks_loop walks along [] = []
 walks_loop walks along (i ∷ path) = along_or_back along (slice_index_or walks i []) ++ walks_loop walks (not along) path
 
--- the walk is the loop of the last side, or if `back` the way back along it, and the moves lead to it from the vertex where that side starts
+-- the walk is the loop of the last side, or if `back` the way back along it, and the moves lead to it from the vertex where that
+-- side starts
 pub record IsLastLoop (surface : OrientedMesh) (split : SplitView) (polygon : PolygonView) (back : Bool) (lifted : Lifted) : Type 0 where
   pub leads : LeadsAtPeak surface.mesh (origin_of surface (last_side polygon) ∷ []) lifted.moves lifted.walk
   pub no_spur : HasNoSpur lifted.walk
   pub freely : (root : ℕ) (ways : ℕ → List ℕ) → AreWaysUp surface split root ways
       → AreFreelyEqual surface.mesh lifted.walk
-      (by_loop ways (origin_of surface (last_side polygon)) (origin_of surface (last_side polygon)) (signed_loop surface polygon root ways back))
+      (by_loop ways (origin_of surface (last_side polygon)) (origin_of surface (last_side polygon))
+      (signed_loop surface polygon root ways back))
 
 -- what a looper keeps: the walks of the spokes, and the loop of the last side and the way back along it, each with moves that lead to it
 pub record IsLooper (surface : OrientedMesh) (split : SplitView) (polygon : PolygonView) (looper : Looper) : Type 0 where

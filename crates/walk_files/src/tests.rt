@@ -150,22 +150,8 @@ fn first_fault(text: &[u8]) -> Option<CertFault> {
 }
 
 #[test]
-fn certificates(rt: HostRuntime) {
-    let texts: [(&[u8], Option<CertFault>); 16] = [
-        (b"MOVES 1 2\nf 0 0 0 + 2\n", None),
-        (
-            b"\xEF\xBB\xBFhomotopic # yes\r\n\r\nMOVES 3 003\r\nf 0 0 0 - 2\n\n+ 1\t2\n- 0 1",
-            None,
-        ),
-        (b"different\nLABELS 8\n+ x\n", None),
-        (
-            b"MOVES 2 2\nf 0 0 0 + 2\n",
-            Some(CertFault::Ended { line: 3 }),
-        ),
-        (
-            b"MOVES 18446744073709551615 2",
-            Some(CertFault::Ended { line: 2 }),
-        ),
+fn heads_of_certificates(rt: HostRuntime) {
+    let texts: [(&[u8], Option<CertFault>); 8] = [
         (
             b"MOVES 18446744073709551616 2",
             Some(CertFault::Bad { line: 1 }),
@@ -183,6 +169,29 @@ fn certificates(rt: HostRuntime) {
         ),
         (b"homotopic MOVES 0 2\n", Some(CertFault::Bad { line: 1 })),
         (b"# nothing\n\n", Some(CertFault::NoHead)),
+    ];
+    for (text, fault) in texts {
+        assert_eq!(rt; first_fault(text), fault, "in {text:?}");
+    }
+}
+
+#[test]
+fn lines_of_certificates(rt: HostRuntime) {
+    let texts: [(&[u8], Option<CertFault>); 8] = [
+        (b"MOVES 1 2\nf 0 0 0 + 2\n", None),
+        (
+            b"\xEF\xBB\xBFhomotopic # yes\r\n\r\nMOVES 3 003\r\nf 0 0 0 - 2\n\n+ 1\t2\n- 0 1",
+            None,
+        ),
+        (b"different\nLABELS 8\n+ x\n", None),
+        (
+            b"MOVES 2 2\nf 0 0 0 + 2\n",
+            Some(CertFault::Ended { line: 3 }),
+        ),
+        (
+            b"MOVES 18446744073709551615 2",
+            Some(CertFault::Ended { line: 2 }),
+        ),
         (b"MOVES 1 2\n\n+ 0 1 2\n", Some(CertFault::Bad { line: 3 })),
         (
             b"MOVES 1 2\nf 0 0 0 + 4294967296\n",
