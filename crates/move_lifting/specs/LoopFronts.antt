@@ -1,10 +1,6 @@
 -- Where a turn on a path of spokes puts the loop of the last side in.
-use Rattle.std.specs.Prelude.{ℕ, ◌+◌, ◌==◌, ◌||◌, Bool, if◌then◌else◌, List, [], ◌∷◌, ◌++◌, take}
+use Rattle.std.specs.Prelude.{ℕ, ◌+◌, ◌==◌, if◌then◌else◌, List, [], ◌∷◌, ◌++◌, take}
 use Rattle.spoke_paths.specs.Path_turns.{from_vertex}
-
--- the quad of a side and its partner is that of the last side
-abbrev pub is_of_last : ℕ → ℕ → ℕ → Bool
-is_of_last last side partner = side == last || partner == last
 
 -- The spokes behind which a turn at a place of the path puts the loop in: those before the place, and where the loop starts further
 -- on, those of one way round the quad that lead there.
