@@ -11,7 +11,7 @@ use Rattle.walk_translate.specs.declared.deciding.Answer as deciding
 use Rattle.walk_translate.specs.declared.deciding.Answer.TheVariants as answers
 use Rattle.homotopy_cli.specs.Answers.{Answer, Outcome, Certified}
 use Rattle.homotopy_cli.specs.Causes.{Exactly}
-use Rattle.homotopy_cli.specs.Certify.{IsCertifyInput, IsWithinLimits, IsUnbuilt, IsCertificatePrinted, IsCertified, limit_fault, certified}
+use Rattle.homotopy_cli.specs.Certify.{IsCertifyInput, IsWithinLimits, IsCertificatePrinted, IsCertified, limit_fault, certified}
 use Rattle.homotopy_cli.specs.Checks.{Refuse, Pass, found_or}
 use Rattle.homotopy_cli.specs.Commands.{Certify, IsRow}
 use Rattle.homotopy_cli.specs.Inputs.{pair_in, SpellsMesh, SpellsPair}
@@ -56,41 +56,34 @@ dart_limit mesh first second few many =
     rw (sides, long) refl
 
 -- what the end of the check tells
-no_and_refused : No ≡ Refused → ⊥
-no_and_refused e = cc
-
-yes_and_no : Yes ≡ No → ⊥
-yes_and_no e = cc
+no_and_yes : No ≡ Yes → ⊥
+no_and_yes e = cc
 
 pub record IsAnsweredSo (mesh : FaceList) (first second : List ℕ) (status : Status) (text : List ℕ) : Type 0 where
   pub answered : IsCertificatePrinted mesh first second status text
-      ⊎ (IsUnbuilt mesh first second × (status ≡ Refused) × (text ≡ refusal_line refusals.NotBuilt))
-  pub different : (status ≡ No) ↔ (Homotopic mesh first second → ⊥)
+  pub exactly : (status ≡ Yes) ↔ Homotopic mesh first second
 
 status_tells : {P : Type 0} (decision : deciding.Answer) (status : Status) → status ≡ decision_status decision → (decision ≡ answers.Homotopic) ↔ P
-    → (status ≡ No) ↔ (P → ⊥)
-status_tells answers.Homotopic status e right = ((λ no. absurd (yes_and_no (sym e ∙ no))), (λ apart. absurd (apart (right.0 refl))))
-status_tells answers.Different status e right = ((λ _ p. differs (right.1 p)), (λ _. e))
+    → (status ≡ Yes) ↔ P
+status_tells answers.Homotopic status e right = ((λ _. right.0 refl), (λ _. e))
+status_tells answers.Different status e right =
+    ((λ yes. absurd (no_and_yes (sym e ∙ yes))), (λ h. absurd (differs (right.1 h))))
 
 by_certified : (mesh : FaceList) (first second : List ℕ) (outcome : Outcome) (status : Status) (text : List ℕ) → (certified mesh first second).Ends outcome
     → IsAnswerOf outcome status text → IsAnsweredSo mesh first second status text
-by_certified mesh first second (Refuse cause) status text p answer =
-    let told = refused_so refusals.NotBuilt (Refuse cause) status text (ap (λ c. Refuse c) p.1) answer in
-    record {
-      answered = inr (p.0, told.0, told.1);
-      different = ((λ no. absurd (no_and_refused (sym no ∙ told.0))), (λ apart. absurd (apart p.0.homotopic)));
-    }
+by_certified mesh first second (Refuse cause) status text p answer = absurd p
 by_certified mesh first second (Pass x) status text p answer =
     let here : IsAnswerOf (Pass (Certified mesh first second p.0)) status text = subst (λ (y : Answer). IsAnswerOf (Pass y) status text) p.1 answer in
     let shown = here.text_is in
     record {
-      answered = inl (record {
-        shown = shown.0;
-        convinces = shown.1;
-        status_is = here.status_is ∙ ap decision_status (sym shown.2);
-        text_is = shown.3;
-      });
-      different = status_tells p.0 status here.status_is p.2;
+      answered =
+          record {
+            shown = shown.0;
+            convinces = shown.1;
+            status_is = here.status_is ∙ ap decision_status (sym shown.2);
+            text_is = shown.3;
+          };
+      exactly = status_tells p.0 status here.status_is p.2;
     }
 
 -- ---- such an input
@@ -134,7 +127,7 @@ pub certified_so : (files : Option Files) (words : List (List ℕ)) (outcome : O
 certified_so files words outcome status text is answer =
     record {
       answered = λ mesh first second input within. (answers_input files words mesh first second outcome status text is answer input within).answered;
-      different = λ mesh first second input within. (answers_input files words mesh first second outcome status text is answer input within).different;
+      exactly = λ mesh first second input within. (answers_input files words mesh first second outcome status text is answer input within).exactly;
       many_sides = λ mesh first second input many.
           refuses_input files words mesh first second outcome status text is answer input (refusals.CertifySides (total_sides mesh))
           (side_limit mesh first second many);

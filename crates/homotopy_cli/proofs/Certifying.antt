@@ -27,7 +27,7 @@ use Rattle.move_lifting.specs.declared.expanding.TheConstants.{MOST_LIFTED_SIDES
 use Rattle.homotopy_cli.specs.Answers.{Answer, Certified}
 use Rattle.homotopy_cli.specs.Causes.{Exactly}
 use Rattle.homotopy_cli.specs.Certificates.{Convinces, decision_of}
-use Rattle.homotopy_cli.specs.Certify.{IsSphere, IsWithinLimits, IsCertificate, Certifies, limit_fault, certified, certify}
+use Rattle.homotopy_cli.specs.Certify.{IsWithinLimits, Certifies, limit_fault, certified, certify}
 use Rattle.homotopy_cli.specs.Checks.{Check, End, Refuse, Pass, Passes, pass_unless, ◌>>=◌}
 use Rattle.homotopy_cli.specs.Inputs.{pair_in, walk_at}
 use Rattle.homotopy_cli.specs.Stops.{Stops}
@@ -35,7 +35,7 @@ use Rattle.homotopy_cli.specs.SurfaceInput.{surface_in}
 use Rattle.homotopy_cli.specs.declared.certificate.Certificate.{Certificate}
 use Rattle.homotopy_cli.specs.declared.certificate.Certificate.TheVariants.{Moves, Denial}
 use Rattle.homotopy_cli.specs.declared.refusal.Refusal.{Refusal}
-use Rattle.homotopy_cli.specs.declared.refusal.Refusal.TheVariants.{NotBuilt, CertifySides, CertifyDarts}
+use Rattle.homotopy_cli.specs.declared.refusal.Refusal.TheVariants.{CertifySides, CertifyDarts}
 use Rattle.homotopy_cli.specs.declared.stop.Stop.{Stop}
 use Rattle.homotopy_cli.specs.declared.stop.Stop.TheVariants.{Refused}
 use Rattle.homotopy_cli.proofs.Checking.{stops_first, stops_next}
@@ -72,26 +72,6 @@ denial_holds surface split polygon first second good one other o is_split is_cut
           (record { split = split; polygon = polygon; is_split = is_split; is_cut = is_cut; some = some; labelling_is = is_good }) w z ends f g).1 same);
     }
 
--- ---- lists of moves
-
--- what a split without leftover edges tells of the surface
-pub sphere_by : (surface : OrientedMesh) (split : SplitView) → IsOrientedSurface surface → IsSplit surface split → split.genus ≡ 0 → IsSphere surface.mesh
-sphere_by surface split o is none = (
-  _,
-  numbers_from surface split (used_vertices surface) _ _ split.genus (euler_of surface) o is refl refl refl refl refl,
-  none,
-)
-
-pub no_sphere_by : (surface : OrientedMesh) (split : SplitView) → IsOrientedSurface surface → IsSplit surface split → (split.genus ≡ 0 → ⊥)
-    → IsSphere surface.mesh → ⊥
-no_sphere_by surface split o is some sphere =
-    let own = numbers_from surface split (used_vertices surface) _ _ split.genus (euler_of surface) o is refl refl refl refl refl in
-    some (ap (λ n. n.genus) (one_numbers surface.mesh _ sphere.0 own sphere.1) ∙ sphere.2)
-
-pub list_shown : (surface : OrientedMesh) (split : SplitView) (first second : List ℕ) (list : PeakedMoves) → IsOrientedSurface surface → IsSplit surface split
-    → split.genus ≡ 0 → LeadsAtPeak surface.mesh first list second → IsCertificate surface.mesh first second (Moves list)
-list_shown surface split first second list o is none leads = record { convinces = leads; on_sphere = λ _. sphere_by surface split o is none }
-
 -- ---- a certificate is for the right decision
 
 pub convinces_decides : (mesh : FaceList) (first second : List ℕ) (shown : Certificate) → IsFaceList mesh → IsWalk mesh first
@@ -102,9 +82,8 @@ convinces_decides mesh first second (Denial denial) valid walk h =
 
 -- the check has an end, and one
 one_certified : (mesh : FaceList) (first second : List ℕ) (a b : End Answer) → (certified mesh first second).Ends a → (certified mesh first second).Ends b → a ≡ b
-one_certified mesh first second (Refuse r) (Refuse s) p q = cc (p.1, q.1)
-one_certified mesh first second (Refuse r) (Pass y) p q = absurd (p.0.no_sphere (q.3 (q.2.1 p.0.homotopic)))
-one_certified mesh first second (Pass x) (Refuse s) p q = absurd (q.0.no_sphere (p.3 (p.2.1 q.0.homotopic)))
+one_certified mesh first second (Refuse cause) b p q = absurd p
+one_certified mesh first second (Pass x) (Refuse cause) p q = absurd q
 one_certified mesh first second (Pass x) (Pass y) p q =
     let same : p.0 ≡ q.0 = one_decision p.0 q.0 p.2 q.2 in
     let answers : x ≡ y = p.1 ∙ ap (Certified mesh first second) same ∙ sym q.1 in
@@ -114,21 +93,13 @@ pub sound-certified : (held : Option Files) (mesh : FaceList) (first second : Li
 sound-certified held mesh first second =
     record {
       some = λ none.
-          let no_list : Homotopic mesh first second → ⊥ =
-          λ h.
-          none (Refuse (Exactly NotBuilt)) (
-            record {
-              homotopic = h;
-              no_sphere = λ sphere.
-                  none (Pass (Certified mesh first second answers.Homotopic)) (answers.Homotopic, refl, ((λ _. h), (λ _. refl)), λ _. sphere);
-            },
-            refl,
-          ) in
           none (Pass (Certified mesh first second Different)) (
             Different,
             refl,
-            ((λ e. absurd (differs e)), (λ h. absurd (no_list h))),
-            λ e. absurd (differs e),
+            (
+              (λ e. absurd (differs e)),
+              (λ h. absurd (none (Pass (Certified mesh first second answers.Homotopic)) (answers.Homotopic, refl, ((λ _. h), (λ _. refl))))),
+            ),
           );
       one = λ _ a b p q. one_certified mesh first second a b p q;
     }
@@ -188,15 +159,14 @@ allowed mesh first second e = by_sides (nat_lt MOST_LIFTED_SIDES (total_sides me
         }
 
 -- what is found behind the limits is what the command gives
-pub certificate_end : (held : Option Files) (mesh walks : List ℕ) (surface : FaceList) (pair : List (List ℕ)) (first second : List ℕ)
-    (result : Result Certificate Stop) → IsFaceList surface → IsWalk surface first → Passes (surface_in held mesh) surface
+pub certificate_found : (held : Option Files) (mesh walks : List ℕ) (surface : FaceList) (pair : List (List ℕ)) (first second : List ℕ)
+    (shown : Certificate) → IsFaceList surface → IsWalk surface first → Passes (surface_in held mesh) surface
     → Passes (pair_in held walks surface) pair → walk_at pair 0 ≡ first → walk_at pair 1 ≡ second → limit_fault surface first second ≡ None
-    → MatchResult result (IsCertificate surface first second) (Stops (certified surface first second))
-    → MatchResult result (Certifies (certify held mesh walks)) (Stops (certify held mesh walks))
-certificate_end held mesh walks surface pair first second (Ok shown) valid walk p q f g few h =
+    → Convinces surface first second shown → Certifies (certify held mesh walks) shown
+certificate_found held mesh walks surface pair first second shown valid walk p q f g few h =
     let answer : Answer = Certified surface first second (decision_of shown) in
     let here : (certified surface first second).Ends (Pass answer) =
-    (decision_of shown, refl, convinces_decides surface first second shown valid walk h.convinces, h.on_sphere) in
+    (decision_of shown, refl, convinces_decides surface first second shown valid walk h) in
     let there : (certified surface (walk_at pair 0) (walk_at pair 1)).Ends (Pass answer) =
     subst (λ (w : List ℕ). (certified surface (walk_at pair 0) w).Ends (Pass answer)) (sym g)
     (subst (λ (w : List ℕ). (certified surface w second).Ends (Pass answer)) (sym f) here) in
@@ -205,11 +175,5 @@ certificate_end held mesh walks surface pair first second (Ok shown) valid walk 
       first = first;
       second = second;
       passes = inr (surface, p, inr (pair, q, inr (pair, rw (f, g, few) refl, there)));
-      convinces = h.convinces;
+      convinces = h;
     }
-certificate_end held mesh walks surface pair first second (Err stop) valid walk p q f g few h =
-    let there : Stops (certified surface (walk_at pair 0) (walk_at pair 1)) stop =
-    subst (λ (w : List ℕ). Stops (certified surface (walk_at pair 0) w) stop) (sym g)
-    (subst (λ (w : List ℕ). Stops (certified surface w second) stop) (sym f) h) in
-    pair_stops held mesh walks surface pair stop p q
-    (stops_next (limited surface pair) (after_limits surface pair) pair stop (rw (f, g, few) refl) there)

@@ -19,4 +19,5 @@ pub mod DecideOutcomes
 pub mod CertifyOutcomes
 pub mod VerifyOutcomes
 pub mod ReduceOutcomes
+pub mod HeadlineLemmas
 pub mod Outcomes

@@ -9,6 +9,7 @@ use Rattle.homotopy_cli.specs.Answers.{Outcome}
 use Rattle.homotopy_cli.specs.Causes.{Exactly}
 use Rattle.homotopy_cli.specs.Checks.{Refuse, Pass, found_or, refuse}
 use Rattle.homotopy_cli.specs.Commands.{Row, IsRow}
+use Rattle.homotopy_cli.specs.Decide.{IsDecided}
 use Rattle.homotopy_cli.specs.Outcomes.{answer_to, answer_of, IsOutcome, AllTold, IsAnswerOf, Answers}
 use Rattle.homotopy_cli.specs.Replies.{Replies, reply_status, reply_text}
 use Rattle.homotopy_cli.specs.Statuses.{IsAnswered}
@@ -26,6 +27,7 @@ use Rattle.homotopy_cli.specs.declared.certificate.Certificate.TheVariants.{Move
 use Rattle.homotopy_cli.proofs.CertifyOutcomes.{certified_so}
 use Rattle.homotopy_cli.proofs.Checking.{stops_next}
 use Rattle.homotopy_cli.proofs.DecideOutcomes.{decides}
+use Rattle.homotopy_cli.proofs.HeadlineLemmas.{headline}
 use Rattle.homotopy_cli.proofs.ReduceOutcomes.{reduced}
 use Rattle.homotopy_cli.proofs.Rows.{sound-words}
 use Rattle.homotopy_cli.proofs.SurfaceOutcomes.{measured}
@@ -39,18 +41,21 @@ answers files words outcome status text is answer =
     let exact : AllTold files words → (other : Outcome) → IsOutcome files words other → IsAnswerOf other status text =
     λ told other other_is.
     subst (λ (o : Outcome). IsAnswerOf o status text) ((sound-words files words).one told outcome other is other_is) answer in
+    let decided : IsDecided files words status text =
+    record {
+      answered = λ mesh first second input. (decides files words outcome status text mesh first second is answer input).answered;
+      exactly = λ mesh first second input. (decides files words outcome status text mesh first second is answer input).exactly;
+    } in
+    let certified = certified_so files words outcome status text is answer in
     record {
       outcome = outcome;
       is_outcome = is;
       is_answer = answer;
       exact = exact;
+      headline = headline files words status text decided certified;
       measured = measured files words outcome status text is answer exact;
-      decided =
-          record {
-            answered = λ mesh first second input. (decides files words outcome status text mesh first second is answer input).answered;
-            exactly = λ mesh first second input. (decides files words outcome status text mesh first second is answer input).exactly;
-          };
-      certified = certified_so files words outcome status text is answer;
+      decided = decided;
+      certified = certified;
       verified = verified files words status text exact;
       denial_verified = denial_verified files words status text exact outcome is answer;
       reduced = reduced files words outcome status text is answer exact;

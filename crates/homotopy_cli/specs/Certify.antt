@@ -1,5 +1,5 @@
 -- The command `certify`.
-use Rattle.std.specs.Prelude.{◌≡◌, ℕ, ◌+◌, ◌<◌, ◌≤◌, ◌↔◌, ◌⊎◌, nat_lt, if◌then◌else◌, List, Option, Some, None}
+use Rattle.std.specs.Prelude.{◌≡◌, ℕ, ◌+◌, ◌<◌, ◌≤◌, ◌↔◌, nat_lt, if◌then◌else◌, List, Option, Some, None}
 use Rattle.surf_io.specs.Files.{Files}
 use Rattle.surf_model.specs.FaceLists.{FaceList, total_sides}
 use Rattle.surf_model.specs.Moves as moves
@@ -9,22 +9,19 @@ use Rattle.move_lifting.specs.declared.expanding.TheConstants.{MOST_LIFTED_SIDES
 use Rattle.walk_translate.specs.declared.deciding.Answer as deciding
 use Rattle.walk_translate.specs.declared.deciding.Answer.TheVariants.{Homotopic}
 use Rattle.homotopy_cli.specs.Answers.{Answer, Certified}
-use Rattle.homotopy_cli.specs.Causes.{Exactly}
 use Rattle.homotopy_cli.specs.Certificates.{Convinces, decision_of}
 use Rattle.homotopy_cli.specs.Checks.{Check, End, Refuse, Pass, Passes, Holds, pass_unless, without_files, ◌>>=◌}
 use Rattle.homotopy_cli.specs.Commands.{IsRow, Certify}
 use Rattle.homotopy_cli.specs.Inputs.{pair_in, walk_at, SpellsMesh, SpellsPair}
 use Rattle.homotopy_cli.specs.Refusals.{refusal_line}
 use Rattle.homotopy_cli.specs.Statuses.{decision_status}
-use Rattle.homotopy_cli.specs.Surface.{AreNumbersOf}
 use Rattle.homotopy_cli.specs.SurfaceInput.{surface_in}
 use Rattle.homotopy_cli.specs.Texts.{certificate_text}
 use Rattle.homotopy_cli.specs.declared.certificate.Certificate.{Certificate}
-use Rattle.homotopy_cli.specs.declared.numbers.SurfaceNumbers.{SurfaceNumbers}
 use Rattle.homotopy_cli.specs.declared.refusal.Refusal.{Refusal}
-use Rattle.homotopy_cli.specs.declared.refusal.Refusal.TheVariants.{NotBuilt, CertifySides, CertifyDarts}
+use Rattle.homotopy_cli.specs.declared.refusal.Refusal.TheVariants.{CertifySides, CertifyDarts}
 use Rattle.homotopy_cli.specs.declared.status.Status.{Status}
-use Rattle.homotopy_cli.specs.declared.status.Status.TheVariants.{No, Refused}
+use Rattle.homotopy_cli.specs.declared.status.Status.TheVariants.{Yes, Refused}
 
 -- The words are those of `certify`, and the two files that they name are told and stand for a connected orientable closed surface
 -- and two walks of it with common ends.
@@ -41,15 +38,6 @@ pub record IsWithinLimits (mesh : FaceList) (first second : List ℕ) : Type 0 w
   pub sides : total_sides mesh ≤ MOST_LIFTED_SIDES
   pub few : darts first + darts second ≤ MOST_LIFTED_DARTS
 
--- the surface has the genus 0
-abbrev pub IsSphere : FaceList → Type 0
-IsSphere mesh = (numbers : SurfaceNumbers) × AreNumbersOf mesh numbers × (numbers.genus ≡ 0)
-
--- so far no list of moves is printed but on a sphere
-pub record IsUnbuilt (mesh : FaceList) (first second : List ℕ) : Type 0 where
-  pub homotopic : moves.Homotopic mesh first second
-  pub no_sphere : IsSphere mesh → ⊥
-
 -- a certificate that convinces is printed behind the decision that it is for, with the status of that decision
 pub record IsCertificatePrinted (mesh : FaceList) (first second : List ℕ) (status : Status) (text : List ℕ) : Type 0 where
   pub shown : Certificate
@@ -57,15 +45,14 @@ pub record IsCertificatePrinted (mesh : FaceList) (first second : List ℕ) (sta
   pub status_is : status ≡ decision_status (decision_of shown)
   pub text_is : text ≡ certificate_text shown
 
--- What `certify` answers of such an input, within its limits: a certificate that convinces. It is `different` and a denial that holds,
--- with status 1, exactly where no list of moves leads from the first walk to the second; and else `homotopic` and a list that leads,
--- with status 0, unless that is not built. Beyond the limits it is refused: for the sides, and then for the darts.
+-- What `certify` answers of such an input, within its limits: a certificate that convinces. It is `homotopic` and a list that leads,
+-- with status 0, exactly where some list of moves leads from the first walk to the second; and else `different` and a denial that
+-- holds, with status 1. Beyond the limits it is refused: for the sides, and then for the darts.
 pub record IsCertified (held : Option Files) (words : List (List ℕ)) (status : Status) (text : List ℕ) : Type 0 where
   pub answered : (mesh : FaceList) (first second : List ℕ) → IsCertifyInput held words mesh first second → IsWithinLimits mesh first second
       → IsCertificatePrinted mesh first second status text
-      ⊎ (IsUnbuilt mesh first second × (status ≡ Refused) × (text ≡ refusal_line NotBuilt))
-  pub different : (mesh : FaceList) (first second : List ℕ) → IsCertifyInput held words mesh first second → IsWithinLimits mesh first second
-      → (status ≡ No) ↔ (moves.Homotopic mesh first second → ⊥)
+  pub exactly : (mesh : FaceList) (first second : List ℕ) → IsCertifyInput held words mesh first second → IsWithinLimits mesh first second
+      → (status ≡ Yes) ↔ moves.Homotopic mesh first second
   pub many_sides : (mesh : FaceList) (first second : List ℕ) → IsCertifyInput held words mesh first second
       → MOST_LIFTED_SIDES < total_sides mesh → (status ≡ Refused) × (text ≡ refusal_line (CertifySides (total_sides mesh)))
   pub many_darts : (mesh : FaceList) (first second : List ℕ) → IsCertifyInput held words mesh first second
@@ -81,15 +68,15 @@ limit_fault mesh first second =
     else if nat_lt MOST_LIFTED_DARTS (darts first + darts second) then Some (CertifyDarts (darts first + darts second))
     else None
 
--- the decision on two walks of a mesh, for which a certificate is printed; a list of moves only on a sphere so far
+-- the decision on two walks of a mesh, for which a certificate is printed
 abbrev pub certified : FaceList → (first second : List ℕ) → Check Answer
 certified mesh first second = without_files ends
   where
     ends : End Answer → Type 0
-    ends (Refuse cause) = IsUnbuilt mesh first second × (cause ≡ Exactly NotBuilt)
+    ends (Refuse cause) = ⊥
     ends (Pass answer) =
         (decision : deciding.Answer) × (answer ≡ Certified mesh first second decision)
-        × ((decision ≡ Homotopic) ↔ moves.Homotopic mesh first second) × ((decision ≡ Homotopic) → IsSphere mesh)
+        × ((decision ≡ Homotopic) ↔ moves.Homotopic mesh first second)
 
 abbrev pub certify : Option Files → (mesh walks : List ℕ) → Check Answer
 certify held mesh walks = do
@@ -97,11 +84,6 @@ certify held mesh walks = do
   pair ← pair_in held walks surface
   allowed ← pass_unless (λ refusal. refusal) (limit_fault surface (walk_at pair 0) (walk_at pair 1)) pair
   certified surface (walk_at pair 0) (walk_at pair 1)
-
--- the certificate convinces, and a list of moves is one on a sphere
-pub record IsCertificate (mesh : FaceList) (first second : List ℕ) (shown : Certificate) : Type 0 where
-  pub convinces : Convinces mesh first second shown
-  pub on_sphere : decision_of shown ≡ Homotopic → IsSphere mesh
 
 -- the check may pass the decision on two walks of a mesh for which the certificate is, and the certificate convinces
 pub record Certifies (check : Check Answer) (shown : Certificate) : Type 0 where

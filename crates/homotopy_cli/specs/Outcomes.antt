@@ -6,6 +6,7 @@ use Rattle.homotopy_cli.specs.Checks.{Check, refuse, found_or, IsTold, ◌>>=◌
 use Rattle.homotopy_cli.specs.Certify.{certify, IsCertified}
 use Rattle.homotopy_cli.specs.Commands.{Row, Surface, Decide, Certify, Verify, Reduce, Trial, IsRow}
 use Rattle.homotopy_cli.specs.Decide.{decide, IsDecided}
+use Rattle.homotopy_cli.specs.Headline.{Headline}
 use Rattle.homotopy_cli.specs.Reduce.{reduce, IsReduced}
 use Rattle.homotopy_cli.specs.Statuses.{status_of}
 use Rattle.homotopy_cli.specs.Surface.{surface, IsMeasured}
@@ -53,6 +54,7 @@ pub record Answers (held : Option Files) (words : List (List ℕ)) (status : Sta
   pub is_outcome : IsOutcome held words outcome
   pub is_answer : IsAnswerOf outcome status text
   pub exact : AllTold held words → (other : Outcome) → IsOutcome held words other → IsAnswerOf other status text
+  pub headline : Headline held words status text
   pub measured : IsMeasured held words status text
   pub decided : IsDecided held words status text
   pub certified : IsCertified held words status text

@@ -4,9 +4,10 @@ ghost use Rattle.surf_io.specs.Calls.{OnlyReads};
 ghost use Rattle.surf_io.specs.Faults.{Rose};
 ghost use Rattle.surf_model.specs.Moves.{Homotopic};
 ghost use Rattle.surf_model.specs.Walks.{IsWalk, HaveCommonEnds};
-ghost use Rattle.tree_cotree.specs.Splits.{IsSplit};
+ghost use Rattle.polygon_cut.specs.Polygons.{IsPolygonOf};
 ghost use Rattle.quad_system.specs.Denials.{DenialHolds};
-ghost use Rattle.homotopy_cli.specs.Certify.{Certifies, IsCertificate, IsWithinLimits, certified, limit_fault};
+ghost use Rattle.homotopy_cli.specs.Certificates.{Convinces};
+ghost use Rattle.homotopy_cli.specs.Certify.{Certifies, IsWithinLimits, limit_fault};
 ghost use Rattle.homotopy_cli.specs.Certify as of_certify;
 ghost use Rattle.homotopy_cli.specs.Stops.{Stops};
 ghost use Rattle.homotopy_cli.specs.declared.stop.Stop.{Stop};
@@ -18,16 +19,16 @@ use crate::stop::Stop;
 use crate::surface_input::read_surface;
 use halfedge_map::Surface;
 use move_lifting::{MOST_LIFTED_DARTS, MOST_LIFTED_SIDES, lift};
-use polygon_cut::cut;
+use polygon_cut::{Polygon, cut};
 use quad_system::{Denial, GoodLabelling};
 use std::alloc::{AllocError, Global};
 use surf_io::Shelf;
 use surf_model::Walk;
-use tree_cotree::{Split, split_edges};
-use walk_translate::{Answer, decide, word_of};
+use tree_cotree::split_edges;
+use walk_translate::word_of;
 
 /// A certificate for the two walks in the file `walks` on the surface in the file `mesh`: moves that lead from the first to
-/// the second, or a denial that holds. So far moves are made on a sphere alone.
+/// the second, or a denial that holds.
 pub fn certify<S: Shelf>(
     alloc: Global,
     shelf: &mut S,
@@ -46,7 +47,7 @@ pub fn certify<S: Shelf>(
     let first = pair.at(0);
     let second = pair.at(1);
     check_limits(&surface, first, second)?;
-    find_certificate(alloc, &surface, first, second)
+    Ok(find_certificate(alloc, &surface, first, second)?)
 }
 
 /// Checks that lists of moves may be made on the surface and between the walks.
@@ -65,43 +66,37 @@ fn check_limits(surface: &Surface, first: &Walk, second: &Walk) -> Result<(), Re
     Ok(())
 }
 
-/// A certificate for two walks of a surface with common ends.
+/// A certificate for two walks of a surface with common ends: moves that lead from the first to the second, and where there are
+/// none what denies it.
 fn find_certificate(
     alloc: Global,
     surface: &Surface,
     first: &Walk,
     second: &Walk,
-) -> Result<Certificate, Stop>
+) -> Result<Certificate, AllocError>
     requires first { IsWalk surface.now.mesh first.now }
     requires second { IsWalk surface.now.mesh second.now }
     requires ends { HaveCommonEnds first.now second.now }
     requires limits { IsWithinLimits surface.now.mesh first.now second.now }
-    ensures end { MatchResult result (IsCertificate surface.now.mesh first.now second.now)
-        (Stops (certified surface.now.mesh first.now second.now)) }
-    ensures no_fault { result ≡ Err Stop.ReadFault → ⊥ }
+    ensures { IfOk result (Convinces surface.now.mesh first.now second.now) }
 {
-    // The proof reads what holds of every surface.
-    let _ = surface.faces();
     let split = split_edges(alloc, surface)?;
-    if split.genus() == 0 {
-        if let Some(list) = lift(alloc, surface, &split, first, second)? {
-            return Ok(Certificate::Moves(list));
-        }
-    } else if let Answer::Homotopic = decide(alloc, surface, first, second)? {
-        return Err(Stop::Refused(Refusal::NotBuilt));
+    let polygon = cut(alloc, surface, &split)?;
+    if let Some(list) = lift(alloc, surface, &split, &polygon, first, second)? {
+        return Ok(Certificate::Moves(list));
     }
-    Ok(Certificate::Denial(deny(alloc, surface, &split, first, second)?))
+    Ok(Certificate::Denial(deny(alloc, surface, &polygon, first, second)?))
 }
 
 /// What denies that moves lead from one walk of a surface to another, where none do.
 fn deny(
     alloc: Global,
     surface: &Surface,
-    split: &Split,
+    polygon: &Polygon,
     first: &Walk,
     second: &Walk,
 ) -> Result<Denial, AllocError>
-    requires split { IsSplit surface.now split.now }
+    requires cut { IsPolygonOf surface.now polygon.now }
     requires first { IsWalk surface.now.mesh first.now }
     requires second { IsWalk surface.now.mesh second.now }
     requires ends { HaveCommonEnds first.now second.now }
@@ -110,8 +105,7 @@ fn deny(
 {
     let faces = surface.faces();
     let sides = surface.sides();
-    let polygon = cut(alloc, surface, split)?;
-    let good = GoodLabelling::from_polygon(alloc, surface, &polygon)?;
+    let good = GoodLabelling::from_polygon(alloc, surface, polygon)?;
     let first_word = word_of(alloc, faces, sides, &good, first)?;
     let second_word = word_of(alloc, faces, sides, &good, second)?;
     Ok(Denial {

@@ -44,7 +44,10 @@ fn lists_are_printed(rt: HostRuntime) -> Result<(), AllocError> {
     ] {
         check_certified(&rt, rt.alloc(), TETRAHEDRON, walks, yes)?;
     }
-    Ok(())
+    for walks in ["0 1 3\n0 2 3\n", "0 1 2 0 2 4 0\n0 2 4 0 1 2 0\n"] {
+        check_certified(&rt, rt.alloc(), TORUS, walks, yes)?;
+    }
+    check_certified(&rt, rt.alloc(), DOUBLE, "0 3 2 0\n0\n", yes)
 }
 
 #[test]

@@ -8,7 +8,7 @@ use Rattle.homotopy_cli.specs.Certify.{limit_fault}
 use Rattle.homotopy_cli.specs.Checks.{Passes}
 use Rattle.homotopy_cli.specs.Inputs.{pair_in, walk_at}
 use Rattle.homotopy_cli.specs.Stops.{Stops}
-use Rattle.homotopy_cli.proofs.Certifying.{walks_stop, limits_stop, allowed, certificate_end}
+use Rattle.homotopy_cli.proofs.Certifying.{walks_stop, limits_stop, allowed, certificate_found}
 use Rattle.homotopy_cli.proofs.Checking.{two_walks}
 use Rattle.homotopy_cli.proofs.Deciding.{walks_of_pair}
 use Rattle.homotopy_cli.proofs.certify.certify.Goals as goal
@@ -96,6 +96,6 @@ returns-clause-end g c =
     c.at-second.ensures in
     let first : walk_at pair 0 ≡ c.at-first.result.now = get_or_from_slice_get pair 0 c.at-first.result.now _ c.at-first.ensures in
     let second : walk_at pair 1 ≡ c.at-second.result.now = get_or_from_slice_get pair 1 c.at-second.result.now _ c.at-second.ensures in
-    certificate_end (g.S.Shelf.held c.args.shelf.now) c.args.mesh.now c.args.walks.now surface.mesh pair c.at-first.result.now c.at-second.result.now
-    c.find_certificate.result c.faces.ensures.valid.faces known.first_walk c.in_ok-surface.ensures.end passed first second
-    c.in_ok-check_limits.ensures c.find_certificate.ensures.end
+    certificate_found (g.S.Shelf.held c.args.shelf.now) c.args.mesh.now c.args.walks.now surface.mesh pair c.at-first.result.now c.at-second.result.now
+    c.in_ok-find_certificate.field-0 c.faces.ensures.valid.faces known.first_walk c.in_ok-surface.ensures.end passed first second
+    c.in_ok-check_limits.ensures c.in_ok-find_certificate.ensures
