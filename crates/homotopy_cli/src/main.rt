@@ -1,4 +1,10 @@
 //! The homotopy tester for edge walks on polygon meshes.
+//!
+//! `main` takes the words behind the program's name, and `run` answers them. What it answers is in its contract, by the
+//! definitions of specs/: each command has a file there, with the theorem that a reader looks for first, and `Headline` has
+//! the one of the whole program. Proved: every command returns, and the answers are these.
+//!
+//!     homotopy_cli decide FILE WALKS
 #![tactic(auto)]
 
 mod certificate;

@@ -126,13 +126,18 @@ fn lists_are_judged(rt: HostRuntime) -> Result<(), AllocError> {
     for wanted in &examples {
         check_verify(&rt, rt.alloc(), TETRAHEDRON, *wanted)?;
     }
+    Ok(())
+}
+
+#[test]
+fn a_list_leads_across_a_torus(rt: HostRuntime) -> Result<(), AllocError> {
     let across = "MOVES 2 2\nf 0 0 0 + 2\nf 0 7 0 + 1\n";
-    let wanted = files("0 1 3\n0 2 3\n", across, "accepted\n", yes);
+    let wanted = files("0 1 3\n0 2 3\n", across, "accepted\n", Status::Yes);
     check_verify(&rt, rt.alloc(), TORUS, wanted)
 }
 
 #[test]
-fn faults_of_the_texts_are_named(rt: HostRuntime) -> Result<(), AllocError> {
+fn faults_of_walks_and_mesh_are_named(rt: HostRuntime) -> Result<(), AllocError> {
     let no = Status::Refused;
     let examples = [
         files("0 x\n0\n", "", "refused: walks line 1 number\n", no),
@@ -140,6 +145,18 @@ fn faults_of_the_texts_are_named(rt: HostRuntime) -> Result<(), AllocError> {
         files("0 4\n0\n", "", "refused: walk 1 place 1 vertex\n", no),
         files("0\n0 0\n", "", "refused: walk 2 place 0 edge\n", no),
         files("1 0\n2 0\n", "", "refused: walks start\n", no),
+    ];
+    for wanted in &examples {
+        check_verify(&rt, rt.alloc(), TETRAHEDRON, *wanted)?;
+    }
+    let wanted = files(SIDES, "", "refused: off line 3 ended\n", no);
+    check_verify(&rt, rt.alloc(), "OFF\n1 0 0\n", wanted)
+}
+
+#[test]
+fn faults_of_certificates_are_named(rt: HostRuntime) -> Result<(), AllocError> {
+    let no = Status::Refused;
+    let examples = [
         files(SIDES, "# none\n", "refused: certificate no head\n", no),
         files(
             SIDES,
@@ -181,8 +198,7 @@ fn faults_of_the_texts_are_named(rt: HostRuntime) -> Result<(), AllocError> {
     for wanted in &examples {
         check_verify(&rt, rt.alloc(), TETRAHEDRON, *wanted)?;
     }
-    let wanted = files(SIDES, "", "refused: off line 3 ended\n", no);
-    check_verify(&rt, rt.alloc(), "OFF\n1 0 0\n", wanted)
+    Ok(())
 }
 
 /// Runs words of which each file behind the first refusal is absent.
