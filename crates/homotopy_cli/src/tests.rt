@@ -154,7 +154,7 @@ fn faults_of_walks_and_mesh_are_named(rt: HostRuntime) -> Result<(), AllocError>
 }
 
 #[test]
-fn faults_of_certificates_are_named(rt: HostRuntime) -> Result<(), AllocError> {
+fn faults_of_lists_are_named(rt: HostRuntime) -> Result<(), AllocError> {
     let no = Status::Refused;
     let examples = [
         files(SIDES, "# none\n", "refused: certificate no head\n", no),
@@ -182,6 +182,17 @@ fn faults_of_certificates_are_named(rt: HostRuntime) -> Result<(), AllocError> {
             "refused: certificate line 1 peak\n",
             no,
         ),
+    ];
+    for wanted in &examples {
+        check_verify(&rt, rt.alloc(), TETRAHEDRON, *wanted)?;
+    }
+    Ok(())
+}
+
+#[test]
+fn faults_of_denials_are_named(rt: HostRuntime) -> Result<(), AllocError> {
+    let no = Status::Refused;
+    let examples = [
         files(
             SIDES,
             "different\nLABELS 4\n",
