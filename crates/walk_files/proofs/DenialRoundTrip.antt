@@ -10,12 +10,14 @@ use Rattle.std.proofs.lemmas.List.Elements.{All-head, All-tail, All-cons, All-ni
 use Rattle.text_scan.specs.Lines.{Line, is_filled, unmarked, lines_from, full_lines, end_line}
 use Rattle.text_scan.specs.Numbers.{is_digit, is_natural, value_of, natural_of, signed_of, fits_i64}
 use Rattle.text_scan.specs.Steps.{ends_word}
+use Rattle.text_scan.specs.Plain.{line_of}
 use Rattle.turn_words.specs.declared.word.Word.{Word}
 use Rattle.turn_words.specs.declared.word.Word.TheVariants.{Turns, Flat}
 use Rattle.quad_system.specs.Labellings.{FaceLabels, LabellingView}
 use Rattle.quad_system.specs.declared.denial.Denial.{Denial}
 use Rattle.walk_files.specs.Each.{each_some}
 use Rattle.walk_files.specs.declared.certificate.CertHead.TheVariants.{Labels}
+use Rattle.walk_files.specs.declared.certificate.Answer.TheVariants.{Different}
 use Rattle.walk_files.specs.declared.fault.CertFault.{CertFault}
 use Rattle.walk_files.specs.NumberTexts.{number_of, entries_of}
 use Rattle.walk_files.specs.Certificates.{head_of, head_among, behind_head, head_of_text, fitting_head}
@@ -205,3 +207,42 @@ denial_of_text-denial_text denial back =
     ap (λ h. denial_behind h (denial_text denial)) head
     ∙ ap (λ ls. Some (denial_in end (unlabelled degree) (behind_head ls))) lines
     ∙ ap (λ (r : Result Denial CertFault). Some r) (faces-read end 2 denial [] denial.labelling.faces back back.labels refl)
+
+-- ---- and behind the line of its answer
+
+-- that line, which has one word
+abbrev answer_words : List (List ℕ)
+answer_words = codes "different" ∷ []
+
+answer-line : IsLine answer_words
+answer-line = record { filled = refl; writable = All-cons IsWritable (codes "different") [] (record { filled = refl; inside = refl }) (All-nil IsWritable) }
+
+abbrev answered_text : Denial → List ℕ
+answered_text denial = line_of answer_words ++ denial_text denial
+
+unmarked-answered : (denial : Denial) → unmarked (answered_text denial) ≡ answered_text denial
+unfolding unmarked
+unmarked-answered denial = refl
+
+full_lines-answered : (denial : Denial) → ReadsBack denial
+    → full_lines (answered_text denial)
+    ≡ record { number = 1; words = answer_words } ∷ record { number = 2; words = labels_head_words denial.labelling.degree }
+    ∷ numbered 3 (map face_words denial.labelling.faces ++ lines_behind_faces denial)
+full_lines-answered denial back =
+    let behind = map face_words denial.labelling.faces ++ lines_behind_faces denial in
+    ap (lines_from 1) (unmarked-answered denial)
+    ∙ lines_from-written 1 (answer_words ∷ denial_lines denial)
+    (All-cons IsLine answer_words (denial_lines denial) answer-line
+    (All-cons IsLine (labels_head_words denial.labelling.degree) behind (head-line denial.labelling.degree back.degree)
+    (faces-lines denial denial.labelling.faces back back.labels)))
+
+pub denial_of_text-answered : (denial : Denial) → ReadsBack denial → denial_of_text (answered_text denial) ≡ Some (Ok denial)
+denial_of_text-answered denial back =
+    let lines = full_lines-answered denial back in
+    let end = end_line (answered_text denial) in
+    let degree = denial.labelling.degree in
+    let head : head_of_text (answered_text denial) ≡ Ok (Labels degree) =
+    ap (head_among end) lines ∙ ap (fitting_head (Some Different) 2) (head-read degree back.degree) in
+    ap (λ h. denial_behind h (answered_text denial)) head
+    ∙ ap (λ ls. Some (denial_in end (unlabelled degree) (behind_head ls))) lines
+    ∙ ap (λ (r : Result Denial CertFault). Some r) (faces-read end 3 denial [] denial.labelling.faces back back.labels refl)

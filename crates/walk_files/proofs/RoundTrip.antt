@@ -1,13 +1,15 @@
 -- A list of moves that was written is read again.
-use Rattle.std.proofs.Common.{◌≡◌, ℕ, ◌+◌, ◌-◌, ◌^◌, ◌<◌, eqb, Bool, true, false, List, [], ◌∷◌, length, map, refl, ap, ◌∙◌, arith}
-use Rattle.std.specs.Prelude.{Some, None, Ok, decimal, All}
+use Rattle.std.proofs.Common.{◌≡◌, ℕ, ◌+◌, ◌-◌, ◌^◌, ◌<◌, eqb, Bool, true, false, List, [], ◌∷◌, ◌++◌, length, map, refl, ap, ◌∙◌, arith}
+use Rattle.std.specs.Prelude.{Some, None, Ok, decimal, codes, All}
 use Rattle.std.proofs.lemmas.Bool.{le-ltb, ne_eqb}
 use Rattle.std.proofs.lemmas.List.Elements.{All-head, All-tail, All-cons, All-nil}
 use Rattle.text_scan.specs.Lines.{unmarked, lines_from, full_lines, end_line}
+use Rattle.text_scan.specs.Plain.{line_of}
 use Rattle.surf_model.specs.Moves.{PeakedMoves}
 use Rattle.surf_model.specs.declared.moves.Move.{Move}
 use Rattle.surf_model.specs.declared.moves.Move.TheVariants.{Insert, Remove, Across}
 use Rattle.walk_files.specs.declared.certificate.CertHead.TheVariants.{Moves}
+use Rattle.walk_files.specs.declared.certificate.Answer.TheVariants.{Homotopic}
 use Rattle.walk_files.specs.NumberTexts.{number_of}
 use Rattle.walk_files.specs.Certificates.{head_of, head_among, behind_head, direction_of, move_of, moves_in, head_of_text, fitting_head, moves_of_text, list_behind, list_of_text, with_peak}
 use Rattle.walk_files.specs.MoveTexts.{direction_word, move_words, head_words, list_lines, list_text, FitsFormat, MoveFits}
@@ -111,3 +113,38 @@ list_of_text-list_text list fits =
     let moves : moves_of_text (length list.moves) (list_text list) ≡ Ok list.moves =
     ap (λ ls. moves_in end (length list.moves) (behind_head ls)) lines ∙ moves_in-numbered end 2 list.moves fits.moves in
     ap (λ h. list_behind h (list_text list)) head ∙ ap (λ m. Some (with_peak list.peak m)) moves
+
+-- ---- and behind the line of its answer
+
+-- that line, which has one word
+abbrev answer_words : List (List ℕ)
+answer_words = codes "homotopic" ∷ []
+
+answer-is_line : IsLine answer_words
+answer-is_line = record { filled = refl; writable = all_writable answer_words (record { filled = refl; inside = refl }, tt) }
+
+abbrev answered_text : PeakedMoves → List ℕ
+answered_text list = line_of answer_words ++ list_text list
+
+unmarked-answered : (list : PeakedMoves) → unmarked (answered_text list) ≡ answered_text list
+unfolding unmarked
+unmarked-answered list = refl
+
+full_lines-answered : (list : PeakedMoves) → FitsFormat list
+    → full_lines (answered_text list)
+    ≡ record { number = 1; words = answer_words } ∷ record { number = 2; words = head_words list } ∷ numbered 3 (map move_words list.moves)
+full_lines-answered list fits =
+    ap (lines_from 1) (unmarked-answered list)
+    ∙ lines_from-written 1 (answer_words ∷ list_lines list)
+    (All-cons IsLine answer_words (list_lines list) answer-is_line
+    (All-cons IsLine (head_words list) (map move_words list.moves) (head-is_line list fits) (moves-are_lines list.moves fits.moves)))
+
+pub list_of_text-answered : (list : PeakedMoves) → FitsFormat list → list_of_text (answered_text list) ≡ Some (Ok list)
+list_of_text-answered list fits =
+    let lines = full_lines-answered list fits in
+    let end = end_line (answered_text list) in
+    let head : head_of_text (answered_text list) ≡ Ok (Moves (length list.moves) list.peak) =
+    ap (head_among end) lines ∙ ap (fitting_head (Some Homotopic) 2) (head_of-head_words list fits) ∙ rw (le-ltb 16000000 list.peak fits.peak) refl in
+    let moves : moves_of_text (length list.moves) (answered_text list) ≡ Ok list.moves =
+    ap (λ ls. moves_in end (length list.moves) (behind_head ls)) lines ∙ moves_in-numbered end 3 list.moves fits.moves in
+    ap (λ h. list_behind h (answered_text list)) head ∙ ap (λ m. Some (with_peak list.peak m)) moves

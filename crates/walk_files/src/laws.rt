@@ -1,5 +1,6 @@
 //! What holds of all lists of moves and of all denials.
-ghost use Rattle.std.specs.Prelude.{◌≡◌, Some, Ok};
+ghost use Rattle.std.specs.Prelude.{◌≡◌, [], ◌∷◌, ◌++◌, codes, Some, Ok};
+ghost use Rattle.text_scan.specs.Plain.{line_of};
 ghost use Rattle.surf_model.specs.Moves.{PeakedMoves};
 ghost use Rattle.walk_files.specs.MoveTexts.{list_text, FitsFormat};
 ghost use Rattle.walk_files.specs.Certificates.{list_of_text};
@@ -15,4 +16,16 @@ pub fn written_lists_read_back()
 /// What was written reads back as the denial that it was, where its words are points exactly if its degree is 4.
 pub fn written_denials_read_back()
     ensures { (denial : Denial) → ReadsBack denial → denial_of_text (denial_text denial) ≡ Some (Ok denial) }
+{}
+
+/// So it does behind the line of its answer.
+pub fn answered_lists_read_back()
+    ensures { (list : PeakedMoves) → FitsFormat list
+        → list_of_text (line_of (codes "homotopic" ∷ []) ++ list_text list) ≡ Some (Ok list) }
+{}
+
+/// So it does behind the line of its answer.
+pub fn answered_denials_read_back()
+    ensures { (denial : Denial) → ReadsBack denial
+        → denial_of_text (line_of (codes "different" ∷ []) ++ denial_text denial) ≡ Some (Ok denial) }
 {}
