@@ -21,3 +21,7 @@ pub mod VerifyOutcomes
 pub mod ReduceOutcomes
 pub mod HeadlineLemmas
 pub mod Outcomes
+pub mod TextLengths
+pub mod FittingMoves
+pub mod FittingDenials
+pub mod Accepting

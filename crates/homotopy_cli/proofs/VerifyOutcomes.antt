@@ -57,7 +57,7 @@ judgement_told files mesh first second (certificates.Moves list) = tt
 judgement_told files mesh first second (certificates.Denial denial) = tt
 
 -- each file that such words look at is told
-told_input : (files : Option Files) (words : List (List ℕ)) (mesh : FaceList) (first second : List ℕ) (shown : Certificate)
+pub told_input : (files : Option Files) (words : List (List ℕ)) (mesh : FaceList) (first second : List ℕ) (shown : Certificate)
     → IsVerifyInput files words mesh first second shown → AllTold files words
 told_input files words mesh first second shown input = (
   tt,
@@ -75,7 +75,7 @@ told_input files words mesh first second shown input = (
 )
 
 -- as the judgement ends, the words do
-judgement_outcome : (files : Option Files) (words : List (List ℕ)) (mesh : FaceList) (first second : List ℕ) (shown : Certificate) (outcome : Outcome)
+pub judgement_outcome : (files : Option Files) (words : List (List ℕ)) (mesh : FaceList) (first second : List ℕ) (shown : Certificate) (outcome : Outcome)
     → IsVerifyInput files words mesh first second shown → (judgement mesh first second shown).Ends outcome → IsOutcome files words outcome
 judgement_outcome files words mesh first second shown outcome input h =
     let file = held files input.certificate_name (SpellsCertificate shown) input.certificate_file in

@@ -38,7 +38,8 @@ pub record IsWithinLimits (mesh : FaceList) (first second : List ℕ) : Type 0 w
   pub sides : total_sides mesh ≤ MOST_LIFTED_SIDES
   pub few : darts first + darts second ≤ MOST_LIFTED_DARTS
 
--- a certificate that convinces is printed behind the decision that it is for, with the status of that decision
+-- A certificate that convinces is printed behind the decision that it is for, with the status of that decision. That `verify` accepts what
+-- is printed is said in `PrintedCertificates`.
 pub record IsCertificatePrinted (mesh : FaceList) (first second : List ℕ) (status : Status) (text : List ℕ) : Type 0 where
   pub shown : Certificate
   pub convinces : Convinces mesh first second shown

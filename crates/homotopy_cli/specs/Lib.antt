@@ -16,5 +16,6 @@ pub mod Certify
 pub mod Reduce
 pub mod Gathered
 pub mod Outcomes
+pub mod PrintedCertificates
 pub mod Stops
 pub mod Replies
