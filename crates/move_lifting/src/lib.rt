@@ -1,5 +1,11 @@
 //! Lists of moves that are made: that take the spurs out of a walk, lead it off the cotree of a surface, and lead from one
 //! walk to another.
+//!
+//! A caller who has a surface, its split and its polygon calls `lift` for two walks with common ends; `reduce_free` and
+//! `expand` are what it is made of. Proved: the moves lead, with the exact peak, and `lift` gives none exactly where no list
+//! of moves leads.
+//!
+//!     let list = lift(alloc, &surface, &split, &polygon, &first, &second)?;
 #![tactic(auto)]
 
 mod contracting;
