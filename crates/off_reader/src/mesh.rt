@@ -41,6 +41,7 @@ fn pass_points(cursor: &mut Cursor, coordinates: u32, vertices: u32) -> Result<(
 }
 
 /// Goes to the next line that is not blank.
+#[inline(always)]
 fn next_line(cursor: &mut Cursor) -> Result<(), OffFault>
     ensures line { MatchResult result (λ _. cursor.old.lines ≡ line_at cursor.new ∷ cursor.new.lines)
         (λ fault. (cursor.old.lines ≡ []) × (fault ≡ OffFault.Ended cursor.old.end_line)) }

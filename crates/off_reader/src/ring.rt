@@ -47,6 +47,8 @@ pub(crate) fn read_ring(
 }
 
 /// The fault of a face with more sides than there is room for.
+#[cold]
+#[inline(never)]
 fn fault_of_many(cursor: &mut Cursor, sides: u64) -> OffFault
     ensures fault { result ≡ (if nat_le sides (length cursor.old.words) && list_all is_natural (take sides cursor.old.words)
         then OffFault.TooMany cursor.old.line else OffFault.BadFace cursor.old.line) }

@@ -59,6 +59,7 @@ impl<'a> Cursor<'a> {
 
     /// Goes to the first line with words left: the present one if it has some left, else the next
     /// that is not blank. `false` where there is none, and then nothing changes.
+    #[inline(always)]
     pub fn find_line(&mut self) -> bool
         ensures found { result ≡ is_filled (lines_left self.old) }
         ensures place { self.new ≡ at_line self.old (lines_left self.old) }
@@ -74,6 +75,7 @@ impl<'a> Cursor<'a> {
     }
 
     /// Passes over the words left in the present line.
+    #[inline(always)]
     pub fn pass_line(&mut self)
         ensures { self.new ≡ record self.old { words = [] } }
     {
@@ -83,6 +85,7 @@ impl<'a> Cursor<'a> {
     /// The next natural of the present line, or 2^64 - 1 where it is larger than that, and goes past
     /// it. `None` where the line has no further word or the next is no natural, and then nothing
     /// changes.
+    #[inline(always)]
     pub fn natural(&mut self) -> Option<u64>
         ensures value { result ≡ option_map (λ n. min n (2 ^ 64 - 1)) (next_natural self.old.words) }
         ensures place { self.new ≡ (if is_some result then past_word self.old else self.old) }
@@ -95,6 +98,7 @@ impl<'a> Cursor<'a> {
     }
 
     /// Whether words are left in the present line.
+    #[inline(always)]
     pub fn has_word(&self) -> bool
         ensures { result ≡ is_filled self.now.words }
     {
@@ -114,6 +118,7 @@ impl<'a> Cursor<'a> {
 
     /// Whether the present line has a further word and it is a number text, and goes past it if so.
     /// Else nothing changes.
+    #[inline(always)]
     pub fn number_text(&mut self) -> bool
         ensures answer { result ≡ next_is_number_text self.old.words }
         ensures place { self.new ≡ (if result then past_word self.old else self.old) }

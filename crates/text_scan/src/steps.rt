@@ -100,6 +100,7 @@ pub(crate) fn first_word(start: u64, bytes: &[u8]) -> Option<(u64, &[u8])>
 
 /// The number that the digits at the front stand for, or 2^64 - 1 where it is larger, and the bytes
 /// behind them.
+#[inline(always)]
 fn digits(bytes: &[u8]) -> (u64, &[u8])
     ensures digits { ArePastDigits bytes.now result.0 result.1.now }
     ensures stop { begins_with is_digit result.1.now ≡ false }
@@ -121,6 +122,8 @@ fn digits(bytes: &[u8]) -> (u64, &[u8])
 }
 
 /// The same where the digits before have this value.
+#[cold]
+#[inline(never)]
 fn more_digits(before: u64, bytes: &[u8]) -> (u64, &[u8])
     ensures digits { (text : List ℕ) → ArePastDigits text before bytes.now → ArePastDigits text result.0 result.1.now }
     ensures stop { begins_with is_digit result.1.now ≡ false }
