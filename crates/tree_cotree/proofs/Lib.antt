@@ -14,3 +14,5 @@ pub mod TurningLemmas
 pub mod SplittingLemmas
 pub mod EdgeTables
 pub mod GenusLemmas
+pub mod NameLemmas
+pub mod RingCountLemmas

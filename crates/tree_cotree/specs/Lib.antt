@@ -2,6 +2,7 @@ pub mod RingCounts
 pub mod SpanningTrees
 pub mod Splits
 pub mod RingViews
+pub mod RingSets
 pub mod Searches
 pub mod Ways
 pub mod Markings

@@ -3,6 +3,7 @@
 //! A caller sees a split as the kind of each edge, the way from each vertex and each face to its root, and the genus; and
 //! rings as a map from dart to dart. Proved: the split is one of the surface, and of each split: tree and cotree are
 //! spanning trees that no edge shares, the leftover edges are even in number, and half that number is the genus (laws).
+//! The rings of no edge are as many as the used vertices, those of all edges as many as the faces (ring laws).
 //!
 //!     let split = split_edges(alloc, &surface)?;
 //!     let genus = split.genus();
@@ -10,6 +11,7 @@
 
 pub mod laws;
 mod marking;
+pub mod ring_laws;
 pub mod rings;
 mod search;
 pub mod split;
@@ -18,5 +20,7 @@ mod turning;
 pub use rings::Rings;
 pub use split::{Kind, Split, split_edges};
 
+#[cfg(test)]
+mod ring_tests;
 #[cfg(test)]
 mod tests;
