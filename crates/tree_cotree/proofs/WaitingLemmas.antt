@@ -1,19 +1,15 @@
 -- The darts that wait while a search is underway: each found node is crossed, or a dart of it waits.
 use Rattle.std.proofs.Common.{◌≡◌, ◌⊎◌, inl, inr, ℕ, zero, suc, ◌+◌, ◌-◌, ◌<◌, ◌≤◌, Bool, List, [], ◌∷◌, ◌++◌, length, get_or, refl, ap, sym, ◌∙◌, subst, arith}
-use Rattle.std.specs.Prelude.{Option}
+use Rattle.std.specs.Prelude.{Option, Some, None, IfSome, IfNone}
+use Rattle.std.specs.Option.{option_to_list}
 use Rattle.std.proofs.lemmas.Bool.{cases_lt}
-use Rattle.std.proofs.lemmas.List.{length-append, length_push, get_or_append_left, get_or-append_right, get_or-append-add, map-append}
+use Rattle.std.proofs.lemmas.List.{length-append, length_push, get_or_append_left, get_or-append_right, get_or-append-add, append-nil, map-append}
 use Rattle.surf_model.specs.declared.names.DartName.{DartName}
 use Rattle.halfedge_map.specs.RotationSystems.{Rotations}
 use Rattle.tree_cotree.specs.RingViews.{dart_numbers}
 use Rattle.tree_cotree.specs.Searches.{IsFound, IsOrder, IsCrossed, IsSearched, AreAdded}
+use Rattle.tree_cotree.specs.Waiting.{waiting_darts, IsAmong, IsTaken}
 use Rattle.tree_cotree.proofs.SearchLemmas.{GoesOn, added_goes, crossed_on}
-
--- a number stands in a list
-pub record IsAmong (xs : List ℕ) (x : ℕ) : Type 0 where
-  pub place : ℕ
-  pub within : place < length xs
-  pub is : get_or xs place 0 ≡ x
 
 among_first : (x : ℕ) (xs : List ℕ) → IsAmong (x ∷ xs) x
 among_first x xs = record { place = 0; within = omega arith; is = refl }
@@ -50,13 +46,6 @@ among_parts xs ys x h =
       | inr more ↦ inr (subst (IsAmong ys) h.is (among_behind xs ys h.place more h.within))
     ]
 
--- a number leaves a list, at its front or at its end
-pub record IsTaken (old new : List ℕ) (x : ℕ) : Type 0 where
-  pub stood : IsAmong old x
-  pub stays : (y : ℕ) → IsAmong new y → IsAmong old y
-  pub others : (y : ℕ) → IsAmong old y → (y ≡ x) ⊎ IsAmong new y
-  pub longer : length old ≡ length new + 1
-
 taken_first : (x : ℕ) (xs : List ℕ) → IsTaken (x ∷ xs) xs x
 taken_first x xs = record {
   stood = among_first x xs;
@@ -84,14 +73,91 @@ taken_last x xs = record {
     only y zero l e = sym e
     only y (suc k) l e = absurd (omega (arith, l))
 
-pub taken : (first : DartName) (rest waiting : List DartName) → (waiting ≡ first ∷ rest) ⊎ (waiting ≡ rest ++ first ∷ [])
-    → IsTaken (dart_numbers waiting) (dart_numbers rest) first.0
-taken first rest waiting which =
-    elim which [
-      | inl front ↦ subst (λ (ws : List DartName). IsTaken (dart_numbers ws) (dart_numbers rest) first.0) (sym front) (taken_first first.0 (dart_numbers rest))
-      | inr end ↦ subst (λ ws. IsTaken ws (dart_numbers rest) first.0)
-          (sym (ap dart_numbers end ∙ map-append (λ (d : DartName). d.0) rest (first ∷ []))) (taken_last first.0 (dart_numbers rest))
+-- what stands behind another part of a list
+taken_behind : (front old new : List ℕ) (x : ℕ) → IsTaken old new x → IsTaken (front ++ old) (front ++ new) x
+taken_behind front old new x t = record {
+  stood = among_right front old x t.stood;
+  stays = λ y h. elim (among_parts front new y h) [
+    | inl before ↦ among_left front old y before
+    | inr behind ↦ among_right front old y (t.stays y behind)
+  ];
+  others = λ y h. elim (among_parts front old y h) [
+    | inl before ↦ inr (among_left front new y before)
+    | inr behind ↦ elim (t.others y behind) [
+      | inl same ↦ inl same
+      | inr stays ↦ inr (among_right front new y stays)
     ]
+  ];
+  longer = omega (arith, t.longer, length-append front old, length-append front new);
+}
+
+-- what stands before another part of a list
+taken_before : (old new rest : List ℕ) (x : ℕ) → IsTaken old new x → IsTaken (old ++ rest) (new ++ rest) x
+taken_before old new rest x t = record {
+  stood = among_left old rest x t.stood;
+  stays = λ y h. elim (among_parts new rest y h) [
+    | inl before ↦ among_left old rest y (t.stays y before)
+    | inr behind ↦ among_right old rest y behind
+  ];
+  others = λ y h. elim (among_parts old rest y h) [
+    | inl before ↦ elim (t.others y before) [
+      | inl same ↦ inl same
+      | inr stays ↦ inr (among_left new rest y stays)
+    ]
+    | inr behind ↦ inr (among_right new rest y behind)
+  ];
+  longer = omega (arith, t.longer, length-append old rest, length-append new rest);
+}
+
+numbers_apart : (far near : List DartName) → waiting_darts far near ≡ dart_numbers far ++ dart_numbers near
+numbers_apart far near = map-append (λ (d : DartName). d.0) far near
+
+-- the first of the present patch leaves
+pub taken_near : (first : Option DartName) (far near rest : List DartName) → near ≡ option_to_list first ++ rest
+    → IfSome first (λ dart. IsTaken (waiting_darts far near) (waiting_darts far rest) dart.0)
+taken_near None far near rest is = tt
+taken_near (Some first) far near rest is =
+    subst (λ ws. IsTaken ws (waiting_darts far rest) first.0) (sym (ap (waiting_darts far) is ∙ numbers_apart far (first ∷ rest)))
+    (subst (λ ws. IsTaken (dart_numbers far ++ first.0 ∷ dart_numbers rest) ws first.0) (sym (numbers_apart far rest))
+    (taken_behind (dart_numbers far) (first.0 ∷ dart_numbers rest) (dart_numbers rest) first.0 (taken_first first.0 (dart_numbers rest))))
+
+-- the first of all leaves, where all wait for a patch of their own
+pub taken_far : (first : Option DartName) (far near all rest none : List DartName) → all ≡ far ++ near → none ≡ [] → all ≡ option_to_list first ++ rest
+    → IfSome first (λ dart. IsTaken (waiting_darts far near) (waiting_darts rest none) dart.0)
+taken_far None far near all rest none whole empty is = tt
+taken_far (Some first) far near all rest none whole empty is =
+    rw empty (subst (λ ws. IsTaken ws (waiting_darts rest []) first.0) (ap dart_numbers (sym is ∙ whole))
+    (subst (λ ws. IsTaken (first.0 ∷ dart_numbers rest) ws first.0) (sym (ap dart_numbers (append-nil rest))) (taken_first first.0 (dart_numbers rest))))
+
+-- the last of the present patch leaves
+pub taken_near_last : (last : Option DartName) (far near rest : List DartName) → near ≡ rest ++ option_to_list last
+    → IfSome last (λ dart. IsTaken (waiting_darts far near) (waiting_darts far rest) dart.0)
+taken_near_last None far near rest is = tt
+taken_near_last (Some last) far near rest is =
+    subst (λ ws. IsTaken ws (waiting_darts far rest) last.0)
+    (sym (ap (waiting_darts far) is ∙ numbers_apart far (rest ++ last ∷ []) ∙ ap (λ ws. dart_numbers far ++ ws) (map-append (λ (d : DartName). d.0) rest (last ∷ []))))
+    (subst (λ ws. IsTaken (dart_numbers far ++ (dart_numbers rest ++ last.0 ∷ [])) ws last.0) (sym (numbers_apart far rest))
+    (taken_behind (dart_numbers far) (dart_numbers rest ++ last.0 ∷ []) (dart_numbers rest) last.0 (taken_last last.0 (dart_numbers rest))))
+
+-- the last of the others leaves
+pub taken_far_last : (last : Option DartName) (far near same rest : List DartName) → near ≡ same ++ [] → far ≡ rest ++ option_to_list last
+    → IfSome last (λ dart. IsTaken (waiting_darts far near) (waiting_darts rest same) dart.0)
+taken_far_last None far near same rest stays is = tt
+taken_far_last (Some last) far near same rest stays is =
+    subst (λ ws. IsTaken ws (waiting_darts rest same) last.0)
+    (sym (numbers_apart (rest ++ last ∷ []) same ∙ ap (λ ws. ws ++ dart_numbers same) (map-append (λ (d : DartName). d.0) rest (last ∷ [])))
+    ∙ ap (λ ws. waiting_darts ws same) (sym is) ∙ ap (waiting_darts far) (sym (stays ∙ append-nil same)))
+    (subst (λ ws. IsTaken ((dart_numbers rest ++ last.0 ∷ []) ++ dart_numbers same) ws last.0) (sym (numbers_apart rest same))
+    (taken_before (dart_numbers rest ++ last.0 ∷ []) (dart_numbers rest) (dart_numbers same) last.0 (taken_last last.0 (dart_numbers rest))))
+
+-- what a dart that is taken, or none, says
+pub taken : (first : Option DartName) (x : DartName) (waiting rest : List ℕ) → first ≡ Some x → IfSome first (λ dart. IsTaken waiting rest dart.0)
+    → IsTaken waiting rest x.0
+taken first x waiting rest is h = subst (λ (o : Option DartName). IfSome o (λ dart. IsTaken waiting rest dart.0)) is h
+
+pub none_waits : (first : Option DartName) (waiting : List ℕ) → ((x : DartName) → first ≡ Some x → ⊥) → IfNone first (waiting ≡ []) → waiting ≡ []
+none_waits None waiting never h = h
+none_waits (Some x) waiting never h = absurd (never x refl)
 
 -- a search that is underway
 pub record IsUnderway (maps : Rotations) (node : ℕ → ℕ) (allowed : ℕ → Bool) (bound root : ℕ) (order waiting : List ℕ) (from : List (Option DartName)) : Type 0 where

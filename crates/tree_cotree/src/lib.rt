@@ -16,6 +16,7 @@ pub mod rings;
 mod search;
 pub mod split;
 mod turning;
+mod waiting;
 
 pub use rings::Rings;
 pub use split::{Kind, Split, split_edges};

@@ -1,16 +1,17 @@
 //! A search over the vertices or the faces of a surface.
-ghost use Rattle.std.specs.Prelude.{◌≡◌, ◌⊎◌, ◌<◌, [], ◌∷◌, ◌++◌, true, length, OnOk, IfOk, IfNone, IfSome};
+ghost use Rattle.std.specs.Prelude.{◌≡◌, ◌<◌, true, length, OnOk, IfOk};
 ghost use Rattle.halfedge_map.specs.OrientedMeshes.{IsOrientedSurface};
 ghost use Rattle.halfedge_map.specs.DartMaps.{darts_of};
 ghost use Rattle.halfedge_map.specs.RotationSystems.{rotations_of};
 ghost use Rattle.tree_cotree.specs.RingViews.{dart_numbers};
 ghost use Rattle.tree_cotree.specs.Searches.{node_of, turn_of, same_kind, is_allowed};
+ghost use Rattle.tree_cotree.specs.Waiting.{waiting_darts};
 ghost use Rattle.tree_cotree.specs.Searches.{AreBelow, IsFound, IsOrder, IsCrossed, IsSearched, AreAdded};
 
 use crate::split::Kind;
+use crate::waiting::{Order, Waiting};
 use halfedge_map::Surface;
 use std::alloc::{AllocError, Global};
-use std::collections::VecDeque;
 use surf_model::DartName;
 
 /// What a search goes over.
@@ -18,15 +19,6 @@ use surf_model::DartName;
 pub enum Nodes {
     Vertices,
     Faces,
-}
-
-/// Which of the nodes that wait comes next.
-#[derive(Clone, Copy, Debug, PartialEq, Eq)]
-pub enum Order {
-    /// The one that was found first: the ways in the tree are short.
-    FirstFound,
-    /// The one that was found last: neighbours in the mesh come one after another, which is much faster.
-    LastFound,
 }
 
 /// The edges that a search may cross.
@@ -88,20 +80,8 @@ fn may_cross(edges: Edges, kinds: &[Kind], surface: &Surface, dart: DartName) ->
 #[derive(Drop)]
 struct Search {
     order: Vec<DartName>,
-    waiting: VecDeque<DartName>,
+    waiting: Waiting,
     from: Vec<Option<DartName>>,
-}
-
-/// The dart that comes next leaves those that wait.
-fn take(waiting: &mut VecDeque<DartName>, order: Order) -> Option<DartName>
-    ensures none { IfNone result (waiting.old.items ≡ []) }
-    ensures some { IfSome result (λ dart. (waiting.old.items ≡ dart ∷ waiting.new.items)
-        ⊎ (waiting.old.items ≡ waiting.new.items ++ dart ∷ [])) }
-{
-    match order {
-        Order::FirstFound => waiting.pop_front(),
-        Order::LastFound => waiting.pop_back(),
-    }
 }
 
 /// Goes across the edge of a dart, if it may be crossed, and keeps the node beyond it, if it is new.
@@ -124,8 +104,9 @@ fn cross(
         (length search.old.from.items) root (dart_numbers search.old.order.items) search.old.from.items }
     ensures order { OnOk result (IsOrder (rotations_of surface.now) (node_of nodes (rotations_of surface.now)) (is_allowed edges kinds.now)
         (length search.old.from.items) root (dart_numbers search.new.order.items) search.new.from.items) }
-    ensures added { OnOk result (AreAdded (dart_numbers search.old.order.items) (dart_numbers search.old.waiting.items)
-        (dart_numbers search.new.order.items) (dart_numbers search.new.waiting.items)) }
+    ensures added { OnOk result (AreAdded (dart_numbers search.old.order.items)
+        (waiting_darts search.old.waiting.far.items search.old.waiting.near.items)
+        (dart_numbers search.new.order.items) (waiting_darts search.new.waiting.far.items search.new.waiting.near.items)) }
     ensures crossed { OnOk result (is_allowed edges kinds.now ((rotations_of surface.now).edge dart.0) ≡ true
         → IsFound (node_of nodes (rotations_of surface.now)) (dart_numbers search.new.order.items)
         (node_of nodes (rotations_of surface.now) ((rotations_of surface.now).twin dart.0))) }
@@ -139,7 +120,7 @@ fn cross(
         return Ok(());
     }
     search.order.push(back)?;
-    search.waiting.push_back(back)?;
+    search.waiting.push(back)?;
     search.from[across as usize] = Some(back);
     Ok(())
 }
@@ -163,8 +144,9 @@ fn visit(
         (length search.old.from.items) root (dart_numbers search.old.order.items) search.old.from.items }
     ensures order { OnOk result (IsOrder (rotations_of surface.now) (node_of nodes (rotations_of surface.now)) (is_allowed edges kinds.now)
         (length search.old.from.items) root (dart_numbers search.new.order.items) search.new.from.items) }
-    ensures added { OnOk result (AreAdded (dart_numbers search.old.order.items) (dart_numbers search.old.waiting.items)
-        (dart_numbers search.new.order.items) (dart_numbers search.new.waiting.items)) }
+    ensures added { OnOk result (AreAdded (dart_numbers search.old.order.items)
+        (waiting_darts search.old.waiting.far.items search.old.waiting.near.items)
+        (dart_numbers search.new.order.items) (waiting_darts search.new.waiting.far.items search.new.waiting.near.items)) }
     ensures crossed { OnOk result (IsCrossed (rotations_of surface.now) (node_of nodes (rotations_of surface.now))
         (is_allowed edges kinds.now) (dart_numbers search.new.order.items) (node_of nodes (rotations_of surface.now) first.0)) }
 {
@@ -199,13 +181,13 @@ pub(crate) fn search_over(
 {
     let mut search = Search {
         order: Vec::with_capacity(alloc, bound as usize)?,
-        waiting: VecDeque::new(alloc),
+        waiting: Waiting::new(alloc),
         from: vec![in alloc; None; bound as usize]?,
     };
     search.order.push(start)?;
-    search.waiting.push_back(start)?;
+    search.waiting.push(start)?;
     let root = node(nodes, surface, start);
-    while let Some(first) = take(&mut search.waiting, order) {
+    while let Some(first) = search.waiting.take(order)? {
         visit(&mut search, surface, nodes, kinds, edges, root, first)?;
     }
     Ok(search.from)

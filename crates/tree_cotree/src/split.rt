@@ -4,8 +4,9 @@ ghost use Rattle.std.specs.Option.{option_map};
 ghost use Rattle.tree_cotree.specs.Splits.{IsSplit};
 
 use crate::marking::{faces_below, leftover_dart, leftover_edges, mark};
-use crate::search::{Edges, Nodes, Order, search_over};
+use crate::search::{Edges, Nodes, search_over};
 use crate::turning::turn_round;
+use crate::waiting::Order;
 use halfedge_map::Surface;
 use std::alloc::{AllocError, Global};
 use std::marker::Model;
@@ -87,7 +88,7 @@ impl Split {
     }
 }
 
-/// Splits a surface. The tree is found breadth first, so that walks to its root are short; the cotree with a stack, which is
+/// Splits a surface. The tree is found patch by patch, so that walks to its root are short; the cotree with a stack, which is
 /// quicker.
 pub fn split_edges(alloc: Global, surface: &Surface) -> Result<Split, AllocError>
     ensures { IfOk result (IsSplit surface.now) }
@@ -98,7 +99,7 @@ pub fn split_edges(alloc: Global, surface: &Surface) -> Result<Split, AllocError
         alloc,
         surface,
         Nodes::Vertices,
-        Order::FirstFound,
+        Order::Patches,
         surface.faces().count(),
         &kinds,
         Edges::Every,

@@ -2,6 +2,7 @@ use Rattle.std.proofs.Common.{◌≡◌, ◌+◌, ◌≤◌, ℕ, List, length, 
 use Rattle.std.proofs.lemmas.Bool.{eqb-true}
 use Rattle.halfedge_map.specs.RotationSystems.{Rotations, rotations_of}
 use Rattle.tree_cotree.specs.RingViews.{dart_numbers}
+use Rattle.tree_cotree.specs.Waiting.{waiting_darts}
 use Rattle.tree_cotree.specs.Searches.{node_of, turn_of, is_allowed, AreBelow}
 use Rattle.tree_cotree.proofs.SearchLemmas.{IsVisiting, turning, visit_start, visit_more, visit_within, visit_found, rebound, added_on, crossed_round, crossed_all}
 use Rattle.tree_cotree.proofs.search.visit.Goals as goal
@@ -10,7 +11,7 @@ pub loop-turn-init : goal.loop-turn-init
 loop-turn-init c =
     let maps : Rotations = rotations_of c.args.surface.now in
     visit_start maps (node_of c.args.nodes maps) (is_allowed c.args.edges c.args.kinds.now) (turn_of c.args.nodes maps) (length c.args.search.now.from.items) c.args.root
-    (dart_numbers c.args.search.now.order.items) (dart_numbers c.args.search.now.waiting.items) c.args.search.now.from.items c.args.first.0 c.requires.order
+    (dart_numbers c.args.search.now.order.items) (waiting_darts c.args.search.now.waiting.far.items c.args.search.now.waiting.near.items) c.args.search.now.from.items c.args.first.0 c.requires.order
 
 pub cross-requires-clause-below : goal.cross-requires-clause-below
 cross-requires-clause-below c =
@@ -27,8 +28,8 @@ pub cross-requires-clause-found : goal.cross-requires-clause-found
 cross-requires-clause-found c =
     let maps : Rotations = rotations_of c.args.surface.now in
     visit_found maps (node_of c.args.nodes maps) (is_allowed c.args.edges c.args.kinds.now) (turn_of c.args.nodes maps) (length c.args.search.now.from.items) c.args.root
-    (dart_numbers c.args.search.now.order.items) (dart_numbers c.args.search.now.waiting.items) (dart_numbers c.loop-turn.search.order.items)
-    (dart_numbers c.loop-turn.search.waiting.items) c.loop-turn.search.from.items c.args.first.0 c.loop-turn.dart.0 c.loop-turn._turn
+    (dart_numbers c.args.search.now.order.items) (waiting_darts c.args.search.now.waiting.far.items c.args.search.now.waiting.near.items) (dart_numbers c.loop-turn.search.order.items)
+    (waiting_darts c.loop-turn.search.waiting.far.items c.loop-turn.search.waiting.near.items) c.loop-turn.search.from.items c.args.first.0 c.loop-turn.dart.0 c.loop-turn._turn
     (turning c.args.surface.now c.darts-turn-end.ensures.valid c.args.nodes) c.requires.dart c.requires.found c.loop-turn.invariant
 
 pub cross-requires-clause-order : goal.cross-requires-clause-order
@@ -49,11 +50,11 @@ loop-turn-preserved c =
     let node : ℕ → ℕ = node_of c.args.nodes maps in
     let allowed = is_allowed c.args.edges c.args.kinds.now in
     let order : List ℕ = dart_numbers c.loop-turn.search.order.items in
-    let waiting : List ℕ = dart_numbers c.loop-turn.search.waiting.items in
+    let waiting : List ℕ = waiting_darts c.loop-turn.search.waiting.far.items c.loop-turn.search.waiting.near.items in
     let new : List ℕ = dart_numbers c.cross.new.search.order.items in
-    let more : List ℕ = dart_numbers c.cross.new.search.waiting.items in
+    let more : List ℕ = waiting_darts c.cross.new.search.waiting.far.items c.cross.new.search.waiting.near.items in
     visit_more maps node allowed (turn_of c.args.nodes maps) (length c.args.search.now.from.items) c.args.root (dart_numbers c.args.search.now.order.items)
-    (dart_numbers c.args.search.now.waiting.items) order waiting new more
+    (waiting_darts c.args.search.now.waiting.far.items c.args.search.now.waiting.near.items) order waiting new more
     c.loop-turn.search.from.items c.cross.new.search.from.items c.args.first.0 c.loop-turn.dart.0 c.turn-dart.result.0 c.loop-turn._turn c.loop-turn.invariant
     (rebound maps node allowed (length c.loop-turn.search.from.items) (length c.args.search.now.from.items) c.args.root new c.cross.new.search.from.items
     c.loop-turn.invariant.is_order.long c.in_ok-cross.ensures.order)
@@ -66,15 +67,15 @@ returns-then-eq-clause-crossed c =
     let turn : ℕ → ℕ = turn_of c.args.nodes maps in
     let allowed = is_allowed c.args.edges c.args.kinds.now in
     let order : List ℕ = dart_numbers c.loop-turn.search.order.items in
-    let waiting : List ℕ = dart_numbers c.loop-turn.search.waiting.items in
+    let waiting : List ℕ = waiting_darts c.loop-turn.search.waiting.far.items c.loop-turn.search.waiting.near.items in
     let new : List ℕ = dart_numbers c.cross.new.search.order.items in
-    let more : List ℕ = dart_numbers c.cross.new.search.waiting.items in
+    let more : List ℕ = waiting_darts c.cross.new.search.waiting.far.items c.cross.new.search.waiting.near.items in
     let k : ℕ = c.loop-turn._turn in
     let visited : IsVisiting maps node allowed turn (length c.args.search.now.from.items) c.args.root (dart_numbers c.args.search.now.order.items)
-    (dart_numbers c.args.search.now.waiting.items) new more
+    (waiting_darts c.args.search.now.waiting.far.items c.args.search.now.waiting.near.items) new more
     c.cross.new.search.from.items c.args.first.0 c.turn-dart.result.0 (k + 1) =
     visit_more maps node allowed turn (length c.args.search.now.from.items) c.args.root (dart_numbers c.args.search.now.order.items)
-    (dart_numbers c.args.search.now.waiting.items) order waiting new more
+    (waiting_darts c.args.search.now.waiting.far.items c.args.search.now.waiting.near.items) order waiting new more
     c.loop-turn.search.from.items c.cross.new.search.from.items c.args.first.0 c.loop-turn.dart.0 c.turn-dart.result.0 k c.loop-turn.invariant
     (rebound maps node allowed (length c.loop-turn.search.from.items) (length c.args.search.now.from.items) c.args.root new c.cross.new.search.from.items
     c.loop-turn.invariant.is_order.long c.in_ok-cross.ensures.order)
@@ -99,8 +100,8 @@ returns-then-eq-clause-order c =
 
 pub returns-then-eq-clause-added : goal.returns-then-eq-clause-added
 returns-then-eq-clause-added c =
-    added_on (dart_numbers c.args.search.now.order.items) (dart_numbers c.args.search.now.waiting.items) (dart_numbers c.loop-turn.search.order.items)
-    (dart_numbers c.loop-turn.search.waiting.items) (dart_numbers c.cross.new.search.order.items) (dart_numbers c.cross.new.search.waiting.items)
+    added_on (dart_numbers c.args.search.now.order.items) (waiting_darts c.args.search.now.waiting.far.items c.args.search.now.waiting.near.items) (dart_numbers c.loop-turn.search.order.items)
+    (waiting_darts c.loop-turn.search.waiting.far.items c.loop-turn.search.waiting.near.items) (dart_numbers c.cross.new.search.order.items) (waiting_darts c.cross.new.search.waiting.far.items c.cross.new.search.waiting.near.items)
     c.loop-turn.invariant.added c.in_ok-cross.ensures.added
 
 pub returns-clause-order : goal.returns-clause-order
