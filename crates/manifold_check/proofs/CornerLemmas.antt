@@ -13,7 +13,6 @@ use Rattle.surf_model.specs.declared.edges.Side.{Side}
 use Rattle.surf_model.proofs.NumberLemmas.{face_side, length-all_sides}
 use Rattle.surf_model.proofs.TableLemmas.{face_side_in, next_within}
 use Rattle.surf_model.proofs.PartnerLemmas.{IsWholeSide, whole_side}
-use Rattle.manifold_check.specs.Links.{IsCornerNumber}
 use Rattle.manifold_check.specs.Partitions.{IsCornerStep, AreRings}
 use Rattle.manifold_check.proofs.Joining.{joined_keep}
 
@@ -82,10 +81,6 @@ one_corner mesh v side corner other valid is h k =
         | inr f ↦ e.1 ∙ sym f.1
       ]
     ]
-
-pub one_corner_number : (mesh : FaceList) (v : ℕ) (side : Side) (n : ℕ) (corner : Side) → IsFaceList mesh → IsSide mesh side → IsCornerNumber mesh v side n → IsCornerOfSide mesh v side corner
-    → n ≡ side_number mesh corner
-one_corner_number mesh v side n corner valid is h k = h.number ∙ ap (side_number mesh) (one_corner mesh v side h.corner corner valid is h.of_side k)
 
 pub partners_swap : (mesh : FaceList) (side other : Side) → ArePartners mesh side other → ArePartners mesh other side
 partners_swap mesh side other h = record {

@@ -1,189 +1,323 @@
--- Corners in rings, as the edges of the table are gone through.
-use Rattle.std.proofs.Common.{◌≡◌, ◌⊎◌, inl, inr, ℕ, zero, suc, ◌+◌, ◌<◌, ◌≤◌, List, length, get_or, ap, sym, ◌∙◌, subst, arith, below_more}
-use Rattle.std.specs.Prelude.{Contains, Some, slice_get}
-use Rattle.std.proofs.lemmas.Option.{get_or_from_slice_get}
+-- Corners in rings, as the sides are gone through by their numbers.
+use Rattle.std.proofs.Common.{◌≡◌, ◌⊎◌, inl, inr, ℕ, zero, suc, ◌+◌, ◌<◌, ◌≤◌, true, List, length, map, get_or, refl, ap, sym, ◌∙◌, subst, arith}
+use Rattle.std.specs.Prelude.{Contains}
+use Rattle.std.proofs.lemmas.Bool.{cases_eq}
+use Rattle.std.proofs.lemmas.Bool.Decides.{nat_tests}
 use Rattle.std.specs.List.{range_with_len}
-use Rattle.std.proofs.lemmas.List.{get_or_default}
+use Rattle.std.proofs.lemmas.List.{length-map, get_or-map, get_or_default}
 use Rattle.std.proofs.lemmas.List.FromFn.{length-range_with_len}
-use Rattle.surf_model.specs.FaceLists.{FaceList, IsFaceList, total_sides}
+use Rattle.surf_model.specs.FaceLists.{FaceList, IsFaceList, next_corner, total_sides}
 use Rattle.surf_model.specs.Edges.{Edge, IsTableOf, IsEdgeOf, edge_in}
-use Rattle.surf_model.specs.Darts.{IsSide, side_number, tail_of, head_of}
+use Rattle.surf_model.specs.EdgeDarts.{IsNextInEdge}
+use Rattle.surf_model.specs.Darts.{IsSide, side_number, side_after, tail_of, head_of}
 use Rattle.surf_model.specs.Surfaces.{EachEdgeHasTwoSides, ArePartners, IsCornerOfSide}
 use Rattle.surf_model.specs.declared.edges.Side.{Side}
-use Rattle.surf_model.proofs.PartnerLemmas.{HasSideEnds, IsSideOfEdge, side_of_edge, partners_of_edge, AreInOneEdge, edge_of_partners, table_edge}
-use Rattle.manifold_check.specs.Classes.{joined_at}
-use Rattle.manifold_check.specs.Links.{IsCornerNumber, side_in}
-use Rattle.manifold_check.specs.Partitions.{JoinsOnlyBySteps, IsCornerStep, AreRings}
+use Rattle.surf_model.proofs.TableLemmas.{next_within}
+use Rattle.surf_model.proofs.PartnerLemmas.{IsSideOfEdge, side_of_edge, edge_has_side, ends_agree, partners_of_edge, table_edge}
+use Rattle.manifold_check.specs.Classes.{joined_at, KeepsJoined}
+use Rattle.manifold_check.specs.Links.{IsJoinedAcross}
+use Rattle.manifold_check.specs.Partitions.{JoinsOnlyByCornerSteps, IsCornerStep, AreRings}
 use Rattle.manifold_check.proofs.Joining.{length-joined_at, joined_at_ends, joined_at_keeps, joins_only-joined_at, joins_only-alone}
 use Rattle.manifold_check.proofs.EdgeLemmas.{table_from_two_sides}
-use Rattle.manifold_check.proofs.CornerLemmas.{number_below, number_once, corner_in_mesh, corner_end, one_corner_number, partners_swap, step_across}
+use Rattle.manifold_check.proofs.CornerLemmas.{number_below, number_once, corner_in_mesh, corner_end, one_corner, ends_differ, partners_swap, step_across}
 
--- the two sides of edge k
-pub record HasTwoSides (mesh : FaceList) (edge : Edge) : Type 0 where
-  pub two : length edge.sides ≡ 2
-  pub first : IsSideOfEdge mesh edge (side_in edge 0)
-  pub second : IsSideOfEdge mesh edge (side_in edge 1)
-  pub partners : ArePartners mesh (side_in edge 0) (side_in edge 1)
-
-pub two_sides_of : (mesh : FaceList) (table : List Edge) (k : ℕ) → IsTableOf mesh table → EachEdgeHasTwoSides mesh → k < length table → HasTwoSides mesh (edge_in table k)
-two_sides_of mesh table k h each l =
-    let edge : Edge = edge_in table k in
-    let is : IsEdgeOf mesh edge = table_edge mesh table k h l in
-    let two : length edge.sides ≡ 2 = table_from_two_sides mesh table k h each l in
-    record {
-      two = two;
-      first = side_of_edge mesh edge 0 _ is (omega (arith, two));
-      second = side_of_edge mesh edge 1 _ is (omega (arith, two));
-      partners = partners_of_edge mesh table k 0 1 _ h l (omega arith) (omega (arith, two));
-    }
-
-pub read_side : (edge : Edge) (k : ℕ) (side : Side) → slice_get edge.sides k ≡ Some side → side_in edge k ≡ side
-read_side edge k side is = get_or_from_slice_get edge.sides k side _ is
-
--- what a side that was read from the edge has
-pub side_as_read : (mesh : FaceList) (edge : Edge) (k : ℕ) (side : Side) → slice_get edge.sides k ≡ Some side → IsSideOfEdge mesh edge (side_in edge k) → IsSideOfEdge mesh edge side
-side_as_read mesh edge k side is h = subst (IsSideOfEdge mesh edge) (read_side edge k side is) h
-
-pub number_as_read : (mesh : FaceList) (edge : Edge) (k : ℕ) (side : Side) (v w n : ℕ) → slice_get edge.sides k ≡ Some side → v ≡ w → IsCornerNumber mesh v side n
-    → IsCornerNumber mesh w (side_in edge k) n
-number_as_read mesh edge k side v w n is at h =
-    subst (λ (s : Side). IsCornerNumber mesh w s n) (sym (read_side edge k side is)) (subst (λ x. IsCornerNumber mesh x side n) at h)
-
-pub low_end : (mesh : FaceList) (low high : ℕ) (side : Side) → HasSideEnds mesh low high side → (tail_of mesh side ≡ low) ⊎ (head_of mesh side ≡ low)
-low_end mesh low high side ends = elim ends [ inl e ↦ inl e.0 | inr e ↦ inr e.1 ]
-
-pub high_end : (mesh : FaceList) (low high : ℕ) (side : Side) → HasSideEnds mesh low high side → (tail_of mesh side ≡ high) ⊎ (head_of mesh side ≡ high)
-high_end mesh low high side ends = elim ends [ inl e ↦ inr e.1 | inr e ↦ inl e.0 ]
-
-pub low_end_as_read : (mesh : FaceList) (edge : Edge) (v : ℕ) (side : Side) → v ≡ edge.low → IsSideOfEdge mesh edge side → (tail_of mesh side ≡ v) ⊎ (head_of mesh side ≡ v)
-low_end_as_read mesh edge v side at h =
-    subst (λ x. (tail_of mesh side ≡ x) ⊎ (head_of mesh side ≡ x)) (sym at) (low_end mesh edge.low edge.high side h.ends)
-
-pub high_end_as_read : (mesh : FaceList) (edge : Edge) (v : ℕ) (side : Side) → v ≡ edge.high → IsSideOfEdge mesh edge side → (tail_of mesh side ≡ v) ⊎ (head_of mesh side ≡ v)
-high_end_as_read mesh edge v side at h =
-    subst (λ x. (tail_of mesh side ≡ x) ⊎ (head_of mesh side ≡ x)) (sym at) (high_end mesh edge.low edge.high side h.ends)
-
--- a vertex where a side of the edge starts or ends is one of its two
-pub end_cases : (mesh : FaceList) (low high v : ℕ) (side : Side) → HasSideEnds mesh low high side → (tail_of mesh side ≡ v) ⊎ (head_of mesh side ≡ v) → (v ≡ low) ⊎ (v ≡ high)
-end_cases mesh low high v side ends end =
-    elim ends [
-      | inl e ↦ elim end [ inl t ↦ inl (sym t ∙ e.0) | inr t ↦ inr (sym t ∙ e.1) ]
-      | inr e ↦ elim end [ inl t ↦ inr (sym t ∙ e.0) | inr t ↦ inl (sym t ∙ e.1) ]
-    ]
+-- the partner of a side, by its number; there is no other
+pub record HasPartner (mesh : FaceList) (side : Side) (n : ℕ) : Type 0 where
+  pub partner : Side
+  pub partners : ArePartners mesh side partner
+  pub number : side_number mesh partner ≡ n
+  pub only : (other : Side) → ArePartners mesh side other → other ≡ partner
 
 -- one of two sides
-pub first_or_second : (edge : Edge) (side : Side) → length edge.sides ≡ 2 → Contains edge.sides side → (side_in edge 0 ≡ side) ⊎ (side_in edge 1 ≡ side)
-first_or_second edge side two (zero, l, is) = inl (get_or_default edge.sides 0 _ side l ∙ is)
-first_or_second edge side two (suc zero, l, is) = inr (get_or_default edge.sides 1 _ side l ∙ is)
-first_or_second edge side two (suc (suc k), l, is) = absurd (omega arith)
+first_or_second : (sides : List Side) (d side : Side) → length sides ≡ 2 → Contains sides side → (get_or sides 0 d ≡ side) ⊎ (get_or sides 1 d ≡ side)
+first_or_second sides d side two (zero, l, is) = inl (get_or_default sides 0 d side l ∙ is)
+first_or_second sides d side two (suc zero, l, is) = inr (get_or_default sides 1 d side l ∙ is)
+first_or_second sides d side two (suc (suc k), l, is) = absurd (omega arith)
 
--- at each vertex the corners of the two sides of an edge have one entry
-abbrev pub HasCornersJoined : FaceList → List ℕ → Edge → Type 0
-HasCornersJoined mesh least edge =
-    (v : ℕ) (corner other : Side) → IsCornerOfSide mesh v (side_in edge 0) corner → IsCornerOfSide mesh v (side_in edge 1) other
-    → get_or least (side_number mesh corner) 0 ≡ get_or least (side_number mesh other) 0
+next_of_two : (m i : ℕ) → m ≡ 2 → i < m → ((i ≡ 0) × (next_corner true m i ≡ 1)) ⊎ ((i ≡ 1) × (next_corner true m i ≡ 0))
+next_of_two m i two few = grind (arith, nat_tests)
 
--- so it is at the first k edges, and equal entries come by steps alone
-pub record JoinsCornersUpTo (mesh : FaceList) (table : List Edge) (least : List ℕ) (k : ℕ) : Type 0 where
+-- the side stands at place i of edge k of the table, which has two sides
+record IsAtPlace (mesh : FaceList) (table : List Edge) (k i : ℕ) (side : Side) : Type 0 where
+  table_of : IsTableOf mesh table
+  in_table : k < length table
+  two : length (edge_in table k).sides ≡ 2
+  in_edge : i < length (edge_in table k).sides
+  here : get_or (edge_in table k).sides i side ≡ side
+
+-- each partner of the side stands in its edge too
+partner_in_edge : (mesh : FaceList) (table : List Edge) (k i : ℕ) (side other : Side) → IsAtPlace mesh table k i side → ArePartners mesh side other
+    → Contains (edge_in table k).sides other
+partner_in_edge mesh table k i side other h partners =
+    let edge : Edge = edge_in table k in
+    let is : IsEdgeOf mesh edge = table_edge mesh table k h.table_of h.in_table in
+    let stands : IsSideOfEdge mesh edge side = subst (IsSideOfEdge mesh edge) h.here (side_of_edge mesh edge i side is h.in_edge) in
+    edge_has_side mesh edge other is partners.second (ends_agree _ _ _ _ edge.low edge.high stands.ends partners.one_edge)
+
+partner_at : (mesh : FaceList) (table : List Edge) (k i : ℕ) (side : Side) → IsAtPlace mesh table k i side
+    → HasPartner mesh side (side_number mesh (get_or (edge_in table k).sides (next_corner true (length (edge_in table k).sides) i) side))
+partner_at mesh table k i side h =
+    let sides : List Side = (edge_in table k).sides in
+    let first : Side = get_or sides 0 side in
+    let second : Side = get_or sides 1 side in
+    let pair : ArePartners mesh first second = partners_of_edge mesh table k 0 1 side h.table_of h.in_table (omega arith) (omega (arith, h.two)) in
+    let one_of : (other : Side) → ArePartners mesh side other → (first ≡ other) ⊎ (second ≡ other) =
+    λ other partners. first_or_second sides side other h.two (partner_in_edge mesh table k i side other h partners) in
+    elim (next_of_two (length sides) i h.two h.in_edge) [
+      | inl e ↦
+          (let here : first ≡ side = ap (λ j. get_or sides j side) (sym e.0) ∙ h.here in
+          record {
+            partner = second;
+            partners = subst (λ s. ArePartners mesh s second) here pair;
+            number = ap (λ j. side_number mesh (get_or sides j side)) (sym e.1);
+            only = λ other partners.
+                elim (one_of other partners) [
+                  | inl same ↦ absurd (partners.different (sym here ∙ same))
+                  | inr is ↦ sym is
+                ];
+          })
+      | inr e ↦
+          (let here : second ≡ side = ap (λ j. get_or sides j side) (sym e.0) ∙ h.here in
+          record {
+            partner = first;
+            partners = partners_swap mesh first side (subst (ArePartners mesh first) here pair);
+            number = ap (λ j. side_number mesh (get_or sides j side)) (sym e.1);
+            only = λ other partners.
+                elim (one_of other partners) [
+                  | inl is ↦ sym is
+                  | inr same ↦ absurd (partners.different (sym here ∙ same))
+                ];
+          })
+    ]
+
+-- the next side of an edge of two is the partner
+pub has_partner : (mesh : FaceList) (table : List Edge) (side : Side) (dart next : ℕ) → IsTableOf mesh table → EachEdgeHasTwoSides mesh → IsSide mesh side
+    → dart ≡ side_number mesh side → IsNextInEdge mesh table dart next → HasPartner mesh side next
+has_partner mesh table side dart next is each in_mesh number h =
+    let edge : Edge = edge_in table h.edge in
+    let sides : List Side = edge.sides in
+    let size : length (map (side_number mesh) sides) ≡ length sides = length-map sides (side_number mesh) in
+    let few : h.place < length sides = omega (arith, h.in_edge, size) in
+    let at : side_number mesh (get_or sides h.place side) ≡ dart = sym (get_or-map (side_number mesh) sides h.place side 0 few) ∙ h.here in
+    let stands : IsSideOfEdge mesh edge (get_or sides h.place side) = side_of_edge mesh edge h.place side (table_edge mesh table h.edge is h.in_table) few in
+    let turned : ℕ = next_corner true (length sides) h.place in
+    let there : side_number mesh (get_or sides turned side) ≡ next =
+    sym (get_or-map (side_number mesh) sides turned side 0 (next_within (length sides) h.place few))
+    ∙ ap (λ m. get_or (map (side_number mesh) sides) (next_corner true m h.place) 0) (sym size) ∙ h.there in
+    subst (HasPartner mesh side) there (partner_at mesh table h.edge h.place side (record {
+      table_of = is;
+      in_table = h.in_table;
+      two = table_from_two_sides mesh table h.edge is each h.in_table;
+      in_edge = few;
+      here = number_once mesh (get_or sides h.place side) side stands.side_of in_mesh (at ∙ number);
+    }))
+
+pub partner_below : (mesh : FaceList) (side : Side) (n : ℕ) → HasPartner mesh side n → n < total_sides mesh
+partner_below mesh side n h = omega (arith, h.number, number_below mesh h.partner h.partners.second)
+
+-- the side with the number of the partner is the partner
+pub partners_by_number : (mesh : FaceList) (side other : Side) (n : ℕ) → HasPartner mesh side n → IsSide mesh other → side_number mesh other ≡ n → ArePartners mesh side other
+partners_by_number mesh side other n h is number =
+    subst (ArePartners mesh side) (number_once mesh h.partner other h.partners.second is (h.number ∙ sym number)) h.partners
+
+-- the classes before and after two corners are made one class
+record AreMadeOne (mesh : FaceList) (old new : List ℕ) (corner other : Side) : Type 0 where
+  count : length new ≡ total_sides mesh
+  same : get_or new (side_number mesh corner) 0 ≡ get_or new (side_number mesh other) 0
+  kept : KeepsJoined old new
+  steps : JoinsOnlyByCornerSteps mesh old → JoinsOnlyByCornerSteps mesh new
+
+-- so it is at the corners of partners at a vertex
+made_one : (mesh : FaceList) (least : List ℕ) (v : ℕ) (side partner corner other : Side) → length least ≡ total_sides mesh → ArePartners mesh side partner
+    → IsCornerOfSide mesh v side corner → IsCornerOfSide mesh v partner other
+    → AreMadeOne mesh least (joined_at least (side_number mesh corner) (side_number mesh other)) corner other
+made_one mesh least v side partner corner other count partners from to =
+    let a : ℕ = side_number mesh corner in
+    let b : ℕ = side_number mesh other in
+    let is_a : IsSide mesh corner = corner_in_mesh mesh v side corner partners.first from in
+    let is_b : IsSide mesh other = corner_in_mesh mesh v partner other partners.second to in
+    record {
+      count = length-joined_at least a b ∙ count;
+      same = joined_at_ends least a b (omega (arith, count, number_below mesh corner is_a)) (omega (arith, count, number_below mesh other is_b));
+      kept = λ x y l k. joined_at_keeps least a b x y l k;
+      steps = λ h.
+          joins_only-joined_at (IsSide mesh) (side_number mesh) (IsCornerStep mesh) least corner other h (λ x is. omega (arith, count, number_below mesh x is)) is_a is_b
+          (step_across mesh v side partner corner other partners from to)
+          (step_across mesh v partner side other corner (partners_swap mesh side partner partners) to from);
+    }
+
+-- the classes before and after the corners of a side have been joined with those of its partner
+pub record AreMadeJoined (mesh : FaceList) (old new : List ℕ) (side partner : Side) : Type 0 where
+  pub count : length new ≡ total_sides mesh
+  pub joined : IsJoinedAcross mesh new side partner
+  pub kept : KeepsJoined old new
+  pub steps : JoinsOnlyByCornerSteps mesh old → JoinsOnlyByCornerSteps mesh new
+
+-- the corners of the partner where the side starts and where it ends
+record HasCornersAcross (mesh : FaceList) (side partner first last : Side) : Type 0 where
+  partners : ArePartners mesh side partner
+  at_start : IsCornerOfSide mesh (tail_of mesh side) partner first
+  at_end : IsCornerOfSide mesh (head_of mesh side) partner last
+
+made_joined : (mesh : FaceList) (least : List ℕ) (side partner first last : Side) → IsFaceList mesh → length least ≡ total_sides mesh
+    → HasCornersAcross mesh side partner first last
+    → AreMadeJoined mesh least
+    (joined_at (joined_at least (side_number mesh side) (side_number mesh first)) (side_number mesh (side_after mesh side)) (side_number mesh last)) side partner
+made_joined mesh least side partner first last valid count h =
+    let once : List ℕ = joined_at least (side_number mesh side) (side_number mesh first) in
+    let twice : List ℕ = joined_at once (side_number mesh (side_after mesh side)) (side_number mesh last) in
+    let start : AreMadeOne mesh least once side first = made_one mesh least (tail_of mesh side) side partner side first count h.partners (inl (refl, refl)) h.at_start in
+    let end : AreMadeOne mesh once twice (side_after mesh side) last =
+    made_one mesh once (head_of mesh side) side partner (side_after mesh side) last start.count h.partners (inr (refl, refl)) h.at_end in
+    let size : length once ≡ length least = start.count ∙ sym count in
+    let below : (v : ℕ) (s corner : Side) → IsSide mesh s → IsCornerOfSide mesh v s corner → side_number mesh corner < length once =
+    λ v s corner is of_side. omega (arith, start.count, number_below mesh corner (corner_in_mesh mesh v s corner is of_side)) in
+    let start_same : get_or twice (side_number mesh side) 0 ≡ get_or twice (side_number mesh first) 0 =
+    end.kept (side_number mesh side) (side_number mesh first) (below (tail_of mesh side) side side h.partners.first (inl (refl, refl)))
+    (below (tail_of mesh side) partner first h.partners.second h.at_start) start.same in
+    let as_these : (corner other this that : Side) → corner ≡ this → other ≡ that → get_or twice (side_number mesh this) 0 ≡ get_or twice (side_number mesh that) 0
+    → get_or twice (side_number mesh corner) 0 ≡ get_or twice (side_number mesh other) 0 =
+    λ corner other this that is_this is_that same.
+    ap (λ s. get_or twice (side_number mesh s) 0) is_this ∙ same ∙ ap (λ s. get_or twice (side_number mesh s) 0) (sym is_that) in
+    record {
+      count = end.count;
+      joined = λ v corner other from to.
+          elim (corner_end mesh v side corner from) [
+            | inl at ↦
+                as_these corner other side first (one_corner mesh v side corner side valid h.partners.first from (inl (at, refl)))
+                (one_corner mesh v partner other first valid h.partners.second to (subst (λ u. IsCornerOfSide mesh u partner first) at h.at_start)) start_same
+            | inr at ↦
+                as_these corner other (side_after mesh side) last (one_corner mesh v side corner (side_after mesh side) valid h.partners.first from (inr (at, refl)))
+                (one_corner mesh v partner other last valid h.partners.second to (subst (λ u. IsCornerOfSide mesh u partner last) at h.at_end)) end.same
+          ];
+      kept = λ x y l k same. end.kept x y (omega (arith, size, l)) (omega (arith, size, k)) (start.kept x y l k same);
+      steps = λ only. end.steps (start.steps only);
+    }
+
+-- partners that start at one vertex end at one
+corners_alike : (mesh : FaceList) (side partner : Side) → IsFaceList mesh → ArePartners mesh side partner → tail_of mesh side ≡ tail_of mesh partner
+    → HasCornersAcross mesh side partner partner (side_after mesh partner)
+corners_alike mesh side partner valid partners same = record {
+  partners = partners;
+  at_start = inl (sym same, refl);
+  at_end = elim partners.one_edge [
+    | inl e ↦ inr (sym e.1, refl)
+    | inr e ↦ absurd (ends_differ mesh partner valid partners.second (sym same ∙ e.0))
+  ];
+}
+
+-- other partners start where the other ends
+corners_opposite : (mesh : FaceList) (side partner : Side) → ArePartners mesh side partner → (tail_of mesh side ≡ tail_of mesh partner → ⊥)
+    → HasCornersAcross mesh side partner (side_after mesh partner) partner
+corners_opposite mesh side partner partners other =
+    elim partners.one_edge [
+      | inl e ↦ absurd (other e.0)
+      | inr e ↦ record { partners = partners; at_start = inr (sym e.0, refl); at_end = inl (sym e.1, refl) }
+    ]
+
+-- the numbers of the corners of a side and of its partner, as they are read
+pub record AreCornersRead (mesh : FaceList) (side : Side) (start end : ℕ) : Type 0 where
+  pub start_is : start ≡ side_number mesh side
+  pub end_is : end ≡ side_number mesh (side_after mesh side)
+
+pub joined_alike : (mesh : FaceList) (least once twice : List ℕ) (side partner : Side) (a b c d : ℕ) → IsFaceList mesh → length least ≡ total_sides mesh → ArePartners mesh side partner
+    → tail_of mesh side ≡ tail_of mesh partner → AreCornersRead mesh side a b → AreCornersRead mesh partner c d → once ≡ joined_at least a c → twice ≡ joined_at once b d
+    → AreMadeJoined mesh least twice side partner
+joined_alike mesh least once twice side partner a b c d valid count partners same here there is_once is_twice =
+    rw (is_twice, is_once, here.start_is, here.end_is, there.start_is, there.end_is)
+    (made_joined mesh least side partner partner (side_after mesh partner) valid count (corners_alike mesh side partner valid partners same))
+
+pub joined_opposite : (mesh : FaceList) (least once twice : List ℕ) (side partner : Side) (a b c d : ℕ) → IsFaceList mesh → length least ≡ total_sides mesh → ArePartners mesh side partner
+    → (tail_of mesh side ≡ tail_of mesh partner → ⊥) → AreCornersRead mesh side a b → AreCornersRead mesh partner c d → once ≡ joined_at least a d → twice ≡ joined_at once b c
+    → AreMadeJoined mesh least twice side partner
+joined_opposite mesh least once twice side partner a b c d valid count partners other here there is_once is_twice =
+    rw (is_twice, is_once, here.start_is, here.end_is, there.start_is, there.end_is)
+    (made_joined mesh least side partner (side_after mesh partner) partner valid count (corners_opposite mesh side partner partners other))
+
+-- of the sides with numbers below n partners are joined across, and equal entries come by steps alone
+pub record JoinsSidesUpTo (mesh : FaceList) (least : List ℕ) (n : ℕ) : Type 0 where
   pub count : length least ≡ total_sides mesh
-  pub joined : JoinsOnlyBySteps (IsSide mesh) (side_number mesh) (IsCornerStep mesh) least
-  pub done : (j : ℕ) → j < k → HasCornersJoined mesh least (edge_in table j)
+  pub joined : JoinsOnlyByCornerSteps mesh least
+  pub done : (side partner : Side) → ArePartners mesh side partner → side_number mesh side < n → side_number mesh partner < n → IsJoinedAcross mesh least side partner
 
-pub corners_none : (mesh : FaceList) (table : List Edge) (least : List ℕ) → least ≡ range_with_len 0 (total_sides mesh) → JoinsCornersUpTo mesh table least 0
-corners_none mesh table least is =
-    let joined : JoinsOnlyBySteps (IsSide mesh) (side_number mesh) (IsCornerStep mesh) (range_with_len 0 (total_sides mesh)) =
+pub sides_none : (mesh : FaceList) (least : List ℕ) → least ≡ range_with_len 0 (total_sides mesh) → JoinsSidesUpTo mesh least 0
+sides_none mesh least is =
+    let alone : JoinsOnlyByCornerSteps mesh (range_with_len 0 (total_sides mesh)) =
     joins_only-alone (IsSide mesh) (side_number mesh) (IsCornerStep mesh) (total_sides mesh) (number_below mesh) (number_once mesh) in
     record {
       count = ap (λ (l : List ℕ). length l) is ∙ length-range_with_len 0 (total_sides mesh);
-      joined = subst (JoinsOnlyBySteps (IsSide mesh) (side_number mesh) (IsCornerStep mesh)) (sym is) joined;
-      done = λ j l. absurd (omega arith);
+      joined = subst (JoinsOnlyByCornerSteps mesh) (sym is) alone;
+      done = λ side partner partners l. absurd (omega arith);
     }
 
--- corners of partners at a vertex are made one class
-joins_across : (mesh : FaceList) (least : List ℕ) (v : ℕ) (side partner : Side) (a b : ℕ) → length least ≡ total_sides mesh
-    → JoinsOnlyBySteps (IsSide mesh) (side_number mesh) (IsCornerStep mesh) least → ArePartners mesh side partner
-    → IsCornerNumber mesh v side a → IsCornerNumber mesh v partner b
-    → JoinsOnlyBySteps (IsSide mesh) (side_number mesh) (IsCornerStep mesh) (joined_at least a b)
-joins_across mesh least v side partner a b count h partners is_a is_b =
-    subst (λ x. JoinsOnlyBySteps (IsSide mesh) (side_number mesh) (IsCornerStep mesh) (joined_at least x b)) (sym is_a.number)
-    (subst (λ x. JoinsOnlyBySteps (IsSide mesh) (side_number mesh) (IsCornerStep mesh) (joined_at least (side_number mesh is_a.corner) x)) (sym is_b.number)
-    (joins_only-joined_at (IsSide mesh) (side_number mesh) (IsCornerStep mesh) least is_a.corner is_b.corner h
-    (λ x is. omega (arith, count, number_below mesh x is)) is_a.in_mesh is_b.in_mesh
-    (step_across mesh v side partner is_a.corner is_b.corner partners is_a.of_side is_b.of_side)
-    (step_across mesh v partner side is_b.corner is_a.corner (partners_swap mesh side partner partners) is_b.of_side is_a.of_side)))
+pub sides_fewer : (mesh : FaceList) (least : List ℕ) (m n : ℕ) → m ≤ n → JoinsSidesUpTo mesh least n → JoinsSidesUpTo mesh least m
+sides_fewer mesh least m n few h = record {
+  count = h.count;
+  joined = h.joined;
+  done = λ side partner partners l k. h.done side partner partners (omega (arith, l)) (omega (arith, k));
+}
 
-number_within : (mesh : FaceList) (least : List ℕ) (v : ℕ) (side corner : Side) → length least ≡ total_sides mesh → IsSide mesh side → IsCornerOfSide mesh v side corner
-    → side_number mesh corner < length least
-number_within mesh least v side corner count is h = omega (arith, count, number_below mesh corner (corner_in_mesh mesh v side corner is h))
+joined_swap : (mesh : FaceList) (least : List ℕ) (side partner : Side) → IsJoinedAcross mesh least side partner → IsJoinedAcross mesh least partner side
+joined_swap mesh least side partner h = λ v corner other from to. sym (h v other corner to from)
 
--- joins elsewhere keep what is joined
-joined_keeps : (mesh : FaceList) (least : List ℕ) (edge : Edge) (a b : ℕ) → length least ≡ total_sides mesh → HasTwoSides mesh edge → HasCornersJoined mesh least edge
-    → HasCornersJoined mesh (joined_at least a b) edge
-joined_keeps mesh least edge a b count two h v corner other is_corner is_other =
-    joined_at_keeps least a b (side_number mesh corner) (side_number mesh other) (number_within mesh least v (side_in edge 0) corner count two.first.side_of is_corner)
-    (number_within mesh least v (side_in edge 1) other count two.second.side_of is_other) (h v corner other is_corner is_other)
+-- what is joined across stays so
+joined_stays : (mesh : FaceList) (old new : List ℕ) (side partner : Side) → length old ≡ total_sides mesh → KeepsJoined old new → ArePartners mesh side partner
+    → IsJoinedAcross mesh old side partner → IsJoinedAcross mesh new side partner
+joined_stays mesh old new side partner count kept partners h v corner other from to =
+    kept (side_number mesh corner) (side_number mesh other) (omega (arith, count, number_below mesh corner (corner_in_mesh mesh v side corner partners.first from)))
+    (omega (arith, count, number_below mesh other (corner_in_mesh mesh v partner other partners.second to))) (h v corner other from to)
 
-pub corners_more : (mesh : FaceList) (table : List Edge) (least : List ℕ) (k a b c d : ℕ) → IsFaceList mesh → IsTableOf mesh table → EachEdgeHasTwoSides mesh → k < length table
-    → IsCornerNumber mesh (edge_in table k).low (side_in (edge_in table k) 0) a → IsCornerNumber mesh (edge_in table k).low (side_in (edge_in table k) 1) b
-    → IsCornerNumber mesh (edge_in table k).high (side_in (edge_in table k) 0) c → IsCornerNumber mesh (edge_in table k).high (side_in (edge_in table k) 1) d
-    → JoinsCornersUpTo mesh table least k → JoinsCornersUpTo mesh table (joined_at (joined_at least a b) c d) (k + 1)
-corners_more mesh table least k a b c d valid h each l is_a is_b is_c is_d upto =
-    let edge : Edge = edge_in table k in
-    let two : HasTwoSides mesh edge = two_sides_of mesh table k h each l in
-    let once : List ℕ = joined_at least a b in
-    let twice : List ℕ = joined_at once c d in
-    let once_count : length once ≡ total_sides mesh = length-joined_at least a b ∙ upto.count in
-    let within : (n v : ℕ) (side : Side) → IsCornerNumber mesh v side n → n < total_sides mesh = λ n v side is. omega (arith, is.number, number_below mesh is.corner is.in_mesh) in
-    let once_low : get_or once a 0 ≡ get_or once b 0 =
-    joined_at_ends least a b (omega (arith, upto.count, within a _ _ is_a)) (omega (arith, upto.count, within b _ _ is_b)) in
-    let twice_low : get_or twice a 0 ≡ get_or twice b 0 =
-    joined_at_keeps once c d a b (omega (arith, once_count, within a _ _ is_a)) (omega (arith, once_count, within b _ _ is_b)) once_low in
-    let twice_high : get_or twice c 0 ≡ get_or twice d 0 =
-    joined_at_ends once c d (omega (arith, once_count, within c _ _ is_c)) (omega (arith, once_count, within d _ _ is_d)) in
-    let one_number : (n w v : ℕ) (side corner : Side) → IsSideOfEdge mesh edge side → v ≡ w → IsCornerNumber mesh w side n → IsCornerOfSide mesh v side corner → side_number mesh corner ≡ n =
-    λ n w v side corner is at number of_side.
-    sym (one_corner_number mesh w side n corner valid is.side_of number (subst (λ x. IsCornerOfSide mesh x side corner) at of_side)) in
-    let here : HasCornersJoined mesh twice edge =
-    λ v corner other is_corner is_other.
-    elim (end_cases mesh edge.low edge.high v (side_in edge 0) two.first.ends (corner_end mesh v (side_in edge 0) corner is_corner)) [
-      | inl low ↦
-          ap (λ n. get_or twice n 0) (one_number a edge.low v (side_in edge 0) corner two.first low is_a is_corner) ∙ twice_low
-          ∙ ap (λ n. get_or twice n 0) (sym (one_number b edge.low v (side_in edge 1) other two.second low is_b is_other))
-      | inr high ↦
-          ap (λ n. get_or twice n 0) (one_number c edge.high v (side_in edge 0) corner two.first high is_c is_corner) ∙ twice_high
-          ∙ ap (λ n. get_or twice n 0) (sym (one_number d edge.high v (side_in edge 1) other two.second high is_d is_other))
+-- the side with number n is passed, and is joined with its partner where that has been passed before
+sides_more : (mesh : FaceList) (old new : List ℕ) (side : Side) (n next : ℕ) → IsSide mesh side → n ≡ side_number mesh side → (found : HasPartner mesh side next)
+    → JoinsSidesUpTo mesh old n → length new ≡ total_sides mesh → KeepsJoined old new → JoinsOnlyByCornerSteps mesh new
+    → (next < n → IsJoinedAcross mesh new side found.partner) → JoinsSidesUpTo mesh new (n + 1)
+sides_more mesh old new side n next is number found h count kept joined here =
+    let at_side : (partner : Side) → ArePartners mesh side partner → side_number mesh partner < n + 1 → IsJoinedAcross mesh new side partner =
+    λ partner partners l.
+    let same : partner ≡ found.partner = found.only partner partners in
+    let passed : side_number mesh partner < n =
+    elim (cases_eq (side_number mesh partner) n) [
+      | inl e ↦ absurd (partners.different (number_once mesh side partner is partners.second (sym number ∙ sym e)))
+      | inr e ↦ omega (arith, l, e)
     ] in
+    subst (IsJoinedAcross mesh new side) (sym same) (here (omega (arith, passed, ap (side_number mesh) same, found.number))) in
     record {
-      count = length-joined_at once c d ∙ once_count;
-      joined = joins_across mesh once edge.high (side_in edge 0) (side_in edge 1) c d once_count
-          (joins_across mesh least edge.low (side_in edge 0) (side_in edge 1) a b upto.count upto.joined two.partners is_a is_b) two.partners is_c is_d;
-      done = below_more _ _
-          (λ j less.
-          let old : HasTwoSides mesh (edge_in table j) = two_sides_of mesh table j h each (omega arith) in
-          joined_keeps mesh once (edge_in table j) c d once_count old (joined_keeps mesh least (edge_in table j) a b upto.count old (upto.done j less)))
-          here;
+      count = count;
+      joined = joined;
+      done = λ one other partners l k.
+          elim (cases_eq (side_number mesh one) n) [
+            | inl e ↦
+                (let same : side ≡ one = number_once mesh side one is partners.first (sym number ∙ sym e) in
+                subst (λ s. IsJoinedAcross mesh new s other) same (at_side other (subst (λ s. ArePartners mesh s other) (sym same) partners) k))
+            | inr e ↦ elim (cases_eq (side_number mesh other) n) [
+              | inl f ↦
+                  (let same : side ≡ other = number_once mesh side other is partners.second (sym number ∙ sym f) in
+                  joined_swap mesh new other one
+                  (subst (λ s. IsJoinedAcross mesh new s one) same
+                  (at_side one (subst (λ s. ArePartners mesh s one) (sym same) (partners_swap mesh one other partners)) l)))
+              | inr f ↦ joined_stays mesh old new one other h.count kept partners (h.done one other partners (omega (arith, l, e)) (omega (arith, k, f)))
+            ]
+          ];
     }
 
-pub corners_all : (mesh : FaceList) (table : List Edge) (least : List ℕ) (k : ℕ) → IsTableOf mesh table → EachEdgeHasTwoSides mesh → length table ≤ k
-    → JoinsCornersUpTo mesh table least k → AreRings mesh least
-corners_all mesh table least k h each l upto = record {
-  joined = upto.joined;
+-- its partner has not been passed
+pub side_passed : (mesh : FaceList) (least : List ℕ) (side : Side) (n next : ℕ) → IsSide mesh side → n ≡ side_number mesh side → HasPartner mesh side next → n ≤ next
+    → JoinsSidesUpTo mesh least n → JoinsSidesUpTo mesh least (n + 1)
+side_passed mesh least side n next is number found later h =
+    sides_more mesh least least side n next is number found h h.count (λ x y l k same. same) h.joined (λ less. absurd (omega (arith, later, less)))
+
+-- its partner has, and they are joined
+pub side_joined : (mesh : FaceList) (old new : List ℕ) (side partner : Side) (n next : ℕ) → IsSide mesh side → n ≡ side_number mesh side → HasPartner mesh side next
+    → AreMadeJoined mesh old new side partner → ArePartners mesh side partner
+    → JoinsSidesUpTo mesh old n → JoinsSidesUpTo mesh new (n + 1)
+side_joined mesh old new side partner n next is number found made partners h =
+    sides_more mesh old new side n next is number found h made.count made.kept (made.steps h.joined)
+    (λ less. subst (IsJoinedAcross mesh new side) (found.only partner partners) made.joined)
+
+pub sides_all : (mesh : FaceList) (least : List ℕ) (n : ℕ) → total_sides mesh ≤ n → JoinsSidesUpTo mesh least n → AreRings mesh least
+sides_all mesh least n all h = record {
+  joined = h.joined;
   steps = λ corner other step.
-      let found : AreInOneEdge table step.side step.partner = edge_of_partners mesh table step.side step.partner h step.partners in
-      let edge : Edge = edge_in table found.edge in
-      let two : HasTwoSides mesh edge = two_sides_of mesh table found.edge h each found.in_table in
-      let v : ℕ = tail_of mesh corner in
-      let done : HasCornersJoined mesh least edge = upto.done found.edge (omega (arith, found.in_table)) in
-      let from : (side : Side) → side ≡ step.side → IsCornerOfSide mesh v side corner = λ side is. subst (λ x. IsCornerOfSide mesh v x corner) (sym is) step.from in
-      let to : (side : Side) → side ≡ step.partner → IsCornerOfSide mesh v side other = λ side is. subst (λ x. IsCornerOfSide mesh v x other) (sym is) step.to in
-      elim (first_or_second edge step.side two.two found.first) [
-        | inl is_first ↦ elim (first_or_second edge step.partner two.two found.second) [
-          | inl same ↦ absurd (step.partners.different (sym is_first ∙ same))
-          | inr is_second ↦ done v corner other (from (side_in edge 0) is_first) (to (side_in edge 1) is_second)
-        ]
-        | inr is_second ↦ elim (first_or_second edge step.partner two.two found.second) [
-          | inl is_first ↦ sym (done v other corner (to (side_in edge 0) is_first) (from (side_in edge 1) is_second))
-          | inr same ↦ absurd (step.partners.different (sym is_second ∙ same))
-        ]
-      ];
+      h.done step.side step.partner step.partners (omega (arith, all, number_below mesh step.side step.partners.first))
+      (omega (arith, all, number_below mesh step.partner step.partners.second)) (tail_of mesh corner) corner other step.from step.to;
 }

@@ -13,6 +13,11 @@ joined_at least x y =
     let b = slice_index least y in
     map (renamed (max a b) (min a b)) least
 
+-- numbers of one class stay in one class
+abbrev pub KeepsJoined : List ℕ → List ℕ → Type 0
+KeepsJoined old new =
+    (x y : ℕ) → x < length old → y < length old → slice_index old x ≡ slice_index old y → slice_index new x ≡ slice_index new y
+
 -- each number has a member of its own class, which is not greater, and which has itself
 pub record AreLeastMembers (least : List ℕ) : Type 0 where
   pub lesser : (x : ℕ) → x < length least → slice_index least x ≤ x

@@ -1,23 +1,17 @@
--- The link of a vertex, as its rings are met one by one, each at its least corner.
+-- Corners in one class across an edge; and the link of a vertex, as its rings are met one by one, each at its least corner.
 use Rattle.std.specs.Prelude.{◌≡◌, ◌≢◌, ℕ, ◌<◌, List, length, slice_index, slice_index_or}
 use Rattle.surf_model.specs.FaceLists.{FaceList, total_sides}
-use Rattle.surf_model.specs.Edges.{Edge}
-use Rattle.surf_model.specs.Darts.{IsSide, side_number}
+use Rattle.surf_model.specs.Darts.{side_number}
 use Rattle.surf_model.specs.Surfaces.{IsCornerAt, IsCornerOfSide}
 use Rattle.surf_model.specs.declared.edges.Side.{Side}
 use Rattle.manifold_check.specs.declared.links.Link.{Link}
 use Rattle.manifold_check.specs.declared.links.Link.TheVariants.{NoRing, OneRing, Pinched}
 
--- the number of the corner that a side has at one of its ends
-pub record IsCornerNumber (mesh : FaceList) (v : ℕ) (side : Side) (n : ℕ) : Type 0 where
-  pub corner : Side
-  pub in_mesh : IsSide mesh corner
-  pub of_side : IsCornerOfSide mesh v side corner
-  pub number : n ≡ side_number mesh corner
-
--- side k of an edge
-abbrev pub side_in : Edge → ℕ → Side
-side_in edge k = slice_index_or edge.sides k (record { face = record { 0 = 0 }; at = 0 })
+-- once a side has been joined with its partner: at each vertex the corner of the side and that of the partner are in one class
+abbrev pub IsJoinedAcross : FaceList → List ℕ → Side → Side → Type 0
+IsJoinedAcross mesh least side partner =
+    (v : ℕ) (corner other : Side) → IsCornerOfSide mesh v side corner → IsCornerOfSide mesh v partner other
+    → slice_index least (side_number mesh corner) ≡ slice_index least (side_number mesh other)
 
 -- a link, once a ring more is met
 abbrev pub with_ring : Link → Link

@@ -28,6 +28,10 @@ AreComponents mesh least = IsPartition (λ v. v < mesh.count) (λ v. v) (IsEdgeS
 abbrev pub IsCornerStep : FaceList → Side → Side → Type 0
 IsCornerStep mesh corner other = IsStepAround mesh (tail_of mesh corner) corner other
 
+-- corners have equal entries, by their numbers, only where steps round a vertex join them
+abbrev pub JoinsOnlyByCornerSteps : FaceList → List ℕ → Type 0
+JoinsOnlyByCornerSteps mesh least = JoinsOnlyBySteps (IsSide mesh) (side_number mesh) (IsCornerStep mesh) least
+
 -- corners have equal entries, by their numbers, where they are in one ring
 abbrev pub AreRings : FaceList → List ℕ → Type 0
 AreRings mesh least = IsPartition (IsSide mesh) (side_number mesh) (IsCornerStep mesh) least

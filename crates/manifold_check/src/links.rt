@@ -1,18 +1,18 @@
 //! Whether the corners at each used vertex make one ring.
-ghost use Rattle.std.specs.Prelude.{◌≡◌, ◌⊎◌, ◌<◌, ◌≤◌, ℕ, length, slice_set, IfOk, IfSome, IfNone, MatchOption};
+ghost use Rattle.std.specs.Prelude.{◌≡◌, ◌<◌, ◌≤◌, ℕ, length, slice_set, IfOk, IfSome, IfNone, MatchOption};
 ghost use Rattle.surf_model.specs.FaceLists.{IsFaceList, total_sides};
 ghost use Rattle.surf_model.specs.Edges.{IsTableOf};
-ghost use Rattle.surf_model.specs.Darts.{IsSide, tail_of, head_of};
-ghost use Rattle.surf_model.specs.Surfaces.{EachEdgeHasTwoSides};
+ghost use Rattle.surf_model.specs.Darts.{IsSide, side_number, side_after};
+ghost use Rattle.surf_model.specs.Surfaces.{EachEdgeHasTwoSides, ArePartners};
 ghost use Rattle.manifold_check.specs.Faults.{EachVertexHasOneRing, IsLeastPinch};
-ghost use Rattle.manifold_check.specs.Partitions.{AreRings};
-ghost use Rattle.manifold_check.specs.Classes.{AreLeastMembers};
-ghost use Rattle.manifold_check.specs.Links.{IsCornerNumber, AreLinks, IsFirstPinched, with_ring, link_at};
+ghost use Rattle.manifold_check.specs.Partitions.{AreRings, JoinsOnlyByCornerSteps};
+ghost use Rattle.manifold_check.specs.Classes.{AreLeastMembers, KeepsJoined};
+ghost use Rattle.manifold_check.specs.Links.{IsJoinedAcross, AreLinks, IsFirstPinched, with_ring, link_at};
 ghost use Rattle.surf_model.specs.declared.limits.TheConstants.{MOST_VERTICES};
 
 use crate::classes::Classes;
 use std::alloc::{AllocError, Global};
-use surf_model::{DartName, EdgeName, Faces, Side, Sides, VertexName};
+use surf_model::{DartName, FaceName, Faces, Side, Sides, VertexName};
 
 /// How many rings are met at a vertex.
 #[derive(Clone, Copy, PartialEq, Eq)]
@@ -61,33 +61,53 @@ fn rings(alloc: Global, faces: &Faces, sides: &Sides) -> Result<Vec<u32>, AllocE
     ensures least { IfOk result (λ rings. AreLeastMembers rings.items) }
 {
     let mut corners = Classes::new(alloc, faces.total())?;
-    for edge in 0..sides.len() {
-        let edge = EdgeName(edge);
-        let (low, high) = sides.ends(edge);
-        let side = sides.side(edge, 0);
-        let partner = sides.side(edge, 1);
-        let at_low = corner_of(faces, side, low);
-        let across_low = corner_of(faces, partner, low);
-        corners.join(at_low, across_low);
-        let at_high = corner_of(faces, side, high);
-        let across_high = corner_of(faces, partner, high);
-        corners.join(at_high, across_high);
+    for face in 0..faces.len() {
+        let face = FaceName(face);
+        for at in 0..faces.sides(face) {
+            let side = Side { face, at };
+            let dart = faces.dart(side);
+            let other = sides.other(dart);
+            // Each edge is joined once, at the later of its two sides, so that only the partner is looked up far away.
+            if other.0 < dart.0 {
+                join_across(&mut corners, faces, side, faces.side_at(other));
+            }
+        }
     }
     Ok(corners.into_least())
 }
 
-/// The number of the corner that a side has at a vertex where it starts or ends.
-fn corner_of(faces: &Faces, side: Side, vertex: VertexName) -> u32
-    requires side { IsSide faces.now side }
-    requires end { (tail_of faces.now side ≡ vertex.0) ⊎ (head_of faces.now side ≡ vertex.0) }
-    ensures corner { IsCornerNumber faces.now vertex.0 side result }
-    ensures below { result < total_sides faces.now }
+/// Joins the corners of a side with those of its partner: at each end of their edge the two that stand there.
+fn join_across(corners: &mut Classes, faces: &Faces, side: Side, partner: Side)
+    requires valid { IsFaceList faces.now }
+    requires partners { ArePartners faces.now side partner }
+    requires count { length corners.old ≡ total_sides faces.now }
+    ensures count { length corners.new ≡ total_sides faces.now }
+    ensures joined { IsJoinedAcross faces.now corners.new side partner }
+    ensures kept { KeepsJoined corners.old corners.new }
+    ensures steps { JoinsOnlyByCornerSteps faces.now corners.old → JoinsOnlyByCornerSteps faces.now corners.new }
 {
-    if faces.corner(side.face, side.at) == vertex {
-        faces.dart(side).0
+    let (start, end) = ends_of(faces, side);
+    let (partner_start, partner_end) = ends_of(faces, partner);
+    if faces.corner(side.face, side.at) == faces.corner(partner.face, partner.at) {
+        corners.join(start, partner_start);
+        corners.join(end, partner_end);
     } else {
-        faces.dart(faces.after(side)).0
+        corners.join(start, partner_end);
+        corners.join(end, partner_start);
     }
+}
+
+/// The numbers of the two corners of a side: the one where it starts, and the one where it ends.
+fn ends_of(faces: &Faces, side: Side) -> (u32, u32)
+    requires { IsSide faces.now side }
+    ensures start { result.0 ≡ side_number faces.now side }
+    ensures end { result.1 ≡ side_number faces.now (side_after faces.now side) }
+    ensures start_below { result.0 < total_sides faces.now }
+    ensures end_below { result.1 < total_sides faces.now }
+{
+    let start = faces.dart(side).0;
+    let end = faces.dart(faces.after(side)).0;
+    (start, end)
 }
 
 /// The link of each vertex. Each ring is met at its least corner.

@@ -1,81 +1,72 @@
-use Rattle.std.proofs.Common.{◌+◌, ℕ, List, ap, sym, ◌∙◌, subst, arith}
+use Rattle.std.proofs.Common.{◌≡◌, ◌+◌, ℕ, List, refl, ap, sym, ◌∙◌, subst, arith}
 use Rattle.std.specs.List.{range_with_len}
-use Rattle.surf_model.specs.Edges.{edge_in}
-use Rattle.manifold_check.specs.Classes.{joined_at}
+use Rattle.surf_model.specs.Darts.{first_side, IsSide}
+use Rattle.surf_model.specs.declared.edges.Side.{Side}
+use Rattle.surf_model.proofs.SideNumberLemmas.{first_side-more, first_side-all}
 use Rattle.manifold_check.specs.Partitions.{AreRings}
-use Rattle.manifold_check.proofs.RingLemmas.{two_sides_of, side_as_read, number_as_read, low_end_as_read, high_end_as_read, JoinsCornersUpTo, corners_none, corners_more, corners_all}
+use Rattle.manifold_check.proofs.RingLemmas.{HasPartner, AreMadeJoined, has_partner, partners_by_number, JoinsSidesUpTo, sides_none, sides_fewer, side_passed, side_joined, sides_all}
 use Rattle.manifold_check.proofs.links.rings.Goals as goal
+use Rattle.manifold_check.proofs.links.rings.Goals.{then-other-dart, else-other-dart}
 
-pub loop-edge-init : goal.loop-edge-init
-loop-edge-init c =
-    corners_none c.args.faces.now c.args.sides.now c.in_ok-corners.corners (c.in_ok-corners.ensures ∙ ap (range_with_len 0) c.total.ensures)
+pub loop-face-init : goal.loop-face-init
+loop-face-init c = sides_none c.args.faces.now c.in_ok-corners.corners (c.in_ok-corners.ensures ∙ ap (range_with_len 0) c.total.ensures)
 
-pub side-partner-requires-clause-side : goal.side-partner-requires-clause-side
-side-partner-requires-clause-side c =
-    let two = two_sides_of c.args.faces.now c.args.sides.now c.loop-edge.edge c.requires.table c.requires.two (omega arith) in
-    omega (arith, two.two)
-
-pub corner_of-at_low-requires-clause-side : goal.corner_of-at_low-requires-clause-side
-corner_of-at_low-requires-clause-side c =
+pub loop-at-init : goal.loop-at-init
+loop-at-init c =
     let mesh = c.args.faces.now in
-    let edge = edge_in c.args.sides.now c.loop-edge.edge in
-    let two = two_sides_of mesh c.args.sides.now c.loop-edge.edge c.requires.table c.requires.two (omega arith) in
-    (side_as_read mesh edge 0 c.side-side.result c.side-side.ensures two.first).side_of
+    sides_fewer mesh c.loop-face.corners (first_side mesh c.loop-face.face + 0) (first_side mesh c.loop-face.face) (omega arith) c.loop-face.invariant
 
-pub corner_of-at_low-requires-clause-end : goal.corner_of-at_low-requires-clause-end
-corner_of-at_low-requires-clause-end c =
-    let mesh = c.args.faces.now in
-    let edge = edge_in c.args.sides.now c.loop-edge.edge in
-    let two = two_sides_of mesh c.args.sides.now c.loop-edge.edge c.requires.table c.requires.two (omega arith) in
-    low_end_as_read mesh edge c.ends.result.0.0 c.side-side.result c.ends.ensures.low (side_as_read mesh edge 0 c.side-side.result c.side-side.ensures two.first)
+-- the side at hand
+abbrev at_hand : ℕ → ℕ → Side
+at_hand face at = record { face = record { 0 = face }; at = at }
 
-pub corner_of-across_low-requires-clause-side : goal.corner_of-across_low-requires-clause-side
-corner_of-across_low-requires-clause-side c =
+pub join_across-requires-clause-partners : goal.join_across-requires-clause-partners
+join_across-requires-clause-partners c =
     let mesh = c.args.faces.now in
-    let edge = edge_in c.args.sides.now c.loop-edge.edge in
-    let two = two_sides_of mesh c.args.sides.now c.loop-edge.edge c.requires.table c.requires.two (omega arith) in
-    (side_as_read mesh edge 1 c.side-partner.result c.side-partner.ensures two.second).side_of
+    let side : Side = at_hand c.loop-face.face c.loop-at.at in
+    let next : ℕ = c.other-other.result.0 in
+    let found : HasPartner mesh side next =
+    has_partner mesh c.args.sides.now side c.dart-dart.result.0 next c.requires.table c.requires.two (record { face = omega arith; place = omega arith })
+    c.dart-dart.ensures.number (c.other-other.ensures mesh c.requires.table) in
+    partners_by_number mesh side c.side_at.result next found c.side_at.ensures.side c.side_at.ensures.number
 
-pub corner_of-across_low-requires-clause-end : goal.corner_of-across_low-requires-clause-end
-corner_of-across_low-requires-clause-end c =
+pub loop-at-preserved : goal.loop-at-preserved
+loop-at-preserved c =
     let mesh = c.args.faces.now in
-    let edge = edge_in c.args.sides.now c.loop-edge.edge in
-    let two = two_sides_of mesh c.args.sides.now c.loop-edge.edge c.requires.table c.requires.two (omega arith) in
-    low_end_as_read mesh edge c.ends.result.0.0 c.side-partner.result c.ends.ensures.low (side_as_read mesh edge 1 c.side-partner.result c.side-partner.ensures two.second)
+    let side : Side = at_hand c.loop-face.face c.loop-at.at in
+    let n : ℕ = first_side mesh c.loop-face.face + c.loop-at.at in
+    let next : ℕ = c.other-other.result.0 in
+    let is : IsSide mesh side = record { face = omega arith; place = omega arith } in
+    let found : HasPartner mesh side next =
+    has_partner mesh c.args.sides.now side c.dart-dart.result.0 next c.requires.table c.requires.two is c.dart-dart.ensures.number (c.other-other.ensures mesh c.requires.table) in
+    let number : c.dart-dart.result.0 ≡ n = c.dart-dart.ensures.number in
+    let more : JoinsSidesUpTo mesh c.if-other-dart.corners (n + 1) =
+    elim c.if-other-dart.branch [
+      | then-other-dart w ↦
+          (let made : AreMadeJoined mesh c.loop-at.corners w.join_across.new.corners side w.side_at.result = record {
+            count = w.join_across.ensures.count;
+            joined = w.join_across.ensures.joined;
+            kept = w.join_across.ensures.kept;
+            steps = w.join_across.ensures.steps;
+          } in
+          subst (λ (least : List ℕ). JoinsSidesUpTo mesh least (n + 1)) (sym w.corners-is)
+          (side_joined mesh c.loop-at.corners w.join_across.new.corners side w.side_at.result n next is refl found made
+          (partners_by_number mesh side w.side_at.result next found w.side_at.ensures.side w.side_at.ensures.number) c.loop-at.invariant))
+      | else-other-dart w ↦
+          subst (λ (least : List ℕ). JoinsSidesUpTo mesh least (n + 1)) (sym w.corners-is)
+          (side_passed mesh c.loop-at.corners side n next is refl found (omega (arith, number, w.if-other-dart.false)) c.loop-at.invariant)
+    ] in
+    sides_fewer mesh c.if-other-dart.corners (first_side mesh c.loop-face.face + (c.loop-at.at + 1)) (n + 1) (omega arith) more
 
-pub corner_of-at_high-requires-clause-end : goal.corner_of-at_high-requires-clause-end
-corner_of-at_high-requires-clause-end c =
+pub loop-face-preserved : goal.loop-face-preserved
+loop-face-preserved c =
     let mesh = c.args.faces.now in
-    let edge = edge_in c.args.sides.now c.loop-edge.edge in
-    let two = two_sides_of mesh c.args.sides.now c.loop-edge.edge c.requires.table c.requires.two (omega arith) in
-    high_end_as_read mesh edge c.ends.result.1.0 c.side-side.result c.ends.ensures.high (side_as_read mesh edge 0 c.side-side.result c.side-side.ensures two.first)
-
-pub corner_of-across_high-requires-clause-end : goal.corner_of-across_high-requires-clause-end
-corner_of-across_high-requires-clause-end c =
-    let mesh = c.args.faces.now in
-    let edge = edge_in c.args.sides.now c.loop-edge.edge in
-    let two = two_sides_of mesh c.args.sides.now c.loop-edge.edge c.requires.table c.requires.two (omega arith) in
-    high_end_as_read mesh edge c.ends.result.1.0 c.side-partner.result c.ends.ensures.high (side_as_read mesh edge 1 c.side-partner.result c.side-partner.ensures two.second)
-
-pub loop-edge-preserved : goal.loop-edge-preserved
-loop-edge-preserved c =
-    let mesh = c.args.faces.now in
-    let table = c.args.sides.now in
-    let edge = edge_in table c.loop-edge.edge in
-    subst (λ (least : List ℕ). JoinsCornersUpTo mesh table least (c.loop-edge.edge + 1))
-    (sym (c.join-in-loop-edge.ensures ∙ ap (λ (least : List ℕ). joined_at least c.corner_of-at_high.result c.corner_of-across_high.result) c.join.ensures))
-    (corners_more mesh table c.loop-edge.corners c.loop-edge.edge c.corner_of-at_low.result c.corner_of-across_low.result c.corner_of-at_high.result c.corner_of-across_high.result
-    c.requires.valid c.requires.table c.requires.two (omega arith)
-    (number_as_read mesh edge 0 c.side-side.result c.ends.result.0.0 edge.low _ c.side-side.ensures c.ends.ensures.low c.corner_of-at_low.ensures.corner)
-    (number_as_read mesh edge 1 c.side-partner.result c.ends.result.0.0 edge.low _ c.side-partner.ensures c.ends.ensures.low c.corner_of-across_low.ensures.corner)
-    (number_as_read mesh edge 0 c.side-side.result c.ends.result.1.0 edge.high _ c.side-side.ensures c.ends.ensures.high c.corner_of-at_high.ensures.corner)
-    (number_as_read mesh edge 1 c.side-partner.result c.ends.result.1.0 edge.high _ c.side-partner.ensures c.ends.ensures.high c.corner_of-across_high.ensures.corner)
-    c.loop-edge.invariant)
+    sides_fewer mesh c.loop-at.corners (first_side mesh (c.loop-face.face + 1)) (first_side mesh c.loop-face.face + c.loop-at.at)
+    (omega (arith, first_side-more mesh c.loop-face.face, c.sides-at-end.ensures)) c.loop-at.invariant
 
 pub returns-clause-rings : goal.returns-clause-rings
 returns-clause-rings c =
-    subst (AreRings c.args.faces.now) (sym c.into_least.ensures.members)
-    (corners_all c.args.faces.now c.args.sides.now c.loop-edge.corners c.loop-edge.edge c.requires.table c.requires.two (omega arith) c.loop-edge.invariant)
-
-pub returns-clause-least : goal.returns-clause-least
-returns-clause-least c = c.into_least.ensures.least
+    let mesh = c.args.faces.now in
+    subst (AreRings mesh) (sym c.into_least.ensures.members)
+    (sides_all mesh c.loop-face.corners (first_side mesh c.loop-face.face)
+    (omega (arith, first_side-all mesh c.loop-face.face (omega (arith, c.len-face-end.ensures.count)))) c.loop-face.invariant)

@@ -1,5 +1,10 @@
-use Rattle.manifold_check.proofs.RingLemmas.{JoinsCornersUpTo}
+use Rattle.std.proofs.Common.{◌+◌}
+use Rattle.surf_model.specs.Darts.{first_side}
+use Rattle.manifold_check.proofs.RingLemmas.{JoinsSidesUpTo}
 use Rattle.manifold_check.proofs.links.rings.Given as goal
 
-abbrev pub invariant-loop-edge : goal.invariant-loop-edge
-invariant-loop-edge l = JoinsCornersUpTo l.faces l.sides l.corners l.edge
+abbrev pub invariant-loop-face : goal.invariant-loop-face
+invariant-loop-face l = JoinsSidesUpTo l.faces l.corners (first_side l.faces l.face)
+
+abbrev pub invariant-loop-at : goal.invariant-loop-at
+invariant-loop-at l = JoinsSidesUpTo l.faces l.corners (first_side l.faces l.face.0 + l.at)
