@@ -1,14 +1,14 @@
 //! Reading turn words.
-ghost use Rattle.std.specs.Prelude.{◌≡◌, ◌⊎◌, ◌++◌, [], ◌∷◌, length, IsTrue, OnOk, MatchResult, Ok, Err};
+ghost use Rattle.std.specs.Prelude.{◌≡◌, ◌⊎◌, ◌++◌, [], ◌∷◌, length, IsTrue, OnOk, MatchResult, Ok, Err, nat_lt, if◌then◌else◌};
 ghost use Rattle.text_scan.specs.Lines.{is_filled};
-ghost use Rattle.walk_files.specs.declared.fault.WalkFault.TheVariants.{OutOfMemory};
+ghost use Rattle.walk_files.specs.declared.fault.WalkFault.TheVariants.{BadNumber, TooLong, OutOfMemory};
 ghost use Rattle.walk_files.specs.declared.limits.TheConstants.{MOST_ENTRIES};
 ghost use Rattle.walk_files.specs.NumberTexts.{words_of, entries_of, numbers_on};
 
 use crate::fault::WalkFault;
 use crate::limits::{MOST_ENTRIES, MOST_LINES};
 use crate::number_lines::NumberLines;
-use crate::numbers::{fault_of_line, number, number_of_word};
+use crate::numbers::{fault_of_line, number_of_word};
 use std::alloc::{AllocError, Global};
 use text_scan::Cursor;
 
@@ -51,17 +51,31 @@ fn read_entries(cursor: &mut Cursor<'_>, entries: &mut Vec<u32>) -> Result<(), W
         return Err(fault_of_line(cursor, room));
     };
     entries.push(first).map_err(AllocError::from)?;
-    while cursor.has_word() {
+    while let Some(value) = cursor.natural() {
         if room == 0 {
             return Err(WalkFault::TooLong {
                 line: cursor.line(),
             });
         }
         room -= 1;
-        let Some(entry) = number(cursor) else {
+        let Ok(entry) = u32::try_from(value) else {
             return Err(fault_of_line(cursor, room));
         };
         entries.push(entry).map_err(AllocError::from)?;
+    }
+    end_of_entries(cursor, room)
+}
+
+/// Ends the entries of a line, which may have `room` more. A word that is left is no natural, or it would be one of them,
+/// and is the fault of the line.
+fn end_of_entries(cursor: &mut Cursor<'_>, room: u64) -> Result<(), WalkFault>
+    ensures end { MatchResult result
+        (λ _. (cursor.old.words ≡ []) × (cursor.new ≡ cursor.old))
+        (λ fault. IsTrue (is_filled cursor.old.words)
+        × (fault ≡ (if nat_lt room (length cursor.old.words) then TooLong cursor.old.line else BadNumber cursor.old.line))) }
+{
+    if cursor.has_word() {
+        return Err(fault_of_line(cursor, room));
     }
     Ok(())
 }
