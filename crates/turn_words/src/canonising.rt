@@ -1,5 +1,5 @@
 //! The canonical word that a turn word reaches.
-ghost use Rattle.std.specs.Prelude.{◌≡◌, ℕ, ◌<◌, ◌≤◌, List, All, length, IfOk, MatchResult, MatchOption};
+ghost use Rattle.std.specs.Prelude.{◌≡◌, ◌⊎◌, ℕ, ◌<◌, ◌≤◌, List, All, Contains, length, IfOk, MatchResult, MatchOption};
 ghost use Rattle.turn_words.specs.Canonical.{IsCanonical, IsCanonicalOf, IsTurnWord};
 ghost use Rattle.turn_words.specs.Step_table.{Reaches};
 ghost use Rattle.turn_words.specs.Word_faults.{IsFirstAbove, IsWordFaultOf};
@@ -72,10 +72,26 @@ pub fn canonise<L: Ledger>(
 fn first_above(degree: u32, word: &[u32]) -> Option<usize>
     ensures { MatchOption result (All (λ entry. entry < degree) word.now) (IsFirstAbove degree word.now) }
 {
+    // Unlike the search, the look for the largest entry takes many entries at a time.
+    if largest(word) < degree {
+        return None;
+    }
     for (at, entry) in word.iter().enumerate() {
         if *entry >= degree {
             return Some(at);
         }
     }
     None
+}
+
+/// The largest entry, or 0 where there is none.
+fn largest(word: &[u32]) -> u32
+    ensures most { All (λ entry. entry ≤ result) word.now }
+    ensures some { result ≡ 0 ⊎ Contains word.now result }
+{
+    let mut largest = 0;
+    for entry in word {
+        largest = largest.max(*entry);
+    }
+    largest
 }

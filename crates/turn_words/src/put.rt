@@ -13,6 +13,7 @@ use std::alloc::AllocError;
 
 /// Puts a turn at the end of a canonical word, and notes the steps. The answer is the number by which the
 /// turn that comes next is changed. Where memory runs out the word is of no more use.
+#[inline(always)]
 pub(crate) fn put_turn<R: Recorder>(
     word: &mut Vec<u32>,
     degree: u32,
@@ -72,6 +73,7 @@ fn is_bracket_open(word: &[u32]) -> bool
 }
 
 /// Writes `x (-2)^k` at the end, the run of turns taken whole, as `(x + 1) 1 2^k`.
+#[inline(never)]
 fn flip_end<R: Recorder>(
     word: &mut Vec<u32>,
     degree: u32,
@@ -111,6 +113,7 @@ fn flip_end<R: Recorder>(
 }
 
 /// Writes `x 1 2^k` at the end as `(x - 1) (-2)^k`.
+#[inline(never)]
 fn close_bracket<R: Recorder>(
     word: &mut Vec<u32>,
     degree: u32,
