@@ -41,7 +41,7 @@ pub record IsOneIn (surface : OrientedMesh) (dart face chosen : ℕ) : Type 0 wh
 pub record IsFaceBelow (surface : OrientedMesh) (split : SplitView) (u v : ℕ) (step : FaceStep) : Type 0 where
   pub dart : ℕ
   pub from : IsDartFrom (rotations_of surface) u v dart
-  pub below : child_face split (edge_of surface dart) ≡ Some step.face.0
+  pub below : child_face (rotations_of surface) split (edge_of surface dart) ≡ Some step.face.0
   pub is_step : IsStepOf surface.mesh step
   pub starts : slice_index (face_at surface.mesh step.face.0) step.corner ≡ u
   pub ends :

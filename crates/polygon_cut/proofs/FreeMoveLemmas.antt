@@ -87,7 +87,7 @@ record BeginsBelow (s : OrientedMesh) (split : SplitView) (f corner : ℕ) (forw
   dart : ℕ
   within : dart < darts_of s
   inside : face_of s dart ≡ f
-  below : child_face split (edge_of s dart) ≡ Some f
+  below : child_face (rotations_of s) split (edge_of s dart) ≡ Some f
   one : taken ≡ 1
   way : ((forward ≡ dir s f) × (corner ≡ start_corner_of s dart)) ⊎ ((forward ≡ not (dir s f)) × (corner ≡ start_corner_of s (next_of s dart)))
 
@@ -134,7 +134,7 @@ begins_below s split o t f corner taken forward cross = elim (either forward (di
         dart = x;
         within = at.within;
         inside = at.inside;
-        below = ap (λ y. child_face split (edge_of s y)) same ∙ cross.below;
+        below = ap (λ y. child_face (rotations_of s) split (edge_of s y)) same ∙ cross.below;
         one = cross.one;
         way = inl (along, sym at.corner_is);
       }
@@ -155,7 +155,7 @@ begins_below s split o t f corner taken forward cross = elim (either forward (di
         dart = x;
         within = at.within;
         inside = at.inside;
-        below = ap (child_face split) same_edge ∙ cross.below;
+        below = ap (child_face (rotations_of s) split) same_edge ∙ cross.below;
         one = cross.one;
         way = inr (against, sym (at.next_corner_is ∙ home));
       }

@@ -163,12 +163,12 @@ below : (s : OrientedMesh) (split : SplitView) → IsOrientedSurface s → IsSpl
 below s split o t d l e_in is =
     let maps : Rotations = rotations_of s in
     let r : IsRotationSystem maps = rotation_system s o in
-    let child = some_child (child_face split (maps.edge d)) (λ none. both_ways (in_cotree split (maps.edge d)) ((t.child_faces.none (maps.edge d) e_in).0 none) is) in
+    let child = some_child (child_face (rotations_of s) split (maps.edge d)) (λ none. both_ways (in_cotree split (maps.edge d)) ((t.child_faces.none (maps.edge d) e_in).0 none) is) in
     let dart = t.child_faces.step (maps.edge d) child.0 child.1 in
     record {
       face = child.0;
       dart = dart.0;
-      step = record { within = dart.1; below = ap (child_face split) dart.2 ∙ child.1; inside = dart.3; leads = refl };
+      step = record { within = dart.1; below = ap (child_face (rotations_of s) split) dart.2 ∙ child.1; inside = dart.3; leads = refl };
       one_edge = dart.2;
       is_one = (r.edges dart.0 d dart.1 l).0 dart.2;
     }

@@ -21,7 +21,7 @@ IsOffCotree surface split walk =
 pub record CrossesBelow (surface : OrientedMesh) (split : SplitView) (face corner : ℕ) (forward : Bool) (taken : ℕ) : Type 0 where
   pub dart : ℕ
   pub within : dart < darts_of surface
-  pub below : child_face split (edge_of surface dart) ≡ Some face
+  pub below : child_face (rotations_of surface) split (edge_of surface dart) ≡ Some face
   pub corner_in : corner < length (face_at surface.mesh face)
   pub starts : slice_index (face_at surface.mesh face) corner ≡ origin_of surface dart
   pub ends : slice_index (face_at surface.mesh face) (next_corner forward (length (face_at surface.mesh face)) corner)

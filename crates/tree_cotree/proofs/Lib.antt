@@ -11,6 +11,7 @@ pub mod SearchLemmas
 pub mod WaitingLemmas
 pub mod TreeLemmas
 pub mod TurningLemmas
+pub mod BelowLemmas
 pub mod SplittingLemmas
 pub mod EdgeTables
 pub mod GenusLemmas

@@ -8,7 +8,6 @@ use Rattle.std.proofs.lemmas.List.{length-map, length-replicate, get_or-replicat
 use Rattle.surf_model.specs.FaceLists.{is_used}
 use Rattle.surf_model.specs.Surfaces.{AreJoined}
 use Rattle.surf_model.specs.declared.names.DartName.{DartName}
-use Rattle.surf_model.specs.declared.names.FaceName.{FaceName}
 use Rattle.halfedge_map.specs.Numbers.{count_below}
 use Rattle.halfedge_map.specs.OrientedMeshes.{OrientedMesh, IsOrientedSurface}
 use Rattle.halfedge_map.specs.RotationSystems.{Rotations, rotations_of, IsRotationSystem, NamesAll}
@@ -17,15 +16,16 @@ use Rattle.tree_cotree.specs.declared.split.Kind.{Kind}
 use Rattle.tree_cotree.specs.declared.split.Kind.TheVariants.{Tree, Cotree, Left}
 use Rattle.tree_cotree.specs.SpanningTrees.{IsSpanningTree, HasOneRing}
 use Rattle.tree_cotree.specs.Searches.{same_kind, has_kind, back_at, IsFound, IsNamed, IsSearched, FindsAll}
-use Rattle.tree_cotree.specs.Markings.{AreMarked, IsMarked, AreBelowEdges, face_below}
-use Rattle.tree_cotree.specs.Splits.{SplitView, HasParents, HasChildFaces, HasTrees, IsSplit, StepsToParent, StepsUp, in_tree, in_cotree, is_left, is_tree_kind, is_cotree_kind, is_left_kind}
-use Rattle.tree_cotree.specs.StoredSplits.{dart_options, face_options, made_split}
+use Rattle.tree_cotree.specs.Markings.{AreMarked, IsMarked}
+use Rattle.tree_cotree.specs.Splits.{SplitView, HasParents, HasChildFaces, HasTrees, IsSplit, StepsToParent, StepsUp, child_face, face_with, in_tree, in_cotree, is_left, is_tree_kind, is_cotree_kind, is_left_kind}
+use Rattle.tree_cotree.specs.StoredSplits.{dart_options, made_split}
 use Rattle.tree_cotree.proofs.ClassLemmas.{count_same}
 use Rattle.tree_cotree.proofs.SetLemmas.{with_one, with_cases, with_keeps, count_with, same_from_count}
 use Rattle.tree_cotree.proofs.GrowthLemmas.{HasNodes}
 use Rattle.tree_cotree.proofs.SplitLemmas.{tree_ring, closed_holds_all}
 use Rattle.tree_cotree.proofs.LawLemmas.{vertex_nodes, face_nodes, some_dart, even}
-use Rattle.tree_cotree.proofs.TreeLemmas.{crossed_from, vertices_found, kept_nodes, root_not_kept, kept_join, all_to_root, kept_allowed}
+use Rattle.tree_cotree.proofs.TreeLemmas.{crossed_from, vertices_found, kept_nodes, root_not_kept, kept_join, kept_apart, all_to_root, kept_allowed}
+use Rattle.tree_cotree.proofs.BelowLemmas.{AreBelowEdges, options_read, below_edges}
 
 option_cases : (o : Option ℕ) → (o ≡ None) ⊎ ((x : ℕ) × (o ≡ Some x))
 option_cases None = inl refl
@@ -108,7 +108,7 @@ spans maps node allowed bound root edges is_node from old inside r n f l m none 
     }
 
 -- the parts of a split that is made so
-pub record IsMade (s : OrientedMesh) (k0 k1 k2 : List Kind) (p q t : List (Option DartName)) (below : List (Option FaceName)) (start : ℕ) : Type 0 where
+pub record IsMade (s : OrientedMesh) (k0 k1 k2 : List Kind) (p q t : List (Option DartName)) (start : ℕ) : Type 0 where
   pub first : k0 ≡ replicate (length s.table) Left
   pub tree : IsSearched (rotations_of s) (rotations_of s).origin (λ e. true) s.mesh.count ((rotations_of s).origin 0) p
   pub marked : IsMarked (rotations_of s) p Tree k0 k1 (length p)
@@ -118,7 +118,6 @@ pub record IsMade (s : OrientedMesh) (k0 k1 k2 : List Kind) (p q t : List (Optio
   pub start_left : (d : ℕ) → d < (rotations_of s).darts → has_kind k2 Left ((rotations_of s).edge d) ≡ true
       → has_kind k2 Left ((rotations_of s).edge start) ≡ true
   pub hanging : FindsAll (rotations_of s) (rotations_of s).face (has_kind k2 Cotree) (length s.mesh.faces) ((rotations_of s).face start) t
-  pub faces : AreBelowEdges (rotations_of s) t (length s.table) below (length t)
 
 -- the first search: all edges are allowed
 pub all_left : (s : OrientedMesh) (k0 : List Kind) (e : ℕ) → k0 ≡ replicate (length s.table) Left → e < length s.table
@@ -201,20 +200,14 @@ tree_stays s k1 k2 q bound root c f e =
       ])
     ]
 
-options_read : {A : Type 0} (g : A → ℕ) (xs : List (Option A)) (v : ℕ)
-    → get_or (map (option_map g) xs) v None ≡ option_map g (get_or xs v None)
-options_read g [] v = refl
-options_read g (x ∷ xs) zero = refl
-options_read g (x ∷ xs) (suc v) = options_read g xs v
-
 split_trees : (s : OrientedMesh) → IsOrientedSurface s
-    → (k0 k1 k2 : List Kind) (p q t : List (Option DartName)) (below : List (Option FaceName)) (start genus : ℕ)
-    → IsMade s k0 k1 k2 p q t below start → HasTrees s (made_split k2 p below ((rotations_of s).face start) genus)
-split_trees s h k0 k1 k2 p q t below start genus m =
+    → (k0 k1 k2 : List Kind) (p q t : List (Option DartName)) (start genus : ℕ)
+    → IsMade s k0 k1 k2 p q t start → HasTrees s (made_split k2 p t ((rotations_of s).face start) genus)
+split_trees s h k0 k1 k2 p q t start genus m =
     let maps : Rotations = rotations_of s in
     let f = tree_found s h k0 p m.first m.tree in
     let g = cotree_found s h k0 k1 p q m.first f m.marked m.cotree in
-    let split : SplitView = made_split k2 p below (maps.face start) genus in
+    let split : SplitView = made_split k2 p t (maps.face start) genus in
     let tree_set : in_tree split ≡ has_kind k1 Tree = λ i e. (tree_kind (get_or k2 e Tree) ∙ tree_stays s k1 k2 q (length s.mesh.faces) (maps.face 0) m.crossed g e) i in
     let cotree_set : in_cotree split ≡ has_kind k2 Cotree = λ i e. cotree_kind (get_or k2 e Tree) i in
     record {
@@ -225,18 +218,18 @@ split_trees s h k0 k1 k2 p q t below start genus m =
     }
 
 split_parents : (s : OrientedMesh) → IsOrientedSurface s
-    → (k0 k1 k2 : List Kind) (p q t : List (Option DartName)) (below : List (Option FaceName)) (start genus : ℕ)
-    → IsMade s k0 k1 k2 p q t below start → HasParents s (made_split k2 p below ((rotations_of s).face start) genus)
-split_parents s h k0 k1 k2 p q t below start genus m =
+    → (k0 k1 k2 : List Kind) (p q t : List (Option DartName)) (start genus : ℕ)
+    → IsMade s k0 k1 k2 p q t start → HasParents s (made_split k2 p t ((rotations_of s).face start) genus)
+split_parents s h k0 k1 k2 p q t start genus m =
     let maps : Rotations = rotations_of s in
     let names : NamesAll s = names_all s h in
     let root : ℕ = maps.origin 0 in
     let f : FindsAll maps maps.origin (λ e. true) s.mesh.count root p = tree_found s h k0 p m.first m.tree in
     let g = cotree_found s h k0 k1 p q m.first f m.marked m.cotree in
     let n = vertex_nodes s names in
-    let split : SplitView = made_split k2 p below (maps.face start) genus in
+    let split : SplitView = made_split k2 p t (maps.face start) genus in
     let kept : ℕ → Bool = λ w. is_some (back_at p w) in
-    let read : (v : ℕ) → get_or (dart_options p) v None ≡ back_at p v = options_read (λ (d : DartName). d.0) p in
+    let read : (v : ℕ) → get_or (dart_options p) v None ≡ back_at p v = options_read p in
     let used : (v : ℕ) → v < s.mesh.count → is_used s.mesh v ≡ with_one kept root v = kept_nodes maps maps.origin (λ e. true) s.mesh.count root (length s.table) (is_used s.mesh) p n f in
     record {
       root = root;
@@ -275,19 +268,19 @@ split_parents s h k0 k1 k2 p q t below start genus m =
 
 -- as many edges have a face below them as there are cotree edges, so these are the cotree edges
 below_is_cotree : (s : OrientedMesh) → IsOrientedSurface s
-    → (k2 : List Kind) (t : List (Option DartName)) (below : List (Option FaceName)) (start : ℕ) → start < (rotations_of s).darts
+    → (k2 : List Kind) (t : List (Option DartName)) (below : ℕ → Option ℕ) (start : ℕ) → start < (rotations_of s).darts
     → IsSpanningTree (rotations_of s) (rotations_of s).face (λ f. true) (length s.mesh.faces) (length s.table) (has_kind k2 Cotree)
     → FindsAll (rotations_of s) (rotations_of s).face (has_kind k2 Cotree) (length s.mesh.faces) ((rotations_of s).face start) t
-    → AreBelowEdges (rotations_of s) t (length s.table) below (length t) → (e : ℕ) → e < length s.table → is_some (face_below below e) ≡ has_kind k2 Cotree e
+    → AreBelowEdges (rotations_of s) t (length s.table) below (length t) → (e : ℕ) → e < length s.table → is_some (below e) ≡ has_kind k2 Cotree e
 below_is_cotree s h k2 t below start l span f b =
     let maps : Rotations = rotations_of s in
     let names : NamesAll s = names_all s h in
     let root : ℕ = maps.face start in
     let faces : count_below (λ f. true) (length s.mesh.faces) ≡ count_below (λ w. is_some (back_at t w)) (length t) + 1 =
     count_nodes maps maps.face (has_kind k2 Cotree) (length s.mesh.faces) root (length s.table) (λ f. true) t (face_nodes s names) f (names.face_below start l) in
-    let counts : count_below (λ e. is_some (face_below below e)) (length s.table) ≡ count_below (has_kind k2 Cotree) (length s.table) =
+    let counts : count_below (λ e. is_some (below e)) (length s.table) ≡ count_below (has_kind k2 Cotree) (length s.table) =
     omega (arith, b.sets.count, count_none (length s.table), faces, span.count) in
-    same_from_count (λ e. is_some (face_below below e)) (has_kind k2 Cotree) (length s.table)
+    same_from_count (λ e. is_some (below e)) (has_kind k2 Cotree) (length s.table)
     (λ e k is. elim (b.sets.only e is) [
       | inl never ↦ cc
       | inr dart ↦ ap (has_kind k2 Cotree) (sym dart.4)
@@ -296,42 +289,54 @@ below_is_cotree s h k2 t below start l span f b =
     counts
 
 split_child_faces : (s : OrientedMesh) → IsOrientedSurface s
-    → (k0 k1 k2 : List Kind) (p q t : List (Option DartName)) (below : List (Option FaceName)) (start genus : ℕ)
-    → IsMade s k0 k1 k2 p q t below start → HasChildFaces s (made_split k2 p below ((rotations_of s).face start) genus)
-split_child_faces s h k0 k1 k2 p q t below start genus m =
+    → (k0 k1 k2 : List Kind) (p q t : List (Option DartName)) (start genus : ℕ)
+    → IsMade s k0 k1 k2 p q t start → HasChildFaces s (made_split k2 p t ((rotations_of s).face start) genus)
+split_child_faces s h k0 k1 k2 p q t start genus m =
     let maps : Rotations = rotations_of s in
     let names : NamesAll s = names_all s h in
     let root : ℕ = maps.face start in
-    let split : SplitView = made_split k2 p below root genus in
+    let split : SplitView = made_split k2 p t root genus in
     let f = tree_found s h k0 p m.first m.tree in
     let g = cotree_found s h k0 k1 p q m.first f m.marked m.cotree in
     let span = cotree_spans s h k0 k1 k2 p q m.first m.marked g m.crossed in
     let a : FindsAll maps maps.face (has_kind k2 Cotree) (length s.mesh.faces) root t = m.hanging in
-    let read : (e : ℕ) → get_or (face_options below) e None ≡ face_below below e = options_read (λ (x : FaceName). x.0) below in
-    let is_cotree : (e : ℕ) → e < length s.table → is_some (face_below below e) ≡ has_kind k2 Cotree e = below_is_cotree s h k2 t below start m.start_in span a m.faces in
     let dart_in : (v x : ℕ) → back_at t v ≡ Some x → x < maps.darts =
     λ v x e. let name : IsNamed maps.face a.order v x = a.is_order.only v x e in subst (λ d. d < maps.darts) name.is (a.is_order.within name.place name.within) in
+    let up : ℕ → Option ℕ = child_face maps split in
+    let many : length t ≡ length split.face_parents = sym (length-map t (option_map (λ (d : DartName). d.0))) in
+    let faces : AreBelowEdges maps t (length s.table) up (length t) =
+    subst (λ n. AreBelowEdges maps t (length s.table) (λ e. face_with maps split.face_parents e n) (length t)) many
+    (below_edges maps t (length s.table)
+    (kept_apart maps maps.face (has_kind k2 Cotree) (length s.mesh.faces) root a.order t (rotation_system s h) a.is_order)
+    (λ v x e. names.edge_below x (dart_in v x e)) (length t)) in
+    let read : (f : ℕ) → get_or (dart_options t) f None ≡ back_at t f = options_read t in
+    let kept_in : (v x : ℕ) → back_at t v ≡ Some x → v < length t =
+    λ v x e. kept_below maps maps.face (has_kind k2 Cotree) (length s.mesh.faces) root (length s.table) (λ f. true) t v x (face_nodes s names) a e in
+    let is_cotree : (e : ℕ) → e < length s.table → is_some (up e) ≡ has_kind k2 Cotree e = below_is_cotree s h k2 t up start m.start_in span a faces in
     record {
       root_below = names.face_below start m.start_in;
-      each_edge = length-map below (option_map (λ (x : FaceName). x.0)) ∙ m.faces.long;
+      each_face = sym many ∙ a.is_order.long;
+      within = λ f x e. dart_in f x (sym (read f) ∙ e);
+      inside = λ f x e. (a.is_order.only f x (sym (read f) ∙ e)).of_node;
+      below = λ f x e. let kept : back_at t f ≡ Some x = sym (read f) ∙ e in faces.keeps f x (kept_in f x kept) kept;
       none = λ e l. (
-        λ none. cotree_kind (get_or k2 e Tree) ∙ sym (is_cotree e l) ∙ ap is_some (sym (read e) ∙ none),
-        λ out. elim (option_cases (face_below below e)) [
-          | inl none ↦ read e ∙ none
+        λ none. cotree_kind (get_or k2 e Tree) ∙ sym (is_cotree e l) ∙ ap is_some none,
+        λ out. elim (option_cases (up e)) [
+          | inl none ↦ none
           | inr some ↦ absurd (both_ways (has_kind k2 Cotree e) (sym (cotree_kind (get_or k2 e Tree)) ∙ out) (sym (is_cotree e l) ∙ ap is_some some.1))
         ],
       );
       step = λ e x k.
-          let there = m.faces.faces e x (sym (read e) ∙ k) in
+          let there = faces.faces e x k in
           (there.0, dart_in x there.0 there.2, there.3, (a.is_order.only x there.0 there.2).of_node);
       once = λ d e x k l.
-          let one = m.faces.faces d x (sym (read d) ∙ k) in
-          let other = m.faces.faces e x (sym (read e) ∙ l) in
+          let one = faces.faces d x k in
+          let other = faces.faces e x l in
           let same : Some one.0 ≡ Some other.0 = sym one.2 ∙ other.2 in
           let is : one.0 ≡ other.0 = cc in
           sym one.3 ∙ ap maps.edge is ∙ other.3;
       not_root = λ e k.
-          let there = m.faces.faces e root (sym (read e) ∙ k) in
+          let there = faces.faces e root k in
           root_not_kept maps maps.face (has_kind k2 Cotree) (length s.mesh.faces) root a.order t there.0 a.is_order there.2;
       to_root = λ x l.
           let dart = names.each_face x l in
@@ -341,8 +346,7 @@ split_child_faces s h k0 k1 k2 p q t below start genus m =
             d,
             record {
               within = dart_in v d e;
-              below = read (maps.edge d)
-                  ∙ m.faces.keeps v d (kept_below maps maps.face (has_kind k2 Cotree) (length s.mesh.faces) root (length s.table) (λ f. true) t v d (face_nodes s names) a e) e;
+              below = faces.keeps v d (kept_in v d e) e;
               inside = (a.is_order.only v d e).of_node;
               leads = refl;
             },
@@ -351,20 +355,20 @@ split_child_faces s h k0 k1 k2 p q t below start genus m =
     }
 
 pub split_is : (s : OrientedMesh) → IsOrientedSurface s
-    → (k0 k1 k2 : List Kind) (p q t : List (Option DartName)) (below : List (Option FaceName)) (start genus : ℕ)
-    → IsMade s k0 k1 k2 p q t below start → genus ≡ count_below (has_kind k2 Left) (length s.table) / 2
-    → IsSplit s (made_split k2 p below ((rotations_of s).face start) genus)
-split_is s h k0 k1 k2 p q t below start genus m half =
+    → (k0 k1 k2 : List Kind) (p q t : List (Option DartName)) (start genus : ℕ)
+    → IsMade s k0 k1 k2 p q t start → genus ≡ count_below (has_kind k2 Left) (length s.table) / 2
+    → IsSplit s (made_split k2 p t ((rotations_of s).face start) genus)
+split_is s h k0 k1 k2 p q t start genus m half =
     let maps : Rotations = rotations_of s in
-    let split : SplitView = made_split k2 p below (maps.face start) genus in
-    let trees : HasTrees s split = split_trees s h k0 k1 k2 p q t below start genus m in
+    let split : SplitView = made_split k2 p t (maps.face start) genus in
+    let trees : HasTrees s split = split_trees s h k0 k1 k2 p q t start genus m in
     let pairs = even s split h trees in
     let same : is_left split ≡ has_kind k2 Left = λ i e. left_kind (get_or k2 e Tree) i in
     let count : count_below (is_left split) (length s.table) ≡ count_below (has_kind k2 Left) (length s.table) = ap (λ set_of. count_below set_of (length s.table)) same in
     record {
       trees = trees;
-      parents = split_parents s h k0 k1 k2 p q t below start genus m;
-      child_faces = split_child_faces s h k0 k1 k2 p q t below start genus m;
+      parents = split_parents s h k0 k1 k2 p q t start genus m;
+      child_faces = split_child_faces s h k0 k1 k2 p q t start genus m;
       root_left = λ d l is. (
         start,
         m.start_in,

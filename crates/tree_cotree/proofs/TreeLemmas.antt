@@ -13,8 +13,7 @@ use Rattle.std.proofs.lemmas.List.{get_or-set_same, get_or-set_other, length-set
 use Rattle.tree_cotree.specs.declared.split.Kind.{Kind}
 use Rattle.tree_cotree.specs.declared.split.Kind.TheVariants.{Tree, Cotree, Left}
 use Rattle.tree_cotree.specs.Searches.{same_kind, has_kind, back_at, IsFound, IsNamed, LeadsBack, IsOrder, IsSearched, FindsAll}
-use Rattle.tree_cotree.specs.Markings.{AreApart, AreMarked, IsMarked, AreBelowEdges, face_below}
-use Rattle.surf_model.specs.declared.names.FaceName.{FaceName}
+use Rattle.tree_cotree.specs.Markings.{AreApart, AreMarked, IsMarked}
 use Rattle.tree_cotree.proofs.SetLemmas.{with_one, with_itself, with_other, with_cases, with_keeps, count_with}
 use Rattle.tree_cotree.proofs.ClassLemmas.{count_same}
 use Rattle.tree_cotree.proofs.AfterLemmas.{twin_edge}
@@ -327,77 +326,5 @@ marks_more maps from kind old new n x apart h some l free =
       others = λ e out. elim (cases_eq e i) [
         | inl same ↦ absurd (both_ways (has_kind more kind e) out (ap (has_kind more kind) same ∙ here))
         | inr ne ↦ other e ne ∙ h.others e (ap (λ k. same_kind k kind) (sym (other e ne)) ∙ out)
-      ];
-    }
-
-pub below_none : (maps : Rotations) (from : List (Option DartName)) (edges : ℕ) (below : List (Option FaceName)) → length below ≡ edges
-    → ((e : ℕ) → face_below below e ≡ None) → AreBelowEdges maps from edges below 0
-below_none maps from edges below long none =
-    record {
-      long = long;
-      sets = record {
-        count = count_same (λ e. is_some (face_below below e)) (λ e. false) edges (λ e l. ap is_some (none e))
-            ∙ (let s : count_below (λ e. false) edges ≡ count_below (λ e. false) edges + 0 = omega arith in s);
-        marked = λ v x l e. absurd (omega arith);
-        kept = λ e k. cc;
-        only = λ e k. absurd (not_some (face_below below e) k (none e));
-      };
-      faces = λ e f k. absurd (not_some (face_below below e) (ap is_some k) (none e));
-      keeps = λ f x l e. absurd (omega arith);
-    }
-  where
-    not_some : (o : Option ℕ) → is_some o ≡ true → o ≡ None → ⊥
-    not_some o k e = cc
-
-pub below_skip : (maps : Rotations) (from : List (Option DartName)) (edges n : ℕ) (below : List (Option FaceName))
-    → AreBelowEdges maps from edges below n → back_at from n ≡ None
-    → AreBelowEdges maps from edges below (n + 1)
-below_skip maps from edges n below h none =
-    record {
-      long = h.long;
-      sets = marked_skip maps from edges n (λ e. false) (λ e. is_some (face_below below e)) h.sets none;
-      faces = λ e f k. let there = h.faces e f k in (there.0, omega (arith, there.1), there.2, there.3);
-      keeps = λ f x l e. elim (cases_lt f n) [
-        | inl less ↦ h.keeps f x less e
-        | inr more ↦ (let same : f ≡ n = omega arith in absurd (some_none (back_at from n) x (ap (back_at from) (sym same) ∙ e) none))
-      ];
-    }
-  where
-    some_none : (o : Option ℕ) (x : ℕ) → o ≡ Some x → o ≡ None → ⊥
-    some_none o x e k = cc
-
-pub below_more : (maps : Rotations) (from : List (Option DartName)) (edges n x : ℕ) (below : List (Option FaceName))
-    → AreApart maps from → AreBelowEdges maps from edges below n
-    → back_at from n ≡ Some x → maps.edge x < edges → AreBelowEdges maps from edges (set below (maps.edge x) (Some (record { 0 = n }))) (n + 1)
-below_more maps from edges n x below apart h some l =
-    let i : ℕ = maps.edge x in
-    let face : FaceName = record { 0 = n } in
-    let more : List (Option FaceName) = set below i (Some face) in
-    let here : face_below more i ≡ Some n = ap (option_map (λ (f : FaceName). f.0)) (get_or-set_same below i (Some face) None (omega (arith, l, h.long))) in
-    let other : (e : ℕ) → e ≢ i → face_below more e ≡ face_below below e =
-    λ e ne. ap (option_map (λ (f : FaceName). f.0)) (get_or-set_other below i e (Some face) None ne) in
-    record {
-      long = length-set below i (Some face) ∙ h.long;
-      sets = marked_more maps from edges n x (λ e. false) (λ e. is_some (face_below below e)) (λ e. is_some (face_below more e)) h.sets some l refl
-          (λ v y ne e. apart.apart v n y x e some ne)
-          (λ e. elim (cases_eq e i) [
-            | inl same ↦ ap (λ k. is_some (face_below more k)) same ∙ ap is_some here
-                ∙ sym (ap (with_one (λ k. is_some (face_below below k)) i) same ∙ with_itself (λ k. is_some (face_below below k)) i)
-            | inr ne ↦ ap is_some (other e ne) ∙ sym (with_other (λ k. is_some (face_below below k)) i e ne)
-          ]);
-      faces = λ e f k. elim (cases_eq e i) [
-        | inl same ↦
-            (let is : Some f ≡ Some n = sym k ∙ ap (face_below more) same ∙ here in
-            let f_is : f ≡ n = cc in
-            (x, omega (arith, f_is), ap (back_at from) f_is ∙ some, sym same))
-        | inr ne ↦ (let there = h.faces e f (sym (other e ne) ∙ k) in (there.0, omega (arith, there.1), there.2, there.3))
-      ];
-      keeps = λ f y b e. elim (cases_lt f n) [
-        | inl less ↦ other (maps.edge y) (apart.apart f n y x e some (λ same. omega (arith, less, same))) ∙ h.keeps f y less e
-        | inr last ↦
-            (let same : f ≡ n = omega (arith, b, last) in
-            let is : Some y ≡ Some x = sym e ∙ ap (back_at from) same ∙ some in
-            let y_is : y ≡ x = cc in
-            ap (λ k. face_below more (maps.edge k)) y_is ∙ here ∙ ap Some (sym same))
       ];
     }

@@ -1,8 +1,6 @@
--- Edges that are given a kind, or a face, by the darts that a search keeps.
+-- Edges that are given a kind by the darts that a search keeps.
 use Rattle.std.specs.Prelude.{◌≡◌, ◌≢◌, ◌⊎◌, ℕ, ◌+◌, ◌<◌, Bool, true, false, List, length, slice_index_or, Option, Some, None, is_some}
-use Rattle.std.specs.Option.{option_map}
 use Rattle.surf_model.specs.declared.names.DartName.{DartName}
-use Rattle.surf_model.specs.declared.names.FaceName.{FaceName}
 use Rattle.halfedge_map.specs.Numbers.{count_below}
 use Rattle.halfedge_map.specs.RotationSystems.{Rotations}
 use Rattle.tree_cotree.specs.declared.split.Kind.{Kind}
@@ -26,15 +24,3 @@ pub record IsMarked (maps : Rotations) (from : List (Option DartName)) (kind : K
   pub long : length new ≡ length old
   pub sets : AreMarked maps from (length old) (has_kind old kind) (has_kind new kind) n
   pub others : (e : ℕ) → has_kind new kind e ≡ false → slice_index_or new e Tree ≡ slice_index_or old e Tree
-
--- the face that is kept for an edge, if one is
-abbrev pub face_below : List (Option FaceName) → ℕ → Option ℕ
-face_below below e = option_map (λ f. f.0) (slice_index_or below e None)
-
--- for the edges of the darts that are kept for the first n faces, these faces
-pub record AreBelowEdges (maps : Rotations) (from : List (Option DartName)) (edges : ℕ) (below : List (Option FaceName)) (n : ℕ)
-    : Type 0 where
-  pub long : length below ≡ edges
-  pub sets : AreMarked maps from edges (λ e. false) (λ e. is_some (face_below below e)) n
-  pub faces : (e f : ℕ) → face_below below e ≡ Some f → (x : ℕ) × (f < n) × (back_at from f ≡ Some x) × (maps.edge x ≡ e)
-  pub keeps : (f x : ℕ) → f < n → back_at from f ≡ Some x → face_below below (maps.edge x) ≡ Some f

@@ -1,18 +1,17 @@
-//! Edges that are given a kind, or a face, by the darts that a search keeps.
-ghost use Rattle.std.specs.Prelude.{◌≡◌, ◌<◌, ◌^◌, ℕ, true, false, length, Some, IfOk};
+//! Edges that are given a kind by the darts that a search keeps.
+ghost use Rattle.std.specs.Prelude.{◌≡◌, ◌<◌, ◌^◌, ℕ, true, false, length, Some};
 ghost use Rattle.halfedge_map.specs.Numbers.{count_below};
 ghost use Rattle.halfedge_map.specs.OrientedMeshes.{IsOrientedSurface};
 ghost use Rattle.halfedge_map.specs.DartMaps.{darts_of, edge_of};
 ghost use Rattle.halfedge_map.specs.RotationSystems.{rotations_of};
 ghost use Rattle.tree_cotree.specs.Searches.{back_at, has_kind};
-ghost use Rattle.tree_cotree.specs.Markings.{AreApart, IsMarked, AreBelowEdges};
+ghost use Rattle.tree_cotree.specs.Markings.{AreApart, IsMarked};
 ghost use Rattle.tree_cotree.specs.declared.split.Kind.TheVariants.{Left};
 
 use crate::search::is_same;
 use crate::split::Kind;
 use halfedge_map::Surface;
-use std::alloc::{AllocError, Global};
-use surf_model::{DartName, FaceName};
+use surf_model::DartName;
 
 /// Gives the edges of the darts that are kept a kind.
 pub(crate) fn mark(kinds: &mut Vec<Kind>, surface: &Surface, from: &[Option<DartName>], kind: Kind)
@@ -27,27 +26,6 @@ pub(crate) fn mark(kinds: &mut Vec<Kind>, surface: &Surface, from: &[Option<Dart
             kinds[surface.edge_of(dart).0 as usize] = kind;
         }
     }
-}
-
-/// For each edge the face below it: the face for which a dart of the edge is kept.
-pub(crate) fn faces_below(
-    alloc: Global,
-    surface: &Surface,
-    from: &[Option<DartName>],
-) -> Result<Vec<Option<FaceName>>, AllocError>
-    requires valid { IsOrientedSurface surface.now }
-    requires few { length from.now < 2 ^ 32 }
-    requires apart { AreApart (rotations_of surface.now) from.now }
-    ensures { IfOk result (λ below. AreBelowEdges (rotations_of surface.now) from.now (length surface.now.table) below.items
-        (length from.now)) }
-{
-    let mut below = vec![in alloc; None; surface.sides().len() as usize]?;
-    for face in 0..from.len() {
-        if let Some(dart) = from[face] {
-            below[surface.edge_of(dart).0 as usize] = Some(FaceName(face as u32));
-        }
-    }
-    Ok(below)
 }
 
 /// A dart of a leftover edge, or the first dart where no edge is left over.

@@ -1,9 +1,9 @@
 //! Splits of a surface.
-ghost use Rattle.std.specs.Prelude.{◌≡◌, ◌<◌, length, IfOk};
+ghost use Rattle.std.specs.Prelude.{◌≡◌, ◌<◌, ℕ, length, Some, IfOk, IfSome, IfNone};
 ghost use Rattle.std.specs.Option.{option_map};
 ghost use Rattle.tree_cotree.specs.Splits.{IsSplit};
 
-use crate::marking::{faces_below, leftover_dart, leftover_edges, mark};
+use crate::marking::{leftover_dart, leftover_edges, mark};
 use crate::search::{Edges, Nodes, search_over};
 use crate::turning::turn_round;
 use crate::waiting::Order;
@@ -31,8 +31,8 @@ pub struct Split {
     kinds: Vec<Kind>,
     /// For each vertex the dart to its parent in the tree.
     parents: Vec<Option<DartName>>,
-    /// For each edge the face below it in the cotree.
-    child_faces: Vec<Option<FaceName>>,
+    /// For each face the dart to its parent in the cotree.
+    face_parents: Vec<Option<DartName>>,
     root_face: FaceName,
     genus: u32,
 }
@@ -43,11 +43,13 @@ impl Model for Split {
 
     ghost Value = { SplitView };
 
-    ghost view = { λ a. made_split a.kinds.items a.parents.items a.child_faces.items a.root_face.0 a.genus };
+    ghost view = { λ a. made_split a.kinds.items a.parents.items a.face_parents.items a.root_face.0 a.genus };
 }
 
 impl Split {
-    ghost use Rattle.tree_cotree.specs.Splits.{kind_of, parent_dart, child_face};
+    ghost use Rattle.halfedge_map.specs.DartMaps.{darts_of};
+    ghost use Rattle.halfedge_map.specs.RotationSystems.{rotations_of};
+    ghost use Rattle.tree_cotree.specs.Splits.{kind_of, parent_dart, face_parent, child_face};
 
     /// What an edge is.
     pub fn kind(&self, edge: EdgeName) -> Kind
@@ -65,12 +67,31 @@ impl Split {
         self.parents[vertex.0 as usize]
     }
 
-    /// The face below a cotree edge; none for other edges.
-    pub fn child_face(&self, edge: EdgeName) -> Option<FaceName>
-        requires { edge.0 < length self.now.child_faces }
-        ensures { option_map (λ face. face.0) result ≡ child_face self.now edge.0 }
+    /// The face below a cotree edge of the surface that was split; none for other edges.
+    pub fn child_face(&self, surface: &Surface, edge: EdgeName) -> Option<FaceName>
+        requires split { IsSplit surface.now self.now }
+        requires edge { edge.0 < length surface.now.table }
+        ensures { option_map (λ face. face.0) result ≡ child_face (rotations_of surface.now) self.now edge.0 }
     {
-        self.child_faces[edge.0 as usize]
+        let dart = surface.dart_of(edge);
+        match self.face_up(surface, dart) {
+            Some(face) => Some(face),
+            None => self.face_up(surface, surface.twin(dart)),
+        }
+    }
+
+    /// The face of a dart, where the dart is the one from that face to its parent.
+    fn face_up(&self, surface: &Surface, dart: DartName) -> Option<FaceName>
+        requires split { IsSplit surface.now self.now }
+        requires dart { dart.0 < darts_of surface.now }
+        ensures some { IfSome result (λ face. face_parent self.now face.0 ≡ Some dart.0) }
+        ensures none { IfNone result ((f : ℕ) → face_parent self.now f ≡ Some dart.0 → ⊥) }
+    {
+        let face = surface.face_of(dart);
+        match self.face_parents[face.0 as usize] {
+            Some(up) if up == dart => Some(face),
+            _ => None,
+        }
     }
 
     /// The root of the cotree. It has a leftover dart where there is one.
@@ -106,7 +127,7 @@ pub fn split_edges(alloc: Global, surface: &Surface) -> Result<Split, AllocError
         DartName(0),
     )?;
     mark(&mut kinds, surface, &parents, Kind::Tree);
-    let mut across = search_over(
+    let mut face_parents = search_over(
         alloc,
         surface,
         Nodes::Faces,
@@ -116,15 +137,14 @@ pub fn split_edges(alloc: Global, surface: &Surface) -> Result<Split, AllocError
         Edges::OfKind(Kind::Left),
         DartName(0),
     )?;
-    mark(&mut kinds, surface, &across, Kind::Cotree);
+    mark(&mut kinds, surface, &face_parents, Kind::Cotree);
     let start = leftover_dart(surface, &kinds);
-    turn_round(alloc, surface, &mut across, start)?;
-    let child_faces = faces_below(alloc, surface, &across)?;
+    turn_round(alloc, surface, &mut face_parents, start)?;
     let genus = leftover_edges(&kinds) / 2;
     Ok(Split {
         kinds,
         parents,
-        child_faces,
+        face_parents,
         root_face: surface.face_of(start),
         genus,
     })

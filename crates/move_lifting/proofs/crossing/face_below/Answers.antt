@@ -21,8 +21,8 @@ returns-in_err-face c =
     let d : ℕ = c.unwrap-dart.result.0 in
     let from : IsDartFrom (rotations_of s) u v d =
     subst (λ (r : Option DartName). IfSome r (λ dart. IsDartFrom (rotations_of s) u v dart.0)) c.unwrap-dart.ensures c.dart_between.ensures.leads in
-    let none : child_face c.args.split.now (edge_of s d) ≡ None =
-    ap (child_face c.args.split.now) (sym c.edge_of.ensures.edge) ∙ sym c.child_face.ensures
+    let none : child_face (rotations_of s) c.args.split.now (edge_of s d) ≡ None =
+    ap (child_face (rotations_of s) c.args.split.now) (sym c.edge_of.ensures.edge) ∙ sym c.child_face.ensures
     ∙ ap (λ (r : Option FaceName). option_map (λ face. face.0) r) c.in_err-face.was in
     subst
     (λ (r : Option FaceStep).
@@ -38,8 +38,8 @@ returns c =
     let d : ℕ = c.unwrap-dart.result.0 in
     let from : IsDartFrom (rotations_of s) u v d =
     subst (λ (r : Option DartName). IfSome r (λ dart. IsDartFrom (rotations_of s) u v dart.0)) c.unwrap-dart.ensures c.dart_between.ensures.leads in
-    let face : child_face c.args.split.now (edge_of s d) ≡ Some c.in_ok-face.face.0 =
-    ap (child_face c.args.split.now) (sym c.edge_of.ensures.edge) ∙ sym c.child_face.ensures
+    let face : child_face (rotations_of s) c.args.split.now (edge_of s d) ≡ Some c.in_ok-face.face.0 =
+    ap (child_face (rotations_of s) c.args.split.now) (sym c.edge_of.ensures.edge) ∙ sym c.child_face.ensures
     ∙ ap (λ (r : Option FaceName). option_map (λ f. f.0) r) c.in_ok-face.was in
     let mesh = c.faces-faces.ensures.mesh in
     let in_mesh : IsSide s.mesh c.side_at-side.result = subst (λ (m : FaceList). IsSide m c.side_at-side.result) mesh c.side_at-side.ensures.side in

@@ -3,7 +3,6 @@ use Rattle.std.specs.Prelude.{Option, Some, replicate}
 use Rattle.std.proofs.lemmas.List.{length-replicate, with_items_is}
 use Rattle.surf_model.specs.FaceLists.{FaceList}
 use Rattle.surf_model.specs.declared.names.DartName.{DartName}
-use Rattle.surf_model.specs.declared.names.FaceName.{FaceName}
 use Rattle.halfedge_map.specs.Numbers.{count_below}
 use Rattle.halfedge_map.specs.OrientedMeshes.{OrientedMesh}
 use Rattle.halfedge_map.specs.RotationSystems.{Rotations, rotations_of, NamesAll}
@@ -11,7 +10,7 @@ use Rattle.halfedge_map.proofs.SystemLemmas.{rotation_system, names_all}
 use Rattle.tree_cotree.specs.declared.split.Kind.{Kind}
 use Rattle.tree_cotree.specs.declared.split.Kind.TheVariants.{Tree, Cotree, Left}
 use Rattle.tree_cotree.specs.Searches.{same_kind, has_kind, back_at, IsSearched, FindsAll}
-use Rattle.tree_cotree.specs.Markings.{AreApart, IsMarked, AreBelowEdges}
+use Rattle.tree_cotree.specs.Markings.{AreApart, IsMarked}
 use Rattle.tree_cotree.proofs.TreeLemmas.{kept_apart}
 use Rattle.tree_cotree.proofs.SplittingLemmas.{IsMade, all_left, tree_found, cotree_found, kept_below, split_is}
 use Rattle.tree_cotree.proofs.TurningLemmas.{allow}
@@ -55,9 +54,9 @@ pub mark-requires-2-clause-apart : goal.mark-requires-2-clause-apart
 mark-requires-2-clause-apart c =
     let s : OrientedMesh = c.args.surface.now in
     let maps : Rotations = rotations_of s in
-    let searched = c.in_ok-across.ensures in
+    let searched = c.in_ok-face_parents.ensures in
     subst (AreApart maps) (sym c.deref-4.ensures.value)
-    (kept_apart maps maps.face (has_kind c.deref-3.result.now Left) c.len-faces.result (maps.face 0) searched.order c.in_ok-across.across.items
+    (kept_apart maps maps.face (has_kind c.deref-3.result.now Left) c.len-faces.result (maps.face 0) searched.order c.in_ok-face_parents.face_parents.items
     (rotation_system s c.faces.ensures.valid) searched.is_order)
 
 pub turn_round-requires-clause-tree : goal.turn_round-requires-clause-tree
@@ -68,13 +67,13 @@ turn_round-requires-clause-tree c =
     let k1 : List Kind = c.mark.new.kinds.items in
     let k2 : List Kind = c.mark-2.new.kinds.items in
     let p : List (Option DartName) = c.in_ok-parents.parents.items in
-    let q : List (Option DartName) = c.in_ok-across.across.items in
+    let q : List (Option DartName) = c.in_ok-face_parents.face_parents.items in
     let first : k0 ≡ replicate (length s.table) Left = search rules in
     let tree : IsSearched maps maps.origin (λ e. true) s.mesh.count (maps.origin 0) p =
     rw (c.deref.ensures.value, c.count.ensures, c.faces-2.ensures.mesh) at c.in_ok-parents.ensures in
     let marked : IsMarked maps p Tree k0 k1 (length p) = rw c.deref-2.ensures.value at c.mark.ensures in
     let cotree : IsSearched maps maps.face (has_kind k1 Left) (length s.mesh.faces) (maps.face 0) q =
-    rw (c.deref-3.ensures.value, c.len-faces.ensures.count, c.faces.ensures.mesh) at c.in_ok-across.ensures in
+    rw (c.deref-3.ensures.value, c.len-faces.ensures.count, c.faces.ensures.mesh) at c.in_ok-face_parents.ensures in
     let found : FindsAll maps maps.face (has_kind k1 Left) (length s.mesh.faces) (maps.face 0) q =
     cotree_found s c.faces.ensures.valid k0 k1 p q first (tree_found s c.faces.ensures.valid k0 p first tree) marked cotree in
     let long : length q ≡ length s.mesh.faces = found.is_order.long in
@@ -87,47 +86,9 @@ turn_round-requires-clause-tree c =
 pub turn_round-requires-clause-each_face : goal.turn_round-requires-clause-each_face
 turn_round-requires-clause-each_face c =
     let s : OrientedMesh = c.args.surface.now in
-    let searched = c.in_ok-across.ensures in
+    let searched = c.in_ok-face_parents.ensures in
     ap (λ (ds : List (Option DartName)). length ds) c.deref_mut.ensures.value ∙ searched.is_order.long ∙ c.len-faces.ensures.count
     ∙ ap (λ (m : FaceList). length m.faces) c.faces.ensures.mesh
-
-pub faces_below-requires-clause-apart : goal.faces_below-requires-clause-apart
-faces_below-requires-clause-apart c =
-    let s : OrientedMesh = c.args.surface.now in
-    let maps : Rotations = rotations_of s in
-    let k0 : List Kind = c.in_ok-kinds.kinds.items in
-    let k1 : List Kind = c.mark.new.kinds.items in
-    let k2 : List Kind = c.mark-2.new.kinds.items in
-    let p : List (Option DartName) = c.in_ok-parents.parents.items in
-    let q : List (Option DartName) = c.in_ok-across.across.items in
-    let first : k0 ≡ replicate (length s.table) Left = search rules in
-    let tree : IsSearched maps maps.origin (λ e. true) s.mesh.count (maps.origin 0) p =
-    rw (c.deref.ensures.value, c.count.ensures, c.faces-2.ensures.mesh) at c.in_ok-parents.ensures in
-    let marked : IsMarked maps p Tree k0 k1 (length p) = rw c.deref-2.ensures.value at c.mark.ensures in
-    let cotree : IsSearched maps maps.face (has_kind k1 Left) (length s.mesh.faces) (maps.face 0) q =
-    rw (c.deref-3.ensures.value, c.len-faces.ensures.count, c.faces.ensures.mesh) at c.in_ok-across.ensures in
-    let found : FindsAll maps maps.face (has_kind k1 Left) (length s.mesh.faces) (maps.face 0) q =
-    cotree_found s c.faces.ensures.valid k0 k1 p q first (tree_found s c.faces.ensures.valid k0 p first tree) marked cotree in
-    let t : List (Option DartName) = c.turn_round.new.from in
-    let crossed : IsMarked maps q Cotree k1 k2 (length q) = rw c.deref-4.ensures.value at c.mark-2.ensures in
-    let kept_in : (v x : ℕ) → back_at q v ≡ Some x → v < length q =
-    λ v x e. kept_below maps maps.face (has_kind k1 Left) (length s.mesh.faces) (maps.face 0) (length s.table) (λ f. true) q v x
-    (face_nodes s (names_all s c.faces.ensures.valid)) found e in
-    let on_cotree : FindsAll maps maps.face (has_kind k2 Cotree) (length s.mesh.faces) (maps.face 0) q =
-    allow maps maps.face (has_kind k1 Left) (has_kind k2 Cotree) (length s.mesh.faces) (maps.face 0) q found
-    (λ v x e. crossed.sets.marked v x (kept_in v x e) e) in
-    let is_q : c.deref_mut.result.now ≡ q = c.deref_mut.ensures.value in
-    let long : length c.deref_mut.result.now ≡ length s.mesh.faces = ap (λ (ds : List (Option DartName)). length ds) is_q ∙ found.is_order.long in
-    let turned : FindsAll maps maps.face (has_kind k2 Cotree) (length s.mesh.faces) (maps.face c.leftover_dart-start.result.0) t =
-    subst (λ n. FindsAll maps maps.face (has_kind k2 Cotree) n (maps.face c.leftover_dart-start.result.0) t) long
-    (c.in_ok-turn_round.ensures (has_kind k2 Cotree) (maps.face 0)
-    (subst (λ n. FindsAll maps maps.face (has_kind k2 Cotree) n (maps.face 0) c.deref_mut.result.now) (sym long)
-    (subst (FindsAll maps maps.face (has_kind k2 Cotree) (length s.mesh.faces) (maps.face 0)) (sym is_q) on_cotree))) in
-    let size : length t ≡ c.in_ok-across.across.len = omega (arith, turned.is_order.long, found.is_order.long, c.in_ok-across.across.ok.0) in
-    let same : c.deref-6.result.now ≡ t = c.deref-6.ensures.value ∙ with_items_is c.in_ok-across.across t size in
-    subst (AreApart maps) (sym same)
-    (kept_apart maps maps.face (has_kind k2 Cotree) (length s.mesh.faces) (maps.face c.leftover_dart-start.result.0) turned.order t
-    (rotation_system s c.faces.ensures.valid) turned.is_order)
 
 pub returns : goal.returns
 returns c =
@@ -137,13 +98,13 @@ returns c =
     let k1 : List Kind = c.mark.new.kinds.items in
     let k2 : List Kind = c.mark-2.new.kinds.items in
     let p : List (Option DartName) = c.in_ok-parents.parents.items in
-    let q : List (Option DartName) = c.in_ok-across.across.items in
+    let q : List (Option DartName) = c.in_ok-face_parents.face_parents.items in
     let first : k0 ≡ replicate (length s.table) Left = search rules in
     let tree : IsSearched maps maps.origin (λ e. true) s.mesh.count (maps.origin 0) p =
     rw (c.deref.ensures.value, c.count.ensures, c.faces-2.ensures.mesh) at c.in_ok-parents.ensures in
     let marked : IsMarked maps p Tree k0 k1 (length p) = rw c.deref-2.ensures.value at c.mark.ensures in
     let cotree : IsSearched maps maps.face (has_kind k1 Left) (length s.mesh.faces) (maps.face 0) q =
-    rw (c.deref-3.ensures.value, c.len-faces.ensures.count, c.faces.ensures.mesh) at c.in_ok-across.ensures in
+    rw (c.deref-3.ensures.value, c.len-faces.ensures.count, c.faces.ensures.mesh) at c.in_ok-face_parents.ensures in
     let found : FindsAll maps maps.face (has_kind k1 Left) (length s.mesh.faces) (maps.face 0) q =
     cotree_found s c.faces.ensures.valid k0 k1 p q first (tree_found s c.faces.ensures.valid k0 p first tree) marked cotree in
     let t : List (Option DartName) = c.turn_round.new.from in
@@ -161,11 +122,8 @@ returns c =
     (c.in_ok-turn_round.ensures (has_kind k2 Cotree) (maps.face 0)
     (subst (λ n. FindsAll maps maps.face (has_kind k2 Cotree) n (maps.face 0) c.deref_mut.result.now) (sym long)
     (subst (FindsAll maps maps.face (has_kind k2 Cotree) (length s.mesh.faces) (maps.face 0)) (sym is_q) on_cotree))) in
-    let below : List (Option FaceName) = c.in_ok-child_faces.child_faces.items in
     let start : ℕ = c.leftover_dart-start.result.0 in
-    let size : length t ≡ c.in_ok-across.across.len = omega (arith, turned.is_order.long, found.is_order.long, c.in_ok-across.across.ok.0) in
-    let same : c.deref-6.result.now ≡ t = c.deref-6.ensures.value ∙ with_items_is c.in_ok-across.across t size in
-    let made : IsMade s k0 k1 k2 p q t below start = record {
+    let made : IsMade s k0 k1 k2 p q t start = record {
       first = first;
       tree = tree;
       marked = marked;
@@ -174,12 +132,13 @@ returns c =
       start_in = c.leftover_dart-start.ensures.within;
       start_left = rw c.deref-5.ensures.value at c.leftover_dart-start.ensures.left;
       hanging = turned;
-      faces = subst (λ ds. AreBelowEdges maps ds (length s.table) below (length ds)) same c.in_ok-child_faces.ensures;
     } in
     let long_2 : length k2 ≡ length s.table =
     c.mark-2.ensures.long ∙ c.mark.ensures.long ∙ ap (λ (ks : List Kind). length ks) first ∙ length-replicate (length s.table) Left in
     let half : c.leftover_edges-genus.result / 2 ≡ count_below (has_kind k2 Left) (length s.table) / 2 =
     ap (λ n. n / 2)
-    (c.leftover_edges-genus.ensures ∙ ap (λ (ks : List Kind). count_below (has_kind ks Left) (length ks)) c.deref-7.ensures.value
+    (c.leftover_edges-genus.ensures ∙ ap (λ (ks : List Kind). count_below (has_kind ks Left) (length ks)) c.deref-6.ensures.value
     ∙ ap (count_below (has_kind k2 Left)) long_2) in
-    rw c.face_of.ensures.face (split_is s c.faces.ensures.valid k0 k1 k2 p q t below start (c.leftover_edges-genus.result / 2) made half)
+    let size : length t ≡ c.in_ok-face_parents.face_parents.len =
+    omega (arith, turned.is_order.long, found.is_order.long, c.in_ok-face_parents.face_parents.ok.0) in
+    rw (c.face_of.ensures.face, with_items_is c.in_ok-face_parents.face_parents t size) (split_is s c.faces.ensures.valid k0 k1 k2 p q t start (c.leftover_edges-genus.result / 2) made half)
