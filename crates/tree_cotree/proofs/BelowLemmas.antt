@@ -1,5 +1,5 @@
 -- The face below each edge, by the darts that are kept for the faces.
-use Rattle.std.proofs.Common.{◌≡◌, ◌≢◌, inl, inr, ℕ, zero, suc, ◌+◌, ◌<◌, Bool, true, false, cond, List, [], ◌∷◌, length, map, get_or, refl, ap, sym, ◌∙◌, subst, arith}
+use Rattle.std.proofs.Common.{◌≡◌, ◌≢◌, inl, inr, ℕ, zero, suc, ◌+◌, ◌<◌, false, cond, List, [], ◌∷◌, length, get_or, refl, ap, sym, ◌∙◌, subst, arith}
 use Rattle.std.specs.Prelude.{Option, Some, None, is_some, nat_eq, IfSome, IfNone}
 use Rattle.std.specs.Option.{option_map}
 use Rattle.std.proofs.lemmas.Bool.{cases_Bool, cases_eq, cases_lt, eqb-true, eq-eqb}
@@ -87,14 +87,17 @@ next_face maps from edges n apart within before = by
   where
     next : n + 1 ≡ suc n
     next = omega arith
+
     step : (o : Option ℕ) (e : ℕ) → back_at from n ≡ o
         → face_with maps (dart_options from) e (suc n) ≡ cond (lies_on maps e o) (Some n) (face_with maps (dart_options from) e n)
     step o e is = ap (λ d. cond (lies_on maps e d) (Some n) (face_with maps (dart_options from) e n)) (options_read from n ∙ is)
+
     off : (x e : ℕ) → e ≢ maps.edge x → nat_eq (maps.edge x) e ≡ false
     off x e ne = elim (cases_Bool (nat_eq (maps.edge x) e)) [
       | inl same ↦ absurd (ne (sym (eqb-true (maps.edge x) e same)))
       | inr other ↦ other
     ]
+
     by : (o : Option ℕ) → back_at from n ≡ o → AreBelowEdges maps from edges (λ e. face_with maps (dart_options from) e (suc n)) (suc n)
     by None is =
         subst (AreBelowEdges maps from edges (λ e. face_with maps (dart_options from) e (suc n))) next

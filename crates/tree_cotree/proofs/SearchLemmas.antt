@@ -255,6 +255,11 @@ named_found node order v x h = record { place = h.place; within = h.within; is =
 kept_is : (from : List (Option DartName)) (v : ℕ) (o : Option DartName) → v < length from → o ≡ get_or from v o → get_or from v None ≡ o
 kept_is from v o l e = sym (get_or_read from v o l e None)
 
+-- what is read from a list of kept darts
+pub kept_read : (from : List (Option DartName)) (v : ℕ) (o got x : Option DartName) → v < length from → o ≡ get_or from v o → got ≡ o → got ≡ x
+    → back_at from v ≡ option_map (λ d. d.0) x
+kept_read from v o got x l e get is = ap (option_map (λ (d : DartName). d.0)) (kept_is from v o l e ∙ sym get ∙ is)
+
 pub kept_found : (maps : Rotations) (node : ℕ → ℕ) (allowed : ℕ → Bool) (bound root : ℕ) (order : List ℕ) (from : List (Option DartName)) (v : ℕ) (o : Option DartName)
     → IsOrder maps node allowed bound root order from → v < length from → o ≡ get_or from v o → is_some o ≡ true → IsFound node order v
 kept_found maps node allowed bound root order from v None h l e some = cc

@@ -7,4 +7,5 @@ pub mod Searches
 pub mod Waiting
 pub mod Ways
 pub mod Markings
+pub mod MaybeDarts
 pub mod StoredSplits

@@ -1,5 +1,5 @@
 -- Edges that are given a kind by the darts that a search keeps.
-use Rattle.std.specs.Prelude.{◌≡◌, ◌≢◌, ◌⊎◌, ℕ, ◌+◌, ◌<◌, Bool, true, false, List, length, slice_index_or, Option, Some, None, is_some}
+use Rattle.std.specs.Prelude.{◌≡◌, ◌≢◌, ◌⊎◌, ℕ, ◌+◌, ◌<◌, Bool, true, false, List, length, slice_index_or, Option, Some, is_some}
 use Rattle.surf_model.specs.declared.names.DartName.{DartName}
 use Rattle.halfedge_map.specs.Numbers.{count_below}
 use Rattle.halfedge_map.specs.RotationSystems.{Rotations}

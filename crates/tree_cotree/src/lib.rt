@@ -11,6 +11,7 @@
 
 pub mod laws;
 mod marking;
+mod maybe_dart;
 pub mod ring_laws;
 pub mod rings;
 mod search;

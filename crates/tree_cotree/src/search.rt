@@ -8,6 +8,7 @@ ghost use Rattle.tree_cotree.specs.Searches.{node_of, turn_of, same_kind, is_all
 ghost use Rattle.tree_cotree.specs.Waiting.{waiting_darts};
 ghost use Rattle.tree_cotree.specs.Searches.{AreBelow, IsFound, IsOrder, IsCrossed, IsSearched, AreAdded};
 
+use crate::maybe_dart::MaybeDart;
 use crate::split::Kind;
 use crate::waiting::{Order, Waiting};
 use halfedge_map::Surface;
@@ -81,7 +82,7 @@ fn may_cross(edges: Edges, kinds: &[Kind], surface: &Surface, dart: DartName) ->
 struct Search {
     order: Vec<DartName>,
     waiting: Waiting,
-    from: Vec<Option<DartName>>,
+    from: Vec<MaybeDart>,
 }
 
 /// Goes across the edge of a dart, if it may be crossed, and keeps the node beyond it, if it is new.
@@ -116,12 +117,12 @@ fn cross(
     }
     let back = surface.twin(dart);
     let across = node(nodes, surface, back);
-    if across == root || search.from[across as usize].is_some() {
+    if across == root || search.from[across as usize].get().is_some() {
         return Ok(());
     }
     search.order.push(back)?;
     search.waiting.push(back)?;
-    search.from[across as usize] = Some(back);
+    search.from[across as usize] = MaybeDart::some(back);
     Ok(())
 }
 
@@ -172,7 +173,7 @@ pub(crate) fn search_over(
     kinds: &[Kind],
     edges: Edges,
     start: DartName,
-) -> Result<Vec<Option<DartName>>, AllocError>
+) -> Result<Vec<MaybeDart>, AllocError>
     requires kinds { length kinds.now ≡ length surface.now.table }
     requires below { AreBelow (rotations_of surface.now) (node_of nodes (rotations_of surface.now)) bound }
     requires dart { start.0 < darts_of surface.now }
@@ -182,7 +183,7 @@ pub(crate) fn search_over(
     let mut search = Search {
         order: Vec::with_capacity(alloc, bound as usize)?,
         waiting: Waiting::new(alloc),
-        from: vec![in alloc; None; bound as usize]?,
+        from: vec![in alloc; MaybeDart::none(); bound as usize]?,
     };
     search.order.push(start)?;
     search.waiting.push(start)?;

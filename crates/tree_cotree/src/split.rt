@@ -4,6 +4,7 @@ ghost use Rattle.std.specs.Option.{option_map};
 ghost use Rattle.tree_cotree.specs.Splits.{IsSplit};
 
 use crate::marking::{leftover_dart, leftover_edges, mark};
+use crate::maybe_dart::MaybeDart;
 use crate::search::{Edges, Nodes, search_over};
 use crate::turning::turn_round;
 use crate::waiting::Order;
@@ -30,9 +31,9 @@ pub struct Split {
     /// For each edge its kind.
     kinds: Vec<Kind>,
     /// For each vertex the dart to its parent in the tree.
-    parents: Vec<Option<DartName>>,
+    parents: Vec<MaybeDart>,
     /// For each face the dart to its parent in the cotree.
-    face_parents: Vec<Option<DartName>>,
+    face_parents: Vec<MaybeDart>,
     root_face: FaceName,
     genus: u32,
 }
@@ -64,7 +65,7 @@ impl Split {
         requires { vertex.0 < length self.now.parents }
         ensures { option_map (λ dart. dart.0) result ≡ parent_dart self.now vertex.0 }
     {
-        self.parents[vertex.0 as usize]
+        self.parents[vertex.0 as usize].get()
     }
 
     /// The face below a cotree edge of the surface that was split; none for other edges.
@@ -88,7 +89,7 @@ impl Split {
         ensures none { IfNone result ((f : ℕ) → face_parent self.now f ≡ Some dart.0 → ⊥) }
     {
         let face = surface.face_of(dart);
-        match self.face_parents[face.0 as usize] {
+        match self.face_parents[face.0 as usize].get() {
             Some(up) if up == dart => Some(face),
             _ => None,
         }

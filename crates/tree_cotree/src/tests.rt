@@ -53,6 +53,20 @@ fn the_torus_has_genus_one(rt: HostRuntime) {
 }
 
 #[test]
+fn each_face_but_the_root_lies_below_an_edge(rt: HostRuntime) {
+    let surface = surface_of(rt.alloc(), 7, &TORUS).expect(&rt, "a surface");
+    let split = split_edges(rt.alloc(), &surface).expect(&rt, "memory for the split");
+    let mut below: u32 = 0;
+    for edge in 0..surface.sides().len() {
+        if let Some(face) = split.child_face(&surface, EdgeName(edge)) {
+            assert!(rt; face != split.root_face());
+            below += 1;
+        }
+    }
+    assert_eq!(rt; below, 13);
+}
+
+#[test]
 fn an_edge_put_in_and_out_leaves_the_rings(rt: HostRuntime) {
     let surface = surface_of(rt.alloc(), 4, &TETRAHEDRON).expect(&rt, "a surface");
     let mut rings = Rings::start(rt.alloc(), &surface).expect(&rt, "memory for the rings");

@@ -7,6 +7,7 @@ ghost use Rattle.tree_cotree.specs.RingViews.{dart_numbers};
 ghost use Rattle.tree_cotree.specs.Searches.{FindsAll};
 ghost use Rattle.tree_cotree.specs.Ways.{HasRoot, IsWayUp};
 
+use crate::maybe_dart::MaybeDart;
 use halfedge_map::Surface;
 use std::alloc::{AllocError, Global};
 use surf_model::DartName;
@@ -16,7 +17,7 @@ use surf_model::DartName;
 pub(crate) fn turn_round(
     alloc: Global,
     surface: &Surface,
-    from: &mut [Option<DartName>],
+    from: &mut [MaybeDart],
     start: DartName,
 ) -> Result<(), AllocError>
     requires valid { IsOrientedSurface surface.now }
@@ -31,8 +32,8 @@ pub(crate) fn turn_round(
     let mut way = way_up(alloc, surface, from, start)?;
     while let Some(dart) = way.pop() {
         let back = surface.twin(dart);
-        from[surface.face_of(back).0 as usize] = Some(back);
-        from[surface.face_of(dart).0 as usize] = None;
+        from[surface.face_of(back).0 as usize] = MaybeDart::some(back);
+        from[surface.face_of(dart).0 as usize] = MaybeDart::none();
     }
     Ok(())
 }
@@ -41,7 +42,7 @@ pub(crate) fn turn_round(
 fn way_up(
     alloc: Global,
     surface: &Surface,
-    from: &[Option<DartName>],
+    from: &[MaybeDart],
     start: DartName,
 ) -> Result<Vec<DartName>, AllocError>
     requires valid { IsOrientedSurface surface.now }
@@ -53,7 +54,7 @@ fn way_up(
 {
     let mut way = Vec::new(alloc);
     let mut face = surface.face_of(start);
-    while let Some(dart) = from[face.0 as usize] {
+    while let Some(dart) = from[face.0 as usize].get() {
         way.push(dart)?;
         face = surface.face_of(surface.twin(dart));
     }

@@ -1,19 +1,18 @@
 use Rattle.std.proofs.Common.{◌≡◌, ◌+◌, ◌<◌, ℕ, length, sym, ap, ◌∙◌, subst, arith}
-use Rattle.std.specs.Prelude.{Some}
-use Rattle.std.specs.Option.{option_map}
+use Rattle.std.specs.Prelude.{Some, None}
 use Rattle.std.proofs.Math.ListN.{set}
-use Rattle.surf_model.specs.declared.names.DartName.{DartName}
 use Rattle.halfedge_map.specs.DartMaps.{edge_of}
 use Rattle.halfedge_map.specs.RotationSystems.{Rotations, rotations_of}
 use Rattle.tree_cotree.specs.Searches.{back_at}
 use Rattle.tree_cotree.specs.Markings.{IsMarked}
+use Rattle.tree_cotree.proofs.SearchLemmas.{kept_read}
 use Rattle.tree_cotree.proofs.TreeLemmas.{marks_skip, marks_more}
 use Rattle.tree_cotree.proofs.marking.mark.Goals.{in-Some, in_default}
 use Rattle.tree_cotree.proofs.marking.mark.Goals as goal
 
 pub edge_of-requires : goal.edge_of-requires
 edge_of-requires c =
-    let some : back_at c.args.from.now c.loop-node.node ≡ Some c.in-Some.dart.0 = ap (option_map (λ (d : DartName). d.0)) c.in-Some.is in
+    let some : back_at c.args.from.now c.loop-node.node ≡ Some c.in-Some.dart.0 = kept_read c.args.from.now c.loop-node.node c.index-from-node.result c.get.result (Some c.in-Some.dart) (omega arith) c.index-from-node.is c.get.ensures c.in-Some.is in
     c.requires.apart.within c.loop-node.node c.in-Some.dart.0 some
 
 pub loop-node-preserved : goal.loop-node-preserved
@@ -22,18 +21,18 @@ loop-node-preserved c =
     let maps : Rotations = rotations_of s in
     let from = c.args.from.now in
     let n : ℕ = c.loop-node.node in
-    elim c.match-from-node.branch [
+    elim c.match-get.branch [
       | in-Some w ↦
           (let x : ℕ = w.in-Some.dart.0 in
-          let some : back_at from n ≡ Some x = ap (option_map (λ (d : DartName). d.0)) w.in-Some.is in
+          let some : back_at from n ≡ Some x = kept_read c.args.from.now c.loop-node.node c.index-from-node.result c.get.result (Some w.in-Some.dart) (omega arith) c.index-from-node.is c.get.ensures w.in-Some.is in
           let below : edge_of s x < length c.args.kinds.now.items = omega (arith, w.edge_of.ensures.within, w.edge_of.ensures.edge, c.requires.kinds) in
           let more : IsMarked maps from c.args.kind c.args.kinds.now.items (set c.loop-node.kinds.items (edge_of s x) c.args.kind) (n + 1) =
           marks_more maps from c.args.kind c.args.kinds.now.items c.loop-node.kinds.items n x c.requires.apart c.loop-node.invariant some below (c.requires.free n x some) in
-          let is : c.match-from-node.kinds.items ≡ set c.loop-node.kinds.items (edge_of s x) c.args.kind =
+          let is : c.match-get.kinds.items ≡ set c.loop-node.kinds.items (edge_of s x) c.args.kind =
           ap (λ v. v.items) w.kinds-is ∙ ap (λ e. set c.loop-node.kinds.items e c.args.kind) w.edge_of.ensures.edge in
           subst (λ ks. IsMarked maps from c.args.kind c.args.kinds.now.items ks (n + 1)) (sym is) more)
       | in_default w ↦
-          (let is : c.match-from-node.kinds.items ≡ c.loop-node.kinds.items = ap (λ v. v.items) w.kinds-is in
+          (let is : c.match-get.kinds.items ≡ c.loop-node.kinds.items = ap (λ v. v.items) w.kinds-is in
           subst (λ ks. IsMarked maps from c.args.kind c.args.kinds.now.items ks (n + 1)) (sym is)
-          (marks_skip maps from c.args.kind c.args.kinds.now.items c.loop-node.kinds.items n c.loop-node.invariant (ap (option_map (λ (d : DartName). d.0)) w.in_default.is)))
+          (marks_skip maps from c.args.kind c.args.kinds.now.items c.loop-node.kinds.items n c.loop-node.invariant (kept_read c.args.from.now c.loop-node.node c.index-from-node.result c.get.result None (omega arith) c.index-from-node.is c.get.ensures w.in_default.is)))
     ]

@@ -1,8 +1,10 @@
 use Rattle.std.proofs.Common.{◌≡◌, ◌<◌, ℕ, true, List, length, ap, sym, ◌∙◌, subst, rules}
+use Rattle.std.specs.Prelude.{is_some}
 use Rattle.halfedge_map.specs.RotationSystems.{Rotations, rotations_of}
 use Rattle.halfedge_map.proofs.SystemLemmas.{rotation_system}
 use Rattle.tree_cotree.specs.RingViews.{dart_numbers}
-use Rattle.tree_cotree.specs.Searches.{node_of, is_allowed, IsFound}
+use Rattle.std.proofs.Math.ListN.{set}
+use Rattle.tree_cotree.specs.Searches.{node_of, is_allowed, IsFound, IsOrder}
 use Rattle.tree_cotree.proofs.SearchLemmas.{IsNewDart, root_found, kept_found, none_kept, order_pushed, found_pushed}
 use Rattle.tree_cotree.proofs.search.cross.Goals.{then-across-root-via-then-across-root, then-across-root-via-else-across-root+then-is_some}
 use Rattle.tree_cotree.proofs.search.cross.Goals as goal
@@ -20,7 +22,7 @@ returns-then-across-root-clause-crossed c =
           root_found maps node (is_allowed c.args.edges c.args.kinds.now) (length from) c.args.root order from c.node-across.result c.requires.order w.if-across-root.true
       | then-across-root-via-else-across-root+then-is_some w ↦
           kept_found maps node (is_allowed c.args.edges c.args.kinds.now) (length from) c.args.root order from c.node-across.result w.index.result.now c.requires.order
-          below w.index.ensures (sym w.is_some.ensures ∙ w.if-is_some.true)
+          below w.index.ensures (ap is_some (sym w.get.ensures) ∙ sym w.is_some.ensures ∙ w.if-is_some.true)
     ])
 
 pub returns-clause-order : goal.returns-clause-order
@@ -35,7 +37,7 @@ returns-clause-order c =
     let across : c.node-across.result ≡ node (maps.twin d) = c.node-across.ensures ∙ ap node c.twin-back.ensures.twin in
     let below : node (maps.twin d) < length from = c.requires.below (maps.twin d) (system.twin_within d c.requires.dart) in
     let same : c.may_cross.result ≡ true = search rules in
-    let none = none_kept from c.node-across.result c.index.result.now (rw across below) c.index.ensures (sym c.is_some.ensures ∙ c.if-is_some.false) in
+    let none = none_kept from c.node-across.result c.index.result.now (rw across below) c.index.ensures (ap is_some (sym c.get.ensures) ∙ sym c.is_some.ensures ∙ c.if-is_some.false) in
     let new : IsNewDart maps node allowed (length from) c.args.root order from d = record {
       dart = c.requires.dart;
       from_found = c.requires.found;
@@ -44,8 +46,9 @@ returns-clause-order c =
       not_root = λ e. c.if-across-root.false (across ∙ e);
       none_kept = rw across at none;
     } in
-    order_pushed maps node allowed (length from) c.args.root c.args.search.now.order.items c.push.new.self.items from d c.node-across.result c.twin-back.result
-    system c.requires.order new c.twin-back.ensures.twin across c.in_ok-push.ensures.items
+    subst (λ entry. IsOrder maps node allowed (length from) c.args.root (dart_numbers c.push.new.self.items) (set from c.node-across.result entry)) (sym c.some.ensures)
+    (order_pushed maps node allowed (length from) c.args.root c.args.search.now.order.items c.push.new.self.items from d c.node-across.result c.twin-back.result
+    system c.requires.order new c.twin-back.ensures.twin across c.in_ok-push.ensures.items)
 
 pub returns-clause-crossed : goal.returns-clause-crossed
 returns-clause-crossed c =

@@ -44,7 +44,7 @@ bounds-from-face_of-in-Some c =
       c.face_of-in-Some.ensures.within,
       c.requires.each_face,
       c.loop-dart.auto.from,
-      length-set c.loop-dart.from c.face_of.result.0 (Some c.twin-back.result),
+      length-set c.loop-dart.from c.face_of.result.0 c.some.result,
     )
 
 pub loop-dart-preserved : goal.loop-dart-preserved
@@ -63,8 +63,9 @@ loop-dart-preserved c =
     (subst (IsPartlyTurned maps c.args.from.now start from) (numbers_push c.pop.new.self.items c.loop-dart.way.items c.in-Some.dart c.in-Some.ensures.items)
     c.loop-dart.invariant)
     c.twin-back.ensures.twin in
-    subst (λ v. IsPartlyTurned maps c.args.from.now start (set (set from v (Some x)) c.face_of-in-Some.result.0 None) way) (sym c.face_of.ensures.face)
-    (subst (λ w. IsPartlyTurned maps c.args.from.now start (set (set from (maps.face x.0) (Some x)) w None) way) (sym c.face_of-in-Some.ensures.face) turned)
+    subst (λ v. IsPartlyTurned maps c.args.from.now start (set (set from v c.some.result) c.face_of-in-Some.result.0 c.none.result) way) (sym c.face_of.ensures.face)
+    (subst (λ w. IsPartlyTurned maps c.args.from.now start (set (set from (maps.face x.0) c.some.result) w c.none.result) way) (sym c.face_of-in-Some.ensures.face)
+    (rw (sym c.some.ensures, sym c.none.ensures) at turned))
 
 pub returns : goal.returns
 returns c =

@@ -1,43 +1,47 @@
 use Rattle.std.proofs.Common.{◌≡◌, ◌<◌, ℕ, List, length, ap, sym, ◌∙◌, subst, arith}
-use Rattle.std.specs.Option.{option_map}
 use Rattle.std.proofs.lemmas.List.{length_push, length-map}
 use Rattle.surf_model.specs.declared.names.DartName.{DartName}
 use Rattle.halfedge_map.specs.OrientedMeshes.{OrientedMesh}
 use Rattle.halfedge_map.specs.RotationSystems.{Rotations, rotations_of}
 use Rattle.halfedge_map.proofs.SystemLemmas.{names_all}
 use Rattle.tree_cotree.specs.RingViews.{dart_numbers}
-use Rattle.tree_cotree.proofs.SearchLemmas.{numbers_push}
+use Rattle.std.specs.Prelude.{Some, None}
+use Rattle.tree_cotree.proofs.SearchLemmas.{numbers_push, kept_read}
 use Rattle.tree_cotree.proofs.TurningLemmas.{IsClimb, climb_start, climb_dart, climb_more, climb_few, climb_within, climb_done}
 use Rattle.tree_cotree.proofs.turning.way_up.Goals as goal
 
-pub loop-face-init : goal.loop-face-init
-loop-face-init c =
+pub loop-dart-init : goal.loop-dart-init
+loop-dart-init c =
     let maps : Rotations = rotations_of c.args.surface.now in
     let start : ℕ = maps.face c.args.start.0 in
     subst (λ f. IsClimb maps c.args.from.now start f (dart_numbers c.new-way.result.items)) (sym c.face_of-face.ensures.face)
     (subst (λ ds. IsClimb maps c.args.from.now start start (dart_numbers ds)) (sym c.new-way.ensures.items)
     (climb_start maps c.args.from.now c.args.start.0 c.requires.tree c.requires.start))
 
-pub bounds : goal.bounds
-bounds c =
+pub bounds-from-face : goal.bounds-from-face
+bounds-from-face c =
     let s : OrientedMesh = c.args.surface.now in
     let maps : Rotations = rotations_of s in
-    climb_within maps c.args.from.now (maps.face c.args.start.0) c.loop-face.face.0 (dart_numbers c.loop-face.way.items) c.loop-face.invariant
+    climb_within maps c.args.from.now (maps.face c.args.start.0) c.loop-dart.face.0 (dart_numbers c.loop-dart.way.items) c.loop-dart.invariant
     (λ e l. subst (λ n. maps.face e < n) (sym c.requires.each_face) ((names_all s c.requires.valid).face_below e l))
 
 pub twin-requires : goal.twin-requires
 twin-requires c =
-    let maps : Rotations = rotations_of c.args.surface.now in
-    (climb_dart maps c.args.from.now (maps.face c.args.start.0) c.loop-face.face.0 (dart_numbers c.loop-face.way.items) c.in-Some.dart.0 c.loop-face.invariant
-    (ap (option_map (λ (d : DartName). d.0)) c.in-Some.is)).0
-
-pub loop-face-smaller : goal.loop-face-smaller
-loop-face-smaller c =
     let s : OrientedMesh = c.args.surface.now in
     let maps : Rotations = rotations_of s in
-    let xs : List DartName = c.loop-face.way.items in
+    let within : c.loop-dart.face.0 < length c.args.from.now =
+    climb_within maps c.args.from.now (maps.face c.args.start.0) c.loop-dart.face.0 (dart_numbers c.loop-dart.way.items) c.loop-dart.invariant
+    (λ e l. subst (λ n. maps.face e < n) (sym c.requires.each_face) ((names_all s c.requires.valid).face_below e l)) in
+    (climb_dart maps c.args.from.now (maps.face c.args.start.0) c.loop-dart.face.0 (dart_numbers c.loop-dart.way.items) c.in-Some.dart.0 c.loop-dart.invariant
+    (kept_read c.args.from.now c.loop-dart.face.0 c.index-from-face.result c.get.result (Some c.in-Some.dart) within c.index-from-face.is c.get.ensures c.in-Some.is)).0
+
+pub loop-dart-smaller : goal.loop-dart-smaller
+loop-dart-smaller c =
+    let s : OrientedMesh = c.args.surface.now in
+    let maps : Rotations = rotations_of s in
+    let xs : List DartName = c.loop-dart.way.items in
     let few : length (dart_numbers xs) < length c.args.from.now =
-    climb_few maps c.args.from.now (maps.face c.args.start.0) c.loop-face.face.0 (dart_numbers xs) c.loop-face.invariant
+    climb_few maps c.args.from.now (maps.face c.args.start.0) c.loop-dart.face.0 (dart_numbers xs) c.loop-dart.invariant
     (λ e l. subst (λ n. maps.face e < n) (sym c.requires.each_face) ((names_all s c.requires.valid).face_below e l)) in
     omega (
       arith,
@@ -47,22 +51,29 @@ loop-face-smaller c =
       length_push xs c.in-Some.dart,
     )
 
-pub loop-face-preserved : goal.loop-face-preserved
-loop-face-preserved c =
-    let maps : Rotations = rotations_of c.args.surface.now in
+pub loop-dart-preserved : goal.loop-dart-preserved
+loop-dart-preserved c =
+    let s : OrientedMesh = c.args.surface.now in
+    let maps : Rotations = rotations_of s in
+    let within : c.loop-dart.face.0 < length c.args.from.now =
+    climb_within maps c.args.from.now (maps.face c.args.start.0) c.loop-dart.face.0 (dart_numbers c.loop-dart.way.items) c.loop-dart.invariant
+    (λ e l. subst (λ n. maps.face e < n) (sym c.requires.each_face) ((names_all s c.requires.valid).face_below e l)) in
     let start : ℕ = maps.face c.args.start.0 in
     let d : ℕ = c.in-Some.dart.0 in
-    let xs : List DartName = c.loop-face.way.items in
+    let xs : List DartName = c.loop-dart.way.items in
     let face : c.face_of-face-in-Some.result.0 ≡ maps.face (maps.twin d) = c.face_of-face-in-Some.ensures.face ∙ ap maps.face c.twin.ensures.twin in
     subst (λ f. IsClimb maps c.args.from.now start f (dart_numbers c.push.new.self.items)) (sym face)
     (subst (IsClimb maps c.args.from.now start (maps.face (maps.twin d))) (sym (numbers_push xs c.push.new.self.items c.in-Some.dart c.in_ok-push.ensures.items))
-    (climb_more maps c.args.from.now start c.loop-face.face.0 (dart_numbers xs) d c.loop-face.invariant
-    (ap (option_map (λ (x : DartName). x.0)) c.in-Some.is)))
+    (climb_more maps c.args.from.now start c.loop-dart.face.0 (dart_numbers xs) d c.loop-dart.invariant
+    (kept_read c.args.from.now c.loop-dart.face.0 c.index-from-face.result c.get.result (Some c.in-Some.dart) within c.index-from-face.is c.get.ensures c.in-Some.is)))
 
 pub returns : goal.returns
 returns c =
     let s : OrientedMesh = c.args.surface.now in
     let maps : Rotations = rotations_of s in
-    climb_done maps c.args.from.now (maps.face c.args.start.0) c.loop-face.face.0 (dart_numbers c.loop-face.way.items) c.loop-face.invariant
+    let within : c.loop-dart.face.0 < length c.args.from.now =
+    climb_within maps c.args.from.now (maps.face c.args.start.0) c.loop-dart.face.0 (dart_numbers c.loop-dart.way.items) c.loop-dart.invariant
+    (λ e l. subst (λ n. maps.face e < n) (sym c.requires.each_face) ((names_all s c.requires.valid).face_below e l)) in
+    climb_done maps c.args.from.now (maps.face c.args.start.0) c.loop-dart.face.0 (dart_numbers c.loop-dart.way.items) c.loop-dart.invariant
     (λ e l. subst (λ n. maps.face e < n) (sym c.requires.each_face) ((names_all s c.requires.valid).face_below e l))
-    (ap (option_map (λ (d : DartName). d.0)) c.in_default.is)
+    (kept_read c.args.from.now c.loop-dart.face.0 c.index-from-face.result c.get.result None within c.index-from-face.is c.get.ensures c.in_default.is)
