@@ -7,6 +7,11 @@ pub record NumberLine : Type 0 where
   pub line : ℕ
   pub numbers : List ℕ
 
+-- lists, and the numbers so far of a line that is of none of them yet
+pub record PendingLists : Type 0 where
+  pub lists : List NumberLine
+  pub pending : List ℕ
+
 -- list k; no numbers where there is no such list
 abbrev pub line_at : List NumberLine → ℕ → NumberLine
 line_at lists k = slice_index_or lists k (record { line = 0; numbers = [] })

@@ -20,6 +20,16 @@ pub struct NumberLines {
     numbers: Vec<u32>,
 }
 
+/// Lists of numbers, and the numbers so far of the present line, which is of none of them yet.
+#[derive(Debug, Drop)]
+pub(crate) struct LinesBuilder {
+    places: Vec<Place>,
+    /// The numbers of all lines, line after line, and of the present one.
+    numbers: Vec<u32>,
+    /// Where the numbers of the present line begin.
+    start: usize,
+}
+
 impl Model for NumberLines {
     ghost use Rattle.std.specs.Prelude.{List};
     ghost use Rattle.walk_files.specs.NumberLists.{NumberLine, stored_lists, AreWithin};
@@ -31,30 +41,74 @@ impl Model for NumberLines {
     ghost invariant = { λ a. AreWithin a.places.items a.numbers.items };
 }
 
-impl NumberLines {
-    ghost use Rattle.walk_files.specs.NumberLists.{NumberLine, line_at};
+impl Model for LinesBuilder {
+    ghost use Rattle.std.specs.Prelude.{◌≤◌, length, drop};
+    ghost use Rattle.walk_files.specs.NumberLists.{PendingLists, stored_lists, AreWithin};
 
-    /// No lists. It takes no memory.
-    pub(crate) fn new(alloc: Global) -> NumberLines
-        ensures { result ≡ [] }
+    ghost Value = { PendingLists };
+
+    ghost view = { λ a. record { lists = stored_lists a.places.items a.numbers.items; pending = drop a.start a.numbers.items } };
+
+    ghost invariant = { λ a. AreWithin a.places.items a.numbers.items × (a.start ≤ length a.numbers.items) };
+}
+
+impl LinesBuilder {
+    ghost use Rattle.walk_files.specs.NumberLists.{NumberLine, PendingLists};
+
+    /// No lists, and no numbers. It takes no memory.
+    pub(crate) fn new(alloc: Global) -> LinesBuilder
+        ensures { result ≡ record { lists = []; pending = [] } }
     {
-        NumberLines {
+        LinesBuilder {
             places: Vec::new(alloc),
             numbers: Vec::new(alloc),
+            start: 0,
         }
     }
 
-    /// Puts the numbers of a line last.
-    pub(crate) fn push(&mut self, line: u64, numbers: &[u32]) -> Result<(), AllocError>
-        ensures ok { OnOk result (self.new ≡ self.old ++ record { line = line; numbers = numbers.now } ∷ []) }
+    /// The number of lists.
+    pub(crate) fn len(&self) -> u64
+        ensures { result ≡ length self.now.lists }
+    {
+        self.places.len() as u64
+    }
+
+    /// Puts a number last in the present line.
+    #[inline(always)]
+    pub(crate) fn push(&mut self, number: u32) -> Result<(), AllocError>
+        ensures ok { OnOk result (self.new ≡ record self.old { pending = self.old.pending ++ number ∷ [] }) }
         ensures err { OnErr result (self.new ≡ self.old) }
     {
-        let start = self.numbers.len();
-        self.numbers.extend_from_slice(numbers)?;
-        let end = self.numbers.len();
-        self.places.push(Place { line, start, end })?;
+        self.numbers.push(number)?;
         Ok(())
     }
+
+    /// Puts the numbers of the present line last among the lists. The line that is the present one then has none yet.
+    pub(crate) fn close(&mut self, line: u64) -> Result<(), AllocError>
+        ensures lists { OnOk result (self.new.lists ≡ self.old.lists ++ record { line = line; numbers = self.old.pending } ∷ []) }
+        ensures pending { OnOk result (self.new.pending ≡ []) }
+        ensures err { OnErr result (self.new ≡ self.old) }
+    {
+        let start = self.start;
+        let end = self.numbers.len();
+        self.places.push(Place { line, start, end })?;
+        self.start = end;
+        Ok(())
+    }
+
+    /// The lists. The numbers of the present line are of none of them.
+    pub(crate) fn finish(self) -> NumberLines
+        ensures { result ≡ self.lists }
+    {
+        NumberLines {
+            places: self.places,
+            numbers: self.numbers,
+        }
+    }
+}
+
+impl NumberLines {
+    ghost use Rattle.walk_files.specs.NumberLists.{NumberLine, line_at};
 
     /// The number of lists.
     pub fn len(&self) -> u64

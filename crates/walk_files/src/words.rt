@@ -7,9 +7,9 @@ ghost use Rattle.walk_files.specs.NumberTexts.{words_of, entries_of, numbers_on}
 
 use crate::fault::WalkFault;
 use crate::limits::{MOST_ENTRIES, MOST_LINES};
-use crate::number_lines::NumberLines;
+use crate::number_lines::{LinesBuilder, NumberLines};
 use crate::numbers::{fault_of_line, number_of_word};
-use std::alloc::{AllocError, Global};
+use std::alloc::Global;
 use text_scan::Cursor;
 
 /// The turn words of a text, one on each line with words.
@@ -17,27 +17,26 @@ pub fn read_words(alloc: Global, bytes: &[u8]) -> Result<NumberLines, WalkFault>
     ensures { (result ≡ words_of bytes.now) ⊎ (result ≡ Err OutOfMemory) }
 {
     let mut cursor = Cursor::new(bytes);
-    let mut lists = NumberLines::new(alloc);
-    let mut entries = Vec::new(alloc);
+    let mut lists = LinesBuilder::new(alloc);
     while cursor.find_line() {
         let line = cursor.line();
         if lists.len() == MOST_LINES {
             return Err(WalkFault::TooMany { line });
         }
-        entries.clear();
-        read_entries(&mut cursor, &mut entries)?;
-        lists.push(line, &entries)?;
+        read_entries(&mut cursor, &mut lists)?;
+        lists.close(line)?;
     }
-    Ok(lists)
+    Ok(lists.finish())
 }
 
-/// Puts the entries of the present line, of which no word was read yet, into an empty list.
-fn read_entries(cursor: &mut Cursor<'_>, entries: &mut Vec<u32>) -> Result<(), WalkFault>
+/// Puts the entries of the present line, of which no word was read yet, behind the lists.
+fn read_entries(cursor: &mut Cursor<'_>, lists: &mut LinesBuilder) -> Result<(), WalkFault>
     requires words { IsTrue (is_filled cursor.old.words) }
-    requires empty { entries.old.items ≡ [] }
+    requires empty { lists.old.pending ≡ [] }
     ensures entries { MatchResult result
-        (λ _. Ok entries.new.items ≡ numbers_on entries_of MOST_ENTRIES cursor.old.line cursor.old.words)
+        (λ _. Ok lists.new.pending ≡ numbers_on entries_of MOST_ENTRIES cursor.old.line cursor.old.words)
         (λ fault. (Err fault ≡ numbers_on entries_of MOST_ENTRIES cursor.old.line cursor.old.words) ⊎ (fault ≡ OutOfMemory)) }
+    ensures lists { lists.new.lists ≡ lists.old.lists }
     ensures place { OnOk result (cursor.new ≡ record cursor.old { words = [] }) }
 {
     let Some(word) = cursor.word() else {
@@ -50,7 +49,7 @@ fn read_entries(cursor: &mut Cursor<'_>, entries: &mut Vec<u32>) -> Result<(), W
     let Some(first) = number_of_word(word) else {
         return Err(fault_of_line(cursor, room));
     };
-    entries.push(first).map_err(AllocError::from)?;
+    lists.push(first)?;
     while let Some(value) = cursor.natural() {
         if room == 0 {
             return Err(WalkFault::TooLong {
@@ -61,7 +60,7 @@ fn read_entries(cursor: &mut Cursor<'_>, entries: &mut Vec<u32>) -> Result<(), W
         let Ok(entry) = u32::try_from(value) else {
             return Err(fault_of_line(cursor, room));
         };
-        entries.push(entry).map_err(AllocError::from)?;
+        lists.push(entry)?;
     }
     end_of_entries(cursor, room)
 }
