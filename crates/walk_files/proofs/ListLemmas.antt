@@ -1,6 +1,6 @@
 -- Lists of numbers that lie one after another.
-use Rattle.std.proofs.Common.{◌≡◌, ℕ, ◌+◌, ◌-◌, ◌≤◌, List, [], ◌∷◌, ◌++◌, length, take, drop, refl, sym, ap, ◌∙◌, arith}
-use Rattle.std.proofs.lemmas.List.{drop-append-le, take-append-le, length-drop, drop_at, take_all, map-append}
+use Rattle.std.proofs.Common.{◌≡◌, ℕ, ◌-◌, ◌≤◌, List, [], ◌∷◌, ◌++◌, length, take, drop, refl, ap, ◌∙◌, arith}
+use Rattle.std.proofs.lemmas.List.{drop-append-le, take-append-le, length-drop}
 use Rattle.std.proofs.lemmas.List.Elements.{All-head, All-tail}
 use Rattle.walk_files.specs.declared.number_lines.Place.{Place}
 use Rattle.walk_files.specs.NumberLists.{list_at, stored_lists, AreWithin}
@@ -22,16 +22,3 @@ stored_lists-append [] numbers more within = refl
 stored_lists-append (place ∷ places) numbers more within =
     ap (λ l. l ∷ stored_lists places (numbers ++ more)) (list_at-append numbers more place (All-head (IsWithin numbers) place places within))
     ∙ ap (λ ls. list_at numbers place ∷ ls) (stored_lists-append places numbers more (All-tail (IsWithin numbers) place places within))
-
--- one more list
-pub stored_lists-push : (places : List Place) (numbers more : List ℕ) (place : Place) → AreWithin places numbers
-    → place.start ≡ length numbers
-    → place.end ≡ length numbers + length more
-    → stored_lists (places ++ place ∷ []) (numbers ++ more) ≡ stored_lists places numbers ++ record { line = place.line; numbers = more } ∷ []
-stored_lists-push places numbers more place within start end =
-    let all : take (place.end - place.start) (drop place.start (numbers ++ more)) ≡ more =
-    ap (take (place.end - place.start)) (drop_at numbers more place.start (sym start))
-    ∙ take_all (place.end - place.start) more (omega arith) in
-    map-append (list_at (numbers ++ more)) places (place ∷ [])
-    ∙ ap (λ ls. ls ++ list_at (numbers ++ more) place ∷ []) (stored_lists-append places numbers more within)
-    ∙ ap (λ ns. stored_lists places numbers ++ record { line = place.line; numbers = ns } ∷ []) all
