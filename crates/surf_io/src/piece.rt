@@ -69,6 +69,11 @@ impl Piece {
         ensures put { self.new ≡ self.old ++ decimal n }
         ensures short { length self.new ≤ length self.old + Piece.DIGITS }
     {
+        // One digit, as entries of turn words mostly are, needs no array of its own.
+        if n < 10 {
+            self.put(&[b'0' + n as u8]);
+            return;
+        }
         let mut text = [0; MOST_DIGITS];
         let start = fill_digits(&mut text, n);
         self.put(&text[start..]);
