@@ -58,7 +58,8 @@ pub fn canonise<L: Ledger>(
     if let Some(at) = first_above(degree, word) {
         return Err(WordFault::Range { at: at as u32 });
     }
-    let mut canonical = Vec::new(alloc);
+    // An entry makes it longer by one at most.
+    let mut canonical = Vec::with_capacity(alloc, word.len())?;
     let mut change = 0;
     for entry in word {
         let turn = sum_modulo(degree, *entry, change);

@@ -130,6 +130,7 @@ impl Form for Hyper {
         let degree = wheel.degree();
         let before = negative_modulo(degree, self.number);
         let turn = sum_modulo(degree, value_of(&self.word, wheel, spoke), before);
+        self.word.reserve(1)?;
         let change = put_turn(&mut self.word, degree, turn, recorder)?;
         let value = value_of(&self.word, wheel, spoke);
         self.number = sum_modulo(degree, value, negative_modulo(degree, change));

@@ -11,8 +11,8 @@ use crate::recorder::Recorder;
 use crate::step::Step;
 use std::alloc::AllocError;
 
-/// Puts a turn at the end of a canonical word, and notes the steps. The answer is the number by which the
-/// turn that comes next is changed. Where memory runs out the word is of no more use.
+/// Puts a turn at the end of a canonical word with room for one entry more, and notes the steps. The answer is
+/// the number by which the turn that comes next is changed. Where a step is refused the word is of no more use.
 #[inline(always)]
 pub(crate) fn put_turn<R: Recorder>(
     word: &mut Vec<u32>,
@@ -23,20 +23,21 @@ pub(crate) fn put_turn<R: Recorder>(
     requires degree { 5 ≤ degree }
     requires turn { turn < degree }
     requires in_range { All (λ entry. entry < degree) word.old.items }
-    requires room { vec_len word.old < 2 ^ 32 - 2 }
+    requires short { vec_len word.old < 2 ^ 32 - 2 }
+    requires room { vec_len word.old < vec_capacity word.old }
     ensures word { OnOk result (reverse word.new.items ≡ (put degree (reverse word.old.items) turn).word) }
     ensures change { IfOk result (λ change. change ≡ (put degree (reverse word.old.items) turn).change) }
     ensures noted { OnOk result (R.noted recorder.new ≡ with_steps (R.noted recorder.old)
         (put_steps degree (reverse word.old.items) turn)) }
     ensures kept { TellsMore (λ _. ⊤) (R.noted recorder.old) (R.noted recorder.new) }
-    ensures sure { R.never_refuses → vec_len word.old < vec_capacity word.old → IsOk result }
-    ensures capacity { vec_capacity word.old ≤ vec_capacity word.new }
+    ensures sure { R.never_refuses → IsOk result }
+    ensures capacity { vec_capacity word.new ≡ vec_capacity word.old }
     ensures longer { vec_len word.new ≤ vec_len word.old + 1 }
 {
     let last = match word.last() {
         Some(entry) => *entry,
         None => {
-            word.push(turn)?;
+            word.push_reserved(turn);
             return Ok(0);
         }
     };
@@ -52,7 +53,7 @@ pub(crate) fn put_turn<R: Recorder>(
         close_bracket(word, degree, recorder)?;
         Ok(negative_modulo(degree, 1))
     } else {
-        word.push(turn)?;
+        word.push_reserved(turn);
         Ok(0)
     }
 }
@@ -73,7 +74,7 @@ fn is_bracket_open(word: &[u32]) -> bool
 }
 
 /// Writes `x (-2)^k` at the end, the run of turns taken whole, as `(x + 1) 1 2^k`.
-#[inline(never)]
+#[inline(always)]
 fn flip_end<R: Recorder>(
     word: &mut Vec<u32>,
     degree: u32,
@@ -82,13 +83,14 @@ fn flip_end<R: Recorder>(
     requires degree { 5 ≤ degree }
     requires in_range { All (λ entry. entry < degree) word.old.items }
     requires some { 0 < vec_len word.old }
-    requires room { vec_len word.old < 2 ^ 32 - 2 }
+    requires short { vec_len word.old < 2 ^ 32 - 2 }
+    requires room { vec_len word.old < vec_capacity word.old }
     ensures word { OnOk result (reverse word.new.items ≡ flipped degree (reverse word.old.items)) }
     ensures noted { OnOk result (R.noted recorder.new ≡ with_steps (R.noted recorder.old)
         (flip_steps degree (reverse word.old.items))) }
     ensures kept { TellsMore (λ _. ⊤) (R.noted recorder.old) (R.noted recorder.new) }
-    ensures sure { R.never_refuses → vec_len word.old < vec_capacity word.old → IsOk result }
-    ensures capacity { vec_capacity word.old ≤ vec_capacity word.new }
+    ensures sure { R.never_refuses → IsOk result }
+    ensures capacity { vec_capacity word.new ≡ vec_capacity word.old }
     ensures longer { vec_len word.new ≤ vec_len word.old + 1 }
 {
     let run = negative_modulo(degree, 2);
@@ -107,13 +109,13 @@ fn flip_end<R: Recorder>(
         twos += 1;
     }
     word[at] = sum_modulo(degree, word[at], 1);
-    word.push(1)?;
-    push_copies(word, 2, twos)?;
+    word.push_reserved(1);
+    push_copies(word, 2, twos);
     Ok(())
 }
 
 /// Writes `x 1 2^k` at the end as `(x - 1) (-2)^k`.
-#[inline(never)]
+#[inline(always)]
 fn close_bracket<R: Recorder>(
     word: &mut Vec<u32>,
     degree: u32,
@@ -122,13 +124,13 @@ fn close_bracket<R: Recorder>(
     requires degree { 5 ≤ degree }
     requires in_range { All (λ entry. entry < degree) word.old.items }
     requires open { is_open (reverse word.old.items) ≡ true }
-    requires room { vec_len word.old < 2 ^ 32 - 2 }
+    requires short { vec_len word.old < 2 ^ 32 - 2 }
     ensures word { OnOk result (reverse word.new.items ≡ closed degree (reverse word.old.items)) }
     ensures noted { OnOk result (R.noted recorder.new ≡ with_steps (R.noted recorder.old)
         (close_steps (reverse word.old.items))) }
     ensures kept { TellsMore (λ _. ⊤) (R.noted recorder.old) (R.noted recorder.new) }
     ensures sure { R.never_refuses → IsOk result }
-    ensures capacity { vec_capacity word.old ≤ vec_capacity word.new }
+    ensures capacity { vec_capacity word.new ≡ vec_capacity word.old }
     ensures longer { vec_len word.new ≤ vec_len word.old + 1 }
 {
     let mut last = word.len() - 1;
@@ -149,19 +151,17 @@ fn close_bracket<R: Recorder>(
     last -= 1;
     recorder.note(Step::SpurOut { at: last as u32 })?;
     word[last] = sum_modulo(degree, word[last], negative_modulo(degree, 1));
-    push_copies(word, negative_modulo(degree, 2), twos)?;
+    push_copies(word, negative_modulo(degree, 2), twos);
     Ok(())
 }
 
-/// Puts copies of an entry last.
-fn push_copies(word: &mut Vec<u32>, entry: u32, count: usize) -> Result<(), AllocError>
-    ensures items { OnOk result (word.new.items ≡ word.old.items ++ replicate count entry) }
-    ensures sure { vec_len word.old + count ≤ vec_capacity word.old → IsOk result }
-    ensures capacity { vec_capacity word.old ≤ vec_capacity word.new }
-    ensures longer { vec_len word.new ≤ vec_len word.old + count }
+/// Puts copies of an entry last, for which there is room.
+fn push_copies(word: &mut Vec<u32>, entry: u32, count: usize)
+    requires room { vec_len word.old + count ≤ vec_capacity word.old }
+    ensures items { word.new.items ≡ word.old.items ++ replicate count entry }
+    ensures capacity { vec_capacity word.new ≡ vec_capacity word.old }
 {
     for _ in 0..count {
-        word.push(entry)?;
+        word.push_reserved(entry);
     }
-    Ok(())
 }

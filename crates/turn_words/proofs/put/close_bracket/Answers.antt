@@ -65,7 +65,7 @@ returns-clause-word g c =
     let sums : c.sum_modulo.result ≡ add d (get_or c.pop-2.new.self.items (at - 1) 0) (minus d 1) =
     c.sum_modulo.ensures.sum ∙ ap (λ n. add d n c.negative_modulo.result) value ∙ ap (add d (get_or c.pop-2.new.self.items (at - 1) 0)) c.negative_modulo.ensures.negative in
     let items : c.push_copies.new.word.items ≡ set c.pop-2.new.self.items (at - 1) c.sum_modulo.result ++ replicate c.loop-word.twos (minus d 2) =
-    rw (c.in_ok-push_copies.ensures.items, c.negative_modulo-2.ensures.negative) refl in
+    rw (c.push_copies.ensures.items, c.negative_modulo-2.ensures.negative) refl in
     rw items (closing-end d c.requires.degree c.args.word.now.items now c.pop-2.new.self.items at c.loop-word.twos c.sum_modulo.result f stop front sums)
 
 pub returns-clause-noted : goal.returns-clause-noted

@@ -1,4 +1,4 @@
-use Rattle.std.proofs.Common.{◌≡◌, ◌≤◌, reverse, vec_capacity}
+use Rattle.std.proofs.Common.{◌≡◌, reverse, vec_capacity}
 use Rattle.turn_words.specs.Recorded.{with_steps, TellsMore}
 use Rattle.turn_words.specs.Private.Put_steps.{close_steps}
 use Rattle.turn_words.proofs.Loops.{Closing}
@@ -9,7 +9,7 @@ invariant-loop-word g l = record {
   closing : Closing l.degree l.fn.word.items l.word.items l.last l.twos;
   noted : with_steps (g.R.Recorder.noted l.fn.recorder) (close_steps (reverse l.fn.word.items)) ≡ with_steps (g.R.Recorder.noted l.recorder) (close_steps (reverse l.word.items));
   kept : TellsMore (λ _. Unit {0}) (g.R.Recorder.noted l.fn.recorder) (g.R.Recorder.noted l.recorder);
-  capacity : vec_capacity l.fn.word ≤ vec_capacity l.word;
+  capacity : vec_capacity l.word ≡ vec_capacity l.fn.word;
 }
 
 abbrev pub decreases-loop-word : goal.decreases-loop-word

@@ -40,7 +40,7 @@ returns-clause-word g c =
     ] in
     let written = flipping-end d c.requires.degree c.args.word.now.items now at c.loop-word.twos c.sum_modulo.result f stop (c.sum_modulo.ensures.sum ∙ ap (λ n. add d n 1) value) in
     let items : c.push_copies.new.word.items ≡ set now at c.sum_modulo.result ++ (1 ∷ []) ++ replicate c.loop-word.twos 2 =
-    rw (c.in_ok-push_copies.ensures.items, c.in_ok-push.ensures.items) refl in
+    rw (c.push_copies.ensures.items, c.push_reserved.ensures.items) refl in
     rw items written
 
 pub returns-clause-noted : goal.returns-clause-noted
