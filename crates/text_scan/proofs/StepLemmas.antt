@@ -2,11 +2,12 @@
 use Rattle.std.proofs.Common.{◌≡◌, ◌≢◌, ℕ, ◌+◌, ◌-◌, ◌*◌, ◌/◌, ◌^◌, ◌<◌, ◌≤◌, min, Bool, true, false, cond, not, eqb, ◌||◌, List, [], ◌∷◌, ◌++◌, length, take, drop, get_or, length-append, length-drop, refl, sym, ap, ap₂, subst, ◌∙◌, append_assoc, append-nil, inl, inr, arith}
 use Rattle.std.specs.Prelude.{Some, None, option_map}
 use Rattle.std.specs.List.{list_all, before_first, position_or_len, onto_first}
-use Rattle.std.proofs.lemmas.List.{take_all}
+use Rattle.std.proofs.lemmas.List.{take_all, drop-drop, get_or-drop}
+use Rattle.std.proofs.lemmas.Grind.{pow_more}
 use Rattle.std.proofs.lemmas.Bool.{cases_Bool, not-true, not-false, not_from_false, ne_eqb, eq-eqb, and_parts, and_from, and_left, and_right, or_parts, or_cases, both_ways, cases_lt}
 use Rattle.std.proofs.lemmas.List.Sums.{fold-append}
 use Rattle.std.proofs.lemmas.List.Folds.{list_all-append}
-use Rattle.std.proofs.Math.Nat.{min-eq_left, min-eq_right}
+use Rattle.std.proofs.Math.Nat.{min-eq_left, min-eq_right, pow-le-pow_right}
 use Rattle.text_scan.specs.Lines.{is_filled, is_blank, cut, lines_from}
 use Rattle.text_scan.specs.Numbers.{is_digit, is_natural, value_of, natural_of}
 use Rattle.text_scan.specs.Unread.{is_line_feed, words_here, behind, next_natural}
@@ -225,6 +226,36 @@ small_digit bytes rest capped some digit small so_far =
     let second : min (capped * 10 + (get_or rest 0 0 - 48)) (2 ^ 64 - 1) ≡ capped * 10 + (get_or rest 0 0 - 48) = min-eq_left (omega (arith, small, low)) in
     one_digit bytes rest capped (capped * 10 + (get_or rest 0 0 - 48)) some digit
     (sym (ap (λ n. min (n + (get_or rest 0 0 - 48)) (2 ^ 64 - 1)) first ∙ second)) so_far
+
+-- so many bytes at the front are digits, and the value that they stand for has no more digits than they
+pub record FewDigits (bytes : List ℕ) (n value : ℕ) : Type 0 where
+  pub past : ArePastDigits bytes value (drop n bytes)
+  pub small : value < 10 ^ n
+
+pub no_few : (bytes : List ℕ) → FewDigits bytes 0 0
+no_few bytes = record { past = no_digits bytes; small = omega arith }
+
+pub few_small : (bytes : List ℕ) (n value : ℕ) → n < 18 → FewDigits bytes n value → value < 10 ^ 17
+few_small bytes n value few h =
+    let less : n ≤ 17 = omega (arith, few) in
+    let some : 0 < 10 = omega arith in
+    let most : 10 ^ n ≤ 10 ^ 17 = pow-le-pow_right some less in
+    omega (arith, h.small, most)
+
+pub few_more : (bytes : List ℕ) (n value : ℕ) → n < length bytes → n < 18 → is_digit (get_or bytes n 0) ≡ true
+    → FewDigits bytes n value → FewDigits bytes (n + 1) (value * 10 + (get_or bytes n 0 - 48))
+few_more bytes n value below few digit h =
+    let low : get_or bytes n 0 - 48 < 10 = grind (arith, digit) in
+    let first : get_or (drop n bytes) 0 0 ≡ get_or bytes n 0 = get_or-drop n bytes 0 0 ∙ ap (λ k. get_or bytes k 0) (omega arith) in
+    let behind : after_head (drop n bytes) ≡ drop (n + 1) bytes =
+    take_all (length (drop n bytes) - 1) (drop 1 (drop n bytes)) (omega (arith, length-drop 1 (drop n bytes))) ∙ drop-drop 1 n bytes in
+    let more : ArePastDigits bytes (value * 10 + (get_or (drop n bytes) 0 0 - 48)) (after_head (drop n bytes)) =
+    small_digit bytes (drop n bytes) value (omega (arith, length-drop n bytes, below)) (ap is_digit first ∙ digit) (omega (arith, few_small bytes n value few h)) h.past in
+    record {
+      past = subst (λ t. ArePastDigits bytes (value * 10 + (t - 48)) (drop (n + 1) bytes)) first
+          (subst (ArePastDigits bytes (value * 10 + (get_or (drop n bytes) 0 0 - 48))) behind more);
+      small = omega (arith, h.small, pow_more 10 n, low);
+    }
 
 -- the digits at the front are a whole word
 record IsNaturalFirst (rest : List ℕ) (capped : ℕ) (after : List ℕ) : Type 0 where

@@ -11,7 +11,8 @@ use crate::naturals::{after_digits, after_sign, is_number_text};
 fn is_blank(byte: u8) -> bool
     ensures { result ≡ is_blank byte }
 {
-    matches!(byte, b' ' | b'\t' | 0x0B | 0x0C | b'\r')
+    // Nearly every byte of a word is larger, so that one comparison is enough for it.
+    byte <= b' ' && matches!(byte, b' ' | b'\t' | 0x0B | 0x0C | b'\r')
 }
 
 /// Whether no word goes on at this byte.
@@ -98,6 +99,9 @@ pub(crate) fn first_word(start: u64, bytes: &[u8]) -> Option<(u64, &[u8])>
     None
 }
 
+/// So many digits never stand for a number that is too large.
+const FEW_DIGITS: usize = 18;
+
 /// The number that the digits at the front stand for, or 2^64 - 1 where it is larger, and the bytes
 /// behind them.
 #[inline(always)]
@@ -105,20 +109,16 @@ fn digits(bytes: &[u8]) -> (u64, &[u8])
     ensures digits { ArePastDigits bytes.now result.0 result.1.now }
     ensures stop { begins_with is_digit result.1.now ≡ false }
 {
+    let few = bytes.len().min(FEW_DIGITS);
     let mut value: u64 = 0;
-    let mut rest = bytes;
-    while let [byte, after @ ..] = rest {
+    for at in 0..few {
+        let byte = bytes[at];
         if !byte.is_ascii_digit() {
-            break;
-        }
-        // One more digit would have to be looked at with care, which no number in use needs.
-        if value >= u64::MAX / 10 {
-            return more_digits(value, rest);
+            return (value, &bytes[at..]);
         }
         value = value * 10 + u64::from(byte - b'0');
-        rest = after;
     }
-    (value, rest)
+    more_digits(value, &bytes[few..])
 }
 
 /// The same where the digits before have this value.
