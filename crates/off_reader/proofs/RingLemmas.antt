@@ -401,6 +401,46 @@ at_differ ring t next d below is within differ so_far =
 pub at_end : (ring : List VertexName) (n : ℕ) → length ring ≤ n → DifferTo (numbers ring) n → false ≡ has_equal_neighbours (numbers ring)
 at_end ring n past so_far = differ_all (numbers ring) n (omega (arith, past, length-map ring (λ (v : VertexName). v.0))) so_far
 
+next_inside : (m t : ℕ) → 1 ≤ t → t < m → t ≡ next_corner true m (t - 1)
+next_inside m t some below =
+    let here : t - 1 + 1 ≡ t = omega (arith, some) in
+    let inside : eqb t m ≡ false = grind (arith, below) in
+    rw (here, inside) refl
+
+-- corner t and the one before it
+pub equal_before : (ring : List VertexName) (t : ℕ) (d : VertexName) → 1 ≤ t → t < length ring
+    → (get_or ring (t - 1) d).0 ≡ (get_or ring t d).0 → true ≡ has_equal_neighbours (numbers ring)
+equal_before ring t d some below same = at_equal ring (t - 1) t d (omega (arith, below)) (next_inside (length ring) t some below) below same
+
+pub differ_before : (ring : List VertexName) (t : ℕ) (d : VertexName) → 1 ≤ t → t < length ring
+    → (get_or ring (t - 1) d).0 ≢ (get_or ring t d).0 → DifferTo (numbers ring) (t - 1) → DifferTo (numbers ring) (t + 1 - 1)
+differ_before ring t d some below differ so_far =
+    subst (DifferTo (numbers ring)) (omega (arith, some))
+    (at_differ ring (t - 1) t d (omega (arith, below)) (next_inside (length ring) t some below) below differ so_far)
+
+-- the last corner, which the first one follows
+pub by_last : (ring : List VertexName) (n : ℕ) (d : VertexName) → 0 < length ring → length ring ≡ n → DifferTo (numbers ring) (n - 1)
+    → eqb (get_or ring (length ring - 1) d).0 (get_or ring 0 d).0 ≡ has_equal_neighbours (numbers ring)
+by_last ring n d some same so_far = by_test (eqb (get_or ring (length ring - 1) d).0 (get_or ring 0 d).0) refl
+  where
+    last : ℕ
+    last = length ring - 1
+
+    below : last < length ring
+    below = omega (arith, some)
+
+    is : 0 ≡ next_corner true (length ring) last
+    is = let all : eqb (last + 1) (length ring) ≡ true = eq-eqb (last + 1) (length ring) (omega (arith, some)) in rw all refl
+
+    differ : DifferTo (numbers ring) last
+    differ = subst (λ k. DifferTo (numbers ring) (k - 1)) (sym same) so_far
+
+    by_test : (b : Bool) → eqb (get_or ring last d).0 (get_or ring 0 d).0 ≡ b → b ≡ has_equal_neighbours (numbers ring)
+    by_test true e = equal_found (numbers ring) last (omega (arith, below, length-map ring (λ (v : VertexName). v.0))) (next_entry ring last 0 d below is some true e)
+    by_test false e =
+        at_end ring (last + 1) (omega (arith, some))
+        (differ_more (numbers ring) last (omega (arith, below, length-map ring (λ (v : VertexName). v.0))) (next_entry ring last 0 d below is some false e) differ)
+
 -- a corner more
 pub pushed : (old new : List VertexName) (v : VertexName) (b : Bool) → new ≡ cond b (old ++ v ∷ []) old → b ≡ true
     → numbers new ≡ numbers old ++ v.0 ∷ []

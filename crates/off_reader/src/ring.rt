@@ -8,7 +8,6 @@ ghost use Rattle.off_reader.specs.OffSteps.{IsSameLine, ReadsCorners};
 ghost use Rattle.surf_model.specs.declared.limits.TheConstants.{MOST_VERTICES, MOST_SIDES};
 
 use crate::off_fault::OffFault;
-use surf_model::faces::corner_after;
 use surf_model::{MOST_SIDES, VertexName};
 use text_scan::Cursor;
 
@@ -95,15 +94,13 @@ fn read_corners(
 
 /// Whether two neighbours round the face are one vertex.
 fn has_equal_neighbours(ring: &[VertexName]) -> bool
-    requires { length ring.now ≤ MOST_SIDES }
     ensures { result ≡ has_equal_neighbours (numbers ring.now) }
 {
-    let sides = ring.len() as u32;
-    for corner in 0..sides {
-        let next = corner_after(true, sides, corner);
-        if ring[corner as usize].0 == ring[next as usize].0 {
+    let sides = ring.len();
+    for corner in 1..sides {
+        if ring[corner - 1].0 == ring[corner].0 {
             return true;
         }
     }
-    false
+    sides > 0 && ring[sides - 1].0 == ring[0].0
 }

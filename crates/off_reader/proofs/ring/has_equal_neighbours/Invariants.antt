@@ -1,6 +1,7 @@
+use Rattle.std.proofs.Common.{◌-◌}
 use Rattle.surf_model.specs.Vertices.{numbers}
 use Rattle.off_reader.proofs.RingLemmas.{DifferTo}
 use Rattle.off_reader.proofs.ring.has_equal_neighbours.Given as goal
 
 abbrev pub invariant-loop-corner : goal.invariant-loop-corner
-invariant-loop-corner l = DifferTo (numbers l.ring) l.corner
+invariant-loop-corner l = DifferTo (numbers l.ring) (l.corner - 1)
