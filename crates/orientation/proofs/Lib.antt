@@ -7,3 +7,4 @@ pub mod TreeLemmas
 pub mod SearchLemmas
 pub mod ClimbLemmas
 pub mod EitherLemmas
+pub mod ListedLemmas

@@ -27,6 +27,10 @@ differ false other = other
 abbrev pub runs_alike : FaceList → Side → Side → Bool
 runs_alike mesh side other = tail_of mesh side == tail_of mesh other
 
+-- the faces are listed coherently as they stand: no two sides of one edge run the same way
+abbrev pub AreListedCoherently : FaceList → Type 0
+AreListedCoherently mesh = (side other : Side) → ArePartners mesh side other → runs_alike mesh side other ≡ false
+
 -- the signs of the two faces fit: they differ exactly where the two sides run the same way
 abbrev pub Fit : FaceList → List Bool → Side → Side → Type 0
 Fit mesh signs side other = differ (is_flipped signs side.face.0) (is_flipped signs other.face.0) ≡ runs_alike mesh side other

@@ -12,6 +12,7 @@ mod across;
 mod climb;
 pub mod fault;
 pub mod laws;
+mod listed;
 pub mod orienting;
 mod search;
 mod trees;

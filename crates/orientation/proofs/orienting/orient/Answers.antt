@@ -1,5 +1,7 @@
-use Rattle.std.proofs.Common.{arith}
+use Rattle.std.proofs.Common.{false, ap, ◌∙◌, arith}
+use Rattle.std.specs.Prelude.{replicate}
 use Rattle.orientation.proofs.ChainLemmas.{odd_excludes}
+use Rattle.orientation.proofs.ListedLemmas.{kept_coherent}
 use Rattle.orientation.proofs.TreeLemmas.{few_faces}
 use Rattle.orientation.proofs.orienting.orient.Goals as goal
 
@@ -14,3 +16,10 @@ pub returns-in-Some-clause-not_orientable : goal.returns-in-Some-clause-not_orie
 returns-in-Some-clause-not_orientable c chain is signs =
     odd_excludes c.args.faces.now c.in_ok-chain_round-in-Some.field-0 c.in_ok-short.ensures.trees.mesh_is
     c.in_ok-chain_round-in-Some.ensures signs
+
+pub returns-then-are_listed_coherently-clause-coherent : goal.returns-then-are_listed_coherently-clause-coherent
+returns-then-are_listed_coherently-clause-coherent c =
+    let mesh = c.args.faces.now in
+    kept_coherent mesh c.in_ok-all_kept.field-0 c.are_listed_coherently.ensures.valid
+    (c.in_ok-all_kept.ensures ∙ ap (λ n. replicate n false) c.len.ensures.count)
+    (c.are_listed_coherently.ensures.coherent c.if-are_listed_coherently.true)

@@ -1,0 +1,88 @@
+-- Faces that are listed coherently as they stand, looked through side by side.
+use Rattle.std.proofs.Common.{◌≡◌, inl, inr, ℕ, zero, suc, ◌+◌, ◌<◌, ◌≤◌, Bool, false, List, length, refl, ap, sym, ◌∙◌, subst, arith}
+use Rattle.std.specs.Prelude.{replicate}
+use Rattle.std.proofs.lemmas.Bool.{cases_lt, cases_eq}
+use Rattle.std.proofs.lemmas.List.{length-replicate}
+use Rattle.surf_model.specs.FaceLists.{FaceList, IsFaceList, total_sides}
+use Rattle.surf_model.specs.Darts.{IsSide, side_number}
+use Rattle.surf_model.specs.Surfaces.{ArePartners, IsCoherent, is_flipped}
+use Rattle.surf_model.specs.declared.edges.Side.{Side}
+use Rattle.surf_model.proofs.SideNumberLemmas.{side_below}
+use Rattle.orientation.specs.Classes.{EachEdgeHasAtMostTwoSides, IsLeastKept}
+use Rattle.orientation.specs.Trees.{differ, runs_alike, AreListedCoherently}
+use Rattle.orientation.proofs.AcrossLemmas.{one_number, IsOther}
+use Rattle.orientation.proofs.Fitting.{eqb_swap, opposite_if_fit}
+use Rattle.orientation.proofs.Partners.{partners_swap, one_partner}
+
+-- no side with a number below n runs like a partner that comes before it
+abbrev pub FitUpTo : FaceList → ℕ → Type 0
+FitUpTo mesh n =
+    (side other : Side) → ArePartners mesh side other → side_number mesh side < n → side_number mesh other < side_number mesh side
+    → runs_alike mesh side other ≡ false
+
+pub fit_none : (mesh : FaceList) → FitUpTo mesh 0
+fit_none mesh side other partners l before = absurd (omega (arith, l))
+
+pub fit_fewer : (mesh : FaceList) (m n : ℕ) → m ≤ n → FitUpTo mesh n → FitUpTo mesh m
+fit_fewer mesh m n few h side other partners l before = h side other partners (omega (arith, l, few)) before
+
+-- one side more, whose partner comes later or runs oppositely
+pub fit_passed : (mesh : FaceList) (side : Side) (n next : ℕ) → side_number mesh side ≡ n → IsSide mesh side → FitUpTo mesh n
+    → ((other : Side) → ArePartners mesh side other → side_number mesh other < n → runs_alike mesh side other ≡ false)
+    → FitUpTo mesh (n + 1)
+fit_passed mesh side n next number is h here one other partners l before =
+    elim (cases_lt (side_number mesh one) n) [
+      | inl less ↦ h one other partners less before
+      | inr last ↦
+          (let at : side_number mesh one ≡ n = omega (arith, l, last) in
+          let same : side ≡ one = one_number mesh side one is partners.first (number ∙ sym at) in
+          subst (λ s. runs_alike mesh s other ≡ false) same
+          (here other (subst (λ s. ArePartners mesh s other) (sym same) partners) (omega (arith, at, before))))
+    ]
+
+-- the partner that is looked up is the only one
+pub other_partner : (mesh : FaceList) (side other : Side) (next : ℕ) → EachEdgeHasAtMostTwoSides mesh → IsOther mesh side next
+    → IsSide mesh other → side_number mesh other ≡ next → ArePartners mesh side other
+other_partner mesh side other next two o is number =
+    subst (ArePartners mesh side) (one_number mesh o.other other o.partners.second is (o.number ∙ sym number)) o.partners
+
+pub only_partner : (mesh : FaceList) (side other partner : Side) (next : ℕ) → EachEdgeHasAtMostTwoSides mesh → IsOther mesh side next
+    → IsSide mesh other → side_number mesh other ≡ next → ArePartners mesh side partner → other ≡ partner
+only_partner mesh side other partner next two o is number partners =
+    sym (one_partner mesh side other partner two (other_partner mesh side other next two o is number) partners)
+
+pub partner_number : (mesh : FaceList) (side partner : Side) (next : ℕ) → EachEdgeHasAtMostTwoSides mesh → IsOther mesh side next
+    → ArePartners mesh side partner → side_number mesh partner ≡ next
+partner_number mesh side partner next two o partners =
+    ap (side_number mesh) (one_partner mesh side o.other partner two o.partners partners) ∙ o.number
+
+pub fit_all : (mesh : FaceList) (n : ℕ) → total_sides mesh ≤ n → FitUpTo mesh n → AreListedCoherently mesh
+fit_all mesh n all h side other partners =
+    let below : (s : Side) → IsSide mesh s → side_number mesh s < n = λ s is. omega (arith, all, side_below mesh s.face.0 s.at is.face is.place) in
+    elim (cases_lt (side_number mesh other) (side_number mesh side)) [
+      | inl before ↦ h side other partners (below side partners.first) before
+      | inr behind ↦ elim (cases_eq (side_number mesh side) (side_number mesh other)) [
+        | inl same ↦ absurd (partners.different (one_number mesh side other partners.first partners.second same))
+        | inr apart ↦ eqb_swap _ _ ∙ h other side (partners_swap mesh side other partners) (below other partners.second) (omega (arith, behind, apart))
+      ]
+    ]
+
+-- then all faces can be kept
+kept : (n f : ℕ) → is_flipped (replicate n false) f ≡ false
+kept zero f = refl
+kept (suc n) zero = refl
+kept (suc n) (suc f) = kept n f
+
+pub kept_coherent : (mesh : FaceList) (signs : List Bool) → IsFaceList mesh → signs ≡ replicate (length mesh.faces) false → AreListedCoherently mesh
+    → IsCoherent mesh signs
+kept_coherent mesh signs is all listed = record {
+  each_face = ap (λ (ss : List Bool). length ss) all ∙ length-replicate (length mesh.faces) false;
+  opposite = λ side other partners. opposite_if_fit mesh signs side other is partners
+      (ap (λ b. differ b (is_flipped signs other.face.0)) (kept_is side.face.0) ∙ kept_is other.face.0 ∙ sym (listed side other partners));
+}
+  where
+    kept_is : (f : ℕ) → is_flipped signs f ≡ false
+    kept_is f = ap (λ ss. is_flipped ss f) all ∙ kept (length mesh.faces) f
+
+pub all_are_kept : (mesh : FaceList) (signs : List Bool) (n : ℕ) → signs ≡ replicate n false → IsLeastKept mesh signs
+all_are_kept mesh signs n all face l least = ap (λ ss. is_flipped ss face) all ∙ kept n face
