@@ -1,5 +1,6 @@
 //! A turn put at the end of a canonical word. The word is a plain list, and a run at its end is rewritten
-//! entry by entry.
+//! entry by entry. All of it becomes part of the caller's loop, in which the length of the list then need not
+//! go through memory.
 ghost use Rattle.std.specs.Prelude.{◌≡◌, ◌+◌, ◌-◌, ◌^◌, ◌<◌, ◌≤◌, ◌++◌, true, All, length, reverse, replicate, vec_len, vec_capacity, OnOk, IfOk, IsOk, ⊤};
 ghost use Rattle.turn_words.specs.Modulo.{minus};
 ghost use Rattle.turn_words.specs.Put_turns.{is_open, flipped, closed, put};
