@@ -1,13 +1,12 @@
 //! Meshes whose faces are listed coherently as they stand.
-ghost use Rattle.std.specs.Prelude.{◌≡◌, true, false, replicate, IfOk};
+ghost use Rattle.std.specs.Prelude.{◌≡◌, true, false};
 ghost use Rattle.surf_model.specs.FaceLists.{IsFaceList};
 ghost use Rattle.surf_model.specs.Edges.{IsTableOf};
 ghost use Rattle.orientation.specs.Classes.{EachEdgeHasAtMostTwoSides};
 ghost use Rattle.orientation.specs.Trees.{AreListedCoherently};
 
 use crate::across::run_alike;
-use std::alloc::{AllocError, Global};
-use surf_model::{FaceName, Faces, Side, Sides, Signs};
+use surf_model::{FaceName, Faces, Side, Sides};
 
 /// Whether the two sides of every edge that has two run oppositely, as their faces list them.
 pub(crate) fn are_listed_coherently(faces: &Faces, sides: &Sides) -> bool
@@ -31,15 +30,4 @@ pub(crate) fn are_listed_coherently(faces: &Faces, sides: &Sides) -> bool
         }
     }
     true
-}
-
-/// Signs that keep all of so many faces.
-pub(crate) fn all_kept(alloc: Global, faces: u32) -> Result<Signs, AllocError>
-    ensures { IfOk result (λ signs. signs ≡ replicate faces false) }
-{
-    let mut signs = Signs::new(alloc);
-    for _face in 0..faces {
-        signs.push(false)?;
-    }
-    Ok(signs)
 }

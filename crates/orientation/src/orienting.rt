@@ -8,7 +8,7 @@ ghost use Rattle.orientation.specs.Classes.{EachEdgeHasAtMostTwoSides, IsLeastKe
 
 use crate::climb::chain_round;
 use crate::fault::OrientFault;
-use crate::listed::{all_kept, are_listed_coherently};
+use crate::listed::are_listed_coherently;
 use crate::search::{Order, search};
 use std::alloc::Global;
 use surf_model::{Faces, Sides, Signs};
@@ -25,7 +25,7 @@ pub fn orient(alloc: Global, faces: &Faces, sides: &Sides) -> Result<Signs, Orie
     ensures not_orientable { (chain : List ChainLink) → result ≡ Err (OrientFault.NotOrientable chain) → IsOrientable faces.now → ⊥ }
 {
     if are_listed_coherently(faces, sides) {
-        return Ok(all_kept(alloc, faces.len())?);
+        return Ok(Signs::kept(alloc, faces.len())?);
     }
     let quick = search(alloc, faces, sides, Order::LastFound)?;
     if quick.tear.is_none() {

@@ -1,5 +1,5 @@
 //! Which faces of a mesh are turned round.
-ghost use Rattle.std.specs.Prelude.{◌≡◌, ◌+◌, ◌<◌, ◌^◌, [], ◌∷◌, ◌++◌, length, OnOk, OnErr};
+ghost use Rattle.std.specs.Prelude.{◌≡◌, ◌+◌, ◌<◌, ◌^◌, false, [], ◌∷◌, ◌++◌, length, replicate, IfOk, OnOk, OnErr};
 ghost use Rattle.surf_model.specs.Surfaces.{is_flipped};
 
 use crate::names::FaceName;
@@ -32,6 +32,15 @@ impl Signs {
         Signs {
             flipped: Vec::new(alloc),
         }
+    }
+
+    /// Signs that keep all of so many faces.
+    pub fn kept(alloc: Global, faces: u32) -> Result<Signs, AllocError>
+        ensures { IfOk result (λ signs. signs ≡ replicate faces false) }
+    {
+        Ok(Signs {
+            flipped: vec![in alloc; false; faces as usize]?,
+        })
     }
 
     /// Puts the sign of the next face last.

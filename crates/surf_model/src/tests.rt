@@ -82,6 +82,13 @@ fn signs_are_read_back(rt: HostRuntime) {
 }
 
 #[test]
+fn all_faces_are_kept(rt: HostRuntime) {
+    let signs = Signs::kept(rt.alloc(), 2).expect(&rt, "memory");
+    assert_eq!(rt; signs.len(), 2);
+    assert!(rt; !signs.flipped(FaceName(1)));
+}
+
+#[test]
 fn chains_are_read_back(rt: HostRuntime) {
     let first = ChainLink {
         face: FaceName(0),

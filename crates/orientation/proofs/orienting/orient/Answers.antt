@@ -20,6 +20,6 @@ returns-in-Some-clause-not_orientable c chain is signs =
 pub returns-then-are_listed_coherently-clause-coherent : goal.returns-then-are_listed_coherently-clause-coherent
 returns-then-are_listed_coherently-clause-coherent c =
     let mesh = c.args.faces.now in
-    kept_coherent mesh c.in_ok-all_kept.field-0 c.are_listed_coherently.ensures.valid
-    (c.in_ok-all_kept.ensures ∙ ap (λ n. replicate n false) c.len.ensures.count)
+    kept_coherent mesh c.in_ok-kept.field-0 c.are_listed_coherently.ensures.valid
+    (c.in_ok-kept.ensures ∙ ap (λ n. replicate n false) c.len.ensures.count)
     (c.are_listed_coherently.ensures.coherent c.if-are_listed_coherently.true)
