@@ -441,11 +441,6 @@ by_last ring n d some same so_far = by_test (eqb (get_or ring (length ring - 1) 
         at_end ring (last + 1) (omega (arith, some))
         (differ_more (numbers ring) last (omega (arith, below, length-map ring (λ (v : VertexName). v.0))) (next_entry ring last 0 d below is some false e) differ)
 
--- a corner more
-pub pushed : (old new : List VertexName) (v : VertexName) (b : Bool) → new ≡ cond b (old ++ v ∷ []) old → b ≡ true
-    → numbers new ≡ numbers old ++ v.0 ∷ []
-pushed old new v b is e = ap numbers is ∙ rw e (map-append (λ (x : VertexName). x.0) old (v ∷ []))
-
 -- ---- a ring without a fault is a face
 
 differ_at : (ring : List ℕ) → has_equal_neighbours ring ≡ false → (t : ℕ) → t < length ring

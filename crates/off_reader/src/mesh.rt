@@ -11,7 +11,7 @@ use crate::header::{Header, read_header};
 use crate::off_fault::OffFault;
 use crate::ring::read_ring;
 use std::alloc::Global;
-use surf_model::Faces;
+use surf_model::{Faces, FacesBuilder};
 use text_scan::Cursor;
 
 /// The mesh that a text means in the format OFF, or its first fault.
@@ -77,12 +77,11 @@ fn read_faces(alloc: Global, cursor: &mut Cursor, header: Header) -> Result<Face
     requires { header.vertices ≤ MOST_VERTICES }
     ensures { TakesFaces header.vertices header.faces cursor.old result }
 {
-    let mut faces = Faces::new(alloc, header.vertices);
-    let mut ring = Vec::new(alloc);
+    let mut faces = FacesBuilder::new(alloc, header.vertices);
     for _ in 0..header.faces {
         next_line(cursor)?;
-        read_ring(cursor, header.vertices, faces.total(), &mut ring)?;
-        faces.push_slice(&ring)?;
+        read_ring(cursor, header.vertices, &mut faces)?;
+        faces.close()?;
     }
-    Ok(faces)
+    Ok(faces.finish())
 }

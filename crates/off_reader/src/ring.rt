@@ -1,31 +1,33 @@
 //! The corners in the line of a face.
-ghost use Rattle.std.specs.Prelude.{◌≡◌, ◌⊎◌, ◌+◌, ◌-◌, ◌^◌, ◌<◌, ◌≤◌, ◌&&◌, nat_le, nat_lt, if◌then◌else◌, true, Some, None, length, take, map, MatchResult, IfErr};
+ghost use Rattle.std.specs.Prelude.{◌≡◌, ◌⊎◌, [], ◌+◌, ◌-◌, ◌^◌, ◌<◌, ◌≤◌, ◌&&◌, nat_le, nat_lt, if◌then◌else◌, true, Some, None, length, take, map, MatchResult, IfErr};
 ghost use Rattle.std.specs.List.{list_all};
 ghost use Rattle.text_scan.specs.Numbers.{is_natural, value_of};
+ghost use Rattle.surf_model.specs.FaceLists.{total_sides};
 ghost use Rattle.surf_model.specs.Vertices.{numbers};
 ghost use Rattle.off_reader.specs.OffTexts.{corners_among, corners_of, has_equal_neighbours, ring_fault};
 ghost use Rattle.off_reader.specs.OffSteps.{IsSameLine, ReadsCorners};
 ghost use Rattle.surf_model.specs.declared.limits.TheConstants.{MOST_VERTICES, MOST_SIDES};
 
 use crate::off_fault::OffFault;
-use surf_model::{MOST_SIDES, VertexName};
+use surf_model::{FacesBuilder, MOST_SIDES, VertexName};
 use text_scan::Cursor;
 
-/// Reads the corners of a face among `vertices` vertices into `ring`, where the faces before have
-/// `sides_before` sides. What stood in `ring` goes.
+/// Reads the corners of a face among `vertices` vertices, which stand behind the faces before it as one that may be
+/// closed.
 pub(crate) fn read_ring(
     cursor: &mut Cursor,
     vertices: u32,
-    sides_before: u32,
-    ring: &mut Vec<VertexName>,
+    faces: &mut FacesBuilder,
 ) -> Result<(), OffFault>
     requires vertices { vertices ≤ MOST_VERTICES }
-    requires sides { sides_before ≤ MOST_SIDES }
+    requires sides { total_sides faces.old.mesh ≤ MOST_SIDES }
+    requires none { faces.old.pending ≡ [] }
     ensures ring { MatchResult result
-        (λ _. (corners_of cursor.old.words ≡ Some (numbers ring.new.items))
-        × (ring_fault vertices sides_before cursor.old.line (corners_of cursor.old.words) ≡ None))
+        (λ _. (corners_of cursor.old.words ≡ Some faces.new.pending)
+        × (ring_fault vertices (total_sides faces.old.mesh) cursor.old.line (corners_of cursor.old.words) ≡ None))
         (λ fault. (fault ≡ OffFault.OutOfMemory)
-        ⊎ (ring_fault vertices sides_before cursor.old.line (corners_of cursor.old.words) ≡ Some fault)) }
+        ⊎ (ring_fault vertices (total_sides faces.old.mesh) cursor.old.line (corners_of cursor.old.words) ≡ Some fault)) }
+    ensures mesh { faces.new.mesh ≡ faces.old.mesh }
     ensures line { IsSameLine cursor.old cursor.new }
 {
     let line = cursor.line();
@@ -33,13 +35,13 @@ pub(crate) fn read_ring(
         Some(sides) if sides >= 3 => sides,
         _ => return Err(OffFault::BadFace { line }),
     };
-    if sides > u64::from(MOST_SIDES - sides_before) {
+    if sides > u64::from(MOST_SIDES - faces.total()) {
         return Err(fault_of_many(cursor, sides));
     }
-    if !read_corners(cursor, vertices, sides as u32, ring)? {
+    if !read_corners(cursor, vertices, sides as u32, faces)? {
         return Err(OffFault::IndexRange { line });
     }
-    if has_equal_neighbours(ring) {
+    if has_equal_neighbours(faces.pending()) {
         return Err(OffFault::EqualNeighbours { line });
     }
     Ok(())
@@ -62,20 +64,21 @@ fn fault_of_many(cursor: &mut Cursor, sides: u64) -> OffFault
     OffFault::TooMany { line }
 }
 
-/// Reads so many corners into `ring`, and says whether all of them are below `vertices`.
+/// Reads so many corners, and says whether all of them are below `vertices`.
 fn read_corners(
     cursor: &mut Cursor,
     vertices: u32,
     sides: u32,
-    ring: &mut Vec<VertexName>,
+    faces: &mut FacesBuilder,
 ) -> Result<bool, OffFault>
     requires vertices { vertices ≤ MOST_VERTICES }
     requires polygon { 3 ≤ sides }
-    ensures corners { ReadsCorners vertices sides cursor.old result (numbers ring.new.items) }
+    requires none { faces.old.pending ≡ [] }
+    ensures corners { ReadsCorners vertices sides cursor.old result faces.new.pending }
+    ensures mesh { faces.new.mesh ≡ faces.old.mesh }
     ensures line { IsSameLine cursor.old cursor.new }
 {
     let line = cursor.line();
-    ring.clear();
     let mut in_range = true;
     for _ in 0..sides {
         let Some(corner) = cursor.natural() else {
@@ -85,9 +88,7 @@ fn read_corners(
             in_range = false;
             continue;
         }
-        if ring.push(VertexName(corner as u32)).is_err() {
-            return Err(OffFault::OutOfMemory);
-        }
+        faces.push(VertexName(corner as u32))?;
     }
     Ok(in_range)
 }

@@ -1,16 +1,16 @@
 -- What the functions on stored face lists need, said of the plain lists.
-use Rattle.std.proofs.Common.{◌≡◌, ℕ, ◌+◌, ◌-◌, ◌<◌, ◌≤◌, List, [], ◌∷◌, ◌++◌, length, get_or, take, drop, ap, sym, subst, ◌∙◌, arith, length-append}
+use Rattle.std.proofs.Common.{◌≡◌, ℕ, ◌+◌, ◌-◌, ◌<◌, ◌≤◌, List, [], ◌∷◌, ◌++◌, length, get_or, take, drop, ap, ap₂, sym, subst, ◌∙◌, arith, length-append}
 use Rattle.std.specs.Prelude.{All}
-use Rattle.std.proofs.lemmas.List.{get_or-take, get_or-drop, length-take-le, length-drop, length-map, map-append, length_push, take-map, drop-map}
+use Rattle.std.proofs.lemmas.List.{take-append-drop, take_all, drop_all, get_or-take, get_or-drop, length-take-le, length-drop, length-map, map-append, length_push, take-map, drop-map}
 use Rattle.std.proofs.lemmas.List.Elements.{All-push, All-same}
 use Rattle.surf_model.specs.Parts.{parts, EndsRise, last_end}
 use Rattle.surf_model.specs.StoredEdges.{IsNumbering}
 use Rattle.surf_model.specs.Vertices.{numbers}
-use Rattle.surf_model.specs.FaceLists.{FaceList, face_at, total_sides, IsFace}
+use Rattle.surf_model.specs.FaceLists.{FaceList, PendingFace, face_at, total_sides, IsFace}
 use Rattle.surf_model.specs.Darts.{first_side}
-use Rattle.surf_model.specs.StoredFaces.{stored_mesh, IsStored}
+use Rattle.surf_model.specs.StoredFaces.{stored_mesh, IsStored, stored_pending, IsStoredPending}
 use Rattle.surf_model.specs.declared.names.VertexName.{VertexName}
-use Rattle.surf_model.proofs.PartsLemmas.{length-parts, get_or-parts, part_within, parts-push, EndsRise-push, EndsRise-last, sum_by-parts, sum_by-take-parts}
+use Rattle.surf_model.proofs.PartsLemmas.{length-parts, get_or-parts, part_within, parts-push, EndsRise-push, EndsRise-last, sum_by-parts, sum_by-take-parts, last_end-push}
 use Rattle.surf_model.specs.declared.limits.TheConstants.{MOST_SIDES}
 
 -- where face f of a mesh lies among all corners
@@ -121,3 +121,58 @@ numbering count ends corners mesh h seen =
       rising = subst (EndsRise 0 ends) (sym last) h.rising;
       few = omega (arith, last, h.few_corners);
     }
+
+-- ---- a face list, and the corners of a face that is not yet in it
+
+-- the corners of the list, and those behind them
+joined : (ends : List ℕ) (corners : List VertexName) → take (last_end ends) corners ++ drop (last_end ends) corners ≡ corners
+joined ends corners = take-append-drop (last_end ends) corners
+
+pub total_sides-pending : (count : ℕ) (ends : List ℕ) (corners : List VertexName) (seen : PendingFace) → IsStoredPending count ends corners
+    → stored_pending count ends corners ≡ seen → total_sides seen.mesh ≡ last_end ends
+total_sides-pending count ends corners seen h is =
+    ap (λ (p : PendingFace). total_sides p.mesh) (sym is)
+    ∙ total_sides-stored_mesh count ends (take (last_end ends) corners) h.stored.rising
+    ∙ length-take-le (last_end ends) corners h.within
+
+pub length-pending : (count : ℕ) (ends : List ℕ) (corners : List VertexName) (seen : PendingFace) → stored_pending count ends corners ≡ seen
+    → length seen.pending ≡ length corners - last_end ends
+length-pending count ends corners seen is =
+    ap (λ (p : PendingFace). length p.pending) (sym is) ∙ length-map (drop (last_end ends) corners) (λ v. v.0) ∙ length-drop (last_end ends) corners
+
+-- the corners behind the list are those of its last face
+pub record IsClosed (count : ℕ) (ends : List ℕ) (corners : List VertexName) (old : PendingFace) : Type 0 where
+  pub stored : IsStoredPending count ends corners
+  pub seen : stored_pending count ends corners ≡ record { mesh = record { count = old.mesh.count; faces = old.mesh.faces ++ old.pending ∷ [] }; pending = [] }
+
+closed : (count : ℕ) (ends : List ℕ) (corners : List VertexName) (m : ℕ) → IsStoredPending count ends corners
+    → IsFace count (numbers (drop (last_end ends) corners)) → m ≤ MOST_SIDES → m ≡ length corners
+    → IsClosed count (ends ++ m ∷ []) corners (stored_pending count ends corners)
+closed count ends corners m h face room whole =
+    let front = take (last_end ends) corners in
+    let back = drop (last_end ends) corners in
+    let size : m ≡ length front + length back = omega (arith, whole, h.within, length-take-le (last_end ends) corners h.within, length-drop (last_end ends) corners) in
+    let few : total_sides (stored_mesh count ends front) + length back ≤ MOST_SIDES = omega (arith, total_sides-stored_mesh count ends front h.stored.rising, size, room) in
+    let all : front ++ back ≡ take (last_end (ends ++ m ∷ [])) corners =
+    joined ends corners ∙ sym (ap (λ n. take n corners) (last_end-push ends m) ∙ take_all m corners (omega (arith, whole))) in
+    let none : drop (last_end (ends ++ m ∷ [])) corners ≡ [] = ap (λ n. drop n corners) (last_end-push ends m) ∙ drop_all m corners (omega (arith, whole)) in
+    let mesh : stored_mesh count (ends ++ m ∷ []) (take (last_end (ends ++ m ∷ [])) corners)
+    ≡ record { count = count; faces = (stored_mesh count ends front).faces ++ numbers back ∷ [] } =
+    ap (stored_mesh count (ends ++ m ∷ [])) (sym all) ∙ stored_mesh-push count ends front back m h.stored.rising size in
+    record {
+      stored = record {
+        stored = subst (IsStored count (ends ++ m ∷ [])) all (IsStored-push count ends front back m h.stored face few size);
+        within = omega (arith, last_end-push ends m, whole);
+      };
+      seen = ap₂ (λ (ms : FaceList) (vs : List VertexName). let p : PendingFace = record { mesh = ms; pending = numbers vs } in p) mesh none;
+    }
+
+pub close_face : (count : ℕ) (ends : List ℕ) (corners : List VertexName) (seen : PendingFace) (m : ℕ) → IsStoredPending count ends corners
+    → stored_pending count ends corners ≡ seen → IsFace seen.mesh.count seen.pending
+    → total_sides seen.mesh + length seen.pending ≤ MOST_SIDES → m ≡ length corners
+    → IsClosed count (ends ++ m ∷ []) corners seen
+close_face count ends corners seen m h is face room whole =
+    let total = total_sides-pending count ends corners seen h is in
+    let size = length-pending count ends corners seen is in
+    subst (IsClosed count (ends ++ m ∷ []) corners) is
+    (closed count ends corners m h (subst (λ (p : PendingFace). IsFace p.mesh.count p.pending) (sym is) face) (omega (arith, total, size, room, whole, h.within)) whole)

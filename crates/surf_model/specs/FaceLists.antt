@@ -8,6 +8,11 @@ pub record FaceList : Type 0 where
   pub count : ℕ
   pub faces : List (List ℕ)
 
+-- a face list, and the vertices at the corners so far of a face that is not yet in it
+pub record PendingFace : Type 0 where
+  pub mesh : FaceList
+  pub pending : List ℕ
+
 -- face f; a face without corners where the list has no such face
 abbrev pub face_at : FaceList → ℕ → List ℕ
 face_at mesh f = slice_index_or mesh.faces f []

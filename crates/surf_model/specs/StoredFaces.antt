@@ -1,8 +1,8 @@
 -- How a face list lies in memory: all corners one after another, and the place where each face ends.
-use Rattle.std.specs.Prelude.{ℕ, ◌*◌, ◌≤◌, List, length}
-use Rattle.surf_model.specs.Parts.{parts, EndsRise}
+use Rattle.std.specs.Prelude.{ℕ, ◌*◌, ◌≤◌, List, length, take, drop}
+use Rattle.surf_model.specs.Parts.{parts, last_end, EndsRise}
 use Rattle.surf_model.specs.Vertices.{numbers}
-use Rattle.surf_model.specs.FaceLists.{FaceList, IsFaceList}
+use Rattle.surf_model.specs.FaceLists.{FaceList, PendingFace, IsFaceList}
 use Rattle.surf_model.specs.declared.names.VertexName.{VertexName}
 use Rattle.surf_model.specs.declared.limits.TheConstants.{MOST_SIDES}
 
@@ -15,3 +15,12 @@ pub record IsStored (count : ℕ) (ends : List ℕ) (corners : List VertexName) 
   pub rising : EndsRise 0 ends (length corners)
   pub few_corners : length corners ≤ MOST_SIDES
   pub few_faces : 3 * length ends ≤ length corners
+
+-- the face list that lies so, and behind its last corner those of a face that is not yet in it
+abbrev pub stored_pending : ℕ → List ℕ → List VertexName → PendingFace
+stored_pending count ends corners =
+    record { mesh = stored_mesh count ends (take (last_end ends) corners); pending = numbers (drop (last_end ends) corners) }
+
+pub record IsStoredPending (count : ℕ) (ends : List ℕ) (corners : List VertexName) : Type 0 where
+  pub stored : IsStored count ends (take (last_end ends) corners)
+  pub within : last_end ends ≤ length corners

@@ -175,6 +175,95 @@ impl Faces {
     }
 }
 
+/// A face list, and the corners so far of a face that is not yet in it.
+///
+/// So a reader puts the corners where they stay, and a face that it finds at fault is never in the list.
+#[derive(Debug, Drop)]
+pub struct FacesBuilder {
+    count: u32,
+    /// The corners of all faces, face after face, and then those of the face that is not yet in the list.
+    corners: Vec<VertexName>,
+    /// The places in `corners` where the faces of the list end.
+    parts: Parts,
+}
+
+impl Model for FacesBuilder {
+    ghost use Rattle.surf_model.specs.FaceLists.{PendingFace};
+    ghost use Rattle.surf_model.specs.StoredFaces.{IsStoredPending, stored_pending};
+
+    ghost Value = { PendingFace };
+
+    ghost view = { λ a. stored_pending a.count a.parts a.corners.items };
+
+    ghost invariant = { λ a. IsStoredPending a.count a.parts a.corners.items };
+}
+
+impl FacesBuilder {
+    /// A list of no faces over `count` vertices, and no corners. It takes no memory.
+    pub fn new(alloc: Global, count: u32) -> FacesBuilder
+        requires { count ≤ MOST_VERTICES }
+        ensures { result ≡ record { mesh = record { count = count; faces = [] }; pending = [] } }
+    {
+        FacesBuilder {
+            count,
+            corners: Vec::new(alloc),
+            parts: Parts::new(alloc),
+        }
+    }
+
+    /// Puts a corner last in the face that is not yet in the list.
+    #[inline(always)]
+    pub fn push(&mut self, corner: VertexName) -> Result<(), AllocError>
+        ensures ok { OnOk result (self.new ≡ record self.old { pending = self.old.pending ++ corner.0 ∷ [] }) }
+        ensures err { OnErr result (self.new ≡ self.old) }
+    {
+        self.corners.push(corner)?;
+        Ok(())
+    }
+
+    /// The corners so far of the face that is not yet in the list.
+    pub fn pending(&self) -> &[VertexName]
+        ensures { numbers result.now ≡ self.now.pending }
+    {
+        &self.corners[self.parts.total() as usize..]
+    }
+
+    /// Puts the face with these corners last in the list. The next face has no corners yet.
+    pub fn close(&mut self) -> Result<(), AllocError>
+        requires face { IsFace self.old.mesh.count self.old.pending }
+        requires room { total_sides self.old.mesh + length self.old.pending ≤ MOST_SIDES }
+        ensures ok { OnOk result (self.new ≡ record {
+          mesh = record { count = self.old.mesh.count; faces = self.old.mesh.faces ++ self.old.pending ∷ [] };
+          pending = [];
+        }) }
+        ensures err { OnErr result (self.new ≡ self.old) }
+    {
+        let size = self.corners.len() - self.parts.total() as usize;
+        self.parts.push(size as u32)?;
+        Ok(())
+    }
+
+    /// The number of sides of all faces of the list together.
+    pub fn total(&self) -> u32
+        ensures { result ≡ total_sides self.now.mesh }
+    {
+        self.parts.total()
+    }
+
+    /// The list. The corners of a face that is not yet in it go.
+    pub fn finish(self) -> Faces
+        ensures { result ≡ self.mesh }
+    {
+        let mut corners = self.corners;
+        corners.truncate(self.parts.total() as usize);
+        Faces {
+            count: self.count,
+            corners,
+            parts: self.parts,
+        }
+    }
+}
+
 /// The corner after corner `t` of a face of so many sides, by rising places or by falling ones, going round.
 pub fn corner_after(rising: bool, sides: u32, t: u32) -> u32
     requires { t < sides }

@@ -1,8 +1,9 @@
 //! The objects of the product: polygon meshes as face lists, walks along their edges, and the
 //! elementary moves that change a walk.
 //!
-//! A caller sees a mesh as a vertex count and the list of its faces, the table of its edges as a list
-//! of edges with their sides, a walk as the list of its vertices, and a list of moves with its peak.
+//! A caller sees a mesh as a vertex count and the list of its faces, one that is built as such a list
+//! and the corners of a face that is not yet in it, the table of its edges as a list of edges with
+//! their sides, a walk as the list of its vertices, and a list of moves with its peak.
 //! Proved: the table is that of the mesh, and answers what the mesh says; a mesh has one table; a move
 //! puts one part of a walk in another's place, and its inverse leads back; being joined by moves is a
 //! congruence; and of the walks that spur moves join, one at most has no spur.
@@ -32,7 +33,7 @@ pub mod walks;
 
 pub use chains::{ChainLink, OddChain};
 pub use edges::{Side, Sides};
-pub use faces::Faces;
+pub use faces::{Faces, FacesBuilder};
 pub use limits::{MOST_PEAK, MOST_SIDES, MOST_VERTICES};
 pub use moves::{Move, MoveList};
 pub use names::{CellName, DartName, EdgeName, FaceName, Spoke, VertexName};

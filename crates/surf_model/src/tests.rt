@@ -1,6 +1,7 @@
 //! Each call once, on the numbers of the tetrahedron.
 use crate::{
-    ChainLink, DartName, FaceName, Faces, Move, MoveList, OddChain, Side, Signs, VertexName, Walk,
+    ChainLink, DartName, FaceName, Faces, FacesBuilder, Move, MoveList, OddChain, Side, Signs,
+    VertexName, Walk,
 };
 
 #[test]
@@ -19,6 +20,22 @@ fn faces_are_read_back(rt: HostRuntime) {
     assert_eq!(rt; faces.total(), 6);
     assert_eq!(rt; faces.sides(FaceName(1)), 3);
     assert_eq!(rt; faces.corner(FaceName(1), 1), VertexName(3));
+}
+
+#[test]
+fn faces_are_built_corner_by_corner(rt: HostRuntime) {
+    let mut faces = FacesBuilder::new(rt.alloc(), 4);
+    faces.push(VertexName(0)).expect(&rt, "memory");
+    faces.push(VertexName(1)).expect(&rt, "memory");
+    faces.push(VertexName(2)).expect(&rt, "memory");
+    faces.close().expect(&rt, "memory");
+    faces.push(VertexName(3)).expect(&rt, "memory");
+    assert_eq!(rt; faces.total(), 3);
+    assert_eq!(rt; faces.pending().len(), 1);
+    let faces = faces.finish();
+    assert_eq!(rt; faces.len(), 1);
+    assert_eq!(rt; faces.total(), 3);
+    assert_eq!(rt; faces.corner(FaceName(0), 1), VertexName(1));
 }
 
 #[test]

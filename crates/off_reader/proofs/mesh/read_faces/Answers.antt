@@ -1,8 +1,7 @@
-use Rattle.std.proofs.Common.{arith, sym, ap, subst, ◌∙◌, inl, inr, [], ◌∷◌, ◌++◌}
+use Rattle.std.proofs.Common.{arith, sym, ap, subst, ◌∙◌, inl, inr, Ok, ◌≡◌, [], ◌∷◌, ◌++◌}
 use Rattle.std.proofs.lemmas.Result.{err_from_is_err_and}
-use Rattle.surf_model.specs.FaceLists.{FaceList, IsFace}
-use Rattle.surf_model.specs.Vertices.{numbers}
-use Rattle.off_reader.specs.OffTexts.{corners_of, ring_fault}
+use Rattle.surf_model.specs.FaceLists.{FaceList, PendingFace, total_sides, IsFace}
+use Rattle.off_reader.specs.OffSteps.{TakesFaces}
 use Rattle.off_reader.proofs.RingLemmas.{ring_face, ring_room}
 use Rattle.off_reader.proofs.MeshLemmas.{one_face, bad_face_line, no_face_line, all_faces}
 use Rattle.off_reader.proofs.mesh.read_faces.Goals as goal
@@ -11,8 +10,8 @@ pub returns-in_err-next_line : goal.returns-in_err-next_line
 returns-in_err-next_line c =
     let p = err_from_is_err_and c.from_residual.result c.from_residual.ensures.1 in
     rw (p.1, p.2)
-    (inr (no_face_line c.args.header.vertices c.args.header.faces c.args.cursor.now c.loop.cursor c.loop.faces c.in_err-next_line.field-0.0 c.loop.counter c.loop-test.true
-    c.in_err-next_line.ensures.line.0 c.in_err-next_line.ensures.line.1 c.loop.invariant))
+    (inr (no_face_line c.args.header.vertices c.args.header.faces c.args.cursor.now c.loop.cursor c.loop.faces.mesh c.in_err-next_line.field-0.0 c.loop.counter c.loop-test.true
+    c.in_err-next_line.ensures.line.0 c.in_err-next_line.ensures.line.1 c.loop.invariant.0))
 
 pub returns-in_err-read_ring : goal.returns-in_err-read_ring
 returns-in_err-read_ring c =
@@ -20,33 +19,32 @@ returns-in_err-read_ring c =
     rw (p.1, p.2)
     (elim c.in_err-read_ring.ensures.ring [
       | inl memory ↦ inl memory
-      | inr bad ↦ inr (bad_face_line c.args.header.vertices c.args.header.faces c.args.cursor.now c.loop.cursor c.next_line.new.cursor c.loop.faces c.in_err-read_ring.field-0.0 c.loop.counter
-          c.loop-test.true c.in_ok-next_line.ensures.line
-          (ap (λ s. ring_fault c.args.header.vertices s c.next_line.new.cursor.line (corners_of c.next_line.new.cursor.words)) (sym c.total.ensures) ∙ bad) c.loop.invariant)
+      | inr bad ↦ inr (bad_face_line c.args.header.vertices c.args.header.faces c.args.cursor.now c.loop.cursor c.next_line.new.cursor c.loop.faces.mesh c.in_err-read_ring.field-0.0 c.loop.counter
+          c.loop-test.true c.in_ok-next_line.ensures.line bad c.loop.invariant.0)
     ])
 
-pub push_slice-requires-clause-face : goal.push_slice-requires-clause-face
-push_slice-requires-clause-face c =
-    subst (λ n. IsFace n (numbers c.deref.result.now)) (sym (ap (λ (m : FaceList). m.count) c.loop.invariant.mesh))
-    (subst (λ r. IsFace c.args.header.vertices (numbers r)) (sym c.deref.ensures.value)
-    (ring_face c.args.header.vertices c.total.result c.next_line.new.cursor.line c.next_line.new.cursor.words (numbers c.read_ring.new.ring.items) c.in_ok-read_ring.ensures.ring.0
-    c.in_ok-read_ring.ensures.ring.1))
+pub close-requires-clause-face : goal.close-requires-clause-face
+close-requires-clause-face c =
+    let ring = c.in_ok-read_ring.ensures.ring in
+    let count = ap (λ (m : FaceList). m.count) (c.in_ok-read_ring.ensures.mesh ∙ c.loop.invariant.0.mesh) in
+    subst (λ n. IsFace n c.read_ring.new.faces.pending) (sym count)
+    (ring_face c.args.header.vertices (total_sides c.loop.faces.mesh) c.next_line.new.cursor.line c.next_line.new.cursor.words c.read_ring.new.faces.pending ring.0 ring.1)
 
 pub loop-preserved : goal.loop-preserved
 loop-preserved c =
-    one_face c.args.header.vertices c.args.header.faces c.args.cursor.now c.loop.cursor c.next_line.new.cursor c.read_ring.new.cursor c.loop.faces c.push_slice.new.self
-    (numbers c.read_ring.new.ring.items) c.loop.counter c.loop-test.true c.in_ok-next_line.ensures.line c.in_ok-next_line.ensures.end c.in_ok-read_ring.ensures.ring.0
-    (ap (λ s. ring_fault c.args.header.vertices s c.next_line.new.cursor.line (corners_of c.next_line.new.cursor.words)) (sym c.total.ensures) ∙ c.in_ok-read_ring.ensures.ring.1)
-    c.in_ok-read_ring.ensures.line
-    (c.in_ok-push_slice.ensures.ok ∙ ap (λ r. record { count = c.loop.faces.count; faces = c.loop.faces.faces ++ numbers r ∷ [] }) c.deref.ensures.value)
-    (omega (
-      arith,
-      c.total.ensures,
-      ring_room c.args.header.vertices c.total.result c.next_line.new.cursor.line c.next_line.new.cursor.words (numbers c.read_ring.new.ring.items) c.in_ok-read_ring.ensures.ring.0
-          c.in_ok-read_ring.ensures.ring.1,
-    ))
-    c.loop.invariant
+    let ring = c.in_ok-read_ring.ensures.ring in
+    let pending = c.read_ring.new.faces.pending in
+    let grown : c.close.new.self.mesh ≡ record { count = c.loop.faces.mesh.count; faces = c.loop.faces.mesh.faces ++ pending ∷ [] } =
+    ap (λ (p : PendingFace). p.mesh) c.in_ok-close.ensures.ok
+    ∙ ap (λ (m : FaceList). let mesh : FaceList = record { count = m.count; faces = m.faces ++ pending ∷ [] } in mesh) c.in_ok-read_ring.ensures.mesh in (
+      one_face c.args.header.vertices c.args.header.faces c.args.cursor.now c.loop.cursor c.next_line.new.cursor c.read_ring.new.cursor c.loop.faces.mesh c.close.new.self.mesh pending c.loop.counter
+          c.loop-test.true c.in_ok-next_line.ensures.line c.in_ok-next_line.ensures.end ring.0 ring.1 c.in_ok-read_ring.ensures.line grown
+          (ring_room c.args.header.vertices (total_sides c.loop.faces.mesh) c.next_line.new.cursor.line c.next_line.new.cursor.words pending ring.0 ring.1)
+          c.loop.invariant.0,
+      ap (λ (p : PendingFace). p.pending) c.in_ok-close.ensures.ok,
+    )
 
 pub returns : goal.returns
 returns c =
-    all_faces c.args.header.vertices c.args.header.faces c.args.cursor.now c.loop.cursor c.loop.faces c.loop.counter (omega (arith, c.loop-test.false, c.loop.auto.counter-end)) c.loop.invariant
+    subst (λ (m : FaceList). TakesFaces c.args.header.vertices c.args.header.faces c.args.cursor.now (Ok m)) (sym c.finish.ensures)
+    (all_faces c.args.header.vertices c.args.header.faces c.args.cursor.now c.loop.cursor c.loop.faces.mesh c.loop.counter (omega (arith, c.loop-test.false, c.loop.auto.counter-end)) c.loop.invariant.0)
