@@ -85,18 +85,18 @@ fn find_certificate(
     if let Some(list) = lift(alloc, surface, &split, &polygon, first, second)? {
         return Ok(Certificate::Moves(list));
     }
-    Ok(Certificate::Denial(deny(alloc, surface, &polygon, first, second)?))
+    Ok(Certificate::Denial(deny(alloc, surface, polygon, first, second)?))
 }
 
 /// What denies that moves lead from one walk of a surface to another, where none do.
 fn deny(
     alloc: Global,
     surface: &Surface,
-    polygon: &Polygon,
+    polygon: Polygon,
     first: &Walk,
     second: &Walk,
 ) -> Result<Denial, AllocError>
-    requires cut { IsPolygonOf surface.now polygon.now }
+    requires cut { IsPolygonOf surface.now polygon }
     requires first { IsWalk surface.now.mesh first.now }
     requires second { IsWalk surface.now.mesh second.now }
     requires ends { HaveCommonEnds first.now second.now }

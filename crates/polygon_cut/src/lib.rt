@@ -16,7 +16,7 @@ mod ring;
 mod turning;
 
 pub use cutting::cut;
-pub use polygon::Polygon;
+pub use polygon::{Polygon, PolygonNumbers};
 
 #[cfg(test)]
 mod tests;

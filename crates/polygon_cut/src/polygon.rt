@@ -38,6 +38,15 @@ impl Model for Polygon {
     ghost invariant = { λ a. (length a.sides.items ≡ a.degree) × (length a.places.items ≡ a.degree) };
 }
 
+/// What a polygon holds of each dart and of each spoke, when it is taken apart.
+#[derive(Debug, Drop)]
+pub struct PolygonNumbers {
+    /// For each dart its label.
+    pub labels: Vec<u32>,
+    /// For each spoke its place.
+    pub places: Vec<u32>,
+}
+
 impl Polygon {
     /// The number of sides, which is four times the genus.
     pub fn degree(&self) -> u32
@@ -72,5 +81,20 @@ impl Polygon {
         ensures { result ≡ place_of self.now spoke.0 }
     {
         self.places[spoke.0 as usize]
+    }
+
+    /// The labels of the darts and the places of the spokes, for a caller that goes on with them and needs no more of the
+    /// polygon.
+    pub fn into_numbers(self) -> PolygonNumbers
+        ensures labels { result.labels.items ≡ self.labels }
+        ensures places { result.places.items ≡ self.places }
+    {
+        let Polygon {
+            degree: _,
+            sides: _,
+            labels,
+            places,
+        } = self;
+        PolygonNumbers { labels, places }
     }
 }

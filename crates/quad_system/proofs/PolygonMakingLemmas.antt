@@ -1,53 +1,85 @@
--- The labelling of a polygon as it is made: face after face, corner after corner.
-use Rattle.std.proofs.Common.{◌≡◌, inl, inr, ℕ, ◌+◌, ◌-◌, ◌<◌, ◌^◌, Bool, false, cond, List, [], ◌∷◌, ◌++◌, length, get_or, take, map, refl, ap, sym, ◌∙◌, arith}
-use Rattle.std.specs.List.{enumerate_from, range_with_len}
-use Rattle.std.proofs.lemmas.Bool.{cases_lt}
-use Rattle.std.proofs.lemmas.List.{take_more, take_all, map-append}
-use Rattle.std.proofs.lemmas.List.FromFn.{map-range_with_len_more, length-map-range_with_len, get_or-enumerate_from, length-enumerate_from}
-use Rattle.surf_model.specs.FaceLists.{IsFaceList, face_at, next_corner, total_sides}
+-- The labelling of a polygon as it is made: face after face, in the memory of the polygon's labels.
+use Rattle.std.proofs.Common.{◌≡◌, inl, inr, ℕ, ◌+◌, ◌-◌, ◌<◌, ◌≤◌, ◌^◌, Bool, true, false, cond, nat_eq, List, [], ◌∷◌, ◌++◌, length, get_or, take, drop, map, refl, ap, sym, subst, ◌∙◌, arith}
+use Rattle.std.specs.Prelude.{All}
+use Rattle.std.specs.List.{between, enumerate_from, range_with_len}
+use Rattle.std.proofs.lemmas.Bool.{cases_eq, cases_Bool, eq-eqb, eqb-true}
+use Rattle.std.proofs.lemmas.Grind.{same_number_lists}
+use Rattle.std.proofs.lemmas.List.{take_more, take_all, take_at, drop_at, drop-drop, map-append, length-append, length-drop, length-take-le, length_push, get_or-take, get_or-drop, get_or_append_left, get_or-append_right}
+use Rattle.std.proofs.lemmas.List.FromFn.{get_or-map-range_with_len, length-map-range_with_len, get_or-enumerate_from, length-enumerate_from}
+use Rattle.surf_model.specs.FaceLists.{FaceList, IsFace, IsFaceList, face_at, next_corner, total_sides}
 use Rattle.surf_model.specs.Darts.{first_side}
+use Rattle.surf_model.specs.Parts.{parts, EndsRise}
 use Rattle.surf_model.specs.Surfaces.{is_flipped}
+use Rattle.surf_model.proofs.EdgeLemmas.{step_within}
+use Rattle.surf_model.proofs.SideNumberLemmas.{first_side-more, first_side-all, side_below}
 use Rattle.halfedge_map.specs.OrientedMeshes.{OrientedMesh}
 use Rattle.halfedge_map.specs.DartMaps.{darts_of, dart_at_corner}
-use Rattle.halfedge_map.proofs.NumberLemmas.{number_below}
-use Rattle.halfedge_map.proofs.DartLemmas.{dart_starts}
 use Rattle.polygon_cut.specs.Polygons.{PolygonView, label_of}
 use Rattle.quad_system.specs.Labellings.{FaceLabels, LabellingView}
-use Rattle.quad_system.specs.PolygonLabellings.{face_labels, labelling_from}
+use Rattle.quad_system.specs.PolygonLabellings.{at_corners, face_labels, labelling_from}
+use Rattle.quad_system.specs.StoredLabellings.{with_signs, stored_labelling, IsStoredLabelling}
+use Rattle.quad_system.proofs.StoredLabellingLemmas.{stored_labelling-push, IsStoredLabelling-push}
 
--- the labels of the first so many corners of a face
-abbrev pub first_labels : OrientedMesh → PolygonView → ℕ → ℕ → List ℕ
-first_labels s polygon f corners = map (λ t. label_of polygon (dart_at_corner s f t)) (range_with_len 0 corners)
+-- the labels of the corners of a face
+abbrev pub labels_of_face : OrientedMesh → PolygonView → ℕ → List ℕ
+labels_of_face s polygon f = map (λ t. label_of polygon (dart_at_corner s f t)) (range_with_len 0 (length (face_at s.mesh f)))
 
-pub first_labels_more : (s : OrientedMesh) (polygon : PolygonView) (f corner : ℕ)
-    → first_labels s polygon f (corner + 1) ≡ first_labels s polygon f corner ++ label_of polygon (dart_at_corner s f corner) ∷ []
-first_labels_more s polygon f corner =
-    map-range_with_len_more (λ t. label_of polygon (dart_at_corner s f t)) 0 corner corner (omega arith)
+length-labels : (s : OrientedMesh) (polygon : PolygonView) (f : ℕ) → length (labels_of_face s polygon f) ≡ length (face_at s.mesh f)
+length-labels s polygon f = length-map-range_with_len (λ t. label_of polygon (dart_at_corner s f t)) 0 (length (face_at s.mesh f))
 
-pub dart_from_corner : (s : OrientedMesh) (f corner first sides : ℕ) (flipped : Bool) → first ≡ first_side s.mesh f
-    → sides ≡ length (face_at s.mesh f) → flipped ≡ is_flipped s.signs f
-    → first + cond flipped (next_corner false sides corner) corner ≡ dart_at_corner s f corner
+dart_from_corner : (s : OrientedMesh) (f corner sides : ℕ) (flipped : Bool) → sides ≡ length (face_at s.mesh f) → flipped ≡ is_flipped s.signs f
+    → first_side s.mesh f + cond flipped (next_corner false sides corner) corner ≡ dart_at_corner s f corner
 unfolding dart_at_corner
-dart_from_corner s f corner first sides flipped is long turned = rw (is, long, turned) refl
+dart_from_corner s f corner sides flipped long turned = rw (long, turned) refl
 
-pub corner_within : (s : OrientedMesh) (f corner : ℕ) → f < length s.mesh.faces → corner < length (face_at s.mesh f)
-    → dart_at_corner s f corner < darts_of s
-corner_within s f corner l b = (dart_starts s f corner l b).within
+-- putting labels at corners keeps their number
+length-at_corners : (flipped : Bool) (part : List ℕ) → length (at_corners flipped part) ≡ length part
+length-at_corners false part = refl
+length-at_corners true part =
+    let k : ℕ = length part - 1 in
+    omega (arith, length-append (drop k part) (take k part), length-drop k part, length-take-le k part (omega arith))
 
--- a face has few corners
-pub face_few : (s : OrientedMesh) (f : ℕ) → IsFaceList s.mesh → f < length s.mesh.faces → length (face_at s.mesh f) < 2 ^ 32
-face_few s f h l = elim (cases_lt 0 (length (face_at s.mesh f))) [
-  | inl some ↦
-      let t : ℕ = length (face_at s.mesh f) - 1 in
-      let number : ℕ = first_side s.mesh f + t in
-      let below : number < total_sides s.mesh =
-      number_below s.mesh f t number (record { face = l; place = omega (arith, some); is = refl }) in
-      omega (arith, below, h.few_sides, some)
-  | inr none ↦ omega (arith, none)
-]
+-- what stands at a corner: in a flipped face what had the number before
+at_corner : (flipped : Bool) (part : List ℕ) (t : ℕ) → t < length part
+    → get_or (at_corners flipped part) t 0 ≡ get_or part (cond flipped (next_corner false (length part) t) t) 0
+at_corner false part t l = refl
+at_corner true part t l =
+    let k : ℕ = length part - 1 in
+    let one : length (drop k part) ≡ 1 = omega (arith, length-drop k part, l) in
+    elim (cases_eq t 0) [
+      | inl first ↦
+          let at_start : nat_eq t 0 ≡ true = eq-eqb t 0 first in
+          rw at_start (
+          get_or_append_left (drop k part) (take k part) 0 t (omega (arith, one, first))
+          ∙ get_or-drop k part t 0 ∙ ap (λ n. get_or part n 0) (omega (arith, first)))
+      | inr more ↦
+          let further : nat_eq t 0 ≡ false = elim (cases_Bool (nat_eq t 0)) [
+            | inl same ↦ absurd (more (eqb-true t 0 same))
+            | inr other ↦ other
+          ] in
+          rw further (
+          get_or-append_right (drop k part) (take k part) 1 t 0 one (omega (arith, more))
+          ∙ get_or-take k part (t - 1) 0 (omega (arith, l, more)))
+    ]
 
-pub labels_long : (s : OrientedMesh) (polygon : PolygonView) (f : ℕ) → length (first_labels s polygon f (length (face_at s.mesh f))) ≡ length (face_at s.mesh f)
-labels_long s polygon f = length-map-range_with_len (λ t. label_of polygon (dart_at_corner s f t)) 0 (length (face_at s.mesh f))
+-- the corner before one is a corner
+place_below : (flipped : Bool) (sides t : ℕ) → t < sides → cond flipped (next_corner false sides t) t < sides
+place_below false sides t l = l
+place_below true sides t l = step_within false sides t l
+
+-- the labels of the darts of a face, put at its corners, are those of the face
+face_at_corners : (s : OrientedMesh) (polygon : PolygonView) (f : ℕ) (flipped : Bool) (part : List ℕ) → flipped ≡ is_flipped s.signs f
+    → length part ≡ length (face_at s.mesh f)
+    → ((t : ℕ) → t < length part → get_or part t 0 ≡ label_of polygon (first_side s.mesh f + t))
+    → at_corners flipped part ≡ labels_of_face s polygon f
+face_at_corners s polygon f flipped part sign long at =
+    same_number_lists (at_corners flipped part) (labels_of_face s polygon f) (omega (arith, length-at_corners flipped part, long, length-labels s polygon f))
+    (λ t l.
+    let here : t < length part = omega (arith, l, length-at_corners flipped part) in
+    at_corner flipped part t here
+    ∙ at (cond flipped (next_corner false (length part) t) t) (place_below flipped (length part) t here)
+    ∙ ap (label_of polygon) (dart_from_corner s f t (length part) flipped long sign)
+    ∙ sym (get_or-map-range_with_len (λ x. label_of polygon (dart_at_corner s f x)) 0 (length (face_at s.mesh f)) t t 0 (omega (arith, here, long)) (omega arith)))
 
 -- the faces of the labelling
 abbrev face_of_pair : OrientedMesh → PolygonView → ℕ × List ℕ → FaceLabels
@@ -75,11 +107,146 @@ all_faces s polygon k is =
     ap (map (λ (p : ℕ × List ℕ). face_labels s polygon p.0 (length p.1)))
     (take_all k (enumerate_from 0 s.mesh.faces) (omega (arith, is, length-enumerate_from 0 s.mesh.faces)))
 
--- a labelling with one place more
-pub one_place_more : (labelling : LabellingView) (degree : ℕ) (faces : List FaceLabels) (places : List ℕ) (k place : ℕ) → k < length places
-    → place ≡ get_or places k 0 → labelling ≡ record { degree = degree; faces = faces; places = take k places }
-    → record labelling { places = labelling.places ++ place ∷ [] } ≡ record { degree = degree; faces = faces; places = take (k + 1) places }
-one_place_more labelling degree faces places k place l at is =
-    ap (λ (old : LabellingView). record { degree = old.degree; faces = old.faces; places = old.places ++ place ∷ [] }) is
-    ∙ ap (λ (ps : List ℕ). record { degree = degree; faces = faces; places = ps })
-    (ap (λ (p : ℕ). take k places ++ p ∷ []) at ∙ sym (take_more places k 0 l))
+abbrev one_face : Bool → List ℕ → FaceLabels
+one_face flipped labels = record { flipped = flipped; labels = labels }
+
+abbrev labelling_of : ℕ → List FaceLabels → List ℕ → LabellingView
+labelling_of degree faces places = record { degree = degree; faces = faces; places = places }
+
+-- the labels before the end of all faces are all labels
+whole : (s : OrientedMesh) (k : ℕ) (labels : List ℕ) → k ≡ length s.mesh.faces → length labels ≡ darts_of s → take (first_side s.mesh k) labels ≡ labels
+whole s k labels all long = take_all (first_side s.mesh k) labels (omega (arith, long, first_side-all s.mesh k (omega (arith, all))))
+
+-- the darts of a face lie among those of the mesh
+pub face_within : (mesh : FaceList) (f : ℕ) → All (IsFace mesh.count) mesh.faces → f < length mesh.faces → first_side mesh f + length (face_at mesh f) ≤ total_sides mesh
+face_within mesh f valid l =
+    let some : 3 ≤ length (face_at mesh f) = (valid f [] l).polygon in
+    omega (arith, some, side_below mesh f (length (face_at mesh f) - 1) l (omega (arith, some)))
+
+-- The labels of the first k faces stand at their corners, and the others where the polygon had them.
+pub record IsMadeUpTo (s : OrientedMesh) (polygon : PolygonView) (k : ℕ) (signs : List Bool) (ends labels : List ℕ) : Type 0 where
+  pub few : k ≤ length s.mesh.faces
+  pub each_face : length ends ≡ k
+  pub each_dart : length labels ≡ darts_of s
+  pub stored : IsStoredLabelling signs ends (take (first_side s.mesh k) labels) []
+  pub faces : with_signs signs (parts 0 ends (take (first_side s.mesh k) labels)) ≡ first_faces s polygon k
+  pub rest : drop (first_side s.mesh k) labels ≡ drop (first_side s.mesh k) polygon.labels
+
+pub made_none : (s : OrientedMesh) (polygon : PolygonView) (signs : List Bool) (ends : List ℕ) → length polygon.labels ≡ darts_of s
+    → signs ≡ [] → ends ≡ [] → IsMadeUpTo s polygon 0 signs ends polygon.labels
+made_none s polygon signs ends long no_signs no_ends = rw (no_signs, no_ends) (record {
+  few = omega arith;
+  each_face = refl;
+  each_dart = long;
+  stored = record { each_face = refl; rising = refl; few_faces = omega arith; few_labels = λ f l. absurd (omega arith); few_places = omega arith };
+  faces = refl;
+  rest = refl;
+})
+
+pub made_more : (s : OrientedMesh) (polygon : PolygonView) (k : ℕ) (signs : List Bool) (ends labels new : List ℕ) (flipped : Bool) (start end : ℕ)
+    → IsFaceList s.mesh → length s.mesh.faces < 2 ^ 32 → length polygon.labels ≡ darts_of s → IsMadeUpTo s polygon k signs ends labels → k < length s.mesh.faces
+    → flipped ≡ is_flipped s.signs k → start ≡ first_side s.mesh k → end ≡ start + length (face_at s.mesh k)
+    → new ≡ take start labels ++ at_corners flipped (between start end labels) ++ drop end labels
+    → IsMadeUpTo s polygon (k + 1) (signs ++ flipped ∷ []) (ends ++ end ∷ []) new
+made_more s polygon k signs ends labels new flipped start end valid count long made l sign from to is =
+    record {
+      few = omega (arith, l);
+      each_face = length_push ends end ∙ ap (λ n. n + 1) made.each_face;
+      each_dart = all;
+      stored = subst (λ (xs : List ℕ). IsStoredLabelling (signs ++ flipped ∷ []) (ends ++ end ∷ []) xs []) (sym front)
+          (IsStoredLabelling-push signs ends done [] flipped face end made.stored reach (omega (arith, made.each_face, l, count)) (omega (arith, size, inside, valid.few_sides)));
+      faces = ap (λ (xs : List ℕ). with_signs (signs ++ flipped ∷ []) (parts 0 (ends ++ end ∷ []) xs)) front
+          ∙ stored_labelling-push 0 signs ends done [] flipped face end made.stored reach
+          ∙ ap (λ (fs : List FaceLabels). fs ++ one_face flipped face ∷ []) made.faces
+          ∙ ap (λ (b : Bool). first_faces s polygon k ++ one_face b face ∷ []) sign
+          ∙ ap (λ (xs : List ℕ). first_faces s polygon k ++ one_face (is_flipped s.signs k) xs ∷ []) own
+          ∙ sym (first_faces_more s polygon k l);
+      rest = ap (λ n. drop n new) next ∙ behind;
+    }
+  where
+    sides : ℕ
+    sides = length (face_at s.mesh k)
+
+    inside : first_side s.mesh k + sides ≤ total_sides s.mesh
+    inside = face_within s.mesh k valid.faces l
+
+    next : first_side s.mesh (k + 1) ≡ end
+    next = first_side-more s.mesh k ∙ ap (λ n. n + sides) (sym from) ∙ sym to
+
+    within : end ≤ length labels
+    within = omega (arith, to, from, inside, made.each_dart)
+
+    done : List ℕ
+    done = take (first_side s.mesh k) labels
+
+    part : List ℕ
+    part = between start end labels
+
+    face : List ℕ
+    face = at_corners flipped part
+
+    part_long : length part ≡ sides
+    part_long = length-take-le (end - start) (drop start labels) (omega (arith, within, length-drop start labels)) ∙ (omega (arith, to))
+
+    size : length face ≡ sides
+    size = length-at_corners flipped part ∙ part_long
+
+    done_long : length done ≡ start
+    done_long = length-take-le (first_side s.mesh k) labels (omega (arith, within, from, to)) ∙ sym from
+
+    reach : end ≡ length done + length face
+    reach = omega (arith, done_long, size, to)
+
+    both : new ≡ done ++ face ++ drop end labels
+    both = is ∙ ap (λ n. take n labels ++ face ++ drop end labels) from
+
+    both_long : length (done ++ face) ≡ end
+    both_long = length-append done face ∙ sym reach
+
+    front : take (first_side s.mesh (k + 1)) new ≡ done ++ face
+    front = ap (λ n. take n new) next ∙ ap (take end) both ∙ take_at (done ++ face) (drop end labels) end both_long
+
+    all : length new ≡ darts_of s
+    all = ap length both ∙ length-append (done ++ face) (drop end labels) ∙ (omega (arith, both_long, length-drop end labels, within, made.each_dart))
+
+    -- behind the face nothing has changed
+    past : (xs : List ℕ) → drop end xs ≡ drop sides (drop start xs)
+    past xs = ap (λ n. drop n xs) to ∙ sym (drop-drop sides start xs)
+
+    behind : drop end new ≡ drop (first_side s.mesh (k + 1)) polygon.labels
+    behind =
+        ap (drop end) both ∙ drop_at (done ++ face) (drop end labels) end both_long ∙ past labels
+        ∙ ap (λ n. drop sides (drop n labels)) from ∙ ap (drop sides) made.rest ∙ ap (λ n. drop sides (drop n polygon.labels)) (sym from)
+        ∙ sym (past polygon.labels) ∙ ap (λ n. drop n polygon.labels) (sym next)
+
+    label : (t : ℕ) → t < length part → get_or part t 0 ≡ label_of polygon (first_side s.mesh k + t)
+    label t b =
+        get_or-take (end - start) (drop start labels) t 0 (omega (arith, b, part_long, to))
+        ∙ ap (λ n. get_or (drop n labels) t 0) from ∙ ap (λ (xs : List ℕ). get_or xs t 0) made.rest
+        ∙ get_or-drop (first_side s.mesh k) polygon.labels t 0
+
+    own : face ≡ labels_of_face s polygon k
+    own = face_at_corners s polygon k flipped part sign part_long label
+
+-- with all faces the labelling is made
+pub made_all : (s : OrientedMesh) (polygon : PolygonView) (k degree : ℕ) (signs : List Bool) (ends labels places : List ℕ) → k ≡ length s.mesh.faces
+    → IsMadeUpTo s polygon k signs ends labels → degree ≡ polygon.degree → places ≡ polygon.places
+    → stored_labelling degree signs ends labels places ≡ labelling_from s polygon
+made_all s polygon k degree signs ends labels places all made degree_is places_are =
+    ap (λ (n : ℕ). labelling_of n (with_signs signs (parts 0 ends labels)) places) degree_is
+    ∙ ap (λ (xs : List ℕ). labelling_of polygon.degree (with_signs signs (parts 0 ends labels)) xs) places_are
+    ∙ ap (λ (fs : List FaceLabels). labelling_of polygon.degree fs polygon.places)
+    (ap (λ (xs : List ℕ). with_signs signs (parts 0 ends xs)) (sym (whole s k labels all made.each_dart)) ∙ made.faces ∙ all_faces s polygon k all)
+
+pub made_stored : (s : OrientedMesh) (polygon : PolygonView) (k : ℕ) (signs : List Bool) (ends labels places : List ℕ) → k ≡ length s.mesh.faces
+    → IsMadeUpTo s polygon k signs ends labels → length places < 2 ^ 32
+    → IsStoredLabelling signs ends labels places
+made_stored s polygon k signs ends labels places all made few =
+    let stored = made.stored in
+    record {
+      each_face = stored.each_face;
+      rising = subst (λ (xs : List ℕ). EndsRise 0 ends (length xs)) (whole s k labels all made.each_dart) stored.rising;
+      few_faces = stored.few_faces;
+      few_labels = stored.few_labels;
+      few_places = few;
+    }

@@ -1,6 +1,6 @@
 -- The labelling that a polygon gives: the corner of a face has the label of the face's dart that starts there.
-use Rattle.std.specs.Prelude.{◌≡◌, ℕ, ◌<◌, length, map}
-use Rattle.std.specs.List.{enumerate_from, range_with_len}
+use Rattle.std.specs.Prelude.{◌≡◌, ℕ, ◌<◌, Bool, if◌then◌else◌, List, length, map}
+use Rattle.std.specs.List.{enumerate_from, range_with_len, slice_rotate_right}
 use Rattle.surf_model.specs.FaceLists.{FaceList}
 use Rattle.surf_model.specs.Darts.{IsSide}
 use Rattle.surf_model.specs.Surfaces.{ArePartners, is_flipped}
@@ -10,6 +10,11 @@ use Rattle.halfedge_map.specs.DartMaps.{dart_at_corner}
 use Rattle.polygon_cut.specs.Polygons.{PolygonView, label_of}
 use Rattle.quad_system.specs.Labellings.{FaceLabels, LabellingView, tail_label, head_label}
 use Rattle.quad_system.specs.GoodLabellings.{MeetsLeftoverRule}
+
+-- the labels of the darts of a face in the order of their numbers, put at the corners where the darts start: in a flipped face a dart
+-- starts at the corner after the one with its number
+abbrev pub at_corners : Bool → List ℕ → List ℕ
+at_corners flipped labels = if flipped then slice_rotate_right labels 1 else labels
 
 -- the sign of face f, which has so many corners, and their labels
 abbrev pub face_labels : OrientedMesh → PolygonView → ℕ → ℕ → FaceLabels

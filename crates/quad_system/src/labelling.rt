@@ -1,7 +1,8 @@
 //! Labellings: a label for each corner of a mesh, with a sign for each face and the places of the spokes.
-ghost use Rattle.std.specs.Prelude.{◌≡◌, ◌-◌, ◌^◌, ◌<◌, ◌≤◌, [], ◌∷◌, ◌++◌, length, take, drop, slice_index, IfOk, OnOk, OnErr};
+ghost use Rattle.std.specs.Prelude.{◌≡◌, ◌-◌, ◌^◌, ◌<◌, ◌≤◌, [], ◌∷◌, ◌++◌, length, take, drop, slice_index, OnOk, OnErr};
 ghost use Rattle.surf_model.specs.Surfaces.{is_flipped};
 ghost use Rattle.quad_system.specs.Labellings.{labels_at, signs_of};
+ghost use Rattle.quad_system.specs.StoredLabellings.{IsStoredLabelling, stored_labelling};
 
 use std::alloc::{AllocError, Global};
 use std::marker::Model;
@@ -45,22 +46,24 @@ impl Labelling {
         }
     }
 
-    /// A labelling of no faces, with no places, and with room for so many of both and so many labels.
-    pub(crate) fn with_room(
-        alloc: Global,
+    /// The labelling that lies so in memory.
+    pub(crate) fn of(
         degree: u32,
-        faces: u32,
-        labels: u32,
-    ) -> Result<Labelling, AllocError>
-        ensures { IfOk result (λ labelling. labelling ≡ record { degree = degree; faces = []; places = [] }) }
+        signs: Vec<bool>,
+        ends: Vec<usize>,
+        labels: Vec<u32>,
+        places: Vec<u32>,
+    ) -> Labelling
+        requires { IsStoredLabelling signs.items ends.items labels.items places.items }
+        ensures { result ≡ stored_labelling degree signs.items ends.items labels.items places.items }
     {
-        Ok(Labelling {
+        Labelling {
             degree,
-            signs: Vec::with_capacity(alloc, faces as usize)?,
-            ends: Vec::with_capacity(alloc, faces as usize)?,
-            labels: Vec::with_capacity(alloc, labels as usize)?,
-            places: Vec::with_capacity(alloc, degree as usize)?,
-        })
+            signs,
+            ends,
+            labels,
+            places,
+        }
     }
 
     /// Puts a face last: whether it is turned round, and the labels of its corners. Where memory runs out the labelling

@@ -99,7 +99,7 @@ fn polygons_give_good_labellings(rt: HostRuntime) {
     let split = split_edges(alloc, &surface).expect(&rt, "memory");
     let polygon = cut(alloc, &surface, &split).expect(&rt, "memory");
     assert_eq!(rt; polygon.degree(), 8);
-    let good = GoodLabelling::from_polygon(alloc, &surface, &polygon).expect(&rt, "memory");
+    let good = GoodLabelling::from_polygon(alloc, &surface, polygon).expect(&rt, "memory");
     assert_eq!(rt; good.wheel().degree(), 8);
     let labelling = good.into_labelling();
     assert!(rt; labelling.faces() == 26);

@@ -31,6 +31,6 @@ pub(crate) fn label_by_cut(
     }
     let polygon = cut(alloc, surface, &split)?;
     drop(split);
-    let good = GoodLabelling::from_polygon(alloc, surface, &polygon)?;
+    let good = GoodLabelling::from_polygon(alloc, surface, polygon)?;
     Ok(Some(good))
 }

@@ -1,64 +1,69 @@
-use Rattle.std.proofs.Common.{◌≡◌, ◌+◌, ◌∷◌, [], ◌++◌, ◌<◌, Bool, length, List, ℕ, refl, sym, ap, ap₂, ◌∙◌, arith}
-use Rattle.std.proofs.lemmas.List.{take_all}
-use Rattle.surf_model.specs.FaceLists.{face_at}
+use Rattle.std.proofs.Common.{◌≡◌, ◌+◌, ◌++◌, ◌<◌, length, take, drop, sym, ap, subst, ◌∙◌, arith, List, ℕ}
+use Rattle.std.specs.List.{between}
+use Rattle.std.proofs.lemmas.List.{with_items_is}
+use Rattle.surf_model.specs.FaceLists.{FaceList, face_at}
+use Rattle.surf_model.specs.Darts.{first_side}
 use Rattle.surf_model.specs.Surfaces.{is_flipped}
-use Rattle.quad_system.specs.Labellings.{FaceLabels, LabellingView}
-use Rattle.quad_system.proofs.PolygonMakingLemmas.{face_few, labels_long, first_labels, first_faces, first_faces_more, all_faces, one_place_more}
+use Rattle.quad_system.specs.PolygonLabellings.{at_corners}
+use Rattle.quad_system.proofs.PolygonMakingLemmas.{IsMadeUpTo, made_none, made_more, made_all, made_stored, face_within}
 use Rattle.quad_system.proofs.labelling.Labelling.from_polygon.Goals as goal
 
-abbrev one_face : Bool → List ℕ → FaceLabels
-one_face flipped labels = record { flipped = flipped; labels = labels }
-
-abbrev labelling_of : ℕ → List FaceLabels → List ℕ → LabellingView
-labelling_of degree faces places = record { degree = degree; faces = faces; places = places }
-
--- a labelling with one face more
-made : (labelling : LabellingView) (degree : ℕ) (faces more : List FaceLabels) (face : FaceLabels)
-    → labelling ≡ labelling_of degree faces [] → labelling.faces ++ face ∷ [] ≡ more
-    → labelling_of labelling.degree (labelling.faces ++ face ∷ []) labelling.places ≡ labelling_of degree more []
-made labelling degree faces more face is now =
-    ap (λ (n : ℕ). labelling_of n (labelling.faces ++ face ∷ []) labelling.places) (ap (λ (l : LabellingView). l.degree) is)
-    ∙ ap (λ (ps : List ℕ). labelling_of degree (labelling.faces ++ face ∷ []) ps) (ap (λ (l : LabellingView). l.places) is)
-    ∙ ap (λ (fs : List FaceLabels). labelling_of degree fs []) now
-
-pub push_face-requires-clause-labels : goal.push_face-requires-clause-labels
-push_face-requires-clause-labels c =
+pub loop-face-init : goal.loop-face-init
+loop-face-init c =
     let s = c.args.surface.now in
-    let long = labels_long s c.args.polygon.now c.loop-face.face in
-    let few = face_few s c.loop-face.face c.faces.ensures.valid.faces (omega (arith, c.loop-face-test.true, c.len-faces.ensures.count, ap (λ mesh. length mesh.faces) c.faces.ensures.mesh)) in
-    omega (arith, long, few, ap (λ (xs : List ℕ). length xs) (c.deref.ensures.value ∙ c.in_ok-put_labels.ensures))
+    subst (IsMadeUpTo s c.args.polygon 0 c.in_ok-signs.signs.items c.in_ok-ends.ends.items) (sym c.into_numbers-labels.ensures.labels)
+    (made_none s c.args.polygon c.in_ok-signs.signs.items c.in_ok-ends.ends.items c.requires c.in_ok-signs.ensures.items c.in_ok-ends.ensures.items)
+
+pub to_corners-requires-clause-within : goal.to_corners-requires-clause-within
+to_corners-requires-clause-within c =
+    let s = c.args.surface.now in
+    let k = c.loop-face.face in
+    let within : k < length s.mesh.faces =
+    omega (arith, c.loop-face-test.true, c.len-faces.ensures.count, ap (λ (mesh : FaceList). length mesh.faces) c.faces.ensures.mesh) in
+    let start : c.first_dart-start.result.0 ≡ first_side s.mesh k =
+    c.first_dart-start.ensures ∙ ap (λ mesh. first_side mesh k) c.faces-in-loop-face.ensures.mesh in
+    let sides : c.sides.result ≡ length (face_at s.mesh k) =
+    c.sides.ensures ∙ ap (λ mesh. length (face_at mesh k)) c.faces-in-loop-face-2.ensures.mesh in
+    omega (arith, start, sides, face_within s.mesh k c.faces.ensures.valid.faces.faces within, c.loop-face.invariant.each_dart, ap length c.deref_mut.ensures.value)
 
 pub loop-face-preserved : goal.loop-face-preserved
 loop-face-preserved c =
     let s = c.args.surface.now in
-    let polygon = c.args.polygon.now in
+    let polygon = c.args.polygon in
     let k = c.loop-face.face in
-    let within : k < length s.mesh.faces =
-    omega (arith, c.loop-face-test.true, c.len-faces.ensures.count, ap (λ mesh. length mesh.faces) c.faces.ensures.mesh) in
-    let flip : c.flipped.result ≡ is_flipped s.signs k = c.flipped.ensures ∙ ap (λ signs. is_flipped signs k) c.signs.ensures in
-    let labels : c.deref.result.now ≡ first_labels s polygon k (length (face_at s.mesh k)) = c.deref.ensures.value ∙ c.in_ok-put_labels.ensures in
-    let face = ap₂ (λ flipped labels. one_face flipped labels) flip labels in
-    let old = ap (λ (labelling : LabellingView). labelling.faces) c.loop-face.invariant in
-    let faces = ap₂ (λ xs face. xs ++ face ∷ []) old face ∙ sym (first_faces_more s polygon k within) in
-    c.in_ok-push_face.ensures.ok
-    ∙ made c.loop-face.labelling polygon.degree (first_faces s polygon k) (first_faces s polygon (k + 1)) _ c.loop-face.invariant faces
+    let labels = c.loop-face.labels in
+    let count : c.len-faces.result ≡ length s.mesh.faces = c.len-faces.ensures.count ∙ ap (λ (mesh : FaceList). length mesh.faces) c.faces.ensures.mesh in
+    let start : c.first_dart-start.result.0 ≡ first_side s.mesh k =
+    c.first_dart-start.ensures ∙ ap (λ mesh. first_side mesh k) c.faces-in-loop-face.ensures.mesh in
+    let sides : c.sides.result ≡ length (face_at s.mesh k) =
+    c.sides.ensures ∙ ap (λ mesh. length (face_at mesh k)) c.faces-in-loop-face-2.ensures.mesh in
+    let end : ℕ = c.first_dart-start.result.0 + c.sides.result in
+    let flip : c.flipped-flipped.result ≡ is_flipped s.signs k = c.flipped-flipped.ensures ∙ ap (λ signs. is_flipped signs k) c.signs.ensures in
+    let turned : c.to_corners.new.labels
+    ≡ take c.first_dart-start.result.0 labels.items ++ at_corners c.flipped-flipped.result (between c.first_dart-start.result.0 end labels.items) ++ drop end labels.items =
+    c.to_corners.ensures
+    ∙ ap (λ (xs : List ℕ). take c.first_dart-start.result.0 xs ++ at_corners c.flipped-flipped.result (between c.first_dart-start.result.0 end xs) ++ drop end xs)
+    c.deref_mut.ensures.value in
+    let made = made_more s polygon k c.loop-face.signs.items c.loop-face.ends.items labels.items c.to_corners.new.labels c.flipped-flipped.result
+    c.first_dart-start.result.0 end c.faces.ensures.valid.faces (omega (arith, count, c.len-faces.type_inv)) c.requires c.loop-face.invariant
+    (omega (arith, c.loop-face-test.true, count)) flip start (ap (λ n. c.first_dart-start.result.0 + n) sides) turned in
+    let kept = with_items_is labels c.to_corners.new.labels (omega (arith, made.each_dart, c.loop-face.invariant.each_dart, labels.ok.0)) in
+    rw (c.in_ok-push.ensures.items, c.in_ok-push-2.ensures.items, kept) made
+
+pub of-requires : goal.of-requires
+of-requires c =
+    let s = c.args.surface.now in
+    let all : c.loop-face.face ≡ length s.mesh.faces =
+    omega (arith, c.loop-face-test.false, c.loop-face.invariant.few, c.len-faces.ensures.count, ap (λ (mesh : FaceList). length mesh.faces) c.faces.ensures.mesh) in
+    made_stored s c.args.polygon c.loop-face.face c.loop-face.signs.items c.loop-face.ends.items c.loop-face.labels.items
+    c.into_numbers-labels.result.places.items all c.loop-face.invariant
+    (omega (arith, ap length c.into_numbers-labels.ensures.places, c.degree-degree.ensures.places, c.degree-degree.ensures.degree, c.degree-degree.type_inv))
 
 pub returns-clause-labelling : goal.returns-clause-labelling
 returns-clause-labelling c =
     let s = c.args.surface.now in
-    let polygon = c.args.polygon.now in
-    let faces = all_faces s polygon (length s.mesh.faces) refl in
-    let places = take_all c.loop-spoke.spoke polygon.places
-    (omega (arith, c.loop-spoke-test.false, c.degree-spoke-end.ensures.degree, c.degree-spoke-end.ensures.places)) in
-    c.loop-spoke.invariant
-    ∙ ap₂ (λ faces places. labelling_of polygon.degree faces places) faces places
-
-pub loop-spoke-preserved : goal.loop-spoke-preserved
-loop-spoke-preserved c =
-    let polygon = c.args.polygon.now in
-    let k = c.loop-spoke.spoke in
-    let within : k < length polygon.places =
-    omega (arith, c.loop-spoke-test.true, c.degree-spoke-end.ensures.degree, c.degree-spoke-end.ensures.places) in
-    c.in_ok-push_place.ensures.ok
-    ∙ one_place_more c.loop-spoke.labelling polygon.degree (first_faces c.args.surface.now polygon (length c.args.surface.now.mesh.faces))
-    polygon.places k c.place.result within c.place.ensures c.loop-spoke.invariant
+    let all : c.loop-face.face ≡ length s.mesh.faces =
+    omega (arith, c.loop-face-test.false, c.loop-face.invariant.few, c.len-faces.ensures.count, ap (λ (mesh : FaceList). length mesh.faces) c.faces.ensures.mesh) in
+    c.of.ensures
+    ∙ made_all s c.args.polygon c.loop-face.face c.degree-degree.result c.loop-face.signs.items c.loop-face.ends.items c.loop-face.labels.items
+    c.into_numbers-labels.result.places.items all c.loop-face.invariant c.degree-degree.ensures.degree c.into_numbers-labels.ensures.places
