@@ -40,6 +40,19 @@ fn node(nodes: Nodes, surface: &Surface, dart: DartName) -> u32
     }
 }
 
+/// The number of the node that lies across the edge of a dart. The vertex at its other end is where the next dart of its face
+/// starts, which lies closer in memory than its twin.
+fn node_across(nodes: Nodes, surface: &Surface, dart: DartName) -> u32
+    requires valid { IsOrientedSurface surface.now }
+    requires dart { dart.0 < darts_of surface.now }
+    ensures { result ≡ node_of nodes (rotations_of surface.now) ((rotations_of surface.now).twin dart.0) }
+{
+    match nodes {
+        Nodes::Vertices => surface.origin(surface.next(dart)).0,
+        Nodes::Faces => surface.face_of(surface.twin(dart)).0,
+    }
+}
+
 /// The dart that follows round the node of a dart.
 fn turn(nodes: Nodes, surface: &Surface, dart: DartName) -> DartName
     requires { dart.0 < darts_of surface.now }
@@ -115,11 +128,11 @@ fn cross(
     if !may_cross(edges, kinds, surface, dart) {
         return Ok(());
     }
-    let back = surface.twin(dart);
-    let across = node(nodes, surface, back);
+    let across = node_across(nodes, surface, dart);
     if across == root || search.from[across as usize].get().is_some() {
         return Ok(());
     }
+    let back = surface.twin(dart);
     search.order.push(back)?;
     search.waiting.push(back)?;
     search.from[across as usize] = MaybeDart::some(back);
