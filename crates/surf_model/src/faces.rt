@@ -1,9 +1,10 @@
 //! Face lists: polygon meshes as lists of faces, each face the ring of its corners.
 ghost use Rattle.std.specs.Prelude.{◌≡◌, ◌+◌, ◌<◌, ◌≤◌, [], ◌∷◌, ◌++◌, length, slice_index, OnOk, OnErr, IfOk};
 ghost use Rattle.surf_model.specs.FaceLists.{face_at, next_corner, total_sides, IsFace, IsFaceList};
-ghost use Rattle.surf_model.specs.Darts.{first_side, IsSide, side_number, side_after};
+ghost use Rattle.surf_model.specs.Darts.{first_side, IsSide, side_number, side_after, tail_of};
 ghost use Rattle.surf_model.specs.StoredEdges.{IsNumbering};
 ghost use Rattle.surf_model.specs.Vertices.{numbers};
+ghost use Rattle.surf_model.specs.declared.edges.Side.{Side};
 ghost use Rattle.surf_model.specs.declared.limits.TheConstants.{MOST_VERTICES, MOST_SIDES};
 
 use crate::edges::Side;
@@ -103,6 +104,16 @@ impl Faces {
         ensures { result.0 ≡ slice_index (face_at self.now face.0) t }
     {
         self.corners[(self.parts.start(face.0) + t) as usize]
+    }
+
+    /// The vertex where the side with a number starts, as its face lists it.
+    #[inline(always)]
+    pub fn corner_at(&self, dart: DartName) -> VertexName
+        requires { dart.0 < total_sides self.now }
+        ensures { (side : Side) → IsSide self.now side → side_number self.now side ≡ dart.0
+            → result.0 ≡ tail_of self.now side }
+    {
+        self.corners[dart.0 as usize]
     }
 
     /// The vertices at the corners of a face, in order.

@@ -20,6 +20,7 @@ fn faces_are_read_back(rt: HostRuntime) {
     assert_eq!(rt; faces.total(), 6);
     assert_eq!(rt; faces.sides(FaceName(1)), 3);
     assert_eq!(rt; faces.corner(FaceName(1), 1), VertexName(3));
+    assert_eq!(rt; faces.corner_at(DartName(4)), VertexName(3));
 }
 
 #[test]
