@@ -15,10 +15,14 @@ pub(crate) struct EdgeEnds {
     pub(crate) high: VertexName,
 }
 
-/// A side by its number, with the higher of its two vertices.
+/// A side by its number, under a key.
+///
+/// While the sides of a lower vertex are sorted, the key of each is its higher vertex. Where sides are linked, the entry at
+/// the number of a side has its edge as the key, and the next side of that edge. One vector serves for both, one after the
+/// other, so that no memory has to be handed out for the second.
 #[derive(Clone, Copy, Debug, PartialEq, Eq)]
 pub(crate) struct SideEntry {
-    pub(crate) high: VertexName,
+    pub(crate) key: u32,
     pub(crate) dart: DartName,
 }
 

@@ -4,51 +4,40 @@ ghost use Rattle.std.specs.List.{list_any};
 ghost use Rattle.surf_model.specs.EdgeLists.{DartEdge, dart_edge_in};
 ghost use Rattle.surf_model.specs.Links.{IsLinked, is_end};
 
-use crate::edge_list::EdgeList;
+use crate::edge_list::{EdgeList, SideEntry};
 use crate::faces::corner_after;
-use crate::names::{DartName, EdgeName};
 use std::alloc::{AllocError, Global};
 
-/// For each side, by its number, its edge and the next side of that edge, where the first one follows the last.
-#[derive(Drop)]
-pub(crate) struct Links {
-    pub(crate) edge_of: Vec<EdgeName>,
-    pub(crate) other: Vec<DartName>,
-}
-
-/// Links the sides of all edges, whose numbers are below `sides`.
-pub(crate) fn link_sides(alloc: Global, sides: u32, edges: &EdgeList) -> Result<Links, AllocError>
-    requires { All (λ (edge : DartEdge). All (λ n. n < sides) edge.darts) edges.now }
-    ensures edges { IfOk result (λ links. length links.edge_of.items ≡ sides) }
-    ensures others { IfOk result (λ links. length links.other.items ≡ sides) }
-    ensures linked { IfOk result (λ links. (k t : ℕ) → k < length edges.now → t < length (dart_edge_in edges.now k).darts
-        → IsLinked edges.now links.edge_of.items links.other.items (slice_index (dart_edge_in edges.now k).darts t)) }
+/// Links the sides of all edges: at the number of each side come its edge and the next side of that edge, where the first
+/// one follows the last. What stands in `links` before is not read.
+pub(crate) fn link_sides(links: &mut Vec<SideEntry>, edges: &EdgeList)
+    requires { All (λ (edge : DartEdge). All (λ n. n < length links.old.items) edge.darts) edges.now }
+    ensures each { length links.new.items ≡ length links.old.items }
+    ensures linked { (k t : ℕ) → k < length edges.now → t < length (dart_edge_in edges.now k).darts
+        → IsLinked edges.now links.new.items (slice_index (dart_edge_in edges.now k).darts t) }
 {
-    let mut edge_of = vec![in alloc; EdgeName(0); sides as usize]?;
-    let mut other = vec![in alloc; DartName(0); sides as usize]?;
     for edge in 0..edges.len() {
-        link_edge(&mut edge_of, &mut other, edges, edge);
+        link_edge(links, edges, edge);
     }
-    Ok(Links { edge_of, other })
 }
 
 /// Links the sides of an edge.
-fn link_edge(edge_of: &mut Vec<EdgeName>, other: &mut Vec<DartName>, edges: &EdgeList, edge: u32)
+fn link_edge(links: &mut Vec<SideEntry>, edges: &EdgeList, edge: u32)
     requires edge { edge < length edges.now }
-    requires edges { All (λ n. n < length edge_of.old.items) (dart_edge_in edges.now edge).darts }
-    requires others { All (λ n. n < length other.old.items) (dart_edge_in edges.now edge).darts }
-    ensures edges { length edge_of.new.items ≡ length edge_of.old.items }
-    ensures others { length other.new.items ≡ length other.old.items }
-    ensures kept { (n : ℕ) → IsLinked edges.now edge_of.old.items other.old.items n
-        → IsLinked edges.now edge_of.new.items other.new.items n }
+    requires sides { All (λ n. n < length links.old.items) (dart_edge_in edges.now edge).darts }
+    ensures each { length links.new.items ≡ length links.old.items }
+    ensures kept { (n : ℕ) → IsLinked edges.now links.old.items n → IsLinked edges.now links.new.items n }
     ensures linked { (t : ℕ) → t < length (dart_edge_in edges.now edge).darts
-        → IsLinked edges.now edge_of.new.items other.new.items (slice_index (dart_edge_in edges.now edge).darts t) }
+        → IsLinked edges.now links.new.items (slice_index (dart_edge_in edges.now edge).darts t) }
 {
     let sides = edges.sides(edge);
     for k in 0..sides {
-        let dart = edges.dart(edge, k).0 as usize;
-        edge_of[dart] = EdgeName(edge);
-        other[dart] = edges.dart(edge, corner_after(true, sides, k));
+        let dart = edges.dart(edge, k);
+        let next = edges.dart(edge, corner_after(true, sides, k));
+        links[dart.0 as usize] = SideEntry {
+            key: edge,
+            dart: next,
+        };
     }
 }
 

@@ -6,8 +6,7 @@ use Rattle.surf_model.proofs.linking.link_sides.Given as goal
 abbrev pub invariant-loop-edge : goal.invariant-loop-edge
 invariant-loop-edge l = record {
   within : l.edge ≤ length l.edges;
-  each_edge : length l.edge_of.items ≡ l.sides;
-  each_other : length l.other.items ≡ l.sides;
+  each : length l.links.items ≡ length l.initial.links.items;
   linked : (k t : ℕ) → k < l.edge → t < length (dart_edge_in l.edges k).darts
-      → IsLinked l.edges l.edge_of.items l.other.items (get_or (dart_edge_in l.edges k).darts t 0);
+      → IsLinked l.edges l.links.items (get_or (dart_edge_in l.edges k).darts t 0);
 }
