@@ -1,5 +1,5 @@
 //! A list of lists, kept as one vector and the places where its parts end.
-ghost use Rattle.std.specs.Prelude.{◌≡◌, ◌+◌, ◌<◌, ◌≤◌, [], ◌∷◌, ◌++◌, length, slice_index, OnOk, OnErr, IfOk};
+ghost use Rattle.std.specs.Prelude.{◌≡◌, ◌⊎◌, ◌+◌, ◌<◌, ◌≤◌, [], ◌∷◌, ◌++◌, length, slice_index, Some, OnOk, OnErr, IfOk, IfSome};
 ghost use Rattle.surf_model.specs.Parts.{last_end, IsInPart};
 ghost use Rattle.surf_model.specs.declared.limits.TheConstants.{MOST_SIDES};
 
@@ -21,11 +21,13 @@ pub(crate) fn start_of(ends: &[u32], part: u32) -> u32
 /// The places where the parts end, seen as the list of these places.
 ///
 /// The part of every sixteenth place is marked, so that the part of any place is found in a few steps where parts are
-/// not tiny.
+/// not tiny. Where all parts have three places, or all have four, as nearly all meshes do, no look at memory is needed.
 #[derive(Debug, Drop)]
 pub(crate) struct Parts {
     ends: Vec<u32>,
     marks: Vec<u32>,
+    /// The size of every part, if all have the same.
+    size: Option<u32>,
 }
 
 impl Model for Parts {
@@ -36,7 +38,7 @@ impl Model for Parts {
 
     ghost view = { λ a. a.ends.items };
 
-    ghost invariant = { λ a. IsPartList a.ends.items a.marks.items };
+    ghost invariant = { λ a. IsPartList a.ends.items a.marks.items a.size };
 }
 
 impl Parts {
@@ -47,6 +49,7 @@ impl Parts {
         Parts {
             ends: Vec::new(alloc),
             marks: Vec::new(alloc),
+            size: None,
         }
     }
 
@@ -62,6 +65,7 @@ impl Parts {
         self.ends.reserve(1)?;
         self.marks.resize((end as usize + 15) / 16, part)?;
         self.ends.push(end).unwrap();
+        self.size = common_size(part, self.size, size);
         Ok(())
     }
 
@@ -106,6 +110,19 @@ impl Parts {
         requires { place < last_end self.now }
         ensures { IsInPart self.now place result }
     {
+        // The compiler knows how to divide by these without a division.
+        match self.size {
+            Some(3) => place / 3,
+            Some(4) => place / 4,
+            _ => self.part_from_mark(place),
+        }
+    }
+
+    /// The same, from the mark before the place.
+    fn part_from_mark(&self, place: u32) -> u32
+        requires { place < last_end self.now }
+        ensures { IsInPart self.now place result }
+    {
         let mut part = self.marks[place as usize / 16];
         while self.ends[part as usize] <= place {
             part += 1;
@@ -120,6 +137,20 @@ impl Parts {
         Ok(Parts {
             ends: self.ends.clone()?,
             marks: self.marks.clone()?,
+            size: self.size,
         })
+    }
+}
+
+/// The size of all parts, if all have the same, where a part of a size comes behind `parts` parts of the size `common`.
+fn common_size(parts: u32, common: Option<u32>, size: u32) -> Option<u32>
+    ensures { IfSome result (λ s. (s ≡ size) × ((parts ≡ 0) ⊎ (common ≡ Some s))) }
+{
+    if parts == 0 {
+        return Some(size);
+    }
+    match common {
+        Some(before) if before == size => Some(size),
+        _ => None,
     }
 }
