@@ -1,4 +1,4 @@
-use Rattle.std.proofs.Common.{◌≡◌, ◌+◌, ◌<◌, ◌*◌, ◌/◌, ℕ, List, Some, length, get_or, sym, ap, ◌∙◌, subst, arith}
+use Rattle.std.proofs.Common.{◌≡◌, ◌<◌, ◌/◌, ℕ, List, Some, sym, ap, ◌∙◌, subst, arith}
 use Rattle.surf_model.specs.Parts.{IsInPart, last_end}
 use Rattle.surf_model.proofs.PartsLemmas.{sized_part}
 use Rattle.surf_model.proofs.parts.Parts.part_at.Goals as goal
