@@ -1,86 +1,93 @@
 -- The maps on the darts, written dart after dart.
-use Rattle.std.proofs.Common.{◌≡◌, inl, inr, ℕ, ◌+◌, ◌<◌, ◌≤◌, true, not, cond, List, [], ◌∷◌, ◌++◌, length, get_or, refl, ap, sym, ◌∙◌}
+use Rattle.std.proofs.Common.{◌≡◌, inl, inr, ℕ, ◌+◌, ◌<◌, ◌≤◌, true, false, not, cond, List, [], ◌∷◌, ◌++◌, length, get_or, refl, ap, sym, ◌∙◌}
 use Rattle.std.proofs.Common.{subst, arith}
-use Rattle.std.specs.Prelude.{sum_by}
 use Rattle.std.proofs.lemmas.Bool.{cases_lt}
-use Rattle.std.proofs.lemmas.List.{get_or_append_left, get_or_push, length_push, take_all, get_or_read}
+use Rattle.std.proofs.lemmas.List.{get_or_append_left, get_or_push, length_push, get_or_read}
 use Rattle.std.proofs.lemmas.List.Sums.{sum_by_more}
 use Rattle.surf_model.specs.FaceLists.{FaceList, face_at, next_corner, total_sides}
-use Rattle.surf_model.specs.Darts.{first_side}
+use Rattle.surf_model.specs.Darts.{first_side, IsSide, side_number, tail_of}
 use Rattle.surf_model.specs.Surfaces.{is_flipped}
+use Rattle.surf_model.specs.declared.edges.Side.{Side}
 use Rattle.surf_model.specs.declared.names.DartName.{DartName}
 use Rattle.surf_model.specs.declared.names.VertexName.{VertexName}
 use Rattle.halfedge_map.specs.OrientedMeshes.{OrientedMesh}
 use Rattle.halfedge_map.specs.DartMaps.{darts_of, side_of, next_of, origin_of, start_corner_of}
-use Rattle.halfedge_map.specs.StoredDarts.{StoreDarts, signed}
-use Rattle.halfedge_map.proofs.NumberLemmas.{IsNumberOf, number_below}
-use Rattle.halfedge_map.proofs.DartLemmas.{corners, vertex_at, next_at, origin_at, start_at, start_place}
+use Rattle.halfedge_map.specs.StoredDarts.{ListNexts, ListOrigins, KeepOrigins, signed}
+use Rattle.halfedge_map.specs.declared.darts.Origins.{Origins}
+use Rattle.halfedge_map.specs.declared.darts.Origins.TheVariants.{AsListed, Stored}
+use Rattle.halfedge_map.proofs.NumberLemmas.{IsNumberOf, HasPlace, number_below, placed}
+use Rattle.halfedge_map.proofs.DartLemmas.{corners, vertex_at, next_at, origin_at, start_at, start_place, start_kept}
 use Rattle.surf_model.specs.declared.limits.TheConstants.{MOST_SIDES}
 
 pub first_side-more : (mesh : FaceList) (f : ℕ) → f < length mesh.faces
     → first_side mesh (f + 1) ≡ first_side mesh f + length (face_at mesh f)
 first_side-more mesh f l = sum_by_more {X = List ℕ} length mesh.faces f [] l
 
-pub first_side-all : (mesh : FaceList) (f : ℕ) → length mesh.faces ≤ f → first_side mesh f ≡ total_sides mesh
-first_side-all mesh f l = ap (λ (faces : List (List ℕ)). sum_by length faces) (take_all f mesh.faces l)
-
-pub stored_none : (s : OrientedMesh) (next : List DartName) (origin : List VertexName) → next ≡ [] → origin ≡ []
-    → StoreDarts s 0 next origin
-stored_none s next origin e k =
+-- one entry more at the end
+nexts_push : (s : OrientedMesh) (n : ℕ) (next : List DartName) (x : DartName)
+    → ListNexts s n next → x.0 ≡ next_of s n → ListNexts s (n + 1) (next ++ x ∷ [])
+nexts_push s n next x h is =
     record {
-      next_long = ap (λ (xs : List DartName). length xs) e;
-      origin_long = ap (λ (xs : List VertexName). length xs) k;
-      nexts = λ d l. absurd (omega arith);
-      origins = λ d l. absurd (omega arith);
-    }
-
-stored_push : (s : OrientedMesh) (n : ℕ) (next : List DartName) (origin : List VertexName) (x : DartName) (v : VertexName)
-    → StoreDarts s n next origin → x.0 ≡ next_of s n → v.0 ≡ origin_of s n → StoreDarts s (n + 1) (next ++ x ∷ []) (origin ++ v ∷ [])
-stored_push s n next origin x v h is_next is_origin =
-    record {
-      next_long = omega (arith, length_push next x, h.next_long);
-      origin_long = omega (arith, length_push origin v, h.origin_long);
+      long = omega (arith, length_push next x, h.long);
       nexts = λ d l. elim (cases_lt d n) [
         | inl less ↦
-            ap (λ (y : DartName). y.0) (get_or_append_left next (x ∷ []) (record { 0 = 0 }) d (omega (arith, less, h.next_long)))
+            ap (λ (y : DartName). y.0) (get_or_append_left next (x ∷ []) (record { 0 = 0 }) d (omega (arith, less, h.long)))
             ∙ h.nexts d less
         | inr more ↦
             (let same : d ≡ n = omega arith in
-            ap (λ (y : DartName). y.0) (get_or_push next x (record { 0 = 0 }) d (h.next_long ∙ sym same)) ∙ is_next
-            ∙ ap (next_of s) (sym same))
-      ];
-      origins = λ d l. elim (cases_lt d n) [
-        | inl less ↦
-            ap (λ (y : VertexName). y.0) (get_or_append_left origin (v ∷ []) (record { 0 = 0 }) d (omega (arith, less, h.origin_long)))
-            ∙ h.origins d less
-        | inr more ↦
-            (let same : d ≡ n = omega arith in
-            ap (λ (y : VertexName). y.0) (get_or_push origin v (record { 0 = 0 }) d (h.origin_long ∙ sym same)) ∙ is_origin
-            ∙ ap (origin_of s) (sym same))
+            ap (λ (y : DartName). y.0) (get_or_push next x (record { 0 = 0 }) d (h.long ∙ sym same)) ∙ is ∙ ap (next_of s) (sym same))
       ];
     }
 
--- the dart of side t of a face, put after those before it
-pub stored_more : (s : OrientedMesh) (f t start : ℕ) (next : List DartName) (origin : List VertexName) (x : DartName) (v : VertexName)
-    → f < length s.mesh.faces → t < corners s f → StoreDarts s (first_side s.mesh f + t) next origin
+origins_push : (s : OrientedMesh) (n : ℕ) (origin : List VertexName) (v : VertexName)
+    → ListOrigins s n origin → v.0 ≡ origin_of s n → ListOrigins s (n + 1) (origin ++ v ∷ [])
+origins_push s n origin v h is =
+    record {
+      long = omega (arith, length_push origin v, h.long);
+      origins = λ d l. elim (cases_lt d n) [
+        | inl less ↦
+            ap (λ (y : VertexName). y.0) (get_or_append_left origin (v ∷ []) (record { 0 = 0 }) d (omega (arith, less, h.long)))
+            ∙ h.origins d less
+        | inr more ↦
+            (let same : d ≡ n = omega arith in
+            ap (λ (y : VertexName). y.0) (get_or_push origin v (record { 0 = 0 }) d (h.long ∙ sym same)) ∙ is ∙ ap (origin_of s) (sym same))
+      ];
+    }
+
+-- the dart that follows side t of a face, put after those before it
+pub nexts_more : (s : OrientedMesh) (f t : ℕ) (next : List DartName) (x : DartName)
+    → f < length s.mesh.faces → t < corners s f → ListNexts s (first_side s.mesh f + t) next
     → x.0 ≡ first_side s.mesh f + next_corner (not (is_flipped s.signs f)) (corners s f) t
+    → ListNexts s (first_side s.mesh f + (t + 1)) (next ++ x ∷ [])
+nexts_more s f t next x l b h is =
+    let d : ℕ = first_side s.mesh f + t in
+    let n : IsNumberOf s.mesh f t d = record { face = l; place = b; is = refl } in
+    let one : d + 1 ≡ first_side s.mesh f + (t + 1) = omega arith in
+    subst (λ m. ListNexts s m (next ++ x ∷ [])) one (nexts_push s d next x h (is ∙ sym (next_at s f t d n)))
+
+-- the vertex where the dart of side t of a face starts, put after those before it
+pub origins_more : (s : OrientedMesh) (f t start : ℕ) (origin : List VertexName) (v : VertexName)
+    → f < length s.mesh.faces → t < corners s f → ListOrigins s (first_side s.mesh f + t) origin
     → start ≡ cond (is_flipped s.signs f) (next_corner true (corners s f) t) t → v.0 ≡ vertex_at s f start
-    → StoreDarts s (first_side s.mesh f + (t + 1)) (next ++ x ∷ []) (origin ++ v ∷ [])
+    → ListOrigins s (first_side s.mesh f + (t + 1)) (origin ++ v ∷ [])
 unfolding start_place
-stored_more s f t start next origin x v l b h is_next is_start is_origin =
+origins_more s f t start origin v l b h is_start is =
     let d : ℕ = first_side s.mesh f + t in
     let n : IsNumberOf s.mesh f t d = record { face = l; place = b; is = refl } in
     let one : d + 1 ≡ first_side s.mesh f + (t + 1) = omega arith in
     let begins : start ≡ start_corner_of s d = is_start ∙ sym (start_at s f t d n) in
-    subst (λ m. StoreDarts s m (next ++ x ∷ []) (origin ++ v ∷ [])) one
-    (stored_push s d next origin x v h (is_next ∙ sym (next_at s f t d n)) (is_origin ∙ ap (vertex_at s f) begins
-    ∙ sym (origin_at s f t d n)))
+    subst (λ m. ListOrigins s m (origin ++ v ∷ [])) one
+    (origins_push s d origin v h (is ∙ ap (vertex_at s f) begins ∙ sym (origin_at s f t d n)))
 
 -- the table plays no part
-pub stored_signed : (s : OrientedMesh) (n : ℕ) (next : List DartName) (origin : List VertexName)
-    → StoreDarts (signed s.mesh s.signs) n next origin → StoreDarts s n next origin
-unfolding next_of origin_of side_of
-stored_signed s n next origin h = record { next_long = h.next_long; origin_long = h.origin_long; nexts = h.nexts; origins = h.origins }
+pub nexts_signed : (s : OrientedMesh) (n : ℕ) (next : List DartName) → ListNexts (signed s.mesh s.signs) n next → ListNexts s n next
+unfolding next_of side_of
+nexts_signed s n next h = record { long = h.long; nexts = h.nexts }
+
+pub origins_signed : (s : OrientedMesh) (n : ℕ) (origins : Origins) → KeepOrigins (signed s.mesh s.signs) n origins → KeepOrigins s n origins
+unfolding origin_of side_of
+origins_signed s n AsListed h = h
+origins_signed s n (Stored origin) h = record { long = h.long; origins = h.origins }
 
 -- the numbers of darts are small
 pub dart_small : (mesh : FaceList) (f t : ℕ) → total_sides mesh ≤ MOST_SIDES → IsNumberOf mesh f t (first_side mesh f + t)
@@ -88,8 +95,18 @@ pub dart_small : (mesh : FaceList) (f t : ℕ) → total_sides mesh ≤ MOST_SID
 dart_small mesh f t h n = omega (arith, number_below mesh f t (first_side mesh f + t) n)
 
 -- what is read at a dart
-pub read_next : (s : OrientedMesh) (next : List DartName) (origin : List VertexName) (d : ℕ) (x : DartName)
-    → StoreDarts s (darts_of s) next origin
-    → d < darts_of s → x ≡ get_or next d x → x.0 ≡ next_of s d
-read_next s next origin d x h l read =
-    ap (λ (y : DartName). y.0) (get_or_read next d x (omega (arith, l, h.next_long)) read (record { 0 = 0 })) ∙ h.nexts d l
+pub read_next : (s : OrientedMesh) (next : List DartName) (d : ℕ) (x : DartName)
+    → ListNexts s (darts_of s) next → d < darts_of s → x ≡ get_or next d x → x.0 ≡ next_of s d
+read_next s next d x h l read =
+    ap (λ (y : DartName). y.0) (get_or_read next d x (omega (arith, l, h.long)) read (record { 0 = 0 })) ∙ h.nexts d l
+
+-- where no face is flipped, a dart starts where its side does
+pub listed_origin : (s : OrientedMesh) (d v : ℕ) → ((face : ℕ) → is_flipped s.signs face ≡ false) → d < darts_of s
+    → ((side : Side) → IsSide s.mesh side → side_number s.mesh side ≡ d → v ≡ tail_of s.mesh side) → v ≡ origin_of s d
+listed_origin s d v kept l starts =
+    let p : HasPlace s.mesh d = placed s.mesh d l in
+    let side : Side = record { face = record { 0 = p.face }; at = p.place } in
+    let in_mesh : IsSide s.mesh side = record { face = p.numbered.face; place = p.numbered.place } in
+    starts side in_mesh p.numbered.is
+    ∙ ap (vertex_at s p.face) (sym (start_kept s p.face p.place d p.numbered (kept p.face)))
+    ∙ sym (origin_at s p.face p.place d p.numbered)

@@ -3,7 +3,7 @@ ghost use Rattle.std.specs.Prelude.{◌≡◌, ◌<◌, IfOk};
 ghost use Rattle.surf_model.specs.Edges.{IsTableOf};
 ghost use Rattle.surf_model.specs.Surfaces.{IsClosed, IsCoherent};
 
-use crate::darts::{StoredDarts, stored_darts, used_vertices};
+use crate::darts::{Origins, kept_origins, next_darts, used_vertices};
 use std::alloc::{AllocError, Global};
 use std::marker::Model;
 use surf_model::{DartName, EdgeName, FaceName, Faces, Sides, Signs, VertexName};
@@ -20,8 +20,7 @@ pub struct Surface {
     signs: Signs,
     /// For each dart the one that follows in its face.
     next: Vec<DartName>,
-    /// For each dart the vertex where it starts.
-    origin: Vec<VertexName>,
+    origins: Origins,
     /// The number of used vertices.
     vertices: u32,
 }
@@ -35,7 +34,7 @@ impl Model for Surface {
     ghost view = { λ a. record { mesh = a.faces; table = a.sides; signs = a.signs } };
 
     ghost invariant = { λ a. IsStoredSurface (record { mesh = a.faces; table = a.sides; signs = a.signs })
-        a.next.items a.origin.items a.vertices };
+        a.next.items a.origins a.vertices };
 }
 
 impl Surface {
@@ -57,14 +56,15 @@ impl Surface {
         requires coherent { IsCoherent faces signs }
         ensures { IfOk result (λ surface. surface ≡ record { mesh = faces; table = sides; signs = signs }) }
     {
-        let StoredDarts { next, origin } = stored_darts(alloc, &faces, &signs)?;
+        let next = next_darts(alloc, &faces, &signs)?;
+        let origins = kept_origins(alloc, &faces, &signs)?;
         let vertices = used_vertices(&faces, &sides);
         Ok(Surface {
             faces,
             sides,
             signs,
             next,
-            origin,
+            origins,
             vertices,
         })
     }
@@ -113,11 +113,15 @@ impl Surface {
     }
 
     /// The vertex where a dart starts.
+    #[inline(always)]
     pub fn origin(&self, dart: DartName) -> VertexName
         requires { dart.0 < darts_of self.now }
         ensures { result.0 ≡ origin_of self.now dart.0 }
     {
-        self.origin[dart.0 as usize]
+        match &self.origins {
+            Origins::AsListed => self.faces.corner_at(dart),
+            Origins::Stored(origin) => origin[dart.0 as usize],
+        }
     }
 
     /// The face of a dart.

@@ -1,7 +1,7 @@
 use Rattle.surf_model.specs.FaceLists.{total_sides}
 use Rattle.halfedge_map.specs.OrientedMeshes.{OrientedMesh}
 use Rattle.halfedge_map.specs.DartMaps.{used_vertices}
-use Rattle.halfedge_map.proofs.StoringLemmas.{stored_signed}
+use Rattle.halfedge_map.proofs.StoringLemmas.{nexts_signed, origins_signed}
 use Rattle.halfedge_map.proofs.surface.Surface.build.Goals as goal
 
 pub invariant_of-result : goal.invariant_of-result
@@ -15,7 +15,7 @@ invariant_of-result c =
         closed = c.requires.closed;
         coherent = c.requires.coherent;
       };
-      maps =
-          stored_signed s (total_sides c.args.faces) c.in_ok-next.field-0.next.items c.in_ok-next.field-0.origin.items c.in_ok-next.ensures.stored;
+      nexts = nexts_signed s (total_sides c.args.faces) c.in_ok-next.next.items c.in_ok-next.ensures.stored;
+      origins_kept = origins_signed s (total_sides c.args.faces) c.in_ok-origins.origins c.in_ok-origins.ensures;
       used = c.used_vertices-vertices.ensures;
     }

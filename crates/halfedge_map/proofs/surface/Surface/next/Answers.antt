@@ -11,7 +11,7 @@ returns-clause-next c =
     let s : OrientedMesh = record { mesh = i.faces; table = i.sides; signs = i.signs } in
     let l : c.args.dart.0 < darts_of s = subst (λ (t : OrientedMesh). c.args.dart.0 < darts_of t) (sym c.self.view_is) c.requires in
     let read : c.index.result.now.0 ≡ next_of s c.args.dart.0 =
-    read_next s i.next.items i.origin.items c.args.dart.0 c.index.result.now c.self.invariant.maps l c.index.ensures in
+    read_next s i.next.items c.args.dart.0 c.index.result.now c.self.invariant.nexts l c.index.ensures in
     subst (λ (t : OrientedMesh). c.index.result.now.0 ≡ next_of t c.args.dart.0) c.self.view_is read
 
 pub returns-clause-within : goal.returns-clause-within

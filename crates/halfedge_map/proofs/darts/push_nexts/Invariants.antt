@@ -1,0 +1,7 @@
+use Rattle.std.proofs.Common.{◌+◌}
+use Rattle.surf_model.specs.Darts.{first_side}
+use Rattle.halfedge_map.specs.StoredDarts.{ListNexts, signed}
+use Rattle.halfedge_map.proofs.darts.push_nexts.Given as goal
+
+abbrev pub invariant-loop-at : goal.invariant-loop-at
+invariant-loop-at l = ListNexts (signed l.faces l.signs) (first_side l.faces l.fn.face.0 + l.at) l.next.items

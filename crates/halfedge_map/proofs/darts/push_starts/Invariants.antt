@@ -1,0 +1,7 @@
+use Rattle.std.proofs.Common.{◌+◌}
+use Rattle.surf_model.specs.Darts.{first_side}
+use Rattle.halfedge_map.specs.StoredDarts.{ListOrigins, signed}
+use Rattle.halfedge_map.proofs.darts.push_starts.Given as goal
+
+abbrev pub invariant-loop-at : goal.invariant-loop-at
+invariant-loop-at l = ListOrigins (signed l.faces l.signs) (first_side l.faces l.face.0 + l.at) l.origin.items

@@ -1,0 +1,6 @@
+use Rattle.surf_model.specs.Darts.{first_side}
+use Rattle.halfedge_map.specs.StoredDarts.{ListOrigins, signed}
+use Rattle.halfedge_map.proofs.darts.start_vertices.Given as goal
+
+abbrev pub invariant-loop-face : goal.invariant-loop-face
+invariant-loop-face l = ListOrigins (signed l.faces l.signs) (first_side l.faces l.face) l.origin.items
