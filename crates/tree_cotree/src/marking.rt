@@ -12,7 +12,7 @@ use crate::maybe_dart::MaybeDart;
 use crate::search::is_same;
 use crate::split::Kind;
 use halfedge_map::Surface;
-use surf_model::DartName;
+use surf_model::{DartName, EdgeName};
 
 /// Gives the edges of the darts that are kept a kind.
 pub(crate) fn mark(kinds: &mut Vec<Kind>, surface: &Surface, from: &[MaybeDart], kind: Kind)
@@ -29,18 +29,18 @@ pub(crate) fn mark(kinds: &mut Vec<Kind>, surface: &Surface, from: &[MaybeDart],
     }
 }
 
-/// A dart of a leftover edge, or the first dart where no edge is left over.
+/// A dart of the first leftover edge, or the first dart where no edge is left over.
 pub(crate) fn leftover_dart(surface: &Surface, kinds: &[Kind]) -> DartName
+    requires valid { IsOrientedSurface surface.now }
     requires kinds { length kinds.now ≡ length surface.now.table }
     requires some { 0 < darts_of surface.now }
     ensures within { result.0 < darts_of surface.now }
     ensures left { (d : ℕ) → d < darts_of surface.now → has_kind kinds.now Left (edge_of surface.now d) ≡ true
         → has_kind kinds.now Left (edge_of surface.now result.0) ≡ true }
 {
-    for dart in 0..surface.darts() {
-        let dart = DartName(dart);
-        if is_same(kinds[surface.edge_of(dart).0 as usize], Kind::Left) {
-            return dart;
+    for edge in 0..surface.sides().len() {
+        if is_same(kinds[edge as usize], Kind::Left) {
+            return surface.dart_of(EdgeName(edge));
         }
     }
     DartName(0)
