@@ -1,5 +1,6 @@
 pub mod FilterLemmas
 pub mod PartsLemmas
+pub mod JoinedPartsLemmas
 pub mod StoredLemmas
 pub mod NumberLemmas
 pub mod SideNumberLemmas

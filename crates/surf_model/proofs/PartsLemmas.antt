@@ -1,5 +1,5 @@
 -- A list of lists kept as one list and the places where its parts end.
-use Rattle.std.proofs.Common.{◌≡◌, inl, inr, ℕ, zero, suc, ◌+◌, ◌-◌, ◌*◌, ◌/◌, ◌<◌, ◌≤◌, Option, Some, ◌⊎◌, List, [], ◌∷◌, ◌++◌, length, get_or, take, drop, refl, ap, sym, subst, ◌∙◌, add-one, arith}
+use Rattle.std.proofs.Common.{◌≡◌, inl, inr, ℕ, zero, suc, ◌+◌, ◌-◌, ◌*◌, ◌/◌, ◌<◌, ◌≤◌, List, [], ◌∷◌, ◌++◌, length, get_or, take, drop, refl, ap, sym, subst, ◌∙◌, add-one, arith}
 use Rattle.std.specs.Prelude.{sum_by}
 use Rattle.std.proofs.lemmas.Bool.{cases_lt}
 use Rattle.std.proofs.lemmas.List.{take-append-le, drop-append-le, length-take-le, length-drop, take_all, drop_at, get_or_append_left, get_or_push, length_push}
@@ -104,57 +104,12 @@ in_last_part ends m place from to = record {
   to = omega (arith, to, get_or_push ends m 0 (length ends) refl);
 }
 
--- where all parts have one size, the last of them ends behind so many times that size
-pub sized_end : (ends : List ℕ) (s : ℕ) → ((k : ℕ) → k < length ends → get_or ends k 0 ≡ s * (k + 1)) → last_end ends ≡ s * length ends
-sized_end [] s h = omega arith
-sized_end (end ∷ ends) s h =
-    let last : length ends + 1 ≡ length (end ∷ ends) = omega arith in
-    sym (last_part_end (end ∷ ends) (length ends) last) ∙ h (length ends) (omega arith) ∙ ap (λ n. s * n) last
-
-times_rises : (s m n : ℕ) → m ≤ n → s * m ≤ s * n
-times_rises s m n le =
-    let more : n ≡ m + (n - m) = omega (arith, le) in
-    omega (arith, ap (λ k. s * k) more)
-
--- and the part of a place is found by division
-pub sized_part : (ends : List ℕ) (s place part : ℕ) → ((k : ℕ) → k < length ends → get_or ends k 0 ≡ s * (k + 1)) → place < last_end ends
-    → s * part ≤ place → place < s * (part + 1) → IsInPart ends place part
-sized_part ends s place part h l from to =
-    let there : part < length ends = elim (cases_lt part (length ends)) [
-      | inl less ↦ less
-      | inr le ↦ absurd (omega (arith, l, from, sized_end ends s h, times_rises s (length ends) part le))
-    ] in
-    record { there = there; from = starts part there from; to = omega (arith, to, h part there) }
-  where
-    starts : (k : ℕ) → k < length ends → s * k ≤ place → get_or (0 ∷ ends) k 0 ≤ place
-    starts zero few le = omega arith
-    starts (suc k) few le = omega (arith, le, h k (omega arith), ap (λ n. s * n) (add-one k))
-
-pub sized_push : (ends : List ℕ) (m s size : ℕ) → last_end ends + size ≡ m → s ≡ size
-    → (length ends ≡ 0) ⊎ ((k : ℕ) → k < length ends → get_or ends k 0 ≡ s * (k + 1))
-    → (k : ℕ) → k < length (ends ++ m ∷ []) → get_or (ends ++ m ∷ []) k 0 ≡ s * (k + 1)
-sized_push ends m s size end is before k l =
-    elim (cases_lt k (length ends)) [
-      | inl less ↦ elim before [
-        | inl none ↦ absurd (omega (arith, none, less))
-        | inr all ↦ get_or_append_left ends (m ∷ []) 0 k less ∙ all k less
-      ]
-      | inr le ↦
-          (let last : k ≡ length ends = omega (arith, le, l, length_push ends m) in
-          let whole : last_end ends ≡ s * length ends = elim before [
-            | inl none ↦ omega (arith, ap (λ n. get_or (0 ∷ ends) n 0) none, ap (λ n. s * n) none)
-            | inr all ↦ sized_end ends s all
-          ] in
-          get_or_push ends m 0 k (sym last) ∙ (omega (arith, end, is, whole, ap (λ n. s * (n + 1)) last)))
-    ]
-
-pub part_list-push : (ends marks more : List ℕ) (m : ℕ) (old_size new_size : Option ℕ) → IsPartList ends marks old_size → last_end ends < m → m ≤ MOST_SIDES
+pub part_list-push : (ends marks more : List ℕ) (m : ℕ) → IsPartList ends marks → last_end ends < m → m ≤ MOST_SIDES
     → length more ≡ (m + 15) / 16
     → ((k d : ℕ) → k < (m + 15) / 16 → k < length marks → get_or more k d ≡ get_or marks k d)
     → ((k d : ℕ) → length marks ≤ k → k < (m + 15) / 16 → get_or more k d ≡ length ends)
-    → ((s k : ℕ) → new_size ≡ Some s → k < length (ends ++ m ∷ []) → get_or (ends ++ m ∷ []) k 0 ≡ s * (k + 1))
-    → IsPartList (ends ++ m ∷ []) more new_size
-part_list-push ends marks more m old_size new_size h some room long old new sized =
+    → IsPartList (ends ++ m ∷ []) more
+part_list-push ends marks more m h some room long old new =
     let last : last_end (ends ++ m ∷ []) ≡ m = last_end-push ends m in record {
       rising = subst (EndsRise 0 (ends ++ m ∷ [])) (sym last) (EndsRise-push 0 ends (last_end ends) m h.rising (omega (arith, some)));
       few = omega (arith, last, h.few, some, length_push ends m);
@@ -165,7 +120,6 @@ part_list-push ends marks more m old_size new_size h some room long old new size
         | inr le ↦ subst (IsInPart (ends ++ m ∷ []) (16 * k)) (sym (new k 0 le (omega (arith, l, long))))
             (in_last_part ends m (16 * k) (omega (arith, le, h.each_sixteenth)) (omega (arith, l, long)))
       ];
-      sized = sized;
     }
 
 -- the first parts together reach up to where the next one starts

@@ -25,6 +25,7 @@ pub mod homotopy_laws;
 pub mod laws;
 pub mod limits;
 mod linking;
+mod listed_parts;
 pub mod moves;
 pub mod names;
 mod parts;

@@ -1,44 +1,35 @@
 //! A list of lists, kept as one vector and the places where its parts end.
-ghost use Rattle.std.specs.Prelude.{◌≡◌, ◌⊎◌, ◌+◌, ◌<◌, ◌≤◌, [], ◌∷◌, ◌++◌, length, slice_index, Some, OnOk, OnErr, IfOk, IfSome};
+ghost use Rattle.std.specs.Prelude.{◌≡◌, ◌+◌, ◌<◌, ◌≤◌, [], ◌∷◌, ◌++◌, length, slice_index, OnOk, OnErr, IfOk};
 ghost use Rattle.surf_model.specs.Parts.{last_end, IsInPart};
 ghost use Rattle.surf_model.specs.declared.limits.TheConstants.{MOST_SIDES};
 
+use crate::listed_parts::ListedParts;
 use std::alloc::{AllocError, Global};
 use std::marker::Model;
 
-/// Where a part starts: where the one before it ends.
-pub(crate) fn start_of(ends: &[u32], part: u32) -> u32
-    requires { part < length ends.now }
-    ensures { result ≡ slice_index (0 ∷ ends.now) part }
-{
-    if part == 0 {
-        0
-    } else {
-        ends[part as usize - 1]
-    }
-}
-
 /// The places where the parts end, seen as the list of these places.
 ///
-/// The part of every sixteenth place is marked, so that the part of any place is found in a few steps where parts are
-/// not tiny. Where all parts have three places, or all have four, as nearly all meshes do, no look at memory is needed.
+/// The first parts are those of one size, and need no list: where they end is a product, and the part of a place a quotient.
+/// So a mesh of triangles alone, or of quads alone, takes no memory here, and none is looked at.
 #[derive(Debug, Drop)]
 pub(crate) struct Parts {
-    ends: Vec<u32>,
-    marks: Vec<u32>,
-    /// The size of every part, if all have the same.
-    size: Option<u32>,
+    /// The size of the first parts.
+    size: u32,
+    /// How many parts these are.
+    count: u32,
+    /// The parts behind these, by places that are counted from the end of these on.
+    rest: ListedParts,
 }
 
 impl Model for Parts {
     ghost use Rattle.std.specs.Prelude.{ℕ, List};
-    ghost use Rattle.surf_model.specs.Parts.{IsPartList};
+    ghost use Rattle.surf_model.specs.Parts.{joined_ends, AreJoined};
 
     ghost Value = { List ℕ };
 
-    ghost view = { λ a. a.ends.items };
+    ghost view = { λ a. joined_ends a.size a.count a.rest };
 
-    ghost invariant = { λ a. IsPartList a.ends.items a.marks.items a.size };
+    ghost invariant = { λ a. AreJoined a.size a.count a.rest };
 }
 
 impl Parts {
@@ -47,9 +38,9 @@ impl Parts {
         ensures { result ≡ [] }
     {
         Parts {
-            ends: Vec::new(alloc),
-            marks: Vec::new(alloc),
-            size: None,
+            size: 0,
+            count: 0,
+            rest: ListedParts::new(alloc),
         }
     }
 
@@ -60,12 +51,12 @@ impl Parts {
         ensures ok { OnOk result (self.new ≡ self.old ++ (last_end self.old + size) ∷ []) }
         ensures err { OnErr result (self.new ≡ self.old) }
     {
-        let end = self.total() + size;
-        let part = self.len();
-        self.ends.reserve(1)?;
-        self.marks.resize((end as usize + 15) / 16, part)?;
-        self.ends.push(end).unwrap();
-        self.size = common_size(part, self.size, size);
+        if self.rest.len() == 0 && (self.count == 0 || size == self.size) {
+            self.size = size;
+            self.count += 1;
+        } else {
+            self.rest.push(size)?;
+        }
         Ok(())
     }
 
@@ -73,17 +64,14 @@ impl Parts {
     pub(crate) fn len(&self) -> u32
         ensures { result ≡ length self.now }
     {
-        self.ends.len() as u32
+        self.count + self.rest.len()
     }
 
     /// Where the last part ends: the size of all together.
     pub(crate) fn total(&self) -> u32
         ensures { result ≡ last_end self.now }
     {
-        match self.ends.last() {
-            Some(end) => *end,
-            None => 0,
-        }
+        self.size * self.count + self.rest.total()
     }
 
     /// Where a part starts.
@@ -91,7 +79,11 @@ impl Parts {
         requires { part < length self.now }
         ensures { result ≡ slice_index (0 ∷ self.now) part }
     {
-        start_of(&self.ends, part)
+        if part <= self.count {
+            self.size * part
+        } else {
+            self.size * self.count + self.rest.end(part - self.count - 1)
+        }
     }
 
     /// Where a part ends.
@@ -102,7 +94,11 @@ impl Parts {
         ensures rises { slice_index (0 ∷ self.now) part ≤ result }
         ensures within { result ≤ last_end self.now }
     {
-        self.ends[part as usize]
+        if part < self.count {
+            self.size * (part + 1)
+        } else {
+            self.size * self.count + self.rest.end(part - self.count)
+        }
     }
 
     /// The part in which a place lies.
@@ -110,24 +106,16 @@ impl Parts {
         requires { place < last_end self.now }
         ensures { IsInPart self.now place result }
     {
-        // The compiler knows how to divide by these without a division.
+        let listed = self.size * self.count;
+        if place >= listed {
+            return self.count + self.rest.part_at(place - listed);
+        }
+        // The compiler knows how to divide by a number that stands here without a division.
         match self.size {
-            Some(3) => place / 3,
-            Some(4) => place / 4,
-            _ => self.part_from_mark(place),
+            3 => place / 3,
+            4 => place / 4,
+            size => place / size,
         }
-    }
-
-    /// The same, from the mark before the place.
-    fn part_from_mark(&self, place: u32) -> u32
-        requires { place < last_end self.now }
-        ensures { IsInPart self.now place result }
-    {
-        let mut part = self.marks[place as usize / 16];
-        while self.ends[part as usize] <= place {
-            part += 1;
-        }
-        part
     }
 
     /// The same parts once more.
@@ -135,22 +123,9 @@ impl Parts {
         ensures { IfOk result (λ parts. parts ≡ self.now) }
     {
         Ok(Parts {
-            ends: self.ends.clone()?,
-            marks: self.marks.clone()?,
             size: self.size,
+            count: self.count,
+            rest: self.rest.copy()?,
         })
-    }
-}
-
-/// The size of all parts, if all have the same, where a part of a size comes behind `parts` parts of the size `common`.
-fn common_size(parts: u32, common: Option<u32>, size: u32) -> Option<u32>
-    ensures { IfSome result (λ s. (s ≡ size) × ((parts ≡ 0) ⊎ (common ≡ Some s))) }
-{
-    if parts == 0 {
-        return Some(size);
-    }
-    match common {
-        Some(before) if before == size => Some(size),
-        _ => None,
     }
 }

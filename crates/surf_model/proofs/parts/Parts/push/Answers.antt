@@ -1,20 +1,41 @@
-use Rattle.std.proofs.Common.{◌≡◌, ◌⊎◌, inl, inr, ◌+◌, ◌∷◌, [], ◌++◌, Some, IfSome, List, ℕ, length, sym, ap, ◌∙◌, subst, arith, rules}
-use Rattle.surf_model.specs.Parts.{last_end}
-use Rattle.surf_model.proofs.PartsLemmas.{part_list-push, sized_push}
+use Rattle.std.proofs.Common.{◌≡◌, ◌⊎◌, inl, inr, ◌+◌, ◌≤◌, [], ◌∷◌, ◌++◌, ℕ, sym, ap, ◌∙◌, subst, arith, length-append}
+use Rattle.std.proofs.lemmas.Bool.{eqb-true}
+use Rattle.surf_model.specs.Parts.{last_end, joined_ends}
+use Rattle.surf_model.proofs.PartsLemmas.{last_end-push}
+use Rattle.surf_model.proofs.JoinedPartsLemmas.{last_end-joined, joined-push, equal-push}
 use Rattle.surf_model.proofs.parts.Parts.push.Goals as goal
+use Rattle.surf_model.proofs.parts.Parts.push.Goals.{then-self-eq0, else-self-eq0}
+use Rattle.surf_model.specs.declared.limits.TheConstants.{MOST_SIDES}
 
-pub invariant_of-self-2 : goal.invariant_of-self-2
-invariant_of-self-2 c =
+pub push-requires-clause-room : goal.push-requires-clause-room
+push-requires-clause-room c =
     let i = c.self.inside in
-    let m : ℕ = c.total.result + c.args.size in
-    let last : c.total.result ≡ last_end i.ends.items = c.total.ensures ∙ ap last_end (sym c.self.view_is) in
-    let ends : c.push.new.self.items ≡ i.ends.items ++ m ∷ [] = search rules in
-    let part : c.len-part.result ≡ length i.ends.items = c.len-part.ensures ∙ ap (λ (ends : List ℕ). length ends) (sym c.self.view_is) in
-    rw ends (part_list-push i.ends.items i.marks.items c.resize.new.self.items m i.size c.common_size-self-inside.result c.self.invariant (omega (arith, last, c.requires.some))
-    (omega (arith, c.total.ensures, c.requires.room)) (search rules)
-    (λ k d l b. c.in_ok-resize.ensures.by_index.0 k d l (omega (arith, b, i.marks.ok.0)))
-    (λ k d le l. c.in_ok-resize.ensures.by_index.1 k d (search rules) (omega (arith, le, i.marks.ok.0)) l ∙ part)
-    (λ s k is l.
-    let said = subst (λ o. IfSome o (λ s. (s ≡ c.args.size) × ((c.len-part.result ≡ 0) ⊎ (i.size ≡ Some s)))) is c.common_size-self-inside.ensures in
-    sized_push i.ends.items m s c.args.size (ap (λ n. n + c.args.size) (sym last)) said.0
-    (elim said.1 [ inl none ↦ inl (sym part ∙ none) | inr same ↦ inr (λ k b. c.self.invariant.sized s k same b) ]) k l))
+    omega (arith, subst (λ ends. last_end ends + c.args.size ≤ MOST_SIDES) (sym c.self.view_is) c.requires.room, last_end-joined i.size i.count i.rest)
+
+pub invariant_of-self-in-Continue-1 : goal.invariant_of-self-in-Continue-1
+invariant_of-self-in-Continue-1 c =
+    let i = c.self.inside in
+    let m : ℕ = last_end i.rest + c.args.size in
+    let room = subst (λ ends. last_end ends + c.args.size ≤ MOST_SIDES) (sym c.self.view_is) c.requires.room in
+    let last : last_end (i.rest ++ m ∷ []) ≡ m = last_end-push i.rest m in
+    rw c.in_ok-push.ensures.ok record {
+      some = c.self.invariant.some;
+      few = omega (arith, c.self.invariant.few, c.requires.some, last, length-append i.rest (m ∷ []));
+      room = omega (arith, room, last, last_end-joined i.size i.count i.rest);
+    }
+
+pub returns-then-size-self-clause-ok : goal.returns-then-size-self-clause-ok
+returns-then-size-self-clause-ok c =
+    let i = c.self.inside in
+    let fits : (i.count ≡ 0) ⊎ (c.args.size ≡ i.size) = elim c.if-self-eq0.branch [
+      | then-self-eq0 w ↦ inl w.if-self-eq0.true
+      | else-self-eq0 w ↦ inr (eqb-true _ _ (sym w.value-is ∙ c.if-size-self.true))
+    ] in
+    subst (λ ends. joined_ends c.args.size (i.count + 1) i.rest ≡ ends ++ (last_end ends + c.args.size) ∷ []) c.self.view_is
+    (equal-push c.args.size i.size i.count i.rest (sym c.len.ensures ∙ c.if-len-eq0.true) fits)
+
+pub returns-in_ok-push-clause-ok : goal.returns-in_ok-push-clause-ok
+returns-in_ok-push-clause-ok c =
+    let i = c.self.inside in
+    subst (λ ends. joined_ends i.size i.count c.push.new.self ≡ ends ++ (last_end ends + c.args.size) ∷ []) c.self.view_is
+    (ap (joined_ends i.size i.count) c.in_ok-push.ensures.ok ∙ joined-push i.size i.count i.rest c.args.size)
