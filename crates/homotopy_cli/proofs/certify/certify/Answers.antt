@@ -99,3 +99,8 @@ returns-clause-end g c =
     certificate_found (g.S.Shelf.held c.args.shelf.now) c.args.mesh.now c.args.walks.now surface.mesh pair c.at-first.result.now c.at-second.result.now
     c.in_ok-find_certificate.field-0 c.faces.ensures.valid.faces known.first_walk c.in_ok-surface.ensures.end passed first second
     c.in_ok-check_limits.ensures c.in_ok-find_certificate.ensures
+
+pub returns-in_err-find_certificate-clause-end : goal.returns-in_err-find_certificate-clause-end
+returns-in_err-find_certificate-clause-end g c =
+    let p = err_from_is_err_and c.from_residual-in_err-find_certificate.result c.from_residual-in_err-find_certificate.ensures.1 in
+    rw (p.1, p.2) tt
