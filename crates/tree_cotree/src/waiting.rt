@@ -18,7 +18,7 @@ pub(crate) enum Order {
 
 /// How many darts are found in a patch. They lie close together in memory, and are gone round one after another, which is
 /// much faster than to go on with one that waits far away.
-const PATCH: u32 = 64;
+const PATCH: u32 = 8_192;
 
 /// Darts that wait: those that wait for a patch of their own, and those of the present patch.
 #[derive(Drop)]
