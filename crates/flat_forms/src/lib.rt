@@ -16,6 +16,3 @@ mod point;
 
 pub use flat::Flat;
 pub use point::Point;
-
-#[cfg(test)]
-mod tests;

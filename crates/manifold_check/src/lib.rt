@@ -17,6 +17,3 @@ mod links;
 
 pub use check::check_closed;
 pub use fault::SurfaceFault;
-
-#[cfg(test)]
-mod tests;

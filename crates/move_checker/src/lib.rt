@@ -18,6 +18,3 @@ pub mod tape;
 pub use fault::MoveFault;
 pub use judge::{Verdict, check_moves};
 pub use tape::{Tape, TapeFault};
-
-#[cfg(test)]
-mod tests;

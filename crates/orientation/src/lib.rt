@@ -20,6 +20,3 @@ mod trees;
 pub use fault::OrientFault;
 pub use orienting::orient;
 pub use surf_model::{ChainLink, OddChain, Signs};
-
-#[cfg(test)]
-mod tests;

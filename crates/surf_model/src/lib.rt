@@ -40,8 +40,3 @@ pub use moves::{Move, MoveList};
 pub use names::{CellName, DartName, EdgeName, FaceName, Spoke, VertexName};
 pub use signs::Signs;
 pub use walks::Walk;
-
-#[cfg(test)]
-mod sides_tests;
-#[cfg(test)]
-mod tests;

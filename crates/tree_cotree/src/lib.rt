@@ -21,8 +21,3 @@ mod waiting;
 
 pub use rings::Rings;
 pub use split::{Kind, Split, split_edges};
-
-#[cfg(test)]
-mod ring_tests;
-#[cfg(test)]
-mod tests;
