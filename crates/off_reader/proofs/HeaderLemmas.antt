@@ -59,14 +59,17 @@ two first (word ∷ words) v f e g =
 
 two_counts : (c number : ℕ) (first : List ℕ) (words : List (List ℕ)) (lines : List Line) (v f : ℕ) → natural_of first ≡ Some v
     → next_natural words ≡ Some f
-    → counts_at c (record { number = number; words = first ∷ words } ∷ lines) ≡ counted c (record { number = number; words = first ∷ words }) lines (Some (v, f))
+    → counts_at c (record { number = number; words = first ∷ words } ∷ lines)
+    ≡ counted c (record { number = number; words = first ∷ words }) lines (Some (v, f))
 unfolding counts_at
-two_counts c number first words lines v f e g = ap (counted c (record { number = number; words = first ∷ words }) lines) (two first words v f e g)
+two_counts c number first words lines v f e g = ap (counted c (record { number = number; words = first ∷ words }) lines)
+    (two first words v f e g)
 
 pub kept : (whole n bound : ℕ) → n ≡ min whole (2 ^ 64 - 1) → n ≤ bound → bound < 2 ^ 64 - 1 → n ≡ whole
 kept whole n bound e small below =
     elim (cases_lt (2 ^ 64 - 1) whole) as (λ _. n ≡ whole) [
-      | inl above ↦ let big : min whole (2 ^ 64 - 1) ≡ 2 ^ 64 - 1 = min-eq_right (omega (arith, above)) in absurd (omega (arith, e, big, small, below))
+      | inl above ↦ let big : min whole (2 ^ 64 - 1) ≡ 2 ^ 64 - 1 = min-eq_right (omega (arith, above)) in
+          absurd (omega (arith, e, big, small, below))
       | inr fits ↦ e ∙ min-eq_left fits
     ]
 
@@ -76,7 +79,8 @@ more whole n bound e above = omega (arith, e, above, min-le_left whole (2 ^ 64 -
 pub good_counts : (c number : ℕ) (first : List ℕ) (words : List (List ℕ)) (lines : List Line) (v f : ℕ)
     → Some v ≡ option_map (λ n. min n (2 ^ 64 - 1)) (natural_of first)
     → Some f ≡ option_map (λ n. min n (2 ^ 64 - 1)) (next_natural words) → v ≤ MOST_VERTICES → f ≤ MOST_FACES
-    → counts_at c (record { number = number; words = first ∷ words } ∷ lines) ≡ Ok (record { coordinates = c; vertices = v; faces = f; lines = lines })
+    → counts_at c (record { number = number; words = first ∷ words } ∷ lines)
+    ≡ Ok (record { coordinates = c; vertices = v; faces = f; lines = lines })
 good_counts c number first words lines v f e g small_v small_f =
     let a = a_cap (natural_of first) v e in
     let b = a_cap (next_natural words) f g in

@@ -70,7 +70,8 @@ is_o byte = eqb byte 79
 nowhere : (p : ℕ → Bool) (xs : List ℕ) → position p xs ≡ None → length xs ≤ position_or_len p xs
 nowhere p xs e = by_test (ltb (position_or_len p xs) (length xs)) refl e
   where
-    by_test : (b : Bool) → ltb (position_or_len p xs) (length xs) ≡ b → cond b (Some (position_or_len p xs)) None ≡ None → length xs ≤ position_or_len p xs
+    by_test : (b : Bool) → ltb (position_or_len p xs) (length xs) ≡ b → cond b (Some (position_or_len p xs)) None ≡ None
+        → length xs ≤ position_or_len p xs
     by_test true is e = absurd (none-some (position_or_len p xs) (sym e))
     by_test false is e = ltb-false _ _ is
 
@@ -89,7 +90,8 @@ without_o word e =
 -- the keyword where its O stands
 abbrev pub keyword_at : List ℕ → ℕ → Option Keyword
 keyword_at word at =
-    cond (are_pieces (take at word) && bytes_eq (take 3 (drop at word)) (codes "OFF")) (Some (record { pieces = take at word; rest = drop 3 (drop at word) })) None
+    cond (are_pieces (take at word) && bytes_eq (take 3 (drop at word)) (codes "OFF"))
+    (Some (record { pieces = take at word; rest = drop 3 (drop at word) })) None
 
 with_o : (word : List ℕ) (at : ℕ) → position is_o word ≡ Some at → keyword_of word ≡ keyword_at word at
 unfolding keyword_of
@@ -116,9 +118,11 @@ no_pieces word pieces at e is none =
 
 pub a_keyword : (word pieces behind rest : List ℕ) (at : ℕ) → position is_o word ≡ Some at → pieces ≡ take at word → behind ≡ drop at word
     → are_pieces pieces ≡ true
-    → bytes_eq (take 3 behind) (codes "OFF") ≡ true → rest ≡ drop 3 behind → keyword_of word ≡ Some (record { pieces = pieces; rest = rest })
+    → bytes_eq (take 3 behind) (codes "OFF") ≡ true → rest ≡ drop 3 behind → keyword_of word
+    ≡ Some (record { pieces = pieces; rest = rest })
 a_keyword word pieces behind rest at e first second good title is =
     let p : are_pieces (take at word) ≡ true = ap are_pieces (sym first) ∙ good in
-    let t : bytes_eq (take 3 (drop at word)) (codes "OFF") ≡ true = ap (λ (t : List ℕ). bytes_eq (take 3 t) (codes "OFF")) (sym second) ∙ title in
+    let t : bytes_eq (take 3 (drop at word)) (codes "OFF") ≡ true = ap (λ (t : List ℕ). bytes_eq (take 3 t) (codes "OFF")) (sym second)
+    ∙ title in
     let r : drop 3 (drop at word) ≡ rest = ap (λ (t : List ℕ). drop 3 t) (sym second) ∙ sym is in
     with_o word at e ∙ rw (p, t, r, sym first) refl

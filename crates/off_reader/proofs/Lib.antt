@@ -2,4 +2,3 @@ mod KeywordLemmas
 mod HeaderLemmas
 pub mod RingLemmas
 pub mod MeshLemmas
-pub mod FaultLineLemmas

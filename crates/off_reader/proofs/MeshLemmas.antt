@@ -31,13 +31,15 @@ one_taken : (check : Check) (end : ℕ) (before rest lines : List Line) (line : 
     → check before line ≡ None
     → taken check end before (count - n) lines ≡ taken check end (before ++ line ∷ []) (count - (n + 1)) rest
 unfolding taken
-one_taken check end before rest lines line n count below is good = ap₂ (λ k ls. taken check end before k ls) (left_one n count below) is ∙ rw good refl
+one_taken check end before rest lines line n count below is good = ap₂ (λ k ls. taken check end before k ls) (left_one n count below) is
+    ∙ rw good refl
 
 bad_taken : (check : Check) (end : ℕ) (before rest lines : List Line) (line : Line) (fault : OffFault) (n count : ℕ) → n < count
     → lines ≡ line ∷ rest → check before line ≡ Some fault
     → taken check end before (count - n) lines ≡ Err fault
 unfolding taken
-bad_taken check end before rest lines line fault n count below is bad = ap₂ (λ k ls. taken check end before k ls) (left_one n count below) is ∙ rw bad refl
+bad_taken check end before rest lines line fault n count below is bad =
+    ap₂ (λ k ls. taken check end before k ls) (left_one n count below) is ∙ rw bad refl
 
 none_taken : (check : Check) (end : ℕ) (before lines : List Line) (n count : ℕ) → n < count → lines ≡ []
     → taken check end before (count - n) lines ≡ Err (Ended end)
@@ -48,35 +50,42 @@ none_taken check end before lines n count below is = ap₂ (λ k ls. taken check
 
 pub record IsPointsTo (coordinates count : ℕ) (old : Unread) (n : ℕ) (new : Unread) : Type 0 where
   pub before : List Line
-  pub same : taken (point_fault coordinates) old.end_line before (count - n) new.lines ≡ taken (point_fault coordinates) old.end_line [] count old.lines
+  pub same : taken (point_fault coordinates) old.end_line before (count - n) new.lines
+      ≡ taken (point_fault coordinates) old.end_line [] count old.lines
   pub end : new.end_line ≡ old.end_line
 
 pub no_points : (coordinates count : ℕ) (u : Unread) → IsPointsTo coordinates count u 0 u
-no_points coordinates count u = record { before = []; same = ap (λ k. taken (point_fault coordinates) u.end_line [] k u.lines) (omega arith); end = refl }
+no_points coordinates count u =
+    record { before = []; same = ap (λ k. taken (point_fault coordinates) u.end_line [] k u.lines) (omega arith); end = refl }
 
 -- the next line, and what stands in it
 pub one_point : (coordinates count : ℕ) (old mid line new : Unread) (n : ℕ) → n < count → mid.lines ≡ line_at line ∷ line.lines
     → line.end_line ≡ mid.end_line
-    → None ≡ point_fault coordinates [] (line_at line) → IsSameLine line new → IsPointsTo coordinates count old n mid → IsPointsTo coordinates count old (n + 1) new
+    → None ≡ point_fault coordinates [] (line_at line) → IsSameLine line new → IsPointsTo coordinates count old n mid
+    → IsPointsTo coordinates count old (n + 1) new
 one_point coordinates count old mid line new n below is end good same h =
     record {
       before = h.before ++ line_at line ∷ [];
       same = ap (taken (point_fault coordinates) old.end_line (h.before ++ line_at line ∷ []) (count - (n + 1))) same.lines
-          ∙ sym (one_taken (point_fault coordinates) old.end_line h.before line.lines mid.lines (line_at line) n count below is (sym good)) ∙ h.same;
+          ∙ sym (one_taken (point_fault coordinates) old.end_line h.before line.lines mid.lines (line_at line) n count below is (sym good))
+          ∙ h.same;
       end = same.end_line ∙ end ∙ h.end;
     }
 
 pub bad_point_line : (coordinates count : ℕ) (old mid line : Unread) (fault : OffFault) (n : ℕ) → n < count
     → mid.lines ≡ line_at line ∷ line.lines
-    → Some fault ≡ point_fault coordinates [] (line_at line) → IsPointsTo coordinates count old n mid → taken (point_fault coordinates) old.end_line [] count old.lines ≡ Err fault
+    → Some fault ≡ point_fault coordinates [] (line_at line) → IsPointsTo coordinates count old n mid
+    → taken (point_fault coordinates) old.end_line [] count old.lines ≡ Err fault
 bad_point_line coordinates count old mid line fault n below is bad h =
-    sym h.same ∙ bad_taken (point_fault coordinates) old.end_line h.before line.lines mid.lines (line_at line) fault n count below is (sym bad)
+    sym h.same ∙ bad_taken (point_fault coordinates) old.end_line h.before line.lines mid.lines (line_at line) fault n count below is
+    (sym bad)
 
 pub no_point_line : (coordinates count : ℕ) (old mid : Unread) (fault : OffFault) (n : ℕ) → n < count → mid.lines ≡ []
     → fault ≡ Ended mid.end_line
     → IsPointsTo coordinates count old n mid → taken (point_fault coordinates) old.end_line [] count old.lines ≡ Err fault
 no_point_line coordinates count old mid fault n below none is h =
-    sym h.same ∙ none_taken (point_fault coordinates) old.end_line h.before mid.lines n count below none ∙ ap (λ k. Err (Ended k)) (sym h.end) ∙ ap Err (sym is)
+    sym h.same ∙ none_taken (point_fault coordinates) old.end_line h.before mid.lines n count below none
+    ∙ ap (λ k. Err (Ended k)) (sym h.end) ∙ ap Err (sym is)
 
 pub all_points : (coordinates count : ℕ) (old new : Unread) (n : ℕ) → n ≡ count → IsPointsTo coordinates count old n new
     → (points : List Line)
@@ -88,21 +97,31 @@ all_points coordinates count old new n same h =
 
 pub record IsFacesTo (vertices count : ℕ) (old : Unread) (n : ℕ) (new : Unread) (faces : FaceList) : Type 0 where
   pub before : List Line
-  pub same : taken (face_fault vertices) old.end_line before (count - n) new.lines ≡ taken (face_fault vertices) old.end_line [] count old.lines
+  pub same : taken (face_fault vertices) old.end_line before (count - n) new.lines
+      ≡ taken (face_fault vertices) old.end_line [] count old.lines
   pub end : new.end_line ≡ old.end_line
   pub mesh : faces ≡ record { count = vertices; faces = rings_of before }
   pub few : total_sides faces ≤ MOST_SIDES
 
 pub no_faces : (vertices count : ℕ) (u : Unread) (faces : FaceList) → faces ≡ record { count = vertices; faces = [] }
     → IsFacesTo vertices count u 0 u faces
-no_faces vertices count u faces is = record { before = []; same = ap (λ k. taken (face_fault vertices) u.end_line [] k u.lines) (omega arith); end = refl; mesh = is; few = omega (arith, ap total_sides is) }
+no_faces vertices count u faces is =
+    record {
+      before = [];
+      same = ap (λ k. taken (face_fault vertices) u.end_line [] k u.lines) (omega arith);
+      end = refl;
+      mesh = is;
+      few =
+          omega (arith, ap total_sides is);
+    }
 
 rings_of-append : (before : List Line) (line : Line) (ring : List ℕ) → corners_of line.words ≡ Some ring
     → rings_of (before ++ line ∷ []) ≡ rings_of before ++ ring ∷ []
 rings_of-append [] line ring e = rw e refl
 rings_of-append (first ∷ before) line ring e = by_test (corners_of first.words) (rings_of-append before line ring e)
   where
-    by_test : (o : Option (List ℕ)) → rings_of (before ++ line ∷ []) ≡ rings_of before ++ ring ∷ [] → cons_option o (rings_of (before ++ line ∷ [])) ≡ cons_option o (rings_of before) ++ ring ∷ []
+    by_test : (o : Option (List ℕ)) → rings_of (before ++ line ∷ []) ≡ rings_of before ++ ring ∷ []
+        → cons_option o (rings_of (before ++ line ∷ [])) ≡ cons_option o (rings_of before) ++ ring ∷ []
     by_test None later = later
     by_test (Some r) later = ap (λ (t : List (List ℕ)). r ∷ t) later
 
@@ -114,7 +133,8 @@ fault_in vertices before u faces is = ap (λ (m : FaceList). ring_fault vertices
 
 pub one_face : (vertices count : ℕ) (old mid line new : Unread) (faces more : FaceList) (ring : List ℕ) (n : ℕ) → n < count
     → mid.lines ≡ line_at line ∷ line.lines
-    → line.end_line ≡ mid.end_line → corners_of line.words ≡ Some ring → ring_fault vertices (total_sides faces) line.line (corners_of line.words) ≡ None → IsSameLine line new
+    → line.end_line ≡ mid.end_line → corners_of line.words ≡ Some ring
+    → ring_fault vertices (total_sides faces) line.line (corners_of line.words) ≡ None → IsSameLine line new
     → more ≡ record { count = faces.count; faces = faces.faces ++ ring ∷ [] } → total_sides faces + length ring ≤ MOST_SIDES
     → IsFacesTo vertices count old n mid faces → IsFacesTo vertices count old (n + 1) new more
 one_face vertices count old mid line new faces more ring n below is end corners good same grown room h =
@@ -135,13 +155,15 @@ pub bad_face_line : (vertices count : ℕ) (old mid line : Unread) (faces : Face
     → taken (face_fault vertices) old.end_line [] count old.lines ≡ Err fault
 bad_face_line vertices count old mid line faces fault n below is bad h =
     sym h.same
-    ∙ bad_taken (face_fault vertices) old.end_line h.before line.lines mid.lines (line_at line) fault n count below is (fault_in vertices h.before line faces h.mesh ∙ bad)
+    ∙ bad_taken (face_fault vertices) old.end_line h.before line.lines mid.lines (line_at line) fault n count below is
+    (fault_in vertices h.before line faces h.mesh ∙ bad)
 
 pub no_face_line : (vertices count : ℕ) (old mid : Unread) (faces : FaceList) (fault : OffFault) (n : ℕ) → n < count → mid.lines ≡ []
     → fault ≡ Ended mid.end_line
     → IsFacesTo vertices count old n mid faces → taken (face_fault vertices) old.end_line [] count old.lines ≡ Err fault
 no_face_line vertices count old mid faces fault n below none is h =
-    sym h.same ∙ none_taken (face_fault vertices) old.end_line h.before mid.lines n count below none ∙ ap (λ k. Err (Ended k)) (sym h.end) ∙ ap Err (sym is)
+    sym h.same ∙ none_taken (face_fault vertices) old.end_line h.before mid.lines n count below none ∙ ap (λ k. Err (Ended k)) (sym h.end)
+    ∙ ap Err (sym is)
 
 pub all_faces : (vertices count : ℕ) (old new : Unread) (faces : FaceList) (n : ℕ) → n ≡ count → IsFacesTo vertices count old n new faces
     → TakesFaces vertices count old (Ok faces)
@@ -170,12 +192,18 @@ pub by_faces : (text : List ℕ) (left points : List Line) (c v f : ℕ) (u w : 
 unfolding mesh_of
 by_faces text left points c v f u w (Err fault) is header end good end_too (inl memory) = inr (ap Err memory)
 by_faces text left points c v f u w (Err fault) is header end good end_too (inr bad) =
-    let first : header_of (full_lines text) ≡ Ok (record { coordinates = c; vertices = v; faces = f; lines = u.lines }) = ap header_of (sym is) ∙ header in
-    let second : taken (point_fault c) (end_line text) [] v u.lines ≡ Ok (points, w.lines) = ap (λ k. taken (point_fault c) k [] v u.lines) (sym end) ∙ good in
-    let third : taken (face_fault v) (end_line text) [] f w.lines ≡ Err fault = ap (λ k. taken (face_fault v) k [] f w.lines) (sym end_too) ∙ bad in
+    let first : header_of (full_lines text) ≡ Ok (record { coordinates = c; vertices = v; faces = f; lines = u.lines }) =
+    ap header_of (sym is) ∙ header in
+    let second : taken (point_fault c) (end_line text) [] v u.lines ≡ Ok (points, w.lines) =
+    ap (λ k. taken (point_fault c) k [] v u.lines) (sym end) ∙ good in
+    let third : taken (face_fault v) (end_line text) [] f w.lines ≡ Err fault = ap (λ k. taken (face_fault v) k [] f w.lines) (sym end_too)
+    ∙ bad in
     inl (rw (first, second, third) refl)
 by_faces text left points c v f u w (Ok mesh) is header end good end_too h =
-    let first : header_of (full_lines text) ≡ Ok (record { coordinates = c; vertices = v; faces = f; lines = u.lines }) = ap header_of (sym is) ∙ header in
-    let second : taken (point_fault c) (end_line text) [] v u.lines ≡ Ok (points, w.lines) = ap (λ k. taken (point_fault c) k [] v u.lines) (sym end) ∙ good in
-    let third : taken (face_fault v) (end_line text) [] f w.lines ≡ Ok (h.0, h.1) = ap (λ k. taken (face_fault v) k [] f w.lines) (sym end_too) ∙ h.2 in
+    let first : header_of (full_lines text) ≡ Ok (record { coordinates = c; vertices = v; faces = f; lines = u.lines }) =
+    ap header_of (sym is) ∙ header in
+    let second : taken (point_fault c) (end_line text) [] v u.lines ≡ Ok (points, w.lines) =
+    ap (λ k. taken (point_fault c) k [] v u.lines) (sym end) ∙ good in
+    let third : taken (face_fault v) (end_line text) [] f w.lines ≡ Ok (h.0, h.1) =
+    ap (λ k. taken (face_fault v) k [] f w.lines) (sym end_too) ∙ h.2 in
     inl (rw (first, second, third) (ap Ok h.3))

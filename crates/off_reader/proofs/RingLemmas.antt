@@ -89,12 +89,14 @@ all_read test old new n h = and_from _ _ (le-leb _ _ h.fits) h.passes
 not_all : (test : List ℕ → Bool) (words : List (List ℕ)) (n count : ℕ) → n < count → next_passes test (drop n words) ≡ false
     → pass_to test count words ≡ false
 not_all test words n zero below e = absurd (omega (arith, below))
-not_all test [] n (suc count) below e = and_left (leb (suc count) 0) (list_all test (take (suc count) [])) (lt-leb (suc count) 0 (omega arith))
+not_all test [] n (suc count) below e =
+    and_left (leb (suc count) 0) (list_all test (take (suc count) [])) (lt-leb (suc count) 0 (omega arith))
 not_all test (word ∷ words) zero (suc count) below e = and_right _ _ (and_left _ _ e)
 not_all test (word ∷ words) (suc n) (suc count) below e =
     elim (and_cases (leb count (length words)) (list_all test (take count words)) (not_all test words n count (omega (arith, below)) e))
     as (λ _. pass_to test (suc count) (word ∷ words) ≡ false) [
-      | inl many ↦ and_left (leb (suc count) (suc (length words))) _ (lt-leb (suc count) (suc (length words)) (later (leb-false count (length words) many)))
+      | inl many ↦ and_left (leb (suc count) (suc (length words))) _
+          (lt-leb (suc count) (suc (length words)) (later (leb-false count (length words) many)))
       | inr other ↦ and_right _ _ (and_right _ _ other)
     ]
   where
@@ -126,7 +128,8 @@ bad_point c n line old mid below e is h =
 pub next_is_natural : (words : List (List ℕ)) (n : ℕ) → Some n ≡ option_map (λ n. min n (2 ^ 64 - 1)) (next_natural words)
     → next_passes is_natural words ≡ true
 next_is_natural [] n e = absurd (none-some n (sym e))
-next_is_natural (word ∷ words) n e = (cond_some (is_natural word) (value_of word) (a_cap (natural_of word) n e).whole (a_cap (natural_of word) n e).is).0
+next_is_natural (word ∷ words) n e =
+    (cond_some (is_natural word) (value_of word) (a_cap (natural_of word) n e).whole (a_cap (natural_of word) n e).is).0
 
 pub next_is_none : (words : List (List ℕ)) → None ≡ option_map (λ n. min n (2 ^ 64 - 1)) (next_natural words)
     → next_passes is_natural words ≡ false
@@ -136,14 +139,19 @@ next_is_none (word ∷ words) e = no_natural word (no_cap (natural_of word) e)
 -- the value of the next word, where it is kept whole or is large
 next_value : (old mid : Unread) (n v : ℕ) → Some v ≡ option_map (λ n. min n (2 ^ 64 - 1)) (next_natural mid.words)
     → IsReadTo is_natural old n mid
-    → (word : List ℕ) × (map value_of (take (n + 1) old.words) ≡ map value_of (take n old.words) ++ value_of word ∷ []) × (v ≡ min (value_of word) (2 ^ 64 - 1))
+    → (word : List ℕ) × (map value_of (take (n + 1) old.words) ≡ map value_of (take n old.words) ++ value_of word ∷ [])
+    × (v ≡ min (value_of word) (2 ^ 64 - 1))
 next_value old mid n v e h =
     let passes = next_is_natural mid.words v e in
     let next = next_word is_natural old.words n (ap (next_passes is_natural) (sym h.left) ∙ passes) in
     let natural : next_natural mid.words ≡ natural_of next.word = ap next_natural (h.left ∙ next.head) in
     let capped = a_cap (natural_of next.word) v (e ∙ ap (option_map (λ n. min n (2 ^ 64 - 1))) natural) in
-    let value = cond_some (is_natural next.word) (value_of next.word) capped.whole capped.is in
-    (next.word, ap (map value_of) next.front ∙ map-append value_of (take n old.words) (next.word ∷ []), capped.capped ∙ ap (λ w. min w (2 ^ 64 - 1)) (sym value.1))
+    let value = cond_some (is_natural next.word) (value_of next.word) capped.whole capped.is in (
+      next.word,
+      ap (map value_of) next.front ∙ map-append value_of (take n old.words) (next.word ∷ []),
+      capped.capped
+          ∙ ap (λ w. min w (2 ^ 64 - 1)) (sym value.1),
+    )
 
 pub record IsCornersTo (vertices : ℕ) (old : Unread) (n : ℕ) (new : Unread) (in_range : Bool) (ring : List ℕ) : Type 0 where
   pub read : IsReadTo is_natural old n new
@@ -155,14 +163,16 @@ no_corners vertices u ring none = record { read = none_read is_natural u; range 
 
 pub corner_in : (vertices : ℕ) (old mid new : Unread) (n v : ℕ) (in_range : Bool) (ring : List ℕ) → vertices ≤ MOST_VERTICES
     → Some v ≡ option_map (λ n. min n (2 ^ 64 - 1)) (next_natural mid.words)
-    → new ≡ past_word mid → v < vertices → IsCornersTo vertices old n mid in_range ring → IsCornersTo vertices old (n + 1) new in_range (ring ++ v ∷ [])
+    → new ≡ past_word mid → v < vertices → IsCornersTo vertices old n mid in_range ring
+    → IsCornersTo vertices old (n + 1) new in_range (ring ++ v ∷ [])
 corner_in vertices old mid new n v in_range ring few e is below h =
     let next = next_value old mid n v e h.read in
     let same : v ≡ value_of next.0 = kept (value_of next.0) v MOST_VERTICES next.2 (omega (arith, below, few)) (omega arith) in
     let small : ltb (value_of next.0) vertices ≡ true = lt-ltb _ _ (omega (arith, below, same)) in
     record {
       read = one_read is_natural old mid new n (next_is_natural mid.words v e) is h.read;
-      range = h.range ∙ sym (ap (list_all (λ v. ltb v vertices)) next.1 ∙ list_all-append (λ v. ltb v vertices) (map value_of (take n old.words)) (value_of next.0 ∷ []) ∙ rw small (and-true _));
+      range = h.range ∙ sym (ap (list_all (λ v. ltb v vertices)) next.1
+          ∙ list_all-append (λ v. ltb v vertices) (map value_of (take n old.words)) (value_of next.0 ∷ []) ∙ rw small (and-true _));
       corners = λ e. ap₂ (λ (r : List ℕ) (w : ℕ). r ++ w ∷ []) (h.corners e) same ∙ sym next.1;
     }
   where
@@ -175,10 +185,12 @@ pub corner_out : (vertices : ℕ) (old mid new : Unread) (n v : ℕ) (in_range :
     → new ≡ past_word mid → vertices ≤ v → IsCornersTo vertices old n mid in_range ring → IsCornersTo vertices old (n + 1) new false ring
 corner_out vertices old mid new n v in_range ring e is past h =
     let next = next_value old mid n v e h.read in
-    let large : ltb (value_of next.0) vertices ≡ false = le-ltb _ _ (omega (arith, past, next.2, min-le_left (value_of next.0) (2 ^ 64 - 1))) in
+    let large : ltb (value_of next.0) vertices ≡ false =
+    le-ltb _ _ (omega (arith, past, next.2, min-le_left (value_of next.0) (2 ^ 64 - 1))) in
     record {
       read = one_read is_natural old mid new n (next_is_natural mid.words v e) is h.read;
-      range = sym (ap (list_all (λ v. ltb v vertices)) next.1 ∙ list_all-append (λ v. ltb v vertices) (map value_of (take n old.words)) (value_of next.0 ∷ []) ∙ and_right _ _ (and_left _ _ large));
+      range = sym (ap (list_all (λ v. ltb v vertices)) next.1 ∙ list_all-append (λ v. ltb v vertices) (map value_of (take n old.words))
+          (value_of next.0 ∷ []) ∙ and_right _ _ (and_left _ _ large));
       corners = λ e. cc;
     }
 
@@ -253,7 +265,8 @@ length_values words n fits = length-map (take n words) value_of ∙ length-take-
 pub many_sides : (vertices before v : ℕ) (old mid : Unread) (fault : OffFault)
     → Some v ≡ option_map (λ n. min n (2 ^ 64 - 1)) (next_natural old.words) → mid ≡ past_word old
     → length mid.words < 2 ^ 64 - 1 → 3 ≤ v → before ≤ MOST_SIDES → MOST_SIDES - before < v
-    → fault ≡ cond (pass_to is_natural v mid.words) (TooMany mid.line) (BadFace mid.line) → ring_fault vertices before old.line (corners_of old.words) ≡ Some fault
+    → fault ≡ cond (pass_to is_natural v mid.words) (TooMany mid.line) (BadFace mid.line)
+    → ring_fault vertices before old.line (corners_of old.words) ≡ Some fault
 many_sides vertices before v old mid fault e is few three fits many said =
     let h = has_sides old.words v e in
     let polygon : 3 ≤ h.sides = omega (arith, three, h.capped, min-le_left h.sides (2 ^ 64 - 1)) in
@@ -261,24 +274,29 @@ many_sides vertices before v old mid fault e is few three fits many said =
     let line : mid.line ≡ old.line = ap (λ (u : Unread). u.line) is in
     let same : pass_to is_natural v mid.words ≡ pass_to is_natural h.sides (drop 1 old.words)
     = same_pass mid.words h.sides v h.capped few ∙ ap (pass_to is_natural h.sides) words in
-    let corners : corners_of old.words ≡ cond (pass_to is_natural h.sides (drop 1 old.words)) (Some (map value_of (take h.sides (drop 1 old.words)))) None
+    let corners : corners_of old.words
+    ≡ cond (pass_to is_natural h.sides (drop 1 old.words)) (Some (map value_of (take h.sides (drop 1 old.words)))) None
     = h.corners ∙ among (drop 1 old.words) h.sides polygon in
-    by_test (drop 1 old.words) h.sides (pass_to is_natural h.sides (drop 1 old.words)) refl (omega (arith, many, h.capped, min-le_left h.sides (2 ^ 64 - 1)))
+    by_test (drop 1 old.words) h.sides (pass_to is_natural h.sides (drop 1 old.words)) refl
+    (omega (arith, many, h.capped, min-le_left h.sides (2 ^ 64 - 1)))
     (ap (ring_fault vertices before old.line) corners)
     (said ∙ ap₂ (λ (b : Bool) (k : ℕ). cond b (TooMany k) (BadFace k)) same line)
   where
     by_test : (words : List (List ℕ)) (sides : ℕ) (b : Bool) → pass_to is_natural sides words ≡ b → MOST_SIDES - before < sides
-        → ring_fault vertices before old.line (corners_of old.words) ≡ ring_fault vertices before old.line (cond b (Some (map value_of (take sides words))) None)
+        → ring_fault vertices before old.line (corners_of old.words)
+        ≡ ring_fault vertices before old.line (cond b (Some (map value_of (take sides words))) None)
         → fault ≡ cond b (TooMany old.line) (BadFace old.line) → ring_fault vertices before old.line (corners_of old.words) ≡ Some fault
     by_test words sides true passes over so said =
         let enough : sides ≤ length words = leb-true _ _ (and_parts _ _ passes).0 in
-        let past : ltb MOST_SIDES (before + length (map value_of (take sides words))) ≡ true = lt-ltb _ _ (omega (arith, over, fits, length_values words sides enough)) in
+        let past : ltb MOST_SIDES (before + length (map value_of (take sides words))) ≡ true =
+        lt-ltb _ _ (omega (arith, over, fits, length_values words sides enough)) in
         so ∙ rw past (ap Some (sym said))
     by_test words sides false passes over so said = so ∙ ap Some (sym said)
 
 -- ---- a face with room for its sides
 
-fits_ring : (before v : ℕ) (words : List (List ℕ)) → Some v ≡ option_map (λ n. min n (2 ^ 64 - 1)) (next_natural words) → before ≤ MOST_SIDES
+fits_ring : (before v : ℕ) (words : List (List ℕ)) → Some v ≡ option_map (λ n. min n (2 ^ 64 - 1)) (next_natural words)
+    → before ≤ MOST_SIDES
     → v ≤ MOST_SIDES - before
     → corners_of words ≡ corners_among (drop 1 words) v
 fits_ring before v words e few fits =
@@ -288,7 +306,8 @@ fits_ring before v words e few fits =
 
 no_overflow : (words : List (List ℕ)) (before v : ℕ) → before ≤ MOST_SIDES → v ≤ MOST_SIDES - before
     → ltb MOST_SIDES (before + length (map value_of (take v words))) ≡ false
-no_overflow words before v few fits = le-ltb _ _ (omega (arith, few, fits, length-map (take v words) value_of, length-take v words, min-le_left v (length words)))
+no_overflow words before v few fits =
+    le-ltb _ _ (omega (arith, few, fits, length-map (take v words) value_of, length-take v words, min-le_left v (length words)))
 
 pub missing_ring : (vertices before v : ℕ) (old mid : Unread) (fault : OffFault) (ring : List ℕ)
     → Some v ≡ option_map (λ n. min n (2 ^ 64 - 1)) (next_natural old.words) → mid ≡ past_word old
@@ -310,7 +329,8 @@ record IsRing (vertices before : ℕ) (old : Unread) (in_range : Bool) (ring : L
 
 is_ring : (vertices before v : ℕ) (old mid : Unread) (in_range : Bool) (ring : List ℕ)
     → Some v ≡ option_map (λ n. min n (2 ^ 64 - 1)) (next_natural old.words) → mid ≡ past_word old
-    → before ≤ MOST_SIDES → v ≤ MOST_SIDES - before → ReadsCorners vertices v mid (Ok in_range) ring → IsRing vertices before old in_range ring
+    → before ≤ MOST_SIDES → v ≤ MOST_SIDES - before → ReadsCorners vertices v mid (Ok in_range) ring
+    → IsRing vertices before old in_range ring
 is_ring vertices before v old mid in_range ring e is few fits h =
     let words : mid.words ≡ drop 1 old.words = ap (λ (u : Unread). u.words) is in
     record {
@@ -331,7 +351,8 @@ out_of_range vertices before v old mid line ring e is few fits at h =
 
 pub equal_neighbours : (vertices before v : ℕ) (old mid : Unread) (line : ℕ) (ring : List ℕ)
     → Some v ≡ option_map (λ n. min n (2 ^ 64 - 1)) (next_natural old.words) → mid ≡ past_word old
-    → before ≤ MOST_SIDES → v ≤ MOST_SIDES - before → line ≡ old.line → ReadsCorners vertices v mid (Ok true) ring → has_equal_neighbours ring ≡ true
+    → before ≤ MOST_SIDES → v ≤ MOST_SIDES - before → line ≡ old.line → ReadsCorners vertices v mid (Ok true) ring
+    → has_equal_neighbours ring ≡ true
     → ring_fault vertices before old.line (corners_of old.words) ≡ Some (EqualNeighbours line)
 equal_neighbours vertices before v old mid line ring e is few fits at h equal =
     let r = is_ring vertices before v old mid true ring e is few fits h in
@@ -364,13 +385,16 @@ DifferTo ring n = list_any (is_equal_at ring) (take n (range_with_len 0 (length 
 
 pub differ_more : (ring : List ℕ) (t : ℕ) → t < length ring → is_equal_at ring t ≡ false → DifferTo ring t → DifferTo ring (t + 1)
 differ_more ring t below e so_far =
-    let here : is_equal_at ring (get_or (range_with_len 0 (length ring)) t 0) ≡ false = ap (is_equal_at ring) (get_or-range_with_len 0 (length ring) t 0 below ∙ zero-add t) ∙ e in
-    list_any_more (is_equal_at ring) (range_with_len 0 (length ring)) t 0 (omega (arith, below, length-range_with_len 0 (length ring))) ∙ rw (so_far, here) refl
+    let here : is_equal_at ring (get_or (range_with_len 0 (length ring)) t 0) ≡ false =
+    ap (is_equal_at ring) (get_or-range_with_len 0 (length ring) t 0 below ∙ zero-add t) ∙ e in
+    list_any_more (is_equal_at ring) (range_with_len 0 (length ring)) t 0 (omega (arith, below, length-range_with_len 0 (length ring)))
+    ∙ rw (so_far, here) refl
 
 pub differ_all : (ring : List ℕ) (n : ℕ) → length ring ≤ n → DifferTo ring n → false ≡ has_equal_neighbours ring
 unfolding has_equal_neighbours
 differ_all ring n past so_far =
-    sym (ap (list_any (is_equal_at ring)) (sym (take_all n (range_with_len 0 (length ring)) (omega (arith, past, length-range_with_len 0 (length ring))))) ∙ so_far)
+    sym (ap (list_any (is_equal_at ring))
+    (sym (take_all n (range_with_len 0 (length ring)) (omega (arith, past, length-range_with_len 0 (length ring))))) ∙ so_far)
 
 pub entry : (ring : List VertexName) (t : ℕ) (d : VertexName) → t < length ring → get_or (numbers ring) t 0 ≡ (get_or ring t d).0
 entry [] t d below = absurd (omega (arith, below))
@@ -390,13 +414,15 @@ pub at_equal : (ring : List VertexName) (t next : ℕ) (d : VertexName) → t < 
     → next < length ring
     → (get_or ring t d).0 ≡ (get_or ring next d).0 → true ≡ has_equal_neighbours (numbers ring)
 at_equal ring t next d below is within same =
-    equal_found (numbers ring) t (omega (arith, below, length-map ring (λ (v : VertexName). v.0))) (next_entry ring t next d below is within true (eq-eqb _ _ same))
+    equal_found (numbers ring) t (omega (arith, below, length-map ring (λ (v : VertexName). v.0)))
+    (next_entry ring t next d below is within true (eq-eqb _ _ same))
 
 pub at_differ : (ring : List VertexName) (t next : ℕ) (d : VertexName) → t < length ring → next ≡ next_corner true (length ring) t
     → next < length ring
     → (get_or ring t d).0 ≢ (get_or ring next d).0 → DifferTo (numbers ring) t → DifferTo (numbers ring) (t + 1)
 at_differ ring t next d below is within differ so_far =
-    differ_more (numbers ring) t (omega (arith, below, length-map ring (λ (v : VertexName). v.0))) (next_entry ring t next d below is within false (ne_eqb _ _ differ)) so_far
+    differ_more (numbers ring) t (omega (arith, below, length-map ring (λ (v : VertexName). v.0)))
+    (next_entry ring t next d below is within false (ne_eqb _ _ differ)) so_far
 
 pub at_end : (ring : List VertexName) (n : ℕ) → length ring ≤ n → DifferTo (numbers ring) n → false ≡ has_equal_neighbours (numbers ring)
 at_end ring n past so_far = differ_all (numbers ring) n (omega (arith, past, length-map ring (λ (v : VertexName). v.0))) so_far
@@ -436,10 +462,12 @@ by_last ring n d some same so_far = by_test (eqb (get_or ring (length ring - 1) 
     differ = subst (λ k. DifferTo (numbers ring) (k - 1)) (sym same) so_far
 
     by_test : (b : Bool) → eqb (get_or ring last d).0 (get_or ring 0 d).0 ≡ b → b ≡ has_equal_neighbours (numbers ring)
-    by_test true e = equal_found (numbers ring) last (omega (arith, below, length-map ring (λ (v : VertexName). v.0))) (next_entry ring last 0 d below is some true e)
+    by_test true e = equal_found (numbers ring) last (omega (arith, below, length-map ring (λ (v : VertexName). v.0)))
+        (next_entry ring last 0 d below is some true e)
     by_test false e =
         at_end ring (last + 1) (omega (arith, some))
-        (differ_more (numbers ring) last (omega (arith, below, length-map ring (λ (v : VertexName). v.0))) (next_entry ring last 0 d below is some false e) differ)
+        (differ_more (numbers ring) last (omega (arith, below, length-map ring (λ (v : VertexName). v.0)))
+        (next_entry ring last 0 d below is some false e) differ)
 
 -- ---- a ring without a fault is a face
 
@@ -458,8 +486,10 @@ unfolding corners_of
 polygon [] ring e = absurd (none-some ring e)
 polygon (word ∷ words) ring e =
     option_and_then_some _ (natural_of word) ring e (λ sides was then.
-    let test = cond_some (leb 3 sides && leb sides (length words) && list_all is_natural (take sides words)) (map value_of (take sides words)) ring then in
-    let some = and_parts (leb 3 sides) (leb sides (length words)) (and_parts (leb 3 sides && leb sides (length words)) (list_all is_natural (take sides words)) test.0).0 in
+    let test = cond_some (leb 3 sides && leb sides (length words) && list_all is_natural (take sides words))
+    (map value_of (take sides words)) ring then in
+    let some = and_parts (leb 3 sides) (leb sides (length words))
+    (and_parts (leb 3 sides && leb sides (length words)) (list_all is_natural (take sides words)) test.0).0 in
     omega (arith, leb-true 3 sides some.0, length_values words sides (leb-true sides (length words) some.1), ap length test.1))
 
 record IsGoodRing (vertices before : ℕ) (ring : List ℕ) : Type 0 where
@@ -472,8 +502,10 @@ good_parts : (vertices before number : ℕ) (ring : List ℕ) → ring_fault ver
 good_parts vertices before number ring e =
     first (ltb MOST_SIDES (before + length ring)) (list_all (λ v. ltb v vertices) ring) (has_equal_neighbours ring) refl refl refl e
   where
-    first : (a b c : Bool) → ltb MOST_SIDES (before + length ring) ≡ a → list_all (λ v. ltb v vertices) ring ≡ b → has_equal_neighbours ring ≡ c
-        → cond a (Some (TooMany number)) (cond (not b) (Some (IndexRange number)) (cond c (Some (EqualNeighbours number)) None)) ≡ None → IsGoodRing vertices before ring
+    first : (a b c : Bool) → ltb MOST_SIDES (before + length ring) ≡ a → list_all (λ v. ltb v vertices) ring ≡ b → has_equal_neighbours ring
+        ≡ c
+        → cond a (Some (TooMany number)) (cond (not b) (Some (IndexRange number)) (cond c (Some (EqualNeighbours number)) None)) ≡ None
+        → IsGoodRing vertices before ring
     first true b c p q r e = absurd (none-some (TooMany number) (sym e))
     first false false c p q r e = absurd (none-some (IndexRange number) (sym e))
     first false true true p q r e = absurd (none-some (EqualNeighbours number) (sym e))
@@ -489,4 +521,5 @@ ring_face vertices before number words ring corners good =
 pub ring_room : (vertices before number : ℕ) (words : List (List ℕ)) (ring : List ℕ) → corners_of words ≡ Some ring
     → ring_fault vertices before number (corners_of words) ≡ None
     → before + length ring ≤ MOST_SIDES
-ring_room vertices before number words ring corners good = (good_parts vertices before number ring (ap (ring_fault vertices before number) (sym corners) ∙ good)).room
+ring_room vertices before number words ring corners good =
+    (good_parts vertices before number ring (ap (ring_fault vertices before number) (sym corners) ∙ good)).room

@@ -1,4 +1,3 @@
 pub mod OffTexts
-pub mod FaultLines
 pub mod OffSteps
 pub mod OffExamples

@@ -9,7 +9,6 @@
 
 mod header;
 mod keyword;
-pub mod laws;
 mod mesh;
 mod off_fault;
 mod ring;

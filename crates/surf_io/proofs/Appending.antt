@@ -17,11 +17,13 @@ pub appends_twice : (old mid new : Option (List ℕ)) (xs ys : List ℕ) → App
 appends_twice old mid new xs ys first second = second ∙ ap (λ o. append_told o ys) first ∙ append_told-append old xs ys
 
 -- a write, and then one that failed
-pub prefix_after : (old mid new : Option (List ℕ)) (xs ys : List ℕ) → Appends old mid xs → AppendsPrefix mid new ys → AppendsPrefix old new (xs ++ ys)
+pub prefix_after : (old mid new : Option (List ℕ)) (xs ys : List ℕ) → Appends old mid xs → AppendsPrefix mid new ys
+    → AppendsPrefix old new (xs ++ ys)
 prefix_after old mid new xs ys first second = record {
   count = length xs + second.count;
   within = omega (arith, length-append xs ys);
-  appended = appends_twice old mid new xs (take second.count ys) first second.appended ∙ ap (append_told old) (sym (take-append-add xs ys second.count));
+  appended = appends_twice old mid new xs (take second.count ys) first second.appended
+      ∙ ap (append_told old) (sym (take-append-add xs ys second.count));
 }
 
 -- a write that failed, of bytes that more was to follow
@@ -44,23 +46,27 @@ appends_more old mid new bytes at n first more =
     ∙ append_told-append old (take at bytes) (take n (drop at bytes))
     ∙ ap (append_told old) (sym (take-add at n bytes))
 
-pub within_rest : (bytes : List ℕ) (at n : ℕ) → at ≤ length bytes → n ≤ length (take (length bytes - at) (drop at bytes)) → at + n ≤ length bytes
+pub within_rest : (bytes : List ℕ) (at n : ℕ) → at ≤ length bytes → n ≤ length (take (length bytes - at) (drop at bytes))
+    → at + n ≤ length bytes
 within_rest bytes at n started bound =
     let rest : n ≤ length (drop at bytes) = rw (take_rest bytes at) at bound in
     omega (arith, length-drop at bytes)
 
 -- a write, and then one that failed, of the first bytes of what was to follow
-pub part_after : {X : Type 0} (written : X → Option (List ℕ)) (faults : X → ℕ) (old mid new : X) (xs ys rest bytes : List ℕ) → WroteAll written old mid xs
+pub part_after : {X : Type 0} (written : X → Option (List ℕ)) (faults : X → ℕ) (old mid new : X) (xs ys rest bytes : List ℕ)
+    → WroteAll written old mid xs
     → faults old ≤ faults mid → bytes ≡ xs ++ (ys ++ rest) → WrotePart written faults mid new ys → WrotePart written faults old new bytes
 part_after written faults old mid new xs ys rest bytes first never_falls is second = record {
   part =
       subst (AppendsPrefix (written old) (written new)) (sym is)
-      (prefix_after (written old) (written mid) (written new) xs (ys ++ rest) first (prefix_wider (written mid) (written new) ys rest second.part));
+      (prefix_after (written old) (written mid) (written new) xs (ys ++ rest) first
+      (prefix_wider (written mid) (written new) ys rest second.part));
   fault = λ below. omega (arith, second.fault below);
 }
 
 -- the same where nothing was to follow
-pub part_last : {X : Type 0} (written : X → Option (List ℕ)) (faults : X → ℕ) (old mid new : X) (xs ys : List ℕ) → WroteAll written old mid xs
+pub part_last : {X : Type 0} (written : X → Option (List ℕ)) (faults : X → ℕ) (old mid new : X) (xs ys : List ℕ)
+    → WroteAll written old mid xs
     → faults old ≤ faults mid → WrotePart written faults mid new ys → WrotePart written faults old new (xs ++ ys)
 part_last written faults old mid new xs ys first never_falls second = record {
   part = prefix_after (written old) (written mid) (written new) xs ys first second.part;

@@ -15,7 +15,8 @@ pub room : (text : List ℕ) (start n rest : ℕ) → n < 2 ^ 64 → rest < 2 ^ 
 room text start n rest small less long within split =
     let most : length (decimal n) ≤ 20 = length-decimal-le 20 n (omega arith) (omega arith) small in
     let some : 0 < length (decimal rest) = decimal_nonempty rest less in
-    let sum : length (decimal n) ≡ length (decimal rest) + length (drop start text) = ap length split ∙ length-append (decimal rest) (drop start text) in
+    let sum : length (decimal n) ≡ length (decimal rest) + length (drop start text) = ap length split
+    ∙ length-append (decimal rest) (drop start text) in
     omega (arith, length-drop start text)
 
 -- one digit more
@@ -28,7 +29,8 @@ more text start n rest less long within some big split =
     split
     ∙ ap (λ ds. ds ++ drop start text) (decimal_step rest big less)
     ∙ append_assoc (decimal (rest / 10)) ((48 + rest % 10) ∷ []) (drop start text)
-    ∙ ap (λ ds. decimal (rest / 10) ++ ds) (sym (drop-set text (start - 1) (48 + rest % 10) lt ∙ ap (λ k. (48 + rest % 10) ∷ drop k text) same))
+    ∙ ap (λ ds. decimal (rest / 10) ++ ds) (sym (drop-set text (start - 1) (48 + rest % 10) lt
+    ∙ ap (λ k. (48 + rest % 10) ∷ drop k text) same))
 
 -- the first digit
 pub last : (text : List ℕ) (start n rest : ℕ) → length text ≡ 20 → start ≤ 20 → 1 ≤ start → rest < 10

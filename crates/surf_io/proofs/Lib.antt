@@ -2,3 +2,4 @@ pub mod Stored
 pub mod Reading
 pub mod Appending
 pub mod Decimal
+pub mod Gathering

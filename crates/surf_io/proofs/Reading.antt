@@ -15,7 +15,8 @@ pub take-filled : (before piece rest tail : List ℕ) (filled n all : ℕ) → f
 take-filled before piece rest tail filled n all old bound within =
     let long : length (take filled before) ≡ filled = length-take-le filled before old in
     let here : take n (piece ++ (rest ++ tail)) ≡ take n piece = take-append-le n piece (rest ++ tail) bound in
-    let less : take (filled + n) (take all (take filled before ++ (piece ++ rest) ++ tail)) ≡ take (filled + n) (take filled before ++ (piece ++ rest) ++ tail) = take-take (filled + n) all _ within in
+    let less : take (filled + n) (take all (take filled before ++ (piece ++ rest) ++ tail))
+    ≡ take (filled + n) (take filled before ++ (piece ++ rest) ++ tail) = take-take (filled + n) all _ within in
     less
     ∙ ap (take (filled + n)) (append_assoc (take filled before) (piece ++ rest) tail)
     ∙ ap (λ k. take (k + n) (take filled before ++ ((piece ++ rest) ++ tail))) (sym long)

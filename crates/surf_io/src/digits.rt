@@ -50,7 +50,7 @@ pub(crate) fn fill_digits(text: &mut [u8; MOST_DIGITS], n: u64) -> usize
 }
 
 // Puts the digits of `n`, and its sign where it is negative, at the end of `text`.
-fn fill_signed_digits(text: &mut [u8; MOST_DIGITS], n: i64) -> usize
+pub(crate) fn fill_signed_digits(text: &mut [u8; MOST_DIGITS], n: i64) -> usize
     ensures start { result ≤ MOST_DIGITS }
     ensures digits { drop result text.new ≡ signed_decimal n }
 {

@@ -12,6 +12,7 @@ mod digits;
 mod fault_plan;
 mod faults;
 mod file_shelf;
+mod lines;
 mod memory_shelf;
 mod memory_sink;
 mod out_sink;

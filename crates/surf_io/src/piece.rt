@@ -1,10 +1,11 @@
 //! Bytes that are gathered before they are written.
 ghost use Rattle.std.specs.Prelude.{◌≡◌, ℕ, ◌+◌, ◌≤◌, List, [], ◌++◌, length, OnOk, OnErr};
-ghost use Rattle.std.specs.Fmt.{decimal};
+ghost use Rattle.std.specs.Fmt.{decimal, signed_decimal};
 ghost use Rattle.surf_io.specs.Faults.{Rose};
 ghost use Rattle.surf_io.specs.Bytes.{Appends, AppendsPrefix};
+ghost use Rattle.surf_io.specs.Gathered.{Puts};
 
-use crate::digits::{MOST_DIGITS, fill_digits};
+use crate::digits::{MOST_DIGITS, fill_digits, fill_signed_digits};
 use crate::faults::Failed;
 use crate::sink::Sink;
 use crate::write::write_whole;
@@ -77,6 +78,29 @@ impl Piece {
         let mut text = [0; MOST_DIGITS];
         let start = fill_digits(&mut text, n);
         self.put(&text[start..]);
+    }
+
+    /// Puts the decimal digits of `n` last, with `-` before those of a negative number.
+    pub fn put_signed(&mut self, n: i64)
+        requires { length self.old + Piece.DIGITS ≤ Piece.ROOM }
+        ensures put { self.new ≡ self.old ++ signed_decimal n }
+        ensures short { length self.new ≤ length self.old + Piece.DIGITS }
+    {
+        let mut text = [0; MOST_DIGITS];
+        let start = fill_signed_digits(&mut text, n);
+        self.put(&text[start..]);
+    }
+
+    /// Sees that there is room for so many bytes, and writes all out where there is not.
+    pub fn make_room<K: Sink>(&mut self, room: usize, sink: &mut K) -> Result<(), Failed>
+        requires { room ≤ Piece.ROOM }
+        ensures puts { Puts K.written K.settled K.faults result sink.old sink.new self.old self.new [] }
+        ensures room { OnOk result (length self.new + room ≤ Piece.ROOM) }
+    {
+        if self.len > Piece::ROOM - room {
+            self.write_out(sink)?;
+        }
+        Ok(())
     }
 
     /// Writes all bytes, after which there are none. After a failure a first part of them was

@@ -195,8 +195,9 @@ fn gathers_small_pieces_for_the_output(rt: HostRuntime) -> Result<(), Fail> {
     };
     let bytes = pattern(rt.alloc(), 100_000)?;
     let mut sink = OutSink::new(&recorder);
-    for byte in &bytes {
-        assert!(rt; write_whole(&mut sink, &[*byte]) == Ok(()));
+    // Three bytes at once, so that some of them come in the next buffer.
+    for piece in bytes.chunks(3) {
+        assert!(rt; write_whole(&mut sink, piece) == Ok(()));
     }
     assert!(rt; sink.flush() == Ok(()));
     assert!(rt; *recorder.printed.try_borrow().expect(&rt, "free") == bytes);

@@ -1,5 +1,7 @@
 pub mod ListLemmas
 pub mod PlaceLemmas
+pub mod EachLemmas
+pub mod WrittenLemmas
 mod StepLemmas
 mod ViewLemmas
 mod NaturalLemmas

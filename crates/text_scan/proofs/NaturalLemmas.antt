@@ -47,19 +47,22 @@ pub value_step : (digits : List ℕ) (i : ℕ) → i < length digits
     → value_of (take (i + 1) digits) ≡ value_of (take i digits) * 10 + (get_or digits i 0 - 48)
 unfolding value_of
 value_step digits i below =
-    ap (fold (λ value digit. value * 10 + (digit - 48)) 0) (take_more digits i 0 below) ∙ fold-append (λ value digit. value * 10 + (digit - 48)) 0 (take i digits) (get_or digits i 0 ∷ [])
+    ap (fold (λ value digit. value * 10 + (digit - 48)) 0) (take_more digits i 0 below)
+    ∙ fold-append (λ value digit. value * 10 + (digit - 48)) 0 (take i digits) (get_or digits i 0 ∷ [])
 
 value_grows : (digits : List ℕ) (value : ℕ) → value ≤ fold (λ value digit. value * 10 + (digit - 48)) value digits
 value_grows [] value = omega arith
 value_grows (digit ∷ digits) value =
-    let later : value * 10 + (digit - 48) ≤ fold (λ value digit. value * 10 + (digit - 48)) (value * 10 + (digit - 48)) digits = value_grows digits (value * 10 + (digit - 48)) in
+    let later : value * 10 + (digit - 48) ≤ fold (λ value digit. value * 10 + (digit - 48)) (value * 10 + (digit - 48)) digits =
+    value_grows digits (value * 10 + (digit - 48)) in
     le_trans (omega arith) later
 
 value_take : (digits : List ℕ) (i : ℕ) → value_of (take i digits) ≤ value_of digits
 unfolding value_of
 value_take digits i =
     let whole = fold-append (λ value digit. value * 10 + (digit - 48)) 0 (take i digits) (drop i digits) in
-    let same : fold (λ value digit. value * 10 + (digit - 48)) 0 (take i digits ++ drop i digits) ≡ fold (λ value digit. value * 10 + (digit - 48)) 0 digits
+    let same : fold (λ value digit. value * 10 + (digit - 48)) 0 (take i digits ++ drop i digits)
+    ≡ fold (λ value digit. value * 10 + (digit - 48)) 0 digits
     = ap (fold (λ value digit. value * 10 + (digit - 48)) 0) (take-append-drop i digits) in
     omega (arith, whole, same, value_grows (drop i digits) (fold (λ value digit. value * 10 + (digit - 48)) 0 (take i digits)))
 
@@ -70,7 +73,8 @@ value_past digits i bound below past = omega (arith, value_step digits i below, 
 digit_at : (digits : List ℕ) (i : ℕ) → list_all is_digit digits ≡ true → i < length digits → 48 ≤ get_or digits i 0
 digit_at [] i all below = absurd (omega (arith, below))
 digit_at (digit ∷ digits) zero all below = leb-true _ _ (and_parts _ _ (and_parts (is_digit digit) (list_all is_digit digits) all).0).0
-digit_at (digit ∷ digits) (suc i) all below = digit_at digits i (and_parts (is_digit digit) (list_all is_digit digits) all).1 (omega (arith, below))
+digit_at (digit ∷ digits) (suc i) all below = digit_at digits i (and_parts (is_digit digit) (list_all is_digit digits) all).1
+    (omega (arith, below))
 
 pub natural_digit : (digits : List ℕ) (i : ℕ) → is_natural digits ≡ true → i < length digits → 48 ≤ get_or digits i 0
 unfolding is_natural
@@ -110,7 +114,8 @@ list_any-found : (p : ℕ → Bool) (xs : List ℕ) → position_or_len p xs < l
 list_any-found p [] below = absurd (omega (arith, below))
 list_any-found p (x ∷ xs) below = by_test (p x) refl below (list_any-found p xs)
   where
-    by_test : (b : Bool) → p x ≡ b → cond (not b) (1 + position_or_len p xs) 0 < length (x ∷ xs) → (position_or_len p xs < length xs → list_any p xs ≡ true) → (b || list_any p xs) ≡ true
+    by_test : (b : Bool) → p x ≡ b → cond (not b) (1 + position_or_len p xs) 0 < length (x ∷ xs)
+        → (position_or_len p xs < length xs → list_any p xs ≡ true) → (b || list_any p xs) ≡ true
     by_test true e below later = refl
     by_test false e below later = later (omega (arith, below))
 
@@ -118,7 +123,8 @@ list_any-none : (p : ℕ → Bool) (xs : List ℕ) → length xs ≤ position_or
 list_any-none p [] past = refl
 list_any-none p (x ∷ xs) past = by_test (p x) refl past (list_any-none p xs)
   where
-    by_test : (b : Bool) → p x ≡ b → length (x ∷ xs) ≤ cond (not b) (1 + position_or_len p xs) 0 → (length xs ≤ position_or_len p xs → list_any p xs ≡ false) → (b || list_any p xs) ≡ false
+    by_test : (b : Bool) → p x ≡ b → length (x ∷ xs) ≤ cond (not b) (1 + position_or_len p xs) 0
+        → (length xs ≤ position_or_len p xs → list_any p xs ≡ false) → (b || list_any p xs) ≡ false
     by_test true e past later = absurd (omega (arith, past))
     by_test false e past later = later (omega (arith, past))
 
@@ -135,13 +141,15 @@ is_first p xs i e =
     record {
       any = list_any-found p xs (ltb-true _ _ here.0);
       before = ap (λ n. take n xs) same;
-      after = ap (λ n. drop (n + 1) xs) same ∙ sym (take_all (length xs - (i + 1)) (drop (i + 1) xs) (omega (arith, length-drop (i + 1) xs)));
+      after = ap (λ n. drop (n + 1) xs) same
+          ∙ sym (take_all (length xs - (i + 1)) (drop (i + 1) xs) (omega (arith, length-drop (i + 1) xs)));
     }
 
 nowhere : (p : ℕ → Bool) (xs : List ℕ) → position p xs ≡ None → length xs ≤ position_or_len p xs
 nowhere p xs e = by_test (ltb (position_or_len p xs) (length xs)) refl e
   where
-    by_test : (b : Bool) → ltb (position_or_len p xs) (length xs) ≡ b → cond b (Some (position_or_len p xs)) None ≡ None → length xs ≤ position_or_len p xs
+    by_test : (b : Bool) → ltb (position_or_len p xs) (length xs) ≡ b → cond b (Some (position_or_len p xs)) None ≡ None
+        → length xs ≤ position_or_len p xs
     by_test true is e = absurd (none-some (position_or_len p xs) (sym e))
     by_test false is e = ltb-false _ _ is
 
@@ -158,11 +166,13 @@ with_exponent text at e no_nan no_inf decimal =
     let first = is_first is_exponent_mark text at e in
     let any : list_any is_exponent_mark text ≡ true = first.any in
     let front : is_decimal (before_first is_exponent_mark text) ≡ true = ap is_decimal first.before ∙ decimal in
-    let back : is_natural (unsigned (after_first is_exponent_mark text)) ≡ is_natural (unsigned (take (length text - (at + 1)) (drop (at + 1) text)))
+    let back : is_natural (unsigned (after_first is_exponent_mark text))
+    ≡ is_natural (unsigned (take (length text - (at + 1)) (drop (at + 1) text)))
     = ap (λ t. is_natural (unsigned t)) first.after in
     sym (parts_of text true (is_natural (unsigned (after_first is_exponent_mark text))) no_nan no_inf front (rw any refl) ∙ back)
   where
-    parts_of : (text : List ℕ) (front back : Bool) → bytes_eq text nan ≡ false → bytes_eq text inf ≡ false → is_decimal (before_first is_exponent_mark text) ≡ front
+    parts_of : (text : List ℕ) (front back : Bool) → bytes_eq text nan ≡ false → bytes_eq text inf ≡ false
+        → is_decimal (before_first is_exponent_mark text) ≡ front
         → has_exponent_or_none text ≡ back → is_unsigned_text text ≡ (front && back)
     parts_of text front back no_nan no_inf first second = rw (no_nan, no_inf, first, second) refl
 

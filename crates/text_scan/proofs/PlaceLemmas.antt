@@ -43,7 +43,8 @@ hash_only byte e = ne_eqb byte 10 (λ is. omega (arith, eqb-true byte 35 e, is))
 parts_at_blank : (byte : ℕ) (rest : List ℕ) → is_blank byte ≡ true → parts (byte ∷ rest) ≡ [] ∷ parts rest
 parts_at_blank byte rest blank =
     let others = blank_only byte blank in
-    let this : parts (byte ∷ rest) ≡ cond (is_blank byte) ([] ∷ parts rest) (onto_first byte (parts rest)) = parts_at_other byte rest others.0 others.1 in
+    let this : parts (byte ∷ rest) ≡ cond (is_blank byte) ([] ∷ parts rest) (onto_first byte (parts rest)) =
+    parts_at_other byte rest others.0 others.1 in
     rw blank at this
 
 parts_in_word : (byte : ℕ) (rest : List ℕ) → ends_word byte ≡ false → parts (byte ∷ rest) ≡ onto_first byte (parts rest)
@@ -51,7 +52,8 @@ parts_in_word byte rest e =
     let here = or_parts (is_blank byte || is_line_feed byte) (is_hash byte) e in
     let other = or_parts (is_blank byte) (is_line_feed byte) here.0 in
     let blank : is_blank byte ≡ false = other.0 in
-    let this : parts (byte ∷ rest) ≡ cond (is_blank byte) ([] ∷ parts rest) (onto_first byte (parts rest)) = parts_at_other byte rest other.1 here.1 in
+    let this : parts (byte ∷ rest) ≡ cond (is_blank byte) ([] ∷ parts rest) (onto_first byte (parts rest)) =
+    parts_at_other byte rest other.1 here.1 in
     rw blank at this
 
 -- ---- the words left
@@ -91,7 +93,8 @@ starts_by_cases : (byte : ℕ) (rest : List ℕ) → (b : Bool) → ends_word by
 starts_by_cases byte rest false e before =
     record {
       others = before.others;
-      split = parts_in_word byte rest e ∙ ap (onto_first byte) before.split ∙ ap (λ t. t ∷ before.others) (sym (before_first-no ends_word byte rest e));
+      split = parts_in_word byte rest e ∙ ap (onto_first byte) before.split
+          ∙ ap (λ t. t ∷ before.others) (sym (before_first-no ends_word byte rest e));
       full = before.full ∙ ap words_here (sym (from_first-no ends_word byte rest e));
     }
 starts_by_cases byte rest true e before =
@@ -118,7 +121,8 @@ words_here-word (byte ∷ rest) e =
     let inside : ends_word byte ≡ false = not-true (ends_word byte) e in
     let begin = starts (byte ∷ rest) in
     let filled : is_filled (before_first ends_word (byte ∷ rest)) ≡ true = ap is_filled (before_first-no ends_word byte rest inside) in
-    words_are_parts (byte ∷ rest) ∙ ap (filter is_filled) begin.split ∙ rw filled (ap (λ t. before_first ends_word (byte ∷ rest) ∷ t) begin.full)
+    words_are_parts (byte ∷ rest) ∙ ap (filter is_filled) begin.split
+    ∙ rw filled (ap (λ t. before_first ends_word (byte ∷ rest) ∷ t) begin.full)
 
 -- ---- the lines behind
 
@@ -151,7 +155,10 @@ cut_first byte (next ∷ rest) = cut_by_cases byte (next ∷ rest) (is_line_feed
 
 -- what is left from a place on, the present line first if it has words left
 pub lines_from_here : (n : ℕ) (rest : List ℕ)
-    → lines_from n rest ≡ cond (is_filled (words_here rest)) (record { number = n; words = words_here rest } ∷ lines_from (n + 1) (behind rest)) (lines_from (n + 1) (behind rest))
+    → lines_from n rest ≡ cond (is_filled (words_here rest)) (record { number = n; words = words_here rest }
+    ∷ lines_from (n + 1) (behind rest)) (lines_from (n + 1) (behind rest))
 unfolding lines_from words_here words cut behind
 lines_from_here n [] = refl
-lines_from_here n (byte ∷ rest) = ap (λ lines. filter (λ (line : Line). is_filled line.words) (map (λ (p : ℕ × List ℕ). record { number = p.0; words = words p.1 }) (enumerate_from n lines))) (cut_first byte rest)
+lines_from_here n (byte ∷ rest) =
+    ap (λ lines. filter (λ (line : Line). is_filled line.words) (map (λ (p : ℕ × List ℕ). record { number = p.0; words = words p.1 })
+    (enumerate_from n lines))) (cut_first byte rest)

@@ -43,7 +43,8 @@ here bytes = record { words = refl; behind = refl; shorter = omega arith }
 
 pub past_blank : (bytes rest : List ℕ) → 1 ≤ length rest → is_blank (get_or rest 0 0) ≡ true → IsPast 0 bytes rest
     → IsPast 0 bytes (after_head rest)
-past_blank bytes = by_head (λ first rest after. is_blank first ≡ true → IsPast 0 bytes rest → IsPast 0 bytes after) (λ byte rest is_kind so_far.
+past_blank bytes = by_head (λ first rest after. is_blank first ≡ true → IsPast 0 bytes rest → IsPast 0 bytes after)
+    (λ byte rest is_kind so_far.
     let blank : is_blank byte ≡ true = is_kind in
     record {
       words = sym (words_here-blank byte rest blank) ∙ so_far.words;
@@ -59,11 +60,13 @@ pub on_in_line : (bytes rest : List ℕ) → 1 ≤ length rest → get_or rest 0
     → (behind rest ≡ behind bytes) × (length rest ≤ length bytes)
     → (behind (after_head rest) ≡ behind bytes) × (length (after_head rest) ≤ length bytes)
 on_in_line bytes =
-    by_head (λ first rest after. first ≢ 10 → (behind rest ≡ behind bytes) × (length rest ≤ length bytes) → (behind after ≡ behind bytes) × (length after ≤ length bytes))
+    by_head (λ first rest after. first ≢ 10 → (behind rest ≡ behind bytes) × (length rest ≤ length bytes)
+    → (behind after ≡ behind bytes) × (length after ≤ length bytes))
     (λ byte rest other so_far. (sym (behind-other byte rest (ne_eqb byte 10 other)) ∙ so_far.0, omega (arith, so_far.1)))
 
 pub at_line_feed : (rest : List ℕ) → 1 ≤ length rest → get_or rest 0 0 ≡ 10 → words_here rest ≡ []
-at_line_feed = by_head (λ first rest after. first ≡ 10 → words_here rest ≡ []) (λ byte rest e. words_here-line_feed byte rest (eq-eqb byte 10 e))
+at_line_feed = by_head (λ first rest after. first ≡ 10 → words_here rest
+    ≡ []) (λ byte rest e. words_here-line_feed byte rest (eq-eqb byte 10 e))
 
 pub at_end : (rest : List ℕ) → length rest < 1 → words_here rest ≡ []
 at_end [] h = words_here-nil
@@ -85,25 +88,38 @@ no_words n rest none = lines_from_here n rest ∙ rw none refl
 
 pub pass_blank : (n m : ℕ) (bytes rest : List ℕ) → 1 ≤ length rest → is_blank (get_or rest 0 0) ≡ true → SoFar n bytes m rest
     → SoFar n bytes m (after_head rest)
-pass_blank n m bytes = by_head (λ first rest after. is_blank first ≡ true → SoFar n bytes m rest → SoFar n bytes m after) (λ byte rest is_kind so_far.
-    let blank : is_blank byte ≡ true = is_kind in
-    (so_far.0 ∙ same_lines m (byte ∷ rest) rest (words_here-blank byte rest blank) (behind-other byte rest (blank_is_no_feed byte blank)), omega (arith, so_far.1), omega (arith, so_far.2)))
+pass_blank n m bytes = by_head (λ first rest after. is_blank first ≡ true → SoFar n bytes m rest → SoFar n bytes m after)
+    (λ byte rest is_kind so_far.
+    let blank : is_blank byte ≡ true = is_kind in (
+      so_far.0 ∙ same_lines m (byte ∷ rest) rest (words_here-blank byte rest blank) (behind-other byte rest (blank_is_no_feed byte blank)),
+      omega (arith, so_far.1),
+      omega (arith, so_far.2),
+    ))
 
 pub pass_line_feed : (n m : ℕ) (bytes rest : List ℕ) → 1 ≤ length rest → get_or rest 0 0 ≡ 10 → SoFar n bytes m rest
     → SoFar n bytes (m + 1) (after_head rest)
-pass_line_feed n m bytes = by_head (λ first rest after. first ≡ 10 → SoFar n bytes m rest → SoFar n bytes (m + 1) after) (λ byte rest is_kind so_far.
-    let feed = eq-eqb byte 10 is_kind in
-    (so_far.0 ∙ no_words m (byte ∷ rest) (words_here-line_feed byte rest feed) ∙ ap (lines_from (m + 1)) (behind-line_feed byte rest feed), omega (arith, so_far.1), omega (arith, so_far.2)))
+pass_line_feed n m bytes = by_head (λ first rest after. first ≡ 10 → SoFar n bytes m rest → SoFar n bytes (m + 1) after)
+    (λ byte rest is_kind so_far.
+    let feed = eq-eqb byte 10 is_kind in (
+      so_far.0 ∙ no_words m (byte ∷ rest) (words_here-line_feed byte rest feed) ∙ ap (lines_from (m + 1)) (behind-line_feed byte rest feed),
+      omega (arith, so_far.1),
+      omega (arith, so_far.2),
+    ))
 
 pub pass_comment : (n m : ℕ) (bytes rest after : List ℕ) → 1 ≤ length rest → get_or rest 0 0 ≡ 35
     → words_here after ≡ [] → behind after ≡ behind (after_head rest) → length after ≤ length (after_head rest)
     → SoFar n bytes m rest → SoFar n bytes m after
 pass_comment n m bytes rest after =
     by_head
-    (λ first rest tail. first ≡ 35 → words_here after ≡ [] → behind after ≡ behind tail → length after ≤ length tail → SoFar n bytes m rest → SoFar n bytes m after)
+    (λ first rest tail. first ≡ 35 → words_here after ≡ [] → behind after ≡ behind tail → length after ≤ length tail → SoFar n bytes m rest
+    → SoFar n bytes m after)
     (λ byte tail is_kind none same shorter so_far.
-    let hash = eq-eqb byte 35 is_kind in
-    (so_far.0 ∙ same_lines m (byte ∷ tail) after (words_here-hash byte tail hash ∙ sym none) (behind-other byte tail (hash_is_no_feed byte hash) ∙ sym same), omega (arith, so_far.1, shorter), so_far.2))
+    let hash = eq-eqb byte 35 is_kind in (
+      so_far.0 ∙ same_lines m (byte ∷ tail) after (words_here-hash byte tail hash
+          ∙ sym none) (behind-other byte tail (hash_is_no_feed byte hash) ∙ sym same),
+      omega (arith, so_far.1, shorter),
+      so_far.2,
+    ))
     rest
 
 pub at_word : (n m : ℕ) (bytes rest : List ℕ) → 1 ≤ length rest → is_blank (get_or rest 0 0) ≡ false → get_or rest 0 0 ≢ 10
@@ -202,11 +218,13 @@ unfolding value_of
 no_digits bytes = record { digits = []; parts = refl; all = refl; value = refl }
 
 pub one_digit : (bytes rest : List ℕ) (capped next : ℕ) → 1 ≤ length rest → is_digit (get_or rest 0 0) ≡ true
-    → next ≡ min (min (capped * 10) (2 ^ 64 - 1) + (get_or rest 0 0 - 48)) (2 ^ 64 - 1) → ArePastDigits bytes capped rest → ArePastDigits bytes next (after_head rest)
+    → next ≡ min (min (capped * 10) (2 ^ 64 - 1) + (get_or rest 0 0 - 48)) (2 ^ 64 - 1) → ArePastDigits bytes capped rest
+    → ArePastDigits bytes next (after_head rest)
 unfolding value_of
 one_digit bytes rest capped next =
     by_head
-    (λ first rest after. is_digit first ≡ true → next ≡ min (min (capped * 10) (2 ^ 64 - 1) + (first - 48)) (2 ^ 64 - 1) → ArePastDigits bytes capped rest → ArePastDigits bytes next after)
+    (λ first rest after. is_digit first ≡ true → next ≡ min (min (capped * 10) (2 ^ 64 - 1) + (first - 48)) (2 ^ 64 - 1)
+    → ArePastDigits bytes capped rest → ArePastDigits bytes next after)
     (λ byte rest digit is_next so_far. record {
       digits = so_far.digits ++ byte ∷ [];
       parts = so_far.parts ∙ sym (append_assoc so_far.digits (byte ∷ []) rest);
@@ -223,7 +241,8 @@ pub small_digit : (bytes rest : List ℕ) (capped : ℕ) → 1 ≤ length rest �
 small_digit bytes rest capped some digit small so_far =
     let low : get_or rest 0 0 - 48 < 10 = grind (arith, digit) in
     let first : min (capped * 10) (2 ^ 64 - 1) ≡ capped * 10 = min-eq_left (omega (arith, small)) in
-    let second : min (capped * 10 + (get_or rest 0 0 - 48)) (2 ^ 64 - 1) ≡ capped * 10 + (get_or rest 0 0 - 48) = min-eq_left (omega (arith, small, low)) in
+    let second : min (capped * 10 + (get_or rest 0 0 - 48)) (2 ^ 64 - 1) ≡ capped * 10 + (get_or rest 0 0 - 48) =
+    min-eq_left (omega (arith, small, low)) in
     one_digit bytes rest capped (capped * 10 + (get_or rest 0 0 - 48)) some digit
     (sym (ap (λ n. min (n + (get_or rest 0 0 - 48)) (2 ^ 64 - 1)) first ∙ second)) so_far
 
@@ -250,7 +269,8 @@ few_more bytes n value below few digit h =
     let behind : after_head (drop n bytes) ≡ drop (n + 1) bytes =
     take_all (length (drop n bytes) - 1) (drop 1 (drop n bytes)) (omega (arith, length-drop 1 (drop n bytes))) ∙ drop-drop 1 n bytes in
     let more : ArePastDigits bytes (value * 10 + (get_or (drop n bytes) 0 0 - 48)) (after_head (drop n bytes)) =
-    small_digit bytes (drop n bytes) value (omega (arith, length-drop n bytes, below)) (ap is_digit first ∙ digit) (omega (arith, few_small bytes n value few h)) h.past in
+    small_digit bytes (drop n bytes) value (omega (arith, length-drop n bytes, below)) (ap is_digit first
+    ∙ digit) (omega (arith, few_small bytes n value few h)) h.past in
     record {
       past = subst (λ t. ArePastDigits bytes (value * 10 + (t - 48)) (drop (n + 1) bytes)) first
           (subst (ArePastDigits bytes (value * 10 + (get_or (drop n bytes) 0 0 - 48))) behind more);
@@ -296,15 +316,18 @@ unfolding is_natural
 not_all_digits digits [] word stop = cc
 not_all_digits digits (byte ∷ after) word stop =
     let first = before_first-no ends_word byte after (not-true (ends_word byte) word) in
-    and_right _ _ (ap (λ t. list_all is_digit (digits ++ t)) first ∙ list_all-append is_digit digits (byte ∷ before_first ends_word after) ∙ and_right _ _ (and_left _ _ stop))
+    and_right _ _ (ap (λ t. list_all is_digit (digits ++ t)) first ∙ list_all-append is_digit digits (byte ∷ before_first ends_word after)
+    ∙ and_right _ _ (and_left _ _ stop))
 
 word_goes_on : (digits after : List ℕ) → list_all is_digit digits ≡ true → begins_word after ≡ true → begins_with is_digit after ≡ false
     → next_natural (words_here (digits ++ after)) ≡ None
 word_goes_on digits after all word stop =
     let in_word = digits_in_word digits all in
-    let first : words_here (digits ++ after) ≡ before_first ends_word (digits ++ after) ∷ words_here (from_first ends_word (digits ++ after))
+    let first : words_here (digits ++ after) ≡ before_first ends_word (digits ++ after)
+    ∷ words_here (from_first ends_word (digits ++ after))
     = words_here-word (digits ++ after) (begins digits after in_word word) in
-    ap next_natural first ∙ ap natural_of (before_first-append ends_word digits after in_word) ∙ rw (not_all_digits digits after word stop) refl
+    ap next_natural first ∙ ap natural_of (before_first-append ends_word digits after in_word)
+    ∙ rw (not_all_digits digits after word stop) refl
   where
     begins : (digits after : List ℕ) → is_word digits ≡ true → begins_word after ≡ true → begins_word (digits ++ after) ≡ true
     begins [] after all word = word
@@ -326,7 +349,8 @@ pub no_natural : (rest : List ℕ) (capped : ℕ) (after : List ℕ) → ArePast
     → begins_word after ≡ true
     → None ≡ option_map (λ n. min n (2 ^ 64 - 1)) (next_natural (words_here rest))
 no_natural rest capped after h stop word =
-    sym (ap (λ t. option_map (λ n. min n (2 ^ 64 - 1)) (next_natural (words_here t))) h.parts ∙ ap (option_map (λ n. min n (2 ^ 64 - 1))) (word_goes_on h.digits after h.all word stop))
+    sym (ap (λ t. option_map (λ n. min n (2 ^ 64 - 1)) (next_natural (words_here t))) h.parts
+    ∙ ap (option_map (λ n. min n (2 ^ 64 - 1))) (word_goes_on h.digits after h.all word stop))
 
 -- no digits at the front
 pub no_natural_here : (rest : List ℕ) (capped : ℕ) (after : List ℕ) → ArePastDigits rest capped after → begins_with is_digit after ≡ false
@@ -336,7 +360,8 @@ no_natural_here rest capped after h stop no_blank same =
     let all : rest ≡ after = nothing h.digits after rest h.parts same in
     elim (cases_Bool (begins_word after)) as (λ _. None ≡ option_map (λ n. min n (2 ^ 64 - 1)) (next_natural (words_here rest))) [
       | inl word ↦ no_natural rest capped after h stop word
-      | inr none ↦ ap (λ ws. option_map (λ n. min n (2 ^ 64 - 1)) (next_natural ws)) (sym (no_word rest no_blank (ap begins_word all ∙ none)))
+      | inr none ↦ ap (λ ws. option_map (λ n. min n (2 ^ 64 - 1)) (next_natural ws))
+          (sym (no_word rest no_blank (ap begins_word all ∙ none)))
     ]
   where
     nothing : (digits after rest : List ℕ) → rest ≡ digits ++ after → length rest ≤ length after → rest ≡ after
@@ -352,7 +377,8 @@ behind-word (byte ∷ rest) = by_test (ends_word byte) refl (behind-word rest)
     in_line : (b : ℕ) → ends_word b ≡ false → is_line_feed b ≡ false
     in_line b e = (or_parts (is_blank b) (is_line_feed b) (or_parts (is_blank b || is_line_feed b) (is_hash b) e).0).1
 
-    by_test : (t : Bool) → ends_word byte ≡ t → behind (from_first ends_word rest) ≡ behind rest → behind (from_first ends_word (byte ∷ rest)) ≡ behind (byte ∷ rest)
+    by_test : (t : Bool) → ends_word byte ≡ t → behind (from_first ends_word rest) ≡ behind rest
+        → behind (from_first ends_word (byte ∷ rest)) ≡ behind (byte ∷ rest)
     by_test true e later = ap behind (from_first-yes ends_word byte rest e)
     by_test false e later = ap behind (from_first-no ends_word byte rest e) ∙ later ∙ sym (behind-other byte rest (in_line byte e))
 
@@ -400,7 +426,8 @@ unfolding cut
 few_lines [] = omega arith
 few_lines (byte ∷ text) = by_test (is_line_feed byte) (cut text) (few_lines text)
   where
-    by_test : (b : Bool) (lines : List (List ℕ)) → length lines ≤ length text → length (cond b ([] ∷ lines) (onto_first byte lines)) ≤ length (byte ∷ text)
+    by_test : (b : Bool) (lines : List (List ℕ)) → length lines ≤ length text
+        → length (cond b ([] ∷ lines) (onto_first byte lines)) ≤ length (byte ∷ text)
     by_test true lines few = omega (arith, few)
     by_test false [] few = omega (arith, few)
     by_test false (line ∷ lines) few = omega (arith, few)

@@ -62,8 +62,10 @@ pub whole_digits : (bytes after : List ℕ) → begins_with is_digit bytes ≡ t
 whole_digits bytes after first h stop =
     let some : begins_with is_digit h.digits ≡ true = first_digits h.digits after (ap (begins_with is_digit) (sym h.parts) ∙ first) stop in
     let front : before_first is_point h.digits ≡ h.digits
-    = ap (before_first is_point) (sym (append-nil h.digits)) ∙ before_first-append is_point h.digits [] (digits_no_point h.digits h.all) ∙ append-nil h.digits in
-    let back : after_first is_point h.digits ≡ [] = ap (after_first is_point) (sym (append-nil h.digits)) ∙ after_first-append h.digits [] h.all in
+    = ap (before_first is_point) (sym (append-nil h.digits)) ∙ before_first-append is_point h.digits [] (digits_no_point h.digits h.all)
+    ∙ append-nil h.digits in
+    let back : after_first is_point h.digits ≡ [] = ap (after_first is_point) (sym (append-nil h.digits))
+    ∙ after_first-append h.digits [] h.all in
     record {
       text = h.digits;
       parts = h.parts;
@@ -75,24 +77,30 @@ whole_digits bytes after first h stop =
 pub with_fraction : (bytes rest after : List ℕ) → begins_with is_digit bytes ≡ true → IsPastDigits bytes (46 ∷ rest)
     → IsPastDigits rest after → IsPastDecimal bytes after
 with_fraction bytes rest after first whole fraction =
-    let some : begins_with is_digit whole.digits ≡ true = first_digits whole.digits (46 ∷ rest) (ap (begins_with is_digit) (sym whole.parts) ∙ first) refl in
+    let some : begins_with is_digit whole.digits ≡ true = first_digits whole.digits (46 ∷ rest) (ap (begins_with is_digit) (sym whole.parts)
+    ∙ first) refl in
     let front : before_first is_point (whole.digits ++ 46 ∷ fraction.digits) ≡ whole.digits
     = before_first-append is_point whole.digits (46 ∷ fraction.digits) (digits_no_point whole.digits whole.all) ∙ append-nil whole.digits in
-    let back : after_first is_point (whole.digits ++ 46 ∷ fraction.digits) ≡ fraction.digits = after_first-append whole.digits (46 ∷ fraction.digits) whole.all in
-    let all : list_all is_digit (whole.digits ++ fraction.digits) ≡ true = list_all-append is_digit whole.digits fraction.digits ∙ rw (whole.all, fraction.all) refl in
+    let back : after_first is_point (whole.digits ++ 46 ∷ fraction.digits) ≡ fraction.digits =
+    after_first-append whole.digits (46 ∷ fraction.digits) whole.all in
+    let all : list_all is_digit (whole.digits ++ fraction.digits) ≡ true = list_all-append is_digit whole.digits fraction.digits
+    ∙ rw (whole.all, fraction.all) refl in
     record {
       text = whole.digits ++ 46 ∷ fraction.digits;
       parts = whole.parts ∙ ap (λ t. whole.digits ++ 46 ∷ t) fraction.parts ∙ sym (append_assoc whole.digits (46 ∷ fraction.digits) after);
-      plain = list_all-append is_plain whole.digits (46 ∷ fraction.digits) ∙ and_from _ _ (digits_plain whole.digits whole.all) (digits_plain fraction.digits fraction.all);
+      plain = list_all-append is_plain whole.digits (46 ∷ fraction.digits)
+          ∙ and_from _ _ (digits_plain whole.digits whole.all) (digits_plain fraction.digits fraction.all);
       first = first_append whole.digits (46 ∷ fraction.digits) some;
-      decimal = ap₂ (λ a b. is_natural (a ++ b)) front back ∙ natural_first (whole.digits ++ fraction.digits) (first_append whole.digits fraction.digits some) all;
+      decimal = ap₂ (λ a b. is_natural (a ++ b)) front back
+          ∙ natural_first (whole.digits ++ fraction.digits) (first_append whole.digits fraction.digits some) all;
     }
 
 pub with_point : (bytes rest after : List ℕ) → begins_with is_digit bytes ≡ true → IsPastDigits bytes rest → 1 ≤ length rest
     → get_or rest 0 0 ≡ 46 → IsPastDigits (after_head rest) after → IsPastDecimal bytes after
 with_point bytes rest after first whole some point fraction =
     by_head (λ head rest tail. IsPastDigits bytes rest → head ≡ 46 → IsPastDigits tail after → IsPastDecimal bytes after)
-    (λ byte tail whole point fraction. with_fraction bytes tail after first (subst (λ b. IsPastDigits bytes (b ∷ tail)) point whole) fraction)
+    (λ byte tail whole point fraction. with_fraction bytes tail after first (subst (λ b. IsPastDigits bytes (b ∷ tail)) point whole)
+    fraction)
     rest some whole point fraction
 
 -- ---- signs
@@ -164,7 +172,8 @@ plain_number rest after h stop =
     let word : List ℕ = s.sign ++ h.text in
     let parts : rest ≡ word ++ after = s.parts ∙ ap (λ t. s.sign ++ t) h.parts ∙ sym (append_assoc s.sign h.text after) in
     let some : is_filled word ≡ true = begins_filled s.sign h.text h.first in
-    let all : is_word word ≡ true = list_all-append (λ byte. not (ends_word byte)) s.sign h.text ∙ and_from _ _ s.word (plain_word h.text h.plain) in
+    let all : is_word word ≡ true = list_all-append (λ byte. not (ends_word byte)) s.sign h.text
+    ∙ and_from _ _ s.word (plain_word h.text h.plain) in
     let is_text : is_number_text word ≡ true = ap is_unsigned_text (s.away h.text h.first) ∙ plain_text h.text h.plain h.decimal in (
       ap (λ t. next_is_number_text (words_here t)) parts ∙ ap next_is_number_text (word_first word after some all stop) ∙ is_text,
       subst (λ t. IsPast 1 t after) (sym parts) (past_word word after some all stop),

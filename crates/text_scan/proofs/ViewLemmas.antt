@@ -53,7 +53,8 @@ finds : (text : List ℕ) (n : ℕ) (rest : List ℕ) (m : ℕ) (after : List �
     → Finds (unread_at text n rest) (unread_at text m after)
 finds text n rest m after h =
     let some : is_filled (words_here after) ≡ true = ap is_filled (words_here-word after h.word) in
-    let first : lines_from m after ≡ record { number = m; words = words_here after } ∷ lines_from (m + 1) (behind after) = lines_from_here m after ∙ rw some refl in
+    let first : lines_from m after ≡ record { number = m; words = words_here after } ∷ lines_from (m + 1) (behind after) =
+    lines_from_here m after ∙ rw some refl in
     let left : lines_left (unread_at text n rest) ≡ record { number = m; words = words_here after } ∷ lines_from (m + 1) (behind after)
     = lines_left-unread_at text n rest ∙ h.lines ∙ first in
     record { found = sym (ap is_filled left); place = sym (ap (at_line (unread_at text n rest)) left) }
@@ -95,7 +96,8 @@ filled_here rest no_blank = by_test (begins_word rest) refl
 pub has_word : (text : List ℕ) (n : ℕ) (rest after : List ℕ) (unread : Unread) → unread_at text n rest ≡ unread → IsPast 0 rest after
     → begins_with is_blank after ≡ false
     → begins_word after ≡ is_filled unread.words
-has_word text n rest after unread is h no_blank = filled_here after no_blank ∙ ap is_filled h.words ∙ ap (λ (u : Unread). is_filled u.words) is
+has_word text n rest after unread is h no_blank = filled_here after no_blank ∙ ap is_filled h.words
+    ∙ ap (λ (u : Unread). is_filled u.words) is
 
 pub no_word_left : (text : List ℕ) (n : ℕ) (rest after : List ℕ) (unread : Unread) → unread_at text n rest ≡ unread → IsPast 0 rest after
     → begins_with is_blank after ≡ false
@@ -123,7 +125,8 @@ pub moved_past : (text : List ℕ) (n : ℕ) (rest start after : List ℕ) (unre
 moved_past text n rest start after unread is h k = moved text n rest after unread is (both_past 0 1 rest start after h k)
 
 pub nothing_past : (unread : Unread) → unread.words ≡ [] → unread ≡ past_word unread
-nothing_past unread none = ap (λ (ws : List (List ℕ)). record unread { words = ws }) (none ∙ sym (ap (λ (ws : List (List ℕ)). drop 1 ws) none))
+nothing_past unread none = ap (λ (ws : List (List ℕ)). record unread { words = ws }) (none
+    ∙ sym (ap (λ (ws : List (List ℕ)). drop 1 ws) none))
 
 -- ---- how many words are left
 
@@ -142,7 +145,12 @@ few_words : (rest : List ℕ) → length (words_here rest) ≤ length rest
 unfolding words_here words
 few_words rest =
     let line : List ℕ = before_first is_line_feed rest in
-    omega (arith, few_parts (uncommented line), length-take (position_or_len (λ byte. eqb byte 35) line) line, length-take (position_or_len is_line_feed rest) rest)
+    omega (
+      arith,
+      few_parts (uncommented line),
+      length-take (position_or_len (λ byte. eqb byte 35) line) line,
+      length-take (position_or_len is_line_feed rest) rest,
+    )
 
 -- further on there are no more words than bytes
 pub few_left : (n : ℕ) (rest start after : List ℕ) → 0 < n → n + length rest < 2 ^ 64 → IsPast 0 rest start → IsPast 1 start after
@@ -165,9 +173,12 @@ pub a_line : (n m : ℕ) (rest found after text : List ℕ) (left : LinesLeft)
     → left ≡ record { lines = record { number = m; words = words_here found } ∷ lines_from m after; count = length (cut text) }
 a_line n m rest found after text left is h none same =
     let some : is_filled (words_here found) ≡ true = ap is_filled (words_here-word found h.word) in
-    let first : lines_from m found ≡ record { number = m; words = words_here found } ∷ lines_from (m + 1) (behind found) = lines_from_here m found ∙ rw some refl in
-    let others : lines_from m after ≡ lines_from (m + 1) (behind found) = lines_from_here m after ∙ rw none (ap (lines_from (m + 1)) same) in
-    sym is ∙ ap (λ (ls : List Line). record { lines = ls; count = length (cut text) }) (h.lines ∙ first ∙ ap (λ (ls : List Line). record { number = m; words = words_here found } ∷ ls) (sym others))
+    let first : lines_from m found ≡ record { number = m; words = words_here found } ∷ lines_from (m + 1) (behind found) =
+    lines_from_here m found ∙ rw some refl in
+    let others : lines_from m after ≡ lines_from (m + 1) (behind found) = lines_from_here m after
+    ∙ rw none (ap (lines_from (m + 1)) same) in
+    sym is ∙ ap (λ (ls : List Line). record { lines = ls; count = length (cut text) }) (h.lines ∙ first
+    ∙ ap (λ (ls : List Line). record { number = m; words = words_here found } ∷ ls) (sym others))
 
 pub none_in_line : (rest after : List ℕ) (left : List (List ℕ)) → words_here rest ≡ left → IsPast 0 rest after
     → begins_with is_blank after ≡ false → begins_word after ≡ false → left ≡ []
@@ -176,7 +187,8 @@ none_in_line rest after left is h no_blank e = sym is ∙ sym h.words ∙ no_wor
 pub first_in_line : (rest after word : List ℕ) (left : List (List ℕ)) → words_here rest ≡ left → IsPast 0 rest after
     → begins_word after ≡ true
     → word ≡ before_first ends_word after → Some word ≡ next_word left
-first_in_line rest after word left is h begin same = ap Some same ∙ sym (ap next_word (words_here-word after begin)) ∙ ap next_word (h.words ∙ is)
+first_in_line rest after word left is h begin same = ap Some same ∙ sym (ap next_word (words_here-word after begin))
+    ∙ ap next_word (h.words ∙ is)
 
 pub others_in_line : (rest start after : List ℕ) (left : List (List ℕ)) → words_here rest ≡ left → IsPast 0 rest start
     → IsPast 1 start after → words_here after ≡ drop 1 left

@@ -1,7 +1,8 @@
 -- The definitions at work. Each line is proved by computing.
 use Rattle.std.specs.Prelude.{◌≡◌, ℕ, true, false, List, [], ◌∷◌, ◌++◌, map, Some, None, codes, refl, pos, negsuc}
 use Rattle.text_scan.specs.Lines.{Line, unmarked, cut, words, lines_from, full_lines, end_line}
-use Rattle.text_scan.specs.Numbers.{is_natural, value_of, natural_of, signed_of, is_number_text}
+use Rattle.text_scan.specs.Unread.{are_words}
+use Rattle.text_scan.specs.Numbers.{is_natural, value_of, natural_of, signed_of, number_of, integer_of, is_number_text}
 
 -- a text from its lines, with no line feed behind the last
 abbrev text : List (List ℕ) → List ℕ
@@ -25,8 +26,8 @@ no_lines : cut [] ≡ []
 unfolding cut
 no_lines = refl
 
--- Tabs and carriage returns are blanks, and a comment may begin in a word.
-three_words : words (9 ∷ codes "4  x" ++ 13 ∷ codes "yz#q 5") ≡ codes "4" ∷ codes "x" ∷ codes "yz" ∷ []
+-- The five blanks, of which two are seldom seen, and a comment that begins in a word.
+three_words : words (9 ∷ codes "4" ++ 11 ∷ 12 ∷ codes "x " ++ 13 ∷ codes "yz#q 5") ≡ codes "4" ∷ codes "x" ∷ codes "yz" ∷ []
 unfolding words
 three_words = refl
 
@@ -70,6 +71,25 @@ whole_numbers : map signed_of (codes "-0" ∷ codes "-12" ∷ codes "7" ∷ code
     ≡ Some (pos 0) ∷ Some (negsuc 11) ∷ Some (pos 7) ∷ None ∷ None ∷ None ∷ []
 unfolding is_natural value_of
 whole_numbers = refl
+
+-- A number ends at 32 bits, and an integer at 64.
+small_numbers : map number_of (codes "4294967295" ∷ codes "4294967296" ∷ codes "-0" ∷ []) ≡ Some 4294967295 ∷ None ∷ None ∷ []
+unfolding is_natural value_of
+small_numbers = refl
+
+integers :
+    map integer_of
+    (codes "-9223372036854775808" ∷ codes "9223372036854775807" ∷ codes "-9223372036854775809" ∷ codes "9223372036854775808" ∷ [])
+    ≡ Some (negsuc 9223372036854775807) ∷ Some (pos 9223372036854775807) ∷ None ∷ None ∷ []
+unfolding is_natural value_of
+integers = refl
+
+-- Words are those of another line where each is the same, and as many are there.
+same_words :
+    map (are_words (codes "not" ∷ codes "so" ∷ []))
+    ((codes "not" ∷ codes "so" ∷ []) ∷ (codes "not" ∷ []) ∷ (codes "not" ∷ codes "so" ∷ codes "x" ∷ []) ∷ (codes "not" ∷ codes "s" ∷ []) ∷ [])
+    ≡ true ∷ false ∷ false ∷ false ∷ []
+same_words = refl
 
 number_texts :
     map is_number_text

@@ -1,5 +1,5 @@
 -- Words that are numbers.
-use Rattle.std.specs.Prelude.{ℕ, ◌+◌, ◌-◌, ◌*◌, Bool, true, ◌==◌, ◌&&◌, ◌||◌, nat_le, nat_lt, ◌^◌, if◌then◌else◌, List, [], ◌∷◌, ◌++◌, fold, Option, Some, None, option_map, codes, ℤ, pos, negsuc, neg_ℤ}
+use Rattle.std.specs.Prelude.{ℕ, ◌+◌, ◌-◌, ◌*◌, Bool, true, ◌==◌, ◌&&◌, ◌||◌, nat_le, nat_lt, ◌^◌, if◌then◌else◌, List, [], ◌∷◌, ◌++◌, fold, Option, Some, None, option_map, option_and_then, codes, ℤ, pos, negsuc, neg_ℤ}
 use Rattle.std.specs.List.{list_any, list_all, before_first, after_first}
 use Rattle.std.specs.Str.{bytes_eq}
 use Rattle.text_scan.specs.Lines.{is_filled}
@@ -30,6 +30,18 @@ signed_of (byte ∷ rest) =
 abbrev pub fits_i64 : ℤ → Bool
 fits_i64 (pos n) = nat_lt n (2 ^ 63)
 fits_i64 (negsuc n) = nat_lt n (2 ^ 63)
+
+-- the number that a word is, if it is a natural below the bound
+abbrev pub number_below : ℕ → List ℕ → Option ℕ
+number_below bound word = option_and_then (λ n. if nat_lt n bound then Some n else None) (natural_of word)
+
+-- the number that a word is, if it is a natural of 32 bits
+abbrev pub number_of : List ℕ → Option ℕ
+number_of = number_below (2 ^ 32)
+
+-- the integer that a word is, if it is one of 64 bits
+abbrev pub integer_of : List ℕ → Option ℤ
+integer_of word = option_and_then (λ n. if fits_i64 n then Some n else None) (signed_of word)
 
 -- a word without the sign that it may begin with
 abbrev pub unsigned : List ℕ → List ℕ

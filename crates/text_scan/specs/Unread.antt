@@ -1,8 +1,9 @@
 -- What a reader has still to read of a text.
-use Rattle.std.specs.Prelude.{ℕ, ◌+◌, ◌==◌, if◌then◌else◌, List, [], ◌∷◌, length, drop, Bool, false, Option, None, Some}
+use Rattle.std.specs.Prelude.{ℕ, ℤ, ◌+◌, ◌==◌, ◌&&◌, if◌then◌else◌, List, [], ◌∷◌, length, drop, Bool, true, false, Option, None, Some}
 use Rattle.std.specs.List.{before_first, after_first}
+use Rattle.std.specs.Str.{bytes_eq}
 use Rattle.text_scan.specs.Lines.{Line, is_filled, words, cut, lines_from}
-use Rattle.text_scan.specs.Numbers.{natural_of, is_number_text}
+use Rattle.text_scan.specs.Numbers.{natural_of, number_of, integer_of, is_number_text}
 
 -- a place in a text: the number of the present line, the words left in it, the lines behind it that are not blank,
 -- and the line where the text ends
@@ -39,6 +40,23 @@ next_word (word ∷ others) = Some word
 abbrev pub next_natural : List (List ℕ) → Option ℕ
 next_natural [] = None
 next_natural (word ∷ others) = natural_of word
+
+-- the same, if it has 32 bits
+abbrev pub next_number : List (List ℕ) → Option ℕ
+next_number [] = None
+next_number (word ∷ others) = number_of word
+
+-- the integer that the next word is, if there is one and it is an integer of 64 bits
+abbrev pub next_integer : List (List ℕ) → Option ℤ
+next_integer [] = None
+next_integer (word ∷ others) = integer_of word
+
+-- whether these words are those
+abbrev pub are_words : List (List ℕ) → List (List ℕ) → Bool
+are_words [] [] = true
+are_words [] (other ∷ others) = false
+are_words (word ∷ words) [] = false
+are_words (word ∷ words) (other ∷ others) = bytes_eq word other && are_words words others
 
 -- whether there is a next word and it is a number text
 abbrev pub next_is_number_text : List (List ℕ) → Bool

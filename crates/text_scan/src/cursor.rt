@@ -2,8 +2,10 @@
 ghost use Rattle.std.specs.Prelude.{◌≡◌, ◌+◌, ◌-◌, ◌^◌, ◌<◌, ◌≤◌, ◌↔◌, min, [], IsTrue, is_some, IfSome, IfNone, MatchOption, option_map, option_copied, if◌then◌else◌, length, slice_get};
 ghost use Rattle.std.specs.Bool.{OnTrue};
 ghost use Rattle.text_scan.specs.Lines.{is_filled, unmarked, full_lines, end_line};
-ghost use Rattle.text_scan.specs.Unread.{Unread, lines_left, at_line, past_word, next_word, next_natural, next_is_number_text, unread_at};
+ghost use Rattle.text_scan.specs.Unread.{Unread, lines_left, at_line, past_word, next_word, next_natural, next_number, next_integer, next_is_number_text, are_words, words_here, unread_at};
 
+use crate::line_by_line::Words;
+use crate::naturals::signed;
 use crate::steps::{
     after_blanks, after_line, begins_word, first_word, line_count, natural_at, number_text_at,
     word_at,
@@ -95,6 +97,53 @@ impl<'a> Cursor<'a> {
         let (value, rest) = natural_at(after_blanks(self.rest))?;
         self.rest = rest;
         Some(value)
+    }
+
+    /// The number of at most 2^32 - 1 that the next word of the present line is, and goes past that
+    /// word. `None` where it is none, or where the line has no further word.
+    #[inline(always)]
+    pub fn number(&mut self) -> Option<u32>
+        ensures value { result ≡ next_number self.old.words }
+        ensures place { self.new ≡ past_word self.old }
+    {
+        let Some(value) = self.natural() else {
+            let _ = self.word();
+            return None;
+        };
+        u32::try_from(value).ok()
+    }
+
+    /// The integer of 64 bits that the next word of the present line is, and goes past that word.
+    /// `None` where it is none, or where the line has no further word.
+    pub fn integer(&mut self) -> Option<i64>
+        ensures value { result ≡ next_integer self.old.words }
+        ensures place { self.new ≡ past_word self.old }
+    {
+        let word = self.word()?;
+        signed(word).ok()
+    }
+
+    /// Whether the words left in the present line are those of `line`, and goes past them if so.
+    /// Else nothing changes.
+    pub fn pass_words(&mut self, line: &[u8]) -> bool
+        ensures answer { result ≡ are_words self.old.words (words_here line.now) }
+        ensures place { self.new ≡ (if result then record self.old { words = [] } else self.old) }
+    {
+        let mut left = Words::of(self.rest);
+        let mut wanted = Words::of(line);
+        while let Some(word) = wanted.next() {
+            let Some(next) = left.next() else {
+                return false;
+            };
+            if next != word {
+                return false;
+            }
+        }
+        if left.next().is_some() {
+            return false;
+        }
+        self.pass_line();
+        true
     }
 
     /// Whether words are left in the present line.

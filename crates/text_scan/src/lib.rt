@@ -19,7 +19,7 @@ mod steps;
 
 pub use cursor::Cursor;
 pub use line_by_line::{Line, Lines, Words};
-pub use naturals::{NumberFault, is_number_text, natural, signed};
+pub use naturals::{NumberFault, is_number_text, natural, number, signed};
 
 #[cfg(test)]
 mod tests;

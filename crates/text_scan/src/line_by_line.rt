@@ -1,7 +1,7 @@
 //! The lines of a text, and the words of a line, one after the other.
 ghost use Rattle.std.specs.Prelude.{◌≡◌, [], ◌∷◌, drop, option_map, MatchOption};
 ghost use Rattle.text_scan.specs.Lines.{full_lines, line_count};
-ghost use Rattle.text_scan.specs.Unread.{LinesLeft, next_word};
+ghost use Rattle.text_scan.specs.Unread.{LinesLeft, next_word, words_here};
 
 use crate::cursor::unmarked;
 use crate::steps::{after_blanks, after_line, first_word, line_count, word_at};
@@ -91,7 +91,7 @@ impl<'a> Line<'a> {
     pub fn words(&self) -> Words<'a>
         ensures { result ≡ self.now.words }
     {
-        Words { rest: self.text }
+        Words::of(self.text)
     }
 }
 
@@ -111,6 +111,13 @@ impl<'a> Model for Words<'a> {
 }
 
 impl<'a> Words<'a> {
+    /// A place before the first word of a line, from which on the text is this one.
+    pub(crate) fn of(rest: &'a [u8]) -> Words<'a>
+        ensures { result ≡ words_here rest.now }
+    {
+        Words { rest }
+    }
+
     /// The next word, a part of the text that was handed in. `None` exactly where there is none.
     pub fn next(&mut self) -> Option<&'a [u8]>
         ensures word { option_map (λ word. word.now) result ≡ next_word self.old }

@@ -1,6 +1,6 @@
 //! Words that are numbers.
 ghost use Rattle.std.specs.Prelude.{◌≡◌, ◌^◌, ◌≤◌, ◌++◌, nat_lt, true, false, if◌then◌else◌, MatchOption, option_map, position, pos, neg_ℤ};
-ghost use Rattle.text_scan.specs.Numbers.{is_digit, is_natural, value_of, natural_of, signed_of, fits_i64, unsigned, is_point, is_exponent_mark, is_decimal, is_unsigned_text, is_number_text};
+ghost use Rattle.text_scan.specs.Numbers.{is_digit, is_natural, value_of, natural_of, number_of, signed_of, fits_i64, unsigned, is_point, is_exponent_mark, is_decimal, is_unsigned_text, is_number_text};
 ghost use Rattle.text_scan.specs.Steps.{begins_with, IsPastDigits};
 
 /// Why a word is no number.
@@ -21,6 +21,14 @@ pub fn natural(bytes: &[u8]) -> Result<u64, NumberFault>
         return Err(NumberFault::NotDigits);
     }
     value_of(bytes).ok_or(NumberFault::TooLarge)
+}
+
+/// The number that a word is, if it is one of at most 2^32 - 1; leading zeros are allowed.
+pub fn number(bytes: &[u8]) -> Option<u32>
+    ensures { result ≡ number_of bytes.now }
+{
+    let value = natural(bytes).ok()?;
+    u32::try_from(value).ok()
 }
 
 /// The number that a word is: digits with a `-` before them or none; leading zeros are allowed.

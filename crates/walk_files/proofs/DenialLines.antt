@@ -7,8 +7,8 @@ use Rattle.text_scan.specs.Lines.{Line, is_filled}
 use Rattle.text_scan.specs.Unread.{Unread, lines_left, at_line, past_word, next_word}
 use Rattle.quad_system.specs.Labellings.{FaceLabels, LabellingView}
 use Rattle.walk_files.specs.declared.fault.CertFault.TheVariants.{Bad}
-use Rattle.walk_files.specs.Each.{some_first, each_some}
-use Rattle.walk_files.specs.NumberTexts.{number_of}
+use Rattle.text_scan.specs.Each.{some_first, each_some}
+use Rattle.text_scan.specs.Numbers.{number_of}
 use Rattle.walk_files.specs.Denials.{sign_of, words_in, denial_in, AreFew}
 use Rattle.walk_files.proofs.FewLemmas.{found_line}
 

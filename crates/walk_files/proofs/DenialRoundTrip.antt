@@ -8,30 +8,25 @@ use Rattle.std.proofs.lemmas.Bool.{and_parts, and_from, ne_eqb}
 use Rattle.std.proofs.lemmas.List.{append-nil}
 use Rattle.std.proofs.lemmas.List.Elements.{All-head, All-tail, All-cons, All-nil}
 use Rattle.text_scan.specs.Lines.{Line, is_filled, unmarked, lines_from, full_lines, end_line}
-use Rattle.text_scan.specs.Numbers.{is_digit, is_natural, value_of, natural_of, signed_of, fits_i64}
+use Rattle.text_scan.specs.Numbers.{is_digit}
 use Rattle.text_scan.specs.Steps.{ends_word}
 use Rattle.text_scan.specs.Plain.{line_of}
 use Rattle.turn_words.specs.declared.word.Word.{Word}
 use Rattle.turn_words.specs.declared.word.Word.TheVariants.{Turns, Flat}
 use Rattle.quad_system.specs.Labellings.{FaceLabels, LabellingView}
 use Rattle.quad_system.specs.declared.denial.Denial.{Denial}
-use Rattle.walk_files.specs.Each.{each_some}
+use Rattle.text_scan.specs.Each.{each_some}
 use Rattle.walk_files.specs.declared.certificate.CertHead.TheVariants.{Labels}
 use Rattle.walk_files.specs.declared.certificate.Answer.TheVariants.{Different}
 use Rattle.walk_files.specs.declared.fault.CertFault.{CertFault}
-use Rattle.walk_files.specs.NumberTexts.{number_of, entries_of}
+use Rattle.text_scan.specs.Numbers.{number_of}
+use Rattle.walk_files.specs.NumberTexts.{entries_of}
 use Rattle.walk_files.specs.Certificates.{head_of, head_among, behind_head, head_of_text, fitting_head}
-use Rattle.walk_files.specs.Denials.{sign_of, face_of, is_places, places_of, integer_of, point_of, word_of, words_in, denial_in, unlabelled, denial_behind, denial_of_text}
+use Rattle.walk_files.specs.Denials.{sign_of, face_of, is_places, places_of, point_of, word_of, words_in, denial_in, unlabelled, denial_behind, denial_of_text}
 use Rattle.walk_files.specs.DenialTexts.{sign_word, face_words, places_words, entry_words, word_words, labels_head_words, lines_behind_faces, denial_lines, denial_text, AreNumbers, FitsDegree, ReadsBack}
-use Rattle.walk_files.proofs.WrittenLemmas.{IsWritable, IsLine, IsDecimal, decimal_is, numbered, lines_from-written, decimal-writable, number_below-decimal}
+use Rattle.text_scan.proofs.WrittenLemmas.{IsWritable, IsLine, IsDecimal, decimal_is, numbered, lines_from-written, decimal-writable, number_below-decimal, decimals-writable, numbers-read, integer-writable, integer-read}
 
 -- ---- the words that are written
-
-decimals-writable : (numbers : List ℕ) → AreNumbers numbers → All IsWritable (map decimal numbers)
-decimals-writable [] small = All-nil IsWritable
-decimals-writable (n ∷ numbers) small =
-    let fits : n < 2 ^ 32 = All-head (λ m. m < 2 ^ 32) n numbers small in
-    All-cons IsWritable (decimal n) (map decimal numbers) (decimal-writable n (omega (arith, fits))) (decimals-writable numbers (All-tail (λ m. m < 2 ^ 32) n numbers small))
 
 sign-writable : (flipped : Bool) → IsWritable (sign_word flipped)
 sign-writable true = record { filled = refl; inside = refl }
@@ -49,13 +44,6 @@ places-line places small = record {
   writable = All-cons IsWritable (codes "places") (map decimal places) (record { filled = refl; inside = refl }) (decimals-writable places small);
 }
 
--- an integer of 64 bits, and its digits
-below-64 : (z : ℤ) → fits_i64 z ≡ true → IsWritable (signed_decimal z)
-below-64 (pos n) fits = decimal-writable n (grind (arith, fits))
-below-64 (negsuc n) fits =
-    let digits : IsWritable (decimal (suc n)) = decimal-writable (suc n) (grind (arith, fits)) in
-    record { filled = refl; inside = digits.inside }
-
 word-line : (degree : ℕ) (word : Word) → FitsDegree degree word → IsLine (word_words word)
 word-line degree (Turns []) fits =
     record { filled = refl; writable = All-cons IsWritable (codes "empty") [] (record { filled = refl; inside = refl }) (All-nil IsWritable) }
@@ -63,17 +51,11 @@ word-line degree (Turns (entry ∷ entries)) fits = record { filled = refl; writ
 word-line degree (Flat x y) fits = record {
   filled = refl;
   writable =
-      All-cons IsWritable (signed_decimal x) (signed_decimal y ∷ []) (below-64 x fits.1)
-      (All-cons IsWritable (signed_decimal y) [] (below-64 y fits.2) (All-nil IsWritable));
+      All-cons IsWritable (signed_decimal x) (signed_decimal y ∷ []) (integer-writable x fits.1)
+      (All-cons IsWritable (signed_decimal y) [] (integer-writable y fits.2) (All-nil IsWritable));
 }
 
 -- ---- what is read of them
-
-numbers-read : (numbers : List ℕ) → AreNumbers numbers → each_some number_of (map decimal numbers) ≡ Some numbers
-numbers-read [] small = refl
-numbers-read (n ∷ numbers) small =
-    let fits : n < 2 ^ 32 = All-head (λ m. m < 2 ^ 32) n numbers small in
-    rw (number_below-decimal (2 ^ 32) n fits (omega (arith, fits)), numbers-read numbers (All-tail (λ m. m < 2 ^ 32) n numbers small)) refl
 
 sign-read : (flipped : Bool) → sign_of (sign_word flipped) ≡ Some flipped
 sign-read true = refl
@@ -89,7 +71,7 @@ no_places face = by_sign face.flipped
     by_sign true = refl
     by_sign false = refl
 
--- digits are not the word `empty`, and begin with no minus
+-- digits are not the word `empty`
 digits-no_empty : (word : List ℕ) → list_all is_digit word ≡ true → bytes_eq word (codes "empty") ≡ false
 digits-no_empty [] digits = refl
 digits-no_empty (byte ∷ word) digits =
@@ -106,32 +88,6 @@ entries-read (entry ∷ []) small =
     let digits = (decimal_is entry (omega (arith, fits))).all in
     ap (λ b. cond b (Some []) (each_some number_of (decimal entry ∷ []))) (digits-no_empty (decimal entry) digits) ∙ numbers-read (entry ∷ []) small
 entries-read (entry ∷ next ∷ entries) small = numbers-read (entry ∷ next ∷ entries) small
-
-natural-read : (n : ℕ) → n < 2 ^ 64 → natural_of (decimal n) ≡ Some n
-unfolding is_natural
-natural-read n fits =
-    let d = decimal_is n fits in
-    let natural : is_natural (decimal n) ≡ true = and_from (is_filled (decimal n)) (list_all is_digit (decimal n)) d.filled d.all in
-    rw (natural, d.value) refl
-
-no_minus : (word : List ℕ) → is_filled word ≡ true → list_all is_digit word ≡ true → signed_of word ≡ option_map pos (natural_of word)
-no_minus [] filled digits = cc
-no_minus (byte ∷ word) filled digits =
-    let first = (and_parts (is_digit byte) (list_all is_digit word) digits).0 in
-    let other : (byte == 45) ≡ false = no byte first in
-    rw other refl
-  where
-    no : (byte : ℕ) → is_digit byte ≡ true → (byte == 45) ≡ false
-    no byte digit = grind (arith, digit)
-
-integer-read : (z : ℤ) → fits_i64 z ≡ true → integer_of (signed_decimal z) ≡ Some z
-integer-read (pos n) fits =
-    let few : n < 2 ^ 64 = grind (arith, fits) in
-    let d = decimal_is n few in
-    rw (no_minus (decimal n) d.filled d.all, natural-read n few, fits) refl
-integer-read (negsuc n) fits =
-    let few : suc n < 2 ^ 64 = grind (arith, fits) in
-    rw (natural-read (suc n) few, fits) refl
 
 word-read : (degree : ℕ) (word : Word) → FitsDegree degree word → word_of degree (word_words word) ≡ Some word
 word-read degree (Turns entries) fits = rw (ne_eqb degree 4 fits.0, entries-read entries fits.1) refl

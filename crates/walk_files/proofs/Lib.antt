@@ -4,9 +4,9 @@ pub mod EachLemmas
 pub mod ListLemmas
 pub mod WordLists
 pub mod ReaderLemmas
-pub mod WrittenLemmas
 pub mod RoundTrip
 pub mod FewLemmas
 pub mod DenialLines
-pub mod GatherLemmas
+pub mod DenialParts
 pub mod DenialRoundTrip
+pub mod AnswerLines

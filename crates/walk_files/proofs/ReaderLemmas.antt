@@ -7,7 +7,7 @@ use Rattle.surf_model.specs.declared.moves.Move.{Move}
 use Rattle.walk_files.specs.declared.fault.CertFault.{CertFault}
 use Rattle.walk_files.specs.declared.fault.CertFault.TheVariants.{Bad, Ended, Extra}
 use Rattle.walk_files.specs.declared.certificate.CertHead.{CertHead}
-use Rattle.walk_files.specs.Each.{ok_first}
+use Rattle.text_scan.specs.Each.{ok_first}
 use Rattle.walk_files.specs.declared.certificate.CertHead.TheVariants.{Moves}
 use Rattle.walk_files.specs.Certificates.{behind_head, move_of, moves_in, moves_of_text}
 use Rattle.walk_files.specs.Readers.{Certificate, count_in, next_of, next_answer, after_answer, moves_left, answer_first}

@@ -10,10 +10,10 @@ use Rattle.surf_model.specs.declared.moves.Move.{Move}
 use Rattle.surf_model.specs.declared.moves.Move.TheVariants.{Insert, Remove, Across}
 use Rattle.walk_files.specs.declared.certificate.CertHead.TheVariants.{Moves}
 use Rattle.walk_files.specs.declared.certificate.Answer.TheVariants.{Homotopic}
-use Rattle.walk_files.specs.NumberTexts.{number_of}
+use Rattle.text_scan.specs.Numbers.{number_of}
 use Rattle.walk_files.specs.Certificates.{head_of, head_among, behind_head, direction_of, move_of, moves_in, head_of_text, fitting_head, moves_of_text, list_behind, list_of_text, with_peak}
 use Rattle.walk_files.specs.MoveTexts.{direction_word, move_words, head_words, list_lines, list_text, FitsFormat, MoveFits}
-use Rattle.walk_files.proofs.WrittenLemmas.{IsWritable, IsLine, numbered, lines_from-written, decimal-writable, number_below-decimal}
+use Rattle.text_scan.proofs.WrittenLemmas.{IsWritable, IsLine, numbered, lines_from-written, decimal-writable, number_below-decimal}
 
 -- ---- the words that are written
 

@@ -7,9 +7,10 @@ use Rattle.std.specs.Str.{bytes_eq}
 use Rattle.std.proofs.lemmas.Bool.{ltb-false}
 use Rattle.std.proofs.lemmas.List.Elements.{All-nil, All-cons}
 use Rattle.text_scan.specs.Lines.{Line, full_lines}
-use Rattle.walk_files.specs.Each.{some_first, each_some, ok_first, each_ok}
+use Rattle.text_scan.specs.Each.{some_first, each_some, ok_first, each_ok}
 use Rattle.walk_files.specs.NumberLists.{NumberLine}
-use Rattle.walk_files.specs.NumberTexts.{number_of, entries_of, numbers_on, line_of_numbers, on_line, words_of}
+use Rattle.text_scan.specs.Numbers.{number_of}
+use Rattle.walk_files.specs.NumberTexts.{entries_of, numbers_on, line_of_numbers, on_line, words_of}
 use Rattle.walk_files.specs.declared.fault.WalkFault.{WalkFault}
 use Rattle.walk_files.specs.declared.fault.WalkFault.TheVariants.{BadNumber, TooLong, TooMany}
 use Rattle.walk_files.specs.declared.limits.TheConstants.{MOST_LINES, MOST_ENTRIES}

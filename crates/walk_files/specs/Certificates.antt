@@ -3,12 +3,12 @@ use Rattle.std.specs.Prelude.{ℕ, ◌-◌, ◌^◌, Bool, true, false, ◌==◌
 use Rattle.std.specs.Option.{ok_or}
 use Rattle.std.specs.Str.{bytes_eq}
 use Rattle.text_scan.specs.Lines.{Line, full_lines, end_line}
+use Rattle.text_scan.specs.Numbers.{number_of, number_below}
+use Rattle.text_scan.specs.Each.{ok_first, ◌>>=◌}
 use Rattle.surf_model.specs.Moves.{PeakedMoves}
 use Rattle.surf_model.specs.declared.names.VertexName.{VertexName}
 use Rattle.surf_model.specs.declared.moves.Move.{Move}
 use Rattle.surf_model.specs.declared.moves.Move.TheVariants.{Insert, Remove, Across}
-use Rattle.walk_files.specs.Each.{ok_first}
-use Rattle.walk_files.specs.NumberTexts.{number_of, number_below}
 use Rattle.walk_files.specs.declared.limits.TheConstants.{MOST_PEAK}
 use Rattle.walk_files.specs.declared.fault.CertFault.{CertFault}
 use Rattle.walk_files.specs.declared.fault.CertFault.TheVariants.{NoHead, Bad, Ended, Extra, Peak}
@@ -16,11 +16,6 @@ use Rattle.walk_files.specs.declared.certificate.CertHead.{CertHead}
 use Rattle.walk_files.specs.declared.certificate.CertHead.TheVariants.{Moves, Labels}
 use Rattle.walk_files.specs.declared.certificate.Answer.{Answer}
 use Rattle.walk_files.specs.declared.certificate.Answer.TheVariants.{Homotopic, Different}
-
--- one reading, and then another
-infixl 10 ◌>>=◌
-abbrev pub ◌>>=◌ : {A B : Type 0} → Option A → (A → Option B) → Option B
-read >>= next = option_and_then next read
 
 -- what is read where the word is this one
 abbrev pub where_word : {A : Type 0} → List ℕ → List ℕ → Option A → Option A

@@ -46,26 +46,11 @@ denial_lines denial = labels_head_words denial.labelling.degree ∷ (map face_wo
 abbrev pub denial_text : Denial → List ℕ
 denial_text denial = flat_map line_of (denial_lines denial)
 
--- ---- its parts, which private contracts cite alone
-
--- a number behind a blank
-abbrev pub spaced : ℕ → List ℕ
-spaced n = 32 ∷ decimal n
-
--- the first entry of a turn word, or `empty`
-abbrev pub first_entry : List ℕ → List ℕ
-first_entry [] = codes "empty"
-first_entry (entry ∷ entries) = decimal entry
-
--- the lines up to the places
+-- the lines up to the places: the text of a labelling, which private contracts cite alone
 abbrev pub labelling_text : LabellingView → List ℕ
 labelling_text labelling =
     line_of (labels_head_words labelling.degree)
     ++ (flat_map (λ face. line_of (face_words face)) labelling.faces ++ line_of (places_words labelling.places))
-
--- the lines of the words
-abbrev pub words_text : Denial → List ℕ
-words_text denial = line_of (word_words denial.first) ++ line_of (word_words denial.second)
 
 -- ---- denials that read back
 

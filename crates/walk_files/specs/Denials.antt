@@ -1,16 +1,16 @@
 -- Denials: what the lines behind a head of labels mean.
-use Rattle.std.specs.Prelude.{ℕ, ◌==◌, ◌^◌, ◌<◌, Bool, true, false, if◌then◌else◌, List, [], ◌∷◌, ◌++◌, length, drop, All, codes, Option, Some, None, option_map, Result, Ok, Err, ℤ}
+use Rattle.std.specs.Prelude.{ℕ, ◌==◌, ◌^◌, ◌<◌, Bool, true, false, if◌then◌else◌, List, [], ◌∷◌, ◌++◌, length, drop, All, codes, Option, Some, None, option_map, Result, Ok, Err}
 use Rattle.std.specs.Option.{ok_or}
 use Rattle.std.specs.Str.{bytes_eq}
 use Rattle.text_scan.specs.Lines.{Line, full_lines, end_line}
-use Rattle.text_scan.specs.Numbers.{signed_of, fits_i64}
+use Rattle.text_scan.specs.Numbers.{number_of, integer_of}
+use Rattle.text_scan.specs.Each.{each_some, ◌>>=◌}
 use Rattle.turn_words.specs.declared.word.Word.{Word}
 use Rattle.turn_words.specs.declared.word.Word.TheVariants.{Turns, Flat}
 use Rattle.quad_system.specs.Labellings.{FaceLabels, LabellingView}
 use Rattle.quad_system.specs.declared.denial.Denial.{Denial}
-use Rattle.walk_files.specs.Each.{each_some}
-use Rattle.walk_files.specs.NumberTexts.{number_of, entries_of}
-use Rattle.walk_files.specs.Certificates.{◌>>=◌, behind_head, head_of_text}
+use Rattle.walk_files.specs.NumberTexts.{entries_of}
+use Rattle.walk_files.specs.Certificates.{behind_head, head_of_text}
 use Rattle.walk_files.specs.declared.fault.CertFault.{CertFault}
 use Rattle.walk_files.specs.declared.fault.CertFault.TheVariants.{Bad, Ended, Extra}
 use Rattle.walk_files.specs.declared.certificate.CertHead.{CertHead}
@@ -37,15 +37,6 @@ is_places (word ∷ words) = bytes_eq word (codes "places")
 abbrev pub places_of : List (List ℕ) → Option (List ℕ)
 places_of [] = None
 places_of (word ∷ words) = each_some number_of words
-
--- the integer that a word is, if it is one of 64 bits
-abbrev pub integer_of : List ℕ → Option ℤ
-integer_of word = signed_of word >>= (λ n. if fits_i64 n then Some n else None)
-
--- the integer that the next of some words is, if there is one and it is an integer
-abbrev pub first_integer : List (List ℕ) → Option ℤ
-first_integer [] = None
-first_integer (word ∷ words) = integer_of word
 
 -- the point that the words of a line are, which are exactly two integers
 abbrev pub point_of : List (List ℕ) → Option Word

@@ -1,23 +1,15 @@
 -- Texts of which each line is a list of numbers: walks, and turn words.
-use Rattle.std.specs.Prelude.{ℕ, ◌^◌, nat_lt, nat_le, if◌then◌else◌, List, [], ◌∷◌, length, codes, Option, Some, None, option_and_then, Result, Ok, Err}
+use Rattle.std.specs.Prelude.{ℕ, nat_lt, nat_le, if◌then◌else◌, List, [], ◌∷◌, length, codes, Option, Some, None, Result, Ok, Err}
 use Rattle.std.specs.Option.{ok_or}
 use Rattle.std.specs.List.{enumerate_from}
 use Rattle.std.specs.Str.{bytes_eq}
 use Rattle.text_scan.specs.Lines.{Line, full_lines}
-use Rattle.text_scan.specs.Numbers.{natural_of}
-use Rattle.walk_files.specs.Each.{each_some, each_ok}
+use Rattle.text_scan.specs.Numbers.{number_of}
+use Rattle.text_scan.specs.Each.{each_some, each_ok}
 use Rattle.walk_files.specs.NumberLists.{NumberLine}
 use Rattle.walk_files.specs.declared.fault.WalkFault.{WalkFault}
 use Rattle.walk_files.specs.declared.fault.WalkFault.TheVariants.{BadNumber, TooLong, TooMany}
 use Rattle.walk_files.specs.declared.limits.TheConstants.{MOST_LINES, MOST_WALK_VERTICES, MOST_ENTRIES}
-
--- the number that a word is, if it is a natural below the bound
-abbrev pub number_below : ℕ → List ℕ → Option ℕ
-number_below bound word = option_and_then (λ n. if nat_lt n bound then Some n else None) (natural_of word)
-
--- the number that a word is, if it is a natural of 32 bits
-abbrev pub number_of : List ℕ → Option ℕ
-number_of = number_below (2 ^ 32)
 
 -- the vertices of a walk: each word is a number
 abbrev pub walk_of : List (List ℕ) → Option (List ℕ)
@@ -27,11 +19,6 @@ walk_of = each_some number_of
 abbrev pub entries_of : List (List ℕ) → Option (List ℕ)
 entries_of (word ∷ []) = if bytes_eq word (codes "empty") then Some [] else each_some number_of (word ∷ [])
 entries_of words = each_some number_of words
-
--- the number that the next of some words is, if there is one and it is a number
-abbrev pub first_number : List (List ℕ) → Option ℕ
-first_number [] = None
-first_number (word ∷ words) = number_of word
 
 -- what the words of a line mean, of which there may be `most`, or the fault of the line
 abbrev pub numbers_on : (List (List ℕ) → Option (List ℕ)) → ℕ → ℕ → List (List ℕ) → Result (List ℕ) WalkFault

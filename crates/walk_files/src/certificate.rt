@@ -1,13 +1,12 @@
 //! Reading certificates.
-ghost use Rattle.std.specs.Prelude.{◌≡◌, ◌^◌, List, [], ◌∷◌, drop, OnOk, OnSome, Some};
+ghost use Rattle.std.specs.Prelude.{◌≡◌, ◌^◌, [], drop, OnOk, OnSome, Some, IsTrue, is_some, if◌then◌else◌};
 ghost use Rattle.text_scan.specs.Lines.{is_filled};
-ghost use Rattle.text_scan.specs.Unread.{lines_left, past_word};
+ghost use Rattle.text_scan.specs.Unread.{lines_left};
 ghost use Rattle.walk_files.specs.declared.certificate.CertHead.{CertHead};
-ghost use Rattle.walk_files.specs.Certificates.{fits, answer_word, head_of, head_in, head_among, behind_head, first_head};
+ghost use Rattle.walk_files.specs.Certificates.{fits, answer_of, head_of, head_in, head_among, behind_head, first_head};
 
 use crate::fault::CertFault;
 use crate::limits::MOST_PEAK;
-use crate::numbers::number;
 use text_scan::{Cursor, natural};
 
 /// The head of a certificate.
@@ -66,10 +65,24 @@ pub(crate) fn read_head(cursor: &mut Cursor<'_>) -> Result<CertHead, CertFault>
     if !cursor.find_line() {
         return Err(CertFault::NoHead);
     }
-    let keyword = cursor.word().unwrap();
-    match answer_of_word(keyword) {
-        Some(answer) if !cursor.has_word() => read_head_behind(cursor, answer),
-        _ => read_head_line(cursor, keyword, None),
+    match pass_answer(cursor) {
+        Some(answer) => read_head_behind(cursor, answer),
+        None => read_head_line(cursor, None),
+    }
+}
+
+/// The answer that stands alone on the present line, and goes past it. Where there is none, nothing changes.
+fn pass_answer(cursor: &mut Cursor<'_>) -> Option<Answer>
+    requires { IsTrue (is_filled cursor.old.words) }
+    ensures answer { result ≡ answer_of cursor.old.words }
+    ensures place { cursor.new ≡ (if is_some result then record cursor.old { words = [] } else cursor.old) }
+{
+    if cursor.pass_words(b"homotopic") {
+        Some(Answer::Homotopic)
+    } else if cursor.pass_words(b"different") {
+        Some(Answer::Different)
+    } else {
+        None
     }
 }
 
@@ -84,35 +97,17 @@ fn read_head_behind(cursor: &mut Cursor<'_>, answer: Answer) -> Result<CertHead,
             line: cursor.end_line(),
         });
     }
-    let keyword = cursor.word().unwrap();
-    read_head_line(cursor, keyword, Some(answer))
+    read_head_line(cursor, Some(answer))
 }
 
-/// The answer that a word is.
-fn answer_of_word(word: &[u8]) -> Option<Answer>
-    ensures { result ≡ answer_word word.now }
-{
-    if word == b"homotopic".as_slice() {
-        Some(Answer::Homotopic)
-    } else if word == b"different".as_slice() {
-        Some(Answer::Different)
-    } else {
-        None
-    }
-}
-
-/// Reads the head on the present line, of which the first word was read.
-fn read_head_line(
-    cursor: &mut Cursor<'_>,
-    keyword: &[u8],
-    answer: Option<Answer>,
-) -> Result<CertHead, CertFault>
-    ensures head { result ≡ head_in answer (record { number = cursor.old.line; words = keyword.now ∷ cursor.old.words }) }
+/// Reads the head on the present line, of which no word was read yet.
+fn read_head_line(cursor: &mut Cursor<'_>, answer: Option<Answer>) -> Result<CertHead, CertFault>
+    ensures head { result ≡ head_in answer (record { number = cursor.old.line; words = cursor.old.words }) }
     ensures place { cursor.new ≡ record cursor.old { words = cursor.new.words } }
     ensures ended { OnOk result (cursor.new.words ≡ []) }
 {
     let line = cursor.line();
-    let Some(head) = read_head_words(cursor, keyword) else {
+    let Some(head) = read_head_words(cursor) else {
         return Err(CertFault::Bad { line });
     };
     if !head_fits(answer, head) {
@@ -136,20 +131,20 @@ fn head_fits(answer: Option<Answer>, head: CertHead) -> bool
     }
 }
 
-/// The head that the words of a line are, of which the first was read.
-fn read_head_words(cursor: &mut Cursor<'_>, keyword: &[u8]) -> Option<CertHead>
-    ensures head { result ≡ head_of (keyword.now ∷ cursor.old.words) }
+/// The head that the words of the present line are.
+fn read_head_words(cursor: &mut Cursor<'_>) -> Option<CertHead>
+    ensures head { result ≡ head_of cursor.old.words }
     ensures place { cursor.new ≡ record cursor.old { words = cursor.new.words } }
     ensures ended { OnSome result (cursor.new.words ≡ []) }
 {
-    let head = match keyword {
+    let head = match cursor.word()? {
         b"MOVES" => {
             let count = natural(cursor.word()?).ok()?;
-            let peak = number(cursor)?;
+            let peak = cursor.number()?;
             CertHead::Moves { count, peak }
         }
         b"LABELS" => {
-            let degree = number(cursor)?;
+            let degree = cursor.number()?;
             CertHead::Labels { degree }
         }
         _ => return None,

@@ -1,19 +1,19 @@
 //! Reading denials.
 ghost use Rattle.std.specs.Prelude.{◌≡◌, ◌⊎◌, ◌^◌, ◌<◌, List, [], ◌∷◌, length, drop, IsTrue, Some, None, Ok, Err, OnOk, MatchResult};
 ghost use Rattle.text_scan.specs.Lines.{is_filled};
-ghost use Rattle.text_scan.specs.Unread.{lines_left, past_word};
+ghost use Rattle.text_scan.specs.Unread.{lines_left};
 ghost use Rattle.quad_system.specs.declared.denial.Denial.{Denial};
 ghost use Rattle.turn_words.specs.declared.word.Word.TheVariants.{Turns};
-ghost use Rattle.walk_files.specs.Each.{each_some};
-ghost use Rattle.walk_files.specs.NumberTexts.{number_of, entries_of};
-ghost use Rattle.walk_files.specs.Denials.{sign_of, first_integer, point_of, word_of, word_on, words_in, denial_in, unlabelled, AreFew};
+ghost use Rattle.text_scan.specs.Each.{each_some};
+ghost use Rattle.text_scan.specs.Numbers.{number_of};
+ghost use Rattle.walk_files.specs.NumberTexts.{entries_of};
+ghost use Rattle.walk_files.specs.Denials.{sign_of, point_of, word_of, word_on, words_in, denial_in, unlabelled, AreFew};
 ghost use Rattle.walk_files.specs.declared.fault.CertFault.TheVariants.{Bad, OutOfMemory};
 
 use crate::fault::CertFault;
-use crate::numbers::{number, number_of_word};
 use quad_system::{Denial, Labelling};
 use std::alloc::{AllocError, Global};
-use text_scan::{Cursor, signed};
+use text_scan::{Cursor, number};
 use turn_words::{TurnWord, Word};
 
 /// Reads the lines that are left, all of them, as the denial behind a head of this degree. Memory is taken for what was
@@ -89,7 +89,7 @@ fn read_face(cursor: &mut Cursor<'_>, sign: &[u8], labels: &mut Vec<u32>) -> Res
         return Err(CertFault::Bad { line });
     };
     while cursor.has_word() {
-        let Some(label) = number(cursor) else {
+        let Some(label) = cursor.number() else {
             return Err(CertFault::Bad { line });
         };
         labels.push(label).map_err(AllocError::from)?;
@@ -121,7 +121,7 @@ fn read_places(cursor: &mut Cursor<'_>, labelling: &mut Labelling) -> Result<(),
 {
     let line = cursor.line();
     while cursor.has_word() {
-        let Some(place) = number(cursor) else {
+        let Some(place) = cursor.number() else {
             return Err(CertFault::Bad { line });
         };
         labelling.push_place(place)?;
@@ -155,22 +155,12 @@ fn read_point(cursor: &mut Cursor<'_>) -> Option<Word>
     ensures place { cursor.new ≡ record cursor.old { words = cursor.new.words } }
     ensures ended { result ≡ None ⊎ (cursor.new.words ≡ []) }
 {
-    let x = integer(cursor)?;
-    let y = integer(cursor)?;
+    let x = cursor.integer()?;
+    let y = cursor.integer()?;
     if cursor.has_word() {
         return None;
     }
     Some(Word::Flat { x, y })
-}
-
-/// The integer that the next word is, and goes past that word. `None` where it is none, or where the line has no further
-/// word.
-fn integer(cursor: &mut Cursor<'_>) -> Option<i64>
-    ensures value { result ≡ first_integer cursor.old.words }
-    ensures place { cursor.new ≡ past_word cursor.old }
-{
-    let word = cursor.word()?;
-    signed(word).ok()
 }
 
 /// The turn word of the present line, of which no word was read yet.
@@ -189,12 +179,12 @@ fn read_turns(alloc: Global, cursor: &mut Cursor<'_>) -> Result<TurnWord, CertFa
     if word == b"empty".as_slice() && !cursor.has_word() {
         return Ok(turns);
     }
-    let Some(first) = number_of_word(word) else {
+    let Some(first) = number(word) else {
         return Err(CertFault::Bad { line });
     };
     turns.push(first)?;
     while cursor.has_word() {
-        let Some(entry) = number(cursor) else {
+        let Some(entry) = cursor.number() else {
             return Err(CertFault::Bad { line });
         };
         turns.push(entry)?;

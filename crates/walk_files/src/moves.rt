@@ -5,7 +5,6 @@ ghost use Rattle.walk_files.specs.Certificates.{direction_of, spur_of, across_of
 ghost use Rattle.walk_files.specs.Readers.{next_of};
 
 use crate::fault::CertFault;
-use crate::numbers::number;
 use surf_model::{FaceName, Move, VertexName};
 use text_scan::Cursor;
 
@@ -61,8 +60,8 @@ fn read_spur(cursor: &mut Cursor<'_>) -> Option<(u32, VertexName)>
     ensures place { cursor.new ≡ record cursor.old { words = cursor.new.words } }
     ensures ended { OnSome result (cursor.new.words ≡ []) }
 {
-    let at = number(cursor)?;
-    let via = number(cursor)?;
+    let at = cursor.number()?;
+    let via = cursor.number()?;
     if cursor.has_word() {
         return None;
     }
@@ -75,11 +74,11 @@ fn read_across(cursor: &mut Cursor<'_>) -> Option<Move>
     ensures place { cursor.new ≡ record cursor.old { words = cursor.new.words } }
     ensures ended { OnSome result (cursor.new.words ≡ []) }
 {
-    let at = number(cursor)?;
-    let face = FaceName(number(cursor)?);
-    let corner = number(cursor)?;
+    let at = cursor.number()?;
+    let face = FaceName(cursor.number()?);
+    let corner = cursor.number()?;
     let forward = read_direction(cursor.word()?)?;
-    let taken = number(cursor)?;
+    let taken = cursor.number()?;
     if cursor.has_word() {
         return None;
     }

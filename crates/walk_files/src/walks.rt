@@ -8,7 +8,7 @@ ghost use Rattle.walk_files.specs.NumberTexts.{walks_of, walk_of, numbers_on};
 
 use crate::fault::WalkFault;
 use crate::limits::{MOST_LINES, MOST_WALK_VERTICES};
-use crate::numbers::{fault_of_line, number};
+use crate::numbers::fault_of_line;
 use crate::walk_list::WalkList;
 use std::alloc::Global;
 use surf_model::{VertexName, Walk};
@@ -38,7 +38,7 @@ fn read_walk(alloc: Global, cursor: &mut Cursor<'_>) -> Result<Walk, WalkFault>
     ensures walk { (result ≡ numbers_on walk_of MOST_WALK_VERTICES cursor.old.line cursor.old.words) ⊎ (result ≡ Err OutOfMemory) }
     ensures place { OnOk result (cursor.new ≡ record cursor.old { words = [] }) }
 {
-    let Some(first) = number(cursor) else {
+    let Some(first) = cursor.number() else {
         return Err(fault_of_line(cursor, MOST_WALK_VERTICES - 1));
     };
     let mut walk = Walk::new(alloc, VertexName(first))?;
@@ -50,7 +50,7 @@ fn read_walk(alloc: Global, cursor: &mut Cursor<'_>) -> Result<Walk, WalkFault>
             });
         }
         room -= 1;
-        let Some(next) = number(cursor) else {
+        let Some(next) = cursor.number() else {
             return Err(fault_of_line(cursor, room));
         };
         walk.push(VertexName(next))?;

@@ -8,9 +8,9 @@ ghost use Rattle.walk_files.specs.NumberTexts.{words_of, entries_of, numbers_on}
 use crate::fault::WalkFault;
 use crate::limits::{MOST_ENTRIES, MOST_LINES};
 use crate::number_lines::{LinesBuilder, NumberLines};
-use crate::numbers::{fault_of_line, number_of_word};
+use crate::numbers::fault_of_line;
 use std::alloc::Global;
-use text_scan::Cursor;
+use text_scan::{Cursor, number};
 
 /// The turn words of a text, one on each line with words.
 pub fn read_words(alloc: Global, bytes: &[u8]) -> Result<NumberLines, WalkFault>
@@ -46,7 +46,7 @@ fn read_entries(cursor: &mut Cursor<'_>, lists: &mut LinesBuilder) -> Result<(),
         return Ok(());
     }
     let mut room = MOST_ENTRIES - 1;
-    let Some(first) = number_of_word(word) else {
+    let Some(first) = number(word) else {
         return Err(fault_of_line(cursor, room));
     };
     lists.push(first)?;

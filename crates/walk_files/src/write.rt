@@ -3,6 +3,7 @@ ghost use Rattle.std.specs.Prelude.{◌≡◌, ℕ, ◌+◌, ◌*◌, ◌≤◌,
 ghost use Rattle.text_scan.specs.Plain.{line_of};
 ghost use Rattle.surf_io.specs.Faults.{Rose};
 ghost use Rattle.surf_io.specs.Bytes.{Appends, AppendsPrefix};
+ghost use Rattle.surf_io.specs.Gathered.{Puts};
 ghost use Rattle.walk_files.specs.MoveTexts.{direction_word, move_words, head_words, list_text};
 
 use surf_io::{Failed, Piece, Sink};
@@ -20,14 +21,21 @@ pub fn write_moves<K: Sink>(list: &MoveList, sink: &mut K) -> Result<(), Failed>
     ensures same_settled { K.settled sink.new ≡ K.settled sink.old }
 {
     let mut piece = Piece::new();
-    put_head(&mut piece, list);
-    for k in 0..list.len() {
-        if piece.len() > Piece::ROOM - LINE_ROOM {
-            piece.write_out(sink)?;
-        }
-        put_move(&mut piece, list.at(k));
-    }
+    put_list(list, &mut piece, sink)?;
     piece.write_out(sink)
+}
+
+/// Puts the text of the list into a piece that has no bytes.
+fn put_list<K: Sink>(list: &MoveList, piece: &mut Piece, sink: &mut K) -> Result<(), Failed>
+    requires { piece.old ≡ [] }
+    ensures { Puts K.written K.settled K.faults result sink.old sink.new piece.old piece.new (list_text list.now) }
+{
+    put_head(piece, list);
+    for k in 0..list.len() {
+        piece.make_room(LINE_ROOM, sink)?;
+        put_move(piece, list.at(k));
+    }
+    Ok(())
 }
 
 /// Puts the line of the head.

@@ -7,7 +7,8 @@ pub loop-bytes-preserved : goal.loop-bytes-preserved
 loop-bytes-preserved g c =
     let bound : c.in-Ok-read.count ≤ length c.read.new.into = c.in-Ok-read.ensures.bound in
     let started : c.loop-bytes.filled ≤ length c.deref_mut.result.now = omega (arith, c.in-Ok.ensures.room, c.deref_mut.ensures.len) in
-    let in_piece : c.in-Ok-read.count ≤ length (take (length c.deref_mut.result.now - c.loop-bytes.filled) (drop c.loop-bytes.filled c.deref_mut.result.now)) =
+    let in_piece : c.in-Ok-read.count ≤ length
+    (take (length c.deref_mut.result.now - c.loop-bytes.filled) (drop c.loop-bytes.filled c.deref_mut.result.now)) =
     rw c.read.auto.into at bound in
     let within : c.loop-bytes.filled + c.in-Ok-read.count ≤ vec_len c.make_room.new.bytes =
     rw c.deref_mut.ensures.len at (within_rest c.deref_mut.result.now _ _ started in_piece) in

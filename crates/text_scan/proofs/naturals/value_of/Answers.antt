@@ -10,7 +10,8 @@ loop-digit-init c = refl
 pub returns-in_err-checked_mul : goal.returns-in_err-checked_mul
 returns-in_err-checked_mul c =
     rw c.from_residual.ensures
-    (value_past c.args.digits.now c.loop-digit.digit-index (2 ^ 64) c.loop-digit-test.true (grind (arith, c.in_err-checked_mul.ensures, c.loop-digit.invariant)))
+    (value_past c.args.digits.now c.loop-digit.digit-index (2 ^ 64) c.loop-digit-test.true
+    (grind (arith, c.in_err-checked_mul.ensures, c.loop-digit.invariant)))
 
 pub overflow_sub-digit : goal.overflow_sub-digit
 overflow_sub-digit c = natural_digit c.args.digits.now c.loop-digit.digit-index c.requires c.loop-digit-test.true
@@ -23,4 +24,11 @@ returns-in_err-value c =
 
 pub loop-digit-preserved : goal.loop-digit-preserved
 loop-digit-preserved c =
-    grind (arith, c.in_ok-value.ensures, c.in_ok-checked_mul.ensures, c.from.ensures, c.loop-digit.invariant, value_step c.args.digits.now c.loop-digit.digit-index c.loop-digit-test.true)
+    grind (
+      arith,
+      c.in_ok-value.ensures,
+      c.in_ok-checked_mul.ensures,
+      c.from.ensures,
+      c.loop-digit.invariant,
+      value_step c.args.digits.now c.loop-digit.digit-index c.loop-digit-test.true,
+    )

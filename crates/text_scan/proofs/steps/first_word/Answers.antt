@@ -4,11 +4,13 @@ use Rattle.text_scan.proofs.steps.first_word.Goals as goal
 
 pub loop-rest-preserved-then-is_blank : goal.loop-rest-preserved-then-is_blank
 loop-rest-preserved-then-is_blank c =
-    pass_blank c.args.start c.loop-rest.line c.args.bytes.now c.loop-rest.rest.now c.in-len1-up.len_at_least (sym c.if-is_blank.ensures) c.loop-rest.invariant
+    pass_blank c.args.start c.loop-rest.line c.args.bytes.now c.loop-rest.rest.now c.in-len1-up.len_at_least (sym c.if-is_blank.ensures)
+    c.loop-rest.invariant
 
 pub loop-rest-preserved-then-byte-eq10 : goal.loop-rest-preserved-then-byte-eq10
 loop-rest-preserved-then-byte-eq10 c =
-    pass_line_feed c.args.start c.loop-rest.line c.args.bytes.now c.loop-rest.rest.now c.in-len1-up.len_at_least c.if-byte-eq10.true c.loop-rest.invariant
+    pass_line_feed c.args.start c.loop-rest.line c.args.bytes.now c.loop-rest.rest.now c.in-len1-up.len_at_least c.if-byte-eq10.true
+    c.loop-rest.invariant
 
 pub loop-rest-preserved : goal.loop-rest-preserved
 loop-rest-preserved c =

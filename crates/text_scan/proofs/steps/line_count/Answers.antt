@@ -11,8 +11,10 @@ loop-rest-smaller c =
 pub loop-rest-preserved : goal.loop-rest-preserved
 loop-rest-preserved c =
     let step = one_line c.loop-rest.rest.now (sym c.loop-rest-test.ensures) in
-    let same = ap (λ t. length (cut t)) c.after_line_feed-rest.ensures in
-    (omega (arith, c.loop-rest.invariant.0, step.0, same), omega (arith, c.loop-rest.invariant.1, step.1, ap length c.after_line_feed-rest.ensures))
+    let same = ap (λ t. length (cut t)) c.after_line_feed-rest.ensures in (
+      omega (arith, c.loop-rest.invariant.0, step.0, same),
+      omega (arith, c.loop-rest.invariant.1, step.1, ap length c.after_line_feed-rest.ensures),
+    )
 
 pub returns : goal.returns
 returns c = omega (arith, c.loop-rest.invariant.0, no_lines c.loop-rest.rest.now (sym c.loop-rest-test.ensures))

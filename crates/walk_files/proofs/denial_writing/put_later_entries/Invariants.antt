@@ -1,6 +1,6 @@
-use Rattle.std.proofs.Common.{drop, ◌-◌}
-use Rattle.walk_files.specs.DenialTexts.{spaced}
-use Rattle.walk_files.proofs.GatherLemmas.{EachPut}
+use Rattle.std.proofs.Common.{◌-◌, drop}
+use Rattle.surf_io.specs.Gathered.{spaced}
+use Rattle.surf_io.proofs.Gathering.{EachPut}
 use Rattle.walk_files.proofs.denial_writing.put_later_entries.Given as goal
 
 -- the entries so far, behind the first, were put

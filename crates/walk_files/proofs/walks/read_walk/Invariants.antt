@@ -1,7 +1,7 @@
 use Rattle.std.proofs.Common.{◌≡◌, ◌+◌, length}
-use Rattle.walk_files.specs.Each.{each_some}
-use Rattle.walk_files.specs.NumberTexts.{number_of}
-use Rattle.walk_files.proofs.EachLemmas.{before_some}
+use Rattle.text_scan.specs.Each.{each_some}
+use Rattle.text_scan.specs.Numbers.{number_of}
+use Rattle.text_scan.proofs.EachLemmas.{before_some}
 use Rattle.walk_files.proofs.walks.read_walk.Given as goal
 
 -- the walk so far and the words left are those of the line

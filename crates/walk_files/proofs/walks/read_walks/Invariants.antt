@@ -1,9 +1,9 @@
 use Rattle.std.proofs.Common.{◌≡◌, ◌≤◌, length}
 use Rattle.std.specs.List.{enumerate_from}
 use Rattle.text_scan.specs.Unread.{lines_left}
-use Rattle.walk_files.specs.Each.{each_ok}
+use Rattle.text_scan.specs.Each.{each_ok}
 use Rattle.walk_files.specs.NumberTexts.{walks_of, walk_of, line_of_numbers}
-use Rattle.walk_files.proofs.EachLemmas.{before_ok}
+use Rattle.text_scan.proofs.EachLemmas.{before_ok}
 use Rattle.walk_files.proofs.walks.read_walks.Given as goal
 
 -- the walks so far and the lines left are those of the text

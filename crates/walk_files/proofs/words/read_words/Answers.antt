@@ -3,7 +3,7 @@ use Rattle.text_scan.specs.Lines.{Line}
 use Rattle.text_scan.specs.Unread.{lines_left}
 use Rattle.walk_files.specs.NumberLists.{NumberLine}
 use Rattle.walk_files.specs.NumberTexts.{entries_of, line_of_numbers, on_line}
-use Rattle.walk_files.proofs.EachLemmas.{before_ok-next}
+use Rattle.text_scan.proofs.EachLemmas.{before_ok-next}
 use Rattle.walk_files.proofs.words.read_words.Goals as goal
 
 pub loop-cursor-preserved : goal.loop-cursor-preserved

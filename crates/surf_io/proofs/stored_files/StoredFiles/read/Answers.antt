@@ -19,21 +19,26 @@ returns-then-eq-clause-absent c =
     let found : get c.args.self.now c.args.name.now ≡ Some c.deref.result.now =
     c.loop-file.invariant
     ∙ ap (λ files. find (slice_cmp nat_cmp) c.args.name.now (map entry_of files)) c.in-Some.ensures.steps
-    ∙ find-here c.args.name.now (string_bytes c.in-Some.file.now.name) c.in-Some.file.now.bytes.items (map entry_of (deque_iter_rest c.next.new.self)) (rw c.as_str.ensures.value at c.if-eq.ensures)
+    ∙ find-here c.args.name.now (string_bytes c.in-Some.file.now.name) c.in-Some.file.now.bytes.items
+    (map entry_of (deque_iter_rest c.next.new.self)) (rw c.as_str.ensures.value at c.if-eq.ensures)
     ∙ ap Some (sym c.deref.ensures.value) in
-    IsSomeAnd-found _ c.deref.result.now (λ bytes. GivesFrom bytes c.args.at c.copy_from.result c.copy_from.new.into) found c.copy_from.ensures.given
+    IsSomeAnd-found _ c.deref.result.now (λ bytes. GivesFrom bytes c.args.at c.copy_from.result c.copy_from.new.into) found
+    c.copy_from.ensures.given
 
 pub returns-then-eq-clause-full : goal.returns-then-eq-clause-full
 returns-then-eq-clause-full c =
     let found : get c.args.self.now c.args.name.now ≡ Some c.deref.result.now =
     c.loop-file.invariant
     ∙ ap (λ files. find (slice_cmp nat_cmp) c.args.name.now (map entry_of files)) c.in-Some.ensures.steps
-    ∙ find-here c.args.name.now (string_bytes c.in-Some.file.now.name) c.in-Some.file.now.bytes.items (map entry_of (deque_iter_rest c.next.new.self)) (rw c.as_str.ensures.value at c.if-eq.ensures)
+    ∙ find-here c.args.name.now (string_bytes c.in-Some.file.now.name) c.in-Some.file.now.bytes.items
+    (map entry_of (deque_iter_rest c.next.new.self)) (rw c.as_str.ensures.value at c.if-eq.ensures)
     ∙ ap Some (sym c.deref.ensures.value) in
-    IsSomeAnd-found _ c.deref.result.now (λ bytes. c.copy_from.result ≡ min (length c.copy_from.new.into) (length bytes - c.args.at)) found c.copy_from.ensures.full
+    IsSomeAnd-found _ c.deref.result.now (λ bytes. c.copy_from.result ≡ min (length c.copy_from.new.into) (length bytes - c.args.at)) found
+    c.copy_from.ensures.full
 
 pub loop-file-preserved : goal.loop-file-preserved
 loop-file-preserved c =
     c.loop-file.invariant
     ∙ ap (λ files. find (slice_cmp nat_cmp) c.args.name.now (map entry_of files)) c.in-Some.ensures.steps
-    ∙ find-past c.args.name.now (string_bytes c.in-Some.file.now.name) c.in-Some.file.now.bytes.items (map entry_of (deque_iter_rest c.next.new.self)) (rw c.as_str.ensures.value at c.if-eq.ensures)
+    ∙ find-past c.args.name.now (string_bytes c.in-Some.file.now.name) c.in-Some.file.now.bytes.items
+    (map entry_of (deque_iter_rest c.next.new.self)) (rw c.as_str.ensures.value at c.if-eq.ensures)

@@ -3,9 +3,11 @@ use Rattle.text_scan.proofs.cursor.Cursor.natural.Goals as goal
 
 pub returns-in_err-value-clause-few : goal.returns-in_err-value-clause-few
 returns-in_err-value-clause-few c =
-    few_here c.self.inside.text.now c.self.inside.line c.self.inside.rest.now c.args.self.now c.self.view_is c.self.invariant.0 c.self.invariant.1
+    few_here c.self.inside.text.now c.self.inside.line c.self.inside.rest.now c.args.self.now c.self.view_is c.self.invariant.0
+    c.self.invariant.1
 
 pub returns-clause-few : goal.returns-clause-few
 returns-clause-few c =
-    few_left c.self.inside.line c.self.inside.rest.now c.after_blanks.result.now c.in_ok-value.rest.now c.self.invariant.0 c.self.invariant.1 c.after_blanks.ensures.place
+    few_left c.self.inside.line c.self.inside.rest.now c.after_blanks.result.now c.in_ok-value.rest.now c.self.invariant.0
+    c.self.invariant.1 c.after_blanks.ensures.place
     c.in_ok-value.ensures.place

@@ -6,22 +6,26 @@ use Rattle.text_scan.proofs.cursor.Cursor.word.Goals as goal
 
 pub returns-in_err-word-clause-word : goal.returns-in_err-word-clause-word
 returns-in_err-word-clause-word c =
-    let none = no_word_left c.self.inside.text.now c.self.inside.line c.self.inside.rest.now c.after_blanks.result.now c.args.self.now c.self.view_is c.after_blanks.ensures.place
+    let none = no_word_left c.self.inside.text.now c.self.inside.line c.self.inside.rest.now c.after_blanks.result.now c.args.self.now
+    c.self.view_is c.after_blanks.ensures.place
     c.after_blanks.ensures.stop c.in_err-word.ensures.none in
     rw c.from_residual.ensures (sym (ap next_word none))
 
 pub returns-in_err-word-clause-place : goal.returns-in_err-word-clause-place
 returns-in_err-word-clause-place c =
-    let none = no_word_left c.self.inside.text.now c.self.inside.line c.self.inside.rest.now c.after_blanks.result.now c.args.self.now c.self.view_is c.after_blanks.ensures.place
+    let none = no_word_left c.self.inside.text.now c.self.inside.line c.self.inside.rest.now c.after_blanks.result.now c.args.self.now
+    c.self.view_is c.after_blanks.ensures.place
     c.after_blanks.ensures.stop c.in_err-word.ensures.none in
     nothing_past c.args.self.now none
 
 pub returns-clause-word : goal.returns-clause-word
 returns-clause-word c =
-    word_left c.self.inside.text.now c.self.inside.line c.self.inside.rest.now c.after_blanks.result.now c.in_ok-word.word.now c.args.self.now c.self.view_is c.after_blanks.ensures.place
+    word_left c.self.inside.text.now c.self.inside.line c.self.inside.rest.now c.after_blanks.result.now c.in_ok-word.word.now
+    c.args.self.now c.self.view_is c.after_blanks.ensures.place
     c.in_ok-word.ensures.some.0 c.in_ok-word.ensures.some.1
 
 pub returns-clause-place : goal.returns-clause-place
 returns-clause-place c =
-    moved_past c.self.inside.text.now c.self.inside.line c.self.inside.rest.now c.after_blanks.result.now c.in_ok-word.rest.now c.args.self.now c.self.view_is c.after_blanks.ensures.place
+    moved_past c.self.inside.text.now c.self.inside.line c.self.inside.rest.now c.after_blanks.result.now c.in_ok-word.rest.now
+    c.args.self.now c.self.view_is c.after_blanks.ensures.place
     (past_text c.after_blanks.result.now c.in_ok-word.rest.now c.in_ok-word.ensures.some.0 c.in_ok-word.ensures.some.2)

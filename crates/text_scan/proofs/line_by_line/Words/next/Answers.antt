@@ -23,5 +23,6 @@ returns-clause-word c =
 
 pub returns-clause-place : goal.returns-clause-place
 returns-clause-place c =
-    others_in_line c.self.inside.rest.now c.after_blanks.result.now c.in_ok-word.rest.now c.args.self.now c.self.view_is c.after_blanks.ensures.place
+    others_in_line c.self.inside.rest.now c.after_blanks.result.now c.in_ok-word.rest.now c.args.self.now c.self.view_is
+    c.after_blanks.ensures.place
     (past_text c.after_blanks.result.now c.in_ok-word.rest.now c.in_ok-word.ensures.some.0 c.in_ok-word.ensures.some.2)

@@ -1,0 +1,51 @@
+-- The answer that a line is.
+use Rattle.std.proofs.Common.{◌≡◌, ℕ, Bool, true, false, List, [], ◌∷◌, refl, sym, ap, ◌∙◌}
+use Rattle.std.specs.Prelude.{Option, Some, None, if◌then◌else◌, ◌&&◌, codes}
+use Rattle.std.specs.Str.{bytes_eq}
+use Rattle.text_scan.specs.Lines.{words}
+use Rattle.text_scan.specs.Unread.{Unread, are_words, words_here}
+use Rattle.walk_files.specs.declared.certificate.Answer.{Answer}
+use Rattle.walk_files.specs.declared.certificate.Answer.TheVariants.{Homotopic, Different}
+use Rattle.walk_files.specs.Certificates.{answer_of}
+
+-- by what two comparisons with the lines of the answers say
+abbrev by_tests : Bool → Bool → Option Answer
+by_tests homotopic different = if homotopic then Some Homotopic else if different then Some Different else None
+
+one_word : (b d : Bool) → by_tests b d ≡ by_tests (b && true) (d && true)
+one_word true d = refl
+one_word false true = refl
+one_word false false = refl
+
+more_words : (b d : Bool) → None ≡ by_tests (b && false) (d && false)
+more_words true true = refl
+more_words true false = refl
+more_words false true = refl
+more_words false false = refl
+
+answer_of-tests : (line : List (List ℕ))
+    → answer_of line ≡ by_tests (are_words line (words_here (codes "homotopic"))) (are_words line (words_here (codes "different")))
+unfolding words_here words
+answer_of-tests [] = refl
+answer_of-tests (word ∷ []) = one_word (bytes_eq word (codes "homotopic")) (bytes_eq word (codes "different"))
+answer_of-tests (word ∷ next ∷ line) = more_words (bytes_eq word (codes "homotopic")) (bytes_eq word (codes "different"))
+
+-- the line is the first answer, the second, or none
+pub homotopic-line : (line : List (List ℕ)) → true ≡ are_words line (words_here (codes "homotopic")) → Some Homotopic ≡ answer_of line
+homotopic-line line is = ap (λ b. by_tests b (are_words line (words_here (codes "different")))) is ∙ sym (answer_of-tests line)
+
+pub different-line : (old next : Unread) → false ≡ are_words old.words (words_here (codes "homotopic")) → next ≡ old
+    → true ≡ are_words next.words (words_here (codes "different")) → Some Different ≡ answer_of old.words
+different-line old next other same is =
+    ap (λ b. by_tests b true) other
+    ∙ ap (by_tests (are_words old.words (words_here (codes "homotopic"))))
+    (is ∙ ap (λ (u : Unread). are_words u.words (words_here (codes "different"))) same)
+    ∙ sym (answer_of-tests old.words)
+
+pub no_answer-line : (old next : Unread) → false ≡ are_words old.words (words_here (codes "homotopic")) → next ≡ old
+    → false ≡ are_words next.words (words_here (codes "different")) → None ≡ answer_of old.words
+no_answer-line old next other same is =
+    ap (λ b. by_tests b false) other
+    ∙ ap (by_tests (are_words old.words (words_here (codes "homotopic"))))
+    (is ∙ ap (λ (u : Unread). are_words u.words (words_here (codes "different"))) same)
+    ∙ sym (answer_of-tests old.words)

@@ -1,9 +1,0 @@
-use Rattle.text_scan.specs.Plain.{line_of}
-use Rattle.walk_files.specs.DenialTexts.{face_words}
-use Rattle.walk_files.proofs.GatherLemmas.{EachPut}
-use Rattle.walk_files.proofs.denial_writing.write_faces.Given as goal
-
--- the lines of the faces so far were put
-abbrev pub invariant-loop-k : goal.invariant-loop-k
-invariant-loop-k g l =
-    EachPut g.K.Sink.written g.K.Sink.settled g.K.Sink.faults l.initial.sink l.sink l.initial.piece l.piece (λ face. line_of (face_words face)) l.labelling.faces (l.k)
