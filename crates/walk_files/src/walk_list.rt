@@ -1,5 +1,5 @@
 //! The walks of a file.
-ghost use Rattle.std.specs.Prelude.{◌≡◌, ◌<◌, List, [], ◌∷◌, ◌++◌, length, slice_get, Some, OnOk, OnErr};
+ghost use Rattle.std.specs.Prelude.{◌≡◌, ◌<◌, List, [], ◌∷◌, ◌++◌, length, slice_get, Some, OnOk, OnErr, IfOk};
 
 use std::alloc::{AllocError, Global};
 use std::marker::Model;
@@ -27,6 +27,18 @@ impl WalkList {
         WalkList {
             walks: Vec::new(alloc),
         }
+    }
+
+    /// The list of these two walks. Where memory runs out they are gone.
+    pub fn pair(alloc: Global, first: Walk, second: Walk) -> Result<WalkList, AllocError>
+        ensures { IfOk result (λ walks. walks ≡ first ∷ second ∷ []) }
+    {
+        let mut walks = WalkList {
+            walks: Vec::with_capacity(alloc, 2)?,
+        };
+        walks.push(first)?;
+        walks.push(second)?;
+        Ok(walks)
     }
 
     /// Puts a walk last.
