@@ -1,0 +1,153 @@
+// The film of a list of moves. The judge goes along the list as the film plays, and back along it by the inverse moves.
+
+const MOST_FRAMES = 2000, BUDGET = 12;
+const COLOURS = { first: "#1c6dd0", second: "#e07b00", moving: "#14202b", wrong: "#c92a2a", glow: "#ffd43b" };
+
+class MovesFilm {
+  constructor(data) {
+    this.mesh = { faces: data.faces, isEdge: (u, v) => this.space.curves.has(u < v ? `${u} ${v}` : `${v} ${u}`) };
+    this.space = new Space(document.getElementById("space"), data);
+    this.ribbon = new Ribbon(this.space);
+    [this.first, this.second] = data.walks;
+    Object.assign(this, { lines: data.moves, peak: data.peak, walk: this.first, done: 0, refused: null, unit: "moves", pace: 0.8 });
+    this.frames = Math.min(this.lines.length, MOST_FRAMES);
+    this.isThinned = this.lines.length > this.frames;
+    this.drawn = "";
+    if (this.first.length > this.peak + 1) this.refused = { move: 0, reason: "peak" };
+    if (this.isThinned) this.unit = "frames";
+    this.listen();
+  }
+
+  // How many moves are done at a frame.
+  movesAt(frame) {
+    return this.frames ? Math.floor((frame * this.lines.length) / this.frames) : 0;
+  }
+
+  // Shows a place of the film, and says how far it came: not past a move that is refused.
+  show(place) {
+    const frame = Math.floor(place), wanted = this.movesAt(frame);
+    this.judgeUpTo(wanted);
+    let share = !this.isThinned && this.done === wanted ? place - frame : 0;
+    const next = share > 0 ? this.judged(this.done) : null;
+    if (next?.refused) [this.refused, share] = [{ move: this.done + 1, reason: next.refused }, 0];
+    this.paint(share, next);
+    return this.refused ? Math.min(place, (this.done * this.frames) / this.lines.length || 0) : place;
+  }
+
+  judged(move) {
+    return afterMove(this.mesh, this.walk, moveOfLine(this.lines[move]), this.peak);
+  }
+
+  // Makes moves, or takes them back, as far as there is time.
+  judgeUpTo(wanted) {
+    const until = performance.now() + BUDGET;
+    if (wanted < this.done - wanted) Object.assign(this, { walk: this.first, done: 0 });
+    while (this.done > wanted && performance.now() < until) {
+      this.walk = afterMove(this.mesh, this.walk, inverse(this.mesh, moveOfLine(this.lines[--this.done])), Infinity).walk;
+    }
+    while (this.done < wanted && performance.now() < until) {
+      const after = this.judged(this.done);
+      if (this.refused?.move === 0) return;
+      if (after.refused) {
+        this.refused = { move: this.done + 1, reason: after.refused };
+        return;
+      }
+      [this.walk, this.change] = [after.walk, after.change];
+      this.done++;
+    }
+  }
+
+  isSecond() {
+    return this.walk.length === this.second.length && this.walk.every((vertex, k) => vertex === this.second[k]);
+  }
+
+  verdict() {
+    if (this.refused?.move === 0) return ["wrong", "The first walk has more darts than the peak of the list."];
+    if (this.refused) return ["wrong", `Move ${this.refused.move} is refused: ${REFUSALS[this.refused.reason]}.`];
+    if (this.done < this.lines.length) return ["", this.done ? "Each move so far is allowed." : "No move is made yet."];
+    if (!this.isSecond()) return ["wrong", "All moves are made, and the walk is not the second one."];
+    return ["right", "The walk is the second walk, and each move was allowed."];
+  }
+
+  paint(share, next) {
+    const move = share > 0 ? this.done + 1 : this.done, [state] = this.verdict();
+    const look = [this.done, share, state, this.space.stale, this.space.canvas.clientWidth, this.space.canvas.clientHeight].join();
+    if (look === this.drawn) return;
+    this.drawn = look;
+    this.space.paint();
+    this.paintWalks(share, next);
+    this.tell(move, share > 0 ? next.change : null);
+  }
+
+  paintWalks(share, next) {
+    const { space, ribbon } = this, pen = space.canvas.getContext("2d");
+    pen.clearRect(0, 0, space.canvas.width, space.canvas.height);
+    pen.drawImage(space.still, 0, 0);
+    const wrong = this.refused?.move === this.done + 1 ? moveOfLine(this.lines[this.done]) : null;
+    const shown = wrong ?? (share > 0 ? moveOfLine(this.lines[this.done]) : null);
+    if (shown?.kind === "f" && this.mesh.faces[shown.face]) space.glow(pen, shown.face, wrong ? "#ff8787" : COLOURS.glow);
+    const [one, two] = ribbon.lanes(this.first, this.second);
+    ribbon.stroke(pen, ribbon.atRest(this.first, one), { width: 9, colour: `${COLOURS.first}70`, hidden: 0.4 });
+    ribbon.stroke(pen, ribbon.atRest(this.second, two), { width: 9, colour: `${COLOURS.second}70`, hidden: 0.4 });
+    const slides = share > 0 && Math.max(this.walk.length, next.walk.length) <= MOST_DARTS_IN_LANES;
+    const smooth = share * share * (3 - 2 * share);
+    const places = slides ? ribbon.between(this.walk, next.walk, next.change, smooth) : ribbon.atRest(this.walk);
+    const colour = this.refused ? COLOURS.wrong : COLOURS.moving;
+    ribbon.stroke(pen, places, { width: 4, colour, hidden: 0.55, dash: true });
+    if (this.walk.length <= MOST_DARTS_IN_LANES) ribbon.heads(pen, places, colour);
+    const last = this.walk.length - 1;
+    ribbon.dot(pen, this.walk[last], colour, 6);
+    ribbon.dot(pen, this.walk[0], COLOURS.first, 6);
+    space.number(pen);
+  }
+
+  tell(move, change) {
+    const put = (id, text) => (document.getElementById(id).textContent = text);
+    const frame = this.frames && Math.floor((this.done * this.frames) / this.lines.length);
+    put("step", `Move ${(this.refused?.move || move).toLocaleString("en")} of ${this.lines.length.toLocaleString("en")}`);
+    put("frame", this.isThinned ? `Frame ${frame} of ${this.frames}` : "");
+    const line = this.lines[(this.refused?.move || move) - 1];
+    put("saying", line ? moveInWords(moveOfLine(line)) : "the first walk");
+    put("line", line ?? "");
+    const [state, verdict] = this.verdict(), box = document.getElementById("verdict");
+    put("verdict", verdict);
+    box.className = state;
+    document.body.classList.toggle("wrong", state === "wrong");
+    put("darts", numberOf(this.walk.length - 1, "dart"));
+    this.tellWalk(change);
+  }
+
+  // The vertices of the walk, with the part marked that a move takes out; the middle of a long walk is left out.
+  tellWalk(change) {
+    const box = document.getElementById("walk"), parts = document.createDocumentFragment();
+    const marked = change ? [change.at, change.at + change.part.length - 1] : [-1, -1];
+    const from = change && this.walk.length > 120 ? Math.max(0, change.at - 40) : 0, to = Math.min(this.walk.length, from + 120);
+    if (from) parts.append(".. ");
+    for (let k = from; k < to; k++) {
+      const word = document.createElement(k >= marked[0] && k <= marked[1] ? "b" : "span");
+      word.textContent = this.walk[k];
+      parts.append(word, " ");
+    }
+    if (to < this.walk.length) parts.append("..");
+    box.replaceChildren(parts);
+  }
+
+  turn(right, down) {
+    this.space.turn(0.12 * right, 0.12 * down);
+  }
+
+  listen() {
+    const { canvas } = this.space;
+    canvas.addEventListener("pointerdown", (event) => canvas.setPointerCapture(event.pointerId));
+    canvas.addEventListener("pointermove", (event) => {
+      if (event.buttons) this.space.turn(event.movementX * 0.008, event.movementY * 0.008);
+    });
+    canvas.addEventListener("wheel", (event) => {
+      event.preventDefault();
+      this.space.magnify(Math.exp(-event.deltaY * 0.001));
+    }, { passive: false });
+  }
+}
+
+const film = new MovesFilm(JSON.parse(document.getElementById("data").textContent));
+const player = new Player(film);
