@@ -1,7 +1,8 @@
 // The film of a list of moves. The judge goes along the list as the film plays, and back along it by the inverse moves.
 
 const MOST_FRAMES = 2000, BUDGET = 12;
-const COLOURS = { first: "#1c6dd0", second: "#e07b00", moving: "#14202b", wrong: "#c92a2a", glow: "#ffd43b" };
+const COLOURS = { first: "#1c6dd0", second: "#e07b00", wrong: "#c92a2a", glow: "#ffd43b" };
+const MOVING = Ribbon.blend("#0b1a30", "#0fbf8f", 32);
 
 class MovesFilm {
   constructor(data) {
@@ -15,7 +16,7 @@ class MovesFilm {
     this.drawn = "";
     if (this.first.length > this.peak + 1) this.refused = { move: 0, reason: "peak" };
     if (this.isThinned) this.unit = "frames";
-    this.listen();
+    this.space.listen();
   }
 
   // How many moves are done at a frame.
@@ -87,17 +88,16 @@ class MovesFilm {
     const shown = wrong ?? (share > 0 ? moveOfLine(this.lines[this.done]) : null);
     if (shown?.kind === "f" && this.mesh.faces[shown.face]) space.glow(pen, shown.face, wrong ? "#ff8787" : COLOURS.glow);
     const [one, two] = ribbon.lanes(this.first, this.second);
-    ribbon.stroke(pen, ribbon.atRest(this.first, one), { width: 9, colour: `${COLOURS.first}70`, hidden: 0.4 });
-    ribbon.stroke(pen, ribbon.atRest(this.second, two), { width: 9, colour: `${COLOURS.second}70`, hidden: 0.4 });
+    ribbon.stroke(pen, ribbon.atRest(this.first, one), { width: 9, colours: [`${COLOURS.first}70`], hidden: 0.4 });
+    ribbon.stroke(pen, ribbon.atRest(this.second, two), { width: 9, colours: [`${COLOURS.second}70`], hidden: 0.4 });
     const slides = share > 0 && Math.max(this.walk.length, next.walk.length) <= MOST_DARTS_IN_LANES;
     const smooth = share * share * (3 - 2 * share);
     const places = slides ? ribbon.between(this.walk, next.walk, next.change, smooth) : ribbon.atRest(this.walk);
-    const colour = this.refused ? COLOURS.wrong : COLOURS.moving;
-    ribbon.stroke(pen, places, { width: 4, colour, hidden: 0.55, dash: true });
-    if (this.walk.length <= MOST_DARTS_IN_LANES) ribbon.heads(pen, places, colour);
-    const last = this.walk.length - 1;
-    ribbon.dot(pen, this.walk[last], colour, 6);
-    ribbon.dot(pen, this.walk[0], COLOURS.first, 6);
+    const colours = this.refused ? [COLOURS.wrong] : MOVING, last = this.walk.length - 1;
+    ribbon.stroke(pen, places, { width: 4.5, colours, hidden: 0.55, dash: true });
+    if (last < MOST_DARTS_IN_LANES) ribbon.heads(pen, places, colours);
+    ribbon.dot(pen, this.walk[last], colours[colours.length - 1], 6);
+    ribbon.dot(pen, this.walk[0], colours[0], 6);
     space.number(pen);
   }
 
@@ -134,18 +134,6 @@ class MovesFilm {
 
   turn(right, down) {
     this.space.turn(0.12 * right, 0.12 * down);
-  }
-
-  listen() {
-    const { canvas } = this.space;
-    canvas.addEventListener("pointerdown", (event) => canvas.setPointerCapture(event.pointerId));
-    canvas.addEventListener("pointermove", (event) => {
-      if (event.buttons) this.space.turn(event.movementX * 0.008, event.movementY * 0.008);
-    });
-    canvas.addEventListener("wheel", (event) => {
-      event.preventDefault();
-      this.space.magnify(Math.exp(-event.deltaY * 0.001));
-    }, { passive: false });
   }
 }
 

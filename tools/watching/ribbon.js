@@ -122,32 +122,41 @@ class Ribbon {
     return places.map(([x, y, z]) => [x, y, this.space.isSeen(x, y, z)]);
   }
 
-  // Strokes what is seen of some places in one style, and what is hidden in another.
-  stroke(pen, places, { width, colour, hidden, dash }) {
+  // Strokes what is seen of some places in one style, and what is hidden in another. Where there are colours, the ribbon goes
+  // through all of them from its start to its end.
+  stroke(pen, places, { width, colours, hidden, dash }) {
     pen.lineJoin = pen.lineCap = "round";
-    pen.strokeStyle = colour;
     for (const seen of [false, true]) {
-      pen.beginPath();
-      for (let k = 0; k + 1 < places.length; k++) {
-        if ((places[k][2] && places[k + 1][2]) !== seen) continue;
-        const goesOn = k > 0 && (places[k - 1][2] && places[k][2]) === seen;
-        if (!goesOn) pen.moveTo(places[k][0], places[k][1]);
-        pen.lineTo(places[k + 1][0], places[k + 1][1]);
-      }
       pen.globalAlpha = seen ? 1 : hidden;
       pen.lineWidth = (seen ? width : Math.min(width, 2.5)) * this.space.scale;
       pen.setLineDash(!seen && dash ? [5 * this.space.scale, 6 * this.space.scale] : []);
-      pen.stroke();
+      for (let part = 0; part < colours.length; part++) {
+        const from = Math.floor((part * (places.length - 1)) / colours.length);
+        const to = Math.floor(((part + 1) * (places.length - 1)) / colours.length);
+        pen.strokeStyle = colours[part];
+        this.strokePart(pen, places, from, to, seen);
+      }
     }
     pen.setLineDash([]);
     pen.globalAlpha = 1;
   }
 
+  strokePart(pen, places, from, to, seen) {
+    let goesOn = false;
+    pen.beginPath();
+    for (let k = from; k < to; k++) {
+      const [p, q] = [places[k], places[k + 1]], fits = (p[2] && q[2]) === seen;
+      if (fits && !goesOn) pen.moveTo(p[0], p[1]);
+      if (fits) pen.lineTo(q[0], q[1]);
+      goesOn = fits;
+    }
+    pen.stroke();
+  }
+
   // Small heads along a ribbon, which show the way it runs.
-  heads(pen, places, colour) {
+  heads(pen, places, colours) {
     const size = 6.5 * this.space.scale, apart = 64 * this.space.scale;
     let left = apart / 2;
-    pen.fillStyle = colour;
     for (let k = 0; k + 1 < places.length; k++) {
       const [x, y, seen] = places[k], [dx, dy] = [places[k + 1][0] - x, places[k + 1][1] - y], step = Math.hypot(dx, dy);
       left -= step;
@@ -155,12 +164,19 @@ class Ribbon {
       left = apart;
       if (!seen) continue;
       const [ux, uy] = [(dx / step) * size, (dy / step) * size];
+      pen.fillStyle = colours[Math.floor((k * colours.length) / places.length)];
       pen.beginPath();
       pen.moveTo(x + 1.3 * ux, y + 1.3 * uy);
       pen.lineTo(x - 0.7 * ux - uy, y - 0.7 * uy + ux);
       pen.lineTo(x - 0.7 * ux + uy, y - 0.7 * uy - ux);
       pen.fill();
     }
+  }
+
+  // Colours from one to another, in even steps.
+  static blend(from, to, count) {
+    const channels = (colour) => [1, 3, 5].map((k) => parseInt(colour.slice(k, k + 2), 16)), [one, two] = [channels(from), channels(to)];
+    return Array.from({ length: count }, (_, k) => `rgb(${one.map((c, i) => Math.round(c + ((two[i] - c) * k) / (count - 1)))})`);
   }
 
   dot(pen, vertex, colour, size) {

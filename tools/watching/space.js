@@ -39,6 +39,19 @@ class Space {
     return sum.map((part) => part / size);
   }
 
+  // Dragging turns the mesh, and the wheel brings it nearer.
+  listen() {
+    const { canvas } = this;
+    canvas.addEventListener("pointerdown", (event) => canvas.setPointerCapture(event.pointerId));
+    canvas.addEventListener("pointermove", (event) => {
+      if (event.buttons) this.turn(event.movementX * 0.008, event.movementY * 0.008);
+    });
+    canvas.addEventListener("wheel", (event) => {
+      event.preventDefault();
+      this.magnify(Math.exp(-event.deltaY * 0.001));
+    }, { passive: false });
+  }
+
   turn(right, down) {
     this.azimuth += right;
     this.elevation = Math.min(Math.PI / 2, Math.max(-Math.PI / 2, this.elevation + down));
