@@ -51,7 +51,7 @@ class DenialFilm {
 
   // Shows a place of the film, and says how far it came: not past the end of a walk whose word is not the one printed.
   show(place) {
-    const limit = this.wrongAt(), reached = Math.min(place, limit), look = [reached, this.space.stale, innerWidth, innerHeight].join();
+    const limit = this.wrongAt(), reached = Math.min(place, limit), look = [reached, this.space.isStale(), innerWidth, innerHeight].join();
     if (look === this.drawn) return reached;
     this.drawn = look;
     for (const { step, frame, ways } of this.steps) {
@@ -124,7 +124,6 @@ class DenialFilm {
     const { space, ribbon } = this, pen = space.canvas.getContext("2d");
     space.paint();
     pen.clearRect(0, 0, space.canvas.width, space.canvas.height);
-    pen.drawImage(space.still, 0, 0);
     const first = this.walks[0].length - 1, done = [Math.min(first, Math.ceil(place)), Math.max(0, Math.ceil(place) - first)];
     const parts = this.walks.map((walk, w) => walk.slice(0, done[w] + 1)), lanes = ribbon.lanes(...parts);
     parts.forEach((part, w) => {

@@ -1,14 +1,15 @@
 // The film of a list of moves. The judge goes along the list as the film plays, and back along it by the inverse moves.
 
-const MOST_FRAMES = 2000, BUDGET = 12;
+const MOST_FRAMES = 2000, MOST_TOLD = 120, BUDGET = 12;
 const COLOURS = { first: "#1c6dd0", second: "#e07b00", wrong: "#c92a2a", glow: "#ffd43b" };
-const MOVING = Ribbon.blend("#0b1a30", "#0fbf8f", 32);
+const MOVING = Ribbon.blend("#0b1a30", "#0fbf8f", 16);
 
 class MovesFilm {
   constructor(data) {
     this.mesh = { faces: data.faces, isEdge: (u, v) => this.space.curves.has(u < v ? `${u} ${v}` : `${v} ${u}`) };
     this.space = new Space(document.getElementById("space"), data);
     this.ribbon = new Ribbon(this.space);
+    this.space.paintOver = (pen) => this.paintBands(pen);
     [this.first, this.second] = data.walks;
     Object.assign(this, { lines: data.moves, peak: data.peak, walk: this.first, done: 0, refused: null, unit: "moves", pace: 0.8 });
     this.frames = Math.min(this.lines.length, MOST_FRAMES);
@@ -72,24 +73,32 @@ class MovesFilm {
 
   paint(share, next) {
     const move = share > 0 ? this.done + 1 : this.done, [state] = this.verdict();
-    const look = [this.done, share, state, this.space.stale, this.space.canvas.clientWidth, this.space.canvas.clientHeight].join();
+    const look = [this.done, share, state, this.space.isStale(), this.space.canvas.clientWidth, this.space.canvas.clientHeight].join();
     if (look === this.drawn) return;
     this.drawn = look;
     this.space.paint();
     this.paintWalks(share, next);
+    const telling = [this.done, share > 0, state].join();
+    if (telling === this.told) return;
+    this.told = telling;
     this.tell(move, share > 0 ? next.change : null);
+  }
+
+  // Both walks as bands on the mesh.
+  paintBands(pen) {
+    const { ribbon } = this, lanes = ribbon.lanes(this.first, this.second);
+    [this.first, this.second].forEach((walk, w) => {
+      const colours = [`${[COLOURS.first, COLOURS.second][w]}80`];
+      ribbon.stroke(pen, ribbon.atRest(walk, lanes[w]), { width: 9, colours, hidden: 0.4 });
+    });
   }
 
   paintWalks(share, next) {
     const { space, ribbon } = this, pen = space.canvas.getContext("2d");
     pen.clearRect(0, 0, space.canvas.width, space.canvas.height);
-    pen.drawImage(space.still, 0, 0);
     const wrong = this.refused?.move === this.done + 1 ? moveOfLine(this.lines[this.done]) : null;
     const shown = wrong ?? (share > 0 ? moveOfLine(this.lines[this.done]) : null);
     if (shown?.kind === "f" && this.mesh.faces[shown.face]) space.glow(pen, shown.face, wrong ? "#ff8787" : COLOURS.glow);
-    const [one, two] = ribbon.lanes(this.first, this.second);
-    ribbon.stroke(pen, ribbon.atRest(this.first, one), { width: 9, colours: [`${COLOURS.first}70`], hidden: 0.4 });
-    ribbon.stroke(pen, ribbon.atRest(this.second, two), { width: 9, colours: [`${COLOURS.second}70`], hidden: 0.4 });
     const slides = share > 0 && Math.max(this.walk.length, next.walk.length) <= MOST_DARTS_IN_LANES;
     const smooth = share * share * (3 - 2 * share);
     const places = slides ? ribbon.between(this.walk, next.walk, next.change, smooth) : ribbon.atRest(this.walk);
@@ -117,19 +126,15 @@ class MovesFilm {
     this.tellWalk(change);
   }
 
-  // The vertices of the walk, with the part marked that a move takes out; the middle of a long walk is left out.
+  // The vertices of the walk, with the part marked that a move takes out; of a long walk those round that part.
   tellWalk(change) {
-    const box = document.getElementById("walk"), parts = document.createDocumentFragment();
-    const marked = change ? [change.at, change.at + change.part.length - 1] : [-1, -1];
-    const from = change && this.walk.length > 120 ? Math.max(0, change.at - 40) : 0, to = Math.min(this.walk.length, from + 120);
-    if (from) parts.append(".. ");
-    for (let k = from; k < to; k++) {
-      const word = document.createElement(k >= marked[0] && k <= marked[1] ? "b" : "span");
-      word.textContent = this.walk[k];
-      parts.append(word, " ");
-    }
-    if (to < this.walk.length) parts.append("..");
-    box.replaceChildren(parts);
+    const [start, end] = change ? [change.at, change.at + change.part.length] : [0, 0];
+    const from = this.walk.length > MOST_TOLD ? Math.max(0, start - MOST_TOLD / 2) : 0, to = Math.min(this.walk.length, from + MOST_TOLD);
+    const words = (k, l) => this.walk.slice(k, Math.max(k, Math.min(l, to))).map((vertex) => `${vertex} `).join("");
+    const marked = document.createElement("b");
+    marked.textContent = words(start, end).trim();
+    document.getElementById("walk").replaceChildren(from ? ".. " : "", words(from, start), ...(change ? [marked, " "] : []),
+      words(Math.max(from, end), to), to < this.walk.length ? ".." : "");
   }
 
   turn(right, down) {

@@ -33,7 +33,7 @@ class Ribbon {
     return lanes;
   }
 
-  // The places along a dart, its ends drawn in, moved to the right by some lanes.
+  // The places along a dart, moved to the right by some lanes: those inside, its ends drawn in, and the ends themselves.
   along(u, v, lane) {
     const { space } = this, curve = this.curve(u, v), spots = [];
     for (let k = 0; k + 1 < curve.length; k++) {
@@ -46,21 +46,22 @@ class Ribbon {
       }
     }
     const drawnIn = Math.min(Math.round((10 * space.scale) / (SAMPLE * space.scale)), Math.floor((spots.length - 1) / 3));
-    return spots.slice(drawnIn, spots.length - drawnIn);
+    return { inner: spots.slice(drawnIn, spots.length - drawnIn), start: spots[0], end: spots[spots.length - 1] };
   }
 
   // The places along a walk, along its darts and round its corners; and for each dart, and behind the last one, at which place
   // the corner before it begins and ends.
   places(walk, lanes = this.lanes(walk)[0]) {
     const places = [this.spotOf(walk[0])], corners = [[0, 1]];
-    for (let k = 0; k + 1 < walk.length; k++) {
+    for (let k = 0, before = null; k + 1 < walk.length; k++) {
       const dart = this.along(walk[k], walk[k + 1], lanes[k]);
-      if (k > 0) {
+      if (before) {
         const start = places.length;
-        this.bend(places, this.spotOf(walk[k]), dart[0]);
+        this.bend(places, before.end.map((x, i) => (x + dart.start[i]) / 2), dart.inner[0]);
         corners.push([start, places.length]);
       }
-      places.push(...dart);
+      places.push(...dart.inner);
+      before = dart;
     }
     if (walk.length > 1) {
       places.push(this.spotOf(walk[walk.length - 1]));
@@ -142,15 +143,16 @@ class Ribbon {
   }
 
   strokePart(pen, places, from, to, seen) {
-    let goesOn = false;
+    let goesOn = false, isEmpty = true;
     pen.beginPath();
     for (let k = from; k < to; k++) {
       const [p, q] = [places[k], places[k + 1]], fits = (p[2] && q[2]) === seen;
       if (fits && !goesOn) pen.moveTo(p[0], p[1]);
       if (fits) pen.lineTo(q[0], q[1]);
       goesOn = fits;
+      isEmpty &&= !fits;
     }
-    pen.stroke();
+    if (!isEmpty) pen.stroke();
   }
 
   // Small heads along a ribbon, which show the way it runs.

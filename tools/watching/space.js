@@ -1,7 +1,8 @@
-// The mesh in space: turned, projected, and painted from the back to the front. What a walk passes behind the surface is
-// known from a coarse map of the depth at each place of the canvas.
+// The mesh in space: turned, projected, and painted from the back to the front on a canvas of its own, over which that of the
+// walks lies. A coarse map of the canvas has the patch that is in front at each place, and how far away it is: by it the walks
+// know where they are hidden, and a large mesh is painted while it is turned.
 
-const EYE = 4.2, DEPTH_CELL = 3, MOST_NUMBERED = 60;
+const EYE = 4.2, DEPTH_CELL = 3, MOST_NUMBERED = 60, MOST_QUICK = 1500, REST = 300;
 
 // A turn about the upright axis, and then a tilt towards the eye.
 function turned(azimuth, elevation) {
@@ -24,8 +25,9 @@ class Space {
     this.y = new Float32Array(this.points.length);
     this.z = new Float32Array(this.points.length);
     this.normals = this.patches.map((patch) => this.normal(patch));
-    this.still = document.createElement("canvas");
+    this.still = canvas.parentElement.insertBefore(document.createElement("canvas"), canvas);
     this.stale = true;
+    this.turnedAt = -REST;
   }
 
   // The direction in which a patch looks, before any turn.
@@ -55,12 +57,17 @@ class Space {
   turn(right, down) {
     this.azimuth += right;
     this.elevation = Math.min(Math.PI / 2, Math.max(-Math.PI / 2, this.elevation + down));
-    this.stale = true;
+    this.change();
   }
 
   magnify(factor) {
     this.zoom = Math.min(8, Math.max(0.4, this.zoom * factor));
+    this.change();
+  }
+
+  change() {
     this.stale = true;
+    this.turnedAt = performance.now();
   }
 
   // Fits the canvas to its place on the page.
@@ -73,6 +80,7 @@ class Space {
     this.stale = true;
   }
 
+  // Where each point is on the canvas, and how far from the eye.
   project() {
     const matrix = turned(this.azimuth, this.elevation);
     const { width, height } = this.canvas, reach = Math.min(width, height) * 0.46 * this.zoom * Math.sqrt(EYE * EYE - 1);
@@ -86,17 +94,53 @@ class Space {
       matrix[2] * -0.35 + matrix[5] * 0.55 + matrix[8] * 0.76];
   }
 
-  // Paints all that stands still while a walk moves: the faces, the edges, and the numbers of few vertices.
+  // Paints all that stands still while a walk moves: the faces and the edges. A large mesh is painted roughly while it is turned,
+  // and well when it comes to rest.
   paint() {
     this.fit();
-    if (!this.stale) return;
-    this.project();
-    this.mapDepth();
+    const moves = performance.now() < this.turnedAt + REST && this.patches.length > MOST_QUICK;
+    if (!this.stale && (!this.rough || moves)) return;
+    if (this.stale) {
+      this.project();
+      this.mapDepth();
+    }
     const pen = this.still.getContext("2d");
     pen.clearRect(0, 0, this.still.width, this.still.height);
-    this.paintPatches(pen);
-    this.paintEdges(pen);
-    this.stale = false;
+    if (moves) this.paintRoughly(pen);
+    else {
+      this.paintPatches(pen);
+      this.paintEdges(pen);
+    }
+    this.paintOver(pen);
+    [this.stale, this.rough] = [false, moves];
+  }
+
+  // What a film paints on the mesh whenever that is painted.
+  paintOver() {}
+
+  // Whether something is to be painted anew.
+  isStale() {
+    return this.stale || (this.rough && performance.now() >= this.turnedAt + REST);
+  }
+
+  // The patches in front, a square for each cell of the map.
+  paintRoughly(pen) {
+    const image = new ImageData(this.across, this.down), words = new Uint32Array(image.data.buffer);
+    const colours = Uint32Array.from(this.patches.keys(), (k) => {
+      const [red, green, blue] = this.shade(k);
+      return (255 << 24) | (blue << 16) | (green << 8) | red;
+    });
+    for (let cell = 0; cell < words.length; cell++) if (this.front[cell] >= 0) words[cell] = colours[this.front[cell]];
+    this.draft ??= document.createElement("canvas");
+    Object.assign(this.draft, { width: this.across, height: this.down });
+    this.draft.getContext("2d").putImageData(image, 0, 0);
+    pen.drawImage(this.draft, -DEPTH_CELL / 2, -DEPTH_CELL / 2, this.across * DEPTH_CELL, this.down * DEPTH_CELL);
+  }
+
+  // How red, green and blue a patch is, by the direction in which it looks.
+  shade(k) {
+    const bright = Math.abs(this.normals[k][0] * this.light[0] + this.normals[k][1] * this.light[1] + this.normals[k][2] * this.light[2]);
+    return [172 + 70 * bright, 186 + 60 * bright, 201 + 50 * bright];
   }
 
   trace(pen, ring) {
@@ -110,8 +154,7 @@ class Space {
     const order = Uint32Array.from(this.patches.keys()).sort((p, q) => far[q] - far[p]);
     pen.lineWidth = 0.8;
     for (const k of order) {
-      const bright = Math.abs(this.normals[k].reduce((sum, part, i) => sum + part * this.light[i], 0));
-      pen.fillStyle = pen.strokeStyle = `rgb(${172 + 70 * bright}, ${186 + 60 * bright}, ${201 + 50 * bright})`;
+      pen.fillStyle = pen.strokeStyle = `rgb(${this.shade(k)})`;
       pen.beginPath();
       this.trace(pen, this.patches[k]);
       pen.fill();
@@ -143,28 +186,30 @@ class Space {
     return [mix(this.x), mix(this.y), mix(this.z)];
   }
 
-  // For each cell of the canvas how far the surface is there that is nearest to the eye.
+  // For each cell of the canvas the patch that is nearest to the eye there, and how far away it is.
   mapDepth() {
     this.across = Math.ceil(this.canvas.width / DEPTH_CELL) + 2;
     this.down = Math.ceil(this.canvas.height / DEPTH_CELL) + 2;
     this.depth = new Float32Array(this.across * this.down).fill(Infinity);
-    for (const patch of this.patches) {
-      for (let k = 2; k < patch.length; k++) this.mapTriangle(patch[0], patch[k - 1], patch[k]);
-    }
+    this.front = new Int32Array(this.across * this.down).fill(-1);
+    this.patches.forEach((patch, k) => {
+      for (let j = 2; j < patch.length; j++) this.mapTriangle(k, patch[0], patch[j - 1], patch[j]);
+    });
   }
 
-  mapTriangle(a, b, c) {
-    const [ax, ay, bx, by, cx, cy] = [a, b, c].flatMap((p) => [this.x[p] / DEPTH_CELL, this.y[p] / DEPTH_CELL]);
-    const area = (bx - ax) * (cy - ay) - (by - ay) * (cx - ax);
+  mapTriangle(patch, a, b, c) {
+    const ax = this.x[a] / DEPTH_CELL, ay = this.y[a] / DEPTH_CELL, bx = this.x[b] / DEPTH_CELL, by = this.y[b] / DEPTH_CELL;
+    const cx = this.x[c] / DEPTH_CELL, cy = this.y[c] / DEPTH_CELL, area = (bx - ax) * (cy - ay) - (by - ay) * (cx - ax);
     if (area === 0) return;
-    const [left, right] = [Math.max(0, Math.floor(Math.min(ax, bx, cx))), Math.min(this.across - 1, Math.ceil(Math.max(ax, bx, cx)))];
-    const [top, bottom] = [Math.max(0, Math.floor(Math.min(ay, by, cy))), Math.min(this.down - 1, Math.ceil(Math.max(ay, by, cy)))];
+    const left = Math.max(0, Math.ceil(Math.min(ax, bx, cx))), right = Math.min(this.across - 1, Math.floor(Math.max(ax, bx, cx)));
+    const top = Math.max(0, Math.ceil(Math.min(ay, by, cy))), bottom = Math.min(this.down - 1, Math.floor(Math.max(ay, by, cy)));
+    const { z, depth, front } = this, rise = z[b] - z[a], slope = z[c] - z[a];
     for (let y = top; y <= bottom; y++) {
       for (let x = left; x <= right; x++) {
         const toB = ((x - ax) * (cy - ay) - (y - ay) * (cx - ax)) / area, toC = ((bx - ax) * (y - ay) - (by - ay) * (x - ax)) / area;
         if (toB < 0 || toC < 0 || toB + toC > 1) continue;
-        const depth = this.z[a] + toB * (this.z[b] - this.z[a]) + toC * (this.z[c] - this.z[a]), cell = y * this.across + x;
-        if (depth < this.depth[cell]) this.depth[cell] = depth;
+        const here = z[a] + toB * rise + toC * slope, cell = y * this.across + x;
+        if (here < depth[cell]) [depth[cell], front[cell]] = [here, patch];
       }
     }
   }
@@ -187,7 +232,7 @@ class Space {
       for (const patch of this.pieces ? this.pieces[face] : [this.patches[face]]) {
         if (patch.every((p) => this.isSeen(this.x[p], this.y[p], this.z[p])) === seen) this.trace(pen, patch);
       }
-      pen.globalAlpha = seen ? 0.75 : 0.2;
+      pen.globalAlpha = seen ? 0.6 : 0.2;
       pen.fill();
     }
     pen.globalAlpha = 1;
