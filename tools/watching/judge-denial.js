@@ -4,7 +4,14 @@
 class DenialJudge {
   constructor({ faces, degree, rows, places }) {
     Object.assign(this, { faces, degree, rows, places, darts: new Map() });
-    faces.forEach((face, f) => face.forEach((vertex, corner) => this.addSide(f, corner, (corner + 1) % face.length)));
+    if (this.fits()) faces.forEach((face, f) => face.forEach((_, corner) => this.addSide(f, corner, (corner + 1) % face.length)));
+  }
+
+  // Whether there is a label for each corner and a place for each spoke, all of them numbers of spokes.
+  fits() {
+    const fit = (list, size) => list.length === size && list.every((x) => x >= 0 && x < this.degree);
+    const { faces, rows } = this;
+    return rows.length === faces.length && faces.every((face, f) => fit(rows[f][1], face.length)) && fit(this.places, this.degree);
   }
 
   // A side is kept under its dart, with the labels at its tail and its head.
@@ -27,9 +34,8 @@ class DenialJudge {
 
   // The first thing that is wrong with the labelling, or nothing.
   fault() {
-    const { degree, places } = this, fits = (list, size) => list.length === size && list.every((x) => x >= 0 && x < degree);
-    if (this.rows.length !== this.faces.length || !this.faces.every((face, f) => fits(this.rows[f][1], face.length))
-      || !fits(places, degree)) return "the labels and places do not fit the mesh";
+    const { degree, places } = this;
+    if (!this.fits()) return "the labels and places do not fit the mesh";
     if (degree < 4 || (degree === 4 && places.some((p, i) => places[(i + 1) % 4] !== (p + 1) % 4))) return "the degree is no degree";
     if (new Set(places).size !== degree) return "two spokes have one place";
     for (const dart of this.darts.keys()) if (!this.rule(...dart.split(" "))) return `edge ${dart} keeps none of the three rules`;

@@ -39,7 +39,7 @@ def check_walks(mesh, sides, walks, path):
                             % (path, mesh.name, number, vertex))
         for tail, head in zip(walk, walk[1:]):
             if edge(tail, head) not in sides:
-                raise Fault("%s is not of the mesh %s: walk %d passes from %d to %d, which is no edge"
+                raise Fault("%s is not of the mesh %s: walk %d passes from %d to %d, which is not an edge"
                             % (path, mesh.name, number, tail, head))
     for what, place in (("start", 0), ("end", -1)):
         if walks[0][place] != walks[1][place]:
