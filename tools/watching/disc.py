@@ -121,8 +121,9 @@ def disc_picture(labels, walks, words):
     parts.append(dot(0, 0, 3.2, fill="none", stroke="#1d2733", stroke_width=1))
     for walk, darts in enumerate(found):
         x, y = disc.place(disc.centre(darts[-1][-1])) if darts else (0.0, 0.0)
-        out = (RADIUS + 7) / (math.hypot(x, y) or RADIUS)
+        far = math.hypot(x, y)
+        told = (x * (RADIUS + 7) / far, y * (RADIUS + 7) / far) if far > 1 else (0.0, (9.0, -9.0)[walk])
         name = " ".join(map(str, words[walk])) or "empty"
         parts.append(end(walk, dot(x, y, 2.6, fill=(FIRST, SECOND)[walk], stroke="#fff", stroke_width=0.8)
-                         + text(x * out, y * out, name, 7, class_="halo", font_weight="700", style="fill: %s" % (FIRST, SECOND)[walk])))
+                         + text(*told, name, 7, class_="halo", font_weight="700", style="fill: %s" % (FIRST, SECOND)[walk])))
     return "".join(parts)

@@ -16,8 +16,9 @@ MOST_FRAMES = 2000
 NOT_PROVED = ("This page was made beside the proved program and is no part of what is proved. It judges by a table of moves of "
               "its own, which stands at the head of its script; <code>homotopy_cli verify</code> judges the same files, proved.")
 CUT_OPEN = ("The surface is cut along a tree and along the sides in colours, and so it is one polygon. The ringed numbers are its %d "
-            "spokes, 0 to %d. The number in each corner of a face is its label: the spoke to which it belongs. A dart goes in along the "
-            "spoke at its tail, and out along the spoke at its head.")
+            "spokes. %s A dart goes in along the spoke at its tail, and out along the spoke at its head.")
+FEW_LABELS = "The number in the corner of a face is its label: the spoke to which it belongs."
+MANY_LABELS = "The corners between two coloured sides have the label of the spoke there."
 NOT_PROVED_OF_DENIALS = NOT_PROVED.replace("a table of moves of its own, which stands", "rules of its own, which stand")
 
 
@@ -69,11 +70,11 @@ def plane_of(labels, walks, words):
     """The plane in which the walks end apart, and what is said of it; nothing to draw where the paths are too long."""
     if labels.degree == 4:
         inner, box = plane.plane_picture(labels, walks, words)
-        return svg(box, inner, "The plane"), "The torus unrolled: each spoke is a step in the plane."
+        return svg(box, inner, "The plane"), "Unrolled: a plane, in which each spoke is a step."
     if not disc.can_draw(labels, walks):
         return "", "The paths of spokes are too long to be drawn; the words below tell them apart."
     return (svg(disc.BOX, disc.disc_picture(labels, walks, words), "The hyperbolic plane"),
-            "The surface unrolled: a hyperbolic plane, tiled by polygons of %d sides." % labels.degree)
+            "Unrolled: a hyperbolic plane of polygons with %d sides." % labels.degree)
 
 
 def denial_page(job, walks, denial):
@@ -84,12 +85,13 @@ def denial_page(job, walks, denial):
     picture, caption = plane_of(labels, walks, denial.words)
     data = {**data_of(job, scene, walks), "degree": denial.degree, "rows": denial.rows, "places": denial.places,
             "words": denial.words}
-    apart = "" if outline.is_whole else "The labels are not those of one polygon, so the surface is not shown cut open."
-    summary = "No list of moves leads from <code>%s</code> to <code>%s</code>." % tuple(map(in_short, walks))
+    told = "The labels are not those of one polygon, so the surface is not shown cut open."
+    if outline.is_whole:
+        told = CUT_OPEN % (denial.degree, FEW_LABELS if polygon.has_labels(outline) else MANY_LABELS)
+    summary = "The claim: no list of moves leads from <code>%s</code> to <code>%s</code>." % tuple(map(in_short, walks))
     return filled("denial.html", title=html.escape(job.title or "Two walks that are different"), style=STYLE + read("film.css"),
                   summary=summary, polygon=cut, plane=picture, caption=caption, data=packed(data),
-                  notes=paragraphs(CUT_OPEN % (denial.degree, denial.degree - 1) if outline.is_whole else "", apart, scene.told,
-                                   NOT_PROVED_OF_DENIALS),
+                  notes=paragraphs(told, scene.told, NOT_PROVED_OF_DENIALS),
                   script="\n".join(map(read, ("judge-denial.js", "words.js", "space.js", "ribbon.js", "player.js", "denial.js"))))
 
 

@@ -22,10 +22,15 @@ def corner_labels(outline, face, places):
             yield text(here[0] + away * x / inward / 2, here[1] + away * y / inward / 2, label, 5.2, class_="quiet")
 
 
+def has_labels(outline):
+    """Whether the labels are few enough to be drawn."""
+    return len(outline.starts) <= MOST_LABELLED
+
+
 def faces(outline):
     rings = [[on_circle(turns, RADIUS) for turns in outline.corners(face)] for face in range(len(outline.labels.mesh.faces))]
     parts = [tag("path", d="".join(path_through(ring, closed=True) for ring in rings), class_="face")]
-    if sum(map(len, rings)) <= MOST_LABELLED:
+    if has_labels(outline):
         parts += [mark for face, ring in enumerate(rings) for mark in corner_labels(outline, face, ring)]
     return parts
 
