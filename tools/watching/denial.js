@@ -1,7 +1,5 @@
 // The film of a denial: the first walk is led along its spokes, then the second, and their words are compared.
 
-const SIGNS = { tree: "tree edge: no spokes", cotree: "cotree edge", leftover: "leftover edge" };
-
 class DenialFilm {
   constructor(data) {
     Object.assign(this, data);
@@ -51,16 +49,17 @@ class DenialFilm {
 
   // Shows a place of the film, and says how far it came: not past the end of a walk whose word is not the one printed.
   show(place) {
-    const limit = this.wrongAt(), reached = Math.min(place, limit), look = [reached, this.space.isStale(), innerWidth, innerHeight].join();
-    if (look === this.drawn) return reached;
-    this.drawn = look;
+    const reached = Math.min(place, this.wrongAt()), state = [reached, this.space.isStale(), innerWidth, innerHeight].join();
+    if (state === this.drawn) return reached;
+    this.drawn = state;
     for (const { step, frame, ways } of this.steps) {
       const share = Math.min(1, Math.max(0, reached - frame + 1));
       step.style.display = share > 0 ? "" : "none";
       step.classList.toggle("now", share < 1 || frame === reached);
       for (const way of ways) way.style.strokeDasharray = share < 1 ? `${share} 1` : "";
     }
-    for (const end of this.ends) end.style.display = reached >= (Number(end.dataset.walk) ? this.frames : this.walks[0].length - 1) ? "" : "none";
+    const lasts = [this.walks[0].length - 1, this.frames];
+    for (const end of this.ends) end.style.display = reached >= lasts[end.dataset.walk] ? "" : "none";
     this.tell(reached);
     if (document.body.classList.contains("inspace")) this.paint(reached);
     return reached;
@@ -92,7 +91,7 @@ class DenialFilm {
   }
 
   tell(place) {
-    const put = (id, text) => (document.getElementById(id).textContent = text), done = Math.ceil(place), dart = this.darts[done - 1];
+    const done = Math.ceil(place), dart = this.darts[done - 1];
     put("step", `Dart ${done} of ${this.frames}`);
     put("saying", dart ? this.inWords(dart) : "Both walks start at one vertex, with no spokes yet.");
     for (const w of [0, 1]) {

@@ -73,7 +73,7 @@ class MovesFilm {
 
   paint(share, next) {
     const move = share > 0 ? this.done + 1 : this.done, [state] = this.verdict();
-    const look = [this.done, share, state, this.space.isStale(), this.space.canvas.clientWidth, this.space.canvas.clientHeight].join();
+    const look = [this.done, share, state, this.space.isStale(), innerWidth, innerHeight].join();
     if (look === this.drawn) return;
     this.drawn = look;
     this.space.paint();
@@ -111,7 +111,6 @@ class MovesFilm {
   }
 
   tell(move, change) {
-    const put = (id, text) => (document.getElementById(id).textContent = text);
     const frame = this.frames && Math.floor((this.done * this.frames) / this.lines.length);
     put("step", `Move ${(this.refused?.move || move).toLocaleString("en")} of ${this.lines.length.toLocaleString("en")}`);
     put("frame", this.isThinned ? `Frame ${frame} of ${this.frames}` : "");

@@ -65,10 +65,13 @@ def plane_picture(labels, walks, words):
             inner = path(map(at, way), class_="way", stroke_width=(6.5, 3.0)[walk], pathLength=1) if len(way) > 1 else ""
             parts.append(step(walk, k, inner))
     parts.append(dot(*at((0, 0)), 7, fill="none", stroke="#1d2733", stroke_width=2))
+    # Each point is told on the side away from the other one.
+    first_is_below = words[0][1] < words[1][1]
     for walk, word in enumerate(words):
         x, y = at(word)
+        aside = 19 if first_is_below == (walk == 0) else -19
         parts.append(end(walk, dot(x, y, (6, 4.4)[walk], fill=(FIRST, SECOND)[walk], stroke="#fff")
-                         + text(x, y + (19, -19)[walk], "(%d, %d)" % tuple(word), 12, class_="halo", font_weight="700",
+                         + text(x, y + aside, "(%d, %d)" % tuple(word), 12, class_="halo", font_weight="700",
                                 style="fill: %s" % (FIRST, SECOND)[walk])))
     left, top = (middle[0] - half) * UNIT, -(middle[1] + half) * UNIT
     return "".join(parts), (left, top, 2 * half * UNIT, 2 * half * UNIT)

@@ -5,7 +5,6 @@ class Player {
   constructor(film) {
     Object.assign(this, { film, place: 0, playing: false, last: 0 });
     this.slider = document.getElementById("slider");
-    this.button = document.getElementById("play");
     this.pace = document.getElementById("pace");
     this.slider.max = film.frames;
     this.pace.value = Math.log2(Math.min(30, Math.max(film.pace, film.frames / 40)));
@@ -23,6 +22,7 @@ class Player {
 
   key(event) {
     if (event.target.tagName === "INPUT" && event.key.startsWith("Arrow")) return;
+    if (event.target.tagName === "BUTTON" && event.key === " ") return;
     const deeds = {
       " ": () => this.toggle(), ",": () => this.jump(Math.ceil(this.place) - 1), ".": () => this.jump(Math.floor(this.place) + 1),
       Home: () => this.jump(0), End: () => this.jump(this.film.frames), ArrowLeft: () => this.film.turn(-1, 0),
@@ -55,8 +55,8 @@ class Player {
     if (reached < this.place) Object.assign(this, { place: reached, playing: false });
     if (this.place >= this.film.frames) this.playing = false;
     this.slider.value = this.place;
-    this.button.textContent = this.playing ? "Pause" : "Play";
-    document.getElementById("told").textContent = `${this.framesEachSecond().toFixed(1)} ${this.film.unit} a second`;
+    put("play", this.playing ? "Pause" : "Play");
+    put("told", `${this.framesEachSecond().toFixed(1)} ${this.film.unit} a second`);
     requestAnimationFrame((then) => this.tick(then));
   }
 }

@@ -1,4 +1,5 @@
 """A mesh in space as the page draws it: its points, its edges as curves, and what is painted of its faces."""
+import math
 from collections import namedtuple
 
 from watching.meshes import neighbours_of, vertices_of
@@ -15,12 +16,15 @@ BY_SPRINGS = "The mesh file has no coordinates. Springs along the edges put the 
 
 
 def centred(points, used):
-    """The points moved and scaled so that the used ones fill a ball of radius 1 about 0."""
-    lows, highs = ([pick(points[u][axis] for u in used) for axis in range(3)] for pick in (min, max))
-    middle = [(low + high) / 2 for low, high in zip(lows, highs)]
-    moved = [[x - m for x, m in zip(point, middle)] for point in points]
-    reach = max(max(sum(x * x for x in moved[u]) for u in used) ** 0.5, 1e-300)
-    return [[round(x / reach, 3) for x in point] for point in moved]
+    """The points moved and scaled so that the used ones fill a ball of radius 1 about 0: its middle is drawn to the farthest point
+    again and again, each time less far."""
+    kept = [points[u] for u in used]
+    middle = [sum(point[axis] for point in kept) / len(kept) for axis in range(3)]
+    for k in range(2, 80):
+        far = max(kept, key=lambda point: math.dist(point, middle))
+        middle = [m + (x - m) / k for m, x in zip(middle, far)]
+    reach = max(math.dist(point, middle) for point in kept) or 1.0
+    return [[round((x - m) / reach, 3) for x, m in zip(point, middle)] for point in points]
 
 
 def scene_of(mesh, sides):

@@ -164,8 +164,7 @@ class Space {
 
   paintEdges(pen) {
     const crowded = this.lines.length > 1500;
-    for (const [seen, colour] of [[false, "rgba(60, 75, 92, 0.10)"], [true, crowded ? "rgba(60, 75, 92, 0.28)" : "rgba(60, 75, 92, 0.62)"]]) {
-      if (crowded && !seen) continue;
+    for (const seen of crowded ? [true] : [false, true]) {
       pen.beginPath();
       for (const line of this.lines) {
         for (let k = 0; k + 1 < line.length; k++) {
@@ -174,7 +173,7 @@ class Space {
           pen.lineTo(this.x[line[k + 1]], this.y[line[k + 1]]);
         }
       }
-      pen.strokeStyle = colour;
+      pen.strokeStyle = `rgba(60, 75, 92, ${seen ? (crowded ? 0.28 : 0.62) : 0.1})`;
       pen.lineWidth = (crowded ? 0.7 : 1.2) * this.scale;
       pen.stroke();
     }

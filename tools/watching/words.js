@@ -1,4 +1,9 @@
-// Moves and refusals in words.
+// Moves and refusals in words, and where words are put on the page.
+
+function put(id, text) {
+  const box = document.getElementById(id);
+  if (box.textContent !== String(text)) box.textContent = text;
+}
 
 const SMALL_NUMBERS = ["no", "one", "two", "three", "four", "five", "six", "seven", "eight", "nine", "ten"];
 
