@@ -2,10 +2,12 @@
 import base64
 import json
 import os
+import select
 import shutil
 import subprocess
 import tempfile
 
+SECONDS_TO_ANSWER = 60
 NAMES = ("chromium", "chromium-browser", "google-chrome", "google-chrome-stable", "chrome")
 
 
@@ -38,12 +40,20 @@ class Browser:
 
     def message(self):
         while b"\0" not in self.rest:
-            more = os.read(self.read, 1 << 16)
+            ready, _, _ = select.select([self.read], [], [], SECONDS_TO_ANSWER)
+            more = os.read(self.read, 1 << 16) if ready else b""
             if not more:
-                raise RuntimeError("the browser ended")
+                raise RuntimeError("the browser says nothing more")
             self.rest += more
         text, self.rest = self.rest.split(b"\0", 1)
         return json.loads(text)
+
+    def send(self, message):
+        try:
+            while message:
+                message = message[os.write(self.written, message):]
+        except BrokenPipeError:
+            raise RuntimeError("the browser has ended") from None
 
     def ask(self, method, **parameters):
         """Sends a command and waits for its result; what else comes in between is passed over."""
@@ -51,7 +61,7 @@ class Browser:
         command = {"id": self.last, "method": method, "params": parameters}
         if self.session:
             command["sessionId"] = self.session
-        os.write(self.written, json.dumps(command).encode() + b"\0")
+        self.send(json.dumps(command).encode() + b"\0")
         while True:
             answer = self.message()
             if answer.get("id") == self.last:

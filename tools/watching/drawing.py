@@ -12,7 +12,7 @@ text { font-family: system-ui, "DejaVu Sans", sans-serif; text-anchor: middle; d
 .spoke { stroke: #aab6c2; stroke-width: .8; stroke-dasharray: 2 2; }
 .side, .step path { fill: none; stroke-linecap: round; stroke-linejoin: round; }
 .step.first path { stroke: #1c6dd0; } .step.second path { stroke: #e07b00; }
-.step .dart { opacity: .45; }
+.step .dart { opacity: .4; }
 """
 
 
@@ -74,9 +74,14 @@ def pairs_of(labels):
 
 
 def svg(box, inner, title, **given):
-    """A picture by itself; the box is its left, top, width and height."""
-    return tag("svg", "<title>%s</title><style>%s</style>%s" % (title, STYLE, inner), xmlns="http://www.w3.org/2000/svg",
+    """A picture in a page that has the style; the box is its left, top, width and height."""
+    return tag("svg", "<title>%s</title>%s" % (title, inner), xmlns="http://www.w3.org/2000/svg",
                viewBox=" ".join(map(number, box)), **given)
+
+
+def alone(box, inner, title):
+    """A picture by itself."""
+    return svg(box, "<style>%s</style>%s" % (STYLE, inner), title)
 
 
 def step(walk, at, inner):

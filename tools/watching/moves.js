@@ -71,6 +71,11 @@ class MovesFilm {
     return ["right", "The walk is the second walk, and each move was allowed."];
   }
 
+  // The move before which the film stands and which is refused; 0 where the first walk is, and nothing at any other place.
+  stopped() {
+    return this.refused && this.done + 1 >= this.refused.move ? this.refused.move : null;
+  }
+
   paint(share, next) {
     const move = share > 0 ? this.done + 1 : this.done, [state] = this.verdict();
     const look = [this.done, share, state, this.space.isStale(), innerWidth, innerHeight].join();
@@ -96,13 +101,12 @@ class MovesFilm {
   paintWalks(share, next) {
     const { space, ribbon } = this, pen = space.canvas.getContext("2d");
     pen.clearRect(0, 0, space.canvas.width, space.canvas.height);
-    const wrong = this.refused?.move === this.done + 1 ? moveOfLine(this.lines[this.done]) : null;
-    const shown = wrong ?? (share > 0 ? moveOfLine(this.lines[this.done]) : null);
-    if (shown?.kind === "f" && this.mesh.faces[shown.face]) space.glow(pen, shown.face, wrong ? "#ff8787" : COLOURS.glow);
+    const stopped = this.stopped(), shown = share > 0 || stopped > 0 ? moveOfLine(this.lines[this.done]) : null;
+    if (shown?.kind === "f") space.glow(pen, shown.face, stopped ? "#ff8787" : COLOURS.glow);
     const slides = share > 0 && Math.max(this.walk.length, next.walk.length) <= MOST_DARTS_IN_LANES;
     const smooth = share * share * (3 - 2 * share);
     const places = slides ? ribbon.between(this.walk, next.walk, next.change, smooth) : ribbon.atRest(this.walk);
-    const colours = this.refused ? [COLOURS.wrong] : MOVING, last = this.walk.length - 1;
+    const colours = stopped === null ? MOVING : [COLOURS.wrong], last = this.walk.length - 1;
     ribbon.stroke(pen, places, { width: 4.5, colours, hidden: 0.55, dash: true });
     if (last < MOST_DARTS_IN_LANES) ribbon.heads(pen, places, colours);
     ribbon.dot(pen, this.walk[last], colours[colours.length - 1], 6);
@@ -112,9 +116,9 @@ class MovesFilm {
 
   tell(move, change) {
     const frame = this.frames && Math.floor((this.done * this.frames) / this.lines.length);
-    put("step", `Move ${(this.refused?.move || move).toLocaleString("en")} of ${this.lines.length.toLocaleString("en")}`);
+    const shown = this.stopped() ?? move, line = this.lines[shown - 1];
+    put("step", `Move ${shown.toLocaleString("en")} of ${this.lines.length.toLocaleString("en")}`);
     put("frame", this.isThinned ? `Frame ${frame} of ${this.frames}` : "");
-    const line = this.lines[(this.refused?.move || move) - 1];
     put("saying", line ? moveInWords(moveOfLine(line)) : "the first walk");
     put("line", line ?? "");
     const [state, verdict] = this.verdict(), box = document.getElementById("verdict");

@@ -5,7 +5,7 @@ import os
 import re
 
 from watching import disc, panels, plane, polygon
-from watching.drawing import STYLE, svg
+from watching.drawing import STYLE, alone, svg
 from watching.labels import Labels
 from watching.scene import scene_of
 from watching.texts import Fault
@@ -96,13 +96,13 @@ def denial_page(job, walks, denial):
 
 
 def moves_picture(job, walks, moves):
-    """A picture of a list of moves; the last walk is among those that are shown."""
+    """A picture of a list of moves: the walk after the moves that were asked for, or four times, from the first to the last."""
     scene, most = scene_of(job.mesh, job.sides), len(moves.lines)
     chosen = job.at or sorted({round(most * k / 3) for k in range(4)})
     if max(chosen) > most:
         raise Fault("%s has %d moves, and no walk after move %d" % (moves.name, most, max(chosen)))
     inner, box = panels.panels_picture(job, scene, walks, moves, chosen)
-    return svg(box, inner, html.escape(job.title or "One walk becomes the other"))
+    return alone(box, inner, html.escape(job.title or "One walk becomes the other"))
 
 
 def denial_picture(job, walks, denial):
@@ -111,4 +111,4 @@ def denial_picture(job, walks, denial):
     outline, (plane_svg, _) = Outline(labels), plane_of(labels, walks, denial.words)
     cut = svg(polygon.BOX, polygon.polygon_picture(outline, walks), "", width=300, height=300) if outline.is_whole else ""
     beside = plane_svg.replace("<svg ", '<svg x="320" y="0" width="300" height="300" ', 1)
-    return svg((0, 0, 620, 300), cut + beside, html.escape(job.title or "Two walks that are different"))
+    return alone((0, 0, 620, 300), cut + beside, html.escape(job.title or "Two walks that are different"))

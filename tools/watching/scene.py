@@ -18,6 +18,8 @@ BY_SPRINGS = "The mesh file has no coordinates. Springs along the edges put the 
 def centred(points, used):
     """The points moved and scaled so that the used ones fill a ball of radius 1 about 0: its middle is drawn to the farthest point
     again and again, each time less far."""
+    largest = max(abs(x) for u in used for x in points[u]) or 1.0
+    points = [[x / largest for x in point] for point in points]
     kept = [points[u] for u in used]
     middle = [sum(point[axis] for point in kept) / len(kept) for axis in range(3)]
     for k in range(2, 80):
