@@ -1,5 +1,6 @@
 //! The half-edge map, its rings and its split, on meshes that were worked by hand.
-use small_meshes::{DOUBLE_TORUS, TETRAHEDRON, TORUS, TURNED_TETRAHEDRON, Triangle};
+use halfedge_map::Surface;
+use small_meshes::{DOUBLE_TORUS, TETRAHEDRON, TORUS, TURNED_TETRAHEDRON};
 use small_surfaces::surface_of;
 use std::alloc::Global;
 use std::process::Abort;
@@ -33,15 +34,17 @@ fn darts_of_a_flipped_face(rt: HostRuntime) {
 
 #[test]
 fn kinds_of_edges(rt: HostRuntime) {
-    check_split(&rt, rt.alloc(), (4, &TETRAHEDRON), [3, 3, 0]);
-    check_split(&rt, rt.alloc(), (7, &TORUS), [6, 13, 2]);
-    check_split(&rt, rt.alloc(), (11, &DOUBLE_TORUS), [10, 25, 4]);
+    let sphere = surface_of(rt.alloc(), 4, &TETRAHEDRON).expect(&rt, "a surface");
+    check_split(&rt, rt.alloc(), &sphere, [3, 3, 0]);
+    let torus = surface_of(rt.alloc(), 7, &TORUS).expect(&rt, "a surface");
+    check_split(&rt, rt.alloc(), &torus, [6, 13, 2]);
+    let double_torus = surface_of(rt.alloc(), 11, &DOUBLE_TORUS).expect(&rt, "a surface");
+    check_split(&rt, rt.alloc(), &double_torus, [10, 25, 4]);
 }
 
 /// Counts the edges of the tree, of the cotree and those left over.
-fn check_split(rt: &impl Abort, alloc: Global, mesh: (u32, &[Triangle]), expected: [u32; 3]) {
-    let surface = surface_of(alloc, mesh.0, mesh.1).expect(rt, "a surface");
-    let split = split_edges(alloc, &surface).expect(rt, "memory for the split");
+fn check_split(rt: &impl Abort, alloc: Global, surface: &Surface, expected: [u32; 3]) {
+    let split = split_edges(alloc, surface).expect(rt, "memory for the split");
     let [mut tree, mut cotree, mut left] = [0u32; 3];
     for edge in 0..surface.sides().len() {
         match split.kind(EdgeName(edge)) {
