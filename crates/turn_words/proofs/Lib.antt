@@ -4,7 +4,9 @@ pub mod Reaching
 pub mod Backward
 pub mod Unique
 pub mod Filling
-pub mod Loops
+pub mod Run_lists
+pub mod Run_words
+pub mod Rewrites
 pub mod Acts
 pub mod Table
 pub mod Places

@@ -7,7 +7,7 @@ use Rattle.turn_words.specs.Put_turns.{Put, is_open, flipped, closed, put, put_l
 use Rattle.turn_words.specs.Five_cases.{FiveCases}
 use Rattle.turn_words.specs.Lemmas.Word_ends.{Follows, IsCons, open-cases, open-two, flipped-run, flipped-end, closed-two, put-flip, put-close, put-else}
 use Rattle.turn_words.specs.Lemmas.Lists.{reverse-cons}
-use Rattle.turn_words.proofs.Loops.{reverse-replicate}
+use Rattle.turn_words.proofs.Run_lists.{reverse-replicate}
 
 -- a front, an entry and a run, read from the end
 reverse-run : (v : List ℕ) (x k y : ℕ) → reverse (v ++ x ∷ replicate k y) ≡ replicate k y ++ x ∷ reverse v
@@ -35,7 +35,7 @@ not-nil (x ∷ r) c = λ e. absurd cc
 nil-reverse : (w : List ℕ) → reverse w ≡ [] → w ≡ []
 nil-reverse w e = sym (reverse-reverse w) ∙ ap reverse e
 
-open-run : (k x : ℕ) (r : List ℕ) → is_open (replicate k 2 ++ 1 ∷ x ∷ r) ≡ true
+pub open-run : (k x : ℕ) (r : List ℕ) → is_open (replicate k 2 ++ 1 ∷ x ∷ r) ≡ true
 open-run zero x r = refl
 open-run (suc k) x r = open-two (replicate k 2 ++ 1 ∷ x ∷ r) (cons-run k 2 1 (x ∷ r)) ∙ open-run k x r
 
@@ -52,13 +52,13 @@ abbrev record_put : List ℕ → ℕ → Put
 record_put w n = record { word = w; change = n }
 
 module _ (d : ℕ) (five : 5 ≤ d) where
-  flipped-table : (k x : ℕ) (r : List ℕ) → (r ≢ [] → x ≢ minus d 2) → flipped d (replicate k (minus d 2) ++ x ∷ r) ≡ replicate k 2 ++ 1 ∷ add d x 1 ∷ r
+  pub flipped-table : (k x : ℕ) (r : List ℕ) → (r ≢ [] → x ≢ minus d 2) → flipped d (replicate k (minus d 2) ++ x ∷ r) ≡ replicate k 2 ++ 1 ∷ add d x 1 ∷ r
   flipped-table zero x [] h = refl
   flipped-table zero x (y ∷ r) h = flipped-end d five x (y ∷ r) (h (not-nil (y ∷ r) tt))
   flipped-table (suc k) x r h =
       flipped-run d five (replicate k (minus d 2) ++ x ∷ r) (cons-run k (minus d 2) x r) ∙ ap (λ z. 2 ∷ z) (flipped-table k x r h)
 
-  closed-table : (k x : ℕ) (r : List ℕ) → closed d (replicate k 2 ++ 1 ∷ x ∷ r) ≡ replicate k (minus d 2) ++ add d x (minus d 1) ∷ r
+  pub closed-table : (k x : ℕ) (r : List ℕ) → closed d (replicate k 2 ++ 1 ∷ x ∷ r) ≡ replicate k (minus d 2) ++ add d x (minus d 1) ∷ r
   closed-table zero x r = refl
   closed-table (suc k) x r =
       closed-two d five (replicate k 2 ++ 1 ∷ x ∷ r) (cons-run k 2 1 (x ∷ r)) ∙ ap (λ z. minus d 2 ∷ z) (closed-table k x r)

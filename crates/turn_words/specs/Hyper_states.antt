@@ -67,7 +67,8 @@ pub record BelongsTo (places : List ℕ) (state : HyperState) : Type 0 where
   pub canonical : IsCanonical (length places) state.word
   pub number_below : state.number < length places
 
--- the form: its state, and for how many more spokes it has room
+-- the form: its state, the runs of the word's turns, and for how many more spokes it has room
 pub record HyperView : Type 0 where
   pub state : HyperState
+  pub runs : List (ℕ × ℕ)
   pub spare : ℕ

@@ -2,6 +2,7 @@ pub mod Modulo
 pub mod Step_table
 pub mod Canonical
 pub mod Put_turns
+pub mod Runs
 pub mod Five_cases
 pub mod Wheels
 pub mod Recorded

@@ -1,5 +1,5 @@
 //! The canonical word that a turn word reaches.
-ghost use Rattle.std.specs.Prelude.{◌≡◌, ◌⊎◌, ℕ, ◌<◌, ◌≤◌, List, All, Contains, length, IfOk, MatchResult, MatchOption};
+ghost use Rattle.std.specs.Prelude.{◌≡◌, ◌⊎◌, ℕ, ◌+◌, ◌*◌, ◌<◌, ◌≤◌, List, All, Contains, length, IfOk, MatchResult, MatchOption};
 ghost use Rattle.turn_words.specs.Canonical.{IsCanonical, IsCanonicalOf, IsTurnWord};
 ghost use Rattle.turn_words.specs.Step_table.{Reaches};
 ghost use Rattle.turn_words.specs.Word_faults.{IsFirstAbove, IsWordFaultOf};
@@ -8,7 +8,7 @@ ghost use Rattle.turn_words.specs.declared.canonising.TheConstants.{MOST_ENTRIES
 use crate::counter::Steps;
 use crate::modulo::sum_modulo;
 use crate::put::put_turn;
-use crate::recorder::Silent;
+use crate::run_word::RunWord;
 use crate::word::TurnWord;
 use std::alloc::{AllocError, Global};
 use std::sync::ledger::Ledger;
@@ -51,6 +51,7 @@ pub fn canonise<L: Ledger>(
     ensures only { IfOk result (λ canonical. (other : List ℕ) → IsCanonicalOf degree word.now other → other ≡ canonical) }
     ensures same { IfOk result (λ canonical. IsCanonical degree word.now → canonical ≡ word.now) }
     ensures cases { MatchResult result (λ _. IsTurnWord degree word.now) (IsWordFaultOf degree word.now) }
+    ensures counted { steps.new ≤ steps.old + 8 * length word.now }
 {
     if degree < 5 {
         return Err(WordFault::Degree);
@@ -58,15 +59,14 @@ pub fn canonise<L: Ledger>(
     if let Some(at) = first_above(degree, word) {
         return Err(WordFault::Range { at: at as u32 });
     }
-    // An entry makes it longer by one at most.
-    let mut canonical = Vec::with_capacity(alloc, word.len())?;
+    // The word that is put together is passed to no call, so it need not go through memory.
+    let mut canonical = RunWord::with_room(alloc, word.len() as u32)?;
     let mut change = 0;
     for entry in word {
         let turn = sum_modulo(degree, *entry, change);
-        change = put_turn(&mut canonical, degree, turn, &mut Silent)?;
-        steps.tick();
+        change = put_turn(&mut canonical, degree, turn, steps).change;
     }
-    Ok(TurnWord::from_entries(canonical))
+    Ok(canonical.written(alloc)?)
 }
 
 /// The first entry that is not below the degree.

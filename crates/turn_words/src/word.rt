@@ -30,15 +30,6 @@ impl TurnWord {
         }
     }
 
-    /// The word of the entries.
-    pub(crate) fn of(alloc: Global, entries: &[u32]) -> Result<TurnWord, AllocError>
-        requires { length entries.now < 2 ^ 32 }
-        ensures { IfOk result (λ word. word ≡ entries.now) }
-    {
-        let entries = Vec::from_slice(alloc, entries)?;
-        Ok(TurnWord { entries })
-    }
-
     /// The word of the entries, which are moved into it.
     pub(crate) fn from_entries(entries: Vec<u32>) -> TurnWord
         requires { vec_len entries < 2 ^ 32 }

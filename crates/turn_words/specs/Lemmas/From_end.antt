@@ -20,7 +20,7 @@ pub all-from : (d : ℕ) (w : List ℕ) → InRange d w → All (λ entry. entry
 all-from d [] h = All-nil (λ entry. entry < d)
 all-from d (x ∷ w) h = All-cons (λ entry. entry < d) x w h.0 (all-from d w h.1)
 
-in-range-reverse : (d : ℕ) (r w : List ℕ) → InRange d r → InRange d w → InRange d (reverse r ++ w)
+pub in-range-reverse : (d : ℕ) (r w : List ℕ) → InRange d r → InRange d w → InRange d (reverse r ++ w)
 in-range-reverse d [] w h i = i
 in-range-reverse d (x ∷ r) w h i = rw (reverse-next x r w) (in-range-reverse d r (x ∷ w) h.1 (h.0, i))
 

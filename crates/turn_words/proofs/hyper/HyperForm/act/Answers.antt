@@ -1,9 +1,9 @@
-use Rattle.std.proofs.Common.{arith, rules, ◌≡◌, length, reverse}
+use Rattle.std.proofs.Common.{arith, ◌≡◌, ◌∙◌, ap, ap₂, sym, length, reverse}
 use Rattle.turn_words.specs.Modulo.{add, minus}
 use Rattle.turn_words.specs.Put_turns.{put}
 use Rattle.turn_words.specs.Recorded.{with_steps}
-use Rattle.turn_words.specs.Private.Put_steps.{put_steps}
-use Rattle.turn_words.specs.Hyper_states.{turn_to, value_at}
+use Rattle.turn_words.specs.Private.Put_steps.{put_steps, rewrite_steps}
+use Rattle.turn_words.specs.Hyper_states.{HyperView, turn_to, value_at}
 use Rattle.turn_words.proofs.Acts.{notes-put, change-below, belongs-next}
 use Rattle.turn_words.proofs.hyper.HyperForm.act.Goals as goal
 
@@ -11,25 +11,49 @@ pub negative_modulo-requires : goal.negative_modulo-requires
 negative_modulo-requires g c =
     let places = c.args.wheel.now in
     let state = c.args.self.now.state in
-    let turn : c.sum_modulo-turn.result ≡ turn_to places state c.args.spoke.0 = search rules in
+    let degree = c.degree-degree.ensures.degree in
+    let word = ap (λ (v : HyperView). v.state.word) c.self.view_is in
+    let turn : c.sum_modulo-turn.result ≡ turn_to places state c.args.spoke.0 =
+    c.sum_modulo-turn.ensures.sum ∙ ap (λ d. add d c.value_of.result c.negative_modulo-before.result) degree
+    ∙ ap₂ (add (length places)) (c.value_of.ensures.value ∙ ap (λ w. value_at places w c.args.spoke.0) word)
+    (c.negative_modulo-before.ensures.negative ∙ ap₂ minus degree (ap (λ (v : HyperView). v.state.number) c.self.view_is)) in
     let below = change-below places state c.args.spoke.0 c.sum_modulo-turn.result c.requires.belongs c.requires.spoke turn in
-    let is : c.in_ok-change.change ≡ (put (length places) (reverse state.word) c.sum_modulo-turn.result).change = search rules in
+    let change : c.put_uncounted-put.result.change ≡ (put (length places) (reverse state.word) c.sum_modulo-turn.result).change =
+    c.put_uncounted-put.ensures.change ∙ ap₂ (λ d w. (put d (reverse w) c.sum_modulo-turn.result).change) degree (c.in_ok-reserve.ensures.word ∙ word) in
     omega arith
 
 pub returns-clause-notes : goal.returns-clause-notes
 returns-clause-notes g c =
     let places = c.args.wheel.now in
     let state = c.args.self.now.state in
-    let turn : c.sum_modulo-turn.result ≡ turn_to places state c.args.spoke.0 = search rules in
-    let noted : g.R.Recorder.noted c.put_turn.new.recorder ≡ with_steps (g.R.Recorder.noted c.args.recorder.now) (put_steps (length places) (reverse state.word) c.sum_modulo-turn.result) = search rules in
-    notes-put places state c.args.spoke.0 c.sum_modulo-turn.result _ _ c.requires.belongs turn noted
+    let degree = c.degree-degree.ensures.degree in
+    let word = ap (λ (v : HyperView). v.state.word) c.self.view_is in
+    let turn : c.sum_modulo-turn.result ≡ turn_to places state c.args.spoke.0 =
+    c.sum_modulo-turn.ensures.sum ∙ ap (λ d. add d c.value_of.result c.negative_modulo-before.result) degree
+    ∙ ap₂ (add (length places)) (c.value_of.ensures.value ∙ ap (λ w. value_at places w c.args.spoke.0) word)
+    (c.negative_modulo-before.ensures.negative ∙ ap₂ minus degree (ap (λ (v : HyperView). v.state.number) c.self.view_is)) in
+    let steps : rewrite_steps c.len-len.result c.put_uncounted-put.result.rewrite ≡ put_steps (length places) (reverse state.word) c.sum_modulo-turn.result =
+    ap (λ n. rewrite_steps n c.put_uncounted-put.result.rewrite) (c.len-len.ensures.length ∙ ap length (sym c.in_ok-reserve.ensures.word))
+    ∙ c.put_uncounted-put.ensures.rewrite ∙ ap₂ (λ d w. put_steps d (reverse w) c.sum_modulo-turn.result) degree (c.in_ok-reserve.ensures.word ∙ word) in
+    notes-put places state c.args.spoke.0 c.sum_modulo-turn.result (g.R.Recorder.noted c.args.recorder.now) (g.R.Recorder.noted c.note_rewrite.new.recorder) c.requires.belongs turn
+    (c.in_ok-note_rewrite.ensures.noted ∙ ap (with_steps (g.R.Recorder.noted c.args.recorder.now)) steps)
 
 pub returns-clause-belongs : goal.returns-clause-belongs
 returns-clause-belongs g c =
     let places = c.args.wheel.now in
     let state = c.args.self.now.state in
-    let turn : c.sum_modulo-turn.result ≡ turn_to places state c.args.spoke.0 = search rules in
-    let left : reverse c.put_turn.new.word.items ≡ (put (length places) (reverse state.word) c.sum_modulo-turn.result).word = search rules in
-    let change : c.in_ok-change.change ≡ (put (length places) (reverse state.word) c.sum_modulo-turn.result).change = search rules in
-    let number : c.sum_modulo-self-inside.result ≡ add (length places) (value_at places c.put_turn.new.word.items c.args.spoke.0) (minus (length places) c.in_ok-change.change) = search rules in
-    belongs-next places state c.args.spoke.0 c.sum_modulo-turn.result c.put_turn.new.word.items c.in_ok-change.change c.sum_modulo-self-inside.result c.requires.belongs c.requires.spoke turn left change number
+    let degree = c.degree-degree.ensures.degree in
+    let word = ap (λ (v : HyperView). v.state.word) c.self.view_is in
+    let turn : c.sum_modulo-turn.result ≡ turn_to places state c.args.spoke.0 =
+    c.sum_modulo-turn.ensures.sum ∙ ap (λ d. add d c.value_of.result c.negative_modulo-before.result) degree
+    ∙ ap₂ (add (length places)) (c.value_of.ensures.value ∙ ap (λ w. value_at places w c.args.spoke.0) word)
+    (c.negative_modulo-before.ensures.negative ∙ ap₂ minus degree (ap (λ (v : HyperView). v.state.number) c.self.view_is)) in
+    let before = c.in_ok-reserve.ensures.word ∙ word in
+    let left : reverse c.put_uncounted-put.new.word.word ≡ (put (length places) (reverse state.word) c.sum_modulo-turn.result).word =
+    c.put_uncounted-put.ensures.word ∙ ap₂ (λ d w. (put d (reverse w) c.sum_modulo-turn.result).word) degree before in
+    let change : c.put_uncounted-put.result.change ≡ (put (length places) (reverse state.word) c.sum_modulo-turn.result).change =
+    c.put_uncounted-put.ensures.change ∙ ap₂ (λ d w. (put d (reverse w) c.sum_modulo-turn.result).change) degree before in
+    let number : c.sum_modulo-self-inside.result ≡ add (length places) (value_at places c.put_uncounted-put.new.word.word c.args.spoke.0) (minus (length places) c.put_uncounted-put.result.change) =
+    c.sum_modulo-self-inside.ensures.sum ∙ ap (λ d. add d c.value_of-value.result c.negative_modulo.result) degree
+    ∙ ap₂ (add (length places)) c.value_of-value.ensures.value (c.negative_modulo.ensures.negative ∙ ap (λ d. minus d c.put_uncounted-put.result.change) degree) in
+    belongs-next places state c.args.spoke.0 c.sum_modulo-turn.result c.put_uncounted-put.new.word.word c.put_uncounted-put.result.change c.sum_modulo-self-inside.result c.requires.belongs c.requires.spoke turn left change number

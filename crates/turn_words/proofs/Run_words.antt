@@ -1,0 +1,300 @@
+-- A word as it is kept, and what the edits at its end make of it.
+use Rattle.std.proofs.Common.{◌≡◌, ◌≢◌, ℕ, ◌+◌, ◌-◌, ◌<◌, ◌≤◌, ◌^◌, ◌⊎◌, inl, inr, arith, refl, sym, ◌∙◌, ap, ap₂, zero, suc, true, false, eqb, ◌&&◌, List, [], ◌∷◌, ◌++◌, length, reverse, replicate, take, drop, get_or}
+use Rattle.std.proofs.lemmas.Bool.{cases_eq, eq-eqb, ne_eqb}
+use Rattle.std.proofs.lemmas.List.{append-nil, length-append, length-replicate, length-take-le, length_push, get_or-take, take_all, take_more, take-append-drop}
+use Rattle.std.specs.Bool.{Decides}
+use Rattle.turn_words.specs.Modulo.{add}
+use Rattle.turn_words.specs.Put_turns.{is_open}
+use Rattle.turn_words.specs.Runs.{written, AreFilled, AreApart}
+use Rattle.turn_words.specs.Private.Stored_words.{word_of, IsStoredWord, TopDiffers, EndsOtherwise, EndsBelow}
+use Rattle.turn_words.specs.Lemmas.Sums.{add-cases}
+use Rattle.turn_words.specs.Lemmas.Word_ends.{IsCons, open-one, open-two, open-other}
+use Rattle.turn_words.proofs.Run_lists.{replicate-first, cons-behind, written-append, written-push, filled-front, filled-length, apart-push, apart-front, top-differs, differs-top, last-run, back, back-written, back-push, back-cons, back-first, ends-otherwise, one-list}
+
+word-some : (len start : ℕ) (rs : List (ℕ × ℕ)) → 0 < len → word_of len start rs ≡ start ∷ written rs
+word-some len start rs h = rw (ne_eqb len 0 (λ e. absurd (omega arith))) refl
+
+word-none : (len start : ℕ) (rs : List (ℕ × ℕ)) → len ≡ 0 → word_of len start rs ≡ []
+word-none len start rs e = rw (eq-eqb len 0 e) refl
+
+pub reverse-some : (len start : ℕ) (rs : List (ℕ × ℕ)) → 0 < len → reverse (word_of len start rs) ≡ back start rs
+reverse-some len start rs h = ap reverse (word-some len start rs h)
+
+-- a word with a run is not empty
+pub some-run : (len : ℕ) (rs : List (ℕ × ℕ)) (r : ℕ × ℕ) → IsStoredWord len (rs ++ r ∷ []) → 0 < len
+some-run len rs r i = elim (cases_eq len 0) [
+  | inl e ↦
+      let none : length (rs ++ r ∷ []) ≡ 0 = ap length (i.none e) in
+      let long = length_push rs r in
+      absurd (omega arith)
+  | inr ne ↦ omega arith
+]
+
+-- no more runs than entries
+pub runs-few : (len : ℕ) (rs : List (ℕ × ℕ)) → IsStoredWord len rs → AreFilled rs → length rs ≤ len
+runs-few len rs i f = elim (cases_eq len 0) [
+  | inl e ↦ let none : length rs ≡ 0 = ap length (i.none e) in omega arith
+  | inr ne ↦ let long = i.some (omega arith) in let few = filled-length rs f in omega arith
+]
+
+-- the length that is kept
+pub word-length : (len start : ℕ) (rs : List (ℕ × ℕ)) → IsStoredWord len rs → length (word_of len start rs) ≡ len
+word-length len start rs i = elim (cases_eq len 0) [
+  | inl e ↦ ap length (word-none len start rs e) ∙ sym e
+  | inr ne ↦
+      let some : 0 < len = omega arith in
+      let long = i.some some in
+      let all : length (start ∷ written rs) ≡ len = omega arith in
+      ap length (word-some len start rs some) ∙ all
+]
+
+stored-made : (len : ℕ) (rs : List (ℕ × ℕ)) → 0 < len → len < 2 ^ 32 → len ≡ length (written rs) + 1 → AreApart rs → IsStoredWord len rs
+stored-made len rs some few long a = record {
+  few = few;
+  none = λ e. absurd (omega arith);
+  some = λ _. long;
+  apart = a;
+}
+
+pub length-written : (rs ss : List (ℕ × ℕ)) (v c : ℕ) → written ss ≡ written rs ++ replicate c v → length (written ss) ≡ length (written rs) + c
+length-written rs ss v c e = let copies = length-replicate c v in ap length e ∙ length-append (written rs) (replicate c v) ∙ ap (λ n. length (written rs) + n) copies
+
+-- what is left where entries of one value were taken off the end
+pub record TakenOff (len start v c : ℕ) (old new : List (ℕ × ℕ)) : Type 0 where
+  pub within : c < len
+  pub stored : IsStoredWord (len - c) new
+  pub word : reverse (word_of len start old) ≡ replicate c v ++ reverse (word_of (len - c) start new)
+
+pub taken-off : (len start v c : ℕ) (old new : List (ℕ × ℕ)) → IsStoredWord len old → 0 < len → written old ≡ written new ++ replicate c v → AreApart new → TakenOff len start v c old new
+taken-off len start v c old new i some e a =
+    let long = i.some some in
+    let few = i.few in
+    let left = length-written new old v c e in
+    record {
+      within = omega arith;
+      stored = stored-made (len - c) new (omega arith) (omega arith) (omega arith) a;
+      word =
+          reverse-some len start old some ∙ back-written start new old v c e
+          ∙ ap (λ z. replicate c v ++ z) (sym (reverse-some (len - c) start new (omega arith)));
+    }
+
+-- the start direction alone is taken off
+pub record StartOff (len start : ℕ) (old new : List (ℕ × ℕ)) : Type 0 where
+  pub stored : IsStoredWord (len - 1) new
+  pub word : reverse (word_of len start old) ≡ start ∷ reverse (word_of (len - 1) start new)
+
+pub start-off : (len start : ℕ) (old new : List (ℕ × ℕ)) → IsStoredWord len old → 0 < len → old ≡ [] → new ≡ [] → StartOff len start old new
+start-off len start old new i some none gone =
+    let long = i.some some in
+    let nothing : length (written old) ≡ 0 = ap (λ z. length (written z)) none in
+    let zero_left : len - 1 ≡ 0 = omega arith in
+    let empty : word_of (len - 1) start new ≡ [] = rw (eq-eqb (len - 1) 0 zero_left) refl in
+    record {
+      stored = record {
+        few = omega arith;
+        none = λ _. gone;
+        some = λ h. absurd (omega arith);
+        apart = rw gone tt;
+      };
+      word = reverse-some len start old some ∙ ap (back start) none ∙ ap (λ z. start ∷ reverse z) (sym empty);
+    }
+
+-- entries of one value were put on
+pub record PutOn (len start v c : ℕ) (old new : List (ℕ × ℕ)) : Type 0 where
+  pub stored : IsStoredWord (len + c) new
+  pub word : reverse (word_of (len + c) start new) ≡ replicate c v ++ reverse (word_of len start old)
+
+pub put-on : (len start v c : ℕ) (old new : List (ℕ × ℕ)) → IsStoredWord len old → 0 < len → len + c < 2 ^ 32 → written new ≡ written old ++ replicate c v → AreApart new → PutOn len start v c old new
+put-on len start v c old new i some few e a =
+    let long = i.some some in
+    let more = length-written old new v c e in
+    record {
+      stored = stored-made (len + c) new (omega arith) few (omega arith) a;
+      word =
+          reverse-some (len + c) start new (omega arith) ∙ back-written start old new v c e
+          ∙ ap (λ z. replicate c v ++ z) (sym (reverse-some len start old some));
+    }
+
+-- the last entry, and what is before it
+pub last-of : (len start v c : ℕ) (old mid : List (ℕ × ℕ)) → IsStoredWord len old → old ≡ mid ++ (v, c) ∷ [] → 0 < c → reverse (word_of len start old) ≡ v ∷ replicate (c - 1) v ++ back start mid
+last-of len start v c old mid i e h =
+    let stored : IsStoredWord len (mid ++ (v, c) ∷ []) = rw e at i in
+    reverse-some len start old (some-run len mid (v, c) stored) ∙ ap (back start) e ∙ back-first start mid (v, c) h
+
+-- the last entry was changed
+pub record Changed (len start v x : ℕ) (rest : List ℕ) (new : List (ℕ × ℕ)) : Type 0 where
+  pub stored : IsStoredWord len new
+  pub word : reverse (word_of len start new) ≡ x ∷ rest
+
+-- the last entry of a run of more
+pub changed-inside : (len start v x c : ℕ) (old mid one new : List (ℕ × ℕ)) → IsStoredWord len old → old ≡ mid ++ (v, c) ∷ [] → 1 < c → v ≢ x →
+    one ≡ mid ++ (v, c - 1) ∷ [] → new ≡ one ++ (x, 1) ∷ [] → Changed len start v x (replicate (c - 1) v ++ back start mid) new
+changed-inside len start v x c old mid one new i e more differs first second =
+    let stored : IsStoredWord len (mid ++ (v, c) ∷ []) = rw e at i in
+    let some = some-run len mid (v, c) stored in
+    let long = stored.some some in
+    let was = length-written mid (mid ++ (v, c) ∷ []) v c (written-push mid (v, c)) in
+    let between = length-written mid (mid ++ (v, c - 1) ∷ []) v (c - 1) (written-push mid (v, c - 1)) in
+    let now = length-written one (one ++ (x, 1) ∷ []) x 1 (written-push one (x, 1)) in
+    let same : length (written one) ≡ length (written (mid ++ (v, c - 1) ∷ [])) = ap (λ z. length (written z)) first in
+    let apart = apart-front mid (v, c) stored.apart in
+    let under : AreApart one = rw first (apart-push mid (v, c - 1) apart.0 apart.1) in
+    let top : TopDiffers x one = rw first (top-differs x mid (v, c - 1) differs) in
+    let few = i.few in
+    record {
+      stored = rw second (stored-made len (one ++ (x, 1) ∷ []) some few (omega arith) (apart-push one (x, 1) under top));
+      word =
+          reverse-some len start new some ∙ ap (back start) second ∙ back-push start one (x, 1)
+          ∙ ap (λ z. x ∷ back start z) first ∙ ap (λ z. x ∷ z) (back-push start mid (v, c - 1));
+    }
+
+-- the one entry of a run
+pub changed-alone : (len start v x c : ℕ) (old mid new : List (ℕ × ℕ)) → IsStoredWord len old → old ≡ mid ++ (v, c) ∷ [] → c ≡ 1 →
+    written new ≡ written mid ++ replicate 1 x → AreApart new → Changed len start v x (replicate (c - 1) v ++ back start mid) new
+changed-alone len start v x c old mid new i e one is a =
+    let stored : IsStoredWord len (mid ++ (v, c) ∷ []) = rw e at i in
+    let some = some-run len mid (v, c) stored in
+    let long = stored.some some in
+    let was = length-written mid (mid ++ (v, c) ∷ []) v c (written-push mid (v, c)) in
+    let now = length-written mid new x 1 is in
+    let few = i.few in
+    let none : c - 1 ≡ 0 = omega arith in
+    record {
+      stored = stored-made len new some few (omega arith) a;
+      word =
+          reverse-some len start new some ∙ back-written start mid new x 1 is
+          ∙ ap (λ n. x ∷ replicate n v ++ back start mid) (sym none);
+    }
+
+-- the word under a run of 1 has room for another run
+pub under-short : (len v c : ℕ) (old mid : List (ℕ × ℕ)) → IsStoredWord len old → old ≡ mid ++ (v, c) ∷ [] → 0 < c → length (written mid) + 1 < 2 ^ 32
+under-short len v c old mid i e h =
+    let stored : IsStoredWord len (mid ++ (v, c) ∷ []) = rw e at i in
+    let long = stored.some (some-run len mid (v, c) stored) in
+    let was = length-written mid (mid ++ (v, c) ∷ []) v c (written-push mid (v, c)) in
+    let few = i.few in
+    omega arith
+
+pub under-apart : (len v c : ℕ) (old mid : List (ℕ × ℕ)) → IsStoredWord len old → old ≡ mid ++ (v, c) ∷ [] → AreApart mid
+under-apart len v c old mid i e = let stored : IsStoredWord len (mid ++ (v, c) ∷ []) = rw e at i in (apart-front mid (v, c) stored.apart).0
+
+-- a number that is not 0 changes an entry
+pub add-differs : (d v by : ℕ) → v < d → 0 < by → by < d → v ≢ add d v by
+add-differs d v by lt some below e = absurd (omega (arith, add-cases d v by))
+
+open-twos : (c : ℕ) (r : List ℕ) → IsCons r → is_open (replicate c 2 ++ r) ≡ is_open r
+open-twos zero r h = refl
+open-twos (suc c) r h = open-two (replicate c 2 ++ r) (cons-behind c 2 r h) ∙ open-twos c r h
+
+-- whether the word is open, by its run on top and the one under it
+module _ (len start : ℕ) (rs : List (ℕ × ℕ)) (i : IsStoredWord len rs) (f : AreFilled rs) (h : 0 < length rs) where
+  abbrev below : List (ℕ × ℕ)
+  below = take (length rs - 1) rs
+
+  abbrev top : ℕ × ℕ
+  top = get_or rs (length rs - 1) (0, 0)
+
+  split : rs ≡ below ++ top ∷ []
+  split = last-run rs h
+
+  whole : IsStoredWord len (below ++ top ∷ [])
+  whole = rw (← split) i
+
+  top-filled : AreFilled below × (0 < top.1)
+  top-filled = filled-front below top (rw (← split) f)
+
+  end : reverse (word_of len start rs) ≡ back start (below ++ top ∷ [])
+  end = reverse-some len start rs (some-run len below top whole) ∙ ap (back start) split
+
+  seen : is_open (reverse (word_of len start rs)) ≡ is_open (top.0 ∷ replicate (top.1 - 1) top.0 ++ back start below)
+  seen = ap is_open (end ∙ back-first start below top top-filled.1)
+
+  pub open-at-one : top.0 ≡ 1 → true ≡ is_open (reverse (word_of len start rs))
+  open-at-one one = sym (seen ∙ ap (λ n. is_open (n ∷ replicate (top.1 - 1) top.0 ++ back start below)) one
+      ∙ open-one (replicate (top.1 - 1) top.0 ++ back start below) (cons-behind (top.1 - 1) top.0 (back start below) (back-cons start below)))
+
+  pub open-at-none : top.0 ≢ 1 → top.0 ≢ 2 → false ≡ is_open (reverse (word_of len start rs))
+  open-at-none not_one not_two = sym (seen ∙ open-other top.0 (replicate (top.1 - 1) top.0 ++ back start below) not_one not_two)
+
+  under-twos : top.0 ≡ 2 → is_open (reverse (word_of len start rs)) ≡ is_open (back start below)
+  under-twos two =
+      ap is_open (end ∙ back-push start below top) ∙ ap (λ n. is_open (replicate top.1 n ++ back start below)) two
+      ∙ open-twos top.1 (back start below) (back-cons start below)
+
+  pub open-at-start : top.0 ≡ 2 → length rs < 2 → false ≡ is_open (reverse (word_of len start rs))
+  open-at-start two short =
+      let nothing : length rs - 1 ≡ 0 = omega arith in
+      sym (under-twos two ∙ ap (λ n. is_open (back start (take n rs))) nothing)
+
+  pub open-at-two : top.0 ≡ 2 → 2 ≤ length rs → eqb (get_or rs (length rs - 2) (0, 0)).0 1 ≡ is_open (reverse (word_of len start rs))
+  open-at-two two more =
+      let long = length-take-le (length rs - 1) rs (omega arith) in
+      let next : get_or below (length below - 1) (0, 0) ≡ get_or rs (length rs - 2) (0, 0) =
+      ap (λ n. get_or below n (0, 0)) (let q : length below - 1 ≡ length rs - 2 = omega arith in q)
+      ∙ get_or-take (length rs - 1) rs (length rs - 2) (0, 0) (omega arith) in
+      let under = last-run below (omega arith) in
+      let bottom = take (length below - 1) below in
+      let run = get_or below (length below - 1) (0, 0) in
+      let filled : AreFilled (bottom ++ run ∷ []) = rw (← under) top-filled.0 in
+      let differs : TopDiffers top.0 (bottom ++ run ∷ []) = rw (← under) (apart-front below top whole.apart).1 in
+      let not_two : run.0 ≢ 2 = λ e. differs-top top.0 bottom run differs (e ∙ sym two) in
+      let rest = replicate (run.1 - 1) run.0 ++ back start bottom in
+      let cons = cons-behind (run.1 - 1) run.0 (back start bottom) (back-cons start bottom) in
+      ap (λ (q : ℕ × ℕ). eqb q.0 1) (sym next)
+      ∙ sym (under-twos two ∙ ap (λ z. is_open (back start z)) under ∙ ap is_open (back-first start bottom run (filled-front bottom run filled).1) ∙ open-by run.0 rest cons not_two)
+    where
+      open-by : (t : ℕ) (r : List ℕ) → IsCons r → t ≢ 2 → is_open (t ∷ r) ≡ eqb t 1
+      open-by t [] c h = absurd c
+      open-by t (x ∷ r) c h = elim (cases_eq t 1) [
+        | inl e ↦ rw (eq-eqb t 1 e) refl
+        | inr e ↦ rw (ne_eqb t 1 e, ne_eqb t 2 h) refl
+      ]
+
+-- two words that are kept alike are equal
+pub same-words : (len other start first : ℕ) (rs ss : List (ℕ × ℕ)) → len ≡ other → (len ≡ 0) ⊎ (start ≡ first) → rs ≡ ss → word_of len start rs ≡ word_of other first ss
+same-words len other start first rs ss long begins runs =
+    ap₂ (λ n z. word_of n start z) long runs ∙ elim begins [
+      | inl none ↦ word-none other start ss (sym long ∙ none) ∙ sym (word-none other first ss (sym long ∙ none))
+      | inr same ↦ ap (λ n. word_of other n ss) same
+    ]
+
+-- equal words are kept alike
+pub same-runs : (len other start first : ℕ) (rs ss : List (ℕ × ℕ)) → IsStoredWord len rs → IsStoredWord other ss → AreFilled rs → AreFilled ss →
+    word_of len start rs ≡ word_of other first ss → (len ≡ other) × ((len ≡ 0) ⊎ (start ≡ first)) × (rs ≡ ss)
+same-runs len other start first rs ss i j f g e =
+    let long : len ≡ other = sym (word-length len start rs i) ∙ ap length e ∙ word-length other first ss j in
+    elim (cases_eq len 0) [
+      | inl none ↦ (long, inl none, i.none none ∙ sym (j.none (sym long ∙ none)))
+      | inr ne ↦
+          let whole : start ∷ written rs ≡ first ∷ written ss = sym (word-some len start rs (omega arith)) ∙ e ∙ word-some other first ss (omega arith) in
+          let begins : start ≡ first = cc in
+          let turns : written rs ≡ written ss = cc in
+          (long, inr begins, one-list rs ss f g i.apart j.apart turns)
+    ]
+
+-- the runs written out, one run on
+pub written-next : (rs : List (ℕ × ℕ)) (k : ℕ) → k < length rs → written (take (k + 1) rs) ≡ written (take k rs) ++ replicate (get_or rs k (0, 0)).1 (get_or rs k (0, 0)).0
+written-next rs k h = ap written (take_more rs k (0, 0) h) ∙ written-push (take k rs) (get_or rs k (0, 0))
+
+pub written-within : (rs : List (ℕ × ℕ)) (k : ℕ) → k < length rs → length (written (take k rs)) + (get_or rs k (0, 0)).1 ≤ length (written rs)
+written-within rs k h =
+    let next = length-written (take k rs) (take (k + 1) rs) (get_or rs k (0, 0)).0 (get_or rs k (0, 0)).1 (written-next rs k h) in
+    let whole : length (written rs) ≡ length (written (take (k + 1) rs)) + length (written (drop (k + 1) rs)) =
+    ap (λ z. length (written z)) (sym (take-append-drop (k + 1) rs)) ∙ ap length (written-append (take (k + 1) rs) (drop (k + 1) rs))
+    ∙ length-append (written (take (k + 1) rs)) (written (drop (k + 1) rs)) in
+    omega arith
+
+-- two pairs are equal where their numbers are
+pub pair-decides : (a b : ℕ × ℕ) → Decides (eqb a.0 b.0 && eqb a.1 b.1) (a ≡ b)
+pair-decides a b = elim (cases_eq a.0 b.0) [
+  | inl first ↦ elim (cases_eq a.1 b.1) [
+    | inl second ↦
+        let same : a ≡ b = ap₂ pair first second in
+        ((λ yes. same), (λ e. rw (eq-eqb a.0 b.0 first, eq-eqb a.1 b.1 second) refl))
+    | inr other ↦ ((λ yes. absurd (let no = rw (eq-eqb a.0 b.0 first, ne_eqb a.1 b.1 other) at yes in cc)), (λ e. absurd (other (ap (λ (q : ℕ × ℕ). q.1) e))))
+  ]
+  | inr other ↦ ((λ yes. absurd (let no = rw (ne_eqb a.0 b.0 other) at yes in cc)), (λ e. absurd (other (ap (λ (q : ℕ × ℕ). q.0) e))))
+]
+  where
+    pair : ℕ → ℕ → ℕ × ℕ
+    pair v c = (v, c)

@@ -1,0 +1,6 @@
+use Rattle.std.proofs.Common.{arith}
+use Rattle.turn_words.proofs.Run_words.{runs-few}
+use Rattle.turn_words.proofs.run_word.RunWord.reserve.Goals as goal
+
+pub overflow_sub-runs : goal.overflow_sub-runs
+overflow_sub-runs c = omega (arith, runs-few c.self.inside.len c.self.inside.runs.runs c.self.invariant c.len.ensures.filled)
