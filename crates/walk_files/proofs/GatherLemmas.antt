@@ -7,7 +7,7 @@ use Rattle.std.proofs.lemmas.List.Concat.{flat_map-append}
 use Rattle.std.proofs.lemmas.Option.{slice_get-get_or, slice_get_within, get_or_from_slice_get}
 use Rattle.std.proofs.Math.Seq.{take-suc}
 use Rattle.surf_model.specs.Surfaces.{is_flipped}
-use Rattle.quad_system.specs.Labellings.{FaceLabels, LabellingView, labels_at, signs_of}
+use Rattle.labellings.specs.Labellings.{FaceLabels, LabellingView, labels_at, signs_of}
 use Rattle.surf_io.specs.Bytes.{append_told, Appends, AppendsPrefix}
 use Rattle.surf_io.specs.Faults.{Rose}
 use Rattle.surf_io.specs.Calls.{OnlyWrites, WroteAll, WrotePart}
@@ -15,7 +15,7 @@ use Rattle.surf_io.proofs.Appending.{appends_twice, prefix_after, prefix_wider}
 use Rattle.text_scan.specs.Plain.{line_of}
 use Rattle.walk_files.specs.Gathered.{Gathers}
 use Rattle.walk_files.specs.DenialTexts.{spaced, first_entry, entry_words, face_words, places_words, word_words, labels_head_words, lines_behind_faces, labelling_text, words_text, denial_text}
-use Rattle.quad_system.specs.declared.denial.Denial.{Denial}
+use Rattle.labellings.specs.declared.denial.Denial.{Denial}
 
 appends_nothing : (old : Option (List ℕ)) → Appends old old []
 appends_nothing None = refl

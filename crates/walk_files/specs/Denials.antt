@@ -6,8 +6,8 @@ use Rattle.text_scan.specs.Lines.{Line, full_lines, end_line}
 use Rattle.text_scan.specs.Numbers.{signed_of, fits_i64}
 use Rattle.turn_words.specs.declared.word.Word.{Word}
 use Rattle.turn_words.specs.declared.word.Word.TheVariants.{Turns, Flat}
-use Rattle.quad_system.specs.Labellings.{FaceLabels, LabellingView}
-use Rattle.quad_system.specs.declared.denial.Denial.{Denial}
+use Rattle.labellings.specs.Labellings.{FaceLabels, LabellingView}
+use Rattle.labellings.specs.declared.denial.Denial.{Denial}
 use Rattle.walk_files.specs.Each.{each_some}
 use Rattle.walk_files.specs.NumberTexts.{number_of, entries_of}
 use Rattle.walk_files.specs.Certificates.{◌>>=◌, behind_head, head_of_text}

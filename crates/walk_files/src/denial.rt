@@ -2,7 +2,7 @@
 ghost use Rattle.std.specs.Prelude.{◌≡◌, ◌⊎◌, ◌^◌, ◌<◌, List, [], ◌∷◌, length, drop, IsTrue, Some, None, Ok, Err, OnOk, MatchResult};
 ghost use Rattle.text_scan.specs.Lines.{is_filled};
 ghost use Rattle.text_scan.specs.Unread.{lines_left, past_word};
-ghost use Rattle.quad_system.specs.declared.denial.Denial.{Denial};
+ghost use Rattle.labellings.specs.declared.denial.Denial.{Denial};
 ghost use Rattle.turn_words.specs.declared.word.Word.TheVariants.{Turns};
 ghost use Rattle.walk_files.specs.Each.{each_some};
 ghost use Rattle.walk_files.specs.NumberTexts.{number_of, entries_of};
@@ -11,7 +11,7 @@ ghost use Rattle.walk_files.specs.declared.fault.CertFault.TheVariants.{Bad, Out
 
 use crate::fault::CertFault;
 use crate::numbers::{number, number_of_word};
-use quad_system::{Denial, Labelling};
+use labellings::{Denial, Labelling};
 use std::alloc::{AllocError, Global};
 use text_scan::{Cursor, signed};
 use turn_words::{TurnWord, Word};

@@ -5,7 +5,7 @@ use Rattle.std.proofs.lemmas.Result.{err_from_is_err_and}
 use Rattle.surf_model.specs.Surfaces.{is_flipped}
 use Rattle.surf_io.specs.Calls.{OnlyWrites, WroteAll, WrotePart}
 use Rattle.text_scan.specs.Plain.{line_of}
-use Rattle.quad_system.specs.Labellings.{FaceLabels, labels_at, signs_of}
+use Rattle.labellings.specs.Labellings.{FaceLabels, labels_at, signs_of}
 use Rattle.walk_files.specs.Gathered.{Gathers}
 use Rattle.walk_files.specs.DenialTexts.{spaced, face_words}
 use Rattle.walk_files.proofs.GatherLemmas.{EachPut, each-none, each-more, each-failed, each-all, only-then, wrote-first, wrote-after, gathers-then, gathers-put, gathers-all, ok_then, err_then, later_entry, face_of_labelling, line_of-numbers, line_of-entries}

@@ -4,7 +4,7 @@ use Rattle.std.proofs.lemmas.Result.{err_from_is_err_and}
 use Rattle.surf_io.specs.Bytes.{Appends}
 use Rattle.surf_io.specs.Calls.{WroteAll, WrotePart, OnlyWrites}
 use Rattle.text_scan.specs.Plain.{line_of}
-use Rattle.quad_system.specs.Labellings.{FaceLabels}
+use Rattle.labellings.specs.Labellings.{FaceLabels}
 use Rattle.walk_files.specs.Gathered.{Gathers}
 use Rattle.walk_files.specs.DenialTexts.{face_words, places_words, word_words, labels_head_words, labelling_text, words_text, denial_text}
 use Rattle.walk_files.proofs.GatherLemmas.{gathers-then, gathers-all, wrote-first, wrote-after, wrote-last, only-then, ok_then, err_then, err_then_both, denial_text-parts}
