@@ -8,7 +8,7 @@ use Rattle.surf_model.specs.Walks.{IsWalk}
 use Rattle.move_checker.specs.Verdicts.{verdict_of}
 use Rattle.move_checker.specs.declared.judge.Verdict.TheVariants.{Accepted}
 use Rattle.move_checker.proofs.Judgement.{accepted_exactly}
-use Rattle.quad_system.specs.declared.denial.Denial as denials
+use Rattle.labellings.specs.declared.denial.Denial as denials
 use Rattle.walk_files.specs.Certificates.{head_of_text, moves_of_text, with_peak, list_behind, list_of_text}
 use Rattle.walk_files.specs.Denials.{denial_of_lines, denial_behind, denial_of_text}
 use Rattle.walk_files.specs.DenialTexts.{denial_text}
@@ -18,7 +18,7 @@ use Rattle.walk_files.specs.declared.certificate.CertHead.TheVariants as heads
 use Rattle.walk_files.specs.declared.fault.CertFault.{CertFault}
 use Rattle.walk_files.proofs.RoundTrip.{list_of_text-answered}
 use Rattle.walk_files.proofs.DenialRoundTrip.{denial_of_text-answered}
-use Rattle.walk_translate.specs.declared.checking.DenialVerdict.TheVariants as verdicts
+use Rattle.labellings.specs.declared.verdict.DenialVerdict.TheVariants as verdicts
 use Rattle.walk_translate.specs.declared.deciding.Answer.TheVariants.{Homotopic, Different}
 use Rattle.homotopy_cli.specs.Answers.{Outcome, Judged}
 use Rattle.homotopy_cli.specs.Certificates.{Convinces}

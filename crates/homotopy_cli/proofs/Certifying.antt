@@ -13,12 +13,12 @@ use Rattle.halfedge_map.specs.OrientedMeshes.{OrientedMesh, IsOrientedSurface}
 use Rattle.tree_cotree.specs.Splits.{SplitView, IsSplit}
 use Rattle.polygon_cut.specs.Polygons.{PolygonView, IsCutFrom}
 use Rattle.polygon_cut.proofs.SphereLemmas.{all_homotopic}
-use Rattle.quad_system.specs.Denials.{DenialHolds}
-use Rattle.quad_system.specs.GoodLabellings.{IsGood}
-use Rattle.quad_system.specs.Labellings.{LabellingView}
+use Rattle.labellings.specs.Denials.{DenialHolds}
+use Rattle.labellings.specs.GoodLabellings.{IsGood}
+use Rattle.labellings.specs.Labellings.{LabellingView}
 use Rattle.quad_system.specs.PolygonLabellings.{labelling_from}
-use Rattle.quad_system.specs.WalkWords.{IsWordOf}
-use Rattle.quad_system.proofs.WalkWordLemmas.{denial_excludes}
+use Rattle.labellings.specs.WalkWords.{IsWordOf}
+use Rattle.labellings.proofs.WalkWordLemmas.{denial_excludes}
 use Rattle.walk_translate.specs.declared.deciding.Answer.TheVariants as answers
 use Rattle.walk_translate.specs.declared.deciding.Answer.TheVariants.{Different}
 use Rattle.walk_translate.proofs.DecidingLemmas.{words_decide}

@@ -12,12 +12,12 @@ use Rattle.turn_words.specs.declared.word.Word.TheVariants.{Turns, Flat}
 use Rattle.flat_forms.specs.Vectors.{unit_step}
 use Rattle.flat_forms.specs.Pairs.{sum_of_pairs}
 use Rattle.flat_forms.specs.Lemmas.Steps_in_the_plane.{right_one, up_one, left_one, down_one, is-unit}
-use Rattle.quad_system.specs.Denials.{DenialHolds}
-use Rattle.quad_system.specs.GoodLabellings.{IsGood}
-use Rattle.quad_system.specs.Labellings.{FaceLabels, LabellingView, tail_label, head_label}
-use Rattle.quad_system.specs.QuadPaths.{quad_path, side_from, spokes, spokes_by_labels, spokes_of_sides}
-use Rattle.quad_system.specs.WalkWords.{in_pairs, IsWordOf}
-use Rattle.quad_system.specs.declared.denial.Denial.{Denial}
+use Rattle.labellings.specs.Denials.{DenialHolds}
+use Rattle.labellings.specs.GoodLabellings.{IsGood}
+use Rattle.labellings.specs.Labellings.{FaceLabels, LabellingView, tail_label, head_label}
+use Rattle.labellings.specs.QuadPaths.{quad_path, side_from, spokes, spokes_by_labels, spokes_of_sides}
+use Rattle.labellings.specs.WalkWords.{in_pairs, IsWordOf}
+use Rattle.labellings.specs.declared.denial.Denial.{Denial}
 use Rattle.walk_files.specs.DenialTexts.{AreNumbers, FitsDegree, ReadsBack, denial_text}
 use Rattle.homotopy_cli.proofs.TextLengths.{places_below}
 

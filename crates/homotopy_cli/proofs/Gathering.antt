@@ -7,7 +7,7 @@ use Rattle.std.proofs.lemmas.List.{append-nil}
 use Rattle.surf_model.specs.Moves.{PeakedMoves}
 use Rattle.surf_model.specs.declared.moves.Move.{Move}
 use Rattle.text_scan.specs.Lines.{Line, full_lines, end_line}
-use Rattle.quad_system.specs.declared.denial.Denial.{Denial}
+use Rattle.labellings.specs.declared.denial.Denial.{Denial}
 use Rattle.walk_files.specs.Certificates.{moves_of_text, move_of, head_of_text, head_among, head_in, first_head, fitting_head, within_peak, fits, answer_of, head_of, with_peak}
 use Rattle.walk_files.specs.Denials.{denial_of_lines}
 use Rattle.walk_files.specs.Readers.{Certificate, next_of, unless_refused, started, next_answer, answer_first, after_answer, moves_left, moves_to_come, lines_to_come, denial_left}

@@ -3,7 +3,7 @@ use Rattle.std.proofs.Common.{◌≡◌, ◌⊎◌, inl, inr, ℕ, List, refl, s
 use Rattle.std.specs.Prelude.{Option, Result, Ok, Err, MatchResult}
 use Rattle.surf_io.specs.Files.{Files}
 use Rattle.move_checker.specs.declared.judge.Verdict.TheVariants.{Accepted, Peak, AtMove, End}
-use Rattle.walk_translate.specs.declared.checking.DenialVerdict.TheVariants as verdicts
+use Rattle.labellings.specs.declared.verdict.DenialVerdict.TheVariants as verdicts
 use Rattle.walk_translate.specs.declared.deciding.Answer.TheVariants.{Homotopic, Different}
 use Rattle.homotopy_cli.specs.Answers.{Outcome}
 use Rattle.homotopy_cli.specs.Causes.{Exactly}

@@ -7,16 +7,16 @@ use Rattle.surf_model.specs.Edges.{Edge, edge_in}
 use Rattle.surf_model.specs.FaceLists.{FaceList, IsFaceList}
 use Rattle.tree_cotree.proofs.EdgeTables.{some_table}
 use Rattle.turn_words.specs.Wheels.{StandsTwice, IsFirstTwice}
-use Rattle.quad_system.specs.GoodLabellings.{HasShape, HasDegree, HasPlaces, IsGood}
-use Rattle.quad_system.specs.Labellings.{LabellingView}
-use Rattle.quad_system.specs.TableRules.{EntryMeetsRule}
-use Rattle.quad_system.specs.declared.denial.Denial as denials
-use Rattle.quad_system.specs.declared.fault.LabelFault.TheVariants.{Shape, Degree, PlaceTwice, EdgeRule}
-use Rattle.quad_system.proofs.EdgeRuleLemmas.{each-edge, least-against}
-use Rattle.walk_translate.specs.DenialVerdicts.{IsVerdict}
-use Rattle.walk_translate.specs.declared.checking.DenialVerdict.{DenialVerdict}
-use Rattle.walk_translate.specs.declared.checking.DenialVerdict.TheVariants.{Label, WordWrong, Equal, Accepted}
-use Rattle.walk_translate.proofs.VerdictLemmas.{one_verdict}
+use Rattle.labellings.specs.GoodLabellings.{HasShape, HasDegree, HasPlaces, IsGood}
+use Rattle.labellings.specs.Labellings.{LabellingView}
+use Rattle.labellings.specs.TableRules.{EntryMeetsRule}
+use Rattle.labellings.specs.declared.denial.Denial as denials
+use Rattle.labellings.specs.declared.fault.LabelFault.TheVariants.{Shape, Degree, PlaceTwice, EdgeRule}
+use Rattle.labellings.proofs.EdgeRuleLemmas.{each-edge, least-against}
+use Rattle.labellings.specs.DenialVerdicts.{IsVerdict}
+use Rattle.labellings.specs.declared.verdict.DenialVerdict.{DenialVerdict}
+use Rattle.labellings.specs.declared.verdict.DenialVerdict.TheVariants.{Label, WordWrong, Equal, Accepted}
+use Rattle.labellings.proofs.VerdictLemmas.{one_verdict}
 use Rattle.homotopy_cli.specs.Answers.{Answer, Judged}
 use Rattle.homotopy_cli.specs.Checks.{End, Refuse, Pass}
 use Rattle.homotopy_cli.specs.Verify.{judgement}

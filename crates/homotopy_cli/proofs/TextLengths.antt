@@ -6,7 +6,7 @@ use Rattle.std.proofs.lemmas.Grind.{flat_map-append}
 use Rattle.std.proofs.lemmas.List.{length-map}
 use Rattle.text_scan.specs.Plain.{line_of}
 use Rattle.surf_model.specs.Moves.{PeakedMoves}
-use Rattle.quad_system.specs.declared.denial.Denial.{Denial}
+use Rattle.labellings.specs.declared.denial.Denial.{Denial}
 use Rattle.walk_files.specs.MoveTexts.{move_words, list_lines, list_text}
 use Rattle.walk_files.specs.DenialTexts.{face_words, places_words, word_words, labels_head_words, lines_behind_faces, denial_text}
 

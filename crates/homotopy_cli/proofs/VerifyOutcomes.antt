@@ -8,12 +8,12 @@ use Rattle.move_checker.specs.Verdicts.{verdict_of}
 use Rattle.move_checker.specs.declared.judge.Verdict.{Verdict}
 use Rattle.move_checker.specs.declared.judge.Verdict.TheVariants.{Accepted, Peak, AtMove, End}
 use Rattle.move_checker.proofs.Judgement.{accepted_exactly}
-use Rattle.quad_system.specs.Denials.{DenialHolds}
-use Rattle.quad_system.specs.declared.denial.Denial.{Denial}
-use Rattle.quad_system.proofs.WalkWordLemmas.{denial_excludes}
-use Rattle.walk_translate.specs.DenialVerdicts.{IsVerdict}
-use Rattle.walk_translate.specs.declared.checking.DenialVerdict.{DenialVerdict}
-use Rattle.walk_translate.specs.declared.checking.DenialVerdict.TheVariants as verdicts
+use Rattle.labellings.specs.Denials.{DenialHolds}
+use Rattle.labellings.specs.declared.denial.Denial.{Denial}
+use Rattle.labellings.proofs.WalkWordLemmas.{denial_excludes}
+use Rattle.labellings.specs.DenialVerdicts.{IsVerdict}
+use Rattle.labellings.specs.declared.verdict.DenialVerdict.{DenialVerdict}
+use Rattle.labellings.specs.declared.verdict.DenialVerdict.TheVariants as verdicts
 use Rattle.homotopy_cli.specs.Answers.{Answer, Outcome, Judged}
 use Rattle.homotopy_cli.specs.Checks.{Refuse, Pass, Passes, IsTold, found_or}
 use Rattle.homotopy_cli.specs.Commands.{Row, Verify, IsRow}

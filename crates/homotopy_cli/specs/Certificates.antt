@@ -2,7 +2,7 @@
 use Rattle.std.specs.Prelude.{ℕ, List}
 use Rattle.surf_model.specs.FaceLists.{FaceList}
 use Rattle.move_lifting.specs.Lifts.{LeadsAtPeak}
-use Rattle.quad_system.specs.Denials.{DenialHolds}
+use Rattle.labellings.specs.Denials.{DenialHolds}
 use Rattle.walk_translate.specs.declared.deciding.Answer as deciding
 use Rattle.walk_translate.specs.declared.deciding.Answer.TheVariants.{Homotopic, Different}
 use Rattle.homotopy_cli.specs.declared.certificate.Certificate.{Certificate}

@@ -13,9 +13,9 @@ use Rattle.surf_io.specs.Files.{Files}
 use Rattle.surf_model.specs.FaceLists.{FaceList}
 use Rattle.surf_model.specs.Moves as moves
 use Rattle.surf_model.specs.Moves.{PeakedMoves, Leads}
-use Rattle.quad_system.specs.GoodLabellings.{IsGood}
-use Rattle.quad_system.specs.WalkWords.{IsWordOf}
-use Rattle.quad_system.specs.declared.denial.Denial.{Denial}
+use Rattle.labellings.specs.GoodLabellings.{IsGood}
+use Rattle.labellings.specs.WalkWords.{IsWordOf}
+use Rattle.labellings.specs.declared.denial.Denial.{Denial}
 use Rattle.walk_files.specs.DenialTexts.{denial_text}
 use Rattle.walk_files.specs.MoveTexts.{list_text}
 use Rattle.walk_translate.specs.declared.deciding.Answer.TheVariants.{Homotopic, Different}

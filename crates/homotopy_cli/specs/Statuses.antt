@@ -2,8 +2,8 @@
 use Rattle.std.specs.Prelude.{◌≡◌, ℕ, ◌⊎◌}
 use Rattle.move_checker.specs.declared.judge.Verdict.{Verdict}
 use Rattle.move_checker.specs.declared.judge.Verdict.TheVariants.{Accepted, Peak, AtMove, End}
-use Rattle.walk_translate.specs.declared.checking.DenialVerdict.{DenialVerdict}
-use Rattle.walk_translate.specs.declared.checking.DenialVerdict.TheVariants as denials
+use Rattle.labellings.specs.declared.verdict.DenialVerdict.{DenialVerdict}
+use Rattle.labellings.specs.declared.verdict.DenialVerdict.TheVariants as denials
 use Rattle.walk_translate.specs.declared.deciding.Answer as deciding
 use Rattle.walk_translate.specs.declared.deciding.Answer.TheVariants.{Homotopic, Different}
 use Rattle.homotopy_cli.specs.Answers.{Outcome, Measured, Judged, Decided, Certified, Reduced}

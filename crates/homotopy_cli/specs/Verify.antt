@@ -4,10 +4,10 @@ use Rattle.surf_io.specs.Files.{Files}
 use Rattle.surf_model.specs.FaceLists.{FaceList}
 use Rattle.surf_model.specs.Moves.{PeakedMoves, Leads, Homotopic, greatest_darts}
 use Rattle.move_checker.specs.Verdicts.{verdict_of}
-use Rattle.quad_system.specs.Denials.{DenialHolds}
-use Rattle.quad_system.specs.declared.denial.Denial as denials
-use Rattle.walk_translate.specs.DenialVerdicts.{IsVerdict}
-use Rattle.walk_translate.specs.declared.checking.DenialVerdict.{DenialVerdict}
+use Rattle.labellings.specs.Denials.{DenialHolds}
+use Rattle.labellings.specs.declared.denial.Denial as denials
+use Rattle.labellings.specs.DenialVerdicts.{IsVerdict}
+use Rattle.labellings.specs.declared.verdict.DenialVerdict.{DenialVerdict}
 use Rattle.homotopy_cli.specs.Answers.{Answer, Judged}
 use Rattle.homotopy_cli.specs.Checks.{Check, End, Refuse, Pass, Holds, pass, without_files, ◌>>=◌}
 use Rattle.homotopy_cli.specs.Commands.{IsRow, Verify}

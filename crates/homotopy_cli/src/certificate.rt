@@ -10,7 +10,7 @@ ghost use Rattle.homotopy_cli.specs.declared.refusal.Refusal.TheVariants as refu
 ghost use Rattle.homotopy_cli.specs.declared.stop.Stop.{Stop};
 
 use crate::stop::Stop;
-use quad_system::Denial;
+use labellings::Denial;
 use std::alloc::Global;
 use surf_model::MoveList;
 use walk_files::{CertHead, CertReader};

@@ -5,7 +5,7 @@ ghost use Rattle.surf_io.specs.Faults.{Rose};
 ghost use Rattle.surf_model.specs.Moves.{Homotopic};
 ghost use Rattle.surf_model.specs.Walks.{IsWalk, HaveCommonEnds};
 ghost use Rattle.polygon_cut.specs.Polygons.{IsPolygonOf};
-ghost use Rattle.quad_system.specs.Denials.{DenialHolds};
+ghost use Rattle.labellings.specs.Denials.{DenialHolds};
 ghost use Rattle.homotopy_cli.specs.Certificates.{Convinces};
 ghost use Rattle.homotopy_cli.specs.Certify.{Certifies, IsWithinLimits, limit_fault};
 ghost use Rattle.homotopy_cli.specs.Certify as of_certify;
@@ -18,14 +18,14 @@ use crate::refusal::Refusal;
 use crate::stop::Stop;
 use crate::surface_input::read_surface;
 use halfedge_map::Surface;
+use labellings::{Denial, GoodLabelling, word_of};
 use move_lifting::{MOST_LIFTED_DARTS, MOST_LIFTED_SIDES, lift};
 use polygon_cut::{Polygon, cut};
-use quad_system::{Denial, GoodLabelling};
+use quad_system::FromPolygon;
 use std::alloc::{AllocError, Global};
 use surf_io::Shelf;
 use surf_model::Walk;
 use tree_cotree::split_edges;
-use walk_translate::word_of;
 
 /// A certificate for the two walks in the file `walks` on the surface in the file `mesh`: moves that lead from the first to
 /// the second, or a denial that holds.
@@ -105,7 +105,7 @@ fn deny(
 {
     let faces = surface.faces();
     let sides = surface.sides();
-    let good = GoodLabelling::from_polygon(alloc, surface, polygon)?;
+    let good = GoodLabelling::from_spent_polygon(alloc, surface, polygon)?;
     let first_word = word_of(alloc, faces, sides, &good, first)?;
     let second_word = word_of(alloc, faces, sides, &good, second)?;
     Ok(Denial {

@@ -4,7 +4,7 @@ ghost use Rattle.surf_io.specs.Calls.{OnlyWrites, WroteAll, WrotePart};
 ghost use Rattle.homotopy_cli.specs.declared.certificate.Certificate.{Certificate};
 ghost use Rattle.homotopy_cli.specs.Replies.{reply_text, reply_status};
 ghost use Rattle.homotopy_cli.specs.Statuses.{IsAnswered};
-ghost use Rattle.walk_translate.specs.declared.checking.DenialVerdict.{DenialVerdict};
+ghost use Rattle.labellings.specs.declared.verdict.DenialVerdict.{DenialVerdict};
 ghost use Rattle.homotopy_cli.specs.Texts.{certificate_text, decision_line, denial_line, fault_word, judgement_line, verdict_line, words_text};
 
 use crate::certificate::Certificate;
@@ -15,13 +15,13 @@ use crate::refusal_line::put_refusal;
 use crate::status::Status;
 use crate::verify::Judgement;
 use crate::word_lines::put_words;
+use labellings::{Denial, DenialVerdict, LabelFault};
 use move_checker::{MoveFault, Verdict};
-use quad_system::{Denial, LabelFault};
 use surf_io::{Failed, Sink};
 use surf_model::MoveList;
 use turn_words::TurnWord;
 use walk_files::{write_denial, write_moves};
-use walk_translate::{Answer, DenialVerdict};
+use walk_translate::Answer;
 
 /// What is written.
 #[derive(Debug, Drop)]

@@ -13,11 +13,11 @@ ghost use Rattle.homotopy_cli.specs.Verify as of_verify;
 use crate::certificate::Certificate;
 use crate::inputs::{read_cert, read_mesh, read_pair};
 use crate::stop::Stop;
+use labellings::{DenialVerdict, check_denial};
 use move_checker::{Verdict, check_moves};
 use std::alloc::{AllocError, Global};
 use surf_io::Shelf;
 use surf_model::{Faces, Sides, Walk};
-use walk_translate::{DenialVerdict, check_denial};
 
 /// What comes of judging a certificate.
 #[derive(Clone, Copy, Debug, PartialEq, Eq)]

@@ -25,15 +25,15 @@ use Rattle.polygon_cut.proofs.LoopLemmas.{IsWay}
 use Rattle.polygon_cut.proofs.FreeLoopLemmas.{freely_on, freely_home}
 use Rattle.polygon_cut.proofs.FreeLawLemmas.{backward_is}
 use Rattle.polygon_cut.proofs.TreeWayLemmas.{up, tree_ways, up_path}
-use Rattle.quad_system.specs.Labellings.{LabellingView}
-use Rattle.quad_system.specs.GoodLabellings.{IsGood}
-use Rattle.quad_system.specs.QuadPaths.{quad_path}
+use Rattle.labellings.specs.Labellings.{LabellingView}
+use Rattle.labellings.specs.GoodLabellings.{IsGood}
+use Rattle.labellings.specs.QuadPaths.{quad_path}
 use Rattle.quad_system.specs.PolygonLabellings.{labelling_from}
-use Rattle.quad_system.proofs.FoldLemmas.{PutLaws, run, run_on}
+use Rattle.labellings.proofs.FoldLemmas.{PutLaws, run, run_on}
 use Rattle.quad_system.proofs.FreePathLemmas.{free_walk_leads, free_walk_below}
-use Rattle.quad_system.proofs.KeepingLemmas.{moves_keep, run_ready}
+use Rattle.labellings.proofs.KeepingLemmas.{moves_keep, run_ready}
 use Rattle.quad_system.proofs.PolygonLabelLemmas.{polygon_good}
-use Rattle.quad_system.proofs.WalkWordLemmas.{quad_path_below, hyper_wheel_of_good, flat_wheel_of_good}
+use Rattle.labellings.proofs.WalkWordLemmas.{quad_path_below, hyper_wheel_of_good, flat_wheel_of_good}
 use Rattle.spoke_paths.specs.Path_steps.{PathLeads}
 use Rattle.spoke_paths.specs.Reduced_words.{IsReduced}
 use Rattle.spoke_paths.specs.declared.step.PathStep.{PathStep}

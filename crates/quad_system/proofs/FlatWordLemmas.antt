@@ -24,10 +24,10 @@ use Rattle.polygon_cut.proofs.LoopLemmas.{IsWay, SameLoop, loop_mul, loop_inv, l
 use Rattle.polygon_cut.proofs.WalkLemmas.{walk_way, other_way}
 use Rattle.polygon_cut.proofs.TreeWayLemmas.{up, tree_ways}
 use Rattle.polygon_cut.proofs.SpokeLemmas.{Loops, spoke, group_of}
-use Rattle.quad_system.specs.QuadPaths.{spokes, spokes_by_labels, quad_path}
+use Rattle.labellings.specs.QuadPaths.{spokes, spokes_by_labels, quad_path}
 use Rattle.quad_system.specs.PolygonLabellings.{labelling_from}
-use Rattle.quad_system.proofs.FoldLemmas.{PutLaws}
-use Rattle.quad_system.proofs.KeepingLemmas.{moves_keep}
+use Rattle.labellings.proofs.FoldLemmas.{PutLaws}
+use Rattle.labellings.proofs.KeepingLemmas.{moves_keep}
 use Rattle.quad_system.proofs.PolygonLabelLemmas.{polygon_good, up_is_add}
 use Rattle.quad_system.proofs.ReadingLemmas.{HasQuads, along_spokes}
 use Rattle.quad_system.proofs.SpokeProductLemmas.{DartSpokes, dart_spokes, polygon_quads, spoke_at, walk_product}

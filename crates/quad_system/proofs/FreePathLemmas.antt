@@ -23,9 +23,9 @@ use Rattle.polygon_cut.proofs.LoopLemmas.{IsWay}
 use Rattle.polygon_cut.proofs.PlaceLemmas.{Crosses, sides_cross}
 use Rattle.polygon_cut.proofs.SpokeLemmas.{up_plain}
 use Rattle.polygon_cut.proofs.WalkLemmas.{walk_way}
-use Rattle.quad_system.specs.QuadPaths.{spokes, spokes_by_labels, quad_path}
+use Rattle.labellings.specs.QuadPaths.{spokes, spokes_by_labels, quad_path}
 use Rattle.quad_system.specs.PolygonLabellings.{labelling_from}
-use Rattle.quad_system.proofs.FoldLemmas.{PutLaws, pair, pair_belongs, led-append, labels_do}
+use Rattle.labellings.proofs.FoldLemmas.{PutLaws, pair, pair_belongs, led-append, labels_do}
 use Rattle.quad_system.proofs.PolygonLabelLemmas.{up_is_add}
 use Rattle.quad_system.proofs.PushPathLemmas.{IsQuadWheel}
 use Rattle.quad_system.proofs.PushWorthLemmas.{polygon_wheel}

@@ -19,9 +19,9 @@ use Rattle.tree_cotree.proofs.LawLemmas.{one_of_three}
 use Rattle.polygon_cut.specs.Polygons.{PolygonView, IsCutFrom, KindLabels, side_at, label_of, one_up}
 use Rattle.polygon_cut.proofs.PolygonLemmas.{is_own_side}
 use Rattle.polygon_cut.proofs.LawLemmas.{labels_ride}
-use Rattle.quad_system.specs.Labellings.{LabellingView, tail_label, head_label}
+use Rattle.labellings.specs.Labellings.{LabellingView, tail_label, head_label}
 use Rattle.quad_system.specs.PolygonLabellings.{labelling_from, IsFull, IsLeftoverSide}
-use Rattle.quad_system.proofs.SideLemmas.{HasPartner, partner_of}
+use Rattle.labellings.proofs.SideLemmas.{HasPartner, partner_of}
 use Rattle.quad_system.proofs.PolygonLabelLemmas.{polygon_good, up_is_add, up_moves, two_up_moves, degree_is, LabelsOfSide, labels_of_side}
 
 one_side : (mesh : FaceList) (s : OrientedMesh) (side other : Side) → IsSide s.mesh side → IsSide s.mesh other

@@ -1,18 +1,12 @@
-pub mod SideLemmas
-pub mod FoldLemmas
-pub mod KeepingLemmas
-pub mod StoredLabellingLemmas
 pub mod PolygonLabelLemmas
 pub mod FullLemmas
-pub mod ReadingLemmas
-pub mod EdgeRuleLemmas
 pub mod PushPathLemmas
 pub mod SpokeProductLemmas
 pub mod PushWorthLemmas
 pub mod FreePathLemmas
 pub mod EqualWordLemmas
-pub mod PlaneGroupLemmas
 pub mod FlatWordLemmas
-pub mod SpokeLemmas
-pub mod WalkWordLemmas
-pub mod PolygonMakingLemmas
+mod ReadingLemmas
+mod PlaneGroupLemmas
+mod PolygonMakingLemmas
+mod ZeroLabelLemmas

@@ -26,8 +26,8 @@ use Rattle.tree_cotree.proofs.SplitLemmas.{OneOfThree, tree_one, cotree_one, lef
 use Rattle.tree_cotree.proofs.LawLemmas.{one_of_three}
 use Rattle.polygon_cut.specs.Polygons.{PolygonView, IsCutFrom, KindLabels, label_of, place_of, one_up, one_down}
 use Rattle.polygon_cut.proofs.LawLemmas.{labels_ride, leftover, four_places}
-use Rattle.quad_system.specs.Labellings.{FaceLabels, labels_at, signs_of, label_at, tail_label, head_label}
-use Rattle.quad_system.specs.GoodLabellings.{IsGood, HasShape, MeetsSomeRule}
+use Rattle.labellings.specs.Labellings.{FaceLabels, LabellingView, labels_at, signs_of, label_at, tail_label, head_label}
+use Rattle.labellings.specs.GoodLabellings.{IsGood, HasShape, MeetsSomeRule}
 use Rattle.quad_system.specs.PolygonLabellings.{face_labels, labelling_from}
 
 -- counting round, in the words of the turn words
@@ -103,7 +103,7 @@ flips_are s polygon f l =
     get_or-map (λ (x : FaceLabels). x.flipped) faces f blank false (omega (arith, long, l))
     ∙ ap (λ (x : FaceLabels). x.flipped) (face_of_labelling s polygon f blank l)
 
-after_side : (s : OrientedMesh) (side : Side) → IsSide s.mesh side → IsSide s.mesh (side_after s.mesh side)
+pub after_side : (s : OrientedMesh) (side : Side) → IsSide s.mesh side → IsSide s.mesh (side_after s.mesh side)
 after_side s side h = record { face = h.face; place = step_within true (length (face_at s.mesh side.face.0)) side.at h.place }
 
 -- the labels of a side are those of its dart and of the next one
@@ -327,6 +327,21 @@ shape_of s split polygon c some = record {
   places_below = All-from_get_or (λ place. place < polygon.degree) polygon.places 0 (λ i l. (c.places some).below i (omega (arith, l, (c.places some).each_spoke)));
 }
 
+-- sides that run oppositely under the signs of the surface do so under those of a labelling that flips the same faces
+pub opposite_under : (s : OrientedMesh) (labelling : LabellingView)
+    → ((f : ℕ) → f < length s.mesh.faces → is_flipped (signs_of labelling) f ≡ is_flipped s.signs f)
+    → (side other : Side) → ArePartners s.mesh side other → RunOppositely s.mesh s.signs side other → RunOppositely s.mesh (signs_of labelling) side other
+opposite_under s labelling flips side other partners r =
+    let one : is_flipped (signs_of labelling) side.face.0 ≡ is_flipped s.signs side.face.0 = flips side.face.0 partners.first.face in
+    let two : is_flipped (signs_of labelling) other.face.0 ≡ is_flipped s.signs other.face.0 = flips other.face.0 partners.second.face in
+    let start : (x : Side) → is_flipped (signs_of labelling) x.face.0 ≡ is_flipped s.signs x.face.0
+    → start_under s.mesh (signs_of labelling) x ≡ start_under s.mesh s.signs x =
+    λ x e. ap (λ (b : Bool). cond b (head_of s.mesh x) (tail_of s.mesh x)) e in
+    let end : (x : Side) → is_flipped (signs_of labelling) x.face.0 ≡ is_flipped s.signs x.face.0
+    → end_under s.mesh (signs_of labelling) x ≡ end_under s.mesh s.signs x =
+    λ x e. ap (λ (b : Bool). cond b (tail_of s.mesh x) (head_of s.mesh x)) e in
+    record { starts = start side one ∙ r.starts ∙ sym (end other two); ends = end side one ∙ r.ends ∙ sym (start other two) }
+
 -- the labelling of a polygon is good
 pub polygon_good : (s : OrientedMesh) (split : SplitView) (polygon : PolygonView) → IsOrientedSurface s → IsSplit s split
     → IsCutFrom s split polygon → 0 < polygon.degree
@@ -346,20 +361,8 @@ polygon_good s split polygon o t c some = record {
   edges = λ u v is. record {
     two_sides = o.closed.two_sides u v is;
     sides = λ side other partners joins. record {
-      opposite = turned side other partners (o.coherent.opposite side other partners);
+      opposite = opposite_under s (labelling_from s polygon) (flips_are s polygon) side other partners (o.coherent.opposite side other partners);
       rule = sides_rule s split polygon o t c (elim (degree_is s split polygon c some) [ inl four ↦ omega arith | inr more ↦ omega arith ]) side other partners;
     };
   };
 }
-  where
-    turned : (side other : Side) → ArePartners s.mesh side other → RunOppositely s.mesh s.signs side other → RunOppositely s.mesh (signs_of (labelling_from s polygon)) side other
-    turned side other partners r =
-        let one : is_flipped (signs_of (labelling_from s polygon)) side.face.0 ≡ is_flipped s.signs side.face.0 = flips_are s polygon side.face.0 partners.first.face in
-        let two : is_flipped (signs_of (labelling_from s polygon)) other.face.0 ≡ is_flipped s.signs other.face.0 = flips_are s polygon other.face.0 partners.second.face in
-        let start : (x : Side) → is_flipped (signs_of (labelling_from s polygon)) x.face.0 ≡ is_flipped s.signs x.face.0
-        → start_under s.mesh (signs_of (labelling_from s polygon)) x ≡ start_under s.mesh s.signs x =
-        λ x e. ap (λ (b : Bool). cond b (head_of s.mesh x) (tail_of s.mesh x)) e in
-        let end : (x : Side) → is_flipped (signs_of (labelling_from s polygon)) x.face.0 ≡ is_flipped s.signs x.face.0
-        → end_under s.mesh (signs_of (labelling_from s polygon)) x ≡ end_under s.mesh s.signs x =
-        λ x e. ap (λ (b : Bool). cond b (tail_of s.mesh x) (head_of s.mesh x)) e in
-        record { starts = start side one ∙ r.starts ∙ sym (end other two); ends = end side one ∙ r.ends ∙ sym (start other two) }

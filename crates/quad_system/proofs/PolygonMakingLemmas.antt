@@ -15,10 +15,10 @@ use Rattle.surf_model.proofs.SideNumberLemmas.{first_side-more, first_side-all, 
 use Rattle.halfedge_map.specs.OrientedMeshes.{OrientedMesh}
 use Rattle.halfedge_map.specs.DartMaps.{darts_of, dart_at_corner}
 use Rattle.polygon_cut.specs.Polygons.{PolygonView, label_of}
-use Rattle.quad_system.specs.Labellings.{FaceLabels, LabellingView}
-use Rattle.quad_system.specs.PolygonLabellings.{at_corners, face_labels, labelling_from}
-use Rattle.quad_system.specs.StoredLabellings.{with_signs, stored_labelling, IsStoredLabelling}
-use Rattle.quad_system.proofs.StoredLabellingLemmas.{stored_labelling-push, IsStoredLabelling-push}
+use Rattle.labellings.specs.Labellings.{FaceLabels, LabellingView}
+use Rattle.quad_system.specs.PolygonLabellings.{at_corners, face_labels, labelling_from, numbers_alone}
+use Rattle.labellings.specs.StoredLabellings.{with_signs, stored_labelling, IsStoredLabelling}
+use Rattle.labellings.proofs.StoredLabellingLemmas.{stored_labelling-push, IsStoredLabelling-push}
 
 -- the labels of the corners of a face
 abbrev pub labels_of_face : OrientedMesh → PolygonView → ℕ → List ℕ
@@ -250,3 +250,11 @@ made_stored s polygon k signs ends labels places all made few =
       few_labels = stored.few_labels;
       few_places = few;
     }
+
+-- the labelling asks for the numbers of the polygon alone
+pub told_alone : (s : OrientedMesh) (polygon : PolygonView) (degree : ℕ) (labels places : List ℕ) → degree ≡ polygon.degree → labels ≡ polygon.labels
+    → places ≡ polygon.places → labelling_from s (numbers_alone degree labels places) ≡ labelling_from s polygon
+told_alone s polygon degree labels places degree_is labels_are places_are =
+    ap (λ (n : ℕ). labelling_from s (numbers_alone n labels places)) degree_is
+    ∙ ap (λ (xs : List ℕ). labelling_from s (numbers_alone polygon.degree xs places)) labels_are
+    ∙ ap (λ (xs : List ℕ). labelling_from s (numbers_alone polygon.degree polygon.labels xs)) places_are

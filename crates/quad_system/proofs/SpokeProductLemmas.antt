@@ -27,10 +27,10 @@ use Rattle.polygon_cut.proofs.PolygonLemmas.{is_own_side}
 use Rattle.polygon_cut.proofs.LawLemmas.{labels_ride}
 use Rattle.polygon_cut.proofs.TreeWayLemmas.{up, tree_ways}
 use Rattle.polygon_cut.proofs.SpokeLemmas.{Loops, value, value_is, value_twin, spoke, group_of, dart_is_two_spokes, dart_way}
-use Rattle.quad_system.specs.Labellings.{LabellingView, signs_of, tail_label, head_label}
-use Rattle.quad_system.specs.QuadPaths.{spokes, spokes_by_labels, quad_path}
+use Rattle.labellings.specs.Labellings.{LabellingView, signs_of, tail_label, head_label}
+use Rattle.labellings.specs.QuadPaths.{spokes, spokes_by_labels, quad_path}
 use Rattle.quad_system.specs.PolygonLabellings.{labelling_from}
-use Rattle.quad_system.proofs.SideLemmas.{SpokesOfSide, spokes_of_side}
+use Rattle.labellings.proofs.SideLemmas.{SpokesOfSide, spokes_of_side}
 use Rattle.quad_system.proofs.PolygonLabelLemmas.{polygon_good, up_is_add, down_is_add, degree_is, LabelsOfSide, labels_of_side, flips_are}
 use Rattle.quad_system.proofs.ReadingLemmas.{HasQuads, along_spokes}
 

@@ -1,9 +1,1 @@
-pub mod Labellings
-pub mod StoredLabellings
-pub mod GoodLabellings
-pub mod LabelFaults
-pub mod TableRules
-pub mod QuadPaths
 pub mod PolygonLabellings
-pub mod WalkWords
-pub mod Denials

@@ -1,5 +1,5 @@
 -- The labelling that a polygon gives: the corner of a face has the label of the face's dart that starts there.
-use Rattle.std.specs.Prelude.{◌≡◌, ℕ, ◌<◌, Bool, if◌then◌else◌, List, length, map}
+use Rattle.std.specs.Prelude.{◌≡◌, ℕ, ◌<◌, Bool, if◌then◌else◌, List, [], ◌∷◌, length, map}
 use Rattle.std.specs.List.{enumerate_from, range_with_len, slice_rotate_right}
 use Rattle.surf_model.specs.FaceLists.{FaceList}
 use Rattle.surf_model.specs.Darts.{IsSide}
@@ -8,8 +8,8 @@ use Rattle.surf_model.specs.declared.edges.Side.{Side}
 use Rattle.halfedge_map.specs.OrientedMeshes.{OrientedMesh}
 use Rattle.halfedge_map.specs.DartMaps.{dart_at_corner}
 use Rattle.polygon_cut.specs.Polygons.{PolygonView, label_of}
-use Rattle.quad_system.specs.Labellings.{FaceLabels, LabellingView, tail_label, head_label}
-use Rattle.quad_system.specs.GoodLabellings.{MeetsLeftoverRule}
+use Rattle.labellings.specs.Labellings.{FaceLabels, LabellingView, tail_label, head_label}
+use Rattle.labellings.specs.GoodLabellings.{MeetsLeftoverRule}
 
 -- the labels of the darts of a face in the order of their numbers, put at the corners where the darts start: in a flipped face a dart
 -- starts at the corner after the one with its number
@@ -32,6 +32,10 @@ labelling_from surface polygon =
       places = polygon.places;
     }
 
+-- a polygon of which only the labels of its darts and the places of its spokes are told, all that its labelling asks for
+abbrev pub numbers_alone : ℕ → List ℕ → List ℕ → PolygonView
+numbers_alone degree labels places = record { degree = degree; sides = []; labels = labels; places = places }
+
 -- the edge of a side meets the leftover rule
 abbrev pub IsLeftoverSide : FaceList → LabellingView → Side → Type 0
 IsLeftoverSide mesh labelling side =
@@ -51,3 +55,13 @@ pub record HasOneSide (mesh : FaceList) (labelling : LabellingView) (i : ℕ) : 
 -- This is no part of good.
 abbrev pub IsFull : FaceList → LabellingView → Type 0
 IsFull mesh labelling = (i : ℕ) → i < labelling.degree → HasOneSide mesh labelling i
+
+-- Such a good labelling: the label 0 at each corner, under five spokes. It tells nothing of a walk.
+abbrev pub all_zero : OrientedMesh → LabellingView
+all_zero surface =
+    record {
+      degree = 5;
+      faces =
+          map (λ p. record { flipped = is_flipped surface.signs p.0; labels = map (λ _. 0) p.1 }) (enumerate_from 0 surface.mesh.faces);
+      places = 0 ∷ 1 ∷ 2 ∷ 3 ∷ 4 ∷ [];
+    }

@@ -1,7 +1,6 @@
-//! What holds of good labellings, said of the definitions. A call of one of these functions does nothing; its
+//! What holds of the labelling of a cut, said of the definitions. A call of one of these functions does nothing; its
 //! contract is the law.
 ghost use Rattle.std.specs.Prelude.{◌≡◌, ◌↔◌, ℕ, ◌<◌, ◌≤◌, List, All, length};
-ghost use Rattle.surf_model.specs.FaceLists.{FaceList, IsFaceList};
 ghost use Rattle.surf_model.specs.Walks.{IsWalk, HaveCommonEnds};
 ghost use Rattle.surf_model.specs.Moves.{Homotopic};
 ghost use Rattle.turn_words.specs.Form_laws.{led};
@@ -9,30 +8,19 @@ ghost use Rattle.turn_words.specs.Canonical.{IsCanonicalOf};
 ghost use Rattle.turn_words.specs.Spoke_paths.{turn_word_of};
 ghost use Rattle.flat_forms.specs.Vectors.{origin};
 ghost use Rattle.flat_forms.specs.Flat_states.{flat_next};
-ghost use Rattle.quad_system.specs.Labellings.{LabellingView};
-ghost use Rattle.quad_system.specs.GoodLabellings.{IsGood};
-ghost use Rattle.quad_system.specs.QuadPaths.{quad_path};
-ghost use Rattle.quad_system.specs.PolygonLabellings.{labelling_from, IsFull};
-ghost use Rattle.quad_system.specs.WalkWords.{IsWordOf};
-ghost use Rattle.quad_system.specs.Denials.{DenialHolds};
-ghost use Rattle.quad_system.specs.declared.denial.Denial.{Denial};
-ghost use Rattle.turn_words.specs.declared.word.Word.{Word};
+ghost use Rattle.labellings.specs.GoodLabellings.{IsGood};
+ghost use Rattle.labellings.specs.QuadPaths.{quad_path};
+ghost use Rattle.quad_system.specs.PolygonLabellings.{labelling_from, all_zero, IsFull};
 ghost use Rattle.halfedge_map.specs.OrientedMeshes.{OrientedMesh, IsOrientedSurface};
 ghost use Rattle.tree_cotree.specs.Splits.{SplitView, IsSplit};
 ghost use Rattle.polygon_cut.specs.Polygons.{PolygonView, IsCutFrom};
 ghost use Rattle.polygon_cut.specs.SpokeLoops.{HaveFreeSpokes, spokes_along};
 
+pub use labellings::laws::{
+    homotopic_walks_have_one_word, moves_keep_the_state,
+    no_list_of_moves_leads_where_a_denial_holds,
+};
 use turn_words::Form;
-
-/// The fold law. Under a good labelling of any mesh, the spokes of two homotopic walks lead a state at the vertex to one
-/// state, in every form whose states belong to the places of the labelling.
-pub fn moves_keep_the_state<F: Form>()
-    ensures { (mesh : FaceList) (labelling : LabellingView) (first second : List ℕ) (state : F.State) → IsFaceList mesh
-        → IsGood mesh labelling → IsWalk mesh first → Homotopic mesh first second
-        → F.Belongs labelling.places state → F.IsAtVertex state
-        → led F.next labelling.places state (quad_path mesh labelling first)
-        ≡ led F.next labelling.places state (quad_path mesh labelling second) }
-{}
 
 /// The labelling that a polygon gives is good, whatever tree and cotree it was cut along, and it is full.
 pub fn polygon_labelling_is_good_and_full()
@@ -42,6 +30,13 @@ pub fn polygon_labelling_is_good_and_full()
     ensures full { (surface : OrientedMesh) (split : SplitView) (polygon : PolygonView) → IsOrientedSurface surface
         → IsSplit surface split → IsCutFrom surface split polygon → 0 < polygon.degree
         → IsFull surface.mesh (labelling_from surface polygon) }
+{}
+
+/// A good labelling need not be full. On every surface the labels that are all 0 are good, since each edge meets the tree
+/// rule, and they are not full.
+pub fn good_need_not_be_full()
+    ensures good { (surface : OrientedMesh) → IsOrientedSurface surface → IsGood surface.mesh (all_zero surface) }
+    ensures not_full { (surface : OrientedMesh) → IsFull surface.mesh (all_zero surface) → ⊥ }
 {}
 
 /// What a walk is told by up to spurs. Spokes of its darts, with those of the side across in place of the last side's,
@@ -83,18 +78,4 @@ pub fn homotopic_where_the_points_are_one()
         → Homotopic surface.mesh first second
         ↔ (led flat_next polygon.places origin (quad_path surface.mesh (labelling_from surface polygon) first)
         ≡ led flat_next polygon.places origin (quad_path surface.mesh (labelling_from surface polygon) second)) }
-{}
-
-/// What words of walks tell. Under a good labelling of any mesh, a walk has one word, and homotopic walks have the same.
-pub fn homotopic_walks_have_one_word()
-    ensures { (mesh : FaceList) (labelling : LabellingView) (first second : List ℕ) (one other : Word) → IsFaceList mesh
-        → IsGood mesh labelling → IsWalk mesh first → Homotopic mesh first second
-        → IsWordOf mesh labelling first one → IsWordOf mesh labelling second other → one ≡ other }
-{}
-
-/// What a denial shows. Where it holds, no list of moves leads from the first walk to the second, on any mesh, whoever
-/// made it.
-pub fn no_list_of_moves_leads_where_a_denial_holds()
-    ensures { (mesh : FaceList) (first second : List ℕ) (denial : Denial) → IsFaceList mesh → IsWalk mesh first
-        → DenialHolds mesh first second denial → Homotopic mesh first second → ⊥ }
 {}

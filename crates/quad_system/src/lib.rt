@@ -1,30 +1,20 @@
-//! Labellings of the corners of a mesh by the spokes of a system of quads, and when they are good.
+//! The labelling that a cut of a surface gives, and what it decides.
 //!
-//! A caller sees a labelling as its degree, its flips, its labels and its places, and a good one as the labelling.
-//! Proved: a labelling is good, or the first rule that fails is named with its least element; and, as laws, moves keep
-//! what a form makes of a walk, and walks with common ends are homotopic exactly where, over four spokes, their quad
-//! paths lead to one point, and over more, their canonical words are one.
+//! A caller who has a polygon makes a labelling of it by `from_polygon`, or a good one with no second look at the mesh; by
+//! `from_spent_polygon` the labels stay where they are.
+//! Proved, as laws: it is good and full, and under it walks with common ends are homotopic exactly where, over four spokes,
+//! their quad paths lead to one point, and over more, their canonical words are one. For a good labelling of another origin
+//! that holds in one direction alone (`labellings`, whose names are found here too).
 //!
-//!     let good = check_labelling(alloc, &faces, &sides, labelling)?;
-//!     let spokes = good.spokes(&faces, &sides, VertexName(0), VertexName(1));
+//!     let labelling = Labelling::from_polygon(alloc, &surface, &polygon)?;
+//!     let good = GoodLabelling::from_spent_polygon(alloc, &surface, polygon)?;
 #![tactic(auto)]
 
-mod check;
-mod darts;
-mod denial;
-mod fault;
 mod from_polygon;
-mod good;
-mod labelling;
 pub mod laws;
-mod rules;
-mod shape;
 
-pub use check::check_labelling;
-pub use denial::Denial;
-pub use fault::LabelFault;
-pub use good::GoodLabelling;
-pub use labelling::Labelling;
+pub use from_polygon::FromPolygon;
+pub use labellings::{Denial, GoodLabelling, LabelFault, Labelling, check_labelling};
 
 #[cfg(test)]
 mod tests;

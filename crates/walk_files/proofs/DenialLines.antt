@@ -5,7 +5,7 @@ use Rattle.std.specs.Str.{bytes_eq}
 use Rattle.std.proofs.lemmas.List.Elements.{All-head, All-tail}
 use Rattle.text_scan.specs.Lines.{Line, is_filled}
 use Rattle.text_scan.specs.Unread.{Unread, lines_left, at_line, past_word, next_word}
-use Rattle.quad_system.specs.Labellings.{FaceLabels, LabellingView}
+use Rattle.labellings.specs.Labellings.{FaceLabels, LabellingView}
 use Rattle.walk_files.specs.declared.fault.CertFault.TheVariants.{Bad}
 use Rattle.text_scan.specs.Each.{some_first, each_some}
 use Rattle.text_scan.specs.Numbers.{number_of}

@@ -5,8 +5,8 @@ use Rattle.std.proofs.lemmas.List.{append-nil}
 use Rattle.std.proofs.lemmas.List.Concat.{flat_map-append}
 use Rattle.std.proofs.lemmas.Option.{slice_get-get_or}
 use Rattle.surf_model.specs.Surfaces.{is_flipped}
-use Rattle.quad_system.specs.Labellings.{FaceLabels, LabellingView, labels_at, signs_of}
-use Rattle.quad_system.specs.declared.denial.Denial.{Denial}
+use Rattle.labellings.specs.Labellings.{FaceLabels, LabellingView, labels_at, signs_of}
+use Rattle.labellings.specs.declared.denial.Denial.{Denial}
 use Rattle.text_scan.specs.Plain.{line_of}
 use Rattle.surf_io.specs.Gathered.{spaced}
 use Rattle.surf_io.proofs.Gathering.{line_of-numbers}

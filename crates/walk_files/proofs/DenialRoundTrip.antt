@@ -13,8 +13,8 @@ use Rattle.text_scan.specs.Steps.{ends_word}
 use Rattle.text_scan.specs.Plain.{line_of}
 use Rattle.turn_words.specs.declared.word.Word.{Word}
 use Rattle.turn_words.specs.declared.word.Word.TheVariants.{Turns, Flat}
-use Rattle.quad_system.specs.Labellings.{FaceLabels, LabellingView}
-use Rattle.quad_system.specs.declared.denial.Denial.{Denial}
+use Rattle.labellings.specs.Labellings.{FaceLabels, LabellingView}
+use Rattle.labellings.specs.declared.denial.Denial.{Denial}
 use Rattle.text_scan.specs.Each.{each_some}
 use Rattle.walk_files.specs.declared.certificate.CertHead.TheVariants.{Labels}
 use Rattle.walk_files.specs.declared.certificate.Answer.TheVariants.{Different}

@@ -4,8 +4,8 @@ use Rattle.std.specs.Fmt.{digits}
 use Rattle.text_scan.specs.Lines.{unmarked, cut, words, lines_from}
 use Rattle.text_scan.specs.Numbers.{is_natural, value_of}
 use Rattle.turn_words.specs.declared.word.Word.TheVariants.{Turns, Flat}
-use Rattle.quad_system.specs.Labellings.{FaceLabels}
-use Rattle.quad_system.specs.declared.denial.Denial.{Denial}
+use Rattle.labellings.specs.Labellings.{FaceLabels}
+use Rattle.labellings.specs.declared.denial.Denial.{Denial}
 use Rattle.walk_files.specs.Denials.{denial_of_text}
 use Rattle.walk_files.specs.DenialTexts.{denial_text}
 use Rattle.walk_files.specs.Examples.{text}

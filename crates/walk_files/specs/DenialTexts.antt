@@ -5,8 +5,8 @@ use Rattle.text_scan.specs.Plain.{line_of}
 use Rattle.text_scan.specs.Numbers.{fits_i64}
 use Rattle.turn_words.specs.declared.word.Word.{Word}
 use Rattle.turn_words.specs.declared.word.Word.TheVariants.{Turns, Flat}
-use Rattle.quad_system.specs.Labellings.{FaceLabels, LabellingView}
-use Rattle.quad_system.specs.declared.denial.Denial.{Denial}
+use Rattle.labellings.specs.Labellings.{FaceLabels, LabellingView}
+use Rattle.labellings.specs.declared.denial.Denial.{Denial}
 
 -- how the sign of a face is written
 abbrev pub sign_word : Bool → List ℕ

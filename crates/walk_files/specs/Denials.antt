@@ -7,8 +7,8 @@ use Rattle.text_scan.specs.Numbers.{number_of, integer_of}
 use Rattle.text_scan.specs.Each.{each_some, ◌>>=◌}
 use Rattle.turn_words.specs.declared.word.Word.{Word}
 use Rattle.turn_words.specs.declared.word.Word.TheVariants.{Turns, Flat}
-use Rattle.quad_system.specs.Labellings.{FaceLabels, LabellingView}
-use Rattle.quad_system.specs.declared.denial.Denial.{Denial}
+use Rattle.labellings.specs.Labellings.{FaceLabels, LabellingView}
+use Rattle.labellings.specs.declared.denial.Denial.{Denial}
 use Rattle.walk_files.specs.NumberTexts.{entries_of}
 use Rattle.walk_files.specs.Certificates.{behind_head, head_of_text}
 use Rattle.walk_files.specs.declared.fault.CertFault.{CertFault}

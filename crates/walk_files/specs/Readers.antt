@@ -4,7 +4,7 @@ use Rattle.std.specs.Option.{ok_or}
 use Rattle.text_scan.specs.Lines.{Line, full_lines, end_line}
 use Rattle.text_scan.specs.Unread.{Unread, lines_left}
 use Rattle.surf_model.specs.declared.moves.Move.{Move}
-use Rattle.quad_system.specs.declared.denial.Denial.{Denial}
+use Rattle.labellings.specs.declared.denial.Denial.{Denial}
 use Rattle.text_scan.specs.Each.{ok_first}
 use Rattle.walk_files.specs.Certificates.{behind_head, move_of, moves_in}
 use Rattle.walk_files.specs.Denials.{denial_in, unlabelled}

@@ -2,7 +2,7 @@
 ghost use Rattle.std.specs.Prelude.{◌≡◌, ◌⊎◌, ◌^◌, ◌<◌, List, [], ◌∷◌, length, drop, IsTrue, Some, None, Ok, Err, OnOk, MatchResult};
 ghost use Rattle.text_scan.specs.Lines.{is_filled};
 ghost use Rattle.text_scan.specs.Unread.{lines_left};
-ghost use Rattle.quad_system.specs.declared.denial.Denial.{Denial};
+ghost use Rattle.labellings.specs.declared.denial.Denial.{Denial};
 ghost use Rattle.turn_words.specs.declared.word.Word.TheVariants.{Turns};
 ghost use Rattle.text_scan.specs.Each.{each_some};
 ghost use Rattle.text_scan.specs.Numbers.{number_of};
@@ -11,7 +11,7 @@ ghost use Rattle.walk_files.specs.Denials.{sign_of, point_of, word_of, word_on, 
 ghost use Rattle.walk_files.specs.declared.fault.CertFault.TheVariants.{Bad, OutOfMemory};
 
 use crate::fault::CertFault;
-use quad_system::{Denial, Labelling};
+use labellings::{Denial, Labelling};
 use std::alloc::{AllocError, Global};
 use text_scan::{Cursor, number};
 use turn_words::{TurnWord, Word};

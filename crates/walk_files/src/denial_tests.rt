@@ -2,7 +2,7 @@
 ghost use Rattle.std.specs.Prelude.{◌<◌, ◌^◌, length};
 
 use crate::{CertFault, CertHead, CertReader, write_denial};
-use quad_system::Denial;
+use labellings::Denial;
 use std::alloc::Global;
 use std::test::Fail;
 use surf_io::{Failed, MemorySink};

@@ -6,7 +6,7 @@ ghost use Rattle.surf_io.specs.Calls.{OnlyWrites, WroteAll, WrotePart};
 ghost use Rattle.surf_io.specs.Gathered.{Puts, spaced};
 ghost use Rattle.walk_files.specs.DenialTexts.{sign_word, face_words, entry_words, word_words, labelling_text, denial_text};
 
-use quad_system::{Denial, Labelling};
+use labellings::{Denial, Labelling};
 use surf_io::{Failed, Piece, Sink};
 use surf_model::FaceName;
 use turn_words::{TurnWord, Word};

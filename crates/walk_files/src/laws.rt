@@ -4,7 +4,7 @@ ghost use Rattle.text_scan.specs.Plain.{line_of};
 ghost use Rattle.surf_model.specs.Moves.{PeakedMoves};
 ghost use Rattle.walk_files.specs.MoveTexts.{list_text, FitsFormat};
 ghost use Rattle.walk_files.specs.Certificates.{list_of_text};
-ghost use Rattle.quad_system.specs.declared.denial.Denial.{Denial};
+ghost use Rattle.labellings.specs.declared.denial.Denial.{Denial};
 ghost use Rattle.walk_files.specs.DenialTexts.{denial_text, ReadsBack};
 ghost use Rattle.walk_files.specs.Denials.{denial_of_text};
 

@@ -7,7 +7,7 @@ use crate::certificate::{CertHead, read_head};
 use crate::denial::read_denial;
 use crate::fault::CertFault;
 use crate::moves::read_next;
-use quad_system::Denial;
+use labellings::Denial;
 use std::alloc::Global;
 use std::marker::Model;
 use surf_model::Move;

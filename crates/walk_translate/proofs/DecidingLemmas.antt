@@ -11,17 +11,17 @@ use Rattle.flat_forms.specs.Flat_states.{flat_next}
 use Rattle.halfedge_map.specs.OrientedMeshes.{OrientedMesh, IsOrientedSurface}
 use Rattle.tree_cotree.specs.Splits.{SplitView, IsSplit}
 use Rattle.polygon_cut.specs.Polygons.{PolygonView, IsCutFrom}
-use Rattle.quad_system.specs.Labellings.{LabellingView}
-use Rattle.quad_system.specs.QuadPaths.{quad_path}
+use Rattle.labellings.specs.Labellings.{LabellingView}
+use Rattle.labellings.specs.QuadPaths.{quad_path}
 use Rattle.quad_system.specs.PolygonLabellings.{labelling_from}
 use Rattle.polygon_cut.proofs.SphereLemmas.{all_homotopic}
 use Rattle.quad_system.proofs.EqualWordLemmas.{one_word}
 use Rattle.quad_system.proofs.FlatWordLemmas.{one_sum}
-use Rattle.quad_system.specs.WalkWords.{IsWordOf}
+use Rattle.labellings.specs.WalkWords.{IsWordOf}
 use Rattle.walk_translate.specs.SurfaceLabels.{HasSphereSplit, IsLabelledByCut}
 use Rattle.walk_translate.specs.declared.deciding.Answer.{Answer}
 use Rattle.walk_translate.specs.declared.deciding.Answer.TheVariants as answers
-use Rattle.quad_system.proofs.WalkWordLemmas.{quad_path_leads_to_sum}
+use Rattle.labellings.proofs.WalkWordLemmas.{quad_path_leads_to_sum}
 
 abbrev pub vector : ℤ → ℤ → Vector
 vector x y = record { x = x; y = y }

@@ -7,8 +7,8 @@ use Rattle.std.proofs.lemmas.List.FromFn.{length-enumerate_from}
 use Rattle.halfedge_map.specs.OrientedMeshes.{OrientedMesh, IsOrientedSurface}
 use Rattle.tree_cotree.proofs.LawLemmas.{exact}
 use Rattle.polygon_cut.specs.Polygons.{PolygonView}
-use Rattle.quad_system.specs.Labellings.{FaceLabels, LabellingView, signs_of}
-use Rattle.quad_system.specs.GoodLabellings.{IsGood}
+use Rattle.labellings.specs.Labellings.{FaceLabels, LabellingView, signs_of}
+use Rattle.labellings.specs.GoodLabellings.{IsGood}
 use Rattle.quad_system.specs.PolygonLabellings.{labelling_from, face_labels, IsFull}
 use Rattle.quad_system.proofs.PolygonLabelLemmas.{polygon_good, flips_are}
 use Rattle.quad_system.proofs.FullLemmas.{polygon_full}

@@ -1,6 +1,2 @@
-pub mod PathLemmas
-pub mod FoldingLemmas
-pub mod WordLemmas
-pub mod LabelLemmas
 pub mod DecidingLemmas
-pub mod VerdictLemmas
+mod LabelLemmas

@@ -1,3 +1,1 @@
-pub mod Spokes
 pub mod SurfaceLabels
-pub mod DenialVerdicts

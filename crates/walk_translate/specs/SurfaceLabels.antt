@@ -4,8 +4,8 @@ use Rattle.halfedge_map.specs.OrientedMeshes.{OrientedMesh}
 use Rattle.halfedge_map.specs.DartMaps.{used_vertices}
 use Rattle.tree_cotree.specs.Splits.{SplitView, IsSplit}
 use Rattle.polygon_cut.specs.Polygons.{PolygonView, IsCutFrom}
-use Rattle.quad_system.specs.Labellings.{LabellingView, signs_of}
-use Rattle.quad_system.specs.GoodLabellings.{IsGood}
+use Rattle.labellings.specs.Labellings.{LabellingView, signs_of}
+use Rattle.labellings.specs.GoodLabellings.{IsGood}
 use Rattle.quad_system.specs.PolygonLabellings.{labelling_from, IsFull}
 
 -- the genus, by the Euler characteristic: used vertices, faces and twice the genus are two more than the edges

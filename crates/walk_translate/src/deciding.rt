@@ -1,14 +1,13 @@
 //! Deciding homotopy.
-ghost use Rattle.std.specs.Prelude.{◌≡◌, ◌↔◌, IfOk, IsTrue};
+ghost use Rattle.std.specs.Prelude.{◌≡◌, ◌↔◌, IfOk};
 ghost use Rattle.surf_model.specs.Walks.{IsWalk, HaveCommonEnds};
 ghost use Rattle.surf_model.specs.Moves.{Homotopic};
 
 use crate::labels::label_by_cut;
-use crate::word::word_of;
 use halfedge_map::Surface;
+use labellings::{are_same_words, word_of};
 use std::alloc::{AllocError, Global};
 use surf_model::Walk;
-use turn_words::{TurnWord, Word};
 
 /// Whether one walk may take the place of another.
 #[derive(Clone, Copy, Debug, PartialEq, Eq)]
@@ -41,35 +40,9 @@ pub fn decide(
     };
     let one = word_of(alloc, faces, sides, &good, first)?;
     let other = word_of(alloc, faces, sides, &good, second)?;
-    if are_same(&one, &other) {
+    if are_same_words(&one, &other) {
         Ok(Answer::Homotopic)
     } else {
         Ok(Answer::Different)
     }
-}
-
-/// Tells whether two words are one.
-pub(crate) fn are_same(one: &Word, other: &Word) -> bool
-    ensures { IsTrue result ↔ (one.now ≡ other.now) }
-{
-    match (one, other) {
-        (Word::Turns(one), Word::Turns(other)) => are_same_turns(one, other),
-        (Word::Flat { x, y }, Word::Flat { x: right, y: up }) => x == right && y == up,
-        _ => false,
-    }
-}
-
-/// Tells whether two turn words are one.
-fn are_same_turns(one: &TurnWord, other: &TurnWord) -> bool
-    ensures { IsTrue result ↔ (one.now ≡ other.now) }
-{
-    if one.len() != other.len() {
-        return false;
-    }
-    for k in 0..one.len() {
-        if one.at(k) != other.at(k) {
-            return false;
-        }
-    }
-    true
 }

@@ -4,7 +4,7 @@ ghost use Rattle.walk_translate.specs.SurfaceLabels.{IsSphere, IsSurfaceLabellin
 
 use halfedge_map::Surface;
 use polygon_cut::cut;
-use quad_system::GoodLabelling;
+use quad_system::{FromPolygon, GoodLabelling};
 use std::alloc::{AllocError, Global};
 use tree_cotree::split_edges;
 
@@ -31,6 +31,6 @@ pub(crate) fn label_by_cut(
     }
     let polygon = cut(alloc, surface, &split)?;
     drop(split);
-    let good = GoodLabelling::from_polygon(alloc, surface, polygon)?;
+    let good = GoodLabelling::from_spent_polygon(alloc, surface, polygon)?;
     Ok(Some(good))
 }

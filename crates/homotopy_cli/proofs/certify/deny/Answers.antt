@@ -1,13 +1,13 @@
 use Rattle.std.proofs.Common.{subst, sym}
 use Rattle.surf_model.specs.FaceLists.{FaceList}
-use Rattle.quad_system.specs.Denials.{DenialHolds}
-use Rattle.quad_system.specs.Labellings.{LabellingView}
-use Rattle.quad_system.specs.WalkWords.{IsWordOf}
+use Rattle.labellings.specs.Denials.{DenialHolds}
+use Rattle.labellings.specs.Labellings.{LabellingView}
+use Rattle.labellings.specs.WalkWords.{IsWordOf}
 use Rattle.homotopy_cli.proofs.Certifying.{some_sides, denial_holds}
 use Rattle.homotopy_cli.proofs.certify.deny.Goals as goal
 
-pub from_polygon-requires-clause-some : goal.from_polygon-requires-clause-some
-from_polygon-requires-clause-some c =
+pub from_spent_polygon-requires-clause-some : goal.from_spent_polygon-requires-clause-some
+from_spent_polygon-requires-clause-some c =
     some_sides c.args.surface.now c.requires.cut.0 c.args.polygon c.args.first.now c.args.second.now c.faces-faces.ensures.valid c.requires.cut.1
     c.requires.cut.2 c.requires.first c.requires.second c.requires.ends c.requires.apart
 

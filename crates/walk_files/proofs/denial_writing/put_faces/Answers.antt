@@ -2,7 +2,7 @@ use Rattle.std.proofs.Common.{◌∷◌, ap, ◌∙◌, map, arith}
 use Rattle.std.specs.Prelude.{decimal}
 use Rattle.std.proofs.lemmas.Result.{err_from_is_err_and}
 use Rattle.surf_model.specs.Surfaces.{is_flipped}
-use Rattle.quad_system.specs.Labellings.{FaceLabels, signs_of}
+use Rattle.labellings.specs.Labellings.{FaceLabels, signs_of}
 use Rattle.text_scan.specs.Plain.{line_of}
 use Rattle.surf_io.proofs.Gathering.{puts-same, each-none, each-more, each-fails, each-all}
 use Rattle.walk_files.specs.DenialTexts.{sign_word, face_words}

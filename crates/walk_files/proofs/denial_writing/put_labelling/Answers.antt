@@ -2,7 +2,7 @@ use Rattle.std.proofs.Common.{◌++◌, List, ℕ, ap}
 use Rattle.std.specs.Prelude.{flat_map}
 use Rattle.std.proofs.lemmas.Result.{err_from_is_err_and}
 use Rattle.text_scan.specs.Plain.{line_of}
-use Rattle.quad_system.specs.Labellings.{FaceLabels}
+use Rattle.labellings.specs.Labellings.{FaceLabels}
 use Rattle.surf_io.proofs.Gathering.{puts-then, puts-fails, puts-same}
 use Rattle.walk_files.specs.DenialTexts.{face_words, places_words, labels_head_words}
 use Rattle.walk_files.proofs.denial_writing.put_labelling.Goals as goal

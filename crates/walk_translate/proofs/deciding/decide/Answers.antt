@@ -2,7 +2,7 @@ use Rattle.std.proofs.Common.{◌≡◌, true, false, refl, subst}
 use Rattle.std.specs.Prelude.{◌↔◌}
 use Rattle.surf_model.specs.FaceLists.{FaceList}
 use Rattle.surf_model.specs.Moves.{Homotopic}
-use Rattle.quad_system.specs.WalkWords.{IsWordOf}
+use Rattle.labellings.specs.WalkWords.{IsWordOf}
 use Rattle.walk_translate.specs.SurfaceLabels.{HasSphereSplit, IsLabelledByCut}
 use Rattle.walk_translate.proofs.LabelLemmas.{cut_is_good}
 use Rattle.walk_translate.proofs.DecidingLemmas.{words_decide, sphere_decides, equal_decides, unequal_decides}
@@ -26,8 +26,8 @@ returns-in_default c =
     let sphere : HasSphereSplit surface = rw c.in_default.is at c.in_ok-good.ensures in
     sphere_decides surface c.args.first.now c.args.second.now _ c.faces-faces.ensures.valid sphere c.requires.first c.requires.second c.requires.ends refl
 
-pub returns-then-are_same : goal.returns-then-are_same
-returns-then-are_same c =
+pub returns-then-are_same_words : goal.returns-then-are_same_words
+returns-then-are_same_words c =
     let surface = c.args.surface.now in
     let first = c.args.first.now in
     let second = c.args.second.now in
@@ -37,7 +37,7 @@ returns-then-are_same c =
     words_decide surface c.in-Some.good first second c.in_ok-one.one c.in_ok-other.other c.faces-faces.ensures.valid labelled c.requires.first c.requires.second c.requires.ends
     (subst (λ (m : FaceList). IsWordOf m c.in-Some.good first c.in_ok-one.one) mesh c.in_ok-one.ensures)
     (subst (λ (m : FaceList). IsWordOf m c.in-Some.good second c.in_ok-other.other) mesh c.in_ok-other.ensures) in
-    equal_decides _ decides (c.if-are_same.ensures.0 refl) refl
+    equal_decides _ decides (c.if-are_same_words.ensures.0 refl) refl
 
 pub returns : goal.returns
 returns c =
@@ -50,4 +50,4 @@ returns c =
     words_decide surface c.in-Some.good first second c.in_ok-one.one c.in_ok-other.other c.faces-faces.ensures.valid labelled c.requires.first c.requires.second c.requires.ends
     (subst (λ (m : FaceList). IsWordOf m c.in-Some.good first c.in_ok-one.one) mesh c.in_ok-one.ensures)
     (subst (λ (m : FaceList). IsWordOf m c.in-Some.good second c.in_ok-other.other) mesh c.in_ok-other.ensures) in
-    unequal_decides _ decides (λ e. let same : false ≡ true = c.if-are_same.ensures.1 e in cc) refl
+    unequal_decides _ decides (λ e. let same : false ≡ true = c.if-are_same_words.ensures.1 e in cc) refl

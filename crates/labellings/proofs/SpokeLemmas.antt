@@ -1,0 +1,95 @@
+-- The spokes of a dart, by the two sides of its edge in the table of the mesh.
+use Rattle.std.proofs.Common.{◌≡◌, ◌≢◌, ◌⊎◌, inl, inr, ℕ, ◌<◌, Bool, true, false, List, length, get_or, refl, ap, sym, ◌∙◌, subst, arith}
+use Rattle.std.specs.Prelude.{Contains}
+use Rattle.surf_model.specs.FaceLists.{FaceList, IsFaceList}
+use Rattle.surf_model.specs.Edges.{Edge, IsTableOf, IsEdgeOf, HasEnds, edge_in}
+use Rattle.surf_model.specs.Darts.{tail_of, head_of}
+use Rattle.surf_model.specs.Surfaces.{ArePartners, is_flipped, start_under, end_under}
+use Rattle.surf_model.specs.declared.edges.Side.{Side}
+use Rattle.surf_model.proofs.PartnerLemmas.{HasSideEnds, side_of_edge, edge_has_side, partners_of_edge, ends_agree}
+use Rattle.labellings.specs.Labellings.{LabellingView, signs_of, tail_label, head_label}
+use Rattle.labellings.specs.GoodLabellings.{IsGood}
+use Rattle.labellings.specs.QuadPaths.{spokes, spokes_by_labels}
+use Rattle.labellings.proofs.SideLemmas.{SpokesOfSide, spokes_of_side}
+use Rattle.surf_model.proofs.TableEdgeLemmas.{table_pair}
+use Rattle.labellings.proofs.EdgeRuleLemmas.{two-of, two-from-rule}
+
+-- where a side starts and ends under signs are its two ends, in one of the two orders
+ends-under : (mesh : FaceList) (signs : List Bool) (side : Side) →
+    ((start_under mesh signs side ≡ tail_of mesh side) × (end_under mesh signs side ≡ head_of mesh side))
+    ⊎ ((start_under mesh signs side ≡ head_of mesh side) × (end_under mesh signs side ≡ tail_of mesh side))
+ends-under mesh signs side = go (is_flipped signs side.face.0) refl
+  where
+    go : (b : Bool) → is_flipped signs side.face.0 ≡ b →
+        ((start_under mesh signs side ≡ tail_of mesh side) × (end_under mesh signs side ≡ head_of mesh side))
+        ⊎ ((start_under mesh signs side ≡ head_of mesh side) × (end_under mesh signs side ≡ tail_of mesh side))
+    go true e = inr (rw e refl, rw e refl)
+    go false e = inl (rw e refl, rw e refl)
+
+-- a side with the ends u and v that starts at u ends at v, and one that does not starts at v and ends at u
+along-or-against : (s e t h low high u v : ℕ) → low < high → ((s ≡ t) × (e ≡ h)) ⊎ ((s ≡ h) × (e ≡ t)) → ((t ≡ low) × (h ≡ high)) ⊎ ((t ≡ high) × (h ≡ low)) →
+    ((low ≡ u) × (high ≡ v)) ⊎ ((low ≡ v) × (high ≡ u)) → ((s ≡ u) × (e ≡ v)) ⊎ ((s ≢ u) × (s ≡ v) × (e ≡ u))
+along-or-against s e t h low high u v less under ends pair = grind arith
+
+module _ (mesh : FaceList) (table : List Edge) (labelling : LabellingView) (k u v : ℕ) (a b d : Side) (valid : IsFaceList mesh) (good : IsGood mesh labelling) (h : IsTableOf mesh table) (l : k < length table)
+    (pair : HasEnds u v (edge_in table k)) (first : get_or (edge_in table k).sides 0 d ≡ a) (second : get_or (edge_in table k).sides 1 d ≡ b) where
+  two : length (edge_in table k).sides ≡ 2
+  two =
+      let edge : Edge = edge_in table k in
+      two-from-rule mesh table labelling k a b d h l first second (good.edges edge.low edge.high (table_pair mesh table k h l))
+
+  partners : ArePartners mesh a b
+  partners =
+      subst (λ x. ArePartners mesh x b) first (subst (λ x. ArePartners mesh (get_or (edge_in table k).sides 0 d) x) second
+      (partners_of_edge mesh table k 0 1 d h l (omega arith) (omega (arith, two))))
+
+  of-a : SpokesOfSide mesh labelling a
+  of-a = spokes_of_side mesh labelling a valid good partners.first
+
+  -- the other side of the edge is the one that the table has
+  partner-is : of-a.partner.partner ≡ b
+  partner-is =
+      let edge : Edge = edge_in table k in
+      let is : IsEdgeOf mesh edge = h.edges k _ l in
+      let ends : HasSideEnds mesh edge.low edge.high a = subst (HasSideEnds mesh edge.low edge.high) first (side_of_edge mesh edge 0 d is (omega (arith, two))).ends in
+      let p = of-a.partner.partners in
+      let here : Contains edge.sides a = edge_has_side mesh edge a is p.first ends in
+      let there : Contains edge.sides of-a.partner.partner = edge_has_side mesh edge of-a.partner.partner is p.second (ends_agree _ _ _ _ edge.low edge.high ends p.one_edge) in
+      elim (two-of edge.sides d a of-a.partner.partner a b two first second here there p.different) [
+        | inl as_listed ↦ as_listed.1
+        | inr turned ↦ absurd (partners.different turned.0)
+      ]
+
+  sided : ((start_under mesh (signs_of labelling) a ≡ u) × (end_under mesh (signs_of labelling) a ≡ v))
+      ⊎ ((start_under mesh (signs_of labelling) a ≢ u) × (start_under mesh (signs_of labelling) a ≡ v) × (end_under mesh (signs_of labelling) a ≡ u))
+  sided =
+      let edge : Edge = edge_in table k in
+      let is : IsEdgeOf mesh edge = h.edges k _ l in
+      let ends : HasSideEnds mesh edge.low edge.high a = subst (HasSideEnds mesh edge.low edge.high) first (side_of_edge mesh edge 0 d is (omega (arith, two))).ends in
+      along-or-against _ _ _ _ edge.low edge.high u v is.ordered (ends-under mesh (signs_of labelling) a) ends pair
+
+  -- where the first side starts at u, the dart runs along it, and else against it
+  pub spokes-along : start_under mesh (signs_of labelling) a ≡ u → spokes mesh labelling u v
+      ≡ spokes_by_labels (tail_label mesh labelling a) (head_label mesh labelling a) (tail_label mesh labelling b) (head_label mesh labelling b)
+  spokes-along starts = elim sided [
+    | inl is ↦
+        subst (λ p. spokes mesh labelling u v ≡ spokes_by_labels (tail_label mesh labelling a) (head_label mesh labelling a) (tail_label mesh labelling p) (head_label mesh labelling p)) partner-is
+        (ap (λ x. spokes mesh labelling x v) (sym is.0) ∙ ap (spokes mesh labelling (start_under mesh (signs_of labelling) a)) (sym is.1) ∙ of-a.along)
+    | inr is ↦ absurd (is.0 starts)
+  ]
+
+  pub spokes-against : start_under mesh (signs_of labelling) a ≢ u → spokes mesh labelling u v
+      ≡ spokes_by_labels (tail_label mesh labelling b) (head_label mesh labelling b) (tail_label mesh labelling a) (head_label mesh labelling a)
+  spokes-against other = elim sided [
+    | inl is ↦ absurd (other is.0)
+    | inr is ↦
+        subst (λ p. spokes mesh labelling u v ≡ spokes_by_labels (tail_label mesh labelling p) (head_label mesh labelling p) (tail_label mesh labelling a) (head_label mesh labelling a)) partner-is
+        (ap (λ x. spokes mesh labelling x v) (sym is.2) ∙ ap (spokes mesh labelling (end_under mesh (signs_of labelling) a)) (sym is.1) ∙ of-a.against)
+  ]
+
+-- an edge of a mesh with a good labelling has two sides
+pub two-sides : (mesh : FaceList) (table : List Edge) (labelling : LabellingView) (k : ℕ) → IsGood mesh labelling → IsTableOf mesh table → k < length table → length (edge_in table k).sides ≡ 2
+two-sides mesh table labelling k good h l =
+    let none : Side = record { face = record { 0 = 0 }; at = 0 } in
+    two-from-rule mesh table labelling k (get_or (edge_in table k).sides 0 none) (get_or (edge_in table k).sides 1 none) none h l refl refl
+    (good.edges (edge_in table k).low (edge_in table k).high (table_pair mesh table k h l))

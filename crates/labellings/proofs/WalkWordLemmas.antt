@@ -1,0 +1,174 @@
+-- Under a good labelling, homotopic walks have one word: moves keep the state to which the spokes lead, and the word is that of the state.
+use Rattle.std.proofs.Common.{◌≡◌, inl, inr, ℕ, ◌<◌, ◌≤◌, ◌&&◌, eqb, List, [], ◌∷◌, ◌++◌, length, refl, ap, sym, ◌∙◌, subst, arith}
+use Rattle.std.specs.Prelude.{All, Option, Some, None}
+use Rattle.std.proofs.lemmas.Bool.{cases_Bool}
+use Rattle.std.proofs.lemmas.List.Elements.{All-append, All-nil, All-cons}
+use Rattle.surf_model.specs.FaceLists.{FaceList, FaceSide, IsFaceList}
+use Rattle.surf_model.specs.Edges.{side_name}
+use Rattle.surf_model.specs.Darts.{IsSide}
+use Rattle.surf_model.specs.Walks.{IsWalk}
+use Rattle.surf_model.specs.Moves.{Homotopic}
+use Rattle.turn_words.specs.Wheels.{IsWheel}
+use Rattle.turn_words.specs.Canonical.{IsCanonicalOf}
+use Rattle.turn_words.specs.Spoke_paths.{turn_word_of}
+use Rattle.turn_words.specs.Form_laws.{led}
+use Rattle.turn_words.specs.Hyper_states.{HyperState, IsHyperWheel, BelongsTo, IsEven, empty_state, hyper_next}
+use Rattle.turn_words.specs.Lemmas.Hyper_laws.{hyper_starts, hyper_stays, hyper_there_and_back, hyper_across}
+use Rattle.turn_words.specs.declared.word.Word.{Word}
+use Rattle.turn_words.specs.declared.word.Word.TheVariants.{Turns, Flat}
+use Rattle.turn_words.proofs.Unique.{unique}
+use Rattle.turn_words.proofs.Spokes.{turns, canonical}
+use Rattle.flat_forms.specs.Vectors.{Vector, origin}
+use Rattle.flat_forms.specs.Pairs.{spokes_of, sum_of_pairs}
+use Rattle.flat_forms.proofs.Sums_of_pairs.{leads-to-sum}
+use Rattle.flat_forms.specs.Flat_states.{IsFlatWheel, flat_next}
+use Rattle.flat_forms.specs.Flat_states as flat
+use Rattle.flat_forms.specs.Lemmas.Flat_laws.{flat_starts, flat_stays, flat_there_and_back, flat_across}
+use Rattle.labellings.specs.Labellings.{LabellingView, tail_label, head_label}
+use Rattle.labellings.specs.GoodLabellings.{IsGood}
+use Rattle.labellings.specs.QuadPaths.{side_from, spokes, spokes_of_sides, spokes_by_labels, quad_path}
+use Rattle.labellings.specs.WalkWords.{in_pairs, IsWordOf}
+use Rattle.labellings.specs.Denials.{DenialHolds}
+use Rattle.labellings.specs.declared.denial.Denial.{Denial}
+use Rattle.labellings.proofs.FoldLemmas.{PutLaws, tail_within, head_within}
+use Rattle.labellings.proofs.KeepingLemmas.{found_side, moves_keep}
+
+-- ---- the spokes of a walk are spokes of the wheel
+
+both_below : (n a b c d : ℕ) → a < n → b < n → All (λ i. i < n) (spokes_by_labels a b c d)
+both_below n a b c d l k = elim (cases_Bool (eqb a b && eqb c d)) [
+  | inl tree ↦ rw tree (All-nil (λ i. i < n))
+  | inr other ↦ rw other (All-cons (λ i. i < n) a (b ∷ []) l (All-cons (λ i. i < n) b [] k (All-nil (λ i. i < n))))
+]
+
+spokes_below : (mesh : FaceList) (labelling : LabellingView) → IsGood mesh labelling → (u v : ℕ) (side other : Option FaceSide)
+    → side_from mesh labelling u v ≡ side
+    → All (λ i. i < length labelling.places) (spokes_of_sides mesh labelling side other)
+spokes_below mesh labelling good u v None other e = All-nil (λ i. i < length labelling.places)
+spokes_below mesh labelling good u v (Some x) None e = All-nil (λ i. i < length labelling.places)
+spokes_below mesh labelling good u v (Some x) (Some y) e =
+    let h : IsSide mesh (side_name x) = found_side mesh labelling u v x e in
+    both_below (length labelling.places) (tail_label mesh labelling (side_name x)) (head_label mesh labelling (side_name x)) (tail_label mesh labelling (side_name y))
+    (head_label mesh labelling (side_name y)) (tail_within mesh labelling good (side_name x) h) (head_within mesh labelling good (side_name x) h)
+
+pub quad_path_below : (mesh : FaceList) (labelling : LabellingView) → IsGood mesh labelling → (walk : List ℕ)
+    → All (λ i. i < length labelling.places) (quad_path mesh labelling walk)
+quad_path_below mesh labelling good [] = All-nil (λ i. i < length labelling.places)
+quad_path_below mesh labelling good (u ∷ []) = All-nil (λ i. i < length labelling.places)
+quad_path_below mesh labelling good (u ∷ v ∷ walk) =
+    All-append (λ i. i < length labelling.places) (spokes mesh labelling u v) (quad_path mesh labelling (v ∷ walk))
+    (spokes_below mesh labelling good u v (side_from mesh labelling u v) (side_from mesh labelling v u) refl) (quad_path_below mesh labelling good (v ∷ walk))
+
+-- ---- the spokes of a walk come in pairs
+
+labels_in_pairs : (a b c d : ℕ) (rest : List ℕ) → spokes_of (in_pairs rest) ≡ rest
+    → spokes_of (in_pairs (spokes_by_labels a b c d ++ rest)) ≡ spokes_by_labels a b c d ++ rest
+labels_in_pairs a b c d rest e = elim (cases_Bool (eqb a b && eqb c d)) [
+  | inl tree ↦ rw tree e
+  | inr other ↦ rw other (ap (λ (l : List ℕ). a ∷ b ∷ l) e)
+]
+
+sides_in_pairs : (mesh : FaceList) (labelling : LabellingView) (side other : Option FaceSide) (rest : List ℕ) → spokes_of (in_pairs rest) ≡ rest
+    → spokes_of (in_pairs (spokes_of_sides mesh labelling side other ++ rest)) ≡ spokes_of_sides mesh labelling side other ++ rest
+sides_in_pairs mesh labelling None other rest e = e
+sides_in_pairs mesh labelling (Some x) None rest e = e
+sides_in_pairs mesh labelling (Some x) (Some y) rest e =
+    labels_in_pairs (tail_label mesh labelling (side_name x)) (head_label mesh labelling (side_name x)) (tail_label mesh labelling (side_name y))
+    (head_label mesh labelling (side_name y)) rest e
+
+pub quad_path_in_pairs : (mesh : FaceList) (labelling : LabellingView) (walk : List ℕ)
+    → spokes_of (in_pairs (quad_path mesh labelling walk)) ≡ quad_path mesh labelling walk
+quad_path_in_pairs mesh labelling [] = refl
+quad_path_in_pairs mesh labelling (u ∷ []) = refl
+quad_path_in_pairs mesh labelling (u ∷ v ∷ walk) =
+    sides_in_pairs mesh labelling (side_from mesh labelling u v) (side_from mesh labelling v u) (quad_path mesh labelling (v ∷ walk))
+    (quad_path_in_pairs mesh labelling (v ∷ walk))
+
+-- so they lead from the start of the plane to the sum over the pairs
+pub quad_path_leads_to_sum : (mesh : FaceList) (labelling : LabellingView) (walk : List ℕ)
+    → led flat_next labelling.places origin (quad_path mesh labelling walk) ≡ sum_of_pairs (in_pairs (quad_path mesh labelling walk))
+quad_path_leads_to_sum mesh labelling walk =
+    ap (led flat_next labelling.places origin) (sym (quad_path_in_pairs mesh labelling walk))
+    ∙ leads-to-sum labelling.places (in_pairs (quad_path mesh labelling walk))
+
+-- ---- the wheel of a good labelling
+
+wheel_of_good : (mesh : FaceList) (labelling : LabellingView) → IsGood mesh labelling → IsWheel labelling.places
+wheel_of_good mesh labelling good = record {
+  inside = λ i l. omega (arith, good.shape.places_below i 0 l, good.shape.each_spoke);
+  once = λ i j l k e. good.places i j (omega (arith, good.shape.each_spoke)) (omega (arith, good.shape.each_spoke)) e;
+}
+
+pub hyper_wheel_of_good : (mesh : FaceList) (labelling : LabellingView) → IsGood mesh labelling → 5 ≤ labelling.degree → IsHyperWheel labelling.places
+hyper_wheel_of_good mesh labelling good five = record { five = omega (arith, good.shape.each_spoke); wheel = wheel_of_good mesh labelling good }
+
+pub flat_wheel_of_good : (mesh : FaceList) (labelling : LabellingView) → IsGood mesh labelling → labelling.degree ≡ 4 → IsFlatWheel labelling.places
+flat_wheel_of_good mesh labelling good four = record {
+  four = good.shape.each_spoke ∙ four;
+  wheel = wheel_of_good mesh labelling good;
+  rises = elim good.degree [ inl five ↦ absurd (omega (arith, five)) | inr rise ↦ rise.1 ];
+}
+
+-- ---- homotopic walks have one word
+
+-- the canonical word of a list of spokes is that of the state to which they lead
+word_of_state : (places spokes word : List ℕ) → IsHyperWheel places → All (λ i. i < length places) spokes
+    → IsCanonicalOf (length places) (turn_word_of places spokes) word
+    → word ≡ (led hyper_next places empty_state spokes).word
+word_of_state places spokes word own below is =
+    unique (length places) (turn_word_of places spokes) word (led hyper_next places empty_state spokes).word (turns places spokes own below) is (canonical places spokes own below)
+
+one_turn_word : (mesh : FaceList) (labelling : LabellingView) (first second one other : List ℕ) → IsFaceList mesh → IsGood mesh labelling → IsWalk mesh first
+    → Homotopic mesh first second → 5 ≤ labelling.degree
+    → IsCanonicalOf labelling.degree (turn_word_of labelling.places (quad_path mesh labelling first)) one
+    → IsCanonicalOf labelling.degree (turn_word_of labelling.places (quad_path mesh labelling second)) other
+    → one ≡ other
+one_turn_word mesh labelling first second one other valid good walk homotopic five f g =
+    let places : List ℕ = labelling.places in
+    let own : IsHyperWheel places = hyper_wheel_of_good mesh labelling good five in
+    let laws : PutLaws places hyper_next (BelongsTo places) IsEven = record {
+      stays = λ x i b l. hyper_stays.belongs places x i b l;
+      vertex = λ x i j b e l m. hyper_stays.at_vertex places x i j b e l m;
+      back = λ x i b l. hyper_there_and_back places x i b l;
+      quad = λ x a d b e q. hyper_across places x a d b e q;
+    } in
+    let state : led hyper_next places empty_state (quad_path mesh labelling first) ≡ led hyper_next places empty_state (quad_path mesh labelling second) =
+    moves_keep mesh labelling hyper_next (BelongsTo places) IsEven laws valid good homotopic.0 first second walk homotopic.1 empty_state
+    (hyper_starts.belongs places own, hyper_starts.at_vertex) in
+    let word : (w canonical : List ℕ) → IsCanonicalOf labelling.degree (turn_word_of places (quad_path mesh labelling w)) canonical
+    → canonical ≡ (led hyper_next places empty_state (quad_path mesh labelling w)).word =
+    λ w canonical is.
+    word_of_state places (quad_path mesh labelling w) canonical own (quad_path_below mesh labelling good w)
+    (subst (λ n. IsCanonicalOf n (turn_word_of places (quad_path mesh labelling w)) canonical) (sym good.shape.each_spoke) is) in
+    word first one f ∙ ap (λ (x : HyperState). x.word) state ∙ sym (word second other g)
+
+one_point : (mesh : FaceList) (labelling : LabellingView) (first second : List ℕ) → IsFaceList mesh → IsGood mesh labelling → IsWalk mesh first
+    → Homotopic mesh first second → labelling.degree ≡ 4
+    → sum_of_pairs (in_pairs (quad_path mesh labelling first)) ≡ sum_of_pairs (in_pairs (quad_path mesh labelling second))
+one_point mesh labelling first second valid good walk homotopic four =
+    let places : List ℕ = labelling.places in
+    let laws : PutLaws places flat_next (λ _. IsFlatWheel places) flat.IsEven = record {
+      stays = λ x i b l. flat_stays.belongs places x i b l;
+      vertex = λ x i j b e l m. flat_stays.at_vertex places x i j b e l m;
+      back = λ x i b l. flat_there_and_back places x i b l;
+      quad = λ x a d b e q. flat_across places x a d b e q;
+    } in
+    sym (quad_path_leads_to_sum mesh labelling first)
+    ∙ moves_keep mesh labelling flat_next (λ _. IsFlatWheel places) flat.IsEven laws valid good homotopic.0 first second walk homotopic.1 origin
+    (flat_wheel_of_good mesh labelling good four, flat_starts.at_vertex)
+    ∙ quad_path_leads_to_sum mesh labelling second
+
+pub one_word_of_homotopic : (mesh : FaceList) (labelling : LabellingView) (first second : List ℕ) (one other : Word) → IsFaceList mesh → IsGood mesh labelling
+    → IsWalk mesh first
+    → Homotopic mesh first second → IsWordOf mesh labelling first one → IsWordOf mesh labelling second other → one ≡ other
+one_word_of_homotopic mesh labelling first second (Turns one) (Turns other) valid good walk homotopic f g =
+    ap Turns (one_turn_word mesh labelling first second one other valid good walk homotopic f.0 f.1 g.1)
+one_word_of_homotopic mesh labelling first second (Turns one) (Flat x y) valid good walk homotopic f g = absurd (omega (arith, f.0, g.0))
+one_word_of_homotopic mesh labelling first second (Flat x y) (Turns other) valid good walk homotopic f g = absurd (omega (arith, f.0, g.0))
+one_word_of_homotopic mesh labelling first second (Flat x y) (Flat v w) valid good walk homotopic f g =
+    ap (λ (p : Vector). Flat p.x p.y) (f.1 ∙ one_point mesh labelling first second valid good walk homotopic f.0 ∙ sym g.1)
+
+pub denial_excludes : (mesh : FaceList) (first second : List ℕ) (denial : Denial) → IsFaceList mesh → IsWalk mesh first → DenialHolds mesh first second denial
+    → Homotopic mesh first second → ⊥
+denial_excludes mesh first second denial valid walk holds homotopic =
+    holds.differ (one_word_of_homotopic mesh denial.labelling first second denial.first denial.second valid holds.good walk homotopic holds.first_word holds.second_word)

@@ -1,0 +1,38 @@
+use Rattle.std.proofs.Common.{◌≡◌, arith, get_or, ap, ◌∙◌, ◌∷◌, length}
+use Rattle.std.proofs.lemmas.List.{get_or_read}
+use Rattle.labellings.proofs.StoredLabellingLemmas.{labels_lie_at}
+use Rattle.labellings.proofs.labelling.Labelling.corners.Goals as goal
+
+pub index-requires : goal.index-requires
+index-requires c =
+    let here = labels_lie_at _ _ _ _ _ c.args.self.now c.args.face.0 c.self.invariant c.self.view_is c.requires in
+    omega (arith, here.few, c.self.inside.ends.ok.0)
+
+pub start_of-requires : goal.start_of-requires
+start_of-requires c =
+    let here = labels_lie_at _ _ _ _ _ c.args.self.now c.args.face.0 c.self.invariant c.self.view_is c.requires in
+    omega (arith, here.few, ap length c.deref.ensures.value)
+
+pub overflow_sub-result : goal.overflow_sub-result
+overflow_sub-result c =
+    let here = labels_lie_at _ _ _ _ _ c.args.self.now c.args.face.0 c.self.invariant c.self.view_is c.requires in
+    let start : c.start_of.result ≡ get_or (0 ∷ c.self.inside.ends.items) c.args.face.0 0 =
+    c.start_of.ensures ∙ ap (λ ends. get_or (0 ∷ ends) c.args.face.0 0) c.deref.ensures.value in
+    let end = get_or_read c.self.inside.ends.items c.args.face.0 c.index.result.now here.few c.index.ensures 0 in
+    omega (arith, here.rises, start, end)
+
+pub overflow_cast-result : goal.overflow_cast-result
+overflow_cast-result c =
+    let here = labels_lie_at _ _ _ _ _ c.args.self.now c.args.face.0 c.self.invariant c.self.view_is c.requires in
+    let start : c.start_of.result ≡ get_or (0 ∷ c.self.inside.ends.items) c.args.face.0 0 =
+    c.start_of.ensures ∙ ap (λ ends. get_or (0 ∷ ends) c.args.face.0 0) c.deref.ensures.value in
+    let end = get_or_read c.self.inside.ends.items c.args.face.0 c.index.result.now here.few c.index.ensures 0 in
+    omega (arith, here.short, start, end)
+
+pub returns : goal.returns
+returns c =
+    let here = labels_lie_at _ _ _ _ _ c.args.self.now c.args.face.0 c.self.invariant c.self.view_is c.requires in
+    let start : c.start_of.result ≡ get_or (0 ∷ c.self.inside.ends.items) c.args.face.0 0 =
+    c.start_of.ensures ∙ ap (λ ends. get_or (0 ∷ ends) c.args.face.0 0) c.deref.ensures.value in
+    let end = get_or_read c.self.inside.ends.items c.args.face.0 c.index.result.now here.few c.index.ensures 0 in
+    omega (arith, here.size, start, end)

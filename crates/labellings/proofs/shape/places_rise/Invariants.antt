@@ -1,0 +1,6 @@
+use Rattle.std.proofs.Common.{◌≡◌, ℕ, ◌<◌, slice_index}
+use Rattle.turn_words.specs.Modulo.{add}
+use Rattle.labellings.proofs.shape.places_rise.Given as goal
+
+abbrev pub invariant-loop-spoke : goal.invariant-loop-spoke
+invariant-loop-spoke l = (i : ℕ) → i < l.spoke → slice_index l.places (add 4 i 1) ≡ add 4 (slice_index l.places i) 1

@@ -1,0 +1,20 @@
+use Rattle.std.proofs.Common.{◌≡◌, List, ℕ, ap, ap₂, ◌∙◌, arith, to_z, of_z, w64}
+use Rattle.std.proofs.lemmas.Int.{ints}
+use Rattle.flat_forms.specs.Flat_states.{flat_next}
+use Rattle.flat_forms.specs.Vectors.{Vector, origin}
+use Rattle.turn_words.specs.Form_laws.{led}
+use Rattle.labellings.specs.QuadPaths.{quad_path}
+use Rattle.labellings.proofs.WordLemmas.{vector, flat_word}
+use Rattle.labellings.proofs.word.end_in_plane.Goals as goal
+
+pub returns : goal.returns
+returns c =
+    let mesh = c.args.faces.now in
+    let path : List ℕ = quad_path mesh c.args.good.now c.args.walk.now in
+    let start : c.new-form.result ≡ origin = c.new-form.ensures in
+    let there : c.fold.new.form ≡ led flat_next c.args.good.now.places origin path =
+    c.in_ok-fold.ensures.state ∙ ap (λ (s : Vector). led flat_next c.args.good.now.places s path) start in
+    let right : to_z w64 (of_z w64 c.x.result) ≡ c.x.result = omega (arith, ints, c.x.type_inv) in
+    let up : to_z w64 (of_z w64 c.y.result) ≡ c.y.result = omega (arith, ints, c.y.type_inv) in
+    flat_word mesh c.args.good.now c.args.walk.now (to_z w64 (of_z w64 c.x.result)) (to_z w64 (of_z w64 c.y.result)) c.requires.four
+    (ap₂ vector (right ∙ c.x.ensures) (up ∙ c.y.ensures) ∙ there)

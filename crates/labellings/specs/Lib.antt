@@ -1,0 +1,11 @@
+pub mod Labellings
+pub mod StoredLabellings
+pub mod GoodLabellings
+pub mod LabelFaults
+pub mod TableRules
+pub mod QuadPaths
+pub mod Spokes
+pub mod WalkWords
+pub mod Denials
+pub mod DenialVerdicts
+pub mod Examples

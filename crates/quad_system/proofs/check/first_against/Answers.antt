@@ -1,8 +1,0 @@
-use Rattle.std.proofs.Common.{rules, below_more}
-use Rattle.quad_system.specs.TableRules.{EntryMeetsRule}
-use Rattle.quad_system.proofs.check.first_against.Goals as goal
-
-pub loop-edge-preserved : goal.loop-edge-preserved
-loop-edge-preserved c =
-    let meets : EntryMeetsRule c.args.faces.now c.args.sides.now c.args.labelling.now c.loop-edge.edge = search rules in
-    below_more (EntryMeetsRule c.args.faces.now c.args.sides.now c.args.labelling.now) c.loop-edge.edge c.loop-edge.invariant meets

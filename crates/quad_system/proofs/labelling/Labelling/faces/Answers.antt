@@ -1,6 +1,0 @@
-use Rattle.std.proofs.Common.{arith}
-use Rattle.quad_system.proofs.StoredLabellingLemmas.{length-faces}
-use Rattle.quad_system.proofs.labelling.Labelling.faces.Goals as goal
-
-pub returns : goal.returns
-returns c = omega (arith, length-faces _ _ _ _ _ c.args.self.now c.self.invariant c.self.view_is, c.self.inside.ends.ok.0)

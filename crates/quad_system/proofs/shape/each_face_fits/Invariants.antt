@@ -1,6 +1,0 @@
-use Rattle.std.proofs.Common.{ℕ, ◌<◌}
-use Rattle.quad_system.specs.LabelFaults.{FitsFace}
-use Rattle.quad_system.proofs.shape.each_face_fits.Given as goal
-
-abbrev pub invariant-loop-face : goal.invariant-loop-face
-invariant-loop-face l = (f : ℕ) → f < l.face → FitsFace l.faces l.labelling f

@@ -1,6 +1,0 @@
-use Rattle.std.proofs.Common.{◌≡◌, ℕ, ◌<◌, slice_index}
-use Rattle.turn_words.specs.Modulo.{add}
-use Rattle.quad_system.proofs.shape.places_rise.Given as goal
-
-abbrev pub invariant-loop-spoke : goal.invariant-loop-spoke
-invariant-loop-spoke l = (i : ℕ) → i < l.spoke → slice_index l.places (add 4 i 1) ≡ add 4 (slice_index l.places i) 1
