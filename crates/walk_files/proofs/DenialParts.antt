@@ -35,7 +35,8 @@ face_of_labelling labelling k within =
     ∙ ap (λ b. Some (record { flipped = b; labels = labels_at labelling k })) (sym (sign labelling.faces k))
   where
     sign : (faces : List FaceLabels) (k : ℕ)
-        → get_or (map (λ (face : FaceLabels). face.flipped) faces) k false ≡ (get_or faces k (record { flipped = false; labels = [] })).flipped
+        → get_or (map (λ (face : FaceLabels). face.flipped) faces) k false
+        ≡ (get_or faces k (record { flipped = false; labels = [] })).flipped
     sign [] zero = refl
     sign [] (suc k) = refl
     sign (face ∷ faces) zero = refl

@@ -12,7 +12,8 @@ returns-in_err-put_line g c =
     let failed = err_from_is_err_and c.from_residual.result c.from_residual.ensures.1 in
     let head = puts-same (ap (λ d. line_of (labels_head_words d)) c.degree.ensures) c.in_err-put_line.ensures in
     let faces : List ℕ = flat_map (λ (face : FaceLabels). line_of (face_words face)) c.args.labelling.now.faces in
-    puts-fails _ (line_of (labels_head_words c.args.labelling.now.degree)) (faces ++ line_of (places_words c.args.labelling.now.places)) failed.1
+    puts-fails _ (line_of (labels_head_words c.args.labelling.now.degree)) (faces ++ line_of (places_words c.args.labelling.now.places))
+    failed.1
     head.failed head.only_writes
 
 pub returns-in_err-put_faces : goal.returns-in_err-put_faces
@@ -21,7 +22,8 @@ returns-in_err-put_faces g c =
     let head = puts-same (ap (λ d. line_of (labels_head_words d)) c.degree.ensures) c.in_ok-put_line.ensures in
     let faces : List ℕ = flat_map (λ (face : FaceLabels). line_of (face_words face)) c.args.labelling.now.faces in
     puts-then head.ok head.only_writes
-    (puts-fails _ faces (line_of (places_words c.args.labelling.now.places)) failed.1 c.in_err-put_faces.ensures.failed c.in_err-put_faces.ensures.only_writes)
+    (puts-fails _ faces (line_of (places_words c.args.labelling.now.places)) failed.1 c.in_err-put_faces.ensures.failed
+    c.in_err-put_faces.ensures.only_writes)
 
 pub returns : goal.returns
 returns g c =

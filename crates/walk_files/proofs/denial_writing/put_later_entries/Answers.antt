@@ -12,15 +12,18 @@ loop-k-init g c = each-none c.args.sink.now c.args.piece.now spaced (drop 1 c.ar
 pub returns-in_err-put_behind : goal.returns-in_err-put_behind
 returns-in_err-put_behind g c =
     let failed = err_from_is_err_and c.from_residual.result c.from_residual.ensures.1 in
-    let here = later_entry c.args.word.now c.loop-k.k (omega (arith, c.loop-k.auto.k)) (omega (arith, c.loop-k-test.true, c.len-k-end.ensures)) in
+    let here = later_entry c.args.word.now c.loop-k.k (omega (arith, c.loop-k.auto.k))
+    (omega (arith, c.loop-k-test.true, c.len-k-end.ensures)) in
     let puts = puts-same (ap spaced c.at.ensures) c.in_err-put_behind.ensures in
     each-fails _ failed.1 c.loop-k.invariant here puts.failed puts.only_writes
 
 pub loop-k-preserved : goal.loop-k-preserved
 loop-k-preserved g c =
-    let here = later_entry c.args.word.now c.loop-k.k (omega (arith, c.loop-k.auto.k)) (omega (arith, c.loop-k-test.true, c.len-k-end.ensures)) in
+    let here = later_entry c.args.word.now c.loop-k.k (omega (arith, c.loop-k.auto.k))
+    (omega (arith, c.loop-k-test.true, c.len-k-end.ensures)) in
     let puts = puts-same (ap spaced c.at.ensures) c.in_ok-put_behind.ensures in
-    subst (EachPut g.K.Sink.written g.K.Sink.settled g.K.Sink.faults c.args.sink.now c.put_behind.new.sink c.args.piece.now c.put_behind.new.self
+    subst (EachPut g.K.Sink.written g.K.Sink.settled g.K.Sink.faults c.args.sink.now c.put_behind.new.sink c.args.piece.now
+    c.put_behind.new.self
     spaced (drop 1 c.args.word.now)) (omega (arith, c.loop-k.auto.k)) (each-more c.loop-k.invariant here puts.ok puts.only_writes)
 
 pub returns : goal.returns

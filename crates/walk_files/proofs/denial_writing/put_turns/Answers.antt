@@ -11,7 +11,8 @@ returns-in_err-put_later_entries g c =
     let failed = err_from_is_err_and c.from_residual-in_err-put_later_entries.result c.from_residual-in_err-put_later_entries.ensures.1 in
     let put = c.put_natural.ensures.put ∙ ap (λ n. c.make_room.new.self ++ decimal n) (c.from.ensures ∙ c.at.ensures) in
     puts-same (first_and_later c.args.word.now (λ none. let full : IsTrue c.is_empty.result = c.is_empty.ensures.1 none in cc))
-    (puts-then (gathers-put (decimal (slice_index c.args.word.now 0)) c.in_ok-make_room.ensures.puts.ok put) c.in_ok-make_room.ensures.puts.only_writes
+    (puts-then (gathers-put (decimal (slice_index c.args.word.now 0)) c.in_ok-make_room.ensures.puts.ok put)
+    c.in_ok-make_room.ensures.puts.only_writes
     (puts-fails _ (flat_map spaced (drop 1 c.args.word.now)) _ failed.1 c.in_err-put_later_entries.ensures.failed
     c.in_err-put_later_entries.ensures.only_writes))
 
@@ -19,5 +20,6 @@ pub returns : goal.returns
 returns g c =
     let put = c.put_natural.ensures.put ∙ ap (λ n. c.make_room.new.self ++ decimal n) (c.from.ensures ∙ c.at.ensures) in
     puts-same (first_and_later c.args.word.now (λ none. let full : IsTrue c.is_empty.result = c.is_empty.ensures.1 none in cc))
-    (puts-then (gathers-put (decimal (slice_index c.args.word.now 0)) c.in_ok-make_room.ensures.puts.ok put) c.in_ok-make_room.ensures.puts.only_writes
+    (puts-then (gathers-put (decimal (slice_index c.args.word.now 0)) c.in_ok-make_room.ensures.puts.ok put)
+    c.in_ok-make_room.ensures.puts.only_writes
     (puts-then c.in_ok-put_later_entries.ensures.ok c.in_ok-put_later_entries.ensures.only_writes c.end_line.ensures))
