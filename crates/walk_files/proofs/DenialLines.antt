@@ -13,24 +13,29 @@ use Rattle.walk_files.specs.Denials.{sign_of, words_in, denial_in, AreFew}
 use Rattle.walk_files.proofs.FewLemmas.{found_line}
 
 -- the line of a face
-pub face_line : (end number : ℕ) (labelling : LabellingView) (keyword : List ℕ) (words : List (List ℕ)) (lines : List Line) (flipped : Bool) (labels : List ℕ)
+pub face_line : (end number : ℕ) (labelling : LabellingView) (keyword : List ℕ) (words : List (List ℕ)) (lines : List Line) (flipped : Bool)
+    (labels : List ℕ)
     → bytes_eq keyword (codes "places") ≡ false → sign_of keyword ≡ Some flipped → each_some number_of words ≡ Some labels
     → denial_in end labelling (record { number = number; words = keyword ∷ words } ∷ lines)
     ≡ denial_in end (record labelling { faces = labelling.faces ++ (record { flipped = flipped; labels = labels }) ∷ [] }) lines
 face_line end number labelling keyword words lines flipped labels no_places sign read = rw (no_places, sign, read) refl
 
 -- the line of the places
-pub places_line : (end number : ℕ) (labelling : LabellingView) (keyword : List ℕ) (words : List (List ℕ)) (lines : List Line) (places : List ℕ)
+pub places_line : (end number : ℕ) (labelling : LabellingView) (keyword : List ℕ) (words : List (List ℕ)) (lines : List Line)
+    (places : List ℕ)
     → bytes_eq keyword (codes "places") ≡ true → each_some number_of words ≡ Some places
-    → denial_in end labelling (record { number = number; words = keyword ∷ words } ∷ lines) ≡ words_in end (record labelling { places = places }) lines
+    → denial_in end labelling (record { number = number; words = keyword ∷ words } ∷ lines)
+    ≡ words_in end (record labelling { places = places }) lines
 places_line end number labelling keyword words lines places is read = rw (is, read) refl
 
 -- as many are read as there are
-pub length-each_some : {A B : Type 0} (read : A → Option B) (xs : List A) (ys : List B) → each_some read xs ≡ Some ys → length ys ≡ length xs
+pub length-each_some : {A B : Type 0} (read : A → Option B) (xs : List A) (ys : List B) → each_some read xs ≡ Some ys → length ys
+    ≡ length xs
 length-each_some read [] ys e = let none : ys ≡ [] = cc in ap length none
 length-each_some {A} {B} read (x ∷ xs) ys e = by_first (read x) (each_some read xs) e (λ zs f. length-each_some read xs zs f) refl
   where
-    by_first : (o : Option B) (rest : Option (List B)) → some_first o rest ≡ Some ys → ((zs : List B) → each_some read xs ≡ Some zs → length zs ≡ length xs)
+    by_first : (o : Option B) (rest : Option (List B)) → some_first o rest ≡ Some ys
+        → ((zs : List B) → each_some read xs ≡ Some zs → length zs ≡ length xs)
         → each_some read xs ≡ rest → length ys ≡ length (x ∷ xs)
     by_first None rest e more is = cc
     by_first (Some y) None e more is = cc
@@ -61,7 +66,8 @@ behind_keyword old at next keyword filled found word past =
     same_end (line ∷ lines) = refl
 
 -- the words behind it are few
-pub few-behind : (old next : Unread) (keyword : List ℕ) → IsBehind old next keyword → All (λ line. length line.words < 2 ^ 32) (lines_left old)
+pub few-behind : (old next : Unread) (keyword : List ℕ) → IsBehind old next keyword
+    → All (λ line. length line.words < 2 ^ 32) (lines_left old)
     → length next.words < 2 ^ 32
 few-behind old next keyword behind few =
     let first : length (keyword ∷ next.words) < 2 ^ 32 =
@@ -82,7 +88,8 @@ pub record SoFar (start : Unread) (empty : LabellingView) (left : Unread) (label
 left_behind : (next after : Unread) → after ≡ record next { words = after.words } → after.words ≡ [] → lines_left after ≡ next.lines
 left_behind next after place ended = rw (ended) (ap (λ (u : Unread). u.lines) place)
 
-pub so_far-face : (start old next after : Unread) (empty labelling new : LabellingView) (keyword : List ℕ) (flipped : Bool) (labels : List ℕ)
+pub so_far-face : (start old next after : Unread) (empty labelling new : LabellingView) (keyword : List ℕ) (flipped : Bool)
+    (labels : List ℕ)
     → SoFar start empty old labelling → IsBehind old next keyword → bytes_eq keyword (codes "places") ≡ false
     → sign_of keyword ≡ Some flipped → each_some number_of next.words ≡ Some labels
     → after ≡ record next { words = after.words } → after.words ≡ []
@@ -101,7 +108,13 @@ so_far-face start old next after empty labelling new keyword flipped labels so_f
           ∙ face_line start.end_line next.line labelling keyword next.words next.lines flipped labels no_places sign read
           ∙ ap (denial_in start.end_line (record labelling { faces = faces })) (sym left);
       words = subst (λ ls. All (λ (line : Line). length line.words < 2 ^ 32) ls) (sym left) rest;
-      count = omega (arith, so_far.count, lines, ap (λ (ls : List Line). length ls) left, length-append labelling.faces ((record { flipped = flipped; labels = labels }) ∷ []));
+      count = omega (
+        arith,
+        so_far.count,
+        lines,
+        ap (λ (ls : List Line). length ls) left,
+        length-append labelling.faces ((record { flipped = flipped; labels = labels }) ∷ []),
+      );
       places = so_far.places;
       degree = so_far.degree;
       end = ap (λ (u : Unread). u.end_line) place ∙ behind.end ∙ so_far.end;

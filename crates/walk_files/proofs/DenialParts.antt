@@ -1,16 +1,21 @@
 -- The parts of a denial that are written one after another.
-use Rattle.std.proofs.Common.{◌≡◌, ℕ, zero, suc, ◌-◌, ◌<◌, ◌≤◌, false, get_or, List, [], ◌∷◌, ◌++◌, length, drop, refl, sym, ap, ◌∙◌, append_assoc, arith}
-use Rattle.std.specs.Prelude.{Some, map, flat_map, slice_get, slice_index, decimal}
+use Rattle.std.proofs.Common.{◌≡◌, ℕ, zero, suc, ◌+◌, ◌-◌, ◌^◌, ◌<◌, ◌≤◌, false, get_or, List, [], ◌∷◌, ◌++◌, length, take, drop, add-one, refl, sym, ap, subst, ◌∙◌, append_assoc, inl, inr, arith}
+use Rattle.std.specs.Prelude.{Some, map, flat_map, slice_get, slice_index, decimal, All}
+use Rattle.std.proofs.lemmas.List.Elements.{All-head, All-tail, All-cons, All-nil}
+use Rattle.std.proofs.Math.Seq.{take-suc}
+use Rattle.std.proofs.Math.Nat.{eq-or-lt_of_le}
+use Rattle.turn_words.specs.declared.word.Word.{Word}
+use Rattle.turn_words.specs.declared.word.Word.TheVariants.{Turns, Flat}
 use Rattle.std.proofs.lemmas.List.{append-nil}
 use Rattle.std.proofs.lemmas.List.Concat.{flat_map-append}
-use Rattle.std.proofs.lemmas.Option.{slice_get-get_or}
+use Rattle.std.proofs.lemmas.Option.{slice_get-get_or, slice_get_within, get_or_from_slice_get}
 use Rattle.surf_model.specs.Surfaces.{is_flipped}
 use Rattle.labellings.specs.Labellings.{FaceLabels, LabellingView, labels_at, signs_of}
 use Rattle.labellings.specs.declared.denial.Denial.{Denial}
 use Rattle.text_scan.specs.Plain.{line_of}
 use Rattle.surf_io.specs.Gathered.{spaced}
 use Rattle.surf_io.proofs.Gathering.{line_of-numbers}
-use Rattle.walk_files.specs.DenialTexts.{entry_words, face_words, places_words, word_words, labels_head_words, lines_behind_faces, labelling_text, denial_text}
+use Rattle.walk_files.specs.DenialTexts.{entry_words, face_words, places_words, word_words, labels_head_words, lines_behind_faces, labelling_text, denial_text, AreNumbers, HasNumbers, AreWordNumbers, HasForm, HasForms, FitsDegree, ReadsBack}
 
 -- entry k of a turn word, behind the first
 pub later_entry : (word : List ℕ) (k : ℕ) → 1 ≤ k → k < length word → slice_get (drop 1 word) (k - 1) ≡ Some (slice_index word k)
@@ -35,7 +40,8 @@ face_of_labelling labelling k within =
     ∙ ap (λ b. Some (record { flipped = b; labels = labels_at labelling k })) (sym (sign labelling.faces k))
   where
     sign : (faces : List FaceLabels) (k : ℕ)
-        → get_or (map (λ (face : FaceLabels). face.flipped) faces) k false ≡ (get_or faces k (record { flipped = false; labels = [] })).flipped
+        → get_or (map (λ (face : FaceLabels). face.flipped) faces) k false
+        ≡ (get_or faces k (record { flipped = false; labels = [] })).flipped
     sign [] zero = refl
     sign [] (suc k) = refl
     sign (face ∷ faces) zero = refl
@@ -60,3 +66,63 @@ denial_text-parts denial =
         → flat_map line_of (map face_words faces) ≡ flat_map (λ (face : FaceLabels). line_of (face_words face)) faces
     flat_map-faces [] = refl
     flat_map-faces (face ∷ faces) = ap (λ t. line_of (face_words face) ++ t) (flat_map-faces faces)
+
+-- ---- numbers
+
+-- a word of the program's numbers that is a point exactly where the degree is 4
+fits_degree : (degree : ℕ) (word : Word) → AreWordNumbers word → HasForm degree word → FitsDegree degree word
+fits_degree degree (Turns entries) numbers form = (form, numbers)
+fits_degree degree (Flat x y) numbers form = (form, numbers.0, numbers.1)
+
+pub reads_back : (denial : Denial) → HasNumbers denial.labelling × AreWordNumbers denial.first × AreWordNumbers denial.second
+    → HasForms denial
+    → ReadsBack denial
+reads_back denial numbers forms = record {
+  degree = numbers.0.degree;
+  labels = numbers.0.labels;
+  places = numbers.0.places;
+  first = fits_degree denial.labelling.degree denial.first numbers.1 forms.first;
+  second = fits_degree denial.labelling.degree denial.second numbers.2 forms.second;
+}
+
+-- numbers that are small at each place
+pub small_at_each : (numbers : List ℕ) → ((j : ℕ) → j < length numbers → slice_index numbers j < 2 ^ 32) → AreNumbers numbers
+small_at_each [] small = All-nil (λ n. n < 2 ^ 32)
+small_at_each (n ∷ numbers) small =
+    All-cons (λ m. m < 2 ^ 32) n numbers (small 0 (omega arith)) (small_at_each numbers (λ j less. small (suc j) (omega (arith, less))))
+
+-- one face more has small labels
+pub faces_more : (faces : List FaceLabels) (k : ℕ) (face : FaceLabels) → All (λ f. AreNumbers f.labels) (take k faces) → slice_get faces k
+    ≡ Some face
+    → AreNumbers face.labels → All (λ f. AreNumbers f.labels) (take (k + 1) faces)
+faces_more faces k face so_far here small =
+    let one_more : take (k + 1) faces ≡ take k faces ++ face ∷ [] =
+    ap (λ j. take j faces) (add-one k) ∙ take-suc faces k face (slice_get_within faces k face here)
+    ∙ ap (λ f. take k faces ++ f ∷ []) (get_or_from_slice_get faces k face face here) in
+    subst (All (λ (f : FaceLabels). AreNumbers f.labels)) (sym one_more) (push (take k faces) so_far)
+  where
+    push : (first : List FaceLabels) → All (λ f. AreNumbers f.labels) first → All (λ f. AreNumbers f.labels) (first ++ face ∷ [])
+    push [] all = All-cons (λ (f : FaceLabels). AreNumbers f.labels) face [] small (All-nil (λ (f : FaceLabels). AreNumbers f.labels))
+    push (f ∷ first) all =
+        All-cons (λ (f : FaceLabels). AreNumbers f.labels) f (first ++ face ∷ [])
+        (All-head (λ (f : FaceLabels). AreNumbers f.labels) f first all)
+        (push first (All-tail (λ (f : FaceLabels). AreNumbers f.labels) f first all))
+
+-- one entry more is small
+pub below_next : (word : List ℕ) (k n : ℕ) → ((j : ℕ) → 0 < j → j < k → slice_index word j < 2 ^ 32) → n ≡ slice_index word k → n < 2 ^ 32
+    → (j : ℕ) → 0 < j → j < k + 1 → slice_index word j < 2 ^ 32
+below_next word k n before is small j some less =
+    let up_to : j ≤ k = omega (arith, less) in
+    elim (eq-or-lt_of_le up_to) [
+      | inl same ↦ rw same (omega (arith, is, small))
+      | inr lower ↦ before j some lower
+    ]
+
+-- so are all, with the first
+pub small_with_first : (word : List ℕ) (n : ℕ) → n ≡ slice_index word 0 → n < 2 ^ 32
+    → ((j : ℕ) → 0 < j → j < length word → slice_index word j < 2 ^ 32) → AreNumbers word
+small_with_first word n is small later = small_at_each word at
+  where
+    at : (j : ℕ) → j < length word → slice_index word j < 2 ^ 32
+    at zero less = omega (arith, is, small)
+    at (suc j) less = later (suc j) (omega arith) less

@@ -35,18 +35,23 @@ sign-writable false = record { filled = refl; inside = refl }
 face-line : (face : FaceLabels) → AreNumbers face.labels → IsLine (face_words face)
 face-line face small = record {
   filled = refl;
-  writable = All-cons IsWritable (sign_word face.flipped) (map decimal face.labels) (sign-writable face.flipped) (decimals-writable face.labels small);
+  writable = All-cons IsWritable (sign_word face.flipped) (map decimal face.labels) (sign-writable face.flipped)
+      (decimals-writable face.labels small);
 }
 
 places-line : (places : List ℕ) → AreNumbers places → IsLine (places_words places)
 places-line places small = record {
   filled = refl;
-  writable = All-cons IsWritable (codes "places") (map decimal places) (record { filled = refl; inside = refl }) (decimals-writable places small);
+  writable = All-cons IsWritable (codes "places") (map decimal places) (record { filled = refl; inside = refl })
+      (decimals-writable places small);
 }
 
 word-line : (degree : ℕ) (word : Word) → FitsDegree degree word → IsLine (word_words word)
 word-line degree (Turns []) fits =
-    record { filled = refl; writable = All-cons IsWritable (codes "empty") [] (record { filled = refl; inside = refl }) (All-nil IsWritable) }
+    record {
+      filled = refl;
+      writable = All-cons IsWritable (codes "empty") [] (record { filled = refl; inside = refl }) (All-nil IsWritable);
+    }
 word-line degree (Turns (entry ∷ entries)) fits = record { filled = refl; writable = decimals-writable (entry ∷ entries) fits.1 }
 word-line degree (Flat x y) fits = record {
   filled = refl;
@@ -86,17 +91,20 @@ entries-read [] small = refl
 entries-read (entry ∷ []) small =
     let fits : entry < 2 ^ 32 = All-head (λ m. m < 2 ^ 32) entry [] small in
     let digits = (decimal_is entry (omega (arith, fits))).all in
-    ap (λ b. cond b (Some []) (each_some number_of (decimal entry ∷ []))) (digits-no_empty (decimal entry) digits) ∙ numbers-read (entry ∷ []) small
+    ap (λ b. cond b (Some []) (each_some number_of (decimal entry ∷ []))) (digits-no_empty (decimal entry) digits)
+    ∙ numbers-read (entry ∷ []) small
 entries-read (entry ∷ next ∷ entries) small = numbers-read (entry ∷ next ∷ entries) small
 
 word-read : (degree : ℕ) (word : Word) → FitsDegree degree word → word_of degree (word_words word) ≡ Some word
 word-read degree (Turns entries) fits = rw (ne_eqb degree 4 fits.0, entries-read entries fits.1) refl
-word-read degree (Flat x y) fits = subst (λ d. word_of d (word_words (Flat x y)) ≡ Some (Flat x y)) (sym fits.0) (rw (integer-read x fits.1, integer-read y fits.2) refl)
+word-read degree (Flat x y) fits = subst (λ d. word_of d (word_words (Flat x y)) ≡ Some (Flat x y)) (sym fits.0)
+    (rw (integer-read x fits.1, integer-read y fits.2) refl)
 
 -- ---- the lines
 
 words-read : (end n degree : ℕ) (denial : Denial) (faces : List FaceLabels) → ReadsBack denial → faces ≡ denial.labelling.faces
-    → denial_in end (record { degree = denial.labelling.degree; faces = faces; places = [] }) (numbered n (lines_behind_faces denial)) ≡ Ok denial
+    → denial_in end (record { degree = denial.labelling.degree; faces = faces; places = [] }) (numbered n (lines_behind_faces denial))
+    ≡ Ok denial
 words-read end n degree denial faces back same =
     rw (
       numbers-read denial.labelling.places back.places,
@@ -107,7 +115,8 @@ words-read end n degree denial faces back same =
 
 faces-read : (end n : ℕ) (denial : Denial) (done faces : List FaceLabels) → ReadsBack denial → All (λ face. AreNumbers face.labels) faces
     → done ++ faces ≡ denial.labelling.faces
-    → denial_in end (record { degree = denial.labelling.degree; faces = done; places = [] }) (numbered n (map face_words faces ++ lines_behind_faces denial))
+    → denial_in end (record { degree = denial.labelling.degree; faces = done; places = [] })
+    (numbered n (map face_words faces ++ lines_behind_faces denial))
     ≡ Ok denial
 faces-read end n denial done [] back small whole = words-read end n denial.labelling.degree denial done back (sym (append-nil done) ∙ whole)
 faces-read end n denial done (face ∷ faces) back small whole =
@@ -121,7 +130,8 @@ faces-read end n denial done (face ∷ faces) back small whole =
 faces-lines : (denial : Denial) (faces : List FaceLabels) → ReadsBack denial → All (λ face. AreNumbers face.labels) faces
     → All IsLine (map face_words faces ++ lines_behind_faces denial)
 faces-lines denial [] back small =
-    All-cons IsLine (places_words denial.labelling.places) (word_words denial.first ∷ word_words denial.second ∷ []) (places-line denial.labelling.places back.places)
+    All-cons IsLine (places_words denial.labelling.places) (word_words denial.first ∷ word_words denial.second ∷ [])
+    (places-line denial.labelling.places back.places)
     (All-cons IsLine (word_words denial.first) (word_words denial.second ∷ []) (word-line denial.labelling.degree denial.first back.first)
     (All-cons IsLine (word_words denial.second) [] (word-line denial.labelling.degree denial.second back.second) (All-nil IsLine)))
 faces-lines denial (face ∷ faces) back small =
@@ -146,7 +156,8 @@ unmarked-denial_text denial = refl
 
 full_lines-denial_text : (denial : Denial) → ReadsBack denial
     → full_lines (denial_text denial)
-    ≡ record { number = 1; words = labels_head_words denial.labelling.degree } ∷ numbered 2 (map face_words denial.labelling.faces ++ lines_behind_faces denial)
+    ≡ record { number = 1; words = labels_head_words denial.labelling.degree }
+    ∷ numbered 2 (map face_words denial.labelling.faces ++ lines_behind_faces denial)
 full_lines-denial_text denial back =
     ap (lines_from 1) (unmarked-denial_text denial)
     ∙ lines_from-written 1 (denial_lines denial)
@@ -171,7 +182,11 @@ abbrev answer_words : List (List ℕ)
 answer_words = codes "different" ∷ []
 
 answer-line : IsLine answer_words
-answer-line = record { filled = refl; writable = All-cons IsWritable (codes "different") [] (record { filled = refl; inside = refl }) (All-nil IsWritable) }
+answer-line = record {
+  filled = refl;
+  writable = All-cons IsWritable (codes "different") [] (record { filled = refl; inside = refl })
+      (All-nil IsWritable);
+}
 
 abbrev answered_text : Denial → List ℕ
 answered_text denial = line_of answer_words ++ denial_text denial

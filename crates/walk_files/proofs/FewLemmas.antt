@@ -15,7 +15,8 @@ short-more : (n m : ℕ) (pieces : List (List ℕ)) → n ≤ m → All (λ piec
 short-more n m [] le short = All-nil (λ piece. length piece ≤ m)
 short-more n m (piece ∷ pieces) le short =
     let head : length piece ≤ n = All-head (λ piece. length piece ≤ n) piece pieces short in
-    All-cons (λ piece. length piece ≤ m) piece pieces (omega (arith, head)) (short-more n m pieces le (All-tail (λ piece. length piece ≤ n) piece pieces short))
+    All-cons (λ piece. length piece ≤ m) piece pieces (omega (arith, head))
+    (short-more n m pieces le (All-tail (λ piece. length piece ≤ n) piece pieces short))
 
 onto_first-short : (n byte : ℕ) (pieces : List (List ℕ)) → All (λ piece. length piece ≤ n) pieces
     → All (λ piece. length piece ≤ n + 1) (onto_first byte pieces)
@@ -34,16 +35,19 @@ cut-short (byte ∷ text) = by_test (byte == 10) (cut text) (cut-short text)
     by_test : (b : Bool) (pieces : List (List ℕ)) → All (λ piece. length piece ≤ length text) pieces
         → All (λ piece. length piece ≤ length (byte ∷ text)) (cond b ([] ∷ pieces) (onto_first byte pieces))
     by_test true pieces short =
-        All-cons (λ piece. length piece ≤ length (byte ∷ text)) [] pieces (omega arith) (short-more (length text) (length (byte ∷ text)) pieces (omega arith) short)
+        All-cons (λ piece. length piece ≤ length (byte ∷ text)) [] pieces (omega arith)
+        (short-more (length text) (length (byte ∷ text)) pieces (omega arith) short)
     by_test false pieces short =
-        subst (λ n. All (λ piece. length piece ≤ n) (onto_first byte pieces)) (omega arith) (onto_first-short (length text) byte pieces short)
+        subst (λ n. All (λ piece. length piece ≤ n) (onto_first byte pieces)) (omega arith)
+        (onto_first-short (length text) byte pieces short)
 
 few_pieces : (text : List ℕ) → length (cut text) ≤ length text
 unfolding cut
 few_pieces [] = omega arith
 few_pieces (byte ∷ text) = by_test (byte == 10) (cut text) (few_pieces text)
   where
-    by_test : (b : Bool) (pieces : List (List ℕ)) → length pieces ≤ length text → length (cond b ([] ∷ pieces) (onto_first byte pieces)) ≤ length (byte ∷ text)
+    by_test : (b : Bool) (pieces : List (List ℕ)) → length pieces ≤ length text
+        → length (cond b ([] ∷ pieces) (onto_first byte pieces)) ≤ length (byte ∷ text)
     by_test true pieces few = omega (arith, few)
     by_test false [] few = omega (arith, few)
     by_test false (piece ∷ pieces) few = omega (arith, few)
@@ -59,7 +63,8 @@ filled-parts test (byte ∷ line) =
       | inr off ↦ rw (slice_split-cons_no test byte line off) (on_first byte (slice_split test line) (length line) so_far)
     ]
   where
-    on_first : (byte : ℕ) (parts : List (List ℕ)) (n : ℕ) → length (filter is_filled parts) ≤ n → length (filter is_filled (onto_first byte parts)) ≤ suc n
+    on_first : (byte : ℕ) (parts : List (List ℕ)) (n : ℕ) → length (filter is_filled parts) ≤ n
+        → length (filter is_filled (onto_first byte parts)) ≤ suc n
     on_first byte [] n few = omega arith
     on_first byte ([] ∷ parts) n few = omega (arith, few)
     on_first byte ((x ∷ part) ∷ parts) n few = omega (arith, few)
@@ -88,7 +93,8 @@ record AreAtMost (n m : ℕ) (lines : List Line) : Type 0 where
   words : All (λ line. length line.words ≤ m) lines
 
 numbered-few : (n m : ℕ) (pieces : List (List ℕ)) → All (λ piece. length piece ≤ m) pieces
-    → AreAtMost (length pieces) m (filter (λ line. is_filled line.words) (map (λ p. record { number = p.0; words = words p.1 }) (enumerate_from n pieces)))
+    → AreAtMost (length pieces) m (filter (λ line. is_filled line.words)
+    (map (λ p. record { number = p.0; words = words p.1 }) (enumerate_from n pieces)))
 numbered-few n m [] short = record { count = omega arith; words = All-nil (λ (line : Line). length line.words ≤ m) }
 numbered-few n m (piece ∷ pieces) short =
     let head : length piece ≤ m = All-head (λ piece. length piece ≤ m) piece pieces short in
@@ -159,7 +165,8 @@ few-next old new is few = subst AreFew (sym is) (few-drop 1 old few)
 -- a line that was found
 pub found_line : (old new : Unread) → is_filled (lines_left old) ≡ true → new ≡ at_line old (lines_left old)
     → lines_left old ≡ record { number = new.line; words = new.words } ∷ new.lines
-found_line old new filled is = subst (λ (u : Unread). lines_left old ≡ record { number = u.line; words = u.words } ∷ u.lines) (sym is) (at (lines_left old) filled)
+found_line old new filled is = subst (λ (u : Unread). lines_left old ≡ record { number = u.line; words = u.words } ∷ u.lines) (sym is)
+    (at (lines_left old) filled)
   where
     at : (lines : List Line) → is_filled lines ≡ true
         → lines ≡ record { number = (at_line old lines).line; words = (at_line old lines).words } ∷ (at_line old lines).lines

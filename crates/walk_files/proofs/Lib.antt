@@ -1,3 +1,4 @@
+pub mod EntryLemmas
 pub mod PairLemmas
 pub mod MoveLines
 pub mod EachLemmas

@@ -20,5 +20,6 @@ pub stored_lists-append : (places : List Place) (numbers more : List ℕ) → Ar
     → stored_lists places (numbers ++ more) ≡ stored_lists places numbers
 stored_lists-append [] numbers more within = refl
 stored_lists-append (place ∷ places) numbers more within =
-    ap (λ l. l ∷ stored_lists places (numbers ++ more)) (list_at-append numbers more place (All-head (IsWithin numbers) place places within))
+    ap (λ l. l ∷ stored_lists places (numbers ++ more))
+    (list_at-append numbers more place (All-head (IsWithin numbers) place places within))
     ∙ ap (λ ls. list_at numbers place ∷ ls) (stored_lists-append places numbers more (All-tail (IsWithin numbers) place places within))

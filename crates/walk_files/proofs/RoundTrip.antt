@@ -90,7 +90,12 @@ moves_in-numbered end n [] all = refl
 moves_in-numbered end n (move ∷ moves) all =
     let some : eqb (length (move ∷ moves)) 0 ≡ false = ne_eqb (length (move ∷ moves)) 0 (λ e. omega (arith, e)) in
     let fewer : length (move ∷ moves) - 1 ≡ length moves = omega arith in
-    rw (some, move_of-move_words move (All-head MoveFits move moves all), fewer, moves_in-numbered end (n + 1) moves (All-tail MoveFits move moves all)) refl
+    rw (
+      some,
+      move_of-move_words move (All-head MoveFits move moves all),
+      fewer,
+      moves_in-numbered end (n + 1) moves (All-tail MoveFits move moves all),
+    ) refl
 
 -- ---- the whole text
 
@@ -102,7 +107,8 @@ full_lines-list_text : (list : PeakedMoves) → FitsFormat list
     → full_lines (list_text list) ≡ record { number = 1; words = head_words list } ∷ numbered 2 (map move_words list.moves)
 full_lines-list_text list fits =
     ap (lines_from 1) (unmarked-list_text list)
-    ∙ lines_from-written 1 (list_lines list) (All-cons IsLine (head_words list) (map move_words list.moves) (head-is_line list fits) (moves-are_lines list.moves fits.moves))
+    ∙ lines_from-written 1 (list_lines list) (All-cons IsLine (head_words list) (map move_words list.moves) (head-is_line list fits)
+    (moves-are_lines list.moves fits.moves))
 
 pub list_of_text-list_text : (list : PeakedMoves) → FitsFormat list → list_of_text (list_text list) ≡ Some (Ok list)
 list_of_text-list_text list fits =
@@ -144,7 +150,8 @@ list_of_text-answered list fits =
     let lines = full_lines-answered list fits in
     let end = end_line (answered_text list) in
     let head : head_of_text (answered_text list) ≡ Ok (Moves (length list.moves) list.peak) =
-    ap (head_among end) lines ∙ ap (fitting_head (Some Homotopic) 2) (head_of-head_words list fits) ∙ rw (le-ltb 16000000 list.peak fits.peak) refl in
+    ap (head_among end) lines ∙ ap (fitting_head (Some Homotopic) 2) (head_of-head_words list fits)
+    ∙ rw (le-ltb 16000000 list.peak fits.peak) refl in
     let moves : moves_of_text (length list.moves) (answered_text list) ≡ Ok list.moves =
     ap (λ ls. moves_in end (length list.moves) (behind_head ls)) lines ∙ moves_in-numbered end 3 list.moves fits.moves in
     ap (λ h. list_behind h (answered_text list)) head ∙ ap (λ m. Some (with_peak list.peak m)) moves

@@ -19,7 +19,8 @@ use Rattle.walk_files.specs.declared.limits.TheConstants.{MOST_LINES, MOST_ENTRI
 each_ok-all : {A B E : Type 0} (read : A → Result B E) (P : B → Type 0) → ((x : A) (y : B) → read x ≡ Ok y → P y)
     → (xs : List A) (ys : List B) → each_ok read xs ≡ Ok ys → All P ys
 each_ok-all {A} {B} {E} read P each [] ys e = let same : [] ≡ ys = cc in subst (All P) same (All-nil P)
-each_ok-all {A} {B} {E} read P each (x ∷ xs) ys e = by_first (read x) (each_ok read xs) refl refl (λ zs g. each_ok-all read P each xs zs g) e
+each_ok-all {A} {B} {E} read P each (x ∷ xs) ys e = by_first (read x) (each_ok read xs) refl refl (λ zs g. each_ok-all read P each xs zs g)
+    e
   where
     by_first : (r : Result B E) (rs : Result (List B) E) → read x ≡ r → each_ok read xs ≡ rs
         → ((zs : List B) → each_ok read xs ≡ Ok zs → All P zs) → ok_first r rs ≡ Ok ys → All P ys
@@ -67,13 +68,15 @@ on_line-short before line list e = by_many (nat_le MOST_LINES before) e
     by_long true f h = cc
     by_long false f h = by_meaning (entries_of line.words) refl (ltb-false _ _ f) h
 
-    by_many : (b : Bool) → on_line line.number (if b then Err (TooMany line.number) else numbers_on entries_of MOST_ENTRIES line.number line.words) ≡ Ok list
+    by_many : (b : Bool) → on_line line.number (if b then Err (TooMany line.number) else numbers_on entries_of MOST_ENTRIES line.number
+        line.words) ≡ Ok list
         → length list.numbers ≤ MOST_ENTRIES
     by_many true h = cc
     by_many false h = by_long (nat_lt MOST_ENTRIES (length line.words)) refl h
 
 -- a turn word of a text has few entries
-pub words_of-short : (text : List ℕ) (lists : List NumberLine) → words_of text ≡ Ok lists → All (λ list. length list.numbers ≤ MOST_ENTRIES) lists
+pub words_of-short : (text : List ℕ) (lists : List NumberLine) → words_of text ≡ Ok lists
+    → All (λ list. length list.numbers ≤ MOST_ENTRIES) lists
 words_of-short text lists e =
     each_ok-all (λ p. on_line p.1.number (line_of_numbers entries_of MOST_ENTRIES p.0 p.1)) (λ list. length list.numbers ≤ MOST_ENTRIES)
     (λ p list f. on_line-short p.0 p.1 list f) (enumerate_from 0 (full_lines text)) lists e

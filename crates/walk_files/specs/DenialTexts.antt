@@ -63,6 +63,27 @@ abbrev pub FitsDegree : ℕ → Word → Type 0
 FitsDegree degree (Turns entries) = (degree ≡ 4 → ⊥) × AreNumbers entries
 FitsDegree degree (Flat x y) = (degree ≡ 4) × (fits_i64 x ≡ true) × (fits_i64 y ≡ true)
 
+-- the numbers of a labelling are those of the program
+pub record HasNumbers (labelling : LabellingView) : Type 0 where
+  pub degree : labelling.degree < 2 ^ 32
+  pub labels : All (λ face. AreNumbers face.labels) labelling.faces
+  pub places : AreNumbers labelling.places
+
+-- so are those of a word: integers of 64 bits in a point
+abbrev pub AreWordNumbers : Word → Type 0
+AreWordNumbers (Turns entries) = AreNumbers entries
+AreWordNumbers (Flat x y) = (fits_i64 x ≡ true) × (fits_i64 y ≡ true)
+
+-- a word is a point exactly where the degree is 4
+abbrev pub HasForm : ℕ → Word → Type 0
+HasForm degree (Turns entries) = degree ≡ 4 → ⊥
+HasForm degree (Flat x y) = degree ≡ 4
+
+-- each word of a denial is a point exactly where its degree is 4
+pub record HasForms (denial : Denial) : Type 0 where
+  pub first : HasForm denial.labelling.degree denial.first
+  pub second : HasForm denial.labelling.degree denial.second
+
 -- the words of a denial are points exactly where its degree is 4, and its numbers are those of the program
 pub record ReadsBack (denial : Denial) : Type 0 where
   pub degree : denial.labelling.degree < 2 ^ 32

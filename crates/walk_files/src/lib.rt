@@ -13,6 +13,7 @@
 mod certificate;
 mod denial;
 mod denial_writing;
+mod entries;
 mod fault;
 pub mod laws;
 mod limits;

@@ -1,10 +1,11 @@
 //! Comparing the walks of a file with the mesh.
-ghost use Rattle.std.specs.Prelude.{◌≡◌, ◌↔◌, ℕ, ◌≤◌, ◌<◌, List, [], ◌∷◌, length, IsOk, OnOk};
+ghost use Rattle.std.specs.Prelude.{◌≡◌, ◌↔◌, ◌<◌, length, IsOk};
 ghost use Rattle.std.specs.Result.{result_err};
 ghost use Rattle.surf_model.specs.FaceLists.{FaceList};
 ghost use Rattle.surf_model.specs.Edges.{IsTableOf};
-ghost use Rattle.walk_files.specs.Pairs.{IsPair, pair_fault, vertex_fault, edge_fault, ends_fault};
+ghost use Rattle.walk_files.specs.Pairs.{IsPair, pair_fault, ends_fault};
 
+use crate::entries::{EntryFault, check_walks};
 use crate::walk_list::WalkList;
 use surf_model::{Sides, Walk};
 
@@ -33,51 +34,21 @@ pub fn check_pair(sides: &Sides, walks: &WalkList) -> Result<(), PairFault>
     if count != 2 {
         return Err(PairFault::NotTwo { count });
     }
-    check_two(sides, walks.at(0), walks.at(1))
+    check_walks(sides, walks)?;
+    check_ends(walks.at(0), walks.at(1))
 }
 
-/// Looks at the entries of both walks, then at the darts of both, and then at their ends.
-fn check_two(sides: &Sides, first: &Walk, second: &Walk) -> Result<(), PairFault>
-    ensures fault { (mesh : FaceList) → IsTableOf mesh sides.now
-        → result_err result ≡ pair_fault mesh (first.now ∷ second.now ∷ []) }
-    // What holds of every walk.
-    ensures starts { OnOk result ((0 < length first.now) × (0 < length second.now)) }
-{
-    check_vertices(sides, 1, first)?;
-    check_vertices(sides, 2, second)?;
-    check_edges(sides, 1, first)?;
-    check_edges(sides, 2, second)?;
-    check_ends(first, second)
-}
+impl From<EntryFault> for PairFault {
+    ghost use Rattle.walk_files.specs.Pairs.{of_entry};
 
-/// Looks at the entries of the walk, which is number `number` of its file.
-fn check_vertices(sides: &Sides, number: u32, walk: &Walk) -> Result<(), PairFault>
-    ensures { (mesh : FaceList) → IsTableOf mesh sides.now → result_err result ≡ vertex_fault mesh number walk.now }
-{
-    for place in 0..=walk.darts() {
-        if !sides.used(walk.at(place)) {
-            return Err(PairFault::NoVertex {
-                walk: number,
-                place,
-            });
+    ghost from_gives = { λ entry fault. fault ≡ of_entry entry };
+
+    fn from(fault: EntryFault) -> PairFault {
+        match fault {
+            EntryFault::NoVertex { walk, place } => PairFault::NoVertex { walk, place },
+            EntryFault::NoEdge { walk, place } => PairFault::NoEdge { walk, place },
         }
     }
-    Ok(())
-}
-
-/// Looks at the darts of the walk, which is number `number` of its file.
-fn check_edges(sides: &Sides, number: u32, walk: &Walk) -> Result<(), PairFault>
-    ensures { (mesh : FaceList) → IsTableOf mesh sides.now → result_err result ≡ edge_fault mesh number walk.now }
-{
-    for place in 0..walk.darts() {
-        if sides.between(walk.at(place), walk.at(place + 1)).is_none() {
-            return Err(PairFault::NoEdge {
-                walk: number,
-                place,
-            });
-        }
-    }
-    Ok(())
 }
 
 /// Compares the starts, and then the ends.

@@ -1,10 +1,12 @@
 //! Writing lists of moves.
-ghost use Rattle.std.specs.Prelude.{◌≡◌, ℕ, ◌+◌, ◌*◌, ◌≤◌, Bool, List, [], ◌∷◌, ◌++◌, length, OnOk, OnErr, decimal};
+ghost use Rattle.std.specs.Prelude.{◌≡◌, ℕ, ◌+◌, ◌*◌, ◌≤◌, Bool, List, [], ◌∷◌, ◌++◌, length, OnOk, OnErr, Some, Ok, decimal};
 ghost use Rattle.text_scan.specs.Plain.{line_of};
 ghost use Rattle.surf_io.specs.Faults.{Rose};
 ghost use Rattle.surf_io.specs.Bytes.{Appends, AppendsPrefix};
 ghost use Rattle.surf_io.specs.Gathered.{Puts};
-ghost use Rattle.walk_files.specs.MoveTexts.{direction_word, move_words, head_words, list_text};
+ghost use Rattle.walk_files.specs.declared.limits.TheConstants.{MOST_PEAK};
+ghost use Rattle.walk_files.specs.Certificates.{list_of_text};
+ghost use Rattle.walk_files.specs.MoveTexts.{direction_word, move_words, head_words, list_text, MoveFits, FitsFormat};
 
 use surf_io::{Failed, Piece, Sink};
 use surf_model::{Move, MoveList, VertexName};
@@ -19,6 +21,8 @@ pub fn write_moves<K: Sink>(list: &MoveList, sink: &mut K) -> Result<(), Failed>
     ensures failed_only_on_fault { OnErr result (Rose (K.faults sink.old) (K.faults sink.new)) }
     ensures never_falls { K.faults sink.old ≤ K.faults sink.new }
     ensures same_settled { K.settled sink.new ≡ K.settled sink.old }
+    // What was written reads back, where its peak is one that is read.
+    ensures reads_back { OnOk result (list.now.peak ≤ MOST_PEAK → list_of_text (list_text list.now) ≡ Some (Ok list.now)) }
 {
     let mut piece = Piece::new();
     put_list(list, &mut piece, sink)?;
@@ -28,7 +32,9 @@ pub fn write_moves<K: Sink>(list: &MoveList, sink: &mut K) -> Result<(), Failed>
 /// Puts the text of the list into a piece that has no bytes.
 fn put_list<K: Sink>(list: &MoveList, piece: &mut Piece, sink: &mut K) -> Result<(), Failed>
     requires { piece.old ≡ [] }
-    ensures { Puts K.written K.settled K.faults result sink.old sink.new piece.old piece.new (list_text list.now) }
+    ensures puts { Puts K.written K.settled K.faults result sink.old sink.new piece.old piece.new (list_text list.now) }
+    // What holds of every list, move by move.
+    ensures fits { OnOk result (list.now.peak ≤ MOST_PEAK → FitsFormat list.now) }
 {
     put_head(piece, list);
     for k in 0..list.len() {
@@ -53,7 +59,9 @@ fn put_head(piece: &mut Piece, list: &MoveList)
 /// Puts the line of a move.
 fn put_move(piece: &mut Piece, mv: Move)
     requires { length piece.old + LINE_ROOM ≤ Piece.ROOM }
-    ensures { piece.new ≡ piece.old ++ line_of (move_words mv) }
+    ensures put { piece.new ≡ piece.old ++ line_of (move_words mv) }
+    // What holds of every move.
+    ensures fits { MoveFits mv }
 {
     match mv {
         Move::Insert { at, via } => {

@@ -6,8 +6,10 @@ returns-then-pass_words-clause-answer c = homotopic-line c.args.cursor.now.words
 
 pub returns-then-pass_words-2-clause-answer : goal.returns-then-pass_words-2-clause-answer
 returns-then-pass_words-2-clause-answer c =
-    different-line c.args.cursor.now c.pass_words.new.self c.if-pass_words.ensures.answer c.if-pass_words.ensures.place c.if-pass_words-2.ensures.answer
+    different-line c.args.cursor.now c.pass_words.new.self c.if-pass_words.ensures.answer c.if-pass_words.ensures.place
+    c.if-pass_words-2.ensures.answer
 
 pub returns-else-pass_words-2-clause-answer : goal.returns-else-pass_words-2-clause-answer
 returns-else-pass_words-2-clause-answer c =
-    no_answer-line c.args.cursor.now c.pass_words.new.self c.if-pass_words.ensures.answer c.if-pass_words.ensures.place c.if-pass_words-2.ensures.answer
+    no_answer-line c.args.cursor.now c.pass_words.new.self c.if-pass_words.ensures.answer c.if-pass_words.ensures.place
+    c.if-pass_words-2.ensures.answer

@@ -1,26 +1,32 @@
-use Rattle.std.proofs.Common.{◌∷◌, ap, ◌∙◌, map, arith}
+use Rattle.std.specs.Prelude.{All}
+use Rattle.std.proofs.lemmas.List.{take_all}
+use Rattle.std.proofs.lemmas.List.Elements.{All-nil}
+use Rattle.std.proofs.Common.{subst, ◌∷◌, ap, ◌∙◌, map, arith}
 use Rattle.std.specs.Prelude.{decimal}
 use Rattle.std.proofs.lemmas.Result.{err_from_is_err_and}
 use Rattle.surf_model.specs.Surfaces.{is_flipped}
 use Rattle.labellings.specs.Labellings.{FaceLabels, signs_of}
 use Rattle.text_scan.specs.Plain.{line_of}
 use Rattle.surf_io.proofs.Gathering.{puts-same, each-none, each-more, each-fails, each-all}
-use Rattle.walk_files.specs.DenialTexts.{sign_word, face_words}
-use Rattle.walk_files.proofs.DenialParts.{face_of_labelling}
+use Rattle.walk_files.specs.DenialTexts.{sign_word, face_words, AreNumbers}
+use Rattle.walk_files.proofs.DenialParts.{face_of_labelling, faces_more}
 use Rattle.walk_files.proofs.denial_writing.put_faces.Goals as goal
 
 pub loop-k-init : goal.loop-k-init
-loop-k-init g c = each-none c.args.sink.now c.args.piece.now (λ (face : FaceLabels). line_of (face_words face)) c.args.labelling.now.faces
+loop-k-init g c = (
+  each-none c.args.sink.now c.args.piece.now (λ (face : FaceLabels). line_of (face_words face)) c.args.labelling.now.faces,
+  All-nil (λ (face : FaceLabels). AreNumbers face.labels),
+)
 
-pub returns-in_err-put_line : goal.returns-in_err-put_line
-returns-in_err-put_line g c =
+pub returns-in_err-put_line-clause-puts : goal.returns-in_err-put_line-clause-puts
+returns-in_err-put_line-clause-puts g c =
     let failed = err_from_is_err_and c.from_residual.result c.from_residual.ensures.1 in
     let here = face_of_labelling c.args.labelling.now c.loop-k.k (omega (arith, c.loop-k-test.true, c.faces-k-end.ensures)) in
     let line =
     ap (λ s. line_of (s ∷ map decimal c.labels.result.now)) (c.sign-sign.ensures.sign ∙ ap sign_word c.flipped.ensures)
     ∙ ap (λ ls. line_of (sign_word (is_flipped (signs_of c.args.labelling.now) c.loop-k.k) ∷ map decimal ls)) c.labels.ensures in
-    let puts = puts-same line c.in_err-put_line.ensures in
-    each-fails _ failed.1 c.loop-k.invariant here puts.failed puts.only_writes
+    let puts = puts-same line c.in_err-put_line.ensures.puts in
+    each-fails _ failed.1 c.loop-k.invariant.0 here puts.failed puts.only_writes
 
 pub loop-k-preserved : goal.loop-k-preserved
 loop-k-preserved g c =
@@ -28,8 +34,16 @@ loop-k-preserved g c =
     let line =
     ap (λ s. line_of (s ∷ map decimal c.labels.result.now)) (c.sign-sign.ensures.sign ∙ ap sign_word c.flipped.ensures)
     ∙ ap (λ ls. line_of (sign_word (is_flipped (signs_of c.args.labelling.now) c.loop-k.k) ∷ map decimal ls)) c.labels.ensures in
-    let puts = puts-same line c.in_ok-put_line.ensures in
-    each-more c.loop-k.invariant here puts.ok puts.only_writes
+    let puts = puts-same line c.in_ok-put_line.ensures.puts in
+    let small = subst AreNumbers c.labels.ensures c.put_line.ensures.numbers in (
+      each-more c.loop-k.invariant.0 here puts.ok puts.only_writes,
+      faces_more c.args.labelling.now.faces c.loop-k.k _ c.loop-k.invariant.1 here small,
+    )
 
-pub returns : goal.returns
-returns g c = each-all c.loop-k.invariant (omega (arith, c.loop-k-test.false, c.faces-k-end.ensures))
+pub returns-clause-puts : goal.returns-clause-puts
+returns-clause-puts g c = each-all c.loop-k.invariant.0 (omega (arith, c.loop-k-test.false, c.faces-k-end.ensures))
+
+pub returns-clause-numbers : goal.returns-clause-numbers
+returns-clause-numbers g c =
+    subst (All (λ (face : FaceLabels). AreNumbers face.labels))
+    (take_all c.loop-k.k c.args.labelling.now.faces (omega (arith, c.loop-k-test.false, c.faces-k-end.ensures))) c.loop-k.invariant.1

@@ -1,4 +1,5 @@
-use Rattle.std.proofs.Common.{◌-◌, drop}
+use Rattle.std.proofs.Common.{ℕ, ◌-◌, ◌<◌, ◌^◌, drop}
+use Rattle.std.specs.Prelude.{slice_index}
 use Rattle.surf_io.specs.Gathered.{spaced}
 use Rattle.surf_io.proofs.Gathering.{EachPut}
 use Rattle.walk_files.proofs.denial_writing.put_later_entries.Given as goal
@@ -7,3 +8,4 @@ use Rattle.walk_files.proofs.denial_writing.put_later_entries.Given as goal
 abbrev pub invariant-loop-k : goal.invariant-loop-k
 invariant-loop-k g l =
     EachPut g.K.Sink.written g.K.Sink.settled g.K.Sink.faults l.initial.sink l.sink l.initial.piece l.piece spaced (drop 1 l.word) (l.k - 1)
+    × ((j : ℕ) → 0 < j → j < l.k → slice_index l.word j < 2 ^ 32)

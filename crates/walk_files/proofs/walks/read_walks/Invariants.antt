@@ -9,7 +9,8 @@ use Rattle.walk_files.proofs.walks.read_walks.Given as goal
 -- the walks so far and the lines left are those of the text
 abbrev pub invariant-loop-cursor : goal.invariant-loop-cursor
 invariant-loop-cursor l =
-    (walks_of l.fn.bytes ≡ before_ok l.walks (each_ok (λ p. line_of_numbers walk_of 1000001 p.0 p.1) (enumerate_from (length l.walks) (lines_left l.cursor))))
+    (walks_of l.fn.bytes ≡ before_ok l.walks
+    (each_ok (λ p. line_of_numbers walk_of 1000001 p.0 p.1) (enumerate_from (length l.walks) (lines_left l.cursor))))
     × (length l.walks ≤ 1000000)
 
 abbrev pub decreases-loop-cursor : goal.decreases-loop-cursor

@@ -15,7 +15,8 @@ loop-cursor-preserved c =
     let left : lines_left c.read_entries.new.cursor ≡ c.find_line.new.self.lines = search rules in
     let lists : c.close.new.self.lists ≡ before ++ list ∷ [] = search rules in
     let read : on_line line.number (line_of_numbers entries_of 1000000 (length before) line) ≡ Ok list = search rules in
-    let next = before_ok-next (λ p. on_line p.1.number (line_of_numbers entries_of 1000000 p.0 p.1)) before list line c.find_line.new.self.lines read in
+    let next = before_ok-next (λ p. on_line p.1.number (line_of_numbers entries_of 1000000 p.0 p.1)) before list line
+    c.find_line.new.self.lines read in
     record {
       lists = c.loop-cursor.invariant.lists ∙ rw (here, lists, left) next;
       few = rw lists (omega (arith, length-append before (list ∷ [])));

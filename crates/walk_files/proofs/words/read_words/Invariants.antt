@@ -11,7 +11,8 @@ abbrev pub invariant-loop-cursor : goal.invariant-loop-cursor
 invariant-loop-cursor l =
     record {
       lists : words_of l.fn.bytes
-          ≡ before_ok l.lists.lists (each_ok (λ p. on_line p.1.number (line_of_numbers entries_of 1000000 p.0 p.1)) (enumerate_from (length l.lists.lists) (lines_left l.cursor)));
+          ≡ before_ok l.lists.lists (each_ok (λ p. on_line p.1.number (line_of_numbers entries_of 1000000 p.0 p.1))
+          (enumerate_from (length l.lists.lists) (lines_left l.cursor)));
       few : length l.lists.lists ≤ 1000000;
       pending : l.lists.pending ≡ [];
     }

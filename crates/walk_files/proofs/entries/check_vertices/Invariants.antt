@@ -2,7 +2,7 @@ use Rattle.std.proofs.Common.{◌≡◌, ℕ, ◌<◌, true}
 use Rattle.std.specs.Prelude.{slice_index}
 use Rattle.surf_model.specs.FaceLists.{FaceList, is_used}
 use Rattle.surf_model.specs.Edges.{IsTableOf}
-use Rattle.walk_files.proofs.pair.check_vertices.Given as goal
+use Rattle.walk_files.proofs.entries.check_vertices.Given as goal
 
 abbrev pub invariant-loop-place : goal.invariant-loop-place
 invariant-loop-place l = (mesh : FaceList) → IsTableOf mesh l.sides → (k : ℕ) → k < l.place → is_used mesh (slice_index l.walk k) ≡ true

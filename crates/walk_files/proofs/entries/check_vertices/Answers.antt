@@ -1,9 +1,9 @@
 use Rattle.std.proofs.Common.{◌≡◌, ℕ, ◌+◌, ◌<◌, true, false, length, sym, ap, ◌∙◌, below_more, arith}
 use Rattle.std.specs.Prelude.{not, slice_index, option_map}
 use Rattle.surf_model.specs.FaceLists.{is_used}
-use Rattle.walk_files.specs.declared.pair.PairFault.TheVariants.{NoVertex}
-use Rattle.walk_files.proofs.PairLemmas.{least_below-some, least_below-none}
-use Rattle.walk_files.proofs.pair.check_vertices.Goals as goal
+use Rattle.walk_files.specs.declared.entries.EntryFault.TheVariants.{NoVertex}
+use Rattle.walk_files.proofs.EntryLemmas.{least_below-some, least_below-none}
+use Rattle.walk_files.proofs.entries.check_vertices.Goals as goal
 
 pub returns-then-not-used : goal.returns-then-not-used
 returns-then-not-used c = λ mesh table.
