@@ -101,7 +101,8 @@ fn next_spoke(
     ensures no_spur { IfOk result (λ next. HasNoSpur (numbers next.items)) }
     ensures freely { IfOk result (λ next. (root : ℕ) (ways : ℕ → List ℕ) → AreWaysUp cut.now.on.surface.now cut.now.on.split.now root ways
         → AreFreelyEqual cut.now.on.surface.now.mesh (slice_index (numbers spoke.now) 0
-        ∷ (backward (origin_of cut.now.on.surface.now (twin_of cut.now.on.surface.now dart.0)) (ways (origin_of cut.now.on.surface.now (twin_of cut.now.on.surface.now dart.0)))
+        ∷ (backward (origin_of cut.now.on.surface.now (twin_of cut.now.on.surface.now dart.0))
+        (ways (origin_of cut.now.on.surface.now (twin_of cut.now.on.surface.now dart.0)))
         ++ (origin_of cut.now.on.surface.now dart.0 ∷ (ways (origin_of cut.now.on.surface.now dart.0) ++ drop 1 (numbers spoke.now)))))
         (numbers next.items)) }
 {
