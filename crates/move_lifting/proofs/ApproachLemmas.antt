@@ -16,11 +16,12 @@ use Rattle.tree_cotree.specs.Splits.{SplitView, IsSplit}
 use Rattle.polygon_cut.specs.Polygons.{PolygonView, IsCutFrom, side_at}
 use Rattle.polygon_cut.specs.SpokeLoops.{AreWaysUp, backward, dart_loop, spoke_loop, path_loop}
 use Rattle.polygon_cut.proofs.FreeLawLemmas.{root_is, up_is, loop_list, side_in, spoke_list, path_list}
-use Rattle.polygon_cut.proofs.FreeLoopLemmas.{freely_itself, freely_on, freely_behind}
+use Rattle.polygon_cut.proofs.CongruenceLemmas.{behind}
+use Rattle.polygon_cut.proofs.FreeLoopLemmas.{free_equality}
 use Rattle.polygon_cut.proofs.FreeProductLemmas.{way_end}
-use Rattle.polygon_cut.proofs.LoopLemmas.{IsWay, HasWays, loop_mul, loop_inv, loop_one, back, back_back, way_home, way_walk}
+use Rattle.polygon_cut.proofs.WayLemmas.{IsWay, HasWays, loop_mul, loop_inv, loop_one, back, back_back, way_home, way_walk}
 use Rattle.polygon_cut.proofs.RelatorLemmas.{spoke_product}
-use Rattle.polygon_cut.proofs.SpokeLemmas.{value, spoke}
+use Rattle.polygon_cut.proofs.DartLoopLemmas.{value, spoke}
 use Rattle.polygon_cut.proofs.TreeWayLemmas.{up, up_path, tree_ways}
 use Rattle.polygon_cut.proofs.WalkLemmas.{walk_way, other_way}
 use Rattle.move_lifting.specs.SpokeWalks.{IsSpokeWalk, AreSpokeWalks}
@@ -36,7 +37,8 @@ pub record GoesFrom (mesh : FaceList) (u v : ℕ) (walk : List ℕ) : Type 0 whe
   pub way : IsWay mesh u v rest
 
 -- a walk that spur moves join to a way is a way from and to the same vertices
-pub free_way : (mesh : FaceList) (u v : ℕ) (rest walk : List ℕ) → IsWay mesh u v rest → AreFreelyEqual mesh (u ∷ rest) walk → GoesFrom mesh u v walk
+pub free_way : (mesh : FaceList) (u v : ℕ) (rest walk : List ℕ) → IsWay mesh u v rest → AreFreelyEqual mesh (u ∷ rest) walk
+    → GoesFrom mesh u v walk
 free_way mesh u v rest [] h free =
     let none : 0 < 0 = (list_keeps_walk mesh free.0 (u ∷ rest) [] (way_walk mesh u v rest h) free.2).starts in
     absurd (omega arith)
@@ -53,7 +55,8 @@ free_way mesh u v rest (w ∷ others) h free =
     }
 
 -- ways up are ways
-pub has_ways : (s : OrientedMesh) (split : SplitView) → IsOrientedSurface s → (t : IsSplit s split) → (ways : ℕ → List ℕ) → AreWaysUp s split t.parents.root ways
+pub has_ways : (s : OrientedMesh) (split : SplitView) → IsOrientedSurface s → (t : IsSplit s split) → (ways : ℕ → List ℕ)
+    → AreWaysUp s split t.parents.root ways
     → HasWays s.mesh t.parents.root ways
 has_ways s split o t ways h = record {
   root_used = t.parents.root_used;
@@ -61,18 +64,22 @@ has_ways s split o t ways h = record {
 }
 
 -- the loops of darts, spokes and paths are ways
-pub dart_loop_way : (s : OrientedMesh) (split : SplitView) → IsOrientedSurface s → (t : IsSplit s split) → (ways : ℕ → List ℕ) → AreWaysUp s split t.parents.root ways
+pub dart_loop_way : (s : OrientedMesh) (split : SplitView) → IsOrientedSurface s → (t : IsSplit s split) → (ways : ℕ → List ℕ)
+    → AreWaysUp s split t.parents.root ways
     → (d : ℕ) → d < darts_of s → IsWay s.mesh t.parents.root t.parents.root (dart_loop s ways d)
 dart_loop_way s split o t ways h d l =
     subst (IsWay s.mesh t.parents.root t.parents.root) (sym (loop_list s split o t ways h d l)) (value s split o t d).is_way
 
-pub spoke_way : (s : OrientedMesh) (split : SplitView) → IsOrientedSurface s → (t : IsSplit s split) → (polygon : PolygonView) → IsCutFrom s split polygon
+pub spoke_way : (s : OrientedMesh) (split : SplitView) → IsOrientedSurface s → (t : IsSplit s split) → (polygon : PolygonView)
+    → IsCutFrom s split polygon
     → 0 < polygon.degree → (ways : ℕ → List ℕ) → AreWaysUp s split t.parents.root ways → (i : ℕ)
     → IsWay s.mesh t.parents.root t.parents.root (spoke_loop s polygon t.parents.root ways i)
 spoke_way s split o t polygon c some ways h i =
-    subst (IsWay s.mesh t.parents.root t.parents.root) (sym (spoke_list s split o t polygon c some ways h i)) (spoke s split o t polygon i).is_way
+    subst (IsWay s.mesh t.parents.root t.parents.root) (sym (spoke_list s split o t polygon c some ways h i))
+    (spoke s split o t polygon i).is_way
 
-pub path_way : (s : OrientedMesh) (split : SplitView) → IsOrientedSurface s → (t : IsSplit s split) → (polygon : PolygonView) → IsCutFrom s split polygon
+pub path_way : (s : OrientedMesh) (split : SplitView) → IsOrientedSurface s → (t : IsSplit s split) → (polygon : PolygonView)
+    → IsCutFrom s split polygon
     → 0 < polygon.degree → (ways : ℕ → List ℕ) → AreWaysUp s split t.parents.root ways → (along : Bool) (path : List ℕ)
     → IsWay s.mesh t.parents.root t.parents.root (path_loop s polygon t.parents.root ways along path)
 path_way s split o t polygon c some ways h along path =
@@ -80,21 +87,25 @@ path_way s split o t polygon c some ways h along path =
     (spoke_product loop_mul loop_inv (loop_one s.mesh t.parents.root t.parents.root_used) (spoke s split o t polygon) along path).is_way
 
 -- what is told of the walk of a spoke
-pub spoke_walk : (s : OrientedMesh) (split : SplitView) → IsOrientedSurface s → (t : IsSplit s split) → (polygon : PolygonView) → IsCutFrom s split polygon
+pub spoke_walk : (s : OrientedMesh) (split : SplitView) → IsOrientedSurface s → (t : IsSplit s split) → (polygon : PolygonView)
+    → IsCutFrom s split polygon
     → 0 < polygon.degree → (i : ℕ) (walk : List ℕ) → IsSpokeWalk s split polygon i walk → GoesFrom s.mesh t.parents.root t.parents.root walk
 spoke_walk s split o t polygon c some i walk is =
     let ups : ℕ → List ℕ = up s split t in
     let own : AreWaysUp s split t.parents.root ups = λ v used. up_path s split t v used in
-    free_way s.mesh t.parents.root t.parents.root (spoke_loop s polygon t.parents.root ups i) walk (spoke_way s split o t polygon c some ups own i)
+    free_way s.mesh t.parents.root t.parents.root (spoke_loop s polygon t.parents.root ups i) walk
+    (spoke_way s split o t polygon c some ups own i)
     (is.freely t.parents.root ups own)
 
-pub spoke_some : (s : OrientedMesh) (split : SplitView) → IsOrientedSurface s → (t : IsSplit s split) → (polygon : PolygonView) → IsCutFrom s split polygon
+pub spoke_some : (s : OrientedMesh) (split : SplitView) → IsOrientedSurface s → (t : IsSplit s split) → (polygon : PolygonView)
+    → IsCutFrom s split polygon
     → 0 < polygon.degree → (i : ℕ) (walk : List ℕ) → IsSpokeWalk s split polygon i walk → 0 < length walk
 spoke_some s split o t polygon c some i walk is =
     omega (arith, ap (λ (l : List ℕ). length l) (spoke_walk s split o t polygon c some i walk is).walk_is)
 
 -- back along the loop of a dart: down to its end, to where it starts, and up again
-back_along_dart : (s : OrientedMesh) (split : SplitView) → IsOrientedSurface s → (t : IsSplit s split) → (ways : ℕ → List ℕ) → AreWaysUp s split t.parents.root ways
+back_along_dart : (s : OrientedMesh) (split : SplitView) → IsOrientedSurface s → (t : IsSplit s split) → (ways : ℕ → List ℕ)
+    → AreWaysUp s split t.parents.root ways
     → (d : ℕ) → d < darts_of s
     → backward t.parents.root (dart_loop s ways d)
     ≡ backward (origin_of s (twin_of s d)) (ways (origin_of s (twin_of s d))) ++ (origin_of s d ∷ ways (origin_of s d))
@@ -105,7 +116,8 @@ back_along_dart s split o t ways h d l =
     let u_used : is_used s.mesh u ≡ true = (names_all s o).vertex_used d l in
     let top : last_of (u ∷ ways u) ≡ root = way_top s split root ways h u u_used in
     let way : IsWay s.mesh u root (ways u) = (has_ways s split o t ways h).way u u_used in
-    let turn : last_of (root ∷ backward u (ways u)) ≡ u = ap (λ (x : ℕ). last_of (x ∷ backward u (ways u))) (sym top) ∙ last_back u (ways u) in
+    let turn : last_of (root ∷ backward u (ways u)) ≡ u = ap (λ (x : ℕ). last_of (x ∷ backward u (ways u))) (sym top)
+    ∙ last_back u (ways u) in
     let home : backward root (backward u (ways u)) ≡ ways u =
     backward_is root (backward u (ways u)) ∙ ap (back root) (backward_is u (ways u)) ∙ back_back s.mesh u root (ways u) way in
     backward-append root (backward u (ways u)) (w ∷ ways w)
@@ -119,23 +131,26 @@ first_spoke s split t polygon walk is =
     let alone : walk ≡ t.parents.root ∷ [] = is t.parents.root (up s split t) (λ v used. up_path s split t v used) in
     record {
       no_spur = subst HasNoSpur (sym alone) (one_no_spur t.parents.root);
-      freely = λ root ways h. subst (AreFreelyEqual s.mesh (root ∷ [])) (sym (is root ways h)) (freely_itself s.mesh (root ∷ []));
+      freely = λ root ways h. subst (AreFreelyEqual s.mesh (root ∷ [])) (sym (is root ways h)) ((free_equality s.mesh).itself (root ∷ []));
     }
 
 -- the walk of the spoke after another
-pub spoke_after : (s : OrientedMesh) (split : SplitView) → IsOrientedSurface s → (t : IsSplit s split) → (polygon : PolygonView) → IsCutFrom s split polygon
+pub spoke_after : (s : OrientedMesh) (split : SplitView) → IsOrientedSurface s → (t : IsSplit s split) → (polygon : PolygonView)
+    → IsCutFrom s split polygon
     → 0 < polygon.degree → (i d : ℕ) (walk next : List ℕ) → d ≡ side_at polygon i → IsSpokeWalk s split polygon i walk → HasNoSpur next
     → ((root : ℕ) (ways : ℕ → List ℕ) → AreWaysUp s split root ways
     → AreFreelyEqual s.mesh
     (get_or walk 0 0
-    ∷ (backward (origin_of s (twin_of s d)) (ways (origin_of s (twin_of s d))) ++ (origin_of s d ∷ (ways (origin_of s d) ++ drop 1 walk)))) next)
+    ∷ (backward (origin_of s (twin_of s d)) (ways (origin_of s (twin_of s d))) ++ (origin_of s d ∷ (ways (origin_of s d) ++ drop 1 walk))))
+    next)
     → IsSpokeWalk s split polygon (suc i) next
 spoke_after s split o t polygon c some i d walk next side is no_spur free = record { no_spur = no_spur; freely = at_any }
   where
     l : d < darts_of s
     l = subst (λ (x : ℕ). x < darts_of s) (sym side) (side_in s split polygon c some i)
 
-    at_root : (ways : ℕ → List ℕ) → AreWaysUp s split t.parents.root ways → AreFreelyEqual s.mesh (t.parents.root ∷ spoke_loop s polygon t.parents.root ways (suc i)) next
+    at_root : (ways : ℕ → List ℕ) → AreWaysUp s split t.parents.root ways
+        → AreFreelyEqual s.mesh (t.parents.root ∷ spoke_loop s polygon t.parents.root ways (suc i)) next
     at_root ways h =
         let root : ℕ = t.parents.root in
         let u : ℕ = origin_of s d in
@@ -144,9 +159,10 @@ spoke_after s split o t polygon c some i d walk next side is no_spur free = reco
         let back_loop : List ℕ = backward root (dart_loop s ways d) in
         let turned : back_loop ≡ backward w (ways w) ++ (u ∷ ways u) = back_along_dart s split o t ways h d l in
         let back_way : IsWay s.mesh root root back_loop =
-        subst (IsWay s.mesh root root) (sym (backward_is root (dart_loop s ways d))) (way_home s.mesh root root (dart_loop s ways d) (dart_loop_way s split o t ways h d l)) in
+        subst (IsWay s.mesh root root) (sym (backward_is root (dart_loop s ways d)))
+        (way_home s.mesh root root (dart_loop s ways d) (dart_loop_way s split o t ways h d l)) in
         let replaced : AreFreelyEqual s.mesh (root ∷ (back_loop ++ spoke_loop s polygon root ways i)) (root ∷ (back_loop ++ known.rest)) =
-        freely_behind s.mesh root root back_loop (spoke_loop s polygon root ways i) known.rest back_way
+        behind (free_equality s.mesh) root root back_loop (spoke_loop s polygon root ways i) known.rest back_way
         (subst (AreFreelyEqual s.mesh (root ∷ spoke_loop s polygon root ways i)) known.walk_is (is.freely root ways h)) in
         let start : get_or walk 0 0 ≡ root = ap (λ (x : List ℕ). get_or x 0 0) known.walk_is in
         let rest : drop 1 walk ≡ known.rest = ap (drop 1) known.walk_is in
@@ -156,28 +172,32 @@ spoke_after s split o t polygon c some i d walk next side is no_spur free = reco
         ∙ ap (λ (x : List ℕ). root ∷ x) (sym (append_assoc (backward w (ways w)) (u ∷ ways u) known.rest))
         ∙ ap (λ (x : List ℕ). root ∷ (x ++ known.rest)) (sym turned) in
         subst (λ (x : ℕ). AreFreelyEqual s.mesh (root ∷ (backward root (dart_loop s ways x) ++ spoke_loop s polygon root ways i)) next) side
-        (freely_on s.mesh (root ∷ (back_loop ++ spoke_loop s polygon root ways i)) (root ∷ (back_loop ++ known.rest)) next replaced
+        ((free_equality s.mesh).on (root ∷ (back_loop ++ spoke_loop s polygon root ways i)) (root ∷ (back_loop ++ known.rest)) next replaced
         (subst (λ (x : List ℕ). AreFreelyEqual s.mesh x next) shape (free root ways h)))
 
-    at_any : (root : ℕ) (ways : ℕ → List ℕ) → AreWaysUp s split root ways → AreFreelyEqual s.mesh (root ∷ spoke_loop s polygon root ways (suc i)) next
+    at_any : (root : ℕ) (ways : ℕ → List ℕ) → AreWaysUp s split root ways
+        → AreFreelyEqual s.mesh (root ∷ spoke_loop s polygon root ways (suc i)) next
     at_any root ways h =
         subst (λ (x : ℕ). AreFreelyEqual s.mesh (x ∷ spoke_loop s polygon x ways (suc i)) next) (root_is s split o t root ways h)
         (at_root ways (own_ways s split o t root ways h))
 
 -- one walk more
-pub spokes_more : (s : OrientedMesh) (split : SplitView) (polygon : PolygonView) (n : ℕ) (walks more : List (List ℕ)) (walk : List ℕ) → AreSpokeWalks s split polygon n walks
+pub spokes_more : (s : OrientedMesh) (split : SplitView) (polygon : PolygonView) (n : ℕ) (walks more : List (List ℕ)) (walk : List ℕ)
+    → AreSpokeWalks s split polygon n walks
     → IsSpokeWalk s split polygon n walk → more ≡ walks ++ walk ∷ [] → AreSpokeWalks s split polygon (n + 1) more
 spokes_more s split polygon n walks more walk all one is = record {
   count = ap (λ (l : List (List ℕ)). length l) is ∙ length-append walks (walk ∷ []) ∙ ap (λ (k : ℕ). k + 1) all.count;
   each = λ i l. elim (cases_lt i n) [
     | inl below ↦
-        subst (IsSpokeWalk s split polygon i) (sym (ap (λ (x : List (List ℕ)). get_or x i []) is ∙ get_or_append_left walks (walk ∷ []) [] i (omega (arith, below, all.count))))
+        subst (IsSpokeWalk s split polygon i)
+        (sym (ap (λ (x : List (List ℕ)). get_or x i []) is ∙ get_or_append_left walks (walk ∷ []) [] i (omega (arith, below, all.count))))
         (all.each i below)
     | inr last ↦
         let at : i ≡ length walks + 0 = omega (arith, last, l, all.count) in
         let same : n ≡ i = omega arith in
         subst (IsSpokeWalk s split polygon i)
-        (sym (ap (λ (x : List (List ℕ)). get_or x i []) is ∙ ap (λ (k : ℕ). get_or (walks ++ walk ∷ []) k []) at ∙ get_or-append-add walks (walk ∷ []) 0 []))
+        (sym (ap (λ (x : List (List ℕ)). get_or x i []) is ∙ ap (λ (k : ℕ). get_or (walks ++ walk ∷ []) k []) at ∙ get_or-append-add walks
+        (walk ∷ []) 0 []))
         (subst (λ (k : ℕ). IsSpokeWalk s split polygon k walk) same one)
   ];
 }
@@ -185,16 +205,20 @@ spokes_more s split polygon n walks more walk all one is = record {
 pub no_spokes : (s : OrientedMesh) (split : SplitView) (polygon : PolygonView) → AreSpokeWalks s split polygon 0 []
 no_spokes s split polygon = record { count = refl; each = λ i l. absurd (omega arith) }
 
-pub spokes_some : (s : OrientedMesh) (split : SplitView) → IsOrientedSurface s → (t : IsSplit s split) → (polygon : PolygonView) → IsCutFrom s split polygon
-    → 0 < polygon.degree → (walks : List (List ℕ)) → AreSpokeWalks s split polygon polygon.degree walks → All (λ (walk : List ℕ). 0 < length walk) walks
+pub spokes_some : (s : OrientedMesh) (split : SplitView) → IsOrientedSurface s → (t : IsSplit s split) → (polygon : PolygonView)
+    → IsCutFrom s split polygon
+    → 0 < polygon.degree → (walks : List (List ℕ)) → AreSpokeWalks s split polygon polygon.degree walks
+    → All (λ (walk : List ℕ). 0 < length walk) walks
 spokes_some s split o t polygon c some walks all k d l =
     let below : k < polygon.degree = omega (arith, l, all.count) in
-    subst (λ (w : List ℕ). 0 < length w) (get_or_default walks k [] d l) (spoke_some s split o t polygon c some k (get_or walks k []) (all.each k below))
+    subst (λ (w : List ℕ). 0 < length w) (get_or_default walks k [] d l) (spoke_some s split o t polygon c some k (get_or walks k [])
+    (all.each k below))
 
 -- where a way ends
 pub goes_end : (mesh : FaceList) (u v : ℕ) (walk : List ℕ) → GoesFrom mesh u v walk → last_of walk ≡ v
 goes_end mesh u v walk g =
-    ap last_of g.walk_is ∙ sym (way_end mesh u (last_of (u ∷ g.rest)) g.rest (way_of mesh u g.rest (way_walk mesh u v g.rest g.way))) ∙ way_end mesh u v g.rest g.way
+    ap last_of g.walk_is ∙ sym (way_end mesh u (last_of (u ∷ g.rest)) g.rest (way_of mesh u g.rest (way_walk mesh u v g.rest g.way)))
+    ∙ way_end mesh u v g.rest g.way
 
 pub goes_start : (mesh : FaceList) (u v : ℕ) (walk : List ℕ) → GoesFrom mesh u v walk → get_or walk 0 0 ≡ u
 goes_start mesh u v walk g = ap (λ (l : List ℕ). get_or l 0 0) g.walk_is
@@ -217,10 +241,13 @@ walk_goes mesh walk w =
     }
 
 -- where moves lead from a single vertex
-pub turn_goes_home : (mesh : FaceList) (y : ℕ) (walk : List ℕ) (moves : List Move) → IsTrue (is_used mesh y) → apply_all mesh (y ∷ []) moves ≡ Some walk
+pub turn_goes_home : (mesh : FaceList) (y : ℕ) (walk : List ℕ) (moves : List Move) → IsTrue (is_used mesh y)
+    → apply_all mesh (y ∷ []) moves ≡ Some walk
     → GoesFrom mesh y y walk
 turn_goes_home mesh y walk moves used leads =
     let one : IsWalk mesh (y ∷ []) = way_walk mesh y y [] (refl, used) in
     let ends = list_keeps_ends mesh moves (y ∷ []) walk one.starts leads in
-    let here : GoesFrom mesh (get_or walk 0 0) (last_of walk) walk = walk_goes mesh walk (list_keeps_walk mesh moves (y ∷ []) walk one leads) in
-    subst (λ (x : ℕ). GoesFrom mesh y x walk) (sym ends.ends) (subst (λ (x : ℕ). GoesFrom mesh x (last_of walk) walk) (sym ends.starts) here)
+    let here : GoesFrom mesh (get_or walk 0 0) (last_of walk) walk =
+    walk_goes mesh walk (list_keeps_walk mesh moves (y ∷ []) walk one leads) in
+    subst (λ (x : ℕ). GoesFrom mesh y x walk) (sym ends.ends) (subst (λ (x : ℕ). GoesFrom mesh x (last_of walk) walk) (sym ends.starts)
+    here)

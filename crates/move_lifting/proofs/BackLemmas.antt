@@ -7,7 +7,7 @@ use Rattle.surf_model.specs.Vertices.{numbers}
 use Rattle.surf_model.specs.Walks.{IsWalk}
 use Rattle.surf_model.specs.declared.names.VertexName.{VertexName}
 use Rattle.polygon_cut.specs.SpokeLoops.{backward}
-use Rattle.polygon_cut.proofs.LoopLemmas.{IsWay, back, start_used}
+use Rattle.polygon_cut.proofs.WayLemmas.{IsWay, back, start_used}
 use Rattle.polygon_cut.proofs.WalkLemmas.{walk_way}
 use Rattle.move_lifting.specs.Tracks.{last_of}
 use Rattle.move_lifting.proofs.ExpandLemmas.{last_entry, one_pending, length-numbers}
@@ -67,9 +67,11 @@ back_more xs n k some le l =
     let v : ℕ = get_or xs k 0 in
     let out : List ℕ = drop n (take k xs) in
     let long : length (take k xs) ≡ k = length-take-le k xs (omega arith) in
-    let more : drop n (take (k + 1) xs) ≡ out ++ v ∷ [] = ap (drop n) (take_more xs k 0 l) ∙ drop-append-le n (take k xs) (v ∷ []) (omega arith) in
+    let more : drop n (take (k + 1) xs) ≡ out ++ v ∷ [] =
+    ap (drop n) (take_more xs k 0 l) ∙ drop-append-le n (take k xs) (v ∷ []) (omega arith) in
     let first : 0 < length (take n xs) = omega (arith, length-take-le n xs (omega arith)) in
-    let end : last_of (last_of (take n xs) ∷ out) ≡ last_of (take k xs) = last_joined (take n xs) out first ∙ ap last_of (sym (between xs n k le)) in
+    let end : last_of (last_of (take n xs) ∷ out) ≡ last_of (take k xs) =
+    last_joined (take n xs) out first ∙ ap last_of (sym (between xs n k le)) in
     ap (backward (last_of (take n xs))) more ∙ backward-push (last_of (take n xs)) v out
     ∙ ap (λ (x : ℕ). x ∷ backward (last_of (take n xs)) out) end
 
@@ -110,7 +112,8 @@ pub one_longer : (xs ys : List VertexName) (v : VertexName) → xs ≡ ys ++ v �
 one_longer xs ys v is = ap (λ (l : List VertexName). length l) is ∙ length-append ys (v ∷ [])
 
 -- the way back along part of a list of names is that of the loop
-pub back_so_far : (walk back new : List VertexName) (done : ℕ) (v : VertexName) → length back + 1 ≡ done → done < length walk → new ≡ back ++ v ∷ []
+pub back_so_far : (walk back new : List VertexName) (done : ℕ) (v : VertexName) → length back + 1 ≡ done → done < length walk
+    → new ≡ back ++ v ∷ []
     → v.0 ≡ get_or (numbers walk) (length walk - done - 1) 0
     → numbers back ≡ take (length back) (backward (get_or (numbers walk) 0 0) (drop 1 (numbers walk)))
     → numbers new ≡ take (length new) (backward (get_or (numbers walk) 0 0) (drop 1 (numbers walk)))
@@ -126,7 +129,8 @@ back_so_far walk back new done v count within pushed is so_far =
     backward_at x rest (length back) (omega arith) ∙ ap (λ (l : List ℕ). get_or l (length rest - 1 - length back) 0) whole
     ∙ ap (λ (n : ℕ). get_or w n 0) (let at : length rest - 1 - length back ≡ length walk - done - 1 = omega arith in at) ∙ sym is in
     let more : take (length back + 1) (backward x rest) ≡ take (length back) (backward x rest) ++ v.0 ∷ [] =
-    take_more (backward x rest) (length back) 0 (omega (arith, length-backward x rest)) ∙ ap (λ (y : ℕ). take (length back) (backward x rest) ++ y ∷ []) next in
+    take_more (backward x rest) (length back) 0 (omega (arith, length-backward x rest))
+    ∙ ap (λ (y : ℕ). take (length back) (backward x rest) ++ y ∷ []) next in
     let new_long : length back + 1 ≡ length new = sym (ap (λ (l : List VertexName). length l) pushed ∙ length-append back (v ∷ [])) in
     one_pending new back v pushed ∙ ap (λ (l : List ℕ). l ++ v.0 ∷ []) so_far ∙ sym more ∙ ap (λ (n : ℕ). take n (backward x rest)) new_long
 
@@ -136,7 +140,8 @@ pub back_from : (walk part : List VertexName) (n : ℕ) → 0 < n → n ≤ leng
 back_from walk part n some le is =
     let w : List ℕ = numbers walk in
     let part_is : numbers part ≡ drop (n - 1) w = ap numbers is ∙ sym (drop-map (λ (v : VertexName). v.0) (n - 1) walk) in
-    let at : n - 1 + 0 ≡ length (take n w) - 1 = omega (arith, length-take-le n w (omega (arith, length-numbers walk)), length-numbers walk) in
+    let at : n - 1 + 0 ≡ length (take n w) - 1 =
+    omega (arith, length-take-le n w (omega (arith, length-numbers walk)), length-numbers walk) in
     let first : get_or (numbers part) 0 0 ≡ last_of (take n w) =
     ap (λ (l : List ℕ). get_or l 0 0) part_is ∙ get_or-drop (n - 1) w 0 0 ∙ ap (λ (k : ℕ). get_or w k 0) at
     ∙ sym (get_or-take n w (length (take n w) - 1) 0 (omega (arith, length-take-le n w (omega (arith, length-numbers walk))))) in

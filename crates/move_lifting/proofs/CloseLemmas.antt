@@ -32,10 +32,15 @@ spur_comes mesh front rest here via edge =
     })
 
 -- one dart back along a walk, from the place after `place`
-pub goes_on_back : (mesh : FaceList) (first out second : List ℕ) (place : ℕ) (via : VertexName) (list more : PeakedMoves) → IsWalk mesh second
+pub goes_on_back : (mesh : FaceList) (first out second : List ℕ) (place : ℕ) (via : VertexName) (list more : PeakedMoves)
+    → IsWalk mesh second
     → place + 1 < length second → 0 < length out → last_of out ≡ get_or second (place + 1) 0 → via.0 ≡ get_or second place 0
-    → more ≡ record { moves = list.moves ++ Insert (length out - 1) via ∷ []; peak = max list.peak (length out + (length second - place - 1)) }
-    → LeadsAtPeak mesh first list (out ++ drop (place + 2) second) → LeadsAtPeak mesh first more (out ++ via.0 ∷ [] ++ drop (place + 1) second)
+    → more ≡ record {
+      moves = list.moves ++ Insert (length out - 1) via ∷ [];
+      peak = max list.peak (length out + (length second - place - 1));
+    }
+    → LeadsAtPeak mesh first list (out ++ drop (place + 2) second)
+    → LeadsAtPeak mesh first more (out ++ via.0 ∷ [] ++ drop (place + 1) second)
 goes_on_back mesh first out second place via list more w within some ends read noted h =
     let u : ℕ = get_or second (place + 1) 0 in
     let front : List ℕ = take (length out - 1) out in
@@ -66,7 +71,8 @@ goes_on_back mesh first out second place via list more w within some ends read n
     regroup front rest u v = simp append_assoc
 
 -- at the start nothing of the walk stands behind yet
-pub nothing_behind : (mesh : FaceList) (first out second : List ℕ) (list : PeakedMoves) (n : ℕ) → length second ≤ n → LeadsAtPeak mesh first list out
+pub nothing_behind : (mesh : FaceList) (first out second : List ℕ) (list : PeakedMoves) (n : ℕ) → length second ≤ n
+    → LeadsAtPeak mesh first list out
     → LeadsAtPeak mesh first list (out ++ drop n second)
 nothing_behind mesh first out second list n past h =
     subst (LeadsAtPeak mesh first list) (sym (ap (λ (l : List ℕ). out ++ l) (drop_all n second past) ∙ append-nil out)) h

@@ -53,7 +53,8 @@ ends_of_chosen s o u v d face x from one = elim one.either [
       let r : IsRotationSystem (rotations_of s) = rotation_system s o in
       inr (
         ap (origin_of s) other.1 ∙ from.ends,
-        ap (target_of s) other.1 ∙ sym (origin-twin s o (twin_of s d) (r.twin_within d from.within)) ∙ ap (origin_of s) (r.twin_back d from.within)
+        ap (target_of s) other.1 ∙ sym (origin-twin s o (twin_of s d) (r.twin_within d from.within))
+            ∙ ap (origin_of s) (r.twin_back d from.within)
             ∙ from.starts,
       )
 ]
@@ -72,8 +73,10 @@ record IsPlaced (s : OrientedMesh) (u v f : ℕ) (step : FaceStep) : Type 0 wher
   starts : vertex_at s f step.corner ≡ u
   ends : vertex_at s f (next_corner step.forward (length (face_at s.mesh f)) step.corner) ≡ v
 
-pub below_step : (s : OrientedMesh) (split : SplitView) → IsOrientedSurface s → IsSplit s split → (u v d face x : ℕ) (side : Side) (step : FaceStep)
-    → IsDartFrom (rotations_of s) u v d → child_face (rotations_of s) split (edge_of s d) ≡ Some face → IsOneIn s d face x → IsSide s.mesh side
+pub below_step : (s : OrientedMesh) (split : SplitView) → IsOrientedSurface s → IsSplit s split
+    → (u v d face x : ℕ) (side : Side) (step : FaceStep)
+    → IsDartFrom (rotations_of s) u v d → child_face (rotations_of s) split (edge_of s d) ≡ Some face → IsOneIn s d face x
+    → IsSide s.mesh side
     → side_number s.mesh side ≡ x → GoesAlong s.mesh side u step → IsFaceBelow s split u v step
 below_step s split o t u v d face x side step from is one in_mesh number along =
     let f : ℕ = side.face.0 in
@@ -92,14 +95,16 @@ below_step s split o t u v d face x side step from is one in_mesh number along =
           record {
             corner = subst (λ (c : ℕ). c < m) (sym on.1) in_mesh.place;
             starts = ap (vertex_at s f) on.1 ∙ on.0;
-            ends = ap (λ (r : Bool). vertex_at s f (next_corner r m step.corner)) on.2 ∙ ap (λ (c : ℕ). vertex_at s f (next_corner true m c)) on.1 ∙ end;
+            ends = ap (λ (r : Bool). vertex_at s f (next_corner r m step.corner)) on.2
+                ∙ ap (λ (c : ℕ). vertex_at s f (next_corner true m c)) on.1 ∙ end;
           }
       | inr back ↦
           let crossed : (a ≡ v) × (b ≡ u) = elim ends [ inl straight ↦ absurd (back.0 straight.0) | inr two ↦ two ] in
           record {
             corner = subst (λ (c : ℕ). c < m) (sym back.1) (corner_within true m side.at in_mesh.place);
             starts = ap (vertex_at s f) back.1 ∙ crossed.1;
-            ends = ap (λ (r : Bool). vertex_at s f (next_corner r m step.corner)) back.2 ∙ ap (λ (c : ℕ). vertex_at s f (next_corner false m c)) back.1
+            ends = ap (λ (r : Bool). vertex_at s f (next_corner r m step.corner)) back.2
+                ∙ ap (λ (c : ℕ). vertex_at s f (next_corner false m c)) back.1
                 ∙ ap (vertex_at s f) (corner_back true m side.at in_mesh.place) ∙ crossed.0;
           }
     ] in
@@ -114,16 +119,19 @@ below_step s split o t u v d face x side step from is one in_mesh number along =
     }
 
 -- where no face lies below the edge, no dart from u to v is on the cotree
-pub not_below : (s : OrientedMesh) (split : SplitView) → IsOrientedSurface s → IsSplit s split → (u v d x : ℕ) → IsDartFrom (rotations_of s) u v d
+pub not_below : (s : OrientedMesh) (split : SplitView) → IsOrientedSurface s → IsSplit s split → (u v d x : ℕ)
+    → IsDartFrom (rotations_of s) u v d
     → child_face (rotations_of s) split (edge_of s d) ≡ None → IsDartFrom (rotations_of s) u v x → in_cotree split (edge_of s x) ≡ false
 not_below s split o t u v d x from none other =
-    let same : d ≡ x = (rotation_system s o).one_dart d x from.within other.within (from.starts ∙ sym other.starts) (from.ends ∙ sym other.ends) in
+    let same : d ≡ x = (rotation_system s o).one_dart d x from.within other.within (from.starts ∙ sym other.starts)
+    (from.ends ∙ sym other.ends) in
     subst (λ (y : ℕ). in_cotree split (edge_of s y) ≡ false) same
     ((t.child_faces.none (edge_of s d) ((names_all s o).edge_below d from.within)).0 none)
 
 -- one vertex more of the rest
 pub rest_more : (old new : List VertexName) (v : VertexName) (start ring : List ℕ) (rising : Bool) (t k c : ℕ) → new ≡ old ++ v ∷ []
-    → numbers old ≡ start ++ corners_before ring rising (next_corner rising (length ring) t) k → c ≡ corner_after rising (length ring) t (k + 1)
+    → numbers old ≡ start ++ corners_before ring rising (next_corner rising (length ring) t) k
+    → c ≡ corner_after rising (length ring) t (k + 1)
     → v.0 ≡ get_or ring c 0 → numbers new ≡ start ++ corners_before ring rising (next_corner rising (length ring) t) (k + 1)
 rest_more old new v start ring rising t k c pushed before at read =
     let next : ℕ = next_corner rising (length ring) t in
@@ -133,7 +141,8 @@ rest_more old new v start ring rising t k c pushed before at read =
     ap numbers pushed ∙ map-append (λ (x : VertexName). x.0) old (v ∷ []) ∙ ap (λ (l : List ℕ). l ++ v.0 ∷ []) before
     ∙ append_assoc start (corners_before ring rising next k) (v.0 ∷ [])
     ∙ ap (λ (l : List ℕ). start ++ l)
-    (ap (λ (x : ℕ). corners_before ring rising next k ++ x ∷ []) vertex ∙ sym (before-suc ring rising next k) ∙ ap (corners_before ring rising next) (sym one))
+    (ap (λ (x : ℕ). corners_before ring rising next k ++ x ∷ []) vertex ∙ sym (before-suc ring rising next k)
+    ∙ ap (corners_before ring rising next) (sym one))
 
 pub corner_more : (rising : Bool) (m t k c : ℕ) → c ≡ corner_after rising m t k → next_corner rising m c ≡ corner_after rising m t (k + 1)
 corner_more rising m t k c is =

@@ -38,7 +38,8 @@ last-push front v =
     ap (λ (n : ℕ). get_or (front ++ v ∷ []) n 0) at ∙ get_or-append-add front (v ∷ []) 0 0
 
 -- keeping off the cotree: a part in front does, and one more dart that is not of the cotree
-pub avoids_front : (s : OrientedMesh) (split : SplitView) (front rest : List ℕ) → AvoidsCotree s split (front ++ rest) → AvoidsCotree s split front
+pub avoids_front : (s : OrientedMesh) (split : SplitView) (front rest : List ℕ) → AvoidsCotree s split (front ++ rest)
+    → AvoidsCotree s split front
 avoids_front s split front rest h k d l from =
     let more : k + 1 < length (front ++ rest) = omega (arith, length-append front rest, l) in
     let one : get_or front k 0 ≡ get_or (front ++ rest) k 0 = sym (get_or_append_left front rest 0 k (omega arith)) in
@@ -47,7 +48,8 @@ avoids_front s split front rest h k d l from =
     (subst (λ (x : ℕ). IsDartFrom (rotations_of s) (get_or front k 0) x d) two from))
 
 pub avoids_on : (s : OrientedMesh) (split : SplitView) (walk : List ℕ) (v : ℕ) → 0 < length walk → AvoidsCotree s split walk
-    → ((d : ℕ) → IsDartFrom (rotations_of s) (last_of walk) v d → in_cotree split (edge_of s d) ≡ false) → AvoidsCotree s split (walk ++ v ∷ [])
+    → ((d : ℕ) → IsDartFrom (rotations_of s) (last_of walk) v d → in_cotree split (edge_of s d) ≡ false)
+    → AvoidsCotree s split (walk ++ v ∷ [])
 avoids_on s split walk v some h last k d l from =
     let long : k + 1 < length walk + 1 = omega (arith, length-append walk (v ∷ []), l) in
     let one : get_or (walk ++ v ∷ []) k 0 ≡ get_or walk k 0 = get_or_append_left walk (v ∷ []) 0 k (omega arith) in
@@ -55,18 +57,21 @@ avoids_on s split walk v some h last k d l from =
     subst (λ (x : ℕ). IsDartFrom (rotations_of s) x (get_or (walk ++ v ∷ []) (k + 1) 0) d) one from in
     elim (cases_lt (k + 1) (length walk)) [
       | inl within ↦
-          h k d within (subst (λ (x : ℕ). IsDartFrom (rotations_of s) (get_or walk k 0) x d) (get_or_append_left walk (v ∷ []) 0 (k + 1) within) here)
+          h k d within (subst (λ (x : ℕ). IsDartFrom (rotations_of s) (get_or walk k 0) x d)
+          (get_or_append_left walk (v ∷ []) 0 (k + 1) within) here)
       | inr past ↦
           let at : k ≡ length walk - 1 = omega arith in
           let end : k + 1 ≡ length walk + 0 = omega arith in
-          let two : get_or (walk ++ v ∷ []) (k + 1) 0 ≡ v = ap (λ (n : ℕ). get_or (walk ++ v ∷ []) n 0) end ∙ get_or-append-add walk (v ∷ []) 0 0 in
+          let two : get_or (walk ++ v ∷ []) (k + 1) 0 ≡ v = ap (λ (n : ℕ). get_or (walk ++ v ∷ []) n 0) end
+          ∙ get_or-append-add walk (v ∷ []) 0 0 in
           last d (subst (λ (x : ℕ). IsDartFrom (rotations_of s) (get_or walk x 0) v d) at
           (subst (λ (x : ℕ). IsDartFrom (rotations_of s) (get_or walk k 0) x d) two here))
     ]
 
 -- what holds while a walk is led on to a vertex: so many steps are done, and the vertices that are still to come are pending, the next
 -- one last
-pub record IsUnderWay (s : OrientedMesh) (split : SplitView) (behind to : ℕ) (begun : TrackView) (track : TrackView) (pending : List ℕ) (steps : ℕ) : Type 0 where
+pub record IsUnderWay (s : OrientedMesh) (split : SplitView) (behind to : ℕ) (begun : TrackView) (track : TrackView) (pending : List ℕ)
+    (steps : ℕ) : Type 0 where
   pub some : 0 < length track.walk
   pub no_spur : HasNoSpur track.walk
   pub off_cotree : AvoidsCotree s split track.walk
@@ -78,7 +83,8 @@ pub record IsUnderWay (s : OrientedMesh) (split : SplitView) (behind to : ℕ) (
   pub leaves : MoreLeaveCotree s split begun.list.moves track.list.moves
 
 -- at the start
-pub under_way : (s : OrientedMesh) (split : SplitView) → IsOrientedSurface s → (behind to : ℕ) (track : TrackView) (pending : List ℕ) → pending ≡ to ∷ []
+pub under_way : (s : OrientedMesh) (split : SplitView) → IsOrientedSurface s → (behind to : ℕ) (track : TrackView) (pending : List ℕ)
+    → pending ≡ to ∷ []
     → 0 < length track.walk → HasNoSpur track.walk → AvoidsCotree s split track.walk → is_edge s.mesh (last_of track.walk) to ≡ true
     → IsUnderWay s split behind to track track pending 0
 under_way s split o behind to track pending is some no_spur off edge =
@@ -102,7 +108,8 @@ reverse-push : (pending : List ℕ) (v : ℕ) → reverse (pending ++ v ∷ []) 
 reverse-push pending v = reverse-append pending (v ∷ [])
 
 -- a step that keeps off the cotree: the vertex is put on the track
-pub put_on_way : (s : OrientedMesh) (split : SplitView) (behind to : ℕ) (begun track new : TrackView) (pending rest : List ℕ) (v steps after : ℕ)
+pub put_on_way : (s : OrientedMesh) (split : SplitView) (behind to : ℕ) (begun track new : TrackView) (pending rest : List ℕ)
+    (v steps after : ℕ)
     → IsUnderWay s split behind to begun track pending steps → pending ≡ rest ++ v ∷ [] → after ≡ length rest + behind
     → ((d : ℕ) → IsDartFrom (rotations_of s) (last_of track.walk) v d → in_cotree split (edge_of s d) ≡ false)
     → ((mesh : FaceList) → GoesOn mesh after (track.walk ++ v ∷ []) track.list new.walk new.list) → HasNoSpur new.walk
@@ -134,8 +141,10 @@ put_on_way s split behind to begun track new pending rest v steps after on poppe
           length-append (reverse rest) others ∙ omega (arith, length-reverse rest, l, counted) in
           subst (LeadsAtPeak s.mesh first new.list) (sym (append_assoc new.walk (reverse rest) others))
           (goes s.mesh first (reverse rest ++ others) count (subst (LeadsAtPeak s.mesh first track.list) shape_is there));
-      ends = subst (λ (x : ℕ). last_of (x ∷ reverse rest) ≡ to) (sym last) (last_below u v (reverse rest) ∙ subst (λ (l : List ℕ). last_of (u ∷ l) ≡ to) turned on.ends);
-      leaves = leave_on s split begun.list.moves track.list.moves new.list.moves on.leaves (removed_leave s split track.list.moves new.list.moves more);
+      ends = subst (λ (x : ℕ). last_of (x ∷ reverse rest) ≡ to) (sym last) (last_below u v (reverse rest)
+          ∙ subst (λ (l : List ℕ). last_of (u ∷ l) ≡ to) turned on.ends);
+      leaves = leave_on s split begun.list.moves track.list.moves new.list.moves on.leaves
+          (removed_leave s split track.list.moves new.list.moves more);
     }
   where
     last_below : (u v : ℕ) (rest : List ℕ) → last_of (v ∷ rest) ≡ last_of (u ∷ v ∷ rest)
@@ -152,10 +161,12 @@ last-behind front rest x =
 record IsRest (mesh : FaceList) (step : FaceStep) (u v : ℕ) : Type 0 where
   front : List ℕ
   ends : corners_from (face_at mesh step.face.0) (not step.forward) step.corner (length (face_at mesh step.face.0) - 1) ≡ front ++ v ∷ []
-  turned : corners_from (face_at mesh step.face.0) (not step.forward) step.corner (length (face_at mesh step.face.0) - 1) ≡ u ∷ reverse (beyond mesh step)
+  turned : corners_from (face_at mesh step.face.0) (not step.forward) step.corner (length (face_at mesh step.face.0) - 1) ≡ u ∷ reverse
+      (beyond mesh step)
   long : length (beyond mesh step) + 1 ≡ length (face_at mesh step.face.0)
 
-rest_of_step : (s : OrientedMesh) (split : SplitView) → IsFaceList s.mesh → (u v : ℕ) (step : FaceStep) → IsFaceBelow s split u v step → IsRest s.mesh step u v
+rest_of_step : (s : OrientedMesh) (split : SplitView) → IsFaceList s.mesh → (u v : ℕ) (step : FaceStep) → IsFaceBelow s split u v step
+    → IsRest s.mesh step u v
 rest_of_step s split valid u v step under =
     let ring : List ℕ = face_at s.mesh step.face.0 in
     let m : ℕ = length ring in
@@ -181,14 +192,17 @@ rest_of_step s split valid u v step under =
     }
 
 -- the move across the face
-face_crossed : (s : OrientedMesh) (split : SplitView) (u v : ℕ) (step : FaceStep) (front behind : List ℕ) → IsFaceBelow s split u v step → 3 ≤ length (face_at s.mesh step.face.0)
+face_crossed : (s : OrientedMesh) (split : SplitView) (u v : ℕ) (step : FaceStep) (front behind : List ℕ) → IsFaceBelow s split u v step
+    → 3 ≤ length (face_at s.mesh step.face.0)
     → apply s.mesh (front ++ u ∷ v ∷ behind) (Across (length front) step.face step.corner step.forward 1)
-    ≡ Some (front ++ corners_from (face_at s.mesh step.face.0) (not step.forward) step.corner (length (face_at s.mesh step.face.0) - 1) ++ behind)
+    ≡ Some (front ++ corners_from (face_at s.mesh step.face.0) (not step.forward) step.corner (length (face_at s.mesh step.face.0) - 1)
+    ++ behind)
 face_crossed s split u v step front behind under big =
     let ring : List ℕ = face_at s.mesh step.face.0 in
     let other : List ℕ = corners_from ring (not step.forward) step.corner (length ring - 1) in
     let some : 0 < length (front ++ u ∷ v ∷ behind) = rw length-append (omega arith) in
-    (by_replacing s.mesh (front ++ u ∷ v ∷ behind) (front ++ other ++ behind) (Across (length front) step.face step.corner step.forward 1) some).1
+    (by_replacing s.mesh (front ++ u ∷ v ∷ behind) (front ++ other ++ behind) (Across (length front) step.face step.corner step.forward 1)
+    some).1
     (record {
       before = front;
       part = u ∷ v ∷ [];
@@ -209,7 +223,8 @@ face_crossed s split u v step front behind under big =
 regroup : (front back rest others : List ℕ) (u : ℕ) → front ++ (u ∷ back) ++ (rest ++ others) ≡ front ++ u ∷ [] ++ (back ++ rest) ++ others
 regroup front back rest others u = simp append_assoc
 
-crossing_goes : (s : OrientedMesh) (split : SplitView) → IsFaceList s.mesh → (behind to : ℕ) (begun track new : TrackView) (pending rest left : List ℕ) (v steps : ℕ) (step : FaceStep)
+crossing_goes : (s : OrientedMesh) (split : SplitView) → IsFaceList s.mesh
+    → (behind to : ℕ) (begun track new : TrackView) (pending rest left : List ℕ) (v steps : ℕ) (step : FaceStep)
     → IsUnderWay s split behind to begun track pending steps → pending ≡ rest ++ v ∷ [] → IsFaceBelow s split (last_of track.walk) v step
     → IsCrossed s.mesh step behind track rest new left
     → GoesOn s.mesh behind (begun.walk ++ to ∷ []) begun.list (new.walk ++ reverse left) new.list
@@ -222,7 +237,8 @@ crossing_goes s split valid behind to begun track new pending rest left v steps 
     let walk : List ℕ = track.walk in
     let front : List ℕ = take (length walk - 1) walk in
     let walk_is : walk ≡ front ++ u ∷ [] = last_entry walk on.some in
-    let front_long : length front ≡ darts walk = omega (arith, ap (λ (x : List ℕ). length x) walk_is, length-append front (u ∷ []), on.some) in
+    let front_long : length front ≡ darts walk =
+    omega (arith, ap (λ (x : List ℕ). length x) walk_is, length-append front (u ∷ []), on.some) in
     let turned : reverse pending ≡ v ∷ reverse rest = ap (λ (x : List ℕ). reverse x) popped ∙ reverse-push rest v in
     let there : LeadsAtPeak s.mesh first track.list (walk ++ reverse pending ++ others) = on.goes first others l h in
     let from : walk ++ reverse pending ++ others ≡ front ++ u ∷ v ∷ (reverse rest ++ others) =
@@ -247,16 +263,27 @@ crossing_goes s split valid behind to begun track new pending rest left v steps 
       length-append rest (beyond s.mesh step),
       around.long,
     ) in
-    let noted : new.list ≡ record { moves = track.list.moves ++ Across (length front) step.face step.corner step.forward 1 ∷ []; peak = max track.list.peak (darts end) } =
-    subst (λ (n : ℕ). new.list ≡ record { moves = track.list.moves ++ Across (length front) step.face step.corner step.forward 1 ∷ []; peak = max track.list.peak n }) (sym count)
-    (subst (λ (n : ℕ). new.list ≡ record { moves = track.list.moves ++ Across n step.face step.corner step.forward 1 ∷ []; peak = max track.list.peak (darts walk + (length left + behind)) })
+    let noted : new.list ≡ record {
+      moves = track.list.moves ++ Across (length front) step.face step.corner step.forward 1 ∷ [];
+      peak = max track.list.peak (darts end);
+    } =
+    subst (λ (n : ℕ). new.list ≡ record {
+      moves = track.list.moves ++ Across (length front) step.face step.corner step.forward 1 ∷ [];
+      peak = max track.list.peak n;
+    }) (sym count)
+    (subst (λ (n : ℕ). new.list ≡ record {
+      moves = track.list.moves ++ Across n step.face step.corner step.forward 1 ∷ [];
+      peak = max track.list.peak (darts walk + (length left + behind));
+    })
     (sym front_long) crossed.list) in
     subst (LeadsAtPeak s.mesh first new.list) to_is
-    (one_more s.mesh first (front ++ u ∷ v ∷ (reverse rest ++ others)) end (Across (length front) step.face step.corner step.forward 1) track.list new.list
+    (one_more s.mesh first (front ++ u ∷ v ∷ (reverse rest ++ others)) end (Across (length front) step.face step.corner step.forward 1)
+    track.list new.list
     (subst (LeadsAtPeak s.mesh first track.list) from there) (face_crossed s split u v step front (reverse rest ++ others) under big) noted)
 
 -- a step across the face below an edge
-pub cross_on_way : (s : OrientedMesh) (split : SplitView) → IsOrientedSurface s → (behind to : ℕ) (begun track new : TrackView) (pending rest left : List ℕ) (v steps : ℕ) (step : FaceStep)
+pub cross_on_way : (s : OrientedMesh) (split : SplitView) → IsOrientedSurface s
+    → (behind to : ℕ) (begun track new : TrackView) (pending rest left : List ℕ) (v steps : ℕ) (step : FaceStep)
     → IsUnderWay s split behind to begun track pending steps → pending ≡ rest ++ v ∷ [] → IsFaceBelow s split (last_of track.walk) v step
     → IsCrossed s.mesh step behind track rest new left
     → IsUnderWay s split behind to begun new left (steps + 1)
@@ -269,11 +296,13 @@ cross_on_way s split o behind to begun track new pending rest left v steps step 
     let left_is : reverse left ≡ reverse (beyond s.mesh step) ++ reverse rest =
     ap (λ (x : List ℕ). reverse x) crossed.comes ∙ reverse-append rest (beyond s.mesh step) in
     let whole : u ∷ reverse left ≡ around.front ++ v ∷ reverse rest =
-    ap (λ (x : List ℕ). u ∷ x) left_is ∙ ap (λ (x : List ℕ). x ++ reverse rest) (sym around.turned ∙ around.ends) ∙ append_assoc around.front (v ∷ []) (reverse rest) in
+    ap (λ (x : List ℕ). u ∷ x) left_is ∙ ap (λ (x : List ℕ). x ++ reverse rest) (sym around.turned ∙ around.ends)
+    ∙ append_assoc around.front (v ∷ []) (reverse rest) in
     let same_end : last_of new.walk ≡ u = ap last_of crossed.walk in
     let linked : Linked s.mesh (u ∷ v ∷ reverse rest) = subst (λ (l : List ℕ). Linked s.mesh (u ∷ l)) turned on.linked in
     let round_is_linked : Linked s.mesh (around.front ++ v ∷ []) =
-    subst (Linked s.mesh) around.ends (round_linked s.mesh step.face.0 (not step.forward) step.corner (length ring - 1) under.is_step.face under.is_step.corner) in
+    subst (Linked s.mesh) around.ends (round_linked s.mesh step.face.0 (not step.forward) step.corner (length ring - 1) under.is_step.face
+    under.is_step.corner) in
     record {
       some = subst (λ (l : List ℕ). 0 < length l) (sym crossed.walk) on.some;
       no_spur = subst HasNoSpur (sym crossed.walk) on.no_spur;
@@ -284,8 +313,10 @@ cross_on_way s split o behind to begun track new pending rest left v steps step 
           let before : load s split t (u ∷ v ∷ reverse rest) + steps ≤ darts_of s =
           subst (λ (l : List ℕ). load s split t (u ∷ l) + steps ≤ darts_of s) turned (on.falls t) in
           let fall : load s split t round + 1 ≤ pair_weight s split t u v =
-          rest_falls s split o t step.face.0 step.corner step.forward u v under.dart under.is_step.face under.is_step.corner under.starts under.ends under.from under.below in
-          let joined : load s split t (around.front ++ v ∷ reverse rest) ≡ load s split t (around.front ++ v ∷ []) + load s split t (v ∷ reverse rest) =
+          rest_falls s split o t step.face.0 step.corner step.forward u v under.dart under.is_step.face under.is_step.corner under.starts
+          under.ends under.from under.below in
+          let joined : load s split t (around.front ++ v ∷ reverse rest) ≡ load s split t (around.front ++ v ∷ []) + load s split t
+          (v ∷ reverse rest) =
           load-join s split t around.front (reverse rest) v in
           let first_part : load s split t (around.front ++ v ∷ []) ≡ load s split t round = ap (load s split t) (sym around.ends) in
           let all : load s split t (u ∷ reverse left) ≡ load s split t (around.front ++ v ∷ reverse rest) = ap (load s split t) whole in
@@ -296,11 +327,13 @@ cross_on_way s split o behind to begun track new pending rest left v steps step 
       ends = subst (λ (x : ℕ). last_of (x ∷ reverse left) ≡ to) (sym same_end)
           (ap last_of whole ∙ last-behind around.front (reverse rest) v ∙ sym (last-behind (u ∷ []) (reverse rest) v)
           ∙ subst (λ (l : List ℕ). last_of (u ∷ l) ≡ to) turned on.ends);
-      leaves = leave_on s split begun.list.moves track.list.moves new.list.moves on.leaves (crossed_leaves s split u v behind step track new rest left under crossed);
+      leaves = leave_on s split begun.list.moves track.list.moves new.list.moves on.leaves
+          (crossed_leaves s split u v behind step track new rest left under crossed);
     }
 
 -- after as many steps as there are darts nothing is pending
-pub all_come : (s : OrientedMesh) (split : SplitView) → IsSplit s split → (behind to : ℕ) (begun track : TrackView) (pending : List ℕ) (steps : ℕ)
+pub all_come : (s : OrientedMesh) (split : SplitView) → IsSplit s split
+    → (behind to : ℕ) (begun track : TrackView) (pending : List ℕ) (steps : ℕ)
     → IsUnderWay s split behind to begun track pending steps → darts_of s ≤ steps → length pending ≡ 0
 all_come s split t behind to begun track pending steps on done =
     omega (arith, on.falls t, load_long s split t (last_of track.walk ∷ reverse pending), length-reverse pending)
@@ -312,7 +345,8 @@ pub led_on : (s : OrientedMesh) (split : SplitView) (behind to : ℕ) (begun tra
 led_on s split behind to begun track pending steps on none =
     let goes : GoesOn s.mesh behind (begun.walk ++ to ∷ []) begun.list (track.walk ++ []) track.list =
     subst (λ (l : List ℕ). GoesOn s.mesh behind (begun.walk ++ to ∷ []) begun.list (track.walk ++ reverse l) track.list) none on.goes in
-    let ends : last_of (last_of track.walk ∷ []) ≡ to = subst (λ (l : List ℕ). last_of (last_of track.walk ∷ reverse l) ≡ to) none on.ends in
+    let ends : last_of (last_of track.walk ∷ []) ≡ to =
+    subst (λ (l : List ℕ). last_of (last_of track.walk ∷ reverse l) ≡ to) none on.ends in
     (subst (λ (l : List ℕ). GoesOn s.mesh behind (begun.walk ++ to ∷ []) begun.list l track.list) (append-nil track.walk) goes, ends)
 
 -- the numbers of what is pending
@@ -330,10 +364,12 @@ length-numbers xs = length-map xs (λ (x : VertexName). x.0)
 pub next_edge : (s : OrientedMesh) (split : SplitView) (behind to : ℕ) (begun track : TrackView) (pending rest : List ℕ) (v steps : ℕ)
     → IsUnderWay s split behind to begun track pending steps → pending ≡ rest ++ v ∷ [] → is_edge s.mesh (last_of track.walk) v ≡ true
 next_edge s split behind to begun track pending rest v steps on popped =
-    (subst (λ (l : List ℕ). Linked s.mesh (last_of track.walk ∷ l)) (ap (λ (l : List ℕ). reverse l) popped ∙ reverse-push rest v) on.linked).0
+    (subst (λ (l : List ℕ). Linked s.mesh (last_of track.walk ∷ l)) (ap (λ (l : List ℕ). reverse l) popped ∙ reverse-push rest v)
+    on.linked).0
 
 -- there is room for a step along the edge, and for one across a face
-pub room_along : (s : OrientedMesh) (split : SplitView) → IsSplit s split → (behind to : ℕ) (begun track : TrackView) (pending rest : List ℕ) (v steps : ℕ)
+pub room_along : (s : OrientedMesh) (split : SplitView) → IsSplit s split
+    → (behind to : ℕ) (begun track : TrackView) (pending rest : List ℕ) (v steps : ℕ)
     → IsUnderWay s split behind to begun track pending steps → pending ≡ rest ++ v ∷ []
     → length track.walk + length rest + 1 ≤ length begun.walk + darts_of s
 room_along s split t behind to begun track pending rest v steps on popped =
@@ -347,7 +383,8 @@ room_along s split t behind to begun track pending rest v steps on popped =
       length-append rest (v ∷ []),
     )
 
-pub room_across : (s : OrientedMesh) (split : SplitView) → IsOrientedSurface s → IsSplit s split → (behind to : ℕ) (begun track : TrackView) (pending rest : List ℕ) (v steps : ℕ) (step : FaceStep)
+pub room_across : (s : OrientedMesh) (split : SplitView) → IsOrientedSurface s → IsSplit s split
+    → (behind to : ℕ) (begun track : TrackView) (pending rest : List ℕ) (v steps : ℕ) (step : FaceStep)
     → IsUnderWay s split behind to begun track pending steps → pending ≡ rest ++ v ∷ [] → IsFaceBelow s split (last_of track.walk) v step
     → length track.walk + length rest + length (face_at s.mesh step.face.0) ≤ length begun.walk + darts_of s
 room_across s split o t behind to begun track pending rest v steps step on popped under =
@@ -355,9 +392,11 @@ room_across s split o t behind to begun track pending rest v steps step on poppe
     let ring : List ℕ = face_at s.mesh step.face.0 in
     let round : List ℕ = corners_from ring (not step.forward) step.corner (length ring - 1) in
     let before : load s split t (u ∷ v ∷ reverse rest) + steps ≤ darts_of s =
-    subst (λ (l : List ℕ). load s split t (u ∷ l) + steps ≤ darts_of s) (ap (λ (l : List ℕ). reverse l) popped ∙ reverse-push rest v) (on.falls t) in
+    subst (λ (l : List ℕ). load s split t (u ∷ l) + steps ≤ darts_of s) (ap (λ (l : List ℕ). reverse l) popped ∙ reverse-push rest v)
+    (on.falls t) in
     let fall : load s split t round + 1 ≤ pair_weight s split t u v =
-    rest_falls s split o t step.face.0 step.corner step.forward u v under.dart under.is_step.face under.is_step.corner under.starts under.ends under.from under.below in
+    rest_falls s split o t step.face.0 step.corner step.forward u v under.dart under.is_step.face under.is_step.corner under.starts
+    under.ends under.from under.below in
     omega (
       arith,
       on.long,
@@ -371,7 +410,8 @@ room_across s split o t behind to begun track pending rest v steps step on poppe
     )
 
 -- what holds while a walk is led off the cotree, dart by dart, when its first n entries are read
-pub record IsLedSoFar (s : OrientedMesh) (split : SplitView) (behind : ℕ) (walk : List ℕ) (begun : PeakedMoves) (track : TrackView) (n : ℕ) : Type 0 where
+pub record IsLedSoFar (s : OrientedMesh) (split : SplitView) (behind : ℕ) (walk : List ℕ) (begun : PeakedMoves) (track : TrackView)
+    (n : ℕ) : Type 0 where
   pub some : 0 < length track.walk
   pub no_spur : HasNoSpur track.walk
   pub off_cotree : AvoidsCotree s split track.walk
@@ -379,7 +419,8 @@ pub record IsLedSoFar (s : OrientedMesh) (split : SplitView) (behind : ℕ) (wal
   pub goes : GoesOn s.mesh behind walk begun (track.walk ++ drop n walk) track.list
   pub leaves : MoreLeaveCotree s split begun.moves track.list.moves
 
-pub led_first : (s : OrientedMesh) (split : SplitView) (behind : ℕ) (walk : List ℕ) (begun : PeakedMoves) (track : TrackView) (v : ℕ) → 0 < length walk
+pub led_first : (s : OrientedMesh) (split : SplitView) (behind : ℕ) (walk : List ℕ) (begun : PeakedMoves) (track : TrackView) (v : ℕ)
+    → 0 < length walk
     → get_or walk 0 0 ≡ v → track ≡ record { walk = v ∷ []; list = begun } → IsLedSoFar s split behind walk begun track 1
 led_first s split behind walk begun track v some is start =
     let whole : walk ≡ v ∷ [] ++ drop 1 walk = drop_more walk 0 0 some ∙ ap (λ (x : ℕ). x ∷ drop 1 walk) is in
@@ -393,9 +434,11 @@ led_first s split behind walk begun track v some is start =
       leaves = none_leave s split begun.moves;
     })
 
-pub led_more : (s : OrientedMesh) (split : SplitView) (behind : ℕ) (walk : List ℕ) (begun : PeakedMoves) (track new : TrackView) (n v after : ℕ)
+pub led_more : (s : OrientedMesh) (split : SplitView) (behind : ℕ) (walk : List ℕ) (begun : PeakedMoves) (track new : TrackView)
+    (n v after : ℕ)
     → IsLedSoFar s split behind walk begun track n → n < length walk → get_or walk n 0 ≡ v → after ≡ length walk - n - 1 + behind
-    → GoesOn s.mesh after (track.walk ++ v ∷ []) track.list new.walk new.list → 0 < length new.walk → HasNoSpur new.walk → AvoidsCotree s split new.walk
+    → GoesOn s.mesh after (track.walk ++ v ∷ []) track.list new.walk new.list → 0 < length new.walk → HasNoSpur new.walk
+    → AvoidsCotree s split new.walk
     → last_of new.walk ≡ v → MoreLeaveCotree s split track.list.moves new.list.moves → IsLedSoFar s split behind walk begun new (n + 1)
 led_more s split behind walk begun track new n v after led l is counted goes some no_spur off last more =
     let place : n + 1 - 1 ≡ n = omega arith in
@@ -407,7 +450,8 @@ led_more s split behind walk begun track new n v after led l is counted goes som
       goes = λ first rest k h.
           let there : LeadsAtPeak s.mesh first track.list (track.walk ++ drop n walk ++ rest) = led.goes first rest k h in
           let read : track.walk ++ drop n walk ++ rest ≡ track.walk ++ v ∷ [] ++ (drop (n + 1) walk ++ rest) =
-          ap (λ (w : List ℕ). w ++ rest) (read_on track.walk walk n v l is) ∙ append_assoc (track.walk ++ v ∷ []) (drop (n + 1) walk) rest in
+          ap (λ (w : List ℕ). w ++ rest) (read_on track.walk walk n v l is) ∙ append_assoc (track.walk ++ v ∷ []) (drop (n + 1) walk)
+          rest in
           let count : length (drop (n + 1) walk ++ rest) ≡ after =
           length-append (drop (n + 1) walk) rest ∙ omega (arith, length-drop (n + 1) walk, k, counted) in
           subst (LeadsAtPeak s.mesh first new.list) (sym (append_assoc new.walk (drop (n + 1) walk) rest))
@@ -427,7 +471,8 @@ led_all s split behind walk begun track n led all = (
 
 -- a walk that is led on from itself
 pub led_whole : (s : OrientedMesh) (walk vertices : List ℕ) (begun : PeakedMoves) (track : TrackView) → vertices ≡ walk
-    → begun ≡ record { moves = []; peak = darts walk } → GoesOn s.mesh 0 vertices begun track.walk track.list → LeadsAtPeak s.mesh walk track.list track.walk
+    → begun ≡ record { moves = []; peak = darts walk } → GoesOn s.mesh 0 vertices begun track.walk track.list
+    → LeadsAtPeak s.mesh walk track.list track.walk
 led_whole s walk vertices begun track same nowhere goes =
     let start : LeadsAtPeak s.mesh walk begun (vertices ++ []) =
     subst (LeadsAtPeak s.mesh walk begun) (sym (append-nil vertices ∙ same)) (leads_nowhere s.mesh walk begun nowhere) in

@@ -29,7 +29,8 @@ pub turned_more : (front : List ℕ) (k d : ℕ) (along : Bool) → k < length f
 turned_more front k d along l is =
     ap not is ∙ sym (ap (turned_by true) (take_more front k d l) ∙ turned-push true (take k front) (get_or front k d))
 
-pub walked_more : (mesh : FaceList) (walks : List (List ℕ)) (front begun old new spoke : List ℕ) (k d : ℕ) (along : Bool) → 0 < length begun → k < length front
+pub walked_more : (mesh : FaceList) (walks : List (List ℕ)) (front begun old new spoke : List ℕ) (k d : ℕ) (along : Bool) → 0 < length begun
+    → k < length front
     → along ≡ turned_by true (take k front) → spoke ≡ get_or walks (get_or front k d) []
     → AreFreelyEqual mesh (begun ++ walks_loop walks true (take k front)) old → AreFreelyEqual mesh (old ++ along_or_back along spoke) new
     → AreFreelyEqual mesh (begun ++ walks_loop walks true (take (k + 1) front)) new

@@ -5,15 +5,17 @@ use Rattle.surf_model.specs.FaceLists.{FaceList}
 use Rattle.surf_model.specs.FreeWalks.{AreFreelyEqual, HasNoSpur}
 use Rattle.surf_model.specs.Vertices.{numbers}
 use Rattle.surf_model.specs.declared.names.VertexName.{VertexName}
-use Rattle.polygon_cut.proofs.FreeLoopLemmas.{freely_itself}
+use Rattle.polygon_cut.proofs.FreeLoopLemmas.{free_equality}
 use Rattle.move_lifting.specs.Tracks.{last_of}
 use Rattle.move_lifting.proofs.ExpandLemmas.{length-numbers, one_pending}
 use Rattle.move_lifting.proofs.ListLemmas.{no_spur_front, no_spur_on}
 use Rattle.move_lifting.proofs.SpurLemmas.{put_freely, freely_further}
 
 -- what is laid so far, with one vertex more
-pub laid_more : (mesh : FaceList) (begun old new vertices : List VertexName) (k : ℕ) (d : VertexName) → 0 < length begun → k < length vertices
-    → AreFreelyEqual mesh (numbers begun ++ numbers (take k vertices)) (numbers old) → AreFreelyEqual mesh (numbers old ++ (get_or vertices k d).0 ∷ []) (numbers new)
+pub laid_more : (mesh : FaceList) (begun old new vertices : List VertexName) (k : ℕ) (d : VertexName) → 0 < length begun
+    → k < length vertices
+    → AreFreelyEqual mesh (numbers begun ++ numbers (take k vertices)) (numbers old)
+    → AreFreelyEqual mesh (numbers old ++ (get_or vertices k d).0 ∷ []) (numbers new)
     → AreFreelyEqual mesh (numbers begun ++ numbers (take (k + 1) vertices)) (numbers new)
 laid_more mesh begun old new vertices k d some l so_far one =
     let v : VertexName = get_or vertices k d in
@@ -21,13 +23,16 @@ laid_more mesh begun old new vertices k d some l so_far one =
     ap numbers (take_more vertices k d l) ∙ map-append (λ (x : VertexName). x.0) (take k vertices) (v ∷ []) in
     let whole : numbers begun ++ numbers (take (k + 1) vertices) ≡ numbers begun ++ numbers (take k vertices) ++ v.0 ∷ [] =
     ap (λ (l : List ℕ). numbers begun ++ l) more ∙ sym (append_assoc (numbers begun) (numbers (take k vertices)) (v.0 ∷ [])) in
-    let begun_some : 0 < length (numbers begun ++ numbers (take k vertices)) = omega (arith, length-append (numbers begun) (numbers (take k vertices)), length-numbers begun) in
+    let begun_some : 0 < length (numbers begun ++ numbers (take k vertices)) =
+    omega (arith, length-append (numbers begun) (numbers (take k vertices)), length-numbers begun) in
     subst (λ (w : List ℕ). AreFreelyEqual mesh w (numbers new)) (sym whole)
     (freely_further mesh (numbers begun ++ numbers (take k vertices)) (numbers old) (numbers new) (v.0 ∷ []) begun_some so_far one)
 
-pub laid_none : (mesh : FaceList) (begun : List VertexName) (vertices : List VertexName) → AreFreelyEqual mesh (numbers begun ++ numbers (take 0 vertices)) (numbers begun)
+pub laid_none : (mesh : FaceList) (begun : List VertexName) (vertices : List VertexName)
+    → AreFreelyEqual mesh (numbers begun ++ numbers (take 0 vertices)) (numbers begun)
 laid_none mesh begun vertices =
-    subst (λ (w : List ℕ). AreFreelyEqual mesh w (numbers begun)) (sym (append-nil (numbers begun))) (freely_itself mesh (numbers begun))
+    subst (λ (w : List ℕ). AreFreelyEqual mesh w (numbers begun)) (sym (append-nil (numbers begun)))
+    ((free_equality mesh).itself (numbers begun))
 
 -- the last vertex taken off
 pub popped_off : (old new : List VertexName) (n : ℕ) (d : VertexName) → 0 < length old → n ≡ length old → new ≡ take (n - 1) old
@@ -38,7 +43,8 @@ popped_off old new n d some count is =
     ∙ ap (λ (l : List VertexName). l ++ get_or old (n - 1) d ∷ []) (sym is)
 
 -- one vertex goes where the walk leads straight back
-pub goes_out : (mesh : FaceList) (old new : List VertexName) (next via : VertexName) → 1 < length old → get_or (numbers old) (length old - 2) 0 ≡ next.0
+pub goes_out : (mesh : FaceList) (old new : List VertexName) (next via : VertexName) → 1 < length old
+    → get_or (numbers old) (length old - 2) 0 ≡ next.0
     → old ≡ new ++ via ∷ [] → AreFreelyEqual mesh (numbers old ++ next.0 ∷ []) (numbers new)
 goes_out mesh old new next via long came popped =
     let parts : numbers old ≡ numbers new ++ via.0 ∷ [] = one_pending old new via popped in
@@ -50,15 +56,19 @@ goes_out mesh old new next via long came popped =
     ∙ ap (λ (l : List ℕ). get_or l (length old - 2) 0) (sym parts) ∙ came in
     put_freely mesh (numbers old) (numbers new) next.0 (inr (via.0, parts)) (omega arith) last
 
-pub goes_out_clean : (old new : List VertexName) (via : VertexName) → old ≡ new ++ via ∷ [] → HasNoSpur (numbers old) → HasNoSpur (numbers new)
+pub goes_out_clean : (old new : List VertexName) (via : VertexName) → old ≡ new ++ via ∷ [] → HasNoSpur (numbers old)
+    → HasNoSpur (numbers new)
 goes_out_clean old new via popped h = no_spur_front (numbers new) (via.0 ∷ []) (subst HasNoSpur (one_pending old new via popped) h)
 
 -- one vertex comes
-pub comes_in : (mesh : FaceList) (old new : List VertexName) (next : VertexName) → new ≡ old ++ next ∷ [] → AreFreelyEqual mesh (numbers old ++ next.0 ∷ []) (numbers new)
+pub comes_in : (mesh : FaceList) (old new : List VertexName) (next : VertexName) → new ≡ old ++ next ∷ []
+    → AreFreelyEqual mesh (numbers old ++ next.0 ∷ []) (numbers new)
 comes_in mesh old new next pushed =
-    subst (AreFreelyEqual mesh (numbers old ++ next.0 ∷ [])) (sym (one_pending new old next pushed)) (freely_itself mesh (numbers old ++ next.0 ∷ []))
+    subst (AreFreelyEqual mesh (numbers old ++ next.0 ∷ [])) (sym (one_pending new old next pushed))
+    ((free_equality mesh).itself (numbers old ++ next.0 ∷ []))
 
-pub comes_in_clean : (old new : List VertexName) (next : VertexName) → new ≡ old ++ next ∷ [] → (1 < length old → get_or (numbers old) (length old - 2) 0 ≢ next.0)
+pub comes_in_clean : (old new : List VertexName) (next : VertexName) → new ≡ old ++ next ∷ []
+    → (1 < length old → get_or (numbers old) (length old - 2) 0 ≢ next.0)
     → HasNoSpur (numbers old) → HasNoSpur (numbers new)
 comes_in_clean old new next pushed other h =
     subst HasNoSpur (sym (one_pending new old next pushed))
@@ -68,8 +78,10 @@ comes_in_clean old new next pushed other h =
     other (omega arith) (ap (λ (n : ℕ). get_or (numbers old) n 0) (sym at) ∙ same)))
 
 -- three parts laid on one vertex
-pub laid_three : (mesh : FaceList) (x : ℕ) (start first second third down up rest : List ℕ) → start ≡ x ∷ [] → AreFreelyEqual mesh (start ++ down) first
-    → AreFreelyEqual mesh (first ++ up) second → AreFreelyEqual mesh (second ++ rest) third → AreFreelyEqual mesh (x ∷ (down ++ (up ++ rest))) third
+pub laid_three : (mesh : FaceList) (x : ℕ) (start first second third down up rest : List ℕ) → start ≡ x ∷ []
+    → AreFreelyEqual mesh (start ++ down) first
+    → AreFreelyEqual mesh (first ++ up) second → AreFreelyEqual mesh (second ++ rest) third
+    → AreFreelyEqual mesh (x ∷ (down ++ (up ++ rest))) third
 laid_three mesh x start first second third down up rest is a b c =
     let one : AreFreelyEqual mesh (x ∷ down) first = subst (λ (l : List ℕ). AreFreelyEqual mesh (l ++ down) first) is a in
     let two : AreFreelyEqual mesh (x ∷ down ++ up) second = freely_further mesh (x ∷ down) first second up (omega arith) one b in
@@ -77,7 +89,8 @@ laid_three mesh x start first second third down up rest is a b c =
     (freely_further mesh (x ∷ down ++ up) second third rest (omega arith) two c)
 
 -- the first name alone
-pub first_alone : (none one names : List VertexName) (v d : VertexName) → none ≡ [] → one ≡ none ++ v ∷ [] → v ≡ get_or names 0 d → 0 < length names
+pub first_alone : (none one names : List VertexName) (v d : VertexName) → none ≡ [] → one ≡ none ++ v ∷ [] → v ≡ get_or names 0 d
+    → 0 < length names
     → numbers one ≡ get_or (numbers names) 0 0 ∷ []
 first_alone none one names v d nothing pushed is some =
     one_pending one none v pushed ∙ ap (λ (l : List VertexName). numbers l ++ v.0 ∷ []) nothing

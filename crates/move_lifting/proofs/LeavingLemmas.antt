@@ -18,12 +18,18 @@ pub no_more_removed : (moves : List Move) → MoreRemove moves moves
 no_more_removed moves = ([], sym (append-nil moves), All-nil IsRemoval)
 
 pub stepped_back : (behind : ℕ) (old new : TrackView) → IsStepBack behind old new → MoreRemove old.list.moves new.list.moves
-stepped_back behind old new back = (Remove (length old.walk - 2) back.via ∷ [], ap (λ l. l.moves) back.list, All-cons IsRemoval (Remove (length old.walk - 2) back.via) [] tt (All-nil IsRemoval))
+stepped_back behind old new back = (
+  Remove (length old.walk - 2) back.via ∷ [],
+  ap (λ l. l.moves) back.list,
+  All-cons IsRemoval (Remove (length old.walk - 2) back.via) []
+      tt (All-nil IsRemoval),
+)
 
 pub none_leave : (s : OrientedMesh) (split : SplitView) (moves : List Move) → MoreLeaveCotree s split moves moves
 none_leave s split moves = ([], sym (append-nil moves), All-nil (LeavesCotree s split))
 
-pub leave_on : (s : OrientedMesh) (split : SplitView) (a b c : List Move) → MoreLeaveCotree s split a b → MoreLeaveCotree s split b c → MoreLeaveCotree s split a c
+pub leave_on : (s : OrientedMesh) (split : SplitView) (a b c : List Move) → MoreLeaveCotree s split a b → MoreLeaveCotree s split b c
+    → MoreLeaveCotree s split a c
 leave_on s split a b c one two = (
   one.0 ++ two.0,
   two.1 ∙ ap (λ (l : List Move). l ++ two.0) one.1 ∙ append_assoc a one.0 two.0,
@@ -40,7 +46,8 @@ pub removed_leave : (s : OrientedMesh) (split : SplitView) (a b : List Move) →
 removed_leave s split a b more = (more.0, more.1, λ k d l. removal_leaves s split _ (more.2 k d l))
 
 -- and so is a step across the face below an edge
-pub crossed_leaves : (s : OrientedMesh) (split : SplitView) (u v behind : ℕ) (step : FaceStep) (old new : TrackView) (pending left : List ℕ) → IsFaceBelow s split u v step
+pub crossed_leaves : (s : OrientedMesh) (split : SplitView) (u v behind : ℕ) (step : FaceStep) (old new : TrackView) (pending left : List ℕ)
+    → IsFaceBelow s split u v step
     → IsCrossed s.mesh step behind old pending new left → MoreLeaveCotree s split old.list.moves new.list.moves
 crossed_leaves s split u v behind step old new pending left under crossed = (
   Across (darts old.walk) step.face step.corner step.forward 1 ∷ [],
@@ -59,5 +66,6 @@ crossed_leaves s split u v behind step old new pending left under crossed = (
 )
 
 -- all moves, where there were none before
-pub all_leave : (s : OrientedMesh) (split : SplitView) (old new : List Move) → old ≡ [] → MoreLeaveCotree s split old new → All (LeavesCotree s split) new
+pub all_leave : (s : OrientedMesh) (split : SplitView) (old new : List Move) → old ≡ [] → MoreLeaveCotree s split old new
+    → All (LeavesCotree s split) new
 all_leave s split old new none more = subst (All (LeavesCotree s split)) (sym (more.1 ∙ ap (λ (l : List Move). l ++ more.0) none)) more.2

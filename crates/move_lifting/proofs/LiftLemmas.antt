@@ -28,7 +28,8 @@ use Rattle.move_lifting.proofs.MoveLemmas.{leads_nowhere}
 use Rattle.move_lifting.proofs.TreeLiftLemmas.{one_vertex, walk_front}
 
 -- what is done to the vertices of the first walk, done from the first walk on
-pub closed_from : (mesh : FaceList) (first second vertices closed : List ℕ) (begun list : PeakedMoves) (n : ℕ) → IsWalk mesh second → vertices ≡ first
+pub closed_from : (mesh : FaceList) (first second vertices closed : List ℕ) (begun list : PeakedMoves) (n : ℕ) → IsWalk mesh second
+    → vertices ≡ first
     → begun ≡ record { moves = []; peak = n } → n ≡ darts first
     → ((face_list : FaceList) (walk : List ℕ) → IsWalk face_list second → LeadsAtPeak face_list walk begun vertices
     → LeadsAtPeak face_list walk list (closed ++ drop 1 second))
@@ -38,29 +39,36 @@ closed_from mesh first second vertices closed begun list n w same is count goes 
     goes mesh first w (subst (LeadsAtPeak mesh first begun) (sym same) (leads_nowhere mesh first begun nowhere))
 
 -- the closed walk is one
-pub closed_walk : (mesh : FaceList) (first closed rest : List ℕ) (list : PeakedMoves) → IsWalk mesh first → LeadsAtPeak mesh first list (closed ++ rest)
+pub closed_walk : (mesh : FaceList) (first closed rest : List ℕ) (list : PeakedMoves) → IsWalk mesh first
+    → LeadsAtPeak mesh first list (closed ++ rest)
     → 0 < length closed → IsWalk mesh closed
 closed_walk mesh first closed rest list w h some =
     walk_front mesh closed rest some (list_keeps_walk mesh list.moves first (closed ++ rest) w h.leads)
 
-pub second_left : (s : OrientedMesh) (split : SplitView) → IsOrientedSurface s → IsSplit s split → split.genus ≡ 0 → (first closed second : List ℕ) (list : PeakedMoves) (track : TrackView)
-    → IsWalk s.mesh first → 0 < length second → get_or first 0 0 ≡ get_or second 0 0 → LeadsAtPeak s.mesh first list (closed ++ drop 1 second)
-    → GoesOn s.mesh (darts second) closed list track.walk track.list → AvoidsCotree s split track.walk → HasNoSpur track.walk → 0 < length track.walk
+pub second_left : (s : OrientedMesh) (split : SplitView) → IsOrientedSurface s → IsSplit s split → split.genus ≡ 0
+    → (first closed second : List ℕ) (list : PeakedMoves) (track : TrackView)
+    → IsWalk s.mesh first → 0 < length second → get_or first 0 0 ≡ get_or second 0 0
+    → LeadsAtPeak s.mesh first list (closed ++ drop 1 second)
+    → GoesOn s.mesh (darts second) closed list track.walk track.list → AvoidsCotree s split track.walk → HasNoSpur track.walk
+    → 0 < length track.walk
     → last_of track.walk ≡ get_or second 0 0 → LeadsAtPeak s.mesh first track.list second
 second_left s split o t sphere first closed second list track w some common h goes off no_spur track_some last =
     let rest : List ℕ = drop 1 second in
     let v : ℕ = get_or second 0 0 in
     let there : LeadsAtPeak s.mesh first track.list (track.walk ++ rest) = goes first rest (length-drop 1 second) h in
     let walk : IsWalk s.mesh track.walk = closed_walk s.mesh first track.walk rest track.list w there track_some in
-    let ends : HaveCommonEnds first (track.walk ++ rest) = list_keeps_ends s.mesh track.list.moves first (track.walk ++ rest) w.starts there.leads in
+    let ends : HaveCommonEnds first (track.walk ++ rest) =
+    list_keeps_ends s.mesh track.list.moves first (track.walk ++ rest) w.starts there.leads in
     let start : get_or track.walk 0 0 ≡ v = sym (get_or_append_left track.walk rest 0 0 track_some) ∙ sym ends.starts ∙ common in
     let one : track.walk ≡ v ∷ [] = one_vertex s split o t sphere track.walk v walk off no_spur start last in
     let whole : track.walk ++ rest ≡ second = ap (λ (l : List ℕ). l ++ rest) one ∙ sym (drop_more second 0 0 some) in
     subst (LeadsAtPeak s.mesh first track.list) whole there
 
 -- what a list of moves does behind another
-leads_rest : (mesh : FaceList) (moves more : List Move) (a b c : List ℕ) → Leads mesh a moves b → Leads mesh a (moves ++ more) c → Leads mesh b more c
-leads_rest mesh [] more a b c h k = (let same : a ≡ b = (let e : Some a ≡ Some b = h in cc) in subst (λ (l : List ℕ). Leads mesh l more c) same k)
+leads_rest : (mesh : FaceList) (moves more : List Move) (a b c : List ℕ) → Leads mesh a moves b → Leads mesh a (moves ++ more) c
+    → Leads mesh b more c
+leads_rest mesh [] more a b c h k =
+    (let same : a ≡ b = (let e : Some a ≡ Some b = h in cc) in subst (λ (l : List ℕ). Leads mesh l more c) same k)
 leads_rest mesh (move ∷ moves) more a b c h k =
     option_and_then_some (λ next. apply_all mesh next moves) (apply mesh a move) b h
     (λ middle is rest.
@@ -78,15 +86,19 @@ pub record IsBegun (s : OrientedMesh) (split : SplitView) (first closed second :
   pub goes : Leads s.mesh (closed ++ drop 1 second) more (track.walk ++ drop 1 second)
   pub leaves : All (LeavesCotree s split) more
 
-pub begun_from : (s : OrientedMesh) (split : SplitView) (first closed second : List ℕ) (list : PeakedMoves) (track : TrackView) → IsWalk s.mesh first → IsWalk s.mesh second
+pub begun_from : (s : OrientedMesh) (split : SplitView) (first closed second : List ℕ) (list : PeakedMoves) (track : TrackView)
+    → IsWalk s.mesh first → IsWalk s.mesh second
     → get_or first 0 0 ≡ get_or second 0 0 → LeadsAtPeak s.mesh first list (closed ++ drop 1 second) → 0 < length closed
-    → GoesOn s.mesh (darts second) closed list track.walk track.list → MoreLeaveCotree s split list.moves track.list.moves → 0 < length track.walk
+    → GoesOn s.mesh (darts second) closed list track.walk track.list → MoreLeaveCotree s split list.moves track.list.moves
+    → 0 < length track.walk
     → last_of track.walk ≡ get_or second 0 0 → IsBegun s split first closed second track
 begun_from s split first closed second list track w z common h closed_some goes more track_some last =
     let rest : List ℕ = drop 1 second in
     let there : LeadsAtPeak s.mesh first track.list (track.walk ++ rest) = goes first rest (length-drop 1 second) h in
-    let ends : HaveCommonEnds first (track.walk ++ rest) = list_keeps_ends s.mesh track.list.moves first (track.walk ++ rest) w.starts there.leads in
-    let start : get_or track.walk 0 0 ≡ get_or second 0 0 = sym (get_or_append_left track.walk rest 0 0 track_some) ∙ sym ends.starts ∙ common in
+    let ends : HaveCommonEnds first (track.walk ++ rest) =
+    list_keeps_ends s.mesh track.list.moves first (track.walk ++ rest) w.starts there.leads in
+    let start : get_or track.walk 0 0 ≡ get_or second 0 0 = sym (get_or_append_left track.walk rest 0 0 track_some) ∙ sym ends.starts
+    ∙ common in
     record {
       led = record { first = first; rest = rest; starts = w; long = length-drop 1 second; leads = there; some = track_some };
       walk = closed_walk s.mesh first closed rest list w h closed_some;
@@ -101,26 +113,37 @@ begun_from s split first closed second list track w z common h closed_some goes 
     }
 
 -- and the second walk is left behind one vertex
-pub second_stays : (s : OrientedMesh) (split : SplitView) (first closed second : List ℕ) (track after : TrackView) → IsBegun s split first closed second track → 0 < length second
-    → GoesOn s.mesh (darts second) track.walk track.list after.walk after.list → after.walk ≡ get_or track.walk 0 0 ∷ [] → LeadsAtPeak s.mesh first after.list second
+pub second_stays : (s : OrientedMesh) (split : SplitView) (first closed second : List ℕ) (track after : TrackView)
+    → IsBegun s split first closed second track → 0 < length second
+    → GoesOn s.mesh (darts second) track.walk track.list after.walk after.list → after.walk ≡ get_or track.walk 0 0 ∷ []
+    → LeadsAtPeak s.mesh first after.list second
 second_stays s split first closed second track after begun some goes one =
     let rest : List ℕ = drop 1 second in
-    let there : LeadsAtPeak s.mesh begun.led.first after.list (after.walk ++ begun.led.rest) = goes begun.led.first begun.led.rest begun.led.long begun.led.leads in
-    let whole : after.walk ++ rest ≡ second = ap (λ (l : List ℕ). l ++ rest) (one ∙ ap (λ x. x ∷ []) begun.start) ∙ sym (drop_more second 0 0 some) in
+    let there : LeadsAtPeak s.mesh begun.led.first after.list (after.walk ++ begun.led.rest) =
+    goes begun.led.first begun.led.rest begun.led.long begun.led.leads in
+    let whole : after.walk ++ rest ≡ second = ap (λ (l : List ℕ). l ++ rest) (one ∙ ap (λ x. x ∷ []) begun.start)
+    ∙ sym (drop_more second 0 0 some) in
     subst (λ (l : List ℕ). LeadsAtPeak s.mesh l after.list second) (sym begun.leads.0)
     (subst (LeadsAtPeak s.mesh begun.led.first after.list) (ap (λ (l : List ℕ). after.walk ++ l) (sym begun.leads.1) ∙ whole) there)
 
 -- Nothing is left of the spokes where the walks are homotopic, and the steps that leave nothing may be followed.
-pub homotopic_leaves_nothing : (s : OrientedMesh) (split : SplitView) (polygon : PolygonView) → IsOrientedSurface s → IsSplit s split → IsCutFrom s split polygon → 0 < polygon.degree
-    → (first closed second vertices : List ℕ) (list : PeakedMoves) (reduction : Reduction) (r : IsReductionOf s polygon vertices reduction) → vertices ≡ closed → IsWalk s.mesh first
-    → 0 < length closed → 0 < length second → last_of closed ≡ get_or second 0 0 → LeadsAtPeak s.mesh first list (closed ++ drop 1 second) → Homotopic s.mesh first second → r.end ≡ []
-homotopic_leaves_nothing s split polygon o t cut some first closed second vertices list reduction r is w closed_some second_some meets led same =
+pub homotopic_leaves_nothing : (s : OrientedMesh) (split : SplitView) (polygon : PolygonView) → IsOrientedSurface s → IsSplit s split
+    → IsCutFrom s split polygon → 0 < polygon.degree
+    → (first closed second vertices : List ℕ) (list : PeakedMoves) (reduction : Reduction) (r : IsReductionOf s polygon vertices reduction)
+    → vertices ≡ closed → IsWalk s.mesh first
+    → 0 < length closed → 0 < length second → last_of closed ≡ get_or second 0 0 → LeadsAtPeak s.mesh first list (closed ++ drop 1 second)
+    → Homotopic s.mesh first second → r.end ≡ []
+homotopic_leaves_nothing s split polygon o t cut some first closed second vertices list reduction r is w closed_some second_some meets led
+    same =
     nothing_is_left s split polygon o t cut some r.spokes.spokes r.spokes.free first closed second r.end reduction.steps.items w
     (closed_walk s.mesh first closed (drop 1 second) list w led closed_some) second_some meets (list.moves, led.leads)
-    (subst (λ (l : List ℕ). PathLeads polygon.places l reduction.steps.items r.end) (r.spokes.path_is ∙ ap (spokes_along r.spokes.spokes) is) r.leads) r.reduced same
+    (subst (λ (l : List ℕ). PathLeads polygon.places l reduction.steps.items r.end) (r.spokes.path_is
+    ∙ ap (spokes_along r.spokes.spokes) is) r.leads) r.reduced same
 
-pub steps_to_nothing : (s : OrientedMesh) (split : SplitView) (polygon : PolygonView) → IsOrientedSurface s → IsSplit s split → IsCutFrom s split polygon → 0 < polygon.degree
-    → (closed vertices : List ℕ) (reduction : Reduction) (r : IsReductionOf s polygon vertices reduction) → vertices ≡ closed → IsWalk s.mesh closed → r.end ≡ []
+pub steps_to_nothing : (s : OrientedMesh) (split : SplitView) (polygon : PolygonView) → IsOrientedSurface s → IsSplit s split
+    → IsCutFrom s split polygon → 0 < polygon.degree
+    → (closed vertices : List ℕ) (reduction : Reduction) (r : IsReductionOf s polygon vertices reduction) → vertices ≡ closed
+    → IsWalk s.mesh closed → r.end ≡ []
     → LeavesNothing polygon reduction
 steps_to_nothing s split polygon o t cut some closed vertices reduction r is w none = record {
   wheel = r.wheel;
@@ -131,12 +154,15 @@ steps_to_nothing s split polygon o t cut some closed vertices reduction r is w n
 }
 
 -- and the walk of the track is the loop of the spokes, up to spurs
-pub begun_freely : (s : OrientedMesh) (split : SplitView) (polygon : PolygonView) → IsOrientedSurface s → IsSplit s split → IsCutFrom s split polygon → 0 < polygon.degree
-    → (first closed second vertices : List ℕ) (list : PeakedMoves) (track : TrackView) (reduction : Reduction) (r : IsReductionOf s polygon vertices reduction) → vertices ≡ closed
+pub begun_freely : (s : OrientedMesh) (split : SplitView) (polygon : PolygonView) → IsOrientedSurface s → IsSplit s split
+    → IsCutFrom s split polygon → 0 < polygon.degree
+    → (first closed second vertices : List ℕ) (list : PeakedMoves) (track : TrackView) (reduction : Reduction)
+    (r : IsReductionOf s polygon vertices reduction) → vertices ≡ closed
     → IsWalk s.mesh first → 0 < length closed → last_of closed ≡ get_or second 0 0 → LeadsAtPeak s.mesh first list (closed ++ drop 1 second)
     → IsBegun s split first closed second track → AvoidsCotree s split track.walk → last_of track.walk ≡ get_or second 0 0
     → IsFreelyPath s split polygon reduction.spokes.items track.walk
 begun_freely s split polygon o t cut some first closed second vertices list track reduction r is w closed_some meets led begun off last =
     subst (λ (l : List ℕ). IsFreelyPath s split polygon l track.walk) (sym (r.spokes.path_is ∙ ap (spokes_along r.spokes.spokes) is))
     (starts_freely s split polygon o t cut some r.spokes.spokes r.spokes.free closed track.walk (drop 1 second) begun.more
-    (list_keeps_walk s.mesh list.moves first (closed ++ drop 1 second) w led.leads) begun.goes begun.leaves off closed_some begun.led.some (last ∙ sym meets) (sym begun.home))
+    (list_keeps_walk s.mesh list.moves first (closed ++ drop 1 second) w led.leads) begun.goes begun.leaves off closed_some begun.led.some
+    (last ∙ sym meets) (sym begun.home))

@@ -26,7 +26,8 @@ pub weight : (s : OrientedMesh) (split : SplitView) → IsSplit s split → ℕ 
 weight s split t e = weight_at s split t (child_face (rotations_of s) split e)
 
 weight_is : (s : OrientedMesh) (split : SplitView) (t : IsSplit s split) (d : ℕ) → d < darts_of s
-    → weight s split t ((rotations_of s).edge d) ≡ count_below (hangs_at s split t (child_face (rotations_of s) split ((rotations_of s).edge d)) d) (darts_of s)
+    → weight s split t ((rotations_of s).edge d) ≡ count_below
+    (hangs_at s split t (child_face (rotations_of s) split ((rotations_of s).edge d)) d) (darts_of s)
 unfolding weight weight_at hangs_at
 weight_is s split t d l = by (child_face (rotations_of s) split ((rotations_of s).edge d))
   where
@@ -34,7 +35,8 @@ weight_is s split t d l = by (child_face (rotations_of s) split ((rotations_of s
     by None = sym (count_one (darts_of s) d l)
     by (Some c) = refl
 
-pub weight_none : (s : OrientedMesh) (split : SplitView) (t : IsSplit s split) (e : ℕ) → child_face (rotations_of s) split e ≡ None → weight s split t e ≡ 1
+pub weight_none : (s : OrientedMesh) (split : SplitView) (t : IsSplit s split) (e : ℕ) → child_face (rotations_of s) split e ≡ None
+    → weight s split t e ≡ 1
 unfolding weight weight_at
 weight_none s split t e is = ap (weight_at s split t) is
 
@@ -62,11 +64,17 @@ weight_positive s split t e = elim (cases_child (child_face (rotations_of s) spl
 pub weight_most : (s : OrientedMesh) (split : SplitView) (t : IsSplit s split) (e : ℕ) → 0 < darts_of s → weight s split t e ≤ darts_of s
 weight_most s split t e l = elim (cases_child (child_face (rotations_of s) split e)) [
   | inl none ↦ (let one : weight s split t e ≡ 1 = weight_none s split t e none in omega arith)
-  | inr some ↦ omega (arith, weight_some s split t e some.0 some.1, count_most (λ z. below s split t some.0 ((rotations_of s).face z)) (darts_of s))
+  | inr some ↦ omega (
+    arith,
+    weight_some s split t e some.0 some.1,
+    count_most (λ z. below s split t some.0 ((rotations_of s).face z))
+        (darts_of s),
+  )
 ]
 
 -- the face below the edge of a dart of f, which is not the face f itself, steps up to f
-steps_up : (s : OrientedMesh) (split : SplitView) → IsOrientedSurface s → IsSplit s split → (x c f : ℕ) → x < darts_of s → (rotations_of s).face x ≡ f
+steps_up : (s : OrientedMesh) (split : SplitView) → IsOrientedSurface s → IsSplit s split → (x c f : ℕ) → x < darts_of s
+    → (rotations_of s).face x ≡ f
     → child_face (rotations_of s) split ((rotations_of s).edge x) ≡ Some c → c ≢ f → StepsUp (rotations_of s) split c f
 steps_up s split o t x c f l in_f is other =
     let maps : Rotations = rotations_of s in
@@ -75,7 +83,8 @@ steps_up s split o t x c f l in_f is other =
     elim ((r.edges x dart.0 l dart.1).0 (sym dart.2)) [
       | inl same ↦ absurd (other (sym dart.3 ∙ ap maps.face same ∙ in_f))
       | inr turned ↦
-          let back : maps.face (maps.twin dart.0) ≡ f = ap (λ (d : ℕ). maps.face (maps.twin d)) turned ∙ ap maps.face (r.twin_back x l) ∙ in_f in
+          let back : maps.face (maps.twin dart.0) ≡ f = ap (λ (d : ℕ). maps.face (maps.twin d)) turned ∙ ap maps.face (r.twin_back x l)
+          ∙ in_f in
           (dart.0, record { within = dart.1; below = ap (child_face (rotations_of s) split) dart.2 ∙ is; inside = dart.3; leads = back })
     ]
 
@@ -89,7 +98,8 @@ one_below s split o t x h f l k in_f h_in is same =
     elim ((r.edges h x k l).0 (sym same)) [
       | inl one ↦ one
       | inr turned ↦
-          let step : StepsUp maps split f f = (h, record { within = k; below = is; inside = h_in; leads = ap maps.face (sym turned) ∙ in_f }) in
+          let step : StepsUp maps split f f =
+          (h, record { within = k; below = is; inside = h_in; leads = ap maps.face (sym turned) ∙ in_f }) in
           absurd (not_itself s split o t f step)
     ]
 
@@ -101,7 +111,8 @@ pub record AreBeside (s : OrientedMesh) (f h k : ℕ) (x : ℕ → ℕ) : Type 0
   pub apart : (i j : ℕ) → i < j → j < k → x i ≢ x j
 
 -- together they weigh less than the edge above the face
-pub weights_fall : (s : OrientedMesh) (split : SplitView) → IsOrientedSurface s → (t : IsSplit s split) → (f h k : ℕ) (x : ℕ → ℕ) → h < darts_of s
+pub weights_fall : (s : OrientedMesh) (split : SplitView) → IsOrientedSurface s → (t : IsSplit s split) → (f h k : ℕ) (x : ℕ → ℕ)
+    → h < darts_of s
     → (rotations_of s).face h ≡ f → child_face (rotations_of s) split ((rotations_of s).edge h) ≡ Some f → AreBeside s f h k x
     → sum_below (λ j. weight s split t ((rotations_of s).edge (x j))) k + 1 ≤ weight s split t ((rotations_of s).edge h)
 unfolding hangs_at
@@ -114,7 +125,8 @@ weights_fall s split o t f h k x l h_in is are =
     sum_same (λ j. weight s split t (maps.edge (x j))) (λ j. count_below (p j) n) k (λ j m. weight_is s split t (x j) (are.within j m)) in
     let h_passes : q h ≡ true = ap (below s split t f) h_in ∙ below_itself s split t f in
     let less : sum_below (λ j. count_below (p j) n) k + 1 ≤ count_below q n =
-    disjoint_counts_less p q k n h l h_passes (λ j z m z_in. inside j z m z_in) (λ j m. left_out j m) (λ i j z i_j m z_in. apart i j z i_j m z_in) in
+    disjoint_counts_less p q k n h l h_passes (λ j z m z_in. inside j z m z_in) (λ j m. left_out j m)
+    (λ i j z i_j m z_in. apart i j z i_j m z_in) in
     omega (arith, counted, less, weight_some s split t (maps.edge h) f is)
   where
     maps : Rotations
@@ -126,14 +138,17 @@ weights_fall s split o t f h k x l h_in is are =
         (λ same. are.beside j m (one_below s split o t (x j) h f (are.within j m) l (are.inside j m) h_in is
         (t.child_faces.once ((rotations_of s).edge (x j)) ((rotations_of s).edge h) f (below_x ∙ ap Some same) is)))
 
-    inside : (j z : ℕ) → j < k → z < darts_of s → hangs_at s split t (child_face (rotations_of s) split ((rotations_of s).edge (x j))) (x j) z ≡ true
+    inside : (j z : ℕ) → j < k → z < darts_of s → hangs_at s split t (child_face (rotations_of s) split ((rotations_of s).edge (x j))) (x j)
+        z ≡ true
         → below s split t f ((rotations_of s).face z) ≡ true
     inside j z m z_in = by (child_face (rotations_of s) split ((rotations_of s).edge (x j))) refl
       where
         by : (c : Option ℕ) → child_face (rotations_of s) split ((rotations_of s).edge (x j)) ≡ c → hangs_at s split t c (x j) z ≡ true
             → below s split t f ((rotations_of s).face z) ≡ true
-        by None _ hit = ap (λ (d : ℕ). below s split t f ((rotations_of s).face d)) (eqb-true z (x j) hit) ∙ ap (below s split t f) (are.inside j m) ∙ below_itself s split t f
-        by (Some c) below_x hit = below_higher s split o t c f ((rotations_of s).face z) (up j c m below_x) ((names_all s o).face_below z z_in) hit
+        by None _ hit = ap (λ (d : ℕ). below s split t f ((rotations_of s).face d)) (eqb-true z (x j) hit)
+            ∙ ap (below s split t f) (are.inside j m) ∙ below_itself s split t f
+        by (Some c) below_x hit = below_higher s split o t c f ((rotations_of s).face z) (up j c m below_x)
+            ((names_all s o).face_below z z_in) hit
 
     left_out : (j : ℕ) → j < k → hangs_at s split t (child_face (rotations_of s) split ((rotations_of s).edge (x j))) (x j) h ≡ true → ⊥
     left_out j m = by (child_face (rotations_of s) split ((rotations_of s).edge (x j))) refl
@@ -149,21 +164,25 @@ weights_fall s split o t f h k x l h_in is are =
         not_above s split o t c f (up j c m_j below_x)
         (ap (below s split t c) (sym (ap (rotations_of s).face same ∙ are.inside i m_i)) ∙ hit)
 
-    apart : (i j z : ℕ) → i < j → j < k → z < darts_of s → hangs_at s split t (child_face (rotations_of s) split ((rotations_of s).edge (x i))) (x i) z ≡ true
+    apart : (i j z : ℕ) → i < j → j < k → z < darts_of s
+        → hangs_at s split t (child_face (rotations_of s) split ((rotations_of s).edge (x i))) (x i) z ≡ true
         → hangs_at s split t (child_face (rotations_of s) split ((rotations_of s).edge (x j))) (x j) z ≡ true → ⊥
-    apart i j z i_j m z_in = by (child_face (rotations_of s) split ((rotations_of s).edge (x i))) (child_face (rotations_of s) split ((rotations_of s).edge (x j))) refl refl
+    apart i j z i_j m z_in = by (child_face (rotations_of s) split ((rotations_of s).edge (x i)))
+        (child_face (rotations_of s) split ((rotations_of s).edge (x j))) refl refl
       where
         m_i : i < k
         m_i = omega arith
 
-        by : (c d : Option ℕ) → child_face (rotations_of s) split ((rotations_of s).edge (x i)) ≡ c → child_face (rotations_of s) split ((rotations_of s).edge (x j)) ≡ d
+        by : (c d : Option ℕ) → child_face (rotations_of s) split ((rotations_of s).edge (x i)) ≡ c
+            → child_face (rotations_of s) split ((rotations_of s).edge (x j)) ≡ d
             → hangs_at s split t c (x i) z ≡ true → hangs_at s split t d (x j) z ≡ true → ⊥
         by None None _ _ a b = are.apart i j i_j m (sym (eqb-true z (x i) a) ∙ eqb-true z (x j) b)
         by None (Some d) _ below_j a b = not_lower i j d z m_i m below_j (eqb-true z (x i) a) b
         by (Some c) None below_i _ a b = not_lower j i c z m m_i below_i (eqb-true z (x j) b) a
         by (Some c) (Some d) below_i below_j a b =
             let same : c ≡ d =
-            below_once s split o t c d f ((rotations_of s).face z) (up i c m_i below_i) (up j d m below_j) ((names_all s o).face_below z z_in) a b in
+            below_once s split o t c d f ((rotations_of s).face z) (up i c m_i below_i) (up j d m below_j)
+            ((names_all s o).face_below z z_in) a b in
             let edges : (rotations_of s).edge (x i) ≡ (rotations_of s).edge (x j) =
             t.child_faces.once ((rotations_of s).edge (x i)) ((rotations_of s).edge (x j)) d (below_i ∙ ap Some same) below_j in
             elim (((rotation_system s o).edges (x i) (x j) (are.within i m_i) (are.within j m)).0 edges) [

@@ -13,9 +13,10 @@ use Rattle.tree_cotree.specs.Splits.{SplitView, IsSplit}
 use Rattle.polygon_cut.specs.Polygons.{PolygonView, IsCutFrom}
 use Rattle.polygon_cut.specs.SpokeLoops.{AreWaysUp, backward, by_loop, dart_loop, last_side, last_side_loop, path_loop, put_behind, spoke_loop}
 use Rattle.polygon_cut.proofs.FreeLawLemmas.{by_own_loop, root_is, side_in}
-use Rattle.polygon_cut.proofs.FreeLoopLemmas.{SameFreely, freely_itself, freely_on, freely_back, freely_behind, freely_before, freely_there, freely_to_loops, loops_make_a_free_group}
+use Rattle.polygon_cut.proofs.CongruenceLemmas.{before, behind, home_and_there, to_loops}
+use Rattle.polygon_cut.proofs.FreeLoopLemmas.{SameFreely, loops_make_a_free_group, free_equality}
 use Rattle.polygon_cut.proofs.FreeWayLemmas.{put_in}
-use Rattle.polygon_cut.proofs.LoopLemmas.{IsWay, HasWays, Loop, loop_mul, loop_inv, loop_of, append_none, back, start_used, end_used, way_home, way_on, way_walk}
+use Rattle.polygon_cut.proofs.WayLemmas.{IsWay, HasWays, Loop, loop_mul, loop_inv, loop_of, append_none, back, start_used, end_used, way_home, way_on, way_walk}
 use Rattle.polygon_cut.proofs.RelatorLemmas.{loop_in}
 use Rattle.polygon_cut.proofs.TreeWayLemmas.{up, up_path}
 use Rattle.move_lifting.specs.Lifts.{LeadsAtPeak}
@@ -29,11 +30,13 @@ use Rattle.move_lifting.proofs.BackLemmas.{backward_is}
 use Rattle.move_lifting.proofs.TreeUpLemmas.{own_ways}
 
 -- The walks of spokes go the way of their loops, up to spurs.
-piece : (s : OrientedMesh) (split : SplitView) → IsOrientedSurface s → (t : IsSplit s split) → (polygon : PolygonView) → IsCutFrom s split polygon → 0 < polygon.degree
+piece : (s : OrientedMesh) (split : SplitView) → IsOrientedSurface s → (t : IsSplit s split) → (polygon : PolygonView)
+    → IsCutFrom s split polygon → 0 < polygon.degree
     → (ways : ℕ → List ℕ) → AreWaysUp s split t.parents.root ways → (i : ℕ) (walk : List ℕ) → IsSpokeWalk s split polygon i walk
     → (AreFreelyEqual s.mesh (t.parents.root ∷ spoke_loop s polygon t.parents.root ways i) (t.parents.root ∷ along_or_back true walk)
     × IsWay s.mesh t.parents.root t.parents.root (along_or_back true walk))
-    × (AreFreelyEqual s.mesh (t.parents.root ∷ backward t.parents.root (spoke_loop s polygon t.parents.root ways i)) (t.parents.root ∷ along_or_back false walk)
+    × (AreFreelyEqual s.mesh (t.parents.root ∷ backward t.parents.root (spoke_loop s polygon t.parents.root ways i))
+    (t.parents.root ∷ along_or_back false walk)
     × IsWay s.mesh t.parents.root t.parents.root (along_or_back false walk))
 piece s split o t polygon c some ways h i walk is =
     let root : ℕ = t.parents.root in
@@ -58,56 +61,69 @@ piece s split o t polygon c some ways h i walk is =
       ),
     )
 
-front_free : (s : OrientedMesh) (split : SplitView) → IsOrientedSurface s → (t : IsSplit s split) → (polygon : PolygonView) → IsCutFrom s split polygon → 0 < polygon.degree
-    → (ways : ℕ → List ℕ) → AreWaysUp s split t.parents.root ways → (walks : List (List ℕ)) → AreSpokeWalks s split polygon polygon.degree walks
+front_free : (s : OrientedMesh) (split : SplitView) → IsOrientedSurface s → (t : IsSplit s split) → (polygon : PolygonView)
+    → IsCutFrom s split polygon → 0 < polygon.degree
+    → (ways : ℕ → List ℕ) → AreWaysUp s split t.parents.root ways → (walks : List (List ℕ))
+    → AreSpokeWalks s split polygon polygon.degree walks
     → (along : Bool) (path : List ℕ) → All (λ i. i < polygon.degree) path
-    → AreFreelyEqual s.mesh (t.parents.root ∷ path_loop s polygon t.parents.root ways along path) (t.parents.root ∷ walks_loop walks along path)
-front_free s split o t polygon c some ways h walks all along [] below = freely_itself s.mesh (t.parents.root ∷ [])
+    → AreFreelyEqual s.mesh (t.parents.root ∷ path_loop s polygon t.parents.root ways along path)
+    (t.parents.root ∷ walks_loop walks along path)
+front_free s split o t polygon c some ways h walks all along [] below = (free_equality s.mesh).itself (t.parents.root ∷ [])
 front_free s split o t polygon c some ways h walks all true (i ∷ path) below =
     let root : ℕ = t.parents.root in
     let one = (piece s split o t polygon c some ways h i (get_or walks i []) (all.each i (below 0 i (omega arith)))).0 in
     let rest = front_free s split o t polygon c some ways h walks all false path (λ k d l. below (suc k) d (omega arith)) in
     let first : List ℕ = along_or_back true (get_or walks i []) in
     let more : List ℕ = path_loop s polygon root ways false path in
-    freely_on s.mesh (root ∷ (spoke_loop s polygon root ways i ++ more)) (root ∷ (first ++ more)) (root ∷ (first ++ walks_loop walks false path))
-    (freely_before s.mesh root (spoke_loop s polygon root ways i) first more one.0)
-    (freely_behind s.mesh root root first more (walks_loop walks false path) one.1 rest)
+    (free_equality s.mesh).on (root ∷ (spoke_loop s polygon root ways i ++ more)) (root ∷ (first ++ more))
+    (root ∷ (first ++ walks_loop walks false path))
+    (before (free_equality s.mesh) root (spoke_loop s polygon root ways i) first more one.0)
+    (behind (free_equality s.mesh) root root first more (walks_loop walks false path) one.1 rest)
 front_free s split o t polygon c some ways h walks all false (i ∷ path) below =
     let root : ℕ = t.parents.root in
     let one = (piece s split o t polygon c some ways h i (get_or walks i []) (all.each i (below 0 i (omega arith)))).1 in
     let rest = front_free s split o t polygon c some ways h walks all true path (λ k d l. below (suc k) d (omega arith)) in
     let first : List ℕ = along_or_back false (get_or walks i []) in
     let more : List ℕ = path_loop s polygon root ways true path in
-    freely_on s.mesh (root ∷ (backward root (spoke_loop s polygon root ways i) ++ more)) (root ∷ (first ++ more)) (root ∷ (first ++ walks_loop walks true path))
-    (freely_before s.mesh root (backward root (spoke_loop s polygon root ways i)) first more one.0)
-    (freely_behind s.mesh root root first more (walks_loop walks true path) one.1 rest)
+    (free_equality s.mesh).on (root ∷ (backward root (spoke_loop s polygon root ways i) ++ more)) (root ∷ (first ++ more))
+    (root ∷ (first ++ walks_loop walks true path))
+    (before (free_equality s.mesh) root (backward root (spoke_loop s polygon root ways i)) first more one.0)
+    (behind (free_equality s.mesh) root root first more (walks_loop walks true path) one.1 rest)
 
 -- a loop, up the tree before it and down the tree behind it
-whole_way : (mesh : FaceList) (root : ℕ) (ways : ℕ → List ℕ) (w : HasWays mesh root ways) (u v : ℕ) (loop : Loop mesh root) → IsTrue (is_used mesh u) → IsTrue (is_used mesh v)
+whole_way : (mesh : FaceList) (root : ℕ) (ways : ℕ → List ℕ) (w : HasWays mesh root ways) (u v : ℕ) (loop : Loop mesh root)
+    → IsTrue (is_used mesh u) → IsTrue (is_used mesh v)
     → IsWay mesh u v (ways u ++ (loop.rest ++ back v (ways v)))
 whole_way mesh root ways w u v loop u_used v_used =
     way_on mesh u root v (ways u) (loop.rest ++ back v (ways v)) (w.way u u_used)
     (way_on mesh root root v loop.rest (back v (ways v)) loop.is_way (way_home mesh v root (ways v) (w.way v v_used)))
 
 -- its loop is that loop
-own_loop : (mesh : FaceList) (root : ℕ) (ways : ℕ → List ℕ) (w : HasWays mesh root ways) (u v : ℕ) (loop : Loop mesh root) (k : IsWay mesh u v (ways u ++ (loop.rest ++ back v (ways v))))
+own_loop : (mesh : FaceList) (root : ℕ) (ways : ℕ → List ℕ) (w : HasWays mesh root ways) (u v : ℕ) (loop : Loop mesh root)
+    (k : IsWay mesh u v (ways u ++ (loop.rest ++ back v (ways v))))
     → SameFreely (loop_of mesh root ways w u v (ways u ++ (loop.rest ++ back v (ways v))) k) loop
 own_loop mesh root ways w u v loop k =
     let u_way : IsWay mesh u root (ways u) = w.way u (start_used mesh u v (ways u ++ (loop.rest ++ back v (ways v))) k) in
     let v_way : IsWay mesh v root (ways v) = w.way v (end_used mesh u v (ways u ++ (loop.rest ++ back v (ways v))) k) in
     let down : List ℕ = back u (ways u) in
     let home : List ℕ = back v (ways v) in
-    let shape : down ++ ((ways u ++ (loop.rest ++ home)) ++ ways v) ≡ (down ++ ways u) ++ (loop.rest ++ (home ++ ways v)) = simp append_assoc in
-    let front : AreFreelyEqual mesh (root ∷ ((down ++ ways u) ++ (loop.rest ++ (home ++ ways v)))) (root ∷ (loop.rest ++ (home ++ ways v))) =
-    freely_before mesh root (down ++ ways u) [] (loop.rest ++ (home ++ ways v)) (freely_there mesh u root (ways u) u_way) in
+    let shape : down ++ ((ways u ++ (loop.rest ++ home)) ++ ways v) ≡ (down ++ ways u) ++ (loop.rest ++ (home ++ ways v)) =
+    simp append_assoc in
+    let front : AreFreelyEqual mesh (root ∷ ((down ++ ways u) ++ (loop.rest ++ (home ++ ways v)))) (root ∷ (loop.rest ++ (home ++ ways v)))
+    =
+    before (free_equality mesh) root (down ++ ways u) [] (loop.rest ++ (home ++ ways v))
+    (home_and_there (free_equality mesh) u root (ways u) u_way) in
     let end : AreFreelyEqual mesh (root ∷ (loop.rest ++ (home ++ ways v))) (root ∷ loop.rest) =
     subst (λ (l : List ℕ). AreFreelyEqual mesh (root ∷ (loop.rest ++ (home ++ ways v))) (root ∷ l)) (append_none loop.rest)
-    (freely_behind mesh root root loop.rest (home ++ ways v) [] loop.is_way (freely_there mesh v root (ways v) v_way)) in
+    (behind (free_equality mesh) root root loop.rest (home ++ ways v) [] loop.is_way
+    (home_and_there (free_equality mesh) v root (ways v) v_way)) in
     subst (λ (l : List ℕ). AreFreelyEqual mesh (root ∷ l) (root ∷ loop.rest)) (sym shape)
-    (freely_on mesh (root ∷ ((down ++ ways u) ++ (loop.rest ++ (home ++ ways v)))) (root ∷ (loop.rest ++ (home ++ ways v))) (root ∷ loop.rest) front end)
+    ((free_equality mesh).on (root ∷ ((down ++ ways u) ++ (loop.rest ++ (home ++ ways v)))) (root ∷ (loop.rest ++ (home ++ ways v)))
+    (root ∷ loop.rest) front end)
 
 -- so is that of a walk that spur moves lead to it
-loop_by : (mesh : FaceList) (root : ℕ) (ways : ℕ → List ℕ) (w : HasWays mesh root ways) (u v : ℕ) (rest : List ℕ) (loop : Loop mesh root) (k : IsWay mesh u v rest)
+loop_by : (mesh : FaceList) (root : ℕ) (ways : ℕ → List ℕ) (w : HasWays mesh root ways) (u v : ℕ) (rest : List ℕ) (loop : Loop mesh root)
+    (k : IsWay mesh u v rest)
     → AreFreelyEqual mesh (u ∷ rest) (by_loop ways u v loop.rest) → SameFreely (loop_of mesh root ways w u v rest k) loop
 loop_by mesh root ways w u v rest loop k free =
     let g = loops_make_a_free_group mesh root w.root_used in
@@ -115,12 +131,15 @@ loop_by mesh root ways w u v rest loop k free =
     let way : IsWay mesh u v whole = whole_way mesh root ways w u v loop (start_used mesh u v rest k) (end_used mesh u v rest k) in
     let own : AreFreelyEqual mesh (u ∷ rest) (u ∷ whole) =
     subst (λ (l : List ℕ). AreFreelyEqual mesh (u ∷ rest) (u ∷ (ways u ++ (loop.rest ++ l)))) (backward_is v (ways v)) free in
-    g.on (loop_of mesh root ways w u v rest k) (loop_of mesh root ways w u v whole way) loop (freely_to_loops mesh root ways w u v rest whole k way own)
+    g.on (loop_of mesh root ways w u v rest k) (loop_of mesh root ways w u v whole way) loop
+    (to_loops (free_equality mesh) w u v rest whole k way own)
     (own_loop mesh root ways w u v loop way)
 
 -- the loop of the last side, or the way back along it
-signed : (s : OrientedMesh) (split : SplitView) → IsOrientedSurface s → (t : IsSplit s split) → (polygon : PolygonView) → IsCutFrom s split polygon → 0 < polygon.degree
-    → (ways : ℕ → List ℕ) → AreWaysUp s split t.parents.root ways → (back_too : Bool) → IsWay s.mesh t.parents.root t.parents.root (signed_loop s polygon t.parents.root ways back_too)
+signed : (s : OrientedMesh) (split : SplitView) → IsOrientedSurface s → (t : IsSplit s split) → (polygon : PolygonView)
+    → IsCutFrom s split polygon → 0 < polygon.degree
+    → (ways : ℕ → List ℕ) → AreWaysUp s split t.parents.root ways → (back_too : Bool)
+    → IsWay s.mesh t.parents.root t.parents.root (signed_loop s polygon t.parents.root ways back_too)
 signed s split o t polygon c some ways h back_too = by back_too
   where
     root : ℕ
@@ -130,15 +149,19 @@ signed s split o t polygon c some ways h back_too = by back_too
     forth =
         let z : ℕ = polygon.degree - 1 in
         way_on s.mesh root root root (dart_loop s ways (last_side polygon)) (path_loop s polygon root ways true (0 ∷ z ∷ []))
-        (dart_loop_way s split o t ways h (last_side polygon) (side_in s split polygon c some z)) (path_way s split o t polygon c some ways h true (0 ∷ z ∷ []))
+        (dart_loop_way s split o t ways h (last_side polygon) (side_in s split polygon c some z))
+        (path_way s split o t polygon c some ways h true (0 ∷ z ∷ []))
 
     by : (b : Bool) → IsWay s.mesh root root (signed_loop s polygon root ways b)
-    by true = subst (IsWay s.mesh root root) (sym (backward_is root (last_side_loop s polygon root ways))) (way_home s.mesh root root (last_side_loop s polygon root ways) forth)
+    by true = subst (IsWay s.mesh root root) (sym (backward_is root (last_side_loop s polygon root ways)))
+        (way_home s.mesh root root (last_side_loop s polygon root ways) forth)
     by false = forth
 
 -- The loop is put in where the approach leads.
-put_in_there : (s : OrientedMesh) (split : SplitView) → IsOrientedSurface s → (t : IsSplit s split) → (polygon : PolygonView) → IsCutFrom s split polygon → 0 < polygon.degree
-    → (ways : ℕ → List ℕ) → AreWaysUp s split t.parents.root ways → (front path : List ℕ) (against : Bool) (x y : ℕ) (there turn more new : List ℕ)
+put_in_there : (s : OrientedMesh) (split : SplitView) → IsOrientedSurface s → (t : IsSplit s split) → (polygon : PolygonView)
+    → IsCutFrom s split polygon → 0 < polygon.degree
+    → (ways : ℕ → List ℕ) → AreWaysUp s split t.parents.root ways
+    → (front path : List ℕ) (against : Bool) (x y : ℕ) (there turn more new : List ℕ)
     → IsWay s.mesh x y there → IsWay s.mesh y y turn → IsWay s.mesh x x more
     → AreFreelyEqual s.mesh (by_loop ways x y (path_loop s polygon t.parents.root ways true front)) (x ∷ there)
     → AreFreelyEqual s.mesh (y ∷ turn) (by_loop ways y y (signed_loop s polygon t.parents.root ways against))
@@ -153,15 +176,27 @@ put_in_there s split o t polygon c some ways h front path against x y there turn
     let mesh : FaceList = s.mesh in
     let w : HasWays mesh root ways = has_ways s split o t ways h in
     let g = loops_make_a_free_group mesh root w.root_used in
-    let f : Loop mesh root = record { rest = path_loop s polygon root ways true front; is_way = path_way s split o t polygon c some ways h true front } in
-    let z : Loop mesh root = record { rest = signed_loop s polygon root ways against; is_way = signed s split o t polygon c some ways h against } in
-    let p : Loop mesh root = record { rest = path_loop s polygon root ways true path; is_way = path_way s split o t polygon c some ways h true path } in
+    let f : Loop mesh root = record {
+      rest = path_loop s polygon root ways true front;
+      is_way = path_way s split o t polygon c some ways h
+          true front;
+    } in
+    let z : Loop mesh root = record {
+      rest = signed_loop s polygon root ways against;
+      is_way = signed s split o t polygon c some ways h against;
+    } in
+    let p : Loop mesh root = record {
+      rest = path_loop s polygon root ways true path;
+      is_way = path_way s split o t polygon c some ways h
+          true path;
+    } in
     let x_used : IsTrue (is_used mesh x) = start_used mesh x y there there_way in
     let y_used : IsTrue (is_used mesh y) = end_used mesh x y there there_way in
     let out : IsWay mesh x y (ways x ++ (f.rest ++ backward y (ways y))) =
-    subst (λ (k : List ℕ). IsWay mesh x y (ways x ++ (f.rest ++ k))) (sym (backward_is y (ways y))) (whole_way mesh root ways w x y f x_used y_used) in
+    subst (λ (k : List ℕ). IsWay mesh x y (ways x ++ (f.rest ++ k))) (sym (backward_is y (ways y)))
+    (whole_way mesh root ways w x y f x_used y_used) in
     let there_free : AreFreelyEqual mesh (x ∷ there) (by_loop ways x y f.rest) =
-    freely_back mesh (by_loop ways x y f.rest) (x ∷ there) (way_walk mesh x y (ways x ++ (f.rest ++ backward y (ways y))) out) a in
+    (free_equality mesh).turn (by_loop ways x y f.rest) (x ∷ there) (way_walk mesh x y (ways x ++ (f.rest ++ backward y (ways y))) out) a in
     let there_loop : Loop mesh root = loop_of mesh root ways w x y there there_way in
     let turn_loop : Loop mesh root = loop_of mesh root ways w y y turn turn_way in
     let more_loop : Loop mesh root = loop_of mesh root ways w x x more more_way in
@@ -171,7 +206,8 @@ put_in_there s split o t polygon c some ways h front path against x y there turn
     let rest : List ℕ = there ++ (turn ++ (back x there ++ more)) in
     let rest_way : IsWay mesh x x rest =
     way_on mesh x y x there (turn ++ (back x there ++ more)) there_way
-    (way_on mesh y y x turn (back x there ++ more) turn_way (way_on mesh y x x (back x there) more (way_home mesh x y there there_way) more_way)) in
+    (way_on mesh y y x turn (back x there ++ more) turn_way (way_on mesh y x x (back x there) more (way_home mesh x y there there_way)
+    more_way)) in
     let inner : Loop mesh root = loop_in loop_mul loop_inv there_loop turn_loop more_loop in
     let outer : Loop mesh root = loop_in loop_mul loop_inv f z p in
     let inverse : SameFreely (loop_inv there_loop) (loop_inv f) = g.inv_same there_loop f there_is in
@@ -180,22 +216,27 @@ put_in_there s split o t polygon c some ways h front path against x y there turn
     let both : SameFreely (loop_mul turn_loop (loop_mul (loop_inv there_loop) more_loop)) (loop_mul z (loop_mul (loop_inv f) p)) =
     g.mul_same turn_loop z (loop_mul (loop_inv there_loop) more_loop) (loop_mul (loop_inv f) p) turn_is last in
     let all : SameFreely inner outer =
-    g.mul_same there_loop f (loop_mul turn_loop (loop_mul (loop_inv there_loop) more_loop)) (loop_mul z (loop_mul (loop_inv f) p)) there_is both in
+    g.mul_same there_loop f (loop_mul turn_loop (loop_mul (loop_inv there_loop) more_loop)) (loop_mul z (loop_mul (loop_inv f) p)) there_is
+    both in
     let worth : SameFreely (loop_of mesh root ways w x x rest rest_way) outer =
-    g.on (loop_of mesh root ways w x x rest rest_way) inner outer (put_in mesh root ways w x y x there turn more there_way turn_way more_way rest_way) all in
-    let by_outer : AreFreelyEqual mesh (x ∷ rest) (x ∷ (ways x ++ (outer.rest ++ back x (ways x)))) = by_own_loop mesh root ways w x x rest rest_way outer worth in
+    g.on (loop_of mesh root ways w x x rest rest_way) inner outer (put_in mesh root ways w x y x there turn more there_way turn_way more_way
+    rest_way) all in
+    let by_outer : AreFreelyEqual mesh (x ∷ rest) (x ∷ (ways x ++ (outer.rest ++ back x (ways x)))) =
+    by_own_loop mesh root ways w x x rest rest_way outer worth in
     let shape : x ∷ (ways x ++ (outer.rest ++ back x (ways x))) ≡ by_loop ways x x (put_behind root f.rest z.rest p.rest) =
     ap (λ (k : List ℕ). x ∷ (ways x ++ ((f.rest ++ (z.rest ++ (k ++ p.rest))) ++ back x (ways x)))) (sym (backward_is root f.rest))
     ∙ ap (λ (k : List ℕ). x ∷ (ways x ++ (put_behind root f.rest z.rest p.rest ++ k))) (sym (backward_is x (ways x))) in
     let own : AreFreelyEqual mesh (x ∷ rest) new =
     subst (λ (k : List ℕ). AreFreelyEqual mesh (x ∷ (there ++ (turn ++ (k ++ more)))) new) (backward_is x there) n in
-    freely_on mesh new (x ∷ rest) (by_loop ways x x (put_behind root f.rest z.rest p.rest))
-    (freely_back mesh (x ∷ rest) new (way_walk mesh x x rest rest_way) own) (subst (AreFreelyEqual mesh (x ∷ rest)) shape by_outer)
+    (free_equality mesh).on new (x ∷ rest) (by_loop ways x x (put_behind root f.rest z.rest p.rest))
+    ((free_equality mesh).turn (x ∷ rest) new (way_walk mesh x x rest rest_way) own) (subst (AreFreelyEqual mesh (x ∷ rest)) shape by_outer)
 
 -- the way along the walks is the way along the loops, up the tree before it and down the tree behind it
-approach_free : (s : OrientedMesh) (split : SplitView) → IsOrientedSurface s → (t : IsSplit s split) → (polygon : PolygonView) → IsCutFrom s split polygon
+approach_free : (s : OrientedMesh) (split : SplitView) → IsOrientedSurface s → (t : IsSplit s split) → (polygon : PolygonView)
+    → IsCutFrom s split polygon
     → 0 < polygon.degree → (ways : ℕ → List ℕ) → AreWaysUp s split t.parents.root ways → (walks : List (List ℕ))
-    → AreSpokeWalks s split polygon polygon.degree walks → (front : List ℕ) → All (λ i. i < polygon.degree) front → (x y : ℕ) (walk : List ℕ) → IsTrue (is_used s.mesh x)
+    → AreSpokeWalks s split polygon polygon.degree walks → (front : List ℕ) → All (λ i. i < polygon.degree) front
+    → (x y : ℕ) (walk : List ℕ) → IsTrue (is_used s.mesh x)
     → AreFreelyEqual s.mesh (by_loop ways x y (walks_loop walks true front)) walk
     → AreFreelyEqual s.mesh (by_loop ways x y (path_loop s polygon t.parents.root ways true front)) walk
 approach_free s split o t polygon c some ways h walks all front below x y walk used free =
@@ -203,45 +244,56 @@ approach_free s split o t polygon c some ways h walks all front below x y walk u
     let path : List ℕ = path_loop s polygon root ways true front in
     let laid : List ℕ = walks_loop walks true front in
     let down : List ℕ = backward y (ways y) in
-    freely_on s.mesh (by_loop ways x y path) (by_loop ways x y laid) walk
-    (freely_behind s.mesh x root (ways x) (path ++ down) (laid ++ down) ((has_ways s split o t ways h).way x used)
-    (freely_before s.mesh root path laid down (front_free s split o t polygon c some ways h walks all true front below)))
+    (free_equality s.mesh).on (by_loop ways x y path) (by_loop ways x y laid) walk
+    (behind (free_equality s.mesh) x root (ways x) (path ++ down) (laid ++ down) ((has_ways s split o t ways h).way x used)
+    (before (free_equality s.mesh) root path laid down (front_free s split o t polygon c some ways h walks all true front below)))
     free
 
 -- the approach is a way
-pub approach_goes : (s : OrientedMesh) (split : SplitView) → IsOrientedSurface s → (t : IsSplit s split) → (polygon : PolygonView) → IsCutFrom s split polygon
-    → 0 < polygon.degree → (walks : List (List ℕ)) → AreSpokeWalks s split polygon polygon.degree walks → (front : List ℕ) → All (λ i. i < polygon.degree) front
+pub approach_goes : (s : OrientedMesh) (split : SplitView) → IsOrientedSurface s → (t : IsSplit s split) → (polygon : PolygonView)
+    → IsCutFrom s split polygon
+    → 0 < polygon.degree → (walks : List (List ℕ)) → AreSpokeWalks s split polygon polygon.degree walks → (front : List ℕ)
+    → All (λ i. i < polygon.degree) front
     → (x y : ℕ) (walk : List ℕ) → IsTrue (is_used s.mesh x) → IsTrue (is_used s.mesh y)
-    → ((root : ℕ) (ways : ℕ → List ℕ) → AreWaysUp s split root ways → AreFreelyEqual s.mesh (by_loop ways x y (walks_loop walks true front)) walk)
+    → ((root : ℕ) (ways : ℕ → List ℕ) → AreWaysUp s split root ways
+    → AreFreelyEqual s.mesh (by_loop ways x y (walks_loop walks true front)) walk)
     → GoesFrom s.mesh x y walk
 approach_goes s split o t polygon c some walks all front below x y walk x_used y_used free =
     let root : ℕ = t.parents.root in
     let ways : ℕ → List ℕ = up s split t in
     let h : AreWaysUp s split root ways = λ v used. up_path s split t v used in
     let w : HasWays s.mesh root ways = has_ways s split o t ways h in
-    let loop : Loop s.mesh root = record { rest = path_loop s polygon root ways true front; is_way = path_way s split o t polygon c some ways h true front } in
+    let loop : Loop s.mesh root = record {
+      rest = path_loop s polygon root ways true front;
+      is_way = path_way s split o t polygon c some ways h true front;
+    } in
     let way : IsWay s.mesh x y (ways x ++ (loop.rest ++ backward y (ways y))) =
-    subst (λ (k : List ℕ). IsWay s.mesh x y (ways x ++ (loop.rest ++ k))) (sym (backward_is y (ways y))) (whole_way s.mesh root ways w x y loop x_used y_used) in
+    subst (λ (k : List ℕ). IsWay s.mesh x y (ways x ++ (loop.rest ++ k))) (sym (backward_is y (ways y)))
+    (whole_way s.mesh root ways w x y loop x_used y_used) in
     free_way s.mesh x y (ways x ++ (loop.rest ++ backward y (ways y))) walk way
     (approach_free s split o t polygon c some ways h walks all front below x y walk x_used (free root ways h))
 
 -- the loop of the last side is put in
-pub loop_put_in : (s : OrientedMesh) (split : SplitView) → IsOrientedSurface s → (t : IsSplit s split) → (polygon : PolygonView) → IsCutFrom s split polygon
+pub loop_put_in : (s : OrientedMesh) (split : SplitView) → IsOrientedSurface s → (t : IsSplit s split) → (polygon : PolygonView)
+    → IsCutFrom s split polygon
     → 0 < polygon.degree → (walks : List (List ℕ)) → AreSpokeWalks s split polygon polygon.degree walks → (turn : Lifted) (against : Bool)
-    → IsLastLoop s split polygon against turn → (front : List ℕ) → All (λ i. i < polygon.degree) front → (walk approach new : List ℕ) (y : ℕ)
+    → IsLastLoop s split polygon against turn → (front : List ℕ) → All (λ i. i < polygon.degree) front
+    → (walk approach new : List ℕ) (y : ℕ)
     → y ≡ origin_of s (last_side polygon) → IsTrue (is_used s.mesh y) → IsWalk s.mesh walk → last_of walk ≡ get_or walk 0 0
     → ((root : ℕ) (ways : ℕ → List ℕ) → AreWaysUp s split root ways
     → AreFreelyEqual s.mesh (by_loop ways (get_or walk 0 0) y (walks_loop walks true front)) approach)
     → (IsWalk s.mesh approach
     → AreFreelyEqual s.mesh (get_or walk 0 0 ∷ put_behind (get_or walk 0 0) (drop 1 approach) (drop 1 turn.walk) (drop 1 walk)) new)
     → HasLoopIn s split polygon front against walk new
-loop_put_in s split o t polygon c some walks all turn against last front below walk approach new y y_is y_used w closed free put root ways path h path_below old =
+loop_put_in s split o t polygon c some walks all turn against last front below walk approach new y y_is y_used w closed free put root ways
+    path h path_below old =
     let x : ℕ = get_or walk 0 0 in
     let own : AreWaysUp s split t.parents.root ways = own_ways s split o t root ways h in
     let same : t.parents.root ≡ root = root_is s split o t root ways h in
     let here : GoesFrom s.mesh x (last_of walk) walk = walk_goes s.mesh walk w in
     let x_used : IsTrue (is_used s.mesh x) = start_used s.mesh x (last_of walk) here.rest here.way in
-    let there : GoesFrom s.mesh x y approach = approach_goes s split o t polygon c some walks all front below x y approach x_used y_used free in
+    let there : GoesFrom s.mesh x y approach = approach_goes s split o t polygon c some walks all front below x y approach x_used y_used
+    free in
     let round : GoesFrom s.mesh y y turn.walk =
     turn_goes_home s.mesh y turn.walk turn.moves.moves y_used
     (subst (λ (v : ℕ). apply_all s.mesh (v ∷ []) turn.moves.moves ≡ Some turn.walk) (sym y_is) last.leads.leads) in
@@ -254,23 +306,28 @@ loop_put_in s split o t polygon c some walks all turn against last front below w
     (approach_free s split o t polygon c some ways own walks all front below x y approach x_used (free t.parents.root ways own)) in
     let turned : AreFreelyEqual s.mesh (y ∷ round.rest) (by_loop ways y y (signed_loop s polygon t.parents.root ways against)) =
     subst (λ (l : List ℕ). AreFreelyEqual s.mesh l (by_loop ways y y (signed_loop s polygon t.parents.root ways against))) round.walk_is
-    (subst (λ (v : ℕ). AreFreelyEqual s.mesh turn.walk (by_loop ways v v (signed_loop s polygon t.parents.root ways against))) (sym y_is) (last.freely t.parents.root ways own)) in
+    (subst (λ (v : ℕ). AreFreelyEqual s.mesh turn.walk (by_loop ways v v (signed_loop s polygon t.parents.root ways against))) (sym y_is)
+    (last.freely t.parents.root ways own)) in
     let begun : AreFreelyEqual s.mesh (x ∷ here.rest) (by_loop ways x x (path_loop s polygon t.parents.root ways true path)) =
     subst (λ (l : List ℕ). AreFreelyEqual s.mesh l (by_loop ways x x (path_loop s polygon t.parents.root ways true path))) here.walk_is
     (subst (λ (r : ℕ). AreFreelyEqual s.mesh walk (by_loop ways x x (path_loop s polygon r ways true path))) (sym same) old) in
     let made : AreFreelyEqual s.mesh (x ∷ put_behind x there.rest round.rest here.rest) new =
     subst (λ (l : List ℕ). AreFreelyEqual s.mesh (x ∷ put_behind x l round.rest here.rest) new) there_rest
     (subst (λ (l : List ℕ). AreFreelyEqual s.mesh (x ∷ put_behind x (drop 1 approach) l here.rest) new) round_rest
-    (subst (λ (l : List ℕ). AreFreelyEqual s.mesh (x ∷ put_behind x (drop 1 approach) (drop 1 turn.walk) l) new) here_rest (put (goes_walk s.mesh x y approach there)))) in
+    (subst (λ (l : List ℕ). AreFreelyEqual s.mesh (x ∷ put_behind x (drop 1 approach) (drop 1 turn.walk) l) new) here_rest
+    (put (goes_walk s.mesh x y approach there)))) in
     subst
     (λ (r : ℕ).
     AreFreelyEqual s.mesh new
     (by_loop ways x x
-    (put_behind r (path_loop s polygon r ways true front) (signed_loop s polygon r ways against) (path_loop s polygon r ways true path)))) same
-    (put_in_there s split o t polygon c some ways own front path against x y there.rest round.rest here.rest new there.way round.way home out turned begun made)
+    (put_behind r (path_loop s polygon r ways true front) (signed_loop s polygon r ways against) (path_loop s polygon r ways true path))))
+    same
+    (put_in_there s split o t polygon c some ways own front path against x y there.rest round.rest here.rest new there.way round.way home
+    out turned begun made)
 
 -- the loop of the last side that is taken, or the way back along it
-pub picked : (s : OrientedMesh) (split : SplitView) (polygon : PolygonView) (looper : Looper) (against : Bool) (turn : Lifted) → IsLooper s split polygon looper
+pub picked : (s : OrientedMesh) (split : SplitView) (polygon : PolygonView) (looper : Looper) (against : Bool) (turn : Lifted)
+    → IsLooper s split polygon looper
     → turn ≡ (if against then looper.back else looper.forth) → IsLastLoop s split polygon against turn
 picked s split polygon looper true turn l is = subst (IsLastLoop s split polygon true) (sym is) l.back
 picked s split polygon looper false turn l is = subst (IsLastLoop s split polygon false) (sym is) l.forth
@@ -281,16 +338,19 @@ pub record IsReady (mesh : FaceList) (x y : ℕ) (approach : List ℕ) (turn : L
   pub round : GoesFrom mesh y y turn.walk
   pub leads : LeadsAtPeak mesh (last_of approach ∷ []) turn.moves turn.walk
 
-pub is_ready : (s : OrientedMesh) (split : SplitView) → IsOrientedSurface s → (t : IsSplit s split) → (polygon : PolygonView) → IsCutFrom s split polygon
+pub is_ready : (s : OrientedMesh) (split : SplitView) → IsOrientedSurface s → (t : IsSplit s split) → (polygon : PolygonView)
+    → IsCutFrom s split polygon
     → 0 < polygon.degree → (looper : Looper) → IsLooper s split polygon looper → (turn : Lifted) (against : Bool)
-    → turn ≡ (if against then looper.back else looper.forth) → (front : List ℕ) → All (λ i. i < polygon.degree) front → (x y : ℕ) (names read : List VertexName)
+    → turn ≡ (if against then looper.back else looper.forth) → (front : List ℕ) → All (λ i. i < polygon.degree) front
+    → (x y : ℕ) (names read : List VertexName)
     → y ≡ origin_of s (last_side polygon) → IsTrue (is_used s.mesh x) → IsTrue (is_used s.mesh y) → read ≡ names
     → ((root : ℕ) (ways : ℕ → List ℕ) → AreWaysUp s split root ways
     → AreFreelyEqual s.mesh (by_loop ways x y (walks_loop looper.spokes true front)) (numbers names))
     → IsReady s.mesh x y (numbers read) turn
 is_ready s split o t polygon c some looper l turn against is front below x y names read y_is x_used y_used same free =
     let last : IsLastLoop s split polygon against turn = picked s split polygon looper against turn l is in
-    let from_y : LeadsAtPeak s.mesh (y ∷ []) turn.moves turn.walk = subst (λ (v : ℕ). LeadsAtPeak s.mesh (v ∷ []) turn.moves turn.walk) (sym y_is) last.leads in
+    let from_y : LeadsAtPeak s.mesh (y ∷ []) turn.moves turn.walk =
+    subst (λ (v : ℕ). LeadsAtPeak s.mesh (v ∷ []) turn.moves turn.walk) (sym y_is) last.leads in
     let there : GoesFrom s.mesh x y (numbers read) =
     subst (λ (k : List VertexName). GoesFrom s.mesh x y (numbers k)) (sym same)
     (approach_goes s split o t polygon c some looper.spokes l.spokes front below x y (numbers names) x_used y_used free) in

@@ -19,7 +19,8 @@ use Rattle.move_lifting.specs.Tracks.{TrackView, GoesOn, IsStepBack}
 use Rattle.move_lifting.proofs.ListLemmas.{front_and_last, no_spur_front, read_on}
 
 -- the greatest number of darts, with one move more
-pub greatest_darts-push : (mesh : FaceList) (moves : List Move) (first walk next : List ℕ) (move : Move) → apply_all mesh first moves ≡ Some walk
+pub greatest_darts-push : (mesh : FaceList) (moves : List Move) (first walk next : List ℕ) (move : Move)
+    → apply_all mesh first moves ≡ Some walk
     → apply mesh walk move ≡ Some next → greatest_darts mesh first (moves ++ move ∷ []) ≡ max (greatest_darts mesh first moves) (darts next)
 greatest_darts-push mesh [] first walk next move e f =
     let same : first ≡ walk = cc in
@@ -28,7 +29,13 @@ greatest_darts-push mesh [] first walk next move e f =
 greatest_darts-push mesh (one ∷ moves) first walk next move e f =
     let told = first_answer (λ x. apply_all mesh x moves) (apply mesh first one) walk e in
     let rest = greatest_darts-push mesh moves told.0 walk next move told.2 f in
-    omega (arith, rest, greatest_darts-more mesh first told.0 one moves told.1, greatest_darts-more mesh first told.0 one (moves ++ move ∷ []) told.1)
+    omega (
+      arith,
+      rest,
+      greatest_darts-more mesh first told.0 one moves told.1,
+      greatest_darts-more mesh first told.0 one
+          (moves ++ move ∷ []) told.1,
+    )
 
 -- a list of moves that leads at its peak, with one move more
 pub one_more : (mesh : FaceList) (first walk next : List ℕ) (move : Move) (list more : PeakedMoves) → LeadsAtPeak mesh first list walk
@@ -66,7 +73,8 @@ goes_back mesh behind front here via list more is first rest long h =
     let from : front ++ here ∷ [] ++ via.0 ∷ [] ++ here ∷ [] ++ rest ≡ front ++ here ∷ via.0 ∷ here ∷ rest = simp append_assoc in
     let to : front ++ here ∷ rest ≡ front ++ here ∷ [] ++ rest = sym (append_assoc front (here ∷ []) rest) in
     let count : length front + behind ≡ darts (front ++ here ∷ rest) = omega (arith, length-append front (here ∷ rest), long) in
-    let noted : more ≡ record { moves = list.moves ++ Remove (length front) via ∷ []; peak = max list.peak (darts (front ++ here ∷ rest)) } =
+    let noted : more ≡ record { moves = list.moves ++ Remove (length front) via ∷ []; peak = max list.peak (darts (front ++ here ∷ rest)) }
+    =
     subst (λ (n : ℕ). more ≡ record { moves = list.moves ++ Remove (length front) via ∷ []; peak = max list.peak n }) count is in
     subst (LeadsAtPeak mesh first more) to
     (one_more mesh first (front ++ here ∷ via.0 ∷ here ∷ rest) (front ++ here ∷ rest) (Remove (length front) via) list more
@@ -86,8 +94,12 @@ step_back_goes mesh behind next old new some came back =
     let new_is : new.walk ≡ front ++ next ∷ [] = front_and_last new.walk n at ∙ ap (λ (x : ℕ). front ++ x ∷ []) here in
     let old_is : old.walk ≡ front ++ next ∷ [] ++ back.via.0 ∷ [] = back.walk ∙ ap (λ (l : List ℕ). l ++ back.via.0 ∷ []) new_is in
     let front_long : n ≡ length front = sym (length-take-le n new.walk (omega arith)) in
-    let noted : new.list ≡ record { moves = old.list.moves ++ Remove (length front) back.via ∷ []; peak = max old.list.peak (length front + behind) } =
-    subst (λ (k : ℕ). new.list ≡ record { moves = old.list.moves ++ Remove k back.via ∷ []; peak = max old.list.peak (k + behind) }) front_long back.list in
+    let noted : new.list ≡ record {
+      moves = old.list.moves ++ Remove (length front) back.via ∷ [];
+      peak = max old.list.peak (length front + behind);
+    } =
+    subst (λ (k : ℕ). new.list ≡ record { moves = old.list.moves ++ Remove k back.via ∷ []; peak = max old.list.peak (k + behind) })
+    front_long back.list in
     subst (λ (l : List ℕ). GoesOn mesh behind (l ++ next ∷ []) old.list new.walk new.list) (sym old_is)
     (subst (λ (l : List ℕ). GoesOn mesh behind (front ++ next ∷ [] ++ back.via.0 ∷ [] ++ next ∷ []) old.list l new.list) (sym new_is)
     (goes_back mesh behind front next back.via old.list new.list noted))
@@ -95,18 +107,22 @@ step_back_goes mesh behind next old new some came back =
 pub step_back_no_spur : (behind : ℕ) (old new : TrackView) → HasNoSpur old.walk → IsStepBack behind old new → HasNoSpur new.walk
 step_back_no_spur behind old new h back = no_spur_front new.walk (back.via.0 ∷ []) (subst HasNoSpur back.walk h)
 
-pub step_back_removes : (behind : ℕ) (old new : TrackView) → IsStepBack behind old new → All IsRemoval old.list.moves → All IsRemoval new.list.moves
+pub step_back_removes : (behind : ℕ) (old new : TrackView) → IsStepBack behind old new → All IsRemoval old.list.moves
+    → All IsRemoval new.list.moves
 step_back_removes behind old new back h =
-    let moves : new.list.moves ≡ old.list.moves ++ Remove (length old.walk - 2) back.via ∷ [] = ap (λ (l : PeakedMoves). l.moves) back.list in
+    let moves : new.list.moves ≡ old.list.moves ++ Remove (length old.walk - 2) back.via ∷ [] =
+    ap (λ (l : PeakedMoves). l.moves) back.list in
     subst (All IsRemoval) (sym moves) (All-push IsRemoval old.list.moves (Remove (length old.walk - 2) back.via) h tt)
 
 -- no moves lead from a walk to itself
-pub leads_nowhere : (mesh : FaceList) (walk : List ℕ) (list : PeakedMoves) → list ≡ record { moves = []; peak = darts walk } → LeadsAtPeak mesh walk list walk
+pub leads_nowhere : (mesh : FaceList) (walk : List ℕ) (list : PeakedMoves) → list ≡ record { moves = []; peak = darts walk }
+    → LeadsAtPeak mesh walk list walk
 leads_nowhere mesh walk list is =
     subst (λ (l : PeakedMoves). LeadsAtPeak mesh walk l walk) (sym is) (record { leads = refl; peak = sym (greatest_darts-none mesh walk) })
 
 -- the next entry of a walk is put on what is laid of it
-pub goes_along : (mesh : FaceList) (walk old new : List ℕ) (list more : PeakedMoves) (place v behind : ℕ) → GoesOn mesh behind (old ++ v ∷ []) list new more
+pub goes_along : (mesh : FaceList) (walk old new : List ℕ) (list more : PeakedMoves) (place v behind : ℕ)
+    → GoesOn mesh behind (old ++ v ∷ []) list new more
     → place < length walk → get_or walk place 0 ≡ v → length (drop (place + 1) walk) ≡ behind
     → LeadsAtPeak mesh walk list (old ++ drop place walk) → LeadsAtPeak mesh walk more (new ++ drop (place + 1) walk)
 goes_along mesh walk old new list more place v behind goes l is long h =
@@ -117,7 +133,8 @@ pub removals_peak : (mesh : FaceList) (moves : List Move) (first walk : List ℕ
     → apply_all mesh first moves ≡ Some walk → greatest_darts mesh first moves ≡ darts first
 removals_peak mesh [] first walk start all e = greatest_darts-none mesh first
 removals_peak mesh (Insert at via ∷ moves) first walk start all e = absurd (all 0 (Insert at via) (omega arith))
-removals_peak mesh (Across at face corner forward taken ∷ moves) first walk start all e = absurd (all 0 (Across at face corner forward taken) (omega arith))
+removals_peak mesh (Across at face corner forward taken ∷ moves) first walk start all e =
+    absurd (all 0 (Across at face corner forward taken) (omega arith))
 removals_peak mesh (Remove at via ∷ moves) first walk start all e =
     let told = first_answer (λ x. apply_all mesh x moves) (apply mesh first (Remove at via)) walk e in
     let next : List ℕ = told.0 in
@@ -129,7 +146,8 @@ removals_peak mesh (Remove at via ∷ moves) first walk start all e =
     let out : length r.part ≡ 3 = ap (λ (l : List ℕ). length l) r.replaces.1 in
     let one : length r.other ≡ 1 = ap (λ (l : List ℕ). length l) r.replaces.2 in
     let rest : greatest_darts mesh next moves ≡ darts next =
-    removals_peak mesh moves next walk (stays_walk mesh first next (Remove at via) start told.1) (λ k d l. all (suc k) d (omega arith)) told.2 in
+    removals_peak mesh moves next walk (stays_walk mesh first next (Remove at via) start told.1) (λ k d l. all (suc k) d (omega arith))
+    told.2 in
     omega (arith, rest, from, to, out, one, greatest_darts-more mesh first next (Remove at via) moves told.1)
 
 -- lists of moves keep the ends, on every mesh
@@ -147,7 +165,8 @@ starts_whole mesh walk start list some is none =
     subst (LeadsAtPeak mesh walk list) whole (leads_nowhere mesh walk list none)
 
 -- the end of a walk, with nothing behind it
-pub ends_whole : (mesh : FaceList) (walk last : List ℕ) (list : PeakedMoves) (n : ℕ) → length walk ≤ n → LeadsAtPeak mesh walk list (last ++ drop n walk)
+pub ends_whole : (mesh : FaceList) (walk last : List ℕ) (list : PeakedMoves) (n : ℕ) → length walk ≤ n
+    → LeadsAtPeak mesh walk list (last ++ drop n walk)
     → LeadsAtPeak mesh walk list last
 ends_whole mesh walk last list n past h =
     subst (LeadsAtPeak mesh walk list) (ap (λ (rest : List ℕ). last ++ rest) (drop_all n walk past) ∙ append-nil last) h

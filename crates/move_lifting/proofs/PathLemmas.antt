@@ -24,7 +24,8 @@ ends_at [] = refl
 ends_at (i ∷ path) = ends_turned true path ∙ ap not (ends_at path) ∙ sym (from-next (length path))
 
 -- the half of a quad tells the partner
-half_quad : (places : List ℕ) (spoke_at partner : ℕ → ℕ) → IsQuadWheel (length places) (λ i. get_or places i 0) spoke_at partner → (a c : ℕ) → a < length places → c < length places
+half_quad : (places : List ℕ) (spoke_at partner : ℕ → ℕ) → IsQuadWheel (length places) (λ i. get_or places i 0) spoke_at partner → (a c : ℕ)
+    → a < length places → c < length places
     → get_or places (add (length places) c 1) 0 ≡ add (length places) (get_or places a 0) (minus (length places) 1) → c ≡ partner a
 half_quad places spoke_at partner q a c l k e =
     let d : ℕ = length places in
@@ -33,16 +34,20 @@ half_quad places spoke_at partner q a c l k e =
     let c_up : ℕ = add d c 1 in
     let p_up : ℕ = add d p 1 in
     let same : c_up ≡ p_up =
-    sym (q.spoke_of_place c_up (add-lt d c 1 k q.large)) ∙ ap spoke_at (e ∙ sym (q.one_before a l)) ∙ q.spoke_of_place p_up (add-lt d p 1 p_in q.large) in
+    sym (q.spoke_of_place c_up (add-lt d c 1 k q.large)) ∙ ap spoke_at (e ∙ sym (q.one_before a l))
+    ∙ q.spoke_of_place p_up (add-lt d p 1 p_in q.large) in
     sym (add_back d c q.large k) ∙ ap (λ x. add d x (minus d 1)) same ∙ add_back d p q.large p_in
 
-pub quad_partner : (s : OrientedMesh) (split : SplitView) (polygon : PolygonView) → IsOrientedSurface s → IsSplit s split → IsCutFrom s split polygon → 0 < polygon.degree
+pub quad_partner : (s : OrientedMesh) (split : SplitView) (polygon : PolygonView) → IsOrientedSurface s → IsSplit s split
+    → IsCutFrom s split polygon → 0 < polygon.degree
     → (a c : ℕ) → IsQuad polygon.places a c → c ≡ across (rotations_of s) polygon a
 quad_partner s split polygon o t cut some a c quad =
-    half_quad polygon.places (spoke_at polygon) (across (rotations_of s) polygon) (places_wheel s split polygon o t cut some) a c quad.a_below quad.c_below quad.a_place
+    half_quad polygon.places (spoke_at polygon) (across (rotations_of s) polygon) (places_wheel s split polygon o t cut some) a c
+    quad.a_below quad.c_below quad.a_place
 
 -- the places of a polygon make quads
-pub has_quads : (s : OrientedMesh) (split : SplitView) (polygon : PolygonView) → IsOrientedSurface s → IsSplit s split → IsCutFrom s split polygon → 0 < polygon.degree
+pub has_quads : (s : OrientedMesh) (split : SplitView) (polygon : PolygonView) → IsOrientedSurface s → IsSplit s split
+    → IsCutFrom s split polygon → 0 < polygon.degree
     → HasQuads polygon.places
 has_quads s split polygon o t cut some = record {
   four = omega (arith, (cut.places some).each_spoke, cut.degree);

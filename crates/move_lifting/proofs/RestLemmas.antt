@@ -107,13 +107,15 @@ side_in : (rising : Bool) (m t : ℕ) → t < m → side_place rising m t < m
 side_in true m t l = l
 side_in false m t l = corner_within false m t l
 
-numbered : (s : OrientedMesh) (f t : ℕ) → f < length s.mesh.faces → t < length (face_at s.mesh f) → IsNumberOf s.mesh f t (first_side s.mesh f + t)
+numbered : (s : OrientedMesh) (f t : ℕ) → f < length s.mesh.faces → t < length (face_at s.mesh f)
+    → IsNumberOf s.mesh f t (first_side s.mesh f + t)
 numbered s f t l k = record { face = l; place = k; is = refl }
 
 swapped : (s : OrientedMesh) (x u v : ℕ) → HasTheseEnds s x u v → HasTheseEnds s x v u
 swapped s x u v has = record { within = has.within; ends = elim has.ends [ inl on ↦ inr (on.0, on.1) | inr back ↦ inl (back.0, back.1) ] }
 
-pub step_edge : (s : OrientedMesh) → IsOrientedSurface s → (f : ℕ) (rising : Bool) (t : ℕ) → f < length s.mesh.faces → t < length (face_at s.mesh f)
+pub step_edge : (s : OrientedMesh) → IsOrientedSurface s → (f : ℕ) (rising : Bool) (t : ℕ) → f < length s.mesh.faces
+    → t < length (face_at s.mesh f)
     → edge_of s (dart_from s (vertex_at s f t) (vertex_at s f (next_corner rising (length (face_at s.mesh f)) t)))
     ≡ edge_of s (first_side s.mesh f + side_place rising (length (face_at s.mesh f)) t)
 step_edge s o f true t l k =
@@ -125,7 +127,8 @@ step_edge s o f false t l k =
     let x : ℕ = first_side s.mesh f + p in
     let back : next_corner true m p ≡ t = corner_back false m t k in
     let ends : HasTheseEnds s x (vertex_at s f p) (vertex_at s f t) =
-    subst (λ (c : ℕ). HasTheseEnds s x (vertex_at s f p) (vertex_at s f c)) back (side_ends s f p x (numbered s f p l (corner_within false m t k))) in
+    subst (λ (c : ℕ). HasTheseEnds s x (vertex_at s f p) (vertex_at s f c)) back
+    (side_ends s f p x (numbered s f p l (corner_within false m t k))) in
     edge_between s o (vertex_at s f t) (vertex_at s f p) x (swapped s x (vertex_at s f p) (vertex_at s f t) ends)
 
 -- the load of a walk
@@ -147,7 +150,8 @@ pub pair_positive : (s : OrientedMesh) (split : SplitView) (t : IsSplit s split)
 unfolding pair_weight
 pair_positive s split t u v = weight_positive s split t (edge_of s (dart_from s u v))
 
-pub pair_most : (s : OrientedMesh) (split : SplitView) (t : IsSplit s split) (u v : ℕ) → 0 < darts_of s → pair_weight s split t u v ≤ darts_of s
+pub pair_most : (s : OrientedMesh) (split : SplitView) (t : IsSplit s split) (u v : ℕ) → 0 < darts_of s
+    → pair_weight s split t u v ≤ darts_of s
 unfolding pair_weight
 pair_most s split t u v l = weight_most s split t (edge_of s (dart_from s u v)) l
 
@@ -157,11 +161,13 @@ load_long s split t (u ∷ []) = omega arith
 load_long s split t (u ∷ v ∷ rest) = omega (arith, load_long s split t (v ∷ rest), pair_positive s split t u v)
 
 -- the load of steps round a face
-pub round_load : (s : OrientedMesh) (split : SplitView) → IsOrientedSurface s → (t : IsSplit s split) → (f : ℕ) (rising : Bool) (c k : ℕ) → f < length s.mesh.faces
+pub round_load : (s : OrientedMesh) (split : SplitView) → IsOrientedSurface s → (t : IsSplit s split) → (f : ℕ) (rising : Bool) (c k : ℕ)
+    → f < length s.mesh.faces
     → c < length (face_at s.mesh f)
     → load s split t (corners_from (face_at s.mesh f) rising c k)
     ≡ sum_below
-    (λ j. weight s split t (edge_of s (first_side s.mesh f + side_place rising (length (face_at s.mesh f)) (corner_after rising (length (face_at s.mesh f)) c j)))) k
+    (λ j. weight s split t (edge_of s (first_side s.mesh f + side_place rising (length (face_at s.mesh f))
+    (corner_after rising (length (face_at s.mesh f)) c j)))) k
 unfolding pair_weight
 round_load s split o t f rising c zero l b = refl
 round_load s split o t f rising c (suc k) l b =
@@ -219,7 +225,8 @@ rest_beside false m c j b few same =
 
 rest_sides : (s : OrientedMesh) (f c : ℕ) (rising : Bool) → f < length s.mesh.faces → c < length (face_at s.mesh f)
     → AreBeside s f (first_side s.mesh f + side_place rising (length (face_at s.mesh f)) c) (length (face_at s.mesh f) - 1)
-    (λ j. first_side s.mesh f + side_place (not rising) (length (face_at s.mesh f)) (corner_after (not rising) (length (face_at s.mesh f)) c j))
+    (λ j. first_side s.mesh f + side_place (not rising) (length (face_at s.mesh f))
+    (corner_after (not rising) (length (face_at s.mesh f)) c j))
 rest_sides s f c rising l b =
     let m : ℕ = length (face_at s.mesh f) in
     let back : Bool = not rising in
@@ -237,8 +244,10 @@ rest_sides s f c rising l b =
     plus_same x y z e = omega arith
 
 -- the rest of the face below an edge weighs less than a step along the edge
-pub rest_falls : (s : OrientedMesh) (split : SplitView) → IsOrientedSurface s → (t : IsSplit s split) → (f c : ℕ) (rising : Bool) (u v d : ℕ)
-    → f < length s.mesh.faces → c < length (face_at s.mesh f) → vertex_at s f c ≡ u → vertex_at s f (next_corner rising (length (face_at s.mesh f)) c) ≡ v
+pub rest_falls : (s : OrientedMesh) (split : SplitView) → IsOrientedSurface s → (t : IsSplit s split)
+    → (f c : ℕ) (rising : Bool) (u v d : ℕ)
+    → f < length s.mesh.faces → c < length (face_at s.mesh f) → vertex_at s f c ≡ u
+    → vertex_at s f (next_corner rising (length (face_at s.mesh f)) c) ≡ v
     → IsDartFrom (rotations_of s) u v d → child_face (rotations_of s) split (edge_of s d) ≡ Some f
     → load s split t (corners_from (face_at s.mesh f) (not rising) c (length (face_at s.mesh f) - 1)) + 1 ≤ pair_weight s split t u v
 unfolding pair_weight
@@ -250,7 +259,9 @@ rest_falls s split o t f c rising u v d l b starts ends from under =
     subst (λ (x : ℕ). edge_of s (dart_from s x v) ≡ edge_of s h) starts
     (subst (λ (x : ℕ). edge_of s (dart_from s (vertex_at s f c) x) ≡ edge_of s h) ends (step_edge s o f rising c l b)) in
     let d_edge : edge_of s (dart_from s u v) ≡ edge_of s d = ap (edge_of s) (found_is s o u v d from) in
-    let below_h : child_face (rotations_of s) split (edge_of s h) ≡ Some f = ap (child_face (rotations_of s) split) (sym h_edge ∙ d_edge) ∙ under in
+    let below_h : child_face (rotations_of s) split (edge_of s h) ≡ Some f = ap (child_face (rotations_of s) split) (sym h_edge ∙ d_edge)
+    ∙ under in
     let fall = weights_fall s split o t f h (m - 1) (λ j. first_side s.mesh f + side_place (not rising) m (corner_after (not rising) m c j))
-    (number_below s.mesh f (side_place rising m c) h n) (face_at_number s f (side_place rising m c) h n) below_h (rest_sides s f c rising l b) in
+    (number_below s.mesh f (side_place rising m c) h n) (face_at_number s f (side_place rising m c) h n) below_h
+    (rest_sides s f c rising l b) in
     omega (arith, fall, round_load s split o t f (not rising) c (m - 1) l b, ap (weight s split t) h_edge)

@@ -60,7 +60,8 @@ rising_apart m t p q l less few most same =
     ]
 
 -- fewer steps than there are corners lead to different corners
-pub corners_apart : (rising : Bool) (m t p q : ℕ) → t < m → p < q → q < p + m → q ≤ m → corner_after rising m t p ≢ corner_after rising m t q
+pub corners_apart : (rising : Bool) (m t p q : ℕ) → t < m → p < q → q < p + m → q ≤ m
+    → corner_after rising m t p ≢ corner_after rising m t q
 corners_apart true m t p q l less few most same = rising_apart m t p q l less few most same
 corners_apart false m t p q l less few most same =
     rising_apart m t (m - q) (m - p) l (omega arith) (omega arith) (omega arith)
@@ -76,7 +77,8 @@ back_after rising m t (suc k) l =
 
 pub before-from : (ring : List ℕ) (rising : Bool) (t k : ℕ) → corners_before ring rising t (suc k) ≡ corners_from ring rising t k
 before-from ring rising t zero = refl
-before-from ring rising t (suc k) = ap (λ (l : List ℕ). get_or ring t 0 ∷ l) (before-from ring rising (next_corner rising (length ring) t) k)
+before-from ring rising t (suc k) =
+    ap (λ (l : List ℕ). get_or ring t 0 ∷ l) (before-from ring rising (next_corner rising (length ring) t) k)
 
 -- one corner more at the end
 pub corners_more : (ring : List ℕ) (rising : Bool) (t k : ℕ)
@@ -102,7 +104,8 @@ corners_turned ring rising t (suc k) l =
 
 -- the rest of a face beyond the step from a corner: read from the step's end, and turned round, it is read the other way from the corner
 pub rest_turned : (ring : List ℕ) (rising : Bool) (t k : ℕ) → t < length ring → k + 2 ≡ length ring
-    → reverse (corners_from ring rising (next_corner rising (length ring) t) k) ≡ corners_from ring (not rising) (next_corner (not rising) (length ring) t) k
+    → reverse (corners_from ring rising (next_corner rising (length ring) t) k) ≡ corners_from ring (not rising)
+    (next_corner (not rising) (length ring) t) k
 rest_turned ring rising t k l all =
     let m : ℕ = length ring in
     let next : ℕ = next_corner rising m t in

@@ -7,7 +7,7 @@ use Rattle.surf_model.specs.FreeWalks.{IsSpurMove, AreFreelyEqual, HasNoSpur}
 use Rattle.surf_model.specs.Moves.{PeakedMoves}
 use Rattle.surf_model.specs.declared.moves.Move.{Move}
 use Rattle.surf_model.specs.declared.moves.Move.TheVariants.{Remove}
-use Rattle.polygon_cut.proofs.FreeLoopLemmas.{freely_itself, freely_on, freely_within}
+use Rattle.polygon_cut.proofs.FreeLoopLemmas.{free_equality}
 use Rattle.move_lifting.specs.Lifts.{LeadsAtPeak}
 use Rattle.move_lifting.specs.Tracks.{TrackView, GoesOn, GrowsOrShrinks, last_of}
 use Rattle.move_lifting.proofs.ExpandLemmas.{last_entry}
@@ -17,7 +17,8 @@ use Rattle.move_lifting.proofs.MoveLemmas.{spur_goes}
 -- one entry more, and its spur if it makes one taken out
 pub put_freely : (mesh : FaceList) (old new : List ℕ) (next : ℕ) → GrowsOrShrinks old new next → 0 < length new → last_of new ≡ next
     → AreFreelyEqual mesh (old ++ next ∷ []) new
-put_freely mesh old new next (inl grows) some last = subst (AreFreelyEqual mesh (old ++ next ∷ [])) (sym grows) (freely_itself mesh (old ++ next ∷ []))
+put_freely mesh old new next (inl grows) some last =
+    subst (AreFreelyEqual mesh (old ++ next ∷ [])) (sym grows) ((free_equality mesh).itself (old ++ next ∷ []))
 put_freely mesh old new next (inr shrinks) some last =
     let front : List ℕ = take (length new - 1) new in
     let via : ℕ = shrinks.0 in
@@ -34,10 +35,11 @@ put_freely mesh old new next (inr shrinks) some last =
     regroup front next via = simp append_assoc
 
 -- what stands behind is put on what the walk in front has become
-pub freely_further : (mesh : FaceList) (walk old new rest : List ℕ) → 0 < length walk → AreFreelyEqual mesh walk old → AreFreelyEqual mesh (old ++ rest) new
+pub freely_further : (mesh : FaceList) (walk old new rest : List ℕ) → 0 < length walk → AreFreelyEqual mesh walk old
+    → AreFreelyEqual mesh (old ++ rest) new
     → AreFreelyEqual mesh (walk ++ rest) new
 freely_further mesh walk old new rest some h k =
-    freely_on mesh (walk ++ rest) (old ++ rest) new (freely_within mesh [] walk old rest some h) k
+    (free_equality mesh).on (walk ++ rest) (old ++ rest) new ((free_equality mesh).within [] walk old rest some h) k
 
 -- what holds while the spurs of a walk are taken out, when its first n entries are read
 pub record IsReducedSoFar (behind : ℕ) (walk : List ℕ) (begun : PeakedMoves) (track : TrackView) (n : ℕ) : Type 0 where
@@ -59,14 +61,16 @@ reduced_first behind walk begun track v some is start =
       no_spur = one_no_spur v;
       long = omega arith;
       last = sym is;
-      freely = λ mesh. subst (λ (l : List ℕ). AreFreelyEqual mesh l (v ∷ [])) one (freely_itself mesh (v ∷ []));
+      freely = λ mesh. subst (λ (l : List ℕ). AreFreelyEqual mesh l (v ∷ [])) one ((free_equality mesh).itself (v ∷ []));
       goes = λ mesh first rest l h. subst (λ (w : List ℕ). LeadsAtPeak mesh first begun (w ++ rest)) whole h;
     })
 
-pub reduced_more : (behind : ℕ) (walk : List ℕ) (begun : PeakedMoves) (track new : TrackView) (n v after : ℕ) → IsReducedSoFar behind walk begun track n
+pub reduced_more : (behind : ℕ) (walk : List ℕ) (begun : PeakedMoves) (track new : TrackView) (n v after : ℕ)
+    → IsReducedSoFar behind walk begun track n
     → 0 < n → n < length walk → get_or walk n 0 ≡ v → after ≡ length walk - n - 1 + behind
     → ((mesh : FaceList) → GoesOn mesh after (track.walk ++ v ∷ []) track.list new.walk new.list) → 0 < length new.walk → HasNoSpur new.walk
-    → last_of new.walk ≡ v → length new.walk ≤ length track.walk + 1 → GrowsOrShrinks track.walk new.walk v → IsReducedSoFar behind walk begun new (n + 1)
+    → last_of new.walk ≡ v → length new.walk ≤ length track.walk + 1 → GrowsOrShrinks track.walk new.walk v
+    → IsReducedSoFar behind walk begun new (n + 1)
 reduced_more behind walk begun track new n v after led begins l is counted goes some no_spur last long shape =
     let place : n + 1 - 1 ≡ n = omega arith in
     let more : take (n + 1) walk ≡ take n walk ++ v ∷ [] = take_more walk n 0 l ∙ ap (λ (x : ℕ). take n walk ++ x ∷ []) is in
@@ -77,11 +81,13 @@ reduced_more behind walk begun track new n v after led begins l is counted goes 
       long = omega (arith, long, led.long);
       last = last ∙ sym is ∙ ap (λ (k : ℕ). get_or walk k 0) (sym place);
       freely = λ mesh. subst (λ (w : List ℕ). AreFreelyEqual mesh w new.walk) (sym more)
-          (freely_further mesh (take n walk) track.walk new.walk (v ∷ []) begun_some (led.freely mesh) (put_freely mesh track.walk new.walk v shape some last));
+          (freely_further mesh (take n walk) track.walk new.walk (v ∷ []) begun_some (led.freely mesh)
+          (put_freely mesh track.walk new.walk v shape some last));
       goes = λ mesh first rest k h.
           let there : LeadsAtPeak mesh first track.list (track.walk ++ drop n walk ++ rest) = led.goes mesh first rest k h in
           let read : track.walk ++ drop n walk ++ rest ≡ track.walk ++ v ∷ [] ++ (drop (n + 1) walk ++ rest) =
-          ap (λ (w : List ℕ). w ++ rest) (read_on track.walk walk n v l is) ∙ append_assoc (track.walk ++ v ∷ []) (drop (n + 1) walk) rest in
+          ap (λ (w : List ℕ). w ++ rest) (read_on track.walk walk n v l is) ∙ append_assoc (track.walk ++ v ∷ []) (drop (n + 1) walk)
+          rest in
           let count : length (drop (n + 1) walk ++ rest) ≡ after =
           length-append (drop (n + 1) walk) rest ∙ omega (arith, length-drop (n + 1) walk, k, counted) in
           subst (LeadsAtPeak mesh first new.list) (sym (append_assoc new.walk (drop (n + 1) walk) rest))
@@ -89,7 +95,8 @@ reduced_more behind walk begun track new n v after led begins l is counted goes 
     }
 
 -- when all entries are read
-pub reduced_all : (behind : ℕ) (walk : List ℕ) (begun : PeakedMoves) (track : TrackView) (n : ℕ) → IsReducedSoFar behind walk begun track n → n ≡ length walk
+pub reduced_all : (behind : ℕ) (walk : List ℕ) (begun : PeakedMoves) (track : TrackView) (n : ℕ) → IsReducedSoFar behind walk begun track n
+    → n ≡ length walk
     → ((mesh : FaceList) → GoesOn mesh behind walk begun track.walk track.list) × ((mesh : FaceList) → AreFreelyEqual mesh walk track.walk)
     × (last_of track.walk ≡ last_of walk)
 reduced_all behind walk begun track n led all = (

@@ -12,7 +12,7 @@ use Rattle.polygon_cut.specs.Polygons.{PolygonView, IsCutFrom}
 use Rattle.polygon_cut.specs.SpokeLoops.{AreWaysUp, HaveFreeSpokes, LeavesCotree, by_loop, path_loop, spokes_along}
 use Rattle.polygon_cut.proofs.GroupLemmas.{IsGroup}
 use Rattle.polygon_cut.proofs.RelatorLemmas.{spoke_product}
-use Rattle.polygon_cut.proofs.LoopLemmas.{IsWay, loop_mul, loop_inv, loop_one}
+use Rattle.polygon_cut.proofs.WayLemmas.{IsWay, loop_mul, loop_inv, loop_one}
 use Rattle.polygon_cut.proofs.FreeProductLemmas.{end_of, way_end, product_from, product_on}
 use Rattle.polygon_cut.proofs.FreeLoopLemmas.{SameFreely}
 use Rattle.polygon_cut.proofs.FreeSpokeLemmas.{free_group}
@@ -20,7 +20,7 @@ use Rattle.polygon_cut.proofs.FreeMoveLemmas.{walk_value, moves_keep_value}
 use Rattle.polygon_cut.proofs.FreeRoundLemmas.{step_value}
 use Rattle.polygon_cut.proofs.FreeWayLemmas.{path_along, path_value}
 use Rattle.polygon_cut.proofs.FreeLawLemmas.{root_is, path_list, path_is, off_walk}
-use Rattle.polygon_cut.proofs.SpokeLemmas.{Loops, spoke}
+use Rattle.polygon_cut.proofs.DartLoopLemmas.{Loops, spoke}
 use Rattle.polygon_cut.proofs.WalkLemmas.{walk_way}
 use Rattle.move_lifting.specs.Lifts.{AvoidsCotree}
 use Rattle.move_lifting.specs.LoopsPutIn.{IsFreelyPath}
@@ -28,7 +28,8 @@ use Rattle.move_lifting.specs.Tracks.{last_of}
 use Rattle.move_lifting.proofs.TreeLiftLemmas.{walk_front}
 
 -- what stands behind two elements goes
-cancel_behind : {X : Type 0} (Same : X → X → Type 0) (mul : X → X → X) (inv : X → X) (one : X) → IsGroup Same mul inv one → (a b r : X) → Same (mul a r) (mul b r) → Same a b
+cancel_behind : {X : Type 0} (Same : X → X → Type 0) (mul : X → X → X) (inv : X → X) (one : X) → IsGroup Same mul inv one → (a b r : X)
+    → Same (mul a r) (mul b r) → Same a b
 cancel_behind {X = X} Same mul inv one g a b r h =
     g.on a (mul (mul a r) (inv r)) b (g.turn (mul (mul a r) (inv r)) a (home a))
     (g.on (mul (mul a r) (inv r)) (mul (mul b r) (inv r)) b (g.mul_same (mul a r) (mul b r) (inv r) (inv r) h (g.itself (inv r))) (home b))
@@ -41,15 +42,22 @@ cancel_behind {X = X} Same mul inv one g a b r h =
 last_is : (u : ℕ) (rest : List ℕ) → slice_index (u ∷ rest) (length rest) ≡ last_of (u ∷ rest)
 last_is u rest = ap (slice_index (u ∷ rest)) (let e : length rest ≡ length (u ∷ rest) - 1 = omega arith in e)
 
-pub starts_freely : (s : OrientedMesh) (split : SplitView) (polygon : PolygonView) → IsOrientedSurface s → IsSplit s split → IsCutFrom s split polygon → 0 < polygon.degree
-    → (spokes : ℕ → ℕ → List ℕ) → HaveFreeSpokes s polygon spokes → (closed walk tail : List ℕ) (moves : List Move) → IsWalk s.mesh (closed ++ tail)
-    → Leads s.mesh (closed ++ tail) moves (walk ++ tail) → All (LeavesCotree s split) moves → AvoidsCotree s split walk → 0 < length closed → 0 < length walk
+pub starts_freely : (s : OrientedMesh) (split : SplitView) (polygon : PolygonView) → IsOrientedSurface s → IsSplit s split
+    → IsCutFrom s split polygon → 0 < polygon.degree
+    → (spokes : ℕ → ℕ → List ℕ) → HaveFreeSpokes s polygon spokes → (closed walk tail : List ℕ) (moves : List Move)
+    → IsWalk s.mesh (closed ++ tail)
+    → Leads s.mesh (closed ++ tail) moves (walk ++ tail) → All (LeavesCotree s split) moves → AvoidsCotree s split walk → 0 < length closed
+    → 0 < length walk
     → last_of walk ≡ last_of closed → slice_index walk 0 ≡ last_of walk
     → IsFreelyPath s split polygon (spokes_along spokes closed) walk
-starts_freely s split polygon o t cut some spokes free [] walk tail moves w leads keeps off closed_some walk_some ends home root ways h = absurd (omega arith)
-starts_freely s split polygon o t cut some spokes free (u ∷ rest) [] tail moves w leads keeps off closed_some walk_some ends home root ways h = absurd (omega arith)
-starts_freely s split polygon o t cut some spokes free (u ∷ rest) (v ∷ others) tail moves w leads keeps off closed_some walk_some ends home root ways h =
-    subst (λ x. AreFreelyEqual s.mesh (v ∷ others) (by_loop ways v v (path_loop s polygon x ways true (spokes_along spokes (u ∷ rest))))) (root_is s split o t root ways h)
+starts_freely s split polygon o t cut some spokes free [] walk tail moves w leads keeps off closed_some walk_some ends home root ways h =
+    absurd (omega arith)
+starts_freely s split polygon o t cut some spokes free (u ∷ rest) [] tail moves w leads keeps off closed_some walk_some ends home root ways
+    h = absurd (omega arith)
+starts_freely s split polygon o t cut some spokes free (u ∷ rest) (v ∷ others) tail moves w leads keeps off closed_some walk_some ends home
+    root ways h =
+    subst (λ x. AreFreelyEqual s.mesh (v ∷ others) (by_loop ways v v (path_loop s polygon x ways true (spokes_along spokes (u ∷ rest)))))
+    (root_is s split o t root ways h)
     (subst (λ (l : List ℕ). AreFreelyEqual s.mesh (v ∷ others) (by_loop ways v v l)) loop_is
     (subst (λ x. AreFreelyEqual s.mesh (v ∷ others) (by_loop ways v x product.rest)) end_is
     (off_walk s split o t polygon ways own_ways v (slice_index (v ∷ others) (length others)) others along off product worth)))
@@ -75,7 +83,8 @@ starts_freely s split polygon o t cut some spokes free (u ∷ rest) (v ∷ other
     way = walk_way s.mesh u rest (walk_front s.mesh (u ∷ rest) tail (omega arith) w)
 
     along : IsWay s.mesh v (slice_index (v ∷ others) (length others)) others
-    along = walk_way s.mesh v others (walk_front s.mesh (v ∷ others) tail (omega arith) (list_keeps_walk s.mesh moves (u ∷ rest ++ tail) (v ∷ others ++ tail) w leads))
+    along = walk_way s.mesh v others
+        (walk_front s.mesh (v ∷ others) tail (omega arith) (list_keeps_walk s.mesh moves (u ∷ rest ++ tail) (v ∷ others ++ tail) w leads))
 
     end_is : slice_index (v ∷ others) (length others) ≡ v
     end_is = last_is v others ∙ sym home
@@ -99,10 +108,13 @@ starts_freely s split polygon o t cut some spokes free (u ∷ rest) (v ∷ other
         let r : Loops s split t = behind (end_of u rest) in
         let with_tail : Loops s split t = walk_value s split o t polygon (v ∷ others ++ tail) in
         let first_tail : Loops s split t = walk_value s split o t polygon (u ∷ rest ++ tail) in
-        let kept : SameFreely first_tail with_tail = moves_keep_value s split o t polygon cut some moves (u ∷ rest ++ tail) (v ∷ others ++ tail) w keeps leads in
+        let kept : SameFreely first_tail with_tail =
+        moves_keep_value s split o t polygon cut some moves (u ∷ rest ++ tail) (v ∷ others ++ tail) w keeps leads in
         let one : SameFreely with_tail (loop_mul a r) =
-        subst (λ x. SameFreely with_tail (loop_mul a (behind x))) one_end (product_on SameFreely loop_mul loop_inv nothing g (step_value s split o t polygon) v others tail) in
-        let two : SameFreely first_tail (loop_mul b r) = product_on SameFreely loop_mul loop_inv nothing g (step_value s split o t polygon) u rest tail in
+        subst (λ x. SameFreely with_tail (loop_mul a (behind x))) one_end
+        (product_on SameFreely loop_mul loop_inv nothing g (step_value s split o t polygon) v others tail) in
+        let two : SameFreely first_tail (loop_mul b r) = product_on SameFreely loop_mul loop_inv nothing g (step_value s split o t polygon)
+        u rest tail in
         let same : SameFreely a b =
         cancel_behind SameFreely loop_mul loop_inv nothing g a b r
         (g.on (loop_mul a r) with_tail (loop_mul b r) (g.turn with_tail (loop_mul a r) one)

@@ -33,7 +33,8 @@ on_tree : (s : OrientedMesh) (split : SplitView) → IsOrientedSurface s → IsS
 on_tree s split o t sphere d l off =
     let none : count_below (is_left split) (length s.table) ≡ 0 = t.genus ∙ ap (λ n. 2 * n) sphere in
     let left : is_left split (edge_of s d) ≡ false = elim (cases_Bool (is_left split (edge_of s d))) [
-      | inl over ↦ absurd (let some = count_some (is_left split) (length s.table) (edge_of s d) ((names_all s o).edge_below d l) over in omega arith)
+      | inl over ↦ absurd (let some = count_some (is_left split) (length s.table) (edge_of s d) ((names_all s o).edge_below d l) over in
+          omega arith)
       | inr not ↦ not
     ] in
     third_kind (kind_of split (edge_of s d)) off left
@@ -42,35 +43,42 @@ on_tree s split o t sphere d l off =
 parent : OrientedMesh → SplitView → ℕ → Option ℕ
 parent s split v = option_map (λ d. origin_of s (twin_of s d)) (parent_dart split v)
 
-parent_is : (s : OrientedMesh) (split : SplitView) (v d : ℕ) → parent_dart split v ≡ Some d → parent s split v ≡ Some (origin_of s (twin_of s d))
+parent_is : (s : OrientedMesh) (split : SplitView) (v d : ℕ) → parent_dart split v ≡ Some d
+    → parent s split v ≡ Some (origin_of s (twin_of s d))
 unfolding parent
 parent_is s split v d is = ap (λ (o : Option ℕ). option_map (λ d. origin_of s (twin_of s d)) o) is
 
-parent_dart_of : (s : OrientedMesh) (split : SplitView) (v w : ℕ) → parent s split v ≡ Some w → (d : ℕ) × (parent_dart split v ≡ Some d) × (origin_of s (twin_of s d) ≡ w)
+parent_dart_of : (s : OrientedMesh) (split : SplitView) (v w : ℕ) → parent s split v ≡ Some w
+    → (d : ℕ) × (parent_dart split v ≡ Some d) × (origin_of s (twin_of s d) ≡ w)
 unfolding parent
 parent_dart_of s split v w is = by (parent_dart split v) refl
   where
     by : (o : Option ℕ) → parent_dart split v ≡ o → (d : ℕ) × (parent_dart split v ≡ Some d) × (origin_of s (twin_of s d) ≡ w)
     by None e = (let none : None ≡ Some w = sym (ap (λ (o : Option ℕ). option_map (λ d. origin_of s (twin_of s d)) o) e) ∙ is in cc)
     by (Some d) e =
-        let one : Some (origin_of s (twin_of s d)) ≡ Some w = sym (ap (λ (o : Option ℕ). option_map (λ d. origin_of s (twin_of s d)) o) e) ∙ is in
+        let one : Some (origin_of s (twin_of s d)) ≡ Some w = sym (ap (λ (o : Option ℕ). option_map (λ d. origin_of s (twin_of s d)) o) e)
+        ∙ is in
         let same : origin_of s (twin_of s d) ≡ w = cc in
         (d, e, same)
 
 -- the ways up grow shorter
-rank_falls : (s : OrientedMesh) (split : SplitView) → IsOrientedSurface s → (t : IsSplit s split) → RankFalls (parent s split) (λ v. length (up s split t v))
+rank_falls : (s : OrientedMesh) (split : SplitView) → IsOrientedSurface s → (t : IsSplit s split)
+    → RankFalls (parent s split) (λ v. length (up s split t v))
 rank_falls s split o t v w is =
     let found = parent_dart_of s split v w is in
     let d : ℕ = found.0 in
     let l : d < darts_of s = t.parents.within v d found.1 in
     let step : StepsToParent (rotations_of s) split v w = (d, record { is_parent = found.1; ends = found.2 }) in
-    let v_used : is_used s.mesh v ≡ true = subst (λ (x : ℕ). is_used s.mesh x ≡ true) (t.parents.starts v d found.1) ((names_all s o).vertex_used d l) in
+    let v_used : is_used s.mesh v ≡ true =
+    subst (λ (x : ℕ). is_used s.mesh x ≡ true) (t.parents.starts v d found.1) ((names_all s o).vertex_used d l) in
     let w_used : is_used s.mesh w ≡ true =
-    subst (λ (x : ℕ). is_used s.mesh x ≡ true) found.2 ((names_all s o).vertex_used (twin_of s d) ((rotation_system s o).twin_within d l)) in
+    subst (λ (x : ℕ). is_used s.mesh x ≡ true) found.2
+    ((names_all s o).vertex_used (twin_of s d) ((rotation_system s o).twin_within d l)) in
     omega (arith, ap (λ (x : List ℕ). length x) (up_step s split o t v w v_used w_used step))
 
 -- a tree dart leads to the parent or from it
-along_dart : (s : OrientedMesh) (split : SplitView) → IsOrientedSurface s → (t : IsSplit s split) → (u v d : ℕ) → IsDartFrom (rotations_of s) u v d
+along_dart : (s : OrientedMesh) (split : SplitView) → IsOrientedSurface s → (t : IsSplit s split) → (u v d : ℕ)
+    → IsDartFrom (rotations_of s) u v d
     → in_tree split (edge_of s d) ≡ true → (parent s split u ≡ Some v) ⊎ (parent s split v ≡ Some u)
 along_dart s split o t u v d from is =
     let r : IsRotationSystem (rotations_of s) = rotation_system s o in
@@ -92,7 +100,8 @@ along_dart s split o t u v d from is =
           inr (ap (parent s split) (sym x_is) ∙ up_is ∙ ap Some w_is)
     ]
 
-along_tree : (s : OrientedMesh) (split : SplitView) → IsOrientedSurface s → (t : IsSplit s split) → split.genus ≡ 0 → (walk : List ℕ) → IsWalk s.mesh walk
+along_tree : (s : OrientedMesh) (split : SplitView) → IsOrientedSurface s → (t : IsSplit s split) → split.genus ≡ 0 → (walk : List ℕ)
+    → IsWalk s.mesh walk
     → AvoidsCotree s split walk → IsAlongTree (parent s split) walk
 along_tree s split o t sphere walk w off k l =
     let found = dart_between s o (get_or walk k 0) (get_or walk (k + 1) 0) (w.edges k (omega arith)) in
@@ -100,7 +109,8 @@ along_tree s split o t sphere walk w off k l =
     (on_tree s split o t sphere found.0 found.1.within (off k found.0 l found.1))
 
 -- a closed walk without spurs off the cotree of a sphere is one vertex
-pub one_vertex : (s : OrientedMesh) (split : SplitView) → IsOrientedSurface s → (t : IsSplit s split) → split.genus ≡ 0 → (walk : List ℕ) (v : ℕ) → IsWalk s.mesh walk
+pub one_vertex : (s : OrientedMesh) (split : SplitView) → IsOrientedSurface s → (t : IsSplit s split) → split.genus ≡ 0
+    → (walk : List ℕ) (v : ℕ) → IsWalk s.mesh walk
     → AvoidsCotree s split walk → HasNoSpur walk → get_or walk 0 0 ≡ v → get_or walk (length walk - 1) 0 ≡ v → walk ≡ v ∷ []
 one_vertex s split o t sphere walk v w off no_spur starts ends =
     one_tree_walk (parent s split) (λ x. length (up s split t x)) (rank_falls s split o t) walk (v ∷ []) w.starts (omega arith)

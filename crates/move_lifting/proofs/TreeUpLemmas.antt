@@ -21,29 +21,36 @@ use Rattle.move_lifting.proofs.ExpandLemmas.{length-numbers}
 use Rattle.move_lifting.proofs.CountLemmas.{sum_below, sum_same, disjoint_counts, count_most, count_one}
 
 -- the dart to the parent leads to a vertex that is used, from which the way up goes on
-pub used_parent : (s : OrientedMesh) (split : SplitView) → IsOrientedSurface s → (t : IsSplit s split) → (v d : ℕ) → parent_dart split v ≡ Some d
+pub used_parent : (s : OrientedMesh) (split : SplitView) → IsOrientedSurface s → (t : IsSplit s split) → (v d : ℕ)
+    → parent_dart split v ≡ Some d
     → is_used s.mesh (origin_of s (twin_of s d)) ≡ true
 used_parent s split o t v d is = (names_all s o).vertex_used (twin_of s d) ((rotation_system s o).twin_within d (t.parents.within v d is))
 
-pub used_below : (s : OrientedMesh) (split : SplitView) → IsOrientedSurface s → (t : IsSplit s split) → (v : ℕ) → is_used s.mesh v ≡ true → v < length split.parents
+pub used_below : (s : OrientedMesh) (split : SplitView) → IsOrientedSurface s → (t : IsSplit s split) → (v : ℕ) → is_used s.mesh v ≡ true
+    → v < length split.parents
 used_below s split o t v used =
     let dart = (names_all s o).each_vertex v used in
     let below : v < s.mesh.count = subst (λ (x : ℕ). x < s.mesh.count) dart.2 ((names_all s o).vertex_below dart.0 dart.1) in
     omega (arith, below, t.parents.each_vertex)
 
-pub own_ways : (s : OrientedMesh) (split : SplitView) → IsOrientedSurface s → (t : IsSplit s split) → (root : ℕ) (ways : ℕ → List ℕ) → AreWaysUp s split root ways
+pub own_ways : (s : OrientedMesh) (split : SplitView) → IsOrientedSurface s → (t : IsSplit s split) → (root : ℕ) (ways : ℕ → List ℕ)
+    → AreWaysUp s split root ways
     → AreWaysUp s split t.parents.root ways
 own_ways s split o t root ways h = subst (λ (x : ℕ). AreWaysUp s split x ways) (sym (root_is s split o t root ways h)) h
 
-pub goes_up : (s : OrientedMesh) (split : SplitView) → IsOrientedSurface s → (t : IsSplit s split) → (root : ℕ) (ways : ℕ → List ℕ) → AreWaysUp s split root ways
-    → (v d : ℕ) → is_used s.mesh v ≡ true → parent_dart split v ≡ Some d → ways v ≡ origin_of s (twin_of s d) ∷ ways (origin_of s (twin_of s d))
+pub goes_up : (s : OrientedMesh) (split : SplitView) → IsOrientedSurface s → (t : IsSplit s split) → (root : ℕ) (ways : ℕ → List ℕ)
+    → AreWaysUp s split root ways
+    → (v d : ℕ) → is_used s.mesh v ≡ true → parent_dart split v ≡ Some d
+    → ways v ≡ origin_of s (twin_of s d) ∷ ways (origin_of s (twin_of s d))
 goes_up s split o t root ways h v d used is =
     let w : ℕ = origin_of s (twin_of s d) in
     let own : AreWaysUp s split t.parents.root ways = own_ways s split o t root ways h in
-    one_path s split o t v (ways v) (w ∷ ways w) (own v used) ((d, record { is_parent = is; ends = refl }), own w (used_parent s split o t v d is))
+    one_path s split o t v (ways v) (w ∷ ways w) (own v used)
+    ((d, record { is_parent = is; ends = refl }), own w (used_parent s split o t v d is))
 
 -- without a parent there is no way further
-pub ends_up : (s : OrientedMesh) (split : SplitView) → IsOrientedSurface s → (t : IsSplit s split) → (root : ℕ) (ways : ℕ → List ℕ) → AreWaysUp s split root ways
+pub ends_up : (s : OrientedMesh) (split : SplitView) → IsOrientedSurface s → (t : IsSplit s split) → (root : ℕ) (ways : ℕ → List ℕ)
+    → AreWaysUp s split root ways
     → (v : ℕ) → is_used s.mesh v ≡ true → parent_dart split v ≡ None → ways v ≡ []
 ends_up s split o t root ways h v used none = by (ways v) (h v used)
   where
@@ -52,12 +59,15 @@ ends_up s split o t root ways h v used none = by (ways v) (h v used)
     by (w ∷ path) p = (let both : None ≡ Some p.0.0 = sym none ∙ p.0.1.is_parent in cc)
 
 -- one step up
-pub one_up_more : (s : OrientedMesh) (split : SplitView) → IsOrientedSurface s → (t : IsSplit s split) → (root : ℕ) (ways : ℕ → List ℕ) → AreWaysUp s split root ways
-    → (v d : ℕ) (whole laid more : List ℕ) → is_used s.mesh v ≡ true → parent_dart split v ≡ Some d → more ≡ laid ++ v ∷ [] → whole ≡ laid ++ (v ∷ ways v)
+pub one_up_more : (s : OrientedMesh) (split : SplitView) → IsOrientedSurface s → (t : IsSplit s split) → (root : ℕ) (ways : ℕ → List ℕ)
+    → AreWaysUp s split root ways
+    → (v d : ℕ) (whole laid more : List ℕ) → is_used s.mesh v ≡ true → parent_dart split v ≡ Some d → more ≡ laid ++ v ∷ []
+    → whole ≡ laid ++ (v ∷ ways v)
     → whole ≡ more ++ (origin_of s (twin_of s d) ∷ ways (origin_of s (twin_of s d)))
 one_up_more s split o t root ways h v d whole laid more used is pushed so_far =
     let w : ℕ = origin_of s (twin_of s d) in
-    so_far ∙ ap (λ (l : List ℕ). laid ++ (v ∷ l)) (goes_up s split o t root ways h v d used is) ∙ sym (append_assoc laid (v ∷ []) (w ∷ ways w))
+    so_far ∙ ap (λ (l : List ℕ). laid ++ (v ∷ l)) (goes_up s split o t root ways h v d used is)
+    ∙ sym (append_assoc laid (v ∷ []) (w ∷ ways w))
     ∙ ap (λ (l : List ℕ). l ++ (w ∷ ways w)) (sym pushed)
 
 -- so many numbers below a bound, all different, are no more than the bound
@@ -79,8 +89,10 @@ record IsOnWay (s : OrientedMesh) (split : SplitView) (t : IsSplit s split) (v l
   below : v < s.mesh.count
   left_is : length (up s split t v) ≡ left
 
-on_way : (s : OrientedMesh) (split : SplitView) → IsOrientedSurface s → (t : IsSplit s split) → (v : ℕ) (path : List ℕ) → is_used s.mesh v ≡ true
-    → IsPath (StepsToParent (rotations_of s) split) v path t.parents.root → (j : ℕ) → j ≤ length path → IsOnWay s split t (get_or (v ∷ path) j 0) (length path - j)
+on_way : (s : OrientedMesh) (split : SplitView) → IsOrientedSurface s → (t : IsSplit s split) → (v : ℕ) (path : List ℕ)
+    → is_used s.mesh v ≡ true
+    → IsPath (StepsToParent (rotations_of s) split) v path t.parents.root → (j : ℕ) → j ≤ length path
+    → IsOnWay s split t (get_or (v ∷ path) j 0) (length path - j)
 on_way s split o t v path used p zero l =
     let dart = (names_all s o).each_vertex v used in
     let whole : length path ≡ length path - 0 = omega arith in
@@ -91,7 +103,8 @@ on_way s split o t v path used p zero l =
 on_way s split o t v [] used p (suc j) l = absurd (omega arith)
 on_way s split o t v (w ∷ path) used p (suc j) l =
     let d : ℕ = p.0.0 in
-    let w_used : is_used s.mesh w ≡ true = subst (λ (x : ℕ). is_used s.mesh x ≡ true) p.0.1.ends (used_parent s split o t v d p.0.1.is_parent) in
+    let w_used : is_used s.mesh w ≡ true =
+    subst (λ (x : ℕ). is_used s.mesh x ≡ true) p.0.1.ends (used_parent s split o t v d p.0.1.is_parent) in
     let count : length path - j ≡ length (w ∷ path) - suc j = omega arith in
     let rest = on_way s split o t w path w_used p.1 j (omega arith) in
     record { below = rest.below; left_is = rest.left_is ∙ count }
@@ -110,10 +123,13 @@ way_short s split o t v used =
     omega (arith, one))
 
 -- the same of any ways up
-pub way_ends : (s : OrientedMesh) (split : SplitView) → IsOrientedSurface s → (t : IsSplit s split) → (v last n : ℕ) (laid : List ℕ) → is_used s.mesh v ≡ true
-    → length laid ≡ n → s.mesh.count ≤ n → ((root : ℕ) (ways : ℕ → List ℕ) → AreWaysUp s split root ways → v ∷ ways v ≡ laid ++ (last ∷ ways last)) → ⊥
+pub way_ends : (s : OrientedMesh) (split : SplitView) → IsOrientedSurface s → (t : IsSplit s split) → (v last n : ℕ) (laid : List ℕ)
+    → is_used s.mesh v ≡ true
+    → length laid ≡ n → s.mesh.count ≤ n → ((root : ℕ) (ways : ℕ → List ℕ) → AreWaysUp s split root ways
+    → v ∷ ways v ≡ laid ++ (last ∷ ways last)) → ⊥
 way_ends s split o t v last n laid used long all so_far =
-    let whole : v ∷ up s split t v ≡ laid ++ (last ∷ up s split t last) = so_far t.parents.root (up s split t) (λ x x_used. up_path s split t x x_used) in
+    let whole : v ∷ up s split t v ≡ laid ++ (last ∷ up s split t last) =
+    so_far t.parents.root (up s split t) (λ x x_used. up_path s split t x x_used) in
     omega (
       arith,
       way_short s split o t v used,
@@ -128,7 +144,8 @@ way_some s split t v names is =
     let whole : numbers names ≡ v ∷ up s split t v = is t.parents.root (up s split t) (λ x used. up_path s split t x used) in
     omega (arith, ap (λ (l : List ℕ). length l) whole, length-numbers names)
 
-pub way_top : (s : OrientedMesh) (split : SplitView) (root : ℕ) (ways : ℕ → List ℕ) → AreWaysUp s split root ways → (v : ℕ) → is_used s.mesh v ≡ true
+pub way_top : (s : OrientedMesh) (split : SplitView) (root : ℕ) (ways : ℕ → List ℕ) → AreWaysUp s split root ways → (v : ℕ)
+    → is_used s.mesh v ≡ true
     → last_of (v ∷ ways v) ≡ root
 way_top s split root ways h v used = by v (ways v) (h v used)
   where

@@ -10,8 +10,9 @@ use Rattle.surf_model.specs.Rewriting.{all_raised}
 use Rattle.surf_model.specs.declared.moves.Move.TheVariants.{Insert}
 use Rattle.surf_model.specs.declared.names.VertexName.{VertexName}
 use Rattle.polygon_cut.specs.SpokeLoops.{backward, put_behind}
-use Rattle.polygon_cut.proofs.LoopLemmas.{IsWay, back}
-use Rattle.polygon_cut.proofs.FreeLoopLemmas.{freely_on, freely_within, freely_there}
+use Rattle.polygon_cut.proofs.WayLemmas.{IsWay, back}
+use Rattle.polygon_cut.proofs.CongruenceLemmas.{home_and_there}
+use Rattle.polygon_cut.proofs.FreeLoopLemmas.{free_equality}
 use Rattle.move_lifting.specs.Lifts.{LeadsAtPeak}
 use Rattle.move_lifting.specs.Tracks.{TrackView, GoesOn, last_of}
 use Rattle.move_lifting.proofs.ExpandLemmas.{last_entry, length-numbers}
@@ -23,7 +24,8 @@ abbrev pub way_back_to : List ℕ → ℕ → ℕ → List ℕ
 way_back_to walk n k = backward (last_of (take n walk)) (drop n (take k walk))
 
 -- the way there and back, one step further
-pub out_more : (mesh : FaceList) (first walk rest : List ℕ) (n k passed : ℕ) (via : VertexName) (list more : PeakedMoves) → IsWalk mesh walk → 0 < n → n ≤ k → k < length walk
+pub out_more : (mesh : FaceList) (first walk rest : List ℕ) (n k passed : ℕ) (via : VertexName) (list more : PeakedMoves) → IsWalk mesh walk
+    → 0 < n → n ≤ k → k < length walk
     → via.0 ≡ get_or walk k 0
     → more ≡ record { moves = list.moves ++ Insert (k - 1) via ∷ []; peak = max list.peak passed } → passed ≡ k + 1 + (k - n + length rest)
     → LeadsAtPeak mesh first list (take k walk ++ (way_back_to walk n k ++ rest))
@@ -36,10 +38,14 @@ out_more mesh first walk rest n k passed via list more w some le l read noted co
     let back_long : length back ≡ k - n = length-backward (last_of (take n walk)) (drop n laid) ∙ out in
     let at : k - 1 ≡ length laid - 1 = omega arith in
     let count : passed ≡ length laid + 1 + length (back ++ rest) = omega (arith, counted, length-append back rest) in
-    let noted_there : more ≡ record { moves = list.moves ++ Insert (length laid - 1) via ∷ []; peak = max list.peak (length laid + 1 + length (back ++ rest)) } =
+    let noted_there : more ≡ record {
+      moves = list.moves ++ Insert (length laid - 1) via ∷ [];
+      peak = max list.peak (length laid + 1 + length (back ++ rest));
+    } =
     subst (λ (m : ℕ). more ≡ record { moves = list.moves ++ Insert (length laid - 1) via ∷ []; peak = max list.peak m }) count
     (subst (λ (m : ℕ). more ≡ record { moves = list.moves ++ Insert m via ∷ []; peak = max list.peak passed }) at noted) in
-    let last : last_of laid ≡ get_or walk (k - 1) 0 = ap (λ (m : ℕ). get_or laid m 0) (sym at) ∙ get_or-take k walk (k - 1) 0 (omega arith) in
+    let last : last_of laid ≡ get_or walk (k - 1) 0 = ap (λ (m : ℕ). get_or laid m 0) (sym at)
+    ∙ get_or-take k walk (k - 1) 0 (omega arith) in
     let up : k - 1 + 1 ≡ k = omega arith in
     let edge : is_edge mesh (last_of laid) via.0 ≡ true =
     ap (λ (x : ℕ). is_edge mesh x via.0) last
@@ -65,7 +71,8 @@ walk_is : (approach walk : List ℕ) (n : ℕ) → BeginAlike approach walk n �
 walk_is approach walk n a = sym (take-append-drop n walk) ∙ ap (λ (l : List ℕ). l ++ drop n walk) (sym a.same)
 
 -- the moves lead on
-pub turn_goes : (mesh : FaceList) (behind : ℕ) (approach walk turn whole : List ℕ) (n around : ℕ) (list there turned round : PeakedMoves) (after : TrackView)
+pub turn_goes : (mesh : FaceList) (behind : ℕ) (approach walk turn whole : List ℕ) (n around : ℕ) (list there turned round : PeakedMoves)
+    (after : TrackView)
     → BeginAlike approach walk n
     → ((first rest : List ℕ) → length rest ≡ length walk - n + behind → LeadsAtPeak mesh first list (take n approach ++ rest)
     → LeadsAtPeak mesh first there (approach ++ (backward (last_of (take n approach)) (drop n approach) ++ rest)))
@@ -73,8 +80,10 @@ pub turn_goes : (mesh : FaceList) (behind : ℕ) (approach walk turn whole : Lis
     → turned.moves ≡ there.moves ++ all_raised (length approach - 1) round.moves
     → (length round.moves ≡ 0 → turned.peak ≡ there.peak) → (0 < length round.moves → turned.peak ≡ max there.peak (around + round.peak))
     → around ≡ length approach - 1 + (length approach - n) + (length walk - n + behind)
-    → whole ≡ turned_whole approach turn walk n → GoesOn mesh behind whole turned after.walk after.list → GoesOn mesh behind walk list after.walk after.list
-turn_goes mesh behind approach walk turn whole n around list there turned round after a inserts leads some starts moves none peak counted is goes first rest long h =
+    → whole ≡ turned_whole approach turn walk n → GoesOn mesh behind whole turned after.walk after.list
+    → GoesOn mesh behind walk list after.walk after.list
+turn_goes mesh behind approach walk turn whole n around list there turned round after a inserts leads some starts moves none peak counted is
+    goes first rest long h =
     let y : ℕ = last_of approach in
     let front : List ℕ = take (length approach - 1) approach in
     let home : List ℕ = backward (last_of (take n approach)) (drop n approach) in
@@ -84,18 +93,30 @@ turn_goes mesh behind approach walk turn whole n around list there turned round 
     let approach_is : approach ≡ front ++ y ∷ [] = last_entry approach approach_some in
     let turn_is : turn ≡ y ∷ drop 1 turn = drop_more turn 0 0 some ∙ ap (λ (x : ℕ). x ∷ drop 1 turn) starts in
     let left_long : length (left ++ rest) ≡ length walk - n + behind = length-append left rest ∙ omega (arith, length-drop n walk, long) in
-    let from : walk ++ rest ≡ take n approach ++ (left ++ rest) = ap (λ (l : List ℕ). l ++ rest) (walk_is approach walk n a) ∙ append_assoc (take n approach) left rest in
-    let out : LeadsAtPeak mesh first there (approach ++ tail) = inserts first (left ++ rest) left_long (subst (LeadsAtPeak mesh first list) from h) in
+    let from : walk ++ rest ≡ take n approach ++ (left ++ rest) = ap (λ (l : List ℕ). l ++ rest) (walk_is approach walk n a)
+    ∙ append_assoc (take n approach) left rest in
+    let out : LeadsAtPeak mesh first there (approach ++ tail) =
+    inserts first (left ++ rest) left_long (subst (LeadsAtPeak mesh first list) from h) in
     let parted : approach ++ tail ≡ front ++ y ∷ [] ++ tail = ap (λ (l : List ℕ). l ++ tail) approach_is in
     let front_long : length front ≡ length approach - 1 = length-take-le (length approach - 1) approach (omega arith) in
     let count : around ≡ length front + length tail =
-    omega (arith, counted, front_long, left_long, length-append home (left ++ rest), length-backward (last_of (take n approach)) (drop n approach), length-drop n approach) in
+    omega (
+      arith,
+      counted,
+      front_long,
+      left_long,
+      length-append home (left ++ rest),
+      length-backward (last_of (take n approach))
+          (drop n approach),
+      length-drop n approach,
+    ) in
     let there_moves : turned.moves ≡ there.moves ++ all_raised (length front) round.moves =
     moves ∙ ap (λ (k : ℕ). there.moves ++ all_raised k round.moves) (sym front_long) in
     let there_peak : 0 < length round.moves → turned.peak ≡ max there.peak (length front + length tail + round.peak) =
     λ l. peak l ∙ ap (λ (k : ℕ). max there.peak (k + round.peak)) count in
     let done : LeadsAtPeak mesh first turned (front ++ turn ++ tail) =
-    leads_further_on mesh first front (y ∷ []) tail turn round there turned leads (omega arith) (subst (LeadsAtPeak mesh first there) parted out) there_moves none there_peak in
+    leads_further_on mesh first front (y ∷ []) tail turn round there turned leads (omega arith)
+    (subst (LeadsAtPeak mesh first there) parted out) there_moves none there_peak in
     let to : front ++ turn ++ tail ≡ whole ++ rest =
     ap (λ (l : List ℕ). front ++ l ++ tail) turn_is ∙ regroup front (drop 1 turn) home left rest y
     ∙ ap (λ (l : List ℕ). l ++ (drop 1 turn ++ (home ++ left)) ++ rest) (sym approach_is) ∙ ap (λ (l : List ℕ). l ++ rest) (sym is) in
@@ -106,7 +127,8 @@ turn_goes mesh behind approach walk turn whole n around list there turned round 
     regroup front turn home left rest y = simp append_assoc
 
 -- the way there, round and back ends where the walk leaves the approach
-turned_end : (approach turn : List ℕ) (n : ℕ) → 0 < n → n ≤ length approach → 0 < length turn → get_or turn 0 0 ≡ last_of approach → last_of turn ≡ last_of approach
+turned_end : (approach turn : List ℕ) (n : ℕ) → 0 < n → n ≤ length approach → 0 < length turn → get_or turn 0 0 ≡ last_of approach
+    → last_of turn ≡ last_of approach
     → last_of (approach ++ (drop 1 turn ++ backward (last_of (take n approach)) (drop n approach))) ≡ last_of (take n approach)
 turned_end approach turn n some le turn_some starts closed =
     let y : ℕ = last_of approach in
@@ -142,8 +164,10 @@ turn_last approach walk turn n a turn_some starts closed =
     regroup a b c d = simp append_assoc
 
 -- the whole is the walk with the turn put in behind the approach, up to spurs
-pub turn_freely : (mesh : FaceList) (approach walk turn whole new : List ℕ) (n : ℕ) → IsWalk mesh approach → BeginAlike approach walk n → 0 < length turn
-    → get_or turn 0 0 ≡ last_of approach → last_of turn ≡ last_of approach → whole ≡ turned_whole approach turn walk n → AreFreelyEqual mesh whole new
+pub turn_freely : (mesh : FaceList) (approach walk turn whole new : List ℕ) (n : ℕ) → IsWalk mesh approach → BeginAlike approach walk n
+    → 0 < length turn
+    → get_or turn 0 0 ≡ last_of approach → last_of turn ≡ last_of approach → whole ≡ turned_whole approach turn walk n
+    → AreFreelyEqual mesh whole new
     → AreFreelyEqual mesh (get_or walk 0 0 ∷ put_behind (get_or walk 0 0) (drop 1 approach) (drop 1 turn) (drop 1 walk)) new
 turn_freely mesh approach walk turn whole new n w a turn_some starts closed is h =
     let x : ℕ = get_or walk 0 0 in
@@ -166,23 +190,27 @@ turn_freely mesh approach walk turn whole new n w a turn_some starts closed is h
     let way : IsWay mesh x b c =
     subst (λ (y : ℕ). IsWay mesh x y c) b_is (way_apart mesh x _ c d (way_of mesh x (c ++ d) (subst (IsWalk mesh) approach_is w))).0 in
     let nothing : AreFreelyEqual mesh (b ∷ around) (b ∷ []) =
-    subst (λ (l : List ℕ). AreFreelyEqual mesh (b ∷ (l ++ c)) (b ∷ [])) (sym (backward_is x c)) (freely_there mesh x b c way) in
+    subst (λ (l : List ℕ). AreFreelyEqual mesh (b ∷ (l ++ c)) (b ∷ [])) (sym (backward_is x c))
+    (home_and_there (free_equality mesh) x b c way) in
     let there_is : there ≡ front ++ b ∷ [] =
     last_entry there (omega (arith, length-append approach (t ++ home), a.some, a.in_approach))
     ∙ ap (λ (y : ℕ). front ++ y ∷ []) (turned_end approach turn n a.some a.in_approach turn_some starts closed) in
-    let contract : AreFreelyEqual mesh (front ++ (b ∷ around) ++ e) (front ++ (b ∷ []) ++ e) = freely_within mesh front (b ∷ around) (b ∷ []) e (omega arith) nothing in
+    let contract : AreFreelyEqual mesh (front ++ (b ∷ around) ++ e) (front ++ (b ∷ []) ++ e) =
+    (free_equality mesh).within front (b ∷ around) (b ∷ []) e (omega arith) nothing in
     let back_is : backward x (drop 1 approach) ≡ home ++ backward x c =
     ap (λ (l : List ℕ). backward x (drop 1 l)) approach_is ∙ backward-append x c d ∙ ap (λ (y : ℕ). backward y d ++ backward x c) b_is in
     let rest_is : drop 1 walk ≡ c ++ e = ap (λ (l : List ℕ). drop 1 l) walk_parts in
     let own_start : x ∷ drop 1 approach ≡ approach = ap (λ (l : List ℕ). x ∷ drop 1 l) approach_is ∙ sym approach_is in
     let from : x ∷ put_behind x (drop 1 approach) t (drop 1 walk) ≡ front ++ (b ∷ around) ++ e =
     ap (λ (l : List ℕ). l ++ (t ++ (backward x (drop 1 approach) ++ drop 1 walk))) own_start
-    ∙ ap (λ (l : List ℕ). approach ++ (t ++ (l ++ drop 1 walk))) back_is ∙ ap (λ (l : List ℕ). approach ++ (t ++ (home ++ backward x c ++ l))) rest_is
+    ∙ ap (λ (l : List ℕ). approach ++ (t ++ (l ++ drop 1 walk))) back_is
+    ∙ ap (λ (l : List ℕ). approach ++ (t ++ (home ++ backward x c ++ l))) rest_is
     ∙ regroup approach t home (backward x c) c e ∙ ap (λ (l : List ℕ). l ++ (around ++ e)) there_is ∙ again front around e b in
     let to : front ++ (b ∷ []) ++ e ≡ whole =
     ap (λ (l : List ℕ). l ++ e) (sym there_is) ∙ shape approach t home e ∙ sym is in
     subst (λ (l : List ℕ). AreFreelyEqual mesh l new) (sym from)
-    (freely_on mesh (front ++ (b ∷ around) ++ e) whole new (subst (AreFreelyEqual mesh (front ++ (b ∷ around) ++ e)) to contract) h)
+    ((free_equality mesh).on (front ++ (b ∷ around) ++ e) whole new (subst (AreFreelyEqual mesh (front ++ (b ∷ around) ++ e)) to contract)
+    h)
   where
     regroup : (a t h g c e : List ℕ) → a ++ (t ++ (h ++ g ++ (c ++ e))) ≡ a ++ (t ++ h) ++ (g ++ c ++ e)
     regroup a t h g c e = simp append_assoc
@@ -194,13 +222,15 @@ turn_freely mesh approach walk turn whole new n w a turn_some starts closed is h
     shape a t h e = simp append_assoc
 
 -- the whole, put together part by part
-pub joined : (none first second third whole approach back rest : List VertexName) (turn left : List ℕ) → none ≡ [] → first ≡ none ++ approach
+pub joined : (none first second third whole approach back rest : List VertexName) (turn left : List ℕ) → none ≡ []
+    → first ≡ none ++ approach
     → numbers second ≡ numbers first ++ turn → third ≡ second ++ back → whole ≡ third ++ rest → numbers rest ≡ left
     → numbers whole ≡ numbers approach ++ (turn ++ (numbers back ++ left))
 joined none first second third whole approach back rest turn left a b d e f g =
     let first_is : numbers first ≡ numbers approach = ap numbers b ∙ ap (λ (l : List VertexName). numbers (l ++ approach)) a in
     let third_is : numbers third ≡ numbers approach ++ turn ++ numbers back =
-    ap numbers e ∙ map-append (λ (v : VertexName). v.0) second back ∙ ap (λ (l : List ℕ). l ++ numbers back) (d ∙ ap (λ (l : List ℕ). l ++ turn) first_is) in
+    ap numbers e ∙ map-append (λ (v : VertexName). v.0) second back
+    ∙ ap (λ (l : List ℕ). l ++ numbers back) (d ∙ ap (λ (l : List ℕ). l ++ turn) first_is) in
     ap numbers f ∙ map-append (λ (v : VertexName). v.0) third rest ∙ ap (λ (l : List ℕ). l ++ numbers rest) third_is
     ∙ ap (λ (l : List ℕ). numbers approach ++ turn ++ numbers back ++ l) g ∙ regroup (numbers approach) turn (numbers back) left
   where
@@ -208,39 +238,30 @@ joined none first second third whole approach back rest turn left a b d e f g =
     regroup a t b l = simp append_assoc
 
 -- how long it is
-pub whole_long : (whole approach back : List VertexName) (turn walk : List ℕ) (n : ℕ) → 0 < length turn
-    → numbers whole ≡ numbers approach ++ (drop 1 turn ++ (numbers back ++ drop n walk))
-    → length whole + 1 ≡ length approach + (length turn + (length back + (length walk - n)))
-whole_long whole approach back turn walk n some is =
+pub whole_long : (whole approach : List VertexName) (turn walk : List ℕ) (n : ℕ) → 0 < length turn
+    → numbers whole ≡ numbers approach
+    ++ (drop 1 turn ++ (backward (last_of (take n (numbers approach))) (drop n (numbers approach)) ++ drop n walk))
+    → length whole + 1 ≡ length approach + (length turn + ((length approach - n) + (length walk - n)))
+whole_long whole approach turn walk n some is =
+    let home : List ℕ = backward (last_of (take n (numbers approach))) (drop n (numbers approach)) in
     omega (
       arith,
       some,
       length-numbers whole,
       length-numbers approach,
-      length-numbers back,
       ap (λ (l : List ℕ). length l) is,
-      length-append (numbers approach) (drop 1 turn ++ (numbers back ++ drop n walk)),
-      length-append (drop 1 turn) (numbers back ++ drop n walk),
-      length-append (numbers back) (drop n walk),
+      length-append (numbers approach) (drop 1 turn ++ (home ++ drop n walk)),
+      length-append (drop 1 turn) (home ++ drop n walk),
+      length-append home (drop n walk),
+      length-backward (last_of (take n (numbers approach))) (drop n (numbers approach)),
+      length-drop n (numbers approach),
       length-drop 1 turn,
       length-drop n walk,
     )
 
--- the way back is as long as the approach is where it goes on alone
-pub back_long : (approach back : List VertexName) (n : ℕ) → numbers back ≡ backward (last_of (take n (numbers approach))) (drop n (numbers approach))
-    → length back ≡ length approach - n
-back_long approach back n is =
-    omega (
-      arith,
-      length-numbers back,
-      length-numbers approach,
-      ap (λ (l : List ℕ). length l) is,
-      length-backward (last_of (take n (numbers approach))) (drop n (numbers approach)),
-      length-drop n (numbers approach),
-    )
-
 -- a walk kept as names, and an approach with a common beginning
-pub begun_alike : (approach read names : List VertexName) (walk : List ℕ) (n : ℕ) → read ≡ names → numbers names ≡ walk → 0 < n → n ≤ length approach
+pub begun_alike : (approach read names : List VertexName) (walk : List ℕ) (n : ℕ) → read ≡ names → numbers names ≡ walk → 0 < n
+    → n ≤ length approach
     → n ≤ length read → take n (numbers approach) ≡ take n (numbers read) → BeginAlike (numbers approach) walk n
 begun_alike approach read names walk n same is some in_approach in_read alike =
     let read_is : numbers read ≡ walk = ap numbers same ∙ is in
@@ -252,12 +273,12 @@ begun_alike approach read names walk n same is some in_approach in_read alike =
     }
 
 -- the whole, put together from names
-pub whole_is : (whole approach back read_back names read : List VertexName) (turn walk : List ℕ) (n : ℕ) → read_back ≡ back
-    → numbers back ≡ backward (last_of (take n (numbers approach))) (drop n (numbers approach)) → read ≡ names → numbers names ≡ walk
-    → numbers whole ≡ numbers approach ++ (drop 1 turn ++ (numbers read_back ++ drop n (numbers read)))
+pub whole_is : (whole approach names read : List VertexName) (turn walk : List ℕ) (n : ℕ) → read ≡ names → numbers names ≡ walk
+    → numbers whole ≡ numbers approach
+    ++ (drop 1 turn ++ (backward (last_of (take n (numbers approach))) (drop n (numbers approach)) ++ drop n (numbers read)))
     → numbers whole ≡ turned_whole (numbers approach) turn walk n
-whole_is whole approach back read_back names read turn walk n same_back back_is same is parts =
-    parts ∙ ap (λ (l : List VertexName). numbers approach ++ (drop 1 turn ++ (numbers l ++ drop n (numbers read)))) same_back
-    ∙ ap (λ (l : List ℕ). numbers approach ++ (drop 1 turn ++ (l ++ drop n (numbers read)))) back_is
-    ∙ ap (λ (l : List ℕ). numbers approach ++ (drop 1 turn ++ (backward (last_of (take n (numbers approach))) (drop n (numbers approach)) ++ drop n l)))
+whole_is whole approach names read turn walk n same is parts =
+    parts
+    ∙ ap (λ (l : List ℕ). numbers approach
+    ++ (drop 1 turn ++ (backward (last_of (take n (numbers approach))) (drop n (numbers approach)) ++ drop n l)))
     (ap numbers same ∙ is)

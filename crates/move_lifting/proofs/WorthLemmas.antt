@@ -16,12 +16,13 @@ use Rattle.polygon_cut.specs.SpokeLoops.{AreWaysUp, backward, by_loop, path_loop
 use Rattle.polygon_cut.proofs.GroupLemmas.{IsGroup}
 use Rattle.polygon_cut.proofs.PlaceLemmas.{sides_cross}
 use Rattle.polygon_cut.proofs.RelatorLemmas.{loop_in, loop_out, free_spur}
-use Rattle.polygon_cut.proofs.LoopLemmas.{IsWay, back, loop_mul, loop_inv, loop_one}
-use Rattle.polygon_cut.proofs.FreeLoopLemmas.{SameFreely, freely_on, freely_behind, freely_before}
+use Rattle.polygon_cut.proofs.WayLemmas.{IsWay, back, loop_mul, loop_inv, loop_one}
+use Rattle.polygon_cut.proofs.CongruenceLemmas.{before, behind}
+use Rattle.polygon_cut.proofs.FreeLoopLemmas.{SameFreely, free_equality}
 use Rattle.polygon_cut.proofs.FreeLawLemmas.{root_is, up_is, backward_is, path_list, last_loop_as, last_loops, last_list}
 use Rattle.polygon_cut.proofs.FreeQuadLemmas.{last_loop}
 use Rattle.polygon_cut.proofs.FreeSpokeLemmas.{free_group}
-use Rattle.polygon_cut.proofs.SpokeLemmas.{Loops, spoke}
+use Rattle.polygon_cut.proofs.DartLoopLemmas.{Loops, spoke}
 use Rattle.polygon_cut.proofs.TreeWayLemmas.{tree_ways}
 use Rattle.quad_system.proofs.PushPathLemmas.{IsQuadWheel, upper_side, lower_side}
 use Rattle.quad_system.proofs.PushWorthLemmas.{loop_of_path, front_of_last, front_of_across, DownWorth, down_worth, polygon_wheel}
@@ -50,35 +51,46 @@ lower_is d n partner false a c after same e = ap (λ x. x ∷ add d a 1 ∷ afte
 old_is : (rises : Bool) (d n : ℕ) (partner : ℕ → ℕ) (at_vertex : Bool) (a c : ℕ) (before after : List ℕ) → d ≡ n → c ≡ partner a
     → before ++ (old_way rises d at_vertex a c ++ after)
     ≡ (if rises then before ++ lower_side n partner at_vertex a after else before ++ upper_side n partner at_vertex a after)
-old_is true d n partner at_vertex a c before after same e = ap (λ (l : List ℕ). before ++ l) (lower_is d n partner at_vertex a c after same e)
-old_is false d n partner at_vertex a c before after same e = ap (λ (l : List ℕ). before ++ l) (upper_is d n partner at_vertex a c after same e)
+old_is true d n partner at_vertex a c before after same e =
+    ap (λ (l : List ℕ). before ++ l) (lower_is d n partner at_vertex a c after same e)
+old_is false d n partner at_vertex a c before after same e =
+    ap (λ (l : List ℕ). before ++ l) (upper_is d n partner at_vertex a c after same e)
 
 new_is : (rises : Bool) (d n : ℕ) (partner : ℕ → ℕ) (at_vertex : Bool) (a c : ℕ) (before after : List ℕ) → d ≡ n → c ≡ partner a
     → before ++ (new_way rises d at_vertex a c ++ after)
     ≡ (if rises then before ++ upper_side n partner at_vertex a after else before ++ lower_side n partner at_vertex a after)
-new_is true d n partner at_vertex a c before after same e = ap (λ (l : List ℕ). before ++ l) (upper_is d n partner at_vertex a c after same e)
-new_is false d n partner at_vertex a c before after same e = ap (λ (l : List ℕ). before ++ l) (lower_is d n partner at_vertex a c after same e)
+new_is true d n partner at_vertex a c before after same e =
+    ap (λ (l : List ℕ). before ++ l) (upper_is d n partner at_vertex a c after same e)
+new_is false d n partner at_vertex a c before after same e =
+    ap (λ (l : List ℕ). before ++ l) (lower_is d n partner at_vertex a c after same e)
 
 -- the spokes of a way that the loop goes in behind
 own_front : (last a c k : ℕ) (at_vertex : Bool) → a ≡ last → c ≡ k
-    → (if a == last then (if at_vertex then [] else (c + 1) ∷ []) else (if at_vertex then a ∷ (a + 1) ∷ [] else last ∷ [])) ≡ front_of_last k at_vertex
+    → (if a == last then (if at_vertex then [] else (c + 1) ∷ []) else (if at_vertex then a ∷ (a + 1) ∷ [] else last ∷ [])) ≡ front_of_last
+    k at_vertex
 own_front last a c k true own other = rw (eq-eqb a last own) refl
 own_front last a c k false own other = rw (eq-eqb a last own) (ap (λ n. n ∷ []) (let e : c + 1 ≡ suc k = omega (arith, other) in e))
 
 other_front : (last a c k : ℕ) (at_vertex : Bool) → a ≢ last → a ≡ k
-    → (if a == last then (if at_vertex then [] else (c + 1) ∷ []) else (if at_vertex then a ∷ (a + 1) ∷ [] else last ∷ [])) ≡ front_of_across last k at_vertex
-other_front last a c k true apart other = rw (ne_eqb a last apart) (ap (λ n. n ∷ (n + 1) ∷ []) other ∙ ap (λ n. k ∷ n ∷ []) (let e : k + 1 ≡ suc k = omega arith in e))
+    → (if a == last then (if at_vertex then [] else (c + 1) ∷ []) else (if at_vertex then a ∷ (a + 1) ∷ [] else last ∷ []))
+    ≡ front_of_across last k at_vertex
+other_front last a c k true apart other =
+    rw (ne_eqb a last apart) (ap (λ n. n ∷ (n + 1) ∷ []) other ∙ ap (λ n. k ∷ n ∷ []) (let e : k + 1 ≡ suc k = omega arith in e))
 other_front last a c k false apart other = rw (ne_eqb a last apart) refl
 
 -- what a turn does to the loop of the spokes
-pub record TurnWorth (s : OrientedMesh) (split : SplitView) (o : IsOrientedSurface s) (t : IsSplit s split) (polygon : PolygonView) (rises : Bool) (at a c : ℕ) (path next : List ℕ) : Type 0 where
-  pub free : a ≢ polygon.degree - 1 → c ≢ polygon.degree - 1 → SameFreely (loop_of_path s split o t polygon path) (loop_of_path s split o t polygon next)
+pub record TurnWorth (s : OrientedMesh) (split : SplitView) (o : IsOrientedSurface s) (t : IsSplit s split) (polygon : PolygonView)
+    (rises : Bool) (at a c : ℕ) (path next : List ℕ) : Type 0 where
+  pub free : a ≢ polygon.degree - 1 → c ≢ polygon.degree - 1
+      → SameFreely (loop_of_path s split o t polygon path) (loop_of_path s split o t polygon next)
   pub costly : (a ≡ polygon.degree - 1) ⊎ (c ≡ polygon.degree - 1)
       → SameFreely (loop_of_path s split o t polygon next)
-      (loop_in loop_mul loop_inv (loop_of_path s split o t polygon (spokes_in_front (polygon.degree - 1) path at a c)) (own_loop s split o t polygon rises)
+      (loop_in loop_mul loop_inv (loop_of_path s split o t polygon (spokes_in_front (polygon.degree - 1) path at a c))
+      (own_loop s split o t polygon rises)
       (loop_of_path s split o t polygon path))
 
-module _ (s : OrientedMesh) (split : SplitView) (o : IsOrientedSurface s) (t : IsSplit s split) (polygon : PolygonView) (cut : IsCutFrom s split polygon) (some : 0 < polygon.degree) where
+module _ (s : OrientedMesh) (split : SplitView) (o : IsOrientedSurface s) (t : IsSplit s split) (polygon : PolygonView)
+    (cut : IsCutFrom s split polygon) (some : 0 < polygon.degree) where
   abbrev I : List ℕ → Loops s split t
   I path = loop_of_path s split o t polygon path
 
@@ -86,14 +98,17 @@ module _ (s : OrientedMesh) (split : SplitView) (o : IsOrientedSurface s) (t : I
   G = free_group s split t
 
   -- a turn of the upper way to the lower one, and back
-  free_turn : (rises : Bool) (path next upper lower : List ℕ) → path ≡ (if rises then lower else upper) → next ≡ (if rises then upper else lower)
+  free_turn : (rises : Bool) (path next upper lower : List ℕ) → path ≡ (if rises then lower else upper)
+      → next ≡ (if rises then upper else lower)
       → SameFreely (I upper) (I lower) → SameFreely (I path) (I next)
   free_turn true path next upper lower p n h =
-      subst (λ (l : List ℕ). SameFreely (I l) (I next)) (sym p) (subst (λ (l : List ℕ). SameFreely (I lower) (I l)) (sym n) (G.turn (I upper) (I lower) h))
+      subst (λ (l : List ℕ). SameFreely (I l) (I next)) (sym p)
+      (subst (λ (l : List ℕ). SameFreely (I lower) (I l)) (sym n) (G.turn (I upper) (I lower) h))
   free_turn false path next upper lower p n h =
       subst (λ (l : List ℕ). SameFreely (I l) (I next)) (sym p) (subst (λ (l : List ℕ). SameFreely (I upper) (I l)) (sym n) h)
 
-  loop_turn : (rises : Bool) (path next upper lower front given : List ℕ) → path ≡ (if rises then lower else upper) → next ≡ (if rises then upper else lower) → given ≡ front
+  loop_turn : (rises : Bool) (path next upper lower front given : List ℕ) → path ≡ (if rises then lower else upper)
+      → next ≡ (if rises then upper else lower) → given ≡ front
       → SameFreely (I lower) (loop_in loop_mul loop_inv (I front) (last_loop s split o t polygon) (I upper))
       → SameFreely (I next) (loop_in loop_mul loop_inv (I given) (own_loop s split o t polygon rises) (I path))
   loop_turn true path next upper lower front given p n f h =
@@ -108,7 +123,8 @@ module _ (s : OrientedMesh) (split : SplitView) (o : IsOrientedSurface s) (t : I
       (subst (λ (l : List ℕ). SameFreely (I next) (loop_in loop_mul loop_inv (I front) loop (I l))) (sym p)
       (subst (λ (l : List ℕ). SameFreely (I l) (loop_in loop_mul loop_inv (I front) loop (I upper))) (sym n) h))
 
-  pub turn_worth : (rises : Bool) (at a c : ℕ) (path next : List ℕ) → from_spoke at true (quad_turned polygon.places a c rises) path ≡ Some next
+  pub turn_worth : (rises : Bool) (at a c : ℕ) (path next : List ℕ)
+      → from_spoke at true (quad_turned polygon.places a c rises) path ≡ Some next
       → TurnWorth s split o t polygon rises at a c path next
   turn_worth rises at a c path next e = record { free = free; costly = costly }
     where
@@ -171,32 +187,39 @@ module _ (s : OrientedMesh) (split : SplitView) (o : IsOrientedSurface s) (t : I
           → (if a == z then (if flag then [] else (c + 1) ∷ []) else (if flag then a ∷ (a + 1) ∷ [] else z ∷ [])) ≡ extra
           → spokes_in_front (polygon.degree - 1) path at a c ≡ r.before ++ extra
       spokes_are extra h =
-          ap (λ (l : List ℕ). l ++ (if a == z then (if from_vertex at then [] else (c + 1) ∷ []) else (if from_vertex at then a ∷ (a + 1) ∷ [] else z ∷ []))) front_is
+          ap (λ (l : List ℕ). l ++ (if a == z then (if from_vertex at then [] else (c + 1) ∷ []) else
+          (if from_vertex at then a ∷ (a + 1) ∷ [] else z ∷ []))) front_is
           ∙ ap (λ (l : List ℕ). r.before ++ l) h
 
       apart : across (rotations_of s) polygon (polygon.degree - 1) ≢ polygon.degree - 1
       apart =
-          (sides_cross (rotations_of s) (after_dart (rotations_of s) (λ e. not (in_cotree split e))) (is_left split) polygon (rotation_system s o)
+          (sides_cross (rotations_of s) (after_dart (rotations_of s) (λ e. not (in_cotree split e))) (is_left split) polygon
+          (rotation_system s o)
           (cut.labels some)).other (polygon.degree - 1) z_in
 
       free : a ≢ polygon.degree - 1 → c ≢ polygon.degree - 1 → SameFreely (I path) (I next)
       free not_last not_other =
           free_turn rises path next upper lower path_is next_is
-          (worth.other not_last (λ opposite. not_other (is ∙ ap (across (rotations_of s) polygon) opposite ∙ q.partner_back (polygon.degree - 1) z_in)))
+          (worth.other not_last (λ opposite. not_other (is ∙ ap (across (rotations_of s) polygon) opposite
+          ∙ q.partner_back (polygon.degree - 1) z_in)))
 
       costly : (a ≡ polygon.degree - 1) ⊎ (c ≡ polygon.degree - 1)
-          → SameFreely (I next) (loop_in loop_mul loop_inv (I (spokes_in_front (polygon.degree - 1) path at a c)) (own_loop s split o t polygon rises) (I path))
+          → SameFreely (I next) (loop_in loop_mul loop_inv (I (spokes_in_front (polygon.degree - 1) path at a c))
+          (own_loop s split o t polygon rises) (I path))
       costly (inl own) =
-          loop_turn rises path next upper lower (r.before ++ front_of_last k flag) (spokes_in_front (polygon.degree - 1) path at a c) path_is next_is
+          loop_turn rises path next upper lower (r.before ++ front_of_last k flag) (spokes_in_front (polygon.degree - 1) path at a c)
+          path_is next_is
           (spokes_are (front_of_last k flag) (own_front z a c k flag own (is ∙ ap (across (rotations_of s) polygon) own))) (worth.last own)
       costly (inr other) =
           let opposite : a ≡ k = sym back_is ∙ ap (across (rotations_of s) polygon) other in
           let not_last : a ≢ z = λ own. apart (sym opposite ∙ own) in
-          loop_turn rises path next upper lower (r.before ++ front_of_across z k flag) (spokes_in_front (polygon.degree - 1) path at a c) path_is next_is
+          loop_turn rises path next upper lower (r.before ++ front_of_across z k flag) (spokes_in_front (polygon.degree - 1) path at a c)
+          path_is next_is
           (spokes_are (front_of_across z k flag) (other_front z a c k flag not_last opposite)) (worth.opposite opposite)
 
   -- a spur that goes leaves the loop as it is
-  pub spur_worth : (at : ℕ) (path next : List ℕ) → from_spoke at true (λ at_vertex. spur_goes) path ≡ Some next → SameFreely (I path) (I next)
+  pub spur_worth : (at : ℕ) (path next : List ℕ) → from_spoke at true (λ at_vertex. spur_goes) path ≡ Some next
+      → SameFreely (I path) (I next)
   spur_worth at path next e =
       let r : AtPlace (λ at_vertex. spur_goes) at path next = at-place (λ at_vertex. spur_goes) at path next e in
       let goes = spur-is r.part r.instead r.does in
@@ -204,7 +227,8 @@ module _ (s : OrientedMesh) (split : SplitView) (o : IsOrientedSurface s) (t : I
       let from : path ≡ r.before ++ (x ∷ x ∷ r.instead) = r.path_is ∙ ap (λ (l : List ℕ). r.before ++ l) goes.is in
       subst (λ (l : List ℕ). SameFreely (I l) (I next)) (sym from)
       (subst (λ (l : List ℕ). SameFreely (I (r.before ++ (x ∷ x ∷ r.instead))) (I l)) (sym r.next_is)
-      (free_spur SameFreely loop_mul loop_inv (loop_one s.mesh t.parents.root t.parents.root_used) G (spoke s split o t polygon) r.before r.instead x))
+      (free_spur SameFreely loop_mul loop_inv (loop_one s.mesh t.parents.root t.parents.root_used) G (spoke s split o t polygon) r.before
+      r.instead x))
 
   -- The loops of spokes as lists, by ways up the tree.
   abbrev AtRoot : (ℕ → (ℕ → List ℕ) → Type 0) → Type 0
@@ -212,18 +236,22 @@ module _ (s : OrientedMesh) (split : SplitView) (o : IsOrientedSurface s) (t : I
 
   any_root : (P : ℕ → (ℕ → List ℕ) → Type 0) → AtRoot P → (root : ℕ) (ways : ℕ → List ℕ) → AreWaysUp s split root ways → P root ways
   any_root P at_root root ways h =
-      subst (λ x. P x ways) (root_is s split o t root ways h) (at_root ways (subst (λ x. AreWaysUp s split x ways) (sym (root_is s split o t root ways h)) h))
+      subst (λ x. P x ways) (root_is s split o t root ways h)
+      (at_root ways (subst (λ x. AreWaysUp s split x ways) (sym (root_is s split o t root ways h)) h))
 
-  list_of : (ways : ℕ → List ℕ) → AreWaysUp s split t.parents.root ways → (path : List ℕ) → (I path).rest ≡ path_loop s polygon t.parents.root ways true path
+  list_of : (ways : ℕ → List ℕ) → AreWaysUp s split t.parents.root ways → (path : List ℕ)
+      → (I path).rest ≡ path_loop s polygon t.parents.root ways true path
   list_of ways h path = sym (path_list s split o t polygon cut some ways h true path)
 
   -- equal loops are equal by lists
   pub same_lists : (path next : List ℕ) → SameFreely (I path) (I next) → (root : ℕ) (ways : ℕ → List ℕ) → AreWaysUp s split root ways
       → AreFreelyEqual s.mesh (root ∷ path_loop s polygon root ways true path) (root ∷ path_loop s polygon root ways true next)
   same_lists path next same =
-      any_root (λ root ways. AreFreelyEqual s.mesh (root ∷ path_loop s polygon root ways true path) (root ∷ path_loop s polygon root ways true next))
+      any_root (λ root ways. AreFreelyEqual s.mesh (root ∷ path_loop s polygon root ways true path)
+      (root ∷ path_loop s polygon root ways true next))
       (λ ways h.
-      subst (λ (l : List ℕ). AreFreelyEqual s.mesh (t.parents.root ∷ l) (t.parents.root ∷ path_loop s polygon t.parents.root ways true next)) (list_of ways h path)
+      subst (λ (l : List ℕ). AreFreelyEqual s.mesh (t.parents.root ∷ l) (t.parents.root ∷ path_loop s polygon t.parents.root ways true
+      next)) (list_of ways h path)
       (subst (λ (l : List ℕ). AreFreelyEqual s.mesh (t.parents.root ∷ (I path).rest) (t.parents.root ∷ l)) (list_of ways h next) same))
 
   -- the loop of the last side, or the way back along it, as a list
@@ -236,21 +264,26 @@ module _ (s : OrientedMesh) (split : SplitView) (o : IsOrientedSurface s) (t : I
   other_same true = G.inv_same (last_loop s split o t polygon) (last_loop_as s split o t polygon) (last_loops s split o t polygon)
   other_same false = last_loops s split o t polygon
 
-  other_list : (rises : Bool) (ways : ℕ → List ℕ) → AreWaysUp s split t.parents.root ways → (other_loop rises).rest ≡ signed_loop s polygon t.parents.root ways rises
+  other_list : (rises : Bool) (ways : ℕ → List ℕ) → AreWaysUp s split t.parents.root ways
+      → (other_loop rises).rest ≡ signed_loop s polygon t.parents.root ways rises
   unfolding other_loop
   other_list true ways h =
-      ap (back t.parents.root) (last_list s split o t polygon cut some ways h) ∙ sym (backward_is t.parents.root (last_side_loop s polygon t.parents.root ways))
+      ap (back t.parents.root) (last_list s split o t polygon cut some ways h)
+      ∙ sym (backward_is t.parents.root (last_side_loop s polygon t.parents.root ways))
   other_list false ways h = last_list s split o t polygon cut some ways h
 
-  pub loop_lists : (rises : Bool) (path front next : List ℕ) → SameFreely (I next) (loop_in loop_mul loop_inv (I front) (own_loop s split o t polygon rises) (I path))
+  pub loop_lists : (rises : Bool) (path front next : List ℕ)
+      → SameFreely (I next) (loop_in loop_mul loop_inv (I front) (own_loop s split o t polygon rises) (I path))
       → (root : ℕ) (ways : ℕ → List ℕ) → AreWaysUp s split root ways
       → AreFreelyEqual s.mesh
-      (root ∷ put_behind root (path_loop s polygon root ways true front) (signed_loop s polygon root ways rises) (path_loop s polygon root ways true path))
+      (root ∷ put_behind root (path_loop s polygon root ways true front) (signed_loop s polygon root ways rises)
+      (path_loop s polygon root ways true path))
       (root ∷ path_loop s polygon root ways true next)
   loop_lists rises path front next same =
       any_root
       (λ root ways. AreFreelyEqual s.mesh
-      (root ∷ put_behind root (path_loop s polygon root ways true front) (signed_loop s polygon root ways rises) (path_loop s polygon root ways true path))
+      (root ∷ put_behind root (path_loop s polygon root ways true front) (signed_loop s polygon root ways rises)
+      (path_loop s polygon root ways true path))
       (root ∷ path_loop s polygon root ways true next))
       (λ ways h.
       let root : ℕ = t.parents.root in
@@ -261,7 +294,8 @@ module _ (s : OrientedMesh) (split : SplitView) (o : IsOrientedSurface s) (t : I
       let tail : Loops s split t = loop_mul (loop_inv f) a in
       let put : SameFreely (I next) (loop_in loop_mul loop_inv f other a) =
       G.on (I next) (loop_in loop_mul loop_inv f own a) (loop_in loop_mul loop_inv f other a) same
-      (G.mul_same f f (loop_mul own tail) (loop_mul other tail) (G.itself f) (G.mul_same own other tail tail (other_same rises) (G.itself tail))) in
+      (G.mul_same f f (loop_mul own tail) (loop_mul other tail) (G.itself f)
+      (G.mul_same own other tail tail (other_same rises) (G.itself tail))) in
       let F : List ℕ = path_loop s polygon root ways true front in
       let shape : f.rest ++ (other.rest ++ (back root f.rest ++ a.rest))
       ≡ put_behind root F (signed_loop s polygon root ways rises) (path_loop s polygon root ways true path) =
@@ -270,35 +304,43 @@ module _ (s : OrientedMesh) (split : SplitView) (o : IsOrientedSurface s) (t : I
       ∙ ap (λ (l : List ℕ). F ++ (signed_loop s polygon root ways rises ++ (l ++ a.rest))) (sym (backward_is root F))
       ∙ ap (λ (l : List ℕ). F ++ (signed_loop s polygon root ways rises ++ (backward root F ++ l))) (list_of ways h path) in
       subst (λ (l : List ℕ). AreFreelyEqual s.mesh (root ∷ l) (root ∷ path_loop s polygon root ways true next)) shape
-      (subst (λ (l : List ℕ). AreFreelyEqual s.mesh (root ∷ (f.rest ++ (other.rest ++ (back root f.rest ++ a.rest)))) (root ∷ l)) (list_of ways h next)
+      (subst (λ (l : List ℕ). AreFreelyEqual s.mesh (root ∷ (f.rest ++ (other.rest ++ (back root f.rest ++ a.rest)))) (root ∷ l))
+      (list_of ways h next)
       (G.turn (I next) (loop_in loop_mul loop_inv f other a) put)))
 
   -- walks by way of equal loops are equal
   by_same : (x : ℕ) → is_used s.mesh x ≡ true → (one two : ℕ → (ℕ → List ℕ) → List ℕ)
       → ((root : ℕ) (ways : ℕ → List ℕ) → AreWaysUp s split root ways → AreFreelyEqual s.mesh (root ∷ one root ways) (root ∷ two root ways))
-      → (root : ℕ) (ways : ℕ → List ℕ) → AreWaysUp s split root ways → AreFreelyEqual s.mesh (by_loop ways x x (one root ways)) (by_loop ways x x (two root ways))
+      → (root : ℕ) (ways : ℕ → List ℕ) → AreWaysUp s split root ways
+      → AreFreelyEqual s.mesh (by_loop ways x x (one root ways)) (by_loop ways x x (two root ways))
   by_same x used one two same =
       any_root (λ root ways. AreFreelyEqual s.mesh (by_loop ways x x (one root ways)) (by_loop ways x x (two root ways)))
       (λ ways h.
       let root : ℕ = t.parents.root in
-      let way : IsWay s.mesh x root (ways x) = subst (IsWay s.mesh x root) (sym (up_is s split o t ways h x used)) ((tree_ways s split o t).way x used) in
-      freely_behind s.mesh x root (ways x) (one root ways ++ backward x (ways x)) (two root ways ++ backward x (ways x)) way
-      (freely_before s.mesh root (one root ways) (two root ways) (backward x (ways x)) (same root ways h)))
+      let way : IsWay s.mesh x root (ways x) =
+      subst (IsWay s.mesh x root) (sym (up_is s split o t ways h x used)) ((tree_ways s split o t).way x used) in
+      behind (free_equality s.mesh) x root (ways x) (one root ways ++ backward x (ways x)) (two root ways ++ backward x (ways x)) way
+      (before (free_equality s.mesh) root (one root ways) (two root ways) (backward x (ways x)) (same root ways h)))
 
   -- A step that costs nothing leaves the walk as it is, and one across the quad of the last side asks for the loop.
-  pub walk_stays : (path next walk : List ℕ) → IsWalk s.mesh walk → SameFreely (I path) (I next) → IsFreelyPath s split polygon path walk → IsFreelyPath s split polygon next walk
+  pub walk_stays : (path next walk : List ℕ) → IsWalk s.mesh walk → SameFreely (I path) (I next) → IsFreelyPath s split polygon path walk
+      → IsFreelyPath s split polygon next walk
   walk_stays path next walk w same free root ways h =
       let x : ℕ = slice_index walk 0 in
-      freely_on s.mesh walk (by_loop ways x x (path_loop s polygon root ways true path)) (by_loop ways x x (path_loop s polygon root ways true next)) (free root ways h)
-      (by_same x (w.used 0 0 w.starts) (λ r u. path_loop s polygon r u true path) (λ r u. path_loop s polygon r u true next) (same_lists path next same) root ways h)
+      (free_equality s.mesh).on walk (by_loop ways x x (path_loop s polygon root ways true path))
+      (by_loop ways x x (path_loop s polygon root ways true next)) (free root ways h)
+      (by_same x (w.used 0 0 w.starts) (λ r u. path_loop s polygon r u true path) (λ r u. path_loop s polygon r u true next)
+      (same_lists path next same) root ways h)
 
-  pub walk_changes : (rises : Bool) (path front next old new : List ℕ) → IsWalk s.mesh old → slice_index new 0 ≡ slice_index old 0 → All (λ i. i < polygon.degree) path
+  pub walk_changes : (rises : Bool) (path front next old new : List ℕ) → IsWalk s.mesh old → slice_index new 0 ≡ slice_index old 0
+      → All (λ i. i < polygon.degree) path
       → SameFreely (I next) (loop_in loop_mul loop_inv (I front) (own_loop s split o t polygon rises) (I path))
       → HasLoopIn s split polygon front rises old new → IsFreelyPath s split polygon path old → IsFreelyPath s split polygon next new
   walk_changes rises path front next old new w starts below same puts free root ways h =
       let x : ℕ = slice_index old 0 in
-      let put : ℕ → (ℕ → List ℕ) → List ℕ = λ r u. put_behind r (path_loop s polygon r u true front) (signed_loop s polygon r u rises) (path_loop s polygon r u true path) in
+      let put : ℕ → (ℕ → List ℕ) → List ℕ = λ r u. put_behind r (path_loop s polygon r u true front) (signed_loop s polygon r u rises)
+      (path_loop s polygon r u true path) in
       subst (λ y. AreFreelyEqual s.mesh new (by_loop ways y y (path_loop s polygon root ways true next))) (sym starts)
-      (freely_on s.mesh new (by_loop ways x x (put root ways)) (by_loop ways x x (path_loop s polygon root ways true next))
+      ((free_equality s.mesh).on new (by_loop ways x x (put root ways)) (by_loop ways x x (path_loop s polygon root ways true next))
       (puts root ways path h below (free root ways h))
       (by_same x (w.used 0 0 w.starts) put (λ r u. path_loop s polygon r u true next) (loop_lists rises path front next same) root ways h))

@@ -1,3 +1,4 @@
+pub mod Cuts
 pub mod Lifts
 pub mod Tracks
 pub mod Crossings

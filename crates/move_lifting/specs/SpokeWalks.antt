@@ -6,10 +6,12 @@ use Rattle.halfedge_map.specs.DartMaps.{origin_of}
 use Rattle.tree_cotree.specs.Splits.{SplitView}
 use Rattle.polygon_cut.specs.Polygons.{PolygonView}
 use Rattle.polygon_cut.specs.SpokeLoops.{AreWaysUp, backward, spoke_loop, by_loop, last_side}
+use Rattle.move_lifting.specs.Cuts.{IsCut}
 use Rattle.move_lifting.specs.Lifts.{LeadsAtPeak}
 use Rattle.move_lifting.specs.LoopsPutIn.{signed_loop}
 use Rattle.move_lifting.specs.declared.lifted.Lifted.{Lifted}
 use Rattle.move_lifting.specs.declared.looping.Looper.{Looper}
+use Rattle.move_lifting.specs.declared.looping.Looping.{Looping}
 
 -- the walk is the loop of the spoke, and has no spur
 pub record IsSpokeWalk (surface : OrientedMesh) (split : SplitView) (polygon : PolygonView) (spoke : ℕ) (walk : List ℕ) : Type 0 where
@@ -48,3 +50,8 @@ pub record IsLooper (surface : OrientedMesh) (split : SplitView) (polygon : Poly
   pub spokes : AreSpokeWalks surface split polygon polygon.degree looper.spokes
   pub forth : IsLastLoop surface split polygon false looper.forth
   pub back : IsLastLoop surface split polygon true looper.back
+
+-- the polygon is cut from the surface, and the looper is the one of this polygon
+pub record IsLooping (looping : Looping) : Type 0 where
+  pub cut : IsCut looping.cut.now
+  pub looper : IsLooper looping.cut.now.on.surface.now looping.cut.now.on.split.now looping.cut.now.polygon.now looping.looper.now

@@ -2,25 +2,20 @@
 ghost use Rattle.std.specs.Prelude.{◌≡◌, ◌+◌, ◌-◌, ◌*◌, ◌<◌, ◌≤◌, ◌^◌, ℕ, List, [], ◌∷◌, length, slice_index, All, Some, IfOk};
 ghost use Rattle.surf_model.specs.FreeWalks.{HasNoSpur};
 ghost use Rattle.surf_model.specs.Walks.{IsWalk};
-ghost use Rattle.halfedge_map.specs.DartMaps.{darts_of};
-ghost use Rattle.tree_cotree.specs.Splits.{IsSplit};
-ghost use Rattle.polygon_cut.specs.Polygons.{IsCutFrom};
 ghost use Rattle.spoke_paths.specs.Path_steps.{after_path_step};
 ghost use Rattle.move_lifting.specs.Contractions.{IsLedFrom, LeavesNothing};
-ghost use Rattle.move_lifting.specs.SpokeWalks.{IsLooper};
+ghost use Rattle.move_lifting.specs.Cuts.{IsCut};
+ghost use Rattle.move_lifting.specs.SpokeWalks.{IsLooping};
 ghost use Rattle.move_lifting.specs.LoopFronts.{spokes_in_front};
 ghost use Rattle.move_lifting.specs.LoopsPutIn.{IsFreelyPath};
 ghost use Rattle.move_lifting.specs.Tracks.{GoesOn, last_of};
-ghost use Rattle.move_lifting.specs.declared.expanding.TheConstants.{MOST_LIFTED_SIDES};
 
-use crate::looping::Looper;
+use crate::cut::Cut;
+use crate::looping::{Looper, Looping};
 use crate::reducing::Reduction;
 use crate::track::Track;
-use halfedge_map::Surface;
-use polygon_cut::Polygon;
 use spoke_paths::{PathStep, take_step};
 use std::alloc::{AllocError, Global};
-use tree_cotree::Split;
 
 /// Contracts a closed walk to its start, with `behind` entries behind it, where the steps leave nothing of its spokes.
 ///
@@ -28,28 +23,26 @@ use tree_cotree::Split;
 /// spokes are left, is one vertex.
 pub(crate) fn contract(
     alloc: Global,
-    surface: &Surface,
-    split: &Split,
-    polygon: &Polygon,
+    cut: &Cut<'_>,
     reduction: Reduction,
     track: Track,
     behind: u32,
 ) -> Result<Track, AllocError>
-    requires split { IsSplit surface.now split.now }
-    requires cut { IsCutFrom surface.now split.now polygon.now }
-    requires some { 0 < polygon.now.degree }
-    requires sides { darts_of surface.now ≤ MOST_LIFTED_SIDES }
-    requires reduction { LeavesNothing polygon.now reduction }
-    requires led { IsLedFrom surface.now.mesh behind track }
+    requires cut { IsCut cut.now }
+    requires reduction { LeavesNothing cut.now.polygon.now reduction }
+    requires led { IsLedFrom cut.now.on.surface.now.mesh behind track }
     requires closed { last_of track.walk ≡ slice_index track.walk 0 }
     requires no_spur { HasNoSpur track.walk }
-    requires spokes { IsFreelyPath surface.now split.now polygon.now reduction.spokes.items track.walk }
-    ensures leads { IfOk result (λ after. GoesOn surface.now.mesh behind track.walk track.list after.walk after.list) }
+    requires spokes { IsFreelyPath cut.now.on.surface.now cut.now.on.split.now cut.now.polygon.now reduction.spokes.items track.walk }
+    ensures leads { IfOk result (λ after. GoesOn cut.now.on.surface.now.mesh behind track.walk track.list after.walk after.list) }
     ensures nothing { IfOk result (λ after. after.walk ≡ slice_index track.walk 0 ∷ []) }
 {
-    // The proof reads what holds of every surface.
-    let _ = surface.faces();
-    let looper = Looper::start(alloc, surface, split, polygon)?;
+    let looper = Looper::start(alloc, cut)?;
+    let looping = Looping {
+        cut,
+        looper: &looper,
+        behind,
+    };
     let Reduction {
         wheel,
         spokes: mut path,
@@ -57,9 +50,7 @@ pub(crate) fn contract(
     } = reduction;
     let mut track = track;
     for step in &steps {
-        track = follow(
-            alloc, surface, split, polygon, &looper, track, &path, *step, behind,
-        )?;
+        track = follow(alloc, &looping, track, &path, *step)?;
         take_step(&wheel, &mut path, *step);
     }
     Ok(track)
@@ -69,35 +60,30 @@ pub(crate) fn contract(
 /// and after every other step the walk is what it was.
 fn follow(
     alloc: Global,
-    surface: &Surface,
-    split: &Split,
-    polygon: &Polygon,
-    looper: &Looper,
+    looping: &Looping<'_>,
     track: Track,
     path: &[u32],
     step: PathStep,
-    behind: u32,
 ) -> Result<Track, AllocError>
-    requires split { IsSplit surface.now split.now }
-    requires cut { IsCutFrom surface.now split.now polygon.now }
-    requires some { 0 < polygon.now.degree }
-    requires looper { IsLooper surface.now split.now polygon.now looper.now }
-    requires below { All (λ spoke. spoke < polygon.now.degree) path.now }
-    requires allowed { (next : List ℕ) × (after_path_step polygon.now.places step path.now ≡ Some next) }
-    requires walk { IsWalk surface.now.mesh track.walk }
+    requires looping { IsLooping looping.now }
+    requires below { All (λ spoke. spoke < looping.now.cut.now.polygon.now.degree) path.now }
+    requires allowed { (next : List ℕ) × (after_path_step looping.now.cut.now.polygon.now.places step path.now ≡ Some next) }
+    requires walk { IsWalk looping.now.cut.now.on.surface.now.mesh track.walk }
     requires closed { last_of track.walk ≡ slice_index track.walk 0 }
     requires no_spur { HasNoSpur track.walk }
-    requires spokes { IsFreelyPath surface.now split.now polygon.now path.now track.walk }
-    ensures leads { IfOk result (λ after. GoesOn surface.now.mesh behind track.walk track.list after.walk after.list) }
+    requires spokes { IsFreelyPath looping.now.cut.now.on.surface.now looping.now.cut.now.on.split.now
+        looping.now.cut.now.polygon.now path.now track.walk }
+    ensures leads { IfOk result (λ after. GoesOn looping.now.cut.now.on.surface.now.mesh looping.now.behind track.walk track.list
+        after.walk after.list) }
     ensures no_spur { IfOk result (λ after. HasNoSpur after.walk) }
     ensures some { IfOk result (λ after. 0 < length after.walk) }
     ensures starts { IfOk result (λ after. slice_index after.walk 0 ≡ slice_index track.walk 0) }
     ensures last { IfOk result (λ after. last_of after.walk ≡ last_of track.walk) }
-    ensures spokes { IfOk result (λ after. (next : List ℕ) → after_path_step polygon.now.places step path.now ≡ Some next
-        → IsFreelyPath surface.now split.now polygon.now next after.walk) }
+    ensures spokes { IfOk result (λ after. (next : List ℕ)
+        → after_path_step looping.now.cut.now.polygon.now.places step path.now ≡ Some next
+        → IsFreelyPath looping.now.cut.now.on.surface.now looping.now.cut.now.on.split.now looping.now.cut.now.polygon.now next
+        after.walk) }
 {
-    // The proof reads what holds of every surface.
-    let _ = surface.faces();
     let PathStep::Turn {
         at,
         side,
@@ -107,12 +93,20 @@ fn follow(
     else {
         return Ok(track);
     };
-    let last = polygon.degree() - 1;
+    let cut = looping.cut;
+    let last = cut.polygon.degree() - 1;
     if side != last && partner != last {
         return Ok(track);
     }
-    let front = front_of_loop(alloc, last, path, at, side, partner)?;
-    looper.put_loop(alloc, surface, split, polygon, track, &front, up, behind)
+    let front = front_of_loop(alloc, last, path, at, Quad { side, partner })?;
+    looping.put_loop(alloc, track, &front, up)
+}
+
+/// The two sides that a quad belongs to.
+#[derive(Clone, Copy)]
+struct Quad {
+    side: u32,
+    partner: u32,
 }
 
 /// The spokes behind which a turn across the quad of the last side puts the loop in: those before its place, and where the
@@ -122,14 +116,14 @@ fn front_of_loop(
     last: u32,
     path: &[u32],
     at: u32,
-    side: u32,
-    partner: u32,
+    quad: Quad,
 ) -> Result<Vec<u32>, AllocError>
     requires within { at ≤ length path.now }
-    requires side { side + 1 < 2 ^ 32 }
-    requires partner { partner + 1 < 2 ^ 32 }
-    ensures { IfOk result (λ front. front.items ≡ spokes_in_front last path.now at side partner) }
+    requires side { quad.side + 1 < 2 ^ 32 }
+    requires partner { quad.partner + 1 < 2 ^ 32 }
+    ensures { IfOk result (λ front. front.items ≡ spokes_in_front last path.now at quad.side quad.partner) }
 {
+    let Quad { side, partner } = quad;
     let mut front = Vec::from_slice(alloc, &path[..at as usize])?;
     match (side == last, at % 2 == 0) {
         (true, true) => {}

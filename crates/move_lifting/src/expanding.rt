@@ -11,8 +11,10 @@ ghost use Rattle.polygon_cut.specs.SpokeLoops.{LeavesCotree};
 ghost use Rattle.move_lifting.specs.Lifts.{AvoidsCotree, LeadsAtPeak, MoreLeaveCotree};
 ghost use Rattle.move_lifting.specs.Tracks.{GoesOn, last_of};
 ghost use Rattle.move_lifting.specs.Crossings.{IsStepOf, IsCrossed};
+ghost use Rattle.move_lifting.specs.Cuts.{IsSplitSurface};
 
 use crate::crossing::{FaceStep, face_below, push_rest};
+use crate::cut::SplitSurface;
 use crate::lifted::Lifted;
 use crate::track::Track;
 use halfedge_map::Surface;
@@ -48,7 +50,8 @@ pub fn expand(
 {
     let vertices = vertices_of(alloc, walk)?;
     let moves = MoveList::new(alloc, walk.darts());
-    let track = lead_all(alloc, surface, split, &vertices, 0, moves)?;
+    let on = SplitSurface { surface, split };
+    let track = lead_all(alloc, &on, &vertices, 0, moves)?;
     track.finish(alloc)
 }
 
@@ -66,32 +69,30 @@ pub(crate) fn vertices_of(alloc: Global, walk: &Walk) -> Result<Vec<VertexName>,
 /// Leads a walk off the cotree, with `behind` entries behind it, by moves that come after those that led to it.
 pub(crate) fn lead_all(
     alloc: Global,
-    surface: &Surface,
-    split: &Split,
+    on: &SplitSurface<'_>,
     walk: &[VertexName],
     behind: u32,
     moves: MoveList,
 ) -> Result<Track, AllocError>
-    requires split { IsSplit surface.now split.now }
-    requires walk { IsWalk surface.now.mesh (numbers walk.now) }
-    requires sides { darts_of surface.now ≤ MOST_LIFTED_SIDES }
+    requires on { IsSplitSurface on.now }
+    requires walk { IsWalk on.now.surface.now.mesh (numbers walk.now) }
     requires few { length walk.now ≤ MOST_LIFTED_SIDES + 1 }
     requires behind { behind ≤ MOST_LIFTED_DARTS }
-    ensures leads { IfOk result (λ track. GoesOn surface.now.mesh behind (numbers walk.now) moves track.walk track.list) }
-    ensures off_cotree { IfOk result (λ track. AvoidsCotree surface.now split.now track.walk) }
+    ensures leads { IfOk result (λ track. GoesOn on.now.surface.now.mesh behind (numbers walk.now) moves track.walk track.list) }
+    ensures off_cotree { IfOk result (λ track. AvoidsCotree on.now.surface.now on.now.split.now track.walk) }
     ensures no_spur { IfOk result (λ track. HasNoSpur track.walk) }
     ensures last { IfOk result (λ track. last_of track.walk ≡ last_of (numbers walk.now)) }
     ensures some { IfOk result (λ track. 0 < length track.walk) }
     ensures few { IfOk result (λ track. length track.walk < 2 ^ 31) }
-    ensures leaves { IfOk result (λ track. MoreLeaveCotree surface.now split.now moves.moves track.list.moves) }
+    ensures leaves { IfOk result (λ track. MoreLeaveCotree on.now.surface.now on.now.split.now moves.moves track.list.moves) }
     // What holds of every surface.
-    ensures valid { IfOk result (λ _. IsOrientedSurface surface.now) }
+    ensures valid { IfOk result (λ _. IsOrientedSurface on.now.surface.now) }
 {
     let mut track = Track::start(alloc, walk[0], moves);
-    let mut pending = Vec::with_capacity(alloc, surface.darts() as usize)?;
+    let mut pending = Vec::with_capacity(alloc, on.surface.darts() as usize)?;
     for place in 1..walk.len() {
         let after = (walk.len() - place - 1) as u32 + behind;
-        lead_on(&mut track, &mut pending, surface, split, walk[place], after)?;
+        lead_on(&mut track, &mut pending, on, walk[place], after)?;
     }
     Ok(track)
 }
@@ -103,36 +104,35 @@ pub(crate) fn lead_all(
 fn lead_on(
     track: &mut Track,
     pending: &mut Vec<VertexName>,
-    surface: &Surface,
-    split: &Split,
+    on: &SplitSurface<'_>,
     to: VertexName,
     behind: u32,
 ) -> Result<(), AllocError>
-    requires split { IsSplit surface.now split.now }
+    requires on { IsSplitSurface on.now }
     requires pending { pending.old.items ≡ [] }
     requires some { 0 < length track.old.walk }
     requires no_spur { HasNoSpur track.old.walk }
-    requires off_cotree { AvoidsCotree surface.now split.now track.old.walk }
-    requires edge { is_edge surface.now.mesh (last_of track.old.walk) to.0 ≡ true }
-    requires room { length track.old.walk + darts_of surface.now + behind < 2 ^ 31 }
+    requires off_cotree { AvoidsCotree on.now.surface.now on.now.split.now track.old.walk }
+    requires edge { is_edge on.now.surface.now.mesh (last_of track.old.walk) to.0 ≡ true }
+    requires room { length track.old.walk + darts_of on.now.surface.now + behind < 2 ^ 31 }
     ensures pending { OnOk result (pending.new.items ≡ []) }
     ensures some { OnOk result (0 < length track.new.walk) }
     ensures no_spur { OnOk result (HasNoSpur track.new.walk) }
-    ensures off_cotree { OnOk result (AvoidsCotree surface.now split.now track.new.walk) }
+    ensures off_cotree { OnOk result (AvoidsCotree on.now.surface.now on.now.split.now track.new.walk) }
     ensures last { OnOk result (last_of track.new.walk ≡ to.0) }
-    ensures long { OnOk result (length track.new.walk ≤ length track.old.walk + darts_of surface.now) }
-    ensures leads { OnOk result (GoesOn surface.now.mesh behind (track.old.walk ++ to.0 ∷ []) track.old.list
+    ensures long { OnOk result (length track.new.walk ≤ length track.old.walk + darts_of on.now.surface.now) }
+    ensures leads { OnOk result (GoesOn on.now.surface.now.mesh behind (track.old.walk ++ to.0 ∷ []) track.old.list
         track.new.walk track.new.list) }
-    ensures leaves { OnOk result (MoreLeaveCotree surface.now split.now track.old.list.moves track.new.list.moves) }
+    ensures leaves { OnOk result (MoreLeaveCotree on.now.surface.now on.now.split.now track.old.list.moves track.new.list.moves) }
 {
     pending.push(to)?;
     // With each step one of the darts below the edge goes for good, so there are no more steps than darts.
-    for _step in 0..surface.darts() {
+    for _step in 0..on.surface.darts() {
         let Some(next) = pending.pop() else {
             return Ok(());
         };
-        match face_below(surface, split, track.last(), next) {
-            Some(step) => cross(track, pending, surface.faces(), step, behind)?,
+        match face_below(on.surface, on.split, track.last(), next) {
+            Some(step) => cross(track, pending, on.surface.faces(), step, behind)?,
             None => track.put(next, pending.len() as u32 + behind)?,
         }
     }

@@ -50,18 +50,13 @@ pub(crate) fn put_turn(
 {
     let (walk, mut moves) = track.into_parts()?;
     let common = common_start(approach, &walk);
-    let back = back_to(alloc, approach, common)?;
-    let whole = there_round_and_back(alloc, approach, &turn.walk, &back, &walk, common)?;
+    let whole = there_round_and_back(alloc, approach, &turn.walk, &walk, common)?;
     find_room(whole.len(), walk.len(), behind, turn.moves.peak())?;
     let after = (walk.len() - common) as u32 + behind;
     insert_there_and_back(&mut moves, approach, common, after)?;
     let out = approach.len() as u32 - 1;
-    raise_moves(
-        &mut moves,
-        &turn.moves,
-        out,
-        out + back.len() as u32 + after,
-    )?;
+    let back = (approach.len() - common) as u32;
+    raise_moves(&mut moves, &turn.moves, out, out + back + after)?;
     reduce_all(alloc, &whole, behind, moves)
 }
 
@@ -79,25 +74,29 @@ fn find_room(whole: usize, walk: usize, behind: u32, peak: u32) -> Result<(), Al
     }
 }
 
-/// The walk along an approach, round a turn, back so far, and on along a walk behind its first `common` vertices.
+/// The walk along an approach, round a turn, back to the end of the first `common` vertices that the approach has in common with
+/// a walk, and on along that walk.
 fn there_round_and_back(
     alloc: Global,
     approach: &[VertexName],
     turn: &Walk,
-    back: &[VertexName],
     walk: &[VertexName],
     common: usize,
 ) -> Result<Vec<VertexName>, AllocError>
-    requires { common ≤ length walk.now }
+    requires some { 0 < common }
+    requires in_approach { common ≤ length approach.now }
+    requires in_walk { common ≤ length walk.now }
     ensures whole { IfOk result (λ whole. numbers whole.items
-        ≡ numbers approach.now ++ (drop 1 turn.now ++ (numbers back.now ++ drop common (numbers walk.now)))) }
+        ≡ numbers approach.now ++ (drop 1 turn.now
+        ++ (backward (last_of (take common (numbers approach.now))) (drop common (numbers approach.now))
+        ++ drop common (numbers walk.now)))) }
     // What holds of every walk.
     ensures starts { IfOk result (λ _. 0 < length turn.now) }
 {
     let mut whole = Vec::new(alloc);
     whole.extend_from_slice(approach)?;
     push_turn(&mut whole, turn)?;
-    whole.extend_from_slice(back)?;
+    whole.extend_from_slice(&back_to(alloc, approach, common)?)?;
     whole.extend_from_slice(&walk[common..])?;
     Ok(whole)
 }

@@ -5,44 +5,34 @@ ghost use Rattle.surf_model.specs.Vertices.{numbers};
 ghost use Rattle.surf_model.specs.declared.moves.Move.TheVariants.{Across};
 ghost use Rattle.halfedge_map.specs.DartMaps.{darts_of};
 ghost use Rattle.halfedge_map.specs.OrientedMeshes.{IsOrientedSurface};
-ghost use Rattle.tree_cotree.specs.Splits.{IsSplit};
-ghost use Rattle.polygon_cut.specs.Polygons.{IsCutFrom};
 ghost use Rattle.move_lifting.specs.Crossings.{IsStepOf, IsStepFrom};
+ghost use Rattle.move_lifting.specs.Cuts.{IsCut};
 ghost use Rattle.move_lifting.specs.SpokeWalks.{IsLastLoop};
 
 use crate::crossing::{FaceStep, push_rest};
-use crate::expanding::{MOST_LIFTED_SIDES, lead_all};
+use crate::cut::Cut;
+use crate::expanding::lead_all;
 use crate::lifted::Lifted;
 use halfedge_map::Surface;
-use polygon_cut::Polygon;
 use std::alloc::{AllocError, Global};
 use surf_model::faces::corner_after;
 use surf_model::{DartName, Faces, Move, MoveList, VertexName};
-use tree_cotree::Split;
 
 /// The loop of the last side of a polygon, or if `back` the way back along it: a walk without spurs from the vertex where that
 /// side starts, and moves that lead to it from that vertex.
 ///
 /// One move goes all round the root face of the cotree, in which the last side lies, and the others lead that off the cotree.
-pub(crate) fn last_loop(
-    alloc: Global,
-    surface: &Surface,
-    split: &Split,
-    polygon: &Polygon,
-    back: bool,
-) -> Result<Lifted, AllocError>
-    requires split { IsSplit surface.now split.now }
-    requires cut { IsCutFrom surface.now split.now polygon.now }
-    requires some { 0 < polygon.now.degree }
-    requires sides { darts_of surface.now ≤ MOST_LIFTED_SIDES }
-    ensures { IfOk result (IsLastLoop surface.now split.now polygon.now back) }
+pub(crate) fn last_loop(alloc: Global, cut: &Cut<'_>, back: bool) -> Result<Lifted, AllocError>
+    requires { IsCut cut.now }
+    ensures { IfOk result (IsLastLoop cut.now.on.surface.now cut.now.on.split.now cut.now.polygon.now back) }
 {
+    let (surface, polygon) = (cut.on.surface, cut.polygon);
     let dart = polygon.side(polygon.degree() - 1);
     let step = step_from(surface, dart, back);
     let around = all_round(alloc, surface.faces(), step, surface.origin(dart))?;
     let mut moves = MoveList::new(alloc, 0);
     moves.push(move_round(step), around.len() as u32 - 1)?;
-    let track = lead_all(alloc, surface, split, &around, 0, moves)?;
+    let track = lead_all(alloc, &cut.on, &around, 0, moves)?;
     track.finish(alloc)
 }
 

@@ -10,6 +10,7 @@
 
 mod contracting;
 mod crossing;
+mod cut;
 pub mod expanding;
 mod inserting;
 mod last_loop;

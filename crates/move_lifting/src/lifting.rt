@@ -12,6 +12,7 @@ ghost use Rattle.move_lifting.specs.Tracks.{last_of};
 ghost use Rattle.move_lifting.specs.declared.expanding.TheConstants.{MOST_LIFTED_SIDES, MOST_LIFTED_DARTS};
 
 use crate::contracting::contract;
+use crate::cut::{Cut, SplitSurface};
 use crate::expanding::{lead_all, vertices_of};
 use crate::reducing::Reduction;
 use halfedge_map::Surface;
@@ -51,16 +52,18 @@ pub fn lift(
     let mut moves = MoveList::new(alloc, first.darts());
     append_back(&mut closed, &mut moves, second)?;
     let behind = second.darts();
+    let on = SplitSurface { surface, split };
     if polygon.degree() == 0 {
-        let track = lead_all(alloc, surface, split, &closed, behind, moves)?;
+        let track = lead_all(alloc, &on, &closed, behind, moves)?;
         return Ok(Some(track.into_moves()));
     }
     let reduction = Reduction::of(alloc, surface, polygon, &closed)?;
     if !reduction.leaves_nothing() {
         return Ok(None);
     }
-    let track = lead_all(alloc, surface, split, &closed, behind, moves)?;
-    let track = contract(alloc, surface, split, polygon, reduction, track, behind)?;
+    let track = lead_all(alloc, &on, &closed, behind, moves)?;
+    let cut = Cut { on, polygon };
+    let track = contract(alloc, &cut, reduction, track, behind)?;
     Ok(Some(track.into_moves()))
 }
 

@@ -4,15 +4,14 @@ ghost use Rattle.surf_model.specs.FaceLists.{FaceList, is_used};
 ghost use Rattle.surf_model.specs.FreeWalks.{AreFreelyEqual, HasNoSpur};
 ghost use Rattle.surf_model.specs.Vertices.{numbers};
 ghost use Rattle.surf_model.specs.Walks.{IsWalk};
-ghost use Rattle.halfedge_map.specs.DartMaps.{darts_of};
 ghost use Rattle.tree_cotree.specs.Splits.{IsSplit};
-ghost use Rattle.polygon_cut.specs.Polygons.{IsCutFrom};
-ghost use Rattle.polygon_cut.specs.SpokeLoops.{AreWaysUp, by_loop, path_loop};
+ghost use Rattle.polygon_cut.specs.SpokeLoops.{AreWaysUp, by_loop};
+ghost use Rattle.move_lifting.specs.Cuts.{IsCut};
 ghost use Rattle.move_lifting.specs.LoopsPutIn.{HasLoopIn};
-ghost use Rattle.move_lifting.specs.SpokeWalks.{IsLooper, along_or_back, walks_loop};
+ghost use Rattle.move_lifting.specs.SpokeWalks.{IsLooper, IsLooping, along_or_back, walks_loop};
 ghost use Rattle.move_lifting.specs.Tracks.{GoesOn, last_of};
 
-use crate::expanding::MOST_LIFTED_SIDES;
+use crate::cut::Cut;
 use crate::inserting::{back_along, put_turn};
 use crate::last_loop::last_loop;
 use crate::laying::put_all;
@@ -20,11 +19,8 @@ use crate::lifted::Lifted;
 use crate::spoke_walks::SpokeWalks;
 use crate::track::Track;
 use crate::tree_way::way_up;
-use halfedge_map::Surface;
-use polygon_cut::Polygon;
 use std::alloc::{AllocError, Global};
 use surf_model::VertexName;
-use tree_cotree::Split;
 
 /// What is made once for a polygon, so that the loop of its last side can be put into walks.
 #[derive(Drop)]
@@ -36,67 +32,15 @@ pub(crate) struct Looper {
 
 impl Looper {
     /// Makes it.
-    pub(crate) fn start(
-        alloc: Global,
-        surface: &Surface,
-        split: &Split,
-        polygon: &Polygon,
-    ) -> Result<Looper, AllocError>
-        requires split { IsSplit surface.now split.now }
-        requires cut { IsCutFrom surface.now split.now polygon.now }
-        requires some { 0 < polygon.now.degree }
-        requires sides { darts_of surface.now ≤ MOST_LIFTED_SIDES }
-        ensures { IfOk result (IsLooper surface.now split.now polygon.now) }
+    pub(crate) fn start(alloc: Global, cut: &Cut<'_>) -> Result<Looper, AllocError>
+        requires { IsCut cut.now }
+        ensures { IfOk result (IsLooper cut.now.on.surface.now cut.now.on.split.now cut.now.polygon.now) }
     {
         Ok(Looper {
-            spokes: SpokeWalks::of(alloc, surface, split, polygon)?,
-            forth: last_loop(alloc, surface, split, polygon, false)?,
-            back: last_loop(alloc, surface, split, polygon, true)?,
+            spokes: SpokeWalks::of(alloc, cut)?,
+            forth: last_loop(alloc, cut, false)?,
+            back: last_loop(alloc, cut, true)?,
         })
-    }
-
-    /// Puts the loop of the last side, or if `up` the way back along it, into the closed walk of a track, with `behind` entries
-    /// behind it: behind the spokes in front, by way of the tree.
-    ///
-    /// A walk of 2^31 vertices is answered as want of memory.
-    pub(crate) fn put_loop(
-        &self,
-        alloc: Global,
-        surface: &Surface,
-        split: &Split,
-        polygon: &Polygon,
-        track: Track,
-        front: &[u32],
-        up: bool,
-        behind: u32,
-    ) -> Result<Track, AllocError>
-        requires looper { IsLooper surface.now split.now polygon.now self.now }
-        requires split { IsSplit surface.now split.now }
-        requires cut { IsCutFrom surface.now split.now polygon.now }
-        requires some { 0 < polygon.now.degree }
-        requires front { All (λ spoke. spoke < polygon.now.degree) front.now }
-        requires walk { IsWalk surface.now.mesh track.walk }
-        requires closed { last_of track.walk ≡ slice_index track.walk 0 }
-        ensures leads { IfOk result (λ after. GoesOn surface.now.mesh behind track.walk track.list after.walk after.list) }
-        ensures freely { IfOk result (λ after. HasLoopIn surface.now split.now polygon.now front.now up track.walk after.walk) }
-        ensures no_spur { IfOk result (λ after. HasNoSpur after.walk) }
-        ensures last { IfOk result (λ after. last_of after.walk ≡ last_of track.walk) }
-        ensures some { IfOk result (λ after. 0 < length after.walk) }
-        ensures few { IfOk result (λ after. length after.walk < 2 ^ 31) }
-    {
-        // The proof reads what holds of every surface.
-        let _ = surface.faces();
-        let end = surface.origin(polygon.side(polygon.degree() - 1));
-        let approach = approach_of(
-            alloc,
-            surface,
-            split,
-            &self.spokes,
-            track.first(),
-            front,
-            end,
-        )?;
-        put_turn(alloc, track, &approach, self.turn(up), behind)
     }
 
     /// The loop of the last side, or if `up` the way back along it.
@@ -107,32 +51,75 @@ impl Looper {
     }
 }
 
-/// From a vertex up the tree, along spokes, and down the tree to another vertex, without spurs.
-fn approach_of(
-    alloc: Global,
-    surface: &Surface,
-    split: &Split,
-    spokes: &SpokeWalks,
-    start: VertexName,
-    front: &[u32],
-    end: VertexName,
-) -> Result<Vec<VertexName>, AllocError>
-    requires split { IsSplit surface.now split.now }
-    requires front { All (λ spoke. spoke < length spokes.now) front.now }
-    requires each { All (λ (walk : List ℕ). 0 < length walk) spokes.now }
-    requires start { is_used surface.now.mesh start.0 ≡ true }
-    requires end { is_used surface.now.mesh end.0 ≡ true }
-    ensures { IfOk result (λ walk. (root : ℕ) (ways : ℕ → List ℕ) → AreWaysUp surface.now split.now root ways
-        → AreFreelyEqual surface.now.mesh (by_loop ways start.0 end.0 (walks_loop spokes.now true front.now)) (numbers walk.items)) }
-{
-    let up = way_up(alloc, surface, split, start)?;
-    let down = back_along(alloc, &way_up(alloc, surface, split, end)?)?;
-    let mut walk = Vec::new(alloc);
-    walk.push(start)?;
-    put_all(&mut walk, &up[1..])?;
-    put_spokes(alloc, &mut walk, spokes, front)?;
-    put_all(&mut walk, &down)?;
-    Ok(walk)
+/// A cut surface with the looper of its polygon, and how many entries stand behind the closed walk that loops are put into.
+#[derive(Drop)]
+pub(crate) struct Looping<'a> {
+    pub(crate) cut: &'a Cut<'a>,
+    pub(crate) looper: &'a Looper,
+    pub(crate) behind: u32,
+}
+
+impl Looping<'_> {
+    /// Puts the loop of the last side, or if `up` the way back along it, into the closed walk of a track: behind the spokes in
+    /// front, by way of the tree.
+    ///
+    /// A walk of 2^31 vertices is answered as want of memory.
+    pub(crate) fn put_loop(
+        &self,
+        alloc: Global,
+        track: Track,
+        front: &[u32],
+        up: bool,
+    ) -> Result<Track, AllocError>
+        requires looping { IsLooping self.now }
+        requires front { All (λ spoke. spoke < self.now.cut.now.polygon.now.degree) front.now }
+        requires walk { IsWalk self.now.cut.now.on.surface.now.mesh track.walk }
+        requires closed { last_of track.walk ≡ slice_index track.walk 0 }
+        ensures leads { IfOk result (λ after. GoesOn self.now.cut.now.on.surface.now.mesh self.now.behind track.walk track.list
+            after.walk after.list) }
+        ensures freely { IfOk result (λ after. HasLoopIn self.now.cut.now.on.surface.now self.now.cut.now.on.split.now
+            self.now.cut.now.polygon.now front.now up track.walk after.walk) }
+        ensures no_spur { IfOk result (λ after. HasNoSpur after.walk) }
+        ensures last { IfOk result (λ after. last_of after.walk ≡ last_of track.walk) }
+        ensures some { IfOk result (λ after. 0 < length after.walk) }
+        ensures few { IfOk result (λ after. length after.walk < 2 ^ 31) }
+    {
+        let (cut, looper) = (self.cut, self.looper);
+        let (surface, polygon) = (cut.on.surface, cut.polygon);
+        let end = surface.origin(polygon.side(polygon.degree() - 1));
+        let approach = self.approach_of(alloc, track.first(), front, end)?;
+        put_turn(alloc, track, &approach, looper.turn(up), self.behind)
+    }
+
+    /// From a vertex up the tree, along spokes, and down the tree to another vertex, without spurs.
+    fn approach_of(
+        &self,
+        alloc: Global,
+        start: VertexName,
+        front: &[u32],
+        end: VertexName,
+    ) -> Result<Vec<VertexName>, AllocError>
+        requires split { IsSplit self.now.cut.now.on.surface.now self.now.cut.now.on.split.now }
+        requires front { All (λ spoke. spoke < length self.now.looper.now.spokes) front.now }
+        requires each { All (λ (walk : List ℕ). 0 < length walk) self.now.looper.now.spokes }
+        requires start { is_used self.now.cut.now.on.surface.now.mesh start.0 ≡ true }
+        requires end { is_used self.now.cut.now.on.surface.now.mesh end.0 ≡ true }
+        ensures { IfOk result (λ walk. (root : ℕ) (ways : ℕ → List ℕ)
+            → AreWaysUp self.now.cut.now.on.surface.now self.now.cut.now.on.split.now root ways
+            → AreFreelyEqual self.now.cut.now.on.surface.now.mesh
+            (by_loop ways start.0 end.0 (walks_loop self.now.looper.now.spokes true front.now)) (numbers walk.items)) }
+    {
+        let (cut, looper) = (self.cut, self.looper);
+        let (surface, split) = (cut.on.surface, cut.on.split);
+        let up = way_up(alloc, surface, split, start)?;
+        let down = back_along(alloc, &way_up(alloc, surface, split, end)?)?;
+        let mut walk = Vec::new(alloc);
+        walk.push(start)?;
+        put_all(&mut walk, &up[1..])?;
+        put_spokes(alloc, &mut walk, &looper.spokes, front)?;
+        put_all(&mut walk, &down)?;
+        Ok(walk)
+    }
 }
 
 /// Goes on along the walks of spokes, there along the first, back along the second, and so on, without spurs.

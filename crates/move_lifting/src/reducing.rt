@@ -42,7 +42,7 @@ impl Reduction {
         // What holds of every surface.
         ensures valid { IfOk result (λ _. IsOrientedSurface surface.now) }
     {
-        // The proof reads what holds of every surface.
+        // What holds of every surface.
         let _ = surface.faces();
         let wheel = wheel_of(alloc, polygon)?;
         let spokes = spokes_of(alloc, surface, polygon, walk)?;
@@ -88,14 +88,13 @@ fn spokes_of(
     polygon: &Polygon,
     walk: &[VertexName],
 ) -> Result<Vec<u32>, AllocError>
+    requires valid { IsOrientedSurface surface.now }
     requires cut { IsPolygonOf surface.now polygon.now }
     requires some { 0 < polygon.now.degree }
     requires walk { IsWalk surface.now.mesh (numbers walk.now) }
     ensures spokes { IfOk result (λ spokes. AreSpokesOf surface.now polygon.now (numbers walk.now) spokes.items) }
     ensures few { IfOk result (λ spokes. length spokes.items ≤ 2 * length walk.now) }
 {
-    // The proof reads what holds of every surface.
-    let _ = surface.faces();
     let mut spokes = Vec::new(alloc);
     for place in 1..walk.len() {
         push_spokes(&mut spokes, surface, polygon, walk[place - 1], walk[place])?;
@@ -111,13 +110,12 @@ fn push_spokes(
     from: VertexName,
     to: VertexName,
 ) -> Result<(), AllocError>
+    requires valid { IsOrientedSurface surface.now }
     requires cut { IsPolygonOf surface.now polygon.now }
     requires some { 0 < polygon.now.degree }
     requires edge { is_edge surface.now.mesh from.0 to.0 ≡ true }
     ensures { OnOk result (HasSpokesMore surface.now polygon.now from.0 to.0 spokes.old.items spokes.new.items) }
 {
-    // The proof reads what holds of every surface.
-    let _ = surface.faces();
     let dart = surface.dart_between(from, to).unwrap();
     let last = polygon.side(polygon.degree() - 1);
     if dart == last {

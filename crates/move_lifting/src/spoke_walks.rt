@@ -3,20 +3,17 @@ ghost use Rattle.std.specs.Prelude.{◌≡◌, ◌<◌, ◌∷◌, [], ◌++◌,
 ghost use Rattle.surf_model.specs.FreeWalks.{AreFreelyEqual, HasNoSpur};
 ghost use Rattle.surf_model.specs.Vertices.{numbers};
 ghost use Rattle.halfedge_map.specs.DartMaps.{darts_of, origin_of, twin_of};
-ghost use Rattle.tree_cotree.specs.Splits.{IsSplit};
-ghost use Rattle.polygon_cut.specs.Polygons.{IsCutFrom};
 ghost use Rattle.polygon_cut.specs.SpokeLoops.{AreWaysUp, backward};
+ghost use Rattle.move_lifting.specs.Cuts.{IsCut};
 ghost use Rattle.move_lifting.specs.SpokeWalks.{AreSpokeWalks};
 
+use crate::cut::Cut;
 use crate::inserting::back_along;
 use crate::laying::put_all;
 use crate::tree_way::way_up;
-use halfedge_map::Surface;
-use polygon_cut::Polygon;
 use std::alloc::{AllocError, Global};
 use std::marker::Model;
 use surf_model::{DartName, VertexName};
-use tree_cotree::Split;
 
 /// Walks by their numbers, each kept as its vertices.
 #[derive(Drop)]
@@ -35,24 +32,17 @@ impl Model for SpokeWalks {
 
 impl SpokeWalks {
     /// For each spoke of a polygon its loop at the root of the tree.
-    pub(crate) fn of(
-        alloc: Global,
-        surface: &Surface,
-        split: &Split,
-        polygon: &Polygon,
-    ) -> Result<SpokeWalks, AllocError>
-        requires split { IsSplit surface.now split.now }
-        requires cut { IsCutFrom surface.now split.now polygon.now }
-        requires some { 0 < polygon.now.degree }
-        ensures { IfOk result (AreSpokeWalks surface.now split.now polygon.now polygon.now.degree) }
+    pub(crate) fn of(alloc: Global, cut: &Cut<'_>) -> Result<SpokeWalks, AllocError>
+        requires { IsCut cut.now }
+        ensures { IfOk result (AreSpokeWalks cut.now.on.surface.now cut.now.on.split.now cut.now.polygon.now
+            cut.now.polygon.now.degree) }
     {
-        // The proof reads what holds of every surface.
-        let _ = surface.faces();
+        let polygon = cut.polygon;
         let mut walks = SpokeWalks::new(alloc);
-        walks.push(root_alone(alloc, surface, split, polygon.side(0))?)?;
+        walks.push(root_alone(alloc, cut, polygon.side(0))?)?;
         for spoke in 1..polygon.degree() {
             let side = polygon.side(spoke - 1);
-            let next = next_spoke(alloc, surface, split, side, walks.get(spoke - 1))?;
+            let next = next_spoke(alloc, cut, side, walks.get(spoke - 1))?;
             walks.push(next)?;
         }
         Ok(walks)
@@ -85,19 +75,13 @@ impl SpokeWalks {
 }
 
 /// The walk of one vertex, the root of the tree, which is found from where a dart starts.
-fn root_alone(
-    alloc: Global,
-    surface: &Surface,
-    split: &Split,
-    dart: DartName,
-) -> Result<Vec<VertexName>, AllocError>
-    requires split { IsSplit surface.now split.now }
-    requires dart { dart.0 < darts_of surface.now }
-    ensures { IfOk result (λ walk. (root : ℕ) (ways : ℕ → List ℕ) → AreWaysUp surface.now split.now root ways
+fn root_alone(alloc: Global, cut: &Cut<'_>, dart: DartName) -> Result<Vec<VertexName>, AllocError>
+    requires cut { IsCut cut.now }
+    requires dart { dart.0 < darts_of cut.now.on.surface.now }
+    ensures { IfOk result (λ walk. (root : ℕ) (ways : ℕ → List ℕ) → AreWaysUp cut.now.on.surface.now cut.now.on.split.now root ways
         → numbers walk.items ≡ root ∷ []) }
 {
-    // The proof reads what holds of every surface.
-    let _ = surface.faces();
+    let (surface, split) = (cut.on.surface, cut.on.split);
     let way = way_up(alloc, surface, split, surface.origin(dart))?;
     let mut walk = Vec::new(alloc);
     walk.push(way[way.len() - 1])?;
@@ -107,23 +91,22 @@ fn root_alone(
 /// From the root down the tree to the end of a dart, back along the dart, up again, and on along a spoke, without spurs.
 fn next_spoke(
     alloc: Global,
-    surface: &Surface,
-    split: &Split,
+    cut: &Cut<'_>,
     dart: DartName,
     spoke: &[VertexName],
 ) -> Result<Vec<VertexName>, AllocError>
-    requires split { IsSplit surface.now split.now }
-    requires dart { dart.0 < darts_of surface.now }
+    requires cut { IsCut cut.now }
+    requires dart { dart.0 < darts_of cut.now.on.surface.now }
     requires some { 0 < length spoke.now }
     ensures no_spur { IfOk result (λ next. HasNoSpur (numbers next.items)) }
-    ensures freely { IfOk result (λ next. (root : ℕ) (ways : ℕ → List ℕ) → AreWaysUp surface.now split.now root ways
-        → AreFreelyEqual surface.now.mesh (slice_index (numbers spoke.now) 0
-        ∷ (backward (origin_of surface.now (twin_of surface.now dart.0)) (ways (origin_of surface.now (twin_of surface.now dart.0)))
-        ++ (origin_of surface.now dart.0 ∷ (ways (origin_of surface.now dart.0) ++ drop 1 (numbers spoke.now)))))
+    ensures freely { IfOk result (λ next. (root : ℕ) (ways : ℕ → List ℕ) → AreWaysUp cut.now.on.surface.now cut.now.on.split.now root ways
+        → AreFreelyEqual cut.now.on.surface.now.mesh (slice_index (numbers spoke.now) 0
+        ∷ (backward (origin_of cut.now.on.surface.now (twin_of cut.now.on.surface.now dart.0))
+        (ways (origin_of cut.now.on.surface.now (twin_of cut.now.on.surface.now dart.0)))
+        ++ (origin_of cut.now.on.surface.now dart.0 ∷ (ways (origin_of cut.now.on.surface.now dart.0) ++ drop 1 (numbers spoke.now)))))
         (numbers next.items)) }
 {
-    // The proof reads what holds of every surface.
-    let _ = surface.faces();
+    let (surface, split) = (cut.on.surface, cut.on.split);
     let head = way_up(alloc, surface, split, surface.origin(surface.twin(dart)))?;
     let tail = way_up(alloc, surface, split, surface.origin(dart))?;
     let down = back_along(alloc, &head)?;

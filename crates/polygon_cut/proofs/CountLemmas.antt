@@ -83,7 +83,8 @@ one_more_among p at n j within apart = elim (cases_Bool (p (at j))) [
   | inl passes ↦
       let more : count_below (λ x. p x && among at (suc j) x) n ≡ suc (count_below (λ x. p x && among at j x) n) =
       count_less (λ x. p x && among at (suc j) x) (λ x. p x && among at j x) n (at j) within
-      (and_true (p (at j)) (among at (suc j) (at j)) here ∙ passes) (and_false (p (at j)) (among at j (at j)) fresh) (λ x x_in ne. elsewhere x ne) in
+      (and_true (p (at j)) (among at (suc j) (at j)) here ∙ passes) (and_false (p (at j)) (among at j (at j)) fresh)
+      (λ x x_in ne. elsewhere x ne) in
       rw passes (omega (arith, more))
   | inr fails ↦
       let same : count_below (λ x. p x && among at (suc j) x) n ≡ count_below (λ x. p x && among at j x) n =

@@ -36,7 +36,8 @@ labelled s split last degree sides labels places w is =
     subst (λ (n : ℕ). IsLabelled (rotations_of s) (outer_ring s split) (is_left split) (polygon_of n sides labels places)) (sym is)
     (walk_labels (rotations_of s) (outer_ring s split) (is_left split) last sides labels places w)
 
-pub turns_round : (s : OrientedMesh) (split : SplitView) (last degree : ℕ) (sides labels places : List ℕ) → IsOrientedSurface s → IsSplit s split
+pub turns_round : (s : OrientedMesh) (split : SplitView) (last degree : ℕ) (sides labels places : List ℕ) → IsOrientedSurface s
+    → IsSplit s split
     → IsRingWalk s split last sides labels → degree ≡ length sides → TurnsRound (rotations_of s) (polygon_of degree sides labels places)
 turns_round s split last degree sides labels places o t w is =
     let maps : Rotations = rotations_of s in
@@ -103,7 +104,8 @@ cut_is s split last degree sides labels places o t w is root placed =
       last_side = λ some.
           ap (λ (k : ℕ). face_of s (slice_index sides k)) before
           ∙ ap (face_of s) (last_is maps (outer_ring s split) (is_left split) last sides labels w) ∙ root;
-      places = λ some. places_are maps (polygon_of degree sides labels places) (turns_round s split last degree sides labels places o t w is) some placed;
+      places = λ some. places_are maps (polygon_of degree sides labels places)
+          (turns_round s split last degree sides labels places o t w is) some placed;
     }
 
 -- places by turning, said of lists that are the same

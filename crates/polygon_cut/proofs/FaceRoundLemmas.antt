@@ -39,7 +39,8 @@ unfoldable pub dir : OrientedMesh → ℕ → Bool
 dir s f = not (is_flipped s.signs f)
 
 -- a dart ends one corner on from where it starts
-end_is : (s : OrientedMesh) (f t d : ℕ) → IsNumberOf s.mesh f t d → end_corner_of s d ≡ next_corner (dir s f) (length (face_at s.mesh f)) (start_corner_of s d)
+end_is : (s : OrientedMesh) (f t d : ℕ) → IsNumberOf s.mesh f t d
+    → end_corner_of s d ≡ next_corner (dir s f) (length (face_at s.mesh f)) (start_corner_of s d)
 unfolding dir
 end_is s f t d n = by (is_flipped s.signs f) refl
   where
@@ -47,10 +48,12 @@ end_is s f t d n = by (is_flipped s.signs f) refl
     m = length (face_at s.mesh f)
 
     by : (b : Bool) → is_flipped s.signs f ≡ b → end_corner_of s d ≡ next_corner (not (is_flipped s.signs f)) m (start_corner_of s d)
-    by false e = end_kept s f t d n e ∙ sym (ap (λ b. next_corner (not b) m (start_corner_of s d)) e ∙ ap (next_corner true m) (start_kept s f t d n e))
+    by false e = end_kept s f t d n e ∙ sym (ap (λ b. next_corner (not b) m (start_corner_of s d)) e
+        ∙ ap (next_corner true m) (start_kept s f t d n e))
     by true e =
         end_flipped s f t d n e
-        ∙ sym (ap (λ b. next_corner (not b) m (start_corner_of s d)) e ∙ ap (next_corner false m) (start_flipped s f t d n e) ∙ corner_back true m t n.place)
+        ∙ sym (ap (λ b. next_corner (not b) m (start_corner_of s d)) e ∙ ap (next_corner false m) (start_flipped s f t d n e)
+        ∙ corner_back true m t n.place)
 
 pub corner_after_suc : (rising : Bool) (m t k : ℕ) → corner_after rising m t (suc k) ≡ next_corner rising m (corner_after rising m t k)
 corner_after_suc rising m t zero = refl
@@ -60,7 +63,8 @@ corner_after_suc rising m t (suc k) = corner_after_suc rising m (next_corner ris
 pub record OnRound (s : OrientedMesh) (d k : ℕ) : Type 0 where
   pub within : after_steps (next_of s) k d < darts_of s
   pub face : face_of s (after_steps (next_of s) k d) ≡ face_of s d
-  pub corner : start_corner_of s (after_steps (next_of s) k d) ≡ corner_after (dir s (face_of s d)) (length (face_at s.mesh (face_of s d))) (start_corner_of s d) k
+  pub corner : start_corner_of s (after_steps (next_of s) k d) ≡ corner_after (dir s (face_of s d)) (length (face_at s.mesh (face_of s d)))
+      (start_corner_of s d) k
 
 pub on_round : (s : OrientedMesh) → IsOrientedSurface s → (k d : ℕ) → d < darts_of s → OnRound s d k
 on_round s o zero d l = record { within = l; face = refl; corner = refl }
@@ -73,7 +77,8 @@ on_round s o (suc k) d l =
     let f_is : face_of s x ≡ place.face = face_at_number s place.face place.place x place.numbered in
     let face_on : face_of s (next_of s x) ≡ face_of s x =
     sym ((r.faces x (next_of s x) before.within (r.next_within x before.within)).1 (record { steps = 1; leads = refl })) in
-    let step : start_corner_of s (next_of s x) ≡ next_corner (dir s (face_of s x)) (length (face_at s.mesh (face_of s x))) (start_corner_of s x) =
+    let step : start_corner_of s (next_of s x) ≡ next_corner (dir s (face_of s x)) (length (face_at s.mesh (face_of s x)))
+    (start_corner_of s x) =
     corner-next s x before.within ∙ end_is s place.face place.place x place.numbered
     ∙ ap (λ f. next_corner (dir s f) (length (face_at s.mesh f)) (start_corner_of s x)) (sym f_is) in
     record {
@@ -96,25 +101,32 @@ at_face s d l =
     let f_is : place.face ≡ face_of s d = sym (face_at_number s place.face place.place d place.numbered) in
     record {
       in_list = subst (λ f. f < length s.mesh.faces) f_is place.numbered.face;
-      in_face = subst (λ f. start_corner_of s d < length (face_at s.mesh f)) f_is (start_corner_within s place.face place.place d place.numbered);
-      vertex = subst (λ f. origin_of s d ≡ get_or (face_at s.mesh f) (start_corner_of s d) 0) f_is (origin_at s place.face place.place d place.numbered);
+      in_face = subst (λ f. start_corner_of s d < length (face_at s.mesh f)) f_is
+          (start_corner_within s place.face place.place d place.numbered);
+      vertex = subst (λ f. origin_of s d ≡ get_or (face_at s.mesh f) (start_corner_of s d) 0) f_is
+          (origin_at s place.face place.place d place.numbered);
     }
 
 -- round the whole face one comes back to the dart, and not before
-pub comes_round : (s : OrientedMesh) → IsOrientedSurface s → (d : ℕ) → d < darts_of s → after_steps (next_of s) (length (face_at s.mesh (face_of s d))) d ≡ d
+pub comes_round : (s : OrientedMesh) → IsOrientedSurface s → (d : ℕ) → d < darts_of s
+    → after_steps (next_of s) (length (face_at s.mesh (face_of s d))) d ≡ d
 comes_round s o d l =
     let m : ℕ = length (face_at s.mesh (face_of s d)) in
     let end : OnRound s d m = on_round s o m d l in
     let here : AtFace s d = at_face s d l in
     let x : ℕ = after_steps (next_of s) m d in
-    let corner : start_corner_of s x ≡ start_corner_of s d = end.corner ∙ corner_home (dir s (face_of s d)) m (start_corner_of s d) here.in_face in
-    sym (at_start s x end.within) ∙ ap (λ f. dart_at_corner s f (start_corner_of s x)) end.face ∙ ap (dart_at_corner s (face_of s d)) corner ∙ at_start s d l
+    let corner : start_corner_of s x ≡ start_corner_of s d =
+    end.corner ∙ corner_home (dir s (face_of s d)) m (start_corner_of s d) here.in_face in
+    sym (at_start s x end.within) ∙ ap (λ f. dart_at_corner s f (start_corner_of s x)) end.face ∙ ap (dart_at_corner s (face_of s d)) corner
+    ∙ at_start s d l
 
-pub not_before : (s : OrientedMesh) → IsOrientedSurface s → (d k : ℕ) → d < darts_of s → 0 < k → k < length (face_at s.mesh (face_of s d)) → after_steps (next_of s) k d ≢ d
+pub not_before : (s : OrientedMesh) → IsOrientedSurface s → (d k : ℕ) → d < darts_of s → 0 < k → k < length (face_at s.mesh (face_of s d))
+    → after_steps (next_of s) k d ≢ d
 not_before s o d k l some few same =
     let m : ℕ = length (face_at s.mesh (face_of s d)) in
     let on : OnRound s d k = on_round s o k d l in
-    corner_apart (dir s (face_of s d)) m (start_corner_of s d) k (at_face s d l).in_face some few (sym on.corner ∙ ap (start_corner_of s) same)
+    corner_apart (dir s (face_of s d)) m (start_corner_of s d) k (at_face s d l).in_face some few
+    (sym on.corner ∙ ap (start_corner_of s) same)
 
 -- the vertices behind the origin of a dart, k darts on
 abbrev pub vertices_on : OrientedMesh → ℕ → ℕ → List ℕ
@@ -128,11 +140,13 @@ corners_read s o (suc k) d l =
     let on : OnRound s d 1 = on_round s o 1 d l in
     let rest : corners_from (face_at s.mesh (face_of s (next_of s d))) (dir s (face_of s (next_of s d))) (start_corner_of s (next_of s d)) k
     ≡ origin_of s (next_of s d) ∷ vertices_on s k (next_of s d) = corners_read s o k (next_of s d) on.within in
-    let moved : corners_from (face_at s.mesh (face_of s d)) (dir s (face_of s d)) (next_corner (dir s (face_of s d)) (length (face_at s.mesh (face_of s d))) (start_corner_of s d)) k
+    let moved : corners_from (face_at s.mesh (face_of s d)) (dir s (face_of s d))
+    (next_corner (dir s (face_of s d)) (length (face_at s.mesh (face_of s d))) (start_corner_of s d)) k
     ≡ corners_from (face_at s.mesh (face_of s (next_of s d))) (dir s (face_of s (next_of s d))) (start_corner_of s (next_of s d)) k =
     ap (λ c. corners_from (face_at s.mesh (face_of s d)) (dir s (face_of s d)) c k) (sym on.corner)
     ∙ ap (λ f. corners_from (face_at s.mesh f) (dir s f) (start_corner_of s (next_of s d)) k) (sym on.face) in
-    ap (λ x. x ∷ corners_from (face_at s.mesh (face_of s d)) (dir s (face_of s d)) (next_corner (dir s (face_of s d)) (length (face_at s.mesh (face_of s d))) (start_corner_of s d)) k) (sym (at_face s d l).vertex)
+    ap (λ x. x ∷ corners_from (face_at s.mesh (face_of s d)) (dir s (face_of s d))
+    (next_corner (dir s (face_of s d)) (length (face_at s.mesh (face_of s d))) (start_corner_of s d)) k) (sym (at_face s d l).vertex)
     ∙ ap (λ (w : List ℕ). origin_of s d ∷ w) (moved ∙ rest)
 
 -- one move leads from the origin round the whole face

@@ -19,12 +19,12 @@ use Rattle.halfedge_map.proofs.SystemLemmas.{rotation_system, names_all}
 use Rattle.tree_cotree.specs.Splits.{SplitView, IsSplit, in_cotree}
 use Rattle.polygon_cut.specs.Polygons.{PolygonView, IsCutFrom, side_at, label_of}
 use Rattle.polygon_cut.proofs.GroupLemmas.{quotient, inverse_of_quotient}
-use Rattle.polygon_cut.proofs.LoopLemmas.{back, loop_mul, loop_inv, loop_one}
+use Rattle.polygon_cut.proofs.WayLemmas.{back, loop_mul, loop_inv}
 use Rattle.polygon_cut.proofs.FreeLoopLemmas.{SameFreely}
 use Rattle.polygon_cut.proofs.FreeProductLemmas.{product_from, end_of, StepsTurn}
 use Rattle.polygon_cut.proofs.ValueLemmas.{round, by_labels, telescopes}
 use Rattle.polygon_cut.proofs.FaceRoundLemmas.{on_round, corner_after_suc, vertices_on, comes_round, not_before}
-use Rattle.polygon_cut.proofs.SpokeLemmas.{Loops, spoke}
+use Rattle.polygon_cut.proofs.DartLoopLemmas.{Loops, spoke, one_of}
 use Rattle.polygon_cut.proofs.FreeSpokeLemmas.{free_group, free_value, of_cotree_dart, free_twin, free_is_two_spokes}
 
 -- as many steps back lead back to the corner
@@ -37,24 +37,30 @@ round_trip rising m t (suc k) l =
 -- the corners behind the first
 corners_behind : List ℕ → Bool → ℕ → ℕ → List ℕ
 corners_behind face rising t zero = []
-corners_behind face rising t (suc k) = get_or face (next_corner rising (length face) t) 0 ∷ corners_behind face rising (next_corner rising (length face) t) k
+corners_behind face rising t (suc k) = get_or face (next_corner rising (length face) t) 0 ∷ corners_behind face rising
+    (next_corner rising (length face) t) k
 
-first_and_others : (face : List ℕ) (rising : Bool) (t k : ℕ) → corners_from face rising t k ≡ get_or face t 0 ∷ corners_behind face rising t k
+first_and_others : (face : List ℕ) (rising : Bool) (t k : ℕ)
+    → corners_from face rising t k ≡ get_or face t 0 ∷ corners_behind face rising t k
 unfolding corners_behind
 first_and_others face rising t zero = refl
-first_and_others face rising t (suc k) = ap (λ (l : List ℕ). get_or face t 0 ∷ l) (first_and_others face rising (next_corner rising (length face) t) k)
+first_and_others face rising t (suc k) =
+    ap (λ (l : List ℕ). get_or face t 0 ∷ l) (first_and_others face rising (next_corner rising (length face) t) k)
 
-behind_end : (face : List ℕ) (rising : Bool) (t k : ℕ) → end_of (get_or face t 0) (corners_behind face rising t k) ≡ get_or face (corner_after rising (length face) t k) 0
+behind_end : (face : List ℕ) (rising : Bool) (t k : ℕ)
+    → end_of (get_or face t 0) (corners_behind face rising t k) ≡ get_or face (corner_after rising (length face) t k) 0
 unfolding corners_behind
 behind_end face rising t zero = refl
 behind_end face rising t (suc k) = behind_end face rising (next_corner rising (length face) t) k
 
 one_more_behind : (face : List ℕ) (rising : Bool) (t k : ℕ)
-    → corners_behind face rising t (suc k) ≡ corners_behind face rising t k ++ get_or face (corner_after rising (length face) t (suc k)) 0 ∷ []
+    → corners_behind face rising t (suc k) ≡ corners_behind face rising t k ++ get_or face (corner_after rising (length face) t (suc k))
+    0 ∷ []
 unfolding corners_behind
 one_more_behind face rising t zero = refl
 one_more_behind face rising t (suc k) =
-    ap (λ (l : List ℕ). get_or face (next_corner rising (length face) t) 0 ∷ l) (one_more_behind face rising (next_corner rising (length face) t) k)
+    ap (λ (l : List ℕ). get_or face (next_corner rising (length face) t) 0 ∷ l)
+    (one_more_behind face rising (next_corner rising (length face) t) k)
 
 behind_back : (face : List ℕ) (rising : Bool) (t k : ℕ) → t < length face
     → corners_behind face (not rising) (corner_after rising (length face) t k) k ≡ back (get_or face t 0) (corners_behind face rising t k)
@@ -64,7 +70,8 @@ behind_back face rising t (suc k) l =
     let m : ℕ = length face in
     let on : ℕ = next_corner rising m t in
     one_more_behind face (not rising) (corner_after rising m on k) k
-    ∙ ap (λ (x : List ℕ). x ++ get_or face (corner_after (not rising) m (corner_after rising m on k) (suc k)) 0 ∷ []) (behind_back face rising on k (step_within rising m t l))
+    ∙ ap (λ (x : List ℕ). x ++ get_or face (corner_after (not rising) m (corner_after rising m on k) (suc k)) 0 ∷ [])
+    (behind_back face rising on k (step_within rising m t l))
     ∙ ap (λ c. back (get_or face on 0) (corners_behind face rising on k) ++ get_or face c 0 ∷ []) (round_trip rising m t (suc k) l)
 
 -- the corners read the other way, from where the reading ended
@@ -76,8 +83,10 @@ read_back face rising t k u rest l is =
     let first : get_or face t 0 ≡ u = cc in
     let others : corners_behind face rising t k ≡ rest = cc in
     first_and_others face (not rising) c k
-    ∙ ap (λ (x : List ℕ). get_or face c 0 ∷ x) (behind_back face rising t k l ∙ ap (λ x. back x (corners_behind face rising t k)) first ∙ ap (back u) others)
-    ∙ ap (λ x. x ∷ back u rest) (sym (behind_end face rising t k) ∙ ap (λ x. end_of x (corners_behind face rising t k)) first ∙ ap (end_of u) others)
+    ∙ ap (λ (x : List ℕ). get_or face c 0 ∷ x) (behind_back face rising t k l ∙ ap (λ x. back x (corners_behind face rising t k)) first
+    ∙ ap (back u) others)
+    ∙ ap (λ x. x ∷ back u rest) (sym (behind_end face rising t k) ∙ ap (λ x. end_of x (corners_behind face rising t k)) first
+    ∙ ap (end_of u) others)
 
 -- The dart from u to v: the first one that starts at u and ends at v.
 pub dart_from : OrientedMesh → ℕ → ℕ → ℕ
@@ -92,13 +101,16 @@ from_is s o u v d h =
     let found : IsFirstBelow test (darts_of s) = first_passes test (darts_of s) d h.within passes in
     let parts = and_parts (eqb (origin_of s found.number) u) (eqb (target_of s found.number) v) found.passes in
     let starts : origin_of s found.number ≡ u = eqb-true (origin_of s found.number) u parts.0 in
-    let ends : origin_of s (twin_of s found.number) ≡ v = origin-twin s o found.number found.within ∙ eqb-true (target_of s found.number) v parts.1 in
+    let ends : origin_of s (twin_of s found.number) ≡ v = origin-twin s o found.number found.within
+    ∙ eqb-true (target_of s found.number) v parts.1 in
     ap (λ x. unwrap_or x 0) found.is
     ∙ (rotation_system s o).one_dart found.number d found.within h.within (starts ∙ sym h.starts) (ends ∙ sym h.ends)
 
-pub own_from : (s : OrientedMesh) → IsOrientedSurface s → (d : ℕ) → d < darts_of s → dart_from s (origin_of s d) (origin_of s (next_of s d)) ≡ d
+pub own_from : (s : OrientedMesh) → IsOrientedSurface s → (d : ℕ) → d < darts_of s
+    → dart_from s (origin_of s d) (origin_of s (next_of s d)) ≡ d
 own_from s o d l =
-    from_is s o (origin_of s d) (origin_of s (next_of s d)) d (record { within = l; starts = refl; ends = sym ((rotation_system s o).follows d l) })
+    from_is s o (origin_of s d) (origin_of s (next_of s d)) d
+    (record { within = l; starts = refl; ends = sym ((rotation_system s o).follows d l) })
 
 pub twin_from : (s : OrientedMesh) → IsOrientedSurface s → (u v d : ℕ) → IsDartFrom (rotations_of s) u v d → dart_from s v u ≡ twin_of s d
 twin_from s o u v d h =
@@ -107,20 +119,25 @@ twin_from s o u v d h =
     (record { within = r.twin_within d h.within; starts = h.ends; ends = ap (origin_of s) (r.twin_back d h.within) ∙ h.starts })
 
 -- the free value of the step from u to v
-abbrev pub step_value : (s : OrientedMesh) (split : SplitView) → IsOrientedSurface s → (t : IsSplit s split) → PolygonView → ℕ → ℕ → Loops s split t
+abbrev pub step_value : (s : OrientedMesh) (split : SplitView) → IsOrientedSurface s → (t : IsSplit s split) → PolygonView → ℕ → ℕ
+    → Loops s split t
 step_value s split o t polygon u v = free_value s split o t polygon (dart_from s u v)
 
-pub steps_turn : (s : OrientedMesh) (split : SplitView) (o : IsOrientedSurface s) (t : IsSplit s split) (polygon : PolygonView) → IsCutFrom s split polygon → 0 < polygon.degree
+pub steps_turn : (s : OrientedMesh) (split : SplitView) (o : IsOrientedSurface s) (t : IsSplit s split) (polygon : PolygonView)
+    → IsCutFrom s split polygon → 0 < polygon.degree
     → StepsTurn {X = Loops s split t} SameFreely loop_inv s.mesh (step_value s split o t polygon)
 steps_turn s split o t polygon c some u v edge =
     let found = dart_between s o u v edge in
     let d : ℕ = found.0 in
-    subst (λ x. SameFreely (free_value s split o t polygon x) (loop_inv (step_value s split o t polygon u v))) (sym (twin_from s o u v d found.1))
-    (subst (λ x. SameFreely (free_value s split o t polygon (twin_of s d)) (loop_inv (free_value s split o t polygon x))) (sym (from_is s o u v d found.1))
+    subst (λ x. SameFreely (free_value s split o t polygon x) (loop_inv (step_value s split o t polygon u v)))
+    (sym (twin_from s o u v d found.1))
+    (subst (λ x. SameFreely (free_value s split o t polygon (twin_of s d)) (loop_inv (free_value s split o t polygon x)))
+    (sym (from_is s o u v d found.1))
     (free_twin s split o t polygon c some d found.1.within))
 
 -- the steps round a face are its darts
-pub steps_round : {X : Type 0} (mul : X → X → X) (one : X) (val : ℕ → X) (s : OrientedMesh) → IsOrientedSurface s → (k d : ℕ) → d < darts_of s
+pub steps_round : {X : Type 0} (mul : X → X → X) (one : X) (val : ℕ → X) (s : OrientedMesh) → IsOrientedSurface s → (k d : ℕ)
+    → d < darts_of s
     → product_from mul one (λ u v. val (dart_from s u v)) (origin_of s d) (vertices_on s k d) ≡ round mul one val (next_of s) k d
 steps_round mul one val s o zero d l = refl
 steps_round mul one val s o (suc k) d l =
@@ -146,45 +163,55 @@ closes s o d l =
     step_first (next_of s) (others_of s d) d ∙ ap (λ k. after_steps (next_of s) k d) count ∙ comes_round s o d l
 
 -- Where the others of a face are not the last side, their product is that of the spokes at its head and at its tail.
-others_product : (s : OrientedMesh) (split : SplitView) (o : IsOrientedSurface s) (t : IsSplit s split) (polygon : PolygonView) → IsCutFrom s split polygon → 0 < polygon.degree
+others_product : (s : OrientedMesh) (split : SplitView) (o : IsOrientedSurface s) (t : IsSplit s split) (polygon : PolygonView)
+    → IsCutFrom s split polygon → 0 < polygon.degree
     → (d : ℕ) → d < darts_of s → ((k : ℕ) → k < others_of s d → after_steps (next_of s) (suc k) d ≢ side_at polygon (polygon.degree - 1))
-    → SameFreely (round loop_mul (loop_one s.mesh t.parents.root t.parents.root_used) (free_value s split o t polygon) (next_of s) (others_of s d) (next_of s d))
-    (quotient loop_mul loop_inv (spoke s split o t polygon (label_of polygon (next_of s d))) (spoke s split o t polygon (label_of polygon d)))
+    → SameFreely (round loop_mul (one_of s split t) (free_value s split o t polygon) (next_of s) (others_of s d) (next_of s d))
+    (quotient loop_mul loop_inv (spoke s split o t polygon (label_of polygon (next_of s d)))
+    (spoke s split o t polygon (label_of polygon d)))
 others_product s split o t polygon c some d l other =
     let S : ℕ → Loops s split t = spoke s split o t polygon in
-    let nothing : Loops s split t = loop_one s.mesh t.parents.root t.parents.root_used in
+    let nothing : Loops s split t = one_of s split t in
     let all : Loops s split t = round loop_mul nothing (free_value s split o t polygon) (next_of s) (others_of s d) (next_of s d) in
-    let product : SameFreely all (quotient loop_mul loop_inv (S (label_of polygon (next_of s d))) (S (label_of polygon (after_steps (next_of s) (others_of s d) (next_of s d))))) =
-    telescopes SameFreely loop_mul loop_inv nothing (free_group s split t) (free_value s split o t polygon) S (label_of polygon) (next_of s) (others_of s d) (next_of s d)
+    let product : SameFreely all (quotient loop_mul loop_inv (S (label_of polygon (next_of s d)))
+    (S (label_of polygon (after_steps (next_of s) (others_of s d) (next_of s d))))) =
+    telescopes SameFreely loop_mul loop_inv nothing (free_group s split t) (free_value s split o t polygon) S (label_of polygon) (next_of s)
+    (others_of s d) (next_of s d)
     (λ j few.
     let x : ℕ = after_steps (next_of s) j (next_of s d) in
     let x_in : x < darts_of s = (on_round s o j (next_of s d) ((rotation_system s o).next_within d l)).within in
     free_is_two_spokes s split o t polygon c some x x_in (λ same. other j few (sym (step_first (next_of s) j d) ∙ same))) in
-    subst (λ x. SameFreely all (quotient loop_mul loop_inv (S (label_of polygon (next_of s d))) (S (label_of polygon x)))) (closes s o d l) product
+    subst (λ x. SameFreely all (quotient loop_mul loop_inv (S (label_of polygon (next_of s d))) (S (label_of polygon x)))) (closes s o d l)
+    product
 
 -- round a face that is not the root face, the others make the inverse of the dart of its parent edge
-pub others_of_parent : (s : OrientedMesh) (split : SplitView) (o : IsOrientedSurface s) (t : IsSplit s split) (polygon : PolygonView) → IsCutFrom s split polygon → 0 < polygon.degree
+pub others_of_parent : (s : OrientedMesh) (split : SplitView) (o : IsOrientedSurface s) (t : IsSplit s split) (polygon : PolygonView)
+    → IsCutFrom s split polygon → 0 < polygon.degree
     → (d : ℕ) → d < darts_of s → in_cotree split (edge_of s d) ≡ true → face_of s d ≢ split.root_face
-    → SameFreely (round loop_mul (loop_one s.mesh t.parents.root t.parents.root_used) (free_value s split o t polygon) (next_of s) (others_of s d) (next_of s d))
+    → SameFreely (round loop_mul (one_of s split t) (free_value s split o t polygon) (next_of s) (others_of s d) (next_of s d))
     (loop_inv (free_value s split o t polygon d))
 others_of_parent s split o t polygon c some d l is off_root =
     let g = free_group s split t in
     let S : ℕ → Loops s split t = spoke s split o t polygon in
-    let nothing : Loops s split t = loop_one s.mesh t.parents.root t.parents.root_used in
+    let nothing : Loops s split t = one_of s split t in
     let all : Loops s split t = round loop_mul nothing (free_value s split o t polygon) (next_of s) (others_of s d) (next_of s d) in
     let two : Loops s split t = by_labels loop_mul loop_inv S (label_of polygon) (next_of s) d in
     let turned : Loops s split t = quotient loop_mul loop_inv (S (label_of polygon (next_of s d))) (S (label_of polygon d)) in
     let product : SameFreely all turned =
-    others_product s split o t polygon c some d l (λ k few same. off_root (sym (on_round s o (suc k) d l).face ∙ ap (face_of s) same ∙ c.last_side some)) in
+    others_product s split o t polygon c some d l (λ k few same. off_root (sym (on_round s o (suc k) d l).face ∙ ap (face_of s) same
+    ∙ c.last_side some)) in
     subst (λ x. SameFreely all (loop_inv x)) (sym (of_cotree_dart s split o t polygon d is))
     (g.on all turned (loop_inv two) product
-    (g.turn (loop_inv two) turned (inverse_of_quotient SameFreely loop_mul loop_inv nothing g (S (label_of polygon d)) (S (label_of polygon (next_of s d))))))
+    (g.turn (loop_inv two) turned (inverse_of_quotient SameFreely loop_mul loop_inv nothing g (S (label_of polygon d))
+    (S (label_of polygon (next_of s d))))))
 
 -- round the root face, the others of the last side make the product of the spokes at its head and at its tail
-pub others_of_last : (s : OrientedMesh) (split : SplitView) (o : IsOrientedSurface s) (t : IsSplit s split) (polygon : PolygonView) → IsCutFrom s split polygon → 0 < polygon.degree
+pub others_of_last : (s : OrientedMesh) (split : SplitView) (o : IsOrientedSurface s) (t : IsSplit s split) (polygon : PolygonView)
+    → IsCutFrom s split polygon → 0 < polygon.degree
     → (d : ℕ) → d < darts_of s → d ≡ side_at polygon (polygon.degree - 1)
-    → SameFreely (round loop_mul (loop_one s.mesh t.parents.root t.parents.root_used) (free_value s split o t polygon) (next_of s) (others_of s d) (next_of s d))
-    (quotient loop_mul loop_inv (spoke s split o t polygon (label_of polygon (next_of s d))) (spoke s split o t polygon (label_of polygon d)))
+    → SameFreely (round loop_mul (one_of s split t) (free_value s split o t polygon) (next_of s) (others_of s d) (next_of s d))
+    (quotient loop_mul loop_inv (spoke s split o t polygon (label_of polygon (next_of s d)))
+    (spoke s split o t polygon (label_of polygon d)))
 others_of_last s split o t polygon c some d l is =
     others_product s split o t polygon c some d l
     (λ k few same. not_before s o d (suc k) l (omega arith) (let three = some_sides s o d l in omega arith) (same ∙ sym is))

@@ -27,7 +27,8 @@ signed inv false x = inv x
 
 abbrev pub value_of_word : {X : Type 0} → (X → X → X) → (X → X) → X → List X → List Letter → X
 value_of_word mul inv one elements [] = one
-value_of_word mul inv one elements (letter ∷ word) = mul (signed inv letter.plain (get_or elements letter.number one)) (value_of_word mul inv one elements word)
+value_of_word mul inv one elements (letter ∷ word) =
+    mul (signed inv letter.plain (get_or elements letter.number one)) (value_of_word mul inv one elements word)
 
 -- whether the signs differ
 abbrev differ : Bool → Bool → Bool
@@ -56,45 +57,57 @@ with_first meaning One = One
 with_first meaning (Mul a b) = Mul (with_first meaning a) (with_first meaning b)
 with_first meaning (Inv a) = Inv (with_first meaning a)
 
-strike : {X : Type 0} (Same : X → X → Type 0) (mul : X → X → X) (inv : X → X) (one : X) → IsGroup Same mul inv one → (p q : Bool) (x y : X) → differ p q ≡ true → x ≡ y
+strike : {X : Type 0} (Same : X → X → Type 0) (mul : X → X → X) (inv : X → X) (one : X) → IsGroup Same mul inv one → (p q : Bool) (x y : X)
+    → differ p q ≡ true → x ≡ y
     → Same (mul (signed inv p x) (signed inv q y)) one
 strike Same mul inv one g true true x y h e = cc
 strike Same mul inv one g true false x y h e = subst (λ z. Same (mul x (inv z)) one) e (g.cancels x)
 strike Same mul inv one g false true x y h e = subst (λ z. Same (mul (inv x) z) one) e (g.cancels_back x)
 strike Same mul inv one g false false x y h e = cc
 
-put_sound : {X : Type 0} (Same : X → X → Type 0) (mul : X → X → X) (inv : X → X) (one : X) → IsGroup Same mul inv one → (elements : List X) (plain : Bool) (n : ℕ) (word : List Letter)
-    → Same (mul (signed inv plain (get_or elements n one)) (value_of_word mul inv one elements word)) (value_of_word mul inv one elements (put plain n word))
+put_sound : {X : Type 0} (Same : X → X → Type 0) (mul : X → X → X) (inv : X → X) (one : X) → IsGroup Same mul inv one
+    → (elements : List X) (plain : Bool) (n : ℕ) (word : List Letter)
+    → Same (mul (signed inv plain (get_or elements n one)) (value_of_word mul inv one elements word))
+    (value_of_word mul inv one elements (put plain n word))
 put_sound Same mul inv one g elements plain n [] = g.itself (mul (signed inv plain (get_or elements n one)) one)
-put_sound {X = X} Same mul inv one g elements plain n (letter ∷ word) = elim (cases_Bool (differ plain letter.plain && eqb n letter.number)) [
-  | inr other ↦ rw other (g.itself (mul (signed inv plain (get_or elements n one)) (value_of_word mul inv one elements (letter ∷ word))))
-  | inl struck ↦
-      let parts = and_parts (differ plain letter.plain) (eqb n letter.number) struck in
-      let same : get_or elements n one ≡ get_or elements letter.number one = ap (λ m. get_or elements m one) (eqb-true n letter.number parts.1) in
-      let a : X = signed inv plain (get_or elements n one) in
-      let b : X = signed inv letter.plain (get_or elements letter.number one) in
-      let rest : X = value_of_word mul inv one elements word in
-      let nothing : Same (mul a b) one = strike Same mul inv one g plain letter.plain (get_or elements n one) (get_or elements letter.number one) parts.0 same in
-      rw struck
-      (g.on (mul a (mul b rest)) (mul (mul a b) rest) rest (g.turn (mul (mul a b) rest) (mul a (mul b rest)) (g.associates a b rest))
-      (g.on (mul (mul a b) rest) (mul one rest) rest (g.mul_same (mul a b) one rest rest nothing (g.itself rest)) (g.one_left rest)))
-]
+put_sound {X = X} Same mul inv one g elements plain n (letter ∷ word) =
+    elim (cases_Bool (differ plain letter.plain && eqb n letter.number)) [
+      | inr other ↦ rw other (g.itself
+          (mul (signed inv plain (get_or elements n one)) (value_of_word mul inv one elements (letter ∷ word))))
+      | inl struck ↦
+          let parts = and_parts (differ plain letter.plain) (eqb n letter.number) struck in
+          let same : get_or elements n one ≡ get_or elements letter.number one =
+          ap (λ m. get_or elements m one) (eqb-true n letter.number parts.1) in
+          let a : X = signed inv plain (get_or elements n one) in
+          let b : X = signed inv letter.plain (get_or elements letter.number one) in
+          let rest : X = value_of_word mul inv one elements word in
+          let nothing : Same (mul a b) one =
+          strike Same mul inv one g plain letter.plain (get_or elements n one) (get_or elements letter.number one) parts.0 same in
+          rw struck
+          (g.on (mul a (mul b rest)) (mul (mul a b) rest) rest (g.turn (mul (mul a b) rest) (mul a (mul b rest)) (g.associates a b rest))
+          (g.on (mul (mul a b) rest) (mul one rest) rest (g.mul_same (mul a b) one rest rest nothing (g.itself rest)) (g.one_left rest)))
+    ]
 
-sound : {X : Type 0} (Same : X → X → Type 0) (mul : X → X → X) (inv : X → X) (one : X) → IsGroup Same mul inv one → (elements : List X) (plain : Bool) (t : Term) (word : List Letter)
-    → Same (mul (signed inv plain (value_of mul inv one elements t)) (value_of_word mul inv one elements word)) (value_of_word mul inv one elements (word_of plain t word))
+sound : {X : Type 0} (Same : X → X → Type 0) (mul : X → X → X) (inv : X → X) (one : X) → IsGroup Same mul inv one
+    → (elements : List X) (plain : Bool) (t : Term) (word : List Letter)
+    → Same (mul (signed inv plain (value_of mul inv one elements t)) (value_of_word mul inv one elements word))
+    (value_of_word mul inv one elements (word_of plain t word))
 sound Same mul inv one g elements plain (Var n) word = put_sound Same mul inv one g elements plain n word
 sound Same mul inv one g elements true One word = g.one_left (value_of_word mul inv one elements word)
 sound {X = X} Same mul inv one g elements false One word =
     let w : X = value_of_word mul inv one elements word in
-    g.on (mul (inv one) w) (mul one w) w (g.mul_same (inv one) one w w (g.turn one (inv one) (inverse_of_one Same mul inv one g)) (g.itself w)) (g.one_left w)
+    g.on (mul (inv one) w) (mul one w) w (g.mul_same (inv one) one w w (g.turn one (inv one) (inverse_of_one Same mul inv one g))
+    (g.itself w)) (g.one_left w)
 sound {X = X} Same mul inv one g elements true (Mul a b) word =
     let x : X = value_of mul inv one elements a in
     let y : X = value_of mul inv one elements b in
     let w : X = value_of_word mul inv one elements word in
     let v : X = value_of_word mul inv one elements (word_of true b word) in
-    g.on (mul (mul x y) w) (mul x (mul y w)) (value_of_word mul inv one elements (word_of true a (word_of true b word))) (g.associates x y w)
+    g.on (mul (mul x y) w) (mul x (mul y w)) (value_of_word mul inv one elements (word_of true a (word_of true b word)))
+    (g.associates x y w)
     (g.on (mul x (mul y w)) (mul x v) (value_of_word mul inv one elements (word_of true a (word_of true b word)))
-    (g.mul_same x x (mul y w) v (g.itself x) (sound Same mul inv one g elements true b word)) (sound Same mul inv one g elements true a (word_of true b word)))
+    (g.mul_same x x (mul y w) v (g.itself x) (sound Same mul inv one g elements true b word))
+    (sound Same mul inv one g elements true a (word_of true b word)))
 sound {X = X} Same mul inv one g elements false (Mul a b) word =
     let x : X = value_of mul inv one elements a in
     let y : X = value_of mul inv one elements b in
@@ -104,43 +117,52 @@ sound {X = X} Same mul inv one g elements false (Mul a b) word =
     g.on (mul (inv (mul x y)) w) (mul (mul (inv y) (inv x)) w) whole
     (g.mul_same (inv (mul x y)) (mul (inv y) (inv x)) w w (inverse_of_product Same mul inv one g x y) (g.itself w))
     (g.on (mul (mul (inv y) (inv x)) w) (mul (inv y) (mul (inv x) w)) whole (g.associates (inv y) (inv x) w)
-    (g.on (mul (inv y) (mul (inv x) w)) (mul (inv y) v) whole (g.mul_same (inv y) (inv y) (mul (inv x) w) v (g.itself (inv y)) (sound Same mul inv one g elements false a word))
+    (g.on (mul (inv y) (mul (inv x) w)) (mul (inv y) v) whole (g.mul_same (inv y) (inv y) (mul (inv x) w) v (g.itself (inv y))
+    (sound Same mul inv one g elements false a word))
     (sound Same mul inv one g elements false b (word_of false a word))))
 sound Same mul inv one g elements true (Inv a) word = sound Same mul inv one g elements false a word
 sound {X = X} Same mul inv one g elements false (Inv a) word =
     let x : X = value_of mul inv one elements a in
     let w : X = value_of_word mul inv one elements word in
     let whole : X = value_of_word mul inv one elements (word_of true a word) in
-    g.on (mul (inv (inv x)) w) (mul x w) whole (g.mul_same (inv (inv x)) x w w (inverse_twice Same mul inv one g x) (g.itself w)) (sound Same mul inv one g elements true a word)
+    g.on (mul (inv (inv x)) w) (mul x w) whole (g.mul_same (inv (inv x)) x w w (inverse_twice Same mul inv one g x) (g.itself w))
+    (sound Same mul inv one g elements true a word)
 
 -- Terms with one reduced word are the same in every group.
-pub by_words : {X : Type 0} (Same : X → X → Type 0) (mul : X → X → X) (inv : X → X) (one : X) → IsGroup Same mul inv one → (elements : List X) (s t : Term)
+pub by_words : {X : Type 0} (Same : X → X → Type 0) (mul : X → X → X) (inv : X → X) (one : X) → IsGroup Same mul inv one
+    → (elements : List X) (s t : Term)
     → word_of true s [] ≡ word_of true t [] → Same (value_of mul inv one elements s) (value_of mul inv one elements t)
 by_words {X = X} Same mul inv one g elements s t e =
     let x : X = value_of mul inv one elements s in
     let y : X = value_of mul inv one elements t in
     let word : X = value_of_word mul inv one elements (word_of true t []) in
-    let x_word : Same (mul x one) word = subst (λ w. Same (mul x one) (value_of_word mul inv one elements w)) e (sound Same mul inv one g elements true s []) in
+    let x_word : Same (mul x one) word =
+    subst (λ w. Same (mul x one) (value_of_word mul inv one elements w)) e (sound Same mul inv one g elements true s []) in
     let y_word : Same (mul y one) word = sound Same mul inv one g elements true t [] in
     g.on x word y (g.on x (mul x one) word (g.turn (mul x one) x (g.one_right x)) x_word)
     (g.on word (mul y one) y (g.turn (mul y one) word y_word) (g.one_right y))
 
 -- the first of the elements may be replaced by one that is the same
-pub first_changed : {X : Type 0} (Same : X → X → Type 0) (mul : X → X → X) (inv : X → X) (one : X) → IsGroup Same mul inv one → (x y : X) (elements : List X) → Same x y → (t : Term)
+pub first_changed : {X : Type 0} (Same : X → X → Type 0) (mul : X → X → X) (inv : X → X) (one : X) → IsGroup Same mul inv one
+    → (x y : X) (elements : List X) → Same x y → (t : Term)
     → Same (value_of mul inv one (x ∷ elements) t) (value_of mul inv one (y ∷ elements) t)
 first_changed Same mul inv one g x y elements h (Var zero) = h
 first_changed Same mul inv one g x y elements h (Var (suc n)) = g.itself (get_or elements n one)
 first_changed Same mul inv one g x y elements h One = g.itself one
 first_changed Same mul inv one g x y elements h (Mul a b) =
-    g.mul_same (value_of mul inv one (x ∷ elements) a) (value_of mul inv one (y ∷ elements) a) (value_of mul inv one (x ∷ elements) b) (value_of mul inv one (y ∷ elements) b)
+    g.mul_same (value_of mul inv one (x ∷ elements) a) (value_of mul inv one (y ∷ elements) a) (value_of mul inv one (x ∷ elements) b)
+    (value_of mul inv one (y ∷ elements) b)
     (first_changed Same mul inv one g x y elements h a) (first_changed Same mul inv one g x y elements h b)
 first_changed Same mul inv one g x y elements h (Inv a) =
-    g.inv_same (value_of mul inv one (x ∷ elements) a) (value_of mul inv one (y ∷ elements) a) (first_changed Same mul inv one g x y elements h a)
+    g.inv_same (value_of mul inv one (x ∷ elements) a) (value_of mul inv one (y ∷ elements) a)
+    (first_changed Same mul inv one g x y elements h a)
 
 -- Terms over elements of which the first is the same as another term's value: they are the same where their words are, once that term
 -- stands for the first.
-pub by_relation : {X : Type 0} (Same : X → X → Type 0) (mul : X → X → X) (inv : X → X) (one : X) → IsGroup Same mul inv one → (x : X) (elements : List X) (meaning s t : Term)
-    → Same x (value_of mul inv one (one ∷ elements) meaning) → word_of true (with_first meaning s) [] ≡ word_of true (with_first meaning t) []
+pub by_relation : {X : Type 0} (Same : X → X → Type 0) (mul : X → X → X) (inv : X → X) (one : X) → IsGroup Same mul inv one
+    → (x : X) (elements : List X) (meaning s t : Term)
+    → Same x (value_of mul inv one (one ∷ elements) meaning)
+    → word_of true (with_first meaning s) [] ≡ word_of true (with_first meaning t) []
     → Same (value_of mul inv one (x ∷ elements) s) (value_of mul inv one (x ∷ elements) t)
 by_relation {X = X} Same mul inv one g x elements meaning s t h e =
     let y : X = value_of mul inv one (one ∷ elements) meaning in
@@ -148,13 +170,16 @@ by_relation {X = X} Same mul inv one g x elements meaning s t h e =
     let b : X = value_of mul inv one (y ∷ elements) s in
     let c : X = value_of mul inv one (y ∷ elements) t in
     let d : X = value_of mul inv one (x ∷ elements) t in
-    let words : Same (value_of mul inv one (one ∷ elements) (with_first meaning s)) (value_of mul inv one (one ∷ elements) (with_first meaning t)) =
+    let words : Same (value_of mul inv one (one ∷ elements) (with_first meaning s))
+    (value_of mul inv one (one ∷ elements) (with_first meaning t)) =
     by_words Same mul inv one g (one ∷ elements) (with_first meaning s) (with_first meaning t) e in
-    let across : Same b c = subst (λ z. Same z c) (replaced s) (subst (λ z. Same (value_of mul inv one (one ∷ elements) (with_first meaning s)) z) (replaced t) words) in
+    let across : Same b c = subst (λ z. Same z c) (replaced s)
+    (subst (λ z. Same (value_of mul inv one (one ∷ elements) (with_first meaning s)) z) (replaced t) words) in
     g.on a b d (first_changed Same mul inv one g x y elements h s)
     (g.on b c d across (g.turn d c (first_changed Same mul inv one g x y elements h t)))
   where
-    replaced : (u : Term) → value_of mul inv one (one ∷ elements) (with_first meaning u) ≡ value_of mul inv one (value_of mul inv one (one ∷ elements) meaning ∷ elements) u
+    replaced : (u : Term) → value_of mul inv one (one ∷ elements) (with_first meaning u) ≡ value_of mul inv one
+        (value_of mul inv one (one ∷ elements) meaning ∷ elements) u
     replaced (Var zero) = refl
     replaced (Var (suc n)) = refl
     replaced One = refl

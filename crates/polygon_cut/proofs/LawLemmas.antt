@@ -30,9 +30,11 @@ every_side s split polygon side o t c l =
 pub leftover : (s : OrientedMesh) (split : SplitView) (polygon : PolygonView) (d : ℕ) → IsOrientedSurface s → IsSplit s split
     → IsCutFrom s split polygon
     → 0 < polygon.degree → d < darts_of s → is_left split (edge_of s d) ≡ true
-    → place_of polygon (one_up polygon.degree (label_of polygon (twin_of s d))) ≡ one_down polygon.degree (place_of polygon (label_of polygon d))
+    → place_of polygon (one_up polygon.degree (label_of polygon (twin_of s d))) ≡ one_down polygon.degree
+    (place_of polygon (label_of polygon d))
 leftover s split polygon d o t c some l is =
-    leftover_places (rotations_of s) (after_dart (rotations_of s) (λ e. not (in_cotree split e))) (is_left split) polygon (rotation_system s o)
+    leftover_places (rotations_of s) (after_dart (rotations_of s) (λ e. not (in_cotree split e))) (is_left split) polygon
+    (rotation_system s o)
     (c.labels some) (c.places some) d l is
 
 pub four_places : (s : OrientedMesh) (split : SplitView) (polygon : PolygonView) (i : ℕ) → IsOrientedSurface s → IsSplit s split
@@ -42,9 +44,12 @@ four_places s split polygon i o t c four l =
     let some : 0 < polygon.degree = omega arith in
     let places = c.places some in
     let crosses : Crosses polygon.degree (across (rotations_of s) polygon) =
-    sides_cross (rotations_of s) (after_dart (rotations_of s) (λ e. not (in_cotree split e))) (is_left split) polygon (rotation_system s o) (c.labels some) in
+    sides_cross (rotations_of s) (after_dart (rotations_of s) (λ e. not (in_cotree split e))) (is_left split) polygon (rotation_system s o)
+    (c.labels some) in
     places_rise (across (rotations_of s) polygon) (place_of polygon) (subst (λ n. Crosses n (across (rotations_of s) polygon)) four crosses)
-    (λ j k. subst (λ n. IsReached (λ x. one_up n (across (rotations_of s) polygon x)) 0 j) four (every_side s split polygon j o t c (omega arith)))
+    (λ j k. subst (λ n. IsReached (λ x. one_up n (across (rotations_of s) polygon x)) 0 j) four
+    (every_side s split polygon j o t c (omega arith)))
     (λ j k. subst (λ n. place_of polygon j < n) four (places.below j (omega arith)))
-    (λ j k. subst (λ n. place_of polygon (one_up n (across (rotations_of s) polygon j)) ≡ one_down n (place_of polygon j)) four (places.falls j (omega arith)))
+    (λ j k. subst (λ n. place_of polygon (one_up n (across (rotations_of s) polygon j)) ≡ one_down n (place_of polygon j)) four
+    (places.falls j (omega arith)))
     i l

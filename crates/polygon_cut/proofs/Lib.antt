@@ -9,6 +9,8 @@ pub mod RingWalkLemmas
 pub mod TurningLemmas
 pub mod CutLemmas
 pub mod GroupLemmas
+pub mod WayLemmas
+pub mod CongruenceLemmas
 pub mod LoopLemmas
 pub mod FreeLoopLemmas
 pub mod FreeProductLemmas
@@ -17,6 +19,7 @@ pub mod RelatorLemmas
 pub mod ValueLemmas
 pub mod TreeWayLemmas
 pub mod FaceRoundLemmas
+pub mod DartLoopLemmas
 pub mod SpokeLemmas
 pub mod FreeSpokeLemmas
 pub mod FreeRoundLemmas

@@ -32,7 +32,8 @@ sides_cross maps ring left polygon r h = record {
     twin_side i l =
         let d : ℕ = side_at polygon i in
         let in_range : d < maps.darts = (h.side_is_left i l).0 in
-        is_own_side maps ring left polygon h (maps.twin d) (r.twin_within d in_range) (ap left (sym (twin_edge maps r d in_range)) ∙ (h.side_is_left i l).1)
+        is_own_side maps ring left polygon h (maps.twin d) (r.twin_within d in_range) (ap left (sym (twin_edge maps r d in_range))
+        ∙ (h.side_is_left i l).1)
 
 up_apart : (degree i j : ℕ) → i < degree → j < degree → one_up degree i ≡ one_up degree j → i ≡ j
 up_apart degree i j l k e = elim (cases_eq (i + 1) degree) [
@@ -73,7 +74,8 @@ pub falling : (degree : ℕ) (f place : ℕ → ℕ) → IsPermutationBelow degr
     → FallingPlaces degree f place
 falling degree f place p some all h = record {
   below = λ i l. (let s = turns i l in at_below s.0 s.1 i s.2);
-  apart = λ i j l k e. (let s = turns i l in let t = turns j k in sym s.2 ∙ ap (λ (m : ℕ). after_steps f m 0) (same_turns s.0 t.0 s.1 t.1 (ap place s.2 ∙ e ∙ sym (ap place t.2))) ∙ t.2);
+  apart = λ i j l k e. (let s = turns i l in let t = turns j k in sym s.2
+      ∙ ap (λ (m : ℕ). after_steps f m 0) (same_turns s.0 t.0 s.1 t.1 (ap place s.2 ∙ e ∙ sym (ap place t.2))) ∙ t.2);
   falls = λ i l. (let s = turns i l in subst (λ (x : ℕ). place (f x) ≡ one_down degree (place x)) s.2 (next_falls s.0 s.1));
 }
   where

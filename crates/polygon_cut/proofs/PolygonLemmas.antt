@@ -21,9 +21,11 @@ one_down_below degree i l = grind (arith, nat_tests)
 first_unique : (maps : Rotations) (ring : ℕ → ℕ) (left : ℕ → Bool) (d x y : ℕ) → IsFirstLeft maps ring left d x
     → IsFirstLeft maps ring left d y → x ≡ y
 first_unique maps ring left d x y h k = elim (cases_lt h.steps k.steps) [
-  | inl less ↦ absurd (both_ways (left (maps.edge x)) (subst (λ (z : ℕ). left (maps.edge z) ≡ false) h.leads (k.none_before h.steps less)) h.is_left)
+  | inl less ↦ absurd (both_ways (left (maps.edge x)) (subst (λ (z : ℕ). left (maps.edge z) ≡ false) h.leads (k.none_before h.steps less))
+      h.is_left)
   | inr more ↦ elim (cases_lt k.steps h.steps) [
-    | inl less ↦ absurd (both_ways (left (maps.edge y)) (subst (λ (z : ℕ). left (maps.edge z) ≡ false) k.leads (h.none_before k.steps less)) k.is_left)
+    | inl less ↦ absurd (both_ways (left (maps.edge y)) (subst (λ (z : ℕ). left (maps.edge z) ≡ false) k.leads (h.none_before k.steps less))
+        k.is_left)
     | inr none ↦
         let same : h.steps ≡ k.steps = omega arith in
         sym h.leads ∙ ap (λ (m : ℕ). after_steps ring m d) same ∙ k.leads
@@ -43,7 +45,8 @@ first_moved maps ring left d x not_left h = elim (cases_eq h.steps 0) [
         steps = h.steps - 1;
         leads = step_first ring (h.steps - 1) d ∙ ap (λ (k : ℕ). after_steps ring k d) count ∙ h.leads;
         is_left = h.is_left;
-        none_before = λ k l. subst (λ (z : ℕ). left (maps.edge z) ≡ false) (sym (step_first ring k d)) (h.none_before (suc k) (omega arith));
+        none_before = λ k l. subst (λ (z : ℕ). left (maps.edge z) ≡ false) (sym (step_first ring k d))
+            (h.none_before (suc k) (omega arith));
       }
 ]
 
@@ -63,27 +66,34 @@ label_stays maps ring left polygon h p d l not_left =
 pub is_own_side : (maps : Rotations) (ring : ℕ → ℕ) (left : ℕ → Bool) (polygon : PolygonView) → IsLabelled maps ring left polygon
     → (d : ℕ) → d < maps.darts → left (maps.edge d) ≡ true → side_at polygon (label_of polygon d) ≡ d
 is_own_side maps ring left polygon h d l is =
-    let here : IsFirstLeft maps ring left d d = record { steps = 0; leads = refl; is_left = is; none_before = λ k m. absurd (omega arith) } in
+    let here : IsFirstLeft maps ring left d d =
+    record { steps = 0; leads = refl; is_left = is; none_before = λ k m. absurd (omega arith) } in
     first_unique maps ring left d (side_at polygon (label_of polygon d)) d (h.first d l) here
 
 pub label_rises : (maps : Rotations) (ring : ℕ → ℕ) (left : ℕ → Bool) (polygon : PolygonView) → IsLabelled maps ring left polygon
     → (d : ℕ) → d < maps.darts → left (maps.edge d) ≡ true → label_of polygon (ring d) ≡ one_up polygon.degree (label_of polygon d)
 label_rises maps ring left polygon h d l is =
-    ap (λ (x : ℕ). label_of polygon (ring x)) (sym (is_own_side maps ring left polygon h d l is)) ∙ h.along (label_of polygon d) (h.label_below d l)
+    ap (λ (x : ℕ). label_of polygon (ring x)) (sym (is_own_side maps ring left polygon h d l is))
+    ∙ h.along (label_of polygon d) (h.label_below d l)
 
 pub kind_labels : (maps : Rotations) (tree cotree left : ℕ → Bool) (polygon : PolygonView) → IsRotationSystem maps
     → ((d : ℕ) → d < maps.darts → OneOfThree (tree (maps.edge d)) (cotree (maps.edge d)) (left (maps.edge d)))
-    → IsLabelled maps (after_dart maps (λ e. not (cotree e))) left polygon → (d : ℕ) → d < maps.darts → KindLabels maps tree cotree left polygon d
+    → IsLabelled maps (after_dart maps (λ e. not (cotree e))) left polygon → (d : ℕ) → d < maps.darts
+    → KindLabels maps tree cotree left polygon d
 kind_labels maps tree cotree left polygon r kinds h d l = record {
   of_tree = λ is.
-      let none : cotree (maps.edge d) ≡ false = (not_others (tree (maps.edge d)) (cotree (maps.edge d)) (left (maps.edge d)) (kinds d l)).0 is in
-      let no_left : left (maps.edge d) ≡ false = (not_others (tree (maps.edge d)) (cotree (maps.edge d)) (left (maps.edge d)) (kinds d l)).1 is in
+      let none : cotree (maps.edge d) ≡ false = (not_others (tree (maps.edge d)) (cotree (maps.edge d)) (left (maps.edge d)) (kinds d l)).0
+      is in
+      let no_left : left (maps.edge d) ≡ false = (not_others (tree (maps.edge d)) (cotree (maps.edge d)) (left (maps.edge d)) (kinds d l)).1
+      is in
       ap (label_of polygon) (sym (go_on maps P d (ap not none))) ∙ label_stays maps (after_dart maps P) left polygon h p d l no_left;
   of_cotree = λ is.
-      let no_left : left (maps.edge d) ≡ false = (not_others (tree (maps.edge d)) (cotree (maps.edge d)) (left (maps.edge d)) (kinds d l)).2 is in
+      let no_left : left (maps.edge d) ≡ false = (not_others (tree (maps.edge d)) (cotree (maps.edge d)) (left (maps.edge d)) (kinds d l)).2
+      is in
       ap (label_of polygon) (sym (turn maps P d (ap not is))) ∙ label_stays maps (after_dart maps P) left polygon h p d l no_left;
   of_left = λ is.
-      let none : cotree (maps.edge d) ≡ false = (not_others (tree (maps.edge d)) (cotree (maps.edge d)) (left (maps.edge d)) (kinds d l)).3 is in
+      let none : cotree (maps.edge d) ≡ false = (not_others (tree (maps.edge d)) (cotree (maps.edge d)) (left (maps.edge d)) (kinds d l)).3
+      is in
       ap (label_of polygon) (sym (go_on maps P d (ap not none))) ∙ label_rises maps (after_dart maps P) left polygon h d l is;
 }
   where
@@ -93,7 +103,8 @@ kind_labels maps tree cotree left polygon r kinds h d l = record {
     p : IsPermutationBelow maps.darts (after_dart maps P)
     p = after_permutes maps r P
 
-    not_others : (a b c : Bool) → OneOfThree a b c → (a ≡ true → b ≡ false) × (a ≡ true → c ≡ false) × (b ≡ true → c ≡ false) × (c ≡ true → b ≡ false)
+    not_others : (a b c : Bool) → OneOfThree a b c → (a ≡ true → b ≡ false) × (a ≡ true → c ≡ false) × (b ≡ true → c ≡ false)
+        × (c ≡ true → b ≡ false)
     not_others a b c tree_one = (λ e. refl, λ e. refl, λ e. refl, λ e. refl)
     not_others a b c cotree_one = (λ e. absurd (both_ways false refl e), λ e. refl, λ e. refl, λ e. absurd (both_ways false refl e))
     not_others a b c left_one = (λ e. refl, λ e. absurd (both_ways false refl e), λ e. absurd (both_ways false refl e), λ e. refl)
@@ -102,8 +113,10 @@ kind_labels maps tree cotree left polygon r kinds h d l = record {
 pub label_on_tree_ring : (maps : Rotations) (tree cotree left : ℕ → Bool) (polygon : PolygonView) → IsRotationSystem maps
     → ((d : ℕ) → d < maps.darts → OneOfThree (tree (maps.edge d)) (cotree (maps.edge d)) (left (maps.edge d)))
     → IsLabelled maps (after_dart maps (λ e. not (cotree e))) left polygon → (d : ℕ) → d < maps.darts
-    → (label_of polygon (after_dart maps tree d) ≡ label_of polygon d) ⊎ (label_of polygon (after_dart maps tree d) ≡ turned maps polygon (label_of polygon d))
-label_on_tree_ring maps tree cotree left polygon r kinds h d l = go (tree (maps.edge d)) (cotree (maps.edge d)) (left (maps.edge d)) (kinds d l) refl refl refl
+    → (label_of polygon (after_dart maps tree d) ≡ label_of polygon d)
+    ⊎ (label_of polygon (after_dart maps tree d) ≡ turned maps polygon (label_of polygon d))
+label_on_tree_ring maps tree cotree left polygon r kinds h d l =
+    go (tree (maps.edge d)) (cotree (maps.edge d)) (left (maps.edge d)) (kinds d l) refl refl refl
   where
     twin : ℕ
     twin = maps.twin d
@@ -118,11 +131,13 @@ label_on_tree_ring maps tree cotree left polygon r kinds h d l = go (tree (maps.
     there = kind_labels maps tree cotree left polygon r kinds h twin twin_in
 
     go : (a b c : Bool) → OneOfThree a b c → tree (maps.edge d) ≡ a → cotree (maps.edge d) ≡ b → left (maps.edge d) ≡ c
-        → (label_of polygon (after_dart maps tree d) ≡ label_of polygon d) ⊎ (label_of polygon (after_dart maps tree d) ≡ turned maps polygon (label_of polygon d))
+        → (label_of polygon (after_dart maps tree d) ≡ label_of polygon d)
+        ⊎ (label_of polygon (after_dart maps tree d) ≡ turned maps polygon (label_of polygon d))
     go a b c tree_one t q s = inl (ap (label_of polygon) (go_on maps tree d t) ∙ here.of_tree t)
     go a b c cotree_one t q s = inl (ap (label_of polygon) (turn maps tree d t) ∙ here.of_cotree q)
     go a b c left_one t q s =
-        let own : side_at polygon (label_of polygon d) ≡ d = is_own_side maps (after_dart maps (λ e. not (cotree e))) left polygon h d l s in
+        let own : side_at polygon (label_of polygon d) ≡ d =
+        is_own_side maps (after_dart maps (λ e. not (cotree e))) left polygon h d l s in
         let twin_left : left (maps.edge twin) ≡ true = ap left (sym (twin_edge maps r d l)) ∙ s in
         inr (
         ap (label_of polygon) (turn maps tree d t) ∙ there.of_left twin_left
@@ -139,7 +154,8 @@ turning_reaches_all maps tree cotree left polygon r kinds h ring j l =
     let from : ℕ = side_at polygon 0 in
     let from_in : from < maps.darts = (h.side_is_left 0 some).0 in
     let reached = ring from (side_at polygon j) from_in (h.side_is_left j l).0 in
-    let label : IsReached (turned maps polygon) (label_of polygon from) (label_of polygon (after_steps f reached.steps from)) = go reached.steps from from_in in
+    let label : IsReached (turned maps polygon) (label_of polygon from) (label_of polygon (after_steps f reached.steps from)) =
+    go reached.steps from from_in in
     let start : label_of polygon from ≡ 0 = h.own_number 0 some in
     let end : label_of polygon (after_steps f reached.steps from) ≡ j = ap (label_of polygon) reached.leads ∙ h.own_number j l in
     subst (λ (x : ℕ). IsReached (turned maps polygon) x j) start (subst (IsReached (turned maps polygon) (label_of polygon from)) end label)
@@ -162,6 +178,7 @@ turning_reaches_all maps tree cotree left polygon r kinds h ring j l =
           | inl stays ↦ subst (IsReached (turned maps polygon) (label_of polygon x)) (sym stays) before
           | inr turns ↦
               subst (IsReached (turned maps polygon) (label_of polygon x)) (sym turns)
-              (reached_trans (turned maps polygon) (label_of polygon x) (label_of polygon (after_steps f k x)) (turned maps polygon (label_of polygon (after_steps f k x))) before
+              (reached_trans (turned maps polygon) (label_of polygon x) (label_of polygon (after_steps f k x))
+              (turned maps polygon (label_of polygon (after_steps f k x))) before
               (reached_step (turned maps polygon) (label_of polygon (after_steps f k x))))
         ]

@@ -14,9 +14,11 @@ use Rattle.polygon_cut.proofs.PlaceLemmas.{Crosses, turning_permutes}
 pub leftover_places : (maps : Rotations) (ring : ℕ → ℕ) (left : ℕ → Bool) (polygon : PolygonView) → IsRotationSystem maps
     → IsLabelled maps ring left polygon
     → HasPlaces maps polygon → (d : ℕ) → d < maps.darts → left (maps.edge d) ≡ true
-    → place_of polygon (one_up polygon.degree (label_of polygon (maps.twin d))) ≡ one_down polygon.degree (place_of polygon (label_of polygon d))
+    → place_of polygon (one_up polygon.degree (label_of polygon (maps.twin d))) ≡ one_down polygon.degree
+    (place_of polygon (label_of polygon d))
 leftover_places maps ring left polygon r h p d l is =
-    ap (λ (x : ℕ). place_of polygon (one_up polygon.degree (label_of polygon (maps.twin x)))) (sym (is_own_side maps ring left polygon h d l is))
+    ap (λ (x : ℕ). place_of polygon (one_up polygon.degree (label_of polygon (maps.twin x))))
+    (sym (is_own_side maps ring left polygon h d l is))
     ∙ p.falls (label_of polygon d) (h.label_below d l)
 
 -- a number that turning leaves as it is is reached from no other
@@ -105,7 +107,8 @@ down_up i l = elim (four i l) [
 ]
 
 -- for degree 4 the places rise by one with the spokes
-pub places_rise : (t place : ℕ → ℕ) → Crosses 4 t → ((j : ℕ) → j < 4 → IsReached (λ i. one_up 4 (t i)) 0 j) → ((i : ℕ) → i < 4 → place i < 4)
+pub places_rise : (t place : ℕ → ℕ) → Crosses 4 t → ((j : ℕ) → j < 4 → IsReached (λ i. one_up 4 (t i)) 0 j)
+    → ((i : ℕ) → i < 4 → place i < 4)
     → ((i : ℕ) → i < 4 → place (one_up 4 (t i)) ≡ one_down 4 (place i)) → (i : ℕ) → i < 4 → place (one_up 4 i) ≡ one_up 4 (place i)
 places_rise t place c all below falls i l =
     let next : ℕ = one_up 4 i in
@@ -124,7 +127,8 @@ places_rise t place c all below falls i l =
     sym (ap (one_up 4) fall ∙ down_up (place next) (below next next_in))
 
 -- each edge of a set has two darts
-pub darts_of_edges : (maps : Rotations) (set : ℕ → Bool) (edges : ℕ) → IsRotationSystem maps → ((d : ℕ) → d < maps.darts → maps.edge d < edges)
+pub darts_of_edges : (maps : Rotations) (set : ℕ → Bool) (edges : ℕ) → IsRotationSystem maps
+    → ((d : ℕ) → d < maps.darts → maps.edge d < edges)
     → ((e : ℕ) → e < edges → (d : ℕ) × (d < maps.darts) × (maps.edge d ≡ e))
     → count_below (λ d. set (maps.edge d)) maps.darts ≡ 2 * count_below set edges
 darts_of_edges maps set edges r edge_in darts =
@@ -145,7 +149,8 @@ darts_of_edges maps set edges r edge_in darts =
 
     below_none : (d : ℕ) → up_to 0 d ≡ false
     below_none d = elim (cases_Bool (up_to 0 d)) [
-      | inl is ↦ absurd (let lower : maps.edge d < 0 = ltb-true (maps.edge d) 0 (and_parts (set (maps.edge d)) (ltb (maps.edge d) 0) is).1 in omega arith)
+      | inl is ↦ absurd (let lower : maps.edge d < 0 = ltb-true (maps.edge d) 0
+          (and_parts (set (maps.edge d)) (ltb (maps.edge d) 0) is).1 in omega arith)
       | inr none ↦ none
     ]
 
@@ -177,7 +182,8 @@ darts_of_edges maps set edges r edge_in darts =
 
     not_before : (k d : ℕ) → maps.edge d ≡ k → up_to k d ≡ false
     not_before k d e = elim (cases_Bool (up_to k d)) [
-      | inl is ↦ absurd (let lower : maps.edge d < k = ltb-true (maps.edge d) k (and_parts (set (maps.edge d)) (ltb (maps.edge d) k) is).1 in omega arith)
+      | inl is ↦ absurd (let lower : maps.edge d < k = ltb-true (maps.edge d) k
+          (and_parts (set (maps.edge d)) (ltb (maps.edge d) k) is).1 in omega arith)
       | inr none ↦ none
     ]
 
@@ -191,7 +197,8 @@ darts_of_edges maps set edges r edge_in darts =
     go zero l = count_zero n
     go (suc k) l = elim (cases_Bool (set k)) [
       | inr out ↦
-          let same : count_below (up_to (suc k)) n ≡ count_below (up_to k) n = count_same (up_to (suc k)) (up_to k) n (λ d _. out_of_set k d out) in
+          let same : count_below (up_to (suc k)) n ≡ count_below (up_to k) n =
+          count_same (up_to (suc k)) (up_to k) n (λ d _. out_of_set k d out) in
           let count : count_below set (suc k) ≡ count_below set k + 0 = rw out refl in
           omega (arith, same, count, go k (omega arith))
       | inl is ↦
@@ -206,7 +213,8 @@ darts_of_edges maps set edges r edge_in darts =
           (λ x x_in ne. sym (at_other d x ne)) in
           let twin_still : between twin ≡ true = at_other d twin (r.twin_other d found.1) ∙ here_now k twin twin_is is in
           let second : count_below between n ≡ suc (count_below (up_to k) n) =
-          count_less between (up_to k) n twin twin_in twin_still (not_before k twin twin_is) (λ x x_in ne. rest d twin refl found.1 found.2 x x_in ne) in
+          count_less between (up_to k) n twin twin_in twin_still (not_before k twin twin_is)
+          (λ x x_in ne. rest d twin refl found.1 found.2 x x_in ne) in
           let count : count_below set (suc k) ≡ count_below set k + 1 = rw is refl in
           omega (arith, first, second, count, go k (omega arith))
     ]
@@ -217,11 +225,16 @@ darts_of_edges maps set edges r edge_in darts =
         at_other : (d x : ℕ) → x ≢ d → cond (eqb x d) false (up_to (suc k) x) ≡ up_to (suc k) x
         at_other d x ne = elim (cases_Bool (eqb x d)) [ inl same ↦ absurd (ne (eqb-true x d same)) | inr other ↦ rw other refl ]
 
-        rest : (d twin : ℕ) → twin ≡ maps.twin d → d < n → maps.edge d ≡ k → (x : ℕ) → x < n → x ≢ twin → cond (eqb x d) false (up_to (suc k) x) ≡ up_to k x
+        rest : (d twin : ℕ) → twin ≡ maps.twin d → d < n → maps.edge d ≡ k → (x : ℕ) → x < n → x ≢ twin
+            → cond (eqb x d) false (up_to (suc k) x) ≡ up_to k x
         rest d twin t d_in d_is x x_in ne = elim (cases_eq x d) [
           | inl same ↦
               subst (λ (y : ℕ). cond (eqb y d) false (up_to (suc k) y) ≡ up_to k y) (sym same) (at_itself d ∙ sym (not_before k d d_is))
           | inr other ↦
-              let apart : maps.edge x ≢ k = λ e. elim ((r.edges d x d_in x_in).0 (d_is ∙ sym e)) [ inl a ↦ other a | inr b ↦ ne (b ∙ sym t) ] in
+              let apart : maps.edge x ≢ k = λ e. elim ((r.edges d x d_in x_in).0 (d_is ∙ sym e)) [
+                | inl a ↦ other a
+                | inr b ↦
+                    ne (b ∙ sym t)
+              ] in
               at_other d x other ∙ other_edge k x apart
         ]

@@ -33,9 +33,10 @@ ring_goes_round s split last o t l =
     }
 
 -- as far as the walk has come: at which dart it is
-pub record IsWalking (s : OrientedMesh) (split : SplitView) (last steps : ℕ) (sides : List DartName) (labels : List ℕ) (dart : ℕ) : Type 0 where
-  pub at : dart ≡ after_steps (outer_ring s split) steps (outer_ring s split last)
-  pub walked : IsWalked (rotations_of s) (outer_ring s split) (is_left split) (outer_ring s split last) steps (dart_numbers sides) labels
+pub record IsWalking (s : OrientedMesh) (split : SplitView) (last steps : ℕ) (sides : List DartName) (labels : List ℕ) (dart : ℕ) : Type 0
+  where
+    pub at : dart ≡ after_steps (outer_ring s split) steps (outer_ring s split last)
+    pub walked : IsWalked (rotations_of s) (outer_ring s split) (is_left split) (outer_ring s split last) steps (dart_numbers sides) labels
 
 pub walking_within : (s : OrientedMesh) (split : SplitView) (last steps : ℕ) (sides : List DartName) (labels : List ℕ) (dart : ℕ)
     → IsOrientedSurface s → IsSplit s split → last < darts_of s → IsWalking s split last steps sides labels dart → dart < darts_of s
@@ -48,7 +49,8 @@ moved : (maps : Rotations) (ring : ℕ → ℕ) (left : ℕ → Bool) (start j k
     → labels ≡ new_labels → IsWalked maps ring left start j sides labels → IsWalked maps ring left start k new new_labels
 moved maps ring left start j k sides new labels new_labels one listed written h =
     subst (λ (xs : List ℕ). IsWalked maps ring left start k new xs) written
-    (subst (λ (xs : List ℕ). IsWalked maps ring left start k xs labels) listed (subst (λ (m : ℕ). IsWalked maps ring left start m sides labels) one h))
+    (subst (λ (xs : List ℕ). IsWalked maps ring left start k xs labels) listed
+    (subst (λ (m : ℕ). IsWalked maps ring left start m sides labels) one h))
 
 written : (sides : List DartName) (labels new_labels : List ℕ) (dart here : ℕ) → dart ≡ here → new_labels ≡ set labels dart (length sides)
     → set labels here (length (dart_numbers sides)) ≡ new_labels
@@ -59,32 +61,41 @@ written sides labels new_labels dart here at is =
 pub walking_left : (s : OrientedMesh) (split : SplitView) (last steps : ℕ) (sides new : List DartName) (labels new_labels : List ℕ)
     (dart : DartName) (next : ℕ) → IsOrientedSurface s → IsSplit s split → last < darts_of s → steps < darts_of s
     → IsWalking s split last steps sides labels dart.0 → is_left split (edge_of s dart.0) ≡ true → new ≡ sides ++ dart ∷ []
-    → new_labels ≡ set labels dart.0 (length sides) → next ≡ outer_ring s split dart.0 → IsWalking s split last (steps + 1) new new_labels next
+    → new_labels ≡ set labels dart.0 (length sides) → next ≡ outer_ring s split dart.0
+    → IsWalking s split last (steps + 1) new new_labels next
 walking_left s split last steps sides new labels new_labels dart next o t l b h is new_is labels_is next_is =
     let maps : Rotations = rotations_of s in
     let ring : ℕ → ℕ = outer_ring s split in
     let start : ℕ = ring last in
-    let here : is_left split (maps.edge (after_steps ring steps start)) ≡ true = ap (λ (d : ℕ). is_left split (edge_of s d)) (sym h.at) ∙ is in
-    let more = walked_left maps ring (is_left split) start steps (dart_numbers sides) labels (ring_goes_round s split last o t l) b here h.walked in
+    let here : is_left split (maps.edge (after_steps ring steps start)) ≡ true = ap (λ (d : ℕ). is_left split (edge_of s d)) (sym h.at)
+    ∙ is in
+    let more = walked_left maps ring (is_left split) start steps (dart_numbers sides) labels (ring_goes_round s split last o t l) b here
+    h.walked in
     let one : suc steps ≡ steps + 1 = omega arith in
     let listed : dart_numbers sides ++ after_steps ring steps start ∷ [] ≡ dart_numbers new =
-    ap (λ (d : ℕ). dart_numbers sides ++ d ∷ []) (sym h.at) ∙ sym (map-append (λ (d : DartName). d.0) sides (dart ∷ [])) ∙ ap dart_numbers (sym new_is) in
+    ap (λ (d : ℕ). dart_numbers sides ++ d ∷ []) (sym h.at) ∙ sym (map-append (λ (d : DartName). d.0) sides (dart ∷ []))
+    ∙ ap dart_numbers (sym new_is) in
     record {
       at = next_is ∙ ap ring h.at ∙ ap (λ (m : ℕ). after_steps ring m start) one;
-      walked = moved maps ring (is_left split) start (suc steps) (steps + 1) (dart_numbers sides ++ after_steps ring steps start ∷ []) (dart_numbers new)
-          (set labels (after_steps ring steps start) (length (dart_numbers sides))) new_labels one listed (written sides labels new_labels dart.0 (after_steps ring steps start) h.at labels_is) more;
+      walked = moved maps ring (is_left split) start (suc steps) (steps + 1) (dart_numbers sides ++ after_steps ring steps start ∷ [])
+          (dart_numbers new)
+          (set labels (after_steps ring steps start) (length (dart_numbers sides))) new_labels one listed
+          (written sides labels new_labels dart.0 (after_steps ring steps start) h.at labels_is) more;
     }
 
 pub walking_other : (s : OrientedMesh) (split : SplitView) (last steps : ℕ) (sides new : List DartName) (labels new_labels : List ℕ)
     (dart : DartName) (next : ℕ) → IsOrientedSurface s → IsSplit s split → last < darts_of s → steps < darts_of s
     → IsWalking s split last steps sides labels dart.0 → is_left split (edge_of s dart.0) ≡ false → new ≡ sides
-    → new_labels ≡ set labels dart.0 (length sides) → next ≡ outer_ring s split dart.0 → IsWalking s split last (steps + 1) new new_labels next
+    → new_labels ≡ set labels dart.0 (length sides) → next ≡ outer_ring s split dart.0
+    → IsWalking s split last (steps + 1) new new_labels next
 walking_other s split last steps sides new labels new_labels dart next o t l b h none new_is labels_is next_is =
     let maps : Rotations = rotations_of s in
     let ring : ℕ → ℕ = outer_ring s split in
     let start : ℕ = ring last in
-    let here : is_left split (maps.edge (after_steps ring steps start)) ≡ false = ap (λ (d : ℕ). is_left split (edge_of s d)) (sym h.at) ∙ none in
-    let more = walked_other maps ring (is_left split) start steps (dart_numbers sides) labels (ring_goes_round s split last o t l) b here h.walked in
+    let here : is_left split (maps.edge (after_steps ring steps start)) ≡ false = ap (λ (d : ℕ). is_left split (edge_of s d)) (sym h.at)
+    ∙ none in
+    let more = walked_other maps ring (is_left split) start steps (dart_numbers sides) labels (ring_goes_round s split last o t l) b here
+    h.walked in
     let one : suc steps ≡ steps + 1 = omega arith in
     record {
       at = next_is ∙ ap ring h.at ∙ ap (λ (m : ℕ). after_steps ring m start) one;
@@ -94,7 +105,8 @@ walking_other s split last steps sides new labels new_labels dart next o t l b h
     }
 
 -- the darts of a face are those that follow its first one in number
-pub number_in_face : (s : OrientedMesh) (f first at : ℕ) → f < length s.mesh.faces → first ≡ first_side s.mesh f → at < length (face_at s.mesh f)
+pub number_in_face : (s : OrientedMesh) (f first at : ℕ) → f < length s.mesh.faces → first ≡ first_side s.mesh f
+    → at < length (face_at s.mesh f)
     → IsNumberOf s.mesh f at (first + at)
 number_in_face s f first at l is b = record { face = l; place = b; is = ap (λ (k : ℕ). k + at) (sym is) }
 
@@ -105,5 +117,6 @@ none_in_face s f first test is none d l here =
     let same : h.face ≡ f = sym (face_at_number s h.face h.place d h.numbered) ∙ here in
     let within : h.place < length (face_at s.mesh f) =
     subst (λ (g : ℕ). h.place < length (face_at s.mesh g)) same h.numbered.place in
-    let number : first + h.place ≡ d = ap (λ (k : ℕ). k + h.place) is ∙ ap (λ (g : ℕ). first_side s.mesh g + h.place) (sym same) ∙ h.numbered.is in
+    let number : first + h.place ≡ d = ap (λ (k : ℕ). k + h.place) is ∙ ap (λ (g : ℕ). first_side s.mesh g + h.place) (sym same)
+    ∙ h.numbered.is in
     ap test (sym number) ∙ none h.place within

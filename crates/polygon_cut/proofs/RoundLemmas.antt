@@ -22,7 +22,8 @@ whole_round degree f p x all n few back = elim (cases_eq (suc n) degree) [
           let sum : k - suc n + suc n ≡ k = omega arith in
           let round : after_steps f (suc n) x ≡ x = sym (step_first f n x) ∙ back in
           let shorter : after_steps f (k - suc n) x ≡ j =
-          ap (after_steps f (k - suc n)) (sym round) ∙ sym (steps_add f (k - suc n) (suc n) x) ∙ ap (λ (m : ℕ). after_steps f m x) sum ∙ e in
+          ap (after_steps f (k - suc n)) (sym round) ∙ sym (steps_add f (k - suc n) (suc n) x) ∙ ap (λ (m : ℕ). after_steps f m x) sum
+          ∙ e in
           soon fuel (k - suc n) j (omega arith) shorter
     ]
 
@@ -66,7 +67,8 @@ round_home n f x h =
     ap (λ (m : ℕ). after_steps f m x) (sym period) ∙ sym (step_first f r.less x) ∙ r.back
 
 -- equal places, traced back to the start
-traced_back : (n : ℕ) (f : ℕ → ℕ) (x : ℕ) → GoesRound n f x → (k d : ℕ) → after_steps f k x ≡ after_steps f (k + d) x → x ≡ after_steps f d x
+traced_back : (n : ℕ) (f : ℕ → ℕ) (x : ℕ) → GoesRound n f x → (k d : ℕ) → after_steps f k x ≡ after_steps f (k + d) x
+    → x ≡ after_steps f d x
 traced_back n f x h zero d e = e ∙ ap (λ (m : ℕ). after_steps f m x) (let s : 0 + d ≡ d = omega arith in s)
 traced_back n f x h (suc k) d e =
     let within : (m : ℕ) → after_steps f m x < n = λ m. steps_within n f h.permutes m x h.start in

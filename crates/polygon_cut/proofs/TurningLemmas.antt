@@ -62,7 +62,8 @@ turning_more degree f turns places new spoke place next_spoke next_place g l h i
     first = λ _. ap (λ (xs : List ℕ). slice_index xs 0) is ∙ (elim (cases_eq turns 0) [
       | inl none ↦
           let zero_spoke : spoke ≡ 0 = h.at ∙ ap (λ (m : ℕ). after_steps f m 0) none in
-          ap (λ (i : ℕ). get_or (set places spoke place) i 0) (sym zero_spoke) ∙ get_or-set_same places spoke place 0 spoke_in ∙ h.first none
+          ap (λ (i : ℕ). get_or (set places spoke place) i 0) (sym zero_spoke) ∙ get_or-set_same places spoke place 0 spoke_in
+          ∙ h.first none
       | inr some ↦
           let apart : 0 ≢ spoke = λ e. round_apart degree f 0 g 0 turns (omega arith) l (e ∙ h.at) in
           get_or-set_other places spoke 0 place 0 apart ∙ h.placed.first (omega arith)
@@ -71,7 +72,8 @@ turning_more degree f turns places new spoke place next_spoke next_place g l h i
       | inl same ↦
           let here : after_steps f k 0 ≡ spoke = ap (λ (m : ℕ). after_steps f m 0) same ∙ sym h.at in
           let count : degree - turns ≡ degree - k = ap (λ (m : ℕ). degree - m) (sym same) in
-          ap (λ (i : ℕ). get_or (set places spoke place) i 0) here ∙ get_or-set_same places spoke place 0 spoke_in ∙ h.later (omega (arith, same, some)) ∙ count
+          ap (λ (i : ℕ). get_or (set places spoke place) i 0) here ∙ get_or-set_same places spoke place 0 spoke_in
+          ∙ h.later (omega (arith, same, some)) ∙ count
       | inr other ↦
           let less : k < turns = omega (arith, b, other) in
           let apart : after_steps f k 0 ≢ spoke = λ e. round_apart degree f 0 g k turns less l (e ∙ h.at) in

@@ -32,13 +32,15 @@ abbrev pub by_labels : {X : Type 0} → (X → X → X) → (X → X) → (ℕ �
 by_labels mul inv spoke label next d = quotient mul inv (spoke (label d)) (spoke (label (next d)))
 
 -- labels telescope
-pub telescopes : {X : Type 0} (Same : X → X → Type 0) (mul : X → X → X) (inv : X → X) (one : X) → IsGroup Same mul inv one → (val spoke : ℕ → X) (label next : ℕ → ℕ)
+pub telescopes : {X : Type 0} (Same : X → X → Type 0) (mul : X → X → X) (inv : X → X) (one : X) → IsGroup Same mul inv one
+    → (val spoke : ℕ → X) (label next : ℕ → ℕ)
     → (k d : ℕ) → ((j : ℕ) → j < k → Same (val (after_steps next j d)) (by_labels mul inv spoke label next (after_steps next j d)))
     → Same (round mul one val next k d) (quotient mul inv (spoke (label d)) (spoke (label (after_steps next k d))))
 telescopes Same mul inv one g val spoke label next zero d h =
     g.turn (quotient mul inv (spoke (label d)) (spoke (label d))) one (g.cancels (spoke (label d)))
 telescopes Same mul inv one g val spoke label next (suc k) d h =
-    let rest : Same (round mul one val next k (next d)) (quotient mul inv (spoke (label (next d))) (spoke (label (after_steps next k (next d))))) =
+    let rest : Same (round mul one val next k (next d))
+    (quotient mul inv (spoke (label (next d))) (spoke (label (after_steps next k (next d))))) =
     telescopes Same mul inv one g val spoke label next k (next d)
     (λ j l. subst (λ x. Same (val x) (by_labels mul inv spoke label next x)) (sym (step_first next j d)) (h (suc j) (omega arith))) in
     let joined : Same (mul (val d) (round mul one val next k (next d)))
@@ -49,54 +51,68 @@ telescopes Same mul inv one g val spoke label next (suc k) d h =
     (mul (by_labels mul inv spoke label next d) (quotient mul inv (spoke (label (next d))) (spoke (label (after_steps next k (next d))))))
     (quotient mul inv (spoke (label d)) (spoke (label (after_steps next k (next d))))) joined
     (middle Same mul inv one g (spoke (label d)) (spoke (label (next d))) (spoke (label (after_steps next k (next d))))) in
-    subst (λ x. Same (mul (val d) (round mul one val next k (next d))) (quotient mul inv (spoke (label d)) (spoke (label x)))) (step_first next k d) whole
+    subst (λ x. Same (mul (val d) (round mul one val next k (next d))) (quotient mul inv (spoke (label d)) (spoke (label x))))
+    (step_first next k d) whole
 
 -- the value of the last dart of a face follows from those of the others
-pub last_of_face : {X : Type 0} (Same : X → X → Type 0) (mul : X → X → X) (inv : X → X) (one : X) → IsGroup Same mul inv one → (val spoke : ℕ → X) (label next : ℕ → ℕ)
-    → (d : ℕ) → WholeRound Same mul one val next d → ((k : ℕ) → after_steps next k (next d) ≢ d → Same (val (after_steps next k (next d))) (by_labels mul inv spoke label next (after_steps next k (next d))))
+pub last_of_face : {X : Type 0} (Same : X → X → Type 0) (mul : X → X → X) (inv : X → X) (one : X) → IsGroup Same mul inv one
+    → (val spoke : ℕ → X) (label next : ℕ → ℕ)
+    → (d : ℕ) → WholeRound Same mul one val next d
+    → ((k : ℕ) → after_steps next k (next d) ≢ d
+    → Same (val (after_steps next k (next d))) (by_labels mul inv spoke label next (after_steps next k (next d))))
     → Same (val d) (by_labels mul inv spoke label next d)
 last_of_face Same mul inv one g val spoke label next d w others =
-    let rest : Same (round mul one val next w.less (next d)) (quotient mul inv (spoke (label (next d))) (spoke (label (after_steps next w.less (next d))))) =
+    let rest : Same (round mul one val next w.less (next d))
+    (quotient mul inv (spoke (label (next d))) (spoke (label (after_steps next w.less (next d))))) =
     telescopes Same mul inv one g val spoke label next w.less (next d) (λ j l. others j (w.first j l)) in
     let closed : Same (round mul one val next w.less (next d)) (quotient mul inv (spoke (label (next d))) (spoke (label d))) =
-    subst (λ x. Same (round mul one val next w.less (next d)) (quotient mul inv (spoke (label (next d))) (spoke (label x)))) w.closes rest in
+    subst (λ x. Same (round mul one val next w.less (next d)) (quotient mul inv (spoke (label (next d))) (spoke (label x)))) w.closes
+    rest in
     let product : Same (mul (val d) (quotient mul inv (spoke (label (next d))) (spoke (label d)))) one =
     g.on (mul (val d) (quotient mul inv (spoke (label (next d))) (spoke (label d)))) (round mul one val next (suc w.less) d) one
-    (g.mul_same (val d) (val d) (quotient mul inv (spoke (label (next d))) (spoke (label d))) (round mul one val next w.less (next d)) (g.itself (val d))
+    (g.mul_same (val d) (val d) (quotient mul inv (spoke (label (next d))) (spoke (label d))) (round mul one val next w.less (next d))
+    (g.itself (val d))
     (g.turn (round mul one val next w.less (next d)) (quotient mul inv (spoke (label (next d))) (spoke (label d))) closed))
     w.is_one in
     left_factor Same mul inv one g (val d) (spoke (label (next d))) (spoke (label d)) product
 
 -- Going up the cotree: from a face one step leads up, and none from the root.
 
-up_edge : (s : OrientedMesh) (split : SplitView) → IsOrientedSurface s → IsSplit s split → (f g h d e : ℕ) → IsStepUp (rotations_of s) split f g d → IsStepUp (rotations_of s) split f h e → g ≡ h
+up_edge : (s : OrientedMesh) (split : SplitView) → IsOrientedSurface s → IsSplit s split → (f g h d e : ℕ)
+    → IsStepUp (rotations_of s) split f g d → IsStepUp (rotations_of s) split f h e → g ≡ h
 up_edge s split o t f g h d e p q =
     let r : IsRotationSystem (rotations_of s) = rotation_system s o in
-    let one_edge : (rotations_of s).edge d ≡ (rotations_of s).edge e = t.child_faces.once ((rotations_of s).edge d) ((rotations_of s).edge e) f p.below q.below in
+    let one_edge : (rotations_of s).edge d ≡ (rotations_of s).edge e =
+    t.child_faces.once ((rotations_of s).edge d) ((rotations_of s).edge e) f p.below q.below in
     elim ((r.edges d e p.within q.within).0 one_edge) [
       | inl same ↦ sym p.leads ∙ ap (λ x. (rotations_of s).face ((rotations_of s).twin x)) (sym same) ∙ q.leads
       | inr turned ↦
           let f_is_g : f ≡ g = sym q.inside ∙ ap (rotations_of s).face turned ∙ p.leads in
-          let h_is_f : h ≡ f = sym q.leads ∙ ap (λ x. (rotations_of s).face ((rotations_of s).twin x)) turned ∙ ap (rotations_of s).face (r.twin_back d p.within) ∙ p.inside in
+          let h_is_f : h ≡ f = sym q.leads ∙ ap (λ x. (rotations_of s).face ((rotations_of s).twin x)) turned
+          ∙ ap (rotations_of s).face (r.twin_back d p.within) ∙ p.inside in
           sym f_is_g ∙ sym h_is_f
     ]
 
-pub no_step_from_root : (s : OrientedMesh) (split : SplitView) → IsSplit s split → (g : ℕ) → StepsUp (rotations_of s) split split.root_face g → ⊥
+pub no_step_from_root : (s : OrientedMesh) (split : SplitView) → IsSplit s split → (g : ℕ)
+    → StepsUp (rotations_of s) split split.root_face g → ⊥
 no_step_from_root s split t g step = t.child_faces.not_root ((rotations_of s).edge step.0) step.1.below
 
 -- the ways up from a face are equally long
 one_length : (s : OrientedMesh) (split : SplitView) → IsOrientedSurface s → IsSplit s split → (f : ℕ) (path other : List ℕ)
-    → IsPath (StepsUp (rotations_of s) split) f path split.root_face → IsPath (StepsUp (rotations_of s) split) f other split.root_face → length path ≡ length other
+    → IsPath (StepsUp (rotations_of s) split) f path split.root_face → IsPath (StepsUp (rotations_of s) split) f other split.root_face
+    → length path ≡ length other
 one_length s split o t f [] [] p q = refl
 one_length s split o t f [] (g ∷ other) p q = absurd (no_step_from_root s split t g (subst (λ x. StepsUp (rotations_of s) split x g) p q.0))
 one_length s split o t f (g ∷ path) [] p q = absurd (no_step_from_root s split t g (subst (λ x. StepsUp (rotations_of s) split x g) q p.0))
 one_length s split o t f (g ∷ path) (h ∷ other) p q =
     let same : g ≡ h = up_edge s split o t f g h p.0.0 q.0.0 p.0.1 q.0.1 in
-    ap suc (one_length s split o t g path other p.1 (subst (λ x. IsPath (StepsUp (rotations_of s) split) x other split.root_face) (sym same) q.1))
+    ap suc (one_length s split o t g path other p.1 (subst (λ x. IsPath (StepsUp (rotations_of s) split) x other split.root_face) (sym same)
+    q.1))
 
 -- a bound on how far the faces lie from the root
 depth_bound : (s : OrientedMesh) (split : SplitView) → IsOrientedSurface s → IsSplit s split → (n : ℕ) → n ≤ length s.mesh.faces
-    → (bound : ℕ) × ((f : ℕ) → f < n → (path : List ℕ) → IsPath (StepsUp (rotations_of s) split) f path split.root_face → length path ≤ bound)
+    → (bound : ℕ) × ((f : ℕ) → f < n → (path : List ℕ) → IsPath (StepsUp (rotations_of s) split) f path split.root_face
+    → length path ≤ bound)
 depth_bound s split o t zero l = (0, λ f k path p. absurd (omega arith))
 depth_bound s split o t (suc n) l =
     let before = depth_bound s split o t n (omega arith) in
@@ -115,11 +131,13 @@ depth_bound s split o t (suc n) l =
 
 -- What is known of the values of a surface's darts: twins have inverse values, each face has the value one, tree darts have it, and
 -- leftover darts have the value of their labels, but for the last side, which lies in the root face.
-pub record Valued {X : Type 0} (Same : X → X → Type 0) (mul : X → X → X) (inv : X → X) (one : X) (s : OrientedMesh) (split : SplitView) (val spoke : ℕ → X) (label : ℕ → ℕ) (last : ℕ) : Type 0 where
+pub record Valued {X : Type 0} (Same : X → X → Type 0) (mul : X → X → X) (inv : X → X) (one : X) (s : OrientedMesh) (split : SplitView)
+    (val spoke : ℕ → X) (label : ℕ → ℕ) (last : ℕ) : Type 0 where
   pub twins : (d : ℕ) → d < darts_of s → Same (val ((rotations_of s).twin d)) (inv (val d))
   pub faces : (d : ℕ) → d < darts_of s → WholeRound Same mul one val (rotations_of s).next d
   pub of_tree : (d : ℕ) → d < darts_of s → in_tree split ((rotations_of s).edge d) ≡ true → label ((rotations_of s).next d) ≡ label d
-  pub of_cotree : (d : ℕ) → d < darts_of s → in_cotree split ((rotations_of s).edge d) ≡ true → label ((rotations_of s).next ((rotations_of s).twin d)) ≡ label d
+  pub of_cotree : (d : ℕ) → d < darts_of s → in_cotree split ((rotations_of s).edge d) ≡ true
+      → label ((rotations_of s).next ((rotations_of s).twin d)) ≡ label d
   pub tree_one : (d : ℕ) → d < darts_of s → in_tree split ((rotations_of s).edge d) ≡ true → Same (val d) one
   pub left : (d : ℕ) → d < darts_of s → is_left split ((rotations_of s).edge d) ≡ true → (d ≡ last → ⊥)
       → Same (val d) (by_labels mul inv spoke label (rotations_of s).next d)
@@ -130,8 +148,10 @@ some_child None h = absurd (h refl)
 some_child (Some f) h = (f, refl)
 
 -- a dart of a cotree edge and its twin
-across_cotree : {X : Type 0} (Same : X → X → Type 0) (mul : X → X → X) (inv : X → X) (one : X) → IsGroup Same mul inv one → (s : OrientedMesh) (split : SplitView) (val spoke : ℕ → X)
-    (label : ℕ → ℕ) (last : ℕ) → IsOrientedSurface s → Valued Same mul inv one s split val spoke label last → (d : ℕ) → d < darts_of s → in_cotree split ((rotations_of s).edge d) ≡ true
+across_cotree : {X : Type 0} (Same : X → X → Type 0) (mul : X → X → X) (inv : X → X) (one : X) → IsGroup Same mul inv one
+    → (s : OrientedMesh) (split : SplitView) (val spoke : ℕ → X)
+    (label : ℕ → ℕ) (last : ℕ) → IsOrientedSurface s → Valued Same mul inv one s split val spoke label last → (d : ℕ) → d < darts_of s
+    → in_cotree split ((rotations_of s).edge d) ≡ true
     → Same (val d) (by_labels mul inv spoke label (rotations_of s).next d)
     → Same (val ((rotations_of s).twin d)) (by_labels mul inv spoke label (rotations_of s).next ((rotations_of s).twin d))
 across_cotree Same mul inv one g s split val spoke label last o v d l is h =
@@ -141,10 +161,12 @@ across_cotree Same mul inv one g s split val spoke label last o v d l is h =
     let twin_in : twin < darts_of s = r.twin_within d l in
     let twin_is : in_cotree split (maps.edge twin) ≡ true = ap (in_cotree split) (sym ((r.edges d twin l twin_in).1 (inr refl))) ∙ is in
     let one_end : label (maps.next twin) ≡ label d = v.of_cotree d l is in
-    let other_end : label (maps.next d) ≡ label twin = ap (λ x. label (maps.next x)) (sym (r.twin_back d l)) ∙ v.of_cotree twin twin_in twin_is in
+    let other_end : label (maps.next d) ≡ label twin = ap (λ x. label (maps.next x)) (sym (r.twin_back d l))
+    ∙ v.of_cotree twin twin_in twin_is in
     let turned : Same (val twin) (quotient mul inv (spoke (label (maps.next d))) (spoke (label d))) =
     g.on (val twin) (inv (val d)) (quotient mul inv (spoke (label (maps.next d))) (spoke (label d))) (v.twins d l)
-    (g.on (inv (val d)) (inv (quotient mul inv (spoke (label d)) (spoke (label (maps.next d))))) (quotient mul inv (spoke (label (maps.next d))) (spoke (label d)))
+    (g.on (inv (val d)) (inv (quotient mul inv (spoke (label d)) (spoke (label (maps.next d)))))
+    (quotient mul inv (spoke (label (maps.next d))) (spoke (label d)))
     (g.inv_same (val d) (quotient mul inv (spoke (label d)) (spoke (label (maps.next d)))) h)
     (inverse_of_quotient Same mul inv one g (spoke (label d)) (spoke (label (maps.next d))))) in
     subst (λ x. Same (val twin) (quotient mul inv (spoke (label twin)) (spoke x))) (sym one_end)
@@ -158,12 +180,14 @@ record Below (s : OrientedMesh) (split : SplitView) (d : ℕ) : Type 0 where
   one_edge : (rotations_of s).edge dart ≡ (rotations_of s).edge d
   is_one : (d ≡ dart) ⊎ (d ≡ (rotations_of s).twin dart)
 
-below : (s : OrientedMesh) (split : SplitView) → IsOrientedSurface s → IsSplit s split → (d : ℕ) → d < darts_of s → (rotations_of s).edge d < length s.table
+below : (s : OrientedMesh) (split : SplitView) → IsOrientedSurface s → IsSplit s split → (d : ℕ) → d < darts_of s
+    → (rotations_of s).edge d < length s.table
     → in_cotree split ((rotations_of s).edge d) ≡ true → Below s split d
 below s split o t d l e_in is =
     let maps : Rotations = rotations_of s in
     let r : IsRotationSystem maps = rotation_system s o in
-    let child = some_child (child_face (rotations_of s) split (maps.edge d)) (λ none. both_ways (in_cotree split (maps.edge d)) ((t.child_faces.none (maps.edge d) e_in).0 none) is) in
+    let child = some_child (child_face (rotations_of s) split (maps.edge d))
+    (λ none. both_ways (in_cotree split (maps.edge d)) ((t.child_faces.none (maps.edge d) e_in).0 none) is) in
     let dart = t.child_faces.step (maps.edge d) child.0 child.1 in
     record {
       face = child.0;
@@ -174,7 +198,8 @@ below s split o t d l e_in is =
     }
 
 -- the value of a dart that is no parent dart and not the last side, in a face all of whose children are known
-plain_value : {X : Type 0} (Same : X → X → Type 0) (mul : X → X → X) (inv : X → X) (one : X) → IsGroup Same mul inv one → (s : OrientedMesh) (split : SplitView) (val spoke : ℕ → X)
+plain_value : {X : Type 0} (Same : X → X → Type 0) (mul : X → X → X) (inv : X → X) (one : X) → IsGroup Same mul inv one
+    → (s : OrientedMesh) (split : SplitView) (val spoke : ℕ → X)
     (label : ℕ → ℕ) (last : ℕ) → IsOrientedSurface s → IsSplit s split → Valued Same mul inv one s split val spoke label last
     → (edge_in : (d : ℕ) → d < darts_of s → (rotations_of s).edge d < length s.table)
     → (d : ℕ) → d < darts_of s → (d ≡ last → ⊥)
@@ -192,10 +217,12 @@ plain_value {X = X} Same mul inv one g s split val spoke label last o t v edge_i
     want : X
     want = by_labels mul inv spoke label (rotations_of s).next d
 
-    by_kind : (a b c : Bool) → OneOfThree a b c → in_tree split edge ≡ a → in_cotree split edge ≡ b → is_left split edge ≡ c → Same (val d) want
+    by_kind : (a b c : Bool) → OneOfThree a b c → in_tree split edge ≡ a → in_cotree split edge ≡ b → is_left split edge ≡ c
+        → Same (val d) want
     by_kind a b c tree_one p q w =
         let stays : label (maps.next d) ≡ label d = v.of_tree d l p in
-        let nothing : Same one (quotient mul inv (spoke (label d)) (spoke (label d))) = g.turn (quotient mul inv (spoke (label d)) (spoke (label d))) one (g.cancels (spoke (label d))) in
+        let nothing : Same one (quotient mul inv (spoke (label d)) (spoke (label d))) =
+        g.turn (quotient mul inv (spoke (label d)) (spoke (label d))) one (g.cancels (spoke (label d))) in
         subst (λ x. Same (val d) (quotient mul inv (spoke (label d)) (spoke x))) (sym stays)
         (g.on (val d) one (quotient mul inv (spoke (label d)) (spoke (label d))) (v.tree_one d l p) nothing)
     by_kind a b c left_one p q w = v.left d l w other
@@ -205,12 +232,14 @@ plain_value {X = X} Same mul inv one g s split val spoke label last o t v edge_i
           | inl same ↦ subst (λ x. Same (val x) (by_labels mul inv spoke label maps.next x)) (sym same) (known down)
           | inr turned ↦
               subst (λ x. Same (val x) (by_labels mul inv spoke label maps.next x)) (sym turned)
-              (across_cotree Same mul inv one g s split val spoke label last o v down.dart down.step.within (ap (in_cotree split) down.one_edge ∙ q) (known down))
+              (across_cotree Same mul inv one g s split val spoke label last o v down.dart down.step.within
+              (ap (in_cotree split) down.one_edge ∙ q) (known down))
         ]
 
 -- darts of one face, step by step
 stays_in_face : (s : OrientedMesh) → IsOrientedSurface s → (k d : ℕ) → d < darts_of s
-    → (after_steps (rotations_of s).next k d < darts_of s) × ((rotations_of s).face (after_steps (rotations_of s).next k d) ≡ (rotations_of s).face d)
+    → (after_steps (rotations_of s).next k d < darts_of s)
+    × ((rotations_of s).face (after_steps (rotations_of s).next k d) ≡ (rotations_of s).face d)
 stays_in_face s o zero d l = (l, refl)
 stays_in_face s o (suc k) d l =
     let r : IsRotationSystem (rotations_of s) = rotation_system s o in
@@ -220,11 +249,15 @@ stays_in_face s o (suc k) d l =
     (r.next_within x before.0, sym ((r.faces x on before.0 (r.next_within x before.0)).1 (record { steps = 1; leads = refl })) ∙ before.1)
 
 -- from the faces farthest from the root up: the parent dart of each face has the value of its labels
-parents_known : {X : Type 0} (Same : X → X → Type 0) (mul : X → X → X) (inv : X → X) (one : X) → IsGroup Same mul inv one → (s : OrientedMesh) (split : SplitView) (val spoke : ℕ → X)
+parents_known : {X : Type 0} (Same : X → X → Type 0) (mul : X → X → X) (inv : X → X) (one : X) → IsGroup Same mul inv one
+    → (s : OrientedMesh) (split : SplitView) (val spoke : ℕ → X)
     (label : ℕ → ℕ) (last : ℕ) → IsOrientedSurface s → IsSplit s split → Valued Same mul inv one s split val spoke label last
-    → (edge_in : (d : ℕ) → d < darts_of s → (rotations_of s).edge d < length s.table) → (face_in : (d : ℕ) → d < darts_of s → (rotations_of s).face d < length s.mesh.faces)
-    → (bound : ℕ) → ((f : ℕ) → f < length s.mesh.faces → (path : List ℕ) → IsPath (StepsUp (rotations_of s) split) f path split.root_face → length path ≤ bound)
-    → (n f : ℕ) (path : List ℕ) → f < length s.mesh.faces → IsPath (StepsUp (rotations_of s) split) f path split.root_face → bound < length path + n
+    → (edge_in : (d : ℕ) → d < darts_of s → (rotations_of s).edge d < length s.table)
+    → (face_in : (d : ℕ) → d < darts_of s → (rotations_of s).face d < length s.mesh.faces)
+    → (bound : ℕ) → ((f : ℕ) → f < length s.mesh.faces → (path : List ℕ) → IsPath (StepsUp (rotations_of s) split) f path split.root_face
+    → length path ≤ bound)
+    → (n f : ℕ) (path : List ℕ) → f < length s.mesh.faces → IsPath (StepsUp (rotations_of s) split) f path split.root_face
+    → bound < length path + n
     → (g d : ℕ) → IsStepUp (rotations_of s) split f g d → Same (val d) (by_labels mul inv spoke label (rotations_of s).next d)
 parents_known Same mul inv one gr s split val spoke label last o t v edge_in face_in bound deep zero f path f_in p far g d step =
     absurd (let few : length path ≤ bound = deep f f_in path p in omega arith)
@@ -239,7 +272,8 @@ parents_known Same mul inv one gr s split val spoke label last o t v edge_in fac
     plain_value Same mul inv one gr s split val spoke label last o t v edge_in x here.0
     (λ same. no_root (sym x_face ∙ v.last_in_root x here.0 same))
     (λ down. elim down.is_one [
-      | inl own ↦ absurd (no_own x (subst (λ y. IsStepUp (rotations_of s) split down.face ((rotations_of s).face ((rotations_of s).twin y)) y) (sym own) down.step) here.0 x_face ne)
+      | inl own ↦ absurd (no_own x (subst (λ y. IsStepUp (rotations_of s) split down.face ((rotations_of s).face ((rotations_of s).twin y))
+          y) (sym own) down.step) here.0 x_face ne)
       | inr turned ↦
           let up : IsStepUp (rotations_of s) split down.face f down.dart = record {
             within = down.step.within;
@@ -255,15 +289,18 @@ parents_known Same mul inv one gr s split val spoke label last o t v edge_in fac
     no_root : f ≡ split.root_face → ⊥
     no_root same = no_step_from_root s split t g (subst (λ y. StepsUp (rotations_of s) split y g) same (d, step))
 
-    no_loop : (q : List ℕ) → IsPath (StepsUp (rotations_of s) split) f q split.root_face → (e : ℕ) → IsStepUp (rotations_of s) split f f e → ⊥
+    no_loop : (q : List ℕ) → IsPath (StepsUp (rotations_of s) split) f q split.root_face → (e : ℕ) → IsStepUp (rotations_of s) split f f e
+        → ⊥
     no_loop [] q e loop = no_root q
     no_loop (h ∷ rest) q e loop =
         let same : h ≡ f = up_edge s split o t f h f q.0.0 e q.0.1 loop in
-        let rest_path : IsPath (StepsUp (rotations_of s) split) f rest split.root_face = subst (λ y. IsPath (StepsUp (rotations_of s) split) y rest split.root_face) same q.1 in
+        let rest_path : IsPath (StepsUp (rotations_of s) split) f rest split.root_face =
+        subst (λ y. IsPath (StepsUp (rotations_of s) split) y rest split.root_face) same q.1 in
         let long : suc (length rest) ≡ length rest = one_length s split o t f (h ∷ rest) rest q rest_path in
         omega arith
 
-    no_own : (x : ℕ) → {h : ℕ} → IsStepUp (rotations_of s) split h ((rotations_of s).face ((rotations_of s).twin x)) x → x < darts_of s → (rotations_of s).face x ≡ f → x ≢ d → ⊥
+    no_own : (x : ℕ) → {h : ℕ} → IsStepUp (rotations_of s) split h ((rotations_of s).face ((rotations_of s).twin x)) x → x < darts_of s
+        → (rotations_of s).face x ≡ f → x ≢ d → ⊥
     no_own x {h} own x_in x_face ne =
         let r : IsRotationSystem (rotations_of s) = rotation_system s o in
         let h_is : h ≡ f = sym own.inside ∙ x_face in
@@ -271,13 +308,20 @@ parents_known Same mul inv one gr s split val spoke label last o t v edge_in fac
         t.child_faces.once ((rotations_of s).edge d) ((rotations_of s).edge x) f step.below (own.below ∙ ap Some h_is) in
         elim ((r.edges d x step.within x_in).0 one_edge) [
           | inl same ↦ ne same
-          | inr turned ↦ no_loop path p d (record { within = step.within; below = step.below; inside = step.inside; leads = ap (rotations_of s).face (sym turned) ∙ x_face })
+          | inr turned ↦ no_loop path p d (record {
+            within = step.within;
+            below = step.below;
+            inside = step.inside;
+            leads = ap (rotations_of s).face (sym turned) ∙ x_face;
+          })
         ]
 
 -- Each dart has the value of the spokes at its tail and at its head.
-pub all_values : {X : Type 0} (Same : X → X → Type 0) (mul : X → X → X) (inv : X → X) (one : X) → IsGroup Same mul inv one → (s : OrientedMesh) (split : SplitView) (val spoke : ℕ → X)
+pub all_values : {X : Type 0} (Same : X → X → Type 0) (mul : X → X → X) (inv : X → X) (one : X) → IsGroup Same mul inv one
+    → (s : OrientedMesh) (split : SplitView) (val spoke : ℕ → X)
     (label : ℕ → ℕ) (last : ℕ) → IsOrientedSurface s → IsSplit s split → Valued Same mul inv one s split val spoke label last
-    → (edge_in : (d : ℕ) → d < darts_of s → (rotations_of s).edge d < length s.table) → (face_in : (d : ℕ) → d < darts_of s → (rotations_of s).face d < length s.mesh.faces)
+    → (edge_in : (d : ℕ) → d < darts_of s → (rotations_of s).edge d < length s.table)
+    → (face_in : (d : ℕ) → d < darts_of s → (rotations_of s).face d < length s.mesh.faces)
     → (d : ℕ) → d < darts_of s → Same (val d) (by_labels mul inv spoke label (rotations_of s).next d)
 all_values Same mul inv one g s split val spoke label last o t v edge_in face_in d l = elim (cases_eq d last) [
   | inr other ↦ plain_value Same mul inv one g s split val spoke label last o t v edge_in d l other known
@@ -285,7 +329,8 @@ all_values Same mul inv one g s split val spoke label last o t v edge_in face_in
       last_of_face Same mul inv one g val spoke label (rotations_of s).next d (v.faces d l) (λ k ne.
       let r : IsRotationSystem (rotations_of s) = rotation_system s o in
       let here = stays_in_face s o k ((rotations_of s).next d) (r.next_within d l) in
-      plain_value Same mul inv one g s split val spoke label last o t v edge_in (after_steps (rotations_of s).next k ((rotations_of s).next d)) here.0
+      plain_value Same mul inv one g s split val spoke label last o t v edge_in
+      (after_steps (rotations_of s).next k ((rotations_of s).next d)) here.0
       (λ same. ne (same ∙ sym is)) known)
 ]
   where
@@ -294,5 +339,6 @@ all_values Same mul inv one g s split val spoke label last o t v edge_in face_in
         let deep = depth_bound s split o t (length s.mesh.faces) (omega arith) in
         let f_in : b.face < length s.mesh.faces = subst (λ y. y < length s.mesh.faces) b.step.inside (face_in b.dart b.step.within) in
         let path = t.child_faces.to_root b.face f_in in
-        parents_known Same mul inv one g s split val spoke label last o t v edge_in face_in deep.0 deep.1 (suc deep.0) b.face path.0 f_in path.1 (omega arith)
+        parents_known Same mul inv one g s split val spoke label last o t v edge_in face_in deep.0 deep.1 (suc deep.0) b.face path.0 f_in
+        path.1 (omega arith)
         ((rotations_of s).face ((rotations_of s).twin b.dart)) b.dart b.step

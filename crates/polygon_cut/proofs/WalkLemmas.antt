@@ -4,7 +4,7 @@ use Rattle.std.specs.Prelude.{All, IsTrue, slice_index}
 use Rattle.surf_model.specs.FaceLists.{FaceList, is_used}
 use Rattle.surf_model.specs.Walks.{IsWalk, HaveCommonEnds, darts}
 use Rattle.surf_model.proofs.LinkLemmas.{Linked, links}
-use Rattle.polygon_cut.proofs.LoopLemmas.{IsWay}
+use Rattle.polygon_cut.proofs.WayLemmas.{IsWay}
 
 -- a walk is a way to its last entry
 way_from : (mesh : FaceList) (u : ℕ) (rest : List ℕ) → Linked mesh (u ∷ rest) → All (λ v. IsTrue (is_used mesh v)) (u ∷ rest)

@@ -33,19 +33,22 @@ labels_more maps ring left start j sides labels h l w k b = elim (cases_eq k j) 
       let within : after_steps ring j start < length labels =
       omega (arith, steps_within maps.darts ring h.permutes j start h.start, w.each_dart) in
       ap (λ (m : ℕ). get_or (set labels (after_steps ring j start) (length sides)) (after_steps ring m start) 0) same
-      ∙ get_or-set_same labels (after_steps ring j start) (length sides) 0 within ∙ w.each_left ∙ ap (left_before maps ring left start) (sym same)
+      ∙ get_or-set_same labels (after_steps ring j start) (length sides) 0 within ∙ w.each_left
+      ∙ ap (left_before maps ring left start) (sym same)
   | inr other ↦
       let less : k < j = omega (arith, b, other) in
       get_or-set_other labels (after_steps ring j start) (after_steps ring k start) (length sides) 0
       (λ e. round_apart maps.darts ring start h k j less l e) ∙ w.labels_are k less
 ]
 
-pub walked_left : (maps : Rotations) (ring : ℕ → ℕ) (left : ℕ → Bool) (start j : ℕ) (sides labels : List ℕ) → GoesRound maps.darts ring start
+pub walked_left : (maps : Rotations) (ring : ℕ → ℕ) (left : ℕ → Bool) (start j : ℕ) (sides labels : List ℕ)
+    → GoesRound maps.darts ring start
     → j < maps.darts → left_at maps ring left start j ≡ true → IsWalked maps ring left start j sides labels
     → IsWalked maps ring left start (suc j) (sides ++ after_steps ring j start ∷ []) (set labels (after_steps ring j start) (length sides))
 walked_left maps ring left start j sides labels h l is w = record {
   each_dart = length-set labels (after_steps ring j start) (length sides) ∙ w.each_dart;
-  each_left = (let one : left_before maps ring left start (suc j) ≡ left_before maps ring left start j + 1 = rw is refl in omega (arith, one, length_push sides (after_steps ring j start), w.each_left));
+  each_left = (let one : left_before maps ring left start (suc j) ≡ left_before maps ring left start j + 1 = rw is refl in omega
+      (arith, one, length_push sides (after_steps ring j start), w.each_left));
   sides_are = λ k b k_left. elim (cases_eq k j) [
     | inl same ↦
         ap (λ (m : ℕ). get_or (sides ++ after_steps ring j start ∷ []) (left_before maps ring left start m) 0) same
@@ -60,12 +63,14 @@ walked_left maps ring left start j sides labels h l is w = record {
   labels_are = labels_more maps ring left start j sides labels h l w;
 }
 
-pub walked_other : (maps : Rotations) (ring : ℕ → ℕ) (left : ℕ → Bool) (start j : ℕ) (sides labels : List ℕ) → GoesRound maps.darts ring start
+pub walked_other : (maps : Rotations) (ring : ℕ → ℕ) (left : ℕ → Bool) (start j : ℕ) (sides labels : List ℕ)
+    → GoesRound maps.darts ring start
     → j < maps.darts → left_at maps ring left start j ≡ false → IsWalked maps ring left start j sides labels
     → IsWalked maps ring left start (suc j) sides (set labels (after_steps ring j start) (length sides))
 walked_other maps ring left start j sides labels h l none w = record {
   each_dart = length-set labels (after_steps ring j start) (length sides) ∙ w.each_dart;
-  each_left = (let one : left_before maps ring left start (suc j) ≡ left_before maps ring left start j + 0 = rw none refl in omega (arith, one, w.each_left));
+  each_left = (let one : left_before maps ring left start (suc j) ≡ left_before maps ring left start j + 0 = rw none refl in omega
+      (arith, one, w.each_left));
   sides_are = λ k b k_left. elim (cases_eq k j) [
     | inl same ↦ absurd (both_ways (left_at maps ring left start j) none (ap (left_at maps ring left start) (sym same) ∙ k_left))
     | inr other ↦ w.sides_are k (omega (arith, b, other)) k_left
@@ -80,7 +85,8 @@ pub record IsWholeWalk (maps : Rotations) (ring : ℕ → ℕ) (left : ℕ → B
   pub last_left : left (maps.edge last) ≡ true
   pub walked : IsWalked maps ring left (ring last) maps.darts sides labels
 
-last_at : (maps : Rotations) (ring : ℕ → ℕ) (left : ℕ → Bool) (last : ℕ) (sides labels : List ℕ) → IsWholeWalk maps ring left last sides labels
+last_at : (maps : Rotations) (ring : ℕ → ℕ) (left : ℕ → Bool) (last : ℕ) (sides labels : List ℕ)
+    → IsWholeWalk maps ring left last sides labels
     → after_steps ring (maps.darts - 1) (ring last) ≡ last
 last_at maps ring left last sides labels h =
     let n : ℕ = maps.darts in
@@ -90,24 +96,28 @@ last_at maps ring left last sides labels h =
     h.round.permutes.injective (after_steps ring (n - 1) (ring last)) last
     (steps_within n ring h.round.permutes (n - 1) (ring last) h.round.start) h.last_in home
 
-last_passes : (maps : Rotations) (ring : ℕ → ℕ) (left : ℕ → Bool) (last : ℕ) (sides labels : List ℕ) → IsWholeWalk maps ring left last sides labels
+last_passes : (maps : Rotations) (ring : ℕ → ℕ) (left : ℕ → Bool) (last : ℕ) (sides labels : List ℕ)
+    → IsWholeWalk maps ring left last sides labels
     → left_at maps ring left (ring last) (maps.darts - 1) ≡ true
 last_passes maps ring left last sides labels h =
     ap (λ (d : ℕ). left (maps.edge d)) (last_at maps ring left last sides labels h) ∙ h.last_left
 
 -- fewer leftover darts lie before a dart than there are
-few_before : (maps : Rotations) (ring : ℕ → ℕ) (left : ℕ → Bool) (last : ℕ) (sides labels : List ℕ) → IsWholeWalk maps ring left last sides labels
+few_before : (maps : Rotations) (ring : ℕ → ℕ) (left : ℕ → Bool) (last : ℕ) (sides labels : List ℕ)
+    → IsWholeWalk maps ring left last sides labels
     → (k : ℕ) → k < maps.darts → left_before maps ring left (ring last) k < length sides
 few_before maps ring left last sides labels h k l =
     omega (
       arith,
       count_rises (left_at maps ring left (ring last)) k (maps.darts - 1) (omega (arith, l)),
-      count_passes (left_at maps ring left (ring last)) (maps.darts - 1) maps.darts (omega (arith, l)) (last_passes maps ring left last sides labels h),
+      count_passes (left_at maps ring left (ring last)) (maps.darts - 1) maps.darts (omega (arith, l))
+          (last_passes maps ring left last sides labels h),
       h.walked.each_left,
     )
 
 -- the last side is the dart where the walk ends
-pub last_is : (maps : Rotations) (ring : ℕ → ℕ) (left : ℕ → Bool) (last : ℕ) (sides labels : List ℕ) → IsWholeWalk maps ring left last sides labels
+pub last_is : (maps : Rotations) (ring : ℕ → ℕ) (left : ℕ → Bool) (last : ℕ) (sides labels : List ℕ)
+    → IsWholeWalk maps ring left last sides labels
     → slice_index sides (length sides - 1) ≡ last
 last_is maps ring left last sides labels h =
     let p : ℕ → Bool = left_at maps ring left (ring last) in
@@ -120,7 +130,8 @@ last_is maps ring left last sides labels h =
     ∙ last_at maps ring left last sides labels h
 
 -- there is a side
-pub some_side : (maps : Rotations) (ring : ℕ → ℕ) (left : ℕ → Bool) (last : ℕ) (sides labels : List ℕ) → IsWholeWalk maps ring left last sides labels
+pub some_side : (maps : Rotations) (ring : ℕ → ℕ) (left : ℕ → Bool) (last : ℕ) (sides labels : List ℕ)
+    → IsWholeWalk maps ring left last sides labels
     → 0 < length sides
 some_side maps ring left last sides labels h = omega (arith, few_before maps ring left last sides labels h 0 (omega (arith, h.last_in)))
 
@@ -135,7 +146,8 @@ walk_labels maps ring left last sides labels places h = record {
     ap (λ (d : ℕ). left (maps.edge d)) (side_at i l) ∙ (chosen i l).passes,
   );
   own_number = λ i l. ap (slice_index labels) (side_at i l) ∙ w.labels_are (chosen i l).at (chosen i l).within ∙ (chosen i l).before;
-  label_below = λ d l. (let k = round_reaches n ring start h.round d l in omega (arith, label_at d k.0 k.1 k.2, few_before maps ring left last sides labels h k.0 k.1));
+  label_below = λ d l. (let k = round_reaches n ring start h.round d l in omega
+      (arith, label_at d k.0 k.1 k.2, few_before maps ring left last sides labels h k.0 k.1));
   first = λ d l. (let k = round_reaches n ring start h.round d l in first_from d k.0 k.1 k.2);
   along = λ i l. next_label i l;
 }
@@ -170,7 +182,8 @@ walk_labels maps ring left last sides labels places h = record {
         let i_in : i < length sides = omega (arith, is, few_before maps ring left last sides labels h k l) in
         let c : IsCounted p n i = chosen i i_in in
         let later : k ≤ c.at = elim (cases_lt c.at k) [
-          | inl less ↦ absurd (let more : count_below p c.at < count_below p k = count_passes p c.at k less c.passes in omega (arith, more, is, c.before))
+          | inl less ↦ absurd (let more : count_below p c.at < count_below p k = count_passes p c.at k less c.passes in omega
+              (arith, more, is, c.before))
           | inr more ↦ more
         ] in
         let sum : c.at - k + k ≡ c.at = omega (arith, later) in

@@ -65,7 +65,15 @@ module _ (d one back two run : ℕ) (signs : Signs d one back two run) where
   earlier-turn : (p q : ℕ) → p < d → q < d → add d (add d p back) (minus d q) ≡ add d (add d p (minus d q)) back
   earlier-turn p q hp hq =
       let b = signs.back_in in
-      omega (arith, minus-cases d q hq, add-cases d p back, add-cases d (add d p back) (minus d q), add-cases d p (minus d q), add-cases d (add d p (minus d q)) back)
+      omega (
+        arith,
+        minus-cases d q hq,
+        add-cases d p back,
+        add-cases d (add d p back) (minus d q),
+        add-cases d p (minus d q),
+        add-cases d
+            (add d p (minus d q)) back,
+      )
 
   -- what a turn tells of the places
   by-turn : (p q t : ℕ) → p < d → q < d → add d p (minus d q) ≡ t → p ≡ add d q t
@@ -98,12 +106,15 @@ module _ (places : List ℕ) (wheel : IsWheel places) (start one back two run : 
   round-in true x h = wheel.inside x h
   round-in false x h = h
 
-  turn-same : (now old : List ℕ) (k : ℕ) → get_or now k 0 ≡ get_or old k 0 → get_or now (k - 1) 0 ≡ get_or old (k - 1) 0 → turn_of places now k ≡ turn_of places old k
+  turn-same : (now old : List ℕ) (k : ℕ) → get_or now k 0 ≡ get_or old k 0 → get_or now (k - 1) 0 ≡ get_or old (k - 1) 0
+      → turn_of places now k ≡ turn_of places old k
   turn-same now old k e f =
-      ap₂ (λ x y. add (length places) (place_round places (from_vertex k) x) (minus (length places) (place_round places (from_vertex k) y))) e f
+      ap₂ (λ x y. add (length places) (place_round places (from_vertex k) x) (minus (length places) (place_round places (from_vertex k) y)))
+      e f
 
   -- one more quad is gone round
-  pub closing-next : (old now new : List ℕ) (at a : ℕ) → a + 1 ≡ at → start < at → 1 ≤ start → Opens places old one two start (length old - 1) →
+  pub closing-next : (old now new : List ℕ) (at a : ℕ) → a + 1 ≡ at → start < at → 1 ≤ start
+      → Opens places old one two start (length old - 1) →
       All (λ spoke. spoke < length places) now → Closing places start one back run old now at → IsTurnedOver places a one back now new →
       All (λ spoke. spoke < length places) new → Closing places start one back run old new a
   closing-next old now new at a a_is lt positive opens below c t below_new =
@@ -136,7 +147,8 @@ module _ (places : List ℕ) (wheel : IsWheel places) (start one back two run : 
           | inl e ↦ closing-behind k e k_in
           | inr ne ↦ (
               let k_same : get_or new k 0 ≡ get_or now k 0 = t.same k (λ e. absurd (omega arith)) (λ e. absurd (omega arith)) in
-              let k_before : get_or new (k - 1) 0 ≡ get_or now (k - 1) 0 = t.same (k - 1) (λ e. absurd (omega arith)) (λ e. absurd (omega arith)) in
+              let k_before : get_or new (k - 1) 0 ≡ get_or now (k - 1) 0 =
+              t.same (k - 1) (λ e. absurd (omega arith)) (λ e. absurd (omega arith)) in
               turn-same new now k k_same k_before ∙ c.behind k (omega arith) (omega arith)
               )
         ];
@@ -150,26 +162,31 @@ module _ (places : List ℕ) (wheel : IsWheel places) (start one back two run : 
           let k_same : get_or new k 0 ≡ get_or now k 0 = t.same k (λ f. absurd (omega arith)) (λ f. absurd (omega arith)) in
           let before : k - 1 ≡ a + 1 = omega arith in
           let b = from_vertex a in
-          let later : turn_of places new k ≡ add d (place_round places b (get_or now k 0)) (minus d (add d (place_round places b (get_or now (a + 1) 0)) one)) =
+          let later : turn_of places new k ≡ add d (place_round places b (get_or now k 0))
+          (minus d (add d (place_round places b (get_or now (a + 1) 0)) one)) =
           rw (same_side, before, k_same, t.second) refl in
           let was : turn_of places now k ≡ back = ap (turn_of places now) (let f : k ≡ at + 1 = omega arith in f) ∙ c.next (omega arith) in
-          let was_is : add d (place_round places b (get_or now k 0)) (minus d (place_round places b (get_or now (a + 1) 0))) ≡ back = rw (same_side, before) at was in
+          let was_is : add d (place_round places b (get_or now k 0)) (minus d (place_round places b (get_or now (a + 1) 0))) ≡ back =
+          rw (same_side, before) at was in
           later
           ∙ against-later d one back two run signs (place_round places b (get_or now k 0)) (place_round places b (get_or now (a + 1) 0))
           (round-in b _ (below k 0 (omega arith))) (round-in b _ (below (a + 1) 0 (omega arith)))
           ∙ ap (λ z. add d z back) was_is ∙ sym signs.run_is
 
-pub signs-of : (d : ℕ) (up : Bool) → 4 ≤ d → Signs d (if up then minus d 1 else 1) (if up then 1 else minus d 1) (if up then minus d 2 else 2) (if up then 2 else minus d 2)
+pub signs-of : (d : ℕ) (up : Bool) → 4 ≤ d
+    → Signs d (if up then minus d 1 else 1) (if up then 1 else minus d 1) (if up then minus d 2 else 2) (if up then 2 else minus d 2)
 signs-of d true four = up-signs d four
 signs-of d false four = down-signs d four
 
 -- two spokes that come to one place are one
-same-place : (places : List ℕ) → IsWheel places → (b : Bool) (x y : ℕ) → x < length places → y < length places → place_round places b x ≡ place_round places b y → x ≡ y
+same-place : (places : List ℕ) → IsWheel places → (b : Bool) (x y : ℕ) → x < length places → y < length places
+    → place_round places b x ≡ place_round places b y → x ≡ y
 same-place places wheel true x y hx hy e = wheel.once x y hx hy e
 same-place places wheel false x y hx hy e = e
 
 module _ (places : List ℕ) (wheel : IsWheel places) (start one back two run : ℕ) (signs : Signs (length places) one back two run) where
-  pub spur-stands : (old now : List ℕ) (at : ℕ) → at ≡ start → 1 ≤ start → All (λ spoke. spoke < length places) now → Closing places start one back run old now at →
+  pub spur-stands : (old now : List ℕ) (at : ℕ) → at ≡ start → 1 ≤ start → All (λ spoke. spoke < length places) now
+      → Closing places start one back run old now at →
       get_or now (start - 1) 0 ≡ get_or now start 0
   spur-stands old now at at_is positive below c =
       let d = length places in
@@ -180,7 +197,8 @@ module _ (places : List ℕ) (wheel : IsWheel places) (start one back two run : 
       let x_round = round-in places wheel start one back two run signs b _ x_in in
       let y_round = round-in places wheel start one back two run signs b _ y_in in
       let zero_turn : turn_of places now start ≡ 0 = ap (turn_of places now) (sym at_is) ∙ c.spur at_is in
-      let places_same = by-turn d one back two run signs (place_round places b (get_or now start 0)) (place_round places b (get_or now (start - 1) 0)) 0 x_round y_round zero_turn in
+      let places_same = by-turn d one back two run signs (place_round places b (get_or now start 0))
+      (place_round places b (get_or now (start - 1) 0)) 0 x_round y_round zero_turn in
       same-place places wheel b (get_or now (start - 1) 0) (get_or now start 0) y_in x_in (sym (places_same ∙ add-zero d _ y_round))
 
   pub closed-is : (old now : List ℕ) (at : ℕ) → at ≡ start → 1 ≤ start → start + 1 < length old → All (λ spoke. spoke < length places) now →
@@ -193,9 +211,11 @@ module _ (places : List ℕ) (wheel : IsWheel places) (start one back two run : 
       let second_long = length-remove (remove now start) (start - 1) (omega arith) in
       let new = remove (remove now start) (start - 1) in
       let low : (k : ℕ) → k + 1 < start → get_or new k 0 ≡ get_or now k 0 =
-      λ k h. get_or-remove_below (remove now start) (start - 1) 0 k (omega arith) (omega arith) ∙ get_or-remove_below now start 0 k (omega arith) (omega arith) in
+      λ k h. get_or-remove_below (remove now start) (start - 1) 0 k (omega arith) (omega arith)
+      ∙ get_or-remove_below now start 0 k (omega arith) (omega arith) in
       let high : (k : ℕ) → start ≤ k + 1 → get_or new k 0 ≡ get_or now (k + 1 + 1) 0 =
-      λ k h. get_or-remove_above (remove now start) (start - 1) 0 k (omega arith) (omega arith) ∙ get_or-remove_above now start 0 (k + 1) (omega arith) (omega arith) in
+      λ k h. get_or-remove_above (remove now start) (start - 1) 0 k (omega arith) (omega arith)
+      ∙ get_or-remove_above now start 0 (k + 1) (omega arith) (omega arith) in
       record {
         shorter = omega arith;
         same = λ k h. low k h ∙ c.same k (omega arith);
@@ -210,21 +230,29 @@ module _ (places : List ℕ) (wheel : IsWheel places) (start one back two run : 
             let y_in : get_or now start 0 < d = below start 0 (omega arith) in
             let z_in : get_or now p 0 < d = below p 0 (omega arith) in
             let q_in : get_or now (p - 1) 0 < d = below (p - 1) 0 (omega arith) in
-            let next_turn : turn_of places now (start + 1) ≡ back = ap (turn_of places now) (let e : start + 1 ≡ at + 1 = omega arith in e) ∙ c.next (omega arith) in
+            let next_turn : turn_of places now (start + 1) ≡ back = ap (turn_of places now) (let e : start + 1 ≡ at + 1 = omega arith in e)
+            ∙ c.next (omega arith) in
             let one_less : start + 1 - 1 ≡ start = omega arith in
-            let plain : add d (place_round places b (get_or now (start + 1) 0)) (minus d (place_round places b (get_or now start 0))) ≡ back = rw (side, one_less) at next_turn in
-            let moved = by-turn d one back two run signs (place_round places b (get_or now (start + 1) 0)) (place_round places b (get_or now start 0)) back
-            (round-in places wheel start one back two run signs b _ x_in) (round-in places wheel start one back two run signs b _ y_in) plain in
-            let old_one : get_or now start 0 ≡ get_or old p 0 = sym (spur-stands old now at at_is positive below c) ∙ c.same p (omega arith) in
-            ap₂ (λ x y. add d x (minus d (place_round places b y))) (ap (place_round places b) here ∙ moved ∙ ap (λ z. add d (place_round places b z) back) old_one) before
+            let plain : add d (place_round places b (get_or now (start + 1) 0)) (minus d (place_round places b (get_or now start 0)))
+            ≡ back = rw (side, one_less) at next_turn in
+            let moved = by-turn d one back two run signs (place_round places b (get_or now (start + 1) 0))
+            (place_round places b (get_or now start 0)) back
+            (round-in places wheel start one back two run signs b _ x_in) (round-in places wheel start one back two run signs b _ y_in)
+            plain in
+            let old_one : get_or now start 0 ≡ get_or old p 0 = sym (spur-stands old now at at_is positive below c)
+            ∙ c.same p (omega arith) in
+            ap₂ (λ x y. add d x (minus d (place_round places b y))) (ap (place_round places b) here ∙ moved
+            ∙ ap (λ z. add d (place_round places b z) back) old_one) before
             ∙ earlier-turn d one back two run signs (place_round places b (get_or old p 0)) (place_round places b (get_or old (p - 1) 0))
             (round-in places wheel start one back two run signs b _ (subst (λ z. z < d) (c.same p (omega arith)) z_in))
             (round-in places wheel start one back two run signs b _ (subst (λ z. z < d) (c.same (p - 1) (omega arith)) q_in))
             );
         behind = λ k from k_in. (
-            let side : from_vertex (k + 1 + 1) ≡ from_vertex k = ap from_vertex (let e : k + 1 + 1 ≡ suc (suc k) = omega arith in e) ∙ from-two k in
+            let side : from_vertex (k + 1 + 1) ≡ from_vertex k = ap from_vertex (let e : k + 1 + 1 ≡ suc (suc k) = omega arith in e)
+            ∙ from-two k in
             let here : get_or new k 0 ≡ get_or now (k + 1 + 1) 0 = high k (omega arith) in
-            let before : get_or new (k - 1) 0 ≡ get_or now (k + 1) 0 = high (k - 1) (omega arith) ∙ ap (λ n. get_or now n 0) (let e : k - 1 + 1 + 1 ≡ k + 1 = omega arith in e) in
+            let before : get_or new (k - 1) 0 ≡ get_or now (k + 1) 0 =
+            high (k - 1) (omega arith) ∙ ap (λ n. get_or now n 0) (let e : k - 1 + 1 + 1 ≡ k + 1 = omega arith in e) in
             let one_less : k + 1 + 1 - 1 ≡ k + 1 = omega arith in
             let far : turn_of places now (k + 1 + 1) ≡ run = c.behind (k + 1 + 1) (omega arith) (omega arith) in
             rw (here, before) (rw (side, one_less) at far)
@@ -232,7 +260,8 @@ module _ (places : List ℕ) (wheel : IsWheel places) (start one back two run : 
       }
 
 -- spokes stay below the degree where some go
-pub below-remove : (d : ℕ) (path : List ℕ) (at : ℕ) → at < length path → All (λ spoke. spoke < d) path → All (λ spoke. spoke < d) (remove path at)
+pub below-remove : (d : ℕ) (path : List ℕ) (at : ℕ) → at < length path → All (λ spoke. spoke < d) path
+    → All (λ spoke. spoke < d) (remove path at)
 below-remove d path at at_in h k e k_in =
     let long = length-remove path at at_in in
     elim (cases_lt k at) [

@@ -8,11 +8,13 @@ use Rattle.std.proofs.lemmas.Option.{option_and_then_some}
 use Rattle.spoke_paths.specs.Path_steps.{spur_goes, from_spoke, after_path_step, after_path_steps, PathLeads}
 use Rattle.spoke_paths.specs.declared.step.PathStep.{PathStep}
 
-pub leads-more : (places : List ℕ) (steps : List PathStep) (step : PathStep) (begin path next : List ℕ) → PathLeads places begin steps path →
+pub leads-more : (places : List ℕ) (steps : List PathStep) (step : PathStep) (begin path next : List ℕ)
+    → PathLeads places begin steps path →
     after_path_step places step path ≡ Some next → PathLeads places begin (steps ++ step ∷ []) next
 leads-more places [] step begin path next e f =
     let same : begin ≡ path = cc in
-    ap (λ p. option_and_then (after_path_steps places []) (after_path_step places step p)) same ∙ ap (option_and_then (after_path_steps places [])) f
+    ap (λ p. option_and_then (after_path_steps places []) (after_path_step places step p)) same
+    ∙ ap (option_and_then (after_path_steps places [])) f
 leads-more places (first ∷ steps) step begin path next e f =
     option_and_then_some (after_path_steps places steps) (after_path_step places first begin) path e (λ middle is rest.
     ap (option_and_then (after_path_steps places (steps ++ step ∷ []))) is ∙ leads-more places steps step middle path next rest f)

@@ -15,16 +15,20 @@ use Rattle.spoke_paths.proofs.Steps_keep.{spokes-stay-below, state-stays}
 use Rattle.spoke_paths.proofs.Reduced_turns.{hyper-empty}
 use Rattle.spoke_paths.proofs.Reduced_plane.{plane-empty}
 
-pub turns-leave : (places path end : List ℕ) (steps : List PathStep) → IsHyperWheel places → All (λ spoke. spoke < length places) path → PathLeads places path steps end
+pub turns-leave : (places path end : List ℕ) (steps : List PathStep) → IsHyperWheel places → All (λ spoke. spoke < length places) path
+    → PathLeads places path steps end
     → IsReduced (length places) (turn_word_of places end) → (led hyper_next places empty_state path).word ≡ [] → end ≡ []
 turns-leave places path end steps own below leads reduced e =
-    let same = state-stays BelongsTo IsEven (λ s. length s.word) hyper_next hyper_stays hyper_there_and_back hyper_across places IsHyperWheel empty_state hyper_starts path end steps own
+    let same = state-stays BelongsTo IsEven (λ s. length s.word) hyper_next hyper_stays hyper_there_and_back hyper_across places
+    IsHyperWheel empty_state hyper_starts path end steps own
     below leads in
     hyper-empty places end own (spokes-stay-below places path end steps below leads) reduced (ap (λ s. s.word) same ∙ e)
 
-pub flat-leave : (places path end : List ℕ) (steps : List PathStep) → IsFlatWheel places → All (λ spoke. spoke < length places) path → PathLeads places path steps end
+pub flat-leave : (places path end : List ℕ) (steps : List PathStep) → IsFlatWheel places → All (λ spoke. spoke < length places) path
+    → PathLeads places path steps end
     → IsReduced (length places) (turn_word_of places end) → led flat_next places origin path ≡ origin → end ≡ []
 flat-leave places path end steps own below leads reduced e =
-    let same = state-stays (λ places s. IsFlatWheel places) IsEvenPoint size_of flat_next flat_stays flat_there_and_back flat_across places IsFlatWheel origin flat_starts path end steps own
+    let same = state-stays (λ places s. IsFlatWheel places) IsEvenPoint size_of flat_next flat_stays flat_there_and_back flat_across places
+    IsFlatWheel origin flat_starts path end steps own
     below leads in
     plane-empty places end own (spokes-stay-below places path end steps below leads) reduced (same ∙ e)

@@ -30,8 +30,17 @@ record PlacedFrom (rule : Bool → List ℕ → Option (List ℕ)) (at : ℕ) (b
   next_is : next ≡ before ++ instead
   does : rule (turned at b) part ≡ Some instead
 
-placed-from : (rule : Bool → List ℕ → Option (List ℕ)) (at : ℕ) (b : Bool) (path next : List ℕ) → from_spoke at b rule path ≡ Some next → PlacedFrom rule at b path next
-placed-from rule zero b path next e = record { before = []; part = path; instead = next; long = refl; path_is = refl; next_is = refl; does = e }
+placed-from : (rule : Bool → List ℕ → Option (List ℕ)) (at : ℕ) (b : Bool) (path next : List ℕ) → from_spoke at b rule path ≡ Some next
+    → PlacedFrom rule at b path next
+placed-from rule zero b path next e = record {
+  before = [];
+  part = path;
+  instead = next;
+  long = refl;
+  path_is = refl;
+  next_is = refl;
+  does = e;
+}
 placed-from rule (suc at) b [] next e = absurd cc
 placed-from rule (suc at) b (x ∷ path) next e =
     let inner = mapped-is (from_spoke at (not b) rule path) x next e in
@@ -46,7 +55,8 @@ placed-from rule (suc at) b (x ∷ path) next e =
       does = rest.does;
     }
 
-pub at-place : (rule : Bool → List ℕ → Option (List ℕ)) (at : ℕ) (path next : List ℕ) → from_spoke at true rule path ≡ Some next → AtPlace rule at path next
+pub at-place : (rule : Bool → List ℕ → Option (List ℕ)) (at : ℕ) (path next : List ℕ) → from_spoke at true rule path ≡ Some next
+    → AtPlace rule at path next
 at-place rule at path next e =
     let r : PlacedFrom rule at true path next = placed-from rule at true path next e in
     record {
@@ -76,7 +86,8 @@ pub record IsTurned (places : List ℕ) (a c : ℕ) (up at_vertex : Bool) (part 
   pub from : part ≡ old_way up (length places) at_vertex a c ++ after
   pub to : instead ≡ new_way up (length places) at_vertex a c ++ after
 
-pub is-turned : (places : List ℕ) (a c : ℕ) (up at_vertex : Bool) (part instead : List ℕ) → quad_turned places a c up at_vertex part ≡ Some instead
+pub is-turned : (places : List ℕ) (a c : ℕ) (up at_vertex : Bool) (part instead : List ℕ)
+    → quad_turned places a c up at_vertex part ≡ Some instead
     → IsTurned places a c up at_vertex part instead
 is-turned places a c true true part instead e =
     let is = turned-is places a c true true part instead e in
@@ -96,24 +107,29 @@ is-turned places a c false false part instead e =
     record { quad = is.0; after = two.rest; from = two.from; to = two.to }
 
 -- what is written at a place
-set-two : (before after : List ℕ) (x y v u : ℕ) → set (set (before ++ x ∷ y ∷ after) (length before) v) (length before + 1) u ≡ before ++ v ∷ u ∷ after
+set-two : (before after : List ℕ) (x y v u : ℕ) → set (set (before ++ x ∷ y ∷ after) (length before) v) (length before + 1) u
+    ≡ before ++ v ∷ u ∷ after
 set-two [] after x y v u = refl
 set-two (b ∷ before) after x y v u =
     let up-one : suc (length before) + 1 ≡ suc (length before + 1) = omega arith in
-    ap (λ n. set (set (b ∷ (before ++ x ∷ y ∷ after)) (suc (length before)) v) n u) up-one ∙ ap (λ (l : List ℕ). b ∷ l) (set-two before after x y v u)
+    ap (λ n. set (set (b ∷ (before ++ x ∷ y ∷ after)) (suc (length before)) v) n u) up-one
+    ∙ ap (λ (l : List ℕ). b ∷ l) (set-two before after x y v u)
 
-remove-two : (before after : List ℕ) (x y : ℕ) → remove (remove (before ++ x ∷ y ∷ after) (length before + 1)) (length before) ≡ before ++ after
+remove-two : (before after : List ℕ) (x y : ℕ) → remove (remove (before ++ x ∷ y ∷ after) (length before + 1)) (length before)
+    ≡ before ++ after
 remove-two [] after x y = refl
 remove-two (b ∷ before) after x y =
     let up-one : suc (length before) + 1 ≡ suc (length before + 1) = omega arith in
-    ap (λ n. remove (remove (b ∷ (before ++ x ∷ y ∷ after)) n) (suc (length before))) up-one ∙ ap (λ (l : List ℕ). b ∷ l) (remove-two before after x y)
+    ap (λ n. remove (remove (b ∷ (before ++ x ∷ y ∷ after)) n) (suc (length before))) up-one
+    ∙ ap (λ (l : List ℕ). b ∷ l) (remove-two before after x y)
 
 -- a turn is two spokes written, and a spur two taken out
 pub record IsWritten (at v u : ℕ) (path next : List ℕ) : Type 0 where
   pub within : at + 1 < length path
   pub is : next ≡ set (set path at v) (at + 1) u
 
-pub turn-written : (places : List ℕ) (a c : ℕ) (up : Bool) (at v u : ℕ) (path next : List ℕ) → from_spoke at true (quad_turned places a c up) path ≡ Some next
+pub turn-written : (places : List ℕ) (a c : ℕ) (up : Bool) (at v u : ℕ) (path next : List ℕ)
+    → from_spoke at true (quad_turned places a c up) path ≡ Some next
     → new_way up (length places) (from_vertex at) a c ≡ v ∷ u ∷ [] → IsWritten at v u path next × IsQuad places a c
 turn-written places a c up at v u path next e new =
     let r : AtPlace (quad_turned places a c up) at path next = at-place (quad_turned places a c up) at path next e in
@@ -121,8 +137,10 @@ turn-written places a c up at v u path next e new =
     let old = old-two up (length places) (from_vertex at) a c in
     let x : ℕ = old.0 in
     let y : ℕ = old.1 in
-    let from : path ≡ r.before ++ x ∷ y ∷ t.after = r.path_is ∙ ap (λ (l : List ℕ). r.before ++ l) (t.from ∙ ap (λ (l : List ℕ). l ++ t.after) old.2) in
-    let to : next ≡ r.before ++ v ∷ u ∷ t.after = r.next_is ∙ ap (λ (l : List ℕ). r.before ++ l) (t.to ∙ ap (λ (l : List ℕ). l ++ t.after) new) in (
+    let from : path ≡ r.before ++ x ∷ y ∷ t.after =
+    r.path_is ∙ ap (λ (l : List ℕ). r.before ++ l) (t.from ∙ ap (λ (l : List ℕ). l ++ t.after) old.2) in
+    let to : next ≡ r.before ++ v ∷ u ∷ t.after =
+    r.next_is ∙ ap (λ (l : List ℕ). r.before ++ l) (t.to ∙ ap (λ (l : List ℕ). l ++ t.after) new) in (
       record {
         within = omega (arith, ap (λ (l : List ℕ). length l) from, length-append r.before (x ∷ y ∷ t.after), r.long);
         is = to ∙ sym (set-two r.before t.after x y v u) ∙ ap (λ n. set (set (r.before ++ x ∷ y ∷ t.after) n v) (n + 1) u) r.long
@@ -153,7 +171,8 @@ spur-taken at path next e =
           ∙ ap (λ (l : List ℕ). remove (remove l (at + 1)) at) (sym from);
     }
 
-pub some-turn : (places : List ℕ) (a c : ℕ) (up : Bool) (at : ℕ) (path next : List ℕ) → from_spoke at true (quad_turned places a c up) path ≡ Some next
+pub some-turn : (places : List ℕ) (a c : ℕ) (up : Bool) (at : ℕ) (path next : List ℕ)
+    → from_spoke at true (quad_turned places a c up) path ≡ Some next
     → (at + 1 < length path) × IsQuad places a c
 some-turn places a c up at path next e =
     let new = new-two up (length places) (from_vertex at) a c in

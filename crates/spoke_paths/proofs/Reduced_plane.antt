@@ -51,19 +51,23 @@ module _ (s : Vector) where
 
   -- a step in one of the two directions of a diagonal leads one further along it
   out-first : (quarter : ℕ) → quarter < 4 → Gains (plus s (unit_step quarter)) quarter
-  out-first = below-four (λ q. Gains (plus s (unit_step q)) q) (omega (arith, ints)) (omega (arith, ints)) (omega (arith, ints)) (omega (arith, ints))
+  out-first = below-four (λ q. Gains (plus s (unit_step q)) q) (omega (arith, ints)) (omega (arith, ints)) (omega (arith, ints))
+      (omega (arith, ints))
 
   out-second : (quarter : ℕ) → quarter < 4 → Gains (plus s (unit_step (add 4 quarter 1))) quarter
   unfolding add
-  out-second = below-four (λ q. Gains (plus s (unit_step (add 4 q 1))) q) (omega (arith, ints)) (omega (arith, ints)) (omega (arith, ints)) (omega (arith, ints))
+  out-second = below-four (λ q. Gains (plus s (unit_step (add 4 q 1))) q) (omega (arith, ints)) (omega (arith, ints)) (omega (arith, ints))
+      (omega (arith, ints))
 
   back-first : (quarter : ℕ) → quarter < 4 → Gains (less s (unit_step (add 4 quarter 2))) quarter
   unfolding add
-  back-first = below-four (λ q. Gains (less s (unit_step (add 4 q 2))) q) (omega (arith, ints)) (omega (arith, ints)) (omega (arith, ints)) (omega (arith, ints))
+  back-first = below-four (λ q. Gains (less s (unit_step (add 4 q 2))) q) (omega (arith, ints)) (omega (arith, ints)) (omega (arith, ints))
+      (omega (arith, ints))
 
   back-second : (quarter : ℕ) → quarter < 4 → Gains (less s (unit_step (add 4 quarter 3))) quarter
   unfolding add
-  back-second = below-four (λ q. Gains (less s (unit_step (add 4 q 3))) q) (omega (arith, ints)) (omega (arith, ints)) (omega (arith, ints)) (omega (arith, ints))
+  back-second = below-four (λ q. Gains (less s (unit_step (add 4 q 3))) q) (omega (arith, ints)) (omega (arith, ints)) (omega (arith, ints))
+      (omega (arith, ints))
 
 stands-next : (places : List ℕ) (b : Bool) (s : Vector) (i : ℕ) → Stands b s → Stands (not b) (flat_next places s i)
 stands-next places true s i h =
@@ -95,7 +99,14 @@ rises places w =
     (omega (arith, add-cases 4 (get_or places 0 0) 0))
     one
     (omega (arith, add-cases 4 (get_or places 0 0) 1, add-cases 4 (get_or places 1 0) 1, add-cases 4 (get_or places 0 0) 2))
-    (omega (arith, add-cases 4 (get_or places 0 0) 1, add-cases 4 (get_or places 1 0) 1, add-cases 4 (get_or places 2 0) 1, add-cases 4 (get_or places 0 0) 3))
+    (omega (
+      arith,
+      add-cases 4 (get_or places 0 0) 1,
+      add-cases 4 (get_or places 1 0) 1,
+      add-cases 4 (get_or places 2 0) 1,
+      add-cases 4
+          (get_or places 0 0) 3,
+    ))
 
 -- how a turn leads on: straight on, or to one of the two sides. The ways are the directions before and after
 data Kind (d way next t : ℕ) : Type 0 where
@@ -174,19 +185,22 @@ no-close one two t ts shut e = let closing = ap (λ z. closes one two (z ∷ ts)
 go-on : (one two t : ℕ) (ts : List ℕ) → two ≢ one → t ≡ two → closes one two (t ∷ ts) ≡ false → closes one two ts ≡ false
 go-on one two t ts apart e shut = sym (ap (λ z. closes one two (z ∷ ts)) e ∙ closes-two one two ts apart) ∙ shut
 
-pending-next : (d quarter way next t : ℕ) (ts : List ℕ) → d ≡ 4 → quarter < 4 → next < 4 → Pending d quarter way (t ∷ ts) → Kind d way next t → HasNoBracket d (t ∷ ts) →
+pending-next : (d quarter way next t : ℕ) (ts : List ℕ) → d ≡ 4 → quarter < 4 → next < 4 → Pending d quarter way (t ∷ ts)
+    → Kind d way next t → HasNoBracket d (t ∷ ts) →
     Pending d quarter next ts
 pending-next d quarter way next t ts four q_in n_in (turned_right e shut) (straight two minus_two same) h =
     turned_right (same ∙ e) (go-on 1 2 t ts (λ z. absurd cc) two shut)
 pending-next d quarter way next t ts four q_in n_in (turned_right e shut) (right one turned) h = absurd (no-close 1 2 t ts shut one)
-pending-next d quarter way next t ts four q_in n_in (turned_right e shut) (left minus_one turned) h = turned_left (turned ∙ ap (λ z. add 4 z 1) e) (h.2 minus_one)
+pending-next d quarter way next t ts four q_in n_in (turned_right e shut) (left minus_one turned) h =
+    turned_left (turned ∙ ap (λ z. add 4 z 1) e) (h.2 minus_one)
 pending-next d quarter way next t ts four q_in n_in (turned_left e shut) (straight two minus_two same) h =
     let one_in : 1 < d = omega arith in
     let apart : minus d 2 ≢ minus d 1 = λ z. absurd (omega (arith, minus-cases d 1 one_in)) in
     turned_left (same ∙ e) (go-on (minus d 1) (minus d 2) t ts apart minus_two shut)
 pending-next d quarter way next t ts four q_in n_in (turned_left e shut) (right one turned) h =
     turned_right (omega (arith, add-cases 4 next 1, add-cases 4 quarter 1)) (h.1 one)
-pending-next d quarter way next t ts four q_in n_in (turned_left e shut) (left minus_one turned) h = absurd (no-close (minus d 1) (minus d 2) t ts shut minus_one)
+pending-next d quarter way next t ts four q_in n_in (turned_left e shut) (left minus_one turned) h =
+    absurd (no-close (minus d 1) (minus d 2) t ts shut minus_one)
 
 pending-goes : (d quarter way : ℕ) (ts : List ℕ) → Pending d quarter way ts → Goes quarter way
 pending-goes d quarter way ts (turned_right e shut) = inl e
@@ -196,14 +210,17 @@ add-one : (a b c : ℤ) (n : ℕ) → a ≡ b +ℤ pos n → b ≡ c +ℤ pos 1 
 add-one a b c n e f = omega (arith, ints)
 
 module _ (places : List ℕ) (w : IsFlatWheel places) where
-  kind : (b : Bool) (q i : ℕ) → q < 4 → i < 4 → turn_to places b q i ≢ 0 → Kind (length places) (direction b q) (direction (not b) i) (turn_to places b q i)
+  kind : (b : Bool) (q i : ℕ) → q < 4 → i < 4 → turn_to places b q i ≢ 0
+      → Kind (length places) (direction b q) (direction (not b) i) (turn_to places b q i)
   kind b q i q_in i_in not_zero =
       let way = turn-way places w b q i q_in i_in in
-      kind-is (length places) (direction b q) (direction (not b) i) (turn_to places b q i) w.four (direction-in b q q_in) way.0 not_zero way.1
+      kind-is (length places) (direction b q) (direction (not b) i) (turn_to places b q i) w.four (direction-in b q q_in) way.0 not_zero
+      way.1
 
   -- from a turn to one side on, each step leads one further along one diagonal
   goes-on : (b : Bool) (s : Vector) (q quarter : ℕ) (path : List ℕ) → Stands b s → q < 4 → quarter < 4 → InRange 4 path →
-      Pending (length places) quarter (direction b q) (turns_after places b q path) → HasNoBracket (length places) (turns_after places b q path) →
+      Pending (length places) quarter (direction b q) (turns_after places b q path)
+      → HasNoBracket (length places) (turns_after places b q path) →
       along quarter (led flat_next places s path) ≡ along quarter s +ℤ pos (length path)
   goes-on b s q quarter [] h q_in quarter_in range p n = omega (arith, ints)
   goes-on b s q quarter (i ∷ path) h q_in quarter_in range p n =
@@ -221,32 +238,42 @@ module _ (places : List ℕ) (w : IsFlatWheel places) where
     goes : Goes quarter (direction b q)
     is : along quarter (led flat_next places s path) ≡ along quarter s +ℤ pos (length path)
 
-  further : (b : Bool) (s : Vector) (q : ℕ) (path : List ℕ) → Stands b s → q < 4 → InRange 4 path → HasNoBracket (length places) (turns_after places b q path) →
+  further : (b : Bool) (s : Vector) (q : ℕ) (path : List ℕ) → Stands b s → q < 4 → InRange 4 path
+      → HasNoBracket (length places) (turns_after places b q path) →
       Further b s q path
-  further b s q [] h q_in range n = record { quarter = direction b q; quarter_in = direction-in b q q_in; goes = inl refl; is = omega (arith, ints) }
+  further b s q [] h q_in range n =
+      record { quarter = direction b q; quarter_in = direction-in b q q_in; goes = inl refl; is = omega (arith, ints) }
   further b s q (i ∷ path) h q_in range n = elim (kind b q i q_in range.0 n.0) [
     | straight two minus_two same ↦
         let rest = further (not b) (flat_next places s i) i path (stands-next places b s i h) range.0 range.1 n.3 in
         let gained = gains places b s i rest.quarter h range.0 rest.quarter_in rest.goes in
-        record { quarter = rest.quarter; quarter_in = rest.quarter_in; goes = rw (← same) rest.goes; is = add-one _ _ _ (length path) rest.is gained }
+        record {
+          quarter = rest.quarter;
+          quarter_in = rest.quarter_in;
+          goes = rw (← same) rest.goes;
+          is = add-one _ _ _ (length path) rest.is gained;
+        }
     | right one turned ↦
         let next_in = direction-in (not b) i range.0 in
         let gained = gains places b s i (direction (not b) i) h range.0 next_in (inl refl) in
         let rest =
-        goes-on (not b) (flat_next places s i) i (direction (not b) i) path (stands-next places b s i h) range.0 next_in range.1 (turned_right refl (n.1 one)) n.3 in
+        goes-on (not b) (flat_next places s i) i (direction (not b) i) path (stands-next places b s i h) range.0 next_in range.1
+        (turned_right refl (n.1 one)) n.3 in
         record { quarter = direction (not b) i; quarter_in = next_in; goes = inr turned; is = add-one _ _ _ (length path) rest gained }
     | left minus_one turned ↦
         let way_in = direction-in b q q_in in
         let gained = gains places b s i (direction b q) h range.0 way_in (inr turned) in
         let rest =
-        goes-on (not b) (flat_next places s i) i (direction b q) path (stands-next places b s i h) range.0 way_in range.1 (turned_left turned (n.2 minus_one)) n.3 in
+        goes-on (not b) (flat_next places s i) i (direction b q) path (stands-next places b s i h) range.0 way_in range.1
+        (turned_left turned (n.2 minus_one)) n.3 in
         record { quarter = direction b q; quarter_in = way_in; goes = inl refl; is = add-one _ _ _ (length path) rest gained }
   ]
 
 no-way-back : (a b c : ℤ) (n : ℕ) → a ≡ b +ℤ pos n → b ≡ c +ℤ pos 1 → a ≡ c → ⊥
 no-way-back a b c n e f g = absurd (omega (arith, ints))
 
-pub plane-empty : (places path : List ℕ) → IsFlatWheel places → All (λ spoke. spoke < length places) path → IsReduced (length places) (turn_word_of places path)
+pub plane-empty : (places path : List ℕ) → IsFlatWheel places → All (λ spoke. spoke < length places) path
+    → IsReduced (length places) (turn_word_of places path)
     → led flat_next places origin path ≡ origin → path ≡ []
 plane-empty places [] w below reduced e = refl
 plane-empty places (i ∷ path) w below reduced e =

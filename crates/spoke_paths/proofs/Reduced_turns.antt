@@ -46,12 +46,14 @@ module _ (d : ℕ) (five : 5 ≤ d) where
       rw is (flipped-cons d u c, raised refl shut)
 
   -- every other turn that does not close
-  others : (u : List ℕ) (t : ℕ) (ts : List ℕ) → IsCons u → Follows d u t → (is_open (t ∷ u) ≡ true → closes 1 2 ts ≡ false) → Stays (put d u t) ts
+  others : (u : List ℕ) (t : ℕ) (ts : List ℕ) → IsCons u → Follows d u t → (is_open (t ∷ u) ≡ true → closes 1 2 ts ≡ false)
+      → Stays (put d u t) ts
   others u t ts c f shut =
       let is : put d u t ≡ state (t ∷ u) 0 = put-else d five u t c f in
       rw is (tt, even refl shut)
 
-  after-even : (u : List ℕ) (y : ℕ) (ts : List ℕ) → IsCons u → y < d → (is_open u ≡ true → closes 1 2 (y ∷ ts) ≡ false) → HasNoBracket d (y ∷ ts) →
+  after-even : (u : List ℕ) (y : ℕ) (ts : List ℕ) → IsCons u → y < d → (is_open u ≡ true → closes 1 2 (y ∷ ts) ≡ false)
+      → HasNoBracket d (y ∷ ts) →
       Stays (put d u y) ts
   after-even u y ts c below shut h = elim (cases_eq y (minus d 1)) [
     | inl e ↦ flips u y ts c e (h.2 e)
@@ -70,7 +72,8 @@ module _ (d : ℕ) (five : 5 ≤ d) where
         ])
   ]
 
-  after-raised : (u : List ℕ) (y : ℕ) (ts : List ℕ) → IsCons u → y < d → closes (minus d 1) (minus d 2) (y ∷ ts) ≡ false → HasNoBracket d (y ∷ ts) →
+  after-raised : (u : List ℕ) (y : ℕ) (ts : List ℕ) → IsCons u → y < d → closes (minus d 1) (minus d 2) (y ∷ ts) ≡ false
+      → HasNoBracket d (y ∷ ts) →
       Stays (put d u (add d y 1)) ts
   after-raised u y ts c below shut h =
       let off = minus-one d five in
@@ -99,14 +102,16 @@ module _ (d : ℕ) (five : 5 ≤ d) where
             ])
       ]
 
-  next-stays : (u : List ℕ) (n y : ℕ) (ts : List ℕ) → IsCons u → y < d → Keeps d u n (y ∷ ts) → HasNoBracket d (y ∷ ts) → Stays (put d u (add d y n)) ts
+  next-stays : (u : List ℕ) (n y : ℕ) (ts : List ℕ) → IsCons u → y < d → Keeps d u n (y ∷ ts) → HasNoBracket d (y ∷ ts)
+      → Stays (put d u (add d y n)) ts
   next-stays u n y ts c below (even zero_change shut) h =
       let same : add d y n ≡ y = ap (add d y) zero_change ∙ add-zero d y below in
       rw same (after-even u y ts c below shut h)
   next-stays u n y ts c below (raised one_change shut) h =
       rw one_change (after-raised u y ts c below shut h)
 
-  stays-cons : (u : List ℕ) (n : ℕ) (ts : List ℕ) → IsCons u → Keeps d u n ts → InRange d ts → HasNoBracket d ts → IsCons (read d (state u n) ts).word
+  stays-cons : (u : List ℕ) (n : ℕ) (ts : List ℕ) → IsCons u → Keeps d u n ts → InRange d ts → HasNoBracket d ts
+      → IsCons (read d (state u n) ts).word
   stays-cons u n [] c k s h = c
   stays-cons u n (y ∷ ts) c k s h =
       let next = next-stays u n y ts c s.0 k h in
@@ -132,7 +137,8 @@ no-spokes : (places path : List ℕ) → turn_word_of places path ≡ [] → pat
 no-spokes places [] e = refl
 no-spokes places (x ∷ path) e = absurd cc
 
-pub hyper-empty : (places path : List ℕ) → IsHyperWheel places → All (λ spoke. spoke < length places) path → IsReduced (length places) (turn_word_of places path)
+pub hyper-empty : (places path : List ℕ) → IsHyperWheel places → All (λ spoke. spoke < length places) path
+    → IsReduced (length places) (turn_word_of places path)
     → (led hyper_next places empty_state path).word ≡ [] → path ≡ []
 hyper-empty places path own below reduced e =
     let d = length places in

@@ -20,7 +20,8 @@ Agree p q n = (k : ℕ) → k < n → get_or p k 0 ≡ get_or q k 0
 
 turn-agrees : (places p q : List ℕ) (n k : ℕ) → Agree p q n → k < n → turn_of places p k ≡ turn_of places q k
 turn-agrees places p q n k a h =
-    ap₂ (λ x y. add (length places) (place_round places (from_vertex k) x) (minus (length places) (place_round places (from_vertex k) y))) (a k h) (a (k - 1) (omega arith))
+    ap₂ (λ x y. add (length places) (place_round places (from_vertex k) x) (minus (length places) (place_round places (from_vertex k) y)))
+    (a k h) (a (k - 1) (omega arith))
 
 opens-agrees : (places p q : List ℕ) (n one two s at : ℕ) → Agree p q n → at ≤ n → Opens places p one two s at → Opens places q one two s at
 opens-agrees places p q n one two s at a h o =
@@ -32,7 +33,8 @@ opens-agrees places p q n one two s at a h o =
       run = λ k from to. sym (turn-agrees places p q n k a (omega arith)) ∙ o.run k from to;
     }
 
-pub ends-agrees : (places p q : List ℕ) (n at : ℕ) → ((k : ℕ) → k < n → get_or p k 0 ≡ get_or q k 0) → at < n → EndsNothing places p at → EndsNothing places q at
+pub ends-agrees : (places p q : List ℕ) (n at : ℕ) → ((k : ℕ) → k < n → get_or p k 0 ≡ get_or q k 0) → at < n
+    → EndsNothing places p at → EndsNothing places q at
 ends-agrees places p q n at a h e =
     let same = turn-agrees places p q n at a h in
     let back : Agree q p n = λ k l. sym (a k l) in
@@ -49,25 +51,34 @@ record Ends (places path : List ℕ) (one two back at : ℕ) : Type 0 where
   no_back : turn_of places path at ≢ back
 
 -- the turn before a bracket that was closed
-turn-before : (places old new : List ℕ) (start one two back run at : ℕ) → Signs (length places) one back two run → at + 1 ≡ start → 1 ≤ at → start + 1 < length old →
-    turn_of places old at < length places → turn_of places old start ≡ one → ((s : ℕ) → ¬ Opens places old one two s start) → turn_of places old at ≢ 0 →
+turn-before : (places old new : List ℕ) (start one two back run at : ℕ) → Signs (length places) one back two run → at + 1 ≡ start
+    → 1 ≤ at → start + 1 < length old →
+    turn_of places old at < length places → turn_of places old start ≡ one → ((s : ℕ) → ¬ Opens places old one two s start)
+    → turn_of places old at ≢ 0 →
     IsClosed places start back run old new → Ends places new one two back at
 turn-before places old new start one two back run at signs at_is positive more x_in opening none not_zero c =
     let d = length places in
     let x = turn_of places old at in
     let before : start - 1 ≡ at = omega arith in
-    let moved : turn_of places new at ≡ add d x back = ap (turn_of places new) (sym before) ∙ c.turn (omega arith) ∙ ap (λ k. add d (turn_of places old k) back) before in
+    let moved : turn_of places new at ≡ add d x back = ap (turn_of places new) (sym before) ∙ c.turn (omega arith)
+    ∙ ap (λ k. add d (turn_of places old k) back) before in
     let sum = signs.sum in
     let o = signs.one_in in
     let b = signs.back_in in
     let two_is = signs.two_is in
-    let not_one : x ≢ one = λ e. none at (record { turn = positive; earlier = omega arith; opening = e; run = λ k from to. absurd (omega arith) }) in
+    let not_one : x ≢ one = λ e. none at (record {
+      turn = positive;
+      earlier = omega arith;
+      opening = e;
+      run = λ k from to. absurd (omega arith);
+    }) in
     record {
       no_spur = λ e. not_one (omega (arith, add-cases d x back));
       no_one = λ e s opened. (
           let two_before : x ≡ two = omega (arith, add-cases d x back, add-cases d one one) in
           let earlier = opened.earlier in
-          let same : Opens places old one two s at = opens-agrees places new old at one two s at (λ k h. c.same k (omega arith)) (omega arith) opened in
+          let same : Opens places old one two s at =
+          opens-agrees places new old at one two s at (λ k h. c.same k (omega arith)) (omega arith) opened in
           none s (record {
             turn = same.turn;
             earlier = omega arith;
@@ -83,17 +94,20 @@ turn-before places old new start one two back run at signs at_is positive more x
 
 -- the two kinds of brackets
 ends-nothing : (places path : List ℕ) (up : Bool) (at : ℕ) → 4 ≤ length places →
-    Ends places path (if up then minus (length places) 1 else 1) (if up then minus (length places) 2 else 2) (if up then 1 else minus (length places) 1) at → EndsNothing places path at
+    Ends places path (if up then minus (length places) 1 else 1) (if up then minus (length places) 2 else 2)
+    (if up then 1 else minus (length places) 1) at → EndsNothing places path at
 ends-nothing places path true at four e = record { no_spur = e.no_spur; no_rise = λ f s o. e.no_back f; no_fall = e.no_one }
 ends-nothing places path false at four e = record { no_spur = e.no_spur; no_rise = e.no_one; no_fall = λ f s o. e.no_back f }
 
-none-opens : (places path : List ℕ) (up : Bool) (at : ℕ) → EndsNothing places path at → turn_of places path at ≡ (if up then minus (length places) 1 else 1) → (s : ℕ) →
+none-opens : (places path : List ℕ) (up : Bool) (at : ℕ)
+    → EndsNothing places path at → turn_of places path at ≡ (if up then minus (length places) 1 else 1) → (s : ℕ) →
     ¬ Opens places path (if up then minus (length places) 1 else 1) (if up then minus (length places) 2 else 2) s at
 none-opens places path true at e f s o = e.no_fall f s o
 none-opens places path false at e f s o = e.no_rise f s o
 
 -- a turn 2 or -2 ends nothing
-run-ends : (places path : List ℕ) (up : Bool) (at : ℕ) → 4 ≤ length places → turn_of places path at ≡ (if up then 2 else minus (length places) 2) → EndsNothing places path at
+run-ends : (places path : List ℕ) (up : Bool) (at : ℕ) → 4 ≤ length places
+    → turn_of places path at ≡ (if up then 2 else minus (length places) 2) → EndsNothing places path at
 run-ends places path true at four e =
     let one_in : 1 < length places = omega arith in
     record {
@@ -115,24 +129,29 @@ pub short-closed : (places old new : List ℕ) (up : Bool) (start : ℕ) → 4 �
     ((at : ℕ) → 1 ≤ at → at < length old → turn_of places old at < length places) →
     ((at : ℕ) → 1 ≤ at → at + 1 < length old → EndsNothing places old at) →
     Opens places old (if up then minus (length places) 1 else 1) (if up then minus (length places) 2 else 2) start (length old - 1) →
-    IsClosed places start (if up then 1 else minus (length places) 1) (if up then 2 else minus (length places) 2) old new → IsShort places new
+    IsClosed places start (if up then 1 else minus (length places) 1) (if up then 2 else minus (length places) 2) old new
+    → IsShort places new
 short-closed places old new up start four turns short opens c at positive at_in =
     let d = length places in
     let shorter = c.shorter in
     let earlier = opens.earlier in
     elim (cases_lt (at + 1) start) [
-      | inl low ↦ ends-agrees places old new (at + 1) at (λ k h. sym (c.same k (omega arith))) (omega arith) (short at positive (omega arith))
+      | inl low ↦ ends-agrees places old new (at + 1) at (λ k h. sym (c.same k (omega arith))) (omega arith)
+          (short at positive (omega arith))
       | inr high ↦ elim (cases_eq (at + 1) start) [
         | inl here ↦
             ends-nothing places new up at four
-            (turn-before places old new start _ _ _ _ at (signs-of d up four) here positive (omega arith) (turns at positive (omega arith)) opens.opening
-            (none-opens places old up start (short start opens.turn (omega arith)) opens.opening) (short at positive (omega arith)).no_spur c)
+            (turn-before places old new start _ _ _ _ at (signs-of d up four) here positive (omega arith) (turns at positive (omega arith))
+            opens.opening
+            (none-opens places old up start (short start opens.turn (omega arith)) opens.opening) (short at positive (omega arith)).no_spur
+            c)
         | inr other ↦ run-ends places new up at four (c.behind at (omega arith) at_in)
       ]
     ]
 
 -- a path with a last turn that ends nothing
-pub short-more : (places path : List ℕ) (last : ℕ) → last + 1 ≡ length path → ((at : ℕ) → 1 ≤ at → at + 1 < length path → EndsNothing places path at) →
+pub short-more : (places path : List ℕ) (last : ℕ) → last + 1 ≡ length path
+    → ((at : ℕ) → 1 ≤ at → at + 1 < length path → EndsNothing places path at) →
     EndsNothing places path last → IsShort places path
 short-more places path last is short e at positive at_in = elim (cases_eq at last) [
   | inl same ↦ subst (EndsNothing places path) (sym same) e
@@ -155,17 +174,21 @@ rest-next path n q i rest r =
     }
 
 head-turn : (places path : List ℕ) (n q i : ℕ) (rest : List ℕ) → Rest path n q (i ∷ rest) →
-    add (length places) (place_round places (from_vertex (suc n)) i) (minus (length places) (place_round places (from_vertex (suc n)) q)) ≡ turn_of places path (suc n)
+    add (length places) (place_round places (from_vertex (suc n)) i) (minus (length places) (place_round places (from_vertex (suc n)) q))
+    ≡ turn_of places path (suc n)
 head-turn places path n q i rest r =
     let next = rest-next path n q i rest r in
     let one_less : suc n - 1 ≡ n = omega arith in
-    ap₂ (λ x y. add (length places) (place_round places (from_vertex (suc n)) x) (minus (length places) (place_round places (from_vertex (suc n)) y)))
+    ap₂ (λ x y. add (length places) (place_round places (from_vertex (suc n)) x)
+    (minus (length places) (place_round places (from_vertex (suc n)) y)))
     (sym next.spoke) (sym (ap (λ k. get_or path k 0) one_less ∙ r.spoke))
 
 module _ (places path : List ℕ) where
   -- a bracket that is open does not close
-  never-closes : (one two start n q : ℕ) (rest : List ℕ) → ((m s : ℕ) → 1 ≤ m → m < length path → turn_of places path m ≡ one → ¬ Opens places path one two s m) →
-      Rest path n q rest → 1 ≤ start → start ≤ n → turn_of places path start ≡ one → ((k : ℕ) → start < k → k < suc n → turn_of places path k ≡ two) →
+  never-closes : (one two start n q : ℕ) (rest : List ℕ) → ((m s : ℕ) → 1 ≤ m → m < length path → turn_of places path m ≡ one
+      → ¬ Opens places path one two s m) →
+      Rest path n q rest → 1 ≤ start → start ≤ n → turn_of places path start ≡ one
+      → ((k : ℕ) → start < k → k < suc n → turn_of places path k ≡ two) →
       closes one two (turns_after places (from_vertex (suc n)) q rest) ≡ false
   never-closes one two start n q [] none r positive le opening run = refl
   never-closes one two start n q (i ∷ rest) none r positive le opening run =
@@ -187,7 +210,8 @@ module _ (places path : List ℕ) where
         | inr not_two ↦ rw (turn, ne_eqb (turn_of places path (suc n)) one not_one, ne_eqb (turn_of places path (suc n)) two not_two) refl
       ]
 
-  no-bracket : (n q : ℕ) (rest : List ℕ) → IsShort places path → Rest path n q rest → HasNoBracket (length places) (turns_after places (from_vertex (suc n)) q rest)
+  no-bracket : (n q : ℕ) (rest : List ℕ) → IsShort places path → Rest path n q rest
+      → HasNoBracket (length places) (turns_after places (from_vertex (suc n)) q rest)
   no-bracket n q [] short r = tt
   no-bracket n q (i ∷ rest) short r =
       let long = r.long in
@@ -197,8 +221,10 @@ module _ (places path : List ℕ) where
       let e = short (suc n) (omega arith) (omega arith) in
       rw (side, turn) (
         e.no_spur,
-        (λ one. never-closes 1 2 (suc n) (suc n) i rest (λ m s from to f. (short m from to).no_rise f s) next (omega arith) (omega arith) one (λ k from to. absurd (omega arith))),
-        (λ one. never-closes (minus (length places) 1) (minus (length places) 2) (suc n) (suc n) i rest (λ m s from to f. (short m from to).no_fall f s) next (omega arith) (omega arith) one
+        (λ one. never-closes 1 2 (suc n) (suc n) i rest (λ m s from to f. (short m from to).no_rise f s) next (omega arith) (omega arith)
+            one (λ k from to. absurd (omega arith))),
+        (λ one. never-closes (minus (length places) 1) (minus (length places) 2) (suc n) (suc n) i rest
+            (λ m s from to f. (short m from to).no_fall f s) next (omega arith) (omega arith) one
             (λ k from to. absurd (omega arith))),
         no-bracket (suc n) i rest short next,
       )
@@ -212,9 +238,11 @@ reduced-from places (q ∷ rest) short =
       long = omega arith;
     })
 
-pub turns-below : (places path : List ℕ) → IsWheel places → All (λ spoke. spoke < length places) path → (at : ℕ) → 1 ≤ at → at < length path → turn_of places path at < length places
+pub turns-below : (places path : List ℕ) → IsWheel places → All (λ spoke. spoke < length places) path → (at : ℕ) → 1 ≤ at → at < length path
+    → turn_of places path at < length places
 turns-below places path wheel below at positive at_in =
-    add-lt (length places) _ _ (round-in (from_vertex at) (get_or path at 0) (below at 0 at_in)) (minus-lt (length places) _ (round-in (from_vertex at) (get_or path (at - 1) 0) (below (at - 1) 0 (omega arith))))
+    add-lt (length places) _ _ (round-in (from_vertex at) (get_or path at 0) (below at 0 at_in))
+    (minus-lt (length places) _ (round-in (from_vertex at) (get_or path (at - 1) 0) (below (at - 1) 0 (omega arith))))
   where
     round-in : (b : Bool) (x : ℕ) → x < length places → place_round places b x < length places
     round-in true x h = wheel.inside x h
@@ -224,31 +252,37 @@ no-turn : (d p q : ℕ) → p < d → q < d → add d p (minus d q) ≡ 0 → p 
 no-turn d p q hp hq e = omega (arith, minus-cases d q hq, add-cases d p (minus d q))
 
 -- a turn 0 stands between equal spokes
-pub equal-by-turn : (places path : List ℕ) → IsWheel places → All (λ spoke. spoke < length places) path → (at : ℕ) → 1 ≤ at → at < length path → turn_of places path at ≡ 0 →
+pub equal-by-turn : (places path : List ℕ) → IsWheel places → All (λ spoke. spoke < length places) path → (at : ℕ)
+    → 1 ≤ at → at < length path → turn_of places path at ≡ 0 →
     get_or path (at - 1) 0 ≡ get_or path at 0
 equal-by-turn places path wheel below at positive at_in e =
     go (from_vertex at) (get_or path (at - 1) 0) (get_or path at 0) (below (at - 1) 0 (omega arith)) (below at 0 at_in) e
   where
-    go : (b : Bool) (x y : ℕ) → x < length places → y < length places → add (length places) (place_round places b y) (minus (length places) (place_round places b x)) ≡ 0 → x ≡ y
+    go : (b : Bool) (x y : ℕ) → x < length places → y < length places
+        → add (length places) (place_round places b y) (minus (length places) (place_round places b x)) ≡ 0 → x ≡ y
     go true x y hx hy e = wheel.once x y hx hy (sym (no-turn (length places) _ _ (wheel.inside y hy) (wheel.inside x hx) e))
     go false x y hx hy e = sym (no-turn (length places) y x hy hx e)
 
-pub spur-short : (places old : List ℕ) (last : ℕ) → last + 1 ≡ length old → 1 ≤ last → ((at : ℕ) → 1 ≤ at → at + 1 < length old → EndsNothing places old at) →
+pub spur-short : (places old : List ℕ) (last : ℕ) → last + 1 ≡ length old → 1 ≤ last
+    → ((at : ℕ) → 1 ≤ at → at + 1 < length old → EndsNothing places old at) →
     IsShort places (remove (remove old last) (last - 1))
 spur-short places old last is positive short at at_one at_in =
     let once = length-remove old last (omega arith) in
     let twice = length-remove (remove old last) (last - 1) (omega arith) in
     ends-agrees places old (remove (remove old last) (last - 1)) (at + 1) at
-    (λ k h. sym (get_or-remove_below (remove old last) (last - 1) 0 k (omega arith) (omega arith) ∙ get_or-remove_below old last 0 k (omega arith) (omega arith)))
+    (λ k h. sym (get_or-remove_below (remove old last) (last - 1) 0 k (omega arith) (omega arith)
+    ∙ get_or-remove_below old last 0 k (omega arith) (omega arith)))
     (omega arith) (short at at_one (omega arith))
 
 pub minus-is : (d degree k : ℕ) → degree ≡ d → 0 < k → k < d → degree - k ≡ minus d k
 minus-is d degree k e positive h = omega (arith, minus-cases d k h)
 
-pub short-pushed : (places front now : List ℕ) (x : ℕ) → now ≡ front ++ x ∷ [] → IsShort places front → (at : ℕ) → 1 ≤ at → at + 1 < length now → EndsNothing places now at
+pub short-pushed : (places front now : List ℕ) (x : ℕ) → now ≡ front ++ x ∷ [] → IsShort places front → (at : ℕ)
+    → 1 ≤ at → at + 1 < length now → EndsNothing places now at
 short-pushed places front now x is short at positive at_in =
     let long : length now ≡ length front + 1 = ap length is ∙ length_push front x in
-    ends-agrees places front now (at + 1) at (λ k h. sym (ap (λ z. get_or z k 0) is ∙ get_or_append_left front (x ∷ []) 0 k (omega arith))) (omega arith) (short at positive (omega arith))
+    ends-agrees places front now (at + 1) at (λ k h. sym (ap (λ z. get_or z k 0) is ∙ get_or_append_left front (x ∷ []) 0 k (omega arith)))
+    (omega arith) (short at positive (omega arith))
 
 pub all-read : (front spokes : List ℕ) (n : ℕ) → length spokes ≤ n → front ++ drop n spokes ≡ front
 all-read front spokes n h = ap (λ z. front ++ z) (drop_all n spokes h) ∙ append-nil front

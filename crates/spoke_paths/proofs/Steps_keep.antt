@@ -73,7 +73,8 @@ turned-is places a c up at_vertex p q e = elim (cases_Bool (is_quad places a c))
   | inr none ↦ let refused = rw none at e in absurd cc
 ]
 
-pub mapped-is : (o : Option (List ℕ)) (x : ℕ) (v : List ℕ) → option_map (λ changed. x ∷ changed) o ≡ Some v → (w : List ℕ) × (o ≡ Some w) × (x ∷ w ≡ v)
+pub mapped-is : (o : Option (List ℕ)) (x : ℕ) (v : List ℕ) → option_map (λ changed. x ∷ changed) o ≡ Some v
+    → (w : List ℕ) × (o ≡ Some w) × (x ∷ w ≡ v)
 mapped-is None x v e = absurd cc
 mapped-is (Some w) x v e = (w, refl, let same : x ∷ w ≡ v = cc in same)
 
@@ -119,9 +120,11 @@ from-range d rule k (suc at) b (x ∷ p) q h e =
     let inner = mapped-is (from_spoke at (not b) rule p) x q e in
     rw (← inner.2) (h.0, from-range d rule k at (not b) p inner.0 h.1 inner.1)
 
-step-range : (places : List ℕ) (step : PathStep) (p q : List ℕ) → InRange (length places) p → after_path_step places step p ≡ Some q → InRange (length places) q
+step-range : (places : List ℕ) (step : PathStep) (p q : List ℕ) → InRange (length places) p → after_path_step places step p ≡ Some q
+    → InRange (length places) q
 step-range places (Spur at) p q h e = from-range (length places) (λ b. spur_goes) (spur-range (length places)) at true p q h e
-step-range places (Turn at a c up) p q h e = from-range (length places) (quad_turned places a c up) (turn-range places a c up) at true p q h e
+step-range places (Turn at a c up) p q h e = from-range (length places) (quad_turned places a c up) (turn-range places a c up) at true p q h
+    e
 
 -- one step, and then the others
 pub record Later (places : List ℕ) (step : PathStep) (steps : List PathStep) (path end : List ℕ) : Type 0 where
@@ -129,22 +132,29 @@ pub record Later (places : List ℕ) (step : PathStep) (steps : List PathStep) (
   pub first : after_path_step places step path ≡ Some next
   pub rest : after_path_steps places steps next ≡ Some end
 
-pub later-is : (places : List ℕ) (step : PathStep) (steps : List PathStep) (path end : List ℕ) → PathLeads places path (step ∷ steps) end → Later places step steps path end
+pub later-is : (places : List ℕ) (step : PathStep) (steps : List PathStep) (path end : List ℕ) → PathLeads places path (step ∷ steps) end
+    → Later places step steps path end
 later-is places step steps path end e =
-    option_and_then_some (after_path_steps places steps) (after_path_step places step path) end e (λ next first rest. record { next = next; first = first; rest = rest })
+    option_and_then_some (after_path_steps places steps) (after_path_step places step path) end e
+    (λ next first rest. record { next = next; first = first; rest = rest })
 
-steps-range : (places : List ℕ) (steps : List PathStep) (path end : List ℕ) → InRange (length places) path → PathLeads places path steps end → InRange (length places) end
+steps-range : (places : List ℕ) (steps : List PathStep) (path end : List ℕ) → InRange (length places) path → PathLeads places path steps end
+    → InRange (length places) end
 steps-range places [] path end h e = let same : path ≡ end = cc in rw (← same) h
 steps-range places (step ∷ steps) path end h e =
     let l = later-is places step steps path end e in
     steps-range places steps l.next end (step-range places step path l.next h l.first) l.rest
 
-pub spokes-stay-below : (places path end : List ℕ) (steps : List PathStep) → All (λ spoke. spoke < length places) path → PathLeads places path steps end
+pub spokes-stay-below : (places path end : List ℕ) (steps : List PathStep) → All (λ spoke. spoke < length places) path
+    → PathLeads places path steps end
     → All (λ spoke. spoke < length places) end
-spokes-stay-below places path end steps h e = all-from (length places) end (steps-range places steps path end (in-range-from (length places) path h) e)
+spokes-stay-below places path end steps h e =
+    all-from (length places) end (steps-range places steps path end (in-range-from (length places) path h) e)
 
-module _ {State : Type 0} (Belongs : List ℕ → State → Type 0) (IsAtVertex : State → Type 0) (size : State → ℕ) (next : List ℕ → State → ℕ → State)
-    (stays : StaysWell Belongs IsAtVertex size next) (back : ThereAndBack Belongs next) (across : AcrossQuads Belongs IsAtVertex next) (places : List ℕ) where
+module _ {State : Type 0} (Belongs : List ℕ → State → Type 0) (IsAtVertex : State → Type 0) (size : State → ℕ) (next : List ℕ → State → ℕ
+    → State)
+    (stays : StaysWell Belongs IsAtVertex size next) (back : ThereAndBack Belongs next) (across : AcrossQuads Belongs IsAtVertex next)
+    (places : List ℕ) where
   -- a state at the vertex, and one that a spoke led to from the vertex
   record AtVertex (s : State) : Type 0 where
     belongs : Belongs places s
@@ -177,7 +187,8 @@ module _ {State : Type 0} (Belongs : List ℕ → State → Type 0) (IsAtVertex 
   -- a rule keeps the state
   abbrev KeepsState : (Bool → List ℕ → Option (List ℕ)) → Type 0
   KeepsState rule =
-      (b : Bool) (s : State) (p q : List ℕ) → Stands b s → InRange (length places) p → rule b p ≡ Some q → led next places s q ≡ led next places s p
+      (b : Bool) (s : State) (p q : List ℕ) → Stands b s → InRange (length places) p → rule b p ≡ Some q
+      → led next places s q ≡ led next places s p
 
   spur-state : KeepsState (λ b. spur_goes)
   spur-state b s p q h range e =
@@ -202,7 +213,8 @@ module _ {State : Type 0} (Belongs : List ℕ → State → Type 0) (IsAtVertex 
       let middle = stays.belongs places there a vertex.belongs quad.a_below in
       sym (ap (λ z. next places z a_up) (sym round) ∙ back places (next places there a) a_up middle a_up_below)
 
-  pair-state : (s : State) (x y v w : ℕ) (p q : List ℕ) → Becomes x y v w p q → next places (next places s v) w ≡ next places (next places s x) y →
+  pair-state : (s : State) (x y v w : ℕ) (p q : List ℕ) → Becomes x y v w p q
+      → next places (next places s v) w ≡ next places (next places s x) y →
       led next places s q ≡ led next places s p
   pair-state s x y v w p q is e =
       ap (led next places s) is.to ∙ ap (λ z. led next places z is.rest) e ∙ ap (led next places s) (sym is.from)
@@ -232,19 +244,24 @@ module _ {State : Type 0} (Belongs : List ℕ → State → Type 0) (IsAtVertex 
       let inner = mapped-is (from_spoke at (not b) rule p) x q e in
       rw (← inner.2) (from-state rule k at (not b) (next places s x) p inner.0 (stands-next b s x h range.0) range.1 inner.1)
 
-  step-state : (step : PathStep) (s : State) (p q : List ℕ) → AtVertex s → InRange (length places) p → after_path_step places step p ≡ Some q →
+  step-state : (step : PathStep) (s : State) (p q : List ℕ) → AtVertex s → InRange (length places) p
+      → after_path_step places step p ≡ Some q →
       led next places s q ≡ led next places s p
   step-state (Spur at) s p q h range e = from-state (λ b. spur_goes) spur-state at true s p q h range e
   step-state (Turn at a c up) s p q h range e = from-state (quad_turned places a c up) (turn-state a c up) at true s p q h range e
 
-  steps-state : (steps : List PathStep) (s : State) (path end : List ℕ) → AtVertex s → InRange (length places) path → PathLeads places path steps end →
+  steps-state : (steps : List PathStep) (s : State) (path end : List ℕ) → AtVertex s → InRange (length places) path
+      → PathLeads places path steps end →
       led next places s end ≡ led next places s path
   steps-state [] s path end h range e = let same : path ≡ end = cc in ap (led next places s) (sym same)
   steps-state (step ∷ steps) s path end h range e =
       let l = later-is places step steps path end e in
-      steps-state steps s l.next end h (step-range places step path l.next range l.first) l.rest ∙ step-state step s path l.next h range l.first
+      steps-state steps s l.next end h (step-range places step path l.next range l.first) l.rest
+      ∙ step-state step s path l.next h range l.first
 
-  pub state-stays : (IsOwn : List ℕ → Type 0) (empty : State) → StartsWell IsOwn Belongs IsAtVertex size empty → (path end : List ℕ) (steps : List PathStep) → IsOwn places
+  pub state-stays : (IsOwn : List ℕ → Type 0) (empty : State) → StartsWell IsOwn Belongs IsAtVertex size empty
+      → (path end : List ℕ) (steps : List PathStep) → IsOwn places
       → All (λ spoke. spoke < length places) path → PathLeads places path steps end → led next places empty end ≡ led next places empty path
   state-stays IsOwn empty starts path end steps own below e =
-      steps-state steps empty path end (record { belongs = starts.belongs places own; vertex = starts.at_vertex }) (in-range-from (length places) path below) e
+      steps-state steps empty path end (record { belongs = starts.belongs places own; vertex = starts.at_vertex })
+      (in-range-from (length places) path below) e

@@ -51,12 +51,16 @@ quad-turn : (places : List ℕ) (a c : ℕ) (up b : Bool) (x y v u : ℕ) (tail 
     (if up then lower_way (length places) b a c else upper_way (length places) b a c) ≡ x ∷ y ∷ [] →
     (if up then upper_way (length places) b a c else lower_way (length places) b a c) ≡ v ∷ u ∷ [] →
     quad_turned places a c up b (x ∷ y ∷ tail) ≡ Some (v ∷ u ∷ tail)
-quad-turn places a c true b x y v u tail quad old new = rw (quad) (ap₂ (λ m n. two_become m n (x ∷ y ∷ tail)) old new ∙ becomes x y v u tail)
-quad-turn places a c false b x y v u tail quad old new = rw (quad) (ap₂ (λ m n. two_become m n (x ∷ y ∷ tail)) old new ∙ becomes x y v u tail)
+quad-turn places a c true b x y v u tail quad old new =
+    rw (quad) (ap₂ (λ m n. two_become m n (x ∷ y ∷ tail)) old new ∙ becomes x y v u tail)
+quad-turn places a c false b x y v u tail quad old new =
+    rw (quad) (ap₂ (λ m n. two_become m n (x ∷ y ∷ tail)) old new ∙ becomes x y v u tail)
 
 -- the step leads, with more spokes behind too
-pub turn-leads : (places : List ℕ) (a c : ℕ) (up : Bool) (at : ℕ) (path rest : List ℕ) (v u : ℕ) → at + 1 < length path → is_quad places a c ≡ true →
-    (if up then lower_way (length places) (from_vertex at) a c else upper_way (length places) (from_vertex at) a c) ≡ get_or path at 0 ∷ get_or path (at + 1) 0 ∷ [] →
+pub turn-leads : (places : List ℕ) (a c : ℕ) (up : Bool) (at : ℕ) (path rest : List ℕ) (v u : ℕ) → at + 1 < length path
+    → is_quad places a c ≡ true →
+    (if up then lower_way (length places) (from_vertex at) a c else upper_way (length places) (from_vertex at) a c)
+    ≡ get_or path at 0 ∷ get_or path (at + 1) 0 ∷ [] →
     (if up then upper_way (length places) (from_vertex at) a c else lower_way (length places) (from_vertex at) a c) ≡ v ∷ u ∷ [] →
     from_spoke at true (quad_turned places a c up) (path ++ rest) ≡ Some (set (set path at v) (at + 1) u ++ rest)
 turn-leads places a c up at path rest v u h quad old new =
@@ -74,14 +78,18 @@ below-set d path at v h v_in k e k_in =
       | inr other ↦ rw (get_or-set_other path at k v e other) (h k e (omega arith))
     ]
 
-pub turned-over : (places : List ℕ) → IsWheel places → HasQuads places → (a c : ℕ) (up : Bool) (at : ℕ) (path : List ℕ) (v u : ℕ) → at + 1 < length path →
+pub turned-over : (places : List ℕ) → IsWheel places → HasQuads places → (a c : ℕ) (up : Bool) (at : ℕ) (path : List ℕ) (v u : ℕ)
+    → at + 1 < length path →
     is_quad places a c ≡ true →
-    (if up then lower_way (length places) (from_vertex at) a c else upper_way (length places) (from_vertex at) a c) ≡ get_or path at 0 ∷ get_or path (at + 1) 0 ∷ [] →
+    (if up then lower_way (length places) (from_vertex at) a c else upper_way (length places) (from_vertex at) a c)
+    ≡ get_or path at 0 ∷ get_or path (at + 1) 0 ∷ [] →
     (if up then upper_way (length places) (from_vertex at) a c else lower_way (length places) (from_vertex at) a c) ≡ v ∷ u ∷ [] →
-    IsTurnedOver places at (if up then minus (length places) 1 else 1) (if up then 1 else minus (length places) 1) path (set (set path at v) (at + 1) u)
+    IsTurnedOver places at (if up then minus (length places) 1 else 1) (if up then 1 else minus (length places) 1) path
+    (set (set path at v) (at + 1) u)
 turned-over places wheel w a c up at path v u h quad old new =
     let d = length places in
-    let changed = changes places wheel w (from_vertex at) up a c (get_or path at 0) (get_or path (at + 1) 0) v u (quad-is places a c quad) old new in
+    let changed = changes places wheel w (from_vertex at) up a c (get_or path at 0) (get_or path (at + 1) 0) v u (quad-is places a c quad)
+    old new in
     let once = length-set path at v in
     let twice = length-set (set path at v) (at + 1) u in
     let apart : at ≢ at + 1 = λ e. absurd (omega arith) in
@@ -89,7 +97,8 @@ turned-over places wheel w a c up at path v u h quad old new =
     get_or-set_other (set path at v) (at + 1) at u 0 apart ∙ get_or-set_same path at v 0 (omega arith) in
     let next : get_or (set (set path at v) (at + 1) u) (at + 1) 0 ≡ u = get_or-set_same (set path at v) (at + 1) u 0 (omega arith) in
     let before : at + 1 - 1 ≡ at = omega arith in
-    let flipped : from_vertex (at + 1) ≡ not (from_vertex at) = ap from_vertex (let e : at + 1 ≡ suc at = omega arith in e) ∙ from-next at in
+    let flipped : from_vertex (at + 1) ≡ not (from_vertex at) = ap from_vertex (let e : at + 1 ≡ suc at = omega arith in e)
+    ∙ from-next at in
     record {
       as_long = twice ∙ once;
       same = λ k not_here not_next. get_or-set_other (set path at v) (at + 1) k u 0 not_next ∙ get_or-set_other path at k v 0 not_here;
@@ -100,9 +109,11 @@ turned-over places wheel w a c up at path v u h quad old new =
 
 pub turned-below : (places : List ℕ) → IsWheel places → HasQuads places → (a c : ℕ) (up : Bool) (at : ℕ) (path : List ℕ) (v u : ℕ) →
     All (λ spoke. spoke < length places) path → is_quad places a c ≡ true →
-    (if up then lower_way (length places) (from_vertex at) a c else upper_way (length places) (from_vertex at) a c) ≡ get_or path at 0 ∷ get_or path (at + 1) 0 ∷ [] →
+    (if up then lower_way (length places) (from_vertex at) a c else upper_way (length places) (from_vertex at) a c)
+    ≡ get_or path at 0 ∷ get_or path (at + 1) 0 ∷ [] →
     (if up then upper_way (length places) (from_vertex at) a c else lower_way (length places) (from_vertex at) a c) ≡ v ∷ u ∷ [] →
     All (λ spoke. spoke < length places) (set (set path at v) (at + 1) u)
 turned-below places wheel w a c up at path v u h quad old new =
-    let changed = changes places wheel w (from_vertex at) up a c (get_or path at 0) (get_or path (at + 1) 0) v u (quad-is places a c quad) old new in
+    let changed = changes places wheel w (from_vertex at) up a c (get_or path at 0) (get_or path (at + 1) 0) v u (quad-is places a c quad)
+    old new in
     below-set (length places) (set path at v) (at + 1) u (below-set (length places) path at v h changed.v_in) changed.u_in

@@ -19,7 +19,8 @@ other-side : (places : List ℕ) (a c : ℕ) → IsQuad places a c → IsQuad pl
 other-side places a c q = record { a_below = q.c_below; c_below = q.a_below; a_place = q.c_place; c_place = q.a_place }
 
 pub partner-quad : (places : List ℕ) → HasQuads places → (side next partner : ℕ) → side < length places → next < length places →
-    get_or places next 0 ≡ add (length places) (get_or places side 0) (minus (length places) 1) → partner ≡ add (length places) next (minus (length places) 1) →
+    get_or places next 0 ≡ add (length places) (get_or places side 0) (minus (length places) 1)
+    → partner ≡ add (length places) next (minus (length places) 1) →
     (is_quad places side partner ≡ true) × (is_quad places partner side ≡ true)
 partner-quad places w side next partner side_in next_in place e =
     let d = length places in
@@ -28,7 +29,8 @@ partner-quad places w side next partner side_in next_in place e =
     let partner_in : partner < d = rw e (add-lt d next (minus d 1) next_in (minus-lt d 1 one_in)) in
     let up : add d partner 1 ≡ next = omega (arith, add-cases d partner 1, minus-cases d 1 one_in, add-cases d next (minus d 1)) in
     let half = ap (λ n. get_or places n 0) up ∙ place in
-    let quad : IsQuad places side partner = record { a_below = side_in; c_below = partner_in; a_place = half; c_place = w.full side partner side_in partner_in half } in
+    let quad : IsQuad places side partner =
+    record { a_below = side_in; c_below = partner_in; a_place = half; c_place = w.full side partner side_in partner_in half } in
     (quad-true places side partner quad, quad-true places partner side (other-side places side partner quad))
 
 module _ (d : ℕ) (four : 4 ≤ d) where
@@ -66,7 +68,8 @@ turn_between places b x y = add (length places) (place_round places b y) (minus 
 
 module _ (places : List ℕ) (wheel : IsWheel places) (w : HasQuads places) where
   -- the way that two neighbours are
-  pub lower-from-vertex : (first c a : ℕ) → first < length places → c < length places → turn_between places false first c ≡ minus (length places) 1 →
+  pub lower-from-vertex : (first c a : ℕ) → first < length places → c < length places
+      → turn_between places false first c ≡ minus (length places) 1 →
       lower_way (length places) true a c ≡ first ∷ c ∷ []
   lower-from-vertex first c a hf hc e = ap (λ n. n ∷ c ∷ []) (down-one (length places) w.four first c hf hc e)
 
@@ -74,7 +77,8 @@ module _ (places : List ℕ) (wheel : IsWheel places) (w : HasQuads places) wher
       upper_way (length places) true a c ≡ a ∷ second ∷ []
   upper-from-vertex a second c ha hs e = ap (λ n. a ∷ n ∷ []) (up-one (length places) w.four a second ha hs e)
 
-  pub lower-from-middle : (c second a : ℕ) → IsQuad places a c → second < length places → turn_between places true c second ≡ minus (length places) 1 →
+  pub lower-from-middle : (c second a : ℕ) → IsQuad places a c → second < length places
+      → turn_between places true c second ≡ minus (length places) 1 →
       lower_way (length places) false a c ≡ c ∷ second ∷ []
   lower-from-middle c second a q hs e =
       let d = length places in
@@ -83,7 +87,8 @@ module _ (places : List ℕ) (wheel : IsWheel places) (w : HasQuads places) wher
       let ps = wheel.inside second hs in
       let up_in = add-lt d a 1 q.a_below (omega arith) in
       let same : get_or places (add d a 1) 0 ≡ get_or places second 0 =
-      q.c_place ∙ sym (less-one d four (get_or places second 0) (get_or places c 0) ps pc (down-one d four (get_or places c 0) (get_or places second 0) pc ps e)) in
+      q.c_place ∙ sym (less-one d four (get_or places second 0) (get_or places c 0) ps pc
+      (down-one d four (get_or places c 0) (get_or places second 0) pc ps e)) in
       ap (λ n. c ∷ n ∷ []) (wheel.once (add d a 1) second up_in hs same)
 
   pub upper-from-middle : (first a c : ℕ) → IsQuad places a c → first < length places → turn_between places true first a ≡ 1 →
@@ -95,7 +100,8 @@ module _ (places : List ℕ) (wheel : IsWheel places) (w : HasQuads places) wher
       let pf = wheel.inside first hf in
       let up_in = add-lt d c 1 q.c_below (omega arith) in
       let same : get_or places (add d c 1) 0 ≡ get_or places first 0 =
-      q.a_place ∙ sym (less-one d four (get_or places first 0) (get_or places a 0) pf pa (up-one d four (get_or places first 0) (get_or places a 0) pf pa e)) in
+      q.a_place ∙ sym (less-one d four (get_or places first 0) (get_or places a 0) pf pa
+      (up-one d four (get_or places first 0) (get_or places a 0) pf pa e)) in
       ap (λ n. n ∷ a ∷ []) (wheel.once (add d c 1) first up_in hf same)
 
   -- what a turn does to the places of the two neighbours
@@ -159,7 +165,8 @@ module _ (places : List ℕ) (wheel : IsWheel places) (w : HasQuads places) wher
         v_in = c_up_in;
         u_in = q.a_below;
         first = refl;
-        between = ap (λ n. add d n (minus d (get_or places (add d c 1) 0))) (sym (more-one d four _ _ pcu pa q.a_place)) ∙ turn-up d four (get_or places (add d c 1) 0) pcu;
+        between = ap (λ n. add d n (minus d (get_or places (add d c 1) 0))) (sym (more-one d four _ _ pcu pa q.a_place))
+            ∙ turn-up d four (get_or places (add d c 1) 0) pcu;
         second = less-one d four a (add d a 1) q.a_below up_in refl;
       })
   changes false false a c x y v u q old new =
@@ -177,6 +184,7 @@ module _ (places : List ℕ) (wheel : IsWheel places) (w : HasQuads places) wher
         v_in = q.c_below;
         u_in = up_in;
         first = less-one d four c (add d c 1) q.c_below c_up_in refl;
-        between = ap (λ n. add d (get_or places (add d a 1) 0) (minus d n)) (sym (more-one d four _ _ pau pc q.c_place)) ∙ turn-down d four (get_or places (add d a 1) 0) pau;
+        between = ap (λ n. add d (get_or places (add d a 1) 0) (minus d n)) (sym (more-one d four _ _ pau pc q.c_place))
+            ∙ turn-down d four (get_or places (add d a 1) 0) pau;
         second = refl;
       })

@@ -15,44 +15,61 @@ loop-step-init c = record {
   last = refl;
   spokes = c.requires.spokes;
   below = c.requires.reduction.below;
-  leads = subst (λ (x : List PathStep). PathLeads c.args.polygon.now.places c.args.reduction.spokes.items x []) (sym c.deref-step-items.ensures.value)
+  leads = subst (λ (x : List PathStep). PathLeads c.args.cut.now.polygon.now.places c.args.reduction.spokes.items x [])
+      (sym c.deref-step-items.ensures.value)
       c.requires.reduction.leads;
 }
 
 pub follow-requires-clause-allowed : goal.follow-requires-clause-allowed
 follow-requires-clause-allowed c =
-    let allowed = next_allowed c.args.surface.now c.args.split.now c.faces.ensures.valid c.requires.split c.args.polygon.now c.requires.cut c.requires.some c.args.behind c.args.track c.loop-step.track
+    let allowed = next_allowed c.args.cut.now.on.surface.now c.args.cut.now.on.split.now c.requires.cut.valid c.requires.cut.on.split
+    c.args.cut.now.polygon.now c.requires.cut.polygon c.requires.cut.some c.args.behind c.args.track c.loop-step.track
     c.loop-step.path.items c.deref-step-items.result.now c.loop-step.step-index (Spur 0) c.loop-step-test.true c.loop-step.invariant in
-    (allowed.0, ap (after_path_step c.args.polygon.now.places _) c.deref.ensures.value ∙ allowed.1)
+    (allowed.0, ap (after_path_step c.args.cut.now.polygon.now.places _) c.deref.ensures.value ∙ allowed.1)
 
 pub follow-requires-clause-walk : goal.follow-requires-clause-walk
 follow-requires-clause-walk c =
-    led_walk c.args.surface.now c.args.split.now c.faces.ensures.valid c.requires.split c.args.polygon.now c.requires.cut c.requires.some c.args.behind c.args.track c.loop-step.track
+    led_walk c.args.cut.now.on.surface.now c.args.cut.now.on.split.now c.requires.cut.valid c.requires.cut.on.split
+    c.args.cut.now.polygon.now c.requires.cut.polygon c.requires.cut.some c.args.behind c.args.track c.loop-step.track
     c.loop-step.path.items _ c.requires.led c.loop-step.invariant
 
 pub take_step-requires : goal.take_step-requires
 take_step-requires c =
-    let allowed = next_allowed c.args.surface.now c.args.split.now c.faces.ensures.valid c.requires.split c.args.polygon.now c.requires.cut c.requires.some c.args.behind c.args.track c.loop-step.track
-    c.loop-step.path.items c.deref-step-items.result.now c.loop-step.step-index (Spur 0) c.loop-step-test.true c.loop-step.invariant in
-    (allowed.0, ap (λ (places : List ℕ). after_path_step places (get_or c.deref-step-items.result.now c.loop-step.step-index (Spur 0)) c.loop-step.path.items) c.requires.reduction.wheel ∙ allowed.1)
+    let allowed = next_allowed c.args.cut.now.on.surface.now c.args.cut.now.on.split.now c.requires.cut.valid c.requires.cut.on.split
+    c.args.cut.now.polygon.now c.requires.cut.polygon c.requires.cut.some c.args.behind c.args.track c.loop-step.track
+    c.loop-step.path.items c.deref-step-items.result.now c.loop-step.step-index (Spur 0) c.loop-step-test.true c.loop-step.invariant in (
+      allowed.0,
+      ap (λ (places : List ℕ). after_path_step places (get_or c.deref-step-items.result.now c.loop-step.step-index (Spur 0))
+          c.loop-step.path.items) c.requires.reduction.wheel ∙ allowed.1,
+    )
 
 pub loop-step-preserved : goal.loop-step-preserved
 loop-step-preserved c =
     let step : PathStep = get_or c.deref-step-items.result.now c.loop-step.step-index (Spur 0) in
-    let taken : after_path_step c.args.polygon.now.places step c.loop-step.path.items ≡ Some c.take_step.new.path.items =
-    subst (λ (places : List ℕ). after_path_step places step c.loop-step.path.items ≡ Some c.take_step.new.path.items) c.requires.reduction.wheel c.take_step.ensures in
-    contracted_on c.args.surface.now c.args.split.now c.faces.ensures.valid c.requires.split c.args.polygon.now c.requires.cut c.requires.some c.args.behind c.args.track c.loop-step.track c.in_ok-track.track
-    c.loop-step.path.items c.take_step.new.path.items c.deref-step-items.result.now c.loop-step.step-index (Spur 0) c.loop-step-test.true c.loop-step.invariant taken
-    c.in_ok-track.ensures.leads c.in_ok-track.ensures.some c.in_ok-track.ensures.no_spur c.in_ok-track.ensures.starts c.in_ok-track.ensures.last
+    let taken : after_path_step c.args.cut.now.polygon.now.places step c.loop-step.path.items ≡ Some c.take_step.new.path.items =
+    subst (λ (places : List ℕ). after_path_step places step c.loop-step.path.items ≡ Some c.take_step.new.path.items)
+    c.requires.reduction.wheel c.take_step.ensures in
+    contracted_on c.args.cut.now.on.surface.now c.args.cut.now.on.split.now c.requires.cut.valid c.requires.cut.on.split
+    c.args.cut.now.polygon.now c.requires.cut.polygon c.requires.cut.some c.args.behind c.args.track c.loop-step.track c.in_ok-track.track
+    c.loop-step.path.items c.take_step.new.path.items c.deref-step-items.result.now c.loop-step.step-index (Spur 0) c.loop-step-test.true
+    c.loop-step.invariant taken
+    c.in_ok-track.ensures.leads c.in_ok-track.ensures.some c.in_ok-track.ensures.no_spur c.in_ok-track.ensures.starts
+    c.in_ok-track.ensures.last
     (λ other e.
-    c.in_ok-track.ensures.spokes other (ap (after_path_step c.args.polygon.now.places step) c.deref.ensures.value ∙ e))
+    c.in_ok-track.ensures.spokes other (ap (after_path_step c.args.cut.now.polygon.now.places step) c.deref.ensures.value ∙ e))
 
 pub returns-clause-nothing : goal.returns-clause-nothing
 returns-clause-nothing c =
-    all_contracted c.args.surface.now c.args.split.now c.faces.ensures.valid c.requires.split c.args.polygon.now c.requires.cut c.requires.some c.args.behind c.args.track c.loop-step.track
-    c.loop-step.path.items c.deref-step-items.result.now c.loop-step.step-index (omega (arith, c.loop-step-test.false)) c.requires.led c.loop-step.invariant
+    all_contracted c.args.cut.now.on.surface.now c.args.cut.now.on.split.now c.requires.cut.valid c.requires.cut.on.split
+    c.args.cut.now.polygon.now c.requires.cut.polygon c.requires.cut.some c.args.behind c.args.track c.loop-step.track
+    c.loop-step.path.items c.deref-step-items.result.now c.loop-step.step-index (omega (arith, c.loop-step-test.false)) c.requires.led
+    c.loop-step.invariant
 
 pub follow-requires-clause-spokes : goal.follow-requires-clause-spokes
 follow-requires-clause-spokes c =
-    subst (λ (l : List ℕ). IsFreelyPath c.args.surface.now c.args.split.now c.args.polygon.now l c.loop-step.track.walk) (sym c.deref.ensures.value)
+    subst (λ (l : List ℕ). IsFreelyPath c.args.cut.now.on.surface.now c.args.cut.now.on.split.now c.args.cut.now.polygon.now l
+    c.loop-step.track.walk) (sym c.deref.ensures.value)
     c.loop-step.invariant.spokes
+
+pub follow-requires-clause-looping : goal.follow-requires-clause-looping
+follow-requires-clause-looping c = record { cut = c.requires.cut; looper = c.in_ok-looper.ensures }

@@ -3,4 +3,6 @@ use Rattle.move_lifting.proofs.ContractLemmas.{IsContracted}
 use Rattle.move_lifting.proofs.contracting.contract.Given as goal
 
 abbrev pub invariant-loop-step : goal.invariant-loop-step
-invariant-loop-step l = IsContracted l.surface l.split l.polygon l.behind l.fn.track l.track l.path.items (drop l.step-index l.step-items)
+invariant-loop-step l = IsContracted l.looping.cut.now.on.surface.now l.looping.cut.now.on.split.now l.looping.cut.now.polygon.now
+    l.looping.behind l.fn.track l.track l.path.items
+    (drop l.step-index l.step-items)

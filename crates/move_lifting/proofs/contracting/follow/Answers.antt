@@ -12,27 +12,39 @@ use Rattle.move_lifting.proofs.contracting.follow.Goals as goal
 
 pub returns-in_default-clause-spokes : goal.returns-in_default-clause-spokes
 returns-in_default-clause-spokes c = λ next e.
-    spur_follows c.args.surface.now c.args.split.now c.faces.ensures.valid c.requires.split c.args.polygon.now c.requires.cut c.requires.some c.in_default.field-0
+    spur_follows c.args.looping.now.cut.now.on.surface.now c.args.looping.now.cut.now.on.split.now c.requires.looping.cut.valid
+    c.requires.looping.cut.on.split c.args.looping.now.cut.now.polygon.now c.requires.looping.cut.polygon c.requires.looping.cut.some
+    c.in_default.field-0
     c.args.path.now next c.args.track.walk
-    (subst (λ (step : PathStep). after_path_step c.args.polygon.now.places step c.args.path.now ≡ Some next) c.in_default.is e) c.requires.walk c.requires.spokes
+    (subst (λ (step : PathStep). after_path_step c.args.looping.now.cut.now.polygon.now.places step c.args.path.now ≡ Some next)
+    c.in_default.is e) c.requires.walk c.requires.spokes
 
 pub returns-then-partner-last-clause-spokes : goal.returns-then-partner-last-clause-spokes
 returns-then-partner-last-clause-spokes c = λ next e.
-    turn_follows c.args.surface.now c.args.split.now c.faces.ensures.valid c.requires.split c.args.polygon.now c.requires.cut c.requires.some c.in-Turn.at c.in-Turn.side
+    turn_follows c.args.looping.now.cut.now.on.surface.now c.args.looping.now.cut.now.on.split.now c.requires.looping.cut.valid
+    c.requires.looping.cut.on.split c.args.looping.now.cut.now.polygon.now c.requires.looping.cut.polygon c.requires.looping.cut.some
+    c.in-Turn.at c.in-Turn.side
     c.in-Turn.partner c.in-Turn.up c.args.path.now next c.args.track.walk
-    (subst (λ (step : PathStep). after_path_step c.args.polygon.now.places step c.args.path.now ≡ Some next) c.in-Turn.is e) c.requires.walk
+    (subst (λ (step : PathStep). after_path_step c.args.looping.now.cut.now.polygon.now.places step c.args.path.now ≡ Some next)
+    c.in-Turn.is e) c.requires.walk
     (λ own. c.if-side-last.true (own ∙ ap (λ n. n - 1) (sym c.degree-last.ensures.degree)))
     (λ other. c.if-partner-last.true (other ∙ ap (λ n. n - 1) (sym c.degree-last.ensures.degree))) c.requires.spokes
 
 -- the turn is allowed, and so it is across a quad
-turn : (c : goal.Joined-else-side-last) → (c.in-Turn.at + 1 < length c.args.path.now) × IsQuad c.args.polygon.now.places c.in-Turn.side c.in-Turn.partner
+turn : (c : goal.Joined-else-side-last) → (c.in-Turn.at + 1 < length c.args.path.now) × IsQuad c.args.looping.now.cut.now.polygon.now.places
+    c.in-Turn.side c.in-Turn.partner
 turn c =
-    some-turn c.args.polygon.now.places c.in-Turn.side c.in-Turn.partner c.in-Turn.up c.in-Turn.at c.args.path.now c.requires.allowed.0
-    (subst (λ (step : PathStep). after_path_step c.args.polygon.now.places step c.args.path.now ≡ Some c.requires.allowed.0) c.in-Turn.is c.requires.allowed.1)
+    some-turn c.args.looping.now.cut.now.polygon.now.places c.in-Turn.side c.in-Turn.partner c.in-Turn.up c.in-Turn.at c.args.path.now
+    c.requires.allowed.0
+    (subst (λ (step : PathStep). after_path_step c.args.looping.now.cut.now.polygon.now.places step c.args.path.now
+    ≡ Some c.requires.allowed.0) c.in-Turn.is c.requires.allowed.1)
 
-below : (c : goal.Joined-else-side-last) → (c.in-Turn.side < c.args.polygon.now.degree) × (c.in-Turn.partner < c.args.polygon.now.degree)
+below : (c : goal.Joined-else-side-last) → (c.in-Turn.side < c.args.looping.now.cut.now.polygon.now.degree)
+    × (c.in-Turn.partner < c.args.looping.now.cut.now.polygon.now.degree)
 below c =
-    quad_below c.args.surface.now c.args.split.now c.faces.ensures.valid c.requires.split c.args.polygon.now c.requires.cut c.requires.some c.in-Turn.side
+    quad_below c.args.looping.now.cut.now.on.surface.now c.args.looping.now.cut.now.on.split.now c.requires.looping.cut.valid
+    c.requires.looping.cut.on.split c.args.looping.now.cut.now.polygon.now c.requires.looping.cut.polygon c.requires.looping.cut.some
+    c.in-Turn.side
     c.in-Turn.partner (turn c).1
 
 pub front_of_loop-requires-clause-within : goal.front_of_loop-requires-clause-within
@@ -46,40 +58,56 @@ front_of_loop-requires-clause-partner c = omega (arith, (below c).1, c.degree-la
 
 pub put_loop-requires-clause-front : goal.put_loop-requires-clause-front
 put_loop-requires-clause-front c =
-    let e = subst (λ (step : PathStep). after_path_step c.args.polygon.now.places step c.args.path.now ≡ Some c.requires.allowed.0) c.in-Turn.is c.requires.allowed.1 in
-    let quad = some-turn c.args.polygon.now.places c.in-Turn.side c.in-Turn.partner c.in-Turn.up c.in-Turn.at c.args.path.now c.requires.allowed.0 e in
-    let front_is : c.deref.result.now ≡ spokes_in_front (c.args.polygon.now.degree - 1) c.args.path.now c.in-Turn.at c.in-Turn.side c.in-Turn.partner =
+    let e = subst (λ (step : PathStep). after_path_step c.args.looping.now.cut.now.polygon.now.places step c.args.path.now
+    ≡ Some c.requires.allowed.0) c.in-Turn.is c.requires.allowed.1 in
+    let quad = some-turn c.args.looping.now.cut.now.polygon.now.places c.in-Turn.side c.in-Turn.partner c.in-Turn.up c.in-Turn.at
+    c.args.path.now c.requires.allowed.0 e in
+    let front_is : c.deref.result.now ≡ spokes_in_front (c.args.looping.now.cut.now.polygon.now.degree - 1) c.args.path.now c.in-Turn.at
+    c.in-Turn.side c.in-Turn.partner =
     c.deref.ensures.value ∙ c.in_ok-front.ensures
     ∙ ap (λ n. spokes_in_front (n - 1) c.args.path.now c.in-Turn.at c.in-Turn.side c.in-Turn.partner) c.degree-last.ensures.degree in
-    subst (λ (l : List ℕ). All (λ i. i < c.args.polygon.now.degree) l) (sym front_is)
-    (front_below c.args.surface.now c.args.split.now c.faces.ensures.valid c.requires.split c.args.polygon.now c.requires.cut c.requires.some c.in-Turn.at c.in-Turn.side
+    subst (λ (l : List ℕ). All (λ i. i < c.args.looping.now.cut.now.polygon.now.degree) l) (sym front_is)
+    (front_below c.args.looping.now.cut.now.on.surface.now c.args.looping.now.cut.now.on.split.now c.requires.looping.cut.valid
+    c.requires.looping.cut.on.split c.args.looping.now.cut.now.polygon.now c.requires.looping.cut.polygon c.requires.looping.cut.some
+    c.in-Turn.at c.in-Turn.side
     c.in-Turn.partner c.args.path.now c.requires.below quad.1)
 
 pub returns-clause-starts : goal.returns-clause-starts
 returns-clause-starts c =
     both_ok c.put_loop.result (λ (x : TrackView). 0 < length x.walk)
-    (λ (x : TrackView). HasLoopIn c.args.surface.now c.args.split.now c.args.polygon.now c.deref.result.now c.in-Turn.up c.args.track.walk x.walk)
+    (λ (x : TrackView). HasLoopIn c.args.looping.now.cut.now.on.surface.now c.args.looping.now.cut.now.on.split.now
+    c.args.looping.now.cut.now.polygon.now c.deref.result.now c.in-Turn.up c.args.track.walk x.walk)
     (λ (x : TrackView). slice_index x.walk 0 ≡ slice_index c.args.track.walk 0)
     (λ x there puts.
-    loop_starts c.args.surface.now c.args.split.now c.faces.ensures.valid c.requires.split c.args.polygon.now c.requires.cut c.requires.some c.in-Turn.up c.args.path.now
+    loop_starts c.args.looping.now.cut.now.on.surface.now c.args.looping.now.cut.now.on.split.now c.requires.looping.cut.valid
+    c.requires.looping.cut.on.split c.args.looping.now.cut.now.polygon.now c.requires.looping.cut.polygon c.requires.looping.cut.some
+    c.in-Turn.up c.args.path.now
     c.deref.result.now c.args.track.walk x.walk c.requires.below there puts c.requires.spokes)
     c.put_loop.ensures.some c.put_loop.ensures.freely
 
 pub returns-clause-spokes : goal.returns-clause-spokes
 returns-clause-spokes c =
-    let front_is : c.deref.result.now ≡ spokes_in_front (c.args.polygon.now.degree - 1) c.args.path.now c.in-Turn.at c.in-Turn.side c.in-Turn.partner =
+    let front_is : c.deref.result.now ≡ spokes_in_front (c.args.looping.now.cut.now.polygon.now.degree - 1) c.args.path.now c.in-Turn.at
+    c.in-Turn.side c.in-Turn.partner =
     c.deref.ensures.value ∙ c.in_ok-front.ensures
     ∙ ap (λ n. spokes_in_front (n - 1) c.args.path.now c.in-Turn.at c.in-Turn.side c.in-Turn.partner) c.degree-last.ensures.degree in
     let last_is = ap (λ n. n - 1) c.degree-last.ensures.degree in
-    let which : (c.in-Turn.side ≡ c.args.polygon.now.degree - 1) ⊎ (c.in-Turn.partner ≡ c.args.polygon.now.degree - 1) =
+    let which : (c.in-Turn.side ≡ c.args.looping.now.cut.now.polygon.now.degree - 1)
+    ⊎ (c.in-Turn.partner ≡ c.args.looping.now.cut.now.polygon.now.degree - 1) =
     elim c.else-side-last.either [ inl other ↦ inr (other.1 ∙ last_is) | inr own ↦ inl (own ∙ last_is) ] in
     both_ok c.put_loop.result (λ (x : TrackView). 0 < length x.walk)
-    (λ (x : TrackView). HasLoopIn c.args.surface.now c.args.split.now c.args.polygon.now c.deref.result.now c.in-Turn.up c.args.track.walk x.walk)
-    (λ (x : TrackView). (next : List ℕ) → after_path_step c.args.polygon.now.places c.args.step c.args.path.now ≡ Some next
-    → IsFreelyPath c.args.surface.now c.args.split.now c.args.polygon.now next x.walk)
+    (λ (x : TrackView). HasLoopIn c.args.looping.now.cut.now.on.surface.now c.args.looping.now.cut.now.on.split.now
+    c.args.looping.now.cut.now.polygon.now c.deref.result.now c.in-Turn.up c.args.track.walk x.walk)
+    (λ (x : TrackView). (next : List ℕ) → after_path_step c.args.looping.now.cut.now.polygon.now.places c.args.step c.args.path.now
+    ≡ Some next
+    → IsFreelyPath c.args.looping.now.cut.now.on.surface.now c.args.looping.now.cut.now.on.split.now c.args.looping.now.cut.now.polygon.now
+    next x.walk)
     (λ x there puts next e.
-    loop_follows c.args.surface.now c.args.split.now c.faces.ensures.valid c.requires.split c.args.polygon.now c.requires.cut c.requires.some c.in-Turn.at c.in-Turn.side
+    loop_follows c.args.looping.now.cut.now.on.surface.now c.args.looping.now.cut.now.on.split.now c.requires.looping.cut.valid
+    c.requires.looping.cut.on.split c.args.looping.now.cut.now.polygon.now c.requires.looping.cut.polygon c.requires.looping.cut.some
+    c.in-Turn.at c.in-Turn.side
     c.in-Turn.partner c.in-Turn.up c.args.path.now next c.deref.result.now c.args.track.walk x.walk
-    (subst (λ (step : PathStep). after_path_step c.args.polygon.now.places step c.args.path.now ≡ Some next) c.in-Turn.is e) c.requires.walk c.requires.below which front_is
+    (subst (λ (step : PathStep). after_path_step c.args.looping.now.cut.now.polygon.now.places step c.args.path.now ≡ Some next)
+    c.in-Turn.is e) c.requires.walk c.requires.below which front_is
     there puts c.requires.spokes)
     c.put_loop.ensures.some c.put_loop.ensures.freely

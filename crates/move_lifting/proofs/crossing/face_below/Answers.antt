@@ -20,13 +20,15 @@ returns-in_err-face c =
     let v : ℕ = c.args.to.0 in
     let d : ℕ = c.unwrap-dart.result.0 in
     let from : IsDartFrom (rotations_of s) u v d =
-    subst (λ (r : Option DartName). IfSome r (λ dart. IsDartFrom (rotations_of s) u v dart.0)) c.unwrap-dart.ensures c.dart_between.ensures.leads in
+    subst (λ (r : Option DartName). IfSome r (λ dart. IsDartFrom (rotations_of s) u v dart.0)) c.unwrap-dart.ensures
+    c.dart_between.ensures.leads in
     let none : child_face (rotations_of s) c.args.split.now (edge_of s d) ≡ None =
     ap (child_face (rotations_of s) c.args.split.now) (sym c.edge_of.ensures.edge) ∙ sym c.child_face.ensures
     ∙ ap (λ (r : Option FaceName). option_map (λ face. face.0) r) c.in_err-face.was in
     subst
     (λ (r : Option FaceStep).
-    MatchOption r ((dart : ℕ) → IsDartFrom (rotations_of s) u v dart → in_cotree c.args.split.now (edge_of s dart) ≡ false) (IsFaceBelow s c.args.split.now u v))
+    MatchOption r ((dart : ℕ) → IsDartFrom (rotations_of s) u v dart → in_cotree c.args.split.now (edge_of s dart) ≡ false)
+    (IsFaceBelow s c.args.split.now u v))
     (sym c.from_residual.ensures)
     (λ x other. not_below s c.args.split.now c.faces-faces.ensures.valid c.requires.split u v d x from none other)
 
@@ -37,15 +39,18 @@ returns c =
     let v : ℕ = c.args.to.0 in
     let d : ℕ = c.unwrap-dart.result.0 in
     let from : IsDartFrom (rotations_of s) u v d =
-    subst (λ (r : Option DartName). IfSome r (λ dart. IsDartFrom (rotations_of s) u v dart.0)) c.unwrap-dart.ensures c.dart_between.ensures.leads in
+    subst (λ (r : Option DartName). IfSome r (λ dart. IsDartFrom (rotations_of s) u v dart.0)) c.unwrap-dart.ensures
+    c.dart_between.ensures.leads in
     let face : child_face (rotations_of s) c.args.split.now (edge_of s d) ≡ Some c.in_ok-face.face.0 =
     ap (child_face (rotations_of s) c.args.split.now) (sym c.edge_of.ensures.edge) ∙ sym c.child_face.ensures
     ∙ ap (λ (r : Option FaceName). option_map (λ f. f.0) r) c.in_ok-face.was in
     let mesh = c.faces-faces.ensures.mesh in
-    let in_mesh : IsSide s.mesh c.side_at-side.result = subst (λ (m : FaceList). IsSide m c.side_at-side.result) mesh c.side_at-side.ensures.side in
+    let in_mesh : IsSide s.mesh c.side_at-side.result =
+    subst (λ (m : FaceList). IsSide m c.side_at-side.result) mesh c.side_at-side.ensures.side in
     let number : side_number s.mesh c.side_at-side.result ≡ c.dart_in.result.0 =
     subst (λ (m : FaceList). side_number m c.side_at-side.result ≡ c.dart_in.result.0) mesh c.side_at-side.ensures.number in
     let along : GoesAlong s.mesh c.side_at-side.result u c.step_along.result =
     subst (λ (m : FaceList). GoesAlong m c.side_at-side.result u c.step_along.result) mesh c.step_along.ensures in
-    below_step s c.args.split.now c.faces-faces.ensures.valid c.requires.split u v d c.in_ok-face.face.0 c.dart_in.result.0 c.side_at-side.result
+    below_step s c.args.split.now c.faces-faces.ensures.valid c.requires.split u v d c.in_ok-face.face.0 c.dart_in.result.0
+    c.side_at-side.result
     c.step_along.result from face c.dart_in.ensures in_mesh number along

@@ -13,7 +13,7 @@ loop-place-init c =
     let long : length walk ≡ length c.args.walk.now = length-numbers c.args.walk.now in
     let some : 0 < length walk = c.requires.walk.starts in
     record {
-      led = led_first c.args.surface.now c.args.split.now c.args.behind walk c.args.moves c.start-track.result _ some
+      led = led_first c.args.on.now.surface.now c.args.on.now.split.now c.args.behind walk c.args.moves c.start-track.result _ some
           (get_or-map (λ (x : VertexName). x.0) c.args.walk.now 0 _ 0 (omega arith)) c.start-track.ensures;
       pending = c.in_ok-pending.ensures.items;
       few = omega (arith, ap (λ (t : TrackView). length t.walk) c.start-track.ensures);
@@ -27,12 +27,14 @@ lead_on-requires-clause-edge c =
     let within : n < length c.args.walk.now = omega (arith, c.loop-place-test.true) in
     let next : n - 1 + 1 ≡ n = omega (arith, c.loop-place.auto.place) in
     let before : n - 1 < length walk - 1 = omega (arith, c.loop-place.auto.place) in
-    let edge : is_edge c.args.surface.now.mesh (get_or walk (n - 1) 0) (get_or walk n 0) ≡ true =
-    subst (λ (k : ℕ). is_edge c.args.surface.now.mesh (get_or walk (n - 1) 0) (get_or walk k 0) ≡ true) next (c.requires.walk.edges (n - 1) before) in
+    let edge : is_edge c.args.on.now.surface.now.mesh (get_or walk (n - 1) 0) (get_or walk n 0) ≡ true =
+    subst (λ (k : ℕ). is_edge c.args.on.now.surface.now.mesh (get_or walk (n - 1) 0) (get_or walk k 0) ≡ true) next
+    (c.requires.walk.edges (n - 1) before) in
     let none : VertexName = record { 0 = 0 } in
-    let next_is : get_or walk n 0 ≡ (get_or c.args.walk.now n none).0 = get_or-map (λ (x : VertexName). x.0) c.args.walk.now n none 0 within in
-    ap (λ (x : ℕ). is_edge c.args.surface.now.mesh x (get_or c.args.walk.now n none).0) c.loop-place.invariant.led.last
-    ∙ ap (is_edge c.args.surface.now.mesh (get_or walk (n - 1) 0)) (sym next_is) ∙ edge
+    let next_is : get_or walk n 0 ≡ (get_or c.args.walk.now n none).0 =
+    get_or-map (λ (x : VertexName). x.0) c.args.walk.now n none 0 within in
+    ap (λ (x : ℕ). is_edge c.args.on.now.surface.now.mesh x (get_or c.args.walk.now n none).0) c.loop-place.invariant.led.last
+    ∙ ap (is_edge c.args.on.now.surface.now.mesh (get_or walk (n - 1) 0)) (sym next_is) ∙ edge
 
 pub loop-place-preserved : goal.loop-place-preserved
 loop-place-preserved c =
@@ -42,17 +44,20 @@ loop-place-preserved c =
     let long : length walk ≡ length c.args.walk.now = length-numbers c.args.walk.now in
     let here : n < length walk = omega arith in
     record {
-      led = led_more c.args.surface.now c.args.split.now c.args.behind walk c.args.moves c.loop-place.track c.lead_on.new.track n _
+      led = led_more c.args.on.now.surface.now c.args.on.now.split.now c.args.behind walk c.args.moves c.loop-place.track
+          c.lead_on.new.track n _
           (length c.args.walk.now - n - 1 + c.args.behind) c.loop-place.invariant.led here
-          (get_or-map (λ (x : VertexName). x.0) c.args.walk.now n _ 0 within) (omega arith) c.in_ok-lead_on.ensures.leads c.in_ok-lead_on.ensures.some
+          (get_or-map (λ (x : VertexName). x.0) c.args.walk.now n _ 0 within) (omega arith) c.in_ok-lead_on.ensures.leads
+          c.in_ok-lead_on.ensures.some
           c.in_ok-lead_on.ensures.no_spur c.in_ok-lead_on.ensures.off_cotree c.in_ok-lead_on.ensures.last c.in_ok-lead_on.ensures.leaves;
       pending = c.in_ok-lead_on.ensures.pending;
-      few = omega (arith, c.in_ok-lead_on.ensures.long, c.loop-place.invariant.few, c.requires.sides);
+      few = omega (arith, c.in_ok-lead_on.ensures.long, c.loop-place.invariant.few, c.requires.on.sides);
     }
 
 pub returns-clause-leads : goal.returns-clause-leads
 returns-clause-leads c =
     let all : c.loop-place.place ≡ length (numbers c.args.walk.now) =
     omega (arith, c.loop-place-test.false, c.loop-place.auto.place-end, length-numbers c.args.walk.now, c.requires.walk.starts) in
-    (led_all c.args.surface.now c.args.split.now c.args.behind (numbers c.args.walk.now) c.args.moves c.loop-place.track c.loop-place.place
+    (led_all c.args.on.now.surface.now c.args.on.now.split.now c.args.behind (numbers c.args.walk.now) c.args.moves c.loop-place.track
+    c.loop-place.place
     c.loop-place.invariant.led all).0

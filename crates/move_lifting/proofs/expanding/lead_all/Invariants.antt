@@ -5,7 +5,7 @@ use Rattle.move_lifting.proofs.expanding.lead_all.Given as goal
 
 abbrev pub invariant-loop-place : goal.invariant-loop-place
 invariant-loop-place l = record {
-  led : IsLedSoFar l.surface l.split l.behind (numbers l.walk) l.fn.moves l.track l.place;
+  led : IsLedSoFar l.on.surface.now l.on.split.now l.behind (numbers l.walk) l.fn.moves l.track l.place;
   pending : l.pending.items ≡ [];
   few : length l.track.walk ≤ 1 + l.place * 16384;
 }

@@ -15,7 +15,7 @@ pub loop-step-init : goal.loop-step-init
 loop-step-init c =
     let items : c.push.new.self.items ≡ c.args.to ∷ [] =
     c.in_ok-push.ensures.items ∙ ap (λ (l : List VertexName). l ++ c.args.to ∷ []) c.requires.pending in
-    under_way c.args.surface.now c.args.split.now c.darts-step-end.ensures.valid c.args.behind c.args.to.0 c.args.track.now
+    under_way c.args.on.now.surface.now c.args.on.now.split.now c.darts-step-end.ensures.valid c.args.behind c.args.to.0 c.args.track.now
     (numbers c.push.new.self.items) (ap numbers items) c.requires.some c.requires.no_spur c.requires.off_cotree c.requires.edge
 
 pub returns-in_default-clause-no_spur : goal.returns-in_default-clause-no_spur
@@ -27,7 +27,8 @@ returns-in_default-clause-off_cotree c = c.loop-step.invariant.off_cotree
 pub returns-in_default-clause-last : goal.returns-in_default-clause-last
 returns-in_default-clause-last c =
     let few : length c.loop-step.pending.items ≡ 0 = omega (arith, c.in_default.ensures.cases.0) in
-    (led_on c.args.surface.now c.args.split.now c.args.behind c.args.to.0 c.args.track.now c.loop-step.track (numbers c.loop-step.pending.items)
+    (led_on c.args.on.now.surface.now c.args.on.now.split.now c.args.behind c.args.to.0 c.args.track.now c.loop-step.track
+    (numbers c.loop-step.pending.items)
     c.loop-step._step c.loop-step.invariant (ap numbers (none_left c.loop-step.pending.items few))).1
 
 pub returns-in_default-clause-long : goal.returns-in_default-clause-long
@@ -37,26 +38,30 @@ returns-in_default-clause-long c =
 pub returns-in_default-clause-leads : goal.returns-in_default-clause-leads
 returns-in_default-clause-leads c =
     let few : length c.loop-step.pending.items ≡ 0 = omega (arith, c.in_default.ensures.cases.0) in
-    (led_on c.args.surface.now c.args.split.now c.args.behind c.args.to.0 c.args.track.now c.loop-step.track (numbers c.loop-step.pending.items)
+    (led_on c.args.on.now.surface.now c.args.on.now.split.now c.args.behind c.args.to.0 c.args.track.now c.loop-step.track
+    (numbers c.loop-step.pending.items)
     c.loop-step._step c.loop-step.invariant (ap numbers (none_left c.loop-step.pending.items few))).0
 
 pub face_below-requires-clause-edge : goal.face_below-requires-clause-edge
 face_below-requires-clause-edge c =
     let popped = one_pending c.loop-step.pending.items c.pop.new.self.items c.in-Some.next c.in-Some.ensures.items in
-    ap (λ (x : ℕ). is_edge c.args.surface.now.mesh x c.in-Some.next.0) c.last.ensures.vertex
-    ∙ next_edge c.args.surface.now c.args.split.now c.args.behind c.args.to.0 c.args.track.now c.loop-step.track (numbers c.loop-step.pending.items)
+    ap (λ (x : ℕ). is_edge c.args.on.now.surface.now.mesh x c.in-Some.next.0) c.last.ensures.vertex
+    ∙ next_edge c.args.on.now.surface.now c.args.on.now.split.now c.args.behind c.args.to.0 c.args.track.now c.loop-step.track
+    (numbers c.loop-step.pending.items)
     (numbers c.pop.new.self.items) c.in-Some.next.0 c.loop-step._step c.loop-step.invariant popped
 
 pub cross-requires-clause-room : goal.cross-requires-clause-room
 cross-requires-clause-room c =
-    let s = c.args.surface.now in
+    let s = c.args.on.now.surface.now in
     let u : ℕ = last_of c.loop-step.track.walk in
     let step = c.in-Some-face_below.step in
     let popped = one_pending c.loop-step.pending.items c.pop.new.self.items c.in-Some.next c.in-Some.ensures.items in
-    let under : IsFaceBelow s c.args.split.now u c.in-Some.next.0 step =
-    subst (λ (x : ℕ). IsFaceBelow s c.args.split.now x c.in-Some.next.0 step) c.last.ensures.vertex c.in-Some-face_below.ensures in
-    let room = room_across s c.args.split.now c.faces.ensures.valid c.requires.split c.args.behind c.args.to.0 c.args.track.now c.loop-step.track
-    (numbers c.loop-step.pending.items) (numbers c.pop.new.self.items) c.in-Some.next.0 c.loop-step._step step c.loop-step.invariant popped under in
+    let under : IsFaceBelow s c.args.on.now.split.now u c.in-Some.next.0 step =
+    subst (λ (x : ℕ). IsFaceBelow s c.args.on.now.split.now x c.in-Some.next.0 step) c.last.ensures.vertex c.in-Some-face_below.ensures in
+    let room = room_across s c.args.on.now.split.now c.faces.ensures.valid c.requires.on.split c.args.behind c.args.to.0 c.args.track.now
+    c.loop-step.track
+    (numbers c.loop-step.pending.items) (numbers c.pop.new.self.items) c.in-Some.next.0 c.loop-step._step step c.loop-step.invariant popped
+    under in
     let mesh : length (face_at c.faces.result.now step.face.0) ≡ length (face_at s.mesh step.face.0) =
     ap (λ (m : FaceList). length (face_at m step.face.0)) c.faces.ensures.mesh in
     omega (arith, room, mesh, c.requires.room, length-numbers c.pop.new.self.items)
@@ -64,14 +69,16 @@ cross-requires-clause-room c =
 pub overflow_cast-len : goal.overflow_cast-len
 overflow_cast-len c =
     let popped = one_pending c.loop-step.pending.items c.pop.new.self.items c.in-Some.next c.in-Some.ensures.items in
-    let room = room_along c.args.surface.now c.args.split.now c.requires.split c.args.behind c.args.to.0 c.args.track.now c.loop-step.track
+    let room = room_along c.args.on.now.surface.now c.args.on.now.split.now c.requires.on.split c.args.behind c.args.to.0 c.args.track.now
+    c.loop-step.track
     (numbers c.loop-step.pending.items) (numbers c.pop.new.self.items) c.in-Some.next.0 c.loop-step._step c.loop-step.invariant popped in
     omega (arith, room, c.requires.room, c.len.ensures, length-numbers c.pop.new.self.items)
 
 pub overflow_add-len : goal.overflow_add-len
 overflow_add-len c =
     let popped = one_pending c.loop-step.pending.items c.pop.new.self.items c.in-Some.next c.in-Some.ensures.items in
-    let room = room_along c.args.surface.now c.args.split.now c.requires.split c.args.behind c.args.to.0 c.args.track.now c.loop-step.track
+    let room = room_along c.args.on.now.surface.now c.args.on.now.split.now c.requires.on.split c.args.behind c.args.to.0 c.args.track.now
+    c.loop-step.track
     (numbers c.loop-step.pending.items) (numbers c.pop.new.self.items) c.in-Some.next.0 c.loop-step._step c.loop-step.invariant popped in
     omega (arith, room, c.requires.room, c.len.ensures, length-numbers c.pop.new.self.items)
 
@@ -81,14 +88,15 @@ put-requires-clause-no_spur c = c.loop-step.invariant.no_spur
 pub put-requires-clause-room : goal.put-requires-clause-room
 put-requires-clause-room c =
     let popped = one_pending c.loop-step.pending.items c.pop.new.self.items c.in-Some.next c.in-Some.ensures.items in
-    let room = room_along c.args.surface.now c.args.split.now c.requires.split c.args.behind c.args.to.0 c.args.track.now c.loop-step.track
+    let room = room_along c.args.on.now.surface.now c.args.on.now.split.now c.requires.on.split c.args.behind c.args.to.0 c.args.track.now
+    c.loop-step.track
     (numbers c.loop-step.pending.items) (numbers c.pop.new.self.items) c.in-Some.next.0 c.loop-step._step c.loop-step.invariant popped in
     omega (arith, room, c.requires.room, c.len.ensures, length-numbers c.pop.new.self.items)
 
 pub loop-step-preserved : goal.loop-step-preserved
 loop-step-preserved c =
-    let s = c.args.surface.now in
-    let split = c.args.split.now in
+    let s = c.args.on.now.surface.now in
+    let split = c.args.on.now.split.now in
     let u : ℕ = last_of c.loop-step.track.walk in
     let v : ℕ = c.in-Some.next.0 in
     let popped = one_pending c.loop-step.pending.items c.pop.new.self.items c.in-Some.next c.in-Some.ensures.items in
@@ -97,31 +105,38 @@ loop-step-preserved c =
           let step = w.in-Some-face_below.step in
           let under : IsFaceBelow s split u v step =
           subst (λ (x : ℕ). IsFaceBelow s split x v step) c.last.ensures.vertex w.in-Some-face_below.ensures in
-          let crossed : IsCrossed s.mesh step c.args.behind c.loop-step.track (numbers c.pop.new.self.items) w.cross.new.track (numbers w.cross.new.pending.items) =
-          subst (λ (m : FaceList). IsCrossed m step c.args.behind c.loop-step.track (numbers c.pop.new.self.items) w.cross.new.track (numbers w.cross.new.pending.items))
+          let crossed : IsCrossed s.mesh step c.args.behind c.loop-step.track (numbers c.pop.new.self.items) w.cross.new.track
+          (numbers w.cross.new.pending.items) =
+          subst (λ (m : FaceList). IsCrossed m step c.args.behind c.loop-step.track (numbers c.pop.new.self.items) w.cross.new.track
+          (numbers w.cross.new.pending.items))
           w.faces.ensures.mesh w.in_ok-cross-in-Some-face_below.ensures in
           rw (w.track-is, w.pending-is)
-          (cross_on_way s split c.darts-step-end.ensures.valid c.args.behind c.args.to.0 c.args.track.now c.loop-step.track w.cross.new.track
+          (cross_on_way s split c.darts-step-end.ensures.valid c.args.behind c.args.to.0 c.args.track.now c.loop-step.track
+          w.cross.new.track
           (numbers c.loop-step.pending.items) (numbers c.pop.new.self.items) (numbers w.cross.new.pending.items) v c.loop-step._step step
           c.loop-step.invariant popped under crossed)
       | in-None+in_ok-put-in-None w ↦
           let put = w.in_ok-put-in-None.ensures in
           let off : (d : ℕ) → IsDartFrom (rotations_of s) u v d → in_cotree split (edge_of s d) ≡ false =
-          subst (λ (x : ℕ). (d : ℕ) → IsDartFrom (rotations_of s) x v d → in_cotree split (edge_of s d) ≡ false) c.last.ensures.vertex w.in-None.ensures in
+          subst (λ (x : ℕ). (d : ℕ) → IsDartFrom (rotations_of s) x v d → in_cotree split (edge_of s d) ≡ false) c.last.ensures.vertex
+          w.in-None.ensures in
           let after : w.len.result + c.args.behind ≡ length (numbers c.pop.new.self.items) + c.args.behind =
           omega (arith, w.len.ensures, length-numbers c.pop.new.self.items) in
           rw (w.track-is, w.pending-is)
-          (put_on_way s split c.args.behind c.args.to.0 c.args.track.now c.loop-step.track w.put.new.self (numbers c.loop-step.pending.items)
+          (put_on_way s split c.args.behind c.args.to.0 c.args.track.now c.loop-step.track w.put.new.self
+          (numbers c.loop-step.pending.items)
           (numbers c.pop.new.self.items) v c.loop-step._step (w.len.result + c.args.behind) c.loop-step.invariant popped after off
           put.leads put.no_spur put.long put.last put.shape put.some put.more)
     ]
 
 pub returns-clause-pending : goal.returns-clause-pending
 returns-clause-pending c =
-    let done : darts_of c.args.surface.now ≤ c.loop-step._step = omega (arith, c.darts-step-end.ensures.count, c.loop-step-test.false) in
+    let done : darts_of c.args.on.now.surface.now ≤ c.loop-step._step =
+    omega (arith, c.darts-step-end.ensures.count, c.loop-step-test.false) in
     none_left c.loop-step.pending.items
     (sym (length-numbers c.loop-step.pending.items)
-    ∙ all_come c.args.surface.now c.args.split.now c.requires.split c.args.behind c.args.to.0 c.args.track.now c.loop-step.track
+    ∙ all_come c.args.on.now.surface.now c.args.on.now.split.now c.requires.on.split c.args.behind c.args.to.0 c.args.track.now
+    c.loop-step.track
     (numbers c.loop-step.pending.items) c.loop-step._step c.loop-step.invariant done)
 
 pub returns-clause-no_spur : goal.returns-clause-no_spur
@@ -132,7 +147,8 @@ returns-clause-off_cotree c = c.loop-step.invariant.off_cotree
 
 pub returns-clause-last : goal.returns-clause-last
 returns-clause-last c =
-    (led_on c.args.surface.now c.args.split.now c.args.behind c.args.to.0 c.args.track.now c.loop-step.track (numbers c.loop-step.pending.items)
+    (led_on c.args.on.now.surface.now c.args.on.now.split.now c.args.behind c.args.to.0 c.args.track.now c.loop-step.track
+    (numbers c.loop-step.pending.items)
     c.loop-step._step c.loop-step.invariant (ap numbers (returns-clause-pending c))).1
 
 pub returns-clause-long : goal.returns-clause-long
@@ -140,5 +156,6 @@ returns-clause-long c = omega (arith, c.loop-step.invariant.long, c.darts-step-e
 
 pub returns-clause-leads : goal.returns-clause-leads
 returns-clause-leads c =
-    (led_on c.args.surface.now c.args.split.now c.args.behind c.args.to.0 c.args.track.now c.loop-step.track (numbers c.loop-step.pending.items)
+    (led_on c.args.on.now.surface.now c.args.on.now.split.now c.args.behind c.args.to.0 c.args.track.now c.loop-step.track
+    (numbers c.loop-step.pending.items)
     c.loop-step._step c.loop-step.invariant (ap numbers (returns-clause-pending c))).0

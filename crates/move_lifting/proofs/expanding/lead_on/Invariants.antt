@@ -3,4 +3,4 @@ use Rattle.move_lifting.proofs.ExpandLemmas.{IsUnderWay}
 use Rattle.move_lifting.proofs.expanding.lead_on.Given as goal
 
 abbrev pub invariant-loop-step : goal.invariant-loop-step
-invariant-loop-step l = IsUnderWay l.surface l.split l.behind l.fn.to.0 l.fn.track l.track (numbers l.pending.items) l._step
+invariant-loop-step l = IsUnderWay l.on.surface.now l.on.split.now l.behind l.fn.to.0 l.fn.track l.track (numbers l.pending.items) l._step

@@ -13,8 +13,10 @@ loop-done-preserved c =
     let pushed = c.in_ok-push.ensures.items in
     record {
       long = omega (arith, one_longer c.push.new.self.items c.loop-done.back.items _ pushed, c.loop-done.invariant.long);
-      so_far = back_so_far walk c.loop-done.back.items c.push.new.self.items c.loop-done.done _ c.loop-done.invariant.long c.loop-done-test.true pushed
-          (sym (get_or-map (λ (x : VertexName). x.0) walk (length walk - c.loop-done.done - 1) _ 0 (omega (arith, c.loop-done-test.true, c.loop-done.auto.done))))
+      so_far = back_so_far walk c.loop-done.back.items c.push.new.self.items c.loop-done.done _ c.loop-done.invariant.long
+          c.loop-done-test.true pushed
+          (sym (get_or-map (λ (x : VertexName). x.0) walk (length walk - c.loop-done.done - 1) _ 0
+          (omega (arith, c.loop-done-test.true, c.loop-done.auto.done))))
           c.loop-done.invariant.so_far;
     }
 
@@ -24,4 +26,11 @@ returns c =
     let back : List _ = backward (get_or walk 0 0) (drop 1 walk) in
     c.loop-done.invariant.so_far
     ∙ take_all (length c.loop-done.back.items) back
-    (omega (arith, length-backward (get_or walk 0 0) (drop 1 walk), length-drop 1 walk, length-numbers c.args.walk.now, c.loop-done.invariant.long, c.loop-done-test.false))
+    (omega (
+      arith,
+      length-backward (get_or walk 0 0) (drop 1 walk),
+      length-drop 1 walk,
+      length-numbers c.args.walk.now,
+      c.loop-done.invariant.long,
+      c.loop-done-test.false,
+    ))

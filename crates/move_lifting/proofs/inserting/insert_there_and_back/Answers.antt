@@ -22,7 +22,8 @@ loop-place-preserved c =
           let count : k - 1 + 2 + c.loop-place.behind ≡ k + 1 + (k - n + length rest) =
           omega (arith, c.loop-place.invariant.count, counted, le, c.requires.some) in
           out_more mesh first walk rest n k (k - 1 + 2 + c.loop-place.behind) _ c.loop-place.moves c.push.new.self w c.requires.some le
-          (omega (arith, c.loop-place-test.true)) (sym (get_or-map (λ (x : VertexName). x.0) c.args.approach.now k _ 0 c.loop-place-test.true))
+          (omega (arith, c.loop-place-test.true))
+          (sym (get_or-map (λ (x : VertexName). x.0) c.args.approach.now k _ 0 c.loop-place-test.true))
           c.in_ok-push.ensures.ok count
           (c.loop-place.invariant.leads mesh first rest w counted h);
     }
@@ -32,5 +33,6 @@ returns c mesh first rest w counted h =
     let walk : List ℕ = numbers c.args.approach.now in
     let all : take c.loop-place.place walk ≡ walk =
     take_all c.loop-place.place walk (omega (arith, c.loop-place-test.false, length-numbers c.args.approach.now)) in
-    subst (λ (l : List ℕ). LeadsAtPeak mesh first c.loop-place.moves (l ++ (backward (last_of (take c.args.common walk)) (drop c.args.common l) ++ rest))) all
+    subst (λ (l : List ℕ). LeadsAtPeak mesh first c.loop-place.moves
+    (l ++ (backward (last_of (take c.args.common walk)) (drop c.args.common l) ++ rest))) all
     (c.loop-place.invariant.leads mesh first rest w counted h)

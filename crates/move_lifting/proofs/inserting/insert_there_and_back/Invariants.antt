@@ -14,5 +14,6 @@ invariant-loop-place l =
     record {
       count : l.behind + l.common ≡ l.after + l.place;
       leads : (mesh : FaceList) (first rest : List ℕ) → IsWalk mesh walk → length rest ≡ l.after
-          → LeadsAtPeak mesh first l.initial.moves (take l.common walk ++ rest) → LeadsAtPeak mesh first l.moves (take l.place walk ++ (back ++ rest));
+          → LeadsAtPeak mesh first l.initial.moves (take l.common walk ++ rest)
+          → LeadsAtPeak mesh first l.moves (take l.place walk ++ (back ++ rest));
     }

@@ -8,7 +8,8 @@ pub loop-place-preserved : goal.loop-place-preserved
 loop-place-preserved c =
     let k : ℕ = c.loop-place.place in
     let pushed = c.in_ok-push.ensures.ok in
-    let peak : c.push.new.self.peak ≡ max c.loop-place.moves.peak (c.args.around + c.peak.result) = ap (λ (l : PeakedMoves). l.peak) pushed in
+    let peak : c.push.new.self.peak ≡ max c.loop-place.moves.peak (c.args.around + c.peak.result) =
+    ap (λ (l : PeakedMoves). l.peak) pushed in
     record {
       moves = ap (λ (l : PeakedMoves). l.moves) pushed
           ∙ raised_more c.args.by c.args.turn.now.moves c.loop-place.moves.moves c.args.moves.now.moves k c.at.result c.raise.result

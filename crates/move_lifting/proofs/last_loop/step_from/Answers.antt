@@ -11,7 +11,8 @@ returns-clause-step c =
     let s = c.args.surface.now in
     let side = c.side_at-side.result in
     let mesh = c.faces-faces.ensures.mesh in
-    step_is_from s c.args.dart.0 side c.args.back c.flipped-flipped.result (record { face = side.face; corner = c.if-flipped.corner; forward = _ })
+    step_is_from s c.args.dart.0 side c.args.back c.flipped-flipped.result
+    (record { face = side.face; corner = c.if-flipped.corner; forward = _ })
     (subst (λ (m : FaceList). IsSide m side) mesh c.side_at-side.ensures.side)
     (subst (λ (m : FaceList). side_number m side ≡ c.args.dart.0) mesh c.side_at-side.ensures.number) refl
     (c.flipped-flipped.ensures ∙ ap (λ signs. is_flipped signs side.face.0) c.signs.ensures)

@@ -8,5 +8,6 @@ abbrev pub invariant-loop-vertex : goal.invariant-loop-vertex
 invariant-loop-vertex l = record {
   some : 0 < length l.walk.items;
   no_spur : HasNoSpur (numbers l.walk.items);
-  freely : (mesh : FaceList) → AreFreelyEqual mesh (numbers l.initial.walk.items ++ numbers (take l.vertex-index l.vertices)) (numbers l.walk.items);
+  freely : (mesh : FaceList) → AreFreelyEqual mesh (numbers l.initial.walk.items ++ numbers (take l.vertex-index l.vertices))
+      (numbers l.walk.items);
 }

@@ -15,10 +15,12 @@ returns-then-leads_back-clause-freely c mesh =
     let here : get_or (numbers old) (length old - 2) 0 ≡ c.args.next.0 =
     subst (λ (l : List VertexName). get_or (numbers l) (length l - 2) 0 ≡ c.args.next.0) read came.1 in
     goes_out mesh old c.pop.new.self.items c.args.next (get_or old (vec_len c.args.walk.now - 1) (record { 0 = 0 })) long here
-    (popped_off old c.pop.new.self.items (vec_len c.args.walk.now) (record { 0 = 0 }) some (omega (arith, c.args.walk.now.ok.0)) c.pop.ensures.rest)
+    (popped_off old c.pop.new.self.items (vec_len c.args.walk.now) (record { 0 = 0 }) some (omega (arith, c.args.walk.now.ok.0))
+    c.pop.ensures.rest)
 
 pub returns-then-leads_back-clause-no_spur : goal.returns-then-leads_back-clause-no_spur
 returns-then-leads_back-clause-no_spur c =
     let old = c.args.walk.now.items in
     goes_out_clean old c.pop.new.self.items (get_or old (vec_len c.args.walk.now - 1) (record { 0 = 0 }))
-    (popped_off old c.pop.new.self.items (vec_len c.args.walk.now) (record { 0 = 0 }) c.requires.some (omega (arith, c.args.walk.now.ok.0)) c.pop.ensures.rest) c.requires.no_spur
+    (popped_off old c.pop.new.self.items (vec_len c.args.walk.now) (record { 0 = 0 }) c.requires.some (omega (arith, c.args.walk.now.ok.0))
+    c.pop.ensures.rest) c.requires.no_spur

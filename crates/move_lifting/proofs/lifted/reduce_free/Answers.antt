@@ -18,7 +18,8 @@ loop-place-init c =
     let walk : List ℕ = c.args.walk.now in
     let begun : c.start-track.result ≡ record { walk = c.at.result.0 ∷ []; list = c.new.result } = c.start-track.ensures in
     let w : c.start-track.result.walk ≡ c.at.result.0 ∷ [] = ap (λ (t : TrackView). t.walk) begun in
-    let l : c.start-track.result.list ≡ record { moves = []; peak = c.darts-darts.result } = ap (λ (t : TrackView). t.list) begun ∙ c.new.ensures in
+    let l : c.start-track.result.list ≡ record { moves = []; peak = c.darts-darts.result } = ap (λ (t : TrackView). t.list) begun
+    ∙ c.new.ensures in
     let noted : c.start-track.result.list ≡ record { moves = []; peak = darts walk } =
     subst (λ (n : ℕ). c.start-track.result.list ≡ record { moves = []; peak = n }) c.darts-darts.ensures.count l in
     record {
@@ -50,7 +51,8 @@ finished : (walk : List ℕ) (track : TrackView) (n : ℕ) → 0 < length walk �
     → ((mesh : FaceList) → LeadsAtPeak mesh walk track.list track.walk) × (track.list.peak ≡ darts walk) × HaveCommonEnds walk track.walk
 finished walk track n some past removals h =
     let none : FaceList = record { count = 0; faces = [] } in
-    let whole : (mesh : FaceList) → LeadsAtPeak mesh walk track.list track.walk = λ mesh. ends_whole mesh walk track.walk track.list n past (h mesh) in (
+    let whole : (mesh : FaceList) → LeadsAtPeak mesh walk track.list track.walk =
+    λ mesh. ends_whole mesh walk track.walk track.list n past (h mesh) in (
       whole,
       (whole none).peak ∙ removals_peak none track.list.moves walk track.walk some removals (whole none).leads,
       same_ends walk track.walk track.list some whole,

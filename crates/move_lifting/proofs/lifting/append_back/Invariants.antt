@@ -10,6 +10,7 @@ abbrev pub invariant-loop-done : goal.invariant-loop-done
 invariant-loop-done l = record {
   long : length l.vertices.items ≡ length l.initial.vertices.items + l.done;
   last : last_of (numbers l.vertices.items) ≡ get_or l.walk (l.darts - l.done) 0;
-  leads : (mesh : FaceList) (first : List ℕ) → IsWalk mesh l.walk → LeadsAtPeak mesh first l.initial.moves (numbers l.initial.vertices.items)
+  leads : (mesh : FaceList) (first : List ℕ) → IsWalk mesh l.walk
+      → LeadsAtPeak mesh first l.initial.moves (numbers l.initial.vertices.items)
       → LeadsAtPeak mesh first l.moves (numbers l.vertices.items ++ drop (l.darts - l.done + 1) l.walk);
 }

@@ -10,16 +10,20 @@ pub returns-then-along-clause-freely : goal.returns-then-along-clause-freely
 returns-then-along-clause-freely c =
     let spoke = c.args.spoke.now in
     let rest : numbers (take (length spoke - 1) (drop 1 spoke)) ≡ along_or_back c.args.along (numbers spoke) =
-    behind_first spoke (take (length spoke - 1) (drop 1 spoke)) refl ∙ ap (λ (b : Bool). along_or_back b (numbers spoke)) (sym c.if-along.true) in
+    behind_first spoke (take (length spoke - 1) (drop 1 spoke)) refl ∙ ap (λ (b : Bool). along_or_back b (numbers spoke))
+    (sym c.if-along.true) in
     on_ok_weaker c.put_all.result
-    (λ free mesh. subst (λ (l : List ℕ). AreFreelyEqual mesh (numbers c.args.walk.now.items ++ l) (numbers c.put_all.new.walk.items)) rest (free mesh))
+    (λ free mesh. subst (λ (l : List ℕ). AreFreelyEqual mesh (numbers c.args.walk.now.items ++ l) (numbers c.put_all.new.walk.items)) rest
+    (free mesh))
     c.put_all.ensures.freely
 
 pub returns-in_ok-back-clause-freely : goal.returns-in_ok-back-clause-freely
 returns-in_ok-back-clause-freely c =
     let rest : numbers c.deref.result.now ≡ along_or_back c.args.along (numbers c.args.spoke.now) =
-    ap numbers c.deref.ensures.value ∙ c.in_ok-back.ensures ∙ ap (λ (b : Bool). along_or_back b (numbers c.args.spoke.now)) (sym c.if-along.false) in
+    ap numbers c.deref.ensures.value ∙ c.in_ok-back.ensures ∙ ap (λ (b : Bool). along_or_back b (numbers c.args.spoke.now))
+    (sym c.if-along.false) in
     on_ok_weaker c.put_all-else-along.result
     (λ free mesh.
-    subst (λ (l : List ℕ). AreFreelyEqual mesh (numbers c.args.walk.now.items ++ l) (numbers c.put_all-else-along.new.walk.items)) rest (free mesh))
+    subst (λ (l : List ℕ). AreFreelyEqual mesh (numbers c.args.walk.now.items ++ l) (numbers c.put_all-else-along.new.walk.items)) rest
+    (free mesh))
     c.put_all-else-along.ensures.freely

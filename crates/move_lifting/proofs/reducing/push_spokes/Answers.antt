@@ -23,11 +23,15 @@ returns-else-ne c =
     let last_is : last ≡ last_side polygon = c.side-last.ensures ∙ ap (λ n. side_at polygon (n - 1)) c.degree.ensures.degree in
     let apart : eqb d last ≡ false = sym c.eq.ensures ∙ c.if-eq.false in
     let not_last : d ≢ last_side polygon = λ e. both_ways (eqb d last) apart (eq-eqb d last (e ∙ sym last_is)) in
-    let heads : eqb c.label-tail.result.0 c.label-head.result.0 ≡ true = not_false (eqb c.label-tail.result.0 c.label-head.result.0) (sym c.ne.ensures ∙ c.if-ne.false) in
+    let heads : eqb c.label-tail.result.0 c.label-head.result.0 ≡ true =
+    not_false (eqb c.label-tail.result.0 c.label-head.result.0) (sym c.ne.ensures ∙ c.if-ne.false) in
     let one_label : label_of polygon d ≡ label_of polygon (next_of s d) =
-    sym c.label-tail.ensures ∙ eqb-true c.label-tail.result.0 c.label-head.result.0 heads ∙ c.label-head.ensures ∙ ap (label_of polygon) c.next.ensures.next in
+    sym c.label-tail.ensures ∙ eqb-true c.label-tail.result.0 c.label-head.result.0 heads ∙ c.label-head.ensures
+    ∙ ap (label_of polygon) c.next.ensures.next in
     record {
       dart = d;
-      from = subst (λ (r : Option DartName). IfSome r (λ dart. IsDartFrom (rotations_of s) c.args.from.0 c.args.to.0 dart.0)) c.unwrap-dart.ensures c.dart_between.ensures.leads;
-      come = sym (append-nil c.args.spokes.now.items) ∙ ap (λ (l : List ℕ). c.args.spokes.now.items ++ l) (sym (none_of_dart s polygon d not_last one_label));
+      from = subst (λ (r : Option DartName). IfSome r (λ dart. IsDartFrom (rotations_of s) c.args.from.0 c.args.to.0 dart.0))
+          c.unwrap-dart.ensures c.dart_between.ensures.leads;
+      come = sym (append-nil c.args.spokes.now.items) ∙ ap (λ (l : List ℕ). c.args.spokes.now.items ++ l)
+          (sym (none_of_dart s polygon d not_last one_label));
     }

@@ -17,9 +17,12 @@ push_spokes-requires-clause-edge c =
     let next : n - 1 + 1 ≡ n = omega (arith, c.loop-place.auto.place) in
     let before : n - 1 < length walk - 1 = omega (arith, c.loop-place.auto.place) in
     let edge : is_edge c.args.surface.now.mesh (get_or walk (n - 1) 0) (get_or walk n 0) ≡ true =
-    subst (λ (k : ℕ). is_edge c.args.surface.now.mesh (get_or walk (n - 1) 0) (get_or walk k 0) ≡ true) next (c.requires.walk.edges (n - 1) before) in
-    let here : get_or walk (n - 1) 0 ≡ (get_or c.args.walk.now (n - 1) none).0 = get_or-map (λ (x : VertexName). x.0) c.args.walk.now (n - 1) none 0 (omega (arith, c.loop-place.auto.place)) in
-    let there : get_or walk n 0 ≡ (get_or c.args.walk.now n none).0 = get_or-map (λ (x : VertexName). x.0) c.args.walk.now n none 0 within in
+    subst (λ (k : ℕ). is_edge c.args.surface.now.mesh (get_or walk (n - 1) 0) (get_or walk k 0) ≡ true) next
+    (c.requires.walk.edges (n - 1) before) in
+    let here : get_or walk (n - 1) 0 ≡ (get_or c.args.walk.now (n - 1) none).0 =
+    get_or-map (λ (x : VertexName). x.0) c.args.walk.now (n - 1) none 0 (omega (arith, c.loop-place.auto.place)) in
+    let there : get_or walk n 0 ≡ (get_or c.args.walk.now n none).0 =
+    get_or-map (λ (x : VertexName). x.0) c.args.walk.now n none 0 within in
     ap (λ (x : ℕ). is_edge c.args.surface.now.mesh x (get_or c.args.walk.now n none).0) (sym here)
     ∙ ap (is_edge c.args.surface.now.mesh (get_or walk (n - 1) 0)) (sym there) ∙ edge
 
@@ -30,12 +33,13 @@ loop-place-preserved c =
     let none : VertexName = record { 0 = 0 } in
     let long : length walk ≡ length c.args.walk.now = length-numbers c.args.walk.now in
     let within : n < length c.args.walk.now = omega (arith, c.loop-place-test.true) in
-    more_so_far c.args.surface.now c.args.polygon.now c.faces.ensures.valid walk n (get_or c.args.walk.now (n - 1) none).0 (get_or c.args.walk.now n none).0
+    more_so_far c.args.surface.now c.args.polygon.now c.requires.valid walk n (get_or c.args.walk.now (n - 1) none).0
+    (get_or c.args.walk.now n none).0
     c.loop-place.spokes.items c.push_spokes.new.spokes.items c.loop-place.auto.place (omega arith)
     (get_or-map (λ (x : VertexName). x.0) c.args.walk.now (n - 1) none 0 (omega (arith, c.loop-place.auto.place)))
     (get_or-map (λ (x : VertexName). x.0) c.args.walk.now n none 0 within) c.loop-place.invariant c.in_ok-push_spokes.ensures
 
 pub returns-clause-spokes : goal.returns-clause-spokes
 returns-clause-spokes c =
-    all_spokes c.args.surface.now c.args.polygon.now c.faces.ensures.valid (numbers c.args.walk.now) c.loop-place.place c.loop-place.spokes.items
+    all_spokes c.args.surface.now c.args.polygon.now c.requires.valid (numbers c.args.walk.now) c.loop-place.place c.loop-place.spokes.items
     (omega (arith, c.loop-place-test.false, length-numbers c.args.walk.now)) c.loop-place.invariant

@@ -22,8 +22,20 @@ loop-step-preserved c =
     elim c.match-step.branch [
       | in-Spur w ↦
           w.spurs-is
-          ∙ omega (arith, c.loop-step.invariant, more, ap (λ (x : PathStep). spurs_of (x ∷ [])) w.in-Spur.is, ap (λ (k : ℕ). spurs_of (take k steps)) up_one)
+          ∙ omega (
+            arith,
+            c.loop-step.invariant,
+            more,
+            ap (λ (x : PathStep). spurs_of (x ∷ [])) w.in-Spur.is,
+            ap (λ (k : ℕ). spurs_of (take k steps)) up_one,
+          )
       | in_default w ↦
           w.spurs-is
-          ∙ omega (arith, c.loop-step.invariant, more, ap (λ (x : PathStep). spurs_of (x ∷ [])) w.in_default.is, ap (λ (k : ℕ). spurs_of (take k steps)) up_one)
+          ∙ omega (
+            arith,
+            c.loop-step.invariant,
+            more,
+            ap (λ (x : PathStep). spurs_of (x ∷ [])) w.in_default.is,
+            ap (λ (k : ℕ). spurs_of (take k steps)) up_one,
+          )
     ]

@@ -34,9 +34,11 @@ loop-step-preserved c =
       );
       so_far = λ root ways h.
           subst (λ (v : ℕ). c.args.start.0 ∷ ways c.args.start.0 ≡ numbers c.push.new.self.items ++ (v ∷ ways v)) (sym last)
-          (one_up_more s c.args.split.now c.faces.ensures.valid c.requires.split root ways h c.loop-step.last.0 d (c.args.start.0 ∷ ways c.args.start.0)
+          (one_up_more s c.args.split.now c.faces.ensures.valid c.requires.split root ways h c.loop-step.last.0 d
+          (c.args.start.0 ∷ ways c.args.start.0)
           (numbers c.loop-step.way.items) (numbers c.push.new.self.items) c.loop-step.invariant.used (sym c.in-Some.ensures)
-          (one_pending c.push.new.self.items c.loop-step.way.items c.loop-step.last c.in_ok-push.ensures.items) (c.loop-step.invariant.so_far root ways h));
+          (one_pending c.push.new.self.items c.loop-step.way.items c.loop-step.last c.in_ok-push.ensures.items)
+          (c.loop-step.invariant.so_far root ways h));
     }
 
 pub returns-in_default : goal.returns-in_default
@@ -45,11 +47,14 @@ returns-in_default c root ways h =
     let v : ℕ = c.loop-step.last.0 in
     one_pending c.push.new.self.items c.loop-step.way.items c.loop-step.last c.in_ok-push.ensures.items
     ∙ ap (λ (l : List ℕ). numbers c.loop-step.way.items ++ (v ∷ l))
-    (sym (ends_up s c.args.split.now c.faces.ensures.valid c.requires.split root ways h v c.loop-step.invariant.used (sym c.in_default.ensures)))
+    (sym (ends_up s c.args.split.now c.faces.ensures.valid c.requires.split root ways h v c.loop-step.invariant.used
+    (sym c.in_default.ensures)))
     ∙ sym (c.loop-step.invariant.so_far root ways h)
 
 pub returns : goal.returns
 returns c =
-    absurd (way_ends c.args.surface.now c.args.split.now c.faces.ensures.valid c.requires.split c.args.start.0 c.loop-step.last.0 c.loop-step._step
+    absurd (way_ends c.args.surface.now c.args.split.now c.faces.ensures.valid c.requires.split c.args.start.0 c.loop-step.last.0
+    c.loop-step._step
     (numbers c.loop-step.way.items) c.requires.used (length-numbers c.loop-step.way.items ∙ c.loop-step.invariant.long)
-    (omega (arith, c.loop-step-test.false, c.count-step-end.ensures, ap (λ (m : FaceList). m.count) c.faces.ensures.mesh)) c.loop-step.invariant.so_far)
+    (omega (arith, c.loop-step-test.false, c.count-step-end.ensures, ap (λ (m : FaceList). m.count) c.faces.ensures.mesh))
+    c.loop-step.invariant.so_far)

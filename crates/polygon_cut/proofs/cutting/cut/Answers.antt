@@ -22,7 +22,8 @@ places_by_turns-requires-clause-round c =
     let valid = c.leftover_in_root.ensures.valid in
     let last = c.in-Some.ensures.dart in
     let sides = c.in_ok-sides.field-0.sides.items in
-    let walk = ring_walk s split c.in-Some.last.0 (dart_numbers sides) c.in_ok-sides.field-0.labels.items valid c.requires last.0 last.2 c.in_ok-sides.ensures in
+    let walk = ring_walk s split c.in-Some.last.0 (dart_numbers sides) c.in_ok-sides.field-0.labels.items valid c.requires last.0 last.2
+    c.in_ok-sides.ensures in
     rw (c.deref.ensures.value, c.deref-2.ensures.value)
     (turns_round s split c.in-Some.last.0 (length sides) (dart_numbers sides) c.in_ok-sides.field-0.labels.items [] valid c.requires walk
     (sym (length-map sides (λ (d : DartName). d.0))))
@@ -34,7 +35,8 @@ places_by_turns-requires-clause-few c =
     let valid = c.leftover_in_root.ensures.valid in
     let last = c.in-Some.ensures.dart in
     let sides = c.in_ok-sides.field-0.sides.items in
-    let walk = ring_walk s split c.in-Some.last.0 (dart_numbers sides) c.in_ok-sides.field-0.labels.items valid c.requires last.0 last.2 c.in_ok-sides.ensures in
+    let walk = ring_walk s split c.in-Some.last.0 (dart_numbers sides) c.in_ok-sides.field-0.labels.items valid c.requires last.0 last.2
+    c.in_ok-sides.ensures in
     let few = few_sides s split c.in-Some.last.0 (dart_numbers sides) c.in_ok-sides.field-0.labels.items valid walk in
     omega (arith, few, length-map sides (λ (d : DartName). d.0), ap (λ (xs : List DartName). length xs) c.deref.ensures.value)
 
@@ -45,7 +47,8 @@ overflow_cast-result c =
     let valid = c.leftover_in_root.ensures.valid in
     let last = c.in-Some.ensures.dart in
     let sides = c.in_ok-sides.field-0.sides.items in
-    let walk = ring_walk s split c.in-Some.last.0 (dart_numbers sides) c.in_ok-sides.field-0.labels.items valid c.requires last.0 last.2 c.in_ok-sides.ensures in
+    let walk = ring_walk s split c.in-Some.last.0 (dart_numbers sides) c.in_ok-sides.field-0.labels.items valid c.requires last.0 last.2
+    c.in_ok-sides.ensures in
     let few = few_sides s split c.in-Some.last.0 (dart_numbers sides) c.in_ok-sides.field-0.labels.items valid walk in
     omega (arith, few, length-map sides (λ (d : DartName). d.0), c.len.ensures, c.in_ok-sides.field-0.sides.ok.0)
 
@@ -59,7 +62,8 @@ returns c =
     let labels = c.in_ok-sides.field-0.labels.items in
     let walk = ring_walk s split c.in-Some.last.0 (dart_numbers sides) labels valid c.requires last.0 last.2 c.in_ok-sides.ensures in
     let long : c.len.result ≡ length sides = omega (arith, c.len.ensures, c.in_ok-sides.field-0.sides.ok.0) in
-    let placed = placed_too s c.deref.result.now sides c.deref-2.result.now labels c.len.result c.in_ok-places.places.items c.deref.ensures.value
+    let placed = placed_too s c.deref.result.now sides c.deref-2.result.now labels c.len.result c.in_ok-places.places.items
+    c.deref.ensures.value
     c.deref-2.ensures.value long c.in_ok-places.ensures in
     cut_is s split c.in-Some.last.0 c.len.result (dart_numbers sides) labels c.in_ok-places.places.items valid c.requires walk
     (long ∙ sym (length-map sides (λ (d : DartName). d.0))) last.1 placed

@@ -58,12 +58,15 @@ loop-step-preserved c =
     let kind_is = ap is_left_kind (c.kind-kind.ensures ∙ ap (kind_of c.args.split.now) c.edge_of-in-loop-step.ensures.edge) in
     elim c.if-is_leftover.branch [
       | then-is_leftover+in_ok-push w ↦
-          walking_left c.args.surface.now c.args.split.now c.args.last.0 c.loop-step._step c.loop-step.sides.items c.if-is_leftover.sides.items
+          walking_left c.args.surface.now c.args.split.now c.args.last.0 c.loop-step._step c.loop-step.sides.items
+          c.if-is_leftover.sides.items
           c.loop-step.labels.items (set c.loop-step.labels.items c.loop-step.dart.0 c.len.result) c.loop-step.dart
           c.dart_after-dart-in-loop-step.result.0 c.darts.ensures.valid c.requires.split c.requires.last few c.loop-step.invariant
-          (sym kind_is ∙ sym c.is_leftover.ensures ∙ w.if-is_leftover.true) (ap (λ sides. sides.items) w.sides-is ∙ w.in_ok-push.ensures.items) written next
+          (sym kind_is ∙ sym c.is_leftover.ensures ∙ w.if-is_leftover.true) (ap (λ sides. sides.items) w.sides-is
+          ∙ w.in_ok-push.ensures.items) written next
       | else-is_leftover w ↦
-          walking_other c.args.surface.now c.args.split.now c.args.last.0 c.loop-step._step c.loop-step.sides.items c.if-is_leftover.sides.items
+          walking_other c.args.surface.now c.args.split.now c.args.last.0 c.loop-step._step c.loop-step.sides.items
+          c.if-is_leftover.sides.items
           c.loop-step.labels.items (set c.loop-step.labels.items c.loop-step.dart.0 c.len.result) c.loop-step.dart
           c.dart_after-dart-in-loop-step.result.0 c.darts.ensures.valid c.requires.split c.requires.last few c.loop-step.invariant
           (sym kind_is ∙ sym c.is_leftover.ensures ∙ w.if-is_leftover.false) (ap (λ sides. sides.items) w.sides-is) written next

@@ -13,7 +13,8 @@ returns-then-is_leftover-clause-dart c =
     let s = c.args.surface.now in
     let root : c.root_face-face.result.0 ≡ c.args.split.now.root_face = c.root_face-face.ensures in
     let first : c.first_dart-first.result.0 ≡ first_side s.mesh c.args.split.now.root_face =
-    c.first_dart-first.ensures ∙ ap (λ mesh. first_side mesh c.root_face-face.result.0) c.faces.ensures.mesh ∙ ap (first_side s.mesh) root in
+    c.first_dart-first.ensures ∙ ap (λ mesh. first_side mesh c.root_face-face.result.0) c.faces.ensures.mesh
+    ∙ ap (first_side s.mesh) root in
     let sides : c.sides-at-end.result ≡ length (face_at s.mesh c.args.split.now.root_face) =
     c.sides-at-end.ensures ∙ ap (λ mesh. length (face_at mesh c.root_face-face.result.0)) c.faces-2.ensures.mesh
     ∙ ap (λ f. length (face_at s.mesh f)) root in
@@ -30,7 +31,8 @@ returns-clause-dart c =
     let s = c.args.surface.now in
     let root : c.root_face-face.result.0 ≡ c.args.split.now.root_face = c.root_face-face.ensures in
     let first : c.first_dart-first.result.0 ≡ first_side s.mesh c.args.split.now.root_face =
-    c.first_dart-first.ensures ∙ ap (λ mesh. first_side mesh c.root_face-face.result.0) c.faces.ensures.mesh ∙ ap (first_side s.mesh) root in
+    c.first_dart-first.ensures ∙ ap (λ mesh. first_side mesh c.root_face-face.result.0) c.faces.ensures.mesh
+    ∙ ap (first_side s.mesh) root in
     let sides : c.sides-at-end.result ≡ length (face_at s.mesh c.args.split.now.root_face) =
     c.sides-at-end.ensures ∙ ap (λ mesh. length (face_at mesh c.root_face-face.result.0)) c.faces-2.ensures.mesh
     ∙ ap (λ f. length (face_at s.mesh f)) root in

@@ -22,7 +22,8 @@ index_mut-requires c =
     let polygon = without_places sides c.args.labels.now in
     let round = turns_go_round maps polygon c.requires.round (omega arith) in
     let below : c.loop-turn.spoke < length sides =
-    spoke_below (length sides) (turned maps polygon) c.loop-turn._turn c.loop-turn.places.items c.loop-turn.spoke c.loop-turn.place round c.loop-turn.invariant in
+    spoke_below (length sides) (turned maps polygon) c.loop-turn._turn c.loop-turn.places.items c.loop-turn.spoke c.loop-turn.place round
+    c.loop-turn.invariant in
     omega (arith, below, c.loop-turn.invariant.placed.each_spoke, c.loop-turn.places.ok.0)
 
 pub bounds-sides-spoke : goal.bounds-sides-spoke
@@ -31,7 +32,8 @@ bounds-sides-spoke c =
     let maps = rotations_of c.args.surface.now in
     let polygon = without_places sides c.args.labels.now in
     let round = turns_go_round maps polygon c.requires.round (omega arith) in
-    spoke_below (length sides) (turned maps polygon) c.loop-turn._turn c.loop-turn.places.items c.loop-turn.spoke c.loop-turn.place round c.loop-turn.invariant
+    spoke_below (length sides) (turned maps polygon) c.loop-turn._turn c.loop-turn.places.items c.loop-turn.spoke c.loop-turn.place round
+    c.loop-turn.invariant
 
 pub twin-twin-requires : goal.twin-twin-requires
 twin-twin-requires c =
@@ -39,8 +41,10 @@ twin-twin-requires c =
     let maps = rotations_of c.args.surface.now in
     let polygon = without_places sides c.args.labels.now in
     let round = turns_go_round maps polygon c.requires.round (omega arith) in
-    let below = spoke_below (length sides) (turned maps polygon) c.loop-turn._turn c.loop-turn.places.items c.loop-turn.spoke c.loop-turn.place round c.loop-turn.invariant in
-    subst (λ d. d < darts_of c.args.surface.now) (sym (side_read sides c.loop-turn.spoke below)) (c.requires.round.side_within c.loop-turn.spoke below)
+    let below = spoke_below (length sides) (turned maps polygon) c.loop-turn._turn c.loop-turn.places.items c.loop-turn.spoke
+    c.loop-turn.place round c.loop-turn.invariant in
+    subst (λ d. d < darts_of c.args.surface.now) (sym (side_read sides c.loop-turn.spoke below))
+    (c.requires.round.side_within c.loop-turn.spoke below)
 
 pub number_after-spoke-requires : goal.number_after-spoke-requires
 number_after-spoke-requires c =
@@ -48,7 +52,8 @@ number_after-spoke-requires c =
     let maps = rotations_of c.args.surface.now in
     let polygon = without_places sides c.args.labels.now in
     let round = turns_go_round maps polygon c.requires.round (omega arith) in
-    let below = spoke_below (length sides) (turned maps polygon) c.loop-turn._turn c.loop-turn.places.items c.loop-turn.spoke c.loop-turn.place round c.loop-turn.invariant in
+    let below = spoke_below (length sides) (turned maps polygon) c.loop-turn._turn c.loop-turn.places.items c.loop-turn.spoke
+    c.loop-turn.place round c.loop-turn.invariant in
     let twin = c.twin-twin.ensures.twin ∙ ap (twin_of c.args.surface.now) (side_read sides c.loop-turn.spoke below) in
     subst (λ d. get_or c.args.labels.now d 0 < length sides) (sym twin) (c.requires.round.across_within c.loop-turn.spoke below)
 
@@ -58,7 +63,8 @@ loop-turn-preserved c =
     let maps = rotations_of c.args.surface.now in
     let polygon = without_places sides c.args.labels.now in
     let round = turns_go_round maps polygon c.requires.round (omega arith) in
-    let below = spoke_below (length sides) (turned maps polygon) c.loop-turn._turn c.loop-turn.places.items c.loop-turn.spoke c.loop-turn.place round c.loop-turn.invariant in
+    let below = spoke_below (length sides) (turned maps polygon) c.loop-turn._turn c.loop-turn.places.items c.loop-turn.spoke
+    c.loop-turn.place round c.loop-turn.invariant in
     let twin = c.twin-twin.ensures.twin ∙ ap (twin_of c.args.surface.now) (side_read sides c.loop-turn.spoke below) in
     turning_more (length sides) (turned maps polygon) c.loop-turn._turn c.loop-turn.places.items
     (set c.loop-turn.places.items c.loop-turn.spoke c.loop-turn.place) c.loop-turn.spoke c.loop-turn.place c.number_after-spoke.result

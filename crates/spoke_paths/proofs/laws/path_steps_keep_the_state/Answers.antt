@@ -8,4 +8,5 @@ pub returns-clause-state : goal.returns-clause-state
 returns-clause-state c start places path end steps =
     let f = c.F.Form in
     let laws = c.met.F.Form in
-    state-stays f.Belongs f.IsAtVertex f.size f.next laws.stays laws.there_and_back laws.across places f.IsOwn f.empty laws.starts path end steps
+    state-stays f.Belongs f.IsAtVertex f.size f.next laws.stays laws.there_and_back laws.across places f.IsOwn f.empty laws.starts path end
+    steps

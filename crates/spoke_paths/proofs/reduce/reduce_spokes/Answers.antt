@@ -10,5 +10,9 @@ shorten_end-requires-clause-before c =
 pub returns : goal.returns
 returns c =
     let front = c.loop-spoke.front.items in
-    let read = all-read front c.args.spokes.now c.loop-spoke.spoke-index c.loop-spoke-test.false in
-    (front, subst (PathLeads c.args.wheel.now c.args.spokes.now c.loop-spoke.steps.items) read c.loop-spoke.invariant.leads, reduced-from c.args.wheel.now front c.loop-spoke.invariant.short)
+    let read = all-read front c.args.spokes.now c.loop-spoke.spoke-index c.loop-spoke-test.false in (
+      front,
+      subst (PathLeads c.args.wheel.now c.args.spokes.now c.loop-spoke.steps.items) read c.loop-spoke.invariant.leads,
+      reduced-from
+          c.args.wheel.now front c.loop-spoke.invariant.short,
+    )

@@ -10,8 +10,10 @@ returns-clause-quad c =
     let next = c.spoke_at-next.result.0 in
     let place : get_or c.args.wheel.now next 0 ≡ add d (get_or c.args.wheel.now c.args.side 0) (minus d 1) =
     c.spoke_at-next.ensures.place ∙ c.difference.ensures.difference ∙ ap₂ (λ n p. add n p (minus n 1)) degree c.place-place.ensures.place in
-    let less : c.difference-2.result ≡ add d next (minus d 1) = c.difference-2.ensures.difference ∙ ap (λ n. add n next (minus n 1)) degree in
-    (partner-quad c.args.wheel.now c.requires.quads c.args.side next c.difference-2.result c.requires.side c.spoke_at-next.ensures.below place less).0
+    let less : c.difference-2.result ≡ add d next (minus d 1) =
+    c.difference-2.ensures.difference ∙ ap (λ n. add n next (minus n 1)) degree in
+    (partner-quad c.args.wheel.now c.requires.quads c.args.side next c.difference-2.result c.requires.side c.spoke_at-next.ensures.below
+    place less).0
 
 pub returns-clause-back : goal.returns-clause-back
 returns-clause-back c =
@@ -20,5 +22,7 @@ returns-clause-back c =
     let next = c.spoke_at-next.result.0 in
     let place : get_or c.args.wheel.now next 0 ≡ add d (get_or c.args.wheel.now c.args.side 0) (minus d 1) =
     c.spoke_at-next.ensures.place ∙ c.difference.ensures.difference ∙ ap₂ (λ n p. add n p (minus n 1)) degree c.place-place.ensures.place in
-    let less : c.difference-2.result ≡ add d next (minus d 1) = c.difference-2.ensures.difference ∙ ap (λ n. add n next (minus n 1)) degree in
-    (partner-quad c.args.wheel.now c.requires.quads c.args.side next c.difference-2.result c.requires.side c.spoke_at-next.ensures.below place less).1
+    let less : c.difference-2.result ≡ add d next (minus d 1) =
+    c.difference-2.ensures.difference ∙ ap (λ n. add n next (minus n 1)) degree in
+    (partner-quad c.args.wheel.now c.requires.quads c.args.side next c.difference-2.result c.requires.side c.spoke_at-next.ensures.below
+    place less).1

@@ -16,7 +16,8 @@ returns-then-spokes-eq0 c = λ end leads.
           let same : c.spurs_in.result ≡ c.len-spokes.result / 2 = eqb-true c.spurs_in.result (c.len-spokes.result / 2) half in
           none_long end (omega (arith, long, spurs, same, c.len-spokes.ensures, c.if-spokes-eq0.true))),
       (λ none.
-          eq-eqb c.spurs_in.result (c.len-spokes.result / 2) (omega (arith, long, spurs, ap (λ (l : List ℕ). length l) none, c.len-spokes.ensures))),
+          eq-eqb c.spurs_in.result (c.len-spokes.result / 2)
+          (omega (arith, long, spurs, ap (λ (l : List ℕ). length l) none, c.len-spokes.ensures))),
     )
 
 pub returns-else-spokes-eq0 : goal.returns-else-spokes-eq0

@@ -10,7 +10,8 @@ use Rattle.move_lifting.proofs.reducing.Reduction.of.Goals as goal
 pub reduce_spokes-requires-clause-quads : goal.reduce_spokes-requires-clause-quads
 reduce_spokes-requires-clause-quads c =
     let cut = c.requires.cut in
-    subst HasQuads (sym c.in_ok-wheel.ensures) (has_quads c.args.surface.now cut.0 c.args.polygon.now c.faces.ensures.valid cut.1 cut.2 c.requires.some)
+    subst HasQuads (sym c.in_ok-wheel.ensures) (has_quads c.args.surface.now cut.0 c.args.polygon.now c.faces.ensures.valid cut.1 cut.2
+    c.requires.some)
 
 pub reduce_spokes-requires-clause-below : goal.reduce_spokes-requires-clause-below
 reduce_spokes-requires-clause-below c =
@@ -18,4 +19,5 @@ reduce_spokes-requires-clause-below c =
     let spokes = c.in_ok-spokes.ensures.spokes in
     subst (λ (l : List ℕ). All (λ i. i < length c.in_ok-wheel.wheel) l) (sym (c.deref.ensures.value ∙ spokes.path_is))
     (subst (λ (l : List ℕ). All (λ i. i < length l) (spokes_along spokes.spokes (numbers c.args.walk.now))) (sym c.in_ok-wheel.ensures)
-    (free_walk_below c.args.surface.now cut.0 c.args.polygon.now c.faces.ensures.valid cut.1 cut.2 c.requires.some spokes.spokes spokes.free (numbers c.args.walk.now) c.requires.walk))
+    (free_walk_below c.args.surface.now cut.0 c.args.polygon.now c.faces.ensures.valid cut.1 cut.2 c.requires.some spokes.spokes spokes.free
+    (numbers c.args.walk.now) c.requires.walk))

@@ -11,7 +11,8 @@ returns-then-came_from-clause-leads c =
 
 pub returns-then-came_from-clause-no_spur : goal.returns-then-came_from-clause-no_spur
 returns-then-came_from-clause-no_spur c =
-    on_ok_weaker c.step_back.result (step_back_no_spur c.args.behind c.args.self.now c.step_back.new.self c.requires.no_spur) c.step_back.ensures
+    on_ok_weaker c.step_back.result (step_back_no_spur c.args.behind c.args.self.now c.step_back.new.self c.requires.no_spur)
+    c.step_back.ensures
 
 pub returns-then-came_from-clause-removals : goal.returns-then-came_from-clause-removals
 returns-then-came_from-clause-removals c =

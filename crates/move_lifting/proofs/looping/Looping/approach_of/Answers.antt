@@ -7,29 +7,32 @@ use Rattle.move_lifting.specs.SpokeWalks.{walks_loop}
 use Rattle.move_lifting.proofs.ExpandLemmas.{one_pending}
 use Rattle.move_lifting.proofs.LayLemmas.{laid_three, behind_first}
 use Rattle.move_lifting.proofs.TreeUpLemmas.{way_some}
-use Rattle.move_lifting.proofs.looping.approach_of.Goals as goal
+use Rattle.move_lifting.proofs.looping.Looping.approach_of.Goals as goal
 
 pub back_along-requires : goal.back_along-requires
 back_along-requires c =
     subst (λ (l : List VertexName). 0 < length l) (sym c.deref.ensures.value)
-    (way_some c.args.surface.now c.args.split.now c.requires.split c.args.end.0 c.in_ok-way_up.field-0.items c.in_ok-way_up.ensures)
+    (way_some c.args.self.now.cut.now.on.surface.now c.args.self.now.cut.now.on.split.now c.requires.split c.args.end.0
+    c.in_ok-way_up.field-0.items c.in_ok-way_up.ensures)
 
 pub slice_bounds-put_all-count : goal.slice_bounds-put_all-count
 slice_bounds-put_all-count c =
-    let some = way_some c.args.surface.now c.args.split.now c.requires.split c.args.start.0 c.in_ok-up.up.items c.in_ok-up.ensures in
+    let some = way_some c.args.self.now.cut.now.on.surface.now c.args.self.now.cut.now.on.split.now c.requires.split c.args.start.0
+    c.in_ok-up.up.items c.in_ok-up.ensures in
     omega (arith, some, ap (λ (l : List VertexName). length l) c.deref-2.ensures.value)
 
 pub slice_bounds-put_all-start : goal.slice_bounds-put_all-start
 slice_bounds-put_all-start c =
-    let some = way_some c.args.surface.now c.args.split.now c.requires.split c.args.start.0 c.in_ok-up.up.items c.in_ok-up.ensures in
+    let some = way_some c.args.self.now.cut.now.on.surface.now c.args.self.now.cut.now.on.split.now c.requires.split c.args.start.0
+    c.in_ok-up.up.items c.in_ok-up.ensures in
     omega (arith, some, ap (λ (l : List VertexName). length l) c.deref-2.ensures.value)
 
 pub returns : goal.returns
 returns c root ways h =
-    let s = c.args.surface.now in
+    let s = c.args.self.now.cut.now.on.surface.now in
     let x : ℕ = c.args.start.0 in
     let y : ℕ = c.args.end.0 in
-    let laid : List ℕ = walks_loop c.args.spokes.now true c.args.front.now in
+    let laid : List ℕ = walks_loop c.args.self.now.looper.now.spokes true c.args.front.now in
     let start : numbers c.push.new.self.items ≡ x ∷ [] =
     one_pending c.push.new.self.items c.new-walk.result.items c.args.start c.in_ok-push.ensures.items
     ∙ ap (λ (l : List VertexName). numbers l ++ x ∷ []) c.new-walk.ensures.items in
@@ -41,8 +44,11 @@ returns c root ways h =
     ap numbers c.deref-3.ensures.value ∙ c.in_ok-down.ensures
     ∙ ap (λ (l : List VertexName). backward (get_or (numbers l) 0 0) (drop 1 (numbers l))) c.deref.ensures.value
     ∙ ap (λ (l : List ℕ). backward (get_or l 0 0) (drop 1 l)) (c.in_ok-way_up.ensures root ways h) in
-    laid_three s.mesh x (numbers c.push.new.self.items) (numbers c.put_all.new.walk.items) (numbers c.put_spokes.new.walk.items) (numbers c.put_all-2.new.walk.items)
+    laid_three s.mesh x (numbers c.push.new.self.items) (numbers c.put_all.new.walk.items) (numbers c.put_spokes.new.walk.items)
+    (numbers c.put_all-2.new.walk.items)
     (ways x) laid (backward y (ways y)) start
-    (subst (λ (l : List ℕ). AreFreelyEqual s.mesh (numbers c.push.new.self.items ++ l) (numbers c.put_all.new.walk.items)) up (c.in_ok-put_all.ensures.freely s.mesh))
+    (subst (λ (l : List ℕ). AreFreelyEqual s.mesh (numbers c.push.new.self.items ++ l) (numbers c.put_all.new.walk.items)) up
+    (c.in_ok-put_all.ensures.freely s.mesh))
     (c.in_ok-put_spokes.ensures.freely s.mesh)
-    (subst (λ (l : List ℕ). AreFreelyEqual s.mesh (numbers c.put_spokes.new.walk.items ++ l) (numbers c.put_all-2.new.walk.items)) down (c.in_ok-put_all-2.ensures.freely s.mesh))
+    (subst (λ (l : List ℕ). AreFreelyEqual s.mesh (numbers c.put_spokes.new.walk.items ++ l) (numbers c.put_all-2.new.walk.items)) down
+    (c.in_ok-put_all-2.ensures.freely s.mesh))
