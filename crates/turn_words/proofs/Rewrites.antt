@@ -1,8 +1,8 @@
 -- What a flip and a close make of a word that is read from its end, and the steps that they note.
-use Rattle.std.proofs.Common.{◌≡◌, ◌≢◌, ℕ, ◌+◌, ◌-◌, ◌<◌, ◌≤◌, inl, inr, arith, refl, sym, ◌∙◌, ap, ap₂, zero, suc, Bool, true, false, eqb, cond, List, [], ◌∷◌, ◌++◌, All, length, reverse, replicate, Option, Some, None, append_assoc}
+use Rattle.std.proofs.Common.{◌≡◌, ◌≢◌, ℕ, ◌+◌, ◌-◌, ◌<◌, ◌≤◌, inl, inr, arith, refl, sym, ◌∙◌, ap, ap₂, zero, suc, Bool, true, false, List, [], ◌∷◌, ◌++◌, All, length, reverse, replicate, Option, Some, None, append_assoc}
 use Rattle.std.proofs.lemmas.Bool.{eq-eqb, ne_eqb}
 use Rattle.std.proofs.lemmas.List.{append-nil, length-append, length-replicate, length-reverse}
-use Rattle.turn_words.specs.Modulo.{add, minus}
+use Rattle.turn_words.specs.Modulo.{minus}
 use Rattle.turn_words.specs.Put_turns.{is_open, flipped, closed}
 use Rattle.turn_words.specs.Recorded.{with_steps}
 use Rattle.turn_words.specs.Private.Put_steps.{flip_steps, close_steps, put_steps, pushes}

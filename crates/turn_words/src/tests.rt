@@ -4,7 +4,7 @@ ghost use Rattle.turn_words.specs.Wheels.{IsWheel};
 ghost use Rattle.turn_words.specs.declared.canonising.TheConstants.{MOST_ENTRIES};
 
 use super::*;
-use std::alloc::Global;
+use std::alloc::{AllocError, Global};
 use std::marker::Brand;
 use std::sync::ledger::{Blank, Ledger};
 use std::test::Fail;
@@ -120,6 +120,56 @@ fn degree_five(rt: HostRuntime) -> Result<(), Fail> {
     assert!(rt; gives(rt.alloc(), 5, &[2, 1, 2, 1], &[1, 3])?);
     assert!(rt; gives(rt.alloc(), 5, &[4, 2, 4], &[4, 3, 1])?);
     assert!(rt; gives(rt.alloc(), 5, &[4, 3, 2], &[4, 3, 2])?);
+    // Here -2 is 3: the 2 becomes a 3 and joins its neighbour, and a 3 becomes a 2.
+    assert!(rt; gives(rt.alloc(), 5, &[0, 3, 2, 4], &[0, 3, 3, 1])?);
+    assert!(rt; gives(rt.alloc(), 5, &[0, 2, 3, 1, 1], &[0, 2, 2])?);
+    Ok(())
+}
+
+#[test]
+fn long_run(rt: HostRuntime) -> Result<(), Fail> {
+    let mut word = vec![in rt.alloc(); 6; 1_002]?;
+    word[0] = 0;
+    word[1_001] = 7;
+    let mut expected = vec![in rt.alloc(); 2; 1_002]?;
+    expected[0] = 1;
+    expected[1] = 1;
+    assert!(rt; gives(rt.alloc(), 8, &word, &expected)?);
+    Ok(())
+}
+
+/// The spokes whose turn word is that of the last test.
+#[test]
+fn runs(rt: HostRuntime) -> Result<(), Fail> {
+    let wheel = in_order(rt.alloc())?;
+    let mut form = Hyper::new(rt.alloc());
+    form.act(&wheel, Spoke(0), &mut Silent)?;
+    for k in 1..1_001 {
+        form.act(&wheel, Spoke(6 * k % 8), &mut Silent)?;
+    }
+    form.act(&wheel, Spoke(7), &mut Silent)?;
+    assert_eq!(rt; form.runs().len(), 2);
+    Ok(())
+}
+
+/// How many runs are left of two that are pushed where one is popped.
+fn left_of_two<L: Ledger>(alloc: Global, blank: Blank) -> Result<u64, AllocError>
+    requires name { blank.name ≡ L.name }
+    requires parts { blank.parts ≡ L.parts }
+    requires some { 0 < L.parts }
+{
+    let mut steps: Steps<L> = Steps::new(blank);
+    let mut stack = RunStack::new(alloc);
+    stack.reserve(1)?;
+    stack.push(3, 1, &mut steps)?;
+    stack.push(4, 2, &mut steps)?;
+    stack.pop(&mut steps);
+    Ok(stack.len())
+}
+
+#[test]
+fn stacks(rt: HostRuntime) -> Result<(), Fail> {
+    assert_eq!(rt; left_of_two::<Brand>(rt.alloc(), Blank::new(1))?, 1);
     Ok(())
 }
 

@@ -1,4 +1,4 @@
-use Rattle.std.proofs.Common.{arith, ◌≡◌, ◌+◌, ◌-◌, ◌∙◌, ap₂, ℕ}
+use Rattle.std.proofs.Common.{arith, ◌≡◌, ◌+◌, ◌-◌, ◌∙◌, ap₂}
 use Rattle.turn_words.specs.Recorded.{with_steps}
 use Rattle.turn_words.specs.Private.Put_steps.{pushes}
 use Rattle.turn_words.proofs.Telling.{tells-on, tells-still}

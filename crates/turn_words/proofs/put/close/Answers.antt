@@ -1,4 +1,4 @@
-use Rattle.std.proofs.Common.{arith, ◌≡◌, ◌∙◌, ap, sym, ◌++◌, reverse, replicate}
+use Rattle.std.proofs.Common.{arith, ◌∙◌, ap, sym, ◌++◌, reverse, replicate}
 use Rattle.std.proofs.lemmas.List.{length-reverse}
 use Rattle.turn_words.specs.Private.Stored_words.{last_changed}
 use Rattle.turn_words.specs.Lemmas.Sums.{minus-one}

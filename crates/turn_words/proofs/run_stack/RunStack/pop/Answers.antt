@@ -1,4 +1,3 @@
-use Rattle.std.proofs.Common.{◌≡◌, ◌<◌, [], ap, sym, ◌∙◌}
 use Rattle.turn_words.specs.Runs.{AreFilled}
 use Rattle.turn_words.proofs.Run_lists.{popped-filled}
 use Rattle.turn_words.proofs.run_stack.RunStack.pop.Goals as goal

@@ -1,4 +1,4 @@
-use Rattle.std.proofs.Common.{arith, ◌≡◌, ◌≢◌, ◌<◌, ◌-◌, ◌∙◌, ℕ, ap, sym, subst, eqb, reverse, length, get_or, List}
+use Rattle.std.proofs.Common.{arith, ◌≡◌, ◌≢◌, ◌<◌, ◌-◌, ◌∙◌, ℕ, ap, sym, eqb, reverse, length, get_or, List}
 use Rattle.std.proofs.lemmas.Bool.{lt-leb}
 use Rattle.turn_words.specs.Put_turns.{is_open}
 use Rattle.turn_words.specs.Private.Stored_words.{RunWordView, word_of}

@@ -1,4 +1,4 @@
-use Rattle.std.proofs.Common.{arith, ◌≡◌, ◌<◌, ◌-◌, ap, sym, subst, length}
+use Rattle.std.proofs.Common.{arith, ◌<◌, ◌-◌, ap, sym, subst, length}
 use Rattle.turn_words.specs.Private.Stored_words.{RunWordView, EndsOtherwise}
 use Rattle.turn_words.proofs.Run_lists.{ends-otherwise}
 use Rattle.turn_words.proofs.Run_words.{reverse-some, taken-off, word-length}

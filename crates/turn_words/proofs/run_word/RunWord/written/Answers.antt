@@ -1,4 +1,4 @@
-use Rattle.std.proofs.Common.{arith, ◌≡◌, ◌-◌, ◌<◌, ◌+◌, ◌∙◌, ℕ, ap, sym, ◌++◌, length, take, get_or, replicate, append_assoc, List, vec_len, vec_capacity}
+use Rattle.std.proofs.Common.{arith, ◌≡◌, ◌<◌, ◌+◌, ◌∙◌, ℕ, ap, sym, ◌++◌, length, take, get_or, replicate, append_assoc, List, vec_len, vec_capacity}
 use Rattle.turn_words.specs.Runs.{written}
 use Rattle.turn_words.proofs.Run_words.{length-written, written-next, written-within}
 use Rattle.turn_words.proofs.run_word.RunWord.written.Goals as goal
