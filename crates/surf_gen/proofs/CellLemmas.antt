@@ -5,7 +5,7 @@ use Rattle.std.specs.List.{range_with_len, filter}
 use Rattle.std.proofs.Math.Bool.{and-false, or-false}
 use Rattle.std.proofs.lemmas.Bool.{lt-ltb, le-ltb, ne_eqb}
 use Rattle.std.proofs.lemmas.List.FromFn.{length-map-range_with_len}
-use Rattle.surf_gen.specs.declared.chain.Point.{Point}
+use Rattle.surf_gen.specs.declared.points.Point.{Point}
 use Rattle.surf_gen.specs.Chains.{point, is_cut_out, cells}
 use Rattle.surf_gen.specs.Parts.{points_of_row, points_of_torus}
 use Rattle.surf_gen.proofs.StretchLemmas.{stretch_kept, count_but_one, count_along}

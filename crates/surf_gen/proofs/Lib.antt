@@ -6,3 +6,4 @@ pub mod StretchLemmas
 pub mod NumberLemmas
 pub mod CellLemmas
 pub mod TextLemmas
+pub mod FaceLemmas

@@ -7,7 +7,7 @@ use Rattle.std.proofs.Math.Nat.{mul-le-mul_left}
 use Rattle.std.proofs.Math.Bool.{and-false}
 use Rattle.std.proofs.lemmas.Bool.{lt-ltb, le-ltb, ne_eqb}
 use Rattle.std.proofs.lemmas.List.FromFn.{length-range_with_len}
-use Rattle.surf_gen.specs.declared.chain.Point.{Point}
+use Rattle.surf_gen.specs.declared.points.Point.{Point}
 use Rattle.surf_gen.specs.Chains.{point, is_glued, partner, glued_before, vertices, vertex_number, number}
 use Rattle.surf_gen.specs.Parts.{points_of_row, points_of_torus}
 use Rattle.surf_gen.proofs.StretchLemmas.{same_range, stretch_kept, stretch_gone, stretch_numbers, row_split, Rises, rises_along}
@@ -45,13 +45,13 @@ glued t row c later near_row near_column =
 far_column : (t row c : ℕ) → 2 ≤ c → is_glued (point t row c) ≡ false
 far_column t row c far = ap (λ b. (nat_lt 0 t && nat_lt row 2) && b) (le-ltb c 2 far) ∙ and-false (nat_lt 0 t && nat_lt row 2)
 
-far_row : (t row c : ℕ) → 2 ≤ row → is_glued (point t row c) ≡ false
+pub far_row : (t row c : ℕ) → 2 ≤ row → is_glued (point t row c) ≡ false
 far_row t row c far =
     ap (λ b. (nat_lt 0 t && b) && nat_lt c 2) (le-ltb row 2 far) ∙ ap (λ b. b && nat_lt c 2) (and-false (nat_lt 0 t))
 
 -- ---- the numbers of the others
 
-number_own : (grid : ℕ) (p : Point) → is_glued p ≡ false → number grid p ≡ vertex_number grid p
+pub number_own : (grid : ℕ) (p : Point) → is_glued p ≡ false → number grid p ≡ vertex_number grid p
 number_own grid p own = ap (λ b. if b then vertex_number grid (partner p) else vertex_number grid p) own
 
 in_first_row : (t c : ℕ) → 0 < t → glued_before (point t 0 c) ≡ 4 * (t - 1) + 2

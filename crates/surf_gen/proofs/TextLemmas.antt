@@ -7,7 +7,7 @@ use Rattle.std.proofs.Math.ListN.{length-map}
 use Rattle.std.proofs.lemmas.List.{map-append}
 use Rattle.std.proofs.lemmas.List.Concat.{flat_map-append}
 use mathlib.Core.List.{append_assoc, append-nil}
-use Rattle.surf_gen.specs.declared.chain.Point.{Point}
+use Rattle.surf_gen.specs.declared.points.Point.{Point}
 use Rattle.surf_gen.specs.declared.text.Part.TheVariants.{Vertices, Faces}
 use Rattle.surf_gen.specs.Chains.{points, is_glued, is_cut_out, vertices, cells, face}
 use Rattle.surf_gen.specs.ChainTexts.{line_of, coordinates, chain_text}

@@ -5,7 +5,7 @@ use Rattle.std.proofs.Math.ListN.{length-append, length-map}
 use Rattle.std.proofs.lemmas.List.{map-append}
 use Rattle.std.proofs.lemmas.List.FromFn.{length-map-range_with_len, map-range_with_len_more}
 use mathlib.Core.List.{append_assoc}
-use Rattle.surf_gen.specs.declared.chain.Point.{Point}
+use Rattle.surf_gen.specs.declared.points.Point.{Point}
 use Rattle.surf_gen.specs.Chains.{number}
 
 -- how long the walk is

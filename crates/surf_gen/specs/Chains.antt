@@ -4,7 +4,7 @@
 use Rattle.std.specs.Prelude.{ℕ, ◌+◌, ◌-◌, ◌*◌, ◌%◌, Bool, not, ◌==◌, ◌&&◌, ◌||◌, nat_lt, if◌then◌else◌, List, [], ◌∷◌, length, map, filter, flat_map}
 use Rattle.std.specs.List.{range_with_len}
 use Rattle.surf_model.specs.FaceLists.{FaceList}
-use Rattle.surf_gen.specs.declared.chain.Point.{Point}
+use Rattle.surf_gen.specs.declared.points.Point.{Point}
 
 -- the point of a torus in a row and a column
 abbrev pub point : ℕ → ℕ → ℕ → Point

@@ -1,7 +1,7 @@
 -- The parts of the text: what private contracts cite alone.
 use Rattle.std.specs.Prelude.{ℕ, if◌then◌else◌, List, [], ◌∷◌, map, flat_map, decimal}
 use Rattle.std.specs.List.{range_with_len}
-use Rattle.surf_gen.specs.declared.chain.Point.{Point}
+use Rattle.surf_gen.specs.declared.points.Point.{Point}
 use Rattle.surf_gen.specs.declared.text.Part.{Part}
 use Rattle.surf_gen.specs.declared.text.Part.TheVariants.{Vertices, Faces}
 use Rattle.surf_gen.specs.Chains.{point, is_glued, is_cut_out, face}

@@ -1,6 +1,6 @@
 -- Where points lie.
 use Rattle.std.specs.Prelude.{ℕ, ◌<◌}
-use Rattle.surf_gen.specs.declared.chain.Point.{Point}
+use Rattle.surf_gen.specs.declared.points.Point.{Point}
 
 -- a point of a chain of so many tori, each of so many rows and columns
 pub record IsPoint (genus grid : ℕ) (p : Point) : Type 0 where

@@ -1,7 +1,7 @@
 -- Pairs of walks on the first torus of a chain, from its last row and column on.
 use Rattle.std.specs.Prelude.{ℕ, ◌-◌, List, [], ◌∷◌, ◌++◌, map}
 use Rattle.std.specs.List.{range_with_len}
-use Rattle.surf_gen.specs.declared.chain.Point.{Point}
+use Rattle.surf_gen.specs.declared.points.Point.{Point}
 use Rattle.surf_gen.specs.declared.walks.TrialPair.{TrialPair}
 use Rattle.surf_gen.specs.declared.walks.TrialPair.TheVariants.{Commuting, Cell, Loops}
 use Rattle.surf_gen.specs.Chains.{point, number}

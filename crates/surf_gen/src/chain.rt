@@ -1,25 +1,10 @@
 //! The points of a chain of tori, and its vertices and cells.
 ghost use Rattle.std.specs.Prelude.{◌≡◌, ◌↔◌, ◌*◌, ◌-◌, ◌+◌, ◌<◌, ◌^◌, IsTrue, length, map};
-ghost use Rattle.surf_gen.specs.Chains.{is_glued, partner, glued_before, vertex_number, number, is_cut_out, face, vertices, cells};
+ghost use Rattle.surf_gen.specs.Chains.{glued_before, vertex_number, number, is_cut_out, face, vertices, cells};
 ghost use Rattle.surf_gen.specs.Sizes.{IsChain};
 ghost use Rattle.surf_gen.specs.Places.{IsPoint};
 
-/// A point of a torus, and the cell that begins there: the one to the next row and the next column.
-#[derive(Clone, Copy)]
-pub(crate) struct Point {
-    pub(crate) torus: u32,
-    pub(crate) row: u32,
-    pub(crate) column: u32,
-}
-
-impl Point {
-    /// Whether the point is glued to one of the torus before.
-    pub(crate) fn is_glued(self) -> bool
-        ensures { result ≡ is_glued self }
-    {
-        self.torus > 0 && self.row < 2 && self.column < 2
-    }
-}
+use crate::points::Point;
 
 /// So many tori, each of so many rows and columns.
 #[derive(Clone, Copy)]

@@ -12,6 +12,7 @@ mod chain;
 pub mod laws;
 mod limits;
 mod line;
+pub mod points;
 mod text;
 mod walks;
 

@@ -6,8 +6,9 @@ ghost use Rattle.surf_gen.specs.Places.{IsPoint};
 ghost use Rattle.surf_gen.specs.Parts.{part_text, points_of_torus, points_of_row};
 ghost use Rattle.surf_gen.specs.Chains.{points};
 
-use crate::chain::{Chain, Point};
+use crate::chain::Chain;
 use crate::line::put_line;
+use crate::points::Point;
 use std::alloc::{AllocError, Global};
 
 /// The longest line of a vertex: a torus, a row and a column, with blanks and a line feed.

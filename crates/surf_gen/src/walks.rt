@@ -5,7 +5,8 @@ ghost use Rattle.surf_gen.specs.Sizes.{IsChain};
 ghost use Rattle.surf_gen.specs.declared.limits.TheConstants.{MOST_GRID};
 ghost use Rattle.surf_gen.specs.TrialWalks.{first_walk, second_walk, row_loop, column_loop, cell_loop, walk_through};
 
-use crate::chain::{Chain, Point};
+use crate::chain::Chain;
+use crate::points::Point;
 use std::alloc::{AllocError, Global};
 use surf_model::{VertexName, Walk};
 
