@@ -1,0 +1,10 @@
+use Rattle.std.proofs.Common.{◌≡◌, ◌++◌, map}
+use Rattle.std.specs.List.{range_with_len}
+use Rattle.surf_gen.specs.Chains.{point}
+use Rattle.surf_gen.specs.Parts.{part_text}
+use Rattle.surf_gen.proofs.chain.Chain.put_row.Given as goal
+
+abbrev pub invariant-loop-column : goal.invariant-loop-column
+invariant-loop-column l =
+    l.text.items ≡ l.initial.text.items ++ part_text l.self.genus l.self.grid l.part
+    (map (point l.torus l.row) (range_with_len 0 l.column))

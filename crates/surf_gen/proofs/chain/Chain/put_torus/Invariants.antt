@@ -1,0 +1,11 @@
+use Rattle.std.proofs.Common.{◌≡◌, ◌++◌}
+use Rattle.std.specs.Prelude.{flat_map}
+use Rattle.std.specs.List.{range_with_len}
+use Rattle.surf_gen.specs.Parts.{part_text, points_of_row}
+use Rattle.surf_gen.proofs.chain.Chain.put_torus.Given as goal
+
+abbrev pub invariant-loop-row : goal.invariant-loop-row
+invariant-loop-row l =
+    l.text.items
+    ≡ l.initial.text.items ++ part_text l.self.genus l.self.grid l.part
+    (flat_map (points_of_row l.self.grid l.torus) (range_with_len 0 l.row))

@@ -1,0 +1,25 @@
+-- The text of a chain of tori in the format OFF.
+use Rattle.std.specs.Prelude.{ℕ, List, [], ◌∷◌, ◌++◌, length, map, flat_map, codes, decimal}
+use Rattle.std.specs.List.{join_with_byte}
+use Rattle.surf_model.specs.FaceLists.{FaceList}
+use Rattle.surf_gen.specs.declared.chain.Point.{Point}
+use Rattle.surf_gen.specs.Chains.{vertices, chain_mesh}
+
+-- a line of these words: single blanks between them, and a line feed behind
+abbrev pub line_of : List (List ℕ) → List ℕ
+line_of words = join_with_byte 32 words ++ 10 ∷ []
+
+-- the coordinates of a vertex: its torus, row and column
+abbrev pub coordinates : Point → List ℕ
+coordinates p = p.torus ∷ p.row ∷ p.column ∷ []
+
+-- the lines of numbers of a mesh whose vertices have these coordinates: the counts, the vertices and the faces, each
+-- face behind its number of corners
+abbrev pub number_lines : FaceList → List (List ℕ) → List (List ℕ)
+number_lines mesh places = (mesh.count ∷ length mesh.faces ∷ 0 ∷ []) ∷ places ++ map (λ face. length face ∷ face) mesh.faces
+
+-- the text: the keyword, and the lines of numbers
+abbrev pub chain_text : ℕ → ℕ → List ℕ
+chain_text genus grid =
+    flat_map line_of
+    ((codes "OFF" ∷ []) ∷ map (map decimal) (number_lines (chain_mesh genus grid) (map coordinates (vertices genus grid))))
