@@ -73,16 +73,16 @@ class Disc:
         return [self.centre(self.outward(middle, spoke)) for spoke in range(self.degree)]
 
 
-def ways(disc, walks):
+def ways(disc, paths):
     """For each walk the frames that it passes, a list for each dart; and the frames of all middles."""
     found, middles = [], []
-    for walk in walks:
+    for path_of_darts in paths:
         here, darts = turn(0), []
-        for dart in zip(walk, walk[1:]):
+        for spokes in path_of_darts:
             way = [here]
-            for k, spoke in enumerate(disc.labels.spokes(*dart)):
-                way.append(disc.outward(way[-1], spoke) if k else disc.inward(way[-1], spoke))
-            middles += way[1:2]
+            for k, spoke in enumerate(spokes):
+                way.append(disc.outward(way[-1], spoke) if k % 2 else disc.inward(way[-1], spoke))
+            middles += way[1::2]
             here = way[-1]
             darts.append(way)
         found.append(darts)
@@ -101,15 +101,22 @@ def tiles(disc, middles):
     return [path(disc.line(*ends), class_="side", stroke=shade, stroke_width=0.8, opacity=0.6) for ends, shade in lines.values()]
 
 
-def can_draw(labels, walks):
-    """Whether the walks have few enough spokes for this picture."""
-    return all(sum(len(labels.spokes(*dart)) for dart in zip(walk, walk[1:])) <= MOST_SPOKES for walk in walks)
+def paths_of(labels, walks, words):
+    """The paths that are drawn, the spokes of each walk's darts, and what is said of them. Where these are too many, it is the paths of
+    the words in their place, from where they part and so far as there is room."""
+    own = labels.paths(walks)
+    if all(sum(map(len, path)) <= MOST_SPOKES for path in own):
+        return own, "Unrolled: a hyperbolic plane of polygons with %d sides." % labels.degree
+    paths = [labels.path_of_word(word) for word in words]
+    while all(paths) and paths[0][:2] == paths[1][:2]:
+        paths = [path[2:] for path in paths]
+    return [[[]] * (len(walk) - 2) + [path[:MOST_SPOKES]] for walk, path in zip(walks, paths)], "The words as paths, from where they part."
 
 
-def disc_picture(labels, walks, words):
+def disc_picture(labels, paths, words):
     """The picture without its frame."""
     disc = Disc(labels)
-    found, middles = ways(disc, walks)
+    found, middles = ways(disc, paths)
     if labels.degree <= MOST_TILED:
         middles += [disc.inward(turn(0), spoke) for spoke in range(labels.degree)]
     parts = [dot(0, 0, RADIUS, fill="#f4f7fa", stroke="#cbd4dc", stroke_width=0.6)] + tiles(disc, middles)

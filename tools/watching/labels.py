@@ -68,6 +68,20 @@ class Labels:
         (_, a), (_, b) = self.ends(self.along(u, v))
         return [a, b]
 
+    def paths(self, walks):
+        """For each walk the spokes of its darts."""
+        return [[self.spokes(*dart) for dart in zip(walk, walk[1:])] for walk in walks]
+
+    def path_of_word(self, word):
+        """The spokes that a turn word passes: turns at the vertex go by places, those in the middle by numbers."""
+        path = []
+        for k, turn in enumerate(word):
+            if k % 2:
+                path.append((path[-1] + turn) % self.degree)
+            else:
+                path.append(self.places.index(((self.places[path[-1]] if path else 0) + turn) % self.degree))
+        return path
+
     def partners(self):
         """For each side of the polygon, told by the label at its tail, the side that it is glued to, as far as edges tell it."""
         pairs = {}

@@ -67,14 +67,12 @@ def moves_page(job, walks, moves):
 
 
 def plane_of(labels, walks, words):
-    """The plane in which the walks end apart, and what is said of it; nothing to draw where the paths are too long."""
+    """The plane in which the walks end apart, and what is said of it."""
     if labels.degree == 4:
         inner, box = plane.plane_picture(labels, walks, words)
         return svg(box, inner, "The plane"), "Unrolled: a plane, in which each spoke is a step."
-    if not disc.can_draw(labels, walks):
-        return "", "The paths of spokes are too long to be drawn; the words below tell them apart."
-    return (svg(disc.BOX, disc.disc_picture(labels, walks, words), "The hyperbolic plane"),
-            "Unrolled: a hyperbolic plane of polygons with %d sides." % labels.degree)
+    paths, caption = disc.paths_of(labels, walks, words)
+    return svg(disc.BOX, disc.disc_picture(labels, paths, words), "The hyperbolic plane"), caption
 
 
 def denial_page(job, walks, denial):

@@ -7,7 +7,7 @@ class Player {
     this.slider = document.getElementById("slider");
     this.pace = document.getElementById("pace");
     this.slider.max = film.frames;
-    this.pace.value = Math.log2(Math.min(30, Math.max(film.pace, film.frames / 40)));
+    this.pace.value = Math.log2(Math.min(50, Math.max(film.pace, film.frames / 40)));
     const on = (id, what) => document.getElementById(id).addEventListener("click", what);
     on("play", () => this.toggle());
     on("start", () => this.jump(0));
