@@ -87,7 +87,8 @@ integers = refl
 -- Words are those of another line where each is the same, and as many are there.
 same_words :
     map (are_words (codes "not" ∷ codes "so" ∷ []))
-    ((codes "not" ∷ codes "so" ∷ []) ∷ (codes "not" ∷ []) ∷ (codes "not" ∷ codes "so" ∷ codes "x" ∷ []) ∷ (codes "not" ∷ codes "s" ∷ []) ∷ [])
+    ((codes "not" ∷ codes "so" ∷ []) ∷ (codes "not" ∷ []) ∷ (codes "not" ∷ codes "so" ∷ codes "x" ∷ [])
+    ∷ (codes "not" ∷ codes "s" ∷ []) ∷ [])
     ≡ true ∷ false ∷ false ∷ false ∷ []
 same_words = refl
 
