@@ -1,9 +1,10 @@
 -- The definitions at work. Each line is proved by computing.
-use Rattle.std.specs.Prelude.{◌≡◌, ℕ, List, [], ◌∷◌, ◌++◌, map, take, Some, None, Result, Ok, Err, codes, flat_map, refl}
+use Rattle.std.specs.Prelude.{◌≡◌, ℕ, ◌-◌, List, [], ◌∷◌, ◌++◌, map, take, Some, None, Result, Ok, Err, codes, flat_map, refl}
 use Rattle.text_scan.specs.Lines.{unmarked, cut, words, lines_from}
 use Rattle.text_scan.specs.Numbers.{is_natural, value_of, is_number_text}
 use Rattle.surf_model.specs.FaceLists.{FaceList}
-use Rattle.off_reader.specs.OffTexts.{keyword_of, are_pieces, counts_at, header_of, taken, corners_of, has_equal_neighbours, mesh_of, meaning_of}
+use Rattle.surf_model.specs.declared.limits.TheConstants.{MOST_SIDES}
+use Rattle.off_reader.specs.OffTexts.{ring_fault, keyword_of, are_pieces, counts_at, header_of, taken, corners_of, has_equal_neighbours, mesh_of, meaning_of}
 use Rattle.off_reader.specs.declared.off_fault.OffFault.{OffFault}
 use Rattle.off_reader.specs.declared.off_fault.OffFault.TheVariants.{NoCounts, BadCounts, UnreadForm, BadVertex, Ended, BadFace, IndexRange, EqualNeighbours, TooMany}
 
@@ -79,9 +80,10 @@ bad_counts = refl
 
 many_counts :
     map meaning_of
-    (text (codes "OFF" ∷ codes "1000001 4 0" ∷ []) ∷ one_line (codes "99999999999999999999999999 0") ∷ one_line (codes "0 1333334 x") ∷ [])
-    ≡ Err (TooMany 2) ∷ Err (TooMany 1) ∷ Err (TooMany 1) ∷ []
-unfolding unmarked cut words lines_from is_natural value_of keyword_of are_pieces counts_at header_of mesh_of
+    (text (codes "OFF" ∷ codes "1000001 4 0" ∷ []) ∷ one_line (codes "99999999999999999999999999 0") ∷ one_line (codes "0 1333334 x")
+    ∷ one_line (codes "0 1333333 x") ∷ [])
+    ≡ Err (TooMany 2) ∷ Err (TooMany 1) ∷ Err (TooMany 1) ∷ Err (Ended 2) ∷ []
+unfolding unmarked cut words lines_from is_natural value_of keyword_of are_pieces counts_at header_of taken mesh_of
 many_counts = refl
 
 no_faces : meaning_of (one_line (codes "0 0 0")) ≡ Ok (record { count = 0; faces = [] })
@@ -118,6 +120,13 @@ no_such_vertex : map with_face (codes "3 0 0 3" ∷ codes "3 0 1 999999999999999
 unfolding unmarked cut words lines_from is_natural value_of is_number_text keyword_of are_pieces
     counts_at header_of taken corners_of has_equal_neighbours mesh_of
 no_such_vertex = refl
+
+-- The sides of all faces are counted before the corners are looked at.
+many_before_index :
+    map (λ before. ring_fault 3 before 7 (Some (0 ∷ 1 ∷ 9 ∷ []))) ((MOST_SIDES - 2) ∷ (MOST_SIDES - 3) ∷ [])
+    ≡ Some (TooMany 7) ∷ Some (IndexRange 7) ∷ []
+unfolding has_equal_neighbours
+many_before_index = refl
 
 equal_neighbours : map with_face (codes "3 0 0 1" ∷ codes "3 0 1 0" ∷ []) ≡ Err (EqualNeighbours 6) ∷ Err (EqualNeighbours 6) ∷ []
 unfolding unmarked cut words lines_from is_natural value_of is_number_text keyword_of are_pieces

@@ -38,31 +38,6 @@ fn fault_of(rt: &HostRuntime, text: &[u8]) -> Option<OffFault> {
     read_off(rt.alloc(), text).err()
 }
 
-#[test]
-fn faults_of_the_header(rt: HostRuntime) {
-    assert!(rt; fault_of(&rt, b"") == Some(OffFault::NoCounts));
-    assert!(rt; fault_of(&rt, b"OFF BINARY\n") == Some(OffFault::UnreadForm { line: 1 }));
-    assert!(rt; fault_of(&rt, b"OFF\n4 x\n") == Some(OffFault::BadCounts { line: 2 }));
-    assert!(rt; fault_of(&rt, b"OFF\n1000001 4 0\n") == Some(OffFault::TooMany { line: 2 }));
-}
-
-#[test]
-fn faults_of_lines(rt: HostRuntime) {
-    assert!(rt; fault_of(&rt, b"OFF\n1 0 0\n0 0\n") == Some(OffFault::BadVertex { line: 3 }));
-    assert!(rt; fault_of(&rt, b"OFF\n1 0 0\n") == Some(OffFault::Ended { line: 3 }));
-    assert!(rt;
-        fault_of(&rt, b"3 1 0\n0 0 0\n0 0 0\n0 0 0\n3 1 3") == Some(OffFault::BadFace { line: 5 })
-    );
-    assert!(rt;
-        fault_of(&rt, b"3 1 0\n0 0 0\n0 0 0\n0 0 0\n3 0 3 4")
-            == Some(OffFault::IndexRange { line: 5 })
-    );
-    assert!(rt;
-        fault_of(&rt, b"3 1 0\n0 0 0\n0 0 0\n0 0 0\n3 0 0 1")
-            == Some(OffFault::EqualNeighbours { line: 5 })
-    );
-}
-
 /// A tetrahedron in 66 bytes.
 const TETRAHEDRON: &[u8] =
     b"OFF\n4 4 6\n0 0 0\n1 0 0\n0 1 0\n0 0 1\n3 0 1 2\n3 0 3 1\n3 0 2 3\n3 1 3 2\n";

@@ -47,7 +47,8 @@ faulty_walks = refl
 -- The word `empty` stands for no entries, where it stands alone.
 turn_words :
     words_of (text ([] ∷ codes "7 1" ∷ codes " empty # none" ∷ codes "4294967295" ∷ []))
-    ≡ Ok (record { line = 2; numbers = 7 ∷ 1 ∷ [] } ∷ record { line = 3; numbers = [] }
+    ≡ Ok
+    (record { line = 2; numbers = 7 ∷ 1 ∷ [] } ∷ record { line = 3; numbers = [] }
     ∷ record { line = 4; numbers = 4294967295 ∷ [] } ∷ [])
 unfolding unmarked cut words lines_from is_natural value_of
 turn_words = refl
