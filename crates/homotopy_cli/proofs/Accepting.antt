@@ -6,6 +6,7 @@ use Rattle.surf_model.specs.FaceLists.{FaceList, IsFaceList}
 use Rattle.surf_model.specs.Moves.{PeakedMoves}
 use Rattle.surf_model.specs.Walks.{IsWalk}
 use Rattle.move_checker.specs.Verdicts.{verdict_of}
+use Rattle.move_checker.specs.declared.judge.Verdict.{Verdict}
 use Rattle.move_checker.specs.declared.judge.Verdict.TheVariants.{Accepted}
 use Rattle.move_checker.proofs.Judgement.{accepted_exactly}
 use Rattle.labellings.specs.declared.denial.Denial as denials
@@ -20,28 +21,26 @@ use Rattle.walk_files.proofs.RoundTrip.{list_of_text-answered}
 use Rattle.walk_files.proofs.DenialRoundTrip.{denial_of_text-answered}
 use Rattle.labellings.specs.declared.verdict.DenialVerdict.TheVariants as verdicts
 use Rattle.walk_translate.specs.declared.deciding.Answer.TheVariants.{Homotopic, Different}
-use Rattle.homotopy_cli.specs.Answers.{Outcome, Judged}
-use Rattle.homotopy_cli.specs.Certificates.{Convinces}
+use Rattle.homotopy_cli.proofs.FittingDenials.{denial_fits}
+use Rattle.homotopy_cli.proofs.FittingMoves.{list_fits}
+use Rattle.homotopy_cli.proofs.MeshTexts.{is_face_list}
+use Rattle.homotopy_cli.proofs.Rows.{sound-words}
+use Rattle.homotopy_cli.proofs.Sound.{held}
+use Rattle.homotopy_cli.proofs.VerifyOutcomes.{told_input, judgement_outcome}
+use Rattle.homotopy_cli.specs.Certificates.{Convinces, decision_line, certificate_text}
 use Rattle.homotopy_cli.specs.Certify.{IsCertifyInput, IsWithinLimits, IsCertificatePrinted}
 use Rattle.homotopy_cli.specs.Checks.{Pass}
 use Rattle.homotopy_cli.specs.Inputs.{as_certificate, certificate_behind, certificate_of, IsPeakRead, SpellsMesh, SpellsPair, SpellsCertificate}
-use Rattle.homotopy_cli.specs.Outcomes.{IsOutcome, IsAnswerOf}
+use Rattle.homotopy_cli.specs.Lines.{line}
+use Rattle.homotopy_cli.specs.Outcomes.{Outcome, IsOutcome, IsAnswerOf}
 use Rattle.homotopy_cli.specs.PrintedCertificates.{IsVerifyOfText, IsAccepted}
-use Rattle.homotopy_cli.specs.Refusals.{line}
-use Rattle.homotopy_cli.specs.Texts.{decision_line, certificate_text}
-use Rattle.homotopy_cli.specs.Verify.{judgement, IsVerifyInput}
+use Rattle.homotopy_cli.specs.Stops.{Ends}
+use Rattle.homotopy_cli.specs.Verify.{judgement, IsVerifyInput, verdict_answer, denial_answer}
 use Rattle.homotopy_cli.specs.declared.certificate.Certificate.{Certificate}
 use Rattle.homotopy_cli.specs.declared.certificate.Certificate.TheVariants.{Moves, Denial}
 use Rattle.homotopy_cli.specs.declared.inputs.TheConstants.{MOST_BYTES}
 use Rattle.homotopy_cli.specs.declared.status.Status.{Status}
 use Rattle.homotopy_cli.specs.declared.status.Status.TheVariants.{Yes}
-use Rattle.homotopy_cli.specs.declared.verify.Judgement.TheVariants.{OnMoves, OnDenial}
-use Rattle.homotopy_cli.proofs.FittingMoves.{list_fits}
-use Rattle.homotopy_cli.proofs.FittingDenials.{denial_fits}
-use Rattle.homotopy_cli.proofs.MeshTexts.{is_face_list}
-use Rattle.homotopy_cli.proofs.Rows.{sound-words}
-use Rattle.homotopy_cli.proofs.Sound.{held}
-use Rattle.homotopy_cli.proofs.VerifyOutcomes.{told_input, judgement_outcome}
 
 -- ---- the certificate of a text that is a list, and of one that is a denial
 
@@ -123,12 +122,12 @@ module _ (files : Option Files) (words : List (List ℕ)) (mesh : FaceList) (fir
   accepted (Moves list) outcome status answer h input is told =
       let verdict : verdict_of mesh first second list ≡ Accepted =
       (accepted_exactly mesh first second list (verdict_of mesh first second list) refl).1 (h.leads, omega (arith, h.peak)) in
-      let target : Outcome = Pass (Judged (OnMoves Accepted)) in
-      let same = one_end (Moves list) outcome target input (ap (λ v. Pass (Judged (OnMoves v))) (sym verdict)) is in
+      let target : Outcome = Pass (verdict_answer Accepted) in
+      let same = one_end (Moves list) outcome target input (ap (λ (v : Verdict). let e : Outcome = Pass (verdict_answer v) in e) (sym verdict)) is in
       let a : IsAnswerOf target status answer = subst (λ (o : Outcome). IsAnswerOf o status answer) same told in
       (a.status_is, a.text_is)
   accepted (Denial denial) outcome status answer h input is told =
-      let target : Outcome = Pass (Judged (OnDenial verdicts.Accepted)) in
+      let target : Outcome = Pass (denial_answer verdicts.Accepted) in
       let same = one_end (Denial denial) outcome target input (verdicts.Accepted, refl, h) is in
       let a : IsAnswerOf target status answer = subst (λ (o : Outcome). IsAnswerOf o status answer) same told in
       (a.status_is, a.text_is)

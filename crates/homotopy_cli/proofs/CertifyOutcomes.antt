@@ -9,31 +9,29 @@ use Rattle.surf_model.specs.Walks.{darts}
 use Rattle.move_lifting.specs.declared.expanding.TheConstants.{MOST_LIFTED_SIDES, MOST_LIFTED_DARTS}
 use Rattle.walk_translate.specs.declared.deciding.Answer as deciding
 use Rattle.walk_translate.specs.declared.deciding.Answer.TheVariants as answers
-use Rattle.homotopy_cli.specs.Answers.{Answer, Outcome, Certified}
-use Rattle.homotopy_cli.specs.Causes.{Exactly}
-use Rattle.homotopy_cli.specs.Certify.{IsCertifyInput, IsWithinLimits, IsCertificatePrinted, IsCertified, limit_fault, certified}
-use Rattle.homotopy_cli.specs.Checks.{Refuse, Pass, found_or}
-use Rattle.homotopy_cli.specs.Commands.{Certify, IsRow}
-use Rattle.homotopy_cli.specs.Inputs.{pair_in, SpellsMesh, SpellsPair}
-use Rattle.homotopy_cli.specs.Outcomes.{answer_to, IsOutcome, IsAnswerOf}
-use Rattle.homotopy_cli.specs.Refusals.{refusal_line}
-use Rattle.homotopy_cli.specs.Statuses.{decision_status}
-use Rattle.homotopy_cli.specs.SurfaceInput.{surface_in}
-use Rattle.homotopy_cli.specs.declared.refusal.Refusal.{Refusal}
-use Rattle.homotopy_cli.specs.declared.refusal.Refusal.TheVariants as refusals
-use Rattle.homotopy_cli.specs.declared.status.Status.{Status}
-use Rattle.homotopy_cli.specs.declared.status.Status.TheVariants.{Yes, No, Refused}
 use Rattle.homotopy_cli.proofs.Certifying.{after_surface, after_pair, after_limits, limited}
 use Rattle.homotopy_cli.proofs.Deciding.{behind, refused_behind, differs}
 use Rattle.homotopy_cli.proofs.Rows.{one_row, sound-pair, sound-surface_in, surface_told, pair_told, unless_told, spelled_pair, spelled_surface}
 use Rattle.homotopy_cli.proofs.Sound.{held, sound-found, sound-pass_unless}
+use Rattle.homotopy_cli.specs.Answers.{Answer, Exactly}
+use Rattle.homotopy_cli.specs.Certificates.{decision_status}
+use Rattle.homotopy_cli.specs.Certify.{IsCertifyInput, IsWithinLimits, IsCertificatePrinted, IsCertified, limit_fault, certified, sides_line, certificate_answer, darts_line}
+use Rattle.homotopy_cli.specs.Checks.{Refuse, Pass, found_or}
+use Rattle.homotopy_cli.specs.Commands.{Certify, IsRow, answer_to}
+use Rattle.homotopy_cli.specs.Inputs.{pair_in, SpellsMesh, SpellsPair}
+use Rattle.homotopy_cli.specs.Outcomes.{Outcome, IsOutcome, IsAnswerOf}
+use Rattle.homotopy_cli.specs.Refusals.{wrong_words}
+use Rattle.homotopy_cli.specs.Stops.{Ends}
+use Rattle.homotopy_cli.specs.SurfaceInput.{surface_in}
+use Rattle.homotopy_cli.specs.declared.status.Status.{Status}
+use Rattle.homotopy_cli.specs.declared.status.Status.TheVariants.{Yes, No, Refused}
 
 -- a refusal that such an outcome is
-refused_so : (refusal : Refusal) (outcome : Outcome) (status : Status) (text : List ℕ) → outcome ≡ Refuse (Exactly refusal)
-    → IsAnswerOf outcome status text → (status ≡ Refused) × (text ≡ refusal_line refusal)
-refused_so refusal outcome status text e answer =
-    let a : IsAnswerOf (Refuse (Exactly refusal)) status text = subst (λ (o : Outcome). IsAnswerOf o status text) e answer in
-    (a.status_is, a.text_is.2 ∙ ap refusal_line a.text_is.1)
+refused_so : (line : List ℕ) (outcome : Outcome) (status : Status) (text : List ℕ) → outcome ≡ Refuse (Exactly line)
+    → IsAnswerOf outcome status text → (status ≡ Refused) × (text ≡ line)
+refused_so line outcome status text e answer =
+    let a : IsAnswerOf (Refuse (Exactly line)) status text = subst (λ (o : Outcome). IsAnswerOf o status text) e answer in
+    (a.status_is, a.text_is)
 
 -- the limits, as the check has them
 no_limit : (mesh : FaceList) (first second : List ℕ) → IsWithinLimits mesh first second → limit_fault mesh first second ≡ None
@@ -43,13 +41,13 @@ no_limit mesh first second within =
     rw (sides, few) refl
 
 side_limit : (mesh : FaceList) (first second : List ℕ) → MOST_LIFTED_SIDES < total_sides mesh
-    → limit_fault mesh first second ≡ Some (refusals.CertifySides (total_sides mesh))
+    → limit_fault mesh first second ≡ Some (sides_line mesh)
 side_limit mesh first second many =
     let sides : nat_lt MOST_LIFTED_SIDES (total_sides mesh) ≡ true = grind (arith, nat_tests) in
     rw sides refl
 
 dart_limit : (mesh : FaceList) (first second : List ℕ) → total_sides mesh ≤ MOST_LIFTED_SIDES → MOST_LIFTED_DARTS < darts first + darts second
-    → limit_fault mesh first second ≡ Some (refusals.CertifyDarts (darts first + darts second))
+    → limit_fault mesh first second ≡ Some (darts_line first second)
 dart_limit mesh first second few many =
     let sides : nat_lt MOST_LIFTED_SIDES (total_sides mesh) ≡ false = grind (arith, nat_tests) in
     let long : nat_lt MOST_LIFTED_DARTS (darts first + darts second) ≡ true = grind (arith, nat_tests) in
@@ -71,9 +69,9 @@ status_tells answers.Different status e right =
 
 by_certified : (mesh : FaceList) (first second : List ℕ) (outcome : Outcome) (status : Status) (text : List ℕ) → (certified mesh first second).Ends outcome
     → IsAnswerOf outcome status text → IsAnsweredSo mesh first second status text
-by_certified mesh first second (Refuse cause) status text p answer = absurd p
+by_certified mesh first second (Refuse texts) status text p answer = absurd p
 by_certified mesh first second (Pass x) status text p answer =
-    let here : IsAnswerOf (Pass (Certified mesh first second p.0)) status text = subst (λ (y : Answer). IsAnswerOf (Pass y) status text) p.1 answer in
+    let here : IsAnswerOf (Pass (certificate_answer mesh first second p.0)) status text = subst (λ (y : Answer). IsAnswerOf (Pass y) status text) p.1 answer in
     let shown = here.text_is in
     record {
       answered =
@@ -97,7 +95,7 @@ module _ (files : Option Files) (words : List (List ℕ)) (mesh : FaceList) (fir
   behind_walks : (after_pair mesh two).Ends outcome
   unfolding two
   behind_walks =
-      let row = behind files (found_or refusals.WrongWords (IsRow words)) (answer_to files) (Certify input.mesh_name input.walks_name) outcome
+      let row = behind files (found_or wrong_words (IsRow words)) (answer_to files) (Certify input.mesh_name input.walks_name) outcome
       (sound-found files _ _ (one_row words)) tt input.words_are is in
       let walks = behind files (surface_in files input.mesh_name) (after_surface files input.walks_name) mesh outcome (sound-surface_in files input.mesh_name)
       (surface_told files input.mesh_name (held files input.mesh_name (SpellsMesh mesh) input.mesh_file).told)
@@ -110,16 +108,16 @@ module _ (files : Option Files) (words : List (List ℕ)) (mesh : FaceList) (fir
   unfolding two
   answers_input within =
       by_certified mesh first second outcome status text
-      (behind files (limited mesh two) (after_limits mesh two) two outcome (sound-pass_unless files (λ refusal. refusal) (limit_fault mesh first second) two)
-      (unless_told files (λ refusal. refusal) (limit_fault mesh first second) two) (rw (no_limit mesh first second within) refl) behind_walks) answer
+      (behind files (limited mesh two) (after_limits mesh two) two outcome (sound-pass_unless files (λ line. Exactly line) (limit_fault mesh first second) two)
+      (unless_told files (λ line. Exactly line) (limit_fault mesh first second) two) (rw (no_limit mesh first second within) refl) behind_walks) answer
 
-  pub refuses_input : (refusal : Refusal) → limit_fault mesh first second ≡ Some refusal → (status ≡ Refused) × (text ≡ refusal_line refusal)
+  pub refuses_input : (line : List ℕ) → limit_fault mesh first second ≡ Some line → (status ≡ Refused) × (text ≡ line)
   unfolding two
-  refuses_input refusal e =
-      refused_so refusal outcome status text
-      (refused_behind files (limited mesh two) (after_limits mesh two) (Exactly refusal) outcome
-      (sound-pass_unless files (λ refusal. refusal) (limit_fault mesh first second) two)
-      (unless_told files (λ refusal. refusal) (limit_fault mesh first second) two) (rw e refl) behind_walks) answer
+  refuses_input line e =
+      refused_so line outcome status text
+      (refused_behind files (limited mesh two) (after_limits mesh two) (Exactly line) outcome
+      (sound-pass_unless files (λ line. Exactly line) (limit_fault mesh first second) two)
+      (unless_told files (λ line. Exactly line) (limit_fault mesh first second) two) (rw e refl) behind_walks) answer
 
 -- what is answered of such an input
 pub certified_so : (files : Option Files) (words : List (List ℕ)) (outcome : Outcome) (status : Status) (text : List ℕ) → IsOutcome files words outcome
@@ -129,9 +127,9 @@ certified_so files words outcome status text is answer =
       answered = λ mesh first second input within. (answers_input files words mesh first second outcome status text is answer input within).answered;
       exactly = λ mesh first second input within. (answers_input files words mesh first second outcome status text is answer input within).exactly;
       many_sides = λ mesh first second input many.
-          refuses_input files words mesh first second outcome status text is answer input (refusals.CertifySides (total_sides mesh))
+          refuses_input files words mesh first second outcome status text is answer input (sides_line mesh)
           (side_limit mesh first second many);
       many_darts = λ mesh first second input few many.
-          refuses_input files words mesh first second outcome status text is answer input (refusals.CertifyDarts (darts first + darts second))
+          refuses_input files words mesh first second outcome status text is answer input (darts_line first second)
           (dart_limit mesh first second few many);
     }

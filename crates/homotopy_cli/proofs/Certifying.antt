@@ -1,5 +1,5 @@
 -- What `certify` finds: a list of moves that leads, or a denial that holds.
-use Rattle.std.proofs.Common.{◌≡◌, inl, inr, ℕ, ◌+◌, ◌<◌, ◌≤◌, Bool, true, false, List, refl, sym, ap, ◌∙◌, subst, arith}
+use Rattle.std.proofs.Common.{◌≡◌, inl, inr, ℕ, ◌+◌, ◌<◌, ◌≤◌, Bool, true, false, List, refl, sym, ap, ◌∙◌, subst, arith, codes, decimal, ◌∷◌, []}
 use Rattle.std.specs.Prelude.{◌↔◌, nat_lt, if◌then◌else◌, Option, Some, None, Result, Ok, Err, MatchResult}
 use Rattle.std.proofs.lemmas.Bool.{cases_lt}
 use Rattle.std.proofs.lemmas.Bool.Decides.{nat_tests}
@@ -24,24 +24,20 @@ use Rattle.walk_translate.specs.declared.deciding.Answer.TheVariants.{Different}
 use Rattle.walk_translate.proofs.DecidingLemmas.{words_decide}
 use Rattle.move_lifting.specs.Lifts.{LeadsAtPeak}
 use Rattle.move_lifting.specs.declared.expanding.TheConstants.{MOST_LIFTED_SIDES, MOST_LIFTED_DARTS}
-use Rattle.homotopy_cli.specs.Answers.{Answer, Certified}
-use Rattle.homotopy_cli.specs.Causes.{Exactly}
+use Rattle.homotopy_cli.proofs.Checking.{stops_first, stops_next, told_stops}
+use Rattle.homotopy_cli.proofs.Deciding.{one_decision, differs}
+use Rattle.homotopy_cli.proofs.Sound.{IsSound}
+use Rattle.homotopy_cli.specs.Answers.{Answer, Exactly}
 use Rattle.homotopy_cli.specs.Certificates.{Convinces, decision_of}
-use Rattle.homotopy_cli.specs.Certify.{IsWithinLimits, Certifies, limit_fault, certified, certify}
+use Rattle.homotopy_cli.specs.Certify.{IsWithinLimits, limit_fault, certified, certify, sides_line, certificate_answer, darts_line}
 use Rattle.homotopy_cli.specs.Checks.{Check, End, Refuse, Pass, Passes, pass_unless, ◌>>=◌}
 use Rattle.homotopy_cli.specs.Inputs.{pair_in, walk_at}
-use Rattle.homotopy_cli.specs.Stops.{Stops}
+use Rattle.homotopy_cli.specs.Refusals.{told}
+use Rattle.homotopy_cli.specs.Stops.{Stops, Tells, Ends}
 use Rattle.homotopy_cli.specs.SurfaceInput.{surface_in}
 use Rattle.homotopy_cli.specs.declared.certificate.Certificate.{Certificate}
 use Rattle.homotopy_cli.specs.declared.certificate.Certificate.TheVariants.{Moves, Denial}
-use Rattle.homotopy_cli.specs.declared.refusal.Refusal.{Refusal}
-use Rattle.homotopy_cli.specs.declared.refusal.Refusal.TheVariants.{CertifySides, CertifyDarts}
 use Rattle.homotopy_cli.specs.declared.stop.Stop.{Stop}
-use Rattle.homotopy_cli.specs.declared.stop.Stop.TheVariants.{Refused}
-use Rattle.homotopy_cli.proofs.Checking.{stops_first, stops_next}
-use Rattle.homotopy_cli.proofs.Deciding.{one_decision, differs}
-use Rattle.homotopy_cli.proofs.Measuring.{numbers_from, one_numbers}
-use Rattle.homotopy_cli.proofs.Sound.{IsSound}
 
 -- ---- denials
 
@@ -86,19 +82,19 @@ one_certified mesh first second (Refuse cause) b p q = absurd p
 one_certified mesh first second (Pass x) (Refuse cause) p q = absurd q
 one_certified mesh first second (Pass x) (Pass y) p q =
     let same : p.0 ≡ q.0 = one_decision p.0 q.0 p.2 q.2 in
-    let answers : x ≡ y = p.1 ∙ ap (Certified mesh first second) same ∙ sym q.1 in
+    let answers : x ≡ y = p.1 ∙ ap (certificate_answer mesh first second) same ∙ sym q.1 in
     cc
 
 pub sound-certified : (held : Option Files) (mesh : FaceList) (first second : List ℕ) → IsSound held (certified mesh first second)
 sound-certified held mesh first second =
     record {
       some = λ none.
-          none (Pass (Certified mesh first second Different)) (
+          none (Pass (certificate_answer mesh first second Different)) (
             Different,
             refl,
             (
               (λ e. absurd (differs e)),
-              (λ h. absurd (none (Pass (Certified mesh first second answers.Homotopic)) (answers.Homotopic, refl, ((λ _. h), (λ _. refl))))),
+              (λ h. absurd (none (Pass (certificate_answer mesh first second answers.Homotopic)) (answers.Homotopic, refl, ((λ _. h), (λ _. refl))))),
             ),
           );
       one = λ _ a b p q. one_certified mesh first second a b p q;
@@ -111,7 +107,7 @@ abbrev pub after_limits : FaceList → List (List ℕ) → List (List ℕ) → C
 after_limits surface pair allowed = certified surface (walk_at pair 0) (walk_at pair 1)
 
 abbrev pub limited : FaceList → List (List ℕ) → Check (List (List ℕ))
-limited surface pair = pass_unless (λ refusal. refusal) (limit_fault surface (walk_at pair 0) (walk_at pair 1)) pair
+limited surface pair = pass_unless (λ line. Exactly line) (limit_fault surface (walk_at pair 0) (walk_at pair 1)) pair
 
 abbrev pub after_pair : FaceList → List (List ℕ) → Check Answer
 after_pair surface pair = limited surface pair >>= after_limits surface pair
@@ -131,25 +127,46 @@ pair_stops held mesh walks surface pair stop p q h =
     stops_next (surface_in held mesh) (after_surface held walks) surface stop p
     (stops_next (pair_in held walks surface) (after_pair surface) pair stop q h)
 
-pub limits_stop : (held : Option Files) (mesh walks : List ℕ) (surface : FaceList) (pair : List (List ℕ)) (refusal : Refusal)
+pub limits_stop : (held : Option Files) (mesh walks : List ℕ) (surface : FaceList) (pair : List (List ℕ)) (line : List ℕ) (stop : Stop)
     → Passes (surface_in held mesh) surface → Passes (pair_in held walks surface) pair
-    → limit_fault surface (walk_at pair 0) (walk_at pair 1) ≡ Some refusal → Stops (certify held mesh walks) (Refused refusal)
-limits_stop held mesh walks surface pair refusal p q e =
-    pair_stops held mesh walks surface pair (Refused refusal) p q
-    (stops_first (limited surface pair) (after_limits surface pair) (Refused refusal) (Exactly refusal, rw e refl, refl))
+    → limit_fault surface (walk_at pair 0) (walk_at pair 1) ≡ Some line → Tells (Exactly line) stop → Stops (certify held mesh walks) stop
+limits_stop held mesh walks surface pair line stop p q e h =
+    pair_stops held mesh walks surface pair stop p q
+    (stops_first (limited surface pair) (after_limits surface pair) stop
+    (told_stops (Exactly line) (limited surface pair) stop (rw e refl) h))
+
+-- the refusals, by the numbers that were counted
+pub sides_over : (mesh : FaceList) (first second : List ℕ) (sides : ℕ) (stop : Stop) → sides ≡ total_sides mesh → MOST_LIFTED_SIDES < sides
+    → Tells (told (codes "certify sides" ∷ decimal sides ∷ [])) stop
+    → (line : List ℕ) × (limit_fault mesh first second ≡ Some line) × Tells (Exactly line) stop
+sides_over mesh first second sides stop is many h =
+    let test : nat_lt MOST_LIFTED_SIDES (total_sides mesh) ≡ true = grind (arith, nat_tests) in
+    (sides_line mesh, rw test refl, subst (λ (n : ℕ). Tells (told (codes "certify sides" ∷ decimal n ∷ [])) stop) is h)
+
+pub darts_over : (mesh : FaceList) (first second : List ℕ) (sides number : ℕ) (stop : Stop) → sides ≡ total_sides mesh
+    → sides ≤ MOST_LIFTED_SIDES → number ≡ darts first + darts second → MOST_LIFTED_DARTS < number
+    → Tells (told (codes "certify darts" ∷ decimal number ∷ [])) stop
+    → (line : List ℕ) × (limit_fault mesh first second ≡ Some line) × Tells (Exactly line) stop
+darts_over mesh first second sides number stop is few number_is many h =
+    let short : nat_lt MOST_LIFTED_SIDES (total_sides mesh) ≡ false = grind (arith, nat_tests) in
+    let test : nat_lt MOST_LIFTED_DARTS (darts first + darts second) ≡ true = grind (arith, nat_tests) in (
+      darts_line first second,
+      rw (short, test) refl,
+      subst (λ (n : ℕ). Tells (told (codes "certify darts" ∷ decimal n ∷ [])) stop) number_is h,
+    )
 
 -- the limits of a pair that passes them
 pub allowed : (mesh : FaceList) (first second : List ℕ) → limit_fault mesh first second ≡ None → IsWithinLimits mesh first second
 allowed mesh first second e = by_sides (nat_lt MOST_LIFTED_SIDES (total_sides mesh)) refl e
   where
     by_darts : (b : Bool) → nat_lt MOST_LIFTED_DARTS (darts first + darts second) ≡ b
-        → (if b then Some (CertifyDarts (darts first + darts second)) else None) ≡ None → darts first + darts second ≤ MOST_LIFTED_DARTS
+        → (if b then Some (darts_line first second) else None) ≡ None → darts first + darts second ≤ MOST_LIFTED_DARTS
     by_darts true t f = cc
     by_darts false t f = grind (arith, nat_tests)
 
     by_sides : (b : Bool) → nat_lt MOST_LIFTED_SIDES (total_sides mesh) ≡ b
-        → (if b then Some (CertifySides (total_sides mesh))
-        else if nat_lt MOST_LIFTED_DARTS (darts first + darts second) then Some (CertifyDarts (darts first + darts second)) else None) ≡ None
+        → (if b then Some (sides_line mesh)
+        else if nat_lt MOST_LIFTED_DARTS (darts first + darts second) then Some (darts_line first second) else None) ≡ None
         → IsWithinLimits mesh first second
     by_sides true t f = cc
     by_sides false t f =
@@ -162,18 +179,12 @@ allowed mesh first second e = by_sides (nat_lt MOST_LIFTED_SIDES (total_sides me
 pub certificate_found : (held : Option Files) (mesh walks : List ℕ) (surface : FaceList) (pair : List (List ℕ)) (first second : List ℕ)
     (shown : Certificate) → IsFaceList surface → IsWalk surface first → Passes (surface_in held mesh) surface
     → Passes (pair_in held walks surface) pair → walk_at pair 0 ≡ first → walk_at pair 1 ≡ second → limit_fault surface first second ≡ None
-    → Convinces surface first second shown → Certifies (certify held mesh walks) shown
+    → Convinces surface first second shown → Passes (certify held mesh walks) (certificate_answer surface first second (decision_of shown))
 certificate_found held mesh walks surface pair first second shown valid walk p q f g few h =
-    let answer : Answer = Certified surface first second (decision_of shown) in
+    let answer : Answer = certificate_answer surface first second (decision_of shown) in
     let here : (certified surface first second).Ends (Pass answer) =
     (decision_of shown, refl, convinces_decides surface first second shown valid walk h) in
     let there : (certified surface (walk_at pair 0) (walk_at pair 1)).Ends (Pass answer) =
     subst (λ (w : List ℕ). (certified surface (walk_at pair 0) w).Ends (Pass answer)) (sym g)
     (subst (λ (w : List ℕ). (certified surface w second).Ends (Pass answer)) (sym f) here) in
-    record {
-      mesh = surface;
-      first = first;
-      second = second;
-      passes = inr (surface, p, inr (pair, q, inr (pair, rw (f, g, few) refl, there)));
-      convinces = h;
-    }
+    inr (surface, p, inr (pair, q, inr (pair, rw (f, g, few) refl, there)))

@@ -3,19 +3,17 @@ use Rattle.std.proofs.Common.{ℕ, List, [], ◌∷◌}
 use Rattle.std.specs.Prelude.{Option}
 use Rattle.surf_io.specs.Files.{Files}
 use Rattle.surf_model.specs.FaceLists.{FaceList}
-use Rattle.homotopy_cli.specs.Answers.{Outcome}
+use Rattle.homotopy_cli.proofs.Deciding.{IsRightAnswer, right_answer, behind, after_pair, after_surface}
+use Rattle.homotopy_cli.proofs.Rows.{one_row, sound-pair, sound-surface_in, surface_told, pair_told, spelled_pair, spelled_surface}
+use Rattle.homotopy_cli.proofs.Sound.{sound-found, held}
 use Rattle.homotopy_cli.specs.Checks.{found_or}
-use Rattle.homotopy_cli.specs.Commands.{Decide, IsRow}
+use Rattle.homotopy_cli.specs.Commands.{Decide, IsRow, answer_to}
 use Rattle.homotopy_cli.specs.Decide.{IsDecideInput}
 use Rattle.homotopy_cli.specs.Inputs.{pair_in, SpellsMesh, SpellsPair}
-use Rattle.homotopy_cli.specs.Outcomes.{answer_to, IsOutcome, IsAnswerOf}
+use Rattle.homotopy_cli.specs.Outcomes.{Outcome, IsOutcome, IsAnswerOf}
+use Rattle.homotopy_cli.specs.Refusals.{wrong_words}
 use Rattle.homotopy_cli.specs.SurfaceInput.{surface_in}
-use Rattle.homotopy_cli.specs.declared.refusal.Refusal.TheVariants.{Off, Walks, Pair, Certificate}
-use Rattle.homotopy_cli.specs.declared.refusal.Refusal.TheVariants as refusals
 use Rattle.homotopy_cli.specs.declared.status.Status.{Status}
-use Rattle.homotopy_cli.proofs.Deciding.{IsRightAnswer, right_answer, behind, after_pair, after_surface}
-use Rattle.homotopy_cli.proofs.Sound.{sound-found, held}
-use Rattle.homotopy_cli.proofs.Rows.{one_row, sound-pair, sound-surface_in, surface_told, pair_told, spelled_pair, spelled_surface}
 
 -- what is answered of such an input
 pub decides : (files : Option Files) (words : List (List ℕ)) (outcome : Outcome) (status : Status) (text : List ℕ) (mesh : FaceList) (first second : List ℕ)
@@ -27,7 +25,7 @@ decides files words outcome status text mesh first second is answer input =
     let pair : List (List ℕ) = first ∷ second ∷ [] in
     let passed = spelled_pair files input.walks_name mesh first second input.walks_file in
     let surface = spelled_surface files input.mesh_name mesh input.mesh_file input.is_surface in
-    let row = behind files (found_or refusals.WrongWords (IsRow words)) (answer_to files) (Decide input.mesh_name input.walks_name) outcome
+    let row = behind files (found_or wrong_words (IsRow words)) (answer_to files) (Decide input.mesh_name input.walks_name) outcome
     (sound-found files _ _ (one_row words)) tt input.words_are is in
     let walks = behind files (surface_in files input.mesh_name) (after_surface files input.walks_name) mesh outcome (sound-surface_in files input.mesh_name)
     (surface_told files input.mesh_name mesh_file.told) surface row in

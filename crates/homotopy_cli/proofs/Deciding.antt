@@ -9,21 +9,19 @@ use Rattle.surf_model.specs.Moves as moves
 use Rattle.walk_files.specs.Pairs.{IsPair}
 use Rattle.walk_translate.specs.declared.deciding.Answer as deciding
 use Rattle.walk_translate.specs.declared.deciding.Answer.TheVariants.{Homotopic, Different}
-use Rattle.homotopy_cli.specs.Answers.{Answer, Outcome, Decided}
-use Rattle.homotopy_cli.specs.Causes.{Cause}
+use Rattle.homotopy_cli.proofs.Checking.{stops_first, stops_next}
+use Rattle.homotopy_cli.proofs.Sound.{IsSound}
+use Rattle.homotopy_cli.specs.Answers.{Answer, Texts}
+use Rattle.homotopy_cli.specs.Certificates.{decision_status, decision_line}
 use Rattle.homotopy_cli.specs.Checks.{Check, End, Refuse, Pass, Passes, IsTold, ◌>>=◌}
-use Rattle.homotopy_cli.specs.Decide.{decide, decided}
+use Rattle.homotopy_cli.specs.Decide.{decide, decided, decision_answer}
 use Rattle.homotopy_cli.specs.Inputs.{pair_in, walk_at}
-use Rattle.homotopy_cli.specs.Outcomes.{IsAnswerOf}
-use Rattle.homotopy_cli.specs.Statuses.{decision_status}
-use Rattle.homotopy_cli.specs.Stops.{Stops}
+use Rattle.homotopy_cli.specs.Outcomes.{Outcome, IsAnswerOf}
+use Rattle.homotopy_cli.specs.Stops.{Stops, Ends}
 use Rattle.homotopy_cli.specs.SurfaceInput.{surface_in}
-use Rattle.homotopy_cli.specs.Texts.{decision_line}
 use Rattle.homotopy_cli.specs.declared.status.Status.{Status}
 use Rattle.homotopy_cli.specs.declared.status.Status.TheVariants.{Yes, No}
 use Rattle.homotopy_cli.specs.declared.stop.Stop.{Stop}
-use Rattle.homotopy_cli.proofs.Checking.{stops_first, stops_next}
-use Rattle.homotopy_cli.proofs.Sound.{IsSound}
 
 -- ---- a decision
 
@@ -35,11 +33,11 @@ one_decision Different Homotopic p q = p.1 (q.0 refl)
 one_decision Different Different p q = refl
 
 one_decided : (mesh : FaceList) (first second : List ℕ) (a b : End Answer) → (decided mesh first second).Ends a → (decided mesh first second).Ends b → a ≡ b
-one_decided mesh first second (Refuse cause) b p q = absurd p
-one_decided mesh first second (Pass x) (Refuse cause) p q = absurd q
+one_decided mesh first second (Refuse texts) b p q = absurd p
+one_decided mesh first second (Pass x) (Refuse texts) p q = absurd q
 one_decided mesh first second (Pass x) (Pass y) p q =
     let same : p.0 ≡ q.0 = one_decision p.0 q.0 p.2 q.2 in
-    let answers : x ≡ y = p.1 ∙ ap Decided same ∙ sym q.1 in
+    let answers : x ≡ y = p.1 ∙ ap decision_answer same ∙ sym q.1 in
     cc
 
 pub differs : Different ≡ Homotopic → ⊥
@@ -49,10 +47,10 @@ pub sound-decided : (held : Option Files) (mesh : FaceList) (first second : List
 sound-decided held mesh first second =
     record {
       some = λ none.
-          none (Pass (Decided Different)) (
+          none (Pass (decision_answer Different)) (
             Different,
             refl,
-            ((λ e. absurd (differs e)), (λ h. absurd (none (Pass (Decided Homotopic)) (Homotopic, refl, ((λ _. h), (λ _. refl)))))),
+            ((λ e. absurd (differs e)), (λ h. absurd (none (Pass (decision_answer Homotopic)) (Homotopic, refl, ((λ _. h), (λ _. refl)))))),
           );
       one = λ _ a b p q. one_decided mesh first second a b p q;
     }
@@ -74,9 +72,9 @@ right_by mesh first second Different status text right e f =
 
 pub right_answer : (mesh : FaceList) (first second : List ℕ) (outcome : Outcome) (status : Status) (text : List ℕ)
     → (decided mesh first second).Ends outcome → IsAnswerOf outcome status text → IsRightAnswer mesh first second status text
-right_answer mesh first second (Refuse cause) status text p answer = absurd p
+right_answer mesh first second (Refuse texts) status text p answer = absurd p
 right_answer mesh first second (Pass x) status text p answer =
-    let here : IsAnswerOf (Pass (Decided p.0)) status text = subst (λ (y : Answer). IsAnswerOf (Pass y) status text) p.1 answer in
+    let here : IsAnswerOf (Pass (decision_answer p.0)) status text = subst (λ (y : Answer). IsAnswerOf (Pass y) status text) p.1 answer in
     right_by mesh first second p.0 status text p.2 here.status_is here.text_is
 
 -- ---- a sequence of which the first thing is known
@@ -90,13 +88,13 @@ behind {A} {B} held first next thing end sound told p (inr q) =
     subst (λ (x : A). (next x).Ends end) same q.2
 
 -- a sequence of which the first check is known to refuse
-pub refused_behind : {A B : Type 0} (held : Option Files) (first : Check A) (next : A → Check B) (cause : Cause) (end : End B) → IsSound held first
-    → first.EachFile (IsTold held) → first.Ends (Refuse cause) → (first >>= next).Ends end → end ≡ Refuse cause
-refused_behind held first next cause end sound told p (inl q) =
-    let e = sound.one told (Refuse q.0) (Refuse cause) q.1 p in
-    let same : q.0 ≡ cause = cc in
-    q.2 ∙ ap (λ c. Refuse c) same
-refused_behind held first next cause end sound told p (inr q) = let e = sound.one told (Pass q.0) (Refuse cause) q.1 p in cc
+pub refused_behind : {A B : Type 0} (held : Option Files) (first : Check A) (next : A → Check B) (texts : Texts) (end : End B) → IsSound held first
+    → first.EachFile (IsTold held) → first.Ends (Refuse texts) → (first >>= next).Ends end → end ≡ Refuse texts
+refused_behind {A} {B} held first next texts end sound told p (inl q) =
+    let e = sound.one told (Refuse q.0) (Refuse texts) q.1 p in
+    let same : q.0 ≡ texts = cc in
+    q.2 ∙ ap (λ (t : Texts). let e : End B = Refuse t in e) same
+refused_behind held first next texts end sound told p (inr q) = let e = sound.one told (Pass q.0) (Refuse texts) q.1 p in cc
 
 -- ---- the parts of the command
 
@@ -114,7 +112,7 @@ walks_stop held mesh walks surface stop p h =
 
 pub decision_passes : (held : Option Files) (mesh walks : List ℕ) (surface : FaceList) (pair : List (List ℕ)) (decision : deciding.Answer)
     → Passes (surface_in held mesh) surface → Passes (pair_in held walks surface) pair
-    → (decision ≡ Homotopic) ↔ moves.Homotopic surface (walk_at pair 0) (walk_at pair 1) → Passes (decide held mesh walks) (Decided decision)
+    → (decision ≡ Homotopic) ↔ moves.Homotopic surface (walk_at pair 0) (walk_at pair 1) → Passes (decide held mesh walks) (decision_answer decision)
 decision_passes held mesh walks surface pair decision p q right = inr (surface, p, inr (pair, q, (decision, refl, right)))
 
 -- the two walks of a pair

@@ -20,13 +20,13 @@ use Rattle.walk_files.specs.declared.limits.TheConstants.{MOST_PEAK}
 use Rattle.walk_files.proofs.EachLemmas.{before_ok, before_ok-more}
 use Rattle.walk_files.proofs.ReaderLemmas.{moves_left-started}
 use Rattle.surf_io.specs.Files.{Files}
-use Rattle.homotopy_cli.specs.Causes.{Exactly}
+use Rattle.homotopy_cli.specs.declared.certificate.Certificate.TheVariants as certificates
+use Rattle.homotopy_cli.proofs.Checking.{told_stops, memory_stops}
 use Rattle.homotopy_cli.specs.Checks.{Passes, meant}
 use Rattle.homotopy_cli.specs.Inputs.{as_certificate, certificate_behind, certificate_of, certificate_in, IsPeakRead}
-use Rattle.homotopy_cli.specs.Stops.{Stops, certificate_stop}
+use Rattle.homotopy_cli.specs.Refusals.{certificate_line}
+use Rattle.homotopy_cli.specs.Stops.{Stops, Tells}
 use Rattle.homotopy_cli.specs.declared.certificate.Certificate.{Certificate as Certified}
-use Rattle.homotopy_cli.specs.declared.certificate.Certificate.TheVariants as certificates
-use Rattle.homotopy_cli.specs.declared.refusal.Refusal.TheVariants as refusals
 use Rattle.homotopy_cli.specs.declared.stop.Stop.{Stop}
 use Rattle.homotopy_cli.specs.declared.stop.Stop.TheVariants.{OutOfMemory}
 
@@ -93,24 +93,14 @@ pub left_start : (reader : Certificate) (text : List ℕ) (count peak : ℕ) →
     → reader.refusal ≡ None → moves_left reader ≡ moves_of_text count text
 left_start reader text count peak is_text is_head is_given kept = rw (is_text, is_head, is_given, kept) (moves_left-started text count peak)
 
--- what a fault of a certificate stops stops the check of it
-pub fault_stops : (fault : CertFault) → Stops {T = Certified} (meant refusals.Certificate (Err fault)) (certificate_stop fault)
-fault_stops NoHead = (Exactly (refusals.Certificate NoHead), refl, refl)
-fault_stops (Bad line) = (Exactly (refusals.Certificate (Bad line)), refl, refl)
-fault_stops (Ended line) = (Exactly (refusals.Certificate (Ended line)), refl, refl)
-fault_stops (Extra line) = (Exactly (refusals.Certificate (Extra line)), refl, refl)
-fault_stops (Peak line) = (Exactly (refusals.Certificate (Peak line)), refl, refl)
-fault_stops faults.OutOfMemory = tt
-
 -- a text with this fault
-pub text_stops : (text : List ℕ) (fault : CertFault) → certificate_of text ≡ Err fault
-    → Stops (meant refusals.Certificate (certificate_of text)) (certificate_stop fault)
-text_stops text fault e =
-    subst (λ (read : Result Certified CertFault). Stops (meant refusals.Certificate read) (certificate_stop fault)) (sym e) (fault_stops fault)
+pub text_stops : (text : List ℕ) (fault : CertFault) (stop : Stop) → certificate_of text ≡ Err fault → Tells (certificate_line fault) stop
+    → Stops (meant certificate_line (certificate_of text)) stop
+text_stops text fault stop e h = told_stops (certificate_line fault) (meant certificate_line (certificate_of text)) stop (rw e refl) h
 
-pub head_stops : (text : List ℕ) (fault : CertFault) → head_of_text text ≡ Err fault
-    → Stops (meant refusals.Certificate (certificate_of text)) (certificate_stop fault)
-head_stops text fault e = text_stops text fault (rw e refl)
+pub head_stops : (text : List ℕ) (fault : CertFault) (stop : Stop) → head_of_text text ≡ Err fault → Tells (certificate_line fault) stop
+    → Stops (meant certificate_line (certificate_of text)) stop
+head_stops text fault stop e h = text_stops text fault stop (rw e refl) h
 
 -- ---- the peak of a head is within the limit
 
@@ -167,7 +157,7 @@ by_head text shown (Err fault) h e = cc
 by_head text shown (Ok (Labels degree)) h e = by_denial shown (denial_of_lines degree text) e
 by_head text shown (Ok (Moves count peak)) h e = by_moves text count peak shown (moves_of_text count text) h e
 
-by_text : (text : List ℕ) (shown : Certified) (read : Result Certified CertFault) → certificate_of text ≡ read → Passes (meant refusals.Certificate read) shown
+by_text : (text : List ℕ) (shown : Certified) (read : Result Certified CertFault) → certificate_of text ≡ read → Passes (meant certificate_line read) shown
     → IsPeakRead shown
 by_text text shown (Err fault) e h = cc
 by_text text shown (Ok other) e h =
@@ -183,22 +173,21 @@ peak_within held name shown (inr p) = by_text p.0 shown (certificate_of p.0) ref
 -- a list that was gathered
 pub gathered : (text : List ℕ) (count peak : ℕ) (list : PeakedMoves) (left : Result (List Move) CertFault) → head_of_text text ≡ Ok (Moves count peak)
     → left ≡ moves_of_text count text → list.peak ≡ peak → left ≡ Ok list.moves
-    → Passes (meant refusals.Certificate (certificate_of text)) (certificates.Moves list)
+    → Passes (meant certificate_line (certificate_of text)) (certificates.Moves list)
 gathered text count peak list left h is_left is_peak is_moves =
     let is : certificate_of text ≡ Ok (certificates.Moves list) =
     list-moves text count peak list.moves h (sym is_left ∙ is_moves)
     ∙ ap (λ (p : ℕ). let r : Result Certified CertFault = Ok (certificates.Moves (record { moves = list.moves; peak = p })) in r) (sym is_peak) in
-    subst (λ (read : Result Certified CertFault). Passes (meant refusals.Certificate read) (certificates.Moves list)) (sym is) refl
+    subst (λ (read : Result Certified CertFault). Passes (meant certificate_line read) (certificates.Moves list)) (sym is) refl
 
 -- and one with a fault
 pub not_gathered : (text : List ℕ) (count peak : ℕ) (stop : Stop) (left : Result (List Move) CertFault) → head_of_text text ≡ Ok (Moves count peak)
     → left ≡ moves_of_text count text
-    → (stop ≡ OutOfMemory) ⊎ ((fault : CertFault) × (left ≡ Err fault) × (stop ≡ certificate_stop fault))
-    → Stops (meant refusals.Certificate (certificate_of text)) stop
-not_gathered text count peak stop left h is_left (inl e) = subst (Stops (meant refusals.Certificate (certificate_of text))) (sym e) tt
+    → (stop ≡ OutOfMemory) ⊎ ((fault : CertFault) × (left ≡ Err fault) × Tells (certificate_line fault) stop)
+    → Stops (meant certificate_line (certificate_of text)) stop
+not_gathered text count peak stop left h is_left (inl e) = subst (Stops (meant certificate_line (certificate_of text))) (sym e) tt
 not_gathered text count peak stop left h is_left (inr p) =
-    subst (Stops (meant refusals.Certificate (certificate_of text))) (sym p.2)
-    (text_stops text p.0 (list-wrong text count peak p.0 h (sym is_left ∙ p.1)))
+    text_stops text p.0 stop (list-wrong text count peak p.0 h (sym is_left ∙ p.1)) p.2
 
 -- a reader that has just started has the whole denial of the text to give
 pub denial_start : (reader : Certificate) (text : List ℕ) (degree : ℕ) → reader.text ≡ text → reader.head ≡ Labels degree → reader.given ≡ 0
@@ -206,17 +195,17 @@ pub denial_start : (reader : Certificate) (text : List ℕ) (degree : ℕ) → r
 denial_start reader text degree is_text is_head is_given kept = rw (is_text, is_head, is_given, kept) refl
 
 pub denial_passes : (text : List ℕ) (degree : ℕ) (denial : Denial) → head_of_text text ≡ Ok (Labels degree) → denial_of_lines degree text ≡ Ok denial
-    → Passes (meant refusals.Certificate (certificate_of text)) (certificates.Denial denial)
+    → Passes (meant certificate_line (certificate_of text)) (certificates.Denial denial)
 denial_passes text degree denial h e =
     let is : certificate_of text ≡ Ok (certificates.Denial denial) = rw (h, e) refl in
-    subst (λ (read : Result Certified CertFault). Passes (meant refusals.Certificate read) (certificates.Denial denial)) (sym is) refl
+    subst (λ (read : Result Certified CertFault). Passes (meant certificate_line read) (certificates.Denial denial)) (sym is) refl
 
-pub denial_stops : (text : List ℕ) (degree : ℕ) (fault : CertFault) → head_of_text text ≡ Ok (Labels degree)
-    → (Err fault ≡ denial_of_lines degree text) ⊎ (fault ≡ faults.OutOfMemory)
-    → Stops (meant refusals.Certificate (certificate_of text)) (certificate_stop fault)
-denial_stops text degree fault h (inl e) = text_stops text fault (rw (h, ← e) refl)
-denial_stops text degree fault h (inr e) =
-    subst (λ (f : CertFault). Stops (meant refusals.Certificate (certificate_of text)) (certificate_stop f)) (sym e) tt
+pub denial_stops : (text : List ℕ) (degree : ℕ) (fault : CertFault) (stop : Stop) → head_of_text text ≡ Ok (Labels degree)
+    → (Err fault ≡ denial_of_lines degree text) ⊎ (fault ≡ faults.OutOfMemory) → Tells (certificate_line fault) stop
+    → Stops (meant certificate_line (certificate_of text)) stop
+denial_stops text degree fault stop h (inl e) told = text_stops text fault stop (rw (h, ← e) refl) told
+denial_stops text degree fault stop h (inr e) told =
+    memory_stops (meant certificate_line (certificate_of text)) stop (subst (λ (f : CertFault). Tells (certificate_line f) stop) e told)
 
 -- what a reader of a denial gives is that of the text, unless memory is wanting
 pub denial_or_memory : (text : List ℕ) (degree : ℕ) (reader : Certificate) (fault : CertFault) → denial_left reader ≡ denial_of_lines degree text

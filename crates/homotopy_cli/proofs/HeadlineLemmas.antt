@@ -5,12 +5,10 @@ use Rattle.surf_io.specs.Files.{Files}
 use Rattle.surf_model.specs.FaceLists.{FaceList}
 use Rattle.surf_model.specs.Moves as moves
 use Rattle.walk_translate.specs.declared.deciding.Answer.TheVariants.{Homotopic, Different}
-use Rattle.homotopy_cli.specs.Certificates.{Convinces, decision_of}
-use Rattle.homotopy_cli.specs.Certify.{IsCertificatePrinted, IsCertified}
+use Rattle.homotopy_cli.specs.Certificates.{Convinces, decision_of, decision_status, decision_line, certificate_text}
+use Rattle.homotopy_cli.specs.Certify.{IsCertified}
 use Rattle.homotopy_cli.specs.Decide.{IsDecided}
 use Rattle.homotopy_cli.specs.Headline.{SaysHomotopic, SaysDifferent, PrintsList, PrintsDenial, Headline}
-use Rattle.homotopy_cli.specs.Statuses.{decision_status}
-use Rattle.homotopy_cli.specs.Texts.{decision_line, certificate_text}
 use Rattle.homotopy_cli.specs.declared.certificate.Certificate.{Certificate}
 use Rattle.homotopy_cli.specs.declared.certificate.Certificate.TheVariants.{Moves, Denial}
 use Rattle.homotopy_cli.specs.declared.status.Status.{Status}

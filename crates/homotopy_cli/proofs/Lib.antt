@@ -1,4 +1,5 @@
 pub mod Checking
+pub mod Running
 pub mod Gathering
 pub mod Pieces
 pub mod Writing

@@ -15,16 +15,16 @@ use Rattle.halfedge_map.specs.DartMaps.{used_vertices, euler_of}
 use Rattle.tree_cotree.specs.Splits.{SplitView, IsSplit}
 use Rattle.tree_cotree.proofs.LawLemmas.{exact}
 use Rattle.tree_cotree.proofs.GenusLemmas.{table_and_genus}
-use Rattle.homotopy_cli.specs.Answers.{Answer, Measured}
-use Rattle.homotopy_cli.specs.Causes.{Exactly, NotOrientable}
-use Rattle.homotopy_cli.specs.Checks.{Check, End, Refuse, Pass, Passes, pass, ◌>>=◌}
-use Rattle.homotopy_cli.specs.Inputs.{mesh_in}
-use Rattle.homotopy_cli.specs.Surface.{AreNumbersOf, numbers_of, surface}
-use Rattle.homotopy_cli.specs.SurfaceInput.{as_surface, surface_in}
-use Rattle.homotopy_cli.specs.declared.numbers.SurfaceNumbers.{SurfaceNumbers}
-use Rattle.homotopy_cli.specs.declared.refusal.Refusal.TheVariants.{NotClosed}
 use Rattle.homotopy_cli.proofs.MeshTexts.{mesh_valid}
 use Rattle.homotopy_cli.proofs.Sound.{IsSound}
+use Rattle.homotopy_cli.specs.Answers.{Answer, OfOddChain, yes_with}
+use Rattle.homotopy_cli.specs.Checks.{Check, End, Refuse, Pass, Passes, pass, ◌>>=◌}
+use Rattle.homotopy_cli.specs.Inputs.{mesh_in}
+use Rattle.homotopy_cli.specs.Refusals.{surface_line}
+use Rattle.homotopy_cli.specs.Stops.{Ends}
+use Rattle.homotopy_cli.specs.Surface.{AreNumbersOf, numbers_of, surface, numbers_text}
+use Rattle.homotopy_cli.specs.SurfaceInput.{as_surface, surface_in}
+use Rattle.homotopy_cli.specs.declared.surface.SurfaceNumbers.{SurfaceNumbers}
 
 -- from natural numbers to integers
 genus_from : (v e f g : ℕ) → v + f + 2 * g ≡ e + 2 → pos 2 -ℤ pos (2 * g) ≡ (pos v -ℤ pos e) +ℤ pos f
@@ -99,7 +99,7 @@ sound-numbers held mesh valid is =
 -- ---- how the checks of `surface` end
 
 abbrev pub with_numbers : FaceList → Check Answer
-with_numbers mesh = numbers_of mesh >>= (λ numbers. pass (Measured numbers))
+with_numbers mesh = numbers_of mesh >>= (λ numbers. pass (yes_with (numbers_text numbers)))
 
 as_passed : (mesh surface : FaceList) → Passes (as_surface mesh) surface → (surface ≡ mesh) × IsSurface mesh
 as_passed mesh surface (inl p) = let e = p.2 in cc
@@ -132,18 +132,18 @@ behind_mesh held name mesh end p (inl h) = inl (h.0, inr (mesh, p, h.1), h.2)
 behind_mesh held name mesh end p (inr h) = inr (h.0, inr (mesh, p, h.1), h.2)
 
 pub fault_ends : (mesh : FaceList) (fault : SurfaceFault) → IsFirstFault mesh fault
-    → (as_surface mesh >>= with_numbers).Ends (Refuse (Exactly (NotClosed fault)))
+    → (as_surface mesh >>= with_numbers).Ends (Refuse (surface_line fault))
 fault_ends mesh fault first =
-    inl (Exactly (NotClosed fault), inl (Exactly (NotClosed fault), (fault, first, refl), refl), refl)
+    inl (surface_line fault, inl (surface_line fault, (fault, first, refl), refl), refl)
 
-pub turned_ends : (mesh : FaceList) → IsClosed mesh → (IsOrientable mesh → ⊥) → (as_surface mesh >>= with_numbers).Ends (Refuse (NotOrientable mesh))
-turned_ends mesh closed turned = inl (NotOrientable mesh, inr (mesh, (closed, refl), (turned, refl)), refl)
+pub turned_ends : (mesh : FaceList) → IsClosed mesh → (IsOrientable mesh → ⊥) → (as_surface mesh >>= with_numbers).Ends (Refuse (OfOddChain mesh))
+turned_ends mesh closed turned = inl (OfOddChain mesh, inr (mesh, (closed, refl), (turned, refl)), refl)
 
 pub numbers_end : (mesh : FaceList) (numbers : SurfaceNumbers) → IsSurface mesh → AreNumbersOf mesh numbers
-    → (as_surface mesh >>= with_numbers).Ends (Pass (Measured numbers))
+    → (as_surface mesh >>= with_numbers).Ends (Pass (yes_with (numbers_text numbers)))
 numbers_end mesh numbers is are = inr (mesh, inr (mesh, (is.closed, refl), (is.orientable, refl)), inr (numbers, are, refl))
 
 -- a surface of a file, with its numbers
 pub numbers_pass : (held : Option Files) (name : List ℕ) (mesh : FaceList) (numbers : SurfaceNumbers) → Passes (surface_in held name) mesh
-    → AreNumbersOf mesh numbers → Passes (surface held name) (Measured numbers)
+    → AreNumbersOf mesh numbers → Passes (surface held name) (yes_with (numbers_text numbers))
 numbers_pass held name mesh numbers p are = inr (mesh, p, inr (numbers, are, refl))

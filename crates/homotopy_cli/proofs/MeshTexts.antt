@@ -14,7 +14,7 @@ use Rattle.off_reader.specs.declared.off_fault.OffFault.TheVariants.{TooMany, Un
 use Rattle.off_reader.proofs.RingLemmas.{ring_face, ring_room}
 use Rattle.homotopy_cli.specs.Checks.{Passes, meant}
 use Rattle.homotopy_cli.specs.Inputs.{mesh_in}
-use Rattle.homotopy_cli.specs.declared.refusal.Refusal.TheVariants.{Off}
+use Rattle.homotopy_cli.specs.Refusals.{off_line}
 
 -- ---- a header has few vertices
 
@@ -167,7 +167,7 @@ by_header end lines mesh (Ok header) is e =
 pub is_face_list : (text : List ℕ) (mesh : FaceList) → meaning_of text ≡ Ok mesh → IsFaceList mesh
 is_face_list text mesh e = by_header (end_line text) (full_lines text) mesh (header_of (full_lines text)) refl e
 
-by_meaning : (mesh : FaceList) (text : List ℕ) (read : Result FaceList OffFault) → meaning_of text ≡ read → Passes (meant Off read) mesh → IsFaceList mesh
+by_meaning : (mesh : FaceList) (text : List ℕ) (read : Result FaceList OffFault) → meaning_of text ≡ read → Passes (meant off_line read) mesh → IsFaceList mesh
 by_meaning mesh text (Err fault) is h = cc
 by_meaning mesh text (Ok other) is h = let same : other ≡ mesh = cc in is_face_list text mesh (is ∙ ap (λ (m : FaceList). Ok m) same)
 

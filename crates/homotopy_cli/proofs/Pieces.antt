@@ -10,7 +10,7 @@ use Rattle.surf_io.specs.Calls.{WrotePart}
 use Rattle.surf_io.specs.Faults.{Rose}
 use Rattle.surf_io.proofs.Appending.{appends_twice, prefix_after, prefix_wider}
 use Rattle.surf_model.specs.declared.chains.ChainLink.{ChainLink}
-use Rattle.homotopy_cli.specs.Refusals.{behind_blank, link_phrases, odd_chain_line}
+use Rattle.homotopy_cli.specs.Lines.{behind_blank, link_phrases, odd_chain_line}
 
 -- Some bytes were written. With the piece behind them they are this text.
 pub record IsGathered (old new : Option (List ℕ)) (piece text : List ℕ) : Type 0 where

@@ -2,25 +2,25 @@
 use Rattle.std.proofs.Common.{◌≡◌, inl, inr, ℕ, List, sym, ap, ◌∙◌, subst}
 use Rattle.std.specs.Prelude.{Option}
 use Rattle.surf_io.specs.Files.{Files}
-use Rattle.homotopy_cli.specs.Answers.{Outcome, Reduced}
-use Rattle.homotopy_cli.specs.Checks.{Pass, IsTold}
-use Rattle.homotopy_cli.specs.Commands.{Row, Reduce, IsRow}
-use Rattle.homotopy_cli.specs.Outcomes.{answer_to, IsOutcome, AllTold, IsAnswerOf}
-use Rattle.homotopy_cli.specs.Reduce.{IsReduceInput, AreCanonicalOf, IsReduced, reduce}
-use Rattle.homotopy_cli.specs.Statuses.{status_of}
-use Rattle.homotopy_cli.specs.declared.status.Status.{Status}
-use Rattle.homotopy_cli.specs.declared.status.Status.TheVariants.{Yes}
 use Rattle.homotopy_cli.proofs.Reducing.{canonical_there, reduce_passes, reduce_told, yes_input, input_words, input_told}
 use Rattle.homotopy_cli.proofs.Rows.{one_row}
+use Rattle.homotopy_cli.specs.Answers.{yes_with}
+use Rattle.homotopy_cli.specs.Checks.{Pass, IsTold}
+use Rattle.homotopy_cli.specs.Commands.{Row, Reduce, answer_to}
+use Rattle.homotopy_cli.specs.Outcomes.{Outcome, IsOutcome, AllTold, IsAnswerOf, status_of}
+use Rattle.homotopy_cli.specs.Reduce.{IsReduceInput, AreCanonicalOf, IsReduced, reduce, words_text, IsReduceRow}
+use Rattle.homotopy_cli.specs.Stops.{Ends}
+use Rattle.homotopy_cli.specs.declared.status.Status.{Status}
+use Rattle.homotopy_cli.specs.declared.status.Status.TheVariants.{Yes}
 
 -- where the words are those of `reduce`, each of their outcomes is one of it
-reduce_outcome : (files : Option Files) (words : List (List ℕ)) (degree : ℕ) (name : List ℕ) (outcome : Outcome) → IsRow words (Reduce degree name)
+reduce_outcome : (files : Option Files) (words : List (List ℕ)) (degree : ℕ) (name : List ℕ) (outcome : Outcome) → IsReduceRow words degree name
     → IsOutcome files words outcome → status_of outcome ≡ Yes → (reduce files degree name).Ends outcome
 reduce_outcome files words degree name outcome row (inl p) e = let refused = ap status_of p.2 in cc
 reduce_outcome files words degree name outcome row (inr p) e =
     subst (λ (r : Row). (answer_to files r).Ends outcome) (one_row words p.0 (Reduce degree name) p.1 row) p.2
 
-reduce_all_told : (files : Option Files) (words : List (List ℕ)) (degree : ℕ) (name : List ℕ) → IsRow words (Reduce degree name) → IsTold files name
+reduce_all_told : (files : Option Files) (words : List (List ℕ)) (degree : ℕ) (name : List ℕ) → IsReduceRow words degree name → IsTold files name
     → AllTold files words
 reduce_all_told files words degree name row told = (
   tt,
@@ -32,10 +32,10 @@ pub reduced : (files : Option Files) (words : List (List ℕ)) (outcome : Outcom
     → IsAnswerOf outcome status text
     → (AllTold files words → (other : Outcome) → IsOutcome files words other → IsAnswerOf other status text) → IsReduced files words status text
 reduced files words outcome status text is answer exact =
-    let good : (degree : ℕ) (name : List ℕ) (turns canonical : List (List ℕ)) → IsRow words (Reduce degree name) → IsReduceInput files degree name turns
-    → AreCanonicalOf degree turns canonical → IsAnswerOf (Pass (Reduced canonical)) status text =
+    let good : (degree : ℕ) (name : List ℕ) (turns canonical : List (List ℕ)) → IsReduceRow words degree name → IsReduceInput files degree name turns
+    → AreCanonicalOf degree turns canonical → IsAnswerOf (Pass (yes_with (words_text canonical))) status text =
     λ degree name turns canonical row input are.
-    exact (reduce_all_told files words degree name row (input_told files degree name turns input)) (Pass (Reduced canonical))
+    exact (reduce_all_told files words degree name row (input_told files degree name turns input)) (Pass (yes_with (words_text canonical)))
     (inr (Reduce degree name, row, reduce_passes files degree name turns canonical input are)) in
     record {
       yes = λ degree name row told. (

@@ -13,32 +13,32 @@ use Rattle.walk_files.specs.NumberTexts.{words_of}
 use Rattle.walk_files.specs.declared.fault.WalkFault.{WalkFault}
 use Rattle.walk_files.specs.declared.limits.TheConstants.{MOST_ENTRIES}
 use Rattle.walk_files.proofs.WordLists.{words_of-short}
-use Rattle.homotopy_cli.specs.Answers.{Outcome, Reduced}
-use Rattle.homotopy_cli.specs.Causes.{Exactly}
-use Rattle.homotopy_cli.specs.Checks.{End, Refuse, Pass, Passes, IsTold, file, meant, pass_unless}
-use Rattle.homotopy_cli.specs.Reduce.{SpellsTurnWords, IsReduceInput, AreCanonicalOf, entries_on, degree_fault, lines_in, range_fault, canonical_words, reduce}
-use Rattle.homotopy_cli.specs.Statuses.{status_of}
-use Rattle.homotopy_cli.specs.Stops.{Stops}
+use Rattle.homotopy_cli.specs.declared.refusal.Input.TheVariants as inputs
+use Rattle.homotopy_cli.specs.declared.stop.Stop.TheVariants as stops
+use Rattle.homotopy_cli.proofs.Checking.{stops_first, told_stops, stops_next}
+use Rattle.homotopy_cli.proofs.Running.{tells_no_fault}
+use Rattle.homotopy_cli.proofs.Sound.{IsSound, sound-then, sound-pass, sound-meant, sound-pass_unless, sound-file, held}
+use Rattle.homotopy_cli.specs.Answers.{Answer, Texts, yes_with}
+use Rattle.homotopy_cli.specs.Checks.{End, Refuse, Pass, Passes, IsTold, meant, pass_unless, Check, pass, ◌>>=◌}
+use Rattle.homotopy_cli.specs.Outcomes.{Outcome, status_of}
+use Rattle.homotopy_cli.specs.Reduce.{SpellsTurnWords, IsReduceInput, AreCanonicalOf, entries_on, degree_fault, lines_in, range_fault, canonical_words, reduce, range_line, degree_line, words_text}
+use Rattle.homotopy_cli.specs.Refusals.{numbers_line}
+use Rattle.homotopy_cli.specs.Stops.{Stops, Tells, Ends}
 use Rattle.homotopy_cli.specs.declared.inputs.TheConstants.{MOST_BYTES}
 use Rattle.homotopy_cli.specs.declared.reduce.TheConstants.{LEAST_DEGREE}
-use Rattle.homotopy_cli.specs.declared.refusal.Input.TheVariants as inputs
-use Rattle.homotopy_cli.specs.declared.refusal.Refusal.{Refusal}
-use Rattle.homotopy_cli.specs.declared.refusal.Refusal.TheVariants.{Degree, TurnWords, Range}
 use Rattle.homotopy_cli.specs.declared.status.Status.TheVariants.{Yes}
 use Rattle.homotopy_cli.specs.declared.stop.Stop.{Stop}
-use Rattle.homotopy_cli.specs.declared.stop.Stop.TheVariants as stops
-use Rattle.homotopy_cli.proofs.Sound.{IsSound, sound-then, sound-pass, sound-meant, sound-pass_unless, sound-file, held}
 
 -- ---- the parts
 
-pub unless_passed : {T F : Type 0} (refusal : F → Refusal) (fault : Option F) (thing passed : T)
-    → Passes (pass_unless refusal fault thing) passed → (fault ≡ None) × (passed ≡ thing)
-unless_passed refusal None thing passed h = (refl, cc)
-unless_passed refusal (Some fault) thing passed h = cc
+pub unless_passed : {T F : Type 0} (line_of : F → Texts) (fault : Option F) (thing passed : T)
+    → Passes (pass_unless line_of fault thing) passed → (fault ≡ None) × (passed ≡ thing)
+unless_passed line_of None thing passed h = (refl, cc)
+unless_passed line_of (Some fault) thing passed h = cc
 
-meant_passed : {T F : Type 0} (refusal : F → Refusal) (read : Result T F) (passed : T) → Passes (meant refusal read) passed → read ≡ Ok passed
-meant_passed refusal (Ok thing) passed h = cc
-meant_passed refusal (Err fault) passed h = cc
+meant_passed : {T F : Type 0} (line_of : F → Texts) (read : Result T F) (passed : T) → Passes (meant line_of read) passed → read ≡ Ok passed
+meant_passed line_of (Ok thing) passed h = cc
+meant_passed line_of (Err fault) passed h = cc
 
 pub no_degree_fault : (degree : ℕ) → LEAST_DEGREE ≤ degree → degree_fault degree ≡ None
 no_degree_fault degree least = let large : nat_lt degree LEAST_DEGREE ≡ false = grind arith in rw large refl
@@ -161,32 +161,32 @@ sound-canonical held degree turns h =
 -- ---- the command
 
 sound-lines : (held : Option Files) (name : List ℕ) → IsSound held (lines_in held name)
-sound-lines held name = sound-then held _ _ (sound-file held name _) (λ bytes _. sound-meant held TurnWords (words_of bytes))
+sound-lines held name = sound-then held _ _ (sound-file held name inputs.TurnWords) (λ bytes _. sound-meant held (numbers_line inputs.TurnWords) (words_of bytes))
 
 pub sound-reduce : (held : Option Files) (degree : ℕ) (list : List ℕ) → IsSound held (reduce held degree list)
 sound-reduce held degree list =
-    sound-then held _ _ (sound-pass_unless held Degree (degree_fault degree) degree)
+    sound-then held _ _ (sound-pass_unless held degree_line (degree_fault degree) degree)
     (λ allowed h. sound-then held _ _ (sound-lines held list)
-    (λ lines _. sound-then held _ _ (sound-pass_unless held Range (range_fault degree lines) (entries_on lines))
+    (λ lines _. sound-then held _ _ (sound-pass_unless held range_line (range_fault degree lines) (entries_on lines))
     (λ turns k. sound-then held _ _ (sound-canonical held degree turns (words_passed degree allowed lines turns h k)) (λ canonical _. sound-pass held _))))
   where
-    words_passed : (degree allowed : ℕ) (lines : List NumberLine) (turns : List (List ℕ)) → Passes (pass_unless Degree (degree_fault degree) degree) allowed
-        → Passes (pass_unless Range (range_fault degree lines) (entries_on lines)) turns → All (IsTurnWord degree) turns
+    words_passed : (degree allowed : ℕ) (lines : List NumberLine) (turns : List (List ℕ)) → Passes (pass_unless degree_line (degree_fault degree) degree) allowed
+        → Passes (pass_unless range_line (range_fault degree lines) (entries_on lines)) turns → All (IsTurnWord degree) turns
     words_passed degree allowed lines turns h k =
-        let least = least_degree degree (unless_passed Degree (degree_fault degree) degree allowed h).0 in
-        let both = unless_passed Range (range_fault degree lines) (entries_on lines) turns k in
+        let least = least_degree degree (unless_passed degree_line (degree_fault degree) degree allowed h).0 in
+        let both = unless_passed range_line (range_fault degree lines) (entries_on lines) turns k in
         subst (All (IsTurnWord degree)) (sym both.1) (in_range degree lines least both.0)
 
 -- ---- `reduce` in the words of the list
 
 pub list_passes : (files : Option Files) (degree : ℕ) (name : List ℕ) (lines : List NumberLine) (canonical : List (List ℕ)) → LEAST_DEGREE ≤ degree
     → Passes (lines_in files name) lines → range_fault degree lines ≡ None → AreCanonicalOf degree (entries_on lines) canonical
-    → Passes (reduce files degree name) (Reduced canonical)
+    → Passes (reduce files degree name) (yes_with (words_text canonical))
 list_passes files degree name lines canonical least passed range are =
     inr (degree, rw (no_degree_fault degree least) refl, inr (lines, passed, inr (entries_on lines, rw range refl, inr (canonical, are, refl))))
 
 pub reduce_passes : (files : Option Files) (degree : ℕ) (name : List ℕ) (turns canonical : List (List ℕ)) → IsReduceInput files degree name turns
-    → AreCanonicalOf degree turns canonical → Passes (reduce files degree name) (Reduced canonical)
+    → AreCanonicalOf degree turns canonical → Passes (reduce files degree name) (yes_with (words_text canonical))
 reduce_passes files degree name turns canonical input are =
     let list_file = held files name (SpellsTurnWords degree turns) input.list_file in
     let spelled = list_file.holds in
@@ -204,77 +204,79 @@ input_words files degree name turns input = (held files name (SpellsTurnWords de
 
 -- ---- the calls
 
-pub degree_stops : (files : Option Files) (degree : ℕ) (name : List ℕ) → degree < LEAST_DEGREE → Stops (reduce files degree name) (stops.Refused (Degree degree))
-degree_stops files degree name small =
+-- what is looked at behind the lines, and behind the degree
+abbrev behind_lines : ℕ → List NumberLine → Check Answer
+behind_lines degree lines =
+    pass_unless range_line (range_fault degree lines) (entries_on lines)
+    >>= (λ turns. canonical_words degree turns >>= (λ canonical. pass (yes_with (words_text canonical))))
+
+abbrev behind_degree : Option Files → ℕ → List ℕ → Check Answer
+behind_degree files degree name = lines_in files name >>= behind_lines degree
+
+pub degree_stops : (files : Option Files) (degree : ℕ) (name : List ℕ) (stop : Stop) → degree < LEAST_DEGREE → Tells (degree_line degree) stop
+    → Stops (reduce files degree name) stop
+degree_stops files degree name stop small h =
     let test : nat_lt degree LEAST_DEGREE ≡ true = grind arith in
-    let fault : degree_fault degree ≡ Some degree = rw test refl in (Exactly (Degree degree), inl (Exactly (Degree degree), rw fault refl, refl), refl)
+    let fault : degree_fault degree ≡ Some degree = rw test refl in
+    told_stops (degree_line degree) (reduce files degree name) stop (inl (degree_line degree, rw fault refl, refl)) h
 
 pub lines_stop : (files : Option Files) (degree : ℕ) (name : List ℕ) (stop : Stop) → LEAST_DEGREE ≤ degree → Stops (lines_in files name) stop
     → Stops (reduce files degree name) stop
-lines_stop files degree name (stops.Refused refusal) least h =
-    (h.0, inr (degree, rw (no_degree_fault degree least) refl, inl (h.0, h.1, refl)), h.2)
-lines_stop files degree name stops.ReadFault least h = tt
-lines_stop files degree name stops.OutOfMemory least h = tt
+lines_stop files degree name stop least h =
+    stops_next (pass_unless degree_line (degree_fault degree) degree) (λ _. behind_degree files degree name) degree stop
+    (rw (no_degree_fault degree least) refl)
+    (stops_first (lines_in files name) (behind_lines degree) stop h)
 
 pub short_lines : (files : Option Files) (name : List ℕ) (lines : List NumberLine) → Passes (lines_in files name) lines
     → All (λ line. length line.numbers ≤ MOST_ENTRIES) lines
 short_lines files name lines (inl p) = let same = p.2 in cc
-short_lines files name lines (inr p) = words_of-short p.0 lines (meant_passed TurnWords (words_of p.0) lines p.2)
-
--- a list file, by what its bytes mean
-pub lines_end : (files : Option Files) (name bytes : List ℕ) (result : Result (List NumberLine) Stop) → Passes (file files name inputs.TurnWords) bytes
-    → MatchResult result (λ lines. words_of bytes ≡ Ok lines)
-    (λ stop. (stop ≡ stops.OutOfMemory) ⊎ ((fault : WalkFault) × (words_of bytes ≡ Err fault) × (stop ≡ stops.Refused (TurnWords fault))))
-    → MatchResult result (Passes (lines_in files name)) (Stops (lines_in files name))
-lines_end files name bytes (Ok lines) p h = inr (bytes, p, rw h refl)
-lines_end files name bytes (Err stop) p (inl e) = subst (Stops (lines_in files name)) (sym e) tt
-lines_end files name bytes (Err stop) p (inr f) =
-    subst (Stops (lines_in files name)) (sym f.2) (Exactly (TurnWords f.0), inr (bytes, p, rw f.1 refl), refl)
+short_lines files name lines (inr p) = words_of-short p.0 lines (meant_passed (numbers_line inputs.TurnWords) (words_of p.0) lines p.2)
 
 -- what stops one line stops the command
 pub line_stops : (degree : ℕ) (lines : List NumberLine) (k : ℕ) (stop : Stop) → k < length lines → All (IsTurnWord degree) (take k (entries_on lines))
     → (stop ≡ stops.OutOfMemory) ⊎ ((list_all (λ entry. nat_lt entry degree) (line_at lines k).numbers ≡ false)
-    × (stop ≡ stops.Refused (Range (line_at lines k).line)))
-    → (stop ≡ stops.OutOfMemory) ⊎ ((line : ℕ) × (range_fault degree lines ≡ Some line) × (stop ≡ stops.Refused (Range line)))
+    × Tells (range_line (line_at lines k).line) stop)
+    → (stop ≡ stops.OutOfMemory) ⊎ ((line : ℕ) × (range_fault degree lines ≡ Some line) × Tells (range_line line) stop)
 line_stops degree lines k stop below before (inl e) = inl e
 line_stops degree lines k stop below before (inr h) = inr ((line_at lines k).line, range_found degree lines k below before h.0, h.1)
 
--- what the canonical words are makes the end of the command
-pub words_end : {W : Type 0} (files : Option Files) (degree : ℕ) (name : List ℕ) (lines : List NumberLine) (result : Result W Stop)
-    (items : W → List (List ℕ)) → LEAST_DEGREE ≤ degree → Passes (lines_in files name) lines
-    → MatchResult result (λ words. (range_fault degree lines ≡ None) × AreCanonicalOf degree (entries_on lines) (items words))
-    (λ stop. (stop ≡ stops.OutOfMemory) ⊎ ((line : ℕ) × (range_fault degree lines ≡ Some line) × (stop ≡ stops.Refused (Range line))))
-    → MatchResult result (λ words. Passes (reduce files degree name) (Reduced (items words))) (Stops (reduce files degree name))
-words_end files degree name lines (Ok words) items least passed h = list_passes files degree name lines (items words) least passed h.0 h.1
-words_end files degree name lines (Err stop) items least passed (inl e) = subst (Stops (reduce files degree name)) (sym e) tt
-words_end files degree name lines (Err stop) items least passed (inr h) =
-    subst (Stops (reduce files degree name)) (sym h.2)
-    (Exactly (Range h.0), inr (degree, rw (no_degree_fault degree least) refl, inr (lines, passed, inl (Exactly (Range h.0), rw h.1 refl, refl))), refl)
+-- what stops the canonical words stops the command
+pub words_stop : (files : Option Files) (degree : ℕ) (name : List ℕ) (lines : List NumberLine) (stop : Stop) → LEAST_DEGREE ≤ degree
+    → Passes (lines_in files name) lines
+    → (stop ≡ stops.OutOfMemory) ⊎ ((line : ℕ) × (range_fault degree lines ≡ Some line) × Tells (range_line line) stop)
+    → Stops (reduce files degree name) stop
+words_stop files degree name lines stop least passed (inl e) = subst (Stops (reduce files degree name)) (sym e) tt
+words_stop files degree name lines stop least passed (inr h) =
+    told_stops (range_line h.0) (reduce files degree name) stop
+    (inr (degree, rw (no_degree_fault degree least) refl, inr (lines, passed, inl (range_line h.0, rw h.1 refl, refl)))) h.2
 
--- where no file is looked at, the degree is too small
-pub untouched : {X : Type 0} (files : Option Files) (degree : ℕ) (name : List ℕ) (old new : X) → (reduce files degree name).EachFile (λ _. ⊥)
-    → (degree < LEAST_DEGREE → new ≡ old) → new ≡ old
-untouched files degree name old new none small = elim (cases_lt degree LEAST_DEGREE) [
-  | inl below ↦ small below
-  | inr least ↦ absurd (none.1 degree (rw (no_degree_fault degree least) refl)).0.0
-]
+-- where the degree is in order, a file is looked at
+pub looks_at_file : (files : Option Files) (degree : ℕ) (name : List ℕ) → LEAST_DEGREE ≤ degree → (reduce files degree name).EachFile (λ _. ⊥) → ⊥
+looks_at_file files degree name least none = (none.1 degree (rw (no_degree_fault degree least) refl)).0.0
 
-unless_told : {T F : Type 0} (files : Option Files) (refusal : F → Refusal) (fault : Option F) (thing : T)
-    → (pass_unless refusal fault thing).EachFile (IsTold files)
-unless_told files refusal None thing = tt
-unless_told files refusal (Some fault) thing = tt
+-- what stops the canonical words is no read fault
+pub words_no_fault : (degree : ℕ) (lines : List NumberLine) (stop : Stop)
+    → (stop ≡ stops.OutOfMemory) ⊎ ((line : ℕ) × (range_fault degree lines ≡ Some line) × Tells (range_line line) stop)
+    → stop ≡ stops.ReadFault → ⊥
+words_no_fault degree lines stop (inl wanting) e = cc
+words_no_fault degree lines stop (inr h) e = tells_no_fault (range_line h.0) stop h.2 e
 
-meant_told : {T F : Type 0} (files : Option Files) (refusal : F → Refusal) (read : Result T F) → (meant refusal read).EachFile (IsTold files)
-meant_told files refusal (Ok thing) = tt
-meant_told files refusal (Err fault) = tt
+unless_told : {T F : Type 0} (files : Option Files) (line_of : F → Texts) (fault : Option F) (thing : T)
+    → (pass_unless line_of fault thing).EachFile (IsTold files)
+unless_told files line_of None thing = tt
+unless_told files line_of (Some fault) thing = tt
+
+meant_told : {T F : Type 0} (files : Option Files) (line_of : F → Texts) (read : Result T F) → (meant line_of read).EachFile (IsTold files)
+meant_told files line_of (Ok thing) = tt
+meant_told files line_of (Err fault) = tt
 
 -- the list is the one file that is looked at
 pub reduce_told : (files : Option Files) (degree : ℕ) (name : List ℕ) → IsTold files name → (reduce files degree name).EachFile (IsTold files)
 reduce_told files degree name told = (
-  unless_told files Degree (degree_fault degree) degree,
+  unless_told files degree_line (degree_fault degree) degree,
   λ _ _. (
-    (told, λ bytes _. meant_told files TurnWords (words_of bytes)),
-    λ lines _. (unless_told files Range (range_fault degree lines) (entries_on lines), λ _ _. (tt, λ _ _. tt)),
+    (told, λ bytes _. meant_told files (numbers_line inputs.TurnWords) (words_of bytes)),
+    λ lines _. (unless_told files range_line (range_fault degree lines) (entries_on lines), λ _ _. (tt, λ _ _. tt)),
   ),
 )
 
@@ -291,12 +293,12 @@ yes_input files degree name outcome told (inr (allowed, first, inl p)) e = let r
 yes_input files degree name outcome told (inr (allowed, first, inr (lines, read, inl p))) e = let refused = ap status_of p.2 in cc
 yes_input files degree name outcome told (inr (allowed, first, inr (lines, inl p, inr q))) e = let same = p.2 in cc
 yes_input files degree name outcome told (inr (allowed, first, inr (lines, inr (bytes, in_file, read), inr (turns, range, more)))) e =
-    let least = least_degree degree (unless_passed Degree (degree_fault degree) degree allowed first).0 in
-    let both = unless_passed Range (range_fault degree lines) (entries_on lines) turns range in
+    let least = least_degree degree (unless_passed degree_line (degree_fault degree) degree allowed first).0 in
+    let both = unless_passed range_line (range_fault degree lines) (entries_on lines) turns range in
     let spelled : SpellsTurnWords degree turns bytes =
     record {
       lines = lines;
-      text = meant_passed TurnWords (words_of bytes) lines read;
+      text = meant_passed (numbers_line inputs.TurnWords) (words_of bytes) lines read;
       entries = both.1;
       in_range = subst (All (IsTurnWord degree)) (sym both.1) (in_range degree lines least both.0);
     } in (

@@ -1,5 +1,5 @@
 -- The rows of the table of commands: what each looks at has an end, and one where its files are told.
-use Rattle.std.proofs.Common.{◌≡◌, inr, ℕ, List, [], ◌∷◌, refl, ap, arith}
+use Rattle.std.proofs.Common.{◌≡◌, inr, ℕ, List, [], ◌∷◌, refl, ap, arith, sym, codes, ◌∙◌, ◌+◌, ◌*◌}
 use Rattle.std.specs.Prelude.{Option, Some, None, Result, Ok, Err, slice_index, slice_index_or}
 use Rattle.surf_io.specs.Files.{Files}
 use Rattle.surf_model.specs.FaceLists.{FaceList}
@@ -8,78 +8,85 @@ use Rattle.walk_files.specs.NumberTexts.{walks_of}
 use Rattle.walk_files.specs.Pairs.{IsPair, pair_fault}
 use Rattle.walk_files.specs.declared.fault.WalkFault.{WalkFault}
 use Rattle.walk_files.proofs.PairLemmas.{none_of_pair}
+use Rattle.homotopy_cli.specs.declared.refusal.Input.TheVariants as inputs
+use Rattle.surf_model.specs.Surfaces.{IsSurface}
+use Rattle.homotopy_cli.proofs.Certifying.{sound-certified}
+use Rattle.homotopy_cli.proofs.Checking.{pair_passes}
+use Rattle.homotopy_cli.proofs.Deciding.{sound-decided}
+use Rattle.homotopy_cli.proofs.Measuring.{sound-numbers, surface_passed}
+use Rattle.homotopy_cli.proofs.MeshTexts.{mesh_valid}
+use Rattle.homotopy_cli.proofs.Reducing.{sound-reduce}
+use Rattle.homotopy_cli.proofs.SomeVerdict.{sound-judgement}
+use Rattle.homotopy_cli.proofs.Sound.{IsSound, sound-then, sound-pass, sound-refuse, sound-found, sound-meant, sound-pass_unless, sound-file, held}
+use Rattle.homotopy_cli.proofs.Surfaces.{sound-as_surface}
+use Rattle.homotopy_cli.specs.Answers.{Exactly, Texts}
+use Rattle.homotopy_cli.specs.Certify.{certify, limit_fault}
 use Rattle.homotopy_cli.specs.Checks.{Passes, Holds, IsTold, meant, pass_unless, ◌>>=◌}
-use Rattle.homotopy_cli.specs.Commands.{Row, Surface, Decide, Certify, Verify, Reduce, Trial, IsRow}
+use Rattle.homotopy_cli.specs.Commands.{Row, Surface, Decide, Certify, Verify, Reduce, Trial, IsRow, answer_to}
 use Rattle.homotopy_cli.specs.Decide.{decide}
 use Rattle.homotopy_cli.specs.Inputs.{mesh_in, pair_in, certificate_in, certificate_of, walk_at, SpellsMesh, SpellsPair}
-use Rattle.homotopy_cli.specs.Outcomes.{answer_to, answer_of}
+use Rattle.homotopy_cli.specs.Outcomes.{answer_of}
+use Rattle.homotopy_cli.specs.Refusals.{numbers_line, certificate_line, off_line, pair_line}
 use Rattle.homotopy_cli.specs.Surface.{surface}
 use Rattle.homotopy_cli.specs.SurfaceInput.{surface_in}
 use Rattle.homotopy_cli.specs.Verify.{verify}
-use Rattle.homotopy_cli.specs.declared.refusal.Input.TheVariants as inputs
-use Rattle.homotopy_cli.specs.declared.refusal.Refusal.{Refusal}
-use Rattle.homotopy_cli.specs.declared.refusal.Refusal.TheVariants.{Off, Walks, Pair, Certificate}
-use Rattle.homotopy_cli.specs.declared.refusal.Refusal.TheVariants as refusals
-use Rattle.homotopy_cli.proofs.Checking.{pair_passes}
-use Rattle.homotopy_cli.proofs.Measuring.{sound-numbers, surface_passed}
-use Rattle.homotopy_cli.proofs.Deciding.{sound-decided}
-use Rattle.homotopy_cli.proofs.MeshTexts.{mesh_valid}
-use Rattle.homotopy_cli.proofs.Reducing.{sound-reduce}
-use Rattle.homotopy_cli.proofs.Sound.{IsSound, sound-then, sound-pass, sound-refuse, sound-found, sound-meant, sound-pass_unless, sound-file, held}
-use Rattle.homotopy_cli.proofs.SomeVerdict.{sound-judgement}
-use Rattle.homotopy_cli.proofs.Surfaces.{sound-as_surface}
-use Rattle.surf_model.specs.Surfaces.{IsSurface}
-use Rattle.homotopy_cli.specs.Certify.{certify, limit_fault}
-use Rattle.homotopy_cli.specs.Inputs.{SpellsMesh}
-use Rattle.homotopy_cli.proofs.Certifying.{sound-certified}
 
 -- ---- the rows
 
--- the first letters of the commands differ
-letter_of : Row → ℕ
-letter_of (Surface mesh) = 115
-letter_of (Decide mesh walks) = 100
-letter_of (Certify mesh walks) = 99
-letter_of (Verify mesh walks certificate) = 118
-letter_of (Reduce degree list) = 114
-letter_of (Trial genus grid) = 116
+-- the keyword of a row
+abbrev keyword_of : Row → List ℕ
+keyword_of (Surface mesh) = codes "surface"
+keyword_of (Decide mesh walks) = codes "decide"
+keyword_of (Certify mesh walks) = codes "certify"
+keyword_of (Verify mesh walks certificate) = codes "verify"
+keyword_of (Reduce degree list) = codes "reduce"
+keyword_of (Trial genus grid) = codes "trial"
 
-letter_in : List (List ℕ) → ℕ
-letter_in words = slice_index (slice_index_or words 0 []) 0
+-- a keyword as one number, since keywords differ
+value : List ℕ → ℕ
+value [] = 0
+value (byte ∷ bytes) = byte + 256 * value bytes
 
-letter-row : (words : List (List ℕ)) (row : Row) → IsRow words row → letter_in words ≡ letter_of row
-unfolding letter_of letter_in
-letter-row words (Surface mesh) p = ap letter_in p
-letter-row words (Decide mesh walks) p = ap letter_in p
-letter-row words (Certify mesh walks) p = ap letter_in p
-letter-row words (Verify mesh walks certificate) p = ap letter_in p
-letter-row words (Reduce degree list) p = ap letter_in p.1
-letter-row words (Trial genus grid) p = ap letter_in p.2
+first_word : List (List ℕ) → List ℕ
+first_word words = slice_index_or words 0 []
+
+keyword-row : (words : List (List ℕ)) (row : Row) → IsRow words row → first_word words ≡ keyword_of row
+unfolding first_word
+keyword-row words (Surface mesh) p = ap first_word p
+keyword-row words (Decide mesh walks) p = ap first_word p
+keyword-row words (Certify mesh walks) p = ap first_word p
+keyword-row words (Verify mesh walks certificate) p = ap first_word p
+keyword-row words (Reduce degree list) p = ap first_word p.1
+keyword-row words (Trial genus grid) p = ap first_word p.2
+
+-- rows of the same words have one keyword
+same_value : (words : List (List ℕ)) (a b : Row) → IsRow words a → IsRow words b → value (keyword_of a) ≡ value (keyword_of b)
+same_value words a b p q = ap value (sym (keyword-row words a p) ∙ keyword-row words b q)
 
 -- words are one row at most
 pub one_row : (words : List (List ℕ)) (a b : Row) → IsRow words a → IsRow words b → a ≡ b
-unfolding letter_of
+unfolding value
 one_row words (Surface a) (Surface b) p q = cc
 one_row words (Decide a b) (Decide c d) p q = cc
 one_row words (Certify a b) (Certify c d) p q = cc
 one_row words (Verify a b c) (Verify d e f) p q = cc
 one_row words (Reduce a b) (Reduce c d) p q = cc
 one_row words (Trial a b) (Trial c d) p q = cc
-one_row words a b p q = absurd (omega (arith, letter-row words a p, letter-row words b q))
+one_row words a b p q = absurd (omega (arith, same_value words a b p q))
 
 -- ---- the files
 
 pub sound-mesh : (held : Option Files) (name : List ℕ) → IsSound held (mesh_in held name)
-sound-mesh held name = sound-then held _ _ (sound-file held name _) (λ bytes _. sound-meant held Off (meaning_of bytes))
+sound-mesh held name = sound-then held _ _ (sound-file held name inputs.Mesh) (λ bytes _. sound-meant held off_line (meaning_of bytes))
 
 pub sound-pair : (held : Option Files) (name : List ℕ) (mesh : FaceList) → IsSound held (pair_in held name mesh)
 sound-pair held name mesh =
-    sound-then held _ _ (sound-file held name _)
-    (λ bytes _. sound-then held _ _ (sound-meant held Walks (walks_of bytes)) (λ walks _. sound-pass_unless held Pair (pair_fault mesh walks) walks))
+    sound-then held _ _ (sound-file held name inputs.Walks)
+    (λ bytes _. sound-then held _ _ (sound-meant held (numbers_line inputs.Walks) (walks_of bytes)) (λ walks _. sound-pass_unless held pair_line (pair_fault mesh walks) walks))
 
 pub sound-certificate : (held : Option Files) (name : List ℕ) → IsSound held (certificate_in held name)
 sound-certificate held name =
-    sound-then held _ _ (sound-file held name _) (λ bytes _. sound-meant held refusals.Certificate (certificate_of bytes))
+    sound-then held _ _ (sound-file held name inputs.Certificate) (λ bytes _. sound-meant held certificate_line (certificate_of bytes))
 
 -- ---- the commands
 
@@ -110,7 +117,7 @@ sound-certify : (held : Option Files) (mesh walks : List ℕ) → IsSound held (
 sound-certify held mesh walks =
     sound-then held _ _ (sound-surface_in held mesh)
     (λ surface _. sound-then held _ _ (sound-pair held walks surface)
-    (λ pair _. sound-then held _ _ (sound-pass_unless held (λ refusal. refusal) (limit_fault surface (walk_at pair 0) (walk_at pair 1)) pair)
+    (λ pair _. sound-then held _ _ (sound-pass_unless held (λ line. Exactly line) (limit_fault surface (walk_at pair 0) (walk_at pair 1)) pair)
     (λ _ _. sound-certified held surface (walk_at pair 0) (walk_at pair 1))))
 
 sound-row : (held : Option Files) (row : Row) → IsSound held (answer_to held row)
@@ -126,21 +133,21 @@ sound-words held words = sound-then held _ _ (sound-found held _ _ (one_row word
 
 -- ---- files that are told
 
-pub meant_told : {T F : Type 0} (files : Option Files) (refusal : F → Refusal) (read : Result T F) → (meant refusal read).EachFile (IsTold files)
-meant_told files refusal (Ok thing) = tt
-meant_told files refusal (Err fault) = tt
+pub meant_told : {T F : Type 0} (files : Option Files) (line_of : F → Texts) (read : Result T F) → (meant line_of read).EachFile (IsTold files)
+meant_told files line_of (Ok thing) = tt
+meant_told files line_of (Err fault) = tt
 
-pub unless_told : {T F : Type 0} (files : Option Files) (refusal : F → Refusal) (fault : Option F) (thing : T)
-    → (pass_unless refusal fault thing).EachFile (IsTold files)
-unless_told files refusal None thing = tt
-unless_told files refusal (Some fault) thing = tt
+pub unless_told : {T F : Type 0} (files : Option Files) (line_of : F → Texts) (fault : Option F) (thing : T)
+    → (pass_unless line_of fault thing).EachFile (IsTold files)
+unless_told files line_of None thing = tt
+unless_told files line_of (Some fault) thing = tt
 
 pub walks_told : (files : Option Files) (mesh : FaceList) (read : Result (List (List ℕ)) WalkFault)
-    → (meant Walks read >>= (λ walks. pass_unless Pair (pair_fault mesh walks) walks)).EachFile (IsTold files)
-walks_told files mesh read = (meant_told files Walks read, λ walks _. unless_told files Pair (pair_fault mesh walks) walks)
+    → (meant (numbers_line inputs.Walks) read >>= (λ walks. pass_unless pair_line (pair_fault mesh walks) walks)).EachFile (IsTold files)
+walks_told files mesh read = (meant_told files (numbers_line inputs.Walks) read, λ walks _. unless_told files pair_line (pair_fault mesh walks) walks)
 
 pub mesh_told : (files : Option Files) (name : List ℕ) (mesh : FaceList) → Holds files name (SpellsMesh mesh) → (mesh_in files name).EachFile (IsTold files)
-mesh_told files name mesh h = ((held files name (SpellsMesh mesh) h).told, λ bytes _. meant_told files Off (meaning_of bytes))
+mesh_told files name mesh h = ((held files name (SpellsMesh mesh) h).told, λ bytes _. meant_told files off_line (meaning_of bytes))
 
 -- the file passes its mesh
 pub mesh_passes : (files : Option Files) (name : List ℕ) (mesh : FaceList) → Holds files name (SpellsMesh mesh) → Passes (mesh_in files name) mesh
@@ -170,7 +177,7 @@ pub pair_told : (files : Option Files) (name : List ℕ) (mesh : FaceList) → I
 pair_told files name mesh told = (told, λ bytes _. walks_told files mesh (walks_of bytes))
 
 pub surface_told : (files : Option Files) (name : List ℕ) → IsTold files name → (surface_in files name).EachFile (IsTold files)
-surface_told files name told = ((told, λ bytes _. meant_told files Off (meaning_of bytes)), λ _ _. (tt, λ _ _. tt))
+surface_told files name told = ((told, λ bytes _. meant_told files off_line (meaning_of bytes)), λ _ _. (tt, λ _ _. tt))
 
 -- a file that spells a surface passes it
 pub spelled_surface : (files : Option Files) (name : List ℕ) (mesh : FaceList) → Holds files name (SpellsMesh mesh) → IsSurface mesh

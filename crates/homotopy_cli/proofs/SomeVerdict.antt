@@ -17,13 +17,13 @@ use Rattle.labellings.specs.DenialVerdicts.{IsVerdict}
 use Rattle.labellings.specs.declared.verdict.DenialVerdict.{DenialVerdict}
 use Rattle.labellings.specs.declared.verdict.DenialVerdict.TheVariants.{Label, WordWrong, Equal, Accepted}
 use Rattle.labellings.proofs.VerdictLemmas.{one_verdict}
-use Rattle.homotopy_cli.specs.Answers.{Answer, Judged}
+use Rattle.homotopy_cli.proofs.Sound.{IsSound, sound-pass}
+use Rattle.homotopy_cli.specs.Answers.{Answer}
 use Rattle.homotopy_cli.specs.Checks.{End, Refuse, Pass}
-use Rattle.homotopy_cli.specs.Verify.{judgement}
+use Rattle.homotopy_cli.specs.Stops.{Ends}
+use Rattle.homotopy_cli.specs.Verify.{judgement, denial_answer}
 use Rattle.homotopy_cli.specs.declared.certificate.Certificate.{Certificate}
 use Rattle.homotopy_cli.specs.declared.certificate.Certificate.TheVariants.{Moves, Denial}
-use Rattle.homotopy_cli.specs.declared.verify.Judgement.TheVariants.{OnDenial}
-use Rattle.homotopy_cli.proofs.Sound.{IsSound, sound-pass}
 
 -- below a bound there is a least number of which something fails, or it holds of all
 least_or_all : (n : ℕ) (P : ℕ → Type 0) → ((k : ℕ) → k < n → (P k → ⊥) → ((j : ℕ) → j < k → P j) → ⊥) → (((j : ℕ) → j < n → P j) → ⊥) → ⊥
@@ -97,7 +97,7 @@ one_judged mesh first second denial (Refuse cause) b p q = absurd p
 one_judged mesh first second denial (Pass x) (Refuse cause) p q = absurd q
 one_judged mesh first second denial (Pass x) (Pass y) p q =
     let same : p.0 ≡ q.0 = one_verdict mesh first second denial p.0 q.0 p.2 q.2 in
-    let answers : x ≡ y = p.1 ∙ ap (λ (v : DenialVerdict). Judged (OnDenial v)) same ∙ sym q.1 in
+    let answers : x ≡ y = p.1 ∙ ap denial_answer same ∙ sym q.1 in
     cc
 
 pub sound-judgement : (held : Option Files) (mesh : FaceList) (first second : List ℕ) (shown : Certificate) → IsFaceList mesh
@@ -105,6 +105,6 @@ pub sound-judgement : (held : Option Files) (mesh : FaceList) (first second : Li
 sound-judgement held mesh first second (Moves list) valid = sound-pass held _
 sound-judgement held mesh first second (Denial denial) valid =
     record {
-      some = λ none. some_verdict mesh first second denial valid (λ verdict is. none (Pass (Judged (OnDenial verdict))) (verdict, refl, is));
+      some = λ none. some_verdict mesh first second denial valid (λ verdict is. none (Pass (denial_answer verdict)) (verdict, refl, is));
       one = λ _ a b p q. one_judged mesh first second denial a b p q;
     }

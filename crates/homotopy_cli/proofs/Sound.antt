@@ -3,12 +3,12 @@ use Rattle.std.proofs.Common.{◌≡◌, ◌⊎◌, inl, inr, ℕ, ◌<◌, ◌�
 use Rattle.std.specs.Prelude.{Option, Some, None, Result, Ok, Err, IfSome, IsSome, IsSomeAnd}
 use Rattle.std.proofs.lemmas.Bool.{cases_lt}
 use Rattle.surf_io.specs.Files.{Files, file_of}
-use Rattle.homotopy_cli.specs.Causes.{Exactly}
+use Rattle.homotopy_cli.specs.Answers.{Texts}
 use Rattle.homotopy_cli.specs.Checks.{Check, End, Refuse, Pass, Passes, IsTold, Holds, pass, refuse, file, found_or, meant, pass_unless, ◌>>=◌}
+use Rattle.homotopy_cli.specs.Refusals.{too_large}
+use Rattle.homotopy_cli.specs.Stops.{Ends}
 use Rattle.homotopy_cli.specs.declared.inputs.TheConstants.{MOST_BYTES}
 use Rattle.homotopy_cli.specs.declared.refusal.Input.{Input}
-use Rattle.homotopy_cli.specs.declared.refusal.Refusal.{Refusal}
-use Rattle.homotopy_cli.specs.declared.refusal.Refusal.TheVariants.{TooLarge}
 
 pub record IsSound {T : Type 0} (held : Option Files) (check : Check T) : Type 0 where
   pub some : ((end : End T) → check.Ends end → ⊥) → ⊥
@@ -18,7 +18,7 @@ pub record IsSound {T : Type 0} (held : Option Files) (check : Check T) : Type 0
 
 no_end : {A B : Type 0} (held : Option Files) (first : Check A) (next : A → Check B) → ((thing : A) → Passes first thing → IsSound held (next thing))
     → ((end : End B) → (first >>= next).Ends end → ⊥) → (end : End A) → first.Ends end → ⊥
-no_end held first next sound none (Refuse cause) h = none (Refuse cause) (inl (cause, h, refl))
+no_end held first next sound none (Refuse texts) h = none (Refuse texts) (inl (texts, h, refl))
 no_end held first next sound none (Pass thing) h = (sound thing h).some (λ end more. none end (inr (thing, h, more)))
 
 one_end : {A B : Type 0} (held : Option Files) (first : Check A) (next : A → Check B) → ((x y : End A) → first.Ends x → first.Ends y → x ≡ y)
@@ -45,32 +45,32 @@ sound-then held first next sound more =
 pub sound-pass : {T : Type 0} (held : Option Files) (thing : T) → IsSound held (pass thing)
 sound-pass held thing = record { some = λ none. none (Pass thing) refl; one = λ _ a b p q. p ∙ sym q }
 
-pub sound-refuse : {T : Type 0} (held : Option Files) (refusal : Refusal) → IsSound held (refuse {T = T} refusal)
-sound-refuse held refusal = record { some = λ none. none (Refuse (Exactly refusal)) refl; one = λ _ a b p q. p ∙ sym q }
+pub sound-refuse : {T : Type 0} (held : Option Files) (texts : Texts) → IsSound held (refuse {T = T} texts)
+sound-refuse held texts = record { some = λ none. none (Refuse texts) refl; one = λ _ a b p q. p ∙ sym q }
 
-one_found : {T : Type 0} (refusal : Refusal) (P : T → Type 0) → ((x y : T) → P x → P y → x ≡ y) → (a b : End T)
-    → (found_or refusal P).Ends a → (found_or refusal P).Ends b → a ≡ b
-one_found refusal P one (Refuse r) (Refuse s) p q = cc (p.1, q.1)
-one_found refusal P one (Refuse r) (Pass y) p q = absurd (p.0 y q)
-one_found refusal P one (Pass x) (Refuse s) p q = absurd (q.0 x p)
-one_found refusal P one (Pass x) (Pass y) p q = let e = one x y p q in cc
+one_found : {T : Type 0} (texts : Texts) (P : T → Type 0) → ((x y : T) → P x → P y → x ≡ y) → (a b : End T)
+    → (found_or texts P).Ends a → (found_or texts P).Ends b → a ≡ b
+one_found texts P one (Refuse r) (Refuse s) p q = cc (p.1, q.1)
+one_found texts P one (Refuse r) (Pass y) p q = absurd (p.0 y q)
+one_found texts P one (Pass x) (Refuse s) p q = absurd (q.0 x p)
+one_found texts P one (Pass x) (Pass y) p q = let e = one x y p q in cc
 
-pub sound-found : {T : Type 0} (held : Option Files) (refusal : Refusal) (P : T → Type 0) → ((x y : T) → P x → P y → x ≡ y)
-    → IsSound held (found_or refusal P)
-sound-found held refusal P one =
+pub sound-found : {T : Type 0} (held : Option Files) (texts : Texts) (P : T → Type 0) → ((x y : T) → P x → P y → x ≡ y)
+    → IsSound held (found_or texts P)
+sound-found held texts P one =
     record {
-      some = λ none. none (Refuse (Exactly refusal)) (λ thing holds. none (Pass thing) holds, refl);
-      one = λ _ a b p q. one_found refusal P one a b p q;
+      some = λ none. none (Refuse texts) (λ thing holds. none (Pass thing) holds, refl);
+      one = λ _ a b p q. one_found texts P one a b p q;
     }
 
-pub sound-meant : {T F : Type 0} (held : Option Files) (refusal : F → Refusal) (read : Result T F) → IsSound held (meant refusal read)
-sound-meant held refusal (Ok thing) = sound-pass held thing
-sound-meant held refusal (Err fault) = sound-refuse held (refusal fault)
+pub sound-meant : {T F : Type 0} (held : Option Files) (line_of : F → Texts) (read : Result T F) → IsSound held (meant line_of read)
+sound-meant held line_of (Ok thing) = sound-pass held thing
+sound-meant held line_of (Err fault) = sound-refuse held (line_of fault)
 
-pub sound-pass_unless : {T F : Type 0} (held : Option Files) (refusal : F → Refusal) (fault : Option F) (thing : T)
-    → IsSound held (pass_unless refusal fault thing)
-sound-pass_unless held refusal None thing = sound-pass held thing
-sound-pass_unless held refusal (Some fault) thing = sound-refuse held (refusal fault)
+pub sound-pass_unless : {T F : Type 0} (held : Option Files) (line_of : F → Texts) (fault : Option F) (thing : T)
+    → IsSound held (pass_unless line_of fault thing)
+sound-pass_unless held line_of None thing = sound-pass held thing
+sound-pass_unless held line_of (Some fault) thing = sound-refuse held (line_of fault)
 
 some_file : (told : Option (List ℕ)) (limit : ℕ) → ((bytes : List ℕ) → IfSome told (λ f. bytes ≡ f) → (limit < length bytes) ⊎ (length bytes ≤ limit) → ⊥)
     → ⊥
@@ -100,7 +100,7 @@ sound-file held name input =
   where
     some_end : ((end : End (List ℕ)) → (file held name input).Ends end → ⊥) → (bytes : List ℕ) → IfSome (file_of held name) (λ f. bytes ≡ f)
         → (MOST_BYTES < length bytes) ⊎ (length bytes ≤ MOST_BYTES) → ⊥
-    some_end none bytes agrees (inl large) = none (Refuse (Exactly (TooLarge input))) (bytes, agrees, large, refl)
+    some_end none bytes agrees (inl large) = none (Refuse (too_large input)) (bytes, agrees, large, refl)
     some_end none bytes agrees (inr small) = none (Pass bytes) (agrees, small)
 
 -- ---- a file that is told, within the limit, and of which this holds

@@ -4,23 +4,20 @@ use Rattle.std.specs.Prelude.{Option}
 use Rattle.surf_io.specs.Files.{Files}
 use Rattle.surf_model.specs.FaceLists.{FaceList}
 use Rattle.surf_model.specs.Surfaces.{IsSurface}
-use Rattle.homotopy_cli.specs.Answers.{Outcome, Measured}
-use Rattle.homotopy_cli.specs.Causes.{Exactly, NotOrientable}
-use Rattle.homotopy_cli.specs.Checks.{Refuse, Pass, IsTold, ◌>>=◌}
-use Rattle.homotopy_cli.specs.Commands.{Row, Surface}
-use Rattle.homotopy_cli.specs.Outcomes.{answer_to, IsOutcome, AllTold, IsAnswerOf}
-use Rattle.homotopy_cli.specs.Surface.{surface, AreNumbersOf, IsSurfaceInput, IsMeasured}
-use Rattle.homotopy_cli.specs.SurfaceInput.{as_surface}
-use Rattle.homotopy_cli.specs.Refusals.{refusal_line}
-use Rattle.homotopy_cli.specs.Texts.{numbers_text}
-use Rattle.homotopy_cli.specs.declared.numbers.SurfaceNumbers.{SurfaceNumbers}
-use Rattle.homotopy_cli.specs.declared.refusal.Refusal.TheVariants.{Off, Walks, Pair, Certificate}
-use Rattle.homotopy_cli.specs.declared.refusal.Refusal.TheVariants as refusals
-use Rattle.homotopy_cli.specs.declared.status.Status.{Status}
-use Rattle.homotopy_cli.specs.declared.status.Status.TheVariants.{Yes}
 use Rattle.homotopy_cli.proofs.Measuring.{some_numbers, answered_surface, behind_mesh, with_numbers, fault_ends, turned_ends, numbers_end}
 use Rattle.homotopy_cli.proofs.MeshTexts.{mesh_valid}
 use Rattle.homotopy_cli.proofs.Rows.{one_row, sound-mesh, mesh_told, mesh_passes}
+use Rattle.homotopy_cli.specs.Answers.{OfOddChain, yes_with}
+use Rattle.homotopy_cli.specs.Checks.{Refuse, Pass, IsTold, ◌>>=◌}
+use Rattle.homotopy_cli.specs.Commands.{Row, Surface, answer_to}
+use Rattle.homotopy_cli.specs.Outcomes.{Outcome, IsOutcome, AllTold, IsAnswerOf}
+use Rattle.homotopy_cli.specs.Refusals.{surface_line}
+use Rattle.homotopy_cli.specs.Stops.{Ends}
+use Rattle.homotopy_cli.specs.Surface.{surface, AreNumbersOf, IsSurfaceInput, IsMeasured, numbers_text}
+use Rattle.homotopy_cli.specs.SurfaceInput.{as_surface}
+use Rattle.homotopy_cli.specs.declared.status.Status.{Status}
+use Rattle.homotopy_cli.specs.declared.status.Status.TheVariants.{Yes}
+use Rattle.homotopy_cli.specs.declared.surface.SurfaceNumbers.{SurfaceNumbers}
 
 -- each file that such words look at is told
 told_surface : (files : Option Files) (words : List (List ℕ)) (mesh : FaceList) → IsSurfaceInput files words mesh → AllTold files words
@@ -42,7 +39,7 @@ surface_outcome files words mesh outcome input h =
 -- a status of yes tells of a surface
 yes_surface : (files : Option Files) (words : List (List ℕ)) (mesh : FaceList) (outcome : Outcome) (status : Status) (text : List ℕ)
     → IsSurfaceInput files words mesh → IsOutcome files words outcome → IsAnswerOf outcome status text → status ≡ Yes → IsSurface mesh
-yes_surface files words mesh (Refuse cause) status text input is answer told = let e = sym told ∙ answer.status_is in cc
+yes_surface files words mesh (Refuse texts) status text input is answer told = let e = sym told ∙ answer.status_is in cc
 yes_surface files words mesh (Pass found) status text input (inl p) answer told = let e = p.2 in cc
 yes_surface files words mesh (Pass found) status text input (inr p) answer told =
     let row : (answer_to files (Surface input.mesh_name)).Ends (Pass found) =
@@ -59,19 +56,19 @@ measured files words outcome status text is answer exact =
       surface = λ mesh input. (λ told. yes_surface files words mesh outcome status text input is answer told, λ surface. (numbers_told mesh input surface).0);
       numbers = λ mesh input surface. (numbers_told mesh input surface).1;
       not_closed = λ mesh fault input first.
-          let a = exact (told_surface files words mesh input) (Refuse (Exactly (refusals.NotClosed fault)))
-          (surface_outcome files words mesh (Refuse (Exactly (refusals.NotClosed fault))) input (fault_ends mesh fault first)) in
-          (a.status_is, a.text_is.2 ∙ ap refusal_line a.text_is.1);
+          let a = exact (told_surface files words mesh input) (Refuse (surface_line fault))
+          (surface_outcome files words mesh (Refuse (surface_line fault)) input (fault_ends mesh fault first)) in
+          (a.status_is, a.text_is);
       not_orientable = λ mesh input closed turned.
-          let a = exact (told_surface files words mesh input) (Refuse (NotOrientable mesh))
-          (surface_outcome files words mesh (Refuse (NotOrientable mesh)) input (turned_ends mesh closed turned)) in
-          (a.status_is, a.text_is.1.0, a.text_is.1.1, a.text_is.2 ∙ ap refusal_line a.text_is.1.2);
+          let a = exact (told_surface files words mesh input) (Refuse (OfOddChain mesh))
+          (surface_outcome files words mesh (Refuse (OfOddChain mesh)) input (turned_ends mesh closed turned)) in
+          (a.status_is, a.text_is.0, a.text_is.1, a.text_is.2);
     }
   where
     numbers_told : (mesh : FaceList) → IsSurfaceInput files words mesh → IsSurface mesh
         → (status ≡ Yes) × ((numbers : SurfaceNumbers) × AreNumbersOf mesh numbers × (text ≡ numbers_text numbers))
     numbers_told mesh input surface =
         let some = some_numbers mesh (mesh_valid files input.mesh_name mesh (mesh_passes files input.mesh_name mesh input.mesh_file)) surface in
-        let a = exact (told_surface files words mesh input) (Pass (Measured some.0))
-        (surface_outcome files words mesh (Pass (Measured some.0)) input (numbers_end mesh some.0 surface some.1)) in
+        let a = exact (told_surface files words mesh input) (Pass (yes_with (numbers_text some.0)))
+        (surface_outcome files words mesh (Pass (yes_with (numbers_text some.0))) input (numbers_end mesh some.0 surface some.1)) in
         (a.status_is, (some.0, some.1, a.text_is))

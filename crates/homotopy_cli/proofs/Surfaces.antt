@@ -1,23 +1,23 @@
 -- How the checks of a surface end.
-use Rattle.std.proofs.Common.{◌≡◌, inr, ℕ, List, refl, sym, subst}
+use Rattle.std.proofs.Common.{◌≡◌, inr, ℕ, List, refl, sym, subst, inl, ◌⊎◌}
 use Rattle.std.specs.Prelude.{Option, Result, Ok, Err, IfOk, MatchResult}
 use Rattle.surf_io.specs.Files.{Files}
 use Rattle.surf_model.specs.FaceLists.{FaceList, IsFaceList}
 use Rattle.manifold_check.specs.Faults.{IsFirstFault}
 use Rattle.manifold_check.specs.declared.fault.SurfaceFault.{SurfaceFault}
+use Rattle.manifold_check.specs.declared.fault.SurfaceFault.TheVariants.{OutOfMemory}
 use Rattle.manifold_check.proofs.FaultLemmas.{one_fault, no_fault}
 use Rattle.manifold_check.proofs.OutcomeLemmas.{closed_or_fault}
 use Rattle.halfedge_map.specs.OrientedMeshes.{OrientedMesh}
-use Rattle.homotopy_cli.specs.Causes.{Exactly, NotOrientable}
+use Rattle.homotopy_cli.proofs.Checking.{stops_next, told_stops, memory_stops}
+use Rattle.homotopy_cli.proofs.Sound.{IsSound, sound-then}
+use Rattle.homotopy_cli.specs.Answers.{OfOddChain}
 use Rattle.homotopy_cli.specs.Checks.{End, Refuse, Pass, Passes}
 use Rattle.homotopy_cli.specs.Inputs.{mesh_in}
-use Rattle.homotopy_cli.specs.Stops.{Stops}
+use Rattle.homotopy_cli.specs.Refusals.{surface_line}
+use Rattle.homotopy_cli.specs.Stops.{Stops, Tells, Ends}
 use Rattle.homotopy_cli.specs.SurfaceInput.{as_surface, closed, orientable, surface_in}
-use Rattle.homotopy_cli.specs.declared.refusal.Refusal.TheVariants.{NotClosed}
 use Rattle.homotopy_cli.specs.declared.stop.Stop.{Stop}
-use Rattle.homotopy_cli.specs.declared.stop.Stop.TheVariants.{Refused}
-use Rattle.homotopy_cli.proofs.Checking.{stops_next}
-use Rattle.homotopy_cli.proofs.Sound.{IsSound, sound-then}
 
 one_closed : (mesh : FaceList) (a b : End FaceList) → (closed mesh).Ends a → (closed mesh).Ends b → a ≡ b
 one_closed mesh (Refuse r) (Refuse s) p q = let same = one_fault mesh p.0 q.0 p.1 q.1 in cc (same, p.2, q.2)
@@ -29,7 +29,7 @@ pub sound-closed : (held : Option Files) (mesh : FaceList) → IsFaceList mesh �
 sound-closed held mesh valid =
     record {
       some = λ none.
-          closed_or_fault mesh valid (λ is. none (Pass mesh) (is, refl)) (λ fault is. none (Refuse (Exactly (NotClosed fault))) (fault, is, refl));
+          closed_or_fault mesh valid (λ is. none (Pass mesh) (is, refl)) (λ fault is. none (Refuse (surface_line fault)) (fault, is, refl));
       one = λ _ a b p q. one_closed mesh a b p q;
     }
 
@@ -42,7 +42,7 @@ one_orientable mesh (Pass x) (Pass y) p q = cc (p.1, q.1)
 pub sound-orientable : (held : Option Files) (mesh : FaceList) → IsSound held (orientable mesh)
 sound-orientable held mesh =
     record {
-      some = λ none. none (Refuse (NotOrientable mesh)) (λ is. none (Pass mesh) (is, refl), refl);
+      some = λ none. none (Refuse (OfOddChain mesh)) (λ is. none (Pass mesh) (is, refl), refl);
       one = λ _ a b p q. one_orientable mesh a b p q;
     }
 
@@ -51,8 +51,11 @@ sound-as_surface held mesh valid = sound-then held _ _ (sound-closed held mesh v
 
 -- ---- what stops it
 
-pub fault_stops : (mesh : FaceList) (fault : SurfaceFault) → IsFirstFault mesh fault → Stops (closed mesh) (Refused (NotClosed fault))
-fault_stops mesh fault is = (Exactly (NotClosed fault), (fault, is, refl), refl)
+-- a fault of the mesh, or want of memory
+pub fault_stops : (mesh : FaceList) (fault : SurfaceFault) (stop : Stop) → (fault ≡ OutOfMemory) ⊎ IsFirstFault mesh fault
+    → Tells (surface_line fault) stop → Stops (closed mesh) stop
+fault_stops mesh fault stop (inl wanting) h = memory_stops (closed mesh) stop (subst (λ (f : SurfaceFault). Tells (surface_line f) stop) wanting h)
+fault_stops mesh fault stop (inr is) h = told_stops (surface_line fault) (closed mesh) stop (fault, is, refl) h
 
 pub signs_stop : (mesh : FaceList) (stop : Stop) → Passes (closed mesh) mesh → Stops (orientable mesh) stop → Stops (as_surface mesh) stop
 signs_stop mesh stop p h = stops_next (closed mesh) orientable mesh stop p h

@@ -14,26 +14,24 @@ use Rattle.labellings.proofs.WalkWordLemmas.{denial_excludes}
 use Rattle.labellings.specs.DenialVerdicts.{IsVerdict}
 use Rattle.labellings.specs.declared.verdict.DenialVerdict.{DenialVerdict}
 use Rattle.labellings.specs.declared.verdict.DenialVerdict.TheVariants as verdicts
-use Rattle.homotopy_cli.specs.Answers.{Answer, Outcome, Judged}
-use Rattle.homotopy_cli.specs.Checks.{Refuse, Pass, Passes, IsTold, found_or}
-use Rattle.homotopy_cli.specs.Commands.{Row, Verify, IsRow}
-use Rattle.homotopy_cli.specs.Inputs.{mesh_in, pair_in, certificate_in, certificate_of, walk_at, SpellsPair, SpellsCertificate}
-use Rattle.homotopy_cli.specs.Outcomes.{answer_to, IsOutcome, AllTold, IsAnswerOf}
-use Rattle.homotopy_cli.specs.Statuses.{verdict_status, denial_status}
-use Rattle.homotopy_cli.specs.Texts.{denial_line}
-use Rattle.homotopy_cli.specs.Verify.{judgement, IsVerifyInput, IsVerified, IsDenialVerified}
-use Rattle.homotopy_cli.specs.declared.certificate.Certificate.{Certificate}
 use Rattle.homotopy_cli.specs.declared.certificate.Certificate.TheVariants as certificates
 use Rattle.homotopy_cli.specs.declared.refusal.Input.TheVariants as inputs
-use Rattle.homotopy_cli.specs.declared.refusal.Refusal.TheVariants as refusals
-use Rattle.homotopy_cli.specs.declared.status.Status.{Status}
-use Rattle.homotopy_cli.specs.declared.status.Status.TheVariants.{Yes}
-use Rattle.homotopy_cli.specs.declared.verify.Judgement.TheVariants.{OnMoves, OnDenial}
 use Rattle.homotopy_cli.proofs.Deciding.{behind}
 use Rattle.homotopy_cli.proofs.MeshTexts.{mesh_valid}
 use Rattle.homotopy_cli.proofs.Rows.{one_row, sound-mesh, sound-pair, sound-certificate, meant_told, pair_told, mesh_told, mesh_passes, spelled_pair}
 use Rattle.homotopy_cli.proofs.Sound.{held, sound-found}
 use Rattle.homotopy_cli.proofs.Verifying.{after_mesh, after_pair}
+use Rattle.homotopy_cli.specs.Answers.{Answer, IsText}
+use Rattle.homotopy_cli.specs.Checks.{Refuse, Pass, Passes, IsTold, found_or}
+use Rattle.homotopy_cli.specs.Commands.{Row, Verify, IsRow, answer_to}
+use Rattle.homotopy_cli.specs.Inputs.{mesh_in, pair_in, certificate_in, certificate_of, walk_at, SpellsPair, SpellsCertificate}
+use Rattle.homotopy_cli.specs.Outcomes.{Outcome, IsOutcome, AllTold, IsAnswerOf}
+use Rattle.homotopy_cli.specs.Refusals.{certificate_line, wrong_words}
+use Rattle.homotopy_cli.specs.Stops.{Ends}
+use Rattle.homotopy_cli.specs.Verify.{verdict_status, denial_status, denial_line, judgement, IsVerifyInput, IsVerified, IsDenialVerified, verdict_answer, denial_answer}
+use Rattle.homotopy_cli.specs.declared.certificate.Certificate.{Certificate}
+use Rattle.homotopy_cli.specs.declared.status.Status.{Status}
+use Rattle.homotopy_cli.specs.declared.status.Status.TheVariants.{Yes}
 
 -- the status is yes exactly where the verdict is that the list is accepted
 yes_accepted : (verdict : Verdict) → verdict_status verdict ≡ Yes → verdict ≡ Accepted
@@ -67,7 +65,7 @@ told_input files words mesh first second shown input = (
         λ faces _. (
           pair_told files input.walks_name faces (held files input.walks_name (SpellsPair mesh first second) input.walks_file).told,
           λ pair _. (
-            ((held files input.certificate_name (SpellsCertificate shown) input.certificate_file).told, λ bytes _. meant_told files refusals.Certificate (certificate_of bytes)),
+            ((held files input.certificate_name (SpellsCertificate shown) input.certificate_file).told, λ bytes _. meant_told files certificate_line (certificate_of bytes)),
             λ certificate _. judgement_told files faces (walk_at pair 0) (walk_at pair 1) certificate,
           ),
         ),
@@ -96,10 +94,10 @@ judgement_outcome files words mesh first second shown outcome input h =
 -- a judgement on a denial is its verdict
 judged_end : (mesh : FaceList) (first second : List ℕ) (denial : Denial) (outcome : Outcome) (status : Status) (text : List ℕ)
     → (judgement mesh first second (certificates.Denial denial)).Ends outcome → IsAnswerOf outcome status text
-    → (verdict : DenialVerdict) × IsVerdict mesh first second denial verdict × (status ≡ denial_status verdict) × (text ≡ denial_line verdict)
-judged_end mesh first second denial (Refuse cause) status text p answer = absurd p
+    → (verdict : DenialVerdict) × IsVerdict mesh first second denial verdict × (status ≡ denial_status verdict) × IsText (denial_line verdict) text
+judged_end mesh first second denial (Refuse texts) status text p answer = absurd p
 judged_end mesh first second denial (Pass x) status text p answer =
-    let here : IsAnswerOf (Pass (Judged (OnDenial p.0))) status text = subst (λ (y : Answer). IsAnswerOf (Pass y) status text) p.1 answer in
+    let here : IsAnswerOf (Pass (denial_answer p.0)) status text = subst (λ (y : Answer). IsAnswerOf (Pass y) status text) p.1 answer in
     (p.0, p.2, here.status_is, here.text_is)
 
 -- where it is accepted, the denial holds
@@ -117,7 +115,7 @@ behind_files files words mesh first second shown outcome input is =
     let pair : List (List ℕ) = first ∷ second ∷ [] in
     let file = held files input.certificate_name (SpellsCertificate shown) input.certificate_file in
     let passed : Passes (certificate_in files input.certificate_name) shown = inr (file.bytes, file.passes inputs.Certificate, rw file.holds refl) in
-    let row = behind files (found_or refusals.WrongWords (IsRow words)) (answer_to files)
+    let row = behind files (found_or wrong_words (IsRow words)) (answer_to files)
     (Verify input.mesh_name input.walks_name input.certificate_name) outcome (sound-found files _ _ (one_row words)) tt input.words_are is in
     let walks = behind files (mesh_in files input.mesh_name) (after_mesh files input.walks_name input.certificate_name) mesh outcome
     (sound-mesh files input.mesh_name) (mesh_told files input.mesh_name mesh input.mesh_file) (mesh_passes files input.mesh_name mesh input.mesh_file) row in
@@ -126,15 +124,15 @@ behind_files files words mesh first second shown outcome input is =
     (pair_told files input.walks_name mesh (held files input.walks_name (SpellsPair mesh first second) input.walks_file).told)
     (spelled_pair files input.walks_name mesh first second input.walks_file) walks in
     behind files (certificate_in files input.certificate_name) (judgement mesh first second) shown outcome
-    (sound-certificate files input.certificate_name) (file.told, λ bytes _. meant_told files refusals.Certificate (certificate_of bytes)) passed certificate
+    (sound-certificate files input.certificate_name) (file.told, λ bytes _. meant_told files certificate_line (certificate_of bytes)) passed certificate
 
 module _ (files : Option Files) (words : List (List ℕ)) (status : Status) (text : List ℕ)
     (exact : AllTold files words → (other : Outcome) → IsOutcome files words other → IsAnswerOf other status text) where
   judged_list : (mesh : FaceList) (first second : List ℕ) (list : PeakedMoves) → IsVerifyInput files words mesh first second (certificates.Moves list)
-      → IsAnswerOf (Pass (Judged (OnMoves (verdict_of mesh first second list)))) status text
+      → IsAnswerOf (Pass (verdict_answer (verdict_of mesh first second list))) status text
   judged_list mesh first second list input =
-      exact (told_input files words mesh first second (certificates.Moves list) input) (Pass (Judged (OnMoves (verdict_of mesh first second list))))
-      (judgement_outcome files words mesh first second (certificates.Moves list) (Pass (Judged (OnMoves (verdict_of mesh first second list)))) input refl)
+      exact (told_input files words mesh first second (certificates.Moves list) input) (Pass (verdict_answer (verdict_of mesh first second list)))
+      (judgement_outcome files words mesh first second (certificates.Moves list) (Pass (verdict_answer (verdict_of mesh first second list))) input refl)
 
   -- what is answered of a list of moves
   pub verified : IsVerified files words status text
@@ -145,17 +143,17 @@ module _ (files : Option Files) (words : List (List ℕ)) (status : Status) (tex
 
   judged_denial : (mesh : FaceList) (first second : List ℕ) (denial : Denial) (verdict : DenialVerdict)
       → IsVerifyInput files words mesh first second (certificates.Denial denial) → IsVerdict mesh first second denial verdict
-      → (status ≡ denial_status verdict) × (text ≡ denial_line verdict)
+      → (status ≡ denial_status verdict) × IsText (denial_line verdict) text
   judged_denial mesh first second denial verdict input is =
       let a =
-      exact (told_input files words mesh first second (certificates.Denial denial) input) (Pass (Judged (OnDenial verdict)))
-      (judgement_outcome files words mesh first second (certificates.Denial denial) (Pass (Judged (OnDenial verdict))) input (verdict, refl, is)) in
+      exact (told_input files words mesh first second (certificates.Denial denial) input) (Pass (denial_answer verdict))
+      (judgement_outcome files words mesh first second (certificates.Denial denial) (Pass (denial_answer verdict)) input (verdict, refl, is)) in
       (a.status_is, a.text_is)
 
   module _ (outcome : Outcome) (is : IsOutcome files words outcome) (answer : IsAnswerOf outcome status text) where
     denial_told : (mesh : FaceList) (first second : List ℕ) (denial : Denial)
         → IsVerifyInput files words mesh first second (certificates.Denial denial)
-        → (verdict : DenialVerdict) × IsVerdict mesh first second denial verdict × (status ≡ denial_status verdict) × (text ≡ denial_line verdict)
+        → (verdict : DenialVerdict) × IsVerdict mesh first second denial verdict × (status ≡ denial_status verdict) × IsText (denial_line verdict) text
     denial_told mesh first second denial input =
         judged_end mesh first second denial outcome status text (behind_files files words mesh first second (certificates.Denial denial) outcome input is) answer
 

@@ -1,17 +1,19 @@
 -- How the checks of `verify` end, by the place where the reading ends, and the verdicts on a denial.
-use Rattle.std.proofs.Common.{inr, ℕ, List}
+use Rattle.std.proofs.Common.{inr, ℕ, List, sym, subst, Ok, Err, Result, MatchResult, ◌≡◌}
 use Rattle.std.specs.Prelude.{Option}
 use Rattle.surf_io.specs.Files.{Files}
 use Rattle.surf_model.specs.FaceLists.{FaceList}
-use Rattle.homotopy_cli.specs.Answers.{Answer, Judged}
+use Rattle.homotopy_cli.proofs.Checking.{stops_first, stops_next}
+use Rattle.homotopy_cli.specs.Answers.{Answer}
 use Rattle.homotopy_cli.specs.Checks.{Check, Passes, ◌>>=◌}
 use Rattle.homotopy_cli.specs.Inputs.{mesh_in, pair_in, certificate_in, walk_at}
+use Rattle.homotopy_cli.specs.Replies.{Replies}
 use Rattle.homotopy_cli.specs.Stops.{Stops}
 use Rattle.homotopy_cli.specs.Verify.{judgement, verify}
 use Rattle.homotopy_cli.specs.declared.certificate.Certificate.{Certificate}
+use Rattle.homotopy_cli.specs.declared.reply.Reply.{Reply}
 use Rattle.homotopy_cli.specs.declared.stop.Stop.{Stop}
-use Rattle.homotopy_cli.specs.declared.verify.Judgement.{Judgement}
-use Rattle.homotopy_cli.proofs.Checking.{stops_first, stops_next}
+use Rattle.homotopy_cli.specs.declared.stop.Stop.TheVariants.{OutOfMemory}
 
 -- what is looked at behind the walks, and behind the mesh
 abbrev pub after_pair : Option Files → List ℕ → FaceList → List (List ℕ) → Check Answer
@@ -34,7 +36,11 @@ certificate_stops held mesh walks certificate faces pair stop p q h =
     (stops_next (pair_in held walks faces) (after_pair held certificate faces) pair stop q
     (stops_first (certificate_in held certificate) (judgement faces (walk_at pair 0) (walk_at pair 1)) stop h))
 
-pub judged : (held : Option Files) (mesh walks certificate : List ℕ) (faces : FaceList) (pair : List (List ℕ)) (shown : Certificate) (answer : Judgement)
-    → Passes (mesh_in held mesh) faces → Passes (pair_in held walks faces) pair → Passes (certificate_in held certificate) shown
-    → Passes (judgement faces (walk_at pair 0) (walk_at pair 1) shown) (Judged answer) → Passes (verify held mesh walks certificate) (Judged answer)
-judged held mesh walks certificate faces pair shown answer p q r is = inr (faces, p, inr (pair, q, inr (shown, r, is)))
+pub judged : (held : Option Files) (mesh walks certificate : List ℕ) (faces : FaceList) (pair : List (List ℕ)) (shown : Certificate)
+    (result : Result Reply Stop) → Passes (mesh_in held mesh) faces → Passes (pair_in held walks faces) pair
+    → Passes (certificate_in held certificate) shown
+    → MatchResult result (Replies (judgement faces (walk_at pair 0) (walk_at pair 1) shown)) (λ stop. stop ≡ OutOfMemory)
+    → MatchResult result (Replies (verify held mesh walks certificate)) (Stops (verify held mesh walks certificate))
+judged held mesh walks certificate faces pair shown (Ok reply) p q r h =
+    record { answer = h.answer; passes = inr (faces, p, inr (pair, q, inr (shown, r, h.passes))); is_answer = h.is_answer }
+judged held mesh walks certificate faces pair shown (Err stop) p q r h = subst (Stops (verify held mesh walks certificate)) (sym h) tt

@@ -5,10 +5,10 @@ use Rattle.std.proofs.Math.Seq.{split_at}
 use Rattle.std.proofs.lemmas.List.{append-nil, map-append, take_all, take_more}
 use Rattle.std.proofs.lemmas.Grind.{flat_map-append}
 use Rattle.surf_io.specs.Calls.{WrotePart}
-use Rattle.homotopy_cli.specs.Gathered.{Gathers}
-use Rattle.homotopy_cli.specs.Refusals.{behind_blank}
-use Rattle.homotopy_cli.specs.Texts.{word_line, words_text}
 use Rattle.homotopy_cli.proofs.GatheredLemmas.{gathers-put, gathers-then, gathers-fails, gathers-stops}
+use Rattle.homotopy_cli.specs.Gathered.{Gathers}
+use Rattle.homotopy_cli.specs.Lines.{behind_blank}
+use Rattle.homotopy_cli.specs.Reduce.{word_line, words_text}
 
 -- the line of a word up to its entry k
 abbrev pub line_up_to : List ℕ → ℕ → List ℕ

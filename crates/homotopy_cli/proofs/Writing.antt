@@ -1,14 +1,14 @@
 -- What is written piece by piece.
-use Rattle.std.proofs.Common.{◌≡◌, ℕ, suc, ◌<◌, ◌≤◌, List, [], ◌∷◌, ◌++◌, length, get_or, take, drop, sym, ap, ◌∙◌, append_assoc, arith}
+use Rattle.std.proofs.Common.{◌≡◌, ℕ, suc, ◌+◌, ◌<◌, ◌≤◌, List, [], ◌∷◌, ◌++◌, length, get_or, take, drop, sym, ap, ◌∙◌, append_assoc, arith}
 use Rattle.std.specs.Prelude.{Option, Result, Ok, Err, OnOk, OnErr, map, flat_map}
 use Rattle.std.proofs.Math.Seq.{split_at}
-use Rattle.std.proofs.lemmas.List.{take_all, map-append, append-nil}
+use Rattle.std.proofs.lemmas.List.{take_all, take_more, map-append, append-nil}
 use Rattle.std.proofs.lemmas.Grind.{flat_map-append}
 use Rattle.surf_io.specs.Bytes.{append_told, Appends, AppendsPrefix}
-use Rattle.surf_io.specs.Calls.{WroteAll, WrotePart}
-use Rattle.surf_io.proofs.Appending.{part_after}
-use Rattle.homotopy_cli.specs.Refusals.{line, behind_blank}
-use Rattle.homotopy_cli.specs.Replies.{phrase_text}
+use Rattle.surf_io.specs.Calls.{OnlyWrites, WroteAll, WrotePart}
+use Rattle.surf_io.proofs.Appending.{appends_twice, on_err, part_after, part_first, part_last}
+use Rattle.homotopy_cli.specs.Lines.{line, behind_blank, in_lines, phrase_text}
+use Rattle.homotopy_cli.specs.Writes.{Writes}
 use Rattle.homotopy_cli.specs.declared.line.Phrase.{Phrase}
 
 -- the whole is a first part of itself
@@ -67,3 +67,41 @@ part_of_line written faults old mid new first others i d below before never_fall
     (ap (λ (t : List Phrase). line (phrase_text first) (map phrase_text t)) (split_at others i d below)
     ∙ line-at first (take i others) x (drop (suc i) others))
     failed
+
+-- ---- one text behind another
+
+-- the first text was written, and the second is the end of the call
+pub writes_then : {X V E : Type 0} (written : X → Option (List ℕ)) (settled faults : X → ℕ) (old mid new : X) (s t : List ℕ) (result : Result V E)
+    → WroteAll written old mid s → OnlyWrites settled faults old mid → Writes written settled faults mid new t result
+    → Writes written settled faults old new (s ++ t) result
+writes_then written settled faults old mid new s t result first only h =
+    record {
+      ok = both_ok result (appends_twice (written old) (written mid) (written new) s t first) h.ok;
+      failed = on_err result (part_last written faults old mid new s t first only.never_falls) h.failed;
+      only_writes =
+          record {
+            same_settled = h.only_writes.same_settled ∙ only.same_settled;
+            never_falls = omega (arith, only.never_falls, h.only_writes.never_falls);
+          };
+    }
+
+-- a first text was not written whole
+pub writes_stops : {X V W E F : Type 0} (written : X → Option (List ℕ)) (settled faults : X → ℕ) (old new : X) (s rest whole : List ℕ) (x : E) (y : F)
+    → whole ≡ s ++ rest → Writes {V = V} written settled faults old new s (Err x) → Writes {V = W} written settled faults old new whole (Err y)
+writes_stops written settled faults old new s rest whole x y is h =
+    record { ok = tt; failed = part_first written faults old new s rest whole is h.failed; only_writes = h.only_writes }
+
+-- one line more
+pub lines-more : (lines : List (List ℕ)) (i : ℕ) (d : List ℕ) → i < length lines
+    → in_lines (take (i + 1) lines) ≡ in_lines (take i lines) ++ get_or lines i d
+lines-more lines i d below =
+    ap in_lines (take_more lines i d below)
+    ∙ flat_map-append (λ (line : List ℕ). line) (take i lines) (get_or lines i d ∷ [])
+    ∙ ap (λ (t : List ℕ). in_lines (take i lines) ++ t) (append-nil (get_or lines i d))
+
+-- a line, with those before and behind it
+pub lines-parts : (lines : List (List ℕ)) (i : ℕ) (d : List ℕ) → i < length lines
+    → in_lines lines ≡ in_lines (take i lines) ++ (get_or lines i d ++ in_lines (drop (suc i) lines))
+lines-parts lines i d below =
+    ap in_lines (split_at lines i d below)
+    ∙ flat_map-append (λ (line : List ℕ). line) (take i lines) (get_or lines i d ∷ drop (suc i) lines)

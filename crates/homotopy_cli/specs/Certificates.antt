@@ -1,12 +1,17 @@
--- What a certificate shows.
-use Rattle.std.specs.Prelude.{ℕ, List}
+-- What a certificate shows, and how it is written.
+use Rattle.std.specs.Prelude.{ℕ, List, [], ◌++◌, codes}
 use Rattle.surf_model.specs.FaceLists.{FaceList}
 use Rattle.move_lifting.specs.Lifts.{LeadsAtPeak}
 use Rattle.labellings.specs.Denials.{DenialHolds}
+use Rattle.walk_files.specs.DenialTexts.{denial_text}
+use Rattle.walk_files.specs.MoveTexts.{list_text}
 use Rattle.walk_translate.specs.declared.deciding.Answer as deciding
 use Rattle.walk_translate.specs.declared.deciding.Answer.TheVariants.{Homotopic, Different}
+use Rattle.homotopy_cli.specs.Lines.{line}
 use Rattle.homotopy_cli.specs.declared.certificate.Certificate.{Certificate}
 use Rattle.homotopy_cli.specs.declared.certificate.Certificate.TheVariants.{Moves, Denial}
+use Rattle.homotopy_cli.specs.declared.status.Status.{Status}
+use Rattle.homotopy_cli.specs.declared.status.Status.TheVariants.{Yes, No}
 
 -- The certificate shows what holds of the two walks: its moves lead from the first to the second, and its peak is the greatest number
 -- of darts among the walks that they pass; or it is a denial that holds.
@@ -18,3 +23,18 @@ Convinces mesh first second (Denial denial) = DenialHolds mesh first second deni
 abbrev pub decision_of : Certificate → deciding.Answer
 decision_of (Moves list) = Homotopic
 decision_of (Denial denial) = Different
+
+-- yes where the walks are homotopic
+abbrev pub decision_status : deciding.Answer → Status
+decision_status Homotopic = Yes
+decision_status Different = No
+
+-- the line of a decision
+abbrev pub decision_line : deciding.Answer → List ℕ
+decision_line Homotopic = line (codes "homotopic") []
+decision_line Different = line (codes "different") []
+
+-- a certificate behind the line of the decision that it is for
+abbrev pub certificate_text : Certificate → List ℕ
+certificate_text (Moves list) = decision_line Homotopic ++ list_text list
+certificate_text (Denial denial) = decision_line Different ++ denial_text denial

@@ -1,15 +1,14 @@
 -- Checks: what is looked at, one thing after another, up to the first refusal.
 use Rattle.std.specs.Prelude.{◌≡◌, ℕ, ◌<◌, ◌≤◌, ◌⊎◌, List, length, Option, None, Some, IfSome, IsSome, IsSomeAnd, Result, Ok, Err, ⊤}
 use Rattle.surf_io.specs.Files.{Files, file_of}
-use Rattle.homotopy_cli.specs.Causes.{Cause, Exactly}
+use Rattle.homotopy_cli.specs.Answers.{Texts}
+use Rattle.homotopy_cli.specs.Refusals.{too_large}
 use Rattle.homotopy_cli.specs.declared.inputs.TheConstants.{MOST_BYTES}
 use Rattle.homotopy_cli.specs.declared.refusal.Input.{Input}
-use Rattle.homotopy_cli.specs.declared.refusal.Refusal.{Refusal}
-use Rattle.homotopy_cli.specs.declared.refusal.Refusal.TheVariants.{TooLarge}
 
--- how a check of a thing ends: with a cause to refuse, or with the thing
+-- how a check of a thing ends: the input is refused, with one of these texts; or the thing passes
 pub data End (T : Type 0) : Type 0 where
-  Refuse : Cause → End T
+  Refuse : Texts → End T
   Pass : T → End T
 
 -- a check of a thing
@@ -30,26 +29,26 @@ abbrev pub pass : {T : Type 0} → T → Check T
 pass thing = without_files (λ end. end ≡ Pass thing)
 
 -- the refusal comes
-abbrev pub refuse : {T : Type 0} → Refusal → Check T
-refuse refusal = without_files (λ end. end ≡ Refuse (Exactly refusal))
+abbrev pub refuse : {T : Type 0} → Texts → Check T
+refuse texts = without_files (λ end. end ≡ Refuse texts)
 
 -- a thing of which this holds passes; where there is none, the refusal comes
-abbrev pub found_or : {T : Type 0} → Refusal → (T → Type 0) → Check T
-found_or {T} refusal P = without_files ends
+abbrev pub found_or : {T : Type 0} → Texts → (T → Type 0) → Check T
+found_or {T} texts P = without_files ends
   where
     ends : End T → Type 0
-    ends (Refuse cause) = ((thing : T) → P thing → ⊥) × (cause ≡ Exactly refusal)
+    ends (Refuse told) = ((thing : T) → P thing → ⊥) × (told ≡ texts)
     ends (Pass thing) = P thing
 
 -- what is meant passes, and a fault in it is refused
-abbrev pub meant : {T F : Type 0} → (F → Refusal) → Result T F → Check T
-meant refusal (Ok thing) = pass thing
-meant refusal (Err fault) = refuse (refusal fault)
+abbrev pub meant : {T F : Type 0} → (F → Texts) → Result T F → Check T
+meant line_of (Ok thing) = pass thing
+meant line_of (Err fault) = refuse (line_of fault)
 
 -- the thing passes where nothing is wrong with it, and else the fault is refused
-abbrev pub pass_unless : {T F : Type 0} → (F → Refusal) → Option F → T → Check T
-pass_unless refusal None thing = pass thing
-pass_unless refusal (Some fault) thing = refuse (refusal fault)
+abbrev pub pass_unless : {T F : Type 0} → (F → Texts) → Option F → T → Check T
+pass_unless line_of None thing = pass thing
+pass_unless line_of (Some fault) thing = refuse (line_of fault)
 
 -- the bytes are those of the file with that name, if the files are told and it is one of them
 abbrev pub Agrees : Option Files → List ℕ → List ℕ → Type 0
@@ -60,7 +59,7 @@ abbrev pub file : Option Files → List ℕ → Input → Check (List ℕ)
 file held name input = record { Ends = ends; EachFile = λ P. P name }
   where
     ends : End (List ℕ) → Type 0
-    ends (Refuse cause) = (bytes : List ℕ) × Agrees held name bytes × (MOST_BYTES < length bytes) × (cause ≡ Exactly (TooLarge input))
+    ends (Refuse told) = (bytes : List ℕ) × Agrees held name bytes × (MOST_BYTES < length bytes) × (told ≡ too_large input)
     ends (Pass bytes) = Agrees held name bytes × (length bytes ≤ MOST_BYTES)
 
 -- one check after another: a refusal of the first is the end, and of what the first passes the next is made
@@ -68,7 +67,7 @@ infixl 10 ◌>>=◌
 abbrev pub ◌>>=◌ : {A B : Type 0} → Check A → (A → Check B) → Check B
 ◌>>=◌ {A} {B} first next =
     record {
-      Ends = λ end. ((cause : Cause) × first.Ends (Refuse cause) × (end ≡ Refuse cause))
+      Ends = λ end. ((texts : Texts) × first.Ends (Refuse texts) × (end ≡ Refuse texts))
           ⊎ ((thing : A) × first.Ends (Pass thing) × (next thing).Ends end);
       EachFile = λ P. first.EachFile P × ((thing : A) → first.Ends (Pass thing) → (next thing).EachFile P);
     }

@@ -1,11 +1,19 @@
--- The lists of words that are commands of the program.
-use Rattle.std.specs.Prelude.{◌≡◌, ℕ, ◌<◌, ◌^◌, List, [], ◌∷◌, map, codes, string_bytes, String}
-use Rattle.std.specs.Global.{Global}
-use Rattle.std.specs.Str.Parse.{IsNumeral, digits_value}
+-- The table of commands: the words of each row, and what is answered to it.
+use Rattle.std.specs.Prelude.{◌≡◌, ℕ, List, [], ◌∷◌, codes, Option}
+use Rattle.surf_io.specs.Files.{Files}
+use Rattle.homotopy_cli.specs.Answers.{Answer}
+use Rattle.homotopy_cli.specs.Checks.{Check, refuse}
+use Rattle.homotopy_cli.specs.Certify.{certify}
+use Rattle.homotopy_cli.specs.Decide.{decide}
+use Rattle.homotopy_cli.specs.Reduce.{reduce, IsReduceRow}
+use Rattle.homotopy_cli.specs.Refusals.{not_built}
+use Rattle.homotopy_cli.specs.Surface.{surface}
+use Rattle.homotopy_cli.specs.Verify.{verify}
+use Rattle.homotopy_cli.specs.Words.{IsNatural}
 use Rattle.homotopy_cli.specs.declared.command.Command.{Command}
 use Rattle.homotopy_cli.specs.declared.command.Command.TheVariants as read
 
--- a row of the table of commands, with the names of its files and its numbers; a name is the bytes of its text
+-- a row of the table, with the names of its files and its numbers; a name is the bytes of its text
 pub data Row : Type 0 where
   Surface : (mesh : List ℕ) → Row
   Decide : (mesh walks : List ℕ) → Row
@@ -14,17 +22,13 @@ pub data Row : Type 0 where
   Reduce : (degree : ℕ) (list : List ℕ) → Row
   Trial : (genus grid : ℕ) → Row
 
--- a natural number in decimal digits, leading zeros allowed, that fits 32 bits
-abbrev pub IsNatural : List ℕ → ℕ → Type 0
-IsNatural digits n = IsNumeral 10 digits × (digits_value 10 digits ≡ n) × (n < 2 ^ 32)
-
 -- the words are this row
 abbrev pub IsRow : List (List ℕ) → Row → Type 0
 IsRow words (Surface mesh) = words ≡ codes "surface" ∷ mesh ∷ []
 IsRow words (Decide mesh walks) = words ≡ codes "decide" ∷ mesh ∷ walks ∷ []
 IsRow words (Certify mesh walks) = words ≡ codes "certify" ∷ mesh ∷ walks ∷ []
 IsRow words (Verify mesh walks certificate) = words ≡ codes "verify" ∷ mesh ∷ walks ∷ certificate ∷ []
-IsRow words (Reduce degree list) = (digits : List ℕ) × (words ≡ codes "reduce" ∷ digits ∷ list ∷ []) × IsNatural digits degree
+IsRow words (Reduce degree list) = IsReduceRow words degree list
 IsRow words (Trial genus grid) =
     (digits others : List ℕ) × (words ≡ codes "trial" ∷ digits ∷ others ∷ []) × IsNatural digits genus × IsNatural others grid
 
@@ -37,6 +41,11 @@ row_of (read.Verify mesh walks certificate) = Verify mesh.now walks.now certific
 row_of (read.Reduce degree list) = Reduce degree list.now
 row_of (read.Trial genus grid) = Trial genus grid
 
--- the bytes of each word
-abbrev pub texts : List (String Global) → List (List ℕ)
-texts words = map string_bytes words
+-- the answer to a row
+abbrev pub answer_to : Option Files → Row → Check Answer
+answer_to held (Surface mesh) = surface held mesh
+answer_to held (Decide mesh walks) = decide held mesh walks
+answer_to held (Certify mesh walks) = certify held mesh walks
+answer_to held (Verify mesh walks certificate) = verify held mesh walks certificate
+answer_to held (Reduce degree list) = reduce held degree list
+answer_to held (Trial genus grid) = refuse not_built

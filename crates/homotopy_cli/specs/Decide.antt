@@ -1,17 +1,16 @@
 -- The command `decide`.
-use Rattle.std.specs.Prelude.{◌≡◌, ℕ, ◌↔◌, ◌⊎◌, List, Option}
+use Rattle.std.specs.Prelude.{◌≡◌, ℕ, ◌↔◌, ◌⊎◌, List, [], ◌∷◌, codes, Option}
 use Rattle.surf_io.specs.Files.{Files}
 use Rattle.surf_model.specs.FaceLists.{FaceList}
 use Rattle.surf_model.specs.Moves as moves
 use Rattle.surf_model.specs.Surfaces.{IsSurface}
 use Rattle.walk_translate.specs.declared.deciding.Answer as deciding
 use Rattle.walk_translate.specs.declared.deciding.Answer.TheVariants.{Homotopic, Different}
-use Rattle.homotopy_cli.specs.Answers.{Answer, Decided}
+use Rattle.homotopy_cli.specs.Answers.{Answer, Exactly}
+use Rattle.homotopy_cli.specs.Certificates.{decision_status, decision_line}
 use Rattle.homotopy_cli.specs.Checks.{Check, End, Refuse, Pass, Holds, without_files, ◌>>=◌}
-use Rattle.homotopy_cli.specs.Commands.{IsRow, Decide}
 use Rattle.homotopy_cli.specs.Inputs.{pair_in, walk_at, SpellsMesh, SpellsPair}
 use Rattle.homotopy_cli.specs.SurfaceInput.{surface_in}
-use Rattle.homotopy_cli.specs.Texts.{decision_line}
 use Rattle.homotopy_cli.specs.declared.status.Status.{Status}
 use Rattle.homotopy_cli.specs.declared.status.Status.TheVariants.{Yes, No}
 
@@ -20,7 +19,7 @@ use Rattle.homotopy_cli.specs.declared.status.Status.TheVariants.{Yes, No}
 pub record IsDecideInput (held : Option Files) (words : List (List ℕ)) (mesh : FaceList) (first second : List ℕ) : Type 0 where
   pub mesh_name : List ℕ
   pub walks_name : List ℕ
-  pub words_are : IsRow words (Decide mesh_name walks_name)
+  pub words_are : words ≡ codes "decide" ∷ mesh_name ∷ walks_name ∷ []
   pub mesh_file : Holds held mesh_name (SpellsMesh mesh)
   pub is_surface : IsSurface mesh
   pub walks_file : Holds held walks_name (SpellsPair mesh first second)
@@ -33,14 +32,18 @@ pub record IsDecided (held : Option Files) (words : List (List ℕ)) (status : S
   pub exactly : (mesh : FaceList) (first second : List ℕ) → IsDecideInput held words mesh first second
       → (status ≡ Yes) ↔ moves.Homotopic mesh first second
 
+-- the answer that a decision is
+abbrev pub decision_answer : deciding.Answer → Answer
+decision_answer decision = record { status = decision_status decision; texts = Exactly (decision_line decision) }
+
 -- the decision on two walks of a mesh
 abbrev pub decided : FaceList → List ℕ → List ℕ → Check Answer
 decided mesh first second = without_files ends
   where
     ends : End Answer → Type 0
-    ends (Refuse cause) = ⊥
+    ends (Refuse texts) = ⊥
     ends (Pass answer) =
-        (decision : deciding.Answer) × (answer ≡ Decided decision) × ((decision ≡ Homotopic) ↔ moves.Homotopic mesh first second)
+        (decision : deciding.Answer) × (answer ≡ decision_answer decision) × ((decision ≡ Homotopic) ↔ moves.Homotopic mesh first second)
 
 -- what is looked at, in order, and then the decision
 abbrev pub decide : Option Files → (mesh walks : List ℕ) → Check Answer

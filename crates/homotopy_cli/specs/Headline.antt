@@ -6,8 +6,8 @@
 --
 -- Its premises. The files that the words name are told by the shelf, are not too large, and stand for such a surface and such walks
 -- (`IsDecideInput`, `IsCertifyInput`); for `certify` the surface and the walks are within its limits. The status is that of an answer,
--- and then all of the text was written: that is the clause `answered` of `run`, which has this record among its answers. By the clause
--- `complete` it is so wherever no count of faults rose in the call and memory was not wanting.
+-- and then all of the text was written: that is the clause `answered` of `run`, by whose `Answers` it holds (the law `headline` of
+-- src/laws.rt). By the clause `complete` it is so wherever no count of faults rose in the call and memory was not wanting.
 use Rattle.std.specs.Prelude.{◌≡◌, ◌≢◌, ℕ, ◌⊎◌, ◌++◌, List, Option}
 use Rattle.surf_io.specs.Files.{Files}
 use Rattle.surf_model.specs.FaceLists.{FaceList}
@@ -21,7 +21,7 @@ use Rattle.walk_files.specs.MoveTexts.{list_text}
 use Rattle.walk_translate.specs.declared.deciding.Answer.TheVariants.{Homotopic, Different}
 use Rattle.homotopy_cli.specs.Certify.{IsCertifyInput, IsWithinLimits}
 use Rattle.homotopy_cli.specs.Decide.{IsDecideInput}
-use Rattle.homotopy_cli.specs.Texts.{decision_line}
+use Rattle.homotopy_cli.specs.Certificates.{decision_line}
 use Rattle.homotopy_cli.specs.declared.status.Status.{Status}
 use Rattle.homotopy_cli.specs.declared.status.Status.TheVariants.{Yes, No}
 

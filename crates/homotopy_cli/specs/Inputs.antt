@@ -13,24 +13,23 @@ use Rattle.walk_files.specs.declared.certificate.CertHead.TheVariants as heads
 use Rattle.walk_files.specs.declared.fault.CertFault.{CertFault}
 use Rattle.walk_files.specs.declared.limits.TheConstants.{MOST_PEAK}
 use Rattle.homotopy_cli.specs.Checks.{Check, file, meant, pass_unless, ◌>>=◌}
+use Rattle.homotopy_cli.specs.Refusals.{off_line, numbers_line, pair_line, certificate_line}
 use Rattle.homotopy_cli.specs.declared.certificate.Certificate.{Certificate}
 use Rattle.homotopy_cli.specs.declared.certificate.Certificate.TheVariants.{Moves, Denial}
 use Rattle.homotopy_cli.specs.declared.refusal.Input.TheVariants as inputs
-use Rattle.homotopy_cli.specs.declared.refusal.Refusal.TheVariants as refusals
-use Rattle.homotopy_cli.specs.declared.refusal.Refusal.TheVariants.{Off, Walks, Pair}
 
 -- the mesh that the file spells
 abbrev pub mesh_in : Option Files → List ℕ → Check FaceList
 mesh_in held name = do
   bytes ← file held name inputs.Mesh
-  meant Off (meaning_of bytes)
+  meant off_line (meaning_of bytes)
 
 -- the walks that the file spells, which are two walks of the mesh with common ends
 abbrev pub pair_in : Option Files → List ℕ → FaceList → Check (List (List ℕ))
 pair_in held name mesh = do
   bytes ← file held name inputs.Walks
-  walks ← meant Walks (walks_of bytes)
-  pass_unless Pair (pair_fault mesh walks) walks
+  walks ← meant (numbers_line inputs.Walks) (walks_of bytes)
+  pass_unless pair_line (pair_fault mesh walks) walks
 
 -- walk k of some, counted from 0
 abbrev pub walk_at : List (List ℕ) → ℕ → List ℕ
@@ -60,7 +59,7 @@ IsPeakRead (Denial denial) = Unit {0}
 abbrev pub certificate_in : Option Files → List ℕ → Check Certificate
 certificate_in held name = do
   bytes ← file held name inputs.Certificate
-  meant refusals.Certificate (certificate_of bytes)
+  meant certificate_line (certificate_of bytes)
 
 -- ---- what the bytes of a file spell
 

@@ -2,12 +2,11 @@
 use Rattle.std.specs.Prelude.{◌≡◌, ℕ, List, [], codes, Option}
 use Rattle.surf_io.specs.Files.{Files}
 use Rattle.surf_model.specs.FaceLists.{FaceList}
-use Rattle.homotopy_cli.specs.Answers.{Outcome}
 use Rattle.homotopy_cli.specs.Checks.{Holds}
 use Rattle.homotopy_cli.specs.Commands.{IsRow, Verify}
 use Rattle.homotopy_cli.specs.Inputs.{SpellsMesh, SpellsPair, SpellsCertificate}
-use Rattle.homotopy_cli.specs.Outcomes.{IsOutcome, IsAnswerOf}
-use Rattle.homotopy_cli.specs.Refusals.{line}
+use Rattle.homotopy_cli.specs.Lines.{line}
+use Rattle.homotopy_cli.specs.Outcomes.{Outcome, IsOutcome, IsAnswerOf}
 use Rattle.homotopy_cli.specs.declared.certificate.Certificate.{Certificate}
 use Rattle.homotopy_cli.specs.declared.status.Status.{Status}
 use Rattle.homotopy_cli.specs.declared.status.Status.TheVariants.{Yes}

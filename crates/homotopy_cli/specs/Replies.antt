@@ -1,44 +1,46 @@
--- What is written: its text, and the status with which the program ends then.
-use Rattle.std.specs.Prelude.{ℕ, List, decimal}
+-- What is written as the answer to a command.
+use Rattle.std.specs.Prelude.{◌≡◌, ℕ, List, Option, Result, Err, MatchResult}
+use Rattle.surf_io.specs.Calls.{OnlyReads}
+use Rattle.surf_io.specs.Faults.{Rose}
+use Rattle.surf_io.specs.Files.{Files}
 use Rattle.homotopy_cli.specs.Answers.{Answer}
-use Rattle.homotopy_cli.specs.Certificates.{decision_of}
 use Rattle.homotopy_cli.specs.Checks.{Check, Pass, Passes}
 use Rattle.homotopy_cli.specs.Outcomes.{IsAnswerOf}
-use Rattle.homotopy_cli.specs.Refusals.{refusal_line}
-use Rattle.homotopy_cli.specs.Statuses.{judgement_status, decision_status}
-use Rattle.homotopy_cli.specs.Texts.{numbers_text, judgement_line, decision_line, certificate_text, words_text}
-use Rattle.homotopy_cli.specs.declared.line.Phrase.{Phrase}
-use Rattle.homotopy_cli.specs.declared.line.Phrase.TheVariants.{Text, Number}
+use Rattle.homotopy_cli.specs.Stops.{Stops, bytes_of}
 use Rattle.homotopy_cli.specs.declared.reply.Reply.{Reply}
 use Rattle.homotopy_cli.specs.declared.reply.Reply.TheVariants as replies
 use Rattle.homotopy_cli.specs.declared.status.Status.{Status}
-use Rattle.homotopy_cli.specs.declared.status.Status.TheVariants.{Yes, Refused}
-
--- the bytes of a part of a line
-abbrev pub phrase_text : Phrase → List ℕ
-phrase_text (Text text) = text.now
-phrase_text (Number number) = decimal number
+use Rattle.homotopy_cli.specs.declared.status.Status.TheVariants.{Yes, No, Refused}
+use Rattle.homotopy_cli.specs.declared.stop.Stop.{Stop}
+use Rattle.homotopy_cli.specs.declared.stop.Stop.TheVariants.{ReadFault}
 
 -- the text of a reply
 abbrev pub reply_text : Reply → List ℕ
-reply_text (replies.Refused refusal) = refusal_line refusal
-reply_text (replies.Measured numbers) = numbers_text numbers
-reply_text (replies.Judged judgement) = judgement_line judgement
-reply_text (replies.Decided decision) = decision_line decision
-reply_text (replies.Certified shown) = certificate_text shown
-reply_text (replies.Reduced words) = words_text words.items
+reply_text (replies.Yes text) = bytes_of text
+reply_text (replies.No text) = bytes_of text
+reply_text (replies.Refused text) = bytes_of text
 
 -- the status behind a reply
 abbrev pub reply_status : Reply → Status
-reply_status (replies.Refused refusal) = Refused
-reply_status (replies.Measured numbers) = Yes
-reply_status (replies.Judged judgement) = judgement_status judgement
-reply_status (replies.Decided decision) = decision_status decision
-reply_status (replies.Certified shown) = decision_status (decision_of shown)
-reply_status (replies.Reduced words) = Yes
+reply_status (replies.Yes text) = Yes
+reply_status (replies.No text) = No
+reply_status (replies.Refused text) = Refused
+
+-- the reply gives the answer
+abbrev pub IsReplyTo : Answer → Reply → Type 0
+IsReplyTo answer reply = IsAnswerOf (Pass answer) (reply_status reply) (reply_text reply)
 
 -- the reply is to an answer that the check may pass
 pub record Replies (check : Check Answer) (reply : Reply) : Type 0 where
   pub answer : Answer
   pub passes : Passes check answer
-  pub is_answer : IsAnswerOf (Pass answer) (reply_status reply) (reply_text reply)
+  pub is_answer : IsReplyTo answer reply
+
+-- A command ended as its check, where the files are these: with the reply to an answer that may pass, or with what stops the check. A read
+-- fault is told only where the count of faults rose; where the check looks at no file, the shelf is as it was; and it was only read.
+pub record Runs {X : Type 0} (held : X → Option Files) (faults : X → ℕ) (old new : X) (command : Option Files → Check Answer)
+    (result : Result Reply Stop) : Type 0 where
+  pub end : MatchResult result (Replies (command (held old))) (Stops (command (held old)))
+  pub fault : result ≡ Err ReadFault → Rose (faults old) (faults new)
+  pub untouched : (command (held old)).EachFile (λ _. ⊥) → new ≡ old
+  pub only_reads : OnlyReads held faults old new

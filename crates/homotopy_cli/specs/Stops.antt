@@ -1,19 +1,46 @@
--- What stops a command, and how the checks end then.
-use Rattle.walk_files.specs.declared.fault.CertFault.{CertFault}
-use Rattle.walk_files.specs.declared.fault.CertFault.TheVariants as faults
-use Rattle.homotopy_cli.specs.Causes.{Cause, Tells}
-use Rattle.homotopy_cli.specs.Checks.{Check, Refuse}
-use Rattle.homotopy_cli.specs.declared.refusal.Refusal.TheVariants.{Certificate}
+-- What stops a command, and what a call that reads did.
+use Rattle.std.specs.Prelude.{◌≡◌, ℕ, List, Option, Result, Err, MatchResult}
+use Rattle.surf_io.specs.Calls.{OnlyReads}
+use Rattle.surf_io.specs.Faults.{Rose}
+use Rattle.surf_io.specs.Files.{Files}
+use Rattle.homotopy_cli.specs.Answers.{Texts, NoText, IsText}
+use Rattle.homotopy_cli.specs.Certificates.{certificate_text}
+use Rattle.homotopy_cli.specs.Checks.{Check, Refuse, Passes}
+use Rattle.homotopy_cli.specs.Lines.{in_lines, odd_chain_line}
+use Rattle.homotopy_cli.specs.Reduce.{words_text}
 use Rattle.homotopy_cli.specs.declared.stop.Stop.{Stop}
 use Rattle.homotopy_cli.specs.declared.stop.Stop.TheVariants.{Refused, ReadFault, OutOfMemory}
+use Rattle.homotopy_cli.specs.declared.text.Text.{Text}
+use Rattle.homotopy_cli.specs.declared.text.Text.TheVariants.{Line, Lines, OddChain, Certificate, Words}
 
--- the check may end with a cause that the refusal tells; a read fault and want of memory say nothing of a check
+-- the bytes of what is to be written
+abbrev pub bytes_of : Text → List ℕ
+bytes_of (Line line) = line
+bytes_of (Lines lines) = in_lines lines.items
+bytes_of (OddChain chain) = odd_chain_line chain
+bytes_of (Certificate shown) = certificate_text shown
+bytes_of (Words words) = words_text words.items
+
+-- what stops a command tells a fault that has these texts: it is refused by one of them; or memory is wanting, where there is none
+abbrev pub Tells : Texts → Stop → Type 0
+Tells texts (Refused text) = IsText texts (bytes_of text)
+Tells texts ReadFault = ⊥
+Tells texts OutOfMemory = texts ≡ NoText
+
+-- the check may end with the refusal; a read fault and want of memory say nothing of a check
 abbrev pub Stops : {T : Type 0} → Check T → Stop → Type 0
-Stops check (Refused refusal) = (cause : Cause) × check.Ends (Refuse cause) × Tells refusal cause
+Stops check (Refused text) = (texts : Texts) × check.Ends (Refuse texts) × IsText texts (bytes_of text)
 Stops check ReadFault = Unit {0}
 Stops check OutOfMemory = Unit {0}
 
--- what stops a command where a certificate has this fault
-abbrev pub certificate_stop : CertFault → Stop
-certificate_stop faults.OutOfMemory = OutOfMemory
-certificate_stop fault = Refused (Certificate fault)
+-- what was made is a thing that the check may pass, or what stopped stops the check
+abbrev pub Ends : {T : Type 0} → Check T → Result T Stop → Type 0
+Ends check result = MatchResult result (Passes check) (Stops check)
+
+-- A call that reads ended so, where the files are these; a read fault is told only where the count of faults rose; and the shelf was only
+-- read. `held` and `faults` are what the shelf tells.
+pub record Reads {X V : Type 0} (held : X → Option Files) (faults : X → ℕ) (old new : X) (IsEnd : Option Files → Type 0)
+    (result : Result V Stop) : Type 0 where
+  pub end : IsEnd (held old)
+  pub fault : result ≡ Err ReadFault → Rose (faults old) (faults new)
+  pub only_reads : OnlyReads held faults old new

@@ -6,25 +6,25 @@ use Rattle.surf_model.specs.FaceLists.{FaceList}
 use Rattle.surf_model.specs.Surfaces.{IsClosed, IsOrientable}
 use Rattle.manifold_check.specs.Faults.{IsFirstFault}
 use Rattle.manifold_check.specs.declared.fault.SurfaceFault.{SurfaceFault}
-use Rattle.homotopy_cli.specs.Causes.{Exactly, NotOrientable}
+use Rattle.homotopy_cli.specs.Answers.{OfOddChain}
 use Rattle.homotopy_cli.specs.Checks.{Check, End, Refuse, Pass, without_files, ◌>>=◌}
 use Rattle.homotopy_cli.specs.Inputs.{mesh_in}
-use Rattle.homotopy_cli.specs.declared.refusal.Refusal.TheVariants.{NotClosed}
+use Rattle.homotopy_cli.specs.Refusals.{surface_line}
 
 -- a closed surface passes, and any other mesh is refused for its first fault
 abbrev pub closed : FaceList → Check FaceList
 closed mesh = without_files ends
   where
     ends : End FaceList → Type 0
-    ends (Refuse cause) = (fault : SurfaceFault) × IsFirstFault mesh fault × (cause ≡ Exactly (NotClosed fault))
+    ends (Refuse texts) = (fault : SurfaceFault) × IsFirstFault mesh fault × (texts ≡ surface_line fault)
     ends (Pass surface) = IsClosed mesh × (surface ≡ mesh)
 
--- an orientable mesh passes, and any other is refused
+-- an orientable mesh passes, and any other is refused by an odd chain
 abbrev pub orientable : FaceList → Check FaceList
 orientable mesh = without_files ends
   where
     ends : End FaceList → Type 0
-    ends (Refuse cause) = (IsOrientable mesh → ⊥) × (cause ≡ NotOrientable mesh)
+    ends (Refuse texts) = (IsOrientable mesh → ⊥) × (texts ≡ OfOddChain mesh)
     ends (Pass surface) = IsOrientable mesh × (surface ≡ mesh)
 
 -- a connected orientable closed surface passes

@@ -2,11 +2,11 @@
 ghost use Rattle.std.specs.Prelude.{◌≡◌, ◌⊎◌, ◌≤◌, length, MatchResult, IsTrue, Ok, Err};
 ghost use Rattle.walk_files.specs.Readers.{is_list, moves_left};
 ghost use Rattle.walk_files.specs.declared.fault.CertFault.{CertFault};
-ghost use Rattle.homotopy_cli.specs.Checks.{Passes, meant};
+ghost use Rattle.homotopy_cli.specs.Checks.{meant};
 ghost use Rattle.homotopy_cli.specs.Inputs.{certificate_of};
-ghost use Rattle.homotopy_cli.specs.Stops.{Stops, certificate_stop};
+ghost use Rattle.homotopy_cli.specs.Refusals.{certificate_line};
+ghost use Rattle.homotopy_cli.specs.Stops.{Ends, Tells};
 ghost use Rattle.homotopy_cli.specs.declared.inputs.TheConstants.{MOST_BYTES};
-ghost use Rattle.homotopy_cli.specs.declared.refusal.Refusal.TheVariants as refusals;
 ghost use Rattle.homotopy_cli.specs.declared.stop.Stop.{Stop};
 
 use crate::stop::Stop;
@@ -27,8 +27,7 @@ pub enum Certificate {
 /// The certificate that the bytes spell.
 pub fn read_certificate(alloc: Global, bytes: &[u8]) -> Result<Certificate, Stop>
     requires { length bytes.now ≤ MOST_BYTES }
-    ensures end { MatchResult result (Passes (meant refusals.Certificate (certificate_of bytes.now)))
-        (Stops (meant refusals.Certificate (certificate_of bytes.now))) }
+    ensures end { Ends (meant certificate_line (certificate_of bytes.now)) result }
     ensures no_fault { result ≡ Err Stop.ReadFault → ⊥ }
 {
     let mut reader = CertReader::start(bytes)?;
@@ -43,7 +42,7 @@ fn gather(alloc: Global, mut reader: CertReader<'_>, peak: u32) -> Result<MoveLi
     requires { IsTrue (is_list reader) }
     ensures { MatchResult result (λ list. (list.peak ≡ peak) × (moves_left reader.entry ≡ Ok list.moves))
         (λ stop. (stop ≡ Stop.OutOfMemory) ⊎ ((fault : CertFault) × (moves_left reader.entry ≡ Err fault)
-        × (stop ≡ certificate_stop fault))) }
+        × Tells (certificate_line fault) stop)) }
 {
     let mut list = MoveList::new(alloc, peak);
     'moves: while let Some(mv) = reader.next_move()? {

@@ -1,22 +1,25 @@
 //! The command `certify`: a certificate for what `decide` answers.
-ghost use Rattle.std.specs.Prelude.{◌≡◌, MatchResult, IfOk, Some, None, Err};
-ghost use Rattle.surf_io.specs.Calls.{OnlyReads};
-ghost use Rattle.surf_io.specs.Faults.{Rose};
+ghost use Rattle.std.specs.Prelude.{◌≡◌, ℕ, List, MatchResult, IfOk, Some, None};
+ghost use Rattle.surf_model.specs.FaceLists.{FaceList};
 ghost use Rattle.surf_model.specs.Moves.{Homotopic};
 ghost use Rattle.surf_model.specs.Walks.{IsWalk, HaveCommonEnds};
 ghost use Rattle.polygon_cut.specs.Polygons.{IsPolygonOf};
 ghost use Rattle.labellings.specs.Denials.{DenialHolds};
-ghost use Rattle.homotopy_cli.specs.Certificates.{Convinces};
-ghost use Rattle.homotopy_cli.specs.Certify.{Certifies, IsWithinLimits, limit_fault};
+ghost use Rattle.homotopy_cli.specs.Answers.{Exactly};
+ghost use Rattle.homotopy_cli.specs.Certificates.{Convinces, decision_of};
+ghost use Rattle.homotopy_cli.specs.Certify.{IsWithinLimits, certificate_answer, limit_fault};
 ghost use Rattle.homotopy_cli.specs.Certify as of_certify;
-ghost use Rattle.homotopy_cli.specs.Stops.{Stops};
-ghost use Rattle.homotopy_cli.specs.declared.stop.Stop.{Stop};
+ghost use Rattle.homotopy_cli.specs.Replies.{IsReplyTo, Runs};
+ghost use Rattle.homotopy_cli.specs.Stops.{Tells};
 
 use crate::certificate::Certificate;
 use crate::inputs::read_pair;
-use crate::refusal::Refusal;
+use crate::line::Phrase;
+use crate::refusal::refused;
+use crate::reply::Reply;
 use crate::stop::Stop;
 use crate::surface_input::read_surface;
+use crate::text::Text;
 use halfedge_map::Surface;
 use labellings::{Denial, GoodLabelling, word_of};
 use move_lifting::{MOST_LIFTED_DARTS, MOST_LIFTED_SIDES, lift};
@@ -34,11 +37,8 @@ pub fn certify<S: Shelf>(
     shelf: &mut S,
     mesh: &str,
     walks: &str,
-) -> Result<Certificate, Stop>
-    ensures end { MatchResult result (Certifies (of_certify.certify (S.held shelf.old) mesh.now walks.now))
-        (Stops (of_certify.certify (S.held shelf.old) mesh.now walks.now)) }
-    ensures fault { result ≡ Err Stop.ReadFault → Rose (S.faults shelf.old) (S.faults shelf.new) }
-    ensures only_reads { OnlyReads S.held S.faults shelf.old shelf.new }
+) -> Result<Reply, Stop>
+    ensures { Runs S.held S.faults shelf.old shelf.new (λ files. of_certify.certify files mesh.now walks.now) result }
 {
     let surface = read_surface(alloc, shelf, mesh)?;
     // The proof reads what holds of every surface.
@@ -47,21 +47,33 @@ pub fn certify<S: Shelf>(
     let first = pair.at(0);
     let second = pair.at(1);
     check_limits(&surface, first, second)?;
-    Ok(find_certificate(alloc, &surface, first, second)?)
+    let shown = find_certificate(alloc, &surface, first, second)?;
+    Ok(reply_with(shown))
+}
+
+/// The reply that a certificate is.
+fn reply_with(shown: Certificate) -> Reply
+    ensures { (mesh : FaceList) (first second : List ℕ) → Convinces mesh first second shown
+        → IsReplyTo (certificate_answer mesh first second (decision_of shown)) result }
+{
+    match shown {
+        Certificate::Moves(_) => Reply::Yes(Text::Certificate(shown)),
+        Certificate::Denial(_) => Reply::No(Text::Certificate(shown)),
+    }
 }
 
 /// Checks that lists of moves may be made on the surface and between the walks.
-fn check_limits(surface: &Surface, first: &Walk, second: &Walk) -> Result<(), Refusal>
+fn check_limits(surface: &Surface, first: &Walk, second: &Walk) -> Result<(), Stop>
     ensures { MatchResult result (λ _. limit_fault surface.now.mesh first.now second.now ≡ None)
-        (λ refusal. limit_fault surface.now.mesh first.now second.now ≡ Some refusal) }
+        (λ stop. (line : List ℕ) × (limit_fault surface.now.mesh first.now second.now ≡ Some line) × Tells (Exactly line) stop) }
 {
     let sides = surface.darts();
     if sides > MOST_LIFTED_SIDES {
-        return Err(Refusal::CertifySides(sides));
+        return Err(refused(&[Phrase::Text("certify sides"), Phrase::Number(sides as u64)]));
     }
     let darts = first.darts() + second.darts();
     if darts > MOST_LIFTED_DARTS {
-        return Err(Refusal::CertifyDarts(darts));
+        return Err(refused(&[Phrase::Text("certify darts"), Phrase::Number(darts as u64)]));
     }
     Ok(())
 }

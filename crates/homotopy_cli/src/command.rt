@@ -1,6 +1,20 @@
 //! The words of the command line.
 ghost use Rattle.std.specs.Prelude.{◌≡◌, ℕ, Some, IfSome, IfNone};
-ghost use Rattle.homotopy_cli.specs.Commands.{Row, IsNatural, IsRow, row_of, texts};
+ghost use Rattle.homotopy_cli.specs.Commands.{Row, IsRow, answer_to, row_of};
+ghost use Rattle.homotopy_cli.specs.Replies.{Runs};
+ghost use Rattle.homotopy_cli.specs.Words.{IsNatural, texts};
+
+use crate::certify::certify;
+use crate::decide::decide;
+use crate::line::Phrase;
+use crate::reduce::reduce;
+use crate::refusal::refused;
+use crate::reply::Reply;
+use crate::stop::Stop;
+use crate::surface::measure;
+use crate::verify::verify;
+use std::alloc::Global;
+use surf_io::Shelf;
 
 /// What the words ask for, with the names of the files.
 #[derive(Clone, Copy, Debug, PartialEq, Eq)]
@@ -69,6 +83,24 @@ pub fn read_command(words: &Vec<String>) -> Option<Command<'_>>
             grid: natural(grid.as_str())?,
         }),
         _ => None,
+    }
+}
+
+/// What is to be written as the answer to a command.
+pub fn answer<S: Shelf>(alloc: Global, shelf: &mut S, command: Command<'_>) -> Result<Reply, Stop>
+    ensures { Runs S.held S.faults shelf.old shelf.new (λ files. answer_to files (row_of command.entry)) result }
+{
+    match command {
+        Command::Surface { mesh } => measure(alloc, shelf, mesh),
+        Command::Decide { mesh, walks } => decide(alloc, shelf, mesh, walks),
+        Command::Certify { mesh, walks } => certify(alloc, shelf, mesh, walks),
+        Command::Verify {
+            mesh,
+            walks,
+            certificate,
+        } => verify(alloc, shelf, mesh, walks, certificate),
+        Command::Reduce { degree, list } => reduce(alloc, shelf, degree, list),
+        Command::Trial { .. } => Err(refused(&[Phrase::Text("not built")])),
     }
 }
 

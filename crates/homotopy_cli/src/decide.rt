@@ -1,15 +1,16 @@
 //! The command `decide`: whether two walks of a surface are homotopic.
-ghost use Rattle.std.specs.Prelude.{◌≡◌, MatchResult, Err};
-ghost use Rattle.surf_io.specs.Calls.{OnlyReads};
-ghost use Rattle.surf_io.specs.Faults.{Rose};
-ghost use Rattle.homotopy_cli.specs.Answers.{Decided};
-ghost use Rattle.homotopy_cli.specs.Checks.{Passes};
+ghost use Rattle.std.specs.Prelude.{◌≡◌};
+ghost use Rattle.homotopy_cli.specs.Certificates.{decision_line};
 ghost use Rattle.homotopy_cli.specs.Decide as of_decide;
-ghost use Rattle.homotopy_cli.specs.Stops.{Stops};
+ghost use Rattle.homotopy_cli.specs.Decide.{decision_answer};
+ghost use Rattle.homotopy_cli.specs.Replies.{IsReplyTo, Runs};
 
 use crate::inputs::read_pair;
+use crate::line::{Line, Phrase};
+use crate::reply::Reply;
 use crate::stop::Stop;
 use crate::surface_input::read_surface;
+use crate::text::Text;
 use std::alloc::Global;
 use surf_io::Shelf;
 use walk_translate::Answer;
@@ -21,16 +22,34 @@ pub fn decide<S: Shelf>(
     shelf: &mut S,
     mesh: &str,
     walks: &str,
-) -> Result<Answer, Stop>
-    ensures end { MatchResult result
-        (λ answer. Passes (of_decide.decide (S.held shelf.old) mesh.now walks.now) (Decided answer))
-        (Stops (of_decide.decide (S.held shelf.old) mesh.now walks.now)) }
-    ensures fault { result ≡ Err Stop.ReadFault → Rose (S.faults shelf.old) (S.faults shelf.new) }
-    ensures only_reads { OnlyReads S.held S.faults shelf.old shelf.new }
+) -> Result<Reply, Stop>
+    ensures { Runs S.held S.faults shelf.old shelf.new (λ files. of_decide.decide files mesh.now walks.now) result }
 {
     let surface = read_surface(alloc, shelf, mesh)?;
     // The proof reads what holds of every surface.
     let _ = surface.faces();
     let pair = read_pair(alloc, shelf, walks, surface.sides())?;
-    Ok(walk_translate::decide(alloc, &surface, pair.at(0), pair.at(1))?)
+    let decision = walk_translate::decide(alloc, &surface, pair.at(0), pair.at(1))?;
+    Ok(reply_on(decision))
+}
+
+/// The reply that a decision is.
+fn reply_on(decision: Answer) -> Reply
+    ensures { IsReplyTo (decision_answer decision) result }
+{
+    let text = Text::Line(line_of(decision));
+    match decision {
+        Answer::Homotopic => Reply::Yes(text),
+        Answer::Different => Reply::No(text),
+    }
+}
+
+/// The line of a decision.
+pub fn line_of(decision: Answer) -> Line
+    ensures { result ≡ decision_line decision }
+{
+    match decision {
+        Answer::Homotopic => Line::of(Phrase::Text("homotopic"), &[]),
+        Answer::Different => Line::of(Phrase::Text("different"), &[]),
+    }
 }

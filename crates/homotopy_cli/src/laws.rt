@@ -1,15 +1,58 @@
-//! What holds of outcomes, said of the definitions. A call of one of these functions does nothing; its
-//! contract is the law.
+//! What is promised of answers, said of the definitions: the headline first, then what each command is for. A call of one of these
+//! functions does nothing; its contract is the law. `run` says of each answer that it is one of `Answers`.
 ghost use Rattle.std.specs.Prelude.{◌≡◌, ℕ, ◌≤◌, List, length, Option};
 ghost use Rattle.surf_io.specs.Files.{Files};
 ghost use Rattle.surf_model.specs.FaceLists.{FaceList};
-ghost use Rattle.homotopy_cli.specs.Answers.{Outcome};
-ghost use Rattle.homotopy_cli.specs.Certify.{IsCertifyInput, IsWithinLimits, IsCertificatePrinted};
+ghost use Rattle.homotopy_cli.specs.Certify.{IsCertified, IsCertifyInput, IsWithinLimits, IsCertificatePrinted};
+ghost use Rattle.homotopy_cli.specs.Decide.{IsDecided};
+ghost use Rattle.homotopy_cli.specs.Headline.{Headline};
 ghost use Rattle.homotopy_cli.specs.Inputs.{IsPeakRead};
-ghost use Rattle.homotopy_cli.specs.Outcomes.{AllTold, IsOutcome};
+ghost use Rattle.homotopy_cli.specs.Outcomes.{AllTold, Answers, IsOutcome, Outcome};
 ghost use Rattle.homotopy_cli.specs.PrintedCertificates.{IsAccepted};
+ghost use Rattle.homotopy_cli.specs.Reduce.{IsReduced};
+ghost use Rattle.homotopy_cli.specs.Surface.{IsMeasured};
+ghost use Rattle.homotopy_cli.specs.Verify.{IsVerified, IsDenialVerified};
 ghost use Rattle.homotopy_cli.specs.declared.inputs.TheConstants.{MOST_BYTES};
 ghost use Rattle.homotopy_cli.specs.declared.status.Status.{Status};
+
+/// The headline: on a connected orientable closed surface `decide` tells whether two walks are homotopic, and `certify` prints what
+/// shows it.
+pub fn headline()
+    ensures { (held : Option Files) (words : List (List ℕ)) (status : Status) (text : List ℕ)
+        → Answers held words status text → Headline held words status text }
+{}
+
+/// What `surface` answers of a mesh.
+pub fn surface_answers()
+    ensures { (held : Option Files) (words : List (List ℕ)) (status : Status) (text : List ℕ)
+        → Answers held words status text → IsMeasured held words status text }
+{}
+
+/// What `decide` answers of two walks of a surface.
+pub fn decide_answers()
+    ensures { (held : Option Files) (words : List (List ℕ)) (status : Status) (text : List ℕ)
+        → Answers held words status text → IsDecided held words status text }
+{}
+
+/// What `certify` answers of two walks of a surface.
+pub fn certify_answers()
+    ensures { (held : Option Files) (words : List (List ℕ)) (status : Status) (text : List ℕ)
+        → Answers held words status text → IsCertified held words status text }
+{}
+
+/// What `verify` answers of a list of moves, and of a denial.
+pub fn verify_answers()
+    ensures moves { (held : Option Files) (words : List (List ℕ)) (status : Status) (text : List ℕ)
+        → Answers held words status text → IsVerified held words status text }
+    ensures denial { (held : Option Files) (words : List (List ℕ)) (status : Status) (text : List ℕ)
+        → Answers held words status text → IsDenialVerified held words status text }
+{}
+
+/// What `reduce` answers of a list of turn words.
+pub fn reduce_answers()
+    ensures { (held : Option Files) (words : List (List ℕ)) (status : Status) (text : List ℕ)
+        → Answers held words status text → IsReduced held words status text }
+{}
 
 /// No words are without an outcome, whatever the files hold.
 pub fn some_outcome()

@@ -9,22 +9,14 @@
 
 mod certificate;
 mod certify;
-#[cfg(test)]
-mod certify_tests;
 mod command;
 mod decide;
-#[cfg(test)]
-mod denial_tests;
 mod inputs;
 mod laws;
 mod line;
-mod numbers;
 mod odd_chain_line;
 mod reduce;
-#[cfg(test)]
-mod reduce_tests;
 mod refusal;
-mod refusal_line;
 mod reply;
 mod run;
 mod status;
@@ -33,6 +25,7 @@ mod surface;
 mod surface_input;
 #[cfg(test)]
 mod tests;
+mod text;
 mod verify;
 mod word_lines;
 

@@ -1,7 +1,7 @@
 //! Writing that a mesh has an odd chain.
-ghost use Rattle.std.specs.Prelude.{◌≡◌, ◌+◌, ◌≤◌, ◌++◌, length, flat_map, decimal, OnOk, OnErr};
-ghost use Rattle.surf_io.specs.Calls.{OnlyWrites, WroteAll, WrotePart};
-ghost use Rattle.homotopy_cli.specs.Refusals.{behind_blank, link_phrases, odd_chain_line};
+ghost use Rattle.std.specs.Prelude.{◌≡◌, ◌+◌, ◌≤◌, ◌++◌, length, flat_map, decimal};
+ghost use Rattle.homotopy_cli.specs.Writes.{Writes};
+ghost use Rattle.homotopy_cli.specs.Lines.{behind_blank, link_phrases, odd_chain_line};
 
 use surf_io::{Failed, Piece, Sink};
 use surf_model::{ChainLink, OddChain};
@@ -11,9 +11,7 @@ const LINK_ROOM: usize = 3 * (1 + Piece::DIGITS);
 
 /// Writes the line of an odd chain. The links are gathered, so that a long chain takes few calls of the sink.
 pub fn put_odd_chain<K: Sink>(out: &mut K, chain: &OddChain) -> Result<(), Failed>
-    ensures ok { OnOk result (WroteAll K.written out.old out.new (odd_chain_line chain.now)) }
-    ensures failed { OnErr result (WrotePart K.written K.faults out.old out.new (odd_chain_line chain.now)) }
-    ensures only_writes { OnlyWrites K.settled K.faults out.old out.new }
+    ensures { Writes K.written K.settled K.faults out.old out.new (odd_chain_line chain.now) result }
 {
     let mut piece = Piece::new();
     piece.put(b"refused: not orientable");

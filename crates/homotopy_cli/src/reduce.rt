@@ -1,29 +1,31 @@
 //! The command `reduce`: the canonical words of a list of turn words.
-ghost use Rattle.std.specs.Prelude.{◌≡◌, ◌⊎◌, ◌<◌, ◌≤◌, ◌^◌, ℕ, nat_lt, false, length, MatchResult, All, IfOk, Ok, Err, Some, None};
+ghost use Rattle.std.specs.Prelude.{◌≡◌, ◌⊎◌, ◌<◌, ◌≤◌, ◌^◌, ℕ, nat_lt, false, length, MatchResult, All, Some, None, Err};
 ghost use Rattle.std.specs.List.{list_all};
-ghost use Rattle.surf_io.specs.Calls.{OnlyReads};
-ghost use Rattle.surf_io.specs.Faults.{Rose};
 ghost use Rattle.turn_words.specs.Canonical.{IsTurnWord, IsCanonicalOf};
 ghost use Rattle.walk_files.specs.NumberLists.{line_at};
-ghost use Rattle.walk_files.specs.NumberTexts.{words_of};
-ghost use Rattle.walk_files.specs.declared.fault.WalkFault.{WalkFault};
 ghost use Rattle.walk_files.specs.declared.limits.TheConstants.{MOST_ENTRIES};
-ghost use Rattle.homotopy_cli.specs.Answers.{Reduced};
-ghost use Rattle.homotopy_cli.specs.Checks.{Passes};
 ghost use Rattle.homotopy_cli.specs.Reduce as of_reduce;
-ghost use Rattle.homotopy_cli.specs.Reduce.{AreCanonicalOf, entries_on, range_fault};
-ghost use Rattle.homotopy_cli.specs.Stops.{Stops};
+ghost use Rattle.homotopy_cli.specs.Reduce.{AreCanonicalOf, entries_on, range_fault, range_line};
+ghost use Rattle.homotopy_cli.specs.Checks.{meant};
+ghost use Rattle.homotopy_cli.specs.Refusals.{numbers_line};
+ghost use Rattle.homotopy_cli.specs.declared.refusal.Input.{Input};
+ghost use Rattle.walk_files.specs.NumberTexts.{words_of};
+ghost use Rattle.homotopy_cli.specs.Replies.{Runs};
+ghost use Rattle.homotopy_cli.specs.Stops.{Ends, Reads, Tells};
 ghost use Rattle.homotopy_cli.specs.declared.stop.Stop.{Stop};
 
 use crate::inputs::read_file;
-use crate::refusal::{Input, Refusal};
+use crate::line::Phrase;
+use crate::refusal::{Input, refused, refused_at};
+use crate::reply::Reply;
 use crate::stop::Stop;
+use crate::text::Text;
 use std::alloc::{AllocError, Global};
 use std::marker::Brand;
 use std::sync::ledger::{Blank, Ledger};
 use surf_io::Shelf;
 use turn_words::{Steps, TurnWord, WordFault, canonise};
-use walk_files::{NumberLines, WalkFault, read_words};
+use walk_files::{NumberLines, read_words};
 
 /// The least degree of turn words.
 pub const LEAST_DEGREE: u32 = 5;
@@ -35,27 +37,20 @@ pub fn reduce<S: Shelf>(
     shelf: &mut S,
     degree: u32,
     list: &str,
-) -> Result<Vec<TurnWord>, Stop>
-    ensures end { MatchResult result
-        (λ words. Passes (of_reduce.reduce (S.held shelf.old) degree list.now) (Reduced words.items))
-        (Stops (of_reduce.reduce (S.held shelf.old) degree list.now)) }
-    ensures fault { result ≡ Err Stop.ReadFault → Rose (S.faults shelf.old) (S.faults shelf.new) }
-    ensures unread { degree < LEAST_DEGREE → shelf.new ≡ shelf.old }
-    ensures only_reads { OnlyReads S.held S.faults shelf.old shelf.new }
+) -> Result<Reply, Stop>
+    ensures { Runs S.held S.faults shelf.old shelf.new (λ files. of_reduce.reduce files degree list.now) result }
 {
     if degree < LEAST_DEGREE {
-        return Err(Stop::Refused(Refusal::Degree(degree)));
+        return Err(refused(&[Phrase::Text("degree"), Phrase::Number(degree as u64)]));
     }
     let lines = read_lines(alloc, shelf, list)?;
-    canonical_words(alloc, degree, &lines)
+    let words = canonical_words(alloc, degree, &lines)?;
+    Ok(Reply::Yes(Text::Words(words)))
 }
 
 /// Reads the turn words, whatever their degree is.
 fn read_lines<S: Shelf>(alloc: Global, shelf: &mut S, name: &str) -> Result<NumberLines, Stop>
-    ensures end { MatchResult result (Passes (of_reduce.lines_in (S.held shelf.old) name.now))
-        (Stops (of_reduce.lines_in (S.held shelf.old) name.now)) }
-    ensures fault { result ≡ Err Stop.ReadFault → Rose (S.faults shelf.old) (S.faults shelf.new) }
-    ensures only_reads { OnlyReads S.held S.faults shelf.old shelf.new }
+    ensures { Reads S.held S.faults shelf.old shelf.new (λ files. Ends (of_reduce.lines_in files name.now) result) result }
 {
     let bytes = read_file(alloc, shelf, name, Input::TurnWords)?;
     lines_of_bytes(alloc, &bytes)
@@ -63,14 +58,12 @@ fn read_lines<S: Shelf>(alloc: Global, shelf: &mut S, name: &str) -> Result<Numb
 
 /// The turn words that the bytes spell.
 fn lines_of_bytes(alloc: Global, bytes: &[u8]) -> Result<NumberLines, Stop>
-    ensures end { MatchResult result (λ lines. words_of bytes.now ≡ Ok lines)
-        (λ stop. (stop ≡ Stop.OutOfMemory) ⊎ ((fault : WalkFault) × (words_of bytes.now ≡ Err fault)
-        × (stop ≡ Stop.Refused (Refusal.TurnWords fault)))) }
+    ensures end { Ends (meant (numbers_line Input.TurnWords) (words_of bytes.now)) result }
+    ensures no_fault { result ≡ Err Stop.ReadFault → ⊥ }
 {
     match read_words(alloc, bytes) {
         Ok(lines) => Ok(lines),
-        Err(WalkFault::OutOfMemory) => Err(Stop::OutOfMemory),
-        Err(fault) => Err(Stop::Refused(Refusal::TurnWords(fault))),
+        Err(fault) => Err(Input::TurnWords.refused_for(fault)),
     }
 }
 
@@ -81,7 +74,7 @@ fn canonical_words(alloc: Global, degree: u32, lines: &NumberLines) -> Result<Ve
     ensures end { MatchResult result
         (λ words. (range_fault degree lines.now ≡ None) × AreCanonicalOf degree (entries_on lines.now) words.items)
         (λ stop. (stop ≡ Stop.OutOfMemory) ⊎ ((line : ℕ) × (range_fault degree lines.now ≡ Some line)
-        × (stop ≡ Stop.Refused (Refusal.Range line)))) }
+        × Tells (range_line line) stop)) }
 {
     canonise_lines::<Brand>(alloc, degree, lines, Blank::new(1))
 }
@@ -100,7 +93,7 @@ fn canonise_lines<L: Ledger>(
     ensures end { MatchResult result
         (λ words. (range_fault degree lines.now ≡ None) × AreCanonicalOf degree (entries_on lines.now) words.items)
         (λ stop. (stop ≡ Stop.OutOfMemory) ⊎ ((line : ℕ) × (range_fault degree lines.now ≡ Some line)
-        × (stop ≡ Stop.Refused (Refusal.Range line)))) }
+        × Tells (range_line line) stop)) }
 {
     let mut steps: Steps<L> = Steps::new(blank);
     let mut words = Vec::new(alloc);
@@ -125,12 +118,12 @@ fn canonise_line<L: Ledger>(
     ensures end { MatchResult result
         (λ word. IsTurnWord degree (line_at lines.now k).numbers × IsCanonicalOf degree (line_at lines.now k).numbers word)
         (λ stop. (stop ≡ Stop.OutOfMemory) ⊎ ((list_all (λ entry. nat_lt entry degree) (line_at lines.now k).numbers ≡ false)
-        × (stop ≡ Stop.Refused (Refusal.Range (line_at lines.now k).line)))) }
+        × Tells (range_line (line_at lines.now k).line) stop)) }
 {
     match canonise(alloc, degree, lines.numbers(k), steps) {
         Ok(word) => Ok(word),
         Err(WordFault::Degree) => unreachable!(),
-        Err(WordFault::Range { .. }) => Err(Stop::Refused(Refusal::Range(lines.line(k)))),
+        Err(WordFault::Range { .. }) => Err(refused_at("list", lines.line(k), "range")),
         Err(WordFault::OutOfMemory) => Err(Stop::OutOfMemory),
     }
 }

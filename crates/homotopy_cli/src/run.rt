@@ -1,24 +1,19 @@
 //! The top call: from the words of the command line to the answer.
-ghost use Rattle.std.specs.Prelude.{◌≡◌, ◌⊎◌, ◌≤◌, ℕ, List, length, Err, IfSome, MatchResult};
+ghost use Rattle.std.specs.Prelude.{◌≡◌, ◌⊎◌, ◌≤◌, ℕ, List, length, IfSome};
 ghost use Rattle.surf_io.specs.Calls.{OnlyReads, WroteAll, WrotePart};
 ghost use Rattle.surf_io.specs.Faults.{Rose};
-ghost use Rattle.homotopy_cli.specs.Commands.{row_of, texts};
-ghost use Rattle.homotopy_cli.specs.Outcomes.{Answers, LooksAtNone, answer_of, answer_to};
-ghost use Rattle.homotopy_cli.specs.Replies.{Replies};
+ghost use Rattle.homotopy_cli.specs.Outcomes.{Answers, LooksAtNone, answer_of};
+ghost use Rattle.homotopy_cli.specs.Replies.{Runs};
 ghost use Rattle.homotopy_cli.specs.Statuses.{IsAnswered};
-ghost use Rattle.homotopy_cli.specs.Stops.{Stops};
+ghost use Rattle.homotopy_cli.specs.Words.{texts};
 ghost use Rattle.homotopy_cli.specs.declared.status.Status.{Status};
 
-use crate::certify::certify;
-use crate::command::{Command, read_command};
-use crate::decide::decide;
-use crate::reduce::reduce;
-use crate::refusal::Refusal;
+use crate::command::{answer, read_command};
+use crate::line::Phrase;
+use crate::refusal::refused;
 use crate::reply::{Reply, give};
 use crate::status::Status;
 use crate::stop::Stop;
-use crate::surface::measure;
-use crate::verify::verify;
 use std::alloc::Global;
 use surf_io::{Shelf, Sink};
 
@@ -56,7 +51,7 @@ pub fn run<S: Shelf, K: Sink>(
 {
     let reply = match find_answer(alloc, words, shelf) {
         Ok(reply) => reply,
-        Err(Stop::Refused(refusal)) => Reply::Refused(refusal),
+        Err(Stop::Refused(text)) => Reply::Refused(text),
         Err(Stop::ReadFault) => return Status::ReadFault,
         Err(Stop::OutOfMemory) => return Status::OutOfMemory,
     };
@@ -65,42 +60,10 @@ pub fn run<S: Shelf, K: Sink>(
 
 /// What is to be written as the answer, unless something stops the command.
 fn find_answer<S: Shelf>(alloc: Global, words: &Vec<String>, shelf: &mut S) -> Result<Reply, Stop>
-    ensures end { MatchResult result (Replies (answer_of (S.held shelf.old) (texts words.now.items)))
-        (Stops (answer_of (S.held shelf.old) (texts words.now.items))) }
-    ensures fault { result ≡ Err Stop.ReadFault → Rose (S.faults shelf.old) (S.faults shelf.new) }
-    ensures shelf_untouched { LooksAtNone (S.held shelf.old) (texts words.now.items) → shelf.new ≡ shelf.old }
-    ensures only_reads { OnlyReads S.held S.faults shelf.old shelf.new }
+    ensures { Runs S.held S.faults shelf.old shelf.new (λ files. answer_of files (texts words.now.items)) result }
 {
     let Some(command) = read_command(words) else {
-        return Err(Stop::Refused(Refusal::WrongWords));
+        return Err(refused(&[Phrase::Text("words")]));
     };
     answer(alloc, shelf, command)
-}
-
-/// What is to be written as the answer to a command.
-fn answer<S: Shelf>(alloc: Global, shelf: &mut S, command: Command<'_>) -> Result<Reply, Stop>
-    ensures end { MatchResult result (Replies (answer_to (S.held shelf.old) (row_of command.entry)))
-        (Stops (answer_to (S.held shelf.old) (row_of command.entry))) }
-    ensures fault { result ≡ Err Stop.ReadFault → Rose (S.faults shelf.old) (S.faults shelf.new) }
-    ensures shelf_untouched { (answer_to (S.held shelf.old) (row_of command.entry)).EachFile (λ _. ⊥) → shelf.new ≡ shelf.old }
-    ensures only_reads { OnlyReads S.held S.faults shelf.old shelf.new }
-{
-    match command {
-        Command::Surface { mesh } => Ok(Reply::Measured(measure(alloc, shelf, mesh)?)),
-        Command::Decide { mesh, walks } => {
-            Ok(Reply::Decided(decide(alloc, shelf, mesh, walks)?))
-        }
-        Command::Verify {
-            mesh,
-            walks,
-            certificate,
-        } => Ok(Reply::Judged(verify(alloc, shelf, mesh, walks, certificate)?)),
-        Command::Reduce { degree, list } => {
-            Ok(Reply::Reduced(reduce(alloc, shelf, degree, list)?))
-        }
-        Command::Certify { mesh, walks } => {
-            Ok(Reply::Certified(certify(alloc, shelf, mesh, walks)?))
-        }
-        Command::Trial { .. } => Err(Stop::Refused(Refusal::NotBuilt)),
-    }
 }

@@ -1,30 +1,43 @@
 //! The command `surface`: the numbers of a surface.
-ghost use Rattle.std.specs.Prelude.{◌≡◌, MatchResult, IfOk, Err};
-ghost use Rattle.surf_io.specs.Calls.{OnlyReads};
-ghost use Rattle.surf_io.specs.Faults.{Rose};
-ghost use Rattle.homotopy_cli.specs.Answers.{Measured};
-ghost use Rattle.homotopy_cli.specs.Checks.{Passes};
-ghost use Rattle.homotopy_cli.specs.Stops.{Stops};
-ghost use Rattle.homotopy_cli.specs.Surface.{AreNumbersOf};
+ghost use Rattle.std.specs.Prelude.{◌≡◌, [], ◌∷◌, decimal, IfOk};
+ghost use Rattle.homotopy_cli.specs.Lines.{in_lines, line};
+ghost use Rattle.homotopy_cli.specs.Replies.{Runs};
+ghost use Rattle.homotopy_cli.specs.Surface.{AreNumbersOf, numbers_text};
 ghost use Rattle.homotopy_cli.specs.Surface as of_surface;
 
-use crate::numbers::SurfaceNumbers;
+use crate::line::{Line, Phrase};
+use crate::reply::Reply;
 use crate::stop::Stop;
 use crate::surface_input::read_surface;
+use crate::text::Text;
 use halfedge_map::Surface;
 use std::alloc::{AllocError, Global};
 use surf_io::Shelf;
 use tree_cotree::split_edges;
 
+/// The numbers of a surface.
+#[derive(Clone, Copy, Debug, PartialEq, Eq)]
+pub struct SurfaceNumbers {
+    /// How many vertices some face names.
+    pub vertices: u32,
+    /// How many edges there are.
+    pub edges: u32,
+    /// How many faces there are.
+    pub faces: u32,
+    /// The Euler characteristic: used vertices less edges plus faces.
+    pub euler: i64,
+    /// The genus, which is half of 2 less the Euler characteristic.
+    pub genus: u32,
+}
+
 /// The numbers of the surface in the file `mesh`.
-pub fn measure<S: Shelf>(alloc: Global, shelf: &mut S, mesh: &str) -> Result<SurfaceNumbers, Stop>
-    ensures end { MatchResult result (λ numbers. Passes (of_surface.surface (S.held shelf.old) mesh.now) (Measured numbers))
-        (Stops (of_surface.surface (S.held shelf.old) mesh.now)) }
-    ensures fault { result ≡ Err Stop.ReadFault → Rose (S.faults shelf.old) (S.faults shelf.new) }
-    ensures only_reads { OnlyReads S.held S.faults shelf.old shelf.new }
+pub fn measure<S: Shelf>(alloc: Global, shelf: &mut S, mesh: &str) -> Result<Reply, Stop>
+    ensures { Runs S.held S.faults shelf.old shelf.new (λ files. of_surface.surface files mesh.now) result }
 {
     let surface = read_surface(alloc, shelf, mesh)?;
-    Ok(numbers_of(alloc, &surface)?)
+    let numbers = numbers_of(alloc, &surface)?;
+    let lines = lines_of(alloc, &numbers)?;
+    Ok(Reply::Yes(Text::Lines(lines)))
 }
 
 /// The numbers of a surface. The genus is half the number of the edges that are left over by a tree and a cotree.
@@ -39,4 +52,24 @@ fn numbers_of(alloc: Global, surface: &Surface) -> Result<SurfaceNumbers, AllocE
         euler: surface.euler(),
         genus: split.genus(),
     })
+}
+
+/// The line of each number.
+fn lines_of(alloc: Global, numbers: &SurfaceNumbers) -> Result<Vec<Line>, AllocError>
+    ensures { IfOk result (λ lines. in_lines lines.items ≡ numbers_text numbers.now) }
+{
+    Ok(vec![in alloc;
+        line_of_count("V", numbers.vertices),
+        line_of_count("E", numbers.edges),
+        line_of_count("F", numbers.faces),
+        Line::of(Phrase::Text("chi"), &[Phrase::Signed(numbers.euler)]),
+        line_of_count("genus", numbers.genus),
+    ]?)
+}
+
+/// The line of a count.
+fn line_of_count(name: &'static str, count: u32) -> Line
+    ensures { result ≡ line name.now (decimal count ∷ []) }
+{
+    Line::of(Phrase::Text(name), &[Phrase::Number(count as u64)])
 }

@@ -1,20 +1,18 @@
 //! Reading the surface that a command is about.
 ghost use Rattle.std.specs.Prelude.{◌≡◌, MatchResult, IfOk, Err};
-ghost use Rattle.surf_io.specs.Calls.{OnlyReads};
-ghost use Rattle.surf_io.specs.Faults.{Rose};
 ghost use Rattle.surf_model.specs.Edges.{IsTableOf};
 ghost use Rattle.surf_model.specs.Surfaces.{IsClosed, IsCoherent};
 ghost use Rattle.orientation.specs.Classes.{IsLeastKept};
 ghost use Rattle.homotopy_cli.specs.Checks.{Passes};
-ghost use Rattle.homotopy_cli.specs.Stops.{Stops};
+ghost use Rattle.homotopy_cli.specs.Stops.{Ends, Reads, Stops};
 ghost use Rattle.homotopy_cli.specs.SurfaceInput.{as_surface, closed, orientable, surface_in};
 ghost use Rattle.homotopy_cli.specs.declared.stop.Stop.{Stop};
 
 use crate::inputs::read_mesh;
-use crate::refusal::Refusal;
 use crate::stop::Stop;
+use crate::text::Text;
 use halfedge_map::Surface;
-use manifold_check::{SurfaceFault, check_closed};
+use manifold_check::check_closed;
 use orientation::{OrientFault, orient};
 use std::alloc::Global;
 use surf_io::Shelf;
@@ -23,11 +21,9 @@ use surf_model::{Faces, Sides, Signs};
 /// The surface in the file `name`: its mesh, with the table of its edges, and with the signs that keep the least face of
 /// all. Where the mesh is no connected orientable closed surface, the first condition of one that fails stops the command.
 pub fn read_surface<S: Shelf>(alloc: Global, shelf: &mut S, name: &str) -> Result<Surface, Stop>
-    ensures end { MatchResult result (λ surface. Passes (surface_in (S.held shelf.old) name.now) surface.mesh)
-        (Stops (surface_in (S.held shelf.old) name.now)) }
+    ensures reads { Reads S.held S.faults shelf.old shelf.new (λ files. MatchResult result
+        (λ surface. Passes (surface_in files name.now) surface.mesh) (Stops (surface_in files name.now))) result }
     ensures least_kept { IfOk result (λ surface. IsLeastKept surface.mesh surface.signs) }
-    ensures fault { result ≡ Err Stop.ReadFault → Rose (S.faults shelf.old) (S.faults shelf.new) }
-    ensures only_reads { OnlyReads S.held S.faults shelf.old shelf.new }
 {
     let faces = read_mesh(alloc, shelf, name)?;
     surface_of(alloc, faces)
@@ -52,11 +48,7 @@ fn check_surface(alloc: Global, faces: &Faces, sides: &Sides) -> Result<(), Stop
     ensures end { MatchResult result (λ _. Passes (closed faces.now) faces.now) (Stops (closed faces.now)) }
     ensures no_fault { result ≡ Err Stop.ReadFault → ⊥ }
 {
-    match check_closed(alloc, faces, sides) {
-        Ok(()) => Ok(()),
-        Err(SurfaceFault::OutOfMemory) => Err(Stop::OutOfMemory),
-        Err(fault) => Err(Stop::Refused(Refusal::NotClosed(fault))),
-    }
+    Ok(check_closed(alloc, faces, sides)?)
 }
 
 /// Signs under which the faces of a closed surface are listed coherently.
@@ -69,9 +61,7 @@ fn find_signs(alloc: Global, faces: &Faces, sides: &Sides) -> Result<Signs, Stop
 {
     match orient(alloc, faces, sides) {
         Ok(signs) => Ok(signs),
-        Err(OrientFault::NotOrientable { chain }) => {
-            Err(Stop::Refused(Refusal::NotOrientable(chain)))
-        }
+        Err(OrientFault::NotOrientable { chain }) => Err(Stop::Refused(Text::OddChain(chain))),
         Err(OrientFault::OutOfMemory) => Err(Stop::OutOfMemory),
     }
 }

@@ -2,8 +2,9 @@
 ghost use Rattle.std.specs.Prelude.{◌≡◌, ◌+◌, ◌≤◌, ℕ, List, [], ◌∷◌, ◌++◌, length, OnOk, OnErr, decimal};
 ghost use Rattle.surf_io.specs.Calls.{OnlyWrites, WroteAll, WrotePart};
 ghost use Rattle.homotopy_cli.specs.Gathered.{Gathers};
-ghost use Rattle.homotopy_cli.specs.Refusals.{behind_blank};
-ghost use Rattle.homotopy_cli.specs.Texts.{word_line, words_text};
+ghost use Rattle.homotopy_cli.specs.Lines.{behind_blank};
+ghost use Rattle.homotopy_cli.specs.Reduce.{word_line, words_text};
+ghost use Rattle.homotopy_cli.specs.Writes.{Writes};
 
 use surf_io::{Failed, Piece, Sink};
 use turn_words::TurnWord;
@@ -13,9 +14,7 @@ const ENTRY_ROOM: usize = 32;
 
 /// Writes a line for each word. It takes no memory.
 pub fn put_words<K: Sink>(out: &mut K, words: &Vec<TurnWord>) -> Result<(), Failed>
-    ensures ok { OnOk result (WroteAll K.written out.old out.new (words_text words.now.items)) }
-    ensures failed { OnErr result (WrotePart K.written K.faults out.old out.new (words_text words.now.items)) }
-    ensures only_writes { OnlyWrites K.settled K.faults out.old out.new }
+    ensures { Writes K.written K.settled K.faults out.old out.new (words_text words.now.items) result }
 {
     let mut piece = Piece::new();
     for word in words {

@@ -10,7 +10,7 @@ returns-in_err-reader-clause-end c =
     let text = c.args.bytes.now in
     let fault = c.in_err-reader.field-0.0 in
     let p = err_from_is_err_and c.from_residual.result c.from_residual.ensures.1 in
-    rw (p.1, p.2) (head_stops text fault (started_err text (head_of_text text) fault c.in_err-reader.ensures.started))
+    rw p.1 (head_stops text fault p.0 (started_err text (head_of_text text) fault c.in_err-reader.ensures.started) p.2)
 
 pub returns-in_err-gather-in-Moves-clause-end : goal.returns-in_err-gather-in-Moves-clause-end
 returns-in_err-gather-in-Moves-clause-end c =
@@ -43,10 +43,10 @@ returns-in_err-denial-in-Labels-clause-end c =
     let head = sym c.in-Labels.ensures in
     let fault = c.in_err-denial-in-Labels.field-0.0 in
     let p = err_from_is_err_and c.from_residual-in_err-denial-in-Labels.result c.from_residual-in_err-denial-in-Labels.ensures.1 in
-    rw (p.1, p.2)
-    (denial_stops text c.in-Labels.degree fault (started.0 ∙ ap Ok head)
+    rw p.1
+    (denial_stops text c.in-Labels.degree fault p.0 (started.0 ∙ ap Ok head)
     (denial_or_memory text c.in-Labels.degree reader fault (denial_start reader text c.in-Labels.degree started.1 head started.2 started.3)
-    c.in_err-denial-in-Labels.ensures.answer))
+    c.in_err-denial-in-Labels.ensures.answer) p.2)
 
 pub returns-in_ok-denial-in-Labels-clause-end : goal.returns-in_ok-denial-in-Labels-clause-end
 returns-in_ok-denial-in-Labels-clause-end c =

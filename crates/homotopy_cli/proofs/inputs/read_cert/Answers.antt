@@ -1,11 +1,14 @@
 use Rattle.homotopy_cli.specs.Checks.{file, meant}
 use Rattle.homotopy_cli.specs.Inputs.{certificate_of}
+use Rattle.homotopy_cli.specs.Refusals.{certificate_line}
 use Rattle.homotopy_cli.specs.declared.refusal.Input.TheVariants.{Certificate}
-use Rattle.homotopy_cli.specs.declared.refusal.Refusal.TheVariants as refusals
 use Rattle.homotopy_cli.proofs.Checking.{next_end}
+use Rattle.homotopy_cli.proofs.Running.{reads_ended}
 use Rattle.homotopy_cli.proofs.inputs.read_cert.Goals as goal
 
-pub returns-clause-end : goal.returns-clause-end
-returns-clause-end g c =
-    next_end (file (g.S.Shelf.held c.args.shelf.now) c.args.name.now Certificate) (λ bytes. meant refusals.Certificate (certificate_of bytes))
-    c.in_ok-bytes.bytes.items c.read_certificate.result c.in_ok-bytes.ensures.end (rw c.deref.ensures.value at c.read_certificate.ensures.end)
+pub returns : goal.returns
+returns g c =
+    reads_ended g.S.Shelf.held g.S.Shelf.faults c.args.shelf.now c.read_file.new.shelf _ c.read_certificate.result
+    c.in_ok-bytes.ensures.only_reads c.read_certificate.ensures.no_fault
+    (next_end (file (g.S.Shelf.held c.args.shelf.now) c.args.name.now Certificate) (λ bytes. meant certificate_line (certificate_of bytes))
+    c.in_ok-bytes.bytes.items c.read_certificate.result c.in_ok-bytes.ensures.end (rw c.deref.ensures.value at c.read_certificate.ensures.end))

@@ -2,19 +2,27 @@ use Rattle.std.proofs.Common.{◌≡◌, ◌+◌, ◌<◌, ◌≤◌, ◌++◌, 
 use Rattle.std.specs.Prelude.{flat_map}
 use Rattle.std.proofs.lemmas.Result.{err_from_is_err_and}
 use Rattle.surf_io.specs.Bytes.{Appends}
-use Rattle.homotopy_cli.specs.Refusals.{behind_blank, link_phrases}
+use Rattle.homotopy_cli.specs.Lines.{behind_blank, link_phrases}
 use Rattle.homotopy_cli.proofs.Pieces.{IsGathered, gathered-out, gathered-more, chain_so_far, chain-more, chain_part, chain_written, chain_cut, ok_then}
 use Rattle.homotopy_cli.proofs.odd_chain_line.put_odd_chain.Goals as goal
 use Rattle.homotopy_cli.proofs.odd_chain_line.put_odd_chain.Goals.{then-len+in_ok-write_out, else-len}
 
-pub returns-in_err-write_out-clause-failed : goal.returns-in_err-write_out-clause-failed
-returns-in_err-write_out-clause-failed g c =
+pub returns-in_err-write_out : goal.returns-in_err-write_out
+returns-in_err-write_out g c =
     let written = g.K.Sink.written in
     let failed = c.in_err-write_out.ensures in
     let p = err_from_is_err_and c.from_residual.result c.from_residual.ensures.1 in
-    rw p.1
-    (chain_part written g.K.Sink.faults c.args.out.now c.loop-k.out c.write_out.new.sink c.loop-k.piece c.args.chain.now c.loop-k.k
-    c.loop-k.invariant.gathered c.loop-k.invariant.never_falls failed.failed failed.failed_only_on_fault)
+    rw p.1 (record {
+      ok = tt;
+      failed =
+          chain_part written g.K.Sink.faults c.args.out.now c.loop-k.out c.write_out.new.sink c.loop-k.piece c.args.chain.now c.loop-k.k
+          c.loop-k.invariant.gathered c.loop-k.invariant.never_falls failed.failed failed.failed_only_on_fault;
+      only_writes =
+          record {
+            same_settled = failed.same_settled ∙ c.loop-k.invariant.same_settled;
+            never_falls = omega (arith, c.loop-k.invariant.never_falls, failed.never_falls);
+          };
+    })
 
 pub loop-k-preserved : goal.loop-k-preserved
 loop-k-preserved g c =
@@ -47,14 +55,21 @@ loop-k-preserved g c =
       same_settled = before.3;
     }
 
-pub returns-clause-ok : goal.returns-clause-ok
-returns-clause-ok g c =
-    ok_then c.write_out-2.result
-    (chain_written _ _ _ c.loop-k.piece c.put-2.new.self c.args.chain.now c.loop-k.k c.loop-k.invariant.gathered (omega (arith, c.loop-k-test.false, c.len-k-end.ensures.count)) c.put-2.ensures)
-    c.write_out-2.ensures.ok
-
-pub returns-clause-failed : goal.returns-clause-failed
-returns-clause-failed g c =
-    chain_cut g.K.Sink.written g.K.Sink.faults c.args.out.now c.loop-k.out c.write_out-2.new.sink c.loop-k.piece c.put-2.new.self c.args.chain.now c.loop-k.k
-    c.loop-k.invariant.gathered (omega (arith, c.loop-k-test.false, c.len-k-end.ensures.count)) c.put-2.ensures c.loop-k.invariant.never_falls
-    c.write_out-2.result c.write_out-2.ensures.failed c.write_out-2.ensures.failed_only_on_fault
+pub returns : goal.returns
+returns g c =
+    let all : length c.args.chain.now ≤ c.loop-k.k = omega (arith, c.loop-k-test.false, c.len-k-end.ensures.count) in
+    record {
+      ok =
+          ok_then c.write_out-2.result
+          (chain_written _ _ _ c.loop-k.piece c.put-2.new.self c.args.chain.now c.loop-k.k c.loop-k.invariant.gathered all c.put-2.ensures)
+          c.write_out-2.ensures.ok;
+      failed =
+          chain_cut g.K.Sink.written g.K.Sink.faults c.args.out.now c.loop-k.out c.write_out-2.new.sink c.loop-k.piece c.put-2.new.self
+          c.args.chain.now c.loop-k.k c.loop-k.invariant.gathered all c.put-2.ensures c.loop-k.invariant.never_falls c.write_out-2.result
+          c.write_out-2.ensures.failed c.write_out-2.ensures.failed_only_on_fault;
+      only_writes =
+          record {
+            same_settled = c.write_out-2.ensures.same_settled ∙ c.loop-k.invariant.same_settled;
+            never_falls = omega (arith, c.loop-k.invariant.never_falls, c.write_out-2.ensures.never_falls);
+          };
+    }

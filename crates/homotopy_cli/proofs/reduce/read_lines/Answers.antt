@@ -1,7 +1,14 @@
-use Rattle.homotopy_cli.proofs.Reducing.{lines_end}
+use Rattle.walk_files.specs.NumberTexts.{words_of}
+use Rattle.homotopy_cli.specs.Checks.{file, meant}
+use Rattle.homotopy_cli.specs.Refusals.{numbers_line}
+use Rattle.homotopy_cli.specs.declared.refusal.Input.TheVariants.{TurnWords}
+use Rattle.homotopy_cli.proofs.Checking.{next_end}
+use Rattle.homotopy_cli.proofs.Running.{reads_ended}
 use Rattle.homotopy_cli.proofs.reduce.read_lines.Goals as goal
 
-pub returns-clause-end : goal.returns-clause-end
-returns-clause-end g c =
-    lines_end (g.S.Shelf.held c.args.shelf.now) c.args.name.now c.in_ok-bytes.bytes.items c.lines_of_bytes.result c.in_ok-bytes.ensures.end
-    (rw c.deref.ensures.value at c.lines_of_bytes.ensures.end)
+pub returns : goal.returns
+returns g c =
+    reads_ended g.S.Shelf.held g.S.Shelf.faults c.args.shelf.now c.read_file.new.shelf _ c.lines_of_bytes.result
+    c.in_ok-bytes.ensures.only_reads c.lines_of_bytes.ensures.no_fault
+    (next_end (file (g.S.Shelf.held c.args.shelf.now) c.args.name.now TurnWords) (λ bytes. meant (numbers_line TurnWords) (words_of bytes))
+    c.in_ok-bytes.bytes.items c.lines_of_bytes.result c.in_ok-bytes.ensures.end (rw c.deref.ensures.value at c.lines_of_bytes.ensures.end))

@@ -1,10 +1,18 @@
-use Rattle.homotopy_cli.specs.Commands.{row_of, texts}
-use Rattle.homotopy_cli.proofs.Outcomes.{row_end, wrong_words}
+use Rattle.homotopy_cli.specs.Commands.{row_of}
+use Rattle.homotopy_cli.specs.Outcomes.{answer_of}
+use Rattle.homotopy_cli.specs.Refusals.{wrong_words}
+use Rattle.homotopy_cli.specs.Words.{texts}
+use Rattle.homotopy_cli.proofs.Outcomes.{row_runs, wrong_stops}
+use Rattle.homotopy_cli.proofs.Running.{runs_refused}
 use Rattle.homotopy_cli.proofs.run.find_answer.Goals as goal
 
-pub returns-in_default-clause-end : goal.returns-in_default-clause-end
-returns-in_default-clause-end g c = wrong_words (g.S.Shelf.held c.args.shelf.now) (texts c.args.words.now.items) c.in_default.ensures.none
+pub returns-in_default : goal.returns-in_default
+returns-in_default g c =
+    let words = texts c.args.words.now.items in
+    runs_refused g.S.Shelf.held g.S.Shelf.faults c.args.shelf.now (λ files. answer_of files words) wrong_words c.refused.result
+    (wrong_stops (g.S.Shelf.held c.args.shelf.now) words c.refused.result c.in_default.ensures.none c.refused.ensures) c.refused.ensures
 
-pub returns-clause-end : goal.returns-clause-end
-returns-clause-end g c =
-    row_end (g.S.Shelf.held c.args.shelf.now) (texts c.args.words.now.items) (row_of c.in-Some.command) c.answer.result c.in-Some.ensures.row c.answer.ensures.end
+pub returns : goal.returns
+returns g c =
+    row_runs g.S.Shelf.held g.S.Shelf.faults c.args.shelf.now c.answer.new.shelf (texts c.args.words.now.items) (row_of c.in-Some.command)
+    c.answer.result c.in-Some.ensures.row c.answer.ensures

@@ -1,5 +1,5 @@
 use Rattle.std.proofs.Common.{◌≡◌, ◌⊎◌, inl, inr, sym, subst}
-use Rattle.homotopy_cli.specs.Commands.{texts}
+use Rattle.homotopy_cli.specs.Words.{texts}
 use Rattle.homotopy_cli.specs.Outcomes.{Answers, answer_of}
 use Rattle.homotopy_cli.specs.Replies.{reply_status, reply_text}
 use Rattle.homotopy_cli.specs.Statuses.{IsAnswered}
@@ -23,7 +23,7 @@ all g c =
           subst (λ (r : Reply). Answers files words (reply_status r) (reply_text r)) (sym w.reply-is) (reply_answers files words w.in-Ok.reply w.in-Ok.ensures.end)
       | in-Err-Refused w ↦
           subst (λ (r : Reply). Answers files words (reply_status r) (reply_text r)) (sym w.reply-is)
-          (refusal_answers files words w.in-Err-Refused.refusal (subst (Stops (answer_of files words)) w.in-Err-Refused.field-0-is w.in-Err-Refused.ensures.end))
+          (refusal_answers files words w.in-Err-Refused.text (subst (Stops (answer_of files words)) w.in-Err-Refused.field-0-is w.in-Err-Refused.ensures.end))
     ]
 
 pub returns-clause-answered : goal.returns-clause-answered

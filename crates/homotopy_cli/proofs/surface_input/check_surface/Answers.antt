@@ -1,9 +1,18 @@
-use Rattle.std.proofs.Common.{rules}
+use Rattle.std.proofs.Common.{◌≡◌, ◌⊎◌, rules}
+use Rattle.std.proofs.lemmas.Result.{err_from_is_err_and}
 use Rattle.manifold_check.specs.Faults.{IsFirstFault}
+use Rattle.manifold_check.specs.declared.fault.SurfaceFault.TheVariants.{OutOfMemory}
+use Rattle.homotopy_cli.specs.Refusals.{surface_line}
+use Rattle.homotopy_cli.proofs.Running.{tells_no_fault}
 use Rattle.homotopy_cli.proofs.Surfaces.{fault_stops}
 use Rattle.homotopy_cli.proofs.surface_input.check_surface.Goals as goal
 
-pub returns-in-Err : goal.returns-in-Err
-returns-in-Err c =
-    let first : IsFirstFault c.args.faces.now c.in-Err.fault = search rules in
-    record { end = fault_stops c.args.faces.now c.in-Err.fault first; no_fault = λ e. cc }
+pub returns-in_err-check_closed : goal.returns-in_err-check_closed
+returns-in_err-check_closed c =
+    let fault = c.in_err-check_closed.field-0.0 in
+    let first : (fault ≡ OutOfMemory) ⊎ IsFirstFault c.args.faces.now fault = search rules in
+    let p = err_from_is_err_and c.from_residual.result c.from_residual.ensures.1 in
+    rw p.1 (record {
+      end = fault_stops c.args.faces.now fault p.0 first p.2;
+      no_fault = λ e. tells_no_fault (surface_line fault) p.0 p.2 cc;
+    })

@@ -1,4 +1,4 @@
-use Rattle.std.proofs.Common.{sym, subst}
+use Rattle.std.proofs.Common.{inr, refl, sym, subst}
 use Rattle.std.proofs.lemmas.Result.{err_from_is_err_and}
 use Rattle.halfedge_map.specs.OrientedMeshes.{OrientedMesh}
 use Rattle.orientation.specs.Classes.{IsLeastKept}
@@ -13,3 +13,7 @@ returns-in_err-signs-clause-end c =
 pub returns-clause-least_kept : goal.returns-clause-least_kept
 returns-clause-least_kept c =
     subst (λ (s : OrientedMesh). IsLeastKept s.mesh s.signs) (sym c.in_ok-build.ensures) c.in_ok-signs.ensures.least_kept
+
+pub returns-clause-end : goal.returns-clause-end
+returns-clause-end c =
+    inr (c.args.faces, c.in_ok-check_surface.ensures.end, ((c.in_ok-signs.signs, c.in_ok-signs.ensures.end), refl))

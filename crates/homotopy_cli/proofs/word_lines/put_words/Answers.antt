@@ -1,18 +1,32 @@
-use Rattle.std.proofs.Common.{◌≡◌, ◌<◌, ◌≤◌, List, ℕ, length, get_or, subst, ◌∙◌, arith}
+use Rattle.std.proofs.Common.{◌≡◌, ◌<◌, ◌≤◌, List, [], ℕ, length, get_or, subst, ◌∙◌, arith}
 use Rattle.std.proofs.lemmas.List.{take_all}
 use Rattle.std.proofs.lemmas.Result.{err_from_is_err_and}
 use Rattle.surf_io.proofs.Appending.{on_err}
+use Rattle.homotopy_cli.specs.Gathered.{Gathers}
+use Rattle.homotopy_cli.specs.Reduce.{words_text}
+use Rattle.homotopy_cli.proofs.GatheredLemmas.{gathers-all}
+use Rattle.homotopy_cli.proofs.Writing.{both_ok}
 use Rattle.homotopy_cli.proofs.WordLines.{words-more-put, words-stop, words-stop_last}
 use Rattle.homotopy_cli.proofs.word_lines.put_words.Goals as goal
 
-pub returns-in_err-put_word-clause-failed : goal.returns-in_err-put_word-clause-failed
-returns-in_err-put_word-clause-failed g c =
+pub returns-in_err-put_word : goal.returns-in_err-put_word
+returns-in_err-put_word g c =
     let value : c.deref-word-items.result.now ≡ c.args.words.now.items = c.deref-word-items.ensures.value in
     let p = err_from_is_err_and c.from_residual.result c.from_residual.ensures.1 in
-    rw p.1
-    (words-stop g.K.Sink.written g.K.Sink.faults c.args.out.now c.loop-word.out c.put_word.new.out c.loop-word.piece c.args.words.now.items c.loop-word.word-index
-    c.word-item.result (subst (λ (t : List (List ℕ)). c.loop-word.word-index < length t) value c.loop-word-test.true)
-    (subst (λ (t : List (List ℕ)). c.word-item.result ≡ get_or t c.loop-word.word-index c.word-item.result) value c.word-item.is) c.loop-word.invariant.gathers c.loop-word.invariant.never_falls c.in_err-put_word.ensures.failed)
+    let only = c.in_err-put_word.ensures.only_writes in
+    rw p.1 (record {
+      ok = tt;
+      failed =
+          words-stop g.K.Sink.written g.K.Sink.faults c.args.out.now c.loop-word.out c.put_word.new.out c.loop-word.piece c.args.words.now.items
+          c.loop-word.word-index c.word-item.result (subst (λ (t : List (List ℕ)). c.loop-word.word-index < length t) value c.loop-word-test.true)
+          (subst (λ (t : List (List ℕ)). c.word-item.result ≡ get_or t c.loop-word.word-index c.word-item.result) value c.word-item.is)
+          c.loop-word.invariant.gathers c.loop-word.invariant.never_falls c.in_err-put_word.ensures.failed;
+      only_writes =
+          record {
+            same_settled = only.same_settled ∙ c.loop-word.invariant.same_settled;
+            never_falls = omega (arith, c.loop-word.invariant.never_falls, only.never_falls);
+          };
+    })
 
 pub loop-word-preserved : goal.loop-word-preserved
 loop-word-preserved g c =
@@ -26,12 +40,28 @@ loop-word-preserved g c =
       same_settled = c.in_ok-put_word.ensures.only_writes.same_settled ∙ c.loop-word.invariant.same_settled;
     }
 
-pub returns-clause-failed : goal.returns-clause-failed
-returns-clause-failed g c =
+pub returns : goal.returns
+returns g c =
     let value : c.deref-word-items.result.now ≡ c.args.words.now.items = c.deref-word-items.ensures.value in
     let past = subst (λ (t : List (List ℕ)). length t ≤ c.loop-word.word-index) value c.loop-word-test.false in
     let all = take_all c.loop-word.word-index c.args.words.now.items past in
-    on_err c.write_piece.result
-    (words-stop_last g.K.Sink.written g.K.Sink.faults c.args.out.now c.loop-word.out c.write_piece.new.out c.loop-word.piece c.args.words.now.items
-    c.loop-word.word-index all c.loop-word.invariant.gathers c.loop-word.invariant.never_falls)
-    c.write_piece.ensures.failed
+    let only = c.write_piece.ensures.only_writes in
+    let gathers : Gathers g.K.Sink.written c.args.out.now c.loop-word.out [] c.loop-word.piece (words_text c.args.words.now.items) =
+    subst (λ (t : List (List ℕ)). Gathers g.K.Sink.written c.args.out.now c.loop-word.out [] c.loop-word.piece (words_text t)) all
+    c.loop-word.invariant.gathers in
+    record {
+      ok =
+          both_ok c.write_piece.result
+          (gathers-all g.K.Sink.written c.args.out.now c.loop-word.out c.write_piece.new.out c.loop-word.piece (words_text c.args.words.now.items)
+          gathers) c.write_piece.ensures.ok;
+      failed =
+          on_err c.write_piece.result
+          (words-stop_last g.K.Sink.written g.K.Sink.faults c.args.out.now c.loop-word.out c.write_piece.new.out c.loop-word.piece c.args.words.now.items
+          c.loop-word.word-index all c.loop-word.invariant.gathers c.loop-word.invariant.never_falls)
+          c.write_piece.ensures.failed;
+      only_writes =
+          record {
+            same_settled = only.same_settled ∙ c.loop-word.invariant.same_settled;
+            never_falls = omega (arith, c.loop-word.invariant.never_falls, only.never_falls);
+          };
+    }

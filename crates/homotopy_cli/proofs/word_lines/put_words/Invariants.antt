@@ -1,6 +1,6 @@
 use Rattle.std.proofs.Common.{◌≡◌, ◌≤◌, [], take}
 use Rattle.homotopy_cli.specs.Gathered.{Gathers}
-use Rattle.homotopy_cli.specs.Texts.{words_text}
+use Rattle.homotopy_cli.specs.Reduce.{words_text}
 use Rattle.homotopy_cli.proofs.word_lines.put_words.Given as goal
 
 -- the lines of the words so far were put
