@@ -14,12 +14,15 @@ pub mod WordLines
 pub mod Reducing
 pub mod Certifying
 pub mod SomeVerdict
+pub mod Trying
 pub mod Rows
 pub mod SurfaceOutcomes
 pub mod DecideOutcomes
 pub mod CertifyOutcomes
 pub mod VerifyOutcomes
 pub mod ReduceOutcomes
+pub mod ChainReading
+pub mod TrialOutcomes
 pub mod HeadlineLemmas
 pub mod Outcomes
 pub mod TextLengths

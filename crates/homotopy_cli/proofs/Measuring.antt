@@ -101,7 +101,7 @@ sound-numbers held mesh valid is =
 abbrev pub with_numbers : FaceList → Check Answer
 with_numbers mesh = numbers_of mesh >>= (λ numbers. pass (yes_with (numbers_text numbers)))
 
-as_passed : (mesh surface : FaceList) → Passes (as_surface mesh) surface → (surface ≡ mesh) × IsSurface mesh
+pub as_passed : (mesh surface : FaceList) → Passes (as_surface mesh) surface → (surface ≡ mesh) × IsSurface mesh
 as_passed mesh surface (inl p) = let e = p.2 in cc
 as_passed mesh surface (inr p) = (p.2.1 ∙ p.1.1, record { closed = p.1.0; orientable = subst IsOrientable p.1.1 p.2.0 })
 

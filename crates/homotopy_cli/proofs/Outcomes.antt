@@ -14,6 +14,7 @@ use Rattle.homotopy_cli.proofs.HeadlineLemmas.{headline}
 use Rattle.homotopy_cli.proofs.ReduceOutcomes.{reduced}
 use Rattle.homotopy_cli.proofs.Rows.{sound-words}
 use Rattle.homotopy_cli.proofs.SurfaceOutcomes.{measured}
+use Rattle.homotopy_cli.proofs.TrialOutcomes.{tried}
 use Rattle.homotopy_cli.proofs.VerifyOutcomes.{verified, denial_verified}
 use Rattle.homotopy_cli.specs.Certify.{IsCertified}
 use Rattle.homotopy_cli.specs.Checks.{Refuse, Pass, found_or}
@@ -27,6 +28,7 @@ use Rattle.homotopy_cli.specs.Replies.{Replies, reply_status, reply_text, Runs}
 use Rattle.homotopy_cli.specs.Statuses.{IsAnswered}
 use Rattle.homotopy_cli.specs.Stops.{Stops, Tells}
 use Rattle.homotopy_cli.specs.Surface.{IsMeasured}
+use Rattle.homotopy_cli.specs.Trial.{IsTried}
 use Rattle.homotopy_cli.specs.Verify.{IsDenialVerified, IsVerified}
 use Rattle.homotopy_cli.specs.declared.reply.Reply.{Reply}
 use Rattle.homotopy_cli.specs.declared.status.Status.{Status}
@@ -77,6 +79,10 @@ denial_verified_by files words status text a = denial_verified files words statu
 pub reduced_by : (files : Option Files) (words : List (List ℕ)) (status : Status) (text : List ℕ) → Answers files words status text
     → IsReduced files words status text
 reduced_by files words status text a = reduced files words a.outcome status text a.is_outcome a.is_answer a.exact
+
+pub tried_by : (files : Option Files) (words : List (List ℕ)) (status : Status) (text : List ℕ) → Answers files words status text
+    → IsTried words status text
+tried_by files words status text a = tried files words a.outcome status text a.is_outcome a.is_answer
 
 pub headline_by : (files : Option Files) (words : List (List ℕ)) (status : Status) (text : List ℕ) → Answers files words status text
     → Headline files words status text

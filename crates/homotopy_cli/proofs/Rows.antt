@@ -17,8 +17,9 @@ use Rattle.homotopy_cli.proofs.Measuring.{sound-numbers, surface_passed}
 use Rattle.homotopy_cli.proofs.MeshTexts.{mesh_valid}
 use Rattle.homotopy_cli.proofs.Reducing.{sound-reduce}
 use Rattle.homotopy_cli.proofs.SomeVerdict.{sound-judgement}
-use Rattle.homotopy_cli.proofs.Sound.{IsSound, sound-then, sound-pass, sound-refuse, sound-found, sound-meant, sound-pass_unless, sound-file, held}
+use Rattle.homotopy_cli.proofs.Sound.{IsSound, sound-then, sound-pass, sound-found, sound-meant, sound-pass_unless, sound-file, held}
 use Rattle.homotopy_cli.proofs.Surfaces.{sound-as_surface}
+use Rattle.homotopy_cli.proofs.Trying.{sound-trial}
 use Rattle.homotopy_cli.specs.Answers.{Exactly, Texts}
 use Rattle.homotopy_cli.specs.Certify.{certify, limit_fault}
 use Rattle.homotopy_cli.specs.Checks.{Passes, Holds, IsTold, meant, pass_unless, ◌>>=◌}
@@ -126,7 +127,7 @@ sound-row held (Decide mesh walks) = sound-decide held mesh walks
 sound-row held (Certify mesh walks) = sound-certify held mesh walks
 sound-row held (Verify mesh walks certificate) = sound-verify held mesh walks certificate
 sound-row held (Reduce degree list) = sound-reduce held degree list
-sound-row held (Trial genus grid) = sound-refuse held _
+sound-row held (Trial genus grid) = sound-trial held genus grid
 
 pub sound-words : (held : Option Files) (words : List (List ℕ)) → IsSound held (answer_of held words)
 sound-words held words = sound-then held _ _ (sound-found held _ _ (one_row words)) (λ row _. sound-row held row)

@@ -105,3 +105,15 @@ runs_refused held faults shelf command texts stop stops tells =
       untouched = λ none. refl;
       only_reads = record { same_files = refl; never_falls = omega arith };
     }
+
+-- a command that looks at no file
+pub runs_unread : {X : Type 0} (held : X → Option Files) (faults : X → ℕ) (shelf : X) (command : Option Files → Check Answer)
+    (result : Result Reply Stop) → (result ≡ Err ReadFault → ⊥)
+    → MatchResult result (Replies (command (held shelf))) (Stops (command (held shelf))) → Runs held faults shelf shelf command result
+runs_unread held faults shelf command result no_fault end =
+    record {
+      end = end;
+      fault = λ e. absurd (no_fault e);
+      untouched = λ none. refl;
+      only_reads = record { same_files = refl; never_falls = omega arith };
+    }

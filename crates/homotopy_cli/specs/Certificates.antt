@@ -29,10 +29,13 @@ abbrev pub decision_status : deciding.Answer → Status
 decision_status Homotopic = Yes
 decision_status Different = No
 
--- the line of a decision
+-- the word of a decision, and its line
+abbrev pub decision_word : deciding.Answer → List ℕ
+decision_word Homotopic = codes "homotopic"
+decision_word Different = codes "different"
+
 abbrev pub decision_line : deciding.Answer → List ℕ
-decision_line Homotopic = line (codes "homotopic") []
-decision_line Different = line (codes "different") []
+decision_line decision = line (decision_word decision) []
 
 -- a certificate behind the line of the decision that it is for
 abbrev pub certificate_text : Certificate → List ℕ

@@ -2,14 +2,13 @@
 use Rattle.std.specs.Prelude.{◌≡◌, ℕ, List, [], ◌∷◌, codes, Option}
 use Rattle.surf_io.specs.Files.{Files}
 use Rattle.homotopy_cli.specs.Answers.{Answer}
-use Rattle.homotopy_cli.specs.Checks.{Check, refuse}
+use Rattle.homotopy_cli.specs.Checks.{Check}
 use Rattle.homotopy_cli.specs.Certify.{certify}
 use Rattle.homotopy_cli.specs.Decide.{decide}
 use Rattle.homotopy_cli.specs.Reduce.{reduce, IsReduceRow}
-use Rattle.homotopy_cli.specs.Refusals.{not_built}
 use Rattle.homotopy_cli.specs.Surface.{surface}
+use Rattle.homotopy_cli.specs.Trial.{trial, IsTrialRow}
 use Rattle.homotopy_cli.specs.Verify.{verify}
-use Rattle.homotopy_cli.specs.Words.{IsNatural}
 use Rattle.homotopy_cli.specs.declared.command.Command.{Command}
 use Rattle.homotopy_cli.specs.declared.command.Command.TheVariants as read
 
@@ -29,8 +28,7 @@ IsRow words (Decide mesh walks) = words ≡ codes "decide" ∷ mesh ∷ walks �
 IsRow words (Certify mesh walks) = words ≡ codes "certify" ∷ mesh ∷ walks ∷ []
 IsRow words (Verify mesh walks certificate) = words ≡ codes "verify" ∷ mesh ∷ walks ∷ certificate ∷ []
 IsRow words (Reduce degree list) = IsReduceRow words degree list
-IsRow words (Trial genus grid) =
-    (digits others : List ℕ) × (words ≡ codes "trial" ∷ digits ∷ others ∷ []) × IsNatural digits genus × IsNatural others grid
+IsRow words (Trial genus grid) = IsTrialRow words genus grid
 
 -- the row that a command which was read names
 abbrev pub row_of : Command → Row
@@ -48,4 +46,4 @@ answer_to held (Decide mesh walks) = decide held mesh walks
 answer_to held (Certify mesh walks) = certify held mesh walks
 answer_to held (Verify mesh walks certificate) = verify held mesh walks certificate
 answer_to held (Reduce degree list) = reduce held degree list
-answer_to held (Trial genus grid) = refuse not_built
+answer_to held (Trial genus grid) = trial genus grid

@@ -12,6 +12,7 @@ pub mod Decide
 pub mod Certify
 pub mod Verify
 pub mod Reduce
+pub mod Trial
 pub mod Commands
 pub mod Outcomes
 pub mod Statuses

@@ -31,10 +31,6 @@ told_at_place walk place cause = told (codes "walk" ∷ decimal walk ∷ codes "
 abbrev pub wrong_words : Texts
 wrong_words = told (codes "words" ∷ [])
 
--- a command that is not built
-abbrev pub not_built : Texts
-not_built = told (codes "not built" ∷ [])
-
 -- what a line calls the file
 abbrev pub input_name : Input → List ℕ
 input_name inputs.Mesh = codes "off"

@@ -6,12 +6,11 @@ ghost use Rattle.homotopy_cli.specs.Words.{IsNatural, texts};
 
 use crate::certify::certify;
 use crate::decide::decide;
-use crate::line::Phrase;
 use crate::reduce::reduce;
-use crate::refusal::refused;
 use crate::reply::Reply;
 use crate::stop::Stop;
 use crate::surface::measure;
+use crate::trial::trial;
 use crate::verify::verify;
 use std::alloc::Global;
 use surf_io::Shelf;
@@ -100,7 +99,7 @@ pub fn answer<S: Shelf>(alloc: Global, shelf: &mut S, command: Command<'_>) -> R
             certificate,
         } => verify(alloc, shelf, mesh, walks, certificate),
         Command::Reduce { degree, list } => reduce(alloc, shelf, degree, list),
-        Command::Trial { .. } => Err(refused(&[Phrase::Text("not built")])),
+        Command::Trial { genus, grid } => trial(alloc, genus, grid),
     }
 }
 

@@ -1,6 +1,6 @@
 //! The command `decide`: whether two walks of a surface are homotopic.
 ghost use Rattle.std.specs.Prelude.{◌≡◌};
-ghost use Rattle.homotopy_cli.specs.Certificates.{decision_line};
+ghost use Rattle.homotopy_cli.specs.Certificates.{decision_line, decision_word};
 ghost use Rattle.homotopy_cli.specs.Decide as of_decide;
 ghost use Rattle.homotopy_cli.specs.Decide.{decision_answer};
 ghost use Rattle.homotopy_cli.specs.Replies.{IsReplyTo, Runs};
@@ -48,8 +48,15 @@ fn reply_on(decision: Answer) -> Reply
 pub fn line_of(decision: Answer) -> Line
     ensures { result ≡ decision_line decision }
 {
+    Line::of(Phrase::Text(word_of(decision)), &[])
+}
+
+/// The word of a decision.
+pub fn word_of(decision: Answer) -> &'static str
+    ensures { result.now ≡ decision_word decision }
+{
     match decision {
-        Answer::Homotopic => Line::of(Phrase::Text("homotopic"), &[]),
-        Answer::Different => Line::of(Phrase::Text("different"), &[]),
+        Answer::Homotopic => "homotopic",
+        Answer::Different => "different",
     }
 }

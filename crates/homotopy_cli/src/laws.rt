@@ -1,8 +1,12 @@
 //! What is promised of answers, said of the definitions: the headline first, then what each command is for. A call of one of these
 //! functions does nothing; its contract is the law. `run` says of each answer that it is one of `Answers`.
-ghost use Rattle.std.specs.Prelude.{◌≡◌, ℕ, ◌≤◌, List, length, Option};
+ghost use Rattle.std.specs.Prelude.{◌≡◌, ℕ, ◌≤◌, List, length, Ok, Option};
 ghost use Rattle.surf_io.specs.Files.{Files};
 ghost use Rattle.surf_model.specs.FaceLists.{FaceList};
+ghost use Rattle.off_reader.specs.OffTexts.{meaning_of};
+ghost use Rattle.surf_gen.specs.Chains.{chain_mesh};
+ghost use Rattle.surf_gen.specs.ChainTexts.{chain_text};
+ghost use Rattle.surf_gen.specs.Sizes.{IsChain};
 ghost use Rattle.homotopy_cli.specs.Certify.{IsCertified, IsCertifyInput, IsWithinLimits, IsCertificatePrinted};
 ghost use Rattle.homotopy_cli.specs.Decide.{IsDecided};
 ghost use Rattle.homotopy_cli.specs.Headline.{Headline};
@@ -11,6 +15,7 @@ ghost use Rattle.homotopy_cli.specs.Outcomes.{AllTold, Answers, IsOutcome, Outco
 ghost use Rattle.homotopy_cli.specs.PrintedCertificates.{IsAccepted};
 ghost use Rattle.homotopy_cli.specs.Reduce.{IsReduced};
 ghost use Rattle.homotopy_cli.specs.Surface.{IsMeasured};
+ghost use Rattle.homotopy_cli.specs.Trial.{IsTried};
 ghost use Rattle.homotopy_cli.specs.Verify.{IsVerified, IsDenialVerified};
 ghost use Rattle.homotopy_cli.specs.declared.inputs.TheConstants.{MOST_BYTES};
 ghost use Rattle.homotopy_cli.specs.declared.status.Status.{Status};
@@ -52,6 +57,17 @@ pub fn verify_answers()
 pub fn reduce_answers()
     ensures { (held : Option Files) (words : List (List ℕ)) (status : Status) (text : List ℕ)
         → Answers held words status text → IsReduced held words status text }
+{}
+
+/// What `trial` answers of a chain of tori.
+pub fn trial_answers()
+    ensures { (held : Option Files) (words : List (List ℕ)) (status : Status) (text : List ℕ)
+        → Answers held words status text → IsTried words status text }
+{}
+
+/// The text of a chain of tori is read as the chain.
+pub fn chain_texts_are_read()
+    ensures { (genus grid : ℕ) → IsChain genus grid → meaning_of (chain_text genus grid) ≡ Ok (chain_mesh genus grid) }
 {}
 
 /// No words are without an outcome, whatever the files hold.

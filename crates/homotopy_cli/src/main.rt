@@ -26,6 +26,7 @@ mod surface_input;
 #[cfg(test)]
 mod tests;
 mod text;
+mod trial;
 mod verify;
 mod word_lines;
 

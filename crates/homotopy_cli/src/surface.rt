@@ -41,7 +41,7 @@ pub fn measure<S: Shelf>(alloc: Global, shelf: &mut S, mesh: &str) -> Result<Rep
 }
 
 /// The numbers of a surface. The genus is half the number of the edges that are left over by a tree and a cotree.
-fn numbers_of(alloc: Global, surface: &Surface) -> Result<SurfaceNumbers, AllocError>
+pub fn numbers_of(alloc: Global, surface: &Surface) -> Result<SurfaceNumbers, AllocError>
     ensures { IfOk result (AreNumbersOf surface.now.mesh) }
 {
     let split = split_edges(alloc, surface)?;
@@ -68,7 +68,7 @@ fn lines_of(alloc: Global, numbers: &SurfaceNumbers) -> Result<Vec<Line>, AllocE
 }
 
 /// The line of a count.
-fn line_of_count(name: &'static str, count: u32) -> Line
+pub fn line_of_count(name: &'static str, count: u32) -> Line
     ensures { result ≡ line name.now (decimal count ∷ []) }
 {
     Line::of(Phrase::Text(name), &[Phrase::Number(count as u64)])

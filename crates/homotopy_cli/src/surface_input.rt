@@ -30,7 +30,7 @@ pub fn read_surface<S: Shelf>(alloc: Global, shelf: &mut S, name: &str) -> Resul
 }
 
 /// The surface of a mesh.
-fn surface_of(alloc: Global, faces: Faces) -> Result<Surface, Stop>
+pub fn surface_of(alloc: Global, faces: Faces) -> Result<Surface, Stop>
     ensures mesh { IfOk result (λ surface. surface.mesh ≡ faces) }
     ensures end { MatchResult result (λ _. Passes (as_surface faces) faces) (Stops (as_surface faces)) }
     ensures least_kept { IfOk result (λ surface. IsLeastKept surface.mesh surface.signs) }

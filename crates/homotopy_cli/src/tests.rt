@@ -41,7 +41,7 @@ const FILES: [(&str, &str); 10] = [
 type Case = (&'static str, &'static str, Status);
 
 /// The words stand in one text, with blanks between them.
-const CASES: [Case; 17] = [
+const CASES: [Case; 20] = [
     (
         "surface torus",
         "V 7\nE 21\nF 14\nchi 0\ngenus 1\n",
@@ -67,7 +67,18 @@ const CASES: [Case; 17] = [
         Status::No,
     ),
     ("reduce 8 list", "1 1\n2\nempty\nempty\n", Status::Yes),
-    ("trial 1 5", "refused: not built\n", Status::Refused),
+    (
+        "trial 1 5",
+        "trial 1 5\nV 25\nE 50\nF 25\ngenus 1\ncommuting homotopic\ncell homotopic\nloops different\n",
+        Status::Yes,
+    ),
+    (
+        "trial 3 40",
+        "trial 3 40\nV 4792\nE 9592\nF 4796\ngenus 3\ncommuting different\ncell homotopic\nloops different\n",
+        Status::Yes,
+    ),
+    ("trial 9 5", "refused: trial genus 9\n", Status::Refused),
+    ("trial 1 4", "refused: trial grid 4\n", Status::Refused),
     ("verify absent", "refused: words\n", Status::Refused),
     // The files behind a refusal are absent.
     (

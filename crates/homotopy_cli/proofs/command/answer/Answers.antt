@@ -1,8 +1,5 @@
-use Rattle.std.proofs.Common.{refl}
-use Rattle.homotopy_cli.specs.Checks.{refuse}
-use Rattle.homotopy_cli.specs.Refusals.{not_built}
-use Rattle.homotopy_cli.proofs.Checking.{told_stops}
-use Rattle.homotopy_cli.proofs.Running.{runs_refused}
+use Rattle.homotopy_cli.specs.Trial.{trial}
+use Rattle.homotopy_cli.proofs.Running.{runs_unread}
 use Rattle.homotopy_cli.proofs.command.answer.Goals as goal
 
 pub returns-in-Decide : goal.returns-in-Decide
@@ -17,5 +14,5 @@ returns-in-Verify g c = rw c.in-Verify.is c.verify.ensures
 pub returns-in-Trial : goal.returns-in-Trial
 returns-in-Trial g c =
     rw c.in-Trial.is
-    (runs_refused g.S.Shelf.held g.S.Shelf.faults c.args.shelf.now (λ files. refuse not_built) not_built c.refused.result
-    (told_stops not_built (refuse not_built) c.refused.result refl c.refused.ensures) c.refused.ensures)
+    (runs_unread g.S.Shelf.held g.S.Shelf.faults c.args.shelf.now (λ files. trial c.in-Trial.genus c.in-Trial.grid) c.trial.result
+    c.trial.ensures.no_fault c.trial.ensures.end)
