@@ -21,7 +21,6 @@ use Rattle.homotopy_cli.specs.Answers.{Answer, OfOddChain, yes_with}
 use Rattle.homotopy_cli.specs.Checks.{Check, End, Refuse, Pass, Passes, pass, ◌>>=◌}
 use Rattle.homotopy_cli.specs.Inputs.{mesh_in}
 use Rattle.homotopy_cli.specs.Refusals.{surface_line}
-use Rattle.homotopy_cli.specs.Stops.{Ends}
 use Rattle.homotopy_cli.specs.Surface.{AreNumbersOf, numbers_of, surface, numbers_text}
 use Rattle.homotopy_cli.specs.SurfaceInput.{as_surface, surface_in}
 use Rattle.homotopy_cli.specs.declared.surface.SurfaceNumbers.{SurfaceNumbers}

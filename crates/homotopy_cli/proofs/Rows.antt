@@ -1,6 +1,6 @@
 -- The rows of the table of commands: what each looks at has an end, and one where its files are told.
 use Rattle.std.proofs.Common.{◌≡◌, inr, ℕ, List, [], ◌∷◌, refl, ap, arith, sym, codes, ◌∙◌, ◌+◌, ◌*◌}
-use Rattle.std.specs.Prelude.{Option, Some, None, Result, Ok, Err, slice_index, slice_index_or}
+use Rattle.std.specs.Prelude.{Option, Some, None, Result, Ok, Err, slice_index_or}
 use Rattle.surf_io.specs.Files.{Files}
 use Rattle.surf_model.specs.FaceLists.{FaceList}
 use Rattle.off_reader.specs.OffTexts.{meaning_of}

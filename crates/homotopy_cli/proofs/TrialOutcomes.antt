@@ -1,6 +1,6 @@
 -- `trial` in the words of the chain.
-use Rattle.std.proofs.Common.{◌≡◌, inl, inr, ℕ, ◌≤◌, Bool, true, false, List, [], ◌∷◌, refl, sym, ap, ◌∙◌, subst}
-use Rattle.std.specs.Prelude.{Option, Some, None, Ok, ◌↔◌, nat_le}
+use Rattle.std.proofs.Common.{◌≡◌, inl, inr, ℕ, true, List, refl, subst}
+use Rattle.std.specs.Prelude.{Option, Some, None, nat_le}
 use Rattle.std.proofs.lemmas.Bool.{and_from, le-leb}
 use Rattle.surf_io.specs.Files.{Files}
 use Rattle.surf_model.specs.FaceLists.{FaceList}
@@ -16,7 +16,7 @@ use Rattle.walk_files.specs.Pairs.{IsPair, pair_fault}
 use Rattle.walk_files.proofs.PairLemmas.{none_of_pair}
 use Rattle.walk_translate.specs.declared.deciding.Answer as deciding
 use Rattle.homotopy_cli.specs.Answers.{Answer, yes_with}
-use Rattle.homotopy_cli.specs.Checks.{Check, End, Refuse, Pass, Passes, IsTold, found_or, pass, ◌>>=◌}
+use Rattle.homotopy_cli.specs.Checks.{Check, End, Refuse, Pass, Passes, found_or, pass, ◌>>=◌}
 use Rattle.homotopy_cli.specs.Commands.{Trial, IsRow, answer_to}
 use Rattle.homotopy_cli.specs.Lines.{refused}
 use Rattle.homotopy_cli.specs.Outcomes.{Outcome, IsOutcome, IsAnswerOf}

@@ -1,4 +1,4 @@
-use Rattle.std.proofs.Common.{◌≡◌, List, ℕ, subst}
+use Rattle.std.proofs.Common.{List, ℕ, subst}
 use Rattle.off_reader.specs.OffTexts.{meaning_of}
 use Rattle.off_reader.specs.declared.off_fault.OffFault.TheVariants.{OutOfMemory}
 use Rattle.surf_gen.specs.ChainTexts.{chain_text}

@@ -1,11 +1,11 @@
-use Rattle.std.proofs.Common.{◌≡◌, ◌∷◌, [], ℕ, List, get_or, refl, sym, subst, ap, ◌∙◌}
+use Rattle.std.proofs.Common.{◌≡◌, [], ℕ, List, get_or, refl, sym, subst, ap, ◌∙◌}
 use Rattle.std.specs.Prelude.{◌↔◌, Some, None}
 use Rattle.std.proofs.lemmas.Option.{get_or_from_slice_get}
 use Rattle.std.proofs.lemmas.Result.{err_from_is_err_and}
 use Rattle.surf_model.specs.Edges.{IsTableOf}
 use Rattle.surf_model.specs.Moves as moves
 use Rattle.surf_gen.specs.TrialWalks.{first_walk, second_walk}
-use Rattle.walk_files.specs.Pairs.{IsPair, pair_fault}
+use Rattle.walk_files.specs.Pairs.{pair_fault}
 use Rattle.walk_translate.specs.declared.deciding.Answer.TheVariants.{Homotopic}
 use Rattle.homotopy_cli.specs.Trial.{pair_walks}
 use Rattle.homotopy_cli.proofs.Deciding.{AreWalks, walks_of_pair}
