@@ -11,7 +11,7 @@ use Rattle.text_scan.specs.Lines.{Line, is_filled, unmarked, lines_from, full_li
 use Rattle.text_scan.specs.Numbers.{is_digit, is_natural, value_of, natural_of, is_number_text, is_unsigned_text, is_decimal, is_point, is_exponent_mark, has_exponent_or_none, unsigned}
 use Rattle.text_scan.specs.Plain.{line_of}
 use Rattle.text_scan.proofs.ListLemmas.{before_first-append, after_first-no}
-use Rattle.walk_files.proofs.WrittenLemmas.{IsWritable, IsLine, numbered, lines_from-written, decimal_is, decimal-writable}
+use Rattle.text_scan.proofs.WrittenLemmas.{IsWritable, IsLine, numbered, lines_from-written, decimal_is, decimal-writable}
 use Rattle.off_reader.specs.OffTexts.{header_of, keyword_of, are_pieces, counts_at, taken, point_fault, face_fault, corners_of, corners_among, rings_of, has_equal_neighbours, ring_fault, mesh_of, meaning_of}
 use Rattle.off_reader.specs.declared.off_fault.OffFault.{OffFault}
 use Rattle.off_reader.specs.declared.off_fault.OffFault.TheVariants.{BadVertex}
