@@ -20,7 +20,8 @@ plus-origin s = ap₂ vector (omega (arith, ints)) (omega (arith, ints))
 origin-plus : (s : Vector) → plus origin s ≡ s
 origin-plus s = ap₂ vector (omega (arith, ints)) (omega (arith, ints))
 
-leads-by : (places : List ℕ) (s : Vector) (pairs : List (ℕ × ℕ)) → IsEven s → led flat_next places s (spokes_of pairs) ≡ plus s (sum_of_pairs pairs)
+leads-by : (places : List ℕ) (s : Vector) (pairs : List (ℕ × ℕ)) → IsEven s
+    → led flat_next places s (spokes_of pairs) ≡ plus s (sum_of_pairs pairs)
 leads-by places s [] even = plus-origin s
 leads-by places s (pair ∷ pairs) even =
     let there = less (plus s (unit_step pair.0)) (unit_step pair.1) in

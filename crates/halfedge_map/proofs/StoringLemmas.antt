@@ -84,7 +84,8 @@ pub nexts_signed : (s : OrientedMesh) (n : ℕ) (next : List DartName) → ListN
 unfolding next_of side_of
 nexts_signed s n next h = record { long = h.long; nexts = h.nexts }
 
-pub origins_signed : (s : OrientedMesh) (n : ℕ) (origins : Origins) → KeepOrigins (signed s.mesh s.signs) n origins → KeepOrigins s n origins
+pub origins_signed : (s : OrientedMesh) (n : ℕ) (origins : Origins) → KeepOrigins (signed s.mesh s.signs) n origins
+    → KeepOrigins s n origins
 unfolding origin_of side_of
 origins_signed s n AsListed h = h
 origins_signed s n (Stored origin) h = record { long = h.long; origins = h.origins }

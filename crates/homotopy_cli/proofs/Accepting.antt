@@ -123,7 +123,8 @@ module _ (files : Option Files) (words : List (List ℕ)) (mesh : FaceList) (fir
       let verdict : verdict_of mesh first second list ≡ Accepted =
       (accepted_exactly mesh first second list (verdict_of mesh first second list) refl).1 (h.leads, omega (arith, h.peak)) in
       let target : Outcome = Pass (verdict_answer Accepted) in
-      let same = one_end (Moves list) outcome target input (ap (λ (v : Verdict). let e : Outcome = Pass (verdict_answer v) in e) (sym verdict)) is in
+      let same = one_end (Moves list) outcome target input
+      (ap (λ (v : Verdict). let e : Outcome = Pass (verdict_answer v) in e) (sym verdict)) is in
       let a : IsAnswerOf target status answer = subst (λ (o : Outcome). IsAnswerOf o status answer) same told in
       (a.status_is, a.text_is)
   accepted (Denial denial) outcome status answer h input is told =

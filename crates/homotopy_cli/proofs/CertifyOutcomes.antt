@@ -46,7 +46,8 @@ side_limit mesh first second many =
     let sides : nat_lt MOST_LIFTED_SIDES (total_sides mesh) ≡ true = grind (arith, nat_tests) in
     rw sides refl
 
-dart_limit : (mesh : FaceList) (first second : List ℕ) → total_sides mesh ≤ MOST_LIFTED_SIDES → MOST_LIFTED_DARTS < darts first + darts second
+dart_limit : (mesh : FaceList) (first second : List ℕ) → total_sides mesh ≤ MOST_LIFTED_SIDES
+    → MOST_LIFTED_DARTS < darts first + darts second
     → limit_fault mesh first second ≡ Some (darts_line first second)
 dart_limit mesh first second few many =
     let sides : nat_lt MOST_LIFTED_SIDES (total_sides mesh) ≡ false = grind (arith, nat_tests) in
@@ -61,17 +62,20 @@ pub record IsAnsweredSo (mesh : FaceList) (first second : List ℕ) (status : St
   pub answered : IsCertificatePrinted mesh first second status text
   pub exactly : (status ≡ Yes) ↔ Homotopic mesh first second
 
-status_tells : {P : Type 0} (decision : deciding.Answer) (status : Status) → status ≡ decision_status decision → (decision ≡ answers.Homotopic) ↔ P
+status_tells : {P : Type 0} (decision : deciding.Answer) (status : Status) → status ≡ decision_status decision
+    → (decision ≡ answers.Homotopic) ↔ P
     → (status ≡ Yes) ↔ P
 status_tells answers.Homotopic status e right = ((λ _. right.0 refl), (λ _. e))
 status_tells answers.Different status e right =
     ((λ yes. absurd (no_and_yes (sym e ∙ yes))), (λ h. absurd (differs (right.1 h))))
 
-by_certified : (mesh : FaceList) (first second : List ℕ) (outcome : Outcome) (status : Status) (text : List ℕ) → (certified mesh first second).Ends outcome
+by_certified : (mesh : FaceList) (first second : List ℕ) (outcome : Outcome) (status : Status) (text : List ℕ)
+    → (certified mesh first second).Ends outcome
     → IsAnswerOf outcome status text → IsAnsweredSo mesh first second status text
 by_certified mesh first second (Refuse texts) status text p answer = absurd p
 by_certified mesh first second (Pass x) status text p answer =
-    let here : IsAnswerOf (Pass (certificate_answer mesh first second p.0)) status text = subst (λ (y : Answer). IsAnswerOf (Pass y) status text) p.1 answer in
+    let here : IsAnswerOf (Pass (certificate_answer mesh first second p.0)) status text =
+    subst (λ (y : Answer). IsAnswerOf (Pass y) status text) p.1 answer in
     let shown = here.text_is in
     record {
       answered =
@@ -86,8 +90,10 @@ by_certified mesh first second (Pass x) status text p answer =
 
 -- ---- such an input
 
-module _ (files : Option Files) (words : List (List ℕ)) (mesh : FaceList) (first second : List ℕ) (outcome : Outcome) (status : Status) (text : List ℕ)
-    (is : IsOutcome files words outcome) (answer : IsAnswerOf outcome status text) (input : IsCertifyInput files words mesh first second) where
+module _ (files : Option Files) (words : List (List ℕ)) (mesh : FaceList) (first second : List ℕ) (outcome : Outcome) (status : Status)
+    (text : List ℕ)
+    (is : IsOutcome files words outcome) (answer : IsAnswerOf outcome status text)
+    (input : IsCertifyInput files words mesh first second) where
   two : List (List ℕ)
   two = first ∷ second ∷ []
 
@@ -97,7 +103,8 @@ module _ (files : Option Files) (words : List (List ℕ)) (mesh : FaceList) (fir
   behind_walks =
       let row = behind files (found_or wrong_words (IsRow words)) (answer_to files) (Certify input.mesh_name input.walks_name) outcome
       (sound-found files _ _ (one_row words)) tt input.words_are is in
-      let walks = behind files (surface_in files input.mesh_name) (after_surface files input.walks_name) mesh outcome (sound-surface_in files input.mesh_name)
+      let walks = behind files (surface_in files input.mesh_name) (after_surface files input.walks_name) mesh outcome
+      (sound-surface_in files input.mesh_name)
       (surface_told files input.mesh_name (held files input.mesh_name (SpellsMesh mesh) input.mesh_file).told)
       (spelled_surface files input.mesh_name mesh input.mesh_file input.is_surface) row in
       behind files (pair_in files input.walks_name mesh) (after_pair mesh) two outcome (sound-pair files input.walks_name mesh)
@@ -108,8 +115,10 @@ module _ (files : Option Files) (words : List (List ℕ)) (mesh : FaceList) (fir
   unfolding two
   answers_input within =
       by_certified mesh first second outcome status text
-      (behind files (limited mesh two) (after_limits mesh two) two outcome (sound-pass_unless files (λ line. Exactly line) (limit_fault mesh first second) two)
-      (unless_told files (λ line. Exactly line) (limit_fault mesh first second) two) (rw (no_limit mesh first second within) refl) behind_walks) answer
+      (behind files (limited mesh two) (after_limits mesh two) two outcome
+      (sound-pass_unless files (λ line. Exactly line) (limit_fault mesh first second) two)
+      (unless_told files (λ line. Exactly line) (limit_fault mesh first second) two) (rw (no_limit mesh first second within) refl)
+      behind_walks) answer
 
   pub refuses_input : (line : List ℕ) → limit_fault mesh first second ≡ Some line → (status ≡ Refused) × (text ≡ line)
   unfolding two
@@ -120,12 +129,15 @@ module _ (files : Option Files) (words : List (List ℕ)) (mesh : FaceList) (fir
       (unless_told files (λ line. Exactly line) (limit_fault mesh first second) two) (rw e refl) behind_walks) answer
 
 -- what is answered of such an input
-pub certified_so : (files : Option Files) (words : List (List ℕ)) (outcome : Outcome) (status : Status) (text : List ℕ) → IsOutcome files words outcome
+pub certified_so : (files : Option Files) (words : List (List ℕ)) (outcome : Outcome) (status : Status) (text : List ℕ)
+    → IsOutcome files words outcome
     → IsAnswerOf outcome status text → IsCertified files words status text
 certified_so files words outcome status text is answer =
     record {
-      answered = λ mesh first second input within. (answers_input files words mesh first second outcome status text is answer input within).answered;
-      exactly = λ mesh first second input within. (answers_input files words mesh first second outcome status text is answer input within).exactly;
+      answered = λ mesh first second input within. (answers_input files words mesh first second outcome status text is answer input
+          within).answered;
+      exactly = λ mesh first second input within. (answers_input files words mesh first second outcome status text is answer input
+          within).exactly;
       many_sides = λ mesh first second input many.
           refuses_input files words mesh first second outcome status text is answer input (sides_line mesh)
           (side_limit mesh first second many);

@@ -43,7 +43,8 @@ use Rattle.homotopy_cli.specs.declared.stop.Stop.{Stop}
 
 -- where no list of moves leads, the polygon has some sides
 pub some_sides : (surface : OrientedMesh) (split : SplitView) (polygon : PolygonView) (first second : List ℕ) → IsOrientedSurface surface
-    → IsSplit surface split → IsCutFrom surface split polygon → IsWalk surface.mesh first → IsWalk surface.mesh second → HaveCommonEnds first second
+    → IsSplit surface split → IsCutFrom surface split polygon → IsWalk surface.mesh first → IsWalk surface.mesh second
+    → HaveCommonEnds first second
     → (Homotopic surface.mesh first second → ⊥) → 0 < polygon.degree
 some_sides surface split polygon first second o is_split is_cut w z ends apart = elim (cases_lt 0 polygon.degree) [
   | inl some ↦ some
@@ -52,9 +53,11 @@ some_sides surface split polygon first second o is_split is_cut w z ends apart =
 ]
 
 -- and the words of the walks differ
-pub denial_holds : (surface : OrientedMesh) (split : SplitView) (polygon : PolygonView) (first second : List ℕ) (good : LabellingView) (one other : Word)
+pub denial_holds : (surface : OrientedMesh) (split : SplitView) (polygon : PolygonView) (first second : List ℕ) (good : LabellingView)
+    (one other : Word)
     → IsOrientedSurface surface → IsSplit surface split → IsCutFrom surface split polygon → 0 < polygon.degree → IsWalk surface.mesh first
-    → IsWalk surface.mesh second → HaveCommonEnds first second → (Homotopic surface.mesh first second → ⊥) → good ≡ labelling_from surface polygon
+    → IsWalk surface.mesh second → HaveCommonEnds first second → (Homotopic surface.mesh first second → ⊥)
+    → good ≡ labelling_from surface polygon
     → IsGood surface.mesh (labelling_from surface polygon) → IsWordOf surface.mesh good first one → IsWordOf surface.mesh good second other
     → DenialHolds surface.mesh first second (record { labelling = good; first = one; second = other })
 denial_holds surface split polygon first second good one other o is_split is_cut some w z ends apart is_good meets f g =
@@ -65,7 +68,8 @@ denial_holds surface split polygon first second good one other o is_split is_cut
       differ = λ same.
           apart
           ((words_decide surface good first second one other o
-          (record { split = split; polygon = polygon; is_split = is_split; is_cut = is_cut; some = some; labelling_is = is_good }) w z ends f g).1 same);
+          (record { split = split; polygon = polygon; is_split = is_split; is_cut = is_cut; some = some; labelling_is = is_good }) w z
+          ends f g).1 same);
     }
 
 -- ---- a certificate is for the right decision
@@ -77,7 +81,8 @@ convinces_decides mesh first second (Denial denial) valid walk h =
     ((λ e. absurd (differs e)), (λ homotopic. absurd (denial_excludes mesh first second denial valid walk h homotopic)))
 
 -- the check has an end, and one
-one_certified : (mesh : FaceList) (first second : List ℕ) (a b : End Answer) → (certified mesh first second).Ends a → (certified mesh first second).Ends b → a ≡ b
+one_certified : (mesh : FaceList) (first second : List ℕ) (a b : End Answer) → (certified mesh first second).Ends a
+    → (certified mesh first second).Ends b → a ≡ b
 one_certified mesh first second (Refuse cause) b p q = absurd p
 one_certified mesh first second (Pass x) (Refuse cause) p q = absurd q
 one_certified mesh first second (Pass x) (Pass y) p q =
@@ -94,7 +99,8 @@ sound-certified held mesh first second =
             refl,
             (
               (λ e. absurd (differs e)),
-              (λ h. absurd (none (Pass (certificate_answer mesh first second answers.Homotopic)) (answers.Homotopic, refl, ((λ _. h), (λ _. refl))))),
+              (λ h. absurd (none (Pass (certificate_answer mesh first second answers.Homotopic))
+                  (answers.Homotopic, refl, ((λ _. h), (λ _. refl))))),
             ),
           );
       one = λ _ a b p q. one_certified mesh first second a b p q;
@@ -118,10 +124,12 @@ after_surface held walks surface = pair_in held walks surface >>= after_pair sur
 pub walks_stop : (held : Option Files) (mesh walks : List ℕ) (surface : FaceList) (stop : Stop) → Passes (surface_in held mesh) surface
     → Stops (pair_in held walks surface) stop → Stops (certify held mesh walks) stop
 walks_stop held mesh walks surface stop p h =
-    stops_next (surface_in held mesh) (after_surface held walks) surface stop p (stops_first (pair_in held walks surface) (after_pair surface) stop h)
+    stops_next (surface_in held mesh) (after_surface held walks) surface stop p
+    (stops_first (pair_in held walks surface) (after_pair surface) stop h)
 
 -- what stops behind the walks stops all
-pair_stops : (held : Option Files) (mesh walks : List ℕ) (surface : FaceList) (pair : List (List ℕ)) (stop : Stop) → Passes (surface_in held mesh) surface
+pair_stops : (held : Option Files) (mesh walks : List ℕ) (surface : FaceList) (pair : List (List ℕ)) (stop : Stop)
+    → Passes (surface_in held mesh) surface
     → Passes (pair_in held walks surface) pair → Stops (after_pair surface pair) stop → Stops (certify held mesh walks) stop
 pair_stops held mesh walks surface pair stop p q h =
     stops_next (surface_in held mesh) (after_surface held walks) surface stop p

@@ -19,7 +19,8 @@ use Rattle.homotopy_cli.specs.declared.stop.Stop.TheVariants.{Refused, ReadFault
 
 -- what is looked at behind the bytes of a walk file
 abbrev after_bytes : FaceList → List ℕ → Check (List (List ℕ))
-after_bytes mesh bytes = meant (numbers_line inputs.Walks) (walks_of bytes) >>= (λ walks. pass_unless pair_line (pair_fault mesh walks) walks)
+after_bytes mesh bytes = meant (numbers_line inputs.Walks) (walks_of bytes) >>=
+    (λ walks. pass_unless pair_line (pair_fault mesh walks) walks)
 
 -- what stops the first check stops the sequence
 pub stops_first : {A B : Type 0} (first : Check A) (next : A → Check B) (stop : Stop) → Stops first stop → Stops (first >>= next) stop
@@ -50,7 +51,8 @@ memory_stops check ReadFault h = tt
 memory_stops check OutOfMemory h = tt
 
 -- what tells a fault stops the check
-pub told_stops : {T : Type 0} (texts : Texts) (check : Check T) (stop : Stop) → check.Ends (Refuse texts) → Tells texts stop → Stops check stop
+pub told_stops : {T : Type 0} (texts : Texts) (check : Check T) (stop : Stop) → check.Ends (Refuse texts) → Tells texts stop
+    → Stops check stop
 told_stops texts check (Refused text) p h = (texts, p, h)
 told_stops texts check ReadFault p h = tt
 told_stops texts check OutOfMemory p h = tt
@@ -71,14 +73,16 @@ read_stops line_of read fault wanting stop none (inr e) h =
     memory_stops (meant line_of read) stop (subst (λ (t : Texts). Tells t stop) (ap line_of same ∙ none) h)
 
 -- a walk file that is refused for its text
-pub walks_text_stops : (held : Option Files) (name : List ℕ) (mesh : FaceList) (bytes : List ℕ) (stop : Stop) → Passes (file held name inputs.Walks) bytes
+pub walks_text_stops : (held : Option Files) (name : List ℕ) (mesh : FaceList) (bytes : List ℕ) (stop : Stop)
+    → Passes (file held name inputs.Walks) bytes
     → Stops (meant (numbers_line inputs.Walks) (walks_of bytes)) stop → Stops (pair_in held name mesh) stop
 walks_text_stops held name mesh bytes stop p h =
     stops_next (file held name inputs.Walks) (after_bytes mesh) bytes stop p
     (stops_first (meant (numbers_line inputs.Walks) (walks_of bytes)) (λ walks. pass_unless pair_line (pair_fault mesh walks) walks) stop h)
 
 -- a walk file whose walks are no pair
-pub pair_stops : (held : Option Files) (name : List ℕ) (mesh : FaceList) (bytes : List ℕ) (walks : List (List ℕ)) (fault : PairFault) (stop : Stop)
+pub pair_stops : (held : Option Files) (name : List ℕ) (mesh : FaceList) (bytes : List ℕ) (walks : List (List ℕ)) (fault : PairFault)
+    (stop : Stop)
     → Passes (file held name inputs.Walks) bytes → Passes (meant (numbers_line inputs.Walks) (walks_of bytes)) walks
     → pair_fault mesh walks ≡ Some fault → Tells (pair_line fault) stop → Stops (pair_in held name mesh) stop
 pair_stops held name mesh bytes walks fault stop p q f h =
@@ -86,7 +90,8 @@ pair_stops held name mesh bytes walks fault stop p q f h =
 
 -- a walk file that passes
 pub pair_passes : (held : Option Files) (name : List ℕ) (mesh : FaceList) (bytes : List ℕ) (walks : List (List ℕ))
-    → Passes (file held name inputs.Walks) bytes → walks_of bytes ≡ Ok walks → pair_fault mesh walks ≡ None → Passes (pair_in held name mesh) walks
+    → Passes (file held name inputs.Walks) bytes → walks_of bytes ≡ Ok walks → pair_fault mesh walks ≡ None
+    → Passes (pair_in held name mesh) walks
 pair_passes held name mesh bytes walks p e f = inr (bytes, p, inr (walks, rw e refl, rw f refl))
 
 counted : (mesh : FaceList) (xs : List (List ℕ)) → pair_fault mesh xs ≡ None → length xs ≡ 2
@@ -106,7 +111,8 @@ two_among mesh read walks (inl p) = let e = p.2 in cc
 two_among mesh read walks (inr p) = two_passed mesh p.0 walks (pair_fault mesh p.0) refl p.2
 
 -- where a pair passes, there are two walks
-pub two_walks : (held : Option Files) (name : List ℕ) (mesh : FaceList) (walks : List (List ℕ)) → Passes (pair_in held name mesh) walks → length walks ≡ 2
+pub two_walks : (held : Option Files) (name : List ℕ) (mesh : FaceList) (walks : List (List ℕ)) → Passes (pair_in held name mesh) walks
+    → length walks ≡ 2
 two_walks held name mesh walks (inl p) = let e = p.2 in cc
 two_walks held name mesh walks (inr p) = two_among mesh (walks_of p.0) walks p.2
 

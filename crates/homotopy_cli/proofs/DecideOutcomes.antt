@@ -16,7 +16,8 @@ use Rattle.homotopy_cli.specs.SurfaceInput.{surface_in}
 use Rattle.homotopy_cli.specs.declared.status.Status.{Status}
 
 -- what is answered of such an input
-pub decides : (files : Option Files) (words : List (List ℕ)) (outcome : Outcome) (status : Status) (text : List ℕ) (mesh : FaceList) (first second : List ℕ)
+pub decides : (files : Option Files) (words : List (List ℕ)) (outcome : Outcome) (status : Status) (text : List ℕ) (mesh : FaceList)
+    (first second : List ℕ)
     → IsOutcome files words outcome → IsAnswerOf outcome status text → IsDecideInput files words mesh first second
     → IsRightAnswer mesh first second status text
 decides files words outcome status text mesh first second is answer input =
@@ -27,8 +28,10 @@ decides files words outcome status text mesh first second is answer input =
     let surface = spelled_surface files input.mesh_name mesh input.mesh_file input.is_surface in
     let row = behind files (found_or wrong_words (IsRow words)) (answer_to files) (Decide input.mesh_name input.walks_name) outcome
     (sound-found files _ _ (one_row words)) tt input.words_are is in
-    let walks = behind files (surface_in files input.mesh_name) (after_surface files input.walks_name) mesh outcome (sound-surface_in files input.mesh_name)
+    let walks = behind files (surface_in files input.mesh_name) (after_surface files input.walks_name) mesh outcome
+    (sound-surface_in files input.mesh_name)
     (surface_told files input.mesh_name mesh_file.told) surface row in
-    let decision = behind files (pair_in files input.walks_name mesh) (after_pair mesh) pair outcome (sound-pair files input.walks_name mesh)
+    let decision = behind files (pair_in files input.walks_name mesh) (after_pair mesh) pair outcome
+    (sound-pair files input.walks_name mesh)
     (pair_told files input.walks_name mesh walks_file.told) passed walks in
     right_answer mesh first second outcome status text decision answer

@@ -32,7 +32,8 @@ one_decision Homotopic Different p q = sym (q.1 (p.0 refl))
 one_decision Different Homotopic p q = p.1 (q.0 refl)
 one_decision Different Different p q = refl
 
-one_decided : (mesh : FaceList) (first second : List ℕ) (a b : End Answer) → (decided mesh first second).Ends a → (decided mesh first second).Ends b → a ≡ b
+one_decided : (mesh : FaceList) (first second : List ℕ) (a b : End Answer) → (decided mesh first second).Ends a
+    → (decided mesh first second).Ends b → a ≡ b
 one_decided mesh first second (Refuse texts) b p q = absurd p
 one_decided mesh first second (Pass x) (Refuse texts) p q = absurd q
 one_decided mesh first second (Pass x) (Pass y) p q =
@@ -88,7 +89,8 @@ behind {A} {B} held first next thing end sound told p (inr q) =
     subst (λ (x : A). (next x).Ends end) same q.2
 
 -- a sequence of which the first check is known to refuse
-pub refused_behind : {A B : Type 0} (held : Option Files) (first : Check A) (next : A → Check B) (texts : Texts) (end : End B) → IsSound held first
+pub refused_behind : {A B : Type 0} (held : Option Files) (first : Check A) (next : A → Check B) (texts : Texts) (end : End B)
+    → IsSound held first
     → first.EachFile (IsTold held) → first.Ends (Refuse texts) → (first >>= next).Ends end → end ≡ Refuse texts
 refused_behind {A} {B} held first next texts end sound told p (inl q) =
     let e = sound.one told (Refuse q.0) (Refuse texts) q.1 p in
@@ -108,11 +110,13 @@ after_surface held walks surface = pair_in held walks surface >>= after_pair sur
 pub walks_stop : (held : Option Files) (mesh walks : List ℕ) (surface : FaceList) (stop : Stop) → Passes (surface_in held mesh) surface
     → Stops (pair_in held walks surface) stop → Stops (decide held mesh walks) stop
 walks_stop held mesh walks surface stop p h =
-    stops_next (surface_in held mesh) (after_surface held walks) surface stop p (stops_first (pair_in held walks surface) (after_pair surface) stop h)
+    stops_next (surface_in held mesh) (after_surface held walks) surface stop p
+    (stops_first (pair_in held walks surface) (after_pair surface) stop h)
 
 pub decision_passes : (held : Option Files) (mesh walks : List ℕ) (surface : FaceList) (pair : List (List ℕ)) (decision : deciding.Answer)
     → Passes (surface_in held mesh) surface → Passes (pair_in held walks surface) pair
-    → (decision ≡ Homotopic) ↔ moves.Homotopic surface (walk_at pair 0) (walk_at pair 1) → Passes (decide held mesh walks) (decision_answer decision)
+    → (decision ≡ Homotopic) ↔ moves.Homotopic surface (walk_at pair 0) (walk_at pair 1)
+    → Passes (decide held mesh walks) (decision_answer decision)
 decision_passes held mesh walks surface pair decision p q right = inr (surface, p, inr (pair, q, (decision, refl, right)))
 
 -- the two walks of a pair
@@ -121,7 +125,8 @@ pub record AreWalks (mesh : FaceList) (first second : List ℕ) : Type 0 where
   pub second_walk : IsWalk mesh second
   pub ends : HaveCommonEnds first second
 
-pub walks_of_pair : (mesh : FaceList) (walks : List (List ℕ)) (a b : List ℕ) → IsPair mesh walks → slice_get walks 0 ≡ Some a → slice_get walks 1 ≡ Some b
+pub walks_of_pair : (mesh : FaceList) (walks : List (List ℕ)) (a b : List ℕ) → IsPair mesh walks → slice_get walks 0 ≡ Some a
+    → slice_get walks 1 ≡ Some b
     → AreWalks mesh a b
 walks_of_pair mesh walks a b p f g =
     let one : p.first ≡ a = sym (ap (λ (w : List (List ℕ)). get_or w 0 []) p.two) ∙ get_or_from_slice_get walks 0 a [] f in

@@ -16,7 +16,8 @@ pub gathers-none : {X : Type 0} (written : X → Option (List ℕ)) (sink : X) (
 gathers-none written sink held = record { bytes = []; out = appends-none (written sink); all = sym (append-nil held) }
 
 -- a text is put, and nothing is written
-pub gathers-put : {X : Type 0} (written : X → Option (List ℕ)) (sink : X) (held text : List ℕ) → Gathers written sink sink held (held ++ text) text
+pub gathers-put : {X : Type 0} (written : X → Option (List ℕ)) (sink : X) (held text : List ℕ)
+    → Gathers written sink sink held (held ++ text) text
 gathers-put written sink held text = record { bytes = []; out = appends-none (written sink); all = refl }
 
 -- all is written

@@ -41,12 +41,14 @@ some_left end left [] move e = absurd (by_test (left == 0) e)
 some_left end left (line ∷ lines) move e = by_test (left == 0) refl e
   where
     by_test : (b : Bool) → (left == 0) ≡ b
-        → (if b then Err (Extra line.number) else ok_or (option_map Some (move_of line.words)) (Bad line.number)) ≡ Ok (Some move) → 0 < left
+        → (if b then Err (Extra line.number) else ok_or (option_map Some (move_of line.words)) (Bad line.number)) ≡ Ok (Some move)
+        → 0 < left
     by_test true t e = cc
     by_test false t e = grind (arith, nat_tests)
 
 some_to_come : (reader : Certificate) (refusal : Option CertFault) (move : Move)
-    → unless_refused refusal (next_of (end_line reader.text) (moves_to_come reader) (lines_to_come reader)) ≡ Ok (Some move) → 0 < moves_to_come reader
+    → unless_refused refusal (next_of (end_line reader.text) (moves_to_come reader) (lines_to_come reader)) ≡ Ok (Some move)
+    → 0 < moves_to_come reader
 some_to_come reader (Some fault) move e = cc
 some_to_come reader None move e = some_left (end_line reader.text) (moves_to_come reader) (lines_to_come reader) move e
 
@@ -63,9 +65,11 @@ pub one_more : (all rest more : Result (List Move) CertFault) (moves : List Move
 one_more all rest more moves move e f = e ∙ ap (before_ok moves) f ∙ before_ok-more moves move more
 
 pub none_more : (all rest : Result (List Move) CertFault) (moves : List Move) → all ≡ before_ok moves rest → rest ≡ Ok [] → all ≡ Ok moves
-none_more all rest moves e f = e ∙ ap (before_ok moves) f ∙ ap (λ (xs : List Move). let r : Result (List Move) CertFault = Ok xs in r) (append-nil moves)
+none_more all rest moves e f = e ∙ ap (before_ok moves) f
+    ∙ ap (λ (xs : List Move). let r : Result (List Move) CertFault = Ok xs in r) (append-nil moves)
 
-pub wrong_line : (all rest : Result (List Move) CertFault) (moves : List Move) (fault : CertFault) → all ≡ before_ok moves rest → rest ≡ Err fault
+pub wrong_line : (all rest : Result (List Move) CertFault) (moves : List Move) (fault : CertFault) → all ≡ before_ok moves rest
+    → rest ≡ Err fault
     → all ≡ Err fault
 wrong_line all rest moves fault e f = e ∙ ap (before_ok moves) f
 
@@ -89,7 +93,8 @@ pub list-wrong : (text : List ℕ) (count peak : ℕ) (fault : CertFault) → he
 list-wrong text count peak fault e f = rw (e, f) refl
 
 -- a reader that has just started has all moves of the text to come
-pub left_start : (reader : Certificate) (text : List ℕ) (count peak : ℕ) → reader.text ≡ text → reader.head ≡ Moves count peak → reader.given ≡ 0
+pub left_start : (reader : Certificate) (text : List ℕ) (count peak : ℕ) → reader.text ≡ text → reader.head ≡ Moves count peak
+    → reader.given ≡ 0
     → reader.refusal ≡ None → moves_left reader ≡ moves_of_text count text
 left_start reader text count peak is_text is_head is_given kept = rw (is_text, is_head, is_given, kept) (moves_left-started text count peak)
 
@@ -108,7 +113,8 @@ within : (line : ℕ) (head : CertHead) (count peak : ℕ) → within_peak line 
 within line (Labels degree) count peak e = cc
 within line (Moves n p) count peak e = by_test (nat_lt MOST_PEAK p) refl e
   where
-    by_test : (b : Bool) → nat_lt MOST_PEAK p ≡ b → (if b then Err (Peak line) else Ok (Moves n p)) ≡ Ok (Moves count peak) → peak ≤ MOST_PEAK
+    by_test : (b : Bool) → nat_lt MOST_PEAK p ≡ b → (if b then Err (Peak line) else Ok (Moves n p)) ≡ Ok (Moves count peak)
+        → peak ≤ MOST_PEAK
     by_test true t e = cc
     by_test false t e = let same : p ≡ peak = cc in subst (λ (q : ℕ). q ≤ MOST_PEAK) same (grind (arith, nat_tests))
 
@@ -122,12 +128,14 @@ alone : (line : ℕ) (head : Option CertHead) (count peak : ℕ) → fitting_hea
 alone line None count peak e = cc
 alone line (Some head) count peak e = fitting (fits None head) line head count peak e
 
-behind : (words : List (List ℕ)) (line : ℕ) (head : Option CertHead) (count peak : ℕ) → fitting_head (answer_of words) line head ≡ Ok (Moves count peak)
+behind : (words : List (List ℕ)) (line : ℕ) (head : Option CertHead) (count peak : ℕ)
+    → fitting_head (answer_of words) line head ≡ Ok (Moves count peak)
     → peak ≤ MOST_PEAK
 behind words line None count peak e = cc
 behind words line (Some head) count peak e = fitting (fits (answer_of words) head) line head count peak e
 
-first : (words : List (List ℕ)) (end : ℕ) (lines : List Line) (count peak : ℕ) → first_head (answer_of words) end lines ≡ Ok (Moves count peak)
+first : (words : List (List ℕ)) (end : ℕ) (lines : List Line) (count peak : ℕ)
+    → first_head (answer_of words) end lines ≡ Ok (Moves count peak)
     → peak ≤ MOST_PEAK
 first words end [] count peak e = cc
 first words end (line ∷ lines) count peak e = behind words line.number (head_of line.words) count peak e
@@ -136,11 +144,13 @@ among : (end : ℕ) (lines : List Line) (count peak : ℕ) → head_among end li
 among end [] count peak e = cc
 among end (line ∷ lines) count peak e = by_test (is_some (answer_of line.words)) e
   where
-    by_test : (b : Bool) → (if b then first_head (answer_of line.words) end lines else head_in None line) ≡ Ok (Moves count peak) → peak ≤ MOST_PEAK
+    by_test : (b : Bool) → (if b then first_head (answer_of line.words) end lines else head_in None line) ≡ Ok (Moves count peak)
+        → peak ≤ MOST_PEAK
     by_test true e = first line.words end lines count peak e
     by_test false e = alone line.number (head_of line.words) count peak e
 
-by_moves : (text : List ℕ) (count peak : ℕ) (shown : Certified) (moves : Result (List Move) CertFault) → head_of_text text ≡ Ok (Moves count peak)
+by_moves : (text : List ℕ) (count peak : ℕ) (shown : Certified) (moves : Result (List Move) CertFault)
+    → head_of_text text ≡ Ok (Moves count peak)
     → as_certificate certificates.Moves (with_peak peak moves) ≡ Ok shown → IsPeakRead shown
 by_moves text count peak shown (Err fault) h e = cc
 by_moves text count peak shown (Ok moves) h e =
@@ -151,13 +161,15 @@ by_denial : (shown : Certified) (denial : Result Denial CertFault) → as_certif
 by_denial shown (Err fault) e = cc
 by_denial shown (Ok denial) e = let same : certificates.Denial denial ≡ shown = cc in subst IsPeakRead same tt
 
-by_head : (text : List ℕ) (shown : Certified) (head : Result CertHead CertFault) → head_of_text text ≡ head → certificate_behind head text ≡ Ok shown
+by_head : (text : List ℕ) (shown : Certified) (head : Result CertHead CertFault) → head_of_text text ≡ head
+    → certificate_behind head text ≡ Ok shown
     → IsPeakRead shown
 by_head text shown (Err fault) h e = cc
 by_head text shown (Ok (Labels degree)) h e = by_denial shown (denial_of_lines degree text) e
 by_head text shown (Ok (Moves count peak)) h e = by_moves text count peak shown (moves_of_text count text) h e
 
-by_text : (text : List ℕ) (shown : Certified) (read : Result Certified CertFault) → certificate_of text ≡ read → Passes (meant certificate_line read) shown
+by_text : (text : List ℕ) (shown : Certified) (read : Result Certified CertFault) → certificate_of text ≡ read
+    → Passes (meant certificate_line read) shown
     → IsPeakRead shown
 by_text text shown (Err fault) e h = cc
 by_text text shown (Ok other) e h =
@@ -171,17 +183,20 @@ peak_within held name shown (inr p) = by_text p.0 shown (certificate_of p.0) ref
 -- ---- what was read is what the text means
 
 -- a list that was gathered
-pub gathered : (text : List ℕ) (count peak : ℕ) (list : PeakedMoves) (left : Result (List Move) CertFault) → head_of_text text ≡ Ok (Moves count peak)
+pub gathered : (text : List ℕ) (count peak : ℕ) (list : PeakedMoves) (left : Result (List Move) CertFault)
+    → head_of_text text ≡ Ok (Moves count peak)
     → left ≡ moves_of_text count text → list.peak ≡ peak → left ≡ Ok list.moves
     → Passes (meant certificate_line (certificate_of text)) (certificates.Moves list)
 gathered text count peak list left h is_left is_peak is_moves =
     let is : certificate_of text ≡ Ok (certificates.Moves list) =
     list-moves text count peak list.moves h (sym is_left ∙ is_moves)
-    ∙ ap (λ (p : ℕ). let r : Result Certified CertFault = Ok (certificates.Moves (record { moves = list.moves; peak = p })) in r) (sym is_peak) in
+    ∙ ap (λ (p : ℕ). let r : Result Certified CertFault = Ok (certificates.Moves (record { moves = list.moves; peak = p })) in r)
+    (sym is_peak) in
     subst (λ (read : Result Certified CertFault). Passes (meant certificate_line read) (certificates.Moves list)) (sym is) refl
 
 -- and one with a fault
-pub not_gathered : (text : List ℕ) (count peak : ℕ) (stop : Stop) (left : Result (List Move) CertFault) → head_of_text text ≡ Ok (Moves count peak)
+pub not_gathered : (text : List ℕ) (count peak : ℕ) (stop : Stop) (left : Result (List Move) CertFault)
+    → head_of_text text ≡ Ok (Moves count peak)
     → left ≡ moves_of_text count text
     → (stop ≡ OutOfMemory) ⊎ ((fault : CertFault) × (left ≡ Err fault) × Tells (certificate_line fault) stop)
     → Stops (meant certificate_line (certificate_of text)) stop
@@ -194,7 +209,8 @@ pub denial_start : (reader : Certificate) (text : List ℕ) (degree : ℕ) → r
     → reader.refusal ≡ None → denial_left reader ≡ denial_of_lines degree text
 denial_start reader text degree is_text is_head is_given kept = rw (is_text, is_head, is_given, kept) refl
 
-pub denial_passes : (text : List ℕ) (degree : ℕ) (denial : Denial) → head_of_text text ≡ Ok (Labels degree) → denial_of_lines degree text ≡ Ok denial
+pub denial_passes : (text : List ℕ) (degree : ℕ) (denial : Denial) → head_of_text text ≡ Ok (Labels degree)
+    → denial_of_lines degree text ≡ Ok denial
     → Passes (meant certificate_line (certificate_of text)) (certificates.Denial denial)
 denial_passes text degree denial h e =
     let is : certificate_of text ≡ Ok (certificates.Denial denial) = rw (h, e) refl in
@@ -208,8 +224,10 @@ denial_stops text degree fault stop h (inr e) told =
     memory_stops (meant certificate_line (certificate_of text)) stop (subst (λ (f : CertFault). Tells (certificate_line f) stop) e told)
 
 -- what a reader of a denial gives is that of the text, unless memory is wanting
-pub denial_or_memory : (text : List ℕ) (degree : ℕ) (reader : Certificate) (fault : CertFault) → denial_left reader ≡ denial_of_lines degree text
-    → (Err fault ≡ denial_left reader) ⊎ ((reader.refusal ≡ None) × (let wanting : Result Denial CertFault = Err faults.OutOfMemory in Err fault ≡ wanting))
+pub denial_or_memory : (text : List ℕ) (degree : ℕ) (reader : Certificate) (fault : CertFault)
+    → denial_left reader ≡ denial_of_lines degree text
+    → (Err fault ≡ denial_left reader) ⊎ ((reader.refusal ≡ None)
+    × (let wanting : Result Denial CertFault = Err faults.OutOfMemory in Err fault ≡ wanting))
     → (Err fault ≡ denial_of_lines degree text) ⊎ (fault ≡ faults.OutOfMemory)
 denial_or_memory text degree reader fault start (inl given) = inl (given ∙ start)
 denial_or_memory text degree reader fault start (inr wanting) = let e = wanting.1 in inr cc

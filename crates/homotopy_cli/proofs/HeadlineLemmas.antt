@@ -25,7 +25,8 @@ says mesh first second status text (inl p) exact = inl (record { status_is = p.0
 says mesh first second status text (inr p) exact =
     inr (record { status_is = p.0; text_is = p.1; different = λ h. no_yes (sym p.0 ∙ exact.1 h) })
 
-prints : (mesh : FaceList) (first second : List ℕ) (status : Status) (text : List ℕ) (shown : Certificate) → Convinces mesh first second shown
+prints : (mesh : FaceList) (first second : List ℕ) (status : Status) (text : List ℕ) (shown : Certificate)
+    → Convinces mesh first second shown
     → status ≡ decision_status (decision_of shown) → text ≡ certificate_text shown → (status ≡ Yes) ↔ moves.Homotopic mesh first second
     → PrintsList mesh first second status text ⊎ PrintsDenial mesh first second status text
 prints mesh first second status text (Moves list) h e f exact = inl (record { list = list; leads = h.leads; status_is = e; text_is = f })

@@ -77,7 +77,8 @@ five v e f x g = record { vertices = v; edges = e; faces = f; euler = x; genus =
 pub one_numbers : (mesh : FaceList) (a b : SurfaceNumbers) → AreNumbersOf mesh a → AreNumbersOf mesh b → a ≡ b
 one_numbers mesh a b p q =
     let v : a.vertices ≡ b.vertices = p.vertices ∙ sym q.vertices in
-    let e : a.edges ≡ b.edges = p.edges ∙ ap (λ (t : List Edge). length t) (one_table mesh p.table q.table p.is_table q.is_table) ∙ sym q.edges in
+    let e : a.edges ≡ b.edges = p.edges ∙ ap (λ (t : List Edge). length t) (one_table mesh p.table q.table p.is_table q.is_table)
+    ∙ sym q.edges in
     let f : a.faces ≡ b.faces = p.faces ∙ sym q.faces in
     let x : a.euler ≡ b.euler = p.euler ∙ rw (v, e, f) refl ∙ sym q.euler in
     let g : a.genus ≡ b.genus = one_genus a.genus b.genus (p.genus ∙ x ∙ sym q.genus) in
@@ -105,7 +106,8 @@ as_passed mesh surface (inl p) = let e = p.2 in cc
 as_passed mesh surface (inr p) = (p.2.1 ∙ p.1.1, record { closed = p.1.0; orientable = subst IsOrientable p.1.1 p.2.0 })
 
 -- what passes is a surface
-pub surface_passed : (held : Option Files) (name : List ℕ) (surface : FaceList) → Passes (surface_in held name) surface → IsFaceList surface × IsSurface surface
+pub surface_passed : (held : Option Files) (name : List ℕ) (surface : FaceList) → Passes (surface_in held name) surface
+    → IsFaceList surface × IsSurface surface
 surface_passed held name surface (inl p) = let e = p.2 in cc
 surface_passed held name surface (inr p) =
     let found = as_passed p.0 surface p.2 in
@@ -113,7 +115,8 @@ surface_passed held name surface (inr p) =
 
 -- where an answer passes, the mesh of the file is a surface
 pub answered_surface : (held : Option Files) (name : List ℕ) (mesh : FaceList) (answer : Answer) → Passes (mesh_in held name) mesh
-    → ((a b : End FaceList) → (mesh_in held name).Ends a → (mesh_in held name).Ends b → a ≡ b) → Passes (surface held name) answer → IsSurface mesh
+    → ((a b : End FaceList) → (mesh_in held name).Ends a → (mesh_in held name).Ends b → a ≡ b) → Passes (surface held name) answer
+    → IsSurface mesh
 answered_surface held name mesh answer p one (inl q) = let e = q.2 in cc
 answered_surface held name mesh answer p one (inr q) = from_surface q.0 q.1
   where
@@ -135,7 +138,8 @@ pub fault_ends : (mesh : FaceList) (fault : SurfaceFault) → IsFirstFault mesh 
 fault_ends mesh fault first =
     inl (surface_line fault, inl (surface_line fault, (fault, first, refl), refl), refl)
 
-pub turned_ends : (mesh : FaceList) → IsClosed mesh → (IsOrientable mesh → ⊥) → (as_surface mesh >>= with_numbers).Ends (Refuse (OfOddChain mesh))
+pub turned_ends : (mesh : FaceList) → IsClosed mesh → (IsOrientable mesh → ⊥)
+    → (as_surface mesh >>= with_numbers).Ends (Refuse (OfOddChain mesh))
 turned_ends mesh closed turned = inl (OfOddChain mesh, inr (mesh, (closed, refl), (turned, refl)), refl)
 
 pub numbers_end : (mesh : FaceList) (numbers : SurfaceNumbers) → IsSurface mesh → AreNumbersOf mesh numbers

@@ -22,14 +22,16 @@ vertices_in : Result Header OffFault → ℕ
 vertices_in (Ok header) = header.vertices
 vertices_in (Err fault) = 0
 
-few_counted : (c : ℕ) (line : Line) (lines : List Line) (counts : Option (ℕ × ℕ)) (header : Header) → counted c line lines counts ≡ Ok header
+few_counted : (c : ℕ) (line : Line) (lines : List Line) (counts : Option (ℕ × ℕ)) (header : Header)
+    → counted c line lines counts ≡ Ok header
     → header.vertices ≤ 1000000
 unfolding vertices_in
 few_counted c line lines None header e = cc
 few_counted c line lines (Some counts) header e = by_test (nat_le counts.0 1000000 && nat_le counts.1 1333333) refl e
   where
     by_test : (b : Bool) → (nat_le counts.0 1000000 && nat_le counts.1 1333333) ≡ b
-        → (if b then Ok (record { coordinates = c; vertices = counts.0; faces = counts.1; lines = lines }) else Err (TooMany line.number)) ≡ Ok header
+        → (if b then Ok (record { coordinates = c; vertices = counts.0; faces = counts.1; lines = lines }) else Err
+        (TooMany line.number)) ≡ Ok header
         → header.vertices ≤ 1000000
     by_test false t f = cc
     by_test true t f =
@@ -45,7 +47,8 @@ few_behind : (keyword : Keyword) (line : Line) (lines : List Line) (header : Hea
     → header.vertices ≤ 1000000
 few_behind keyword line lines header e = by_form (has_piece 110 keyword) (is_filled keyword.rest) e
   where
-    bare : (b : Bool) → (if b then Err (UnreadForm line.number) else counts_at (coordinates_of keyword) (line_before line lines)) ≡ Ok header
+    bare : (b : Bool) → (if b then Err (UnreadForm line.number) else counts_at (coordinates_of keyword) (line_before line lines)) ≡ Ok
+        header
         → header.vertices ≤ 1000000
     bare true f = cc
     bare false f = few_at (coordinates_of keyword) (line_before line lines) header f
@@ -97,7 +100,8 @@ one_more vertices before line h good = by_corners (corners_of line.words) refl
         let room = ring_room vertices sides line.number line.words ring is good in
         record {
           faces = subst (All (IsFace vertices)) (sym all)
-              (All-append (IsFace vertices) (rings_of before) (ring ∷ []) h.faces (All-cons (IsFace vertices) ring [] face (All-nil (IsFace vertices))));
+              (All-append (IsFace vertices) (rings_of before) (ring ∷ []) h.faces
+              (All-cons (IsFace vertices) ring [] face (All-nil (IsFace vertices))));
           few = omega (arith, room, ap (sum_by length) all, sum_by-append length (rings_of before) (ring ∷ []));
         }
 
@@ -151,12 +155,15 @@ by_faces vertices end n lines mesh (Ok parts) few is e =
     subst IsFaceList same valid
 
 by_points : (vertices end n : ℕ) (mesh : FaceList) (read : Result (List Line × List Line) OffFault) → vertices ≤ 1000000
-    → (read >>= (λ points. taken (face_fault vertices) end [] n points.1 >>= (λ faces. Ok (record { count = vertices; faces = rings_of faces.0 })))) ≡ Ok mesh
+    → (read >>= (λ points. taken (face_fault vertices) end [] n points.1 >>=
+    (λ faces. Ok (record { count = vertices; faces = rings_of faces.0 })))) ≡ Ok mesh
     → IsFaceList mesh
 by_points vertices end n mesh (Err fault) few e = cc
-by_points vertices end n mesh (Ok parts) few e = by_faces vertices end n parts.1 mesh (taken (face_fault vertices) end [] n parts.1) few refl e
+by_points vertices end n mesh (Ok parts) few e = by_faces vertices end n parts.1 mesh (taken (face_fault vertices) end [] n parts.1) few
+    refl e
 
-by_header : (end : ℕ) (lines : List Line) (mesh : FaceList) (read : Result Header OffFault) → header_of lines ≡ read → mesh_of end lines ≡ Ok mesh
+by_header : (end : ℕ) (lines : List Line) (mesh : FaceList) (read : Result Header OffFault) → header_of lines ≡ read
+    → mesh_of end lines ≡ Ok mesh
     → IsFaceList mesh
 unfolding mesh_of
 by_header end lines mesh (Err fault) is e = let bad : mesh_of end lines ≡ Err fault = rw is refl in cc
@@ -167,7 +174,8 @@ by_header end lines mesh (Ok header) is e =
 pub is_face_list : (text : List ℕ) (mesh : FaceList) → meaning_of text ≡ Ok mesh → IsFaceList mesh
 is_face_list text mesh e = by_header (end_line text) (full_lines text) mesh (header_of (full_lines text)) refl e
 
-by_meaning : (mesh : FaceList) (text : List ℕ) (read : Result FaceList OffFault) → meaning_of text ≡ read → Passes (meant off_line read) mesh → IsFaceList mesh
+by_meaning : (mesh : FaceList) (text : List ℕ) (read : Result FaceList OffFault) → meaning_of text ≡ read
+    → Passes (meant off_line read) mesh → IsFaceList mesh
 by_meaning mesh text (Err fault) is h = cc
 by_meaning mesh text (Ok other) is h = let same : other ≡ mesh = cc in is_face_list text mesh (is ∙ ap (λ (m : FaceList). Ok m) same)
 

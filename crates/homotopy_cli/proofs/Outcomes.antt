@@ -58,7 +58,8 @@ decided_by files words status text a =
     record {
       answered = λ mesh first second input.
           (decides files words a.outcome status text mesh first second a.is_outcome a.is_answer input).answered;
-      exactly = λ mesh first second input. (decides files words a.outcome status text mesh first second a.is_outcome a.is_answer input).exactly;
+      exactly = λ mesh first second input. (decides files words a.outcome status text mesh first second a.is_outcome a.is_answer
+          input).exactly;
     }
 
 pub certified_by : (files : Option Files) (words : List (List ℕ)) (status : Status) (text : List ℕ) → Answers files words status text
@@ -90,7 +91,8 @@ headline_by files words status text a =
 
 pub reply_answers : (files : Option Files) (words : List (List ℕ)) (reply : Reply) → Replies (answer_of files words) reply
     → Answers files words (reply_status reply) (reply_text reply)
-reply_answers files words reply found = answers files words (Pass found.answer) (reply_status reply) (reply_text reply) found.passes found.is_answer
+reply_answers files words reply found = answers files words (Pass found.answer) (reply_status reply) (reply_text reply) found.passes
+    found.is_answer
 
 pub refusal_answers : (files : Option Files) (words : List (List ℕ)) (text : Text) → Stops (answer_of files words) (stops.Refused text)
     → Answers files words (reply_status (replies.Refused text)) (reply_text (replies.Refused text))
@@ -101,7 +103,8 @@ refusal_answers files words text h =
 -- ---- the reply to a list of words
 
 -- words that are no row
-pub wrong_stops : (files : Option Files) (words : List (List ℕ)) (stop : Stop) → ((row : Row) → IsRow words row → ⊥) → Tells wrong_words stop
+pub wrong_stops : (files : Option Files) (words : List (List ℕ)) (stop : Stop) → ((row : Row) → IsRow words row → ⊥)
+    → Tells wrong_words stop
     → Stops (answer_of files words) stop
 wrong_stops files words stop none h =
     told_stops wrong_words (answer_of files words) stop (inl (wrong_words, (none, refl), refl)) h

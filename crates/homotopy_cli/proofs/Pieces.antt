@@ -34,7 +34,8 @@ gathered-out a b c piece text so_far out = record {
 }
 
 -- more is put
-pub gathered-more : (a b : Option (List ℕ)) (piece text more : List ℕ) → IsGathered a b piece text → IsGathered a b (piece ++ more) (text ++ more)
+pub gathered-more : (a b : Option (List ℕ)) (piece text more : List ℕ) → IsGathered a b piece text
+    → IsGathered a b (piece ++ more) (text ++ more)
 gathered-more a b piece text more so_far = record {
   done = so_far.done;
   appended = so_far.appended;
@@ -46,7 +47,8 @@ pub gathered-all : (a b c : Option (List ℕ)) (piece text : List ℕ) → IsGat
 gathered-all a b c piece text so_far out = appends_twice a b c so_far.done piece so_far.appended out ∙ ap (append_told a) so_far.whole
 
 -- a first part is written
-pub gathered-part : (a b c : Option (List ℕ)) (piece text rest whole : List ℕ) → IsGathered a b piece text → whole ≡ text ++ rest → AppendsPrefix b c piece
+pub gathered-part : (a b c : Option (List ℕ)) (piece text rest whole : List ℕ) → IsGathered a b piece text → whole ≡ text ++ rest
+    → AppendsPrefix b c piece
     → AppendsPrefix a c whole
 gathered-part a b c piece text rest whole so_far is part =
     subst (AppendsPrefix a c) (ap (λ (t : List ℕ). t ++ rest) so_far.whole ∙ sym is)
@@ -76,7 +78,8 @@ chain-more links k link here =
     ap (λ (j : ℕ). take j links) (add-one k) ∙ take-suc links k link (slice_get_within links k link here)
     ∙ ap (λ (l : ChainLink). take k links ++ l ∷ []) (get_or_from_slice_get links k link link here) in
     ap chain_so_far one_more
-    ∙ ap (λ (t : List ℕ). head ++ t) (blanks_append (take k links) (link ∷ []) ∙ ap (λ (t : List (List ℕ)). before ++ flat_map behind_blank t) (append-nil (link_phrases link)))
+    ∙ ap (λ (t : List ℕ). head ++ t) (blanks_append (take k links) (link ∷ [])
+    ∙ ap (λ (t : List (List ℕ)). before ++ flat_map behind_blank t) (append-nil (link_phrases link)))
     ∙ sym (append_assoc head before more)
 
 -- the line of an odd chain, and what is left of it behind some links
@@ -87,7 +90,8 @@ chain-at links k =
     let before : List ℕ = flat_map behind_blank (flat_map link_phrases (take k links)) in
     let after : List ℕ = flat_map behind_blank (flat_map link_phrases (drop k links)) in
     let all : flat_map behind_blank (flat_map link_phrases links) ≡ before ++ after =
-    ap (λ (t : List ChainLink). flat_map behind_blank (flat_map link_phrases t)) (sym (take-append-drop k links)) ∙ blanks_append (take k links) (drop k links) in
+    ap (λ (t : List ChainLink). flat_map behind_blank (flat_map link_phrases t)) (sym (take-append-drop k links))
+    ∙ blanks_append (take k links) (drop k links) in
     let whole : odd_chain_line links ≡ chain_so_far links ++ 10 ∷ [] = refl in
     whole
     ∙ ap (λ (t : List ℕ). (head ++ t) ++ 10 ∷ []) all
@@ -101,9 +105,11 @@ chain-whole links k all = let whole : odd_chain_line links ≡ chain_so_far link
 -- ---- what is written of it
 
 -- a first part, where a piece before the end was not written whole
-pub chain_part : {X : Type 0} (written : X → Option (List ℕ)) (faults : X → ℕ) (old mid new : X) (piece : List ℕ) (links : List ChainLink) (k : ℕ)
+pub chain_part : {X : Type 0} (written : X → Option (List ℕ)) (faults : X → ℕ) (old mid new : X) (piece : List ℕ)
+    (links : List ChainLink) (k : ℕ)
     → IsGathered (written old) (written mid) piece (chain_so_far (take k links)) → faults old ≤ faults mid
-    → AppendsPrefix (written mid) (written new) piece → Rose (faults mid) (faults new) → WrotePart written faults old new (odd_chain_line links)
+    → AppendsPrefix (written mid) (written new) piece → Rose (faults mid) (faults new)
+    → WrotePart written faults old new (odd_chain_line links)
 chain_part written faults old mid new piece links k so_far never_falls part rose = record {
   part =
       gathered-part (written old) (written mid) (written new) piece (chain_so_far (take k links))
@@ -112,22 +118,28 @@ chain_part written faults old mid new piece links k so_far never_falls part rose
 }
 
 -- all links are gathered, and the line feed
-last_piece : (a b : Option (List ℕ)) (piece last : List ℕ) (links : List ChainLink) (k : ℕ) → IsGathered a b piece (chain_so_far (take k links))
+last_piece : (a b : Option (List ℕ)) (piece last : List ℕ) (links : List ChainLink) (k : ℕ)
+    → IsGathered a b piece (chain_so_far (take k links))
     → length links ≤ k → last ≡ piece ++ 10 ∷ [] → IsGathered a b last (odd_chain_line links)
 last_piece a b piece last links k so_far all put =
     subst (λ (p : List ℕ). IsGathered a b p (odd_chain_line links)) (sym put)
-    (subst (IsGathered a b (piece ++ 10 ∷ [])) (sym (chain-whole links k all)) (gathered-more a b piece (chain_so_far (take k links)) (10 ∷ []) so_far))
+    (subst (IsGathered a b (piece ++ 10 ∷ [])) (sym (chain-whole links k all))
+    (gathered-more a b piece (chain_so_far (take k links)) (10 ∷ []) so_far))
 
 -- the line, where the last piece was written
-pub chain_written : (a b c : Option (List ℕ)) (piece last : List ℕ) (links : List ChainLink) (k : ℕ) → IsGathered a b piece (chain_so_far (take k links))
+pub chain_written : (a b c : Option (List ℕ)) (piece last : List ℕ) (links : List ChainLink) (k : ℕ)
+    → IsGathered a b piece (chain_so_far (take k links))
     → length links ≤ k → last ≡ piece ++ 10 ∷ [] → Appends b c last → Appends a c (odd_chain_line links)
 chain_written a b c piece last links k so_far all put out =
     gathered-all a b c last (odd_chain_line links) (last_piece a b piece last links k so_far all put) out
 
 -- a first part, where it was not written whole
-pub chain_cut : {X E : Type 0} (written : X → Option (List ℕ)) (faults : X → ℕ) (old mid new : X) (piece last : List ℕ) (links : List ChainLink) (k : ℕ)
-    → IsGathered (written old) (written mid) piece (chain_so_far (take k links)) → length links ≤ k → last ≡ piece ++ 10 ∷ [] → faults old ≤ faults mid
-    → (result : Result (Unit {0}) E) → OnErr result (AppendsPrefix (written mid) (written new) last) → OnErr result (Rose (faults mid) (faults new))
+pub chain_cut : {X E : Type 0} (written : X → Option (List ℕ)) (faults : X → ℕ) (old mid new : X) (piece last : List ℕ)
+    (links : List ChainLink) (k : ℕ)
+    → IsGathered (written old) (written mid) piece (chain_so_far (take k links)) → length links ≤ k → last ≡ piece ++ 10 ∷ []
+    → faults old ≤ faults mid
+    → (result : Result (Unit {0}) E) → OnErr result (AppendsPrefix (written mid) (written new) last)
+    → OnErr result (Rose (faults mid) (faults new))
     → OnErr result (WrotePart written faults old new (odd_chain_line links))
 chain_cut written faults old mid new piece last links k so_far all put never_falls (Ok done) part rose = tt
 chain_cut written faults old mid new piece last links k so_far all put never_falls (Err failed) part rose = record {

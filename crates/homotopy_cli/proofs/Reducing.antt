@@ -65,12 +65,14 @@ all_below_test degree (entry ∷ word) h =
     let first : nat_lt entry degree ≡ true = grind arith in
     rw (first, all_below_test degree word (All-tail (λ other. other < degree) entry word h)) refl
 
-pub in_range : (degree : ℕ) (lines : List NumberLine) → LEAST_DEGREE ≤ degree → range_fault degree lines ≡ None → All (IsTurnWord degree) (entries_on lines)
+pub in_range : (degree : ℕ) (lines : List NumberLine) → LEAST_DEGREE ≤ degree → range_fault degree lines ≡ None
+    → All (IsTurnWord degree) (entries_on lines)
 in_range degree [] least e = All-nil (IsTurnWord degree)
 in_range degree (line ∷ lines) least e = by_test (list_all (λ entry. nat_lt entry degree) line.numbers) refl (in_range degree lines least) e
   where
     by_test : (b : Bool) → list_all (λ entry. nat_lt entry degree) line.numbers ≡ b
-        → (range_fault degree lines ≡ None → All (IsTurnWord degree) (entries_on lines)) → (if b then range_fault degree lines else Some line.line) ≡ None
+        → (range_fault degree lines ≡ None → All (IsTurnWord degree) (entries_on lines))
+        → (if b then range_fault degree lines else Some line.line) ≡ None
         → All (IsTurnWord degree) (entries_on (line ∷ lines))
     by_test false t rest f = cc
     by_test true t rest f =
@@ -129,7 +131,8 @@ range_found degree (line ∷ lines) (suc k) below before here =
 
 -- ---- canonical words
 
-pub canonical_there : (degree : ℕ) (turns : List (List ℕ)) → All (IsTurnWord degree) turns → (canonical : List (List ℕ)) × AreCanonicalOf degree turns canonical
+pub canonical_there : (degree : ℕ) (turns : List (List ℕ)) → All (IsTurnWord degree) turns → (canonical : List (List ℕ))
+    × AreCanonicalOf degree turns canonical
 canonical_there degree [] h = ([], tt)
 canonical_there degree (word ∷ words) h =
     let rest = canonical_there degree words (All-tail (IsTurnWord degree) word words h) in
@@ -146,7 +149,8 @@ one_canonical degree (word ∷ words) (c ∷ cs) (d ∷ ds) h p q =
     let first : c ≡ d = unique degree word c d (All-head (IsTurnWord degree) word words h) p.0 q.0 in
     let rest : cs ≡ ds = one_canonical degree words cs ds (All-tail (IsTurnWord degree) word words h) p.1 q.1 in cc
 
-one_end : (degree : ℕ) (turns : List (List ℕ)) → All (IsTurnWord degree) turns → (a b : End (List (List ℕ))) → (canonical_words degree turns).Ends a
+one_end : (degree : ℕ) (turns : List (List ℕ)) → All (IsTurnWord degree) turns → (a b : End (List (List ℕ)))
+    → (canonical_words degree turns).Ends a
     → (canonical_words degree turns).Ends b → a ≡ b
 one_end degree turns h (Refuse r) b p q = absurd p
 one_end degree turns h (Pass x) (Refuse r) p q = absurd q
@@ -161,16 +165,19 @@ sound-canonical held degree turns h =
 -- ---- the command
 
 sound-lines : (held : Option Files) (name : List ℕ) → IsSound held (lines_in held name)
-sound-lines held name = sound-then held _ _ (sound-file held name inputs.TurnWords) (λ bytes _. sound-meant held (numbers_line inputs.TurnWords) (words_of bytes))
+sound-lines held name = sound-then held _ _ (sound-file held name inputs.TurnWords)
+    (λ bytes _. sound-meant held (numbers_line inputs.TurnWords) (words_of bytes))
 
 pub sound-reduce : (held : Option Files) (degree : ℕ) (list : List ℕ) → IsSound held (reduce held degree list)
 sound-reduce held degree list =
     sound-then held _ _ (sound-pass_unless held degree_line (degree_fault degree) degree)
     (λ allowed h. sound-then held _ _ (sound-lines held list)
     (λ lines _. sound-then held _ _ (sound-pass_unless held range_line (range_fault degree lines) (entries_on lines))
-    (λ turns k. sound-then held _ _ (sound-canonical held degree turns (words_passed degree allowed lines turns h k)) (λ canonical _. sound-pass held _))))
+    (λ turns k. sound-then held _ _ (sound-canonical held degree turns (words_passed degree allowed lines turns h k))
+    (λ canonical _. sound-pass held _))))
   where
-    words_passed : (degree allowed : ℕ) (lines : List NumberLine) (turns : List (List ℕ)) → Passes (pass_unless degree_line (degree_fault degree) degree) allowed
+    words_passed : (degree allowed : ℕ) (lines : List NumberLine) (turns : List (List ℕ))
+        → Passes (pass_unless degree_line (degree_fault degree) degree) allowed
         → Passes (pass_unless range_line (range_fault degree lines) (entries_on lines)) turns → All (IsTurnWord degree) turns
     words_passed degree allowed lines turns h k =
         let least = least_degree degree (unless_passed degree_line (degree_fault degree) degree allowed h).0 in
@@ -179,23 +186,31 @@ sound-reduce held degree list =
 
 -- ---- `reduce` in the words of the list
 
-pub list_passes : (files : Option Files) (degree : ℕ) (name : List ℕ) (lines : List NumberLine) (canonical : List (List ℕ)) → LEAST_DEGREE ≤ degree
+pub list_passes : (files : Option Files) (degree : ℕ) (name : List ℕ) (lines : List NumberLine) (canonical : List (List ℕ))
+    → LEAST_DEGREE ≤ degree
     → Passes (lines_in files name) lines → range_fault degree lines ≡ None → AreCanonicalOf degree (entries_on lines) canonical
     → Passes (reduce files degree name) (yes_with (words_text canonical))
 list_passes files degree name lines canonical least passed range are =
-    inr (degree, rw (no_degree_fault degree least) refl, inr (lines, passed, inr (entries_on lines, rw range refl, inr (canonical, are, refl))))
+    inr (
+      degree,
+      rw (no_degree_fault degree least) refl,
+      inr (lines, passed, inr (entries_on lines, rw range refl, inr (canonical, are, refl))),
+    )
 
-pub reduce_passes : (files : Option Files) (degree : ℕ) (name : List ℕ) (turns canonical : List (List ℕ)) → IsReduceInput files degree name turns
+pub reduce_passes : (files : Option Files) (degree : ℕ) (name : List ℕ) (turns canonical : List (List ℕ))
+    → IsReduceInput files degree name turns
     → AreCanonicalOf degree turns canonical → Passes (reduce files degree name) (yes_with (words_text canonical))
 reduce_passes files degree name turns canonical input are =
     let list_file = held files name (SpellsTurnWords degree turns) input.list_file in
     let spelled = list_file.holds in
-    let passed : Passes (lines_in files name) spelled.lines = inr (list_file.bytes, list_file.passes inputs.TurnWords, rw spelled.text refl) in
+    let passed : Passes (lines_in files name) spelled.lines =
+    inr (list_file.bytes, list_file.passes inputs.TurnWords, rw spelled.text refl) in
     let range = no_range_fault degree spelled.lines (subst (All (IsTurnWord degree)) spelled.entries spelled.in_range) in
     list_passes files degree name spelled.lines canonical input.least passed range
     (subst (λ (t : List (List ℕ)). AreCanonicalOf degree t canonical) spelled.entries are)
 
-pub input_told : (files : Option Files) (degree : ℕ) (name : List ℕ) (turns : List (List ℕ)) → IsReduceInput files degree name turns → IsTold files name
+pub input_told : (files : Option Files) (degree : ℕ) (name : List ℕ) (turns : List (List ℕ)) → IsReduceInput files degree name turns
+    → IsTold files name
 input_told files degree name turns input = (held files name (SpellsTurnWords degree turns) input.list_file).told
 
 pub input_words : (files : Option Files) (degree : ℕ) (name : List ℕ) (turns : List (List ℕ)) → IsReduceInput files degree name turns
@@ -213,14 +228,16 @@ behind_lines degree lines =
 abbrev behind_degree : Option Files → ℕ → List ℕ → Check Answer
 behind_degree files degree name = lines_in files name >>= behind_lines degree
 
-pub degree_stops : (files : Option Files) (degree : ℕ) (name : List ℕ) (stop : Stop) → degree < LEAST_DEGREE → Tells (degree_line degree) stop
+pub degree_stops : (files : Option Files) (degree : ℕ) (name : List ℕ) (stop : Stop) → degree < LEAST_DEGREE
+    → Tells (degree_line degree) stop
     → Stops (reduce files degree name) stop
 degree_stops files degree name stop small h =
     let test : nat_lt degree LEAST_DEGREE ≡ true = grind arith in
     let fault : degree_fault degree ≡ Some degree = rw test refl in
     told_stops (degree_line degree) (reduce files degree name) stop (inl (degree_line degree, rw fault refl, refl)) h
 
-pub lines_stop : (files : Option Files) (degree : ℕ) (name : List ℕ) (stop : Stop) → LEAST_DEGREE ≤ degree → Stops (lines_in files name) stop
+pub lines_stop : (files : Option Files) (degree : ℕ) (name : List ℕ) (stop : Stop) → LEAST_DEGREE ≤ degree
+    → Stops (lines_in files name) stop
     → Stops (reduce files degree name) stop
 lines_stop files degree name stop least h =
     stops_next (pass_unless degree_line (degree_fault degree) degree) (λ _. behind_degree files degree name) degree stop
@@ -233,7 +250,8 @@ short_lines files name lines (inl p) = let same = p.2 in cc
 short_lines files name lines (inr p) = words_of-short p.0 lines (meant_passed (numbers_line inputs.TurnWords) (words_of p.0) lines p.2)
 
 -- what stops one line stops the command
-pub line_stops : (degree : ℕ) (lines : List NumberLine) (k : ℕ) (stop : Stop) → k < length lines → All (IsTurnWord degree) (take k (entries_on lines))
+pub line_stops : (degree : ℕ) (lines : List NumberLine) (k : ℕ) (stop : Stop) → k < length lines
+    → All (IsTurnWord degree) (take k (entries_on lines))
     → (stop ≡ stops.OutOfMemory) ⊎ ((list_all (λ entry. nat_lt entry degree) (line_at lines k).numbers ≡ false)
     × Tells (range_line (line_at lines k).line) stop)
     → (stop ≡ stops.OutOfMemory) ⊎ ((line : ℕ) × (range_fault degree lines ≡ Some line) × Tells (range_line line) stop)
@@ -251,7 +269,8 @@ words_stop files degree name lines stop least passed (inr h) =
     (inr (degree, rw (no_degree_fault degree least) refl, inr (lines, passed, inl (range_line h.0, rw h.1 refl, refl)))) h.2
 
 -- where the degree is in order, a file is looked at
-pub looks_at_file : (files : Option Files) (degree : ℕ) (name : List ℕ) → LEAST_DEGREE ≤ degree → (reduce files degree name).EachFile (λ _. ⊥) → ⊥
+pub looks_at_file : (files : Option Files) (degree : ℕ) (name : List ℕ) → LEAST_DEGREE ≤ degree
+    → (reduce files degree name).EachFile (λ _. ⊥) → ⊥
 looks_at_file files degree name least none = (none.1 degree (rw (no_degree_fault degree least) refl)).0.0
 
 -- what stops the canonical words is no read fault
@@ -271,7 +290,8 @@ meant_told files line_of (Ok thing) = tt
 meant_told files line_of (Err fault) = tt
 
 -- the list is the one file that is looked at
-pub reduce_told : (files : Option Files) (degree : ℕ) (name : List ℕ) → IsTold files name → (reduce files degree name).EachFile (IsTold files)
+pub reduce_told : (files : Option Files) (degree : ℕ) (name : List ℕ) → IsTold files name
+    → (reduce files degree name).EachFile (IsTold files)
 reduce_told files degree name told = (
   unless_told files degree_line (degree_fault degree) degree,
   λ _ _. (
@@ -280,13 +300,15 @@ reduce_told files degree name told = (
   ),
 )
 
-holds_of : (told : Option (List ℕ)) (limit : ℕ) (P : List ℕ → Type 0) (bytes : List ℕ) → IsSome told → IfSome told (λ f. bytes ≡ f) → length bytes ≤ limit
+holds_of : (told : Option (List ℕ)) (limit : ℕ) (P : List ℕ → Type 0) (bytes : List ℕ) → IsSome told → IfSome told (λ f. bytes ≡ f)
+    → length bytes ≤ limit
     → P bytes → IsSomeAnd told (λ b. (length b ≤ limit) × P b)
 holds_of None limit P bytes some agrees short h = cc
 holds_of (Some f) limit P bytes some agrees short h = subst (λ (b : List ℕ). (length b ≤ limit) × P b) agrees (short, h)
 
 -- what was passed spells the list
-pub yes_input : (files : Option Files) (degree : ℕ) (name : List ℕ) (outcome : Outcome) → IsTold files name → (reduce files degree name).Ends outcome
+pub yes_input : (files : Option Files) (degree : ℕ) (name : List ℕ) (outcome : Outcome) → IsTold files name
+    → (reduce files degree name).Ends outcome
     → status_of outcome ≡ Yes → (turns : List (List ℕ)) × IsReduceInput files degree name turns
 yes_input files degree name outcome told (inl p) e = let refused = ap status_of p.2 in cc
 yes_input files degree name outcome told (inr (allowed, first, inl p)) e = let refused = ap status_of p.2 in cc

@@ -83,7 +83,8 @@ sound-mesh held name = sound-then held _ _ (sound-file held name inputs.Mesh) (�
 pub sound-pair : (held : Option Files) (name : List ℕ) (mesh : FaceList) → IsSound held (pair_in held name mesh)
 sound-pair held name mesh =
     sound-then held _ _ (sound-file held name inputs.Walks)
-    (λ bytes _. sound-then held _ _ (sound-meant held (numbers_line inputs.Walks) (walks_of bytes)) (λ walks _. sound-pass_unless held pair_line (pair_fault mesh walks) walks))
+    (λ bytes _. sound-then held _ _ (sound-meant held (numbers_line inputs.Walks) (walks_of bytes))
+    (λ walks _. sound-pass_unless held pair_line (pair_fault mesh walks) walks))
 
 pub sound-certificate : (held : Option Files) (name : List ℕ) → IsSound held (certificate_in held name)
 sound-certificate held name =
@@ -112,13 +113,15 @@ sound-verify held mesh walks certificate =
 sound-decide : (held : Option Files) (mesh walks : List ℕ) → IsSound held (decide held mesh walks)
 sound-decide held mesh walks =
     sound-then held _ _ (sound-surface_in held mesh)
-    (λ surface _. sound-then held _ _ (sound-pair held walks surface) (λ pair _. sound-decided held surface (walk_at pair 0) (walk_at pair 1)))
+    (λ surface _. sound-then held _ _ (sound-pair held walks surface)
+    (λ pair _. sound-decided held surface (walk_at pair 0) (walk_at pair 1)))
 
 sound-certify : (held : Option Files) (mesh walks : List ℕ) → IsSound held (certify held mesh walks)
 sound-certify held mesh walks =
     sound-then held _ _ (sound-surface_in held mesh)
     (λ surface _. sound-then held _ _ (sound-pair held walks surface)
-    (λ pair _. sound-then held _ _ (sound-pass_unless held (λ line. Exactly line) (limit_fault surface (walk_at pair 0) (walk_at pair 1)) pair)
+    (λ pair _. sound-then held _ _ (sound-pass_unless held (λ line. Exactly line)
+    (limit_fault surface (walk_at pair 0) (walk_at pair 1)) pair)
     (λ _ _. sound-certified held surface (walk_at pair 0) (walk_at pair 1))))
 
 sound-row : (held : Option Files) (row : Row) → IsSound held (answer_to held row)
@@ -134,7 +137,8 @@ sound-words held words = sound-then held _ _ (sound-found held _ _ (one_row word
 
 -- ---- files that are told
 
-pub meant_told : {T F : Type 0} (files : Option Files) (line_of : F → Texts) (read : Result T F) → (meant line_of read).EachFile (IsTold files)
+pub meant_told : {T F : Type 0} (files : Option Files) (line_of : F → Texts) (read : Result T F)
+    → (meant line_of read).EachFile (IsTold files)
 meant_told files line_of (Ok thing) = tt
 meant_told files line_of (Err fault) = tt
 
@@ -145,19 +149,25 @@ unless_told files line_of (Some fault) thing = tt
 
 pub walks_told : (files : Option Files) (mesh : FaceList) (read : Result (List (List ℕ)) WalkFault)
     → (meant (numbers_line inputs.Walks) read >>= (λ walks. pass_unless pair_line (pair_fault mesh walks) walks)).EachFile (IsTold files)
-walks_told files mesh read = (meant_told files (numbers_line inputs.Walks) read, λ walks _. unless_told files pair_line (pair_fault mesh walks) walks)
+walks_told files mesh read = (
+  meant_told files (numbers_line inputs.Walks) read,
+  λ walks _. unless_told files pair_line (pair_fault mesh walks) walks,
+)
 
-pub mesh_told : (files : Option Files) (name : List ℕ) (mesh : FaceList) → Holds files name (SpellsMesh mesh) → (mesh_in files name).EachFile (IsTold files)
+pub mesh_told : (files : Option Files) (name : List ℕ) (mesh : FaceList) → Holds files name (SpellsMesh mesh)
+    → (mesh_in files name).EachFile (IsTold files)
 mesh_told files name mesh h = ((held files name (SpellsMesh mesh) h).told, λ bytes _. meant_told files off_line (meaning_of bytes))
 
 -- the file passes its mesh
-pub mesh_passes : (files : Option Files) (name : List ℕ) (mesh : FaceList) → Holds files name (SpellsMesh mesh) → Passes (mesh_in files name) mesh
+pub mesh_passes : (files : Option Files) (name : List ℕ) (mesh : FaceList) → Holds files name (SpellsMesh mesh)
+    → Passes (mesh_in files name) mesh
 mesh_passes files name mesh h =
     let file = held files name (SpellsMesh mesh) h in
     inr (file.bytes, file.passes inputs.Mesh, rw file.holds refl)
 
 -- a file that spells two walks of the mesh with common ends passes them
-pub spelled_pair : (files : Option Files) (name : List ℕ) (mesh : FaceList) (first second : List ℕ) → Holds files name (SpellsPair mesh first second)
+pub spelled_pair : (files : Option Files) (name : List ℕ) (mesh : FaceList) (first second : List ℕ)
+    → Holds files name (SpellsPair mesh first second)
     → Passes (pair_in files name mesh) (first ∷ second ∷ [])
 spelled_pair files name mesh first second h =
     let file = held files name (SpellsPair mesh first second) h in
@@ -174,7 +184,8 @@ spelled_pair files name mesh first second h =
     } in
     pair_passes files name mesh file.bytes pair (file.passes inputs.Walks) spelled.text (none_of_pair mesh pair is_pair)
 
-pub pair_told : (files : Option Files) (name : List ℕ) (mesh : FaceList) → IsTold files name → (pair_in files name mesh).EachFile (IsTold files)
+pub pair_told : (files : Option Files) (name : List ℕ) (mesh : FaceList) → IsTold files name
+    → (pair_in files name mesh).EachFile (IsTold files)
 pair_told files name mesh told = (told, λ bytes _. walks_told files mesh (walks_of bytes))
 
 pub surface_told : (files : Option Files) (name : List ℕ) → IsTold files name → (surface_in files name).EachFile (IsTold files)

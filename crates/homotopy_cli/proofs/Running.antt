@@ -37,7 +37,8 @@ reads_faulty held faults old new IsEnd stop only no_fault end =
     record { end = end; fault = λ e. let same : stop ≡ ReadFault = cc in absurd (no_fault same); only_reads = only }
 
 -- what was read is looked at, and that is the end
-pub reads_ended : {X V : Type 0} (held : X → Option Files) (faults : X → ℕ) (old new : X) (IsEnd : Option Files → Type 0) (result : Result V Stop)
+pub reads_ended : {X V : Type 0} (held : X → Option Files) (faults : X → ℕ) (old new : X) (IsEnd : Option Files → Type 0)
+    (result : Result V Stop)
     → OnlyReads held faults old new → (result ≡ Err ReadFault → ⊥) → IsEnd (held old) → Reads held faults old new IsEnd result
 reads_ended held faults old new IsEnd result only no_fault end = record { end = end; fault = λ e. absurd (no_fault e); only_reads = only }
 
@@ -81,7 +82,8 @@ module _ {X : Type 0} (held : X → Option Files) (faults : X → ℕ) (old new 
 
 -- what was made of what was read is the end, and tells no read fault
 pub runs_judged : {X : Type 0} (held : X → Option Files) (faults : X → ℕ) (old new : X) (command : Option Files → Check Answer)
-    → ((command (held old)).EachFile (λ _. ⊥) → ⊥) → (result : Result Reply Stop) → OnlyReads held faults old new → (result ≡ Err ReadFault → ⊥)
+    → ((command (held old)).EachFile (λ _. ⊥) → ⊥) → (result : Result Reply Stop) → OnlyReads held faults old new
+    → (result ≡ Err ReadFault → ⊥)
     → MatchResult result (Replies (command (held old))) (Stops (command (held old))) → Runs held faults old new command result
 runs_judged held faults old new command looks result only no_fault end =
     record { end = end; fault = λ e. absurd (no_fault e); untouched = λ none. absurd (looks none); only_reads = only }
@@ -96,7 +98,8 @@ pub memory_no_fault : OutOfMemory ≡ ReadFault → ⊥
 memory_no_fault e = cc
 
 -- a refusal before any file is looked at
-pub runs_refused : {X : Type 0} (held : X → Option Files) (faults : X → ℕ) (shelf : X) (command : Option Files → Check Answer) (texts : Texts)
+pub runs_refused : {X : Type 0} (held : X → Option Files) (faults : X → ℕ) (shelf : X) (command : Option Files → Check Answer)
+    (texts : Texts)
     (stop : Stop) → Stops (command (held shelf)) stop → Tells texts stop → Runs held faults shelf shelf command (Err stop)
 runs_refused held faults shelf command texts stop stops tells =
     record {

@@ -44,7 +44,8 @@ none_twice places none (suc n) p l twice =
 three_ways : (p q : ℕ) → ((p < q) ⊎ (q < p)) ⊎ (p ≡ q)
 three_ways p q = grind arith
 
-each_once : (labelling : LabellingView) → length labelling.places ≡ labelling.degree → ((p : ℕ) → IsFirstTwice labelling.places p → ⊥) → HasPlaces labelling
+each_once : (labelling : LabellingView) → length labelling.places ≡ labelling.degree → ((p : ℕ) → IsFirstTwice labelling.places p → ⊥)
+    → HasPlaces labelling
 each_once labelling each none i j below other same = elim (three_ways i j) [
   | inl (inl less) ↦ absurd (never (slice_index labelling.places j)
       (record { one = i; other = j; apart = less; below = omega (arith, other, each); one_place = same; other_place = refl }))
@@ -73,7 +74,13 @@ some_verdict mesh first second denial valid none =
               inr (
                 refl,
                 right,
-                λ too. none Accepted (record { good = good; first_word = right; second_word = too; differ = λ same. none Equal (good, right, too, same) }),
+                λ too. none Accepted (record {
+                  good = good;
+                  first_word = right;
+                  second_word = too;
+                  differ =
+                      λ same. none Equal (good, right, too, same);
+                }),
               ),
             ),
           ),
@@ -87,11 +94,23 @@ some_verdict mesh first second denial valid none =
         each_once denial.labelling shape.each_spoke (λ p twice. none (Label (PlaceTwice p)) (shape, degree, twice)) in
         least_or_all (length table) (EntryMeetsRule mesh table denial.labelling)
         (λ k below against before.
-        none (Label (EdgeRule (record { 0 = (edge_in table k).low }) (record { 0 = (edge_in table k).high })))
-        (shape, degree, places, least-against mesh table denial.labelling k found.1 (record { in_table = below; against = against; first = before })))
-        (λ all. with_good (record { shape = shape; degree = degree; places = places; edges = each-edge mesh table denial.labelling found.1 all }))
+        none (Label (EdgeRule (record { 0 = (edge_in table k).low }) (record { 0 = (edge_in table k).high }))) (
+          shape,
+          degree,
+          places,
+          least-against mesh table denial.labelling k found.1
+              (record { in_table = below; against = against; first = before }),
+        ))
+        (λ all. with_good (record {
+          shape = shape;
+          degree = degree;
+          places = places;
+          edges =
+              each-edge mesh table denial.labelling found.1 all;
+        }))
 
-one_judged : (mesh : FaceList) (first second : List ℕ) (denial : denials.Denial) (a b : End Answer) → (judgement mesh first second (Denial denial)).Ends a
+one_judged : (mesh : FaceList) (first second : List ℕ) (denial : denials.Denial) (a b : End Answer)
+    → (judgement mesh first second (Denial denial)).Ends a
     → (judgement mesh first second (Denial denial)).Ends b → a ≡ b
 one_judged mesh first second denial (Refuse cause) b p q = absurd p
 one_judged mesh first second denial (Pass x) (Refuse cause) p q = absurd q

@@ -16,12 +16,14 @@ pub record IsSound {T : Type 0} (held : Option Files) (check : Check T) : Type 0
 
 -- ---- a sequence
 
-no_end : {A B : Type 0} (held : Option Files) (first : Check A) (next : A → Check B) → ((thing : A) → Passes first thing → IsSound held (next thing))
+no_end : {A B : Type 0} (held : Option Files) (first : Check A) (next : A → Check B)
+    → ((thing : A) → Passes first thing → IsSound held (next thing))
     → ((end : End B) → (first >>= next).Ends end → ⊥) → (end : End A) → first.Ends end → ⊥
 no_end held first next sound none (Refuse texts) h = none (Refuse texts) (inl (texts, h, refl))
 no_end held first next sound none (Pass thing) h = (sound thing h).some (λ end more. none end (inr (thing, h, more)))
 
-one_end : {A B : Type 0} (held : Option Files) (first : Check A) (next : A → Check B) → ((x y : End A) → first.Ends x → first.Ends y → x ≡ y)
+one_end : {A B : Type 0} (held : Option Files) (first : Check A) (next : A → Check B)
+    → ((x y : End A) → first.Ends x → first.Ends y → x ≡ y)
     → ((thing : A) → Passes first thing → (x y : End B) → (next thing).Ends x → (next thing).Ends y → x ≡ y)
     → (a b : End B) → (first >>= next).Ends a → (first >>= next).Ends b → a ≡ b
 one_end held first next one more a b (inl p) (inl q) = let e = one (Refuse p.0) (Refuse q.0) p.1 q.1 in cc (e, p.2, q.2)
@@ -72,7 +74,8 @@ pub sound-pass_unless : {T F : Type 0} (held : Option Files) (line_of : F → Te
 sound-pass_unless held line_of None thing = sound-pass held thing
 sound-pass_unless held line_of (Some fault) thing = sound-refuse held (line_of fault)
 
-some_file : (told : Option (List ℕ)) (limit : ℕ) → ((bytes : List ℕ) → IfSome told (λ f. bytes ≡ f) → (limit < length bytes) ⊎ (length bytes ≤ limit) → ⊥)
+some_file : (told : Option (List ℕ)) (limit : ℕ) → ((bytes : List ℕ) → IfSome told (λ f. bytes ≡ f) → (limit < length bytes)
+    ⊎ (length bytes ≤ limit) → ⊥)
     → ⊥
 some_file None limit none = none [] tt (inr (omega arith))
 some_file (Some f) limit none = none f refl (cases_lt limit (length f))

@@ -34,7 +34,12 @@ told_surface files words mesh input = (
 surface_outcome : (files : Option Files) (words : List (List ℕ)) (mesh : FaceList) (outcome : Outcome) → IsSurfaceInput files words mesh
     → (as_surface mesh >>= with_numbers).Ends outcome → IsOutcome files words outcome
 surface_outcome files words mesh outcome input h =
-    inr (Surface input.mesh_name, input.words_are, behind_mesh files input.mesh_name mesh outcome (mesh_passes files input.mesh_name mesh input.mesh_file) h)
+    inr (
+      Surface input.mesh_name,
+      input.words_are,
+      behind_mesh files input.mesh_name mesh outcome
+          (mesh_passes files input.mesh_name mesh input.mesh_file) h,
+    )
 
 -- a status of yes tells of a surface
 yes_surface : (files : Option Files) (words : List (List ℕ)) (mesh : FaceList) (outcome : Outcome) (status : Status) (text : List ℕ)
@@ -48,12 +53,17 @@ yes_surface files words mesh (Pass found) status text input (inr p) answer told 
     ((sound-mesh files input.mesh_name).one (mesh_told files input.mesh_name mesh input.mesh_file)) row
 
 -- what is answered of such an input, where an answer is exact
-pub measured : (files : Option Files) (words : List (List ℕ)) (outcome : Outcome) (status : Status) (text : List ℕ) → IsOutcome files words outcome
-    → IsAnswerOf outcome status text → (AllTold files words → (other : Outcome) → IsOutcome files words other → IsAnswerOf other status text)
+pub measured : (files : Option Files) (words : List (List ℕ)) (outcome : Outcome) (status : Status) (text : List ℕ)
+    → IsOutcome files words outcome
+    → IsAnswerOf outcome status text → (AllTold files words → (other : Outcome) → IsOutcome files words other
+    → IsAnswerOf other status text)
     → IsMeasured files words status text
 measured files words outcome status text is answer exact =
     record {
-      surface = λ mesh input. (λ told. yes_surface files words mesh outcome status text input is answer told, λ surface. (numbers_told mesh input surface).0);
+      surface = λ mesh input. (
+        λ told. yes_surface files words mesh outcome status text input is answer told,
+        λ surface. (numbers_told mesh input surface).0,
+      );
       numbers = λ mesh input surface. (numbers_told mesh input surface).1;
       not_closed = λ mesh fault input first.
           let a = exact (told_surface files words mesh input) (Refuse (surface_line fault))
@@ -68,7 +78,8 @@ measured files words outcome status text is answer exact =
     numbers_told : (mesh : FaceList) → IsSurfaceInput files words mesh → IsSurface mesh
         → (status ≡ Yes) × ((numbers : SurfaceNumbers) × AreNumbersOf mesh numbers × (text ≡ numbers_text numbers))
     numbers_told mesh input surface =
-        let some = some_numbers mesh (mesh_valid files input.mesh_name mesh (mesh_passes files input.mesh_name mesh input.mesh_file)) surface in
+        let some = some_numbers mesh (mesh_valid files input.mesh_name mesh (mesh_passes files input.mesh_name mesh input.mesh_file))
+        surface in
         let a = exact (told_surface files words mesh input) (Pass (yes_with (numbers_text some.0)))
         (surface_outcome files words mesh (Pass (yes_with (numbers_text some.0))) input (numbers_end mesh some.0 surface some.1)) in
         (a.status_is, (some.0, some.1, a.text_is))

@@ -54,14 +54,16 @@ sound-as_surface held mesh valid = sound-then held _ _ (sound-closed held mesh v
 -- a fault of the mesh, or want of memory
 pub fault_stops : (mesh : FaceList) (fault : SurfaceFault) (stop : Stop) → (fault ≡ OutOfMemory) ⊎ IsFirstFault mesh fault
     → Tells (surface_line fault) stop → Stops (closed mesh) stop
-fault_stops mesh fault stop (inl wanting) h = memory_stops (closed mesh) stop (subst (λ (f : SurfaceFault). Tells (surface_line f) stop) wanting h)
+fault_stops mesh fault stop (inl wanting) h = memory_stops (closed mesh) stop
+    (subst (λ (f : SurfaceFault). Tells (surface_line f) stop) wanting h)
 fault_stops mesh fault stop (inr is) h = told_stops (surface_line fault) (closed mesh) stop (fault, is, refl) h
 
 pub signs_stop : (mesh : FaceList) (stop : Stop) → Passes (closed mesh) mesh → Stops (orientable mesh) stop → Stops (as_surface mesh) stop
 signs_stop mesh stop p h = stops_next (closed mesh) orientable mesh stop p h
 
 -- the surface of a file, by the surface of its mesh
-pub surface_end : (held : Option Files) (name : List ℕ) (mesh : FaceList) (result : Result OrientedMesh Stop) → Passes (mesh_in held name) mesh
+pub surface_end : (held : Option Files) (name : List ℕ) (mesh : FaceList) (result : Result OrientedMesh Stop)
+    → Passes (mesh_in held name) mesh
     → IfOk result (λ surface. surface.mesh ≡ mesh) → MatchResult result (λ _. Passes (as_surface mesh) mesh) (Stops (as_surface mesh))
     → MatchResult result (λ surface. Passes (surface_in held name) surface.mesh) (Stops (surface_in held name))
 surface_end held name mesh (Ok surface) p same h =

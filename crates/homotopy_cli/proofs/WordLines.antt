@@ -16,7 +16,8 @@ line_up_to [] k = []
 line_up_to (entry ∷ entries) k = decimal entry ++ flat_map behind_blank (map decimal (take (k - 1) entries))
 
 others-append : (before after : List ℕ)
-    → flat_map behind_blank (map decimal (before ++ after)) ≡ flat_map behind_blank (map decimal before) ++ flat_map behind_blank (map decimal after)
+    → flat_map behind_blank (map decimal (before ++ after)) ≡ flat_map behind_blank (map decimal before)
+    ++ flat_map behind_blank (map decimal after)
 others-append before after =
     ap (flat_map behind_blank) (map-append decimal before after) ∙ flat_map-append behind_blank (map decimal before) (map decimal after)
 
@@ -84,22 +85,28 @@ filled true word h e = cc
 filled false [] h e = let no : false ≡ true = h.1 refl in cc
 filled false (entry ∷ entries) h e = omega arith
 
-pub line-more-put : {X : Type 0} (written : X → Option (List ℕ)) (old mid new : X) (held left after word : List ℕ) (k entry : ℕ) → 1 ≤ k → k < length word
-    → entry ≡ slice_index word k → Gathers written old mid held left (line_up_to word k) → Gathers written mid new left after (behind_blank (decimal entry))
+pub line-more-put : {X : Type 0} (written : X → Option (List ℕ)) (old mid new : X) (held left after word : List ℕ) (k entry : ℕ) → 1 ≤ k
+    → k < length word
+    → entry ≡ slice_index word k → Gathers written old mid held left (line_up_to word k)
+    → Gathers written mid new left after (behind_blank (decimal entry))
     → Gathers written old new held after (line_up_to word (k + 1))
 line-more-put written old mid new held left after word k entry one below is first second =
     subst (Gathers written old new held after)
     (ap (λ n. line_up_to word k ++ behind_blank (decimal n)) is ∙ sym (line-more word k one below))
     (gathers-then written old mid new held left after (line_up_to word k) (behind_blank (decimal entry)) first second)
 
-pub line-ends : {X : Type 0} (written : X → Option (List ℕ)) (old mid new : X) (held left after piece word : List ℕ) (k : ℕ) → 0 < length word → length word ≤ k
+pub line-ends : {X : Type 0} (written : X → Option (List ℕ)) (old mid new : X) (held left after piece word : List ℕ) (k : ℕ)
+    → 0 < length word → length word ≤ k
     → Gathers written old mid held left (line_up_to word k) → Gathers written mid new left after [] → piece ≡ after ++ 10 ∷ []
     → Gathers written old new held piece (word_line word)
 line-ends written old mid new held left after piece word k some past first second is =
     let put = gathers-then written old mid new held left after (line_up_to word k) [] first second in
-    let before : Gathers written old new held after (line_up_to word k) = subst (Gathers written old new held after) (append-nil (line_up_to word k)) put in
-    let all = gathers-then written old new new held after (after ++ 10 ∷ []) (line_up_to word k) (10 ∷ []) before (gathers-put written new after (10 ∷ [])) in
-    subst (λ p. Gathers written old new held p (word_line word)) (sym is) (subst (Gathers written old new held (after ++ 10 ∷ [])) (line-all word k some past) all)
+    let before : Gathers written old new held after (line_up_to word k) =
+    subst (Gathers written old new held after) (append-nil (line_up_to word k)) put in
+    let all = gathers-then written old new new held after (after ++ 10 ∷ []) (line_up_to word k) (10 ∷ []) before
+    (gathers-put written new after (10 ∷ [])) in
+    subst (λ p. Gathers written old new held p (word_line word)) (sym is)
+    (subst (Gathers written old new held (after ++ 10 ∷ [])) (line-all word k some past) all)
 
 pub line-stops : {X : Type 0} (written : X → Option (List ℕ)) (faults : X → ℕ) (old mid new : X) (held left word : List ℕ) (k : ℕ)
     → Gathers written old mid held left (line_up_to word k) → faults old ≤ faults mid → WrotePart written faults mid new left
@@ -110,7 +117,8 @@ line-stops written faults old mid new held left word k first never_falls failed 
 
 -- ---- what is put of the lines
 
-pub words-more-put : {X : Type 0} (written : X → Option (List ℕ)) (old mid new : X) (left after : List ℕ) (words : List (List ℕ)) (i : ℕ) (word : List ℕ)
+pub words-more-put : {X : Type 0} (written : X → Option (List ℕ)) (old mid new : X) (left after : List ℕ) (words : List (List ℕ))
+    (i : ℕ) (word : List ℕ)
     → i < length words → word ≡ get_or words i word → Gathers written old mid [] left (words_text (take i words))
     → Gathers written mid new left after (word_line word) → Gathers written old new [] after (words_text (take (i + 1) words))
 words-more-put written old mid new left after words i word below is first second =
@@ -118,15 +126,18 @@ words-more-put written old mid new left after words i word below is first second
     (ap (λ w. words_text (take i words) ++ word_line w) is ∙ sym (words-more words i word below))
     (gathers-then written old mid new [] left after (words_text (take i words)) (word_line word) first second)
 
-pub words-stop : {X : Type 0} (written : X → Option (List ℕ)) (faults : X → ℕ) (old mid new : X) (left : List ℕ) (words : List (List ℕ)) (i : ℕ) (word : List ℕ)
+pub words-stop : {X : Type 0} (written : X → Option (List ℕ)) (faults : X → ℕ) (old mid new : X) (left : List ℕ) (words : List (List ℕ))
+    (i : ℕ) (word : List ℕ)
     → i < length words → word ≡ get_or words i word → Gathers written old mid [] left (words_text (take i words)) → faults old ≤ faults mid
     → WrotePart written faults mid new (left ++ word_line word) → WrotePart written faults old new (words_text words)
 words-stop written faults old mid new left words i word below is first never_falls failed =
     subst (WrotePart written faults old new)
     (ap (λ w. words_text (take i words) ++ (word_line w ++ words_text (drop (suc i) words))) is ∙ sym (words-parts words i word below))
-    (gathers-fails written faults old mid new [] left (words_text (take i words)) (word_line word) (words_text (drop (suc i) words)) first never_falls failed)
+    (gathers-fails written faults old mid new [] left (words_text (take i words)) (word_line word) (words_text (drop (suc i) words))
+    first never_falls failed)
 
-pub words-stop_last : {X : Type 0} (written : X → Option (List ℕ)) (faults : X → ℕ) (old mid new : X) (left : List ℕ) (words : List (List ℕ)) (i : ℕ)
+pub words-stop_last : {X : Type 0} (written : X → Option (List ℕ)) (faults : X → ℕ) (old mid new : X) (left : List ℕ)
+    (words : List (List ℕ)) (i : ℕ)
     → take i words ≡ words → Gathers written old mid [] left (words_text (take i words)) → faults old ≤ faults mid
     → WrotePart written faults mid new left → WrotePart written faults old new (words_text words)
 words-stop_last written faults old mid new left words i all first never_falls failed =

@@ -14,7 +14,12 @@ use Rattle.homotopy_cli.specs.declared.line.Phrase.{Phrase}
 -- the whole is a first part of itself
 pub AppendsPrefix-whole : (a b : Option (List ℕ)) (bytes : List ℕ) → Appends a b bytes → AppendsPrefix a b bytes
 AppendsPrefix-whole a b bytes p =
-    record { count = length bytes; within = omega arith; appended = p ∙ ap (append_told a) (sym (take_all (length bytes) bytes (omega arith))) }
+    record {
+      count = length bytes;
+      within = omega arith;
+      appended = p
+          ∙ ap (append_told a) (sym (take_all (length bytes) bytes (omega arith)));
+    }
 
 -- what failed, where two things are known of it
 pub both_err : {X Y P Q R : Type 0} (result : Result X Y) → (P → Q → R) → OnErr result P → OnErr result Q → OnErr result R
@@ -35,7 +40,8 @@ pub so_far-push : (first : Phrase) (before : List Phrase) (x : Phrase)
 so_far-push first before x =
     ap (λ (t : List (List ℕ)). phrase_text first ++ flat_map behind_blank t) (map-append phrase_text before (x ∷ []))
     ∙ ap (λ (t : List ℕ). phrase_text first ++ t) (flat_map-append behind_blank (map phrase_text before) (phrase_text x ∷ []))
-    ∙ ap (λ (t : List ℕ). phrase_text first ++ (flat_map behind_blank (map phrase_text before) ++ t)) (append-nil (behind_blank (phrase_text x)))
+    ∙ ap (λ (t : List ℕ). phrase_text first ++ (flat_map behind_blank (map phrase_text before) ++ t))
+    (append-nil (behind_blank (phrase_text x)))
     ∙ sym (append_assoc (phrase_text first) (flat_map behind_blank (map phrase_text before)) (behind_blank (phrase_text x)))
 
 -- what is left of a line behind the phrases so far
@@ -48,21 +54,24 @@ line-at first before x after =
     let p : List ℕ = behind_blank (phrase_text x) in
     let r : List ℕ = flat_map behind_blank (map phrase_text after) in
     let all : flat_map behind_blank (map phrase_text (before ++ x ∷ after)) ≡ b ++ (p ++ r) =
-    ap (flat_map behind_blank) (map-append phrase_text before (x ∷ after)) ∙ flat_map-append behind_blank (map phrase_text before) (map phrase_text (x ∷ after)) in
+    ap (flat_map behind_blank) (map-append phrase_text before (x ∷ after))
+    ∙ flat_map-append behind_blank (map phrase_text before) (map phrase_text (x ∷ after)) in
     ap (λ (t : List ℕ). (f ++ t) ++ 10 ∷ []) all
     ∙ ap (λ (t : List ℕ). t ++ 10 ∷ []) (sym (append_assoc f b (p ++ r)))
     ∙ append_assoc (f ++ b) (p ++ r) (10 ∷ [])
     ∙ ap (λ (t : List ℕ). (f ++ b) ++ t) (append_assoc p r (10 ∷ []))
 
 -- a phrase that was not written whole is a first part of the rest of the line
-pub part_of_line : {X : Type 0} (written : X → Option (List ℕ)) (faults : X → ℕ) (old mid new : X) (first : Phrase) (others : List Phrase) (i : ℕ) (d : Phrase)
+pub part_of_line : {X : Type 0} (written : X → Option (List ℕ)) (faults : X → ℕ) (old mid new : X) (first : Phrase)
+    (others : List Phrase) (i : ℕ) (d : Phrase)
     → i < length others → WroteAll written old mid (so_far first (take i others)) → faults old ≤ faults mid
     → WrotePart written faults mid new (behind_blank (phrase_text (get_or others i d)))
     → WrotePart written faults old new (line (phrase_text first) (map phrase_text others))
 part_of_line written faults old mid new first others i d below before never_falls failed =
     let x = get_or others i d in
     let after : List ℕ = flat_map behind_blank (map phrase_text (drop (suc i) others)) ++ 10 ∷ [] in
-    part_after written faults old mid new (so_far first (take i others)) (behind_blank (phrase_text x)) after (line (phrase_text first) (map phrase_text others))
+    part_after written faults old mid new (so_far first (take i others)) (behind_blank (phrase_text x)) after
+    (line (phrase_text first) (map phrase_text others))
     before never_falls
     (ap (λ (t : List Phrase). line (phrase_text first) (map phrase_text t)) (split_at others i d below)
     ∙ line-at first (take i others) x (drop (suc i) others))
@@ -71,7 +80,8 @@ part_of_line written faults old mid new first others i d below before never_fall
 -- ---- one text behind another
 
 -- the first text was written, and the second is the end of the call
-pub writes_then : {X V E : Type 0} (written : X → Option (List ℕ)) (settled faults : X → ℕ) (old mid new : X) (s t : List ℕ) (result : Result V E)
+pub writes_then : {X V E : Type 0} (written : X → Option (List ℕ)) (settled faults : X → ℕ) (old mid new : X) (s t : List ℕ)
+    (result : Result V E)
     → WroteAll written old mid s → OnlyWrites settled faults old mid → Writes written settled faults mid new t result
     → Writes written settled faults old new (s ++ t) result
 writes_then written settled faults old mid new s t result first only h =
@@ -86,8 +96,10 @@ writes_then written settled faults old mid new s t result first only h =
     }
 
 -- a first text was not written whole
-pub writes_stops : {X V W E F : Type 0} (written : X → Option (List ℕ)) (settled faults : X → ℕ) (old new : X) (s rest whole : List ℕ) (x : E) (y : F)
-    → whole ≡ s ++ rest → Writes {V = V} written settled faults old new s (Err x) → Writes {V = W} written settled faults old new whole (Err y)
+pub writes_stops : {X V W E F : Type 0} (written : X → Option (List ℕ)) (settled faults : X → ℕ) (old new : X) (s rest whole : List ℕ)
+    (x : E) (y : F)
+    → whole ≡ s ++ rest → Writes {V = V} written settled faults old new s (Err x)
+    → Writes {V = W} written settled faults old new whole (Err y)
 writes_stops written settled faults old new s rest whole x y is h =
     record { ok = tt; failed = part_first written faults old new s rest whole is h.failed; only_writes = h.only_writes }
 

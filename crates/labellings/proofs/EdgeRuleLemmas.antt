@@ -21,19 +21,27 @@ rule-swap places a b c d h = elim h [
     | inr leftover ↦ inr (inr (record {
       rises = leftover.rises_too;
       rises_too = leftover.rises;
-      quad = record { a_below = leftover.quad.c_below; c_below = leftover.quad.a_below; a_place = leftover.quad.c_place; c_place = leftover.quad.a_place };
+      quad = record {
+        a_below = leftover.quad.c_below;
+        c_below = leftover.quad.a_below;
+        a_place = leftover.quad.c_place;
+        c_place =
+            leftover.quad.a_place;
+      };
     }))
   ]
 ]
 
-sides-swap : (mesh : FaceList) (labelling : LabellingView) (side other : Side) → SidesMeetRule mesh labelling side other → SidesMeetRule mesh labelling other side
+sides-swap : (mesh : FaceList) (labelling : LabellingView) (side other : Side) → SidesMeetRule mesh labelling side other
+    → SidesMeetRule mesh labelling other side
 sides-swap mesh labelling side other h = record {
   opposite = record { starts = sym h.opposite.ends; ends = sym h.opposite.starts };
   rule = rule-swap labelling.places _ _ _ _ h.rule;
 }
 
 -- two elements of a list of two are those of the list
-pub two-of : {A : Type 0} (xs : List A) (d a b x y : A) → length xs ≡ 2 → get_or xs 0 d ≡ x → get_or xs 1 d ≡ y → Contains xs a → Contains xs b → a ≢ b →
+pub two-of : {A : Type 0} (xs : List A) (d a b x y : A) → length xs ≡ 2 → get_or xs 0 d ≡ x → get_or xs 1 d ≡ y → Contains xs a
+    → Contains xs b → a ≢ b →
     ((a ≡ x) × (b ≡ y)) ⊎ ((a ≡ y) × (b ≡ x))
 two-of [] d a b x y two first second has_a has_b apart = absurd (omega arith)
 two-of (p ∷ []) d a b x y two first second has_a has_b apart = absurd (omega arith)
@@ -46,9 +54,11 @@ two-of (p ∷ q ∷ []) d a b x y two first second (zero, la, a_is) (suc (suc k)
 two-of (p ∷ q ∷ []) d a b x y two first second (suc zero, la, a_is) (suc (suc k), lb, b_is) apart = absurd (omega arith)
 two-of (p ∷ q ∷ []) d a b x y two first second (suc (suc k), la, a_is) has_b apart = absurd (omega arith)
 
-module _ (mesh : FaceList) (table : List Edge) (labelling : LabellingView) (k : ℕ) (a b d : Side) (h : IsTableOf mesh table) (l : k < length table)
+module _ (mesh : FaceList) (table : List Edge) (labelling : LabellingView) (k : ℕ) (a b d : Side) (h : IsTableOf mesh table)
+    (l : k < length table)
     (first : get_or (edge_in table k).sides 0 d ≡ a) (second : get_or (edge_in table k).sides 1 d ≡ b) where
-  pub rule-from-sides : length (edge_in table k).sides ≡ 2 → SidesMeetRule mesh labelling a b → EdgeMeetsRule mesh labelling (edge_in table k).low (edge_in table k).high
+  pub rule-from-sides : length (edge_in table k).sides ≡ 2 → SidesMeetRule mesh labelling a b
+      → EdgeMeetsRule mesh labelling (edge_in table k).low (edge_in table k).high
   rule-from-sides two meets =
       let edge : Edge = edge_in table k in
       let is : IsEdgeOf mesh edge = h.edges k _ l in
@@ -56,11 +66,14 @@ module _ (mesh : FaceList) (table : List Edge) (labelling : LabellingView) (k : 
         two_sides = sym (sides_of_edge mesh edge is) ∙ two;
         sides = λ side other partners ends.
             let here : Contains edge.sides side = edge_has_side mesh edge side is partners.first ends in
-            let there : Contains edge.sides other = edge_has_side mesh edge other is partners.second (ends_agree _ _ _ _ edge.low edge.high ends partners.one_edge) in
+            let there : Contains edge.sides other = edge_has_side mesh edge other is partners.second
+            (ends_agree _ _ _ _ edge.low edge.high ends partners.one_edge) in
             elim (two-of edge.sides d side other a b two first second here there partners.different) [
-              | inl as_listed ↦ subst (λ x. SidesMeetRule mesh labelling x other) (sym as_listed.0) (subst (λ x. SidesMeetRule mesh labelling a x) (sym as_listed.1) meets)
+              | inl as_listed ↦ subst (λ x. SidesMeetRule mesh labelling x other) (sym as_listed.0)
+                  (subst (λ x. SidesMeetRule mesh labelling a x) (sym as_listed.1) meets)
               | inr turned ↦ sides-swap mesh labelling other side
-                  (subst (λ x. SidesMeetRule mesh labelling x side) (sym turned.1) (subst (λ x. SidesMeetRule mesh labelling a x) (sym turned.0) meets))
+                  (subst (λ x. SidesMeetRule mesh labelling x side) (sym turned.1)
+                  (subst (λ x. SidesMeetRule mesh labelling a x) (sym turned.0) meets))
             ];
       }
 
@@ -71,11 +84,15 @@ module _ (mesh : FaceList) (table : List Edge) (labelling : LabellingView) (k : 
   sides-from-rule meets =
       let edge : Edge = edge_in table k in
       let two = two-from-rule meets in
-      let partners : ArePartners mesh (get_or edge.sides 0 d) (get_or edge.sides 1 d) = partners_of_edge mesh table k 0 1 d h l (omega arith) (omega arith) in
-      let ends : HasSideEnds mesh edge.low edge.high (get_or edge.sides 0 d) = (side_of_edge mesh edge 0 d (h.edges k _ l) (omega arith)).ends in
-      subst (λ x. SidesMeetRule mesh labelling x b) first (subst (λ x. SidesMeetRule mesh labelling (get_or edge.sides 0 d) x) second (meets.sides _ _ partners ends))
+      let partners : ArePartners mesh (get_or edge.sides 0 d) (get_or edge.sides 1 d) =
+      partners_of_edge mesh table k 0 1 d h l (omega arith) (omega arith) in
+      let ends : HasSideEnds mesh edge.low edge.high (get_or edge.sides 0 d) =
+      (side_of_edge mesh edge 0 d (h.edges k _ l) (omega arith)).ends in
+      subst (λ x. SidesMeetRule mesh labelling x b) first
+      (subst (λ x. SidesMeetRule mesh labelling (get_or edge.sides 0 d) x) second (meets.sides _ _ partners ends))
 
-edge-rule-swap : (mesh : FaceList) (labelling : LabellingView) (u v : ℕ) → EdgeMeetsRule mesh labelling u v → EdgeMeetsRule mesh labelling v u
+edge-rule-swap : (mesh : FaceList) (labelling : LabellingView) (u v : ℕ) → EdgeMeetsRule mesh labelling u v
+    → EdgeMeetsRule mesh labelling v u
 edge-rule-swap mesh labelling u v h = record {
   two_sides = sides_between_swap mesh v u ∙ h.two_sides;
   sides = λ side other partners ends. h.sides side other partners (elim ends [ inl e ↦ inr e | inr e ↦ inl e ]);
@@ -83,18 +100,22 @@ edge-rule-swap mesh labelling u v h = record {
 
 -- where each edge of the table meets a rule, each edge of the mesh does
 pub each-edge : (mesh : FaceList) (table : List Edge) (labelling : LabellingView) → IsTableOf mesh table →
-    ((k : ℕ) → k < length table → EntryMeetsRule mesh table labelling k) → (u v : ℕ) → IsTrue (is_edge mesh u v) → EdgeMeetsRule mesh labelling u v
+    ((k : ℕ) → k < length table → EntryMeetsRule mesh table labelling k) → (u v : ℕ) → IsTrue (is_edge mesh u v)
+    → EdgeMeetsRule mesh labelling u v
 each-edge mesh table labelling h all u v is =
     let found : IsEdgeBetween table u v = edge_between mesh table u v h is in
     let meets = all found.edge found.in_table in
     elim found.ends [
-      | inl e ↦ subst (λ x. EdgeMeetsRule mesh labelling x v) e.0 (subst (λ x. EdgeMeetsRule mesh labelling (edge_in table found.edge).low x) e.1 meets)
+      | inl e ↦ subst (λ x. EdgeMeetsRule mesh labelling x v) e.0
+          (subst (λ x. EdgeMeetsRule mesh labelling (edge_in table found.edge).low x) e.1 meets)
       | inr e ↦ edge-rule-swap mesh labelling v u
-          (subst (λ x. EdgeMeetsRule mesh labelling x u) e.0 (subst (λ x. EdgeMeetsRule mesh labelling (edge_in table found.edge).low x) e.1 meets))
+          (subst (λ x. EdgeMeetsRule mesh labelling x u) e.0
+          (subst (λ x. EdgeMeetsRule mesh labelling (edge_in table found.edge).low x) e.1 meets))
     ]
 
 -- the first edge of the table against the rules is the least
-pub least-against : (mesh : FaceList) (table : List Edge) (labelling : LabellingView) (k : ℕ) → IsTableOf mesh table → IsFirstAgainst mesh table labelling k →
+pub least-against : (mesh : FaceList) (table : List Edge) (labelling : LabellingView) (k : ℕ) → IsTableOf mesh table
+    → IsFirstAgainst mesh table labelling k →
     IsLeastAgainstRules mesh labelling (edge_in table k).low (edge_in table k).high
 least-against mesh table labelling k h first =
     let edge : Edge = edge_in table k in
@@ -109,7 +130,8 @@ least-against mesh table labelling k h first =
           let is_other : IsEdgeOf mesh other = h.edges found.edge _ found.in_table in
           let same = same_pair a b other.low other.high up is_other.ordered found.ends in
           let there : IsPairBefore other.low other.high edge.low edge.high =
-          subst (λ x. IsPairBefore x other.high edge.low edge.high) (sym same.0) (subst (λ x. IsPairBefore a x edge.low edge.high) (sym same.1) before) in
+          subst (λ x. IsPairBefore x other.high edge.low edge.high) (sym same.0)
+          (subst (λ x. IsPairBefore a x edge.low edge.high) (sym same.1) before) in
           let meets = first.first found.edge (place_before mesh table found.edge k h found.in_table first.in_table there) in
           subst (λ x. EdgeMeetsRule mesh labelling x b) same.0 (subst (λ x. EdgeMeetsRule mesh labelling other.low x) same.1 meets);
     }

@@ -17,12 +17,14 @@ use Rattle.labellings.specs.QuadPaths.{spokes, spokes_by_labels, quad_path}
 use Rattle.labellings.proofs.SideLemmas.{SpokesOfSide, spokes_of_side}
 
 -- Puts on one wheel: the two laws, over the states of a form that belong to it.
-pub record PutLaws {State : Type 0} (places : List ℕ) (next : List ℕ → State → ℕ → State) (Belongs IsAtVertex : State → Type 0) : Type 0 where
-  pub stays : (s : State) (i : ℕ) → Belongs s → i < length places → Belongs (next places s i)
-  pub vertex : (s : State) (i j : ℕ) → Belongs s → IsAtVertex s → i < length places → j < length places → IsAtVertex (next places (next places s i) j)
-  pub back : (s : State) (i : ℕ) → Belongs s → i < length places → next places (next places s i) i ≡ s
-  pub quad : (s : State) (a c : ℕ) → Belongs s → IsAtVertex s → IsQuad places a c
-      → next places (next places s a) (add (length places) a 1) ≡ next places (next places s (add (length places) c 1)) c
+pub record PutLaws {State : Type 0} (places : List ℕ) (next : List ℕ → State → ℕ → State) (Belongs IsAtVertex : State → Type 0) : Type 0
+  where
+    pub stays : (s : State) (i : ℕ) → Belongs s → i < length places → Belongs (next places s i)
+    pub vertex : (s : State) (i j : ℕ) → Belongs s → IsAtVertex s → i < length places → j < length places
+        → IsAtVertex (next places (next places s i) j)
+    pub back : (s : State) (i : ℕ) → Belongs s → i < length places → next places (next places s i) i ≡ s
+    pub quad : (s : State) (a c : ℕ) → Belongs s → IsAtVertex s → IsQuad places a c
+        → next places (next places s a) (add (length places) a 1) ≡ next places (next places s (add (length places) c 1)) c
 
 -- two spokes put one after the other
 abbrev pub pair : {State : Type 0} → List ℕ → (List ℕ → State → ℕ → State) → State → ℕ → ℕ → State
@@ -30,7 +32,8 @@ pair places next s i j = next places (next places s i) j
 
 pub there : {State : Type 0} (places : List ℕ) (next : List ℕ → State → ℕ → State) (Belongs IsAtVertex : State → Type 0)
     → PutLaws places next Belongs IsAtVertex
-    → (s : State) (i j k : ℕ) → Belongs s → i < length places → j < length places → pair places next (pair places next s i j) j k ≡ pair places next s i k
+    → (s : State) (i j k : ℕ) → Belongs s → i < length places → j < length places
+    → pair places next (pair places next s i j) j k ≡ pair places next s i k
 there places next Belongs IsAtVertex laws s i j k b l m = ap (λ t. next places t k) (laws.back (next places s i) j (laws.stays s i b l) m)
 
 pub pair_belongs : {State : Type 0} (places : List ℕ) (next : List ℕ → State → ℕ → State) (Belongs IsAtVertex : State → Type 0)
@@ -64,20 +67,23 @@ led-append next places s (x ∷ xs) ys = led-append next places (next places s x
 quad_path-append : (mesh : FaceList) (labelling : LabellingView) (front : List ℕ) (x : ℕ) (rest : List ℕ)
     → quad_path mesh labelling (front ++ x ∷ rest) ≡ quad_path mesh labelling (front ++ x ∷ []) ++ quad_path mesh labelling (x ∷ rest)
 quad_path-append mesh labelling [] x rest = refl
-quad_path-append mesh labelling (a ∷ []) x rest = ap (λ (l : List ℕ). l ++ quad_path mesh labelling (x ∷ rest)) (sym (append_nothing (spokes mesh labelling a x)))
+quad_path-append mesh labelling (a ∷ []) x rest = ap (λ (l : List ℕ). l ++ quad_path mesh labelling (x ∷ rest))
+    (sym (append_nothing (spokes mesh labelling a x)))
   where
     append_nothing : (xs : List ℕ) → xs ++ [] ≡ xs
     append_nothing [] = refl
     append_nothing (y ∷ ys) = ap (λ (l : List ℕ). y ∷ l) (append_nothing ys)
 quad_path-append mesh labelling (a ∷ b ∷ front) x rest =
     ap (λ (l : List ℕ). spokes mesh labelling a b ++ l) (quad_path-append mesh labelling (b ∷ front) x rest)
-    ∙ sym (append_assoc (spokes mesh labelling a b) (quad_path mesh labelling (b ∷ (front ++ x ∷ []))) (quad_path mesh labelling (x ∷ rest)))
+    ∙ sym (append_assoc (spokes mesh labelling a b) (quad_path mesh labelling (b ∷ (front ++ x ∷ [])))
+    (quad_path mesh labelling (x ∷ rest)))
 
 -- where a walk leads
 abbrev pub run : {State : Type 0} → FaceList → LabellingView → (List ℕ → State → ℕ → State) → State → List ℕ → State
 run mesh labelling next s walk = led next labelling.places s (quad_path mesh labelling walk)
 
-pub run_on : {State : Type 0} (mesh : FaceList) (labelling : LabellingView) (next : List ℕ → State → ℕ → State) (s : State) (front : List ℕ) (x : ℕ) (rest : List ℕ)
+pub run_on : {State : Type 0} (mesh : FaceList) (labelling : LabellingView) (next : List ℕ → State → ℕ → State) (s : State)
+    (front : List ℕ) (x : ℕ) (rest : List ℕ)
     → run mesh labelling next s (front ++ x ∷ rest) ≡ run mesh labelling next (run mesh labelling next s (front ++ x ∷ [])) (x ∷ rest)
 run_on mesh labelling next s front x rest =
     ap (led next labelling.places s) (quad_path-append mesh labelling front x rest)
@@ -87,7 +93,8 @@ run_on mesh labelling next s front x rest =
 pub label_within : (mesh : FaceList) (labelling : LabellingView) → IsGood mesh labelling → (corner : Side) → IsSide mesh corner
     → label_at labelling corner < length labelling.places
 label_within mesh labelling good corner h =
-    let few : corner.at < length (labels_at labelling corner.face.0) = omega (arith, h.place, good.shape.each_corner corner.face.0 h.face) in
+    let few : corner.at < length (labels_at labelling corner.face.0) =
+    omega (arith, h.place, good.shape.each_corner corner.face.0 h.face) in
     omega (arith, good.shape.labels_below corner.face.0 h.face corner.at 0 few, good.shape.each_spoke)
 
 after_is_side : (mesh : FaceList) (side : Side) → IsSide mesh side → IsSide mesh (side_after mesh side)
@@ -100,13 +107,15 @@ by_sign P false x y h k = k
 pub tail_within : (mesh : FaceList) (labelling : LabellingView) → IsGood mesh labelling → (side : Side) → IsSide mesh side
     → tail_label mesh labelling side < length labelling.places
 tail_within mesh labelling good side h =
-    by_sign (λ x. x < length labelling.places) (is_flipped (signs_of labelling) side.face.0) (label_at labelling (side_after mesh side)) (label_at labelling side)
+    by_sign (λ x. x < length labelling.places) (is_flipped (signs_of labelling) side.face.0) (label_at labelling (side_after mesh side))
+    (label_at labelling side)
     (label_within mesh labelling good (side_after mesh side) (after_is_side mesh side h)) (label_within mesh labelling good side h)
 
 pub head_within : (mesh : FaceList) (labelling : LabellingView) → IsGood mesh labelling → (side : Side) → IsSide mesh side
     → head_label mesh labelling side < length labelling.places
 head_within mesh labelling good side h =
-    by_sign (λ x. x < length labelling.places) (is_flipped (signs_of labelling) side.face.0) (label_at labelling side) (label_at labelling (side_after mesh side))
+    by_sign (λ x. x < length labelling.places) (is_flipped (signs_of labelling) side.face.0) (label_at labelling side)
+    (label_at labelling (side_after mesh side))
     (label_within mesh labelling good side h) (label_within mesh labelling good (side_after mesh side) (after_is_side mesh side h))
 
 -- by the labels of both sides, the spokes of a dart do what the two labels do
@@ -137,13 +146,15 @@ sides_agree places next Belongs IsAtVertex laws a b c d a_in b_in c_in d_in rule
         let a_up_in : a_up < length places = subst (λ x. x < length places) left.rises b_in in
         let c_up_in : c_up < length places = subst (λ x. x < length places) left.rises_too d_in in
         let turned : pair places next s a_up a ≡ pair places next s c c_up =
-        backwards places next Belongs IsAtVertex laws a a_up c_up c a_in a_up_in c_up_in c_in (λ t t_in t_v. laws.quad t a c t_in t_v left.quad) s in_wheel v in
+        backwards places next Belongs IsAtVertex laws a a_up c_up c a_in a_up_in c_up_in c_in
+        (λ t t_in t_v. laws.quad t a c t_in t_v left.quad) s in_wheel v in
         ap (pair places next s c) left.rises_too ∙ sym turned ∙ ap (λ x. pair places next s x a) (sym left.rises)
   ]
 ]
 
 -- the dart along a side puts its labels, and the dart against it puts them backwards
-pub record Darts {State : Type 0} (mesh : FaceList) (labelling : LabellingView) (next : List ℕ → State → ℕ → State) (s : State) (side : Side) : Type 0 where
+pub record Darts {State : Type 0} (mesh : FaceList) (labelling : LabellingView) (next : List ℕ → State → ℕ → State) (s : State)
+    (side : Side) : Type 0 where
   pub along :
       run mesh labelling next s (start_under mesh (signs_of labelling) side ∷ end_under mesh (signs_of labelling) side ∷ [])
       ≡ pair labelling.places next s (tail_label mesh labelling side) (head_label mesh labelling side)
@@ -155,7 +166,8 @@ append_none : (xs : List ℕ) → xs ++ [] ≡ xs
 append_none [] = refl
 append_none (y ∷ ys) = ap (λ (l : List ℕ). y ∷ l) (append_none ys)
 
-pub darts_of : {State : Type 0} (mesh : FaceList) (labelling : LabellingView) (next : List ℕ → State → ℕ → State) (Belongs IsAtVertex : State → Type 0)
+pub darts_of : {State : Type 0} (mesh : FaceList) (labelling : LabellingView) (next : List ℕ → State → ℕ → State)
+    (Belongs IsAtVertex : State → Type 0)
     → PutLaws labelling.places next Belongs IsAtVertex → IsFaceList mesh → IsGood mesh labelling → (side : Side) → IsSide mesh side
     → (s : State) → Belongs s → IsAtVertex s → Darts mesh labelling next s side
 darts_of mesh labelling next Belongs IsAtVertex laws valid good side h s b v =
@@ -169,13 +181,16 @@ darts_of mesh labelling next Belongs IsAtVertex laws valid good side h s b v =
     record {
       along =
           ap (led next places s) (append_none _ ∙ found.along)
-          ∙ labels_do places next Belongs IsAtVertex laws (tail_label mesh labelling side) (head_label mesh labelling side) (tail_label mesh labelling other)
+          ∙ labels_do places next Belongs IsAtVertex laws (tail_label mesh labelling side) (head_label mesh labelling side)
+          (tail_label mesh labelling other)
           (head_label mesh labelling other) a_in s b;
       against =
           ap (led next places s) (append_none _ ∙ found.against)
-          ∙ labels_do places next Belongs IsAtVertex laws (tail_label mesh labelling other) (head_label mesh labelling other) (tail_label mesh labelling side)
+          ∙ labels_do places next Belongs IsAtVertex laws (tail_label mesh labelling other) (head_label mesh labelling other)
+          (tail_label mesh labelling side)
           (head_label mesh labelling side) c_in s b
-          ∙ sides_agree places next Belongs IsAtVertex laws (tail_label mesh labelling side) (head_label mesh labelling side) (tail_label mesh labelling other)
+          ∙ sides_agree places next Belongs IsAtVertex laws (tail_label mesh labelling side) (head_label mesh labelling side)
+          (tail_label mesh labelling other)
           (head_label mesh labelling other) a_in b_in c_in d_in found.partner.meets.rule s b v;
     }
 
@@ -184,10 +199,12 @@ abbrev pub corner_at : ℕ → ℕ → Side
 corner_at f t = record { face = record { 0 = f }; at = t }
 
 -- one side of a face, in the order of the file, kept or flipped
-side_forward : {State : Type 0} (mesh : FaceList) (labelling : LabellingView) (next : List ℕ → State → ℕ → State) (Belongs IsAtVertex : State → Type 0)
+side_forward : {State : Type 0} (mesh : FaceList) (labelling : LabellingView) (next : List ℕ → State → ℕ → State)
+    (Belongs IsAtVertex : State → Type 0)
     → PutLaws labelling.places next Belongs IsAtVertex → IsFaceList mesh → IsGood mesh labelling → (side : Side) → IsSide mesh side
     → (s : State) → Belongs s → IsAtVertex s
-    → run mesh labelling next s (tail_of mesh side ∷ head_of mesh side ∷ []) ≡ pair labelling.places next s (label_at labelling side) (label_at labelling (side_after mesh side))
+    → run mesh labelling next s (tail_of mesh side ∷ head_of mesh side ∷ []) ≡ pair labelling.places next s (label_at labelling side)
+    (label_at labelling (side_after mesh side))
 side_forward mesh labelling next Belongs IsAtVertex laws valid good side h s b v =
     let d : Darts mesh labelling next s side = darts_of mesh labelling next Belongs IsAtVertex laws valid good side h s b v in
     go (is_flipped (signs_of labelling) side.face.0) refl d
@@ -198,10 +215,12 @@ side_forward mesh labelling next Belongs IsAtVertex laws valid good side h s b v
     go true e d = rw e at d.against
     go false e d = rw e at d.along
 
-side_backward : {State : Type 0} (mesh : FaceList) (labelling : LabellingView) (next : List ℕ → State → ℕ → State) (Belongs IsAtVertex : State → Type 0)
+side_backward : {State : Type 0} (mesh : FaceList) (labelling : LabellingView) (next : List ℕ → State → ℕ → State)
+    (Belongs IsAtVertex : State → Type 0)
     → PutLaws labelling.places next Belongs IsAtVertex → IsFaceList mesh → IsGood mesh labelling → (side : Side) → IsSide mesh side
     → (s : State) → Belongs s → IsAtVertex s
-    → run mesh labelling next s (head_of mesh side ∷ tail_of mesh side ∷ []) ≡ pair labelling.places next s (label_at labelling (side_after mesh side)) (label_at labelling side)
+    → run mesh labelling next s (head_of mesh side ∷ tail_of mesh side ∷ []) ≡ pair labelling.places next s
+    (label_at labelling (side_after mesh side)) (label_at labelling side)
 side_backward mesh labelling next Belongs IsAtVertex laws valid good side h s b v =
     let d : Darts mesh labelling next s side = darts_of mesh labelling next Belongs IsAtVertex laws valid good side h s b v in
     go (is_flipped (signs_of labelling) side.face.0) refl d
@@ -213,11 +232,15 @@ side_backward mesh labelling next Belongs IsAtVertex laws valid good side h s b 
     go false e d = rw e at d.against
 
 -- one step round a face, in either direction
-step_round : {State : Type 0} (mesh : FaceList) (labelling : LabellingView) (next : List ℕ → State → ℕ → State) (Belongs IsAtVertex : State → Type 0)
-    → PutLaws labelling.places next Belongs IsAtVertex → IsFaceList mesh → IsGood mesh labelling → (f : ℕ) (rising : Bool) (t : ℕ) → f < length mesh.faces
+step_round : {State : Type 0} (mesh : FaceList) (labelling : LabellingView) (next : List ℕ → State → ℕ → State)
+    (Belongs IsAtVertex : State → Type 0)
+    → PutLaws labelling.places next Belongs IsAtVertex → IsFaceList mesh → IsGood mesh labelling → (f : ℕ) (rising : Bool) (t : ℕ)
+    → f < length mesh.faces
     → t < length (face_at mesh f) → (s : State) → Belongs s → IsAtVertex s
-    → run mesh labelling next s (get_or (face_at mesh f) t 0 ∷ get_or (face_at mesh f) (next_corner rising (length (face_at mesh f)) t) 0 ∷ [])
-    ≡ pair labelling.places next s (label_at labelling (corner_at f t)) (label_at labelling (corner_at f (next_corner rising (length (face_at mesh f)) t)))
+    → run mesh labelling next s (get_or (face_at mesh f) t 0 ∷ get_or (face_at mesh f) (next_corner rising (length (face_at mesh f)) t)
+    0 ∷ [])
+    ≡ pair labelling.places next s (label_at labelling (corner_at f t))
+    (label_at labelling (corner_at f (next_corner rising (length (face_at mesh f)) t)))
 step_round mesh labelling next Belongs IsAtVertex laws valid good f true t l k s b v =
     side_forward mesh labelling next Belongs IsAtVertex laws valid good (corner_at f t) (record { face = l; place = k }) s b v
 step_round mesh labelling next Belongs IsAtVertex laws valid good f false t l k s b v =
@@ -231,20 +254,25 @@ step_round mesh labelling next Belongs IsAtVertex laws valid good f false t l k 
     (side_backward mesh labelling next Belongs IsAtVertex laws valid good (corner_at f before) side_in s b v)
 
 -- round a face the labels telescope
-pub round_face : {State : Type 0} (mesh : FaceList) (labelling : LabellingView) (next : List ℕ → State → ℕ → State) (Belongs IsAtVertex : State → Type 0)
-    → PutLaws labelling.places next Belongs IsAtVertex → IsFaceList mesh → IsGood mesh labelling → (f : ℕ) (rising : Bool) (t k : ℕ) → f < length mesh.faces
+pub round_face : {State : Type 0} (mesh : FaceList) (labelling : LabellingView) (next : List ℕ → State → ℕ → State)
+    (Belongs IsAtVertex : State → Type 0)
+    → PutLaws labelling.places next Belongs IsAtVertex → IsFaceList mesh → IsGood mesh labelling → (f : ℕ) (rising : Bool) (t k : ℕ)
+    → f < length mesh.faces
     → t < length (face_at mesh f) → (s : State) → Belongs s → IsAtVertex s
     → run mesh labelling next s (corners_from (face_at mesh f) rising t k)
-    ≡ pair labelling.places next s (label_at labelling (corner_at f t)) (label_at labelling (corner_at f (corner_after rising (length (face_at mesh f)) t k)))
+    ≡ pair labelling.places next s (label_at labelling (corner_at f t))
+    (label_at labelling (corner_at f (corner_after rising (length (face_at mesh f)) t k)))
 round_face mesh labelling next Belongs IsAtVertex laws valid good f rising t zero l m s b v =
-    sym (laws.back s (label_at labelling (corner_at f t)) b (label_within mesh labelling good (corner_at f t) (record { face = l; place = m })))
+    sym (laws.back s (label_at labelling (corner_at f t)) b
+    (label_within mesh labelling good (corner_at f t) (record { face = l; place = m })))
 round_face {State = State} mesh labelling next Belongs IsAtVertex laws valid good f rising t (suc k) l m s b v =
     let ring : List ℕ = face_at mesh f in
     let t' : ℕ = next_corner rising (length ring) t in
     let t'_in : t' < length ring = step_within rising (length ring) t m in
     let end : ℕ = corner_after rising (length ring) t' k in
     let end_in : end < length ring = after_within rising (length ring) t' k t'_in in
-    let here : label_at labelling (corner_at f t) < length labelling.places = label_within mesh labelling good (corner_at f t) (record { face = l; place = m }) in
+    let here : label_at labelling (corner_at f t) < length labelling.places =
+    label_within mesh labelling good (corner_at f t) (record { face = l; place = m }) in
     let there_in : label_at labelling (corner_at f t') < length labelling.places =
     label_within mesh labelling good (corner_at f t') (record { face = l; place = t'_in }) in
     let s' : State = pair labelling.places next s (label_at labelling (corner_at f t)) (label_at labelling (corner_at f t')) in
@@ -253,7 +281,8 @@ round_face {State = State} mesh labelling next Belongs IsAtVertex laws valid goo
     let rest : run mesh labelling next s' (corners_from ring rising t' k)
     ≡ pair labelling.places next s' (label_at labelling (corner_at f t')) (label_at labelling (corner_at f end)) =
     round_face mesh labelling next Belongs IsAtVertex laws valid good f rising t' k l t'_in s'
-    (pair_belongs labelling.places next Belongs IsAtVertex laws s (label_at labelling (corner_at f t)) (label_at labelling (corner_at f t')) b here there_in)
+    (pair_belongs labelling.places next Belongs IsAtVertex laws s (label_at labelling (corner_at f t))
+    (label_at labelling (corner_at f t')) b here there_in)
     (laws.vertex s (label_at labelling (corner_at f t)) (label_at labelling (corner_at f t')) b v here there_in) in
     let head = first_of ring rising t' k in
     let split : run mesh labelling next s (get_or ring t 0 ∷ (get_or ring t' 0 ∷ head.0))
@@ -264,7 +293,8 @@ round_face {State = State} mesh labelling next Belongs IsAtVertex laws valid goo
     ∙ ap (λ (w : List ℕ). run mesh labelling next (run mesh labelling next s (get_or ring t 0 ∷ get_or ring t' 0 ∷ [])) w) (sym head.1)
     ∙ ap (λ x. run mesh labelling next x (corners_from ring rising t' k)) one
     ∙ rest
-    ∙ there labelling.places next Belongs IsAtVertex laws s (label_at labelling (corner_at f t)) (label_at labelling (corner_at f t')) (label_at labelling (corner_at f end)) b here there_in
+    ∙ there labelling.places next Belongs IsAtVertex laws s (label_at labelling (corner_at f t)) (label_at labelling (corner_at f t'))
+    (label_at labelling (corner_at f end)) b here there_in
   where
     after_within : (up : Bool) (n x j : ℕ) → x < n → corner_after up n x j < n
     after_within up n x zero h = h

@@ -52,13 +52,17 @@ IsReady Belongs IsAtVertex s = Belongs s × IsAtVertex s
 
 pair_ready : {State : Type 0} (places : List ℕ) (next : List ℕ → State → ℕ → State) (Belongs IsAtVertex : State → Type 0)
     → PutLaws places next Belongs IsAtVertex
-    → (s : State) (i j : ℕ) → IsReady Belongs IsAtVertex s → i < length places → j < length places → IsReady Belongs IsAtVertex (pair places next s i j)
+    → (s : State) (i j : ℕ) → IsReady Belongs IsAtVertex s → i < length places → j < length places
+    → IsReady Belongs IsAtVertex (pair places next s i j)
 pair_ready places next Belongs IsAtVertex laws s i j r l m =
     (pair_belongs places next Belongs IsAtVertex laws s i j r.0 l m, laws.vertex s i j r.0 r.1 l m)
 
-spokes_ready : {State : Type 0} (mesh : FaceList) (labelling : LabellingView) (next : List ℕ → State → ℕ → State) (Belongs IsAtVertex : State → Type 0)
-    → PutLaws labelling.places next Belongs IsAtVertex → IsGood mesh labelling → (u v : ℕ) (o other : Option FaceSide) → side_from mesh labelling u v ≡ o
-    → (s : State) → IsReady Belongs IsAtVertex s → IsReady Belongs IsAtVertex (led next labelling.places s (spokes_of_sides mesh labelling o other))
+spokes_ready : {State : Type 0} (mesh : FaceList) (labelling : LabellingView) (next : List ℕ → State → ℕ → State)
+    (Belongs IsAtVertex : State → Type 0)
+    → PutLaws labelling.places next Belongs IsAtVertex → IsGood mesh labelling → (u v : ℕ) (o other : Option FaceSide)
+    → side_from mesh labelling u v ≡ o
+    → (s : State) → IsReady Belongs IsAtVertex s → IsReady Belongs IsAtVertex
+    (led next labelling.places s (spokes_of_sides mesh labelling o other))
 spokes_ready mesh labelling next Belongs IsAtVertex laws good u v None other e s r = r
 spokes_ready mesh labelling next Belongs IsAtVertex laws good u v (Some x) None e s r = r
 spokes_ready mesh labelling next Belongs IsAtVertex laws good u v (Some x) (Some y) e s r =
@@ -66,27 +70,34 @@ spokes_ready mesh labelling next Belongs IsAtVertex laws good u v (Some x) (Some
     let h : IsSide mesh side = found_side mesh labelling u v x e in
     let a_in = tail_within mesh labelling good side h in
     let b_in = head_within mesh labelling good side h in
-    elim (cases_Bool (eqb (tail_label mesh labelling side) (head_label mesh labelling side) && eqb (tail_label mesh labelling (side_name y)) (head_label mesh labelling (side_name y)))) [
+    elim (cases_Bool (eqb (tail_label mesh labelling side) (head_label mesh labelling side) && eqb
+    (tail_label mesh labelling (side_name y)) (head_label mesh labelling (side_name y)))) [
       | inl tree ↦ rw tree r
-      | inr off ↦ rw off (pair_ready labelling.places next Belongs IsAtVertex laws s (tail_label mesh labelling side) (head_label mesh labelling side) r a_in b_in)
+      | inr off ↦ rw off (pair_ready labelling.places next Belongs IsAtVertex laws s (tail_label mesh labelling side)
+          (head_label mesh labelling side) r a_in b_in)
     ]
 
 -- a walk leads from the vertex to the vertex
-pub run_ready : {State : Type 0} (mesh : FaceList) (labelling : LabellingView) (next : List ℕ → State → ℕ → State) (Belongs IsAtVertex : State → Type 0)
+pub run_ready : {State : Type 0} (mesh : FaceList) (labelling : LabellingView) (next : List ℕ → State → ℕ → State)
+    (Belongs IsAtVertex : State → Type 0)
     → PutLaws labelling.places next Belongs IsAtVertex → IsGood mesh labelling → (walk : List ℕ) (s : State) → IsReady Belongs IsAtVertex s
     → IsReady Belongs IsAtVertex (run mesh labelling next s walk)
 run_ready mesh labelling next Belongs IsAtVertex laws good [] s r = r
 run_ready mesh labelling next Belongs IsAtVertex laws good (u ∷ []) s r = r
 run_ready mesh labelling next Belongs IsAtVertex laws good (u ∷ v ∷ walk) s r =
-    subst (IsReady Belongs IsAtVertex) (sym (led-append next labelling.places s (spokes mesh labelling u v) (quad_path mesh labelling (v ∷ walk))))
+    subst (IsReady Belongs IsAtVertex) (sym (led-append next labelling.places s (spokes mesh labelling u v)
+    (quad_path mesh labelling (v ∷ walk))))
     (run_ready mesh labelling next Belongs IsAtVertex laws good (v ∷ walk) (led next labelling.places s (spokes mesh labelling u v))
-    (spokes_ready mesh labelling next Belongs IsAtVertex laws good u v (side_from mesh labelling u v) (side_from mesh labelling v u) refl s r))
+    (spokes_ready mesh labelling next Belongs IsAtVertex laws good u v (side_from mesh labelling u v) (side_from mesh labelling v u)
+    refl s r))
 
 -- a part of a walk that leads alike may be put in its place
-part_alike : {State : Type 0} (mesh : FaceList) (labelling : LabellingView) (next : List ℕ → State → ℕ → State) (Belongs IsAtVertex : State → Type 0)
+part_alike : {State : Type 0} (mesh : FaceList) (labelling : LabellingView) (next : List ℕ → State → ℕ → State)
+    (Belongs IsAtVertex : State → Type 0)
     → PutLaws labelling.places next Belongs IsAtVertex → IsGood mesh labelling → (before part other after : List ℕ) → AreAlike part other
     → ((s : State) → IsReady Belongs IsAtVertex s → run mesh labelling next s part ≡ run mesh labelling next s other)
-    → (s : State) → IsReady Belongs IsAtVertex s → run mesh labelling next s (before ++ part ++ after) ≡ run mesh labelling next s (before ++ other ++ after)
+    → (s : State) → IsReady Belongs IsAtVertex s → run mesh labelling next s (before ++ part ++ after) ≡ run mesh labelling next s
+    (before ++ other ++ after)
 part_alike mesh labelling next Belongs IsAtVertex laws good before part other after a same s r =
     let s1 = run mesh labelling next s (before ++ a.first ∷ []) in
     let ready : IsReady Belongs IsAtVertex s1 = run_ready mesh labelling next Belongs IsAtVertex laws good (before ++ a.first ∷ []) s r in
@@ -141,7 +152,8 @@ side_between mesh labelling u v e =
     turned side false f h = rw f h
 
 -- a spur leads back
-spur_leads_back : {State : Type 0} (mesh : FaceList) (labelling : LabellingView) (next : List ℕ → State → ℕ → State) (Belongs IsAtVertex : State → Type 0)
+spur_leads_back : {State : Type 0} (mesh : FaceList) (labelling : LabellingView) (next : List ℕ → State → ℕ → State)
+    (Belongs IsAtVertex : State → Type 0)
     → PutLaws labelling.places next Belongs IsAtVertex → IsFaceList mesh → IsGood mesh labelling → (u v : ℕ) → IsTrue (is_edge mesh u v)
     → (s : State) → IsReady Belongs IsAtVertex s → run mesh labelling next s (u ∷ v ∷ u ∷ []) ≡ s
 spur_leads_back {State = State} mesh labelling next Belongs IsAtVertex laws valid good u v e s r =
@@ -164,7 +176,8 @@ spur_leads_back {State = State} mesh labelling next Belongs IsAtVertex laws vali
           let ready : IsReady Belongs IsAtVertex t = pair_ready labelling.places next Belongs IsAtVertex laws s a b r a_in b_in in
           let against : run mesh labelling next t (v ∷ u ∷ []) ≡ pair labelling.places next t b a =
           ap (λ (y : ℕ). run mesh labelling next t (y ∷ u ∷ [])) (sym p.1)
-          ∙ ap (λ (x : ℕ). run mesh labelling next t (end_under mesh (signs_of labelling) side ∷ x ∷ [])) (sym p.0) ∙ (darts t ready).against in
+          ∙ ap (λ (x : ℕ). run mesh labelling next t (end_under mesh (signs_of labelling) side ∷ x ∷ [])) (sym p.0)
+          ∙ (darts t ready).against in
           ap (λ x. run mesh labelling next x (v ∷ u ∷ [])) along ∙ against
           ∙ there labelling.places next Belongs IsAtVertex laws s a b a r.0 a_in b_in ∙ laws.back s a r.0 a_in
       | inr p ↦
@@ -175,30 +188,38 @@ spur_leads_back {State = State} mesh labelling next Belongs IsAtVertex laws vali
           let ready : IsReady Belongs IsAtVertex t = pair_ready labelling.places next Belongs IsAtVertex laws s b a r b_in a_in in
           let along : run mesh labelling next t (v ∷ u ∷ []) ≡ pair labelling.places next t a b =
           ap (λ (y : ℕ). run mesh labelling next t (y ∷ u ∷ [])) (sym p.0)
-          ∙ ap (λ (x : ℕ). run mesh labelling next t (start_under mesh (signs_of labelling) side ∷ x ∷ [])) (sym p.1) ∙ (darts t ready).along in
+          ∙ ap (λ (x : ℕ). run mesh labelling next t (start_under mesh (signs_of labelling) side ∷ x ∷ [])) (sym p.1)
+          ∙ (darts t ready).along in
           ap (λ x. run mesh labelling next x (v ∷ u ∷ [])) against ∙ along
           ∙ there labelling.places next Belongs IsAtVertex laws s b a b r.0 b_in a_in ∙ laws.back s b r.0 b_in
     ]
 
 -- a spur put in
-insert_keeps : {State : Type 0} (mesh : FaceList) (labelling : LabellingView) (next : List ℕ → State → ℕ → State) (Belongs IsAtVertex : State → Type 0)
-    → PutLaws labelling.places next Belongs IsAtVertex → IsFaceList mesh → IsGood mesh labelling → (walk after : List ℕ) (at : ℕ) (via : VertexName) → 0 < length walk
-    → apply mesh walk (Insert at via) ≡ Some after → (s : State) → IsReady Belongs IsAtVertex s → run mesh labelling next s walk ≡ run mesh labelling next s after
+insert_keeps : {State : Type 0} (mesh : FaceList) (labelling : LabellingView) (next : List ℕ → State → ℕ → State)
+    (Belongs IsAtVertex : State → Type 0)
+    → PutLaws labelling.places next Belongs IsAtVertex → IsFaceList mesh → IsGood mesh labelling
+    → (walk after : List ℕ) (at : ℕ) (via : VertexName) → 0 < length walk
+    → apply mesh walk (Insert at via) ≡ Some after → (s : State) → IsReady Belongs IsAtVertex s
+    → run mesh labelling next s walk ≡ run mesh labelling next s after
 insert_keeps mesh labelling next Belongs IsAtVertex laws valid good walk after at via start e s r =
     let m = (by_replacing mesh walk after (Insert at via) start).0 e in
     let here : ℕ = m.replaces.0 in
     let same : (t : _) → IsReady Belongs IsAtVertex t → run mesh labelling next t m.part ≡ run mesh labelling next t m.other =
     λ t ready.
     ap (run mesh labelling next t) m.replaces.2
-    ∙ sym (ap (run mesh labelling next t) m.replaces.3 ∙ spur_leads_back mesh labelling next Belongs IsAtVertex laws valid good here via.0 m.replaces.1 t ready) in
+    ∙ sym (ap (run mesh labelling next t) m.replaces.3
+    ∙ spur_leads_back mesh labelling next Belongs IsAtVertex laws valid good here via.0 m.replaces.1 t ready) in
     ap (run mesh labelling next s) m.walk_is
-    ∙ part_alike mesh labelling next Belongs IsAtVertex laws good m.before m.part m.other m.after (alike mesh (Insert at via) m.part m.other m.replaces) same s r
+    ∙ part_alike mesh labelling next Belongs IsAtVertex laws good m.before m.part m.other m.after
+    (alike mesh (Insert at via) m.part m.other m.replaces) same s r
     ∙ ap (run mesh labelling next s) (sym m.next_is)
 
 -- a face gone round the other way
-across_keeps : {State : Type 0} (mesh : FaceList) (labelling : LabellingView) (next : List ℕ → State → ℕ → State) (Belongs IsAtVertex : State → Type 0)
+across_keeps : {State : Type 0} (mesh : FaceList) (labelling : LabellingView) (next : List ℕ → State → ℕ → State)
+    (Belongs IsAtVertex : State → Type 0)
     → PutLaws labelling.places next Belongs IsAtVertex → IsFaceList mesh → IsGood mesh labelling → (walk after : List ℕ) (at : ℕ)
-    (face : FaceName) (corner : ℕ) (forward : Bool) (taken : ℕ) → 0 < length walk → apply mesh walk (Across at face corner forward taken) ≡ Some after
+    (face : FaceName) (corner : ℕ) (forward : Bool) (taken : ℕ) → 0 < length walk
+    → apply mesh walk (Across at face corner forward taken) ≡ Some after
     → (s : State) → IsReady Belongs IsAtVertex s → run mesh labelling next s walk ≡ run mesh labelling next s after
 across_keeps mesh labelling next Belongs IsAtVertex laws valid good walk after at face corner forward taken start e s r =
     let move : Move = Across at face corner forward taken in
@@ -215,34 +236,44 @@ across_keeps mesh labelling next Belongs IsAtVertex laws valid good walk after a
     (meet forward (length ring) corner taken in_face few)
     ∙ sym (
     ap (run mesh labelling next t) m.replaces.4
-    ∙ round_face mesh labelling next Belongs IsAtVertex laws valid good face.0 (not forward) corner (length ring - taken) in_list in_face t ready.0 ready.1
+    ∙ round_face mesh labelling next Belongs IsAtVertex laws valid good face.0 (not forward) corner (length ring - taken) in_list
+    in_face t ready.0 ready.1
     ) in
     ap (run mesh labelling next s) m.walk_is
-    ∙ part_alike mesh labelling next Belongs IsAtVertex laws good m.before m.part m.other m.after (alike mesh move m.part m.other m.replaces) same s r
+    ∙ part_alike mesh labelling next Belongs IsAtVertex laws good m.before m.part m.other m.after
+    (alike mesh move m.part m.other m.replaces) same s r
     ∙ ap (run mesh labelling next s) (sym m.next_is)
 
 -- one move; a spur that goes out is one put in, backwards
-move_keeps : {State : Type 0} (mesh : FaceList) (labelling : LabellingView) (next : List ℕ → State → ℕ → State) (Belongs IsAtVertex : State → Type 0)
-    → PutLaws labelling.places next Belongs IsAtVertex → IsFaceList mesh → IsGood mesh labelling → (walk after : List ℕ) (move : Move) → IsWalk mesh walk
-    → apply mesh walk move ≡ Some after → (s : State) → IsReady Belongs IsAtVertex s → run mesh labelling next s walk ≡ run mesh labelling next s after
+move_keeps : {State : Type 0} (mesh : FaceList) (labelling : LabellingView) (next : List ℕ → State → ℕ → State)
+    (Belongs IsAtVertex : State → Type 0)
+    → PutLaws labelling.places next Belongs IsAtVertex → IsFaceList mesh → IsGood mesh labelling → (walk after : List ℕ) (move : Move)
+    → IsWalk mesh walk
+    → apply mesh walk move ≡ Some after → (s : State) → IsReady Belongs IsAtVertex s
+    → run mesh labelling next s walk ≡ run mesh labelling next s after
 move_keeps mesh labelling next Belongs IsAtVertex laws valid good walk after (Insert at via) w e s r =
     insert_keeps mesh labelling next Belongs IsAtVertex laws valid good walk after at via w.starts e s r
 move_keeps mesh labelling next Belongs IsAtVertex laws valid good walk after (Remove at via) w e s r =
     sym (
-    insert_keeps mesh labelling next Belongs IsAtVertex laws valid good after walk at via (stays_walk mesh walk after (Remove at via) w.starts e)
+    insert_keeps mesh labelling next Belongs IsAtVertex laws valid good after walk at via
+    (stays_walk mesh walk after (Remove at via) w.starts e)
     (undone mesh walk after (Remove at via) w e) s r
     )
 move_keeps mesh labelling next Belongs IsAtVertex laws valid good walk after (Across at face corner forward taken) w e s r =
     across_keeps mesh labelling next Belongs IsAtVertex laws valid good walk after at face corner forward taken w.starts e s r
 
 -- a list of moves
-pub moves_keep : {State : Type 0} (mesh : FaceList) (labelling : LabellingView) (next : List ℕ → State → ℕ → State) (Belongs IsAtVertex : State → Type 0)
-    → PutLaws labelling.places next Belongs IsAtVertex → IsFaceList mesh → IsGood mesh labelling → (moves : List Move) (walk after : List ℕ) → IsWalk mesh walk
-    → apply_all mesh walk moves ≡ Some after → (s : State) → IsReady Belongs IsAtVertex s → run mesh labelling next s walk ≡ run mesh labelling next s after
+pub moves_keep : {State : Type 0} (mesh : FaceList) (labelling : LabellingView) (next : List ℕ → State → ℕ → State)
+    (Belongs IsAtVertex : State → Type 0)
+    → PutLaws labelling.places next Belongs IsAtVertex → IsFaceList mesh → IsGood mesh labelling
+    → (moves : List Move) (walk after : List ℕ) → IsWalk mesh walk
+    → apply_all mesh walk moves ≡ Some after → (s : State) → IsReady Belongs IsAtVertex s
+    → run mesh labelling next s walk ≡ run mesh labelling next s after
 moves_keep mesh labelling next Belongs IsAtVertex laws valid good [] walk after w e s r =
     let same : walk ≡ after = cc in
     ap (run mesh labelling next s) same
 moves_keep mesh labelling next Belongs IsAtVertex laws valid good (move ∷ moves) walk after w e s r =
     let told = first_answer (λ x. apply_all mesh x moves) (apply mesh walk move) after e in
     move_keeps mesh labelling next Belongs IsAtVertex laws valid good walk told.0 move w told.1 s r
-    ∙ moves_keep mesh labelling next Belongs IsAtVertex laws valid good moves told.0 after (keeps_walk mesh walk told.0 move w told.1) told.2 s r
+    ∙ moves_keep mesh labelling next Belongs IsAtVertex laws valid good moves told.0 after (keeps_walk mesh walk told.0 move w told.1)
+    told.2 s r

@@ -8,7 +8,8 @@ use Rattle.turn_words.proofs.Telling.{tells-both, tells-less}
 
 module _ {State : Type 0} (next : List ℕ → State → ℕ → State) (Notes : List ℕ → State → ℕ → List Step → Type 0) (places : List ℕ) where
   -- two spokes
-  pub tells-two : (s : State) (i j : ℕ) (o p q : Option (List Step)) → TellsMore (Notes places s i) o p → TellsMore (Notes places (next places s i) j) p q
+  pub tells-two : (s : State) (i j : ℕ) (o p q : Option (List Step)) → TellsMore (Notes places s i) o p
+      → TellsMore (Notes places (next places s i) j) p q
       → TellsMore (NotesAlong next Notes places s (i ∷ j ∷ [])) o q
   tells-two s i j o p q first second =
       tells-both (Notes places s i) (Notes places (next places s i) j) (NotesAlong next Notes places s (i ∷ j ∷ [])) o p q first second
@@ -19,10 +20,12 @@ module _ {State : Type 0} (next : List ℕ → State → ℕ → State) (Notes :
       → TellsMore (NotesAlong next Notes places s first) o p → TellsMore (NotesAlong next Notes places t second) p q
       → TellsMore (NotesAlong next Notes places s (first ++ second)) o q
   tells-on s t first second o p q e there here =
-      tells-both (NotesAlong next Notes places s first) (NotesAlong next Notes places t second) (NotesAlong next Notes places s (first ++ second)) o p q there here
+      tells-both (NotesAlong next Notes places s first) (NotesAlong next Notes places t second)
+      (NotesAlong next Notes places s (first ++ second)) o p q there here
       (λ a b x y. notes-append next places Notes s first second a b x (subst (λ (u : State). NotesAlong next Notes places u second b) e y))
 
-  pub led-on : (s t u : State) (first second : List ℕ) → t ≡ led next places s first → u ≡ led next places t second → u ≡ led next places s (first ++ second)
+  pub led-on : (s t u : State) (first second : List ℕ) → t ≡ led next places s first → u ≡ led next places t second
+      → u ≡ led next places s (first ++ second)
   led-on s t u first second e f = f ∙ ap (λ (v : State). led next places v second) e ∙ sym (led-append next places s first second)
 
 -- something is noted after something

@@ -19,16 +19,19 @@ path-next mesh labelling (u ∷ []) k l = absurd (omega arith)
 path-next mesh labelling (u ∷ v ∷ walk) zero l = append-nil (spokes mesh labelling u v)
 path-next mesh labelling (u ∷ v ∷ walk) (suc k) l =
     ap (λ (rest : List ℕ). spokes mesh labelling u v ++ rest) (path-next mesh labelling (v ∷ walk) k (omega arith))
-    ∙ sym (append_assoc (spokes mesh labelling u v) (quad_path mesh labelling (take (suc k) (v ∷ walk))) (spokes mesh labelling (get_or (v ∷ walk) k 0) (get_or walk k 0)))
+    ∙ sym (append_assoc (spokes mesh labelling u v) (quad_path mesh labelling (take (suc k) (v ∷ walk)))
+    (spokes mesh labelling (get_or (v ∷ walk) k 0) (get_or walk k 0)))
 
 -- the spokes of a dart are spokes of the wheel
 spokes_below : (mesh : FaceList) (labelling : LabellingView) → IsGood mesh labelling → (u v : ℕ)
     → All (λ i. i < length labelling.places) (spokes mesh labelling u v)
 spokes_below mesh labelling good u v =
-    subst (All (λ i. i < length labelling.places)) (append-nil (spokes mesh labelling u v)) (quad_path_below mesh labelling good (u ∷ v ∷ []))
+    subst (All (λ i. i < length labelling.places)) (append-nil (spokes mesh labelling u v))
+    (quad_path_below mesh labelling good (u ∷ v ∷ []))
 
 -- the spokes that a dart was found to have
-pub listed : (found : Option (Spoke × Spoke)) (xs : List ℕ) → MatchOption found (xs ≡ []) (λ pair. xs ≡ pair.0.0 ∷ pair.1.0 ∷ []) → xs ≡ spoke_list found
+pub listed : (found : Option (Spoke × Spoke)) (xs : List ℕ) → MatchOption found (xs ≡ []) (λ pair. xs ≡ pair.0.0 ∷ pair.1.0 ∷ [])
+    → xs ≡ spoke_list found
 listed None xs h = h
 listed (Some pair) xs h = h
 

@@ -76,7 +76,13 @@ edge_of_side : (mesh : FaceList) (side : Side) → IsSide mesh side → IsTrue (
 unfolding is_edge
 edge_of_side mesh side h =
     let has : Contains (all_sides mesh) (entry_of mesh side) = in_list mesh side h in
-    list_any-from_Any (joins (tail_of mesh side) (head_of mesh side)) (all_sides mesh) (has.0, entry_of mesh side, has.1, has.2, entry_joins mesh side)
+    list_any-from_Any (joins (tail_of mesh side) (head_of mesh side)) (all_sides mesh) (
+      has.0,
+      entry_of mesh side,
+      has.1,
+      has.2,
+      entry_joins mesh side,
+    )
 
 -- of two elements one is the first or the second
 one_of_two : {A : Type 0} (xs : List A) (x : A) → length xs ≡ 2 → Contains xs x → (y : A) × ((xs ≡ x ∷ y ∷ []) ⊎ (xs ≡ y ∷ x ∷ []))
@@ -151,7 +157,8 @@ runs_alone mesh labelling side other valid good h k starts ends = elim (same_or_
         let two : head_of mesh other ≡ head_of mesh side = rw (e, f) at ends in
         inl (sym one, sym two)
 
-    no_loop : (a : Bool) → is_flipped (signs_of labelling) side.face.0 ≡ a → start_under mesh (signs_of labelling) side ≡ end_under mesh (signs_of labelling) side → ⊥
+    no_loop : (a : Bool) → is_flipped (signs_of labelling) side.face.0 ≡ a
+        → start_under mesh (signs_of labelling) side ≡ end_under mesh (signs_of labelling) side → ⊥
     no_loop true e loop =
         let same : head_of mesh side ≡ tail_of mesh side = rw e at loop in
         ends_differ mesh side valid h (sym same)
@@ -161,14 +168,16 @@ runs_alone mesh labelling side other valid good h k starts ends = elim (same_or_
 
 -- the side from its start to its end is found
 pub side_found : (mesh : FaceList) (labelling : LabellingView) (side : Side) → IsFaceList mesh → IsGood mesh labelling → IsSide mesh side
-    → side_from mesh labelling (start_under mesh (signs_of labelling) side) (end_under mesh (signs_of labelling) side) ≡ Some (entry_of mesh side)
+    → side_from mesh labelling (start_under mesh (signs_of labelling) side)
+    (end_under mesh (signs_of labelling) side) ≡ Some (entry_of mesh side)
 unfolding side_from
 side_found mesh labelling side valid good h =
     find_only test (all_sides mesh) (entry_of mesh side) (in_list mesh side h) itself
     (λ y has passes.
     let parts = and_parts (eqb (start_under mesh signs (side_name y)) u) (eqb (end_under mesh signs (side_name y)) v) passes in
     let is : IsListed mesh y = listed mesh y has in
-    let same : side_name y ≡ side = runs_alone mesh labelling side (side_name y) valid good h is.side (eqb-true _ _ parts.0) (eqb-true _ _ parts.1) in
+    let same : side_name y ≡ side = runs_alone mesh labelling side (side_name y) valid good h is.side (eqb-true _ _ parts.0)
+    (eqb-true _ _ parts.1) in
     sym (entry_named mesh y is) ∙ ap (entry_of mesh) same)
   where
     signs : List Bool
@@ -198,7 +207,8 @@ pub record SpokesOfSide (mesh : FaceList) (labelling : LabellingView) (side : Si
       (head_label mesh labelling partner.partner)
   pub against :
       spokes mesh labelling (end_under mesh (signs_of labelling) side) (start_under mesh (signs_of labelling) side)
-      ≡ spokes_by_labels (tail_label mesh labelling partner.partner) (head_label mesh labelling partner.partner) (tail_label mesh labelling side)
+      ≡ spokes_by_labels (tail_label mesh labelling partner.partner) (head_label mesh labelling partner.partner)
+      (tail_label mesh labelling side)
       (head_label mesh labelling side)
 
 pub spokes_of_side : (mesh : FaceList) (labelling : LabellingView) (side : Side) → IsFaceList mesh → IsGood mesh labelling
@@ -207,7 +217,8 @@ pub spokes_of_side : (mesh : FaceList) (labelling : LabellingView) (side : Side)
 spokes_of_side mesh labelling side valid good h =
     let p : HasPartner mesh labelling side = partner_of mesh labelling side good h in
     let other : Side = p.partner in
-    let one : side_from mesh labelling (start_under mesh signs side) (end_under mesh signs side) ≡ Some (entry_of mesh side) = side_found mesh labelling side valid good h in
+    let one : side_from mesh labelling (start_under mesh signs side) (end_under mesh signs side) ≡ Some (entry_of mesh side) =
+    side_found mesh labelling side valid good h in
     let two_raw : side_from mesh labelling (start_under mesh signs other) (end_under mesh signs other) ≡ Some (entry_of mesh other) =
     side_found mesh labelling other valid good p.partners.second in
     let two : side_from mesh labelling (end_under mesh signs side) (start_under mesh signs side) ≡ Some (entry_of mesh other) =
@@ -215,9 +226,11 @@ spokes_of_side mesh labelling side valid good h =
     ∙ ap (side_from mesh labelling (start_under mesh signs other)) p.meets.opposite.starts ∙ two_raw in
     record {
       partner = p;
-      along = ap (λ o. spokes_of_sides mesh labelling o (side_from mesh labelling (end_under mesh signs side) (start_under mesh signs side))) one
+      along = ap (λ o. spokes_of_sides mesh labelling o (side_from mesh labelling (end_under mesh signs side)
+          (start_under mesh signs side))) one
           ∙ ap (spokes_of_sides mesh labelling (Some (entry_of mesh side))) two;
-      against = ap (λ o. spokes_of_sides mesh labelling o (side_from mesh labelling (start_under mesh signs side) (end_under mesh signs side))) two
+      against = ap (λ o. spokes_of_sides mesh labelling o
+          (side_from mesh labelling (start_under mesh signs side) (end_under mesh signs side))) two
           ∙ ap (spokes_of_sides mesh labelling (Some (entry_of mesh other))) one;
     }
   where

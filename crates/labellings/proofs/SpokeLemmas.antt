@@ -27,12 +27,15 @@ ends-under mesh signs side = go (is_flipped signs side.face.0) refl
     go false e = inl (rw e refl, rw e refl)
 
 -- a side with the ends u and v that starts at u ends at v, and one that does not starts at v and ends at u
-along-or-against : (s e t h low high u v : ℕ) → low < high → ((s ≡ t) × (e ≡ h)) ⊎ ((s ≡ h) × (e ≡ t)) → ((t ≡ low) × (h ≡ high)) ⊎ ((t ≡ high) × (h ≡ low)) →
+along-or-against : (s e t h low high u v : ℕ) → low < high → ((s ≡ t) × (e ≡ h)) ⊎ ((s ≡ h) × (e ≡ t)) → ((t ≡ low) × (h ≡ high))
+    ⊎ ((t ≡ high) × (h ≡ low)) →
     ((low ≡ u) × (high ≡ v)) ⊎ ((low ≡ v) × (high ≡ u)) → ((s ≡ u) × (e ≡ v)) ⊎ ((s ≢ u) × (s ≡ v) × (e ≡ u))
 along-or-against s e t h low high u v less under ends pair = grind arith
 
-module _ (mesh : FaceList) (table : List Edge) (labelling : LabellingView) (k u v : ℕ) (a b d : Side) (valid : IsFaceList mesh) (good : IsGood mesh labelling) (h : IsTableOf mesh table) (l : k < length table)
-    (pair : HasEnds u v (edge_in table k)) (first : get_or (edge_in table k).sides 0 d ≡ a) (second : get_or (edge_in table k).sides 1 d ≡ b) where
+module _ (mesh : FaceList) (table : List Edge) (labelling : LabellingView) (k u v : ℕ) (a b d : Side) (valid : IsFaceList mesh)
+    (good : IsGood mesh labelling) (h : IsTableOf mesh table) (l : k < length table)
+    (pair : HasEnds u v (edge_in table k)) (first : get_or (edge_in table k).sides 0 d ≡ a)
+    (second : get_or (edge_in table k).sides 1 d ≡ b) where
   two : length (edge_in table k).sides ≡ 2
   two =
       let edge : Edge = edge_in table k in
@@ -51,44 +54,55 @@ module _ (mesh : FaceList) (table : List Edge) (labelling : LabellingView) (k u 
   partner-is =
       let edge : Edge = edge_in table k in
       let is : IsEdgeOf mesh edge = h.edges k _ l in
-      let ends : HasSideEnds mesh edge.low edge.high a = subst (HasSideEnds mesh edge.low edge.high) first (side_of_edge mesh edge 0 d is (omega (arith, two))).ends in
+      let ends : HasSideEnds mesh edge.low edge.high a =
+      subst (HasSideEnds mesh edge.low edge.high) first (side_of_edge mesh edge 0 d is (omega (arith, two))).ends in
       let p = of-a.partner.partners in
       let here : Contains edge.sides a = edge_has_side mesh edge a is p.first ends in
-      let there : Contains edge.sides of-a.partner.partner = edge_has_side mesh edge of-a.partner.partner is p.second (ends_agree _ _ _ _ edge.low edge.high ends p.one_edge) in
+      let there : Contains edge.sides of-a.partner.partner =
+      edge_has_side mesh edge of-a.partner.partner is p.second (ends_agree _ _ _ _ edge.low edge.high ends p.one_edge) in
       elim (two-of edge.sides d a of-a.partner.partner a b two first second here there p.different) [
         | inl as_listed ↦ as_listed.1
         | inr turned ↦ absurd (partners.different turned.0)
       ]
 
   sided : ((start_under mesh (signs_of labelling) a ≡ u) × (end_under mesh (signs_of labelling) a ≡ v))
-      ⊎ ((start_under mesh (signs_of labelling) a ≢ u) × (start_under mesh (signs_of labelling) a ≡ v) × (end_under mesh (signs_of labelling) a ≡ u))
+      ⊎ ((start_under mesh (signs_of labelling) a ≢ u) × (start_under mesh (signs_of labelling) a ≡ v)
+      × (end_under mesh (signs_of labelling) a ≡ u))
   sided =
       let edge : Edge = edge_in table k in
       let is : IsEdgeOf mesh edge = h.edges k _ l in
-      let ends : HasSideEnds mesh edge.low edge.high a = subst (HasSideEnds mesh edge.low edge.high) first (side_of_edge mesh edge 0 d is (omega (arith, two))).ends in
+      let ends : HasSideEnds mesh edge.low edge.high a =
+      subst (HasSideEnds mesh edge.low edge.high) first (side_of_edge mesh edge 0 d is (omega (arith, two))).ends in
       along-or-against _ _ _ _ edge.low edge.high u v is.ordered (ends-under mesh (signs_of labelling) a) ends pair
 
   -- where the first side starts at u, the dart runs along it, and else against it
   pub spokes-along : start_under mesh (signs_of labelling) a ≡ u → spokes mesh labelling u v
-      ≡ spokes_by_labels (tail_label mesh labelling a) (head_label mesh labelling a) (tail_label mesh labelling b) (head_label mesh labelling b)
+      ≡ spokes_by_labels (tail_label mesh labelling a) (head_label mesh labelling a) (tail_label mesh labelling b)
+      (head_label mesh labelling b)
   spokes-along starts = elim sided [
     | inl is ↦
-        subst (λ p. spokes mesh labelling u v ≡ spokes_by_labels (tail_label mesh labelling a) (head_label mesh labelling a) (tail_label mesh labelling p) (head_label mesh labelling p)) partner-is
-        (ap (λ x. spokes mesh labelling x v) (sym is.0) ∙ ap (spokes mesh labelling (start_under mesh (signs_of labelling) a)) (sym is.1) ∙ of-a.along)
+        subst (λ p. spokes mesh labelling u v ≡ spokes_by_labels (tail_label mesh labelling a) (head_label mesh labelling a)
+        (tail_label mesh labelling p) (head_label mesh labelling p)) partner-is
+        (ap (λ x. spokes mesh labelling x v) (sym is.0) ∙ ap (spokes mesh labelling (start_under mesh (signs_of labelling) a))
+        (sym is.1) ∙ of-a.along)
     | inr is ↦ absurd (is.0 starts)
   ]
 
   pub spokes-against : start_under mesh (signs_of labelling) a ≢ u → spokes mesh labelling u v
-      ≡ spokes_by_labels (tail_label mesh labelling b) (head_label mesh labelling b) (tail_label mesh labelling a) (head_label mesh labelling a)
+      ≡ spokes_by_labels (tail_label mesh labelling b) (head_label mesh labelling b) (tail_label mesh labelling a)
+      (head_label mesh labelling a)
   spokes-against other = elim sided [
     | inl is ↦ absurd (other is.0)
     | inr is ↦
-        subst (λ p. spokes mesh labelling u v ≡ spokes_by_labels (tail_label mesh labelling p) (head_label mesh labelling p) (tail_label mesh labelling a) (head_label mesh labelling a)) partner-is
-        (ap (λ x. spokes mesh labelling x v) (sym is.2) ∙ ap (spokes mesh labelling (end_under mesh (signs_of labelling) a)) (sym is.1) ∙ of-a.against)
+        subst (λ p. spokes mesh labelling u v ≡ spokes_by_labels (tail_label mesh labelling p) (head_label mesh labelling p)
+        (tail_label mesh labelling a) (head_label mesh labelling a)) partner-is
+        (ap (λ x. spokes mesh labelling x v) (sym is.2) ∙ ap (spokes mesh labelling (end_under mesh (signs_of labelling) a)) (sym is.1)
+        ∙ of-a.against)
   ]
 
 -- an edge of a mesh with a good labelling has two sides
-pub two-sides : (mesh : FaceList) (table : List Edge) (labelling : LabellingView) (k : ℕ) → IsGood mesh labelling → IsTableOf mesh table → k < length table → length (edge_in table k).sides ≡ 2
+pub two-sides : (mesh : FaceList) (table : List Edge) (labelling : LabellingView) (k : ℕ) → IsGood mesh labelling → IsTableOf mesh table
+    → k < length table → length (edge_in table k).sides ≡ 2
 two-sides mesh table labelling k good h l =
     let none : Side = record { face = record { 0 = 0 }; at = 0 } in
     two-from-rule mesh table labelling k (get_or (edge_in table k).sides 0 none) (get_or (edge_in table k).sides 1 none) none h l refl refl

@@ -16,12 +16,14 @@ length-with_signs [] (p ∷ ps) e = absurd (omega arith)
 length-with_signs (s ∷ signs) [] e = absurd (omega arith)
 length-with_signs (s ∷ signs) (p ∷ ps) e = ap suc (length-with_signs signs ps (omega arith))
 
-signs-with_signs : (signs : List Bool) (ps : List (List ℕ)) → length signs ≡ length ps → map (λ (face : FaceLabels). face.flipped) (with_signs signs ps) ≡ signs
+signs-with_signs : (signs : List Bool) (ps : List (List ℕ)) → length signs ≡ length ps
+    → map (λ (face : FaceLabels). face.flipped) (with_signs signs ps) ≡ signs
 signs-with_signs [] ps e = refl
 signs-with_signs (s ∷ signs) [] e = absurd (omega arith)
 signs-with_signs (s ∷ signs) (p ∷ ps) e = ap (λ rest. s ∷ rest) (signs-with_signs signs ps (omega arith))
 
-labels-with_signs : (signs : List Bool) (ps : List (List ℕ)) (f : ℕ) (d : FaceLabels) → length signs ≡ length ps → f < length ps → (get_or (with_signs signs ps) f d).labels ≡ get_or ps f []
+labels-with_signs : (signs : List Bool) (ps : List (List ℕ)) (f : ℕ) (d : FaceLabels) → length signs ≡ length ps → f < length ps
+    → (get_or (with_signs signs ps) f d).labels ≡ get_or ps f []
 labels-with_signs [] [] f d e h = absurd (omega arith)
 labels-with_signs [] (p ∷ ps) f d e h = absurd (omega arith)
 labels-with_signs (s ∷ signs) [] f d e h = absurd (omega arith)
@@ -45,10 +47,12 @@ pub record LabelsLieAt (labelling : LabellingView) (signs : List Bool) (ends lab
   pub signs_are : signs_of labelling ≡ signs
   pub is : labels_at labelling f ≡ take (get_or ends f 0 - get_or (0 ∷ ends) f 0) (drop (get_or (0 ∷ ends) f 0) labels)
   pub size : length (labels_at labelling f) ≡ get_or ends f 0 - get_or (0 ∷ ends) f 0
-  pub label : (t : ℕ) → t < length (labels_at labelling f) → get_or (labels_at labelling f) t 0 ≡ get_or labels (get_or (0 ∷ ends) f 0 + t) 0
+  pub label : (t : ℕ) → t < length (labels_at labelling f)
+      → get_or (labels_at labelling f) t 0 ≡ get_or labels (get_or (0 ∷ ends) f 0 + t) 0
 
 lie-at : (degree : ℕ) (signs : List Bool) (ends labels places : List ℕ) (f : ℕ) → IsStoredLabelling signs ends labels places →
-    f < length (stored_labelling degree signs ends labels places).faces → LabelsLieAt (stored_labelling degree signs ends labels places) signs ends labels f
+    f < length (stored_labelling degree signs ends labels places).faces
+    → LabelsLieAt (stored_labelling degree signs ends labels places) signs ends labels f
 lie-at degree signs ends labels places f s h =
     let ps = parts 0 ends labels in
     let each : length signs ≡ length ps = s.each_face ∙ sym (length-parts 0 ends labels) in
@@ -57,8 +61,10 @@ lie-at degree signs ends labels places f s h =
     let start = get_or (0 ∷ ends) f 0 in
     let end = get_or ends f 0 in
     let is : labels_at (stored_labelling degree signs ends labels places) f ≡ take (end - start) (drop start labels) =
-    labels-with_signs signs ps f (face_labels false []) each (omega (arith, length-parts 0 ends labels)) ∙ get_or-parts 0 ends labels f [] few in
-    let size : length (take (end - start) (drop start labels)) ≡ end - start = length-take-le (end - start) (drop start labels) (omega (arith, here.rises, here.within, length-drop start labels)) in
+    labels-with_signs signs ps f (face_labels false []) each (omega (arith, length-parts 0 ends labels))
+    ∙ get_or-parts 0 ends labels f [] few in
+    let size : length (take (end - start) (drop start labels)) ≡ end - start =
+    length-take-le (end - start) (drop start labels) (omega (arith, here.rises, here.within, length-drop start labels)) in
     record {
       few = few;
       each = s.each_face;
@@ -68,21 +74,26 @@ lie-at degree signs ends labels places f s h =
       signs_are = signs-with_signs signs ps each;
       is = is;
       size = ap length is ∙ size;
-      label = λ t below. ap (λ xs. get_or xs t 0) is ∙ get_or-take (end - start) (drop start labels) t 0 (omega (arith, ap length is, size)) ∙ get_or-drop start labels t 0;
+      label = λ t below. ap (λ xs. get_or xs t 0) is ∙ get_or-take (end - start) (drop start labels) t 0
+          (omega (arith, ap length is, size)) ∙ get_or-drop start labels t 0;
     }
 
-pub labels_lie_at : (degree : ℕ) (signs : List Bool) (ends labels places : List ℕ) (view : LabellingView) (f : ℕ) → IsStoredLabelling signs ends labels places →
+pub labels_lie_at : (degree : ℕ) (signs : List Bool) (ends labels places : List ℕ) (view : LabellingView) (f : ℕ)
+    → IsStoredLabelling signs ends labels places →
     stored_labelling degree signs ends labels places ≡ view → f < length view.faces → LabelsLieAt view signs ends labels f
-labels_lie_at degree signs ends labels places view f s e = subst (λ (v : LabellingView). f < length v.faces → LabelsLieAt v signs ends labels f) e (lie-at degree signs ends labels places f s)
+labels_lie_at degree signs ends labels places view f s e =
+    subst (λ (v : LabellingView). f < length v.faces → LabelsLieAt v signs ends labels f) e (lie-at degree signs ends labels places f s)
 
-pub length-faces : (degree : ℕ) (signs : List Bool) (ends labels places : List ℕ) (view : LabellingView) → IsStoredLabelling signs ends labels places →
+pub length-faces : (degree : ℕ) (signs : List Bool) (ends labels places : List ℕ) (view : LabellingView)
+    → IsStoredLabelling signs ends labels places →
     stored_labelling degree signs ends labels places ≡ view → length view.faces ≡ length ends
 length-faces degree signs ends labels places view s e =
     sym (ap (λ (v : LabellingView). length v.faces) e)
     ∙ length-with_signs signs (parts 0 ends labels) (s.each_face ∙ sym (length-parts 0 ends labels)) ∙ length-parts 0 ends labels
 
 -- one face more
-pub stored_labelling-push : (degree : ℕ) (signs : List Bool) (ends labels places : List ℕ) (s : Bool) (face : List ℕ) (m : ℕ) → IsStoredLabelling signs ends labels places →
+pub stored_labelling-push : (degree : ℕ) (signs : List Bool) (ends labels places : List ℕ) (s : Bool) (face : List ℕ) (m : ℕ)
+    → IsStoredLabelling signs ends labels places →
     m ≡ length labels + length face →
     (stored_labelling degree (signs ++ s ∷ []) (ends ++ m ∷ []) (labels ++ face) places).faces
     ≡ (stored_labelling degree signs ends labels places).faces ++ face_labels s face ∷ []
@@ -90,21 +101,25 @@ stored_labelling-push degree signs ends labels places s face m i e =
     ap (with_signs (signs ++ s ∷ [])) (parts-push 0 ends labels face (length labels) m i.rising refl e)
     ∙ with_signs-push signs (parts 0 ends labels) s face (i.each_face ∙ sym (length-parts 0 ends labels))
 
-pub IsStoredLabelling-push : (signs : List Bool) (ends labels places : List ℕ) (s : Bool) (face : List ℕ) (m : ℕ) → IsStoredLabelling signs ends labels places →
+pub IsStoredLabelling-push : (signs : List Bool) (ends labels places : List ℕ) (s : Bool) (face : List ℕ) (m : ℕ)
+    → IsStoredLabelling signs ends labels places →
     m ≡ length labels + length face → length ends < 2 ^ 32 - 1 → length face < 2 ^ 32 →
     IsStoredLabelling (signs ++ s ∷ []) (ends ++ m ∷ []) (labels ++ face) places
 IsStoredLabelling-push signs ends labels places s face m i e few short =
     let last = EndsRise-last ends (length labels) i.rising in
     record {
       each_face = length_push signs s ∙ ap (λ n. n + 1) i.each_face ∙ sym (length_push ends m);
-      rising = subst (EndsRise 0 (ends ++ m ∷ [])) (e ∙ sym (length-append labels face)) (EndsRise-push 0 ends (length labels) m i.rising (omega arith));
+      rising = subst (EndsRise 0 (ends ++ m ∷ [])) (e ∙ sym (length-append labels face))
+          (EndsRise-push 0 ends (length labels) m i.rising (omega arith));
       few_faces = omega (arith, length_push ends m);
       few_labels = λ f below. elim (cases_lt f (length ends)) [
-        | inl inside ↦ rw (get_or_append_left ends (m ∷ []) 0 f inside, get_or_append_left (0 ∷ ends) (m ∷ []) 0 f (omega arith)) (i.few_labels f inside)
+        | inl inside ↦ rw (get_or_append_left ends (m ∷ []) 0 f inside, get_or_append_left (0 ∷ ends) (m ∷ []) 0 f (omega arith))
+            (i.few_labels f inside)
         | inr outside ↦
             let at : f ≡ length ends = omega (arith, length_push ends m) in
             let end : get_or (ends ++ m ∷ []) f 0 ≡ m = get_or_push ends m 0 f (sym at) in
-            let start : get_or ((0 ∷ ends) ++ m ∷ []) f 0 ≡ length labels = get_or_append_left (0 ∷ ends) (m ∷ []) 0 f (omega arith) ∙ ap (λ k. get_or (0 ∷ ends) k 0) at ∙ last in
+            let start : get_or ((0 ∷ ends) ++ m ∷ []) f 0 ≡ length labels =
+            get_or_append_left (0 ∷ ends) (m ∷ []) 0 f (omega arith) ∙ ap (λ k. get_or (0 ∷ ends) k 0) at ∙ last in
             omega arith
       ];
       few_places = i.few_places;

@@ -19,11 +19,14 @@ use Rattle.labellings.specs.WalkWords.{IsWordOf}
 use Rattle.labellings.proofs.WalkWordLemmas.{one_word_of_homotopic}
 
 -- a walk has one word
-pub one_word : (mesh : FaceList) (labelling : LabellingView) (walk : List ℕ) (one other : Word) → IsFaceList mesh → IsGood mesh labelling → IsWalk mesh walk
+pub one_word : (mesh : FaceList) (labelling : LabellingView) (walk : List ℕ) (one other : Word) → IsFaceList mesh
+    → IsGood mesh labelling → IsWalk mesh walk
     → IsWordOf mesh labelling walk one → IsWordOf mesh labelling walk other → one ≡ other
-one_word mesh labelling walk one other valid good is_walk f g = one_word_of_homotopic mesh labelling walk walk one other valid good is_walk ([], refl) f g
+one_word mesh labelling walk one other valid good is_walk f g =
+    one_word_of_homotopic mesh labelling walk walk one other valid good is_walk ([], refl) f g
 
-pub is_word : (mesh : FaceList) (labelling : LabellingView) (walk : List ℕ) (own word : Word) (same : Bool) → IsFaceList mesh → IsGood mesh labelling → IsWalk mesh walk
+pub is_word : (mesh : FaceList) (labelling : LabellingView) (walk : List ℕ) (own word : Word) (same : Bool) → IsFaceList mesh
+    → IsGood mesh labelling → IsWalk mesh walk
     → IsWordOf mesh labelling walk own → IsTrue same ↔ (own ≡ word)
     → IsTrue same ↔ IsWordOf mesh labelling walk word
 is_word mesh labelling walk own word same valid good is_walk is tests = (
@@ -44,14 +47,17 @@ first_twice places p q f g = elim (three_ways p q) [
   | inr same ↦ same
 ]
 
-not_twice : (labelling : LabellingView) (p : ℕ) → length labelling.places ≡ labelling.degree → HasPlaces labelling → IsFirstTwice labelling.places p → ⊥
+not_twice : (labelling : LabellingView) (p : ℕ) → length labelling.places ≡ labelling.degree → HasPlaces labelling
+    → IsFirstTwice labelling.places p → ⊥
 not_twice labelling p each places twice =
     let two = twice.twice in
     let same : two.one ≡ two.other =
-    places two.one two.other (omega (arith, two.apart, two.below, each)) (omega (arith, two.below, each)) (two.one_place ∙ sym two.other_place) in
+    places two.one two.other (omega (arith, two.apart, two.below, each)) (omega (arith, two.below, each))
+    (two.one_place ∙ sym two.other_place) in
     omega (arith, same, two.apart)
 
-least_edge : (mesh : FaceList) (labelling : LabellingView) (a b c d : ℕ) → IsLeastAgainstRules mesh labelling a b → IsLeastAgainstRules mesh labelling c d
+least_edge : (mesh : FaceList) (labelling : LabellingView) (a b c d : ℕ) → IsLeastAgainstRules mesh labelling a b
+    → IsLeastAgainstRules mesh labelling c d
     → (a ≡ c) × (b ≡ d)
 least_edge mesh labelling a b c d f g = elim (compared a b c d) [
   | inl (inl less) ↦ absurd (f.against (g.least a b f.ordered f.edge less))
@@ -71,7 +77,8 @@ least_edge mesh labelling a b c d f g = elim (compared a b c d) [
           ]
     ]
 
-one_fault : (mesh : FaceList) (labelling : LabellingView) (f g : LabelFault) → IsFirstFault mesh labelling f → IsFirstFault mesh labelling g → f ≡ g
+one_fault : (mesh : FaceList) (labelling : LabellingView) (f g : LabelFault) → IsFirstFault mesh labelling f
+    → IsFirstFault mesh labelling g → f ≡ g
 one_fault mesh labelling Shape Shape p q = refl
 one_fault mesh labelling Shape (Degree n) p q = absurd (p q.0)
 one_fault mesh labelling Shape (PlaceTwice n) p q = absurd (p q.0)
@@ -94,14 +101,16 @@ one_fault mesh labelling OutOfMemory g p q = absurd p
 one_fault mesh labelling f OutOfMemory p q = absurd q
 
 -- a labelling with a fault is not good
-fault_excludes : (mesh : FaceList) (labelling : LabellingView) (fault : LabelFault) → IsFirstFault mesh labelling fault → IsGood mesh labelling → ⊥
+fault_excludes : (mesh : FaceList) (labelling : LabellingView) (fault : LabelFault) → IsFirstFault mesh labelling fault
+    → IsGood mesh labelling → ⊥
 fault_excludes mesh labelling Shape p good = p good.shape
 fault_excludes mesh labelling (Degree n) p good = p.1 good.degree
 fault_excludes mesh labelling (PlaceTwice n) p good = not_twice labelling n p.0.each_spoke good.places p.2
 fault_excludes mesh labelling (EdgeRule low high) p good = p.3.against (good.edges low.0 high.0 p.3.edge)
 fault_excludes mesh labelling OutOfMemory p good = p
 
-one_wrong : (mesh : FaceList) (first second : List ℕ) (denial : Denial) (k m : ℕ) → IsFirstWrong mesh first second denial k → IsFirstWrong mesh first second denial m
+one_wrong : (mesh : FaceList) (first second : List ℕ) (denial : Denial) (k m : ℕ) → IsFirstWrong mesh first second denial k
+    → IsFirstWrong mesh first second denial m
     → k ≡ m
 one_wrong mesh first second denial k m (inl p) (inl q) = p.0 ∙ sym q.0
 one_wrong mesh first second denial k m (inl p) (inr q) = absurd (p.1 q.1)
@@ -122,12 +131,14 @@ one_verdict mesh first second denial (Label f) Accepted p q = absurd (fault_excl
 one_verdict mesh first second denial (WordWrong k) (Label g) p q = absurd (fault_excludes mesh denial.labelling g q p.0)
 one_verdict mesh first second denial (WordWrong k) (WordWrong m) p q = ap WordWrong (one_wrong mesh first second denial k m p.1 q.1)
 one_verdict mesh first second denial (WordWrong k) Equal p q = absurd (right_excludes mesh first second denial k p.1 q.1 q.2)
-one_verdict mesh first second denial (WordWrong k) Accepted p q = absurd (right_excludes mesh first second denial k p.1 q.first_word q.second_word)
+one_verdict mesh first second denial (WordWrong k) Accepted p q =
+    absurd (right_excludes mesh first second denial k p.1 q.first_word q.second_word)
 one_verdict mesh first second denial Equal (Label g) p q = absurd (fault_excludes mesh denial.labelling g q p.0)
 one_verdict mesh first second denial Equal (WordWrong m) p q = absurd (right_excludes mesh first second denial m q.1 p.1 p.2)
 one_verdict mesh first second denial Equal Equal p q = refl
 one_verdict mesh first second denial Equal Accepted p q = absurd (q.differ p.3)
 one_verdict mesh first second denial Accepted (Label g) p q = absurd (fault_excludes mesh denial.labelling g q p.good)
-one_verdict mesh first second denial Accepted (WordWrong m) p q = absurd (right_excludes mesh first second denial m q.1 p.first_word p.second_word)
+one_verdict mesh first second denial Accepted (WordWrong m) p q =
+    absurd (right_excludes mesh first second denial m q.1 p.first_word p.second_word)
 one_verdict mesh first second denial Accepted Equal p q = absurd (p.differ q.3)
 one_verdict mesh first second denial Accepted Accepted p q = refl

@@ -48,8 +48,10 @@ spokes_below mesh labelling good u v None other e = All-nil (λ i. i < length la
 spokes_below mesh labelling good u v (Some x) None e = All-nil (λ i. i < length labelling.places)
 spokes_below mesh labelling good u v (Some x) (Some y) e =
     let h : IsSide mesh (side_name x) = found_side mesh labelling u v x e in
-    both_below (length labelling.places) (tail_label mesh labelling (side_name x)) (head_label mesh labelling (side_name x)) (tail_label mesh labelling (side_name y))
-    (head_label mesh labelling (side_name y)) (tail_within mesh labelling good (side_name x) h) (head_within mesh labelling good (side_name x) h)
+    both_below (length labelling.places) (tail_label mesh labelling (side_name x)) (head_label mesh labelling (side_name x))
+    (tail_label mesh labelling (side_name y))
+    (head_label mesh labelling (side_name y)) (tail_within mesh labelling good (side_name x) h)
+    (head_within mesh labelling good (side_name x) h)
 
 pub quad_path_below : (mesh : FaceList) (labelling : LabellingView) → IsGood mesh labelling → (walk : List ℕ)
     → All (λ i. i < length labelling.places) (quad_path mesh labelling walk)
@@ -57,7 +59,8 @@ quad_path_below mesh labelling good [] = All-nil (λ i. i < length labelling.pla
 quad_path_below mesh labelling good (u ∷ []) = All-nil (λ i. i < length labelling.places)
 quad_path_below mesh labelling good (u ∷ v ∷ walk) =
     All-append (λ i. i < length labelling.places) (spokes mesh labelling u v) (quad_path mesh labelling (v ∷ walk))
-    (spokes_below mesh labelling good u v (side_from mesh labelling u v) (side_from mesh labelling v u) refl) (quad_path_below mesh labelling good (v ∷ walk))
+    (spokes_below mesh labelling good u v (side_from mesh labelling u v) (side_from mesh labelling v u) refl)
+    (quad_path_below mesh labelling good (v ∷ walk))
 
 -- ---- the spokes of a walk come in pairs
 
@@ -68,12 +71,14 @@ labels_in_pairs a b c d rest e = elim (cases_Bool (eqb a b && eqb c d)) [
   | inr other ↦ rw other (ap (λ (l : List ℕ). a ∷ b ∷ l) e)
 ]
 
-sides_in_pairs : (mesh : FaceList) (labelling : LabellingView) (side other : Option FaceSide) (rest : List ℕ) → spokes_of (in_pairs rest) ≡ rest
+sides_in_pairs : (mesh : FaceList) (labelling : LabellingView) (side other : Option FaceSide) (rest : List ℕ)
+    → spokes_of (in_pairs rest) ≡ rest
     → spokes_of (in_pairs (spokes_of_sides mesh labelling side other ++ rest)) ≡ spokes_of_sides mesh labelling side other ++ rest
 sides_in_pairs mesh labelling None other rest e = e
 sides_in_pairs mesh labelling (Some x) None rest e = e
 sides_in_pairs mesh labelling (Some x) (Some y) rest e =
-    labels_in_pairs (tail_label mesh labelling (side_name x)) (head_label mesh labelling (side_name x)) (tail_label mesh labelling (side_name y))
+    labels_in_pairs (tail_label mesh labelling (side_name x)) (head_label mesh labelling (side_name x))
+    (tail_label mesh labelling (side_name y))
     (head_label mesh labelling (side_name y)) rest e
 
 pub quad_path_in_pairs : (mesh : FaceList) (labelling : LabellingView) (walk : List ℕ)
@@ -99,10 +104,13 @@ wheel_of_good mesh labelling good = record {
   once = λ i j l k e. good.places i j (omega (arith, good.shape.each_spoke)) (omega (arith, good.shape.each_spoke)) e;
 }
 
-pub hyper_wheel_of_good : (mesh : FaceList) (labelling : LabellingView) → IsGood mesh labelling → 5 ≤ labelling.degree → IsHyperWheel labelling.places
-hyper_wheel_of_good mesh labelling good five = record { five = omega (arith, good.shape.each_spoke); wheel = wheel_of_good mesh labelling good }
+pub hyper_wheel_of_good : (mesh : FaceList) (labelling : LabellingView) → IsGood mesh labelling → 5 ≤ labelling.degree
+    → IsHyperWheel labelling.places
+hyper_wheel_of_good mesh labelling good five = record
+    { five = omega (arith, good.shape.each_spoke); wheel = wheel_of_good mesh labelling good }
 
-pub flat_wheel_of_good : (mesh : FaceList) (labelling : LabellingView) → IsGood mesh labelling → labelling.degree ≡ 4 → IsFlatWheel labelling.places
+pub flat_wheel_of_good : (mesh : FaceList) (labelling : LabellingView) → IsGood mesh labelling → labelling.degree ≡ 4
+    → IsFlatWheel labelling.places
 flat_wheel_of_good mesh labelling good four = record {
   four = good.shape.each_spoke ∙ four;
   wheel = wheel_of_good mesh labelling good;
@@ -116,9 +124,11 @@ word_of_state : (places spokes word : List ℕ) → IsHyperWheel places → All 
     → IsCanonicalOf (length places) (turn_word_of places spokes) word
     → word ≡ (led hyper_next places empty_state spokes).word
 word_of_state places spokes word own below is =
-    unique (length places) (turn_word_of places spokes) word (led hyper_next places empty_state spokes).word (turns places spokes own below) is (canonical places spokes own below)
+    unique (length places) (turn_word_of places spokes) word (led hyper_next places empty_state spokes).word
+    (turns places spokes own below) is (canonical places spokes own below)
 
-one_turn_word : (mesh : FaceList) (labelling : LabellingView) (first second one other : List ℕ) → IsFaceList mesh → IsGood mesh labelling → IsWalk mesh first
+one_turn_word : (mesh : FaceList) (labelling : LabellingView) (first second one other : List ℕ) → IsFaceList mesh
+    → IsGood mesh labelling → IsWalk mesh first
     → Homotopic mesh first second → 5 ≤ labelling.degree
     → IsCanonicalOf labelling.degree (turn_word_of labelling.places (quad_path mesh labelling first)) one
     → IsCanonicalOf labelling.degree (turn_word_of labelling.places (quad_path mesh labelling second)) other
@@ -132,7 +142,8 @@ one_turn_word mesh labelling first second one other valid good walk homotopic fi
       back = λ x i b l. hyper_there_and_back places x i b l;
       quad = λ x a d b e q. hyper_across places x a d b e q;
     } in
-    let state : led hyper_next places empty_state (quad_path mesh labelling first) ≡ led hyper_next places empty_state (quad_path mesh labelling second) =
+    let state : led hyper_next places empty_state (quad_path mesh labelling first) ≡ led hyper_next places empty_state
+    (quad_path mesh labelling second) =
     moves_keep mesh labelling hyper_next (BelongsTo places) IsEven laws valid good homotopic.0 first second walk homotopic.1 empty_state
     (hyper_starts.belongs places own, hyper_starts.at_vertex) in
     let word : (w canonical : List ℕ) → IsCanonicalOf labelling.degree (turn_word_of places (quad_path mesh labelling w)) canonical
@@ -142,7 +153,8 @@ one_turn_word mesh labelling first second one other valid good walk homotopic fi
     (subst (λ n. IsCanonicalOf n (turn_word_of places (quad_path mesh labelling w)) canonical) (sym good.shape.each_spoke) is) in
     word first one f ∙ ap (λ (x : HyperState). x.word) state ∙ sym (word second other g)
 
-one_point : (mesh : FaceList) (labelling : LabellingView) (first second : List ℕ) → IsFaceList mesh → IsGood mesh labelling → IsWalk mesh first
+one_point : (mesh : FaceList) (labelling : LabellingView) (first second : List ℕ) → IsFaceList mesh → IsGood mesh labelling
+    → IsWalk mesh first
     → Homotopic mesh first second → labelling.degree ≡ 4
     → sum_of_pairs (in_pairs (quad_path mesh labelling first)) ≡ sum_of_pairs (in_pairs (quad_path mesh labelling second))
 one_point mesh labelling first second valid good walk homotopic four =
@@ -154,11 +166,13 @@ one_point mesh labelling first second valid good walk homotopic four =
       quad = λ x a d b e q. flat_across places x a d b e q;
     } in
     sym (quad_path_leads_to_sum mesh labelling first)
-    ∙ moves_keep mesh labelling flat_next (λ _. IsFlatWheel places) flat.IsEven laws valid good homotopic.0 first second walk homotopic.1 origin
+    ∙ moves_keep mesh labelling flat_next (λ _. IsFlatWheel places) flat.IsEven laws valid good homotopic.0 first second walk
+    homotopic.1 origin
     (flat_wheel_of_good mesh labelling good four, flat_starts.at_vertex)
     ∙ quad_path_leads_to_sum mesh labelling second
 
-pub one_word_of_homotopic : (mesh : FaceList) (labelling : LabellingView) (first second : List ℕ) (one other : Word) → IsFaceList mesh → IsGood mesh labelling
+pub one_word_of_homotopic : (mesh : FaceList) (labelling : LabellingView) (first second : List ℕ) (one other : Word) → IsFaceList mesh
+    → IsGood mesh labelling
     → IsWalk mesh first
     → Homotopic mesh first second → IsWordOf mesh labelling first one → IsWordOf mesh labelling second other → one ≡ other
 one_word_of_homotopic mesh labelling first second (Turns one) (Turns other) valid good walk homotopic f g =
@@ -168,7 +182,9 @@ one_word_of_homotopic mesh labelling first second (Flat x y) (Turns other) valid
 one_word_of_homotopic mesh labelling first second (Flat x y) (Flat v w) valid good walk homotopic f g =
     ap (λ (p : Vector). Flat p.x p.y) (f.1 ∙ one_point mesh labelling first second valid good walk homotopic f.0 ∙ sym g.1)
 
-pub denial_excludes : (mesh : FaceList) (first second : List ℕ) (denial : Denial) → IsFaceList mesh → IsWalk mesh first → DenialHolds mesh first second denial
+pub denial_excludes : (mesh : FaceList) (first second : List ℕ) (denial : Denial) → IsFaceList mesh → IsWalk mesh first
+    → DenialHolds mesh first second denial
     → Homotopic mesh first second → ⊥
 denial_excludes mesh first second denial valid walk holds homotopic =
-    holds.differ (one_word_of_homotopic mesh denial.labelling first second denial.first denial.second valid holds.good walk homotopic holds.first_word holds.second_word)
+    holds.differ (one_word_of_homotopic mesh denial.labelling first second denial.first denial.second valid holds.good walk homotopic
+    holds.first_word holds.second_word)

@@ -27,7 +27,8 @@ turns_word mesh labelling walk word good five e =
     let path : List ℕ = quad_path mesh labelling walk in (
       five,
       subst (λ (w : List ℕ). IsCanonicalOf labelling.degree (turn_word_of labelling.places path) w) (sym e)
-          (subst (λ n. IsCanonicalOf n (turn_word_of labelling.places path) (led hyper_next labelling.places empty_state path).word) good.shape.each_spoke
+          (subst (λ n. IsCanonicalOf n (turn_word_of labelling.places path) (led hyper_next labelling.places empty_state path).word)
+          good.shape.each_spoke
           (canonical labelling.places path (hyper_wheel_of_good mesh labelling good five) (quad_path_below mesh labelling good walk))),
     )
 

@@ -16,7 +16,8 @@ pub record JoinsEdgesUpTo (mesh : FaceList) (table : List Edge) (least : List �
   pub joined : JoinsOnlyBySteps (λ v. v < mesh.count) (λ v. v) (IsEdgeStep mesh) least
   pub done : (j : ℕ) → j < k → get_or least (edge_in table j).low 0 ≡ get_or least (edge_in table j).high 0
 
-pub edges_none : (mesh : FaceList) (table : List Edge) (least : List ℕ) → least ≡ range_with_len 0 mesh.count → JoinsEdgesUpTo mesh table least 0
+pub edges_none : (mesh : FaceList) (table : List Edge) (least : List ℕ) → least ≡ range_with_len 0 mesh.count
+    → JoinsEdgesUpTo mesh table least 0
 edges_none mesh table least is =
     let joined : JoinsOnlyBySteps (λ v. v < mesh.count) (λ v. v) (IsEdgeStep mesh) (range_with_len 0 mesh.count) =
     joins_only-alone (λ v. v < mesh.count) (λ v. v) (IsEdgeStep mesh) mesh.count (λ v below. below) (λ v w is_v is_w same. same) in
@@ -26,7 +27,8 @@ edges_none mesh table least is =
       done = λ j l. absurd (omega arith);
     }
 
-pub edges_more : (mesh : FaceList) (table : List Edge) (least : List ℕ) (k low high : ℕ) → IsFaceList mesh → IsTableOf mesh table → k < length table
+pub edges_more : (mesh : FaceList) (table : List Edge) (least : List ℕ) (k low high : ℕ) → IsFaceList mesh → IsTableOf mesh table
+    → k < length table
     → low ≡ (edge_in table k).low → high ≡ (edge_in table k).high → JoinsEdgesUpTo mesh table least k
     → JoinsEdgesUpTo mesh table (joined_at least low high) (k + 1)
 edges_more mesh table least k low high valid h l is_low is_high upto =
@@ -36,17 +38,20 @@ edges_more mesh table least k low high valid h l is_low is_high upto =
     let back : IsEdgeStep mesh edge.high edge.low = edge_swap mesh edge.low edge.high there in
     let more : JoinsEdgesUpTo mesh table (joined_at least edge.low edge.high) (k + 1) = record {
       count = length-joined_at least edge.low edge.high ∙ upto.count;
-      joined = joins_only-joined_at (λ v. v < mesh.count) (λ v. v) (IsEdgeStep mesh) least edge.low edge.high upto.joined (λ v b. omega (arith, upto.count, b)) below.0 below.1 there back;
+      joined = joins_only-joined_at (λ v. v < mesh.count) (λ v. v) (IsEdgeStep mesh) least edge.low edge.high upto.joined
+          (λ v b. omega (arith, upto.count, b)) below.0 below.1 there back;
       done = below_more _ _
           (λ j b.
           let ends = ends_below mesh table j valid h (omega arith) in
-          joined_at_keeps least edge.low edge.high (edge_in table j).low (edge_in table j).high (omega (arith, upto.count, ends.0)) (omega (arith, upto.count, ends.1)) (upto.done j b))
+          joined_at_keeps least edge.low edge.high (edge_in table j).low (edge_in table j).high (omega (arith, upto.count, ends.0))
+          (omega (arith, upto.count, ends.1)) (upto.done j b))
           (joined_at_ends least edge.low edge.high (omega (arith, upto.count, below.0)) (omega (arith, upto.count, below.1)));
     } in
     subst (λ x. JoinsEdgesUpTo mesh table (joined_at least x high) (k + 1)) (sym is_low)
     (subst (λ x. JoinsEdgesUpTo mesh table (joined_at least edge.low x) (k + 1)) (sym is_high) more)
 
-pub edges_all : (mesh : FaceList) (table : List Edge) (least : List ℕ) (k : ℕ) → IsTableOf mesh table → length table ≤ k → JoinsEdgesUpTo mesh table least k → AreComponents mesh least
+pub edges_all : (mesh : FaceList) (table : List Edge) (least : List ℕ) (k : ℕ) → IsTableOf mesh table → length table ≤ k
+    → JoinsEdgesUpTo mesh table least k → AreComponents mesh least
 edges_all mesh table least k h l upto = record {
   joined = upto.joined;
   steps = λ u v is.

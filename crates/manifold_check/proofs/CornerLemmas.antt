@@ -27,7 +27,8 @@ record HasPlace (mesh : FaceList) (side : Side) : Type 0 where
   pub place : ℕ
   pub within : place < total_sides mesh
   pub number : side_number mesh side ≡ place
-  pub there : get_or (all_sides mesh) place (face_side side.face.0 (face_at mesh side.face.0) side.at) ≡ face_side side.face.0 (face_at mesh side.face.0) side.at
+  pub there : get_or (all_sides mesh) place (face_side side.face.0 (face_at mesh side.face.0) side.at) ≡ face_side side.face.0
+      (face_at mesh side.face.0) side.at
 
 side_place : (mesh : FaceList) (side : Side) → IsSide mesh side → HasPlace mesh side
 side_place mesh side h =
@@ -40,7 +41,8 @@ pub number_below : (mesh : FaceList) (side : Side) → IsSide mesh side → side
 number_below mesh side h = let at : HasPlace mesh side = side_place mesh side h in omega (arith, at.within, at.number)
 
 -- sides of one number are one
-pub number_once : (mesh : FaceList) (side other : Side) → IsSide mesh side → IsSide mesh other → side_number mesh side ≡ side_number mesh other → side ≡ other
+pub number_once : (mesh : FaceList) (side other : Side) → IsSide mesh side → IsSide mesh other
+    → side_number mesh side ≡ side_number mesh other → side ≡ other
 number_once mesh side other h k same =
     let at : HasPlace mesh side = side_place mesh side h in
     let to : HasPlace mesh other = side_place mesh other k in
@@ -60,7 +62,8 @@ corner_vertex mesh v side corner h =
       | inr e ↦ ap (tail_of mesh) e.1 ∙ e.0
     ]
 
-pub corner_in_mesh : (mesh : FaceList) (v : ℕ) (side corner : Side) → IsSide mesh side → IsCornerOfSide mesh v side corner → IsSide mesh corner
+pub corner_in_mesh : (mesh : FaceList) (v : ℕ) (side corner : Side) → IsSide mesh side → IsCornerOfSide mesh v side corner
+    → IsSide mesh corner
 corner_in_mesh mesh v side corner is h =
     elim h [
       | inl e ↦ subst (IsSide mesh) (sym e.1) is
@@ -68,7 +71,8 @@ corner_in_mesh mesh v side corner is h =
     ]
 
 -- a side has one corner at a vertex
-pub one_corner : (mesh : FaceList) (v : ℕ) (side corner other : Side) → IsFaceList mesh → IsSide mesh side → IsCornerOfSide mesh v side corner → IsCornerOfSide mesh v side other
+pub one_corner : (mesh : FaceList) (v : ℕ) (side corner other : Side) → IsFaceList mesh → IsSide mesh side
+    → IsCornerOfSide mesh v side corner → IsCornerOfSide mesh v side other
     → corner ≡ other
 one_corner mesh v side corner other valid is h k =
     elim h [
@@ -90,40 +94,48 @@ partners_swap mesh side other h = record {
   one_edge = elim h.one_edge [ inl e ↦ inl (sym e.0, sym e.1) | inr e ↦ inr (sym e.1, sym e.0) ];
 }
 
-pub corner_end : (mesh : FaceList) (v : ℕ) (side corner : Side) → IsCornerOfSide mesh v side corner → (tail_of mesh side ≡ v) ⊎ (head_of mesh side ≡ v)
+pub corner_end : (mesh : FaceList) (v : ℕ) (side corner : Side) → IsCornerOfSide mesh v side corner → (tail_of mesh side ≡ v)
+    ⊎ (head_of mesh side ≡ v)
 corner_end mesh v side corner h = elim h [ inl e ↦ inl e.0 | inr e ↦ inr e.0 ]
 
 -- the step across the edge of two partners
-pub step_across : (mesh : FaceList) (v : ℕ) (side partner corner other : Side) → ArePartners mesh side partner → IsCornerOfSide mesh v side corner → IsCornerOfSide mesh v partner other
+pub step_across : (mesh : FaceList) (v : ℕ) (side partner corner other : Side) → ArePartners mesh side partner
+    → IsCornerOfSide mesh v side corner → IsCornerOfSide mesh v partner other
     → IsCornerStep mesh corner other
 step_across mesh v side partner corner other h from to =
     subst (λ w. IsStepAround mesh w corner other) (sym (corner_vertex mesh v side corner from))
     (record { side = side; partner = partner; partners = h; from = from; to = to })
 
 -- steps from corner to corner stay at the vertex
-path_around : (mesh : FaceList) (v : ℕ) (corner : Side) (path : List Side) (other : Side) → tail_of mesh corner ≡ v → IsPath (IsCornerStep mesh) corner path other
+path_around : (mesh : FaceList) (v : ℕ) (corner : Side) (path : List Side) (other : Side) → tail_of mesh corner ≡ v
+    → IsPath (IsCornerStep mesh) corner path other
     → IsPath (IsStepAround mesh v) corner path other
 path_around mesh v corner [] other at p = p
 path_around mesh v corner (next ∷ path) other at p =
     let step : IsStepAround mesh v corner next = subst (λ w. IsStepAround mesh w corner next) at p.0 in
     (step, path_around mesh v next path other (corner_vertex mesh v step.partner next step.to) p.1)
 
-pub joined_around : (mesh : FaceList) (v : ℕ) (corner other : Side) → tail_of mesh corner ≡ v → AreJoined (IsCornerStep mesh) corner other → AreJoined (IsStepAround mesh v) corner other
+pub joined_around : (mesh : FaceList) (v : ℕ) (corner other : Side) → tail_of mesh corner ≡ v
+    → AreJoined (IsCornerStep mesh) corner other → AreJoined (IsStepAround mesh v) corner other
 joined_around mesh v corner other at joined = (joined.0, path_around mesh v corner joined.0 other at joined.1)
 
 -- corners with one entry make one ring, and those of one ring have one entry
 pub one_ring_from_same : (mesh : FaceList) (rings : List ℕ) (v : ℕ) → AreRings mesh rings
-    → ((corner other : Side) → IsCornerAt mesh v corner → IsCornerAt mesh v other → get_or rings (side_number mesh corner) 0 ≡ get_or rings (side_number mesh other) 0)
+    → ((corner other : Side) → IsCornerAt mesh v corner → IsCornerAt mesh v other
+    → get_or rings (side_number mesh corner) 0 ≡ get_or rings (side_number mesh other) 0)
     → HasOneRing mesh v
 one_ring_from_same mesh rings v h same corner other is_corner is_other =
-    joined_around mesh v corner other is_corner.vertex (h.joined corner other is_corner.side is_other.side (same corner other is_corner is_other))
+    joined_around mesh v corner other is_corner.vertex
+    (h.joined corner other is_corner.side is_other.side (same corner other is_corner is_other))
 
-pub same_from_one_ring : (mesh : FaceList) (rings : List ℕ) (v : ℕ) (corner other : Side) → AreRings mesh rings → HasOneRing mesh v → IsCornerAt mesh v corner → IsCornerAt mesh v other
+pub same_from_one_ring : (mesh : FaceList) (rings : List ℕ) (v : ℕ) (corner other : Side) → AreRings mesh rings → HasOneRing mesh v
+    → IsCornerAt mesh v corner → IsCornerAt mesh v other
     → get_or rings (side_number mesh corner) 0 ≡ get_or rings (side_number mesh other) 0
 same_from_one_ring mesh rings v corner other h ring is_corner is_other =
     let joined : AreJoined (IsStepAround mesh v) corner other = ring corner other is_corner is_other in
     joined_keep (IsStepAround mesh v) (λ (side : Side). get_or rings (side_number mesh side) 0)
-    (λ x y step. h.steps x y (subst (λ w. IsStepAround mesh w x y) (sym (corner_vertex mesh v step.side x step.from)) step)) corner joined.0 other joined.1
+    (λ x y step. h.steps x y (subst (λ w. IsStepAround mesh w x y) (sym (corner_vertex mesh v step.side x step.from)) step)) corner
+    joined.0 other joined.1
 
 pub corner_used : (mesh : FaceList) (v : ℕ) (corner : Side) → IsCornerAt mesh v corner → is_used mesh v ≡ true
 unfolding is_used

@@ -50,7 +50,8 @@ pub edge_used : (mesh : FaceList) (u v : ℕ) → is_edge mesh u v ≡ true → 
 edge_used mesh u v is =
     let found : HasSideBetween mesh u v = side_between mesh u v is in
     elim found.ends [
-      | inl e ↦ corner_used mesh v (side_after mesh found.side) (record { side = after_in_mesh mesh found.side found.in_mesh; vertex = e.1 })
+      | inl e ↦ corner_used mesh v (side_after mesh found.side)
+          (record { side = after_in_mesh mesh found.side found.in_mesh; vertex = e.1 })
       | inr e ↦ corner_used mesh v found.side (record { side = found.in_mesh; vertex = e.0 })
     ]
 
@@ -89,16 +90,19 @@ sides_by_table mesh table u v h is =
     let size : length edge.sides ≡ sides_between mesh edge.low edge.high = sides_of_edge mesh edge (h.edges found.edge _ found.in_table) in
     elim found.ends [
       | inl e ↦ ap (λ a. sides_between mesh a v) (sym e.0) ∙ ap (sides_between mesh edge.low) (sym e.1) ∙ sym size
-      | inr e ↦ sides_between_swap mesh u v ∙ ap (λ a. sides_between mesh a u) (sym e.0) ∙ ap (sides_between mesh edge.low) (sym e.1) ∙ sym size
+      | inr e ↦ sides_between_swap mesh u v ∙ ap (λ a. sides_between mesh a u) (sym e.0) ∙ ap (sides_between mesh edge.low) (sym e.1)
+          ∙ sym size
     ]
 
-pub two_sides_from_table : (mesh : FaceList) (table : List Edge) → IsTableOf mesh table → ((k : ℕ) → k < length table → length (edge_in table k).sides ≡ 2)
+pub two_sides_from_table : (mesh : FaceList) (table : List Edge) → IsTableOf mesh table
+    → ((k : ℕ) → k < length table → length (edge_in table k).sides ≡ 2)
     → EachEdgeHasTwoSides mesh
 two_sides_from_table mesh table h two u v is =
     let found : IsEdgeBetween table u v = edge_between mesh table u v h is in
     sides_by_table mesh table u v h is ∙ two found.edge found.in_table
 
-pub table_from_two_sides : (mesh : FaceList) (table : List Edge) (k : ℕ) → IsTableOf mesh table → EachEdgeHasTwoSides mesh → k < length table
+pub table_from_two_sides : (mesh : FaceList) (table : List Edge) (k : ℕ) → IsTableOf mesh table → EachEdgeHasTwoSides mesh
+    → k < length table
     → length (edge_in table k).sides ≡ 2
 table_from_two_sides mesh table k h two l =
     sides_of_edge mesh (edge_in table k) (h.edges k _ l) ∙ two (edge_in table k).low (edge_in table k).high (table_pair mesh table k h l)
@@ -119,12 +123,15 @@ least_uneven mesh table k h first =
           let is_other : IsEdgeOf mesh other = h.edges found.edge _ found.in_table in
           let same = same_pair a b other.low other.high up is_other.ordered found.ends in
           let there : IsPairBefore other.low other.high edge.low edge.high =
-          subst (λ x. IsPairBefore x other.high edge.low edge.high) (sym same.0) (subst (λ x. IsPairBefore a x edge.low edge.high) (sym same.1) before) in
-          sides_by_table mesh table a b h is_ab ∙ first.least found.edge (place_before mesh table found.edge k h found.in_table first.in_table there);
+          subst (λ x. IsPairBefore x other.high edge.low edge.high) (sym same.0)
+          (subst (λ x. IsPairBefore a x edge.low edge.high) (sym same.1) before) in
+          sides_by_table mesh table a b h is_ab ∙ first.least found.edge
+          (place_before mesh table found.edge k h found.in_table first.in_table there);
     }
 
 pub uneven_as_read : (mesh : FaceList) (table : List Edge) (k low high sides : ℕ) → IsTableOf mesh table → IsFirstUneven table k
-    → low ≡ (edge_in table k).low → high ≡ (edge_in table k).high → sides ≡ length (edge_in table k).sides → IsLeastUnevenEdge mesh low high sides
+    → low ≡ (edge_in table k).low → high ≡ (edge_in table k).high → sides ≡ length (edge_in table k).sides
+    → IsLeastUnevenEdge mesh low high sides
 uneven_as_read mesh table k low high sides h first is_low is_high is_sides =
     subst (λ a. IsLeastUnevenEdge mesh a high sides) (sym is_low)
     (subst (λ b. IsLeastUnevenEdge mesh (edge_in table k).low b sides) (sym is_high)

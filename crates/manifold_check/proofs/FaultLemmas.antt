@@ -31,7 +31,8 @@ pair_cases a b c d =
 uneven_not_two : (mesh : FaceList) (low high sides : ℕ) → IsLeastUnevenEdge mesh low high sides → sides_between mesh low high ≡ 2 → ⊥
 uneven_not_two mesh low high sides h two = h.uneven (h.number ∙ two)
 
-pub one_edge : (mesh : FaceList) (a b s c d t : ℕ) → IsLeastUnevenEdge mesh a b s → IsLeastUnevenEdge mesh c d t → (a ≡ c) × (b ≡ d) × (s ≡ t)
+pub one_edge : (mesh : FaceList) (a b s c d t : ℕ) → IsLeastUnevenEdge mesh a b s → IsLeastUnevenEdge mesh c d t → (a ≡ c) × (b ≡ d)
+    × (s ≡ t)
 one_edge mesh a b s c d t h k =
     elim (pair_cases a b c d) [
       | inl before ↦ absurd (uneven_not_two mesh a b s h (k.least a b h.ordered h.edge before))
@@ -83,14 +84,19 @@ one_fault mesh (EdgeSides low high sides) NoFace h k = absurd (omega (arith, h.s
 one_fault mesh (EdgeSides a b s) (EdgeSides c d t) h k =
     let same = one_edge mesh a.0 b.0 s c.0 d.0 t h.edge k.edge in
     ap (λ x. EdgeSides x b s) (same_name a c same.0) ∙ ap (λ x. EdgeSides c x s) (same_name b d same.1) ∙ ap (EdgeSides c d) same.2
-one_fault mesh (EdgeSides low high sides) (Pinched vertex) h k = absurd (uneven_not_two mesh low.0 high.0 sides h.edge (k.two_sides low.0 high.0 h.edge.edge))
-one_fault mesh (EdgeSides low high sides) (Apart vertex another) h k = absurd (uneven_not_two mesh low.0 high.0 sides h.edge (k.two_sides low.0 high.0 h.edge.edge))
+one_fault mesh (EdgeSides low high sides) (Pinched vertex) h k =
+    absurd (uneven_not_two mesh low.0 high.0 sides h.edge (k.two_sides low.0 high.0 h.edge.edge))
+one_fault mesh (EdgeSides low high sides) (Apart vertex another) h k =
+    absurd (uneven_not_two mesh low.0 high.0 sides h.edge (k.two_sides low.0 high.0 h.edge.edge))
 one_fault mesh (Pinched vertex) NoFace h k = absurd (omega (arith, h.some_face))
-one_fault mesh (Pinched vertex) (EdgeSides low high sides) h k = absurd (uneven_not_two mesh low.0 high.0 sides k.edge (h.two_sides low.0 high.0 k.edge.edge))
-one_fault mesh (Pinched vertex) (Pinched another) h k = ap Pinched (same_name vertex another (one_pinch mesh vertex.0 another.0 h.vertex k.vertex))
+one_fault mesh (Pinched vertex) (EdgeSides low high sides) h k =
+    absurd (uneven_not_two mesh low.0 high.0 sides k.edge (h.two_sides low.0 high.0 k.edge.edge))
+one_fault mesh (Pinched vertex) (Pinched another) h k =
+    ap Pinched (same_name vertex another (one_pinch mesh vertex.0 another.0 h.vertex k.vertex))
 one_fault mesh (Pinched vertex) (Apart first second) h k = absurd (h.vertex.pinched (k.one_ring vertex.0 h.vertex.used))
 one_fault mesh (Apart first second) NoFace h k = absurd (omega (arith, h.some_face))
-one_fault mesh (Apart first second) (EdgeSides low high sides) h k = absurd (uneven_not_two mesh low.0 high.0 sides k.edge (h.two_sides low.0 high.0 k.edge.edge))
+one_fault mesh (Apart first second) (EdgeSides low high sides) h k =
+    absurd (uneven_not_two mesh low.0 high.0 sides k.edge (h.two_sides low.0 high.0 k.edge.edge))
 one_fault mesh (Apart first second) (Pinched vertex) h k = absurd (k.vertex.pinched (h.one_ring vertex.0 k.vertex.used))
 one_fault mesh (Apart u v) (Apart x y) h k =
     let first : u.0 ≡ x.0 = one_least mesh u.0 x.0 h.vertices.vertex k.vertices.vertex in
@@ -100,7 +106,8 @@ one_fault mesh (Apart u v) (Apart x y) h k =
 -- a closed surface has none
 pub no_fault : (mesh : FaceList) (fault : SurfaceFault) → IsClosed mesh → IsFirstFault mesh fault → ⊥
 no_fault mesh NoFace closed h = omega (arith, closed.some_face)
-no_fault mesh (EdgeSides low high sides) closed h = uneven_not_two mesh low.0 high.0 sides h.edge (closed.two_sides low.0 high.0 h.edge.edge)
+no_fault mesh (EdgeSides low high sides) closed h =
+    uneven_not_two mesh low.0 high.0 sides h.edge (closed.two_sides low.0 high.0 h.edge.edge)
 no_fault mesh (Pinched vertex) closed h = h.vertex.pinched (closed.one_ring vertex.0 h.vertex.used)
 no_fault mesh (Apart vertex other) closed h = h.vertices.apart (closed.connected vertex.0 other.0 h.vertices.vertex.used h.vertices.used)
 no_fault mesh OutOfMemory closed h = h

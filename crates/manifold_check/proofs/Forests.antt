@@ -25,7 +25,8 @@ ancestor_le parents zero x h = omega arith
 ancestor_le parents (suc steps) x h = omega (arith, ancestor_le parents steps (get_or parents x 0) h, parent_le parents x h)
 
 -- x steps are enough
-ancestor_more : (parents : List ℕ) (steps x : ℕ) → IsForest parents → x ≤ steps → ancestor parents steps (get_or parents x 0) ≡ ancestor parents steps x
+ancestor_more : (parents : List ℕ) (steps x : ℕ) → IsForest parents → x ≤ steps
+    → ancestor parents steps (get_or parents x 0) ≡ ancestor parents steps x
 ancestor_more parents zero x h l = omega (arith, parent_le parents x h)
 ancestor_more parents (suc steps) x h l =
     let parent : ℕ = get_or parents x 0 in
@@ -35,7 +36,8 @@ ancestor_more parents (suc steps) x h l =
       | inr other ↦ ancestor_more parents steps parent h (omega arith)
     ]
 
-ancestor_is_root : (parents : List ℕ) (steps x : ℕ) → IsForest parents → x ≤ steps → get_or parents (ancestor parents steps x) 0 ≡ ancestor parents steps x
+ancestor_is_root : (parents : List ℕ) (steps x : ℕ) → IsForest parents → x ≤ steps
+    → get_or parents (ancestor parents steps x) 0 ≡ ancestor parents steps x
 ancestor_is_root parents zero x h l = omega (arith, parent_le parents x h)
 ancestor_is_root parents (suc steps) x h l =
     let parent : ℕ = get_or parents x 0 in
@@ -56,7 +58,8 @@ label-ancestor parents label zero x h names l = refl
 label-ancestor parents label (suc steps) x h names l =
     label-ancestor parents label steps (get_or parents x 0) h names (omega (arith, parent_le parents x h)) ∙ names.shared x l
 
-pub root_root : (parents : List ℕ) (x : ℕ) → IsForest parents → x < length parents → get_or parents (root_of parents x) 0 ≡ root_of parents x
+pub root_root : (parents : List ℕ) (x : ℕ) → IsForest parents → x < length parents
+    → get_or parents (root_of parents x) 0 ≡ root_of parents x
 unfolding root_of
 root_root parents x h l = ancestor_is_root parents (length parents) x h (omega arith)
 
@@ -75,12 +78,14 @@ pub root_own : (parents : List ℕ) (x : ℕ) → IsForest parents → x < lengt
 root_own parents x h l same = (root_labels parents h).own x l same
 
 -- such names are the roots
-pub label_is_root : (parents : List ℕ) (label : ℕ → ℕ) (x : ℕ) → IsForest parents → IsLabelling parents label → x < length parents → root_of parents x ≡ label x
+pub label_is_root : (parents : List ℕ) (label : ℕ → ℕ) (x : ℕ) → IsForest parents → IsLabelling parents label → x < length parents
+    → root_of parents x ≡ label x
 unfolding root_of
 label_is_root parents label x h names l =
     let root : ℕ = ancestor parents (length parents) x in
     let below : root ≤ x = ancestor_le parents (length parents) x h in
-    sym (names.own root (omega arith) (ancestor_is_root parents (length parents) x h (omega arith))) ∙ label-ancestor parents label (length parents) x h names l
+    sym (names.own root (omega arith) (ancestor_is_root parents (length parents) x h (omega arith)))
+    ∙ label-ancestor parents label (length parents) x h names l
 
 -- x is put below the parent of its parent
 abbrev pub lifted : List ℕ → ℕ → List ℕ
@@ -112,7 +117,8 @@ lifted_roots parents x h l =
     let names : IsLabelling after (root_of parents) = record {
       shared = λ y b. elim (cases_eq y x) [
         | inl same ↦
-            ap (root_of parents) (ap (λ z. get_or after z 0) same ∙ here) ∙ old.shared parent (omega arith) ∙ old.shared x l ∙ ap (root_of parents) (sym same)
+            ap (root_of parents) (ap (λ z. get_or after z 0) same ∙ here) ∙ old.shared parent (omega arith) ∙ old.shared x l
+            ∙ ap (root_of parents) (sym same)
         | inr other ↦ ap (root_of parents) (get_or-set_other parents x y above 0 other) ∙ old.shared y (omega (arith, b, long))
       ];
       own = λ y b own. elim (cases_eq y x) [
@@ -137,7 +143,8 @@ same_roots_trans parents others more h k = record {
 }
 
 -- the greater of two roots is put below the lesser
-pub linked_forest : (parents : List ℕ) (low high : ℕ) → IsForest parents → low ≤ high → high < length parents → IsForest (set parents high low)
+pub linked_forest : (parents : List ℕ) (low high : ℕ) → IsForest parents → low ≤ high → high < length parents
+    → IsForest (set parents high low)
 linked_forest parents low high h o l = record {
   falls = λ y b. elim (cases_eq y high) [
     | inl same ↦ omega (arith, ap (λ z. get_or (set parents high low) z 0) same, get_or-set_same parents high low 0 l)
@@ -193,7 +200,8 @@ same_roots_of parents others h =
     ext_get_or 0 (roots_of others) (roots_of parents) (omega (arith, length-roots_of parents, length-roots_of others, h.count))
     (λ x l.
     let few : x < length others = omega (arith, l, length-roots_of others) in
-    get_or-roots_of others x 0 few ∙ h.roots x (omega (arith, few, h.count)) ∙ sym (get_or-roots_of parents x 0 (omega (arith, few, h.count))))
+    get_or-roots_of others x 0 few ∙ h.roots x (omega (arith, few, h.count))
+    ∙ sym (get_or-roots_of parents x 0 (omega (arith, few, h.count))))
 
 pub roots_of-linked : (parents : List ℕ) (x y low high : ℕ) → IsForest parents → x < length parents → y < length parents
     → low ≡ min (root_of parents x) (root_of parents y) → high ≡ max (root_of parents x) (root_of parents y)
@@ -220,14 +228,20 @@ roots_of-linked parents x y low high h lx ly is_low is_high =
     let few : z < length parents = omega (arith, l, length-roots_of after, long) in
     get_or-roots_of after z 0 (omega (arith, few, long))
     ∙ root-linked parents low high z h (omega arith) (omega arith) (is_root low low_is) (is_root high high_is) few
-    ∙ ap (λ w. renamed w low (root_of parents z)) (is_high ∙ ap (λ w. max w (root_of parents y)) (sym rx) ∙ ap (λ w. max (get_or (roots_of parents) x 0) w) (sym ry))
-    ∙ ap (λ w. renamed (max (get_or (roots_of parents) x 0) (get_or (roots_of parents) y 0)) w (root_of parents z)) (is_low ∙ ap (λ w. min w (root_of parents y)) (sym rx) ∙ ap (λ w. min (get_or (roots_of parents) x 0) w) (sym ry))
-    ∙ ap (renamed (max (get_or (roots_of parents) x 0) (get_or (roots_of parents) y 0)) (min (get_or (roots_of parents) x 0) (get_or (roots_of parents) y 0))) (sym (get_or-roots_of parents z 0 few))
-    ∙ sym (get_or-map (renamed (max (get_or (roots_of parents) x 0) (get_or (roots_of parents) y 0)) (min (get_or (roots_of parents) x 0) (get_or (roots_of parents) y 0))) (roots_of parents) z 0 0 (omega (arith, few, length-roots_of parents))))
+    ∙ ap (λ w. renamed w low (root_of parents z)) (is_high ∙ ap (λ w. max w (root_of parents y)) (sym rx)
+    ∙ ap (λ w. max (get_or (roots_of parents) x 0) w) (sym ry))
+    ∙ ap (λ w. renamed (max (get_or (roots_of parents) x 0) (get_or (roots_of parents) y 0)) w (root_of parents z))
+    (is_low ∙ ap (λ w. min w (root_of parents y)) (sym rx) ∙ ap (λ w. min (get_or (roots_of parents) x 0) w) (sym ry))
+    ∙ ap (renamed (max (get_or (roots_of parents) x 0) (get_or (roots_of parents) y 0))
+    (min (get_or (roots_of parents) x 0) (get_or (roots_of parents) y 0))) (sym (get_or-roots_of parents z 0 few))
+    ∙ sym (get_or-map (renamed (max (get_or (roots_of parents) x 0) (get_or (roots_of parents) y 0))
+    (min (get_or (roots_of parents) x 0) (get_or (roots_of parents) y 0))) (roots_of parents) z 0 0
+    (omega (arith, few, length-roots_of parents))))
 
 -- at first each number is a root
 pub range_more : (n : ℕ) → range_with_len 0 (n + 1) ≡ range_with_len 0 n ++ n ∷ []
-range_more n = sym (map-id (range_with_len 0 (n + 1))) ∙ map-range_with_len_more (λ x. x) 0 n n (omega arith) ∙ ap (λ (l : List ℕ). l ++ n ∷ []) (map-id (range_with_len 0 n))
+range_more n = sym (map-id (range_with_len 0 (n + 1))) ∙ map-range_with_len_more (λ x. x) 0 n n (omega arith)
+    ∙ ap (λ (l : List ℕ). l ++ n ∷ []) (map-id (range_with_len 0 n))
 
 pub range_forest : (n : ℕ) → IsForest (range_with_len 0 n)
 range_forest n = record { falls = λ x l. omega (arith, length-range_with_len 0 n, get_or-range_with_len 0 n x 0) }
@@ -253,5 +267,6 @@ roots_are_least parents h =
           let few : x < length parents = omega (arith, l, size) in
           let root : ℕ = root_of parents x in
           let below : root < length parents = omega (arith, few, root_le parents x h) in
-          ap (λ y. get_or (roots_of parents) y 0) (read x few) ∙ read root below ∙ root_own parents root h below (root_root parents x h few) ∙ sym (read x few);
+          ap (λ y. get_or (roots_of parents) y 0) (read x few) ∙ read root below
+          ∙ root_own parents root h below (root_root parents x h few) ∙ sym (read x few);
     }

@@ -8,7 +8,8 @@ use Rattle.surf_model.specs.Surfaces.{IsPath, AreJoined}
 use Rattle.manifold_check.specs.Classes.{renamed, joined_at}
 use Rattle.manifold_check.specs.Partitions.{JoinsOnlyBySteps}
 
-path-append : {X : Type 0} (step : X → X → Type 0) (x : X) (path : List X) (y : X) (more : List X) (z : X) → IsPath step x path y → IsPath step y more z
+path-append : {X : Type 0} (step : X → X → Type 0) (x : X) (path : List X) (y : X) (more : List X) (z : X) → IsPath step x path y
+    → IsPath step y more z
     → IsPath step x (path ++ more) z
 path-append step x [] y more z h k = subst (λ w. IsPath step w more z) (sym h) k
 path-append step x (w ∷ path) y more z h k = (h.0, path-append step w path y more z h.1 k)
@@ -22,16 +23,19 @@ joined_step step x y h = (y ∷ [], (h, refl))
 pub joined_trans : {X : Type 0} (step : X → X → Type 0) (x y z : X) → AreJoined step x y → AreJoined step y z → AreJoined step x z
 joined_trans step x y z h k = (h.0 ++ k.0, path-append step x h.0 y k.0 z h.1 k.1)
 
-joined_back : {X : Type 0} (step : X → X → Type 0) → ((x y : X) → step x y → step y x) → (x : X) (path : List X) (y : X) → IsPath step x path y → AreJoined step y x
+joined_back : {X : Type 0} (step : X → X → Type 0) → ((x y : X) → step x y → step y x) → (x : X) (path : List X) (y : X)
+    → IsPath step x path y → AreJoined step y x
 joined_back step back x [] y h = joined_refl step y x (sym h)
 joined_back step back x (z ∷ path) y h = joined_trans step y z x (joined_back step back z path y h.1) (joined_step step z x (back x z h.0))
 
 -- steps that lead back too
-pub joined_sym : {X : Type 0} (step : X → X → Type 0) → ((x y : X) → step x y → step y x) → (x y : X) → AreJoined step x y → AreJoined step y x
+pub joined_sym : {X : Type 0} (step : X → X → Type 0) → ((x y : X) → step x y → step y x) → (x y : X) → AreJoined step x y
+    → AreJoined step y x
 joined_sym step back x y h = joined_back step back x h.0 y h.1
 
 -- what steps keep is the same at both ends
-pub joined_keep : {X Y : Type 0} (step : X → X → Type 0) (f : X → Y) → ((x y : X) → step x y → f x ≡ f y) → (x : X) (path : List X) (y : X) → IsPath step x path y → f x ≡ f y
+pub joined_keep : {X Y : Type 0} (step : X → X → Type 0) (f : X → Y) → ((x y : X) → step x y → f x ≡ f y)
+    → (x : X) (path : List X) (y : X) → IsPath step x path y → f x ≡ f y
 joined_keep step f keeps x [] y h = ap f h
 joined_keep step f keeps x (z ∷ path) y h = keeps x z h.0 ∙ joined_keep step f keeps z path y h.1
 
@@ -56,7 +60,8 @@ renamed_cases : (p q r s : ℕ) → renamed (max p q) (min p q) r ≡ renamed (m
 renamed_cases p q r s h = grind (arith, nat_tests)
 
 -- the two that are joined have one entry
-pub joined_at_ends : (least : List ℕ) (x y : ℕ) → x < length least → y < length least → get_or (joined_at least x y) x 0 ≡ get_or (joined_at least x y) y 0
+pub joined_at_ends : (least : List ℕ) (x y : ℕ) → x < length least → y < length least
+    → get_or (joined_at least x y) x 0 ≡ get_or (joined_at least x y) y 0
 joined_at_ends least x y l k =
     get_or-joined_at least x y x l ∙ renamed_ends (get_or least x 0) (get_or least y 0) ∙ sym (get_or-joined_at least x y y k)
 
@@ -74,7 +79,8 @@ joins_only-joined_at {X} IsThing number step least a b h within is_a is_b there 
     let p : ℕ = get_or least (number a) 0 in
     let q : ℕ = get_or least (number b) 0 in
     let renamed_same : renamed (max p q) (min p q) (get_or least (number x) 0) ≡ renamed (max p q) (min p q) (get_or least (number y) 0) =
-    sym (get_or-joined_at least (number a) (number b) (number x) (within x is_x)) ∙ same ∙ get_or-joined_at least (number a) (number b) (number y) (within y is_y) in
+    sym (get_or-joined_at least (number a) (number b) (number x) (within x is_x)) ∙ same
+    ∙ get_or-joined_at least (number a) (number b) (number y) (within y is_y) in
     elim (renamed_cases p q (get_or least (number x) 0) (get_or least (number y) 0) renamed_same) [
       | inl e ↦ h x y is_x is_y e
       | inr other ↦ elim other [

@@ -26,7 +26,8 @@ up_to P n below here k l =
       | inr more ↦ let same : n ≡ k = omega arith in subst P same here
     ]
 
-fair_row : (mesh : FaceList) (a : ℕ) → 0 < length mesh.faces → HasNoFault mesh → ((x : ℕ) → x < a → (b : ℕ) → IsFair mesh x b) → (m b : ℕ) → b < m → IsFair mesh a b
+fair_row : (mesh : FaceList) (a : ℕ) → 0 < length mesh.faces → HasNoFault mesh → ((x : ℕ) → x < a → (b : ℕ) → IsFair mesh x b)
+    → (m b : ℕ) → b < m → IsFair mesh a b
 fair_row mesh a some none above zero b l = absurd (omega arith)
 fair_row mesh a some none above (suc m) b l =
     let before : (y : ℕ) → y < m → IsFair mesh a y = λ y less. fair_row mesh a some none above m y less in
@@ -103,7 +104,8 @@ least_below mesh (suc n) =
       | inr found ↦ inr found
     ]
 
-walks_below : (mesh : FaceList) (u : ℕ) → 0 < length mesh.faces → EachEdgeHasTwoSides mesh → EachVertexHasOneRing mesh → HasNoFault mesh → IsLeastUsed mesh u → (n : ℕ)
+walks_below : (mesh : FaceList) (u : ℕ) → 0 < length mesh.faces → EachEdgeHasTwoSides mesh → EachVertexHasOneRing mesh → HasNoFault mesh
+    → IsLeastUsed mesh u → (n : ℕ)
     → (((w : ℕ) → w < n → is_used mesh w ≡ true → AreJoinedByWalk mesh u w) → ⊥) → ⊥
 walks_below mesh u some two ring none least zero k = k (λ w l. absurd (omega arith))
 walks_below mesh u some two ring none least (suc n) k =
@@ -122,7 +124,8 @@ walks_below mesh u some two ring none least (suc n) k =
               least = below;
             };
           })
-      | inr unused ↦ k (up_to (λ w. is_used mesh w ≡ true → AreJoinedByWalk mesh u w) n below (λ x. absurd (both_ways (is_used mesh n) unused x)))
+      | inr unused ↦ k (up_to (λ w. is_used mesh w ≡ true → AreJoinedByWalk mesh u w) n below
+          (λ x. absurd (both_ways (is_used mesh n) unused x)))
     ])
 
 -- no face list is neither closed nor at fault
@@ -136,13 +139,15 @@ closed_or_fault mesh valid open_one none =
           rings_below mesh some two none mesh.count
           (λ rings.
           let ring : EachVertexHasOneRing mesh = λ w used. rings w (used_below mesh w valid used) used in
-          let closed : EachTwoAreJoined mesh → ⊥ = λ joined. open_one (record { some_face = some; two_sides = two; one_ring = ring; connected = joined }) in
+          let closed : EachTwoAreJoined mesh → ⊥ = λ joined. open_one
+          (record { some_face = some; two_sides = two; one_ring = ring; connected = joined }) in
           elim (least_below mesh mesh.count) [
             | inl unused ↦ closed (λ u v used_u used_v. absurd (unused u (used_below mesh u valid used_u) used_u))
             | inr found ↦
                 walks_below mesh found.0 some two ring none found.1 mesh.count
                 (λ walks.
                 closed (λ v w used_v used_w.
-                walk_between_ends mesh found.0 v w used_v (walks v (used_below mesh v valid used_v) used_v) (walks w (used_below mesh w valid used_w) used_w)))
+                walk_between_ends mesh found.0 v w used_v (walks v (used_below mesh v valid used_v) used_v)
+                (walks w (used_below mesh w valid used_w) used_w)))
           ]))
     ]

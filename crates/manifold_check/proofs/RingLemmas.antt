@@ -29,7 +29,8 @@ pub record HasPartner (mesh : FaceList) (side : Side) (n : ℕ) : Type 0 where
   pub only : (other : Side) → ArePartners mesh side other → other ≡ partner
 
 -- one of two sides
-first_or_second : (sides : List Side) (d side : Side) → length sides ≡ 2 → Contains sides side → (get_or sides 0 d ≡ side) ⊎ (get_or sides 1 d ≡ side)
+first_or_second : (sides : List Side) (d side : Side) → length sides ≡ 2 → Contains sides side → (get_or sides 0 d ≡ side)
+    ⊎ (get_or sides 1 d ≡ side)
 first_or_second sides d side two (zero, l, is) = inl (get_or_default sides 0 d side l ∙ is)
 first_or_second sides d side two (suc zero, l, is) = inr (get_or_default sides 1 d side l ∙ is)
 first_or_second sides d side two (suc (suc k), l, is) = absurd (omega arith)
@@ -46,7 +47,8 @@ record IsAtPlace (mesh : FaceList) (table : List Edge) (k i : ℕ) (side : Side)
   here : get_or (edge_in table k).sides i side ≡ side
 
 -- each partner of the side stands in its edge too
-partner_in_edge : (mesh : FaceList) (table : List Edge) (k i : ℕ) (side other : Side) → IsAtPlace mesh table k i side → ArePartners mesh side other
+partner_in_edge : (mesh : FaceList) (table : List Edge) (k i : ℕ) (side other : Side) → IsAtPlace mesh table k i side
+    → ArePartners mesh side other
     → Contains (edge_in table k).sides other
 partner_in_edge mesh table k i side other h partners =
     let edge : Edge = edge_in table k in
@@ -60,7 +62,8 @@ partner_at mesh table k i side h =
     let sides : List Side = (edge_in table k).sides in
     let first : Side = get_or sides 0 side in
     let second : Side = get_or sides 1 side in
-    let pair : ArePartners mesh first second = partners_of_edge mesh table k 0 1 side h.table_of h.in_table (omega arith) (omega (arith, h.two)) in
+    let pair : ArePartners mesh first second = partners_of_edge mesh table k 0 1 side h.table_of h.in_table (omega arith)
+    (omega (arith, h.two)) in
     let one_of : (other : Side) → ArePartners mesh side other → (first ≡ other) ⊎ (second ≡ other) =
     λ other partners. first_or_second sides side other h.two (partner_in_edge mesh table k i side other h partners) in
     elim (next_of_two (length sides) i h.two h.in_edge) [
@@ -91,7 +94,8 @@ partner_at mesh table k i side h =
     ]
 
 -- the next side of an edge of two is the partner
-pub has_partner : (mesh : FaceList) (table : List Edge) (side : Side) (dart next : ℕ) → IsTableOf mesh table → EachEdgeHasTwoSides mesh → IsSide mesh side
+pub has_partner : (mesh : FaceList) (table : List Edge) (side : Side) (dart next : ℕ) → IsTableOf mesh table → EachEdgeHasTwoSides mesh
+    → IsSide mesh side
     → dart ≡ side_number mesh side → IsNextInEdge mesh table dart next → HasPartner mesh side next
 has_partner mesh table side dart next is each in_mesh number h =
     let edge : Edge = edge_in table h.edge in
@@ -99,7 +103,8 @@ has_partner mesh table side dart next is each in_mesh number h =
     let size : length (map (side_number mesh) sides) ≡ length sides = length-map sides (side_number mesh) in
     let few : h.place < length sides = omega (arith, h.in_edge, size) in
     let at : side_number mesh (get_or sides h.place side) ≡ dart = sym (get_or-map (side_number mesh) sides h.place side 0 few) ∙ h.here in
-    let stands : IsSideOfEdge mesh edge (get_or sides h.place side) = side_of_edge mesh edge h.place side (table_edge mesh table h.edge is h.in_table) few in
+    let stands : IsSideOfEdge mesh edge (get_or sides h.place side) =
+    side_of_edge mesh edge h.place side (table_edge mesh table h.edge is h.in_table) few in
     let turned : ℕ = next_corner true (length sides) h.place in
     let there : side_number mesh (get_or sides turned side) ≡ next =
     sym (get_or-map (side_number mesh) sides turned side 0 (next_within (length sides) h.place few))
@@ -116,7 +121,8 @@ pub partner_below : (mesh : FaceList) (side : Side) (n : ℕ) → HasPartner mes
 partner_below mesh side n h = omega (arith, h.number, number_below mesh h.partner h.partners.second)
 
 -- the side with the number of the partner is the partner
-pub partners_by_number : (mesh : FaceList) (side other : Side) (n : ℕ) → HasPartner mesh side n → IsSide mesh other → side_number mesh other ≡ n → ArePartners mesh side other
+pub partners_by_number : (mesh : FaceList) (side other : Side) (n : ℕ) → HasPartner mesh side n → IsSide mesh other
+    → side_number mesh other ≡ n → ArePartners mesh side other
 partners_by_number mesh side other n h is number =
     subst (ArePartners mesh side) (number_once mesh h.partner other h.partners.second is (h.number ∙ sym number)) h.partners
 
@@ -128,7 +134,8 @@ record AreMadeOne (mesh : FaceList) (old new : List ℕ) (corner other : Side) :
   steps : JoinsOnlyByCornerSteps mesh old → JoinsOnlyByCornerSteps mesh new
 
 -- so it is at the corners of partners at a vertex
-made_one : (mesh : FaceList) (least : List ℕ) (v : ℕ) (side partner corner other : Side) → length least ≡ total_sides mesh → ArePartners mesh side partner
+made_one : (mesh : FaceList) (least : List ℕ) (v : ℕ) (side partner corner other : Side) → length least ≡ total_sides mesh
+    → ArePartners mesh side partner
     → IsCornerOfSide mesh v side corner → IsCornerOfSide mesh v partner other
     → AreMadeOne mesh least (joined_at least (side_number mesh corner) (side_number mesh other)) corner other
 made_one mesh least v side partner corner other count partners from to =
@@ -138,10 +145,12 @@ made_one mesh least v side partner corner other count partners from to =
     let is_b : IsSide mesh other = corner_in_mesh mesh v partner other partners.second to in
     record {
       count = length-joined_at least a b ∙ count;
-      same = joined_at_ends least a b (omega (arith, count, number_below mesh corner is_a)) (omega (arith, count, number_below mesh other is_b));
+      same = joined_at_ends least a b (omega (arith, count, number_below mesh corner is_a))
+          (omega (arith, count, number_below mesh other is_b));
       kept = λ x y l k. joined_at_keeps least a b x y l k;
       steps = λ h.
-          joins_only-joined_at (IsSide mesh) (side_number mesh) (IsCornerStep mesh) least corner other h (λ x is. omega (arith, count, number_below mesh x is)) is_a is_b
+          joins_only-joined_at (IsSide mesh) (side_number mesh) (IsCornerStep mesh) least corner other h
+          (λ x is. omega (arith, count, number_below mesh x is)) is_a is_b
           (step_across mesh v side partner corner other partners from to)
           (step_across mesh v partner side other corner (partners_swap mesh side partner partners) to from);
     }
@@ -162,11 +171,13 @@ record HasCornersAcross (mesh : FaceList) (side partner first last : Side) : Typ
 made_joined : (mesh : FaceList) (least : List ℕ) (side partner first last : Side) → IsFaceList mesh → length least ≡ total_sides mesh
     → HasCornersAcross mesh side partner first last
     → AreMadeJoined mesh least
-    (joined_at (joined_at least (side_number mesh side) (side_number mesh first)) (side_number mesh (side_after mesh side)) (side_number mesh last)) side partner
+    (joined_at (joined_at least (side_number mesh side) (side_number mesh first)) (side_number mesh (side_after mesh side))
+    (side_number mesh last)) side partner
 made_joined mesh least side partner first last valid count h =
     let once : List ℕ = joined_at least (side_number mesh side) (side_number mesh first) in
     let twice : List ℕ = joined_at once (side_number mesh (side_after mesh side)) (side_number mesh last) in
-    let start : AreMadeOne mesh least once side first = made_one mesh least (tail_of mesh side) side partner side first count h.partners (inl (refl, refl)) h.at_start in
+    let start : AreMadeOne mesh least once side first =
+    made_one mesh least (tail_of mesh side) side partner side first count h.partners (inl (refl, refl)) h.at_start in
     let end : AreMadeOne mesh once twice (side_after mesh side) last =
     made_one mesh once (head_of mesh side) side partner (side_after mesh side) last start.count h.partners (inr (refl, refl)) h.at_end in
     let size : length once ≡ length least = start.count ∙ sym count in
@@ -175,7 +186,8 @@ made_joined mesh least side partner first last valid count h =
     let start_same : get_or twice (side_number mesh side) 0 ≡ get_or twice (side_number mesh first) 0 =
     end.kept (side_number mesh side) (side_number mesh first) (below (tail_of mesh side) side side h.partners.first (inl (refl, refl)))
     (below (tail_of mesh side) partner first h.partners.second h.at_start) start.same in
-    let as_these : (corner other this that : Side) → corner ≡ this → other ≡ that → get_or twice (side_number mesh this) 0 ≡ get_or twice (side_number mesh that) 0
+    let as_these : (corner other this that : Side) → corner ≡ this → other ≡ that
+    → get_or twice (side_number mesh this) 0 ≡ get_or twice (side_number mesh that) 0
     → get_or twice (side_number mesh corner) 0 ≡ get_or twice (side_number mesh other) 0 =
     λ corner other this that is_this is_that same.
     ap (λ s. get_or twice (side_number mesh s) 0) is_this ∙ same ∙ ap (λ s. get_or twice (side_number mesh s) 0) (sym is_that) in
@@ -185,17 +197,21 @@ made_joined mesh least side partner first last valid count h =
           elim (corner_end mesh v side corner from) [
             | inl at ↦
                 as_these corner other side first (one_corner mesh v side corner side valid h.partners.first from (inl (at, refl)))
-                (one_corner mesh v partner other first valid h.partners.second to (subst (λ u. IsCornerOfSide mesh u partner first) at h.at_start)) start_same
+                (one_corner mesh v partner other first valid h.partners.second to
+                (subst (λ u. IsCornerOfSide mesh u partner first) at h.at_start)) start_same
             | inr at ↦
-                as_these corner other (side_after mesh side) last (one_corner mesh v side corner (side_after mesh side) valid h.partners.first from (inr (at, refl)))
-                (one_corner mesh v partner other last valid h.partners.second to (subst (λ u. IsCornerOfSide mesh u partner last) at h.at_end)) end.same
+                as_these corner other (side_after mesh side) last (one_corner mesh v side corner (side_after mesh side) valid
+                h.partners.first from (inr (at, refl)))
+                (one_corner mesh v partner other last valid h.partners.second to
+                (subst (λ u. IsCornerOfSide mesh u partner last) at h.at_end)) end.same
           ];
       kept = λ x y l k same. end.kept x y (omega (arith, size, l)) (omega (arith, size, k)) (start.kept x y l k same);
       steps = λ only. end.steps (start.steps only);
     }
 
 -- partners that start at one vertex end at one
-corners_alike : (mesh : FaceList) (side partner : Side) → IsFaceList mesh → ArePartners mesh side partner → tail_of mesh side ≡ tail_of mesh partner
+corners_alike : (mesh : FaceList) (side partner : Side) → IsFaceList mesh → ArePartners mesh side partner
+    → tail_of mesh side ≡ tail_of mesh partner
     → HasCornersAcross mesh side partner partner (side_after mesh partner)
 corners_alike mesh side partner valid partners same = record {
   partners = partners;
@@ -220,15 +236,20 @@ pub record AreCornersRead (mesh : FaceList) (side : Side) (start end : ℕ) : Ty
   pub start_is : start ≡ side_number mesh side
   pub end_is : end ≡ side_number mesh (side_after mesh side)
 
-pub joined_alike : (mesh : FaceList) (least once twice : List ℕ) (side partner : Side) (a b c d : ℕ) → IsFaceList mesh → length least ≡ total_sides mesh → ArePartners mesh side partner
-    → tail_of mesh side ≡ tail_of mesh partner → AreCornersRead mesh side a b → AreCornersRead mesh partner c d → once ≡ joined_at least a c → twice ≡ joined_at once b d
+pub joined_alike : (mesh : FaceList) (least once twice : List ℕ) (side partner : Side) (a b c d : ℕ) → IsFaceList mesh
+    → length least ≡ total_sides mesh → ArePartners mesh side partner
+    → tail_of mesh side ≡ tail_of mesh partner → AreCornersRead mesh side a b → AreCornersRead mesh partner c d
+    → once ≡ joined_at least a c → twice ≡ joined_at once b d
     → AreMadeJoined mesh least twice side partner
 joined_alike mesh least once twice side partner a b c d valid count partners same here there is_once is_twice =
     rw (is_twice, is_once, here.start_is, here.end_is, there.start_is, there.end_is)
-    (made_joined mesh least side partner partner (side_after mesh partner) valid count (corners_alike mesh side partner valid partners same))
+    (made_joined mesh least side partner partner (side_after mesh partner) valid count
+    (corners_alike mesh side partner valid partners same))
 
-pub joined_opposite : (mesh : FaceList) (least once twice : List ℕ) (side partner : Side) (a b c d : ℕ) → IsFaceList mesh → length least ≡ total_sides mesh → ArePartners mesh side partner
-    → (tail_of mesh side ≡ tail_of mesh partner → ⊥) → AreCornersRead mesh side a b → AreCornersRead mesh partner c d → once ≡ joined_at least a d → twice ≡ joined_at once b c
+pub joined_opposite : (mesh : FaceList) (least once twice : List ℕ) (side partner : Side) (a b c d : ℕ) → IsFaceList mesh
+    → length least ≡ total_sides mesh → ArePartners mesh side partner
+    → (tail_of mesh side ≡ tail_of mesh partner → ⊥) → AreCornersRead mesh side a b → AreCornersRead mesh partner c d
+    → once ≡ joined_at least a d → twice ≡ joined_at once b c
     → AreMadeJoined mesh least twice side partner
 joined_opposite mesh least once twice side partner a b c d valid count partners other here there is_once is_twice =
     rw (is_twice, is_once, here.start_is, here.end_is, there.start_is, there.end_is)
@@ -238,7 +259,8 @@ joined_opposite mesh least once twice side partner a b c d valid count partners 
 pub record JoinsSidesUpTo (mesh : FaceList) (least : List ℕ) (n : ℕ) : Type 0 where
   pub count : length least ≡ total_sides mesh
   pub joined : JoinsOnlyByCornerSteps mesh least
-  pub done : (side partner : Side) → ArePartners mesh side partner → side_number mesh side < n → side_number mesh partner < n → IsJoinedAcross mesh least side partner
+  pub done : (side partner : Side) → ArePartners mesh side partner → side_number mesh side < n → side_number mesh partner < n
+      → IsJoinedAcross mesh least side partner
 
 pub sides_none : (mesh : FaceList) (least : List ℕ) → least ≡ range_with_len 0 (total_sides mesh) → JoinsSidesUpTo mesh least 0
 sides_none mesh least is =
@@ -257,22 +279,27 @@ sides_fewer mesh least m n few h = record {
   done = λ side partner partners l k. h.done side partner partners (omega (arith, l)) (omega (arith, k));
 }
 
-joined_swap : (mesh : FaceList) (least : List ℕ) (side partner : Side) → IsJoinedAcross mesh least side partner → IsJoinedAcross mesh least partner side
+joined_swap : (mesh : FaceList) (least : List ℕ) (side partner : Side) → IsJoinedAcross mesh least side partner
+    → IsJoinedAcross mesh least partner side
 joined_swap mesh least side partner h = λ v corner other from to. sym (h v other corner to from)
 
 -- what is joined across stays so
-joined_stays : (mesh : FaceList) (old new : List ℕ) (side partner : Side) → length old ≡ total_sides mesh → KeepsJoined old new → ArePartners mesh side partner
+joined_stays : (mesh : FaceList) (old new : List ℕ) (side partner : Side) → length old ≡ total_sides mesh → KeepsJoined old new
+    → ArePartners mesh side partner
     → IsJoinedAcross mesh old side partner → IsJoinedAcross mesh new side partner
 joined_stays mesh old new side partner count kept partners h v corner other from to =
-    kept (side_number mesh corner) (side_number mesh other) (omega (arith, count, number_below mesh corner (corner_in_mesh mesh v side corner partners.first from)))
+    kept (side_number mesh corner) (side_number mesh other)
+    (omega (arith, count, number_below mesh corner (corner_in_mesh mesh v side corner partners.first from)))
     (omega (arith, count, number_below mesh other (corner_in_mesh mesh v partner other partners.second to))) (h v corner other from to)
 
 -- the side with number n is passed, and is joined with its partner where that has been passed before
-sides_more : (mesh : FaceList) (old new : List ℕ) (side : Side) (n next : ℕ) → IsSide mesh side → n ≡ side_number mesh side → (found : HasPartner mesh side next)
+sides_more : (mesh : FaceList) (old new : List ℕ) (side : Side) (n next : ℕ) → IsSide mesh side → n ≡ side_number mesh side
+    → (found : HasPartner mesh side next)
     → JoinsSidesUpTo mesh old n → length new ≡ total_sides mesh → KeepsJoined old new → JoinsOnlyByCornerSteps mesh new
     → (next < n → IsJoinedAcross mesh new side found.partner) → JoinsSidesUpTo mesh new (n + 1)
 sides_more mesh old new side n next is number found h count kept joined here =
-    let at_side : (partner : Side) → ArePartners mesh side partner → side_number mesh partner < n + 1 → IsJoinedAcross mesh new side partner =
+    let at_side : (partner : Side) → ArePartners mesh side partner → side_number mesh partner < n + 1
+    → IsJoinedAcross mesh new side partner =
     λ partner partners l.
     let same : partner ≡ found.partner = found.only partner partners in
     let passed : side_number mesh partner < n =
@@ -288,26 +315,31 @@ sides_more mesh old new side n next is number found h count kept joined here =
           elim (cases_eq (side_number mesh one) n) [
             | inl e ↦
                 (let same : side ≡ one = number_once mesh side one is partners.first (sym number ∙ sym e) in
-                subst (λ s. IsJoinedAcross mesh new s other) same (at_side other (subst (λ s. ArePartners mesh s other) (sym same) partners) k))
+                subst (λ s. IsJoinedAcross mesh new s other) same (at_side other
+                (subst (λ s. ArePartners mesh s other) (sym same) partners) k))
             | inr e ↦ elim (cases_eq (side_number mesh other) n) [
               | inl f ↦
                   (let same : side ≡ other = number_once mesh side other is partners.second (sym number ∙ sym f) in
                   joined_swap mesh new other one
                   (subst (λ s. IsJoinedAcross mesh new s one) same
                   (at_side one (subst (λ s. ArePartners mesh s one) (sym same) (partners_swap mesh one other partners)) l)))
-              | inr f ↦ joined_stays mesh old new one other h.count kept partners (h.done one other partners (omega (arith, l, e)) (omega (arith, k, f)))
+              | inr f ↦ joined_stays mesh old new one other h.count kept partners
+                  (h.done one other partners (omega (arith, l, e)) (omega (arith, k, f)))
             ]
           ];
     }
 
 -- its partner has not been passed
-pub side_passed : (mesh : FaceList) (least : List ℕ) (side : Side) (n next : ℕ) → IsSide mesh side → n ≡ side_number mesh side → HasPartner mesh side next → n ≤ next
+pub side_passed : (mesh : FaceList) (least : List ℕ) (side : Side) (n next : ℕ) → IsSide mesh side → n ≡ side_number mesh side
+    → HasPartner mesh side next → n ≤ next
     → JoinsSidesUpTo mesh least n → JoinsSidesUpTo mesh least (n + 1)
 side_passed mesh least side n next is number found later h =
-    sides_more mesh least least side n next is number found h h.count (λ x y l k same. same) h.joined (λ less. absurd (omega (arith, later, less)))
+    sides_more mesh least least side n next is number found h h.count (λ x y l k same. same) h.joined
+    (λ less. absurd (omega (arith, later, less)))
 
 -- its partner has, and they are joined
-pub side_joined : (mesh : FaceList) (old new : List ℕ) (side partner : Side) (n next : ℕ) → IsSide mesh side → n ≡ side_number mesh side → HasPartner mesh side next
+pub side_joined : (mesh : FaceList) (old new : List ℕ) (side partner : Side) (n next : ℕ) → IsSide mesh side → n ≡ side_number mesh side
+    → HasPartner mesh side next
     → AreMadeJoined mesh old new side partner → ArePartners mesh side partner
     → JoinsSidesUpTo mesh old n → JoinsSidesUpTo mesh new (n + 1)
 side_joined mesh old new side partner n next is number found made partners h =

@@ -10,7 +10,8 @@ use Rattle.manifold_check.proofs.EdgeLemmas.{edge_swap, edge_used, used_below}
 use Rattle.manifold_check.proofs.Joining.{joined_refl, joined_step, joined_trans, joined_sym, joined_keep}
 
 -- the walk that goes along an edge first
-walk_more : (mesh : FaceList) (u v : ℕ) (walk : List ℕ) → is_used mesh u ≡ true → is_edge mesh u v ≡ true → IsWalk mesh (v ∷ walk) → IsWalk mesh (u ∷ v ∷ walk)
+walk_more : (mesh : FaceList) (u v : ℕ) (walk : List ℕ) → is_used mesh u ≡ true → is_edge mesh u v ≡ true → IsWalk mesh (v ∷ walk)
+    → IsWalk mesh (u ∷ v ∷ walk)
 walk_more mesh u v walk used edge h = record {
   starts = omega arith;
   used = used_all;
@@ -27,7 +28,8 @@ walk_more mesh u v walk used edge h = record {
         let next : suc k + 1 ≡ suc (k + 1) = omega arith in
         subst (λ j. is_edge mesh (get_or (v ∷ walk) k 0) (get_or (u ∷ v ∷ walk) j 0) ≡ true) (sym next) (h.edges k (omega arith))
 
-walk_along : (mesh : FaceList) (u v : ℕ) (path : List ℕ) → is_used mesh u ≡ true → IsPath (IsEdgeStep mesh) u path v → IsWalk mesh (u ∷ path)
+walk_along : (mesh : FaceList) (u v : ℕ) (path : List ℕ) → is_used mesh u ≡ true → IsPath (IsEdgeStep mesh) u path v
+    → IsWalk mesh (u ∷ path)
 walk_along mesh u v [] used p = record {
   starts = omega arith;
   used = one;
@@ -56,27 +58,33 @@ walk_from_joined mesh u v used joined =
       },
     )
 
-joined_along : (mesh : FaceList) (walk : List ℕ) (k : ℕ) → IsWalk mesh walk → k < length walk → AreJoined (IsEdgeStep mesh) (get_or walk 0 0) (get_or walk k 0)
+joined_along : (mesh : FaceList) (walk : List ℕ) (k : ℕ) → IsWalk mesh walk → k < length walk
+    → AreJoined (IsEdgeStep mesh) (get_or walk 0 0) (get_or walk k 0)
 joined_along mesh walk zero w l = joined_refl (IsEdgeStep mesh) _ _ refl
 joined_along mesh walk (suc k) w l =
     let step : IsEdgeStep mesh (get_or walk k 0) (get_or walk (k + 1) 0) = w.edges k (omega arith) in
     joined_trans (IsEdgeStep mesh) (get_or walk 0 0) (get_or walk k 0) (get_or walk (suc k) 0) (joined_along mesh walk k w (omega arith))
-    (joined_step (IsEdgeStep mesh) (get_or walk k 0) (get_or walk (suc k) 0) (subst (λ j. IsEdgeStep mesh (get_or walk k 0) (get_or walk j 0)) (add-one k) step))
+    (joined_step (IsEdgeStep mesh) (get_or walk k 0) (get_or walk (suc k) 0)
+    (subst (λ j. IsEdgeStep mesh (get_or walk k 0) (get_or walk j 0)) (add-one k) step))
 
 pub joined_from_walk : (mesh : FaceList) (u v : ℕ) → AreJoinedByWalk mesh u v → AreJoined (IsEdgeStep mesh) u v
 joined_from_walk mesh u v walk =
     let is : IsWalkBetween mesh u v walk.0 = walk.1 in
     subst (λ x. AreJoined (IsEdgeStep mesh) x v) is.starts
-    (subst (AreJoined (IsEdgeStep mesh) (get_or walk.0 0 0)) is.ends (joined_along mesh walk.0 (darts walk.0) is.walk_of (omega (arith, is.walk_of.starts))))
+    (subst (AreJoined (IsEdgeStep mesh) (get_or walk.0 0 0)) is.ends
+    (joined_along mesh walk.0 (darts walk.0) is.walk_of (omega (arith, is.walk_of.starts))))
 
 -- two walks from one vertex make a walk between their ends
-pub walk_between_ends : (mesh : FaceList) (u v w : ℕ) → is_used mesh v ≡ true → AreJoinedByWalk mesh u v → AreJoinedByWalk mesh u w → AreJoinedByWalk mesh v w
+pub walk_between_ends : (mesh : FaceList) (u v w : ℕ) → is_used mesh v ≡ true → AreJoinedByWalk mesh u v → AreJoinedByWalk mesh u w
+    → AreJoinedByWalk mesh v w
 walk_between_ends mesh u v w used to_v to_w =
     walk_from_joined mesh v w used
-    (joined_trans (IsEdgeStep mesh) v u w (joined_sym (IsEdgeStep mesh) (edge_swap mesh) u v (joined_from_walk mesh u v to_v)) (joined_from_walk mesh u w to_w))
+    (joined_trans (IsEdgeStep mesh) v u w (joined_sym (IsEdgeStep mesh) (edge_swap mesh) u v (joined_from_walk mesh u v to_v))
+    (joined_from_walk mesh u w to_w))
 
 -- a walk leads only between vertices with one entry
-same_from_walk : (mesh : FaceList) (least : List ℕ) (u v : ℕ) → AreComponents mesh least → AreJoinedByWalk mesh u v → get_or least u 0 ≡ get_or least v 0
+same_from_walk : (mesh : FaceList) (least : List ℕ) (u v : ℕ) → AreComponents mesh least → AreJoinedByWalk mesh u v
+    → get_or least u 0 ≡ get_or least v 0
 same_from_walk mesh least u v h walk =
     let joined : AreJoined (IsEdgeStep mesh) u v = joined_from_walk mesh u v walk in
     joined_keep (IsEdgeStep mesh) (λ x. get_or least x 0) h.steps u joined.0 v joined.1
@@ -98,4 +106,5 @@ least_apart mesh least u v valid parts first other = record {
 pub all_joined : (mesh : FaceList) (least : List ℕ) (u : ℕ) → IsFaceList mesh → AreComponents mesh least
     → ((v : ℕ) → v < mesh.count → is_used mesh v ≡ true → get_or least v 0 ≡ get_or least u 0) → EachTwoAreJoined mesh
 all_joined mesh least u valid parts same v w used_v used_w =
-    walk_from_same mesh least v w valid parts used_v used_w (same v (used_below mesh v valid used_v) used_v ∙ sym (same w (used_below mesh w valid used_w) used_w))
+    walk_from_same mesh least v w valid parts used_v used_w (same v (used_below mesh v valid used_v) used_v
+    ∙ sym (same w (used_below mesh w valid used_w) used_w))

@@ -15,7 +15,8 @@ use Rattle.move_checker.specs.declared.judge.Verdict.TheVariants.{Accepted, Peak
 use Rattle.move_checker.proofs.SameWalks.{same_walk_true, same_walk_false, same_walk_means}
 use Rattle.move_checker.proofs.Steps.{is_not_allowed, is_over_peak, is_done, outcome}
 
-pub verdict_over_peak : (mesh : FaceList) (first second : List ℕ) (list : PeakedMoves) → list.peak < darts first → verdict_of mesh first second list ≡ Peak
+pub verdict_over_peak : (mesh : FaceList) (first second : List ℕ) (list : PeakedMoves) → list.peak < darts first
+    → verdict_of mesh first second list ≡ Peak
 unfolding verdict_of
 verdict_over_peak mesh first second list lt =
     let t : nat_le (darts first) list.peak ≡ false = lt-leb _ _ lt in
@@ -28,23 +29,27 @@ verdict_start mesh first second list le =
     let t : nat_le (darts first) list.peak ≡ true = le-leb _ _ le in
     rw t refl
 
-pub verdict_more : (mesh : FaceList) (peak : ℕ) (second : List ℕ) (number : ℕ) (walk next : List ℕ) (move : Move) (moves : List Move) → step_of mesh peak walk move ≡ Ok next
+pub verdict_more : (mesh : FaceList) (peak : ℕ) (second : List ℕ) (number : ℕ) (walk next : List ℕ) (move : Move) (moves : List Move)
+    → step_of mesh peak walk move ≡ Ok next
     → verdict_from mesh peak second number walk (move ∷ moves) ≡ verdict_from mesh peak second (number + 1) next moves
 unfolding verdict_from
 verdict_more mesh peak second number walk next move moves e = rw e refl
 
-pub verdict_refused : (mesh : FaceList) (peak : ℕ) (second : List ℕ) (number : ℕ) (walk : List ℕ) (move : Move) (moves : List Move) (fault : MoveFault)
+pub verdict_refused : (mesh : FaceList) (peak : ℕ) (second : List ℕ) (number : ℕ) (walk : List ℕ) (move : Move) (moves : List Move)
+    (fault : MoveFault)
     → step_of mesh peak walk move ≡ Err fault → verdict_from mesh peak second number walk (move ∷ moves) ≡ AtMove number fault
 unfolding verdict_from
 verdict_refused mesh peak second number walk move moves fault e = rw e refl
 
-pub verdict_accepted : (mesh : FaceList) (peak : ℕ) (second : List ℕ) (number : ℕ) (walk : List ℕ) → walk ≡ second → verdict_from mesh peak second number walk [] ≡ Accepted
+pub verdict_accepted : (mesh : FaceList) (peak : ℕ) (second : List ℕ) (number : ℕ) (walk : List ℕ) → walk ≡ second
+    → verdict_from mesh peak second number walk [] ≡ Accepted
 unfolding verdict_from
 verdict_accepted mesh peak second number walk e =
     let t : same_walk walk second ≡ true = same_walk_true walk second e in
     rw t refl
 
-pub verdict_end : (mesh : FaceList) (peak : ℕ) (second : List ℕ) (number : ℕ) (walk : List ℕ) → walk ≢ second → verdict_from mesh peak second number walk [] ≡ End
+pub verdict_end : (mesh : FaceList) (peak : ℕ) (second : List ℕ) (number : ℕ) (walk : List ℕ) → walk ≢ second
+    → verdict_from mesh peak second number walk [] ≡ End
 unfolding verdict_from
 verdict_end mesh peak second number walk ne =
     let t : same_walk walk second ≡ false = same_walk_false walk second ne in
@@ -65,7 +70,8 @@ pub greatest_darts-none : (mesh : FaceList) (walk : List ℕ) → greatest_darts
 unfolding greatest_darts
 greatest_darts-none mesh walk = refl
 
-pub Leads-more : (mesh : FaceList) (walk next : List ℕ) (move : Move) (moves : List Move) (second : List ℕ) → apply mesh walk move ≡ Some next
+pub Leads-more : (mesh : FaceList) (walk next : List ℕ) (move : Move) (moves : List Move) (second : List ℕ)
+    → apply mesh walk move ≡ Some next
     → apply_all mesh walk (move ∷ moves) ≡ apply_all mesh next moves
 Leads-more mesh walk next move moves second e = rw e refl
 
@@ -86,8 +92,11 @@ accepted_leads mesh peak second number walk (move ∷ moves) le e =
     elim (outcome mesh peak walk move) [
       | is_not_allowed fault s g ne ↦ let refused = verdict_refused mesh peak second number walk move moves fault s in cc
       | is_over_peak next s g lt ↦ let refused = verdict_refused mesh peak second number walk move moves OverPeak s in cc
-      | is_done next s g fits ↦ let rest = accepted_leads mesh peak second (number + 1) next moves fits (sym (verdict_more mesh peak second number walk next move moves s) ∙ e) in
-          (Leads-more mesh walk next move moves second g ∙ rest.0, omega (arith, le, rest.1, greatest_darts-more mesh walk next move moves g))
+      | is_done next s g fits ↦ let rest = accepted_leads mesh peak second (number + 1) next moves fits
+          (sym (verdict_more mesh peak second number walk next move moves s) ∙ e) in (
+            Leads-more mesh walk next move moves second g ∙ rest.0,
+            omega (arith, le, rest.1, greatest_darts-more mesh walk next move moves g),
+          )
     ]
 
 pub leads_accepted : (mesh : FaceList) (peak : ℕ) (second : List ℕ) (number : ℕ) (walk : List ℕ) (moves : List Move)
@@ -96,9 +105,16 @@ leads_accepted mesh peak second number walk [] leads le = verdict_accepted mesh 
 leads_accepted mesh peak second number walk (move ∷ moves) leads le =
     elim (outcome mesh peak walk move) [
       | is_not_allowed fault s g ne ↦ absurd (Leads-none mesh walk move moves second g leads)
-      | is_over_peak next s g lt ↦ absurd (omega (arith, le, lt, greatest_darts-first mesh next moves, greatest_darts-more mesh walk next move moves g))
+      | is_over_peak next s g lt ↦ absurd (omega (
+        arith,
+        le,
+        lt,
+        greatest_darts-first mesh next moves,
+        greatest_darts-more mesh walk next move moves g,
+      ))
       | is_done next s g fits ↦ verdict_more mesh peak second number walk next move moves s
-          ∙ leads_accepted mesh peak second (number + 1) next moves (sym (Leads-more mesh walk next move moves second g) ∙ leads) (omega (arith, le, greatest_darts-more mesh walk next move moves g))
+          ∙ leads_accepted mesh peak second (number + 1) next moves (sym (Leads-more mesh walk next move moves second g) ∙ leads)
+          (omega (arith, le, greatest_darts-more mesh walk next move moves g))
     ]
 
 accepted_means : (mesh : FaceList) (first second : List ℕ) (list : PeakedMoves) → verdict_of mesh first second list ≡ Accepted
@@ -109,14 +125,19 @@ accepted_means mesh first second list e =
       | inr le ↦ accepted_leads mesh list.peak second 1 first list.moves le (sym (verdict_start mesh first second list le) ∙ e)
     ]
 
-means_accepted : (mesh : FaceList) (first second : List ℕ) (list : PeakedMoves) → Leads mesh first list.moves second → greatest_darts mesh first list.moves ≤ list.peak
+means_accepted : (mesh : FaceList) (first second : List ℕ) (list : PeakedMoves) → Leads mesh first list.moves second
+    → greatest_darts mesh first list.moves ≤ list.peak
     → verdict_of mesh first second list ≡ Accepted
 means_accepted mesh first second list leads le =
     verdict_start mesh first second list (omega (arith, le, greatest_darts-first mesh first list.moves))
     ∙ leads_accepted mesh list.peak second 1 first list.moves leads le
 
 -- the verdict is that the list is accepted exactly where the moves lead from walk to walk within the peak
-pub accepted_exactly : (mesh : FaceList) (first second : List ℕ) (list : PeakedMoves) (verdict : Verdict) → verdict ≡ verdict_of mesh first second list
+pub accepted_exactly : (mesh : FaceList) (first second : List ℕ) (list : PeakedMoves) (verdict : Verdict)
+    → verdict ≡ verdict_of mesh first second list
     → (verdict ≡ Accepted) ↔ (Leads mesh first list.moves second × (greatest_darts mesh first list.moves ≤ list.peak))
-accepted_exactly mesh first second list verdict e =
-    (λ accepted. accepted_means mesh first second list (sym e ∙ accepted), λ means. e ∙ means_accepted mesh first second list means.0 means.1)
+accepted_exactly mesh first second list verdict e = (
+  λ accepted. accepted_means mesh first second list (sym e ∙ accepted),
+  λ means. e
+      ∙ means_accepted mesh first second list means.0 means.1,
+)

@@ -15,7 +15,8 @@ abbrev pub IsStep : FaceList → ℕ → List ℕ → Move → Result (Unit {0})
 IsStep mesh peak walk move answer after =
     MatchResult answer (λ _. step_of mesh peak walk move ≡ Ok after) (λ fault. step_of mesh peak walk move ≡ Err fault)
 
-ok_given : (mesh : FaceList) (peak : ℕ) (walk : List ℕ) (move : Move) (after : List ℕ) → Outcome mesh peak walk move → step_of mesh peak walk move ≡ Ok after
+ok_given : (mesh : FaceList) (peak : ℕ) (walk : List ℕ) (move : Move) (after : List ℕ) → Outcome mesh peak walk move
+    → step_of mesh peak walk move ≡ Ok after
     → (apply mesh walk move ≡ Some after) × (darts after ≤ peak)
 ok_given mesh peak walk move after (is_not_allowed fault s g ne) e = cc
 ok_given mesh peak walk move after (is_over_peak next s g lt) e = cc
@@ -29,7 +30,8 @@ pub step_gives : (mesh : FaceList) (peak : ℕ) (walk : List ℕ) (move : Move) 
 step_gives mesh peak walk move after e = ok_given mesh peak walk move after (outcome mesh peak walk move) e
 
 -- and the other way round
-given_ok : (mesh : FaceList) (peak : ℕ) (walk : List ℕ) (move : Move) (next : List ℕ) → Outcome mesh peak walk move → apply mesh walk move ≡ Some next → darts next ≤ peak
+given_ok : (mesh : FaceList) (peak : ℕ) (walk : List ℕ) (move : Move) (next : List ℕ) → Outcome mesh peak walk move
+    → apply mesh walk move ≡ Some next → darts next ≤ peak
     → step_of mesh peak walk move ≡ Ok next
 given_ok mesh peak walk move next (is_not_allowed fault s g ne) e le = cc
 given_ok mesh peak walk move next (is_over_peak other s g lt) e le =
@@ -37,11 +39,13 @@ given_ok mesh peak walk move next (is_over_peak other s g lt) e le =
     absurd (omega (arith, lt, le, ap darts same))
 given_ok mesh peak walk move next (is_done other s g _) e le = cc
 
-pub given_step : (mesh : FaceList) (peak : ℕ) (walk : List ℕ) (move : Move) (next : List ℕ) → apply mesh walk move ≡ Some next → darts next ≤ peak
+pub given_step : (mesh : FaceList) (peak : ℕ) (walk : List ℕ) (move : Move) (next : List ℕ) → apply mesh walk move ≡ Some next
+    → darts next ≤ peak
     → step_of mesh peak walk move ≡ Ok next
 given_step mesh peak walk move next e le = given_ok mesh peak walk move next (outcome mesh peak walk move) e le
 
-over_given : (mesh : FaceList) (peak : ℕ) (walk : List ℕ) (move : Move) → Outcome mesh peak walk move → step_of mesh peak walk move ≡ Err OverPeak
+over_given : (mesh : FaceList) (peak : ℕ) (walk : List ℕ) (move : Move) → Outcome mesh peak walk move
+    → step_of mesh peak walk move ≡ Err OverPeak
     → (next : List ℕ) × (apply mesh walk move ≡ Some next) × (peak < darts next)
 over_given mesh peak walk move (is_not_allowed fault s g ne) e =
     let same : fault ≡ OverPeak = cc in
@@ -49,7 +53,8 @@ over_given mesh peak walk move (is_not_allowed fault s g ne) e =
 over_given mesh peak walk move (is_over_peak next s g lt) e = (next, g, lt)
 over_given mesh peak walk move (is_done next s g le) e = cc
 
-given_over : (mesh : FaceList) (peak : ℕ) (walk : List ℕ) (move : Move) (next : List ℕ) → Outcome mesh peak walk move → apply mesh walk move ≡ Some next → peak < darts next
+given_over : (mesh : FaceList) (peak : ℕ) (walk : List ℕ) (move : Move) (next : List ℕ) → Outcome mesh peak walk move
+    → apply mesh walk move ≡ Some next → peak < darts next
     → step_of mesh peak walk move ≡ Err OverPeak
 given_over mesh peak walk move next (is_not_allowed fault s g ne) e lt = cc
 given_over mesh peak walk move next (is_over_peak other s g _) e lt = s

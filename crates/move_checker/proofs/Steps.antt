@@ -13,7 +13,8 @@ use Rattle.move_checker.specs.Refusals.{need, refusal, step_of}
 use Rattle.move_checker.specs.declared.fault.MoveFault.{MoveFault}
 use Rattle.move_checker.specs.declared.fault.MoveFault.TheVariants.{Place, NoEdge, NotSpur, NotOnFace, OverPeak}
 
-pub refused : (mesh : FaceList) (peak : ℕ) (walk : List ℕ) (move : Move) (fault : MoveFault) → refusal mesh walk move ≡ Some fault → step_of mesh peak walk move ≡ Err fault
+pub refused : (mesh : FaceList) (peak : ℕ) (walk : List ℕ) (move : Move) (fault : MoveFault) → refusal mesh walk move ≡ Some fault
+    → step_of mesh peak walk move ≡ Err fault
 unfolding step_of
 refused mesh peak walk move fault e = rw e refl
 
@@ -41,12 +42,14 @@ pub data Judged (refusal : Option MoveFault) (given : Option (List ℕ)) : Type 
   is_refused : (fault : MoveFault) → refusal ≡ Some fault → given ≡ None → fault ≢ OverPeak → Judged refusal given
   is_allowed : (next : List ℕ) → refusal ≡ None → given ≡ Some next → Judged refusal given
 
-judged_insert : (place edge : Bool) (next : List ℕ) → Judged (need place Place (need edge NoEdge None)) (cond (place && edge) (Some next) None)
+judged_insert : (place edge : Bool) (next : List ℕ)
+    → Judged (need place Place (need edge NoEdge None)) (cond (place && edge) (Some next) None)
 judged_insert true true next = is_allowed next refl refl
 judged_insert true false next = is_refused NoEdge refl refl (λ e. cc)
 judged_insert false edge next = is_refused Place refl refl (λ e. cc)
 
-judged_remove : (place same middle : Bool) (next : List ℕ) → Judged (need place Place (need (same && middle) NotSpur None)) (cond (place && same && middle) (Some next) None)
+judged_remove : (place same middle : Bool) (next : List ℕ)
+    → Judged (need place Place (need (same && middle) NotSpur None)) (cond (place && same && middle) (Some next) None)
 judged_remove true true true next = is_allowed next refl refl
 judged_remove true true false next = is_refused NotSpur refl refl (λ e. cc)
 judged_remove true false middle next = is_refused NotSpur refl refl (λ e. cc)
@@ -78,11 +81,15 @@ judged mesh walk (Across at face corner forward taken) =
 
 -- what becomes of a step
 pub data Outcome (mesh : FaceList) (peak : ℕ) (walk : List ℕ) (move : Move) : Type 0 where
-  is_not_allowed : (fault : MoveFault) → step_of mesh peak walk move ≡ Err fault → apply mesh walk move ≡ None → fault ≢ OverPeak → Outcome mesh peak walk move
-  is_over_peak : (next : List ℕ) → step_of mesh peak walk move ≡ Err OverPeak → apply mesh walk move ≡ Some next → peak < darts next → Outcome mesh peak walk move
-  is_done : (next : List ℕ) → step_of mesh peak walk move ≡ Ok next → apply mesh walk move ≡ Some next → darts next ≤ peak → Outcome mesh peak walk move
+  is_not_allowed : (fault : MoveFault) → step_of mesh peak walk move ≡ Err fault → apply mesh walk move ≡ None → fault ≢ OverPeak
+      → Outcome mesh peak walk move
+  is_over_peak : (next : List ℕ) → step_of mesh peak walk move ≡ Err OverPeak → apply mesh walk move ≡ Some next → peak < darts next
+      → Outcome mesh peak walk move
+  is_done : (next : List ℕ) → step_of mesh peak walk move ≡ Ok next → apply mesh walk move ≡ Some next → darts next ≤ peak
+      → Outcome mesh peak walk move
 
-outcome_of : (mesh : FaceList) (peak : ℕ) (walk : List ℕ) (move : Move) → Judged (refusal mesh walk move) (apply mesh walk move) → Outcome mesh peak walk move
+outcome_of : (mesh : FaceList) (peak : ℕ) (walk : List ℕ) (move : Move) → Judged (refusal mesh walk move) (apply mesh walk move)
+    → Outcome mesh peak walk move
 outcome_of mesh peak walk move (is_refused fault r g ne) = is_not_allowed fault (refused mesh peak walk move fault r) g ne
 outcome_of mesh peak walk move (is_allowed next r g) =
     elim (cases_lt peak (darts next)) [
@@ -93,20 +100,23 @@ outcome_of mesh peak walk move (is_allowed next r g) =
 pub outcome : (mesh : FaceList) (peak : ℕ) (walk : List ℕ) (move : Move) → Outcome mesh peak walk move
 outcome mesh peak walk move = outcome_of mesh peak walk move (judged mesh walk move)
 
-pub insert_misplaced : (mesh : FaceList) (peak : ℕ) (walk : List ℕ) (at : ℕ) (via : VertexName) → darts walk < at → step_of mesh peak walk (Insert at via) ≡ Err Place
+pub insert_misplaced : (mesh : FaceList) (peak : ℕ) (walk : List ℕ) (at : ℕ) (via : VertexName) → darts walk < at
+    → step_of mesh peak walk (Insert at via) ≡ Err Place
 unfolding refusal
 insert_misplaced mesh peak walk at via lt =
     let t : nat_le at (darts walk) ≡ false = lt-leb _ _ lt in
     refused mesh peak walk (Insert at via) Place (rw t refl)
 
-pub insert_off_edge : (mesh : FaceList) (peak : ℕ) (walk : List ℕ) (at : ℕ) (via : VertexName) → at ≤ darts walk → is_edge mesh (get_or walk at 0) via.0 ≡ false
+pub insert_off_edge : (mesh : FaceList) (peak : ℕ) (walk : List ℕ) (at : ℕ) (via : VertexName) → at ≤ darts walk
+    → is_edge mesh (get_or walk at 0) via.0 ≡ false
     → step_of mesh peak walk (Insert at via) ≡ Err NoEdge
 unfolding refusal
 insert_off_edge mesh peak walk at via le e =
     let t : nat_le at (darts walk) ≡ true = le-leb _ _ le in
     refused mesh peak walk (Insert at via) NoEdge (rw (t, e) refl)
 
-pub insert_allowed : (mesh : FaceList) (walk : List ℕ) (at : ℕ) (via : VertexName) → at ≤ darts walk → is_edge mesh (get_or walk at 0) via.0 ≡ true
+pub insert_allowed : (mesh : FaceList) (walk : List ℕ) (at : ℕ) (via : VertexName) → at ≤ darts walk
+    → is_edge mesh (get_or walk at 0) via.0 ≡ true
     → IsAllowed mesh walk (Insert at via) (replaced at 1 (get_or walk at 0 ∷ via.0 ∷ get_or walk at 0 ∷ []) walk)
 unfolding refusal apply
 insert_allowed mesh walk at via le e =
@@ -117,20 +127,23 @@ insert_allowed mesh walk at via le e =
 abbrev pub is_spur : List ℕ → ℕ → ℕ → Bool
 is_spur walk at via = get_or walk at 0 == get_or walk (at + 2) 0 && get_or walk (at + 1) 0 == via
 
-pub remove_misplaced : (mesh : FaceList) (peak : ℕ) (walk : List ℕ) (at : ℕ) (via : VertexName) → darts walk < at + 2 → step_of mesh peak walk (Remove at via) ≡ Err Place
+pub remove_misplaced : (mesh : FaceList) (peak : ℕ) (walk : List ℕ) (at : ℕ) (via : VertexName) → darts walk < at + 2
+    → step_of mesh peak walk (Remove at via) ≡ Err Place
 unfolding refusal
 remove_misplaced mesh peak walk at via lt =
     let t : nat_le (at + 2) (darts walk) ≡ false = lt-leb _ _ lt in
     refused mesh peak walk (Remove at via) Place (rw t refl)
 
-pub remove_off_spur : (mesh : FaceList) (peak : ℕ) (walk : List ℕ) (at : ℕ) (via : VertexName) → at + 2 ≤ darts walk → is_spur walk at via.0 ≡ false
+pub remove_off_spur : (mesh : FaceList) (peak : ℕ) (walk : List ℕ) (at : ℕ) (via : VertexName) → at + 2 ≤ darts walk
+    → is_spur walk at via.0 ≡ false
     → step_of mesh peak walk (Remove at via) ≡ Err NotSpur
 unfolding refusal
 remove_off_spur mesh peak walk at via le e =
     let t : nat_le (at + 2) (darts walk) ≡ true = le-leb _ _ le in
     refused mesh peak walk (Remove at via) NotSpur (rw (t, e) refl)
 
-remove_test : (place same middle : Bool) (next : List ℕ) → place ≡ true → (same && middle) ≡ true → cond (place && same && middle) (Some next) None ≡ Some next
+remove_test : (place same middle : Bool) (next : List ℕ) → place ≡ true → (same && middle) ≡ true
+    → cond (place && same && middle) (Some next) None ≡ Some next
 remove_test true true true next p e = refl
 remove_test true true false next p e = cc
 remove_test true false middle next p e = cc
@@ -170,8 +183,10 @@ pub across_off_face : (mesh : FaceList) (peak : ℕ) (walk : List ℕ) (at : ℕ
 unfolding refusal
 across_off_face mesh peak walk at face corner forward taken le e =
     let t : nat_le (at + taken) (darts walk) ≡ true = le-leb _ _ le in
-    refused mesh peak walk (Across at face corner forward taken) NotOnFace (rw t (off_test (nat_lt face.0 (length mesh.faces)) (nat_lt corner (length (face_at mesh face.0)))
-    (nat_le taken (length (face_at mesh face.0))) (same_walk (take (taken + 1) (drop at walk)) (corners_from (face_at mesh face.0) forward corner taken)) e))
+    refused mesh peak walk (Across at face corner forward taken) NotOnFace
+    (rw t (off_test (nat_lt face.0 (length mesh.faces)) (nat_lt corner (length (face_at mesh face.0)))
+    (nat_le taken (length (face_at mesh face.0))) (same_walk (take (taken + 1) (drop at walk))
+    (corners_from (face_at mesh face.0) forward corner taken)) e))
 
 on_test : (face corner sides reads : Bool) → (face && corner && sides && reads) ≡ true
     → need (face && corner && sides) NotOnFace (need reads NotOnFace None) ≡ None
@@ -201,4 +216,8 @@ across_allowed mesh walk at face corner forward taken le e =
     let cornered : Bool = nat_lt corner (length (face_at mesh face.0)) in
     let enough : Bool = nat_le taken (length (face_at mesh face.0)) in
     let reads : Bool = same_walk (take (taken + 1) (drop at walk)) (corners_from (face_at mesh face.0) forward corner taken) in
-    record { no_reason = rw t (on_test there cornered enough reads e); gives = across_test there cornered enough (nat_le (at + taken) (darts walk)) reads _ t e }
+    record {
+      no_reason = rw t (on_test there cornered enough reads e);
+      gives =
+          across_test there cornered enough (nat_le (at + taken) (darts walk)) reads _ t e;
+    }

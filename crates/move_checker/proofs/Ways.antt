@@ -39,11 +39,13 @@ pub record IsOnWay (face : List ℕ) (rising : Bool) (start : ℕ) (entries : Li
   pub within : corner < length face
   pub read : (k : ℕ) → k < i → get_or entries k 0 ≡ get_or face (corner_after rising (length face) start k) 0
 
-pub on_way_none : (face : List ℕ) (rising : Bool) (start : ℕ) (entries : List ℕ) → start < length face → IsOnWay face rising start entries 0 start
+pub on_way_none : (face : List ℕ) (rising : Bool) (start : ℕ) (entries : List ℕ) → start < length face
+    → IsOnWay face rising start entries 0 start
 on_way_none face rising start entries h = record { reached = refl; within = h; read = λ k l. absurd (omega arith) }
 
 -- one entry more
-pub on_way_more : (face : List ℕ) (rising : Bool) (start : ℕ) (entries after : List ℕ) (i corner next : ℕ) → IsOnWay face rising start entries i corner
+pub on_way_more : (face : List ℕ) (rising : Bool) (start : ℕ) (entries after : List ℕ) (i corner next : ℕ)
+    → IsOnWay face rising start entries i corner
     → ((k : ℕ) → k < i → get_or after k 0 ≡ get_or entries k 0) → get_or after i 0 ≡ get_or face corner 0
     → next ≡ next_corner rising (length face) corner → next < length face → IsOnWay face rising start after (i + 1) next
 on_way_more face rising start entries after i corner next w same here e l = record {

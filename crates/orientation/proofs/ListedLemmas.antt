@@ -58,12 +58,14 @@ partner_number mesh side partner next two o partners =
 
 pub fit_all : (mesh : FaceList) (n : ℕ) → total_sides mesh ≤ n → FitUpTo mesh n → AreListedCoherently mesh
 fit_all mesh n all h side other partners =
-    let below : (s : Side) → IsSide mesh s → side_number mesh s < n = λ s is. omega (arith, all, side_below mesh s.face.0 s.at is.face is.place) in
+    let below : (s : Side) → IsSide mesh s → side_number mesh s < n =
+    λ s is. omega (arith, all, side_below mesh s.face.0 s.at is.face is.place) in
     elim (cases_lt (side_number mesh other) (side_number mesh side)) [
       | inl before ↦ h side other partners (below side partners.first) before
       | inr behind ↦ elim (cases_eq (side_number mesh side) (side_number mesh other)) [
         | inl same ↦ absurd (partners.different (one_number mesh side other partners.first partners.second same))
-        | inr apart ↦ eqb_swap _ _ ∙ h other side (partners_swap mesh side other partners) (below other partners.second) (omega (arith, behind, apart))
+        | inr apart ↦ eqb_swap _ _ ∙ h other side (partners_swap mesh side other partners) (below other partners.second)
+            (omega (arith, behind, apart))
       ]
     ]
 
@@ -73,7 +75,8 @@ kept zero f = refl
 kept (suc n) zero = refl
 kept (suc n) (suc f) = kept n f
 
-pub kept_coherent : (mesh : FaceList) (signs : List Bool) → IsFaceList mesh → signs ≡ replicate (length mesh.faces) false → AreListedCoherently mesh
+pub kept_coherent : (mesh : FaceList) (signs : List Bool) → IsFaceList mesh → signs ≡ replicate (length mesh.faces) false
+    → AreListedCoherently mesh
     → IsCoherent mesh signs
 kept_coherent mesh signs is all listed = record {
   each_face = ap (λ (ss : List Bool). length ss) all ∙ length-replicate (length mesh.faces) false;

@@ -10,7 +10,23 @@ use Rattle.surf_model.proofs.ReplacementLemmas.{by_replacing}
 use Rattle.surf_model.proofs.ContextLemmas.{list_in_context, one_after_another}
 use Rattle.surf_model.proofs.WayBackLemmas.{list_undone}
 use Rattle.polygon_cut.proofs.GroupLemmas.{IsGroup}
-pub use Rattle.polygon_cut.proofs.WayLemmas.{IsWay, back, way_walk, start_used, end_used, way_on, way_home, back_back, append_none, Loop, loop_mul, loop_inv, loop_one, HasWays, loop_of}
+pub use Rattle.polygon_cut.proofs.WayLemmas.{
+  IsWay,
+  back,
+  way_walk,
+  start_used,
+  end_used,
+  way_on,
+  way_home,
+  back_back,
+  append_none,
+  Loop,
+  loop_mul,
+  loop_inv,
+  loop_one,
+  HasWays,
+  loop_of,
+}
 use Rattle.polygon_cut.proofs.CongruenceLemmas as Congruence
 use Rattle.polygon_cut.proofs.CongruenceLemmas.{IsWalkCongruence, SameLoops}
 

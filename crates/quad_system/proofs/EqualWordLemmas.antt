@@ -1,4 +1,5 @@
--- Walks with common ends are homotopic exactly where they have one canonical word. From one word to moves: their turn words reach one another, so they read to the same product
+-- Walks with common ends are homotopic exactly where they have one canonical word.
+-- From one word to moves: their turn words reach one another, so they read to the same product
 -- of spokes, and the walks are these products.
 use Rattle.std.proofs.Common.{◌≡◌, ◌↔◌, inl, inr, ℕ, ◌<◌, ◌≤◌, true, ◌&&◌, eqb, List, [], ◌∷◌, length, get_or, ap, sym, ◌∙◌, subst, arith}
 use Rattle.std.specs.Prelude.{All, slice_index}
@@ -41,8 +42,10 @@ both_below n a b c d l k = elim (cases_Bool (eqb a b && eqb c d)) [
 ]
 
 -- the spokes of a walk are spokes of the wheel
-pub path_below : (s : OrientedMesh) (split : SplitView) (polygon : PolygonView) → IsOrientedSurface s → IsSplit s split → IsCutFrom s split polygon → 0 < polygon.degree
-    → (u v : ℕ) (rest : List ℕ) → IsWay s.mesh u v rest → All (λ i. i < polygon.degree) (quad_path s.mesh (labelling_from s polygon) (u ∷ rest))
+pub path_below : (s : OrientedMesh) (split : SplitView) (polygon : PolygonView) → IsOrientedSurface s → IsSplit s split
+    → IsCutFrom s split polygon → 0 < polygon.degree
+    → (u v : ℕ) (rest : List ℕ) → IsWay s.mesh u v rest
+    → All (λ i. i < polygon.degree) (quad_path s.mesh (labelling_from s polygon) (u ∷ rest))
 path_below s split polygon o t c some u v [] way = All-nil (λ i. i < polygon.degree)
 path_below s split polygon o t c some u v (w ∷ rest) way =
     let found = dart_between s o u w way.0 in
@@ -50,19 +53,25 @@ path_below s split polygon o t c some u v (w ∷ rest) way =
     let l : d < darts_of s = found.1.within in
     let labels : DartSpokes s polygon d = dart_spokes s split polygon o t c some d l in
     let a_in : label_of polygon d < polygon.degree = (c.labels some).label_below d l in
-    let b_in : label_of polygon (next_of s d) < polygon.degree = (c.labels some).label_below (next_of s d) ((rotation_system s o).next_within d l) in
+    let b_in : label_of polygon (next_of s d) < polygon.degree =
+    (c.labels some).label_below (next_of s d) ((rotation_system s o).next_within d l) in
     let here : All (λ i. i < polygon.degree) (spokes s.mesh (labelling_from s polygon) u w) =
     subst (λ x. All (λ i. i < polygon.degree) (spokes s.mesh (labelling_from s polygon) x w)) found.1.starts
     (subst (λ x. All (λ i. i < polygon.degree) (spokes s.mesh (labelling_from s polygon) (origin_of s d) x)) found.1.ends
-    (subst (All (λ i. i < polygon.degree)) (sym labels.are) (both_below polygon.degree (label_of polygon d) (label_of polygon (next_of s d)) labels.c labels.e a_in b_in))) in
-    All-append (λ i. i < polygon.degree) (spokes s.mesh (labelling_from s polygon) u w) (quad_path s.mesh (labelling_from s polygon) (w ∷ rest)) here
+    (subst (All (λ i. i < polygon.degree)) (sym labels.are)
+    (both_below polygon.degree (label_of polygon d) (label_of polygon (next_of s d)) labels.c labels.e a_in b_in))) in
+    All-append (λ i. i < polygon.degree) (spokes s.mesh (labelling_from s polygon) u w)
+    (quad_path s.mesh (labelling_from s polygon) (w ∷ rest)) here
     (path_below s split polygon o t c some w v rest way.1)
 
 -- lists of spokes whose turn words reach one canonical word have one product
-one_product : {X : Type 0} (Same : X → X → Type 0) (mul : X → X → X) (inv : X → X) (one : X) → IsGroup Same mul inv one → (element : ℕ → X) (places : List ℕ) (spoke_at : ℕ → ℕ)
-    → HasQuads Same mul inv element (length places) (λ i. get_or places i 0) spoke_at → IsHyperWheel places → (first second canonical : List ℕ)
+one_product : {X : Type 0} (Same : X → X → Type 0) (mul : X → X → X) (inv : X → X) (one : X) → IsGroup Same mul inv one
+    → (element : ℕ → X) (places : List ℕ) (spoke_at : ℕ → ℕ)
+    → HasQuads Same mul inv element (length places) (λ i. get_or places i 0) spoke_at → IsHyperWheel places
+    → (first second canonical : List ℕ)
     → All (λ i. i < length places) first → All (λ i. i < length places) second
-    → IsCanonicalOf (length places) (turn_word_of places first) canonical → IsCanonicalOf (length places) (turn_word_of places second) canonical
+    → IsCanonicalOf (length places) (turn_word_of places first) canonical
+    → IsCanonicalOf (length places) (turn_word_of places second) canonical
     → Same (along_spokes mul inv one element true first) (along_spokes mul inv one element true second)
 one_product Same mul inv one g element places spoke_at q own first second canonical f s to_first to_second =
     let d : ℕ = length places in
@@ -107,10 +116,12 @@ equal_words s split polygon (u ∷ rest) (v ∷ others) canonical o t c five w z
     let same_start : Homotopic s.mesh (u ∷ rest) (u ∷ others) =
     from_loops s.mesh t.parents.root (up s split t) (tree_ways s split o t) u (slice_index (u ∷ rest) (length rest)) rest others way along
     (through s split polygon o t c five u (slice_index (u ∷ rest) (length rest)) rest others canonical way along f
-    (subst (λ x. IsCanonicalOf polygon.degree (turn_word_of polygon.places (quad_path s.mesh (labelling_from s polygon) (x ∷ others))) canonical) (sym ends.starts) g)) in
+    (subst (λ x. IsCanonicalOf polygon.degree (turn_word_of polygon.places (quad_path s.mesh (labelling_from s polygon) (x ∷ others)))
+    canonical) (sym ends.starts) g)) in
     subst (λ x. Homotopic s.mesh (u ∷ rest) (x ∷ others)) ends.starts same_start
   where
-    through : (s : OrientedMesh) (split : SplitView) (polygon : PolygonView) (o : IsOrientedSurface s) (t : IsSplit s split) → IsCutFrom s split polygon → 5 ≤ polygon.degree
+    through : (s : OrientedMesh) (split : SplitView) (polygon : PolygonView) (o : IsOrientedSurface s) (t : IsSplit s split)
+        → IsCutFrom s split polygon → 5 ≤ polygon.degree
         → (u v : ℕ) (rest others canonical : List ℕ) (way : IsWay s.mesh u v rest) (along : IsWay s.mesh u v others)
         → IsCanonicalOf polygon.degree (turn_word_of polygon.places (quad_path s.mesh (labelling_from s polygon) (u ∷ rest))) canonical
         → IsCanonicalOf polygon.degree (turn_word_of polygon.places (quad_path s.mesh (labelling_from s polygon) (u ∷ others))) canonical
@@ -128,10 +139,13 @@ equal_words s split polygon (u ∷ rest) (v ∷ others) canonical o t c five w z
         let y : Loops s split t = loop_of s.mesh t.parents.root (up s split t) (tree_ways s split o t) u v others along in
         let a : Loops s split t = along_spokes loop_mul loop_inv one element true first in
         let b : Loops s split t = along_spokes loop_mul loop_inv one element true second in
-        let quads : HasQuads {X = Loops s split t} SameLoop loop_mul loop_inv element (length polygon.places) (place_of polygon) (spoke_at polygon) =
-        subst (λ n. HasQuads {X = Loops s split t} SameLoop loop_mul loop_inv element n (place_of polygon) (spoke_at polygon)) number (polygon_quads s split o t polygon c some) in
+        let quads : HasQuads {X = Loops s split t} SameLoop loop_mul loop_inv element (length polygon.places) (place_of polygon)
+        (spoke_at polygon) =
+        subst (λ n. HasQuads {X = Loops s split t} SameLoop loop_mul loop_inv element n (place_of polygon) (spoke_at polygon)) number
+        (polygon_quads s split o t polygon c some) in
         let equal : SameLoop a b =
-        one_product SameLoop loop_mul loop_inv one group element polygon.places (spoke_at polygon) quads (own_wheel (rotations_of s) polygon (c.places some) five) first second canonical
+        one_product SameLoop loop_mul loop_inv one group element polygon.places (spoke_at polygon) quads
+        (own_wheel (rotations_of s) polygon (c.places some) five) first second canonical
         (subst (λ n. All (λ i. i < n) first) number (path_below s split polygon o t c some u v rest way))
         (subst (λ n. All (λ i. i < n) second) number (path_below s split polygon o t c some u v others along))
         (subst (λ n. IsCanonicalOf n (turn_word_of polygon.places first) canonical) number f)
@@ -141,7 +155,8 @@ equal_words s split polygon (u ∷ rest) (v ∷ others) canonical o t c five w z
 
 -- homotopic walks have one canonical word: moves keep the state, and its word is canonical
 same_words : (s : OrientedMesh) (split : SplitView) (polygon : PolygonView) (u v : ℕ) (rest others one two : List ℕ)
-    → IsOrientedSurface s → IsSplit s split → IsCutFrom s split polygon → 5 ≤ polygon.degree → IsWay s.mesh u v rest → IsWay s.mesh u v others
+    → IsOrientedSurface s → IsSplit s split → IsCutFrom s split polygon → 5 ≤ polygon.degree → IsWay s.mesh u v rest
+    → IsWay s.mesh u v others
     → IsCanonicalOf polygon.degree (turn_word_of polygon.places (quad_path s.mesh (labelling_from s polygon) (u ∷ rest))) one
     → IsCanonicalOf polygon.degree (turn_word_of polygon.places (quad_path s.mesh (labelling_from s polygon) (u ∷ others))) two
     → Homotopic s.mesh (u ∷ rest) (u ∷ others) → one ≡ two
@@ -160,13 +175,18 @@ same_words s split polygon u v rest others one two o t c five way along f g homo
     } in
     let state : led hyper_next polygon.places empty_state first ≡ led hyper_next polygon.places empty_state second =
     moves_keep s.mesh labelling hyper_next (BelongsTo polygon.places) IsEven laws o.faces (polygon_good s split polygon o t c some)
-    homotopic.0 (u ∷ rest) (u ∷ others) (way_walk s.mesh u v rest way) homotopic.1 empty_state (hyper_starts.belongs polygon.places own, hyper_starts.at_vertex) in
-    let word : (spokes word : List ℕ) → All (λ i. i < polygon.degree) spokes → IsCanonicalOf polygon.degree (turn_word_of polygon.places spokes) word
+    homotopic.0 (u ∷ rest) (u ∷ others) (way_walk s.mesh u v rest way) homotopic.1 empty_state (
+      hyper_starts.belongs polygon.places own,
+      hyper_starts.at_vertex,
+    ) in
+    let word : (spokes word : List ℕ) → All (λ i. i < polygon.degree) spokes
+    → IsCanonicalOf polygon.degree (turn_word_of polygon.places spokes) word
     → word ≡ (led hyper_next polygon.places empty_state spokes).word =
     λ spokes w below k.
     let h : All (λ i. i < length polygon.places) spokes = subst (λ n. All (λ i. i < n) spokes) number below in
     unique (length polygon.places) (turn_word_of polygon.places spokes) w (led hyper_next polygon.places empty_state spokes).word
-    (turns polygon.places spokes own h) (subst (λ n. IsCanonicalOf n (turn_word_of polygon.places spokes) w) number k) (canonical polygon.places spokes own h) in
+    (turns polygon.places spokes own h) (subst (λ n. IsCanonicalOf n (turn_word_of polygon.places spokes) w) number k)
+    (canonical polygon.places spokes own h) in
     word first one (path_below s split polygon o t c some u v rest way) f ∙ ap (λ (x : HyperState). x.word) state
     ∙ sym (word second two (path_below s split polygon o t c some u v others along) g)
 
@@ -187,9 +207,11 @@ one_word s split polygon (u ∷ rest) (v ∷ others) one two o t c five w z ends
   (λ homotopic.
       let along : IsWay s.mesh u (slice_index (u ∷ rest) (length rest)) others = other_way s.mesh u v rest others z ends in
       same_words s split polygon u (slice_index (u ∷ rest) (length rest)) rest others one two o t c five (walk_way s.mesh u rest w) along f
-      (subst (λ x. IsCanonicalOf polygon.degree (turn_word_of polygon.places (quad_path s.mesh (labelling_from s polygon) (x ∷ others))) two) (sym ends.starts) g)
+      (subst (λ x. IsCanonicalOf polygon.degree (turn_word_of polygon.places (quad_path s.mesh (labelling_from s polygon) (x ∷ others)))
+      two) (sym ends.starts) g)
       (subst (λ x. Homotopic s.mesh (u ∷ rest) (x ∷ others)) (sym ends.starts) homotopic)),
   (λ same.
       equal_words s split polygon (u ∷ rest) (v ∷ others) one o t c five w z ends f
-      (subst (IsCanonicalOf polygon.degree (turn_word_of polygon.places (quad_path s.mesh (labelling_from s polygon) (v ∷ others)))) (sym same) g)),
+      (subst (IsCanonicalOf polygon.degree (turn_word_of polygon.places (quad_path s.mesh (labelling_from s polygon) (v ∷ others))))
+      (sym same) g)),
 )

@@ -76,11 +76,14 @@ torus Same mul inv element place spoke_at q rises =
     let two : q.partner 0 ≡ 2 = across_two Same mul inv element place spoke_at q rises 0 (omega arith) in
     let three : q.partner 1 ≡ 3 = across_two Same mul inv element place spoke_at q rises 1 (omega arith) in
     record {
-      first = subst (λ c. Same (quotient mul inv (element 0) (element 1)) (quotient mul inv (element (add 4 c 1)) (element c))) two (q.around_middle 0 (omega arith));
-      second = subst (λ c. Same (quotient mul inv (element 1) (element 2)) (quotient mul inv (element (add 4 c 1)) (element c))) three (q.around_middle 1 (omega arith));
+      first = subst (λ c. Same (quotient mul inv (element 0) (element 1)) (quotient mul inv (element (add 4 c 1)) (element c))) two
+          (q.around_middle 0 (omega arith));
+      second = subst (λ c. Same (quotient mul inv (element 1) (element 2)) (quotient mul inv (element (add 4 c 1)) (element c))) three
+          (q.around_middle 1 (omega arith));
     }
 
-module _ {X : Type 0} (Same : X → X → Type 0) (mul : X → X → X) (inv : X → X) (one : X) (g : IsGroup Same mul inv one) (e : ℕ → X) (t : Torus Same mul inv e) where
+module _ {X : Type 0} (Same : X → X → Type 0) (mul : X → X → X) (inv : X → X) (one : X) (g : IsGroup Same mul inv one) (e : ℕ → X)
+    (t : Torus Same mul inv e) where
   abbrev a : X
   a = quotient mul inv (e 0) (e 1)
 
@@ -134,7 +137,8 @@ module _ {X : Type 0} (Same : X → X → Type 0) (mul : X → X → X) (inv : X
           (g.on _ _ _ (g.associates a b (e 2)) (g.on _ _ _ (g.mul_same a a (mul b (e 2)) (e 1) (g.itself a) b_two) a_one))
 
   -- a pair of spokes
-  pair_over : (i j : ℕ) → i < 4 → j < 4 → Over Same mul inv one g a b swap (quotient mul inv (e i) (e j)) (along_first i) (along_second i) (along_first j) (along_second j)
+  pair_over : (i j : ℕ) → i < 4 → j < 4 → Over Same mul inv one g a b swap (quotient mul inv (e i) (e j)) (along_first i)
+      (along_second i) (along_first j) (along_second j)
   pair_over i j l k =
       let far : X = grid mul one a b (along_first j) (along_second j) in
       g.on _ _ _ (g.turn _ _ (g.associates (grid mul one a b (along_first i) (along_second i)) (e i) (inv (e j))))
@@ -144,13 +148,15 @@ module _ {X : Type 0} (Same : X → X → Type 0) (mul : X → X → X) (inv : X
 
   -- and a product of pairs
   pairs_over : (pairs : List (ℕ × ℕ)) → AreBelow 4 pairs
-      → Over Same mul inv one g a b swap (along_spokes mul inv one e true (spokes_of pairs)) (over_firsts along_first pairs) (over_firsts along_second pairs)
+      → Over Same mul inv one g a b swap (along_spokes mul inv one e true (spokes_of pairs)) (over_firsts along_first pairs)
+      (over_firsts along_second pairs)
       (over_seconds along_first pairs) (over_seconds along_second pairs)
   pairs_over [] h = g.one_left one
   pairs_over (pair ∷ pairs) h =
       let rest : X = along_spokes mul inv one e true (spokes_of pairs) in
       let product =
-      over_product Same mul inv one g a b swap (quotient mul inv (e pair.0) (e pair.1)) rest (along_first pair.0) (along_second pair.0) (along_first pair.1) (along_second pair.1)
+      over_product Same mul inv one g a b swap (quotient mul inv (e pair.0) (e pair.1)) rest (along_first pair.0) (along_second pair.0)
+      (along_first pair.1) (along_second pair.1)
       (over_firsts along_first pairs) (over_firsts along_second pairs) (over_seconds along_first pairs) (over_seconds along_second pairs)
       (pair_over pair.0 pair.1 h.0 h.1) (pairs_over pairs h.2) in
       g.on _ _ _ (g.mul_same _ _ _ _ (g.itself _) (g.turn _ _ (g.associates (e pair.0) (inv (e pair.1)) rest))) product
@@ -159,14 +165,18 @@ module _ {X : Type 0} (Same : X → X → Type 0) (mul : X → X → X) (inv : X
       → Same (along_spokes mul inv one e true (spokes_of pairs)) (along_spokes mul inv one e true (spokes_of others))
   same_product pairs others h k same =
       let even = balance pairs others h k same in
-      over_same Same mul inv one g a b swap (along_spokes mul inv one e true (spokes_of pairs)) (along_spokes mul inv one e true (spokes_of others))
+      over_same Same mul inv one g a b swap (along_spokes mul inv one e true (spokes_of pairs))
+      (along_spokes mul inv one e true (spokes_of others))
       (over_firsts along_first pairs) (over_firsts along_second pairs) (over_seconds along_first pairs) (over_seconds along_second pairs)
-      (over_firsts along_first others) (over_firsts along_second others) (over_seconds along_first others) (over_seconds along_second others)
+      (over_firsts along_first others) (over_firsts along_second others) (over_seconds along_first others)
+      (over_seconds along_second others)
       (pairs_over pairs h) (pairs_over others k) even.0 even.1
 
 -- the quad path of a walk, in pairs
-path_pairs : (s : OrientedMesh) (split : SplitView) (polygon : PolygonView) → IsOrientedSurface s → IsSplit s split → IsCutFrom s split polygon → 0 < polygon.degree
-    → (u v : ℕ) (rest : List ℕ) → IsWay s.mesh u v rest → (pairs : List (ℕ × ℕ)) × (quad_path s.mesh (labelling_from s polygon) (u ∷ rest) ≡ spokes_of pairs)
+path_pairs : (s : OrientedMesh) (split : SplitView) (polygon : PolygonView) → IsOrientedSurface s → IsSplit s split
+    → IsCutFrom s split polygon → 0 < polygon.degree
+    → (u v : ℕ) (rest : List ℕ) → IsWay s.mesh u v rest → (pairs : List (ℕ × ℕ))
+    × (quad_path s.mesh (labelling_from s polygon) (u ∷ rest) ≡ spokes_of pairs)
 path_pairs s split polygon o t c some u v [] way = ([], refl)
 path_pairs s split polygon o t c some u v (w ∷ rest) way =
     let found = dart_between s o u w way.0 in
@@ -177,7 +187,8 @@ path_pairs s split polygon o t c some u v (w ∷ rest) way =
     let more = path_pairs s split polygon o t c some w v rest way.1 in
     let path : quad_path s.mesh (labelling_from s polygon) (u ∷ w ∷ rest) ≡ spokes_by_labels x y labels.c labels.e ++ spokes_of more.0 =
     ap (λ z. spokes s.mesh (labelling_from s polygon) z w ++ quad_path s.mesh (labelling_from s polygon) (w ∷ rest)) (sym found.1.starts)
-    ∙ ap (λ z. spokes s.mesh (labelling_from s polygon) (origin_of s d) z ++ quad_path s.mesh (labelling_from s polygon) (w ∷ rest)) (sym found.1.ends)
+    ∙ ap (λ z. spokes s.mesh (labelling_from s polygon) (origin_of s d) z ++ quad_path s.mesh (labelling_from s polygon) (w ∷ rest))
+    (sym found.1.ends)
     ∙ ap (λ (q : List ℕ). q ++ quad_path s.mesh (labelling_from s polygon) (w ∷ rest)) labels.are
     ∙ ap (λ (q : List ℕ). spokes_by_labels x y labels.c labels.e ++ q) more.1 in
     elim (cases_Bool (eqb x y && eqb labels.c labels.e)) [
@@ -191,7 +202,8 @@ pairs_below n (pair ∷ pairs) h =
     (h 0 pair.0 (omega arith), h 1 pair.1 (omega arith), pairs_below n pairs (λ k x l. h (suc (suc k)) x (omega arith)))
 
 -- the places of a polygon with four sides
-flat_wheel : (s : OrientedMesh) (split : SplitView) (polygon : PolygonView) → IsOrientedSurface s → IsSplit s split → IsCutFrom s split polygon → polygon.degree ≡ 4
+flat_wheel : (s : OrientedMesh) (split : SplitView) (polygon : PolygonView) → IsOrientedSurface s → IsSplit s split
+    → IsCutFrom s split polygon → polygon.degree ≡ 4
     → IsFlatWheel polygon.places × Rises (place_of polygon)
 flat_wheel s split polygon o t c four =
     let some : 0 < polygon.degree = omega arith in
@@ -200,7 +212,8 @@ flat_wheel s split polygon o t c four =
     let below : (i : ℕ) → i < 4 → place_of polygon i < 4 = λ i l. subst (λ n. place_of polygon i < n) four (h.below i (omega arith)) in
     let rises : Rises (place_of polygon) =
     λ i l.
-    ap (place_of polygon) (up_is_add 4 i l) ∙ four_places s split polygon i o t c four l ∙ sym (up_is_add 4 (place_of polygon i) (below i l)) in (
+    ap (place_of polygon) (up_is_add 4 i l) ∙ four_places s split polygon i o t c four l
+    ∙ sym (up_is_add 4 (place_of polygon i) (below i l)) in (
       record {
         four = count;
         wheel = record {
@@ -213,9 +226,11 @@ flat_wheel s split polygon o t c four =
     )
 
 -- walks from one vertex that lead to one point are homotopic
-one_point : (s : OrientedMesh) (split : SplitView) (polygon : PolygonView) (o : IsOrientedSurface s) (t : IsSplit s split) → IsCutFrom s split polygon → polygon.degree ≡ 4
+one_point : (s : OrientedMesh) (split : SplitView) (polygon : PolygonView) (o : IsOrientedSurface s) (t : IsSplit s split)
+    → IsCutFrom s split polygon → polygon.degree ≡ 4
     → (u v : ℕ) (rest others : List ℕ) (way : IsWay s.mesh u v rest) (along : IsWay s.mesh u v others)
-    → led flat_next polygon.places origin (quad_path s.mesh (labelling_from s polygon) (u ∷ rest)) ≡ led flat_next polygon.places origin (quad_path s.mesh (labelling_from s polygon) (u ∷ others))
+    → led flat_next polygon.places origin (quad_path s.mesh (labelling_from s polygon) (u ∷ rest)) ≡ led flat_next polygon.places origin
+    (quad_path s.mesh (labelling_from s polygon) (u ∷ others))
     → Homotopic s.mesh (u ∷ rest) (u ∷ others)
 one_point s split polygon o t c four u v rest others way along same =
     let some : 0 < polygon.degree = omega arith in
@@ -227,27 +242,37 @@ one_point s split polygon o t c four u v rest others way along same =
     let x : Loops s split t = loop_of s.mesh t.parents.root (up s split t) (tree_ways s split o t) u v rest way in
     let y : Loops s split t = loop_of s.mesh t.parents.root (up s split t) (tree_ways s split o t) u v others along in
     let product : List ℕ → Loops s split t = along_spokes loop_mul loop_inv nothing element true in
-    let p_below : AreBelow 4 p.0 = pairs_below 4 p.0 (subst (All (λ i. i < 4)) p.1 (subst (λ n. All (λ i. i < n) (quad_path s.mesh (labelling_from s polygon) (u ∷ rest))) four (path_below s split polygon o t c some u v rest way))) in
-    let q_below : AreBelow 4 q.0 = pairs_below 4 q.0 (subst (All (λ i. i < 4)) q.1 (subst (λ n. All (λ i. i < n) (quad_path s.mesh (labelling_from s polygon) (u ∷ others))) four (path_below s split polygon o t c some u v others along))) in
+    let p_below : AreBelow 4 p.0 = pairs_below 4 p.0 (subst (All (λ i. i < 4)) p.1
+    (subst (λ n. All (λ i. i < n) (quad_path s.mesh (labelling_from s polygon) (u ∷ rest))) four
+    (path_below s split polygon o t c some u v rest way))) in
+    let q_below : AreBelow 4 q.0 = pairs_below 4 q.0 (subst (All (λ i. i < 4)) q.1
+    (subst (λ n. All (λ i. i < n) (quad_path s.mesh (labelling_from s polygon) (u ∷ others))) four
+    (path_below s split polygon o t c some u v others along))) in
     let sums : sum_of_pairs p.0 ≡ sum_of_pairs q.0 =
-    sym (leads-to-sum polygon.places p.0) ∙ ap (led flat_next polygon.places origin) (sym p.1) ∙ same ∙ ap (led flat_next polygon.places origin) q.1 ∙ leads-to-sum polygon.places q.0 in
+    sym (leads-to-sum polygon.places p.0) ∙ ap (led flat_next polygon.places origin) (sym p.1) ∙ same
+    ∙ ap (led flat_next polygon.places origin) q.1 ∙ leads-to-sum polygon.places q.0 in
     let quads : HasQuads {X = Loops s split t} SameLoop loop_mul loop_inv element 4 (place_of polygon) (spoke_at polygon) =
-    subst (λ n. HasQuads {X = Loops s split t} SameLoop loop_mul loop_inv element n (place_of polygon) (spoke_at polygon)) four (polygon_quads s split o t polygon c some) in
+    subst (λ n. HasQuads {X = Loops s split t} SameLoop loop_mul loop_inv element n (place_of polygon) (spoke_at polygon)) four
+    (polygon_quads s split o t polygon c some) in
     let four_quads : Torus {X = Loops s split t} SameLoop loop_mul loop_inv element =
     torus SameLoop loop_mul loop_inv element (place_of polygon) (spoke_at polygon) quads (flat_wheel s split polygon o t c four).1 in
     let equal : SameLoop (product (spokes_of p.0)) (product (spokes_of q.0)) =
     same_product SameLoop loop_mul loop_inv nothing group element four_quads p.0 q.0 p_below q_below sums in
-    let first : SameLoop x (product (spokes_of p.0)) = subst (λ w. SameLoop x (product w)) p.1 (walk_product s split o t polygon c some u v rest way) in
-    let second : SameLoop y (product (spokes_of q.0)) = subst (λ w. SameLoop y (product w)) q.1 (walk_product s split o t polygon c some u v others along) in
+    let first : SameLoop x (product (spokes_of p.0)) =
+    subst (λ w. SameLoop x (product w)) p.1 (walk_product s split o t polygon c some u v rest way) in
+    let second : SameLoop y (product (spokes_of q.0)) =
+    subst (λ w. SameLoop y (product w)) q.1 (walk_product s split o t polygon c some u v others along) in
     from_loops s.mesh t.parents.root (up s split t) (tree_ways s split o t) u v rest others way along
     (group.on x (product (spokes_of p.0)) y first
     (group.on (product (spokes_of p.0)) (product (spokes_of q.0)) y equal (group.turn y (product (spokes_of q.0)) second)))
 
 -- walks with common ends are homotopic exactly where they lead to one point
-pub one_sum : (s : OrientedMesh) (split : SplitView) (polygon : PolygonView) (first second : List ℕ) → IsOrientedSurface s → IsSplit s split → IsCutFrom s split polygon → polygon.degree ≡ 4
+pub one_sum : (s : OrientedMesh) (split : SplitView) (polygon : PolygonView) (first second : List ℕ) → IsOrientedSurface s
+    → IsSplit s split → IsCutFrom s split polygon → polygon.degree ≡ 4
     → IsWalk s.mesh first → IsWalk s.mesh second → HaveCommonEnds first second
     → Homotopic s.mesh first second
-    ↔ (led flat_next polygon.places origin (quad_path s.mesh (labelling_from s polygon) first) ≡ led flat_next polygon.places origin (quad_path s.mesh (labelling_from s polygon) second))
+    ↔ (led flat_next polygon.places origin (quad_path s.mesh (labelling_from s polygon) first) ≡ led flat_next polygon.places origin
+    (quad_path s.mesh (labelling_from s polygon) second))
 one_sum s split polygon [] second o t c four w z ends =
     let none : 0 < 0 = w.starts in
     absurd (omega arith)
@@ -263,10 +288,12 @@ one_sum s split polygon (u ∷ rest) (v ∷ others) o t c four w z ends = (
         back = λ x i b l. flat_there_and_back polygon.places x i b l;
         quad = λ x a d b e q. flat_across polygon.places x a d b e q;
       } in
-      moves_keep s.mesh (labelling_from s polygon) flat_next (λ _. IsFlatWheel polygon.places) IsEven laws o.faces (polygon_good s split polygon o t c (omega arith))
+      moves_keep s.mesh (labelling_from s polygon) flat_next (λ _. IsFlatWheel polygon.places) IsEven laws o.faces
+      (polygon_good s split polygon o t c (omega arith))
       homotopic.0 (u ∷ rest) (v ∷ others) w homotopic.1 origin (own, flat_starts.at_vertex)),
   (λ same.
       subst (λ x. Homotopic s.mesh (u ∷ rest) (x ∷ others)) ends.starts
-      (one_point s split polygon o t c four u (slice_index (u ∷ rest) (length rest)) rest others (walk_way s.mesh u rest w) (other_way s.mesh u v rest others z ends)
+      (one_point s split polygon o t c four u (slice_index (u ∷ rest) (length rest)) rest others (walk_way s.mesh u rest w)
+      (other_way s.mesh u v rest others z ends)
       (same ∙ ap (λ x. led flat_next polygon.places origin (quad_path s.mesh (labelling_from s polygon) (x ∷ others))) (sym ends.starts)))),
 )

@@ -34,7 +34,8 @@ use Rattle.quad_system.proofs.SpokeProductLemmas.{DartSpokes, dart_spokes, spoke
 -- the spokes of the step from u to v
 pub free_spokes : OrientedMesh → PolygonView → ℕ → ℕ → List ℕ
 free_spokes s polygon u v =
-    cond (eqb (dart_from s u v) (last_side polygon)) ((across_last s polygon + 1) ∷ across_last s polygon ∷ []) (spokes s.mesh (labelling_from s polygon) u v)
+    cond (eqb (dart_from s u v) (last_side polygon)) ((across_last s polygon + 1) ∷ across_last s polygon ∷ [])
+    (spokes s.mesh (labelling_from s polygon) u v)
 
 by_labels_are : (a b c e : ℕ) → (spokes_by_labels a b c e ≡ a ∷ b ∷ []) ⊎ ((spokes_by_labels a b c e ≡ []) × (a ≡ b))
 by_labels_are a b c e = elim (cases_Bool (eqb a b && eqb c e)) [
@@ -42,14 +43,17 @@ by_labels_are a b c e = elim (cases_Bool (eqb a b && eqb c e)) [
   | inr other ↦ inl (rw other refl)
 ]
 
-pub have_free_spokes : (s : OrientedMesh) (split : SplitView) (polygon : PolygonView) → IsOrientedSurface s → IsSplit s split → IsCutFrom s split polygon → 0 < polygon.degree
+pub have_free_spokes : (s : OrientedMesh) (split : SplitView) (polygon : PolygonView) → IsOrientedSurface s → IsSplit s split
+    → IsCutFrom s split polygon → 0 < polygon.degree
     → HaveFreeSpokes s polygon (free_spokes s polygon)
 unfolding free_spokes
 have_free_spokes s split polygon o t c some u v d from =
     let is : dart_from s u v ≡ d = from_is s o u v d from in
     let labels : DartSpokes s polygon d = dart_spokes s split polygon o t c some d from.within in
-    let own : spokes s.mesh (labelling_from s polygon) u v ≡ spokes_by_labels (label_of polygon d) (label_of polygon (next_of s d)) labels.c labels.e =
-    ap (λ x. spokes s.mesh (labelling_from s polygon) x v) (sym from.starts) ∙ ap (λ x. spokes s.mesh (labelling_from s polygon) (origin_of s d) x) (sym from.ends) ∙ labels.are in
+    let own : spokes s.mesh (labelling_from s polygon) u v ≡ spokes_by_labels (label_of polygon d) (label_of polygon (next_of s d))
+    labels.c labels.e =
+    ap (λ x. spokes s.mesh (labelling_from s polygon) x v) (sym from.starts)
+    ∙ ap (λ x. spokes s.mesh (labelling_from s polygon) (origin_of s d) x) (sym from.ends) ∙ labels.are in
     record {
       last = λ e. rw (eq-eqb (dart_from s u v) (last_side polygon) (is ∙ e)) refl;
       other = λ ne. elim (cases_Bool (eqb (dart_from s u v) (last_side polygon))) [
@@ -62,13 +66,16 @@ have_free_spokes s split polygon o t c some u v d from =
     }
 
 -- the wheel of the places of a polygon, by the number of places
-pub places_wheel : (s : OrientedMesh) (split : SplitView) (polygon : PolygonView) → IsOrientedSurface s → IsSplit s split → IsCutFrom s split polygon → 0 < polygon.degree
+pub places_wheel : (s : OrientedMesh) (split : SplitView) (polygon : PolygonView) → IsOrientedSurface s → IsSplit s split
+    → IsCutFrom s split polygon → 0 < polygon.degree
     → IsQuadWheel (length polygon.places) (place_of polygon) (spoke_at polygon) (across (rotations_of s) polygon)
 places_wheel s split polygon o t c some =
-    subst (λ n. IsQuadWheel n (place_of polygon) (spoke_at polygon) (across (rotations_of s) polygon)) (sym (c.places some).each_spoke) (polygon_wheel s split o t polygon c some)
+    subst (λ n. IsQuadWheel n (place_of polygon) (spoke_at polygon) (across (rotations_of s) polygon)) (sym (c.places some).each_spoke)
+    (polygon_wheel s split o t polygon c some)
 
 -- a side and the one across from it make a quad
-quad_of : (places : List ℕ) (spoke_at partner : ℕ → ℕ) → IsQuadWheel (length places) (λ i. get_or places i 0) spoke_at partner → (a : ℕ) → a < length places
+quad_of : (places : List ℕ) (spoke_at partner : ℕ → ℕ) → IsQuadWheel (length places) (λ i. get_or places i 0) spoke_at partner → (a : ℕ)
+    → a < length places
     → IsQuad places a (partner a)
 quad_of places spoke_at partner q a l = record {
   a_below = l;
@@ -88,16 +95,20 @@ record LastQuad (s : OrientedMesh) (polygon : PolygonView) (z k : ℕ) : Type 0 
   tail : label_of polygon (last_side polygon) ≡ z
   head : label_of polygon (next_of s (last_side polygon)) ≡ 0
 
-last_quad : (s : OrientedMesh) (split : SplitView) (polygon : PolygonView) → IsOrientedSurface s → IsSplit s split → IsCutFrom s split polygon → 0 < polygon.degree
+last_quad : (s : OrientedMesh) (split : SplitView) (polygon : PolygonView) → IsOrientedSurface s → IsSplit s split
+    → IsCutFrom s split polygon → 0 < polygon.degree
     → LastQuad s polygon (polygon.degree - 1) (across_last s polygon)
 last_quad s split polygon o t c some = record {
-  quad = quad_of polygon.places (spoke_at polygon) (across (rotations_of s) polygon) (places_wheel s split polygon o t c some) z (omega (arith, number));
+  quad = quad_of polygon.places (spoke_at polygon) (across (rotations_of s) polygon) (places_wheel s split polygon o t c some) z
+      (omega (arith, number));
   wraps = ap (λ n. add n z 1) number ∙ up_is_add polygon.degree z z_in ∙ goes_round polygon.degree some;
-  plain = ap (λ n. add n k 1) number ∙ up_is_add polygon.degree k k_in ∙ up_plain polygon.degree k (omega (arith, k_in, apart)) ∙ omega arith;
+  plain = ap (λ n. add n k 1) number ∙ up_is_add polygon.degree k k_in ∙ up_plain polygon.degree k (omega (arith, k_in, apart))
+      ∙ omega arith;
   next_in = omega (arith, number, k_in, apart);
   within = left.0;
   tail = tail;
-  head = (labels_ride s split polygon (last_side polygon) o t c some left.0).of_left left.1 ∙ ap (one_up polygon.degree) tail ∙ goes_round polygon.degree some;
+  head = (labels_ride s split polygon (last_side polygon) o t c some left.0).of_left left.1 ∙ ap (one_up polygon.degree) tail
+      ∙ goes_round polygon.degree some;
 }
   where
     z : ℕ
@@ -113,7 +124,8 @@ last_quad s split polygon o t c some = record {
     z_in = omega arith
 
     cross : Crosses polygon.degree (across (rotations_of s) polygon)
-    cross = sides_cross (rotations_of s) (after_dart (rotations_of s) (λ e. not (in_cotree split e))) (is_left split) polygon (rotation_system s o) (c.labels some)
+    cross = sides_cross (rotations_of s) (after_dart (rotations_of s) (λ e. not (in_cotree split e))) (is_left split) polygon
+        (rotation_system s o) (c.labels some)
 
     k_in : across_last s polygon < polygon.degree
     k_in = cross.below (polygon.degree - 1) z_in
@@ -131,13 +143,15 @@ last_quad s split polygon o t c some = record {
     goes_round n m = grind (arith, nat_tests)
 
 -- The spokes of a dart that it may have up to spurs are below the degree, and lead a form as its two labels do.
-record AreLike {State : Type 0} (s : OrientedMesh) (polygon : PolygonView) (next : List ℕ → State → ℕ → State) (Belongs IsAtVertex : State → Type 0) (d : ℕ) (path : List ℕ) : Type 0 where
+record AreLike {State : Type 0} (s : OrientedMesh) (polygon : PolygonView) (next : List ℕ → State → ℕ → State)
+    (Belongs IsAtVertex : State → Type 0) (d : ℕ) (path : List ℕ) : Type 0 where
   tail_in : label_of polygon d < length polygon.places
   head_in : label_of polygon (next_of s d) < length polygon.places
   lead : (x : State) → Belongs x → IsAtVertex x
       → led next polygon.places x path ≡ pair polygon.places next x (label_of polygon d) (label_of polygon (next_of s d))
 
-labels_in : (s : OrientedMesh) (split : SplitView) (polygon : PolygonView) → IsOrientedSurface s → IsCutFrom s split polygon → 0 < polygon.degree
+labels_in : (s : OrientedMesh) (split : SplitView) (polygon : PolygonView) → IsOrientedSurface s → IsCutFrom s split polygon
+    → 0 < polygon.degree
     → (d : ℕ) → d < darts_of s → (label_of polygon d < length polygon.places) × (label_of polygon (next_of s d) < length polygon.places)
 labels_in s split polygon o c some d l = (
   subst (λ n. label_of polygon d < n) (sym (c.places some).each_spoke) ((c.labels some).label_below d l),
@@ -145,7 +159,8 @@ labels_in s split polygon o c some d l = (
       ((c.labels some).label_below (next_of s d) ((rotation_system s o).next_within d l)),
 )
 
-free_leads : {State : Type 0} (s : OrientedMesh) (split : SplitView) (polygon : PolygonView) → IsOrientedSurface s → IsSplit s split → IsCutFrom s split polygon → 0 < polygon.degree
+free_leads : {State : Type 0} (s : OrientedMesh) (split : SplitView) (polygon : PolygonView) → IsOrientedSurface s → IsSplit s split
+    → IsCutFrom s split polygon → 0 < polygon.degree
     → (next : List ℕ → State → ℕ → State) (Belongs IsAtVertex : State → Type 0) → PutLaws polygon.places next Belongs IsAtVertex
     → (d : ℕ) → d < darts_of s → (path : List ℕ) → HasFreeSpokes s polygon d path → (x : State) → Belongs x → IsAtVertex x
     → led next polygon.places x path ≡ pair polygon.places next x (label_of polygon d) (label_of polygon (next_of s d))
@@ -167,22 +182,30 @@ free_leads s split polygon o t c some next Belongs IsAtVertex laws d l path free
   ]
 ]
 
-own_leads : {State : Type 0} (s : OrientedMesh) (split : SplitView) (polygon : PolygonView) → IsOrientedSurface s → IsSplit s split → IsCutFrom s split polygon → 0 < polygon.degree
+own_leads : {State : Type 0} (s : OrientedMesh) (split : SplitView) (polygon : PolygonView) → IsOrientedSurface s → IsSplit s split
+    → IsCutFrom s split polygon → 0 < polygon.degree
     → (next : List ℕ → State → ℕ → State) (Belongs IsAtVertex : State → Type 0) → PutLaws polygon.places next Belongs IsAtVertex
     → (u v d : ℕ) → IsDartFrom (rotations_of s) u v d → (x : State) → Belongs x → IsAtVertex x
-    → led next polygon.places x (spokes s.mesh (labelling_from s polygon) u v) ≡ pair polygon.places next x (label_of polygon d) (label_of polygon (next_of s d))
+    → led next polygon.places x (spokes s.mesh (labelling_from s polygon) u v) ≡ pair polygon.places next x (label_of polygon d)
+    (label_of polygon (next_of s d))
 own_leads s split polygon o t c some next Belongs IsAtVertex laws u v d from x b at =
     let labels : DartSpokes s polygon d = dart_spokes s split polygon o t c some d from.within in
-    let own : spokes s.mesh (labelling_from s polygon) u v ≡ spokes_by_labels (label_of polygon d) (label_of polygon (next_of s d)) labels.c labels.e =
-    ap (λ y. spokes s.mesh (labelling_from s polygon) y v) (sym from.starts) ∙ ap (spokes s.mesh (labelling_from s polygon) (origin_of s d)) (sym from.ends) ∙ labels.are in
+    let own : spokes s.mesh (labelling_from s polygon) u v ≡ spokes_by_labels (label_of polygon d) (label_of polygon (next_of s d))
+    labels.c labels.e =
+    ap (λ y. spokes s.mesh (labelling_from s polygon) y v) (sym from.starts)
+    ∙ ap (spokes s.mesh (labelling_from s polygon) (origin_of s d)) (sym from.ends) ∙ labels.are in
     ap (led next polygon.places x) own
-    ∙ labels_do polygon.places next Belongs IsAtVertex laws (label_of polygon d) (label_of polygon (next_of s d)) labels.c labels.e (labels_in s split polygon o c some d from.within).0 x b
+    ∙ labels_do polygon.places next Belongs IsAtVertex laws (label_of polygon d) (label_of polygon (next_of s d)) labels.c labels.e
+    (labels_in s split polygon o c some d from.within).0 x b
 
 -- the spokes of a walk lead a form as its quad path does
-pub free_path_leads : {State : Type 0} (s : OrientedMesh) (split : SplitView) (polygon : PolygonView) → IsOrientedSurface s → IsSplit s split → IsCutFrom s split polygon → 0 < polygon.degree
+pub free_path_leads : {State : Type 0} (s : OrientedMesh) (split : SplitView) (polygon : PolygonView) → IsOrientedSurface s
+    → IsSplit s split → IsCutFrom s split polygon → 0 < polygon.degree
     → (next : List ℕ → State → ℕ → State) (Belongs IsAtVertex : State → Type 0) → PutLaws polygon.places next Belongs IsAtVertex
-    → (some_spokes : ℕ → ℕ → List ℕ) → HaveFreeSpokes s polygon some_spokes → (u v : ℕ) (rest : List ℕ) → IsWay s.mesh u v rest → (x : State) → Belongs x → IsAtVertex x
-    → led next polygon.places x (spokes_along some_spokes (u ∷ rest)) ≡ led next polygon.places x (quad_path s.mesh (labelling_from s polygon) (u ∷ rest))
+    → (some_spokes : ℕ → ℕ → List ℕ) → HaveFreeSpokes s polygon some_spokes → (u v : ℕ) (rest : List ℕ) → IsWay s.mesh u v rest
+    → (x : State) → Belongs x → IsAtVertex x
+    → led next polygon.places x (spokes_along some_spokes (u ∷ rest)) ≡ led next polygon.places x
+    (quad_path s.mesh (labelling_from s polygon) (u ∷ rest))
 free_path_leads s split polygon o t c some next Belongs IsAtVertex laws some_spokes free u v [] way x b at = refl
 free_path_leads {State = State} s split polygon o t c some next Belongs IsAtVertex laws some_spokes free u v (w ∷ rest) way x b at =
     let found = dart_between s o u w way.0 in
@@ -193,17 +216,20 @@ free_path_leads {State = State} s split polygon o t c some next Belongs IsAtVert
     let a : ℕ = label_of polygon d in
     let e : ℕ = label_of polygon (next_of s d) in
     let y : State = pair P next x a e in
-    let here : led next P x (some_spokes u w) ≡ y = free_leads s split polygon o t c some next Belongs IsAtVertex laws d found.1.within (some_spokes u w) (free u w d found.1) x b at in
+    let here : led next P x (some_spokes u w) ≡ y = free_leads s split polygon o t c some next Belongs IsAtVertex laws d found.1.within
+    (some_spokes u w) (free u w d found.1) x b at in
     let there : led next P x q ≡ y = own_leads s split polygon o t c some next Belongs IsAtVertex laws u w d found.1 x b at in
     let on : led next P y (spokes_along some_spokes (w ∷ rest)) ≡ led next P y (quad_path s.mesh (labelling_from s polygon) (w ∷ rest)) =
     free_path_leads s split polygon o t c some next Belongs IsAtVertex laws some_spokes free w v rest way.1 y
     (pair_belongs P next Belongs IsAtVertex laws x a e b labels.0 labels.1) (laws.vertex x a e b at labels.0 labels.1) in
-    led-append next P x (some_spokes u w) (spokes_along some_spokes (w ∷ rest)) ∙ ap (λ z. led next P z (spokes_along some_spokes (w ∷ rest))) here ∙ on
+    led-append next P x (some_spokes u w) (spokes_along some_spokes (w ∷ rest))
+    ∙ ap (λ z. led next P z (spokes_along some_spokes (w ∷ rest))) here ∙ on
     ∙ ap (λ z. led next P z (quad_path s.mesh (labelling_from s polygon) (w ∷ rest))) (sym there)
     ∙ sym (led-append next P x q (quad_path s.mesh (labelling_from s polygon) (w ∷ rest)))
 
 -- and they are below the degree
-free_in : (s : OrientedMesh) (split : SplitView) (polygon : PolygonView) → IsOrientedSurface s → IsSplit s split → IsCutFrom s split polygon → 0 < polygon.degree
+free_in : (s : OrientedMesh) (split : SplitView) (polygon : PolygonView) → IsOrientedSurface s → IsSplit s split
+    → IsCutFrom s split polygon → 0 < polygon.degree
     → (d : ℕ) → d < darts_of s → (path : List ℕ) → HasFreeSpokes s polygon d path → All (λ i. i < length polygon.places) path
 free_in s split polygon o t c some d l path free =
     let n : ℕ = length polygon.places in
@@ -224,7 +250,8 @@ free_in s split polygon o t c some d l path free =
       ]
     ]
 
-pub free_path_below : (s : OrientedMesh) (split : SplitView) (polygon : PolygonView) → IsOrientedSurface s → IsSplit s split → IsCutFrom s split polygon → 0 < polygon.degree
+pub free_path_below : (s : OrientedMesh) (split : SplitView) (polygon : PolygonView) → IsOrientedSurface s → IsSplit s split
+    → IsCutFrom s split polygon → 0 < polygon.degree
     → (some_spokes : ℕ → ℕ → List ℕ) → HaveFreeSpokes s polygon some_spokes → (u v : ℕ) (rest : List ℕ) → IsWay s.mesh u v rest
     → All (λ i. i < length polygon.places) (spokes_along some_spokes (u ∷ rest))
 free_path_below s split polygon o t c some some_spokes free u v [] way = All-nil (λ i. i < length polygon.places)
@@ -235,15 +262,20 @@ free_path_below s split polygon o t c some some_spokes free u v (w ∷ rest) way
     (free_path_below s split polygon o t c some some_spokes free w v rest way.1)
 
 -- the same of walks
-pub free_walk_leads : {State : Type 0} (s : OrientedMesh) (split : SplitView) (polygon : PolygonView) → IsOrientedSurface s → IsSplit s split → IsCutFrom s split polygon → 0 < polygon.degree
+pub free_walk_leads : {State : Type 0} (s : OrientedMesh) (split : SplitView) (polygon : PolygonView) → IsOrientedSurface s
+    → IsSplit s split → IsCutFrom s split polygon → 0 < polygon.degree
     → (next : List ℕ → State → ℕ → State) (Belongs IsAtVertex : State → Type 0) → PutLaws polygon.places next Belongs IsAtVertex
-    → (some_spokes : ℕ → ℕ → List ℕ) → HaveFreeSpokes s polygon some_spokes → (walk : List ℕ) → IsWalk s.mesh walk → (x : State) → Belongs x → IsAtVertex x
-    → led next polygon.places x (spokes_along some_spokes walk) ≡ led next polygon.places x (quad_path s.mesh (labelling_from s polygon) walk)
+    → (some_spokes : ℕ → ℕ → List ℕ) → HaveFreeSpokes s polygon some_spokes → (walk : List ℕ) → IsWalk s.mesh walk → (x : State)
+    → Belongs x → IsAtVertex x
+    → led next polygon.places x (spokes_along some_spokes walk) ≡ led next polygon.places x
+    (quad_path s.mesh (labelling_from s polygon) walk)
 free_walk_leads s split polygon o t c some next Belongs IsAtVertex laws some_spokes free [] w x b at = refl
 free_walk_leads s split polygon o t c some next Belongs IsAtVertex laws some_spokes free (u ∷ rest) w x b at =
-    free_path_leads s split polygon o t c some next Belongs IsAtVertex laws some_spokes free u (slice_index (u ∷ rest) (length rest)) rest (walk_way s.mesh u rest w) x b at
+    free_path_leads s split polygon o t c some next Belongs IsAtVertex laws some_spokes free u (slice_index (u ∷ rest) (length rest))
+    rest (walk_way s.mesh u rest w) x b at
 
-pub free_walk_below : (s : OrientedMesh) (split : SplitView) (polygon : PolygonView) → IsOrientedSurface s → IsSplit s split → IsCutFrom s split polygon → 0 < polygon.degree
+pub free_walk_below : (s : OrientedMesh) (split : SplitView) (polygon : PolygonView) → IsOrientedSurface s → IsSplit s split
+    → IsCutFrom s split polygon → 0 < polygon.degree
     → (some_spokes : ℕ → ℕ → List ℕ) → HaveFreeSpokes s polygon some_spokes → (walk : List ℕ) → IsWalk s.mesh walk
     → All (λ i. i < length polygon.places) (spokes_along some_spokes walk)
 free_walk_below s split polygon o t c some some_spokes free [] w = All-nil (λ i. i < length polygon.places)

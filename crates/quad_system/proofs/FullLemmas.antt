@@ -87,17 +87,23 @@ leftover_sides s split polygon o t c some side h = record { rule = rule; kind = 
         let other : Side = partner.partner in
         let e : ℕ = side_number s.mesh other in
         let e_in : e < darts_of s = number_below s.mesh other.face.0 other.at e (numbered s other partner.partners.second) in
-        let at_e : KindLabels (rotations_of s) (in_tree split) (in_cotree split) (is_left split) polygon e = labels_ride s split polygon e o t c some e_in in
+        let at_e : KindLabels (rotations_of s) (in_tree split) (in_cotree split) (is_left split) polygon e =
+        labels_ride s split polygon e o t c some e_in in
         let two : LabelsOfSide s polygon other = labels_of_side s polygon other partner.partners.second in
         let twin : e ≡ twin_of s d = partner_is_twin s o side other partner.partners in
-        let left_e : is_left split (edge_of s e) ≡ true = ap (λ x. is_left split (edge_of s x)) twin ∙ ap (is_left split) (edge-twin s o d d_in) ∙ is in
-        let rises : head_label s.mesh labelling side ≡ one_up degree (tail_label s.mesh labelling side) = one.head ∙ at_d.of_left is ∙ ap (one_up degree) (sym one.tail) in
-        let rises_too : head_label s.mesh labelling other ≡ one_up degree (tail_label s.mesh labelling other) = two.head ∙ at_e.of_left left_e ∙ ap (one_up degree) (sym two.tail) in
+        let left_e : is_left split (edge_of s e) ≡ true = ap (λ x. is_left split (edge_of s x)) twin
+        ∙ ap (is_left split) (edge-twin s o d d_in) ∙ is in
+        let rises : head_label s.mesh labelling side ≡ one_up degree (tail_label s.mesh labelling side) =
+        one.head ∙ at_d.of_left is ∙ ap (one_up degree) (sym one.tail) in
+        let rises_too : head_label s.mesh labelling other ≡ one_up degree (tail_label s.mesh labelling other) =
+        two.head ∙ at_e.of_left left_e ∙ ap (one_up degree) (sym two.tail) in
         elim partner.meets.rule [
-          | inl tree ↦ absurd (not_tree degree (tail_label s.mesh labelling side) (head_label s.mesh labelling side) below (omega (arith, large)) rises tree.0)
+          | inl tree ↦ absurd (not_tree degree (tail_label s.mesh labelling side) (head_label s.mesh labelling side) below
+              (omega (arith, large)) rises tree.0)
           | inr more ↦ elim more [
             | inl cotree ↦
-                absurd (not_cotree degree (tail_label s.mesh labelling side) (head_label s.mesh labelling side) (tail_label s.mesh labelling other)
+                absurd (not_cotree degree (tail_label s.mesh labelling side) (head_label s.mesh labelling side)
+                (tail_label s.mesh labelling other)
                 (head_label s.mesh labelling other) below large rises rises_too cotree.0 cotree.1)
             | inr left ↦ (other, partner.partners, left)
           ]
@@ -109,33 +115,43 @@ leftover_sides s split polygon o t c some side h = record { rule = rule; kind = 
         edge : ℕ
         edge = edge_of s (side_number s.mesh side)
 
-        go : (a b l : Bool) → OneOfThree a b l → in_tree split edge ≡ a → in_cotree split edge ≡ b → is_left split edge ≡ l → is_left split edge ≡ true
+        go : (a b l : Bool) → OneOfThree a b l → in_tree split edge ≡ a → in_cotree split edge ≡ b → is_left split edge ≡ l
+            → is_left split edge ≡ true
         go a b l left_one p q r = r
         go a b l tree_one p q r =
             let other : Side = found.0 in
             let rises : head_label s.mesh labelling side ≡ one_up degree (tail_label s.mesh labelling side) =
-            found.2.rises ∙ ap (λ n. add n (tail_label s.mesh labelling side) 1) size ∙ up_is_add degree (tail_label s.mesh labelling side) below in
-            let same : tail_label s.mesh labelling side ≡ head_label s.mesh labelling side = one.tail ∙ sym (at_d.of_tree p) ∙ sym one.head in
-            absurd (not_tree degree (tail_label s.mesh labelling side) (head_label s.mesh labelling side) below (omega (arith, large)) rises same)
+            found.2.rises ∙ ap (λ n. add n (tail_label s.mesh labelling side) 1) size
+            ∙ up_is_add degree (tail_label s.mesh labelling side) below in
+            let same : tail_label s.mesh labelling side ≡ head_label s.mesh labelling side =
+            one.tail ∙ sym (at_d.of_tree p) ∙ sym one.head in
+            absurd (not_tree degree (tail_label s.mesh labelling side) (head_label s.mesh labelling side) below (omega (arith, large))
+            rises same)
         go a b l cotree_one p q r =
             let other : Side = found.0 in
             let e : ℕ = side_number s.mesh other in
             let e_in : e < darts_of s = number_below s.mesh other.face.0 other.at e (numbered s other found.1.second) in
-            let at_e : KindLabels (rotations_of s) (in_tree split) (in_cotree split) (is_left split) polygon e = labels_ride s split polygon e o t c some e_in in
+            let at_e : KindLabels (rotations_of s) (in_tree split) (in_cotree split) (is_left split) polygon e =
+            labels_ride s split polygon e o t c some e_in in
             let two : LabelsOfSide s polygon other = labels_of_side s polygon other found.1.second in
             let twin : e ≡ twin_of s d = partner_is_twin s o side other found.1 in
             let back : twin_of s e ≡ d = ap (twin_of s) twin ∙ twin-twin s o d d_in in
-            let cotree_e : in_cotree split (edge_of s e) ≡ true = ap (λ x. in_cotree split (edge_of s x)) twin ∙ ap (in_cotree split) (edge-twin s o d d_in) ∙ q in
-            let below_e : tail_label s.mesh labelling other < degree = subst (λ x. x < degree) (sym two.tail) ((c.labels some).label_below e e_in) in
+            let cotree_e : in_cotree split (edge_of s e) ≡ true =
+            ap (λ x. in_cotree split (edge_of s x)) twin ∙ ap (in_cotree split) (edge-twin s o d d_in) ∙ q in
+            let below_e : tail_label s.mesh labelling other < degree =
+            subst (λ x. x < degree) (sym two.tail) ((c.labels some).label_below e e_in) in
             let rises : head_label s.mesh labelling side ≡ one_up degree (tail_label s.mesh labelling side) =
-            found.2.rises ∙ ap (λ n. add n (tail_label s.mesh labelling side) 1) size ∙ up_is_add degree (tail_label s.mesh labelling side) below in
+            found.2.rises ∙ ap (λ n. add n (tail_label s.mesh labelling side) 1) size
+            ∙ up_is_add degree (tail_label s.mesh labelling side) below in
             let rises_too : head_label s.mesh labelling other ≡ one_up degree (tail_label s.mesh labelling other) =
-            found.2.rises_too ∙ ap (λ n. add n (tail_label s.mesh labelling other) 1) size ∙ up_is_add degree (tail_label s.mesh labelling other) below_e in
+            found.2.rises_too ∙ ap (λ n. add n (tail_label s.mesh labelling other) 1) size
+            ∙ up_is_add degree (tail_label s.mesh labelling other) below_e in
             let across : tail_label s.mesh labelling side ≡ head_label s.mesh labelling other =
             one.tail ∙ sym (at_d.of_cotree q) ∙ ap (λ x. label_of polygon (next_of s x)) (sym twin) ∙ sym two.head in
             let across_too : head_label s.mesh labelling side ≡ tail_label s.mesh labelling other =
             one.head ∙ ap (λ x. label_of polygon (next_of s x)) (sym back) ∙ at_e.of_cotree cotree_e ∙ sym two.tail in
-            absurd (not_cotree degree (tail_label s.mesh labelling side) (head_label s.mesh labelling side) (tail_label s.mesh labelling other)
+            absurd (not_cotree degree (tail_label s.mesh labelling side) (head_label s.mesh labelling side)
+            (tail_label s.mesh labelling other)
             (head_label s.mesh labelling other) below large rises rises_too across across_too)
 
 pub polygon_full : (s : OrientedMesh) (split : SplitView) (polygon : PolygonView) → IsOrientedSurface s → IsSplit s split
@@ -150,13 +166,15 @@ polygon_full s split polygon o t c some i l =
       side = found.side;
       side_of = found.in_mesh;
       leftover = sides.rule (ap (λ x. is_left split (edge_of s x)) found.number ∙ is_side.1);
-      label = (labels_of_side s polygon found.side found.in_mesh).tail ∙ ap (label_of polygon) found.number ∙ (c.labels some).own_number i l;
+      label = (labels_of_side s polygon found.side found.in_mesh).tail ∙ ap (label_of polygon) found.number
+          ∙ (c.labels some).own_number i l;
       alone = λ other h leftover label.
           let e : ℕ = side_number s.mesh other in
           let e_in : e < darts_of s = number_below s.mesh other.face.0 other.at e (numbered s other h) in
           let left : is_left split (edge_of s e) ≡ true = (leftover_sides s split polygon o t c some other h).kind leftover in
           let own : side_at polygon (label_of polygon e) ≡ e =
-          is_own_side (rotations_of s) (after_dart (rotations_of s) (λ x. Rattle.std.proofs.Common.not (in_cotree split x))) (is_left split) polygon (c.labels some) e e_in left in
+          is_own_side (rotations_of s) (after_dart (rotations_of s) (λ x. Rattle.std.proofs.Common.not (in_cotree split x)))
+          (is_left split) polygon (c.labels some) e e_in left in
           let number : label_of polygon e ≡ i = sym (labels_of_side s polygon other h).tail ∙ label in
           one_side s.mesh s other found.side h found.in_mesh (sym own ∙ ap (side_at polygon) number ∙ sym found.number);
     }

@@ -85,20 +85,23 @@ face_of_labelling s polygon f d l =
     ∙ ap (λ (k : ℕ). face_labels s polygon k (length (face_at s.mesh f))) zero_add
 
 labels_of_labelling : (s : OrientedMesh) (polygon : PolygonView) (f : ℕ) → f < length s.mesh.faces
-    → labels_at (labelling_from s polygon) f ≡ map (λ t. label_of polygon (dart_at_corner s f t)) (range_with_len 0 (length (face_at s.mesh f)))
+    → labels_at (labelling_from s polygon) f ≡ map (λ t. label_of polygon (dart_at_corner s f t))
+    (range_with_len 0 (length (face_at s.mesh f)))
 labels_of_labelling s polygon f l = ap (λ (x : FaceLabels). x.labels) (face_of_labelling s polygon f _ l)
 
 label_is : (s : OrientedMesh) (polygon : PolygonView) (corner : Side) → IsSide s.mesh corner
     → label_at (labelling_from s polygon) corner ≡ label_of polygon (dart_at_corner s corner.face.0 corner.at)
 label_is s polygon corner h =
     ap (λ (xs : List ℕ). get_or xs corner.at 0) (labels_of_labelling s polygon corner.face.0 h.face)
-    ∙ get_or-map-range_with_len (λ t. label_of polygon (dart_at_corner s corner.face.0 t)) 0 (length (face_at s.mesh corner.face.0)) corner.at corner.at 0 h.place (omega arith)
+    ∙ get_or-map-range_with_len (λ t. label_of polygon (dart_at_corner s corner.face.0 t)) 0 (length (face_at s.mesh corner.face.0))
+    corner.at corner.at 0 h.place (omega arith)
 
 pub flips_are : (s : OrientedMesh) (polygon : PolygonView) (f : ℕ) → f < length s.mesh.faces
     → is_flipped (signs_of (labelling_from s polygon)) f ≡ is_flipped s.signs f
 flips_are s polygon f l =
     let faces : List FaceLabels = (labelling_from s polygon).faces in
-    let long : length faces ≡ length s.mesh.faces = length-map (enumerate_from 0 s.mesh.faces) (λ (p : ℕ × List ℕ). face_labels s polygon p.0 (length p.1)) ∙ length-enumerate_from 0 s.mesh.faces in
+    let long : length faces ≡ length s.mesh.faces = length-map (enumerate_from 0 s.mesh.faces)
+    (λ (p : ℕ × List ℕ). face_labels s polygon p.0 (length p.1)) ∙ length-enumerate_from 0 s.mesh.faces in
     let blank : FaceLabels = record { flipped = false; labels = [] } in
     get_or-map (λ (x : FaceLabels). x.flipped) faces f blank false (omega (arith, long, l))
     ∙ ap (λ (x : FaceLabels). x.flipped) (face_of_labelling s polygon f blank l)
@@ -141,18 +144,23 @@ labels_of_side s polygon side h = go (is_flipped s.signs f) refl
     go : (b : Bool) → is_flipped s.signs f ≡ b → LabelsOfSide s polygon side
     go true e = record {
       tail =
-          ap (λ (b : Bool). cond b (label_at (labelling_from s polygon) (side_after s.mesh side)) (label_at (labelling_from s polygon) side)) (signed ∙ e)
-          ∙ other ∙ ap (λ t. label_of polygon (dart_at_corner s f t)) (sym (start_flipped s f side.at d n e)) ∙ ap (label_of polygon) at_start;
+          ap (λ (b : Bool). cond b (label_at (labelling_from s polygon) (side_after s.mesh side))
+          (label_at (labelling_from s polygon) side)) (signed ∙ e)
+          ∙ other ∙ ap (λ t. label_of polygon (dart_at_corner s f t)) (sym (start_flipped s f side.at d n e))
+          ∙ ap (label_of polygon) at_start;
       head =
-          ap (λ (b : Bool). cond b (label_at (labelling_from s polygon) side) (label_at (labelling_from s polygon) (side_after s.mesh side))) (signed ∙ e)
+          ap (λ (b : Bool). cond b (label_at (labelling_from s polygon) side)
+          (label_at (labelling_from s polygon) (side_after s.mesh side))) (signed ∙ e)
           ∙ own ∙ ap (λ t. label_of polygon (dart_at_corner s f t)) (sym (end_flipped s f side.at d n e)) ∙ ap (label_of polygon) at_end;
     }
     go false e = record {
       tail =
-          ap (λ (b : Bool). cond b (label_at (labelling_from s polygon) (side_after s.mesh side)) (label_at (labelling_from s polygon) side)) (signed ∙ e)
+          ap (λ (b : Bool). cond b (label_at (labelling_from s polygon) (side_after s.mesh side))
+          (label_at (labelling_from s polygon) side)) (signed ∙ e)
           ∙ own ∙ ap (λ t. label_of polygon (dart_at_corner s f t)) (sym (start_kept s f side.at d n e)) ∙ ap (label_of polygon) at_start;
       head =
-          ap (λ (b : Bool). cond b (label_at (labelling_from s polygon) side) (label_at (labelling_from s polygon) (side_after s.mesh side))) (signed ∙ e)
+          ap (λ (b : Bool). cond b (label_at (labelling_from s polygon) side)
+          (label_at (labelling_from s polygon) (side_after s.mesh side))) (signed ∙ e)
           ∙ other ∙ ap (λ t. label_of polygon (dart_at_corner s f t)) (sym (end_kept s f side.at d n e)) ∙ ap (label_of polygon) at_end;
     }
 
@@ -226,7 +234,8 @@ sides_rule s split polygon o t c some side other partners =
     place_below = (c.places some_side).below
 
     by_kind : (a b l : Bool) → OneOfThree a b l → in_tree split edge ≡ a → in_cotree split edge ≡ b → is_left split edge ≡ l
-        → MeetsSomeRule polygon.places (tail_label s.mesh (labelling_from s polygon) side) (head_label s.mesh (labelling_from s polygon) side)
+        → MeetsSomeRule polygon.places (tail_label s.mesh (labelling_from s polygon) side)
+        (head_label s.mesh (labelling_from s polygon) side)
         (tail_label s.mesh (labelling_from s polygon) other) (head_label s.mesh (labelling_from s polygon) other)
     by_kind a b l tree_one p q r = inl (
       one.tail ∙ sym (at_d.of_tree p) ∙ sym one.head,
@@ -239,21 +248,29 @@ sides_rule s split polygon o t c some side other partners =
     by_kind a b l left_one p q r = inr (inr (
         let left_d : is_left split (edge_of s d) ≡ true = r in
         let left_e : is_left split (edge_of s e) ≡ true = ap (is_left split) one_edge ∙ r in
-        let rises : head_label s.mesh (labelling_from s polygon) side ≡ add polygon.degree (tail_label s.mesh (labelling_from s polygon) side) 1 =
-        one.head ∙ at_d.of_left left_d ∙ sym (up_is_add polygon.degree (label_of polygon d) below_d) ∙ ap (λ x. add polygon.degree x 1) (sym one.tail) in
-        let rises_too : head_label s.mesh (labelling_from s polygon) other ≡ add polygon.degree (tail_label s.mesh (labelling_from s polygon) other) 1 =
-        two.head ∙ at_e.of_left left_e ∙ sym (up_is_add polygon.degree (label_of polygon e) below_e) ∙ ap (λ x. add polygon.degree x 1) (sym two.tail) in
-        let fall : (x y : ℕ) → x < darts_of s → twin_of s x ≡ y → is_left split (edge_of s x) ≡ true → label_of polygon x < polygon.degree → label_of polygon y < polygon.degree
-        → place_of polygon (add polygon.degree (label_of polygon y) 1) ≡ add polygon.degree (place_of polygon (label_of polygon x)) (minus polygon.degree 1) =
+        let rises : head_label s.mesh (labelling_from s polygon) side ≡ add polygon.degree
+        (tail_label s.mesh (labelling_from s polygon) side) 1 =
+        one.head ∙ at_d.of_left left_d ∙ sym (up_is_add polygon.degree (label_of polygon d) below_d)
+        ∙ ap (λ x. add polygon.degree x 1) (sym one.tail) in
+        let rises_too : head_label s.mesh (labelling_from s polygon) other ≡ add polygon.degree
+        (tail_label s.mesh (labelling_from s polygon) other) 1 =
+        two.head ∙ at_e.of_left left_e ∙ sym (up_is_add polygon.degree (label_of polygon e) below_e)
+        ∙ ap (λ x. add polygon.degree x 1) (sym two.tail) in
+        let fall : (x y : ℕ) → x < darts_of s → twin_of s x ≡ y → is_left split (edge_of s x) ≡ true
+        → label_of polygon x < polygon.degree → label_of polygon y < polygon.degree
+        → place_of polygon (add polygon.degree (label_of polygon y) 1) ≡ add polygon.degree (place_of polygon (label_of polygon x))
+        (minus polygon.degree 1) =
         λ x y x_in is left x_below y_below.
         ap (place_of polygon) (up_is_add polygon.degree (label_of polygon y) y_below)
         ∙ ap (λ z. place_of polygon (one_up polygon.degree (label_of polygon z))) (sym is)
         ∙ leftover s split polygon x o t c some_side x_in left
         ∙ sym (down_is_add polygon.degree (place_of polygon (label_of polygon x)) (place_below (label_of polygon x) x_below) some) in
         let quad_of : (n : ℕ) → n ≡ polygon.degree → QuadAt n polygon.places (tail_label s.mesh (labelling_from s polygon) side)
-        (tail_label s.mesh (labelling_from s polygon) other) (head_label s.mesh (labelling_from s polygon) side) (head_label s.mesh (labelling_from s polygon) other) =
+        (tail_label s.mesh (labelling_from s polygon) other) (head_label s.mesh (labelling_from s polygon) side)
+        (head_label s.mesh (labelling_from s polygon) other) =
         λ n is. subst
-        (λ m. QuadAt m polygon.places (tail_label s.mesh (labelling_from s polygon) side) (tail_label s.mesh (labelling_from s polygon) other)
+        (λ m. QuadAt m polygon.places (tail_label s.mesh (labelling_from s polygon) side)
+        (tail_label s.mesh (labelling_from s polygon) other)
         (head_label s.mesh (labelling_from s polygon) side) (head_label s.mesh (labelling_from s polygon) other))
         (sym is)
         (record {
@@ -292,7 +309,8 @@ two_up_moves degree i l m same = elim (cases_eq (i + 1) degree) [
   | inr more ↦
       let to : one_up degree i ≡ i + 1 = grind (arith, nat_tests) in
       elim (cases_eq (i + 1 + 1) degree) [
-        | inl last ↦ (let on : one_up degree (i + 1) ≡ 0 = grind (arith, nat_tests) in let e : 0 ≡ i = sym on ∙ ap (one_up degree) (sym to) ∙ same in omega arith)
+        | inl last ↦ (let on : one_up degree (i + 1) ≡ 0 = grind (arith, nat_tests) in let e : 0 ≡ i = sym on
+            ∙ ap (one_up degree) (sym to) ∙ same in omega arith)
         | inr further ↦
             let on : one_up degree (i + 1) ≡ i + 1 + 1 = grind (arith, nat_tests) in
             let e : i + 1 + 1 ≡ i = sym on ∙ ap (one_up degree) (sym to) ∙ same in
@@ -311,26 +329,35 @@ degree_is s split polygon c some = elim (cases_eq split.genus 1) [
 shape_of : (s : OrientedMesh) (split : SplitView) (polygon : PolygonView) → IsCutFrom s split polygon → 0 < polygon.degree
     → HasShape s.mesh (labelling_from s polygon)
 shape_of s split polygon c some = record {
-  each_face = length-map (enumerate_from 0 s.mesh.faces) (λ (p : ℕ × List ℕ). face_labels s polygon p.0 (length p.1)) ∙ length-enumerate_from 0 s.mesh.faces;
+  each_face = length-map (enumerate_from 0 s.mesh.faces) (λ (p : ℕ × List ℕ). face_labels s polygon p.0 (length p.1))
+      ∙ length-enumerate_from 0 s.mesh.faces;
   each_corner = λ f l.
       ap (λ (xs : List ℕ). length xs) (labels_of_labelling s polygon f l)
       ∙ length-map-range_with_len (λ t. label_of polygon (dart_at_corner s f t)) 0 (length (face_at s.mesh f));
   each_spoke = (c.places some).each_spoke;
   labels_below = λ f l.
       subst (All (λ label. label < polygon.degree)) (sym (labels_of_labelling s polygon f l))
-      (All-from_get_or (λ label. label < polygon.degree) (map (λ t. label_of polygon (dart_at_corner s f t)) (range_with_len 0 (length (face_at s.mesh f)))) 0
+      (All-from_get_or (λ label. label < polygon.degree)
+      (map (λ t. label_of polygon (dart_at_corner s f t)) (range_with_len 0 (length (face_at s.mesh f)))) 0
       (λ t k.
-      let few : t < length (face_at s.mesh f) = omega (arith, k, length-map-range_with_len (λ x. label_of polygon (dart_at_corner s f x)) 0 (length (face_at s.mesh f))) in
-      let is : get_or (map (λ x. label_of polygon (dart_at_corner s f x)) (range_with_len 0 (length (face_at s.mesh f)))) t 0 ≡ label_of polygon (dart_at_corner s f t) =
+      let few : t < length (face_at s.mesh f) = omega (
+        arith,
+        k,
+        length-map-range_with_len (λ x. label_of polygon (dart_at_corner s f x)) 0 (length (face_at s.mesh f)),
+      ) in
+      let is : get_or (map (λ x. label_of polygon (dart_at_corner s f x)) (range_with_len 0 (length (face_at s.mesh f)))) t 0 ≡ label_of
+      polygon (dart_at_corner s f t) =
       get_or-map-range_with_len (λ x. label_of polygon (dart_at_corner s f x)) 0 (length (face_at s.mesh f)) t t 0 few (omega arith) in
       subst (λ x. x < polygon.degree) (sym is) ((c.labels some).label_below (dart_at_corner s f t) (dart_starts s f t l few).within)));
-  places_below = All-from_get_or (λ place. place < polygon.degree) polygon.places 0 (λ i l. (c.places some).below i (omega (arith, l, (c.places some).each_spoke)));
+  places_below = All-from_get_or (λ place. place < polygon.degree) polygon.places 0
+      (λ i l. (c.places some).below i (omega (arith, l, (c.places some).each_spoke)));
 }
 
 -- sides that run oppositely under the signs of the surface do so under those of a labelling that flips the same faces
 pub opposite_under : (s : OrientedMesh) (labelling : LabellingView)
     → ((f : ℕ) → f < length s.mesh.faces → is_flipped (signs_of labelling) f ≡ is_flipped s.signs f)
-    → (side other : Side) → ArePartners s.mesh side other → RunOppositely s.mesh s.signs side other → RunOppositely s.mesh (signs_of labelling) side other
+    → (side other : Side) → ArePartners s.mesh side other → RunOppositely s.mesh s.signs side other
+    → RunOppositely s.mesh (signs_of labelling) side other
 opposite_under s labelling flips side other partners r =
     let one : is_flipped (signs_of labelling) side.face.0 ≡ is_flipped s.signs side.face.0 = flips side.face.0 partners.first.face in
     let two : is_flipped (signs_of labelling) other.face.0 ≡ is_flipped s.signs other.face.0 = flips other.face.0 partners.second.face in
@@ -353,7 +380,8 @@ polygon_good s split polygon o t c some = record {
       four,
       λ i l.
           let below : place_of polygon i < 4 = omega (arith, four, (c.places some).below i (omega arith)) in
-          ap (place_of polygon) (up_is_add 4 i l) ∙ four_places s split polygon i o t c four l ∙ sym (up_is_add 4 (place_of polygon i) below),
+          ap (place_of polygon) (up_is_add 4 i l) ∙ four_places s split polygon i o t c four l
+          ∙ sym (up_is_add 4 (place_of polygon i) below),
     )
     | inr more ↦ inl (omega arith)
   ];
@@ -361,8 +389,10 @@ polygon_good s split polygon o t c some = record {
   edges = λ u v is. record {
     two_sides = o.closed.two_sides u v is;
     sides = λ side other partners joins. record {
-      opposite = opposite_under s (labelling_from s polygon) (flips_are s polygon) side other partners (o.coherent.opposite side other partners);
-      rule = sides_rule s split polygon o t c (elim (degree_is s split polygon c some) [ inl four ↦ omega arith | inr more ↦ omega arith ]) side other partners;
+      opposite = opposite_under s (labelling_from s polygon) (flips_are s polygon) side other partners
+          (o.coherent.opposite side other partners);
+      rule = sides_rule s split polygon o t c (elim (degree_is s split polygon c some)
+          [ inl four ↦ omega arith | inr more ↦ omega arith ]) side other partners;
     };
   };
 }

@@ -27,7 +27,8 @@ labels_of_face s polygon f = map (λ t. label_of polygon (dart_at_corner s f t))
 length-labels : (s : OrientedMesh) (polygon : PolygonView) (f : ℕ) → length (labels_of_face s polygon f) ≡ length (face_at s.mesh f)
 length-labels s polygon f = length-map-range_with_len (λ t. label_of polygon (dart_at_corner s f t)) 0 (length (face_at s.mesh f))
 
-dart_from_corner : (s : OrientedMesh) (f corner sides : ℕ) (flipped : Bool) → sides ≡ length (face_at s.mesh f) → flipped ≡ is_flipped s.signs f
+dart_from_corner : (s : OrientedMesh) (f corner sides : ℕ) (flipped : Bool) → sides ≡ length (face_at s.mesh f)
+    → flipped ≡ is_flipped s.signs f
     → first_side s.mesh f + cond flipped (next_corner false sides corner) corner ≡ dart_at_corner s f corner
 unfolding dart_at_corner
 dart_from_corner s f corner sides flipped long turned = rw (long, turned) refl
@@ -73,13 +74,15 @@ face_at_corners : (s : OrientedMesh) (polygon : PolygonView) (f : ℕ) (flipped 
     → ((t : ℕ) → t < length part → get_or part t 0 ≡ label_of polygon (first_side s.mesh f + t))
     → at_corners flipped part ≡ labels_of_face s polygon f
 face_at_corners s polygon f flipped part sign long at =
-    same_number_lists (at_corners flipped part) (labels_of_face s polygon f) (omega (arith, length-at_corners flipped part, long, length-labels s polygon f))
+    same_number_lists (at_corners flipped part) (labels_of_face s polygon f)
+    (omega (arith, length-at_corners flipped part, long, length-labels s polygon f))
     (λ t l.
     let here : t < length part = omega (arith, l, length-at_corners flipped part) in
     at_corner flipped part t here
     ∙ at (cond flipped (next_corner false (length part) t) t) (place_below flipped (length part) t here)
     ∙ ap (label_of polygon) (dart_from_corner s f t (length part) flipped long sign)
-    ∙ sym (get_or-map-range_with_len (λ x. label_of polygon (dart_at_corner s f x)) 0 (length (face_at s.mesh f)) t t 0 (omega (arith, here, long)) (omega arith)))
+    ∙ sym (get_or-map-range_with_len (λ x. label_of polygon (dart_at_corner s f x)) 0 (length (face_at s.mesh f)) t t 0
+    (omega (arith, here, long)) (omega arith)))
 
 -- the faces of the labelling
 abbrev face_of_pair : OrientedMesh → PolygonView → ℕ × List ℕ → FaceLabels
@@ -114,11 +117,13 @@ abbrev labelling_of : ℕ → List FaceLabels → List ℕ → LabellingView
 labelling_of degree faces places = record { degree = degree; faces = faces; places = places }
 
 -- the labels before the end of all faces are all labels
-whole : (s : OrientedMesh) (k : ℕ) (labels : List ℕ) → k ≡ length s.mesh.faces → length labels ≡ darts_of s → take (first_side s.mesh k) labels ≡ labels
+whole : (s : OrientedMesh) (k : ℕ) (labels : List ℕ) → k ≡ length s.mesh.faces → length labels ≡ darts_of s
+    → take (first_side s.mesh k) labels ≡ labels
 whole s k labels all long = take_all (first_side s.mesh k) labels (omega (arith, long, first_side-all s.mesh k (omega (arith, all))))
 
 -- the darts of a face lie among those of the mesh
-pub face_within : (mesh : FaceList) (f : ℕ) → All (IsFace mesh.count) mesh.faces → f < length mesh.faces → first_side mesh f + length (face_at mesh f) ≤ total_sides mesh
+pub face_within : (mesh : FaceList) (f : ℕ) → All (IsFace mesh.count) mesh.faces → f < length mesh.faces
+    → first_side mesh f + length (face_at mesh f) ≤ total_sides mesh
 face_within mesh f valid l =
     let some : 3 ≤ length (face_at mesh f) = (valid f [] l).polygon in
     omega (arith, some, side_below mesh f (length (face_at mesh f) - 1) l (omega (arith, some)))
@@ -138,13 +143,22 @@ made_none s polygon signs ends long no_signs no_ends = rw (no_signs, no_ends) (r
   few = omega arith;
   each_face = refl;
   each_dart = long;
-  stored = record { each_face = refl; rising = refl; few_faces = omega arith; few_labels = λ f l. absurd (omega arith); few_places = omega arith };
+  stored = record {
+    each_face = refl;
+    rising = refl;
+    few_faces = omega arith;
+    few_labels = λ f l. absurd (omega arith);
+    few_places =
+        omega arith;
+  };
   faces = refl;
   rest = refl;
 })
 
-pub made_more : (s : OrientedMesh) (polygon : PolygonView) (k : ℕ) (signs : List Bool) (ends labels new : List ℕ) (flipped : Bool) (start end : ℕ)
-    → IsFaceList s.mesh → length s.mesh.faces < 2 ^ 32 → length polygon.labels ≡ darts_of s → IsMadeUpTo s polygon k signs ends labels → k < length s.mesh.faces
+pub made_more : (s : OrientedMesh) (polygon : PolygonView) (k : ℕ) (signs : List Bool) (ends labels new : List ℕ) (flipped : Bool)
+    (start end : ℕ)
+    → IsFaceList s.mesh → length s.mesh.faces < 2 ^ 32 → length polygon.labels ≡ darts_of s → IsMadeUpTo s polygon k signs ends labels
+    → k < length s.mesh.faces
     → flipped ≡ is_flipped s.signs k → start ≡ first_side s.mesh k → end ≡ start + length (face_at s.mesh k)
     → new ≡ take start labels ++ at_corners flipped (between start end labels) ++ drop end labels
     → IsMadeUpTo s polygon (k + 1) (signs ++ flipped ∷ []) (ends ++ end ∷ []) new
@@ -154,7 +168,8 @@ made_more s polygon k signs ends labels new flipped start end valid count long m
       each_face = length_push ends end ∙ ap (λ n. n + 1) made.each_face;
       each_dart = all;
       stored = subst (λ (xs : List ℕ). IsStoredLabelling (signs ++ flipped ∷ []) (ends ++ end ∷ []) xs []) (sym front)
-          (IsStoredLabelling-push signs ends done [] flipped face end made.stored reach (omega (arith, made.each_face, l, count)) (omega (arith, size, inside, valid.few_sides)));
+          (IsStoredLabelling-push signs ends done [] flipped face end made.stored reach (omega (arith, made.each_face, l, count))
+          (omega (arith, size, inside, valid.few_sides)));
       faces = ap (λ (xs : List ℕ). with_signs (signs ++ flipped ∷ []) (parts 0 (ends ++ end ∷ []) xs)) front
           ∙ stored_labelling-push 0 signs ends done [] flipped face end made.stored reach
           ∙ ap (λ (fs : List FaceLabels). fs ++ one_face flipped face ∷ []) made.faces
@@ -207,7 +222,8 @@ made_more s polygon k signs ends labels new flipped start end valid count long m
     front = ap (λ n. take n new) next ∙ ap (take end) both ∙ take_at (done ++ face) (drop end labels) end both_long
 
     all : length new ≡ darts_of s
-    all = ap length both ∙ length-append (done ++ face) (drop end labels) ∙ (omega (arith, both_long, length-drop end labels, within, made.each_dart))
+    all = ap length both ∙ length-append (done ++ face) (drop end labels)
+        ∙ (omega (arith, both_long, length-drop end labels, within, made.each_dart))
 
     -- behind the face nothing has changed
     past : (xs : List ℕ) → drop end xs ≡ drop sides (drop start xs)
@@ -229,16 +245,19 @@ made_more s polygon k signs ends labels new flipped start end valid count long m
     own = face_at_corners s polygon k flipped part sign part_long label
 
 -- with all faces the labelling is made
-pub made_all : (s : OrientedMesh) (polygon : PolygonView) (k degree : ℕ) (signs : List Bool) (ends labels places : List ℕ) → k ≡ length s.mesh.faces
+pub made_all : (s : OrientedMesh) (polygon : PolygonView) (k degree : ℕ) (signs : List Bool) (ends labels places : List ℕ)
+    → k ≡ length s.mesh.faces
     → IsMadeUpTo s polygon k signs ends labels → degree ≡ polygon.degree → places ≡ polygon.places
     → stored_labelling degree signs ends labels places ≡ labelling_from s polygon
 made_all s polygon k degree signs ends labels places all made degree_is places_are =
     ap (λ (n : ℕ). labelling_of n (with_signs signs (parts 0 ends labels)) places) degree_is
     ∙ ap (λ (xs : List ℕ). labelling_of polygon.degree (with_signs signs (parts 0 ends labels)) xs) places_are
     ∙ ap (λ (fs : List FaceLabels). labelling_of polygon.degree fs polygon.places)
-    (ap (λ (xs : List ℕ). with_signs signs (parts 0 ends xs)) (sym (whole s k labels all made.each_dart)) ∙ made.faces ∙ all_faces s polygon k all)
+    (ap (λ (xs : List ℕ). with_signs signs (parts 0 ends xs)) (sym (whole s k labels all made.each_dart)) ∙ made.faces
+    ∙ all_faces s polygon k all)
 
-pub made_stored : (s : OrientedMesh) (polygon : PolygonView) (k : ℕ) (signs : List Bool) (ends labels places : List ℕ) → k ≡ length s.mesh.faces
+pub made_stored : (s : OrientedMesh) (polygon : PolygonView) (k : ℕ) (signs : List Bool) (ends labels places : List ℕ)
+    → k ≡ length s.mesh.faces
     → IsMadeUpTo s polygon k signs ends labels → length places < 2 ^ 32
     → IsStoredLabelling signs ends labels places
 made_stored s polygon k signs ends labels places all made few =
@@ -252,7 +271,8 @@ made_stored s polygon k signs ends labels places all made few =
     }
 
 -- the labelling asks for the numbers of the polygon alone
-pub told_alone : (s : OrientedMesh) (polygon : PolygonView) (degree : ℕ) (labels places : List ℕ) → degree ≡ polygon.degree → labels ≡ polygon.labels
+pub told_alone : (s : OrientedMesh) (polygon : PolygonView) (degree : ℕ) (labels places : List ℕ) → degree ≡ polygon.degree
+    → labels ≡ polygon.labels
     → places ≡ polygon.places → labelling_from s (numbers_alone degree labels places) ≡ labelling_from s polygon
 told_alone s polygon degree labels places degree_is labels_are places_are =
     ap (λ (n : ℕ). labelling_from s (numbers_alone n labels places)) degree_is

@@ -24,12 +24,15 @@ pub record IsQuadWheel (degree : ℕ) (place spoke_at partner : ℕ → ℕ) : T
 -- the spokes of a word, from the vertex or from the middle, where turns are counted from m
 abbrev pub path_of : ℕ → (ℕ → ℕ) → (ℕ → ℕ) → Bool → ℕ → List ℕ → List ℕ
 path_of degree place spoke_at at_vertex m [] = []
-path_of degree place spoke_at true m (y ∷ word) = spoke_at (add degree m y) ∷ path_of degree place spoke_at false (spoke_at (add degree m y)) word
+path_of degree place spoke_at true m (y ∷ word) = spoke_at (add degree m y) ∷ path_of degree place spoke_at false
+    (spoke_at (add degree m y)) word
 path_of degree place spoke_at false m (y ∷ word) = add degree m y ∷ path_of degree place spoke_at true (place (add degree m y)) word
 
 -- they depend on where turns are counted from, and on the first entry, by their sum alone
-path_shifted : (degree : ℕ) (place spoke_at : ℕ → ℕ) (at_vertex : Bool) (m amount : ℕ) (word : List ℕ) → m < degree → amount < degree → Within degree word
-    → path_of degree place spoke_at at_vertex (add degree m amount) word ≡ path_of degree place spoke_at at_vertex m (next_changed degree amount word)
+path_shifted : (degree : ℕ) (place spoke_at : ℕ → ℕ) (at_vertex : Bool) (m amount : ℕ) (word : List ℕ) → m < degree → amount < degree
+    → Within degree word
+    → path_of degree place spoke_at at_vertex (add degree m amount) word ≡ path_of degree place spoke_at at_vertex m
+    (next_changed degree amount word)
 path_shifted degree place spoke_at at_vertex m amount [] l k h = refl
 path_shifted degree place spoke_at true m amount (y ∷ word) l k h =
     let same : add degree (add degree m amount) y ≡ add degree m (add degree y amount) =
@@ -41,16 +44,19 @@ path_shifted degree place spoke_at false m amount (y ∷ word) l k h =
     ap (λ x. x ∷ path_of degree place spoke_at true (place x) word) same
 
 pub add_back : (degree x : ℕ) → 1 < degree → x < degree → add degree (add degree x 1) (minus degree 1) ≡ x
-add_back degree x m l = add_assoc degree x 1 (minus degree 1) l m (minus-lt degree 1 m) ∙ ap (add degree x) (add-minus degree 1 m) ∙ add-zero degree x l
+add_back degree x m l = add_assoc degree x 1 (minus degree 1) l m (minus-lt degree 1 m) ∙ ap (add degree x) (add-minus degree 1 m)
+    ∙ add-zero degree x l
 
 -- two equal neighbours go out
 pub record SpurGoes (at_vertex : Bool) (path other : List ℕ) : Type 0 where
   pub spoke : ℕ
   pub is : path ≡ spoke ∷ spoke ∷ other
 
-spur_path : (degree : ℕ) (place spoke_at partner : ℕ → ℕ) → IsQuadWheel degree place spoke_at partner → (at_vertex : Bool) (m x : ℕ) (word : List ℕ) → m < degree → x < degree
+spur_path : (degree : ℕ) (place spoke_at partner : ℕ → ℕ) → IsQuadWheel degree place spoke_at partner
+    → (at_vertex : Bool) (m x : ℕ) (word : List ℕ) → m < degree → x < degree
     → Within degree word
-    → SpurGoes at_vertex (path_of degree place spoke_at at_vertex m (x ∷ 0 ∷ word)) (path_of degree place spoke_at at_vertex m (next_changed degree x word))
+    → SpurGoes at_vertex (path_of degree place spoke_at at_vertex m (x ∷ 0 ∷ word))
+    (path_of degree place spoke_at at_vertex m (next_changed degree x word))
 spur_path degree place spoke_at partner q true m x word l k h =
     let y : ℕ = add degree m x in
     let y_in : y < degree = add-lt degree m x l k in
@@ -92,7 +98,8 @@ pub record IsPushedDown (degree : ℕ) (partner : ℕ → ℕ) (at_vertex : Bool
   pub from : path ≡ upper_side degree partner at_vertex side after
   pub to : other ≡ lower_side degree partner at_vertex side after
 
-push_path : (degree : ℕ) (place spoke_at partner : ℕ → ℕ) → IsQuadWheel degree place spoke_at partner → (at_vertex : Bool) (m x : ℕ) (word : List ℕ) → m < degree → x < degree
+push_path : (degree : ℕ) (place spoke_at partner : ℕ → ℕ) → IsQuadWheel degree place spoke_at partner
+    → (at_vertex : Bool) (m x : ℕ) (word : List ℕ) → m < degree → x < degree
     → Within degree word
     → IsPushedDown degree partner at_vertex (path_of degree place spoke_at at_vertex m (x ∷ 1 ∷ word))
     (path_of degree place spoke_at at_vertex m (add degree x (minus degree 1) ∷ minus degree 1 ∷ next_changed degree (minus degree 1) word))
@@ -112,7 +119,8 @@ push_path degree place spoke_at partner q true m x word l k h =
     ap spoke_at (sym (add_assoc degree m x less l k less_in)) ∙ ap (λ z. spoke_at (add degree z less)) (sym (q.place_of_spoke y y_in))
     ∙ ap spoke_at (sym (q.one_before a a_in)) ∙ q.spoke_of_place c_up c_up_in in
     let second : add degree c_up less ≡ c = add_back degree c q.large c_in in
-    let other : place a_up ≡ add degree (place c) less = ap (λ z. place (add degree z 1)) (sym (q.partner_back a a_in)) ∙ q.one_before c c_in in
+    let other : place a_up ≡ add degree (place c) less =
+    ap (λ z. place (add degree z 1)) (sym (q.partner_back a a_in)) ∙ q.one_before c c_in in
     let after : List ℕ = path_of degree place spoke_at true (place a_up) word in
     let behind : path_of degree place spoke_at true (place c) (next_changed degree less word) ≡ after =
     sym (path_shifted degree place spoke_at true (place c) less word (q.place_in c c_in) less_in h)
@@ -123,7 +131,8 @@ push_path degree place spoke_at partner q true m x word l k h =
       after = after;
       from = refl;
       to =
-          ap (λ z. z ∷ add degree z less ∷ path_of degree place spoke_at true (place (add degree z less)) (next_changed degree less word)) first
+          ap (λ z. z ∷ add degree z less ∷ path_of degree place spoke_at true (place (add degree z less))
+          (next_changed degree less word)) first
           ∙ ap (λ z. c_up ∷ z ∷ path_of degree place spoke_at true (place z) (next_changed degree less word)) second
           ∙ ap (λ (p : List ℕ). c_up ∷ c ∷ p) behind;
     }
@@ -147,7 +156,8 @@ push_path degree place spoke_at partner q false m x word l k h =
     let c_is : c_up ≡ e = sym (q.spoke_of_place c_up c_up_in) ∙ ap spoke_at c_place ∙ q.spoke_of_place e e_in in
     let first : add degree m (add degree x less) ≡ c =
     sym (add_assoc degree m x less l k less_in) ∙ ap (λ z. add degree z less) (sym c_is) ∙ add_back degree c q.large c_in in
-    let other : place a_up ≡ add degree (place c) less = ap (λ z. place (add degree z 1)) (sym (q.partner_back a a_in)) ∙ q.one_before c c_in in
+    let other : place a_up ≡ add degree (place c) less =
+    ap (λ z. place (add degree z 1)) (sym (q.partner_back a a_in)) ∙ q.one_before c c_in in
     let second : spoke_at (add degree (place c) less) ≡ a_up = ap spoke_at (sym other) ∙ q.spoke_of_place a_up a_up_in in
     let after : List ℕ = path_of degree place spoke_at false a word in
     let behind : path_of degree place spoke_at false a_up (next_changed degree less word) ≡ after =
@@ -159,7 +169,8 @@ push_path degree place spoke_at partner q false m x word l k h =
       after = after;
       from = ap (λ z. z ∷ a ∷ after) (sym c_is);
       to =
-          ap (λ z. z ∷ spoke_at (add degree (place z) less) ∷ path_of degree place spoke_at false (spoke_at (add degree (place z) less)) (next_changed degree less word)) first
+          ap (λ z. z ∷ spoke_at (add degree (place z) less) ∷ path_of degree place spoke_at false (spoke_at (add degree (place z) less))
+          (next_changed degree less word)) first
           ∙ ap (λ z. c ∷ z ∷ path_of degree place spoke_at false z (next_changed degree less word)) second
           ∙ ap (λ (p : List ℕ). c ∷ a_up ∷ p) behind;
     }
@@ -187,12 +198,15 @@ ChangesPath degree place spoke_at Changed rule =
     (w v : List ℕ) → Within degree w → rule w ≡ Some v → (at_vertex : Bool) (m : ℕ) → m < degree
     → Changed at_vertex (path_of degree place spoke_at at_vertex m w) (path_of degree place spoke_at at_vertex m v)
 
-mapped_is : (o : Option (List ℕ)) (x : ℕ) (v : List ℕ) → option_map (λ changed. x ∷ changed) o ≡ Some v → (w : List ℕ) × (o ≡ Some w) × (x ∷ w ≡ v)
+mapped_is : (o : Option (List ℕ)) (x : ℕ) (v : List ℕ) → option_map (λ changed. x ∷ changed) o ≡ Some v → (w : List ℕ) × (o ≡ Some w)
+    × (x ∷ w ≡ v)
 mapped_is None x v e = cc
 mapped_is (Some w) x v e = (w, refl, let same : x ∷ w ≡ v = cc in same)
 
-pub changed_behind : (degree : ℕ) (place spoke_at partner : ℕ → ℕ) → IsQuadWheel degree place spoke_at partner → (Changed : Bool → List ℕ → List ℕ → Type 0) (rule : List ℕ → Option (List ℕ))
-    → ChangesPath degree place spoke_at Changed rule → (at : ℕ) (w v : List ℕ) → Within degree w → from_place at rule w ≡ Some v → (at_vertex : Bool) (m : ℕ) → m < degree
+pub changed_behind : (degree : ℕ) (place spoke_at partner : ℕ → ℕ) → IsQuadWheel degree place spoke_at partner
+    → (Changed : Bool → List ℕ → List ℕ → Type 0) (rule : List ℕ → Option (List ℕ))
+    → ChangesPath degree place spoke_at Changed rule → (at : ℕ) (w v : List ℕ) → Within degree w → from_place at rule w ≡ Some v
+    → (at_vertex : Bool) (m : ℕ) → m < degree
     → IsChangedBehind Changed at_vertex at (path_of degree place spoke_at at_vertex m w) (path_of degree place spoke_at at_vertex m v)
 changed_behind degree place spoke_at partner q Changed rule ok zero w v h e at_vertex m l = record {
   before = [];
@@ -244,14 +258,17 @@ some_is : (test : Bool) (x v : List ℕ) → cond test (Some x) None ≡ Some v 
 some_is true x v e = (refl, let same : x ≡ v = cc in same)
 some_is false x v e = cc
 
-spur_out_path : (degree : ℕ) (place spoke_at partner : ℕ → ℕ) → IsQuadWheel degree place spoke_at partner → ChangesPath degree place spoke_at SpurGoes (spur_out degree)
+spur_out_path : (degree : ℕ) (place spoke_at partner : ℕ → ℕ) → IsQuadWheel degree place spoke_at partner
+    → ChangesPath degree place spoke_at SpurGoes (spur_out degree)
 spur_out_path degree place spoke_at partner q [] v h e at_vertex m l = cc
 spur_out_path degree place spoke_at partner q (x ∷ []) v h e at_vertex m l = cc
 spur_out_path degree place spoke_at partner q (x ∷ turn ∷ w) v h e at_vertex m l =
     let told = some_is (eqb turn 0) (next_changed degree x w) v e in
     let zero_is : turn ≡ 0 = eqb-true turn 0 told.0 in
-    subst (λ (z : List ℕ). SpurGoes at_vertex (path_of degree place spoke_at at_vertex m (x ∷ turn ∷ w)) (path_of degree place spoke_at at_vertex m z)) told.1
-    (subst (λ z. SpurGoes at_vertex (path_of degree place spoke_at at_vertex m (x ∷ z ∷ w)) (path_of degree place spoke_at at_vertex m (next_changed degree x w))) (sym zero_is)
+    subst (λ (z : List ℕ). SpurGoes at_vertex (path_of degree place spoke_at at_vertex m (x ∷ turn ∷ w))
+    (path_of degree place spoke_at at_vertex m z)) told.1
+    (subst (λ z. SpurGoes at_vertex (path_of degree place spoke_at at_vertex m (x ∷ z ∷ w))
+    (path_of degree place spoke_at at_vertex m (next_changed degree x w))) (sym zero_is)
     (spur_path degree place spoke_at partner q at_vertex m x w l h.0 h.1.1))
 
 -- pushed down, or up, which is down the other way
@@ -259,7 +276,8 @@ abbrev pub PushedOneWay : ℕ → (ℕ → ℕ) → Bool → Bool → List ℕ �
 PushedOneWay degree partner false at_vertex path other = IsPushedDown degree partner at_vertex path other
 PushedOneWay degree partner true at_vertex path other = IsPushedDown degree partner at_vertex other path
 
-unchanged : (degree a b : ℕ) (word : List ℕ) → Within degree word → a < degree → b < degree → add degree a b ≡ 0 → next_changed degree b (next_changed degree a word) ≡ word
+unchanged : (degree a b : ℕ) (word : List ℕ) → Within degree word → a < degree → b < degree → add degree a b ≡ 0
+    → next_changed degree b (next_changed degree a word) ≡ word
 unchanged degree a b [] h l k e = refl
 unchanged degree a b (y ∷ word) h l k e = ap (λ x. x ∷ word) (add_assoc degree y a b h.0 l k ∙ ap (add degree y) e ∙ add-zero degree y h.0)
 
@@ -271,9 +289,11 @@ pushed_path degree place spoke_at partner q false (x ∷ turn ∷ w) v h e at_ve
     let less : ℕ = minus degree 1 in
     let told = some_is (eqb turn 1) (add degree x less ∷ less ∷ next_changed degree less w) v e in
     let one_is : turn ≡ 1 = eqb-true turn 1 told.0 in
-    subst (λ (z : List ℕ). IsPushedDown degree partner at_vertex (path_of degree place spoke_at at_vertex m (x ∷ turn ∷ w)) (path_of degree place spoke_at at_vertex m z)) told.1
+    subst (λ (z : List ℕ). IsPushedDown degree partner at_vertex (path_of degree place spoke_at at_vertex m (x ∷ turn ∷ w))
+    (path_of degree place spoke_at at_vertex m z)) told.1
     (subst (λ z. IsPushedDown degree partner at_vertex (path_of degree place spoke_at at_vertex m (x ∷ z ∷ w))
-    (path_of degree place spoke_at at_vertex m (add degree x less ∷ less ∷ next_changed degree less w))) (sym one_is) (push_path degree place spoke_at partner q at_vertex m x w l h.0 h.1.1))
+    (path_of degree place spoke_at at_vertex m (add degree x less ∷ less ∷ next_changed degree less w))) (sym one_is)
+    (push_path degree place spoke_at partner q at_vertex m x w l h.0 h.1.1))
 pushed_path degree place spoke_at partner q true (x ∷ turn ∷ w) v h e at_vertex m l =
     let less : ℕ = minus degree 1 in
     let less_in : less < degree = minus-lt degree 1 q.large in
@@ -281,45 +301,59 @@ pushed_path degree place spoke_at partner q true (x ∷ turn ∷ w) v h e at_ver
     let less_is : turn ≡ less = eqb-true turn less told.0 in
     let x_up : add degree x 1 < degree = add-lt degree x 1 h.0 q.large in
     let changed : Within degree (next_changed degree 1 w) = changed_within degree 1 w q.large h.1.1 in
-    let home : next_changed degree less (next_changed degree 1 w) ≡ w = unchanged degree 1 less w h.1.1 q.large less_in (add-minus degree 1 q.large) in
+    let home : next_changed degree less (next_changed degree 1 w) ≡ w =
+    unchanged degree 1 less w h.1.1 q.large less_in (add-minus degree 1 q.large) in
     let x_home : add degree (add degree x 1) less ≡ x = add_back degree x q.large h.0 in
     let top : List ℕ = path_of degree place spoke_at at_vertex m (add degree x 1 ∷ 1 ∷ next_changed degree 1 w) in
     let down : IsPushedDown degree partner at_vertex top
-    (path_of degree place spoke_at at_vertex m (add degree (add degree x 1) less ∷ less ∷ next_changed degree less (next_changed degree 1 w))) =
+    (path_of degree place spoke_at at_vertex m (add degree (add degree x 1) less ∷ less ∷ next_changed degree less
+    (next_changed degree 1 w))) =
     push_path degree place spoke_at partner q at_vertex m (add degree x 1) (next_changed degree 1 w) l x_up changed in
     let to_word : IsPushedDown degree partner at_vertex top (path_of degree place spoke_at at_vertex m (x ∷ turn ∷ w)) =
     subst (λ z. IsPushedDown degree partner at_vertex top (path_of degree place spoke_at at_vertex m (x ∷ z ∷ w))) (sym less_is)
     (subst (λ z. IsPushedDown degree partner at_vertex top (path_of degree place spoke_at at_vertex m (z ∷ less ∷ w))) x_home
-    (subst (λ (z : List ℕ). IsPushedDown degree partner at_vertex top (path_of degree place spoke_at at_vertex m (add degree (add degree x 1) less ∷ less ∷ z))) home down)) in
-    subst (λ (z : List ℕ). IsPushedDown degree partner at_vertex (path_of degree place spoke_at at_vertex m z) (path_of degree place spoke_at at_vertex m (x ∷ turn ∷ w))) told.1 to_word
+    (subst (λ (z : List ℕ). IsPushedDown degree partner at_vertex top
+    (path_of degree place spoke_at at_vertex m (add degree (add degree x 1) less ∷ less ∷ z))) home down)) in
+    subst (λ (z : List ℕ). IsPushedDown degree partner at_vertex (path_of degree place spoke_at at_vertex m z)
+    (path_of degree place spoke_at at_vertex m (x ∷ turn ∷ w))) told.1 to_word
 
 -- What the steps of a reduction do to the spokes of a word that starts at the vertex.
-pub spur_out_changes : (degree : ℕ) (place spoke_at partner : ℕ → ℕ) → IsQuadWheel degree place spoke_at partner → (at : ℕ) (w v : List ℕ) → Within degree w
+pub spur_out_changes : (degree : ℕ) (place spoke_at partner : ℕ → ℕ) → IsQuadWheel degree place spoke_at partner
+    → (at : ℕ) (w v : List ℕ) → Within degree w
     → after_step degree (SpurOut at) w ≡ Some v
     → IsChangedBehind SpurGoes true at (path_of degree place spoke_at true 0 w) (path_of degree place spoke_at true 0 v)
 spur_out_changes degree place spoke_at partner q at w v h e =
-    changed_behind degree place spoke_at partner q SpurGoes (spur_out degree) (spur_out_path degree place spoke_at partner q) at w v h e true 0 (let large : 1 < degree = q.large in omega arith)
+    changed_behind degree place spoke_at partner q SpurGoes (spur_out degree) (spur_out_path degree place spoke_at partner q) at w v h e
+    true 0 (let large : 1 < degree = q.large in omega arith)
 
-pub push_changes : (degree : ℕ) (place spoke_at partner : ℕ → ℕ) → IsQuadWheel degree place spoke_at partner → (at : ℕ) (up : Bool) (w v : List ℕ) → Within degree w
+pub push_changes : (degree : ℕ) (place spoke_at partner : ℕ → ℕ) → IsQuadWheel degree place spoke_at partner
+    → (at : ℕ) (up : Bool) (w v : List ℕ) → Within degree w
     → after_step degree (Push at up) w ≡ Some v
-    → IsChangedBehind (PushedOneWay degree partner up) true at (path_of degree place spoke_at true 0 w) (path_of degree place spoke_at true 0 v)
+    → IsChangedBehind (PushedOneWay degree partner up) true at (path_of degree place spoke_at true 0 w)
+    (path_of degree place spoke_at true 0 v)
 push_changes degree place spoke_at partner q at up w v h e =
-    changed_behind degree place spoke_at partner q (PushedOneWay degree partner up) (pushed degree up) (pushed_path degree place spoke_at partner q up) at w v h e true 0
+    changed_behind degree place spoke_at partner q (PushedOneWay degree partner up) (pushed degree up)
+    (pushed_path degree place spoke_at partner q up) at w v h e true 0
     (let large : 1 < degree = q.large in omega arith)
 
 -- a list of spokes has a turn word, whose spokes it is
-turns_path : (places : List ℕ) (spoke_at : ℕ → ℕ) → ((i : ℕ) → i < length places → get_or places i 0 < length places) → ((i : ℕ) → i < length places → spoke_at (get_or places i 0) ≡ i)
+turns_path : (places : List ℕ) (spoke_at : ℕ → ℕ) → ((i : ℕ) → i < length places → get_or places i 0 < length places)
+    → ((i : ℕ) → i < length places → spoke_at (get_or places i 0) ≡ i)
     → (spokes : List ℕ) (at_vertex : Bool) (last : ℕ) → last < length places → All (λ i. i < length places) spokes
-    → path_of (length places) (λ i. get_or places i 0) spoke_at at_vertex (place_round places at_vertex last) (turns_after places at_vertex last spokes) ≡ spokes
+    → path_of (length places) (λ i. get_or places i 0) spoke_at at_vertex (place_round places at_vertex last)
+    (turns_after places at_vertex last spokes) ≡ spokes
 turns_path places spoke_at place_in back [] at_vertex last l h = refl
 turns_path places spoke_at place_in back (i ∷ spokes) true last l h =
     let d : ℕ = length places in
     let here : i < d = h 0 i (omega arith) in
     let sum : add d (get_or places last 0) (add d (get_or places i 0) (minus d (get_or places last 0))) ≡ get_or places i 0 =
     ap (add d (get_or places last 0)) (add_comm d (get_or places i 0) (minus d (get_or places last 0)))
-    ∙ sym (add_assoc d (get_or places last 0) (minus d (get_or places last 0)) (get_or places i 0) (place_in last l) (minus-lt d (get_or places last 0) (place_in last l)) (place_in i here))
-    ∙ ap (λ x. add d x (get_or places i 0)) (add-minus d (get_or places last 0) (place_in last l)) ∙ zero-add d (get_or places i 0) (place_in i here) in
-    let is : spoke_at (add d (get_or places last 0) (add d (get_or places i 0) (minus d (get_or places last 0)))) ≡ i = ap spoke_at sum ∙ back i here in
+    ∙ sym (add_assoc d (get_or places last 0) (minus d (get_or places last 0)) (get_or places i 0) (place_in last l)
+    (minus-lt d (get_or places last 0) (place_in last l)) (place_in i here))
+    ∙ ap (λ x. add d x (get_or places i 0)) (add-minus d (get_or places last 0) (place_in last l))
+    ∙ zero-add d (get_or places i 0) (place_in i here) in
+    let is : spoke_at (add d (get_or places last 0) (add d (get_or places i 0) (minus d (get_or places last 0)))) ≡ i =
+    ap spoke_at sum ∙ back i here in
     ap (λ x. x ∷ path_of d (λ j. get_or places j 0) spoke_at false x (turns_after places false i spokes)) is
     ∙ ap (λ (p : List ℕ). i ∷ p) (turns_path places spoke_at place_in back spokes false i here (λ k e m. h (suc k) e (omega arith)))
 turns_path places spoke_at place_in back (i ∷ spokes) false last l h =
@@ -331,8 +365,10 @@ turns_path places spoke_at place_in back (i ∷ spokes) false last l h =
     ap (λ x. x ∷ path_of d (λ j. get_or places j 0) spoke_at true (get_or places x 0) (turns_after places true i spokes)) is
     ∙ ap (λ (p : List ℕ). i ∷ p) (turns_path places spoke_at place_in back spokes true i here (λ k e m. h (suc k) e (omega arith)))
 
-pub word_path : (places : List ℕ) (spoke_at : ℕ → ℕ) → ((i : ℕ) → i < length places → get_or places i 0 < length places) → ((i : ℕ) → i < length places → spoke_at (get_or places i 0) ≡ i)
-    → (spokes : List ℕ) → All (λ i. i < length places) spokes → path_of (length places) (λ i. get_or places i 0) spoke_at true 0 (turn_word_of places spokes) ≡ spokes
+pub word_path : (places : List ℕ) (spoke_at : ℕ → ℕ) → ((i : ℕ) → i < length places → get_or places i 0 < length places)
+    → ((i : ℕ) → i < length places → spoke_at (get_or places i 0) ≡ i)
+    → (spokes : List ℕ) → All (λ i. i < length places) spokes
+    → path_of (length places) (λ i. get_or places i 0) spoke_at true 0 (turn_word_of places spokes) ≡ spokes
 word_path places spoke_at place_in back [] h = refl
 word_path places spoke_at place_in back (i ∷ spokes) h =
     let d : ℕ = length places in

@@ -26,12 +26,14 @@ use Rattle.quad_system.proofs.SpokeProductLemmas.{polygon_quads, spoke_at}
 use Rattle.quad_system.proofs.PushPathLemmas.{IsQuadWheel, path_of, upper_side, lower_side, turned, IsChangedBehind, IsPushedDown, PushedOneWay, spur_out_changes, push_changes}
 
 -- the wheel of a polygon
-pub polygon_wheel : (s : OrientedMesh) (split : SplitView) (o : IsOrientedSurface s) (t : IsSplit s split) (polygon : PolygonView) (c : IsCutFrom s split polygon) → 0 < polygon.degree
+pub polygon_wheel : (s : OrientedMesh) (split : SplitView) (o : IsOrientedSurface s) (t : IsSplit s split) (polygon : PolygonView)
+    (c : IsCutFrom s split polygon) → 0 < polygon.degree
     → IsQuadWheel polygon.degree (place_of polygon) (spoke_at polygon) (across (rotations_of s) polygon)
 polygon_wheel s split o t polygon c some =
     let q = polygon_quads s split o t polygon c some in
     let cross : Crosses polygon.degree (across (rotations_of s) polygon) =
-    sides_cross (rotations_of s) (after_dart (rotations_of s) (λ e. not (in_cotree split e))) (is_left split) polygon (rotation_system s o) (c.labels some) in
+    sides_cross (rotations_of s) (after_dart (rotations_of s) (λ e. not (in_cotree split e))) (is_left split) polygon
+    (rotation_system s o) (c.labels some) in
     record {
       large = q.large;
       place_in = q.place_in;
@@ -46,8 +48,10 @@ polygon_wheel s split o t polygon c some =
     }
 
 -- the loop of a list of spokes
-abbrev pub loop_of_path : (s : OrientedMesh) (split : SplitView) → IsOrientedSurface s → (t : IsSplit s split) → PolygonView → List ℕ → Loops s split t
-loop_of_path s split o t polygon path = spoke_product loop_mul loop_inv (loop_one s.mesh t.parents.root t.parents.root_used) (spoke s split o t polygon) true path
+abbrev pub loop_of_path : (s : OrientedMesh) (split : SplitView) → IsOrientedSurface s → (t : IsSplit s split) → PolygonView → List ℕ
+    → Loops s split t
+loop_of_path s split o t polygon path = spoke_product loop_mul loop_inv (loop_one s.mesh t.parents.root t.parents.root_used)
+    (spoke s split o t polygon) true path
 
 -- the spokes behind which the loop of the last side goes in, at the vertex or in the middle, where the side pushed over is the last one, or
 -- the one across from it
@@ -60,22 +64,30 @@ front_of_across z k true = k ∷ suc k ∷ []
 front_of_across z k false = z ∷ []
 
 -- a push down over the side a, behind some spokes
-pub record DownWorth (s : OrientedMesh) (split : SplitView) (o : IsOrientedSurface s) (t : IsSplit s split) (polygon : PolygonView) (at_vertex : Bool) (a : ℕ) (before after : List ℕ) : Type 0 where
+pub record DownWorth (s : OrientedMesh) (split : SplitView) (o : IsOrientedSurface s) (t : IsSplit s split) (polygon : PolygonView)
+    (at_vertex : Bool) (a : ℕ) (before after : List ℕ) : Type 0 where
   pub other : a ≢ polygon.degree - 1 → a ≢ across (rotations_of s) polygon (polygon.degree - 1)
-      → SameFreely (loop_of_path s split o t polygon (before ++ upper_side polygon.degree (across (rotations_of s) polygon) at_vertex a after))
+      → SameFreely (loop_of_path s split o t polygon (before
+      ++ upper_side polygon.degree (across (rotations_of s) polygon) at_vertex a after))
       (loop_of_path s split o t polygon (before ++ lower_side polygon.degree (across (rotations_of s) polygon) at_vertex a after))
   pub last : a ≡ polygon.degree - 1
-      → SameFreely (loop_of_path s split o t polygon (before ++ lower_side polygon.degree (across (rotations_of s) polygon) at_vertex a after))
-      (loop_in loop_mul loop_inv (loop_of_path s split o t polygon (before ++ front_of_last (across (rotations_of s) polygon (polygon.degree - 1)) at_vertex)) (last_loop s split o t polygon)
+      → SameFreely (loop_of_path s split o t polygon (before
+      ++ lower_side polygon.degree (across (rotations_of s) polygon) at_vertex a after))
+      (loop_in loop_mul loop_inv (loop_of_path s split o t polygon
+      (before ++ front_of_last (across (rotations_of s) polygon (polygon.degree - 1)) at_vertex)) (last_loop s split o t polygon)
       (loop_of_path s split o t polygon (before ++ upper_side polygon.degree (across (rotations_of s) polygon) at_vertex a after)))
   pub opposite : a ≡ across (rotations_of s) polygon (polygon.degree - 1)
-      → SameFreely (loop_of_path s split o t polygon (before ++ lower_side polygon.degree (across (rotations_of s) polygon) at_vertex a after))
-      (loop_in loop_mul loop_inv (loop_of_path s split o t polygon (before ++ front_of_across (polygon.degree - 1) (across (rotations_of s) polygon (polygon.degree - 1)) at_vertex))
+      → SameFreely (loop_of_path s split o t polygon (before
+      ++ lower_side polygon.degree (across (rotations_of s) polygon) at_vertex a after))
+      (loop_in loop_mul loop_inv (loop_of_path s split o t polygon
+      (before ++ front_of_across (polygon.degree - 1) (across (rotations_of s) polygon (polygon.degree - 1)) at_vertex))
       (last_loop s split o t polygon)
       (loop_of_path s split o t polygon (before ++ upper_side polygon.degree (across (rotations_of s) polygon) at_vertex a after)))
 
-pub down_worth : (s : OrientedMesh) (split : SplitView) (o : IsOrientedSurface s) (t : IsSplit s split) (polygon : PolygonView) (c : IsCutFrom s split polygon) → 0 < polygon.degree
-    → (at_vertex : Bool) (a : ℕ) (before after : List ℕ) → a < polygon.degree → ends_at_vertex true before ≡ at_vertex → DownWorth s split o t polygon at_vertex a before after
+pub down_worth : (s : OrientedMesh) (split : SplitView) (o : IsOrientedSurface s) (t : IsSplit s split) (polygon : PolygonView)
+    (c : IsCutFrom s split polygon) → 0 < polygon.degree
+    → (at_vertex : Bool) (a : ℕ) (before after : List ℕ) → a < polygon.degree → ends_at_vertex true before ≡ at_vertex
+    → DownWorth s split o t polygon at_vertex a before after
 down_worth s split o t polygon c some at_vertex a before after l parity = record {
   other = λ ne nk. other at_vertex parity ne nk;
   last = λ e. subst (λ x. Last at_vertex x) (sym e) (last at_vertex parity);
@@ -107,7 +119,8 @@ down_worth s split o t polygon c some at_vertex a before after l parity = record
     loop = last_loop s split o t polygon
 
     cross : Crosses polygon.degree (across (rotations_of s) polygon)
-    cross = sides_cross (rotations_of s) (after_dart (rotations_of s) (λ e. not (in_cotree split e))) (is_left split) polygon (rotation_system s o) (c.labels some)
+    cross = sides_cross (rotations_of s) (after_dart (rotations_of s) (λ e. not (in_cotree split e))) (is_left split) polygon
+        (rotation_system s o) (c.labels some)
 
     z_in : polygon.degree - 1 < polygon.degree
     z_in = omega arith
@@ -131,32 +144,44 @@ down_worth s split o t polygon c some at_vertex a before after l parity = record
 
     Last : Bool → ℕ → Type 0
     Last flag x =
-        SameFreely (I (before ++ lower_side degree partner flag x after)) (loop_in loop_mul loop_inv (I (before ++ front_of_last k flag)) loop (I (before ++ upper_side degree partner flag x after)))
+        SameFreely (I (before ++ lower_side degree partner flag x after))
+        (loop_in loop_mul loop_inv (I (before ++ front_of_last k flag)) loop (I (before ++ upper_side degree partner flag x after)))
 
     Opposite : Bool → ℕ → Type 0
     Opposite flag x =
-        SameFreely (I (before ++ lower_side degree partner flag x after)) (loop_in loop_mul loop_inv (I (before ++ front_of_across z k flag)) loop (I (before ++ upper_side degree partner flag x after)))
+        SameFreely (I (before ++ lower_side degree partner flag x after))
+        (loop_in loop_mul loop_inv (I (before ++ front_of_across z k flag)) loop (I (before ++ upper_side degree partner flag x after)))
 
     last : (flag : Bool) → ends_at_vertex true before ≡ flag → Last flag z
     last true p =
-        subst (λ n. SameFreely (I (before ++ (n ∷ k ∷ after))) (loop_in loop_mul loop_inv (I (before ++ [])) loop (I (before ++ (z ∷ add degree z 1 ∷ after))))) (sym k_up)
-        (subst (λ n. SameFreely (I (before ++ (suc k ∷ k ∷ after))) (loop_in loop_mul loop_inv (I (before ++ [])) loop (I (before ++ (z ∷ n ∷ after))))) (sym wraps)
+        subst (λ n. SameFreely (I (before ++ (n ∷ k ∷ after)))
+        (loop_in loop_mul loop_inv (I (before ++ [])) loop (I (before ++ (z ∷ add degree z 1 ∷ after))))) (sym k_up)
+        (subst (λ n. SameFreely (I (before ++ (suc k ∷ k ∷ after)))
+        (loop_in loop_mul loop_inv (I (before ++ [])) loop (I (before ++ (z ∷ n ∷ after))))) (sym wraps)
         ((last_pushes s split o t polygon c some).from_last before after p))
     last false p =
-        subst (λ n. SameFreely (I (before ++ (k ∷ n ∷ after))) (loop_in loop_mul loop_inv (I (before ++ (suc k ∷ []))) loop (I (before ++ (add degree k 1 ∷ z ∷ after))))) (sym wraps)
-        (subst (λ n. SameFreely (I (before ++ (k ∷ 0 ∷ after))) (loop_in loop_mul loop_inv (I (before ++ (suc k ∷ []))) loop (I (before ++ (n ∷ z ∷ after))))) (sym k_up)
+        subst (λ n. SameFreely (I (before ++ (k ∷ n ∷ after)))
+        (loop_in loop_mul loop_inv (I (before ++ (suc k ∷ []))) loop (I (before ++ (add degree k 1 ∷ z ∷ after))))) (sym wraps)
+        (subst (λ n. SameFreely (I (before ++ (k ∷ 0 ∷ after)))
+        (loop_in loop_mul loop_inv (I (before ++ (suc k ∷ []))) loop (I (before ++ (n ∷ z ∷ after))))) (sym k_up)
         ((last_pushes s split o t polygon c some).round_tail before after p))
 
     opposite : (flag : Bool) → ends_at_vertex true before ≡ flag → Opposite flag k
     opposite true p =
-        subst (λ n. SameFreely (I (before ++ (add degree n 1 ∷ n ∷ after))) (loop_in loop_mul loop_inv (I (before ++ (k ∷ suc k ∷ []))) loop (I (before ++ (k ∷ add degree k 1 ∷ after))))) (sym k_back)
-        (subst (λ n. SameFreely (I (before ++ (n ∷ z ∷ after))) (loop_in loop_mul loop_inv (I (before ++ (k ∷ suc k ∷ []))) loop (I (before ++ (k ∷ add degree k 1 ∷ after))))) (sym wraps)
-        (subst (λ n. SameFreely (I (before ++ (0 ∷ z ∷ after))) (loop_in loop_mul loop_inv (I (before ++ (k ∷ suc k ∷ []))) loop (I (before ++ (k ∷ n ∷ after))))) (sym k_up)
+        subst (λ n. SameFreely (I (before ++ (add degree n 1 ∷ n ∷ after)))
+        (loop_in loop_mul loop_inv (I (before ++ (k ∷ suc k ∷ []))) loop (I (before ++ (k ∷ add degree k 1 ∷ after))))) (sym k_back)
+        (subst (λ n. SameFreely (I (before ++ (n ∷ z ∷ after)))
+        (loop_in loop_mul loop_inv (I (before ++ (k ∷ suc k ∷ []))) loop (I (before ++ (k ∷ add degree k 1 ∷ after))))) (sym wraps)
+        (subst (λ n. SameFreely (I (before ++ (0 ∷ z ∷ after)))
+        (loop_in loop_mul loop_inv (I (before ++ (k ∷ suc k ∷ []))) loop (I (before ++ (k ∷ n ∷ after))))) (sym k_up)
         ((last_pushes s split o t polygon c some).to_last before after p)))
     opposite false p =
-        subst (λ n. SameFreely (I (before ++ (n ∷ add degree k 1 ∷ after))) (loop_in loop_mul loop_inv (I (before ++ (z ∷ []))) loop (I (before ++ (add degree n 1 ∷ k ∷ after))))) (sym k_back)
-        (subst (λ n. SameFreely (I (before ++ (z ∷ add degree k 1 ∷ after))) (loop_in loop_mul loop_inv (I (before ++ (z ∷ []))) loop (I (before ++ (n ∷ k ∷ after))))) (sym wraps)
-        (subst (λ n. SameFreely (I (before ++ (z ∷ n ∷ after))) (loop_in loop_mul loop_inv (I (before ++ (z ∷ []))) loop (I (before ++ (0 ∷ k ∷ after))))) (sym k_up)
+        subst (λ n. SameFreely (I (before ++ (n ∷ add degree k 1 ∷ after)))
+        (loop_in loop_mul loop_inv (I (before ++ (z ∷ []))) loop (I (before ++ (add degree n 1 ∷ k ∷ after))))) (sym k_back)
+        (subst (λ n. SameFreely (I (before ++ (z ∷ add degree k 1 ∷ after)))
+        (loop_in loop_mul loop_inv (I (before ++ (z ∷ []))) loop (I (before ++ (n ∷ k ∷ after))))) (sym wraps)
+        (subst (λ n. SameFreely (I (before ++ (z ∷ n ∷ after)))
+        (loop_in loop_mul loop_inv (I (before ++ (z ∷ []))) loop (I (before ++ (0 ∷ k ∷ after))))) (sym k_up)
         ((last_pushes s split o t polygon c some).round_head before after p)))
 
     other : (flag : Bool) → ends_at_vertex true before ≡ flag → a ≢ z → a ≢ k
@@ -172,7 +197,8 @@ down_worth s split o t polygon c some at_vertex a before after l parity = record
         b_up : add degree b 1 ≡ suc b
         b_up = plain b (cross.below a l) (λ e. nk (sym (cross.back a l) ∙ ap partner e))
 
-        quads : FreeQuads {X = Loops s split t} SameFreely loop_mul loop_inv nothing (spoke s split o t polygon) polygon.degree (across (rotations_of s) polygon)
+        quads : FreeQuads {X = Loops s split t} SameFreely loop_mul loop_inv nothing (spoke s split o t polygon) polygon.degree
+            (across (rotations_of s) polygon)
         quads = free_quads s split o t polygon c
 
         by : (which : Bool) → ends_at_vertex true before ≡ which
@@ -180,11 +206,13 @@ down_worth s split o t polygon c some at_vertex a before after l parity = record
         by true e =
             subst (λ n. SameFreely (I (before ++ (a ∷ n ∷ after))) (I (before ++ (add degree b 1 ∷ b ∷ after)))) (sym a_up)
             (subst (λ n. SameFreely (I (before ++ (a ∷ suc a ∷ after))) (I (before ++ (n ∷ b ∷ after)))) (sym b_up)
-            (free_push SameFreely loop_mul loop_inv nothing g (spoke s split o t polygon) true before after a (suc a) (suc b) b e (quads.round_middle a l)))
+            (free_push SameFreely loop_mul loop_inv nothing g (spoke s split o t polygon) true before after a (suc a) (suc b) b e
+            (quads.round_middle a l)))
         by false e =
             subst (λ n. SameFreely (I (before ++ (add degree b 1 ∷ a ∷ after))) (I (before ++ (b ∷ n ∷ after)))) (sym a_up)
             (subst (λ n. SameFreely (I (before ++ (n ∷ a ∷ after))) (I (before ++ (b ∷ suc a ∷ after)))) (sym b_up)
-            (free_push SameFreely loop_mul loop_inv nothing g (spoke s split o t polygon) false before after (suc b) a b (suc a) e (quads.round_vertex a l)))
+            (free_push SameFreely loop_mul loop_inv nothing g (spoke s split o t polygon) false before after (suc b) a b (suc a) e
+            (quads.round_vertex a l)))
 
 -- where so many spokes end
 ends_by_length : (at_vertex : Bool) (path : List ℕ) → ends_at_vertex at_vertex path ≡ turned (length path) at_vertex
@@ -192,13 +220,15 @@ ends_by_length at_vertex [] = refl
 ends_by_length at_vertex (i ∷ path) = ends_by_length (not at_vertex) path
 
 -- the loop put in, or its inverse
-abbrev pub signed_loop : (s : OrientedMesh) (split : SplitView) → IsOrientedSurface s → (t : IsSplit s split) → PolygonView → Bool → Loops s split t
+abbrev pub signed_loop : (s : OrientedMesh) (split : SplitView) → IsOrientedSurface s → (t : IsSplit s split) → PolygonView → Bool
+    → Loops s split t
 signed_loop s split o t polygon false = last_loop s split o t polygon
 signed_loop s split o t polygon true = loop_inv (last_loop s split o t polygon)
 
 -- What a push at a place of a word does to the loop of its spokes: `side` is the side pushed over. A push down puts the loop of the last
 -- side in, a push up its inverse, and only where the side is the last one or the one across from it.
-pub record PushWorth (s : OrientedMesh) (split : SplitView) (o : IsOrientedSurface s) (t : IsSplit s split) (polygon : PolygonView) (up : Bool) (at : ℕ) (path other : List ℕ) : Type 0 where
+pub record PushWorth (s : OrientedMesh) (split : SplitView) (o : IsOrientedSurface s) (t : IsSplit s split) (polygon : PolygonView)
+    (up : Bool) (at : ℕ) (path other : List ℕ) : Type 0 where
   pub side : ℕ
   pub side_in : side < polygon.degree
   pub before : List ℕ
@@ -212,24 +242,31 @@ pub record PushWorth (s : OrientedMesh) (split : SplitView) (o : IsOrientedSurfa
       → SameFreely (loop_of_path s split o t polygon path) (loop_of_path s split o t polygon other)
   pub last : side ≡ polygon.degree - 1
       → SameFreely (loop_of_path s split o t polygon other)
-      (loop_in loop_mul loop_inv (loop_of_path s split o t polygon (before ++ front_of_last (across (rotations_of s) polygon (polygon.degree - 1)) (turned at true)))
+      (loop_in loop_mul loop_inv (loop_of_path s split o t polygon
+      (before ++ front_of_last (across (rotations_of s) polygon (polygon.degree - 1)) (turned at true)))
       (signed_loop s split o t polygon up) (loop_of_path s split o t polygon path))
   pub opposite : side ≡ across (rotations_of s) polygon (polygon.degree - 1)
       → SameFreely (loop_of_path s split o t polygon other)
-      (loop_in loop_mul loop_inv (loop_of_path s split o t polygon (before ++ front_of_across (polygon.degree - 1) (across (rotations_of s) polygon (polygon.degree - 1)) (turned at true)))
+      (loop_in loop_mul loop_inv (loop_of_path s split o t polygon
+      (before ++ front_of_across (polygon.degree - 1) (across (rotations_of s) polygon (polygon.degree - 1)) (turned at true)))
       (signed_loop s split o t polygon up) (loop_of_path s split o t polygon path))
 
-push_worth_of : (s : OrientedMesh) (split : SplitView) (o : IsOrientedSurface s) (t : IsSplit s split) (polygon : PolygonView) → IsCutFrom s split polygon → 0 < polygon.degree
-    → (up : Bool) (at : ℕ) (path other : List ℕ) → IsChangedBehind (PushedOneWay polygon.degree (across (rotations_of s) polygon) up) true at path other
+push_worth_of : (s : OrientedMesh) (split : SplitView) (o : IsOrientedSurface s) (t : IsSplit s split) (polygon : PolygonView)
+    → IsCutFrom s split polygon → 0 < polygon.degree
+    → (up : Bool) (at : ℕ) (path other : List ℕ) → IsChangedBehind (PushedOneWay polygon.degree (across (rotations_of s) polygon) up)
+    true at path other
     → PushWorth s split o t polygon up at path other
 push_worth_of s split o t polygon c some false at path other h =
     let flag : Bool = turned at true in
     let parity : ends_at_vertex true h.before ≡ flag = ends_by_length true h.before ∙ ap (λ n. turned n true) h.long in
     let push : IsPushedDown polygon.degree (across (rotations_of s) polygon) flag h.part h.instead =
     subst (λ b. IsPushedDown polygon.degree (across (rotations_of s) polygon) b h.part h.instead) h.ends_is h.changed in
-    let worth : DownWorth s split o t polygon flag push.side h.before push.after = down_worth s split o t polygon c some flag push.side h.before push.after push.side_in parity in
-    let from : path ≡ h.before ++ upper_side polygon.degree (across (rotations_of s) polygon) flag push.side push.after = h.path_is ∙ ap (λ (l : List ℕ). h.before ++ l) push.from in
-    let to : other ≡ h.before ++ lower_side polygon.degree (across (rotations_of s) polygon) flag push.side push.after = h.other_is ∙ ap (λ (l : List ℕ). h.before ++ l) push.to in
+    let worth : DownWorth s split o t polygon flag push.side h.before push.after =
+    down_worth s split o t polygon c some flag push.side h.before push.after push.side_in parity in
+    let from : path ≡ h.before ++ upper_side polygon.degree (across (rotations_of s) polygon) flag push.side push.after =
+    h.path_is ∙ ap (λ (l : List ℕ). h.before ++ l) push.from in
+    let to : other ≡ h.before ++ lower_side polygon.degree (across (rotations_of s) polygon) flag push.side push.after =
+    h.other_is ∙ ap (λ (l : List ℕ). h.before ++ l) push.to in
     let I : List ℕ → Loops s split t = loop_of_path s split o t polygon in
     let P : List ℕ = h.before ++ upper_side polygon.degree (across (rotations_of s) polygon) flag push.side push.after in
     let loop : Loops s split t = last_loop s split o t polygon in
@@ -241,15 +278,19 @@ push_worth_of s split o t polygon c some false at path other h =
       long = h.long;
       down = λ _. (from, to);
       rises = λ e. cc;
-      free = λ ne nk. subst (λ (l : List ℕ). SameFreely (I l) (I other)) (sym from) (subst (λ (l : List ℕ). SameFreely (I P) (I l)) (sym to) (worth.other ne nk));
+      free = λ ne nk. subst (λ (l : List ℕ). SameFreely (I l) (I other)) (sym from)
+          (subst (λ (l : List ℕ). SameFreely (I P) (I l)) (sym to) (worth.other ne nk));
       last = λ e.
           let front : Loops s split t = I (h.before ++ front_of_last (across (rotations_of s) polygon (polygon.degree - 1)) flag) in
           subst (λ (l : List ℕ). SameFreely (I l) (loop_in loop_mul loop_inv front loop (I path))) (sym to)
-          (subst (λ (l : List ℕ). SameFreely (I (h.before ++ lower_side polygon.degree (across (rotations_of s) polygon) flag push.side push.after)) (loop_in loop_mul loop_inv front loop (I l))) (sym from) (worth.last e));
+          (subst (λ (l : List ℕ). SameFreely (I (h.before ++ lower_side polygon.degree (across (rotations_of s) polygon) flag push.side
+          push.after)) (loop_in loop_mul loop_inv front loop (I l))) (sym from) (worth.last e));
       opposite = λ e.
-          let front : Loops s split t = I (h.before ++ front_of_across (polygon.degree - 1) (across (rotations_of s) polygon (polygon.degree - 1)) flag) in
+          let front : Loops s split t = I (h.before ++ front_of_across (polygon.degree - 1)
+          (across (rotations_of s) polygon (polygon.degree - 1)) flag) in
           subst (λ (l : List ℕ). SameFreely (I l) (loop_in loop_mul loop_inv front loop (I path))) (sym to)
-          (subst (λ (l : List ℕ). SameFreely (I (h.before ++ lower_side polygon.degree (across (rotations_of s) polygon) flag push.side push.after)) (loop_in loop_mul loop_inv front loop (I l))) (sym from) (worth.opposite e));
+          (subst (λ (l : List ℕ). SameFreely (I (h.before ++ lower_side polygon.degree (across (rotations_of s) polygon) flag push.side
+          push.after)) (loop_in loop_mul loop_inv front loop (I l))) (sym from) (worth.opposite e));
     }
 push_worth_of s split o t polygon c some true at path other h =
     let g = free_group s split t in
@@ -258,9 +299,12 @@ push_worth_of s split o t polygon c some true at path other h =
     let parity : ends_at_vertex true h.before ≡ flag = ends_by_length true h.before ∙ ap (λ n. turned n true) h.long in
     let push : IsPushedDown polygon.degree (across (rotations_of s) polygon) flag h.instead h.part =
     subst (λ b. IsPushedDown polygon.degree (across (rotations_of s) polygon) b h.instead h.part) h.ends_is h.changed in
-    let worth : DownWorth s split o t polygon flag push.side h.before push.after = down_worth s split o t polygon c some flag push.side h.before push.after push.side_in parity in
-    let to : other ≡ h.before ++ upper_side polygon.degree (across (rotations_of s) polygon) flag push.side push.after = h.other_is ∙ ap (λ (l : List ℕ). h.before ++ l) push.from in
-    let from : path ≡ h.before ++ lower_side polygon.degree (across (rotations_of s) polygon) flag push.side push.after = h.path_is ∙ ap (λ (l : List ℕ). h.before ++ l) push.to in
+    let worth : DownWorth s split o t polygon flag push.side h.before push.after =
+    down_worth s split o t polygon c some flag push.side h.before push.after push.side_in parity in
+    let to : other ≡ h.before ++ upper_side polygon.degree (across (rotations_of s) polygon) flag push.side push.after =
+    h.other_is ∙ ap (λ (l : List ℕ). h.before ++ l) push.from in
+    let from : path ≡ h.before ++ lower_side polygon.degree (across (rotations_of s) polygon) flag push.side push.after =
+    h.path_is ∙ ap (λ (l : List ℕ). h.before ++ l) push.to in
     let I : List ℕ → Loops s split t = loop_of_path s split o t polygon in
     let P : List ℕ = h.before ++ upper_side polygon.degree (across (rotations_of s) polygon) flag push.side push.after in
     let Q : List ℕ = h.before ++ lower_side polygon.degree (across (rotations_of s) polygon) flag push.side push.after in
@@ -282,7 +326,8 @@ push_worth_of s split o t polygon c some true at path other h =
           (subst (λ (l : List ℕ). SameFreely (I P) (loop_in loop_mul loop_inv front (loop_inv loop) (I l))) (sym from)
           (loop_out SameFreely loop_mul loop_inv nothing g front loop (I P) (I Q) (worth.last e)));
       opposite = λ e.
-          let front : Loops s split t = I (h.before ++ front_of_across (polygon.degree - 1) (across (rotations_of s) polygon (polygon.degree - 1)) flag) in
+          let front : Loops s split t = I (h.before ++ front_of_across (polygon.degree - 1)
+          (across (rotations_of s) polygon (polygon.degree - 1)) flag) in
           subst (λ (l : List ℕ). SameFreely (I l) (loop_in loop_mul loop_inv front (loop_inv loop) (I path))) (sym to)
           (subst (λ (l : List ℕ). SameFreely (I P) (loop_in loop_mul loop_inv front (loop_inv loop) (I l))) (sym from)
           (loop_out SameFreely loop_mul loop_inv nothing g front loop (I P) (I Q) (worth.opposite e)));
@@ -292,22 +337,27 @@ push_worth_of s split o t polygon c some true at path other h =
 abbrev pub word_spokes : PolygonView → List ℕ → List ℕ
 word_spokes polygon word = path_of polygon.degree (place_of polygon) (spoke_at polygon) true 0 word
 
-pub push_worth : (s : OrientedMesh) (split : SplitView) (o : IsOrientedSurface s) (t : IsSplit s split) (polygon : PolygonView) → IsCutFrom s split polygon → 0 < polygon.degree
+pub push_worth : (s : OrientedMesh) (split : SplitView) (o : IsOrientedSurface s) (t : IsSplit s split) (polygon : PolygonView)
+    → IsCutFrom s split polygon → 0 < polygon.degree
     → (up : Bool) (at : ℕ) (w v : List ℕ) → Within polygon.degree w → after_step polygon.degree (Push at up) w ≡ Some v
     → PushWorth s split o t polygon up at (word_spokes polygon w) (word_spokes polygon v)
 push_worth s split o t polygon c some up at w v h e =
     push_worth_of s split o t polygon c some up at (word_spokes polygon w) (word_spokes polygon v)
-    (push_changes polygon.degree (place_of polygon) (spoke_at polygon) (across (rotations_of s) polygon) (polygon_wheel s split o t polygon c some) at up w v h e)
+    (push_changes polygon.degree (place_of polygon) (spoke_at polygon) (across (rotations_of s) polygon)
+    (polygon_wheel s split o t polygon c some) at up w v h e)
 
 -- a spur that goes out costs nothing
-pub spur_out_worth : (s : OrientedMesh) (split : SplitView) (o : IsOrientedSurface s) (t : IsSplit s split) (polygon : PolygonView) → IsCutFrom s split polygon → 0 < polygon.degree
+pub spur_out_worth : (s : OrientedMesh) (split : SplitView) (o : IsOrientedSurface s) (t : IsSplit s split) (polygon : PolygonView)
+    → IsCutFrom s split polygon → 0 < polygon.degree
     → (at : ℕ) (w v : List ℕ) → Within polygon.degree w → after_step polygon.degree (SpurOut at) w ≡ Some v
     → SameFreely (loop_of_path s split o t polygon (word_spokes polygon w)) (loop_of_path s split o t polygon (word_spokes polygon v))
 spur_out_worth s split o t polygon c some at w v h e =
-    let r = spur_out_changes polygon.degree (place_of polygon) (spoke_at polygon) (across (rotations_of s) polygon) (polygon_wheel s split o t polygon c some) at w v h e in
+    let r = spur_out_changes polygon.degree (place_of polygon) (spoke_at polygon) (across (rotations_of s) polygon)
+    (polygon_wheel s split o t polygon c some) at w v h e in
     let I : List ℕ → Loops s split t = loop_of_path s split o t polygon in
     let p : ℕ = r.changed.spoke in
     let from : word_spokes polygon w ≡ r.before ++ (p ∷ p ∷ r.instead) = r.path_is ∙ ap (λ (l : List ℕ). r.before ++ l) r.changed.is in
     subst (λ (l : List ℕ). SameFreely (I l) (I (word_spokes polygon v))) (sym from)
     (subst (λ (l : List ℕ). SameFreely (I (r.before ++ (p ∷ p ∷ r.instead))) (I l)) (sym r.other_is)
-    (free_spur SameFreely loop_mul loop_inv (loop_one s.mesh t.parents.root t.parents.root_used) (free_group s split t) (spoke s split o t polygon) r.before r.instead p))
+    (free_spur SameFreely loop_mul loop_inv (loop_one s.mesh t.parents.root t.parents.root_used) (free_group s split t)
+    (spoke s split o t polygon) r.before r.instead p))

@@ -31,7 +31,8 @@ zero_face s f corners = record { flipped = is_flipped s.signs f; labels = zeros 
 how_many : (s : OrientedMesh) → length (all_zero s).faces ≡ length s.mesh.faces
 how_many s = length-map (enumerate_from 0 s.mesh.faces) (λ (p : ℕ × List ℕ). zero_face s p.0 p.1) ∙ length-enumerate_from 0 s.mesh.faces
 
-face_is : (s : OrientedMesh) (f : ℕ) (d : FaceLabels) → f < length s.mesh.faces → get_or (all_zero s).faces f d ≡ zero_face s f (face_at s.mesh f)
+face_is : (s : OrientedMesh) (f : ℕ) (d : FaceLabels) → f < length s.mesh.faces
+    → get_or (all_zero s).faces f d ≡ zero_face s f (face_at s.mesh f)
 face_is s f d l =
     let pairs : List (ℕ × List ℕ) = enumerate_from 0 s.mesh.faces in
     let long : length pairs ≡ length s.mesh.faces = length-enumerate_from 0 s.mesh.faces in
@@ -60,11 +61,13 @@ either true x y e f = e
 either false x y e f = f
 
 tail_is : (s : OrientedMesh) (side : Side) → IsSide s.mesh side → tail_label s.mesh (all_zero s) side ≡ 0
-tail_is s side h = either (is_flipped (signs_of (all_zero s)) side.face.0) (label_at (all_zero s) (side_after s.mesh side)) (label_at (all_zero s) side)
+tail_is s side h = either (is_flipped (signs_of (all_zero s)) side.face.0) (label_at (all_zero s) (side_after s.mesh side))
+    (label_at (all_zero s) side)
     (label_is s (side_after s.mesh side) (after_side s side h)) (label_is s side h)
 
 head_is : (s : OrientedMesh) (side : Side) → IsSide s.mesh side → head_label s.mesh (all_zero s) side ≡ 0
-head_is s side h = either (is_flipped (signs_of (all_zero s)) side.face.0) (label_at (all_zero s) side) (label_at (all_zero s) (side_after s.mesh side))
+head_is s side h = either (is_flipped (signs_of (all_zero s)) side.face.0) (label_at (all_zero s) side)
+    (label_at (all_zero s) (side_after s.mesh side))
     (label_is s side h) (label_is s (side_after s.mesh side) (after_side s side h))
 
 -- each of the five spokes has its own number as its place
@@ -86,7 +89,8 @@ zero_shape s = record {
   each_spoke = refl;
   labels_below = λ f l.
       subst (All (λ label. label < 5)) (sym (labels_are s f l))
-      (All-from_get_or (λ label. label < 5) (zeros (face_at s.mesh f)) 0 (λ k _. subst (λ n. n < 5) (sym (zero_at (face_at s.mesh f) k)) (omega arith)));
+      (All-from_get_or (λ label. label < 5) (zeros (face_at s.mesh f)) 0
+      (λ k _. subst (λ n. n < 5) (sym (zero_at (face_at s.mesh f) k)) (omega arith)));
   places_below = All-from_get_or (λ place. place < 5) five 0 (λ i l. subst (λ n. n < 5) (sym (place_is i l)) l);
 }
 

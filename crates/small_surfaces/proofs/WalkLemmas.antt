@@ -32,7 +32,8 @@ walk_goes_on mesh walk count so used edge =
       ];
     }
 
-walk_ends : (mesh : FaceList) (walk : List ℕ) (count : ℕ) → IsWalkSoFar mesh walk count → count ≡ length walk → 0 < length walk → IsWalk mesh walk
+walk_ends : (mesh : FaceList) (walk : List ℕ) (count : ℕ) → IsWalkSoFar mesh walk count → count ≡ length walk → 0 < length walk
+    → IsWalk mesh walk
 walk_ends mesh walk count so all some =
     record {
       starts = some;
@@ -45,7 +46,8 @@ pub walk_or_nothing : (mesh : FaceList) (walk : List ℕ) (count : ℕ) → IsWa
 walk_or_nothing mesh [] count so all = (λ some. absurd (search rules), λ is. absurd (omega (arith, is.starts)))
 walk_or_nothing mesh (v ∷ walk) count so all = (λ some. walk_ends mesh (v ∷ walk) count so all (omega arith), λ is. search rules)
 
-pub unused_is_no_walk : (mesh : FaceList) (walk : List ℕ) (k : ℕ) → k < length walk → is_used mesh (get_or walk k 0) ≡ false → IsWalk mesh walk → ⊥
+pub unused_is_no_walk : (mesh : FaceList) (walk : List ℕ) (k : ℕ) → k < length walk → is_used mesh (get_or walk k 0) ≡ false
+    → IsWalk mesh walk → ⊥
 unused_is_no_walk mesh walk k l unused is =
     cc (unused, All-get_or (λ v. IsTrue (is_used mesh v)) walk k 0 l is.used)
 
@@ -53,5 +55,6 @@ pub no_edge_is_no_walk : (mesh : FaceList) (walk : List ℕ) (k : ℕ) → 0 < k
     → is_edge mesh (get_or walk (k - 1) 0) (get_or walk k 0) ≡ false → IsWalk mesh walk → ⊥
 no_edge_is_no_walk mesh walk k some l none is =
     let at : k - 1 + 1 ≡ k = omega (arith, some) in
-    let edge = subst (λ n. IsTrue (is_edge mesh (get_or walk (k - 1) 0) (get_or walk n 0))) at (is.edges (k - 1) (omega (arith, some, l))) in
+    let edge = subst (λ n. IsTrue (is_edge mesh (get_or walk (k - 1) 0) (get_or walk n 0))) at
+    (is.edges (k - 1) (omega (arith, some, l))) in
     cc (none, edge)

@@ -15,7 +15,8 @@ edge_end_used : (mesh : FaceList) (u v end : ℕ) → is_edge mesh u v ≡ true 
 unfolding is_edge
 edge_end_used mesh u v end e is =
     let any = Any-from_list_any (joins u v) (all_sides mesh) e in
-    sym (names_mesh mesh end) ∙ list_any-from_Any (names end) (all_sides mesh) (any.0, any.1, any.2, any.3, joins_names u v end any.1 any.4 is)
+    sym (names_mesh mesh end) ∙ list_any-from_Any (names end) (all_sides mesh)
+    (any.0, any.1, any.2, any.3, joins_names u v end any.1 any.4 is)
 
 pub tail_used : (mesh : FaceList) (u v : ℕ) → is_edge mesh u v ≡ true → is_used mesh u ≡ true
 tail_used mesh u v e = edge_end_used mesh u v u e (inl refl)
@@ -53,7 +54,8 @@ step_edge mesh f false t in_list in_face =
     let there : is_edge mesh (get_or (face_at mesh f) back 0) (get_or (face_at mesh f) (next_corner true m back) 0) ≡ true =
     ring_edge mesh f back in_list (back_within m t in_face) in
     edge_swap mesh (get_or (face_at mesh f) t 0) (get_or (face_at mesh f) back 0)
-    ∙ subst (λ (k : ℕ). is_edge mesh (get_or (face_at mesh f) back 0) (get_or (face_at mesh f) k 0) ≡ true) (there_and_back m t in_face) there
+    ∙ subst (λ (k : ℕ). is_edge mesh (get_or (face_at mesh f) back 0) (get_or (face_at mesh f) k 0) ≡ true) (there_and_back m t in_face)
+    there
 
 pub corner_used : (mesh : FaceList) (f t : ℕ) → f < length mesh.faces → t < length (face_at mesh f)
     → is_used mesh (get_or (face_at mesh f) t 0) ≡ true

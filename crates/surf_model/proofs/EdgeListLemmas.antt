@@ -20,7 +20,8 @@ length-zipped [] ps h = h
 length-zipped (pair ∷ pairs) [] h = absurd (omega arith)
 length-zipped (pair ∷ pairs) (p ∷ ps) h = ap suc (length-zipped pairs ps (omega arith))
 
-get_or-zipped : (pairs : List EdgeEnds) (ps : List (List DartName)) (k : ℕ) (d : DartEdge) (e : EdgeEnds) → length pairs ≡ length ps → k < length ps
+get_or-zipped : (pairs : List EdgeEnds) (ps : List (List DartName)) (k : ℕ) (d : DartEdge) (e : EdgeEnds) → length pairs ≡ length ps
+    → k < length ps
     → get_or (zipped_edges pairs ps) k d ≡ edge_of_part (get_or pairs k e) (get_or ps k [])
 get_or-zipped pairs [] k d e h l = absurd (omega arith)
 get_or-zipped [] (p ∷ ps) k d e h l = absurd (omega arith)
@@ -34,7 +35,8 @@ zipped-push [] (q ∷ ps) pair p h = absurd (omega arith)
 zipped-push (e ∷ pairs) [] pair p h = absurd (omega arith)
 zipped-push (e ∷ pairs) (q ∷ ps) pair p h = ap (λ (es : List DartEdge). edge_of_part e q ∷ es) (zipped-push pairs ps pair p (omega arith))
 
-dart_count-zipped : (pairs : List EdgeEnds) (ps : List (List DartName)) → length pairs ≡ length ps → dart_count (zipped_edges pairs ps) ≡ sum_by length ps
+dart_count-zipped : (pairs : List EdgeEnds) (ps : List (List DartName)) → length pairs ≡ length ps
+    → dart_count (zipped_edges pairs ps) ≡ sum_by length ps
 dart_count-zipped [] [] h = refl
 dart_count-zipped [] (p ∷ ps) h = absurd (omega arith)
 dart_count-zipped (pair ∷ pairs) [] h = absurd (omega arith)
@@ -50,7 +52,8 @@ length-edges pairs stops darts edges h seen =
     ap (λ (es : List DartEdge). length es) (sym seen)
     ∙ length-zipped pairs (parts 0 stops darts) (h.each_edge ∙ sym (length-parts 0 stops darts)) ∙ length-parts 0 stops darts
 
-pub dart_count-edges : (pairs : List EdgeEnds) (stops : List ℕ) (darts : List DartName) (edges : List DartEdge) → IsEdgeList pairs stops darts
+pub dart_count-edges : (pairs : List EdgeEnds) (stops : List ℕ) (darts : List DartName) (edges : List DartEdge)
+    → IsEdgeList pairs stops darts
     → stored_edges pairs stops darts ≡ edges → dart_count edges ≡ length darts
 dart_count-edges pairs stops darts edges h seen =
     ap dart_count (sym seen) ∙ dart_count-zipped pairs (parts 0 stops darts) (h.each_edge ∙ sym (length-parts 0 stops darts))
@@ -65,7 +68,8 @@ pub record LiesAsEdge (edges : List DartEdge) (pairs : List EdgeEnds) (stops : L
   pub low : (d : EdgeEnds) → (dart_edge_in edges k).low ≡ (get_or pairs k d).low.0
   pub high : (d : EdgeEnds) → (dart_edge_in edges k).high ≡ (get_or pairs k d).high.0
   pub size : length (dart_edge_in edges k).darts ≡ get_or stops k 0 - get_or (0 ∷ stops) k 0
-  pub dart : (t : ℕ) (d : DartName) → t < length (dart_edge_in edges k).darts → get_or (dart_edge_in edges k).darts t 0 ≡ (get_or darts (get_or (0 ∷ stops) k 0 + t) d).0
+  pub dart : (t : ℕ) (d : DartName) → t < length (dart_edge_in edges k).darts
+      → get_or (dart_edge_in edges k).darts t 0 ≡ (get_or darts (get_or (0 ∷ stops) k 0 + t) d).0
 
 lies_stored : (pairs : List EdgeEnds) (stops : List ℕ) (darts : List DartName) (k : ℕ) → IsEdgeList pairs stops darts → k < length stops
     → LiesAsEdge (stored_edges pairs stops darts) pairs stops darts k
@@ -77,7 +81,8 @@ lies_stored pairs stops darts k h few =
     let part : List DartName = take size (drop start darts) in
     let w = part_within 0 stops (length darts) k h.rising few in
     let is : (d : EdgeEnds) → dart_edge_in (stored_edges pairs stops darts) k ≡ edge_of_part (get_or pairs k d) part =
-    λ d. get_or-zipped pairs ps k _ d (h.each_edge ∙ sym many) (omega (arith, few, many)) ∙ ap (edge_of_part (get_or pairs k d)) (get_or-parts 0 stops darts k [] few) in
+    λ d. get_or-zipped pairs ps k _ d (h.each_edge ∙ sym many) (omega (arith, few, many))
+    ∙ ap (edge_of_part (get_or pairs k d)) (get_or-parts 0 stops darts k [] few) in
     let none : EdgeEnds = record { low = record { 0 = 0 }; high = record { 0 = 0 } } in
     let long : length part ≡ size = length-take-le size (drop start darts) (omega (arith, w.rises, w.within, length-drop start darts)) in
     let whole : length (dart_edge_in (stored_edges pairs stops darts) k).darts ≡ size =
@@ -96,7 +101,8 @@ lies_stored pairs stops darts k h few =
           ∙ ap (λ (x : DartName). x.0) (get_or-take size (drop start darts) t d (omega (arith, l, whole)) ∙ get_or-drop start darts t d);
     }
 
-pub lies_as_edge : (pairs : List EdgeEnds) (stops : List ℕ) (darts : List DartName) (edges : List DartEdge) (k : ℕ) → IsEdgeList pairs stops darts
+pub lies_as_edge : (pairs : List EdgeEnds) (stops : List ℕ) (darts : List DartName) (edges : List DartEdge) (k : ℕ)
+    → IsEdgeList pairs stops darts
     → stored_edges pairs stops darts ≡ edges → k < length edges → LiesAsEdge edges pairs stops darts k
 lies_as_edge pairs stops darts edges k h seen l =
     subst (λ (es : List DartEdge). LiesAsEdge es pairs stops darts k) seen
@@ -107,7 +113,8 @@ map-map f g [] = refl
 map-map f g (x ∷ xs) = ap (λ ys. f (g x) ∷ ys) (map-map f g xs)
 
 -- one more edge at the end
-pub edge_list-push : (pairs : List EdgeEnds) (stops : List ℕ) (darts new : List DartName) (ends : EdgeEnds) (m : ℕ) → IsEdgeList pairs stops darts
+pub edge_list-push : (pairs : List EdgeEnds) (stops : List ℕ) (darts new : List DartName) (ends : EdgeEnds) (m : ℕ)
+    → IsEdgeList pairs stops darts
     → 0 < length new → m ≡ length darts + length new → m ≤ MOST_SIDES → IsEdgeList (pairs ++ ends ∷ []) (stops ++ m ∷ []) (darts ++ new)
 edge_list-push pairs stops darts new ends m h some is room =
     let whole : m ≡ length (darts ++ new) = omega (arith, is, length-append darts new) in
@@ -118,7 +125,8 @@ edge_list-push pairs stops darts new ends m h some is room =
       few_sides = omega (arith, room, whole);
     }
 
-pub stored-push : (pairs : List EdgeEnds) (stops : List ℕ) (darts : List DartName) (sides : List SideEntry) (ends : EdgeEnds) (m : ℕ) → IsEdgeList pairs stops darts
+pub stored-push : (pairs : List EdgeEnds) (stops : List ℕ) (darts : List DartName) (sides : List SideEntry) (ends : EdgeEnds) (m : ℕ)
+    → IsEdgeList pairs stops darts
     → m ≡ length darts + length sides
     → stored_edges (pairs ++ ends ∷ []) (stops ++ m ∷ []) (darts ++ map (λ side. side.dart) sides)
     ≡ stored_edges pairs stops darts ++ record { low = ends.low.0; high = ends.high.0; darts = map dart_of sides } ∷ []
@@ -127,4 +135,5 @@ stored-push pairs stops darts sides ends m h is =
     let size : length new ≡ length sides = length-map sides (λ (side : SideEntry). side.dart) in
     ap (zipped_edges (pairs ++ ends ∷ [])) (parts-push 0 stops darts new (length darts) m h.rising refl (omega (arith, is, size)))
     ∙ zipped-push pairs (parts 0 stops darts) ends new (h.each_edge ∙ sym (length-parts 0 stops darts))
-    ∙ ap (λ ds. let e : DartEdge = record { low = ends.low.0; high = ends.high.0; darts = ds } in stored_edges pairs stops darts ++ e ∷ []) (map-map (λ (d : DartName). d.0) (λ (side : SideEntry). side.dart) sides)
+    ∙ ap (λ ds. let e : DartEdge = record { low = ends.low.0; high = ends.high.0; darts = ds } in stored_edges pairs stops darts
+    ++ e ∷ []) (map-map (λ (d : DartName). d.0) (λ (side : SideEntry). side.dart) sides)

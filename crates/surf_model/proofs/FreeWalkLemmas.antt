@@ -16,7 +16,8 @@ use Rattle.surf_model.proofs.StackLemmas.{AreSame, all_put, same_after, spur_sam
 spur_inside : (before after : List ℕ) (here via : ℕ)
     → AreSame (before ++ (here ∷ via ∷ here ∷ []) ++ after) (before ++ (here ∷ []) ++ after)
 spur_inside before after here via =
-    let one : before ++ (here ∷ via ∷ here ∷ []) ++ after ≡ before ++ (here ∷ via ∷ here ∷ after) = append_assoc before (here ∷ via ∷ here ∷ []) after in
+    let one : before ++ (here ∷ via ∷ here ∷ []) ++ after ≡ before ++ (here ∷ via ∷ here ∷ after) =
+    append_assoc before (here ∷ via ∷ here ∷ []) after in
     let two : before ++ (here ∷ []) ++ after ≡ before ++ (here ∷ after) = append_assoc before (here ∷ []) after in
     subst (λ (l : List ℕ). AreSame l (before ++ (here ∷ []) ++ after)) (sym one)
     (subst (λ (l : List ℕ). AreSame (before ++ (here ∷ via ∷ here ∷ after)) l) (sym two)
@@ -28,12 +29,14 @@ spur_move_same mesh walk next (Insert at via) start spur e stack n =
     let r = (by_replacing mesh walk next (Insert at via) start).0 e in
     let here : ℕ = r.replaces.0 in
     let from : walk ≡ r.before ++ (here ∷ []) ++ r.after = r.walk_is ∙ ap (λ (l : List ℕ). r.before ++ l ++ r.after) r.replaces.2 in
-    let to : next ≡ r.before ++ (here ∷ via.0 ∷ here ∷ []) ++ r.after = r.next_is ∙ ap (λ (l : List ℕ). r.before ++ l ++ r.after) r.replaces.3 in
+    let to : next ≡ r.before ++ (here ∷ via.0 ∷ here ∷ []) ++ r.after =
+    r.next_is ∙ ap (λ (l : List ℕ). r.before ++ l ++ r.after) r.replaces.3 in
     ap (all_put stack) from ∙ sym (spur_inside r.before r.after here via.0 stack n) ∙ sym (ap (all_put stack) to)
 spur_move_same mesh walk next (Remove at via) start spur e stack n =
     let r = (by_replacing mesh walk next (Remove at via) start).0 e in
     let here : ℕ = r.replaces.0 in
-    let from : walk ≡ r.before ++ (here ∷ via.0 ∷ here ∷ []) ++ r.after = r.walk_is ∙ ap (λ (l : List ℕ). r.before ++ l ++ r.after) r.replaces.1 in
+    let from : walk ≡ r.before ++ (here ∷ via.0 ∷ here ∷ []) ++ r.after =
+    r.walk_is ∙ ap (λ (l : List ℕ). r.before ++ l ++ r.after) r.replaces.1 in
     let to : next ≡ r.before ++ (here ∷ []) ++ r.after = r.next_is ∙ ap (λ (l : List ℕ). r.before ++ l ++ r.after) r.replaces.2 in
     ap (all_put stack) from ∙ spur_inside r.before r.after here via.0 stack n ∙ sym (ap (all_put stack) to)
 spur_move_same mesh walk next (Across at face corner forward taken) start spur e stack n = absurd spur
@@ -52,7 +55,8 @@ spur_list_same mesh (move ∷ moves) walk next start spurs e stack n =
 -- walks without spurs that spur moves join are equal
 pub one_reduced_walk : (mesh : FaceList) (first second : List ℕ) → 0 < length first → AreFreelyEqual mesh first second → HasNoSpur first
     → HasNoSpur second → first ≡ second
-one_reduced_walk mesh first second start free h k = same_equal first second h k (spur_list_same mesh free.0 first second start free.1 free.2)
+one_reduced_walk mesh first second start free h k =
+    same_equal first second h k (spur_list_same mesh free.0 first second start free.1 free.2)
 
 -- spur moves stay spur moves in a longer walk, and on the way back
 spur_raised : (n : ℕ) (move : Move) → IsSpurMove move → IsSpurMove (raised n move)

@@ -46,7 +46,8 @@ pub start-first : (s c : ℕ) (rest : List ℕ) (k : ℕ) → k ≤ c → get_or
 start-first s c rest zero l = omega arith
 start-first s c rest (suc k) l = end-first s c rest k (omega arith) ∙ ap (λ n. s * n) (add-one k)
 
-pub start-listed : (s c : ℕ) (rest : List ℕ) (k : ℕ) → k ≤ length rest → get_or (0 ∷ joined_ends s c rest) (c + k) 0 ≡ s * c + get_or (0 ∷ rest) k 0
+pub start-listed : (s c : ℕ) (rest : List ℕ) (k : ℕ) → k ≤ length rest
+    → get_or (0 ∷ joined_ends s c rest) (c + k) 0 ≡ s * c + get_or (0 ∷ rest) k 0
 start-listed s c rest zero l =
     let here : c + 0 ≡ c = omega arith in
     ap (λ n. get_or (0 ∷ joined_ends s c rest) n 0) here ∙ start-first s c rest c (omega arith) ∙ (omega arith)
@@ -66,16 +67,22 @@ last_end-joined s c rest =
     ap (λ n. get_or (0 ∷ joined_ends s c rest) n 0) (length-joined s c rest) ∙ start-listed s c rest (length rest) (omega arith)
 
 -- the part of a place
-pub in_first : (s c : ℕ) (rest : List ℕ) (place part : ℕ) → s * part ≤ place → place < s * (part + 1) → place < s * c → IsInPart (joined_ends s c rest) place part
+pub in_first : (s c : ℕ) (rest : List ℕ) (place part : ℕ) → s * part ≤ place → place < s * (part + 1) → place < s * c
+    → IsInPart (joined_ends s c rest) place part
 in_first s c rest place part from to below =
-    let there : part < c = elim (cases_lt part c) [ inl less ↦ less | inr le ↦ absurd (omega (arith, from, below, times_rises s c part le)) ] in
+    let there : part < c = elim (cases_lt part c) [
+      | inl less ↦ less
+      | inr le ↦ absurd
+          (omega (arith, from, below, times_rises s c part le))
+    ] in
     record {
       there = omega (arith, there, length-joined s c rest);
       from = omega (arith, from, start-first s c rest part (omega (arith, there)));
       to = omega (arith, to, end-first s c rest part there);
     }
 
-pub in_listed : (s c : ℕ) (rest : List ℕ) (place part : ℕ) → s * c ≤ place → IsInPart rest (place - s * c) part → IsInPart (joined_ends s c rest) place (c + part)
+pub in_listed : (s c : ℕ) (rest : List ℕ) (place part : ℕ) → s * c ≤ place → IsInPart rest (place - s * c) part
+    → IsInPart (joined_ends s c rest) place (c + part)
 in_listed s c rest place part from h = record {
   there = omega (arith, h.there, length-joined s c rest);
   from = omega (arith, from, h.from, start-listed s c rest part (omega (arith, h.there)));
@@ -107,9 +114,11 @@ same_end s old c (inr same) = ap (λ n. n * c) same
 pub equal-push : (s old c : ℕ) (rest : List ℕ) → length rest ≡ 0 → (c ≡ 0) ⊎ (s ≡ old)
     → joined_ends s (c + 1) rest ≡ joined_ends old c rest ++ (last_end (joined_ends old c rest) + s) ∷ []
 equal-push s old c rest none h =
-    let last : s * suc c ≡ last_end (joined_ends old c rest) + s = omega (arith, same_end s old c h, last_end-joined old c rest, ap last_end (none_listed rest none)) in
+    let last : s * suc c ≡ last_end (joined_ends old c rest) + s =
+    omega (arith, same_end s old c h, last_end-joined old c rest, ap last_end (none_listed rest none)) in
     ap (λ n. joined_ends s n rest) (add-one c)
     ∙ ap (λ xs. joined_ends s (suc c) xs) (none_listed rest none)
     ∙ append-nil (equal_ends s (suc c))
-    ∙ ap (λ ends. ends ++ (s * suc c) ∷ []) (same_ends s old c h ∙ sym (append-nil (equal_ends old c)) ∙ ap (λ xs. joined_ends old c xs) (sym (none_listed rest none)))
+    ∙ ap (λ ends. ends ++ (s * suc c) ∷ []) (same_ends s old c h ∙ sym (append-nil (equal_ends old c))
+    ∙ ap (λ xs. joined_ends old c xs) (sym (none_listed rest none)))
     ∙ ap (λ m. joined_ends old c rest ++ m ∷ []) last

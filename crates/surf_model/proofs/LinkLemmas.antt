@@ -21,7 +21,8 @@ linked_at mesh (x ∷ y ∷ rest) (suc k) h l =
     let next : suc k + 1 ≡ suc (k + 1) = omega arith in
     rw next (linked_at mesh (y ∷ rest) k h.1 (omega arith))
 
-linked_from : (mesh : FaceList) (walk : List ℕ) → ((k : ℕ) → k + 1 < length walk → IsTrue (is_edge mesh (get_or walk k 0) (get_or walk (k + 1) 0)))
+linked_from : (mesh : FaceList) (walk : List ℕ) → ((k : ℕ) → k + 1 < length walk
+    → IsTrue (is_edge mesh (get_or walk k 0) (get_or walk (k + 1) 0)))
     → Linked mesh walk
 linked_from mesh [] h = tt
 linked_from mesh (x ∷ []) h = tt
@@ -29,7 +30,8 @@ linked_from mesh (x ∷ y ∷ rest) h = (
   h 0 (omega arith),
   linked_from mesh (y ∷ rest) (λ k l.
       let next : suc k + 1 ≡ suc (k + 1) = omega arith in
-      subst (λ (n : ℕ). IsTrue (is_edge mesh (get_or (x ∷ y ∷ rest) (suc k) 0) (get_or (x ∷ y ∷ rest) n 0))) next (h (suc k) (omega arith))),
+      subst (λ (n : ℕ). IsTrue (is_edge mesh (get_or (x ∷ y ∷ rest) (suc k) 0) (get_or (x ∷ y ∷ rest) n 0))) next
+      (h (suc k) (omega arith))),
 )
 
 pub links : (mesh : FaceList) (walk : List ℕ) → IsWalk mesh walk → Linked mesh walk
@@ -65,8 +67,11 @@ pub round_linked : (mesh : FaceList) (f : ℕ) (rising : Bool) (t k : ℕ) → f
     → Linked mesh (corners_from (face_at mesh f) rising t k)
 round_linked mesh f rising t zero l b = tt
 round_linked mesh f rising t (suc zero) l b = (step_edge mesh f rising t l b, tt)
-round_linked mesh f rising t (suc (suc k)) l b =
-    (step_edge mesh f rising t l b, round_linked mesh f rising (next_corner rising (length (face_at mesh f)) t) (suc k) l (step_within rising (length (face_at mesh f)) t b))
+round_linked mesh f rising t (suc (suc k)) l b = (
+  step_edge mesh f rising t l b,
+  round_linked mesh f rising (next_corner rising (length (face_at mesh f)) t) (suc k) l
+      (step_within rising (length (face_at mesh f)) t b),
+)
 
 -- what holds of the first and of the others holds of all
 pub all_more : (P : ℕ → Type 0) (x : ℕ) (xs : List ℕ) → P x → All P xs → All P (x ∷ xs)
@@ -78,8 +83,10 @@ none_yet P k d l = absurd (omega arith)
 
 pub round_used : (mesh : FaceList) (f : ℕ) (rising : Bool) (t k : ℕ) → f < length mesh.faces → t < length (face_at mesh f)
     → All (λ v. IsTrue (is_used mesh v)) (corners_from (face_at mesh f) rising t k)
-round_used mesh f rising t zero l b = all_more (λ v. IsTrue (is_used mesh v)) (get_or (face_at mesh f) t 0) [] (corner_used mesh f t l b) (none_yet (λ v. IsTrue (is_used mesh v)))
+round_used mesh f rising t zero l b = all_more (λ v. IsTrue (is_used mesh v)) (get_or (face_at mesh f) t 0) []
+    (corner_used mesh f t l b) (none_yet (λ v. IsTrue (is_used mesh v)))
 round_used mesh f rising t (suc k) l b =
-    all_more (λ v. IsTrue (is_used mesh v)) (get_or (face_at mesh f) t 0) (corners_from (face_at mesh f) rising (next_corner rising (length (face_at mesh f)) t) k)
+    all_more (λ v. IsTrue (is_used mesh v)) (get_or (face_at mesh f) t 0)
+    (corners_from (face_at mesh f) rising (next_corner rising (length (face_at mesh f)) t) k)
     (corner_used mesh f t l b)
     (round_used mesh f rising (next_corner rising (length (face_at mesh f)) t) k l (step_within rising (length (face_at mesh f)) t b))

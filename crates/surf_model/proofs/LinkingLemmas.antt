@@ -17,13 +17,15 @@ link_to edge next = record { key = edge; dart = next }
 
 linked_at : (edges : List DartEdge) (links : List SideEntry) (edge k n : ℕ) → edge_at links n ≡ edge → edge < length edges
     → k < length (dart_edge_in edges edge).darts → get_or (dart_edge_in edges edge).darts k 0 ≡ n
-    → get_or (dart_edge_in edges edge).darts (next_corner true (length (dart_edge_in edges edge).darts) k) 0 ≡ dart_at links n → IsLinked edges links n
+    → get_or (dart_edge_in edges edge).darts (next_corner true (length (dart_edge_in edges edge).darts) k) 0 ≡ dart_at links n
+    → IsLinked edges links n
 linked_at edges links edge k n is l few here next = record {
   place = k;
   edge = subst (λ e. e < length edges) (sym is) l;
   in_edge = subst (λ e. k < length (dart_edge_in edges e).darts) (sym is) few;
   here = subst (λ e. get_or (dart_edge_in edges e).darts k 0 ≡ n) (sym is) here;
-  next = subst (λ e. get_or (dart_edge_in edges e).darts (next_corner true (length (dart_edge_in edges e).darts) k) 0 ≡ dart_at links n) (sym is) next;
+  next = subst (λ e. get_or (dart_edge_in edges e).darts (next_corner true (length (dart_edge_in edges e).darts) k) 0 ≡ dart_at links n)
+      (sym is) next;
 }
 
 -- the side that is written is linked
@@ -31,10 +33,12 @@ pub linked_written : (edges : List DartEdge) (links : List SideEntry) (edge k : 
     → k < length (dart_edge_in edges edge).darts
     → get_or (dart_edge_in edges edge).darts (next_corner true (length (dart_edge_in edges edge).darts) k) 0 ≡ next.0
     → get_or (dart_edge_in edges edge).darts k 0 < length links
-    → IsLinked edges (set links (get_or (dart_edge_in edges edge).darts k 0) (link_to edge next)) (get_or (dart_edge_in edges edge).darts k 0)
+    → IsLinked edges (set links (get_or (dart_edge_in edges edge).darts k 0) (link_to edge next))
+    (get_or (dart_edge_in edges edge).darts k 0)
 linked_written edges links edge k next l few is below =
     let n : ℕ = get_or (dart_edge_in edges edge).darts k 0 in
-    let written : get_or (set links n (link_to edge next)) n none ≡ link_to edge next = get_or-set_same links n (link_to edge next) none below in
+    let written : get_or (set links n (link_to edge next)) n none ≡ link_to edge next =
+    get_or-set_same links n (link_to edge next) none below in
     linked_at edges (set links n (link_to edge next)) edge k n (ap (λ (link : SideEntry). link.key) written) l few refl
     (is ∙ ap (λ (link : SideEntry). link.dart.0) (sym written))
 

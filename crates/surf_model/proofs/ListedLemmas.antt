@@ -37,7 +37,8 @@ first_face_sides n face faces t d l =
 from_later : (n : ℕ) (face : List ℕ) (faces : List (List ℕ)) (s : FaceSide) → IsFrom (n + 1) faces s → IsFrom n (face ∷ faces) s
 from_later n face faces s h =
     let next : s.face - n ≡ suc (s.face - (n + 1)) = omega (arith, h.from) in
-    let same : get_or faces (s.face - (n + 1)) [] ≡ get_or (face ∷ faces) (s.face - n) [] = ap (λ k. get_or (face ∷ faces) k []) (sym next) in
+    let same : get_or faces (s.face - (n + 1)) [] ≡ get_or (face ∷ faces) (s.face - n) [] =
+    ap (λ k. get_or (face ∷ faces) k []) (sym next) in
     record {
       from = omega (arith, h.from);
       face = omega (arith, h.from, h.face);
@@ -49,7 +50,8 @@ all_from : (n : ℕ) (faces : List (List ℕ)) → All (IsFrom n faces) (sides_f
 all_from n [] = All-nil (IsFrom n [])
 all_from n (face ∷ faces) =
     All-append (IsFrom n (face ∷ faces)) (sides_of_face n face) (sides_from (n + 1) faces) (first_face_sides n face faces)
-    (All-weaker (IsFrom (n + 1) faces) (IsFrom n (face ∷ faces)) (from_later n face faces) (sides_from (n + 1) faces) (all_from (n + 1) faces))
+    (All-weaker (IsFrom (n + 1) faces) (IsFrom n (face ∷ faces)) (from_later n face faces) (sides_from (n + 1) faces)
+    (all_from (n + 1) faces))
 
 -- an entry is a side, and starts and ends where its face says
 pub record IsListed (mesh : FaceList) (s : FaceSide) : Type 0 where
@@ -62,7 +64,8 @@ unfolding all_sides
 all_listed mesh =
     All-weaker (IsFrom 0 mesh.faces) (IsListed mesh)
     (λ s h.
-    let same : get_or mesh.faces (s.face - 0) [] ≡ face_at mesh s.face = ap (λ k. get_or mesh.faces k []) (let e : s.face - 0 ≡ s.face = omega arith in e) in
+    let same : get_or mesh.faces (s.face - 0) [] ≡ face_at mesh s.face =
+    ap (λ k. get_or mesh.faces k []) (let e : s.face - 0 ≡ s.face = omega arith in e) in
     let is : s ≡ face_side s.face (face_at mesh s.face) s.at = h.is ∙ ap (λ f. face_side s.face f s.at) same in
     record {
       side = record { face = omega (arith, h.face); place = subst (λ f. s.at < length f) same h.place };
@@ -75,28 +78,33 @@ all_listed mesh =
 abbrev IsBefore : FaceSide → FaceSide → Type 0
 IsBefore s t = (s.face < t.face) ⊎ ((s.face ≡ t.face) × (s.at < t.at))
 
-AllPairs-append : {A : Type 0} (R : A → A → Type 0) (xs ys : List A) → AllPairs R xs → AllPairs R ys → All (λ x. All (R x) ys) xs → AllPairs R (xs ++ ys)
+AllPairs-append : {A : Type 0} (R : A → A → Type 0) (xs ys : List A) → AllPairs R xs → AllPairs R ys → All (λ x. All (R x) ys) xs
+    → AllPairs R (xs ++ ys)
 AllPairs-append R [] ys h k between = k
 AllPairs-append R (x ∷ xs) ys h k between =
     AllPairs-cons R x (xs ++ ys)
     (All-append (R x) xs ys (λ i d l. h 0 (suc i) d (omega arith) (omega (arith, l))) (between 0 x (omega arith)))
-    (AllPairs-append R xs ys (λ i j d b l. h (suc i) (suc j) d (omega (arith, b)) (omega (arith, l))) k (λ i d l. between (suc i) d (omega (arith, l))))
+    (AllPairs-append R xs ys (λ i j d b l. h (suc i) (suc j) d (omega (arith, b)) (omega (arith, l))) k
+    (λ i d l. between (suc i) d (omega (arith, l))))
 
 face_rises : (n : ℕ) (face : List ℕ) → AllPairs IsBefore (sides_of_face n face)
 face_rises n face i j d b l =
     let few : j < length face = omega (arith, l, length-sides_of_face n face) in
     let first : get_or (sides_of_face n face) i d ≡ face_side n face i = get_or-sides_of_face n face i d (omega (arith, b, few)) in
     let second : get_or (sides_of_face n face) j d ≡ face_side n face j = get_or-sides_of_face n face j d few in
-    subst (λ s. IsBefore s (get_or (sides_of_face n face) j d)) (sym first) (subst (IsBefore (face_side n face i)) (sym second) (inr (refl, b)))
+    subst (λ s. IsBefore s (get_or (sides_of_face n face) j d)) (sym first)
+    (subst (IsBefore (face_side n face i)) (sym second) (inr (refl, b)))
 
 faces_rise : (n : ℕ) (faces : List (List ℕ)) → AllPairs IsBefore (sides_from n faces)
 faces_rise n [] = λ i j d b l. absurd (omega (arith, l))
 faces_rise n (face ∷ faces) =
     AllPairs-append IsBefore (sides_of_face n face) (sides_from (n + 1) faces) (face_rises n face) (faces_rise (n + 1) faces)
     (λ t d l.
-    let here : get_or (sides_of_face n face) t d ≡ face_side n face t = get_or-sides_of_face n face t d (omega (arith, l, length-sides_of_face n face)) in
+    let here : get_or (sides_of_face n face) t d ≡ face_side n face t =
+    get_or-sides_of_face n face t d (omega (arith, l, length-sides_of_face n face)) in
     subst (λ s. All (IsBefore s) (sides_from (n + 1) faces)) (sym here)
-    (All-weaker (IsFrom (n + 1) faces) (IsBefore (face_side n face t)) (λ s h. inl (omega (arith, h.from))) (sides_from (n + 1) faces) (all_from (n + 1) faces)))
+    (All-weaker (IsFrom (n + 1) faces) (IsBefore (face_side n face t)) (λ s h. inl (omega (arith, h.from))) (sides_from (n + 1) faces)
+    (all_from (n + 1) faces)))
 
 sides_rise : (mesh : FaceList) → AllPairs IsBefore (all_sides mesh)
 unfolding all_sides
@@ -108,7 +116,8 @@ differ s t h same =
     let at : s.at ≡ t.at = ap (λ (x : Side). x.at) same in
     elim h [ inl less ↦ omega (arith, less, face) | inr less ↦ omega (arith, less.1, at) ]
 
-both_join : (u v : ℕ) (s t : FaceSide) → joins u v s ≡ true → joins u v t ≡ true → ((s.tail ≡ t.tail) × (s.head ≡ t.head)) ⊎ ((s.tail ≡ t.head) × (s.head ≡ t.tail))
+both_join : (u v : ℕ) (s t : FaceSide) → joins u v s ≡ true → joins u v t ≡ true → ((s.tail ≡ t.tail) × (s.head ≡ t.head))
+    ⊎ ((s.tail ≡ t.head) × (s.head ≡ t.tail))
 both_join u v s t h k = grind (arith, nat_tests)
 
 -- an entry of the sides that join two vertices
@@ -123,12 +132,14 @@ joining mesh u v k d l = record {
 }
 
 -- two entries of them are partners
-pub partners_listed : (mesh : FaceList) (u v : ℕ) (s t : FaceSide) → filter (joins u v) (all_sides mesh) ≡ s ∷ t ∷ [] → ArePartners mesh (side_name s) (side_name t)
+pub partners_listed : (mesh : FaceList) (u v : ℕ) (s t : FaceSide) → filter (joins u v) (all_sides mesh) ≡ s ∷ t ∷ []
+    → ArePartners mesh (side_name s) (side_name t)
 partners_listed mesh u v s t two =
     let all : All (Joins mesh u v) (s ∷ t ∷ []) = subst (All (Joins mesh u v)) two (joining mesh u v) in
     let first : Joins mesh u v s = all 0 s (omega arith) in
     let second : Joins mesh u v t = all 1 s (omega arith) in
-    let rise : AllPairs IsBefore (s ∷ t ∷ []) = subst (AllPairs IsBefore) two (AllPairs-filter IsBefore (joins u v) (all_sides mesh) (sides_rise mesh)) in
+    let rise : AllPairs IsBefore (s ∷ t ∷ []) = subst (AllPairs IsBefore) two
+    (AllPairs-filter IsBefore (joins u v) (all_sides mesh) (sides_rise mesh)) in
     record {
       first = first.listed.side;
       second = second.listed.side;

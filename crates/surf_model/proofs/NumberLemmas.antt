@@ -15,10 +15,12 @@ face_side f face t = record { face = f; at = t; tail = get_or face t 0; head = g
 pub length-sides_of_face : (f : ℕ) (face : List ℕ) → length (sides_of_face f face) ≡ length face
 length-sides_of_face f face = length-map (range_with_len 0 (length face)) (face_side f face) ∙ length-range_with_len 0 (length face)
 
-pub get_or-sides_of_face : (f : ℕ) (face : List ℕ) (t : ℕ) (d : FaceSide) → t < length face → get_or (sides_of_face f face) t d ≡ face_side f face t
+pub get_or-sides_of_face : (f : ℕ) (face : List ℕ) (t : ℕ) (d : FaceSide) → t < length face
+    → get_or (sides_of_face f face) t d ≡ face_side f face t
 get_or-sides_of_face f face t d h = get_or-map-range_with_len (face_side f face) 0 (length face) t t d h (omega arith)
 
-pub sides_of_face-more : (f : ℕ) (face : List ℕ) (t : ℕ) → t < length face → take (t + 1) (sides_of_face f face) ≡ take t (sides_of_face f face) ++ face_side f face t ∷ []
+pub sides_of_face-more : (f : ℕ) (face : List ℕ) (t : ℕ) → t < length face
+    → take (t + 1) (sides_of_face f face) ≡ take t (sides_of_face f face) ++ face_side f face t ∷ []
 sides_of_face-more f face t h =
     take_more (sides_of_face f face) t (face_side f face t) (omega (arith, h, length-sides_of_face f face))
     ∙ ap (λ (s : FaceSide). take t (sides_of_face f face) ++ s ∷ []) (get_or-sides_of_face f face t (face_side f face t) h)
@@ -35,7 +37,8 @@ pub sides_up_to-none : (mesh : FaceList) → sides_up_to mesh 0 ≡ []
 unfolding sides_up_to
 sides_up_to-none mesh = refl
 
-pub sides_up_to-more : (mesh : FaceList) (n : ℕ) → n < length mesh.faces → sides_up_to mesh (n + 1) ≡ sides_up_to mesh n ++ sides_of_face n (face_at mesh n)
+pub sides_up_to-more : (mesh : FaceList) (n : ℕ) → n < length mesh.faces → sides_up_to mesh (n + 1) ≡ sides_up_to mesh n
+    ++ sides_of_face n (face_at mesh n)
 unfolding sides_up_to
 sides_up_to-more mesh n h =
     let faces : List (ℕ × List ℕ) = enumerate_from 0 mesh.faces in
@@ -50,13 +53,15 @@ sides_up_to-more mesh n h =
 
 pub sides_up_to-all : (mesh : FaceList) (n : ℕ) → length mesh.faces ≤ n → sides_up_to mesh n ≡ all_sides mesh
 unfolding sides_up_to all_sides
-sides_up_to-all mesh n h = ap (flat_map sides_at) (take_all n (enumerate_from 0 mesh.faces) (omega (arith, h, length-enumerate_from 0 mesh.faces)))
+sides_up_to-all mesh n h = ap (flat_map sides_at) (take_all n (enumerate_from 0 mesh.faces)
+    (omega (arith, h, length-enumerate_from 0 mesh.faces)))
 
 length-from : (k : ℕ) (faces : List (List ℕ)) → length (flat_map sides_at (enumerate_from k faces)) ≡ sum_by length faces
 length-from k [] = refl
 length-from k (face ∷ faces) =
     length-append (sides_of_face k face) (flat_map sides_at (enumerate_from (k + 1) faces))
-    ∙ (let here = length-sides_of_face k face in let rest = length-from (k + 1) faces in omega (arith, here, rest, sum_by-cons {X = List ℕ} length face faces))
+    ∙ (let here = length-sides_of_face k face in let rest =
+    length-from (k + 1) faces in omega (arith, here, rest, sum_by-cons {X = List ℕ} length face faces))
 
 pub length-all_sides : (mesh : FaceList) → length (all_sides mesh) ≡ total_sides mesh
 unfolding all_sides
@@ -68,4 +73,9 @@ length-sides_up_to mesh n =
     let faces : List (ℕ × List ℕ) = enumerate_from 0 mesh.faces in
     let split : flat_map sides_at faces ≡ flat_map sides_at (take n faces) ++ flat_map sides_at (drop n faces) =
     ap (flat_map sides_at) (sym (take-append-drop n faces)) ∙ flat_map-append sides_at (take n faces) (drop n faces) in
-    omega (arith, length-from 0 mesh.faces, ap (λ (xs : List FaceSide). length xs) split, length-append (flat_map sides_at (take n faces)) (flat_map sides_at (drop n faces)))
+    omega (
+      arith,
+      length-from 0 mesh.faces,
+      ap (λ (xs : List FaceSide). length xs) split,
+      length-append (flat_map sides_at (take n faces)) (flat_map sides_at (drop n faces)),
+    )

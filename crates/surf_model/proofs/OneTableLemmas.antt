@@ -35,7 +35,8 @@ first_or_later e f es (zero, l, is) = inl is
 first_or_later e f es (suc k, l, is) = inr (k, omega arith, is)
 
 -- two rising lists with the same edges are one
-same_list : (es fs : List Edge) → AllPairs IsBefore es → AllPairs IsBefore fs → ((e : Edge) → Contains es e → Contains fs e) → ((e : Edge) → Contains fs e → Contains es e) → es ≡ fs
+same_list : (es fs : List Edge) → AllPairs IsBefore es → AllPairs IsBefore fs → ((e : Edge) → Contains es e → Contains fs e)
+    → ((e : Edge) → Contains fs e → Contains es e) → es ≡ fs
 same_list [] [] h k to from = refl
 same_list [] (f ∷ fs) h k to from = let none = from f (0, omega arith, refl) in absurd (omega (arith, none.1))
 same_list (e ∷ es) [] h k to from = let none = to e (0, omega arith, refl) in absurd (omega (arith, none.1))
@@ -63,7 +64,8 @@ same_list (e ∷ es) (f ∷ fs) h k to from =
 same_edge : (mesh : FaceList) (e f : Edge) → IsEdgeOf mesh e → IsEdgeOf mesh f → e.low ≡ f.low → e.high ≡ f.high → e ≡ f
 same_edge mesh e f h k low high =
     let sides : e.sides ≡ f.sides =
-    h.sides ∙ ap (λ a. map side_name (filter (joins a e.high) (all_sides mesh))) low ∙ ap (λ b. map side_name (filter (joins f.low b) (all_sides mesh))) high ∙ sym k.sides in
+    h.sides ∙ ap (λ a. map side_name (filter (joins a e.high) (all_sides mesh))) low
+    ∙ ap (λ b. map side_name (filter (joins f.low b) (all_sides mesh))) high ∙ sym k.sides in
     ap (λ a. let x : Edge = record { low = a; high = e.high; sides = e.sides } in x) low
     ∙ ap (λ b. let x : Edge = record { low = f.low; high = b; sides = e.sides } in x) high
     ∙ ap (λ ss. let x : Edge = record { low = f.low; high = f.high; sides = ss } in x) sides
@@ -78,15 +80,18 @@ passed p xs x has = (
   All-contains (λ y. p y ≡ true) (filter p xs) x (filter_passes p xs) has,
 )
 
-in_other_table : (mesh : FaceList) (table other : List Edge) (e : Edge) → IsTableOf mesh table → IsTableOf mesh other → Contains table e → Contains other e
+in_other_table : (mesh : FaceList) (table other : List Edge) (e : Edge) → IsTableOf mesh table → IsTableOf mesh other → Contains table e
+    → Contains other e
 in_other_table mesh table other e h k has =
     let is : IsEdgeOf mesh e = All-contains (IsEdgeOf mesh) table e h.edges has in
     let here : List FaceSide = filter (joins e.low e.high) (all_sides mesh) in
     let none : FaceSide = record { face = 0; at = 0; tail = 0; head = 0 } in
     let s : FaceSide = get_or here 0 none in
-    let some : Contains here s = Contains-get_or here 0 none (omega (arith, is.some_side, ap (λ (xs : List Side). length xs) is.sides, length-map here side_name)) in
+    let some : Contains here s = Contains-get_or here 0 none
+    (omega (arith, is.some_side, ap (λ (xs : List Side). length xs) is.sides, length-map here side_name)) in
     let both = passed (joins e.low e.high) (all_sides mesh) s some in
-    let found = All-contains (λ (side : FaceSide). Any (λ (f : Edge). joins f.low f.high side ≡ true) other) (all_sides mesh) s k.complete both.0 in
+    let found = All-contains (λ (side : FaceSide). Any (λ (f : Edge). joins f.low f.high side ≡ true) other) (all_sides mesh) s
+    k.complete both.0 in
     let f : Edge = found.1 in
     let there : Contains other f = (found.0, found.2, found.3) in
     let is_f : IsEdgeOf mesh f = All-contains (IsEdgeOf mesh) other f k.edges there in
@@ -95,7 +100,8 @@ in_other_table mesh table other e h k has =
 
 pub one_table : (mesh : FaceList) (table other : List Edge) → IsTableOf mesh table → IsTableOf mesh other → table ≡ other
 one_table mesh table other h k =
-    same_list table other h.rising k.rising (λ e has. in_other_table mesh table other e h k has) (λ e has. in_other_table mesh other table e k h has)
+    same_list table other h.rising k.rising (λ e has. in_other_table mesh table other e h k has)
+    (λ e has. in_other_table mesh other table e k h has)
 
 -- a side of the faces from number n on
 record IsFrom (n : ℕ) (faces : List (List ℕ)) (s : FaceSide) : Type 0 where
@@ -103,10 +109,12 @@ record IsFrom (n : ℕ) (faces : List (List ℕ)) (s : FaceSide) : Type 0 where
   face : s.face - n < length faces
   place : s.at < length (get_or faces (s.face - n) [])
 
-sides_from : (n : ℕ) (faces : List (List ℕ)) → All (IsFrom n faces) (flat_map (λ (p : ℕ × List ℕ). sides_of_face p.0 p.1) (enumerate_from n faces))
+sides_from : (n : ℕ) (faces : List (List ℕ)) → All (IsFrom n faces)
+    (flat_map (λ (p : ℕ × List ℕ). sides_of_face p.0 p.1) (enumerate_from n faces))
 sides_from n [] = All-nil (IsFrom n [])
 sides_from n (face ∷ faces) =
-    All-append (IsFrom n (face ∷ faces)) (sides_of_face n face) (flat_map (λ (p : ℕ × List ℕ). sides_of_face p.0 p.1) (enumerate_from (n + 1) faces))
+    All-append (IsFrom n (face ∷ faces)) (sides_of_face n face)
+    (flat_map (λ (p : ℕ × List ℕ). sides_of_face p.0 p.1) (enumerate_from (n + 1) faces))
     (λ t d l.
     let few : t < length face = omega (arith, l, length-sides_of_face n face) in
     let zero_is : n - n ≡ 0 = omega arith in
@@ -132,7 +140,8 @@ all_are_sides mesh =
     record { face = omega (arith, h.face); place = subst (λ k. s.at < length (get_or mesh.faces k [])) same h.place })
     (flat_map (λ (p : ℕ × List ℕ). sides_of_face p.0 p.1) (enumerate_from 0 mesh.faces)) (sides_from 0 mesh.faces)
 
-pub side_from_table : (mesh : FaceList) (table : List Edge) (side : Side) → IsTableOf mesh table → Any (λ (edge : Edge). Contains edge.sides side) table → IsSide mesh side
+pub side_from_table : (mesh : FaceList) (table : List Edge) (side : Side) → IsTableOf mesh table
+    → Any (λ (edge : Edge). Contains edge.sides side) table → IsSide mesh side
 side_from_table mesh table side h any =
     let e : Edge = any.1 in
     let is : IsEdgeOf mesh e = All-contains (IsEdgeOf mesh) table e h.edges (any.0, any.2, any.3) in
@@ -141,6 +150,7 @@ side_from_table mesh table side h any =
     (All-filter (joins e.low e.high) (λ (s : FaceSide). IsSide mesh (side_name s)) (all_sides mesh) (all_are_sides mesh)))
     (subst (λ (ss : List Side). Contains ss side) is.sides any.4)
 
-pub sides_in_table : (mesh : FaceList) (table : List Edge) (side : Side) → IsTableOf mesh table → IsSide mesh side ↔ Any (λ (edge : Edge). Contains edge.sides side) table
+pub sides_in_table : (mesh : FaceList) (table : List Edge) (side : Side) → IsTableOf mesh table → IsSide mesh side
+    ↔ Any (λ (edge : Edge). Contains edge.sides side) table
 sides_in_table mesh table side h =
     (λ is. has_side mesh table side.face.0 side.at h is.face is.place, λ any. side_from_table mesh table side h any)

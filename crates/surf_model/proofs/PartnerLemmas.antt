@@ -40,13 +40,15 @@ side_at_number n (face ∷ faces) k d l =
             at = k;
             in_list = omega arith;
             in_face = here;
-            is = get_or_append_left first others d k (omega (arith, here, size)) ∙ get_or-sides_of_face n face k d here ∙ ap (λ f. face_side f face k) (sym start);
+            is = get_or_append_left first others d k (omega (arith, here, size)) ∙ get_or-sides_of_face n face k d here
+                ∙ ap (λ f. face_side f face k) (sym start);
             number = omega arith;
           })
       | inr later ↦
           (let rest : ℕ = k - length face in
           let total : length (first ++ others) ≡ length first + length others = length-append first others in
-          let next : IsNumberOf (n + 1) faces rest (get_or others rest d) = side_at_number (n + 1) faces rest d (omega (arith, l, later, size, total)) in
+          let next : IsNumberOf (n + 1) faces rest (get_or others rest d) =
+          side_at_number (n + 1) faces rest d (omega (arith, l, later, size, total)) in
           let start : n + 1 + next.place ≡ n + suc next.place = omega arith in
           record {
             place = suc next.place;
@@ -86,7 +88,8 @@ abbrev pub HasSideEnds : FaceList → ℕ → ℕ → Side → Type 0
 HasSideEnds mesh low high side =
     ((tail_of mesh side ≡ low) × (head_of mesh side ≡ high)) ⊎ ((tail_of mesh side ≡ high) × (head_of mesh side ≡ low))
 
-joins_ends : (u v a b : ℕ) (side : FaceSide) → joins u v side ≡ true → side.tail ≡ a → side.head ≡ b → ((a ≡ u) × (b ≡ v)) ⊎ ((a ≡ v) × (b ≡ u))
+joins_ends : (u v a b : ℕ) (side : FaceSide) → joins u v side ≡ true → side.tail ≡ a → side.head ≡ b → ((a ≡ u) × (b ≡ v))
+    ⊎ ((a ≡ v) × (b ≡ u))
 joins_ends u v a b side h is_tail is_head = grind (arith, nat_tests)
 
 ends_join : (u v : ℕ) (side : FaceSide) → ((side.tail ≡ u) × (side.head ≡ v)) ⊎ ((side.tail ≡ v) × (side.head ≡ u)) → joins u v side ≡ true
@@ -100,7 +103,8 @@ pub record IsSideOfEdge (mesh : FaceList) (edge : Edge) (side : Side) : Type 0 w
   pub side_of : IsSide mesh side
   pub ends : HasSideEnds mesh edge.low edge.high side
 
-pub side_of_edge : (mesh : FaceList) (edge : Edge) (k : ℕ) (d : Side) → IsEdgeOf mesh edge → k < length edge.sides → IsSideOfEdge mesh edge (get_or edge.sides k d)
+pub side_of_edge : (mesh : FaceList) (edge : Edge) (k : ℕ) (d : Side) → IsEdgeOf mesh edge → k < length edge.sides
+    → IsSideOfEdge mesh edge (get_or edge.sides k d)
 side_of_edge mesh edge k d h l =
     let p : FaceSide → Bool = joins edge.low edge.high in
     let sides : List FaceSide = filter p (all_sides mesh) in
@@ -110,20 +114,24 @@ side_of_edge mesh edge k d h l =
     let passes : p side ≡ true = filter_passes p (all_sides mesh) k no_side few in
     let whole : (j : ℕ) × IsWholeSide mesh j side =
     All-filter p (λ (s : FaceSide). (j : ℕ) × IsWholeSide mesh j s) (all_sides mesh) (λ j e b. (j, whole_side mesh j e b)) k no_side few in
-    let is : get_or edge.sides k d ≡ side_name side = ap (λ (xs : List Side). get_or xs k d) h.sides ∙ get_or-map side_name sides k no_side d few in
+    let is : get_or edge.sides k d ≡ side_name side = ap (λ (xs : List Side). get_or xs k d) h.sides
+    ∙ get_or-map side_name sides k no_side d few in
     subst (IsSideOfEdge mesh edge) (sym is) (record {
       side_of = whole.1.side_of;
-      ends = joins_ends edge.low edge.high (tail_of mesh (side_name side)) (head_of mesh (side_name side)) side passes whole.1.tail whole.1.head;
+      ends = joins_ends edge.low edge.high (tail_of mesh (side_name side)) (head_of mesh (side_name side)) side passes whole.1.tail
+          whole.1.head;
     })
 
 -- each side of the mesh with the edge's ends is one of its sides
-pub edge_has_side : (mesh : FaceList) (edge : Edge) (side : Side) → IsEdgeOf mesh edge → IsSide mesh side → HasSideEnds mesh edge.low edge.high side
+pub edge_has_side : (mesh : FaceList) (edge : Edge) (side : Side) → IsEdgeOf mesh edge → IsSide mesh side
+    → HasSideEnds mesh edge.low edge.high side
     → Contains edge.sides side
 edge_has_side mesh edge side h in_mesh ends =
     let p : FaceSide → Bool = joins edge.low edge.high in
     let whole : FaceSide = face_side side.face.0 (face_at mesh side.face.0) side.at in
     let all : Contains (all_sides mesh) whole = face_side_in mesh side.face.0 side.at in_mesh.face in_mesh.place in
-    let kept : Contains (filter p (all_sides mesh)) whole = Contains-filter p (all_sides mesh) whole (ends_join edge.low edge.high whole ends) all in
+    let kept : Contains (filter p (all_sides mesh)) whole =
+    Contains-filter p (all_sides mesh) whole (ends_join edge.low edge.high whole ends) all in
     subst (λ (xs : List Side). Contains xs side) (sym h.sides) (
       kept.0,
       omega (arith, kept.1, length-map (filter p (all_sides mesh)) side_name),
@@ -131,7 +139,8 @@ edge_has_side mesh edge side h in_mesh ends =
     )
 
 -- no side stands twice in an edge
-pub edge_sides_rise : (mesh : FaceList) (edge : Edge) → IsEdgeOf mesh edge → AllPairs (λ side other. side_number mesh side < side_number mesh other) edge.sides
+pub edge_sides_rise : (mesh : FaceList) (edge : Edge) → IsEdgeOf mesh edge
+    → AllPairs (λ side other. side_number mesh side < side_number mesh other) edge.sides
 edge_sides_rise mesh edge h i j d less l =
     let p : FaceSide → Bool = joins edge.low edge.high in
     let sides : List FaceSide = filter p (all_sides mesh) in
@@ -142,7 +151,8 @@ edge_sides_rise mesh edge h i j d less l =
     let rise : AllPairs (λ (s t : FaceSide). side_number mesh (side_name s) < side_number mesh (side_name t)) (all_sides mesh) =
     λ a b e s t. omega (arith, (whole_side mesh a e (omega arith)).number, (whole_side mesh b e t).number) in
     let here : side_number mesh (side_name (get_or sides i no_side)) < side_number mesh (side_name (get_or sides j no_side)) =
-    AllPairs-filter (λ (s t : FaceSide). side_number mesh (side_name s) < side_number mesh (side_name t)) p (all_sides mesh) rise i j no_side less few in
+    AllPairs-filter (λ (s t : FaceSide). side_number mesh (side_name s) < side_number mesh (side_name t)) p (all_sides mesh) rise i j
+    no_side less few in
     subst (λ x. side_number mesh x < side_number mesh (get_or edge.sides j d)) (sym (is i (omega arith)))
     (subst (λ x. side_number mesh (side_name (get_or sides i no_side)) < side_number mesh x) (sym (is j few)) here)
 
@@ -155,17 +165,21 @@ pub record IsEdgeOfSide (mesh : FaceList) (table : List Edge) (side : Side) : Ty
 pub table_edge : (mesh : FaceList) (table : List Edge) (k : ℕ) → IsTableOf mesh table → k < length table → IsEdgeOf mesh (edge_in table k)
 table_edge mesh table k h l = h.edges k _ l
 
-pub edge_of_side : (mesh : FaceList) (table : List Edge) (side : Side) → IsTableOf mesh table → IsSide mesh side → IsEdgeOfSide mesh table side
+pub edge_of_side : (mesh : FaceList) (table : List Edge) (side : Side) → IsTableOf mesh table → IsSide mesh side
+    → IsEdgeOfSide mesh table side
 edge_of_side mesh table side h in_mesh =
     let whole : FaceSide = face_side side.face.0 (face_at mesh side.face.0) side.at in
     let all : Contains (all_sides mesh) whole = face_side_in mesh side.face.0 side.at in_mesh.face in_mesh.place in
-    let found = All-contains (λ (s : FaceSide). Any (λ (e : Edge). joins e.low e.high s ≡ true) table) (all_sides mesh) whole h.complete all in
+    let found = All-contains (λ (s : FaceSide). Any (λ (e : Edge). joins e.low e.high s ≡ true) table) (all_sides mesh) whole h.complete
+    all in
     let is : edge_in table found.0 ≡ found.1 = get_or_default table found.0 _ found.1 found.2 ∙ found.3 in
-    let joined : joins (edge_in table found.0).low (edge_in table found.0).high whole ≡ true = subst (λ (e : Edge). joins e.low e.high whole ≡ true) (sym is) found.4 in
+    let joined : joins (edge_in table found.0).low (edge_in table found.0).high whole ≡ true =
+    subst (λ (e : Edge). joins e.low e.high whole ≡ true) (sym is) found.4 in
     record {
       edge = found.0;
       in_table = found.2;
-      ends = joins_ends (edge_in table found.0).low (edge_in table found.0).high (tail_of mesh side) (head_of mesh side) whole joined refl refl;
+      ends = joins_ends (edge_in table found.0).low (edge_in table found.0).high (tail_of mesh side) (head_of mesh side) whole joined
+          refl refl;
     }
 
 -- two sides with the same ends
@@ -173,13 +187,15 @@ pub ends_agree : (t h u v low high : ℕ) → ((t ≡ low) × (h ≡ high)) ⊎ 
     → ((u ≡ low) × (v ≡ high)) ⊎ ((u ≡ high) × (v ≡ low))
 ends_agree t h u v low high first second = grind arith
 
-ends_same : (t h u v low high : ℕ) → ((t ≡ low) × (h ≡ high)) ⊎ ((t ≡ high) × (h ≡ low)) → ((u ≡ low) × (v ≡ high)) ⊎ ((u ≡ high) × (v ≡ low))
+ends_same : (t h u v low high : ℕ) → ((t ≡ low) × (h ≡ high)) ⊎ ((t ≡ high) × (h ≡ low)) → ((u ≡ low) × (v ≡ high))
+    ⊎ ((u ≡ high) × (v ≡ low))
     → ((t ≡ u) × (h ≡ v)) ⊎ ((t ≡ v) × (h ≡ u))
 ends_same t h u v low high first second = grind arith
 
 -- two sides of an edge of the table are partners
 pub partners_of_edge : (mesh : FaceList) (table : List Edge) (k i j : ℕ) (d : Side) → IsTableOf mesh table → k < length table
-    → i < j → j < length (edge_in table k).sides → ArePartners mesh (get_or (edge_in table k).sides i d) (get_or (edge_in table k).sides j d)
+    → i < j → j < length (edge_in table k).sides → ArePartners mesh (get_or (edge_in table k).sides i d)
+    (get_or (edge_in table k).sides j d)
 partners_of_edge mesh table k i j d h l less few =
     let edge : Edge = edge_in table k in
     let is : IsEdgeOf mesh edge = table_edge mesh table k h l in
@@ -200,7 +216,8 @@ pub record AreInOneEdge (table : List Edge) (side other : Side) : Type 0 where
   pub first : Contains (edge_in table edge).sides side
   pub second : Contains (edge_in table edge).sides other
 
-pub edge_of_partners : (mesh : FaceList) (table : List Edge) (side other : Side) → IsTableOf mesh table → ArePartners mesh side other → AreInOneEdge table side other
+pub edge_of_partners : (mesh : FaceList) (table : List Edge) (side other : Side) → IsTableOf mesh table → ArePartners mesh side other
+    → AreInOneEdge table side other
 edge_of_partners mesh table side other h partners =
     let found : IsEdgeOfSide mesh table side = edge_of_side mesh table side h partners.first in
     let edge : Edge = edge_in table found.edge in

@@ -35,7 +35,8 @@ part_within from (end ∷ ends) n (suc f) h l =
     record { rises = rest.rises; within = rest.within }
 
 -- one more part at the end
-pub parts-push : {A : Type 0} (from : ℕ) (ends : List ℕ) (xs ys : List A) (n m : ℕ) → EndsRise from ends n → length xs ≡ n → m ≡ n + length ys
+pub parts-push : {A : Type 0} (from : ℕ) (ends : List ℕ) (xs ys : List A) (n m : ℕ) → EndsRise from ends n → length xs ≡ n
+    → m ≡ n + length ys
     → parts from (ends ++ m ∷ []) (xs ++ ys) ≡ parts from ends xs ++ ys ∷ []
 parts-push {A} from [] xs ys n m h e k =
     let start : from ≡ length xs = omega (arith, h) in
@@ -55,7 +56,8 @@ EndsRise-push from [] n m h l = (omega (arith, h), refl)
 EndsRise-push from (end ∷ ends) n m h l = (h.0, EndsRise-push end ends n m h.1 l)
 
 -- the parts together are as long as the list from where they start
-pub sum_by-parts : {A : Type 0} (from : ℕ) (ends : List ℕ) (xs : List A) → EndsRise from ends (length xs) → from + sum_by length (parts from ends xs) ≡ length xs
+pub sum_by-parts : {A : Type 0} (from : ℕ) (ends : List ℕ) (xs : List A) → EndsRise from ends (length xs)
+    → from + sum_by length (parts from ends xs) ≡ length xs
 sum_by-parts {A} from [] xs h = omega (arith, h)
 sum_by-parts {A} from (end ∷ ends) xs h =
     let w = ends_within end ends (length xs) h.1 in
@@ -116,7 +118,8 @@ part_list-push ends marks more m h some room long old new =
       room = omega (arith, last, room);
       each_sixteenth = long ∙ ap (λ n. (n + 15) / 16) (sym last);
       marked = λ k l. elim (cases_lt k (length marks)) [
-        | inl less ↦ subst (IsInPart (ends ++ m ∷ []) (16 * k)) (sym (old k 0 (omega (arith, l, long)) less)) (in_part-push ends m (16 * k) (get_or marks k 0) (h.marked k less))
+        | inl less ↦ subst (IsInPart (ends ++ m ∷ []) (16 * k)) (sym (old k 0 (omega (arith, l, long)) less))
+            (in_part-push ends m (16 * k) (get_or marks k 0) (h.marked k less))
         | inr le ↦ subst (IsInPart (ends ++ m ∷ []) (16 * k)) (sym (new k 0 le (omega (arith, l, long))))
             (in_last_part ends m (16 * k) (omega (arith, le, h.each_sixteenth)) (omega (arith, l, long)))
       ];
@@ -132,5 +135,6 @@ sum_by-take-parts {A} from (end ∷ ends) xs (suc f) h l =
     let size : length (take (end - from) (drop from xs)) ≡ end - from =
     length-take-le (end - from) (drop from xs) (omega (arith, h.0, w, length-drop from xs)) in
     let more : sum_by length (take (suc f) (parts from (end ∷ ends) xs)) ≡ (end - from) + sum_by length (take f (parts end ends xs)) =
-    sum_by-cons length (take (end - from) (drop from xs)) (take f (parts end ends xs)) ∙ ap (λ k. k + sum_by length (take f (parts end ends xs))) size in
+    sum_by-cons length (take (end - from) (drop from xs)) (take f (parts end ends xs))
+    ∙ ap (λ k. k + sum_by length (take f (parts end ends xs))) size in
     rw more (omega (arith, h.0, sum_by-take-parts end ends xs f h.1 (omega arith)))

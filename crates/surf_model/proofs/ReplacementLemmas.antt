@@ -29,7 +29,8 @@ record AreParts (walk before part after : List ℕ) (at n : ℕ) : Type 0 where
   pub rest : drop (at + n) walk ≡ after
   pub long : at + n ≤ length walk
 
-parts_of : (walk before part after : List ℕ) (at n : ℕ) → walk ≡ before ++ part ++ after → length before ≡ at → length part ≡ n → AreParts walk before part after at n
+parts_of : (walk before part after : List ℕ) (at n : ℕ) → walk ≡ before ++ part ++ after → length before ≡ at → length part ≡ n
+    → AreParts walk before part after at n
 parts_of walk before part after at n e p q =
     let whole : walk ≡ before ++ (part ++ after) = e ∙ append_assoc before part after in
     let behind : drop at walk ≡ part ++ after = ap (drop at) whole ∙ drop_at before (part ++ after) at p in
@@ -41,7 +42,8 @@ parts_of walk before part after at n e p q =
     }
 
 -- the entries of the part of such a list
-entry_of_part : (walk before part after : List ℕ) (at k : ℕ) → walk ≡ before ++ part ++ after → length before ≡ at → get_or walk (at + k) 0 ≡ get_or (part ++ after) k 0
+entry_of_part : (walk before part after : List ℕ) (at k : ℕ) → walk ≡ before ++ part ++ after → length before ≡ at
+    → get_or walk (at + k) 0 ≡ get_or (part ++ after) k 0
 entry_of_part walk before part after at k e p =
     ap (λ (l : List ℕ). get_or l (at + k) 0) (e ∙ append_assoc before part after)
     ∙ ap (λ (n : ℕ). get_or (before ++ (part ++ after)) (n + k) 0) (sym p)
@@ -61,7 +63,8 @@ given false x y e = cc
 one_there : (walk : List ℕ) (at : ℕ) → at < length walk → take 1 (drop at walk) ≡ get_or walk at 0 ∷ []
 one_there walk at h = ap (take 1) (drop_more walk at 0 h)
 
-three_there : (walk : List ℕ) (at : ℕ) → at + 2 < length walk → take 3 (drop at walk) ≡ get_or walk at 0 ∷ get_or walk (at + 1) 0 ∷ get_or walk (at + 2) 0 ∷ []
+three_there : (walk : List ℕ) (at : ℕ) → at + 2 < length walk
+    → take 3 (drop at walk) ≡ get_or walk at 0 ∷ get_or walk (at + 1) 0 ∷ get_or walk (at + 2) 0 ∷ []
 three_there walk at h =
     let second : at + 1 + 1 ≡ at + 2 = omega arith in
     ap (take 3) (
@@ -71,7 +74,8 @@ three_there walk at h =
     ∙ ap (λ (l : List ℕ). get_or walk at 0 ∷ get_or walk (at + 1) 0 ∷ l) (drop_more walk (at + 2) 0 h)
     )
 
-gives_replacement : (mesh : FaceList) (walk next : List ℕ) (move : Move) → 0 < length walk → apply mesh walk move ≡ Some next → IsReplacement mesh move walk next
+gives_replacement : (mesh : FaceList) (walk next : List ℕ) (move : Move) → 0 < length walk → apply mesh walk move ≡ Some next
+    → IsReplacement mesh move walk next
 unfolding apply
 gives_replacement mesh walk next (Insert at via) start e =
     let here : ℕ = get_or walk at 0 in
@@ -107,7 +111,12 @@ gives_replacement mesh walk next (Remove at via) start e =
       walk_is = in_three walk at 3;
       next_is = told.1;
       place = length-take-le at walk (omega arith);
-      replaces = (here, three_there walk at within ∙ ap (λ (v : ℕ). here ∷ v ∷ get_or walk (at + 2) 0 ∷ []) out ∙ ap (λ (v : ℕ). here ∷ via.0 ∷ v ∷ []) (sym back), refl);
+      replaces = (
+        here,
+        three_there walk at within ∙ ap (λ (v : ℕ). here ∷ v ∷ get_or walk (at + 2) 0 ∷ []) out
+            ∙ ap (λ (v : ℕ). here ∷ via.0 ∷ v ∷ []) (sym back),
+        refl,
+      );
     }
 gives_replacement mesh walk next (Across at face corner forward taken) start e =
     let ring : List ℕ = face_at mesh face.0 in
@@ -140,10 +149,12 @@ gives_replacement mesh walk next (Across at face corner forward taken) start e =
     }
 
 -- a walk that is put together anew
-put_together : (walk before other others after : List ℕ) (at n : ℕ) → take at walk ≡ before → drop (at + n) walk ≡ after → others ≡ other → replaced at n others walk ≡ before ++ other ++ after
+put_together : (walk before other others after : List ℕ) (at n : ℕ) → take at walk ≡ before → drop (at + n) walk ≡ after
+    → others ≡ other → replaced at n others walk ≡ before ++ other ++ after
 put_together walk before other others after at n f r o = rw (f, r, o) refl
 
-replacement_gives : (mesh : FaceList) (walk next : List ℕ) (move : Move) → IsReplacement mesh move walk next → apply mesh walk move ≡ Some next
+replacement_gives : (mesh : FaceList) (walk next : List ℕ) (move : Move) → IsReplacement mesh move walk next
+    → apply mesh walk move ≡ Some next
 unfolding apply
 replacement_gives mesh walk next (Insert at via) r =
     let a : ℕ = r.replaces.0 in
@@ -166,7 +177,8 @@ replacement_gives mesh walk next (Remove at via) r =
     λ k. entry_of_part walk r.before r.part r.after at k r.walk_is r.place ∙ ap (λ (l : List ℕ). get_or (l ++ r.after) k 0) reads in
     let here : get_or walk at 0 ≡ a = ap (λ (n : ℕ). get_or walk n 0) (let e : at ≡ at + 0 = omega arith in e) ∙ entry 0 in
     let place : nat_le (at + 2) (darts walk) ≡ true = le-leb (at + 2) (darts walk) (omega (arith, parts.long)) in
-    let same : nat_eq (get_or walk at 0) (get_or walk (at + 2) 0) ≡ true = eq-eqb (get_or walk at 0) (get_or walk (at + 2) 0) (here ∙ sym (entry 2)) in
+    let same : nat_eq (get_or walk at 0) (get_or walk (at + 2) 0) ≡ true =
+    eq-eqb (get_or walk at 0) (get_or walk (at + 2) 0) (here ∙ sym (entry 2)) in
     let middle : nat_eq (get_or walk (at + 1) 0) via.0 ≡ true = eq-eqb (get_or walk (at + 1) 0) via.0 (entry 1) in
     let whole = put_together walk r.before r.other (get_or walk at 0 ∷ []) r.after at 3 parts.front parts.rest
     (ap (λ (v : ℕ). v ∷ []) here ∙ sym r.replaces.2) in
@@ -175,20 +187,24 @@ replacement_gives mesh walk next (Across at face corner forward taken) r =
     let ring : List ℕ = face_at mesh face.0 in
     let way : List ℕ = corners_from ring forward corner taken in
     let reads : r.part ≡ way = r.replaces.3 in
-    let parts = parts_of walk r.before r.part r.after at (taken + 1) r.walk_is r.place (ap length reads ∙ length-corners_from ring forward corner taken) in
+    let parts = parts_of walk r.before r.part r.after at (taken + 1) r.walk_is r.place
+    (ap length reads ∙ length-corners_from ring forward corner taken) in
     let there : nat_lt face.0 (length mesh.faces) ≡ true = lt-ltb face.0 (length mesh.faces) r.replaces.0 in
     let cornered : nat_lt corner (length ring) ≡ true = lt-ltb corner (length ring) r.replaces.1 in
     let enough : nat_le taken (length ring) ≡ true = le-leb taken (length ring) r.replaces.2 in
     let place : nat_le (at + taken) (darts walk) ≡ true = le-leb (at + taken) (darts walk) (omega (arith, parts.long)) in
-    let same : same_walk (take (taken + 1) (drop at walk)) way ≡ true = (bytes_decides (take (taken + 1) (drop at walk)) way).1 (parts.middle ∙ reads) in
+    let same : same_walk (take (taken + 1) (drop at walk)) way ≡ true =
+    (bytes_decides (take (taken + 1) (drop at walk)) way).1 (parts.middle ∙ reads) in
     let others : List ℕ = corners_from ring (not forward) corner (length ring - taken) in
     let whole = put_together walk r.before r.other others r.after at (taken + 1) parts.front parts.rest (sym r.replaces.4) in
     rw (there, cornered, enough, place, same) (ap Some (whole ∙ sym r.next_is))
 
-pub by_replacing : (mesh : FaceList) (walk next : List ℕ) (move : Move) → 0 < length walk → (apply mesh walk move ≡ Some next) ↔ IsReplacement mesh move walk next
+pub by_replacing : (mesh : FaceList) (walk next : List ℕ) (move : Move) → 0 < length walk → (apply mesh walk move ≡ Some next)
+    ↔ IsReplacement mesh move walk next
 by_replacing mesh walk next move start = (gives_replacement mesh walk next move start, replacement_gives mesh walk next move)
 
-pub spur_in : (mesh : FaceList) (walk next : List ℕ) (at : ℕ) (via : VertexName) → 0 < length walk → apply mesh walk (Insert at via) ≡ Some next
+pub spur_in : (mesh : FaceList) (walk next : List ℕ) (at : ℕ) (via : VertexName) → 0 < length walk
+    → apply mesh walk (Insert at via) ≡ Some next
     → next ≡ take (at + 1) walk ++ via.0 ∷ get_or walk at 0 ∷ drop (at + 1) walk
 unfolding apply
 spur_in mesh walk next at via start e =
@@ -202,7 +218,8 @@ spur_in mesh walk next at via start e =
     ∙ sym (append_assoc (take at walk) (here ∷ []) (via.0 ∷ here ∷ rest))
     ∙ ap (λ (l : List ℕ). l ++ via.0 ∷ here ∷ rest) (sym (take_more walk at 0 within))
 
-pub spur_out : (mesh : FaceList) (walk next : List ℕ) (at : ℕ) (via : VertexName) → 0 < length walk → apply mesh walk (Remove at via) ≡ Some next
+pub spur_out : (mesh : FaceList) (walk next : List ℕ) (at : ℕ) (via : VertexName) → 0 < length walk
+    → apply mesh walk (Remove at via) ≡ Some next
     → next ≡ take (at + 1) walk ++ drop (at + 3) walk
 unfolding apply
 spur_out mesh walk next at via start e =

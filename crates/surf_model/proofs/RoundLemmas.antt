@@ -17,7 +17,8 @@ corners_before face rising t (suc k) = get_or face t 0 ∷ corners_before face r
 pub last_corner : (face : List ℕ) (rising : Bool) (t k : ℕ)
     → corners_from face rising t k ≡ corners_before face rising t k ++ get_or face (corner_after rising (length face) t k) 0 ∷ []
 last_corner face rising t zero = refl
-last_corner face rising t (suc k) = ap (λ (l : List ℕ). get_or face t 0 ∷ l) (last_corner face rising (next_corner rising (length face) t) k)
+last_corner face rising t (suc k) = ap (λ (l : List ℕ). get_or face t 0 ∷ l)
+    (last_corner face rising (next_corner rising (length face) t) k)
 
 -- the first of the corners
 pub first_corner : (face : List ℕ) (rising : Bool) (t k : ℕ) → (rest : List ℕ) × (corners_from face rising t k ≡ get_or face t 0 ∷ rest)

@@ -42,7 +42,8 @@ lies_stored count ends corners f h l =
       first = omega (arith, sum_by-take-parts 0 ends (numbers corners) f rises (omega (arith, few)));
       size = size;
       ring = face;
-      corner = λ t k. ap (λ (vs : List ℕ). get_or vs t 0) face ∙ get_or-take _ _ t 0 (omega (arith, k, size)) ∙ get_or-drop start (numbers corners) t 0;
+      corner = λ t k. ap (λ (vs : List ℕ). get_or vs t 0) face ∙ get_or-take _ _ t 0 (omega (arith, k, size))
+          ∙ get_or-drop start (numbers corners) t 0;
     }
 
 pub lies_at : (count : ℕ) (ends : List ℕ) (corners : List VertexName) (mesh : FaceList) (f : ℕ) → IsStored count ends corners
@@ -60,18 +61,22 @@ total_sides-stored_mesh count ends corners h =
 
 -- the numbers of a part of the corners
 pub numbers-part : (n s : ℕ) (corners : List VertexName) → numbers (take n (drop s corners)) ≡ take n (drop s (numbers corners))
-numbers-part n s corners = sym (take-map (λ (v : VertexName). v.0) n (drop s corners)) ∙ ap (take n) (sym (drop-map (λ (v : VertexName). v.0) s corners))
+numbers-part n s corners = sym (take-map (λ (v : VertexName). v.0) n (drop s corners))
+    ∙ ap (take n) (sym (drop-map (λ (v : VertexName). v.0) s corners))
 
 -- how many faces there are, and how many sides together
-pub length-faces : (count : ℕ) (ends : List ℕ) (corners : List VertexName) (mesh : FaceList) → stored_mesh count ends corners ≡ mesh → length mesh.faces ≡ length ends
+pub length-faces : (count : ℕ) (ends : List ℕ) (corners : List VertexName) (mesh : FaceList) → stored_mesh count ends corners ≡ mesh
+    → length mesh.faces ≡ length ends
 length-faces count ends corners mesh seen = ap (λ (m : FaceList). length m.faces) (sym seen) ∙ length-parts 0 ends (numbers corners)
 
-pub total_sides-seen : (count : ℕ) (ends : List ℕ) (corners : List VertexName) (mesh : FaceList) → IsStored count ends corners → stored_mesh count ends corners ≡ mesh
+pub total_sides-seen : (count : ℕ) (ends : List ℕ) (corners : List VertexName) (mesh : FaceList) → IsStored count ends corners
+    → stored_mesh count ends corners ≡ mesh
     → total_sides mesh ≡ length corners
 total_sides-seen count ends corners mesh h seen = ap total_sides (sym seen) ∙ total_sides-stored_mesh count ends corners h.rising
 
 -- one more face at the end
-pub stored_mesh-push : (count : ℕ) (ends : List ℕ) (corners face : List VertexName) (m : ℕ) → EndsRise 0 ends (length corners) → m ≡ length corners + length face
+pub stored_mesh-push : (count : ℕ) (ends : List ℕ) (corners face : List VertexName) (m : ℕ) → EndsRise 0 ends (length corners)
+    → m ≡ length corners + length face
     → stored_mesh count (ends ++ m ∷ []) (corners ++ face)
     ≡ record { count = count; faces = (stored_mesh count ends corners).faces ++ numbers face ∷ [] }
 stored_mesh-push count ends corners face m h e =
@@ -80,9 +85,11 @@ stored_mesh-push count ends corners face m h e =
     let joined : numbers (corners ++ face) ≡ numbers corners ++ numbers face = map-append (λ v. v.0) corners face in
     let faces : parts 0 (ends ++ m ∷ []) (numbers corners ++ numbers face) ≡ parts 0 ends (numbers corners) ++ numbers face ∷ [] =
     parts-push 0 ends (numbers corners) (numbers face) (length corners) m h long (omega (arith, e, size)) in
-    ap (λ (fs : List (List ℕ)). let mesh : FaceList = record { count = count; faces = fs } in mesh) (ap (parts 0 (ends ++ m ∷ [])) joined ∙ faces)
+    ap (λ (fs : List (List ℕ)). let mesh : FaceList = record { count = count; faces = fs } in mesh)
+    (ap (parts 0 (ends ++ m ∷ [])) joined ∙ faces)
 
-pub IsStored-push : (count : ℕ) (ends : List ℕ) (corners face : List VertexName) (m : ℕ) → IsStored count ends corners → IsFace count (numbers face)
+pub IsStored-push : (count : ℕ) (ends : List ℕ) (corners face : List VertexName) (m : ℕ) → IsStored count ends corners
+    → IsFace count (numbers face)
     → total_sides (stored_mesh count ends corners) + length face ≤ MOST_SIDES → m ≡ length corners + length face
     → IsStored count (ends ++ m ∷ []) (corners ++ face)
 IsStored-push count ends corners face m h ok room e =
@@ -109,11 +116,13 @@ IsStored-push count ends corners face m h ok room e =
     }
 
 -- the places where the faces end number the sides of the mesh
-pub numbering : (count : ℕ) (ends : List ℕ) (corners : List VertexName) (mesh : FaceList) → IsStored count ends corners → stored_mesh count ends corners ≡ mesh → IsNumbering mesh ends
+pub numbering : (count : ℕ) (ends : List ℕ) (corners : List VertexName) (mesh : FaceList) → IsStored count ends corners
+    → stored_mesh count ends corners ≡ mesh → IsNumbering mesh ends
 numbering count ends corners mesh h seen =
     let many : length mesh.faces ≡ length ends = length-faces count ends corners mesh seen in
     let last : last_end ends ≡ length corners = EndsRise-last ends (length corners) h.rising in
-    let lies : (f : ℕ) → f < length ends → LiesAt mesh ends corners f = λ f l. lies_at count ends corners mesh f h seen (omega (arith, l, many)) in
+    let lies : (f : ℕ) → f < length ends → LiesAt mesh ends corners f =
+    λ f l. lies_at count ends corners mesh f h seen (omega (arith, l, many)) in
     record {
       each_face = sym many;
       starts = λ f l. sym (lies f l).first;
@@ -138,12 +147,14 @@ total_sides-pending count ends corners seen h is =
 pub length-pending : (count : ℕ) (ends : List ℕ) (corners : List VertexName) (seen : PendingFace) → stored_pending count ends corners ≡ seen
     → length seen.pending ≡ length corners - last_end ends
 length-pending count ends corners seen is =
-    ap (λ (p : PendingFace). length p.pending) (sym is) ∙ length-map (drop (last_end ends) corners) (λ v. v.0) ∙ length-drop (last_end ends) corners
+    ap (λ (p : PendingFace). length p.pending) (sym is) ∙ length-map (drop (last_end ends) corners) (λ v. v.0)
+    ∙ length-drop (last_end ends) corners
 
 -- the corners behind the list are those of its last face
 pub record IsClosed (count : ℕ) (ends : List ℕ) (corners : List VertexName) (old : PendingFace) : Type 0 where
   pub stored : IsStoredPending count ends corners
-  pub seen : stored_pending count ends corners ≡ record { mesh = record { count = old.mesh.count; faces = old.mesh.faces ++ old.pending ∷ [] }; pending = [] }
+  pub seen : stored_pending count ends corners ≡ record
+      { mesh = record { count = old.mesh.count; faces = old.mesh.faces ++ old.pending ∷ [] }; pending = [] }
 
 closed : (count : ℕ) (ends : List ℕ) (corners : List VertexName) (m : ℕ) → IsStoredPending count ends corners
     → IsFace count (numbers (drop (last_end ends) corners)) → m ≤ MOST_SIDES → m ≡ length corners
@@ -151,11 +162,19 @@ closed : (count : ℕ) (ends : List ℕ) (corners : List VertexName) (m : ℕ) �
 closed count ends corners m h face room whole =
     let front = take (last_end ends) corners in
     let back = drop (last_end ends) corners in
-    let size : m ≡ length front + length back = omega (arith, whole, h.within, length-take-le (last_end ends) corners h.within, length-drop (last_end ends) corners) in
-    let few : total_sides (stored_mesh count ends front) + length back ≤ MOST_SIDES = omega (arith, total_sides-stored_mesh count ends front h.stored.rising, size, room) in
+    let size : m ≡ length front + length back = omega (
+      arith,
+      whole,
+      h.within,
+      length-take-le (last_end ends) corners h.within,
+      length-drop (last_end ends) corners,
+    ) in
+    let few : total_sides (stored_mesh count ends front) + length back ≤ MOST_SIDES =
+    omega (arith, total_sides-stored_mesh count ends front h.stored.rising, size, room) in
     let all : front ++ back ≡ take (last_end (ends ++ m ∷ [])) corners =
     joined ends corners ∙ sym (ap (λ n. take n corners) (last_end-push ends m) ∙ take_all m corners (omega (arith, whole))) in
-    let none : drop (last_end (ends ++ m ∷ [])) corners ≡ [] = ap (λ n. drop n corners) (last_end-push ends m) ∙ drop_all m corners (omega (arith, whole)) in
+    let none : drop (last_end (ends ++ m ∷ [])) corners ≡ [] =
+    ap (λ n. drop n corners) (last_end-push ends m) ∙ drop_all m corners (omega (arith, whole)) in
     let mesh : stored_mesh count (ends ++ m ∷ []) (take (last_end (ends ++ m ∷ [])) corners)
     ≡ record { count = count; faces = (stored_mesh count ends front).faces ++ numbers back ∷ [] } =
     ap (stored_mesh count (ends ++ m ∷ [])) (sym all) ∙ stored_mesh-push count ends front back m h.stored.rising size in
@@ -164,7 +183,8 @@ closed count ends corners m h face room whole =
         stored = subst (IsStored count (ends ++ m ∷ [])) all (IsStored-push count ends front back m h.stored face few size);
         within = omega (arith, last_end-push ends m, whole);
       };
-      seen = ap₂ (λ (ms : FaceList) (vs : List VertexName). let p : PendingFace = record { mesh = ms; pending = numbers vs } in p) mesh none;
+      seen = ap₂ (λ (ms : FaceList) (vs : List VertexName). let p : PendingFace = record { mesh = ms; pending = numbers vs } in p) mesh
+          none;
     }
 
 pub close_face : (count : ℕ) (ends : List ℕ) (corners : List VertexName) (seen : PendingFace) (m : ℕ) → IsStoredPending count ends corners
@@ -175,4 +195,5 @@ close_face count ends corners seen m h is face room whole =
     let total = total_sides-pending count ends corners seen h is in
     let size = length-pending count ends corners seen is in
     subst (IsClosed count (ends ++ m ∷ []) corners) is
-    (closed count ends corners m h (subst (λ (p : PendingFace). IsFace p.mesh.count p.pending) (sym is) face) (omega (arith, total, size, room, whole, h.within)) whole)
+    (closed count ends corners m h (subst (λ (p : PendingFace). IsFace p.mesh.count p.pending) (sym is) face)
+    (omega (arith, total, size, room, whole, h.within)) whole)

@@ -17,14 +17,21 @@ pub record IsEdgeBetween (table : List Edge) (u v : ℕ) : Type 0 where
   pub in_table : edge < length table
   pub ends : HasEnds u v (edge_in table edge)
 
-pub edge_between : (mesh : FaceList) (table : List Edge) (u v : ℕ) → IsTableOf mesh table → is_edge mesh u v ≡ true → IsEdgeBetween table u v
+pub edge_between : (mesh : FaceList) (table : List Edge) (u v : ℕ) → IsTableOf mesh table → is_edge mesh u v ≡ true
+    → IsEdgeBetween table u v
 unfolding is_edge
 edge_between mesh table u v h is =
     let any = Any-from_list_any (joins u v) (all_sides mesh) is in
     let found = h.complete any.0 any.1 any.2 in
-    let here : joins found.1.low found.1.high any.1 ≡ true = subst (λ (s : FaceSide). joins found.1.low found.1.high s ≡ true) any.3 found.4 in
+    let here : joins found.1.low found.1.high any.1 ≡ true =
+    subst (λ (s : FaceSide). joins found.1.low found.1.high s ≡ true) any.3 found.4 in
     let at : edge_in table found.0 ≡ found.1 = get_or_default table found.0 _ found.1 found.2 ∙ found.3 in
-    record { edge = found.0; in_table = found.2; ends = subst (HasEnds u v) (sym at) (both_join u v found.1.low found.1.high any.1 any.4 here) }
+    record {
+      edge = found.0;
+      in_table = found.2;
+      ends =
+          subst (HasEnds u v) (sym at) (both_join u v found.1.low found.1.high any.1 any.4 here);
+    }
 
 -- the ends of an edge of the table form an edge
 pub table_pair : (mesh : FaceList) (table : List Edge) (k : ℕ) → IsTableOf mesh table → k < length table

@@ -48,20 +48,24 @@ side_of_edge mesh e h =
     list_any_from_filter (joins e.low e.high) (all_sides mesh)
     (omega (arith, h.some_side, ap (λ xs. length xs) h.sides, length-map (filter (joins e.low e.high) (all_sides mesh)) side_name))
 
-pub edge_from_table : (mesh : FaceList) (table : List Edge) (u v : ℕ) → IsTableOf mesh table → Any (HasEnds u v) table → is_edge mesh u v ≡ true
+pub edge_from_table : (mesh : FaceList) (table : List Edge) (u v : ℕ) → IsTableOf mesh table → Any (HasEnds u v) table
+    → is_edge mesh u v ≡ true
 unfolding is_edge
 edge_from_table mesh table u v h any =
     let e : Edge = any.1 in
     let is : IsEdgeOf mesh e = subst (IsEdgeOf mesh) any.3 (h.edges any.0 e any.2) in
     let some : list_any (joins e.low e.high) (all_sides mesh) ≡ true = side_of_edge mesh e is in
     elim any.4 [
-      | inl x ↦ subst (λ a. list_any (joins a v) (all_sides mesh) ≡ true) x.0 (subst (λ b. list_any (joins e.low b) (all_sides mesh) ≡ true) x.1 some)
+      | inl x ↦ subst (λ a. list_any (joins a v) (all_sides mesh) ≡ true) x.0
+          (subst (λ b. list_any (joins e.low b) (all_sides mesh) ≡ true) x.1 some)
       | inr x ↦
           list_any_agree (joins u v) (joins v u) (joins_swap u v) (all_sides mesh)
-          ∙ subst (λ a. list_any (joins a u) (all_sides mesh) ≡ true) x.0 (subst (λ b. list_any (joins e.low b) (all_sides mesh) ≡ true) x.1 some)
+          ∙ subst (λ a. list_any (joins a u) (all_sides mesh) ≡ true) x.0
+          (subst (λ b. list_any (joins e.low b) (all_sides mesh) ≡ true) x.1 some)
     ]
 
-pub no_edge_from_table : (mesh : FaceList) (table : List Edge) (u v : ℕ) → IsTableOf mesh table → All (λ e. HasEnds u v e → ⊥) table → is_edge mesh u v ≡ false
+pub no_edge_from_table : (mesh : FaceList) (table : List Edge) (u v : ℕ) → IsTableOf mesh table → All (λ e. HasEnds u v e → ⊥) table
+    → is_edge mesh u v ≡ false
 unfolding is_edge
 no_edge_from_table mesh table u v h none =
     false_from_ne_true (is_edge mesh u v)
@@ -96,14 +100,16 @@ names_face v f face =
           let any = Any-from_list_any (λ corner. eqb corner v) face h in
           let t : ℕ = any.0 in
           let read : get_or face t 0 ≡ any.1 = get_or_default face t 0 any.1 any.2 ∙ any.3 in
-          let here : names v (side t) ≡ true = or_left (eqb (get_or face t 0) v) (eqb (get_or face (next_corner true m t) 0) v) (subst (λ x. eqb x v ≡ true) (sym read) any.4) in
+          let here : names v (side t) ≡ true = or_left (eqb (get_or face t 0) v) (eqb (get_or face (next_corner true m t) 0) v)
+          (subst (λ x. eqb x v ≡ true) (sym read) any.4) in
           list_any_at (names v) (sides_of_face f face) t (side t) (omega (arith, any.2, long))
           (subst (λ s. names v s ≡ true) (sym (get_or-map-range_with_len side 0 m t t (side t) any.2 (omega arith))) here),
     )
     (λ h. h, λ h. h)
 
 names_faces : (v n : ℕ) (faces : List (List ℕ))
-    → list_any (names v) (flat_map (λ (p : ℕ × List ℕ). sides_of_face p.0 p.1) (enumerate_from n faces)) ≡ list_any (λ face. list_any (λ corner. eqb corner v) face) faces
+    → list_any (names v) (flat_map (λ (p : ℕ × List ℕ). sides_of_face p.0 p.1) (enumerate_from n faces)) ≡ list_any
+    (λ face. list_any (λ corner. eqb corner v) face) faces
 names_faces v n [] = refl
 names_faces v n (face ∷ faces) =
     list_any-append (names v) (sides_of_face n face) (flat_map (λ (p : ℕ × List ℕ). sides_of_face p.0 p.1) (enumerate_from (n + 1) faces))
@@ -118,7 +124,8 @@ used_from_table mesh table v h any =
     let e : Edge = any.1 in
     let is : IsEdgeOf mesh e = subst (IsEdgeOf mesh) any.3 (h.edges any.0 e any.2) in
     let some = Any-from_list_any (joins e.low e.high) (all_sides mesh) (side_of_edge mesh e is) in
-    sym (names_mesh mesh v) ∙ list_any-from_Any (names v) (all_sides mesh) (some.0, some.1, some.2, some.3, joins_names e.low e.high v some.1 some.4 any.4)
+    sym (names_mesh mesh v) ∙ list_any-from_Any (names v) (all_sides mesh)
+    (some.0, some.1, some.2, some.3, joins_names e.low e.high v some.1 some.4 any.4)
 
 pub end_from_used : (mesh : FaceList) (table : List Edge) (v : ℕ) → IsTableOf mesh table → is_used mesh v ≡ true → Any (IsEndOf v) table
 end_from_used mesh table v h is =
@@ -130,11 +137,13 @@ end_from_used mesh table v h is =
 
 pub Contains-filter : {A : Type 0} (p : A → Bool) (xs : List A) (x : A) → p x ≡ true → Contains xs x → Contains (filter p xs) x
 Contains-filter p [] x passes h = absurd (omega (arith, h.1))
-Contains-filter p (y ∷ ys) x passes (zero, l, is) = subst (λ zs. Contains zs x) (sym (cond-true (p y) (y ∷ filter p ys) (filter p ys) (ap p is ∙ passes))) (0, omega arith, is)
+Contains-filter p (y ∷ ys) x passes (zero, l, is) =
+    subst (λ zs. Contains zs x) (sym (cond-true (p y) (y ∷ filter p ys) (filter p ys) (ap p is ∙ passes))) (0, omega arith, is)
 Contains-filter p (y ∷ ys) x passes (suc k, l, is) =
     let rest : Contains (filter p ys) x = Contains-filter p ys x passes (k, omega arith, is) in
     elim (cases_Bool (p y)) [
-      | inl keeps ↦ subst (λ zs. Contains zs x) (sym (cond-true (p y) (y ∷ filter p ys) (filter p ys) keeps)) (suc rest.0, omega (arith, rest.1), rest.2)
+      | inl keeps ↦ subst (λ zs. Contains zs x) (sym (cond-true (p y) (y ∷ filter p ys) (filter p ys) keeps))
+          (suc rest.0, omega (arith, rest.1), rest.2)
       | inr drops ↦ subst (λ zs. Contains zs x) (sym (cond-false (p y) (y ∷ filter p ys) (filter p ys) drops)) rest
     ]
 
@@ -143,24 +152,33 @@ face_side_from : (n : ℕ) (faces : List (List ℕ)) (f t : ℕ) → f < length 
 face_side_from n [] f t l b = absurd (omega arith)
 face_side_from n (face ∷ faces) zero t l b =
     let at : n + 0 ≡ n = omega arith in
-    rw at (Contains-append_left (sides_of_face n face) (flat_map (λ (p : ℕ × List ℕ). sides_of_face p.0 p.1) (enumerate_from (n + 1) faces)) (face_side n face t)
+    rw at (Contains-append_left (sides_of_face n face)
+    (flat_map (λ (p : ℕ × List ℕ). sides_of_face p.0 p.1) (enumerate_from (n + 1) faces)) (face_side n face t)
     (t, omega (arith, b, length-sides_of_face n face), get_or-sides_of_face n face t (face_side n face t) b))
 face_side_from n (face ∷ faces) (suc f) t l b =
     let at : n + suc f ≡ n + 1 + f = omega arith in
-    rw at (Contains-append_right (sides_of_face n face) (flat_map (λ (p : ℕ × List ℕ). sides_of_face p.0 p.1) (enumerate_from (n + 1) faces)) (face_side (n + 1 + f) (get_or faces f []) t)
+    rw at (Contains-append_right (sides_of_face n face)
+    (flat_map (λ (p : ℕ × List ℕ). sides_of_face p.0 p.1) (enumerate_from (n + 1) faces)) (face_side (n + 1 + f) (get_or faces f []) t)
     (face_side_from (n + 1) faces f t (omega arith) b))
 
-pub face_side_in : (mesh : FaceList) (f t : ℕ) → f < length mesh.faces → t < length (face_at mesh f) → Contains (all_sides mesh) (face_side f (face_at mesh f) t)
+pub face_side_in : (mesh : FaceList) (f t : ℕ) → f < length mesh.faces → t < length (face_at mesh f)
+    → Contains (all_sides mesh) (face_side f (face_at mesh f) t)
 unfolding all_sides
 face_side_in mesh f t l b =
     let at : 0 + f ≡ f = omega arith in
-    subst (λ k. Contains (flat_map (λ (p : ℕ × List ℕ). sides_of_face p.0 p.1) (enumerate_from 0 mesh.faces)) (face_side k (get_or mesh.faces f []) t)) at (face_side_from 0 mesh.faces f t l b)
+    subst (λ k. Contains (flat_map (λ (p : ℕ × List ℕ). sides_of_face p.0 p.1) (enumerate_from 0 mesh.faces))
+    (face_side k (get_or mesh.faces f []) t)) at (face_side_from 0 mesh.faces f t l b)
 
 -- a side that was read from an edge is a side of the table
 pub known_side : (table : List Edge) (k t : ℕ) (side : Side) → k < length table → slice_get (edge_in table k).sides t ≡ Some side
     → Any (λ (edge : Edge). Contains edge.sides side) table
-known_side table k t side l is =
-    (k, edge_in table k, l, get_or_default table k _ _ l, (t, slice_get_within (edge_in table k).sides t side is, get_or_from_slice_get (edge_in table k).sides t side side is))
+known_side table k t side l is = (
+  k,
+  edge_in table k,
+  l,
+  get_or_default table k _ _ l,
+  (t, slice_get_within (edge_in table k).sides t side is, get_or_from_slice_get (edge_in table k).sides t side side is),
+)
 
 -- each side of a face of the mesh is a side of its table
 pub has_side : (mesh : FaceList) (table : List Edge) (f t : ℕ) → IsTableOf mesh table → f < length mesh.faces → t < length (face_at mesh f)
@@ -170,13 +188,21 @@ has_side mesh table f t h in_list in_face =
     let found = h.complete has.0 (face_side f (face_at mesh f) t) has.1 in
     let e : Edge = found.1 in
     let is : IsEdgeOf mesh e = subst (IsEdgeOf mesh) found.3 (h.edges found.0 e found.2) in
-    let joined : joins e.low e.high (face_side f (face_at mesh f) t) ≡ true = subst (λ (s : FaceSide). joins e.low e.high s ≡ true) has.2 found.4 in
+    let joined : joins e.low e.high (face_side f (face_at mesh f) t) ≡ true =
+    subst (λ (s : FaceSide). joins e.low e.high s ≡ true) has.2 found.4 in
     let kept : Contains (filter (joins e.low e.high) (all_sides mesh)) (face_side f (face_at mesh f) t) =
     Contains-filter (joins e.low e.high) (all_sides mesh) (face_side f (face_at mesh f) t) joined has in
     let named : Contains (map side_name (filter (joins e.low e.high) (all_sides mesh))) (side_name (face_side f (face_at mesh f) t)) = (
       kept.0,
       omega (arith, kept.1, length-map (filter (joins e.low e.high) (all_sides mesh)) side_name),
-      get_or-map side_name (filter (joins e.low e.high) (all_sides mesh)) kept.0 (face_side f (face_at mesh f) t) (side_name (face_side f (face_at mesh f) t)) kept.1
+      get_or-map side_name (filter (joins e.low e.high) (all_sides mesh)) kept.0 (face_side f (face_at mesh f) t)
+          (side_name (face_side f (face_at mesh f) t)) kept.1
           ∙ ap side_name kept.2,
-    ) in
-    (found.0, e, found.2, found.3, subst (λ (xs : List Side). Contains xs (record { face = record { 0 = f }; at = t })) (sym is.sides) named)
+    ) in (
+      found.0,
+      e,
+      found.2,
+      found.3,
+      subst (λ (xs : List Side). Contains xs (record { face = record { 0 = f }; at = t })) (sym is.sides)
+          named,
+    )

@@ -57,7 +57,8 @@ home : (v : ℕ) (rest : List ℕ) → AreSame (up_and_down v rest v rest) (v �
 home v [] = λ stack n. refl
 home v (above ∷ rest) =
     let middle : AreSame (up_and_down above rest above rest) (above ∷ []) = home above rest in
-    let whole : AreSame (up_and_down above rest above rest ++ v ∷ []) (above ∷ v ∷ []) = same_before (up_and_down above rest above rest) (above ∷ []) (v ∷ []) middle in
+    let whole : AreSame (up_and_down above rest above rest ++ v ∷ []) (above ∷ v ∷ []) =
+    same_before (up_and_down above rest above rest) (above ∷ []) (v ∷ []) middle in
     let from : AreSame (v ∷ (up_and_down above rest above rest ++ v ∷ [])) (v ∷ above ∷ v ∷ []) =
     same_after (v ∷ []) (up_and_down above rest above rest ++ v ∷ []) (above ∷ v ∷ []) whole in
     let shape : up_and_down v (above ∷ rest) v (above ∷ rest) ≡ v ∷ (up_and_down above rest above rest ++ v ∷ []) =
@@ -73,7 +74,8 @@ last_of u (v ∷ walk) = last_of v walk
 along_rest : (parent : ℕ → Option ℕ) (u v : ℕ) (walk : List ℕ) → IsAlongTree parent (u ∷ v ∷ walk) → IsAlongTree parent (v ∷ walk)
 along_rest parent u v walk h k l =
     let up : suc k + 1 ≡ suc (k + 1) = omega arith in
-    subst (λ (n : ℕ). (parent (get_or (u ∷ v ∷ walk) (suc k) 0) ≡ Some (get_or (u ∷ v ∷ walk) n 0)) ⊎ (parent (get_or (u ∷ v ∷ walk) n 0) ≡ Some (get_or (u ∷ v ∷ walk) (suc k) 0)))
+    subst (λ (n : ℕ). (parent (get_or (u ∷ v ∷ walk) (suc k) 0) ≡ Some (get_or (u ∷ v ∷ walk) n 0))
+    ⊎ (parent (get_or (u ∷ v ∷ walk) n 0) ≡ Some (get_or (u ∷ v ∷ walk) (suc k) 0)))
     up (h (suc k) (omega arith))
 
 tree_walk : (parent : ℕ → Option ℕ) (rank : ℕ → ℕ) → RankFalls parent rank → (walk : List ℕ) (u : ℕ) (rest others : List ℕ)
@@ -87,7 +89,8 @@ tree_walk parent rank falls (v ∷ walk) u rest others along h k =
     let end : ℕ = last_of v walk in
     let more : AreSame (v ∷ walk) (up_and_down v way.0 end others) =
     tree_walk parent rank falls walk v way.0 others (along_rest parent u v walk along) way.1 k in
-    let behind : AreSame (u ∷ v ∷ walk) (u ∷ up_and_down v way.0 end others) = same_after (u ∷ []) (v ∷ walk) (up_and_down v way.0 end others) more in
+    let behind : AreSame (u ∷ v ∷ walk) (u ∷ up_and_down v way.0 end others) =
+    same_after (u ∷ []) (v ∷ walk) (up_and_down v way.0 end others) more in
     elim (along 0 (omega arith)) [
       | inl up ↦
           let e : rest ≡ v ∷ way.0 = one_way_up parent u rest (v ∷ way.0) h (up, way.1) in
@@ -109,7 +112,8 @@ last_read u (v ∷ walk) =
 -- walks without spurs along one tree with common ends are equal
 pub one_tree_walk : (parent : ℕ → Option ℕ) (rank : ℕ → ℕ) → RankFalls parent rank → (first second : List ℕ) → 0 < length first
     → 0 < length second
-    → IsAlongTree parent first → IsAlongTree parent second → HasNoSpur first → HasNoSpur second → HaveCommonEnds first second → first ≡ second
+    → IsAlongTree parent first → IsAlongTree parent second → HasNoSpur first → HasNoSpur second → HaveCommonEnds first second
+    → first ≡ second
 one_tree_walk parent rank falls [] second h k a b c d e = absurd (omega arith)
 one_tree_walk parent rank falls (u ∷ walk) [] h k a b c d e = absurd (omega arith)
 one_tree_walk parent rank falls (u ∷ walk) (v ∷ other) h k a b c d e =
@@ -120,7 +124,8 @@ one_tree_walk parent rank falls (u ∷ walk) (v ∷ other) h k a b c d e =
     let close : end ≡ last_of v other = sym (last_read u walk) ∙ e.ends ∙ last_read v other in
     let first_way : AreSame (u ∷ walk) (up_and_down u one.0 end two.0) = tree_walk parent rank falls walk u one.0 two.0 a one.1 two.1 in
     let second_way : AreSame (v ∷ other) (up_and_down v one.0 (last_of v other) two.0) =
-    tree_walk parent rank falls other v one.0 two.0 b (subst (λ (x : ℕ). IsWayUp parent x one.0) start one.1) (subst (λ (x : ℕ). IsWayUp parent x two.0) close two.1) in
+    tree_walk parent rank falls other v one.0 two.0 b (subst (λ (x : ℕ). IsWayUp parent x one.0) start one.1)
+    (subst (λ (x : ℕ). IsWayUp parent x two.0) close two.1) in
     let shape : up_and_down v one.0 (last_of v other) two.0 ≡ up_and_down u one.0 end two.0 =
     ap (λ (x : ℕ). up_and_down v one.0 x two.0) (sym close) ∙ ap (λ (x : ℕ). up_and_down x one.0 end two.0) (sym start) in
     same_equal (u ∷ walk) (v ∷ other) c d

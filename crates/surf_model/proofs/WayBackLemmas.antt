@@ -70,14 +70,16 @@ alike mesh (Across at face corner forward taken) part other h =
       part_ends = h.3 ∙ last_corner ring forward corner taken;
       other_begins = h.4 ∙ two.1;
       other_ends = h.4 ∙ last_corner ring (not forward) corner (m - taken)
-          ∙ ap (λ (k : ℕ). corners_before ring (not forward) corner (m - taken) ++ get_or ring k 0 ∷ []) (sym (meet forward m corner taken h.1 h.2));
+          ∙ ap (λ (k : ℕ). corners_before ring (not forward) corner (m - taken) ++ get_or ring k 0 ∷ [])
+          (sym (meet forward m corner taken h.1 h.2));
     }
 
 -- the new part is a way along edges, and all that it meets is used
 other_linked : (mesh : FaceList) (move : Move) (part other : List ℕ) → Replaces mesh move part other → Linked mesh other
 other_linked mesh (Insert at via) part other h = rw h.3 (h.1, (edge_swap mesh via.0 h.0 ∙ h.1, tt))
 other_linked mesh (Remove at via) part other h = rw h.2 tt
-other_linked mesh (Across at face corner forward taken) part other h = rw h.4 (round_linked mesh face.0 (not forward) corner (length (face_at mesh face.0) - taken) h.0 h.1)
+other_linked mesh (Across at face corner forward taken) part other h =
+    rw h.4 (round_linked mesh face.0 (not forward) corner (length (face_at mesh face.0) - taken) h.0 h.1)
 
 abbrev IsUsed : FaceList → ℕ → Type 0
 IsUsed mesh v = IsTrue (is_used mesh v)
@@ -106,13 +108,17 @@ replaced_linked : (mesh : FaceList) (before part other after : List ℕ) → Are
     → Linked mesh (before ++ part ++ after) → Linked mesh (before ++ other ++ after)
 replaced_linked mesh before part other after a linked h =
     let front : Linked mesh (before ++ a.first ∷ []) =
-    front_of mesh a.first before (a.part_rest ++ after) (subst (Linked mesh) (at_first before part after a.part_rest a.first a.part_begins) h) in
+    front_of mesh a.first before (a.part_rest ++ after)
+    (subst (Linked mesh) (at_first before part after a.part_rest a.first a.part_begins) h) in
     let rest : Linked mesh (a.last ∷ after) =
-    rest_of mesh a.last (before ++ a.part_front) after (subst (Linked mesh) (at_last before part after a.part_front a.last a.part_ends) h) in
-    let more : Linked mesh (a.other_front ++ a.last ∷ after) = together mesh a.last a.other_front after (subst (Linked mesh) a.other_ends linked) rest in
+    rest_of mesh a.last (before ++ a.part_front) after
+    (subst (Linked mesh) (at_last before part after a.part_front a.last a.part_ends) h) in
+    let more : Linked mesh (a.other_front ++ a.last ∷ after) =
+    together mesh a.last a.other_front after (subst (Linked mesh) a.other_ends linked) rest in
     let same : a.other_front ++ a.last ∷ after ≡ a.first ∷ (a.other_rest ++ after) =
     sym (at_last [] other after a.other_front a.last a.other_ends) ∙ at_first [] other after a.other_rest a.first a.other_begins in
-    let whole : Linked mesh (before ++ (a.first ∷ (a.other_rest ++ after))) = together mesh a.first before (a.other_rest ++ after) front (subst (Linked mesh) same more) in
+    let whole : Linked mesh (before ++ (a.first ∷ (a.other_rest ++ after))) =
+    together mesh a.first before (a.other_rest ++ after) front (subst (Linked mesh) same more) in
     subst (Linked mesh) (sym (at_first before other after a.other_rest a.first a.other_begins)) whole
 
 -- what holds of all entries holds of those in front, and of those behind
@@ -136,7 +142,8 @@ keeps_walk mesh walk next move w e =
     All-append (IsUsed mesh) (r.before ++ r.other) r.after
     (All-append (IsUsed mesh) r.before r.other one.0 (other_used mesh move r.part r.other r.replaces one.1)) two.1 in
     walk_from mesh next (stays_walk mesh walk next move w.starts e) (subst (All (IsUsed mesh)) (sym r.next_is) others)
-    (subst (Linked mesh) (sym r.next_is) (replaced_linked mesh r.before r.part r.other r.after a (other_linked mesh move r.part r.other r.replaces) linked))
+    (subst (Linked mesh) (sym r.next_is) (replaced_linked mesh r.before r.part r.other r.after a
+    (other_linked mesh move r.part r.other r.replaces) linked))
 
 -- the last entry of a list
 abbrev end_of : List ℕ → ℕ
@@ -185,7 +192,8 @@ replaces_back : (mesh : FaceList) (move : Move) (before part other after : List 
     → Replaces mesh (inverse_of (sides_of_move mesh move) move) other part
 replaces_back mesh (Insert at via) before part other after linked h = (h.0, h.3, h.2)
 replaces_back mesh (Remove at via) before part other after linked h =
-    let open_walk : Linked mesh (before ++ (h.0 ∷ (via.0 ∷ h.0 ∷ after))) = subst (Linked mesh) (at_first before part after (via.0 ∷ h.0 ∷ []) h.0 h.1) linked in
+    let open_walk : Linked mesh (before ++ (h.0 ∷ (via.0 ∷ h.0 ∷ after))) =
+    subst (Linked mesh) (at_first before part after (via.0 ∷ h.0 ∷ []) h.0 h.1) linked in
     let spur : Linked mesh (h.0 ∷ via.0 ∷ h.0 ∷ after) = rest_of mesh h.0 before (via.0 ∷ h.0 ∷ after) open_walk in
     (h.0, spur.0, h.2, h.1)
 replaces_back mesh (Across at face corner forward taken) before part other after linked h =
@@ -246,7 +254,8 @@ list_undone mesh [] walk next w e =
     ap Some (sym same)
 list_undone mesh (move ∷ moves) walk next w e =
     let told = first_answer (λ x. apply_all mesh x moves) (apply mesh walk move) next e in
-    let most : apply_all mesh next (way_back mesh moves) ≡ Some told.0 = list_undone mesh moves told.0 next (keeps_walk mesh walk told.0 move w told.1) told.2 in
+    let most : apply_all mesh next (way_back mesh moves) ≡ Some told.0 =
+    list_undone mesh moves told.0 next (keeps_walk mesh walk told.0 move w told.1) told.2 in
     let back : Move = inverse_of (sides_of_move mesh move) move in
     let last : apply mesh told.0 back ≡ Some walk = undone mesh walk told.0 move w told.1 in
     let alone : apply_all mesh told.0 (back ∷ []) ≡ Some walk = rw last refl in

@@ -70,8 +70,10 @@ pub after_exchanges : (maps : Rotations) → IsRotationSystem maps → (inside o
 after_exchanges maps r inside others d l differ h k = elim (cases_eq h d) [
   | inl at_dart ↦ subst (λ (z : ℕ). exchanged f d twin z ≡ g z) (sym at_dart) (at_first f d twin ∙ dart_side (inside (maps.edge d)) refl)
   | inr not_dart ↦ elim (cases_eq h twin) [
-    | inl at_twin ↦ subst (λ (z : ℕ). exchanged f d twin z ≡ g z) (sym at_twin) (at_second f d twin apart ∙ twin_side (inside (maps.edge d)) refl)
-    | inr not_twin ↦ elsewhere f d twin h not_dart not_twin ∙ sym (after_agrees maps others inside h (differ.elsewhere (maps.edge h) (other not_dart not_twin)))
+    | inl at_twin ↦ subst (λ (z : ℕ). exchanged f d twin z ≡ g z) (sym at_twin)
+        (at_second f d twin apart ∙ twin_side (inside (maps.edge d)) refl)
+    | inr not_twin ↦ elsewhere f d twin h not_dart not_twin
+        ∙ sym (after_agrees maps others inside h (differ.elsewhere (maps.edge h) (other not_dart not_twin)))
   ]
 ]
   where
@@ -98,7 +100,8 @@ after_exchanges maps r inside others d l differ h k = elim (cases_eq h d) [
     dart_side true e =
         go_on maps inside twin (ap inside (sym one_edge) ∙ e) ∙ sym (turn maps others d (differ.there ∙ ap not e))
     dart_side false e =
-        turn maps inside twin (ap inside (sym one_edge) ∙ e) ∙ ap maps.next (r.twin_back d l) ∙ sym (go_on maps others d (differ.there ∙ ap not e))
+        turn maps inside twin (ap inside (sym one_edge) ∙ e) ∙ ap maps.next (r.twin_back d l)
+        ∙ sym (go_on maps others d (differ.there ∙ ap not e))
 
     twin_side : (b : Bool) → inside (maps.edge d) ≡ b → f d ≡ g twin
     twin_side true e =

@@ -105,7 +105,8 @@ next_face maps from edges n apart within before = by
         (below_skip maps from edges n (λ e. face_with maps (dart_options from) e n) before is))
     by (Some x) is =
         subst (AreBelowEdges maps from edges (λ e. face_with maps (dart_options from) e (suc n))) next
-        (below_more maps from edges n x (λ e. face_with maps (dart_options from) e n) (λ e. face_with maps (dart_options from) e (suc n)) apart before
+        (below_more maps from edges n x (λ e. face_with maps (dart_options from) e n)
+        (λ e. face_with maps (dart_options from) e (suc n)) apart before
         is (within n x is)
         (step (Some x) (maps.edge x) is
         ∙ ap (λ b. cond b (Some n) (face_with maps (dart_options from) (maps.edge x) n)) (eq-eqb (maps.edge x) (maps.edge x) refl))
@@ -116,7 +117,8 @@ pub below_edges : (maps : Rotations) (from : List (Option DartName)) (edges : �
     → ((v x : ℕ) → back_at from v ≡ Some x → maps.edge x < edges) → (n : ℕ)
     → AreBelowEdges maps from edges (λ e. face_with maps (dart_options from) e n) n
 below_edges maps from edges apart within zero = below_none maps from edges
-below_edges maps from edges apart within (suc n) = next_face maps from edges n apart within (below_edges maps from edges apart within n) (back_at from n) refl
+below_edges maps from edges apart within (suc n) =
+    next_face maps from edges n apart within (below_edges maps from edges apart within n) (back_at from n) refl
 
 -- a face below an edge has a dart on it
 below_has : (maps : Rotations) (darts : List (Option ℕ)) (e f n : ℕ) → face_with maps darts e n ≡ Some f
@@ -130,12 +132,14 @@ below_has maps darts e f (suc n) is = by (λ k. below_has maps darts e f n k) (g
     by before (Some x) some = elim (cases_Bool (nat_eq (maps.edge x) e)) [
       | inl on ↦
           (let same : Some n ≡ Some f =
-          sym (ap (λ b. cond b (Some n) (face_with maps darts e n)) on) ∙ sym (ap (λ o. cond (lies_on maps e o) (Some n) (face_with maps darts e n)) some) ∙ is in
+          sym (ap (λ b. cond b (Some n) (face_with maps darts e n)) on)
+          ∙ sym (ap (λ o. cond (lies_on maps e o) (Some n) (face_with maps darts e n)) some) ∙ is in
           let at : n ≡ f = cc in
           (x, ap (λ k. get_or darts k None) (sym at) ∙ some, eqb-true (maps.edge x) e on))
       | inr off ↦
           before
-          (sym (ap (λ b. cond b (Some n) (face_with maps darts e n)) off) ∙ sym (ap (λ o. cond (lies_on maps e o) (Some n) (face_with maps darts e n)) some) ∙ is)
+          (sym (ap (λ b. cond b (Some n) (face_with maps darts e n)) off)
+          ∙ sym (ap (λ o. cond (lies_on maps e o) (Some n) (face_with maps darts e n)) some) ∙ is)
     ]
 
 -- an edge has no face below it where neither of its darts leads to a parent
@@ -156,11 +160,13 @@ none_below s split o t d l one other = by (child_face (rotations_of s) split ((r
         ]
 
 -- of two answers, one for each dart of an edge, where the first is none
-pub second_below : (s : OrientedMesh) (split : SplitView) → IsOrientedSurface s → IsSplit s split → (d twin : ℕ) → d < (rotations_of s).darts
+pub second_below : (s : OrientedMesh) (split : SplitView) → IsOrientedSurface s → IsSplit s split → (d twin : ℕ)
+    → d < (rotations_of s).darts
     → twin ≡ (rotations_of s).twin d → ((f : ℕ) → face_parent split f ≡ Some d → ⊥) → (r : Option FaceName)
     → IfSome r (λ face. face_parent split face.0 ≡ Some twin) → IfNone r ((f : ℕ) → face_parent split f ≡ Some twin → ⊥)
     → option_map (λ (face : FaceName). face.0) r ≡ child_face (rotations_of s) split ((rotations_of s).edge d)
 second_below s split o t d twin l is none None some free = sym (none_below s split o t d l none (λ f e. free f (e ∙ ap Some (sym is))))
 second_below s split o t d twin l is none (Some face) some free =
     let maps : Rotations = rotations_of s in
-    sym (ap (child_face maps split) (twin_edge maps (rotation_system s o) d l ∙ ap maps.edge (sym is)) ∙ t.child_faces.below face.0 twin some)
+    sym (ap (child_face maps split) (twin_edge maps (rotation_system s o) d l ∙ ap maps.edge (sym is))
+    ∙ t.child_faces.below face.0 twin some)

@@ -119,7 +119,8 @@ one_less_ordered n e merged a b la lb h m a_in b_in la_in lb_in to_a to_b first_
     count_less (is_least e) (is_least merged) n lb lb_in first_b gone same
   where
     gone : is_least merged lb ≡ false
-    gone = not_true (any_below (λ y. merged y lb) lb) (passes_below (λ y. merged y lb) lb la less (m.all la lb la_in lb_in (inr (inl (to_a, to_b)))))
+    gone = not_true (any_below (λ y. merged y lb) lb) (passes_below (λ y. merged y lb) lb la less
+        (m.all la lb la_in lb_in (inr (inl (to_a, to_b)))))
 
     taken_in : (x y : ℕ) → x < n → y < x → x ≢ lb → is_least e x ≡ true → merged y x ≡ true → ⊥
     taken_in x y l k ne first is = elim (m.only y x (omega arith) l is) [
@@ -161,12 +162,15 @@ one_class_less n e merged a b h m a_in b_in apart =
     let la_in : one.least < n = omega (arith, one.within) in
     let lb_in : two.least < n = omega (arith, two.within) in
     elim (cases_lt one.least two.least) [
-      | inl less ↦ one_less_ordered n e merged a b one.least two.least h m a_in b_in la_in lb_in one.related two.related one.first two.first less
+      | inl less ↦ one_less_ordered n e merged a b one.least two.least h m a_in b_in la_in lb_in one.related two.related one.first
+          two.first less
       | inr more ↦ elim (cases_eq one.least two.least) [
         | inl same ↦
             absurd (both_ways (e a b) apart
-            (h.on a one.least b a_in la_in b_in (h.back one.least a la_in a_in one.related) (subst (λ (x : ℕ). e x b ≡ true) (sym same) two.related)))
+            (h.on a one.least b a_in la_in b_in (h.back one.least a la_in a_in one.related)
+            (subst (λ (x : ℕ). e x b ≡ true) (sym same) two.related)))
         | inr other ↦
-            one_less_ordered n e merged b a two.least one.least h (turned n e merged a b m) b_in a_in lb_in la_in two.related one.related two.first one.first (omega arith)
+            one_less_ordered n e merged b a two.least one.least h (turned n e merged a b m) b_in a_in lb_in la_in two.related
+            one.related two.first one.first (omega arith)
       ]
     ]

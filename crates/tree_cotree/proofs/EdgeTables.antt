@@ -69,8 +69,10 @@ pair_more mesh a b table h less is =
           (All-cons (IsEdgeOf mesh) e [] (pair_is_edge mesh a b less is) (All-nil (IsEdgeOf mesh)));
       before =
           All-append (λ (f : Edge). IsPairBefore f.low f.high a (suc b)) table (e ∷ [])
-          (All-weaker (λ (f : Edge). IsPairBefore f.low f.high a b) (λ (f : Edge). IsPairBefore f.low f.high a (suc b)) (λ f p. before_more f.low f.high a b p) table h.before)
-          (All-cons (λ (f : Edge). IsPairBefore f.low f.high a (suc b)) e [] (inr (refl, omega arith)) (All-nil (λ (f : Edge). IsPairBefore f.low f.high a (suc b))));
+          (All-weaker (λ (f : Edge). IsPairBefore f.low f.high a b) (λ (f : Edge). IsPairBefore f.low f.high a (suc b))
+          (λ f p. before_more f.low f.high a b p) table h.before)
+          (All-cons (λ (f : Edge). IsPairBefore f.low f.high a (suc b)) e [] (inr (refl, omega arith))
+          (All-nil (λ (f : Edge). IsPairBefore f.low f.high a (suc b))));
       rising = all_pairs_push (λ (f g : Edge). IsPairBefore f.low f.high g.low g.high) table e h.rising (λ k d l. h.before k d l);
       complete = λ u v l is_uv p. elim (before_cases u v a b p) [
         | inl old ↦ any_left (λ (f : Edge). (f.low ≡ u) × (f.high ≡ v)) table (e ∷ []) (h.complete u v l is_uv old)
@@ -89,7 +91,8 @@ pair_skipped mesh a b table h none =
       rising = h.rising;
       complete = λ u v l is_uv p. elim (before_cases u v a b p) [
         | inl old ↦ h.complete u v l is_uv old
-        | inr same ↦ absurd (none (omega (arith, l, same.0, same.1)) (subst (λ (x : ℕ). is_edge mesh x b ≡ true) same.0 (subst (λ (y : ℕ). is_edge mesh u y ≡ true) same.1 is_uv)))
+        | inr same ↦ absurd (none (omega (arith, l, same.0, same.1))
+            (subst (λ (x : ℕ). is_edge mesh x b ≡ true) same.0 (subst (λ (y : ℕ). is_edge mesh u y ≡ true) same.1 is_uv)))
       ];
     }
 
@@ -105,7 +108,8 @@ row mesh a (suc b) table h =
       | inr other ↦ (old.0, pair_skipped mesh a b old.0 old.1 (λ _ is. both_ways (is_edge mesh a b) other is))
     ]
 
-next_row : (mesh : FaceList) (a : ℕ) (table : List Edge) → IsFaceList mesh → IsTableBefore mesh a mesh.count table → IsTableBefore mesh (suc a) 0 table
+next_row : (mesh : FaceList) (a : ℕ) (table : List Edge) → IsFaceList mesh → IsTableBefore mesh a mesh.count table
+    → IsTableBefore mesh (suc a) 0 table
 next_row mesh a table valid h =
     record {
       edges = h.edges;
@@ -124,8 +128,16 @@ next_row mesh a table valid h =
     ]
 
 rows : (mesh : FaceList) (a : ℕ) → IsFaceList mesh → (table : List Edge) × IsTableBefore mesh a 0 table
-rows mesh zero valid =
-    ([], record { edges = All-nil (IsEdgeOf mesh); before = All-nil (λ (f : Edge). IsPairBefore f.low f.high 0 0); rising = λ i j d l k. absurd (omega arith); complete = λ u v l is p. absurd (none u v p) })
+rows mesh zero valid = (
+  [],
+  record {
+    edges = All-nil (IsEdgeOf mesh);
+    before = All-nil (λ (f : Edge). IsPairBefore f.low f.high 0 0);
+    rising =
+        λ i j d l k. absurd (omega arith);
+    complete = λ u v l is p. absurd (none u v p);
+  },
+)
   where
     none : (u v : ℕ) → IsPairBefore u v 0 0 → ⊥
     none u v (inl p) = omega arith
@@ -136,7 +148,8 @@ rows mesh (suc a) valid =
     (all.0, next_row mesh a all.0 valid all.1)
 
 -- a side joins the vertices of an edge that has them
-joins_pair : (u v low high : ℕ) (s : FaceSide) → low ≡ u → high ≡ v → ((s.tail ≡ u) × (s.head ≡ v)) ⊎ ((s.tail ≡ v) × (s.head ≡ u)) → joins low high s ≡ true
+joins_pair : (u v low high : ℕ) (s : FaceSide) → low ≡ u → high ≡ v → ((s.tail ≡ u) × (s.head ≡ v)) ⊎ ((s.tail ≡ v) × (s.head ≡ u))
+    → joins low high s ≡ true
 joins_pair u v low high s a b h = grind (arith, nat_tests)
 
 any_joins : (table : List Edge) (u v : ℕ) (s : FaceSide) → ((s.tail ≡ u) × (s.head ≡ v)) ⊎ ((s.tail ≡ v) × (s.head ≡ u))
@@ -157,12 +170,14 @@ some_table mesh valid = (all.0, record { edges = all.1.edges; rising = all.1.ris
     joined s listed is = elim (cases_lt s.tail s.head) [
       | inl less ↦ any_joins all.0 s.tail s.head s (inl (refl, refl)) (edge_at s.tail s.head less is)
       | inr more ↦
-          let ends : s.tail ≡ s.head → ⊥ = λ same. ends_differ mesh (side_name s) valid listed.side (sym listed.tail ∙ same ∙ listed.head) in
+          let ends : s.tail ≡ s.head → ⊥ = λ same. ends_differ mesh (side_name s) valid listed.side
+          (sym listed.tail ∙ same ∙ listed.head) in
           let less : s.head < s.tail = omega (arith, more, ends) in
           any_joins all.0 s.head s.tail s (inr (refl, refl)) (edge_at s.head s.tail less (edge_swap mesh s.head s.tail ∙ is))
     ]
 
-    complete : (k : ℕ) (d : FaceSide) → k < length (all_sides mesh) → Any (λ (e : Edge). joins e.low e.high (get_or (all_sides mesh) k d) ≡ true) all.0
+    complete : (k : ℕ) (d : FaceSide) → k < length (all_sides mesh)
+        → Any (λ (e : Edge). joins e.low e.high (get_or (all_sides mesh) k d) ≡ true) all.0
     complete k d l =
         let s : FaceSide = get_or (all_sides mesh) k d in
         joined s (all_listed mesh k d l)

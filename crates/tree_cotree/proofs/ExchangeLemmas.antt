@@ -16,7 +16,8 @@ reached_soon n f p x l (suc fuel) k y few e = elim (cases_lt k n) [
       let round : Returns n f x = returns_to n f p x l in
       let period : ℕ = round.less + 1 in
       let back : after_steps f period x ≡ x =
-      ap (λ (m : ℕ). after_steps f m x) (let s : period ≡ suc round.less = omega arith in s) ∙ sym (step_first f round.less x) ∙ round.back in
+      ap (λ (m : ℕ). after_steps f m x) (let s : period ≡ suc round.less = omega arith in s) ∙ sym (step_first f round.less x)
+      ∙ round.back in
       let sum : k - period + period ≡ k = omega (arith, round.few, more) in
       let shorter : after_steps f (k - period) x ≡ y =
       ap (after_steps f (k - period)) (sym back) ∙ sym (steps_add f (k - period) period x) ∙ ap (λ (m : ℕ). after_steps f m x) sum ∙ e in
@@ -147,7 +148,8 @@ first_to_second : (n : ℕ) (f : ℕ → ℕ) (a b : ℕ) → IsPermutationBelow
 first_to_second n f a b p a_in b_in ne apart =
     let round : Returns n f b = returns_to n f p b b_in in
     let off : IsReached f (f b) a → ⊥ = λ r. apart (reached_back n f p b a b_in (reached_trans f b (f b) a (reached_step f b) r)) in
-    reached_trans (exchanged f a b) a (f b) b (record { steps = 1; leads = at_first f a b }) (up_to_second f a b ne apart round.less (f b) round.back off)
+    reached_trans (exchanged f a b) a (f b) b (record { steps = 1; leads = at_first f a b })
+    (up_to_second f a b ne apart round.less (f b) round.back off)
 
 -- one step of f is some steps of the exchanged map
 step_still : (n : ℕ) (f : ℕ → ℕ) (a b : ℕ) → IsPermutationBelow n f → a < n → b < n → a ≢ b → (IsReached f a b → ⊥) → (x : ℕ)
@@ -255,7 +257,8 @@ joins_rings n f a b p a_in b_in ne apart x y l k = (only, all)
       | inl r ↦ still x y r
       | inr crossed ↦ elim crossed [
         | inl c ↦ reached_trans g x a y (still x a c.0) (reached_trans g a b y over (reached_back n g gp y b k (still y b c.1)))
-        | inr c ↦ reached_trans g x b y (still x b c.0) (reached_trans g b a y (reached_back n g gp a b a_in over) (reached_back n g gp y a k (still y a c.1)))
+        | inr c ↦ reached_trans g x b y (still x b c.0) (reached_trans g b a y (reached_back n g gp a b a_in over)
+            (reached_back n g gp y a k (still y a c.1)))
       ]
     ]
 
@@ -331,7 +334,8 @@ splits_ring n f a b p a_in b_in ne joined over =
         let sum : k - suc i + suc i ≡ k = omega arith in
         let round : after_steps f (suc i) (f b) ≡ f b = ap f e in
         not_sooner (k - suc i) (omega arith)
-        (ap (after_steps f (k - suc i)) (sym round) ∙ sym (steps_add f (k - suc i) (suc i) (f b)) ∙ ap (λ (m : ℕ). after_steps f m (f b)) sum ∙ meets_a)
+        (ap (after_steps f (k - suc i)) (sym round) ∙ sym (steps_add f (k - suc i) (suc i) (f b))
+        ∙ ap (λ (m : ℕ). after_steps f m (f b)) sum ∙ meets_a)
 
     -- where the exchanged map leads from a
     inside : (j : ℕ) → (after_steps g j a ≡ a) ⊎ ((i : ℕ) × (i < k) × (after_steps f i (f b) ≡ after_steps g j a))
@@ -351,7 +355,8 @@ splits_ring n f a b p a_in b_in ne joined over =
           let one : after_steps f (suc at.0) (f b) ≡ g y = ap f at.2 ∙ sym to in
           elim (cases_lt (suc at.0) k) [
             | inl less ↦ inr (suc at.0, less, one)
-            | inr more ↦ (let end : suc at.0 ≡ k = omega (arith, at.1) in inl (sym one ∙ ap (λ (m : ℕ). after_steps f m (f b)) end ∙ meets_a))
+            | inr more ↦ (let end : suc at.0 ≡ k = omega (arith, at.1) in inl (sym one ∙ ap (λ (m : ℕ). after_steps f m (f b)) end
+                ∙ meets_a))
           ]
     ]
 
@@ -381,7 +386,8 @@ classes_merge n f a b p a_in b_in ne apart = record {
 pub one_ring_less : (n : ℕ) (f : ℕ → ℕ) (a b : ℕ) → IsPermutationBelow n f → a < n → b < n → a ≢ b → (IsReached f a b → ⊥)
     → ring_count f n ≡ suc (ring_count (exchanged f a b) n)
 one_ring_less n f a b p a_in b_in ne apart =
-    one_class_less n (meets f n) (meets (exchanged f a b) n) a b (rings_are_classes n f p) (classes_merge n f a b p a_in b_in ne apart) a_in b_in not_met
+    one_class_less n (meets f n) (meets (exchanged f a b) n) a b (rings_are_classes n f p) (classes_merge n f a b p a_in b_in ne apart)
+    a_in b_in not_met
   where
     not_met : meets f n a b ≡ false
     not_met = elim (cases_Bool (meets f n a b)) [
@@ -394,6 +400,7 @@ pub one_ring_more : (n : ℕ) (f : ℕ → ℕ) (a b : ℕ) → IsPermutationBel
     → ring_count (exchanged f a b) n ≡ suc (ring_count f n)
 one_ring_more n f a b p a_in b_in ne joined =
     let less : ring_count (exchanged f a b) n ≡ suc (ring_count (exchanged (exchanged f a b) a b) n) =
-    one_ring_less n (exchanged f a b) a b (exchanged_permutes n f a b p a_in b_in ne) a_in b_in ne (splits_ring n f a b p a_in b_in ne joined) in
+    one_ring_less n (exchanged f a b) a b (exchanged_permutes n f a b p a_in b_in ne) a_in b_in ne
+    (splits_ring n f a b p a_in b_in ne joined) in
     let same : exchanged (exchanged f a b) a b ≡ f = λ i x. exchanged_twice f a b ne x i in
     less ∙ ap (λ (g : ℕ → ℕ). suc (ring_count g n)) same

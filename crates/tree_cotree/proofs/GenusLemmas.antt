@@ -41,7 +41,8 @@ widen maps node set more wider u v h = (h.0, widen_path maps node set more wider
 -- ---- a tree that grows from a root
 
 -- a set of allowed edges that joins the nodes reached to the root, one fewer than these
-record IsGrown (maps : Rotations) (node : ℕ → ℕ) (is_node : ℕ → Bool) (bound edges : ℕ) (allowed : ℕ → Bool) (root : ℕ) (set nodes : ℕ → Bool) : Type 0 where
+record IsGrown (maps : Rotations) (node : ℕ → ℕ) (is_node : ℕ → Bool) (bound edges : ℕ) (allowed : ℕ → Bool) (root : ℕ)
+    (set nodes : ℕ → Bool) : Type 0 where
   within : (e : ℕ) → e < edges → set e ≡ true → allowed e ≡ true
   ends : (d : ℕ) → d < maps.darts → set (maps.edge d) ≡ true → nodes (node d) ≡ true
   are_nodes : (v : ℕ) → v < bound → nodes v ≡ true → is_node v ≡ true
@@ -101,16 +102,19 @@ grow maps node is_node bound edges allowed root set nodes r h g d out =
         | inr old ↦ g.are_nodes v l old
       ];
       count =
-          let one : count_below (with_one set edge) edges ≡ suc (count_below set edges) = count_with set edges edge (h.edge_within d out.within) fresh in
+          let one : count_below (with_one set edge) edges ≡ suc (count_below set edges) =
+          count_with set edges edge (h.edge_within d out.within) fresh in
           let two : count_below (with_one nodes (node d)) bound ≡ suc (count_below nodes bound) =
           count_with nodes bound (node d) (h.node_within d out.within) out.outer in
           omega (arith, g.count, one, two);
       to_root = λ x l is. elim (with_cases nodes (node d) (node x) is) [
-        | inl same ↦ subst (λ (v : ℕ). AreJoined steps v (node root)) (sym same) (join steps (node d) (node twin) (node root) outward (wider (node twin) (node root) (g.to_root twin twin_in out.inner)))
+        | inl same ↦ subst (λ (v : ℕ). AreJoined steps v (node root)) (sym same)
+            (join steps (node d) (node twin) (node root) outward (wider (node twin) (node root) (g.to_root twin twin_in out.inner)))
         | inr old ↦ wider (node x) (node root) (g.to_root x l old)
       ];
       from_root = λ x l is. elim (with_cases nodes (node d) (node x) is) [
-        | inl same ↦ subst (λ (v : ℕ). AreJoined steps (node root) v) (sym same) (join steps (node root) (node twin) (node d) (wider (node root) (node twin) (g.from_root twin twin_in out.inner)) inward)
+        | inl same ↦ subst (λ (v : ℕ). AreJoined steps (node root) v) (sym same)
+            (join steps (node root) (node twin) (node d) (wider (node root) (node twin) (g.from_root twin twin_in out.inner)) inward)
         | inr old ↦ wider (node root) (node x) (g.from_root x l old)
       ];
     }
@@ -212,7 +216,8 @@ record IsTreeWithin (maps : Rotations) (node : ℕ → ℕ) (is_node : ℕ → B
 grow_all : (maps : Rotations) (node : ℕ → ℕ) (is_node : ℕ → Bool) (bound edges : ℕ) (allowed : ℕ → Bool) (root : ℕ)
     → IsRotationSystem maps → HasNodes maps node is_node bound edges → HoldAll maps node allowed → root < maps.darts
     → (left : ℕ) (set nodes : ℕ → Bool) → nodes (node root) ≡ true → count_below nodes bound + left ≡ count_below is_node bound
-    → IsGrown maps node is_node bound edges allowed root set nodes → (tree : ℕ → Bool) × IsTreeWithin maps node is_node bound edges allowed tree
+    → IsGrown maps node is_node bound edges allowed root set nodes → (tree : ℕ → Bool)
+    × IsTreeWithin maps node is_node bound edges allowed tree
 grow_all maps node is_node bound edges allowed root r h holds root_in zero set nodes rooted count g =
     let all : (v : ℕ) → v < bound → nodes v ≡ is_node v = same_from_count nodes is_node bound g.are_nodes (omega arith) in
     let met : (z : ℕ) → z < maps.darts → nodes (node z) ≡ true = λ z l. all (node z) (h.node_within z l) ∙ h.is_of_dart z l in (
@@ -220,7 +225,8 @@ grow_all maps node is_node bound edges allowed root r h holds root_in zero set n
       record {
         within = g.within;
         spans = record {
-          joins = λ d e l k. join (StepsIn maps node set) (node d) (node root) (node e) (g.to_root d l (met d l)) (g.from_root e k (met e k));
+          joins = λ d e l k. join (StepsIn maps node set) (node d) (node root) (node e) (g.to_root d l (met d l))
+              (g.from_root e k (met e k));
           count = omega (arith, g.count, count);
         };
       },
@@ -272,7 +278,8 @@ vertices_hold_all maps r nodes closed x y x_in y_in is =
     let path = r.connected x y x_in y_in in
     along maps nodes (maps.origin x) (maps.origin y) path.0 (λ d l here. closed d l refl here) path.1 is
 
-faces_hold_all : (maps : Rotations) (tree : ℕ → Bool) → IsRotationSystem maps → HasOneRing maps tree → HoldAll maps maps.face (λ e. not (tree e))
+faces_hold_all : (maps : Rotations) (tree : ℕ → Bool) → IsRotationSystem maps → HasOneRing maps tree
+    → HoldAll maps maps.face (λ e. not (tree e))
 faces_hold_all maps tree r ring nodes closed x y x_in y_in is =
     closed_holds_all maps tree (λ (f : ℕ). nodes f ≡ true) r ring (λ d l off here. closed d l (ap not off) here) x y x_in y_in is
 
@@ -291,19 +298,25 @@ some_genus s o =
     let names : NamesAll s = names_all s o in
     let edges : ℕ = length s.table in
     let some : 0 < maps.darts = some_dart s o in
-    let tree = some_tree maps maps.origin (is_used s.mesh) s.mesh.count edges (λ e. true) 0 r (vertex_nodes s names) (vertices_hold_all maps r) some in
+    let tree = some_tree maps maps.origin (is_used s.mesh) s.mesh.count edges (λ e. true) 0 r (vertex_nodes s names)
+    (vertices_hold_all maps r) some in
     let ring : HasOneRing maps tree.0 = tree_ring maps (is_used s.mesh) s.mesh.count edges tree.0 r (vertex_nodes s names) tree.1.spans in
-    let cotree = some_tree maps maps.face (λ f. true) (length s.mesh.faces) edges (λ e. not (tree.0 e)) 0 r (face_nodes s names) (faces_hold_all maps tree.0 r ring) some in
-    let rest : HasOneRing maps (λ e. not (cotree.0 e)) = cotree_ring maps (λ f. true) (length s.mesh.faces) edges cotree.0 r (face_nodes s names) cotree.1.spans in
+    let cotree = some_tree maps maps.face (λ f. true) (length s.mesh.faces) edges (λ e. not (tree.0 e)) 0 r (face_nodes s names)
+    (faces_hold_all maps tree.0 r ring) some in
+    let rest : HasOneRing maps (λ e. not (cotree.0 e)) =
+    cotree_ring maps (λ f. true) (length s.mesh.faces) edges cotree.0 r (face_nodes s names) cotree.1.spans in
     let left : ℕ → Bool = λ e. not (tree.0 e) && not (cotree.0 e) in
-    let kinds : (e : ℕ) → e < edges → OneOfThree (tree.0 e) (cotree.0 e) (left e) = λ e l. one_of (tree.0 e) (cotree.0 e) (cotree.1.within e l) in
+    let kinds : (e : ℕ) → e < edges → OneOfThree (tree.0 e) (cotree.0 e) (left e) =
+    λ e l. one_of (tree.0 e) (cotree.0 e) (cotree.1.within e l) in
     let even = even_left maps tree.0 cotree.0 left edges r names.edge_below names.each_edge kinds some ring rest in
-    let all : count_below tree.0 edges + count_below cotree.0 edges + count_below left edges ≡ edges = count_three tree.0 cotree.0 left edges kinds in
+    let all : count_below tree.0 edges + count_below cotree.0 edges + count_below left edges ≡ edges =
+    count_three tree.0 cotree.0 left edges kinds in
     (even.0, omega (arith, all, tree.1.spans.count, cotree.1.spans.count, count_all (length s.mesh.faces), even.1))
 
 -- and each mesh of a surface has a table
 pub table_and_genus : (mesh : FaceList) → IsFaceList mesh → IsSurface mesh
-    → (table : List Edge) × IsTableOf mesh table × (g : ℕ) × (count_below (is_used mesh) mesh.count + length mesh.faces + 2 * g ≡ length table + 2)
+    → (table : List Edge) × IsTableOf mesh table × (g : ℕ)
+    × (count_below (is_used mesh) mesh.count + length mesh.faces + 2 * g ≡ length table + 2)
 unfolding used_vertices
 table_and_genus mesh valid is =
     let table = some_table mesh valid in

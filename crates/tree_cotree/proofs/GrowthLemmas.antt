@@ -30,7 +30,8 @@ leaves set (w ∷ path) u v p h k = elim (cases_Bool (set w)) [
 ]
 
 -- how far the tree has grown: the nodes reached make one ring, each other node one of its own
-record Grown (maps : Rotations) (node : ℕ → ℕ) (is_node : ℕ → Bool) (bound edges : ℕ) (shape : Bool → Bool) (tree set nodes : ℕ → Bool) : Type 0 where
+record Grown (maps : Rotations) (node : ℕ → ℕ) (is_node : ℕ → Bool) (bound edges : ℕ) (shape : Bool → Bool)
+    (tree set nodes : ℕ → Bool) : Type 0 where
   within_tree : (e : ℕ) → e < edges → set e ≡ true → tree e ≡ true
   ends : (d : ℕ) → d < maps.darts → set (maps.edge d) ≡ true → nodes (node d) ≡ true
   are_nodes : (v : ℕ) → v < bound → nodes v ≡ true → is_node v ≡ true
@@ -64,13 +65,17 @@ grow maps node is_node bound edges shape tree set nodes r h turned g d l chosen 
         | inr old ↦ g.are_nodes v v_in old
       ];
       count =
-          let one : count_below (with_one set edge) edges ≡ suc (count_below set edges) = count_with set edges edge (h.edge_within d l) fresh in
-          let two : count_below (with_one nodes (node d)) bound ≡ suc (count_below nodes bound) = count_with nodes bound (node d) (h.node_within d l) out in
+          let one : count_below (with_one set edge) edges ≡ suc (count_below set edges) =
+          count_with set edges edge (h.edge_within d l) fresh in
+          let two : count_below (with_one nodes (node d)) bound ≡ suc (count_below nodes bound) =
+          count_with nodes bound (node d) (h.node_within d l) out in
           omega (arith, g.count, one, two);
       to_node = λ x y x_in y_in reached.
-          sort x y x_in y_in ((joins_rings n f d twin p l twin_in apart off x y x_in y_in).0 (reached_same n new old_exchanged new_p (λ z z_in. sym (moved z z_in)) x y x_in reached));
+          sort x y x_in y_in ((joins_rings n f d twin p l twin_in apart off x y x_in y_in).0
+          (reached_same n new old_exchanged new_p (λ z z_in. sym (moved z z_in)) x y x_in reached));
       from_node = λ x y x_in y_in is.
-          reached_same n old_exchanged new exchanged_p moved x y x_in ((joins_rings n f d twin p l twin_in apart off x y x_in y_in).1 (merge x y x_in y_in is));
+          reached_same n old_exchanged new exchanged_p moved x y x_in
+          ((joins_rings n f d twin p l twin_in apart off x y x_in y_in).1 (merge x y x_in y_in is));
     }
   where
     n : ℕ
@@ -162,7 +167,8 @@ grow maps node is_node bound edges shape tree set nodes r h turned g d l chosen 
     to_old : (x : ℕ) → x < maps.darts → nodes (node x) ≡ true → IsReached f x twin
     to_old x x_in is = g.from_node x twin x_in twin_in (inr (is, inner))
 
-    merge : (x y : ℕ) → x < maps.darts → y < maps.darts → (node x ≡ node y) ⊎ ((with_one nodes (node d) (node x) ≡ true) × (with_one nodes (node d) (node y) ≡ true))
+    merge : (x y : ℕ) → x < maps.darts → y < maps.darts → (node x ≡ node y)
+        ⊎ ((with_one nodes (node d) (node x) ≡ true) × (with_one nodes (node d) (node y) ≡ true))
         → IsOnMerged f d twin x y
     merge x y x_in y_in is = elim is [
       | inl same ↦ inl (g.from_node x y x_in y_in (inl same))
@@ -191,7 +197,8 @@ grown_up maps node is_node bound edges shape tree r h turned t root root_in zero
     let whole : (e : ℕ) → e < edges → set e ≡ tree e = same_from_count set tree edges g.within_tree (omega (arith, g.count, t.count)) in
     let same : (z : ℕ) → z < maps.darts → after_dart maps (λ e. shape (set e)) z ≡ after_dart maps (λ e. shape (tree e)) z =
     λ z z_in. after_agrees maps (λ e. shape (set e)) (λ e. shape (tree e)) z (ap shape (whole (maps.edge z) (h.edge_within z z_in))) in
-    reached_same maps.darts (after_dart maps (λ e. shape (set e))) (after_dart maps (λ e. shape (tree e))) (after_permutes maps r (λ e. shape (set e))) same x y x_in
+    reached_same maps.darts (after_dart maps (λ e. shape (set e))) (after_dart maps (λ e. shape (tree e)))
+    (after_permutes maps r (λ e. shape (set e))) same x y x_in
     (g.from_node x y x_in y_in (inr (met x x_in, met y y_in)))
 grown_up maps node is_node bound edges shape tree r h turned t root root_in (suc left) set nodes rooted count g x y x_in y_in =
     elim (some_outside nodes is_node bound) [
@@ -213,8 +220,10 @@ grown_up maps node is_node bound edges shape tree r h turned t root root_in (suc
           let outer : nodes (node d) ≡ false = subst (λ (v : ℕ). nodes v ≡ false) (sym is.ends) step.4 in
           let inner : nodes (node (maps.twin d)) ≡ true =
           subst (λ (z : ℕ). nodes (node z) ≡ true) (sym back) (subst (λ (v : ℕ). nodes v ≡ true) (sym is.starts) step.3) in
-          let more : count_below (with_one nodes (node d)) bound ≡ suc (count_below nodes bound) = count_with nodes bound (node d) (h.node_within d d_in) outer in
-          grown_up maps node is_node bound edges shape tree r h turned t root root_in left (with_one set (maps.edge d)) (with_one nodes (node d))
+          let more : count_below (with_one nodes (node d)) bound ≡ suc (count_below nodes bound) =
+          count_with nodes bound (node d) (h.node_within d d_in) outer in
+          grown_up maps node is_node bound edges shape tree r h turned t root root_in left (with_one set (maps.edge d))
+          (with_one nodes (node d))
           (with_keeps nodes (node d) (node root) rooted) (omega (arith, count, more))
           (grow maps node is_node bound edges shape tree set nodes r h turned g d d_in chosen outer inner) x y x_in y_in
     ]
@@ -226,7 +235,8 @@ count_none (suc n) = rw (count_none n) refl
 -- before the first edge each node makes a ring of its own
 seed : (maps : Rotations) (node : ℕ → ℕ) (is_node : ℕ → Bool) (bound edges : ℕ) (shape : Bool → Bool) (tree : ℕ → Bool)
     → HasNodes maps node is_node bound edges
-    → ((x y : ℕ) → x < maps.darts → y < maps.darts → (IsReached (after_dart maps (λ e. shape false)) x y → node x ≡ node y) × (node x ≡ node y → IsReached (after_dart maps (λ e. shape false)) x y))
+    → ((x y : ℕ) → x < maps.darts → y < maps.darts → (IsReached (after_dart maps (λ e. shape false)) x y → node x ≡ node y)
+    × (node x ≡ node y → IsReached (after_dart maps (λ e. shape false)) x y))
     → (root : ℕ) → root < maps.darts → Grown maps node is_node bound edges shape tree (λ _. false) (with_one (λ _. false) (node root))
 seed maps node is_node bound edges shape tree h base root root_in = record {
   within_tree = λ e l is. absurd (both_ways false refl is);
@@ -245,12 +255,16 @@ seed maps node is_node bound edges shape tree h base root root_in = record {
 
 -- a spanning tree leaves one ring
 pub one_ring : (maps : Rotations) (node : ℕ → ℕ) (is_node : ℕ → Bool) (bound edges : ℕ) (shape : Bool → Bool) (tree : ℕ → Bool)
-    → IsRotationSystem maps → HasNodes maps node is_node bound edges → shape true ≡ not (shape false) → IsSpanningTree maps node is_node bound edges tree
-    → ((x y : ℕ) → x < maps.darts → y < maps.darts → (IsReached (after_dart maps (λ e. shape false)) x y → node x ≡ node y) × (node x ≡ node y → IsReached (after_dart maps (λ e. shape false)) x y))
+    → IsRotationSystem maps → HasNodes maps node is_node bound edges → shape true ≡ not (shape false)
+    → IsSpanningTree maps node is_node bound edges tree
+    → ((x y : ℕ) → x < maps.darts → y < maps.darts → (IsReached (after_dart maps (λ e. shape false)) x y → node x ≡ node y)
+    × (node x ≡ node y → IsReached (after_dart maps (λ e. shape false)) x y))
     → (x y : ℕ) → x < maps.darts → y < maps.darts → IsReached (after_dart maps (λ e. shape (tree e))) x y
 one_ring maps node is_node bound edges shape tree r h turned t base x y x_in y_in =
-    let start : Grown maps node is_node bound edges shape tree (λ _. false) (with_one (λ _. false) (node x)) = seed maps node is_node bound edges shape tree h base x x_in in
-    let few : count_below (with_one (λ _. false) (node x)) bound ≤ count_below is_node bound = count_few (with_one (λ _. false) (node x)) is_node bound start.are_nodes in
+    let start : Grown maps node is_node bound edges shape tree (λ _. false) (with_one (λ _. false) (node x)) =
+    seed maps node is_node bound edges shape tree h base x x_in in
+    let few : count_below (with_one (λ _. false) (node x)) bound ≤ count_below is_node bound =
+    count_few (with_one (λ _. false) (node x)) is_node bound start.are_nodes in
     grown_up maps node is_node bound edges shape tree r h turned t x x_in
     (count_below is_node bound - count_below (with_one (λ _. false) (node x)) bound)
     (λ _. false) (with_one (λ _. false) (node x)) (with_itself (λ _. false) (node x)) (omega (arith, few)) start x y x_in y_in

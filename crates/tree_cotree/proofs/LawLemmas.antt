@@ -43,12 +43,14 @@ one_of_three split e = go (kind_of split e)
 pub tree_has_ring : (s : OrientedMesh) (split : SplitView) → IsOrientedSurface s → HasTrees s split
     → HasOneRing (rotations_of s) (in_tree split)
 tree_has_ring s split o t =
-    tree_ring (rotations_of s) (is_used s.mesh) s.mesh.count (length s.table) (in_tree split) (rotation_system s o) (vertex_nodes s (names_all s o)) t.tree
+    tree_ring (rotations_of s) (is_used s.mesh) s.mesh.count (length s.table) (in_tree split) (rotation_system s o)
+    (vertex_nodes s (names_all s o)) t.tree
 
 pub rest_has_ring : (s : OrientedMesh) (split : SplitView) → IsOrientedSurface s → HasTrees s split
     → HasOneRing (rotations_of s) (λ e. not (in_cotree split e))
 rest_has_ring s split o t =
-    cotree_ring (rotations_of s) (λ f. true) (length s.mesh.faces) (length s.table) (in_cotree split) (rotation_system s o) (face_nodes s (names_all s o)) t.cotree
+    cotree_ring (rotations_of s) (λ f. true) (length s.mesh.faces) (length s.table) (in_cotree split) (rotation_system s o)
+    (face_nodes s (names_all s o)) t.cotree
 
 -- a closed surface has a dart
 pub some_dart : (s : OrientedMesh) → IsOrientedSurface s → 0 < (rotations_of s).darts
@@ -59,7 +61,8 @@ some_dart s o =
 pub even : (s : OrientedMesh) (split : SplitView) → IsOrientedSurface s → HasTrees s split
     → (g : ℕ) × (count_below (is_left split) (length s.table) ≡ 2 * g)
 even s split o t =
-    even_left (rotations_of s) (in_tree split) (in_cotree split) (is_left split) (length s.table) (rotation_system s o) (names_all s o).edge_below
+    even_left (rotations_of s) (in_tree split) (in_cotree split) (is_left split) (length s.table) (rotation_system s o)
+    (names_all s o).edge_below
     (names_all s o).each_edge (λ e l. one_of_three split e) (some_dart s o) (tree_has_ring s split o t) (rest_has_ring s split o t)
 
 pub count_all : (n : ℕ) → count_below (λ f. true) n ≡ n
@@ -70,6 +73,7 @@ pub exact : (s : OrientedMesh) (split : SplitView) → HasTrees s split → (g :
     → used_vertices s + length s.mesh.faces + 2 * g ≡ length s.table + 2
 unfolding used_vertices
 exact s split t g e =
-    let all : count_below (in_tree split) (length s.table) + count_below (in_cotree split) (length s.table) + count_below (is_left split) (length s.table) ≡ length s.table =
+    let all : count_below (in_tree split) (length s.table) + count_below (in_cotree split) (length s.table) + count_below
+    (is_left split) (length s.table) ≡ length s.table =
     count_three (in_tree split) (in_cotree split) (is_left split) (length s.table) (λ k l. one_of_three split k) in
     omega (arith, all, t.tree.count, t.cotree.count, count_all (length s.mesh.faces), e)

@@ -54,7 +54,8 @@ swap_by_one maps r inside others d l differ = elim (cases_Bool (meets f n d twin
     changed = exchanged f d twin
 
     same : ring_count changed maps.darts ≡ ring_count g maps.darts
-    same = rings_same maps.darts changed g (exchanged_permutes maps.darts f d twin p l twin_in apart) (after_exchanges maps r inside others d l differ)
+    same = rings_same maps.darts changed g (exchanged_permutes maps.darts f d twin p l twin_in apart)
+        (after_exchanges maps r inside others d l differ)
 
 -- the tree with the leftover edges below k
 with_left : (tree left : ℕ → Bool) (k : ℕ) → ℕ → Bool
@@ -97,11 +98,13 @@ step_taken : (tree left : ℕ → Bool) (k : ℕ) → left k ≡ true → tree k
 unfolding with_left
 step_taken tree left k h t =
     let now : ltb k (suc k) ≡ true = lt-ltb k (suc k) (omega arith) in
-    let before : ltb k k ≡ false = elim (cases_Bool (ltb k k)) [ inl less ↦ absurd (let lower : k < k = ltb-true k k less in omega arith) | inr other ↦ other ] in
+    let before : ltb k k ≡ false = elim (cases_Bool (ltb k k))
+    [ inl less ↦ absurd (let lower : k < k = ltb-true k k less in omega arith) | inr other ↦ other ] in
     rw (h, t, now, before) refl
 
 -- rings and leftover edges together stay odd
-odd_so_far : (maps : Rotations) (tree left : ℕ → Bool) (edges : ℕ) → IsRotationSystem maps → ((e : ℕ) → e < edges → (d : ℕ) × (d < maps.darts) × (maps.edge d ≡ e))
+odd_so_far : (maps : Rotations) (tree left : ℕ → Bool) (edges : ℕ) → IsRotationSystem maps
+    → ((e : ℕ) → e < edges → (d : ℕ) × (d < maps.darts) × (maps.edge d ≡ e))
     → ((e : ℕ) → e < edges → left e ≡ true → tree e ≡ false) → 0 < maps.darts → HasOneRing maps tree → (k : ℕ) → k ≤ edges
     → (m : ℕ) × (ring_count (after_dart maps (with_left tree left k)) maps.darts + count_below left k ≡ m + m + 1)
 odd_so_far maps tree left edges r darts apart some ring zero l = (
@@ -110,7 +113,8 @@ odd_so_far maps tree left edges r darts apart some ring zero l = (
       let same : ring_count (after_dart maps tree) maps.darts ≡ ring_count (after_dart maps (with_left tree left 0)) maps.darts =
       rings_same maps.darts (after_dart maps tree) (after_dart maps (with_left tree left 0)) (after_permutes maps r tree)
       (λ x x_in. after_agrees maps tree (with_left tree left 0) x (sym (unopened tree left (maps.edge x)))) in
-      let one : ring_count (after_dart maps tree) maps.darts ≡ 1 = one_ring_counted maps.darts (after_dart maps tree) (after_permutes maps r tree) some ring in
+      let one : ring_count (after_dart maps tree) maps.darts ≡ 1 =
+      one_ring_counted maps.darts (after_dart maps tree) (after_permutes maps r tree) some ring in
       omega (arith, same, one)
       ),
 )
@@ -119,11 +123,14 @@ odd_so_far maps tree left edges r darts apart some ring (suc k) l =
     elim (cases_Bool (left k)) [
       | inr skipped ↦
           let agree : (e : ℕ) → with_left tree left k e ≡ with_left tree left (suc k) e = λ e. elim (cases_eq e k) [
-            | inl here ↦ subst (λ (x : ℕ). with_left tree left k x ≡ with_left tree left (suc k) x) (sym here) (sym (step_skipped tree left k skipped))
+            | inl here ↦ subst (λ (x : ℕ). with_left tree left k x ≡ with_left tree left (suc k) x) (sym here)
+                (sym (step_skipped tree left k skipped))
             | inr other ↦ sym (step_other tree left k e other)
           ] in
-          let same : ring_count (after_dart maps (with_left tree left k)) maps.darts ≡ ring_count (after_dart maps (with_left tree left (suc k))) maps.darts =
-          rings_same maps.darts (after_dart maps (with_left tree left k)) (after_dart maps (with_left tree left (suc k))) (after_permutes maps r (with_left tree left k))
+          let same : ring_count (after_dart maps (with_left tree left k)) maps.darts ≡ ring_count
+          (after_dart maps (with_left tree left (suc k))) maps.darts =
+          rings_same maps.darts (after_dart maps (with_left tree left k)) (after_dart maps (with_left tree left (suc k)))
+          (after_permutes maps r (with_left tree left k))
           (λ x x_in. after_agrees maps (with_left tree left k) (with_left tree left (suc k)) x (agree (maps.edge x))) in
           let count : count_below left (suc k) ≡ count_below left k + 0 = rw skipped refl in
           (before.0, omega (arith, before.1, same, count))
@@ -133,10 +140,13 @@ odd_so_far maps tree left edges r darts apart some ring (suc k) l =
             there = step_taken tree left k taken (apart k (omega arith) taken);
             elsewhere = step_other tree left k;
           } in
-          let swapped : ByOne (ring_count (after_dart maps (with_left tree left k)) maps.darts) (ring_count (after_dart maps (with_left tree left (suc k))) maps.darts) =
-          swap_by_one maps r (with_left tree left k) (with_left tree left (suc k)) dart.0 dart.1 (subst (DifferAt (with_left tree left k) (with_left tree left (suc k))) (sym dart.2) differ) in
+          let swapped : ByOne (ring_count (after_dart maps (with_left tree left k)) maps.darts)
+          (ring_count (after_dart maps (with_left tree left (suc k))) maps.darts) =
+          swap_by_one maps r (with_left tree left k) (with_left tree left (suc k)) dart.0 dart.1
+          (subst (DifferAt (with_left tree left k) (with_left tree left (suc k))) (sym dart.2) differ) in
           let count : count_below left (suc k) ≡ count_below left k + 1 = rw taken refl in
-          still_odd (ring_count (after_dart maps (with_left tree left k)) maps.darts) (ring_count (after_dart maps (with_left tree left (suc k))) maps.darts)
+          still_odd (ring_count (after_dart maps (with_left tree left k)) maps.darts)
+          (ring_count (after_dart maps (with_left tree left (suc k))) maps.darts)
           (count_below left k) (count_below left (suc k)) before.0 swapped count before.1
     ]
   where
@@ -145,16 +155,21 @@ odd_so_far maps tree left edges r darts apart some ring (suc k) l =
     still_odd a b c e m (one_less k) h s = (m, omega arith)
 
 -- the leftover edges are 2 g
-pub even_left : (maps : Rotations) (tree cotree left : ℕ → Bool) (edges : ℕ) → IsRotationSystem maps → ((d : ℕ) → d < maps.darts → maps.edge d < edges)
+pub even_left : (maps : Rotations) (tree cotree left : ℕ → Bool) (edges : ℕ) → IsRotationSystem maps
+    → ((d : ℕ) → d < maps.darts → maps.edge d < edges)
     → ((e : ℕ) → e < edges → (d : ℕ) × (d < maps.darts) × (maps.edge d ≡ e))
-    → ((e : ℕ) → e < edges → OneOfThree (tree e) (cotree e) (left e)) → 0 < maps.darts → HasOneRing maps tree → HasOneRing maps (λ e. not (cotree e))
+    → ((e : ℕ) → e < edges → OneOfThree (tree e) (cotree e) (left e)) → 0 < maps.darts → HasOneRing maps tree
+    → HasOneRing maps (λ e. not (cotree e))
     → (g : ℕ) × (count_below left edges ≡ 2 * g)
 unfolding with_left
 even_left maps tree cotree left edges r edge_in darts kinds some ring ring_left =
-    let odd = odd_so_far maps tree left edges r darts (λ e l is. no_tree (tree e) (cotree e) (left e) (kinds e l) is) some ring edges (omega arith) in
+    let odd = odd_so_far maps tree left edges r darts (λ e l is. no_tree (tree e) (cotree e) (left e) (kinds e l) is) some ring edges
+    (omega arith) in
     let end : (e : ℕ) → e < edges → not (cotree e) ≡ with_left tree left edges e = λ e l. at_end e l in
-    let same : ring_count (after_dart maps (λ e. not (cotree e))) maps.darts ≡ ring_count (after_dart maps (with_left tree left edges)) maps.darts =
-    rings_same maps.darts (after_dart maps (λ e. not (cotree e))) (after_dart maps (with_left tree left edges)) (after_permutes maps r (λ e. not (cotree e)))
+    let same : ring_count (after_dart maps (λ e. not (cotree e))) maps.darts ≡ ring_count (after_dart maps (with_left tree left edges))
+    maps.darts =
+    rings_same maps.darts (after_dart maps (λ e. not (cotree e))) (after_dart maps (with_left tree left edges))
+    (after_permutes maps r (λ e. not (cotree e)))
     (λ x x_in. after_agrees maps (λ e. not (cotree e)) (with_left tree left edges) x (end (maps.edge x) (edge_in x x_in))) in
     let one : ring_count (after_dart maps (λ e. not (cotree e))) maps.darts ≡ 1 =
     one_ring_counted maps.darts (after_dart maps (λ e. not (cotree e))) (after_permutes maps r (λ e. not (cotree e))) some ring_left in

@@ -76,7 +76,8 @@ least_are_borne n bound related name is_name h (suc m) l =
           ] in
           let one : count_below (is_borne name (suc m)) bound ≡ suc (count_below (is_borne name m) bound) =
           count_less (is_borne name (suc m)) (is_borne name m) bound (name m) (h.below m (omega (arith, l)))
-          (or_right (is_borne name m (name m)) (eqb (name m) (name m)) (eq-eqb (name m) (name m) refl)) fresh (λ v _ ne. other_name name m v ne) in
+          (or_right (is_borne name m (name m)) (eqb (name m) (name m)) (eq-eqb (name m) (name m) refl)) fresh
+          (λ v _ ne. other_name name m v ne) in
           let least : is_least related m ≡ true = ap not none in
           rw (least, one, before) (omega arith)
     ]

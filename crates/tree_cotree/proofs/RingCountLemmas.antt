@@ -22,7 +22,8 @@ use Rattle.tree_cotree.proofs.SplitLemmas.{rings_same}
 -- where the rings of a set are the darts of one node each, there are as many rings as nodes
 pub rings_are_nodes : (maps : Rotations) (node : ℕ → ℕ) (is_node : ℕ → Bool) (bound edges : ℕ) (inside : ℕ → Bool)
     → IsRotationSystem maps → HasNodes maps node is_node bound edges
-    → ((x y : ℕ) → x < maps.darts → y < maps.darts → (node x ≡ node y → IsReached (after_dart maps inside) x y) × (IsReached (after_dart maps inside) x y → node x ≡ node y))
+    → ((x y : ℕ) → x < maps.darts → y < maps.darts → (node x ≡ node y → IsReached (after_dart maps inside) x y)
+    × (IsReached (after_dart maps inside) x y → node x ≡ node y))
     → rings_of_set maps inside ≡ count_below is_node bound
 rings_are_nodes maps node is_node bound edges inside r h alike =
     let f : ℕ → ℕ = after_dart maps inside in

@@ -35,7 +35,8 @@ kept_other : (from : List (Option DartName)) (v w : ℕ) (x : DartName) → w �
 kept_other from v w x ne = ap (option_map (λ (d : DartName). d.0)) (get_or-set_other from v w (Some x) None ne)
 
 -- a dart with a new node across an allowed edge
-pub record IsNewDart (maps : Rotations) (node : ℕ → ℕ) (allowed : ℕ → Bool) (bound root : ℕ) (order : List ℕ) (from : List (Option DartName)) (d : ℕ) : Type 0 where
+pub record IsNewDart (maps : Rotations) (node : ℕ → ℕ) (allowed : ℕ → Bool) (bound root : ℕ) (order : List ℕ)
+    (from : List (Option DartName)) (d : ℕ) : Type 0 where
   pub dart : d < maps.darts
   pub from_found : IsFound node order (node d)
   pub crosses : allowed (maps.edge d) ≡ true
@@ -46,8 +47,10 @@ pub record IsNewDart (maps : Rotations) (node : ℕ → ℕ) (allowed : ℕ → 
 some_is_none : (o : Option ℕ) (x : ℕ) → o ≡ Some x → o ≡ None → ⊥
 some_is_none o x e k = cc
 
-pub order_more : (maps : Rotations) (node : ℕ → ℕ) (allowed : ℕ → Bool) (bound root : ℕ) (order : List ℕ) (from : List (Option DartName)) (d : ℕ) (x : DartName)
-    → IsRotationSystem maps → IsOrder maps node allowed bound root order from → IsNewDart maps node allowed bound root order from d → x.0 ≡ maps.twin d
+pub order_more : (maps : Rotations) (node : ℕ → ℕ) (allowed : ℕ → Bool) (bound root : ℕ) (order : List ℕ)
+    (from : List (Option DartName)) (d : ℕ) (x : DartName)
+    → IsRotationSystem maps → IsOrder maps node allowed bound root order from → IsNewDart maps node allowed bound root order from d
+    → x.0 ≡ maps.twin d
     → IsOrder maps node allowed bound root (order ++ x.0 ∷ []) (set from (node (maps.twin d)) (Some x))
 order_more maps node allowed bound root order from d x r h new is =
     let v : ℕ = node (maps.twin d) in
@@ -62,7 +65,8 @@ order_more maps node allowed bound root order from d x r h new is =
     let unlike : (i : ℕ) → i < n → node (get_or order i 0) ≢ v =
     λ i l e. elim (cases_eq i 0) [
       | inl at_root ↦ new.not_root (sym e ∙ ap (λ k. node (get_or order k 0)) at_root ∙ h.first)
-      | inr later ↦ some_is_none (back_at from v) (get_or order i 0) (ap (back_at from) (sym e) ∙ h.named i (omega (arith, later)) l) new.none_kept
+      | inr later ↦ some_is_none (back_at from v) (get_or order i 0) (ap (back_at from) (sym e) ∙ h.named i (omega (arith, later)) l)
+          new.none_kept
     ] in
     record {
       long = length-set from v (Some x) ∙ h.long;
@@ -74,12 +78,18 @@ order_more maps node allowed bound root order from d x r h new is =
       ];
       fresh = λ i j less l e. elim (cases_lt j n) [
         | inl before ↦ h.fresh i j less before (ap node (sym (old i (omega arith))) ∙ e ∙ ap node (old j before))
-        | inr at_end ↦ unlike i (omega (arith, less, l, long)) (ap node (sym (old i (omega (arith, less, l, long)))) ∙ e ∙ ap node (last j (omega (arith, l, long, at_end))) ∙ x_node)
+        | inr at_end ↦ unlike i (omega (arith, less, l, long)) (ap node (sym (old i (omega (arith, less, l, long)))) ∙ e
+            ∙ ap node (last j (omega (arith, l, long, at_end))) ∙ x_node)
       ];
       back = λ j later l. elim (cases_lt j n) [
         | inl less ↦
             (let b : LeadsBack maps node order j = h.back j later less in
-            record { place = b.place; before = b.before; is = ap (λ y. node (maps.twin y)) (old j less) ∙ b.is ∙ ap node (sym (old b.place (omega (arith, b.before, less)))) })
+            record {
+              place = b.place;
+              before = b.before;
+              is = ap (λ y. node (maps.twin y)) (old j less) ∙ b.is
+                  ∙ ap node (sym (old b.place (omega (arith, b.before, less))));
+            })
         | inr at_end ↦ record {
           place = new.from_found.place;
           before = omega (arith, at_end, new.from_found.within);
@@ -126,7 +136,8 @@ order_more maps node allowed bound root order from d x r h new is =
 
 -- the order of a start
 pub order_start : (maps : Rotations) (node : ℕ → ℕ) (allowed : ℕ → Bool) (bound start : ℕ) (order : List ℕ) (from : List (Option DartName))
-    → order ≡ start ∷ [] → start < maps.darts → length from ≡ bound → ((v : ℕ) → back_at from v ≡ None) → IsOrder maps node allowed bound (node start) order from
+    → order ≡ start ∷ [] → start < maps.darts → length from ≡ bound → ((v : ℕ) → back_at from v ≡ None)
+    → IsOrder maps node allowed bound (node start) order from
 order_start maps node allowed bound start order from is l long none =
     let one : length order ≡ 1 = ap (λ (xs : List ℕ). length xs) is in
     let head : get_or order 0 0 ≡ start = ap (λ (xs : List ℕ). get_or xs 0 0) is in
@@ -134,7 +145,8 @@ order_start maps node allowed bound start order from is l long none =
       long = long;
       some = omega (arith, one);
       first = ap node head;
-      within = λ j b. let first : j ≡ 0 = omega (arith, b, one) in subst (λ y. y < maps.darts) (sym (ap (λ k. get_or order k 0) first ∙ head)) l;
+      within = λ j b. let first : j ≡ 0 = omega (arith, b, one) in subst (λ y. y < maps.darts)
+          (sym (ap (λ k. get_or order k 0) first ∙ head)) l;
       fresh = λ i j less b. absurd (omega (arith, less, b, one));
       back = λ j later b. absurd (omega (arith, later, b, one));
       inside = λ j later b. absurd (omega (arith, later, b, one));
@@ -149,7 +161,12 @@ pub record GoesOn (old new : List ℕ) : Type 0 where
 
 pub found_on : (node : ℕ → ℕ) (old new : List ℕ) (v : ℕ) → GoesOn old new → IsFound node old v → IsFound node new v
 found_on node old new v h found =
-    record { place = found.place; within = omega (arith, found.within, h.longer); is = ap node (h.same found.place found.within) ∙ found.is }
+    record {
+      place = found.place;
+      within = omega (arith, found.within, h.longer);
+      is = ap node (h.same found.place found.within)
+          ∙ found.is;
+    }
 
 -- an order has no more darts than there are numbers of nodes
 pub order_few : (maps : Rotations) (node : ℕ → ℕ) (allowed : ℕ → Bool) (bound root : ℕ) (order : List ℕ) (from : List (Option DartName))
@@ -189,7 +206,8 @@ CrossedUpTo maps node allowed turn order first k =
 
 pub crossed_round : (maps : Rotations) (node : ℕ → ℕ) (allowed : ℕ → Bool) (turn : ℕ → ℕ) (order : List ℕ) (first k : ℕ)
     → IsTurning maps node turn → first < maps.darts
-    → CrossedUpTo maps node allowed turn order first k → (0 < k) × (after_steps turn k first ≡ first) → IsCrossed maps node allowed order (node first)
+    → CrossedUpTo maps node allowed turn order first k → (0 < k) × (after_steps turn k first ≡ first)
+    → IsCrossed maps node allowed order (node first)
 crossed_round maps node allowed turn order first k t l crossed comes d b same passes =
     let way : IsReached turn first d = t.reaches first d l b (sym same) in
     let soon = round turn first k way.steps comes.0 comes.1 in
@@ -202,7 +220,8 @@ pub crossed_all : (maps : Rotations) (node : ℕ → ℕ) (allowed : ℕ → Boo
 crossed_all maps node allowed turn order first k t l crossed many d b same passes =
     let way : IsReached turn first d = t.reaches first d l b (sym same) in
     let soon = reached_soon maps.darts turn t.permutes first l (suc way.steps) way.steps d (omega arith) way.leads in
-    subst (λ y. IsFound node order (node (maps.twin y))) soon.2 (crossed soon.0 (omega (arith, soon.1, many)) (ap (λ y. allowed (maps.edge y)) soon.2 ∙ passes))
+    subst (λ y. IsFound node order (node (maps.twin y))) soon.2
+    (crossed soon.0 (omega (arith, soon.1, many)) (ap (λ y. allowed (maps.edge y)) soon.2 ∙ passes))
 
 -- one more turn
 pub crossed_more : (maps : Rotations) (node : ℕ → ℕ) (allowed : ℕ → Bool) (turn : ℕ → ℕ) (old new : List ℕ) (first k : ℕ) → GoesOn old new
@@ -245,7 +264,8 @@ turning s h Faces =
     }
 
 -- a node that is the root, or for which a dart is kept, is found
-pub root_found : (maps : Rotations) (node : ℕ → ℕ) (allowed : ℕ → Bool) (bound root : ℕ) (order : List ℕ) (from : List (Option DartName)) (v : ℕ)
+pub root_found : (maps : Rotations) (node : ℕ → ℕ) (allowed : ℕ → Bool) (bound root : ℕ) (order : List ℕ)
+    (from : List (Option DartName)) (v : ℕ)
     → IsOrder maps node allowed bound root order from → v ≡ root → IsFound node order v
 root_found maps node allowed bound root order from v h is = record { place = 0; within = h.some; is = h.first ∙ sym is }
 
@@ -256,11 +276,13 @@ kept_is : (from : List (Option DartName)) (v : ℕ) (o : Option DartName) → v 
 kept_is from v o l e = sym (get_or_read from v o l e None)
 
 -- what is read from a list of kept darts
-pub kept_read : (from : List (Option DartName)) (v : ℕ) (o got x : Option DartName) → v < length from → o ≡ get_or from v o → got ≡ o → got ≡ x
+pub kept_read : (from : List (Option DartName)) (v : ℕ) (o got x : Option DartName) → v < length from → o ≡ get_or from v o → got ≡ o
+    → got ≡ x
     → back_at from v ≡ option_map (λ d. d.0) x
 kept_read from v o got x l e get is = ap (option_map (λ (d : DartName). d.0)) (kept_is from v o l e ∙ sym get ∙ is)
 
-pub kept_found : (maps : Rotations) (node : ℕ → ℕ) (allowed : ℕ → Bool) (bound root : ℕ) (order : List ℕ) (from : List (Option DartName)) (v : ℕ) (o : Option DartName)
+pub kept_found : (maps : Rotations) (node : ℕ → ℕ) (allowed : ℕ → Bool) (bound root : ℕ) (order : List ℕ)
+    (from : List (Option DartName)) (v : ℕ) (o : Option DartName)
     → IsOrder maps node allowed bound root order from → v < length from → o ≡ get_or from v o → is_some o ≡ true → IsFound node order v
 kept_found maps node allowed bound root order from v None h l e some = cc
 kept_found maps node allowed bound root order from v (Some x) h l e some =
@@ -274,9 +296,12 @@ none_kept from v (Some x) l e none = cc
 pub numbers_push : (xs ys : List DartName) (x : DartName) → ys ≡ xs ++ x ∷ [] → dart_numbers ys ≡ dart_numbers xs ++ x.0 ∷ []
 numbers_push xs ys x e = ap dart_numbers e ∙ map-append (λ (d : DartName). d.0) xs (x ∷ [])
 
-pub order_pushed : (maps : Rotations) (node : ℕ → ℕ) (allowed : ℕ → Bool) (bound root : ℕ) (xs ys : List DartName) (from : List (Option DartName)) (d v : ℕ) (x : DartName)
-    → IsRotationSystem maps → IsOrder maps node allowed bound root (dart_numbers xs) from → IsNewDart maps node allowed bound root (dart_numbers xs) from d
-    → x.0 ≡ maps.twin d → v ≡ node (maps.twin d) → ys ≡ xs ++ x ∷ [] → IsOrder maps node allowed bound root (dart_numbers ys) (set from v (Some x))
+pub order_pushed : (maps : Rotations) (node : ℕ → ℕ) (allowed : ℕ → Bool) (bound root : ℕ) (xs ys : List DartName)
+    (from : List (Option DartName)) (d v : ℕ) (x : DartName)
+    → IsRotationSystem maps → IsOrder maps node allowed bound root (dart_numbers xs) from
+    → IsNewDart maps node allowed bound root (dart_numbers xs) from d
+    → x.0 ≡ maps.twin d → v ≡ node (maps.twin d) → ys ≡ xs ++ x ∷ []
+    → IsOrder maps node allowed bound root (dart_numbers ys) (set from v (Some x))
 order_pushed maps node allowed bound root xs ys from d v x r h new is at pushed =
     rw (numbers_push xs ys x pushed, at) (order_more maps node allowed bound root (dart_numbers xs) from d x r h new is)
 
@@ -287,7 +312,8 @@ found_pushed maps node xs ys d x is pushed =
     record {
       place = length (dart_numbers xs);
       within = omega (arith, ap (λ (zs : List ℕ). length zs) more, length_push (dart_numbers xs) x.0);
-      is = ap node (ap (λ (zs : List ℕ). get_or zs (length (dart_numbers xs)) 0) more ∙ new_at (dart_numbers xs) x.0 (length (dart_numbers xs)) refl ∙ is);
+      is = ap node (ap (λ (zs : List ℕ). get_or zs (length (dart_numbers xs)) 0) more
+          ∙ new_at (dart_numbers xs) x.0 (length (dart_numbers xs)) refl ∙ is);
     }
 
 -- what is added
@@ -296,7 +322,12 @@ added_none xs ws = record { added = []; order = sym (append-nil xs); waits = sym
 
 pub added_pushed : (xs ys ws vs : List DartName) (x : DartName) → ys ≡ xs ++ x ∷ [] → vs ≡ ws ++ x ∷ []
     → AreAdded (dart_numbers xs) (dart_numbers ws) (dart_numbers ys) (dart_numbers vs)
-added_pushed xs ys ws vs x pushed waits = record { added = x.0 ∷ []; order = numbers_push xs ys x pushed; waits = numbers_push ws vs x waits }
+added_pushed xs ys ws vs x pushed waits = record {
+  added = x.0 ∷ [];
+  order = numbers_push xs ys x pushed;
+  waits =
+      numbers_push ws vs x waits;
+}
 
 pub added_on : (xs ws ys vs zs us : List ℕ) → AreAdded xs ws ys vs → AreAdded ys vs zs us → AreAdded xs ws zs us
 added_on xs ws ys vs zs us h k =
@@ -314,13 +345,15 @@ added_goes xs ws ys vs h =
     }
 
 -- going round a node: so many turns are done, and all that they cross is found
-pub record IsVisiting (maps : Rotations) (node : ℕ → ℕ) (allowed : ℕ → Bool) (turn : ℕ → ℕ) (bound root : ℕ) (before waited order waiting : List ℕ) (from : List (Option DartName)) (first dart k : ℕ) : Type 0 where
+pub record IsVisiting (maps : Rotations) (node : ℕ → ℕ) (allowed : ℕ → Bool) (turn : ℕ → ℕ) (bound root : ℕ)
+    (before waited order waiting : List ℕ) (from : List (Option DartName)) (first dart k : ℕ) : Type 0 where
   pub is_order : IsOrder maps node allowed bound root order from
   pub added : AreAdded before waited order waiting
   pub at : dart ≡ after_steps turn k first
   pub crossed : CrossedUpTo maps node allowed turn order first k
 
-pub visit_start : (maps : Rotations) (node : ℕ → ℕ) (allowed : ℕ → Bool) (turn : ℕ → ℕ) (bound root : ℕ) (order waiting : List ℕ) (from : List (Option DartName)) (first : ℕ)
+pub visit_start : (maps : Rotations) (node : ℕ → ℕ) (allowed : ℕ → Bool) (turn : ℕ → ℕ) (bound root : ℕ) (order waiting : List ℕ)
+    (from : List (Option DartName)) (first : ℕ)
     → IsOrder maps node allowed bound root order from
     → IsVisiting maps node allowed turn bound root order waiting order waiting from first first 0
 visit_start maps node allowed turn bound root order waiting from first h =
@@ -328,7 +361,8 @@ visit_start maps node allowed turn bound root order waiting from first h =
 
 pub visit_more : (maps : Rotations) (node : ℕ → ℕ) (allowed : ℕ → Bool) (turn : ℕ → ℕ) (bound root : ℕ)
     (before waited order waiting new more : List ℕ) (from kept : List (Option DartName)) (first dart next k : ℕ)
-    → IsVisiting maps node allowed turn bound root before waited order waiting from first dart k → IsOrder maps node allowed bound root new kept
+    → IsVisiting maps node allowed turn bound root before waited order waiting from first dart k
+    → IsOrder maps node allowed bound root new kept
     → AreAdded order waiting new more → (allowed (maps.edge dart) ≡ true → IsFound node new (node (maps.twin dart))) → next ≡ turn dart
     → IsVisiting maps node allowed turn bound root before waited new more kept first next (k + 1)
 visit_more maps node allowed turn bound root before waited order waiting new more from kept first dart next k h is adds here turned =
@@ -356,6 +390,7 @@ visit_found maps node allowed turn bound root before waited order waiting from f
     subst (IsFound node order) (sym same) (found_on node before order (node first) (added_goes before waited order waiting h.added) found)
 
 -- the order and its bound
-pub rebound : (maps : Rotations) (node : ℕ → ℕ) (allowed : ℕ → Bool) (bound other root : ℕ) (order : List ℕ) (from : List (Option DartName)) → bound ≡ other
+pub rebound : (maps : Rotations) (node : ℕ → ℕ) (allowed : ℕ → Bool) (bound other root : ℕ) (order : List ℕ)
+    (from : List (Option DartName)) → bound ≡ other
     → IsOrder maps node allowed bound root order from → IsOrder maps node allowed other root order from
 rebound maps node allowed bound other root order from e h = subst (λ b. IsOrder maps node allowed b root order from) e h

@@ -66,7 +66,8 @@ same_from_count p q (suc n) h e x l =
     ]
 
 -- a number of the one set that is not in the other, or none
-pub some_outside : (p q : ℕ → Bool) (n : ℕ) → ((x : ℕ) × (x < n) × (q x ≡ true) × (p x ≡ false)) ⊎ ((x : ℕ) → x < n → q x ≡ true → p x ≡ true)
+pub some_outside : (p q : ℕ → Bool) (n : ℕ) → ((x : ℕ) × (x < n) × (q x ≡ true) × (p x ≡ false))
+    ⊎ ((x : ℕ) → x < n → q x ≡ true → p x ≡ true)
 some_outside p q zero = inr (λ x l is. absurd (omega arith))
 some_outside p q (suc n) = elim (some_outside p q n) [
   | inl found ↦ inl (found.0, omega (arith, found.1), found.2, found.3)

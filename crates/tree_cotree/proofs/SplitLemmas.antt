@@ -18,7 +18,8 @@ pub tree_ring : (maps : Rotations) (is_node : ℕ → Bool) (bound edges : ℕ) 
     → HasNodes maps maps.origin is_node bound edges
     → IsSpanningTree maps maps.origin is_node bound edges tree → HasOneRing maps tree
 tree_ring maps is_node bound edges tree r h t d e d_in e_in =
-    one_ring maps maps.origin is_node bound edges (λ b. b) tree r h refl t (λ x y l k. ((r.vertices x y l k).1, (r.vertices x y l k).0)) d e d_in e_in
+    one_ring maps maps.origin is_node bound edges (λ b. b) tree r h refl t (λ x y l k. ((r.vertices x y l k).1, (r.vertices x y l k).0))
+    d e d_in e_in
 
 -- the cotree over the faces, taken out, leaves one ring
 pub cotree_ring : (maps : Rotations) (is_node : ℕ → Bool) (bound edges : ℕ) (cotree : ℕ → Bool) → IsRotationSystem maps
@@ -51,7 +52,8 @@ closed_holds_all maps inside holds r ring closed start d start_in d_in h =
 
     go : (k : ℕ) → holds (maps.face (after_steps (after_dart maps inside) k start))
     go zero = h
-    go (suc k) = one (after_steps (after_dart maps inside) k start) (steps_within maps.darts (after_dart maps inside) p k start start_in) (go k)
+    go (suc k) = one (after_steps (after_dart maps inside) k start)
+        (steps_within maps.darts (after_dart maps inside) p k start start_in) (go k)
 
 -- each edge is of one of three kinds
 pub data OneOfThree : Bool → Bool → Bool → Type 0 where
@@ -81,14 +83,16 @@ any_same p q (suc n) h =
     rw (before, here) refl
 
 pub rings_same : (n : ℕ) (f g : ℕ → ℕ) → IsPermutationBelow n f → ((x : ℕ) → x < n → f x ≡ g x) → ring_count f n ≡ ring_count g n
-rings_same n f g p same = count_same (is_least (meets f n)) (is_least (meets g n)) n (λ x l. ap not (any_same (λ y. meets f n y x) (λ y. meets g n y x) x (λ y k. meet y x (omega arith))))
+rings_same n f g p same = count_same (is_least (meets f n)) (is_least (meets g n)) n
+    (λ x l. ap not (any_same (λ y. meets f n y x) (λ y. meets g n y x) x (λ y k. meet y x (omega arith))))
   where
     steps_same : (k x : ℕ) → x < n → after_steps f k x ≡ after_steps g k x
     steps_same zero x l = refl
     steps_same (suc k) x l = same (after_steps f k x) (steps_within n f p k x l) ∙ ap g (steps_same k x l)
 
     meet : (y x : ℕ) → y < n → meets f n y x ≡ meets g n y x
-    meet y x l = any_same (λ k. eqb (after_steps f k y) x) (λ k. eqb (after_steps g k y) x) n (λ k _. ap (λ (z : ℕ). eqb z x) (steps_same k y l))
+    meet y x l = any_same (λ k. eqb (after_steps f k y) x) (λ k. eqb (after_steps g k y) x) n
+        (λ k _. ap (λ (z : ℕ). eqb z x) (steps_same k y l))
 
 -- where all numbers below n stand on one ring, there is one
 pub one_ring_counted : (n : ℕ) (f : ℕ → ℕ) → IsPermutationBelow n f → 0 < n → ((x y : ℕ) → x < n → y < n → IsReached f x y)

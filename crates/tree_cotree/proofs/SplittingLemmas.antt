@@ -79,16 +79,20 @@ root_free maps node allowed bound root from f =
       | inr some ↦ absurd (root_not_kept maps node allowed bound root f.order from some.0 f.is_order some.1)
     ]
 
-count_nodes : (maps : Rotations) (node : ℕ → ℕ) (allowed : ℕ → Bool) (bound root edges : ℕ) (is_node : ℕ → Bool) (from : List (Option DartName))
+count_nodes : (maps : Rotations) (node : ℕ → ℕ) (allowed : ℕ → Bool) (bound root edges : ℕ) (is_node : ℕ → Bool)
+    (from : List (Option DartName))
     → HasNodes maps node is_node bound edges → FindsAll maps node allowed bound root from → root < bound
     → count_below is_node bound ≡ count_below (λ w. is_some (back_at from w)) (length from) + 1
 count_nodes maps node allowed bound root edges is_node from n f l =
-    count_same is_node (with_one (λ w. is_some (back_at from w)) root) bound (λ v b. kept_nodes maps node allowed bound root edges is_node from n f v b)
+    count_same is_node (with_one (λ w. is_some (back_at from w)) root) bound
+    (λ v b. kept_nodes maps node allowed bound root edges is_node from n f v b)
     ∙ count_with (λ w. is_some (back_at from w)) bound root l (root_free maps node allowed bound root from f)
     ∙ ap (λ k. suc (count_below (λ w. is_some (back_at from w)) k)) (sym f.is_order.long)
-    ∙ (let e : suc (count_below (λ w. is_some (back_at from w)) (length from)) ≡ count_below (λ w. is_some (back_at from w)) (length from) + 1 = omega arith in e)
+    ∙ (let e : suc (count_below (λ w. is_some (back_at from w)) (length from)) ≡ count_below (λ w. is_some (back_at from w))
+    (length from) + 1 = omega arith in e)
 
-pub kept_below : (maps : Rotations) (node : ℕ → ℕ) (allowed : ℕ → Bool) (bound root edges : ℕ) (is_node : ℕ → Bool) (from : List (Option DartName)) (v x : ℕ)
+pub kept_below : (maps : Rotations) (node : ℕ → ℕ) (allowed : ℕ → Bool) (bound root edges : ℕ) (is_node : ℕ → Bool)
+    (from : List (Option DartName)) (v x : ℕ)
     → HasNodes maps node is_node bound edges → FindsAll maps node allowed bound root from → back_at from v ≡ Some x → v < length from
 kept_below maps node allowed bound root edges is_node from v x n f e =
     let name : IsNamed node f.order v x = f.is_order.only v x e in
@@ -96,9 +100,11 @@ kept_below maps node allowed bound root edges is_node from v x n f e =
     let below : node x < bound = n.node_within x dart in
     omega (arith, below, name.of_node, f.is_order.long)
 
-spans : (maps : Rotations) (node : ℕ → ℕ) (allowed : ℕ → Bool) (bound root edges : ℕ) (is_node : ℕ → Bool) (from : List (Option DartName)) (old inside : ℕ → Bool)
+spans : (maps : Rotations) (node : ℕ → ℕ) (allowed : ℕ → Bool) (bound root edges : ℕ) (is_node : ℕ → Bool)
+    (from : List (Option DartName)) (old inside : ℕ → Bool)
     → IsRotationSystem maps → HasNodes maps node is_node bound edges → FindsAll maps node allowed bound root from → root < bound
-    → AreMarked maps from edges old inside (length from) → ((e : ℕ) → e < edges → old e ≡ false) → IsSpanningTree maps node is_node bound edges inside
+    → AreMarked maps from edges old inside (length from) → ((e : ℕ) → e < edges → old e ≡ false)
+    → IsSpanningTree maps node is_node bound edges inside
 spans maps node allowed bound root edges is_node from old inside r n f l m none =
     let empty : count_below old edges ≡ 0 = count_same old (λ e. false) edges none ∙ count_none edges in
     record {
@@ -134,12 +140,14 @@ tree_found s h k0 p is searched =
 
 tree_spans : (s : OrientedMesh) → IsOrientedSurface s → (k0 k1 : List Kind) (p : List (Option DartName))
     → k0 ≡ replicate (length s.table) Left
-    → FindsAll (rotations_of s) (rotations_of s).origin (λ e. true) s.mesh.count ((rotations_of s).origin 0) p → IsMarked (rotations_of s) p Tree k0 k1 (length p)
+    → FindsAll (rotations_of s) (rotations_of s).origin (λ e. true) s.mesh.count ((rotations_of s).origin 0) p
+    → IsMarked (rotations_of s) p Tree k0 k1 (length p)
     → IsSpanningTree (rotations_of s) (rotations_of s).origin (is_used s.mesh) s.mesh.count (length s.table) (has_kind k1 Tree)
 tree_spans s h k0 k1 p is f m =
     let long : length k0 ≡ length s.table = ap (λ (ks : List Kind). length ks) is ∙ length-replicate (length s.table) Left in
     spans (rotations_of s) (rotations_of s).origin (λ e. true) s.mesh.count ((rotations_of s).origin 0) (length s.table) (is_used s.mesh) p
-    (has_kind k0 Tree) (has_kind k1 Tree) (rotation_system s h) (vertex_nodes s (names_all s h)) f ((names_all s h).vertex_below 0 (some_dart s h))
+    (has_kind k0 Tree) (has_kind k1 Tree) (rotation_system s h) (vertex_nodes s (names_all s h)) f
+    ((names_all s h).vertex_below 0 (some_dart s h))
     (subst (λ n. AreMarked (rotations_of s) p n (has_kind k0 Tree) (has_kind k1 Tree) (length p)) long m.sets)
     (λ e l. ap (λ k. same_kind k Tree) (all_left s k0 e is l))
 
@@ -151,14 +159,16 @@ left_after s k0 k1 p e is m l out = ap (λ k. same_kind k Left) (m.others e out 
 
 pub cotree_found : (s : OrientedMesh) → IsOrientedSurface s → (k0 k1 : List Kind) (p q : List (Option DartName))
     → k0 ≡ replicate (length s.table) Left
-    → FindsAll (rotations_of s) (rotations_of s).origin (λ e. true) s.mesh.count ((rotations_of s).origin 0) p → IsMarked (rotations_of s) p Tree k0 k1 (length p)
+    → FindsAll (rotations_of s) (rotations_of s).origin (λ e. true) s.mesh.count ((rotations_of s).origin 0) p
+    → IsMarked (rotations_of s) p Tree k0 k1 (length p)
     → IsSearched (rotations_of s) (rotations_of s).face (has_kind k1 Left) (length s.mesh.faces) ((rotations_of s).face 0) q
     → FindsAll (rotations_of s) (rotations_of s).face (has_kind k1 Left) (length s.mesh.faces) ((rotations_of s).face 0) q
 cotree_found s h k0 k1 p q is f m searched =
     let maps : Rotations = rotations_of s in
     let r : IsRotationSystem maps = rotation_system s h in
     let ring : HasOneRing maps (has_kind k1 Tree) =
-    tree_ring maps (is_used s.mesh) s.mesh.count (length s.table) (has_kind k1 Tree) r (vertex_nodes s (names_all s h)) (tree_spans s h k0 k1 p is f m) in
+    tree_ring maps (is_used s.mesh) s.mesh.count (length s.table) (has_kind k1 Tree) r (vertex_nodes s (names_all s h))
+    (tree_spans s h k0 k1 p is f m) in
     record {
       order = searched.order;
       is_order = searched.is_order;
@@ -171,12 +181,15 @@ cotree_found s h k0 k1 p q is f m searched =
 cotree_spans : (s : OrientedMesh) → IsOrientedSurface s → (k0 k1 k2 : List Kind) (p q : List (Option DartName))
     → k0 ≡ replicate (length s.table) Left
     → IsMarked (rotations_of s) p Tree k0 k1 (length p)
-    → FindsAll (rotations_of s) (rotations_of s).face (has_kind k1 Left) (length s.mesh.faces) ((rotations_of s).face 0) q → IsMarked (rotations_of s) q Cotree k1 k2 (length q)
+    → FindsAll (rotations_of s) (rotations_of s).face (has_kind k1 Left) (length s.mesh.faces) ((rotations_of s).face 0) q
+    → IsMarked (rotations_of s) q Cotree k1 k2 (length q)
     → IsSpanningTree (rotations_of s) (rotations_of s).face (λ f. true) (length s.mesh.faces) (length s.table) (has_kind k2 Cotree)
 cotree_spans s h k0 k1 k2 p q is m f c =
     let long : length k1 ≡ length s.table = m.long ∙ ap (λ (ks : List Kind). length ks) is ∙ length-replicate (length s.table) Left in
-    spans (rotations_of s) (rotations_of s).face (has_kind k1 Left) (length s.mesh.faces) ((rotations_of s).face 0) (length s.table) (λ f. true) q
-    (has_kind k1 Cotree) (has_kind k2 Cotree) (rotation_system s h) (face_nodes s (names_all s h)) f ((names_all s h).face_below 0 (some_dart s h))
+    spans (rotations_of s) (rotations_of s).face (has_kind k1 Left) (length s.mesh.faces) ((rotations_of s).face 0) (length s.table)
+    (λ f. true) q
+    (has_kind k1 Cotree) (has_kind k2 Cotree) (rotation_system s h) (face_nodes s (names_all s h)) f
+    ((names_all s h).face_below 0 (some_dart s h))
     (subst (λ n. AreMarked (rotations_of s) q n (has_kind k1 Cotree) (has_kind k2 Cotree) (length q)) long c.sets)
     (λ e l. elim (cases_Bool (has_kind k1 Tree e)) [
       | inl tree ↦ other_kind k1 Tree Cotree e refl tree
@@ -208,11 +221,13 @@ split_trees s h k0 k1 k2 p q t start genus m =
     let f = tree_found s h k0 p m.first m.tree in
     let g = cotree_found s h k0 k1 p q m.first f m.marked m.cotree in
     let split : SplitView = made_split k2 p t (maps.face start) genus in
-    let tree_set : in_tree split ≡ has_kind k1 Tree = λ i e. (tree_kind (get_or k2 e Tree) ∙ tree_stays s k1 k2 q (length s.mesh.faces) (maps.face 0) m.crossed g e) i in
+    let tree_set : in_tree split ≡ has_kind k1 Tree = λ i e.
+    (tree_kind (get_or k2 e Tree) ∙ tree_stays s k1 k2 q (length s.mesh.faces) (maps.face 0) m.crossed g e) i in
     let cotree_set : in_cotree split ≡ has_kind k2 Cotree = λ i e. cotree_kind (get_or k2 e Tree) i in
     record {
       each_edge = m.crossed.long ∙ m.marked.long ∙ ap (λ (ks : List Kind). length ks) m.first ∙ length-replicate (length s.table) Left;
-      tree = subst (IsSpanningTree maps maps.origin (is_used s.mesh) s.mesh.count (length s.table)) (sym tree_set) (tree_spans s h k0 k1 p m.first f m.marked);
+      tree = subst (IsSpanningTree maps maps.origin (is_used s.mesh) s.mesh.count (length s.table)) (sym tree_set)
+          (tree_spans s h k0 k1 p m.first f m.marked);
       cotree = subst (IsSpanningTree maps maps.face (λ f. true) (length s.mesh.faces) (length s.table)) (sym cotree_set)
           (cotree_spans s h k0 k1 k2 p q m.first m.marked g m.crossed);
     }
@@ -230,7 +245,8 @@ split_parents s h k0 k1 k2 p q t start genus m =
     let split : SplitView = made_split k2 p t (maps.face start) genus in
     let kept : ℕ → Bool = λ w. is_some (back_at p w) in
     let read : (v : ℕ) → get_or (dart_options p) v None ≡ back_at p v = options_read p in
-    let used : (v : ℕ) → v < s.mesh.count → is_used s.mesh v ≡ with_one kept root v = kept_nodes maps maps.origin (λ e. true) s.mesh.count root (length s.table) (is_used s.mesh) p n f in
+    let used : (v : ℕ) → v < s.mesh.count → is_used s.mesh v ≡ with_one kept root v =
+    kept_nodes maps maps.origin (λ e. true) s.mesh.count root (length s.table) (is_used s.mesh) p n f in
     record {
       root = root;
       root_used = names.vertex_used 0 (some_dart s h);
@@ -246,7 +262,8 @@ split_parents s h k0 k1 k2 p q t start genus m =
         λ either. elim (option_cases (back_at p v)) [
           | inl none ↦ read v ∙ none
           | inr some ↦ elim either [
-            | inl at_root ↦ absurd (root_not_kept maps maps.origin (λ e. true) s.mesh.count root f.order p some.0 f.is_order (ap (back_at p) (sym at_root) ∙ some.1))
+            | inl at_root ↦ absurd (root_not_kept maps maps.origin (λ e. true) s.mesh.count root f.order p some.0 f.is_order
+                (ap (back_at p) (sym at_root) ∙ some.1))
             | inr out ↦ absurd (both_ways (is_used s.mesh v) out (used v l ∙ with_keeps kept root v (ap is_some some.1)))
           ]
         ],
@@ -258,7 +275,8 @@ split_parents s h k0 k1 k2 p q t start genus m =
           let some : back_at p v ≡ Some dart = sym (read v) ∙ e in
           tree_kind (get_or k2 (maps.edge dart) Tree)
           ∙ tree_stays s k1 k2 q (length s.mesh.faces) (maps.face 0) m.crossed g (maps.edge dart)
-          ∙ m.marked.sets.marked v dart (kept_below maps maps.origin (λ e. true) s.mesh.count root (length s.table) (is_used s.mesh) p v dart n f some) some;
+          ∙ m.marked.sets.marked v dart (kept_below maps maps.origin (λ e. true) s.mesh.count root (length s.table) (is_used s.mesh) p v
+          dart n f some) some;
       to_root = λ v is.
           let dart = names.each_vertex v is in
           subst (λ u. AreJoined (StepsToParent maps split) u root) dart.2
@@ -271,13 +289,15 @@ below_is_cotree : (s : OrientedMesh) → IsOrientedSurface s
     → (k2 : List Kind) (t : List (Option DartName)) (below : ℕ → Option ℕ) (start : ℕ) → start < (rotations_of s).darts
     → IsSpanningTree (rotations_of s) (rotations_of s).face (λ f. true) (length s.mesh.faces) (length s.table) (has_kind k2 Cotree)
     → FindsAll (rotations_of s) (rotations_of s).face (has_kind k2 Cotree) (length s.mesh.faces) ((rotations_of s).face start) t
-    → AreBelowEdges (rotations_of s) t (length s.table) below (length t) → (e : ℕ) → e < length s.table → is_some (below e) ≡ has_kind k2 Cotree e
+    → AreBelowEdges (rotations_of s) t (length s.table) below (length t) → (e : ℕ) → e < length s.table
+    → is_some (below e) ≡ has_kind k2 Cotree e
 below_is_cotree s h k2 t below start l span f b =
     let maps : Rotations = rotations_of s in
     let names : NamesAll s = names_all s h in
     let root : ℕ = maps.face start in
     let faces : count_below (λ f. true) (length s.mesh.faces) ≡ count_below (λ w. is_some (back_at t w)) (length t) + 1 =
-    count_nodes maps maps.face (has_kind k2 Cotree) (length s.mesh.faces) root (length s.table) (λ f. true) t (face_nodes s names) f (names.face_below start l) in
+    count_nodes maps maps.face (has_kind k2 Cotree) (length s.mesh.faces) root (length s.table) (λ f. true) t (face_nodes s names) f
+    (names.face_below start l) in
     let counts : count_below (λ e. is_some (below e)) (length s.table) ≡ count_below (has_kind k2 Cotree) (length s.table) =
     omega (arith, b.sets.count, count_none (length s.table), faces, span.count) in
     same_from_count (λ e. is_some (below e)) (has_kind k2 Cotree) (length s.table)
@@ -301,7 +321,8 @@ split_child_faces s h k0 k1 k2 p q t start genus m =
     let span = cotree_spans s h k0 k1 k2 p q m.first m.marked g m.crossed in
     let a : FindsAll maps maps.face (has_kind k2 Cotree) (length s.mesh.faces) root t = m.hanging in
     let dart_in : (v x : ℕ) → back_at t v ≡ Some x → x < maps.darts =
-    λ v x e. let name : IsNamed maps.face a.order v x = a.is_order.only v x e in subst (λ d. d < maps.darts) name.is (a.is_order.within name.place name.within) in
+    λ v x e. let name : IsNamed maps.face a.order v x =
+    a.is_order.only v x e in subst (λ d. d < maps.darts) name.is (a.is_order.within name.place name.within) in
     let up : ℕ → Option ℕ = child_face maps split in
     let many : length t ≡ length split.face_parents = sym (length-map t (option_map (λ (d : DartName). d.0))) in
     let faces : AreBelowEdges maps t (length s.table) up (length t) =
@@ -311,8 +332,10 @@ split_child_faces s h k0 k1 k2 p q t start genus m =
     (λ v x e. names.edge_below x (dart_in v x e)) (length t)) in
     let read : (f : ℕ) → get_or (dart_options t) f None ≡ back_at t f = options_read t in
     let kept_in : (v x : ℕ) → back_at t v ≡ Some x → v < length t =
-    λ v x e. kept_below maps maps.face (has_kind k2 Cotree) (length s.mesh.faces) root (length s.table) (λ f. true) t v x (face_nodes s names) a e in
-    let is_cotree : (e : ℕ) → e < length s.table → is_some (up e) ≡ has_kind k2 Cotree e = below_is_cotree s h k2 t up start m.start_in span a faces in
+    λ v x e. kept_below maps maps.face (has_kind k2 Cotree) (length s.mesh.faces) root (length s.table) (λ f. true) t v x
+    (face_nodes s names) a e in
+    let is_cotree : (e : ℕ) → e < length s.table → is_some (up e) ≡ has_kind k2 Cotree e =
+    below_is_cotree s h k2 t up start m.start_in span a faces in
     record {
       root_below = names.face_below start m.start_in;
       each_face = sym many ∙ a.is_order.long;
@@ -323,7 +346,8 @@ split_child_faces s h k0 k1 k2 p q t start genus m =
         λ none. cotree_kind (get_or k2 e Tree) ∙ sym (is_cotree e l) ∙ ap is_some none,
         λ out. elim (option_cases (up e)) [
           | inl none ↦ none
-          | inr some ↦ absurd (both_ways (has_kind k2 Cotree e) (sym (cotree_kind (get_or k2 e Tree)) ∙ out) (sym (is_cotree e l) ∙ ap is_some some.1))
+          | inr some ↦ absurd (both_ways (has_kind k2 Cotree e) (sym (cotree_kind (get_or k2 e Tree)) ∙ out)
+              (sym (is_cotree e l) ∙ ap is_some some.1))
         ],
       );
       step = λ e x k.
@@ -364,7 +388,8 @@ split_is s h k0 k1 k2 p q t start genus m half =
     let trees : HasTrees s split = split_trees s h k0 k1 k2 p q t start genus m in
     let pairs = even s split h trees in
     let same : is_left split ≡ has_kind k2 Left = λ i e. left_kind (get_or k2 e Tree) i in
-    let count : count_below (is_left split) (length s.table) ≡ count_below (has_kind k2 Left) (length s.table) = ap (λ set_of. count_below set_of (length s.table)) same in
+    let count : count_below (is_left split) (length s.table) ≡ count_below (has_kind k2 Left) (length s.table) =
+    ap (λ set_of. count_below set_of (length s.table)) same in
     record {
       trees = trees;
       parents = split_parents s h k0 k1 k2 p q t start genus m;

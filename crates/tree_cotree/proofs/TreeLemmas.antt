@@ -27,12 +27,14 @@ joined_more step u v w (x ∷ path) more h k = (h.0, joined_more step x v w path
 pub join : (step : ℕ → ℕ → Type 0) (u v w : ℕ) → AreJoined step u v → AreJoined step v w → AreJoined step u w
 join step u v w h k = (h.0 ++ k.0, joined_more step u v w h.0 k.0 h.1 k.1)
 
-pub crossed_from : (maps : Rotations) (node : ℕ → ℕ) (allowed : ℕ → Bool) (bound root : ℕ) (from : List (Option DartName)) (s : IsSearched maps node allowed bound root from)
+pub crossed_from : (maps : Rotations) (node : ℕ → ℕ) (allowed : ℕ → Bool) (bound root : ℕ) (from : List (Option DartName))
+    (s : IsSearched maps node allowed bound root from)
     → (d : ℕ) → d < maps.darts → allowed (maps.edge d) ≡ true → IsFound node s.order (node d) → IsFound node s.order (node (maps.twin d))
 crossed_from maps node allowed bound root from s d l passes found = s.closed found.place found.within d l (sym found.is) passes
 
 -- over the vertices, where all edges are allowed
-path_found : (maps : Rotations) (allowed : ℕ → Bool) (bound root : ℕ) (from : List (Option DartName)) (s : IsSearched maps maps.origin allowed bound root from)
+path_found : (maps : Rotations) (allowed : ℕ → Bool) (bound root : ℕ) (from : List (Option DartName))
+    (s : IsSearched maps maps.origin allowed bound root from)
     → ((d : ℕ) → d < maps.darts → allowed (maps.edge d) ≡ true) → (u v : ℕ) (path : List ℕ) → IsPath (IsDartStep maps) u path v
     → IsFound maps.origin s.order u → IsFound maps.origin s.order v
 path_found maps allowed bound root from s free u v [] p found = subst (IsFound maps.origin s.order) p found
@@ -41,7 +43,8 @@ path_found maps allowed bound root from s free u v (w ∷ path) p found =
     let step : IsDartFrom maps u w d = p.0.1 in
     let next : IsFound maps.origin s.order w =
     subst (IsFound maps.origin s.order) step.ends
-    (crossed_from maps maps.origin allowed bound root from s d step.within (free d step.within) (subst (IsFound maps.origin s.order) (sym step.starts) found)) in
+    (crossed_from maps maps.origin allowed bound root from s d step.within (free d step.within)
+    (subst (IsFound maps.origin s.order) (sym step.starts) found)) in
     path_found maps allowed bound root from s free w v path p.1 next
 
 pub vertices_found : (maps : Rotations) (allowed : ℕ → Bool) (bound start : ℕ) (from : List (Option DartName)) → IsRotationSystem maps
@@ -59,7 +62,8 @@ vertices_found maps allowed bound start from r l s free =
     }
 
 -- the edges of two darts of an order differ
-pub edges_differ : (maps : Rotations) (node : ℕ → ℕ) (allowed : ℕ → Bool) (bound root : ℕ) (order : List ℕ) (from : List (Option DartName)) (i j : ℕ)
+pub edges_differ : (maps : Rotations) (node : ℕ → ℕ) (allowed : ℕ → Bool) (bound root : ℕ) (order : List ℕ)
+    (from : List (Option DartName)) (i j : ℕ)
     → IsRotationSystem maps → IsOrder maps node allowed bound root order from → 0 < i → i < j → j < length order
     → maps.edge (get_or order i 0) ≢ maps.edge (get_or order j 0)
 edges_differ maps node allowed bound root order from i j r h later less l same =
@@ -71,19 +75,24 @@ edges_differ maps node allowed bound root order from i j r h later less l same =
     ]
 
 -- the dart that is kept for a node, by its place in the order
-pub kept_differ : (maps : Rotations) (node : ℕ → ℕ) (allowed : ℕ → Bool) (bound root : ℕ) (order : List ℕ) (from : List (Option DartName)) (v w x y : ℕ)
-    → IsRotationSystem maps → IsOrder maps node allowed bound root order from → back_at from v ≡ Some x → back_at from w ≡ Some y → v ≢ w → maps.edge x ≢ maps.edge y
+pub kept_differ : (maps : Rotations) (node : ℕ → ℕ) (allowed : ℕ → Bool) (bound root : ℕ) (order : List ℕ)
+    (from : List (Option DartName)) (v w x y : ℕ)
+    → IsRotationSystem maps → IsOrder maps node allowed bound root order from → back_at from v ≡ Some x → back_at from w ≡ Some y
+    → v ≢ w → maps.edge x ≢ maps.edge y
 kept_differ maps node allowed bound root order from v w x y r h a b ne same =
     let p : IsNamed node order v x = h.only v x a in
     let q : IsNamed node order w y = h.only w y b in
     let places : p.place ≢ q.place = λ e. ne (sym p.of_node ∙ ap node (sym p.is ∙ ap (λ k. get_or order k 0) e ∙ q.is) ∙ q.of_node) in
     elim (cases_lt p.place q.place) [
-      | inl less ↦ edges_differ maps node allowed bound root order from p.place q.place r h p.later less q.within (ap maps.edge p.is ∙ same ∙ ap maps.edge (sym q.is))
-      | inr more ↦ edges_differ maps node allowed bound root order from q.place p.place r h q.later (omega arith) p.within (ap maps.edge q.is ∙ sym same ∙ ap maps.edge (sym p.is))
+      | inl less ↦ edges_differ maps node allowed bound root order from p.place q.place r h p.later less q.within
+          (ap maps.edge p.is ∙ same ∙ ap maps.edge (sym q.is))
+      | inr more ↦ edges_differ maps node allowed bound root order from q.place p.place r h q.later (omega arith) p.within
+          (ap maps.edge q.is ∙ sym same ∙ ap maps.edge (sym p.is))
     ]
 
 -- the nodes for which a dart is kept are all but the root
-pub kept_nodes : (maps : Rotations) (node : ℕ → ℕ) (allowed : ℕ → Bool) (bound root edges : ℕ) (is_node : ℕ → Bool) (from : List (Option DartName))
+pub kept_nodes : (maps : Rotations) (node : ℕ → ℕ) (allowed : ℕ → Bool) (bound root edges : ℕ) (is_node : ℕ → Bool)
+    (from : List (Option DartName))
     → HasNodes maps node is_node bound edges → (f : FindsAll maps node allowed bound root from) → (v : ℕ) → v < bound
     → is_node v ≡ with_one (λ w. is_some (back_at from w)) root v
 kept_nodes maps node allowed bound root edges is_node from n f v l =
@@ -117,20 +126,24 @@ kept_nodes maps node allowed bound root edges is_node from n f v l =
 
     named : (v ≡ root) ⊎ (kept v ≡ true) → is_node v ≡ true
     named (inl at_root) =
-        subst (λ w. is_node w ≡ true) (f.is_order.first ∙ sym at_root) (n.is_of_dart (get_or f.order 0 0) (f.is_order.within 0 f.is_order.some))
+        subst (λ w. is_node w ≡ true) (f.is_order.first ∙ sym at_root)
+        (n.is_of_dart (get_or f.order 0 0) (f.is_order.within 0 f.is_order.some))
     named (inr is_kept) =
         let x = some_of (back_at from v) is_kept in
         let name : IsNamed node f.order v x.0 = f.is_order.only v x.0 x.1 in
-        subst (λ w. is_node w ≡ true) name.of_node (n.is_of_dart x.0 (subst (λ d. d < maps.darts) name.is (f.is_order.within name.place name.within)))
+        subst (λ w. is_node w ≡ true) name.of_node (n.is_of_dart x.0
+        (subst (λ d. d < maps.darts) name.is (f.is_order.within name.place name.within)))
 
-pub root_not_kept : (maps : Rotations) (node : ℕ → ℕ) (allowed : ℕ → Bool) (bound root : ℕ) (order : List ℕ) (from : List (Option DartName)) (x : ℕ)
+pub root_not_kept : (maps : Rotations) (node : ℕ → ℕ) (allowed : ℕ → Bool) (bound root : ℕ) (order : List ℕ)
+    (from : List (Option DartName)) (x : ℕ)
     → IsOrder maps node allowed bound root order from → back_at from root ≡ Some x → ⊥
 root_not_kept maps node allowed bound root order from x h e =
     let name : IsNamed node order root x = h.only root x e in
     h.fresh 0 name.place name.later name.within (h.first ∙ sym name.of_node ∙ ap node (sym name.is))
 
 -- from each node found the darts lead back to the root, if each kept dart gives a step
-pub to_root : (step : ℕ → ℕ → Type 0) (maps : Rotations) (node : ℕ → ℕ) (allowed : ℕ → Bool) (bound root : ℕ) (order : List ℕ) (from : List (Option DartName))
+pub to_root : (step : ℕ → ℕ → Type 0) (maps : Rotations) (node : ℕ → ℕ) (allowed : ℕ → Bool) (bound root : ℕ) (order : List ℕ)
+    (from : List (Option DartName))
     → IsOrder maps node allowed bound root order from
     → ((v x : ℕ) → back_at from v ≡ Some x → step v (node (maps.twin x)))
     → (fuel j : ℕ) → j < fuel → j < length order → AreJoined step (node (get_or order j 0)) root
@@ -142,13 +155,15 @@ to_root step maps node allowed bound root order from h steps (suc fuel) j b l =
           (let later : 0 < j = omega (arith, not_first) in
           let d : LeadsBack maps node order j = h.back j later l in
           let rest : AreJoined step (node (get_or order d.place 0)) root =
-          to_root step maps node allowed bound root order from h steps fuel d.place (omega (arith, d.before, b)) (omega (arith, d.before, l)) in (
+          to_root step maps node allowed bound root order from h steps fuel d.place (omega (arith, d.before, b))
+          (omega (arith, d.before, l)) in (
             node (get_or order d.place 0) ∷ rest.0,
             (subst (step (node (get_or order j 0))) d.is (steps (node (get_or order j 0)) (get_or order j 0) (h.named j later l)), rest.1),
           ))
     ]
 
-pub all_to_root : (step : ℕ → ℕ → Type 0) (maps : Rotations) (node : ℕ → ℕ) (allowed : ℕ → Bool) (bound root : ℕ) (from : List (Option DartName))
+pub all_to_root : (step : ℕ → ℕ → Type 0) (maps : Rotations) (node : ℕ → ℕ) (allowed : ℕ → Bool) (bound root : ℕ)
+    (from : List (Option DartName))
     → (f : FindsAll maps node allowed bound root from) → ((v x : ℕ) → back_at from v ≡ Some x → step v (node (maps.twin x)))
     → (d : ℕ) → d < maps.darts → AreJoined step (node d) root
 all_to_root step maps node allowed bound root from f steps d l =
@@ -157,7 +172,8 @@ all_to_root step maps node allowed bound root from f steps d l =
     (to_root step maps node allowed bound root f.order from f.is_order steps (suc found.place) found.place (omega arith) found.within)
 
 -- and from the root they lead to each node, if each kept dart gives a step the other way
-from_root : (step : ℕ → ℕ → Type 0) (maps : Rotations) (node : ℕ → ℕ) (allowed : ℕ → Bool) (bound root : ℕ) (order : List ℕ) (from : List (Option DartName))
+from_root : (step : ℕ → ℕ → Type 0) (maps : Rotations) (node : ℕ → ℕ) (allowed : ℕ → Bool) (bound root : ℕ) (order : List ℕ)
+    (from : List (Option DartName))
     → IsOrder maps node allowed bound root order from
     → ((v x : ℕ) → back_at from v ≡ Some x → step (node (maps.twin x)) v)
     → (fuel j : ℕ) → j < fuel → j < length order → AreJoined step root (node (get_or order j 0))
@@ -170,7 +186,8 @@ from_root step maps node allowed bound root order from h steps (suc fuel) j b l 
           let v : ℕ = node (get_or order j 0) in
           let d : LeadsBack maps node order j = h.back j later l in
           let rest : AreJoined step root (node (get_or order d.place 0)) =
-          from_root step maps node allowed bound root order from h steps fuel d.place (omega (arith, d.before, b)) (omega (arith, d.before, l)) in
+          from_root step maps node allowed bound root order from h steps fuel d.place (omega (arith, d.before, b))
+          (omega (arith, d.before, l)) in
           let last : step (node (get_or order d.place 0)) v = subst (λ u. step u v) d.is (steps v (get_or order j 0) (h.named j later l)) in
           join step root (node (get_or order d.place 0)) v rest (v ∷ [], (last, refl)))
     ]
@@ -184,13 +201,15 @@ kept_join maps node allowed inside bound root from r f marked d e l k =
     join (StepsIn maps node inside) (node d) root (node e)
     (all_to_root (StepsIn maps node inside) maps node allowed bound root from f forth d l)
     (subst (AreJoined (StepsIn maps node inside) root) found.is
-    (from_root (StepsIn maps node inside) maps node allowed bound root f.order from f.is_order back (suc found.place) found.place (omega arith) found.within))
+    (from_root (StepsIn maps node inside) maps node allowed bound root f.order from f.is_order back (suc found.place) found.place
+    (omega arith) found.within))
   where
     found : IsFound node f.order (node e)
     found = f.all e k
 
     dart_in : (v x : ℕ) → back_at from v ≡ Some x → x < maps.darts
-    dart_in v x e = let name : IsNamed node f.order v x = f.is_order.only v x e in subst (λ d. d < maps.darts) name.is (f.is_order.within name.place name.within)
+    dart_in v x e = let name : IsNamed node f.order v x =
+        f.is_order.only v x e in subst (λ d. d < maps.darts) name.is (f.is_order.within name.place name.within)
 
     forth : (v x : ℕ) → back_at from v ≡ Some x → StepsIn maps node inside v (node (maps.twin x))
     forth v x e = (x, record { within = dart_in v x e; in_set = marked v x e; starts = (f.is_order.only v x e).of_node; ends = refl })
@@ -276,15 +295,18 @@ marked_more maps from edges n x old new others h some l free apart is =
       ];
     }
 
-pub kept_apart : (maps : Rotations) (node : ℕ → ℕ) (allowed : ℕ → Bool) (bound root : ℕ) (order : List ℕ) (from : List (Option DartName)) → IsRotationSystem maps
+pub kept_apart : (maps : Rotations) (node : ℕ → ℕ) (allowed : ℕ → Bool) (bound root : ℕ) (order : List ℕ)
+    (from : List (Option DartName)) → IsRotationSystem maps
     → IsOrder maps node allowed bound root order from → AreApart maps from
 kept_apart maps node allowed bound root order from r h =
     record {
-      within = λ v x e. let name : IsNamed node order v x = h.only v x e in subst (λ d. d < maps.darts) name.is (h.within name.place name.within);
+      within = λ v x e. let name : IsNamed node order v x =
+          h.only v x e in subst (λ d. d < maps.darts) name.is (h.within name.place name.within);
       apart = λ v w x y a b ne. kept_differ maps node allowed bound root order from v w x y r h a b ne;
     }
 
-pub kept_allowed : (maps : Rotations) (node : ℕ → ℕ) (allowed : ℕ → Bool) (bound root : ℕ) (order : List ℕ) (from : List (Option DartName)) (v x : ℕ)
+pub kept_allowed : (maps : Rotations) (node : ℕ → ℕ) (allowed : ℕ → Bool) (bound root : ℕ) (order : List ℕ)
+    (from : List (Option DartName)) (v x : ℕ)
     → IsOrder maps node allowed bound root order from → back_at from v ≡ Some x → allowed (maps.edge x) ≡ true
 kept_allowed maps node allowed bound root order from v x h e =
     let name : IsNamed node order v x = h.only v x e in
@@ -302,11 +324,17 @@ pub marks_skip : (maps : Rotations) (from : List (Option DartName)) (kind : Kind
     → IsMarked maps from kind old new n → back_at from n ≡ None
     → IsMarked maps from kind old new (n + 1)
 marks_skip maps from kind old new n h none =
-    record { long = h.long; sets = marked_skip maps from (length old) n (has_kind old kind) (has_kind new kind) h.sets none; others = h.others }
+    record {
+      long = h.long;
+      sets = marked_skip maps from (length old) n (has_kind old kind) (has_kind new kind) h.sets none;
+      others =
+          h.others;
+    }
 
 pub marks_more : (maps : Rotations) (from : List (Option DartName)) (kind : Kind) (old new : List Kind) (n x : ℕ) → AreApart maps from
     → IsMarked maps from kind old new n
-    → back_at from n ≡ Some x → maps.edge x < length old → has_kind old kind (maps.edge x) ≡ false → IsMarked maps from kind old (set new (maps.edge x) kind) (n + 1)
+    → back_at from n ≡ Some x → maps.edge x < length old → has_kind old kind (maps.edge x) ≡ false
+    → IsMarked maps from kind old (set new (maps.edge x) kind) (n + 1)
 marks_more maps from kind old new n x apart h some l free =
     let i : ℕ = maps.edge x in
     let more : List Kind = set new i kind in

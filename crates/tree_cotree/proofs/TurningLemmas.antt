@@ -60,7 +60,8 @@ source : (order : List ℕ) (p d back j : ℕ) → p < length order → 1 < j �
 source order p d back zero l more b = absurd (omega (arith, more))
 source order p d back (suc j) l more b =
     let some : j ≢ 0 = λ e. omega (arith, e, more) in
-    let read : get_or (fronted order p d back) (suc j) 0 ≡ get_or (without p order) j 0 = get_or-set_other (without p order) 0 j back 0 some in
+    let read : get_or (fronted order p d back) (suc j) 0 ≡ get_or (without p order) j 0 =
+    get_or-set_other (without p order) 0 j back 0 some in
     elim (cases_lt j p) [
       | inl less ↦ record {
         place = j;
@@ -117,7 +118,8 @@ spot node order p d back q later l at root b =
         }
         | inr behind ↦ elim (cases_lt q p) [
           | inl less ↦
-              (let here : IsSource order p d back (q + 1) = source order p d back (q + 1) l (omega (arith, behind)) (omega (arith, less, l)) in
+              (let here : IsSource order p d back (q + 1) = source order p d back (q + 1) l (omega (arith, behind))
+              (omega (arith, less, l)) in
               let is_q : here.place ≡ q = back_to_low q here.place less here.other (λ k. here.low k) (λ k. here.high k) in
               let reads : get_or (fronted order p d back) (q + 1) 0 ≡ get_or order q 0 = here.is ∙ ap (λ k. get_or order k 0) is_q in
               record {
@@ -160,7 +162,8 @@ spot node order p d back q later l at root b =
     ]
 
 -- two places of an order with one node are one place
-one_place : (maps : Rotations) (node : ℕ → ℕ) (allowed : ℕ → Bool) (bound root : ℕ) (order : List ℕ) (from : List (Option DartName)) (i j : ℕ)
+one_place : (maps : Rotations) (node : ℕ → ℕ) (allowed : ℕ → Bool) (bound root : ℕ) (order : List ℕ) (from : List (Option DartName))
+    (i j : ℕ)
     → IsOrder maps node allowed bound root order from → i < length order → j < length order
     → node (get_or order i 0) ≡ node (get_or order j 0) → i ≡ j
 one_place maps node allowed bound root order from i j h a b e =
@@ -184,7 +187,8 @@ kept_none from v w x l =
     ap (option_map (λ (d : DartName). d.0))
     (get_or-set_same (set from v (Some x)) w None None (omega (arith, l, length-set from v (Some x))))
 
-kept_else : (from : List (Option DartName)) (v w u : ℕ) (x : DartName) → u ≢ v → u ≢ w → back_at (set (set from v (Some x)) w None) u ≡ back_at from u
+kept_else : (from : List (Option DartName)) (v w u : ℕ) (x : DartName) → u ≢ v → u ≢ w
+    → back_at (set (set from v (Some x)) w None) u ≡ back_at from u
 kept_else from v w u x not_v not_w =
     ap (option_map (λ (d : DartName). d.0))
     (get_or-set_other (set from v (Some x)) w u None None not_w ∙ get_or-set_other from v u (Some x) None not_v)
@@ -269,7 +273,8 @@ still_later p q k later other low high =
     ]
 
 -- the dart d of a node that leads to the root is turned, and the node is the root
-pub rerooted : (maps : Rotations) (node : ℕ → ℕ) (allowed : ℕ → Bool) (bound root : ℕ) (from : List (Option DartName)) (d : ℕ) (x : DartName)
+pub rerooted : (maps : Rotations) (node : ℕ → ℕ) (allowed : ℕ → Bool) (bound root : ℕ) (from : List (Option DartName)) (d : ℕ)
+    (x : DartName)
     → IsRotationSystem maps → ((e : ℕ) → e < maps.darts → node e < length from) → FindsAll maps node allowed bound root from
     → back_at from (node d) ≡ Some d → node (maps.twin d) ≡ root → x.0 ≡ maps.twin d
     → FindsAll maps node allowed bound (node d) (set (set from root (Some x)) (node d) None)
@@ -284,7 +289,8 @@ rerooted maps node allowed bound root from d x r below f keeps leads twin =
     let long : length new ≡ n = fronted_long order p d x.0 own.within in
     let d_in : d < maps.darts = subst (λ y. y < maps.darts) own.is (h.within p own.within) in
     let x_node : node x.0 ≡ root = ap node twin ∙ leads in
-    let second : (j : ℕ) → j ≡ 1 → get_or new j 0 ≡ x.0 = λ j e. ap (λ k. get_or new k 0) e ∙ fronted_second order p d x.0 own.later own.within in
+    let second : (j : ℕ) → j ≡ 1 → get_or new j 0 ≡ x.0 =
+    λ j e. ap (λ k. get_or new k 0) e ∙ fronted_second order p d x.0 own.later own.within in
     let at : (q : ℕ) → q < n → IsSpot node order p d x.0 q =
     λ q b. spot node order p d x.0 q own.later own.within own.is (x_node ∙ sym h.first) b in
     let old : (j : ℕ) → j < n → IsOld node order p d x.0 j =
@@ -316,7 +322,8 @@ rerooted maps node allowed bound root from d x r below f keeps leads twin =
             let one : IsOld node order p d x.0 i = old i (omega (arith, less, l, long)) in
             let other : IsOld node order p d x.0 j = old j (omega (arith, l, long)) in
             let same : other.place ≡ one.place =
-            one_place maps node allowed bound root order from other.place one.place h other.within one.within (sym other.same ∙ sym e ∙ one.same) in
+            one_place maps node allowed bound root order from other.place one.place h other.within one.within
+            (sym other.same ∙ sym e ∙ one.same) in
             let is : i ≡ j =
             same_place p one.place i j one.mid one.low one.high (λ k. other.mid (same ∙ k))
             (λ k. other.low (subst (λ q. q < p) (sym same) k) ∙ ap (λ q. q + 1) same)
@@ -334,7 +341,8 @@ rerooted maps node allowed bound root from d x r below f keeps leads twin =
               let there : IsSpot node order p d x.0 b.place = at b.place (omega (arith, b.before, here.within)) in
               record {
                 place = there.place;
-                before = still_before p here.place b.place j there.place b.before here.other here.low here.high there.mid there.low there.high;
+                before = still_before p here.place b.place j there.place b.before here.other here.low here.high there.mid there.low
+                    there.high;
                 is = ap (λ y. node (maps.twin y)) here.is ∙ b.is ∙ sym there.same;
               })
         ];
@@ -346,19 +354,22 @@ rerooted maps node allowed bound root from d x r below f keeps leads twin =
               ap (λ y. allowed (maps.edge y)) here.is ∙ h.inside here.place here.later here.within)
         ];
         named = λ j later l. elim (cases_eq j 1) [
-          | inl one ↦ ap (λ y. back_at kept (node y)) (second j one) ∙ ap (back_at kept) x_node ∙ kept_root from root (node d) x root_in apart
+          | inl one ↦ ap (λ y. back_at kept (node y)) (second j one) ∙ ap (back_at kept) x_node
+              ∙ kept_root from root (node d) x root_in apart
               ∙ ap Some (sym (second j one))
           | inr more ↦
               (let here : IsSource order p d x.0 j = from_where j later more l in
               ap (λ y. back_at kept (node y)) here.is
-              ∙ kept_else from root (node d) (node (get_or order here.place 0)) x (no_root here.place here.later here.within) (no_own here.place here.within here.other)
+              ∙ kept_else from root (node d) (node (get_or order here.place 0)) x (no_root here.place here.later here.within)
+              (no_own here.place here.within here.other)
               ∙ h.named here.place here.later here.within ∙ ap Some (sym here.is))
         ];
         only = λ v y e. elim (cases_eq v (node d)) [
           | inl at_top ↦ absurd (not_both (back_at kept v) y e (ap (back_at kept) at_top ∙ kept_none from root (node d) x own_in))
           | inr not_top ↦ elim (cases_eq v root) [
             | inl at_root ↦
-                (let is_x : y ≡ x.0 = same_some (back_at kept v) y x.0 e (ap (back_at kept) at_root ∙ kept_root from root (node d) x root_in apart) in
+                (let is_x : y ≡ x.0 = same_some (back_at kept v) y x.0 e
+                (ap (back_at kept) at_root ∙ kept_root from root (node d) x root_in apart) in
                 record {
                   place = 1;
                   later = omega arith;
@@ -401,7 +412,8 @@ way_start maps from start = record {
 }
 
 -- a way with a dart more
-pub way_more : (maps : Rotations) (from : List (Option DartName)) (start top : ℕ) (way : List ℕ) (d : ℕ) → IsWay maps from start top way → d < maps.darts
+pub way_more : (maps : Rotations) (from : List (Option DartName)) (start top : ℕ) (way : List ℕ) (d : ℕ) → IsWay maps from start top way
+    → d < maps.darts
     → back_at from top ≡ Some d → maps.face d ≡ top
     → ((k : ℕ) → k < length way → maps.face (get_or way k 0) ≢ maps.face (maps.twin d)) → maps.face d ≢ maps.face (maps.twin d)
     → IsWay maps from start (maps.face (maps.twin d)) (way ++ d ∷ [])
@@ -428,7 +440,8 @@ way_more maps from start top way d w d_in keeps own off not_back =
         | inr some ↦ ap maps.face (old 0 (omega (arith, some))) ∙ w.first (omega (arith, some))
       ];
       linked = λ k l. elim (cases_lt (k + 1) n) [
-        | inl less ↦ ap (λ y. maps.face (maps.twin y)) (old k (omega (arith, less))) ∙ w.linked k less ∙ ap maps.face (sym (old (k + 1) less))
+        | inl less ↦ ap (λ y. maps.face (maps.twin y)) (old k (omega (arith, less))) ∙ w.linked k less
+            ∙ ap maps.face (sym (old (k + 1) less))
         | inr end ↦ ap (λ y. maps.face (maps.twin y)) (old k (omega (arith, l, long))) ∙ w.last k (omega (arith, end, l, long)) ∙ sym own
             ∙ ap maps.face (sym (new (k + 1) (omega (arith, end, l, long))))
       ];
@@ -459,11 +472,13 @@ way_less maps from start top way d x w =
     record {
       within = λ k l. subst (λ y. y < maps.darts) (old k l) (w.within k (in_more k l));
       kept = λ k l.
-          kept_else from top (maps.face d) (maps.face (get_or way k 0)) x (λ e. w.off k (in_more k l) (ap maps.face (old k l) ∙ e)) (not_last k l)
+          kept_else from top (maps.face d) (maps.face (get_or way k 0)) x (λ e. w.off k (in_more k l) (ap maps.face (old k l) ∙ e))
+          (not_last k l)
           ∙ ap (λ y. back_at from (maps.face y)) (sym (old k l)) ∙ w.kept k (in_more k l) ∙ ap Some (old k l);
       none = λ e. ap maps.face (sym (new 0 (sym e))) ∙ w.first (omega (arith, long));
       first = λ l. ap maps.face (sym (old 0 l)) ∙ w.first (omega (arith, long));
-      linked = λ k l. ap (λ y. maps.face (maps.twin y)) (sym (old k (omega (arith, l)))) ∙ w.linked k (in_more (k + 1) l) ∙ ap maps.face (old (k + 1) l);
+      linked = λ k l. ap (λ y. maps.face (maps.twin y)) (sym (old k (omega (arith, l)))) ∙ w.linked k (in_more (k + 1) l)
+          ∙ ap maps.face (old (k + 1) l);
       last = λ k e. ap (λ y. maps.face (maps.twin y)) (sym (old k (omega (arith, e)))) ∙ w.linked k (omega (arith, e, long))
           ∙ ap maps.face (new (k + 1) e);
       apart = λ i k less l e. w.apart i k less (in_more k l)
@@ -479,7 +494,8 @@ pub record IsClimb (maps : Rotations) (from : List (Option DartName)) (start fac
   pub within : place < length finds.order
   pub is : maps.face (get_or finds.order place 0) ≡ face
   pub room : place + length way < length finds.order
-  pub later : (k q : ℕ) → k < length way → q < length finds.order → q ≤ place → maps.face (get_or way k 0) ≢ maps.face (get_or finds.order q 0)
+  pub later : (k q : ℕ) → k < length way → q < length finds.order → q ≤ place
+      → maps.face (get_or way k 0) ≢ maps.face (get_or finds.order q 0)
   pub is_way : IsWay maps from start face way
 
 pub climb_start : (maps : Rotations) (from : List (Option DartName)) (start : ℕ) → HasRoot maps from → start < maps.darts
@@ -498,13 +514,15 @@ climb_start maps from start t l =
     }
 
 -- the face of the dart that is kept for a face is that face, and the dart is one
-pub climb_dart : (maps : Rotations) (from : List (Option DartName)) (start face : ℕ) (way : List ℕ) (d : ℕ) → IsClimb maps from start face way
+pub climb_dart : (maps : Rotations) (from : List (Option DartName)) (start face : ℕ) (way : List ℕ) (d : ℕ)
+    → IsClimb maps from start face way
     → back_at from face ≡ Some d → (d < maps.darts) × (maps.face d ≡ face)
 climb_dart maps from start face way d c keeps =
     let name : IsNamed maps.face c.finds.order face d = c.finds.is_order.only face d keeps in
     (subst (λ y. y < maps.darts) name.is (c.finds.is_order.within name.place name.within), name.of_node)
 
-pub climb_more : (maps : Rotations) (from : List (Option DartName)) (start face : ℕ) (way : List ℕ) (d : ℕ) → IsClimb maps from start face way
+pub climb_more : (maps : Rotations) (from : List (Option DartName)) (start face : ℕ) (way : List ℕ) (d : ℕ)
+    → IsClimb maps from start face way
     → back_at from face ≡ Some d → IsClimb maps from start (maps.face (maps.twin d)) (way ++ d ∷ [])
 climb_more maps from start face way d c keeps =
     let order : List ℕ = c.finds.order in
@@ -557,7 +575,8 @@ climb_done maps from start face way c below none = record {
 }
 
 -- a tree that is turned as far as the way that is left leads
-pub record IsPartlyTurned (maps : Rotations) (old : List (Option DartName)) (start : ℕ) (from : List (Option DartName)) (way : List ℕ) : Type 0 where
+pub record IsPartlyTurned (maps : Rotations) (old : List (Option DartName)) (start : ℕ) (from : List (Option DartName))
+    (way : List ℕ) : Type 0 where
   pub top : ℕ
   pub long : length from ≡ length old
   pub is_way : IsWay maps from start top way
@@ -586,8 +605,10 @@ turning_start maps from start way w dart = record {
       (sym (root_is maps maps.face allowed (length from) root w.top dart.0 from f dart.1 dart.2 w.is_root)) f;
 }
 
-pub turning_more : (maps : Rotations) (old : List (Option DartName)) (start : ℕ) (from : List (Option DartName)) (way : List ℕ) (d : ℕ) (x : DartName)
-    → IsRotationSystem maps → ((e : ℕ) → e < maps.darts → maps.face e < length from) → (t : IsPartlyTurned maps old start from (way ++ d ∷ [])) → x.0 ≡ maps.twin d
+pub turning_more : (maps : Rotations) (old : List (Option DartName)) (start : ℕ) (from : List (Option DartName)) (way : List ℕ) (d : ℕ)
+    (x : DartName)
+    → IsRotationSystem maps → ((e : ℕ) → e < maps.darts → maps.face e < length from)
+    → (t : IsPartlyTurned maps old start from (way ++ d ∷ [])) → x.0 ≡ maps.twin d
     → IsPartlyTurned maps old start (set (set from (maps.face x.0) (Some x)) (maps.face d) None) way
 turning_more maps old start from way d x r below t twin =
     let more : List ℕ = way ++ d ∷ [] in
@@ -602,20 +623,24 @@ turning_more maps old start from way d x r below t twin =
       top = maps.face d;
       long = length-set (set from t.top (Some x)) (maps.face d) None ∙ length-set from t.top (Some x) ∙ t.long;
       is_way = way_less maps from start t.top way d x t.is_way;
-      finds = λ allowed root f. rerooted maps maps.face allowed (length old) t.top from d x r below (t.finds allowed root f) keeps leads twin;
+      finds = λ allowed root f. rerooted maps maps.face allowed (length old) t.top from d x r below (t.finds allowed root f) keeps leads
+          twin;
     })
 
 pub turning_done : (maps : Rotations) (old : List (Option DartName)) (start : ℕ) (from : List (Option DartName)) (way : List ℕ)
-    → IsPartlyTurned maps old start from way → way ≡ [] → (allowed : ℕ → Bool) (root : ℕ) → FindsAll maps maps.face allowed (length old) root old
+    → IsPartlyTurned maps old start from way → way ≡ [] → (allowed : ℕ → Bool) (root : ℕ)
+    → FindsAll maps maps.face allowed (length old) root old
     → FindsAll maps maps.face allowed (length old) start from
 turning_done maps old start from way t empty allowed root f =
-    subst (λ r. FindsAll maps maps.face allowed (length old) r from) (t.is_way.none (ap (λ (ds : List ℕ). length ds) empty)) (t.finds allowed root f)
+    subst (λ r. FindsAll maps maps.face allowed (length old) r from) (t.is_way.none (ap (λ (ds : List ℕ). length ds) empty))
+    (t.finds allowed root f)
 
 -- the last dart of what is left is one
 pub last_in : (maps : Rotations) (old : List (Option DartName)) (start : ℕ) (from : List (Option DartName)) (whole way : List ℕ) (d : ℕ)
     → IsPartlyTurned maps old start from whole → whole ≡ way ++ d ∷ [] → d < maps.darts
 last_in maps old start from whole way d t is =
-    let last : get_or whole (length way) 0 ≡ d = ap (λ (ds : List ℕ). get_or ds (length way) 0) is ∙ get_or_push way d 0 (length way) refl in
+    let last : get_or whole (length way) 0 ≡ d = ap (λ (ds : List ℕ). get_or ds (length way) 0) is
+    ∙ get_or_push way d 0 (length way) refl in
     let long : length whole ≡ length way + 1 = ap (λ (ds : List ℕ). length ds) is ∙ length_push way d in
     subst (λ y. y < maps.darts) last (t.is_way.within (length way) (omega (arith, long)))
 

@@ -122,12 +122,14 @@ taken_near (Some first) far near rest is =
     (taken_behind (dart_numbers far) (first.0 ∷ dart_numbers rest) (dart_numbers rest) first.0 (taken_first first.0 (dart_numbers rest))))
 
 -- the first of all leaves, where all wait for a patch of their own
-pub taken_far : (first : Option DartName) (far near all rest none : List DartName) → all ≡ far ++ near → none ≡ [] → all ≡ option_to_list first ++ rest
+pub taken_far : (first : Option DartName) (far near all rest none : List DartName) → all ≡ far ++ near → none ≡ []
+    → all ≡ option_to_list first ++ rest
     → IfSome first (λ dart. IsTaken (waiting_darts far near) (waiting_darts rest none) dart.0)
 taken_far None far near all rest none whole empty is = tt
 taken_far (Some first) far near all rest none whole empty is =
     rw empty (subst (λ ws. IsTaken ws (waiting_darts rest []) first.0) (ap dart_numbers (sym is ∙ whole))
-    (subst (λ ws. IsTaken (first.0 ∷ dart_numbers rest) ws first.0) (sym (ap dart_numbers (append-nil rest))) (taken_first first.0 (dart_numbers rest))))
+    (subst (λ ws. IsTaken (first.0 ∷ dart_numbers rest) ws first.0) (sym (ap dart_numbers (append-nil rest)))
+    (taken_first first.0 (dart_numbers rest))))
 
 -- the last of the present patch leaves
 pub taken_near_last : (last : Option DartName) (far near rest : List DartName) → near ≡ rest ++ option_to_list last
@@ -135,7 +137,8 @@ pub taken_near_last : (last : Option DartName) (far near rest : List DartName) �
 taken_near_last None far near rest is = tt
 taken_near_last (Some last) far near rest is =
     subst (λ ws. IsTaken ws (waiting_darts far rest) last.0)
-    (sym (ap (waiting_darts far) is ∙ numbers_apart far (rest ++ last ∷ []) ∙ ap (λ ws. dart_numbers far ++ ws) (map-append (λ (d : DartName). d.0) rest (last ∷ []))))
+    (sym (ap (waiting_darts far) is ∙ numbers_apart far (rest ++ last ∷ [])
+    ∙ ap (λ ws. dart_numbers far ++ ws) (map-append (λ (d : DartName). d.0) rest (last ∷ []))))
     (subst (λ ws. IsTaken (dart_numbers far ++ (dart_numbers rest ++ last.0 ∷ [])) ws last.0) (sym (numbers_apart far rest))
     (taken_behind (dart_numbers far) (dart_numbers rest ++ last.0 ∷ []) (dart_numbers rest) last.0 (taken_last last.0 (dart_numbers rest))))
 
@@ -148,24 +151,29 @@ taken_far_last (Some last) far near same rest stays is =
     (sym (numbers_apart (rest ++ last ∷ []) same ∙ ap (λ ws. ws ++ dart_numbers same) (map-append (λ (d : DartName). d.0) rest (last ∷ [])))
     ∙ ap (λ ws. waiting_darts ws same) (sym is) ∙ ap (waiting_darts far) (sym (stays ∙ append-nil same)))
     (subst (λ ws. IsTaken ((dart_numbers rest ++ last.0 ∷ []) ++ dart_numbers same) ws last.0) (sym (numbers_apart rest same))
-    (taken_before (dart_numbers rest ++ last.0 ∷ []) (dart_numbers rest) (dart_numbers same) last.0 (taken_last last.0 (dart_numbers rest))))
+    (taken_before (dart_numbers rest ++ last.0 ∷ []) (dart_numbers rest) (dart_numbers same) last.0
+    (taken_last last.0 (dart_numbers rest))))
 
 -- what a dart that is taken, or none, says
-pub taken : (first : Option DartName) (x : DartName) (waiting rest : List ℕ) → first ≡ Some x → IfSome first (λ dart. IsTaken waiting rest dart.0)
+pub taken : (first : Option DartName) (x : DartName) (waiting rest : List ℕ) → first ≡ Some x
+    → IfSome first (λ dart. IsTaken waiting rest dart.0)
     → IsTaken waiting rest x.0
 taken first x waiting rest is h = subst (λ (o : Option DartName). IfSome o (λ dart. IsTaken waiting rest dart.0)) is h
 
-pub none_waits : (first : Option DartName) (waiting : List ℕ) → ((x : DartName) → first ≡ Some x → ⊥) → IfNone first (waiting ≡ []) → waiting ≡ []
+pub none_waits : (first : Option DartName) (waiting : List ℕ) → ((x : DartName) → first ≡ Some x → ⊥) → IfNone first (waiting ≡ [])
+    → waiting ≡ []
 none_waits None waiting never h = h
 none_waits (Some x) waiting never h = absurd (never x refl)
 
 -- a search that is underway
-pub record IsUnderway (maps : Rotations) (node : ℕ → ℕ) (allowed : ℕ → Bool) (bound root : ℕ) (order waiting : List ℕ) (from : List (Option DartName)) : Type 0 where
+pub record IsUnderway (maps : Rotations) (node : ℕ → ℕ) (allowed : ℕ → Bool) (bound root : ℕ) (order waiting : List ℕ)
+    (from : List (Option DartName)) : Type 0 where
   pub is_order : IsOrder maps node allowed bound root order from
   pub known : (x : ℕ) → IsAmong waiting x → IsAmong order x
   pub either : (j : ℕ) → j < length order → IsCrossed maps node allowed order (node (get_or order j 0)) ⊎ IsAmong waiting (get_or order j 0)
 
-pub underway_start : (maps : Rotations) (node : ℕ → ℕ) (allowed : ℕ → Bool) (bound root start : ℕ) (order waiting : List ℕ) (from : List (Option DartName))
+pub underway_start : (maps : Rotations) (node : ℕ → ℕ) (allowed : ℕ → Bool) (bound root start : ℕ) (order waiting : List ℕ)
+    (from : List (Option DartName))
     → IsOrder maps node allowed bound root order from → order ≡ start ∷ [] → waiting ≡ start ∷ []
     → IsUnderway maps node allowed bound root order waiting from
 underway_start maps node allowed bound root start order waiting from h one waits =
@@ -177,26 +185,31 @@ underway_start maps node allowed bound root start order waiting from h one waits
     }
 
 -- the dart that is taken is one, of a node that was found
-pub taken_dart : (maps : Rotations) (node : ℕ → ℕ) (allowed : ℕ → Bool) (bound root : ℕ) (order waiting rest : List ℕ) (from : List (Option DartName)) (x : ℕ)
+pub taken_dart : (maps : Rotations) (node : ℕ → ℕ) (allowed : ℕ → Bool) (bound root : ℕ) (order waiting rest : List ℕ)
+    (from : List (Option DartName)) (x : ℕ)
     → IsUnderway maps node allowed bound root order waiting from → IsTaken waiting rest x → x < maps.darts
 taken_dart maps node allowed bound root order waiting rest from x h t =
     let among : IsAmong order x = h.known x t.stood in
     subst (λ d. d < maps.darts) among.is (h.is_order.within among.place among.within)
 
-pub taken_found : (maps : Rotations) (node : ℕ → ℕ) (allowed : ℕ → Bool) (bound root : ℕ) (order waiting rest : List ℕ) (from : List (Option DartName)) (x : ℕ)
+pub taken_found : (maps : Rotations) (node : ℕ → ℕ) (allowed : ℕ → Bool) (bound root : ℕ) (order waiting rest : List ℕ)
+    (from : List (Option DartName)) (x : ℕ)
     → IsUnderway maps node allowed bound root order waiting from → IsTaken waiting rest x → IsFound node order (node x)
 taken_found maps node allowed bound root order waiting rest from x h t =
     let among : IsAmong order x = h.known x t.stood in
     record { place = among.place; within = among.within; is = ap node among.is }
 
 -- one more node is crossed
-pub underway_more : (maps : Rotations) (node : ℕ → ℕ) (allowed : ℕ → Bool) (bound root : ℕ) (order waiting rest new more : List ℕ) (from kept : List (Option DartName)) (x : ℕ)
+pub underway_more : (maps : Rotations) (node : ℕ → ℕ) (allowed : ℕ → Bool) (bound root : ℕ) (order waiting rest new more : List ℕ)
+    (from kept : List (Option DartName)) (x : ℕ)
     → IsUnderway maps node allowed bound root order waiting from → IsTaken waiting rest x → IsOrder maps node allowed bound root new kept
     → AreAdded order rest new more → IsCrossed maps node allowed new (node x) → IsUnderway maps node allowed bound root new more kept
 underway_more maps node allowed bound root order waiting rest new more from kept x h t is adds crossed =
     let goes : GoesOn order new = added_goes order rest new more adds in
-    let on : (y : ℕ) → IsAmong order y → IsAmong new y = λ y among. subst (λ ts. IsAmong ts y) (sym adds.order) (among_left order adds.added y among) in
-    let waits_on : (y : ℕ) → IsAmong rest y → IsAmong more y = λ y among. subst (λ ts. IsAmong ts y) (sym adds.waits) (among_left rest adds.added y among) in
+    let on : (y : ℕ) → IsAmong order y → IsAmong new y =
+    λ y among. subst (λ ts. IsAmong ts y) (sym adds.order) (among_left order adds.added y among) in
+    let waits_on : (y : ℕ) → IsAmong rest y → IsAmong more y =
+    λ y among. subst (λ ts. IsAmong ts y) (sym adds.waits) (among_left rest adds.added y among) in
     record {
       is_order = is;
       known = λ y among. elim (among_parts rest adds.added y (subst (λ ts. IsAmong ts y) adds.waits among)) [
@@ -218,12 +231,14 @@ underway_more maps node allowed bound root order waiting rest new more from kept
             (let behind : IsAmong adds.added (get_or (order ++ adds.added) j 0) =
             among_behind order adds.added j late (subst (λ (ts : List ℕ). j < length ts) adds.order l) in
             inr (subst (λ ts. IsAmong ts (get_or new j 0)) (sym adds.waits)
-            (among_right rest adds.added (get_or new j 0) (subst (λ (ts : List ℕ). IsAmong adds.added (get_or ts j 0)) (sym adds.order) behind))))
+            (among_right rest adds.added (get_or new j 0) (subst (λ (ts : List ℕ). IsAmong adds.added (get_or ts j 0)) (sym adds.order)
+            behind))))
       ];
     }
 
 -- where none waits, the search is done
-pub underway_done : (maps : Rotations) (node : ℕ → ℕ) (allowed : ℕ → Bool) (bound root : ℕ) (order waiting : List ℕ) (from : List (Option DartName))
+pub underway_done : (maps : Rotations) (node : ℕ → ℕ) (allowed : ℕ → Bool) (bound root : ℕ) (order waiting : List ℕ)
+    (from : List (Option DartName))
     → IsUnderway maps node allowed bound root order waiting from → waiting ≡ [] → IsSearched maps node allowed bound root from
 underway_done maps node allowed bound root order waiting from h none =
     record {

@@ -17,14 +17,17 @@ abbrev state-of : List ℕ → ℕ → HyperState
 state-of w n = record { word = w; number = n }
 
 -- the steps of a put lead on
-pub puts-lead : (places : List ℕ) (s : HyperState) (i : ℕ) → BelongsTo places s → LeadOn places s i (put_steps (length places) (reverse s.word) (turn_to places s i))
+pub puts-lead : (places : List ℕ) (s : HyperState) (i : ℕ) → BelongsTo places s
+    → LeadOn places s i (put_steps (length places) (reverse s.word) (turn_to places s i))
 puts-lead places s i b =
     let d = length places in
     let t = turn_to places s i in
     let good = good_word places s b in
     let front : (w : List ℕ) → IsNextBelow d w →
-    after_steps d (put_steps d (reverse s.word) t) (s.word ++ (t ∷ w)) ≡ Some (reverse (put d (reverse s.word) t).word ++ next_changed d (put d (reverse s.word) t).change w)
-    = λ w below. ap (λ u. after_steps d (put_steps d (reverse s.word) t) (u ++ (t ∷ w))) (sym (reverse-reverse s.word)) ∙ put-reached d b.own.five (reverse s.word) t w good below in
+    after_steps d (put_steps d (reverse s.word) t) (s.word ++ (t ∷ w)) ≡ Some (reverse (put d (reverse s.word) t).word
+    ++ next_changed d (put d (reverse s.word) t).change w)
+    = λ w below. ap (λ u. after_steps d (put_steps d (reverse s.word) t) (u ++ (t ∷ w))) (sym (reverse-reverse s.word))
+    ∙ put-reached d b.own.five (reverse s.word) t w good below in
     record {
       alone = front [] tt ∙ ap Some (append-nil _);
       in_front = λ turn turns below. front (turn ∷ turns) below;
@@ -36,7 +39,8 @@ notes-put places s i t o p b turn e =
     tells-steps (LeadOn places s i) o p (put_steps (length places) (reverse s.word) (turn_to places s i))
     (e ∙ ap (λ u. with_steps o (put_steps (length places) (reverse s.word) u)) turn) (puts-lead places s i b)
 
-pub change-below : (places : List ℕ) (s : HyperState) (i t : ℕ) → BelongsTo places s → i < length places → t ≡ turn_to places s i → (put (length places) (reverse s.word) t).change < length places
+pub change-below : (places : List ℕ) (s : HyperState) (i t : ℕ) → BelongsTo places s → i < length places → t ≡ turn_to places s i
+    → (put (length places) (reverse s.word) t).change < length places
 change-below places s i t b below turn =
     let turn_fits = turn_below places s i b below in
     (put-good (length places) b.own.five (reverse s.word) t (good_word places s b) (omega arith)).1
@@ -52,7 +56,8 @@ state-next places s i t new change number turn left is e =
     let changed : change ≡ p.change = is ∙ ap (λ u. (put d (reverse s.word) u).change) turn in
     ap₂ state-of word (e ∙ ap₂ (λ w n. add d (value_at places w i) (minus d n)) word changed)
 
-pub belongs-next : (places : List ℕ) (s : HyperState) (i t : ℕ) (new : List ℕ) (change number : ℕ) → BelongsTo places s → i < length places → t ≡ turn_to places s i →
+pub belongs-next : (places : List ℕ) (s : HyperState) (i t : ℕ) (new : List ℕ) (change number : ℕ) → BelongsTo places s
+    → i < length places → t ≡ turn_to places s i →
     reverse new ≡ (put (length places) (reverse s.word) t).word → change ≡ (put (length places) (reverse s.word) t).change →
     number ≡ add (length places) (value_at places new i) (minus (length places) change) → BelongsTo places (state-of new number)
 belongs-next places s i t new change number b below turn left is e =

@@ -77,7 +77,8 @@ module _ (d : ℕ) (five : 5 ≤ d) where
 
   -- a rule that is undone is undone one place later
   undone-later : (rule : List ℕ → Option (List ℕ)) (backs : ℕ → List ℕ → Option (List ℕ)) (at : ℕ) →
-      IsUndone d (from_place at rule) (λ k. from_place at (backs k)) → IsUndone d (from_place (suc at) rule) (λ k. from_place (suc at) (backs k))
+      IsUndone d (from_place at rule) (λ k. from_place at (backs k))
+      → IsUndone d (from_place (suc at) rule) (λ k. from_place (suc at) (backs k))
   undone-later rule backs at h [] v s e = absurd cc
   undone-later rule backs at h (x ∷ w) v s e = go (from_place at rule w) refl
     where
@@ -98,7 +99,8 @@ module _ (d : ℕ) (five : 5 ≤ d) where
   step-back : (step : Step) (w v : List ℕ) → InRange d w → after_step d step w ≡ Some v → (back : Step) × (after_step d back v ≡ Some w)
   step-back (SpurIn at first) w v s e =
       let back = undone-from_place (spur_in d first) (λ k. spur_out d) (undone-spur_in first) at w v s e in (SpurOut at, back.1)
-  step-back (SpurOut at) w v s e = let back = undone-from_place (spur_out d) (spur_in d) undone-spur_out at w v s e in (SpurIn at back.0, back.1)
+  step-back (SpurOut at) w v s e = let back = undone-from_place (spur_out d) (spur_in d) undone-spur_out at w v s e in
+      (SpurIn at back.0, back.1)
   step-back (Push at true) w v s e =
       let back = undone-from_place (pushed d true) (λ k. pushed d false) undone-up at w v s e in (Push at false, back.1)
   step-back (Push at false) w v s e =

@@ -16,7 +16,8 @@ pub record Filling (places : List ℕ) (i : ℕ) (spokes : List ℕ) (twice : �
   pub as_long : length spokes ≡ length places
   pub within : twice ≤ length places
   pub small : (k : ℕ) → k < length places → get_or spokes k 0 ≤ length places
-  pub back : (k : ℕ) → k < length places → get_or spokes k 0 < length places → (get_or spokes k 0 < i) × (get_or places (get_or spokes k 0) 0 ≡ k)
+  pub back : (k : ℕ) → k < length places → get_or spokes k 0 < length places → (get_or spokes k 0 < i)
+      × (get_or places (get_or spokes k 0) 0 ≡ k)
   pub seen : (j : ℕ) → j < i → get_or spokes (get_or places j 0) 0 < length places
   pub stands : twice < length places → StandsTwice places twice
   pub least : (a b : ℕ) → a < b → b < i → get_or places a 0 ≡ get_or places b 0 → twice ≤ get_or places a 0
@@ -57,7 +58,8 @@ module _ (places : List ℕ) (inside : IsInside places) where
               let here : get_or (set spokes p i) (get_or places j 0) 0 ≡ i = ap (λ n. get_or (set spokes p i) n 0) e ∙ same in
               omega arith
           | inr ne ↦
-              let there : get_or (set spokes p i) (get_or places j 0) 0 ≡ get_or spokes (get_or places j 0) 0 = get_or-set_other spokes p (get_or places j 0) i 0 ne in
+              let there : get_or (set spokes p i) (get_or places j 0) 0 ≡ get_or spokes (get_or places j 0) 0 =
+              get_or-set_other spokes p (get_or places j 0) i 0 ne in
               let earlier : j ≢ i = λ e. ne (ap (λ n. get_or places n 0) e) in
               let old = f.seen j (omega arith) in
               omega arith
@@ -68,12 +70,14 @@ module _ (places : List ℕ) (inside : IsInside places) where
           | inr new ↦
               let is : b ≡ i = omega arith in
               let seen = f.seen a (omega arith) in
-              let there : get_or spokes (get_or places a 0) 0 ≡ get_or spokes p 0 = ap (λ n. get_or spokes n 0) (e ∙ ap (λ n. get_or places n 0) is) in
+              let there : get_or spokes (get_or places a 0) 0 ≡ get_or spokes p 0 =
+              ap (λ n. get_or spokes n 0) (e ∙ ap (λ n. get_or places n 0) is) in
               absurd (omega arith)
         ];
         count = λ none. (
             let sums = sum_by-set (filled (length places)) spokes p i 0 p_in in
-            let was : filled (length places) (get_or spokes p 0) ≡ 0 = ap (λ b. cond b 1 0) (le-ltb (get_or spokes p 0) (length places) empty) in
+            let was : filled (length places) (get_or spokes p 0) ≡ 0 =
+            ap (λ b. cond b 1 0) (le-ltb (get_or spokes p 0) (length places) empty) in
             let now : filled (length places) i ≡ 1 = ap (λ b. cond b 1 0) (lt-ltb i (length places) lt) in
             let old = f.count none in
             omega arith
@@ -96,7 +100,8 @@ module _ (places : List ℕ) (inside : IsInside places) where
 
   -- the next place, and the least that stands twice
   filling-next : (i : ℕ) (spokes : List ℕ) (twice now : ℕ) → i < length places → Filling places i spokes twice →
-      get_or spokes (get_or places i 0) 0 < length places → now ≤ twice → now ≤ get_or places i 0 → now < length places → StandsTwice places now →
+      get_or spokes (get_or places i 0) 0 < length places → now ≤ twice → now ≤ get_or places i 0 → now < length places
+      → StandsTwice places now →
       Filling places (i + 1) spokes now
   filling-next i spokes twice now lt f full le le_place within stands =
       record {
@@ -108,7 +113,8 @@ module _ (places : List ℕ) (inside : IsInside places) where
           | inl old ↦ f.seen j old
           | inr new ↦
               let is : j ≡ i = omega arith in
-              let there : get_or spokes (get_or places j 0) 0 ≡ get_or spokes (get_or places i 0) 0 = ap (λ n. get_or spokes (get_or places n 0) 0) is in
+              let there : get_or spokes (get_or places j 0) 0 ≡ get_or spokes (get_or places i 0) 0 =
+              ap (λ n. get_or spokes (get_or places n 0) 0) is in
               omega arith
         ];
         stands = λ _. stands;
@@ -124,7 +130,8 @@ module _ (places : List ℕ) (inside : IsInside places) where
   pub filling-twice : (i : ℕ) (spokes : List ℕ) (twice : ℕ) → i < length places → Filling places i spokes twice →
       get_or spokes (get_or places i 0) 0 < length places → get_or places i 0 < twice → Filling places (i + 1) spokes (get_or places i 0)
   filling-twice i spokes twice lt f full lower =
-      filling-next i spokes twice (get_or places i 0) lt f full (omega arith) (omega arith) (inside i lt) (stands-now i spokes twice lt f full)
+      filling-next i spokes twice (get_or places i 0) lt f full (omega arith) (omega arith) (inside i lt)
+      (stands-now i spokes twice lt f full)
 
   pub filling-same : (i : ℕ) (spokes : List ℕ) (twice : ℕ) → i < length places → Filling places i spokes twice →
       get_or spokes (get_or places i 0) 0 < length places → twice ≤ get_or places i 0 → Filling places (i + 1) spokes twice
@@ -134,7 +141,8 @@ module _ (places : List ℕ) (inside : IsInside places) where
       filling-next i spokes twice twice lt f full (omega arith) higher within (f.stands within)
 
   -- the least place that stands twice was found
-  pub filled-twice : (spokes : List ℕ) (twice : ℕ) → Filling places (length places) spokes twice → twice < length places → IsFirstTwice places twice
+  pub filled-twice : (spokes : List ℕ) (twice : ℕ) → Filling places (length places) spokes twice → twice < length places
+      → IsFirstTwice places twice
   filled-twice spokes twice f lower = record {
     twice = f.stands lower;
     first = λ less less_below stands. (
@@ -162,10 +170,12 @@ module _ (places : List ℕ) (inside : IsInside places) where
         let none : filled n x ≡ 0 = ap (λ b. cond b 1 0) (le-ltb x n above) in
         absurd (omega (arith, sum-le n xs, sum_by-cons (filled n) x xs))
   ]
-  all-filled n (x ∷ xs) e (suc k) lt = all-filled n xs (omega (arith, filled-le n x, sum-le n xs, sum_by-cons (filled n) x xs)) k (omega arith)
+  all-filled n (x ∷ xs) e (suc k) lt = all-filled n xs (omega (arith, filled-le n x, sum-le n xs, sum_by-cons (filled n) x xs)) k
+      (omega arith)
 
   -- no place stands twice: this is a wheel, and each place has its spoke
-  pub filled-inverse : (spokes : List ℕ) (twice : ℕ) → Filling places (length places) spokes twice → length places ≤ twice → IsInverse places spokes
+  pub filled-inverse : (spokes : List ℕ) (twice : ℕ) → Filling places (length places) spokes twice → length places ≤ twice
+      → IsInverse places spokes
   filled-inverse spokes twice f none =
       let within = f.within in
       let counted : sum_by (filled (length places)) spokes ≡ length spokes = f.count (omega arith) ∙ sym f.as_long in
@@ -188,7 +198,9 @@ module _ (places : List ℕ) (inside : IsInside places) where
     ];
   }
 
-  pub filling-start : (spokes : List ℕ) → length spokes ≡ length places → ((k : ℕ) → k < length places → get_or spokes k 0 ≡ length places) → sum_by (filled (length places)) spokes ≡ 0 → Filling places 0 spokes (length places)
+  pub filling-start : (spokes : List ℕ) → length spokes ≡ length places
+      → ((k : ℕ) → k < length places → get_or spokes k 0 ≡ length places) → sum_by (filled (length places)) spokes ≡ 0
+      → Filling places 0 spokes (length places)
   filling-start spokes as_long each none = record {
     as_long = as_long;
     within = omega arith;

@@ -63,6 +63,11 @@ reduced-free d (t ∷ turns) f = (
 
 pub by_places : (d : ℕ) (word : List ℕ) → IsCanonical d word ↔ StandsNowhere d word
 by_places d word = (
-  (λ c. let f = free-reduced d (turns_of word) c.reduced in record { in_range = c.in_range; no_spur = f.no_spur; no_minus = f.no_minus; no_bracket = f.no_bracket }),
-  (λ s. record { in_range = s.in_range; reduced = reduced-free d (turns_of word) (record { no_spur = s.no_spur; no_minus = s.no_minus; no_bracket = s.no_bracket }) }),
+  (λ c. let f = free-reduced d (turns_of word) c.reduced in record
+      { in_range = c.in_range; no_spur = f.no_spur; no_minus = f.no_minus; no_bracket = f.no_bracket }),
+  (λ s. record {
+    in_range = s.in_range;
+    reduced = reduced-free d (turns_of word)
+        (record { no_spur = s.no_spur; no_minus = s.no_minus; no_bracket = s.no_bracket });
+  }),
 )

@@ -18,7 +18,8 @@ use Rattle.turn_words.specs.Lemmas.Across.{two-up, one-one, one-minus, two-down,
 use Rattle.turn_words.proofs.Reading.{read, IsSound, Keeps, state, put-sound, keeps-step}
 
 -- a rule at the place behind a front changes what comes there
-from_place-append : (rule : List ℕ → Option (List ℕ)) (a b : List ℕ) → from_place (length a) rule (a ++ b) ≡ option_map (λ c. a ++ c) (rule b)
+from_place-append : (rule : List ℕ → Option (List ℕ)) (a b : List ℕ)
+    → from_place (length a) rule (a ++ b) ≡ option_map (λ c. a ++ c) (rule b)
 from_place-append rule [] b = go (rule b)
   where
     go : (o : Option (List ℕ)) → o ≡ option_map (λ c. c) o
@@ -31,9 +32,11 @@ from_place-append rule (x ∷ a) b =
     go None = refl
     go (Some c) = refl
 
-at_end : (rule : List ℕ → Option (List ℕ)) (r w v : List ℕ) → rule w ≡ Some v → from_place (length r) rule (reverse r ++ w) ≡ Some (reverse r ++ v)
+at_end : (rule : List ℕ → Option (List ℕ)) (r w v : List ℕ) → rule w ≡ Some v
+    → from_place (length r) rule (reverse r ++ w) ≡ Some (reverse r ++ v)
 at_end rule r w v e =
-    ap (λ n. from_place n rule (reverse r ++ w)) (sym (length-reverse r)) ∙ from_place-append rule (reverse r) w ∙ ap (option_map (λ c. reverse r ++ c)) e
+    ap (λ n. from_place n rule (reverse r ++ w)) (sym (length-reverse r)) ∙ from_place-append rule (reverse r) w
+    ∙ ap (option_map (λ c. reverse r ++ c)) e
 
 -- one list of steps after another
 after-next : (d : ℕ) (a b : List Step) (v : List ℕ) (o : Option (List ℕ)) →
@@ -42,7 +45,8 @@ after-next : (d : ℕ) (a b : List Step) (v : List ℕ) (o : Option (List ℕ)) 
 after-next d a b v None h e = absurd cc
 after-next d a b v (Some u) h e = h u e
 
-pub after_steps-append : (d : ℕ) (a b : List Step) (w v : List ℕ) → after_steps d a w ≡ Some v → after_steps d (a ++ b) w ≡ after_steps d b v
+pub after_steps-append : (d : ℕ) (a b : List Step) (w v : List ℕ) → after_steps d a w ≡ Some v
+    → after_steps d (a ++ b) w ≡ after_steps d b v
 after_steps-append d [] b w v e = let same : w ≡ v = cc in ap (after_steps d b) same
 after_steps-append d (s ∷ a) b w v e = after-next d a b v (after_step d s w) (λ u f. after_steps-append d a b u v f) e
 
@@ -57,7 +61,8 @@ next-below d (y ∷ w) i = i.0
 
 module _ (d : ℕ) (five : 5 ≤ d) where
   -- a step at the end of a front, and then the others
-  step-then : (s : Step) (steps : List Step) (w u v : List ℕ) → after_step d s w ≡ Some u → after_steps d steps u ≡ Some v → after_steps d (s ∷ steps) w ≡ Some v
+  step-then : (s : Step) (steps : List Step) (w u v : List ℕ) → after_step d s w ≡ Some u → after_steps d steps u ≡ Some v
+      → after_steps d (s ∷ steps) w ≡ Some v
   step-then s steps w u v e f = ap (option_and_then (after_steps d steps)) e ∙ f
 
   push-up : (x : ℕ) (r w : List ℕ) →
@@ -67,7 +72,8 @@ module _ (d : ℕ) (five : 5 ≤ d) where
       ∙ at_end (pushed d true) r (x ∷ minus d 1 ∷ w) _ (rw (eq-eqb (minus d 1) (minus d 1) refl) refl)
 
   push-down : (x : ℕ) (r w : List ℕ) →
-      after_step d (Push (length r) false) (reverse (x ∷ r) ++ (1 ∷ w)) ≡ Some (reverse r ++ (add d x (minus d 1) ∷ minus d 1 ∷ next_changed d (minus d 1) w))
+      after_step d (Push (length r) false) (reverse (x ∷ r) ++ (1 ∷ w)) ≡ Some (reverse r
+      ++ (add d x (minus d 1) ∷ minus d 1 ∷ next_changed d (minus d 1) w))
   push-down x r w =
       ap (from_place (length r) (pushed d false)) (reverse-next x r (1 ∷ w))
       ∙ at_end (pushed d false) r (x ∷ 1 ∷ w) _ refl
@@ -79,7 +85,8 @@ module _ (d : ℕ) (five : 5 ≤ d) where
       ∙ at_end (spur_out d) r (x ∷ 0 ∷ w) _ refl
 
   -- the steps of a flip
-  flip-last : (x : ℕ) (r w : List ℕ) → after_steps d (Push (length r) true ∷ []) (reverse (x ∷ r) ++ (minus d 1 ∷ w)) ≡ Some (reverse (1 ∷ add d x 1 ∷ r) ++ next_changed d 1 w)
+  flip-last : (x : ℕ) (r w : List ℕ) → after_steps d (Push (length r) true ∷ [])
+      (reverse (x ∷ r) ++ (minus d 1 ∷ w)) ≡ Some (reverse (1 ∷ add d x 1 ∷ r) ++ next_changed d 1 w)
   flip-last x r w =
       step-then (Push (length r) true) [] (reverse (x ∷ r) ++ (minus d 1 ∷ w)) _ _ (push-up x r w)
       (ap Some (sym (reverse-next 1 (add d x 1 ∷ r) (next_changed d 1 w) ∙ reverse-next (add d x 1) r (1 ∷ next_changed d 1 w))))
@@ -89,9 +96,11 @@ module _ (d : ℕ) (five : 5 ≤ d) where
   flip-reached x [] w = flip-last x [] w
   flip-reached x (y ∷ r) w = elim (cases_eq x (minus d 2)) [
     | inl e ↦ rw (eq-eqb x (minus d 2) e) (
-        step-then (Push (length (y ∷ r)) true) (flip_steps d (y ∷ r)) (reverse (x ∷ y ∷ r) ++ (minus d 1 ∷ w)) (reverse (y ∷ r) ++ (minus d 1 ∷ 1 ∷ next_changed d 1 w)) _
+        step-then (Push (length (y ∷ r)) true) (flip_steps d (y ∷ r)) (reverse (x ∷ y ∷ r) ++ (minus d 1 ∷ w))
+        (reverse (y ∷ r) ++ (minus d 1 ∷ 1 ∷ next_changed d 1 w)) _
         (push-up x (y ∷ r) w ∙ ap (λ z. Some (reverse (y ∷ r) ++ (z ∷ 1 ∷ next_changed d 1 w))) (ap (λ n. add d n 1) e ∙ two-up d five))
-        (flip-reached y r (1 ∷ next_changed d 1 w) ∙ ap (λ z. Some (reverse (flipped d (y ∷ r)) ++ (z ∷ next_changed d 1 w))) (one-one d five)
+        (flip-reached y r (1 ∷ next_changed d 1 w) ∙ ap (λ z. Some (reverse (flipped d (y ∷ r)) ++ (z ∷ next_changed d 1 w)))
+        (one-one d five)
         ∙ ap Some (sym (reverse-next 2 (flipped d (y ∷ r)) (next_changed d 1 w))))
         )
     | inr e ↦ rw (ne_eqb x (minus d 2) e) (flip-last x (y ∷ r) w)
@@ -99,12 +108,16 @@ module _ (d : ℕ) (five : 5 ≤ d) where
 
   -- the steps of a close
   close-bracket : (x : ℕ) (r w : List ℕ) → x < d →
-      after_steps d (close_steps (1 ∷ x ∷ r)) (reverse (1 ∷ x ∷ r) ++ (1 ∷ w)) ≡ Some (reverse (add d x (minus d 1) ∷ r) ++ next_changed d (minus d 1) w)
+      after_steps d (close_steps (1 ∷ x ∷ r)) (reverse (1 ∷ x ∷ r) ++ (1 ∷ w)) ≡ Some (reverse (add d x (minus d 1) ∷ r)
+      ++ next_changed d (minus d 1) w)
   close-bracket x r w h =
-      step-then (Push (length (x ∷ r)) false) (SpurOut (length r) ∷ []) (reverse (1 ∷ x ∷ r) ++ (1 ∷ w)) (reverse (x ∷ r) ++ (0 ∷ minus d 1 ∷ next_changed d (minus d 1) w)) _
+      step-then (Push (length (x ∷ r)) false) (SpurOut (length r) ∷ []) (reverse (1 ∷ x ∷ r) ++ (1 ∷ w))
+      (reverse (x ∷ r) ++ (0 ∷ minus d 1 ∷ next_changed d (minus d 1) w)) _
       (push-down 1 (x ∷ r) w ∙ ap (λ z. Some (reverse (x ∷ r) ++ (z ∷ minus d 1 ∷ next_changed d (minus d 1) w))) (one-minus d five))
-      (step-then (SpurOut (length r)) [] (reverse (x ∷ r) ++ (0 ∷ minus d 1 ∷ next_changed d (minus d 1) w)) _ _ (spur-goes x r (minus d 1 ∷ next_changed d (minus d 1) w))
-      (ap (λ z. Some (reverse r ++ (z ∷ next_changed d (minus d 1) w))) (add_comm d (minus d 1) x) ∙ ap Some (sym (reverse-next (add d x (minus d 1)) r (next_changed d (minus d 1) w)))))
+      (step-then (SpurOut (length r)) [] (reverse (x ∷ r) ++ (0 ∷ minus d 1 ∷ next_changed d (minus d 1) w)) _ _
+      (spur-goes x r (minus d 1 ∷ next_changed d (minus d 1) w))
+      (ap (λ z. Some (reverse r ++ (z ∷ next_changed d (minus d 1) w))) (add_comm d (minus d 1) x)
+      ∙ ap Some (sym (reverse-next (add d x (minus d 1)) r (next_changed d (minus d 1) w)))))
 
   close-reached : (x : ℕ) (r w : List ℕ) → IsGood d (x ∷ r) → is_open (x ∷ r) ≡ true →
       after_steps d (close_steps (x ∷ r)) (reverse (x ∷ r) ++ (1 ∷ w)) ≡ Some (reverse (closed d (x ∷ r)) ++ next_changed d (minus d 1) w)
@@ -112,9 +125,11 @@ module _ (d : ℕ) (five : 5 ≤ d) where
   close-reached x (y ∷ r) w g o = elim ((open-cases x (y ∷ r) o).1) [
     | inl one ↦ rw one (close-bracket y r w (good-head d y r g.2))
     | inr two ↦ rw two.0 (
-        step-then (Push (length (y ∷ r)) false) (close_steps (y ∷ r)) (reverse (2 ∷ y ∷ r) ++ (1 ∷ w)) (reverse (y ∷ r) ++ (1 ∷ minus d 1 ∷ next_changed d (minus d 1) w)) _
+        step-then (Push (length (y ∷ r)) false) (close_steps (y ∷ r)) (reverse (2 ∷ y ∷ r) ++ (1 ∷ w))
+        (reverse (y ∷ r) ++ (1 ∷ minus d 1 ∷ next_changed d (minus d 1) w)) _
         (push-down 2 (y ∷ r) w ∙ ap (λ z. Some (reverse (y ∷ r) ++ (z ∷ minus d 1 ∷ next_changed d (minus d 1) w))) (two-down d five))
-        (close-reached y r (minus d 1 ∷ next_changed d (minus d 1) w) g.2 two.1 ∙ ap (λ z. Some (reverse (closed d (y ∷ r)) ++ (z ∷ next_changed d (minus d 1) w))) (minus-minus d five)
+        (close-reached y r (minus d 1 ∷ next_changed d (minus d 1) w) g.2 two.1
+        ∙ ap (λ z. Some (reverse (closed d (y ∷ r)) ++ (z ∷ next_changed d (minus d 1) w))) (minus-minus d five)
         ∙ ap Some (sym (reverse-next (minus d 2) (closed d (y ∷ r)) (next_changed d (minus d 1) w))))
         )
   ]
@@ -160,7 +175,8 @@ module _ (d : ℕ) (five : 5 ≤ d) where
       let q = put d p.word (add d y p.change) in
       let later = read-reached q w (put-sound d five p y s i.0) i.1 in (
         put_steps d p.word (add d y p.change) ++ later.0,
-        after_steps-append d (put_steps d p.word (add d y p.change)) later.0 (reverse p.word ++ (add d y p.change ∷ w)) _ (put-reached p.word (add d y p.change) w s.good (next-below d w i.1)) ∙ later.1,
+        after_steps-append d (put_steps d p.word (add d y p.change)) later.0 (reverse p.word ++ (add d y p.change ∷ w)) _
+            (put-reached p.word (add d y p.change) w s.good (next-below d w i.1)) ∙ later.1,
       )
 
   keeps-next : (step : Step) (steps : List Step) (p : Put) (w v : List ℕ) → IsSound d p → InRange d w → Keeps d (after_steps d steps) →

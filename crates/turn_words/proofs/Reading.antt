@@ -83,7 +83,8 @@ module _ (d : ℕ) (five : 5 ≤ d) where
         let zero_below : 0 < d = omega arith in
         rw (← is) (
           (below, (zero_below, inner)),
-          sym (read-spur p first (next_changed d (minus d first) w) s below inner ∙ ap (λ q. (read d p q).word) (next-back first w below r)),
+          sym (read-spur p first (next_changed d (minus d first) w) s below inner
+              ∙ ap (λ q. (read d p q).word) (next-back first w below r)),
         )
     | inr above ↦ let refused = rw (le-ltb first d above) at e in absurd cc
   ]
@@ -102,7 +103,8 @@ module _ (d : ℕ) (five : 5 ≤ d) where
       let a_end = put-good d five (put d p.word t).word (add d 1 (put d p.word t).change) a_mid.0 (add-lt d 1 _ (omega arith) a_mid.1) in
       let down_below : add d t (minus d 1) < d = add-lt d t (minus d 1) t_below (omega arith) in
       let b_mid = put-good d five p.word (add d t (minus d 1)) s.good down_below in
-      let b_end = put-good d five (put d p.word (add d t (minus d 1))).word (add d (minus d 1) (put d p.word (add d t (minus d 1))).change) b_mid.0 (add-lt d (minus d 1) _ (omega arith) b_mid.1) in
+      let b_end = put-good d five (put d p.word (add d t (minus d 1))).word
+      (add d (minus d 1) (put d p.word (add d t (minus d 1))).change) b_mid.0 (add-lt d (minus d 1) _ (omega arith) b_mid.1) in
       let sums : add d t (minus d 1) ≡ add d (add d x (minus d 1)) p.change = omega (
         arith,
         s.below,

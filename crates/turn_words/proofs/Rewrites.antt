@@ -25,7 +25,8 @@ with_steps-none None = refl
 with_steps-none (Some s) = ap Some (append-nil s)
 
 -- the first of some pushes is noted
-pub pushes-next : (o p : Option (List Step)) (up : Bool) (at count : ℕ) → 0 < count → p ≡ with_steps o (Push at up ∷ []) → with_steps o (pushes up at count) ≡ with_steps p (pushes up (at - 1) (count - 1))
+pub pushes-next : (o p : Option (List Step)) (up : Bool) (at count : ℕ) → 0 < count → p ≡ with_steps o (Push at up ∷ [])
+    → with_steps o (pushes up at count) ≡ with_steps p (pushes up (at - 1) (count - 1))
 pushes-next o p up at zero h e = absurd (omega arith)
 pushes-next o p up at (suc count) h e =
     let left : count ≡ suc count - 1 = omega arith in
@@ -44,11 +45,13 @@ ends-below d v [] ends i = absurd ends
 ends-below d v (x ∷ r) ends i = i.0
 
 -- the last entry behind a run is below the degree
-pub behind-below : (d c v : ℕ) (w r : List ℕ) → All (λ entry. entry < d) w → reverse w ≡ replicate c v ++ r → EndsOtherwise v r → EndsBelow d r
+pub behind-below : (d c v : ℕ) (w r : List ℕ) → All (λ entry. entry < d) w → reverse w ≡ replicate c v ++ r → EndsOtherwise v r
+    → EndsBelow d r
 behind-below d c v w r all e ends = ends-below d v r ends (behind-in-range d c v r (rw e at (back-in-range d w all)))
 
 -- so is the one before it
-pub before-below : (d c v y : ℕ) (w r rest : List ℕ) → All (λ entry. entry < d) w → reverse w ≡ replicate c v ++ r → r ≡ y ∷ rest → IsCons rest → EndsBelow d rest
+pub before-below : (d c v y : ℕ) (w r rest : List ℕ) → All (λ entry. entry < d) w → reverse w ≡ replicate c v ++ r → r ≡ y ∷ rest
+    → IsCons rest → EndsBelow d rest
 before-below d c v y w r rest all e split cons =
     let range : InRange d (y ∷ rest) = rw split at (behind-in-range d c v r (rw e at (back-in-range d w all))) in
     go rest cons range.1
@@ -85,14 +88,16 @@ changed-some d by (x ∷ w) v e c = let long = length-reverse v in let some = ap
 
 -- what a flip and a close make of a word
 module _ (d : ℕ) (five : 5 ≤ d) where
-  pub flip-written : (k : ℕ) (w0 r1 r2 r3 r4 : List ℕ) → w0 ≡ replicate k (minus d 2) ++ r1 → EndsOtherwise (minus d 2) r1 → r2 ≡ last_changed d 1 r1 →
+  pub flip-written : (k : ℕ) (w0 r1 r2 r3 r4 : List ℕ) → w0 ≡ replicate k (minus d 2) ++ r1 → EndsOtherwise (minus d 2) r1
+      → r2 ≡ last_changed d 1 r1 →
       r3 ≡ replicate 1 1 ++ r2 → r4 ≡ replicate k 2 ++ r3 → r4 ≡ flipped d w0
   flip-written k w0 [] r2 r3 r4 start ends changed one twos = absurd ends
   flip-written k w0 (x ∷ r) r2 r3 r4 start ends changed one twos =
       twos ∙ ap (λ z. replicate k 2 ++ z) (one ∙ ap (λ z. 1 ∷ z) changed)
       ∙ sym (ap (flipped d) start ∙ flipped-table d five k x r (ends-whole (minus d 2) x r ends))
 
-  flip-steps : (k x : ℕ) (r : List ℕ) → (r ≢ [] → x ≢ minus d 2) → flip_steps d (replicate k (minus d 2) ++ x ∷ r) ≡ pushes true (k + length r) (suc k)
+  flip-steps : (k x : ℕ) (r : List ℕ) → (r ≢ [] → x ≢ minus d 2)
+      → flip_steps d (replicate k (minus d 2) ++ x ∷ r) ≡ pushes true (k + length r) (suc k)
   flip-steps zero x [] h = refl
   flip-steps zero x (y ∷ r) h =
       let zero_more : length (y ∷ r) ≡ 0 + length (y ∷ r) = omega arith in
@@ -100,7 +105,8 @@ module _ (d : ℕ) (five : 5 ≤ d) where
       rw (ne_eqb x (minus d 2) other) (ap (λ n. Push n true ∷ []) zero_more)
   flip-steps (suc k) x r h =
       let rest = replicate k (minus d 2) ++ x ∷ r in
-      let long : length rest ≡ suc k + length r = length-behind k (minus d 2) x r ∙ (let q : k + (length r + 1) ≡ suc k + length r = omega arith in q) in
+      let long : length rest ≡ suc k + length r = length-behind k (minus d 2) x r
+      ∙ (let q : k + (length r + 1) ≡ suc k + length r = omega arith in q) in
       let down : k + length r ≡ suc k + length r - 1 = omega arith in
       flip-first rest (cons-behind k (minus d 2) (x ∷ r) tt)
       ∙ ap₂ (λ n z. Push n true ∷ z) long (flip-steps k x r h ∙ ap (λ n. pushes true n (suc k)) down)
@@ -109,7 +115,8 @@ module _ (d : ℕ) (five : 5 ≤ d) where
       flip-first [] c = absurd c
       flip-first (y ∷ l) c = rw (eq-eqb (minus d 2) (minus d 2) refl) refl
 
-  pub flip-noted : (k n : ℕ) (w0 r1 : List ℕ) → w0 ≡ replicate k (minus d 2) ++ r1 → EndsOtherwise (minus d 2) r1 → n ≡ length w0 → pushes true (n - 1) (k + 1) ≡ flip_steps d w0
+  pub flip-noted : (k n : ℕ) (w0 r1 : List ℕ) → w0 ≡ replicate k (minus d 2) ++ r1 → EndsOtherwise (minus d 2) r1 → n ≡ length w0
+      → pushes true (n - 1) (k + 1) ≡ flip_steps d w0
   flip-noted k n w0 [] start ends long = absurd ends
   flip-noted k n w0 (x ∷ r) start ends long =
       let all = ap length start ∙ length-behind k (minus d 2) x r in
@@ -122,10 +129,12 @@ module _ (d : ℕ) (five : 5 ≤ d) where
   open-behind zero r c = refl
   open-behind (suc k) r c = open-two (replicate k 2 ++ r) (cons-behind k 2 r c) ∙ open-behind k r c
 
-  pub open-ends : (k y : ℕ) (w0 r1 rest : List ℕ) → w0 ≡ replicate k 2 ++ r1 → EndsOtherwise 2 r1 → is_open w0 ≡ true → r1 ≡ y ∷ rest → (y ≡ 1) × IsCons rest
+  pub open-ends : (k y : ℕ) (w0 r1 rest : List ℕ) → w0 ≡ replicate k 2 ++ r1 → EndsOtherwise 2 r1 → is_open w0 ≡ true → r1 ≡ y ∷ rest
+      → (y ≡ 1) × IsCons rest
   open-ends k y w0 r1 rest start ends opened split =
       let ends_now : EndsOtherwise 2 (y ∷ rest) = rw split at ends in
-      let still : is_open (y ∷ rest) ≡ true = sym (ap is_open (start ∙ ap (λ z. replicate k 2 ++ z) split) ∙ open-behind k (y ∷ rest) tt) ∙ opened in
+      let still : is_open (y ∷ rest) ≡ true = sym (ap is_open (start ∙ ap (λ z. replicate k 2 ++ z) split)
+      ∙ open-behind k (y ∷ rest) tt) ∙ opened in
       let cases = open-cases y rest still in
       elim cases.1 [
         | inl one ↦ (one, cases.0)
@@ -136,17 +145,21 @@ module _ (d : ℕ) (five : 5 ≤ d) where
       go [] c e two = c
       go (x ∷ l) c e two = e two
 
-  pub close-written : (k y : ℕ) (w0 r1 r2 r3 r4 : List ℕ) → w0 ≡ replicate k 2 ++ r1 → EndsOtherwise 2 r1 → is_open w0 ≡ true → r1 ≡ y ∷ r2 →
+  pub close-written : (k y : ℕ) (w0 r1 r2 r3 r4 : List ℕ) → w0 ≡ replicate k 2 ++ r1 → EndsOtherwise 2 r1 → is_open w0 ≡ true
+      → r1 ≡ y ∷ r2 →
       r3 ≡ last_changed d (minus d 1) r2 → r4 ≡ replicate k (minus d 2) ++ r3 → r4 ≡ closed d w0
   close-written k y w0 r1 r2 r3 r4 start ends opened split changed twos =
       let one = open-ends k y w0 r1 r2 start ends opened split in
-      go r2 one.1 (start ∙ ap (λ z. replicate k 2 ++ z) (split ∙ ap (λ n. n ∷ r2) one.0)) (twos ∙ ap (λ z. replicate k (minus d 2) ++ z) changed)
+      go r2 one.1 (start ∙ ap (λ z. replicate k 2 ++ z) (split ∙ ap (λ n. n ∷ r2) one.0))
+      (twos ∙ ap (λ z. replicate k (minus d 2) ++ z) changed)
     where
-      go : (l : List ℕ) → IsCons l → w0 ≡ replicate k 2 ++ 1 ∷ l → r4 ≡ replicate k (minus d 2) ++ last_changed d (minus d 1) l → r4 ≡ closed d w0
+      go : (l : List ℕ) → IsCons l → w0 ≡ replicate k 2 ++ 1 ∷ l → r4 ≡ replicate k (minus d 2) ++ last_changed d (minus d 1) l
+          → r4 ≡ closed d w0
       go [] c e f = absurd c
       go (x ∷ l) c e f = f ∙ sym (ap (closed d) e ∙ closed-table d five k x l)
 
-  close-steps : (k x : ℕ) (r : List ℕ) → close_steps (replicate k 2 ++ 1 ∷ x ∷ r) ≡ pushes false (k + (length r + 1)) (suc k) ++ SpurOut (length r) ∷ []
+  close-steps : (k x : ℕ) (r : List ℕ) → close_steps (replicate k 2 ++ 1 ∷ x ∷ r) ≡ pushes false (k + (length r + 1)) (suc k)
+      ++ SpurOut (length r) ∷ []
   close-steps zero x r =
       let first : length (x ∷ r) ≡ 0 + (length r + 1) = omega arith in
       ap (λ n. Push n false ∷ SpurOut (length r) ∷ []) first
@@ -164,13 +177,15 @@ module _ (d : ℕ) (five : 5 ≤ d) where
       close-first (y ∷ l) c = refl
 
   -- how long an open word is, and the steps of its close
-  pub close-noted : (k y n : ℕ) (w0 r1 r2 : List ℕ) → w0 ≡ replicate k 2 ++ r1 → EndsOtherwise 2 r1 → is_open w0 ≡ true → r1 ≡ y ∷ r2 → n ≡ length w0 →
+  pub close-noted : (k y n : ℕ) (w0 r1 r2 : List ℕ) → w0 ≡ replicate k 2 ++ r1 → EndsOtherwise 2 r1 → is_open w0 ≡ true → r1 ≡ y ∷ r2
+      → n ≡ length w0 →
       (k + 2 ≤ n) × (pushes false (n - 1) (k + 1) ++ SpurOut (n - 2 - k) ∷ [] ≡ close_steps w0)
   close-noted k y n w0 r1 r2 start ends opened split long =
       let one = open-ends k y w0 r1 r2 start ends opened split in
       go r2 one.1 (start ∙ ap (λ z. replicate k 2 ++ z) (split ∙ ap (λ n. n ∷ r2) one.0))
     where
-      go : (l : List ℕ) → IsCons l → w0 ≡ replicate k 2 ++ 1 ∷ l → (k + 2 ≤ n) × (pushes false (n - 1) (k + 1) ++ SpurOut (n - 2 - k) ∷ [] ≡ close_steps w0)
+      go : (l : List ℕ) → IsCons l → w0 ≡ replicate k 2 ++ 1 ∷ l → (k + 2 ≤ n)
+          × (pushes false (n - 1) (k + 1) ++ SpurOut (n - 2 - k) ∷ [] ≡ close_steps w0)
       go [] c e = absurd c
       go (x ∷ l) c e =
           let all = ap length e ∙ length-behind k 2 1 (x ∷ l) in

@@ -11,7 +11,8 @@ use Rattle.turn_words.specs.Lemmas.Word_ends.{IsCons}
 pub reverse-replicate : (n x : ℕ) → reverse (replicate n x) ≡ replicate n x
 reverse-replicate zero x = refl
 reverse-replicate (suc n) x =
-    reverse-append (x ∷ []) (replicate n x) ∙ ap (λ z. z ++ (x ∷ [])) (reverse-replicate n x) ∙ replicate_more n x ∙ ap (λ m. replicate m x) (let e : n + 1 ≡ suc n = omega arith in e)
+    reverse-append (x ∷ []) (replicate n x) ∙ ap (λ z. z ++ (x ∷ [])) (reverse-replicate n x) ∙ replicate_more n x
+    ∙ ap (λ m. replicate m x) (let e : n + 1 ≡ suc n = omega arith in e)
 
 pub replicate-first : (n x : ℕ) → 0 < n → replicate n x ≡ x ∷ replicate (n - 1) x
 replicate-first zero x h = absurd (omega arith)
@@ -23,7 +24,8 @@ cons-behind (suc n) x r c = tt
 
 pub written-append : (rs ss : List (ℕ × ℕ)) → written (rs ++ ss) ≡ written rs ++ written ss
 written-append [] ss = refl
-written-append (r ∷ rs) ss = ap (λ z. replicate r.1 r.0 ++ z) (written-append rs ss) ∙ sym (append_assoc (replicate r.1 r.0) (written rs) (written ss))
+written-append (r ∷ rs) ss = ap (λ z. replicate r.1 r.0 ++ z) (written-append rs ss)
+    ∙ sym (append_assoc (replicate r.1 r.0) (written rs) (written ss))
 
 -- a run on top, written out
 pub written-push : (rs : List (ℕ × ℕ)) (r : ℕ × ℕ) → written (rs ++ r ∷ []) ≡ written rs ++ replicate r.1 r.0
@@ -43,7 +45,8 @@ filled-front [] r f = (tt, f.0)
 filled-front (s ∷ rs) r f = let rest = filled-front rs r f.1 in ((f.0, rest.0), rest.1)
 
 -- the run on top, if there is one, is taken off
-pub popped-filled : (o : Option (ℕ × ℕ)) (old new : List (ℕ × ℕ)) → old ≡ new ++ option_to_list o → AreFilled old → AreFilled new × IfSome o (λ run. 0 < run.1)
+pub popped-filled : (o : Option (ℕ × ℕ)) (old new : List (ℕ × ℕ)) → old ≡ new ++ option_to_list o → AreFilled old → AreFilled new
+    × IfSome o (λ run. 0 < run.1)
 popped-filled None old new e f = let same : old ≡ new = e ∙ append-nil new in (rw same at f, tt)
 popped-filled (Some run) old new e f = let filled : AreFilled (new ++ run ∷ []) = rw e at f in filled-front new run filled
 
@@ -93,9 +96,11 @@ last-run rs h = sym (take_all (length rs - 1 + 1) rs (omega arith)) ∙ take_mor
 abbrev pub back : ℕ → List (ℕ × ℕ) → List ℕ
 back start rs = reverse (start ∷ written rs)
 
-pub back-written : (start : ℕ) (rs ss : List (ℕ × ℕ)) (v c : ℕ) → written ss ≡ written rs ++ replicate c v → back start ss ≡ replicate c v ++ back start rs
+pub back-written : (start : ℕ) (rs ss : List (ℕ × ℕ)) (v c : ℕ) → written ss ≡ written rs ++ replicate c v
+    → back start ss ≡ replicate c v ++ back start rs
 back-written start rs ss v c e =
-    ap (λ z. reverse (start ∷ z)) e ∙ reverse-append (start ∷ written rs) (replicate c v) ∙ ap (λ z. z ++ back start rs) (reverse-replicate c v)
+    ap (λ z. reverse (start ∷ z)) e ∙ reverse-append (start ∷ written rs) (replicate c v)
+    ∙ ap (λ z. z ++ back start rs) (reverse-replicate c v)
 
 pub back-push : (start : ℕ) (rs : List (ℕ × ℕ)) (r : ℕ × ℕ) → back start (rs ++ r ∷ []) ≡ replicate r.1 r.0 ++ back start rs
 back-push start rs r = back-written start rs (rs ++ r ∷ []) r.0 r.1 (written-push rs r)
@@ -108,7 +113,8 @@ back-cons start rs = cons (back start rs) (let long = length-reverse (start ∷ 
     cons (x ∷ r) h = tt
 
 -- the last entry of a run on top, and what is before it
-pub back-first : (start : ℕ) (rs : List (ℕ × ℕ)) (r : ℕ × ℕ) → 0 < r.1 → back start (rs ++ r ∷ []) ≡ r.0 ∷ replicate (r.1 - 1) r.0 ++ back start rs
+pub back-first : (start : ℕ) (rs : List (ℕ × ℕ)) (r : ℕ × ℕ) → 0 < r.1 → back start (rs ++ r ∷ []) ≡ r.0 ∷ replicate (r.1 - 1) r.0
+    ++ back start rs
 back-first start rs r h = back-push start rs r ∙ ap (λ z. z ++ back start rs) (replicate-first r.1 r.0 h)
 
 ends-cons : (v x : ℕ) (r : List ℕ) → IsCons r → x ≢ v → EndsOtherwise v (x ∷ r)
@@ -125,17 +131,21 @@ ends-otherwise v start rs f d = elim (from-top rs) [
       let filled : AreFilled (below ++ r ∷ []) = rw some.2 at f in
       let differs : TopDiffers v (below ++ r ∷ []) = rw some.2 at d in
       rw (some.2, back-first start below r (filled-front below r filled).1)
-      (ends-cons v r.0 (replicate (r.1 - 1) r.0 ++ back start below) (cons-behind (r.1 - 1) r.0 (back start below) (back-cons start below)) (differs-top v below r differs))
+      (ends-cons v r.0 (replicate (r.1 - 1) r.0 ++ back start below)
+      (cons-behind (r.1 - 1) r.0 (back start below) (back-cons start below)) (differs-top v below r differs))
 ]
 
 -- one value less
-pub written-less : (old mid new : List (ℕ × ℕ)) (v c : ℕ) → old ≡ mid ++ (v, c) ∷ [] → 0 < c → new ≡ mid ++ (v, c - 1) ∷ [] → written old ≡ written new ++ v ∷ []
+pub written-less : (old mid new : List (ℕ × ℕ)) (v c : ℕ) → old ≡ mid ++ (v, c) ∷ [] → 0 < c → new ≡ mid ++ (v, c - 1) ∷ []
+    → written old ≡ written new ++ v ∷ []
 written-less old mid new v c e h first =
     let whole : c - 1 + 1 ≡ c = omega arith in
     ap written e ∙ written-push mid (v, c) ∙ ap (λ z. written mid ++ z) (sym (replicate_more (c - 1) v ∙ ap (λ n. replicate n v) whole))
-    ∙ sym (append_assoc (written mid) (replicate (c - 1) v) (v ∷ [])) ∙ ap (λ z. z ++ v ∷ []) (sym (ap written first ∙ written-push mid (v, c - 1)))
+    ∙ sym (append_assoc (written mid) (replicate (c - 1) v) (v ∷ []))
+    ∙ ap (λ z. z ++ v ∷ []) (sym (ap written first ∙ written-push mid (v, c - 1)))
 
-pub apart-less : (old mid new : List (ℕ × ℕ)) (v c : ℕ) → AreApart old → old ≡ mid ++ (v, c) ∷ [] → new ≡ mid ++ (v, c - 1) ∷ [] → AreApart new
+pub apart-less : (old mid new : List (ℕ × ℕ)) (v c : ℕ) → AreApart old → old ≡ mid ++ (v, c) ∷ [] → new ≡ mid ++ (v, c - 1) ∷ []
+    → AreApart new
 apart-less old mid new v c a e first =
     let whole : AreApart (mid ++ (v, c) ∷ []) = rw e at a in
     let under = apart-front mid (v, c) whole in
@@ -146,7 +156,8 @@ pub written-last : (old mid : List (ℕ × ℕ)) (v c : ℕ) → old ≡ mid ++ 
 written-last old mid v c e one = ap written e ∙ written-push mid (v, c) ∙ ap (λ n. written mid ++ replicate n v) one
 
 -- a run that joins the one under it
-pub written-joined : (mid new : List (ℕ × ℕ)) (v under c : ℕ) → new ≡ mid ++ (v, under + c) ∷ [] → written new ≡ (written mid ++ replicate under v) ++ replicate c v
+pub written-joined : (mid new : List (ℕ × ℕ)) (v under c : ℕ) → new ≡ mid ++ (v, under + c) ∷ []
+    → written new ≡ (written mid ++ replicate under v) ++ replicate c v
 written-joined mid new v under c e =
     ap written e ∙ written-push mid (v, under + c) ∙ ap (λ z. written mid ++ z) (sym (replicate-append-replicate under c v))
     ∙ sym (append_assoc (written mid) (replicate under v) (replicate c v))
@@ -165,7 +176,8 @@ apart-tail r [] a = tt
 apart-tail r (q ∷ qs) a = a.1
 
 -- equal lists begin with runs of one length
-peeled : (c e v : ℕ) (a b : List ℕ) → BeginsOtherwise v a → BeginsOtherwise v b → replicate c v ++ a ≡ replicate e v ++ b → (c ≡ e) × (a ≡ b)
+peeled : (c e v : ℕ) (a b : List ℕ) → BeginsOtherwise v a → BeginsOtherwise v b → replicate c v ++ a ≡ replicate e v ++ b → (c ≡ e)
+    × (a ≡ b)
 peeled zero zero v a b na nb h = (refl, h)
 peeled zero (suc e) v [] b na nb h = absurd cc
 peeled zero (suc e) v (x ∷ a) b na nb h = absurd (na (let q : x ≡ v = cc in q))
@@ -191,7 +203,8 @@ one-list (r ∷ rs) (s ∷ ss) f g a b e =
     let heads : r.0 ∷ replicate (r.1 - 1) r.0 ++ written rs ≡ s.0 ∷ replicate (s.1 - 1) s.0 ++ written ss =
     ap (λ z. z ++ written rs) (sym (replicate-first r.1 r.0 f.0)) ∙ e ∙ ap (λ z. z ++ written ss) (replicate-first s.1 s.0 g.0) in
     let value : r.0 ≡ s.0 = cc in
-    let same : replicate r.1 r.0 ++ written rs ≡ replicate s.1 r.0 ++ written ss = e ∙ ap (λ n. replicate s.1 n ++ written ss) (sym value) in
+    let same : replicate r.1 r.0 ++ written rs ≡ replicate s.1 r.0 ++ written ss =
+    e ∙ ap (λ n. replicate s.1 n ++ written ss) (sym value) in
     let other : BeginsOtherwise r.0 (written ss) = rw value (begins-otherwise s ss g.1 b) in
     let both = peeled r.1 s.1 r.0 (written rs) (written ss) (begins-otherwise r rs f.1 a) other same in
     let first : r ≡ s = ap₂ pair value both.0 in

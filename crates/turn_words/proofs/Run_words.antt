@@ -56,8 +56,10 @@ stored-made len rs some few long a = record {
   apart = a;
 }
 
-pub length-written : (rs ss : List (ℕ × ℕ)) (v c : ℕ) → written ss ≡ written rs ++ replicate c v → length (written ss) ≡ length (written rs) + c
-length-written rs ss v c e = let copies = length-replicate c v in ap length e ∙ length-append (written rs) (replicate c v) ∙ ap (λ n. length (written rs) + n) copies
+pub length-written : (rs ss : List (ℕ × ℕ)) (v c : ℕ) → written ss ≡ written rs ++ replicate c v
+    → length (written ss) ≡ length (written rs) + c
+length-written rs ss v c e = let copies = length-replicate c v in ap length e ∙ length-append (written rs) (replicate c v)
+    ∙ ap (λ n. length (written rs) + n) copies
 
 -- what is left where entries of one value were taken off the end
 pub record TakenOff (len start v c : ℕ) (old new : List (ℕ × ℕ)) : Type 0 where
@@ -65,7 +67,8 @@ pub record TakenOff (len start v c : ℕ) (old new : List (ℕ × ℕ)) : Type 0
   pub stored : IsStoredWord (len - c) new
   pub word : reverse (word_of len start old) ≡ replicate c v ++ reverse (word_of (len - c) start new)
 
-pub taken-off : (len start v c : ℕ) (old new : List (ℕ × ℕ)) → IsStoredWord len old → 0 < len → written old ≡ written new ++ replicate c v → AreApart new → TakenOff len start v c old new
+pub taken-off : (len start v c : ℕ) (old new : List (ℕ × ℕ)) → IsStoredWord len old → 0 < len → written old ≡ written new
+    ++ replicate c v → AreApart new → TakenOff len start v c old new
 taken-off len start v c old new i some e a =
     let long = i.some some in
     let few = i.few in
@@ -104,7 +107,8 @@ pub record PutOn (len start v c : ℕ) (old new : List (ℕ × ℕ)) : Type 0 wh
   pub stored : IsStoredWord (len + c) new
   pub word : reverse (word_of (len + c) start new) ≡ replicate c v ++ reverse (word_of len start old)
 
-pub put-on : (len start v c : ℕ) (old new : List (ℕ × ℕ)) → IsStoredWord len old → 0 < len → len + c < 2 ^ 32 → written new ≡ written old ++ replicate c v → AreApart new → PutOn len start v c old new
+pub put-on : (len start v c : ℕ) (old new : List (ℕ × ℕ)) → IsStoredWord len old → 0 < len → len + c < 2 ^ 32
+    → written new ≡ written old ++ replicate c v → AreApart new → PutOn len start v c old new
 put-on len start v c old new i some few e a =
     let long = i.some some in
     let more = length-written old new v c e in
@@ -116,7 +120,8 @@ put-on len start v c old new i some few e a =
     }
 
 -- the last entry, and what is before it
-pub last-of : (len start v c : ℕ) (old mid : List (ℕ × ℕ)) → IsStoredWord len old → old ≡ mid ++ (v, c) ∷ [] → 0 < c → reverse (word_of len start old) ≡ v ∷ replicate (c - 1) v ++ back start mid
+pub last-of : (len start v c : ℕ) (old mid : List (ℕ × ℕ)) → IsStoredWord len old → old ≡ mid ++ (v, c) ∷ [] → 0 < c
+    → reverse (word_of len start old) ≡ v ∷ replicate (c - 1) v ++ back start mid
 last-of len start v c old mid i e h =
     let stored : IsStoredWord len (mid ++ (v, c) ∷ []) = rw e at i in
     reverse-some len start old (some-run len mid (v, c) stored) ∙ ap (back start) e ∙ back-first start mid (v, c) h
@@ -127,7 +132,8 @@ pub record Changed (len start v x : ℕ) (rest : List ℕ) (new : List (ℕ × �
   pub word : reverse (word_of len start new) ≡ x ∷ rest
 
 -- the last entry of a run of more
-pub changed-inside : (len start v x c : ℕ) (old mid one new : List (ℕ × ℕ)) → IsStoredWord len old → old ≡ mid ++ (v, c) ∷ [] → 1 < c → v ≢ x →
+pub changed-inside : (len start v x c : ℕ) (old mid one new : List (ℕ × ℕ)) → IsStoredWord len old → old ≡ mid ++ (v, c) ∷ [] → 1 < c
+    → v ≢ x →
     one ≡ mid ++ (v, c - 1) ∷ [] → new ≡ one ++ (x, 1) ∷ [] → Changed len start v x (replicate (c - 1) v ++ back start mid) new
 changed-inside len start v x c old mid one new i e more differs first second =
     let stored : IsStoredWord len (mid ++ (v, c) ∷ []) = rw e at i in
@@ -167,7 +173,8 @@ changed-alone len start v x c old mid new i e one is a =
     }
 
 -- the word under a run of 1 has room for another run
-pub under-short : (len v c : ℕ) (old mid : List (ℕ × ℕ)) → IsStoredWord len old → old ≡ mid ++ (v, c) ∷ [] → 0 < c → length (written mid) + 1 < 2 ^ 32
+pub under-short : (len v c : ℕ) (old mid : List (ℕ × ℕ)) → IsStoredWord len old → old ≡ mid ++ (v, c) ∷ [] → 0 < c
+    → length (written mid) + 1 < 2 ^ 32
 under-short len v c old mid i e h =
     let stored : IsStoredWord len (mid ++ (v, c) ∷ []) = rw e at i in
     let long = stored.some (some-run len mid (v, c) stored) in
@@ -211,7 +218,8 @@ module _ (len start : ℕ) (rs : List (ℕ × ℕ)) (i : IsStoredWord len rs) (f
 
   pub open-at-one : top.0 ≡ 1 → true ≡ is_open (reverse (word_of len start rs))
   open-at-one one = sym (seen ∙ ap (λ n. is_open (n ∷ replicate (top.1 - 1) top.0 ++ back start below)) one
-      ∙ open-one (replicate (top.1 - 1) top.0 ++ back start below) (cons-behind (top.1 - 1) top.0 (back start below) (back-cons start below)))
+      ∙ open-one (replicate (top.1 - 1) top.0 ++ back start below)
+      (cons-behind (top.1 - 1) top.0 (back start below) (back-cons start below)))
 
   pub open-at-none : top.0 ≢ 1 → top.0 ≢ 2 → false ≡ is_open (reverse (word_of len start rs))
   open-at-none not_one not_two = sym (seen ∙ open-other top.0 (replicate (top.1 - 1) top.0 ++ back start below) not_one not_two)
@@ -241,7 +249,8 @@ module _ (len start : ℕ) (rs : List (ℕ × ℕ)) (i : IsStoredWord len rs) (f
       let rest = replicate (run.1 - 1) run.0 ++ back start bottom in
       let cons = cons-behind (run.1 - 1) run.0 (back start bottom) (back-cons start bottom) in
       ap (λ (q : ℕ × ℕ). eqb q.0 1) (sym next)
-      ∙ sym (under-twos two ∙ ap (λ z. is_open (back start z)) under ∙ ap is_open (back-first start bottom run (filled-front bottom run filled).1) ∙ open-by run.0 rest cons not_two)
+      ∙ sym (under-twos two ∙ ap (λ z. is_open (back start z)) under
+      ∙ ap is_open (back-first start bottom run (filled-front bottom run filled).1) ∙ open-by run.0 rest cons not_two)
     where
       open-by : (t : ℕ) (r : List ℕ) → IsCons r → t ≢ 2 → is_open (t ∷ r) ≡ eqb t 1
       open-by t [] c h = absurd c
@@ -251,7 +260,8 @@ module _ (len start : ℕ) (rs : List (ℕ × ℕ)) (i : IsStoredWord len rs) (f
       ]
 
 -- two words that are kept alike are equal
-pub same-words : (len other start first : ℕ) (rs ss : List (ℕ × ℕ)) → len ≡ other → (len ≡ 0) ⊎ (start ≡ first) → rs ≡ ss → word_of len start rs ≡ word_of other first ss
+pub same-words : (len other start first : ℕ) (rs ss : List (ℕ × ℕ)) → len ≡ other → (len ≡ 0) ⊎ (start ≡ first) → rs ≡ ss
+    → word_of len start rs ≡ word_of other first ss
 same-words len other start first rs ss long begins runs =
     ap₂ (λ n z. word_of n start z) long runs ∙ elim begins [
       | inl none ↦ word-none other start ss (sym long ∙ none) ∙ sym (word-none other first ss (sym long ∙ none))
@@ -259,24 +269,28 @@ same-words len other start first rs ss long begins runs =
     ]
 
 -- equal words are kept alike
-pub same-runs : (len other start first : ℕ) (rs ss : List (ℕ × ℕ)) → IsStoredWord len rs → IsStoredWord other ss → AreFilled rs → AreFilled ss →
+pub same-runs : (len other start first : ℕ) (rs ss : List (ℕ × ℕ)) → IsStoredWord len rs → IsStoredWord other ss → AreFilled rs
+    → AreFilled ss →
     word_of len start rs ≡ word_of other first ss → (len ≡ other) × ((len ≡ 0) ⊎ (start ≡ first)) × (rs ≡ ss)
 same-runs len other start first rs ss i j f g e =
     let long : len ≡ other = sym (word-length len start rs i) ∙ ap length e ∙ word-length other first ss j in
     elim (cases_eq len 0) [
       | inl none ↦ (long, inl none, i.none none ∙ sym (j.none (sym long ∙ none)))
       | inr ne ↦
-          let whole : start ∷ written rs ≡ first ∷ written ss = sym (word-some len start rs (omega arith)) ∙ e ∙ word-some other first ss (omega arith) in
+          let whole : start ∷ written rs ≡ first ∷ written ss =
+          sym (word-some len start rs (omega arith)) ∙ e ∙ word-some other first ss (omega arith) in
           let begins : start ≡ first = cc in
           let turns : written rs ≡ written ss = cc in
           (long, inr begins, one-list rs ss f g i.apart j.apart turns)
     ]
 
 -- the runs written out, one run on
-pub written-next : (rs : List (ℕ × ℕ)) (k : ℕ) → k < length rs → written (take (k + 1) rs) ≡ written (take k rs) ++ replicate (get_or rs k (0, 0)).1 (get_or rs k (0, 0)).0
+pub written-next : (rs : List (ℕ × ℕ)) (k : ℕ) → k < length rs → written (take (k + 1) rs) ≡ written (take k rs)
+    ++ replicate (get_or rs k (0, 0)).1 (get_or rs k (0, 0)).0
 written-next rs k h = ap written (take_more rs k (0, 0) h) ∙ written-push (take k rs) (get_or rs k (0, 0))
 
-pub written-within : (rs : List (ℕ × ℕ)) (k : ℕ) → k < length rs → length (written (take k rs)) + (get_or rs k (0, 0)).1 ≤ length (written rs)
+pub written-within : (rs : List (ℕ × ℕ)) (k : ℕ) → k < length rs
+    → length (written (take k rs)) + (get_or rs k (0, 0)).1 ≤ length (written rs)
 written-within rs k h =
     let next = length-written (take k rs) (take (k + 1) rs) (get_or rs k (0, 0)).0 (get_or rs k (0, 0)).1 (written-next rs k h) in
     let whole : length (written rs) ≡ length (written (take (k + 1) rs)) + length (written (drop (k + 1) rs)) =
@@ -291,7 +305,10 @@ pair-decides a b = elim (cases_eq a.0 b.0) [
     | inl second ↦
         let same : a ≡ b = ap₂ pair first second in
         ((λ yes. same), (λ e. rw (eq-eqb a.0 b.0 first, eq-eqb a.1 b.1 second) refl))
-    | inr other ↦ ((λ yes. absurd (let no = rw (eq-eqb a.0 b.0 first, ne_eqb a.1 b.1 other) at yes in cc)), (λ e. absurd (other (ap (λ (q : ℕ × ℕ). q.1) e))))
+    | inr other ↦ (
+      (λ yes. absurd (let no = rw (eq-eqb a.0 b.0 first, ne_eqb a.1 b.1 other) at yes in cc)),
+      (λ e. absurd (other (ap (λ (q : ℕ × ℕ). q.1) e))),
+    )
   ]
   | inr other ↦ ((λ yes. absurd (let no = rw (ne_eqb a.0 b.0 other) at yes in cc)), (λ e. absurd (other (ap (λ (q : ℕ × ℕ). q.0) e))))
 ]

@@ -12,7 +12,8 @@ use Rattle.turn_words.proofs.Run_lists.{reverse-replicate}
 -- a front, an entry and a run, read from the end
 reverse-run : (v : List ℕ) (x k y : ℕ) → reverse (v ++ x ∷ replicate k y) ≡ replicate k y ++ x ∷ reverse v
 reverse-run v x k y =
-    reverse-append v (x ∷ replicate k y) ∙ ap (λ z. z ++ reverse v) (reverse-cons x (replicate k y) ∙ ap (λ z. z ++ (x ∷ [])) (reverse-replicate k y))
+    reverse-append v (x ∷ replicate k y) ∙ ap (λ z. z ++ reverse v)
+    (reverse-cons x (replicate k y) ∙ ap (λ z. z ++ (x ∷ [])) (reverse-replicate k y))
     ∙ append_assoc (replicate k y) (x ∷ []) (reverse v)
 
 reverse-bracket : (v : List ℕ) (x z k y : ℕ) → reverse (v ++ x ∷ z ∷ replicate k y) ≡ replicate k y ++ z ∷ x ∷ reverse v
@@ -52,7 +53,8 @@ abbrev record_put : List ℕ → ℕ → Put
 record_put w n = record { word = w; change = n }
 
 module _ (d : ℕ) (five : 5 ≤ d) where
-  pub flipped-table : (k x : ℕ) (r : List ℕ) → (r ≢ [] → x ≢ minus d 2) → flipped d (replicate k (minus d 2) ++ x ∷ r) ≡ replicate k 2 ++ 1 ∷ add d x 1 ∷ r
+  pub flipped-table : (k x : ℕ) (r : List ℕ) → (r ≢ [] → x ≢ minus d 2) → flipped d (replicate k (minus d 2) ++ x ∷ r) ≡ replicate k 2
+      ++ 1 ∷ add d x 1 ∷ r
   flipped-table zero x [] h = refl
   flipped-table zero x (y ∷ r) h = flipped-end d five x (y ∷ r) (h (not-nil (y ∷ r) tt))
   flipped-table (suc k) x r h =
@@ -64,7 +66,8 @@ module _ (d : ℕ) (five : 5 ≤ d) where
       closed-two d five (replicate k 2 ++ 1 ∷ x ∷ r) (cons-run k 2 1 (x ∷ r)) ∙ ap (λ z. minus d 2 ∷ z) (closed-table k x r)
 
   -- a put from the end, seen from the start
-  seen : (w u v : List ℕ) (t n : ℕ) → put d (reverse w) t ≡ record { word = u; change = n } → reverse v ≡ u → put_last d w t ≡ record { word = v; change = n }
+  seen : (w u v : List ℕ) (t n : ℕ) → put d (reverse w) t ≡ record { word = u; change = n } → reverse v ≡ u
+      → put_last d w t ≡ record { word = v; change = n }
   seen w u v t n e back =
       ap (λ q. record_put (reverse q.word) q.change) e ∙ ap (λ z. record_put z n) (ap reverse (sym back) ∙ reverse-reverse v)
 
@@ -75,12 +78,14 @@ module _ (d : ℕ) (five : 5 ≤ d) where
     flip = λ v x k whole. (
         let front = λ (some : reverse v ≢ []). whole (λ e. some (ap reverse e)) in
         let c = cons-run k (minus d 2) x (reverse v) in
-        seen (v ++ x ∷ replicate k (minus d 2)) (replicate k 2 ++ 1 ∷ add d x 1 ∷ reverse v) (v ++ add d x 1 ∷ 1 ∷ replicate k 2) (minus d 1) 1
+        seen (v ++ x ∷ replicate k (minus d 2)) (replicate k 2 ++ 1 ∷ add d x 1 ∷ reverse v) (v ++ add d x 1 ∷ 1 ∷ replicate k 2)
+        (minus d 1) 1
         (ap (λ r. put d r (minus d 1)) (reverse-run v x k (minus d 2)) ∙ put-flip d five (replicate k (minus d 2) ++ x ∷ reverse v) c
         ∙ ap (λ z. record_put z 1) (flipped-table k x (reverse v) front))
         (reverse-bracket v (add d x 1) 1 k 2)
         );
-    close = λ v x k. seen (v ++ x ∷ 1 ∷ replicate k 2) (replicate k (minus d 2) ++ add d x (minus d 1) ∷ reverse v) (v ++ add d x (minus d 1) ∷ replicate k (minus d 2)) 1 (minus d 1)
+    close = λ v x k. seen (v ++ x ∷ 1 ∷ replicate k 2) (replicate k (minus d 2) ++ add d x (minus d 1) ∷ reverse v)
+        (v ++ add d x (minus d 1) ∷ replicate k (minus d 2)) 1 (minus d 1)
         (ap (λ r. put d r 1) (reverse-bracket v x 1 k 2) ∙ put-close d five (replicate k 2 ++ 1 ∷ x ∷ reverse v) (open-run k x (reverse v))
         ∙ ap (λ z. record_put z (minus d 1)) (closed-table k x (reverse v)))
         (reverse-run v (add d x (minus d 1)) k (minus d 2));
@@ -96,7 +101,10 @@ module _ (d : ℕ) (five : 5 ≤ d) where
                   before = reverse ends.2;
                   x = ends.1;
                   k = ends.0;
-                  is = sym (reverse-reverse w) ∙ ap reverse ends.3 ∙ sym (ap reverse (reverse-bracket (reverse ends.2) ends.1 1 ends.0 2 ∙ ap (λ z. replicate ends.0 2 ++ 1 ∷ ends.1 ∷ z) (reverse-reverse ends.2))) ∙ reverse-reverse (reverse ends.2 ++ ends.1 ∷ 1 ∷ replicate ends.0 2);
+                  is = sym (reverse-reverse w) ∙ ap reverse ends.3 ∙ sym
+                      (ap reverse (reverse-bracket (reverse ends.2) ends.1 1 ends.0 2
+                      ∙ ap (λ z. replicate ends.0 2 ++ 1 ∷ ends.1 ∷ z) (reverse-reverse ends.2)))
+                      ∙ reverse-reverse (reverse ends.2 ++ ends.1 ∷ 1 ∷ replicate ends.0 2);
                 }))
             | inr not_open ↦ not_open
           ];

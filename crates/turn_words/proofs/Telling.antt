@@ -10,7 +10,8 @@ tells-nothing Such None h = refl
 tells-nothing Such (Some before) h = ([], ap Some (sym (append-nil before)), h)
 
 -- steps are noted
-pub tells-steps : (Such : List Step → Type 0) (o p : Option (List Step)) (steps : List Step) → p ≡ with_steps o steps → Such steps → TellsMore Such o p
+pub tells-steps : (Such : List Step → Type 0) (o p : Option (List Step)) (steps : List Step) → p ≡ with_steps o steps → Such steps
+    → TellsMore Such o p
 tells-steps Such None p steps e h = e
 tells-steps Such (Some before) p steps e h = (steps, e, h)
 
@@ -22,7 +23,8 @@ tells-both A B C None (Some s) q first second h = absurd cc
 tells-both A B C (Some s) None q first second h = absurd (let e = first.1 in cc)
 tells-both A B C (Some s) (Some t) q first second h = (
   first.0 ++ second.0,
-  second.1 ∙ (let is : t ≡ s ++ first.0 = let e = first.1 in cc in ap (λ u. Some (u ++ second.0)) is) ∙ ap Some (append_assoc s first.0 second.0),
+  second.1 ∙ (let is : t ≡ s ++ first.0 = let e = first.1 in cc in ap (λ u. Some (u ++ second.0)) is)
+      ∙ ap Some (append_assoc s first.0 second.0),
   h first.0 second.0 first.2 second.2,
 )
 
@@ -32,7 +34,8 @@ tells-less A B None p t h = t
 tells-less A B (Some s) p t h = (t.0, t.1, h t.0 t.2)
 
 -- steps are noted by `with_steps` after others
-pub tells-on : (o p q : Option (List Step)) (steps : List Step) → TellsMore (λ _. Unit {0}) o p → q ≡ with_steps p steps → TellsMore (λ _. Unit {0}) o q
+pub tells-on : (o p q : Option (List Step)) (steps : List Step) → TellsMore (λ _. Unit {0}) o p → q ≡ with_steps p steps
+    → TellsMore (λ _. Unit {0}) o q
 tells-on o p q steps t e =
     tells-both (λ _. Unit {0}) (λ _. Unit {0}) (λ _. Unit {0}) o p q t (tells-steps (λ _. Unit {0}) p q steps e tt) (λ a b x y. tt)
 

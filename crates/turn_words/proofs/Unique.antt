@@ -49,7 +49,8 @@ shared d w v c e t r f g =
       reached = (r.0 ++ g.reached.0, after_steps-append d r.0 g.reached.0 w v r.1 ∙ g.reached.1);
     })
 
-pub reach_each_other : (d : ℕ) (w v c e : List ℕ) → IsTurnWord d w → IsTurnWord d v → IsCanonicalOf d w c → IsCanonicalOf d v e → Reaches d w v ↔ (c ≡ e)
+pub reach_each_other : (d : ℕ) (w v c e : List ℕ) → IsTurnWord d w → IsTurnWord d v → IsCanonicalOf d w c → IsCanonicalOf d v e
+    → Reaches d w v ↔ (c ≡ e)
 reach_each_other d w v c e t u f g = (
   (λ r. shared d w v c e t r f g),
   (λ same.
@@ -78,8 +79,10 @@ in-range-take d zero w i = tt
 in-range-take d (suc n) [] i = tt
 in-range-take d (suc n) (x ∷ w) i = (i.0, in-range-take d n w i.1)
 
-pub reads-more : (d : ℕ) (w : List ℕ) (i : ℕ) (items new : List ℕ) (change turn next : ℕ) → IsTurnWord d w → i < length w → ReadsTo d w i items change →
-    turn ≡ add d (get_or w i 0) change → reverse new ≡ (put d (reverse items) turn).word → next ≡ (put d (reverse items) turn).change → length new ≤ length items + 1 →
+pub reads-more : (d : ℕ) (w : List ℕ) (i : ℕ) (items new : List ℕ) (change turn next : ℕ) → IsTurnWord d w → i < length w
+    → ReadsTo d w i items change →
+    turn ≡ add d (get_or w i 0) change → reverse new ≡ (put d (reverse items) turn).word → next ≡ (put d (reverse items) turn).change
+    → length new ≤ length items + 1 →
     ReadsTo d w (i + 1) new next
 reads-more d w i items new change turn next t lt f turn_is new_is next_is longer =
     let range = in-range-from d w t.in_range in

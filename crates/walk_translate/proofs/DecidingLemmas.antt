@@ -33,7 +33,8 @@ same_vector : (a b u v : ℤ) → Flat a b ≡ Flat u v → vector a b ≡ vecto
 same_vector a b u v e = cc
 
 from_polygon : (surface : OrientedMesh) (split : SplitView) (polygon : PolygonView) (first second : List ℕ) (one other : Word)
-    → IsOrientedSurface surface → IsSplit surface split → IsCutFrom surface split polygon → IsWalk surface.mesh first → IsWalk surface.mesh second
+    → IsOrientedSurface surface → IsSplit surface split → IsCutFrom surface split polygon → IsWalk surface.mesh first
+    → IsWalk surface.mesh second
     → HaveCommonEnds first second → IsWordOf surface.mesh (labelling_from surface polygon) first one
     → IsWordOf surface.mesh (labelling_from surface polygon) second other → Homotopic surface.mesh first second ↔ (one ≡ other)
 from_polygon s split polygon first second (Turns one) (Turns other) o t c w z ends f g =
@@ -50,8 +51,10 @@ from_polygon s split polygon first second (Flat x y) (Turns other) o t c w z end
 from_polygon s split polygon first second (Flat x y) (Flat right up) o t c w z ends f g =
     let labelling : LabellingView = labelling_from s polygon in
     let law = one_sum s split polygon first second o t c f.0 w z ends in
-    let here : vector x y ≡ led flat_next polygon.places origin (quad_path s.mesh labelling first) = f.1 ∙ sym (quad_path_leads_to_sum s.mesh labelling first) in
-    let there : vector right up ≡ led flat_next polygon.places origin (quad_path s.mesh labelling second) = g.1 ∙ sym (quad_path_leads_to_sum s.mesh labelling second) in (
+    let here : vector x y ≡ led flat_next polygon.places origin (quad_path s.mesh labelling first) =
+    f.1 ∙ sym (quad_path_leads_to_sum s.mesh labelling first) in
+    let there : vector right up ≡ led flat_next polygon.places origin (quad_path s.mesh labelling second) =
+    g.1 ∙ sym (quad_path_leads_to_sum s.mesh labelling second) in (
       (λ h. ap (λ (p : Vector). Flat p.x p.y) (here ∙ law.0 h ∙ sym there)),
       (λ e. law.1 (sym here ∙ same_vector x y right up e ∙ there)),
     )

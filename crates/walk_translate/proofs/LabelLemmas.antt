@@ -19,12 +19,14 @@ signs_are : (s : OrientedMesh) (polygon : PolygonView) → IsOrientedSurface s �
 signs_are s polygon o =
     let faces : List FaceLabels = (labelling_from s polygon).faces in
     let many : length faces ≡ length s.mesh.faces =
-    length-map (enumerate_from 0 s.mesh.faces) (λ (p : ℕ × List ℕ). face_labels s polygon p.0 (length p.1)) ∙ length-enumerate_from 0 s.mesh.faces in
+    length-map (enumerate_from 0 s.mesh.faces) (λ (p : ℕ × List ℕ). face_labels s polygon p.0 (length p.1))
+    ∙ length-enumerate_from 0 s.mesh.faces in
     let signs : List Bool = signs_of (labelling_from s polygon) in
     let as_many : length signs ≡ length s.mesh.faces = length-map faces (λ (x : FaceLabels). x.flipped) ∙ many in
     same_lists signs s.signs (as_many ∙ sym o.coherent.each_face)
     (λ k d l.
-    get_or_default signs k d false l ∙ flips_are s polygon k (omega (arith, as_many)) ∙ get_or_default s.signs k false d (omega (arith, as_many, o.coherent.each_face)))
+    get_or_default signs k d false l ∙ flips_are s polygon k (omega (arith, as_many))
+    ∙ get_or_default s.signs k false d (omega (arith, as_many, o.coherent.each_face)))
 
 -- the labelling is good
 pub cut_is_good : (surface : OrientedMesh) (labelling : LabellingView) → IsOrientedSurface surface → IsLabelledByCut surface labelling
@@ -39,7 +41,8 @@ cut_is_full surface labelling o h =
 
 -- what is said of the labelling of a surface
 pub surface_labelling : (surface : OrientedMesh) (found : Option LabellingView) → IsOrientedSurface surface
-    → MatchOption found (HasSphereSplit surface) (IsLabelledByCut surface) → MatchOption found (IsSphere surface) (IsSurfaceLabelling surface)
+    → MatchOption found (HasSphereSplit surface) (IsLabelledByCut surface)
+    → MatchOption found (IsSphere surface) (IsSurfaceLabelling surface)
 surface_labelling surface None o h =
     let genus : HasGenus surface h.split.genus = exact surface h.split h.is_split.trees h.split.genus h.is_split.genus in
     subst (HasGenus surface) h.none genus

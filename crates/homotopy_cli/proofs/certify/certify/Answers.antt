@@ -30,7 +30,8 @@ returns-in_err-pair g c =
     (λ files. of_certify.certify files c.args.mesh.now c.args.walks.now) (λ none. none.0.0.0) c.read_surface.new.shelf _ stop
     c.in_ok-surface.ensures.reads.only_reads c.in_err-pair.ensures.reads
     (walks_stop (g.S.Shelf.held c.args.shelf.now) c.args.mesh.now c.args.walks.now surface.mesh stop c.in_ok-surface.ensures.reads.end
-    (subst (λ (files : Option Files). Stops (pair_in files c.args.walks.now surface.mesh) stop) c.in_ok-surface.ensures.reads.only_reads.same_files stops)))
+    (subst (λ (files : Option Files). Stops (pair_in files c.args.walks.now surface.mesh) stop)
+    c.in_ok-surface.ensures.reads.only_reads.same_files stops)))
 
 pub at-first-requires : goal.at-first-requires
 at-first-requires g c =
@@ -52,7 +53,8 @@ returns-in_err-check_limits g c =
     let limit = c.in_err-check_limits.ensures in
     let table : IsTableOf surface.mesh c.sides.result.now = rw c.sides.ensures c.faces.ensures.valid.table in
     let passed : Passes (pair_in (g.S.Shelf.held c.args.shelf.now) c.args.walks.now surface.mesh) pair =
-    subst (λ (files : Option Files). Passes (pair_in files c.args.walks.now surface.mesh) pair) c.in_ok-surface.ensures.reads.only_reads.same_files
+    subst (λ (files : Option Files). Passes (pair_in files c.args.walks.now surface.mesh) pair)
+    c.in_ok-surface.ensures.reads.only_reads.same_files
     (c.in_ok-pair.ensures.reads.end surface.mesh table) in
     let p = err_from_is_err_and c.from_residual-in_err-check_limits.result c.from_residual-in_err-check_limits.ensures.1 in
     let first : walk_at pair 0 ≡ c.at-first.result.now = get_or_from_slice_get pair 0 c.at-first.result.now _ c.at-first.ensures in
@@ -62,7 +64,8 @@ returns-in_err-check_limits g c =
     ∙ ap (λ (w : List ℕ). limit_fault surface.mesh c.at-first.result.now w) second ∙ limit.1 in
     rw (p.1, p.2)
     (runs_faulty g.S.Shelf.held g.S.Shelf.faults c.args.shelf.now c.read_pair.new.shelf
-    (λ files. of_certify.certify files c.args.mesh.now c.args.walks.now) (λ none. none.0.0.0) stop (only_then g.S.Shelf.held g.S.Shelf.faults c.args.shelf.now c.read_surface.new.shelf c.read_pair.new.shelf
+    (λ files. of_certify.certify files c.args.mesh.now c.args.walks.now) (λ none. none.0.0.0) stop
+    (only_then g.S.Shelf.held g.S.Shelf.faults c.args.shelf.now c.read_surface.new.shelf c.read_pair.new.shelf
     c.in_ok-surface.ensures.reads.only_reads c.in_ok-pair.ensures.reads.only_reads) (tells_no_fault (Exactly limit.0) stop limit.2)
     (limits_stop (g.S.Shelf.held c.args.shelf.now) c.args.mesh.now c.args.walks.now surface.mesh pair limit.0 stop
     c.in_ok-surface.ensures.reads.end passed fault limit.2))
@@ -72,7 +75,8 @@ find_certificate-requires-clause-first g c =
     let surface = c.in_ok-surface.surface in
     let pair = c.in_ok-pair.pair in
     let table : IsTableOf surface.mesh c.sides.result.now = rw c.sides.ensures c.faces.ensures.valid.table in
-    (walks_of_pair surface.mesh pair c.at-first.result.now c.at-second.result.now (c.in_ok-pair.ensures.pair surface.mesh table) c.at-first.ensures
+    (walks_of_pair surface.mesh pair c.at-first.result.now c.at-second.result.now (c.in_ok-pair.ensures.pair surface.mesh table)
+    c.at-first.ensures
     c.at-second.ensures).first_walk
 
 pub find_certificate-requires-clause-second : goal.find_certificate-requires-clause-second
@@ -80,7 +84,8 @@ find_certificate-requires-clause-second g c =
     let surface = c.in_ok-surface.surface in
     let pair = c.in_ok-pair.pair in
     let table : IsTableOf surface.mesh c.sides.result.now = rw c.sides.ensures c.faces.ensures.valid.table in
-    (walks_of_pair surface.mesh pair c.at-first.result.now c.at-second.result.now (c.in_ok-pair.ensures.pair surface.mesh table) c.at-first.ensures
+    (walks_of_pair surface.mesh pair c.at-first.result.now c.at-second.result.now (c.in_ok-pair.ensures.pair surface.mesh table)
+    c.at-first.ensures
     c.at-second.ensures).second_walk
 
 pub find_certificate-requires-clause-ends : goal.find_certificate-requires-clause-ends
@@ -88,7 +93,8 @@ find_certificate-requires-clause-ends g c =
     let surface = c.in_ok-surface.surface in
     let pair = c.in_ok-pair.pair in
     let table : IsTableOf surface.mesh c.sides.result.now = rw c.sides.ensures c.faces.ensures.valid.table in
-    (walks_of_pair surface.mesh pair c.at-first.result.now c.at-second.result.now (c.in_ok-pair.ensures.pair surface.mesh table) c.at-first.ensures
+    (walks_of_pair surface.mesh pair c.at-first.result.now c.at-second.result.now (c.in_ok-pair.ensures.pair surface.mesh table)
+    c.at-first.ensures
     c.at-second.ensures).ends
 
 pub find_certificate-requires-clause-limits : goal.find_certificate-requires-clause-limits
@@ -101,10 +107,12 @@ returns g c =
     let pair = c.in_ok-pair.pair in
     let table : IsTableOf surface.mesh c.sides.result.now = rw c.sides.ensures c.faces.ensures.valid.table in
     let passed : Passes (pair_in (g.S.Shelf.held c.args.shelf.now) c.args.walks.now surface.mesh) pair =
-    subst (λ (files : Option Files). Passes (pair_in files c.args.walks.now surface.mesh) pair) c.in_ok-surface.ensures.reads.only_reads.same_files
+    subst (λ (files : Option Files). Passes (pair_in files c.args.walks.now surface.mesh) pair)
+    c.in_ok-surface.ensures.reads.only_reads.same_files
     (c.in_ok-pair.ensures.reads.end surface.mesh table) in
     let known =
-    walks_of_pair surface.mesh pair c.at-first.result.now c.at-second.result.now (c.in_ok-pair.ensures.pair surface.mesh table) c.at-first.ensures
+    walks_of_pair surface.mesh pair c.at-first.result.now c.at-second.result.now (c.in_ok-pair.ensures.pair surface.mesh table)
+    c.at-first.ensures
     c.at-second.ensures in
     let first : walk_at pair 0 ≡ c.at-first.result.now = get_or_from_slice_get pair 0 c.at-first.result.now _ c.at-first.ensures in
     let second : walk_at pair 1 ≡ c.at-second.result.now = get_or_from_slice_get pair 1 c.at-second.result.now _ c.at-second.ensures in
@@ -127,5 +135,6 @@ returns-in_err-shown g c =
     let p = err_from_is_err_and c.from_residual-in_err-shown.result c.from_residual-in_err-shown.ensures.1 in
     rw (p.1, p.2)
     (runs_faulty g.S.Shelf.held g.S.Shelf.faults c.args.shelf.now c.read_pair.new.shelf
-    (λ files. of_certify.certify files c.args.mesh.now c.args.walks.now) (λ none. none.0.0.0) OutOfMemory (only_then g.S.Shelf.held g.S.Shelf.faults c.args.shelf.now c.read_surface.new.shelf c.read_pair.new.shelf
+    (λ files. of_certify.certify files c.args.mesh.now c.args.walks.now) (λ none. none.0.0.0) OutOfMemory
+    (only_then g.S.Shelf.held g.S.Shelf.faults c.args.shelf.now c.read_surface.new.shelf c.read_pair.new.shelf
     c.in_ok-surface.ensures.reads.only_reads c.in_ok-pair.ensures.reads.only_reads) memory_no_fault tt)

@@ -8,7 +8,8 @@ use Rattle.homotopy_cli.proofs.certify.deny.Goals as goal
 
 pub from_spent_polygon-requires-clause-some : goal.from_spent_polygon-requires-clause-some
 from_spent_polygon-requires-clause-some c =
-    some_sides c.args.surface.now c.requires.cut.0 c.args.polygon c.args.first.now c.args.second.now c.faces-faces.ensures.valid c.requires.cut.1
+    some_sides c.args.surface.now c.requires.cut.0 c.args.polygon c.args.first.now c.args.second.now c.faces-faces.ensures.valid
+    c.requires.cut.1
     c.requires.cut.2 c.requires.first c.requires.second c.requires.ends c.requires.apart
 
 pub returns : goal.returns
@@ -23,7 +24,8 @@ returns c =
     let o = c.faces-faces.ensures.valid in
     let some = some_sides surface c.requires.cut.0 c.args.polygon first second o c.requires.cut.1 c.requires.cut.2 c.requires.first
     c.requires.second c.requires.ends c.requires.apart in
-    subst (λ (l : LabellingView). DenialHolds surface.mesh first second (record { labelling = l; first = one; second = other })) (sym c.into_labelling.ensures)
+    subst (λ (l : LabellingView). DenialHolds surface.mesh first second (record { labelling = l; first = one; second = other }))
+    (sym c.into_labelling.ensures)
     (denial_holds surface c.requires.cut.0 c.args.polygon first second good one other o c.requires.cut.1 c.requires.cut.2 some
     c.requires.first c.requires.second c.requires.ends c.requires.apart c.in_ok-good.ensures.labelling c.in_ok-good.ensures.good
     (subst (λ (m : FaceList). IsWordOf m good first one) mesh c.in_ok-first_word.ensures)

@@ -50,7 +50,8 @@ walks : (g : _) (c : goal.After-at-2 g) → AreWalks c.in_ok-surface.surface.mes
 walks g c =
     let surface = c.in_ok-surface.surface in
     let table : IsTableOf surface.mesh c.sides.result.now = rw c.sides.ensures c.faces.ensures.valid.table in
-    walks_of_pair surface.mesh c.in_ok-pair.pair c.at.result.now c.at-2.result.now (c.in_ok-pair.ensures.pair surface.mesh table) c.at.ensures c.at-2.ensures
+    walks_of_pair surface.mesh c.in_ok-pair.pair c.at.result.now c.at-2.result.now (c.in_ok-pair.ensures.pair surface.mesh table)
+    c.at.ensures c.at-2.ensures
 
 pub decide-requires-clause-first : goal.decide-requires-clause-first
 decide-requires-clause-first g c = (walks g c).first_walk

@@ -11,4 +11,5 @@ returns g c =
     reads_ended g.S.Shelf.held g.S.Shelf.faults c.args.shelf.now c.read_file.new.shelf _ c.read_certificate.result
     c.in_ok-bytes.ensures.only_reads c.read_certificate.ensures.no_fault
     (next_end (file (g.S.Shelf.held c.args.shelf.now) c.args.name.now Certificate) (λ bytes. meant certificate_line (certificate_of bytes))
-    c.in_ok-bytes.bytes.items c.read_certificate.result c.in_ok-bytes.ensures.end (rw c.deref.ensures.value at c.read_certificate.ensures.end))
+    c.in_ok-bytes.bytes.items c.read_certificate.result c.in_ok-bytes.ensures.end
+    (rw c.deref.ensures.value at c.read_certificate.ensures.end))

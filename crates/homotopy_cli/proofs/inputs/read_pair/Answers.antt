@@ -16,7 +16,8 @@ returns-in_err-check_pair-clause-reads g c =
     (tells_no_fault (pair_line fault) p.0 p.2)
     (λ mesh table.
     pair_stops (g.S.Shelf.held c.args.shelf.now) c.args.name.now mesh c.in_ok-bytes.bytes.items c.in_ok-walks.walks fault p.0
-    c.in_ok-bytes.ensures.end (rw c.deref.ensures.value at c.in_ok-walks.ensures.end) (sym (c.in_err-check_pair.ensures.fault mesh table)) p.2))
+    c.in_ok-bytes.ensures.end (rw c.deref.ensures.value at c.in_ok-walks.ensures.end)
+    (sym (c.in_err-check_pair.ensures.fault mesh table)) p.2))
 
 pub returns-in_err-walks-clause-reads : goal.returns-in_err-walks-clause-reads
 returns-in_err-walks-clause-reads g c =
@@ -35,4 +36,8 @@ returns-clause-reads g c =
     reads_made g.S.Shelf.held g.S.Shelf.faults c.args.shelf.now c.read_file.new.shelf _ _ c.in_ok-bytes.ensures.only_reads
     (λ mesh table.
     let none : pair_fault mesh walks ≡ None = sym (c.in_ok-check_pair.ensures.fault mesh table) in
-    inr (c.in_ok-bytes.bytes.items, c.in_ok-bytes.ensures.end, inr (walks, rw c.deref.ensures.value at c.in_ok-walks.ensures.end, rw none refl)))
+    inr (
+      c.in_ok-bytes.bytes.items,
+      c.in_ok-bytes.ensures.end,
+      inr (walks, rw c.deref.ensures.value at c.in_ok-walks.ensures.end, rw none refl),
+    ))

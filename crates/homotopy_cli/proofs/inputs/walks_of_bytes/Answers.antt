@@ -18,6 +18,7 @@ pub returns-in-Err : goal.returns-in-Err
 returns-in-Err c =
     let stop = c.refused_for.result in
     record {
-      end = read_stops (numbers_line Walks) (walks_of c.args.bytes.now) c.in-Err.fault OutOfMemory stop refl c.in-Err.ensures c.refused_for.ensures;
+      end = read_stops (numbers_line Walks) (walks_of c.args.bytes.now) c.in-Err.fault OutOfMemory stop refl c.in-Err.ensures
+          c.refused_for.ensures;
       no_fault = λ e. tells_no_fault (numbers_line Walks c.in-Err.fault) stop c.refused_for.ensures cc;
     }

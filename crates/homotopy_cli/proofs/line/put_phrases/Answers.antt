@@ -29,8 +29,10 @@ returns g c =
     let others = c.args.others.now in
     let all : take c.loop-phrase.phrase-index others ≡ others = take_all c.loop-phrase.phrase-index others c.loop-phrase-test.false in
     let written : WroteAll g.K.Sink.written c.args.out.now c.loop-phrase.out (so_far first others) =
-    subst (λ (t : List Phrase). WroteAll g.K.Sink.written c.args.out.now c.loop-phrase.out (so_far first t)) all c.loop-phrase.invariant.written in
-    writes_then g.K.Sink.written g.K.Sink.settled g.K.Sink.faults c.args.out.now c.loop-phrase.out c.write_whole.new.sink (so_far first others)
+    subst (λ (t : List Phrase). WroteAll g.K.Sink.written c.args.out.now c.loop-phrase.out (so_far first t)) all
+    c.loop-phrase.invariant.written in
+    writes_then g.K.Sink.written g.K.Sink.settled g.K.Sink.faults c.args.out.now c.loop-phrase.out c.write_whole.new.sink
+    (so_far first others)
     (10 ∷ []) c.write_whole.result written
     (record { same_settled = c.loop-phrase.invariant.same_settled; never_falls = c.loop-phrase.invariant.never_falls })
     (record { ok = c.write_whole.ensures.ok; failed = c.write_whole.ensures.failed; only_writes = c.write_whole.ensures.only_writes })

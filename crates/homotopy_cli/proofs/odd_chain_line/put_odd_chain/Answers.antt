@@ -42,13 +42,20 @@ loop-k-preserved g c =
             omega (arith, so_far.never_falls, w.in_ok-write_out.ensures.never_falls),
             w.in_ok-write_out.ensures.same_settled ∙ so_far.same_settled,
           )
-      | else-len w ↦ rw (w.out-is, w.piece-is) (so_far.gathered, omega (arith, w.if-len.false, c.len.ensures.count), so_far.never_falls, so_far.same_settled)
+      | else-len w ↦ rw (w.out-is, w.piece-is) (
+        so_far.gathered,
+        omega (arith, w.if-len.false, c.len.ensures.count),
+        so_far.never_falls,
+        so_far.same_settled,
+      )
     ] in
     record {
       gathered =
           let more = flat_map behind_blank (link_phrases c.at.result) in
-          subst (λ p. IsGathered start (written c.if-len.out) p (chain_so_far (take (c.loop-k.k + 1) c.args.chain.now))) (sym c.put_link.ensures.put)
-          (subst (IsGathered start (written c.if-len.out) (c.if-len.piece ++ more)) (sym (chain-more c.args.chain.now c.loop-k.k c.at.result c.at.ensures))
+          subst (λ p. IsGathered start (written c.if-len.out) p (chain_so_far (take (c.loop-k.k + 1) c.args.chain.now)))
+          (sym c.put_link.ensures.put)
+          (subst (IsGathered start (written c.if-len.out) (c.if-len.piece ++ more))
+          (sym (chain-more c.args.chain.now c.loop-k.k c.at.result c.at.ensures))
           (gathered-more start (written c.if-len.out) c.if-len.piece text more before.0));
       room = omega (arith, before.1, c.put_link.ensures.short);
       never_falls = before.2;

@@ -12,7 +12,8 @@ returns-in_err-word g c =
     record {
       end =
           rw (p.1, p.2)
-          (line_stops c.args.degree c.args.lines.now c.loop-k.k c.in_err-word.field-0.0 (omega (arith, c.loop-k-test.true, c.len-k-end.ensures))
+          (line_stops c.args.degree c.args.lines.now c.loop-k.k c.in_err-word.field-0.0
+          (omega (arith, c.loop-k-test.true, c.len-k-end.ensures))
           c.loop-k.invariant.in_range c.in_err-word.ensures.end);
     }
 
@@ -23,8 +24,10 @@ loop-k-preserved g c =
     record {
       in_range = in_range-more c.args.degree c.args.lines.now c.loop-k.k below c.loop-k.invariant.in_range word.0;
       canonical =
-          subst (AreCanonicalOf c.args.degree _) (let h = c.push.ensures.items in let k = c.in_ok-map_err.ensures.cases in let m = c.map_err.ensures.cases in search rules)
-          (canonical-more c.args.degree c.args.lines.now c.loop-k.k c.loop-k.words.items c.in_ok-word.word below c.loop-k.invariant.canonical word.1);
+          subst (AreCanonicalOf c.args.degree _) (let h = c.push.ensures.items in let k = c.in_ok-map_err.ensures.cases in let m =
+          c.map_err.ensures.cases in search rules)
+          (canonical-more c.args.degree c.args.lines.now c.loop-k.k c.loop-k.words.items c.in_ok-word.word below
+          c.loop-k.invariant.canonical word.1);
     }
 
 pub returns : goal.returns

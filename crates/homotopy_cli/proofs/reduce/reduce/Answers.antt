@@ -20,7 +20,8 @@ returns-in_err-lines g c =
     let stop = c.in_err-lines.field-0.0 in
     let p = err_from_is_err_and c.from_residual.result c.from_residual.ensures.1 in
     rw (p.1, p.2)
-    (runs_stopped g.S.Shelf.held g.S.Shelf.faults c.args.shelf.now c.read_lines.new.shelf (λ files. of_reduce.reduce files c.args.degree c.args.list.now)
+    (runs_stopped g.S.Shelf.held g.S.Shelf.faults c.args.shelf.now c.read_lines.new.shelf
+    (λ files. of_reduce.reduce files c.args.degree c.args.list.now)
     (looks_at_file files c.args.degree c.args.list.now c.if-degree-lt-LEAST_DEGREE.false) c.args.shelf.now _ stop
     (record { same_files = refl; never_falls = omega arith }) c.in_err-lines.ensures
     (lines_stop files c.args.degree c.args.list.now stop c.if-degree-lt-LEAST_DEGREE.false c.in_err-lines.ensures.end))
@@ -35,7 +36,8 @@ returns-in_err-words g c =
     let stop = c.in_err-words.field-0.0 in
     let p = err_from_is_err_and c.from_residual-in_err-words.result c.from_residual-in_err-words.ensures.1 in
     rw (p.1, p.2)
-    (runs_faulty g.S.Shelf.held g.S.Shelf.faults c.args.shelf.now c.read_lines.new.shelf (λ files. of_reduce.reduce files c.args.degree c.args.list.now)
+    (runs_faulty g.S.Shelf.held g.S.Shelf.faults c.args.shelf.now c.read_lines.new.shelf
+    (λ files. of_reduce.reduce files c.args.degree c.args.list.now)
     (looks_at_file files c.args.degree c.args.list.now c.if-degree-lt-LEAST_DEGREE.false) stop c.in_ok-lines.ensures.only_reads
     (words_no_fault c.args.degree c.in_ok-lines.lines stop c.in_err-words.ensures.end)
     (words_stop files c.args.degree c.args.list.now c.in_ok-lines.lines stop c.if-degree-lt-LEAST_DEGREE.false c.in_ok-lines.ensures.end
@@ -45,12 +47,14 @@ pub returns : goal.returns
 returns g c =
     let files = g.S.Shelf.held c.args.shelf.now in
     let words = c.in_ok-words.words.items in
-    runs_replied g.S.Shelf.held g.S.Shelf.faults c.args.shelf.now c.read_lines.new.shelf (λ files. of_reduce.reduce files c.args.degree c.args.list.now)
+    runs_replied g.S.Shelf.held g.S.Shelf.faults c.args.shelf.now c.read_lines.new.shelf
+    (λ files. of_reduce.reduce files c.args.degree c.args.list.now)
     (looks_at_file files c.args.degree c.args.list.now c.if-degree-lt-LEAST_DEGREE.false) _ c.in_ok-lines.ensures.only_reads
     (record {
       answer = yes_with (words_text words);
       passes =
-          list_passes files c.args.degree c.args.list.now c.in_ok-lines.lines words c.if-degree-lt-LEAST_DEGREE.false c.in_ok-lines.ensures.end
+          list_passes files c.args.degree c.args.list.now c.in_ok-lines.lines words c.if-degree-lt-LEAST_DEGREE.false
+          c.in_ok-lines.ensures.end
           c.in_ok-words.ensures.end.0 c.in_ok-words.ensures.end.1;
       is_answer = record { status_is = refl; text_is = refl };
     })

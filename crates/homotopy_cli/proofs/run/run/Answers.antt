@@ -14,16 +14,19 @@ use Rattle.homotopy_cli.proofs.run.run.Goals.{in-Ok, in-Err-Refused}
 
 -- the reply answers the words
 all : (g : given.Over) (c : goal.After-give g)
-    → Answers (g.S.Shelf.held c.args.shelf.now) (texts c.args.words.now.items) (reply_status c.match-find_answer.reply) (reply_text c.match-find_answer.reply)
+    → Answers (g.S.Shelf.held c.args.shelf.now) (texts c.args.words.now.items) (reply_status c.match-find_answer.reply)
+    (reply_text c.match-find_answer.reply)
 all g c =
     let files = g.S.Shelf.held c.args.shelf.now in
     let words = texts c.args.words.now.items in
     elim c.match-find_answer.branch [
       | in-Ok w ↦
-          subst (λ (r : Reply). Answers files words (reply_status r) (reply_text r)) (sym w.reply-is) (reply_answers files words w.in-Ok.reply w.in-Ok.ensures.end)
+          subst (λ (r : Reply). Answers files words (reply_status r) (reply_text r)) (sym w.reply-is)
+          (reply_answers files words w.in-Ok.reply w.in-Ok.ensures.end)
       | in-Err-Refused w ↦
           subst (λ (r : Reply). Answers files words (reply_status r) (reply_text r)) (sym w.reply-is)
-          (refusal_answers files words w.in-Err-Refused.text (subst (Stops (answer_of files words)) w.in-Err-Refused.field-0-is w.in-Err-Refused.ensures.end))
+          (refusal_answers files words w.in-Err-Refused.text
+          (subst (Stops (answer_of files words)) w.in-Err-Refused.field-0-is w.in-Err-Refused.ensures.end))
     ]
 
 pub returns-clause-answered : goal.returns-clause-answered

@@ -17,8 +17,10 @@ pub returns : goal.returns
 returns g c =
     let behind = denial_text c.args.denial.now in
     subst
-    (λ (t : List ℕ). Writes g.K.Sink.written g.K.Sink.settled g.K.Sink.faults c.args.out.now c.write_denial.new.sink (t ++ behind) c.write_denial.result)
+    (λ (t : List ℕ). Writes g.K.Sink.written g.K.Sink.settled g.K.Sink.faults c.args.out.now c.write_denial.new.sink (t ++ behind)
+    c.write_denial.result)
     c.line_of.ensures
-    (writes_then g.K.Sink.written g.K.Sink.settled g.K.Sink.faults c.args.out.now c.put_line.new.out c.write_denial.new.sink c.line_of.result behind
+    (writes_then g.K.Sink.written g.K.Sink.settled g.K.Sink.faults c.args.out.now c.put_line.new.out c.write_denial.new.sink
+    c.line_of.result behind
     c.write_denial.result c.in_ok-put_line.ensures.ok c.in_ok-put_line.ensures.only_writes
     (record { ok = c.write_denial.ensures.ok; failed = c.write_denial.ensures.failed; only_writes = c.write_denial.ensures.only_writes }))

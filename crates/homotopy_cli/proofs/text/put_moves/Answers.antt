@@ -17,9 +17,11 @@ pub returns : goal.returns
 returns g c =
     let behind = list_text c.args.list.now in
     subst
-    (λ (t : List ℕ). Writes g.K.Sink.written g.K.Sink.settled g.K.Sink.faults c.args.out.now c.write_moves.new.sink (t ++ behind) c.write_moves.result)
+    (λ (t : List ℕ). Writes g.K.Sink.written g.K.Sink.settled g.K.Sink.faults c.args.out.now c.write_moves.new.sink (t ++ behind)
+    c.write_moves.result)
     c.line_of.ensures
-    (writes_then g.K.Sink.written g.K.Sink.settled g.K.Sink.faults c.args.out.now c.put_line.new.out c.write_moves.new.sink c.line_of.result behind
+    (writes_then g.K.Sink.written g.K.Sink.settled g.K.Sink.faults c.args.out.now c.put_line.new.out c.write_moves.new.sink
+    c.line_of.result behind
     c.write_moves.result c.in_ok-put_line.ensures.ok c.in_ok-put_line.ensures.only_writes
     (record {
       ok = c.write_moves.ensures.ok;

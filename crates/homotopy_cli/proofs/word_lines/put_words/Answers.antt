@@ -17,8 +17,10 @@ returns-in_err-put_word g c =
     rw p.1 (record {
       ok = tt;
       failed =
-          words-stop g.K.Sink.written g.K.Sink.faults c.args.out.now c.loop-word.out c.put_word.new.out c.loop-word.piece c.args.words.now.items
-          c.loop-word.word-index c.word-item.result (subst (λ (t : List (List ℕ)). c.loop-word.word-index < length t) value c.loop-word-test.true)
+          words-stop g.K.Sink.written g.K.Sink.faults c.args.out.now c.loop-word.out c.put_word.new.out c.loop-word.piece
+          c.args.words.now.items
+          c.loop-word.word-index c.word-item.result (subst (λ (t : List (List ℕ)). c.loop-word.word-index < length t) value
+          c.loop-word-test.true)
           (subst (λ (t : List (List ℕ)). c.word-item.result ≡ get_or t c.loop-word.word-index c.word-item.result) value c.word-item.is)
           c.loop-word.invariant.gathers c.loop-word.invariant.never_falls c.in_err-put_word.ensures.failed;
       only_writes =
@@ -33,9 +35,12 @@ loop-word-preserved g c =
     let value : c.deref-word-items.result.now ≡ c.args.words.now.items = c.deref-word-items.ensures.value in
     record {
       gathers =
-          words-more-put g.K.Sink.written c.args.out.now c.loop-word.out c.put_word.new.out c.loop-word.piece c.put_word.new.piece c.args.words.now.items
-          c.loop-word.word-index c.word-item.result (subst (λ (t : List (List ℕ)). c.loop-word.word-index < length t) value c.loop-word-test.true)
-          (subst (λ (t : List (List ℕ)). c.word-item.result ≡ get_or t c.loop-word.word-index c.word-item.result) value c.word-item.is) c.loop-word.invariant.gathers c.in_ok-put_word.ensures.ok;
+          words-more-put g.K.Sink.written c.args.out.now c.loop-word.out c.put_word.new.out c.loop-word.piece c.put_word.new.piece
+          c.args.words.now.items
+          c.loop-word.word-index c.word-item.result (subst (λ (t : List (List ℕ)). c.loop-word.word-index < length t) value
+          c.loop-word-test.true)
+          (subst (λ (t : List (List ℕ)). c.word-item.result ≡ get_or t c.loop-word.word-index c.word-item.result) value c.word-item.is)
+          c.loop-word.invariant.gathers c.in_ok-put_word.ensures.ok;
       never_falls = omega (arith, c.loop-word.invariant.never_falls, c.in_ok-put_word.ensures.only_writes.never_falls);
       same_settled = c.in_ok-put_word.ensures.only_writes.same_settled ∙ c.loop-word.invariant.same_settled;
     }
@@ -52,11 +57,13 @@ returns g c =
     record {
       ok =
           both_ok c.write_piece.result
-          (gathers-all g.K.Sink.written c.args.out.now c.loop-word.out c.write_piece.new.out c.loop-word.piece (words_text c.args.words.now.items)
+          (gathers-all g.K.Sink.written c.args.out.now c.loop-word.out c.write_piece.new.out c.loop-word.piece
+          (words_text c.args.words.now.items)
           gathers) c.write_piece.ensures.ok;
       failed =
           on_err c.write_piece.result
-          (words-stop_last g.K.Sink.written g.K.Sink.faults c.args.out.now c.loop-word.out c.write_piece.new.out c.loop-word.piece c.args.words.now.items
+          (words-stop_last g.K.Sink.written g.K.Sink.faults c.args.out.now c.loop-word.out c.write_piece.new.out c.loop-word.piece
+          c.args.words.now.items
           c.loop-word.word-index all c.loop-word.invariant.gathers c.loop-word.invariant.never_falls)
           c.write_piece.ensures.failed;
       only_writes =

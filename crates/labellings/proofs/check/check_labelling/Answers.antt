@@ -12,7 +12,8 @@ returns-in-Some-clause-fault c =
       shape,
       degree,
       c.in_ok-wheel.ensures.places,
-      rw (c.ends.ensures.low, c.ends.ensures.high) (least-against c.args.faces.now c.args.sides.now c.args.labelling c.in-Some.edge.0 c.requires c.in-Some.ensures.some),
+      rw (c.ends.ensures.low, c.ends.ensures.high) (least-against c.args.faces.now c.args.sides.now c.args.labelling c.in-Some.edge.0
+          c.requires c.in-Some.ensures.some),
     )
 
 pub returns-in-Some-clause-accepted : goal.returns-in-Some-clause-accepted

@@ -39,6 +39,8 @@ returns c =
     let two : length sides ≡ 2 = omega (arith, c.sides_of.ensures, c.if-sides_of-ne2.false) in
     let first = get_or_from_slice_get sides 0 c.side-side.result none c.side-side.ensures in
     let second = get_or_from_slice_get sides 1 c.side-other.result none c.side-other.ensures in (
-      (λ meets. rule-from-sides mesh table c.args.labelling.now k c.side-side.result c.side-other.result none c.requires.table c.requires.edge first second two (c.sides_meet_rule.ensures.0 meets)),
-      (λ meets. c.sides_meet_rule.ensures.1 (sides-from-rule mesh table c.args.labelling.now k c.side-side.result c.side-other.result none c.requires.table c.requires.edge first second meets)),
+      (λ meets. rule-from-sides mesh table c.args.labelling.now k c.side-side.result c.side-other.result none c.requires.table
+          c.requires.edge first second two (c.sides_meet_rule.ensures.0 meets)),
+      (λ meets. c.sides_meet_rule.ensures.1 (sides-from-rule mesh table c.args.labelling.now k c.side-side.result c.side-other.result
+          none c.requires.table c.requires.edge first second meets)),
     )

@@ -23,7 +23,11 @@ labelled-one-requires-clause-side c =
 
 pub side-requires-2-clause-side : goal.side-requires-2-clause-side
 side-requires-2-clause-side c =
-    omega (arith, two-sides c.args.faces.now c.args.sides.now c.args.labelling.now c.args.edge.0 c.requires.good c.requires.table c.requires.edge)
+    omega (
+      arith,
+      two-sides c.args.faces.now c.args.sides.now c.args.labelling.now c.args.edge.0 c.requires.good c.requires.table
+          c.requires.edge,
+    )
 
 pub labelled-two-requires-clause-side : goal.labelled-two-requires-clause-side
 labelled-two-requires-clause-side c =
@@ -48,11 +52,19 @@ returns-then-eq c =
     let first = get_or_from_slice_get sides 0 c.side.result none c.side.ensures in
     let second = get_or_from_slice_get sides 1 c.side-2.result none c.side-2.ensures in
     let starts : c.labelled-one.result.tail.0 ≡ c.args.from.0 = search rules in
-    let along = spokes-along mesh table labelling k c.args.from.0 c.args.to.0 c.side.result c.side-2.result none c.len.ensures.valid c.requires.good c.requires.table c.requires.edge c.requires.ends first second
+    let along = spokes-along mesh table labelling k c.args.from.0 c.args.to.0 c.side.result c.side-2.result none c.len.ensures.valid
+    c.requires.good c.requires.table c.requires.edge c.requires.ends first second
     (sym c.labelled-one.ensures.tail ∙ starts) in
-    let labels : spokes_by_labels c.labelled-one.result.tail_label c.labelled-one.result.head_label c.labelled-two.result.tail_label c.labelled-two.result.head_label ≡ spokes mesh labelling c.args.from.0 c.args.to.0 =
-    rw (c.labelled-one.ensures.tail_label, c.labelled-one.ensures.head_label, c.labelled-two.ensures.tail_label, c.labelled-two.ensures.head_label) (sym along) in
-    subst (λ (xs : List ℕ). MatchOption c.spokes_along.result (xs ≡ []) (λ pair. xs ≡ pair.0.0 ∷ pair.1.0 ∷ [])) labels c.spokes_along.ensures
+    let labels : spokes_by_labels c.labelled-one.result.tail_label c.labelled-one.result.head_label c.labelled-two.result.tail_label
+    c.labelled-two.result.head_label ≡ spokes mesh labelling c.args.from.0 c.args.to.0 =
+    rw (
+      c.labelled-one.ensures.tail_label,
+      c.labelled-one.ensures.head_label,
+      c.labelled-two.ensures.tail_label,
+      c.labelled-two.ensures.head_label,
+    ) (sym along) in
+    subst (λ (xs : List ℕ). MatchOption c.spokes_along.result (xs ≡ []) (λ pair. xs ≡ pair.0.0 ∷ pair.1.0 ∷ [])) labels
+    c.spokes_along.ensures
 
 pub returns-else-eq : goal.returns-else-eq
 returns-else-eq c =
@@ -65,8 +77,16 @@ returns-else-eq c =
     let first = get_or_from_slice_get sides 0 c.side.result none c.side.ensures in
     let second = get_or_from_slice_get sides 1 c.side-2.result none c.side-2.ensures in
     let other : c.labelled-one.result.tail.0 ≢ c.args.from.0 = search rules in
-    let along = spokes-against mesh table labelling k c.args.from.0 c.args.to.0 c.side.result c.side-2.result none c.len.ensures.valid c.requires.good c.requires.table c.requires.edge c.requires.ends first second
+    let along = spokes-against mesh table labelling k c.args.from.0 c.args.to.0 c.side.result c.side-2.result none c.len.ensures.valid
+    c.requires.good c.requires.table c.requires.edge c.requires.ends first second
     (λ e. other (c.labelled-one.ensures.tail ∙ e)) in
-    let labels : spokes_by_labels c.labelled-two.result.tail_label c.labelled-two.result.head_label c.labelled-one.result.tail_label c.labelled-one.result.head_label ≡ spokes mesh labelling c.args.from.0 c.args.to.0 =
-    rw (c.labelled-two.ensures.tail_label, c.labelled-two.ensures.head_label, c.labelled-one.ensures.tail_label, c.labelled-one.ensures.head_label) (sym along) in
-    subst (λ (xs : List ℕ). MatchOption c.spokes_along-else-eq.result (xs ≡ []) (λ pair. xs ≡ pair.0.0 ∷ pair.1.0 ∷ [])) labels c.spokes_along-else-eq.ensures
+    let labels : spokes_by_labels c.labelled-two.result.tail_label c.labelled-two.result.head_label c.labelled-one.result.tail_label
+    c.labelled-one.result.head_label ≡ spokes mesh labelling c.args.from.0 c.args.to.0 =
+    rw (
+      c.labelled-two.ensures.tail_label,
+      c.labelled-two.ensures.head_label,
+      c.labelled-one.ensures.tail_label,
+      c.labelled-one.ensures.head_label,
+    ) (sym along) in
+    subst (λ (xs : List ℕ). MatchOption c.spokes_along-else-eq.result (xs ≡ []) (λ pair. xs ≡ pair.0.0 ∷ pair.1.0 ∷ [])) labels
+    c.spokes_along-else-eq.ensures

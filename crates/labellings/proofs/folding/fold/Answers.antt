@@ -12,11 +12,13 @@ use Rattle.labellings.proofs.folding.fold.Goals as goal
 pub put_spokes-requires-clause-below : goal.put_spokes-requires-clause-below
 put_spokes-requires-clause-below g c =
     rw c.wheel.ensures
-    (found_below c.args.faces.now c.args.good.now c.requires.good c.at.result.0 c.at-in-loop-dart.result.0 c.spokes-spokes.result c.spokes-spokes.ensures)
+    (found_below c.args.faces.now c.args.good.now c.requires.good c.at.result.0 c.at-in-loop-dart.result.0 c.spokes-spokes.result
+    c.spokes-spokes.ensures)
 
 pub returns-in_err-put_spokes-clause-kept : goal.returns-in_err-put_spokes-clause-kept
 returns-in_err-put_spokes-clause-kept g c =
-    tells-some _ _ (g.R.Recorder.noted c.args.recorder.now) (g.R.Recorder.noted c.loop-dart.recorder) (g.R.Recorder.noted c.put_spokes.new.recorder)
+    tells-some _ _ (g.R.Recorder.noted c.args.recorder.now) (g.R.Recorder.noted c.loop-dart.recorder)
+    (g.R.Recorder.noted c.put_spokes.new.recorder)
     c.loop-dart.invariant.notes c.in_err-put_spokes.ensures.kept
 
 pub loop-dart-preserved : goal.loop-dart-preserved
@@ -38,19 +40,24 @@ loop-dart-preserved g c =
     let higher : k + 1 ≡ suc k = omega arith in
     let head : c.at-in-loop-dart.result.0 ≡ get_or walk (suc k) 0 = c.at-in-loop-dart.ensures ∙ ap (λ n. get_or walk n 0) higher in
     let dart : spokes mesh labelling (get_or walk k 0) (get_or walk (suc k) 0) ≡ spoke_list c.spokes-spokes.result =
-    ap (λ n. spokes mesh labelling n (get_or walk (suc k) 0)) (sym c.at.ensures) ∙ ap (spokes mesh labelling c.at.result.0) (sym head) ∙ found in
+    ap (λ n. spokes mesh labelling n (get_or walk (suc k) 0)) (sym c.at.ensures) ∙ ap (spokes mesh labelling c.at.result.0) (sym head)
+    ∙ found in
     let more : quad_path mesh labelling (take (suc (k + 1)) walk) ≡ so_far ++ spoke_list c.spokes-spokes.result =
-    ap (λ n. quad_path mesh labelling (take (suc n) walk)) higher ∙ path-next mesh labelling walk k few ∙ ap (λ (l : List ℕ). so_far ++ l) dart in
+    ap (λ n. quad_path mesh labelling (take (suc n) walk)) higher ∙ path-next mesh labelling walk k few
+    ∙ ap (λ (l : List ℕ). so_far ++ l) dart in
     let here : after ≡ led next places before (spoke_list c.spokes-spokes.result) =
     c.in_ok-put_spokes.ensures.state ∙ ap (λ (l : List ℕ). led next l before (spoke_list c.spokes-spokes.result)) c.wheel.ensures in
     record {
-      state = rw more (led-on next notes places start before after so_far (spoke_list c.spokes-spokes.result) c.loop-dart.invariant.state here);
+      state = rw more (led-on next notes places start before after so_far (spoke_list c.spokes-spokes.result)
+          c.loop-dart.invariant.state here);
       belongs = subst (λ (l : List ℕ). g.F.Form.Belongs l after) c.wheel.ensures c.in_ok-put_spokes.ensures.belongs;
       size = omega (arith, c.loop-dart.invariant.size, c.in_ok-put_spokes.ensures.size);
       notes = rw more
           (tells-on next notes places start before so_far (spoke_list c.spokes-spokes.result) (g.R.Recorder.noted c.args.recorder.now)
-          (g.R.Recorder.noted c.loop-dart.recorder) (g.R.Recorder.noted c.put_spokes.new.recorder) c.loop-dart.invariant.state c.loop-dart.invariant.notes
-          (subst (λ (l : List ℕ). TellsMore (NotesAlong next notes l before (spoke_list c.spokes-spokes.result)) (g.R.Recorder.noted c.loop-dart.recorder)
+          (g.R.Recorder.noted c.loop-dart.recorder) (g.R.Recorder.noted c.put_spokes.new.recorder) c.loop-dart.invariant.state
+          c.loop-dart.invariant.notes
+          (subst (λ (l : List ℕ). TellsMore (NotesAlong next notes l before (spoke_list c.spokes-spokes.result))
+          (g.R.Recorder.noted c.loop-dart.recorder)
           (g.R.Recorder.noted c.put_spokes.new.recorder)) c.wheel.ensures c.in_ok-put_spokes.ensures.notes));
     }
 
@@ -61,7 +68,12 @@ returns-clause-homotopic g c = λ other at_vertex homotopic.
     let walk : List ℕ = c.args.walk.now in
     let places : List ℕ = labelling.places in
     let start = g.F.Form.state c.args.form.now in
-    let long : length walk ≤ suc c.loop-dart.dart = omega (arith, c.loop-dart-test.false, c.darts-dart-end.ensures.count, c.requires.walk.starts) in
+    let long : length walk ≤ suc c.loop-dart.dart = omega (
+      arith,
+      c.loop-dart-test.false,
+      c.darts-dart-end.ensures.count,
+      c.requires.walk.starts,
+    ) in
     let whole : take (suc c.loop-dart.dart) walk ≡ walk = take_all (suc c.loop-dart.dart) walk long in
     c.loop-dart.invariant.state ∙ ap (λ (w : List ℕ). led g.F.Form.next places start (quad_path mesh labelling w)) whole
     ∙ moves_keep mesh labelling g.F.Form.next (g.F.Form.Belongs places) g.F.Form.IsAtVertex

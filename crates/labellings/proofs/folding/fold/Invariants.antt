@@ -12,6 +12,7 @@ invariant-loop-dart g l = record {
   belongs : g.F.Form.Belongs l.good.places (g.F.Form.state l.form);
   size : g.F.Form.size (g.F.Form.state l.form) ≤ g.F.Form.size (g.F.Form.state l.fn.form) + 2 * l.dart;
   notes : TellsMore
-      (NotesAlong g.F.Form.next g.F.Form.Notes l.good.places (g.F.Form.state l.fn.form) (quad_path l.faces l.good (take (suc l.dart) l.walk)))
+      (NotesAlong g.F.Form.next g.F.Form.Notes l.good.places (g.F.Form.state l.fn.form)
+      (quad_path l.faces l.good (take (suc l.dart) l.walk)))
       (g.R.Recorder.noted l.fn.recorder) (g.R.Recorder.noted l.recorder);
 }

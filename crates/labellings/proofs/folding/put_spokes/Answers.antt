@@ -14,7 +14,9 @@ returns-clause-notes g c =
     rw c.in-Some.is
     (on_ok_weaker c.act-2.result
     (λ second.
-    tells-two g.F.Form.next g.F.Form.Notes places state there back (g.R.Recorder.noted c.args.recorder.now) (g.R.Recorder.noted c.act.new.recorder)
+    tells-two g.F.Form.next g.F.Form.Notes places state there back (g.R.Recorder.noted c.args.recorder.now)
+    (g.R.Recorder.noted c.act.new.recorder)
     (g.R.Recorder.noted c.act-2.new.recorder) c.in_ok-act.ensures.notes
-    (subst (λ s. TellsMore (g.F.Form.Notes places s back) (g.R.Recorder.noted c.act.new.recorder) (g.R.Recorder.noted c.act-2.new.recorder)) between second))
+    (subst (λ s. TellsMore (g.F.Form.Notes places s back) (g.R.Recorder.noted c.act.new.recorder)
+    (g.R.Recorder.noted c.act-2.new.recorder)) between second))
     c.act-2.ensures.notes)

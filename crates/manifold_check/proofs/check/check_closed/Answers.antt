@@ -11,7 +11,8 @@ pub returns-in-Some-clause-fault : goal.returns-in-Some-clause-fault
 returns-in-Some-clause-fault c =
     inr (record {
       some_face = omega arith;
-      edge = uneven_as_read c.args.faces.now c.args.sides.now c.in-Some.edge.0 c.ends.result.0.0 c.ends.result.1.0 c.sides_of.result c.requires c.in-Some.ensures.some
+      edge = uneven_as_read c.args.faces.now c.args.sides.now c.in-Some.edge.0 c.ends.result.0.0 c.ends.result.1.0 c.sides_of.result
+          c.requires c.in-Some.ensures.some
           c.ends.ensures.low c.ends.ensures.high c.sides_of.ensures;
     })
 
@@ -20,7 +21,8 @@ returns-in-Some-clause-accepted c =
     let fault = EdgeSides c.ends.result.0 c.ends.result.1 c.sides_of.result in
     let here : IsFirstFault c.args.faces.now fault = record {
       some_face = omega arith;
-      edge = uneven_as_read c.args.faces.now c.args.sides.now c.in-Some.edge.0 c.ends.result.0.0 c.ends.result.1.0 c.sides_of.result c.requires c.in-Some.ensures.some
+      edge = uneven_as_read c.args.faces.now c.args.sides.now c.in-Some.edge.0 c.ends.result.0.0 c.ends.result.1.0 c.sides_of.result
+          c.requires c.in-Some.ensures.some
           c.ends.ensures.low c.ends.ensures.high c.sides_of.ensures;
     } in
     λ closed. absurd (no_fault c.args.faces.now fault closed here)
@@ -30,7 +32,8 @@ returns-in-Some-clause-refused c =
     let fault = EdgeSides c.ends.result.0 c.ends.result.1 c.sides_of.result in
     let here : IsFirstFault c.args.faces.now fault = record {
       some_face = omega arith;
-      edge = uneven_as_read c.args.faces.now c.args.sides.now c.in-Some.edge.0 c.ends.result.0.0 c.ends.result.1.0 c.sides_of.result c.requires c.in-Some.ensures.some
+      edge = uneven_as_read c.args.faces.now c.args.sides.now c.in-Some.edge.0 c.ends.result.0.0 c.ends.result.1.0 c.sides_of.result
+          c.requires c.in-Some.ensures.some
           c.ends.ensures.low c.ends.ensures.high c.sides_of.ensures;
     } in
     λ other first. inl (ap Err (one_fault c.args.faces.now fault other here first))

@@ -19,7 +19,8 @@ loop-parents-preserved c =
       forest = lifted_forest parents at i.forest within;
       same = same_roots_trans first parents _ i.same (lifted_roots parents at i.forest within);
       within = omega (arith, i.within);
-      root = sym (i.same.roots above (omega (arith, i.within))) ∙ names.shared parent (omega arith) ∙ names.shared at within ∙ i.same.roots at i.within ∙ i.root;
+      root = sym (i.same.roots above (omega (arith, i.within))) ∙ names.shared parent (omega arith) ∙ names.shared at within
+          ∙ i.same.roots at i.within ∙ i.root;
     }
 
 pub returns-clause-root : goal.returns-clause-root

@@ -18,7 +18,8 @@ loop-number-preserved c =
     let names : IsLabelling parents (root_of parents) = root_labels parents i.forest in
     let here : above ≡ root_of first at =
     elim (cases_eq parent at) [
-      | inl same ↦ ap (λ z. get_or parents z 0) same ∙ same ∙ sym (root_own parents at i.forest within same) ∙ i.same.roots at (omega (arith, within, i.same.count))
+      | inl same ↦ ap (λ z. get_or parents z 0) same ∙ same ∙ sym (root_own parents at i.forest within same)
+          ∙ i.same.roots at (omega (arith, within, i.same.count))
       | inr other ↦
           i.done parent (omega arith) ∙ sym (i.same.roots parent (omega (arith, within, i.same.count))) ∙ names.shared at within
           ∙ i.same.roots at (omega (arith, within, i.same.count))

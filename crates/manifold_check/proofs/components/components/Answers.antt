@@ -7,7 +7,8 @@ use Rattle.manifold_check.proofs.components.components.Goals as goal
 
 pub loop-edge-init : goal.loop-edge-init
 loop-edge-init c =
-    edges_none c.args.faces.now c.args.sides.now c.in_ok-vertices.vertices (c.in_ok-vertices.ensures ∙ ap (range_with_len 0) c.count.ensures)
+    edges_none c.args.faces.now c.args.sides.now c.in_ok-vertices.vertices
+    (c.in_ok-vertices.ensures ∙ ap (range_with_len 0) c.count.ensures)
 
 pub join-requires-clause-first : goal.join-requires-clause-first
 join-requires-clause-first c =
@@ -22,7 +23,8 @@ join-requires-clause-second c =
 pub loop-edge-preserved : goal.loop-edge-preserved
 loop-edge-preserved c =
     subst (λ (least : List ℕ). JoinsEdgesUpTo c.args.faces.now c.args.sides.now least (c.loop-edge.edge + 1)) (sym c.join.ensures)
-    (edges_more c.args.faces.now c.args.sides.now c.loop-edge.vertices c.loop-edge.edge c.ends.result.0.0 c.ends.result.1.0 c.requires.valid c.requires.table
+    (edges_more c.args.faces.now c.args.sides.now c.loop-edge.vertices c.loop-edge.edge c.ends.result.0.0 c.ends.result.1.0
+    c.requires.valid c.requires.table
     (omega arith) c.ends.ensures.low c.ends.ensures.high c.loop-edge.invariant)
 
 pub returns-clause-components : goal.returns-clause-components

@@ -21,4 +21,5 @@ returns c =
     let mesh = c.args.faces.now in
     let u : ℕ = c.in-Some.vertex.0 in
     all_joined mesh c.in_ok-least.least.items u c.requires.valid c.in_ok-least.ensures.components
-    (subst (λ (least : List ℕ). (v : ℕ) → v < mesh.count → is_used mesh v ≡ true → get_or least v 0 ≡ get_or least u 0) c.deref.ensures.value c.in-None.ensures.none)
+    (subst (λ (least : List ℕ). (v : ℕ) → v < mesh.count → is_used mesh v ≡ true → get_or least v 0 ≡ get_or least u 0)
+    c.deref.ensures.value c.in-None.ensures.none)

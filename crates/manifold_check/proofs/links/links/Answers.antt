@@ -27,20 +27,28 @@ loop-corner-preserved c =
     let rings : List ℕ = c.args.rings.now in
     let n : ℕ = c.loop-corner.corner in
     let links : List Link = c.loop-corner.links.items in
-    let after : (ls : Vec Link Global) → c.if-rings-corner.links ≡ ls → (new : List Link) → ls.items ≡ new → AreLinksUpTo mesh rings (n + 1) new
+    let after : (ls : Vec Link Global) → c.if-rings-corner.links ≡ ls → (new : List Link) → ls.items ≡ new
+    → AreLinksUpTo mesh rings (n + 1) new
     → AreLinksUpTo mesh rings (n + 1) c.if-rings-corner.links.items =
     λ ls is new items h. subst (AreLinksUpTo mesh rings (n + 1)) (sym (ap (λ (v : Vec Link Global). v.items) is ∙ items)) h in
     elim c.if-rings-corner.branch [
       | then-rings-corner w ↦
           (let v : ℕ = w.corner-vertex.result.0 in
           let corner : Side = w.side_at-side.result in
-          let within : v < mesh.count = omega (arith, w.corner-vertex.ensures, corner_below mesh corner c.requires.valid w.side_at-side.ensures.side) in
+          let within : v < mesh.count = omega (
+            arith,
+            w.corner-vertex.ensures,
+            corner_below mesh corner c.requires.valid w.side_at-side.ensures.side,
+          ) in
           let new : List Link = w.add_ring.new.links in
           let is_new : new ≡ added links v = w.add_ring.ensures ∙ ap (λ (ls : List Link). added ls v) w.deref_mut.ensures.value in
           let size : length new ≡ c.loop-corner.links.len =
-          ap (λ (ls : List Link). length ls) is_new ∙ length-set links v (with_ring (link_at links v)) ∙ omega (arith, c.loop-corner.links.ok.0) in
+          ap (λ (ls : List Link). length ls) is_new ∙ length-set links v (with_ring (link_at links v))
+          ∙ omega (arith, c.loop-corner.links.ok.0) in
           after (with_items c.loop-corner.links new) w.links-is (added links v) (with_items_is c.loop-corner.links new size ∙ is_new)
-          (links_more mesh rings n v corner links within w.side_at-side.ensures.side (sym w.corner-vertex.ensures) w.side_at-side.ensures.number w.if-rings-corner.true
+          (links_more mesh rings n v corner links within w.side_at-side.ensures.side (sym w.corner-vertex.ensures)
+          w.side_at-side.ensures.number w.if-rings-corner.true
           c.loop-corner.invariant))
-      | else-rings-corner w ↦ after c.loop-corner.links w.links-is links refl (links_other mesh rings n links w.if-rings-corner.false c.loop-corner.invariant)
+      | else-rings-corner w ↦ after c.loop-corner.links w.links-is links refl
+          (links_other mesh rings n links w.if-rings-corner.false c.loop-corner.invariant)
     ]

@@ -15,4 +15,5 @@ returns c =
     pinch_found mesh rings links found c.requires.valid c.in_ok-rings.ensures.count c.in_ok-rings.ensures.rings c.in_ok-rings.ensures.least
     (subst (λ (rs : List ℕ). AreLinks mesh rs links) c.deref.ensures.value c.in_ok-links.ensures)
     (subst (λ (ls : List Link). IfSome found (λ vertex. IsFirstPinched ls vertex.0)) c.deref-2.ensures.value c.first_pinched.ensures.some)
-    (subst (λ (ls : List Link). IfNone found ((v : ℕ) → v < length ls → link_at ls v ≡ Pinched → ⊥)) c.deref-2.ensures.value c.first_pinched.ensures.none)
+    (subst (λ (ls : List Link). IfNone found ((v : ℕ) → v < length ls → link_at ls v ≡ Pinched → ⊥)) c.deref-2.ensures.value
+    c.first_pinched.ensures.none)

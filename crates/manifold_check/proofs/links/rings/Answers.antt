@@ -14,7 +14,8 @@ loop-face-init c = sides_none c.args.faces.now c.in_ok-corners.corners (c.in_ok-
 pub loop-at-init : goal.loop-at-init
 loop-at-init c =
     let mesh = c.args.faces.now in
-    sides_fewer mesh c.loop-face.corners (first_side mesh c.loop-face.face + 0) (first_side mesh c.loop-face.face) (omega arith) c.loop-face.invariant
+    sides_fewer mesh c.loop-face.corners (first_side mesh c.loop-face.face + 0) (first_side mesh c.loop-face.face) (omega arith)
+    c.loop-face.invariant
 
 -- the side at hand
 abbrev at_hand : ℕ → ℕ → Side
@@ -26,7 +27,8 @@ join_across-requires-clause-partners c =
     let side : Side = at_hand c.loop-face.face c.loop-at.at in
     let next : ℕ = c.other-other.result.0 in
     let found : HasPartner mesh side next =
-    has_partner mesh c.args.sides.now side c.dart-dart.result.0 next c.requires.table c.requires.two (record { face = omega arith; place = omega arith })
+    has_partner mesh c.args.sides.now side c.dart-dart.result.0 next c.requires.table c.requires.two
+    (record { face = omega arith; place = omega arith })
     c.dart-dart.ensures.number (c.other-other.ensures mesh c.requires.table) in
     partners_by_number mesh side c.side_at.result next found c.side_at.ensures.side c.side_at.ensures.number
 
@@ -38,7 +40,8 @@ loop-at-preserved c =
     let next : ℕ = c.other-other.result.0 in
     let is : IsSide mesh side = record { face = omega arith; place = omega arith } in
     let found : HasPartner mesh side next =
-    has_partner mesh c.args.sides.now side c.dart-dart.result.0 next c.requires.table c.requires.two is c.dart-dart.ensures.number (c.other-other.ensures mesh c.requires.table) in
+    has_partner mesh c.args.sides.now side c.dart-dart.result.0 next c.requires.table c.requires.two is c.dart-dart.ensures.number
+    (c.other-other.ensures mesh c.requires.table) in
     let number : c.dart-dart.result.0 ≡ n = c.dart-dart.ensures.number in
     let more : JoinsSidesUpTo mesh c.if-other-dart.corners (n + 1) =
     elim c.if-other-dart.branch [

@@ -17,7 +17,8 @@ pub returns-then-not-form_edge-clause-step : goal.returns-then-not-form_edge-cla
 returns-then-not-form_edge-clause-step c = λ mesh table.
     let old = c.args.vertices.now.items in
     let count = darts_of old c.args.vertices.now.len c.args.vertices.now.ok.0 in
-    let here = entry_read old c.args.at c.index-here.result.now (omega (arith, c.len-darts.ensures, c.args.vertices.now.ok.0, c.requires.starts)) c.index-here.ensures in
+    let here = entry_read old c.args.at c.index-here.result.now
+    (omega (arith, c.len-darts.ensures, c.args.vertices.now.ok.0, c.requires.starts)) c.index-here.ensures in
     insert_off_edge mesh c.args.peak (numbers old) c.args.at c.args.via
     (omega (arith, count, c.len-darts.ensures))
     (ap (λ (v : ℕ). is_edge mesh v c.args.via.0) (sym here) ∙ sym (c.if-not-form_edge.ensures mesh table))
@@ -27,9 +28,17 @@ returns-then-darts-peak-clause-step c = λ mesh table.
     let old = c.args.vertices.now.items in
     let walk : List ℕ = numbers old in
     let count = darts_of old c.args.vertices.now.len c.args.vertices.now.ok.0 in
-    let here = entry_read old c.args.at c.index-here.result.now (omega (arith, c.len-darts.ensures, c.args.vertices.now.ok.0, c.requires.starts)) c.index-here.ensures in
+    let here = entry_read old c.args.at c.index-here.result.now
+    (omega (arith, c.len-darts.ensures, c.args.vertices.now.ok.0, c.requires.starts)) c.index-here.ensures in
     let others : List ℕ = get_or walk c.args.at 0 ∷ c.args.via.0 ∷ get_or walk c.args.at 0 ∷ [] in
-    let below : c.args.at + 1 ≤ length walk = omega (arith, count, c.len-darts.ensures, length-numbers old, c.args.vertices.now.ok.0, c.requires.starts) in
+    let below : c.args.at + 1 ≤ length walk = omega (
+      arith,
+      count,
+      c.len-darts.ensures,
+      length-numbers old,
+      c.args.vertices.now.ok.0,
+      c.requires.starts,
+    ) in
     let grown = length-replaced c.args.at 1 others walk below in
     over_peak mesh c.args.peak walk (Insert c.args.at c.args.via) (replaced c.args.at 1 others walk)
     (insert_allowed mesh walk c.args.at c.args.via (omega (arith, count, c.len-darts.ensures))

@@ -34,5 +34,6 @@ pub returns : goal.returns
 returns c =
     let entries = c.args.entries.now in
     let whole : length (numbers entries) ≡ length entries = length-numbers entries in
-    rw (← whole) (sym (same_walk_true _ _ (on_way_all (face_at c.args.faces.now c.args.way.face.0) c.args.way.forward c.args.way.corner (numbers entries)
+    rw (← whole) (sym (same_walk_true _ _ (on_way_all (face_at c.args.faces.now c.args.way.face.0) c.args.way.forward c.args.way.corner
+    (numbers entries)
     c.loop-entry.entry-index c.loop-entry.corner c.loop-entry.invariant (omega arith) (omega arith))))

@@ -26,9 +26,11 @@ returns-then-ne-clause-step c = λ mesh.
     let place : c.args.at + 2 ≤ darts walk = omega (arith, size, length-numbers old) in
     elim c.then-ne.branch [
       | then-ne-via-then-ne w ↦ remove_off_spur mesh c.args.peak walk c.args.at c.args.via place
-          (and_left _ _ (ap (λ (a : ℕ). a == get_or walk (c.args.at + 2) 0) (sym first) ∙ ap (λ (b : ℕ). c.index.result.now.0 == b) (sym last) ∙ not-true _ (sym w.if-ne.ensures)))
+          (and_left _ _ (ap (λ (a : ℕ). a == get_or walk (c.args.at + 2) 0) (sym first)
+          ∙ ap (λ (b : ℕ). c.index.result.now.0 == b) (sym last) ∙ not-true _ (sym w.if-ne.ensures)))
       | then-ne-via-else-ne+then-ne-2 w ↦ remove_off_spur mesh c.args.peak walk c.args.at c.args.via place
-          (and_right _ _ (ap (λ (a : ℕ). a == c.args.via.0) (sym (entry_read old (c.args.at + 1) w.index-else-ne.result.now (omega (arith, size)) w.index-else-ne.ensures))
+          (and_right _ _ (ap (λ (a : ℕ). a == c.args.via.0) (sym
+          (entry_read old (c.args.at + 1) w.index-else-ne.result.now (omega (arith, size)) w.index-else-ne.ensures))
           ∙ not-true _ (sym w.if-ne-2.ensures)))
     ]
 
@@ -42,8 +44,10 @@ returns-clause-step c = λ mesh.
     let middle = entry_read old (c.args.at + 1) c.index-else-ne.result.now (omega (arith, size)) c.index-else-ne.ensures in
     let place : c.args.at + 2 ≤ darts walk = omega (arith, size, length-numbers old) in
     let same : (get_or walk c.args.at 0 == get_or walk (c.args.at + 2) 0) ≡ true =
-    ap (λ (a : ℕ). a == get_or walk (c.args.at + 2) 0) (sym first) ∙ ap (λ (b : ℕ). c.index.result.now.0 == b) (sym last) ∙ not-false _ (sym c.if-ne.ensures) in
-    let passed : (get_or walk (c.args.at + 1) 0 == c.args.via.0) ≡ true = ap (λ (a : ℕ). a == c.args.via.0) (sym middle) ∙ not-false _ (sym c.if-ne-2.ensures) in
+    ap (λ (a : ℕ). a == get_or walk (c.args.at + 2) 0) (sym first) ∙ ap (λ (b : ℕ). c.index.result.now.0 == b) (sym last)
+    ∙ not-false _ (sym c.if-ne.ensures) in
+    let passed : (get_or walk (c.args.at + 1) 0 == c.args.via.0) ≡ true =
+    ap (λ (a : ℕ). a == c.args.via.0) (sym middle) ∙ not-false _ (sym c.if-ne-2.ensures) in
     let left : c.args.at + 1 + 0 ≡ c.args.at + 1 = omega arith in
     let gone : c.args.at + 1 + 2 ≡ c.args.at + 3 = omega arith in
     let others : List ℕ = get_or walk c.args.at 0 ∷ [] in

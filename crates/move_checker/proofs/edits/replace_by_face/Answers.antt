@@ -21,10 +21,18 @@ returns-clause-items c =
     let written : numbers part ≡ corners_from ring c.args.way.forward c.args.way.corner c.args.steps =
     c.write_face.ensures ∙ ap (corners_from ring c.args.way.forward c.args.way.corner) steps in
     let long : length part ≡ k =
-    omega (arith, size, ap length written, length-map part (λ (v : VertexName). v.0), length-corners_from ring c.args.way.forward c.args.way.corner c.args.steps) in
+    omega (
+      arith,
+      size,
+      ap length written,
+      length-map part (λ (v : VertexName). v.0),
+      length-corners_from ring c.args.way.forward c.args.way.corner c.args.steps,
+    ) in
     let whole : c.make_room.new.vertices.len ≡ length room = omega (arith, c.deref_mut.ensures.len) in
     let before : take at room ≡ take at c.args.vertices.now.items = ap (take at) c.deref_mut.ensures.value ∙ c.make_room.ensures.before in
     let behind : drop (at + k) room ≡ drop (at + c.args.taken) c.args.vertices.now.items =
     ap (λ (n : ℕ). drop (at + n) room) size ∙ ap (drop (at + (c.args.steps + 1))) c.deref_mut.ensures.value ∙ c.make_room.ensures.behind in
-    ap (λ (l : List VertexName). numbers l) (written_part room part c.make_room.new.vertices.items at k c.make_room.new.vertices.len long fits whole (sym c.deref_mut.ensures.value))
-    ∙ replaced_by_part c.args.vertices.now.items room part at c.args.taken k (corners_from ring c.args.way.forward c.args.way.corner c.args.steps) before behind written
+    ap (λ (l : List VertexName). numbers l) (written_part room part c.make_room.new.vertices.items at k c.make_room.new.vertices.len
+    long fits whole (sym c.deref_mut.ensures.value))
+    ∙ replaced_by_part c.args.vertices.now.items room part at c.args.taken k
+    (corners_from ring c.args.way.forward c.args.way.corner c.args.steps) before behind written

@@ -14,7 +14,8 @@ loop-entry-preserved c =
     let written : numbers (set c.loop-entry.entries i c.corner.result) ≡ set before i c.corner.result.0 =
     map-set (λ (v : VertexName). v.0) c.loop-entry.entries i c.corner.result in
     let below : i < length before = omega (arith, length-map c.loop-entry.entries (λ (v : VertexName). v.0)) in
-    on_way_more ring c.args.way.forward c.args.way.corner before (numbers (set c.loop-entry.entries i c.corner.result)) i c.loop-entry.corner
+    on_way_more ring c.args.way.forward c.args.way.corner before (numbers (set c.loop-entry.entries i c.corner.result)) i
+    c.loop-entry.corner
     c.corner_after-corner.result c.loop-entry.invariant
     (λ k h. rw written (get_or-set_other before i k c.corner.result.0 0 (λ e. absurd (omega arith))))
     (rw written (get_or-set_same before i c.corner.result.0 0 below ∙ c.corner.ensures))
@@ -23,6 +24,8 @@ loop-entry-preserved c =
 
 pub returns : goal.returns
 returns c =
-    let whole : length (numbers c.loop-entry.entries) ≡ length c.args.entries.now = omega (arith, length-map c.loop-entry.entries (λ (v : VertexName). v.0)) in
-    rw (← whole) (on_way_all (face_at c.args.faces.now c.args.way.face.0) c.args.way.forward c.args.way.corner (numbers c.loop-entry.entries)
+    let whole : length (numbers c.loop-entry.entries) ≡ length c.args.entries.now =
+    omega (arith, length-map c.loop-entry.entries (λ (v : VertexName). v.0)) in
+    rw (← whole) (on_way_all (face_at c.args.faces.now c.args.way.face.0) c.args.way.forward c.args.way.corner
+    (numbers c.loop-entry.entries)
     c.loop-entry.entry-index c.loop-entry.corner c.loop-entry.invariant (omega arith) (omega arith))

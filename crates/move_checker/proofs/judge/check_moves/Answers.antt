@@ -33,7 +33,8 @@ loop-k-init c =
 -- the moves from move k on
 rest : (moves : List Move) (k : ℕ) (move : Move) → slice_get moves k ≡ Some move → drop k moves ≡ move ∷ drop (k + 1) moves
 rest moves k move e =
-    drop_more moves k move (slice_get_within moves k move e) ∙ ap (λ (m : Move). m ∷ drop (k + 1) moves) (get_or_from_slice_get moves k move move e)
+    drop_more moves k move (slice_get_within moves k move e)
+    ∙ ap (λ (m : Move). m ∷ drop (k + 1) moves) (get_or_from_slice_get moves k move move e)
 
 pub returns-in-Err-clause-verdict : goal.returns-in-Err-clause-verdict
 returns-in-Err-clause-verdict c =
@@ -43,7 +44,8 @@ returns-in-Err-clause-verdict c =
     ap (λ (p : ℕ). step_of c.args.faces.now p c.loop-k.tape.walk c.at.result) (sym c.loop-k.invariant.1) ∙ c.in-Err.ensures.step in
     sym (c.loop-k.invariant.0
     ∙ ap (verdict_from c.args.faces.now list.peak c.args.second.now (k + 1) c.loop-k.tape.walk) (rest list.moves k c.at.result c.at.ensures)
-    ∙ verdict_refused c.args.faces.now list.peak c.args.second.now (k + 1) c.loop-k.tape.walk c.at.result (drop (k + 1) list.moves) c.in-Err.fault step)
+    ∙ verdict_refused c.args.faces.now list.peak c.args.second.now (k + 1) c.loop-k.tape.walk c.at.result (drop (k + 1) list.moves)
+    c.in-Err.fault step)
 
 pub loop-k-preserved : goal.loop-k-preserved
 loop-k-preserved c =
@@ -52,8 +54,10 @@ loop-k-preserved c =
     let step : step_of c.args.faces.now list.peak c.loop-k.tape.walk c.at.result ≡ Ok c.step.new.self.walk =
     ap (λ (p : ℕ). step_of c.args.faces.now p c.loop-k.tape.walk c.at.result) (sym c.loop-k.invariant.1) ∙ c.in_default.ensures.step in (
       c.loop-k.invariant.0
-          ∙ ap (verdict_from c.args.faces.now list.peak c.args.second.now (k + 1) c.loop-k.tape.walk) (rest list.moves k c.at.result c.at.ensures)
-          ∙ verdict_more c.args.faces.now list.peak c.args.second.now (k + 1) c.loop-k.tape.walk c.step.new.self.walk c.at.result (drop (k + 1) list.moves) step,
+          ∙ ap (verdict_from c.args.faces.now list.peak c.args.second.now (k + 1) c.loop-k.tape.walk)
+          (rest list.moves k c.at.result c.at.ensures)
+          ∙ verdict_more c.args.faces.now list.peak c.args.second.now (k + 1) c.loop-k.tape.walk c.step.new.self.walk c.at.result
+          (drop (k + 1) list.moves) step,
       c.step.ensures.peak ∙ c.loop-k.invariant.1,
     )
 
@@ -62,7 +66,8 @@ returns-then-equals-clause-verdict c =
     let list = c.args.list.now in
     let k = c.loop-k.k in
     sym (c.loop-k.invariant.0
-    ∙ ap (verdict_from c.args.faces.now list.peak c.args.second.now (k + 1) c.loop-k.tape.walk) (drop_all k list.moves (omega (arith, c.len-k-end.ensures)))
+    ∙ ap (verdict_from c.args.faces.now list.peak c.args.second.now (k + 1) c.loop-k.tape.walk)
+    (drop_all k list.moves (omega (arith, c.len-k-end.ensures)))
     ∙ verdict_accepted c.args.faces.now list.peak c.args.second.now (k + 1) c.loop-k.tape.walk (c.if-equals.ensures.0 refl))
 
 pub returns-clause-verdict : goal.returns-clause-verdict
@@ -70,8 +75,10 @@ returns-clause-verdict c =
     let list = c.args.list.now in
     let k = c.loop-k.k in
     sym (c.loop-k.invariant.0
-    ∙ ap (verdict_from c.args.faces.now list.peak c.args.second.now (k + 1) c.loop-k.tape.walk) (drop_all k list.moves (omega (arith, c.len-k-end.ensures)))
-    ∙ verdict_end c.args.faces.now list.peak c.args.second.now (k + 1) c.loop-k.tape.walk (λ same. let t = c.if-equals.ensures.1 same in cc))
+    ∙ ap (verdict_from c.args.faces.now list.peak c.args.second.now (k + 1) c.loop-k.tape.walk)
+    (drop_all k list.moves (omega (arith, c.len-k-end.ensures)))
+    ∙ verdict_end c.args.faces.now list.peak c.args.second.now (k + 1) c.loop-k.tape.walk
+    (λ same. let t = c.if-equals.ensures.1 same in cc))
 
 pub returns-in-Err-OverPeak-clause-accepted : goal.returns-in-Err-OverPeak-clause-accepted
 returns-in-Err-OverPeak-clause-accepted c =

@@ -24,7 +24,8 @@ returns-then-run_alike-clause-torn c is listed =
     (λ same. omega (arith, c.if-other-dart.true, same)) in
     let partners : ArePartners mesh side c.side_at.result =
     other_partner mesh side c.side_at.result c.other-other.result.0 c.requires.two o c.side_at.ensures.side c.side_at.ensures.number in
-    both_ways (runs_alike mesh side c.side_at.result) (listed side c.side_at.result partners) (sym c.run_alike.ensures ∙ c.if-run_alike.true)
+    both_ways (runs_alike mesh side c.side_at.result) (listed side c.side_at.result partners)
+    (sym c.run_alike.ensures ∙ c.if-run_alike.true)
 
 pub loop-at-preserved : goal.loop-at-preserved
 loop-at-preserved c =
@@ -41,13 +42,21 @@ loop-at-preserved c =
     (fit_passed mesh side n next refl is c.loop-at.invariant (λ partner partners before. elim c.else-other-dart.branch [
       | else-other-dart-via-then-other-dart+else-run_alike w ↦
           (let o : IsOther mesh side next = other (λ same. omega (arith, w.if-other-dart.true, same)) in
-          let one : w.side_at.result ≡ partner = only_partner mesh side w.side_at.result partner next c.requires.two o w.side_at.ensures.side w.side_at.ensures.number partners in
+          let one : w.side_at.result ≡ partner = only_partner mesh side w.side_at.result partner next c.requires.two o
+          w.side_at.ensures.side w.side_at.ensures.number partners in
           ap (runs_alike mesh side) (sym one) ∙ sym w.run_alike.ensures ∙ w.if-run_alike.false)
       | else-other-dart-via-else-other-dart w ↦
           (elim (cases_eq next c.dart-dart.result.0) [
-            | inl same ↦ absurd (alone mesh c.args.sides.now side c.dart-dart.result.0 next c.requires.table c.requires.two is c.dart-dart.ensures.number
+            | inl same ↦ absurd (alone mesh c.args.sides.now side c.dart-dart.result.0 next c.requires.table c.requires.two is
+                c.dart-dart.ensures.number
                 (c.other-other.ensures mesh c.requires.table) same partner partners)
-            | inr apart ↦ absurd (omega (arith, w.if-other-dart.false, before, number, partner_number mesh side partner next c.requires.two (other apart) partners))
+            | inr apart ↦ absurd (omega (
+              arith,
+              w.if-other-dart.false,
+              before,
+              number,
+              partner_number mesh side partner next c.requires.two (other apart) partners,
+            ))
           ])
     ]))
 
@@ -61,4 +70,5 @@ pub returns-clause-coherent : goal.returns-clause-coherent
 returns-clause-coherent c is =
     let mesh = c.args.faces.now in
     fit_all mesh (first_side mesh c.loop-face.face)
-    (omega (arith, first_side-all mesh c.loop-face.face (omega (arith, c.len-face-end.ensures.count, c.loop-face-test.false)))) c.loop-face.invariant
+    (omega (arith, first_side-all mesh c.loop-face.face (omega (arith, c.len-face-end.ensures.count, c.loop-face-test.false))))
+    c.loop-face.invariant

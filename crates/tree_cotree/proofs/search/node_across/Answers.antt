@@ -10,5 +10,6 @@ returns-in-Vertices c =
     let maps : Rotations = rotations_of c.args.surface.now in
     let d : ℕ = c.args.dart.0 in
     let here : c.origin.result.0 ≡ maps.origin (maps.twin d) =
-    c.origin.ensures ∙ ap maps.origin c.next.ensures.next ∙ (rotation_system c.args.surface.now c.requires.valid).follows d c.requires.dart in
+    c.origin.ensures ∙ ap maps.origin c.next.ensures.next
+    ∙ (rotation_system c.args.surface.now c.requires.valid).follows d c.requires.dart in
     subst (λ (nodes : Nodes). c.origin.result.0 ≡ node_of nodes maps (maps.twin d)) (sym c.in-Vertices.is) here

@@ -12,9 +12,12 @@ use Rattle.tree_cotree.proofs.search.search_over.Goals as goal
 pub visit-requires-clause-dart : goal.visit-requires-clause-dart
 visit-requires-clause-dart c =
     let maps : Rotations = rotations_of c.args.surface.now in
-    taken_dart maps (node_of c.args.nodes maps) (is_allowed c.args.edges c.args.kinds.now) c.args.bound c.node-root.result (dart_numbers c.loop-search.search.order.items)
-    (waiting_darts c.loop-search.search.waiting.far.items c.loop-search.search.waiting.near.items) (waiting_darts c.take.new.self.far.items c.take.new.self.near.items) c.loop-search.search.from.items c.in-Some.first.0
-    c.loop-search.invariant (taken c.in_ok-first.field-0 c.in-Some.first (waiting_darts c.loop-search.search.waiting.far.items c.loop-search.search.waiting.near.items)
+    taken_dart maps (node_of c.args.nodes maps) (is_allowed c.args.edges c.args.kinds.now) c.args.bound c.node-root.result
+    (dart_numbers c.loop-search.search.order.items)
+    (waiting_darts c.loop-search.search.waiting.far.items c.loop-search.search.waiting.near.items)
+    (waiting_darts c.take.new.self.far.items c.take.new.self.near.items) c.loop-search.search.from.items c.in-Some.first.0
+    c.loop-search.invariant (taken c.in_ok-first.field-0 c.in-Some.first
+    (waiting_darts c.loop-search.search.waiting.far.items c.loop-search.search.waiting.near.items)
     (waiting_darts c.take.new.self.far.items c.take.new.self.near.items) c.in-Some.is c.in_ok-first.ensures.some)
 
 pub visit-requires-clause-below : goal.visit-requires-clause-below
@@ -25,16 +28,21 @@ visit-requires-clause-below c =
 pub visit-requires-clause-found : goal.visit-requires-clause-found
 visit-requires-clause-found c =
     let maps : Rotations = rotations_of c.args.surface.now in
-    taken_found maps (node_of c.args.nodes maps) (is_allowed c.args.edges c.args.kinds.now) c.args.bound c.node-root.result (dart_numbers c.loop-search.search.order.items)
-    (waiting_darts c.loop-search.search.waiting.far.items c.loop-search.search.waiting.near.items) (waiting_darts c.take.new.self.far.items c.take.new.self.near.items) c.loop-search.search.from.items c.in-Some.first.0
-    c.loop-search.invariant (taken c.in_ok-first.field-0 c.in-Some.first (waiting_darts c.loop-search.search.waiting.far.items c.loop-search.search.waiting.near.items)
+    taken_found maps (node_of c.args.nodes maps) (is_allowed c.args.edges c.args.kinds.now) c.args.bound c.node-root.result
+    (dart_numbers c.loop-search.search.order.items)
+    (waiting_darts c.loop-search.search.waiting.far.items c.loop-search.search.waiting.near.items)
+    (waiting_darts c.take.new.self.far.items c.take.new.self.near.items) c.loop-search.search.from.items c.in-Some.first.0
+    c.loop-search.invariant (taken c.in_ok-first.field-0 c.in-Some.first
+    (waiting_darts c.loop-search.search.waiting.far.items c.loop-search.search.waiting.near.items)
     (waiting_darts c.take.new.self.far.items c.take.new.self.near.items) c.in-Some.is c.in_ok-first.ensures.some)
 
 pub visit-requires-clause-order : goal.visit-requires-clause-order
 visit-requires-clause-order c =
     let maps : Rotations = rotations_of c.args.surface.now in
-    rebound maps (node_of c.args.nodes maps) (is_allowed c.args.edges c.args.kinds.now) c.args.bound (length c.loop-search.search.from.items) c.node-root.result
-    (dart_numbers c.loop-search.search.order.items) c.loop-search.search.from.items (sym c.loop-search.invariant.is_order.long) c.loop-search.invariant.is_order
+    rebound maps (node_of c.args.nodes maps) (is_allowed c.args.edges c.args.kinds.now) c.args.bound
+    (length c.loop-search.search.from.items) c.node-root.result
+    (dart_numbers c.loop-search.search.order.items) c.loop-search.search.from.items (sym c.loop-search.invariant.is_order.long)
+    c.loop-search.invariant.is_order
 
 pub loop-search-smaller : goal.loop-search-smaller
 loop-search-smaller c =
@@ -42,11 +50,14 @@ loop-search-smaller c =
     let xs : List DartName = c.loop-search.search.order.items in
     let ys : List DartName = c.visit.new.search.order.items in
     let rest : List ℕ = waiting_darts c.take.new.self.far.items c.take.new.self.near.items in
-    let taken_one : IsTaken (waiting_darts c.loop-search.search.waiting.far.items c.loop-search.search.waiting.near.items) rest c.in-Some.first.0 = (taken c.in_ok-first.field-0 c.in-Some.first (waiting_darts c.loop-search.search.waiting.far.items c.loop-search.search.waiting.near.items)
+    let taken_one : IsTaken (waiting_darts c.loop-search.search.waiting.far.items c.loop-search.search.waiting.near.items) rest
+    c.in-Some.first.0 = (taken c.in_ok-first.field-0 c.in-Some.first
+    (waiting_darts c.loop-search.search.waiting.far.items c.loop-search.search.waiting.near.items)
     (waiting_darts c.take.new.self.far.items c.take.new.self.near.items) c.in-Some.is c.in_ok-first.ensures.some) in
     let few : length (dart_numbers ys) ≤ c.args.bound =
     order_few maps (node_of c.args.nodes maps) (is_allowed c.args.edges c.args.kinds.now) c.args.bound c.node-root.result (dart_numbers ys)
-    c.visit.new.search.from.items (rebound maps (node_of c.args.nodes maps) (is_allowed c.args.edges c.args.kinds.now) (length c.loop-search.search.from.items) c.args.bound
+    c.visit.new.search.from.items (rebound maps (node_of c.args.nodes maps) (is_allowed c.args.edges c.args.kinds.now)
+    (length c.loop-search.search.from.items) c.args.bound
     c.node-root.result (dart_numbers c.visit.new.search.order.items) c.visit.new.search.from.items c.loop-search.invariant.is_order.long
     c.in_ok-visit.ensures.order) c.requires.below in
     let added = c.in_ok-visit.ensures.added in
@@ -67,11 +78,16 @@ pub loop-search-preserved : goal.loop-search-preserved
 loop-search-preserved c =
     let maps : Rotations = rotations_of c.args.surface.now in
     underway_more maps (node_of c.args.nodes maps) (is_allowed c.args.edges c.args.kinds.now) c.args.bound c.node-root.result
-    (dart_numbers c.loop-search.search.order.items) (waiting_darts c.loop-search.search.waiting.far.items c.loop-search.search.waiting.near.items) (waiting_darts c.take.new.self.far.items c.take.new.self.near.items)
-    (dart_numbers c.visit.new.search.order.items) (waiting_darts c.visit.new.search.waiting.far.items c.visit.new.search.waiting.near.items) c.loop-search.search.from.items
+    (dart_numbers c.loop-search.search.order.items) (waiting_darts c.loop-search.search.waiting.far.items
+    c.loop-search.search.waiting.near.items) (waiting_darts c.take.new.self.far.items c.take.new.self.near.items)
+    (dart_numbers c.visit.new.search.order.items) (waiting_darts c.visit.new.search.waiting.far.items
+    c.visit.new.search.waiting.near.items) c.loop-search.search.from.items
     c.visit.new.search.from.items c.in-Some.first.0 c.loop-search.invariant
-    (taken c.in_ok-first.field-0 c.in-Some.first (waiting_darts c.loop-search.search.waiting.far.items c.loop-search.search.waiting.near.items)
-    (waiting_darts c.take.new.self.far.items c.take.new.self.near.items) c.in-Some.is c.in_ok-first.ensures.some) (rebound maps (node_of c.args.nodes maps) (is_allowed c.args.edges c.args.kinds.now) (length c.loop-search.search.from.items) c.args.bound
+    (taken c.in_ok-first.field-0 c.in-Some.first (waiting_darts c.loop-search.search.waiting.far.items
+    c.loop-search.search.waiting.near.items)
+    (waiting_darts c.take.new.self.far.items c.take.new.self.near.items) c.in-Some.is c.in_ok-first.ensures.some)
+    (rebound maps (node_of c.args.nodes maps) (is_allowed c.args.edges c.args.kinds.now) (length c.loop-search.search.from.items)
+    c.args.bound
     c.node-root.result (dart_numbers c.visit.new.search.order.items) c.visit.new.search.from.items c.loop-search.invariant.is_order.long
     c.in_ok-visit.ensures.order) c.in_ok-visit.ensures.added
     c.in_ok-visit.ensures.crossed
@@ -83,5 +99,7 @@ returns c =
     let allowed = is_allowed c.args.edges c.args.kinds.now in
     subst (λ r. IsSearched maps node allowed c.args.bound r c.loop-search.search.from.items) c.node-root.ensures
     (underway_done maps node allowed c.args.bound c.node-root.result (dart_numbers c.loop-search.search.order.items)
-    (waiting_darts c.loop-search.search.waiting.far.items c.loop-search.search.waiting.near.items) c.loop-search.search.from.items c.loop-search.invariant
-    (none_waits c.in_ok-first.field-0 (waiting_darts c.loop-search.search.waiting.far.items c.loop-search.search.waiting.near.items) c.in_default.not-Some c.in_ok-first.ensures.none))
+    (waiting_darts c.loop-search.search.waiting.far.items c.loop-search.search.waiting.near.items) c.loop-search.search.from.items
+    c.loop-search.invariant
+    (none_waits c.in_ok-first.field-0 (waiting_darts c.loop-search.search.waiting.far.items c.loop-search.search.waiting.near.items)
+    c.in_default.not-Some c.in_ok-first.ensures.none))

@@ -13,4 +13,5 @@ invariant-loop-search l =
 
 -- each node waits once at most
 abbrev pub decreases-loop-search : goal.decreases-loop-search
-decreases-loop-search l = l.bound - length l.search.order.items + length (waiting_darts l.search.waiting.far.items l.search.waiting.near.items)
+decreases-loop-search l = l.bound - length l.search.order.items + length
+    (waiting_darts l.search.waiting.far.items l.search.waiting.near.items)

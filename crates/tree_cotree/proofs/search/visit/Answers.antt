@@ -10,8 +10,10 @@ use Rattle.tree_cotree.proofs.search.visit.Goals as goal
 pub loop-turn-init : goal.loop-turn-init
 loop-turn-init c =
     let maps : Rotations = rotations_of c.args.surface.now in
-    visit_start maps (node_of c.args.nodes maps) (is_allowed c.args.edges c.args.kinds.now) (turn_of c.args.nodes maps) (length c.args.search.now.from.items) c.args.root
-    (dart_numbers c.args.search.now.order.items) (waiting_darts c.args.search.now.waiting.far.items c.args.search.now.waiting.near.items) c.args.search.now.from.items c.args.first.0 c.requires.order
+    visit_start maps (node_of c.args.nodes maps) (is_allowed c.args.edges c.args.kinds.now) (turn_of c.args.nodes maps)
+    (length c.args.search.now.from.items) c.args.root
+    (dart_numbers c.args.search.now.order.items) (waiting_darts c.args.search.now.waiting.far.items
+    c.args.search.now.waiting.near.items) c.args.search.now.from.items c.args.first.0 c.requires.order
 
 pub cross-requires-clause-below : goal.cross-requires-clause-below
 cross-requires-clause-below c =
@@ -27,16 +29,21 @@ cross-requires-clause-dart c =
 pub cross-requires-clause-found : goal.cross-requires-clause-found
 cross-requires-clause-found c =
     let maps : Rotations = rotations_of c.args.surface.now in
-    visit_found maps (node_of c.args.nodes maps) (is_allowed c.args.edges c.args.kinds.now) (turn_of c.args.nodes maps) (length c.args.search.now.from.items) c.args.root
-    (dart_numbers c.args.search.now.order.items) (waiting_darts c.args.search.now.waiting.far.items c.args.search.now.waiting.near.items) (dart_numbers c.loop-turn.search.order.items)
-    (waiting_darts c.loop-turn.search.waiting.far.items c.loop-turn.search.waiting.near.items) c.loop-turn.search.from.items c.args.first.0 c.loop-turn.dart.0 c.loop-turn._turn
+    visit_found maps (node_of c.args.nodes maps) (is_allowed c.args.edges c.args.kinds.now) (turn_of c.args.nodes maps)
+    (length c.args.search.now.from.items) c.args.root
+    (dart_numbers c.args.search.now.order.items) (waiting_darts c.args.search.now.waiting.far.items
+    c.args.search.now.waiting.near.items) (dart_numbers c.loop-turn.search.order.items)
+    (waiting_darts c.loop-turn.search.waiting.far.items c.loop-turn.search.waiting.near.items) c.loop-turn.search.from.items
+    c.args.first.0 c.loop-turn.dart.0 c.loop-turn._turn
     (turning c.args.surface.now c.darts-turn-end.ensures.valid c.args.nodes) c.requires.dart c.requires.found c.loop-turn.invariant
 
 pub cross-requires-clause-order : goal.cross-requires-clause-order
 cross-requires-clause-order c =
     let maps : Rotations = rotations_of c.args.surface.now in
-    rebound maps (node_of c.args.nodes maps) (is_allowed c.args.edges c.args.kinds.now) (length c.args.search.now.from.items) (length c.loop-turn.search.from.items) c.args.root
-    (dart_numbers c.loop-turn.search.order.items) c.loop-turn.search.from.items (sym c.loop-turn.invariant.is_order.long) c.loop-turn.invariant.is_order
+    rebound maps (node_of c.args.nodes maps) (is_allowed c.args.edges c.args.kinds.now) (length c.args.search.now.from.items)
+    (length c.loop-turn.search.from.items) c.args.root
+    (dart_numbers c.loop-turn.search.order.items) c.loop-turn.search.from.items (sym c.loop-turn.invariant.is_order.long)
+    c.loop-turn.invariant.is_order
 
 pub turn-dart-requires : goal.turn-dart-requires
 turn-dart-requires c =
@@ -53,10 +60,13 @@ loop-turn-preserved c =
     let waiting : List ℕ = waiting_darts c.loop-turn.search.waiting.far.items c.loop-turn.search.waiting.near.items in
     let new : List ℕ = dart_numbers c.cross.new.search.order.items in
     let more : List ℕ = waiting_darts c.cross.new.search.waiting.far.items c.cross.new.search.waiting.near.items in
-    visit_more maps node allowed (turn_of c.args.nodes maps) (length c.args.search.now.from.items) c.args.root (dart_numbers c.args.search.now.order.items)
+    visit_more maps node allowed (turn_of c.args.nodes maps) (length c.args.search.now.from.items) c.args.root
+    (dart_numbers c.args.search.now.order.items)
     (waiting_darts c.args.search.now.waiting.far.items c.args.search.now.waiting.near.items) order waiting new more
-    c.loop-turn.search.from.items c.cross.new.search.from.items c.args.first.0 c.loop-turn.dart.0 c.turn-dart.result.0 c.loop-turn._turn c.loop-turn.invariant
-    (rebound maps node allowed (length c.loop-turn.search.from.items) (length c.args.search.now.from.items) c.args.root new c.cross.new.search.from.items
+    c.loop-turn.search.from.items c.cross.new.search.from.items c.args.first.0 c.loop-turn.dart.0 c.turn-dart.result.0 c.loop-turn._turn
+    c.loop-turn.invariant
+    (rebound maps node allowed (length c.loop-turn.search.from.items) (length c.args.search.now.from.items) c.args.root new
+    c.cross.new.search.from.items
     c.loop-turn.invariant.is_order.long c.in_ok-cross.ensures.order)
     c.in_ok-cross.ensures.added c.in_ok-cross.ensures.crossed c.turn-dart.ensures.turn
 
@@ -71,25 +81,31 @@ returns-then-eq-clause-crossed c =
     let new : List ℕ = dart_numbers c.cross.new.search.order.items in
     let more : List ℕ = waiting_darts c.cross.new.search.waiting.far.items c.cross.new.search.waiting.near.items in
     let k : ℕ = c.loop-turn._turn in
-    let visited : IsVisiting maps node allowed turn (length c.args.search.now.from.items) c.args.root (dart_numbers c.args.search.now.order.items)
+    let visited : IsVisiting maps node allowed turn (length c.args.search.now.from.items) c.args.root
+    (dart_numbers c.args.search.now.order.items)
     (waiting_darts c.args.search.now.waiting.far.items c.args.search.now.waiting.near.items) new more
     c.cross.new.search.from.items c.args.first.0 c.turn-dart.result.0 (k + 1) =
     visit_more maps node allowed turn (length c.args.search.now.from.items) c.args.root (dart_numbers c.args.search.now.order.items)
     (waiting_darts c.args.search.now.waiting.far.items c.args.search.now.waiting.near.items) order waiting new more
-    c.loop-turn.search.from.items c.cross.new.search.from.items c.args.first.0 c.loop-turn.dart.0 c.turn-dart.result.0 k c.loop-turn.invariant
-    (rebound maps node allowed (length c.loop-turn.search.from.items) (length c.args.search.now.from.items) c.args.root new c.cross.new.search.from.items
+    c.loop-turn.search.from.items c.cross.new.search.from.items c.args.first.0 c.loop-turn.dart.0 c.turn-dart.result.0 k
+    c.loop-turn.invariant
+    (rebound maps node allowed (length c.loop-turn.search.from.items) (length c.args.search.now.from.items) c.args.root new
+    c.cross.new.search.from.items
     c.loop-turn.invariant.is_order.long c.in_ok-cross.ensures.order)
     c.in_ok-cross.ensures.added c.in_ok-cross.ensures.crossed c.turn-dart.ensures.turn in
     let home : c.turn-dart.result.0 ≡ c.args.first.0 = eqb-true c.turn-dart.result.0 c.args.first.0 (sym c.eq.ensures ∙ c.if-eq.true) in
-    crossed_round maps node allowed turn new c.args.first.0 (k + 1) (turning c.args.surface.now c.darts-turn-end.ensures.valid c.args.nodes) c.requires.dart
+    crossed_round maps node allowed turn new c.args.first.0 (k + 1)
+    (turning c.args.surface.now c.darts-turn-end.ensures.valid c.args.nodes) c.requires.dart
     visited.crossed (omega arith, sym visited.at ∙ home)
 
 pub returns-clause-crossed : goal.returns-clause-crossed
 returns-clause-crossed c =
     let maps : Rotations = rotations_of c.args.surface.now in
     let all : maps.darts ≤ c.loop-turn._turn = omega (arith, c.loop-turn-test.false, c.darts-turn-end.ensures.count) in
-    crossed_all maps (node_of c.args.nodes maps) (is_allowed c.args.edges c.args.kinds.now) (turn_of c.args.nodes maps) (dart_numbers c.loop-turn.search.order.items)
-    c.args.first.0 c.loop-turn._turn (turning c.args.surface.now c.darts-turn-end.ensures.valid c.args.nodes) c.requires.dart c.loop-turn.invariant.crossed all
+    crossed_all maps (node_of c.args.nodes maps) (is_allowed c.args.edges c.args.kinds.now) (turn_of c.args.nodes maps)
+    (dart_numbers c.loop-turn.search.order.items)
+    c.args.first.0 c.loop-turn._turn (turning c.args.surface.now c.darts-turn-end.ensures.valid c.args.nodes) c.requires.dart
+    c.loop-turn.invariant.crossed all
 
 pub returns-then-eq-clause-order : goal.returns-then-eq-clause-order
 returns-then-eq-clause-order c =
@@ -100,8 +116,11 @@ returns-then-eq-clause-order c =
 
 pub returns-then-eq-clause-added : goal.returns-then-eq-clause-added
 returns-then-eq-clause-added c =
-    added_on (dart_numbers c.args.search.now.order.items) (waiting_darts c.args.search.now.waiting.far.items c.args.search.now.waiting.near.items) (dart_numbers c.loop-turn.search.order.items)
-    (waiting_darts c.loop-turn.search.waiting.far.items c.loop-turn.search.waiting.near.items) (dart_numbers c.cross.new.search.order.items) (waiting_darts c.cross.new.search.waiting.far.items c.cross.new.search.waiting.near.items)
+    added_on (dart_numbers c.args.search.now.order.items)
+    (waiting_darts c.args.search.now.waiting.far.items c.args.search.now.waiting.near.items) (dart_numbers c.loop-turn.search.order.items)
+    (waiting_darts c.loop-turn.search.waiting.far.items c.loop-turn.search.waiting.near.items)
+    (dart_numbers c.cross.new.search.order.items) (waiting_darts c.cross.new.search.waiting.far.items
+    c.cross.new.search.waiting.near.items)
     c.loop-turn.invariant.added c.in_ok-cross.ensures.added
 
 pub returns-clause-order : goal.returns-clause-order

@@ -40,7 +40,8 @@ mark-requires-clause-free c =
     let names : NamesAll s = names_all s c.faces.ensures.valid in
     let first : c.in_ok-kinds.kinds.items ≡ replicate (length s.table) Left = search rules in
     let apart : AreApart (rotations_of s) c.deref-2.result.now = mark-requires-clause-apart c in
-    λ v x some. ap (λ k. same_kind k Tree) (all_left s c.in_ok-kinds.kinds.items ((rotations_of s).edge x) first (names.edge_below x (apart.within v x some)))
+    λ v x some. ap (λ k. same_kind k Tree) (all_left s c.in_ok-kinds.kinds.items ((rotations_of s).edge x) first
+    (names.edge_below x (apart.within v x some)))
 
 pub search_over-requires-2-clause-below : goal.search_over-requires-2-clause-below
 search_over-requires-2-clause-below c =
@@ -56,7 +57,8 @@ mark-requires-2-clause-apart c =
     let maps : Rotations = rotations_of s in
     let searched = c.in_ok-face_parents.ensures in
     subst (AreApart maps) (sym c.deref-4.ensures.value)
-    (kept_apart maps maps.face (has_kind c.deref-3.result.now Left) c.len-faces.result (maps.face 0) searched.order c.in_ok-face_parents.face_parents.items
+    (kept_apart maps maps.face (has_kind c.deref-3.result.now Left) c.len-faces.result (maps.face 0) searched.order
+    c.in_ok-face_parents.face_parents.items
     (rotation_system s c.faces.ensures.valid) searched.is_order)
 
 pub turn_round-requires-clause-tree : goal.turn_round-requires-clause-tree
@@ -116,7 +118,8 @@ returns c =
     allow maps maps.face (has_kind k1 Left) (has_kind k2 Cotree) (length s.mesh.faces) (maps.face 0) q found
     (λ v x e. crossed.sets.marked v x (kept_in v x e) e) in
     let is_q : c.deref_mut.result.now ≡ q = c.deref_mut.ensures.value in
-    let long : length c.deref_mut.result.now ≡ length s.mesh.faces = ap (λ (ds : List (Option DartName)). length ds) is_q ∙ found.is_order.long in
+    let long : length c.deref_mut.result.now ≡ length s.mesh.faces =
+    ap (λ (ds : List (Option DartName)). length ds) is_q ∙ found.is_order.long in
     let turned : FindsAll maps maps.face (has_kind k2 Cotree) (length s.mesh.faces) (maps.face c.leftover_dart-start.result.0) t =
     subst (λ n. FindsAll maps maps.face (has_kind k2 Cotree) n (maps.face c.leftover_dart-start.result.0) t) long
     (c.in_ok-turn_round.ensures (has_kind k2 Cotree) (maps.face 0)
@@ -141,4 +144,5 @@ returns c =
     ∙ ap (count_below (has_kind k2 Left)) long_2) in
     let size : length t ≡ c.in_ok-face_parents.face_parents.len =
     omega (arith, turned.is_order.long, found.is_order.long, c.in_ok-face_parents.face_parents.ok.0) in
-    rw (c.face_of.ensures.face, with_items_is c.in_ok-face_parents.face_parents t size) (split_is s c.faces.ensures.valid k0 k1 k2 p q t start (c.leftover_edges-genus.result / 2) made half)
+    rw (c.face_of.ensures.face, with_items_is c.in_ok-face_parents.face_parents t size)
+    (split_is s c.faces.ensures.valid k0 k1 k2 p q t start (c.leftover_edges-genus.result / 2) made half)

@@ -60,11 +60,14 @@ loop-dart-preserved c =
     let turned : IsPartlyTurned maps c.args.from.now start (set (set from (maps.face x.0) (Some x)) (maps.face d) None) way =
     turning_more maps c.args.from.now start from way d x (rotation_system s c.requires.valid)
     (λ e l. subst (λ n. maps.face e < n) (sym long) ((names_all s c.requires.valid).face_below e l))
-    (subst (IsPartlyTurned maps c.args.from.now start from) (numbers_push c.pop.new.self.items c.loop-dart.way.items c.in-Some.dart c.in-Some.ensures.items)
+    (subst (IsPartlyTurned maps c.args.from.now start from)
+    (numbers_push c.pop.new.self.items c.loop-dart.way.items c.in-Some.dart c.in-Some.ensures.items)
     c.loop-dart.invariant)
     c.twin-back.ensures.twin in
-    subst (λ v. IsPartlyTurned maps c.args.from.now start (set (set from v c.some.result) c.face_of-in-Some.result.0 c.none.result) way) (sym c.face_of.ensures.face)
-    (subst (λ w. IsPartlyTurned maps c.args.from.now start (set (set from (maps.face x.0) c.some.result) w c.none.result) way) (sym c.face_of-in-Some.ensures.face)
+    subst (λ v. IsPartlyTurned maps c.args.from.now start (set (set from v c.some.result) c.face_of-in-Some.result.0 c.none.result) way)
+    (sym c.face_of.ensures.face)
+    (subst (λ w. IsPartlyTurned maps c.args.from.now start (set (set from (maps.face x.0) c.some.result) w c.none.result) way)
+    (sym c.face_of-in-Some.ensures.face)
     (rw (sym c.some.ensures, sym c.none.ensures) at turned))
 
 pub returns : goal.returns

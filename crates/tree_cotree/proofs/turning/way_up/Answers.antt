@@ -22,7 +22,8 @@ pub bounds-from-face : goal.bounds-from-face
 bounds-from-face c =
     let s : OrientedMesh = c.args.surface.now in
     let maps : Rotations = rotations_of s in
-    climb_within maps c.args.from.now (maps.face c.args.start.0) c.loop-dart.face.0 (dart_numbers c.loop-dart.way.items) c.loop-dart.invariant
+    climb_within maps c.args.from.now (maps.face c.args.start.0) c.loop-dart.face.0 (dart_numbers c.loop-dart.way.items)
+    c.loop-dart.invariant
     (λ e l. subst (λ n. maps.face e < n) (sym c.requires.each_face) ((names_all s c.requires.valid).face_below e l))
 
 pub twin-requires : goal.twin-requires
@@ -30,10 +31,13 @@ twin-requires c =
     let s : OrientedMesh = c.args.surface.now in
     let maps : Rotations = rotations_of s in
     let within : c.loop-dart.face.0 < length c.args.from.now =
-    climb_within maps c.args.from.now (maps.face c.args.start.0) c.loop-dart.face.0 (dart_numbers c.loop-dart.way.items) c.loop-dart.invariant
+    climb_within maps c.args.from.now (maps.face c.args.start.0) c.loop-dart.face.0 (dart_numbers c.loop-dart.way.items)
+    c.loop-dart.invariant
     (λ e l. subst (λ n. maps.face e < n) (sym c.requires.each_face) ((names_all s c.requires.valid).face_below e l)) in
-    (climb_dart maps c.args.from.now (maps.face c.args.start.0) c.loop-dart.face.0 (dart_numbers c.loop-dart.way.items) c.in-Some.dart.0 c.loop-dart.invariant
-    (kept_read c.args.from.now c.loop-dart.face.0 c.index-from-face.result c.get.result (Some c.in-Some.dart) within c.index-from-face.is c.get.ensures c.in-Some.is)).0
+    (climb_dart maps c.args.from.now (maps.face c.args.start.0) c.loop-dart.face.0 (dart_numbers c.loop-dart.way.items) c.in-Some.dart.0
+    c.loop-dart.invariant
+    (kept_read c.args.from.now c.loop-dart.face.0 c.index-from-face.result c.get.result (Some c.in-Some.dart) within
+    c.index-from-face.is c.get.ensures c.in-Some.is)).0
 
 pub loop-dart-smaller : goal.loop-dart-smaller
 loop-dart-smaller c =
@@ -56,24 +60,30 @@ loop-dart-preserved c =
     let s : OrientedMesh = c.args.surface.now in
     let maps : Rotations = rotations_of s in
     let within : c.loop-dart.face.0 < length c.args.from.now =
-    climb_within maps c.args.from.now (maps.face c.args.start.0) c.loop-dart.face.0 (dart_numbers c.loop-dart.way.items) c.loop-dart.invariant
+    climb_within maps c.args.from.now (maps.face c.args.start.0) c.loop-dart.face.0 (dart_numbers c.loop-dart.way.items)
+    c.loop-dart.invariant
     (λ e l. subst (λ n. maps.face e < n) (sym c.requires.each_face) ((names_all s c.requires.valid).face_below e l)) in
     let start : ℕ = maps.face c.args.start.0 in
     let d : ℕ = c.in-Some.dart.0 in
     let xs : List DartName = c.loop-dart.way.items in
-    let face : c.face_of-face-in-Some.result.0 ≡ maps.face (maps.twin d) = c.face_of-face-in-Some.ensures.face ∙ ap maps.face c.twin.ensures.twin in
+    let face : c.face_of-face-in-Some.result.0 ≡ maps.face (maps.twin d) =
+    c.face_of-face-in-Some.ensures.face ∙ ap maps.face c.twin.ensures.twin in
     subst (λ f. IsClimb maps c.args.from.now start f (dart_numbers c.push.new.self.items)) (sym face)
-    (subst (IsClimb maps c.args.from.now start (maps.face (maps.twin d))) (sym (numbers_push xs c.push.new.self.items c.in-Some.dart c.in_ok-push.ensures.items))
+    (subst (IsClimb maps c.args.from.now start (maps.face (maps.twin d)))
+    (sym (numbers_push xs c.push.new.self.items c.in-Some.dart c.in_ok-push.ensures.items))
     (climb_more maps c.args.from.now start c.loop-dart.face.0 (dart_numbers xs) d c.loop-dart.invariant
-    (kept_read c.args.from.now c.loop-dart.face.0 c.index-from-face.result c.get.result (Some c.in-Some.dart) within c.index-from-face.is c.get.ensures c.in-Some.is)))
+    (kept_read c.args.from.now c.loop-dart.face.0 c.index-from-face.result c.get.result (Some c.in-Some.dart) within
+    c.index-from-face.is c.get.ensures c.in-Some.is)))
 
 pub returns : goal.returns
 returns c =
     let s : OrientedMesh = c.args.surface.now in
     let maps : Rotations = rotations_of s in
     let within : c.loop-dart.face.0 < length c.args.from.now =
-    climb_within maps c.args.from.now (maps.face c.args.start.0) c.loop-dart.face.0 (dart_numbers c.loop-dart.way.items) c.loop-dart.invariant
+    climb_within maps c.args.from.now (maps.face c.args.start.0) c.loop-dart.face.0 (dart_numbers c.loop-dart.way.items)
+    c.loop-dart.invariant
     (λ e l. subst (λ n. maps.face e < n) (sym c.requires.each_face) ((names_all s c.requires.valid).face_below e l)) in
     climb_done maps c.args.from.now (maps.face c.args.start.0) c.loop-dart.face.0 (dart_numbers c.loop-dart.way.items) c.loop-dart.invariant
     (λ e l. subst (λ n. maps.face e < n) (sym c.requires.each_face) ((names_all s c.requires.valid).face_below e l))
-    (kept_read c.args.from.now c.loop-dart.face.0 c.index-from-face.result c.get.result None within c.index-from-face.is c.get.ensures c.in_default.is)
+    (kept_read c.args.from.now c.loop-dart.face.0 c.index-from-face.result c.get.result None within c.index-from-face.is c.get.ensures
+    c.in_default.is)

@@ -12,8 +12,10 @@ loop-entry-preserved g c =
     let before : ReadsTo d word c.loop-entry.entry-index c.loop-entry.canonical.word c.loop-entry.change = c.loop-entry.invariant.reads in
     record {
       reads =
-          reads-more d word c.loop-entry.entry-index c.loop-entry.canonical.word c.put_turn-change.new.word.word c.loop-entry.change c.sum_modulo-turn.result c.put_turn-change.result.change turns (omega arith) before
-          c.sum_modulo-turn.ensures.sum c.put_turn-change.ensures.word c.put_turn-change.ensures.change (omega (arith, c.put_turn-change.ensures.longer));
+          reads-more d word c.loop-entry.entry-index c.loop-entry.canonical.word c.put_turn-change.new.word.word c.loop-entry.change
+          c.sum_modulo-turn.result c.put_turn-change.result.change turns (omega arith) before
+          c.sum_modulo-turn.ensures.sum c.put_turn-change.ensures.word c.put_turn-change.ensures.change
+          (omega (arith, c.put_turn-change.ensures.longer));
       room = omega (arith, c.loop-entry.invariant.room, c.put_turn-change.ensures.room);
       counted = omega (arith, c.loop-entry.invariant.counted, c.put_turn-change.ensures.counted);
     }
@@ -25,7 +27,8 @@ returns-clause-canonical g c =
     let all : All (λ entry. entry < d) word = search rules in
     let turns : IsTurnWord d word = record { five = omega arith; in_range = all } in
     let is : c.in_ok-written.field-0 ≡ left d word =
-    c.in_ok-written.ensures ∙ reads-end d word c.loop-entry.entry-index c.loop-entry.canonical.word c.loop-entry.change (omega arith) c.loop-entry.invariant.reads in
+    c.in_ok-written.ensures ∙ reads-end d word c.loop-entry.entry-index c.loop-entry.canonical.word c.loop-entry.change (omega arith)
+    c.loop-entry.invariant.reads in
     rw is (left-is-canonical d word turns)
 
 pub returns-clause-only : goal.returns-clause-only
@@ -35,7 +38,8 @@ returns-clause-only g c =
     let all : All (λ entry. entry < d) word = search rules in
     let turns : IsTurnWord d word = record { five = omega arith; in_range = all } in
     let is : c.in_ok-written.field-0 ≡ left d word =
-    c.in_ok-written.ensures ∙ reads-end d word c.loop-entry.entry-index c.loop-entry.canonical.word c.loop-entry.change (omega arith) c.loop-entry.invariant.reads in
+    c.in_ok-written.ensures ∙ reads-end d word c.loop-entry.entry-index c.loop-entry.canonical.word c.loop-entry.change (omega arith)
+    c.loop-entry.invariant.reads in
     λ other f. canonical-is-left d word other turns f ∙ sym is
 
 pub returns-clause-same : goal.returns-clause-same
@@ -45,5 +49,6 @@ returns-clause-same g c =
     let all : All (λ entry. entry < d) word = search rules in
     let turns : IsTurnWord d word = record { five = omega arith; in_range = all } in
     let is : c.in_ok-written.field-0 ≡ left d word =
-    c.in_ok-written.ensures ∙ reads-end d word c.loop-entry.entry-index c.loop-entry.canonical.word c.loop-entry.change (omega arith) c.loop-entry.invariant.reads in
+    c.in_ok-written.ensures ∙ reads-end d word c.loop-entry.entry-index c.loop-entry.canonical.word c.loop-entry.change (omega arith)
+    c.loop-entry.invariant.reads in
     λ canonical. is ∙ kept d word (left d word) turns canonical (left-is-canonical d word turns)

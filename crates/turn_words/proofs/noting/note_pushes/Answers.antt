@@ -14,7 +14,8 @@ loop-k-preserved g c =
     record {
       noted =
           c.loop-k.invariant.noted
-          ∙ pushes-next (g.R.Recorder.noted c.loop-k.recorder) (g.R.Recorder.noted c.note.new.self) c.args.up (c.args.last - k) (c.args.count - k) (omega arith) c.in_ok-note.ensures.ok
+          ∙ pushes-next (g.R.Recorder.noted c.loop-k.recorder) (g.R.Recorder.noted c.note.new.self) c.args.up (c.args.last - k)
+          (c.args.count - k) (omega arith) c.in_ok-note.ensures.ok
           ∙ ap₂ (λ m n. with_steps (g.R.Recorder.noted c.note.new.self) (pushes c.args.up m n)) at count;
       kept = tells-on _ _ (g.R.Recorder.noted c.note.new.self) _ c.loop-k.invariant.kept c.in_ok-note.ensures.ok;
     }

@@ -7,7 +7,8 @@ use Rattle.turn_words.proofs.put.flip.Goals as goal
 
 pub change_last-requires-clause-below : goal.change_last-requires-clause-below
 change_last-requires-clause-below g c =
-    behind-below c.args.degree c.take_run-twos.result c.negative_modulo.result c.args.word.now.word (reverse c.take_run-twos.new.self.word) c.requires.in_range c.take_run-twos.ensures.word c.take_run-twos.ensures.whole
+    behind-below c.args.degree c.take_run-twos.result c.negative_modulo.result c.args.word.now.word
+    (reverse c.take_run-twos.new.self.word) c.requires.in_range c.take_run-twos.ensures.word c.take_run-twos.ensures.whole
 
 pub returns-clause-word : goal.returns-clause-word
 returns-clause-word g c =
@@ -15,8 +16,10 @@ returns-clause-word g c =
     let k = c.take_run-twos.result in
     let rest = reverse c.take_run-twos.new.self.word in
     let run : c.negative_modulo.result ≡ minus d 2 = c.negative_modulo.ensures.negative in
-    flip-written d c.requires.degree k (reverse c.args.word.now.word) rest (reverse c.change_last.new.self.word) (reverse c.push_run.new.self.word) (reverse c.push_run-2.new.self.word)
-    (c.take_run-twos.ensures.word ∙ ap (λ n. replicate k n ++ rest) run) (subst (λ n. EndsOtherwise n rest) run c.take_run-twos.ensures.whole)
+    flip-written d c.requires.degree k (reverse c.args.word.now.word) rest (reverse c.change_last.new.self.word)
+    (reverse c.push_run.new.self.word) (reverse c.push_run-2.new.self.word)
+    (c.take_run-twos.ensures.word ∙ ap (λ n. replicate k n ++ rest) run)
+    (subst (λ n. EndsOtherwise n rest) run c.take_run-twos.ensures.whole)
     c.change_last.ensures.word c.push_run.ensures.word c.push_run-2.ensures.word
 
 pub returns-clause-rewrite : goal.returns-clause-rewrite
@@ -26,4 +29,5 @@ returns-clause-rewrite g c =
     let rest = reverse c.take_run-twos.new.self.word in
     let run : c.negative_modulo.result ≡ minus d 2 = c.negative_modulo.ensures.negative in
     flip-noted d c.requires.degree k _ (reverse c.args.word.now.word) rest
-    (c.take_run-twos.ensures.word ∙ ap (λ n. replicate k n ++ rest) run) (subst (λ n. EndsOtherwise n rest) run c.take_run-twos.ensures.whole) (sym (length-reverse c.args.word.now.word))
+    (c.take_run-twos.ensures.word ∙ ap (λ n. replicate k n ++ rest) run)
+    (subst (λ n. EndsOtherwise n rest) run c.take_run-twos.ensures.whole) (sym (length-reverse c.args.word.now.word))

@@ -24,7 +24,8 @@ pub returns-in_default : goal.returns-in_default
 returns-in_default c =
     let surface = c.args.surface.now in
     let sphere : HasSphereSplit surface = rw c.in_default.is at c.in_ok-good.ensures in
-    sphere_decides surface c.args.first.now c.args.second.now _ c.faces-faces.ensures.valid sphere c.requires.first c.requires.second c.requires.ends refl
+    sphere_decides surface c.args.first.now c.args.second.now _ c.faces-faces.ensures.valid sphere c.requires.first c.requires.second
+    c.requires.ends refl
 
 pub returns-then-are_same_words : goal.returns-then-are_same_words
 returns-then-are_same_words c =
@@ -34,7 +35,8 @@ returns-then-are_same_words c =
     let mesh = c.faces-faces.ensures.mesh in
     let labelled : IsLabelledByCut surface c.in-Some.good = rw c.in-Some.is at c.in_ok-good.ensures in
     let decides : Homotopic surface.mesh first second ↔ (c.in_ok-one.one ≡ c.in_ok-other.other) =
-    words_decide surface c.in-Some.good first second c.in_ok-one.one c.in_ok-other.other c.faces-faces.ensures.valid labelled c.requires.first c.requires.second c.requires.ends
+    words_decide surface c.in-Some.good first second c.in_ok-one.one c.in_ok-other.other c.faces-faces.ensures.valid labelled
+    c.requires.first c.requires.second c.requires.ends
     (subst (λ (m : FaceList). IsWordOf m c.in-Some.good first c.in_ok-one.one) mesh c.in_ok-one.ensures)
     (subst (λ (m : FaceList). IsWordOf m c.in-Some.good second c.in_ok-other.other) mesh c.in_ok-other.ensures) in
     equal_decides _ decides (c.if-are_same_words.ensures.0 refl) refl
@@ -47,7 +49,8 @@ returns c =
     let mesh = c.faces-faces.ensures.mesh in
     let labelled : IsLabelledByCut surface c.in-Some.good = rw c.in-Some.is at c.in_ok-good.ensures in
     let decides : Homotopic surface.mesh first second ↔ (c.in_ok-one.one ≡ c.in_ok-other.other) =
-    words_decide surface c.in-Some.good first second c.in_ok-one.one c.in_ok-other.other c.faces-faces.ensures.valid labelled c.requires.first c.requires.second c.requires.ends
+    words_decide surface c.in-Some.good first second c.in_ok-one.one c.in_ok-other.other c.faces-faces.ensures.valid labelled
+    c.requires.first c.requires.second c.requires.ends
     (subst (λ (m : FaceList). IsWordOf m c.in-Some.good first c.in_ok-one.one) mesh c.in_ok-one.ensures)
     (subst (λ (m : FaceList). IsWordOf m c.in-Some.good second c.in_ok-other.other) mesh c.in_ok-other.ensures) in
     unequal_decides _ decides (λ e. let same : false ≡ true = c.if-are_same_words.ensures.1 e in cc) refl

@@ -8,12 +8,14 @@ pub returns-then-is_at_vertex-clause-state : goal.returns-then-is_at_vertex-clau
 returns-then-is_at_vertex-clause-state g c =
     let s = c.args.self.now in
     let even : IsEven s = search rules in
-    sums-within s c.args.spoke.0 c.self.inside.x c.self.inside.y c.step_of-right.result.0 c.step_of-right.result.1 c.self.view_is c.requires.room c.step_of-right.ensures.right c.step_of-right.ensures.up
+    sums-within s c.args.spoke.0 c.self.inside.x c.self.inside.y c.step_of-right.result.0 c.step_of-right.result.1 c.self.view_is
+    c.requires.room c.step_of-right.ensures.right c.step_of-right.ensures.up
     ∙ sym (next-even c.args._wheel.now s c.args.spoke.0 even)
 
 pub returns-else-is_at_vertex-clause-state : goal.returns-else-is_at_vertex-clause-state
 returns-else-is_at_vertex-clause-state g c =
     let s = c.args.self.now in
     let odd : ¬ IsEven s = search rules in
-    differences-within s c.args.spoke.0 c.self.inside.x c.self.inside.y c.step_of-right.result.0 c.step_of-right.result.1 c.self.view_is c.requires.room c.step_of-right.ensures.right c.step_of-right.ensures.up
+    differences-within s c.args.spoke.0 c.self.inside.x c.self.inside.y c.step_of-right.result.0 c.step_of-right.result.1 c.self.view_is
+    c.requires.room c.step_of-right.ensures.right c.step_of-right.ensures.up
     ∙ sym (next-odd c.args._wheel.now s c.args.spoke.0 odd)

@@ -28,7 +28,8 @@ returns c =
     let here = labels_lie_at _ _ _ _ _ c.args.self.now c.args.face.0 c.self.invariant c.self.view_is c.requires.face in
     let start : c.start_of.result ≡ get_or (0 ∷ c.self.inside.ends.items) c.args.face.0 0 =
     c.start_of.ensures ∙ ap (λ ends. get_or (0 ∷ ends) c.args.face.0 0) c.deref.ensures.value in
-    let below : c.start_of.result + c.args.corner < length labels = omega (arith, start, here.rises, here.within, here.size, c.requires.corner) in
+    let below : c.start_of.result + c.args.corner < length labels =
+    omega (arith, start, here.rises, here.within, here.size, c.requires.corner) in
     get_or_read labels (c.start_of.result + c.args.corner) c.index.result.now below c.index.ensures 0
     ∙ ap (λ k. get_or labels (k + c.args.corner) 0) start
     ∙ sym (here.label c.args.corner c.requires.corner)

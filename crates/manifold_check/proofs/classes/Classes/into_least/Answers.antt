@@ -10,6 +10,7 @@ returns-clause-least c =
     let parents : List ℕ = c.self.inside.parents.items in
     let after : List ℕ = c.settle.new.parents in
     let is : after ≡ roots_of parents = c.settle.ensures ∙ ap roots_of c.deref_mut.ensures.value in
-    let size : length after ≡ c.self.inside.parents.len = omega (arith, ap (λ (l : List ℕ). length l) is, length-roots_of parents, c.self.inside.parents.ok.0) in
+    let size : length after ≡ c.self.inside.parents.len =
+    omega (arith, ap (λ (l : List ℕ). length l) is, length-roots_of parents, c.self.inside.parents.ok.0) in
     let items : (with_items c.self.inside.parents after).items ≡ after = with_items_is c.self.inside.parents after size in
     subst AreLeastMembers (sym (items ∙ is)) (roots_are_least parents c.self.invariant)

@@ -10,17 +10,20 @@ use Rattle.quad_system.proofs.from_polygon.GoodLabellingFromPolygon.from_polygon
 pub with_wheel-requires-clause-each_spoke : goal.with_wheel-requires-clause-each_spoke
 with_wheel-requires-clause-each_spoke c =
     let cut = c.requires.cut in
-    rw c.in_ok-labelling.ensures (polygon_good c.args.surface.now cut.0 c.args.polygon.now c.faces.ensures.valid cut.1 cut.2 c.requires.some).shape.each_spoke
+    rw c.in_ok-labelling.ensures (polygon_good c.args.surface.now cut.0 c.args.polygon.now c.faces.ensures.valid cut.1 cut.2
+    c.requires.some).shape.each_spoke
 
 pub with_wheel-requires-clause-below : goal.with_wheel-requires-clause-below
 with_wheel-requires-clause-below c =
     let cut = c.requires.cut in
-    rw c.in_ok-labelling.ensures (polygon_good c.args.surface.now cut.0 c.args.polygon.now c.faces.ensures.valid cut.1 cut.2 c.requires.some).shape.places_below
+    rw c.in_ok-labelling.ensures (polygon_good c.args.surface.now cut.0 c.args.polygon.now c.faces.ensures.valid cut.1 cut.2
+    c.requires.some).shape.places_below
 
 pub with_wheel-requires-clause-apart : goal.with_wheel-requires-clause-apart
 with_wheel-requires-clause-apart c =
     let cut = c.requires.cut in
-    rw c.in_ok-labelling.ensures (polygon_good c.args.surface.now cut.0 c.args.polygon.now c.faces.ensures.valid cut.1 cut.2 c.requires.some).places
+    rw c.in_ok-labelling.ensures (polygon_good c.args.surface.now cut.0 c.args.polygon.now c.faces.ensures.valid cut.1 cut.2
+    c.requires.some).places
 
 pub returns-clause-good : goal.returns-clause-good
 returns-clause-good c =

@@ -7,5 +7,6 @@ use Rattle.quad_system.proofs.from_polygon.LabellingFromPolygon.from_polygon.Goa
 pub returns : goal.returns
 returns c =
     subst (λ (own : LabellingView). IfOk c.laid_out.result (λ labelling. labelling ≡ own))
-    (told_alone c.args.surface.now c.args.polygon.now c.degree.result c.in_ok-labels.labels.items c.in_ok-places.places.items c.degree.ensures.degree c.in_ok-labels.ensures c.in_ok-places.ensures)
+    (told_alone c.args.surface.now c.args.polygon.now c.degree.result c.in_ok-labels.labels.items c.in_ok-places.places.items
+    c.degree.ensures.degree c.in_ok-labels.ensures c.in_ok-places.ensures)
     c.laid_out.ensures

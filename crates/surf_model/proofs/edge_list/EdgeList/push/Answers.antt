@@ -44,8 +44,18 @@ returns c =
     let size : length new ≡ length c.args.sides.now = length-map c.args.sides.now (λ (side : SideEntry). side.dart) in
     let put : c.append.new.darts.items ≡ i.darts.items ++ new = c.in_ok-append.ensures.ok in
     let end : c.len.result ≡ length i.darts.items + length c.args.sides.now =
-    omega (arith, c.len.ensures, c.append.new.darts.ok.0, ap (λ (ds : List DartName). length ds) put, length-append i.darts.items new, size) in
+    omega (
+      arith,
+      c.len.ensures,
+      c.append.new.darts.ok.0,
+      ap (λ (ds : List DartName). length ds) put,
+      length-append i.darts.items new,
+      size,
+    ) in
     let pairs : c.push.new.self.items ≡ i.pairs.items ++ c.args.ends ∷ [] = search rules in
     let stops : c.push-2.new.self.items ≡ i.stops.items ++ c.len.result ∷ [] = search rules in
-    rw (pairs, stops, put) (stored-push i.pairs.items i.stops.items i.darts.items c.args.sides.now c.args.ends c.len.result c.self.invariant end
-    ∙ ap (λ (edges : List DartEdge). let e : DartEdge = record { low = c.args.ends.low.0; high = c.args.ends.high.0; darts = map dart_of c.args.sides.now } in edges ++ e ∷ []) c.self.view_is)
+    rw (pairs, stops, put) (stored-push i.pairs.items i.stops.items i.darts.items c.args.sides.now c.args.ends c.len.result
+    c.self.invariant end
+    ∙ ap (λ (edges : List DartEdge). let e : DartEdge =
+    record { low = c.args.ends.low.0; high = c.args.ends.high.0; darts = map dart_of c.args.sides.now } in edges ++ e ∷ [])
+    c.self.view_is)

@@ -23,7 +23,8 @@ pub returns : goal.returns
 returns c =
     let corners = c.self.inside.corners.items in
     let here = lies_at _ _ _ c.args.self.now c.args.face.0 c.self.invariant c.self.view_is c.requires.face in
-    let below : c.start.result + c.args.t < length corners = omega (arith, c.start.ensures, here.rises, here.within, here.size, c.requires.corner) in
+    let below : c.start.result + c.args.t < length corners =
+    omega (arith, c.start.ensures, here.rises, here.within, here.size, c.requires.corner) in
     ap (λ (v : VertexName). v.0) c.index.ensures
     ∙ sym (get_or-map (λ (v : VertexName). v.0) corners (c.start.result + c.args.t) c.index.result.now 0 below)
     ∙ ap (λ k. get_or (numbers corners) (k + c.args.t) 0) c.start.ensures

@@ -17,4 +17,12 @@ returns-clause-number c =
 pub returns-clause-below : goal.returns-clause-below
 returns-clause-below c =
     let here = lies_at _ _ _ c.args.self.now c.args.side.face.0 c.self.invariant c.self.view_is c.requires.face in
-    omega (arith, c.start.ensures, here.rises, here.within, here.size, c.requires.place, total_sides-seen _ _ _ c.args.self.now c.self.invariant c.self.view_is)
+    omega (
+      arith,
+      c.start.ensures,
+      here.rises,
+      here.within,
+      here.size,
+      c.requires.place,
+      total_sides-seen _ _ _ c.args.self.now c.self.invariant c.self.view_is,
+    )

@@ -12,7 +12,9 @@ weaker P Q f (Err e) h = h
 pub returns-clause-numbering : goal.returns-clause-numbering
 returns-clause-numbering c =
     weaker _ (IsNumbering c.args.self.now)
-    (λ parts is. subst (IsNumbering c.args.self.now) (sym is) (numbering _ _ _ c.args.self.now c.self.invariant c.self.view_is)) c.copy.result c.copy.ensures
+    (λ parts is. subst (IsNumbering c.args.self.now) (sym is) (numbering _ _ _ c.args.self.now c.self.invariant c.self.view_is))
+    c.copy.result c.copy.ensures
 
 pub returns-clause-valid : goal.returns-clause-valid
-returns-clause-valid c = weaker _ (λ _. IsFaceList c.args.self.now) (λ parts is. subst IsFaceList c.self.view_is c.self.invariant.mesh) c.copy.result c.copy.ensures
+returns-clause-valid c = weaker _ (λ _. IsFaceList c.args.self.now) (λ parts is. subst IsFaceList c.self.view_is c.self.invariant.mesh)
+    c.copy.result c.copy.ensures

@@ -12,7 +12,12 @@ end-end-requires c = (lies_at _ _ _ c.args.self.now c.args.face.0 c.self.invaria
 
 pub slice_bounds-result-end : goal.slice_bounds-result-end
 slice_bounds-result-end c =
-    omega (arith, (lies_at _ _ _ c.args.self.now c.args.face.0 c.self.invariant c.self.view_is c.requires).within, c.end-end.ensures.end, c.self.inside.corners.ok.0)
+    omega (
+      arith,
+      (lies_at _ _ _ c.args.self.now c.args.face.0 c.self.invariant c.self.view_is c.requires).within,
+      c.end-end.ensures.end,
+      c.self.inside.corners.ok.0,
+    )
 
 pub returns : goal.returns
 returns c =

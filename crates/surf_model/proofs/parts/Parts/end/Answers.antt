@@ -6,7 +6,12 @@ use Rattle.surf_model.proofs.parts.Parts.end.Goals as goal
 pub end-requires : goal.end-requires
 end-requires c =
     let i = c.self.inside in
-    omega (arith, c.if-part-self.false, subst (λ ends. c.args.part < length ends) (sym c.self.view_is) c.requires, length-joined i.size i.count i.rest)
+    omega (
+      arith,
+      c.if-part-self.false,
+      subst (λ ends. c.args.part < length ends) (sym c.self.view_is) c.requires,
+      length-joined i.size i.count i.rest,
+    )
 
 pub returns-then-part-self-clause-end : goal.returns-then-part-self-clause-end
 returns-then-part-self-clause-end c =
@@ -33,7 +38,12 @@ returns-else-part-self-clause-end c =
     let i = c.self.inside in
     let k : ℕ = c.args.part in
     let place : i.count + (k - i.count) ≡ k = omega (arith, c.if-part-self.false) in
-    let below : k - i.count < length i.rest = omega (arith, place, subst (λ ends. k < length ends) (sym c.self.view_is) c.requires, length-joined i.size i.count i.rest) in
+    let below : k - i.count < length i.rest = omega (
+      arith,
+      place,
+      subst (λ ends. k < length ends) (sym c.self.view_is) c.requires,
+      length-joined i.size i.count i.rest,
+    ) in
     subst (λ ends. i.size * i.count + c.end.result ≡ get_or ends k 0) c.self.view_is
     (ap (λ n. i.size * i.count + n) c.end.ensures.end ∙ sym (end-listed i.size i.count i.rest (k - i.count) below)
     ∙ ap (λ n. get_or (joined_ends i.size i.count i.rest) n 0) place)
@@ -43,12 +53,19 @@ returns-else-part-self-clause-rises c =
     let i = c.self.inside in
     let k : ℕ = c.args.part in
     let place : i.count + (k - i.count) ≡ k = omega (arith, c.if-part-self.false) in
-    let below : k - i.count < length i.rest = omega (arith, place, subst (λ ends. k < length ends) (sym c.self.view_is) c.requires, length-joined i.size i.count i.rest) in
+    let below : k - i.count < length i.rest = omega (
+      arith,
+      place,
+      subst (λ ends. k < length ends) (sym c.self.view_is) c.requires,
+      length-joined i.size i.count i.rest,
+    ) in
     let starts : get_or (0 ∷ joined_ends i.size i.count i.rest) k 0 ≡ i.size * i.count + get_or (0 ∷ i.rest) (k - i.count) 0 =
-    ap (λ n. get_or (0 ∷ joined_ends i.size i.count i.rest) n 0) (sym place) ∙ start-listed i.size i.count i.rest (k - i.count) (omega (arith, below)) in
+    ap (λ n. get_or (0 ∷ joined_ends i.size i.count i.rest) n 0) (sym place)
+    ∙ start-listed i.size i.count i.rest (k - i.count) (omega (arith, below)) in
     subst (λ ends. get_or (0 ∷ ends) k 0 ≤ i.size * i.count + c.end.result) c.self.view_is (omega (arith, starts, c.end.ensures.rises))
 
 pub returns-else-part-self-clause-within : goal.returns-else-part-self-clause-within
 returns-else-part-self-clause-within c =
     let i = c.self.inside in
-    subst (λ ends. i.size * i.count + c.end.result ≤ last_end ends) c.self.view_is (omega (arith, last_end-joined i.size i.count i.rest, c.end.ensures.within))
+    subst (λ ends. i.size * i.count + c.end.result ≤ last_end ends) c.self.view_is
+    (omega (arith, last_end-joined i.size i.count i.rest, c.end.ensures.within))

@@ -11,7 +11,12 @@ positive (suc s) c place h = omega arith
 pub part_at-requires : goal.part_at-requires
 part_at-requires c =
     let i = c.self.inside in
-    omega (arith, subst (λ ends. c.args.place < last_end ends) (sym c.self.view_is) c.requires, last_end-joined i.size i.count i.rest, c.if-place-listed.true)
+    omega (
+      arith,
+      subst (λ ends. c.args.place < last_end ends) (sym c.self.view_is) c.requires,
+      last_end-joined i.size i.count i.rest,
+      c.if-place-listed.true,
+    )
 
 pub returns-then-place-listed : goal.returns-then-place-listed
 returns-then-place-listed c =

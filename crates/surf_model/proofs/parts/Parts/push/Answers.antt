@@ -10,7 +10,11 @@ use Rattle.surf_model.specs.declared.limits.TheConstants.{MOST_SIDES}
 pub push-requires-clause-room : goal.push-requires-clause-room
 push-requires-clause-room c =
     let i = c.self.inside in
-    omega (arith, subst (λ ends. last_end ends + c.args.size ≤ MOST_SIDES) (sym c.self.view_is) c.requires.room, last_end-joined i.size i.count i.rest)
+    omega (
+      arith,
+      subst (λ ends. last_end ends + c.args.size ≤ MOST_SIDES) (sym c.self.view_is) c.requires.room,
+      last_end-joined i.size i.count i.rest,
+    )
 
 pub invariant_of-self-in-Continue-1 : goal.invariant_of-self-in-Continue-1
 invariant_of-self-in-Continue-1 c =

@@ -4,9 +4,11 @@ use Rattle.tree_cotree.proofs.waiting.Waiting.take_last.Goals as goal
 
 pub returns-in-Some-clause-some : goal.returns-in-Some-clause-some
 returns-in-Some-clause-some c =
-    taken_near_last (Some c.in-Some.dart) c.args.self.now.far.items c.args.self.now.near.items c.pop_back.new.self.items c.in-Some.ensures.items
+    taken_near_last (Some c.in-Some.dart) c.args.self.now.far.items c.args.self.now.near.items c.pop_back.new.self.items
+    c.in-Some.ensures.items
 
 pub returns-in-None-clause-some : goal.returns-in-None-clause-some
 returns-in-None-clause-some c =
-    taken_far_last c.pop_back-in-None.result c.args.self.now.far.items c.args.self.now.near.items c.pop_back.new.self.items c.pop_back-in-None.new.self.items
+    taken_far_last c.pop_back-in-None.result c.args.self.now.far.items c.args.self.now.near.items c.pop_back.new.self.items
+    c.pop_back-in-None.new.self.items
     c.in-None.ensures.items c.pop_back-in-None.ensures.items

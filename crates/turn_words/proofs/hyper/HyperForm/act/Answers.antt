@@ -19,7 +19,8 @@ negative_modulo-requires g c =
     (c.negative_modulo-before.ensures.negative ∙ ap₂ minus degree (ap (λ (v : HyperView). v.state.number) c.self.view_is)) in
     let below = change-below places state c.args.spoke.0 c.sum_modulo-turn.result c.requires.belongs c.requires.spoke turn in
     let change : c.put_uncounted-put.result.change ≡ (put (length places) (reverse state.word) c.sum_modulo-turn.result).change =
-    c.put_uncounted-put.ensures.change ∙ ap₂ (λ d w. (put d (reverse w) c.sum_modulo-turn.result).change) degree (c.in_ok-reserve.ensures.word ∙ word) in
+    c.put_uncounted-put.ensures.change ∙ ap₂ (λ d w. (put d (reverse w) c.sum_modulo-turn.result).change) degree
+    (c.in_ok-reserve.ensures.word ∙ word) in
     omega arith
 
 pub returns-clause-notes : goal.returns-clause-notes
@@ -32,10 +33,13 @@ returns-clause-notes g c =
     c.sum_modulo-turn.ensures.sum ∙ ap (λ d. add d c.value_of.result c.negative_modulo-before.result) degree
     ∙ ap₂ (add (length places)) (c.value_of.ensures.value ∙ ap (λ w. value_at places w c.args.spoke.0) word)
     (c.negative_modulo-before.ensures.negative ∙ ap₂ minus degree (ap (λ (v : HyperView). v.state.number) c.self.view_is)) in
-    let steps : rewrite_steps c.len-len.result c.put_uncounted-put.result.rewrite ≡ put_steps (length places) (reverse state.word) c.sum_modulo-turn.result =
+    let steps : rewrite_steps c.len-len.result c.put_uncounted-put.result.rewrite ≡ put_steps (length places) (reverse state.word)
+    c.sum_modulo-turn.result =
     ap (λ n. rewrite_steps n c.put_uncounted-put.result.rewrite) (c.len-len.ensures.length ∙ ap length (sym c.in_ok-reserve.ensures.word))
-    ∙ c.put_uncounted-put.ensures.rewrite ∙ ap₂ (λ d w. put_steps d (reverse w) c.sum_modulo-turn.result) degree (c.in_ok-reserve.ensures.word ∙ word) in
-    notes-put places state c.args.spoke.0 c.sum_modulo-turn.result (g.R.Recorder.noted c.args.recorder.now) (g.R.Recorder.noted c.note_rewrite.new.recorder) c.requires.belongs turn
+    ∙ c.put_uncounted-put.ensures.rewrite ∙ ap₂ (λ d w. put_steps d (reverse w) c.sum_modulo-turn.result) degree
+    (c.in_ok-reserve.ensures.word ∙ word) in
+    notes-put places state c.args.spoke.0 c.sum_modulo-turn.result (g.R.Recorder.noted c.args.recorder.now)
+    (g.R.Recorder.noted c.note_rewrite.new.recorder) c.requires.belongs turn
     (c.in_ok-note_rewrite.ensures.noted ∙ ap (with_steps (g.R.Recorder.noted c.args.recorder.now)) steps)
 
 pub returns-clause-belongs : goal.returns-clause-belongs
@@ -53,7 +57,10 @@ returns-clause-belongs g c =
     c.put_uncounted-put.ensures.word ∙ ap₂ (λ d w. (put d (reverse w) c.sum_modulo-turn.result).word) degree before in
     let change : c.put_uncounted-put.result.change ≡ (put (length places) (reverse state.word) c.sum_modulo-turn.result).change =
     c.put_uncounted-put.ensures.change ∙ ap₂ (λ d w. (put d (reverse w) c.sum_modulo-turn.result).change) degree before in
-    let number : c.sum_modulo-self-inside.result ≡ add (length places) (value_at places c.put_uncounted-put.new.word.word c.args.spoke.0) (minus (length places) c.put_uncounted-put.result.change) =
+    let number : c.sum_modulo-self-inside.result ≡ add (length places)
+    (value_at places c.put_uncounted-put.new.word.word c.args.spoke.0) (minus (length places) c.put_uncounted-put.result.change) =
     c.sum_modulo-self-inside.ensures.sum ∙ ap (λ d. add d c.value_of-value.result c.negative_modulo.result) degree
-    ∙ ap₂ (add (length places)) c.value_of-value.ensures.value (c.negative_modulo.ensures.negative ∙ ap (λ d. minus d c.put_uncounted-put.result.change) degree) in
-    belongs-next places state c.args.spoke.0 c.sum_modulo-turn.result c.put_uncounted-put.new.word.word c.put_uncounted-put.result.change c.sum_modulo-self-inside.result c.requires.belongs c.requires.spoke turn left change number
+    ∙ ap₂ (add (length places)) c.value_of-value.ensures.value
+    (c.negative_modulo.ensures.negative ∙ ap (λ d. minus d c.put_uncounted-put.result.change) degree) in
+    belongs-next places state c.args.spoke.0 c.sum_modulo-turn.result c.put_uncounted-put.new.word.word
+    c.put_uncounted-put.result.change c.sum_modulo-self-inside.result c.requires.belongs c.requires.spoke turn left change number

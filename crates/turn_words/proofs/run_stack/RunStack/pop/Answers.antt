@@ -4,8 +4,10 @@ use Rattle.turn_words.proofs.run_stack.RunStack.pop.Goals as goal
 
 pub invariant_of-self : goal.invariant_of-self
 invariant_of-self g c =
-    let filled : AreFilled c.pop.new.self.items = (popped-filled c.pop.result c.self.inside.pairs.items c.pop.new.self.items c.pop.ensures.items c.self.invariant).0 in
+    let filled : AreFilled c.pop.new.self.items = (popped-filled c.pop.result c.self.inside.pairs.items c.pop.new.self.items
+    c.pop.ensures.items c.self.invariant).0 in
     filled
 
 pub returns-clause-filled : goal.returns-clause-filled
-returns-clause-filled g c = (popped-filled c.pop.result c.self.inside.pairs.items c.pop.new.self.items c.pop.ensures.items c.self.invariant).1
+returns-clause-filled g c = (popped-filled c.pop.result c.self.inside.pairs.items c.pop.new.self.items c.pop.ensures.items
+    c.self.invariant).1

@@ -5,11 +5,13 @@ use Rattle.turn_words.proofs.run_stack.RunStack.pop_one.Goals as goal
 
 pub returns-then-count-gt1-clause-cases : goal.returns-then-count-gt1-clause-cases
 returns-then-count-gt1-clause-cases g c =
-    written-less c.args.self.now.runs c.pop.new.self.runs c.push_reserved.new.self.runs c.in_ok-value.value c.in_ok-value.count c.in_ok-value.ensures.runs c.in_ok-value.ensures.filled c.push_reserved.ensures.runs
+    written-less c.args.self.now.runs c.pop.new.self.runs c.push_reserved.new.self.runs c.in_ok-value.value c.in_ok-value.count
+    c.in_ok-value.ensures.runs c.in_ok-value.ensures.filled c.push_reserved.ensures.runs
 
 pub returns-then-count-gt1-clause-apart : goal.returns-then-count-gt1-clause-apart
 returns-then-count-gt1-clause-apart g c =
-    apart-less c.args.self.now.runs c.pop.new.self.runs c.push_reserved.new.self.runs c.in_ok-value.value c.in_ok-value.count c.requires c.in_ok-value.ensures.runs c.push_reserved.ensures.runs
+    apart-less c.args.self.now.runs c.pop.new.self.runs c.push_reserved.new.self.runs c.in_ok-value.value c.in_ok-value.count c.requires
+    c.in_ok-value.ensures.runs c.push_reserved.ensures.runs
 
 pub returns-else-count-gt1-clause-cases : goal.returns-else-count-gt1-clause-cases
 returns-else-count-gt1-clause-cases g c =

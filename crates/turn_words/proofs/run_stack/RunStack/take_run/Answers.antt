@@ -22,11 +22,13 @@ returns-in-Some-pop-clause-written g c =
 
 pub returns-in-Some-pop-clause-filled : goal.returns-in-Some-pop-clause-filled
 returns-in-Some-pop-clause-filled g c =
-    (filled-front c.pop.new.self.runs (c.in-Some-pop.field-0-0, c.in-Some-pop.count) (subst AreFilled c.in-Some-pop.ensures.runs c.top.ensures.filled)).0
+    (filled-front c.pop.new.self.runs (c.in-Some-pop.field-0-0, c.in-Some-pop.count)
+    (subst AreFilled c.in-Some-pop.ensures.runs c.top.ensures.filled)).0
 
 pub returns-in-Some-pop-clause-apart : goal.returns-in-Some-pop-clause-apart
 returns-in-Some-pop-clause-apart g c =
-    (apart-front c.pop.new.self.runs (c.in-Some-pop.field-0-0, c.in-Some-pop.count) (subst AreApart c.in-Some-pop.ensures.runs c.requires)).0
+    (apart-front c.pop.new.self.runs (c.in-Some-pop.field-0-0, c.in-Some-pop.count)
+    (subst AreApart c.in-Some-pop.ensures.runs c.requires)).0
 
 pub returns-in-Some-pop-clause-differs : goal.returns-in-Some-pop-clause-differs
 returns-in-Some-pop-clause-differs g c =

@@ -20,8 +20,10 @@ returns-then-self-other-2 c =
       | then-self-other+else-self-eq0 w ↦ (w.if-self-other.true, inr (eqb-true s.start o.start (sym w.value-is ∙ c.if-self-other-2.true)))
       | else-self-other w ↦ absurd (w.if-self-other.false (eqb-true s.len o.len (sym w.value-is ∙ c.if-self-other-2.true)))
     ] in (
-      (λ yes. sym word ∙ same-words s.len o.len s.start o.start s.runs.runs o.runs.runs first.0 first.1 (sym c.as_slice.ensures.runs ∙ same.0 yes ∙ c.as_slice-then-self-other-2.ensures.runs) ∙ other),
+      (λ yes. sym word ∙ same-words s.len o.len s.start o.start s.runs.runs o.runs.runs first.0 first.1
+          (sym c.as_slice.ensures.runs ∙ same.0 yes ∙ c.as_slice-then-self-other-2.ensures.runs) ∙ other),
       (λ equal. same.1 (c.as_slice.ensures.runs
-          ∙ (same-runs s.len o.len s.start o.start s.runs.runs o.runs.runs c.self.invariant c.other.invariant c.as_slice.ensures.filled c.as_slice-then-self-other-2.ensures.filled (word ∙ equal ∙ sym other)).2
+          ∙ (same-runs s.len o.len s.start o.start s.runs.runs o.runs.runs c.self.invariant c.other.invariant c.as_slice.ensures.filled
+          c.as_slice-then-self-other-2.ensures.filled (word ∙ equal ∙ sym other)).2
           ∙ sym c.as_slice-then-self-other-2.ensures.runs)),
     )

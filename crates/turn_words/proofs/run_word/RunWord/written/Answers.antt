@@ -11,10 +11,19 @@ push_copies-requires c =
     let within = written-within runs k below in
     let some : 0 < c.self.inside.len = omega (arith, c.if-self-eq0.false) in
     let long = c.self.invariant.some some in
-    let same : length (written runs) ≡ length (written c.self.inside.runs.runs) = ap (λ (z : List (ℕ × ℕ)). length (written z)) c.as_slice-value-items.ensures.runs in
+    let same : length (written runs) ≡ length (written c.self.inside.runs.runs) =
+    ap (λ (z : List (ℕ × ℕ)). length (written z)) c.as_slice-value-items.ensures.runs in
     let exact : vec_capacity c.in_ok-entries.entries ≡ c.self.inside.len = c.in_ok-entries.ensures.exact in
     let none : vec_len c.in_ok-entries.entries ≡ 0 = c.in_ok-entries.ensures.len in
-    record { room = omega (arith, c.loop-value.invariant.size, c.loop-value.invariant.capacity, c.push_reserved.ensures.len, c.push_reserved.ensures.capacity) }
+    record {
+      room = omega (
+        arith,
+        c.loop-value.invariant.size,
+        c.loop-value.invariant.capacity,
+        c.push_reserved.ensures.len,
+        c.push_reserved.ensures.capacity,
+      );
+    }
 
 pub loop-value-preserved : goal.loop-value-preserved
 loop-value-preserved c =
