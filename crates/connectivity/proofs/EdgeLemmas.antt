@@ -24,12 +24,12 @@ joins_ends : (u v : ℕ) (s : FaceSide) → joins u v s ≡ true → ((s.tail �
 joins_ends u v s h = grind (arith, nat_tests)
 
 -- some side joins the two vertices of an edge
-record HasSideBetween (mesh : FaceList) (u v : ℕ) : Type 0 where
+pub record HasSideBetween (mesh : FaceList) (u v : ℕ) : Type 0 where
   pub side : Side
   pub in_mesh : IsSide mesh side
   pub ends : ((tail_of mesh side ≡ u) × (head_of mesh side ≡ v)) ⊎ ((tail_of mesh side ≡ v) × (head_of mesh side ≡ u))
 
-side_between : (mesh : FaceList) (u v : ℕ) → is_edge mesh u v ≡ true → HasSideBetween mesh u v
+pub side_between : (mesh : FaceList) (u v : ℕ) → is_edge mesh u v ≡ true → HasSideBetween mesh u v
 unfolding is_edge
 side_between mesh u v is =
     let any = Any-from_list_any (joins u v) (all_sides mesh) is in

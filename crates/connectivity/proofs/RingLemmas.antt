@@ -147,6 +147,37 @@ partner_or_alone mesh table side dart next is each in_mesh number h =
     turned_of_one : (m i : ℕ) → m ≡ 1 → i < m → next_corner true m i ≡ i
     turned_of_one m i one l = grind (arith, nat_tests)
 
+-- a side that stands alone in its edge has no partner
+pub alone_in_edge : (mesh : FaceList) (table : List Edge) (k : ℕ) (side : Side) → IsTableOf mesh table → k < length table
+    → length (edge_in table k).sides ≡ 1 → get_or (edge_in table k).sides 0 side ≡ side → IsAlone mesh side
+alone_in_edge mesh table k side h l one here other partners =
+    let few : 0 < length (edge_in table k).sides = omega arith in
+    partners.different
+    (only_one (edge_in table k).sides 0 side other one few here
+    (partner_in_edge mesh table k 0 side other (record { table_of = h; in_table = l; in_edge = few; here = here }) partners))
+
+-- the partner of a side's partner is the side
+pub partner_back : (mesh : FaceList) (side partner other : Side) (n : ℕ) → HasPartner mesh side n → ArePartners mesh side partner
+    → ArePartners mesh partner other → other ≡ side
+partner_back mesh side partner other n found one two =
+    elim (cases_eq (side_number mesh other) (side_number mesh side)) [
+      | inl same ↦ number_once mesh other side two.second one.first same
+      | inr apart ↦
+          (let third : ArePartners mesh side other = record {
+            first = one.first;
+            second = two.second;
+            different = λ same. apart (ap (side_number mesh) (sym same));
+            one_edge =
+                ends_through (tail_of mesh side) (head_of mesh side) (tail_of mesh partner) (head_of mesh partner) (tail_of mesh other)
+                (head_of mesh other) one.one_edge two.one_edge;
+          } in
+          absurd (two.different (found.only partner one ∙ sym (found.only other third))))
+    ]
+  where
+    ends_through : (a b c d e f : ℕ) → ((a ≡ c) × (b ≡ d)) ⊎ ((a ≡ d) × (b ≡ c)) → ((c ≡ e) × (d ≡ f)) ⊎ ((c ≡ f) × (d ≡ e))
+        → ((a ≡ e) × (b ≡ f)) ⊎ ((a ≡ f) × (b ≡ e))
+    ends_through a b c d e f first second = grind arith
+
 pub partner_below : (mesh : FaceList) (side : Side) (n : ℕ) → HasPartner mesh side n → n < total_sides mesh
 partner_below mesh side n h = omega (arith, h.number, number_below mesh h.partner h.partners.second)
 
