@@ -1,4 +1,7 @@
 pub mod OpenSurfaces
+pub mod OpenFaults
 pub mod Parents
 pub mod Normal
+pub mod Searches
+pub mod StoredMeshes
 pub mod Examples

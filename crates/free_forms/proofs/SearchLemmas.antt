@@ -1,0 +1,317 @@
+-- What a search of the faces has reached, as it goes on.
+use Rattle.std.proofs.Common.{◌≡◌, ◌≢◌, ◌⊎◌, inl, inr, ℕ, zero, suc, ◌+◌, ◌<◌, ◌≤◌, Bool, true, false, List, [], ◌∷◌, ◌++◌, length, get_or, set, refl, ap, sym, ◌∙◌, subst, arith, length-append}
+use Rattle.std.specs.Prelude.{sum_by, cond, Some, slice_get}
+use Rattle.std.proofs.lemmas.Bool.{cases_Bool, cases_eq, cases_lt}
+use Rattle.std.proofs.lemmas.List.{length-set, get_or-set_same, get_or-set_other, get_or_append_left, get_or_past, get_or-append-add}
+use Rattle.std.proofs.lemmas.List.Sums.{sum_by-set, sum_by-cons}
+use Rattle.surf_model.specs.FaceLists.{FaceList, face_at}
+use Rattle.surf_model.specs.Darts.{IsSide, side_number}
+use Rattle.surf_model.specs.EdgeDarts.{IsNextInEdge}
+use Rattle.surf_model.specs.Edges.{Edge, IsTableOf, edge_in}
+use Rattle.surf_model.specs.Surfaces.{ArePartners}
+use Rattle.surf_model.specs.declared.edges.Side.{Side}
+use Rattle.std.proofs.lemmas.Option.{get_or_from_slice_get}
+use Rattle.surf_model.proofs.PartnerLemmas.{IsSideOfEdge, side_of_edge, table_edge}
+use Rattle.connectivity.specs.Joined.{NoEdgeHasThreeSides}
+use Rattle.connectivity.proofs.CornerLemmas.{number_once}
+use Rattle.connectivity.proofs.RingLemmas.{HasPartner, IsAlone, partner_or_alone, partners_by_number, alone_in_edge, partner_back}
+use Rattle.free_forms.specs.Parents.{EndsOutside}
+use Rattle.free_forms.specs.Searches.{SearchView, IsReached, IsSearch, Grows, NeighboursReached, IsClosedUpTo, IsStartedUpTo, with_side, parent_in, bit}
+
+-- only faces of the mesh are reached
+pub reached_below : (mesh : FaceList) (search : SearchView) (f : ℕ) → IsSearch mesh search → IsReached search f → f < length mesh.faces
+reached_below mesh search f h is =
+    elim (cases_lt f (length search.reached)) [
+      | inl less ↦ omega (arith, less, h.each_mark)
+      | inr more ↦ (let past : get_or search.reached f false ≡ false = get_or_past search.reached f false more in cc)
+    ]
+
+few_bits : (marks : List Bool) → sum_by bit marks ≤ length marks
+few_bits [] = omega arith
+few_bits (true ∷ marks) = omega (arith, few_bits marks, sum_by-cons bit true marks)
+few_bits (false ∷ marks) = omega (arith, few_bits marks, sum_by-cons bit false marks)
+
+-- no more faces are reached than there are
+pub few_reached : (mesh : FaceList) (search : SearchView) → IsSearch mesh search → length search.order ≤ length mesh.faces
+few_reached mesh search h = omega (arith, h.counted, h.each_mark, few_bits search.reached)
+
+pub grows_refl : (search : SearchView) → Grows search search
+grows_refl search = record { more = omega arith; order = λ j l. refl; reached = λ f is. is }
+
+pub grows_trans : (one two three : SearchView) → Grows one two → Grows two three → Grows one three
+grows_trans one two three h k = record {
+  more = omega (arith, h.more, k.more);
+  order = λ j l. k.order j (omega (arith, l, h.more)) ∙ h.order j l;
+  reached = λ f is. k.reached f (h.reached f is);
+}
+
+-- what a search is once a side has been reached
+pub record IsMoreBy (mesh : FaceList) (old new : SearchView) (side : Side) : Type 0 where
+  pub search : IsSearch mesh new
+  pub grows : Grows old new
+  pub reached : IsReached new side.face.0
+
+-- the search with a face that was not reached before
+abbrev with_new : SearchView → Side → SearchView
+with_new search side = record {
+  order = search.order ++ side.face.0 ∷ [];
+  reached = set search.reached side.face.0 true;
+  places = set search.places side.face.0 side.at;
+}
+
+by_mark : (search : SearchView) (side : Side) (b : Bool) → get_or search.reached side.face.0 false ≡ b
+    → with_side search side ≡ cond b search (with_new search side)
+by_mark search side b e = ap (λ (c : Bool). cond c search (with_new search side)) e
+
+-- the last entry of a longer list, and the others
+last_entry : (xs : List ℕ) (x : ℕ) → get_or (xs ++ x ∷ []) (length xs) 0 ≡ x
+last_entry xs x =
+    let none : length xs ≡ length xs + 0 = omega arith in
+    ap (λ (n : ℕ). get_or (xs ++ x ∷ []) n 0) none ∙ get_or-append-add xs (x ∷ []) 0 0
+
+new_reached : (mesh : FaceList) (old : SearchView) (side : Side) → IsSearch mesh old → side.face.0 < length mesh.faces
+    → IsReached (with_new old side) side.face.0
+new_reached mesh old side h l = get_or-set_same old.reached side.face.0 true false (omega (arith, h.each_mark, l))
+
+stays_reached : (old : SearchView) (side : Side) (f : ℕ) → IsReached old f → get_or old.reached side.face.0 false ≡ false
+    → IsReached (with_new old side) f
+stays_reached old side f is not =
+    elim (cases_eq f side.face.0) [
+      | inl same ↦ (let this : get_or old.reached side.face.0 false ≡ true = ap (λ (g : ℕ). get_or old.reached g false) (sym same) ∙ is in cc)
+      | inr other ↦ get_or-set_other old.reached side.face.0 f true false other ∙ is
+    ]
+
+was_reached : (old : SearchView) (side : Side) (f : ℕ) → f ≢ side.face.0 → IsReached (with_new old side) f → IsReached old f
+was_reached old side f other is = sym (get_or-set_other old.reached side.face.0 f true false other) ∙ is
+
+new_grows : (old : SearchView) (side : Side) → get_or old.reached side.face.0 false ≡ false → Grows old (with_new old side)
+new_grows old side not = record {
+  more = omega (arith, length-append old.order (side.face.0 ∷ []));
+  order = λ j l. get_or_append_left old.order (side.face.0 ∷ []) 0 j l;
+  reached = λ f is. stays_reached old side f is not;
+}
+
+new_search : (mesh : FaceList) (old : SearchView) (side : Side) → IsSearch mesh old → IsSide mesh side
+    → ((other : Side) → ArePartners mesh side other → IsReached old other.face.0) → get_or old.reached side.face.0 false ≡ false
+    → IsSearch mesh (with_new old side)
+new_search mesh old side h is before not =
+    let f : ℕ = side.face.0 in
+    let new : SearchView = with_new old side in
+    let n : ℕ = length old.order in
+    let long : length new.order ≡ n + 1 = length-append old.order (f ∷ []) in
+    let grows : Grows old new = new_grows old side not in
+    let apart : (g : ℕ) → IsReached old g → g ≢ f =
+    λ g reached same. (let this : get_or old.reached f false ≡ true = ap (λ (x : ℕ). get_or old.reached x false) (sym same) ∙ reached in cc) in
+    let place : (g : ℕ) → g ≢ f → get_or new.places g 0 ≡ get_or old.places g 0 =
+    λ g other. get_or-set_other old.places f g side.at 0 other in
+    let here : get_or new.places f 0 ≡ side.at = get_or-set_same old.places f side.at 0 (omega (arith, h.each_place, is.face)) in
+    record {
+      each_place = length-set old.places f side.at ∙ h.each_place;
+      each_mark = length-set old.reached f true ∙ h.each_mark;
+      counted =
+          (let more : sum_by bit new.reached + bit (get_or old.reached f false) ≡ sum_by bit old.reached + 1 =
+          sum_by-set bit old.reached f true false (omega (arith, h.each_mark, is.face)) in
+          let none : bit (get_or old.reached f false) ≡ 0 = ap bit not in
+          omega (arith, more, none, h.counted, long));
+      in_order = λ g reached. elim (cases_eq g f) [
+        | inl same ↦ (n, omega (arith, long), last_entry old.order f ∙ sym same)
+        | inr other ↦
+            (let at = h.in_order g (was_reached old side g other reached) in
+            (at.0, omega (arith, at.1, long), grows.order at.0 at.1 ∙ at.2))
+      ];
+      in_marks = λ j l. elim (cases_lt j n) [
+        | inl less ↦ subst (IsReached new) (sym (grows.order j less)) (grows.reached (get_or old.order j 0) (h.in_marks j less))
+        | inr more ↦
+            (let last : n ≡ j = omega (arith, l, more, long) in
+            subst (λ (k : ℕ). IsReached new (get_or new.order k 0)) last
+            (subst (IsReached new) (sym (last_entry old.order f)) (new_reached mesh old side h is.face)))
+      ];
+      within = λ g reached. elim (cases_eq g f) [
+        | inl same ↦
+            subst (λ (x : ℕ). get_or new.places x 0 < length (face_at mesh x)) (sym same)
+            (subst (λ (x : ℕ). x < length (face_at mesh f)) (sym here) is.place)
+        | inr other ↦
+            subst (λ (x : ℕ). x < length (face_at mesh g)) (sym (place g other)) (h.within g (was_reached old side g other reached))
+      ];
+      falls = λ j other l partners. elim (cases_lt j n) [
+        | inl less ↦
+            (let g : ℕ = get_or old.order j 0 in
+            let same : parent_in mesh new (get_or new.order j 0) ≡ parent_in mesh old g =
+            ap (λ (x : ℕ). parent_in mesh new x) (grows.order j less)
+            ∙ ap (λ (x : ℕ). named g x) (place g (apart g (h.in_marks j less))) in
+            let at = h.falls j other less (subst (λ (s : Side). ArePartners mesh s other) same partners) in
+            (at.0, at.1, grows.order at.0 (omega (arith, at.1, less)) ∙ at.2))
+        | inr more ↦
+            (let last : j ≡ n = omega (arith, l, more, long) in
+            let same : parent_in mesh new (get_or new.order j 0) ≡ side =
+            ap (λ (x : ℕ). parent_in mesh new (get_or new.order x 0)) last
+            ∙ ap (λ (x : ℕ). parent_in mesh new x) (last_entry old.order f) ∙ ap (λ (x : ℕ). named f x) here in
+            let at = h.in_order other.face.0 (before other (subst (λ (s : Side). ArePartners mesh s other) same partners)) in
+            (at.0, omega (arith, at.1, last), grows.order at.0 at.1 ∙ at.2))
+      ];
+    }
+  where
+    named : ℕ → ℕ → Side
+    named f t = record { face = record { 0 = f }; at = t }
+
+-- a side is reached whose partners lie in faces that were reached before
+pub search_more : (mesh : FaceList) (old new : SearchView) (side : Side) → IsSearch mesh old → IsSide mesh side
+    → ((other : Side) → ArePartners mesh side other → IsReached old other.face.0) → new ≡ with_side old side → IsMoreBy mesh old new side
+search_more mesh old new side h is before new_is =
+    subst (λ (s : SearchView). IsMoreBy mesh old s side) (sym new_is)
+    (elim (cases_Bool (get_or old.reached side.face.0 false)) [
+      | inl marked ↦
+          subst (λ (s : SearchView). IsMoreBy mesh old s side) (sym (by_mark old side true marked))
+          (record { search = h; grows = grows_refl old; reached = marked })
+      | inr not ↦
+          subst (λ (s : SearchView). IsMoreBy mesh old s side) (sym (by_mark old side false not))
+          (record {
+            search = new_search mesh old side h is before not;
+            grows = new_grows old side not;
+            reached = new_reached mesh old side h is.face;
+          })
+    ])
+
+pub neighbours_stay : (mesh : FaceList) (old new : SearchView) (f n : ℕ) → Grows old new → NeighboursReached mesh old f n
+    → NeighboursReached mesh new f n
+neighbours_stay mesh old new f n grows h t other l few partners = grows.reached other.face.0 (h t other l few partners)
+
+pub started_stay : (table : List Edge) (old new : SearchView) (n : ℕ) → Grows old new → IsStartedUpTo table old n → IsStartedUpTo table new n
+started_stay table old new n grows h k d l few one = grows.reached _ (h k d l few one)
+
+-- crossing parents goes down the order, so it ends
+ends_outside : (mesh : FaceList) (search : SearchView) (n j : ℕ) → IsSearch mesh search → j < n → j < length search.order
+    → EndsOutside (record { mesh = mesh; places = search.places }) n (get_or search.order j 0)
+ends_outside mesh search zero j h l few = absurd (omega arith)
+ends_outside mesh search (suc n) j h l few = λ other partners.
+    let at = h.falls j other few partners in
+    subst (EndsOutside (record { mesh = mesh; places = search.places }) n) at.2
+    (ends_outside mesh search n at.0 h (omega (arith, l, at.1)) (omega (arith, few, at.1)))
+
+pub all_end_outside : (mesh : FaceList) (search : SearchView) (f : ℕ) → IsSearch mesh search → IsReached search f
+    → EndsOutside (record { mesh = mesh; places = search.places }) (length mesh.faces) f
+all_end_outside mesh search f h is =
+    let at = h.in_order f is in
+    subst (EndsOutside (record { mesh = mesh; places = search.places }) (length mesh.faces)) at.2
+    (ends_outside mesh search (length mesh.faces) at.0 h (omega (arith, at.1, few_reached mesh search h)) at.1)
+
+-- the first side of an edge of the table that has one is alone, and of the mesh
+record IsFirstSide (mesh : FaceList) (table : List Edge) (k : ℕ) (side : Side) : Type 0 where
+  side_of : IsSide mesh side
+  alone : IsAlone mesh side
+
+first_side : (mesh : FaceList) (table : List Edge) (k : ℕ) (side : Side) → IsTableOf mesh table → k < length table
+    → length (edge_in table k).sides ≡ 1 → slice_get (edge_in table k).sides 0 ≡ Some side → IsFirstSide mesh table k side
+first_side mesh table k side h l one is =
+    let edge : Edge = edge_in table k in
+    let here : get_or edge.sides 0 side ≡ side = get_or_from_slice_get edge.sides 0 side side is in
+    let stands : IsSideOfEdge mesh edge (get_or edge.sides 0 side) = side_of_edge mesh edge 0 side (table_edge mesh table k h l) (omega arith) in
+    record {
+      side_of = subst (IsSide mesh) here stands.side_of;
+      alone = alone_in_edge mesh table k side h l one here;
+    }
+
+pub side_of_one : (mesh : FaceList) (table : List Edge) (k : ℕ) (side : Side) → IsTableOf mesh table → k < length table
+    → length (edge_in table k).sides ≡ 1 → slice_get (edge_in table k).sides 0 ≡ Some side → IsSide mesh side
+side_of_one mesh table k side h l one is = (first_side mesh table k side h l one is).side_of
+
+-- the search that has started on the boundary edges up to edge n
+pub record HasStarted (mesh : FaceList) (table : List Edge) (search : SearchView) (n : ℕ) : Type 0 where
+  pub search_of : IsSearch mesh search
+  pub started : IsStartedUpTo table search n
+
+started_more : (table : List Edge) (search : SearchView) (k : ℕ)
+    → ((d : Side) → k < length table → length (edge_in table k).sides ≡ 1 → IsReached search (get_or (edge_in table k).sides 0 d).face.0)
+    → IsStartedUpTo table search k → IsStartedUpTo table search (k + 1)
+started_more table search k here h j d l few one =
+    elim (cases_eq j k) [
+      | inl same ↦
+          (let this : IsReached search (get_or (edge_in table k).sides 0 d).face.0 =
+          here d (omega (arith, few, same)) (ap (λ (i : ℕ). length (edge_in table i).sides) (sym same) ∙ one) in
+          subst (λ (i : ℕ). IsReached search (get_or (edge_in table i).sides 0 d).face.0) (sym same) this)
+      | inr other ↦ h j d (omega (arith, l, other)) few one
+    ]
+
+pub start_more : (mesh : FaceList) (table : List Edge) (old new : SearchView) (k : ℕ) (side : Side) → IsTableOf mesh table
+    → k < length table → length (edge_in table k).sides ≡ 1 → slice_get (edge_in table k).sides 0 ≡ Some side
+    → HasStarted mesh table old k → new ≡ with_side old side → HasStarted mesh table new (k + 1)
+start_more mesh table old new k side h l one is from new_is =
+    let first : IsFirstSide mesh table k side = first_side mesh table k side h l one is in
+    let more : IsMoreBy mesh old new side =
+    search_more mesh old new side from.search_of first.side_of (λ other partners. absurd (first.alone other partners)) new_is in
+    record {
+      search_of = more.search;
+      started =
+          started_more table new k
+          (λ d few last.
+          subst (λ (s : Side). IsReached new s.face.0) (sym (get_or_from_slice_get (edge_in table k).sides 0 side d is)) more.reached)
+          (started_stay table old new k more.grows from.started);
+    }
+
+pub start_other : (mesh : FaceList) (table : List Edge) (search : SearchView) (k : ℕ) → length (edge_in table k).sides ≢ 1
+    → HasStarted mesh table search k → HasStarted mesh table search (k + 1)
+start_other mesh table search k other from = record {
+  search_of = from.search_of;
+  started = started_more table search k (λ d l one. absurd (other one)) from.started;
+}
+
+-- the search that has gone on from the first sides of a face, up to place n
+pub record HasSpread (mesh : FaceList) (first search : SearchView) (f n : ℕ) : Type 0 where
+  pub search_of : IsSearch mesh search
+  pub grows : Grows first search
+  pub reached : NeighboursReached mesh search f n
+
+pub spread_more : (mesh : FaceList) (table : List Edge) (first old new : SearchView) (f t dart next : ℕ) (other : Side)
+    → IsTableOf mesh table → NoEdgeHasThreeSides mesh → f < length mesh.faces → t < length (face_at mesh f) → IsReached first f
+    → dart ≡ side_number mesh (record { face = record { 0 = f }; at = t }) → IsNextInEdge mesh table dart next
+    → IsSide mesh other → side_number mesh other ≡ next
+    → HasSpread mesh first old f t → new ≡ with_side old other → HasSpread mesh first new f (t + 1)
+spread_more mesh table first old new f t dart next other h few l place reached number follows is other_is from new_is =
+    let side : Side = record { face = record { 0 = f }; at = t } in
+    let is_side : IsSide mesh side = record { face = l; place = place } in
+    let found : HasPartner mesh side next ⊎ ((next ≡ dart) × IsAlone mesh side) =
+    partner_or_alone mesh table side dart next h few is_side number follows in
+    let more : IsMoreBy mesh old new other = elim found [
+      | inl partner ↦
+          search_more mesh old new other from.search_of is
+          (λ back partners.
+          subst (λ (s : Side). IsReached old s.face.0)
+          (sym (partner_back mesh side other back next partner (partners_by_number mesh side other next partner is other_is) partners))
+          (from.grows.reached f reached)) new_is
+      | inr alone ↦
+          (let same : other ≡ side = number_once mesh other side is is_side (other_is ∙ alone.0 ∙ number) in
+          search_more mesh old new other from.search_of is
+          (λ back partners. absurd (alone.1 back (subst (λ (s : Side). ArePartners mesh s back) same partners))) new_is)
+    ] in
+    let here : (partner : Side) → ArePartners mesh side partner → IsReached new partner.face.0 = λ partner partners. elim found [
+      | inl has ↦
+          (let this : other ≡ partner =
+          has.only other (partners_by_number mesh side other next has is other_is) ∙ sym (has.only partner partners) in
+          subst (λ (s : Side). IsReached new s.face.0) this more.reached)
+      | inr alone ↦ absurd (alone.1 partner partners)
+    ] in
+    record {
+      search_of = more.search;
+      grows = grows_trans first old new from.grows more.grows;
+      reached = λ s partner less within partners. elim (cases_eq s t) [
+        | inl same ↦
+            here partner (subst (λ (x : ℕ). ArePartners mesh (record { face = record { 0 = f }; at = x }) partner) same partners)
+        | inr apart ↦ more.grows.reached partner.face.0 (from.reached s partner (omega (arith, less, apart)) within partners)
+      ];
+    }
+
+-- the faces that have been gone on from are one more
+pub closed_more : (mesh : FaceList) (old new : SearchView) (at : ℕ) → at < length old.order → Grows old new
+    → NeighboursReached mesh new (get_or old.order at 0) (length (face_at mesh (get_or old.order at 0)))
+    → IsClosedUpTo mesh old at → IsClosedUpTo mesh new (at + 1)
+closed_more mesh old new at l grows here closed j less few =
+    elim (cases_eq j at) [
+      | inl same ↦
+          subst (λ (f : ℕ). NeighboursReached mesh new f (length (face_at mesh f)))
+          (sym (ap (λ (i : ℕ). get_or new.order i 0) same ∙ grows.order at l)) here
+      | inr other ↦
+          (let before : j < at = omega (arith, less, other) in
+          let there : j < length old.order = omega (arith, before, l) in
+          subst (λ (f : ℕ). NeighboursReached mesh new f (length (face_at mesh f))) (sym (grows.order j there))
+          (neighbours_stay mesh old new (get_or old.order j 0) (length (face_at mesh (get_or old.order j 0))) grows (closed j before there)))
+    ]

@@ -1,0 +1,6 @@
+use Rattle.std.proofs.Common.{◌<◌, ◌≤◌, ℕ, length}
+use Rattle.surf_model.specs.Edges.{edge_in}
+use Rattle.free_forms.proofs.check.first_crowded.Given as goal
+
+abbrev pub invariant-loop-edge : goal.invariant-loop-edge
+invariant-loop-edge l = (k : ℕ) → k < l.edge → length (edge_in l.sides k).sides ≤ 2
