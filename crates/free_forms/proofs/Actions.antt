@@ -4,6 +4,7 @@ use Rattle.std.proofs.Common.{◌≡◌, inl, inr, ℕ, zero, suc, ◌+◌, ◌-
 use Rattle.std.specs.Prelude.{Some}
 use Rattle.std.proofs.lemmas.Bool.{cases_lt}
 use Rattle.std.proofs.lemmas.Bool.Decides.{nat_tests}
+use Rattle.free_forms.specs.Parents.{beyond}
 use Rattle.surf_model.specs.FaceLists.{FaceList, face_at, next_corner, corners_from}
 use Rattle.surf_model.specs.Moves.{apply, apply_all}
 use Rattle.surf_model.specs.Replacements.{Replaces}
@@ -48,12 +49,6 @@ pub run_stays : {State : Type 0} (act : State → ℕ → ℕ → State) (At : �
     → (s : State) (u : ℕ) (vs : List ℕ) → At u s → At (end_from u vs) (run act s u vs)
 run_stays act At acts s u [] at = at
 run_stays act At acts s u (v ∷ vs) at = run_stays act At acts (act s u v) v vs (acts.stays s u v at)
-
--- the vertices that k steps round the face from corner t lead to
-abbrev pub beyond : List ℕ → Bool → ℕ → ℕ → List ℕ
-beyond ring rising t zero = []
-beyond ring rising t (suc k) =
-    get_or ring (next_corner rising (length ring) t) 0 ∷ beyond ring rising (next_corner rising (length ring) t) k
 
 pub corners_beyond : (ring : List ℕ) (rising : Bool) (t k : ℕ) → corners_from ring rising t k ≡ get_or ring t 0 ∷ beyond ring rising t k
 corners_beyond ring rising t zero = refl

@@ -11,8 +11,8 @@ use Rattle.surf_model.proofs.EdgeLemmas.{step_within}
 use Rattle.surf_model.proofs.RoundLemmas.{corner_after, rises, rises_past, falls, falls_past, meet}
 use Rattle.surf_model.proofs.TableLemmas.{joins_swap}
 use Rattle.connectivity.proofs.CornerLemmas.{ends_differ, partners_swap}
-use Rattle.free_forms.specs.Parents.{OpenView, HasParents, EndsOutside, Joins, IsParentEdge, parent_of}
-use Rattle.free_forms.proofs.Actions.{Acts, FacesActAsNothing, run, end_from, beyond, end_beyond, run_stays, run-add, round_and_back, after_back, corner_after-add}
+use Rattle.free_forms.specs.Parents.{OpenView, HasParents, EndsOutside, Joins, IsParentEdge, parent_of, beyond, expansion}
+use Rattle.free_forms.proofs.Actions.{Acts, FacesActAsNothing, run, end_from, end_beyond, run_stays, run-add, round_and_back, after_back, corner_after-add}
 
 -- the parent of face f with its vertices
 abbrev pub whole_parent : OpenView → ℕ → FaceSide
@@ -28,19 +28,11 @@ parent_face surface (suc f) u v = if joins u v (whole_parent surface f) then Som
 abbrev pub parent_face_of : OpenView → ℕ → ℕ → Option ℕ
 parent_face_of surface u v = parent_face surface (length surface.mesh.faces) u v
 
--- the vertices that the expansion of a side leads to from its end u
-abbrev pub expanded : FaceList → Side → ℕ → List ℕ
-expanded mesh side u =
-    let ring = face_at mesh side.face.0 in
-    if tail_of mesh side == u
-    then beyond ring false side.at (length ring - 1)
-    else beyond ring true (next_corner true (length ring) side.at) (length ring - 1)
-
 -- a dart acts by the expansion of a face's parent, or by the base where there is none
 abbrev pub by_face : {State : Type 0} → OpenView → (State → ℕ → ℕ → State) → (State → State) → (State → ℕ → ℕ → State) → Option ℕ
     → State → ℕ → ℕ → State
 by_face surface base enter inner None s u v = base s u v
-by_face surface base enter inner (Some f) s u v = run inner (enter s) u (expanded surface.mesh (parent_of surface f) u)
+by_face surface base enter inner (Some f) s u v = run inner (enter s) u (expansion surface.mesh (parent_of surface f) u)
 
 -- for so many levels of expansions, each of which is entered
 abbrev pub acting : {State : Type 0} → OpenView → (State → ℕ → ℕ → State) → (State → State) → ℕ → State → ℕ → ℕ → State
@@ -159,9 +151,9 @@ pub record Ends (surface : OpenView) (f u v : ℕ) : Type 0 where
   pub at_u : get_or (face_at surface.mesh f) from 0 ≡ u
   pub at_v : get_or (face_at surface.mesh f) to 0 ≡ v
   pub far : corner_after rising (length (face_at surface.mesh f)) from (length (face_at surface.mesh f) - 1) ≡ to
-  pub way : expanded surface.mesh (parent_of surface f) u
+  pub way : expansion surface.mesh (parent_of surface f) u
       ≡ beyond (face_at surface.mesh f) rising from (length (face_at surface.mesh f) - 1)
-  pub back : expanded surface.mesh (parent_of surface f) v
+  pub back : expansion surface.mesh (parent_of surface f) v
       ≡ beyond (face_at surface.mesh f) (not rising) to (length (face_at surface.mesh f) - 1)
 
 -- all steps but one, and all steps but one the other way
@@ -178,13 +170,13 @@ by_test test x y e = rw e refl
 by_test_not : (test : Bool) (x y : List ℕ) → test ≡ false → cond test x y ≡ y
 by_test_not test x y e = rw e refl
 
-from_tail : (surface : OpenView) (f u : ℕ) → tail_of surface.mesh (parent_of surface f) ≡ u
-    → expanded surface.mesh (parent_of surface f) u
+pub from_tail : (surface : OpenView) (f u : ℕ) → tail_of surface.mesh (parent_of surface f) ≡ u
+    → expansion surface.mesh (parent_of surface f) u
     ≡ beyond (face_at surface.mesh f) false (parent_of surface f).at (length (face_at surface.mesh f) - 1)
 from_tail surface f u is = by_test _ _ _ (eq-eqb (tail_of surface.mesh (parent_of surface f)) u is)
 
-from_head : (surface : OpenView) (f u : ℕ) → tail_of surface.mesh (parent_of surface f) ≢ u
-    → expanded surface.mesh (parent_of surface f) u
+pub from_head : (surface : OpenView) (f u : ℕ) → tail_of surface.mesh (parent_of surface f) ≢ u
+    → expansion surface.mesh (parent_of surface f) u
     ≡ beyond (face_at surface.mesh f) true (next_corner true (length (face_at surface.mesh f)) (parent_of surface f).at)
     (length (face_at surface.mesh f) - 1)
 from_head surface f u isnt = by_test_not _ _ _ (let test : nat_test ≡ false = grind (arith, nat_tests) in test)
@@ -228,7 +220,7 @@ ends_of surface f u v has found =
 
 -- an expansion leads to the other end
 pub expansion_ends : (surface : OpenView) (f u v : ℕ) → HasParents surface → IsFound surface u v f
-    → end_from u (expanded surface.mesh (parent_of surface f) u) ≡ v
+    → end_from u (expansion surface.mesh (parent_of surface f) u) ≡ v
 expansion_ends surface f u v has found =
     let e : Ends surface f u v = ends_of surface f u v has found in
     let ring : List ℕ = face_at surface.mesh f in
@@ -239,15 +231,15 @@ expansion_ends surface f u v has found =
 -- an expansion and the way back along it change nothing
 pub expansion_back : {State : Type 0} (act : State → ℕ → ℕ → State) (At : ℕ → State → Type 0) → Acts act At
     → (surface : OpenView) (f u v : ℕ) → HasParents surface → IsFound surface u v f → (s : State) → At u s
-    → run act (run act s u (expanded surface.mesh (parent_of surface f) u)) v (expanded surface.mesh (parent_of surface f) v) ≡ s
+    → run act (run act s u (expansion surface.mesh (parent_of surface f) u)) v (expansion surface.mesh (parent_of surface f) v) ≡ s
 expansion_back {State} act At acts surface f u v has found s at =
     let e : Ends surface f u v = ends_of surface f u v has found in
     let ring : List ℕ = face_at surface.mesh f in
     let k : ℕ = length ring - 1 in
     let there : State = run act s (get_or ring e.from 0) (beyond ring e.rising e.from k) in
-    let start : run act s u (expanded surface.mesh (parent_of surface f) u) ≡ there =
+    let start : run act s u (expansion surface.mesh (parent_of surface f) u) ≡ there =
     ap (run act s u) e.way ∙ ap (λ (x : ℕ). run act s x (beyond ring e.rising e.from k)) (sym e.at_u) in
-    ap (λ (x : State). run act x v (expanded surface.mesh (parent_of surface f) v)) start
+    ap (λ (x : State). run act x v (expansion surface.mesh (parent_of surface f) v)) start
     ∙ ap (run act there v) e.back
     ∙ ap (λ (x : ℕ). run act there x (beyond ring (not e.rising) e.to k)) (sym e.at_v)
     ∙ ap (λ (c : ℕ). run act there (get_or ring c 0) (beyond ring (not e.rising) c k)) (sym e.far)
@@ -259,7 +251,7 @@ level_stays : {State : Type 0} (surface : OpenView) (base inner : State → ℕ 
     → At v (by_face surface base (λ x. x) inner o s u v)
 level_stays surface base inner At has acts more u v None e s at = acts.stays s u v at
 level_stays surface base inner At has acts more u v (Some f) e s at =
-    let way : List ℕ = expanded surface.mesh (parent_of surface f) u in
+    let way : List ℕ = expansion surface.mesh (parent_of surface f) u in
     subst (λ (x : ℕ). At x (run inner s u way)) (expansion_ends surface f u v has (found_face surface u v f e))
     (run_stays inner At more s u way at)
 
@@ -376,7 +368,7 @@ along_falling surface f j (suc k) c has l few is c_within =
 
 -- each dart of an expansion goes along another side of the face
 pub expansion_along : (surface : OpenView) (f u v : ℕ) → HasParents surface → IsFound surface u v f
-    → EachDart (IsAlongOther surface f) u (expanded surface.mesh (parent_of surface f) u)
+    → EachDart (IsAlongOther surface f) u (expansion surface.mesh (parent_of surface f) u)
 expansion_along surface f u v has found =
     let side : Side = parent_of surface f in
     let ring : List ℕ = face_at surface.mesh f in
@@ -437,7 +429,7 @@ no_level surface base inner enter has u v deep s (Some f) e =
 -- levels that agree inside expansions agree
 levels_agree : {State : Type 0} (surface : OpenView) (base inner other : State → ℕ → ℕ → State) (enter : State → State) → (u v : ℕ)
     → ((f : ℕ) → IsFound surface u v f → (x : State)
-    → run inner x u (expanded surface.mesh (parent_of surface f) u) ≡ run other x u (expanded surface.mesh (parent_of surface f) u))
+    → run inner x u (expansion surface.mesh (parent_of surface f) u) ≡ run other x u (expansion surface.mesh (parent_of surface f) u))
     → (s : State) → (o : Option ℕ) → parent_face_of surface u v ≡ o
     → by_face surface base enter inner o s u v ≡ by_face surface base enter other o s u v
 levels_agree surface base inner other enter u v agree s None e = refl
@@ -453,7 +445,7 @@ level_more {State} surface base enter has (suc n) u v deep s =
     let two : State → ℕ → ℕ → State = acting surface base enter (suc n) in
     levels_agree surface base one two enter u v
     (λ f found.
-    let way : List ℕ = expanded surface.mesh (parent_of surface f) u in
+    let way : List ℕ = expansion surface.mesh (parent_of surface f) u in
     run_agree one two u way
     (each_dart (IsAlongOther surface f) (λ a b. (x : State) → one x a b ≡ two x a b)
     (λ a b along. level_more surface base enter has n a b (deep_on surface n f a b has found.within (deep f found) along)) u way
@@ -477,7 +469,7 @@ enough_levels surface base enter has u v s =
 pub acts_by_expansion : {State : Type 0} (surface : OpenView) (base : State → ℕ → ℕ → State) (enter : State → State) → HasParents surface
     → (u v f : ℕ) (s : State) → IsFound surface u v f
     → act_fully surface base enter s u v
-    ≡ run (act_fully surface base enter) (enter s) u (expanded surface.mesh (parent_of surface f) u)
+    ≡ run (act_fully surface base enter) (enter s) u (expansion surface.mesh (parent_of surface f) u)
 acts_by_expansion surface base enter has u v f s found =
     enough_levels surface base enter has u v s
     ∙ ap (λ (o : Option ℕ). by_face surface base enter (act_fully surface base enter) o s u v) (face_found surface u v f has found)

@@ -5,3 +5,8 @@ pub mod EdgeCountLemmas
 pub mod FaultLemmas
 pub mod SearchLemmas
 pub mod ReachLemmas
+pub mod PeakLemmas
+pub mod StepLemmas
+pub mod ParentEdgeLemmas
+pub mod ExpandLemmas
+pub mod BackLemmas

@@ -36,10 +36,10 @@ unfolding all_sides
 band_boundary = refl
 
 -- The parent of face 0 leads from 0 to 1; the other sides lead by 4 and 5.
-there : expansion annulus (parent_of parented 0) 0 ≡ 0 ∷ 4 ∷ 5 ∷ 1 ∷ []
+there : expansion annulus (parent_of parented 0) 0 ≡ 4 ∷ 5 ∷ 1 ∷ []
 there = refl
 
-back : expansion annulus (parent_of parented 0) 1 ≡ 1 ∷ 5 ∷ 4 ∷ 0 ∷ []
+back : expansion annulus (parent_of parented 0) 1 ≡ 5 ∷ 4 ∷ 0 ∷ []
 back = refl
 
 abbrev vertex : ℕ → VertexName

@@ -2,6 +2,8 @@ pub mod OpenSurfaces
 pub mod OpenFaults
 pub mod Parents
 pub mod Normal
+pub mod PeakedLists
 pub mod Searches
 pub mod StoredMeshes
+pub mod Reductions
 pub mod Examples

@@ -1,6 +1,6 @@
 -- A parent for each face: one of its sides, that leads towards the boundary. Crossing parents from face to face ends at a boundary edge.
-use Rattle.std.specs.Prelude.{◌≡◌, ◌⊎◌, ℕ, zero, suc, ◌-◌, ◌<◌, ◌==◌, true, false, if◌then◌else◌, List, length, slice_index}
-use Rattle.surf_model.specs.FaceLists.{FaceList, IsFaceList, face_at, next_corner, corners_from}
+use Rattle.std.specs.Prelude.{◌≡◌, ◌⊎◌, ℕ, zero, suc, ◌-◌, ◌<◌, ◌==◌, Bool, true, false, if◌then◌else◌, List, [], ◌∷◌, length, slice_index}
+use Rattle.surf_model.specs.FaceLists.{FaceList, IsFaceList, face_at, next_corner}
 use Rattle.surf_model.specs.Darts.{tail_of, head_of}
 use Rattle.surf_model.specs.Surfaces.{ArePartners}
 use Rattle.surf_model.specs.declared.edges.Side.{Side}
@@ -37,10 +37,16 @@ Joins mesh side u v = ((tail_of mesh side ≡ u) × (head_of mesh side ≡ v)) �
 abbrev pub IsParentEdge : OpenView → ℕ → ℕ → Type 0
 IsParentEdge surface u v = (f : ℕ) × (f < length surface.mesh.faces) × Joins surface.mesh (parent_of surface f) u v
 
--- the expansion of a side from its end u: the way from u to its other end along all other sides of its face
+-- the vertices that k steps round a face from corner t lead to
+abbrev pub beyond : List ℕ → Bool → ℕ → ℕ → List ℕ
+beyond ring rising t zero = []
+beyond ring rising t (suc k) =
+    slice_index ring (next_corner rising (length ring) t) ∷ beyond ring rising (next_corner rising (length ring) t) k
+
+-- the expansion of a side from its end u: the vertices that the way to its other end along all other sides of its face leads to
 abbrev pub expansion : FaceList → Side → ℕ → List ℕ
 expansion mesh side u =
     let ring = face_at mesh side.face.0 in
     if tail_of mesh side == u
-    then corners_from ring false side.at (length ring - 1)
-    else corners_from ring true (next_corner true (length ring) side.at) (length ring - 1)
+    then beyond ring false side.at (length ring - 1)
+    else beyond ring true (next_corner true (length ring) side.at) (length ring - 1)

@@ -1,0 +1,161 @@
+-- The parent on an edge, found by the table of the mesh; and the way along it.
+use Rattle.std.proofs.Common.{◌≡◌, ◌≢◌, ◌⊎◌, inl, inr, ℕ, zero, suc, ◌+◌, ◌-◌, ◌<◌, ◌≤◌, Bool, true, false, not, eqb, List, [], ◌∷◌, ◌++◌, length, get_or, refl, ap, sym, ◌∙◌, subst, arith}
+use Rattle.std.specs.Prelude.{All, Some, slice_get, reverse, cond}
+use Rattle.std.proofs.lemmas.Bool.{eqb-true, eq-eqb, both_ways}
+use Rattle.std.proofs.lemmas.List.{reverse-append}
+use Rattle.std.proofs.lemmas.Option.{get_or_from_slice_get}
+use Rattle.surf_model.specs.FaceLists.{FaceList, face_at, next_corner}
+use Rattle.surf_model.specs.Darts.{IsSide, tail_of, head_of}
+use Rattle.surf_model.specs.Edges.{Edge, IsTableOf, IsEdgeOf, HasEnds, edge_in}
+use Rattle.surf_model.specs.declared.edges.Side.{Side}
+use Rattle.surf_model.proofs.EdgeLemmas.{step_within}
+use Rattle.surf_model.proofs.PartnerLemmas.{IsSideOfEdge, HasSideEnds, IsEdgeOfSide, side_of_edge, edge_has_side, edge_of_side, table_edge}
+use Rattle.surf_model.proofs.RoundLemmas.{corner_after, meet}
+use Rattle.free_forms.specs.Parents.{OpenView, HasParents, Joins, IsParentEdge, parent_of, beyond, expansion}
+use Rattle.free_forms.specs.Reductions.{IsWayAlong}
+use Rattle.free_forms.proofs.Actions.{after_back, corner_after-add, after_within}
+use Rattle.free_forms.proofs.Expansions.{IsFound, from_tail, from_head, parent_in_mesh}
+
+sides_meet : (t h u v low high : ℕ) → ((t ≡ low) × (h ≡ high)) ⊎ ((t ≡ high) × (h ≡ low)) → ((low ≡ u) × (high ≡ v)) ⊎ ((low ≡ v) × (high ≡ u))
+    → ((t ≡ u) × (h ≡ v)) ⊎ ((t ≡ v) × (h ≡ u))
+sides_meet t h u v low high first second = grind arith
+
+ends_meet : (t h u v low high : ℕ) → ((t ≡ low) × (h ≡ high)) ⊎ ((t ≡ high) × (h ≡ low)) → ((t ≡ u) × (h ≡ v)) ⊎ ((t ≡ v) × (h ≡ u))
+    → ((low ≡ u) × (high ≡ v)) ⊎ ((low ≡ v) × (high ≡ u))
+ends_meet t h u v low high first second = grind arith
+
+ends_of_joined : (t h u v low high : ℕ) → ((t ≡ u) × (h ≡ v)) ⊎ ((t ≡ v) × (h ≡ u)) → ((low ≡ u) × (high ≡ v)) ⊎ ((low ≡ v) × (high ≡ u))
+    → ((t ≡ low) × (h ≡ high)) ⊎ ((t ≡ high) × (h ≡ low))
+ends_of_joined t h u v low high first second = grind arith
+
+-- a side of the edge of two vertices joins them
+pub record IsSideBetween (mesh : FaceList) (u v : ℕ) (side : Side) : Type 0 where
+  pub side_of : IsSide mesh side
+  pub joined : Joins mesh side u v
+
+pub side_of_found : (mesh : FaceList) (table : List Edge) (k j u v : ℕ) (side : Side) → IsTableOf mesh table → k < length table
+    → HasEnds u v (edge_in table k) → j < length (edge_in table k).sides → slice_get (edge_in table k).sides j ≡ Some side
+    → IsSideBetween mesh u v side
+side_of_found mesh table k j u v side h l ends few is =
+    let edge : Edge = edge_in table k in
+    let here : get_or edge.sides j side ≡ side = get_or_from_slice_get edge.sides j side side is in
+    let stands : IsSideOfEdge mesh edge side =
+    subst (IsSideOfEdge mesh edge) here (side_of_edge mesh edge j side (table_edge mesh table k h l) few) in
+    record {
+      side_of = stands.side_of;
+      joined = sides_meet _ _ u v edge.low edge.high stands.ends ends;
+    }
+
+-- vertices without an edge have no parent edge
+pub no_edge_no_parent : (surface : OpenView) (table : List Edge) (u v : ℕ) → HasParents surface → IsTableOf surface.mesh table
+    → All (λ (edge : Edge). HasEnds u v edge → ⊥) table → IsParentEdge surface u v → ⊥
+no_edge_no_parent surface table u v has h none parent =
+    let side : Side = parent_of surface parent.0 in
+    let found : IsEdgeOfSide surface.mesh table side =
+    edge_of_side surface.mesh table side h (parent_in_mesh surface parent.0 has parent.1) in
+    none found.edge _ found.in_table (ends_meet _ _ u v _ _ found.ends parent.2)
+
+-- nor do those whose edge has no parent among its sides
+pub no_side_no_parent : (surface : OpenView) (table : List Edge) (k u v : ℕ) → HasParents surface → IsTableOf surface.mesh table
+    → k < length table → HasEnds u v (edge_in table k)
+    → ((j : ℕ) (d : Side) → j < length (edge_in table k).sides
+    → get_or surface.places (get_or (edge_in table k).sides j d).face.0 0 ≡ (get_or (edge_in table k).sides j d).at → ⊥)
+    → IsParentEdge surface u v → ⊥
+no_side_no_parent surface table k u v has h l ends none parent =
+    let edge : Edge = edge_in table k in
+    let side : Side = parent_of surface parent.0 in
+    let found = edge_has_side surface.mesh edge side (table_edge surface.mesh table k h l) (parent_in_mesh surface parent.0 has parent.1)
+    (ends_of_joined _ _ u v edge.low edge.high parent.2 ends) in
+    none found.0 side found.1
+    (ap (λ (s : Side). get_or surface.places s.face.0 0) found.2 ∙ sym (ap (λ (s : Side). s.at) found.2))
+
+-- a side at the place of its face's parent is the parent
+pub is_parent : (surface : OpenView) (side : Side) → get_or surface.places side.face.0 0 ≡ side.at → side ≡ parent_of surface side.face.0
+is_parent surface side is = ap (λ (t : ℕ). named side.face.0 t) (sym is)
+  where
+    named : ℕ → ℕ → Side
+    named f t = record { face = record { 0 = f }; at = t }
+
+reverse_first : (x : ℕ) (xs : List ℕ) → reverse (x ∷ xs) ≡ reverse xs ++ x ∷ []
+reverse_first x xs = reverse-append (x ∷ []) xs
+
+-- a way round a face, read backwards
+reverse_beyond : (ring : List ℕ) (rising : Bool) (c k : ℕ) → c < length ring
+    → reverse (beyond ring rising c (suc k))
+    ≡ get_or ring (corner_after rising (length ring) c (suc k)) 0
+    ∷ beyond ring (not rising) (corner_after rising (length ring) c (suc k)) k
+reverse_beyond ring rising c zero l = refl
+reverse_beyond ring rising c (suc k) l =
+    let m : ℕ = length ring in
+    let next : ℕ = next_corner rising m c in
+    let within : next < m = step_within rising m c l in
+    let far : ℕ = corner_after rising m next (suc k) in
+    let up : suc k ≡ k + 1 = omega arith in
+    let near : next_corner (not rising) m (corner_after (not rising) m far k) ≡ next =
+    sym (ap (corner_after (not rising) m far) up ∙ corner_after-add (not rising) m far k 1) ∙ after_back rising m next (suc k) within in
+    reverse_first (get_or ring next 0) (beyond ring rising next (suc k))
+    ∙ ap (λ (w : List ℕ). w ++ get_or ring next 0 ∷ []) (reverse_beyond ring rising next k within)
+    ∙ ap (λ (w : List ℕ). get_or ring far 0 ∷ w)
+    (ap (λ (x : ℕ). beyond ring (not rising) far k ++ get_or ring x 0 ∷ []) (sym near) ∙ sym (beyond_last ring (not rising) far k))
+  where
+    beyond_last : (r : List ℕ) (b : Bool) (t j : ℕ)
+        → beyond r b t (suc j) ≡ beyond r b t j ++ get_or r (next_corner b (length r) (corner_after b (length r) t j)) 0 ∷ []
+    beyond_last r b t zero = refl
+    beyond_last r b t (suc j) =
+        ap (λ (w : List ℕ). get_or r (next_corner b (length r) t) 0 ∷ w) (beyond_last r b (next_corner b (length r) t) j)
+
+-- all corners but one, read backwards
+pub reverse_others : (ring : List ℕ) (rising : Bool) (c : ℕ) → c < length ring → 2 ≤ length ring
+    → reverse (beyond ring rising c (length ring - 1)) ≡ beyond ring (not rising) c (length ring - 1)
+reverse_others ring rising c l some =
+    let m : ℕ = length ring in
+    let k : ℕ = m - 2 in
+    let most : m - 1 ≡ suc k = omega arith in
+    let one : m - (m - 1) ≡ 1 = omega arith in
+    let far : corner_after rising m c (suc k) ≡ next_corner (not rising) m c =
+    ap (corner_after rising m c) (sym most) ∙ meet rising m c (m - 1) l (omega arith) ∙ ap (corner_after (not rising) m c) one in
+    ap (λ (n : ℕ). reverse (beyond ring rising c n)) most ∙ reverse_beyond ring rising c k l
+    ∙ ap (λ (x : ℕ). get_or ring x 0 ∷ beyond ring (not rising) x k) far
+    ∙ ap (beyond ring (not rising) c) (sym most)
+
+-- the way along a parent, by where it begins
+pub way_found : (surface : OpenView) (side : Side) (u corner : ℕ) (forward : Bool) → forward ≡ eqb (tail_of surface.mesh side) u
+    → corner ≡ cond forward side.at (next_corner true (length (face_at surface.mesh side.face.0)) side.at)
+    → IsWayAlong surface side u corner forward
+way_found surface side u corner true e is = inl (eqb-true (tail_of surface.mesh side) u (sym e), is, refl)
+way_found surface side u corner false e is =
+    inr (λ same. both_ways _ (sym e) (eq-eqb (tail_of surface.mesh side) u same), is, refl)
+
+-- the vertices of the face but one, read backwards, are the expansion
+pub expansion_read : (surface : OpenView) (f u corner : ℕ) (forward : Bool) → HasParents surface → f < length surface.mesh.faces
+    → IsWayAlong surface (parent_of surface f) u corner forward
+    → reverse (beyond (face_at surface.mesh f) forward corner (length (face_at surface.mesh f) - 1)) ≡ expansion surface.mesh (parent_of surface f) u
+expansion_read surface f u corner forward has l way =
+    let ring : List ℕ = face_at surface.mesh f in
+    let m : ℕ = length ring in
+    let t : ℕ = (parent_of surface f).at in
+    let within : t < m = has.within f l in
+    let polygon : 3 ≤ m = (has.valid.faces f [] l).polygon in
+    elim way [
+      | inl e ↦
+          ap (λ (b : Bool). reverse (beyond ring b corner (m - 1))) e.2 ∙ ap (λ (c : ℕ). reverse (beyond ring true c (m - 1))) e.1
+          ∙ reverse_others ring true t within (omega arith) ∙ sym (from_tail surface f u e.0)
+      | inr e ↦
+          ap (λ (b : Bool). reverse (beyond ring b corner (m - 1))) e.2 ∙ ap (λ (c : ℕ). reverse (beyond ring false c (m - 1))) e.1
+          ∙ reverse_others ring false (next_corner true m t) (step_within true m t within) (omega arith)
+          ∙ sym (from_head surface f u e.0)
+    ]
+
+-- one vertex more round a face
+pub beyond_more : (ring : List ℕ) (rising : Bool) (c k : ℕ)
+    → beyond ring rising c (k + 1) ≡ beyond ring rising c k ++ get_or ring (corner_after rising (length ring) c (k + 1)) 0 ∷ []
+beyond_more ring rising c zero = let one : 0 + 1 ≡ suc zero = omega arith in
+    ap (beyond ring rising c) one ∙ ap (λ (n : ℕ). get_or ring (corner_after rising (length ring) c n) 0 ∷ []) (sym one)
+beyond_more ring rising c (suc k) =
+    let next : ℕ = next_corner rising (length ring) c in
+    let up : suc k + 1 ≡ suc (k + 1) = omega arith in
+    ap (beyond ring rising c) up ∙ ap (λ (w : List ℕ). get_or ring next 0 ∷ w) (beyond_more ring rising next k)
+    ∙ ap (λ (n : ℕ). get_or ring next 0 ∷ (beyond ring rising next k ++ get_or ring (corner_after rising (length ring) c n) 0 ∷ [])) (sym up)
+
+pub after_one_more : (rising : Bool) (m c k : ℕ) → next_corner rising m (corner_after rising m c k) ≡ corner_after rising m c (k + 1)
+after_one_more rising m c k = sym (corner_after-add rising m c k 1)

@@ -1,0 +1,336 @@
+-- What a step of a reduction does: the moves lead on, the normal part stays normal, and less is to come.
+use Rattle.std.proofs.Common.{◌≡◌, ◌≢◌, ◌⊎◌, inl, inr, ℕ, zero, suc, ◌+◌, ◌-◌, ◌<◌, ◌≤◌, Bool, true, false, not, max, List, [], ◌∷◌, ◌++◌, length, get_or, refl, ap, sym, ◌∙◌, subst, arith, append_assoc, length-append}
+use Rattle.std.specs.Prelude.{Option, Some, None}
+use Rattle.std.proofs.lemmas.Bool.{cases_eq, cases_lt}
+use Rattle.std.proofs.lemmas.List.{get_or_append_left, get_or-append-add}
+use Rattle.surf_model.specs.FaceLists.{FaceList, face_at, next_corner, corners_from}
+use Rattle.surf_model.specs.Darts.{IsSide, tail_of, head_of}
+use Rattle.surf_model.specs.FreeWalks.{HasNoSpur}
+use Rattle.surf_model.specs.Walks.{darts}
+use Rattle.surf_model.specs.Moves.{PeakedMoves, apply}
+use Rattle.surf_model.specs.declared.edges.Side.{Side}
+use Rattle.surf_model.specs.declared.moves.Move.{Move}
+use Rattle.surf_model.specs.declared.moves.Move.TheVariants.{Remove, Across}
+use Rattle.surf_model.specs.declared.names.VertexName.{VertexName}
+use Rattle.surf_model.proofs.EdgeLemmas.{step_within}
+use Rattle.surf_model.proofs.ReplacementLemmas.{by_replacing}
+use Rattle.surf_model.proofs.RoundLemmas.{corner_after}
+use Rattle.free_forms.specs.Normal.{IsNormal}
+use Rattle.free_forms.specs.Parents.{OpenView, HasParents, Joins, IsParentEdge, parent_of, beyond, expansion}
+use Rattle.free_forms.specs.PeakedLists.{LeadsAtPeak}
+use Rattle.free_forms.specs.Reductions.{ReductionView, settled, whole, darts_in, IsTaken, StepsBack, StepsOn, Expands, IsWayAlong, IsStep}
+use Rattle.free_forms.proofs.Actions.{run, run-append, end_from, corners_beyond, after_back}
+use Rattle.free_forms.proofs.Expansions.{act_fully, acting, by_face, parent_face_of, acts_by_base, acts_by_expansion, IsFound, expansion_ends, from_tail, from_head, parent_in_mesh}
+use Rattle.free_forms.proofs.PeakLemmas.{one_more}
+use Rattle.connectivity.proofs.CornerLemmas.{ends_differ}
+
+-- how much is to come: each dart counts as many as its expansion comes to, and one more if it has one
+abbrev pub count_on : ℕ → ℕ → ℕ → ℕ
+count_on s u v = suc s
+
+abbrev pub weight : OpenView → ℕ → List ℕ → ℕ
+weight surface u vs = run (act_fully surface count_on suc) zero u vs
+
+run_from : (act : ℕ → ℕ → ℕ → ℕ) → ((s u v : ℕ) → act (suc s) u v ≡ suc (act s u v)) → (s u : ℕ) (vs : List ℕ)
+    → run act (suc s) u vs ≡ suc (run act s u vs)
+run_from act one s u [] = refl
+run_from act one s u (v ∷ vs) = ap (λ (x : ℕ). run act x v vs) (one s u v) ∙ run_from act one (act s u v) v vs
+
+by_face_from : (surface : OpenView) (inner : ℕ → ℕ → ℕ → ℕ) → ((s u v : ℕ) → inner (suc s) u v ≡ suc (inner s u v)) → (o : Option ℕ)
+    → (s u v : ℕ) → by_face surface count_on suc inner o (suc s) u v ≡ suc (by_face surface count_on suc inner o s u v)
+by_face_from surface inner one None s u v = refl
+by_face_from surface inner one (Some f) s u v = run_from inner one (suc s) u (expansion surface.mesh (parent_of surface f) u)
+
+count_from : (surface : OpenView) (n s u v : ℕ) → acting surface count_on suc n (suc s) u v ≡ suc (acting surface count_on suc n s u v)
+count_from surface zero s u v = refl
+count_from surface (suc n) s u v =
+    by_face_from surface (acting surface count_on suc n) (count_from surface n) (parent_face_of surface u v) s u v
+
+-- a dart off the parent edges counts one
+weight_free : (surface : OpenView) (u v : ℕ) (vs : List ℕ) → HasParents surface → (IsParentEdge surface u v → ⊥)
+    → weight surface u (v ∷ vs) ≡ suc (weight surface v vs)
+weight_free surface u v vs has free =
+    let act : ℕ → ℕ → ℕ → ℕ = act_fully surface count_on suc in
+    ap (λ (x : ℕ). run act x v vs) (acts_by_base surface count_on suc has u v zero free)
+    ∙ run_from act (count_from surface (length surface.mesh.faces)) zero v vs
+
+-- a dart along a parent edge counts one more than its expansion
+weight_parent : (surface : OpenView) (f u v : ℕ) (vs : List ℕ) → HasParents surface → IsFound surface u v f
+    → weight surface u (v ∷ vs) ≡ suc (weight surface u (expansion surface.mesh (parent_of surface f) u ++ vs))
+weight_parent surface f u v vs has found =
+    let act : ℕ → ℕ → ℕ → ℕ = act_fully surface count_on suc in
+    let way : List ℕ = expansion surface.mesh (parent_of surface f) u in
+    let one : (s a b : ℕ) → act (suc s) a b ≡ suc (act s a b) = count_from surface (length surface.mesh.faces) in
+    ap (λ (x : ℕ). run act x v vs) (acts_by_expansion surface count_on suc has u v f zero found)
+    ∙ ap (λ (x : ℕ). run act x v vs) (run_from act one zero u way)
+    ∙ run_from act one (run act zero u way) v vs
+    ∙ ap (λ (x : ℕ). suc (run act (run act zero u way) x vs)) (sym (expansion_ends surface f u v has found))
+    ∙ ap suc (sym (run-append act zero u way vs))
+
+-- a part of a normal walk, and one vertex more
+normal_front : (surface : OpenView) (front rest : List ℕ) → IsNormal surface (front ++ rest) → IsNormal surface front
+normal_front surface front rest h =
+    let long : length (front ++ rest) ≡ length front + length rest = length-append front rest in
+    let same : (k : ℕ) → k < length front → get_or (front ++ rest) k 0 ≡ get_or front k 0 = λ k l. get_or_append_left front rest 0 k l in
+    record {
+      no_spur = λ k l back.
+          h.no_spur k (omega (arith, l, long)) (same k (omega arith) ∙ back ∙ sym (same (k + 2) l));
+      no_parent = λ k l.
+          subst (λ (a : ℕ). IsParentEdge surface a (get_or front (k + 1) 0) → ⊥) (same k (omega arith))
+          (subst (λ (b : ℕ). IsParentEdge surface (get_or (front ++ rest) k 0) b → ⊥) (same (k + 1) l)
+          (h.no_parent k (omega (arith, l, long))));
+    }
+
+seam : (front : List ℕ) (x : ℕ) (rest : List ℕ) → get_or (front ++ x ∷ rest) (length front) 0 ≡ x
+seam front x rest =
+    let none : length front ≡ length front + 0 = omega arith in
+    ap (λ (n : ℕ). get_or (front ++ x ∷ rest) n 0) none ∙ get_or-append-add front (x ∷ rest) 0 0
+
+normal_more : (surface : OpenView) (front : List ℕ) (u v : ℕ) → IsNormal surface (front ++ u ∷ []) → (IsParentEdge surface u v → ⊥)
+    → (0 < length front → get_or front (length front - 1) 0 ≢ v) → IsNormal surface ((front ++ u ∷ []) ++ v ∷ [])
+normal_more surface front u v h free other =
+    let old : List ℕ = front ++ u ∷ [] in
+    let new : List ℕ = old ++ v ∷ [] in
+    let n : ℕ = length front in
+    let old_long : length old ≡ n + 1 = length-append front (u ∷ []) in
+    let long : length new ≡ n + 2 = length-append old (v ∷ []) ∙ omega (arith, old_long) in
+    let same : (k : ℕ) → k < length old → get_or new k 0 ≡ get_or old k 0 = λ k l. get_or_append_left old (v ∷ []) 0 k l in
+    let last : (k : ℕ) → k ≡ n + 1 → get_or new k 0 ≡ v =
+    λ k is. ap (λ (j : ℕ). get_or new j 0) (is ∙ sym old_long) ∙ seam old v [] in
+    let before : (k : ℕ) → k ≡ n → get_or new k 0 ≡ u =
+    λ k is. same k (omega (arith, is, old_long)) ∙ ap (λ (j : ℕ). get_or old j 0) is ∙ seam front u [] in
+    record {
+      no_spur = λ k l back. elim (cases_lt (k + 2) (n + 1)) [
+        | inl less ↦
+            h.no_spur k (omega (arith, less, old_long))
+            (sym (same k (omega (arith, less, old_long))) ∙ back ∙ same (k + 2) (omega (arith, less, old_long)))
+        | inr more ↦
+            (let at : k + 2 ≡ n + 1 = omega (arith, l, more, long) in
+            let place : k ≡ n - 1 = omega (arith, at) in
+            let some : 0 < n = omega (arith, at) in
+            other some
+            (sym (get_or_append_left front (u ∷ []) 0 (n - 1) (omega arith)) ∙ sym (same (n - 1) (omega (arith, old_long)))
+            ∙ ap (λ (j : ℕ). get_or new j 0) (sym place) ∙ back ∙ last (k + 2) at))
+      ];
+      no_parent = λ k l. elim (cases_lt (k + 1) (n + 1)) [
+        | inl less ↦
+            subst (λ (a : ℕ). IsParentEdge surface a (get_or new (k + 1) 0) → ⊥) (sym (same k (omega (arith, less, old_long))))
+            (subst (λ (b : ℕ). IsParentEdge surface (get_or old k 0) b → ⊥) (sym (same (k + 1) (omega (arith, less, old_long))))
+            (h.no_parent k (omega (arith, less, old_long))))
+        | inr more ↦
+            (let at : k ≡ n = omega (arith, l, more, long) in
+            subst (λ (a : ℕ). IsParentEdge surface a (get_or new (k + 1) 0) → ⊥) (sym (before k at))
+            (subst (λ (b : ℕ). IsParentEdge surface u b → ⊥) (sym (last (k + 1) (omega (arith, at)))) free))
+      ];
+    }
+
+pub normal_alone : (surface : OpenView) (u : ℕ) → IsNormal surface (u ∷ [])
+normal_alone surface u = record {
+  no_spur = λ k l. absurd (omega arith);
+  no_parent = λ k l. absurd (omega arith);
+}
+
+swap_ends : (mesh : FaceList) (side : Side) (u v : ℕ) → Joins mesh side u v → Joins mesh side v u
+swap_ends mesh side u v h = elim h [ inl e ↦ inr e | inr e ↦ inl e ]
+
+-- a list with one move more
+abbrev noted : PeakedMoves → Move → ℕ → PeakedMoves
+noted list move d = record { moves = list.moves ++ move ∷ []; peak = max list.peak d }
+
+-- what a step has come to: the next vertex is no longer to come
+pub record HasStepped (surface : OpenView) (first : List ℕ) (old : ReductionView) (next : ℕ) (new : ReductionView) : Type 0 where
+  pub leads : LeadsAtPeak surface.mesh first new.list (whole new)
+  pub normal : IsNormal surface (settled new)
+  pub falls : weight surface new.last new.coming < weight surface old.last (next ∷ old.coming)
+
+-- a spur goes out
+spur_goes : (mesh : FaceList) (front rest : List ℕ) (here via : ℕ)
+    → apply mesh (front ++ here ∷ via ∷ here ∷ rest) (Remove (length front) (record { 0 = via })) ≡ Some (front ++ here ∷ rest)
+spur_goes mesh front rest here via =
+    let some : 0 < length (front ++ here ∷ via ∷ here ∷ rest) = rw length-append (omega arith) in
+    (by_replacing mesh (front ++ here ∷ via ∷ here ∷ rest) (front ++ here ∷ rest) (Remove (length front) (record { 0 = via })) some).1
+    (record {
+      before = front;
+      part = here ∷ via ∷ here ∷ [];
+      other = here ∷ [];
+      after = rest;
+      walk_is = sym (append_assoc front (here ∷ via ∷ here ∷ []) rest);
+      next_is = sym (append_assoc front (here ∷ []) rest);
+      place = refl;
+      replaces = (here, refl, refl);
+    })
+
+stepped_back : (surface : OpenView) (first : List ℕ) (old : ReductionView) (next : ℕ) (new : ReductionView) → HasParents surface
+    → LeadsAtPeak surface.mesh first old.list (old.front ++ old.last ∷ next ∷ old.coming) → IsNormal surface (settled old)
+    → StepsBack old next new → HasStepped surface first old next new
+stepped_back surface first old next new has leads normal step =
+    let mesh : FaceList = surface.mesh in
+    let from : old.front ++ old.last ∷ next ∷ old.coming ≡ new.front ++ next ∷ old.last ∷ next ∷ new.coming =
+    ap (λ (l : List ℕ). l ++ old.last ∷ next ∷ old.coming) step.front ∙ append_assoc new.front (next ∷ []) (old.last ∷ next ∷ old.coming)
+    ∙ ap (λ (l : List ℕ). new.front ++ next ∷ old.last ∷ next ∷ l) (sym step.coming) in
+    let to : new.front ++ next ∷ new.coming ≡ whole new = ap (λ (x : ℕ). new.front ++ x ∷ new.coming) (sym step.last) in
+    let count : length new.front + length new.coming ≡ darts (new.front ++ next ∷ new.coming) =
+    omega (arith, length-append new.front (next ∷ new.coming)) in
+    let settled_is : settled old ≡ (new.front ++ next ∷ []) ++ old.last ∷ [] = ap (λ (l : List ℕ). l ++ old.last ∷ []) step.front in
+    let parts : IsNormal surface ((new.front ++ next ∷ []) ++ old.last ∷ []) = subst (IsNormal surface) settled_is normal in
+    let n : ℕ = length new.front in
+    let long : length (new.front ++ next ∷ []) ≡ n + 1 = length-append new.front (next ∷ []) in
+    let here : get_or ((new.front ++ next ∷ []) ++ old.last ∷ []) n 0 ≡ next =
+    get_or_append_left (new.front ++ next ∷ []) (old.last ∷ []) 0 n (omega (arith, long)) ∙ seam new.front next [] in
+    let there : get_or ((new.front ++ next ∷ []) ++ old.last ∷ []) (n + 1) 0 ≡ old.last =
+    ap (λ (j : ℕ). get_or ((new.front ++ next ∷ []) ++ old.last ∷ []) j 0) (sym long) ∙ seam (new.front ++ next ∷ []) old.last [] in
+    let free : IsParentEdge surface next old.last → ⊥ =
+    subst (λ (a : ℕ). IsParentEdge surface a old.last → ⊥) here
+    (subst (λ (b : ℕ). IsParentEdge surface (get_or ((new.front ++ next ∷ []) ++ old.last ∷ []) n 0) b → ⊥) there
+    (parts.no_parent n (omega (arith, long, length-append (new.front ++ next ∷ []) (old.last ∷ []))))) in
+    let free_back : IsParentEdge surface old.last next → ⊥ =
+    λ edge. free (edge.0, edge.1, swap_ends mesh (parent_of surface edge.0) old.last next edge.2) in
+    record {
+      leads =
+          subst (LeadsAtPeak mesh first new.list) to
+          (one_more mesh first (new.front ++ next ∷ old.last ∷ next ∷ new.coming) (new.front ++ next ∷ new.coming)
+          (Remove n (record { 0 = old.last })) old.list new.list
+          (subst (LeadsAtPeak mesh first old.list) from leads) (spur_goes mesh new.front new.coming next old.last)
+          (step.list ∙ ap (λ (d : ℕ). noted old.list (Remove n (record { 0 = old.last })) d) count));
+      normal =
+          subst (λ (x : ℕ). IsNormal surface (new.front ++ x ∷ [])) (sym step.last)
+          (normal_front surface (new.front ++ next ∷ []) (old.last ∷ []) parts);
+      falls =
+          (let fewer : weight surface old.last (next ∷ old.coming) ≡ suc (weight surface next old.coming) =
+          weight_free surface old.last next old.coming has free_back in
+          let same : weight surface new.last new.coming ≡ weight surface next old.coming =
+          ap (λ (x : ℕ). weight surface x new.coming) step.last ∙ ap (weight surface next) step.coming in
+          omega (arith, fewer, same));
+    }
+
+stepped_on : (surface : OpenView) (first : List ℕ) (old : ReductionView) (next : ℕ) (new : ReductionView) → HasParents surface
+    → LeadsAtPeak surface.mesh first old.list (old.front ++ old.last ∷ next ∷ old.coming) → IsNormal surface (settled old)
+    → StepsOn surface old next new → HasStepped surface first old next new
+stepped_on surface first old next new has leads normal step =
+    subst (HasStepped surface first old next) (sym step.new_is)
+    (record {
+      leads = subst (LeadsAtPeak surface.mesh first old.list) (sym (append_assoc old.front (old.last ∷ []) (next ∷ old.coming))) leads;
+      normal = normal_more surface old.front old.last next normal step.no_parent step.no_spur;
+      falls =
+          (let fewer : weight surface old.last (next ∷ old.coming) ≡ suc (weight surface next old.coming) =
+          weight_free surface old.last next old.coming has step.no_parent in
+          omega (arith, fewer));
+    })
+
+-- the way along a parent from its end u, and its expansion
+record IsWay (surface : OpenView) (f u v corner : ℕ) (forward : Bool) : Type 0 where
+  within : corner < length (face_at surface.mesh f)
+  along : corners_from (face_at surface.mesh f) forward corner 1 ≡ u ∷ v ∷ []
+  around : corners_from (face_at surface.mesh f) (not forward) corner (length (face_at surface.mesh f) - 1)
+      ≡ u ∷ expansion surface.mesh (parent_of surface f) u
+
+way_along : (surface : OpenView) (f u v corner : ℕ) (forward : Bool) → HasParents surface → IsFound surface u v f
+    → IsWayAlong surface (parent_of surface f) u corner forward → IsWay surface f u v corner forward
+way_along surface f u v corner forward has found way =
+    let mesh : FaceList = surface.mesh in
+    let side : Side = parent_of surface f in
+    let ring : List ℕ = face_at mesh f in
+    let m : ℕ = length ring in
+    let next : ℕ = next_corner true m side.at in
+    let within : side.at < m = has.within f found.within in
+    let differ : tail_of mesh side ≢ head_of mesh side = ends_differ mesh side has.valid (parent_in_mesh surface f has found.within) in
+    elim way [
+      | inl e ↦
+          (let head : head_of mesh side ≡ v = elim found.joined [
+            | inl ends ↦ ends.1
+            | inr ends ↦ absurd (differ (e.0 ∙ sym ends.1))
+          ] in
+          let this : IsWay surface f u v side.at true = record {
+            within = within;
+            along = ap (λ (x : ℕ). x ∷ head_of mesh side ∷ []) e.0 ∙ ap (λ (x : ℕ). u ∷ x ∷ []) head;
+            around =
+                corners_beyond ring false side.at (m - 1) ∙ ap (λ (x : ℕ). x ∷ beyond ring false side.at (m - 1)) e.0
+                ∙ ap (λ (l : List ℕ). u ∷ l) (sym (from_tail surface f u e.0));
+          } in
+          subst (λ (c : ℕ). IsWay surface f u v c forward) (sym e.1) (subst (IsWay surface f u v side.at) (sym e.2) this))
+      | inr e ↦
+          (let ends : (tail_of mesh side ≡ v) × (head_of mesh side ≡ u) = elim found.joined [
+            | inl ends ↦ absurd (e.0 ends.0)
+            | inr ends ↦ ends
+          ] in
+          let home : next_corner false m next ≡ side.at = after_back true m side.at 1 within in
+          let this : IsWay surface f u v next false = record {
+            within = step_within true m side.at within;
+            along =
+                ap (λ (x : ℕ). x ∷ get_or ring (next_corner false m next) 0 ∷ []) ends.1
+                ∙ ap (λ (c : ℕ). u ∷ get_or ring c 0 ∷ []) home ∙ ap (λ (x : ℕ). u ∷ x ∷ []) ends.0;
+            around =
+                corners_beyond ring true next (m - 1) ∙ ap (λ (x : ℕ). x ∷ beyond ring true next (m - 1)) ends.1
+                ∙ ap (λ (l : List ℕ). u ∷ l) (sym (from_head surface f u e.0));
+          } in
+          subst (λ (c : ℕ). IsWay surface f u v c forward) (sym e.1) (subst (IsWay surface f u v next) (sym e.2) this))
+    ]
+
+face_crossed : (surface : OpenView) (f u v corner : ℕ) (forward : Bool) (front rest : List ℕ) → HasParents surface
+    → IsFound surface u v f → IsWayAlong surface (parent_of surface f) u corner forward
+    → apply surface.mesh (front ++ u ∷ v ∷ rest) (Across (length front) (record { 0 = f }) corner forward 1)
+    ≡ Some (front ++ u ∷ (expansion surface.mesh (parent_of surface f) u ++ rest))
+face_crossed surface f u v corner forward front rest has found way =
+    let w : IsWay surface f u v corner forward = way_along surface f u v corner forward has found way in
+    let ring : List ℕ = face_at surface.mesh f in
+    let exp : List ℕ = expansion surface.mesh (parent_of surface f) u in
+    let some : 0 < length (front ++ u ∷ v ∷ rest) = rw length-append (omega arith) in
+    (by_replacing surface.mesh (front ++ u ∷ v ∷ rest) (front ++ u ∷ (exp ++ rest)) (Across (length front) (record { 0 = f }) corner forward 1)
+    some).1
+    (record {
+      before = front;
+      part = u ∷ v ∷ [];
+      other = u ∷ exp;
+      after = rest;
+      walk_is = sym (append_assoc front (u ∷ v ∷ []) rest);
+      next_is = sym (append_assoc front (u ∷ exp) rest);
+      place = refl;
+      replaces = (found.within, w.within, omega (arith, w.within), sym w.along, sym w.around);
+    })
+
+has_expanded : (surface : OpenView) (first : List ℕ) (old : ReductionView) (next : ℕ) (new : ReductionView) → HasParents surface
+    → LeadsAtPeak surface.mesh first old.list (old.front ++ old.last ∷ next ∷ old.coming) → IsNormal surface (settled old)
+    → Expands surface old next new → HasStepped surface first old next new
+has_expanded surface first old next new has leads normal step =
+    let mesh : FaceList = surface.mesh in
+    let f : ℕ = step.face in
+    let found : IsFound surface old.last next f = record { within = step.within; joined = step.joined } in
+    let exp : List ℕ = expansion mesh (parent_of surface f) old.last in
+    let to : old.front ++ old.last ∷ (exp ++ old.coming) ≡ whole new =
+    ap (λ (l : List ℕ). old.front ++ old.last ∷ l) (sym step.coming) ∙ ap (λ (x : ℕ). old.front ++ x ∷ new.coming) (sym step.last)
+    ∙ ap (λ (l : List ℕ). l ++ new.last ∷ new.coming) (sym step.front) in
+    let count : length new.front + length new.coming ≡ darts (old.front ++ old.last ∷ (exp ++ old.coming)) =
+    omega (arith, ap (λ (l : List ℕ). length l) to, length-append new.front (new.last ∷ new.coming)) in
+    record {
+      leads =
+          subst (LeadsAtPeak mesh first new.list) to
+          (one_more mesh first (old.front ++ old.last ∷ next ∷ old.coming) (old.front ++ old.last ∷ (exp ++ old.coming))
+          (Across (length old.front) (record { 0 = f }) step.corner step.forward 1) old.list new.list leads
+          (face_crossed surface f old.last next step.corner step.forward old.front old.coming has found step.way)
+          (step.list ∙ ap (λ (d : ℕ). noted old.list (Across (length old.front) (record { 0 = f }) step.corner step.forward 1) d) count));
+      normal =
+          subst (λ (l : List ℕ). IsNormal surface (l ++ new.last ∷ [])) (sym step.front)
+          (subst (λ (x : ℕ). IsNormal surface (old.front ++ x ∷ [])) (sym step.last) normal);
+      falls =
+          (let fewer : weight surface old.last (next ∷ old.coming) ≡ suc (weight surface old.last (exp ++ old.coming)) =
+          weight_parent surface f old.last next old.coming has found in
+          let same : weight surface new.last new.coming ≡ weight surface old.last (exp ++ old.coming) =
+          ap (λ (x : ℕ). weight surface x new.coming) step.last ∙ ap (weight surface old.last) step.coming in
+          omega (arith, fewer, same));
+    }
+
+-- each step does so
+pub has_stepped : (surface : OpenView) (first : List ℕ) (old taken : ReductionView) (next : ℕ) (new : ReductionView) → HasParents surface
+    → LeadsAtPeak surface.mesh first old.list (whole old) → IsNormal surface (settled old) → IsTaken old next taken
+    → IsStep surface taken next new → HasStepped surface first taken next new
+has_stepped surface first old taken next new has leads normal is_taken step =
+    let from : LeadsAtPeak surface.mesh first taken.list (taken.front ++ taken.last ∷ next ∷ taken.coming) =
+    subst (λ (s : ReductionView). LeadsAtPeak surface.mesh first s.list (whole s)) is_taken leads in
+    let part : IsNormal surface (settled taken) = subst (λ (s : ReductionView). IsNormal surface (settled s)) is_taken normal in
+    elim step [
+      | inl back ↦ stepped_back surface first taken next new has from part back
+      | inr more ↦ elim more [
+        | inl on ↦ stepped_on surface first taken next new has from part on
+        | inr wide ↦ has_expanded surface first taken next new has from part wide
+      ]
+    ]

@@ -1,0 +1,14 @@
+use Rattle.std.proofs.Common.{◌≡◌}
+use Rattle.std.specs.Prelude.{◌↔◌}
+use Rattle.surf_model.specs.Moves.{Homotopic}
+use Rattle.free_forms.proofs.NormalLemmas.{by_normal_walks}
+use Rattle.free_forms.proofs.deciding.same_class.Goals as goal
+
+pub returns : goal.returns
+returns c =
+    let equal : Homotopic c.args.mesh.now.mesh c.args.first.now c.args.second.now ↔ (c.in_ok-one.one ≡ c.in_ok-two.two) =
+    by_normal_walks c.args.mesh.now c.args.first.now c.args.second.now c.in_ok-one.one c.in_ok-two.two c.faces.ensures.parents
+    c.requires.first c.requires.second c.in_ok-one.ensures c.in_ok-two.ensures in (
+      λ same. equal.1 (c.are_equal.ensures.0 same),
+      λ joined. c.are_equal.ensures.1 (equal.0 joined),
+    )

@@ -1,0 +1,8 @@
+use Rattle.std.proofs.Common.{◌≡◌, ◌+◌, ◌-◌, drop}
+use Rattle.std.specs.Prelude.{reverse}
+use Rattle.surf_model.specs.Vertices.{numbers}
+use Rattle.surf_model.specs.Walks.{darts}
+use Rattle.free_forms.proofs.reduction.start.Given as goal
+
+abbrev pub invariant-loop-back : goal.invariant-loop-back
+invariant-loop-back l = reverse (numbers l.pending.items) ≡ drop (darts l.walk - l.back + 1) l.walk

@@ -1,0 +1,18 @@
+-- Lists of moves that lead from a walk to a walk, with their peaks.
+use Rattle.std.specs.Prelude.{◌≡◌, ℕ, ◌<◌, ◌≤◌, List, length}
+use Rattle.surf_model.specs.FaceLists.{FaceList, face_at}
+use Rattle.surf_model.specs.Moves.{PeakedMoves, Leads, greatest_darts}
+use Rattle.surf_model.specs.declared.moves.Move.{Move}
+use Rattle.surf_model.specs.declared.moves.Move.TheVariants.{Insert, Remove, Across}
+
+-- The moves lead from the first walk to the second, and the peak is the greatest number of darts among the walks that they pass, both
+-- included.
+pub record LeadsAtPeak (mesh : FaceList) (first : List ℕ) (list : PeakedMoves) (second : List ℕ) : Type 0 where
+  pub leads : Leads mesh first list.moves second
+  pub peak : list.peak ≡ greatest_darts mesh first list.moves
+
+-- a move may be one of the mesh: its face is there, and it takes no more sides than that has
+abbrev pub IsMoveOf : FaceList → Move → Type 0
+IsMoveOf mesh (Insert at via) = Unit {0}
+IsMoveOf mesh (Remove at via) = Unit {0}
+IsMoveOf mesh (Across at face corner forward taken) = (face.0 < length mesh.faces) × (taken ≤ length (face_at mesh face.0))
