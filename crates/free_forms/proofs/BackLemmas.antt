@@ -1,8 +1,8 @@
 -- The way back along a list of moves: its peak, and the moves one by one.
-use Rattle.std.proofs.Common.{◌≡◌, inl, inr, ℕ, zero, suc, ◌+◌, ◌-◌, ◌<◌, ◌≤◌, max, List, [], ◌∷◌, ◌++◌, length, drop, get_or, refl, ap, sym, ◌∙◌, subst, arith, append_assoc}
+use Rattle.std.proofs.Common.{◌≡◌, inl, inr, ℕ, zero, suc, ◌+◌, ◌<◌, ◌≤◌, max, List, [], ◌∷◌, ◌++◌, length, drop, refl, ap, sym, ◌∙◌, subst, arith}
 use Rattle.std.specs.Prelude.{All, Some, slice_get}
 use Rattle.std.proofs.lemmas.Bool.{cases_eq}
-use Rattle.std.proofs.lemmas.List.{drop_more, drop_all}
+use Rattle.std.proofs.lemmas.List.{drop_more}
 use Rattle.std.proofs.lemmas.Option.{get_or_from_slice_get}
 use Rattle.surf_model.specs.FaceLists.{FaceList}
 use Rattle.surf_model.specs.Walks.{IsWalk, darts}
@@ -12,7 +12,7 @@ use Rattle.surf_model.specs.declared.moves.Move.{Move}
 use Rattle.surf_model.specs.declared.moves.Move.TheVariants.{Insert, Remove, Across}
 use Rattle.surf_model.proofs.ReplacementLemmas.{by_replacing}
 use Rattle.surf_model.proofs.ContextLemmas.{first_answer, one_after_another, stays_walk}
-use Rattle.surf_model.proofs.WayBackLemmas.{keeps_walk, undone, list_undone, list_keeps_walk}
+use Rattle.surf_model.proofs.WayBackLemmas.{keeps_walk, undone, list_undone}
 use Rattle.free_forms.specs.PeakedLists.{LeadsAtPeak, IsMoveOf}
 use Rattle.free_forms.proofs.PeakLemmas.{greatest_darts-more, greatest_darts-none, greatest_darts-push}
 
@@ -26,12 +26,18 @@ greatest_darts-append : (mesh : FaceList) (moves others : List Move) (first walk
     → greatest_darts mesh first (moves ++ others) ≡ max (greatest_darts mesh first moves) (greatest_darts mesh walk others)
 greatest_darts-append mesh [] others first walk e =
     let same : walk ≡ first = cc in
-    let last : greatest_darts mesh walk others ≡ greatest_darts mesh first others = ap (λ (w : List ℕ). greatest_darts mesh w others) same in
+    let last : greatest_darts mesh walk others ≡ greatest_darts mesh first others =
+    ap (λ (w : List ℕ). greatest_darts mesh w others) same in
     omega (arith, last, greatest_darts-none mesh first, greatest_darts-first mesh first others)
 greatest_darts-append mesh (move ∷ moves) others first walk e =
     let told = first_answer (λ x. apply_all mesh x moves) (apply mesh first move) walk e in
     let rest = greatest_darts-append mesh moves others told.0 walk told.2 in
-    omega (arith, rest, greatest_darts-more mesh first told.0 move moves told.1, greatest_darts-more mesh first told.0 move (moves ++ others) told.1)
+    omega (
+      arith,
+      rest,
+      greatest_darts-more mesh first told.0 move moves told.1,
+      greatest_darts-more mesh first told.0 move (moves ++ others) told.1,
+    )
 
 -- the way back passes the same walks
 greatest_darts-back : (mesh : FaceList) (moves : List Move) (walk next : List ℕ) → IsWalk mesh walk → apply_all mesh walk moves ≡ Some next

@@ -9,8 +9,8 @@ use Rattle.surf_model.specs.Vertices.{numbers}
 use Rattle.surf_model.specs.declared.edges.Side.{Side}
 use Rattle.surf_model.specs.declared.moves.Move.TheVariants.{Across}
 use Rattle.surf_model.specs.declared.names.VertexName.{VertexName}
-use Rattle.free_forms.specs.Parents.{OpenView, HasParents, Joins, parent_of, beyond, expansion}
-use Rattle.free_forms.specs.Reductions.{ReductionView, Expands, IsWayAlong}
+use Rattle.free_forms.specs.Parents.{OpenView, HasParents, Joins, parent_of, beyond}
+use Rattle.free_forms.specs.Reductions.{Expands, IsWayAlong}
 use Rattle.free_forms.proofs.ParentEdgeLemmas.{way_found, expansion_read}
 
 pub length_beyond : (ring : List ℕ) (rising : Bool) (t k : ℕ) → length (beyond ring rising t k) ≡ k

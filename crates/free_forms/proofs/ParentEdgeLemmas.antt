@@ -1,22 +1,23 @@
 -- The parent on an edge, found by the table of the mesh; and the way along it.
-use Rattle.std.proofs.Common.{◌≡◌, ◌≢◌, ◌⊎◌, inl, inr, ℕ, zero, suc, ◌+◌, ◌-◌, ◌<◌, ◌≤◌, Bool, true, false, not, eqb, List, [], ◌∷◌, ◌++◌, length, get_or, refl, ap, sym, ◌∙◌, subst, arith}
+use Rattle.std.proofs.Common.{◌≡◌, ◌⊎◌, inl, inr, ℕ, zero, suc, ◌+◌, ◌-◌, ◌<◌, ◌≤◌, Bool, true, false, not, eqb, List, [], ◌∷◌, ◌++◌, length, get_or, refl, ap, sym, ◌∙◌, subst, arith}
 use Rattle.std.specs.Prelude.{All, Some, slice_get, reverse, cond}
 use Rattle.std.proofs.lemmas.Bool.{eqb-true, eq-eqb, both_ways}
 use Rattle.std.proofs.lemmas.List.{reverse-append}
 use Rattle.std.proofs.lemmas.Option.{get_or_from_slice_get}
 use Rattle.surf_model.specs.FaceLists.{FaceList, face_at, next_corner}
-use Rattle.surf_model.specs.Darts.{IsSide, tail_of, head_of}
-use Rattle.surf_model.specs.Edges.{Edge, IsTableOf, IsEdgeOf, HasEnds, edge_in}
+use Rattle.surf_model.specs.Darts.{IsSide, tail_of}
+use Rattle.surf_model.specs.Edges.{Edge, IsTableOf, HasEnds, edge_in}
 use Rattle.surf_model.specs.declared.edges.Side.{Side}
 use Rattle.surf_model.proofs.EdgeLemmas.{step_within}
-use Rattle.surf_model.proofs.PartnerLemmas.{IsSideOfEdge, HasSideEnds, IsEdgeOfSide, side_of_edge, edge_has_side, edge_of_side, table_edge}
+use Rattle.surf_model.proofs.PartnerLemmas.{IsSideOfEdge, IsEdgeOfSide, side_of_edge, edge_has_side, edge_of_side, table_edge}
 use Rattle.surf_model.proofs.RoundLemmas.{corner_after, meet}
 use Rattle.free_forms.specs.Parents.{OpenView, HasParents, Joins, IsParentEdge, parent_of, beyond, expansion}
 use Rattle.free_forms.specs.Reductions.{IsWayAlong}
-use Rattle.free_forms.proofs.Actions.{after_back, corner_after-add, after_within}
-use Rattle.free_forms.proofs.Expansions.{IsFound, from_tail, from_head, parent_in_mesh}
+use Rattle.free_forms.proofs.Actions.{after_back, corner_after-add}
+use Rattle.free_forms.proofs.Expansions.{from_tail, from_head, parent_in_mesh}
 
-sides_meet : (t h u v low high : ℕ) → ((t ≡ low) × (h ≡ high)) ⊎ ((t ≡ high) × (h ≡ low)) → ((low ≡ u) × (high ≡ v)) ⊎ ((low ≡ v) × (high ≡ u))
+sides_meet : (t h u v low high : ℕ) → ((t ≡ low) × (h ≡ high)) ⊎ ((t ≡ high) × (h ≡ low))
+    → ((low ≡ u) × (high ≡ v)) ⊎ ((low ≡ v) × (high ≡ u))
     → ((t ≡ u) × (h ≡ v)) ⊎ ((t ≡ v) × (h ≡ u))
 sides_meet t h u v low high first second = grind arith
 
@@ -129,7 +130,8 @@ way_found surface side u corner false e is =
 -- the vertices of the face but one, read backwards, are the expansion
 pub expansion_read : (surface : OpenView) (f u corner : ℕ) (forward : Bool) → HasParents surface → f < length surface.mesh.faces
     → IsWayAlong surface (parent_of surface f) u corner forward
-    → reverse (beyond (face_at surface.mesh f) forward corner (length (face_at surface.mesh f) - 1)) ≡ expansion surface.mesh (parent_of surface f) u
+    → reverse (beyond (face_at surface.mesh f) forward corner (length (face_at surface.mesh f) - 1))
+    ≡ expansion surface.mesh (parent_of surface f) u
 expansion_read surface f u corner forward has l way =
     let ring : List ℕ = face_at surface.mesh f in
     let m : ℕ = length ring in
@@ -155,7 +157,8 @@ beyond_more ring rising c (suc k) =
     let next : ℕ = next_corner rising (length ring) c in
     let up : suc k + 1 ≡ suc (k + 1) = omega arith in
     ap (beyond ring rising c) up ∙ ap (λ (w : List ℕ). get_or ring next 0 ∷ w) (beyond_more ring rising next k)
-    ∙ ap (λ (n : ℕ). get_or ring next 0 ∷ (beyond ring rising next k ++ get_or ring (corner_after rising (length ring) c n) 0 ∷ [])) (sym up)
+    ∙ ap (λ (n : ℕ). get_or ring next 0 ∷ (beyond ring rising next k ++ get_or ring (corner_after rising (length ring) c n) 0 ∷ []))
+    (sym up)
 
 pub after_one_more : (rising : Bool) (m c k : ℕ) → next_corner rising m (corner_after rising m c k) ≡ corner_after rising m c (k + 1)
 after_one_more rising m c k = sym (corner_after-add rising m c k 1)

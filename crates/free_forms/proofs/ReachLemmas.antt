@@ -94,8 +94,10 @@ first_corner_of mesh f valid l =
 pub all_in_set : (mesh : FaceList) (In : ℕ → Type 0) (f g : ℕ) → IsFaceList mesh → IsOpenSurface mesh → IsClosedUnderSteps mesh In
     → f < length mesh.faces → In f → g < length mesh.faces → In g
 all_in_set mesh In f g valid surface closed l is few =
-    let from : IsCornerAt mesh (get_or (face_at mesh f) 0 0) (record { face = record { 0 = f }; at = 0 }) = first_corner_of mesh f valid l in
-    let to : IsCornerAt mesh (get_or (face_at mesh g) 0 0) (record { face = record { 0 = g }; at = 0 }) = first_corner_of mesh g valid few in
+    let from : IsCornerAt mesh (get_or (face_at mesh f) 0 0) (record { face = record { 0 = f }; at = 0 }) =
+    first_corner_of mesh f valid l in
+    let to : IsCornerAt mesh (get_or (face_at mesh g) 0 0) (record { face = record { 0 = g }; at = 0 }) =
+    first_corner_of mesh g valid few in
     let u : ℕ = get_or (face_at mesh f) 0 0 in
     let v : ℕ = get_or (face_at mesh g) 0 0 in
     let walk = surface.connected u v (corner_used mesh u _ from) (corner_used mesh v _ to) in

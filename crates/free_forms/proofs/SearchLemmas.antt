@@ -77,7 +77,10 @@ stays_reached : (old : SearchView) (side : Side) (f : ℕ) → IsReached old f �
     → IsReached (with_new old side) f
 stays_reached old side f is not =
     elim (cases_eq f side.face.0) [
-      | inl same ↦ (let this : get_or old.reached side.face.0 false ≡ true = ap (λ (g : ℕ). get_or old.reached g false) (sym same) ∙ is in cc)
+      | inl same ↦
+          (let this : get_or old.reached side.face.0 false ≡ true =
+          ap (λ (g : ℕ). get_or old.reached g false) (sym same) ∙ is in
+          cc)
       | inr other ↦ get_or-set_other old.reached side.face.0 f true false other ∙ is
     ]
 
@@ -101,7 +104,9 @@ new_search mesh old side h is before not =
     let long : length new.order ≡ n + 1 = length-append old.order (f ∷ []) in
     let grows : Grows old new = new_grows old side not in
     let apart : (g : ℕ) → IsReached old g → g ≢ f =
-    λ g reached same. (let this : get_or old.reached f false ≡ true = ap (λ (x : ℕ). get_or old.reached x false) (sym same) ∙ reached in cc) in
+    λ g reached same.
+    (let this : get_or old.reached f false ≡ true = ap (λ (x : ℕ). get_or old.reached x false) (sym same) ∙ reached in
+    cc) in
     let place : (g : ℕ) → g ≢ f → get_or new.places g 0 ≡ get_or old.places g 0 =
     λ g other. get_or-set_other old.places f g side.at 0 other in
     let here : get_or new.places f 0 ≡ side.at = get_or-set_same old.places f side.at 0 (omega (arith, h.each_place, is.face)) in
@@ -176,7 +181,8 @@ pub neighbours_stay : (mesh : FaceList) (old new : SearchView) (f n : ℕ) → G
     → NeighboursReached mesh new f n
 neighbours_stay mesh old new f n grows h t other l few partners = grows.reached other.face.0 (h t other l few partners)
 
-pub started_stay : (table : List Edge) (old new : SearchView) (n : ℕ) → Grows old new → IsStartedUpTo table old n → IsStartedUpTo table new n
+pub started_stay : (table : List Edge) (old new : SearchView) (n : ℕ) → Grows old new → IsStartedUpTo table old n
+    → IsStartedUpTo table new n
 started_stay table old new n grows h k d l few one = grows.reached _ (h k d l few one)
 
 -- crossing parents goes down the order, so it ends
@@ -205,7 +211,8 @@ first_side : (mesh : FaceList) (table : List Edge) (k : ℕ) (side : Side) → I
 first_side mesh table k side h l one is =
     let edge : Edge = edge_in table k in
     let here : get_or edge.sides 0 side ≡ side = get_or_from_slice_get edge.sides 0 side side is in
-    let stands : IsSideOfEdge mesh edge (get_or edge.sides 0 side) = side_of_edge mesh edge 0 side (table_edge mesh table k h l) (omega arith) in
+    let stands : IsSideOfEdge mesh edge (get_or edge.sides 0 side) =
+    side_of_edge mesh edge 0 side (table_edge mesh table k h l) (omega arith) in
     record {
       side_of = subst (IsSide mesh) here stands.side_of;
       alone = alone_in_edge mesh table k side h l one here;
@@ -313,5 +320,6 @@ closed_more mesh old new at l grows here closed j less few =
           (let before : j < at = omega (arith, less, other) in
           let there : j < length old.order = omega (arith, before, l) in
           subst (λ (f : ℕ). NeighboursReached mesh new f (length (face_at mesh f))) (sym (grows.order j there))
-          (neighbours_stay mesh old new (get_or old.order j 0) (length (face_at mesh (get_or old.order j 0))) grows (closed j before there)))
+          (neighbours_stay mesh old new (get_or old.order j 0) (length (face_at mesh (get_or old.order j 0))) grows
+          (closed j before there)))
     ]

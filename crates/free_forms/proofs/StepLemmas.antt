@@ -1,25 +1,22 @@
 -- What a step of a reduction does: the moves lead on, the normal part stays normal, and less is to come.
-use Rattle.std.proofs.Common.{◌≡◌, ◌≢◌, ◌⊎◌, inl, inr, ℕ, zero, suc, ◌+◌, ◌-◌, ◌<◌, ◌≤◌, Bool, true, false, not, max, List, [], ◌∷◌, ◌++◌, length, get_or, refl, ap, sym, ◌∙◌, subst, arith, append_assoc, length-append}
+use Rattle.std.proofs.Common.{◌≡◌, ◌≢◌, inl, inr, ℕ, zero, suc, ◌+◌, ◌-◌, ◌<◌, Bool, true, false, not, max, List, [], ◌∷◌, ◌++◌, length, get_or, refl, ap, sym, ◌∙◌, subst, arith, append_assoc, length-append}
 use Rattle.std.specs.Prelude.{Option, Some, None}
-use Rattle.std.proofs.lemmas.Bool.{cases_eq, cases_lt}
+use Rattle.std.proofs.lemmas.Bool.{cases_lt}
 use Rattle.std.proofs.lemmas.List.{get_or_append_left, get_or-append-add}
 use Rattle.surf_model.specs.FaceLists.{FaceList, face_at, next_corner, corners_from}
-use Rattle.surf_model.specs.Darts.{IsSide, tail_of, head_of}
-use Rattle.surf_model.specs.FreeWalks.{HasNoSpur}
+use Rattle.surf_model.specs.Darts.{tail_of, head_of}
 use Rattle.surf_model.specs.Walks.{darts}
 use Rattle.surf_model.specs.Moves.{PeakedMoves, apply}
 use Rattle.surf_model.specs.declared.edges.Side.{Side}
 use Rattle.surf_model.specs.declared.moves.Move.{Move}
 use Rattle.surf_model.specs.declared.moves.Move.TheVariants.{Remove, Across}
-use Rattle.surf_model.specs.declared.names.VertexName.{VertexName}
 use Rattle.surf_model.proofs.EdgeLemmas.{step_within}
 use Rattle.surf_model.proofs.ReplacementLemmas.{by_replacing}
-use Rattle.surf_model.proofs.RoundLemmas.{corner_after}
 use Rattle.free_forms.specs.Normal.{IsNormal}
 use Rattle.free_forms.specs.Parents.{OpenView, HasParents, Joins, IsParentEdge, parent_of, beyond, expansion}
 use Rattle.free_forms.specs.PeakedLists.{LeadsAtPeak}
-use Rattle.free_forms.specs.Reductions.{ReductionView, settled, whole, darts_in, IsTaken, StepsBack, StepsOn, Expands, IsWayAlong, IsStep}
-use Rattle.free_forms.proofs.Actions.{run, run-append, end_from, corners_beyond, after_back}
+use Rattle.free_forms.specs.Reductions.{ReductionView, settled, whole, IsTaken, StepsBack, StepsOn, Expands, IsWayAlong, IsStep}
+use Rattle.free_forms.proofs.Actions.{run, run-append, corners_beyond, after_back}
 use Rattle.free_forms.proofs.Expansions.{act_fully, acting, by_face, parent_face_of, acts_by_base, acts_by_expansion, IsFound, expansion_ends, from_tail, from_head, parent_in_mesh}
 use Rattle.free_forms.proofs.PeakLemmas.{one_more}
 use Rattle.connectivity.proofs.CornerLemmas.{ends_differ}
@@ -275,7 +272,8 @@ face_crossed surface f u v corner forward front rest has found way =
     let ring : List ℕ = face_at surface.mesh f in
     let exp : List ℕ = expansion surface.mesh (parent_of surface f) u in
     let some : 0 < length (front ++ u ∷ v ∷ rest) = rw length-append (omega arith) in
-    (by_replacing surface.mesh (front ++ u ∷ v ∷ rest) (front ++ u ∷ (exp ++ rest)) (Across (length front) (record { 0 = f }) corner forward 1)
+    (by_replacing surface.mesh (front ++ u ∷ v ∷ rest) (front ++ u ∷ (exp ++ rest))
+    (Across (length front) (record { 0 = f }) corner forward 1)
     some).1
     (record {
       before = front;

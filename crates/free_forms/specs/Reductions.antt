@@ -61,7 +61,8 @@ pub record StepsOn (surface : OpenView) (old : ReductionView) (next : ℕ) (new 
 abbrev pub IsWayAlong : OpenView → Side → ℕ → ℕ → Bool → Type 0
 IsWayAlong surface side u corner forward =
     ((tail_of surface.mesh side ≡ u) × (corner ≡ side.at) × (forward ≡ true))
-    ⊎ ((tail_of surface.mesh side ≢ u) × (corner ≡ next_corner true (length (face_at surface.mesh side.face.0)) side.at) × (forward ≡ false))
+    ⊎ ((tail_of surface.mesh side ≢ u) × (corner ≡ next_corner true (length (face_at surface.mesh side.face.0)) side.at)
+    × (forward ≡ false))
 
 -- the edge to the next vertex is the parent edge of a face, and its expansion comes in its place
 pub record Expands (surface : OpenView) (old : ReductionView) (next : ℕ) (new : ReductionView) : Type 0 where

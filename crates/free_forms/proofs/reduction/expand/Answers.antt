@@ -1,7 +1,6 @@
-use Rattle.std.proofs.Common.{◌≡◌, ℕ, ◌+◌, ◌-◌, ◌≤◌, List, length, eqb, ap, ◌∙◌, arith}
+use Rattle.std.proofs.Common.{◌≡◌, ℕ, ◌+◌, ◌-◌, ◌≤◌, length, eqb, ap, ◌∙◌, arith}
 use Rattle.std.proofs.lemmas.Result.{on_ok_weaker}
 use Rattle.surf_model.specs.declared.limits.TheConstants.{MOST_PEAK}
-use Rattle.free_forms.specs.Reductions.{state_of, darts_in}
 use Rattle.free_forms.proofs.ExpandLemmas.{IsRead, pushed_length, expands_made, length_numbers, length_coming}
 use Rattle.free_forms.proofs.reduction.expand.Goals as goal
 

@@ -1,8 +1,7 @@
-use Rattle.std.proofs.Common.{◌≡◌, ℕ, ◌+◌, ◌<◌, List, [], ◌∷◌, ◌++◌, length, ap, sym, ◌∙◌, subst, arith}
-use Rattle.surf_model.specs.Walks.{darts}
+use Rattle.std.proofs.Common.{◌≡◌, ℕ, List, [], ◌∷◌, ◌++◌, length, ap, sym, ◌∙◌, subst, arith}
 use Rattle.free_forms.specs.Normal.{IsNormal}
 use Rattle.free_forms.specs.PeakedLists.{LeadsAtPeak}
-use Rattle.free_forms.specs.Reductions.{ReductionView, state_of, settled, whole}
+use Rattle.free_forms.specs.Reductions.{ReductionView, state_of}
 use Rattle.free_forms.proofs.PeakLemmas.{leads_nowhere}
 use Rattle.free_forms.proofs.StepLemmas.{HasStepped, has_stepped, normal_alone, weight}
 use Rattle.free_forms.proofs.reduction.reduce.Goals as goal

@@ -21,6 +21,7 @@ loop-at-preserved c = record {
       closed_more c.args.faces.now (found_by c.loop-at.search) (found_by c.spread_from.new.search) c.loop-at.at (omega arith)
       c.in_ok-spread_from.ensures.grows
       (subst (λ (f : ℕ). NeighboursReached c.args.faces.now (found_by c.spread_from.new.search) f (length (face_at c.args.faces.now f)))
-      (c.index.ensures ∙ get_or_default c.loop-at.search.order.items c.loop-at.at c.index.result.now 0 (omega arith)) c.in_ok-spread_from.ensures.reached)
+      (c.index.ensures ∙ get_or_default c.loop-at.search.order.items c.loop-at.at c.index.result.now 0 (omega arith))
+      c.in_ok-spread_from.ensures.reached)
       c.loop-at.invariant.closed;
 }

@@ -1,4 +1,4 @@
-use Rattle.std.proofs.Common.{◌≡◌, ℕ, ◌<◌, List, length, get_or, refl, ap, sym, ◌∙◌, subst, inl, inr, arith}
+use Rattle.std.proofs.Common.{◌≡◌, ℕ, ◌<◌, List, length, get_or, ap, sym, ◌∙◌, subst, inl, inr, arith}
 use Rattle.std.proofs.lemmas.Bool.{cases_eq}
 use Rattle.std.proofs.lemmas.List.{get_or_default}
 use Rattle.std.proofs.lemmas.Option.{get_or_from_slice_get}
@@ -64,7 +64,8 @@ loop-k-preserved c = λ j d l same.
           ap (λ (s : Side). get_or places s.face.0 0) (sym this) ∙ same ∙ ap (λ (s : Side). s.at) this in
           c.if-index-side.false
           (c.index.ensures
-          ∙ get_or_default places side.face.0 c.index.result.now 0 (omega (arith, is.side_of.face, c.self.invariant.parents.each_face)) ∙ at))
+          ∙ get_or_default places side.face.0 c.index.result.now 0
+          (omega (arith, is.side_of.face, c.self.invariant.parents.each_face)) ∙ at))
       | inr other ↦ c.loop-k.invariant j d (omega (arith, l, other)) same
     ]
 

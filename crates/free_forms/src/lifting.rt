@@ -1,0 +1,70 @@
+//! Lists of moves that lead from a walk to a homotopic one.
+ghost use Rattle.std.specs.Prelude.{◌≡◌, ◌+◌, ◌<◌, ◌≤◌, ◌++◌, max, length, All, IfOk, OnOk, MatchOption};
+ghost use Rattle.surf_model.specs.FaceLists.{total_sides};
+ghost use Rattle.surf_model.specs.Moves.{Homotopic};
+ghost use Rattle.surf_model.specs.Rewriting.{sides_of_move, way_back};
+ghost use Rattle.surf_model.specs.Walks.{IsWalk, HaveCommonEnds, darts};
+ghost use Rattle.free_forms.specs.PeakedLists.{LeadsAtPeak, IsMoveOf};
+ghost use Rattle.free_forms.specs.declared.deciding.TheConstants.{MOST_OPEN_SIDES, MOST_OPEN_DARTS};
+
+use crate::deciding::are_equal;
+use crate::open_mesh::OpenMesh;
+use crate::reduction::reduce;
+use std::alloc::{AllocError, Global};
+use surf_model::{Faces, Move, MoveList, Walk};
+
+/// Moves that lead from a walk to another with the same ends, with their exact peak; none exactly where no moves do.
+///
+/// They lead to the normal walk of the first, and from there back along those that lead to the normal walk of the second.
+pub fn lift_open(
+    alloc: Global,
+    mesh: &OpenMesh,
+    first: &Walk,
+    second: &Walk,
+) -> Result<Option<MoveList>, AllocError>
+    requires first { IsWalk mesh.now.mesh first.now }
+    requires second { IsWalk mesh.now.mesh second.now }
+    requires ends { HaveCommonEnds first.now second.now }
+    requires sides { total_sides mesh.now.mesh ≤ MOST_OPEN_SIDES }
+    requires few { darts first.now + darts second.now ≤ MOST_OPEN_DARTS }
+    ensures { IfOk result (λ found. MatchOption found
+        (Homotopic mesh.now.mesh first.now second.now → ⊥)
+        (λ list. LeadsAtPeak mesh.now.mesh first.now list second.now)) }
+{
+    let one = reduce(alloc, mesh, first)?;
+    let two = reduce(alloc, mesh, second)?;
+    let (near, mut moves) = one.into_parts(alloc)?;
+    let (far, others) = two.into_parts(alloc)?;
+    let faces = mesh.faces();
+    if are_equal(&near, &far) {
+        push_back(&mut moves, faces, &others)?;
+        Ok(Some(moves))
+    } else {
+        Ok(None)
+    }
+}
+
+/// Puts the way back along a list of moves last, which passes walks of its peak.
+fn push_back(moves: &mut MoveList, faces: &Faces, others: &MoveList) -> Result<(), AllocError>
+    requires { All (IsMoveOf faces.now) others.now.moves }
+    ensures moves { OnOk result (moves.new.moves ≡ moves.old.moves ++ way_back faces.now others.now.moves) }
+    ensures none { OnOk result (length others.now.moves ≡ 0 → moves.new.peak ≡ moves.old.peak) }
+    ensures some { OnOk result (0 < length others.now.moves → moves.new.peak ≡ max moves.old.peak others.now.peak) }
+{
+    for back in 0..others.len() {
+        let mv = others.at(others.len() - 1 - back);
+        moves.push(mv.inverse(sides_of(faces, mv)), others.peak())?;
+    }
+    Ok(())
+}
+
+/// The number of sides of the face of a move; 0 for a move that has no face.
+fn sides_of(faces: &Faces, mv: Move) -> u32
+    requires { IsMoveOf faces.now mv }
+    ensures { result ≡ sides_of_move faces.now mv }
+{
+    match mv {
+        Move::Insert { .. } | Move::Remove { .. } => 0,
+        Move::Across { face, .. } => faces.sides(face),
+    }
+}
