@@ -15,7 +15,8 @@ push_copies-requires c =
     ap (λ (z : List (ℕ × ℕ)). length (written z)) c.as_slice-value-items.ensures.runs in
     let exact : vec_capacity c.in_ok-entries.entries ≡ c.self.inside.len + 1 = c.in_ok-entries.ensures.exact in
     let none : vec_len c.in_ok-entries.entries ≡ 0 = c.in_ok-entries.ensures.len in
-    let filled : AreFilled runs = subst (λ z. AreFilled z) (sym c.as_slice-value-items.ensures.runs) c.as_slice-value-items.ensures.filled in
+    let filled : AreFilled runs = subst (λ z. AreFilled z) (sym c.as_slice-value-items.ensures.runs)
+    c.as_slice-value-items.ensures.filled in
     record {
       some = filled-at runs k filled below;
       room = omega (
