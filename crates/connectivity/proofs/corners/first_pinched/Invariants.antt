@@ -1,0 +1,7 @@
+use Rattle.std.proofs.Common.{◌≡◌, ◌<◌, ℕ}
+use Rattle.connectivity.specs.Links.{link_at}
+use Rattle.connectivity.specs.declared.corners.Link.TheVariants.{Pinched}
+use Rattle.connectivity.proofs.corners.first_pinched.Given as goal
+
+abbrev pub invariant-loop-vertex : goal.invariant-loop-vertex
+invariant-loop-vertex l = (v : ℕ) → v < l.vertex → link_at l.links v ≡ Pinched → ⊥

@@ -1,0 +1,6 @@
+use Rattle.std.proofs.Common.{◌≡◌, ◌<◌, ℕ, true}
+use Rattle.surf_model.specs.FaceLists.{is_used}
+use Rattle.connectivity.proofs.vertices.least_used.Given as goal
+
+abbrev pub invariant-loop-vertex : goal.invariant-loop-vertex
+invariant-loop-vertex l = (v : ℕ) → v < l.vertex → is_used l.faces v ≡ true → ⊥

@@ -1,0 +1,4 @@
+pub mod Classes
+pub mod Partitions
+pub mod Links
+pub mod Joined

@@ -1,0 +1,519 @@
+-- How darts act where a dart along a parent edge acts as its expansion does: what holds of every base, by which the other darts act.
+use Rattle.std.proofs.Common.{◌≡◌, ◌≢◌, ◌⊎◌, inl, inr, ℕ, zero, suc, ◌+◌, ◌-◌, ◌<◌, ◌≤◌, Bool, true, false, not, List, [], ◌∷◌, length, get_or, refl, ap, sym, ◌∙◌, subst, arith}
+use Rattle.std.specs.Prelude.{Option, Some, None, ◌==◌, cond, if◌then◌else◌}
+use Rattle.std.proofs.lemmas.Bool.{cases_eq, cases_lt, eq-eqb, both_ways}
+use Rattle.std.proofs.lemmas.Bool.Decides.{nat_tests}
+use Rattle.surf_model.specs.FaceLists.{FaceList, FaceSide, face_at, next_corner, joins}
+use Rattle.surf_model.specs.Darts.{IsSide, tail_of, head_of}
+use Rattle.surf_model.specs.Surfaces.{ArePartners}
+use Rattle.surf_model.specs.declared.edges.Side.{Side}
+use Rattle.surf_model.proofs.EdgeLemmas.{step_within}
+use Rattle.surf_model.proofs.RoundLemmas.{corner_after, rises, rises_past, falls, falls_past, meet}
+use Rattle.surf_model.proofs.TableLemmas.{joins_swap}
+use Rattle.connectivity.proofs.CornerLemmas.{ends_differ, partners_swap}
+use Rattle.free_forms.specs.Parents.{OpenView, HasParents, EndsOutside, Joins, IsParentEdge, parent_of}
+use Rattle.free_forms.proofs.Actions.{Acts, FacesActAsNothing, run, end_from, beyond, end_beyond, run_stays, run-add, round_and_back, after_back, corner_after-add}
+
+-- the parent of face f with its vertices
+abbrev pub whole_parent : OpenView → ℕ → FaceSide
+whole_parent surface f =
+    let side = parent_of surface f in
+    record { face = f; at = side.at; tail = tail_of surface.mesh side; head = head_of surface.mesh side }
+
+-- a face below n whose parent joins the two vertices
+abbrev pub parent_face : OpenView → ℕ → ℕ → ℕ → Option ℕ
+parent_face surface zero u v = None
+parent_face surface (suc f) u v = if joins u v (whole_parent surface f) then Some f else parent_face surface f u v
+
+abbrev pub parent_face_of : OpenView → ℕ → ℕ → Option ℕ
+parent_face_of surface u v = parent_face surface (length surface.mesh.faces) u v
+
+-- the vertices that the expansion of a side leads to from its end u
+abbrev pub expanded : FaceList → Side → ℕ → List ℕ
+expanded mesh side u =
+    let ring = face_at mesh side.face.0 in
+    if tail_of mesh side == u
+    then beyond ring false side.at (length ring - 1)
+    else beyond ring true (next_corner true (length ring) side.at) (length ring - 1)
+
+-- a dart acts by the expansion of a face's parent, or by the base where there is none
+abbrev pub by_face : {State : Type 0} → OpenView → (State → ℕ → ℕ → State) → (State → State) → (State → ℕ → ℕ → State) → Option ℕ
+    → State → ℕ → ℕ → State
+by_face surface base enter inner None s u v = base s u v
+by_face surface base enter inner (Some f) s u v = run inner (enter s) u (expanded surface.mesh (parent_of surface f) u)
+
+-- for so many levels of expansions, each of which is entered
+abbrev pub acting : {State : Type 0} → OpenView → (State → ℕ → ℕ → State) → (State → State) → ℕ → State → ℕ → ℕ → State
+acting surface base enter zero s u v = base s u v
+acting surface base enter (suc n) s u v =
+    by_face surface base enter (acting surface base enter n) (parent_face_of surface u v) s u v
+
+-- a face whose parent is the edge of the two vertices
+pub record IsFound (surface : OpenView) (u v f : ℕ) : Type 0 where
+  pub within : f < length surface.mesh.faces
+  pub joined : Joins surface.mesh (parent_of surface f) u v
+
+joins_ends : (u v : ℕ) (side : FaceSide) → joins u v side ≡ true → ((side.tail ≡ u) × (side.head ≡ v)) ⊎ ((side.tail ≡ v) × (side.head ≡ u))
+joins_ends u v side h = grind (arith, nat_tests)
+
+ends_join : (u v : ℕ) (side : FaceSide) → ((side.tail ≡ u) × (side.head ≡ v)) ⊎ ((side.tail ≡ v) × (side.head ≡ u)) → joins u v side ≡ true
+ends_join u v side h = grind (arith, nat_tests)
+
+chosen : (test : Bool) (f g : ℕ) (rest : Option ℕ) → cond test (Some f) rest ≡ Some g → ((test ≡ true) × (f ≡ g)) ⊎ (rest ≡ Some g)
+chosen true f g rest e = inl (refl, cc)
+chosen false f g rest e = inr e
+
+passed : (test : Bool) (f : ℕ) (rest : Option ℕ) → cond test (Some f) rest ≡ None → (test ≡ false) × (rest ≡ None)
+passed true f rest e = cc
+passed false f rest e = (refl, e)
+
+face_below : (surface : OpenView) (n u v f : ℕ) → parent_face surface n u v ≡ Some f
+    → (f < n) × Joins surface.mesh (parent_of surface f) u v
+face_below surface zero u v f e = cc
+face_below surface (suc n) u v f e =
+    elim (chosen (joins u v (whole_parent surface n)) n f (parent_face surface n u v) e) [
+      | inl here ↦ (
+        omega (arith, here.1),
+        subst (λ (g : ℕ). Joins surface.mesh (parent_of surface g) u v) here.1
+            (joins_ends u v (whole_parent surface n) here.0),
+      )
+      | inr later ↦ (let rest = face_below surface n u v f later in (omega (arith, rest.0), rest.1))
+    ]
+
+pub found_face : (surface : OpenView) (u v f : ℕ) → parent_face_of surface u v ≡ Some f → IsFound surface u v f
+found_face surface u v f e =
+    let h = face_below surface (length surface.mesh.faces) u v f e in
+    record { within = h.0; joined = h.1 }
+
+none_below : (surface : OpenView) (n u v f : ℕ) → parent_face surface n u v ≡ None → f < n
+    → Joins surface.mesh (parent_of surface f) u v → ⊥
+none_below surface zero u v f e l h = absurd (omega arith)
+none_below surface (suc n) u v f e l h =
+    let told = passed (joins u v (whole_parent surface n)) n (parent_face surface n u v) e in
+    elim (cases_eq f n) [
+      | inl same ↦
+          both_ways _ told.0
+          (ends_join u v (whole_parent surface n) (subst (λ (g : ℕ). Joins surface.mesh (parent_of surface g) u v) same h))
+      | inr other ↦ none_below surface n u v f told.1 (omega arith) h
+    ]
+
+pub face_swap : (surface : OpenView) (n u v : ℕ) → parent_face surface n u v ≡ parent_face surface n v u
+face_swap surface zero u v = refl
+face_swap surface (suc n) u v =
+    ap (λ (b : Bool). cond b (Some n) (parent_face surface n u v)) (joins_swap u v (whole_parent surface n))
+    ∙ ap (cond (joins v u (whole_parent surface n)) (Some n)) (face_swap surface n u v)
+
+pub parent_in_mesh : (surface : OpenView) (f : ℕ) → HasParents surface → f < length surface.mesh.faces
+    → IsSide surface.mesh (parent_of surface f)
+parent_in_mesh surface f has l = record { face = l; place = has.within f l }
+
+ends_same : (t h u v low high : ℕ) → ((t ≡ low) × (h ≡ high)) ⊎ ((t ≡ high) × (h ≡ low))
+    → ((u ≡ low) × (v ≡ high)) ⊎ ((u ≡ high) × (v ≡ low))
+    → ((t ≡ u) × (h ≡ v)) ⊎ ((t ≡ v) × (h ≡ u))
+ends_same t h u v low high first second = grind arith
+
+-- two parents are not the two sides of one edge
+no_two_parents : (surface : OpenView) (n f g : ℕ) → ArePartners surface.mesh (parent_of surface f) (parent_of surface g)
+    → EndsOutside surface n f → ⊥
+no_two_parents surface zero f g partners h = h
+no_two_parents surface (suc n) f g partners h =
+    no_two_parents surface n g f (partners_swap surface.mesh (parent_of surface f) (parent_of surface g) partners)
+    (h (parent_of surface g) partners)
+
+one_face : (surface : OpenView) (u v f g : ℕ) → HasParents surface → IsFound surface u v f → IsFound surface u v g → f ≡ g
+one_face surface u v f g has one other =
+    elim (cases_eq f g) [
+      | inl same ↦ same
+      | inr apart ↦
+          absurd
+          (no_two_parents surface (length surface.mesh.faces) f g
+          (record {
+            first = parent_in_mesh surface f has one.within;
+            second = parent_in_mesh surface g has other.within;
+            different = λ same. apart (ap (λ (s : Side). s.face.0) same);
+            one_edge = ends_same _ _ _ _ u v one.joined other.joined;
+          })
+          (has.outside f one.within))
+    ]
+
+pub face_found : (surface : OpenView) (u v f : ℕ) → HasParents surface → IsFound surface u v f → parent_face_of surface u v ≡ Some f
+face_found surface u v f has found = go (parent_face_of surface u v) refl
+  where
+    go : (o : Option ℕ) → parent_face_of surface u v ≡ o → o ≡ Some f
+    go None e = absurd (none_below surface (length surface.mesh.faces) u v f e found.within found.joined)
+    go (Some g) e = ap Some (one_face surface u v g f has (found_face surface u v g e) found)
+
+pub no_face_found : (surface : OpenView) (u v : ℕ) → (IsParentEdge surface u v → ⊥) → parent_face_of surface u v ≡ None
+no_face_found surface u v none = go (parent_face_of surface u v) refl
+  where
+    go : (o : Option ℕ) → parent_face_of surface u v ≡ o → o ≡ None
+    go None e = refl
+    go (Some g) e = let found = found_face surface u v g e in absurd (none (g, found.within, found.joined))
+
+-- a parent's two ends and its two corners: its edge leads from the one to the other, and so does each expansion the other way round
+pub record Ends (surface : OpenView) (f u v : ℕ) : Type 0 where
+  pub rising : Bool
+  pub from : ℕ
+  pub to : ℕ
+  pub from_within : from < length (face_at surface.mesh f)
+  pub at_u : get_or (face_at surface.mesh f) from 0 ≡ u
+  pub at_v : get_or (face_at surface.mesh f) to 0 ≡ v
+  pub far : corner_after rising (length (face_at surface.mesh f)) from (length (face_at surface.mesh f) - 1) ≡ to
+  pub way : expanded surface.mesh (parent_of surface f) u
+      ≡ beyond (face_at surface.mesh f) rising from (length (face_at surface.mesh f) - 1)
+  pub back : expanded surface.mesh (parent_of surface f) v
+      ≡ beyond (face_at surface.mesh f) (not rising) to (length (face_at surface.mesh f) - 1)
+
+-- all steps but one, and all steps but one the other way
+most_falling : (m t : ℕ) → t < m → corner_after false m t (m - 1) ≡ next_corner true m t
+most_falling m t l = sym (meet true m t 1 l (omega arith))
+
+most_rising : (m t : ℕ) → t < m → corner_after true m (next_corner true m t) (m - 1) ≡ t
+most_rising m t l =
+    sym (meet false m (next_corner true m t) 1 (step_within true m t l) (omega arith)) ∙ after_back true m t 1 l
+
+by_test : (test : Bool) (x y : List ℕ) → test ≡ true → cond test x y ≡ x
+by_test test x y e = rw e refl
+
+by_test_not : (test : Bool) (x y : List ℕ) → test ≡ false → cond test x y ≡ y
+by_test_not test x y e = rw e refl
+
+from_tail : (surface : OpenView) (f u : ℕ) → tail_of surface.mesh (parent_of surface f) ≡ u
+    → expanded surface.mesh (parent_of surface f) u
+    ≡ beyond (face_at surface.mesh f) false (parent_of surface f).at (length (face_at surface.mesh f) - 1)
+from_tail surface f u is = by_test _ _ _ (eq-eqb (tail_of surface.mesh (parent_of surface f)) u is)
+
+from_head : (surface : OpenView) (f u : ℕ) → tail_of surface.mesh (parent_of surface f) ≢ u
+    → expanded surface.mesh (parent_of surface f) u
+    ≡ beyond (face_at surface.mesh f) true (next_corner true (length (face_at surface.mesh f)) (parent_of surface f).at)
+    (length (face_at surface.mesh f) - 1)
+from_head surface f u isnt = by_test_not _ _ _ (let test : nat_test ≡ false = grind (arith, nat_tests) in test)
+  where
+    nat_test : Bool
+    nat_test = tail_of surface.mesh (parent_of surface f) == u
+
+pub ends_of : (surface : OpenView) (f u v : ℕ) → HasParents surface → IsFound surface u v f → Ends surface f u v
+ends_of surface f u v has found =
+    let side : Side = parent_of surface f in
+    let ring : List ℕ = face_at surface.mesh f in
+    let m : ℕ = length ring in
+    let next : ℕ = next_corner true m side.at in
+    let within : side.at < m = has.within f found.within in
+    let differ : tail_of surface.mesh side ≢ head_of surface.mesh side =
+    ends_differ surface.mesh side has.valid (parent_in_mesh surface f has found.within) in
+    elim found.joined [
+      | inl e ↦ record {
+        rising = false;
+        from = side.at;
+        to = next;
+        from_within = within;
+        at_u = e.0;
+        at_v = e.1;
+        far = most_falling m side.at within;
+        way = from_tail surface f u e.0;
+        back = from_head surface f v (λ same. differ (same ∙ sym e.1));
+      }
+      | inr e ↦ record {
+        rising = true;
+        from = next;
+        to = side.at;
+        from_within = step_within true m side.at within;
+        at_u = e.1;
+        at_v = e.0;
+        far = most_rising m side.at within;
+        way = from_head surface f u (λ same. differ (same ∙ sym e.1));
+        back = from_tail surface f v e.0;
+      }
+    ]
+
+-- an expansion leads to the other end
+pub expansion_ends : (surface : OpenView) (f u v : ℕ) → HasParents surface → IsFound surface u v f
+    → end_from u (expanded surface.mesh (parent_of surface f) u) ≡ v
+expansion_ends surface f u v has found =
+    let e : Ends surface f u v = ends_of surface f u v has found in
+    let ring : List ℕ = face_at surface.mesh f in
+    let k : ℕ = length ring - 1 in
+    ap (end_from u) e.way ∙ ap (λ (x : ℕ). end_from x (beyond ring e.rising e.from k)) (sym e.at_u)
+    ∙ end_beyond ring e.rising e.from k ∙ ap (λ (c : ℕ). get_or ring c 0) e.far ∙ e.at_v
+
+-- an expansion and the way back along it change nothing
+pub expansion_back : {State : Type 0} (act : State → ℕ → ℕ → State) (At : ℕ → State → Type 0) → Acts act At
+    → (surface : OpenView) (f u v : ℕ) → HasParents surface → IsFound surface u v f → (s : State) → At u s
+    → run act (run act s u (expanded surface.mesh (parent_of surface f) u)) v (expanded surface.mesh (parent_of surface f) v) ≡ s
+expansion_back {State} act At acts surface f u v has found s at =
+    let e : Ends surface f u v = ends_of surface f u v has found in
+    let ring : List ℕ = face_at surface.mesh f in
+    let k : ℕ = length ring - 1 in
+    let there : State = run act s (get_or ring e.from 0) (beyond ring e.rising e.from k) in
+    let start : run act s u (expanded surface.mesh (parent_of surface f) u) ≡ there =
+    ap (run act s u) e.way ∙ ap (λ (x : ℕ). run act s x (beyond ring e.rising e.from k)) (sym e.at_u) in
+    ap (λ (x : State). run act x v (expanded surface.mesh (parent_of surface f) v)) start
+    ∙ ap (run act there v) e.back
+    ∙ ap (λ (x : ℕ). run act there x (beyond ring (not e.rising) e.to k)) (sym e.at_v)
+    ∙ ap (λ (c : ℕ). run act there (get_or ring c 0) (beyond ring (not e.rising) c k)) (sym e.far)
+    ∙ round_and_back act At acts ring e.rising e.from k e.from_within s (subst (λ (x : ℕ). At x s) (sym e.at_u) at)
+
+-- where there and back changes nothing by the base, and inside expansions, so it is one level up
+level_stays : {State : Type 0} (surface : OpenView) (base inner : State → ℕ → ℕ → State) (At : ℕ → State → Type 0) → HasParents surface
+    → Acts base At → Acts inner At → (u v : ℕ) (o : Option ℕ) → parent_face_of surface u v ≡ o → (s : State) → At u s
+    → At v (by_face surface base (λ x. x) inner o s u v)
+level_stays surface base inner At has acts more u v None e s at = acts.stays s u v at
+level_stays surface base inner At has acts more u v (Some f) e s at =
+    let way : List ℕ = expanded surface.mesh (parent_of surface f) u in
+    subst (λ (x : ℕ). At x (run inner s u way)) (expansion_ends surface f u v has (found_face surface u v f e))
+    (run_stays inner At more s u way at)
+
+level_back : {State : Type 0} (surface : OpenView) (base inner : State → ℕ → ℕ → State) (At : ℕ → State → Type 0) → HasParents surface
+    → Acts base At → Acts inner At → (u v : ℕ) (o : Option ℕ) → parent_face_of surface u v ≡ o → (s : State) → At u s
+    → by_face surface base (λ x. x) inner o (by_face surface base (λ x. x) inner o s u v) v u ≡ s
+level_back surface base inner At has acts more u v None e s at = acts.back s u v at
+level_back surface base inner At has acts more u v (Some f) e s at =
+    expansion_back inner At more surface f u v has (found_face surface u v f e) s at
+
+-- where there and back by the base changes nothing, so it is with expansions
+pub acting_acts : {State : Type 0} (surface : OpenView) (base : State → ℕ → ℕ → State) (At : ℕ → State → Type 0) → HasParents surface
+    → Acts base At → (n : ℕ) → Acts (acting surface base (λ s. s) n) At
+acting_acts surface base At has acts zero = acts
+acting_acts {State} surface base At has acts (suc n) =
+    let inner : State → ℕ → ℕ → State = acting surface base (λ x. x) n in
+    let more : Acts inner At = acting_acts surface base At has acts n in
+    record {
+      stays = λ s u v at. level_stays surface base inner At has acts more u v (parent_face_of surface u v) refl s at;
+      back = λ s u v at.
+          ap (λ (o : Option ℕ). by_face surface base (λ x. x) inner o (acting surface base (λ x. x) (suc n) s u v) v u)
+          (face_swap surface (length surface.mesh.faces) v u)
+          ∙ level_back surface base inner At has acts more u v (parent_face_of surface u v) refl s at;
+    }
+
+-- what holds of each dart from u on along a list of vertices
+abbrev pub EachDart : (ℕ → ℕ → Type 0) → ℕ → List ℕ → Type 0
+EachDart P u [] = Unit {0}
+EachDart P u (v ∷ vs) = P u v × EachDart P v vs
+
+pub run_agree : {State : Type 0} (act other : State → ℕ → ℕ → State) (u : ℕ) (vs : List ℕ)
+    → EachDart (λ a b. (s : State) → act s a b ≡ other s a b) u vs → (s : State) → run act s u vs ≡ run other s u vs
+run_agree act other u [] h s = refl
+run_agree act other u (v ∷ vs) h s =
+    ap (λ x. run act x v vs) (h.0 s) ∙ run_agree act other v vs h.1 (other s u v)
+
+pub each_dart : (P Q : ℕ → ℕ → Type 0) → ((a b : ℕ) → P a b → Q a b) → (u : ℕ) (vs : List ℕ) → EachDart P u vs → EachDart Q u vs
+each_dart P Q more u [] h = tt
+each_dart P Q more u (v ∷ vs) h = (more u v h.0, each_dart P Q more v vs h.1)
+
+-- the two vertices are joined by a side of face f other than its parent
+pub record IsAlongOther (surface : OpenView) (f a b : ℕ) : Type 0 where
+  pub place : ℕ
+  pub within : place < length (face_at surface.mesh f)
+  pub other : place ≢ (parent_of surface f).at
+  pub joined : Joins surface.mesh (record { face = record { 0 = f }; at = place }) a b
+
+-- fewer steps than once round lead elsewhere
+elsewhere : (rising : Bool) (m t k : ℕ) → t < m → 0 < k → k < m → corner_after rising m t k ≢ t
+elsewhere true m t k l some few same =
+    elim (cases_lt (t + k) m) [
+      | inl less ↦ omega (arith, rises m t k l less, same)
+      | inr more ↦ omega (arith, rises_past m t k l (omega arith) more, same)
+    ]
+elsewhere false m t k l some few same =
+    elim (cases_lt t k) [
+      | inl less ↦ omega (arith, falls_past m t k l (omega arith) less, same)
+      | inr more ↦ omega (arith, falls m t k l more, same)
+    ]
+
+after_more : (rising : Bool) (m t k : ℕ) → next_corner rising m (corner_after rising m t k) ≡ corner_after rising m t (suc k)
+after_more rising m t k =
+    let up : suc k ≡ k + 1 = omega arith in
+    sym (ap (corner_after rising m t) up ∙ corner_after-add rising m t k 1)
+
+-- rising from the corner behind the parent
+along_rising : (surface : OpenView) (f j k c : ℕ) → HasParents surface → f < length surface.mesh.faces
+    → suc j + k ≤ length (face_at surface.mesh f)
+    → c ≡ corner_after true (length (face_at surface.mesh f)) (parent_of surface f).at (suc j)
+    → EachDart (IsAlongOther surface f) (get_or (face_at surface.mesh f) c 0) (beyond (face_at surface.mesh f) true c k)
+along_rising surface f j zero c has l few is = tt
+along_rising surface f j (suc k) c has l few is =
+    let ring : List ℕ = face_at surface.mesh f in
+    let m : ℕ = length ring in
+    let t : ℕ = (parent_of surface f).at in
+    let within : t < m = has.within f l in
+    let c_within : c < m = subst (λ (x : ℕ). x < m) (sym is) (after_in m t (suc j) within) in (
+      record {
+        place = c;
+        within = c_within;
+        other = λ same. elsewhere true m t (suc j) within (omega arith) (omega arith) (sym is ∙ same);
+        joined = inl (refl, refl);
+      },
+      along_rising surface f (suc j) k (next_corner true m c) has l (omega arith)
+          (ap (next_corner true m) is ∙ after_more true m t (suc j)),
+    )
+  where
+    after_in : (m t k : ℕ) → t < m → corner_after true m t k < m
+    after_in m t zero h = h
+    after_in m t (suc k) h = after_in m (next_corner true m t) k (step_within true m t h)
+
+-- falling from the corner where the parent starts
+along_falling : (surface : OpenView) (f j k c : ℕ) → HasParents surface → f < length surface.mesh.faces
+    → suc j + k ≤ length (face_at surface.mesh f)
+    → c ≡ corner_after false (length (face_at surface.mesh f)) (parent_of surface f).at j → c < length (face_at surface.mesh f)
+    → EachDart (IsAlongOther surface f) (get_or (face_at surface.mesh f) c 0) (beyond (face_at surface.mesh f) false c k)
+along_falling surface f j zero c has l few is c_within = tt
+along_falling surface f j (suc k) c has l few is c_within =
+    let ring : List ℕ = face_at surface.mesh f in
+    let m : ℕ = length ring in
+    let t : ℕ = (parent_of surface f).at in
+    let next : ℕ = next_corner false m c in
+    let next_is : next ≡ corner_after false m t (suc j) = ap (next_corner false m) is ∙ after_more false m t j in
+    let within : next < m = step_within false m c c_within in
+    let home : next_corner true m next ≡ c = after_back false m c 1 c_within in (
+      record {
+        place = next;
+        within = within;
+        other = λ same. elsewhere false m t (suc j) (has.within f l) (omega arith) (omega arith) (sym next_is ∙ same);
+        joined = inr (refl, ap (λ (x : ℕ). get_or ring x 0) home);
+      },
+      along_falling surface f (suc j) k next has l (omega arith) next_is within,
+    )
+
+-- each dart of an expansion goes along another side of the face
+pub expansion_along : (surface : OpenView) (f u v : ℕ) → HasParents surface → IsFound surface u v f
+    → EachDart (IsAlongOther surface f) u (expanded surface.mesh (parent_of surface f) u)
+expansion_along surface f u v has found =
+    let side : Side = parent_of surface f in
+    let ring : List ℕ = face_at surface.mesh f in
+    let m : ℕ = length ring in
+    let within : side.at < m = has.within f found.within in
+    let differ : tail_of surface.mesh side ≢ head_of surface.mesh side =
+    ends_differ surface.mesh side has.valid (parent_in_mesh surface f has found.within) in
+    elim found.joined [
+      | inl e ↦
+          subst (EachDart (IsAlongOther surface f) u) (sym (from_tail surface f u e.0))
+          (subst (λ (x : ℕ). EachDart (IsAlongOther surface f) x (beyond ring false side.at (m - 1))) e.0
+          (along_falling surface f 0 (m - 1) side.at has found.within (omega arith) refl within))
+      | inr e ↦
+          subst (EachDart (IsAlongOther surface f) u) (sym (from_head surface f u (λ same. differ (same ∙ sym e.1))))
+          (subst (λ (x : ℕ). EachDart (IsAlongOther surface f) x (beyond ring true (next_corner true m side.at) (m - 1))) e.1
+          (along_rising surface f 0 (m - 1) (next_corner true m side.at) has found.within (omega arith) refl))
+    ]
+
+-- across that side lies a face further from the outside
+further : (surface : OpenView) (n f g a b : ℕ) → HasParents surface → f < length surface.mesh.faces → IsAlongOther surface f a b
+    → IsFound surface a b g → EndsOutside surface (suc n) g → EndsOutside surface n f
+further surface n f g a b has l along found outside =
+    let side : Side = record { face = record { 0 = f }; at = along.place } in
+    outside side (record {
+      first = parent_in_mesh surface g has found.within;
+      second = record { face = l; place = along.within };
+      different = λ same.
+          let face : g ≡ f = ap (λ (s : Side). s.face.0) same in
+          along.other (sym (ap (λ (s : Side). s.at) same) ∙ ap (λ (h : ℕ). (parent_of surface h).at) face);
+      one_edge = ends_same _ _ _ _ a b found.joined along.joined;
+    })
+
+-- n levels are enough for the edge of the two vertices: its face, if it has one, takes as many crossings as are left
+abbrev IsDeep : OpenView → ℕ → ℕ → ℕ → Type 0
+IsDeep surface n u v =
+    (f : ℕ) → IsFound surface u v f → EndsOutside surface (length surface.mesh.faces - n) f → ⊥
+
+deep_on : (surface : OpenView) (n f a b : ℕ) → HasParents surface → f < length surface.mesh.faces
+    → (EndsOutside surface (length surface.mesh.faces - suc n) f → ⊥) → IsAlongOther surface f a b → IsDeep surface n a b
+deep_on surface n f a b has l deep along g found outside =
+    let count : ℕ = length surface.mesh.faces in
+    elim (cases_lt n count) [
+      | inl less ↦
+          (let up : count - n ≡ suc (count - suc n) = omega arith in
+          deep (further surface (count - suc n) f g a b has l along found (subst (λ (k : ℕ). EndsOutside surface k g) up outside)))
+      | inr more ↦ (let none : count - n ≡ 0 = omega arith in subst (λ (k : ℕ). EndsOutside surface k g) none outside)
+    ]
+
+no_level : {State : Type 0} (surface : OpenView) (base inner : State → ℕ → ℕ → State) (enter : State → State) → HasParents surface
+    → (u v : ℕ) → IsDeep surface 0 u v → (s : State) → (o : Option ℕ) → parent_face_of surface u v ≡ o
+    → base s u v ≡ by_face surface base enter inner o s u v
+no_level surface base inner enter has u v deep s None e = refl
+no_level surface base inner enter has u v deep s (Some f) e =
+    let found = found_face surface u v f e in
+    let all : length surface.mesh.faces - 0 ≡ length surface.mesh.faces = omega arith in
+    absurd (deep f found (subst (λ (k : ℕ). EndsOutside surface k f) (sym all) (has.outside f found.within)))
+
+-- levels that agree inside expansions agree
+levels_agree : {State : Type 0} (surface : OpenView) (base inner other : State → ℕ → ℕ → State) (enter : State → State) → (u v : ℕ)
+    → ((f : ℕ) → IsFound surface u v f → (x : State)
+    → run inner x u (expanded surface.mesh (parent_of surface f) u) ≡ run other x u (expanded surface.mesh (parent_of surface f) u))
+    → (s : State) → (o : Option ℕ) → parent_face_of surface u v ≡ o
+    → by_face surface base enter inner o s u v ≡ by_face surface base enter other o s u v
+levels_agree surface base inner other enter u v agree s None e = refl
+levels_agree surface base inner other enter u v agree s (Some f) e = agree f (found_face surface u v f e) (enter s)
+
+-- one level more changes nothing then
+level_more : {State : Type 0} (surface : OpenView) (base : State → ℕ → ℕ → State) (enter : State → State) → HasParents surface
+    → (n u v : ℕ) → IsDeep surface n u v → (s : State) → acting surface base enter n s u v ≡ acting surface base enter (suc n) s u v
+level_more surface base enter has zero u v deep s =
+    no_level surface base (acting surface base enter 0) enter has u v deep s (parent_face_of surface u v) refl
+level_more {State} surface base enter has (suc n) u v deep s =
+    let one : State → ℕ → ℕ → State = acting surface base enter n in
+    let two : State → ℕ → ℕ → State = acting surface base enter (suc n) in
+    levels_agree surface base one two enter u v
+    (λ f found.
+    let way : List ℕ = expanded surface.mesh (parent_of surface f) u in
+    run_agree one two u way
+    (each_dart (IsAlongOther surface f) (λ a b. (x : State) → one x a b ≡ two x a b)
+    (λ a b along. level_more surface base enter has n a b (deep_on surface n f a b has found.within (deep f found) along)) u way
+    (expansion_along surface f u v has found)))
+    s (parent_face_of surface u v) refl
+
+-- with as many levels as there are faces
+abbrev pub act_fully : {State : Type 0} → OpenView → (State → ℕ → ℕ → State) → (State → State) → State → ℕ → ℕ → State
+act_fully surface base enter = acting surface base enter (length surface.mesh.faces)
+
+pub enough_levels : {State : Type 0} (surface : OpenView) (base : State → ℕ → ℕ → State) (enter : State → State) → HasParents surface
+    → (u v : ℕ) (s : State)
+    → act_fully surface base enter s u v
+    ≡ by_face surface base enter (act_fully surface base enter) (parent_face_of surface u v) s u v
+enough_levels surface base enter has u v s =
+    let none : length surface.mesh.faces - length surface.mesh.faces ≡ 0 = omega arith in
+    level_more surface base enter has (length surface.mesh.faces) u v
+    (λ f found outside. subst (λ (k : ℕ). EndsOutside surface k f) none outside) s
+
+-- a parent edge acts as its expansion
+pub acts_by_expansion : {State : Type 0} (surface : OpenView) (base : State → ℕ → ℕ → State) (enter : State → State) → HasParents surface
+    → (u v f : ℕ) (s : State) → IsFound surface u v f
+    → act_fully surface base enter s u v
+    ≡ run (act_fully surface base enter) (enter s) u (expanded surface.mesh (parent_of surface f) u)
+acts_by_expansion surface base enter has u v f s found =
+    enough_levels surface base enter has u v s
+    ∙ ap (λ (o : Option ℕ). by_face surface base enter (act_fully surface base enter) o s u v) (face_found surface u v f has found)
+
+-- and another edge by the base
+pub acts_by_base : {State : Type 0} (surface : OpenView) (base : State → ℕ → ℕ → State) (enter : State → State) → HasParents surface
+    → (u v : ℕ) (s : State) → (IsParentEdge surface u v → ⊥) → act_fully surface base enter s u v ≡ base s u v
+acts_by_base surface base enter has u v s none =
+    enough_levels surface base enter has u v s
+    ∙ ap (λ (o : Option ℕ). by_face surface base enter (act_fully surface base enter) o s u v) (no_face_found surface u v none)
+
+-- so once round each face from the corner behind its parent changes nothing
+pub faces_nothing : {State : Type 0} (surface : OpenView) (base : State → ℕ → ℕ → State) (At : ℕ → State → Type 0) → HasParents surface
+    → Acts base At → FacesActAsNothing surface.mesh (act_fully surface base (λ s. s)) At
+faces_nothing {State} surface base At has acts = record {
+  corner = λ f l. next_corner true (length (face_at surface.mesh f)) (parent_of surface f).at;
+  within = λ f l. step_within true (length (face_at surface.mesh f)) (parent_of surface f).at (has.within f l);
+  nothing = λ f l s at.
+      let side : Side = parent_of surface f in
+      let ring : List ℕ = face_at surface.mesh f in
+      let m : ℕ = length ring in
+      let next : ℕ = next_corner true m side.at in
+      let tail : ℕ = tail_of surface.mesh side in
+      let head : ℕ = head_of surface.mesh side in
+      let within : side.at < m = has.within f l in
+      let differ : tail ≢ head = ends_differ surface.mesh side has.valid (parent_in_mesh surface f has l) in
+      let found : IsFound surface head tail f = record { within = l; joined = inr (refl, refl) } in
+      let around : State = run act s head (beyond ring true next (m - 1)) in
+      let rest : around ≡ act s head tail =
+      sym (acts_by_expansion surface base (λ x. x) has head tail f s found ∙ ap (run act s head) (from_head surface f head differ)) in
+      let whole : m ≡ (m - 1) + 1 = omega arith in
+      ap (λ (n : ℕ). run act s head (beyond ring true next n)) whole ∙ run-add act s ring true next (m - 1) 1
+      ∙ ap (λ (c : ℕ). act around (get_or ring c 0) (get_or ring (next_corner true m c) 0)) (most_rising m side.at within)
+      ∙ ap (λ (x : State). act x tail head) rest
+      ∙ (acting_acts surface base At has acts (length surface.mesh.faces)).back s head tail at;
+}
+  where
+    act : State → ℕ → ℕ → State
+    act = act_fully surface base (λ s. s)

@@ -1,0 +1,146 @@
+-- Homotopic walks have one normal walk.
+use Rattle.std.proofs.Common.{◌≡◌, ◌≢◌, inl, inr, ℕ, suc, ◌+◌, ◌<◌, List, [], ◌∷◌, ◌++◌, length, get_or, refl, ap, sym, ◌∙◌, subst, arith}
+use Rattle.std.specs.Prelude.{◌↔◌}
+use Rattle.std.proofs.lemmas.Bool.Decides.{nat_tests}
+use Rattle.std.proofs.lemmas.Bool.{cases_eq, eq-eqb}
+use Rattle.surf_model.specs.FaceLists.{FaceList}
+use Rattle.surf_model.specs.FreeWalks.{HasNoSpur}
+use Rattle.surf_model.specs.Moves.{apply, apply_all, Leads, Homotopic}
+use Rattle.surf_model.specs.Rewriting.{way_back}
+use Rattle.surf_model.specs.Walks.{IsWalk}
+use Rattle.surf_model.specs.declared.moves.Move.{Move}
+use Rattle.surf_model.proofs.StackLemmas.{put_on, all_put, put_keeps, spur_same, same_equal}
+use Rattle.surf_model.proofs.ContextLemmas.{first_answer, stays_walk, one_after_another}
+use Rattle.surf_model.proofs.WayBackLemmas.{list_keeps_ends, list_undone}
+use Rattle.free_forms.specs.Parents.{OpenView, HasParents, IsParentEdge}
+use Rattle.free_forms.specs.Normal.{IsNormalWalkOf}
+use Rattle.free_forms.proofs.Actions.{Acts, run, walked, moves_act}
+use Rattle.free_forms.proofs.Expansions.{EachDart, act_fully, acts_by_base, acting_acts, faces_nothing}
+
+-- a stack without spurs, whose top is the vertex
+pub record IsStackAt (v : ℕ) (stack : List ℕ) : Type 0 where
+  pub below : List ℕ
+  pub top : stack ≡ v ∷ below
+  pub no_spur : HasNoSpur stack
+
+abbrev pub put : List ℕ → ℕ → ℕ → List ℕ
+put stack u v = put_on stack v
+
+put_same : (u x v : ℕ) (rest : List ℕ) → x ≡ v → put_on (u ∷ x ∷ rest) v ≡ x ∷ rest
+put_same u x v rest e = rw (eq-eqb x v e) refl
+
+put_other : (u x v : ℕ) (rest : List ℕ) → x ≢ v → put_on (u ∷ x ∷ rest) v ≡ v ∷ u ∷ x ∷ rest
+put_other u x v rest n = grind (arith, nat_tests)
+
+-- the vertex becomes the top
+top_put : (stack : List ℕ) (v : ℕ) → (rest : List ℕ) × (put_on stack v ≡ v ∷ rest)
+top_put [] v = ([], refl)
+top_put (u ∷ []) v = (u ∷ [], refl)
+top_put (u ∷ x ∷ rest) v =
+    elim (cases_eq x v) [
+      | inl e ↦ (rest, put_same u x v rest e ∙ ap (λ (y : ℕ). y ∷ rest) e)
+      | inr n ↦ (u ∷ x ∷ rest, put_other u x v rest n)
+    ]
+
+pub put_at : (stack : List ℕ) (v : ℕ) → HasNoSpur stack → IsStackAt v (put_on stack v)
+put_at stack v clean =
+    let top = top_put stack v in
+    record { below = top.0; top = top.1; no_spur = put_keeps stack v clean }
+
+put_whole : (u : ℕ) (below : List ℕ) → HasNoSpur (u ∷ below) → put_on below u ≡ u ∷ below
+put_whole u [] h = refl
+put_whole u (x ∷ []) h = refl
+put_whole u (x ∷ y ∷ rest) h = put_other x y u rest (λ same. h 0 (omega arith) (sym same))
+
+no_spur_below : (x : ℕ) (stack : List ℕ) → HasNoSpur (x ∷ stack) → HasNoSpur stack
+no_spur_below x stack h k l =
+    let up : suc k + 2 ≡ suc (k + 2) = omega arith in
+    subst (λ (n : ℕ). get_or (x ∷ stack) (suc k) 0 ≢ get_or (x ∷ stack) n 0) up (h (suc k) (omega arith))
+
+-- there and back leaves a stack as it was
+put_back : (u v : ℕ) (below : List ℕ) → HasNoSpur (u ∷ below) → put_on (put_on (u ∷ below) v) u ≡ u ∷ below
+put_back u v below h =
+    let whole : put_on below u ≡ u ∷ below = put_whole u below h in
+    ap (λ (s : List ℕ). put_on (put_on s v) u) (sym whole) ∙ spur_same u v [] below (no_spur_below u below h) ∙ whole
+
+pub puts_act : Acts put IsStackAt
+puts_act = record {
+  stays = λ s u v at. put_at s v at.no_spur;
+  back = λ s u v at.
+      subst (λ (x : List ℕ). put_on (put_on x v) u ≡ x) (sym at.top) (put_back u v at.below (subst HasNoSpur at.top at.no_spur));
+}
+
+-- off the parent edges each vertex is put on
+pub puts_all : (surface : OpenView) → HasParents surface → (s : List ℕ) (u : ℕ) (vs : List ℕ)
+    → EachDart (λ a b. IsParentEdge surface a b → ⊥) u vs → run (act_fully surface put (λ x. x)) s u vs ≡ all_put s vs
+puts_all surface has s u [] h = refl
+puts_all surface has s u (v ∷ vs) h =
+    ap (λ (x : List ℕ). run (act_fully surface put (λ y. y)) x v vs) (acts_by_base surface put (λ y. y) has u v s h.0)
+    ∙ puts_all surface has (put_on s v) v vs h.1
+
+pub off_parents : (surface : OpenView) (u : ℕ) (vs : List ℕ)
+    → ((k : ℕ) → k + 1 < length (u ∷ vs) → IsParentEdge surface (get_or (u ∷ vs) k 0) (get_or (u ∷ vs) (k + 1) 0) → ⊥)
+    → EachDart (λ a b. IsParentEdge surface a b → ⊥) u vs
+off_parents surface u [] h = tt
+off_parents surface u (v ∷ vs) h = (
+  h 0 (omega arith),
+  off_parents surface v vs (λ k l.
+      let next : suc k + 1 ≡ suc (k + 1) = omega arith in
+      subst (λ (n : ℕ). IsParentEdge surface (get_or (v ∷ vs) k 0) (get_or (u ∷ v ∷ vs) n 0) → ⊥) next (h (suc k) (omega arith))),
+)
+
+-- what a walk makes of a stack is what is left where its normal walk is put on
+walk_puts : (surface : OpenView) (walk other stack : List ℕ) → HasParents surface → 0 < length walk → IsNormalWalkOf surface walk other
+    → 0 < length other → HasNoSpur stack
+    → walked (act_fully surface put (λ s. s)) (put_on stack (get_or walk 0 0)) walk ≡ all_put stack other
+walk_puts surface walk [] stack has start h some clean = absurd (omega arith)
+walk_puts surface walk (u ∷ us) stack has start h some clean =
+    let act : List ℕ → ℕ → ℕ → List ℕ = act_fully surface put (λ s. s) in
+    let first : ℕ = get_or walk 0 0 in
+    let same : first ≡ u = (list_keeps_ends surface.mesh h.homotopic.0 walk (u ∷ us) start h.homotopic.1).starts in
+    moves_act surface.mesh act IsStackAt (acting_acts surface put IsStackAt has puts_act (length surface.mesh.faces))
+    (faces_nothing surface put IsStackAt has puts_act) h.homotopic.0 walk (u ∷ us) start h.homotopic.1 (put_on stack first)
+    (put_at stack first clean)
+    ∙ ap (λ (v : ℕ). run act (put_on stack v) u us) same
+    ∙ puts_all surface has (put_on stack u) u us (off_parents surface u us h.normal.no_parent)
+
+-- moves lead to no empty walk
+some_left : (mesh : FaceList) (moves : List Move) (walk next : List ℕ) → 0 < length walk → Leads mesh walk moves next → 0 < length next
+some_left mesh [] walk next start e =
+    let same : walk ≡ next = cc in
+    subst (λ (l : List ℕ). 0 < length l) same start
+some_left mesh (move ∷ moves) walk next start e =
+    let told = first_answer (λ x. apply_all mesh x moves) (apply mesh walk move) next e in
+    some_left mesh moves told.0 next (stays_walk mesh walk told.0 move start told.1) told.2
+
+-- a walk has one normal walk
+pub one_normal : (surface : OpenView) (walk first second : List ℕ) → HasParents surface → 0 < length walk
+    → IsNormalWalkOf surface walk first → IsNormalWalkOf surface walk second → first ≡ second
+one_normal surface walk first second has start one two =
+    let some : 0 < length first = some_left surface.mesh one.homotopic.0 walk first start one.homotopic.1 in
+    let any : 0 < length second = some_left surface.mesh two.homotopic.0 walk second start two.homotopic.1 in
+    same_equal first second one.normal.no_spur two.normal.no_spur (λ stack clean.
+    sym (walk_puts surface walk first stack has start one some clean) ∙ walk_puts surface walk second stack has start two any clean)
+
+-- two walks are homotopic exactly where their normal walks are equal
+pub by_normal_walks : (surface : OpenView) (walk other first second : List ℕ) → HasParents surface → IsWalk surface.mesh walk
+    → IsWalk surface.mesh other → IsNormalWalkOf surface walk first → IsNormalWalkOf surface other second
+    → Homotopic surface.mesh walk other ↔ (first ≡ second)
+by_normal_walks surface walk other first second has is_walk is_other one two =
+    let mesh : FaceList = surface.mesh in (
+      λ joined.
+          one_normal surface walk first second has is_walk.starts one (record {
+            normal = two.normal;
+            homotopic = (
+              joined.0 ++ two.homotopic.0,
+              one_after_another mesh joined.0 two.homotopic.0 walk other second joined.1 two.homotopic.1,
+            );
+          }),
+      λ same.
+          let back : Leads mesh second (way_back mesh two.homotopic.0) other =
+          list_undone mesh two.homotopic.0 other second is_other two.homotopic.1 in (
+            one.homotopic.0 ++ way_back mesh two.homotopic.0,
+            one_after_another mesh one.homotopic.0 (way_back mesh two.homotopic.0) walk first other one.homotopic.1
+                (subst (λ (w : List ℕ). Leads mesh w (way_back mesh two.homotopic.0) other) (sym same) back),
+          ),
+    )

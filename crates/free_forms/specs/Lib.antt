@@ -1,0 +1,4 @@
+pub mod OpenSurfaces
+pub mod Parents
+pub mod Normal
+pub mod Examples

@@ -1,0 +1,4 @@
+//! Surfaces with boundary.
+#![tactic(auto)]
+
+pub mod laws;
