@@ -12,7 +12,8 @@ loop-into-preserved g c =
     let step : IfSome (file_of held name) Step =
     subst (λ (h : Option Files). IfSome (file_of h name) Step) c.loop-into.invariant.held c.in_default-read_piece.ensures.file in
     let SoFar : List ℕ → Type 0 = λ file. Reads c.args.self.now file →
-    Reads c.loop-into.self file × (c.loop-into.into.items ++ left_of c.loop-into.self file ≡ c.args.into.now.items ++ left_of c.args.self.now file) in
+    Reads c.loop-into.self file × (c.loop-into.into.items ++ left_of c.loop-into.self file ≡ c.args.into.now.items
+    ++ left_of c.args.self.now file) in
     let Next : List ℕ → Type 0 = λ file. Reads c.args.self.now file →
     Reads c.read_piece.new.self file
     × (c.extend_from_slice.new.self.items ++ left_of c.read_piece.new.self file ≡ c.args.into.now.items ++ left_of c.args.self.now file) in
@@ -29,7 +30,8 @@ loop-into-preserved g c =
           let passed : Reads c.pass_kept.new.self file =
           pass_kept-reads c.loop-into.self c.pass_kept.new.self file c.pass_kept.ensures.kept so_far.0 (λ ended. cc) in (
             at_told Step (file_of held name) file is step passed,
-            gathered c.loop-into.self c.pass_kept.new.self c.read_piece.new.self file c.loop-into.into.items c.extend_from_slice.new.self.items
+            gathered c.loop-into.self c.pass_kept.new.self c.read_piece.new.self file c.loop-into.into.items
+                c.extend_from_slice.new.self.items
                 (c.args.into.now.items ++ left_of c.args.self.now file) c.kept.result.now so_far.0 so_far.1 items c.kept.ensures
                 c.pass_kept.ensures.kept c.read_piece.ensures.place,
           ));

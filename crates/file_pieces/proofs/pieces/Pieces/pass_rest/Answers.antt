@@ -27,7 +27,8 @@ loop-self-preserved g c =
           told (λ (file : List ℕ). Reads c.args.self.now file → Reads c.read_piece.new.self file) (file_of held name) (λ file is reads.
           at_told Step (file_of held name) file is step
           (pass_kept-reads c.loop-self.self c.pass_kept.new.self file c.pass_kept.ensures.kept
-          (at_told (λ (f : List ℕ). Reads c.args.self.now f → Reads c.loop-self.self f) (file_of held name) file is c.loop-self.invariant.file
+          (at_told (λ (f : List ℕ). Reads c.args.self.now f → Reads c.loop-self.self f) (file_of held name) file is
+          c.loop-self.invariant.file
           reads)
           (λ ended. cc)));
       limit = c.read_piece.ensures.limit ∙ search rules;
