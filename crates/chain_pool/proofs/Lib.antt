@@ -1,0 +1,11 @@
+pub mod Stacks
+pub mod Transfers
+pub mod Singles
+pub mod Lookups
+pub mod Rewrites
+pub mod Soundness
+pub mod Edits
+pub mod Heads
+pub mod Writes
+pub mod Places
+pub mod Lists
