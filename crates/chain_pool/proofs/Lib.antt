@@ -9,3 +9,5 @@ pub mod Heads
 pub mod Writes
 pub mod Places
 pub mod Lists
+pub mod Reading
+pub mod Splices

@@ -11,7 +11,7 @@ option_cases : (found : Option Parted) → (found ≡ None) ⊎ ((parted : Parte
 option_cases None = inl refl
 option_cases (Some parted) = inr (parted, refl)
 
-list_under-is : (lists : List (Option (List ℕ))) (name : ℕ) (list : List ℕ) → under lists name ≡ Some list → list_under lists name ≡ list
+pub list_under-is : (lists : List (Option (List ℕ))) (name : ℕ) (list : List ℕ) → under lists name ≡ Some list → list_under lists name ≡ list
 list_under-is lists name list e = rw e refl
 
 list_under-none : (lists : List (Option (List ℕ))) (name : ℕ) → under lists name ≡ None → list_under lists name ≡ []

@@ -3,7 +3,7 @@ use Rattle.std.proofs.Common.{◌≡◌, ℕ, ◌<◌, List, length, set, Option
 use Rattle.slab.specs.Slab.{Slab, with_value}
 use Rattle.std.specs.Prelude.{IsSome}
 use Rattle.chain_pool.specs.Chains.{under, IsUnder}
-use Rattle.chain_pool.specs.Memory.{Parted, Memory, Owner, Free, Left, Right, memory_of, parted_by, parted_under, chains_of, stack_of, left_of, right_of, IsSound, IsEntry}
+use Rattle.chain_pool.specs.Memory.{Parted, Memory, Owner, Free, Left, Right, memory_of, parted_by, parted_under, chains_of, stack_of, left_of, right_of, IsSound, IsEntry, values}
 use Rattle.chain_pool.specs.declared.cells.Cell.{Cell}
 use Rattle.chain_pool.specs.declared.cells.Cell.TheVariants.{Head, Entry}
 use Rattle.chain_pool.specs.declared.cells.Stack.{Stack}
@@ -68,6 +68,12 @@ module _ (slots : List (Option Cell)) (capacity : ℕ) (free : Stack) (spare : �
     pub behind_len : (chains : List (Option Parted)) → chains_of slots ≡ chains → length (parted_under chains c).behind ≡ r.len
     behind_len chains e =
         ap (λ (p : Parted). length p.behind) (parted_here chains e) ∙ length-right slots capacity free spare sound c l r head
+
+    pub behind_is : (chains : List (Option Parted)) → chains_of slots ≡ chains
+        → (parted_under chains c).behind ≡ values (memory_of slots) r.len r.top
+    behind_is chains e =
+        ap (λ (p : Parted). p.behind) (parted_here chains e)
+        ∙ ap (λ (st : Stack). values (memory_of slots) st.len st.top) (ap right_of head)
 
 -- the head of a chain that is live
 pub record HasHead (cell : Option Cell) : Type 0 where

@@ -82,6 +82,11 @@ values memory (suc count) top = along (memory top) (values memory count)
     along (Some (Head left right)) rest = []
     along None rest = []
 
+-- each of so many cells, from one on along the links, is an entry
+unfoldable pub IsStack : Memory → ℕ → ℕ → Type 0
+IsStack memory zero top = Unit {0}
+IsStack memory (suc count) top = (next : ℕ) × (value : ℕ) × (memory top ≡ Some (Entry next value)) × IsStack memory count next
+
 -- the chain whose head this cell is
 abbrev pub parted_by : Memory → Option Cell → Option Parted
 parted_by memory (Some (Head left right)) =

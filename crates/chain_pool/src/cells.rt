@@ -1,7 +1,8 @@
 //! The cells of a pool: each chain as two stacks of cells that meet at its place, and the free cells as one more.
-ghost use Rattle.std.specs.Prelude.{◌≡◌, ◌+◌, ◌-◌, ◌<◌, ◌≤◌, ◌^◌, [], ◌∷◌, length, reverse, IsSome, Some, None, IsOk, OnOk, OnErr, max};
+ghost use Rattle.std.specs.Prelude.{◌≡◌, ◌+◌, ◌-◌, ◌<◌, ◌≤◌, ◌^◌, [], ◌∷◌, length, reverse, slice_index, IsSome, Some, None, IsOk, OnOk, OnErr, max};
 ghost use Rattle.chain_pool.specs.Chains.{under, IsUnder, IsEdit, IsAlike, cells_in};
 
+use crate::entries::{Entries, Halves};
 use slab::Slab;
 use std::alloc::{AllocError, Global};
 use std::marker::Model;
@@ -16,8 +17,8 @@ pub struct CellName(pub u32);
 /// Cells on one another, each with a link to the one below it.
 #[derive(Clone, Copy)]
 pub struct Stack {
-    top: u32,
-    len: u32,
+    pub top: u32,
+    pub len: u32,
 }
 
 #[derive(Clone, Copy)]
@@ -206,6 +207,30 @@ impl Cells {
         left.len + right.len
     }
 
+    /// Readers of both sides of a chain.
+    pub fn halves(&self, chain: CellName) -> Halves<'_>
+        requires { IsUnder self.now.chains chain.0 }
+        ensures before { result.before ≡ (parted_under self.now.chains chain.0).before }
+        ensures behind { result.behind ≡ (parted_under self.now.chains chain.0).behind }
+    {
+        let (left, right) = head(&self.slots, chain);
+        Halves {
+            before: Entries::new(&self.slots, left),
+            behind: Entries::new(&self.slots, right),
+        }
+    }
+
+    /// The entry at the place of a chain.
+    pub fn next(&self, chain: CellName) -> u32
+        requires live { IsUnder self.now.chains chain.0 }
+        requires behind { 0 < length (parted_under self.now.chains chain.0).behind }
+        ensures { result ≡ slice_index (parted_under self.now.chains chain.0).behind 0 }
+    {
+        let (_, right) = head(&self.slots, chain);
+        let (_, value) = entry(&self.slots, right.top);
+        value
+    }
+
     /// The place of a chain goes on by one entry.
     pub fn advance(&mut self, chain: CellName)
         requires live { IsUnder self.old.chains chain.0 }
@@ -362,7 +387,7 @@ fn head(slots: &Slab<Cell>, chain: CellName) -> (Stack, Stack)
 }
 
 /// The link and the value of a cell that is no head.
-fn entry(slots: &Slab<Cell>, key: u32) -> (u32, u32)
+pub fn entry(slots: &Slab<Cell>, key: u32) -> (u32, u32)
     requires { IsEntry (under slots.now.slots key) }
     ensures { under slots.now.slots key ≡ Some (Cell.Entry result.0 result.1) }
 {

@@ -9,7 +9,9 @@
 #![tactic(auto)]
 
 mod cells;
+mod entries;
 mod pool;
 
 pub use cells::CellName;
+pub use entries::{Entries, Halves};
 pub use pool::Pool;

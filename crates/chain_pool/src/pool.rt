@@ -3,6 +3,7 @@ ghost use Rattle.std.specs.Prelude.{◌≡◌, ◌+◌, ◌-◌, ◌<◌, ◌≤
 ghost use Rattle.chain_pool.specs.Chains.{under, IsEdit, IsAlike, IsLive, list_of, cells_in, inserted, cut, spliced};
 
 use crate::cells::{CellName, Cells};
+use crate::entries::{Entries, Halves};
 use std::alloc::{AllocError, Global};
 use std::marker::Model;
 
@@ -100,4 +101,73 @@ impl Pool {
     {
         self.cells.len(chain)
     }
+
+    /// An entry of a chain. It costs the way from the chain's remembered place.
+    pub fn at(&self, chain: CellName, place: u32) -> u32
+        requires live { IsLive self.now chain.0 }
+        requires place { place < length (list_of self.now chain.0) }
+        ensures { result ≡ slice_index (list_of self.now chain.0) place }
+    {
+        let halves = self.halves(chain);
+        let before = halves.before.len();
+        if place < before {
+            entry_at(halves.before, before - 1 - place)
+        } else {
+            entry_at(halves.behind, place - before)
+        }
+    }
+
+    /// Readers of both sides of a chain's remembered place. The list is the first side turned round, and then the second.
+    pub fn halves(&self, chain: CellName) -> Halves<'_>
+        requires { IsLive self.now chain.0 }
+        ensures { reverse result.before ++ result.behind ≡ list_of self.now chain.0 }
+    {
+        self.cells.halves(chain)
+    }
+
+    /// A chain goes, and all its cells can be taken again.
+    pub fn give_back(&mut self, chain: CellName)
+        requires { IsLive self.old chain.0 }
+        ensures gone { IsEdit self.old.lists self.new.lists chain.0 None }
+        ensures spare { self.new.spare ≡ self.old.spare + length (list_of self.old chain.0) + 1 }
+    {
+        let len = self.len(chain);
+        self.cut_between(chain, 0, len);
+        self.cells.drop_head(chain);
+    }
+
+    /// All entries of another chain are moved in at a place, and the other chain goes. It costs the ways to the place and
+    /// to the start of the other chain, and the other chain's entries.
+    pub fn splice(&mut self, chain: CellName, place: u32, other: CellName)
+        requires live { IsLive self.old chain.0 }
+        requires other_live { IsLive self.old other.0 }
+        requires differ { chain.0 ≢ other.0 }
+        requires place { place ≤ length (list_of self.old chain.0) }
+        ensures list { under self.new.lists chain.0
+            ≡ Some (spliced (list_of self.old chain.0) place (list_of self.old other.0)) }
+        ensures gone { under self.new.lists other.0 ≡ None }
+        ensures others { (name : ℕ) → name ≢ chain.0 → name ≢ other.0 → under self.new.lists name ≡ under self.old.lists name }
+        ensures spare { self.new.spare ≡ self.old.spare + 1 }
+    {
+        self.cells.go_to(chain, place);
+        self.cells.go_to(other, 0);
+        let len = self.cells.len(other);
+        for _i in 0..len {
+            let value = self.cells.next(other);
+            self.cells.cut(other);
+            self.cells.push(chain, value);
+        }
+        self.cells.drop_head(other);
+    }
+}
+
+/// The entry that so many others lie before.
+fn entry_at(mut entries: Entries<'_>, place: u32) -> u32
+    requires { place < length entries }
+    ensures { result ≡ slice_index entries.entry place }
+{
+    for _i in 0..place {
+        entries.next();
+    }
+    entries.next().unwrap()
 }
