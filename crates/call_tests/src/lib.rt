@@ -1,9 +1,18 @@
-//! Public calls that the program does not reach, and its parts on meshes that were worked by hand, with ample memory.
+//! Public calls that the program does not reach, its parts on meshes that were worked by hand, and each call of the outside
+//! that fails, with ample memory.
 //!
 //! They stand here and not beside the code, since a test is proved together with its whole crate.
 #![tactic(auto)]
 
 #[cfg(test)]
+mod files;
+#[cfg(test)]
+mod lifts;
+#[cfg(test)]
 mod models;
 #[cfg(test)]
+mod outputs;
+#[cfg(test)]
 mod splits;
+#[cfg(test)]
+mod words;
