@@ -1,8 +1,10 @@
-//! Public calls that the program does not reach, and its parts on meshes that were worked by hand, with ample memory.
+//! The commands over files in memory, public calls that the program does not reach, and its parts on meshes that were worked by hand.
 //!
 //! They stand here and not beside the code, since a test is proved together with its whole crate.
 #![tactic(auto)]
 
+#[cfg(test)]
+mod answers;
 #[cfg(test)]
 mod models;
 #[cfg(test)]
