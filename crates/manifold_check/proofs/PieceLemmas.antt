@@ -165,7 +165,7 @@ side_inside mesh Inside names side h is =
     let r : IsRenamed mesh names side = renamed mesh Inside names side h is in
     h.corners side.face.0 side.at r.named r.in_mesh.place
 
-edge_of_side : (mesh : FaceList) (side : Side) → IsSide mesh side → is_edge mesh (tail_of mesh side) (head_of mesh side) ≡ true
+pub edge_of_side : (mesh : FaceList) (side : Side) → IsSide mesh side → is_edge mesh (tail_of mesh side) (head_of mesh side) ≡ true
 edge_of_side mesh side is = step_edge mesh side.face.0 true side.at is.face is.place
 
 edge_by_side : (mesh : FaceList) (u v : ℕ) (side : Side) → IsSide mesh side

@@ -5,17 +5,17 @@ use Rattle.std.specs.Prelude.{All, filter, map, flat_map, sum_by}
 use Rattle.std.specs.List.{enumerate_from, range_with_len}
 use Rattle.std.proofs.lemmas.Bool.{cases_Bool, cond-true, cond-false, both_ways}
 use Rattle.std.proofs.lemmas.Bool.Decides.{nat_tests}
-use Rattle.std.proofs.lemmas.List.{length-map, ext_get_or}
+use Rattle.std.proofs.lemmas.List.{length-map, ext_get_or, get_or-map}
 use Rattle.std.proofs.lemmas.List.Elements.{filter-append, All-tail}
 use Rattle.std.proofs.lemmas.List.FromFn.{length-range_with_len, get_or-range_with_len, length-map-range_with_len, get_or-map-range_with_len}
 use Rattle.std.proofs.lemmas.List.Sums.{sum_by-cons, sum_by_more_le}
-use Rattle.surf_model.specs.FaceLists.{FaceList, FaceSide, face_at, next_corner, all_sides, sides_of_face, joins, total_sides}
+use Rattle.surf_model.specs.FaceLists.{FaceList, FaceSide, face_at, next_corner, all_sides, sides_of_face, joins, total_sides, IsFace, IsFaceList}
 use Rattle.surf_model.specs.Surfaces.{sides_between}
 use Rattle.surf_model.proofs.FilterLemmas.{filter-map, filter_none}
 use Rattle.surf_model.proofs.NumberLemmas.{face_side}
 use Rattle.surf_model.proofs.TableLemmas.{next_within}
 use Rattle.manifold_check.specs.Submeshes.{submesh}
-use Rattle.manifold_check.proofs.PieceLemmas.{IsPiece}
+use Rattle.manifold_check.proofs.PieceLemmas.{IsPiece, length-submesh}
 
 -- how many sides of a ring join the two vertices
 abbrev sides_of_ring : ℕ → ℕ → List ℕ → ℕ
@@ -142,3 +142,31 @@ room_for_face mesh Inside names f h l =
       sum_of_fewer size h.test all,
       whole,
     )
+
+-- all together have no more sides either
+total_alone : (mesh : FaceList) (Inside : ℕ → Type 0) (names : List ℕ) → IsPiece mesh Inside names
+    → total_sides (submesh mesh names) ≤ total_sides mesh
+total_alone mesh Inside names h =
+    let all : List ℕ = range_with_len 0 (length mesh.faces) in
+    let size : ℕ → ℕ = λ x. length (face_at mesh x) in
+    let whole : sum_by size all ≡ total_sides mesh =
+    sym (sum_of_map (λ (r : List ℕ). length r) (face_at mesh) all)
+    ∙ ap (λ (fs : List (List ℕ)). sum_by (λ (r : List ℕ). length r) fs) (faces_by_name mesh) in
+    omega (
+      arith,
+      sum_of_map (λ (r : List ℕ). length r) (face_at mesh) names,
+      ap (sum_by size) h.names_are,
+      sum_of_fewer size h.test all,
+      whole,
+    )
+
+-- what holds of each face list of the program holds of the submesh
+pub valid_alone : (mesh : FaceList) (Inside : ℕ → Type 0) (names : List ℕ) → IsPiece mesh Inside names → IsFaceList mesh
+    → IsFaceList (submesh mesh names)
+valid_alone mesh Inside names h valid = record {
+  faces = λ f d l.
+      let few : f < length names = omega (arith, l, length-submesh mesh names) in
+      subst (IsFace mesh.count) (sym (get_or-map (face_at mesh) names f 0 d few)) (valid.faces (get_or names f 0) [] (h.each f few));
+  few_vertices = valid.few_vertices;
+  few_sides = omega (arith, total_alone mesh Inside names h, valid.few_sides);
+}

@@ -44,7 +44,7 @@ partners_up mesh Inside names side other h p =
       ];
     }
 
-partners_down : (mesh : FaceList) (Inside : ℕ → Type 0) (names : List ℕ) (side other : Side) → IsPiece mesh Inside names
+pub partners_down : (mesh : FaceList) (Inside : ℕ → Type 0) (names : List ℕ) (side other : Side) → IsPiece mesh Inside names
     → IsSide (submesh mesh names) side → IsSide (submesh mesh names) other
     → ArePartners mesh (renamed_side names side) (renamed_side names other) → ArePartners (submesh mesh names) side other
 partners_down mesh Inside names side other h is is_other p =
@@ -146,9 +146,30 @@ manifold_alone mesh Inside names h some closed = record {
       one_ring_alone mesh Inside names v h is.1 (closed.one_ring v is.0);
 }
 
-flipped_alike : (names : List ℕ) (signs : List Bool) (f : ℕ) → f < length names
+pub flipped_alike : (names : List ℕ) (signs : List Bool) (f : ℕ) → f < length names
     → is_flipped (signs_among signs names) f ≡ is_flipped signs (get_or names f 0)
 flipped_alike names signs f l = get_or-map (is_flipped signs) names f 0 false l
+
+-- a side starts and ends at the same vertices under the signs
+pub start_alike : (mesh : FaceList) (Inside : ℕ → Type 0) (names : List ℕ) (signs : List Bool) (side : Side) → IsPiece mesh Inside names
+    → IsSide (submesh mesh names) side
+    → start_under (submesh mesh names) (signs_among signs names) side ≡ start_under mesh signs (renamed_side names side)
+start_alike mesh Inside names signs side h is =
+    let r : IsRenamed mesh names side = renamed mesh Inside names side h is in
+    ap (λ b. cond b (head_of (submesh mesh names) side) (tail_of (submesh mesh names) side))
+    (flipped_alike names signs side.face.0 r.named)
+    ∙ ap (λ x. cond (is_flipped signs (get_or names side.face.0 0)) x (tail_of (submesh mesh names) side)) r.head
+    ∙ ap (cond (is_flipped signs (get_or names side.face.0 0)) (head_of mesh (renamed_side names side))) r.tail
+
+pub end_alike : (mesh : FaceList) (Inside : ℕ → Type 0) (names : List ℕ) (signs : List Bool) (side : Side) → IsPiece mesh Inside names
+    → IsSide (submesh mesh names) side
+    → end_under (submesh mesh names) (signs_among signs names) side ≡ end_under mesh signs (renamed_side names side)
+end_alike mesh Inside names signs side h is =
+    let r : IsRenamed mesh names side = renamed mesh Inside names side h is in
+    ap (λ b. cond b (tail_of (submesh mesh names) side) (head_of (submesh mesh names) side))
+    (flipped_alike names signs side.face.0 r.named)
+    ∙ ap (λ x. cond (is_flipped signs (get_or names side.face.0 0)) x (head_of (submesh mesh names) side)) r.tail
+    ∙ ap (cond (is_flipped signs (get_or names side.face.0 0)) (tail_of mesh (renamed_side names side))) r.head
 
 -- and signs that are coherent
 pub coherent_alone : (mesh : FaceList) (Inside : ℕ → Type 0) (names : List ℕ) (signs : List Bool) → IsPiece mesh Inside names
@@ -163,23 +184,3 @@ coherent_alone mesh Inside names signs h c = record {
         ends = end_alike mesh Inside names signs side h p.first ∙ run.ends ∙ sym (start_alike mesh Inside names signs other h p.second);
       };
 }
-  where
-    start_alike : (mesh : FaceList) (Inside : ℕ → Type 0) (names : List ℕ) (signs : List Bool) (side : Side) → IsPiece mesh Inside names
-        → IsSide (submesh mesh names) side
-        → start_under (submesh mesh names) (signs_among signs names) side ≡ start_under mesh signs (renamed_side names side)
-    start_alike mesh Inside names signs side h is =
-        let r : IsRenamed mesh names side = renamed mesh Inside names side h is in
-        ap (λ b. cond b (head_of (submesh mesh names) side) (tail_of (submesh mesh names) side))
-        (flipped_alike names signs side.face.0 r.named)
-        ∙ ap (λ x. cond (is_flipped signs (get_or names side.face.0 0)) x (tail_of (submesh mesh names) side)) r.head
-        ∙ ap (cond (is_flipped signs (get_or names side.face.0 0)) (head_of mesh (renamed_side names side))) r.tail
-
-    end_alike : (mesh : FaceList) (Inside : ℕ → Type 0) (names : List ℕ) (signs : List Bool) (side : Side) → IsPiece mesh Inside names
-        → IsSide (submesh mesh names) side
-        → end_under (submesh mesh names) (signs_among signs names) side ≡ end_under mesh signs (renamed_side names side)
-    end_alike mesh Inside names signs side h is =
-        let r : IsRenamed mesh names side = renamed mesh Inside names side h is in
-        ap (λ b. cond b (tail_of (submesh mesh names) side) (head_of (submesh mesh names) side))
-        (flipped_alike names signs side.face.0 r.named)
-        ∙ ap (λ x. cond (is_flipped signs (get_or names side.face.0 0)) x (head_of (submesh mesh names) side)) r.tail
-        ∙ ap (cond (is_flipped signs (get_or names side.face.0 0)) (tail_of mesh (renamed_side names side))) r.head

@@ -1,7 +1,7 @@
 //! What holds of the components of a mesh, said of the definitions. A call of one of these functions does nothing; its
 //! contract is the law.
 ghost use Rattle.std.specs.Prelude.{◌≡◌, ◌<◌, ◌↔◌, ℕ, Bool, List, All, length, slice_index};
-ghost use Rattle.surf_model.specs.FaceLists.{FaceList, face_at};
+ghost use Rattle.surf_model.specs.FaceLists.{FaceList, IsFaceList, face_at};
 ghost use Rattle.surf_model.specs.Walks.{IsWalk};
 ghost use Rattle.surf_model.specs.Moves.{Leads, Homotopic, greatest_darts};
 ghost use Rattle.surf_model.specs.Surfaces.{IsClosed, IsClosedManifold, IsCoherent};
@@ -57,6 +57,8 @@ pub fn components_are_surfaces()
     ensures coherent { (mesh : FaceList) (parts : PartsView) (part : ℕ) (signs : List Bool) → AreParts mesh parts
         → part < length parts.components → IsCoherent mesh signs
         → IsCoherent (component_mesh mesh parts part) (signs_among signs (component_at parts part)) }
+    ensures valid { (mesh : FaceList) (parts : PartsView) (part : ℕ) → AreParts mesh parts → part < length parts.components
+        → IsFaceList mesh → IsFaceList (component_mesh mesh parts part) }
     ensures faces { (mesh : FaceList) (parts : PartsView) (part : ℕ) → AreParts mesh parts → part < length parts.components
         → All (λ f. f < length mesh.faces) (component_at parts part) }
 {}
