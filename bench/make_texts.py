@@ -40,6 +40,9 @@ def main():
     walk = lambda: " ".join(str(rng.randrange(1, 1000000)) for _ in range(500001))
     write(path("read.walks"), [walk(), walk()])
     write(path("read.words"), (" ".join(str(rng.randrange(8)) for _ in range(1000000)) for _ in range(20)))
+    # Each of the last 500,000 entries of a line turns one long run round.
+    wavering = "0 1 " + "2 " * 499997 + "1" + " 0" * 500000
+    write(path("read.wavering.words"), [wavering] * 20)
 
 
 main()

@@ -1,37 +1,14 @@
 //! The homotopy tester for edge walks on polygon meshes.
 //!
-//! `main` takes the words behind the program's name, and `run` answers them. What it answers is in its contract, by the
-//! definitions of specs/: each command has a file there, with the theorem that a reader looks for first, and `Headline` has
-//! the one of the whole program. Proved: every command returns, and the answers are these.
+//! `main` takes the words behind the program's name, and `commands::run` answers them; what it answers is in the contract there.
 //!
 //!     homotopy_cli decide FILE WALKS
 #![tactic(auto)]
 
-mod certificate;
-mod certify;
-mod command;
-mod decide;
-mod inputs;
-mod laws;
-mod line;
-mod odd_chain_line;
-mod reduce;
-mod refusal;
-mod reply;
-mod run;
-mod status;
-mod stop;
-mod surface;
-mod surface_input;
 #[cfg(test)]
 mod tests;
-mod text;
-mod trial;
-mod verify;
-mod word_lines;
 
-use crate::run::run;
-use crate::status::Status;
+use commands::{Status, run};
 use std::process::ExitCode;
 use std::rt::Env;
 use std::{env, io};

@@ -33,6 +33,3 @@ pub use good::GoodLabelling;
 pub use labelling::Labelling;
 pub use verdict::{DenialVerdict, check_denial};
 pub use word::{are_same_words, word_of};
-
-#[cfg(test)]
-mod tests;

@@ -1,10 +1,8 @@
 -- Edges of a mesh, by its table.
-use Rattle.std.proofs.Common.{◌≡◌, ◌≢◌, ◌⊎◌, inl, inr, ℕ, ◌<◌, true, eqb, List, length, get_or, ap, sym, ◌∙◌, subst, arith}
-use Rattle.std.specs.List.{list_any}
-use Rattle.std.proofs.lemmas.Bool.{eqb-true}
+use Rattle.std.proofs.Common.{◌≡◌, ◌≢◌, ◌⊎◌, inl, inr, ℕ, ◌<◌, true, List, length, ap, sym, ◌∙◌, subst, arith}
 use Rattle.std.proofs.lemmas.Bool.Decides.{nat_tests}
 use Rattle.std.proofs.lemmas.List.Folds.{Any-from_list_any, list_any-from_Any}
-use Rattle.surf_model.specs.FaceLists.{FaceList, FaceSide, IsFace, IsFaceList, all_sides, joins, is_edge, is_used}
+use Rattle.surf_model.specs.FaceLists.{FaceList, FaceSide, IsFaceList, all_sides, joins, is_edge, is_used}
 use Rattle.surf_model.specs.Darts.{IsSide, side_after, tail_of, head_of}
 use Rattle.surf_model.specs.Edges.{Edge, IsTableOf, IsEdgeOf, IsPairBefore, side_name, edge_in}
 use Rattle.surf_model.specs.Surfaces.{sides_between, EachEdgeHasTwoSides}
@@ -12,7 +10,9 @@ use Rattle.surf_model.specs.declared.edges.Side.{Side}
 use Rattle.surf_model.proofs.TableLemmas.{joins_swap}
 use Rattle.surf_model.proofs.TableEdgeLemmas.{IsEdgeBetween, edge_between, table_pair, sides_of_edge, sides_between_swap, same_pair, place_before}
 use Rattle.surf_model.proofs.PartnerLemmas.{IsWholeSide, whole_side}
-use Rattle.manifold_check.proofs.CornerLemmas.{after_in_mesh, ends_differ, corner_used}
+pub use Rattle.surf_model.proofs.EdgeLemmas.{used_below}
+use Rattle.surf_model.proofs.EdgeLemmas.{ends_differ}
+use Rattle.manifold_check.proofs.CornerLemmas.{after_in_mesh, corner_used}
 use Rattle.manifold_check.specs.Faults.{IsLeastUnevenEdge}
 use Rattle.manifold_check.specs.Partitions.{IsFirstUneven}
 
@@ -26,12 +26,12 @@ joins_ends : (u v : ℕ) (s : FaceSide) → joins u v s ≡ true → ((s.tail �
 joins_ends u v s h = grind (arith, nat_tests)
 
 -- some side joins the two vertices of an edge
-record HasSideBetween (mesh : FaceList) (u v : ℕ) : Type 0 where
+pub record HasSideBetween (mesh : FaceList) (u v : ℕ) : Type 0 where
   pub side : Side
   pub in_mesh : IsSide mesh side
   pub ends : ((tail_of mesh side ≡ u) × (head_of mesh side ≡ v)) ⊎ ((tail_of mesh side ≡ v) × (head_of mesh side ≡ u))
 
-side_between : (mesh : FaceList) (u v : ℕ) → is_edge mesh u v ≡ true → HasSideBetween mesh u v
+pub side_between : (mesh : FaceList) (u v : ℕ) → is_edge mesh u v ≡ true → HasSideBetween mesh u v
 unfolding is_edge
 side_between mesh u v is =
     let any = Any-from_list_any (joins u v) (all_sides mesh) is in
@@ -63,15 +63,6 @@ edge_differs mesh u v valid is same =
       | inl e ↦ e.0 ∙ same ∙ sym e.1
       | inr e ↦ e.0 ∙ sym same ∙ sym e.1
     ])
-
-pub used_below : (mesh : FaceList) (v : ℕ) → IsFaceList mesh → is_used mesh v ≡ true → v < mesh.count
-unfolding is_used
-used_below mesh v h is =
-    let face = Any-from_list_any (λ (face : List ℕ). list_any (λ corner. eqb corner v) face) mesh.faces is in
-    let corner = Any-from_list_any (λ corner. eqb corner v) face.1 face.4 in
-    let is_face : IsFace mesh.count face.1 = subst (IsFace mesh.count) face.3 (h.faces face.0 face.1 face.2) in
-    let below : get_or face.1 corner.0 corner.1 < mesh.count = is_face.in_range corner.0 corner.1 corner.2 in
-    omega (arith, below, corner.3, eqb-true corner.1 v corner.4)
 
 pub ends_below : (mesh : FaceList) (table : List Edge) (k : ℕ) → IsFaceList mesh → IsTableOf mesh table → k < length table
     → ((edge_in table k).low < mesh.count) × ((edge_in table k).high < mesh.count)

@@ -3,9 +3,9 @@ use Rattle.std.proofs.Common.{◌≡◌, ◌⊎◌, inl, inr, ℕ, refl, ap, sym
 use Rattle.std.proofs.lemmas.Bool.{cases_lt, cases_eq}
 use Rattle.surf_model.specs.FaceLists.{FaceList}
 use Rattle.surf_model.specs.Edges.{IsPairBefore}
-use Rattle.surf_model.specs.Surfaces.{IsClosed, sides_between}
+use Rattle.surf_model.specs.Surfaces.{IsClosed, IsClosedManifold, sides_between}
 use Rattle.surf_model.specs.declared.names.VertexName.{VertexName}
-use Rattle.manifold_check.specs.Faults.{IsFirstFault, IsLeastUnevenEdge, IsLeastPinch, IsLeastUsed, AreLeastApart}
+use Rattle.manifold_check.specs.Faults.{IsFirstFault, IsManifoldFault, IsLeastUnevenEdge, IsLeastPinch, IsLeastUsed, AreLeastApart}
 use Rattle.manifold_check.specs.declared.fault.SurfaceFault.{SurfaceFault}
 use Rattle.manifold_check.specs.declared.fault.SurfaceFault.TheVariants.{NoFace, EdgeSides, Pinched, Apart, OutOfMemory}
 
@@ -111,3 +111,20 @@ no_fault mesh (EdgeSides low high sides) closed h =
 no_fault mesh (Pinched vertex) closed h = h.vertex.pinched (closed.one_ring vertex.0 h.vertex.used)
 no_fault mesh (Apart vertex other) closed h = h.vertices.apart (closed.connected vertex.0 other.0 h.vertices.vertex.used h.vertices.used)
 no_fault mesh OutOfMemory closed h = h
+
+-- a fault of a closed manifold is the first of a closed surface too
+pub manifold_fault_first : (mesh : FaceList) (fault : SurfaceFault) → IsManifoldFault mesh fault → IsFirstFault mesh fault
+manifold_fault_first mesh NoFace h = h
+manifold_fault_first mesh (EdgeSides low high sides) h = h
+manifold_fault_first mesh (Pinched vertex) h = h
+manifold_fault_first mesh (Apart vertex other) h = absurd h
+manifold_fault_first mesh OutOfMemory h = absurd h
+
+-- a closed manifold has none
+pub no_manifold_fault : (mesh : FaceList) (fault : SurfaceFault) → IsClosedManifold mesh → IsManifoldFault mesh fault → ⊥
+no_manifold_fault mesh NoFace closed h = omega (arith, closed.some_face)
+no_manifold_fault mesh (EdgeSides low high sides) closed h =
+    uneven_not_two mesh low.0 high.0 sides h.edge (closed.two_sides low.0 high.0 h.edge.edge)
+no_manifold_fault mesh (Pinched vertex) closed h = h.vertex.pinched (closed.one_ring vertex.0 h.vertex.used)
+no_manifold_fault mesh (Apart vertex other) closed h = h
+no_manifold_fault mesh OutOfMemory closed h = h

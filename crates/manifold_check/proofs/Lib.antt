@@ -1,6 +1,14 @@
 pub mod Forests
 pub mod Joining
 pub mod EdgeLemmas
+pub mod PieceLemmas
+pub mod PieceMoves
+pub mod PieceSides
+pub mod PieceSurfaces
+pub mod PartPieces
+pub mod NumberLemmas
+pub mod Grouping
+pub mod StoredParts
 pub mod WalkLemmas
 pub mod FaultLemmas
 pub mod ComponentLemmas

@@ -3,7 +3,8 @@ use Rattle.std.proofs.Common.{◌≡◌, ◌⊎◌, inl, inr, ℕ, zero, suc, �
 use Rattle.std.proofs.lemmas.Bool.{cases_Bool, cases_lt, cases_eq, both_ways}
 use Rattle.surf_model.specs.FaceLists.{FaceList, IsFaceList, is_edge, is_used}
 use Rattle.surf_model.specs.Surfaces.{IsClosed, EachEdgeHasTwoSides, HasOneRing, AreJoinedByWalk, sides_between}
-use Rattle.manifold_check.specs.Faults.{IsFirstFault, IsLeastUsed, EachVertexHasOneRing, EachTwoAreJoined}
+use Rattle.surf_model.specs.Components.{EachTwoAreJoined}
+use Rattle.manifold_check.specs.Faults.{IsFirstFault, IsLeastUsed, EachVertexHasOneRing}
 use Rattle.manifold_check.specs.declared.fault.SurfaceFault.{SurfaceFault}
 use Rattle.manifold_check.specs.declared.fault.SurfaceFault.TheVariants.{NoFace, EdgeSides, Pinched, Apart}
 use Rattle.surf_model.proofs.TableEdgeLemmas.{sides_between_swap}

@@ -19,7 +19,8 @@ use Rattle.manifold_check.specs.Links.{IsJoinedAcross}
 use Rattle.manifold_check.specs.Partitions.{JoinsOnlyByCornerSteps, IsCornerStep, AreRings}
 use Rattle.manifold_check.proofs.Joining.{length-joined_at, joined_at_ends, joined_at_keeps, joins_only-joined_at, joins_only-alone}
 use Rattle.manifold_check.proofs.EdgeLemmas.{table_from_two_sides}
-use Rattle.manifold_check.proofs.CornerLemmas.{number_below, number_once, corner_in_mesh, corner_end, one_corner, ends_differ, partners_swap, step_across}
+use Rattle.manifold_check.proofs.CornerLemmas.{number_below, number_once, corner_in_mesh, corner_end, one_corner, partners_swap, step_across}
+use Rattle.surf_model.proofs.EdgeLemmas.{ends_differ}
 
 -- the partner of a side, by its number; there is no other
 pub record HasPartner (mesh : FaceList) (side : Side) (n : ℕ) : Type 0 where

@@ -10,10 +10,6 @@ use Rattle.manifold_check.specs.declared.fault.SurfaceFault.TheVariants.{NoFace,
 abbrev pub EachVertexHasOneRing : FaceList → Type 0
 EachVertexHasOneRing mesh = (v : ℕ) → IsTrue (is_used mesh v) → HasOneRing mesh v
 
--- any two used vertices are joined by a walk
-abbrev pub EachTwoAreJoined : FaceList → Type 0
-EachTwoAreJoined mesh = (u v : ℕ) → IsTrue (is_used mesh u) → IsTrue (is_used mesh v) → AreJoinedByWalk mesh u v
-
 -- the least edge, by its lower and then by its higher vertex, that is not the edge of exactly two sides, with their number
 pub record IsLeastUnevenEdge (mesh : FaceList) (low high sides : ℕ) : Type 0 where
   pub ordered : low < high
@@ -50,6 +46,14 @@ pub record IsPinchFault (mesh : FaceList) (v : ℕ) : Type 0 where
   pub some_face : 0 < length mesh.faces
   pub two_sides : EachEdgeHasTwoSides mesh
   pub vertex : IsLeastPinch mesh v
+
+-- the condition of the fault is the first of a closed manifold that fails, and its element is the least
+abbrev pub IsManifoldFault : FaceList → SurfaceFault → Type 0
+IsManifoldFault mesh NoFace = length mesh.faces ≡ 0
+IsManifoldFault mesh (EdgeSides low high sides) = IsEdgeFault mesh low.0 high.0 sides
+IsManifoldFault mesh (Pinched vertex) = IsPinchFault mesh vertex.0
+IsManifoldFault mesh (Apart vertex other) = ⊥
+IsManifoldFault mesh OutOfMemory = ⊥
 
 -- two vertices are apart, where each vertex has one ring too
 pub record IsApartFault (mesh : FaceList) (u v : ℕ) : Type 0 where

@@ -2,4 +2,6 @@ pub mod Classes
 pub mod Partitions
 pub mod Links
 pub mod Faults
+pub mod Submeshes
+pub mod ComponentParts
 pub mod Examples

@@ -1,8 +1,8 @@
 //! What the definitions of this crate say together. The functions do nothing.
 ghost use Rattle.std.specs.Prelude.{◌≡◌};
 ghost use Rattle.surf_model.specs.FaceLists.{FaceList, IsFaceList};
-ghost use Rattle.surf_model.specs.Surfaces.{IsClosed};
-ghost use Rattle.manifold_check.specs.Faults.{IsFirstFault};
+ghost use Rattle.surf_model.specs.Surfaces.{IsClosed, IsClosedManifold};
+ghost use Rattle.manifold_check.specs.Faults.{IsFirstFault, IsManifoldFault};
 ghost use Rattle.manifold_check.specs.declared.fault.SurfaceFault.{SurfaceFault};
 
 /// A face list has at most one first fault.
@@ -19,4 +19,11 @@ pub fn closed_without_fault()
 pub fn closed_or_fault()
     ensures { (mesh : FaceList) → IsFaceList mesh → (IsClosed mesh → ⊥)
         → ((fault : SurfaceFault) → IsFirstFault mesh fault → ⊥) → ⊥ }
+{}
+
+/// A face list has at most one first fault of a closed manifold, and a closed manifold has none.
+pub fn manifold_or_fault()
+    ensures one { (mesh : FaceList) (fault other : SurfaceFault) → IsManifoldFault mesh fault → IsManifoldFault mesh other
+        → fault ≡ other }
+    ensures none { (mesh : FaceList) (fault : SurfaceFault) → IsClosedManifold mesh → IsManifoldFault mesh fault → ⊥ }
 {}

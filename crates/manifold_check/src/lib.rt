@@ -14,6 +14,10 @@ mod components;
 pub mod fault;
 pub mod laws;
 mod links;
+mod numbering;
+pub mod part_laws;
+pub mod parts;
 
-pub use check::check_closed;
+pub use check::{check_closed, check_manifold};
 pub use fault::SurfaceFault;
+pub use parts::Parts;

@@ -26,6 +26,3 @@ mod tree_way;
 pub use expanding::{MOST_LIFTED_DARTS, MOST_LIFTED_SIDES, expand};
 pub use lifted::{Lifted, reduce_free};
 pub use lifting::lift;
-
-#[cfg(test)]
-mod tests;

@@ -15,6 +15,3 @@ mod ring;
 
 pub use mesh::read_off;
 pub use off_fault::OffFault;
-
-#[cfg(test)]
-mod tests;

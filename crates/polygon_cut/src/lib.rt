@@ -17,6 +17,3 @@ mod turning;
 
 pub use cutting::cut;
 pub use polygon::{Polygon, PolygonNumbers};
-
-#[cfg(test)]
-mod tests;

@@ -15,6 +15,3 @@ pub mod laws;
 
 pub use from_polygon::FromPolygon;
 pub use labellings::{Denial, GoodLabelling, LabelFault, Labelling, check_labelling};
-
-#[cfg(test)]
-mod tests;

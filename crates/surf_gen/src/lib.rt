@@ -19,6 +19,3 @@ mod walks;
 pub use limits::{LEAST_GRID, MOST_GENUS, MOST_GRID};
 pub use text::chain_of_tori;
 pub use walks::{TrialPair, WalkPair, trial_pair};
-
-#[cfg(test)]
-mod tests;

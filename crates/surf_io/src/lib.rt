@@ -38,6 +38,3 @@ pub use read::{ReadEnd, read_whole};
 pub use shelf::Shelf;
 pub use sink::Sink;
 pub use write::write_whole;
-
-#[cfg(test)]
-mod tests;

@@ -1,9 +1,13 @@
 -- Edges of a mesh without its table: both ways, between used vertices, and round each face.
-use Rattle.std.proofs.Common.{◌≡◌, ◌⊎◌, inl, inr, ℕ, ◌<◌, Bool, true, false, length, get_or, refl, sym, ◌∙◌, subst, arith}
+use Rattle.std.proofs.Common.{◌≡◌, ◌≢◌, ◌⊎◌, inl, inr, ℕ, ◌<◌, Bool, true, false, eqb, List, [], length, get_or, refl, sym, ◌∙◌, subst, arith}
 use Rattle.std.specs.Prelude.{Contains}
+use Rattle.std.specs.List.{list_any}
+use Rattle.std.proofs.lemmas.Bool.{eqb-true}
 use Rattle.std.proofs.lemmas.Bool.Decides.{nat_tests}
 use Rattle.std.proofs.lemmas.List.Folds.{Any-from_list_any, list_any-from_Any}
-use Rattle.surf_model.specs.FaceLists.{FaceList, FaceSide, face_at, all_sides, next_corner, joins, is_edge, is_used}
+use Rattle.surf_model.specs.FaceLists.{FaceList, FaceSide, IsFace, IsFaceList, face_at, all_sides, next_corner, joins, is_edge, is_used}
+use Rattle.surf_model.specs.Darts.{IsSide, tail_of, head_of}
+use Rattle.surf_model.specs.declared.edges.Side.{Side}
 use Rattle.surf_model.proofs.NumberLemmas.{face_side}
 use Rattle.surf_model.proofs.TableLemmas.{joins_swap, list_any_agree, joins_names, names, names_mesh, face_side_in, next_within}
 
@@ -60,3 +64,16 @@ step_edge mesh f false t in_list in_face =
 pub corner_used : (mesh : FaceList) (f t : ℕ) → f < length mesh.faces → t < length (face_at mesh f)
     → is_used mesh (get_or (face_at mesh f) t 0) ≡ true
 corner_used mesh f t in_list in_face = tail_used mesh _ _ (ring_edge mesh f t in_list in_face)
+
+-- the two ends of a side are different vertices
+pub ends_differ : (mesh : FaceList) (side : Side) → IsFaceList mesh → IsSide mesh side → tail_of mesh side ≢ head_of mesh side
+ends_differ mesh side valid h = (valid.faces side.face.0 [] h.face).neighbours side.at h.place
+
+pub used_below : (mesh : FaceList) (v : ℕ) → IsFaceList mesh → is_used mesh v ≡ true → v < mesh.count
+unfolding is_used
+used_below mesh v h is =
+    let face = Any-from_list_any (λ (face : List ℕ). list_any (λ corner. eqb corner v) face) mesh.faces is in
+    let corner = Any-from_list_any (λ corner. eqb corner v) face.1 face.4 in
+    let is_face : IsFace mesh.count face.1 = subst (IsFace mesh.count) face.3 (h.faces face.0 face.1 face.2) in
+    let below : get_or face.1 corner.0 corner.1 < mesh.count = is_face.in_range corner.0 corner.1 corner.2 in
+    omega (arith, below, corner.3, eqb-true corner.1 v corner.4)

@@ -10,6 +10,7 @@ pub mod FreeWalks
 pub mod Edges
 pub mod Darts
 pub mod Surfaces
+pub mod Components
 pub mod EdgeDarts
 pub mod EdgeLists
 pub mod Building

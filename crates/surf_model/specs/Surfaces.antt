@@ -69,6 +69,12 @@ pub record IsWalkBetween (mesh : FaceList) (u v : ℕ) (walk : List ℕ) : Type 
 abbrev pub AreJoinedByWalk : FaceList → ℕ → ℕ → Type 0
 AreJoinedByWalk mesh u v = (walk : List ℕ) × IsWalkBetween mesh u v walk
 
+-- a closed manifold, in one piece or in several: the first three conditions
+pub record IsClosedManifold (mesh : FaceList) : Type 0 where
+  pub some_face : 0 < length mesh.faces
+  pub two_sides : EachEdgeHasTwoSides mesh
+  pub one_ring : (v : ℕ) → IsTrue (is_used mesh v) → HasOneRing mesh v
+
 -- a closed surface: the first four conditions
 pub record IsClosed (mesh : FaceList) : Type 0 where
   pub some_face : 0 < length mesh.faces

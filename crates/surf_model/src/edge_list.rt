@@ -3,7 +3,7 @@ ghost use Rattle.std.specs.Prelude.{◌≡◌, ◌+◌, ◌<◌, ◌≤◌, [], 
 ghost use Rattle.surf_model.specs.EdgeLists.{dart_edge_in, dart_count, dart_of};
 ghost use Rattle.surf_model.specs.declared.limits.TheConstants.{MOST_SIDES};
 
-use crate::listed_parts::start_of;
+use crate::counting::start_of;
 use crate::names::{DartName, VertexName};
 use std::alloc::{AllocError, Global};
 use std::marker::Model;

@@ -17,6 +17,7 @@
 mod blocks;
 mod building;
 pub mod chains;
+pub mod counting;
 mod edge_list;
 pub mod edges;
 mod ends;

@@ -6,18 +6,6 @@ ghost use Rattle.surf_model.specs.declared.limits.TheConstants.{MOST_SIDES};
 use std::alloc::{AllocError, Global};
 use std::marker::Model;
 
-/// Where a part starts: where the one before it ends.
-pub(crate) fn start_of(ends: &[u32], part: u32) -> u32
-    requires { part < length ends.now }
-    ensures { result ≡ slice_index (0 ∷ ends.now) part }
-{
-    if part == 0 {
-        0
-    } else {
-        ends[part as usize - 1]
-    }
-}
-
 /// The places where the parts end, seen as the list of these places.
 ///
 /// The part of every sixteenth place is marked, so that the part of any place is found in a few steps where parts are

@@ -20,6 +20,3 @@ mod steps;
 pub use cursor::Cursor;
 pub use line_by_line::{Line, Lines, Words};
 pub use naturals::{NumberFault, is_number_text, natural, number, signed};
-
-#[cfg(test)]
-mod tests;

@@ -10,10 +10,8 @@ use Rattle.std.proofs.lemmas.List.Folds.{list_any_at}
 use Rattle.std.proofs.lemmas.List.Quantifiers.{Any-push, all_pairs_push}
 use Rattle.surf_model.specs.FaceLists.{FaceList, FaceSide, IsFaceList, all_sides, joins, is_edge}
 use Rattle.surf_model.specs.Edges.{Edge, IsEdgeOf, IsPairBefore, IsTableOf, side_name}
-use Rattle.surf_model.proofs.EdgeLemmas.{edge_swap, tail_used, head_used}
+use Rattle.surf_model.proofs.EdgeLemmas.{edge_swap, tail_used, head_used, ends_differ, used_below}
 use Rattle.surf_model.proofs.ListedLemmas.{IsListed, all_listed}
-use Rattle.manifold_check.proofs.CornerLemmas.{ends_differ}
-use Rattle.manifold_check.proofs.EdgeLemmas.{used_below}
 
 -- the edge of two vertices
 edge_of_pair : FaceList → ℕ → ℕ → Edge

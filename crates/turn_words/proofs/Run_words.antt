@@ -298,6 +298,12 @@ written-within rs k h =
     ∙ length-append (written (take (k + 1) rs)) (written (drop (k + 1) rs)) in
     omega arith
 
+-- no run is empty
+pub filled-at : (rs : List (ℕ × ℕ)) (k : ℕ) → AreFilled rs → k < length rs → 0 < (get_or rs k (0, 0)).1
+filled-at [] k filled below = absurd (omega arith)
+filled-at (r ∷ rs) zero filled below = filled.0
+filled-at (r ∷ rs) (suc k) filled below = filled-at rs k filled.1 (omega arith)
+
 -- two pairs are equal where their numbers are
 pub pair-decides : (a b : ℕ × ℕ) → Decides (eqb a.0 b.0 && eqb a.1 b.1) (a ≡ b)
 pair-decides a b = elim (cases_eq a.0 b.0) [

@@ -1,5 +1,5 @@
 //! The form for degrees from 5 on.
-ghost use Rattle.std.specs.Prelude.{◌≡◌, ◌+◌, ◌-◌, ◌^◌, ◌<◌, ◌≤◌, ⊤, All, length, reverse, IsOk, OnOk, IfOk};
+ghost use Rattle.std.specs.Prelude.{◌≡◌, ◌+◌, ◌-◌, ◌^◌, ◌<◌, ◌≤◌, ⊤, All, length, reverse, IsOk, OnOk, OnErr, IfOk};
 ghost use Rattle.turn_words.specs.Canonical.{turns_of};
 ghost use Rattle.turn_words.specs.Hyper_states.{empty_state, hyper_next, value_at, BelongsTo, LeadOn};
 ghost use Rattle.turn_words.specs.Put_turns.{put};
@@ -60,6 +60,7 @@ impl Hyper {
         ensures spare { OnOk result (spokes ≤ self.new.spare) }
         ensures state { self.new.state ≡ self.old.state }
         ensures kept { self.old.spare ≤ self.new.spare }
+        ensures refused { OnErr result (self.new ≡ self.old) }
     {
         self.word.reserve(spokes)
     }

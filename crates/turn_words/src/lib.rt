@@ -35,6 +35,3 @@ pub use run_stack::RunStack;
 pub use step::Step;
 pub use wheel::{Wheel, WheelFault};
 pub use word::{TurnWord, Word};
-
-#[cfg(test)]
-mod tests;

@@ -56,6 +56,7 @@ impl RunStack {
         ensures runs { self.new.runs ≡ self.old.runs }
         ensures kept { self.old.spare ≤ self.new.spare }
         ensures sure { runs ≤ self.old.spare → IsOk result }
+        ensures refused { OnErr result (self.new ≡ self.old) }
     {
         self.pairs.reserve(runs as usize)
     }

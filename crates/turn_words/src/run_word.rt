@@ -1,5 +1,5 @@
 //! A turn word that is kept as runs, and the edits at its end.
-ghost use Rattle.std.specs.Prelude.{◌≡◌, ◌+◌, ◌^◌, ◌<◌, ◌≤◌, ◌++◌, ◌∷◌, ◌↔◌, [], length, reverse, replicate, IsOk, OnOk, IfOk, IsTrue, vec_len, vec_capacity};
+ghost use Rattle.std.specs.Prelude.{◌≡◌, ◌+◌, ◌^◌, ◌<◌, ◌≤◌, ◌++◌, ◌∷◌, ◌↔◌, [], length, reverse, replicate, IsOk, OnOk, OnErr, IfOk, IsTrue, vec_len, vec_capacity};
 ghost use Rattle.turn_words.specs.Canonical.{turns_of};
 ghost use Rattle.turn_words.specs.Put_turns.{is_open};
 ghost use Rattle.turn_words.specs.Runs.{AreRunsOf};
@@ -70,6 +70,7 @@ impl RunWord {
         ensures room { OnOk result (length self.new.word + entries + 1 ≤ self.new.room) }
         ensures kept { self.old.room ≤ self.new.room }
         ensures sure { length self.old.word + entries + 1 ≤ self.old.room → IsOk result }
+        ensures refused { OnErr result (self.new ≡ self.old) }
     {
         let runs = u64::from(self.len) + u64::from(entries) + 1 - self.runs.len();
         self.runs.reserve(runs)
@@ -122,7 +123,7 @@ impl RunWord {
         if self.len == 0 {
             return Ok(TurnWord::new(alloc));
         }
-        let mut entries = Vec::with_capacity(alloc, self.len as usize)?;
+        let mut entries = Vec::with_capacity(alloc, self.len as usize + 1)?;
         entries.push_reserved(self.start);
         for (value, count) in self.runs.as_slice() {
             push_copies(&mut entries, *value, *count);
@@ -237,20 +238,21 @@ impl RunWord {
     }
 }
 
-/// Puts copies of an entry last, for which there is room.
+/// Puts copies of an entry last, at least one, for which there is room and for one entry more.
 #[inline(always)]
 fn push_copies(word: &mut Vec<u32>, entry: u32, count: u32)
-    requires room { vec_len word.old + count ≤ vec_capacity word.old }
+    requires some { 0 < count }
+    requires room { vec_len word.old + count < vec_capacity word.old }
     ensures items { word.new.items ≡ word.old.items ++ replicate count entry }
     ensures len { vec_len word.new ≡ vec_len word.old + count }
     ensures capacity { vec_capacity word.new ≡ vec_capacity word.old }
 {
-    // Most runs have one entry.
-    if count == 1 {
+    // Most runs have one entry. That no branch asks which have saves time: a second one is put, and taken off.
+    let end = word.len() + count as usize;
+    word.push_reserved(entry);
+    word.push_reserved(entry);
+    for _ in 2..count {
         word.push_reserved(entry);
-        return;
     }
-    for _ in 0..count {
-        word.push_reserved(entry);
-    }
+    word.truncate(end);
 }

@@ -38,8 +38,3 @@ pub use walk_list::WalkList;
 pub use walks::read_walks;
 pub use words::read_words;
 pub use write::write_moves;
-
-#[cfg(test)]
-mod denial_tests;
-#[cfg(test)]
-mod tests;

@@ -13,6 +13,3 @@ mod labels;
 pub use deciding::{Answer, decide};
 pub use labellings::{DenialVerdict, check_denial, fold, word_of};
 pub use labels::label_surface;
-
-#[cfg(test)]
-mod tests;

@@ -1,6 +1,6 @@
-use Rattle.std.proofs.Common.{arith, ◌≡◌, ◌<◌, ◌+◌, ◌∙◌, ℕ, ap, sym, ◌++◌, length, take, get_or, replicate, append_assoc, List, vec_len, vec_capacity}
-use Rattle.turn_words.specs.Runs.{written}
-use Rattle.turn_words.proofs.Run_words.{length-written, written-next, written-within}
+use Rattle.std.proofs.Common.{arith, ◌≡◌, ◌<◌, ◌+◌, ◌∙◌, ℕ, ap, sym, subst, ◌++◌, length, take, get_or, replicate, append_assoc, List, vec_len, vec_capacity}
+use Rattle.turn_words.specs.Runs.{written, AreFilled}
+use Rattle.turn_words.proofs.Run_words.{filled-at, length-written, written-next, written-within}
 use Rattle.turn_words.proofs.run_word.RunWord.written.Goals as goal
 
 pub push_copies-requires : goal.push_copies-requires
@@ -13,9 +13,12 @@ push_copies-requires c =
     let long = c.self.invariant.some some in
     let same : length (written runs) ≡ length (written c.self.inside.runs.runs) =
     ap (λ (z : List (ℕ × ℕ)). length (written z)) c.as_slice-value-items.ensures.runs in
-    let exact : vec_capacity c.in_ok-entries.entries ≡ c.self.inside.len = c.in_ok-entries.ensures.exact in
+    let exact : vec_capacity c.in_ok-entries.entries ≡ c.self.inside.len + 1 = c.in_ok-entries.ensures.exact in
     let none : vec_len c.in_ok-entries.entries ≡ 0 = c.in_ok-entries.ensures.len in
+    let filled : AreFilled runs = subst (λ z. AreFilled z) (sym c.as_slice-value-items.ensures.runs)
+    c.as_slice-value-items.ensures.filled in
     record {
+      some = filled-at runs k filled below;
       room = omega (
         arith,
         c.loop-value.invariant.size,

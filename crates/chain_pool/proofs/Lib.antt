@@ -1,0 +1,13 @@
+pub mod Stacks
+pub mod Transfers
+pub mod Singles
+pub mod Lookups
+pub mod Rewrites
+pub mod Soundness
+pub mod Edits
+pub mod Heads
+pub mod Writes
+pub mod Places
+pub mod Lists
+pub mod Reading
+pub mod Splices

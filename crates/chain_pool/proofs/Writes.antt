@@ -1,0 +1,94 @@
+-- What the functions over cells know of the slab that they write, and of the chain that they are given.
+use Rattle.std.proofs.Common.{◌≡◌, ℕ, ◌<◌, List, length, set, Option, Some, None, refl, sym, ap, subst, ◌∙◌, arith}
+use Rattle.slab.specs.Slab.{Slab, with_value}
+use Rattle.std.specs.Prelude.{IsSome}
+use Rattle.chain_pool.specs.Chains.{under, IsUnder}
+use Rattle.chain_pool.specs.Memory.{Parted, Memory, Owner, Free, Left, Right, memory_of, parted_by, parted_under, chains_of, stack_of, left_of, right_of, IsSound, IsEntry, values}
+use Rattle.chain_pool.specs.declared.cells.Cell.{Cell}
+use Rattle.chain_pool.specs.declared.cells.Cell.TheVariants.{Head, Entry}
+use Rattle.chain_pool.specs.declared.cells.Stack.{Stack}
+use Rattle.chain_pool.proofs.Lookups.{under-map}
+use Rattle.chain_pool.proofs.Rewrites.{chain_at_head}
+use Rattle.chain_pool.proofs.Soundness.{parted_under-is, length-left, length-right}
+use Rattle.chain_pool.proofs.Stacks.{IsOwned-top}
+use Rattle.chain_pool.proofs.Transfers.{content}
+
+-- a slab after two writes
+pub record Written (new old : Slab Cell) (now : List (Option Cell)) : Type 0 where
+  pub slots : new.slots ≡ now
+  pub capacity : new.capacity ≡ old.capacity
+
+pub once_written : (old new : Slab Cell) (x : ℕ) (cell : Cell) → new ≡ with_value old x cell → Written new old (set old.slots x (Some cell))
+once_written old new x cell e = record {
+  slots = ap (λ (s : Slab Cell). s.slots) e;
+  capacity = ap (λ (s : Slab Cell). s.capacity) e;
+}
+
+pub twice_written : (old mid new : Slab Cell) (x c : ℕ) (cell other : Cell) → mid ≡ with_value old x cell → new ≡ with_value mid c other
+    → Written new old (set (set old.slots x (Some cell)) c (Some other))
+twice_written old mid new x c cell other first second = record {
+  slots = ap (λ (s : Slab Cell). s.slots) second ∙ ap (λ (s : Slab Cell). set s.slots c (Some other)) first;
+  capacity = ap (λ (s : Slab Cell). s.capacity) second ∙ ap (λ (s : Slab Cell). s.capacity) first;
+}
+
+module _ (slots : List (Option Cell)) (capacity : ℕ) (free : Stack) (spare : ℕ) (sound : IsSound slots capacity free spare) where
+  an_entry : (cell : Option Cell) (next value : ℕ) → cell ≡ Some (Entry next value) → IsEntry cell
+  an_entry cell next value e = subst IsEntry (sym e) tt
+
+  top_entry : (s : Owner) → 0 < (stack_of (memory_of slots) free s).len → IsEntry (under slots (stack_of (memory_of slots) free s).top)
+  top_entry s some =
+      let top = IsOwned-top (memory_of slots) sound.owners s _ _ some (sound.stacks s) in
+      an_entry _ top.next top.value top.entry
+
+  pub free_entry : 0 < free.len → IsEntry (under slots free.top)
+  free_entry some = top_entry Free some
+
+  module _ (c : ℕ) (l r : Stack) (head : under slots c ≡ Some (Head l r)) where
+    pub left_entry : 0 < l.len → IsEntry (under slots l.top)
+    left_entry some =
+        let same : left_of (under slots c) ≡ l = ap left_of head in
+        subst (λ (st : Stack). IsEntry (under slots st.top)) same (top_entry (Left c) (omega (arith, some, ap (λ (st : Stack). st.len) same)))
+
+    pub right_entry : 0 < r.len → IsEntry (under slots r.top)
+    right_entry some =
+        let same : right_of (under slots c) ≡ r = ap right_of head in
+        subst (λ (st : Stack). IsEntry (under slots st.top)) same (top_entry (Right c) (omega (arith, some, ap (λ (st : Stack). st.len) same)))
+
+    parted_here : (chains : List (Option Parted)) → chains_of slots ≡ chains
+        → parted_under chains c
+        ≡ record { before = content (memory_of slots) free (Left c); behind = content (memory_of slots) free (Right c) }
+    parted_here chains e =
+        ap (λ (now : List (Option Parted)). parted_under now c) (sym e)
+        ∙ parted_under-is (chains_of slots) c _ (chain_at_head slots free c l r head)
+
+    pub before_len : (chains : List (Option Parted)) → chains_of slots ≡ chains → length (parted_under chains c).before ≡ l.len
+    before_len chains e =
+        ap (λ (p : Parted). length p.before) (parted_here chains e) ∙ length-left slots capacity free spare sound c l r head
+
+    pub behind_len : (chains : List (Option Parted)) → chains_of slots ≡ chains → length (parted_under chains c).behind ≡ r.len
+    behind_len chains e =
+        ap (λ (p : Parted). length p.behind) (parted_here chains e) ∙ length-right slots capacity free spare sound c l r head
+
+    pub behind_is : (chains : List (Option Parted)) → chains_of slots ≡ chains
+        → (parted_under chains c).behind ≡ values (memory_of slots) r.len r.top
+    behind_is chains e =
+        ap (λ (p : Parted). p.behind) (parted_here chains e)
+        ∙ ap (λ (st : Stack). values (memory_of slots) st.len st.top) (ap right_of head)
+
+-- the head of a chain that is live
+pub record HasHead (cell : Option Cell) : Type 0 where
+  pub left : Stack
+  pub right : Stack
+  pub is : cell ≡ Some (Head left right)
+
+headed : (memory : Memory) (cell : Option Cell) → IsSome (parted_by memory cell) → HasHead cell
+headed memory (Some (Head left right)) live = record { left = left; right = right; is = refl }
+headed memory (Some (Entry next value)) live = absurd (cc)
+headed memory None live = absurd (cc)
+
+pub head_of : (slots : List (Option Cell)) (chains : List (Option Parted)) (name : ℕ) → chains_of slots ≡ chains → IsUnder chains name
+    → HasHead (under slots name)
+head_of slots chains name same live =
+    headed (memory_of slots) (under slots name)
+    (subst (λ (found : Option Parted). IsSome found) (under-map (parted_by (memory_of slots)) refl slots name)
+    (subst (λ (now : List (Option Parted)). IsUnder now name) (sym same) live))

@@ -1,0 +1,58 @@
+use Rattle.std.proofs.Common.{◌≡◌, ◌<◌, ap, arith}
+use Rattle.chain_pool.specs.Memory.{PartedChains, chains_of}
+use Rattle.chain_pool.proofs.Edits.{cut_edits}
+use Rattle.chain_pool.proofs.Soundness.{few}
+use Rattle.chain_pool.proofs.Writes.{twice_written, right_entry, behind_len}
+use Rattle.chain_pool.proofs.cells.Cells.cut.Goals as goal
+use Rattle.chain_pool.proofs.cells.Cells.cut.Goals.{After-head}
+
+view : (c : After-head) → chains_of c.self.inside.slots.slots ≡ c.args.self.now.chains
+view c = ap (λ (v : PartedChains). v.chains) c.self.view_is
+
+some : (c : After-head) → 0 < c.head.result.1.len
+some c =
+    let same = behind_len c.self.inside.slots.slots c.self.inside.slots.capacity c.self.inside.free c.self.inside.spare c.self.invariant
+    c.args.chain.0 c.head.result.0 c.head.result.1 c.head.ensures c.args.self.now.chains (view c) in
+    omega (arith, same, c.requires.behind)
+
+pub entry-next-requires : goal.entry-next-requires
+entry-next-requires c =
+    right_entry c.self.inside.slots.slots c.self.inside.slots.capacity c.self.inside.free c.self.inside.spare c.self.invariant
+    c.args.chain.0 c.head.result.0 c.head.result.1 c.head.ensures (some (goal.at.entry-next-requires c).After-head)
+
+pub overflow_add-self : goal.overflow_add-self
+overflow_add-self c =
+    omega (
+      arith,
+      some (goal.at.overflow_add-self c).After-head,
+      c.self.invariant.made,
+      few c.self.inside.slots.slots c.self.inside.slots.capacity c.self.inside.free c.self.inside.spare c.self.invariant
+          c.args.chain.0 c.head.result.0 c.head.result.1 c.head.ensures,
+    )
+
+pub overflow_sub-right : goal.overflow_sub-right
+overflow_sub-right c = omega (arith, some (goal.at.overflow_sub-right c).After-head)
+
+pub overflow_add-self-2 : goal.overflow_add-self-2
+overflow_add-self-2 c =
+    omega (
+      arith,
+      some (goal.at.overflow_add-self-2 c).After-head,
+      few c.self.inside.slots.slots c.self.inside.slots.capacity c.self.inside.free c.self.inside.spare c.self.invariant
+          c.args.chain.0 c.head.result.0 c.head.result.1 c.head.ensures,
+    )
+
+pub invariant_of-self : goal.invariant_of-self
+invariant_of-self c =
+    let written = twice_written c.self.inside.slots c.write.new.slots c.write-2.new.slots _ _ _ _ c.write.ensures c.write-2.ensures in
+    rw (written.slots, written.capacity) (cut_edits c.self.inside.slots.slots c.self.inside.slots.capacity c.self.inside.free c.self.inside.spare
+    c.self.invariant c.args.chain.0 c.head.result.0 c.head.result.1 c.head.ensures c.entry-next.result.0 c.entry-next.result.1
+    c.entry-next.ensures (some (goal.at.invariant_of-self c).After-head)).sound
+
+pub returns-clause-chain : goal.returns-clause-chain
+returns-clause-chain c =
+    let written = twice_written c.self.inside.slots c.write.new.slots c.write-2.new.slots _ _ _ _ c.write.ensures c.write-2.ensures in
+    let same : chains_of c.self.inside.slots.slots ≡ c.args.self.now.chains = view (goal.at.returns-clause-chain c).After-head in
+    rw (written.slots, ← same) (cut_edits c.self.inside.slots.slots c.self.inside.slots.capacity c.self.inside.free c.self.inside.spare
+    c.self.invariant c.args.chain.0 c.head.result.0 c.head.result.1 c.head.ensures c.entry-next.result.0 c.entry-next.result.1
+    c.entry-next.ensures (some (goal.at.returns-clause-chain c).After-head)).edit

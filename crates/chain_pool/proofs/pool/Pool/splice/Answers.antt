@@ -1,0 +1,60 @@
+use Rattle.std.proofs.Common.{◌≤◌, length, is_some, Option, ap, ◌∙◌, arith}
+use Rattle.chain_pool.specs.Chains.{Chains, list_under}
+use Rattle.chain_pool.specs.Memory.{Parted}
+use Rattle.chain_pool.proofs.Splices.{IsSplicedTo-none, IsSplicedTo-more, IsSplicedTo-left, IsSplicedTo-total, IsSplicedTo-empty, IsSplicedTo-done, IsSplicedTo-others}
+use Rattle.chain_pool.proofs.pool.Pool.splice.Goals as goal
+use Rattle.chain_pool.proofs.pool.Pool.splice.Goals.{After-loop-i}
+
+pub loop-i-init : goal.loop-i-init
+loop-i-init c =
+    let start = IsSplicedTo-none c.args.self.now c.self.inside.cells c.go_to.new.self c.go_to-2.new.self c.args.chain.0 c.args.place
+    c.args.other.0 c.requires.differ (ap (λ (v : Chains). v.lists) c.self.view_is) (ap (λ (v : Chains). v.spare) c.self.view_is)
+    c.go_to.ensures.chain c.go_to-2.ensures.chain c.go_to.ensures.spare c.go_to-2.ensures.spare in
+    (start, c.len-len.ensures ∙ IsSplicedTo-total c.args.self.now c.go_to-2.new.self c.args.chain.0 c.args.place c.args.other.0 start)
+
+pub next-value-requires-clause-live : goal.next-value-requires-clause-live
+next-value-requires-clause-live c = ap (λ (o : Option Parted). is_some o) c.loop-i.invariant.0.there
+
+pub next-value-requires-clause-behind : goal.next-value-requires-clause-behind
+next-value-requires-clause-behind c =
+    omega (
+      arith,
+      IsSplicedTo-left c.args.self.now c.loop-i.self-inside.cells c.args.chain.0 c.args.place c.args.other.0 c.loop-i._i
+          c.loop-i.invariant.0,
+      c.loop-i.invariant.1,
+      c.loop-i-test.true,
+    )
+
+pub push-requires-clause-live : goal.push-requires-clause-live
+push-requires-clause-live c =
+    ap (λ (o : Option Parted). is_some o) (c.cut.ensures.chain.others c.args.chain.0 c.requires.differ ∙ c.loop-i.invariant.0.here)
+
+pub loop-i-preserved : goal.loop-i-preserved
+loop-i-preserved c = (
+  IsSplicedTo-more c.args.self.now c.loop-i.self-inside.cells c.cut.new.self c.push.new.self c.args.chain.0 c.args.place c.args.other.0
+      c.loop-i._i c.next-value.result c.requires.differ c.loop-i.invariant.0 (omega (arith, c.loop-i.invariant.1, c.loop-i-test.true))
+      c.next-value.ensures c.cut.ensures.chain c.push.ensures.chain
+      (omega (arith, c.cut.ensures.spare, c.push.ensures.spare)),
+  c.loop-i.invariant.1,
+)
+
+all : (c : After-loop-i) → c.len-len.result ≤ c.loop-i._i → length (list_under c.args.self.now.lists c.args.other.0) ≤ c.loop-i._i
+all c le = omega (arith, le, c.loop-i.invariant.1)
+
+pub drop_head-requires-clause-live : goal.drop_head-requires-clause-live
+drop_head-requires-clause-live c = ap (λ (o : Option Parted). is_some o) c.loop-i.invariant.0.there
+
+pub drop_head-requires-clause-empty : goal.drop_head-requires-clause-empty
+drop_head-requires-clause-empty c =
+    IsSplicedTo-empty c.args.self.now c.loop-i.self-inside.cells c.args.chain.0 c.args.place c.args.other.0 c.loop-i._i
+    c.loop-i.invariant.0 (all (goal.at.drop_head-requires-clause-empty c).After-loop-i (omega arith))
+
+pub returns-clause-list : goal.returns-clause-list
+returns-clause-list c =
+    IsSplicedTo-done c.args.self.now c.loop-i.self-inside.cells c.drop_head.new.self c.args.chain.0 c.args.place c.args.other.0 c.loop-i._i
+    c.requires.differ c.loop-i.invariant.0 (all (goal.at.returns-clause-list c).After-loop-i (omega arith)) c.drop_head.ensures.chain
+
+pub returns-clause-others : goal.returns-clause-others
+returns-clause-others c =
+    IsSplicedTo-others c.args.self.now c.loop-i.self-inside.cells c.drop_head.new.self c.args.chain.0 c.args.place c.args.other.0 c.loop-i._i
+    c.loop-i.invariant.0 c.drop_head.ensures.chain

@@ -1,0 +1,146 @@
+-- `certify` in the words of the mesh.
+use Rattle.std.proofs.Common.{◌≡◌, ℕ, ◌+◌, ◌<◌, ◌≤◌, true, false, List, [], ◌∷◌, refl, sym, ap, ◌∙◌, subst, arith}
+use Rattle.std.specs.Prelude.{◌↔◌, nat_lt, Option, Some, None}
+use Rattle.std.proofs.lemmas.Bool.Decides.{nat_tests}
+use Rattle.surf_io.specs.Files.{Files}
+use Rattle.surf_model.specs.FaceLists.{FaceList, total_sides}
+use Rattle.surf_model.specs.Moves.{Homotopic}
+use Rattle.surf_model.specs.Walks.{darts}
+use Rattle.move_lifting.specs.declared.expanding.TheConstants.{MOST_LIFTED_SIDES, MOST_LIFTED_DARTS}
+use Rattle.walk_translate.specs.declared.deciding.Answer as deciding
+use Rattle.walk_translate.specs.declared.deciding.Answer.TheVariants as answers
+use Rattle.commands.proofs.Certifying.{after_surface, after_pair, after_limits, limited}
+use Rattle.commands.proofs.Deciding.{behind, refused_behind, differs}
+use Rattle.commands.proofs.Rows.{one_row, sound-pair, sound-surface_in, surface_told, pair_told, unless_told, spelled_pair, spelled_surface}
+use Rattle.commands.proofs.Sound.{held, sound-found, sound-pass_unless}
+use Rattle.commands.specs.Answers.{Answer, Exactly}
+use Rattle.commands.specs.Certificates.{decision_status}
+use Rattle.commands.specs.Certify.{IsCertifyInput, IsWithinLimits, IsCertificatePrinted, IsCertified, limit_fault, certified, sides_line, certificate_answer, darts_line}
+use Rattle.commands.specs.Checks.{Refuse, Pass, found_or}
+use Rattle.commands.specs.Commands.{Certify, IsRow, answer_to}
+use Rattle.commands.specs.Inputs.{pair_in, SpellsMesh, SpellsPair}
+use Rattle.commands.specs.Outcomes.{Outcome, IsOutcome, IsAnswerOf}
+use Rattle.commands.specs.Refusals.{wrong_words}
+use Rattle.commands.specs.SurfaceInput.{surface_in}
+use Rattle.commands.specs.declared.status.Status.{Status}
+use Rattle.commands.specs.declared.status.Status.TheVariants.{Yes, No, Refused}
+
+-- a refusal that such an outcome is
+refused_so : (line : List ℕ) (outcome : Outcome) (status : Status) (text : List ℕ) → outcome ≡ Refuse (Exactly line)
+    → IsAnswerOf outcome status text → (status ≡ Refused) × (text ≡ line)
+refused_so line outcome status text e answer =
+    let a : IsAnswerOf (Refuse (Exactly line)) status text = subst (λ (o : Outcome). IsAnswerOf o status text) e answer in
+    (a.status_is, a.text_is)
+
+-- the limits, as the check has them
+no_limit : (mesh : FaceList) (first second : List ℕ) → IsWithinLimits mesh first second → limit_fault mesh first second ≡ None
+no_limit mesh first second within =
+    let sides : nat_lt MOST_LIFTED_SIDES (total_sides mesh) ≡ false = let few = within.sides in grind (arith, nat_tests) in
+    let few : nat_lt MOST_LIFTED_DARTS (darts first + darts second) ≡ false = let few = within.few in grind (arith, nat_tests) in
+    rw (sides, few) refl
+
+side_limit : (mesh : FaceList) (first second : List ℕ) → MOST_LIFTED_SIDES < total_sides mesh
+    → limit_fault mesh first second ≡ Some (sides_line mesh)
+side_limit mesh first second many =
+    let sides : nat_lt MOST_LIFTED_SIDES (total_sides mesh) ≡ true = grind (arith, nat_tests) in
+    rw sides refl
+
+dart_limit : (mesh : FaceList) (first second : List ℕ) → total_sides mesh ≤ MOST_LIFTED_SIDES
+    → MOST_LIFTED_DARTS < darts first + darts second
+    → limit_fault mesh first second ≡ Some (darts_line first second)
+dart_limit mesh first second few many =
+    let sides : nat_lt MOST_LIFTED_SIDES (total_sides mesh) ≡ false = grind (arith, nat_tests) in
+    let long : nat_lt MOST_LIFTED_DARTS (darts first + darts second) ≡ true = grind (arith, nat_tests) in
+    rw (sides, long) refl
+
+-- what the end of the check tells
+no_and_yes : No ≡ Yes → ⊥
+no_and_yes e = cc
+
+pub record IsAnsweredSo (mesh : FaceList) (first second : List ℕ) (status : Status) (text : List ℕ) : Type 0 where
+  pub answered : IsCertificatePrinted mesh first second status text
+  pub exactly : (status ≡ Yes) ↔ Homotopic mesh first second
+
+status_tells : {P : Type 0} (decision : deciding.Answer) (status : Status) → status ≡ decision_status decision
+    → (decision ≡ answers.Homotopic) ↔ P
+    → (status ≡ Yes) ↔ P
+status_tells answers.Homotopic status e right = ((λ _. right.0 refl), (λ _. e))
+status_tells answers.Different status e right =
+    ((λ yes. absurd (no_and_yes (sym e ∙ yes))), (λ h. absurd (differs (right.1 h))))
+
+by_certified : (mesh : FaceList) (first second : List ℕ) (outcome : Outcome) (status : Status) (text : List ℕ)
+    → (certified mesh first second).Ends outcome
+    → IsAnswerOf outcome status text → IsAnsweredSo mesh first second status text
+by_certified mesh first second (Refuse texts) status text p answer = absurd p
+by_certified mesh first second (Pass x) status text p answer =
+    let here : IsAnswerOf (Pass (certificate_answer mesh first second p.0)) status text =
+    subst (λ (y : Answer). IsAnswerOf (Pass y) status text) p.1 answer in
+    let shown = here.text_is in
+    record {
+      answered =
+          record {
+            shown = shown.0;
+            convinces = shown.1;
+            status_is = here.status_is ∙ ap decision_status (sym shown.2);
+            text_is = shown.3;
+          };
+      exactly = status_tells p.0 status here.status_is p.2;
+    }
+
+-- ---- such an input
+
+module _ (files : Option Files) (words : List (List ℕ)) (mesh : FaceList) (first second : List ℕ) (outcome : Outcome) (status : Status)
+    (text : List ℕ)
+    (is : IsOutcome files words outcome) (answer : IsAnswerOf outcome status text)
+    (input : IsCertifyInput files words mesh first second) where
+  two : List (List ℕ)
+  two = first ∷ second ∷ []
+
+  -- as such words end, the checks behind the walks do
+  behind_walks : (after_pair mesh two).Ends outcome
+  unfolding two
+  behind_walks =
+      let row = behind files (found_or wrong_words (IsRow words)) (answer_to files) (Certify input.mesh_name input.walks_name) outcome
+      (sound-found files _ _ (one_row words)) tt input.words_are is in
+      let walks = behind files (surface_in files input.mesh_name) (after_surface files input.walks_name) mesh outcome
+      (sound-surface_in files input.mesh_name)
+      (surface_told files input.mesh_name (held files input.mesh_name (SpellsMesh mesh) input.mesh_file).told)
+      (spelled_surface files input.mesh_name mesh input.mesh_file input.is_surface) row in
+      behind files (pair_in files input.walks_name mesh) (after_pair mesh) two outcome (sound-pair files input.walks_name mesh)
+      (pair_told files input.walks_name mesh (held files input.walks_name (SpellsPair mesh first second) input.walks_file).told)
+      (spelled_pair files input.walks_name mesh first second input.walks_file) walks
+
+  pub answers_input : IsWithinLimits mesh first second → IsAnsweredSo mesh first second status text
+  unfolding two
+  answers_input within =
+      by_certified mesh first second outcome status text
+      (behind files (limited mesh two) (after_limits mesh two) two outcome
+      (sound-pass_unless files (λ line. Exactly line) (limit_fault mesh first second) two)
+      (unless_told files (λ line. Exactly line) (limit_fault mesh first second) two) (rw (no_limit mesh first second within) refl)
+      behind_walks) answer
+
+  pub refuses_input : (line : List ℕ) → limit_fault mesh first second ≡ Some line → (status ≡ Refused) × (text ≡ line)
+  unfolding two
+  refuses_input line e =
+      refused_so line outcome status text
+      (refused_behind files (limited mesh two) (after_limits mesh two) (Exactly line) outcome
+      (sound-pass_unless files (λ line. Exactly line) (limit_fault mesh first second) two)
+      (unless_told files (λ line. Exactly line) (limit_fault mesh first second) two) (rw e refl) behind_walks) answer
+
+-- what is answered of such an input
+pub certified_so : (files : Option Files) (words : List (List ℕ)) (outcome : Outcome) (status : Status) (text : List ℕ)
+    → IsOutcome files words outcome
+    → IsAnswerOf outcome status text → IsCertified files words status text
+certified_so files words outcome status text is answer =
+    record {
+      answered = λ mesh first second input within. (answers_input files words mesh first second outcome status text is answer input
+          within).answered;
+      exactly = λ mesh first second input within. (answers_input files words mesh first second outcome status text is answer input
+          within).exactly;
+      many_sides = λ mesh first second input many.
+          refuses_input files words mesh first second outcome status text is answer input (sides_line mesh)
+          (side_limit mesh first second many);
+      many_darts = λ mesh first second input few many.
+          refuses_input files words mesh first second outcome status text is answer input (darts_line first second)
+          (dart_limit mesh first second few many);
+    }

@@ -1,0 +1,142 @@
+-- The outcome of a list of words, and what is told of a run.
+use Rattle.std.proofs.Common.{◌≡◌, ◌⊎◌, inl, inr, ℕ, List, refl, subst}
+use Rattle.std.specs.Prelude.{Option, Result, Ok, Err, MatchResult}
+use Rattle.surf_io.specs.Files.{Files}
+use Rattle.commands.specs.declared.reply.Reply.TheVariants as replies
+use Rattle.commands.specs.declared.stop.Stop.TheVariants as stops
+use Rattle.commands.proofs.CertifyOutcomes.{certified_so}
+use Rattle.commands.proofs.Checking.{stops_next, told_stops}
+use Rattle.commands.proofs.DecideOutcomes.{decides}
+use Rattle.commands.proofs.HeadlineLemmas.{headline}
+use Rattle.commands.proofs.ReduceOutcomes.{reduced}
+use Rattle.commands.proofs.Rows.{sound-words}
+use Rattle.commands.proofs.SurfaceOutcomes.{measured}
+use Rattle.commands.proofs.TrialOutcomes.{tried}
+use Rattle.commands.proofs.VerifyOutcomes.{verified, denial_verified}
+use Rattle.commands.specs.Certify.{IsCertified}
+use Rattle.commands.specs.Checks.{Refuse, Pass, found_or}
+use Rattle.commands.specs.Commands.{Row, IsRow, answer_to}
+use Rattle.commands.specs.Decide.{IsDecided}
+use Rattle.commands.specs.Headline.{Headline}
+use Rattle.commands.specs.Outcomes.{Outcome, answer_of, IsOutcome, IsAnswerOf, Answers}
+use Rattle.commands.specs.Reduce.{IsReduced}
+use Rattle.commands.specs.Refusals.{wrong_words}
+use Rattle.commands.specs.Replies.{Replies, reply_status, reply_text, Runs}
+use Rattle.commands.specs.Statuses.{IsAnswered}
+use Rattle.commands.specs.Stops.{Stops, Tells}
+use Rattle.commands.specs.Surface.{IsMeasured}
+use Rattle.commands.specs.Trial.{IsTried}
+use Rattle.commands.specs.Verify.{IsDenialVerified, IsVerified}
+use Rattle.commands.specs.declared.reply.Reply.{Reply}
+use Rattle.commands.specs.declared.status.Status.{Status}
+use Rattle.commands.specs.declared.status.Status.TheVariants.{WriteFault}
+use Rattle.commands.specs.declared.stop.Stop.{Stop}
+use Rattle.commands.specs.declared.text.Text.{Text}
+
+-- what is answered by an outcome is answered exactly, where the files are told
+pub answers : (files : Option Files) (words : List (List ℕ)) (outcome : Outcome) (status : Status) (text : List ℕ)
+    → IsOutcome files words outcome
+    → IsAnswerOf outcome status text → Answers files words status text
+answers files words outcome status text is answer =
+    record {
+      outcome = outcome;
+      is_outcome = is;
+      is_answer = answer;
+      exact = λ told other other_is.
+          subst (λ (o : Outcome). IsAnswerOf o status text) ((sound-words files words).one told outcome other is other_is) answer;
+    }
+
+-- ---- what each command is for, said of an answer
+
+pub measured_by : (files : Option Files) (words : List (List ℕ)) (status : Status) (text : List ℕ) → Answers files words status text
+    → IsMeasured files words status text
+measured_by files words status text a = measured files words a.outcome status text a.is_outcome a.is_answer a.exact
+
+pub decided_by : (files : Option Files) (words : List (List ℕ)) (status : Status) (text : List ℕ) → Answers files words status text
+    → IsDecided files words status text
+decided_by files words status text a =
+    record {
+      answered = λ mesh first second input.
+          (decides files words a.outcome status text mesh first second a.is_outcome a.is_answer input).answered;
+      exactly = λ mesh first second input. (decides files words a.outcome status text mesh first second a.is_outcome a.is_answer
+          input).exactly;
+    }
+
+pub certified_by : (files : Option Files) (words : List (List ℕ)) (status : Status) (text : List ℕ) → Answers files words status text
+    → IsCertified files words status text
+certified_by files words status text a = certified_so files words a.outcome status text a.is_outcome a.is_answer
+
+pub verified_by : (files : Option Files) (words : List (List ℕ)) (status : Status) (text : List ℕ) → Answers files words status text
+    → IsVerified files words status text
+verified_by files words status text a = verified files words status text a.exact
+
+pub denial_verified_by : (files : Option Files) (words : List (List ℕ)) (status : Status) (text : List ℕ) → Answers files words status text
+    → IsDenialVerified files words status text
+denial_verified_by files words status text a = denial_verified files words status text a.exact a.outcome a.is_outcome a.is_answer
+
+pub reduced_by : (files : Option Files) (words : List (List ℕ)) (status : Status) (text : List ℕ) → Answers files words status text
+    → IsReduced files words status text
+reduced_by files words status text a = reduced files words a.outcome status text a.is_outcome a.is_answer a.exact
+
+pub tried_by : (files : Option Files) (words : List (List ℕ)) (status : Status) (text : List ℕ) → Answers files words status text
+    → IsTried words status text
+tried_by files words status text a = tried files words a.outcome status text a.is_outcome a.is_answer
+
+pub headline_by : (files : Option Files) (words : List (List ℕ)) (status : Status) (text : List ℕ) → Answers files words status text
+    → Headline files words status text
+headline_by files words status text a =
+    headline files words status text (decided_by files words status text a) (certified_by files words status text a)
+
+-- ---- the reply
+
+pub reply_answers : (files : Option Files) (words : List (List ℕ)) (reply : Reply) → Replies (answer_of files words) reply
+    → Answers files words (reply_status reply) (reply_text reply)
+reply_answers files words reply found = answers files words (Pass found.answer) (reply_status reply) (reply_text reply) found.passes
+    found.is_answer
+
+pub refusal_answers : (files : Option Files) (words : List (List ℕ)) (text : Text) → Stops (answer_of files words) (stops.Refused text)
+    → Answers files words (reply_status (replies.Refused text)) (reply_text (replies.Refused text))
+refusal_answers files words text h =
+    answers files words (Refuse h.0) (reply_status (replies.Refused text)) (reply_text (replies.Refused text)) h.1
+    (record { status_is = refl; text_is = h.2 })
+
+-- ---- the reply to a list of words
+
+-- words that are no row
+pub wrong_stops : (files : Option Files) (words : List (List ℕ)) (stop : Stop) → ((row : Row) → IsRow words row → ⊥)
+    → Tells wrong_words stop
+    → Stops (answer_of files words) stop
+wrong_stops files words stop none h =
+    told_stops wrong_words (answer_of files words) stop (inl (wrong_words, (none, refl), refl)) h
+
+-- words that are a row: the reply is the one to the row
+pub row_runs : {X : Type 0} (held : X → Option Files) (faults : X → ℕ) (old new : X) (words : List (List ℕ)) (row : Row)
+    (result : Result Reply Stop) → IsRow words row → Runs held faults old new (λ files. answer_to files row) result
+    → Runs held faults old new (λ files. answer_of files words) result
+row_runs held faults old new words row result is h =
+    record {
+      end = row_end (held old) words row result is h.end;
+      fault = h.fault;
+      untouched = λ none. h.untouched (none.1 row is);
+      only_reads = h.only_reads;
+    }
+  where
+    row_end : (files : Option Files) (words : List (List ℕ)) (row : Row) (result : Result Reply Stop) → IsRow words row
+        → MatchResult result (Replies (answer_to files row)) (Stops (answer_to files row))
+        → MatchResult result (Replies (answer_of files words)) (Stops (answer_of files words))
+    row_end files words row (Ok reply) is h = record { answer = h.answer; passes = inr (row, is, h.passes); is_answer = h.is_answer }
+    row_end files words row (Err stop) is h = stops_next (found_or wrong_words (IsRow words)) (answer_to files) row stop is h
+
+-- ---- the status of a run
+
+-- a status that tells of an answer is that of the reply
+pub answered_status : (status wanted : Status) → IsAnswered status → (status ≡ wanted) ⊎ (status ≡ WriteFault) → status ≡ wanted
+answered_status status wanted answered (inl e) = e
+answered_status status wanted (inl accepted) (inr e) = cc
+answered_status status wanted (inr (inl rejected)) (inr e) = cc
+answered_status status wanted (inr (inr faulty)) (inr e) = cc
+
+pub is_answered : (reply : Reply) → IsAnswered (reply_status reply)
+is_answered (replies.Yes text) = inl refl
+is_answered (replies.No text) = inr (inl refl)
+is_answered (replies.Refused text) = inr (inr refl)

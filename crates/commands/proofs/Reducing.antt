@@ -1,0 +1,331 @@
+-- How the checks of `reduce` end.
+use Rattle.std.proofs.Common.{◌≡◌, ◌⊎◌, inl, inr, ℕ, zero, suc, ◌+◌, ◌<◌, ◌≤◌, Bool, true, false, List, [], ◌∷◌, ◌++◌, length, get_or, take, refl, sym, ap, ◌∙◌, subst, arith}
+use Rattle.std.specs.Prelude.{nat_lt, if◌then◌else◌, Option, Some, None, Result, Ok, Err, IfSome, IsSome, IsSomeAnd, All}
+use Rattle.std.specs.List.{list_all}
+use Rattle.std.proofs.lemmas.Bool.{and_parts, ltb-true, ltb-false}
+use Rattle.std.proofs.lemmas.List.{length-map, take_all}
+use Rattle.std.proofs.lemmas.List.Elements.{All-nil, All-cons, All-head, All-tail, All-more, all_zip_more}
+use Rattle.surf_io.specs.Files.{Files, file_of}
+use Rattle.turn_words.specs.Canonical.{IsTurnWord, IsCanonicalOf}
+use Rattle.turn_words.proofs.Unique.{left, left-is-canonical, unique}
+use Rattle.walk_files.specs.NumberLists.{NumberLine, line_at}
+use Rattle.walk_files.specs.NumberTexts.{words_of}
+use Rattle.walk_files.specs.declared.limits.TheConstants.{MOST_ENTRIES}
+use Rattle.walk_files.proofs.WordLists.{words_of-short}
+use Rattle.commands.specs.declared.refusal.Input.TheVariants as inputs
+use Rattle.commands.specs.declared.stop.Stop.TheVariants as stops
+use Rattle.commands.proofs.Checking.{stops_first, told_stops, stops_next}
+use Rattle.commands.proofs.Running.{tells_no_fault}
+use Rattle.commands.proofs.Sound.{IsSound, sound-then, sound-pass, sound-meant, sound-pass_unless, sound-file, held}
+use Rattle.commands.specs.Answers.{Answer, Texts, yes_with}
+use Rattle.commands.specs.Checks.{End, Refuse, Pass, Passes, IsTold, meant, pass_unless, Check, pass, ◌>>=◌}
+use Rattle.commands.specs.Outcomes.{Outcome, status_of}
+use Rattle.commands.specs.Reduce.{SpellsTurnWords, IsReduceInput, AreCanonicalOf, entries_on, degree_fault, lines_in, range_fault, canonical_words, reduce, range_line, degree_line, words_text}
+use Rattle.commands.specs.Refusals.{numbers_line}
+use Rattle.commands.specs.Stops.{Stops, Tells}
+use Rattle.commands.specs.declared.inputs.TheConstants.{MOST_BYTES}
+use Rattle.commands.specs.declared.reduce.TheConstants.{LEAST_DEGREE}
+use Rattle.commands.specs.declared.status.Status.TheVariants.{Yes}
+use Rattle.commands.specs.declared.stop.Stop.{Stop}
+
+-- ---- the parts
+
+pub unless_passed : {T F : Type 0} (line_of : F → Texts) (fault : Option F) (thing passed : T)
+    → Passes (pass_unless line_of fault thing) passed → (fault ≡ None) × (passed ≡ thing)
+unless_passed line_of None thing passed h = (refl, cc)
+unless_passed line_of (Some fault) thing passed h = cc
+
+meant_passed : {T F : Type 0} (line_of : F → Texts) (read : Result T F) (passed : T) → Passes (meant line_of read) passed → read ≡ Ok passed
+meant_passed line_of (Ok thing) passed h = cc
+meant_passed line_of (Err fault) passed h = cc
+
+pub no_degree_fault : (degree : ℕ) → LEAST_DEGREE ≤ degree → degree_fault degree ≡ None
+no_degree_fault degree least = let large : nat_lt degree LEAST_DEGREE ≡ false = grind arith in rw large refl
+
+pub least_degree : (degree : ℕ) → degree_fault degree ≡ None → LEAST_DEGREE ≤ degree
+least_degree degree e = by_test (nat_lt degree LEAST_DEGREE) refl e
+  where
+    by_test : (b : Bool) → nat_lt degree LEAST_DEGREE ≡ b → (if b then Some degree else None) ≡ None → LEAST_DEGREE ≤ degree
+    by_test true t f = cc
+    by_test false t f = ltb-false degree LEAST_DEGREE t
+
+-- ---- entries below the degree
+
+all_below : (degree : ℕ) (word : List ℕ) → list_all (λ entry. nat_lt entry degree) word ≡ true → All (λ entry. entry < degree) word
+all_below degree [] e = All-nil (λ entry. entry < degree)
+all_below degree (entry ∷ word) e =
+    let both = and_parts (nat_lt entry degree) (list_all (λ other. nat_lt other degree) word) e in
+    All-cons (λ other. other < degree) entry word (ltb-true entry degree both.0) (all_below degree word both.1)
+
+pub all_below_test : (degree : ℕ) (word : List ℕ) → All (λ entry. entry < degree) word → list_all (λ entry. nat_lt entry degree) word ≡ true
+all_below_test degree [] h = refl
+all_below_test degree (entry ∷ word) h =
+    let below : entry < degree = All-head (λ other. other < degree) entry word h in
+    let first : nat_lt entry degree ≡ true = grind arith in
+    rw (first, all_below_test degree word (All-tail (λ other. other < degree) entry word h)) refl
+
+pub in_range : (degree : ℕ) (lines : List NumberLine) → LEAST_DEGREE ≤ degree → range_fault degree lines ≡ None
+    → All (IsTurnWord degree) (entries_on lines)
+in_range degree [] least e = All-nil (IsTurnWord degree)
+in_range degree (line ∷ lines) least e = by_test (list_all (λ entry. nat_lt entry degree) line.numbers) refl (in_range degree lines least) e
+  where
+    by_test : (b : Bool) → list_all (λ entry. nat_lt entry degree) line.numbers ≡ b
+        → (range_fault degree lines ≡ None → All (IsTurnWord degree) (entries_on lines))
+        → (if b then range_fault degree lines else Some line.line) ≡ None
+        → All (IsTurnWord degree) (entries_on (line ∷ lines))
+    by_test false t rest f = cc
+    by_test true t rest f =
+        All-cons (IsTurnWord degree) line.numbers (entries_on lines) (record { five = least; in_range = all_below degree line.numbers t })
+        (rest f)
+
+pub no_range_fault : (degree : ℕ) (lines : List NumberLine) → All (IsTurnWord degree) (entries_on lines) → range_fault degree lines ≡ None
+no_range_fault degree [] h = refl
+no_range_fault degree (line ∷ lines) h =
+    let turn_word : IsTurnWord degree line.numbers = All-head (IsTurnWord degree) line.numbers (entries_on lines) h in
+    rw (all_below_test degree line.numbers turn_word.in_range)
+    (no_range_fault degree lines (All-tail (IsTurnWord degree) line.numbers (entries_on lines) h))
+
+-- ---- line by line
+
+pub entries_at : (lines : List NumberLine) (k : ℕ) → k < length lines → get_or (entries_on lines) k [] ≡ (line_at lines k).numbers
+entries_at [] k below = absurd (omega (arith, below))
+entries_at (line ∷ lines) zero below = refl
+entries_at (line ∷ lines) (suc k) below = entries_at lines k (omega (arith, below))
+
+entries_there : (lines : List NumberLine) (k : ℕ) → k < length lines → k < length (entries_on lines)
+entries_there lines k below = omega (arith, below, length-map lines (λ (line : NumberLine). line.numbers))
+
+pub in_range-more : (degree : ℕ) (lines : List NumberLine) (k : ℕ) → k < length lines → All (IsTurnWord degree) (take k (entries_on lines))
+    → IsTurnWord degree (line_at lines k).numbers → All (IsTurnWord degree) (take (k + 1) (entries_on lines))
+in_range-more degree lines k below so_far next =
+    All-more (IsTurnWord degree) (entries_on lines) k [] (entries_there lines k below) so_far
+    (subst (IsTurnWord degree) (sym (entries_at lines k below)) next)
+
+same_element : (xs : List (List ℕ)) (i : ℕ) (d e : List ℕ) → i < length xs → get_or xs i d ≡ get_or xs i e
+same_element [] i d e below = absurd (omega (arith, below))
+same_element (x ∷ xs) zero d e below = refl
+same_element (x ∷ xs) (suc i) d e below = same_element xs i d e (omega (arith, below))
+
+pub canonical-more : (degree : ℕ) (lines : List NumberLine) (k : ℕ) (words : List (List ℕ)) (word : List ℕ) → k < length lines
+    → AreCanonicalOf degree (take k (entries_on lines)) words → IsCanonicalOf degree (line_at lines k).numbers word
+    → AreCanonicalOf degree (take (k + 1) (entries_on lines)) (words ++ word ∷ [])
+canonical-more degree lines k words word below so_far next =
+    let there = entries_there lines k below in
+    all_zip_more (IsCanonicalOf degree) (entries_on lines) words k (line_at lines k).numbers word there
+    (sym (entries_at lines k below) ∙ same_element (entries_on lines) k [] (line_at lines k).numbers there) so_far next
+
+-- the lines are turn words all
+pub all_entries : (lines : List NumberLine) (k : ℕ) → length lines ≤ k → take k (entries_on lines) ≡ entries_on lines
+all_entries lines k past = take_all k (entries_on lines) (omega (arith, past, length-map lines (λ (line : NumberLine). line.numbers)))
+
+-- the first line that is none
+pub range_found : (degree : ℕ) (lines : List NumberLine) (k : ℕ) → k < length lines → All (IsTurnWord degree) (take k (entries_on lines))
+    → list_all (λ entry. nat_lt entry degree) (line_at lines k).numbers ≡ false → range_fault degree lines ≡ Some (line_at lines k).line
+range_found degree [] k below before here = absurd (omega (arith, below))
+range_found degree (line ∷ lines) zero below before here = rw here refl
+range_found degree (line ∷ lines) (suc k) below before here =
+    let turn_word : IsTurnWord degree line.numbers = All-head (IsTurnWord degree) line.numbers (take k (entries_on lines)) before in
+    rw (all_below_test degree line.numbers turn_word.in_range)
+    (range_found degree lines k (omega (arith, below)) (All-tail (IsTurnWord degree) line.numbers (take k (entries_on lines)) before) here)
+
+-- ---- canonical words
+
+pub canonical_there : (degree : ℕ) (turns : List (List ℕ)) → All (IsTurnWord degree) turns → (canonical : List (List ℕ))
+    × AreCanonicalOf degree turns canonical
+canonical_there degree [] h = ([], tt)
+canonical_there degree (word ∷ words) h =
+    let rest = canonical_there degree words (All-tail (IsTurnWord degree) word words h) in
+    (left degree word ∷ rest.0, (left-is-canonical degree word (All-head (IsTurnWord degree) word words h), rest.1))
+
+one_canonical : (degree : ℕ) (turns first second : List (List ℕ)) → All (IsTurnWord degree) turns → AreCanonicalOf degree turns first
+    → AreCanonicalOf degree turns second → first ≡ second
+one_canonical degree [] [] [] h p q = refl
+one_canonical degree [] [] (c ∷ cs) h p q = absurd q
+one_canonical degree [] (c ∷ cs) second h p q = absurd p
+one_canonical degree (word ∷ words) [] second h p q = absurd p
+one_canonical degree (word ∷ words) (c ∷ cs) [] h p q = absurd q
+one_canonical degree (word ∷ words) (c ∷ cs) (d ∷ ds) h p q =
+    let first : c ≡ d = unique degree word c d (All-head (IsTurnWord degree) word words h) p.0 q.0 in
+    let rest : cs ≡ ds = one_canonical degree words cs ds (All-tail (IsTurnWord degree) word words h) p.1 q.1 in cc
+
+one_end : (degree : ℕ) (turns : List (List ℕ)) → All (IsTurnWord degree) turns → (a b : End (List (List ℕ)))
+    → (canonical_words degree turns).Ends a
+    → (canonical_words degree turns).Ends b → a ≡ b
+one_end degree turns h (Refuse r) b p q = absurd p
+one_end degree turns h (Pass x) (Refuse r) p q = absurd q
+one_end degree turns h (Pass x) (Pass y) p q = ap Pass (one_canonical degree turns x y h p q)
+
+sound-canonical : (held : Option Files) (degree : ℕ) (turns : List (List ℕ)) → All (IsTurnWord degree) turns
+    → IsSound held (canonical_words degree turns)
+sound-canonical held degree turns h =
+    let there = canonical_there degree turns h in
+    record { some = λ none. none (Pass there.0) there.1; one = λ _ a b p q. one_end degree turns h a b p q }
+
+-- ---- the command
+
+sound-lines : (held : Option Files) (name : List ℕ) → IsSound held (lines_in held name)
+sound-lines held name = sound-then held _ _ (sound-file held name inputs.TurnWords)
+    (λ bytes _. sound-meant held (numbers_line inputs.TurnWords) (words_of bytes))
+
+pub sound-reduce : (held : Option Files) (degree : ℕ) (list : List ℕ) → IsSound held (reduce held degree list)
+sound-reduce held degree list =
+    sound-then held _ _ (sound-pass_unless held degree_line (degree_fault degree) degree)
+    (λ allowed h. sound-then held _ _ (sound-lines held list)
+    (λ lines _. sound-then held _ _ (sound-pass_unless held range_line (range_fault degree lines) (entries_on lines))
+    (λ turns k. sound-then held _ _ (sound-canonical held degree turns (words_passed degree allowed lines turns h k))
+    (λ canonical _. sound-pass held _))))
+  where
+    words_passed : (degree allowed : ℕ) (lines : List NumberLine) (turns : List (List ℕ))
+        → Passes (pass_unless degree_line (degree_fault degree) degree) allowed
+        → Passes (pass_unless range_line (range_fault degree lines) (entries_on lines)) turns → All (IsTurnWord degree) turns
+    words_passed degree allowed lines turns h k =
+        let least = least_degree degree (unless_passed degree_line (degree_fault degree) degree allowed h).0 in
+        let both = unless_passed range_line (range_fault degree lines) (entries_on lines) turns k in
+        subst (All (IsTurnWord degree)) (sym both.1) (in_range degree lines least both.0)
+
+-- ---- `reduce` in the words of the list
+
+pub list_passes : (files : Option Files) (degree : ℕ) (name : List ℕ) (lines : List NumberLine) (canonical : List (List ℕ))
+    → LEAST_DEGREE ≤ degree
+    → Passes (lines_in files name) lines → range_fault degree lines ≡ None → AreCanonicalOf degree (entries_on lines) canonical
+    → Passes (reduce files degree name) (yes_with (words_text canonical))
+list_passes files degree name lines canonical least passed range are =
+    inr (
+      degree,
+      rw (no_degree_fault degree least) refl,
+      inr (lines, passed, inr (entries_on lines, rw range refl, inr (canonical, are, refl))),
+    )
+
+pub reduce_passes : (files : Option Files) (degree : ℕ) (name : List ℕ) (turns canonical : List (List ℕ))
+    → IsReduceInput files degree name turns
+    → AreCanonicalOf degree turns canonical → Passes (reduce files degree name) (yes_with (words_text canonical))
+reduce_passes files degree name turns canonical input are =
+    let list_file = held files name (SpellsTurnWords degree turns) input.list_file in
+    let spelled = list_file.holds in
+    let passed : Passes (lines_in files name) spelled.lines =
+    inr (list_file.bytes, list_file.passes inputs.TurnWords, rw spelled.text refl) in
+    let range = no_range_fault degree spelled.lines (subst (All (IsTurnWord degree)) spelled.entries spelled.in_range) in
+    list_passes files degree name spelled.lines canonical input.least passed range
+    (subst (λ (t : List (List ℕ)). AreCanonicalOf degree t canonical) spelled.entries are)
+
+pub input_told : (files : Option Files) (degree : ℕ) (name : List ℕ) (turns : List (List ℕ)) → IsReduceInput files degree name turns
+    → IsTold files name
+input_told files degree name turns input = (held files name (SpellsTurnWords degree turns) input.list_file).told
+
+pub input_words : (files : Option Files) (degree : ℕ) (name : List ℕ) (turns : List (List ℕ)) → IsReduceInput files degree name turns
+    → All (IsTurnWord degree) turns
+input_words files degree name turns input = (held files name (SpellsTurnWords degree turns) input.list_file).holds.in_range
+
+-- ---- the calls
+
+-- what is looked at behind the lines, and behind the degree
+abbrev behind_lines : ℕ → List NumberLine → Check Answer
+behind_lines degree lines =
+    pass_unless range_line (range_fault degree lines) (entries_on lines)
+    >>= (λ turns. canonical_words degree turns >>= (λ canonical. pass (yes_with (words_text canonical))))
+
+abbrev behind_degree : Option Files → ℕ → List ℕ → Check Answer
+behind_degree files degree name = lines_in files name >>= behind_lines degree
+
+pub degree_stops : (files : Option Files) (degree : ℕ) (name : List ℕ) (stop : Stop) → degree < LEAST_DEGREE
+    → Tells (degree_line degree) stop
+    → Stops (reduce files degree name) stop
+degree_stops files degree name stop small h =
+    let test : nat_lt degree LEAST_DEGREE ≡ true = grind arith in
+    let fault : degree_fault degree ≡ Some degree = rw test refl in
+    told_stops (degree_line degree) (reduce files degree name) stop (inl (degree_line degree, rw fault refl, refl)) h
+
+pub lines_stop : (files : Option Files) (degree : ℕ) (name : List ℕ) (stop : Stop) → LEAST_DEGREE ≤ degree
+    → Stops (lines_in files name) stop
+    → Stops (reduce files degree name) stop
+lines_stop files degree name stop least h =
+    stops_next (pass_unless degree_line (degree_fault degree) degree) (λ _. behind_degree files degree name) degree stop
+    (rw (no_degree_fault degree least) refl)
+    (stops_first (lines_in files name) (behind_lines degree) stop h)
+
+pub short_lines : (files : Option Files) (name : List ℕ) (lines : List NumberLine) → Passes (lines_in files name) lines
+    → All (λ line. length line.numbers ≤ MOST_ENTRIES) lines
+short_lines files name lines (inl p) = let same = p.2 in cc
+short_lines files name lines (inr p) = words_of-short p.0 lines (meant_passed (numbers_line inputs.TurnWords) (words_of p.0) lines p.2)
+
+-- what stops one line stops the command
+pub line_stops : (degree : ℕ) (lines : List NumberLine) (k : ℕ) (stop : Stop) → k < length lines
+    → All (IsTurnWord degree) (take k (entries_on lines))
+    → (stop ≡ stops.OutOfMemory) ⊎ ((list_all (λ entry. nat_lt entry degree) (line_at lines k).numbers ≡ false)
+    × Tells (range_line (line_at lines k).line) stop)
+    → (stop ≡ stops.OutOfMemory) ⊎ ((line : ℕ) × (range_fault degree lines ≡ Some line) × Tells (range_line line) stop)
+line_stops degree lines k stop below before (inl e) = inl e
+line_stops degree lines k stop below before (inr h) = inr ((line_at lines k).line, range_found degree lines k below before h.0, h.1)
+
+-- what stops the canonical words stops the command
+pub words_stop : (files : Option Files) (degree : ℕ) (name : List ℕ) (lines : List NumberLine) (stop : Stop) → LEAST_DEGREE ≤ degree
+    → Passes (lines_in files name) lines
+    → (stop ≡ stops.OutOfMemory) ⊎ ((line : ℕ) × (range_fault degree lines ≡ Some line) × Tells (range_line line) stop)
+    → Stops (reduce files degree name) stop
+words_stop files degree name lines stop least passed (inl e) = subst (Stops (reduce files degree name)) (sym e) tt
+words_stop files degree name lines stop least passed (inr h) =
+    told_stops (range_line h.0) (reduce files degree name) stop
+    (inr (degree, rw (no_degree_fault degree least) refl, inr (lines, passed, inl (range_line h.0, rw h.1 refl, refl)))) h.2
+
+-- where the degree is in order, a file is looked at
+pub looks_at_file : (files : Option Files) (degree : ℕ) (name : List ℕ) → LEAST_DEGREE ≤ degree
+    → (reduce files degree name).EachFile (λ _. ⊥) → ⊥
+looks_at_file files degree name least none = (none.1 degree (rw (no_degree_fault degree least) refl)).0.0
+
+-- what stops the canonical words is no read fault
+pub words_no_fault : (degree : ℕ) (lines : List NumberLine) (stop : Stop)
+    → (stop ≡ stops.OutOfMemory) ⊎ ((line : ℕ) × (range_fault degree lines ≡ Some line) × Tells (range_line line) stop)
+    → stop ≡ stops.ReadFault → ⊥
+words_no_fault degree lines stop (inl wanting) e = cc
+words_no_fault degree lines stop (inr h) e = tells_no_fault (range_line h.0) stop h.2 e
+
+unless_told : {T F : Type 0} (files : Option Files) (line_of : F → Texts) (fault : Option F) (thing : T)
+    → (pass_unless line_of fault thing).EachFile (IsTold files)
+unless_told files line_of None thing = tt
+unless_told files line_of (Some fault) thing = tt
+
+meant_told : {T F : Type 0} (files : Option Files) (line_of : F → Texts) (read : Result T F) → (meant line_of read).EachFile (IsTold files)
+meant_told files line_of (Ok thing) = tt
+meant_told files line_of (Err fault) = tt
+
+-- the list is the one file that is looked at
+pub reduce_told : (files : Option Files) (degree : ℕ) (name : List ℕ) → IsTold files name
+    → (reduce files degree name).EachFile (IsTold files)
+reduce_told files degree name told = (
+  unless_told files degree_line (degree_fault degree) degree,
+  λ _ _. (
+    (told, λ bytes _. meant_told files (numbers_line inputs.TurnWords) (words_of bytes)),
+    λ lines _. (unless_told files range_line (range_fault degree lines) (entries_on lines), λ _ _. (tt, λ _ _. tt)),
+  ),
+)
+
+holds_of : (told : Option (List ℕ)) (limit : ℕ) (P : List ℕ → Type 0) (bytes : List ℕ) → IsSome told → IfSome told (λ f. bytes ≡ f)
+    → length bytes ≤ limit
+    → P bytes → IsSomeAnd told (λ b. (length b ≤ limit) × P b)
+holds_of None limit P bytes some agrees short h = cc
+holds_of (Some f) limit P bytes some agrees short h = subst (λ (b : List ℕ). (length b ≤ limit) × P b) agrees (short, h)
+
+-- what was passed spells the list
+pub yes_input : (files : Option Files) (degree : ℕ) (name : List ℕ) (outcome : Outcome) → IsTold files name
+    → (reduce files degree name).Ends outcome
+    → status_of outcome ≡ Yes → (turns : List (List ℕ)) × IsReduceInput files degree name turns
+yes_input files degree name outcome told (inl p) e = let refused = ap status_of p.2 in cc
+yes_input files degree name outcome told (inr (allowed, first, inl p)) e = let refused = ap status_of p.2 in cc
+yes_input files degree name outcome told (inr (allowed, first, inr (lines, read, inl p))) e = let refused = ap status_of p.2 in cc
+yes_input files degree name outcome told (inr (allowed, first, inr (lines, inl p, inr q))) e = let same = p.2 in cc
+yes_input files degree name outcome told (inr (allowed, first, inr (lines, inr (bytes, in_file, read), inr (turns, range, more)))) e =
+    let least = least_degree degree (unless_passed degree_line (degree_fault degree) degree allowed first).0 in
+    let both = unless_passed range_line (range_fault degree lines) (entries_on lines) turns range in
+    let spelled : SpellsTurnWords degree turns bytes =
+    record {
+      lines = lines;
+      text = meant_passed (numbers_line inputs.TurnWords) (words_of bytes) lines read;
+      entries = both.1;
+      in_range = subst (All (IsTurnWord degree)) (sym both.1) (in_range degree lines least both.0);
+    } in (
+      turns,
+      record {
+        least = least;
+        list_file = holds_of (file_of files name) MOST_BYTES (SpellsTurnWords degree turns) bytes told in_file.0 in_file.1 spelled;
+      },
+    )

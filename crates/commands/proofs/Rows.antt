@@ -1,0 +1,198 @@
+-- The rows of the table of commands: what each looks at has an end, and one where its files are told.
+use Rattle.std.proofs.Common.{◌≡◌, inr, ℕ, List, [], ◌∷◌, refl, ap, arith, sym, codes, ◌∙◌, ◌+◌, ◌*◌}
+use Rattle.std.specs.Prelude.{Option, Some, None, Result, Ok, Err, slice_index_or}
+use Rattle.surf_io.specs.Files.{Files}
+use Rattle.surf_model.specs.FaceLists.{FaceList}
+use Rattle.off_reader.specs.OffTexts.{meaning_of}
+use Rattle.walk_files.specs.NumberTexts.{walks_of}
+use Rattle.walk_files.specs.Pairs.{IsPair, pair_fault}
+use Rattle.walk_files.specs.declared.fault.WalkFault.{WalkFault}
+use Rattle.walk_files.proofs.PairLemmas.{none_of_pair}
+use Rattle.commands.specs.declared.refusal.Input.TheVariants as inputs
+use Rattle.surf_model.specs.Surfaces.{IsSurface}
+use Rattle.commands.proofs.Certifying.{sound-certified}
+use Rattle.commands.proofs.Checking.{pair_passes}
+use Rattle.commands.proofs.Deciding.{sound-decided}
+use Rattle.commands.proofs.Measuring.{sound-numbers, surface_passed}
+use Rattle.commands.proofs.MeshTexts.{mesh_valid}
+use Rattle.commands.proofs.Reducing.{sound-reduce}
+use Rattle.commands.proofs.SomeVerdict.{sound-judgement}
+use Rattle.commands.proofs.Sound.{IsSound, sound-then, sound-pass, sound-found, sound-meant, sound-pass_unless, sound-file, held}
+use Rattle.commands.proofs.Surfaces.{sound-as_surface}
+use Rattle.commands.proofs.Trying.{sound-trial}
+use Rattle.commands.specs.Answers.{Exactly, Texts}
+use Rattle.commands.specs.Certify.{certify, limit_fault}
+use Rattle.commands.specs.Checks.{Passes, Holds, IsTold, meant, pass_unless, ◌>>=◌}
+use Rattle.commands.specs.Commands.{Row, Surface, Decide, Certify, Verify, Reduce, Trial, IsRow, answer_to}
+use Rattle.commands.specs.Decide.{decide}
+use Rattle.commands.specs.Inputs.{mesh_in, pair_in, certificate_in, certificate_of, walk_at, SpellsMesh, SpellsPair}
+use Rattle.commands.specs.Outcomes.{answer_of}
+use Rattle.commands.specs.Refusals.{numbers_line, certificate_line, off_line, pair_line}
+use Rattle.commands.specs.Surface.{surface}
+use Rattle.commands.specs.SurfaceInput.{surface_in}
+use Rattle.commands.specs.Verify.{verify}
+
+-- ---- the rows
+
+-- the keyword of a row
+abbrev keyword_of : Row → List ℕ
+keyword_of (Surface mesh) = codes "surface"
+keyword_of (Decide mesh walks) = codes "decide"
+keyword_of (Certify mesh walks) = codes "certify"
+keyword_of (Verify mesh walks certificate) = codes "verify"
+keyword_of (Reduce degree list) = codes "reduce"
+keyword_of (Trial genus grid) = codes "trial"
+
+-- a keyword as one number, since keywords differ
+value : List ℕ → ℕ
+value [] = 0
+value (byte ∷ bytes) = byte + 256 * value bytes
+
+first_word : List (List ℕ) → List ℕ
+first_word words = slice_index_or words 0 []
+
+keyword-row : (words : List (List ℕ)) (row : Row) → IsRow words row → first_word words ≡ keyword_of row
+unfolding first_word
+keyword-row words (Surface mesh) p = ap first_word p
+keyword-row words (Decide mesh walks) p = ap first_word p
+keyword-row words (Certify mesh walks) p = ap first_word p
+keyword-row words (Verify mesh walks certificate) p = ap first_word p
+keyword-row words (Reduce degree list) p = ap first_word p.1
+keyword-row words (Trial genus grid) p = ap first_word p.2
+
+-- rows of the same words have one keyword
+same_value : (words : List (List ℕ)) (a b : Row) → IsRow words a → IsRow words b → value (keyword_of a) ≡ value (keyword_of b)
+same_value words a b p q = ap value (sym (keyword-row words a p) ∙ keyword-row words b q)
+
+-- words are one row at most
+pub one_row : (words : List (List ℕ)) (a b : Row) → IsRow words a → IsRow words b → a ≡ b
+unfolding value
+one_row words (Surface a) (Surface b) p q = cc
+one_row words (Decide a b) (Decide c d) p q = cc
+one_row words (Certify a b) (Certify c d) p q = cc
+one_row words (Verify a b c) (Verify d e f) p q = cc
+one_row words (Reduce a b) (Reduce c d) p q = cc
+one_row words (Trial a b) (Trial c d) p q = cc
+one_row words a b p q = absurd (omega (arith, same_value words a b p q))
+
+-- ---- the files
+
+pub sound-mesh : (held : Option Files) (name : List ℕ) → IsSound held (mesh_in held name)
+sound-mesh held name = sound-then held _ _ (sound-file held name inputs.Mesh) (λ bytes _. sound-meant held off_line (meaning_of bytes))
+
+pub sound-pair : (held : Option Files) (name : List ℕ) (mesh : FaceList) → IsSound held (pair_in held name mesh)
+sound-pair held name mesh =
+    sound-then held _ _ (sound-file held name inputs.Walks)
+    (λ bytes _. sound-then held _ _ (sound-meant held (numbers_line inputs.Walks) (walks_of bytes))
+    (λ walks _. sound-pass_unless held pair_line (pair_fault mesh walks) walks))
+
+pub sound-certificate : (held : Option Files) (name : List ℕ) → IsSound held (certificate_in held name)
+sound-certificate held name =
+    sound-then held _ _ (sound-file held name inputs.Certificate) (λ bytes _. sound-meant held certificate_line (certificate_of bytes))
+
+-- ---- the commands
+
+pub sound-surface_in : (held : Option Files) (name : List ℕ) → IsSound held (surface_in held name)
+sound-surface_in held name =
+    sound-then held _ _ (sound-mesh held name)
+    (λ mesh h. sound-as_surface held mesh (mesh_valid held name mesh h))
+
+sound-surface : (held : Option Files) (name : List ℕ) → IsSound held (surface held name)
+sound-surface held name =
+    sound-then held _ _ (sound-surface_in held name)
+    (λ mesh h. let is = surface_passed held name mesh h in
+    sound-then held _ _ (sound-numbers held mesh is.0 is.1) (λ numbers _. sound-pass held _))
+
+sound-verify : (held : Option Files) (mesh walks certificate : List ℕ) → IsSound held (verify held mesh walks certificate)
+sound-verify held mesh walks certificate =
+    sound-then held _ _ (sound-mesh held mesh)
+    (λ faces h. sound-then held _ _ (sound-pair held walks faces)
+    (λ pair _. sound-then held _ _ (sound-certificate held certificate)
+    (λ shown _. sound-judgement held faces (walk_at pair 0) (walk_at pair 1) shown (mesh_valid held mesh faces h))))
+
+sound-decide : (held : Option Files) (mesh walks : List ℕ) → IsSound held (decide held mesh walks)
+sound-decide held mesh walks =
+    sound-then held _ _ (sound-surface_in held mesh)
+    (λ surface _. sound-then held _ _ (sound-pair held walks surface)
+    (λ pair _. sound-decided held surface (walk_at pair 0) (walk_at pair 1)))
+
+sound-certify : (held : Option Files) (mesh walks : List ℕ) → IsSound held (certify held mesh walks)
+sound-certify held mesh walks =
+    sound-then held _ _ (sound-surface_in held mesh)
+    (λ surface _. sound-then held _ _ (sound-pair held walks surface)
+    (λ pair _. sound-then held _ _ (sound-pass_unless held (λ line. Exactly line)
+    (limit_fault surface (walk_at pair 0) (walk_at pair 1)) pair)
+    (λ _ _. sound-certified held surface (walk_at pair 0) (walk_at pair 1))))
+
+sound-row : (held : Option Files) (row : Row) → IsSound held (answer_to held row)
+sound-row held (Surface mesh) = sound-surface held mesh
+sound-row held (Decide mesh walks) = sound-decide held mesh walks
+sound-row held (Certify mesh walks) = sound-certify held mesh walks
+sound-row held (Verify mesh walks certificate) = sound-verify held mesh walks certificate
+sound-row held (Reduce degree list) = sound-reduce held degree list
+sound-row held (Trial genus grid) = sound-trial held genus grid
+
+pub sound-words : (held : Option Files) (words : List (List ℕ)) → IsSound held (answer_of held words)
+sound-words held words = sound-then held _ _ (sound-found held _ _ (one_row words)) (λ row _. sound-row held row)
+
+-- ---- files that are told
+
+pub meant_told : {T F : Type 0} (files : Option Files) (line_of : F → Texts) (read : Result T F)
+    → (meant line_of read).EachFile (IsTold files)
+meant_told files line_of (Ok thing) = tt
+meant_told files line_of (Err fault) = tt
+
+pub unless_told : {T F : Type 0} (files : Option Files) (line_of : F → Texts) (fault : Option F) (thing : T)
+    → (pass_unless line_of fault thing).EachFile (IsTold files)
+unless_told files line_of None thing = tt
+unless_told files line_of (Some fault) thing = tt
+
+pub walks_told : (files : Option Files) (mesh : FaceList) (read : Result (List (List ℕ)) WalkFault)
+    → (meant (numbers_line inputs.Walks) read >>= (λ walks. pass_unless pair_line (pair_fault mesh walks) walks)).EachFile (IsTold files)
+walks_told files mesh read = (
+  meant_told files (numbers_line inputs.Walks) read,
+  λ walks _. unless_told files pair_line (pair_fault mesh walks) walks,
+)
+
+pub mesh_told : (files : Option Files) (name : List ℕ) (mesh : FaceList) → Holds files name (SpellsMesh mesh)
+    → (mesh_in files name).EachFile (IsTold files)
+mesh_told files name mesh h = ((held files name (SpellsMesh mesh) h).told, λ bytes _. meant_told files off_line (meaning_of bytes))
+
+-- the file passes its mesh
+pub mesh_passes : (files : Option Files) (name : List ℕ) (mesh : FaceList) → Holds files name (SpellsMesh mesh)
+    → Passes (mesh_in files name) mesh
+mesh_passes files name mesh h =
+    let file = held files name (SpellsMesh mesh) h in
+    inr (file.bytes, file.passes inputs.Mesh, rw file.holds refl)
+
+-- a file that spells two walks of the mesh with common ends passes them
+pub spelled_pair : (files : Option Files) (name : List ℕ) (mesh : FaceList) (first second : List ℕ)
+    → Holds files name (SpellsPair mesh first second)
+    → Passes (pair_in files name mesh) (first ∷ second ∷ [])
+spelled_pair files name mesh first second h =
+    let file = held files name (SpellsPair mesh first second) h in
+    let spelled = file.holds in
+    let pair : List (List ℕ) = first ∷ second ∷ [] in
+    let is_pair : IsPair mesh pair =
+    record {
+      first = first;
+      second = second;
+      two = refl;
+      first_walk = spelled.first_walk;
+      second_walk = spelled.second_walk;
+      ends = spelled.ends;
+    } in
+    pair_passes files name mesh file.bytes pair (file.passes inputs.Walks) spelled.text (none_of_pair mesh pair is_pair)
+
+pub pair_told : (files : Option Files) (name : List ℕ) (mesh : FaceList) → IsTold files name
+    → (pair_in files name mesh).EachFile (IsTold files)
+pair_told files name mesh told = (told, λ bytes _. walks_told files mesh (walks_of bytes))
+
+pub surface_told : (files : Option Files) (name : List ℕ) → IsTold files name → (surface_in files name).EachFile (IsTold files)
+surface_told files name told = ((told, λ bytes _. meant_told files off_line (meaning_of bytes)), λ _ _. (tt, λ _ _. tt))
+
+-- a file that spells a surface passes it
+pub spelled_surface : (files : Option Files) (name : List ℕ) (mesh : FaceList) → Holds files name (SpellsMesh mesh) → IsSurface mesh
+    → Passes (surface_in files name) mesh
+spelled_surface files name mesh h is =
+    inr (mesh, mesh_passes files name mesh h, inr (mesh, (is.closed, refl), (is.orientable, refl)))

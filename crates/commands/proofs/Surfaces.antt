@@ -1,0 +1,71 @@
+-- How the checks of a surface end.
+use Rattle.std.proofs.Common.{◌≡◌, inr, ℕ, List, refl, sym, subst, inl, ◌⊎◌}
+use Rattle.std.specs.Prelude.{Option, Result, Ok, Err, IfOk, MatchResult}
+use Rattle.surf_io.specs.Files.{Files}
+use Rattle.surf_model.specs.FaceLists.{FaceList, IsFaceList}
+use Rattle.manifold_check.specs.Faults.{IsFirstFault}
+use Rattle.manifold_check.specs.declared.fault.SurfaceFault.{SurfaceFault}
+use Rattle.manifold_check.specs.declared.fault.SurfaceFault.TheVariants.{OutOfMemory}
+use Rattle.manifold_check.proofs.FaultLemmas.{one_fault, no_fault}
+use Rattle.manifold_check.proofs.OutcomeLemmas.{closed_or_fault}
+use Rattle.halfedge_map.specs.OrientedMeshes.{OrientedMesh}
+use Rattle.commands.proofs.Checking.{stops_next, told_stops, memory_stops}
+use Rattle.commands.proofs.Sound.{IsSound, sound-then}
+use Rattle.commands.specs.Answers.{OfOddChain}
+use Rattle.commands.specs.Checks.{End, Refuse, Pass, Passes}
+use Rattle.commands.specs.Inputs.{mesh_in}
+use Rattle.commands.specs.Refusals.{surface_line}
+use Rattle.commands.specs.Stops.{Stops, Tells}
+use Rattle.commands.specs.SurfaceInput.{as_surface, closed, orientable, surface_in}
+use Rattle.commands.specs.declared.stop.Stop.{Stop}
+
+one_closed : (mesh : FaceList) (a b : End FaceList) → (closed mesh).Ends a → (closed mesh).Ends b → a ≡ b
+one_closed mesh (Refuse r) (Refuse s) p q = let same = one_fault mesh p.0 q.0 p.1 q.1 in cc (same, p.2, q.2)
+one_closed mesh (Refuse r) (Pass y) p q = absurd (no_fault mesh p.0 q.0 p.1)
+one_closed mesh (Pass x) (Refuse s) p q = absurd (no_fault mesh q.0 p.0 q.1)
+one_closed mesh (Pass x) (Pass y) p q = cc (p.1, q.1)
+
+pub sound-closed : (held : Option Files) (mesh : FaceList) → IsFaceList mesh → IsSound held (closed mesh)
+sound-closed held mesh valid =
+    record {
+      some = λ none.
+          closed_or_fault mesh valid (λ is. none (Pass mesh) (is, refl)) (λ fault is. none (Refuse (surface_line fault)) (fault, is, refl));
+      one = λ _ a b p q. one_closed mesh a b p q;
+    }
+
+one_orientable : (mesh : FaceList) (a b : End FaceList) → (orientable mesh).Ends a → (orientable mesh).Ends b → a ≡ b
+one_orientable mesh (Refuse r) (Refuse s) p q = cc (p.1, q.1)
+one_orientable mesh (Refuse r) (Pass y) p q = absurd (p.0 q.0)
+one_orientable mesh (Pass x) (Refuse s) p q = absurd (q.0 p.0)
+one_orientable mesh (Pass x) (Pass y) p q = cc (p.1, q.1)
+
+pub sound-orientable : (held : Option Files) (mesh : FaceList) → IsSound held (orientable mesh)
+sound-orientable held mesh =
+    record {
+      some = λ none. none (Refuse (OfOddChain mesh)) (λ is. none (Pass mesh) (is, refl), refl);
+      one = λ _ a b p q. one_orientable mesh a b p q;
+    }
+
+pub sound-as_surface : (held : Option Files) (mesh : FaceList) → IsFaceList mesh → IsSound held (as_surface mesh)
+sound-as_surface held mesh valid = sound-then held _ _ (sound-closed held mesh valid) (λ surface _. sound-orientable held surface)
+
+-- ---- what stops it
+
+-- a fault of the mesh, or want of memory
+pub fault_stops : (mesh : FaceList) (fault : SurfaceFault) (stop : Stop) → (fault ≡ OutOfMemory) ⊎ IsFirstFault mesh fault
+    → Tells (surface_line fault) stop → Stops (closed mesh) stop
+fault_stops mesh fault stop (inl wanting) h = memory_stops (closed mesh) stop
+    (subst (λ (f : SurfaceFault). Tells (surface_line f) stop) wanting h)
+fault_stops mesh fault stop (inr is) h = told_stops (surface_line fault) (closed mesh) stop (fault, is, refl) h
+
+pub signs_stop : (mesh : FaceList) (stop : Stop) → Passes (closed mesh) mesh → Stops (orientable mesh) stop → Stops (as_surface mesh) stop
+signs_stop mesh stop p h = stops_next (closed mesh) orientable mesh stop p h
+
+-- the surface of a file, by the surface of its mesh
+pub surface_end : (held : Option Files) (name : List ℕ) (mesh : FaceList) (result : Result OrientedMesh Stop)
+    → Passes (mesh_in held name) mesh
+    → IfOk result (λ surface. surface.mesh ≡ mesh) → MatchResult result (λ _. Passes (as_surface mesh) mesh) (Stops (as_surface mesh))
+    → MatchResult result (λ surface. Passes (surface_in held name) surface.mesh) (Stops (surface_in held name))
+surface_end held name mesh (Ok surface) p same h =
+    subst (Passes (surface_in held name)) (sym same) (inr (mesh, p, h))
+surface_end held name mesh (Err stop) p same h = stops_next (mesh_in held name) as_surface mesh stop p h

@@ -1,0 +1,59 @@
+-- How the checks of `verify` end, by the place where the reading ends, and the verdicts on a denial.
+use Rattle.std.proofs.Common.{inr, ℕ, List, refl, sym, subst, Ok, Err, Result, MatchResult, ◌≡◌}
+use Rattle.std.specs.Prelude.{Option}
+use Rattle.surf_io.specs.Files.{Files}
+use Rattle.surf_model.specs.FaceLists.{FaceList}
+use Rattle.labellings.specs.DenialVerdicts.{IsVerdict}
+use Rattle.labellings.specs.declared.denial.Denial as denials
+use Rattle.labellings.specs.declared.verdict.DenialVerdict.{DenialVerdict}
+use Rattle.commands.proofs.Checking.{stops_first, stops_next}
+use Rattle.commands.specs.Answers.{Answer}
+use Rattle.commands.specs.Checks.{Check, Passes, ◌>>=◌}
+use Rattle.commands.specs.Inputs.{mesh_in, pair_in, certificate_in, walk_at}
+use Rattle.commands.specs.Replies.{IsReplyTo, Replies}
+use Rattle.commands.specs.Stops.{Stops}
+use Rattle.commands.specs.Verify.{denial_answer, judgement, verify}
+use Rattle.commands.specs.declared.certificate.Certificate.{Certificate}
+use Rattle.commands.specs.declared.certificate.Certificate.TheVariants.{Denial}
+use Rattle.commands.specs.declared.reply.Reply.{Reply}
+use Rattle.commands.specs.declared.stop.Stop.{Stop}
+use Rattle.commands.specs.declared.stop.Stop.TheVariants.{OutOfMemory}
+
+-- what is looked at behind the walks, and behind the mesh
+abbrev pub after_pair : Option Files → List ℕ → FaceList → List (List ℕ) → Check Answer
+after_pair held certificate faces pair = certificate_in held certificate >>= judgement faces (walk_at pair 0) (walk_at pair 1)
+
+abbrev pub after_mesh : Option Files → (walks certificate : List ℕ) → FaceList → Check Answer
+after_mesh held walks certificate faces = pair_in held walks faces >>= after_pair held certificate faces
+
+pub walks_stop : (held : Option Files) (mesh walks certificate : List ℕ) (faces : FaceList) (stop : Stop) → Passes (mesh_in held mesh) faces
+    → Stops (pair_in held walks faces) stop → Stops (verify held mesh walks certificate) stop
+walks_stop held mesh walks certificate faces stop p h =
+    stops_next (mesh_in held mesh) (after_mesh held walks certificate) faces stop p
+    (stops_first (pair_in held walks faces) (after_pair held certificate faces) stop h)
+
+pub certificate_stops : (held : Option Files) (mesh walks certificate : List ℕ) (faces : FaceList) (pair : List (List ℕ)) (stop : Stop)
+    → Passes (mesh_in held mesh) faces → Passes (pair_in held walks faces) pair → Stops (certificate_in held certificate) stop
+    → Stops (verify held mesh walks certificate) stop
+certificate_stops held mesh walks certificate faces pair stop p q h =
+    stops_next (mesh_in held mesh) (after_mesh held walks certificate) faces stop p
+    (stops_next (pair_in held walks faces) (after_pair held certificate faces) pair stop q
+    (stops_first (certificate_in held certificate) (judgement faces (walk_at pair 0) (walk_at pair 1)) stop h))
+
+pub judged : (held : Option Files) (mesh walks certificate : List ℕ) (faces : FaceList) (pair : List (List ℕ)) (shown : Certificate)
+    (result : Result Reply Stop) → Passes (mesh_in held mesh) faces → Passes (pair_in held walks faces) pair
+    → Passes (certificate_in held certificate) shown
+    → MatchResult result (Replies (judgement faces (walk_at pair 0) (walk_at pair 1) shown)) (λ stop. stop ≡ OutOfMemory)
+    → MatchResult result (Replies (verify held mesh walks certificate)) (Stops (verify held mesh walks certificate))
+judged held mesh walks certificate faces pair shown (Ok reply) p q r h =
+    record { answer = h.answer; passes = inr (faces, p, inr (pair, q, inr (shown, r, h.passes))); is_answer = h.is_answer }
+judged held mesh walks certificate faces pair shown (Err stop) p q r h = subst (Stops (verify held mesh walks certificate)) (sym h) tt
+
+-- the reply to a verdict on a denial is one to the judgement
+pub denial_judged : (mesh : FaceList) (first second : List ℕ) (denial : denials.Denial) (verdict : DenialVerdict)
+    (result : Result Reply Stop) → IsVerdict mesh first second denial verdict
+    → MatchResult result (IsReplyTo (denial_answer verdict)) (λ stop. stop ≡ OutOfMemory)
+    → MatchResult result (Replies (judgement mesh first second (Denial denial))) (λ stop. stop ≡ OutOfMemory)
+denial_judged mesh first second denial verdict (Ok reply) is h =
+    record { answer = denial_answer verdict; passes = (verdict, refl, is); is_answer = h }
+denial_judged mesh first second denial verdict (Err stop) is h = h

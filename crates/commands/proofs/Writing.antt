@@ -1,0 +1,119 @@
+-- What is written piece by piece.
+use Rattle.std.proofs.Common.{◌≡◌, ℕ, suc, ◌+◌, ◌<◌, ◌≤◌, List, [], ◌∷◌, ◌++◌, length, get_or, take, drop, sym, ap, ◌∙◌, append_assoc, arith}
+use Rattle.std.specs.Prelude.{Option, Result, Ok, Err, OnOk, OnErr, map, flat_map}
+use Rattle.std.proofs.Math.Seq.{split_at}
+use Rattle.std.proofs.lemmas.List.{take_all, take_more, map-append, append-nil}
+use Rattle.std.proofs.lemmas.Grind.{flat_map-append}
+use Rattle.surf_io.specs.Bytes.{append_told, Appends, AppendsPrefix}
+use Rattle.surf_io.specs.Calls.{OnlyWrites, WroteAll, WrotePart}
+use Rattle.surf_io.proofs.Appending.{appends_twice, on_err, part_after, part_first, part_last}
+use Rattle.commands.specs.Lines.{line, behind_blank, in_lines, phrase_text}
+use Rattle.commands.specs.Writes.{Writes}
+use Rattle.commands.specs.declared.line.Phrase.{Phrase}
+
+-- the whole is a first part of itself
+pub AppendsPrefix-whole : (a b : Option (List ℕ)) (bytes : List ℕ) → Appends a b bytes → AppendsPrefix a b bytes
+AppendsPrefix-whole a b bytes p =
+    record {
+      count = length bytes;
+      within = omega arith;
+      appended = p
+          ∙ ap (append_told a) (sym (take_all (length bytes) bytes (omega arith)));
+    }
+
+-- what failed, where two things are known of it
+pub both_err : {X Y P Q R : Type 0} (result : Result X Y) → (P → Q → R) → OnErr result P → OnErr result Q → OnErr result R
+both_err (Ok x) f p q = tt
+both_err (Err e) f p q = f p q
+
+pub both_ok : {X Y P Q : Type 0} (result : Result X Y) → (P → Q) → OnOk result P → OnOk result Q
+both_ok (Ok x) f p = f p
+both_ok (Err e) f p = tt
+
+-- a first phrase, and others behind it
+abbrev pub so_far : Phrase → List Phrase → List ℕ
+so_far first others = phrase_text first ++ flat_map behind_blank (map phrase_text others)
+
+-- one phrase more
+pub so_far-push : (first : Phrase) (before : List Phrase) (x : Phrase)
+    → so_far first (before ++ x ∷ []) ≡ so_far first before ++ behind_blank (phrase_text x)
+so_far-push first before x =
+    ap (λ (t : List (List ℕ)). phrase_text first ++ flat_map behind_blank t) (map-append phrase_text before (x ∷ []))
+    ∙ ap (λ (t : List ℕ). phrase_text first ++ t) (flat_map-append behind_blank (map phrase_text before) (phrase_text x ∷ []))
+    ∙ ap (λ (t : List ℕ). phrase_text first ++ (flat_map behind_blank (map phrase_text before) ++ t))
+    (append-nil (behind_blank (phrase_text x)))
+    ∙ sym (append_assoc (phrase_text first) (flat_map behind_blank (map phrase_text before)) (behind_blank (phrase_text x)))
+
+-- what is left of a line behind the phrases so far
+pub line-at : (first : Phrase) (before : List Phrase) (x : Phrase) (after : List Phrase)
+    → line (phrase_text first) (map phrase_text (before ++ x ∷ after))
+    ≡ so_far first before ++ (behind_blank (phrase_text x) ++ (flat_map behind_blank (map phrase_text after) ++ 10 ∷ []))
+line-at first before x after =
+    let f = phrase_text first in
+    let b : List ℕ = flat_map behind_blank (map phrase_text before) in
+    let p : List ℕ = behind_blank (phrase_text x) in
+    let r : List ℕ = flat_map behind_blank (map phrase_text after) in
+    let all : flat_map behind_blank (map phrase_text (before ++ x ∷ after)) ≡ b ++ (p ++ r) =
+    ap (flat_map behind_blank) (map-append phrase_text before (x ∷ after))
+    ∙ flat_map-append behind_blank (map phrase_text before) (map phrase_text (x ∷ after)) in
+    ap (λ (t : List ℕ). (f ++ t) ++ 10 ∷ []) all
+    ∙ ap (λ (t : List ℕ). t ++ 10 ∷ []) (sym (append_assoc f b (p ++ r)))
+    ∙ append_assoc (f ++ b) (p ++ r) (10 ∷ [])
+    ∙ ap (λ (t : List ℕ). (f ++ b) ++ t) (append_assoc p r (10 ∷ []))
+
+-- a phrase that was not written whole is a first part of the rest of the line
+pub part_of_line : {X : Type 0} (written : X → Option (List ℕ)) (faults : X → ℕ) (old mid new : X) (first : Phrase)
+    (others : List Phrase) (i : ℕ) (d : Phrase)
+    → i < length others → WroteAll written old mid (so_far first (take i others)) → faults old ≤ faults mid
+    → WrotePart written faults mid new (behind_blank (phrase_text (get_or others i d)))
+    → WrotePart written faults old new (line (phrase_text first) (map phrase_text others))
+part_of_line written faults old mid new first others i d below before never_falls failed =
+    let x = get_or others i d in
+    let after : List ℕ = flat_map behind_blank (map phrase_text (drop (suc i) others)) ++ 10 ∷ [] in
+    part_after written faults old mid new (so_far first (take i others)) (behind_blank (phrase_text x)) after
+    (line (phrase_text first) (map phrase_text others))
+    before never_falls
+    (ap (λ (t : List Phrase). line (phrase_text first) (map phrase_text t)) (split_at others i d below)
+    ∙ line-at first (take i others) x (drop (suc i) others))
+    failed
+
+-- ---- one text behind another
+
+-- the first text was written, and the second is the end of the call
+pub writes_then : {X V E : Type 0} (written : X → Option (List ℕ)) (settled faults : X → ℕ) (old mid new : X) (s t : List ℕ)
+    (result : Result V E)
+    → WroteAll written old mid s → OnlyWrites settled faults old mid → Writes written settled faults mid new t result
+    → Writes written settled faults old new (s ++ t) result
+writes_then written settled faults old mid new s t result first only h =
+    record {
+      ok = both_ok result (appends_twice (written old) (written mid) (written new) s t first) h.ok;
+      failed = on_err result (part_last written faults old mid new s t first only.never_falls) h.failed;
+      only_writes =
+          record {
+            same_settled = h.only_writes.same_settled ∙ only.same_settled;
+            never_falls = omega (arith, only.never_falls, h.only_writes.never_falls);
+          };
+    }
+
+-- a first text was not written whole
+pub writes_stops : {X V W E F : Type 0} (written : X → Option (List ℕ)) (settled faults : X → ℕ) (old new : X) (s rest whole : List ℕ)
+    (x : E) (y : F)
+    → whole ≡ s ++ rest → Writes {V = V} written settled faults old new s (Err x)
+    → Writes {V = W} written settled faults old new whole (Err y)
+writes_stops written settled faults old new s rest whole x y is h =
+    record { ok = tt; failed = part_first written faults old new s rest whole is h.failed; only_writes = h.only_writes }
+
+-- one line more
+pub lines-more : (lines : List (List ℕ)) (i : ℕ) (d : List ℕ) → i < length lines
+    → in_lines (take (i + 1) lines) ≡ in_lines (take i lines) ++ get_or lines i d
+lines-more lines i d below =
+    ap in_lines (take_more lines i d below)
+    ∙ flat_map-append (λ (line : List ℕ). line) (take i lines) (get_or lines i d ∷ [])
+    ∙ ap (λ (t : List ℕ). in_lines (take i lines) ++ t) (append-nil (get_or lines i d))
+
+-- a line, with those before and behind it
+pub lines-parts : (lines : List (List ℕ)) (i : ℕ) (d : List ℕ) → i < length lines
+    → in_lines lines ≡ in_lines (take i lines) ++ (get_or lines i d ++ in_lines (drop (suc i) lines))
+lines-parts lines i d below =
+    ap in_lines (split_at lines i d below)
+    ∙ flat_map-append (λ (line : List ℕ). line) (take i lines) (get_or lines i d ∷ drop (suc i) lines)

@@ -1,0 +1,140 @@
+use Rattle.std.proofs.Common.{◌≡◌, ◌∙◌, ℕ, List, ap, subst, arith}
+use Rattle.std.specs.Prelude.{Option, Some}
+use Rattle.std.proofs.lemmas.Option.{get_or_from_slice_get}
+use Rattle.std.proofs.lemmas.Result.{err_from_is_err_and}
+use Rattle.surf_io.specs.Files.{Files}
+use Rattle.surf_model.specs.Edges.{IsTableOf}
+use Rattle.commands.specs.Answers.{Exactly}
+use Rattle.commands.specs.Certificates.{decision_of}
+use Rattle.commands.specs.Certify as of_certify
+use Rattle.commands.specs.Certify.{certificate_answer, limit_fault}
+use Rattle.commands.specs.Checks.{Passes}
+use Rattle.commands.specs.Inputs.{pair_in, walk_at}
+use Rattle.commands.specs.Stops.{Stops}
+use Rattle.commands.specs.declared.stop.Stop.TheVariants.{OutOfMemory}
+use Rattle.commands.proofs.Certifying.{walks_stop, limits_stop, allowed, certificate_found}
+use Rattle.commands.proofs.Checking.{two_walks}
+use Rattle.commands.proofs.Deciding.{walks_of_pair}
+use Rattle.commands.proofs.Running.{memory_no_fault, only_then, runs_faulty, runs_replied, runs_stopped, tells_no_fault}
+use Rattle.commands.proofs.certify.certify.Goals as goal
+
+pub returns-in_err-pair : goal.returns-in_err-pair
+returns-in_err-pair g c =
+    let surface = c.in_ok-surface.surface in
+    let stop = c.in_err-pair.field-0.0 in
+    let p = err_from_is_err_and c.from_residual-in_err-pair.result c.from_residual-in_err-pair.ensures.1 in
+    let table : IsTableOf surface.mesh c.sides.result.now = rw c.sides.ensures c.faces.ensures.valid.table in
+    let stops = c.in_err-pair.ensures.reads.end surface.mesh table in
+    rw (p.1, p.2)
+    (runs_stopped g.S.Shelf.held g.S.Shelf.faults c.args.shelf.now c.read_pair.new.shelf
+    (λ files. of_certify.certify files c.args.mesh.now c.args.walks.now) (λ none. none.0.0.0) c.read_surface.new.shelf _ stop
+    c.in_ok-surface.ensures.reads.only_reads c.in_err-pair.ensures.reads
+    (walks_stop (g.S.Shelf.held c.args.shelf.now) c.args.mesh.now c.args.walks.now surface.mesh stop c.in_ok-surface.ensures.reads.end
+    (subst (λ (files : Option Files). Stops (pair_in files c.args.walks.now surface.mesh) stop)
+    c.in_ok-surface.ensures.reads.only_reads.same_files stops)))
+
+pub at-first-requires : goal.at-first-requires
+at-first-requires g c =
+    let surface = c.in_ok-surface.surface in
+    let table : IsTableOf surface.mesh c.sides.result.now = rw c.sides.ensures c.faces.ensures.valid.table in
+    omega (arith, two_walks _ _ surface.mesh c.in_ok-pair.pair (c.in_ok-pair.ensures.reads.end surface.mesh table))
+
+pub at-second-requires : goal.at-second-requires
+at-second-requires g c =
+    let surface = c.in_ok-surface.surface in
+    let table : IsTableOf surface.mesh c.sides.result.now = rw c.sides.ensures c.faces.ensures.valid.table in
+    omega (arith, two_walks _ _ surface.mesh c.in_ok-pair.pair (c.in_ok-pair.ensures.reads.end surface.mesh table))
+
+pub returns-in_err-check_limits : goal.returns-in_err-check_limits
+returns-in_err-check_limits g c =
+    let surface = c.in_ok-surface.surface in
+    let pair = c.in_ok-pair.pair in
+    let stop = c.in_err-check_limits.field-0.0 in
+    let limit = c.in_err-check_limits.ensures in
+    let table : IsTableOf surface.mesh c.sides.result.now = rw c.sides.ensures c.faces.ensures.valid.table in
+    let passed : Passes (pair_in (g.S.Shelf.held c.args.shelf.now) c.args.walks.now surface.mesh) pair =
+    subst (λ (files : Option Files). Passes (pair_in files c.args.walks.now surface.mesh) pair)
+    c.in_ok-surface.ensures.reads.only_reads.same_files
+    (c.in_ok-pair.ensures.reads.end surface.mesh table) in
+    let p = err_from_is_err_and c.from_residual-in_err-check_limits.result c.from_residual-in_err-check_limits.ensures.1 in
+    let first : walk_at pair 0 ≡ c.at-first.result.now = get_or_from_slice_get pair 0 c.at-first.result.now _ c.at-first.ensures in
+    let second : walk_at pair 1 ≡ c.at-second.result.now = get_or_from_slice_get pair 1 c.at-second.result.now _ c.at-second.ensures in
+    let fault : limit_fault surface.mesh (walk_at pair 0) (walk_at pair 1) ≡ Some limit.0 =
+    ap (λ (w : List ℕ). limit_fault surface.mesh w (walk_at pair 1)) first
+    ∙ ap (λ (w : List ℕ). limit_fault surface.mesh c.at-first.result.now w) second ∙ limit.1 in
+    rw (p.1, p.2)
+    (runs_faulty g.S.Shelf.held g.S.Shelf.faults c.args.shelf.now c.read_pair.new.shelf
+    (λ files. of_certify.certify files c.args.mesh.now c.args.walks.now) (λ none. none.0.0.0) stop
+    (only_then g.S.Shelf.held g.S.Shelf.faults c.args.shelf.now c.read_surface.new.shelf c.read_pair.new.shelf
+    c.in_ok-surface.ensures.reads.only_reads c.in_ok-pair.ensures.reads.only_reads) (tells_no_fault (Exactly limit.0) stop limit.2)
+    (limits_stop (g.S.Shelf.held c.args.shelf.now) c.args.mesh.now c.args.walks.now surface.mesh pair limit.0 stop
+    c.in_ok-surface.ensures.reads.end passed fault limit.2))
+
+pub find_certificate-requires-clause-first : goal.find_certificate-requires-clause-first
+find_certificate-requires-clause-first g c =
+    let surface = c.in_ok-surface.surface in
+    let pair = c.in_ok-pair.pair in
+    let table : IsTableOf surface.mesh c.sides.result.now = rw c.sides.ensures c.faces.ensures.valid.table in
+    (walks_of_pair surface.mesh pair c.at-first.result.now c.at-second.result.now (c.in_ok-pair.ensures.pair surface.mesh table)
+    c.at-first.ensures
+    c.at-second.ensures).first_walk
+
+pub find_certificate-requires-clause-second : goal.find_certificate-requires-clause-second
+find_certificate-requires-clause-second g c =
+    let surface = c.in_ok-surface.surface in
+    let pair = c.in_ok-pair.pair in
+    let table : IsTableOf surface.mesh c.sides.result.now = rw c.sides.ensures c.faces.ensures.valid.table in
+    (walks_of_pair surface.mesh pair c.at-first.result.now c.at-second.result.now (c.in_ok-pair.ensures.pair surface.mesh table)
+    c.at-first.ensures
+    c.at-second.ensures).second_walk
+
+pub find_certificate-requires-clause-ends : goal.find_certificate-requires-clause-ends
+find_certificate-requires-clause-ends g c =
+    let surface = c.in_ok-surface.surface in
+    let pair = c.in_ok-pair.pair in
+    let table : IsTableOf surface.mesh c.sides.result.now = rw c.sides.ensures c.faces.ensures.valid.table in
+    (walks_of_pair surface.mesh pair c.at-first.result.now c.at-second.result.now (c.in_ok-pair.ensures.pair surface.mesh table)
+    c.at-first.ensures
+    c.at-second.ensures).ends
+
+pub find_certificate-requires-clause-limits : goal.find_certificate-requires-clause-limits
+find_certificate-requires-clause-limits g c =
+    allowed c.in_ok-surface.surface.mesh c.at-first.result.now c.at-second.result.now c.in_ok-check_limits.ensures
+
+pub returns : goal.returns
+returns g c =
+    let surface = c.in_ok-surface.surface in
+    let pair = c.in_ok-pair.pair in
+    let table : IsTableOf surface.mesh c.sides.result.now = rw c.sides.ensures c.faces.ensures.valid.table in
+    let passed : Passes (pair_in (g.S.Shelf.held c.args.shelf.now) c.args.walks.now surface.mesh) pair =
+    subst (λ (files : Option Files). Passes (pair_in files c.args.walks.now surface.mesh) pair)
+    c.in_ok-surface.ensures.reads.only_reads.same_files
+    (c.in_ok-pair.ensures.reads.end surface.mesh table) in
+    let known =
+    walks_of_pair surface.mesh pair c.at-first.result.now c.at-second.result.now (c.in_ok-pair.ensures.pair surface.mesh table)
+    c.at-first.ensures
+    c.at-second.ensures in
+    let first : walk_at pair 0 ≡ c.at-first.result.now = get_or_from_slice_get pair 0 c.at-first.result.now _ c.at-first.ensures in
+    let second : walk_at pair 1 ≡ c.at-second.result.now = get_or_from_slice_get pair 1 c.at-second.result.now _ c.at-second.ensures in
+    let shown = c.in_ok-shown.shown in
+    runs_replied g.S.Shelf.held g.S.Shelf.faults c.args.shelf.now c.read_pair.new.shelf
+    (λ files. of_certify.certify files c.args.mesh.now c.args.walks.now) (λ none. none.0.0.0) c.reply_with.result
+    (only_then g.S.Shelf.held g.S.Shelf.faults c.args.shelf.now c.read_surface.new.shelf c.read_pair.new.shelf
+    c.in_ok-surface.ensures.reads.only_reads c.in_ok-pair.ensures.reads.only_reads)
+    (record {
+      answer = certificate_answer surface.mesh c.at-first.result.now c.at-second.result.now (decision_of shown);
+      passes =
+          certificate_found (g.S.Shelf.held c.args.shelf.now) c.args.mesh.now c.args.walks.now surface.mesh pair c.at-first.result.now
+          c.at-second.result.now shown c.faces.ensures.valid.faces known.first_walk c.in_ok-surface.ensures.reads.end passed first second
+          c.in_ok-check_limits.ensures c.in_ok-shown.ensures;
+      is_answer = c.reply_with.ensures surface.mesh c.at-first.result.now c.at-second.result.now c.in_ok-shown.ensures;
+    })
+
+pub returns-in_err-shown : goal.returns-in_err-shown
+returns-in_err-shown g c =
+    let p = err_from_is_err_and c.from_residual-in_err-shown.result c.from_residual-in_err-shown.ensures.1 in
+    rw (p.1, p.2)
+    (runs_faulty g.S.Shelf.held g.S.Shelf.faults c.args.shelf.now c.read_pair.new.shelf
+    (λ files. of_certify.certify files c.args.mesh.now c.args.walks.now) (λ none. none.0.0.0) OutOfMemory
+    (only_then g.S.Shelf.held g.S.Shelf.faults c.args.shelf.now c.read_surface.new.shelf c.read_pair.new.shelf
+    c.in_ok-surface.ensures.reads.only_reads c.in_ok-pair.ensures.reads.only_reads) memory_no_fault tt)

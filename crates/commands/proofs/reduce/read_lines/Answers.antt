@@ -1,0 +1,14 @@
+use Rattle.walk_files.specs.NumberTexts.{words_of}
+use Rattle.commands.specs.Checks.{file, meant}
+use Rattle.commands.specs.Refusals.{numbers_line}
+use Rattle.commands.specs.declared.refusal.Input.TheVariants.{TurnWords}
+use Rattle.commands.proofs.Checking.{next_end}
+use Rattle.commands.proofs.Running.{reads_ended}
+use Rattle.commands.proofs.reduce.read_lines.Goals as goal
+
+pub returns : goal.returns
+returns g c =
+    reads_ended g.S.Shelf.held g.S.Shelf.faults c.args.shelf.now c.read_file.new.shelf _ c.lines_of_bytes.result
+    c.in_ok-bytes.ensures.only_reads c.lines_of_bytes.ensures.no_fault
+    (next_end (file (g.S.Shelf.held c.args.shelf.now) c.args.name.now TurnWords) (λ bytes. meant (numbers_line TurnWords) (words_of bytes))
+    c.in_ok-bytes.bytes.items c.lines_of_bytes.result c.in_ok-bytes.ensures.end (rw c.deref.ensures.value at c.lines_of_bytes.ensures.end))

@@ -1,0 +1,39 @@
+-- What the program answers: a status, and a text or any of several.
+use Rattle.std.specs.Prelude.{◌≡◌, ℕ, List}
+use Rattle.surf_model.specs.FaceLists.{FaceList}
+use Rattle.surf_model.specs.declared.chains.ChainLink.{ChainLink}
+use Rattle.orientation.specs.Chains.{IsOddChain}
+use Rattle.walk_translate.specs.declared.deciding.Answer as deciding
+use Rattle.commands.specs.Certificates.{Convinces, decision_of, certificate_text}
+use Rattle.commands.specs.Lines.{odd_chain_line}
+use Rattle.commands.specs.declared.certificate.Certificate.{Certificate}
+use Rattle.commands.specs.declared.status.Status.{Status}
+use Rattle.commands.specs.declared.status.Status.TheVariants.{Yes}
+
+-- the texts of which one is written
+pub data Texts : Type 0 where
+  -- none, since want of memory is no fault of an input
+  NoText : Texts
+  -- this one
+  Exactly : List ℕ → Texts
+  -- the line of an odd chain of the mesh, of any
+  OfOddChain : FaceList → Texts
+  -- a certificate for two walks of the mesh and the decision on them, of any that convinces
+  OfCertificate : FaceList → (first second : List ℕ) → deciding.Answer → Texts
+
+-- the text is one of them
+abbrev pub IsText : Texts → List ℕ → Type 0
+IsText NoText text = ⊥
+IsText (Exactly wanted) text = text ≡ wanted
+IsText (OfOddChain mesh) text = (chain : List ChainLink) × IsOddChain mesh chain × (text ≡ odd_chain_line chain)
+IsText (OfCertificate mesh first second decision) text =
+    (shown : Certificate) × Convinces mesh first second shown × (decision_of shown ≡ decision) × (text ≡ certificate_text shown)
+
+-- what is answered where nothing is refused
+pub record Answer : Type 0 where
+  pub status : Status
+  pub texts : Texts
+
+-- yes, or the thing that was asked for, with this text
+abbrev pub yes_with : List ℕ → Answer
+yes_with text = record { status = Yes; texts = Exactly text }

@@ -1,0 +1,43 @@
+-- What a certificate shows, and how it is written.
+use Rattle.std.specs.Prelude.{ℕ, List, [], ◌++◌, codes}
+use Rattle.surf_model.specs.FaceLists.{FaceList}
+use Rattle.move_lifting.specs.Lifts.{LeadsAtPeak}
+use Rattle.labellings.specs.Denials.{DenialHolds}
+use Rattle.walk_files.specs.DenialTexts.{denial_text}
+use Rattle.walk_files.specs.MoveTexts.{list_text}
+use Rattle.walk_translate.specs.declared.deciding.Answer as deciding
+use Rattle.walk_translate.specs.declared.deciding.Answer.TheVariants.{Homotopic, Different}
+use Rattle.commands.specs.Lines.{line}
+use Rattle.commands.specs.declared.certificate.Certificate.{Certificate}
+use Rattle.commands.specs.declared.certificate.Certificate.TheVariants.{Moves, Denial}
+use Rattle.commands.specs.declared.status.Status.{Status}
+use Rattle.commands.specs.declared.status.Status.TheVariants.{Yes, No}
+
+-- The certificate shows what holds of the two walks: its moves lead from the first to the second, and its peak is the greatest number
+-- of darts among the walks that they pass; or it is a denial that holds.
+abbrev pub Convinces : FaceList → (first second : List ℕ) → Certificate → Type 0
+Convinces mesh first second (Moves list) = LeadsAtPeak mesh first list second
+Convinces mesh first second (Denial denial) = DenialHolds mesh first second denial
+
+-- the decision that it is for
+abbrev pub decision_of : Certificate → deciding.Answer
+decision_of (Moves list) = Homotopic
+decision_of (Denial denial) = Different
+
+-- yes where the walks are homotopic
+abbrev pub decision_status : deciding.Answer → Status
+decision_status Homotopic = Yes
+decision_status Different = No
+
+-- the word of a decision, and its line
+abbrev pub decision_word : deciding.Answer → List ℕ
+decision_word Homotopic = codes "homotopic"
+decision_word Different = codes "different"
+
+abbrev pub decision_line : deciding.Answer → List ℕ
+decision_line decision = line (decision_word decision) []
+
+-- a certificate behind the line of the decision that it is for
+abbrev pub certificate_text : Certificate → List ℕ
+certificate_text (Moves list) = decision_line Homotopic ++ list_text list
+certificate_text (Denial denial) = decision_line Different ++ denial_text denial

@@ -1,0 +1,94 @@
+-- The command `certify`.
+use Rattle.std.specs.Prelude.{◌≡◌, ℕ, ◌+◌, ◌<◌, ◌≤◌, ◌↔◌, nat_lt, if◌then◌else◌, List, [], ◌∷◌, codes, decimal, Option, Some, None}
+use Rattle.surf_io.specs.Files.{Files}
+use Rattle.surf_model.specs.FaceLists.{FaceList, total_sides}
+use Rattle.surf_model.specs.Moves as moves
+use Rattle.surf_model.specs.Surfaces.{IsSurface}
+use Rattle.surf_model.specs.Walks.{darts}
+use Rattle.move_lifting.specs.declared.expanding.TheConstants.{MOST_LIFTED_SIDES, MOST_LIFTED_DARTS}
+use Rattle.walk_translate.specs.declared.deciding.Answer as deciding
+use Rattle.walk_translate.specs.declared.deciding.Answer.TheVariants.{Homotopic}
+use Rattle.commands.specs.Answers.{Answer, Exactly, OfCertificate}
+use Rattle.commands.specs.Certificates.{Convinces, decision_of, decision_status, certificate_text}
+use Rattle.commands.specs.Checks.{Check, End, Refuse, Pass, Holds, pass_unless, without_files, ◌>>=◌}
+use Rattle.commands.specs.Inputs.{pair_in, walk_at, SpellsMesh, SpellsPair}
+use Rattle.commands.specs.Lines.{refused}
+use Rattle.commands.specs.SurfaceInput.{surface_in}
+use Rattle.commands.specs.declared.certificate.Certificate.{Certificate}
+use Rattle.commands.specs.declared.status.Status.{Status}
+use Rattle.commands.specs.declared.status.Status.TheVariants.{Yes, Refused}
+
+-- The words are those of `certify`, and the two files that they name are told and stand for a connected orientable closed surface
+-- and two walks of it with common ends.
+pub record IsCertifyInput (held : Option Files) (words : List (List ℕ)) (mesh : FaceList) (first second : List ℕ) : Type 0 where
+  pub mesh_name : List ℕ
+  pub walks_name : List ℕ
+  pub words_are : words ≡ codes "certify" ∷ mesh_name ∷ walks_name ∷ []
+  pub mesh_file : Holds held mesh_name (SpellsMesh mesh)
+  pub is_surface : IsSurface mesh
+  pub walks_file : Holds held walks_name (SpellsPair mesh first second)
+
+-- the refusals of a surface with too many sides, and of walks with too many darts
+abbrev pub sides_line : FaceList → List ℕ
+sides_line mesh = refused (codes "certify sides" ∷ decimal (total_sides mesh) ∷ [])
+
+abbrev pub darts_line : (first second : List ℕ) → List ℕ
+darts_line first second = refused (codes "certify darts" ∷ decimal (darts first + darts second) ∷ [])
+
+-- the surface and the walks are not too large
+pub record IsWithinLimits (mesh : FaceList) (first second : List ℕ) : Type 0 where
+  pub sides : total_sides mesh ≤ MOST_LIFTED_SIDES
+  pub few : darts first + darts second ≤ MOST_LIFTED_DARTS
+
+-- A certificate that convinces is printed behind the decision that it is for, with the status of that decision. That `verify` accepts what
+-- is printed is said in `PrintedCertificates`.
+pub record IsCertificatePrinted (mesh : FaceList) (first second : List ℕ) (status : Status) (text : List ℕ) : Type 0 where
+  pub shown : Certificate
+  pub convinces : Convinces mesh first second shown
+  pub status_is : status ≡ decision_status (decision_of shown)
+  pub text_is : text ≡ certificate_text shown
+
+-- What `certify` answers of such an input, within its limits: a certificate that convinces. It is `homotopic` and a list that leads,
+-- with status 0, exactly where some list of moves leads from the first walk to the second; and else `different` and a denial that
+-- holds, with status 1. Beyond the limits it is refused: for the sides, and then for the darts.
+pub record IsCertified (held : Option Files) (words : List (List ℕ)) (status : Status) (text : List ℕ) : Type 0 where
+  pub answered : (mesh : FaceList) (first second : List ℕ) → IsCertifyInput held words mesh first second → IsWithinLimits mesh first second
+      → IsCertificatePrinted mesh first second status text
+  pub exactly : (mesh : FaceList) (first second : List ℕ) → IsCertifyInput held words mesh first second → IsWithinLimits mesh first second
+      → (status ≡ Yes) ↔ moves.Homotopic mesh first second
+  pub many_sides : (mesh : FaceList) (first second : List ℕ) → IsCertifyInput held words mesh first second
+      → MOST_LIFTED_SIDES < total_sides mesh → (status ≡ Refused) × (text ≡ sides_line mesh)
+  pub many_darts : (mesh : FaceList) (first second : List ℕ) → IsCertifyInput held words mesh first second
+      → total_sides mesh ≤ MOST_LIFTED_SIDES → MOST_LIFTED_DARTS < darts first + darts second
+      → (status ≡ Refused) × (text ≡ darts_line first second)
+
+-- ---- what is looked at, in order
+
+-- the refusal of a surface or of walks that are too large
+abbrev pub limit_fault : FaceList → (first second : List ℕ) → Option (List ℕ)
+limit_fault mesh first second =
+    if nat_lt MOST_LIFTED_SIDES (total_sides mesh) then Some (sides_line mesh)
+    else if nat_lt MOST_LIFTED_DARTS (darts first + darts second) then Some (darts_line first second)
+    else None
+
+-- the answer that a certificate for a decision gives
+abbrev pub certificate_answer : FaceList → (first second : List ℕ) → deciding.Answer → Answer
+certificate_answer mesh first second decision =
+    record { status = decision_status decision; texts = OfCertificate mesh first second decision }
+
+-- the decision on two walks of a mesh, for which a certificate is printed
+abbrev pub certified : FaceList → (first second : List ℕ) → Check Answer
+certified mesh first second = without_files ends
+  where
+    ends : End Answer → Type 0
+    ends (Refuse texts) = ⊥
+    ends (Pass answer) =
+        (decision : deciding.Answer) × (answer ≡ certificate_answer mesh first second decision)
+        × ((decision ≡ Homotopic) ↔ moves.Homotopic mesh first second)
+
+abbrev pub certify : Option Files → (mesh walks : List ℕ) → Check Answer
+certify held mesh walks = do
+  surface ← surface_in held mesh
+  pair ← pair_in held walks surface
+  allowed ← pass_unless (λ line. Exactly line) (limit_fault surface (walk_at pair 0) (walk_at pair 1)) pair
+  certified surface (walk_at pair 0) (walk_at pair 1)

@@ -1,0 +1,79 @@
+-- The checks of the files that a command reads, each with what it passes.
+use Rattle.std.specs.Prelude.{◌≡◌, ℕ, ◌≤◌, List, [], ◌∷◌, slice_index_or, Option, Result, Ok, Err}
+use Rattle.surf_io.specs.Files.{Files}
+use Rattle.surf_model.specs.FaceLists.{FaceList}
+use Rattle.surf_model.specs.Walks.{IsWalk, HaveCommonEnds}
+use Rattle.off_reader.specs.OffTexts.{meaning_of}
+use Rattle.walk_files.specs.Certificates.{head_of_text, moves_of_text, with_peak}
+use Rattle.walk_files.specs.Denials.{denial_of_lines}
+use Rattle.walk_files.specs.NumberTexts.{walks_of}
+use Rattle.walk_files.specs.Pairs.{pair_fault}
+use Rattle.walk_files.specs.declared.certificate.CertHead.{CertHead}
+use Rattle.walk_files.specs.declared.certificate.CertHead.TheVariants as heads
+use Rattle.walk_files.specs.declared.fault.CertFault.{CertFault}
+use Rattle.walk_files.specs.declared.limits.TheConstants.{MOST_PEAK}
+use Rattle.commands.specs.Checks.{Check, file, meant, pass_unless, ◌>>=◌}
+use Rattle.commands.specs.Refusals.{off_line, numbers_line, pair_line, certificate_line}
+use Rattle.commands.specs.declared.certificate.Certificate.{Certificate}
+use Rattle.commands.specs.declared.certificate.Certificate.TheVariants.{Moves, Denial}
+use Rattle.commands.specs.declared.refusal.Input.TheVariants as inputs
+
+-- the mesh that the file spells
+abbrev pub mesh_in : Option Files → List ℕ → Check FaceList
+mesh_in held name = do
+  bytes ← file held name inputs.Mesh
+  meant off_line (meaning_of bytes)
+
+-- the walks that the file spells, which are two walks of the mesh with common ends
+abbrev pub pair_in : Option Files → List ℕ → FaceList → Check (List (List ℕ))
+pair_in held name mesh = do
+  bytes ← file held name inputs.Walks
+  walks ← meant (numbers_line inputs.Walks) (walks_of bytes)
+  pass_unless pair_line (pair_fault mesh walks) walks
+
+-- walk k of some, counted from 0
+abbrev pub walk_at : List (List ℕ) → ℕ → List ℕ
+walk_at walks k = slice_index_or walks k []
+
+-- what is read of a certificate, as one
+abbrev pub as_certificate : {A : Type 0} → (A → Certificate) → Result A CertFault → Result Certificate CertFault
+as_certificate make (Err fault) = Err fault
+as_certificate make (Ok thing) = Ok (make thing)
+
+-- the certificate behind a head, or the first fault of the lines there
+abbrev pub certificate_behind : Result CertHead CertFault → List ℕ → Result Certificate CertFault
+certificate_behind (Err fault) text = Err fault
+certificate_behind (Ok (heads.Moves count peak)) text = as_certificate Moves (with_peak peak (moves_of_text count text))
+certificate_behind (Ok (heads.Labels degree)) text = as_certificate Denial (denial_of_lines degree text)
+
+-- the certificate that a text is, or its first fault
+abbrev pub certificate_of : List ℕ → Result Certificate CertFault
+certificate_of text = certificate_behind (head_of_text text) text
+
+-- the peak of a list of moves is one that is read
+abbrev pub IsPeakRead : Certificate → Type 0
+IsPeakRead (Moves list) = list.peak ≤ MOST_PEAK
+IsPeakRead (Denial denial) = Unit {0}
+
+-- the certificate that the file spells
+abbrev pub certificate_in : Option Files → List ℕ → Check Certificate
+certificate_in held name = do
+  bytes ← file held name inputs.Certificate
+  meant certificate_line (certificate_of bytes)
+
+-- ---- what the bytes of a file spell
+
+-- a mesh
+abbrev pub SpellsMesh : FaceList → List ℕ → Type 0
+SpellsMesh mesh bytes = meaning_of bytes ≡ Ok mesh
+
+-- two walks of the mesh with common ends
+pub record SpellsPair (mesh : FaceList) (first second bytes : List ℕ) : Type 0 where
+  pub text : walks_of bytes ≡ Ok (first ∷ second ∷ [])
+  pub first_walk : IsWalk mesh first
+  pub second_walk : IsWalk mesh second
+  pub ends : HaveCommonEnds first second
+
+-- a certificate
+abbrev pub SpellsCertificate : Certificate → List ℕ → Type 0
+SpellsCertificate certificate bytes = certificate_of bytes ≡ Ok certificate

@@ -1,0 +1,151 @@
+//! The command `trial`: what `surface` and `decide` say of a chain of tori, and of its three pairs of walks.
+ghost use Rattle.std.specs.Prelude.{◌≡◌, [], ◌∷◌, MatchResult, IfOk, Err};
+ghost use Rattle.surf_gen.specs.ChainTexts.{chain_text};
+ghost use Rattle.surf_gen.specs.Sizes.{IsChain};
+ghost use Rattle.commands.specs.Certificates.{decision_word};
+ghost use Rattle.commands.specs.Checks.{Passes, pass_unless};
+ghost use Rattle.commands.specs.Lines.{in_lines, line};
+ghost use Rattle.commands.specs.Refusals.{told};
+ghost use Rattle.commands.specs.Replies.{Replies};
+ghost use Rattle.commands.specs.Stops.{Ends, Stops};
+ghost use Rattle.commands.specs.Trial as of_trial;
+ghost use Rattle.commands.specs.Trial.{is_within, size_fault, surface_spelled, pair_decided, pairs_decided, trial_text};
+ghost use Rattle.commands.specs.declared.stop.Stop.{Stop};
+
+use crate::decide::word_of;
+use crate::line::{Line, Phrase};
+use crate::refusal::refused;
+use crate::reply::Reply;
+use crate::stop::Stop;
+use crate::surface::{SurfaceNumbers, line_of_count, numbers_of};
+use crate::surface_input::surface_of;
+use crate::text::Text;
+use halfedge_map::Surface;
+use off_reader::read_off;
+use std::alloc::{AllocError, Global};
+use surf_gen::{LEAST_GRID, MOST_GENUS, MOST_GRID, TrialPair, WalkPair, chain_of_tori, trial_pair};
+use walk_files::{WalkList, check_pair};
+use walk_translate::Answer;
+
+/// The decisions on the three pairs of walks.
+#[derive(Clone, Copy, Debug, PartialEq, Eq)]
+pub struct Decisions {
+    pub commuting: Answer,
+    pub cell: Answer,
+    pub loops: Answer,
+}
+
+/// The numbers of a chain of `genus` tori of `grid` times `grid` points each, and the decisions on its pairs of walks. No
+/// file is read.
+pub fn trial(alloc: Global, genus: u32, grid: u32) -> Result<Reply, Stop>
+    ensures end { MatchResult result (Replies (of_trial.trial genus grid)) (Stops (of_trial.trial genus grid)) }
+    ensures no_fault { result ≡ Err Stop.ReadFault → ⊥ }
+{
+    check_sizes(genus, grid)?;
+    let surface = chain_surface(alloc, genus, grid)?;
+    let numbers = numbers_of(alloc, &surface)?;
+    let decisions = decide_pairs(alloc, &surface, genus, grid)?;
+    let lines = lines_of(alloc, genus, grid, &numbers, decisions)?;
+    Ok(Reply::Yes(Text::Lines(lines)))
+}
+
+/// Refuses a genus, and then a grid, that is out of bounds.
+fn check_sizes(genus: u32, grid: u32) -> Result<(), Stop>
+    ensures end { MatchResult result (λ _. Passes (pass_unless told (size_fault genus grid) genus) genus)
+        (Stops (pass_unless told (size_fault genus grid) genus)) }
+    ensures sizes { IfOk result (λ _. IsChain genus grid) }
+    ensures no_fault { result ≡ Err Stop.ReadFault → ⊥ }
+{
+    if !is_within(1, MOST_GENUS, genus) {
+        return Err(refused(&[Phrase::Text("trial genus"), Phrase::Number(genus as u64)]));
+    }
+    if !is_within(LEAST_GRID, MOST_GRID, grid) {
+        return Err(refused(&[Phrase::Text("trial grid"), Phrase::Number(grid as u64)]));
+    }
+    Ok(())
+}
+
+/// Whether a number is within bounds.
+fn is_within(least: u32, most: u32, n: u32) -> bool
+    ensures { result ≡ is_within least most n }
+{
+    (least..=most).contains(&n)
+}
+
+/// The chain as a surface, read from its text.
+fn chain_surface(alloc: Global, genus: u32, grid: u32) -> Result<Surface, Stop>
+    requires { IsChain genus grid }
+    ensures end { MatchResult result (λ surface. Passes (surface_spelled (chain_text genus grid)) surface.mesh)
+        (Stops (surface_spelled (chain_text genus grid))) }
+    ensures no_fault { result ≡ Err Stop.ReadFault → ⊥ }
+{
+    let text = chain_of_tori(alloc, genus, grid)?;
+    let faces = read_off(alloc, &text)?;
+    surface_of(alloc, faces)
+}
+
+/// The decisions on the three pairs.
+fn decide_pairs(alloc: Global, surface: &Surface, genus: u32, grid: u32) -> Result<Decisions, Stop>
+    requires { IsChain genus grid }
+    ensures end { Ends (pairs_decided surface.now.mesh grid) result }
+    ensures no_fault { result ≡ Err Stop.ReadFault → ⊥ }
+{
+    let commuting = decide_pair(alloc, surface, genus, grid, TrialPair::Commuting)?;
+    let cell = decide_pair(alloc, surface, genus, grid, TrialPair::Cell)?;
+    let loops = decide_pair(alloc, surface, genus, grid, TrialPair::Loops)?;
+    Ok(Decisions {
+        commuting,
+        cell,
+        loops,
+    })
+}
+
+/// The decision on a pair. That its walks are two walks of the surface with common ends is looked at, as of any two walks.
+fn decide_pair(
+    alloc: Global,
+    surface: &Surface,
+    genus: u32,
+    grid: u32,
+    which: TrialPair,
+) -> Result<Answer, Stop>
+    requires { IsChain genus grid }
+    ensures end { Ends (pair_decided surface.now.mesh grid which) result }
+    ensures no_fault { result ≡ Err Stop.ReadFault → ⊥ }
+{
+    // The proof reads what holds of every surface.
+    let _ = surface.faces();
+    let WalkPair { first, second } = trial_pair(alloc, genus, grid, which)?;
+    let pair = WalkList::pair(alloc, first, second)?;
+    check_pair(surface.sides(), &pair)?;
+    Ok(walk_translate::decide(alloc, surface, pair.at(0), pair.at(1))?)
+}
+
+/// The eight lines.
+fn lines_of(
+    alloc: Global,
+    genus: u32,
+    grid: u32,
+    numbers: &SurfaceNumbers,
+    decisions: Decisions,
+) -> Result<Vec<Line>, AllocError>
+    ensures { IfOk result (λ lines. in_lines lines.items ≡ trial_text genus grid numbers.now decisions) }
+{
+    let sizes = [Phrase::Number(genus as u64), Phrase::Number(grid as u64)];
+    Ok(vec![in alloc;
+        Line::of(Phrase::Text("trial"), &sizes),
+        line_of_count("V", numbers.vertices),
+        line_of_count("E", numbers.edges),
+        line_of_count("F", numbers.faces),
+        line_of_count("genus", numbers.genus),
+        line_of_decision("commuting", decisions.commuting),
+        line_of_decision("cell", decisions.cell),
+        line_of_decision("loops", decisions.loops),
+    ]?)
+}
+
+/// The line of the decision on a pair.
+fn line_of_decision(pair: &'static str, decision: Answer) -> Line
+    ensures { result ≡ line pair.now (decision_word decision ∷ []) }
+{
+    Line::of(Phrase::Text(pair), &[Phrase::Text(word_of(decision))])
+}

@@ -1,0 +1,103 @@
+-- Bytes of a file that come one by one, or piece by piece.
+use Rattle.std.proofs.Common.{◌≡◌, ℕ, suc, ◌+◌, ◌≤◌, true, List, [], ◌∷◌, ◌++◌, length, take, drop, Option, None, Some, IfSome, MatchOption, refl, sym, ap, subst, ◌∙◌, arith, append_assoc, drop-drop, take-append-drop}
+use Rattle.std.proofs.lemmas.List.{length-drop}
+use Rattle.file_pieces.specs.Reading.{Reading, Reads, left_of, read_so_far}
+
+-- what holds of what a shelf holds, where it tells so
+pub told : {A : Type 0} (P : A → Type 0) (o : Option A) → ((x : A) → o ≡ Some x → P x) → IfSome o P
+told P None holds = tt
+told P (Some x) holds = holds x refl
+
+pub at_told : {A : Type 0} (P : A → Type 0) (o : Option A) (x : A) → o ≡ Some x → IfSome o P → P x
+at_told P o x is holds = subst (λ p. IfSome p P) is holds
+
+none_left : (n : ℕ) (xs : List ℕ) → length xs ≤ n → drop n xs ≡ []
+none_left n xs past = by_cases (drop n xs) (omega (arith, length-drop n xs))
+  where
+    by_cases : (ys : List ℕ) → length ys ≤ 0 → ys ≡ []
+    by_cases [] none = refl
+    by_cases (y ∷ ys) none = absurd (omega (arith, none))
+
+-- the first byte that is kept is the first that is left
+front : (xs : List ℕ) (byte : ℕ) (kept : List ℕ) → byte ∷ kept ≡ take (suc (length kept)) xs
+    → (xs ≡ byte ∷ drop 1 xs) × (kept ≡ take (length kept) (drop 1 xs))
+front [] byte kept is = cc
+front (x ∷ xs) byte kept is =
+    let first : byte ≡ x = cc in
+    let others : kept ≡ take (length kept) xs = cc in
+    (ap (λ b. b ∷ xs) (sym first), others)
+
+record TakesByte (old new : Reading) (file : List ℕ) (byte : ℕ) : Type 0 where
+  reads : Reads new file
+  first : left_of old file ≡ byte ∷ left_of new file
+
+takes_byte : (old : Reading) (file : List ℕ) (byte : ℕ) (kept : List ℕ) → Reads old file → old.kept ≡ byte ∷ kept → (old.ended ≡ true → ⊥)
+    → TakesByte old (record old { place = old.place + 1; kept = kept }) file byte
+takes_byte old file byte kept reads is more =
+    let parts = front (left_of old file) byte kept (sym is ∙ reads.kept ∙ ap (λ (k : List ℕ). take (length k) (left_of old file)) is) in
+    let rest : drop 1 (left_of old file) ≡ drop (old.place + 1) file = drop-drop 1 old.place file in
+    record {
+      reads = record {
+        within = omega (arith, reads.within, ap (λ (k : List ℕ). length k) is);
+        kept = parts.1 ∙ ap (take (length kept)) rest;
+        whole = λ ended. absurd (more ended);
+      };
+      first = parts.0 ∙ ap (λ t. byte ∷ t) rest;
+    }
+
+-- where a byte is kept, the file has not ended
+not_ended : (reading : Reading) (file : List ℕ) (byte : ℕ) (kept : List ℕ) → Reads reading file → reading.kept ≡ byte ∷ kept
+    → reading.ended ≡ true → ⊥
+not_ended reading file byte kept reads is ended = omega (arith, reads.within, reads.whole ended, ap (λ (k : List ℕ). length k) is)
+
+-- what a call says that took a byte or found none
+abbrev pub Taken : Reading → Reading → Option ℕ → List ℕ → Type 0
+Taken old new byte file =
+    Reads old file → Reads new file × MatchOption byte (left_of old file ≡ []) (λ b. left_of old file ≡ b ∷ left_of new file)
+
+-- the next byte was taken
+pub next_byte : (old mid new : Reading) (file : List ℕ) (byte : Option ℕ) → mid.place ≡ old.place → Reads mid file
+    → (mid.kept ≡ [] → mid.ended ≡ true)
+    → MatchOption byte ((mid.kept ≡ []) × (new ≡ mid))
+    (λ b. (mid.kept ≡ b ∷ new.kept) × (new ≡ record mid { place = mid.place + 1; kept = new.kept }))
+    → Reads new file × MatchOption byte (left_of old file ≡ []) (λ b. left_of old file ≡ b ∷ left_of new file)
+next_byte old mid new file None same reads ends took = (
+  subst (λ (r : Reading). Reads r file) (sym took.1) reads,
+  ap (λ p. drop p file) (sym same) ∙ none_left mid.place file (reads.whole (ends took.0)),
+)
+next_byte old mid new file (Some b) same reads ends took =
+    let takes : TakesByte mid (record mid { place = mid.place + 1; kept = new.kept }) file b =
+    takes_byte mid file b new.kept reads took.0 (not_ended mid file b new.kept reads took.0) in (
+      subst (λ (r : Reading). Reads r file) (sym took.1) takes.reads,
+      ap (λ p. drop p file) (sym same) ∙ takes.first ∙ ap (λ (r : Reading). b ∷ left_of r file) (sym took.1),
+    )
+
+-- all bytes that are kept were passed over
+pub pass_kept-reads : (old new : Reading) (file : List ℕ) → new ≡ record old { place = read_so_far old; kept = [] } → Reads old file
+    → (old.ended ≡ true → ⊥) → Reads new file
+pass_kept-reads old new file is reads more =
+    subst (λ (r : Reading). Reads r file) (sym is) (record {
+      within = omega (arith, reads.within);
+      kept = refl;
+      whole = λ ended. absurd (more ended);
+    })
+
+-- those, and the others
+pub kept_and_others : (reading : Reading) (file : List ℕ) → Reads reading file
+    → left_of reading file ≡ reading.kept ++ drop (read_so_far reading) file
+kept_and_others reading file reads =
+    sym (take-append-drop (length reading.kept) (left_of reading file))
+    ∙ ap (λ t. t ++ drop (length reading.kept) (left_of reading file)) (sym reads.kept)
+    ∙ ap (λ t. reading.kept ++ t) (drop-drop (length reading.kept) reading.place file)
+
+-- those that are kept were gathered
+pub gathered : (old mid new : Reading) (file before after all kept : List ℕ) → Reads old file
+    → before ++ left_of old file ≡ all → after ≡ before ++ kept → kept ≡ old.kept
+    → mid ≡ record old { place = read_so_far old; kept = [] } → new.place ≡ mid.place → after ++ left_of new file ≡ all
+gathered old mid new file before after all kept reads so_far more same passed stays =
+    let place : new.place ≡ read_so_far old = stays ∙ ap (λ (r : Reading). r.place) passed in
+    ap (λ p. after ++ drop p file) place
+    ∙ ap (λ t. t ++ drop (read_so_far old) file) (more ∙ ap (λ t. before ++ t) same)
+    ∙ append_assoc before old.kept (drop (read_so_far old) file)
+    ∙ ap (λ t. before ++ t) (sym (kept_and_others old file reads))
+    ∙ so_far

@@ -1,0 +1,4 @@
+pub mod Sums
+pub mod Chains
+pub mod Cocycles
+pub mod Examples

@@ -1,0 +1,24 @@
+//! What holds of chains and cocycles, said of the definitions. A call of one of these functions does nothing; its
+//! contract is the law.
+ghost use Rattle.std.specs.Prelude.{◌≡◌, ◌<◌, ℕ, List, length, ℤ};
+ghost use Rattle.surf_model.specs.FaceLists.{FaceList};
+ghost use Rattle.surf_model.specs.Walks.{IsWalk};
+ghost use Rattle.surf_model.specs.Moves.{Leads, Homotopic};
+ghost use Rattle.surf_model.specs.declared.moves.Move.{Move};
+ghost use Rattle.homology.specs.Chains.{IsChain, AreHomologous, net_crossings};
+ghost use Rattle.homology.specs.Cocycles.{IsCocycle, Separates};
+
+/// Homotopic walks are homologous, on every face list. The chain counts the faces of the list of moves, each as often as
+/// it is crossed forward, less how often backward.
+pub fn homotopic_walks_are_homologous()
+    ensures chain { (mesh : FaceList) (first second : List ℕ) (moves : List Move) → 0 < length first
+        → Leads mesh first moves second → IsChain mesh (net_crossings moves) first second }
+    ensures walks { (mesh : FaceList) (first second : List ℕ) → IsWalk mesh first → Homotopic mesh first second
+        → AreHomologous mesh first second }
+{}
+
+/// What a cocycle shows. Where it separates two walks they have no chain, on every face list, whoever made it.
+pub fn no_chain_where_a_cocycle_separates()
+    ensures { (mesh : FaceList) (of_edge : ℕ → ℕ → ℤ) (first second : List ℕ) → IsWalk mesh first → IsWalk mesh second
+        → IsCocycle mesh of_edge → Separates of_edge first second → AreHomologous mesh first second → ⊥ }
+{}

@@ -1,0 +1,4 @@
+//! Homology of walks on polygon meshes, with certificates both ways.
+#![tactic(auto)]
+
+pub mod laws;

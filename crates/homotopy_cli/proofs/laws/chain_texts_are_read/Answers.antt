@@ -1,5 +1,0 @@
-use Rattle.homotopy_cli.proofs.ChainReading.{chain_read}
-use Rattle.homotopy_cli.proofs.laws.chain_texts_are_read.Goals as goal
-
-pub returns : goal.returns
-returns c = chain_read

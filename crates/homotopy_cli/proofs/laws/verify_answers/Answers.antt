@@ -1,5 +1,0 @@
-use Rattle.homotopy_cli.proofs.Outcomes.{verified_by, denial_verified_by}
-use Rattle.homotopy_cli.proofs.laws.verify_answers.Goals as goal
-
-pub returns : goal.returns
-returns c = record { moves = verified_by; denial = denial_verified_by }

@@ -1,0 +1,42 @@
+-- A mesh cut into its components: the faces of each, and for each vertex the place of its component.
+use Rattle.std.specs.Prelude.{◌≡◌, ℕ, ◌<◌, ◌≤◌, List, [], length, map, slice_index_or}
+use Rattle.surf_model.specs.FaceLists.{FaceList}
+use Rattle.surf_model.specs.Parts.{parts, EndsRise}
+use Rattle.surf_model.specs.Components.{ArePlacesOfComponents, faces_of_component}
+use Rattle.surf_model.specs.declared.names.FaceName.{FaceName}
+use Rattle.surf_model.specs.declared.limits.TheConstants.{MOST_VERTICES, MOST_SIDES}
+use Rattle.manifold_check.specs.Submeshes.{submesh}
+
+-- the components, each as the list of its faces, and for each vertex the place of its component
+pub record PartsView : Type 0 where
+  pub components : List (List ℕ)
+  pub places : List ℕ
+
+-- the faces of component k; none where there is no such component
+abbrev pub component_at : PartsView → ℕ → List ℕ
+component_at parts k = slice_index_or parts.components k []
+
+-- the components of the mesh, in order, each with its faces in rising order
+pub record AreParts (mesh : FaceList) (parts : PartsView) : Type 0 where
+  pub places : ArePlacesOfComponents mesh (length parts.components) parts.places
+  pub faces : (k : ℕ) → k < length parts.components → component_at parts k ≡ faces_of_component mesh parts.places k
+
+-- the mesh of component k
+abbrev pub component_mesh : FaceList → PartsView → ℕ → FaceList
+component_mesh mesh parts k = submesh mesh (component_at parts k)
+
+-- a face by its number, and the numbers of faces
+abbrev pub named_face : ℕ → FaceName
+named_face f = record { 0 = f }
+
+abbrev pub face_numbers : List FaceName → List ℕ
+face_numbers faces = map (λ f. f.0) faces
+
+-- how the parts lie in memory: the places, the faces one component after another, and where those of each end
+abbrev pub stored_parts : List ℕ → List FaceName → List ℕ → PartsView
+stored_parts places faces ends = record { components = parts 0 ends (face_numbers faces); places = places }
+
+pub record AreStoredParts (faces : List FaceName) (ends : List ℕ) : Type 0 where
+  pub rising : EndsRise 0 ends (length faces)
+  pub few : length ends ≤ MOST_VERTICES
+  pub few_faces : length faces ≤ MOST_SIDES

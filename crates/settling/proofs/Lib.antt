@@ -1,0 +1,4 @@
+pub mod Rows
+pub mod Settling
+pub mod Losses
+pub mod Law

@@ -1,0 +1,2 @@
+pub mod Turn_rows
+pub mod Examples

@@ -1,0 +1,3 @@
+pub mod WidenedLemmas
+pub mod WidenedPaths
+mod WideningLemmas
