@@ -350,17 +350,18 @@ impl Cells {
         ensures free { self.new.free ≡ self.old.free + 1 }
     {
         let (left, right) = head(&self.slots, chain);
-        let (next, value) = entry(&self.slots, right.top);
+        let freed = right.top;
+        let (next, value) = entry(&self.slots, freed);
         write(
             &mut self.slots,
-            right.top,
+            freed,
             Cell::Entry {
                 next: self.free.top,
                 value,
             },
         );
         self.free = Stack {
-            top: right.top,
+            top: freed,
             len: self.free.len + 1,
         };
         let right = Stack {

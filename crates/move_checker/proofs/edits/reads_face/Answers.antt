@@ -11,7 +11,8 @@ size : (list : List ℕ) (at steps : ℕ) → at + steps < length list → lengt
 size list at steps lt = length-take-le (steps + 1) (drop at list) (omega (arith, length-drop at list))
 
 -- the entry that is read
-entry : (c : After-read) → get_or (take (c.args.steps + 1) (drop c.args.spot.at (list_of c.args.pool.now c.args.spot.chain.0))) c.loop-step.step 0
+entry : (c : After-read)
+    → get_or (take (c.args.steps + 1) (drop c.args.spot.at (list_of c.args.pool.now c.args.spot.chain.0))) c.loop-step.step 0
     ≡ c.read.result.0
 entry c =
     get_or-take (c.args.steps + 1) (drop c.args.spot.at (list_of c.args.pool.now c.args.spot.chain.0)) c.loop-step.step 0 (omega arith)

@@ -35,7 +35,8 @@ overflow_sub-right c = omega (arith, some (goal.at.overflow_sub-right c).After-h
 pub invariant_of-self : goal.invariant_of-self
 invariant_of-self c =
     let written = twice_written c.self.inside.slots c.write.new.slots c.write-2.new.slots _ _ _ _ c.write.ensures c.write-2.ensures in
-    rw (written.slots, written.capacity) (advance_edits c.self.inside.slots.slots c.self.inside.slots.capacity c.self.inside.free c.self.inside.spare
+    rw (written.slots, written.capacity)
+    (advance_edits c.self.inside.slots.slots c.self.inside.slots.capacity c.self.inside.free c.self.inside.spare
     c.self.invariant c.args.chain.0 c.head.result.0 c.head.result.1 c.head.ensures c.entry-next.result.0 c.entry-next.result.1
     c.entry-next.ensures (some (goal.at.invariant_of-self c).After-head)).sound
 

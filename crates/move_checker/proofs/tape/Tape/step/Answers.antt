@@ -4,9 +4,11 @@ use Rattle.move_checker.proofs.Outcomes.{IsStep, ok_from_step, allowed_from_step
 use Rattle.move_checker.proofs.tape.Tape.step.Goals as goal
 use Rattle.move_checker.proofs.tape.Tape.step.Goals.{After-insert_spur, After-remove_spur, After-go_across}
 
-insert_spur_is : (c : After-insert_spur) → IsStep c.args.faces.now c.args.self.now.peak c.args.self.now.walk c.args.mv c.insert_spur.result c.insert_spur.new.self.walk
+insert_spur_is : (c : After-insert_spur)
+    → IsStep c.args.faces.now c.args.self.now.peak c.args.self.now.walk c.args.mv c.insert_spur.result c.insert_spur.new.self.walk
 insert_spur_is c =
-    subst (λ (m : Move). IsStep c.args.faces.now c.args.self.now.peak c.args.self.now.walk m c.insert_spur.result c.insert_spur.new.self.walk)
+    subst (λ (m : Move). IsStep c.args.faces.now c.args.self.now.peak c.args.self.now.walk m c.insert_spur.result
+        c.insert_spur.new.self.walk)
     (sym c.in-Insert.is) (c.insert_spur.ensures.step c.args.faces.now c.requires)
 
 pub returns-in-Insert-clause-ok : goal.returns-in-Insert-clause-ok
@@ -24,9 +26,11 @@ returns-in-Insert-clause-over c =
     over_from_step c.args.faces.now c.args.self.now.peak c.args.self.now.walk c.args.mv c.insert_spur.result c.insert_spur.new.self.walk
     (insert_spur_is (goal.at.returns-in-Insert-clause-over c).After-insert_spur)
 
-remove_spur_is : (c : After-remove_spur) → IsStep c.args.faces.now c.args.self.now.peak c.args.self.now.walk c.args.mv c.remove_spur.result c.remove_spur.new.self.walk
+remove_spur_is : (c : After-remove_spur)
+    → IsStep c.args.faces.now c.args.self.now.peak c.args.self.now.walk c.args.mv c.remove_spur.result c.remove_spur.new.self.walk
 remove_spur_is c =
-    subst (λ (m : Move). IsStep c.args.faces.now c.args.self.now.peak c.args.self.now.walk m c.remove_spur.result c.remove_spur.new.self.walk)
+    subst (λ (m : Move). IsStep c.args.faces.now c.args.self.now.peak c.args.self.now.walk m c.remove_spur.result
+        c.remove_spur.new.self.walk)
     (sym c.in-Remove.is) (c.remove_spur.ensures.step c.args.faces.now)
 
 pub returns-in-Remove-clause-ok : goal.returns-in-Remove-clause-ok
@@ -44,7 +48,8 @@ returns-in-Remove-clause-over c =
     over_from_step c.args.faces.now c.args.self.now.peak c.args.self.now.walk c.args.mv c.remove_spur.result c.remove_spur.new.self.walk
     (remove_spur_is (goal.at.returns-in-Remove-clause-over c).After-remove_spur)
 
-go_across_is : (c : After-go_across) → IsStep c.args.faces.now c.args.self.now.peak c.args.self.now.walk c.args.mv c.go_across.result c.go_across.new.self.walk
+go_across_is : (c : After-go_across)
+    → IsStep c.args.faces.now c.args.self.now.peak c.args.self.now.walk c.args.mv c.go_across.result c.go_across.new.self.walk
 go_across_is c =
     subst (λ (m : Move). IsStep c.args.faces.now c.args.self.now.peak c.args.self.now.walk m c.go_across.result c.go_across.new.self.walk)
     (sym c.in-Across.is) (c.go_across.ensures.step)
