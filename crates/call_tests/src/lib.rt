@@ -6,4 +6,6 @@
 #[cfg(test)]
 mod models;
 #[cfg(test)]
+mod pools;
+#[cfg(test)]
 mod splits;
