@@ -254,7 +254,7 @@ module _ (slots : List (Option Cell)) (capacity : ℕ) (free : Stack) (spare : �
       edited slots free.top c next v l.top value l r l' r' here head capacity free spare sound free' (spare - 1) Free (Left c)
       (λ k ne. (λ e. cc, λ e. ne (cc), λ e. cc, λ e. cc)) done
       (pushed (parted_at c) value)
-      (◌∙◌ {b = record { before = value ∷ before_now; behind = behind_now }}
+      (◌∙◌ {b = record { before = value ∷ before_now; behind = behind_now }} {c = pushed (parted_at c) value}
       (◌∙◌ {b = record { before = value ∷ before_now; behind = now_right }}
       (ap (λ (list : List ℕ). record { before = list; behind = now_right }) done.to)
       (ap (λ (list : List ℕ). record { before = value ∷ before_now; behind = list }) right_same))
