@@ -13,6 +13,7 @@ mod lifts;
 mod models;
 #[cfg(test)]
 mod outputs;
+mod pools;
 #[cfg(test)]
 mod splits;
 #[cfg(test)]

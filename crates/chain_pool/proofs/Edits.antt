@@ -12,7 +12,8 @@ use Rattle.chain_pool.proofs.Soundness.{count_by-set, cells_in-edit_joined, cell
 use Rattle.chain_pool.proofs.Transfers.{content, Moves, Moved, moved}
 
 -- the cells stay sound, and one chain becomes another
-pub record Edited (slots slots' : List (Option Cell)) (capacity : ℕ) (free' : Stack) (spare' : ℕ) (name : ℕ) (parted : Parted) : Type 0 where
+pub record Edited (slots slots' : List (Option Cell)) (capacity : ℕ) (free' : Stack) (spare' : ℕ) (name : ℕ)
+    (parted : Parted) : Type 0 where
   pub sound : IsSound slots' capacity free' spare'
   pub edit : IsEdit (chains_of slots) (chains_of slots') name (Some parted)
 
@@ -163,8 +164,9 @@ module _ (slots : List (Option Cell)) (capacity : ℕ) (free : Stack) (spare : �
       edited slots r.top c next v l.top v l r l' r' here head capacity free spare sound free' spare (Right c) (Left c)
       (λ k ne. (λ e. cc, λ e. ne (cc), λ e. ne (cc), λ e. cc)) done
       (advanced (parted_at c))
-      (ap (λ (list : List ℕ). record { before = list; behind = now_right }) done.to
-      ∙ sym (ap advanced (split_right v now_right done.from)))
+      (◌∙◌ {b = record { before = v ∷ before_now; behind = now_right }}
+      (ap (λ (list : List ℕ). record { before = list; behind = now_right }) done.to)
+      (sym (ap advanced (split_right v now_right done.from))))
       (omega (arith, some, sound.made))
       (omega (
         arith,
@@ -207,8 +209,9 @@ module _ (slots : List (Option Cell)) (capacity : ℕ) (free : Stack) (spare : �
       edited slots l.top c next v r.top v l r l' r' here head capacity free spare sound free' spare (Left c) (Right c)
       (λ k ne. (λ e. ne (cc), λ e. cc, λ e. cc, λ e. ne (cc))) done
       (retreated (parted_at c))
-      (ap (λ (list : List ℕ). record { before = now_left; behind = list }) done.to
-      ∙ sym (ap retreated (split_left v now_left done.from)))
+      (◌∙◌ {b = record { before = now_left; behind = v ∷ behind_now }}
+      (ap (λ (list : List ℕ). record { before = now_left; behind = list }) done.to)
+      (sym (ap retreated (split_left v now_left done.from))))
       (omega (arith, some, sound.made))
       (omega (
         arith,
@@ -251,9 +254,11 @@ module _ (slots : List (Option Cell)) (capacity : ℕ) (free : Stack) (spare : �
       edited slots free.top c next v l.top value l r l' r' here head capacity free spare sound free' (spare - 1) Free (Left c)
       (λ k ne. (λ e. cc, λ e. ne (cc), λ e. cc, λ e. cc)) done
       (pushed (parted_at c) value)
-      (ap (λ (list : List ℕ). record { before = list; behind = now_right }) done.to
-      ∙ ap (λ (list : List ℕ). record { before = value ∷ before_now; behind = list }) right_same
-      ∙ sym (ap (λ (p : Parted). pushed p value) parted_now))
+      (◌∙◌ {b = record { before = value ∷ before_now; behind = behind_now }} {c = pushed (parted_at c) value}
+      (◌∙◌ {b = record { before = value ∷ before_now; behind = now_right }}
+      (ap (λ (list : List ℕ). record { before = list; behind = now_right }) done.to)
+      (ap (λ (list : List ℕ). record { before = value ∷ before_now; behind = list }) right_same))
+      (sym (ap (λ (p : Parted). pushed p value) parted_now)))
       (omega (arith, some, sound.made))
       (omega (
         arith,
@@ -295,8 +300,9 @@ module _ (slots : List (Option Cell)) (capacity : ℕ) (free : Stack) (spare : �
       edited slots r.top c next v free.top v l r l' r' here head capacity free spare sound free' (spare + 1) (Right c) Free
       (λ k ne. (λ e. cc, λ e. cc, λ e. ne (cc), λ e. cc)) done
       (cut_here (parted_at c))
-      (ap (λ (list : List ℕ). record { before = list; behind = now_right }) left_same
-      ∙ sym (ap cut_here (split_right v now_right done.from)))
+      (◌∙◌ {b = record { before = before_now; behind = now_right }}
+      (ap (λ (list : List ℕ). record { before = list; behind = now_right }) left_same)
+      (sym (ap cut_here (split_right v now_right done.from))))
       (omega (arith, some, sound.made))
       (omega (
         arith,

@@ -11,3 +11,4 @@ pub mod Places
 pub mod Lists
 pub mod Reading
 pub mod Splices
+pub mod Going

@@ -11,7 +11,8 @@ option_cases : (found : Option Parted) → (found ≡ None) ⊎ ((parted : Parte
 option_cases None = inl refl
 option_cases (Some parted) = inr (parted, refl)
 
-pub list_under-is : (lists : List (Option (List ℕ))) (name : ℕ) (list : List ℕ) → under lists name ≡ Some list → list_under lists name ≡ list
+pub list_under-is : (lists : List (Option (List ℕ))) (name : ℕ) (list : List ℕ) → under lists name ≡ Some list
+    → list_under lists name ≡ list
 list_under-is lists name list e = rw e refl
 
 list_under-none : (lists : List (Option (List ℕ))) (name : ℕ) → under lists name ≡ None → list_under lists name ≡ []
@@ -22,7 +23,8 @@ parted_under-none : (chains : List (Option Parted)) (name : ℕ) → under chain
 parted_under-none chains name e = rw e refl
 
 -- the list of a chain is what its two sides have
-pub list_under-joined : (chains : List (Option Parted)) (name : ℕ) → list_under (joined_lists chains) name ≡ joined (parted_under chains name)
+pub list_under-joined : (chains : List (Option Parted)) (name : ℕ)
+    → list_under (joined_lists chains) name ≡ joined (parted_under chains name)
 list_under-joined chains name =
     elim (option_cases (under chains name)) [
       | inl none ↦ list_under-none (joined_lists chains) name (under-joined chains name ∙ ap joined_option none)

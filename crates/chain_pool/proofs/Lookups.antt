@@ -28,7 +28,8 @@ cells_in-alike (x ∷ xs) [] same = sym (none_left (x ∷ xs) (λ k. sym (same k
 cells_in-alike (x ∷ xs) (y ∷ ys) same =
     omega (arith, cells_in-cons x xs, cells_in-cons y ys, ap cells_of (same 0), cells_in-alike xs ys (λ k. same (suc k)))
 
-after_first : {A : Type 0} (xs ys : List (Option A)) → ((k : ℕ) → k ≢ 0 → under ys k ≡ under xs k) → (k : ℕ) → under ys (suc k) ≡ under xs (suc k)
+after_first : {A : Type 0} (xs ys : List (Option A)) → ((k : ℕ) → k ≢ 0 → under ys k ≡ under xs k) → (k : ℕ)
+    → under ys (suc k) ≡ under xs (suc k)
 after_first xs ys same k = same (suc k) (λ e. absurd (omega arith))
 
 before_last : {A : Type 0} (xs ys : List (Option A)) (name : ℕ) → ((k : ℕ) → k ≢ suc name → under ys k ≡ under xs k)
@@ -40,10 +41,22 @@ one_left : (xs ys : List (Option (List ℕ))) (name : ℕ) → ((k : ℕ) → k 
 one_left [] [] name same = refl
 one_left [] (y ∷ ys) zero same = omega (arith, cells_in-cons y ys, cells_in-alike [] ys (after_first [] (y ∷ ys) same))
 one_left [] (y ∷ ys) (suc name) same =
-    omega (arith, cells_in-cons y ys, ap cells_of (same 0 (λ e. absurd (omega arith))), one_left [] ys name (before_last [] (y ∷ ys) name same))
+    omega (
+      arith,
+      cells_in-cons y ys,
+      ap cells_of (same 0 (λ e. absurd (omega arith))),
+      one_left [] ys name (before_last []
+          (y ∷ ys) name same),
+    )
 one_left (x ∷ xs) [] zero same = omega (arith, cells_in-cons x xs, cells_in-alike xs [] (after_first (x ∷ xs) [] same))
 one_left (x ∷ xs) [] (suc name) same =
-    omega (arith, cells_in-cons x xs, ap cells_of (same 0 (λ e. absurd (omega arith))), one_left xs [] name (before_last (x ∷ xs) [] name same))
+    omega (
+      arith,
+      cells_in-cons x xs,
+      ap cells_of (same 0 (λ e. absurd (omega arith))),
+      one_left xs [] name (before_last
+          (x ∷ xs) [] name same),
+    )
 one_left (x ∷ xs) (y ∷ ys) zero same =
     omega (arith, cells_in-cons x xs, cells_in-cons y ys, cells_in-alike xs ys (after_first (x ∷ xs) (y ∷ ys) same))
 one_left (x ∷ xs) (y ∷ ys) (suc name) same =

@@ -1,15 +1,10 @@
 -- The place of a chain: it goes on and back, and the list stays.
-use Rattle.std.proofs.Common.{◌≡◌, ℕ, ◌+◌, ◌<◌, List, [], ◌∷◌, ◌++◌, length, reverse, take, drop, is_some, Option, Some, None, refl, sym, ap, subst, ◌∙◌, arith, append_assoc}
+use Rattle.std.proofs.Common.{◌≡◌, ℕ, List, [], ◌∷◌, ◌++◌, length, reverse, take, drop, Option, Some, None, refl, sym, ap, subst, ◌∙◌, arith, append_assoc}
 use Rattle.std.specs.Prelude.{IsSome}
 use Rattle.std.proofs.lemmas.List.{reverse-append, reverse-reverse, length-reverse, take-append-le, take_all, drop-append-le, drop_all}
 use Rattle.chain_pool.specs.Chains.{under, IsUnder, IsEdit}
 use Rattle.chain_pool.specs.Memory.{Parted, PartedChains, joined, parted_under, parted_at, advanced, retreated}
 use Rattle.chain_pool.proofs.Soundness.{parted_under-is}
-
--- a chain that is live, with what it is
-pub record Live (chains : List (Option Parted)) (name : ℕ) : Type 0 where
-  pub parted : Parted
-  pub is : under chains name ≡ Some parted
 
 some_parted : (found : Option Parted) → IsSome found → (parted : Parted) × (found ≡ Some parted)
 some_parted (Some parted) live = (parted, refl)
@@ -39,22 +34,6 @@ joined-back (x ∷ rest) behind = sym (turned rest x behind)
 
 pub joined-retreated : (parted : Parted) → joined (retreated parted) ≡ joined parted
 joined-retreated parted = joined-back parted.before parted.behind
-
-onward_len : (before behind : List ℕ) → 0 < length behind
-    → length (advanced (record { before = before; behind = behind })).before ≡ length before + 1
-onward_len before [] lt = absurd (omega arith)
-onward_len before (x ∷ rest) lt = omega arith
-
-pub before-advanced : (parted : Parted) → 0 < length parted.behind → length (advanced parted).before ≡ length parted.before + 1
-before-advanced parted lt = onward_len parted.before parted.behind lt
-
-back_len : (before behind : List ℕ) → 0 < length before
-    → length (retreated (record { before = before; behind = behind })).before + 1 ≡ length before
-back_len [] behind lt = absurd (omega arith)
-back_len (x ∷ rest) behind lt = omega arith
-
-pub before-retreated : (parted : Parted) → 0 < length parted.before → length (retreated parted).before + 1 ≡ length parted.before
-before-retreated parted lt = back_len parted.before parted.behind lt
 
 -- a chain is its list, parted where its place is
 pub parted_is : (parted : Parted) (place : ℕ) → length parted.before ≡ place → parted ≡ parted_at (joined parted) place
@@ -103,10 +82,6 @@ SameLists-more old mid new name thing same edit list names spare free =
       spare = spare ∙ same.spare;
       free = free ∙ same.free;
     }
-
--- the chain is live all the while
-pub SameLists-live : (old new : PartedChains) (name : ℕ) → SameLists old new name → IsUnder new.chains name
-SameLists-live old new name same = ap (λ (o : Option Parted). is_some o) same.edit.here
 
 -- at the end the place is the one that was asked for
 pub SameLists-done : (old new : PartedChains) (name place : ℕ) → SameLists old new name

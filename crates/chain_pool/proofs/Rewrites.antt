@@ -16,7 +16,8 @@ parted_with (Some (Head left right)) before behind = Some (record { before = bef
 parted_with (Some (Entry next value)) before behind = None
 parted_with None before behind = None
 
-by_contents : (h : Memory) (cell : Option Cell) → parted_by h cell ≡ parted_with cell (content_of h (left_of cell)) (content_of h (right_of cell))
+by_contents : (h : Memory) (cell : Option Cell)
+    → parted_by h cell ≡ parted_with cell (content_of h (left_of cell)) (content_of h (right_of cell))
 by_contents h (Some (Head left right)) = refl
 by_contents h (Some (Entry next value)) = refl
 by_contents h None = refl
@@ -83,14 +84,16 @@ module _ (slots : List (Option Cell)) (x c next v link v' : ℕ) (l r l' r' : St
   pub lefts_stay : (k : ℕ) → k ≢ c → left_of (under rewritten k) ≡ left_of (under slots k)
   lefts_stay k nc =
       elim (cases_eq k x) [
-        | inl e ↦ ap (λ (j : ℕ). left_of (under rewritten j)) e ∙ ap left_of at_entry ∙ sym (ap (λ (j : ℕ). left_of (under slots j)) e ∙ ap left_of here)
+        | inl e ↦ ap (λ (j : ℕ). left_of (under rewritten j)) e ∙ ap left_of at_entry ∙ sym (ap (λ (j : ℕ). left_of (under slots j)) e
+            ∙ ap left_of here)
         | inr nx ↦ ap left_of (elsewhere k nx nc)
       ]
 
   pub rights_stay : (k : ℕ) → k ≢ c → right_of (under rewritten k) ≡ right_of (under slots k)
   rights_stay k nc =
       elim (cases_eq k x) [
-        | inl e ↦ ap (λ (j : ℕ). right_of (under rewritten j)) e ∙ ap right_of at_entry ∙ sym (ap (λ (j : ℕ). right_of (under slots j)) e ∙ ap right_of here)
+        | inl e ↦ ap (λ (j : ℕ). right_of (under rewritten j)) e ∙ ap right_of at_entry
+            ∙ sym (ap (λ (j : ℕ). right_of (under slots j)) e ∙ ap right_of here)
         | inr nx ↦ ap right_of (elsewhere k nx nc)
       ]
 

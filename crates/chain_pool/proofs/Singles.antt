@@ -52,11 +52,13 @@ module _ (h h' : Memory) (free free' : Stack) (x value : ℕ) (adds : Adds h h' 
       (subst (λ (n : ℕ). IsOwned h' with_cell Free n x) (sym one_more)
       (IsOwned-more h' with_cell Free _ x _ value adds.written (owners_with-here o x _) below))
 
-  added_left : (c : ℕ) → IsOwnedStack h' with_cell (Left c) (left_of (h' c)) × (content_of h' (left_of (h' c)) ≡ content_of h (left_of (h c)))
+  added_left : (c : ℕ)
+      → IsOwnedStack h' with_cell (Left c) (left_of (h' c)) × (content_of h' (left_of (h' c)) ≡ content_of h (left_of (h c)))
   added_left c =
       elim (cases_eq c x) [
         | inl e ↦
-            let none : (left_of (h' c)).len ≡ 0 = ap (λ (k : ℕ). (left_of (h' k)).len) e ∙ ap (λ (cell : Option Cell). (left_of cell).len) adds.written in (
+            let none : (left_of (h' c)).len ≡ 0 = ap (λ (k : ℕ). (left_of (h' k)).len) e
+            ∙ ap (λ (cell : Option Cell). (left_of cell).len) adds.written in (
               empty_owned h' with_cell (Left c) _ none,
               empty_content h' _ none ∙ sym (empty_content h _ (ap (λ (k : ℕ). (left_of (h k)).len) e ∙ adds.no_left)),
             )
@@ -68,11 +70,13 @@ module _ (h h' : Memory) (free free' : Stack) (x value : ℕ) (adds : Adds h h' 
             )
       ]
 
-  added_right : (c : ℕ) → IsOwnedStack h' with_cell (Right c) (right_of (h' c)) × (content_of h' (right_of (h' c)) ≡ content_of h (right_of (h c)))
+  added_right : (c : ℕ)
+      → IsOwnedStack h' with_cell (Right c) (right_of (h' c)) × (content_of h' (right_of (h' c)) ≡ content_of h (right_of (h c)))
   added_right c =
       elim (cases_eq c x) [
         | inl e ↦
-            let none : (right_of (h' c)).len ≡ 0 = ap (λ (k : ℕ). (right_of (h' k)).len) e ∙ ap (λ (cell : Option Cell). (right_of cell).len) adds.written in (
+            let none : (right_of (h' c)).len ≡ 0 = ap (λ (k : ℕ). (right_of (h' k)).len) e
+            ∙ ap (λ (cell : Option Cell). (right_of cell).len) adds.written in (
               empty_owned h' with_cell (Right c) _ none,
               empty_content h' _ none ∙ sym (empty_content h _ (ap (λ (k : ℕ). (right_of (h k)).len) e ∙ adds.no_right)),
             )
@@ -80,7 +84,8 @@ module _ (h h' : Memory) (free free' : Stack) (x value : ℕ) (adds : Adds h h' 
             let same : right_of (h' c) ≡ right_of (h c) = ap right_of (adds.off c ne) in (
               subst (λ (st : Stack). IsOwnedStack h' with_cell (Right c) st) (sym same)
                   (IsOwned-kept h h' o with_cell x added_keeps (Right c) _ _ (added_loose (Right c) _) (owned (Right c))),
-              ap (content_of h') same ∙ values-kept h h' o with_cell x added_keeps (Right c) _ _ (added_loose (Right c) _) (owned (Right c)),
+              ap (content_of h') same
+                  ∙ values-kept h h' o with_cell x added_keeps (Right c) _ _ (added_loose (Right c) _) (owned (Right c)),
             )
       ]
 
@@ -118,7 +123,10 @@ module _ (h h' : Memory) (free free' : Stack) (x next value : ℕ) (takes : Take
   taken_next = let e = sym taken_topped.entry ∙ takes.here in cc
 
   loose_here : IsLoose h o Free (free.len - 1) x
-  loose_here = record { off = λ d a b lt e owner. let same = ap (λ (p : Owner × ℕ). p.1) (sym owner ∙ taken_topped.owner) in absurd (omega (arith, same, lt)) }
+  loose_here = record {
+    off = λ d a b lt e owner. let same = ap (λ (p : Owner × ℕ). p.1) (sym owner
+        ∙ taken_topped.owner) in absurd (omega (arith, same, lt));
+  }
 
   loose_elsewhere : (u : Owner) (n : ℕ) → u ≢ Free → IsLoose h o u n x
   loose_elsewhere u n ne = record { off = λ d a b lt e owner. absurd (ne (ap (λ (p : Owner × ℕ). p.0) (sym owner ∙ taken_topped.owner))) }
@@ -133,13 +141,16 @@ module _ (h h' : Memory) (free free' : Stack) (x next value : ℕ) (takes : Take
   taken_left c =
       elim (cases_eq c x) [
         | inl e ↦
-            let none : (left_of (h' c)).len ≡ 0 = ap (λ (k : ℕ). (left_of (h' k)).len) e ∙ ap (λ (cell : Option Cell). (left_of cell).len) takes.written in
-            let had : (left_of (h c)).len ≡ 0 = ap (λ (k : ℕ). (left_of (h k)).len) e ∙ ap (λ (cell : Option Cell). (left_of cell).len) takes.here in
+            let none : (left_of (h' c)).len ≡ 0 = ap (λ (k : ℕ). (left_of (h' k)).len) e
+            ∙ ap (λ (cell : Option Cell). (left_of cell).len) takes.written in
+            let had : (left_of (h c)).len ≡ 0 = ap (λ (k : ℕ). (left_of (h k)).len) e
+            ∙ ap (λ (cell : Option Cell). (left_of cell).len) takes.here in
             (empty_owned h' o (Left c) _ none, empty_content h' _ none ∙ sym (empty_content h _ had))
         | inr ne ↦
             let same : left_of (h' c) ≡ left_of (h c) = ap left_of (takes.off c ne) in
             let loose = loose_elsewhere (Left c) (left_of (h c)).len (λ e. cc) in (
-              subst (λ (st : Stack). IsOwnedStack h' o (Left c) st) (sym same) (IsOwned-kept h h' o o x taken_keeps (Left c) _ _ loose (owned (Left c))),
+              subst (λ (st : Stack). IsOwnedStack h' o (Left c) st) (sym same) (IsOwned-kept h h' o o x taken_keeps (Left c) _ _ loose
+                  (owned (Left c))),
               ap (content_of h') same ∙ values-kept h h' o o x taken_keeps (Left c) _ _ loose (owned (Left c)),
             )
       ]
@@ -148,13 +159,16 @@ module _ (h h' : Memory) (free free' : Stack) (x next value : ℕ) (takes : Take
   taken_right c =
       elim (cases_eq c x) [
         | inl e ↦
-            let none : (right_of (h' c)).len ≡ 0 = ap (λ (k : ℕ). (right_of (h' k)).len) e ∙ ap (λ (cell : Option Cell). (right_of cell).len) takes.written in
-            let had : (right_of (h c)).len ≡ 0 = ap (λ (k : ℕ). (right_of (h k)).len) e ∙ ap (λ (cell : Option Cell). (right_of cell).len) takes.here in
+            let none : (right_of (h' c)).len ≡ 0 = ap (λ (k : ℕ). (right_of (h' k)).len) e
+            ∙ ap (λ (cell : Option Cell). (right_of cell).len) takes.written in
+            let had : (right_of (h c)).len ≡ 0 = ap (λ (k : ℕ). (right_of (h k)).len) e
+            ∙ ap (λ (cell : Option Cell). (right_of cell).len) takes.here in
             (empty_owned h' o (Right c) _ none, empty_content h' _ none ∙ sym (empty_content h _ had))
         | inr ne ↦
             let same : right_of (h' c) ≡ right_of (h c) = ap right_of (takes.off c ne) in
             let loose = loose_elsewhere (Right c) (right_of (h c)).len (λ e. cc) in (
-              subst (λ (st : Stack). IsOwnedStack h' o (Right c) st) (sym same) (IsOwned-kept h h' o o x taken_keeps (Right c) _ _ loose (owned (Right c))),
+              subst (λ (st : Stack). IsOwnedStack h' o (Right c) st) (sym same) (IsOwned-kept h h' o o x taken_keeps
+                  (Right c) _ _ loose (owned (Right c))),
               ap (content_of h') same ∙ values-kept h h' o o x taken_keeps (Right c) _ _ loose (owned (Right c)),
             )
       ]

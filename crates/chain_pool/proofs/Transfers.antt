@@ -58,7 +58,10 @@ module _ (h h' : Memory) (free free' : Stack) (s t : Owner) (x next v v' : ℕ) 
   rest = subst (λ (n : ℕ). IsOwned h o s ((stack_of h free s).len - 1) n) same_next topped.rest
 
   loose_source : IsLoose h o s ((stack_of h free s).len - 1) x
-  loose_source = record { off = λ d a b lt e owner. let same = ap (λ (p : Owner × ℕ). p.1) (sym owner ∙ topped.owner) in absurd (omega (arith, same, lt)) }
+  loose_source = record {
+    off = λ d a b lt e owner. let same = ap (λ (p : Owner × ℕ). p.1) (sym owner
+        ∙ topped.owner) in absurd (omega (arith, same, lt));
+  }
 
   loose_other : (u : Owner) (n : ℕ) → u ≢ s → IsLoose h o u n x
   loose_other u n ne = record { off = λ d a b lt e owner. absurd (ne (ap (λ (p : Owner × ℕ). p.0) (sym owner ∙ topped.owner))) }

@@ -47,12 +47,22 @@ module _ (slots : List (Option Cell)) (capacity : ℕ) (free : Stack) (spare : �
     pub left_entry : 0 < l.len → IsEntry (under slots l.top)
     left_entry some =
         let same : left_of (under slots c) ≡ l = ap left_of head in
-        subst (λ (st : Stack). IsEntry (under slots st.top)) same (top_entry (Left c) (omega (arith, some, ap (λ (st : Stack). st.len) same)))
+        subst (λ (st : Stack). IsEntry (under slots st.top)) same (top_entry (Left c) (omega (
+          arith,
+          some,
+          ap (λ
+              (st : Stack). st.len) same,
+        )))
 
     pub right_entry : 0 < r.len → IsEntry (under slots r.top)
     right_entry some =
         let same : right_of (under slots c) ≡ r = ap right_of head in
-        subst (λ (st : Stack). IsEntry (under slots st.top)) same (top_entry (Right c) (omega (arith, some, ap (λ (st : Stack). st.len) same)))
+        subst (λ (st : Stack). IsEntry (under slots st.top)) same (top_entry (Right c) (omega (
+          arith,
+          some,
+          ap (λ
+              (st : Stack). st.len) same,
+        )))
 
     parted_here : (chains : List (Option Parted)) → chains_of slots ≡ chains
         → parted_under chains c

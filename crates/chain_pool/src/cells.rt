@@ -189,15 +189,6 @@ impl Cells {
         self.spare += 1;
     }
 
-    /// How many entries lie before a chain's place.
-    pub fn place(&self, chain: CellName) -> u32
-        requires { IsUnder self.now.chains chain.0 }
-        ensures { result ≡ length (parted_under self.now.chains chain.0).before }
-    {
-        let (left, _) = head(&self.slots, chain);
-        left.len
-    }
-
     /// How many entries a chain has.
     pub fn len(&self, chain: CellName) -> u32
         requires { IsUnder self.now.chains chain.0 }
@@ -231,66 +222,6 @@ impl Cells {
         value
     }
 
-    /// The place of a chain goes on by one entry.
-    pub fn advance(&mut self, chain: CellName)
-        requires live { IsUnder self.old.chains chain.0 }
-        requires behind { 0 < length (parted_under self.old.chains chain.0).behind }
-        ensures chain { IsEdit self.old.chains self.new.chains chain.0 (Some (advanced (parted_under self.old.chains chain.0))) }
-        ensures names { length self.new.chains ≡ length self.old.chains }
-        ensures spare { self.new.spare ≡ self.old.spare }
-        ensures free { self.new.free ≡ self.old.free }
-    {
-        let (left, right) = head(&self.slots, chain);
-        let (next, value) = entry(&self.slots, right.top);
-        write(
-            &mut self.slots,
-            right.top,
-            Cell::Entry {
-                next: left.top,
-                value,
-            },
-        );
-        let left = Stack {
-            top: right.top,
-            len: left.len + 1,
-        };
-        let right = Stack {
-            top: next,
-            len: right.len - 1,
-        };
-        write(&mut self.slots, chain.0, Cell::Head { left, right });
-    }
-
-    /// The place of a chain goes back by one entry.
-    pub fn retreat(&mut self, chain: CellName)
-        requires live { IsUnder self.old.chains chain.0 }
-        requires before { 0 < length (parted_under self.old.chains chain.0).before }
-        ensures chain { IsEdit self.old.chains self.new.chains chain.0 (Some (retreated (parted_under self.old.chains chain.0))) }
-        ensures names { length self.new.chains ≡ length self.old.chains }
-        ensures spare { self.new.spare ≡ self.old.spare }
-        ensures free { self.new.free ≡ self.old.free }
-    {
-        let (left, right) = head(&self.slots, chain);
-        let (next, value) = entry(&self.slots, left.top);
-        write(
-            &mut self.slots,
-            left.top,
-            Cell::Entry {
-                next: right.top,
-                value,
-            },
-        );
-        let right = Stack {
-            top: left.top,
-            len: right.len + 1,
-        };
-        let left = Stack {
-            top: next,
-            len: left.len - 1,
-        };
-        write(&mut self.slots, chain.0, Cell::Head { left, right });
-    }
-
     /// The place of a chain becomes this one.
     pub fn go_to(&mut self, chain: CellName, place: u32)
         requires live { IsUnder self.old.chains chain.0 }
@@ -301,12 +232,46 @@ impl Cells {
         ensures spare { self.new.spare ≡ self.old.spare }
         ensures free { self.new.free ≡ self.old.free }
     {
-        'on: while self.place(chain) < place {
-            self.advance(chain);
+        let (mut left, mut right) = head(&self.slots, chain);
+        'on: while left.len < place {
+            let (next, value) = entry(&self.slots, right.top);
+            write(
+                &mut self.slots,
+                right.top,
+                Cell::Entry {
+                    next: left.top,
+                    value,
+                },
+            );
+            left = Stack {
+                top: right.top,
+                len: left.len + 1,
+            };
+            right = Stack {
+                top: next,
+                len: right.len - 1,
+            };
         }
-        'back: while place < self.place(chain) {
-            self.retreat(chain);
+        'back: while place < left.len {
+            let (next, value) = entry(&self.slots, left.top);
+            write(
+                &mut self.slots,
+                left.top,
+                Cell::Entry {
+                    next: right.top,
+                    value,
+                },
+            );
+            right = Stack {
+                top: left.top,
+                len: right.len + 1,
+            };
+            left = Stack {
+                top: next,
+                len: left.len - 1,
+            };
         }
+        write(&mut self.slots, chain.0, Cell::Head { left, right });
     }
 
     /// A free cell with a value goes in right before the place of a chain.
@@ -350,17 +315,18 @@ impl Cells {
         ensures free { self.new.free ≡ self.old.free + 1 }
     {
         let (left, right) = head(&self.slots, chain);
-        let (next, value) = entry(&self.slots, right.top);
+        let freed = right.top;
+        let (next, value) = entry(&self.slots, freed);
         write(
             &mut self.slots,
-            right.top,
+            freed,
             Cell::Entry {
                 next: self.free.top,
                 value,
             },
         );
         self.free = Stack {
-            top: right.top,
+            top: freed,
             len: self.free.len + 1,
         };
         let right = Stack {

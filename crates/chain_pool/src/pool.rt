@@ -153,9 +153,9 @@ impl Pool {
         self.cells.go_to(other, 0);
         let len = self.cells.len(other);
         for _i in 0..len {
-            let value = self.cells.next(other);
+            let moved = self.cells.next(other);
             self.cells.cut(other);
-            self.cells.push(chain, value);
+            self.cells.push(chain, moved);
         }
         self.cells.drop_head(other);
     }

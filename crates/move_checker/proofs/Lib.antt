@@ -1,4 +1,3 @@
-pub mod Entries
 pub mod Ways
 pub mod SameWalks
 pub mod Replacements
@@ -6,3 +5,5 @@ pub mod Steps
 pub mod Outcomes
 pub mod Judgement
 pub mod VerdictLaws
+pub mod Laid
+pub mod SideLemmas

@@ -1,10 +1,8 @@
--- A list with some entries replaced by others, as the edits of a vector leave it.
-use Rattle.std.proofs.Common.{◌≡◌, ℕ, suc, ◌+◌, ◌<◌, ◌≤◌, List, [], ◌∷◌, ◌++◌, length, take, drop, get_or, set, refl, ap, sym, ◌∙◌, arith, append_assoc, add-one, length-append, append-nil}
-use Rattle.std.proofs.lemmas.List.{length-take-le, length-drop, length-map, map-append, take-map, drop-map, take_all, drop_all, drop-drop, take-append-drop, take_more}
-use Rattle.std.proofs.lemmas.List.Edits.{sets-eq}
+-- A list with some entries replaced by others, by cuts and pushes.
+use Rattle.std.proofs.Common.{◌≡◌, ℕ, ◌+◌, ◌<◌, ◌≤◌, List, [], ◌∷◌, ◌++◌, length, take, drop, get_or, ap, sym, ◌∙◌, arith, append_assoc, length-append, append-nil}
+use Rattle.std.proofs.lemmas.List.{length-take-le, length-drop, take_all, drop_all, take-append-le, drop-append-le, take_more}
+use Rattle.chain_pool.specs.Chains.{inserted, cut}
 use Rattle.surf_model.specs.Moves.{replaced}
-use Rattle.surf_model.specs.Vertices.{numbers}
-use Rattle.surf_model.specs.declared.names.VertexName.{VertexName}
 
 pub length-replaced : (at n : ℕ) (others walk : List ℕ) → at + n ≤ length walk
     → length (replaced at n others walk) + n ≡ length walk + length others
@@ -17,75 +15,67 @@ length-replaced at n others walk h =
       length-drop (at + n) walk,
     )
 
--- what a write to a part of a vector leaves is the vector with that part replaced
-pub written_part : {A : Type 0} (xs ys zs : List A) (at k n : ℕ) → length ys ≡ k → at + k ≤ length xs → n ≡ length xs → zs ≡ xs
-    → take n (take at xs ++ (ys ++ drop k (drop at xs)) ++ drop (length (take at xs ++ (ys ++ drop k (drop at xs)))) zs) ≡ take at xs
-    ++ (ys ++ drop k (drop at xs))
-written_part {A} xs ys zs at k n e le m same =
-    let part : List A = ys ++ drop k (drop at xs) in
-    let whole : length (take at xs ++ part) ≡ length xs =
-    omega (
-      arith,
-      length-append (take at xs) part,
-      length-append ys (drop k (drop at xs)),
-      length-take-le at xs (omega arith),
-      length-drop k (drop at xs),
-      length-drop at xs,
-    ) in
-    rw (drop_all (length (take at xs ++ part)) zs (omega (arith, whole, ap length same)), append-nil (take at xs ++ part))
-    (take_all n (take at xs ++ part) (omega (arith, whole)))
+pub take-append : (front back : List ℕ) (n : ℕ) → length front ≡ n → take n (front ++ back) ≡ front
+take-append front back n e = take-append-le n front back (omega (arith, e)) ∙ take_all n front (omega (arith, e))
 
--- a part written into the room for it
-pub replaced_by_part : (old room part : List VertexName) (at n k : ℕ) (others : List ℕ) → take at room ≡ take at old
-    → drop (at + k) room ≡ drop (at + n) old
-    → numbers part ≡ others → numbers (take at room ++ (part ++ drop k (drop at room))) ≡ replaced at n others (numbers old)
-replaced_by_part old room part at n k others before behind e =
-    let f : VertexName → ℕ = λ v. v.0 in
-    let front : numbers (take at room) ≡ take at (numbers old) = ap (λ (l : List VertexName). numbers l) before ∙ sym (take-map f at old) in
-    let rest : numbers (drop k (drop at room)) ≡ drop (at + n) (numbers old) =
-    ap (λ (l : List VertexName). numbers l) (drop-drop k at room ∙ behind) ∙ sym (drop-map f (at + n) old) in
-    map-append f (take at room) (part ++ drop k (drop at room))
-    ∙ ap (λ (l : List ℕ). numbers (take at room) ++ l) (map-append f part (drop k (drop at room)))
-    ∙ rw (front, e, rest) (sym (append_assoc (take at (numbers old)) others (drop (at + n) (numbers old))))
+pub drop-append : (front back : List ℕ) (n : ℕ) → length front ≡ n → drop n (front ++ back) ≡ back
+drop-append front back n e =
+    drop-append-le n front back (omega (arith, e)) ∙ ap (λ (l : List ℕ). l ++ back) (drop_all n front (omega (arith, e)))
 
--- the entries up to `at`
-front_part : (old : List VertexName) (at : ℕ) → at < length old → numbers (take (at + 1) old) ≡ take at (numbers old)
-    ++ get_or (numbers old) at 0 ∷ []
-front_part old at lt =
-    let f : VertexName → ℕ = λ v. v.0 in
-    sym (take-map f (at + 1) old) ∙ take_more (numbers old) at 0 (omega (arith, length-map old f))
+-- an entry pushed where two parts meet
+pub inserted-append : (front back : List ℕ) (place value : ℕ) → length front ≡ place
+    → inserted (front ++ back) place value ≡ front ++ value ∷ back
+inserted-append front back place value e =
+    ap (λ (l : List ℕ). l ++ value ∷ drop place (front ++ back)) (take-append front back place e)
+    ∙ ap (λ (l : List ℕ). front ++ value ∷ l) (drop-append front back place e)
 
--- two entries written into the room behind entry `at`
-pub replaced_by_spur : (old room : List VertexName) (at : ℕ) (via here : VertexName) → at < length old → length room ≡ length old + 2
-    → here.0 ≡ get_or (numbers old) at 0
-    → take (at + 1) room ≡ take (at + 1) old → drop (at + 1 + 2) room ≡ drop (at + 1) old
-    → numbers (set (set room (at + 1) via) (at + 2) here) ≡ replaced at 1
-    (get_or (numbers old) at 0 ∷ via.0 ∷ get_or (numbers old) at 0 ∷ []) (numbers old)
-replaced_by_spur old room at via here lt size e before behind =
-    let f : VertexName → ℕ = λ v. v.0 in
-    let next : at + 2 ≡ suc (suc at) = omega arith in
-    let both : set (set room (at + 1) via) (at + 2) here ≡ take (at + 1) room ++ (via ∷ here ∷ []) ++ drop (at + 1 + 2) room =
-    rw (next, add-one) (sets-eq (via ∷ here ∷ []) room (suc at) (omega arith)) in
-    rw (
-      both,
-      before,
-      behind,
-      map-append f (take (at + 1) old ++ (via ∷ here ∷ [])) (drop (at + 1) old),
-      map-append f (take (at + 1) old) (via ∷ here ∷ []),
-      front_part old at lt,
-      drop-map f (at + 1) old,
-      e,
-    )
-    (ap (λ (l : List ℕ). l ++ numbers (drop (at + 1) old))
-    (append_assoc (take at (numbers old)) (get_or (numbers old) at 0 ∷ []) (via.0 ∷ get_or (numbers old) at 0 ∷ [])))
+-- two entries pushed behind entry `at`
+pub pushed_spur : (walk : List ℕ) (at via here : ℕ) → at < length walk → here ≡ get_or walk at 0
+    → inserted (inserted walk (at + 1) via) (at + 2) here ≡ replaced at 1 (get_or walk at 0 ∷ via ∷ get_or walk at 0 ∷ []) walk
+pushed_spur walk at via here lt e =
+    let front : List ℕ = take (at + 1) walk in
+    let back : List ℕ = drop (at + 1) walk in
+    let long : length (front ++ via ∷ []) ≡ at + 2 =
+    omega (arith, length-append front (via ∷ []), length-take-le (at + 1) walk (omega arith)) in
+    ap (λ (l : List ℕ). inserted l (at + 2) here) (sym (append_assoc front (via ∷ []) back))
+    ∙ inserted-append (front ++ via ∷ []) back (at + 2) here long
+    ∙ ap (λ (v : ℕ). (front ++ via ∷ []) ++ v ∷ back) e
+    ∙ ap (λ (l : List ℕ). (l ++ via ∷ []) ++ get_or walk at 0 ∷ back) (take_more walk at 0 lt)
+    ∙ simp append_assoc
 
--- the two entries behind entry `at` taken out
-pub replaced_by_entry : (old room : List VertexName) (at : ℕ) → at < length old → take (at + 1) room ≡ take (at + 1) old
-    → drop (at + 1) room ≡ drop (at + 3) old
-    → numbers room ≡ replaced at 3 (get_or (numbers old) at 0 ∷ []) (numbers old)
-replaced_by_entry old room at lt before behind =
-    let f : VertexName → ℕ = λ v. v.0 in
-    ap (λ (l : List VertexName). numbers l) (sym (take-append-drop (at + 1) room)
-    ∙ ap (λ (l : List VertexName). l ++ drop (at + 1) room) before ∙ ap (λ (l : List VertexName). take (at + 1) old ++ l) behind)
-    ∙ map-append f (take (at + 1) old) (drop (at + 3) old)
-    ∙ rw (front_part old at lt, drop-map f (at + 3) old) refl
+-- the two entries behind entry `at` cut
+pub cut_spur : (walk : List ℕ) (at : ℕ) → at < length walk → cut walk (at + 1) (at + 3) ≡ replaced at 3 (get_or walk at 0 ∷ []) walk
+cut_spur walk at lt = ap (λ (l : List ℕ). l ++ drop (at + 3) walk) (take_more walk at 0 lt)
+
+-- entries cut, and others put in their place
+pub cut_replaced : (walk others : List ℕ) (at n to : ℕ) → at + n ≡ to → to ≤ length walk
+    → take at (cut walk at to) ++ others ++ drop at (cut walk at to) ≡ replaced at n others walk
+cut_replaced walk others at n to e le =
+    let long : length (take at walk) ≡ at = length-take-le at walk (omega (arith, e, le)) in
+    ap (λ (l : List ℕ). l ++ others ++ drop at (cut walk at to)) (take-append (take at walk) (drop to walk) at long)
+    ∙ ap (λ (l : List ℕ). take at walk ++ others ++ l) (drop-append (take at walk) (drop to walk) at long)
+    ∙ ap (λ (k : ℕ). take at walk ++ others ++ drop k walk) (sym e)
+
+-- an entry pushed at the end
+pub pushed_last : (walk : List ℕ) (place value : ℕ) → place < length walk → value ≡ get_or walk place 0
+    → inserted (take place walk) place value ≡ take (place + 1) walk
+pushed_last walk place value lt e =
+    let long : length (take place walk) ≡ place = length-take-le place walk (omega arith) in
+    ap (λ (l : List ℕ). inserted l place value) (sym (append-nil (take place walk)))
+    ∙ inserted-append (take place walk) [] place value long
+    ∙ ap (λ (v : ℕ). take place walk ++ v ∷ []) e ∙ sym (take_more walk place 0 lt)
+
+-- one more of the others pushed
+pub pushed_more : (list others now : List ℕ) (at k value : ℕ) → at ≤ length list → k < length others
+    → now ≡ take at list ++ take k others ++ drop at list → value ≡ get_or others k 0
+    → inserted now (at + k) value ≡ take at list ++ take (k + 1) others ++ drop at list
+pushed_more list others now at k value le lt e same =
+    let front : List ℕ = take at list ++ take k others in
+    let long : length front ≡ at + k =
+    omega (arith, length-append (take at list) (take k others), length-take-le at list le, length-take-le k others (omega arith)) in
+    ap (λ (l : List ℕ). inserted l (at + k) value) e
+    ∙ inserted-append front (drop at list) (at + k) value long
+    ∙ sym (append_assoc front (value ∷ []) (drop at list))
+    ∙ ap (λ (l : List ℕ). l ++ drop at list) (append_assoc (take at list) (take k others) (value ∷ []))
+    ∙ ap (λ (v : ℕ). take at list ++ (take k others ++ v ∷ []) ++ drop at list) same
+    ∙ ap (λ (l : List ℕ). take at list ++ l ++ drop at list) (sym (take_more others k 0 lt))

@@ -13,6 +13,7 @@ mod edits;
 pub mod fault;
 pub mod judge;
 pub mod laws;
+mod sides;
 pub mod tape;
 
 pub use fault::MoveFault;

@@ -1,13 +1,18 @@
 //! A walk that steps change in place.
 ghost use Rattle.std.specs.Prelude.{◌≡◌, ◌≤◌, ◌<◌, ◌↔◌, ℕ, List, Some, Ok, Err, IfOk, IsOk, OnOk, OnErr, IsTrue, MatchResult};
+ghost use Rattle.chain_pool.specs.Chains.{under};
 ghost use Rattle.surf_model.specs.Walks.{darts};
+ghost use Rattle.surf_model.specs.FaceLists.{FaceList};
 ghost use Rattle.surf_model.specs.Moves.{apply};
 ghost use Rattle.surf_model.specs.Edges.{IsTableOf};
+ghost use Rattle.surf_model.specs.declared.moves.Move.TheVariants.{Insert, Remove, Across};
 ghost use Rattle.move_checker.specs.Refusals.{step_of};
 ghost use Rattle.surf_model.specs.declared.limits.TheConstants.{MOST_PEAK};
 
-use crate::edits::do_move;
+use crate::edits::{Spot, Way, form_edge, is_on_face, push_face, read};
 use crate::fault::MoveFault;
+use crate::sides::{are_before, are_behind};
+use chain_pool::{CellName, Pool};
 use std::alloc::{AllocError, Global};
 use std::marker::Model;
 use surf_model::{Faces, Move, Sides, VertexName, Walk};
@@ -24,22 +29,22 @@ pub enum TapeFault {
 /// A walk that steps change in place, and its peak: the number of darts that it never passes.
 ///
 /// All memory is taken at the start, so that no step needs any.
-#[derive(Debug, Drop)]
+#[derive(Drop)]
 pub struct Tape {
-    vertices: Vec<VertexName>,
+    pool: Pool,
+    chain: CellName,
     peak: u32,
 }
 
 impl Model for Tape {
-    ghost use Rattle.std.specs.Prelude.{vec_len, vec_capacity};
-    ghost use Rattle.surf_model.specs.Vertices.{numbers};
+    ghost use Rattle.chain_pool.specs.Chains.{list_of};
     ghost use Rattle.move_checker.specs.Tapes.{PeakedWalk, HasRoom};
 
     ghost Value = { PeakedWalk };
 
-    ghost view = { λ a. record { walk = numbers a.vertices.items; peak = a.peak } };
+    ghost view = { λ a. record { walk = list_of a.pool a.chain.0; peak = a.peak; pool = a.pool; chain = a.chain } };
 
-    ghost invariant = { λ a. HasRoom a.peak (vec_capacity a.vertices) (vec_len a.vertices) };
+    ghost invariant = { λ a. HasRoom a.pool a.chain a.peak };
 }
 
 impl Tape {
@@ -47,24 +52,28 @@ impl Tape {
     /// that there is no memory for so many.
     pub fn start(alloc: Global, walk: &Walk, peak: u32) -> Result<Tape, TapeFault>
         requires { peak ≤ MOST_PEAK }
-        ensures ok { IfOk result (λ tape. tape ≡ record { walk = walk.now; peak = peak }) }
+        ensures walk { IfOk result (λ tape. tape.walk ≡ walk.now) }
+        ensures peak { IfOk result (λ tape. tape.peak ≡ peak) }
         ensures over { (result ≡ Err TapeFault.OverPeak) ↔ (peak < darts walk.now) }
     {
         let darts = walk.darts();
         if peak < darts {
             return Err(TapeFault::OverPeak);
         }
-        let Ok(mut vertices) = Vec::with_capacity(alloc, peak as usize + 1) else {
+        let mut pool = Pool::new(alloc);
+        // The chain costs a cell, and its walk one more than it has darts.
+        if pool.reserve(peak + 2).is_err() {
             return Err(TapeFault::OutOfMemory);
-        };
-        for place in 0..=darts {
-            vertices.push(walk.at(place)).unwrap();
         }
-        Ok(Tape { vertices, peak })
+        let chain = pool.start_chain();
+        for place in 0..=darts {
+            pool.push_after(chain, place, walk.at(place).0);
+        }
+        Ok(Tape { pool, chain, peak })
     }
 
     /// Does a move on the walk. The peak stays, and a refused move leaves the tape as it was. No
-    /// memory is taken, and only the entries behind the move's place go to other places.
+    /// memory is taken. It costs the way from the place of the last move, and the entries that go in or out.
     pub fn step(&mut self, faces: &Faces, sides: &Sides, mv: Move) -> Result<(), MoveFault>
         requires { IsTableOf faces.now sides.now }
         ensures step { MatchResult result
@@ -79,7 +88,24 @@ impl Tape {
         ensures over { (result ≡ Err MoveFault.OverPeak)
             ↔ ((next : List ℕ) × (apply faces.now self.old.walk mv ≡ Some next) × (self.old.peak < darts next)) }
     {
-        do_move(&mut self.vertices, self.peak, faces, sides, mv)
+        match mv {
+            Move::Insert { at, via } => self.insert_spur(sides, at, via),
+            Move::Remove { at, via } => self.remove_spur(at, via),
+            Move::Across {
+                at,
+                face,
+                corner,
+                forward,
+                taken,
+            } => {
+                let way = Way {
+                    face,
+                    corner,
+                    forward,
+                };
+                self.go_across(faces, at, way, taken)
+            }
+        }
     }
 
     /// The number of darts of the walk.
@@ -88,7 +114,7 @@ impl Tape {
         // What holds of every tape.
         ensures peak { result ≤ self.now.peak }
     {
-        self.vertices.len() as u32 - 1
+        self.pool.len(self.chain) - 1
     }
 
     /// Whether the tape's walk is this walk.
@@ -98,11 +124,104 @@ impl Tape {
         if self.darts() != walk.darts() {
             return false;
         }
-        for (place, vertex) in self.vertices.iter().enumerate() {
-            if *vertex != walk.at(place as u32) {
-                return false;
-            }
+        let halves = self.pool.halves(self.chain);
+        let place = halves.before.len();
+        are_before(halves.before, walk, place) && are_behind(halves.behind, walk, place)
+    }
+
+    /// The pool of cells that keeps the walk.
+    pub fn pool(&self) -> &Pool
+        ensures pool { result.now ≡ self.now.pool }
+        // What holds of every tape.
+        ensures walk { under self.now.pool.lists self.now.chain.0 ≡ Some self.now.walk }
+    {
+        &self.pool
+    }
+
+    /// The chain of the pool whose list is the walk.
+    pub fn chain(&self) -> CellName
+        ensures chain { result ≡ self.now.chain }
+        // What holds of every tape.
+        ensures walk { under self.now.pool.lists self.now.chain.0 ≡ Some self.now.walk }
+    {
+        self.chain
+    }
+
+    /// A spur goes in: after entry `at` the walk goes to `via` and straight back.
+    fn insert_spur(&mut self, sides: &Sides, at: u32, via: VertexName) -> Result<(), MoveFault>
+        ensures step { (mesh : FaceList) → IsTableOf mesh sides.now → MatchResult result
+            (λ _. step_of mesh self.old.peak self.old.walk (Insert at via) ≡ Ok self.new.walk)
+            (λ fault. step_of mesh self.old.peak self.old.walk (Insert at via) ≡ Err fault) }
+        ensures peak { self.new.peak ≡ self.old.peak }
+        ensures refused { OnErr result (self.new ≡ self.old) }
+    {
+        let chain = self.chain;
+        let darts = self.pool.len(chain) - 1;
+        if darts < at {
+            return Err(MoveFault::Place);
         }
-        true
+        let here = read(&mut self.pool, Spot { chain, at });
+        if !form_edge(sides, here, via) {
+            return Err(MoveFault::NoEdge);
+        }
+        if darts + 2 > self.peak {
+            return Err(MoveFault::OverPeak);
+        }
+        self.pool.push_after(chain, at + 1, via.0);
+        self.pool.push_after(chain, at + 2, here.0);
+        Ok(())
+    }
+
+    /// A spur goes out: entry `at + 1`, which is `via`, goes with the entry after it.
+    fn remove_spur(&mut self, at: u32, via: VertexName) -> Result<(), MoveFault>
+        ensures step { (mesh : FaceList) → MatchResult result
+            (λ _. step_of mesh self.old.peak self.old.walk (Remove at via) ≡ Ok self.new.walk)
+            (λ fault. step_of mesh self.old.peak self.old.walk (Remove at via) ≡ Err fault) }
+        ensures peak { self.new.peak ≡ self.old.peak }
+        ensures refused { OnErr result (self.new ≡ self.old) }
+    {
+        let chain = self.chain;
+        // In 64 bits no sum of places wraps.
+        if u64::from(at) + 2 >= u64::from(self.pool.len(chain)) {
+            return Err(MoveFault::Place);
+        }
+        let here = read(&mut self.pool, Spot { chain, at });
+        let middle = VertexName(self.pool.at(chain, at + 1));
+        if here != VertexName(self.pool.at(chain, at + 2)) || middle != via {
+            return Err(MoveFault::NotSpur);
+        }
+        self.pool.cut_between(chain, at + 1, at + 3);
+        Ok(())
+    }
+
+    /// The walk goes round a face the other way: `taken` sides, from entry `at` on, are replaced by the others.
+    fn go_across(&mut self, faces: &Faces, at: u32, way: Way, taken: u32) -> Result<(), MoveFault>
+        ensures step { MatchResult result
+            (λ _. step_of faces.now self.old.peak self.old.walk (Across at way.face way.corner way.forward taken) ≡ Ok self.new.walk)
+            (λ fault. step_of faces.now self.old.peak self.old.walk (Across at way.face way.corner way.forward taken) ≡ Err fault) }
+        ensures peak { self.new.peak ≡ self.old.peak }
+        ensures refused { OnErr result (self.new ≡ self.old) }
+    {
+        let spot = Spot {
+            chain: self.chain,
+            at,
+        };
+        // In 64 bits no sum of places wraps.
+        let darts = u64::from(self.pool.len(spot.chain) - 1);
+        let taken_darts = u64::from(taken);
+        if darts < u64::from(at) + taken_darts {
+            return Err(MoveFault::Place);
+        }
+        if !is_on_face(&mut self.pool, spot, faces, way, taken) {
+            return Err(MoveFault::NotOnFace);
+        }
+        let left = faces.sides(way.face) - taken;
+        if darts + u64::from(left) > u64::from(self.peak) + taken_darts {
+            return Err(MoveFault::OverPeak);
+        }
+        // First out, then in: so no more cells are wanted than the peak has.
+        self.pool.cut_between(spot.chain, at, at + taken + 1);
+        push_face(&mut self.pool, spot, faces, way.reversed(), left);
+        Ok(())
     }
 }

@@ -1,39 +1,70 @@
-use Rattle.std.proofs.Common.{◌≡◌, ◌-◌, ◌≢◌, length, refl, ap, sym, ◌∙◌, arith}
+use Rattle.std.proofs.Common.{◌≡◌, ◌+◌, ◌-◌, ◌<◌, ◌≢◌, ℕ, List, length, take, drop, get_or, refl, ap, sym, ◌∙◌, arith}
+use Rattle.std.proofs.lemmas.List.{length-take-le, length-drop, get_or-take, get_or-drop}
+use Rattle.chain_pool.specs.Chains.{Chains, list_of}
 use Rattle.surf_model.specs.FaceLists.{face_at, next_corner, corners_from}
-use Rattle.surf_model.specs.Vertices.{numbers}
-use Rattle.move_checker.proofs.Entries.{entry, length-numbers}
-use Rattle.move_checker.proofs.Ways.{on_way_more, on_way_all, off_way}
+use Rattle.move_checker.proofs.Ways.{IsOnWay, on_way_more, on_way_all, off_way}
 use Rattle.move_checker.proofs.SameWalks.{same_vertex, other_vertex, same_walk_true, same_walk_false}
 use Rattle.move_checker.proofs.edits.reads_face.Goals as goal
+use Rattle.move_checker.proofs.edits.reads_face.Goals.{After-read, After-corner_after-corner}
 
-pub returns-then-ne : goal.returns-then-ne
-returns-then-ne c =
-    let i = c.loop-entry.entry-index in
-    let ring = face_at c.args.faces.now c.args.way.face.0 in
-    let entries = c.args.entries.now in
-    let whole : length (numbers entries) ≡ length entries = length-numbers entries in
-    let here = sym (entry entries i (record { 0 = 0 }) c.loop-entry-test.true) in
-    let ne : numbers entries ≢ corners_from ring c.args.way.forward c.args.way.corner (length (numbers entries) - 1) =
-    off_way ring c.args.way.forward c.args.way.corner (numbers entries) i c.loop-entry.corner c.loop-entry.invariant (omega arith)
-    (λ e. other_vertex _ _ (sym c.if-ne.ensures) (sym here ∙ e ∙ sym c.corner.ensures)) in
-    rw (← whole) (sym (same_walk_false _ _ ne))
+size : (list : List ℕ) (at steps : ℕ) → at + steps < length list → length (take (steps + 1) (drop at list)) ≡ steps + 1
+size list at steps lt = length-take-le (steps + 1) (drop at list) (omega (arith, length-drop at list))
 
-pub loop-entry-preserved : goal.loop-entry-preserved
-loop-entry-preserved c =
-    let i = c.loop-entry.entry-index in
+-- the entry that is read
+entry : (c : After-read)
+    → get_or (take (c.args.steps + 1) (drop c.args.spot.at (list_of c.args.pool.now c.args.spot.chain.0))) c.loop-step.step 0
+    ≡ c.read.result.0
+entry c =
+    get_or-take (c.args.steps + 1) (drop c.args.spot.at (list_of c.args.pool.now c.args.spot.chain.0)) c.loop-step.step 0 (omega arith)
+    ∙ get_or-drop c.args.spot.at (list_of c.args.pool.now c.args.spot.chain.0) c.loop-step.step 0
+    ∙ ap (λ (p : Chains). get_or (list_of p c.args.spot.chain.0) (c.args.spot.at + c.loop-step.step) 0) (sym c.loop-step.invariant.0)
+    ∙ sym c.read.ensures.value
+
+pub returns-then-ne-clause-reads : goal.returns-then-ne-clause-reads
+returns-then-ne-clause-reads c =
     let ring = face_at c.args.faces.now c.args.way.face.0 in
-    let entries = c.args.entries.now in
-    on_way_more ring c.args.way.forward c.args.way.corner (numbers entries) (numbers entries) i c.loop-entry.corner
-    c.corner_after-corner.result c.loop-entry.invariant
-    (λ k h. refl)
-    (sym (entry entries i (record { 0 = 0 }) c.loop-entry-test.true) ∙ same_vertex _ _ (sym c.if-ne.ensures) ∙ c.corner.ensures)
-    (c.corner_after-corner.ensures.corner ∙ ap (λ m. next_corner c.args.way.forward m c.loop-entry.corner) c.sides-sides.ensures)
+    let list = list_of c.args.pool.now c.args.spot.chain.0 in
+    let entries = take (c.args.steps + 1) (drop c.args.spot.at list) in
+    let whole = size list c.args.spot.at c.args.steps c.requires.place in
+    let last : length entries - 1 ≡ c.args.steps = omega (arith, whole) in
+    let ne : entries ≢ corners_from ring c.args.way.forward c.args.way.corner (length entries - 1) =
+    off_way ring c.args.way.forward c.args.way.corner entries c.loop-step.step c.loop-step.corner c.loop-step.invariant.1
+    (omega (arith, whole))
+    (λ e. other_vertex _ _ (sym c.if-ne.ensures)
+    (sym (entry (goal.at.returns-then-ne-clause-reads c).After-read) ∙ e ∙ sym c.corner.ensures)) in
+    sym (same_walk_false _ _ (λ e. ne (e ∙ ap (corners_from ring c.args.way.forward c.args.way.corner) (sym last))))
+
+one_more : (c : After-corner_after-corner)
+    → get_or (take (c.args.steps + 1) (drop c.args.spot.at (list_of c.args.pool.now c.args.spot.chain.0))) c.loop-step.step 0
+    ≡ c.corner.result.0
+    → IsOnWay (face_at c.args.faces.now c.args.way.face.0) c.args.way.forward c.args.way.corner
+    (take (c.args.steps + 1) (drop c.args.spot.at (list_of c.args.pool.now c.args.spot.chain.0))) (c.loop-step.step + 1)
+    c.corner_after-corner.result
+one_more c same =
+    let ring = face_at c.args.faces.now c.args.way.face.0 in
+    let entries = take (c.args.steps + 1) (drop c.args.spot.at (list_of c.args.pool.now c.args.spot.chain.0)) in
+    on_way_more ring c.args.way.forward c.args.way.corner entries entries c.loop-step.step c.loop-step.corner c.corner_after-corner.result
+    c.loop-step.invariant.1 (λ k h. refl) (same ∙ c.corner.ensures)
+    (c.corner_after-corner.ensures.corner ∙ ap (λ m. next_corner c.args.way.forward m c.loop-step.corner) c.sides-sides.ensures)
     (omega (arith, c.corner_after-corner.ensures.within, c.sides-sides.ensures))
 
-pub returns : goal.returns
-returns c =
-    let entries = c.args.entries.now in
-    let whole : length (numbers entries) ≡ length entries = length-numbers entries in
-    rw (← whole) (sym (same_walk_true _ _ (on_way_all (face_at c.args.faces.now c.args.way.face.0) c.args.way.forward c.args.way.corner
-    (numbers entries)
-    c.loop-entry.entry-index c.loop-entry.corner c.loop-entry.invariant (omega arith) (omega arith))))
+pub loop-step-preserved : goal.loop-step-preserved
+loop-step-preserved c = (
+  c.read.ensures.same ∙ c.loop-step.invariant.0,
+  one_more (goal.at.loop-step-preserved c).After-corner_after-corner
+      (entry (goal.at.loop-step-preserved c).After-read ∙ same_vertex _ _ (sym c.if-ne.ensures)),
+)
+
+pub returns-else-ne-clause-reads : goal.returns-else-ne-clause-reads
+returns-else-ne-clause-reads c =
+    let ring = face_at c.args.faces.now c.args.way.face.0 in
+    let list = list_of c.args.pool.now c.args.spot.chain.0 in
+    let entries = take (c.args.steps + 1) (drop c.args.spot.at list) in
+    let whole = size list c.args.spot.at c.args.steps c.requires.place in
+    let last : length entries - 1 ≡ c.args.steps = omega (arith, whole) in
+    sym (same_walk_true _ _ (on_way_all ring c.args.way.forward c.args.way.corner entries (c.loop-step.step + 1)
+    c.corner_after-corner.result
+    (one_more (goal.at.returns-else-ne-clause-reads c).After-corner_after-corner
+    (entry (goal.at.returns-else-ne-clause-reads c).After-read ∙ same_vertex _ _ (sym c.if-ne.ensures)))
+    (omega (arith, whole)) (omega (arith, whole))
+    ∙ ap (corners_from ring c.args.way.forward c.args.way.corner) last))

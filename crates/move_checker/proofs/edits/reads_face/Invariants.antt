@@ -1,7 +1,11 @@
+use Rattle.std.proofs.Common.{◌≡◌, ◌+◌, take, drop}
+use Rattle.chain_pool.specs.Chains.{list_of}
 use Rattle.surf_model.specs.FaceLists.{face_at}
-use Rattle.surf_model.specs.Vertices.{numbers}
 use Rattle.move_checker.proofs.Ways.{IsOnWay}
 use Rattle.move_checker.proofs.edits.reads_face.Given as goal
 
-abbrev pub invariant-loop-entry : goal.invariant-loop-entry
-invariant-loop-entry l = IsOnWay (face_at l.faces l.way.face.0) l.way.forward l.way.corner (numbers l.entries) l.entry-index l.corner
+abbrev pub invariant-loop-step : goal.invariant-loop-step
+invariant-loop-step l =
+    (l.pool ≡ l.fn.pool)
+    × IsOnWay (face_at l.faces l.way.face.0) l.way.forward l.way.corner
+    (take (l.steps + 1) (drop l.spot.at (list_of l.fn.pool l.spot.chain.0))) l.step l.corner

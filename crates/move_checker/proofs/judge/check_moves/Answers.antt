@@ -6,7 +6,6 @@ use Rattle.std.proofs.lemmas.Option.{slice_get_within, get_or_from_slice_get}
 use Rattle.surf_model.specs.Walks.{darts}
 use Rattle.surf_model.specs.declared.moves.Move.{Move}
 use Rattle.move_checker.specs.Refusals.{step_of}
-use Rattle.move_checker.specs.Tapes.{PeakedWalk}
 use Rattle.move_checker.specs.Verdicts.{verdict_from}
 use Rattle.move_checker.proofs.Judgement.{verdict_over_peak, verdict_start, verdict_more, verdict_refused, verdict_accepted, verdict_end, accepted_exactly}
 use Rattle.move_checker.proofs.judge.check_moves.Goals as goal
@@ -24,10 +23,10 @@ loop-k-init c =
       | inl lt ↦ let over = c.in-Ok.ensures.over.1 lt in cc
       | inr le ↦ omega (arith, le, c.peak.ensures)
     ] in
-    let laid : c.in-Ok.tape.walk ≡ c.args.first.now = ap (λ (t : PeakedWalk). t.walk) c.in-Ok.ensures.ok in (
+    let laid : c.in-Ok.tape.walk ≡ c.args.first.now = c.in-Ok.ensures.walk in (
       verdict_start c.args.faces.now c.args.first.now c.args.second.now list within
           ∙ ap (λ (w : List ℕ). verdict_from c.args.faces.now list.peak c.args.second.now 1 w list.moves) (sym laid),
-      ap (λ (t : PeakedWalk). t.peak) c.in-Ok.ensures.ok ∙ c.peak.ensures,
+      c.in-Ok.ensures.peak ∙ c.peak.ensures,
     )
 
 -- the moves from move k on

@@ -45,7 +45,8 @@ overflow_add-self-2 c =
 pub invariant_of-self : goal.invariant_of-self
 invariant_of-self c =
     let written = twice_written c.self.inside.slots c.write.new.slots c.write-2.new.slots _ _ _ _ c.write.ensures c.write-2.ensures in
-    rw (written.slots, written.capacity) (cut_edits c.self.inside.slots.slots c.self.inside.slots.capacity c.self.inside.free c.self.inside.spare
+    rw (written.slots, written.capacity)
+    (cut_edits c.self.inside.slots.slots c.self.inside.slots.capacity c.self.inside.free c.self.inside.spare
     c.self.invariant c.args.chain.0 c.head.result.0 c.head.result.1 c.head.ensures c.entry-next.result.0 c.entry-next.result.1
     c.entry-next.ensures (some (goal.at.invariant_of-self c).After-head)).sound
 

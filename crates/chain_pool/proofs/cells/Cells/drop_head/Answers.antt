@@ -54,7 +54,8 @@ pub invariant_of-self : goal.invariant_of-self
 invariant_of-self c =
     let at = (goal.at.invariant_of-self c).After-write in
     let written = once_written c.self.inside.slots c.write.new.slots _ _ c.write.ensures in
-    rw (written.slots, written.capacity) (drop_sound c.self.inside.slots.slots c.self.inside.slots.capacity c.self.inside.free c.self.inside.spare c.self.invariant
+    rw (written.slots, written.capacity)
+    (drop_sound c.self.inside.slots.slots c.self.inside.slots.capacity c.self.inside.free c.self.inside.spare c.self.invariant
     c.args.chain.0 (found at).left (found at).right (found at).is (no_left at) (no_right at)).sound
 
 pub returns-clause-chain : goal.returns-clause-chain
@@ -62,5 +63,6 @@ returns-clause-chain c =
     let at = (goal.at.returns-clause-chain c).After-write in
     let written = once_written c.self.inside.slots c.write.new.slots _ _ c.write.ensures in
     let same : chains_of c.self.inside.slots.slots ≡ c.args.self.now.chains = view at in
-    rw (written.slots, ← same) (drop_sound c.self.inside.slots.slots c.self.inside.slots.capacity c.self.inside.free c.self.inside.spare c.self.invariant
+    rw (written.slots, ← same)
+    (drop_sound c.self.inside.slots.slots c.self.inside.slots.capacity c.self.inside.free c.self.inside.spare c.self.invariant
     c.args.chain.0 (found at).left (found at).right (found at).is (no_left at) (no_right at)).edit

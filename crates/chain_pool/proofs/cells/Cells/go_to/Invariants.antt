@@ -1,16 +1,18 @@
-use Rattle.std.proofs.Common.{◌≤◌, ◌-◌, length}
-use Rattle.chain_pool.specs.Memory.{parted_under}
-use Rattle.chain_pool.proofs.Places.{SameLists}
+use Rattle.std.proofs.Common.{◌≤◌, ◌-◌}
+use Rattle.chain_pool.proofs.Going.{IsGoing}
 use Rattle.chain_pool.proofs.cells.Cells.go_to.Given as goal
 
 abbrev pub invariant-on : goal.invariant-on
-invariant-on l = SameLists l.fn.self l.self l.chain.0
+invariant-on l =
+    IsGoing l.fn.self l.self-inside.slots.slots l.self-inside.slots.capacity l.self-inside.free l.self-inside.spare l.chain.0 l.left l.right
 
 abbrev pub decreases-on : goal.decreases-on
-decreases-on l = l.place - length (parted_under l.self.chains l.chain.0).before
+decreases-on l = l.place - l.left.len
 
 abbrev pub invariant-back : goal.invariant-back
-invariant-back l = SameLists l.fn.self l.self l.chain.0 × (l.place ≤ length (parted_under l.self.chains l.chain.0).before)
+invariant-back l =
+    IsGoing l.fn.self l.self-inside.slots.slots l.self-inside.slots.capacity l.self-inside.free l.self-inside.spare l.chain.0 l.left l.right
+    × (l.place ≤ l.left.len)
 
 abbrev pub decreases-back : goal.decreases-back
-decreases-back l = length (parted_under l.self.chains l.chain.0).before
+decreases-back l = l.left.len

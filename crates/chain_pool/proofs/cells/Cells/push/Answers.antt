@@ -10,7 +10,8 @@ some : (c : After-head) → 0 < c.self.inside.free.len
 some c = omega (arith, c.requires.free, ap (λ (v : PartedChains). v.free) c.self.view_is)
 
 pub entry-next-requires : goal.entry-next-requires
-entry-next-requires c = free_entry c.self.inside.slots.slots c.self.inside.slots.capacity c.self.inside.free c.self.inside.spare c.self.invariant (some (goal.at.entry-next-requires c).After-head)
+entry-next-requires c = free_entry c.self.inside.slots.slots c.self.inside.slots.capacity c.self.inside.free c.self.inside.spare
+    c.self.invariant (some (goal.at.entry-next-requires c).After-head)
 
 pub overflow_add-left : goal.overflow_add-left
 overflow_add-left c =
@@ -25,7 +26,8 @@ overflow_add-left c =
 pub invariant_of-self : goal.invariant_of-self
 invariant_of-self c =
     let written = twice_written c.self.inside.slots c.write.new.slots c.write-2.new.slots _ _ _ _ c.write.ensures c.write-2.ensures in
-    rw (written.slots, written.capacity) (push_edits c.self.inside.slots.slots c.self.inside.slots.capacity c.self.inside.free c.self.inside.spare c.self.invariant
+    rw (written.slots, written.capacity)
+    (push_edits c.self.inside.slots.slots c.self.inside.slots.capacity c.self.inside.free c.self.inside.spare c.self.invariant
     c.args.chain.0 c.head.result.0 c.head.result.1 c.head.ensures c.args.value c.entry-next.result.0 c.entry-next.result.1
     c.entry-next.ensures (some (goal.at.invariant_of-self c).After-head)).sound
 
@@ -33,6 +35,7 @@ pub returns-clause-chain : goal.returns-clause-chain
 returns-clause-chain c =
     let written = twice_written c.self.inside.slots c.write.new.slots c.write-2.new.slots _ _ _ _ c.write.ensures c.write-2.ensures in
     let same : chains_of c.self.inside.slots.slots ≡ c.args.self.now.chains = ap (λ (v : PartedChains). v.chains) c.self.view_is in
-    rw (written.slots, ← same) (push_edits c.self.inside.slots.slots c.self.inside.slots.capacity c.self.inside.free c.self.inside.spare c.self.invariant
+    rw (written.slots, ← same)
+    (push_edits c.self.inside.slots.slots c.self.inside.slots.capacity c.self.inside.free c.self.inside.spare c.self.invariant
     c.args.chain.0 c.head.result.0 c.head.result.1 c.head.ensures c.args.value c.entry-next.result.0 c.entry-next.result.1
     c.entry-next.ensures (some (goal.at.returns-clause-chain c).After-head)).edit

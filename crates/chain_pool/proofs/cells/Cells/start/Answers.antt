@@ -16,7 +16,8 @@ some c = omega (arith, c.requires, ap (λ (v : PartedChains). v.free) c.self.vie
 pub invariant_of-self : goal.invariant_of-self
 invariant_of-self c =
     let written = once_written c.self.inside.slots c.write.new.slots _ _ c.write.ensures in
-    rw (written.slots, written.capacity) (start_sound c.self.inside.slots.slots c.self.inside.slots.capacity c.self.inside.free c.self.inside.spare c.self.invariant
+    rw (written.slots, written.capacity)
+    (start_sound c.self.inside.slots.slots c.self.inside.slots.capacity c.self.inside.free c.self.inside.spare c.self.invariant
     c.entry-next.result.0 c.entry-next.result.1 c.entry-next.ensures (some (goal.at.invariant_of-self c).After-write)).sound
 
 pub returns-clause-was : goal.returns-clause-was
@@ -29,5 +30,6 @@ pub returns-clause-chain : goal.returns-clause-chain
 returns-clause-chain c =
     let written = once_written c.self.inside.slots c.write.new.slots _ _ c.write.ensures in
     let same : chains_of c.self.inside.slots.slots ≡ c.args.self.now.chains = ap (λ (v : PartedChains). v.chains) c.self.view_is in
-    rw (written.slots, ← same) (start_sound c.self.inside.slots.slots c.self.inside.slots.capacity c.self.inside.free c.self.inside.spare c.self.invariant
+    rw (written.slots, ← same)
+    (start_sound c.self.inside.slots.slots c.self.inside.slots.capacity c.self.inside.free c.self.inside.spare c.self.invariant
     c.entry-next.result.0 c.entry-next.result.1 c.entry-next.ensures (some (goal.at.returns-clause-chain c).After-write)).edit

@@ -28,7 +28,8 @@ loop-i-preserved c =
     IsCutTo-more c.args.self.now c.loop-i.self-inside.cells c.cut.new.self c.args.chain.0 c.args.from c.loop-i._i c.loop-i.invariant
     c.cut.ensures.chain c.cut.ensures.names c.cut.ensures.spare
 
-all_cut : (c : After-loop-i) → c.args.to ≡ c.loop-i._i → IsCutTo c.args.self.now c.loop-i.self-inside.cells c.args.chain.0 c.args.from c.args.to
+all_cut : (c : After-loop-i) → c.args.to ≡ c.loop-i._i
+    → IsCutTo c.args.self.now c.loop-i.self-inside.cells c.args.chain.0 c.args.from c.args.to
 all_cut c e = subst (λ (n : ℕ). IsCutTo c.args.self.now c.loop-i.self-inside.cells c.args.chain.0 c.args.from n) (sym e) c.loop-i.invariant
 
 pub returns-clause-list : goal.returns-clause-list

@@ -12,7 +12,8 @@ returns-clause-list c =
     let list : List ℕ = joined (parted_under c.self.inside.cells.chains name) in
     let ready = edit_then_alike c.self.inside.cells.chains c.go_to.new.self.chains c.make_ready.new.self.chains name _
     c.go_to.ensures.chain c.make_ready.ensures.chains in
-    let whole = edit_twice c.self.inside.cells.chains c.make_ready.new.self.chains c.push.new.self.chains name _ _ ready c.push.ensures.chain in
+    let whole = edit_twice c.self.inside.cells.chains c.make_ready.new.self.chains c.push.new.self.chains name _ _ ready
+    c.push.ensures.chain in
     seen_edit c.self.inside.cells.chains c.push.new.self.chains c.args.self.now.lists name
     (pushed (parted_under c.make_ready.new.self.chains name) c.args.value)
     (inserted (list_under c.args.self.now.lists name) c.args.place c.args.value) seen whole

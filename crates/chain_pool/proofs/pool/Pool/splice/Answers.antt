@@ -12,11 +12,11 @@ loop-i-init c =
     c.go_to.ensures.chain c.go_to-2.ensures.chain c.go_to.ensures.spare c.go_to-2.ensures.spare in
     (start, c.len-len.ensures ∙ IsSplicedTo-total c.args.self.now c.go_to-2.new.self c.args.chain.0 c.args.place c.args.other.0 start)
 
-pub next-value-requires-clause-live : goal.next-value-requires-clause-live
-next-value-requires-clause-live c = ap (λ (o : Option Parted). is_some o) c.loop-i.invariant.0.there
+pub next-moved-requires-clause-live : goal.next-moved-requires-clause-live
+next-moved-requires-clause-live c = ap (λ (o : Option Parted). is_some o) c.loop-i.invariant.0.there
 
-pub next-value-requires-clause-behind : goal.next-value-requires-clause-behind
-next-value-requires-clause-behind c =
+pub next-moved-requires-clause-behind : goal.next-moved-requires-clause-behind
+next-moved-requires-clause-behind c =
     omega (
       arith,
       IsSplicedTo-left c.args.self.now c.loop-i.self-inside.cells c.args.chain.0 c.args.place c.args.other.0 c.loop-i._i
@@ -32,8 +32,8 @@ push-requires-clause-live c =
 pub loop-i-preserved : goal.loop-i-preserved
 loop-i-preserved c = (
   IsSplicedTo-more c.args.self.now c.loop-i.self-inside.cells c.cut.new.self c.push.new.self c.args.chain.0 c.args.place c.args.other.0
-      c.loop-i._i c.next-value.result c.requires.differ c.loop-i.invariant.0 (omega (arith, c.loop-i.invariant.1, c.loop-i-test.true))
-      c.next-value.ensures c.cut.ensures.chain c.push.ensures.chain
+      c.loop-i._i c.next-moved.result c.requires.differ c.loop-i.invariant.0 (omega (arith, c.loop-i.invariant.1, c.loop-i-test.true))
+      c.next-moved.ensures c.cut.ensures.chain c.push.ensures.chain
       (omega (arith, c.cut.ensures.spare, c.push.ensures.spare)),
   c.loop-i.invariant.1,
 )
@@ -56,5 +56,6 @@ returns-clause-list c =
 
 pub returns-clause-others : goal.returns-clause-others
 returns-clause-others c =
-    IsSplicedTo-others c.args.self.now c.loop-i.self-inside.cells c.drop_head.new.self c.args.chain.0 c.args.place c.args.other.0 c.loop-i._i
+    IsSplicedTo-others c.args.self.now c.loop-i.self-inside.cells c.drop_head.new.self c.args.chain.0 c.args.place c.args.other.0
+    c.loop-i._i
     c.loop-i.invariant.0 c.drop_head.ensures.chain

@@ -1,0 +1,174 @@
+-- The way to a place: the two stacks of a chain are kept at hand, and its head is written at the end.
+use Rattle.std.proofs.Common.{◌≡◌, ◌≢◌, ℕ, ◌+◌, ◌-◌, ◌<◌, ◌^◌, List, length, set, Option, Some, None, refl, sym, ap, subst, ◌∙◌, arith, inl, inr}
+use Rattle.std.proofs.lemmas.Bool.{cases_eq}
+use Rattle.std.proofs.lemmas.List.{get_or-set_same, get_or-set_other, length-set, length-map, ext_get_or, set-set, set_comm}
+use Rattle.chain_pool.specs.Chains.{under, IsUnder, IsEdit}
+use Rattle.chain_pool.specs.Memory.{Parted, PartedChains, joined, parted_under, parted_at, chains_of, IsSound, IsEntry, advanced, retreated}
+use Rattle.chain_pool.specs.declared.cells.Cell.{Cell}
+use Rattle.chain_pool.specs.declared.cells.Cell.TheVariants.{Head, Entry}
+use Rattle.chain_pool.specs.declared.cells.Stack.{Stack}
+use Rattle.chain_pool.proofs.Edits.{Edited, advance_edits, retreat_edits}
+use Rattle.chain_pool.proofs.Places.{SameLists, SameLists-refl, SameLists-more, SameLists-done, joined-advanced, joined-retreated}
+use Rattle.chain_pool.proofs.Rewrites.{within}
+use Rattle.chain_pool.proofs.Soundness.{few, length-joined}
+use Rattle.chain_pool.proofs.Writes.{HasHead, left_entry, right_entry, before_len, behind_len}
+
+-- the cells as they are once the head is written
+abbrev pub with_head : List (Option Cell) → ℕ → Stack → Stack → List (Option Cell)
+with_head slots name left right = set slots name (Some (Head left right))
+
+abbrev pub seen_with : List (Option Cell) → ℕ → Stack → Stack → ℕ → ℕ → PartedChains
+seen_with slots name left right spare free = record { chains = chains_of (with_head slots name left right); spare = spare; free = free }
+
+-- on the way: once the head is written, the cells are sound, and all lists are what they were
+pub record IsGoing (old : PartedChains) (slots : List (Option Cell)) (capacity : ℕ) (free : Stack) (spare name : ℕ) (left right : Stack)
+    : Type 0 where
+  pub head : HasHead (under slots name)
+  pub sound : IsSound (with_head slots name left right) capacity free spare
+  pub same : SameLists old (seen_with slots name left right spare free.len) name
+
+pub set-own : (slots : List (Option Cell)) (k : ℕ) (cell : Cell) → under slots k ≡ Some cell → set slots k (Some cell) ≡ slots
+set-own slots k cell e =
+    ext_get_or None (set slots k (Some cell)) slots (length-set slots k (Some cell))
+    (λ i lt. elim (cases_eq i k) [
+      | inl same ↦ ap (under (set slots k (Some cell))) same ∙ get_or-set_same slots k (Some cell) None (within slots k cell e)
+          ∙ sym (ap (under slots) same ∙ e)
+      | inr ne ↦ get_or-set_other slots k i (Some cell) None ne
+    ])
+
+pub IsGoing-start : (old : PartedChains) (slots : List (Option Cell)) (capacity : ℕ) (free : Stack) (spare name : ℕ) (left right : Stack)
+    → IsSound slots capacity free spare → record { chains = chains_of slots; spare = spare; free = free.len } ≡ old
+    → under slots name ≡ Some (Head left right) → IsUnder old.chains name
+    → IsGoing old slots capacity free spare name left right
+IsGoing-start old slots capacity free spare name left right sound seen head live =
+    let own : with_head slots name left right ≡ slots = set-own slots name (Head left right) head in
+    record {
+      head = record { left = left; right = right; is = head };
+      sound = subst (λ (cells : List (Option Cell)). IsSound cells capacity free spare) (sym own) sound;
+      same = subst (λ (now : PartedChains). SameLists old now name)
+          (sym (ap (λ (cells : List (Option Cell)). record { chains = chains_of cells; spare = spare; free = free.len }) own ∙ seen))
+          (SameLists-refl old name live);
+    }
+
+module _ (old : PartedChains) (slots : List (Option Cell)) (capacity : ℕ) (free : Stack) (spare name : ℕ) (left right : Stack)
+    (going : IsGoing old slots capacity free spare name left right) where
+  pub at_name : under (with_head slots name left right) name ≡ Some (Head left right)
+  at_name = get_or-set_same slots name _ None (within slots name _ going.head.is)
+
+  pub before_now : length (parted_under (chains_of (with_head slots name left right)) name).before ≡ left.len
+  before_now =
+      before_len (with_head slots name left right) capacity free spare going.sound name left right at_name
+      (chains_of (with_head slots name left right)) refl
+
+  pub behind_now : length (parted_under (chains_of (with_head slots name left right)) name).behind ≡ right.len
+  behind_now =
+      behind_len (with_head slots name left right) capacity free spare going.sound name left right at_name
+      (chains_of (with_head slots name left right)) refl
+
+  -- all entries
+  pub both_now : left.len + right.len ≡ length (joined (parted_under old.chains name))
+  both_now =
+      omega (
+        arith,
+        before_now,
+        behind_now,
+        length-joined (parted_under (chains_of (with_head slots name left right)) name),
+        ap (λ (l : List ℕ). length l) going.same.list,
+      )
+
+  pub few_now : left.len + right.len + 1 + spare < 2 ^ 32
+  few_now = few (with_head slots name left right) capacity free spare going.sound name left right at_name
+
+  -- an entry is where no head is written
+  off_head : (k : ℕ) → IsEntry (under (with_head slots name left right) k) → k ≢ name
+  off_head k entry same = subst IsEntry (ap (under (with_head slots name left right)) same ∙ at_name) entry
+
+  here_too : (k : ℕ) → k ≢ name → under (with_head slots name left right) k ≡ under slots k
+  here_too k ne = get_or-set_other slots name k _ None ne
+
+  pub right_top : 0 < right.len → IsEntry (under slots right.top)
+  right_top some =
+      let entry = right_entry (with_head slots name left right) capacity free spare going.sound name left right at_name some in
+      subst IsEntry (here_too right.top (off_head right.top entry)) entry
+
+  pub left_top : 0 < left.len → IsEntry (under slots left.top)
+  left_top some =
+      let entry = left_entry (with_head slots name left right) capacity free spare going.sound name left right at_name some in
+      subst IsEntry (here_too left.top (off_head left.top entry)) entry
+
+  -- a write of an entry, and then of the head
+  head_last : (x : ℕ) (entry : Cell) (l r : Stack) → x ≢ name
+      → set (set (with_head slots name left right) x (Some entry)) name (Some (Head l r)) ≡ with_head (set slots x (Some entry)) name l r
+  head_last x entry l r ne =
+      ap (λ (cells : List (Option Cell)). set cells name (Some (Head l r))) (sym (set_comm slots x name (Some entry) (Some
+      (Head left right)) ne))
+      ∙ set-set (set slots x (Some entry)) name (Some (Head left right)) (Some (Head l r))
+
+  head_kept : (x : ℕ) (entry : Cell) → x ≢ name → HasHead (under (set slots x (Some entry)) name)
+  head_kept x entry ne = record {
+    left = going.head.left;
+    right = going.head.right;
+    is = get_or-set_other slots x name (Some entry) None (λ e. ne (sym e)) ∙ going.head.is;
+  }
+
+  moved_on : (new : List (Option Cell)) (l r : Stack) (parted : Parted)
+      → Edited (with_head slots name left right) (with_head new name l r) capacity free spare name parted
+      → joined parted ≡ joined (parted_under (chains_of (with_head slots name left right)) name)
+      → length new ≡ length slots
+      → SameLists old (seen_with new name l r spare free.len) name
+  moved_on new l r parted edited list long =
+      SameLists-more old (seen_with slots name left right spare free.len) (seen_with new name l r spare free.len) name parted going.same
+      edited.edit list
+      (length-map (with_head new name l r) _ ∙ length-set new name _ ∙ long
+      ∙ sym (length-map (with_head slots name left right) _ ∙ length-set slots name _)) refl refl
+
+  pub going_on : (next value : ℕ) → under slots right.top ≡ Some (Entry next value) → 0 < right.len
+      → IsGoing old (set slots right.top (Some (Entry left.top value))) capacity free spare name
+      (record { top = right.top; len = left.len + 1 }) (record { top = next; len = right.len - 1 })
+  going_on next value here some =
+      let entry = right_entry (with_head slots name left right) capacity free spare going.sound name left right at_name some in
+      let ne = off_head right.top entry in
+      let l : Stack = record { top = right.top; len = left.len + 1 } in
+      let r : Stack = record { top = next; len = right.len - 1 } in
+      let edited : Edited (with_head slots name left right)
+      (with_head (set slots right.top (Some (Entry left.top value))) name l r) capacity free spare name
+      (advanced (parted_under (chains_of (with_head slots name left right)) name)) =
+      subst (λ (cells : List (Option Cell)). Edited (with_head slots name left right) cells capacity free spare name
+      (advanced (parted_under (chains_of (with_head slots name left right)) name)))
+      (head_last right.top (Entry left.top value) l r ne)
+      (advance_edits (with_head slots name left right) capacity free spare going.sound name left right at_name next value
+      (here_too right.top ne ∙ here) some) in
+      record {
+        head = head_kept right.top (Entry left.top value) ne;
+        sound = edited.sound;
+        same = moved_on (set slots right.top (Some (Entry left.top value))) l r _ edited
+            (joined-advanced (parted_under (chains_of (with_head slots name left right)) name)) (length-set slots right.top _);
+      }
+
+  pub going_back : (next value : ℕ) → under slots left.top ≡ Some (Entry next value) → 0 < left.len
+      → IsGoing old (set slots left.top (Some (Entry right.top value))) capacity free spare name
+      (record { top = next; len = left.len - 1 }) (record { top = left.top; len = right.len + 1 })
+  going_back next value here some =
+      let entry = left_entry (with_head slots name left right) capacity free spare going.sound name left right at_name some in
+      let ne = off_head left.top entry in
+      let l : Stack = record { top = next; len = left.len - 1 } in
+      let r : Stack = record { top = left.top; len = right.len + 1 } in
+      let edited : Edited (with_head slots name left right)
+      (with_head (set slots left.top (Some (Entry right.top value))) name l r) capacity free spare name
+      (retreated (parted_under (chains_of (with_head slots name left right)) name)) =
+      subst (λ (cells : List (Option Cell)). Edited (with_head slots name left right) cells capacity free spare name
+      (retreated (parted_under (chains_of (with_head slots name left right)) name)))
+      (head_last left.top (Entry right.top value) l r ne)
+      (retreat_edits (with_head slots name left right) capacity free spare going.sound name left right at_name next value
+      (here_too left.top ne ∙ here) some) in
+      record {
+        head = head_kept left.top (Entry right.top value) ne;
+        sound = edited.sound;
+        same = moved_on (set slots left.top (Some (Entry right.top value))) l r _ edited
+            (joined-retreated (parted_under (chains_of (with_head slots name left right)) name)) (length-set slots left.top _);
+      }
+
+  pub gone : (place : ℕ) → left.len ≡ place
+      → IsEdit old.chains (chains_of (with_head slots name left right)) name (Some (parted_at (joined
+      (parted_under old.chains name)) place))
+  gone place e = SameLists-done old (seen_with slots name left right spare free.len) name place going.same (before_now ∙ e)

@@ -1,0 +1,30 @@
+use Rattle.std.proofs.Common.{◌+◌, refl, sym, ◌∙◌, arith}
+use Rattle.chain_pool.proofs.Reading.{rest_left, first_left}
+use Rattle.move_checker.proofs.SameWalks.{same_vertex, other_vertex}
+use Rattle.move_checker.proofs.SideLemmas.{AreRead-more, AreRead-next, behind_same, behind_other}
+use Rattle.move_checker.proofs.sides.are_behind.Goals as goal
+
+pub loop-k-preserved : goal.loop-k-preserved
+loop-k-preserved c =
+    AreRead-more c.args.entries c.loop-k.entries c.next.new.self c.args.walk.now (λ j. c.args.place + j) c.loop-k.k c.unwrap-value.result
+    c.loop-k.invariant (rest_left c.next.result c.loop-k.entries c.next.new.self c.next.ensures.steps)
+    (first_left c.next.result c.unwrap-value.result c.loop-k.entries c.next.new.self c.next.ensures.steps c.unwrap-value.ensures)
+    (same_vertex _ _ (sym c.if-ne.ensures) ∙ c.at.ensures)
+
+pub returns-then-ne : goal.returns-then-ne
+returns-then-ne c = (
+  λ t. absurd (cc),
+  λ same. absurd (behind_other c.args.entries c.args.walk.now c.args.place c.loop-k.k
+      (λ e. other_vertex _ _ (sym c.if-ne.ensures)
+      (sym (AreRead-next c.args.entries c.loop-k.entries c.args.walk.now (λ j. c.args.place + j) c.loop-k.k c.unwrap-value.result
+      c.loop-k.invariant
+      (first_left c.next.result c.unwrap-value.result c.loop-k.entries c.next.new.self c.next.ensures.steps c.unwrap-value.ensures))
+      ∙ e ∙ sym c.at.ensures)) same),
+)
+
+pub returns : goal.returns
+returns c = (
+  λ t. behind_same c.args.entries c.loop-k.entries c.args.walk.now c.args.place c.loop-k.k c.requires.len
+      c.loop-k.invariant (omega (arith, c.len-k-end.ensures)),
+  λ e. refl,
+)
