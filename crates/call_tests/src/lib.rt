@@ -13,6 +13,7 @@ mod lifts;
 mod models;
 #[cfg(test)]
 mod outputs;
+#[cfg(test)]
 mod pools;
 #[cfg(test)]
 mod splits;
