@@ -28,7 +28,7 @@ push_after-requires-clause-place c =
 -- the corner that is pushed
 value : (c : After-push_after) → c.corner.result.0
     ≡ get_or (corners_from
-        (face_at c.args.faces.now c.args.way.face.0) c.args.way.forward c.args.way.corner c.args.steps) c.loop-step.step 0
+    (face_at c.args.faces.now c.args.way.face.0) c.args.way.forward c.args.way.corner c.args.steps) c.loop-step.step 0
 value c =
     c.corner.ensures ∙ ap (λ (t : ℕ). get_or (face_at c.args.faces.now c.args.way.face.0) t 0) c.loop-step.invariant.2.reached
     ∙ sym (get_or-corners_from (face_at c.args.faces.now c.args.way.face.0) c.args.way.forward c.args.way.corner c.args.steps
@@ -38,7 +38,7 @@ value c =
 more : (c : After-push_after) → under c.push_after.new.self.lists c.args.spot.chain.0
     ≡ Some (take c.args.spot.at (list_of c.args.pool.now c.args.spot.chain.0)
     ++ take (c.loop-step.step + 1) (corners_from
-        (face_at c.args.faces.now c.args.way.face.0) c.args.way.forward c.args.way.corner c.args.steps)
+    (face_at c.args.faces.now c.args.way.face.0) c.args.way.forward c.args.way.corner c.args.steps)
     ++ drop c.args.spot.at (list_of c.args.pool.now c.args.spot.chain.0))
 more c =
     let corners = corners_from (face_at c.args.faces.now c.args.way.face.0) c.args.way.forward c.args.way.corner c.args.steps in

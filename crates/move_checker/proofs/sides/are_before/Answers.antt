@@ -7,7 +7,7 @@ use Rattle.move_checker.proofs.sides.are_before.Goals as goal
 pub loop-k-preserved : goal.loop-k-preserved
 loop-k-preserved c =
     AreRead-more c.args.entries c.loop-k.entries c.next.new.self c.args.walk.now
-        (λ j. c.args.place - 1 - j) c.loop-k.k c.unwrap-value.result
+    (λ j. c.args.place - 1 - j) c.loop-k.k c.unwrap-value.result
     c.loop-k.invariant (rest_left c.next.result c.loop-k.entries c.next.new.self c.next.ensures.steps)
     (first_left c.next.result c.unwrap-value.result c.loop-k.entries c.next.new.self c.next.ensures.steps c.unwrap-value.ensures)
     (same_vertex _ _ (sym c.if-ne.ensures) ∙ c.at.ensures)

@@ -8,7 +8,7 @@ insert_spur_is : (c : After-insert_spur)
     → IsStep c.args.faces.now c.args.self.now.peak c.args.self.now.walk c.args.mv c.insert_spur.result c.insert_spur.new.self.walk
 insert_spur_is c =
     subst (λ (m : Move). IsStep c.args.faces.now c.args.self.now.peak c.args.self.now.walk m c.insert_spur.result
-        c.insert_spur.new.self.walk)
+    c.insert_spur.new.self.walk)
     (sym c.in-Insert.is) (c.insert_spur.ensures.step c.args.faces.now c.requires)
 
 pub returns-in-Insert-clause-ok : goal.returns-in-Insert-clause-ok
@@ -30,7 +30,7 @@ remove_spur_is : (c : After-remove_spur)
     → IsStep c.args.faces.now c.args.self.now.peak c.args.self.now.walk c.args.mv c.remove_spur.result c.remove_spur.new.self.walk
 remove_spur_is c =
     subst (λ (m : Move). IsStep c.args.faces.now c.args.self.now.peak c.args.self.now.walk m c.remove_spur.result
-        c.remove_spur.new.self.walk)
+    c.remove_spur.new.self.walk)
     (sym c.in-Remove.is) (c.remove_spur.ensures.step c.args.faces.now)
 
 pub returns-in-Remove-clause-ok : goal.returns-in-Remove-clause-ok
