@@ -1,0 +1,2 @@
+-- How the loop is kept while it is worked on.
+pub mod Rings

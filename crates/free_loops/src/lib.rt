@@ -1,0 +1,13 @@
+//! Closed walks, and when one can be moved onto the other with no point held fast (in the field: free homotopy).
+//!
+//! A closed walk is a closed list of spokes here, which may start at any of its spokes that lead from the vertex.
+//! Proved: two closed lists are compared up to where they start, in a time that is linear.
+//!
+//!     let same = is_rotation(&first, &second);
+//!
+//! docs/definitions/LOOPS.md tells what a closed list, its turns and its steps are.
+#![tactic(auto)]
+
+mod compare;
+
+pub use compare::is_rotation;
