@@ -9,5 +9,6 @@
 #![tactic(auto)]
 
 mod compare;
+mod ring;
 
 pub use compare::is_rotation;
