@@ -9,4 +9,6 @@ pub mod Fine
 pub mod Weights
 pub mod Closing
 pub mod Reducing
+pub mod Turning_over
+pub mod Forming
 pub mod Ring_turns

@@ -9,7 +9,7 @@ use Rattle.free_loops.specs.Private.Rings.{RingView, ring_turn, Acts, Pushes, Ri
 use Rattle.free_loops.proofs.Ring_turns.{turn-round, turn-seam, spoke-below, place-below}
 use Rattle.free_loops.proofs.Pushing.{push-acts, push-turns}
 use Rattle.free_loops.proofs.Acting.{WentOn, acts-on, acts-start}
-use Rattle.free_loops.proofs.Fine.{turns_from, fine-same, turn-in}
+use Rattle.free_loops.proofs.Fine.{turns_from, fine-same, fine-everywhere, turn-in}
 use Rattle.free_loops.proofs.Weights.{sum-forward, sum-back, push-lighter, sum-bound, weight, weight-passed, weight-lighter, weight-shorter}
 use Rattle.free_loops.proofs.Closing.{Closes, closes-start, closes-next, closes-seam}
 
@@ -244,3 +244,14 @@ module _ (places : List ℕ) (full : IsFullWheel places) where
       ap₂ (λ m s. weight (length start.spokes) (length places) m s (passed + 1)) w.as_long sum in
       subst (λ x. x < left_of places (length start.spokes) ring passed) (sym same)
       (weight-passed (length start.spokes) (length places) n (turns_sum (ring_turn places ring) n) passed below)
+
+-- where a ring is gone on along, nothing comes to stand at a seam
+pub fine-on : (places : List ℕ) (ring new : RingView) → IsLoop places ring.spokes → 0 < length ring.spokes → WentOn places 1 ring new →
+    IsFineRing places ring → IsFineRing places new
+fine-on places ring new loop some w fine j below =
+    let n = length ring.spokes in
+    let round = turn-round places ring.at_vertex ring.spokes loop.even in
+    subst (λ m. IsFine (length places) m (turns_from (ring_turn places new) j)) (sym w.as_long)
+    (fine-same (length places) n (turns_from (ring_turn places ring) (j + 1)) (turns_from (ring_turn places new) j)
+    (λ k. (let e : j + 1 + k ≡ j + k + 1 = omega arith in ap (ring_turn places ring) e ∙ sym (w.turns (j + k))))
+    (fine-everywhere (length places) n (ring_turn places ring) loop.even some round fine (j + 1)))

@@ -1,11 +1,12 @@
 //! A closed list of spokes while it is worked on. All work is done at the seam, between the last spoke and the first.
-ghost use Rattle.std.specs.Prelude.{◌≡◌, ◌≢◌, ℕ, ◌+◌, ◌-◌, ◌<◌, ◌≤◌, ◌%◌, ◌↔◌, ◌++◌, ◌∷◌, [], not, List, length, slice_index, take, drop, IsTrue, IfOk};
+ghost use Rattle.std.specs.Prelude.{◌≡◌, ◌≢◌, ℕ, ◌+◌, ◌-◌, ◌<◌, ◌≤◌, ◌%◌, ◌↔◌, ◌++◌, ◌∷◌, [], not, true, if◌then◌else◌, List, length, slice_index, take, drop, IsTrue, IfOk, OnOk};
 ghost use Rattle.turn_words.specs.Modulo.{add, minus};
 ghost use Rattle.turn_words.specs.Spoke_paths.{place_round};
 ghost use Rattle.free_loops.specs.Cyclic_words.{stands_before, IsLoop, IsFullWheel};
-ghost use Rattle.free_loops.specs.Private.Rings.{ring_turn, one_on, Acts, Pushes, Rises, Shortens, IsBracket, IsFineRing};
+ghost use Rattle.free_loops.specs.Private.Rings.{ring_turn, one_on, Acts, Pushes, Rises, Shortens, IsBracket, IsFineRing, TurnsOver};
 ghost use Rattle.free_loops.specs.Private.Seams.{IsSeam};
 
+use std::alloc::{AllocError, Global};
 use std::collections::VecDeque;
 use std::marker::Model;
 use surf_model::Spoke;
@@ -41,6 +42,25 @@ impl Model for Ring {
 }
 
 impl Ring {
+    /// The ring of a closed list that starts at the vertex.
+    pub(crate) fn new(alloc: Global, spokes: &[u32]) -> Result<Ring, AllocError>
+        ensures spokes { IfOk result (λ ring. ring.spokes ≡ spokes.now) }
+        ensures at_vertex { IfOk result (λ ring. ring.at_vertex ≡ true) }
+    {
+        let spokes = VecDeque::from_vec(Vec::from_slice(alloc, spokes)?);
+        Ok(Ring {
+            spokes,
+            at_vertex: true,
+        })
+    }
+
+    /// The spokes from the seam on.
+    pub(crate) fn into_spokes(self, alloc: Global) -> Result<Vec<u32>, AllocError>
+        ensures { IfOk result (λ spokes. spokes.items ≡ self.spokes) }
+    {
+        self.spokes.iter().copied().collect(alloc)
+    }
+
     /// How many spokes there are.
     pub(crate) fn len(&self) -> usize
         ensures { result ≡ length self.now.spokes }
@@ -220,6 +240,77 @@ impl Ring {
                     passed += 1;
                 }
             }
+        }
+    }
+
+    /// Takes a ring with turns -2 alone across all the quads beside it. A spur is put in at the seam, and pushed round
+    /// until it goes again; then all turns are 2. Where memory runs out the ring is of no more use.
+    pub(crate) fn turn_over(&mut self, wheel: &Wheel) -> Result<(), AllocError>
+        requires full { IsFullWheel wheel.now }
+        requires spokes { IsLoop wheel.now self.old.spokes }
+        requires some { 2 ≤ length self.old.spokes }
+        requires vertex { self.old.at_vertex ≡ true }
+        requires falls { (k : ℕ) → ring_turn wheel.now self.old k ≡ minus (length wheel.now) 2 }
+        ensures { OnOk result (TurnsOver wheel.now self.old self.new) }
+    {
+        let len = self.len();
+        let spoke = moved(wheel, true, self.first(), 1);
+        self.put_twice(spoke)?;
+        let mut left = len;
+        while left > 0 {
+            self.push(wheel, true);
+            self.forward();
+            left -= 1;
+        }
+        self.take_out();
+        Ok(())
+    }
+
+    /// The spoke behind the seam.
+    fn first(&self) -> u32
+        requires { 0 < length self.now.spokes }
+        ensures { result ≡ slice_index self.now.spokes 0 }
+    {
+        self.spokes[0]
+    }
+
+    /// Puts a spoke in twice before the seam. Where memory runs out the ring is of no more use.
+    fn put_twice(&mut self, spoke: u32) -> Result<(), AllocError>
+        ensures spokes { OnOk result (self.new.spokes ≡ self.old.spokes ++ spoke ∷ spoke ∷ []) }
+        ensures at_vertex { OnOk result (self.new.at_vertex ≡ self.old.at_vertex) }
+    {
+        self.spokes.push_back(spoke)?;
+        self.spokes.push_back(spoke)?;
+        Ok(())
+    }
+
+    /// Tells whether all turns are -2.
+    pub(crate) fn all_fall(&self, wheel: &Wheel) -> bool
+        requires degree { 5 ≤ length wheel.now }
+        requires spokes { IsLoop wheel.now self.now.spokes }
+        ensures { IsTrue result ↔ ((k : ℕ) → k < length self.now.spokes →
+            ring_turn wheel.now self.now k ≡ minus (length wheel.now) 2) }
+    {
+        let fall = wheel.degree() - 2;
+        for at in 0..self.len() {
+            if self.turn(wheel, at) != fall {
+                return false;
+            }
+        }
+        true
+    }
+
+    /// Goes on to a seam at the vertex.
+    pub(crate) fn to_vertex(&mut self)
+        ensures spokes { self.new.spokes ≡ (if self.old.at_vertex then self.old.spokes
+            else drop 1 self.old.spokes ++ take 1 self.old.spokes) }
+        ensures at_vertex { self.new.at_vertex ≡ true }
+    {
+        if !self.at_vertex {
+            if !self.spokes.is_empty() {
+                self.spokes.rotate_left(1);
+            }
+            self.at_vertex = true;
         }
     }
 

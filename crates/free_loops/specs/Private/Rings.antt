@@ -83,3 +83,9 @@ pub record Shortens (places : List ℕ) (old new : RingView) : Type 0 where
 abbrev pub IsFineRing : List ℕ → RingView → Type 0
 IsFineRing places ring =
     (j : ℕ) → j < length ring.spokes → IsFine (length places) (length ring.spokes) (λ k. ring_turn places ring (j + k))
+
+-- a ring as long as before, with turns 2 alone
+pub record TurnsOver (places : List ℕ) (old new : RingView) : Type 0 where
+  pub acts : Acts places old new
+  pub as_long : length new.spokes ≡ length old.spokes
+  pub twos : (k : ℕ) → ring_turn places new k ≡ 2
