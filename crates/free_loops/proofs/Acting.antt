@@ -55,7 +55,8 @@ module _ (places : List ℕ) where
   out-leads : (v : Bool) (s r : List ℕ) (f : ℕ) → s ≡ f ∷ r ++ f ∷ [] → length s % 2 ≡ 0 →
       LoopLeads places (from_vertex (ring s v)) (from_vertex (ring r (not v)))
   out-leads false s r f e even =
-      leads-on places (from_vertex (ring s false)) (f ∷ f ∷ r) r (leads-same places _ _ (from-seam false s r f f e)) (spur-leaves places [] r f)
+      leads-on places (from_vertex (ring s false)) (f ∷ f ∷ r) r (leads-same places _ _ (from-seam false s r f f e)) (spur-leaves
+      places [] r f)
   out-leads true s [] f e even = leads-on places s (f ∷ f ∷ []) [] (leads-same places _ _ e) (spur-leaves places [] [] f)
   out-leads true s (x ∷ r) f e even =
       let apart = last-apart x r in
@@ -77,7 +78,8 @@ pub record WentOn (places : List ℕ) (by : ℕ) (old new : RingView) : Type 0 w
   pub turns : (k : ℕ) → ring_turn places new k ≡ ring_turn places old (k + by)
 
 went : (places : List ℕ) (by : ℕ) (v : Bool) (s : List ℕ) (new : RingView) → IsLoop places s → by % 2 ≡ 1 → by ≤ length s →
-    new.spokes ≡ rotated by s → new.at_vertex ≡ not v → LoopLeads places (from_vertex (ring s v)) (from_vertex (ring (rotated by s) (not v))) →
+    new.spokes ≡ rotated by s → new.at_vertex ≡ not v →
+    LoopLeads places (from_vertex (ring s v)) (from_vertex (ring (rotated by s) (not v))) →
     WentOn places by (ring s v) new
 went places by v s new loop odd within e f leads =
     let view : new ≡ ring (rotated by s) (not v) = ap₂ ring e f in
@@ -102,7 +104,8 @@ went-back places old new loop some e f =
     let even = loop.even in
     let ends = two-ends old.spokes (omega arith) in
     went places (length old.spokes - 1) old.at_vertex old.spokes new loop (omega arith) (omega arith) e f
-    (back-leads places old.at_vertex old.spokes ends.inner (get_or old.spokes 0 0) (get_or old.spokes (length old.spokes - 1) 0) ends.is even)
+    (back-leads places old.at_vertex old.spokes ends.inner (get_or old.spokes 0 0) (get_or old.spokes (length old.spokes - 1) 0)
+    ends.is even)
 
 -- a spur at the seam is taken out
 pub took-out : (places : List ℕ) (old new : RingView) (f l : ℕ) → IsLoop places old.spokes → old.spokes ≡ f ∷ new.spokes ++ l ∷ [] →

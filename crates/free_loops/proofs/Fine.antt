@@ -90,8 +90,10 @@ module _ (d n : ℕ) (turn : ℕ → ℕ) (even : n % 2 ≡ 0) (some : 0 < n) (r
               let none : k ≡ 0 = omega arith in
               let e : at + 1 + k ≡ at + 1 = omega arith in
               elim (cases_eq (at % 2) 0) [
-                | inl first ↦ not_two two (two-round at 0 two (omega arith) opened) (two-round (at + 1) 1 two (omega arith) (ap turn (sym e) ∙ closed))
-                | inr second ↦ not_two two (two-round (at + 1) 0 two (omega arith) (ap turn (sym e) ∙ closed)) (two-round at 1 two (omega arith) opened)
+                | inl first ↦ not_two two (two-round at 0 two (omega arith) opened) (two-round (at + 1) 1 two (omega arith) (ap turn
+                    (sym e) ∙ closed))
+                | inr second ↦ not_two two (two-round (at + 1) 0 two (omega arith) (ap turn (sym e)
+                    ∙ closed)) (two-round at 1 two (omega arith) opened)
               ]
           | inr more ↦
               (fine-everywhere (at + n)).no_bracket (turn-zero (at + n) ∙ round at ∙ opened) 0 (record {

@@ -50,7 +50,8 @@ same-inner s t r first last is long between =
     let inner = length-append r (last ∷ []) in
     let new = length-append r (get_or t (length s - 1) 0 ∷ []) in
     same_number_lists t (get_or t 0 0 ∷ r ++ get_or t (length s - 1) 0 ∷ []) (omega arith) (λ k below. elim (cases_eq k 0) [
-      | inl zero_is ↦ ap (λ i. get_or t i 0) zero_is ∙ sym (ap (λ i. get_or (get_or t 0 0 ∷ r ++ get_or t (length s - 1) 0 ∷ []) i 0) zero_is)
+      | inl zero_is ↦ ap (λ i. get_or t i 0) zero_is
+          ∙ sym (ap (λ i. get_or (get_or t 0 0 ∷ r ++ get_or t (length s - 1) 0 ∷ []) i 0) zero_is)
       | inr some ↦ elim (cases_eq k (length s - 1)) [
         | inl end ↦
             let e : k ≡ length (get_or t 0 0 ∷ r) = omega arith in
@@ -199,7 +200,8 @@ module _ (places : List ℕ) (full : IsFullWheel places) where
       }
 
   -- one on and the other back
-  on-off : (up : Bool) (x y : ℕ) → x < d → y < d → add d x (minus d (add d y (one_on d (not up)))) ≡ add d (add d x (minus d y)) (one_on d up)
+  on-off : (up : Bool) (x y : ℕ) → x < d → y < d →
+      add d x (minus d (add d y (one_on d (not up)))) ≡ add d (add d x (minus d y)) (one_on d up)
   on-off true x y hx hy =
       let five = full.own.five in
       let inside = add-lt d y (minus d 1) hy (let one = minus-one d five in omega arith) in
@@ -279,7 +281,8 @@ module _ (places : List ℕ) (full : IsFullWheel places) where
     goes-across : Across v up (was 0) (was (n - 1)) (is 0) (is (n - 1))
     goes-across =
         across v up (was 0) (was (n - 1)) (is 0) (is (n - 1)) (was-below 0 (omega arith)) (was-below (n - 1) (omega arith))
-        (is-below 0 (omega arith)) (is-below (n - 1) (omega arith)) (sym (turn-seam places v old.spokes (omega arith)) ∙ seam) p.last p.first
+        (is-below 0 (omega arith)) (is-below (n - 1) (omega arith)) (sym (turn-seam places v old.spokes (omega arith))
+        ∙ seam) p.last p.first
 
     pub push-acts : Acts places old new
     push-acts =
@@ -345,7 +348,8 @@ module _ (places : List ℕ) (full : IsFullWheel places) where
               ∙ ap₂ (λ x y. add d x (minus d y)) last_new p.first
               ∙ on-off up (add d (place_round places (not v) (was 1)) (one_on d up)) (place_round places (not v) (was 0))
               (on-below up (place_round places (not v) (was 1)) one_in) first_in
-              ∙ ap (λ x. add d x (one_on d up)) (on-before up (place_round places (not v) (was 1)) (place_round places (not v) (was 0)) one_in first_in
+              ∙ ap (λ x. add d x (one_on d up)) (on-before up (place_round places (not v) (was 1)) (place_round places (not v) (was 0))
+              one_in first_in
               ∙ ap (λ x. add d x (one_on d up)) (sym (old-turn 1 (omega arith) (omega arith) ∙ odd-turn 1 (was 0) (was 1) refl)));
           far = λ k two within. new-turn k (omega arith) (omega arith)
               ∙ ap₂ (turn_at places (stands_before v k)) (p.between (k - 1) (omega arith) (omega arith))

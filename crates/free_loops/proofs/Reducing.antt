@@ -49,7 +49,8 @@ pub record Reducing (places : List ℕ) (start ring : RingView) (passed : ℕ) :
       (turns_from (ring_turn places ring) (length ring.spokes - passed + j))
 
 module _ (places : List ℕ) (full : IsFullWheel places) where
-  ring-round : (ring : RingView) → IsLoop places ring.spokes → (k : ℕ) → ring_turn places ring (k + length ring.spokes) ≡ ring_turn places ring k
+  ring-round : (ring : RingView) → IsLoop places ring.spokes → (k : ℕ) →
+      ring_turn places ring (k + length ring.spokes) ≡ ring_turn places ring k
   ring-round ring loop = turn-round places ring.at_vertex ring.spokes loop.even
 
   -- a push up
@@ -62,7 +63,8 @@ module _ (places : List ℕ) (full : IsFullWheel places) where
         acts = acts;
         as_long = p.as_long;
         lighter = subst (λ n. turns_sum (ring_turn places new) n < turns_sum (ring_turn places old) (length old.spokes)) (sym p.as_long)
-            (push-lighter (length places) (length old.spokes) (ring_turn places old) (ring_turn places new) full.own.five loop.even turns fall some);
+            (push-lighter (length places) (length old.spokes) (ring_turn places old) (ring_turn places new) full.own.five loop.even
+            turns fall some);
       }
 
   pub rises-forward : (old mid new : RingView) → Rises places old mid → WentOn places 1 mid new → Rises places old new
@@ -89,7 +91,8 @@ module _ (places : List ℕ) (full : IsFullWheel places) where
         lighter = let less = r.lighter in omega arith;
       }
 
-  pub closing-start : (ring : RingView) (twos pushes : ℕ) → IsLoop places ring.spokes → 2 ≤ length ring.spokes → ring_turn places ring 0 ≡ 1 →
+  pub closing-start : (ring : RingView) (twos pushes : ℕ) → IsLoop places ring.spokes → 2 ≤ length ring.spokes →
+      ring_turn places ring 0 ≡ 1 →
       IsBracket (length ring.spokes) (ring_turn places ring) twos →
       ((twos + 1 ≡ length ring.spokes) × (pushes ≡ twos)) ⊎ ((twos + 1 ≢ length ring.spokes) × (pushes ≡ twos + 1)) →
       Closing places ring ring pushes
@@ -107,7 +110,8 @@ module _ (places : List ℕ) (full : IsFullWheel places) where
       let loop = c.acts.loop in
       let acts = push-acts places full false ring mid loop some p seam in
       let turns = push-turns places full false ring mid loop some p seam in
-      let next = closes-next (length places) n (ring_turn places ring) (ring_turn places mid) (ring_turn places new) full.own.five loop.even some
+      let next = closes-next (length places) n (ring_turn places ring) (ring_turn places mid) (ring_turn places new) full.own.five
+      loop.even some
       turns (λ k. ap (λ m. ring_turn places mid (k + m)) (sym p.as_long) ∙ ring-round mid acts.loop k)
       (λ k. w.turns k ∙ ap (λ m. ring_turn places mid (k + (m - 1))) p.as_long) left c.closes in
       record {
@@ -131,7 +135,8 @@ module _ (places : List ℕ) (full : IsFullWheel places) where
   }
 
   pub reducing-forward : (start ring new : RingView) (passed : ℕ) → Reducing places start ring passed → passed < length ring.spokes →
-      IsFine (length places) (length ring.spokes) (ring_turn places ring) → WentOn places 1 ring new → Reducing places start new (passed + 1)
+      IsFine (length places) (length ring.spokes) (ring_turn places ring) → WentOn places 1 ring new →
+      Reducing places start new (passed + 1)
   reducing-forward start ring new passed r below seam w =
       let n = length ring.spokes in
       let long = w.as_long in
@@ -162,7 +167,8 @@ module _ (places : List ℕ) (full : IsFullWheel places) where
     fine = λ j below. absurd (omega arith);
   }
 
-  pub reducing-end : (start ring : RingView) (passed : ℕ) → Reducing places start ring passed → length ring.spokes ≤ passed → IsFineRing places ring
+  pub reducing-end : (start ring : RingView) (passed : ℕ) → Reducing places start ring passed → length ring.spokes ≤ passed →
+      IsFineRing places ring
   reducing-end start ring passed r ended j below =
       let within = r.within in
       let n = length ring.spokes in
@@ -238,7 +244,8 @@ module _ (places : List ℕ) (full : IsFullWheel places) where
       let n = length ring.spokes in
       let sum : turns_sum (ring_turn places new) (length new.spokes) ≡ turns_sum (ring_turn places ring) n =
       ap (turns_sum (ring_turn places new)) w.as_long
-      ∙ sum-forward (ring_turn places ring) (ring_turn places new) n (turn-round places ring.at_vertex ring.spokes r.acts.loop.even) w.turns in
+      ∙ sum-forward (ring_turn places ring) (ring_turn places new) n (turn-round places ring.at_vertex ring.spokes r.acts.loop.even)
+      w.turns in
       let same : left_of places (length start.spokes) new (passed + 1)
       ≡ weight (length start.spokes) (length places) n (turns_sum (ring_turn places ring) n) (passed + 1) =
       ap₂ (λ m s. weight (length start.spokes) (length places) m s (passed + 1)) w.as_long sum in

@@ -327,7 +327,13 @@ at-vertex places old new loop e v = go old.at_vertex old.spokes loop e
     stays : (s : List ℕ) → IsLoop places s → new.spokes ≡ s → AtVertex places (record { spokes = s; at_vertex = true }) new
     stays s loop e = subst (AtVertex places (record { spokes = s; at_vertex = true }))
         (sym (ap₂ (λ x y. record { spokes = x; at_vertex = y }) e v))
-        (record { acts = acts-start places (record { spokes = s; at_vertex = true }) loop; as_long = refl; fine = λ f. f; twos = λ some f. f })
+        (record {
+          acts = acts-start places (record { spokes = s; at_vertex = true }) loop;
+          as_long = refl;
+          fine = λ f. f;
+          twos = λ some
+              f. f;
+        })
 
     goes : (s : List ℕ) → IsLoop places s → 0 < length s → new.spokes ≡ rotated 1 s →
         AtVertex places (record { spokes = s; at_vertex = false }) new

@@ -28,7 +28,8 @@ sum-forward f g n round is =
     omega arith
 
 -- and one place back
-pub sum-back : (f g : ℕ → ℕ) (n : ℕ) → 0 < n → ((k : ℕ) → f (k + n) ≡ f k) → ((k : ℕ) → g (k + n) ≡ g k) → ((k : ℕ) → g k ≡ f (k + (n - 1))) →
+pub sum-back : (f g : ℕ → ℕ) (n : ℕ) → 0 < n → ((k : ℕ) → f (k + n) ≡ f k) → ((k : ℕ) → g (k + n) ≡ g k) → ((k : ℕ) →
+    g k ≡ f (k + (n - 1))) →
     turns_sum g n ≡ turns_sum f n
 sum-back f g n some f_round g_round is =
     sym (sum-forward g f n g_round (λ k. (

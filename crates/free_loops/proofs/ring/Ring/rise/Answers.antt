@@ -27,4 +27,5 @@ returns-then-turn-fall-2 c =
 
 pub returns-else-turn-fall-2 : goal.returns-else-turn-fall-2
 returns-else-turn-fall-2 c =
-    rises-push c.args.wheel.now c.requires.full c.args.self.now c.push.new.self c.requires.spokes c.requires.some c.push.ensures c.requires.fall
+    rises-push c.args.wheel.now c.requires.full c.args.self.now c.push.new.self c.requires.spokes c.requires.some c.push.ensures
+    c.requires.fall
