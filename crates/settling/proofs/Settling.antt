@@ -195,8 +195,8 @@ module _ (d n : ℕ) (row : ℕ → ℕ) (five : 5 ≤ d) (canonical : IsCanonic
         let shut : row (m + k) ≡ 1 → is_open (at (m + k)).word ≡ false =
         λ one. ap (λ q. is_open q.word) ends.is ∙ round-shut m k ends.rest ends.cons ends.whole one in
         let some : IsCons (at (m + k)).word = subst (λ q. IsCons q.word) (sym ends.is) (upto-cons row m k ends.rest ends.cons) in
-        ap (put d (at (m + k)).word) turn ∙ put-else d five (at (m + k)).word (row (m + k)) some
-        (row-follows (at (m + k)).word (m + k) shut)
+        ap (put d (at (m + k)).word) turn
+        ∙ put-else d five (at (m + k)).word (row (m + k)) some (row-follows (at (m + k)).word (m + k) shut)
 
     ends-next : (m k : ℕ) → Ends m k → Ends m (suc k)
     ends-next m k ends =
@@ -214,8 +214,9 @@ module _ (d n : ℕ) (row : ℕ → ℕ) (five : 5 ≤ d) (canonical : IsCanonic
 
     ends-later : (m k i : ℕ) → Ends m k → Ends m (k + i)
     ends-later m k zero ends = let e : k ≡ k + 0 = omega arith in subst (Ends m) e ends
-    ends-later m k (suc i) ends = let e : suc (k + i) ≡ k + suc i =
-        omega arith in subst (Ends m) e (ends-next m (k + i) (ends-later m k i ends))
+    ends-later m k (suc i) ends =
+        let e : suc (k + i) ≡ k + suc i = omega arith in
+        subst (Ends m) e (ends-next m (k + i) (ends-later m k i ends))
 
     ends-stays : (m k : ℕ) → Ends m k → StaysFrom (m + k)
     ends-stays m k ends = record { is = go }

@@ -1,0 +1,14 @@
+pub mod Along
+pub mod Least
+pub mod Comparing
+pub mod Leading
+pub mod Places
+pub mod Pushing
+pub mod Acting
+pub mod Fine
+pub mod Weights
+pub mod Closing
+pub mod Reducing
+pub mod Turning_over
+pub mod Forming
+pub mod Ring_turns

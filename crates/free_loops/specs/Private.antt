@@ -1,0 +1,3 @@
+-- How the loop is kept while it is worked on.
+pub mod Rings
+pub mod Seams
