@@ -4,7 +4,7 @@ use move_checker::{Verdict, check_moves};
 use move_lifting::{Lifted, MOST_LIFTED_SIDES, expand, reduce_free};
 use polygon_cut::cut;
 use quad_system::{FromPolygon, GoodLabelling};
-use small_meshes::{DOUBLE_TORUS, TORUS};
+use small_meshes::TORUS;
 use small_surfaces::{surface_of, walk_on};
 use std::alloc::Global;
 use std::process::Abort;
@@ -13,15 +13,19 @@ use tree_cotree::split_edges;
 use walk_translate::label_surface;
 
 #[test]
-fn labellings_of_the_double_torus(rt: HostRuntime) {
-    let surface = surface_of(rt.alloc(), 11, &DOUBLE_TORUS).expect(&rt, "a surface");
+fn labels_of_the_torus(rt: HostRuntime) {
+    let surface = surface_of(rt.alloc(), 7, &TORUS).expect(&rt, "a surface");
     let found = label_surface(rt.alloc(), &surface).expect(&rt, "memory");
-    assert_eq!(rt; found.expect(&rt, "labels").wheel().degree(), 8);
+    assert!(rt; found.is_some());
+}
+
+#[test]
+fn labels_of_a_polygon(rt: HostRuntime) {
+    let surface = surface_of(rt.alloc(), 7, &TORUS).expect(&rt, "a surface");
     let split = split_edges(rt.alloc(), &surface).expect(&rt, "memory");
     let polygon = cut(rt.alloc(), &surface, &split).expect(&rt, "memory");
-    assert_eq!(rt; polygon.degree(), 8);
-    let good = GoodLabelling::from_polygon(rt.alloc(), &surface, &polygon).expect(&rt, "memory");
-    assert_eq!(rt; good.wheel().degree(), 8);
+    assert_eq!(rt; polygon.degree(), 4);
+    assert!(rt; GoodLabelling::from_polygon(rt.alloc(), &surface, &polygon).is_ok());
 }
 
 #[test]
