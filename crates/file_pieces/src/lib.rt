@@ -10,6 +10,8 @@
 
 mod fault;
 mod pieces;
+mod short_line;
 
 pub use fault::{GatherFault, PieceFault};
 pub use pieces::Pieces;
+pub use short_line::{MOST_BYTES, MOST_WORDS, ShortLine};
