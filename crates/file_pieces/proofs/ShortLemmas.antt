@@ -379,13 +379,13 @@ finish_word old new bytes going ended stands =
 
 -- ---- the line of its own
 
-none_behind : (line : List ℕ) → list_all (λ b. not (is_line_feed b)) line ≡ true → behind line ≡ []
+pub none_behind : (line : List ℕ) → list_all (λ b. not (is_line_feed b)) line ≡ true → behind line ≡ []
 none_behind [] alone = behind-nil
 none_behind (byte ∷ line) alone =
     let parts = and_parts (not (is_line_feed byte)) (list_all (λ b. not (is_line_feed b)) line) alone in
     behind-other byte line (not-true (is_line_feed byte) parts.0) ∙ none_behind line parts.1
 
-no_lines : (n : ℕ) → lines_from n [] ≡ []
+pub no_lines : (n : ℕ) → lines_from n [] ≡ []
 unfolding lines_from cut
 no_lines n = refl
 

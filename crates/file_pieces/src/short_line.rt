@@ -66,6 +66,18 @@ impl ShortLine {
         }
     }
 
+    /// Begins a line anew.
+    pub fn clear(&mut self)
+        ensures { Stands self.new [] }
+    {
+        self.done.clear();
+        self.done.push(b' ');
+        self.word.clear();
+        self.words = 0;
+        self.closed = false;
+        self.begun = false;
+    }
+
     /// Puts a byte that is no line feed behind the line.
     #[inline(always)]
     pub fn push(&mut self, byte: u8)
