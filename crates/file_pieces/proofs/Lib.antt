@@ -1,1 +1,4 @@
 mod ReadingLemmas
+mod SameLemmas
+mod ShortLemmas
+mod FileLineLemmas

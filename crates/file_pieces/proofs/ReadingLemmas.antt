@@ -1,6 +1,8 @@
 -- Bytes of a file that come one by one, or piece by piece.
 use Rattle.std.proofs.Common.{◌≡◌, ℕ, suc, ◌+◌, ◌≤◌, true, List, [], ◌∷◌, ◌++◌, length, take, drop, Option, None, Some, IfSome, MatchOption, refl, sym, ap, subst, ◌∙◌, arith, append_assoc, drop-drop, take-append-drop}
 use Rattle.std.proofs.lemmas.List.{length-drop}
+use Rattle.std.specs.Prelude.{IsTrue, ◌<◌}
+use Rattle.text_scan.specs.Lines.{is_filled}
 use Rattle.file_pieces.specs.Reading.{Reading, Reads, left_of, read_so_far}
 
 -- what holds of what a shelf holds, where it tells so
@@ -101,3 +103,11 @@ gathered old mid new file before after all kept reads so_far more same passed st
     ∙ append_assoc before old.kept (drop (read_so_far old) file)
     ∙ ap (λ t. before ++ t) (sym (kept_and_others old file reads))
     ∙ so_far
+
+-- bytes were read that were not looked at yet
+pub filled_kept : (reading : Reading) → reading.place < read_so_far reading → IsTrue (is_filled reading.kept)
+filled_kept reading more = by_cases reading.kept more
+  where
+    by_cases : (kept : List ℕ) → reading.place < reading.place + length kept → IsTrue (is_filled kept)
+    by_cases [] more = absurd (omega (arith, more))
+    by_cases (byte ∷ kept) more = refl

@@ -1,1 +1,4 @@
 pub mod Reading
+pub mod SameLines
+pub mod ShortLines
+pub mod FileLines

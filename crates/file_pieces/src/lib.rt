@@ -9,7 +9,11 @@
 #![tactic(auto)]
 
 mod fault;
+mod file_lines;
 mod pieces;
+mod short_line;
 
 pub use fault::{GatherFault, PieceFault};
+pub use file_lines::FileLines;
 pub use pieces::Pieces;
+pub use short_line::{MOST_BYTES, MOST_WORDS, ShortLine};

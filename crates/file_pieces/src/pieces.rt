@@ -82,8 +82,8 @@ impl Pieces {
         ensures byte { IfOk result (λ byte. IfSome (file_of (S.held shelf.old) name.now) (λ file. Reads self.old file →
             Reads self.new file × MatchOption byte (left_of self.old file ≡ []) (λ b. left_of self.old file ≡ b ∷ left_of self.new file))) }
         ensures place { IfOk result (λ byte. MatchOption byte
-            ((self.new.place ≡ self.old.place) × (self.new.kept ≡ []) × (self.new.ended ≡ true))
-            (λ _. self.new.place ≡ self.old.place + 1)) }
+            ((self.new.place ≡ self.old.place) × (self.new.kept ≡ []) × (self.new.ended ≡ true)) (λ _. self.new.place ≡ self.old.place + 1)) }
+        ensures later { self.old.place ≤ self.new.place }
         // Nothing is read while a byte is kept.
         ensures lazy { IsTrue (is_filled self.old.kept) → OnOk result ((shelf.new ≡ shelf.old)
             × (self.new ≡ record self.old { place = self.old.place + 1; kept = drop 1 self.old.kept })) }
@@ -91,6 +91,7 @@ impl Pieces {
         ensures too_large { result ≡ Err PieceFault.TooLarge → IfSome (file_of (S.held shelf.old) name.now)
             (λ file. Reads self.old file → self.old.limit < length file) }
         ensures within { read_so_far self.new ≤ self.new.limit }
+        ensures small { self.new.limit < 2 ^ 32 }
         ensures limit { self.new.limit ≡ self.old.limit }
         ensures only_reads { OnlyReads S.held S.faults shelf.old shelf.new }
     {
@@ -121,6 +122,7 @@ impl Pieces {
     pub fn pass_rest<S: Shelf>(&mut self, shelf: &mut S, name: &str) -> Result<(), PieceFault>
         ensures file { OnOk result (IfSome (file_of (S.held shelf.old) name.now) (λ file. Reads self.old file → Reads self.new file)) }
         ensures ended { OnOk result ((self.new.ended ≡ true) × (self.new.kept ≡ [])) }
+        ensures later { self.old.place ≤ self.new.place }
         ensures failed { result ≡ Err PieceFault.Failed → Rose (S.faults shelf.old) (S.faults shelf.new) }
         ensures too_large { result ≡ Err PieceFault.TooLarge → IfSome (file_of (S.held shelf.old) name.now)
             (λ file. Reads self.old file → self.old.limit < length file) }
@@ -145,6 +147,7 @@ impl Pieces {
             Reads self.new file × (into.new.items ≡ into.old.items ++ left_of self.old file))) }
         ensures ended { OnOk result ((self.new.ended ≡ true) × (self.new.kept ≡ [])) }
         ensures count { OnOk result (self.old.place + length into.new.items ≡ self.new.place + length into.old.items) }
+        ensures later { self.old.place ≤ self.new.place }
         ensures failed { result ≡ Err (GatherFault.Piece PieceFault.Failed) → Rose (S.faults shelf.old) (S.faults shelf.new) }
         ensures too_large { result ≡ Err (GatherFault.Piece PieceFault.TooLarge) → IfSome (file_of (S.held shelf.old) name.now)
             (λ file. Reads self.old file → self.old.limit < length file) }
@@ -199,6 +202,7 @@ impl Pieces {
         ensures too_large { result ≡ Err PieceFault.TooLarge → IfSome (file_of (S.held shelf.old) name.now)
             (λ file. Reads self.old file → self.old.limit < length file) }
         ensures within { read_so_far self.new ≤ self.new.limit }
+        ensures small { self.new.limit < 2 ^ 32 }
         ensures limit { self.new.limit ≡ self.old.limit }
         ensures only_reads { OnlyReads S.held S.faults shelf.old shelf.new }
     {
@@ -215,6 +219,7 @@ impl Pieces {
             (λ byte. (self.old.kept ≡ byte ∷ self.new.kept)
             × (self.new ≡ record self.old { place = self.old.place + 1; kept = self.new.kept })) }
         ensures within { read_so_far self.new ≤ self.new.limit }
+        ensures small { self.new.limit < 2 ^ 32 }
     {
         if self.at == self.filled {
             return None;

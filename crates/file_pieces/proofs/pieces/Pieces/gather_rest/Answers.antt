@@ -43,6 +43,7 @@ loop-into-preserved g c =
         length-append c.loop-into.into.items c.kept.result.now,
         ap (λ (t : List ℕ). length t) c.kept.ensures,
       );
+      later = omega (arith, c.loop-into.invariant.later, place);
       limit = c.read_piece.ensures.limit ∙ search rules;
       held = c.read_piece.ensures.only_reads.same_files ∙ c.loop-into.invariant.held;
       faults = omega (arith, c.loop-into.invariant.faults, c.read_piece.ensures.only_reads.never_falls);

@@ -10,6 +10,7 @@ invariant-loop-into g l =
       file : IfSome (file_of (g.S.Shelf.held l.initial.shelf) l.name) (λ file. Reads l.initial.self file →
           Reads l.self file × (l.into.items ++ left_of l.self file ≡ l.initial.into.items ++ left_of l.initial.self file));
       count : l.initial.self.place + length l.into.items ≡ l.self.place + length l.initial.into.items;
+      later : l.initial.self.place ≤ l.self.place;
       limit : l.self.limit ≡ l.initial.self.limit;
       held : g.S.Shelf.held l.shelf ≡ g.S.Shelf.held l.initial.shelf;
       faults : g.S.Shelf.faults l.initial.shelf ≤ g.S.Shelf.faults l.shelf;

@@ -1,6 +1,6 @@
-use Rattle.std.proofs.Common.{◌≡◌, ℕ, List, Option, false, IfSome, refl, subst, ◌∙◌, arith, rules}
+use Rattle.std.proofs.Common.{◌≡◌, ℕ, List, Option, false, IfSome, refl, ap, subst, ◌∙◌, arith, rules}
 use Rattle.surf_io.specs.Files.{Files, file_of}
-use Rattle.file_pieces.specs.Reading.{Reads}
+use Rattle.file_pieces.specs.Reading.{Reading, Reads}
 use Rattle.file_pieces.proofs.ReadingLemmas.{told, at_told, pass_kept-reads}
 use Rattle.file_pieces.proofs.pieces.Pieces.pass_rest.Goals as goal
 
@@ -9,6 +9,7 @@ loop-self-init g c = record {
   file =
       told (λ (file : List ℕ). Reads c.args.self.now file → Reads c.args.self.now file)
       (file_of (g.S.Shelf.held c.args.shelf.now) c.args.name.now) (λ file is reads. reads);
+  later = omega arith;
   limit = refl;
   held = refl;
   faults = omega arith;
@@ -31,6 +32,12 @@ loop-self-preserved g c =
           c.loop-self.invariant.file
           reads)
           (λ ended. cc)));
+      later = omega (
+        arith,
+        c.loop-self.invariant.later,
+        c.read_piece.ensures.place,
+        ap (λ (r : Reading). r.place) c.pass_kept.ensures.kept,
+      );
       limit = c.read_piece.ensures.limit ∙ search rules;
       held = c.read_piece.ensures.only_reads.same_files ∙ c.loop-self.invariant.held;
       faults = omega (arith, c.loop-self.invariant.faults, c.read_piece.ensures.only_reads.never_falls);

@@ -8,6 +8,7 @@ abbrev pub invariant-loop-self : goal.invariant-loop-self
 invariant-loop-self g l =
     record {
       file : IfSome (file_of (g.S.Shelf.held l.initial.shelf) l.name) (λ file. Reads l.initial.self file → Reads l.self file);
+      later : l.initial.self.place ≤ l.self.place;
       limit : l.self.limit ≡ l.initial.self.limit;
       held : g.S.Shelf.held l.shelf ≡ g.S.Shelf.held l.initial.shelf;
       faults : g.S.Shelf.faults l.initial.shelf ≤ g.S.Shelf.faults l.shelf;
