@@ -154,7 +154,8 @@ unfolding cut
 count_end number next bytes begun alone some is =
     omega (arith, count_last bytes alone, ap (λ b. let n : ℕ = cond b 1 0 in n) some, is)
 
-pub text_found : (number next : ℕ) (bytes : List ℕ) (short : List (List ℕ)) (begun : Bool) → IsOneLine bytes → SameLine short (words_here bytes)
+pub text_found : (number next : ℕ) (bytes : List ℕ) (short : List (List ℕ)) (begun : Bool) → IsOneLine bytes
+    → SameLine short (words_here bytes)
     → is_filled short ≡ true → begun ≡ is_filled bytes → next ≡ number + cond begun 1 0
     → ReadsLine number bytes (Some number) short next []
 text_found number next bytes short begun alone same filled some is =
@@ -162,14 +163,16 @@ text_found number next bytes short begun alone same filled some is =
     record {
       lines = record {
         words = words_here bytes;
-        first = last_line number bytes alone ∙ rw words (ap (λ (ls : List Line). record { number = number; words = words_here bytes } ∷ ls) (sym
+        first = last_line number bytes alone ∙ rw words (ap
+            (λ (ls : List Line). record { number = number; words = words_here bytes } ∷ ls) (sym
             (no_lines next)));
         same = same;
       };
       count = count_end number next bytes begun alone some is;
     }
 
-pub text_blank : (number next : ℕ) (bytes : List ℕ) (short : List (List ℕ)) (begun : Bool) → IsOneLine bytes → SameLine short (words_here bytes)
+pub text_blank : (number next : ℕ) (bytes : List ℕ) (short : List (List ℕ)) (begun : Bool) → IsOneLine bytes
+    → SameLine short (words_here bytes)
     → is_filled short ≡ false → begun ≡ is_filled bytes → next ≡ number + cond begun 1 0 → ReadsLine number bytes None short next []
 text_blank number next bytes short begun alone same blank some is =
     let words : is_filled (words_here bytes) ≡ false = sym (same_filled short (words_here bytes) same) ∙ blank in
@@ -247,7 +250,8 @@ no_mark_on file seen left line none parts stands alone = record {
 }
 
 -- the first, the second or the third byte is another
-pub no_mark_first : (file left : List ℕ) (line : ShortText) → Passes false 239 file left → Stands line [] → IsOn 1 (unmarked file) line 1 left
+pub no_mark_first : (file left : List ℕ) (line : ShortText) → Passes false 239 file left → Stands line []
+    → IsOn 1 (unmarked file) line 1 left
 no_mark_first file left line passes stands = no_mark_on file [] left line (other_first file passes.1) (sym passes.0) stands refl
 
 pub no_mark_second : (file left last : List ℕ) (line : ShortText) → file ≡ 239 ∷ left → Passes false 187 left last

@@ -25,7 +25,8 @@ no_keyword : (byte : ℕ) (rest wanted : List ℕ) → is_digit byte ≡ true �
     → bytes_eq (byte ∷ rest) wanted ≡ false
 no_keyword byte rest [] digit none = refl
 no_keyword byte rest (other ∷ wanted) digit none =
-    let no_digit : is_digit other ≡ false = not-true (is_digit other) (and_parts (not (is_digit other)) (list_all (λ b. not (is_digit b)) wanted)
+    let no_digit : is_digit other ≡ false = not-true (is_digit other)
+    (and_parts (not (is_digit other)) (list_all (λ b. not (is_digit b)) wanted)
     none).0 in
     let differ : nat_eq byte other ≡ false =
     ne_eqb byte other (λ same. both_ways (is_digit other) no_digit (ap is_digit (sym same) ∙ digit)) in

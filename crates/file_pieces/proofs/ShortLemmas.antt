@@ -163,7 +163,8 @@ pub starts_standing : (done : List ℕ) (line : ShortText) → line ≡ record {
 starts_standing done line is blank =
     subst (λ (l : ShortText). Stands l []) (sym is ∙ refl)
     (subst (λ d. Stands (record { done = d; word = []; closed = false; begun = false }) []) (sym blank) (record {
-      same = λ after. subst (λ ws. SameLine ws (words_here after)) (sym (words_here-blank 32 after refl)) (SameLine-refl (words_here after));
+      same = λ after. subst (λ ws. SameLine ws (words_here after)) (sym (words_here-blank 32 after refl))
+          (SameLine-refl (words_here after));
       begun = refl;
     }))
 
@@ -292,7 +293,8 @@ pub stands_closed : (old new : ShortText) (bytes : List ℕ) (byte : ℕ) → ol
 stands_closed old new bytes byte closed is stands =
     subst (λ (l : ShortText). Stands l (bytes ++ byte ∷ [])) (sym is) (record {
       same = λ after.
-          let here : SameLine (words_here (text_before old (byte ∷ after))) (words_here (bytes ++ byte ∷ after)) = stands.same (byte ∷ after) in
+          let here : SameLine (words_here (text_before old (byte ∷ after))) (words_here (bytes ++ byte ∷ after)) =
+          stands.same (byte ∷ after) in
           let same_text : text_before old (byte ∷ after) ≡ text_before old after = rw closed refl in
           subst (λ t. SameLine (words_here (text_before old after)) (words_here t)) (sym (append_assoc bytes (byte ∷ []) after))
           (subst (λ t. SameLine (words_here t) (words_here (bytes ++ byte ∷ after))) same_text here);
@@ -342,7 +344,8 @@ stands_hash old mid new bytes going ended is begun stands =
     subst (λ (l : ShortText). Stands l (bytes ++ 35 ∷ [])) (sym is) (record {
       same = λ after.
           subst (λ ws. SameLine ws (words_here ((bytes ++ 35 ∷ []) ++ after)))
-          (ended.ended 35 after refl ∙ ap (λ ws. words_here mid.done ++ ws) (words_here-hash 35 after refl) ∙ append-nil (words_here mid.done))
+          (ended.ended 35 after refl ∙ ap (λ ws. words_here mid.done ++ ws) (words_here-hash 35 after refl)
+          ∙ append-nil (words_here mid.done))
           (before_byte old bytes 35 after going stands);
       begun = begun ∙ sym (filled-last bytes 35);
     })
@@ -361,7 +364,8 @@ stands_word old new bytes byte going goes_on begun same stands = record {
 }
 
 -- the end of a line that is closed, and of one that is not
-pub finish_closed : (line : ShortText) (bytes : List ℕ) → line.closed ≡ true → Stands line bytes → SameLine (words_here line.done) (words_here bytes)
+pub finish_closed : (line : ShortText) (bytes : List ℕ) → line.closed ≡ true → Stands line bytes
+    → SameLine (words_here line.done) (words_here bytes)
 finish_closed line bytes closed stands =
     let text : text_before line [] ≡ line.done = rw closed refl in
     subst (λ t. SameLine (words_here line.done) (words_here t)) (append-nil bytes)

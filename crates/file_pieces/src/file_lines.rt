@@ -199,7 +199,8 @@ fn pass_byte<S: Shelf>(
     ensures reads { OnOk result (IfSome (file_of (S.held shelf.old) name.now) (λ file. Reads pieces.old file → Reads pieces.new file)) }
     ensures passed { IfOk result (λ passed. IfSome (file_of (S.held shelf.old) name.now) (λ file. Reads pieces.old file →
         Passes passed byte (left_of pieces.old file) (left_of pieces.new file))) }
-    ensures line { IfOk result (λ passed. (bytes : List ℕ) → Stands line.old bytes → Stands line.new (if passed then bytes ++ byte ∷ [] else bytes)) }
+    ensures line { IfOk result (λ passed. (bytes : List ℕ) → Stands line.old bytes
+        → Stands line.new (if passed then bytes ++ byte ∷ [] else bytes)) }
     ensures place { IfOk result (λ passed. (if passed then 1 else 0) ≤ pieces.new.place) }
     ensures later { pieces.old.place ≤ pieces.new.place }
     ensures failed { result ≡ Err PieceFault.Failed → Rose (S.faults shelf.old) (S.faults shelf.new) }
@@ -237,7 +238,8 @@ fn read_line<S: Shelf>(
     name: &str,
 ) -> Result<Option<u64>, PieceFault>
     requires numbered { number.old + (if line.old.begun then 1 else 0) ≤ pieces.old.place + 1 }
-    ensures reads { IfOk result (λ _. IfSome (file_of (S.held shelf.old) name.now) (λ file. Reads pieces.old file → Reads pieces.new file)) }
+    ensures reads { IfOk result (λ _. IfSome (file_of (S.held shelf.old) name.now)
+        (λ file. Reads pieces.old file → Reads pieces.new file)) }
     ensures line { IfOk result (λ found. IfSome (file_of (S.held shelf.old) name.now) (λ file. Reads pieces.old file →
         (first : ℕ) (all : List ℕ) → IsOn first all line.old number.old (left_of pieces.old file)
         → ReadsLine first all found (words_here line.new.done) number.new (left_of pieces.new file)
@@ -272,7 +274,8 @@ fn take_byte<S: Shelf>(
     name: &str,
 ) -> Result<Taken, PieceFault>
     requires numbered { number.old + (if line.old.begun then 1 else 0) ≤ pieces.old.place + 1 }
-    ensures reads { IfOk result (λ _. IfSome (file_of (S.held shelf.old) name.now) (λ file. Reads pieces.old file → Reads pieces.new file)) }
+    ensures reads { IfOk result (λ _. IfSome (file_of (S.held shelf.old) name.now)
+        (λ file. Reads pieces.old file → Reads pieces.new file)) }
     ensures line { IfOk result (λ taken. IfSome (file_of (S.held shelf.old) name.now) (λ file. Reads pieces.old file →
         (first : ℕ) (all : List ℕ) → IsOn first all line.old number.old (left_of pieces.old file)
         → StandsBehind taken first all line.new number.new (left_of pieces.new file))) }

@@ -82,7 +82,8 @@ impl Pieces {
         ensures byte { IfOk result (λ byte. IfSome (file_of (S.held shelf.old) name.now) (λ file. Reads self.old file →
             Reads self.new file × MatchOption byte (left_of self.old file ≡ []) (λ b. left_of self.old file ≡ b ∷ left_of self.new file))) }
         ensures place { IfOk result (λ byte. MatchOption byte
-            ((self.new.place ≡ self.old.place) × (self.new.kept ≡ []) × (self.new.ended ≡ true)) (λ _. self.new.place ≡ self.old.place + 1)) }
+            ((self.new.place ≡ self.old.place) × (self.new.kept ≡ []) × (self.new.ended ≡ true))
+            (λ _. self.new.place ≡ self.old.place + 1)) }
         ensures later { self.old.place ≤ self.new.place }
         // Nothing is read while a byte is kept.
         ensures lazy { IsTrue (is_filled self.old.kept) → OnOk result ((shelf.new ≡ shelf.old)

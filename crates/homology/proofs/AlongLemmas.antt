@@ -93,7 +93,8 @@ module _ (number : ℕ → ℕ → ℤ) (ring : List ℕ) where
         let here = step (get_or ring c 0) (next_corner true (length ring) c) k true in
         let there : along number (corners_from ring true (next_corner true (length ring) c) k)
         ≡ along number (corners_from ring true (suc c) k) = ap (λ t. along number (corners_from ring true t k)) next in
-        let same : first_sides (suc c + k - length ring) ≡ first_sides (c + suc k - length ring) = at_place (suc c + k - length ring) (c + suc k - length ring) (omega arith) in
+        let same : first_sides (suc c + k - length ring) ≡ first_sides (c + suc k - length ring) =
+        at_place (suc c + k - length ring) (c + suc k - length ring) (omega arith) in
         here ∙ omega (arith, ints, there, more, same, more_sides c)
     | inr last ↦
         let next : next_corner true (length ring) c ≡ 0 = grind (arith, nat_tests) in
@@ -124,7 +125,8 @@ module _ (number : ℕ → ℕ → ℤ) (ring : List ℕ) where
     down (suc c) (suc k) l h =
         let next : next_corner false (length ring) (suc c) ≡ c = grind (arith, nat_tests) in
         let again : next_corner true (length ring) c ≡ suc c = grind (arith, nat_tests) in
-        let more : along number (corners_from ring false c k) ≡ first_sides (c - k) -ℤ first_sides c = down c k (omega arith) (omega arith) in
+        let more : along number (corners_from ring false c k) ≡ first_sides (c - k) -ℤ first_sides c =
+        down c k (omega arith) (omega arith) in
         let here = step (get_or ring (suc c) 0) (next_corner false (length ring) (suc c)) k false in
         let there : number (get_or ring (suc c) 0) (get_or ring (next_corner false (length ring) (suc c)) 0)
         +ℤ along number (corners_from ring false (next_corner false (length ring) (suc c)) k)
@@ -147,7 +149,8 @@ module _ (number : ℕ → ℕ → ℤ) (ring : List ℕ) where
         +ℤ along number (corners_from ring false (next_corner false (length ring) 0) k)
         ≡ number (get_or ring 0 0) (get_or ring last 0) +ℤ along number (corners_from ring false last k) =
         ap (λ t. number (get_or ring 0 0) (get_or ring t 0) +ℤ along number (corners_from ring false t k)) next in
-        let same : first_sides (last - k) ≡ first_sides (0 + length ring - suc k) = at_place (last - k) (0 + length ring - suc k) (omega arith) in
+        let same : first_sides (last - k) ≡ first_sides (0 + length ring - suc k) =
+        at_place (last - k) (0 + length ring - suc k) (omega arith) in
         let all : first_sides (suc last) ≡ first_sides (length ring) = at_place (suc last) (length ring) (omega arith) in
         here ∙ there ∙ omega (arith, ints, more, same, all, back 0 last again, more_sides last)
     down_past (suc c) (suc k) l h past =
@@ -161,7 +164,8 @@ module _ (number : ℕ → ℕ → ℤ) (ring : List ℕ) where
         +ℤ along number (corners_from ring false (next_corner false (length ring) (suc c)) k)
         ≡ number (get_or ring (suc c) 0) (get_or ring c 0) +ℤ along number (corners_from ring false c k) =
         ap (λ t. number (get_or ring (suc c) 0) (get_or ring t 0) +ℤ along number (corners_from ring false t k)) next in
-        let same : first_sides (c + length ring - k) ≡ first_sides (suc c + length ring - suc k) = at_place (c + length ring - k) (suc c + length ring - suc k) (omega arith) in
+        let same : first_sides (c + length ring - k) ≡ first_sides (suc c + length ring - suc k) =
+        at_place (c + length ring - k) (suc c + length ring - suc k) (omega arith) in
         here ∙ there ∙ omega (arith, ints, more, same, back (suc c) c again, more_sides c)
 
     -- one way round a face and the other way differ by once round it
@@ -170,10 +174,12 @@ module _ (number : ℕ → ℕ → ℤ) (ring : List ℕ) where
         ≡ first_sides (length ring)
     two_ways c k l h = elim (cases_lt (c + k) (length ring)) [
       | inl within ↦
-          let same : first_sides (c + length ring - (length ring - k)) ≡ first_sides (c + k) = at_place (c + length ring - (length ring - k)) (c + k) (omega arith) in
+          let same : first_sides (c + length ring - (length ring - k)) ≡ first_sides (c + k) =
+          at_place (c + length ring - (length ring - k)) (c + k) (omega arith) in
           omega (arith, ints, same, up c k l (omega arith), down_past c (length ring - k) l (omega arith) (omega arith))
       | inr past ↦
-          let same : first_sides (c - (length ring - k)) ≡ first_sides (c + k - length ring) = at_place (c - (length ring - k)) (c + k - length ring) (omega arith) in
+          let same : first_sides (c - (length ring - k)) ≡ first_sides (c + k - length ring) =
+          at_place (c - (length ring - k)) (c + k - length ring) (omega arith) in
           omega (arith, ints, same, around c k l h past, down c (length ring - k) l (omega arith))
     ]
 

@@ -77,7 +77,8 @@ face_part of_face number f face =
     let all = sides_from of_face number f face 0 (length face) in
     let none : of_face f *ℤ first_sides number face 0 ≡ pos 0 = *ℤ-zero (of_face f) in
     let same : of_face f *ℤ first_sides number face (0 + length face) ≡ of_face f *ℤ along number (round face) =
-    times_at (of_face f) number face (0 + length face) (length face) (omega arith) ∙ ap (λ z. of_face f *ℤ z) (sym (round-sides number face)) in
+    times_at (of_face f) number face (0 + length face) (length face) (omega arith)
+    ∙ ap (λ z. of_face f *ℤ z) (sym (round-sides number face)) in
     omega (arith, ints, all, none, same)
 
 -- the sum over faces that are numbered from n on

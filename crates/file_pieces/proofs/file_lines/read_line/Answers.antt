@@ -20,7 +20,8 @@ loop-found-preserved g c =
           reads_on file now c.args.pieces.now c.loop-found.pieces c.take_byte.new.pieces same c.loop-found.invariant.reads
           c.in_ok-take_byte.ensures.reads;
       line =
-          takes_on file now c.args.pieces.now c.loop-found.pieces c.take_byte.new.pieces c.args.line.now c.loop-found.line c.take_byte.new.line
+          takes_on file now c.args.pieces.now c.loop-found.pieces c.take_byte.new.pieces c.args.line.now c.loop-found.line
+          c.take_byte.new.line
           c.args.number.now c.loop-found.number c.take_byte.new.number Open c.in_ok-take_byte.field-0 same c.in-Open.is
           c.loop-found.invariant.reads c.loop-found.invariant.line c.in_ok-take_byte.ensures.line;
       numbered =
@@ -53,7 +54,8 @@ returns-in-Found-clause-line g c =
     c.loop-found.invariant.reads c.loop-found.invariant.line c.in_ok-take_byte.ensures.line in
     told (λ (f : List ℕ). Reads c.args.pieces.now f → (first : ℕ) (all : List ℕ)
     → IsOn first all c.args.line.now c.args.number.now (left_of c.args.pieces.now f)
-    → ReadsLine first all (Some c.in-Found.found) (words_here c.take_byte.new.line.done) c.take_byte.new.number (left_of c.take_byte.new.pieces
+    → ReadsLine first all (Some c.in-Found.found) (words_here c.take_byte.new.line.done) c.take_byte.new.number
+    (left_of c.take_byte.new.pieces
     f) × Unit {0}) file (λ f is reads first all on. (at_told Ends file f is ends reads first all on, tt))
 
 pub returns-in-End-clause-line : goal.returns-in-End-clause-line

@@ -16,8 +16,10 @@ returns-in-Some-eq10-clause-line g c =
     let some : c.in_ok-next.field-0 ≡ Some 10 = c.in-Some-eq10.is ∙ ap Some c.in-Some-eq10.field-0-test in
     let took : IfSome file_told (Taken old new (Some 10)) =
     subst (λ (b : Option ℕ). IfSome file_told (Taken old new b)) some c.in_ok-next.ensures.byte in
-    told (λ (file : List ℕ). Reads old file → (first : ℕ) (all : List ℕ) → IsOn first all c.args.line.now c.args.number.now (left_of old file)
-    → StandsBehind c.end_line.result first all c.end_line.new.line c.end_line.new.number (left_of new file)) file_told (λ file is reads first all on.
+    told (λ (file : List ℕ). Reads old file → (first : ℕ) (all : List ℕ)
+    → IsOn first all c.args.line.now c.args.number.now (left_of old file)
+    → StandsBehind c.end_line.result first all c.end_line.new.line c.end_line.new.number (left_of new file)) file_told
+    (λ file is reads first all on.
     let t : Reads new file × (left_of old file ≡ 10 ∷ left_of new file) = at_told (Taken old new (Some 10)) file_told file is took reads in
     c.end_line.ensures.line first all (left_of new file)
     (subst (λ (l : List ℕ). IsOn first all c.args.line.now c.args.number.now l) t.1 on))
@@ -30,8 +32,10 @@ returns-in-Some-clause-line g c =
     let byte : ℕ = c.in-Some.byte in
     let took : IfSome file_told (Taken old new (Some byte)) =
     subst (λ (b : Option ℕ). IfSome file_told (Taken old new b)) c.in-Some.is c.in_ok-next.ensures.byte in
-    told (λ (file : List ℕ). Reads old file → (first : ℕ) (all : List ℕ) → IsOn first all c.args.line.now c.args.number.now (left_of old file)
+    told (λ (file : List ℕ). Reads old file → (first : ℕ) (all : List ℕ)
+    → IsOn first all c.args.line.now c.args.number.now (left_of old file)
     → IsOn first all c.push.new.self c.args.number.now (left_of new file)) file_told (λ file is reads first all on.
-    let t : Reads new file × (left_of old file ≡ byte ∷ left_of new file) = at_told (Taken old new (Some byte)) file_told file is took reads in
+    let t : Reads new file × (left_of old file ≡ byte ∷ left_of new file) =
+    at_told (Taken old new (Some byte)) file_told file is took reads in
     puts_on first all c.args.line.now c.push.new.self c.args.number.now byte (left_of new file) c.in-Some.byte-test.1 c.push.ensures
     (subst (λ (l : List ℕ). IsOn first all c.args.line.now c.args.number.now l) t.1 on))

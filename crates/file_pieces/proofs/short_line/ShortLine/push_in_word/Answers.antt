@@ -15,7 +15,8 @@ invariant_of-self c =
       room = i.room;
       few = i.few;
       going_on = i.going_on;
-      ended = λ closed. absurd (both_ways c.self.inside.closed (ap (λ (l : ShortText). l.closed) c.self.view_is ∙ c.requires.going_on) closed);
+      ended = λ closed. absurd (both_ways c.self.inside.closed (ap (λ (l : ShortText). l.closed) c.self.view_is ∙ c.requires.going_on)
+          closed);
       closes = i.closes;
       count = i.count;
       short = c.push_byte.ensures.short;
