@@ -3,3 +3,9 @@ pub mod AlongLemmas
 pub mod BoundaryLemmas
 pub mod MoveLemmas
 pub mod PairingLemmas
+pub mod SizeLemmas
+pub mod TallyLemmas
+pub mod NumbersLemmas
+pub mod ChainVerdictLemmas
+pub mod CocycleVerdictLemmas
+pub mod VerdictLemmas

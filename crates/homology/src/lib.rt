@@ -1,4 +1,24 @@
-//! Homology of walks on polygon meshes, with certificates both ways.
+//! Homology of walks on polygon meshes, with certificates both ways, on any face list.
+//!
+//! Two walks with common ends are homologous where a chain tells their counts at every edge apart: a number for each face.
+//! That there is none is shown by a cocycle that separates them: a number for each edge. `check_homology` judges either,
+//! whoever made it. Proved: the verdict is the first fault that the certificate has, or that it holds; and, as laws,
+//! homotopic walks are homologous, and two walks that a cocycle separates have no chain.
+//!
+//!     let mut certificate = HomologyCert::new(alloc, true);
+//!     certificate.push_face(3, -1)?;
+//!     let verdict = check_homology(alloc, &faces, &sides, &first, &second, &certificate)?;
 #![tactic(auto)]
 
+mod certificate;
+mod chain_check;
+mod cocycle_check;
 pub mod laws;
+mod numbers;
+mod tally;
+mod verdict;
+
+pub use certificate::{
+    ChainNumbers, CocycleNumbers, EdgeNumber, FaceNumber, HomologyCert, MOST_NUMBER,
+};
+pub use verdict::{HomologyVerdict, check_homology};

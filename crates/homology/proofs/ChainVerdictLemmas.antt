@@ -1,0 +1,108 @@
+-- The verdict on a chain, from what is left at each edge.
+use Rattle.std.proofs.Common.{◌≡◌, ◌≢◌, ℕ, zero, suc, ◌<◌, ◌≤◌, List, [], ◌∷◌, length, refl, ap, ap₂, sym, ◌∙◌, subst, arith, ℤ, pos, negsuc, ◌+ℤ◌}
+use Rattle.std.specs.Prelude.{map, IsTrue, neg_ℤ, unsigned_abs, replicate}
+use Rattle.std.proofs.lemmas.Int.{ints}
+use Rattle.std.proofs.lemmas.Bool.Decides.{nat_tests}
+use Rattle.surf_model.specs.FaceLists.{FaceList, FaceSide, all_sides, is_edge}
+use Rattle.surf_model.specs.Edges.{Edge, IsTableOf, IsPairBefore, edge_in}
+use Rattle.surf_model.proofs.TableEdgeLemmas.{IsEdgeBetween, edge_between, same_pair, table_pair, place_before}
+use Rattle.homology.specs.Sums.{total, along, share}
+use Rattle.homology.specs.Chains.{IsChain, boundary}
+use Rattle.homology.specs.Verdicts.{IsBalancedAt, IsLeastUnbalanced}
+use Rattle.homology.specs.Tallies.{number_at, GrewBy, AreWithin, IsLeft}
+
+-- faces with the same numbers have the same boundary
+boundary_agrees : (mesh : FaceList) (one other : ℕ → ℤ) (low high : ℕ) → ((f : ℕ) → one f ≡ other f)
+    → boundary mesh one low high ≡ boundary mesh other low high
+boundary_agrees mesh one other low high same = along_sides (all_sides mesh)
+  where
+    along_sides : (sides : List FaceSide)
+        → total (map (λ (side : FaceSide). share (one side.face) low high side.tail side.head) sides)
+        ≡ total (map (λ (side : FaceSide). share (other side.face) low high side.tail side.head) sides)
+    along_sides [] = refl
+    along_sides (side ∷ sides) =
+        ap₂ (λ x y. x +ℤ y) (ap (λ z. share z low high side.tail side.head) (same side.face)) (along_sides sides)
+
+module _ (mesh : FaceList) (table : List Edge) (of_face listed : ℕ → ℤ) (first second : List ℕ) (rest : List ℤ)
+    (h : IsTableOf mesh table) (same : (f : ℕ) → of_face f ≡ listed f) (left : IsLeft mesh table of_face first second rest) where
+  nothing_left : (k : ℕ) → k < length table → number_at rest k ≡ pos 0
+      → IsBalancedAt mesh listed first second (edge_in table k).low (edge_in table k).high
+  nothing_left k l none =
+      let is = left.each k l in
+      let agrees = boundary_agrees mesh of_face listed (edge_in table k).low (edge_in table k).high same in
+      omega (arith, ints, is, agrees, none)
+
+  something_left : (k : ℕ) → k < length table → number_at rest k ≢ pos 0
+      → IsBalancedAt mesh listed first second (edge_in table k).low (edge_in table k).high → ⊥
+  something_left k l some even =
+      let is = left.each k l in
+      let agrees = boundary_agrees mesh of_face listed (edge_in table k).low (edge_in table k).high same in
+      some (omega (arith, ints, is, agrees, even))
+
+  -- an edge of the mesh stands in the table
+  at_edge : (a b : ℕ) → a < b → IsTrue (is_edge mesh a b)
+      → ((k : ℕ) → k < length table → (edge_in table k).low ≡ a → (edge_in table k).high ≡ b → number_at rest k ≡ pos 0)
+      → IsBalancedAt mesh listed first second a b
+  at_edge a b up edge none =
+      let found : IsEdgeBetween table a b = edge_between mesh table a b h edge in
+      let e : Edge = edge_in table found.edge in
+      let ends = same_pair a b e.low e.high up (h.edges found.edge _ found.in_table).ordered found.ends in
+      subst (λ x. IsBalancedAt mesh listed first second x b) ends.0
+      (subst (λ x. IsBalancedAt mesh listed first second e.low x) ends.1
+      (nothing_left found.edge found.in_table (none found.edge found.in_table ends.0 ends.1)))
+
+  pub chain_holds : ((k : ℕ) → k < length table → number_at rest k ≡ pos 0) → IsChain mesh listed first second
+  chain_holds none = record { balanced = λ low high up edge. at_edge low high up edge (λ k l p q. none k l) }
+
+  pub chain_fails : (e : ℕ) → e < length table → number_at rest e ≢ pos 0 → ((k : ℕ) → k < e → number_at rest k ≡ pos 0)
+      → IsLeastUnbalanced mesh listed first second (edge_in table e).low (edge_in table e).high
+  chain_fails e l some none = record {
+    ordered = (h.edges e _ l).ordered;
+    edge = table_pair mesh table e h l;
+    against = something_left e l some;
+    least = λ a b up edge before.
+        at_edge a b up edge
+        (λ k lk p q. none k (place_before mesh table k e h lk l
+        (subst (λ x. IsPairBefore x (edge_in table k).high (edge_in table e).low (edge_in table e).high) (sym p)
+        (subst (λ x. IsPairBefore a x (edge_in table e).low (edge_in table e).high) (sym q) before))));
+  }
+
+-- the walks given and the faces taken, from nothing
+pub left_over : (mesh : FaceList) (table : List Edge) (of_face : ℕ → ℤ) (first second : List ℕ) (old one two rest : List ℤ)
+    → length old ≡ length table → ((k : ℕ) → number_at old k ≡ pos 0)
+    → GrewBy table (λ low high. along (share (pos 1) low high) first) old one
+    → GrewBy table (λ low high. along (share (negsuc 0) low high) second) one two
+    → GrewBy table (λ low high. neg_ℤ (boundary mesh of_face low high)) two rest → IsLeft mesh table of_face first second rest
+left_over mesh table of_face first second old one two rest long none given back taken = record {
+  long = taken.long ∙ back.long ∙ given.long ∙ long;
+  each = λ k l.
+      let zero_there = none k in
+      let a = given.each k l in
+      let b = back.each k l in
+      let c = taken.each k l in
+      let turn = along-back second (edge_in table k).low (edge_in table k).high in
+      omega (arith, ints, zero_there, a, b, c, turn);
+}
+  where
+    along-back : (walk : List ℕ) (low high : ℕ)
+        → along (share (negsuc 0) low high) walk ≡ neg_ℤ (along (share (pos 1) low high) walk)
+    along-back [] low high = refl
+    along-back (u ∷ []) low high = refl
+    along-back (u ∷ v ∷ walk) low high =
+        let more = along-back (v ∷ walk) low high in
+        let here = share-back_one low high u v in
+        omega (arith, ints, more, here)
+      where
+        share-back_one : (low high u v : ℕ) → share (negsuc 0) low high u v ≡ neg_ℤ (share (pos 1) low high u v)
+        share-back_one low high u v = grind (arith, nat_tests)
+
+pub zeros_within : (numbers : List ℤ) → ((k : ℕ) → number_at numbers k ≡ pos 0) → AreWithin 0 numbers
+zeros_within numbers h = record { each = λ k. subst (λ z. unsigned_abs z ≤ 0) (sym (h k)) (omega arith) }
+
+pub within_more : (a b : ℕ) (numbers : List ℤ) → AreWithin a numbers → a ≤ b → AreWithin b numbers
+within_more a b numbers h l = record { each = λ k. omega (arith, h.each k, l) }
+
+pub number_at-zeros : (n k : ℕ) → number_at (replicate n (pos 0)) k ≡ pos 0
+number_at-zeros zero k = refl
+number_at-zeros (suc n) zero = refl
+number_at-zeros (suc n) (suc k) = number_at-zeros n k

@@ -1,0 +1,49 @@
+use Rattle.std.proofs.Common.{◌≡◌, ℕ, suc, ◌+◌, ◌*◌, ◌≤◌, List, length, ap, sym, ◌∙◌, subst, arith, ℤ, to_z, of_z, w64, ◌+ℤ◌}
+use Rattle.std.specs.Prelude.{unsigned_abs}
+use Rattle.std.proofs.lemmas.List.{take_all}
+use Rattle.homology.specs.Sums.{along}
+use Rattle.homology.specs.Cocycles.{dart_number}
+use Rattle.homology.proofs.TallyLemmas.{walk_edge}
+use Rattle.homology.proofs.CocycleVerdictLemmas.{added, added_fits, added_size, along_step, along_start}
+use Rattle.homology.proofs.cocycle_check.sum_along.Goals as goal
+
+pub edge_between-edge-requires : goal.edge_between-edge-requires
+edge_between-edge-requires c =
+    walk_edge c.args.faces.now c.args.sides.now c.args.walk.now c.loop-dart.dart c.at-from.result.0 c.at.result.0 c.requires.table
+    c.requires.walk (omega (arith, c.loop-dart-test.true, c.darts-dart-end.ensures.count)) c.at-from.ensures c.at.ensures
+
+pub overflow_add-sum : goal.overflow_add-sum
+overflow_add-sum c =
+    added_fits (to_z w64 c.loop-dart.sum-bits) c.number_of_dart-sum.result c.loop-dart.dart c.loop-dart.invariant.0
+    c.number_of_dart-sum.ensures.small (omega (arith, c.loop-dart-test.true, c.darts-dart-end.ensures.few))
+
+pub loop-dart-init : goal.loop-dart-init
+loop-dart-init c = (omega arith, λ number are. sym (along_start (dart_number number) c.args.walk.now))
+
+pub loop-dart-preserved : goal.loop-dart-preserved
+loop-dart-preserved c =
+    let s : ℤ = to_z w64 c.loop-dart.sum-bits in
+    let r : ℤ = c.number_of_dart-sum.result in
+    let is : to_z w64 (of_z w64 (s +ℤ to_z w64 (of_z w64 r))) ≡ s +ℤ r =
+    added s r c.loop-dart.dart c.loop-dart.invariant.0 c.number_of_dart-sum.ensures.small
+    (omega (arith, c.loop-dart-test.true, c.darts-dart-end.ensures.few)) in (
+      subst (λ z. unsigned_abs z ≤ 2147483647 * (c.loop-dart.dart + 1)) (sym is)
+          (added_size s r c.loop-dart.dart c.loop-dart.invariant.0 c.number_of_dart-sum.ensures.small),
+      λ number are.
+          is ∙ along_step c.args.faces.now c.args.sides.now c.args.of_edge.now number c.args.walk.now c.loop-dart.dart
+          c.edge_between-edge.result.0 c.at-from.result.0 c.at.result.0 s r c.requires.table are c.edge_between-edge.ensures.found
+          c.edge_between-edge.ensures.ends
+          (omega (arith, c.loop-dart-test.true, c.darts-dart-end.ensures.count, c.requires.walk.starts)) c.at-from.ensures c.at.ensures
+          (c.loop-dart.invariant.1 number are) c.number_of_dart-sum.ensures.number,
+    )
+
+pub returns : goal.returns
+returns c = λ number are.
+    let walk : List ℕ = c.args.walk.now in
+    let long : length walk ≤ suc c.loop-dart.dart = omega (
+      arith,
+      c.loop-dart-test.false,
+      c.darts-dart-end.ensures.count,
+      c.requires.walk.starts,
+    ) in
+    c.loop-dart.invariant.1 number are ∙ ap (along (dart_number number)) (take_all (suc c.loop-dart.dart) walk long)

@@ -1,0 +1,13 @@
+use Rattle.std.proofs.Common.{◌≡◌, ℕ, suc, ◌*◌, ◌≤◌, take, ℤ}
+use Rattle.std.specs.Prelude.{unsigned_abs}
+use Rattle.homology.specs.Sums.{along}
+use Rattle.homology.specs.Cocycles.{dart_number}
+use Rattle.homology.specs.Tallies.{AreNumbersOf}
+use Rattle.homology.specs.declared.certificate.TheConstants.{MOST_NUMBER}
+use Rattle.homology.proofs.cocycle_check.sum_along.Given as goal
+
+-- the darts so far
+abbrev pub invariant-loop-dart : goal.invariant-loop-dart
+invariant-loop-dart l =
+    (unsigned_abs l.sum ≤ MOST_NUMBER * l.dart)
+    × ((number : ℕ → ℕ → ℤ) → AreNumbersOf l.sides l.of_edge number → l.sum ≡ along (dart_number number) (take (suc l.dart) l.walk))

@@ -1,0 +1,15 @@
+use Rattle.std.proofs.Common.{◌≡◌, ℕ, ◌*◌, ◌≤◌, ℤ}
+use Rattle.std.specs.Prelude.{unsigned_abs}
+use Rattle.surf_model.specs.FaceLists.{face_at}
+use Rattle.homology.specs.Cocycles.{dart_number}
+use Rattle.homology.specs.Tallies.{AreNumbersOf}
+use Rattle.homology.specs.declared.certificate.TheConstants.{MOST_NUMBER}
+use Rattle.homology.proofs.AlongLemmas.{first_sides}
+use Rattle.homology.proofs.cocycle_check.sum_round.Given as goal
+
+-- the sides so far
+abbrev pub invariant-loop-at : goal.invariant-loop-at
+invariant-loop-at l =
+    (unsigned_abs l.sum ≤ MOST_NUMBER * l.at)
+    × ((number : ℕ → ℕ → ℤ) → AreNumbersOf l.sides l.of_edge number
+    → l.sum ≡ first_sides (dart_number number) (face_at l.faces l.face.0) l.at)

@@ -1,0 +1,24 @@
+use Rattle.std.proofs.Common.{◌≡◌, true, false, sym, ◌∙◌, arith}
+use Rattle.std.proofs.lemmas.Option.{get_or_from_slice_get}
+use Rattle.homology.specs.Verdicts.{HasEdge}
+use Rattle.homology.proofs.NumbersLemmas.{all_more}
+use Rattle.homology.proofs.numbers.first_stray.Goals as goal
+
+pub returns-then-not-form_edge-clause-some : goal.returns-then-not-form_edge-clause-some
+returns-then-not-form_edge-clause-some c = record {
+  place = c.loop-k.k;
+  in_list = omega arith;
+  is = get_or_from_slice_get c.args.numbers.now c.loop-k.k c.at-line.result c.at-line.result c.at-line.ensures;
+  against = λ edge.
+      let clash : true ≡ false = sym edge ∙ sym c.form_edge.ensures ∙ c.if-not-form_edge.true in
+      cc;
+  before = λ j less. c.loop-k.invariant j c.at-line.result less;
+}
+
+pub loop-k-preserved : goal.loop-k-preserved
+loop-k-preserved c =
+    all_more (HasEdge c.args.faces.now) c.args.numbers.now c.loop-k.k c.at-line.result c.loop-k.invariant c.at-line.ensures
+    (sym c.form_edge.ensures ∙ c.if-not-form_edge.false)
+
+pub returns-clause-none : goal.returns-clause-none
+returns-clause-none c = λ j d l. c.loop-k.invariant j d (omega (arith, l))

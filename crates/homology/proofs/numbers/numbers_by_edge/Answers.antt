@@ -1,0 +1,64 @@
+use Rattle.std.proofs.Common.{◌≡◌, true, ℕ, ◌<◌, ◌≤◌, List, length, set, ap, ◌∙◌, subst, arith, ℤ, pos, get_or}
+use Rattle.std.specs.Prelude.{replicate, unsigned_abs}
+use Rattle.std.proofs.lemmas.List.{length-replicate, length-set, take_all, get_or_default}
+use Rattle.std.proofs.lemmas.Option.{get_or_from_slice_get}
+use Rattle.surf_model.specs.FaceLists.{is_edge}
+use Rattle.surf_model.specs.Edges.{edge_in}
+use Rattle.surf_model.proofs.TableEdgeLemmas.{IsEdgeBetween, edge_between}
+use Rattle.homology.specs.Certificates.{edge_number}
+use Rattle.homology.specs.Tallies.{number_at, AreNumbersOf}
+use Rattle.homology.specs.declared.certificate.EdgeNumber.{EdgeNumber}
+use Rattle.homology.proofs.SizeLemmas.{sent}
+use Rattle.homology.proofs.ChainVerdictLemmas.{number_at-zeros}
+use Rattle.homology.proofs.NumbersLemmas.{edge_written, edges_small}
+use Rattle.homology.proofs.numbers.numbers_by_edge.Goals as goal
+
+pub edge_between-edge-requires : goal.edge_between-edge-requires
+edge_between-edge-requires c =
+    let lines : List EdgeNumber = c.args.numbers.now in
+    let line : EdgeNumber = c.at-line.result in
+    let k : ℕ = c.loop-k.k in
+    let within : k < length lines = omega arith in
+    let is : get_or lines k line ≡ line = get_or_from_slice_get lines k line line c.at-line.ensures in
+    let edge : is_edge c.args.faces.now line.low.0 line.high.0 ≡ true =
+    subst (λ (x : EdgeNumber). is_edge c.args.faces.now x.low.0 x.high.0 ≡ true) is (c.requires.edges k line within) in
+    let found : IsEdgeBetween c.args.sides.now line.low.0 line.high.0 =
+    edge_between c.args.faces.now c.args.sides.now line.low.0 line.high.0 c.requires.table edge in
+    (found.edge, edge_in c.args.sides.now found.edge, found.in_table, get_or_default c.args.sides.now found.edge _ _ found.in_table, found.ends)
+
+pub loop-k-init : goal.loop-k-init
+loop-k-init c =
+    let zeros : c.in_ok-of_edge.of_edge.items ≡ replicate c.len.result (pos 0) = c.in_ok-of_edge.ensures.items_if_clones_equal (λ y h. h) in
+    record {
+      long = ap (λ (xs : List ℤ). length xs) zeros ∙ length-replicate c.len.result (pos 0) ∙ c.len.ensures;
+      each = λ k l. ap (λ (xs : List ℤ). number_at xs k) zeros ∙ number_at-zeros c.len.result k;
+    }
+
+pub loop-k-preserved : goal.loop-k-preserved
+loop-k-preserved c =
+    let lines : List EdgeNumber = c.args.numbers.now in
+    let line : EdgeNumber = c.at-line.result in
+    let k : ℕ = c.loop-k.k in
+    let within : k < length lines = omega arith in
+    let is : get_or lines k line ≡ line = get_or_from_slice_get lines k line line c.at-line.ensures in
+    let small : unsigned_abs line.number ≤ 2147483647 =
+    subst (λ (x : EdgeNumber). unsigned_abs x.number ≤ 2147483647) is (c.len-k-end.ensures.valid.small k line within) in
+    record {
+      long = length-set c.loop-k.of_edge.items c.edge_between-edge.result.0 _ ∙ c.loop-k.invariant.long;
+      each = λ f l. edge_written c.args.faces.now c.args.sides.now lines k c.edge_between-edge.result.0 f line c.loop-k.of_edge.items _
+          c.requires.table c.len-k-end.ensures.valid within c.at-line.ensures c.edge_between-edge.ensures.found l
+          c.edge_between-edge.ensures.ends c.loop-k.invariant.long
+          (ap (set c.loop-k.of_edge.items c.edge_between-edge.result.0) (sent line.number (omega (arith, small))))
+          (c.loop-k.invariant.each f l);
+    }
+
+pub returns-clause-numbers : goal.returns-clause-numbers
+returns-clause-numbers c =
+    subst (λ (xs : List EdgeNumber). AreNumbersOf c.args.sides.now c.loop-k.of_edge.items (edge_number xs))
+    (take_all c.loop-k.k c.args.numbers.now (omega arith)) c.loop-k.invariant
+
+pub returns-clause-small : goal.returns-clause-small
+returns-clause-small c =
+    edges_small c.args.sides.now c.args.numbers.now c.loop-k.of_edge.items c.len-k-end.ensures.valid
+    (subst (λ (xs : List EdgeNumber). AreNumbersOf c.args.sides.now c.loop-k.of_edge.items (edge_number xs))
+    (take_all c.loop-k.k c.args.numbers.now (omega arith)) c.loop-k.invariant)

@@ -1,0 +1,8 @@
+use Rattle.std.proofs.Common.{take}
+use Rattle.homology.specs.Certificates.{edge_number}
+use Rattle.homology.specs.Tallies.{AreNumbersOf}
+use Rattle.homology.proofs.numbers.numbers_by_edge.Given as goal
+
+-- an entry for each edge, with the numbers of the lines so far
+abbrev pub invariant-loop-k : goal.invariant-loop-k
+invariant-loop-k l = AreNumbersOf l.sides l.of_edge.items (edge_number (take l.k l.numbers))

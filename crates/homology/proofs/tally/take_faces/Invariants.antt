@@ -1,0 +1,15 @@
+use Rattle.std.specs.Prelude.{map, neg_ℤ}
+use Rattle.surf_model.specs.FaceLists.{FaceSide}
+use Rattle.surf_model.proofs.NumberLemmas.{sides_up_to}
+use Rattle.homology.specs.Sums.{total, share}
+use Rattle.homology.specs.Tallies.{GrewBy, number_at}
+use Rattle.homology.proofs.tally.take_faces.Given as goal
+
+-- the faces so far
+abbrev pub invariant-loop-face : goal.invariant-loop-face
+invariant-loop-face l =
+    GrewBy l.sides
+    (λ low high. neg_ℤ (total (map (λ (side : FaceSide). share (number_at l.of_face side.face) low high side.tail side.head)
+    (sides_up_to l.faces l.face))))
+    l.initial.tally
+    l.tally

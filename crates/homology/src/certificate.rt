@@ -1,0 +1,157 @@
+//! Certificates of homology: the numbers of a chain or of a cocycle, each with the face or the edge that has it.
+ghost use Rattle.std.specs.Prelude.{◌≡◌, ◌+◌, ◌<◌, ◌≤◌, ◌^◌, [], ◌∷◌, ◌++◌, true, if◌then◌else◌, length, slice_get, All, OnOk, OnErr, Some, unsigned_abs};
+ghost use Rattle.surf_model.specs.Edges.{IsPairBefore};
+ghost use Rattle.homology.specs.declared.certificate.TheConstants.{MOST_NUMBER};
+ghost use Rattle.homology.specs.declared.certificate.FaceNumber.{FaceNumber};
+ghost use Rattle.homology.specs.declared.certificate.EdgeNumber.{EdgeNumber};
+
+use std::alloc::{AllocError, Global};
+use std::marker::Model;
+use surf_model::{FaceName, VertexName};
+
+/// The greatest size of a number in a certificate.
+pub const MOST_NUMBER: u32 = 2_147_483_647;
+
+/// The number of a face in a chain.
+#[derive(Clone, Copy, Debug, PartialEq, Eq)]
+pub struct FaceNumber {
+    pub face: FaceName,
+    pub number: i64,
+}
+
+/// The number of an edge in a cocycle, read from the lower vertex to the higher one.
+#[derive(Clone, Copy, Debug, PartialEq, Eq)]
+pub struct EdgeNumber {
+    pub low: VertexName,
+    pub high: VertexName,
+    pub number: i64,
+}
+
+/// The numbers of a chain, by rising faces. A face that is not listed has the number 0.
+#[derive(Debug, Drop)]
+pub struct ChainNumbers {
+    lines: Vec<FaceNumber>,
+}
+
+impl Model for ChainNumbers {
+    ghost use Rattle.std.specs.Prelude.{List};
+    ghost use Rattle.homology.specs.Certificates.{AreFaceNumbers};
+    ghost use Rattle.homology.specs.declared.certificate.FaceNumber.{FaceNumber};
+
+    ghost Value = { List FaceNumber };
+
+    ghost view = { λ a. a.lines.items };
+
+    ghost invariant = { λ a. AreFaceNumbers a.lines.items };
+}
+
+impl ChainNumbers {
+    ghost use Rattle.homology.specs.Certificates.{AreFaceNumbers};
+
+    /// No numbers. It takes no memory.
+    pub fn new(alloc: Global) -> ChainNumbers
+        ensures { result ≡ [] }
+    {
+        ChainNumbers {
+            lines: Vec::new(alloc),
+        }
+    }
+
+    /// Puts the number of a face last.
+    pub fn push(&mut self, line: FaceNumber) -> Result<(), AllocError>
+        requires above { All (λ (other : FaceNumber). other.face.0 < line.face.0) self.old }
+        requires small { unsigned_abs line.number ≤ MOST_NUMBER }
+        requires few { length self.old + 1 < 2 ^ 32 }
+        ensures ok { OnOk result (self.new ≡ self.old ++ line ∷ []) }
+        ensures err { OnErr result (self.new ≡ self.old) }
+    {
+        self.lines.push(line)?;
+        Ok(())
+    }
+
+    /// How many faces are listed.
+    pub fn len(&self) -> u32
+        ensures count { result ≡ length self.now }
+        // What holds of all numbers of a chain.
+        ensures valid { AreFaceNumbers self.now }
+    {
+        self.lines.len() as u32
+    }
+
+    /// Line `k`, counted from 0.
+    pub fn at(&self, k: u32) -> FaceNumber
+        requires { k < length self.now }
+        ensures { slice_get self.now k ≡ Some result }
+    {
+        self.lines[k as usize]
+    }
+}
+
+/// The numbers of a cocycle, by rising edges: by their lower and then their higher vertices. An edge that is not listed has
+/// the number 0.
+#[derive(Debug, Drop)]
+pub struct CocycleNumbers {
+    lines: Vec<EdgeNumber>,
+}
+
+impl Model for CocycleNumbers {
+    ghost use Rattle.std.specs.Prelude.{List};
+    ghost use Rattle.homology.specs.Certificates.{AreEdgeNumbers};
+    ghost use Rattle.homology.specs.declared.certificate.EdgeNumber.{EdgeNumber};
+
+    ghost Value = { List EdgeNumber };
+
+    ghost view = { λ a. a.lines.items };
+
+    ghost invariant = { λ a. AreEdgeNumbers a.lines.items };
+}
+
+impl CocycleNumbers {
+    ghost use Rattle.homology.specs.Certificates.{AreEdgeNumbers};
+
+    /// No numbers. It takes no memory.
+    pub fn new(alloc: Global) -> CocycleNumbers
+        ensures { result ≡ [] }
+    {
+        CocycleNumbers {
+            lines: Vec::new(alloc),
+        }
+    }
+
+    /// Puts the number of an edge last.
+    pub fn push(&mut self, line: EdgeNumber) -> Result<(), AllocError>
+        requires ordered { line.low.0 < line.high.0 }
+        requires above { All (λ (other : EdgeNumber). IsPairBefore other.low.0 other.high.0 line.low.0 line.high.0) self.old }
+        requires small { unsigned_abs line.number ≤ MOST_NUMBER }
+        requires few { length self.old + 1 < 2 ^ 32 }
+        ensures ok { OnOk result (self.new ≡ self.old ++ line ∷ []) }
+        ensures err { OnErr result (self.new ≡ self.old) }
+    {
+        self.lines.push(line)?;
+        Ok(())
+    }
+
+    /// How many edges are listed.
+    pub fn len(&self) -> u32
+        ensures count { result ≡ length self.now }
+        // What holds of all numbers of a cocycle.
+        ensures valid { AreEdgeNumbers self.now }
+    {
+        self.lines.len() as u32
+    }
+
+    /// Line `k`, counted from 0.
+    pub fn at(&self, k: u32) -> EdgeNumber
+        requires { k < length self.now }
+        ensures { slice_get self.now k ≡ Some result }
+    {
+        self.lines[k as usize]
+    }
+}
+
+/// A certificate: a chain, which shows that two walks are homologous, or a cocycle, which shows that they are not.
+#[derive(Debug, Drop)]
+pub enum HomologyCert {
+    Chain(ChainNumbers),
+    Cocycle(CocycleNumbers),
+}

@@ -1,0 +1,39 @@
+//! Whether a chain tells two walks apart at every edge.
+ghost use Rattle.std.specs.Prelude.{IfOk};
+ghost use Rattle.surf_model.specs.Edges.{IsTableOf};
+ghost use Rattle.surf_model.specs.Walks.{IsWalk};
+ghost use Rattle.homology.specs.Verdicts.{IsVerdict};
+ghost use Rattle.homology.specs.declared.certificate.HomologyCert.TheVariants.{Chain};
+
+use crate::certificate::ChainNumbers;
+use crate::numbers::{first_missing, numbers_by_face};
+use crate::tally::{first_nonzero, rest_of};
+use crate::verdict::HomologyVerdict;
+use std::alloc::{AllocError, Global};
+use surf_model::{Faces, Sides, Walk};
+
+/// Checks the numbers of a chain: that each listed face is there, and then each edge.
+pub(crate) fn check_chain(
+    alloc: Global,
+    faces: &Faces,
+    sides: &Sides,
+    first: &Walk,
+    second: &Walk,
+    numbers: &ChainNumbers,
+) -> Result<HomologyVerdict, AllocError>
+    requires table { IsTableOf faces.now sides.now }
+    requires first { IsWalk faces.now first.now }
+    requires second { IsWalk faces.now second.now }
+    ensures { IfOk result (IsVerdict faces.now first.now second.now (Chain numbers.now)) }
+{
+    if let Some(face) = first_missing(faces, numbers) {
+        return Ok(HomologyVerdict::Face(face));
+    }
+    let of_face = numbers_by_face(alloc, faces, numbers)?;
+    let rest = rest_of(alloc, faces, sides, first, second, &of_face)?;
+    if let Some(edge) = first_nonzero(&rest, sides) {
+        let (low, high) = sides.ends(edge);
+        return Ok(HomologyVerdict::Edge(low, high));
+    }
+    Ok(HomologyVerdict::Accepted)
+}

@@ -1,0 +1,111 @@
+//! Whether the numbers of a cocycle add up to 0 round every face, and separate two walks.
+ghost use Rattle.std.specs.Prelude.{◌≡◌, ◌<◌, ◌≤◌, ◌^◌, ℕ, length, IfOk, MatchOption, ℤ, unsigned_abs};
+ghost use Rattle.surf_model.specs.Edges.{IsTableOf, edge_in};
+ghost use Rattle.surf_model.specs.Walks.{IsWalk};
+ghost use Rattle.homology.specs.Sums.{along};
+ghost use Rattle.homology.specs.Cocycles.{dart_number, face_sum, IsCocycle};
+ghost use Rattle.homology.specs.Verdicts.{IsVerdict, IsLeastOpen};
+ghost use Rattle.homology.specs.Tallies.{number_at, turned, AreWithin, AreNumbersOf};
+ghost use Rattle.homology.specs.declared.certificate.HomologyCert.TheVariants.{Cocycle};
+ghost use Rattle.homology.specs.declared.certificate.TheConstants.{MOST_NUMBER};
+
+use crate::certificate::CocycleNumbers;
+use crate::numbers::{first_stray, numbers_by_edge};
+use crate::tally::edge_between;
+use crate::verdict::HomologyVerdict;
+use std::alloc::{AllocError, Global};
+use surf_model::{EdgeName, FaceName, Faces, Side, Sides, VertexName, Walk};
+
+/// Checks the numbers of a cocycle: that each listed pair is an edge, then the sum round each face, and then the sums along
+/// the two walks.
+pub(crate) fn check_cocycle(
+    alloc: Global,
+    faces: &Faces,
+    sides: &Sides,
+    first: &Walk,
+    second: &Walk,
+    numbers: &CocycleNumbers,
+) -> Result<HomologyVerdict, AllocError>
+    requires table { IsTableOf faces.now sides.now }
+    requires first { IsWalk faces.now first.now }
+    requires second { IsWalk faces.now second.now }
+    ensures { IfOk result (IsVerdict faces.now first.now second.now (Cocycle numbers.now)) }
+{
+    if let Some(line) = first_stray(faces, sides, numbers) {
+        return Ok(HomologyVerdict::Edge(line.low, line.high));
+    }
+    let of_edge = numbers_by_edge(alloc, faces, sides, numbers)?;
+    if let Some(face) = first_open(faces, sides, &of_edge) {
+        return Ok(HomologyVerdict::Sum(face));
+    }
+    if sum_along(faces, sides, &of_edge, first) == sum_along(faces, sides, &of_edge, second) {
+        return Ok(HomologyVerdict::Zero);
+    }
+    Ok(HomologyVerdict::Accepted)
+}
+
+/// The first face round which the numbers do not add up to 0.
+fn first_open(faces: &Faces, sides: &Sides, of_edge: &[i64]) -> Option<FaceName>
+    requires table { IsTableOf faces.now sides.now }
+    requires long { length of_edge.now ≡ length sides.now }
+    requires small { AreWithin MOST_NUMBER of_edge.now }
+    ensures { (number : ℕ → ℕ → ℤ) → AreNumbersOf sides.now of_edge.now number
+        → MatchOption result (IsCocycle faces.now number) (λ face. IsLeastOpen faces.now number face.0) }
+{
+    for face in 0..faces.len() {
+        if sum_round(faces, sides, of_edge, FaceName(face)) != 0 {
+            return Some(FaceName(face));
+        }
+    }
+    None
+}
+
+/// The sum round a face.
+fn sum_round(faces: &Faces, sides: &Sides, of_edge: &[i64], face: FaceName) -> i64
+    requires table { IsTableOf faces.now sides.now }
+    requires long { length of_edge.now ≡ length sides.now }
+    requires small { AreWithin MOST_NUMBER of_edge.now }
+    requires face { face.0 < length faces.now.faces }
+    ensures { (number : ℕ → ℕ → ℤ) → AreNumbersOf sides.now of_edge.now number → result ≡ face_sum faces.now number face.0 }
+{
+    // The proof reads what holds of every mesh.
+    let _ = faces.len();
+    let mut sum = 0i64;
+    for at in 0..faces.sides(face) {
+        let edge = sides.edge_at(Side { face, at });
+        sum += number_of_dart(sides, of_edge, edge, faces.corner(face, at));
+    }
+    sum
+}
+
+/// The sum along a walk.
+fn sum_along(faces: &Faces, sides: &Sides, of_edge: &[i64], walk: &Walk) -> i64
+    requires table { IsTableOf faces.now sides.now }
+    requires long { length of_edge.now ≡ length sides.now }
+    requires small { AreWithin MOST_NUMBER of_edge.now }
+    requires walk { IsWalk faces.now walk.now }
+    ensures { (number : ℕ → ℕ → ℤ) → AreNumbersOf sides.now of_edge.now number → result ≡ along (dart_number number) walk.now }
+{
+    // The proof reads what holds of every mesh.
+    let _ = faces.len();
+    let mut sum = 0i64;
+    for dart in 0..walk.darts() {
+        let from = walk.at(dart);
+        let edge = edge_between(sides, from, walk.at(dart + 1));
+        sum += number_of_dart(sides, of_edge, edge, from);
+    }
+    sum
+}
+
+/// The number of a dart along an edge: that of the edge, with a minus sign where the dart does not start at its lower vertex.
+fn number_of_dart(sides: &Sides, of_edge: &[i64], edge: EdgeName, from: VertexName) -> i64
+    requires edge { edge.0 < length sides.now }
+    requires long { length of_edge.now ≡ length sides.now }
+    requires small { AreWithin MOST_NUMBER of_edge.now }
+    ensures number { result ≡ turned (number_at of_edge.now edge.0) (edge_in sides.now edge.0) from.0 }
+    ensures small { unsigned_abs result ≤ MOST_NUMBER }
+{
+    let number = of_edge[edge.0 as usize];
+    let (low, _) = sides.ends(edge);
+    if from == low { number } else { -number }
+}

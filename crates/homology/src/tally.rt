@@ -1,0 +1,147 @@
+//! A tally of the edges: what the darts of walks and the sides of faces give to each.
+ghost use Rattle.std.specs.Prelude.{◌≡◌, ◌≢◌, ℕ, ◌+◌, ◌<◌, ◌≤◌, ◌^◌, length, slice_set, Any, IfSome, IfNone, IfOk, pos, ◌+ℤ◌, ◌-ℤ◌, neg_ℤ, unsigned_abs};
+ghost use Rattle.surf_model.specs.Edges.{IsTableOf, HasEnds, edge_in};
+ghost use Rattle.surf_model.specs.Walks.{IsWalk, darts};
+ghost use Rattle.homology.specs.Sums.{along, share};
+ghost use Rattle.homology.specs.Chains.{boundary};
+ghost use Rattle.homology.specs.Tallies.{number_at, turned, GrewBy, AreWithin, face_share, IsLeft};
+ghost use Rattle.homology.specs.declared.certificate.TheConstants.{MOST_NUMBER};
+
+use std::alloc::{AllocError, Global};
+use surf_model::{EdgeName, FaceName, Faces, Side, Sides, VertexName, Walk};
+
+/// At each edge the count of the first walk, less that of the second, less the boundary of the numbered faces.
+pub(crate) fn rest_of(
+    alloc: Global,
+    faces: &Faces,
+    sides: &Sides,
+    first: &Walk,
+    second: &Walk,
+    of_face: &[i64],
+) -> Result<Vec<i64>, AllocError>
+    requires table { IsTableOf faces.now sides.now }
+    requires first { IsWalk faces.now first.now }
+    requires second { IsWalk faces.now second.now }
+    requires each_face { length of_face.now ≡ length faces.now.faces }
+    requires small { AreWithin MOST_NUMBER of_face.now }
+    ensures long { IfOk result (λ rest. length rest.items ≡ length sides.now) }
+    ensures left { IfOk result (λ rest. IsLeft faces.now sides.now (number_at of_face.now) first.now second.now rest.items) }
+{
+    let mut rest = vec![in alloc; 0i64; sides.len() as usize]?;
+    fill(&mut rest, faces, sides, first, second, of_face);
+    Ok(rest)
+}
+
+/// Puts into a tally of zeros what is left at each edge.
+fn fill(
+    rest: &mut [i64],
+    faces: &Faces,
+    sides: &Sides,
+    first: &Walk,
+    second: &Walk,
+    of_face: &[i64],
+)
+    requires table { IsTableOf faces.now sides.now }
+    requires first { IsWalk faces.now first.now }
+    requires second { IsWalk faces.now second.now }
+    requires each_face { length of_face.now ≡ length faces.now.faces }
+    requires small { AreWithin MOST_NUMBER of_face.now }
+    requires long { length rest.old ≡ length sides.now }
+    requires zeros { (k : ℕ) → number_at rest.old k ≡ pos 0 }
+    ensures { IsLeft faces.now sides.now (number_at of_face.now) first.now second.now rest.new }
+{
+    add_walk(rest, faces, sides, first, 1);
+    add_walk(rest, faces, sides, second, -1);
+    take_faces(rest, faces, sides, of_face);
+}
+
+/// The first edge whose tally is not 0.
+pub(crate) fn first_nonzero(tally: &[i64], sides: &Sides) -> Option<EdgeName>
+    requires { length tally.now ≡ length sides.now }
+    ensures found { IfSome result (λ edge. edge.0 < length sides.now) }
+    ensures nonzero { IfSome result (λ edge. number_at tally.now edge.0 ≢ pos 0) }
+    ensures before { IfSome result (λ edge. (k : ℕ) → k < edge.0 → number_at tally.now k ≡ pos 0) }
+    ensures none { IfNone result ((k : ℕ) → k < length sides.now → number_at tally.now k ≡ pos 0) }
+{
+    for edge in 0..sides.len() {
+        if tally[edge as usize] != 0 {
+            return Some(EdgeName(edge));
+        }
+    }
+    None
+}
+
+/// Gives the darts of a walk to their edges, each dart so much.
+pub(crate) fn add_walk(tally: &mut [i64], faces: &Faces, sides: &Sides, walk: &Walk, amount: i64)
+    requires table { IsTableOf faces.now sides.now }
+    requires walk { IsWalk faces.now walk.now }
+    requires long { length tally.old ≡ length sides.now }
+    requires small { unsigned_abs amount ≤ 1 }
+    requires room { AreWithin (2 ^ 32) tally.old }
+    ensures grew { GrewBy sides.now (λ low high. along (share amount low high) walk.now) tally.old tally.new }
+    // A walk has fewer than 2^31 darts.
+    ensures size { (bound : ℕ) → AreWithin bound tally.old → AreWithin (bound + 2 ^ 31) tally.new }
+{
+    for dart in 0..walk.darts() {
+        let from = walk.at(dart);
+        let edge = edge_between(sides, from, walk.at(dart + 1));
+        add_dart(tally, sides, edge, from, amount);
+    }
+}
+
+/// The edge of a dart.
+pub(crate) fn edge_between(sides: &Sides, from: VertexName, to: VertexName) -> EdgeName
+    requires { Any (HasEnds from.0 to.0) sides.now }
+    ensures found { result.0 < length sides.now }
+    ensures ends { HasEnds from.0 to.0 (edge_in sides.now result.0) }
+{
+    sides.between(from, to).unwrap()
+}
+
+/// Takes the sides of all faces from their edges, for each side the number of its face.
+pub(crate) fn take_faces(tally: &mut [i64], faces: &Faces, sides: &Sides, of_face: &[i64])
+    requires table { IsTableOf faces.now sides.now }
+    requires long { length tally.old ≡ length sides.now }
+    requires each_face { length of_face.now ≡ length faces.now.faces }
+    requires small { AreWithin MOST_NUMBER of_face.now }
+    requires room { AreWithin (2 ^ 33) tally.old }
+    ensures { GrewBy sides.now (λ low high. neg_ℤ (boundary faces.now (number_at of_face.now) low high)) tally.old tally.new }
+{
+    for face in 0..faces.len() {
+        add_face(tally, faces, sides, FaceName(face), -of_face[face as usize]);
+    }
+}
+
+/// Gives the sides of a face to their edges, each side so much.
+fn add_face(tally: &mut [i64], faces: &Faces, sides: &Sides, face: FaceName, amount: i64)
+    requires table { IsTableOf faces.now sides.now }
+    requires face { face.0 < length faces.now.faces }
+    requires long { length tally.old ≡ length sides.now }
+    requires small { unsigned_abs amount ≤ MOST_NUMBER }
+    requires room { AreWithin (2 ^ 60) tally.old }
+    ensures { GrewBy sides.now (face_share faces.now amount face.0) tally.old tally.new }
+{
+    // The proof reads what holds of every mesh.
+    let _ = faces.len();
+    for at in 0..faces.sides(face) {
+        let edge = sides.edge_at(Side { face, at });
+        add_dart(tally, sides, edge, faces.corner(face, at), amount);
+    }
+}
+
+/// Gives a dart to its edge: the amount where the dart starts at the edge's lower vertex, and else minus the amount.
+fn add_dart(tally: &mut [i64], sides: &Sides, edge: EdgeName, from: VertexName, amount: i64)
+    requires edge { edge.0 < length sides.now }
+    requires long { length tally.old ≡ length sides.now }
+    requires room { unsigned_abs (number_at tally.old edge.0) + unsigned_abs amount < 2 ^ 62 }
+    ensures { tally.new
+        ≡ slice_set tally.old edge.0 (number_at tally.old edge.0 +ℤ turned amount (edge_in sides.now edge.0) from.0) }
+{
+    let (low, _) = sides.ends(edge);
+    let entry = &mut tally[edge.0 as usize];
+    if from == low {
+        *entry += amount;
+    } else {
+        *entry -= amount;
+    }
+}
