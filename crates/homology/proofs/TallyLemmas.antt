@@ -71,7 +71,8 @@ grown mesh table given wanted old now new e u v amount h l ends long grew more i
       elim (cases_eq k e) [
         | inl same ↦
             let there : number_at new k ≡ number_at now e +ℤ turned amount (edge_in table e) u =
-            ap (λ (xs : List ℤ). number_at xs k) is ∙ ap (λ j. number_at (set now e (number_at now e +ℤ turned amount (edge_in table e) u)) j) same
+            ap (λ (xs : List ℤ). number_at xs k) is ∙ ap (λ j. number_at
+            (set now e (number_at now e +ℤ turned amount (edge_in table e) u)) j) same
             ∙ get_or-set_same now e _ (pos 0) (omega arith) in
             let here : number_at now e ≡ number_at now k = ap (λ j. number_at now j) (sym same) in
             let gives : turned amount (edge_in table e) u ≡ share amount edge.low edge.high u v =

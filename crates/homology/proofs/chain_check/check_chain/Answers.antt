@@ -10,7 +10,8 @@ pub returns-in-Some-first_nonzero : goal.returns-in-Some-first_nonzero
 returns-in-Some-first_nonzero c =
     let same : (f : ℕ) → number_at c.deref.result.now f ≡ face_number c.args.numbers.now f =
     λ f. ap (λ (xs : List ℤ). number_at xs f) c.deref.ensures.value ∙ c.in_ok-of_face.ensures.numbers f in
-    let left : IsLeft c.args.faces.now c.args.sides.now (number_at c.deref.result.now) c.args.first.now c.args.second.now c.deref-2.result.now =
+    let left : IsLeft c.args.faces.now c.args.sides.now (number_at c.deref.result.now) c.args.first.now c.args.second.now
+    c.deref-2.result.now =
     subst (λ (xs : List ℤ). IsLeft c.args.faces.now c.args.sides.now (number_at c.deref.result.now) c.args.first.now c.args.second.now xs)
     (sym c.deref-2.ensures.value) c.in_ok-rest.ensures.left in
     let e : ℕ = c.in-Some-first_nonzero.edge.0 in
@@ -18,7 +19,8 @@ returns-in-Some-first_nonzero c =
     c.args.first.now c.args.second.now c.deref-2.result.now c.requires.table same left e c.in-Some-first_nonzero.ensures.found
     c.in-Some-first_nonzero.ensures.nonzero c.in-Some-first_nonzero.ensures.before in (
       c.in_default.ensures.none,
-      subst (λ x. IsLeastUnbalanced c.args.faces.now (face_number c.args.numbers.now) c.args.first.now c.args.second.now x c.ends.result.1.0)
+      subst (λ x. IsLeastUnbalanced c.args.faces.now (face_number c.args.numbers.now) c.args.first.now c.args.second.now x
+          c.ends.result.1.0)
           (sym c.ends.ensures.low)
           (subst (λ x. IsLeastUnbalanced c.args.faces.now (face_number c.args.numbers.now) c.args.first.now c.args.second.now
           (edge_in c.args.sides.now e).low x) (sym c.ends.ensures.high) least),
@@ -28,7 +30,8 @@ pub returns : goal.returns
 returns c =
     let same : (f : ℕ) → number_at c.deref.result.now f ≡ face_number c.args.numbers.now f =
     λ f. ap (λ (xs : List ℤ). number_at xs f) c.deref.ensures.value ∙ c.in_ok-of_face.ensures.numbers f in
-    let left : IsLeft c.args.faces.now c.args.sides.now (number_at c.deref.result.now) c.args.first.now c.args.second.now c.deref-2.result.now =
+    let left : IsLeft c.args.faces.now c.args.sides.now (number_at c.deref.result.now) c.args.first.now c.args.second.now
+    c.deref-2.result.now =
     subst (λ (xs : List ℤ). IsLeft c.args.faces.now c.args.sides.now (number_at c.deref.result.now) c.args.first.now c.args.second.now xs)
     (sym c.deref-2.ensures.value) c.in_ok-rest.ensures.left in (
       c.in_default.ensures.none,

@@ -17,7 +17,12 @@ pub overflow_add-sum : goal.overflow_add-sum
 overflow_add-sum c =
     added_fits (to_z w64 c.loop-at.sum-bits) c.number_of_dart-sum.result c.loop-at.at c.loop-at.invariant.0
     c.number_of_dart-sum.ensures.small
-    (omega (arith, c.loop-at-test.true, c.sides-at-end.ensures, face_few c.args.faces.now c.args.face.0 c.len.ensures.valid c.requires.face))
+    (omega (
+      arith,
+      c.loop-at-test.true,
+      c.sides-at-end.ensures,
+      face_few c.args.faces.now c.args.face.0 c.len.ensures.valid c.requires.face,
+    ))
 
 pub loop-at-init : goal.loop-at-init
 loop-at-init c = (omega arith, λ number are. refl)

@@ -23,8 +23,13 @@ edge_between-edge-requires c =
     let edge : is_edge c.args.faces.now line.low.0 line.high.0 ≡ true =
     subst (λ (x : EdgeNumber). is_edge c.args.faces.now x.low.0 x.high.0 ≡ true) is (c.requires.edges k line within) in
     let found : IsEdgeBetween c.args.sides.now line.low.0 line.high.0 =
-    edge_between c.args.faces.now c.args.sides.now line.low.0 line.high.0 c.requires.table edge in
-    (found.edge, edge_in c.args.sides.now found.edge, found.in_table, get_or_default c.args.sides.now found.edge _ _ found.in_table, found.ends)
+    edge_between c.args.faces.now c.args.sides.now line.low.0 line.high.0 c.requires.table edge in (
+      found.edge,
+      edge_in c.args.sides.now found.edge,
+      found.in_table,
+      get_or_default c.args.sides.now found.edge _ _ found.in_table,
+      found.ends,
+    )
 
 pub loop-k-init : goal.loop-k-init
 loop-k-init c =

@@ -12,7 +12,8 @@ use Rattle.homology.proofs.numbers.numbers_by_face.Goals as goal
 
 pub loop-k-init : goal.loop-k-init
 loop-k-init c =
-    let zeros : c.in_ok-of_face.of_face.items ≡ replicate c.len.result (pos 0) = c.in_ok-of_face.ensures.items_if_clones_equal (λ y h. h) in (
+    let zeros : c.in_ok-of_face.of_face.items ≡ replicate c.len.result (pos 0) =
+    c.in_ok-of_face.ensures.items_if_clones_equal (λ y h. h) in (
       ap (λ (xs : List ℤ). length xs) zeros ∙ length-replicate c.len.result (pos 0) ∙ c.len.ensures.count,
       λ f. ap (λ (xs : List ℤ). number_at xs f) zeros ∙ number_at-zeros c.len.result f,
     )

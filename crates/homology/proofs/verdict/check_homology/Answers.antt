@@ -7,7 +7,8 @@ use Rattle.homology.proofs.verdict.check_homology.Goals as goal
 
 pub returns-in-Chain-clause-exact : goal.returns-in-Chain-clause-exact
 returns-in-Chain-clause-exact c = λ verdict is.
-    exactly c.args.faces.now c.args.first.now c.args.second.now (Chain c.in-Chain.numbers) c.check_chain.result c.check_chain.ensures verdict
+    exactly c.args.faces.now c.args.first.now c.args.second.now (Chain c.in-Chain.numbers) c.check_chain.result c.check_chain.ensures
+    verdict
     (subst (λ (x : HomologyCert). IsVerdict c.args.faces.now c.args.first.now c.args.second.now x verdict) c.in-Chain.is is)
 
 pub returns-in-Cocycle-clause-exact : goal.returns-in-Cocycle-clause-exact
