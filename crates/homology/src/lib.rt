@@ -5,9 +5,9 @@
 //! whoever made it. Proved: the verdict is the first fault that the certificate has, or that it holds; and, as laws,
 //! homotopic walks are homologous, and two walks that a cocycle separates have no chain.
 //!
-//!     let mut certificate = HomologyCert::new(alloc, true);
-//!     certificate.push_face(3, -1)?;
-//!     let verdict = check_homology(alloc, &faces, &sides, &first, &second, &certificate)?;
+//!     let mut numbers = ChainNumbers::new(alloc);
+//!     numbers.push(FaceNumber { face: FaceName(3), number: -1 })?;
+//!     let verdict = check_homology(alloc, &faces, &sides, &first, &second, &HomologyCert::Chain(numbers))?;
 #![tactic(auto)]
 
 mod certificate;
