@@ -155,3 +155,19 @@ pub enum HomologyCert {
     Chain(ChainNumbers),
     Cocycle(CocycleNumbers),
 }
+
+impl HomologyCert {
+    ghost use Rattle.std.specs.Prelude.{◌≡◌, [], if◌then◌else◌};
+    ghost use Rattle.homology.specs.declared.certificate.HomologyCert.TheVariants.{Chain, Cocycle};
+
+    /// A chain or a cocycle with no numbers. It takes no memory.
+    pub fn new(alloc: Global, chain: bool) -> HomologyCert
+        ensures { result ≡ if chain then Chain [] else Cocycle [] }
+    {
+        if chain {
+            HomologyCert::Chain(ChainNumbers::new(alloc))
+        } else {
+            HomologyCert::Cocycle(CocycleNumbers::new(alloc))
+        }
+    }
+}
