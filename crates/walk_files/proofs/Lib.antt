@@ -11,3 +11,5 @@ pub mod DenialLines
 pub mod DenialParts
 pub mod DenialRoundTrip
 pub mod AnswerLines
+mod SameGrammar
+mod StreamLemmas

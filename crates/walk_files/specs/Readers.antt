@@ -47,11 +47,14 @@ moves_to_come reader = count_in reader.head - reader.given
 abbrev pub lines_to_come : Certificate → List Line
 lines_to_come reader = drop reader.given (behind_head (full_lines reader.text))
 
+-- what a line gives, where so many moves are still to come
+abbrev pub next_on : ℕ → Line → Result (Option Move) CertFault
+next_on left line = if left == 0 then Err (Extra line.number) else ok_or (option_map Some (move_of line.words)) (Bad line.number)
+
 -- what the first of these lines gives, where `left` moves are still to come; `end` is the line where the text ends
 abbrev pub next_of : ℕ → ℕ → List Line → Result (Option Move) CertFault
 next_of end left [] = if left == 0 then Ok None else Err (Ended end)
-next_of end left (line ∷ lines) =
-    if left == 0 then Err (Extra line.number) else ok_or (option_map Some (move_of line.words)) (Bad line.number)
+next_of end left (line ∷ lines) = next_on left line
 
 -- what is read, unless the reader keeps a refusal
 abbrev pub unless_refused : {A : Type 0} → Option CertFault → Result A CertFault → Result A CertFault

@@ -67,12 +67,15 @@ pub(crate) fn read_head(cursor: &mut Cursor<'_>) -> Result<CertHead, CertFault>
     }
     match pass_answer(cursor) {
         Some(answer) => read_head_behind(cursor, answer),
-        None => read_head_line(cursor, None),
+        None => {
+            let line = cursor.line();
+            read_head_line(cursor, line, None)
+        }
     }
 }
 
 /// The answer that stands alone on the present line, and goes past it. Where there is none, nothing changes.
-fn pass_answer(cursor: &mut Cursor<'_>) -> Option<Answer>
+pub(crate) fn pass_answer(cursor: &mut Cursor<'_>) -> Option<Answer>
     requires { IsTrue (is_filled cursor.old.words) }
     ensures answer { result ≡ answer_of cursor.old.words }
     ensures place { cursor.new ≡ (if is_some result then record cursor.old { words = [] } else cursor.old) }
@@ -97,16 +100,20 @@ fn read_head_behind(cursor: &mut Cursor<'_>, answer: Answer) -> Result<CertHead,
             line: cursor.end_line(),
         });
     }
-    read_head_line(cursor, Some(answer))
+    let line = cursor.line();
+    read_head_line(cursor, line, Some(answer))
 }
 
-/// Reads the head on the present line, of which no word was read yet.
-fn read_head_line(cursor: &mut Cursor<'_>, answer: Option<Answer>) -> Result<CertHead, CertFault>
-    ensures head { result ≡ head_in answer (record { number = cursor.old.line; words = cursor.old.words }) }
+/// Reads the head on the present line, which has this number, and of which no word was read yet.
+pub(crate) fn read_head_line(
+    cursor: &mut Cursor<'_>,
+    line: u64,
+    answer: Option<Answer>,
+) -> Result<CertHead, CertFault>
+    ensures head { result ≡ head_in answer (record { number = line; words = cursor.old.words }) }
     ensures place { cursor.new ≡ record cursor.old { words = cursor.new.words } }
     ensures ended { OnOk result (cursor.new.words ≡ []) }
 {
-    let line = cursor.line();
     let Some(head) = read_head_words(cursor) else {
         return Err(CertFault::Bad { line });
     };

@@ -1,8 +1,8 @@
 //! Reading moves.
-ghost use Rattle.std.specs.Prelude.{◌≡◌, List, [], ◌∷◌, ◌<◌, drop, IfOk, IsSome, OnOk, OnSome};
+ghost use Rattle.std.specs.Prelude.{◌≡◌, List, [], ◌∷◌, ◌<◌, drop, None, IfOk, IsSome, OnOk, OnSome};
 ghost use Rattle.text_scan.specs.Unread.{lines_left};
 ghost use Rattle.walk_files.specs.Certificates.{direction_of, spur_of, across_of, move_of};
-ghost use Rattle.walk_files.specs.Readers.{next_of};
+ghost use Rattle.walk_files.specs.Readers.{next_of, next_on};
 
 use crate::fault::CertFault;
 use surf_model::{FaceName, Move, VertexName};
@@ -16,15 +16,35 @@ pub(crate) fn read_next(cursor: &mut Cursor<'_>, to_come: u64) -> Result<Option<
     ensures some { IfOk result (λ mv. IsSome mv → 0 < to_come) }
 {
     if !cursor.find_line() {
-        return if to_come == 0 {
-            Ok(None)
-        } else {
-            Err(CertFault::Ended {
-                line: cursor.end_line(),
-            })
-        };
+        return read_no_line(cursor.end_line(), to_come);
     }
     let line = cursor.line();
+    read_line(cursor, line, to_come)
+}
+
+/// What is given where no line is left, and the text ends at this one.
+pub(crate) fn read_no_line(end_line: u64, to_come: u64) -> Result<Option<Move>, CertFault>
+    ensures answer { result ≡ next_of end_line to_come [] }
+    ensures none { IfOk result (λ mv. mv ≡ None) }
+{
+    if to_come == 0 {
+        Ok(None)
+    } else {
+        Err(CertFault::Ended { line: end_line })
+    }
+}
+
+/// Reads the present line, which has this number, as a move where some are still to come.
+pub(crate) fn read_line(
+    cursor: &mut Cursor<'_>,
+    line: u64,
+    to_come: u64,
+) -> Result<Option<Move>, CertFault>
+    ensures answer { result ≡ next_on to_come (record { number = line; words = cursor.old.words }) }
+    ensures place { cursor.new ≡ record cursor.old { words = cursor.new.words } }
+    ensures ended { OnOk result (cursor.new.words ≡ []) }
+    ensures some { IfOk result (λ mv. IsSome mv → 0 < to_come) }
+{
     if to_come == 0 {
         return Err(CertFault::Extra { line });
     }
