@@ -7,7 +7,7 @@ use crate::ring::Ring;
 use std::alloc::{AllocError, Global};
 use turn_words::Wheel;
 
-/// A cyclically canonical list of spokes that steps lead to from a closed list. It has no more spokes than that.
+/// A cyclically canonical list of spokes that steps lead to from a closed list.
 ///
 /// Where the turn word of the list is canonical, the time is about linear in its length. A list that goes to and fro behind
 /// a long run of turns takes the square, so it is best to take the canonical word of a long walk first.
