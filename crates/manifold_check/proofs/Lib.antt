@@ -9,6 +9,7 @@ pub mod PartPieces
 pub mod NumberLemmas
 pub mod Grouping
 pub mod StoredParts
+pub mod MeasureLemmas
 pub mod WalkLemmas
 pub mod FaultLemmas
 pub mod ComponentLemmas

@@ -4,4 +4,5 @@ pub mod Links
 pub mod Faults
 pub mod Submeshes
 pub mod ComponentParts
+pub mod ComponentNumbers
 pub mod Examples

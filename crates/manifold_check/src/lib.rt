@@ -14,10 +14,12 @@ mod components;
 pub mod fault;
 pub mod laws;
 mod links;
+pub mod measuring;
 mod numbering;
 pub mod part_laws;
 pub mod parts;
 
 pub use check::{check_closed, check_manifold};
 pub use fault::SurfaceFault;
+pub use measuring::{PartNumbers, measure};
 pub use parts::Parts;

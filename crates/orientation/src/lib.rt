@@ -16,6 +16,7 @@ mod listed;
 pub mod orienting;
 mod search;
 mod trees;
+mod waiting;
 
 pub use fault::OrientFault;
 pub use orienting::orient;

@@ -9,7 +9,8 @@ ghost use Rattle.orientation.specs.Classes.{EachEdgeHasAtMostTwoSides, IsLeastKe
 use crate::climb::chain_round;
 use crate::fault::OrientFault;
 use crate::listed::are_listed_coherently;
-use crate::search::{Order, search};
+use crate::search::search;
+use crate::waiting::Order;
 use std::alloc::Global;
 use surf_model::{Faces, Sides, Signs};
 

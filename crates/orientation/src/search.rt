@@ -1,5 +1,5 @@
 //! The search for coherent signs, from face to face across the edges.
-ghost use Rattle.std.specs.Prelude.{◌≡◌, ◌⊎◌, ℕ, ◌<◌, true, false, [], ◌∷◌, ◌++◌, length, OnOk, IfOk, IfSome, IfNone};
+ghost use Rattle.std.specs.Prelude.{◌≡◌, ℕ, ◌<◌, true, false, [], ◌∷◌, length, OnOk, IfOk, IfSome, IfNone};
 ghost use Rattle.surf_model.specs.Edges.{IsTableOf};
 ghost use Rattle.surf_model.specs.Surfaces.{ArePartners, IsCoherent};
 ghost use Rattle.orientation.specs.Classes.{EachEdgeHasAtMostTwoSides, IsLeastKept};
@@ -8,18 +8,9 @@ ghost use Rattle.orientation.specs.Searches.{IsSearch, GoesOn, Extends, IsTear};
 
 use crate::across::{across, run_alike};
 use crate::trees::{Place, Trees};
+use crate::waiting::{Order, Waiting};
 use std::alloc::{AllocError, Global};
-use std::collections::VecDeque;
 use surf_model::{FaceName, Faces, Side, Sides};
-
-/// Which of the faces that wait comes next.
-#[derive(Clone, Copy, Debug)]
-pub(crate) enum Order {
-    /// The one that was found first: the ways from the faces to the first ones of their trees are short.
-    FirstFound,
-    /// The one that was found last: neighbours in the mesh come one after another, which is much faster.
-    LastFound,
-}
 
 /// The two sides of an edge at which the signs of two faces do not fit.
 #[derive(Clone, Copy, Debug, PartialEq, Eq)]
@@ -28,32 +19,19 @@ pub(crate) struct Tear {
     pub other: Side,
 }
 
-/// The face that comes next leaves those that wait.
-fn take(waiting: &mut VecDeque<FaceName>, order: Order) -> Option<FaceName>
-    ensures none { IfNone result (waiting.old.items ≡ []) }
-    ensures unchanged { IfNone result (waiting.new.items ≡ []) }
-    ensures some { IfSome result (λ face. (waiting.old.items ≡ face ∷ waiting.new.items)
-        ⊎ (waiting.old.items ≡ waiting.new.items ++ face ∷ [])) }
-{
-    match order {
-        Order::FirstFound => waiting.pop_front(),
-        Order::LastFound => waiting.pop_back(),
-    }
-}
-
 /// Goes across an edge from a face that was seen. A face that was not seen before joins the tree, with the sign
 /// that fits. Whether the signs of the two faces fit then.
 fn cross(
     trees: &mut Trees,
-    waiting: &mut VecDeque<FaceName>,
+    waiting: &mut Waiting,
     faces: &Faces,
     side: Side,
     other: Side,
 ) -> Result<bool, AllocError>
-    requires search { IsSearch faces.now trees.old (side.face ∷ waiting.old.items) }
+    requires search { IsSearch faces.now trees.old (side.face ∷ waiting.old) }
     requires partners { ArePartners faces.now side other }
-    ensures search { OnOk result (IsSearch faces.now trees.new (side.face ∷ waiting.new.items)) }
-    ensures goes_on { OnOk result (GoesOn trees.old waiting.old.items trees.new waiting.new.items) }
+    ensures search { OnOk result (IsSearch faces.now trees.new (side.face ∷ waiting.new)) }
+    ensures goes_on { OnOk result (GoesOn trees.old waiting.old trees.new waiting.new) }
     ensures fits { IfOk result (λ fits. fits ≡ true
         → (is_seen trees.new other.face.0 ≡ true) × Fit faces.now trees.new.flipped side other) }
     ensures torn { IfOk result (λ fits. fits ≡ false → IsTear faces.now trees.new (record { side = side; other = other })) }
@@ -66,7 +44,7 @@ fn cross(
         depth: trees.place(side.face).depth + 1,
         from: side,
     };
-    waiting.push_back(other.face)?;
+    waiting.push(other.face)?;
     trees.put(other.face, fitting, place);
     Ok(true)
 }
@@ -74,17 +52,17 @@ fn cross(
 /// Goes across all edges of a face that waited.
 fn explore(
     trees: &mut Trees,
-    waiting: &mut VecDeque<FaceName>,
+    waiting: &mut Waiting,
     faces: &Faces,
     sides: &Sides,
     face: FaceName,
 ) -> Result<Option<Tear>, AllocError>
     requires table { IsTableOf faces.now sides.now }
     requires two { EachEdgeHasAtMostTwoSides faces.now }
-    requires search { IsSearch faces.now trees.old (face ∷ waiting.old.items) }
+    requires search { IsSearch faces.now trees.old (face ∷ waiting.old) }
     ensures trees { OnOk result (AreTrees faces.now trees.new) }
-    ensures goes_on { OnOk result (GoesOn trees.old waiting.old.items trees.new waiting.new.items) }
-    ensures search { IfOk result (λ tear. IfNone tear (IsSearch faces.now trees.new waiting.new.items)) }
+    ensures goes_on { OnOk result (GoesOn trees.old waiting.old trees.new waiting.new) }
+    ensures search { IfOk result (λ tear. IfNone tear (IsSearch faces.now trees.new waiting.new)) }
     ensures torn { IfOk result (λ tear. IfSome tear (IsTear faces.now trees.new)) }
 {
     for at in 0..faces.sides(face) {
@@ -101,16 +79,15 @@ fn explore(
 /// Grows the tree of a face, which is the least one that was not seen.
 fn grow(
     trees: &mut Trees,
-    waiting: &mut VecDeque<FaceName>,
+    waiting: &mut Waiting,
     faces: &Faces,
     sides: &Sides,
     root: FaceName,
-    order: Order,
 ) -> Result<Option<Tear>, AllocError>
     requires table { IsTableOf faces.now sides.now }
     requires two { EachEdgeHasAtMostTwoSides faces.now }
     requires search { IsSearch faces.now trees.old [] }
-    requires none_waits { waiting.old.items ≡ [] }
+    requires none_waits { waiting.old ≡ [] }
     requires face { root.0 < length faces.now.faces }
     requires not_seen { is_seen trees.old root.0 ≡ false }
     requires least { (f : ℕ) → f < root.0 → is_seen trees.old f ≡ true }
@@ -118,16 +95,16 @@ fn grow(
     ensures extends { OnOk result (Extends trees.old trees.new) }
     ensures seen { OnOk result (is_seen trees.new root.0 ≡ true) }
     ensures search { IfOk result (λ tear. IfNone tear (IsSearch faces.now trees.new [])) }
-    ensures none_waits { IfOk result (λ tear. IfNone tear (waiting.new.items ≡ [])) }
+    ensures none_waits { IfOk result (λ tear. IfNone tear (waiting.new ≡ [])) }
     ensures torn { IfOk result (λ tear. IfSome tear (IsTear faces.now trees.new)) }
 {
     let place = Place {
         depth: 0,
         from: Side { face: root, at: 0 },
     };
-    waiting.push_back(root)?;
+    waiting.push(root)?;
     trees.put(root, false, place);
-    while let Some(face) = take(waiting, order) {
+    while let Some(face) = waiting.take() {
         if let Some(tear) = explore(trees, waiting, faces, sides, face)? {
             return Ok(Some(tear));
         }
@@ -157,11 +134,11 @@ pub(crate) fn search(
     ensures least_kept { IfOk result (λ found. IfNone found.tear (IsLeastKept faces.now found.trees.flipped)) }
 {
     let mut trees = Trees::new(alloc, faces.len())?;
-    let mut waiting = VecDeque::new(alloc);
+    let mut waiting = Waiting::new(alloc, order);
     for face in 0..faces.len() {
         let root = FaceName(face);
         if !trees.seen(root) {
-            if let Some(tear) = grow(&mut trees, &mut waiting, faces, sides, root, order)? {
+            if let Some(tear) = grow(&mut trees, &mut waiting, faces, sides, root)? {
                 return Ok(Found {
                     trees,
                     tear: Some(tear),

@@ -19,17 +19,17 @@ overflow_add-place c =
     )
 
 outcome : (c : goal.After-put)
-    → Crossed c.args.faces.now c.args.trees.now c.args.waiting.now.items c.args.side c.args.other c.put.new.self c.push_back.new.self.items
+    → Crossed c.args.faces.now c.args.trees.now c.args.waiting.now c.args.side c.args.other c.put.new.self c.push.new.self
 outcome c =
     let sign : Bool = is_flipped c.args.trees.now.flipped c.args.side.face.0 in
     let b : Bool = not (beq c.flipped.result c.run_alike.result) in
     let p : Place = record { depth = c.place.result.depth + 1; from = c.args.side } in
     let is : b ≡ not (beq sign (runs_alike c.args.faces.now c.args.side c.args.other)) =
     ap (λ x. not (beq x c.run_alike.result)) c.flipped.ensures ∙ ap (λ x. not (beq sign x)) c.run_alike.ensures in
-    crossed c.args.faces.now c.args.trees.now c.args.waiting.now.items c.args.side c.args.other b p c.put.new.self
-    c.push_back.new.self.items
+    crossed c.args.faces.now c.args.trees.now c.args.waiting.now c.args.side c.args.other b p c.put.new.self
+    c.push.new.self
     c.requires.search c.requires.partners (sym c.seen.ensures ∙ c.if-seen.false) is refl (ap (λ (q : Place). q.depth + 1) c.place.ensures)
-    c.put.ensures c.in_ok-push_back.ensures.items
+    c.put.ensures c.in_ok-push.ensures.ok
 
 pub returns-clause-search : goal.returns-clause-search
 returns-clause-search c = (outcome c).search

@@ -15,25 +15,25 @@ pub loop-at-preserved : goal.loop-at-preserved
 loop-at-preserved c =
     let mesh = c.args.faces.now in
     let side : Side = record { face = c.args.face; at = c.loop-at.at } in
-    let P : Growth → List FaceName → Type 0 = λ growth waiting. IsExploring mesh c.args.trees.now c.args.waiting.now.items growth
+    let P : Growth → List FaceName → Type 0 = λ growth waiting. IsExploring mesh c.args.trees.now c.args.waiting.now growth
     waiting c.args.face (c.loop-at.at + 1) in
     elim c.match-across.branch [
       | in-Some+in_ok-cross+else-not-branch w ↦
-          (let here : P w.cross.new.trees w.cross.new.waiting.items =
-          exploring_across mesh c.args.trees.now c.args.waiting.now.items c.loop-at.trees c.loop-at.waiting.items side w.in-Some.other
-          w.cross.new.trees w.cross.new.waiting.items
+          (let here : P w.cross.new.trees w.cross.new.waiting =
+          exploring_across mesh c.args.trees.now c.args.waiting.now c.loop-at.trees c.loop-at.waiting side w.in-Some.other
+          w.cross.new.trees w.cross.new.waiting
           c.loop-at.invariant w.in-Some.ensures.1 w.in_ok-cross.ensures.search w.in_ok-cross.ensures.goes_on
           (w.in_ok-cross.ensures.fits w.if-not-branch.false) in
-          subst (λ g. P g c.match-across.waiting.items) (sym w.trees-is) (subst (λ v. P w.cross.new.trees v.items) (sym w.waiting-is) here))
+          subst (λ g. P g c.match-across.waiting) (sym w.trees-is) (subst (λ v. P w.cross.new.trees v) (sym w.waiting-is) here))
       | in_default w ↦
-          (let here : P c.loop-at.trees c.loop-at.waiting.items =
-          exploring_past mesh c.args.trees.now c.args.waiting.now.items c.loop-at.trees c.loop-at.waiting.items side c.loop-at.invariant
+          (let here : P c.loop-at.trees c.loop-at.waiting =
+          exploring_past mesh c.args.trees.now c.args.waiting.now c.loop-at.trees c.loop-at.waiting side c.loop-at.invariant
           w.in_default.ensures in
-          subst (λ g. P g c.match-across.waiting.items) (sym w.trees-is) (subst (λ v. P c.loop-at.trees v.items) (sym w.waiting-is) here))
+          subst (λ g. P g c.match-across.waiting) (sym w.trees-is) (subst (λ v. P c.loop-at.trees v) (sym w.waiting-is) here))
     ]
 
 pub returns-clause-search : goal.returns-clause-search
 returns-clause-search c =
-    exploring_last c.args.faces.now c.args.trees.now c.args.waiting.now.items c.loop-at.trees c.loop-at.waiting.items c.args.face
+    exploring_last c.args.faces.now c.args.trees.now c.args.waiting.now c.loop-at.trees c.loop-at.waiting c.args.face
     c.loop-at.at c.loop-at.invariant
     (omega (arith, c.sides-at-end.ensures, c.loop-at-test.false))

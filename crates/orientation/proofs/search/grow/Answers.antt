@@ -7,13 +7,13 @@ use Rattle.orientation.proofs.search.grow.Goals as goal
 
 pub loop-face-init : goal.loop-face-init
 loop-face-init c =
-    growing_first c.args.faces.now c.args.trees.now c.args.root _ c.put.new.self c.push_back.new.self.items c.requires.search
+    growing_first c.args.faces.now c.args.trees.now c.args.root _ c.put.new.self c.push.new.self c.requires.search
     c.requires.face c.requires.not_seen c.requires.least refl
-    c.put.ensures (c.in_ok-push_back.ensures.items ∙ ap (λ (xs : List FaceName). xs ++ c.args.root ∷ []) c.requires.none_waits)
+    c.put.ensures (c.in_ok-push.ensures.ok ∙ ap (λ (xs : List FaceName). xs ++ c.args.root ∷ []) c.requires.none_waits)
 
 pub explore-requires-clause-search : goal.explore-requires-clause-search
 explore-requires-clause-search c =
-    taken c.args.faces.now c.loop-face.trees c.in-Some.face c.take.new.waiting.items c.loop-face.waiting.items
+    taken c.args.faces.now c.loop-face.trees c.in-Some.face c.take.new.self c.loop-face.waiting
     c.loop-face.invariant.search c.in-Some.ensures.some
 
 pub returns-in-Some-2-clause-extends : goal.returns-in-Some-2-clause-extends
@@ -29,14 +29,14 @@ loop-face-smaller c =
     omega (
       arith,
       c.in_ok-tear.ensures.goes_on.count,
-      length-taken c.in-Some.face c.take.new.waiting.items c.loop-face.waiting.items
+      length-taken c.in-Some.face c.take.new.self c.loop-face.waiting
           c.in-Some.ensures.some,
     )
 
 pub loop-face-preserved : goal.loop-face-preserved
 loop-face-preserved c =
-    growing_more c.args.faces.now c.args.trees.now c.args.root.0 c.loop-face.trees c.loop-face.waiting.items c.explore.new.trees
-    c.explore.new.waiting.items
+    growing_more c.args.faces.now c.args.trees.now c.args.root.0 c.loop-face.trees c.loop-face.waiting c.explore.new.trees
+    c.explore.new.waiting
     c.loop-face.invariant c.in_ok-tear.ensures.goes_on.extends (rw c.in_default-2.is at c.in_ok-tear.ensures.search)
 
 pub returns-clause-search : goal.returns-clause-search

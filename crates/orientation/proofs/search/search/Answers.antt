@@ -7,8 +7,8 @@ use Rattle.orientation.proofs.search.search.Goals.{then-not-seen+in_ok-tear+in_d
 
 pub loop-face-init : goal.loop-face-init
 loop-face-init c =
-    through_none c.args.faces.now c.len.result c.in_ok-trees.trees c.new-waiting.result.items c.len.ensures.valid c.len.ensures.count
-    c.in_ok-trees.ensures c.new-waiting.ensures.items
+    through_none c.args.faces.now c.len.result c.in_ok-trees.trees c.new-waiting.result c.len.ensures.valid c.len.ensures.count
+    c.in_ok-trees.ensures c.new-waiting.ensures
 
 pub seen-requires : goal.seen-requires
 seen-requires c = omega (arith, c.loop-face-test.true, c.len-face-end.ensures.count, c.loop-face.invariant.search.trees.each_face)
@@ -19,25 +19,25 @@ loop-face-preserved c =
     let P : Growth → List FaceName → Type 0 = λ growth waiting. IsThrough mesh growth waiting (c.loop-face.face + 1) in
     elim c.if-not-seen.branch [
       | then-not-seen+in_ok-tear+in_default w ↦
-          (let here : P w.grow.new.trees w.grow.new.waiting.items =
-          through_grown mesh c.loop-face.trees c.loop-face.waiting.items c.loop-face.face w.grow.new.trees w.grow.new.waiting.items
+          (let here : P w.grow.new.trees w.grow.new.waiting =
+          through_grown mesh c.loop-face.trees c.loop-face.waiting c.loop-face.face w.grow.new.trees w.grow.new.waiting
           c.loop-face.invariant
           w.in_ok-tear.ensures.extends w.in_ok-tear.ensures.seen (rw w.in_default.is at w.in_ok-tear.ensures.search)
           (rw w.in_default.is at w.in_ok-tear.ensures.none_waits) in
-          subst (λ g. P g c.if-not-seen.waiting.items) (sym w.trees-is) (subst (λ v. P w.grow.new.trees v.items) (sym w.waiting-is) here))
+          subst (λ g. P g c.if-not-seen.waiting) (sym w.trees-is) (subst (λ v. P w.grow.new.trees v) (sym w.waiting-is) here))
       | else-not-seen w ↦
-          (let here : P c.loop-face.trees c.loop-face.waiting.items =
-          through_seen mesh c.loop-face.trees c.loop-face.waiting.items c.loop-face.face c.loop-face.invariant
+          (let here : P c.loop-face.trees c.loop-face.waiting =
+          through_seen mesh c.loop-face.trees c.loop-face.waiting c.loop-face.face c.loop-face.invariant
           (sym c.seen.ensures ∙ w.if-not-seen.false) in
-          subst (λ g. P g c.if-not-seen.waiting.items) (sym w.trees-is) (subst (λ v. P c.loop-face.trees v.items) (sym w.waiting-is) here))
+          subst (λ g. P g c.if-not-seen.waiting) (sym w.trees-is) (subst (λ v. P c.loop-face.trees v) (sym w.waiting-is) here))
     ]
 
 pub returns-clause-coherent : goal.returns-clause-coherent
 returns-clause-coherent c =
-    (through_all c.args.faces.now c.loop-face.trees c.loop-face.waiting.items c.loop-face.face c.loop-face.invariant
+    (through_all c.args.faces.now c.loop-face.trees c.loop-face.waiting c.loop-face.face c.loop-face.invariant
     (omega (arith, c.loop-face-test.false, c.len-face-end.ensures.count))).0
 
 pub returns-clause-least_kept : goal.returns-clause-least_kept
 returns-clause-least_kept c =
-    (through_all c.args.faces.now c.loop-face.trees c.loop-face.waiting.items c.loop-face.face c.loop-face.invariant
+    (through_all c.args.faces.now c.loop-face.trees c.loop-face.waiting c.loop-face.face c.loop-face.invariant
     (omega (arith, c.loop-face-test.false, c.len-face-end.ensures.count))).1

@@ -1,0 +1,88 @@
+use Rattle.std.proofs.Common.{◌≡◌, ◌+◌, ◌<◌, ℕ, List, get_or, set, length, ap, sym, ◌∙◌, subst, arith}
+use Rattle.std.proofs.lemmas.List.{get_or_read, length-set}
+use Rattle.surf_model.specs.Building.{IsCounted}
+use Rattle.surf_model.specs.Edges.{Edge}
+use Rattle.surf_model.proofs.TallyLemmas.{counted_more, group_of_within}
+use Rattle.manifold_check.proofs.EdgeLemmas.{ends_below}
+use Rattle.manifold_check.proofs.MeasureLemmas.{place_of_edge, low_placed, edges_counted}
+use Rattle.manifold_check.proofs.measuring.count_edges.Goals as goal
+
+pub part_of-requires : goal.part_of-requires
+part_of-requires c =
+    let there : c.loop-edge.edge < length c.args.sides.now = omega (arith, c.loop-edge-test.true, c.len-edge-end.ensures) in
+    let below = ends_below c.args.faces.now c.args.sides.now c.loop-edge.edge c.len.ensures.valid c.requires.table there in
+    omega (arith, below.0, c.ends.ensures.low, c.requires.parts.places.each_vertex)
+
+pub index_mut-requires : goal.index_mut-requires
+index_mut-requires c =
+    let table : List Edge = c.args.sides.now in
+    let parts = c.args.parts.now in
+    let there : c.loop-edge.edge < length table = omega (arith, c.loop-edge-test.true, c.len-edge-end.ensures) in
+    let is : c.part_of.result ≡ place_of_edge table parts c.loop-edge.edge =
+    c.part_of.ensures ∙ ap (λ v. get_or parts.places v 0) c.ends.ensures.low in
+    omega (
+      arith,
+      is,
+      low_placed c.args.faces.now table parts c.loop-edge.edge c.requires.table c.requires.parts there,
+      c.loop-edge.invariant.many,
+      c.loop-edge.counts.ok.0,
+    )
+
+pub overflow_add-index_mut : goal.overflow_add-index_mut
+overflow_add-index_mut c =
+    let table : List Edge = c.args.sides.now in
+    let parts = c.args.parts.now in
+    let place : ℕ = c.part_of.result in
+    let there : c.loop-edge.edge < length table = omega (arith, c.loop-edge-test.true, c.len-edge-end.ensures) in
+    let is : place ≡ place_of_edge table parts c.loop-edge.edge =
+    c.part_of.ensures ∙ ap (λ v. get_or parts.places v 0) c.ends.ensures.low in
+    let inside : place < length c.loop-edge.counts.items =
+    omega (
+      arith,
+      is,
+      low_placed c.args.faces.now table parts c.loop-edge.edge c.requires.table c.requires.parts there,
+      c.loop-edge.invariant.many,
+    ) in
+    let read : c.index_mut.result.now ≡ get_or c.loop-edge.counts.items place 0 =
+    get_or_read c.loop-edge.counts.items place _ inside c.index_mut.ensures.value 0 in
+    omega (
+      arith,
+      read,
+      c.loop-edge.invariant.counted place inside,
+      group_of_within (place_of_edge table parts) place c.loop-edge.edge,
+      c.loop-edge-test.true,
+      c.len-edge-end.type_inv,
+    )
+
+pub loop-edge-preserved : goal.loop-edge-preserved
+loop-edge-preserved c =
+    let table : List Edge = c.args.sides.now in
+    let parts = c.args.parts.now in
+    let place : ℕ = c.part_of.result in
+    let counts : List ℕ = c.loop-edge.counts.items in
+    let there : c.loop-edge.edge < length table = omega (arith, c.loop-edge-test.true, c.len-edge-end.ensures) in
+    let is : place ≡ place_of_edge table parts c.loop-edge.edge =
+    c.part_of.ensures ∙ ap (λ v. get_or parts.places v 0) c.ends.ensures.low in
+    let inside : place < length counts =
+    omega (
+      arith,
+      is,
+      low_placed c.args.faces.now table parts c.loop-edge.edge c.requires.table c.requires.parts there,
+      c.loop-edge.invariant.many,
+    ) in
+    let read : c.index_mut.result.now ≡ get_or counts place 0 = get_or_read counts place _ inside c.index_mut.ensures.value 0 in
+    record {
+      many = length-set counts place (c.index_mut.result.now + 1) ∙ c.loop-edge.invariant.many;
+      counted = subst (λ x. IsCounted (place_of_edge table parts) (c.loop-edge.edge + 1) (set counts place (x + 1))) (sym read)
+          (counted_more (place_of_edge table parts) c.loop-edge.edge place counts (sym is) inside c.loop-edge.invariant.counted);
+    }
+
+pub returns-clause-counted : goal.returns-clause-counted
+returns-clause-counted c = λ k alone l is.
+    let table : List Edge = c.args.sides.now in
+    let parts = c.args.parts.now in
+    let counts : List ℕ = c.loop-edge.counts.items in
+    let all : c.loop-edge.edge ≡ length table = omega (arith, c.loop-edge-test.false, c.len-edge-end.ensures, c.loop-edge.auto.edge-end) in
+    edges_counted c.args.faces.now table parts counts k alone c.requires.table c.requires.parts l
+    (omega (arith, l, c.loop-edge.invariant.many))
+    (subst (λ n. IsCounted (place_of_edge table parts) n counts) all c.loop-edge.invariant.counted) is
