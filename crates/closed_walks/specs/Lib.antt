@@ -1,0 +1,2 @@
+pub mod FreeHomotopy
+pub mod Examples

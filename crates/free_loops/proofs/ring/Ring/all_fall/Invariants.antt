@@ -1,7 +1,0 @@
-use Rattle.std.proofs.Common.{◌≡◌, ◌<◌, ℕ, length}
-use Rattle.turn_words.specs.Modulo.{minus}
-use Rattle.free_loops.specs.Private.Rings.{ring_turn}
-use Rattle.free_loops.proofs.ring.Ring.all_fall.Given as goal
-
-abbrev pub invariant-loop-at : goal.invariant-loop-at
-invariant-loop-at l = (k : ℕ) → k < l.at → ring_turn l.wheel l.self k ≡ minus (length l.wheel) 2

@@ -1,8 +1,0 @@
-use Rattle.free_loops.proofs.Turning_over.{Turning}
-use Rattle.free_loops.proofs.ring.Ring.turn_over.Given as goal
-
-abbrev pub invariant-loop-left : goal.invariant-loop-left
-invariant-loop-left l = Turning l.wheel l.fn.self l.self l.left
-
-abbrev pub decreases-loop-left : goal.decreases-loop-left
-decreases-loop-left l = l.left

@@ -1,0 +1,24 @@
+-- Turns and moves between places below a degree.
+use Rattle.std.proofs.Common.{◌≡◌, ℕ, ◌+◌, ◌-◌, ◌<◌, ◌≤◌, arith, sym, ◌∙◌, ap, ap₂, Bool, false}
+use Rattle.turn_words.specs.Modulo.{add, minus}
+use Rattle.turn_words.specs.Lemmas.Sums.{add-cases, minus-cases}
+use Rattle.turn_words.specs.Lemmas.Sums.{minus-one}
+use Rattle.spoke_rings.specs.Private.Rings.{one_on}
+
+pub turn-on : (d p q from to : ℕ) → from ≡ p → to ≡ q → from < d → to < d → from ≤ to → to - from ≡ add d q (minus d p)
+turn-on d p q from to e f below inside on =
+    omega (arith, minus-cases d from below, add-cases d to (minus d from)) ∙ ap₂ (λ x y. add d x (minus d y)) f e
+
+pub turn-back : (d p q from to : ℕ) → from ≡ p → to ≡ q → from < d → to < d → to < from → d - from + to ≡ add d q (minus d p)
+turn-back d p q from to e f below inside back =
+    omega (arith, minus-cases d from below, add-cases d to (minus d from)) ∙ ap₂ (λ x y. add d x (minus d y)) f e
+
+pub moved-on : (d p by place : ℕ) → place ≡ p → place < d - by → place + by ≡ add d p by
+moved-on d p by place e on = omega (arith, add-cases d p by)
+
+pub moved-round : (d p by place : ℕ) → place ≡ p → by < d → d - by ≤ place → place - (d - by) ≡ add d p by
+moved-round d p by place e below round = omega (arith, add-cases d p by)
+
+-- one place back
+pub one-back : (d : ℕ) (up : Bool) → 5 ≤ d → up ≡ false → d - 1 ≡ one_on d up
+one-back d up five e = (let one = minus-one d five in omega arith) ∙ sym (ap (one_on d) e)

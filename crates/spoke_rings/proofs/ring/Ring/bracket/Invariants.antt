@@ -1,0 +1,10 @@
+use Rattle.std.proofs.Common.{◌≡◌, ◌+◌, ◌-◌, ◌<◌, ◌≤◌, ℕ}
+use Rattle.spoke_rings.specs.Private.Rings.{ring_turn}
+use Rattle.spoke_rings.proofs.ring.Ring.bracket.Given as goal
+
+abbrev pub invariant-loop-twos : goal.invariant-loop-twos
+invariant-loop-twos l =
+    (l.twos + 1 ≤ l.len) × ((i : ℕ) → i < l.twos → ring_turn l.wheel l.self (l.len - 1 - i) ≡ 2)
+
+abbrev pub decreases-loop-twos : goal.decreases-loop-twos
+decreases-loop-twos l = l.len - l.twos

@@ -1,0 +1,42 @@
+use Rattle.std.proofs.Common.{◌≡◌, length, ap, ◌∙◌, ◌-◌, arith}
+use Rattle.turn_words.specs.Modulo.{add}
+use Rattle.turn_words.specs.Spoke_paths.{place_round}
+use Rattle.spoke_rings.proofs.Places.{moved-on, moved-round}
+use Rattle.spoke_rings.proofs.ring.moved.Goals as goal
+use Rattle.spoke_rings.proofs.ring.moved.Goals.{then-place-room, else-place-room}
+
+pub returns-then-at_vertex-clause-place : goal.returns-then-at_vertex-clause-place
+returns-then-at_vertex-clause-place c =
+    let places = c.args.wheel.now in
+    let d = length places in
+    let p = place_round places c.args.at_vertex c.args.spoke in
+    let place = c.place_of-place in
+    let is : c.if-place-room.behind ≡ add d p c.args.by = elim c.if-place-room.branch [
+      | then-place-room w ↦ w.behind-is
+          ∙ moved-on d p c.args.by place.result place.ensures.place (omega (arith, w.if-place-room.true, c.degree.ensures.degree))
+      | else-place-room w ↦ w.behind-is ∙ ap (λ n. place.result - (n - c.args.by)) c.degree.ensures.degree
+          ∙ moved-round d p c.args.by place.result place.ensures.place c.requires.by (omega (
+            arith,
+            w.if-place-room.false,
+            c.degree.ensures.degree,
+          ))
+    ] in
+    ap (λ b. place_round places b c.spoke_at.result.0) c.if-at_vertex.true ∙ c.spoke_at.ensures.place ∙ is
+
+pub returns-else-at_vertex-clause-place : goal.returns-else-at_vertex-clause-place
+returns-else-at_vertex-clause-place c =
+    let places = c.args.wheel.now in
+    let d = length places in
+    let p = place_round places c.args.at_vertex c.args.spoke in
+    let place = c.place_of-place in
+    let is : c.if-place-room.behind ≡ add d p c.args.by = elim c.if-place-room.branch [
+      | then-place-room w ↦ w.behind-is
+          ∙ moved-on d p c.args.by place.result place.ensures.place (omega (arith, w.if-place-room.true, c.degree.ensures.degree))
+      | else-place-room w ↦ w.behind-is ∙ ap (λ n. place.result - (n - c.args.by)) c.degree.ensures.degree
+          ∙ moved-round d p c.args.by place.result place.ensures.place c.requires.by (omega (
+            arith,
+            w.if-place-room.false,
+            c.degree.ensures.degree,
+          ))
+    ] in
+    ap (λ b. place_round places b c.if-place-room.behind) c.if-at_vertex.false ∙ is
