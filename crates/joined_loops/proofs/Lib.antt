@@ -1,0 +1,9 @@
+pub mod Spelling
+pub mod Numbers
+pub mod Times
+pub mod Keeping
+pub mod Going
+pub mod Joining
+pub mod Beginning
+pub mod Settled
+pub mod Rotating
