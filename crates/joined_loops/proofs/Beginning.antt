@@ -1,11 +1,11 @@
 -- A cyclically canonical list that is gone along from the start has its cyclic turns for its word, behind a start direction, and spokes that are
 -- put behind it leave as many of them as one likes.
-use Rattle.std.proofs.Common.{◌≡◌, ℕ, ◌+◌, ◌-◌, ◌%◌, ◌<◌, ◌≤◌, arith, refl, sym, ◌∙◌, ap, subst, zero, suc, true, List, [], ◌∷◌, length, reverse, get_or}
+use Rattle.std.proofs.Common.{◌≡◌, ℕ, ◌+◌, ◌-◌, ◌<◌, ◌≤◌, arith, refl, sym, ◌∙◌, ap, subst, zero, suc, List, [], ◌∷◌, length, reverse}
 use Rattle.std.proofs.lemmas.List.{length-reverse}
-use Rattle.turn_words.specs.Modulo.{add, minus}
+use Rattle.turn_words.specs.Modulo.{add}
 use Rattle.turn_words.specs.Put_turns.{put}
 use Rattle.turn_words.specs.Form_laws.{led}
-use Rattle.turn_words.specs.Hyper_states.{HyperState, empty_state, hyper_next, BelongsTo}
+use Rattle.turn_words.specs.Hyper_states.{empty_state, hyper_next, BelongsTo}
 use Rattle.turn_words.specs.Lemmas.Sums.{add-lt, add-zero}
 use Rattle.turn_words.specs.Lemmas.Word_ends.{IsGood, good-cons}
 use Rattle.turn_words.specs.Lemmas.Put_laws.{put-back}

@@ -1,10 +1,9 @@
 -- A closed list that is gone along again and again: the states on the way, and the row of its cyclic turns that they put along a word.
-use Rattle.std.proofs.Common.{◌≡◌, ℕ, ◌+◌, ◌-◌, ◌%◌, ◌<◌, ◌≤◌, ◌⊎◌, inl, inr, arith, refl, sym, ◌∙◌, ap, ap₂, subst, zero, suc, Bool, true, false, not, List, [], ◌∷◌, ◌++◌, length, reverse, get_or}
-use Rattle.std.proofs.lemmas.Bool.{cases_eq, eq-eqb, ne_eqb}
+use Rattle.std.proofs.Common.{◌≡◌, ℕ, ◌+◌, ◌-◌, ◌%◌, ◌<◌, ◌≤◌, inl, inr, arith, refl, sym, ◌∙◌, ap, ap₂, subst, zero, suc, true, not, List, [], ◌∷◌, length, reverse, get_or}
+use Rattle.std.proofs.lemmas.Bool.{cases_eq}
 use Rattle.std.proofs.lemmas.List.{reverse-reverse}
 use Rattle.turn_words.specs.Modulo.{add, minus}
 use Rattle.turn_words.specs.Put_turns.{Put, put}
-use Rattle.turn_words.specs.Spoke_paths.{place_round}
 use Rattle.turn_words.specs.Form_laws.{led}
 use Rattle.turn_words.specs.Hyper_states.{HyperState, IsEven, turn_to, hyper_next, BelongsTo}
 use Rattle.turn_words.specs.Lemmas.Sums.{add-cases, minus-cases, add-lt, minus-lt}

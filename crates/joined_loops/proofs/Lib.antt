@@ -7,3 +7,7 @@ pub mod Joining
 pub mod Beginning
 pub mod Settled
 pub mod Rotating
+pub mod Stepping
+pub mod Closed_paths
+pub mod Free_walks
+pub mod Flat_walks

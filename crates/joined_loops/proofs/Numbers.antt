@@ -1,6 +1,6 @@
 -- On a full wheel the number of a state that was reached from the start belongs to its word: it tells where the last spoke comes that the
 -- word spells.
-use Rattle.std.proofs.Common.{◌≡◌, ◌≢◌, ℕ, ◌+◌, ◌%◌, ◌<◌, ◌≤◌, inl, inr, arith, refl, sym, ◌∙◌, ap, ap₂, subst, Bool, true, false, not, List, [], ◌∷◌, length, reverse, get_or}
+use Rattle.std.proofs.Common.{◌≡◌, ℕ, ◌%◌, ◌<◌, ◌≤◌, arith, refl, sym, ◌∙◌, ap, ap₂, subst, Bool, true, false, not, List, [], ◌∷◌, All, length, reverse, get_or}
 use Rattle.std.proofs.lemmas.Bool.{eq-eqb, ne_eqb}
 use Rattle.std.proofs.lemmas.List.{reverse-reverse}
 use Rattle.turn_words.specs.Modulo.{add, minus}
@@ -8,15 +8,16 @@ use Rattle.turn_words.specs.Put_turns.{put}
 use Rattle.turn_words.specs.Spoke_paths.{place_round}
 use Rattle.turn_words.specs.Form_laws.{led}
 use Rattle.turn_words.specs.Hyper_states.{HyperState, empty_state, value_at, turn_to, hyper_next, BelongsTo}
-use Rattle.turn_words.specs.Lemmas.Sums.{add-cases, minus-cases, minus-one, add-lt, minus-lt, add-zero, add-minus}
+use Rattle.turn_words.specs.Lemmas.Sums.{add-cases, minus-cases, minus-one, add-lt, minus-lt, add-minus}
 use Rattle.turn_words.specs.Lemmas.Lists.{InRange}
-use Rattle.turn_words.specs.Lemmas.Word_ends.{IsGood, put-flip, put-close, put-else}
+use Rattle.turn_words.specs.Lemmas.From_end.{in-range-from}
+use Rattle.turn_words.specs.Lemmas.Word_ends.{put-flip, put-close, put-else}
 use Rattle.turn_words.specs.Lemmas.Put_laws.{cases, spur, flip, close, other}
-use Rattle.turn_words.specs.Lemmas.Hyper_laws.{good_word, hyper_starts}
+use Rattle.turn_words.specs.Lemmas.Hyper_laws.{hyper_starts}
 use Rattle.turn_words.proofs.Spokes.{Stands, counts-next}
 use Rattle.spoke_rings.specs.Cyclic_words.{IsFullWheel}
 use Rattle.spoke_rings.proofs.Ring_turns.{turn_at, place-below}
-use Rattle.joined_loops.proofs.Spelling.{Spells, Spelled, not-not, by-round, no-turn, last-in, spell-cons, flips, closes}
+use Rattle.joined_loops.proofs.Spelling.{Spells, Spelled, by-round, no-turn, last-in, spell-cons, flips, closes}
 
 -- where the last spoke of a list comes, or 0 where there is none
 abbrev pub number_of : List ℕ → Bool → List ℕ → ℕ
@@ -225,3 +226,17 @@ module _ (places : List ℕ) (full : IsFullWheel places) where
       go false false a b p q = told-once false (reverse t.word) s.number t.number (subst (λ z. Told places false (reverse z) s.number) e p) q
       go true false a b p q = absurd (let long = ap length e in omega arith)
       go false true a b p q = absurd (let long = ap length e in omega arith)
+
+-- lists of spokes that lead from the start to one word lead to one state
+pub one-state : (places first second : List ℕ) → IsFullWheel places → All (λ spoke. spoke < length places) first →
+    All (λ spoke. spoke < length places) second →
+    (led hyper_next places empty_state first).word ≡ (led hyper_next places empty_state second).word →
+    led hyper_next places empty_state first ≡ led hyper_next places empty_state second
+one-state places first second full below other_below e =
+    let d = length places in
+    let s = led hyper_next places empty_state first in
+    let t = led hyper_next places empty_state second in
+    let number = one-number places full s t
+    (led-reached places full empty_state first (start-reached places full) (in-range-from d first below))
+    (led-reached places full empty_state second (start-reached places full) (in-range-from d second other_below)) e in
+    ap₂ (λ w n. record { word = w; number = n }) e number

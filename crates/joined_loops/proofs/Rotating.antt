@@ -1,5 +1,5 @@
 -- On a full wheel joined lists that are cyclically canonical are rotations of one another.
-use Rattle.std.proofs.Common.{◌≡◌, ℕ, ◌+◌, ◌-◌, ◌%◌, ◌<◌, ◌≤◌, inl, inr, arith, refl, sym, ◌∙◌, ap, ap₂, subst, zero, suc, Bool, true, not, List, [], ◌∷◌, ◌++◌, take, drop, length, reverse, get_or}
+use Rattle.std.proofs.Common.{◌≡◌, ℕ, ◌+◌, ◌-◌, ◌%◌, ◌<◌, ◌≤◌, inl, inr, arith, refl, sym, ◌∙◌, ap, ap₂, subst, zero, suc, true, not, List, [], ◌∷◌, ◌++◌, take, drop, length, reverse, get_or}
 use Rattle.std.specs.Prelude.{◌==◌, if◌then◌else◌}
 use Rattle.std.proofs.Math.Seq.{drop-append_seam, take-append_seam}
 use Rattle.std.proofs.lemmas.Grind.{same_number_lists}
@@ -9,7 +9,6 @@ use Rattle.turn_words.specs.Modulo.{add, minus}
 use Rattle.turn_words.specs.Spoke_paths.{place_round}
 use Rattle.turn_words.specs.Form_laws.{led}
 use Rattle.turn_words.specs.Hyper_states.{HyperState, IsEven, empty_state, hyper_next, BelongsTo}
-use Rattle.turn_words.specs.Lemmas.Sums.{add-cases, minus-cases}
 use Rattle.turn_words.specs.Lemmas.Hyper_laws.{hyper_starts}
 use Rattle.turn_words.proofs.Reading.{state}
 use Rattle.settling.specs.Turn_rows.{IsCanonicalRow}

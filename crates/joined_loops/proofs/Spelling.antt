@@ -1,10 +1,10 @@
 -- The spokes that a word spells, both read from their end, and what a push at the end of the list makes of it.
-use Rattle.std.proofs.Common.{◌≡◌, ◌≢◌, ℕ, ◌<◌, ◌≤◌, inl, inr, arith, refl, sym, ◌∙◌, ap, ap₂, subst, Bool, true, false, not, List, [], ◌∷◌, length, get_or}
+use Rattle.std.proofs.Common.{◌≡◌, ◌≢◌, ℕ, ◌<◌, ◌≤◌, inl, inr, arith, refl, sym, ◌∙◌, ap, subst, Bool, true, false, not, List, [], ◌∷◌, length, get_or}
 use Rattle.std.proofs.lemmas.Bool.{cases_eq}
 use Rattle.turn_words.specs.Modulo.{add, minus}
 use Rattle.turn_words.specs.Put_turns.{is_open, flipped, closed}
 use Rattle.turn_words.specs.Spoke_paths.{place_round}
-use Rattle.turn_words.specs.Lemmas.Sums.{add-cases, minus-cases, minus-one, minus-two, add-lt, minus-lt}
+use Rattle.turn_words.specs.Lemmas.Sums.{add-cases, minus-cases, minus-one, minus-two, add-lt}
 use Rattle.turn_words.specs.Lemmas.Word_ends.{flipped-run, flipped-end, open-cases}
 use Rattle.spoke_paths.proofs.Ways.{up-one, down-one, less-one, more-one, turn-up, turn-down}
 use Rattle.spoke_rings.specs.Cyclic_words.{IsFullWheel}
