@@ -1,5 +1,5 @@
--- A cyclically canonical list that is gone along from the start has its cyclic turns for its word, behind a start direction, and spokes that are
--- put behind it leave as many of them as one likes.
+-- A cyclically canonical list that is gone along from the start has its cyclic turns for its word, behind a start direction, and
+-- spokes that are put behind it leave as many of them as one likes.
 use Rattle.std.proofs.Common.{◌≡◌, ℕ, ◌+◌, ◌-◌, ◌<◌, ◌≤◌, arith, refl, sym, ◌∙◌, ap, subst, zero, suc, List, [], ◌∷◌, length, reverse}
 use Rattle.std.proofs.lemmas.List.{length-reverse}
 use Rattle.turn_words.specs.Modulo.{add}
@@ -50,7 +50,8 @@ module _ (places : List ℕ) (full : IsFullWheel places) (a : List ℕ) (loop : 
   word-good : (k : ℕ) → IsGood d (word_of k)
   word-good zero = start_in
   word-good (suc k) =
-      good-cons d (cyclic_turn places a (1 + k)) (word_of k) (upto-cons (cyclic_turn places a) 1 k (start ∷ []) tt) (canonical.below (1 + k))
+      good-cons d (cyclic_turn places a (1 + k)) (word_of k) (upto-cons (cyclic_turn places a) 1 k (start ∷ []) tt)
+      (canonical.below (1 + k))
       (row-follows d n (cyclic_turn places a) five canonical (word_of k) (1 + k)
       (λ one. (let e : 1 + k + 0 ≡ 1 + k = omega arith in
       upto-shut d n (cyclic_turn places a) five canonical 1 0 (start ∷ []) tt (λ q far one twos. refl) k 0 (omega arith)

@@ -40,7 +40,8 @@ quad-append mesh labelling (a ∷ []) x rest =
     ap (λ l. l ++ quad_path mesh labelling (x ∷ rest)) (sym (append-nil (spokes mesh labelling a x)))
 quad-append mesh labelling (a ∷ b ∷ front) x rest =
     ap (λ l. spokes mesh labelling a b ++ l) (quad-append mesh labelling (b ∷ front) x rest)
-    ∙ sym (append_assoc (spokes mesh labelling a b) (quad_path mesh labelling (b ∷ (front ++ x ∷ []))) (quad_path mesh labelling (x ∷ rest)))
+    ∙ sym (append_assoc (spokes mesh labelling a b) (quad_path mesh labelling (b ∷ (front ++ x ∷ [])))
+    (quad_path mesh labelling (x ∷ rest)))
 
 -- a closed walk from its second vertex on
 pub record Turned (walk next : List ℕ) : Type 0 where
@@ -153,8 +154,8 @@ turned-closed mesh walk next closed e =
     subst (IsClosedWalk mesh) (sym t.is) (list-closed mesh t.first t.second t.rest (subst (IsClosedWalk mesh) t.was closed))
 
 -- a step keeps a closed walk closed
-pub step-closed : (mesh : FaceList) (step : FreeStep) (walk next : List ℕ) → IsClosedWalk mesh walk → after_free mesh walk step ≡ Some next →
-    IsClosedWalk mesh next
+pub step-closed : (mesh : FaceList) (step : FreeStep) (walk next : List ℕ) → IsClosedWalk mesh walk →
+    after_free mesh walk step ≡ Some next → IsClosedWalk mesh next
 step-closed mesh (Moved move) walk next closed e =
     let ends = keeps_ends mesh walk next move closed.is_walk.starts e in
     record { is_walk = keeps_walk mesh walk next move closed.is_walk e; closed = sym ends.ends ∙ closed.closed ∙ ends.starts }

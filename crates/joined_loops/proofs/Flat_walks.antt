@@ -43,7 +43,8 @@ sum-append (pair ∷ pairs) q =
     let step = less (unit_step pair.0) (unit_step pair.1) in
     ap (plus step) (sum-append pairs q) ∙ sym (plus-grouped step (sum_of_pairs pairs) (sum q))
 
-module _ (mesh : FaceList) (labelling : LabellingView) (valid : IsFaceList mesh) (good : IsGood mesh labelling) (four : labelling.degree ≡ 4) where
+module _ (mesh : FaceList) (labelling : LabellingView) (valid : IsFaceList mesh) (good : IsGood mesh labelling)
+    (four : labelling.degree ≡ 4) where
   abbrev path : List ℕ → List ℕ
   path = quad_path mesh labelling
 

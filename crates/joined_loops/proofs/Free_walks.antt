@@ -39,8 +39,8 @@ module _ (mesh : FaceList) (labelling : LabellingView) (valid : IsFaceList mesh)
       Joined labelling.places (path walk) (path next)
   step-joined (Moved move) walk next closed e =
       same-joined labelling.places (path walk) (path next) (λ s b even.
-      moves_keep mesh labelling hyper_next (BelongsTo labelling.places) IsEven (hyper-laws labelling.places) valid good (move ∷ []) walk next
-      closed.is_walk (ap (option_and_then (λ w. apply_all mesh w [])) e) s (b, even))
+      moves_keep mesh labelling hyper_next (BelongsTo labelling.places) IsEven (hyper-laws labelling.places) valid good (move ∷ [])
+      walk next closed.is_walk (ap (option_and_then (λ w. apply_all mesh w [])) e) s (b, even))
   step-joined Rotated walk next closed e =
       let last = goes-last mesh labelling walk next closed e in
       let dart = path last.dart in

@@ -20,6 +20,7 @@ use Rattle.spoke_rings.proofs.Along.{along-first, along-round}
 use Rattle.spoke_rings.proofs.Fine.{along-below}
 use Rattle.spoke_rings.proofs.Ring_turns.{stands-even, stands-odd}
 use Rattle.joined_loops.specs.Joined_lists.{JoinedBy}
+use Rattle.joined_loops.proofs.Numbers.{take-back}
 use Rattle.joined_loops.proofs.Times.{times, times-even, later-rounds}
 
 -- a list as some entries of a row
@@ -57,7 +58,8 @@ module _ (places : List ℕ) where
   led-even s q b e loop = let h = led-parity s q b (loop-range places q loop) in let f = loop.even in omega arith
 
   pub led-longer : (s : HyperState) (q : List ℕ) → BelongsTo places s → InRange d q →
-      (length (led hyper_next places s q).word ≤ length s.word + length q) × (length s.word ≤ length (led hyper_next places s q).word + length q)
+      (length (led hyper_next places s q).word ≤ length s.word + length q)
+      × (length s.word ≤ length (led hyper_next places s q).word + length q)
   led-longer s [] b h = (omega arith, omega arith)
   led-longer s (x ∷ q) b h =
       let later = led-longer (hyper_next places s x) q (next_belongs places s x b h.0) h.1 in
@@ -70,7 +72,8 @@ module _ (places : List ℕ) where
   gone a s zero = s
   gone a s (suc j) = hyper_next places (gone a s j) (spoke_along a j)
 
-  gone-entries : (a : List ℕ) (s : HyperState) (j k : ℕ) → led hyper_next places (gone a s j) (entries (spoke_along a) j k) ≡ gone a s (j + k)
+  gone-entries : (a : List ℕ) (s : HyperState) (j k : ℕ) →
+      led hyper_next places (gone a s j) (entries (spoke_along a) j k) ≡ gone a s (j + k)
   gone-entries a s j zero = let e : j ≡ j + 0 = omega arith in ap (gone a s) e
   gone-entries a s j (suc k) =
       let e : j + 1 ≡ suc j = omega arith in
@@ -94,18 +97,6 @@ stands-more j = elim (cases_eq (j % 2) 0) [
   | inr other ↦ ap not (stands-odd true j (omega arith)) ∙ sym (stands-even true (suc j) (omega arith))
 ]
 
--- a number that is taken away twice
-take-back : (d a b : ℕ) → a < d → b < d → b ≡ add d a (minus d (add d a (minus d b)))
-take-back d a b ha hb =
-    let inner = add-lt d a (minus d b) ha (minus-lt d b hb) in
-    omega (
-      arith,
-      minus-cases d b hb,
-      add-cases d a (minus d b),
-      minus-cases d (add d a (minus d b)) inner,
-      add-cases d a (minus d (add d a (minus d b))),
-    )
-
 module _ (places : List ℕ) (full : IsFullWheel places) (a : List ℕ) (loop : IsLoop places a) (some : 0 < length a) where
   -- the spoke before
   abbrev pub spoke_before : ℕ → ℕ
@@ -124,7 +115,8 @@ module _ (places : List ℕ) (full : IsFullWheel places) (a : List ℕ) (loop : 
   pub began-sound : (s : HyperState) → BelongsTo places s → IsSound (length places) (began s)
   began-sound s b = record {
     good = good_word places s b;
-    below = add-lt (length places) _ _ (full.own.wheel.inside (spoke_before 0) (before-in 0)) (minus-lt (length places) s.number b.number_below);
+    below = add-lt (length places) _ _ (full.own.wheel.inside (spoke_before 0) (before-in 0))
+        (minus-lt (length places) s.number b.number_below);
   }
 
   abbrev pub row : ℕ → ℕ
@@ -145,7 +137,7 @@ module _ (places : List ℕ) (full : IsFullWheel places) (a : List ℕ) (loop : 
           stands = even;
           last_below = before-in 0;
           n_below = (began-sound s b).below;
-          number = take-back d (get_or places (spoke_before 0) 0) s.number place_in b.number_below;
+          number = sym (take-back d full.own.five (get_or places (spoke_before 0) 0) s.number place_in b.number_below);
         };
         word = refl;
       }
@@ -160,12 +152,13 @@ module _ (places : List ℕ) (full : IsFullWheel places) (a : List ℕ) (loop : 
       let q = along d (began s) row j in
       let turn : add d (row j) q.change ≡ turn_to places now i = counts-turn places now v (spoke_before j) q.change i c i_in in
       let same : put d (reverse now.word) (turn_to places now i) ≡ along d (began s) row (suc j) = ap₂ (put d) before.word (sym turn) in
+      let after = gone places a s (suc j) in
+      let change = (put d (reverse now.word) (turn_to places now i)).change in
       let next = counts-next places now v i c.belongs c.stands i_in in
-      let moved = subst (λ w. Counts places (gone places a s (suc j)) w i (put d (reverse now.word) (turn_to places now i)).change) (stands-more j) next in
-      let from = subst (λ k. Counts places (gone places a s (suc j)) (stands_before true (suc j)) k (put d (reverse now.word) (turn_to places now i)).change)
-      (sym (before-next j)) moved in
+      let moved = subst (λ w. Counts places after w i change) (stands-more j) next in
+      let from = subst (λ k. Counts places after (stands_before true (suc j)) k change) (sym (before-next j)) moved in
       record {
-        counts = subst (λ p. Counts places (gone places a s (suc j)) (stands_before true (suc j)) (spoke_before (suc j)) p.change) same from;
+        counts = subst (λ p. Counts places after (stands_before true (suc j)) (spoke_before (suc j)) p.change) same from;
         word = reverse-reverse (put d (reverse now.word) (turn_to places now i)).word ∙ ap (λ p. p.word) same;
       }
 

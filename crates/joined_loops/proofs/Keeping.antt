@@ -1,5 +1,5 @@
--- A put does not reach behind a turn that is neither 2 nor -2, nor behind a 2 that no bracket is open at. Such a turn comes in each round of a
--- canonical row, so a put takes away one round of a word at most. Words are read from their end.
+-- A put does not reach behind a turn that is neither 2 nor -2, nor behind a 2 that no bracket is open at. Such a turn comes in each
+-- round of a canonical row, so a put takes away one round of a word at most. Words are read from their end.
 use Rattle.std.proofs.Common.{◌≡◌, ◌≢◌, ℕ, ◌+◌, ◌-◌, ◌<◌, ◌≤◌, ◌⊎◌, inl, inr, arith, refl, sym, ◌∙◌, ap, subst, zero, suc, true, false, List, [], ◌∷◌, ◌++◌, length, reverse, append_assoc}
 use Rattle.std.proofs.lemmas.Bool.{cases_eq}
 use Rattle.std.proofs.lemmas.List.{reverse-reverse}
@@ -71,7 +71,7 @@ module _ (d : ℕ) (five : 5 ≤ d) where
   spur-keeps [] x y r = record { front = y ∷ []; is = refl }
   spur-keeps (z ∷ f) x y r = stays f x y r
 
-  put-keeps : (f : List ℕ) (x y : ℕ) (r : List ℕ) (t : ℕ) → x ≢ minus d 2 → (x ≡ 2 → is_open (y ∷ r) ≡ false) →
+  pub put-keeps : (f : List ℕ) (x y : ℕ) (r : List ℕ) (t : ℕ) → x ≢ minus d 2 → (x ≡ 2 → is_open (y ∷ r) ≡ false) →
       EndsIn (put d (f ++ x ∷ y ∷ r) t).word r
   put-keeps f x y r t not_fall shut = elim (cases d five (f ++ x ∷ y ∷ r) t) [
     | spur e ↦ rw e (spur-keeps f x y r)
@@ -177,7 +177,8 @@ module _ (d : ℕ) (five : 5 ≤ d) where
         let some = a.some in
         let i = far - 2 in
         let at : far ≡ suc (suc i) = omega arith in
-        let here : row (1 + suc i) ≡ row (a.first + times n (suc c)) = (let f : 1 + suc i ≡ a.first + times n (suc c) = omega arith in ap row f) in
+        let f : 1 + suc i ≡ a.first + times n (suc c) = omega arith in
+        let here : row (1 + suc i) ≡ row (a.first + times n (suc c)) = ap row f in
         let split : r ≡ e.front ++ row (1 + suc i) ∷ row (1 + i) ∷ begins i = e.is ∙ ap (λ m. e.front ++ begins m) at in
         let kept = put-keeps e.front (row (1 + suc i)) (row (1 + i)) (begins i) t (λ h. a.no_fall (suc c) (sym here ∙ h))
         (λ h. a.shut (suc c) (suc i) (sym here ∙ h)) in

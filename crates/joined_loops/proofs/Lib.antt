@@ -11,3 +11,4 @@ pub mod Stepping
 pub mod Closed_paths
 pub mod Free_walks
 pub mod Flat_walks
+pub mod Rounds_kept

@@ -31,7 +31,7 @@ pub record Told (places : List ℕ) (v : Bool) (word : List ℕ) (number : ℕ) 
   pub is : number ≡ number_of places v spokes
 
 module _ (d : ℕ) (five : 5 ≤ d) where
-  take-back : (a b : ℕ) → a < d → b < d → add d a (minus d (add d a (minus d b))) ≡ b
+  pub take-back : (a b : ℕ) → a < d → b < d → add d a (minus d (add d a (minus d b))) ≡ b
   take-back a b ha hb =
       let inner = add-lt d a (minus d b) ha (minus-lt d b hb) in
       omega (
@@ -102,7 +102,8 @@ module _ (places : List ℕ) (full : IsFullWheel places) where
         spokes = k ∷ q;
         spells = s.2;
         is = ap₂ (λ y z. add d (place_round places (not v) y) (minus d z)) e s.1
-            ∙ take-back d five (place_round places (not v) l) (place_round places (not v) k) (round_in (not v) l s.0) (round_in (not v) k k_in);
+            ∙ take-back d five (place_round places (not v) l) (place_round places (not v) k) (round_in (not v) l s.0)
+            (round_in (not v) k k_in);
       }
 
   -- a spoke that is put behind others
@@ -222,8 +223,10 @@ module _ (places : List ℕ) (full : IsFullWheel places) where
     where
       go : (v w : Bool) → Stands s.word v → Stands t.word w → Told places v (reverse s.word) s.number →
           Told places w (reverse t.word) t.number → s.number ≡ t.number
-      go true true a b p q = told-once true (reverse t.word) s.number t.number (subst (λ z. Told places true (reverse z) s.number) e p) q
-      go false false a b p q = told-once false (reverse t.word) s.number t.number (subst (λ z. Told places false (reverse z) s.number) e p) q
+      go true true a b p q =
+          told-once true (reverse t.word) s.number t.number (subst (λ z. Told places true (reverse z) s.number) e p) q
+      go false false a b p q =
+          told-once false (reverse t.word) s.number t.number (subst (λ z. Told places false (reverse z) s.number) e p) q
       go true false a b p q = absurd (let long = ap length e in omega arith)
       go false true a b p q = absurd (let long = ap length e in omega arith)
 

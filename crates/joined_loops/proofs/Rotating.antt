@@ -17,7 +17,7 @@ use Rattle.spoke_rings.specs.Cyclic_words.{IsLoop, IsFullWheel, IsCyclicallyCano
 use Rattle.spoke_rings.specs.Rotations.{IsRotation}
 use Rattle.spoke_rings.proofs.Along.{along-first, along-round, rotated, rotated-length, rotated-along}
 use Rattle.spoke_rings.proofs.Fine.{along-below}
-use Rattle.spoke_rings.proofs.Ring_turns.{place-below, stands-even}
+use Rattle.spoke_rings.proofs.Ring_turns.{turn_at, place-below, stands-even}
 use Rattle.joined_loops.specs.Joined_lists.{JoinedBy, Joined}
 use Rattle.joined_loops.proofs.Times.{times, times-some, times-add, times-even, later-rounds}
 use Rattle.joined_loops.proofs.Spelling.{by-round}
@@ -32,14 +32,18 @@ use Rattle.joined_loops.proofs.Settled.{behind, behind-belongs, behind-even, bot
 ends-once : (f g u v : List ℕ) → f ++ u ≡ g ++ v → length u ≡ length v → u ≡ v
 ends-once [] [] u v e long = e
 ends-once [] (y ∷ g) u v e long =
-    absurd (let whole = ap length e in let more = length-append (y ∷ g) v in let some : length (y ∷ g) ≡ length g + 1 = omega arith in omega arith)
+    let some : length (y ∷ g) ≡ length g + 1 = omega arith in
+    absurd (let whole = ap length e in let more = length-append (y ∷ g) v in omega arith)
 ends-once (x ∷ f) [] u v e long =
-    absurd (let whole = ap length e in let more = length-append (x ∷ f) u in let some : length (x ∷ f) ≡ length f + 1 = omega arith in omega arith)
+    let some : length (x ∷ f) ≡ length f + 1 = omega arith in
+    absurd (let whole = ap length e in let more = length-append (x ∷ f) u in omega arith)
 ends-once (x ∷ f) (y ∷ g) u v e long = let rest : f ++ u ≡ g ++ v = cc in ends-once f g u v rest long
 
 upto-ends : (f : ℕ → ℕ) (m g : ℕ) (u : List ℕ) → EndsIn (upto f m g u) u
 upto-ends f m zero u = record { front = []; is = refl }
-upto-ends f m (suc g) u = let before = upto-ends f m g u in record { front = f (m + g) ∷ before.front; is = ap (λ w. f (m + g) ∷ w) before.is }
+upto-ends f m (suc g) u =
+    let before = upto-ends f m g u in
+    record { front = f (m + g) ∷ before.front; is = ap (λ w. f (m + g) ∷ w) before.is }
 
 -- entries of two rows in front of two words
 record Agree (f g : ℕ → ℕ) (m n k : ℕ) (u v : List ℕ) : Type 0 where
@@ -107,7 +111,8 @@ gone-reached : (places : List ℕ) (full : IsFullWheel places) (a : List ℕ) �
     Reached places full s → (j : ℕ) → Reached places full (gone places a s j)
 gone-reached places full a loop some s h zero = h
 gone-reached places full a loop some s h (suc j) =
-    next-reached places full (gone places a s j) (spoke_along a j) (gone-reached places full a loop some s h j) (along-below places a loop some j)
+    next-reached places full (gone places a s j) (spoke_along a j) (gone-reached places full a loop some s h j)
+    (along-below places a loop some j)
 
 module _ (places : List ℕ) (full : IsFullWheel places) (a b q : List ℕ) (a_loop : IsLoop places a) (b_loop : IsLoop places b)
     (a_some : 0 < length a) (b_some : 0 < length b) (a_canonical : IsCanonicalRow (length places) (length a) (cyclic_turn places a))
@@ -229,7 +234,8 @@ module _ (places : List ℕ) (full : IsFullWheel places) (a b q : List ℕ) (a_l
     same-number =
         one-number places full left_state right_state
         (gone-reached places full a a_loop a_some empty_state (start-reached places full) l)
-        (gone-reached places full b b_loop b_some s0 (led-reached places full empty_state q (start-reached places full) (loop-range places q joined.loop)) from)
+        (gone-reached places full b b_loop b_some s0
+        (led-reached places full empty_state q (start-reached places full) (loop-range places q joined.loop)) from)
         (sym (reverse-reverse left_state.word) ∙ ap reverse (left-word ∙ middle.words ∙ sym right-word) ∙ reverse-reverse right_state.word)
 
     -- at the vertex and with no change, the number tells where the spoke before comes
@@ -259,7 +265,8 @@ module _ (places : List ℕ) (full : IsFullWheel places) (a b q : List ℕ) (a_l
         (ap (λ i. (along d (began places full a a_loop a_some empty_state) row_a i).change) e
         ∙ ap (λ p. p.change) (word-along places full a a_loop a_some a_canonical (l - 1))) in
         let right = number-is b b_loop b_some s0 s0_belongs s0_even from even-from (ap (λ p. p.change) settled-now) in
-        full.own.wheel.once (before_a l) (before_b from) (before-in places full a a_loop a_some l) (before-in places full b b_loop b_some from)
+        full.own.wheel.once (before_a l) (before_b from) (before-in places full a a_loop a_some l)
+        (before-in places full b b_loop b_some from)
         (sym left ∙ same-number ∙ right)
 
     -- the spokes agree turn by turn
@@ -275,12 +282,13 @@ module _ (places : List ℕ) (full : IsFullWheel places) (a b q : List ℕ) (a_l
         let y_in = along-below places b b_loop b_some (from + i) in
         let z_in = before-in places full b b_loop b_some (from + i) in
         let stands : stands_before true (from + i) ≡ v = stands-same (from + i) (l + i) (omega arith) in
-        let turn : add d (place_round places v x) (minus d (place_round places v z)) ≡ add d (place_round places v y) (minus d (place_round places v z)) =
+        let turn : turn_at places v z x ≡ turn_at places v z y =
         ap (λ k. add d (place_round places v x) (minus d (place_round places v k))) (sym before) ∙ middle.rows i below
         ∙ ap (λ w. add d (place_round places w y) (minus d (place_round places w z))) stands in
         by-round places full v x y x_in y_in
         (same-turn d full.own.five (place_round places v x) (place_round places v y) (place_round places v z)
-        (place-below places v x full.own.wheel x_in) (place-below places v y full.own.wheel y_in) (place-below places v z full.own.wheel z_in) turn)
+        (place-below places v x full.own.wheel x_in) (place-below places v y full.own.wheel y_in)
+        (place-below places v z full.own.wheel z_in) turn)
 
     all-same : (i : ℕ) → i ≤ length a → before_a (l + i) ≡ before_b (from + i)
     all-same zero within =
@@ -330,7 +338,8 @@ no-spokes [] e = refl
 no-spokes (x ∷ a) e = absurd (omega arith)
 
 -- the turns of a list with spokes
-turns-of : (places a : List ℕ) → IsCyclicallyCanonical places a → 0 < length a → IsCanonicalRow (length places) (length a) (cyclic_turn places a)
+turns-of : (places a : List ℕ) → IsCyclicallyCanonical places a → 0 < length a →
+    IsCanonicalRow (length places) (length a) (cyclic_turn places a)
 turns-of places a c some = elim c [
   | inl none ↦ absurd (let e = ap length none in omega arith)
   | inr canonical ↦ canonical
@@ -346,7 +355,8 @@ module _ (places : List ℕ) (full : IsFullWheel places) where
       let s = gone places a empty_state (times (length a) j) in
       let size = word-length places full a loop some (turns-of places a canonical some) (times (length a) j) in
       let far = times-some (length a) j some in
-      let to = led-longer places s q (gone-belongs places full a loop some empty_state belongs refl (times (length a) j)) (loop-range places q joined.1.loop) in
+      let there = gone-belongs places full a loop some empty_state belongs refl (times (length a) j) in
+      let to = led-longer places s q there (loop-range places q joined.1.loop) in
       let from = led-longer places empty_state q belongs (loop-range places q joined.1.loop) in
       let is = ap (λ t. length t.word) (meets places full a b q loop some joined.1 empty_state belongs refl j) in
       let still = ap (λ i. length (gone places b (led hyper_next places empty_state q) i).word) (times-none (length b) j none) in
@@ -377,8 +387,8 @@ module _ (places : List ℕ) (full : IsFullWheel places) where
         ]
   ]
 
-  pub joined-rotations : (a b : List ℕ) → IsLoop places a → IsLoop places b → IsCyclicallyCanonical places a → IsCyclicallyCanonical places b →
-      Joined places a b → IsRotation a b
+  pub joined-rotations : (a b : List ℕ) → IsLoop places a → IsLoop places b → IsCyclicallyCanonical places a →
+      IsCyclicallyCanonical places b → Joined places a b → IsRotation a b
   joined-rotations a b a_loop b_loop a_canonical b_canonical joined = elim (cases_lt (length a) (length b)) [
     | inr longer ↦ longer-first a b a_loop b_loop a_canonical b_canonical joined longer
     | inl shorter ↦

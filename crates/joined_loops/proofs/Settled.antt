@@ -23,6 +23,15 @@ upto-append f m g (suc i) rest =
     let h : m + (g + i) ≡ m + g + i = omega arith in
     ap (λ k. upto f m k rest) e ∙ ap (λ k. f k ∷ upto f m (g + i) rest) h ∙ ap (λ l. f (m + g + i) ∷ l) (upto-append f m g i rest)
 
+-- from a later place on, each turn is only put last too
+stays-later : (f : ℕ → ℕ) (at : ℕ → Put) (t g m : ℕ) (word : List ℕ) → t + g ≡ m → ((k : ℕ) → at (t + k) ≡ state (upto f t k word) 0) →
+    (i : ℕ) → at (m + i) ≡ state (upto f m i (upto f t g word)) 0
+stays-later f at t g m word e is i =
+    let later : m + i ≡ t + (g + i) = omega arith in
+    let words : upto f t (g + i) word ≡ upto f m i (upto f t g word) =
+    upto-append f t g i word ∙ ap (λ k. upto f k i (upto f t g word)) e in
+    ap at later ∙ is (g + i) ∙ ap (λ w. state w 0) words
+
 module _ (places : List ℕ) (full : IsFullWheel places) (a b q : List ℕ) (a_loop : IsLoop places a) (b_loop : IsLoop places b)
     (a_some : 0 < length a) (b_some : 0 < length b) (a_canonical : IsCanonicalRow (length places) (length a) (cyclic_turn places a))
     (b_canonical : IsCanonicalRow (length places) (length b) (cyclic_turn places b)) (joined : JoinedBy places a b q)
@@ -46,7 +55,7 @@ module _ (places : List ℕ) (full : IsFullWheel places) (a b q : List ℕ) (a_l
   pub behind-even : IsEven behind
   behind-even = led-even places empty_state q start_belongs refl joined.loop
 
-  -- behind so many rounds of the one list and then the joining list, the state is that behind the joining list and so many rounds of the other
+  -- so many rounds of the one list and then the joining list lead where the joining list and so many rounds of the other lead
   pub both : (j : ℕ) → led hyper_next places (gone places a empty_state (times (length a) j)) q ≡ gone places b behind (times (length b) j)
   both = meets places full a b q a_loop a_some joined empty_state start_belongs refl
 
@@ -130,11 +139,7 @@ module _ (places : List ℕ) (full : IsFullWheel places) (a b q : List ℕ) (a_l
         rounds = m;
         word = upto row t g (put_at t).word;
         long = omega arith;
-        is = λ i. (
-            let f : times (length b) m + i ≡ t + (g + i) = omega arith in
-            ap put_at f ∙ found.2.is (g + i)
-            ∙ ap (λ w. state w 0) (upto-append row t g i (put_at t).word ∙ ap (λ k. upto row k i (upto row t g (put_at t).word)) e)
-            );
+        is = stays-later row put_at t g (times (length b) m) (put_at t).word e found.2.is;
       }
 
   -- the lists have one length

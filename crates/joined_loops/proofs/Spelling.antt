@@ -31,7 +31,13 @@ module _ (d : ℕ) (five : 5 ≤ d) where
   back-on x h = omega (arith, minus-one d five, add-cases d x (minus d 1), add-cases d (add d x (minus d 1)) 1)
 
   turn-less : (x : ℕ) → x < d → add d (add d x (minus d 1)) (minus d x) ≡ minus d 1
-  turn-less x h = omega (arith, minus-one d five, minus-cases d x h, add-cases d x (minus d 1), add-cases d (add d x (minus d 1)) (minus d x))
+  turn-less x h = omega (
+    arith,
+    minus-one d five,
+    minus-cases d x h,
+    add-cases d x (minus d 1),
+    add-cases d (add d x (minus d 1)) (minus d x),
+  )
 
   turn-more : (x : ℕ) → x < d → add d x (minus d (add d x (minus d 1))) ≡ 1
   turn-more x h =
@@ -161,7 +167,8 @@ module _ (places : List ℕ) (full : IsFullWheel places) where
         new_spoke = add d a 1;
         last_in = a_in;
         spoke_in = next_in a a_in;
-        first = sym (ap (λ x. add d (place x) 1) (sym is) ∙ ap (λ x. add d x 1) q.quad.c_place ∙ back-on d five (place a) (place_in a a_in));
+        first = sym (ap (λ x. add d (place x) 1) (sym is) ∙ ap (λ x. add d x 1) q.quad.c_place
+            ∙ back-on d five (place a) (place_in a a_in));
         turn = turn-up d four a a_in;
         second = q.quad.a_place;
       }
@@ -198,7 +205,8 @@ module _ (places : List ℕ) (full : IsFullWheel places) where
         spoke_in = c_in;
         first = q.quad.a_place;
         turn = turn-down d four c c_in;
-        second = sym (ap (λ x. add d (place x) 1) (sym is) ∙ ap (λ x. add d x 1) q.quad.c_place ∙ back-on d five (place c) (place_in c c_in));
+        second = sym (ap (λ x. add d (place x) 1) (sym is) ∙ ap (λ x. add d x 1) q.quad.c_place
+            ∙ back-on d five (place c) (place_in c c_in));
       }
 
   -- the last spoke of a list is one of the wheel

@@ -75,7 +75,8 @@ module _ (places : List ℕ) (own : IsHyperWheel places) where
       rw (turn-of a c up at (not v) x inner.0 inner.1) (ap Some inner.2)
 
   -- a spur that comes can go again
-  spur-back : (k at : ℕ) (v : Bool) (x y : List ℕ) → from_spoke at v (λ at_vertex. spur_comes places k) x ≡ Some y → InRange (length places) x →
+  spur-back : (k at : ℕ) (v : Bool) (x y : List ℕ) → from_spoke at v (λ at_vertex. spur_comes places k) x ≡ Some y →
+      InRange (length places) x →
       (from_spoke at v (λ at_vertex. spur_goes) y ≡ Some x) × InRange (length places) y
   spur-back k zero v x y e range = elim (cases_lt k (length places)) [
     | inl inside ↦

@@ -53,8 +53,8 @@ pub fn joined_canonical_lists_are_rotations()
         IsRotation first second }
 {}
 
-/// Under a good labelling of any mesh, freely homotopic closed walks have joined quad paths. It tells something over a degree from 5 on, where
-/// the wheel has states.
+/// Under a good labelling of any mesh, freely homotopic closed walks have joined quad paths. It tells something over a degree from 5
+/// on, where the wheel has states.
 pub fn freely_homotopic_walks_have_joined_paths()
     ensures { (mesh : FaceList) (labelling : LabellingView) (first second : List ℕ) → IsFaceList mesh → IsGood mesh labelling
         → IsClosedWalk mesh first → FreelyHomotopic mesh first second
