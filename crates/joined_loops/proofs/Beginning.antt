@@ -15,8 +15,8 @@ use Rattle.settling.specs.Turn_rows.{IsCanonicalRow}
 use Rattle.settling.proofs.Rows.{along, upto, upto-cons}
 use Rattle.settling.proofs.Settling.{upto-shut, row-follows}
 use Rattle.spoke_rings.specs.Cyclic_words.{IsLoop, IsFullWheel, cyclic_turn}
-use Rattle.joined_loops.proofs.Times.{times, times-some}
-use Rattle.joined_loops.proofs.Keeping.{EndsIn, ends-later, begins, begins-ends, anchors, led-rounds}
+use Rattle.joined_loops.proofs.Times.{times, times-some, times-add}
+use Rattle.joined_loops.proofs.Keeping.{EndsIn, ends-later, begins, begins-ends, Anchors, anchors, led-rounds}
 use Rattle.joined_loops.proofs.Going.{gone, began, began-sound, rowed}
 
 pub upto-length : (f : ℕ → ℕ) (m k : ℕ) (rest : List ℕ) → length (upto f m k rest) ≡ length rest + k
@@ -31,7 +31,7 @@ module _ (places : List ℕ) (full : IsFullWheel places) (a : List ℕ) (loop : 
   abbrev n : ℕ
   n = length a
 
-  five : 5 ≤ d
+  abbrev five : 5 ≤ d
   five = full.own.five
 
   start_belongs : BelongsTo places empty_state
@@ -79,29 +79,55 @@ module _ (places : List ℕ) (full : IsFullWheel places) (a : List ℕ) (loop : 
       let one : length (start ∷ []) ≡ 1 = refl in
       omega arith
 
-  -- behind so many rounds and some spokes, the word begins as it began
+  -- a place in each round that no put reaches behind
+  abbrev found : Anchors d full.own.five n (cyclic_turn places a) canonical start
+  found = anchors d full.own.five n (cyclic_turn places a) canonical start
+
+  -- the word of so many rounds but two, behind the first such place
+  abbrev pub first_rounds : ℕ → List ℕ
+  first_rounds j = word_of (found.first + times n j)
+
+  pub rounds-length : (j : ℕ) → times n j + 2 ≤ length (first_rounds j)
+  rounds-length j =
+      let long = upto-length (cyclic_turn places a) 1 (found.first + times n j) (start ∷ []) in
+      let one : length (start ∷ []) ≡ 1 = refl in
+      let least = found.some in
+      omega arith
+
+  pub rounds-ends : (j m : ℕ) → m ≤ found.first + times n j → EndsIn (first_rounds j) (word_of m)
+  rounds-ends j m within =
+      let left = found.first + times n j - m in
+      let e : m + left ≡ found.first + times n j = omega arith in
+      subst (λ i. EndsIn (word_of i) (word_of m)) e (begins-ends d five n (cyclic_turn places a) canonical start m left)
+
+  pub earlier-rounds : (i j : ℕ) → EndsIn (first_rounds (i + j)) (first_rounds j)
+  earlier-rounds i j =
+      let sum = times-add n i j in
+      rounds-ends (i + j) (found.first + times n j) (omega arith)
+
+  pub rounds-begin : (j : ℕ) → EndsIn (reverse (gone places a empty_state (times n (j + 2))).word) (first_rounds j)
+  rounds-begin j =
+      let e : j + 2 ≡ suc (suc j) = omega arith in
+      let same = ap (times n) e in
+      let within = found.within in
+      let from = found.first + times n j in
+      let rest = times n j + n + n - 1 - from in
+      let f : suc (from + rest) ≡ times n (j + 2) = omega arith in
+      subst (λ i. EndsIn (reverse (gone places a empty_state i).word) (word_of from)) f
+      (subst (λ w. EndsIn w (word_of from)) (sym (word-is (from + rest)))
+      (begins-ends d five n (cyclic_turn places a) canonical start from rest))
+
+  -- spokes that are put behind rounds take away one round each at most
+  pub rounds-kept : (q : List ℕ) (c : ℕ) →
+      EndsIn (reverse (led hyper_next places (gone places a empty_state (times n (length q + c + 2))) q).word) (first_rounds c)
+  rounds-kept q c =
+      let even = loop.even in
+      led-rounds places five n (cyclic_turn places a) canonical start found (omega arith)
+      (gone places a empty_state (times n (length q + c + 2))) q c (rounds-begin (length q + c))
+
+  -- so the word begins as it began, as far as one likes
   pub word-kept : (q : List ℕ) (m : ℕ) →
       EndsIn (reverse (led hyper_next places (gone places a empty_state (times n (length q + suc m + 2))) q).word) (word_of (m + n))
   word-kept q m =
-      let found = anchors d five n (cyclic_turn places a) canonical start in
-      let k = length q in
-      let even = loop.even in
-      let c = suc m in
-      let from = found.first + times n (k + c) in
-      let e : k + suc m + 2 ≡ suc (suc (k + c)) = omega arith in
-      let within = found.within in
-      let least = found.some in
-      let whole : times n (suc (suc (k + c))) ≡ times n (k + c) + n + n = refl in
-      let rest = times n (k + c) + n + n - 1 - from in
-      let f : suc (from + rest) ≡ times n (k + suc m + 2) = (let g = ap (times n) e in omega arith) in
-      let before : EndsIn (reverse (gone places a empty_state (times n (k + suc m + 2))).word) (word_of from) =
-      subst (λ i. EndsIn (reverse (gone places a empty_state i).word) (word_of from)) f
-      (subst (λ w. EndsIn w (word_of from)) (sym (word-is (from + rest)))
-      (begins-ends d five n (cyclic_turn places a) canonical start from rest)) in
-      let kept = led-rounds places five n (cyclic_turn places a) canonical start found (omega arith)
-      (gone places a empty_state (times n (k + suc m + 2))) q c before in
-      let some_rounds = times-some n m some in
-      let left = found.first + times n c - (m + n) in
-      let h : m + n + left ≡ found.first + times n c = omega arith in
-      ends-later _ _ _ kept
-      (subst (λ i. EndsIn (word_of i) (word_of (m + n))) h (begins-ends d five n (cyclic_turn places a) canonical start (m + n) left))
+      let far = times-some n m some in
+      ends-later _ _ _ (rounds-kept q (suc m)) (rounds-ends (suc m) (m + n) (omega arith))

@@ -6,7 +6,7 @@ use Rattle.turn_words.specs.Modulo.{add, minus}
 use Rattle.turn_words.specs.Put_turns.{Put, put}
 use Rattle.turn_words.specs.Form_laws.{led}
 use Rattle.turn_words.specs.Hyper_states.{HyperState, IsEven, turn_to, hyper_next, BelongsTo}
-use Rattle.turn_words.specs.Lemmas.Sums.{add-cases, minus-cases, add-lt, minus-lt}
+use Rattle.turn_words.specs.Lemmas.Sums.{add-lt, minus-lt}
 use Rattle.turn_words.specs.Lemmas.Lists.{InRange}
 use Rattle.turn_words.specs.Lemmas.From_end.{in-range-from}
 use Rattle.turn_words.specs.Lemmas.Hyper_laws.{good_word, next_belongs, length-next}

@@ -73,6 +73,12 @@ record Within (a : List ℕ) (l : ℕ) : Type 0 where
   within : count ≤ length a
   same : (i : ℕ) → spoke_along a (l + i) ≡ spoke_along a (count + i)
 
+one-round-less : (a : List ℕ) (l c : ℕ) → length a < l → ((i : ℕ) → spoke_along a (l - length a + i) ≡ spoke_along a (c + i)) →
+    (i : ℕ) → spoke_along a (l + i) ≡ spoke_along a (c + i)
+one-round-less a l c far same i =
+    let e : l + i ≡ l - length a + i + length a = omega arith in
+    ap (spoke_along a) e ∙ along-round a (l - length a + i) ∙ same i
+
 less-rounds : (a : List ℕ) → length a % 2 ≡ 0 → 0 < length a → (fuel l : ℕ) → l < fuel → l % 2 ≡ 0 → Within a l
 less-rounds a whole some zero l below even = absurd (omega arith)
 less-rounds a whole some (suc fuel) l below even = elim (cases_lt (length a) l) [
@@ -83,8 +89,7 @@ less-rounds a whole some (suc fuel) l below even = elim (cases_lt (length a) l) 
         count = w.count;
         even = w.even;
         within = w.within;
-        same = λ i. (let e : l + i ≡ l - length a + i + length a = omega arith in
-            ap (spoke_along a) e ∙ along-round a (l - length a + i) ∙ w.same i);
+        same = one-round-less a l w.count far w.same;
       }
 ]
 

@@ -1,5 +1,5 @@
 -- What the definitions give.
-use Rattle.std.specs.Prelude.{◌≡◌, ℕ, List, [], ◌∷◌, ◌++◌, refl}
+use Rattle.std.specs.Prelude.{◌≡◌, ℕ, List, [], ◌∷◌, refl}
 use Rattle.spoke_rings.specs.Cyclic_words.{IsLoop}
 use Rattle.joined_loops.specs.Joined_lists.{JoinedBy, repeated}
 

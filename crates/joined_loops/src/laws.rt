@@ -1,15 +1,19 @@
 //! What holds of joined lists of spokes and of freely homotopic walks, said of the definitions. A call of one of these functions does
 //! nothing; its contract is the law.
-ghost use Rattle.std.specs.Prelude.{◌≡◌, ◌<◌, ◌≤◌, ℕ, List, All, length};
+ghost use Rattle.std.specs.Prelude.{◌≡◌, ◌≢◌, ◌+◌, ◌*◌, ◌<◌, ◌≤◌, ℕ, List, [], ◌∷◌, ◌++◌, All, length, take};
 ghost use Rattle.surf_model.specs.FaceLists.{FaceList, IsFaceList};
+ghost use Rattle.turn_words.specs.Modulo.{minus};
+ghost use Rattle.turn_words.specs.Put_turns.{put_last};
+ghost use Rattle.turn_words.specs.Five_cases.{EndsOpen};
 ghost use Rattle.turn_words.specs.Form_laws.{led};
 ghost use Rattle.turn_words.specs.Hyper_states.{empty_state, hyper_next, IsHyperWheel};
 ghost use Rattle.turn_words.specs.declared.word.Word.{Word};
+ghost use Rattle.settling.specs.Turn_rows.{IsCanonicalRow};
 ghost use Rattle.labellings.specs.Labellings.{LabellingView};
 ghost use Rattle.labellings.specs.GoodLabellings.{IsGood};
 ghost use Rattle.labellings.specs.QuadPaths.{quad_path};
 ghost use Rattle.labellings.specs.WalkWords.{IsWordOf};
-ghost use Rattle.spoke_rings.specs.Cyclic_words.{IsLoop, IsFullWheel, IsCyclicallyCanonical};
+ghost use Rattle.spoke_rings.specs.Cyclic_words.{cyclic_turn, IsLoop, IsFullWheel, IsCyclicallyCanonical};
 ghost use Rattle.spoke_rings.specs.Loop_steps.{LoopLeads};
 ghost use Rattle.spoke_rings.specs.Rotations.{IsRotation};
 ghost use Rattle.closed_walks.specs.FreeHomotopy.{IsClosedWalk, FreelyHomotopic};
@@ -35,6 +39,24 @@ pub fn steps_lead_to_joined_lists()
         IsLoop places end }
     ensures joined { (places spokes end : List ℕ) → IsHyperWheel places → IsLoop places spokes → LoopLeads places spokes end →
         Joined places spokes end }
+{}
+
+/// A put leaves what stands before a turn that is neither 2 nor -2, but for the entry just before it, and so it does with a turn 2 where no
+/// bracket is open before that.
+pub fn put_leaves_what_stands_before_such_a_turn()
+    ensures { (degree turn x y : ℕ) (before after : List ℕ) → 5 ≤ degree → x ≢ minus degree 2 →
+        (x ≡ 2 → ¬ EndsOpen (before ++ y ∷ [])) →
+        (more : List ℕ) × ((put_last degree (before ++ y ∷ x ∷ after) turn).word ≡ before ++ more) }
+{}
+
+/// On a full wheel spokes that are put behind many rounds of a closed list with canonical cyclic turns take away one round of the word each
+/// at most, and two more.
+pub fn spokes_take_away_one_round_each_at_most()
+    ensures { (places spokes more : List ℕ) (rounds : ℕ) → IsFullWheel places → IsLoop places spokes →
+        IsCanonicalRow (length places) (length spokes) (cyclic_turn places spokes) →
+        take (rounds * length spokes + 2)
+        (led hyper_next places empty_state (repeated spokes (length more + rounds + 2) ++ more)).word
+        ≡ take (rounds * length spokes + 2) (led hyper_next places empty_state (repeated spokes (length more + rounds + 2))).word }
 {}
 
 /// On a full wheel the number of a state belongs to its word: where two lists of spokes lead from the state of the empty word to one word,
