@@ -17,7 +17,7 @@ ghost use Rattle.spoke_rings.specs.Cyclic_words.{cyclic_turn, IsLoop, IsFullWhee
 ghost use Rattle.spoke_rings.specs.Loop_steps.{LoopLeads};
 ghost use Rattle.spoke_rings.specs.Rotations.{IsRotation};
 ghost use Rattle.closed_walks.specs.FreeHomotopy.{IsClosedWalk, FreelyHomotopic};
-ghost use Rattle.joined_loops.specs.Joined_lists.{Joined, repeated};
+ghost use Rattle.joined_loops.specs.Joined_lists.{JoinedBy, Joined, repeated};
 
 /// To be joined is an equivalence of closed lists of spokes.
 pub fn joining_is_an_equivalence()
@@ -27,10 +27,10 @@ pub fn joining_is_an_equivalence()
         Joined places first third }
 {}
 
-/// Joined lists stay joined where each is gone along as often again.
+/// Joined lists stay joined, by the same list, where each is gone along as often again.
 pub fn joined_lists_stay_joined_gone_along_again()
-    ensures { (places first second : List ℕ) (count : ℕ) → IsLoop places first → Joined places first second →
-        Joined places (repeated first count) (repeated second count) }
+    ensures { (places first second joining : List ℕ) (count : ℕ) → IsLoop places first → JoinedBy places first second joining →
+        JoinedBy places (repeated first count) (repeated second count) joining }
 {}
 
 /// Steps on a closed list of spokes lead to closed lists that are joined to it.
