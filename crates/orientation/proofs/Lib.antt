@@ -8,3 +8,4 @@ pub mod SearchLemmas
 pub mod ClimbLemmas
 pub mod EitherLemmas
 pub mod ListedLemmas
+pub mod ComponentClasses
