@@ -16,6 +16,7 @@ mod inputs;
 pub mod laws;
 mod line;
 mod odd_chain_line;
+mod progress;
 mod reduce;
 mod refusal;
 mod reply;
