@@ -43,10 +43,7 @@ fn the_second_read_fails_behind_the_move(rt: HostRuntime) -> Result<(), Fail> {
 #[test]
 fn the_whole_list_is_read(rt: HostRuntime) -> Result<(), Fail> {
     let bytes = commented_list(rt.alloc())?;
-    for (limit, end) in [
-        (200_000, Ok(None)),
-        (199_999, Err(StreamEnd::TooLarge)),
-    ] {
+    for (limit, end) in [(200_000, Ok(None)), (199_999, Err(StreamEnd::TooLarge))] {
         let mut shelf = MemoryShelf::new(rt.alloc());
         shelf.put("moves", &bytes)?;
         let started = CertStream::start(rt.alloc(), &mut shelf, "moves", limit);

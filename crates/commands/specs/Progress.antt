@@ -25,7 +25,8 @@ outlook mesh second done (Going tape) moves = verdict_from mesh tape.peak second
 outlook mesh second done (Settled verdict) moves = verdict
 
 -- the verdict is that on a list of moves which the file may spell
-pub record IsVerdictOnFile (held : Option Files) (name : List ℕ) (mesh : FaceList) (first second : List ℕ) (verdict : Verdict) : Type 0 where
+pub record IsVerdictOnFile (held : Option Files) (name : List ℕ) (mesh : FaceList) (first second : List ℕ) (verdict : Verdict)
+    : Type 0 where
   pub list : PeakedMoves
   pub passes : Passes (certificate_in held name) (Moves list)
   pub is : verdict ≡ verdict_of mesh first second list

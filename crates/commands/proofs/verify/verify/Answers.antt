@@ -31,11 +31,13 @@ returns-in_err-walks g c =
 
 pub at-requires : goal.at-requires
 at-requires g c =
-    omega (arith, two_in_pair c.in_ok-faces.faces c.in_ok-walks.walks (c.in_ok-walks.ensures.pair c.in_ok-faces.faces c.in_ok-sides.ensures))
+    let pair = c.in_ok-walks.ensures.pair c.in_ok-faces.faces c.in_ok-sides.ensures in
+    omega (arith, two_in_pair c.in_ok-faces.faces c.in_ok-walks.walks pair)
 
 pub at-requires-2 : goal.at-requires-2
 at-requires-2 g c =
-    omega (arith, two_in_pair c.in_ok-faces.faces c.in_ok-walks.walks (c.in_ok-walks.ensures.pair c.in_ok-faces.faces c.in_ok-sides.ensures))
+    let pair = c.in_ok-walks.ensures.pair c.in_ok-faces.faces c.in_ok-sides.ensures in
+    omega (arith, two_in_pair c.in_ok-faces.faces c.in_ok-walks.walks pair)
 
 pub returns : goal.returns
 returns g c =

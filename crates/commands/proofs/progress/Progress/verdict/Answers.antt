@@ -12,4 +12,5 @@ pub returns-in-Going-2 : goal.returns-in-Going-2
 returns-in-Going-2 c =
     let tape = c.in-Going.tape in
     rw c.in-Going.is
-    (λ mesh done. sym (verdict_end mesh tape.peak c.args.second.now (done + 1) tape.walk (λ same. let t = c.if-equals.ensures.1 same in cc)))
+    (λ mesh done.
+    sym (verdict_end mesh tape.peak c.args.second.now (done + 1) tape.walk (λ same. let t = c.if-equals.ensures.1 same in cc)))
