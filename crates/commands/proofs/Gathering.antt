@@ -1,61 +1,21 @@
 -- A certificate, line by line.
-use Rattle.std.proofs.Common.{◌≡◌, ◌⊎◌, inl, inr, ℕ, ◌<◌, ◌≤◌, Bool, true, false, List, [], ◌∷◌, ◌++◌, refl, sym, ap, ◌∙◌, subst, arith}
-use Rattle.std.specs.Prelude.{◌==◌, nat_lt, if◌then◌else◌, Option, Some, None, Result, Ok, Err, option_map, is_some}
-use Rattle.std.specs.Option.{ok_or}
-use Rattle.std.proofs.lemmas.Bool.Decides.{nat_tests}
+use Rattle.std.proofs.Common.{◌≡◌, ℕ, List, [], ◌∷◌, ◌++◌, refl, ap, ◌∙◌}
+use Rattle.std.specs.Prelude.{Some, None, Result, Ok, Err}
 use Rattle.std.proofs.lemmas.List.{append-nil}
-use Rattle.surf_model.specs.Moves.{PeakedMoves}
 use Rattle.surf_model.specs.declared.moves.Move.{Move}
-use Rattle.text_scan.specs.Lines.{Line, full_lines, end_line}
-use Rattle.labellings.specs.declared.denial.Denial.{Denial}
-use Rattle.walk_files.specs.Certificates.{moves_of_text, move_of, head_of_text, head_among, head_in, first_head, fitting_head, within_peak, fits, answer_of, head_of, with_peak}
-use Rattle.walk_files.specs.Denials.{denial_of_lines}
-use Rattle.walk_files.specs.Readers.{Certificate, next_of, unless_refused, started, next_answer, answer_first, after_answer, moves_left, moves_to_come, lines_to_come, denial_left}
-use Rattle.walk_files.specs.declared.certificate.CertHead.{CertHead}
-use Rattle.walk_files.specs.declared.certificate.CertHead.TheVariants.{Moves, Labels}
+use Rattle.walk_files.specs.Certificates.{moves_of_text, head_of_text}
+use Rattle.walk_files.specs.Readers.{Certificate, answer_first, moves_left}
+use Rattle.walk_files.specs.declared.certificate.CertHead.TheVariants.{Moves}
 use Rattle.walk_files.specs.declared.fault.CertFault.{CertFault}
-use Rattle.walk_files.specs.declared.fault.CertFault.TheVariants.{NoHead, Bad, Ended, Extra, Peak}
-use Rattle.walk_files.specs.declared.fault.CertFault.TheVariants as faults
-use Rattle.walk_files.specs.declared.limits.TheConstants.{MOST_PEAK}
 use Rattle.walk_files.proofs.EachLemmas.{before_ok, before_ok-more}
 use Rattle.walk_files.proofs.ReaderLemmas.{moves_left-started}
-use Rattle.surf_io.specs.Files.{Files}
 use Rattle.commands.specs.declared.certificate.Certificate.TheVariants as certificates
-use Rattle.commands.proofs.Checking.{told_stops, memory_stops}
-use Rattle.commands.specs.Checks.{Passes, meant}
-use Rattle.commands.specs.Inputs.{as_certificate, certificate_behind, certificate_of, certificate_in, IsPeakRead}
+use Rattle.commands.proofs.Checking.{told_stops}
+use Rattle.commands.specs.Checks.{meant}
+use Rattle.commands.specs.Inputs.{certificate_of}
 use Rattle.commands.specs.Refusals.{certificate_line}
 use Rattle.commands.specs.Stops.{Stops, Tells}
-use Rattle.commands.specs.declared.certificate.Certificate.{Certificate as Certified}
 use Rattle.commands.specs.declared.stop.Stop.{Stop}
-use Rattle.commands.specs.declared.stop.Stop.TheVariants.{OutOfMemory}
-
--- ---- the measure
-
-some_left : (end left : ℕ) (lines : List Line) (move : Move) → next_of end left lines ≡ Ok (Some move) → 0 < left
-some_left end left [] move e = absurd (by_test (left == 0) e)
-  where
-    by_test : (b : Bool) → (if b then Ok None else Err (Ended end)) ≡ Ok (Some move) → ⊥
-    by_test true e = cc
-    by_test false e = cc
-some_left end left (line ∷ lines) move e = by_test (left == 0) refl e
-  where
-    by_test : (b : Bool) → (left == 0) ≡ b
-        → (if b then Err (Extra line.number) else ok_or (option_map Some (move_of line.words)) (Bad line.number)) ≡ Ok (Some move)
-        → 0 < left
-    by_test true t e = cc
-    by_test false t e = grind (arith, nat_tests)
-
-some_to_come : (reader : Certificate) (refusal : Option CertFault) (move : Move)
-    → unless_refused refusal (next_of (end_line reader.text) (moves_to_come reader) (lines_to_come reader)) ≡ Ok (Some move)
-    → 0 < moves_to_come reader
-some_to_come reader (Some fault) move e = cc
-some_to_come reader None move e = some_left (end_line reader.text) (moves_to_come reader) (lines_to_come reader) move e
-
--- behind a move fewer are to come
-pub fewer_to_come : (reader : Certificate) (move : Move) → next_answer reader ≡ Ok (Some move)
-    → moves_to_come (after_answer reader (Ok (Some move))) < moves_to_come reader
-fewer_to_come reader move e = omega (arith, some_to_come reader reader.refusal move e)
 
 -- ---- all lines
 
@@ -75,15 +35,6 @@ wrong_line all rest moves fault e f = e ∙ ap (before_ok moves) f
 
 -- ---- the text
 
-pub started_ok : (text : List ℕ) (head : Result CertHead CertFault) (reader : Certificate) → Ok reader ≡ started text head
-    → (head ≡ Ok reader.head) × (reader.text ≡ text) × (reader.given ≡ 0) × (reader.refusal ≡ None)
-started_ok text (Err fault) reader e = cc
-started_ok text (Ok head) reader e = (cc, cc, cc, cc)
-
-pub started_err : (text : List ℕ) (head : Result CertHead CertFault) (fault : CertFault) → Err fault ≡ started text head → head ≡ Err fault
-started_err text (Err other) fault e = cc
-started_err text (Ok head) fault e = cc
-
 pub list-moves : (text : List ℕ) (count peak : ℕ) (moves : List Move) → head_of_text text ≡ Ok (Moves count peak)
     → moves_of_text count text ≡ Ok moves → certificate_of text ≡ Ok (certificates.Moves (record { moves = moves; peak = peak }))
 list-moves text count peak moves e f = rw (e, f) refl
@@ -102,138 +53,3 @@ left_start reader text count peak is_text is_head is_given kept = rw (is_text, i
 pub text_stops : (text : List ℕ) (fault : CertFault) (stop : Stop) → certificate_of text ≡ Err fault → Tells (certificate_line fault) stop
     → Stops (meant certificate_line (certificate_of text)) stop
 text_stops text fault stop e h = told_stops (certificate_line fault) (meant certificate_line (certificate_of text)) stop (rw e refl) h
-
-pub head_stops : (text : List ℕ) (fault : CertFault) (stop : Stop) → head_of_text text ≡ Err fault → Tells (certificate_line fault) stop
-    → Stops (meant certificate_line (certificate_of text)) stop
-head_stops text fault stop e h = text_stops text fault stop (rw e refl) h
-
--- ---- the peak of a head is within the limit
-
-within : (line : ℕ) (head : CertHead) (count peak : ℕ) → within_peak line head ≡ Ok (Moves count peak) → peak ≤ MOST_PEAK
-within line (Labels degree) count peak e = cc
-within line (Moves n p) count peak e = by_test (nat_lt MOST_PEAK p) refl e
-  where
-    by_test : (b : Bool) → nat_lt MOST_PEAK p ≡ b → (if b then Err (Peak line) else Ok (Moves n p)) ≡ Ok (Moves count peak)
-        → peak ≤ MOST_PEAK
-    by_test true t e = cc
-    by_test false t e = let same : p ≡ peak = cc in subst (λ (q : ℕ). q ≤ MOST_PEAK) same (grind (arith, nat_tests))
-
-fitting : (b : Bool) (line : ℕ) (head : CertHead) (count peak : ℕ)
-    → (if b then within_peak line head else Err (Bad line)) ≡ Ok (Moves count peak) → peak ≤ MOST_PEAK
-fitting true line head count peak e = within line head count peak e
-fitting false line head count peak e = cc
-
--- a head that stands alone, or behind an answer that the words before it are
-alone : (line : ℕ) (head : Option CertHead) (count peak : ℕ) → fitting_head None line head ≡ Ok (Moves count peak) → peak ≤ MOST_PEAK
-alone line None count peak e = cc
-alone line (Some head) count peak e = fitting (fits None head) line head count peak e
-
-behind : (words : List (List ℕ)) (line : ℕ) (head : Option CertHead) (count peak : ℕ)
-    → fitting_head (answer_of words) line head ≡ Ok (Moves count peak)
-    → peak ≤ MOST_PEAK
-behind words line None count peak e = cc
-behind words line (Some head) count peak e = fitting (fits (answer_of words) head) line head count peak e
-
-first : (words : List (List ℕ)) (end : ℕ) (lines : List Line) (count peak : ℕ)
-    → first_head (answer_of words) end lines ≡ Ok (Moves count peak)
-    → peak ≤ MOST_PEAK
-first words end [] count peak e = cc
-first words end (line ∷ lines) count peak e = behind words line.number (head_of line.words) count peak e
-
-among : (end : ℕ) (lines : List Line) (count peak : ℕ) → head_among end lines ≡ Ok (Moves count peak) → peak ≤ MOST_PEAK
-among end [] count peak e = cc
-among end (line ∷ lines) count peak e = by_test (is_some (answer_of line.words)) e
-  where
-    by_test : (b : Bool) → (if b then first_head (answer_of line.words) end lines else head_in None line) ≡ Ok (Moves count peak)
-        → peak ≤ MOST_PEAK
-    by_test true e = first line.words end lines count peak e
-    by_test false e = alone line.number (head_of line.words) count peak e
-
-by_moves : (text : List ℕ) (count peak : ℕ) (shown : Certified) (moves : Result (List Move) CertFault)
-    → head_of_text text ≡ Ok (Moves count peak)
-    → as_certificate certificates.Moves (with_peak peak moves) ≡ Ok shown → IsPeakRead shown
-by_moves text count peak shown (Err fault) h e = cc
-by_moves text count peak shown (Ok moves) h e =
-    let same : certificates.Moves (record { moves = moves; peak = peak }) ≡ shown = cc in
-    subst IsPeakRead same (among (end_line text) (full_lines text) count peak h)
-
-by_denial : (shown : Certified) (denial : Result Denial CertFault) → as_certificate certificates.Denial denial ≡ Ok shown → IsPeakRead shown
-by_denial shown (Err fault) e = cc
-by_denial shown (Ok denial) e = let same : certificates.Denial denial ≡ shown = cc in subst IsPeakRead same tt
-
-by_head : (text : List ℕ) (shown : Certified) (head : Result CertHead CertFault) → head_of_text text ≡ head
-    → certificate_behind head text ≡ Ok shown
-    → IsPeakRead shown
-by_head text shown (Err fault) h e = cc
-by_head text shown (Ok (Labels degree)) h e = by_denial shown (denial_of_lines degree text) e
-by_head text shown (Ok (Moves count peak)) h e = by_moves text count peak shown (moves_of_text count text) h e
-
-by_text : (text : List ℕ) (shown : Certified) (read : Result Certified CertFault) → certificate_of text ≡ read
-    → Passes (meant certificate_line read) shown
-    → IsPeakRead shown
-by_text text shown (Err fault) e h = cc
-by_text text shown (Ok other) e h =
-    let same : other ≡ shown = cc in
-    by_head text shown (head_of_text text) refl (e ∙ ap (λ (c : Certified). let r : Result Certified CertFault = Ok c in r) same)
-
-pub peak_within : (held : Option Files) (name : List ℕ) (shown : Certified) → Passes (certificate_in held name) shown → IsPeakRead shown
-peak_within held name shown (inl p) = let e = p.2 in cc
-peak_within held name shown (inr p) = by_text p.0 shown (certificate_of p.0) refl p.2
-
--- ---- what was read is what the text means
-
--- a list that was gathered
-pub gathered : (text : List ℕ) (count peak : ℕ) (list : PeakedMoves) (left : Result (List Move) CertFault)
-    → head_of_text text ≡ Ok (Moves count peak)
-    → left ≡ moves_of_text count text → list.peak ≡ peak → left ≡ Ok list.moves
-    → Passes (meant certificate_line (certificate_of text)) (certificates.Moves list)
-gathered text count peak list left h is_left is_peak is_moves =
-    let is : certificate_of text ≡ Ok (certificates.Moves list) =
-    list-moves text count peak list.moves h (sym is_left ∙ is_moves)
-    ∙ ap (λ (p : ℕ). let r : Result Certified CertFault = Ok (certificates.Moves (record { moves = list.moves; peak = p })) in r)
-    (sym is_peak) in
-    subst (λ (read : Result Certified CertFault). Passes (meant certificate_line read) (certificates.Moves list)) (sym is) refl
-
--- and one with a fault
-pub not_gathered : (text : List ℕ) (count peak : ℕ) (stop : Stop) (left : Result (List Move) CertFault)
-    → head_of_text text ≡ Ok (Moves count peak)
-    → left ≡ moves_of_text count text
-    → (stop ≡ OutOfMemory) ⊎ ((fault : CertFault) × (left ≡ Err fault) × Tells (certificate_line fault) stop)
-    → Stops (meant certificate_line (certificate_of text)) stop
-not_gathered text count peak stop left h is_left (inl e) = subst (Stops (meant certificate_line (certificate_of text))) (sym e) tt
-not_gathered text count peak stop left h is_left (inr p) =
-    text_stops text p.0 stop (list-wrong text count peak p.0 h (sym is_left ∙ p.1)) p.2
-
--- a reader that has just started has the whole denial of the text to give
-pub denial_start : (reader : Certificate) (text : List ℕ) (degree : ℕ) → reader.text ≡ text → reader.head ≡ Labels degree → reader.given ≡ 0
-    → reader.refusal ≡ None → denial_left reader ≡ denial_of_lines degree text
-denial_start reader text degree is_text is_head is_given kept = rw (is_text, is_head, is_given, kept) refl
-
-pub denial_passes : (text : List ℕ) (degree : ℕ) (denial : Denial) → head_of_text text ≡ Ok (Labels degree)
-    → denial_of_lines degree text ≡ Ok denial
-    → Passes (meant certificate_line (certificate_of text)) (certificates.Denial denial)
-denial_passes text degree denial h e =
-    let is : certificate_of text ≡ Ok (certificates.Denial denial) = rw (h, e) refl in
-    subst (λ (read : Result Certified CertFault). Passes (meant certificate_line read) (certificates.Denial denial)) (sym is) refl
-
-pub denial_stops : (text : List ℕ) (degree : ℕ) (fault : CertFault) (stop : Stop) → head_of_text text ≡ Ok (Labels degree)
-    → (Err fault ≡ denial_of_lines degree text) ⊎ (fault ≡ faults.OutOfMemory) → Tells (certificate_line fault) stop
-    → Stops (meant certificate_line (certificate_of text)) stop
-denial_stops text degree fault stop h (inl e) told = text_stops text fault stop (rw (h, ← e) refl) told
-denial_stops text degree fault stop h (inr e) told =
-    memory_stops (meant certificate_line (certificate_of text)) stop (subst (λ (f : CertFault). Tells (certificate_line f) stop) e told)
-
--- what a reader of a denial gives is that of the text, unless memory is wanting
-pub denial_or_memory : (text : List ℕ) (degree : ℕ) (reader : Certificate) (fault : CertFault)
-    → denial_left reader ≡ denial_of_lines degree text
-    → (Err fault ≡ denial_left reader) ⊎ ((reader.refusal ≡ None)
-    × (let wanting : Result Denial CertFault = Err faults.OutOfMemory in Err fault ≡ wanting))
-    → (Err fault ≡ denial_of_lines degree text) ⊎ (fault ≡ faults.OutOfMemory)
-denial_or_memory text degree reader fault start (inl given) = inl (given ∙ start)
-denial_or_memory text degree reader fault start (inr wanting) = let e = wanting.1 in inr cc
-
-pub denial_given : (text : List ℕ) (degree : ℕ) (reader : Certificate) (denial : Denial) → denial_left reader ≡ denial_of_lines degree text
-    → (Ok denial ≡ denial_left reader) ⊎ ((reader.refusal ≡ None) × (Ok denial ≡ Err faults.OutOfMemory))
-    → denial_of_lines degree text ≡ Ok denial
-denial_given text degree reader denial start (inl given) = sym (given ∙ start)
-denial_given text degree reader denial start (inr wanting) = let e = wanting.1 in cc

@@ -1,6 +1,7 @@
 pub mod Checking
 pub mod Running
 pub mod Gathering
+pub mod Streaming
 pub mod Pieces
 pub mod Writing
 pub mod Verifying

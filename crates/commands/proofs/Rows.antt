@@ -1,5 +1,5 @@
 -- The files that commands look at, and the commands: the check of each has an end, and one where its files are told.
-use Rattle.std.proofs.Common.{inr, ℕ, List, [], ◌∷◌, refl}
+use Rattle.std.proofs.Common.{inl, inr, ℕ, List, [], ◌∷◌, refl}
 use Rattle.std.specs.Prelude.{Option, Some, None, Result, Ok, Err}
 use Rattle.surf_io.specs.Files.{Files}
 use Rattle.surf_model.specs.FaceLists.{FaceList}
@@ -16,14 +16,14 @@ use Rattle.commands.proofs.Deciding.{sound-decided}
 use Rattle.commands.proofs.Measuring.{sound-numbers, surface_passed}
 use Rattle.commands.proofs.MeshTexts.{mesh_valid}
 use Rattle.commands.proofs.SomeVerdict.{sound-judgement}
-use Rattle.commands.proofs.Sound.{IsSound, sound-then, sound-pass, sound-meant, sound-pass_unless, sound-file, held}
+use Rattle.commands.proofs.Sound.{IsSound, sound-then, sound-pass, sound-meant, sound-pass_unless, sound-file, held, sound-where_told}
 use Rattle.commands.proofs.Surfaces.{sound-as_surface}
 use Rattle.commands.specs.Answers.{Exactly, Texts}
 use Rattle.commands.specs.Certify.{certify, limit_fault}
-use Rattle.commands.specs.Checks.{Passes, Holds, IsTold, meant, pass_unless, ◌>>=◌}
+use Rattle.commands.specs.Checks.{Refuse, Passes, Holds, IsTold, meant, pass_unless, ◌>>=◌}
 use Rattle.commands.specs.Decide.{decide}
-use Rattle.commands.specs.Inputs.{mesh_in, pair_in, certificate_in, certificate_of, walk_at, SpellsMesh, SpellsPair}
-use Rattle.commands.specs.Refusals.{numbers_line, certificate_line, off_line, pair_line}
+use Rattle.commands.specs.Inputs.{IsCertificateEnd, mesh_in, pair_in, certificate_in, certificate_in_bytes, certificate_of, walk_at, SpellsMesh, SpellsPair}
+use Rattle.commands.specs.Refusals.{numbers_line, certificate_line, off_line, pair_line, too_large}
 use Rattle.commands.specs.Surface.{surface}
 use Rattle.commands.specs.SurfaceInput.{surface_in}
 use Rattle.commands.specs.Verify.{verify}
@@ -41,7 +41,9 @@ sound-pair held name mesh =
 
 pub sound-certificate : (held : Option Files) (name : List ℕ) → IsSound held (certificate_in held name)
 sound-certificate held name =
-    sound-then held _ _ (sound-file held name inputs.Certificate) (λ bytes _. sound-meant held certificate_line (certificate_of bytes))
+    sound-where_told held name (certificate_in_bytes held name) IsCertificateEnd (Refuse (too_large inputs.Certificate)) (λ told. told.0)
+    (inl refl)
+    (sound-then held _ _ (sound-file held name inputs.Certificate) (λ bytes _. sound-meant held certificate_line (certificate_of bytes)))
 
 -- ---- the commands
 

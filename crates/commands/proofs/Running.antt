@@ -2,11 +2,17 @@
 use Rattle.std.proofs.Common.{◌≡◌, ℕ, ◌<◌, ap, ◌∙◌, arith, refl}
 use Rattle.std.specs.Prelude.{Option, Result, Ok, Err, MatchResult}
 use Rattle.surf_io.specs.Calls.{OnlyReads}
+use Rattle.surf_io.specs.Faults.{Rose}
 use Rattle.surf_io.specs.Files.{Files}
+use Rattle.walk_files.specs.declared.stream_end.StreamEnd.{StreamEnd}
+use Rattle.walk_files.specs.declared.stream_end.StreamEnd.TheVariants.{Fault, TooLarge, Cert}
+use Rattle.walk_files.specs.declared.stream_end.StreamEnd.TheVariants as ends
 use Rattle.commands.specs.Answers.{Answer, Texts}
 use Rattle.commands.specs.Checks.{Check}
-use Rattle.commands.specs.Replies.{Replies, Runs}
-use Rattle.commands.specs.Stops.{Reads, Stops, Tells}
+use Rattle.commands.specs.Replies.{Concludes, Replies, Runs}
+use Rattle.commands.specs.Refusals.{certificate_line, too_large}
+use Rattle.commands.specs.Stops.{Reads, Stops, StopsReading, Tells}
+use Rattle.commands.specs.declared.refusal.Input.TheVariants as inputs
 use Rattle.commands.specs.declared.reply.Reply.{Reply}
 use Rattle.commands.specs.declared.stop.Stop.{Stop}
 use Rattle.commands.specs.declared.stop.Stop.TheVariants.{Refused, ReadFault, OutOfMemory}
@@ -45,6 +51,46 @@ reads_ended held faults old new IsEnd result only no_fault end = record { end = 
 pub err_no_fault : {V : Type 0} (stop : Stop) → (let result : Result V Stop = Err stop in result ≡ Err ReadFault → ⊥) → stop ≡ ReadFault → ⊥
 err_no_fault {V} stop none e = none (ap (λ (s : Stop). let r : Result V Stop = Err s in r) e)
 
+-- ---- a certificate that is read in pieces
+
+-- only a read that failed is told as one
+read_failed : (end : StreamEnd) (stop : Stop) → StopsReading end stop → stop ≡ ReadFault → end ≡ Fault
+read_failed Fault stop h e = refl
+read_failed TooLarge stop h e = absurd (tells_no_fault (too_large inputs.Certificate) stop h e)
+read_failed (Cert fault) stop h e = absurd (tells_no_fault (certificate_line fault) stop h e)
+read_failed ends.OutOfMemory stop h e = cc
+
+pub reads_stopped : {X V : Type 0} (held : X → Option Files) (faults : X → ℕ) (old mid new : X) (IsEnd : Option Files → Type 0)
+    (end : StreamEnd) (stop : Stop) → OnlyReads held faults old mid → OnlyReads held faults mid new
+    → (end ≡ Fault → Rose (faults mid) (faults new)) → StopsReading end stop → IsEnd (held old)
+    → Reads {V = V} held faults old new IsEnd (Err stop)
+reads_stopped held faults old mid new IsEnd end stop first second rose h ends =
+    record {
+      end = ends;
+      fault = λ e below.
+          let same : stop ≡ ReadFault = cc in
+          let risen : faults mid < faults new = rose (read_failed end stop h same) below in
+          omega (arith, first.never_falls, risen);
+      only_reads = only_then held faults old mid new first second;
+    }
+
+-- a call that read stopped, behind another
+pub reads_then : {X V W : Type 0} (held : X → Option Files) (faults : X → ℕ) (old mid new : X) (IsMid IsEnd : Option Files → Type 0)
+    (stop : Stop) → OnlyReads held faults old mid → Reads {V = V} held faults mid new IsMid (Err stop) → IsEnd (held old)
+    → Reads {V = W} held faults old new IsEnd (Err stop)
+reads_then {X} {V} {W} held faults old mid new IsMid IsEnd stop first h end =
+    record {
+      end = end;
+      fault = λ e below.
+          let same : stop ≡ ReadFault = cc in
+          let rose : faults mid < faults new = h.fault (ap (λ (s : Stop). let r : Result V Stop = Err s in r) same) below in
+          omega (arith, first.never_falls, rose);
+      only_reads = only_then held faults old mid new first h.only_reads;
+    }
+
+pub only_self : {X : Type 0} (held : X → Option Files) (faults : X → ℕ) (shelf : X) → OnlyReads held faults shelf shelf
+only_self held faults shelf = record { same_files = refl; never_falls = omega arith }
+
 -- ---- a command that looks at some file
 
 module _ {X : Type 0} (held : X → Option Files) (faults : X → ℕ) (old new : X) (command : Option Files → Check Answer)
@@ -59,6 +105,17 @@ module _ {X : Type 0} (held : X → Option Files) (faults : X → ℕ) (old new 
             let same : stop ≡ ReadFault = cc in
             let rose : faults mid < faults new = h.fault (ap (λ (s : Stop). let r : Result V Stop = Err s in r) same) below in
             omega (arith, first.never_falls, rose);
+        untouched = λ none. absurd (looks none);
+        only_reads = only_then held faults old mid new first h.only_reads;
+      }
+
+  -- a call that read was the end
+  pub runs_read : (mid : X) (IsEnd : Option Files → Type 0) (result : Result Reply Stop) → OnlyReads held faults old mid
+      → Reads held faults mid new IsEnd result → Concludes (command (held old)) result → Runs held faults old new command result
+  runs_read mid IsEnd result first h end =
+      record {
+        end = end;
+        fault = λ e below. let rose : faults mid < faults new = h.fault e below in omega (arith, first.never_falls, rose);
         untouched = λ none. absurd (looks none);
         only_reads = only_then held faults old mid new first h.only_reads;
       }

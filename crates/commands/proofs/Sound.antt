@@ -1,10 +1,10 @@
 -- What holds of checks, part by part: no check is without an end, and it has one where the files that it looks at are told.
 use Rattle.std.proofs.Common.{◌≡◌, ◌⊎◌, inl, inr, ℕ, ◌<◌, ◌≤◌, List, [], length, refl, sym, ap, ◌∙◌, subst, arith}
-use Rattle.std.specs.Prelude.{Option, Some, None, Result, Ok, Err, IfSome, IsSome, IsSomeAnd}
+use Rattle.std.specs.Prelude.{Option, Some, None, Result, Ok, Err, IfSome, IsSome, IsSomeAnd, MatchOption}
 use Rattle.std.proofs.lemmas.Bool.{cases_lt}
 use Rattle.surf_io.specs.Files.{Files, file_of}
 use Rattle.commands.specs.Answers.{Texts}
-use Rattle.commands.specs.Checks.{Check, End, Refuse, Pass, Passes, IsTold, Holds, pass, refuse, file, found_or, meant, pass_unless, ◌>>=◌}
+use Rattle.commands.specs.Checks.{Check, End, Refuse, Pass, Passes, IsTold, Holds, pass, refuse, file, found_or, meant, pass_unless, where_told, ◌>>=◌}
 use Rattle.commands.specs.Refusals.{too_large}
 use Rattle.commands.specs.declared.inputs.TheConstants.{MOST_BYTES}
 use Rattle.commands.specs.declared.refusal.Input.{Input}
@@ -104,6 +104,26 @@ sound-file held name input =
         → (MOST_BYTES < length bytes) ⊎ (length bytes ≤ MOST_BYTES) → ⊥
     some_end none bytes agrees (inl large) = none (Refuse (too_large input)) (bytes, agrees, large, refl)
     some_end none bytes agrees (inr small) = none (Pass bytes) (agrees, small)
+
+-- ---- a file that is read in pieces
+
+drop_told : (o : Option (List ℕ)) (A P : Type 0) → IsSome o → MatchOption o A (λ _. P) → P
+drop_told None A P some h = absurd (let none : ⊥ = cc in none)
+drop_told (Some f) A P some h = h
+
+pub sound-where_told : {T : Type 0} (held : Option Files) (name : List ℕ) (check : Check T) (any : End T → Type 0) (usual : End T)
+    → (check.EachFile (IsTold held) → IsTold held name) → any usual → IsSound held check → IsSound held (where_told held name check any)
+sound-where_told {T} held name check any usual looks is sound =
+    record {
+      some = λ none. some_told (file_of held name) none;
+      one = λ told a b p q.
+          sound.one told a b (drop_told (file_of held name) (any a) (check.Ends a) (looks told) p)
+          (drop_told (file_of held name) (any b) (check.Ends b) (looks told) q);
+    }
+  where
+    some_told : (o : Option (List ℕ)) → ((end : End T) → MatchOption o (any end) (λ _. check.Ends end) → ⊥) → ⊥
+    some_told None none = none usual is
+    some_told (Some f) none = sound.some none
 
 -- ---- a file that is told, within the limit, and of which this holds
 

@@ -20,10 +20,11 @@ use Rattle.commands.proofs.Deciding.{behind}
 use Rattle.commands.proofs.MeshTexts.{mesh_valid}
 use Rattle.commands.proofs.Rows.{sound-mesh, sound-pair, sound-certificate, meant_told, pair_told, mesh_told, mesh_passes, spelled_pair}
 use Rattle.commands.proofs.Sound.{held}
+use Rattle.commands.proofs.Streaming.{where_told_ends}
 use Rattle.commands.proofs.Verifying.{after_mesh, after_pair}
 use Rattle.commands.specs.Answers.{Answer, IsText}
-use Rattle.commands.specs.Checks.{Refuse, Pass, Passes, IsTold}
-use Rattle.commands.specs.Inputs.{mesh_in, pair_in, certificate_in, certificate_of, walk_at, SpellsPair, SpellsCertificate}
+use Rattle.commands.specs.Checks.{Refuse, Pass, Passes, IsTold, Holds}
+use Rattle.commands.specs.Inputs.{mesh_in, pair_in, IsCertificateEnd, certificate_in, certificate_in_bytes, certificate_of, walk_at, SpellsPair, SpellsCertificate}
 use Rattle.commands.specs.Outcomes.{Outcome, AnswersTo, IsAnswerOf}
 use Rattle.commands.specs.Refusals.{certificate_line}
 use Rattle.commands.specs.Verify.{verify, verdict_status, denial_status, denial_line, judgement, IsVerifyInput, IsVerified, IsDenialVerified, verdict_answer, denial_answer}
@@ -70,19 +71,26 @@ told_input files words mesh first second shown input = (
   ),
 )
 
+-- a file that spells a certificate passes it
+certificate_spelled : (files : Option Files) (name : List ℕ) (shown : Certificate) → Holds files name (SpellsCertificate shown)
+    → Passes (certificate_in files name) shown
+certificate_spelled files name shown h =
+    let file = held files name (SpellsCertificate shown) h in
+    where_told_ends files name (certificate_in_bytes files name) IsCertificateEnd (Pass shown) file.told
+    (inr (file.bytes, file.passes inputs.Certificate, rw file.holds refl))
+
 -- as the judgement ends, the command does
 pub judgement_outcome : (files : Option Files) (words : List (List ℕ)) (mesh : FaceList) (first second : List ℕ) (shown : Certificate)
     (outcome : Outcome) (input : IsVerifyInput files words mesh first second shown) → (judgement mesh first second shown).Ends outcome
     → (verify files input.mesh_name input.walks_name input.certificate_name).Ends outcome
 judgement_outcome files words mesh first second shown outcome input h =
-    let file = held files input.certificate_name (SpellsCertificate shown) input.certificate_file in
     inr (
       mesh,
       mesh_passes files input.mesh_name mesh input.mesh_file,
       inr (
         first ∷ second ∷ [],
         spelled_pair files input.walks_name mesh first second input.walks_file,
-        inr (shown, inr (file.bytes, file.passes inputs.Certificate, rw file.holds refl), h),
+        inr (shown, certificate_spelled files input.certificate_name shown input.certificate_file, h),
       ),
     )
 
@@ -114,7 +122,7 @@ behind_files files words mesh first second shown outcome input is =
     let pair : List (List ℕ) = first ∷ second ∷ [] in
     let file = held files input.certificate_name (SpellsCertificate shown) input.certificate_file in
     let passed : Passes (certificate_in files input.certificate_name) shown =
-    inr (file.bytes, file.passes inputs.Certificate, rw file.holds refl) in
+    certificate_spelled files input.certificate_name shown input.certificate_file in
     let walks = behind files (mesh_in files input.mesh_name) (after_mesh files input.walks_name input.certificate_name) mesh outcome
     (sound-mesh files input.mesh_name) (mesh_told files input.mesh_name mesh input.mesh_file)
     (mesh_passes files input.mesh_name mesh input.mesh_file) is in

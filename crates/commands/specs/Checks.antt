@@ -1,5 +1,5 @@
 -- Checks: what is looked at, one thing after another, up to the first refusal.
-use Rattle.std.specs.Prelude.{◌≡◌, ℕ, ◌<◌, ◌≤◌, ◌⊎◌, List, length, Option, None, Some, IfSome, IsSome, IsSomeAnd, Result, Ok, Err, ⊤}
+use Rattle.std.specs.Prelude.{◌≡◌, ℕ, ◌<◌, ◌≤◌, ◌⊎◌, List, length, Option, None, Some, IfSome, IsSome, IsSomeAnd, MatchOption, Result, Ok, Err, ⊤}
 use Rattle.surf_io.specs.Files.{Files, file_of}
 use Rattle.commands.specs.Answers.{Texts}
 use Rattle.commands.specs.Refusals.{too_large}
@@ -61,6 +61,12 @@ file held name input = record { Ends = ends; EachFile = λ P. P name }
     ends : End (List ℕ) → Type 0
     ends (Refuse told) = (bytes : List ℕ) × Agrees held name bytes × (MOST_BYTES < length bytes) × (told ≡ too_large input)
     ends (Pass bytes) = Agrees held name bytes × (length bytes ≤ MOST_BYTES)
+
+-- A check of a file that is read in pieces, which are kept nowhere: where the file is told, as the check of its bytes ends; and where it
+-- is not, no list of bytes stands for what was read, and the ends are these.
+abbrev pub where_told : {T : Type 0} → Option Files → List ℕ → Check T → (End T → Type 0) → Check T
+where_told held name check any =
+    record { Ends = λ end. MatchOption (file_of held name) (any end) (λ _. check.Ends end); EachFile = check.EachFile }
 
 -- one check after another: a refusal of the first is the end, and of what the first passes the next is made
 infixl 10 ◌>>=◌

@@ -1,5 +1,5 @@
 -- The checks of the files that a command reads, each with what it passes.
-use Rattle.std.specs.Prelude.{◌≡◌, ℕ, ◌≤◌, List, [], ◌∷◌, slice_index_or, Option, Result, Ok, Err}
+use Rattle.std.specs.Prelude.{◌≡◌, ◌⊎◌, ℕ, ◌≤◌, List, [], ◌∷◌, slice_index_or, Option, Result, Ok, Err}
 use Rattle.surf_io.specs.Files.{Files}
 use Rattle.surf_model.specs.FaceLists.{FaceList}
 use Rattle.surf_model.specs.Walks.{IsWalk, HaveCommonEnds}
@@ -12,8 +12,8 @@ use Rattle.walk_files.specs.declared.certificate.CertHead.{CertHead}
 use Rattle.walk_files.specs.declared.certificate.CertHead.TheVariants as heads
 use Rattle.walk_files.specs.declared.fault.CertFault.{CertFault}
 use Rattle.walk_files.specs.declared.limits.TheConstants.{MOST_PEAK}
-use Rattle.commands.specs.Checks.{Check, file, meant, pass_unless, ◌>>=◌}
-use Rattle.commands.specs.Refusals.{off_line, numbers_line, pair_line, certificate_line}
+use Rattle.commands.specs.Checks.{Check, End, Pass, Refuse, file, meant, pass_unless, where_told, ◌>>=◌}
+use Rattle.commands.specs.Refusals.{off_line, numbers_line, pair_line, certificate_line, too_large}
 use Rattle.commands.specs.declared.certificate.Certificate.{Certificate}
 use Rattle.commands.specs.declared.certificate.Certificate.TheVariants.{Moves, Denial}
 use Rattle.commands.specs.declared.refusal.Input.TheVariants as inputs
@@ -55,11 +55,21 @@ abbrev pub IsPeakRead : Certificate → Type 0
 IsPeakRead (Moves list) = list.peak ≤ MOST_PEAK
 IsPeakRead (Denial denial) = Unit {0}
 
--- the certificate that the file spells
-abbrev pub certificate_in : Option Files → List ℕ → Check Certificate
-certificate_in held name = do
+-- the certificate that the bytes of the file spell
+abbrev pub certificate_in_bytes : Option Files → List ℕ → Check Certificate
+certificate_in_bytes held name = do
   bytes ← file held name inputs.Certificate
   meant certificate_line (certificate_of bytes)
+
+-- how the check of a certificate ends of which nothing is told: any passes, or is refused as one that is too large or has some fault
+abbrev pub IsCertificateEnd : End Certificate → Type 0
+IsCertificateEnd (Pass shown) = Unit {0}
+IsCertificateEnd (Refuse texts) =
+    (texts ≡ too_large inputs.Certificate) ⊎ ((fault : CertFault) × (texts ≡ certificate_line fault))
+
+-- the certificate that the file spells, which is read in pieces
+abbrev pub certificate_in : Option Files → List ℕ → Check Certificate
+certificate_in held name = where_told held name (certificate_in_bytes held name) IsCertificateEnd
 
 -- ---- what the bytes of a file spell
 

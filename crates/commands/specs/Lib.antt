@@ -9,6 +9,7 @@ pub mod SurfaceInput
 pub mod Surface
 pub mod Decide
 pub mod Certify
+pub mod Progress
 pub mod Verify
 pub mod Reduce
 pub mod Trial

@@ -36,11 +36,15 @@ pub record Replies (check : Check Answer) (reply : Reply) : Type 0 where
   pub passes : Passes check answer
   pub is_answer : IsReplyTo answer reply
 
+-- there is a reply to an answer that the check may pass, or what stops it
+abbrev pub Concludes : Check Answer → Result Reply Stop → Type 0
+Concludes check result = MatchResult result (Replies check) (Stops check)
+
 -- A command ended as its check, where the files are these: with the reply to an answer that may pass, or with what stops the check. A read
 -- fault is told only where the count of faults rose; where the check looks at no file, the shelf is as it was; and it was only read.
 pub record Runs {X : Type 0} (held : X → Option Files) (faults : X → ℕ) (old new : X) (command : Option Files → Check Answer)
     (result : Result Reply Stop) : Type 0 where
-  pub end : MatchResult result (Replies (command (held old))) (Stops (command (held old)))
+  pub end : Concludes (command (held old)) result
   pub fault : result ≡ Err ReadFault → Rose (faults old) (faults new)
   pub untouched : (command (held old)).EachFile (λ _. ⊥) → new ≡ old
   pub only_reads : OnlyReads held faults old new

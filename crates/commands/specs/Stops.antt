@@ -3,11 +3,15 @@ use Rattle.std.specs.Prelude.{◌≡◌, ℕ, List, Option, Result, Err, MatchRe
 use Rattle.surf_io.specs.Calls.{OnlyReads}
 use Rattle.surf_io.specs.Faults.{Rose}
 use Rattle.surf_io.specs.Files.{Files}
+use Rattle.walk_files.specs.declared.stream_end.StreamEnd.{StreamEnd}
+use Rattle.walk_files.specs.declared.stream_end.StreamEnd.TheVariants as streams
 use Rattle.commands.specs.Answers.{Texts, NoText, IsText}
 use Rattle.commands.specs.Certificates.{certificate_text}
 use Rattle.commands.specs.Checks.{Check, Refuse, Passes}
 use Rattle.commands.specs.Lines.{in_lines, odd_chain_line}
 use Rattle.commands.specs.Reduce.{words_text}
+use Rattle.commands.specs.Refusals.{certificate_line, too_large}
+use Rattle.commands.specs.declared.refusal.Input.TheVariants as inputs
 use Rattle.commands.specs.declared.stop.Stop.{Stop}
 use Rattle.commands.specs.declared.stop.Stop.TheVariants.{Refused, ReadFault, OutOfMemory}
 use Rattle.commands.specs.declared.text.Text.{Text}
@@ -32,6 +36,13 @@ abbrev pub Stops : {T : Type 0} → Check T → Stop → Type 0
 Stops check (Refused text) = (texts : Texts) × check.Ends (Refuse texts) × IsText texts (bytes_of text)
 Stops check ReadFault = Unit {0}
 Stops check OutOfMemory = Unit {0}
+
+-- what stops a command where a certificate is not read on
+abbrev pub StopsReading : StreamEnd → Stop → Type 0
+StopsReading streams.Fault stop = stop ≡ ReadFault
+StopsReading streams.TooLarge stop = Tells (too_large inputs.Certificate) stop
+StopsReading (streams.Cert fault) stop = Tells (certificate_line fault) stop
+StopsReading streams.OutOfMemory stop = stop ≡ OutOfMemory
 
 -- what was made is a thing that the check may pass, or what stopped stops the check
 abbrev pub Ends : {T : Type 0} → Check T → Result T Stop → Type 0

@@ -122,9 +122,14 @@ judgement mesh first second (Denial denial) = without_files ends
     ends (Pass answer) =
         (verdict : DenialVerdict) × (answer ≡ denial_answer verdict) × IsVerdict mesh first second denial verdict
 
+-- the judgement on the certificate in that file
+abbrev pub judged_file : Option Files → (certificate : List ℕ) → FaceList → (first second : List ℕ) → Check Answer
+judged_file held certificate mesh first second = do
+  shown ← certificate_in held certificate
+  judgement mesh first second shown
+
 abbrev pub verify : Option Files → (mesh walks certificate : List ℕ) → Check Answer
 verify held mesh walks certificate = do
   faces ← mesh_in held mesh
   pair ← pair_in held walks faces
-  shown ← certificate_in held certificate
-  judgement faces (walk_at pair 0) (walk_at pair 1) shown
+  judged_file held certificate faces (walk_at pair 0) (walk_at pair 1)

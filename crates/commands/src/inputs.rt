@@ -4,14 +4,13 @@ ghost use Rattle.surf_model.specs.FaceLists.{FaceList};
 ghost use Rattle.surf_model.specs.Edges.{IsTableOf};
 ghost use Rattle.walk_files.specs.Pairs.{IsPair};
 ghost use Rattle.commands.specs.Checks.{file, meant, Passes};
-ghost use Rattle.commands.specs.Inputs.{mesh_in, pair_in, certificate_in};
+ghost use Rattle.commands.specs.Inputs.{mesh_in, pair_in};
 ghost use Rattle.commands.specs.Refusals.{numbers_line};
 ghost use Rattle.commands.specs.declared.refusal.Input.{Input};
 ghost use Rattle.commands.specs.declared.stop.Stop.{Stop};
 ghost use Rattle.walk_files.specs.NumberTexts.{walks_of};
 ghost use Rattle.commands.specs.Stops.{Ends, Reads, Stops};
 
-use crate::certificate::{Certificate, read_certificate};
 use crate::refusal::Input;
 use crate::stop::Stop;
 use off_reader::read_off;
@@ -75,12 +74,4 @@ fn walks_of_bytes(alloc: Global, bytes: &[u8]) -> Result<WalkList, Stop>
         Ok(walks) => Ok(walks),
         Err(fault) => Err(Input::Walks.refused_for(fault)),
     }
-}
-
-/// Reads the certificate. The bytes of its file are given back.
-pub fn read_cert<S: Shelf>(alloc: Global, shelf: &mut S, name: &str) -> Result<Certificate, Stop>
-    ensures { Reads S.held S.faults shelf.old shelf.new (λ files. Ends (certificate_in files name.now) result) result }
-{
-    let bytes = read_file(alloc, shelf, name, Input::Certificate)?;
-    read_certificate(alloc, &bytes)
 }

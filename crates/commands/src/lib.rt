@@ -6,7 +6,7 @@
 //!
 //! A command in another crate is written the same way. It takes from here:
 //!
-//! - `read_file`, `read_mesh`, `read_pair`, `read_cert` and `read_surface`, each with the clause `Reads` of its check;
+//! - `read_file`, `read_mesh`, `read_pair` and `read_surface`, each with the clause `Reads` of its check;
 //! - `refused` and `refused_at`, which make the `Stop` of a fault that this crate does not know, with the clause `Tells`;
 //! - `Line`, `Phrase` and `Text`, of which a `Reply` is made, which `give` writes;
 //! - the parts that checks are made of (specs/Checks.antt), and the lemmas of proofs/: `Running` and `Checking` for the clause `Runs`,
@@ -19,6 +19,7 @@ pub mod decide;
 mod inputs;
 mod line;
 mod odd_chain_line;
+mod progress;
 pub mod reduce;
 mod refusal;
 mod reply;
@@ -31,8 +32,8 @@ pub mod trial;
 pub mod verify;
 mod word_lines;
 
-pub use certificate::{Certificate, read_certificate};
-pub use inputs::{MOST_BYTES, read_cert, read_file, read_mesh, read_pair};
+pub use certificate::Certificate;
+pub use inputs::{MOST_BYTES, read_file, read_mesh, read_pair};
 pub use line::{Line, MOST_OTHERS, Phrase};
 pub use refusal::{Input, refused, refused_at};
 pub use reply::{Reply, give};

@@ -9,7 +9,7 @@ use crate::stop::Stop;
 use crate::text::Text;
 use manifold_check::SurfaceFault;
 use off_reader::OffFault;
-use walk_files::{CertFault, PairFault, WalkFault};
+use walk_files::{CertFault, PairFault, StreamEnd, WalkFault};
 
 /// A refusal that these phrases tell.
 pub fn refused(phrases: &[Phrase]) -> Stop
@@ -178,6 +178,21 @@ impl From<CertFault> for Stop {
             CertFault::Extra { line } => refused_at(certificate, line, "extra"),
             CertFault::Peak { line } => refused_at(certificate, line, "peak"),
             CertFault::OutOfMemory => Stop::OutOfMemory,
+        }
+    }
+}
+
+impl From<StreamEnd> for Stop {
+    ghost use Rattle.commands.specs.Stops.{StopsReading};
+
+    ghost from_gives = { λ end stop. StopsReading end stop };
+
+    fn from(end: StreamEnd) -> Stop {
+        match end {
+            StreamEnd::Fault => Stop::ReadFault,
+            StreamEnd::TooLarge => Input::Certificate.too_large(),
+            StreamEnd::Cert(fault) => Stop::from(fault),
+            StreamEnd::OutOfMemory => Stop::OutOfMemory,
         }
     }
 }

@@ -1,29 +1,35 @@
 //! The command `verify`: judging a certificate against the mesh and the walks alone.
-ghost use Rattle.std.specs.Prelude.{◌≡◌, ◌≤◌, length, map, MatchResult};
+ghost use Rattle.std.specs.Prelude.{◌≡◌, ◌≤◌, List, length, map, None, IsTrue, IfSome, MatchResult};
+ghost use Rattle.surf_io.specs.Files.{file_of};
 ghost use Rattle.surf_model.specs.Edges.{IsTableOf};
-ghost use Rattle.walk_files.specs.Pairs.{IsPair};
+ghost use Rattle.surf_model.specs.Walks.{IsWalk};
+ghost use Rattle.surf_model.specs.declared.moves.Move.{Move};
+ghost use Rattle.labellings.specs.declared.verdict.DenialVerdict.{DenialVerdict};
+ghost use Rattle.move_checker.specs.Verdicts.{verdict_of};
+ghost use Rattle.walk_files.specs.Streams.{IsIn, streams_list};
 ghost use Rattle.commands.specs.Answers.{Exactly};
-ghost use Rattle.commands.specs.Inputs.{IsPeakRead, walk_at};
+ghost use Rattle.commands.specs.Inputs.{certificate_in};
 ghost use Rattle.commands.specs.Lines.{line, phrase_text};
-ghost use Rattle.commands.specs.Replies.{IsReplyTo, Replies, Runs};
+ghost use Rattle.commands.specs.Progress.{IsVerdictOnFile, outlook, peak_in};
+ghost use Rattle.commands.specs.Replies.{Concludes, IsReplyTo, Runs};
+ghost use Rattle.commands.specs.Stops.{Reads, Stops};
 ghost use Rattle.commands.specs.Verify as of_verify;
+ghost use Rattle.commands.specs.Verify.{denial_answer, fault_word, judged_file, verdict_answer};
 ghost use Rattle.commands.specs.declared.status.Status.{Status};
 ghost use Rattle.commands.specs.declared.stop.Stop.{Stop};
-ghost use Rattle.labellings.specs.declared.verdict.DenialVerdict.{DenialVerdict};
-ghost use Rattle.commands.specs.Verify.{denial_answer, fault_word, judgement, verdict_answer};
 
-use crate::certificate::Certificate;
-use crate::inputs::{read_cert, read_mesh, read_pair};
+use crate::inputs::{MOST_BYTES, read_mesh, read_pair};
 use crate::line::{Line, MOST_OTHERS, Phrase};
+use crate::progress::{Pair, Progress};
 use crate::reply::Reply;
 use crate::stop::Stop;
 use crate::text::Text;
 use labellings::{DenialVerdict, LabelFault, check_denial};
-use move_checker::{MoveFault, Verdict, check_moves};
+use move_checker::{MoveFault, Verdict};
 use std::alloc::Global;
 use surf_io::Shelf;
-use surf_model::{Faces, Sides};
-use walk_files::WalkList;
+use surf_model::Sides;
+use walk_files::{CertHead, CertStream};
 
 /// The judgement on the certificate in the file `certificate`, between the walks in the file `walks`,
 /// on the mesh in the file `mesh`. A file is read only where those before it are in order.
@@ -38,37 +44,77 @@ pub fn verify<S: Shelf>(
 {
     let faces = read_mesh(alloc, shelf, mesh)?;
     let sides = Sides::build(alloc, &faces)?;
-    let pair = read_pair(alloc, shelf, walks, &sides)?;
-    let shown = read_cert(alloc, shelf, certificate)?;
-    judge(alloc, &faces, &sides, &pair, shown)
+    let walks = read_pair(alloc, shelf, walks, &sides)?;
+    let pair = Pair {
+        faces: &faces,
+        sides: &sides,
+        first: walks.at(0),
+        second: walks.at(1),
+    };
+    judge(alloc, shelf, certificate, &pair)
 }
 
-/// The judgement on a certificate for a pair of walks of the mesh with this table.
-fn judge(
+/// The judgement on a certificate between two walks, read in pieces.
+fn judge<S: Shelf>(
     alloc: Global,
-    faces: &Faces,
-    sides: &Sides,
-    pair: &WalkList,
-    certificate: Certificate,
+    shelf: &mut S,
+    certificate: &str,
+    pair: &Pair<'_>,
 ) -> Result<Reply, Stop>
-    requires table { IsTableOf faces.now sides.now }
-    requires pair { IsPair faces.now pair.now }
-    requires peak { IsPeakRead certificate }
-    ensures { MatchResult result (Replies (judgement faces.now (walk_at pair.now 0) (walk_at pair.now 1) certificate))
-        (λ stop. stop ≡ Stop.OutOfMemory) }
+    requires table { IsTableOf pair.now.faces.now pair.now.sides.now }
+    requires first { IsWalk pair.now.faces.now pair.now.first.now }
+    requires second { IsWalk pair.now.faces.now pair.now.second.now }
+    ensures { Reads S.held S.faults shelf.old shelf.new (λ files. Concludes
+        (judged_file files certificate.now pair.now.faces.now pair.now.first.now pair.now.second.now) result) result }
 {
-    let first = pair.at(0);
-    let second = pair.at(1);
-    match certificate {
-        Certificate::Moves(list) => {
-            let verdict = check_moves(alloc, faces, sides, first, second, &list)?;
+    let mut stream = CertStream::start(alloc, shelf, certificate, MOST_BYTES)?;
+    match stream.head() {
+        CertHead::Moves { peak, .. } => {
+            let start = Progress::start(alloc, pair.first, peak)?;
+            let verdict = judge_moves(shelf, certificate, pair, stream, start)?;
             Ok(reply_on_moves(verdict))
         }
-        Certificate::Denial(denial) => {
-            let verdict = check_denial(alloc, faces, sides, first, second, denial)?;
+        CertHead::Labels { .. } => {
+            let denial = stream.denial(alloc, shelf, certificate)?;
+            let verdict = check_denial(
+                alloc,
+                pair.faces,
+                pair.sides,
+                pair.first,
+                pair.second,
+                denial,
+            )?;
             reply_on_denial(verdict)
         }
     }
+}
+
+/// The verdict on a list of moves, which is judged while it is read. Behind a move that is refused the file is read on to its end, as a
+/// line that is no move is refused before. It takes no memory.
+fn judge_moves<S: Shelf>(
+    shelf: &mut S,
+    name: &str,
+    pair: &Pair<'_>,
+    mut stream: CertStream,
+    mut progress: Progress,
+) -> Result<Verdict, Stop>
+    requires table { IsTableOf pair.now.faces.now pair.now.sides.now }
+    requires list { IsTrue (streams_list stream) }
+    requires fresh { (stream.given ≡ 0) × (stream.refusal ≡ None) × (stream.lines.reading.limit ≡ MOST_BYTES) }
+    requires file { IfSome (file_of (S.held shelf.old) name.now) (IsIn stream) }
+    requires start { (moves : List Move) → outlook pair.now.faces.now pair.now.second.now 0 progress moves
+        ≡ verdict_of pair.now.faces.now pair.now.first.now pair.now.second.now
+        (record { moves = moves; peak = peak_in stream.head }) }
+    ensures { Reads S.held S.faults shelf.old shelf.new (λ files. MatchResult result
+        (IsVerdictOnFile files name.now pair.now.faces.now pair.now.first.now pair.now.second.now)
+        (Stops (certificate_in files name.now))) result }
+{
+    let mut done = 0;
+    'moves: while let Some(mv) = stream.next_move(shelf, name)? {
+        progress.step(pair, done, mv);
+        done += 1;
+    }
+    Ok(progress.verdict(pair.second))
 }
 
 /// The reply that a verdict on a list of moves is.

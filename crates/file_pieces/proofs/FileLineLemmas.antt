@@ -1,24 +1,24 @@
 -- Lines of a file that are read one by one.
-use Rattle.std.proofs.Common.{◌≡◌, ◌≢◌, ℕ, suc, ◌+◌, ◌≤◌, Bool, true, false, not, cond, List, [], ◌∷◌, ◌++◌, length, Option, Some, None, IfSome, MatchOption, refl, sym, ap, subst, ◌∙◌, arith, append_assoc, append-nil}
+use Rattle.std.proofs.Common.{◌≡◌, ◌≢◌, ℕ, suc, ◌+◌, ◌<◌, ◌≤◌, Bool, true, false, not, cond, List, [], ◌∷◌, ◌++◌, length, Option, Some, None, IfSome, refl, sym, ap, subst, ◌∙◌, arith, append_assoc, append-nil}
 use Rattle.std.specs.Prelude.{slice_get}
-use Rattle.std.specs.List.{list_all, before_first, onto_first}
+use Rattle.std.specs.List.{list_all}
 use Rattle.std.proofs.lemmas.Bool.{and_parts, and_from, not-true, not_from_false, ne_eqb}
 use Rattle.std.proofs.lemmas.List.Folds.{list_all-append}
 use Rattle.text_scan.specs.Lines.{Line, is_filled, cut, unmarked, lines_from}
 use Rattle.text_scan.specs.Unread.{is_line_feed, words_here, behind}
-use Rattle.text_scan.proofs.PlaceLemmas.{behind-nil, behind-line_feed, behind-other, cut_first, lines_from_here}
+use Rattle.text_scan.proofs.PlaceLemmas.{words_here-nil, behind-line_feed, behind-other, cut_first, lines_from_here}
 use Rattle.file_pieces.specs.declared.file_lines.Taken.{Taken}
 use Rattle.file_pieces.specs.Reading.{Reading, Reads, left_of}
 use Rattle.file_pieces.specs.SameLines.{SameLine}
 use Rattle.file_pieces.specs.ShortLines.{ShortText, Stands}
-use Rattle.file_pieces.specs.FileLines.{IsOneLine, IsFirstLine, ReadsLine, IsOn, StandsBehind, Passes}
+use Rattle.file_pieces.specs.FileLines.{IsOneLine, ReadsLine, IsOn, StandsBehind, Passes}
 use Rattle.file_pieces.proofs.ReadingLemmas.{at_told}
 use Rattle.file_pieces.proofs.ShortLemmas.{words_here-cut, no_lines, none_behind}
 
 pub starts_on : (number : ℕ) (bytes left : List ℕ) (line : ShortText) → Stands line bytes → IsOneLine bytes
     → IsOn number (bytes ++ left) line number left
 starts_on number bytes left line stands alone =
-    record { so_far = bytes; stands = stands; alone = alone; lines = refl; count = refl }
+    record { so_far = bytes; stands = stands; alone = alone; lines = refl; count = refl; later = omega arith }
 
 -- a byte is put behind the line
 pub puts_on : (first : ℕ) (all : List ℕ) (old new : ShortText) (number byte : ℕ) (left : List ℕ) → (byte ≡ 10 → ⊥)
@@ -33,6 +33,7 @@ puts_on first all old new number byte left other puts on =
           ∙ and_from _ _ on.alone (and_from _ _ (not_from_false (is_line_feed byte) (no_feed byte other)) refl);
       lines = on.lines ∙ ap (lines_from number) same;
       count = on.count ∙ ap (λ t. number + length (cut t)) same;
+      later = on.later;
     }
   where
     no_feed : (b : ℕ) → (b ≡ 10 → ⊥) → is_line_feed b ≡ false
@@ -44,7 +45,14 @@ pub ends_blank : (first : ℕ) (all : List ℕ) (old new : ShortText) (number ne
     → Stands new [] → IsOn first all old number (10 ∷ left) → IsOn first all new next left
 ends_blank first all old new number next short left reads begins on =
     let r = reads on.so_far left on.stands on.alone in
-    record { so_far = []; stands = begins; alone = refl; lines = on.lines ∙ r.lines; count = on.count ∙ r.count }
+    record {
+      so_far = [];
+      stands = begins;
+      alone = refl;
+      lines = on.lines ∙ r.lines;
+      count = on.count ∙ r.count;
+      later = omega (arith, on.later, r.later);
+    }
 
 -- a line with words was found
 pub finds : (first : ℕ) (all : List ℕ) (old : ShortText) (number next n : ℕ) (short : List (List ℕ)) (left : List ℕ)
@@ -55,6 +63,7 @@ finds first all old number next n short left reads on =
     record {
       lines = record { words = r.lines.words; first = on.lines ∙ r.lines.first; same = r.lines.same };
       count = on.count ∙ r.count;
+      later = omega (arith, on.later, r.later);
     }
 
 -- the text has ended
@@ -66,15 +75,17 @@ ends_text first all old number next found short left none reads on =
     let bytes : on.so_far ++ left ≡ on.so_far = ap (λ t. on.so_far ++ t) none ∙ append-nil on.so_far in
     let lines : lines_from first all ≡ lines_from number on.so_far = on.lines ∙ ap (lines_from number) bytes in
     subst (λ t. ReadsLine first all found short next t) (sym none)
-    (by_found found lines (on.count ∙ ap (λ t. number + length (cut t)) bytes) (reads on.so_far on.stands on.alone))
+    (by_found found lines (on.count ∙ ap (λ t. number + length (cut t)) bytes) on.later (reads on.so_far on.stands on.alone))
   where
     by_found : (found : Option ℕ) → lines_from first all ≡ lines_from number on.so_far
-        → first + length (cut all) ≡ number + length (cut on.so_far)
+        → first + length (cut all) ≡ number + length (cut on.so_far) → first ≤ number
         → ReadsLine number on.so_far found short next [] → ReadsLine first all found short next []
-    by_found None lines count r = record { lines = lines ∙ r.lines; count = count ∙ r.count }
-    by_found (Some n) lines count r = record {
+    by_found None lines count later r =
+        record { lines = lines ∙ r.lines; count = count ∙ r.count; later = omega (arith, later, r.later) }
+    by_found (Some n) lines count later r = record {
       lines = record { words = r.lines.words; first = lines ∙ r.lines.first; same = r.lines.same };
       count = count ∙ r.count;
+      later = omega (arith, later, r.later);
     }
 
 -- ---- a line at its end
@@ -121,6 +132,7 @@ line_found number next bytes left short alone same filled is =
     subst (λ n. ReadsLine number (bytes ++ 10 ∷ left) (Some number) short n left) (sym is) (record {
       lines = record { words = words_here bytes; first = here number bytes left alone ∙ rw some refl; same = same };
       count = omega (arith, count_line bytes left alone);
+      later = omega arith;
     })
 
 pub line_blank : (number next : ℕ) (bytes left : List ℕ) (short other : List (List ℕ)) → IsOneLine bytes → SameLine short (words_here bytes)
@@ -130,6 +142,7 @@ line_blank number next bytes left short other alone same blank is =
     subst (λ n. ReadsLine number (bytes ++ 10 ∷ left) None other n left) (sym is) (record {
       lines = here number bytes left alone ∙ rw none refl;
       count = omega (arith, count_line bytes left alone);
+      later = omega arith;
     })
 
 -- ---- the end of a text
@@ -154,6 +167,11 @@ unfolding cut
 count_end number next bytes begun alone some is =
     omega (arith, count_last bytes alone, ap (λ b. let n : ℕ = cond b 1 0 in n) some, is)
 
+-- a line with words has a byte
+filled_bytes : (bytes : List ℕ) → is_filled (words_here bytes) ≡ true → is_filled bytes ≡ true
+filled_bytes [] some = cc (some, words_here-nil)
+filled_bytes (byte ∷ bytes) some = refl
+
 pub text_found : (number next : ℕ) (bytes : List ℕ) (short : List (List ℕ)) (begun : Bool) → IsOneLine bytes
     → SameLine short (words_here bytes)
     → is_filled short ≡ true → begun ≡ is_filled bytes → next ≡ number + cond begun 1 0
@@ -169,7 +187,11 @@ text_found number next bytes short begun alone same filled some is =
         same = same;
       };
       count = count_end number next bytes begun alone some is;
+      later = behind (some ∙ filled_bytes bytes words) is;
     }
+  where
+    behind : begun ≡ true → next ≡ number + cond begun 1 0 → number < next
+    behind e f = omega (arith, ap (λ b. let n : ℕ = cond b 1 0 in n) e, f)
 
 pub text_blank : (number next : ℕ) (bytes : List ℕ) (short : List (List ℕ)) (begun : Bool) → IsOneLine bytes
     → SameLine short (words_here bytes)
@@ -179,6 +201,7 @@ text_blank number next bytes short begun alone same blank some is =
     record {
       lines = last_line number bytes alone ∙ rw words (sym (no_lines next));
       count = count_end number next bytes begun alone some is;
+      later = omega (arith, is);
     }
 
 -- ---- one byte after another
@@ -247,6 +270,7 @@ no_mark_on file seen left line none parts stands alone = record {
   alone = alone;
   lines = ap (lines_from 1) (none ∙ parts);
   count = ap (λ t. 1 + length (cut t)) (none ∙ parts);
+  later = omega arith;
 }
 
 -- the first, the second or the third byte is another
@@ -273,7 +297,14 @@ pub mark_passed : (file left more last : List ℕ) (line : ShortText) → file �
 mark_passed file left more last line first second third stands =
     let whole : unmarked file ≡ last =
     ap unmarked (first ∙ ap (λ t. 239 ∷ t) (second ∙ ap (λ t. 187 ∷ t) third)) ∙ marked last in
-    record { so_far = []; stands = stands; alone = refl; lines = ap (lines_from 1) whole; count = ap (λ t. 1 + length (cut t)) whole }
+    record {
+      so_far = [];
+      stands = stands;
+      alone = refl;
+      lines = ap (lines_from 1) whole;
+      count = ap (λ t. 1 + length (cut t)) whole;
+      later = omega arith;
+    }
 
 -- what a call says of the next byte, where the file is told
 pub passes_told : (file : Option (List ℕ)) (old new : Reading) (passed as_told : Bool) (byte : ℕ) (f : List ℕ) → file ≡ Some f

@@ -1,5 +1,5 @@
 -- The lines of a file that is read in pieces.
-use Rattle.std.specs.Prelude.{◌≡◌, ◌≢◌, slice_get, false, ◌⊎◌, ℕ, ◌+◌, ◌≤◌, Bool, if◌then◌else◌, not, true, List, [], ◌∷◌, ◌++◌, length, Option, Some, None, MatchOption}
+use Rattle.std.specs.Prelude.{◌≡◌, ◌≢◌, slice_get, false, ◌⊎◌, ℕ, ◌+◌, ◌<◌, ◌≤◌, Bool, if◌then◌else◌, not, true, List, [], ◌∷◌, ◌++◌, length, Option, Some, None, MatchOption}
 use Rattle.std.specs.List.{list_all}
 use Rattle.text_scan.specs.Lines.{Line, is_filled, cut, lines_from}
 use Rattle.text_scan.specs.Unread.{is_line_feed, words_here}
@@ -25,11 +25,12 @@ pub record IsFirstLine (lines : List Line) (number : ℕ) (short : List (List �
   pub same : SameLine short words
 
 -- Of these bytes, whose first line has this number, blank lines were read, and then the line that was found, if any; those bytes
--- are left.
+-- are left. A line that was found lies before the next.
 pub record ReadsLine (number : ℕ) (bytes : List ℕ) (found : Option ℕ) (short : List (List ℕ)) (next : ℕ) (left : List ℕ) : Type 0 where
   pub lines : MatchOption found (lines_from number bytes ≡ lines_from next left)
       (λ n. IsFirstLine (lines_from number bytes) n short (lines_from next left))
   pub count : number + length (cut bytes) ≡ next + length (cut left)
+  pub later : MatchOption found (number ≤ next) (λ n. number < next)
 
 -- Of these bytes, whose first line has the number `first`, blank lines were read, and the short line stands for what was read of the
 -- present one.
@@ -39,6 +40,7 @@ pub record IsOn (first : ℕ) (all : List ℕ) (line : ShortText) (number : ℕ)
   pub alone : IsOneLine so_far
   pub lines : lines_from first all ≡ lines_from number (so_far ++ left)
   pub count : first + length (cut all) ≡ number + length (cut (so_far ++ left))
+  pub later : first ≤ number
 
 -- where the reading stands behind a byte: in a line, behind a line with words, or at the end
 abbrev pub StandsBehind : Taken → ℕ → List ℕ → ShortText → ℕ → List ℕ → Type 0

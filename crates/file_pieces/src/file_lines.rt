@@ -125,6 +125,7 @@ impl FileLines {
         ensures failed { result ≡ Err PieceFault.Failed → Rose (S.faults shelf.old) (S.faults shelf.new) }
         ensures too_large { result ≡ Err PieceFault.TooLarge → IfSome (file_of (S.held shelf.old) name.now)
             (λ file. Reads self.old.reading file → self.old.reading.limit < length file) }
+        ensures within { OnOk result (self.new.reading.place ≤ self.new.reading.limit) }
         ensures number { self.new.number ≡ self.old.number }
         ensures limit { self.new.reading.limit ≡ self.old.reading.limit }
         ensures only_reads { OnlyReads S.held S.faults shelf.old shelf.new }

@@ -127,6 +127,7 @@ impl Pieces {
         ensures failed { result ≡ Err PieceFault.Failed → Rose (S.faults shelf.old) (S.faults shelf.new) }
         ensures too_large { result ≡ Err PieceFault.TooLarge → IfSome (file_of (S.held shelf.old) name.now)
             (λ file. Reads self.old file → self.old.limit < length file) }
+        ensures within { OnOk result (self.new.place ≤ self.new.limit) }
         ensures limit { self.new.limit ≡ self.old.limit }
         ensures only_reads { OnlyReads S.held S.faults shelf.old shelf.new }
     {

@@ -13,3 +13,4 @@ pub mod DenialRoundTrip
 pub mod AnswerLines
 mod SameGrammar
 mod StreamLemmas
+mod StreamDenials

@@ -1,13 +1,14 @@
 -- The lines of a certificate that is read in pieces.
-use Rattle.std.proofs.Common.{◌≡◌, ◌⊎◌, ℕ, ◌+◌, ◌-◌, ◌==◌, Bool, true, false, cond, List, [], ◌∷◌, length, drop, inl, inr, refl, sym, ap, subst, ◌∙◌, arith, drop-drop}
+use Rattle.std.proofs.Common.{◌≡◌, ◌⊎◌, ℕ, ◌+◌, ◌-◌, ◌<◌, ◌≤◌, ◌==◌, Bool, true, false, cond, List, [], ◌∷◌, length, drop, inl, inr, refl, sym, ap, subst, ◌∙◌, arith, drop-drop}
+use Rattle.std.proofs.lemmas.List.{length-drop}
 use Rattle.std.specs.Prelude.{Option, Some, None, Result, Ok, Err, IfNone, IfSome, MatchOption, option_map}
 use Rattle.std.specs.Option.{ok_or}
 use Rattle.text_scan.specs.Lines.{Line, is_filled, cut, unmarked, lines_from, full_lines, end_line}
 use Rattle.text_scan.specs.Unread.{Unread, lines_left, at_line}
 use Rattle.surf_model.specs.declared.moves.Move.{Move}
-use Rattle.file_pieces.specs.Reading.{Reading, Reads, left_of}
+use Rattle.file_pieces.specs.Reading.{Reading, Reads, left_of, read_so_far}
 use Rattle.file_pieces.specs.SameLines.{SameLine}
-use Rattle.file_pieces.specs.FileLines.{IsFirstLine, ReadsLine, LinesReading}
+use Rattle.file_pieces.specs.FileLines.{ReadsLine, LinesReading}
 use Rattle.file_pieces.specs.declared.fault.PieceFault.{PieceFault}
 use Rattle.file_pieces.specs.declared.fault.PieceFault.TheVariants.{Failed, TooLarge as TooManyBytes}
 use Rattle.walk_files.specs.declared.fault.CertFault.{CertFault}
@@ -15,11 +16,11 @@ use Rattle.walk_files.specs.declared.fault.CertFault.TheVariants.{NoHead, Bad, E
 use Rattle.walk_files.specs.declared.stream_end.StreamEnd.{StreamEnd}
 use Rattle.walk_files.specs.declared.stream_end.StreamEnd.TheVariants.{Fault, TooLarge, Cert, OutOfMemory}
 use Rattle.walk_files.specs.Certificates.{move_of, answer_of, fitting_head, head_in, first_head, head_among, head_of_text, behind_head}
-use Rattle.walk_files.specs.Readers.{Certificate, count_in, next_of, next_on, next_answer, lines_to_come, moves_to_come}
+use Rattle.walk_files.specs.Readers.{count_in, next_of, next_on, next_answer, lines_to_come}
 use Rattle.walk_files.specs.declared.certificate.Answer.{Answer}
 use Rattle.walk_files.specs.declared.certificate.CertHead.{CertHead}
 use Rattle.walk_files.specs.StreamEnds.{end_of_piece}
-use Rattle.walk_files.specs.Streams.{Streamed, reader_at, streams_list, IsIn, Belongs, IsAnswer, end_behind}
+use Rattle.walk_files.specs.Streams.{Streamed, reader_at, streams_list, IsIn, Belongs, IsAnswer, IsWithin, end_behind}
 use Rattle.walk_files.proofs.SameGrammar.{move_same, head_same}
 
 -- ---- the short line
@@ -64,11 +65,12 @@ next_read number bytes (Some n) short next left to_come read reads none is =
 -- the lines behind it are left
 pub next_left : (number : ℕ) (bytes : List ℕ) (found : Option ℕ) (short : List (List ℕ)) (next : ℕ) (left : List ℕ)
     → ReadsLine number bytes found short next left → IfNone found (left ≡ [])
-    → (lines_from next left ≡ drop 1 (lines_from number bytes)) × (end_behind next left ≡ end_behind number bytes)
+    → (lines_from next left ≡ drop 1 (lines_from number bytes)) × (end_behind next left ≡ end_behind number bytes) × (number ≤ next)
 next_left number bytes None short next left reads none =
     let rest : lines_from next left ≡ [] = ap (lines_from next) none ∙ no_line_left next in
-    (rest ∙ ap (drop 1) (sym rest ∙ sym reads.lines), sym reads.count)
-next_left number bytes (Some n) short next left reads none = (ap (drop 1) (sym reads.lines.first), sym reads.count)
+    (rest ∙ ap (drop 1) (sym rest ∙ sym reads.lines), sym reads.count, reads.later)
+next_left number bytes (Some n) short next left reads none =
+    (ap (drop 1) (sym reads.lines.first), sym reads.count, omega (arith, reads.later))
 
 -- ---- answers
 
@@ -95,19 +97,85 @@ pub answers_piece : {A : Type 0} (fault : PieceFault) (whole : Result A CertFaul
 answers_piece Failed whole = tt
 answers_piece TooManyBytes whole = tt
 
+-- ---- the next line
+
+-- what the next line is, where the file is told
+abbrev pub FindsLine : LinesReading → LinesReading → Option ℕ → List (List ℕ) → List ℕ → Type 0
+FindsLine old next found short file = Reads old.reading file →
+    ReadsLine old.number (left_of old.reading file) found short next.number (left_of next.reading file)
+    × IfNone found (left_of next.reading file ≡ [])
+
+-- ---- the limit
+
+pub within_read : (end : StreamEnd) (file : List ℕ) (reading : Reading) → Reads reading file → reading.ended ≡ true
+    → reading.place ≤ reading.limit → IsWithin end (length file) reading.limit
+within_read (Cert fault) file reading reads ended within = omega (arith, reads.whole ended, within)
+within_read Fault file reading reads ended within = tt
+within_read TooLarge file reading reads ended within = tt
+within_read OutOfMemory file reading reads ended within = tt
+
+-- the rest was passed over
+pub within_passed : (file : Option (List ℕ)) (old new : Reading) (end : StreamEnd) → IfSome file (λ f. Reads old f → Reads new f)
+    → new.ended ≡ true → new.place ≤ new.limit → new.limit ≡ old.limit
+    → IfSome file (λ f. Reads old f → IsWithin end (length f) old.limit)
+within_passed None old new end reads ended within limit = tt
+within_passed (Some f) old new end reads ended within limit = λ r.
+    subst (λ n. IsWithin end (length f) n) limit (within_read end f new (reads r) ended within)
+
+pub within_piece : (fault : PieceFault) (size limit : ℕ) → IsWithin (end_of_piece fault) size limit
+within_piece Failed size limit = tt
+within_piece TooManyBytes size limit = tt
+
+-- no call but that of a piece was made
+pub within_stopped : (file : Option (List ℕ)) (old : Reading) (fault : PieceFault)
+    → IfSome file (λ f. Reads old f → IsWithin (end_of_piece fault) (length f) old.limit)
+within_stopped None old fault = tt
+within_stopped (Some f) old fault = λ reads. within_piece fault (length f) old.limit
+
+-- the file is read on before
+pub within_behind : (file now : Option (List ℕ)) (old mid : Reading) (end : StreamEnd) → now ≡ file
+    → IfSome file (λ f. Reads old f → Reads mid f) → mid.limit ≡ old.limit
+    → IfSome now (λ f. Reads mid f → IsWithin end (length f) mid.limit)
+    → IfSome file (λ f. Reads old f → IsWithin end (length f) old.limit)
+within_behind None now old mid end same reads limit within = tt
+within_behind (Some f) now old mid end same reads limit within =
+    let then : Reads mid f → IsWithin end (length f) mid.limit =
+    subst (λ o. IfSome o (λ g. Reads mid g → IsWithin end (length g) mid.limit)) same within in
+    λ r. subst (λ n. IsWithin end (length f) n) limit (then (reads r))
+
+-- and before that
+pub reads_behind : (file now : Option (List ℕ)) (old mid next : Reading) → now ≡ file
+    → IfSome file (λ f. Reads old f → Reads mid f) → IfSome now (λ f. Reads mid f → Reads next f)
+    → IfSome file (λ f. Reads old f → Reads next f)
+reads_behind None now old mid next same first second = tt
+reads_behind (Some f) now old mid next same first second =
+    let then : Reads mid f → Reads next f = subst (λ o. IfSome o (λ g. Reads mid g → Reads next g)) same second in
+    λ r. then (first r)
+
+-- no line was left
+pub within_none : (file : Option (List ℕ)) (old : LinesReading) (next : LinesReading) (found : Option ℕ) (short : List (List ℕ))
+    → IfSome file (FindsLine old next found short) → found ≡ None → read_so_far next.reading ≤ next.reading.limit
+    → next.reading.limit ≡ old.reading.limit → IfSome file (λ f. Reads old.reading f → length f ≤ old.reading.limit)
+within_none None old next found short finds none within limit = tt
+within_none (Some f) old next found short finds none within limit = λ reads.
+    let last : left_of next.reading f ≡ [] = subst (λ o. IfNone o (left_of next.reading f ≡ [])) none (finds reads).1 in
+    omega (arith, within, limit, length-drop next.reading.place f, ap (λ (t : List ℕ). length t) last)
+
 -- ---- a stream behind an answer
 
 -- a move more was given
 is_in-more : (old : Streamed) (file : List ℕ) (next : LinesReading) → IsIn old file → streams_list old ≡ true → Reads next.reading file
     → lines_from next.number (left_of next.reading file) ≡ drop 1 (lines_from old.lines.number (left_of old.lines.reading file))
     → end_behind next.number (left_of next.reading file) ≡ end_behind old.lines.number (left_of old.lines.reading file)
+    → old.lines.number ≤ next.number
     → IsIn (record old { lines = next; given = old.given + 1 }) file
-is_in-more old file next is moves reads lines end = record {
+is_in-more old file next is moves reads lines end later = record {
   reads = reads;
   head = is.head;
   lines = λ undenied.
       lines ∙ ap (drop 1) (is.lines (is.denial moves)) ∙ drop-drop 1 old.given (behind_head (full_lines file));
-  end = end ∙ is.end;
+  end = λ undenied. end ∙ is.end (is.denial moves);
+  behind = omega (arith, is.behind, later);
   denial = λ m. is.denial moves;
 }
 
@@ -125,15 +193,17 @@ none_left end left (line ∷ lines) e = by_test (left == 0) (move_of line.words)
 is_in-same : (old : Streamed) (file : List ℕ) (next : LinesReading) → IsIn old file → streams_list old ≡ true → Reads next.reading file
     → lines_from next.number (left_of next.reading file) ≡ drop 1 (lines_from old.lines.number (left_of old.lines.reading file))
     → end_behind next.number (left_of next.reading file) ≡ end_behind old.lines.number (left_of old.lines.reading file)
+    → old.lines.number ≤ next.number
     → next_of (end_line file) (count_in old.head - old.given) (lines_to_come (reader_at old file)) ≡ Ok None
     → IsIn (record old { lines = next }) file
-is_in-same old file next is moves reads lines end none = record {
+is_in-same old file next is moves reads lines end later none = record {
   reads = reads;
   head = is.head;
   lines = λ undenied.
       lines ∙ ap (drop 1) (is.lines (is.denial moves))
       ∙ none_left (end_line file) (count_in old.head - old.given) (lines_to_come (reader_at old file)) none;
-  end = end ∙ is.end;
+  end = λ undenied. end ∙ is.end (is.denial moves);
+  behind = omega (arith, is.behind, later);
   denial = λ m. is.denial moves;
 }
 
@@ -142,7 +212,7 @@ gives : (old : Streamed) (file : List ℕ) (to_come : ℕ) → IsIn old file →
     → next_of (end_behind old.lines.number (left_of old.lines.reading file)) to_come
     (lines_from old.lines.number (left_of old.lines.reading file)) ≡ next_answer (reader_at old file)
 gives old file to_come is moves count =
-    ap (λ n. next_of n to_come (lines_from old.lines.number (left_of old.lines.reading file))) is.end
+    ap (λ n. next_of n to_come (lines_from old.lines.number (left_of old.lines.reading file))) (is.end (is.denial moves))
     ∙ ap (next_of (end_line file) to_come) (is.lines (is.denial moves))
     ∙ ap (λ n. next_of (end_line file) n (lines_to_come (reader_at old file))) count
 
@@ -156,6 +226,7 @@ abbrev pub LeavesLines : LinesReading → LinesReading → List ℕ → Type 0
 LeavesLines old next file = Reads old.reading file →
     (lines_from next.number (left_of next.reading file) ≡ drop 1 (lines_from old.number (left_of old.reading file)))
     × (end_behind next.number (left_of next.reading file) ≡ end_behind old.number (left_of old.reading file))
+    × (old.number ≤ next.number)
 
 -- what a stream says of its answer, at a file
 abbrev pub Answers : Streamed → Streamed → Result (Option Move) StreamEnd → List ℕ → Type 0
@@ -168,7 +239,7 @@ pub gives_move : (file : Option (List ℕ)) (old : Streamed) (next : LinesReadin
 gives_move None old next to_come mv moves count reads on leaves = tt
 gives_move (Some f) old next to_come mv moves count reads on leaves = λ is. (
   sym (gives old f to_come is moves count) ∙ reads is.reads,
-  λ none. is_in-more old f next is moves (on is.reads) (leaves is.reads).0 (leaves is.reads).1,
+  λ none. is_in-more old f next is moves (on is.reads) (leaves is.reads).0 (leaves is.reads).1 (leaves is.reads).2,
 )
 
 pub gives_none : (file : Option (List ℕ)) (old : Streamed) (next : LinesReading) (to_come : ℕ) → streams_list old ≡ true
@@ -179,7 +250,7 @@ gives_none None old next to_come moves count reads on leaves = tt
 gives_none (Some f) old next to_come moves count reads on leaves = λ is.
     let answer : next_answer (reader_at old f) ≡ Ok None = sym (gives old f to_come is moves count) ∙ reads is.reads in (
       answer,
-      λ none. is_in-same old f next is moves (on is.reads) (leaves is.reads).0 (leaves is.reads).1 answer,
+      λ none. is_in-same old f next is moves (on is.reads) (leaves is.reads).0 (leaves is.reads).1 (leaves is.reads).2 answer,
     )
 
 pub gives_end : (file : Option (List ℕ)) (old : Streamed) (next : LinesReading) (to_come : ℕ) (end : StreamEnd) → streams_list old ≡ true
@@ -198,6 +269,7 @@ pub record IsHeadRead (file : List ℕ) (read : Result CertHead CertFault) (next
   pub head : read ≡ head_of_text file
   pub lines : lines_from next left ≡ behind_head (full_lines file)
   pub end : end_behind next left ≡ end_line file
+  pub behind : (head : CertHead) → read ≡ Ok head → 1 < next
 
 -- on the first line that was found, which is no answer
 pub head_first : (file : List ℕ) (found : Option ℕ) (short : List (List ℕ)) (next : ℕ) (left : List ℕ) (read : Result CertHead CertFault)
@@ -213,6 +285,7 @@ head_first file None short next left read reads none is answer other answers =
       head = is ∙ ap (head_among (end_line file)) (sym lines);
       lines = ap (lines_from next) none ∙ no_line_left next ∙ ap behind_head (sym lines);
       end = omega (arith, reads.count);
+      behind = λ head ok. cc (is, ok);
     }
 head_first file (Some n) short next left read reads none is answer no_answer answers =
     let line : Line = record { number = n; words = reads.lines.words } in
@@ -223,6 +296,7 @@ head_first file (Some n) short next left read reads none is answer no_answer ans
       head = is reads.lines.words reads.lines.same ∙ sym head ∙ ap (head_among (end_line file)) (sym reads.lines.first);
       lines = sym behind ∙ ap behind_head (sym reads.lines.first);
       end = omega (arith, reads.count);
+      behind = λ h ok. omega (arith, reads.later);
     }
 
 -- or on the second, behind an answer
@@ -265,33 +339,17 @@ head_second file (Some n) found short other middle next between left answer read
               ∙ ap (head_among (end_line file)) (sym one.lines.first);
           lines = rest ∙ ap (drop 1) (sym ls) ∙ sym behind ∙ ap behind_head (sym one.lines.first);
           end = omega (arith, one.count, two.count);
+          behind = λ h ok. omega (arith, one.later, two.later);
         }
     by_found (Some m) two none reads = record {
       head = reads two.lines.words two.lines.same ∙ ap (first_head (Some answer) (end_line file)) (sym two.lines.first) ∙ sym head
           ∙ ap (head_among (end_line file)) (sym one.lines.first);
       lines = ap (drop 1) (sym two.lines.first) ∙ sym behind ∙ ap behind_head (sym one.lines.first);
       end = omega (arith, one.count, two.count);
+      behind = λ h ok. omega (arith, one.later, two.later);
     }
 
--- a stream that has begun
-pub starts_in : (file : List ℕ) (stream : Streamed) (read : Result CertHead CertFault) → IsHeadRead file read stream.lines.number
-    (left_of stream.lines.reading file)
-    → Reads stream.lines.reading file → read ≡ Ok stream.head → stream.given ≡ 0 → stream.denied ≡ false → IsIn stream file
-starts_in file stream read head reads is none undenied = record {
-  reads = reads;
-  head = sym head.head ∙ is;
-  lines = λ d. head.lines ∙ ap (λ n. drop n (behind_head (full_lines file))) (sym none);
-  end = head.end;
-  denial = λ m. undenied;
-}
-
 -- ---- what a call made of the next line
-
--- what the next line is, where the file is told
-abbrev pub FindsLine : LinesReading → LinesReading → Option ℕ → List (List ℕ) → List ℕ → Type 0
-FindsLine old next found short file = Reads old.reading file →
-    ReadsLine old.number (left_of old.reading file) found short next.number (left_of next.reading file)
-    × IfNone found (left_of next.reading file ≡ [])
 
 pub next_answered : (file : Option (List ℕ)) (old next : LinesReading) (found : Option ℕ) (short : List (List ℕ)) (to_come : ℕ)
     (read : Result (Option Move) CertFault) (result : Result (Option Move) StreamEnd) (ended : ℕ) → ended ≡ next.number
@@ -387,7 +445,7 @@ pub starts_told : (file : Option (List ℕ)) (old : LinesReading) (stream : Stre
     → IfSome file (λ f. Reads old.reading f → head_of_text f ≡ Ok stream.head)
     → IfSome file (λ f. Reads old.reading f → Reads stream.lines.reading f)
     → IfSome file (λ f. Reads old.reading f → (lines_from stream.lines.number (left_of stream.lines.reading f) ≡ behind_head (full_lines f))
-    × (end_behind stream.lines.number (left_of stream.lines.reading f) ≡ end_line f))
+    × (end_behind stream.lines.number (left_of stream.lines.reading f) ≡ end_line f) × (1 < stream.lines.number))
     → IfSome file (IsIn stream)
 starts_told None old stream limit new none undenied head reads left = tt
 starts_told (Some f) old stream limit new none undenied head reads left =
@@ -396,7 +454,8 @@ starts_told (Some f) old stream limit new none undenied head reads left =
       reads = reads begun;
       head = head begun;
       lines = λ d. (left begun).0 ∙ ap (λ n. drop n (behind_head (full_lines f))) (sym none);
-      end = (left begun).1;
+      end = λ d. (left begun).1;
+      behind = (left begun).2;
       denial = λ m. undenied;
     }
 

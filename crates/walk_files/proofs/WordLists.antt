@@ -1,5 +1,5 @@
 -- How long the lists of numbers of a text are.
-use Rattle.std.proofs.Common.{◌≡◌, ℕ, ◌<◌, ◌≤◌, Bool, true, false, cond, List, [], ◌∷◌, length, refl, ap, ◌∙◌, subst, arith}
+use Rattle.std.proofs.Common.{◌≡◌, ℕ, ◌≤◌, Bool, true, false, List, [], ◌∷◌, length, refl, ap, ◌∙◌, subst, arith}
 use Rattle.std.specs.Prelude.{nat_lt, nat_le, if◌then◌else◌, Option, Some, None, Result, Ok, Err, All, codes}
 use Rattle.std.specs.Option.{ok_or}
 use Rattle.std.specs.List.{enumerate_from}
@@ -11,7 +11,6 @@ use Rattle.text_scan.specs.Each.{some_first, each_some, ok_first, each_ok}
 use Rattle.walk_files.specs.NumberLists.{NumberLine}
 use Rattle.text_scan.specs.Numbers.{number_of}
 use Rattle.walk_files.specs.NumberTexts.{entries_of, numbers_on, line_of_numbers, on_line, words_of}
-use Rattle.walk_files.specs.declared.fault.WalkFault.{WalkFault}
 use Rattle.walk_files.specs.declared.fault.WalkFault.TheVariants.{BadNumber, TooLong, TooMany}
 use Rattle.walk_files.specs.declared.limits.TheConstants.{MOST_LINES, MOST_ENTRIES}
 

@@ -1,5 +1,5 @@
 -- Certificates: the head, and the moves behind it.
-use Rattle.std.specs.Prelude.{ℕ, ◌-◌, ◌^◌, Bool, true, false, ◌==◌, nat_lt, if◌then◌else◌, List, [], ◌∷◌, drop, codes, Option, Some, None, Result, Ok, Err, is_some, option_map, option_and_then}
+use Rattle.std.specs.Prelude.{ℕ, ◌≤◌, ◌-◌, ◌^◌, Bool, true, false, ◌==◌, nat_lt, if◌then◌else◌, List, [], ◌∷◌, drop, codes, Option, Some, None, Result, Ok, Err, is_some, option_map}
 use Rattle.std.specs.Option.{ok_or}
 use Rattle.std.specs.Str.{bytes_eq}
 use Rattle.text_scan.specs.Lines.{Line, full_lines, end_line}
@@ -52,6 +52,11 @@ fits (Some Different) (Labels degree) = true
 abbrev pub within_peak : ℕ → CertHead → Result CertHead CertFault
 within_peak line (Moves count peak) = if nat_lt MOST_PEAK peak then Err (Peak line) else Ok (Moves count peak)
 within_peak line (Labels degree) = Ok (Labels degree)
+
+-- its peak is within the limit
+abbrev pub IsWithinPeak : CertHead → Type 0
+IsWithinPeak (Moves count peak) = peak ≤ MOST_PEAK
+IsWithinPeak (Labels degree) = Unit {0}
 
 -- the head, where it may stand behind the answer and its peak is within the limit
 abbrev pub fitting_head : Option Answer → ℕ → Option CertHead → Result CertHead CertFault

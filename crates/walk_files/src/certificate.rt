@@ -1,9 +1,9 @@
 //! Reading certificates.
-ghost use Rattle.std.specs.Prelude.{◌≡◌, ◌^◌, [], drop, OnOk, OnSome, Some, IsTrue, is_some, if◌then◌else◌};
+ghost use Rattle.std.specs.Prelude.{◌≡◌, ◌^◌, [], drop, OnOk, IfOk, OnSome, Some, IsTrue, is_some, if◌then◌else◌};
 ghost use Rattle.text_scan.specs.Lines.{is_filled};
 ghost use Rattle.text_scan.specs.Unread.{lines_left};
 ghost use Rattle.walk_files.specs.declared.certificate.CertHead.{CertHead};
-ghost use Rattle.walk_files.specs.Certificates.{fits, answer_of, head_of, head_in, head_among, behind_head, first_head};
+ghost use Rattle.walk_files.specs.Certificates.{fits, answer_of, head_of, head_in, head_among, behind_head, first_head, IsWithinPeak};
 
 use crate::fault::CertFault;
 use crate::limits::MOST_PEAK;
@@ -113,6 +113,7 @@ pub(crate) fn read_head_line(
     ensures head { result ≡ head_in answer (record { number = line; words = cursor.old.words }) }
     ensures place { cursor.new ≡ record cursor.old { words = cursor.new.words } }
     ensures ended { OnOk result (cursor.new.words ≡ []) }
+    ensures peak { IfOk result IsWithinPeak }
 {
     let Some(head) = read_head_words(cursor) else {
         return Err(CertFault::Bad { line });

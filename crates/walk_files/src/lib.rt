@@ -23,6 +23,7 @@ mod numbers;
 mod pair;
 mod reader;
 mod stream;
+mod stream_denial;
 mod stream_end;
 mod stream_lines;
 mod walk_list;

@@ -44,6 +44,7 @@ pub(crate) fn read_line(
     ensures place { cursor.new ≡ record cursor.old { words = cursor.new.words } }
     ensures ended { OnOk result (cursor.new.words ≡ []) }
     ensures some { IfOk result (λ mv. IsSome mv → 0 < to_come) }
+    ensures some_move { IfOk result IsSome }
 {
     if to_come == 0 {
         return Err(CertFault::Extra { line });

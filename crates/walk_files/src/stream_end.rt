@@ -46,6 +46,19 @@ impl From<PieceFault> for StreamEnd {
     }
 }
 
+impl From<CertFault> for StreamEnd {
+    ghost use Rattle.walk_files.specs.StreamEnds.{end_of_text};
+
+    ghost from_gives = { λ fault e. e ≡ end_of_text fault };
+
+    fn from(fault: CertFault) -> StreamEnd {
+        match fault {
+            CertFault::OutOfMemory => StreamEnd::OutOfMemory,
+            _ => StreamEnd::Cert(fault),
+        }
+    }
+}
+
 impl From<GatherFault> for StreamEnd {
     ghost use Rattle.walk_files.specs.StreamEnds.{end_of_gathering};
 

@@ -1,5 +1,5 @@
 //! The lines of a certificate that is read from a shelf, one by one.
-ghost use Rattle.std.specs.Prelude.{◌≡◌, ◌≢◌, ◌⊎◌, ℕ, ◌<◌, ◌≤◌, List, [], ◌∷◌, length, drop, true, false, None, Err, IfOk, IfErr, OnOk, OnSome, IfSome, IsSome, MatchOption};
+ghost use Rattle.std.specs.Prelude.{◌≡◌, ◌≢◌, ◌⊎◌, ℕ, ◌<◌, ◌≤◌, List, [], ◌∷◌, length, drop, true, false, None, Err, IfOk, IfErr, OnOk, OnSome, IfSome, IfNone, IsSome, MatchOption, MatchResult};
 ghost use Rattle.surf_io.specs.Calls.{OnlyReads};
 ghost use Rattle.surf_io.specs.Faults.{Rose};
 ghost use Rattle.surf_io.specs.Files.{file_of};
@@ -7,9 +7,9 @@ ghost use Rattle.text_scan.specs.Lines.{is_filled, lines_from, full_lines, end_l
 ghost use Rattle.text_scan.specs.Unread.{words_here};
 ghost use Rattle.file_pieces.specs.Reading.{Reads, left_of, read_so_far};
 ghost use Rattle.file_pieces.specs.SameLines.{SameLine};
-ghost use Rattle.walk_files.specs.Certificates.{answer_of, head_in, head_of_text, behind_head};
+ghost use Rattle.walk_files.specs.Certificates.{answer_of, head_in, head_of_text, behind_head, IsWithinPeak};
 ghost use Rattle.walk_files.specs.Readers.{next_of, next_on};
-ghost use Rattle.walk_files.specs.Streams.{IsAnswer, IsReadOut, end_behind};
+ghost use Rattle.walk_files.specs.Streams.{IsAnswer, IsReadOut, IsWithin, end_behind};
 
 use crate::certificate::{Answer, CertHead, pass_answer, read_head_line};
 use crate::fault::CertFault;
@@ -35,12 +35,16 @@ pub(crate) fn read_next_move<S: Shelf>(
     ensures left { OnOk result (IfSome (file_of (S.held shelf.old) name.now) (λ file. Reads lines.old.reading file →
         (lines_from lines.new.number (left_of lines.new.reading file)
         ≡ drop 1 (lines_from lines.old.number (left_of lines.old.reading file)))
-        × (end_behind lines.new.number (left_of lines.new.reading file) ≡ end_behind lines.old.number (left_of lines.old.reading file)))) }
+        × (end_behind lines.new.number (left_of lines.new.reading file) ≡ end_behind lines.old.number (left_of lines.old.reading file))
+        × (lines.old.number ≤ lines.new.number))) }
     ensures some { IfOk result (λ mv. IsSome mv → 0 < to_come) }
     ensures no_memory { result ≢ Err StreamEnd.OutOfMemory }
     ensures fault { result ≡ Err StreamEnd.Fault → Rose (S.faults shelf.old) (S.faults shelf.new) }
     ensures too_large { result ≡ Err StreamEnd.TooLarge → IfSome (file_of (S.held shelf.old) name.now)
         (λ file. Reads lines.old.reading file → lines.old.reading.limit < length file) }
+    ensures within { IfSome (file_of (S.held shelf.old) name.now) (λ file. Reads lines.old.reading file →
+        MatchResult result (λ mv. IfNone mv (length file ≤ lines.old.reading.limit))
+        (λ end. IsWithin end (length file) lines.old.reading.limit)) }
     ensures read_out { IfErr result (λ end. IsReadOut end lines.new) }
     ensures lazy { IfOk result (λ mv. lines.new.reading.ended ≡ false → lines.new.reading.place ≤ read_so_far lines.old.reading
         → shelf.new ≡ shelf.old) }
@@ -67,6 +71,7 @@ fn read_found(
         (λ number. (words : List (List ℕ)) → SameLine (words_here line.now.done) words
         → result ≡ next_on to_come (record { number = number; words = words })) }
     ensures some { IfOk result (λ mv. IsSome mv → 0 < to_come) }
+    ensures none { IfOk result (λ mv. IfNone mv (found ≡ None)) }
     ensures fault { result ≢ Err CertFault.OutOfMemory }
 {
     let Some(number) = found else {
@@ -88,6 +93,8 @@ pub(crate) fn refuse<S: Shelf>(
     ensures fault { result ≡ StreamEnd.Fault → Rose (S.faults shelf.old) (S.faults shelf.new) }
     ensures too_large { result ≡ StreamEnd.TooLarge → IfSome (file_of (S.held shelf.old) name.now)
         (λ file. Reads lines.old.reading file → lines.old.reading.limit < length file) }
+    ensures within { IfSome (file_of (S.held shelf.old) name.now)
+        (λ file. Reads lines.old.reading file → IsWithin result (length file) lines.old.reading.limit) }
     ensures read_out { IsReadOut result lines.new }
     ensures limit { lines.new.reading.limit ≡ lines.old.reading.limit }
     ensures only_reads { OnlyReads S.held S.faults shelf.old shelf.new }
@@ -112,11 +119,15 @@ pub(crate) fn read_stream_head<S: Shelf>(
         (λ file. Reads lines.old.reading file → Reads lines.new.reading file)) }
     ensures left { OnOk result (IfSome (file_of (S.held shelf.old) name.now) (λ file. Reads lines.old.reading file →
         (lines_from lines.new.number (left_of lines.new.reading file) ≡ behind_head (full_lines file))
-        × (end_behind lines.new.number (left_of lines.new.reading file) ≡ end_line file))) }
+        × (end_behind lines.new.number (left_of lines.new.reading file) ≡ end_line file)
+        × (1 < lines.new.number))) }
+    ensures peak { IfOk result IsWithinPeak }
     ensures no_memory { result ≢ Err StreamEnd.OutOfMemory }
     ensures fault { result ≡ Err StreamEnd.Fault → Rose (S.faults shelf.old) (S.faults shelf.new) }
     ensures too_large { result ≡ Err StreamEnd.TooLarge → IfSome (file_of (S.held shelf.old) name.now)
         (λ file. Reads lines.old.reading file → lines.old.reading.limit < length file) }
+    ensures within { IfSome (file_of (S.held shelf.old) name.now) (λ file. Reads lines.old.reading file →
+        IfErr result (λ end. IsWithin end (length file) lines.old.reading.limit)) }
     ensures read_out { IfErr result (λ end. IsReadOut end lines.new) }
     ensures limit { lines.new.reading.limit ≡ lines.old.reading.limit }
     ensures only_reads { OnlyReads S.held S.faults shelf.old shelf.new }
@@ -159,8 +170,9 @@ fn head_found(
     answer: Option<Answer>,
 ) -> Result<CertHead, CertFault>
     requires { OnSome found (is_filled (words_here line.now.done) ≡ true) }
-    ensures { MatchOption found (result ≡ Err none) (λ number. (words : List (List ℕ)) → SameLine (words_here line.now.done) words
+    ensures head { MatchOption found (result ≡ Err none) (λ number. (words : List (List ℕ)) → SameLine (words_here line.now.done) words
         → result ≡ head_in answer (record { number = number; words = words })) }
+    ensures peak { IfOk result IsWithinPeak }
 {
     let Some(number) = found else {
         return Err(none);

@@ -1,76 +1,75 @@
-use Rattle.std.proofs.Common.{◌∙◌, subst}
+use Rattle.std.proofs.Common.{◌≡◌, ℕ, List, sym, subst, ◌∙◌, arith}
 use Rattle.std.specs.Prelude.{Option}
+use Rattle.std.proofs.lemmas.Option.{get_or_from_slice_get}
 use Rattle.std.proofs.lemmas.Result.{err_from_is_err_and}
 use Rattle.surf_io.specs.Files.{Files}
 use Rattle.commands.specs.Checks.{Passes}
-use Rattle.commands.specs.Inputs.{pair_in, certificate_in}
+use Rattle.commands.specs.Inputs.{pair_in, walk_at}
+use Rattle.commands.specs.Replies.{Concludes}
 use Rattle.commands.specs.Stops.{Stops}
 use Rattle.commands.specs.Verify as of_verify
-use Rattle.commands.proofs.Gathering.{peak_within}
-use Rattle.commands.proofs.Verifying.{walks_stop, certificate_stops, judged}
-use Rattle.commands.proofs.Running.{judged_no_fault, only_then, runs_judged, runs_stopped}
+use Rattle.commands.specs.Verify.{judged_file}
+use Rattle.commands.proofs.Verifying.{concluded, first_walk, second_walk, two_in_pair, walks_stop}
+use Rattle.commands.proofs.Running.{only_then, runs_read, runs_stopped}
 use Rattle.commands.proofs.verify.verify.Goals as goal
 
-pub returns-in_err-pair : goal.returns-in_err-pair
-returns-in_err-pair g c =
+pub returns-in_err-walks : goal.returns-in_err-walks
+returns-in_err-walks g c =
     let faces = c.in_ok-faces.faces in
-    let stop = c.in_err-pair.field-0.0 in
-    let p = err_from_is_err_and c.from_residual-in_err-pair.result c.from_residual-in_err-pair.ensures.1 in
-    let stops = c.in_err-pair.ensures.reads.end faces c.in_ok-sides.ensures in
+    let stop = c.in_err-walks.field-0.0 in
+    let p = err_from_is_err_and c.from_residual-in_err-walks.result c.from_residual-in_err-walks.ensures.1 in
+    let stops = c.in_err-walks.ensures.reads.end faces c.in_ok-sides.ensures in
     rw (p.1, p.2)
     (runs_stopped g.S.Shelf.held g.S.Shelf.faults c.args.shelf.now c.read_pair.new.shelf
     (λ files. of_verify.verify files c.args.mesh.now c.args.walks.now c.args.certificate.now) (λ none. none.0.0) c.read_mesh.new.shelf _
     stop c.in_ok-faces.ensures.only_reads
-    c.in_err-pair.ensures.reads
+    c.in_err-walks.ensures.reads
     (walks_stop (g.S.Shelf.held c.args.shelf.now) c.args.mesh.now c.args.walks.now c.args.certificate.now faces stop
     c.in_ok-faces.ensures.end
     (subst (λ (files : Option Files). Stops (pair_in files c.args.walks.now faces) stop) c.in_ok-faces.ensures.only_reads.same_files
     stops)))
 
-pub returns-in_err-shown : goal.returns-in_err-shown
-returns-in_err-shown g c =
-    let faces = c.in_ok-faces.faces in
-    let pair = c.in_ok-pair.pair in
-    let stop = c.in_err-shown.field-0.0 in
-    let same = c.in_ok-faces.ensures.only_reads.same_files in
-    let p = err_from_is_err_and c.from_residual-in_err-shown.result c.from_residual-in_err-shown.ensures.1 in
-    rw (p.1, p.2)
-    (runs_stopped g.S.Shelf.held g.S.Shelf.faults c.args.shelf.now c.read_cert.new.shelf
-    (λ files. of_verify.verify files c.args.mesh.now c.args.walks.now c.args.certificate.now) (λ none. none.0.0) c.read_pair.new.shelf _
-    stop
-    (only_then g.S.Shelf.held g.S.Shelf.faults c.args.shelf.now c.read_mesh.new.shelf c.read_pair.new.shelf
-    c.in_ok-faces.ensures.only_reads c.in_ok-pair.ensures.reads.only_reads)
-    c.in_err-shown.ensures
-    (certificate_stops (g.S.Shelf.held c.args.shelf.now) c.args.mesh.now c.args.walks.now c.args.certificate.now faces pair stop
-    c.in_ok-faces.ensures.end
-    (subst (λ (files : Option Files). Passes (pair_in files c.args.walks.now faces) pair) same
-    (c.in_ok-pair.ensures.reads.end faces c.in_ok-sides.ensures))
-    (subst (λ (files : Option Files). Stops (certificate_in files c.args.certificate.now) stop)
-    (c.in_ok-pair.ensures.reads.only_reads.same_files ∙ same)
-    c.in_err-shown.ensures.end)))
+pub at-requires : goal.at-requires
+at-requires g c =
+    let pair = c.in_ok-walks.ensures.pair c.in_ok-faces.faces c.in_ok-sides.ensures in
+    omega (arith, two_in_pair c.in_ok-faces.faces c.in_ok-walks.walks pair)
 
-pub judge-requires-clause-pair : goal.judge-requires-clause-pair
-judge-requires-clause-pair g c = c.in_ok-pair.ensures.pair c.in_ok-faces.faces c.in_ok-sides.ensures
-
-pub judge-requires-clause-peak : goal.judge-requires-clause-peak
-judge-requires-clause-peak g c = peak_within _ _ c.in_ok-shown.shown c.in_ok-shown.ensures.end
+pub at-requires-2 : goal.at-requires-2
+at-requires-2 g c =
+    let pair = c.in_ok-walks.ensures.pair c.in_ok-faces.faces c.in_ok-sides.ensures in
+    omega (arith, two_in_pair c.in_ok-faces.faces c.in_ok-walks.walks pair)
 
 pub returns : goal.returns
 returns g c =
     let faces = c.in_ok-faces.faces in
-    let pair = c.in_ok-pair.pair in
-    let shown = c.in_ok-shown.shown in
+    let walks = c.in_ok-walks.walks in
+    let certificate : List ℕ = c.args.certificate.now in
+    let held : Option Files = g.S.Shelf.held c.args.shelf.now in
     let same = c.in_ok-faces.ensures.only_reads.same_files in
-    runs_judged g.S.Shelf.held g.S.Shelf.faults c.args.shelf.now c.read_cert.new.shelf
-    (λ files. of_verify.verify files c.args.mesh.now c.args.walks.now c.args.certificate.now) (λ none. none.0.0) c.judge.result
-    (only_then g.S.Shelf.held g.S.Shelf.faults c.args.shelf.now c.read_pair.new.shelf c.read_cert.new.shelf
+    let all_same = c.in_ok-walks.ensures.reads.only_reads.same_files ∙ same in
+    let first : c.at.result.now ≡ walk_at walks 0 = sym (get_or_from_slice_get walks 0 c.at.result.now _ c.at.ensures) in
+    let second : c.at-2.result.now ≡ walk_at walks 1 = sym (get_or_from_slice_get walks 1 c.at-2.result.now _ c.at-2.ensures) in
+    let end : Concludes (judged_file held certificate faces (walk_at walks 0) (walk_at walks 1)) c.judge.result =
+    subst (λ (files : Option Files). Concludes (judged_file files certificate faces (walk_at walks 0) (walk_at walks 1)) c.judge.result)
+    all_same
+    (subst (λ (w : List ℕ). Concludes (judged_file (g.S.Shelf.held c.read_pair.new.shelf) certificate faces (walk_at walks 0) w)
+    c.judge.result) second
+    (subst (λ (w : List ℕ). Concludes (judged_file (g.S.Shelf.held c.read_pair.new.shelf) certificate faces w c.at-2.result.now)
+    c.judge.result) first c.judge.ensures.end)) in
+    runs_read g.S.Shelf.held g.S.Shelf.faults c.args.shelf.now c.judge.new.shelf
+    (λ files. of_verify.verify files c.args.mesh.now c.args.walks.now certificate) (λ none. none.0.0) c.read_pair.new.shelf _ c.judge.result
     (only_then g.S.Shelf.held g.S.Shelf.faults c.args.shelf.now c.read_mesh.new.shelf c.read_pair.new.shelf
-    c.in_ok-faces.ensures.only_reads c.in_ok-pair.ensures.reads.only_reads) c.in_ok-shown.ensures.only_reads)
-    (judged_no_fault c.judge.result _ c.judge.ensures)
-    (judged (g.S.Shelf.held c.args.shelf.now) c.args.mesh.now c.args.walks.now c.args.certificate.now faces pair shown c.judge.result
-    c.in_ok-faces.ensures.end
-    (subst (λ (files : Option Files). Passes (pair_in files c.args.walks.now faces) pair) same
-    (c.in_ok-pair.ensures.reads.end faces c.in_ok-sides.ensures))
-    (subst (λ (files : Option Files). Passes (certificate_in files c.args.certificate.now) shown)
-    (c.in_ok-pair.ensures.reads.only_reads.same_files ∙ same) c.in_ok-shown.ensures.end)
-    c.judge.ensures)
+    c.in_ok-faces.ensures.only_reads c.in_ok-walks.ensures.reads.only_reads) c.judge.ensures
+    (concluded held c.args.mesh.now c.args.walks.now certificate faces walks c.judge.result c.in_ok-faces.ensures.end
+    (subst (λ (files : Option Files). Passes (pair_in files c.args.walks.now faces) walks) same
+    (c.in_ok-walks.ensures.reads.end faces c.in_ok-sides.ensures)) end)
+
+pub judge-requires-clause-first : goal.judge-requires-clause-first
+judge-requires-clause-first g c =
+    first_walk c.in_ok-faces.faces c.in_ok-walks.walks c.at.result.now
+    (c.in_ok-walks.ensures.pair c.in_ok-faces.faces c.in_ok-sides.ensures) c.at.ensures
+
+pub judge-requires-clause-second : goal.judge-requires-clause-second
+judge-requires-clause-second g c =
+    second_walk c.in_ok-faces.faces c.in_ok-walks.walks c.at-2.result.now
+    (c.in_ok-walks.ensures.pair c.in_ok-faces.faces c.in_ok-sides.ensures) c.at-2.ensures

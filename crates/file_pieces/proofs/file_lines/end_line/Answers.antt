@@ -1,4 +1,4 @@
-use Rattle.std.proofs.Common.{◌≡◌, ◌+◌, ℕ, List, true, false, refl, ◌∙◌, sym}
+use Rattle.std.proofs.Common.{◌+◌, ℕ, List, refl, ◌∙◌, sym}
 use Rattle.text_scan.specs.Unread.{words_here}
 use Rattle.file_pieces.proofs.FileLineLemmas.{line_found, line_blank, finds, ends_blank}
 use Rattle.file_pieces.proofs.file_lines.end_line.Goals as goal

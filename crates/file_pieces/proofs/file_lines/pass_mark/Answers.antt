@@ -1,8 +1,8 @@
-use Rattle.std.proofs.Common.{◌≡◌, ◌≤◌, ℕ, List, Option, Bool, true, false, Some, IfSome, [], ◌∷◌, cond, drop, refl, ap, ◌∙◌, subst, sym, arith, rules}
+use Rattle.std.proofs.Common.{◌≡◌, ℕ, List, Option, true, false, Some, [], ◌∷◌, drop, ap, ◌∙◌, subst, sym, arith, rules}
 use Rattle.surf_io.specs.Files.{Files, file_of}
 use Rattle.text_scan.specs.Lines.{unmarked}
-use Rattle.file_pieces.specs.Reading.{Reading, Reads, left_of}
-use Rattle.file_pieces.specs.ShortLines.{ShortText, Stands}
+use Rattle.file_pieces.specs.Reading.{Reads, left_of}
+use Rattle.file_pieces.specs.ShortLines.{Stands}
 use Rattle.file_pieces.specs.FileLines.{IsOn, Passes}
 use Rattle.file_pieces.proofs.ReadingLemmas.{told}
 use Rattle.file_pieces.proofs.FileLineLemmas.{passes_told, put_told, no_mark_first, no_mark_second, no_mark_third, mark_passed}

@@ -1,8 +1,7 @@
-use Rattle.std.proofs.Common.{◌≡◌, ◌+◌, ◌≤◌, ℕ, List, Option, Some, None, IfSome, [], ◌∷◌, refl, ap, ◌∙◌, subst, sym, arith, rules}
+use Rattle.std.proofs.Common.{◌≡◌, ◌+◌, ℕ, List, Option, Some, IfSome, ap, ◌∙◌, subst, arith}
 use Rattle.surf_io.specs.Files.{Files, file_of}
 use Rattle.text_scan.specs.Unread.{words_here}
-use Rattle.file_pieces.specs.Reading.{Reading, Reads, left_of}
-use Rattle.file_pieces.specs.ShortLines.{ShortText}
+use Rattle.file_pieces.specs.Reading.{Reads, left_of}
 use Rattle.file_pieces.specs.FileLines.{IsOn, ReadsLine, StandsBehind, IsNumbered, TakesPlace}
 use Rattle.file_pieces.specs.declared.file_lines.Taken.TheVariants.{Open, Found, End}
 use Rattle.file_pieces.proofs.ReadingLemmas.{told, at_told, filled_kept}

@@ -1,9 +1,7 @@
-use Rattle.std.proofs.Common.{◌≡◌, ℕ, List, Option, Some, None, IfSome, [], ◌∷◌, ap, ◌∙◌, subst, sym}
+use Rattle.std.proofs.Common.{◌≡◌, ℕ, List, Option, Some, IfSome, ◌∷◌, ap, ◌∙◌, subst}
 use Rattle.surf_io.specs.Files.{file_of}
 use Rattle.file_pieces.specs.Reading.{Reading, Reads, left_of}
-use Rattle.file_pieces.specs.ShortLines.{ShortText}
 use Rattle.file_pieces.specs.FileLines.{IsOn, StandsBehind}
-use Rattle.file_pieces.specs.declared.file_lines.Taken.TheVariants.{Open}
 use Rattle.file_pieces.proofs.ReadingLemmas.{Taken, told, at_told}
 use Rattle.file_pieces.proofs.FileLineLemmas.{puts_on}
 use Rattle.file_pieces.proofs.file_lines.take_byte.Goals as goal

@@ -1,6 +1,5 @@
 use Rattle.std.proofs.Common.{take}
 use Rattle.std.specs.Prelude.{All}
-use Rattle.labellings.specs.Labellings.{FaceLabels}
 use Rattle.text_scan.specs.Plain.{line_of}
 use Rattle.surf_io.proofs.Gathering.{EachPut}
 use Rattle.walk_files.specs.DenialTexts.{face_words, AreNumbers}

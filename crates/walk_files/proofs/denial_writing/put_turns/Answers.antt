@@ -1,4 +1,4 @@
-use Rattle.std.proofs.Common.{◌++◌, ◌∙◌, ap, drop, sym, arith}
+use Rattle.std.proofs.Common.{◌++◌, ◌∙◌, ap, drop, arith}
 use Rattle.std.specs.Prelude.{flat_map, decimal, slice_index, IsTrue}
 use Rattle.std.proofs.lemmas.Result.{err_from_is_err_and}
 use Rattle.surf_io.specs.Gathered.{spaced}

@@ -1,11 +1,11 @@
-use Rattle.std.proofs.Common.{◌≡◌, ℕ, List, true, ap, ◌∙◌, sym}
+use Rattle.std.proofs.Common.{◌≡◌, ℕ, List, ap, ◌∙◌}
 use Rattle.text_scan.specs.Unread.{words_here}
 use Rattle.walk_files.specs.Certificates.{head_in}
 use Rattle.walk_files.proofs.StreamLemmas.{short_words, head_in-same}
 use Rattle.walk_files.proofs.stream_lines.head_found.Goals as goal
 
-pub returns : goal.returns
-returns c =
+pub returns-clause-head : goal.returns-clause-head
+returns-clause-head c =
     let short : List (List ℕ) = words_here c.args.line.now.done in
     let filled = rw c.in-Some.is at c.requires in
     let own : c.find_line.new.self.words ≡ short =

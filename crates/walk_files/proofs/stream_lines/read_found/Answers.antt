@@ -1,4 +1,4 @@
-use Rattle.std.proofs.Common.{◌≡◌, ℕ, List, true, ap, ◌∙◌, sym}
+use Rattle.std.proofs.Common.{◌≡◌, ℕ, List, ap, ◌∙◌}
 use Rattle.text_scan.specs.Unread.{words_here}
 use Rattle.walk_files.specs.Readers.{next_on}
 use Rattle.walk_files.proofs.StreamLemmas.{short_words, next_on-same}

@@ -1,5 +1,5 @@
-use Rattle.std.proofs.Common.{◌≡◌, ℕ, List, Option, refl}
-use Rattle.std.specs.Prelude.{Result, Ok, Err}
+use Rattle.std.proofs.Common.{refl}
+use Rattle.std.specs.Prelude.{Ok, Err}
 use Rattle.surf_io.specs.Files.{file_of}
 use Rattle.text_scan.specs.Unread.{words_here}
 use Rattle.walk_files.proofs.StreamLemmas.{next_answered, next_leaves, answers_refused}

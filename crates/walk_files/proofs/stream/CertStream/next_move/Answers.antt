@@ -1,6 +1,6 @@
-use Rattle.std.proofs.Common.{◌≡◌, ◌+◌, ◌-◌, ◌<◌, ℕ, List, Option, true, refl, sym, ap, subst, ◌∙◌, arith, rules}
+use Rattle.std.proofs.Common.{◌≡◌, ◌+◌, ◌-◌, ℕ, List, Option, true, sym, ap, subst, ◌∙◌}
 use Rattle.std.specs.Prelude.{Some, None, Result, Ok, Err, IfSome}
-use Rattle.surf_io.specs.Files.{Files, file_of}
+use Rattle.surf_io.specs.Files.{file_of}
 use Rattle.surf_model.specs.declared.moves.Move.{Move}
 use Rattle.walk_files.specs.declared.stream_end.StreamEnd.{StreamEnd}
 use Rattle.walk_files.specs.Readers.{count_in}

@@ -1,0 +1,132 @@
+-- The denial of a certificate that is read in pieces: its lines behind as many line feeds as lines came before.
+use Rattle.std.proofs.Common.{inl, inr, ◌≡◌, ◌⊎◌, ℕ, zero, suc, ◌+◌, ◌-◌, ◌<◌, Bool, true, false, cond, List, ◌∷◌, ◌++◌, length, refl, sym, ap, subst, ◌∙◌, arith}
+use Rattle.std.specs.Prelude.{Option, Some, None, Result, Ok, Err, IfSome, replicate}
+use Rattle.text_scan.specs.Lines.{Line, is_filled, cut, unmarked, lines_from, full_lines, end_line}
+use Rattle.text_scan.specs.Unread.{behind}
+use Rattle.text_scan.proofs.PlaceLemmas.{words_here-line_feed, behind-line_feed, cut_first, lines_from_here}
+use Rattle.file_pieces.specs.Reading.{Reads, left_of}
+use Rattle.file_pieces.specs.FileLines.{LinesReading}
+use Rattle.labellings.specs.declared.denial.Denial.{Denial}
+use Rattle.walk_files.specs.Denials.{denial_in, unlabelled}
+use Rattle.walk_files.specs.Readers.{denial_left, degree_in, lines_to_come}
+use Rattle.walk_files.specs.StreamEnds.{end_of_text}
+use Rattle.walk_files.specs.Streams.{Streamed, reader_at, streams_list, IsIn, Belongs, IsAnswer, end_behind}
+use Rattle.walk_files.specs.declared.fault.CertFault.{CertFault}
+use Rattle.walk_files.specs.declared.fault.CertFault.TheVariants.{NoHead, Bad, Ended, Extra, Peak, OutOfMemory}
+use Rattle.walk_files.specs.declared.stream_end.StreamEnd.{StreamEnd}
+
+-- ---- lines behind line feeds
+
+no_mark : (rest : List ℕ) → unmarked (10 ∷ rest) ≡ 10 ∷ rest
+unfolding unmarked
+no_mark rest = refl
+
+one_feed : (n : ℕ) (left : List ℕ) → lines_from n (10 ∷ left) ≡ lines_from (n + 1) left
+one_feed n left =
+    lines_from_here n (10 ∷ left)
+    ∙ ap (λ (ws : List (List ℕ)). cond (is_filled ws) (record { number = n; words = ws } ∷ lines_from (n + 1) (behind (10 ∷ left)))
+    (lines_from (n + 1) (behind (10 ∷ left)))) (words_here-line_feed 10 left refl)
+    ∙ ap (lines_from (n + 1)) (behind-line_feed 10 left refl)
+
+one_line : (left : List ℕ) → length (cut (10 ∷ left)) ≡ 1 + length (cut left)
+one_line left =
+    omega (
+      arith,
+      ap (λ (ls : List (List ℕ)). length ls) (cut_first 10 left),
+      ap (λ t. length (cut t)) (behind-line_feed 10 left refl),
+    )
+
+-- they only shift the numbers
+feeds_shift : (n k : ℕ) (left : List ℕ) → lines_from k (replicate n 10 ++ left) ≡ lines_from (k + n) left
+feeds_shift zero k left = ap (λ m. lines_from m left) (omega arith)
+feeds_shift (suc n) k left =
+    one_feed k (replicate n 10 ++ left) ∙ feeds_shift n (k + 1) left ∙ ap (λ m. lines_from m left) (omega arith)
+
+feeds_count : (n : ℕ) (left : List ℕ) → length (cut (replicate n 10 ++ left)) ≡ n + length (cut left)
+feeds_count zero left = omega arith
+feeds_count (suc n) left = omega (arith, one_line (replicate n 10 ++ left), feeds_count n left)
+
+-- the text of the lines from this number on
+pub record IsTextFrom (number : ℕ) (left text : List ℕ) : Type 0 where
+  pub lines : full_lines text ≡ lines_from number left
+  pub end : end_line text ≡ end_behind number left
+
+pub text_from : (number : ℕ) (left text : List ℕ) → 1 < number → text ≡ replicate (number - 1) 10 ++ left → IsTextFrom number left text
+text_from number left text some is =
+    let count : number - 1 ≡ suc (number - 2) = omega (arith, some) in
+    let first : 1 + suc (number - 2) ≡ number = omega (arith, some) in
+    let rest : List ℕ = replicate (number - 2) 10 ++ left in
+    let whole : text ≡ 10 ∷ rest = is ∙ ap (λ m. replicate m 10 ++ left) count in
+    let unmarked_is : unmarked text ≡ 10 ∷ rest = ap unmarked whole ∙ no_mark rest in
+    record {
+      lines = ap (lines_from 1) unmarked_is ∙ feeds_shift (suc (number - 2)) 1 left ∙ ap (λ m. lines_from m left) first;
+      end = omega (arith, some, ap (λ t. length (cut t)) unmarked_is, feeds_count (suc (number - 2)) left);
+    }
+
+-- ---- answers
+
+answers_text : {A : Type 0} (fault : CertFault) (whole : Result A CertFault) → (Err fault ≡ whole)
+    ⊎ (let wants : Result A CertFault = Err OutOfMemory in Err fault ≡ wants)
+    → IsAnswer (Err (end_of_text fault)) whole
+answers_text NoHead whole e = elim e [ inl is ↦ sym is | inr wants ↦ cc ]
+answers_text (Bad line) whole e = elim e [ inl is ↦ sym is | inr wants ↦ cc ]
+answers_text (Ended line) whole e = elim e [ inl is ↦ sym is | inr wants ↦ cc ]
+answers_text (Extra line) whole e = elim e [ inl is ↦ sym is | inr wants ↦ cc ]
+answers_text (Peak line) whole e = elim e [ inl is ↦ sym is | inr wants ↦ cc ]
+answers_text OutOfMemory whole e = tt
+
+-- what was read of the text is what the lines left say
+pub denial_answered : (file : Option (List ℕ)) (old next : LinesReading) (degree end : ℕ) (lines : List Line) (text : List ℕ)
+    (result : Result Denial StreamEnd)
+    → IfSome file (λ f. Reads old.reading f → Reads next.reading f
+    × (text ≡ replicate (old.number - 1) 10 ++ left_of old.reading f))
+    → lines ≡ full_lines text → end ≡ end_line text → (IsAnswer result (denial_in end (unlabelled degree) lines))
+    → IfSome file (λ f. Reads old.reading f → 1 < old.number → IsAnswer result
+    (denial_in (end_behind old.number (left_of old.reading f)) (unlabelled degree) (lines_from old.number (left_of old.reading f))))
+denial_answered None old next degree end lines text result is left ended answer = tt
+denial_answered (Some f) old next degree end lines text result is left ended answer = λ reads some.
+    let from = text_from old.number (left_of old.reading f) text some (is reads).1 in
+    subst (IsAnswer result)
+    (ap (λ n. denial_in n (unlabelled degree) lines) (ended ∙ from.end)
+    ∙ ap (denial_in (end_behind old.number (left_of old.reading f)) (unlabelled degree)) (left ∙ from.lines)) answer
+
+pub answers_denial : (denial : Denial) (whole : Result Denial CertFault) → (Ok denial ≡ whole)
+    ⊎ (let wants : Result Denial CertFault = Err OutOfMemory in Ok denial ≡ wants)
+    → IsAnswer (Ok denial) whole
+answers_denial denial whole e = elim e [ inl is ↦ sym is | inr wants ↦ cc ]
+
+pub answers_wrong : (fault : CertFault) (whole : Result Denial CertFault)
+    → (Err fault ≡ whole) ⊎ (let wants : Result Denial CertFault = Err OutOfMemory in Err fault ≡ wants)
+    → IsAnswer {A = Denial} (Err (end_of_text fault)) whole
+answers_wrong fault whole e = answers_text fault whole e
+
+-- ---- a stream behind its denial
+
+-- what a stream says of its denial, at a file
+abbrev pub Denies : Streamed → Streamed → Result Denial StreamEnd → List ℕ → Type 0
+Denies old new result file = IsIn old file → IsAnswer result (denial_left (reader_at old file)) × Belongs new file
+
+pub gives_denial : (file : Option (List ℕ)) (old : Streamed) (next : LinesReading) (degree : ℕ) (result : Result Denial StreamEnd)
+    (denied : Bool) (refusal : Option StreamEnd) → old.denied ≡ false → degree ≡ degree_in old.head → next.number ≡ old.lines.number
+    → streams_list old ≡ false
+    → IfSome file (λ f. Reads old.lines.reading f → 1 < old.lines.number → IsAnswer result
+    (denial_in (end_behind old.lines.number (left_of old.lines.reading f)) (unlabelled degree)
+    (lines_from old.lines.number (left_of old.lines.reading f))))
+    → (refusal ≡ None → denied ≡ true) → (refusal ≡ None → IfSome file (λ f. Reads old.lines.reading f → Reads next.reading f))
+    → IfSome file (Denies old (record old { lines = next; denied = denied; refusal = refusal }) result)
+gives_denial None old next degree result denied refusal undenied head number no_list answer behind reads = tt
+gives_denial (Some f) old next degree result denied refusal undenied head number no_list answer behind reads = λ is. (
+  subst (IsAnswer result)
+      (ap (λ n. denial_in n (unlabelled degree) (lines_from old.lines.number (left_of old.lines.reading f))) (is.end undenied)
+      ∙ ap (denial_in (end_line f) (unlabelled degree)) (is.lines undenied)
+      ∙ ap (λ d. denial_in (end_line f) (unlabelled d) (lines_to_come (reader_at old f))) head)
+      (answer is.reads is.behind),
+  λ none. record {
+    reads = reads none is.reads;
+    head = is.head;
+    lines = λ d. cc (behind none, d);
+    end = λ d. cc (behind none, d);
+    behind = omega (arith, is.behind, number);
+    denial = λ list. cc (no_list, list);
+  },
+)
