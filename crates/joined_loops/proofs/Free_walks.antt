@@ -1,0 +1,85 @@
+-- Freely homotopic closed walks have joined quad paths, so on a full wheel they have one cyclic form.
+use Rattle.std.proofs.Common.{◌≡◌, ℕ, sym, ◌∙◌, ap, subst, List, [], ◌∷◌, ◌++◌, append_assoc}
+use Rattle.std.specs.Prelude.{Some, option_and_then}
+use Rattle.surf_model.specs.FaceLists.{FaceList, IsFaceList}
+use Rattle.surf_model.specs.Moves.{apply_all}
+use Rattle.surf_model.proofs.ContextLemmas.{first_answer}
+use Rattle.turn_words.specs.Form_laws.{led}
+use Rattle.turn_words.specs.Hyper_states.{IsEven, hyper_next, BelongsTo}
+use Rattle.turn_words.specs.Lemmas.Hyper_laws.{hyper_stays, hyper_there_and_back, hyper_across}
+use Rattle.labellings.specs.Labellings.{LabellingView}
+use Rattle.labellings.specs.GoodLabellings.{IsGood}
+use Rattle.labellings.specs.QuadPaths.{quad_path}
+use Rattle.labellings.proofs.FoldLemmas.{PutLaws}
+use Rattle.labellings.proofs.KeepingLemmas.{moves_keep}
+use Rattle.spoke_rings.specs.Cyclic_words.{IsFullWheel, IsCyclicallyCanonical}
+use Rattle.spoke_rings.specs.Loop_steps.{LoopLeads}
+use Rattle.spoke_rings.specs.Rotations.{IsRotation}
+use Rattle.closed_walks.specs.FreeHomotopy.{IsClosedWalk, FreeStep, Moved, Rotated, after_free, after_all_free, FreelyHomotopic}
+use Rattle.joined_loops.specs.Joined_lists.{Joined}
+use Rattle.joined_loops.proofs.Joining.{same-joined, joined-itself, joined-back, joined-on}
+use Rattle.joined_loops.proofs.Stepping.{leads-loop, leads-joined}
+use Rattle.joined_loops.proofs.Rotating.{joined-rotations}
+use Rattle.joined_loops.proofs.Closed_paths.{quad-loop, goes-last, step-closed}
+
+-- spokes put on one wheel meet the two laws
+hyper-laws : (places : List ℕ) → PutLaws places hyper_next (BelongsTo places) IsEven
+hyper-laws places = record {
+  stays = λ s i b l. hyper_stays.belongs places s i b l;
+  vertex = λ s i j b e l m. hyper_stays.at_vertex places s i j b e l m;
+  back = λ s i b l. hyper_there_and_back places s i b l;
+  quad = λ s a c b e q. hyper_across places s a c b e q;
+}
+
+module _ (mesh : FaceList) (labelling : LabellingView) (valid : IsFaceList mesh) (good : IsGood mesh labelling) where
+  abbrev path : List ℕ → List ℕ
+  path = quad_path mesh labelling
+
+  step-joined : (step : FreeStep) (walk next : List ℕ) → IsClosedWalk mesh walk → after_free mesh walk step ≡ Some next →
+      Joined labelling.places (path walk) (path next)
+  step-joined (Moved move) walk next closed e =
+      same-joined labelling.places (path walk) (path next) (λ s b even.
+      moves_keep mesh labelling hyper_next (BelongsTo labelling.places) IsEven (hyper-laws labelling.places) valid good (move ∷ [])
+      walk next closed.is_walk (ap (option_and_then (λ w. apply_all mesh w [])) e) s (b, even))
+  step-joined Rotated walk next closed e =
+      let last = goes-last mesh labelling walk next closed e in
+      let dart = path last.dart in
+      let others = path last.others in (
+        dart,
+        record {
+          loop = quad-loop mesh labelling good last.dart;
+          same = λ s b even. ap (led hyper_next labelling.places s)
+              (ap (λ l. l ++ dart) last.was ∙ append_assoc dart others dart ∙ ap (λ l. dart ++ l) (sym last.is));
+        },
+      )
+
+  steps-joined : (steps : List FreeStep) (walk next : List ℕ) → IsClosedWalk mesh walk → after_all_free mesh walk steps ≡ Some next →
+      Joined labelling.places (path walk) (path next)
+  steps-joined [] walk next closed e = let same : walk ≡ next = cc in subst (λ w. Joined labelling.places (path walk) (path w)) same
+      (joined-itself labelling.places (path walk))
+  steps-joined (step ∷ steps) walk next closed e =
+      let told = first_answer (λ w. after_all_free mesh w steps) (after_free mesh walk step) next e in
+      joined-on labelling.places (path walk) (path told.0) (path next) (step-joined step walk told.0 closed told.1)
+      (steps-joined steps told.0 next (step-closed mesh step walk told.0 closed told.1) told.2)
+
+-- freely homotopic closed walks have joined quad paths
+pub free-joined : (mesh : FaceList) (labelling : LabellingView) (first second : List ℕ) → IsFaceList mesh → IsGood mesh labelling →
+    IsClosedWalk mesh first → FreelyHomotopic mesh first second →
+    Joined labelling.places (quad_path mesh labelling first) (quad_path mesh labelling second)
+free-joined mesh labelling first second valid good closed free = steps-joined mesh labelling valid good free.0 first second closed free.1
+
+pub one_cyclic_form : (mesh : FaceList) (labelling : LabellingView) (first second one other : List ℕ) → IsFaceList mesh →
+    IsGood mesh labelling → IsFullWheel labelling.places → IsClosedWalk mesh first → FreelyHomotopic mesh first second →
+    LoopLeads labelling.places (quad_path mesh labelling first) one → LoopLeads labelling.places (quad_path mesh labelling second) other →
+    IsCyclicallyCanonical labelling.places one → IsCyclicallyCanonical labelling.places other → IsRotation one other
+one_cyclic_form mesh labelling first second one other valid good full closed free leads more canonical other_canonical =
+    let places = labelling.places in
+    let p = quad_path mesh labelling first in
+    let q = quad_path mesh labelling second in
+    let p_loop = quad-loop mesh labelling good first in
+    let q_loop = quad-loop mesh labelling good second in
+    let back = joined-back places p one p_loop (leads-joined places full.own p one p_loop leads) in
+    let between = free-joined mesh labelling first second valid good closed free in
+    let whole = joined-on places one p other back (joined-on places p q other between (leads-joined places full.own q other q_loop more)) in
+    joined-rotations places full one other (leads-loop places full.own p one p_loop leads) (leads-loop places full.own q other q_loop more)
+    canonical other_canonical whole

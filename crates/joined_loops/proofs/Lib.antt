@@ -1,0 +1,14 @@
+pub mod Spelling
+pub mod Numbers
+pub mod Times
+pub mod Keeping
+pub mod Going
+pub mod Joining
+pub mod Beginning
+pub mod Settled
+pub mod Rotating
+pub mod Stepping
+pub mod Closed_paths
+pub mod Free_walks
+pub mod Flat_walks
+pub mod Rounds_kept

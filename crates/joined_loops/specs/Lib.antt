@@ -1,0 +1,2 @@
+pub mod Joined_lists
+pub mod Examples
