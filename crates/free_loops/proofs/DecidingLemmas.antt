@@ -1,5 +1,6 @@
 -- What the forms of two closed walks decide, on the surface from which the polygon of the labelling was cut.
-use Rattle.std.proofs.Common.{◌≡◌, ◌≢◌, ℕ, ◌<◌, ◌≤◌, List, [], ◌∷◌, ap, sym, ◌∙◌, subst, arith, ℤ}
+use Rattle.std.proofs.Common.{◌≡◌, ◌≢◌, ◌↔◌, ℕ, Bool, ◌<◌, ◌≤◌, List, [], ◌∷◌, ap, sym, ◌∙◌, subst, arith, ℤ}
+use Rattle.std.specs.Prelude.{IsTrue}
 use Rattle.turn_words.specs.Form_laws.{led}
 use Rattle.turn_words.specs.declared.word.Word.{Word}
 use Rattle.turn_words.specs.declared.word.Word.TheVariants.{Turns, Flat}
@@ -14,6 +15,11 @@ use Rattle.walk_translate.specs.SurfaceLabels.{HasSphereSplit, IsLabelledByCut}
 use Rattle.spoke_rings.specs.Cyclic_words.{IsFullWheel}
 use Rattle.spoke_rings.specs.Rotations.{IsRotation}
 use Rattle.closed_walks.specs.FreeHomotopy.{IsClosedWalk, FreelyHomotopic}
+use Rattle.joined_loops.proofs.Flat_walks.{one_sum}
+use Rattle.joined_loops.proofs.Free_walks.{one_cyclic_form}
+use Rattle.walk_translate.proofs.LabelLemmas.{cut_is_good}
+use Rattle.free_loops.specs.declared.deciding.FreeAnswer.{FreeAnswer}
+use Rattle.free_loops.specs.declared.deciding.FreeAnswer.TheVariants.{Freely, NotFreely}
 use Rattle.free_loops.specs.Cyclic_forms.{IsCyclicFormOf}
 use Rattle.free_loops.proofs.CutWheelLemmas.{full_wheel}
 use Rattle.free_loops.proofs.FreeWordLemmas.{closed_way, sphere_free, rotations_free}
@@ -94,3 +100,32 @@ sums_agree surface labelling (u ∷ rest) (v ∷ others) (Flat x y) (Flat right 
     (closed_way surface u rest first_closed) (closed_way surface v others second_closed)
     (subst (λ (l : LabellingView). led flat_next l.places origin (quad_path surface.mesh l (u ∷ rest))
     ≡ led flat_next l.places origin (quad_path surface.mesh l (v ∷ others))) h.labelling_is sums)
+
+-- so the forms decide, and so do the sums
+pub forms_decide : (surface : OrientedMesh) (labelling : LabellingView) (first second one other : List ℕ) (same : Bool)
+    → IsOrientedSurface surface → IsLabelledByCut surface labelling → 5 ≤ labelling.degree → IsClosedWalk surface.mesh first
+    → IsClosedWalk surface.mesh second → IsCyclicFormOf surface.mesh labelling first one → IsCyclicFormOf surface.mesh labelling second other
+    → IsTrue same ↔ IsRotation one other → IsTrue same ↔ FreelyHomotopic surface.mesh first second
+forms_decide surface labelling first second one other same o h five first_closed second_closed f g told = (
+  (λ yes. forms_free surface labelling first second one other o h first_closed second_closed f g (told.0 yes)),
+  (λ free. told.1 (one_cyclic_form surface.mesh labelling first second one other o.faces (cut_is_good surface labelling o h)
+      (labelled_wheel surface labelling o h five) first_closed free f.leads g.leads f.canonical g.canonical)),
+)
+
+pub sums_decide : (surface : OrientedMesh) (labelling : LabellingView) (first second : List ℕ) (one other : Word) (same : Bool)
+    → IsOrientedSurface surface → IsLabelledByCut surface labelling → labelling.degree ≡ 4 → IsClosedWalk surface.mesh first
+    → IsClosedWalk surface.mesh second → IsWordOf surface.mesh labelling first one → IsWordOf surface.mesh labelling second other
+    → IsTrue same ↔ (one ≡ other) → IsTrue same ↔ FreelyHomotopic surface.mesh first second
+sums_decide surface labelling first second one other same o h four first_closed second_closed f g told = (
+  (λ yes. sums_agree surface labelling first second one other o h four first_closed second_closed f g (told.0 yes)),
+  (λ free. told.1 (one_sum surface.mesh labelling first second one other o.faces (cut_is_good surface labelling o h) four first_closed
+      free f g)),
+)
+
+-- the answer that is given of what was found
+pub found_freely : {P : Type 0} (answer : FreeAnswer) → P → answer ≡ Freely → (answer ≡ Freely) ↔ P
+found_freely answer free e = ((λ _. free), (λ _. e))
+
+pub found_not : {P : Type 0} (answer : FreeAnswer) → ¬ P → answer ≡ NotFreely → (answer ≡ Freely) ↔ P
+found_not answer not_free e =
+    ((λ freely. absurd (let both : NotFreely ≡ Freely = sym e ∙ freely in cc)), (λ free. absurd (not_free free)))

@@ -134,7 +134,6 @@ module _ (places : List ℕ) (a c : ℕ) (q : IsQuad places a c) where
       and_from _ _ (and_from _ _ (and_from _ _ (lt-ltb a (length places) q.a_below) (lt-ltb c (length places) q.c_below))
       (eq-eqb _ _ q.a_place)) (eq-eqb _ _ q.c_place)
 
-
   quad_down : (before rest : List ℕ) → ends_at_vertex true before ≡ true
       → LoopLeads places (before ++ (a ∷ add (length places) a 1 ∷ rest)) (before ++ (add (length places) c 1 ∷ c ∷ rest))
   quad_down before rest e =

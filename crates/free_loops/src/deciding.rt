@@ -1,5 +1,5 @@
 //! Deciding free homotopy.
-ghost use Rattle.std.specs.Prelude.{◌≡◌, ◌≤◌, IfOk, IsTrue};
+ghost use Rattle.std.specs.Prelude.{◌≡◌, ◌≤◌, ◌↔◌, IfOk, IsTrue};
 ghost use Rattle.closed_walks.specs.FreeHomotopy.{IsClosedWalk, FreelyHomotopic};
 ghost use Rattle.walk_translate.specs.SurfaceLabels.{IsLabelledByCut};
 
@@ -32,7 +32,7 @@ pub fn decide_free(
 ) -> Result<FreeAnswer, AllocError>
     requires first { IsClosedWalk surface.now.mesh first.now }
     requires second { IsClosedWalk surface.now.mesh second.now }
-    ensures { IfOk result (λ answer. answer ≡ FreeAnswer.Freely → FreelyHomotopic surface.now.mesh first.now second.now) }
+    ensures { IfOk result (λ answer. (answer ≡ FreeAnswer.Freely) ↔ FreelyHomotopic surface.now.mesh first.now second.now) }
 {
     // The proof reads what holds of every surface.
     let _ = surface.faces();
@@ -63,7 +63,7 @@ fn have_one_sum(
     requires four { good.now.degree ≡ 4 }
     requires first { IsClosedWalk surface.now.mesh first.now }
     requires second { IsClosedWalk surface.now.mesh second.now }
-    ensures { IfOk result (λ same. IsTrue same → FreelyHomotopic surface.now.mesh first.now second.now) }
+    ensures { IfOk result (λ same. IsTrue same ↔ FreelyHomotopic surface.now.mesh first.now second.now) }
 {
     let one = word_of(alloc, surface.faces(), surface.sides(), good, first)?;
     let other = word_of(alloc, surface.faces(), surface.sides(), good, second)?;
@@ -82,7 +82,7 @@ fn have_one_form(
     requires five { 5 ≤ good.now.degree }
     requires first { IsClosedWalk surface.now.mesh first.now }
     requires second { IsClosedWalk surface.now.mesh second.now }
-    ensures { IfOk result (λ same. IsTrue same → FreelyHomotopic surface.now.mesh first.now second.now) }
+    ensures { IfOk result (λ same. IsTrue same ↔ FreelyHomotopic surface.now.mesh first.now second.now) }
 {
     let one = cyclic_form_of(alloc, surface.faces(), surface.sides(), good, first)?;
     let other = cyclic_form_of(alloc, surface.faces(), surface.sides(), good, second)?;

@@ -41,11 +41,7 @@ fn round_sum(degree: u32, from: u32, by: u32) -> u32
     ensures { result ≡ add degree from by }
 {
     let room = degree - by;
-    if from < room {
-        from + by
-    } else {
-        from - room
-    }
+    if from < room { from + by } else { from - room }
 }
 
 /// The spoke that has a place, round the vertex or round the middle.
