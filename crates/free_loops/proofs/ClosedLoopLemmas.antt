@@ -106,7 +106,8 @@ labels_product {X = X} Same mul inv one g element a b c d more = elim (cases_Boo
       let rest : X = spoke_product mul inv one element true more in
       let still : X = quotient mul inv (element a) (element a) in
       let nothing : Same (mul still rest) rest =
-      g.on (mul still rest) (mul one rest) rest (g.mul_same still one rest rest (g.cancels (element a)) (g.itself rest)) (g.one_left rest) in
+      g.on (mul still rest) (mul one rest) rest (g.mul_same still one rest rest (g.cancels (element a)) (g.itself rest))
+      (g.one_left rest) in
       rw tree (subst (λ x. Same rest (mul (quotient mul inv (element a) (element x)) rest)) same (g.turn (mul still rest) rest nothing))
   | inr other ↦
       let rest : X = spoke_product mul inv one element true more in
@@ -122,7 +123,8 @@ module _ (s : OrientedMesh) (split : SplitView) (o : IsOrientedSurface s) (t : I
   -- the loop of a dart is the product of the spokes of the labels at its tail and at its head
   dart_loop : (u w d : ℕ) → IsDartFrom (rotations_of s) u w d → (one : IsWay s.mesh u w (w ∷ []))
       → SameLoop (loop_of s.mesh t.parents.root (up s split t) (tree_ways s split o t) u w (w ∷ []) one)
-      (quotient loop_mul loop_inv (spoke s split o t polygon (label_of polygon d)) (spoke s split o t polygon (label_of polygon (next_of s d))))
+      (quotient loop_mul loop_inv (spoke s split o t polygon (label_of polygon d))
+      (spoke s split o t polygon (label_of polygon (next_of s d))))
   dart_loop u w d from one =
       let here : Loops s split t = loop_of s.mesh t.parents.root (up s split t) (tree_ways s split o t) u w (w ∷ []) one in
       let two : Loops s split t = quotient loop_mul loop_inv (spoke s split o t polygon (label_of polygon d))

@@ -78,6 +78,7 @@ module _ (s : OrientedMesh) (split : SplitView) (o : IsOrientedSurface s) (t : I
       ∙ h.spoke_of_place (add d other 1) (add-lt d other 1 other_in h.large) in
       let is : other ≡ b =
       sym (add_back d other h.large other_in) ∙ ap (λ x. add d x (minus d 1)) (sym next) ∙ add_back d b h.large b_in in
-      subst (λ n. SameLoop (quotient loop_mul loop_inv (S a) (S (add n a 1))) (quotient loop_mul loop_inv (S (add n b 1)) (S b))) (sym number)
+      subst (λ n. SameLoop (quotient loop_mul loop_inv (S a) (S (add n a 1))) (quotient loop_mul loop_inv (S (add n b 1)) (S b)))
+      (sym number)
       (subst (λ x. SameLoop (quotient loop_mul loop_inv (S a) (S (add d a 1))) (quotient loop_mul loop_inv (S (add d x 1)) (S x))) is
       (h.around_middle a a_in))

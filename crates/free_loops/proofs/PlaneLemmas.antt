@@ -112,7 +112,8 @@ module _ (mesh : FaceList) (labelling : LabellingView) where
       let gone : Homotopic mesh (u ∷ (rest ++ back u rest)) (u ∷ []) = there_and_home (homotopy mesh) u v rest way in
       let kept : run state (u ∷ (rest ++ back u rest)) ≡ state =
       moves_keep mesh labelling flat_next (λ _. IsFlatWheel labelling.places) IsEven flat_laws valid good gone.0
-      (u ∷ (rest ++ back u rest)) (u ∷ []) (way_walk mesh u u (rest ++ back u rest) (way_on mesh u v u rest (back u rest) way home)) gone.1 state
+      (u ∷ (rest ++ back u rest)) (u ∷ []) (way_walk mesh u u (rest ++ back u rest) (way_on mesh u v u rest (back u rest) way home)) gone.1
+      state
       (flat_wheel_of_good mesh labelling good four, run_even origin (v ∷ others) refl) in
       ap (led flat_next labelling.places origin) whole
       ∙ led-append flat_next labelling.places origin there (middle ++ again)

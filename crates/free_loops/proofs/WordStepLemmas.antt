@@ -252,7 +252,8 @@ module _ (places : List ℕ) (full : IsFullWheel places) where
       let d : ℕ = length places in
       let x : ℕ = add d (place_round places v i) (minus d m) in
       let turn : ℕ = add d (place_round places (not v) j) (minus d (place_round places (not v) i)) in
-      let told = some_is (eqb turn 0) (next_changed d x (turns_from places (place_round places (not (not v)) j) (not (not v)) path)) word e in
+      let told =
+      some_is (eqb turn 0) (next_changed d x (turns_from places (place_round places (not (not v)) j) (not (not v)) path)) word e in
       let zero_is : turn ≡ 0 = eqb-true turn 0 told.0 in
       let pi : place_round places (not v) i < d = value_in (not v) i h.0 in
       let same : j ≡ i = once (not v) j i h.1.0 h.0
@@ -414,8 +415,8 @@ module _ (places : List ℕ) (full : IsFullWheel places) where
   one_list v m (i ∷ path) (j ∷ other) l h k e =
       let d : ℕ = length places in
       let first : add d (place_round places v i) (minus d m) ≡ add d (place_round places v j) (minus d m) = cc in
-      let rest : turns_from places (place_round places (not v) i) (not v) path ≡ turns_from places (place_round places (not v) j) (not v) other
-      = cc in
+      let rest : turns_from places (place_round places (not v) i) (not v) path
+      ≡ turns_from places (place_round places (not v) j) (not v) other = cc in
       let i_in : place_round places v i < d = value_in v i h.0 in
       let j_in : place_round places v j < d = value_in v j k.0 in
       let turn_in : add d (place_round places v j) (minus d m) < d = add-lt d (place_round places v j) (minus d m) j_in (minus-lt d m l) in

@@ -12,7 +12,8 @@ pub cyclic_form-requires-clause-spokes : goal.cyclic_form-requires-clause-spokes
 cyclic_form-requires-clause-spokes c =
     let places : List ℕ = c.args.good.now.places in
     let spokes : List ℕ = c.in_ok-spokes.spokes.items in
-    let word : IsWordOf c.args.faces.now c.args.good.now c.args.walk.now (Turns c.in-Turns.word) = rw c.in-Turns.is at c.in_ok-word.ensures in
+    let word : IsWordOf c.args.faces.now c.args.good.now c.args.walk.now (Turns c.in-Turns.word) =
+    rw c.in-Turns.is at c.in_ok-word.ensures in
     let below : All (λ spoke. spoke < length places) spokes =
     subst (λ (p : List ℕ). All (λ spoke. spoke < length p) spokes) c.wheel.ensures c.in_ok-spokes.ensures.below in
     let is : turn_word_of places spokes ≡ c.in-Turns.word =
@@ -25,7 +26,8 @@ returns-clause-form c =
     let places : List ℕ = c.args.good.now.places in
     let spokes : List ℕ = c.in_ok-spokes.spokes.items in
     let form : List ℕ = c.in_ok-form.form.items in
-    let word : IsWordOf c.args.faces.now c.args.good.now c.args.walk.now (Turns c.in-Turns.word) = rw c.in-Turns.is at c.in_ok-word.ensures in
+    let word : IsWordOf c.args.faces.now c.args.good.now c.args.walk.now (Turns c.in-Turns.word) =
+    rw c.in-Turns.is at c.in_ok-word.ensures in
     let below : All (λ spoke. spoke < length places) spokes =
     subst (λ (p : List ℕ). All (λ spoke. spoke < length p) spokes) c.wheel.ensures c.in_ok-spokes.ensures.below in
     let is : turn_word_of places spokes ≡ c.in-Turns.word =
@@ -33,6 +35,7 @@ returns-clause-form c =
     let leads : LoopLeads places spokes form =
     subst (λ (p : List ℕ). LoopLeads p spokes form) c.wheel-2.ensures
     (subst (λ (s : List ℕ). LoopLeads c.wheel-2.result.now s form) c.deref.ensures.value c.in_ok-form.ensures.leads) in
-    cyclic_form_is c.args.faces.now c.args.good.now c.requires.good c.requires.full c.args.walk.now c.in-Turns.word spokes form word below is
+    cyclic_form_is c.args.faces.now c.args.good.now c.requires.good c.requires.full c.args.walk.now c.in-Turns.word spokes form word
+    below is
     (subst (λ (p : List ℕ). IsLoop p form) c.wheel-2.ensures c.in_ok-form.ensures.spokes)
     (subst (λ (p : List ℕ). IsCyclicallyCanonical p form) c.wheel-2.ensures c.in_ok-form.ensures.canonical) leads

@@ -37,7 +37,8 @@ loop-k-preserved c =
     subst (Spelled places word (k + 1) c.place_of-from.result _) (sym c.in_ok-push.ensures.items)
     (spelled_more places word k from spoke c.place_of-from.result v c.loop-k.spokes.items c.requires.full c.loop-k.invariant more entry
     c.spoke_with-spoke.ensures.below (c.spoke_with-spoke.ensures.place ∙ sum)
-    (subst (λ x. x < length places) (sym c.place_of-from.ensures) (value_in places c.requires.full _ spoke c.spoke_with-spoke.ensures.below))
+    (subst (λ x. x < length places) (sym c.place_of-from.ensures)
+    (value_in places c.requires.full _ spoke c.spoke_with-spoke.ensures.below))
     c.place_of-from.ensures)
 
 pub returns-clause-word : goal.returns-clause-word

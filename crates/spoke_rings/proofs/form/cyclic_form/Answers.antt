@@ -44,7 +44,8 @@ form c =
           (w.to_vertex-then-all_fall.ensures.spokes, w.to_vertex-then-all_fall.ensures.at_vertex))
       | else-len-gt0 w ↦
           subst (Form places start) (sym w.ring-is)
-          (form-of places c.requires.full start c.reduce.new.self now c.reduce.ensures.acts c.reduce.ensures.not_longer c.reduce.ensures.fine
+          (form-of places c.requires.full start c.reduce.new.self now c.reduce.ensures.acts c.reduce.ensures.not_longer
+          c.reduce.ensures.fine
           (c.to_vertex.ensures.spokes, c.to_vertex.ensures.at_vertex)
           (λ all. elim w.else-len-gt0.branch [
             | else-len-gt0-via-then-len-gt0+else-all_fall u ↦ (let yes = u.if-all_fall.ensures.1 all.1 in absurd cc)
