@@ -1,1 +1,2 @@
+pub mod FreeStepLemmas
 pub mod MovedSteps

@@ -1,5 +1,5 @@
 -- A ring that was reduced, and taken across all quads beside it if its turns are all -2, is cyclically canonical.
-use Rattle.std.proofs.Common.{◌≡◌, ℕ, ◌<◌, inl, inr, arith, refl, sym, ◌∙◌, ap, subst, true, List, [], ◌∷◌, length}
+use Rattle.std.proofs.Common.{◌≡◌, ℕ, ◌<◌, ◌≤◌, inl, inr, arith, refl, sym, ◌∙◌, ap, subst, true, List, [], ◌∷◌, length}
 use Rattle.std.specs.Prelude.{if◌then◌else◌}
 use Rattle.std.proofs.lemmas.Bool.{cases_eq}
 use Rattle.turn_words.specs.Modulo.{minus}
@@ -17,6 +17,7 @@ pub record Form (places : List ℕ) (start ring : RingView) : Type 0 where
   pub acts : Acts places start ring
   pub at_vertex : ring.at_vertex ≡ true
   pub canonical : IsCyclicallyCanonical places ring.spokes
+  pub not_longer : length ring.spokes ≤ length start.spokes
 
 -- where a ring is taken on to the vertex
 abbrev pub OnToVertex : RingView → RingView → Type 0
@@ -31,12 +32,15 @@ module _ (places : List ℕ) (full : IsFullWheel places) where
   vertex-turn : (ring : RingView) → ring.at_vertex ≡ true → (k : ℕ) → cyclic_turn places ring.spokes k ≡ ring_turn places ring k
   vertex-turn ring v k = ap (λ b. turn_along places b ring.spokes k) (sym v)
 
-  pub form-of : (start reduced now : RingView) → Acts places start reduced → IsFineRing places reduced → OnToVertex reduced now →
+  pub form-of : (start reduced now : RingView) → Acts places start reduced → length reduced.spokes ≤ length start.spokes →
+      IsFineRing places reduced → OnToVertex reduced now →
       ¬ ((0 < length now.spokes) × ((k : ℕ) → k < length now.spokes → ring_turn places now k ≡ minus (length places) 2)) →
       Form places start now
-  form-of start reduced now acts fine on not_all =
+  form-of start reduced now acts shorter fine on not_all =
       let here = at-vertex places reduced now acts.loop on.0 on.1 in
+      let long = here.as_long in
       record {
+        not_longer = omega arith;
         acts = acts-on places start reduced now acts here.acts;
         at_vertex = on.1;
         canonical = elim (cases_eq (length now.spokes) 0) [
@@ -56,14 +60,17 @@ module _ (places : List ℕ) (full : IsFullWheel places) where
       same-rows (ring_turn places now) (λ k. minus (length places) 2) (length now.spokes) some
       (turn-round places now.at_vertex now.spokes loop.even) (λ k. refl) falls
 
-  pub form-over : (start reduced now over last : RingView) → Acts places start reduced → OnToVertex reduced now → 0 < length now.spokes →
+  pub form-over : (start reduced now over last : RingView) → Acts places start reduced → length reduced.spokes ≤ length start.spokes →
+      OnToVertex reduced now → 0 < length now.spokes →
       TurnsOver places now over → OnToVertex over last → Form places start last
-  form-over start reduced now over last acts on some t on_last =
+  form-over start reduced now over last acts shorter on some t on_last =
       let here = at-vertex places reduced now acts.loop on.0 on.1 in
       let there = at-vertex places over last t.acts.loop on_last.0 on_last.1 in
       let long = there.as_long in
       let over_long = t.as_long in
+      let now_long = here.as_long in
       record {
+        not_longer = omega arith;
         acts = acts-on places start over last
             (acts-on places start now over (acts-on places start reduced now acts here.acts) t.acts) there.acts;
         at_vertex = on_last.1;

@@ -218,6 +218,7 @@ impl Ring {
         requires full { IsFullWheel wheel.now }
         requires spokes { IsLoop wheel.now self.old.spokes }
         ensures acts { Acts wheel.now self.old self.new }
+        ensures not_longer { length self.new.spokes ≤ length self.old.spokes }
         ensures fine { IsFineRing wheel.now self.new }
     {
         let mut passed = 0;

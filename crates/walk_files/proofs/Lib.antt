@@ -1,5 +1,6 @@
 pub mod EntryLemmas
 pub mod PairLemmas
+pub mod ClosedPairLemmas
 pub mod MoveLines
 pub mod EachLemmas
 pub mod ListLemmas

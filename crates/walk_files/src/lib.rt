@@ -3,8 +3,8 @@
 //! A caller sees walks and turn words as lists of lists of numbers, and a reader of a certificate as
 //! its text, its head, how many moves it gave and the refusal that it keeps. Proved: a reader gives
 //! what the lines of its text mean, or the first fault with its line, or wants memory; a list of
-//! moves is written in its one spelling, and reads back; and `check_pair` finds two walks of the mesh
-//! with common ends, or what is first wrong.
+//! moves is written in its one spelling, and reads back; `check_pair` finds two walks of the mesh with
+//! common ends, and `check_loops` two closed walks, or what is first wrong.
 //!
 //!     let walks = read_walks(alloc, b"0 1 2\n0 2 # the short way\n")?;
 //!     check_pair(&sides, &walks)?;
@@ -17,6 +17,7 @@ mod entries;
 mod fault;
 pub mod laws;
 mod limits;
+mod loops;
 mod moves;
 mod number_lines;
 mod numbers;
@@ -35,6 +36,7 @@ pub use certificate::CertHead;
 pub use denial_writing::write_denial;
 pub use fault::{CertFault, WalkFault};
 pub use limits::{MOST_ENTRIES, MOST_LINES, MOST_PEAK, MOST_WALK_VERTICES};
+pub use loops::{LoopFault, check_loops};
 pub use number_lines::NumberLines;
 pub use pair::{PairFault, check_pair};
 pub use reader::CertReader;

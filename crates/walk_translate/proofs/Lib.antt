@@ -1,2 +1,2 @@
 pub mod DecidingLemmas
-mod LabelLemmas
+pub mod LabelLemmas

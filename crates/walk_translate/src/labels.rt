@@ -18,8 +18,9 @@ pub fn label_surface(alloc: Global, surface: &Surface) -> Result<Option<GoodLabe
     label_by_cut(alloc, surface)
 }
 
-/// The labelling of a polygon into which the surface is cut; none where no edge is left over.
-pub(crate) fn label_by_cut(
+/// The labelling of a polygon into which the surface is cut; none where no edge is left over, as on a sphere. It says of which
+/// cut the labelling is, where `label_surface` says what holds of it.
+pub fn label_by_cut(
     alloc: Global,
     surface: &Surface,
 ) -> Result<Option<GoodLabelling>, AllocError>

@@ -12,4 +12,4 @@ mod labels;
 
 pub use deciding::{Answer, decide};
 pub use labellings::{DenialVerdict, check_denial, fold, word_of};
-pub use labels::label_surface;
+pub use labels::{label_by_cut, label_surface};

@@ -1,4 +1,4 @@
-use Rattle.std.proofs.Common.{arith, refl, sym, subst}
+use Rattle.std.proofs.Common.{◌≤◌, length, arith, refl, ap, sym, subst}
 use Rattle.spoke_rings.specs.Cyclic_words.{IsLoop, IsCyclicallyCanonical}
 use Rattle.spoke_rings.proofs.Forming.{Form, form-of, form-over, form-leads, loop-now, all-turns}
 use Rattle.spoke_rings.proofs.form.cyclic_form.Goals as goal
@@ -39,12 +39,13 @@ form c =
       | then-len-gt0+then-all_fall+in_ok-turn_over w ↦
           subst (Form places start) (sym w.ring-is)
           (form-over places c.requires.full start c.reduce.new.self now w.turn_over.new.self w.to_vertex-then-all_fall.new.self
-          c.reduce.ensures.acts (c.to_vertex.ensures.spokes, c.to_vertex.ensures.at_vertex)
+          c.reduce.ensures.acts c.reduce.ensures.not_longer (c.to_vertex.ensures.spokes, c.to_vertex.ensures.at_vertex)
           (omega (arith, w.if-len-gt0.true, c.len.ensures)) w.in_ok-turn_over.ensures
           (w.to_vertex-then-all_fall.ensures.spokes, w.to_vertex-then-all_fall.ensures.at_vertex))
       | else-len-gt0 w ↦
           subst (Form places start) (sym w.ring-is)
-          (form-of places c.requires.full start c.reduce.new.self now c.reduce.ensures.acts c.reduce.ensures.fine
+          (form-of places c.requires.full start c.reduce.new.self now c.reduce.ensures.acts c.reduce.ensures.not_longer
+          c.reduce.ensures.fine
           (c.to_vertex.ensures.spokes, c.to_vertex.ensures.at_vertex)
           (λ all. elim w.else-len-gt0.branch [
             | else-len-gt0-via-then-len-gt0+else-all_fall u ↦ (let yes = u.if-all_fall.ensures.1 all.1 in absurd cc)
@@ -62,3 +63,8 @@ pub returns-clause-leads : goal.returns-clause-leads
 returns-clause-leads c =
     form-leads c.args.wheel.now c.requires.full c.in_ok-ring.ring c.if-len-gt0.ring c.args.spokes.now c.in_ok-form.form.items
     c.in_ok-ring.ensures.spokes c.in_ok-ring.ensures.at_vertex c.in_ok-form.ensures (form c)
+
+pub returns-clause-not_longer : goal.returns-clause-not_longer
+returns-clause-not_longer c =
+    let shorter : length c.if-len-gt0.ring.spokes ≤ length c.in_ok-ring.ring.spokes = (form c).not_longer in
+    omega (arith, ap length c.in_ok-form.ensures, ap length c.in_ok-ring.ensures.spokes)

@@ -1,0 +1,84 @@
+-- The wheel of a cut with five sides at least: each side has a partner, with which it makes a quad of the loops of the spokes.
+use Rattle.std.proofs.Common.{◌≡◌, ℕ, ◌<◌, ◌≤◌, not, length, ap, sym, ◌∙◌, subst, arith}
+use Rattle.halfedge_map.specs.OrientedMeshes.{OrientedMesh, IsOrientedSurface}
+use Rattle.halfedge_map.specs.RotationSystems.{rotations_of}
+use Rattle.halfedge_map.proofs.SystemLemmas.{rotation_system}
+use Rattle.turn_words.specs.Modulo.{add, minus}
+use Rattle.turn_words.specs.Lemmas.Sums.{add-lt}
+use Rattle.turn_words.specs.Form_laws.{IsQuad}
+use Rattle.tree_cotree.specs.SpanningTrees.{after_dart}
+use Rattle.tree_cotree.specs.Splits.{SplitView, IsSplit, in_cotree, is_left}
+use Rattle.polygon_cut.specs.Polygons.{PolygonView, IsCutFrom, place_of, across}
+use Rattle.polygon_cut.proofs.GroupLemmas.{quotient}
+use Rattle.polygon_cut.proofs.LoopLemmas.{SameLoop, loop_mul, loop_inv}
+use Rattle.polygon_cut.proofs.PlaceLemmas.{Crosses, sides_cross}
+use Rattle.polygon_cut.proofs.SpokeLemmas.{Loops, spoke}
+use Rattle.quad_system.proofs.PushPathLemmas.{IsQuadWheel, add_back}
+use Rattle.quad_system.proofs.PushWorthLemmas.{polygon_wheel}
+use Rattle.quad_system.proofs.SpokeProductLemmas.{polygon_quads, spoke_at}
+use Rattle.spoke_rings.specs.Cyclic_words.{IsFullWheel}
+
+module _ (s : OrientedMesh) (split : SplitView) (o : IsOrientedSurface s) (t : IsSplit s split) (polygon : PolygonView)
+    (c : IsCutFrom s split polygon) (some : 0 < polygon.degree) where
+  number : length polygon.places ≡ polygon.degree
+  number = (c.places some).each_spoke
+
+  wheel : IsQuadWheel (length polygon.places) (place_of polygon) (spoke_at polygon) (across (rotations_of s) polygon)
+  wheel =
+      subst (λ n. IsQuadWheel n (place_of polygon) (spoke_at polygon) (across (rotations_of s) polygon)) (sym number)
+      (polygon_wheel s split o t polygon c some)
+
+  quad_of : (a : ℕ) → a < length polygon.places → IsQuad polygon.places a (across (rotations_of s) polygon a)
+  quad_of a l =
+      let b : ℕ = across (rotations_of s) polygon a in
+      let b_in : b < length polygon.places = wheel.partner_in a l in
+      record {
+        a_below = l;
+        c_below = b_in;
+        a_place = wheel.one_before a l;
+        c_place = ap (λ x. place_of polygon (add (length polygon.places) x 1)) (sym (wheel.partner_back a l)) ∙ wheel.one_before b b_in;
+      }
+
+  pub full_wheel : 5 ≤ polygon.degree → IsFullWheel polygon.places
+  full_wheel five =
+      let cross : Crosses polygon.degree (across (rotations_of s) polygon) =
+      sides_cross (rotations_of s) (after_dart (rotations_of s) (λ e. not (in_cotree split e))) (is_left split) polygon
+      (rotation_system s o) (c.labels some) in
+      record {
+        own = record {
+          five = omega (arith, number);
+          wheel = record {
+            inside = wheel.place_in;
+            once = λ i j l k e. sym (wheel.spoke_of_place i l) ∙ ap (spoke_at polygon) e ∙ wheel.spoke_of_place j k;
+          };
+        };
+        full = λ a l. record {
+          partner = across (rotations_of s) polygon a;
+          other = cross.other a (omega (arith, number));
+          quad = quad_of a l;
+        };
+      }
+
+  -- the two ways round a quad have the same loop
+  pub quads_agree : (a b : ℕ) → IsQuad polygon.places a b
+      → SameLoop (quotient loop_mul loop_inv (spoke s split o t polygon a) (spoke s split o t polygon (add (length polygon.places) a 1)))
+      (quotient loop_mul loop_inv (spoke s split o t polygon (add (length polygon.places) b 1)) (spoke s split o t polygon b))
+  quads_agree a b q =
+      let S : ℕ → Loops s split t = spoke s split o t polygon in
+      let h = polygon_quads s split o t polygon c some in
+      let d : ℕ = polygon.degree in
+      let a_in : a < d = omega (arith, number, q.a_below) in
+      let b_in : b < d = omega (arith, number, q.c_below) in
+      let other : ℕ = h.partner a in
+      let other_in : other < d = h.partner_in a a_in in
+      let a_place : place_of polygon (add d b 1) ≡ add d (place_of polygon a) (minus d 1) =
+      subst (λ n. place_of polygon (add n b 1) ≡ add n (place_of polygon a) (minus n 1)) number q.a_place in
+      let next : add d b 1 ≡ add d other 1 =
+      sym (h.spoke_of_place (add d b 1) (add-lt d b 1 b_in h.large)) ∙ ap (spoke_at polygon) (a_place ∙ sym (h.one_before a a_in))
+      ∙ h.spoke_of_place (add d other 1) (add-lt d other 1 other_in h.large) in
+      let is : other ≡ b =
+      sym (add_back d other h.large other_in) ∙ ap (λ x. add d x (minus d 1)) (sym next) ∙ add_back d b h.large b_in in
+      subst (λ n. SameLoop (quotient loop_mul loop_inv (S a) (S (add n a 1))) (quotient loop_mul loop_inv (S (add n b 1)) (S b)))
+      (sym number)
+      (subst (λ x. SameLoop (quotient loop_mul loop_inv (S a) (S (add d a 1))) (quotient loop_mul loop_inv (S (add d x 1)) (S x))) is
+      (h.around_middle a a_in))

@@ -1,0 +1,131 @@
+-- What the forms of two closed walks decide, on the surface from which the polygon of the labelling was cut.
+use Rattle.std.proofs.Common.{◌≡◌, ◌≢◌, ◌↔◌, ℕ, Bool, ◌<◌, ◌≤◌, List, [], ◌∷◌, ap, sym, ◌∙◌, subst, arith, ℤ}
+use Rattle.std.specs.Prelude.{IsTrue}
+use Rattle.turn_words.specs.Form_laws.{led}
+use Rattle.turn_words.specs.declared.word.Word.{Word}
+use Rattle.turn_words.specs.declared.word.Word.TheVariants.{Turns, Flat}
+use Rattle.flat_forms.specs.Vectors.{Vector, origin}
+use Rattle.flat_forms.specs.Flat_states.{flat_next}
+use Rattle.halfedge_map.specs.OrientedMeshes.{OrientedMesh, IsOrientedSurface}
+use Rattle.labellings.specs.Labellings.{LabellingView}
+use Rattle.labellings.specs.QuadPaths.{quad_path}
+use Rattle.labellings.specs.WalkWords.{IsWordOf}
+use Rattle.labellings.proofs.WalkWordLemmas.{quad_path_leads_to_sum}
+use Rattle.walk_translate.specs.SurfaceLabels.{HasSphereSplit, IsLabelledByCut}
+use Rattle.spoke_rings.specs.Cyclic_words.{IsFullWheel}
+use Rattle.spoke_rings.specs.Rotations.{IsRotation}
+use Rattle.closed_walks.specs.FreeHomotopy.{IsClosedWalk, FreelyHomotopic}
+use Rattle.joined_loops.proofs.Flat_walks.{one_sum}
+use Rattle.joined_loops.proofs.Free_walks.{one_cyclic_form}
+use Rattle.walk_translate.proofs.LabelLemmas.{cut_is_good}
+use Rattle.free_loops.specs.declared.deciding.FreeAnswer.{FreeAnswer}
+use Rattle.free_loops.specs.declared.deciding.FreeAnswer.TheVariants.{Freely, NotFreely}
+use Rattle.free_loops.specs.Cyclic_forms.{IsCyclicFormOf}
+use Rattle.free_loops.proofs.CutWheelLemmas.{full_wheel}
+use Rattle.free_loops.proofs.FreeWordLemmas.{closed_way, sphere_free, rotations_free}
+use Rattle.free_loops.proofs.PlaneLemmas.{sums_free}
+
+-- the degree is that of the polygon
+degree_is : (surface : OrientedMesh) (labelling : LabellingView) (h : IsLabelledByCut surface labelling)
+    → labelling.degree ≡ h.polygon.degree
+degree_is surface labelling h = ap (λ (l : LabellingView). l.degree) h.labelling_is
+
+-- four spokes for each handle: four, or five and more
+pub five_spokes : (surface : OrientedMesh) (labelling : LabellingView) → IsLabelledByCut surface labelling → labelling.degree ≢ 4
+    → 5 ≤ labelling.degree
+five_spokes surface labelling h other = omega (arith, degree_is surface labelling h, h.some, h.is_cut.degree)
+
+-- the wheel of the labelling is full
+pub labelled_wheel : (surface : OrientedMesh) (labelling : LabellingView) → IsOrientedSurface surface → IsLabelledByCut surface labelling
+    → 5 ≤ labelling.degree → IsFullWheel labelling.places
+labelled_wheel surface labelling o h five =
+    subst (λ (l : LabellingView). IsFullWheel l.places) (sym h.labelling_is)
+    (full_wheel surface h.split o h.is_split h.polygon h.is_cut h.some (omega (arith, degree_is surface labelling h)))
+
+-- on a sphere closed walks are freely homotopic
+pub sphere_frees : (surface : OrientedMesh) (first second : List ℕ) → IsOrientedSurface surface → HasSphereSplit surface
+    → IsClosedWalk surface.mesh first → IsClosedWalk surface.mesh second → FreelyHomotopic surface.mesh first second
+sphere_frees surface [] second o h one other =
+    let none : 0 < 0 = one.is_walk.starts in
+    absurd (omega arith)
+sphere_frees surface (u ∷ rest) [] o h one other =
+    let none : 0 < 0 = other.is_walk.starts in
+    absurd (omega arith)
+sphere_frees surface (u ∷ rest) (v ∷ others) o h one other = sphere_free surface h.split o h.is_split h.none u v rest others one other
+
+-- forms that are rotations of one another
+pub forms_free : (surface : OrientedMesh) (labelling : LabellingView) (first second one other : List ℕ) → IsOrientedSurface surface
+    → IsLabelledByCut surface labelling → IsClosedWalk surface.mesh first → IsClosedWalk surface.mesh second
+    → IsCyclicFormOf surface.mesh labelling first one → IsCyclicFormOf surface.mesh labelling second other → IsRotation one other
+    → FreelyHomotopic surface.mesh first second
+forms_free surface labelling [] second one other o h first_closed second_closed f g r =
+    let none : 0 < 0 = first_closed.is_walk.starts in
+    absurd (omega arith)
+forms_free surface labelling (u ∷ rest) [] one other o h first_closed second_closed f g r =
+    let none : 0 < 0 = second_closed.is_walk.starts in
+    absurd (omega arith)
+forms_free surface labelling (u ∷ rest) (v ∷ others) one other o h first_closed second_closed f g r =
+    rotations_free surface h.split o h.is_split h.polygon h.is_cut h.some u v rest others one other first_closed second_closed
+    (subst (λ l. IsCyclicFormOf surface.mesh l (u ∷ rest) one) h.labelling_is f).leads
+    (subst (λ l. IsCyclicFormOf surface.mesh l (v ∷ others) other) h.labelling_is g).leads r
+
+abbrev vector : ℤ → ℤ → Vector
+vector x y = record { x = x; y = y }
+
+same_point : (a b c d : ℤ) → Flat a b ≡ Flat c d → vector a b ≡ vector c d
+same_point a b c d e = cc
+
+-- words that are one, with four spokes
+pub sums_agree : (surface : OrientedMesh) (labelling : LabellingView) (first second : List ℕ) (one other : Word) → IsOrientedSurface surface
+    → IsLabelledByCut surface labelling → labelling.degree ≡ 4 → IsClosedWalk surface.mesh first → IsClosedWalk surface.mesh second
+    → IsWordOf surface.mesh labelling first one → IsWordOf surface.mesh labelling second other → one ≡ other
+    → FreelyHomotopic surface.mesh first second
+sums_agree surface labelling [] second one other o h four first_closed second_closed f g same =
+    let none : 0 < 0 = first_closed.is_walk.starts in
+    absurd (omega arith)
+sums_agree surface labelling (u ∷ rest) [] one other o h four first_closed second_closed f g same =
+    let none : 0 < 0 = second_closed.is_walk.starts in
+    absurd (omega arith)
+sums_agree surface labelling (u ∷ rest) (v ∷ others) (Turns one) other o h four first_closed second_closed f g same =
+    absurd (omega (arith, f.0))
+sums_agree surface labelling (u ∷ rest) (v ∷ others) (Flat x y) (Turns other) o h four first_closed second_closed f g same =
+    absurd (omega (arith, g.0))
+sums_agree surface labelling (u ∷ rest) (v ∷ others) (Flat x y) (Flat right up) o h four first_closed second_closed f g same =
+    let sum : List ℕ → Vector = λ walk. led flat_next labelling.places origin (quad_path surface.mesh labelling walk) in
+    let one_point : vector x y ≡ sum (u ∷ rest) = f.1 ∙ sym (quad_path_leads_to_sum surface.mesh labelling (u ∷ rest)) in
+    let other_point : vector right up ≡ sum (v ∷ others) =
+    g.1 ∙ sym (quad_path_leads_to_sum surface.mesh labelling (v ∷ others)) in
+    let sums : sum (u ∷ rest) ≡ sum (v ∷ others) = sym one_point ∙ same_point x y right up same ∙ other_point in
+    sums_free surface h.split h.polygon o h.is_split h.is_cut (sym (degree_is surface labelling h) ∙ four) u v rest others
+    (closed_way surface u rest first_closed) (closed_way surface v others second_closed)
+    (subst (λ (l : LabellingView). led flat_next l.places origin (quad_path surface.mesh l (u ∷ rest))
+    ≡ led flat_next l.places origin (quad_path surface.mesh l (v ∷ others))) h.labelling_is sums)
+
+-- so the forms decide, and so do the sums
+pub forms_decide : (surface : OrientedMesh) (labelling : LabellingView) (first second one other : List ℕ) (same : Bool)
+    → IsOrientedSurface surface → IsLabelledByCut surface labelling → 5 ≤ labelling.degree → IsClosedWalk surface.mesh first
+    → IsClosedWalk surface.mesh second → IsCyclicFormOf surface.mesh labelling first one
+    → IsCyclicFormOf surface.mesh labelling second other → IsTrue same ↔ IsRotation one other → IsTrue same ↔ FreelyHomotopic surface.mesh first second
+forms_decide surface labelling first second one other same o h five first_closed second_closed f g told = (
+  (λ yes. forms_free surface labelling first second one other o h first_closed second_closed f g (told.0 yes)),
+  (λ free. told.1 (one_cyclic_form surface.mesh labelling first second one other o.faces (cut_is_good surface labelling o h)
+      (labelled_wheel surface labelling o h five) first_closed free f.leads g.leads f.canonical g.canonical)),
+)
+
+pub sums_decide : (surface : OrientedMesh) (labelling : LabellingView) (first second : List ℕ) (one other : Word) (same : Bool)
+    → IsOrientedSurface surface → IsLabelledByCut surface labelling → labelling.degree ≡ 4 → IsClosedWalk surface.mesh first
+    → IsClosedWalk surface.mesh second → IsWordOf surface.mesh labelling first one → IsWordOf surface.mesh labelling second other
+    → IsTrue same ↔ (one ≡ other) → IsTrue same ↔ FreelyHomotopic surface.mesh first second
+sums_decide surface labelling first second one other same o h four first_closed second_closed f g told = (
+  (λ yes. sums_agree surface labelling first second one other o h four first_closed second_closed f g (told.0 yes)),
+  (λ free. told.1 (one_sum surface.mesh labelling first second one other o.faces (cut_is_good surface labelling o h) four first_closed
+      free f g)),
+)
+
+-- the answer that is given of what was found
+pub found_freely : {P : Type 0} (answer : FreeAnswer) → P → answer ≡ Freely → (answer ≡ Freely) ↔ P
+found_freely answer free e = ((λ _. free), (λ _. e))
+
+pub found_not : {P : Type 0} (answer : FreeAnswer) → ¬ P → answer ≡ NotFreely → (answer ≡ Freely) ↔ P
+found_not answer not_free e =
+    ((λ freely. absurd (let both : NotFreely ≡ Freely = sym e ∙ freely in cc)), (λ free. absurd (not_free free)))

@@ -1,0 +1,85 @@
+-- The cyclic form of a closed walk, by way of its canonical word: elementary steps lead from the turn word of the quad path to that
+-- word, so loop steps lead from the quad path to the word's spokes.
+use Rattle.std.proofs.Common.{◌≡◌, ℕ, ◌%◌, ◌<◌, List, [], ◌∷◌, length, ap, sym, ◌∙◌, subst, arith, ℤ}
+use Rattle.std.specs.Prelude.{All}
+use Rattle.surf_model.specs.FaceLists.{FaceList}
+use Rattle.turn_words.specs.Canonical.{IsCanonicalOf}
+use Rattle.turn_words.specs.Step_table.{Reaches}
+use Rattle.turn_words.specs.Spoke_paths.{turn_word_of}
+use Rattle.turn_words.specs.Form_laws.{led}
+use Rattle.turn_words.specs.Hyper_states.{HyperState, BelongsTo, IsEven, empty_state, hyper_next}
+use Rattle.turn_words.specs.Lemmas.Hyper_laws.{hyper_starts, hyper_stays}
+use Rattle.turn_words.specs.declared.word.Word.TheVariants.{Turns, Flat}
+use Rattle.turn_words.proofs.Unique.{unique}
+use Rattle.turn_words.proofs.Spokes.{turns, canonical}
+use Rattle.labellings.specs.Labellings.{LabellingView}
+use Rattle.labellings.specs.GoodLabellings.{IsGood}
+use Rattle.labellings.specs.QuadPaths.{quad_path}
+use Rattle.labellings.specs.WalkWords.{IsWordOf}
+use Rattle.labellings.proofs.WalkWordLemmas.{quad_path_below}
+use Rattle.spoke_rings.specs.Cyclic_words.{IsLoop, IsFullWheel, IsCyclicallyCanonical}
+use Rattle.spoke_rings.specs.Loop_steps.{LoopLeads}
+use Rattle.spoke_rings.proofs.Leading.{leads-on}
+use Rattle.free_loops.specs.Cyclic_forms.{IsCyclicFormOf}
+use Rattle.free_loops.proofs.ClosedLoopLemmas.{even_path}
+use Rattle.free_loops.proofs.SpellingLemmas.{as_many}
+use Rattle.free_loops.proofs.WordStepLemmas.{Below, below_from, reached_leads}
+
+-- spokes that are put two by two lead from the vertex to the vertex
+even_state : (places : List ℕ) (state : HyperState) (path : List ℕ) → BelongsTo places state → IsEven state → Below (length places) path
+    → length path % 2 ≡ 0 → IsEven (led hyper_next places state path)
+even_state places state [] b e h even = e
+even_state places state (i ∷ []) b e h even = absurd (omega arith)
+even_state places state (i ∷ j ∷ path) b e h even =
+    even_state places (hyper_next places (hyper_next places state i) j) path
+    (hyper_stays.belongs places (hyper_next places state i) j (hyper_stays.belongs places state i b h.0) h.1.0)
+    (hyper_stays.at_vertex places state i j b e h.0 h.1.0) h.1.1 (omega arith)
+
+module _ (mesh : FaceList) (labelling : LabellingView) (good : IsGood mesh labelling) (full : IsFullWheel labelling.places) where
+  -- the degree of a full wheel is not 4
+  pub no_plane : (walk : List ℕ) (x y : ℤ) → IsWordOf mesh labelling walk (Flat x y) → ⊥
+  no_plane walk x y h = omega (arith, h.0, good.shape.each_spoke, full.own.five)
+
+  word_over_places : (walk word : List ℕ) → IsWordOf mesh labelling walk (Turns word)
+      → IsCanonicalOf (length labelling.places) (turn_word_of labelling.places (quad_path mesh labelling walk)) word
+  word_over_places walk word h =
+      subst (λ n. IsCanonicalOf n (turn_word_of labelling.places (quad_path mesh labelling walk)) word) (sym good.shape.each_spoke) h.1
+
+  pub entries_below : (walk word : List ℕ) → IsWordOf mesh labelling walk (Turns word)
+      → All (λ entry. entry < length labelling.places) word
+  entries_below walk word h = (word_over_places walk word h).is_canonical.in_range
+
+  even_word : (walk word : List ℕ) → IsWordOf mesh labelling walk (Turns word) → length word % 2 ≡ 0
+  even_word walk word h =
+      let places : List ℕ = labelling.places in
+      let path : List ℕ = quad_path mesh labelling walk in
+      let below : All (λ i. i < length places) path = quad_path_below mesh labelling good walk in
+      let state : IsEven (led hyper_next places empty_state path) =
+      even_state places empty_state path (hyper_starts.belongs places full.own) hyper_starts.at_vertex
+      (below_from (length places) path below) (even_path mesh labelling walk) in
+      let is : word ≡ (led hyper_next places empty_state path).word =
+      unique (length places) (turn_word_of places path) word (led hyper_next places empty_state path).word
+      (turns places path full.own below) (word_over_places walk word h) (canonical places path full.own below) in
+      subst (λ (w : List ℕ). length w % 2 ≡ 0) (sym is) state
+
+  pub spelled_loop : (walk word path : List ℕ) → IsWordOf mesh labelling walk (Turns word) → All (λ i. i < length labelling.places) path
+      → turn_word_of labelling.places path ≡ word → IsLoop labelling.places path
+  spelled_loop walk word path h below is =
+      let long : length word ≡ length path = ap length (sym is) ∙ as_many labelling.places path in
+      record { below = below; even = subst (λ n. n % 2 ≡ 0) long (even_word walk word h) }
+
+  pub cyclic_form_is : (walk word path form : List ℕ) → IsWordOf mesh labelling walk (Turns word)
+      → All (λ i. i < length labelling.places) path → turn_word_of labelling.places path ≡ word
+      → IsLoop labelling.places form → IsCyclicallyCanonical labelling.places form → LoopLeads labelling.places path form
+      → IsCyclicFormOf mesh labelling walk form
+  cyclic_form_is walk word path form h below is loop canonical leads =
+      let places : List ℕ = labelling.places in
+      let quad : List ℕ = quad_path mesh labelling walk in
+      let reached : Reaches (length places) (turn_word_of places quad) (turn_word_of places path) =
+      subst (Reaches (length places) (turn_word_of places quad)) (sym is) (word_over_places walk word h).reached in
+      record {
+        loop = loop;
+        leads = leads-on places quad path form
+            (reached_leads places full quad path (quad_path_below mesh labelling good walk) below reached) leads;
+        canonical = canonical;
+      }

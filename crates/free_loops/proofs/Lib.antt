@@ -1,0 +1,9 @@
+pub mod LoopStepLemmas
+pub mod WordStepLemmas
+pub mod CutWheelLemmas
+pub mod ClosedLoopLemmas
+pub mod PlaneLemmas
+pub mod FreeWordLemmas
+pub mod SpellingLemmas
+pub mod FormLemmas
+pub mod DecidingLemmas

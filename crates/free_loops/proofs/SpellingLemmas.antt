@@ -1,0 +1,64 @@
+-- A turn word that is spelled out as spokes, entry by entry.
+use Rattle.std.proofs.Common.{◌≡◌, ℕ, suc, ◌+◌, ◌<◌, Bool, true, false, not, List, [], ◌∷◌, ◌++◌, length, take, get_or, refl, ap, sym, ◌∙◌, arith, append_assoc, add-one}
+use Rattle.std.specs.Prelude.{All}
+use Rattle.std.proofs.Math.Seq.{take-suc, take-length}
+use Rattle.std.proofs.lemmas.List.{append-nil}
+use Rattle.std.proofs.lemmas.List.Elements.{All-append, All-nil, All-cons}
+use Rattle.turn_words.specs.Modulo.{add, minus}
+use Rattle.turn_words.specs.Spoke_paths.{place_round, turns_after, turn_word_of}
+use Rattle.spoke_rings.specs.Cyclic_words.{IsFullWheel}
+use Rattle.free_loops.proofs.WordStepLemmas.{turns_from, below_from, taken, word_is}
+
+-- So many entries of a word are spelled out: whatever spokes come next, their turns come behind these entries.
+pub record Spelled (places word : List ℕ) (k from : ℕ) (at_vertex : Bool) (spokes : List ℕ) : Type 0 where
+  pub from_in : from < length places
+  pub below : All (λ spoke. spoke < length places) spokes
+  pub turns : (rest : List ℕ)
+      → turns_from places 0 true (spokes ++ rest) ≡ take k word ++ turns_from places from at_vertex rest
+
+pub spelled_none : (places word : List ℕ) → IsFullWheel places → Spelled places word 0 0 true []
+spelled_none places word full = record {
+  from_in = omega (arith, full.own.five);
+  below = All-nil (λ spoke. spoke < length places);
+  turns = λ rest. refl;
+}
+
+pub spelled_more : (places word : List ℕ) (k from spoke next : ℕ) (at_vertex : Bool) (spokes : List ℕ) → IsFullWheel places
+    → Spelled places word k from at_vertex spokes → k < length word → get_or word k 0 < length places → spoke < length places
+    → place_round places at_vertex spoke ≡ add (length places) from (get_or word k 0) → next < length places
+    → next ≡ place_round places (not at_vertex) spoke
+    → Spelled places word (k + 1) next (not at_vertex) (spokes ++ spoke ∷ [])
+spelled_more places word k from spoke next at_vertex spokes full h more entry below place next_in next_is =
+    let d : ℕ = length places in
+    let turn : add d (place_round places at_vertex spoke) (minus d from) ≡ get_or word k 0 =
+    ap (λ x. add d x (minus d from)) place ∙ taken d from (get_or word k 0) h.from_in entry in
+    let one_more : take (k + 1) word ≡ take k word ++ get_or word k 0 ∷ [] =
+    ap (λ n. take n word) (add-one k) ∙ take-suc word k 0 more in
+    record {
+      from_in = next_in;
+      below = All-append (λ x. x < d) spokes (spoke ∷ []) h.below
+          (All-cons (λ x. x < d) spoke [] below (All-nil (λ x. x < d)));
+      turns = λ rest.
+          let tail : List ℕ = turns_from places (place_round places (not at_vertex) spoke) (not at_vertex) rest in
+          let here : turns_from places 0 true ((spokes ++ spoke ∷ []) ++ rest)
+          ≡ take k word ++ (add d (place_round places at_vertex spoke) (minus d from) ∷ tail) =
+          ap (turns_from places 0 true) (append_assoc spokes (spoke ∷ []) rest) ∙ h.turns (spoke ∷ rest) in
+          here ∙ ap (λ x. take k word ++ (x ∷ tail)) turn ∙ sym (append_assoc (take k word) (get_or word k 0 ∷ []) tail)
+          ∙ ap (λ (l : List ℕ). l ++ tail) (sym one_more)
+          ∙ ap (λ x. take (k + 1) word ++ turns_from places x (not at_vertex) rest) (sym next_is);
+    }
+
+pub spelled_all : (places word : List ℕ) (from : ℕ) (at_vertex : Bool) (spokes : List ℕ) → IsFullWheel places
+    → Spelled places word (length word) from at_vertex spokes → turn_word_of places spokes ≡ word
+spelled_all places word from at_vertex spokes full h =
+    word_is places full spokes (below_from (length places) spokes h.below) ∙ ap (turns_from places 0 true) (sym (append-nil spokes))
+    ∙ h.turns [] ∙ append-nil (take (length word) word) ∙ take-length word
+
+-- a turn word has as many entries as spokes
+pub as_many : (places path : List ℕ) → length (turn_word_of places path) ≡ length path
+as_many places [] = refl
+as_many places (i ∷ path) = ap suc (behind false i path)
+  where
+    behind : (v : Bool) (last : ℕ) (rest : List ℕ) → length (turns_after places v last rest) ≡ length rest
+    behind v last [] = refl
+    behind v last (j ∷ rest) = ap suc (behind (not v) j rest)

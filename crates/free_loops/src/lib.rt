@@ -1,0 +1,16 @@
+//! Free homotopy: which closed walks of a surface can be moved onto one another with no vertex held fast.
+//!
+//! A caller who has a surface and two closed walks calls `decide_free`. Below it `cyclic_form_of` brings the spokes of a closed
+//! walk to a cyclically canonical list; two walks are freely homotopic where their lists are rotations of one another.
+//!
+//!     let answer = decide_free(alloc, &surface, &first, &second)?;
+//!
+//! docs/definitions/LOOPS.md tells what free homotopy and a cyclic form are.
+#![tactic(auto)]
+
+mod deciding;
+mod form;
+mod spelling;
+
+pub use deciding::{FreeAnswer, decide_free};
+pub use form::cyclic_form_of;
