@@ -154,7 +154,7 @@ fn add_face(tally: &mut [i64], faces: &Faces, sides: &Sides, face: FaceName, amo
 }
 
 /// Gives a dart to its edge: the amount where the dart starts at the edge's lower vertex, and else minus the amount.
-fn add_dart(tally: &mut [i64], sides: &Sides, edge: EdgeName, from: VertexName, amount: i64)
+pub fn add_dart(tally: &mut [i64], sides: &Sides, edge: EdgeName, from: VertexName, amount: i64)
     requires edge { edge.0 < length sides.now }
     requires long { length tally.old ≡ length sides.now }
     requires room { unsigned_abs (number_at tally.old edge.0) + unsigned_abs amount < 2 ^ 62 }

@@ -1,0 +1,4 @@
+pub mod TreeLemmas
+pub mod WayLemmas
+pub mod BoundaryLemmas
+pub mod CycleLemmas
