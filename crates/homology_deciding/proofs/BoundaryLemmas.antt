@@ -85,12 +85,17 @@ face_side : (s : OrientedMesh) (d : ℕ) → (side_of s d).face ≡ face_of s d
 unfolding face_of
 face_side s d = refl
 
+is_along : (s : OrientedMesh) (d k : ℕ) → joins (side_of s d).tail (side_of s d).head (side_of s k) ≡ true → along s d k ≡ true
+unfolding along
+is_along s d k j = j
+
 module _ (s : OrientedMesh) (o : IsOrientedSurface s) (number : ℕ → ℤ) where
   -- what a side gives to an ordered pair of vertices, with the number of its face
   abbrev given : ℕ → ℕ → FaceSide → ℤ
   given u v side = share (number side.face) u v side.tail side.head
 
-  own : (d u v : ℕ) → d < darts_of s → origin_of s d ≡ u → target_of s d ≡ v → given u v (side_of s d) ≡ listed s (face_of s d) (number (face_of s d))
+  own : (d u v : ℕ) → d < darts_of s → origin_of s d ≡ u → target_of s d ≡ v
+      → given u v (side_of s d) ≡ listed s (face_of s d) (number (face_of s d))
   own d u v l starts ends =
       let apart : u ≢ v = λ e. no_loop s o d l (ends ∙ sym e ∙ sym starts) in
       ap (λ f. share (number f) u v (side_of s d).tail (side_of s d).head) (face_side s d)
@@ -127,8 +132,9 @@ module _ (s : OrientedMesh) (o : IsOrientedSurface s) (number : ℕ → ℤ) whe
       ∙ elim (cases_Bool (joins u v (side_of s k))) [
         | inl on ↦
             absurd (not_e ((two_darts s o d l).only k kd
-            (is_along k (joins_both u v (side_of s d) (side_of s k) (subst (λ x. joins u x (side_of s d) ≡ true) starts (dart_joins s d)) on)) not_d))
-        | inr no ↦ off (number (side_of s k).face) u v (side_of s k) no
+            (is_along s d k
+            (joins_both u v (side_of s d) (side_of s k) (subst (λ x. joins u x (side_of s d) ≡ true) starts (dart_joins s d)) on)) not_d))
+        | inr apart_from ↦ off (number (side_of s k).face) u v (side_of s k) apart_from
       ] in
       let two = total_two (given u v) (all_sides s.mesh) (side_of s d) d e (omega (arith, l, long)) (omega (arith, le, long))
       (λ q. twin_other s o d l (sym q)) others in
@@ -139,10 +145,6 @@ module _ (s : OrientedMesh) (o : IsOrientedSurface s) (number : ℕ → ℤ) whe
       ∙ turned_back (number (side_of s e).face) u v (side_of s e).tail (side_of s e).head apart
       ∙ ap neg_ℤ (own e v u le refl (target-twin s o d l)) in
       omega (arith, ints, two, mine, other)
-    where
-      is_along : (k : ℕ) → joins (side_of s d).tail (side_of s d).head (side_of s k) ≡ true → along s d k ≡ true
-      unfolding along
-      is_along k j = j
 
 -- once round a face a dart gives what the two faces of its edge say
 abbrev pub sign_at : OrientedMesh → ℕ → ℕ → ℤ

@@ -55,7 +55,7 @@ along-back one other (u ∷ v ∷ walk) h =
     omega (arith, ints, more, here)
 
 -- no more than the walk has darts, where no dart has more than 1
-along_darts : (number : ℕ → ℕ → ℤ) (walk : List ℕ) → ((u v : ℕ) → unsigned_abs (number u v) ≤ 1)
+pub along_darts : (number : ℕ → ℕ → ℤ) (walk : List ℕ) → ((u v : ℕ) → unsigned_abs (number u v) ≤ 1)
     → unsigned_abs (along number walk) ≤ darts walk
 along_darts number [] h = omega arith
 along_darts number (u ∷ []) h = omega arith

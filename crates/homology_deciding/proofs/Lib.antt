@@ -2,3 +2,5 @@ pub mod TreeLemmas
 pub mod WayLemmas
 pub mod BoundaryLemmas
 pub mod CycleLemmas
+pub mod LoopLemmas
+pub mod ProofLemmas

@@ -10,14 +10,7 @@ use Rattle.halfedge_map.specs.RotationSystems.{Rotations, rotations_of, IsRotati
 use Rattle.halfedge_map.proofs.OrbitLemmas.{AreAlike, two_alike}
 use Rattle.halfedge_map.proofs.SystemLemmas.{rotation_system, names_all}
 use Rattle.tree_cotree.specs.Splits.{SplitView, IsSplit, IsStepUp, StepsUp, child_face}
-use Rattle.homology_deciding.specs.FaceTrees.{up_of, face_across, HasDartIn, IsTreeOfFaces}
-
--- the darts that are kept lead up, and each edge so far keeps one for the face below it
-pub record AreUps (s : OrientedMesh) (split : SplitView) (edges : ℕ) (ups : List (Option DartName)) : Type 0 where
-  pub each_face : length ups ≡ length s.mesh.faces
-  pub steps : (f : ℕ) (dart : DartName) → up_of ups f ≡ Some dart
-      → IsStepUp (rotations_of s) split f (face_across s dart.0) dart.0
-  pub done : (e f : ℕ) → e < edges → child_face (rotations_of s) split e ≡ Some f → is_some (up_of ups f) ≡ true
+use Rattle.homology_deciding.specs.FaceTrees.{up_of, face_across, HasDartIn, IsTreeOfFaces, AreUps}
 
 -- of two darts of an edge, of which one lies in a face, the other one does if the first does not
 pub other_dart : (s : OrientedMesh) → IsOrientedSurface s → (e f d : ℕ) → d < (rotations_of s).darts → edge_of s d ≡ e → HasDartIn s e f

@@ -27,7 +27,7 @@ module _ (s : OrientedMesh) (root : ℕ) (ups : List (Option DartName)) (h : IsT
   way_within f (dart ∷ way) g l w = way_within (face_across s dart.0) way g (across_within f dart w.0) w.1
 
   pub way_rank : (f : ℕ) (way : List DartName) (g : ℕ) → IsWayUp s ups f way g → h.rank f ≡ length way + h.rank g
-  way_rank f [] g w = ap h.rank w
+  way_rank f [] g w = let same : h.rank f ≡ h.rank g = ap h.rank w in omega (arith, same)
   way_rank f (dart ∷ way) g w =
       let more = way_rank (face_across s dart.0) way g w.1 in
       omega (arith, more, h.rises f dart w.0)

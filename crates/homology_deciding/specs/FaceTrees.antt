@@ -1,8 +1,10 @@
 -- A tree over the faces of a surface, and the ways up in it.
-use Rattle.std.specs.Prelude.{◌≡◌, ◌≢◌, ℕ, suc, ◌<◌, List, [], ◌∷◌, length, slice_index_or, Option, Some, None, ℤ, pos, ◌+ℤ◌}
+use Rattle.std.specs.Prelude.{◌≡◌, ◌≢◌, ℕ, suc, ◌<◌, true, List, [], ◌∷◌, length, slice_index_or, Option, Some, None, is_some, ℤ, pos, ◌+ℤ◌}
 use Rattle.surf_model.specs.declared.names.DartName.{DartName}
 use Rattle.halfedge_map.specs.OrientedMeshes.{OrientedMesh, IsOrientedSurface}
 use Rattle.halfedge_map.specs.DartMaps.{darts_of, face_of, edge_of, origin_of, twin_of}
+use Rattle.halfedge_map.specs.RotationSystems.{rotations_of}
+use Rattle.tree_cotree.specs.Splits.{SplitView, IsStepUp, child_face}
 use Rattle.homology.specs.Sums.{share}
 use Rattle.homology_deciding.specs.declared.face_tree.FaceTree.{FaceTree}
 
@@ -49,3 +51,10 @@ way_share surface amount (dart ∷ way) u v = dart_share surface amount dart.0 u
 -- some dart of the edge lies in the face
 abbrev pub HasDartIn : OrientedMesh → ℕ → ℕ → Type 0
 HasDartIn surface e f = (dart : ℕ) × (dart < darts_of surface) × (edge_of surface dart ≡ e) × (face_of surface dart ≡ f)
+
+-- the darts that are kept lead up from face to face, as a split says, and each edge before edge n keeps one for the face below it
+pub record AreUps (surface : OrientedMesh) (split : SplitView) (n : ℕ) (ups : List (Option DartName)) : Type 0 where
+  pub each_face : length ups ≡ length surface.mesh.faces
+  pub steps : (f : ℕ) (dart : DartName) → up_of ups f ≡ Some dart
+      → IsStepUp (rotations_of surface) split f (face_across surface dart.0) dart.0
+  pub done : (e f : ℕ) → e < n → child_face (rotations_of surface) split e ≡ Some f → is_some (up_of ups f) ≡ true

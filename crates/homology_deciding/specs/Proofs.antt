@@ -1,14 +1,20 @@
 -- What shows that two walks are homologous, or that they are not.
-use Rattle.std.specs.Prelude.{◌≡◌, ℕ, ◌+◌, Bool, true, false, List, length, ℤ}
+use Rattle.std.specs.Prelude.{◌≡◌, ℕ, ◌+◌, ◌≤◌, Bool, true, false, List, length, ℤ}
 use Rattle.surf_model.specs.Walks.{darts}
 use Rattle.halfedge_map.specs.OrientedMeshes.{OrientedMesh}
 use Rattle.homology.specs.Chains.{IsChain, count_difference}
 use Rattle.homology.specs.Cocycles.{IsCocycle, Separates}
 use Rattle.homology.specs.Tallies.{number_at, AreWithin, AreNumbersOf, IsLeft}
+use Rattle.homology.specs.declared.certificate.TheConstants.{MOST_NUMBER}
 use Rattle.homology_deciding.specs.Heights.{AreForced}
 use Rattle.homology_deciding.specs.declared.face_tree.FaceTree.{FaceTree}
 use Rattle.homology_deciding.specs.declared.deciding.HomologyProof.{HomologyProof}
 use Rattle.homology_deciding.specs.declared.deciding.HomologyProof.TheVariants.{Chain, Cocycle}
+
+-- at each edge so much more is counted of the first walk than of the second; the walks are so short that no number becomes too large
+pub record CountsOf (tree : FaceTree) (first second : List ℕ) (counts : List ℤ) : Type 0 where
+  pub are_counts : AreNumbersOf tree.surface.now.table counts (count_difference first second)
+  pub few : darts first + darts second ≤ MOST_NUMBER
 
 -- The numbers are those that the tree forces on the faces for the counts of two walks, and this they leave at each edge.
 pub record LeavesOf (tree : FaceTree) (first second : List ℕ) (numbers rest : List ℤ) : Type 0 where

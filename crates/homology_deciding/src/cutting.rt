@@ -7,7 +7,6 @@ ghost use Rattle.homology_deciding.specs.FaceTrees.{IsTree, IsWayUp, dart_share,
 ghost use Rattle.homology_deciding.specs.Cuts.{IsCutAt};
 
 use crate::face_tree::FaceTree;
-use halfedge_map::Surface;
 use homology::tally::add_dart;
 use std::alloc::{AllocError, Global};
 use surf_model::{DartName, FaceName};
@@ -37,7 +36,7 @@ fn cross_all(numbers: &mut [i64], tree: &FaceTree<'_>, dart: DartName)
     requires zeros { (k : ℕ) → number_at numbers.old k ≡ pos 0 }
     ensures { IsCutAt tree.now dart.0 numbers.new }
 {
-    cross(numbers, tree.surface, dart, 1);
+    cross(numbers, tree, dart, 1);
     cross_up(numbers, tree, tree.above(dart), 1);
     cross_up(numbers, tree, tree.surface.face_of(dart), -1);
 }
@@ -59,24 +58,21 @@ fn cross_up(numbers: &mut [i64], tree: &FaceTree<'_>, face: FaceName, amount: i6
         let Some(up) = tree.up(at) else {
             return;
         };
-        cross(numbers, tree.surface, up, amount);
+        cross(numbers, tree, up, amount);
         at = tree.above(up);
     }
 }
 
 /// Gives a dart to its edge: the amount where it starts at the edge's lower vertex, and else minus the amount.
-fn cross(numbers: &mut [i64], surface: &Surface, dart: DartName, amount: i64)
-    requires dart { dart.0 < darts_of surface.now }
-    requires long { length numbers.old ≡ length surface.now.table }
+fn cross(numbers: &mut [i64], tree: &FaceTree<'_>, dart: DartName, amount: i64)
+    requires tree { IsTree tree.now }
+    requires dart { dart.0 < darts_of tree.now.surface.now }
+    requires long { length numbers.old ≡ length tree.now.surface.now.table }
     requires small { unsigned_abs amount ≤ 1 }
     requires room { AreWithin (2 ^ 33) numbers.old }
-    ensures { GrewBy surface.now.table (dart_share surface.now amount dart.0) numbers.old numbers.new }
+    ensures { GrewBy tree.now.surface.now.table (dart_share tree.now.surface.now amount dart.0) numbers.old numbers.new }
 {
-    add_dart(
-        numbers,
-        surface.sides(),
-        surface.edge_of(dart),
-        surface.origin(dart),
-        amount,
-    );
+    let surface = tree.surface;
+    let edge = surface.edge_of(dart);
+    add_dart(numbers, surface.sides(), edge, surface.origin(dart), amount);
 }

@@ -9,7 +9,7 @@ ghost use Rattle.homology.specs.Tallies.{AreWithin};
 ghost use Rattle.homology.specs.declared.certificate.TheConstants.{MOST_NUMBER};
 ghost use Rattle.homology_deciding.specs.FaceTrees.{IsTree};
 ghost use Rattle.homology_deciding.specs.Heights.{AreForced};
-ghost use Rattle.homology_deciding.specs.Proofs.{LeavesOf, IsProofFor, is_chain};
+ghost use Rattle.homology_deciding.specs.Proofs.{CountsOf, LeavesOf, IsProofFor, is_chain};
 
 use crate::cutting::cut;
 use crate::face_tree::FaceTree;
@@ -49,12 +49,25 @@ pub fn homologous(
     ensures proof { IfOk result (IsProofFor surface.now first.now second.now) }
     ensures exact { IfOk result (λ proof. (is_chain proof ≡ true) ↔ AreHomologous surface.now.mesh first.now second.now) }
 {
-    let (faces, sides) = (surface.faces(), surface.sides());
-    let mut rest = count_differences(alloc, faces, sides, first, second)?;
+    let mut counts = count_differences(alloc, surface.faces(), surface.sides(), first, second)?;
     let tree = FaceTree::of_split(alloc, surface, split)?;
-    let numbers = forced_numbers(alloc, &tree, &rest)?;
-    take_faces(&mut rest, faces, sides, &numbers);
-    proof_from(alloc, &tree, numbers, &rest)
+    prove(alloc, &tree, &mut counts)
+}
+
+/// What shows whether two walks are homologous that count so much at each edge, the first more than the second.
+fn prove(
+    alloc: Global,
+    tree: &FaceTree<'_>,
+    counts: &mut [i64],
+) -> Result<HomologyProof, AllocError>
+    requires tree { IsTree tree.now }
+    requires walks { (first second : List ℕ) × CountsOf tree.now first second counts.old }
+    ensures { (first second : List ℕ) → CountsOf tree.now first second counts.old
+        → IfOk result (IsProofFor tree.now.surface.now first second) }
+{
+    let numbers = forced_numbers(alloc, tree, counts)?;
+    take_faces(counts, tree.surface.faces(), tree.surface.sides(), &numbers);
+    proof_from(alloc, tree, numbers, counts)
 }
 
 /// The numbers that the cotree forces on the faces, where so much is counted at each edge.
@@ -89,10 +102,10 @@ fn proof_from(
     match first_nonzero(rest, tree.surface.sides()) {
         None => Ok(HomologyProof::Chain(Numbers::of(numbers))),
         Some(edge) => {
+            // The proof reads that there are few edges.
+            let _ = tree.surface.sides().len();
             let dart = rising_dart(tree.surface, edge);
-            Ok(HomologyProof::Cocycle(Numbers::of(cut(
-                alloc, tree, dart,
-            )?)))
+            Ok(HomologyProof::Cocycle(Numbers::of(cut(alloc, tree, dart)?)))
         }
     }
 }
@@ -100,7 +113,8 @@ fn proof_from(
 /// The dart of an edge that starts at its lower vertex.
 fn rising_dart(surface: &Surface, edge: EdgeName) -> DartName
     requires { edge.0 < length surface.now.table }
-    ensures { IsDartFrom (rotations_of surface.now) (edge_in surface.now.table edge.0).low (edge_in surface.now.table edge.0).high result.0 }
+    ensures { IsDartFrom (rotations_of surface.now) (edge_in surface.now.table edge.0).low (edge_in surface.now.table edge.0).high
+        result.0 }
 {
     let dart = surface.dart_of(edge);
     let (low, _) = surface.sides().ends(edge);

@@ -1,9 +1,8 @@
 //! The cotree of a split as a tree over the faces.
-ghost use Rattle.std.specs.Prelude.{◌≡◌, ◌<◌, length, IfOk};
+ghost use Rattle.std.specs.Prelude.{◌≡◌, ◌+◌, ◌<◌, ℕ, None, length, IfOk};
 ghost use Rattle.halfedge_map.specs.DartMaps.{darts_of, edge_of, face_of};
-ghost use Rattle.halfedge_map.specs.OrientedMeshes.{IsOrientedSurface};
 ghost use Rattle.tree_cotree.specs.Splits.{IsSplit};
-ghost use Rattle.homology_deciding.specs.FaceTrees.{IsTree, IsTreeOfFaces, HasDartIn, up_of, face_across};
+ghost use Rattle.homology_deciding.specs.FaceTrees.{IsTree, IsTreeOfFaces, AreUps, HasDartIn, up_of, face_across};
 
 use halfedge_map::Surface;
 use std::alloc::{AllocError, Global};
@@ -27,7 +26,7 @@ impl<'a> FaceTree<'a> {
         split: &Split,
     ) -> Result<FaceTree<'a>, AllocError>
         requires { IsSplit surface.now split.now }
-        ensures tree { IfOk result (λ tree. IsTreeOfFaces surface.now tree.root.0 tree.ups.items) }
+        ensures tree { IfOk result IsTree }
         ensures surface { IfOk result (λ tree. tree.surface.now ≡ surface.now) }
     {
         Ok(FaceTree {
@@ -65,12 +64,36 @@ fn darts_up(
     ensures { IfOk result (λ ups. IsTreeOfFaces surface.now split.now.root_face ups.items) }
 {
     let mut ups = vec![in alloc; None; surface.faces().len() as usize]?;
-    for edge in 0..surface.sides().len() {
-        if let Some(face) = split.child_face(surface, EdgeName(edge)) {
-            ups[face.0 as usize] = Some(dart_in(surface, EdgeName(edge), face));
-        }
-    }
+    keep_darts(&mut ups, surface, split);
     Ok(ups)
+}
+
+/// Keeps these darts, where none is kept.
+fn keep_darts(ups: &mut [Option<DartName>], surface: &Surface, split: &Split)
+    requires split { IsSplit surface.now split.now }
+    requires long { length ups.old ≡ length surface.now.mesh.faces }
+    requires none { (f : ℕ) → up_of ups.old f ≡ None }
+    ensures { IsTreeOfFaces surface.now split.now.root_face ups.new }
+{
+    // The proof reads what holds of every surface.
+    let _ = surface.faces();
+    for edge in 0..surface.sides().len() {
+        keep_dart(ups, surface, split, EdgeName(edge));
+    }
+}
+
+/// Keeps for the face below an edge, if there is one, the dart in it.
+fn keep_dart(ups: &mut [Option<DartName>], surface: &Surface, split: &Split, edge: EdgeName)
+    requires split { IsSplit surface.now split.now }
+    requires edge { edge.0 < length surface.now.table }
+    requires ups { AreUps surface.now split.now edge.0 ups.old }
+    ensures { AreUps surface.now split.now (edge.0 + 1) ups.new }
+{
+    // The proof reads what holds of every surface.
+    let _ = surface.faces();
+    if let Some(face) = split.child_face(surface, edge) {
+        ups[face.0 as usize] = Some(dart_in(surface, edge, face));
+    }
 }
 
 /// A dart of an edge that lies in a face.

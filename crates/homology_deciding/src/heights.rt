@@ -85,12 +85,7 @@ fn climb(
 }
 
 /// Finds the heights of the faces on a way, from its upper end down.
-fn settle(
-    heights: &mut [Option<i64>],
-    way: &mut Vec<DartName>,
-    tree: &FaceTree<'_>,
-    counts: &[i64],
-)
+fn settle(heights: &mut [Option<i64>], way: &mut Vec<DartName>, tree: &FaceTree<'_>, counts: &[i64])
     requires tree { IsTree tree.now }
     requires counts { length counts.now ≡ length tree.now.surface.now.table }
     requires small { AreWithin MOST_NUMBER counts.now }
@@ -138,12 +133,26 @@ pub(crate) fn as_listed(
     ensures numbers { IfOk result (λ numbers. (f : ℕ) (height : ℤ) → height_of heights.now f ≡ Some height
         → number_at numbers.items f ≡ listed tree.now.surface.now f height) }
 {
-    let signs = tree.surface.signs();
     let mut numbers = Vec::with_capacity(alloc, heights.len())?;
     for face in 0..tree.surface.faces().len() {
         let height = heights[face as usize].unwrap_or(0);
-        let flipped = signs.flipped(FaceName(face));
-        numbers.push(if flipped { -height } else { height })?;
+        numbers.push(as_face_listed(tree, FaceName(face), height))?;
     }
     Ok(numbers)
+}
+
+/// A height as a number of its face as it is listed.
+fn as_face_listed(tree: &FaceTree<'_>, face: FaceName, height: i64) -> i64
+    requires tree { IsTree tree.now }
+    requires face { face.0 < length tree.now.surface.now.mesh.faces }
+    requires small { unsigned_abs height < 2 ^ 63 }
+    ensures { result ≡ listed tree.now.surface.now face.0 height }
+{
+    // The proof reads what holds of every surface.
+    let _ = tree.surface.faces();
+    if tree.surface.signs().flipped(face) {
+        -height
+    } else {
+        height
+    }
 }

@@ -85,7 +85,8 @@ fn next_line(cursor: &mut Cursor<'_>) -> Result<u64, HomologyFault>
 /// Sees that no line is left that is not blank.
 fn end_text(cursor: &mut Cursor<'_>) -> Result<(), HomologyFault>
     ensures { MatchResult result (λ _. lines_left cursor.old ≡ [])
-        (λ fault. (line : Line) × (lines : List Line) × (lines_left cursor.old ≡ line ∷ lines) × (fault ≡ HomologyFault.Extra line.number)) }
+        (λ fault. (line : Line) × (lines : List Line) × (lines_left cursor.old ≡ line ∷ lines)
+        × (fault ≡ HomologyFault.Extra line.number)) }
 {
     if cursor.find_line() {
         return Err(HomologyFault::Extra {
