@@ -7,9 +7,9 @@ use Rattle.surf_model.specs.FaceLists.{FaceList, FaceSide, all_sides, is_edge}
 use Rattle.surf_model.specs.Edges.{Edge, IsTableOf, IsPairBefore, edge_in}
 use Rattle.surf_model.proofs.TableEdgeLemmas.{IsEdgeBetween, edge_between, same_pair, table_pair, place_before}
 use Rattle.homology.specs.Sums.{total, along, share}
-use Rattle.homology.specs.Chains.{IsChain, boundary}
+use Rattle.homology.specs.Chains.{IsChain, boundary, count_difference}
 use Rattle.homology.specs.Verdicts.{IsBalancedAt, IsLeastUnbalanced}
-use Rattle.homology.specs.Tallies.{number_at, GrewBy, AreWithin, IsLeft}
+use Rattle.homology.specs.Tallies.{number_at, GrewBy, AreWithin, AreNumbersOf, IsLeft}
 
 -- faces with the same numbers have the same boundary
 boundary_agrees : (mesh : FaceList) (one other : ℕ → ℤ) (low high : ℕ) → ((f : ℕ) → one f ≡ other f)
@@ -67,34 +67,45 @@ module _ (mesh : FaceList) (table : List Edge) (of_face listed : ℕ → ℤ) (f
         (subst (λ x. IsPairBefore a x (edge_in table e).low (edge_in table e).high) (sym q) before))));
   }
 
--- the walks given and the faces taken, from nothing
-pub left_over : (mesh : FaceList) (table : List Edge) (of_face : ℕ → ℤ) (first second : List ℕ) (old one two rest : List ℤ)
+-- the darts of the second walk, taken
+along-back : (walk : List ℕ) (low high : ℕ) → along (share (negsuc 0) low high) walk ≡ neg_ℤ (along (share (pos 1) low high) walk)
+along-back [] low high = refl
+along-back (u ∷ []) low high = refl
+along-back (u ∷ v ∷ walk) low high =
+    let more = along-back (v ∷ walk) low high in
+    let here = share-back_one u v in
+    omega (arith, ints, more, here)
+  where
+    share-back_one : (u v : ℕ) → share (negsuc 0) low high u v ≡ neg_ℤ (share (pos 1) low high u v)
+    share-back_one u v = grind (arith, nat_tests)
+
+-- one walk given and the other one taken, from nothing
+pub given_walks : (table : List Edge) (first second : List ℕ) (old one two : List ℤ)
     → length old ≡ length table → ((k : ℕ) → number_at old k ≡ pos 0)
     → GrewBy table (λ low high. along (share (pos 1) low high) first) old one
     → GrewBy table (λ low high. along (share (negsuc 0) low high) second) one two
-    → GrewBy table (λ low high. neg_ℤ (boundary mesh of_face low high)) two rest → IsLeft mesh table of_face first second rest
-left_over mesh table of_face first second old one two rest long none given back taken = record {
-  long = taken.long ∙ back.long ∙ given.long ∙ long;
+    → AreNumbersOf table two (count_difference first second)
+given_walks table first second old one two long none given back = record {
+  long = back.long ∙ given.long ∙ long;
   each = λ k l.
       let zero_there = none k in
       let a = given.each k l in
       let b = back.each k l in
-      let c = taken.each k l in
       let turn = along-back second (edge_in table k).low (edge_in table k).high in
-      omega (arith, ints, zero_there, a, b, c, turn);
+      omega (arith, ints, zero_there, a, b, turn);
 }
-  where
-    along-back : (walk : List ℕ) (low high : ℕ)
-        → along (share (negsuc 0) low high) walk ≡ neg_ℤ (along (share (pos 1) low high) walk)
-    along-back [] low high = refl
-    along-back (u ∷ []) low high = refl
-    along-back (u ∷ v ∷ walk) low high =
-        let more = along-back (v ∷ walk) low high in
-        let here = share-back_one low high u v in
-        omega (arith, ints, more, here)
-      where
-        share-back_one : (low high u v : ℕ) → share (negsuc 0) low high u v ≡ neg_ℤ (share (pos 1) low high u v)
-        share-back_one low high u v = grind (arith, nat_tests)
+
+-- and the faces taken
+pub left_over : (mesh : FaceList) (table : List Edge) (of_face : ℕ → ℤ) (first second : List ℕ) (counts rest : List ℤ)
+    → AreNumbersOf table counts (count_difference first second)
+    → GrewBy table (λ low high. neg_ℤ (boundary mesh of_face low high)) counts rest → IsLeft mesh table of_face first second rest
+left_over mesh table of_face first second counts rest are taken = record {
+  long = taken.long ∙ are.long;
+  each = λ k l.
+      let c = taken.each k l in
+      let n = are.each k l in
+      omega (arith, ints, c, n);
+}
 
 pub zeros_within : (numbers : List ℤ) → ((k : ℕ) → number_at numbers k ≡ pos 0) → AreWithin 0 numbers
 zeros_within numbers h = record { each = λ k. subst (λ z. unsigned_abs z ≤ 0) (sym (h k)) (omega arith) }

@@ -9,3 +9,4 @@ pub mod NumbersLemmas
 pub mod ChainVerdictLemmas
 pub mod CocycleVerdictLemmas
 pub mod VerdictLemmas
+pub mod EdgeSumLemmas

@@ -43,7 +43,7 @@ turned-share : (amount : ℤ) (edge : Edge) (u v : ℕ) → edge.low < edge.high
     → turned amount edge u ≡ share amount edge.low edge.high u v
 turned-share amount edge u v up ends = grind (arith, nat_tests)
 
-other-share : (amount : ℤ) (edge other : Edge) (u v : ℕ) → edge.low < edge.high → other.low < other.high → HasEnds u v edge
+pub other-share : (amount : ℤ) (edge other : Edge) (u v : ℕ) → edge.low < edge.high → other.low < other.high → HasEnds u v edge
     → IsPairBefore edge.low edge.high other.low other.high ⊎ IsPairBefore other.low other.high edge.low edge.high
     → share amount other.low other.high u v ≡ pos 0
 other-share amount edge other u v up rise ends apart = grind (arith, nat_tests)

@@ -9,6 +9,10 @@ use Rattle.homology.specs.Sums.{total, along, share}
 abbrev pub count_of : List ℕ → ℕ → ℕ → ℤ
 count_of walk low high = along (share (pos 1) low high) walk
 
+-- how much more the first walk counts there than the second
+abbrev pub count_difference : List ℕ → List ℕ → ℕ → ℕ → ℤ
+count_difference first second low high = count_of first low high -ℤ count_of second low high
+
 -- the boundary of numbered faces, at an edge: the sum over its sides, of plus the face's number where the side runs from low to high as
 -- the file lists it, and minus that number where it runs from high to low
 abbrev pub boundary : FaceList → (ℕ → ℤ) → ℕ → ℕ → ℤ
@@ -19,7 +23,7 @@ boundary mesh of_face low high =
 -- boundary
 pub record IsChain (mesh : FaceList) (of_face : ℕ → ℤ) (first second : List ℕ) : Type 0 where
   pub balanced : (low high : ℕ) → low < high → IsTrue (is_edge mesh low high)
-      → count_of first low high -ℤ count_of second low high ≡ boundary mesh of_face low high
+      → count_difference first second low high ≡ boundary mesh of_face low high
 
 -- two walks are homologous where there is a chain for them
 abbrev pub AreHomologous : FaceList → List ℕ → List ℕ → Type 0

@@ -3,7 +3,7 @@ use Rattle.std.specs.Prelude.{◌≡◌, ℕ, ◌<◌, ◌≤◌, ◌==◌, if�
 use Rattle.surf_model.specs.Edges.{Edge, edge_in}
 use Rattle.surf_model.specs.FaceLists.{FaceList, FaceSide, face_at, sides_of_face}
 use Rattle.homology.specs.Sums.{total, share}
-use Rattle.homology.specs.Chains.{count_of, boundary}
+use Rattle.homology.specs.Chains.{count_difference, boundary}
 
 -- number k of some numbers; 0 where there is none
 abbrev pub number_at : List ℤ → ℕ → ℤ
@@ -36,5 +36,5 @@ pub record AreNumbersOf (table : List Edge) (numbers : List ℤ) (of_edge : ℕ 
 pub record IsLeft (mesh : FaceList) (table : List Edge) (of_face : ℕ → ℤ) (first second : List ℕ) (rest : List ℤ) : Type 0 where
   pub long : length rest ≡ length table
   pub each : (k : ℕ) → k < length table → number_at rest k
-      ≡ count_of first (edge_in table k).low (edge_in table k).high -ℤ count_of second (edge_in table k).low (edge_in table k).high
+      ≡ count_difference first second (edge_in table k).low (edge_in table k).high
       -ℤ boundary mesh of_face (edge_in table k).low (edge_in table k).high

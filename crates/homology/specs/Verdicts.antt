@@ -2,7 +2,7 @@
 use Rattle.std.specs.Prelude.{◌≡◌, ◌≢◌, ℕ, ◌<◌, List, length, slice_index_or, All, IsTrue, ℤ, pos, ◌-ℤ◌}
 use Rattle.surf_model.specs.FaceLists.{FaceList, is_edge}
 use Rattle.surf_model.specs.Edges.{IsPairBefore}
-use Rattle.homology.specs.Chains.{IsChain, count_of, boundary}
+use Rattle.homology.specs.Chains.{IsChain, count_difference, boundary}
 use Rattle.homology.specs.Cocycles.{IsCocycle, face_sum, separation, Separates}
 use Rattle.homology.specs.Certificates.{face_number, edge_number}
 use Rattle.homology.specs.declared.certificate.FaceNumber.{FaceNumber}
@@ -31,7 +31,7 @@ HasEdge mesh line = IsTrue (is_edge mesh line.low.0 line.high.0)
 -- at this edge the boundary tells the two counts apart
 abbrev pub IsBalancedAt : FaceList → (ℕ → ℤ) → List ℕ → List ℕ → ℕ → ℕ → Type 0
 IsBalancedAt mesh of_face first second low high =
-    count_of first low high -ℤ count_of second low high ≡ boundary mesh of_face low high
+    count_difference first second low high ≡ boundary mesh of_face low high
 
 -- the least edge, by its lower and then by its higher vertex, at which it does not
 pub record IsLeastUnbalanced (mesh : FaceList) (of_face : ℕ → ℤ) (first second : List ℕ) (low high : ℕ) : Type 0 where

@@ -5,16 +5,16 @@ ghost use Rattle.surf_model.specs.Walks.{IsWalk};
 ghost use Rattle.homology.specs.Sums.{along};
 ghost use Rattle.homology.specs.Cocycles.{dart_number, face_sum, IsCocycle};
 ghost use Rattle.homology.specs.Verdicts.{IsVerdict, IsLeastOpen};
-ghost use Rattle.homology.specs.Tallies.{number_at, turned, AreWithin, AreNumbersOf};
+ghost use Rattle.homology.specs.Tallies.{AreWithin, AreNumbersOf};
 ghost use Rattle.homology.specs.declared.certificate.HomologyCert.TheVariants.{Cocycle};
 ghost use Rattle.homology.specs.declared.certificate.TheConstants.{MOST_NUMBER};
 
 use crate::certificate::CocycleNumbers;
 use crate::numbers::{first_stray, numbers_by_edge};
-use crate::tally::edge_between;
+use crate::tally::{edge_between, number_of_dart};
 use crate::verdict::HomologyVerdict;
 use std::alloc::{AllocError, Global};
-use surf_model::{EdgeName, FaceName, Faces, Side, Sides, VertexName, Walk};
+use surf_model::{FaceName, Faces, Side, Sides, Walk};
 
 /// Checks the numbers of a cocycle: that each listed pair is an edge, then the sum round each face, and then the sums along
 /// the two walks.
@@ -95,17 +95,4 @@ fn sum_along(faces: &Faces, sides: &Sides, of_edge: &[i64], walk: &Walk) -> i64
         sum += number_of_dart(sides, of_edge, edge, from);
     }
     sum
-}
-
-/// The number of a dart along an edge: that of the edge, with a minus sign where the dart does not start at its lower vertex.
-fn number_of_dart(sides: &Sides, of_edge: &[i64], edge: EdgeName, from: VertexName) -> i64
-    requires edge { edge.0 < length sides.now }
-    requires long { length of_edge.now ≡ length sides.now }
-    requires small { AreWithin MOST_NUMBER of_edge.now }
-    ensures number { result ≡ turned (number_at of_edge.now edge.0) (edge_in sides.now edge.0) from.0 }
-    ensures small { unsigned_abs result ≤ MOST_NUMBER }
-{
-    let number = of_edge[edge.0 as usize];
-    let (low, _) = sides.ends(edge);
-    if from == low { number } else { -number }
 }

@@ -2,11 +2,12 @@
 //! contract is the law.
 ghost use Rattle.std.specs.Prelude.{◌≡◌, ◌<◌, ℕ, List, length, ℤ};
 ghost use Rattle.surf_model.specs.FaceLists.{FaceList};
+ghost use Rattle.surf_model.specs.Edges.{Edge, IsTableOf};
 ghost use Rattle.surf_model.specs.Walks.{IsWalk};
 ghost use Rattle.surf_model.specs.Moves.{Leads, Homotopic};
 ghost use Rattle.surf_model.specs.declared.moves.Move.{Move};
 ghost use Rattle.homology.specs.Chains.{IsChain, AreHomologous, net_crossings};
-ghost use Rattle.homology.specs.Cocycles.{IsCocycle, Separates};
+ghost use Rattle.homology.specs.Cocycles.{IsCocycle, Separates, separation, edge_sum};
 
 /// Homotopic walks are homologous, on every face list. The chain counts the faces of the list of moves, each as often as
 /// it is crossed forward, less how often backward.
@@ -21,4 +22,11 @@ pub fn homotopic_walks_are_homologous()
 pub fn no_chain_where_a_cocycle_separates()
     ensures { (mesh : FaceList) (of_edge : ℕ → ℕ → ℤ) (first second : List ℕ) → IsWalk mesh first → IsWalk mesh second
         → IsCocycle mesh of_edge → Separates of_edge first second → AreHomologous mesh first second → ⊥ }
+{}
+
+/// What a cocycle adds up to along the one walk less what it adds up to along the other is the sum, over all edges, of its number
+/// times how much more the first walk counts there than the second.
+pub fn separation_is_a_sum_over_edges()
+    ensures { (mesh : FaceList) (table : List Edge) (of_edge : ℕ → ℕ → ℤ) (first second : List ℕ) → IsTableOf mesh table
+        → IsWalk mesh first → IsWalk mesh second → edge_sum table of_edge first second ≡ separation of_edge first second }
 {}

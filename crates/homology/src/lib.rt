@@ -15,7 +15,7 @@ mod chain_check;
 mod cocycle_check;
 pub mod laws;
 mod numbers;
-mod tally;
+pub mod tally;
 mod verdict;
 
 pub use certificate::{

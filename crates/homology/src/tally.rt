@@ -3,12 +3,46 @@ ghost use Rattle.std.specs.Prelude.{◌≡◌, ◌≢◌, ℕ, ◌+◌, ◌<◌,
 ghost use Rattle.surf_model.specs.Edges.{IsTableOf, HasEnds, edge_in};
 ghost use Rattle.surf_model.specs.Walks.{IsWalk, darts};
 ghost use Rattle.homology.specs.Sums.{along, share};
-ghost use Rattle.homology.specs.Chains.{boundary};
-ghost use Rattle.homology.specs.Tallies.{number_at, turned, GrewBy, AreWithin, face_share, IsLeft};
+ghost use Rattle.homology.specs.Chains.{boundary, count_difference};
+ghost use Rattle.homology.specs.Tallies.{number_at, turned, GrewBy, AreWithin, AreNumbersOf, face_share, IsLeft};
 ghost use Rattle.homology.specs.declared.certificate.TheConstants.{MOST_NUMBER};
 
 use std::alloc::{AllocError, Global};
 use surf_model::{EdgeName, FaceName, Faces, Side, Sides, VertexName, Walk};
+
+/// At each edge the count of the first walk, less that of the second.
+pub fn count_differences(
+    alloc: Global,
+    faces: &Faces,
+    sides: &Sides,
+    first: &Walk,
+    second: &Walk,
+) -> Result<Vec<i64>, AllocError>
+    requires table { IsTableOf faces.now sides.now }
+    requires first { IsWalk faces.now first.now }
+    requires second { IsWalk faces.now second.now }
+    ensures counts { IfOk result (λ counts. AreNumbersOf sides.now counts.items (count_difference first.now second.now)) }
+    // Two walks have fewer than 2^32 darts together.
+    ensures room { IfOk result (λ counts. AreWithin (2 ^ 32) counts.items) }
+{
+    let mut counts = vec![in alloc; 0i64; sides.len() as usize]?;
+    give_walks(&mut counts, faces, sides, first, second);
+    Ok(counts)
+}
+
+/// Gives the darts of the first walk to the edges of a tally of zeros, and takes those of the second.
+fn give_walks(counts: &mut [i64], faces: &Faces, sides: &Sides, first: &Walk, second: &Walk)
+    requires table { IsTableOf faces.now sides.now }
+    requires first { IsWalk faces.now first.now }
+    requires second { IsWalk faces.now second.now }
+    requires long { length counts.old ≡ length sides.now }
+    requires zeros { (k : ℕ) → number_at counts.old k ≡ pos 0 }
+    ensures counts { AreNumbersOf sides.now counts.new (count_difference first.now second.now) }
+    ensures room { AreWithin (2 ^ 32) counts.new }
+{
+    add_walk(counts, faces, sides, first, 1);
+    add_walk(counts, faces, sides, second, -1);
+}
 
 /// At each edge the count of the first walk, less that of the second, less the boundary of the numbered faces.
 pub(crate) fn rest_of(
@@ -27,36 +61,13 @@ pub(crate) fn rest_of(
     ensures long { IfOk result (λ rest. length rest.items ≡ length sides.now) }
     ensures left { IfOk result (λ rest. IsLeft faces.now sides.now (number_at of_face.now) first.now second.now rest.items) }
 {
-    let mut rest = vec![in alloc; 0i64; sides.len() as usize]?;
-    fill(&mut rest, faces, sides, first, second, of_face);
+    let mut rest = count_differences(alloc, faces, sides, first, second)?;
+    take_faces(&mut rest, faces, sides, of_face);
     Ok(rest)
 }
 
-/// Puts into a tally of zeros what is left at each edge.
-fn fill(
-    rest: &mut [i64],
-    faces: &Faces,
-    sides: &Sides,
-    first: &Walk,
-    second: &Walk,
-    of_face: &[i64],
-)
-    requires table { IsTableOf faces.now sides.now }
-    requires first { IsWalk faces.now first.now }
-    requires second { IsWalk faces.now second.now }
-    requires each_face { length of_face.now ≡ length faces.now.faces }
-    requires small { AreWithin MOST_NUMBER of_face.now }
-    requires long { length rest.old ≡ length sides.now }
-    requires zeros { (k : ℕ) → number_at rest.old k ≡ pos 0 }
-    ensures { IsLeft faces.now sides.now (number_at of_face.now) first.now second.now rest.new }
-{
-    add_walk(rest, faces, sides, first, 1);
-    add_walk(rest, faces, sides, second, -1);
-    take_faces(rest, faces, sides, of_face);
-}
-
 /// The first edge whose tally is not 0.
-pub(crate) fn first_nonzero(tally: &[i64], sides: &Sides) -> Option<EdgeName>
+pub fn first_nonzero(tally: &[i64], sides: &Sides) -> Option<EdgeName>
     requires { length tally.now ≡ length sides.now }
     ensures found { IfSome result (λ edge. edge.0 < length sides.now) }
     ensures nonzero { IfSome result (λ edge. number_at tally.now edge.0 ≢ pos 0) }
@@ -72,7 +83,7 @@ pub(crate) fn first_nonzero(tally: &[i64], sides: &Sides) -> Option<EdgeName>
 }
 
 /// Gives the darts of a walk to their edges, each dart so much.
-pub(crate) fn add_walk(tally: &mut [i64], faces: &Faces, sides: &Sides, walk: &Walk, amount: i64)
+fn add_walk(tally: &mut [i64], faces: &Faces, sides: &Sides, walk: &Walk, amount: i64)
     requires table { IsTableOf faces.now sides.now }
     requires walk { IsWalk faces.now walk.now }
     requires long { length tally.old ≡ length sides.now }
@@ -89,6 +100,19 @@ pub(crate) fn add_walk(tally: &mut [i64], faces: &Faces, sides: &Sides, walk: &W
     }
 }
 
+/// The number of a dart along an edge: that of the edge, with a minus sign where the dart does not start at its lower vertex.
+pub fn number_of_dart(sides: &Sides, of_edge: &[i64], edge: EdgeName, from: VertexName) -> i64
+    requires edge { edge.0 < length sides.now }
+    requires long { length of_edge.now ≡ length sides.now }
+    requires small { AreWithin MOST_NUMBER of_edge.now }
+    ensures number { result ≡ turned (number_at of_edge.now edge.0) (edge_in sides.now edge.0) from.0 }
+    ensures small { unsigned_abs result ≤ MOST_NUMBER }
+{
+    let number = of_edge[edge.0 as usize];
+    let (low, _) = sides.ends(edge);
+    if from == low { number } else { -number }
+}
+
 /// The edge of a dart.
 pub(crate) fn edge_between(sides: &Sides, from: VertexName, to: VertexName) -> EdgeName
     requires { Any (HasEnds from.0 to.0) sides.now }
@@ -99,7 +123,7 @@ pub(crate) fn edge_between(sides: &Sides, from: VertexName, to: VertexName) -> E
 }
 
 /// Takes the sides of all faces from their edges, for each side the number of its face.
-pub(crate) fn take_faces(tally: &mut [i64], faces: &Faces, sides: &Sides, of_face: &[i64])
+pub fn take_faces(tally: &mut [i64], faces: &Faces, sides: &Sides, of_face: &[i64])
     requires table { IsTableOf faces.now sides.now }
     requires long { length tally.old ≡ length sides.now }
     requires each_face { length of_face.now ≡ length faces.now.faces }
@@ -130,7 +154,7 @@ fn add_face(tally: &mut [i64], faces: &Faces, sides: &Sides, face: FaceName, amo
 }
 
 /// Gives a dart to its edge: the amount where the dart starts at the edge's lower vertex, and else minus the amount.
-fn add_dart(tally: &mut [i64], sides: &Sides, edge: EdgeName, from: VertexName, amount: i64)
+pub fn add_dart(tally: &mut [i64], sides: &Sides, edge: EdgeName, from: VertexName, amount: i64)
     requires edge { edge.0 < length sides.now }
     requires long { length tally.old ≡ length sides.now }
     requires room { unsigned_abs (number_at tally.old edge.0) + unsigned_abs amount < 2 ^ 62 }

@@ -1,0 +1,41 @@
+use Rattle.std.proofs.Common.{◌≡◌, ◌^◌, ◌++◌, List, length, take, drop, ap, sym, ◌∙◌, subst, arith, ℤ, pos}
+use Rattle.std.specs.Prelude.{replicate}
+use Rattle.std.proofs.Math.Seq.{take-append_seam}
+use Rattle.std.proofs.lemmas.List.{length-replicate}
+use Rattle.homology.specs.Chains.{count_difference}
+use Rattle.homology.specs.Tallies.{number_at, AreWithin, AreNumbersOf}
+use Rattle.homology.proofs.ChainVerdictLemmas.{number_at-zeros}
+use Rattle.homology.proofs.tally.count_differences.Goals as goal
+
+pub give_walks-requires : goal.give_walks-requires
+give_walks-requires c =
+    let zeros : c.in_ok-counts.counts.items ≡ replicate c.len.result (pos 0) = c.in_ok-counts.ensures.items_if_clones_equal (λ y h. h) in
+    let all : c.deref_mut.result.now ≡ replicate c.len.result (pos 0) = c.deref_mut.ensures.value ∙ zeros in
+    record {
+      table = c.requires.table;
+      first = c.requires.first;
+      second = c.requires.second;
+      long = ap (λ (xs : List ℤ). length xs) all ∙ length-replicate c.len.result (pos 0) ∙ c.len.ensures;
+      zeros = λ k. ap (λ (xs : List ℤ). number_at xs k) all ∙ number_at-zeros c.len.result k;
+    }
+
+pub returns-clause-counts : goal.returns-clause-counts
+returns-clause-counts c =
+    let new : List ℤ = c.give_walks.new.counts in
+    let long : c.in_ok-counts.counts.len ≡ length new =
+    omega (arith, c.in_ok-counts.ensures.len, c.len.ensures, c.give_walks.ensures.counts.long) in
+    let all : take c.in_ok-counts.counts.len (new ++ drop (length new) c.in_ok-counts.counts.items) ≡ new =
+    ap (λ n. take n (new ++ drop (length new) c.in_ok-counts.counts.items)) long
+    ∙ take-append_seam new (drop (length new) c.in_ok-counts.counts.items) in
+    subst (λ (xs : List ℤ). AreNumbersOf c.args.sides.now xs (count_difference c.args.first.now c.args.second.now)) (sym all)
+    c.give_walks.ensures.counts
+
+pub returns-clause-room : goal.returns-clause-room
+returns-clause-room c =
+    let new : List ℤ = c.give_walks.new.counts in
+    let long : c.in_ok-counts.counts.len ≡ length new =
+    omega (arith, c.in_ok-counts.ensures.len, c.len.ensures, c.give_walks.ensures.counts.long) in
+    let all : take c.in_ok-counts.counts.len (new ++ drop (length new) c.in_ok-counts.counts.items) ≡ new =
+    ap (λ n. take n (new ++ drop (length new) c.in_ok-counts.counts.items)) long
+    ∙ take-append_seam new (drop (length new) c.in_ok-counts.counts.items) in
+    subst (λ (xs : List ℤ). AreWithin (2 ^ 32) xs) (sym all) c.give_walks.ensures.room

@@ -1,0 +1,145 @@
+-- What the forced numbers prove.
+use Rattle.std.proofs.Common.{◌≡◌, ◌≢◌, ◌↔◌, inl, inr, ℕ, zero, suc, ◌+◌, ◌<◌, ◌≤◌, Bool, true, false, List, length, get_or, refl, ap, ap₂, sym, ◌∙◌, subst, arith, ℤ, pos, negsuc, ◌+ℤ◌, ◌-ℤ◌}
+use Rattle.std.specs.Prelude.{Option, neg_ℤ, unsigned_abs}
+use Rattle.std.proofs.lemmas.Int.{ints}
+use Rattle.std.proofs.lemmas.Bool.{cases_lt, cases_Bool, both_ways}
+use Rattle.std.proofs.lemmas.List.{get_or_past}
+use Rattle.surf_model.specs.Edges.{Edge, edge_in}
+use Rattle.surf_model.specs.Surfaces.{is_flipped}
+use Rattle.surf_model.specs.Walks.{IsWalk, darts}
+use Rattle.surf_model.specs.declared.names.DartName.{DartName}
+use Rattle.halfedge_map.specs.OrientedMeshes.{OrientedMesh}
+use Rattle.halfedge_map.specs.DartMaps.{darts_of, face_of, origin_of, twin_of}
+use Rattle.halfedge_map.specs.RotationSystems.{rotations_of, IsDartFrom}
+use Rattle.halfedge_map.proofs.SystemLemmas.{rotation_system, names_all}
+use Rattle.homology.specs.Sums.{share, along}
+use Rattle.homology.specs.Chains.{AreHomologous, IsChain, count_difference, boundary}
+use Rattle.homology.specs.Cocycles.{separation, Separates}
+use Rattle.homology.specs.Tallies.{number_at, AreWithin, AreNumbersOf}
+use Rattle.homology.proofs.SizeLemmas.{size-sum, size-share, size-opposite}
+use Rattle.homology.proofs.ChainVerdictLemmas.{chain_holds}
+use Rattle.homology.proofs.PairingLemmas.{refuted}
+use Rattle.homology_deciding.specs.FaceTrees.{IsTree, IsWayUp, face_across, dart_share, way_share}
+use Rattle.homology_deciding.specs.Heights.{listed, way_count, AreForced}
+use Rattle.homology_deciding.specs.Cuts.{IsCutAt, cycle_share}
+use Rattle.homology_deciding.specs.Proofs.{LeavesOf, IsChainFor, IsCocycleFor, IsProofFor, is_chain}
+use Rattle.homology_deciding.specs.declared.face_tree.FaceTree.{FaceTree}
+use Rattle.homology_deciding.specs.declared.deciding.HomologyProof.{HomologyProof}
+use Rattle.homology_deciding.specs.declared.deciding.HomologyProof.TheVariants.{Chain, Cocycle}
+use Rattle.homology_deciding.proofs.BoundaryLemmas.{boundary_at}
+use Rattle.homology_deciding.proofs.WayLemmas.{one_way}
+use Rattle.homology_deciding.proofs.CycleLemmas.{along_darts, is_cocycle, separation_is, way_count_is, height_small}
+
+-- a number as it is listed has the same size, and listed twice it is itself
+pub listed_size : (s : OrientedMesh) (f : ℕ) (z : ℤ) → unsigned_abs (listed s f z) ≡ unsigned_abs z
+listed_size s f z = elim (cases_Bool (is_flipped s.signs f)) [
+  | inl turned ↦ rw turned (size-opposite z)
+  | inr kept ↦ rw kept refl
+]
+
+pub listed_twice : (s : OrientedMesh) (f : ℕ) (z : ℤ) → listed s f (listed s f z) ≡ z
+listed_twice s f z = elim (cases_Bool (is_flipped s.signs f)) [
+  | inl turned ↦ rw turned (let e : neg_ℤ (neg_ℤ z) ≡ z = omega (arith, ints) in e)
+  | inr kept ↦ rw kept refl
+]
+
+-- what is counted at an edge is no more than the darts
+pub counts_small : (table : List Edge) (counts : List ℤ) (first second : List ℕ) → AreNumbersOf table counts (count_difference first second)
+    → AreWithin (darts first + darts second) counts
+counts_small table counts first second are = record {
+  each = λ k. elim (cases_lt k (length table)) [
+    | inl l ↦
+        let number : ℕ → ℕ → ℤ = share (pos 1) (edge_in table k).low (edge_in table k).high in
+        let small : (u v : ℕ) → unsigned_abs (number u v) ≤ 1 =
+        λ u v. size-share (pos 1) (edge_in table k).low (edge_in table k).high u v in
+        let minus : number_at counts k ≡ along number first +ℤ neg_ℤ (along number second) = omega (arith, ints, are.each k l) in
+        subst (λ z. unsigned_abs z ≤ darts first + darts second) (sym minus)
+        (size-sum (along number first) (neg_ℤ (along number second)) (darts first) (darts second) (along_darts number first small)
+        (omega (arith, size-opposite (along number second), along_darts number second small)))
+    | inr past ↦
+        let none : number_at counts k ≡ pos 0 = get_or_past counts k (pos 0) (omega (arith, are.long, past)) in
+        subst (λ z. unsigned_abs z ≤ darts first + darts second) (sym none) (omega arith)
+  ];
+}
+
+module _ (tree : FaceTree) (h : IsTree tree) (first second : List ℕ) (numbers : List ℤ) where
+  abbrev s : OrientedMesh
+  s = tree.surface.now
+
+  pub forced_small : (counts : List ℤ) → AreNumbersOf s.table counts (count_difference first second) → AreForced tree counts numbers
+      → AreWithin (darts first + darts second) numbers
+  forced_small counts are forced = record {
+    each = λ k. elim (cases_lt k (length s.mesh.faces)) [
+      | inl l ↦
+          let way = forced.each k l in
+          subst (λ z. unsigned_abs z ≤ darts first + darts second) (sym way.2)
+          (omega (
+            arith,
+            listed_size s k (way_count s counts way.0),
+            height_small s tree.root.0 tree.ups.items h counts first second are k way.0 tree.root.0 way.1,
+          ))
+      | inr past ↦
+          let none : number_at numbers k ≡ pos 0 = get_or_past numbers k (pos 0) (omega (arith, forced.each_face, past)) in
+          subst (λ z. unsigned_abs z ≤ darts first + darts second) (sym none) (omega arith)
+    ];
+  }
+
+  module _ (rest : List ℤ) (leaves : LeavesOf tree first second numbers rest) where
+    pub chain_proof : ((k : ℕ) → k < length s.table → number_at rest k ≡ pos 0) → IsChainFor s first second numbers
+    chain_proof none = record {
+      each_face = leaves.forced.each_face;
+      chain =
+          chain_holds s.mesh s.table (number_at numbers) (number_at numbers) first second rest h.valid.table (λ f. refl) leaves.left none;
+      small = forced_small leaves.counts leaves.are_counts leaves.forced;
+    }
+
+    -- the number of a face is that of any way to the root
+    face_value : (f : ℕ) (way : List DartName) → f < length s.mesh.faces → IsWayUp s tree.ups.items f way tree.root.0
+        → listed s f (number_at numbers f) ≡ along (way_share s (pos 1) way) first -ℤ along (way_share s (pos 1) way) second
+    face_value f way l w =
+        let forced = leaves.forced.each f l in
+        let same : forced.0 ≡ way = one_way s tree.root.0 tree.ups.items h f forced.0 way forced.1 w in
+        ap (listed s f) forced.2 ∙ listed_twice s f (way_count s leaves.counts forced.0)
+        ∙ ap (way_count s leaves.counts) same
+        ∙ way_count_is s tree.root.0 tree.ups.items h leaves.counts first second leaves.are_counts f way tree.root.0 w
+
+    module _ (e d : ℕ) (cut : List ℤ) (l : e < length s.table) (differ : number_at rest e ≢ pos 0)
+        (from : IsDartFrom (rotations_of s) (edge_in s.table e).low (edge_in s.table e).high d) (is_cut : IsCutAt tree d cut) where
+      separates : Separates (cycle_share s d is_cut.up is_cut.down) first second
+      separates none =
+          let low : ℕ = (edge_in s.table e).low in
+          let high : ℕ = (edge_in s.table e).high in
+          let number : ℕ → ℤ = number_at numbers in
+          let here : face_of s d < length s.mesh.faces = (names_all s h.valid).face_below d from.within in
+          let there : face_across s d < length s.mesh.faces =
+          (names_all s h.valid).face_below (twin_of s d) ((rotation_system s h.valid).twin_within d from.within) in
+          let left = leaves.left.each e l in
+          let counted : count_difference first second low high
+          ≡ along (dart_share s (pos 1) d) first -ℤ along (dart_share s (pos 1) d) second =
+          ap₂ (λ a b. along (share (pos 1) a b) first -ℤ along (share (pos 1) a b) second) (sym from.starts) (sym from.ends) in
+          let bounded : boundary s.mesh number low high
+          ≡ listed s (face_of s d) (number (face_of s d)) -ℤ listed s (face_across s d) (number (face_across s d)) =
+          ap₂ (boundary s.mesh number) (sym from.starts) (sym from.ends) ∙ boundary_at s h.valid number d from.within in
+          let down = face_value (face_of s d) is_cut.down here is_cut.comes_down in
+          let up = face_value (face_across s d) is_cut.up there is_cut.goes_up in
+          let all = separation_is s tree.root.0 tree.ups.items h d is_cut.up is_cut.down from.within is_cut.goes_up is_cut.comes_down first
+          second in
+          differ (omega (arith, ints, left, counted, bounded, down, up, all, none))
+
+      pub cocycle_proof : IsCocycleFor s first second cut
+      cocycle_proof = record {
+        of_edge = cycle_share s d is_cut.up is_cut.down;
+        each_edge = is_cut.each_edge;
+        cocycle = is_cocycle s tree.root.0 tree.ups.items h d is_cut.up is_cut.down from.within is_cut.goes_up is_cut.comes_down;
+        separates = separates;
+        small = is_cut.small;
+      }
+
+pub exact_proof : (s : OrientedMesh) (first second : List ℕ) (proof : HomologyProof) → IsWalk s.mesh first → IsWalk s.mesh second
+    → IsProofFor s first second proof → (is_chain proof ≡ true) ↔ AreHomologous s.mesh first second
+exact_proof s first second (Chain numbers) v w shows = (λ e. (number_at numbers, shows.chain), λ homologous. refl)
+exact_proof s first second (Cocycle numbers) v w shows = (
+  λ e. absurd (both_ways false refl e),
+  λ homologous.
+      absurd (refuted s.mesh shows.of_edge first second v w shows.cocycle shows.separates homologous.0 homologous.1),
+)

@@ -1,0 +1,12 @@
+use Rattle.std.proofs.Common.{◌≡◌, ◌<◌, List, length}
+use Rattle.surf_model.specs.declared.names.DartName.{DartName}
+use Rattle.homology.specs.Tallies.{GrewBy}
+use Rattle.homology_deciding.specs.FaceTrees.{IsWayUp, way_share}
+use Rattle.homology_deciding.proofs.cutting.cross_up.Given as goal
+
+-- the way so far, and what it gave
+abbrev pub invariant-loop-step : goal.invariant-loop-step
+invariant-loop-step l =
+    (l.at.0 < length l.tree.surface.now.mesh.faces)
+    × ((way : List DartName) × IsWayUp l.tree.surface.now l.tree.ups.items l.fn.face.0 way l.at.0
+    × (length way ≡ l._step) × GrewBy l.tree.surface.now.table (way_share l.tree.surface.now l.amount way) l.fn.numbers l.numbers)

@@ -1,0 +1,38 @@
+use Rattle.std.proofs.Common.{◌≡◌, ◌<◌, ℕ, ℤ, List, length, ap, sym, ◌∙◌, subst, arith}
+use Rattle.surf_model.specs.Edges.{Edge}
+use Rattle.surf_model.specs.Edges.{edge_in}
+use Rattle.halfedge_map.specs.OrientedMeshes.{OrientedMesh}
+use Rattle.halfedge_map.specs.RotationSystems.{rotations_of, IsDartFrom}
+use Rattle.homology_deciding.specs.Proofs.{IsChainFor, IsCocycleFor}
+use Rattle.homology_deciding.proofs.LoopLemmas.{few_faces}
+use Rattle.homology_deciding.proofs.ProofLemmas.{chain_proof, cocycle_proof}
+use Rattle.homology_deciding.proofs.deciding.proof_from.Goals as goal
+
+pub of-requires : goal.of-requires
+of-requires c = omega (arith, c.requires.numbers, few_faces c.args.tree.now.surface.now c.requires.tree.valid)
+
+pub of-requires-in-Some : goal.of-requires-in-Some
+of-requires-in-Some c =
+    omega (
+      arith,
+      c.in_ok-cut-in-Some.ensures.each_edge.long,
+      c.len.ensures,
+      c.len.type_inv,
+      ap (λ (t : List Edge). length t) c.sides-in-Some.ensures,
+    )
+
+pub returns-in-None : goal.returns-in-None
+returns-in-None c = λ first second leaves.
+    let s : OrientedMesh = c.args.tree.now.surface.now in
+    subst (IsChainFor s first second) (sym c.of.ensures)
+    (chain_proof c.args.tree.now c.requires.tree first second c.args.numbers.items c.args.rest.now leaves
+    (λ k l. c.in-None.ensures.none k (subst (λ (t : List Edge). k < length t) (sym c.sides.ensures) l)))
+
+pub returns-in_ok-cut-in-Some : goal.returns-in_ok-cut-in-Some
+returns-in_ok-cut-in-Some c = λ first second leaves.
+    let s : OrientedMesh = c.args.tree.now.surface.now in
+    let e : ℕ = c.in-Some.edge.0 in
+    subst (IsCocycleFor s first second) (sym c.of-in-Some.ensures)
+    (cocycle_proof c.args.tree.now c.requires.tree first second c.args.numbers.items c.args.rest.now leaves e c.rising_dart-dart.result.0
+    c.in_ok-cut-in-Some.field-0.items (subst (λ (t : List Edge). e < length t) c.sides.ensures c.in-Some.ensures.found)
+    c.in-Some.ensures.nonzero c.rising_dart-dart.ensures c.in_ok-cut-in-Some.ensures)

@@ -1,0 +1,48 @@
+use Rattle.std.proofs.Common.{◌≡◌, ◌+◌, ◌^◌, ◌<◌, ℕ, ℤ, List, length, ap, sym, ◌∙◌, subst, arith, pos, to_z, of_z, w64}
+use Rattle.std.specs.Prelude.{Option, None, unwrap_or, unsigned_abs}
+use Rattle.std.proofs.lemmas.List.{length_push}
+use Rattle.surf_model.specs.FaceLists.{FaceList}
+use Rattle.halfedge_map.specs.OrientedMeshes.{OrientedMesh}
+use Rattle.homology.proofs.SizeLemmas.{sent}
+use Rattle.homology_deciding.specs.Heights.{height_of, listed}
+use Rattle.homology_deciding.proofs.LoopLemmas.{unwrapped_small, listed_more}
+use Rattle.homology_deciding.proofs.ProofLemmas.{listed_size}
+use Rattle.homology_deciding.proofs.heights.as_listed.Goals as goal
+
+pub as_face_listed-requires-clause-small : goal.as_face_listed-requires-clause-small
+as_face_listed-requires-clause-small c =
+    let height : ℤ = c.unwrap_or-height.result in
+    let small : unsigned_abs height < 2 ^ 63 =
+    subst (λ z. unsigned_abs z < 2 ^ 63) (sym c.unwrap_or-height.ensures)
+    (unwrapped_small (height_of c.args.heights.now c.loop-face.face) (c.requires.small c.loop-face.face)) in
+    subst (λ z. unsigned_abs z < 2 ^ 63) (sym (sent height small)) small
+
+pub loop-face-preserved : goal.loop-face-preserved
+loop-face-preserved c =
+    let s : OrientedMesh = c.args.tree.now.surface.now in
+    let face : ℕ = c.loop-face.face in
+    let height : ℤ = c.unwrap_or-height.result in
+    let small : unsigned_abs height < 2 ^ 63 =
+    subst (λ z. unsigned_abs z < 2 ^ 63) (sym c.unwrap_or-height.ensures)
+    (unwrapped_small (height_of c.args.heights.now face) (c.requires.small face)) in
+    let is : c.as_face_listed.result ≡ listed s face (unwrap_or (height_of c.args.heights.now face) (pos 0)) =
+    c.as_face_listed.ensures ∙ ap (listed s face) (sent height small ∙ c.unwrap_or-height.ensures) in
+    let given : to_z w64 (of_z w64 c.as_face_listed.result) ≡ c.as_face_listed.result =
+    sent c.as_face_listed.result
+    (subst (λ z. unsigned_abs z < 2 ^ 63) (sym (c.as_face_listed.ensures ∙ ap (listed s face) (sent height small)))
+    (omega (arith, listed_size s face height, small))) in
+    let given_number : ℤ = to_z w64 (of_z w64 c.as_face_listed.result) in
+    let long = c.loop-face.invariant.0 in
+    let pushed = c.in_ok-push.ensures.items in
+    let room : face < length c.args.heights.now =
+    omega (
+      arith,
+      c.loop-face-test.true,
+      c.len-face-end.ensures.count,
+      ap (λ (m : FaceList). length m.faces) c.faces.ensures.mesh,
+      c.requires.each_face,
+    ) in (
+      omega (arith, ap (λ (xs : List ℤ). length xs) pushed, length_push c.loop-face.numbers.items given_number, long),
+      listed_more s c.args.heights.now c.loop-face.numbers.items c.push.new.self.items face given_number long pushed room
+          (given ∙ is) c.loop-face.invariant.1,
+    )

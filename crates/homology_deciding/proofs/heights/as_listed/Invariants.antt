@@ -1,0 +1,12 @@
+use Rattle.std.proofs.Common.{◌≡◌, ◌<◌, ℕ, ℤ, length}
+use Rattle.std.specs.Prelude.{Some}
+use Rattle.homology.specs.Tallies.{number_at}
+use Rattle.homology_deciding.specs.Heights.{height_of, listed}
+use Rattle.homology_deciding.proofs.heights.as_listed.Given as goal
+
+-- the faces so far
+abbrev pub invariant-loop-face : goal.invariant-loop-face
+invariant-loop-face l =
+    (length l.numbers.items ≡ l.face)
+    × ((f : ℕ) (height : ℤ) → f < l.face → height_of l.heights f ≡ Some height
+    → number_at l.numbers.items f ≡ listed l.tree.surface.now f height)

@@ -1,0 +1,38 @@
+use Rattle.std.proofs.Common.{◌≡◌, ◌+◌, ℕ, List, [], ◌∷◌, ◌++◌, length, ap, sym, ◌∙◌, subst, arith}
+use Rattle.std.specs.Prelude.{is_some}
+use Rattle.std.proofs.lemmas.List.{length_push}
+use Rattle.surf_model.specs.declared.names.DartName.{DartName}
+use Rattle.halfedge_map.specs.OrientedMeshes.{OrientedMesh}
+use Rattle.homology_deciding.specs.FaceTrees.{IsWayUp, face_across}
+use Rattle.homology_deciding.specs.Heights.{height_of}
+use Rattle.homology_deciding.proofs.LoopLemmas.{is_root, way_short}
+use Rattle.homology_deciding.proofs.WayLemmas.{way_push}
+use Rattle.homology_deciding.proofs.heights.climb.Goals as goal
+
+pub returns-in_default-2 : goal.returns-in_default-2
+returns-in_default-2 c =
+    let i = c.loop-step.invariant in
+    let root = is_root c.args.tree.now c.requires.tree c.loop-step.at.0 i.0 (sym c.up.ensures ∙ c.in_default.is) in
+    (c.loop-step.at.0, i.1, ap (λ f. is_some (height_of c.args.heights.now f)) root ∙ c.requires.root)
+
+pub loop-step-preserved : goal.loop-step-preserved
+loop-step-preserved c =
+    let tree = c.args.tree.now in
+    let s : OrientedMesh = tree.surface.now in
+    let i = c.loop-step.invariant in
+    let up : DartName = c.in-Some.up in
+    let pushed = c.in_ok-push-in-Some.ensures.items in (
+      c.above-at.ensures.within,
+      subst (λ g. IsWayUp s tree.ups.items c.args.face.0 c.push.new.self.items g) (sym c.above-at.ensures.face)
+          (subst (λ (w : List DartName). IsWayUp s tree.ups.items c.args.face.0 w (face_across s up.0)) (sym pushed)
+          (way_push s tree.root.0 tree.ups.items c.requires.tree c.args.face.0 c.loop-step.way.items c.loop-step.at.0 up i.1
+          (sym c.up.ensures ∙ c.in-Some.is))),
+      omega (arith, ap (λ (w : List DartName). length w) pushed, length_push c.loop-step.way.items up, i.2),
+    )
+
+pub returns : goal.returns
+returns c =
+    let tree = c.args.tree.now in
+    let i = c.loop-step.invariant in
+    let short = way_short tree c.requires.tree c.args.face.0 c.loop-step.way.items c.loop-step.at.0 c.requires.face i.1 in
+    absurd (omega (arith, short, i.2, c.loop-step-test.false, c.len-step-end.ensures, c.requires.tree.each_face))

@@ -1,0 +1,94 @@
+use Rattle.std.proofs.Common.{◌≡◌, ◌+◌, ◌<◌, ℕ, ℤ, List, [], length, ap, refl, sym, ◌∙◌, subst, arith, rules, to_z, of_z, w64, ◌+ℤ◌}
+use Rattle.std.specs.Prelude.{Some, is_some, unsigned_abs}
+use Rattle.surf_model.specs.declared.names.DartName.{DartName}
+use Rattle.halfedge_map.specs.OrientedMeshes.{OrientedMesh}
+use Rattle.halfedge_map.specs.DartMaps.{darts_of, face_of}
+use Rattle.homology_deciding.specs.FaceTrees.{up_of, IsWayUp}
+use Rattle.homology_deciding.specs.Heights.{height_of, dart_count}
+use Rattle.homology_deciding.proofs.LoopLemmas.{top_known, known, height_small, height_more, height_kept, height_there, added_fits, added_is}
+use Rattle.homology_deciding.proofs.heights.settle.Goals as goal
+
+pub above-requires : goal.above-requires
+above-requires c =
+    let tree = c.args.tree.now in
+    let w = c.requires.way in
+    let top = top_known tree c.requires.tree c.args.counts.now c.requires.small c.loop-up.heights w.0 c.loop-up.way.items
+    c.pop.new.self.items c.in-Some.up c.in-Some.ensures.items (c.loop-up.invariant.ends w.0 w.1) in
+    c.requires.tree.within (face_of tree.surface.now c.in-Some.up.0) c.in-Some.up top.up
+
+pub face_of-face-requires : goal.face_of-face-requires
+face_of-face-requires c =
+    let tree = c.args.tree.now in
+    let w = c.requires.way in
+    let top = top_known tree c.requires.tree c.args.counts.now c.requires.small c.loop-up.heights w.0 c.loop-up.way.items
+    c.pop.new.self.items c.in-Some.up c.in-Some.ensures.items (c.loop-up.invariant.ends w.0 w.1) in
+    c.requires.tree.within (face_of tree.surface.now c.in-Some.up.0) c.in-Some.up top.up
+
+pub count_at-requires-clause-dart : goal.count_at-requires-clause-dart
+count_at-requires-clause-dart c =
+    let tree = c.args.tree.now in
+    let w = c.requires.way in
+    let top = top_known tree c.requires.tree c.args.counts.now c.requires.small c.loop-up.heights w.0 c.loop-up.way.items
+    c.pop.new.self.items c.in-Some.up c.in-Some.ensures.items (c.loop-up.invariant.ends w.0 w.1) in
+    c.requires.tree.within (face_of tree.surface.now c.in-Some.up.0) c.in-Some.up top.up
+
+pub overflow_add-heights : goal.overflow_add-heights
+overflow_add-heights c =
+    let tree = c.args.tree.now in
+    added_fits tree c.requires.tree c.args.counts.now c.requires.small c.in-Some-heights.height c.count_at.result
+    (height_small tree c.requires.tree c.args.counts.now c.requires.small c.loop-up.heights c.above.result.0 c.in-Some-heights.height
+    c.loop-up.invariant.heights c.in-Some-heights.is) c.count_at.ensures.small
+
+pub loop-up-preserved-in-Some-heights : goal.loop-up-preserved-in-Some-heights
+loop-up-preserved-in-Some-heights c =
+    let tree = c.args.tree.now in
+    let s : OrientedMesh = tree.surface.now in
+    let counts : List ℤ = c.args.counts.now in
+    let heights = c.loop-up.heights in
+    let up : DartName = c.in-Some.up in
+    let w = c.requires.way in
+    let top = top_known tree c.requires.tree counts c.requires.small heights w.0 c.loop-up.way.items c.pop.new.self.items up
+    c.in-Some.ensures.items (c.loop-up.invariant.ends w.0 w.1) in
+    let f : ℕ = c.face_of-face.result.0 in
+    let face : f ≡ face_of s up.0 = c.face_of-face.ensures.face in
+    let height : ℤ = c.in-Some-heights.height in
+    let sum : ℤ = to_z w64 (of_z w64 (to_z w64 (of_z w64 height) +ℤ to_z w64 (of_z w64 c.count_at.result))) in
+    let is : sum ≡ height +ℤ dart_count s counts up.0 =
+    added_is tree c.requires.tree counts c.requires.small height c.count_at.result
+    (height_small tree c.requires.tree counts c.requires.small heights c.above.result.0 height c.loop-up.invariant.heights
+    c.in-Some-heights.is) c.count_at.ensures.small
+    ∙ ap (λ z. height +ℤ z) c.count_at.ensures.count in
+    let room : f < length heights = omega (arith, c.face_of-face.ensures.within, c.loop-up.invariant.heights.each_face) in
+    record {
+      heights = height_more tree c.requires.tree counts c.requires.small heights f up height sum c.loop-up.invariant.heights
+          (ap (up_of tree.ups.items) face ∙ top.up)
+          (ap (height_of heights) (sym c.above.ensures.face) ∙ c.in-Some-heights.is) is c.face_of-face.ensures.within;
+      kept = λ g is_known.
+          height_kept tree c.requires.tree counts c.requires.small heights f g sum room (c.loop-up.invariant.kept g is_known);
+      ends = λ g ends.
+          let here = top_known tree c.requires.tree counts c.requires.small heights g c.loop-up.way.items c.pop.new.self.items up
+          c.in-Some.ensures.items (c.loop-up.invariant.ends g ends) in (
+            f,
+            subst (IsWayUp s tree.ups.items g c.pop.new.self.items) (sym face) here.below,
+            height_there tree c.requires.tree counts c.requires.small heights f sum room,
+          );
+    }
+
+pub loop-up-preserved : goal.loop-up-preserved
+loop-up-preserved c =
+    let tree = c.args.tree.now in
+    let w = c.requires.way in
+    let top = top_known tree c.requires.tree c.args.counts.now c.requires.small c.loop-up.heights w.0 c.loop-up.way.items
+    c.pop.new.self.items c.in-Some.up c.in-Some.ensures.items (c.loop-up.invariant.ends w.0 w.1) in
+    let height = known tree c.requires.tree c.args.counts.now c.requires.small c.loop-up.heights c.above.result.0
+    (height_of c.loop-up.heights c.above.result.0) refl
+    (ap (λ g. is_some (height_of c.loop-up.heights g)) c.above.ensures.face ∙ top.known) in
+    absurd (c.in_default-heights.not-Some height.0 height.1)
+
+pub returns-clause-found : goal.returns-clause-found
+returns-clause-found c = λ f ends.
+    let empty : c.loop-up.way.items ≡ [] = search rules in
+    let e = c.loop-up.invariant.ends f ends in
+    let here : f ≡ e.0 =
+    subst (λ (w : List DartName). IsWayUp c.args.tree.now.surface.now c.args.tree.now.ups.items f w e.0) empty e.1 in
+    ap (λ g. is_some (height_of c.loop-up.heights g)) here ∙ e.2

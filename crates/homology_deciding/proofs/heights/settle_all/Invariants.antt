@@ -1,0 +1,9 @@
+use Rattle.std.proofs.Common.{◌≡◌, ◌<◌, ℕ, true, []}
+use Rattle.std.specs.Prelude.{is_some}
+use Rattle.homology_deciding.specs.Heights.{height_of, AreHeights}
+use Rattle.homology_deciding.proofs.heights.settle_all.Given as goal
+
+-- the faces so far have heights
+abbrev pub invariant-loop-face : goal.invariant-loop-face
+invariant-loop-face l =
+    AreHeights l.tree l.counts l.heights × ((f : ℕ) → f < l.face → is_some (height_of l.heights f) ≡ true) × (l.way.items ≡ [])

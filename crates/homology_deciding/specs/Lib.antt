@@ -1,0 +1,4 @@
+pub mod FaceTrees
+pub mod Heights
+pub mod Cuts
+pub mod Proofs

@@ -1,0 +1,5 @@
+pub mod RisingLemmas
+pub mod ReadingLemmas
+pub mod AnswerLemmas
+pub mod WritingLemmas
+pub mod RoundTrip

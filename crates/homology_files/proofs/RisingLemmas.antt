@@ -1,0 +1,83 @@
+-- Lines whose keys rise: what is above the last one is above all.
+use Rattle.std.proofs.Common.{◌≡◌, ◌⊎◌, inl, inr, ℕ, ◌+◌, ◌-◌, ◌<◌, Bool, true, false, ◌||◌, ◌&&◌, List, length, get_or, sym, ap, ◌∙◌, subst, arith, refl}
+use Rattle.std.specs.Prelude.{All, Some, slice_get, nat_lt, ◌==◌}
+use Rattle.std.specs.List.{list_all}
+use Rattle.std.proofs.lemmas.Bool.{cases_Bool, cases_lt, lt-ltb, ltb-true}
+use Rattle.std.proofs.lemmas.Bool.Decides.{nat_tests}
+use Rattle.std.proofs.lemmas.List.Folds.{list_all_at}
+use Rattle.std.proofs.lemmas.List.Sums.{list_all-from_AllPass, AllPass-from_list_all}
+use Rattle.std.proofs.lemmas.Option.{get_or_from_slice_get, slice_get_within}
+use Rattle.surf_model.specs.Edges.{IsPairBefore}
+use Rattle.homology.specs.Certificates.{AreFaceNumbers, AreEdgeNumbers}
+use Rattle.homology.specs.declared.certificate.FaceNumber.{FaceNumber}
+use Rattle.homology.specs.declared.certificate.EdgeNumber.{EdgeNumber}
+use Rattle.homology_files.specs.HomologyTexts.{is_face_above, is_edge_before, is_edge_above}
+
+-- a test that each line passes if the last one does
+all_by_last : {X : Type 0} (test : X → Bool) (xs : List X) (last : X) → slice_get xs (length xs - 1) ≡ Some last
+    → ((j : ℕ) (d : X) → j < length xs - 1 → test last ≡ true → test (get_or xs j d) ≡ true)
+    → test last ≡ list_all test xs
+all_by_last test xs last here earlier =
+    let l : length xs - 1 < length xs = slice_get_within xs (length xs - 1) last here in
+    let is : (d : _) → get_or xs (length xs - 1) d ≡ last = λ d. get_or_from_slice_get xs (length xs - 1) last d here in
+    elim (cases_Bool (test last)) [
+      | inl on ↦
+          on ∙ sym (list_all-from_AllPass test xs (λ k d lk. elim (cases_lt k (length xs - 1)) [
+            | inl less ↦ earlier k d less on
+            | inr end ↦
+                let same : k ≡ length xs - 1 = omega arith in
+                ap (λ n. test (get_or xs n d)) same ∙ ap test (is d) ∙ on
+          ]))
+      | inr off ↦ off ∙ sym (list_all_at test xs (length xs - 1) last l (ap test (is last) ∙ off))
+    ]
+
+pub face_above : (lines : List FaceNumber) (last line : FaceNumber) → AreFaceNumbers lines
+    → slice_get lines (length lines - 1) ≡ Some last → nat_lt last.face.0 line.face.0 ≡ is_face_above lines line
+face_above lines last line valid here =
+    let l : length lines - 1 < length lines = slice_get_within lines (length lines - 1) last here in
+    all_by_last (λ (other : FaceNumber). nat_lt other.face.0 line.face.0) lines last here
+    (λ j d less on.
+    let up : (get_or lines j d).face.0 < last.face.0 =
+    subst (λ (x : FaceNumber). (get_or lines j d).face.0 < x.face.0) (get_or_from_slice_get lines (length lines - 1) last d here)
+    (valid.rising j (length lines - 1) d less l) in
+    lt-ltb (get_or lines j d).face.0 line.face.0 (omega (arith, up, ltb-true last.face.0 line.face.0 on)))
+
+-- the test of two edges
+before_test : (one other : EdgeNumber) → is_edge_before one other ≡ true → IsPairBefore one.low.0 one.high.0 other.low.0 other.high.0
+before_test one other h = grind (arith, nat_tests)
+
+pub before_passes : (one other : EdgeNumber) → IsPairBefore one.low.0 one.high.0 other.low.0 other.high.0 → is_edge_before one other ≡ true
+before_passes one other (inl less) = grind (arith, nat_tests)
+before_passes one other (inr p) = let e = p.0 in let l = p.1 in grind (arith, nat_tests)
+
+pair_chain : (a b c d e f : ℕ) → IsPairBefore a b c d → IsPairBefore c d e f → IsPairBefore a b e f
+pair_chain a b c d e f (inl l) (inl m) = inl (omega (arith, l, m))
+pair_chain a b c d e f (inl l) (inr m) = inl (omega (arith, l, m.0))
+pair_chain a b c d e f (inr l) (inl m) = inl (omega (arith, l.0, m))
+pair_chain a b c d e f (inr l) (inr m) = inr (l.0 ∙ m.0, omega (arith, l.1, m.1))
+
+pub edge_above : (lines : List EdgeNumber) (last line : EdgeNumber) → AreEdgeNumbers lines
+    → slice_get lines (length lines - 1) ≡ Some last → is_edge_before last line ≡ is_edge_above lines line
+edge_above lines last line valid here =
+    let l : length lines - 1 < length lines = slice_get_within lines (length lines - 1) last here in
+    all_by_last (λ (other : EdgeNumber). is_edge_before other line) lines last here
+    (λ j d less on.
+    let x : EdgeNumber = get_or lines j d in
+    let up : IsPairBefore x.low.0 x.high.0 last.low.0 last.high.0 =
+    subst (λ (y : EdgeNumber). IsPairBefore x.low.0 x.high.0 y.low.0 y.high.0)
+    (get_or_from_slice_get lines (length lines - 1) last d here) (valid.rising j (length lines - 1) d less l) in
+    before_passes x line
+    (pair_chain x.low.0 x.high.0 last.low.0 last.high.0 line.low.0 line.high.0 up (before_test last line on)))
+
+-- what is above others by the test
+pub all_below : (lines : List FaceNumber) (line : FaceNumber) → true ≡ is_face_above lines line
+    → All (λ (other : FaceNumber). other.face.0 < line.face.0) lines
+all_below lines line h = λ k d l.
+    ltb-true (get_or lines k d).face.0 line.face.0
+    (AllPass-from_list_all (λ (other : FaceNumber). nat_lt other.face.0 line.face.0) lines (sym h) k d l)
+
+pub all_before : (lines : List EdgeNumber) (line : EdgeNumber) → true ≡ is_edge_above lines line
+    → All (λ (other : EdgeNumber). IsPairBefore other.low.0 other.high.0 line.low.0 line.high.0) lines
+all_before lines line h = λ k d l.
+    before_test (get_or lines k d) line
+    (AllPass-from_list_all (λ (other : EdgeNumber). is_edge_before other line) lines (sym h) k d l)

@@ -1,0 +1,34 @@
+-- The lines of a certificate, written one by one.
+use Rattle.std.proofs.Common.{◌≡◌, ℕ, List, [], ◌∷◌, ◌++◌, ◌+◌, take, add-one, refl, sym, ap, subst, ◌∙◌, map}
+use Rattle.std.specs.Prelude.{flat_map, All, Some, slice_get}
+use Rattle.std.proofs.lemmas.List.Elements.{All-head, All-tail, All-cons, All-nil}
+use Rattle.std.proofs.lemmas.Option.{slice_get_within, get_or_from_slice_get}
+use Rattle.std.proofs.Math.Seq.{take-suc}
+use Rattle.text_scan.specs.Plain.{line_of}
+use Rattle.homology.specs.declared.certificate.FaceNumber.{FaceNumber}
+use Rattle.homology.specs.declared.certificate.EdgeNumber.{EdgeNumber}
+use Rattle.homology_files.specs.WrittenTexts.{face_words, edge_words}
+
+abbrev pub face_line : FaceNumber → List ℕ
+face_line line = line_of (face_words line)
+
+abbrev pub edge_line : EdgeNumber → List ℕ
+edge_line line = line_of (edge_words line)
+
+pub flat_map-lines : {X : Type 0} (words : X → List (List ℕ)) (xs : List X)
+    → flat_map (λ x. line_of (words x)) xs ≡ flat_map line_of (map words xs)
+flat_map-lines words [] = refl
+flat_map-lines words (x ∷ xs) = ap (λ rest. line_of (words x) ++ rest) (flat_map-lines words xs)
+
+-- what holds of the first ones and of the next one holds of one more
+pub all-next : {X : Type 0} (P : X → Type 0) (xs : List X) (k : ℕ) (x : X) → All P (take k xs) → slice_get xs k ≡ Some x → P x
+    → All P (take (k + 1) xs)
+all-next {X} P xs k x so_far here holds =
+    let one_more : take (k + 1) xs ≡ take k xs ++ x ∷ [] =
+    ap (λ j. take j xs) (add-one k) ∙ take-suc xs k x (slice_get_within xs k x here)
+    ∙ ap (λ m. take k xs ++ m ∷ []) (get_or_from_slice_get xs k x x here) in
+    subst (All P) (sym one_more) (push (take k xs) so_far)
+  where
+    push : (first : List X) → All P first → All P (first ++ x ∷ [])
+    push [] all = All-cons P x [] holds (All-nil P)
+    push (y ∷ first) all = All-cons P y (first ++ x ∷ []) (All-head P y first all) (push first (All-tail P y first all))

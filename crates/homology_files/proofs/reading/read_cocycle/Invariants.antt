@@ -1,0 +1,15 @@
+use Rattle.std.proofs.Common.{◌≡◌, ◌-◌, [], length}
+use Rattle.text_scan.specs.Unread.{lines_left}
+use Rattle.homology_files.specs.HomologyTexts.{edge_number_of, is_edge_above, numbers_in}
+use Rattle.homology_files.proofs.reading.read_cocycle.Given as goal
+
+-- the lines left, behind the numbers so far, mean what all lines do
+abbrev pub invariant-loop : goal.invariant-loop
+invariant-loop l =
+    record {
+      meaning :
+          numbers_in edge_number_of is_edge_above l.fn.cursor.end_line l.fn.count [] (lines_left l.fn.cursor)
+          ≡ numbers_in edge_number_of is_edge_above l.fn.cursor.end_line (l.fn.count - l.counter) l.numbers (lines_left l.cursor);
+      count : length l.numbers ≡ l.counter;
+      end : l.cursor.end_line ≡ l.fn.cursor.end_line;
+    }

@@ -1,0 +1,3 @@
+pub mod HomologyTexts
+pub mod WrittenTexts
+pub mod Examples
