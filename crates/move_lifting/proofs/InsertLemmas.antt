@@ -49,7 +49,7 @@ spur_in_last mesh first laid rest via list more some edge noted h =
     regroup front rest u v = simp append_assoc
 
 -- the greatest number of darts where so many entries stand in front and behind
-greatest_raised : (mesh : FaceList) (moves : List Move) (walk next before after : List ℕ) → 0 < length walk
+pub greatest_raised : (mesh : FaceList) (moves : List Move) (walk next before after : List ℕ) → 0 < length walk
     → apply_all mesh walk moves ≡ Some next
     → greatest_darts mesh (before ++ walk ++ after) (all_raised (length before) moves) ≡ length before + length after + greatest_darts mesh
     walk moves

@@ -27,3 +27,4 @@ pub mod TreeUpLemmas
 pub mod ApproachLemmas
 pub mod FrontLemmas
 pub mod LoopInLemmas
+pub mod TrimLemmas

@@ -7,7 +7,9 @@ use Rattle.surf_model.specs.FaceLists.{FaceList}
 use Rattle.surf_model.specs.FreeWalks.{HasNoSpur}
 use Rattle.surf_model.specs.Walks.{IsWalk, HaveCommonEnds, darts}
 use Rattle.surf_model.specs.Moves.{PeakedMoves, Leads, Homotopic, apply, apply_all}
+use Rattle.surf_model.specs.Vertices.{numbers}
 use Rattle.surf_model.specs.declared.moves.Move.{Move}
+use Rattle.surf_model.specs.declared.names.VertexName.{VertexName}
 use Rattle.surf_model.proofs.WayBackLemmas.{list_keeps_walk, list_keeps_ends}
 use Rattle.halfedge_map.specs.OrientedMeshes.{OrientedMesh, IsOrientedSurface}
 use Rattle.tree_cotree.specs.Splits.{SplitView, IsSplit}
@@ -24,6 +26,7 @@ use Rattle.move_lifting.proofs.HomeLemmas.{nothing_is_left}
 use Rattle.move_lifting.proofs.StartLemmas.{starts_freely}
 use Rattle.move_lifting.specs.Lifts.{LeadsAtPeak, AvoidsCotree, MoreLeaveCotree}
 use Rattle.move_lifting.specs.Tracks.{TrackView, GoesOn, last_of}
+use Rattle.move_lifting.specs.Trimmed.{AreWalksTogether}
 use Rattle.move_lifting.proofs.MoveLemmas.{leads_nowhere}
 use Rattle.move_lifting.proofs.TreeLiftLemmas.{one_vertex, walk_front}
 
@@ -44,6 +47,28 @@ pub closed_walk : (mesh : FaceList) (first closed rest : List ℕ) (list : Peake
     → 0 < length closed → IsWalk mesh closed
 closed_walk mesh first closed rest list w h some =
     walk_front mesh closed rest some (list_keeps_walk mesh list.moves first (closed ++ rest) w h.leads)
+
+-- the closed walk that was made, with the moves that lead to it where the second walk stands behind
+pub record IsClosed (mesh : FaceList) (first closed second : List ℕ) (list : PeakedMoves) : Type 0 where
+  pub led : LeadsAtPeak mesh first list (closed ++ drop 1 second)
+  pub some : 0 < length closed
+  pub meets : last_of closed ≡ get_or second 0 0
+  pub walk : IsWalk mesh closed
+
+pub closed_is : (mesh : FaceList) (first second : List ℕ) (names : List VertexName) (list : PeakedMoves) (track : TrackView)
+    → AreWalksTogether mesh first second
+    → ((face_list : FaceList) → IsWalk face_list second → LeadsAtPeak face_list first track.list (track.walk ++ drop 1 second))
+    → 0 < length track.walk → last_of track.walk ≡ get_or second 0 0 → numbers names ≡ track.walk → list ≡ track.list
+    → IsClosed mesh first (numbers names) second list
+closed_is mesh first second names list track walks leads some meets same noted =
+    subst (λ (l : PeakedMoves). IsClosed mesh first (numbers names) second l) (sym noted)
+    (subst (λ (l : List ℕ). IsClosed mesh first l second track.list) (sym same)
+    (record {
+      led = leads mesh walks.beside;
+      some = some;
+      meets = meets;
+      walk = closed_walk mesh first track.walk (drop 1 second) track.list walks.along (leads mesh walks.beside) some;
+    }))
 
 pub second_left : (s : OrientedMesh) (split : SplitView) → IsOrientedSurface s → IsSplit s split → split.genus ≡ 0
     → (first closed second : List ℕ) (list : PeakedMoves) (track : TrackView)
@@ -110,6 +135,31 @@ begun_from s split first closed second list track w z common h closed_some goes 
       goes = leads_rest s.mesh list.moves more.0 first (closed ++ rest) (track.walk ++ rest) h.leads
           (subst (λ (l : List Move). Leads s.mesh first l (track.walk ++ rest)) more.1 there.leads);
       leaves = more.2;
+    }
+
+-- what the closed walk becomes off the cotree
+pub record IsOffCotree (s : OrientedMesh) (split : SplitView) (first closed second : List ℕ) (list : PeakedMoves) (track : TrackView)
+    : Type 0 where
+  pub goes : GoesOn s.mesh (darts second) closed list track.walk track.list
+  pub last : last_of track.walk ≡ get_or second 0 0
+  pub begun : IsBegun s split first closed second track
+
+pub off_cotree : (s : OrientedMesh) (split : SplitView) (first second : List ℕ) (names read : List VertexName) (list : PeakedMoves)
+    (track : TrackView) (behind : ℕ)
+    → AreWalksTogether s.mesh first second → IsClosed s.mesh first (numbers names) second list → read ≡ names → behind ≡ darts second
+    → GoesOn s.mesh behind (numbers read) list track.walk track.list → MoreLeaveCotree s split list.moves track.list.moves
+    → 0 < length track.walk → last_of track.walk ≡ last_of (numbers read)
+    → IsOffCotree s split first (numbers names) second list track
+off_cotree s split first second names read list track behind walks k same counted goes more some last =
+    let ends : last_of track.walk ≡ get_or second 0 0 = last ∙ ap (λ (l : List VertexName). last_of (numbers l)) same ∙ k.meets in
+    let on : GoesOn s.mesh (darts second) (numbers names) list track.walk track.list =
+    subst (λ (l : List VertexName). GoesOn s.mesh (darts second) (numbers l) list track.walk track.list) same
+    (subst (λ (n : ℕ). GoesOn s.mesh n (numbers read) list track.walk track.list) counted goes) in
+    record {
+      goes = on;
+      last = ends;
+      begun = begun_from s split first (numbers names) second list track walks.along walks.beside walks.ends.starts k.led k.some on more
+          some ends;
     }
 
 -- and the second walk is left behind one vertex

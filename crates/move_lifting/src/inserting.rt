@@ -61,7 +61,7 @@ pub(crate) fn put_turn(
 }
 
 /// Fails where these numbers of entries and of darts are too many together.
-fn find_room(whole: usize, walk: usize, behind: u32, peak: u32) -> Result<(), AllocError>
+pub(crate) fn find_room(whole: usize, walk: usize, behind: u32, peak: u32) -> Result<(), AllocError>
     requires whole { whole < 2 ^ 62 }
     requires walk { walk < 2 ^ 62 }
     ensures { OnOk result (whole + walk + behind + peak < MOST_ENTRIES) }
@@ -182,7 +182,7 @@ fn insert_there_and_back(
 
 /// Notes the moves of a list once more where `by` entries stand in front of the walk that they start from, and so many entries
 /// in front of it and behind it together.
-fn raise_moves(
+pub(crate) fn raise_moves(
     moves: &mut MoveList,
     turn: &MoveList,
     by: u32,
@@ -226,7 +226,7 @@ fn raise(mv: Move, by: u32) -> Move
 }
 
 /// Takes the spurs out of a walk with `behind` entries behind it, by moves that come after those that led to it.
-fn reduce_all(
+pub(crate) fn reduce_all(
     alloc: Global,
     walk: &[VertexName],
     behind: u32,

@@ -7,14 +7,20 @@ ghost use Rattle.surf_model.specs.Walks.{IsWalk, HaveCommonEnds, darts};
 ghost use Rattle.halfedge_map.specs.DartMaps.{darts_of};
 ghost use Rattle.tree_cotree.specs.Splits.{IsSplit};
 ghost use Rattle.polygon_cut.specs.Polygons.{IsCutFrom};
+ghost use Rattle.surf_model.specs.FreeWalks.{HasNoSpur};
+ghost use Rattle.move_lifting.specs.Cuts.{IsSplitSurface};
 ghost use Rattle.move_lifting.specs.Lifts.{LeadsAtPeak};
+ghost use Rattle.move_lifting.specs.Trimmed.{AreWalksTogether};
 ghost use Rattle.move_lifting.specs.Tracks.{last_of};
 ghost use Rattle.move_lifting.specs.declared.expanding.TheConstants.{MOST_LIFTED_SIDES, MOST_LIFTED_DARTS};
 
+use crate::common_ends::CommonDarts;
 use crate::contracting::contract;
 use crate::cut::{Cut, SplitSurface};
 use crate::expanding::{lead_all, vertices_of};
+use crate::inserting::reduce_all;
 use crate::reducing::Reduction;
+use crate::track::Track;
 use halfedge_map::Surface;
 use polygon_cut::Polygon;
 use std::alloc::{AllocError, Global};
@@ -23,8 +29,9 @@ use tree_cotree::Split;
 
 /// A list of moves from the first walk to the second; none where there is no such list.
 ///
-/// The second walk comes behind the first, backward and forward. Then the closed walk that goes along the first and back
-/// along the second is contracted to its start, and the second walk behind it is left: it is led off the cotree, and follows
+/// What both walks begin with and end with stays as it is. Of what is between, the second part comes behind the first,
+/// backward and forward, and the spurs of that are taken out. Then the closed walk that goes along the first and back along
+/// the second is contracted to its start, and the second walk behind it is left: it is led off the cotree, and follows
 /// the steps that leave nothing of its spokes. The steps leave something exactly where the walks are not homotopic. On a
 /// sphere there are no spokes, and off the cotree nothing but the tree is left to go along.
 ///
@@ -48,23 +55,65 @@ pub fn lift(
         (Homotopic surface.now.mesh first.now second.now → ⊥)
         (λ list. LeadsAtPeak surface.now.mesh first.now list second.now)) }
 {
-    let mut closed = vertices_of(alloc, first)?;
-    let mut moves = MoveList::new(alloc, first.darts());
-    append_back(&mut closed, &mut moves, second)?;
-    let behind = second.darts();
+    let common = CommonDarts::of(first, second);
+    let first = common.between(alloc, first)?;
+    let second = common.between(alloc, second)?;
     let on = SplitSurface { surface, split };
+    match lift_between(alloc, &on, polygon, &first, &second)? {
+        Some(list) => Ok(Some(common.put_back(alloc, list)?)),
+        None => Ok(None),
+    }
+}
+
+/// A list of moves from the first walk to the second, by the closed walk along them; none where there is no such list.
+fn lift_between(
+    alloc: Global,
+    on: &SplitSurface<'_>,
+    polygon: &Polygon,
+    first: &Walk,
+    second: &Walk,
+) -> Result<Option<MoveList>, AllocError>
+    requires on { IsSplitSurface on.now }
+    requires cut { IsCutFrom on.now.surface.now on.now.split.now polygon.now }
+    requires walks { AreWalksTogether on.now.surface.now.mesh first.now second.now }
+    requires few { darts first.now + darts second.now ≤ MOST_LIFTED_DARTS }
+    ensures { IfOk result (λ found. MatchOption found
+        (Homotopic on.now.surface.now.mesh first.now second.now → ⊥)
+        (λ list. LeadsAtPeak on.now.surface.now.mesh first.now list second.now)) }
+{
+    let behind = second.darts();
+    let track = close(alloc, first, second)?;
+    let (closed, moves) = track.into_parts()?;
     if polygon.degree() == 0 {
-        let track = lead_all(alloc, &on, &closed, behind, moves)?;
+        let track = lead_all(alloc, on, &closed, behind, moves)?;
         return Ok(Some(track.into_moves()));
     }
-    let reduction = Reduction::of(alloc, surface, polygon, &closed)?;
+    let reduction = Reduction::of(alloc, on.surface, polygon, &closed)?;
     if !reduction.leaves_nothing() {
         return Ok(None);
     }
-    let track = lead_all(alloc, &on, &closed, behind, moves)?;
-    let cut = Cut { on, polygon };
+    let track = lead_all(alloc, on, &closed, behind, moves)?;
+    let cut = Cut { on: *on, polygon };
     let track = contract(alloc, &cut, reduction, track, behind)?;
     Ok(Some(track.into_moves()))
+}
+
+/// The closed walk along the first walk and back along the second, without spurs, and the moves that lead from the first
+/// walk to it with the second behind it.
+fn close(alloc: Global, first: &Walk, second: &Walk) -> Result<Track, AllocError>
+    requires ends { HaveCommonEnds first.now second.now }
+    requires few { darts first.now + darts second.now ≤ MOST_LIFTED_DARTS }
+    ensures leads { IfOk result (λ closed. (mesh : FaceList) → IsWalk mesh second.now
+        → LeadsAtPeak mesh first.now closed.list (closed.walk ++ drop 1 second.now)) }
+    ensures no_spur { IfOk result (λ closed. HasNoSpur closed.walk) }
+    ensures last { IfOk result (λ closed. last_of closed.walk ≡ slice_index second.now 0) }
+    ensures some { IfOk result (λ closed. 0 < length closed.walk) }
+    ensures few { IfOk result (λ closed. length closed.walk ≤ MOST_LIFTED_DARTS + 1) }
+{
+    let mut closed = vertices_of(alloc, first)?;
+    let mut moves = MoveList::new(alloc, first.darts());
+    append_back(&mut closed, &mut moves, second)?;
+    reduce_all(alloc, &closed, second.darts(), moves)
 }
 
 /// Goes back along a walk from its end, which the vertices end at, so that all of the walk comes behind them, and notes
