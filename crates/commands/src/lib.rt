@@ -11,7 +11,9 @@
 mod certificate;
 mod certify;
 mod command;
+mod component;
 mod decide;
+mod finding;
 mod inputs;
 pub mod laws;
 mod line;
