@@ -1,7 +1,10 @@
 -- What `certify` finds: a list of moves that leads, or a denial that holds.
-use Rattle.std.proofs.Common.{◌≡◌, inl, inr, ℕ, ◌+◌, ◌<◌, ◌≤◌, Bool, true, false, List, refl, sym, ap, ◌∙◌, subst, arith, codes, decimal, ◌∷◌, []}
+use Rattle.std.proofs.Common.{◌≡◌, inl, inr, ℕ, ◌+◌, ◌<◌, ◌≤◌, Bool, true, false, List, length, refl, sym, ap, ◌∙◌, subst, arith, codes, decimal, ◌∷◌, []}
 use Rattle.std.specs.Prelude.{◌↔◌, nat_lt, if◌then◌else◌, Option, Some, None}
+use Rattle.std.specs.List.{enumerate_from}
 use Rattle.std.proofs.lemmas.Bool.{cases_lt}
+use Rattle.std.proofs.lemmas.List.{ext_get_or, length-map}
+use Rattle.std.proofs.lemmas.List.FromFn.{length-enumerate_from}
 use Rattle.std.proofs.lemmas.Bool.Decides.{nat_tests}
 use Rattle.surf_io.specs.Files.{Files}
 use Rattle.surf_model.specs.FaceLists.{FaceList, IsFaceList, total_sides}
@@ -14,8 +17,9 @@ use Rattle.polygon_cut.specs.Polygons.{PolygonView, IsCutFrom}
 use Rattle.polygon_cut.proofs.SphereLemmas.{all_homotopic}
 use Rattle.labellings.specs.Denials.{DenialHolds}
 use Rattle.labellings.specs.GoodLabellings.{IsGood}
-use Rattle.labellings.specs.Labellings.{LabellingView}
-use Rattle.quad_system.specs.PolygonLabellings.{labelling_from}
+use Rattle.labellings.specs.Labellings.{FaceLabels, LabellingView, signs_of}
+use Rattle.quad_system.specs.PolygonLabellings.{face_labels, labelling_from}
+use Rattle.quad_system.proofs.PolygonLabelLemmas.{flips_are}
 use Rattle.labellings.specs.WalkWords.{IsWordOf}
 use Rattle.labellings.proofs.WalkWordLemmas.{denial_excludes}
 use Rattle.walk_translate.specs.declared.deciding.Answer.TheVariants as answers
@@ -69,6 +73,19 @@ denial_holds surface split polygon first second good one other o is_split is_cut
           (record { split = split; polygon = polygon; is_split = is_split; is_cut = is_cut; some = some; labelling_is = is_good }) w z
           ends f g).1 same);
     }
+
+-- the labelling has the signs of the surface
+pub signs_are : (surface : OrientedMesh) (polygon : PolygonView) (good : LabellingView) → IsOrientedSurface surface
+    → good ≡ labelling_from surface polygon → signs_of good ≡ surface.signs
+signs_are surface polygon good o is =
+    let made : LabellingView = labelling_from surface polygon in
+    let many : length (signs_of made) ≡ length surface.mesh.faces =
+    length-map made.faces (λ (f : FaceLabels). f.flipped)
+    ∙ length-map (enumerate_from 0 surface.mesh.faces) (λ (p : ℕ × List ℕ). face_labels surface polygon p.0 (length p.1))
+    ∙ length-enumerate_from 0 surface.mesh.faces in
+    ap signs_of is
+    ∙ ext_get_or false (signs_of made) surface.signs (many ∙ sym o.coherent.each_face)
+    (λ f l. flips_are surface polygon f (omega (arith, l, many)))
 
 -- ---- a certificate is for the right decision
 

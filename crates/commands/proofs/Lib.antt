@@ -7,12 +7,15 @@ pub mod Writing
 pub mod Verifying
 pub mod Sound
 pub mod MeshTexts
+pub mod SomeParts
 pub mod Surfaces
+pub mod Genera
 pub mod Measuring
 pub mod Deciding
 pub mod GatheredLemmas
 pub mod WordLines
 pub mod Reducing
+pub mod Components
 pub mod Certifying
 pub mod SomeVerdict
 pub mod Trying

@@ -1,5 +1,5 @@
 -- The files that commands look at, and the commands: the check of each has an end, and one where its files are told.
-use Rattle.std.proofs.Common.{inl, inr, ℕ, List, [], ◌∷◌, refl}
+use Rattle.std.proofs.Common.{inl, inr, ℕ, List, [], ◌∷◌, refl, sym, subst}
 use Rattle.std.specs.Prelude.{Option, Some, None, Result, Ok, Err}
 use Rattle.surf_io.specs.Files.{Files}
 use Rattle.surf_model.specs.FaceLists.{FaceList}
@@ -9,23 +9,24 @@ use Rattle.walk_files.specs.Pairs.{IsPair, pair_fault}
 use Rattle.walk_files.specs.declared.fault.WalkFault.{WalkFault}
 use Rattle.walk_files.proofs.PairLemmas.{none_of_pair}
 use Rattle.commands.specs.declared.refusal.Input.TheVariants as inputs
-use Rattle.surf_model.specs.Surfaces.{IsSurface}
 use Rattle.commands.proofs.Certifying.{sound-certified}
 use Rattle.commands.proofs.Checking.{pair_passes}
 use Rattle.commands.proofs.Deciding.{sound-decided}
-use Rattle.commands.proofs.Measuring.{sound-numbers, surface_passed}
+use Rattle.commands.proofs.Measuring.{with_few, sound-numbers, sound-genera, surface_passed, as_passes}
 use Rattle.commands.proofs.MeshTexts.{mesh_valid}
 use Rattle.commands.proofs.SomeVerdict.{sound-judgement}
 use Rattle.commands.proofs.Sound.{IsSound, sound-then, sound-pass, sound-meant, sound-pass_unless, sound-file, held, sound-where_told}
-use Rattle.commands.proofs.Surfaces.{sound-as_surface}
+use Rattle.commands.proofs.Surfaces.{sound-as_surface, sound-few, few_passed}
 use Rattle.commands.specs.Answers.{Exactly, Texts}
 use Rattle.commands.specs.Certify.{certify, limit_fault}
 use Rattle.commands.specs.Checks.{Refuse, Passes, Holds, IsTold, meant, pass_unless, ◌>>=◌}
 use Rattle.commands.specs.Decide.{decide}
 use Rattle.commands.specs.Inputs.{IsCertificateEnd, mesh_in, pair_in, certificate_in, certificate_in_bytes, certificate_of, walk_at, SpellsMesh, SpellsPair}
 use Rattle.commands.specs.Refusals.{numbers_line, certificate_line, off_line, pair_line, too_large}
+use Rattle.commands.specs.ClosedSurfaces.{IsOrientableSurface}
 use Rattle.commands.specs.Surface.{surface}
 use Rattle.commands.specs.SurfaceInput.{surface_in}
+use Rattle.commands.specs.declared.surface.TheConstants.{MOST_COMPONENTS}
 use Rattle.commands.specs.Verify.{verify}
 
 -- ---- the files
@@ -56,7 +57,13 @@ pub sound-surface : (held : Option Files) (name : List ℕ) → IsSound held (su
 sound-surface held name =
     sound-then held _ _ (sound-surface_in held name)
     (λ mesh h. let is = surface_passed held name mesh h in
-    sound-then held _ _ (sound-numbers held mesh is.0 is.1) (λ numbers _. sound-pass held _))
+    sound-then held _ _ (sound-few held MOST_COMPONENTS mesh is.0)
+    (λ few p. subst after (sym (few_passed MOST_COMPONENTS mesh few p))
+    (sound-then held _ _ (sound-numbers held mesh is.0)
+    (λ numbers _. sound-then held _ _ (sound-genera held mesh is.0 is.1) (λ genera _. sound-pass held _)))))
+  where
+    after : FaceList → Type 0
+    after few = IsSound held (with_few few)
 
 pub sound-verify : (held : Option Files) (mesh walks certificate : List ℕ) → IsSound held (verify held mesh walks certificate)
 sound-verify held mesh walks certificate =
@@ -136,7 +143,6 @@ pub surface_told : (files : Option Files) (name : List ℕ) → IsTold files nam
 surface_told files name told = ((told, λ bytes _. meant_told files off_line (meaning_of bytes)), λ _ _. (tt, λ _ _. tt))
 
 -- a file that spells a surface passes it
-pub spelled_surface : (files : Option Files) (name : List ℕ) (mesh : FaceList) → Holds files name (SpellsMesh mesh) → IsSurface mesh
-    → Passes (surface_in files name) mesh
-spelled_surface files name mesh h is =
-    inr (mesh, mesh_passes files name mesh h, inr (mesh, (is.closed, refl), (is.orientable, refl)))
+pub spelled_surface : (files : Option Files) (name : List ℕ) (mesh : FaceList) → Holds files name (SpellsMesh mesh)
+    → IsOrientableSurface mesh → Passes (surface_in files name) mesh
+spelled_surface files name mesh h is = inr (mesh, mesh_passes files name mesh h, as_passes mesh is)

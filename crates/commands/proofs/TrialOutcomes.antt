@@ -1,9 +1,9 @@
 -- `trial` in the words of the chain.
 use Rattle.std.proofs.Common.{◌≡◌, inl, inr, ℕ, true, List, refl, subst}
-use Rattle.std.specs.Prelude.{Option, Some, None, nat_le}
+use Rattle.std.specs.Prelude.{Option, Some, None, nat_le, length}
 use Rattle.std.proofs.lemmas.Bool.{and_from, le-leb}
 use Rattle.surf_io.specs.Files.{Files}
-use Rattle.surf_model.specs.FaceLists.{FaceList}
+use Rattle.surf_model.specs.FaceLists.{FaceList, IsFaceList}
 use Rattle.surf_model.specs.Surfaces.{IsSurface}
 use Rattle.off_reader.specs.OffTexts.{meaning_of}
 use Rattle.surf_gen.specs.Chains.{chain_mesh}
@@ -20,7 +20,9 @@ use Rattle.commands.specs.Checks.{Check, End, Refuse, Pass, Passes, pass, ◌>>=
 use Rattle.commands.specs.Lines.{refused}
 use Rattle.commands.specs.Outcomes.{Outcome, AnswersTo, IsAnswerOf}
 use Rattle.commands.specs.Refusals.{off_line, pair_line, told}
-use Rattle.commands.specs.Surface.{numbers_of, AreNumbersOf}
+use Rattle.commands.specs.ClosedSurfaces.{IsOrientableSurface}
+use Rattle.commands.specs.Surface.{numbers_of, genera_of, AreNumbersOf, AreGeneraOf}
+use Rattle.commands.specs.SurfaceInput.{of_few_components}
 use Rattle.commands.specs.Trial.{IsTrialRow, IsTried, AreDecisions, IsRightOn, is_within, size_fault, surface_spelled, pair_walks, pair_decided, pairs_decided, trial_text, trial}
 use Rattle.commands.specs.declared.status.Status.{Status}
 use Rattle.commands.specs.declared.status.Status.TheVariants.{Yes, Refused}
@@ -28,9 +30,12 @@ use Rattle.commands.specs.declared.surface.SurfaceNumbers.{SurfaceNumbers}
 use Rattle.commands.specs.declared.trial.Decisions.{Decisions}
 use Rattle.commands.proofs.ChainReading.{chain_read}
 use Rattle.commands.proofs.Deciding.{behind, refused_behind}
+use Rattle.commands.proofs.Measuring.{as_passes}
 use Rattle.commands.proofs.Rows.{meant_told, unless_told}
+use Rattle.commands.proofs.SomeParts.{some_parts}
 use Rattle.commands.proofs.Sound.{sound-pass_unless}
-use Rattle.commands.proofs.Trying.{sound-spelled, sizes, within_bounds, with_numbers, with_decisions, with_cell, with_loops, in_order, on_pair}
+use Rattle.commands.proofs.Surfaces.{sound-few, few_pass, joined_few}
+use Rattle.commands.proofs.Trying.{spelled_passed, sound-spelled, sizes, within_bounds, with_surface, with_few, with_numbers, with_genera, with_decisions, with_cell, with_loops, in_order, on_pair}
 
 -- ---- out of bounds
 
@@ -66,6 +71,31 @@ numbered_so : (mesh : FaceList) (next : SurfaceNumbers → Check Answer) (outcom
     → Numbered mesh next outcome
 numbered_so mesh next outcome (inl p) = absurd p.1
 numbered_so mesh next outcome (inr p) = record { numbers = p.0; are = p.1; behind_them = p.2 }
+
+-- the genera, and what comes behind them
+record WithGenera (mesh : FaceList) (next : List ℕ → Check Answer) (outcome : Outcome) : Type 0 where
+  genera : List ℕ
+  each : AreGeneraOf mesh genera
+  behind_them : (next genera).Ends outcome
+
+genera_so : (mesh : FaceList) (next : List ℕ → Check Answer) (outcome : Outcome) → (genera_of mesh >>= next).Ends outcome
+    → WithGenera mesh next outcome
+genera_so mesh next outcome (inl p) = absurd p.1
+genera_so mesh next outcome (inr p) = record { genera = p.0; each = p.1; behind_them = p.2 }
+
+-- a connected orientable closed surface is an orientable closed surface
+orientable_surface : (mesh : FaceList) → IsSurface mesh → IsOrientableSurface mesh
+orientable_surface mesh is =
+    record {
+      manifold = record { some_face = is.closed.some_face; two_sides = is.closed.two_sides; one_ring = is.closed.one_ring };
+      orientable = is.orientable;
+    }
+
+-- a connected surface has one component
+one_passes : (mesh : FaceList) → IsFaceList mesh → IsSurface mesh → Passes (of_few_components 1 mesh) mesh
+one_passes mesh valid is =
+    let parts = some_parts mesh valid in
+    few_pass 1 mesh parts.0 (length parts.0.components) parts.1 refl (joined_few mesh parts.0 is.closed.connected parts.1)
 
 -- the decision on a pair, and what comes behind it
 record PairDecided {T : Type 0} (mesh : FaceList) (grid : ℕ) (which : TrialPair) (next : deciding.Answer → Check T)
@@ -125,23 +155,28 @@ within_so : (files : Option Files) (genus grid : ℕ) (outcome : Outcome) (statu
     → IsSurface (chain_mesh genus grid) → ((which : TrialPair) → IsPair (chain_mesh genus grid) (pair_walks grid which))
     → (trial genus grid).Ends outcome → IsAnswerOf outcome status text
     → (status ≡ Yes) × (numbers : SurfaceNumbers) × AreNumbersOf (chain_mesh genus grid) numbers
-    × (decisions : Decisions) × AreDecisions (chain_mesh genus grid) grid decisions × (text ≡ trial_text genus grid numbers decisions)
+    × (genera : List ℕ) × AreGeneraOf (chain_mesh genus grid) genera
+    × (decisions : Decisions) × AreDecisions (chain_mesh genus grid) grid decisions
+    × (text ≡ trial_text genus grid numbers genera decisions)
 within_so files genus grid outcome status text chain is pairs ends answer =
     let mesh = chain_mesh genus grid in
     let bounded = behind files (sizes genus grid) (λ _. within_bounds genus grid) genus outcome
     (sound-pass_unless files told (size_fault genus grid) genus) (unless_told files told (size_fault genus grid) genus)
     (rw (no_fault genus grid chain) refl) ends in
     let spelled : Passes (surface_spelled (chain_text genus grid)) mesh =
-    inr (mesh, rw (chain_read genus grid chain) refl, inr (mesh, (is.closed, refl), (is.orientable, refl))) in
-    let on_surface = behind files (surface_spelled (chain_text genus grid)) (with_numbers genus grid) mesh outcome
+    inr (mesh, rw (chain_read genus grid chain) refl, as_passes mesh (orientable_surface mesh is)) in
+    let valid : IsFaceList mesh = (spelled_passed (chain_text genus grid) mesh spelled).0 in
+    let on_surface = behind files (surface_spelled (chain_text genus grid)) (with_surface genus grid) mesh outcome
     (sound-spelled files (chain_text genus grid))
     (meant_told files off_line (meaning_of (chain_text genus grid)), λ _ _. (tt, λ _ _. tt)) spelled bounded in
-    let numbered = numbered_so mesh (with_decisions genus grid mesh) outcome on_surface in
-    let decided = pairs_so files mesh grid
-    (λ decisions. pass (yes_with (trial_text genus grid numbered.numbers decisions))) outcome pairs numbered.behind_them in
-    let given : IsAnswerOf (Pass (yes_with (trial_text genus grid numbered.numbers decided.decisions))) status text =
+    let on_few = behind files (of_few_components 1 mesh) (with_few genus grid) mesh outcome (sound-few files 1 mesh valid) tt
+    (one_passes mesh valid is) on_surface in
+    let numbered = numbered_so mesh (with_numbers genus grid mesh) outcome on_few in
+    let found = genera_so mesh (with_genera genus grid mesh numbered.numbers) outcome numbered.behind_them in
+    let decided = pairs_so files mesh grid (with_decisions genus grid numbered.numbers found.genera) outcome pairs found.behind_them in
+    let given : IsAnswerOf (Pass (yes_with (trial_text genus grid numbered.numbers found.genera decided.decisions))) status text =
     subst (λ (o : Outcome). IsAnswerOf o status text) decided.behind_them answer in
-    (given.status_is, numbered.numbers, numbered.are, decided.decisions, decided.are, given.text_is)
+    (given.status_is, numbered.numbers, numbered.are, found.genera, found.each, decided.decisions, decided.are, given.text_is)
 
 -- what `trial` is for, where the words are answered by its check
 pub tried : (files : Option Files) (words : List (List ℕ)) (status : Status) (text : List ℕ)

@@ -3,7 +3,6 @@ use Rattle.std.specs.Prelude.{◌≡◌, ℕ, ◌+◌, ◌<◌, ◌≤◌, ◌�
 use Rattle.surf_io.specs.Files.{Files}
 use Rattle.surf_model.specs.FaceLists.{FaceList, total_sides}
 use Rattle.surf_model.specs.Moves as moves
-use Rattle.surf_model.specs.Surfaces.{IsSurface}
 use Rattle.surf_model.specs.Walks.{darts}
 use Rattle.move_lifting.specs.declared.expanding.TheConstants.{MOST_LIFTED_SIDES, MOST_LIFTED_DARTS}
 use Rattle.walk_translate.specs.declared.deciding.Answer as deciding
@@ -11,6 +10,7 @@ use Rattle.walk_translate.specs.declared.deciding.Answer.TheVariants.{Homotopic}
 use Rattle.commands.specs.Answers.{Answer, Exactly, OfCertificate}
 use Rattle.commands.specs.Certificates.{Convinces, decision_of, decision_status, certificate_text}
 use Rattle.commands.specs.Checks.{Check, End, Refuse, Pass, Holds, pass_unless, without_files, ◌>>=◌}
+use Rattle.commands.specs.ClosedSurfaces.{IsOrientableSurface}
 use Rattle.commands.specs.Inputs.{pair_in, walk_at, SpellsMesh, SpellsPair}
 use Rattle.commands.specs.Lines.{refused}
 use Rattle.commands.specs.SurfaceInput.{surface_in}
@@ -18,14 +18,14 @@ use Rattle.commands.specs.declared.certificate.Certificate.{Certificate}
 use Rattle.commands.specs.declared.status.Status.{Status}
 use Rattle.commands.specs.declared.status.Status.TheVariants.{Yes, Refused}
 
--- The words are those of `certify`, and the two files that they name are told and stand for a connected orientable closed surface
--- and two walks of it with common ends.
+-- The words are those of `certify`, and the two files that they name are told and stand for an orientable closed surface and
+-- two walks of it with common ends.
 pub record IsCertifyInput (held : Option Files) (words : List (List ℕ)) (mesh : FaceList) (first second : List ℕ) : Type 0 where
   pub mesh_name : List ℕ
   pub walks_name : List ℕ
   pub words_are : words ≡ codes "certify" ∷ mesh_name ∷ walks_name ∷ []
   pub mesh_file : Holds held mesh_name (SpellsMesh mesh)
-  pub is_surface : IsSurface mesh
+  pub is_surface : IsOrientableSurface mesh
   pub walks_file : Holds held walks_name (SpellsPair mesh first second)
 
 -- the refusals of a surface with too many sides, and of walks with too many darts

@@ -3,25 +3,25 @@ use Rattle.std.specs.Prelude.{◌≡◌, ℕ, ◌↔◌, ◌⊎◌, List, [], �
 use Rattle.surf_io.specs.Files.{Files}
 use Rattle.surf_model.specs.FaceLists.{FaceList}
 use Rattle.surf_model.specs.Moves as moves
-use Rattle.surf_model.specs.Surfaces.{IsSurface}
 use Rattle.walk_translate.specs.declared.deciding.Answer as deciding
 use Rattle.walk_translate.specs.declared.deciding.Answer.TheVariants.{Homotopic, Different}
 use Rattle.commands.specs.Answers.{Answer, Exactly}
 use Rattle.commands.specs.Certificates.{decision_status, decision_line}
 use Rattle.commands.specs.Checks.{Check, End, Refuse, Pass, Holds, without_files, ◌>>=◌}
+use Rattle.commands.specs.ClosedSurfaces.{IsOrientableSurface}
 use Rattle.commands.specs.Inputs.{pair_in, walk_at, SpellsMesh, SpellsPair}
 use Rattle.commands.specs.SurfaceInput.{surface_in}
 use Rattle.commands.specs.declared.status.Status.{Status}
 use Rattle.commands.specs.declared.status.Status.TheVariants.{Yes, No}
 
--- The words are those of `decide`, and the two files that they name are told and stand for a connected orientable closed surface
--- and two walks of it with common ends.
+-- The words are those of `decide`, and the two files that they name are told and stand for an orientable closed surface and
+-- two walks of it with common ends.
 pub record IsDecideInput (held : Option Files) (words : List (List ℕ)) (mesh : FaceList) (first second : List ℕ) : Type 0 where
   pub mesh_name : List ℕ
   pub walks_name : List ℕ
   pub words_are : words ≡ codes "decide" ∷ mesh_name ∷ walks_name ∷ []
   pub mesh_file : Holds held mesh_name (SpellsMesh mesh)
-  pub is_surface : IsSurface mesh
+  pub is_surface : IsOrientableSurface mesh
   pub walks_file : Holds held walks_name (SpellsPair mesh first second)
 
 -- What `decide` answers of such an input: `homotopic`, with status 0, exactly where some list of moves leads from the first walk to

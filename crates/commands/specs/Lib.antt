@@ -5,9 +5,11 @@ pub mod Refusals
 pub mod Checks
 pub mod Words
 pub mod Inputs
+pub mod ClosedSurfaces
 pub mod SurfaceInput
 pub mod Surface
 pub mod Decide
+pub mod Findings
 pub mod Certify
 pub mod Progress
 pub mod Verify

@@ -64,6 +64,10 @@ surface_line (surfaces.Pinched vertex) = told (codes "vertex" ∷ decimal vertex
 surface_line (surfaces.Apart vertex other) = told (codes "vertices" ∷ decimal vertex.0 ∷ decimal other.0 ∷ codes "apart" ∷ [])
 surface_line surfaces.OutOfMemory = NoText
 
+-- a surface of more components than a command takes, with their number
+abbrev pub components_line : ℕ → Texts
+components_line count = told (codes "surface components" ∷ decimal count ∷ [])
+
 -- the fault of a text of which each line is a list of numbers
 abbrev pub numbers_line : Input → WalkFault → Texts
 numbers_line input (walks.BadNumber number) = told_at (input_name input) number (codes "number")

@@ -1,27 +1,30 @@
 -- The command `surface`: what it answers of a mesh.
-use Rattle.std.specs.Prelude.{◌≡◌, ℕ, ◌*◌, ◌↔◌, List, [], ◌∷◌, length, codes, decimal, Option, pos, ◌+ℤ◌, ◌-ℤ◌}
+use Rattle.std.specs.Prelude.{◌≡◌, ℕ, ◌+◌, ◌*◌, ◌<◌, ◌≤◌, ◌↔◌, List, [], ◌∷◌, length, map, slice_index, codes, decimal, Option, pos, ◌+ℤ◌, ◌-ℤ◌}
 use Rattle.std.specs.Fmt.{signed_decimal}
 use Rattle.surf_io.specs.Files.{Files}
 use Rattle.surf_model.specs.FaceLists.{FaceList, is_used}
 use Rattle.surf_model.specs.Edges.{Edge, IsTableOf}
-use Rattle.surf_model.specs.Surfaces.{IsClosed, IsOrientable, IsSurface}
+use Rattle.surf_model.specs.Surfaces.{IsClosedManifold, IsOrientable}
 use Rattle.surf_model.specs.declared.chains.ChainLink.{ChainLink}
-use Rattle.manifold_check.specs.Faults.{IsFirstFault}
+use Rattle.manifold_check.specs.ComponentParts.{PartsView, AreParts, component_mesh}
+use Rattle.manifold_check.specs.Faults.{IsManifoldFault}
 use Rattle.manifold_check.specs.declared.fault.SurfaceFault.{SurfaceFault}
+use Rattle.manifold_check.specs.declared.measuring.PartNumbers.{PartNumbers}
 use Rattle.orientation.specs.Chains.{IsOddChain}
 use Rattle.halfedge_map.specs.Numbers.{count_below}
 use Rattle.commands.specs.Answers.{Answer, IsText, yes_with}
 use Rattle.commands.specs.Checks.{Check, End, Refuse, Pass, Holds, without_files, pass, ◌>>=◌}
+use Rattle.commands.specs.ClosedSurfaces.{IsOrientableSurface, HasComponents}
 use Rattle.commands.specs.Inputs.{SpellsMesh}
 use Rattle.commands.specs.Lines.{line, in_lines, odd_chain_line}
-use Rattle.commands.specs.Refusals.{surface_line}
-use Rattle.commands.specs.SurfaceInput.{surface_in}
+use Rattle.commands.specs.Refusals.{surface_line, components_line}
+use Rattle.commands.specs.SurfaceInput.{surface_in, of_few_components}
 use Rattle.commands.specs.declared.surface.SurfaceNumbers.{SurfaceNumbers}
+use Rattle.commands.specs.declared.surface.TheConstants.{MOST_COMPONENTS}
 use Rattle.commands.specs.declared.status.Status.{Status}
 use Rattle.commands.specs.declared.status.Status.TheVariants.{Yes, Refused}
 
--- The numbers of a surface: how many vertices are used, how many edges and faces there are, the Euler characteristic
--- V - E + F, and the genus g, for which 2 - 2 g is the Euler characteristic.
+-- The numbers of a mesh: how many vertices are used, how many edges and faces there are, and the Euler characteristic V - E + F.
 pub record AreNumbersOf (mesh : FaceList) (numbers : SurfaceNumbers) : Type 0 where
   pub vertices : numbers.vertices ≡ count_below (is_used mesh) mesh.count
   pub table : List Edge
@@ -29,14 +32,30 @@ pub record AreNumbersOf (mesh : FaceList) (numbers : SurfaceNumbers) : Type 0 wh
   pub edges : numbers.edges ≡ length table
   pub faces : numbers.faces ≡ length mesh.faces
   pub euler : numbers.euler ≡ (pos numbers.vertices -ℤ pos numbers.edges) +ℤ pos numbers.faces
-  pub genus : pos 2 -ℤ pos (2 * numbers.genus) ≡ numbers.euler
 
--- the numbers, a line each
-abbrev pub numbers_text : SurfaceNumbers → List ℕ
-numbers_text numbers =
+-- the mesh has the genus g for which 2 - 2 g is its Euler characteristic
+abbrev pub HasGenus : FaceList → ℕ → Type 0
+HasGenus mesh genus = (numbers : SurfaceNumbers) × AreNumbersOf mesh numbers × (pos 2 -ℤ pos (2 * genus) ≡ numbers.euler)
+
+-- the counts are those of a connected surface of this genus: V + F + 2 g is E + 2
+abbrev pub IsGenusOf : PartNumbers → ℕ → Type 0
+IsGenusOf numbers genus = numbers.vertices + numbers.faces + 2 * genus ≡ numbers.edges + 2
+
+-- the genus of each component, in the order of the components
+pub record AreGeneraOf (mesh : FaceList) (genera : List ℕ) : Type 0 where
+  pub parts : PartsView
+  pub are_parts : AreParts mesh parts
+  pub each : length genera ≡ length parts.components
+  pub genus : (k : ℕ) → k < length genera → HasGenus (component_mesh mesh parts k) (slice_index genera k)
+
+-- the numbers, a line each, and the line of each genus
+abbrev pub genus_line : ℕ → List ℕ
+genus_line genus = line (codes "genus") (decimal genus ∷ [])
+
+abbrev pub numbers_text : SurfaceNumbers → (genera : List ℕ) → List ℕ
+numbers_text numbers genera =
     in_lines (line (codes "V") (decimal numbers.vertices ∷ []) ∷ line (codes "E") (decimal numbers.edges ∷ [])
-    ∷ line (codes "F") (decimal numbers.faces ∷ []) ∷ line (codes "chi") (signed_decimal numbers.euler ∷ [])
-    ∷ line (codes "genus") (decimal numbers.genus ∷ []) ∷ [])
+    ∷ line (codes "F") (decimal numbers.faces ∷ []) ∷ line (codes "chi") (signed_decimal numbers.euler ∷ []) ∷ map genus_line genera)
 
 -- the words are those of `surface`, and the file that they name is told and stands for a mesh
 pub record IsSurfaceInput (held : Option Files) (words : List (List ℕ)) (mesh : FaceList) : Type 0 where
@@ -44,19 +63,26 @@ pub record IsSurfaceInput (held : Option Files) (words : List (List ℕ)) (mesh 
   pub words_are : words ≡ codes "surface" ∷ mesh_name ∷ []
   pub mesh_file : Holds held mesh_name (SpellsMesh mesh)
 
--- What `surface` answers of such an input. With status 0 exactly where the mesh is a connected orientable closed surface, and
--- then its numbers. Else with status 2: the first of the conditions of a closed surface that fails, with its least
--- element; or, where they all hold, an odd chain.
-pub record IsMeasured (held : Option Files) (words : List (List ℕ)) (status : Status) (text : List ℕ) : Type 0 where
-  pub surface : (mesh : FaceList) → IsSurfaceInput held words mesh → (status ≡ Yes) ↔ IsSurface mesh
-  pub numbers : (mesh : FaceList) → IsSurfaceInput held words mesh → IsSurface mesh
-      → (numbers : SurfaceNumbers) × AreNumbersOf mesh numbers × (text ≡ numbers_text numbers)
-  pub not_closed : (mesh : FaceList) (fault : SurfaceFault) → IsSurfaceInput held words mesh → IsFirstFault mesh fault
-      → (status ≡ Refused) × IsText (surface_line fault) text
-  pub not_orientable : (mesh : FaceList) → IsSurfaceInput held words mesh → IsClosed mesh → (IsOrientable mesh → ⊥)
-      → (status ≡ Refused) × (chain : List ChainLink) × IsOddChain mesh chain × (text ≡ odd_chain_line chain)
+-- the mesh has no more components than `surface` takes
+abbrev pub HasFewComponents : FaceList → Type 0
+HasFewComponents mesh = (count : ℕ) × HasComponents mesh count × (count ≤ MOST_COMPONENTS)
 
--- the numbers of the surface pass
+-- What `surface` answers of such an input. With status 0 exactly where the mesh is an orientable closed surface of few components, and
+-- then its numbers, and the genus of each component. Else with status 2: the first of the conditions of a closed surface that fails, with
+-- its least element; or, where they all hold, an odd chain; or, where the faces are orientable too, the number of components.
+pub record IsMeasured (held : Option Files) (words : List (List ℕ)) (status : Status) (text : List ℕ) : Type 0 where
+  pub surface : (mesh : FaceList) → IsSurfaceInput held words mesh → (status ≡ Yes) ↔ (IsOrientableSurface mesh × HasFewComponents mesh)
+  pub numbers : (mesh : FaceList) → IsSurfaceInput held words mesh → IsOrientableSurface mesh → HasFewComponents mesh
+      → (numbers : SurfaceNumbers) × AreNumbersOf mesh numbers × (genera : List ℕ) × AreGeneraOf mesh genera
+      × (text ≡ numbers_text numbers genera)
+  pub not_closed : (mesh : FaceList) (fault : SurfaceFault) → IsSurfaceInput held words mesh → IsManifoldFault mesh fault
+      → (status ≡ Refused) × IsText (surface_line fault) text
+  pub not_orientable : (mesh : FaceList) → IsSurfaceInput held words mesh → IsClosedManifold mesh → (IsOrientable mesh → ⊥)
+      → (status ≡ Refused) × (chain : List ChainLink) × IsOddChain mesh chain × (text ≡ odd_chain_line chain)
+  pub many_components : (mesh : FaceList) (count : ℕ) → IsSurfaceInput held words mesh → IsOrientableSurface mesh
+      → HasComponents mesh count → MOST_COMPONENTS < count → (status ≡ Refused) × IsText (components_line count) text
+
+-- the numbers of the mesh pass
 abbrev pub numbers_of : FaceList → Check SurfaceNumbers
 numbers_of mesh = without_files ends
   where
@@ -64,9 +90,19 @@ numbers_of mesh = without_files ends
     ends (Refuse texts) = ⊥
     ends (Pass numbers) = AreNumbersOf mesh numbers
 
+-- the genera of its components pass
+abbrev pub genera_of : FaceList → Check (List ℕ)
+genera_of mesh = without_files ends
+  where
+    ends : End (List ℕ) → Type 0
+    ends (Refuse texts) = ⊥
+    ends (Pass genera) = AreGeneraOf mesh genera
+
 -- what is looked at, in order, and then the numbers
 abbrev pub surface : Option Files → List ℕ → Check Answer
 surface held name = do
   mesh ← surface_in held name
-  numbers ← numbers_of mesh
-  pass (yes_with (numbers_text numbers))
+  few ← of_few_components MOST_COMPONENTS mesh
+  numbers ← numbers_of few
+  genera ← genera_of few
+  pass (yes_with (numbers_text numbers genera))

@@ -1,5 +1,5 @@
 -- The command `trial`: what `surface` and `decide` say of a chain of tori, and of its three pairs of walks.
-use Rattle.std.specs.Prelude.{◌≡◌, ℕ, ◌↔◌, Bool, not, ◌&&◌, nat_le, if◌then◌else◌, List, [], ◌∷◌, codes, decimal, Option, Some, None}
+use Rattle.std.specs.Prelude.{◌≡◌, ℕ, ◌↔◌, Bool, not, ◌&&◌, nat_le, if◌then◌else◌, List, [], ◌∷◌, ◌++◌, map, codes, decimal, Option, Some, None}
 use Rattle.surf_model.specs.FaceLists.{FaceList}
 use Rattle.surf_model.specs.Moves as moves
 use Rattle.surf_model.specs.Surfaces.{IsSurface}
@@ -20,8 +20,8 @@ use Rattle.commands.specs.Checks.{Check, End, Refuse, Pass, meant, pass, pass_un
 use Rattle.commands.specs.Inputs.{walk_at}
 use Rattle.commands.specs.Lines.{line, in_lines, refused}
 use Rattle.commands.specs.Refusals.{off_line, pair_line, told}
-use Rattle.commands.specs.Surface.{AreNumbersOf, numbers_of}
-use Rattle.commands.specs.SurfaceInput.{as_surface}
+use Rattle.commands.specs.Surface.{AreNumbersOf, AreGeneraOf, genus_line, numbers_of, genera_of}
+use Rattle.commands.specs.SurfaceInput.{as_surface, of_few_components}
 use Rattle.commands.specs.Words.{IsNatural}
 use Rattle.commands.specs.declared.status.Status.{Status}
 use Rattle.commands.specs.declared.status.Status.TheVariants.{Yes, Refused}
@@ -44,7 +44,7 @@ size_fault genus grid =
     else if not (is_within LEAST_GRID MOST_GRID grid) then Some (codes "trial grid" ∷ decimal grid ∷ [])
     else None
 
--- the connected orientable closed surface that a text spells
+-- the orientable closed surface that a text spells
 abbrev pub surface_spelled : List ℕ → Check FaceList
 surface_spelled text = do
   mesh ← meant off_line (meaning_of text)
@@ -76,13 +76,21 @@ pairs_decided mesh grid = do
   loops ← pair_decided mesh grid Loops
   pass (record { commuting = commuting; cell = cell; loops = loops })
 
--- the eight lines
-abbrev pub trial_text : (genus grid : ℕ) → SurfaceNumbers → Decisions → List ℕ
-trial_text genus grid numbers decisions =
-    in_lines (line (codes "trial") (decimal genus ∷ decimal grid ∷ []) ∷ line (codes "V") (decimal numbers.vertices ∷ [])
-    ∷ line (codes "E") (decimal numbers.edges ∷ []) ∷ line (codes "F") (decimal numbers.faces ∷ [])
-    ∷ line (codes "genus") (decimal numbers.genus ∷ []) ∷ line (codes "commuting") (decision_word decisions.commuting ∷ [])
-    ∷ line (codes "cell") (decision_word decisions.cell ∷ []) ∷ line (codes "loops") (decision_word decisions.loops ∷ []) ∷ [])
+-- the lines before the genus, and those behind it
+abbrev pub first_lines : (genus grid : ℕ) → SurfaceNumbers → List (List ℕ)
+first_lines genus grid numbers =
+    line (codes "trial") (decimal genus ∷ decimal grid ∷ []) ∷ line (codes "V") (decimal numbers.vertices ∷ [])
+    ∷ line (codes "E") (decimal numbers.edges ∷ []) ∷ line (codes "F") (decimal numbers.faces ∷ []) ∷ []
+
+abbrev pub last_lines : Decisions → List (List ℕ)
+last_lines decisions =
+    line (codes "commuting") (decision_word decisions.commuting ∷ []) ∷ line (codes "cell") (decision_word decisions.cell ∷ [])
+    ∷ line (codes "loops") (decision_word decisions.loops ∷ []) ∷ []
+
+-- all lines: eight, since a connected surface has one genus
+abbrev pub trial_text : (genus grid : ℕ) → SurfaceNumbers → (genera : List ℕ) → Decisions → List ℕ
+trial_text genus grid numbers genera decisions =
+    in_lines ((first_lines genus grid numbers ++ map genus_line genera) ++ last_lines decisions)
 
 -- the decision on a pair of walks on a mesh is right
 abbrev pub IsRightOn : FaceList → ℕ → TrialPair → deciding.Answer → Type 0
@@ -102,13 +110,17 @@ pub record IsTried (words : List (List ℕ)) (status : Status) (text : List ℕ)
   pub within_bounds : (genus grid : ℕ) → IsTrialRow words genus grid → IsChain genus grid → IsSurface (chain_mesh genus grid)
       → ((which : TrialPair) → IsPair (chain_mesh genus grid) (pair_walks grid which))
       → (status ≡ Yes) × (numbers : SurfaceNumbers) × AreNumbersOf (chain_mesh genus grid) numbers
-      × (decisions : Decisions) × AreDecisions (chain_mesh genus grid) grid decisions × (text ≡ trial_text genus grid numbers decisions)
+      × (genera : List ℕ) × AreGeneraOf (chain_mesh genus grid) genera
+      × (decisions : Decisions) × AreDecisions (chain_mesh genus grid) grid decisions
+      × (text ≡ trial_text genus grid numbers genera decisions)
 
--- what is looked at, in order, and then the eight lines
+-- what is looked at, in order, and then the eight lines; a chain in several pieces, of which there is none, would be refused as such
 abbrev pub trial : (genus grid : ℕ) → Check Answer
 trial genus grid = do
   allowed ← pass_unless told (size_fault genus grid) genus
   mesh ← surface_spelled (chain_text genus grid)
-  numbers ← numbers_of mesh
-  decisions ← pairs_decided mesh grid
-  pass (yes_with (trial_text genus grid numbers decisions))
+  connected ← of_few_components 1 mesh
+  numbers ← numbers_of connected
+  genera ← genera_of connected
+  decisions ← pairs_decided connected grid
+  pass (yes_with (trial_text genus grid numbers genera decisions))

@@ -4,30 +4,33 @@ ghost use Rattle.surf_model.specs.FaceLists.{FaceList};
 ghost use Rattle.surf_model.specs.Moves.{Homotopic};
 ghost use Rattle.surf_model.specs.Walks.{IsWalk, HaveCommonEnds};
 ghost use Rattle.polygon_cut.specs.Polygons.{IsPolygonOf};
-ghost use Rattle.labellings.specs.Denials.{DenialHolds};
 ghost use Rattle.commands.specs.Answers.{Exactly};
 ghost use Rattle.commands.specs.Certificates.{Convinces, decision_of};
 ghost use Rattle.commands.specs.Certify.{IsWithinLimits, certificate_answer, limit_fault};
 ghost use Rattle.commands.specs.Certify as of_certify;
+ghost use Rattle.commands.specs.ClosedSurfaces.{IsSigned};
+ghost use Rattle.commands.specs.Findings.{IsFinding};
 ghost use Rattle.commands.specs.Replies.{IsReplyTo, Runs};
 ghost use Rattle.commands.specs.Stops.{Tells};
 
 use crate::certificate::Certificate;
+use crate::component::Component;
+use crate::finding::Finding;
 use crate::inputs::read_pair;
 use crate::line::Phrase;
 use crate::refusal::refused;
 use crate::reply::Reply;
 use crate::stop::Stop;
-use crate::surface_input::read_surface;
+use crate::surface_input::{SignedMesh, read_surface};
 use crate::text::Text;
 use halfedge_map::Surface;
-use labellings::{Denial, GoodLabelling, word_of};
+use labellings::{GoodLabelling, word_of};
 use move_lifting::{MOST_LIFTED_DARTS, MOST_LIFTED_SIDES, lift};
 use polygon_cut::{Polygon, cut};
 use quad_system::FromPolygon;
 use std::alloc::{AllocError, Global};
 use surf_io::Shelf;
-use surf_model::Walk;
+use surf_model::{Faces, Walk};
 use tree_cotree::split_edges;
 
 /// A certificate for the two walks in the file `walks` on the surface in the file `mesh`: moves that lead from the first to
@@ -41,13 +44,11 @@ pub fn certify<S: Shelf>(
     ensures { Runs S.held S.faults shelf.old shelf.new (λ files. of_certify.certify files mesh.now walks.now) result }
 {
     let surface = read_surface(alloc, shelf, mesh)?;
-    // The proof reads what holds of every surface.
-    let _ = surface.faces();
-    let pair = read_pair(alloc, shelf, walks, surface.sides())?;
+    let pair = read_pair(alloc, shelf, walks, &surface.sides)?;
     let first = pair.at(0);
     let second = pair.at(1);
-    check_limits(&surface, first, second)?;
-    let shown = find_certificate(alloc, &surface, first, second)?;
+    check_limits(&surface.faces, first, second)?;
+    let shown = find_certificate(alloc, surface, first, second)?;
     Ok(reply_with(shown))
 }
 
@@ -63,11 +64,11 @@ fn reply_with(shown: Certificate) -> Reply
 }
 
 /// Checks that lists of moves may be made on the surface and between the walks.
-fn check_limits(surface: &Surface, first: &Walk, second: &Walk) -> Result<(), Stop>
-    ensures { MatchResult result (λ _. limit_fault surface.now.mesh first.now second.now ≡ None)
-        (λ stop. (line : List ℕ) × (limit_fault surface.now.mesh first.now second.now ≡ Some line) × Tells (Exactly line) stop) }
+fn check_limits(faces: &Faces, first: &Walk, second: &Walk) -> Result<(), Stop>
+    ensures { MatchResult result (λ _. limit_fault faces.now first.now second.now ≡ None)
+        (λ stop. (line : List ℕ) × (limit_fault faces.now first.now second.now ≡ Some line) × Tells (Exactly line) stop) }
 {
-    let sides = surface.darts();
+    let sides = faces.total();
     if sides > MOST_LIFTED_SIDES {
         return Err(refused(&[Phrase::Text("certify sides"), Phrase::Number(sides as u64)]));
     }
@@ -78,50 +79,68 @@ fn check_limits(surface: &Surface, first: &Walk, second: &Walk) -> Result<(), St
     Ok(())
 }
 
-/// A certificate for two walks of a surface with common ends: moves that lead from the first to the second, and where there are
-/// none what denies it.
+/// A certificate for two walks of a surface with common ends. It is found on the component in which they lie.
 fn find_certificate(
+    alloc: Global,
+    surface: SignedMesh,
+    first: &Walk,
+    second: &Walk,
+) -> Result<Certificate, AllocError>
+    requires signed { IsSigned surface }
+    requires first { IsWalk surface.faces first.now }
+    requires second { IsWalk surface.faces second.now }
+    requires ends { HaveCommonEnds first.now second.now }
+    requires limits { IsWithinLimits surface.faces first.now second.now }
+    ensures { IfOk result (Convinces surface.faces first.now second.now) }
+{
+    let component = Component::of(alloc, surface, first.at(0))?;
+    let finding = find(alloc, component.surface(), first, second)?;
+    finding.for_mesh(alloc, &component)
+}
+
+/// What tells of two walks of a connected surface with common ends whether they are homotopic.
+fn find(
     alloc: Global,
     surface: &Surface,
     first: &Walk,
     second: &Walk,
-) -> Result<Certificate, AllocError>
+) -> Result<Finding, AllocError>
     requires first { IsWalk surface.now.mesh first.now }
     requires second { IsWalk surface.now.mesh second.now }
     requires ends { HaveCommonEnds first.now second.now }
     requires limits { IsWithinLimits surface.now.mesh first.now second.now }
-    ensures { IfOk result (Convinces surface.now.mesh first.now second.now) }
+    ensures { IfOk result (IsFinding surface.now first.now second.now) }
 {
     let split = split_edges(alloc, surface)?;
     let polygon = cut(alloc, surface, &split)?;
     if let Some(list) = lift(alloc, surface, &split, &polygon, first, second)? {
-        return Ok(Certificate::Moves(list));
+        return Ok(Finding::Moves(list));
     }
-    Ok(Certificate::Denial(deny(alloc, surface, polygon, first, second)?))
+    find_words(alloc, surface, polygon, first, second)
 }
 
-/// What denies that moves lead from one walk of a surface to another, where none do.
-fn deny(
+/// The words of two walks of a surface, where no moves lead from the one to the other.
+fn find_words(
     alloc: Global,
     surface: &Surface,
     polygon: Polygon,
     first: &Walk,
     second: &Walk,
-) -> Result<Denial, AllocError>
+) -> Result<Finding, AllocError>
     requires cut { IsPolygonOf surface.now polygon }
     requires first { IsWalk surface.now.mesh first.now }
     requires second { IsWalk surface.now.mesh second.now }
     requires ends { HaveCommonEnds first.now second.now }
     requires apart { Homotopic surface.now.mesh first.now second.now → ⊥ }
-    ensures { IfOk result (DenialHolds surface.now.mesh first.now second.now) }
+    ensures { IfOk result (IsFinding surface.now first.now second.now) }
 {
     let faces = surface.faces();
     let sides = surface.sides();
     let good = GoodLabelling::from_spent_polygon(alloc, surface, polygon)?;
     let first_word = word_of(alloc, faces, sides, &good, first)?;
     let second_word = word_of(alloc, faces, sides, &good, second)?;
-    Ok(Denial {
-        labelling: good.into_labelling(),
+    Ok(Finding::Words {
+        good,
         first: first_word,
         second: second_word,
     })

@@ -15,7 +15,9 @@
 
 mod certificate;
 pub mod certify;
+pub mod component;
 pub mod decide;
+mod finding;
 mod inputs;
 mod line;
 mod odd_chain_line;

@@ -1,24 +1,26 @@
 //! The command `trial`: what `surface` and `decide` say of a chain of tori, and of its three pairs of walks.
-ghost use Rattle.std.specs.Prelude.{◌≡◌, [], ◌∷◌, MatchResult, IfOk, Err};
+ghost use Rattle.std.specs.Prelude.{◌≡◌, [], ◌∷◌, ◌++◌, MatchResult, IfOk, OnOk, Err};
 ghost use Rattle.surf_gen.specs.ChainTexts.{chain_text};
 ghost use Rattle.surf_gen.specs.Sizes.{IsChain};
 ghost use Rattle.commands.specs.Certificates.{decision_word};
 ghost use Rattle.commands.specs.Checks.{Passes, pass_unless};
-ghost use Rattle.commands.specs.Lines.{in_lines, line};
+ghost use Rattle.commands.specs.ClosedSurfaces.{IsSigned};
+ghost use Rattle.commands.specs.Lines.{line};
 ghost use Rattle.commands.specs.Refusals.{told};
 ghost use Rattle.commands.specs.Replies.{Replies};
 ghost use Rattle.commands.specs.Stops.{Ends, Stops};
 ghost use Rattle.commands.specs.Trial as of_trial;
-ghost use Rattle.commands.specs.Trial.{is_within, size_fault, surface_spelled, pair_decided, pairs_decided, trial_text};
+ghost use Rattle.commands.specs.Trial.{is_within, size_fault, surface_spelled, pair_decided, pairs_decided, first_lines, last_lines};
 ghost use Rattle.commands.specs.declared.stop.Stop.{Stop};
 
+use crate::component::connected;
 use crate::decide::word_of;
 use crate::line::{Line, Phrase};
 use crate::refusal::refused;
 use crate::reply::Reply;
 use crate::stop::Stop;
-use crate::surface::{SurfaceNumbers, line_of_count, numbers_of};
-use crate::surface_input::surface_of;
+use crate::surface::{SurfaceNumbers, genera_of, line_of_count, numbers_of, put_genera};
+use crate::surface_input::{SignedMesh, few_components, signed_mesh};
 use crate::text::Text;
 use halfedge_map::Surface;
 use off_reader::read_off;
@@ -42,10 +44,15 @@ pub fn trial(alloc: Global, genus: u32, grid: u32) -> Result<Reply, Stop>
     ensures no_fault { result ≡ Err Stop.ReadFault → ⊥ }
 {
     check_sizes(genus, grid)?;
-    let surface = chain_surface(alloc, genus, grid)?;
-    let numbers = numbers_of(alloc, &surface)?;
+    let chain = chain_surface(alloc, genus, grid)?;
+    let parts = few_components(alloc, &chain, 1)?;
+    let numbers = numbers_of(&chain.faces, &chain.sides);
+    let genera = genera_of(alloc, &chain, &parts)?;
+    let surface = connected(alloc, chain)?;
     let decisions = decide_pairs(alloc, &surface, genus, grid)?;
-    let lines = lines_of(alloc, genus, grid, &numbers, decisions)?;
+    let mut lines = first_lines(alloc, genus, grid, numbers)?;
+    put_genera(&mut lines, &genera)?;
+    put_decisions(&mut lines, decisions)?;
     Ok(Reply::Yes(Text::Lines(lines)))
 }
 
@@ -73,15 +80,16 @@ fn is_within(least: u32, most: u32, n: u32) -> bool
 }
 
 /// The chain as a surface, read from its text.
-fn chain_surface(alloc: Global, genus: u32, grid: u32) -> Result<Surface, Stop>
+fn chain_surface(alloc: Global, genus: u32, grid: u32) -> Result<SignedMesh, Stop>
     requires { IsChain genus grid }
-    ensures end { MatchResult result (λ surface. Passes (surface_spelled (chain_text genus grid)) surface.mesh)
+    ensures end { MatchResult result (λ surface. Passes (surface_spelled (chain_text genus grid)) surface.faces)
         (Stops (surface_spelled (chain_text genus grid))) }
+    ensures signed { IfOk result IsSigned }
     ensures no_fault { result ≡ Err Stop.ReadFault → ⊥ }
 {
     let text = chain_of_tori(alloc, genus, grid)?;
     let faces = read_off(alloc, &text)?;
-    surface_of(alloc, faces)
+    signed_mesh(alloc, faces)
 }
 
 /// The decisions on the three pairs.
@@ -120,15 +128,14 @@ fn decide_pair(
     Ok(walk_translate::decide(alloc, surface, pair.at(0), pair.at(1))?)
 }
 
-/// The eight lines.
-fn lines_of(
+/// The lines before the genus.
+fn first_lines(
     alloc: Global,
     genus: u32,
     grid: u32,
-    numbers: &SurfaceNumbers,
-    decisions: Decisions,
+    numbers: SurfaceNumbers,
 ) -> Result<Vec<Line>, AllocError>
-    ensures { IfOk result (λ lines. in_lines lines.items ≡ trial_text genus grid numbers.now decisions) }
+    ensures { IfOk result (λ lines. lines.items ≡ first_lines genus grid numbers) }
 {
     let sizes = [Phrase::Number(genus as u64), Phrase::Number(grid as u64)];
     Ok(vec![in alloc;
@@ -136,11 +143,17 @@ fn lines_of(
         line_of_count("V", numbers.vertices),
         line_of_count("E", numbers.edges),
         line_of_count("F", numbers.faces),
-        line_of_count("genus", numbers.genus),
-        line_of_decision("commuting", decisions.commuting),
-        line_of_decision("cell", decisions.cell),
-        line_of_decision("loops", decisions.loops),
     ]?)
+}
+
+/// Puts the lines of the decisions behind others.
+fn put_decisions(lines: &mut Vec<Line>, decisions: Decisions) -> Result<(), AllocError>
+    ensures { OnOk result (lines.new.items ≡ lines.old.items ++ last_lines decisions) }
+{
+    lines.push(line_of_decision("commuting", decisions.commuting))?;
+    lines.push(line_of_decision("cell", decisions.cell))?;
+    lines.push(line_of_decision("loops", decisions.loops))?;
+    Ok(())
 }
 
 /// The line of the decision on a pair.

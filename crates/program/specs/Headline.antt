@@ -1,8 +1,8 @@
 -- THE HEADLINE, in the words of meshes, walks and moves.
 --
--- For every file that stands for a connected orientable closed surface and any two walks with common ends, `decide` answers `homotopic`
--- exactly when some list of spur insertions, spur removals and replacements across one face leads from the first to the second, and
--- `certify` prints such a list, or otherwise a good labelling under which the walks have the unequal canonical words printed.
+-- For every file that stands for an orientable closed surface and any two walks with common ends, `decide` answers `homotopic` exactly
+-- when some list of spur insertions, spur removals and replacements across one face leads from the first to the second, and `certify`
+-- prints such a list, or otherwise a good labelling under which the walks have the unequal canonical words printed.
 --
 -- Its premises. The files that the words name are told by the shelf, are not too large, and stand for such a surface and such walks
 -- (`IsDecideInput`, `IsCertifyInput`); for `certify` the surface and the walks are within its limits. The status is that of an answer,

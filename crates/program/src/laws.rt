@@ -21,8 +21,7 @@ ghost use Rattle.commands.specs.Verify.{IsVerified, IsDenialVerified};
 ghost use Rattle.commands.specs.declared.inputs.TheConstants.{MOST_BYTES};
 ghost use Rattle.commands.specs.declared.status.Status.{Status};
 
-/// The headline: on a connected orientable closed surface `decide` tells whether two walks are homotopic, and `certify` prints what
-/// shows it.
+/// The headline: on an orientable closed surface `decide` tells whether two walks are homotopic, and `certify` prints what shows it.
 pub fn headline()
     ensures { (held : Option Files) (words : List (List ℕ)) (status : Status) (text : List ℕ)
         → Answers held words status text → Headline held words status text }

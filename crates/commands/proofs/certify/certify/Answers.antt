@@ -23,27 +23,27 @@ returns-in_err-pair g c =
     let surface = c.in_ok-surface.surface in
     let stop = c.in_err-pair.field-0.0 in
     let p = err_from_is_err_and c.from_residual-in_err-pair.result c.from_residual-in_err-pair.ensures.1 in
-    let table : IsTableOf surface.mesh c.sides.result.now = rw c.sides.ensures c.faces.ensures.valid.table in
-    let stops = c.in_err-pair.ensures.reads.end surface.mesh table in
+    let table : IsTableOf surface.faces surface.sides = c.in_ok-surface.ensures.signed.table in
+    let stops = c.in_err-pair.ensures.reads.end surface.faces table in
     rw (p.1, p.2)
     (runs_stopped g.S.Shelf.held g.S.Shelf.faults c.args.shelf.now c.read_pair.new.shelf
     (λ files. of_certify.certify files c.args.mesh.now c.args.walks.now) (λ none. none.0.0.0) c.read_surface.new.shelf _ stop
     c.in_ok-surface.ensures.reads.only_reads c.in_err-pair.ensures.reads
-    (walks_stop (g.S.Shelf.held c.args.shelf.now) c.args.mesh.now c.args.walks.now surface.mesh stop c.in_ok-surface.ensures.reads.end
-    (subst (λ (files : Option Files). Stops (pair_in files c.args.walks.now surface.mesh) stop)
+    (walks_stop (g.S.Shelf.held c.args.shelf.now) c.args.mesh.now c.args.walks.now surface.faces stop c.in_ok-surface.ensures.reads.end
+    (subst (λ (files : Option Files). Stops (pair_in files c.args.walks.now surface.faces) stop)
     c.in_ok-surface.ensures.reads.only_reads.same_files stops)))
 
 pub at-first-requires : goal.at-first-requires
 at-first-requires g c =
     let surface = c.in_ok-surface.surface in
-    let table : IsTableOf surface.mesh c.sides.result.now = rw c.sides.ensures c.faces.ensures.valid.table in
-    omega (arith, two_walks _ _ surface.mesh c.in_ok-pair.pair (c.in_ok-pair.ensures.reads.end surface.mesh table))
+    let table : IsTableOf surface.faces surface.sides = c.in_ok-surface.ensures.signed.table in
+    omega (arith, two_walks _ _ surface.faces c.in_ok-pair.pair (c.in_ok-pair.ensures.reads.end surface.faces table))
 
 pub at-second-requires : goal.at-second-requires
 at-second-requires g c =
     let surface = c.in_ok-surface.surface in
-    let table : IsTableOf surface.mesh c.sides.result.now = rw c.sides.ensures c.faces.ensures.valid.table in
-    omega (arith, two_walks _ _ surface.mesh c.in_ok-pair.pair (c.in_ok-pair.ensures.reads.end surface.mesh table))
+    let table : IsTableOf surface.faces surface.sides = c.in_ok-surface.ensures.signed.table in
+    omega (arith, two_walks _ _ surface.faces c.in_ok-pair.pair (c.in_ok-pair.ensures.reads.end surface.faces table))
 
 pub returns-in_err-check_limits : goal.returns-in_err-check_limits
 returns-in_err-check_limits g c =
@@ -51,31 +51,31 @@ returns-in_err-check_limits g c =
     let pair = c.in_ok-pair.pair in
     let stop = c.in_err-check_limits.field-0.0 in
     let limit = c.in_err-check_limits.ensures in
-    let table : IsTableOf surface.mesh c.sides.result.now = rw c.sides.ensures c.faces.ensures.valid.table in
-    let passed : Passes (pair_in (g.S.Shelf.held c.args.shelf.now) c.args.walks.now surface.mesh) pair =
-    subst (λ (files : Option Files). Passes (pair_in files c.args.walks.now surface.mesh) pair)
+    let table : IsTableOf surface.faces surface.sides = c.in_ok-surface.ensures.signed.table in
+    let passed : Passes (pair_in (g.S.Shelf.held c.args.shelf.now) c.args.walks.now surface.faces) pair =
+    subst (λ (files : Option Files). Passes (pair_in files c.args.walks.now surface.faces) pair)
     c.in_ok-surface.ensures.reads.only_reads.same_files
-    (c.in_ok-pair.ensures.reads.end surface.mesh table) in
+    (c.in_ok-pair.ensures.reads.end surface.faces table) in
     let p = err_from_is_err_and c.from_residual-in_err-check_limits.result c.from_residual-in_err-check_limits.ensures.1 in
     let first : walk_at pair 0 ≡ c.at-first.result.now = get_or_from_slice_get pair 0 c.at-first.result.now _ c.at-first.ensures in
     let second : walk_at pair 1 ≡ c.at-second.result.now = get_or_from_slice_get pair 1 c.at-second.result.now _ c.at-second.ensures in
-    let fault : limit_fault surface.mesh (walk_at pair 0) (walk_at pair 1) ≡ Some limit.0 =
-    ap (λ (w : List ℕ). limit_fault surface.mesh w (walk_at pair 1)) first
-    ∙ ap (λ (w : List ℕ). limit_fault surface.mesh c.at-first.result.now w) second ∙ limit.1 in
+    let fault : limit_fault surface.faces (walk_at pair 0) (walk_at pair 1) ≡ Some limit.0 =
+    ap (λ (w : List ℕ). limit_fault surface.faces w (walk_at pair 1)) first
+    ∙ ap (λ (w : List ℕ). limit_fault surface.faces c.at-first.result.now w) second ∙ limit.1 in
     rw (p.1, p.2)
     (runs_faulty g.S.Shelf.held g.S.Shelf.faults c.args.shelf.now c.read_pair.new.shelf
     (λ files. of_certify.certify files c.args.mesh.now c.args.walks.now) (λ none. none.0.0.0) stop
     (only_then g.S.Shelf.held g.S.Shelf.faults c.args.shelf.now c.read_surface.new.shelf c.read_pair.new.shelf
     c.in_ok-surface.ensures.reads.only_reads c.in_ok-pair.ensures.reads.only_reads) (tells_no_fault (Exactly limit.0) stop limit.2)
-    (limits_stop (g.S.Shelf.held c.args.shelf.now) c.args.mesh.now c.args.walks.now surface.mesh pair limit.0 stop
+    (limits_stop (g.S.Shelf.held c.args.shelf.now) c.args.mesh.now c.args.walks.now surface.faces pair limit.0 stop
     c.in_ok-surface.ensures.reads.end passed fault limit.2))
 
 pub find_certificate-requires-clause-first : goal.find_certificate-requires-clause-first
 find_certificate-requires-clause-first g c =
     let surface = c.in_ok-surface.surface in
     let pair = c.in_ok-pair.pair in
-    let table : IsTableOf surface.mesh c.sides.result.now = rw c.sides.ensures c.faces.ensures.valid.table in
-    (walks_of_pair surface.mesh pair c.at-first.result.now c.at-second.result.now (c.in_ok-pair.ensures.pair surface.mesh table)
+    let table : IsTableOf surface.faces surface.sides = c.in_ok-surface.ensures.signed.table in
+    (walks_of_pair surface.faces pair c.at-first.result.now c.at-second.result.now (c.in_ok-pair.ensures.pair surface.faces table)
     c.at-first.ensures
     c.at-second.ensures).first_walk
 
@@ -83,8 +83,8 @@ pub find_certificate-requires-clause-second : goal.find_certificate-requires-cla
 find_certificate-requires-clause-second g c =
     let surface = c.in_ok-surface.surface in
     let pair = c.in_ok-pair.pair in
-    let table : IsTableOf surface.mesh c.sides.result.now = rw c.sides.ensures c.faces.ensures.valid.table in
-    (walks_of_pair surface.mesh pair c.at-first.result.now c.at-second.result.now (c.in_ok-pair.ensures.pair surface.mesh table)
+    let table : IsTableOf surface.faces surface.sides = c.in_ok-surface.ensures.signed.table in
+    (walks_of_pair surface.faces pair c.at-first.result.now c.at-second.result.now (c.in_ok-pair.ensures.pair surface.faces table)
     c.at-first.ensures
     c.at-second.ensures).second_walk
 
@@ -92,26 +92,26 @@ pub find_certificate-requires-clause-ends : goal.find_certificate-requires-claus
 find_certificate-requires-clause-ends g c =
     let surface = c.in_ok-surface.surface in
     let pair = c.in_ok-pair.pair in
-    let table : IsTableOf surface.mesh c.sides.result.now = rw c.sides.ensures c.faces.ensures.valid.table in
-    (walks_of_pair surface.mesh pair c.at-first.result.now c.at-second.result.now (c.in_ok-pair.ensures.pair surface.mesh table)
+    let table : IsTableOf surface.faces surface.sides = c.in_ok-surface.ensures.signed.table in
+    (walks_of_pair surface.faces pair c.at-first.result.now c.at-second.result.now (c.in_ok-pair.ensures.pair surface.faces table)
     c.at-first.ensures
     c.at-second.ensures).ends
 
 pub find_certificate-requires-clause-limits : goal.find_certificate-requires-clause-limits
 find_certificate-requires-clause-limits g c =
-    allowed c.in_ok-surface.surface.mesh c.at-first.result.now c.at-second.result.now c.in_ok-check_limits.ensures
+    allowed c.in_ok-surface.surface.faces c.at-first.result.now c.at-second.result.now c.in_ok-check_limits.ensures
 
 pub returns : goal.returns
 returns g c =
     let surface = c.in_ok-surface.surface in
     let pair = c.in_ok-pair.pair in
-    let table : IsTableOf surface.mesh c.sides.result.now = rw c.sides.ensures c.faces.ensures.valid.table in
-    let passed : Passes (pair_in (g.S.Shelf.held c.args.shelf.now) c.args.walks.now surface.mesh) pair =
-    subst (λ (files : Option Files). Passes (pair_in files c.args.walks.now surface.mesh) pair)
+    let table : IsTableOf surface.faces surface.sides = c.in_ok-surface.ensures.signed.table in
+    let passed : Passes (pair_in (g.S.Shelf.held c.args.shelf.now) c.args.walks.now surface.faces) pair =
+    subst (λ (files : Option Files). Passes (pair_in files c.args.walks.now surface.faces) pair)
     c.in_ok-surface.ensures.reads.only_reads.same_files
-    (c.in_ok-pair.ensures.reads.end surface.mesh table) in
+    (c.in_ok-pair.ensures.reads.end surface.faces table) in
     let known =
-    walks_of_pair surface.mesh pair c.at-first.result.now c.at-second.result.now (c.in_ok-pair.ensures.pair surface.mesh table)
+    walks_of_pair surface.faces pair c.at-first.result.now c.at-second.result.now (c.in_ok-pair.ensures.pair surface.faces table)
     c.at-first.ensures
     c.at-second.ensures in
     let first : walk_at pair 0 ≡ c.at-first.result.now = get_or_from_slice_get pair 0 c.at-first.result.now _ c.at-first.ensures in
@@ -122,12 +122,12 @@ returns g c =
     (only_then g.S.Shelf.held g.S.Shelf.faults c.args.shelf.now c.read_surface.new.shelf c.read_pair.new.shelf
     c.in_ok-surface.ensures.reads.only_reads c.in_ok-pair.ensures.reads.only_reads)
     (record {
-      answer = certificate_answer surface.mesh c.at-first.result.now c.at-second.result.now (decision_of shown);
+      answer = certificate_answer surface.faces c.at-first.result.now c.at-second.result.now (decision_of shown);
       passes =
-          certificate_found (g.S.Shelf.held c.args.shelf.now) c.args.mesh.now c.args.walks.now surface.mesh pair c.at-first.result.now
-          c.at-second.result.now shown c.faces.ensures.valid.faces known.first_walk c.in_ok-surface.ensures.reads.end passed first second
+          certificate_found (g.S.Shelf.held c.args.shelf.now) c.args.mesh.now c.args.walks.now surface.faces pair c.at-first.result.now
+          c.at-second.result.now shown c.in_ok-surface.ensures.signed.valid known.first_walk c.in_ok-surface.ensures.reads.end passed first second
           c.in_ok-check_limits.ensures c.in_ok-shown.ensures;
-      is_answer = c.reply_with.ensures surface.mesh c.at-first.result.now c.at-second.result.now c.in_ok-shown.ensures;
+      is_answer = c.reply_with.ensures surface.faces c.at-first.result.now c.at-second.result.now c.in_ok-shown.ensures;
     })
 
 pub returns-in_err-shown : goal.returns-in_err-shown

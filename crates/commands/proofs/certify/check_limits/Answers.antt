@@ -4,12 +4,12 @@ use Rattle.commands.proofs.certify.check_limits.Goals as goal
 
 pub returns-then-sides-gt-MOST_LIFTED_SIDES : goal.returns-then-sides-gt-MOST_LIFTED_SIDES
 returns-then-sides-gt-MOST_LIFTED_SIDES c =
-    sides_over c.args.surface.now.mesh c.args.first.now c.args.second.now c.darts-sides.result c.refused.result c.darts-sides.ensures.count
+    sides_over c.args.faces.now c.args.first.now c.args.second.now c.total-sides.result c.refused.result c.total-sides.ensures
     c.if-sides-gt-MOST_LIFTED_SIDES.true c.refused.ensures
 
 pub returns-then-darts-gt-MOST_LIFTED_DARTS : goal.returns-then-darts-gt-MOST_LIFTED_DARTS
 returns-then-darts-gt-MOST_LIFTED_DARTS c =
-    darts_over c.args.surface.now.mesh c.args.first.now c.args.second.now c.darts-sides.result (c.darts.result + c.darts-2.result)
-    c.refused-then-darts-gt-MOST_LIFTED_DARTS.result c.darts-sides.ensures.count c.if-sides-gt-MOST_LIFTED_SIDES.false
+    darts_over c.args.faces.now c.args.first.now c.args.second.now c.total-sides.result (c.darts.result + c.darts-2.result)
+    c.refused-then-darts-gt-MOST_LIFTED_DARTS.result c.total-sides.ensures c.if-sides-gt-MOST_LIFTED_SIDES.false
     (omega (arith, c.darts.ensures.count, c.darts-2.ensures.count)) c.if-darts-gt-MOST_LIFTED_DARTS.true
     c.refused-then-darts-gt-MOST_LIFTED_DARTS.ensures

@@ -14,6 +14,6 @@ returns-clause-end c =
     let read : Passes (meant off_line (meaning_of c.in_ok-text.text.items)) c.in_ok-faces.faces =
     read_passes off_line (meaning_of c.in_ok-text.text.items) c.in_ok-faces.faces OutOfMemory
     (rw c.deref.ensures.value at c.in_ok-faces.ensures) in
-    spelled_end text c.in_ok-faces.faces c.surface_of.result
+    spelled_end text c.in_ok-faces.faces c.signed_mesh.result
     (subst (λ (bytes : List ℕ). Passes (meant off_line (meaning_of bytes)) c.in_ok-faces.faces) c.in_ok-text.ensures read)
-    c.surface_of.ensures.mesh c.surface_of.ensures.end
+    c.signed_mesh.ensures.mesh c.signed_mesh.ensures.end

@@ -1,10 +1,8 @@
-use Rattle.std.proofs.Common.{subst, sym}
+use Rattle.std.proofs.Common.{subst}
 use Rattle.surf_model.specs.FaceLists.{FaceList}
-use Rattle.labellings.specs.Denials.{DenialHolds}
-use Rattle.labellings.specs.Labellings.{LabellingView}
 use Rattle.labellings.specs.WalkWords.{IsWordOf}
-use Rattle.commands.proofs.Certifying.{some_sides, denial_holds}
-use Rattle.commands.proofs.certify.deny.Goals as goal
+use Rattle.commands.proofs.Certifying.{some_sides, denial_holds, signs_are}
+use Rattle.commands.proofs.certify.find_words.Goals as goal
 
 pub from_spent_polygon-requires-clause-some : goal.from_spent_polygon-requires-clause-some
 from_spent_polygon-requires-clause-some c =
@@ -23,10 +21,10 @@ returns c =
     let mesh = c.faces-faces.ensures.mesh in
     let o = c.faces-faces.ensures.valid in
     let some = some_sides surface c.requires.cut.0 c.args.polygon first second o c.requires.cut.1 c.requires.cut.2 c.requires.first
-    c.requires.second c.requires.ends c.requires.apart in
-    subst (λ (l : LabellingView). DenialHolds surface.mesh first second (record { labelling = l; first = one; second = other }))
-    (sym c.into_labelling.ensures)
-    (denial_holds surface c.requires.cut.0 c.args.polygon first second good one other o c.requires.cut.1 c.requires.cut.2 some
-    c.requires.first c.requires.second c.requires.ends c.requires.apart c.in_ok-good.ensures.labelling c.in_ok-good.ensures.good
-    (subst (λ (m : FaceList). IsWordOf m good first one) mesh c.in_ok-first_word.ensures)
-    (subst (λ (m : FaceList). IsWordOf m good second other) mesh c.in_ok-second_word.ensures))
+    c.requires.second c.requires.ends c.requires.apart in (
+      denial_holds surface c.requires.cut.0 c.args.polygon first second good one other o c.requires.cut.1 c.requires.cut.2 some
+          c.requires.first c.requires.second c.requires.ends c.requires.apart c.in_ok-good.ensures.labelling c.in_ok-good.ensures.good
+          (subst (λ (m : FaceList). IsWordOf m good first one) mesh c.in_ok-first_word.ensures)
+          (subst (λ (m : FaceList). IsWordOf m good second other) mesh c.in_ok-second_word.ensures),
+      signs_are surface c.args.polygon good o c.in_ok-good.ensures.labelling,
+    )

@@ -1,0 +1,217 @@
+-- The numbers of a mesh, and the genera of the components of a surface: that they are there, and that there are no others.
+use Rattle.std.proofs.Common.{◌≡◌, inl, inr, ℕ, zero, suc, ◌+◌, ◌*◌, ◌<◌, ◌≤◌, Bool, true, false, cond, List, [], ◌∷◌, ◌++◌, length, get_or, refl, sym, ap, ◌∙◌, subst, arith, add-one, length-append}
+use Rattle.std.specs.Prelude.{ℤ, pos, ◌+ℤ◌, ◌-ℤ◌, filter, map}
+use Rattle.std.specs.List.{range_with_len}
+use Rattle.std.proofs.lemmas.Bool.{cases_lt}
+use Rattle.std.proofs.lemmas.Int.{ints}
+use Rattle.std.proofs.lemmas.List.{ext_get_or, get_or_append_left, get_or_push, length_push}
+use Rattle.std.proofs.lemmas.List.FromFn.{filter_of_map_range_with_len_more}
+use Rattle.surf_model.specs.FaceLists.{FaceList, IsFaceList, is_used}
+use Rattle.surf_model.specs.Edges.{Edge, IsTableOf}
+use Rattle.surf_model.specs.Surfaces.{IsSurface, IsCoherent}
+use Rattle.surf_model.proofs.OneTableLemmas.{one_table}
+use Rattle.manifold_check.specs.ComponentNumbers as counts
+use Rattle.manifold_check.specs.ComponentParts.{PartsView, AreParts, component_at, component_mesh}
+use Rattle.manifold_check.specs.declared.measuring.PartNumbers.{PartNumbers}
+use Rattle.manifold_check.proofs.PartPieces.{IsOfComponent, piece_of_parts, closed_alone}
+use Rattle.manifold_check.proofs.PieceSides.{valid_alone}
+use Rattle.manifold_check.proofs.PieceSurfaces.{coherent_alone}
+use Rattle.manifold_check.specs.Submeshes.{signs_among}
+use Rattle.halfedge_map.specs.Numbers.{count_below}
+use Rattle.tree_cotree.proofs.EdgeTables.{some_table}
+use Rattle.tree_cotree.proofs.GenusLemmas.{table_and_genus}
+use Rattle.commands.proofs.SomeParts.{some_parts, same_count, same_meshes}
+use Rattle.commands.specs.ClosedSurfaces.{IsOrientableSurface}
+use Rattle.commands.specs.Surface.{AreNumbersOf, HasGenus, IsGenusOf, AreGeneraOf}
+use Rattle.commands.specs.declared.surface.SurfaceNumbers.{SurfaceNumbers}
+
+-- ---- numbers
+
+same_map : (xs : List ℕ) → map (λ (x : ℕ). x) xs ≡ xs
+same_map [] = refl
+same_map (x ∷ xs) = ap (λ (ys : List ℕ). x ∷ ys) (same_map xs)
+
+-- how many numbers pass is the length of the list of those that do
+pub counted : (test : ℕ → Bool) (n : ℕ) → count_below test n ≡ length (filter test (range_with_len 0 n))
+counted test zero = refl
+counted test (suc n) =
+    let passing : List ℕ = filter test (range_with_len 0 n) in
+    let more : filter test (range_with_len 0 (n + 1)) ≡ passing ++ cond (test n) (n ∷ []) [] =
+    ap (filter test) (sym (same_map (range_with_len 0 (n + 1))))
+    ∙ filter_of_map_range_with_len_more test (λ (x : ℕ). x) 0 n n (omega arith)
+    ∙ ap (λ (ys : List ℕ). filter test ys ++ cond (test n) (n ∷ []) []) (same_map (range_with_len 0 n)) in
+    let size : length (filter test (range_with_len 0 (n + 1))) ≡ length passing + cond (test n) 1 0 =
+    ap (λ (ys : List ℕ). length ys) more ∙ length-append passing (cond (test n) (n ∷ []) [])
+    ∙ ap (λ (k : ℕ). length passing + k) (last (test n)) in
+    ap (λ (k : ℕ). k + cond (test n) 1 0) (counted test n) ∙ sym size
+    ∙ ap (λ (m : ℕ). length (filter test (range_with_len 0 m))) (add-one n)
+  where
+    last : (b : Bool) → length (cond b (n ∷ []) []) ≡ cond b 1 0
+    last true = refl
+    last false = refl
+
+-- the numbers of a mesh, by its table
+abbrev numbers_with : FaceList → List Edge → SurfaceNumbers
+numbers_with mesh table =
+    record {
+      vertices = count_below (is_used mesh) mesh.count;
+      edges = length table;
+      faces = length mesh.faces;
+      euler = (pos (count_below (is_used mesh) mesh.count) -ℤ pos (length table)) +ℤ pos (length mesh.faces);
+    }
+
+are_numbers : (mesh : FaceList) (table : List Edge) → IsTableOf mesh table → AreNumbersOf mesh (numbers_with mesh table)
+are_numbers mesh table h =
+    record { vertices = refl; table = table; is_table = h; edges = refl; faces = refl; euler = refl }
+
+pub some_numbers : (mesh : FaceList) → IsFaceList mesh → (numbers : SurfaceNumbers) × AreNumbersOf mesh numbers
+some_numbers mesh valid =
+    let table = some_table mesh valid in (numbers_with mesh table.0, are_numbers mesh table.0 table.1)
+
+abbrev four : (v e f : ℕ) (x : ℤ) → SurfaceNumbers
+four v e f x = record { vertices = v; edges = e; faces = f; euler = x }
+
+pub one_numbers : (mesh : FaceList) (a b : SurfaceNumbers) → AreNumbersOf mesh a → AreNumbersOf mesh b → a ≡ b
+one_numbers mesh a b p q =
+    let v : a.vertices ≡ b.vertices = p.vertices ∙ sym q.vertices in
+    let e : a.edges ≡ b.edges = p.edges ∙ ap (λ (t : List Edge). length t) (one_table mesh p.table q.table p.is_table q.is_table)
+    ∙ sym q.edges in
+    let f : a.faces ≡ b.faces = p.faces ∙ sym q.faces in
+    let x : a.euler ≡ b.euler = p.euler ∙ rw (v, e, f) refl ∙ sym q.euler in
+    ap (λ (n : ℕ). four n a.edges a.faces a.euler) v ∙ ap (λ (n : ℕ). four b.vertices n a.faces a.euler) e
+    ∙ ap (λ (n : ℕ). four b.vertices b.edges n a.euler) f ∙ ap (λ (z : ℤ). four b.vertices b.edges b.faces z) x
+
+-- ---- the genus of a connected surface
+
+-- from natural numbers to integers
+genus_from : (v e f g : ℕ) → v + f + 2 * g ≡ e + 2 → pos 2 -ℤ pos (2 * g) ≡ (pos v -ℤ pos e) +ℤ pos f
+genus_from v e f g is = omega (arith, ints)
+
+-- two genera of one Euler characteristic
+one_half : (g h : ℕ) → pos 2 -ℤ pos (2 * g) ≡ pos 2 -ℤ pos (2 * h) → g ≡ h
+one_half g h is = omega (arith, ints)
+
+one_genus : (mesh : FaceList) (g h : ℕ) → HasGenus mesh g → HasGenus mesh h → g ≡ h
+one_genus mesh g h p q =
+    one_half g h (p.2 ∙ ap (λ (n : SurfaceNumbers). n.euler) (one_numbers mesh p.0 q.0 p.1 q.1) ∙ sym q.2)
+
+-- counts of a mesh that give a genus
+pub counts_give : (mesh : FaceList) (numbers : PartNumbers) (g : ℕ) → IsFaceList mesh → counts.AreNumbersOf mesh numbers
+    → IsGenusOf numbers g → HasGenus mesh g
+counts_give mesh numbers g valid are is =
+    let table = some_table mesh valid in
+    let count : count_below (is_used mesh) mesh.count + length mesh.faces + 2 * g ≡ length table.0 + 2 =
+    omega (arith, is, are.vertices, counted (is_used mesh) mesh.count, are.edges table.0 table.1, are.faces) in (
+      numbers_with mesh table.0,
+      are_numbers mesh table.0 table.1,
+      genus_from (count_below (is_used mesh) mesh.count) (length table.0) (length mesh.faces) g count,
+    )
+
+-- the counts of a connected surface do
+pub genus_by_counts : (mesh : FaceList) (numbers : PartNumbers) → IsFaceList mesh → IsSurface mesh → counts.AreNumbersOf mesh numbers
+    → (g : ℕ) × IsGenusOf numbers g
+genus_by_counts mesh numbers valid is are =
+    let found = table_and_genus mesh valid is in (
+      found.2,
+      omega (arith, found.3, are.vertices, counted (is_used mesh) mesh.count, are.edges found.0 found.1, are.faces),
+    )
+
+some_genus : (mesh : FaceList) → IsFaceList mesh → IsSurface mesh → (g : ℕ) × HasGenus mesh g
+some_genus mesh valid is =
+    let found = table_and_genus mesh valid is in (
+      found.2,
+      (
+        numbers_with mesh found.0,
+        are_numbers mesh found.0 found.1,
+        genus_from (count_below (is_used mesh) mesh.count) (length found.0) (length mesh.faces) found.2 found.3,
+      ),
+    )
+
+-- ---- the genera of the components
+
+-- a connected surface
+pub record IsComponentSurface (mesh : FaceList) : Type 0 where
+  pub valid : IsFaceList mesh
+  pub surface : IsSurface mesh
+
+-- each component of a surface is a connected one
+pub component_surface : (mesh : FaceList) (parts : PartsView) (k : ℕ) → IsFaceList mesh → IsOrientableSurface mesh → AreParts mesh parts
+    → k < length parts.components → IsComponentSurface (component_mesh mesh parts k)
+component_surface mesh parts k valid is h l =
+    let piece = piece_of_parts mesh parts k h l in
+    record {
+      valid = valid_alone mesh (IsOfComponent parts.places k) (component_at parts k) piece valid;
+      surface = record {
+        closed = closed_alone mesh parts k h l is.manifold;
+        orientable = (
+          signs_among is.orientable.0 (component_at parts k),
+          coherent_alone mesh (IsOfComponent parts.places k) (component_at parts k) is.orientable.0 piece is.orientable.1,
+        );
+      };
+    }
+
+-- the genera of the first n components
+pub record AreGeneraUpTo (mesh : FaceList) (parts : PartsView) (genera : List ℕ) (n : ℕ) : Type 0 where
+  pub long : length genera ≡ n
+  pub each : (k : ℕ) → k < n → HasGenus (component_mesh mesh parts k) (get_or genera k 0)
+
+pub genera_none : (mesh : FaceList) (parts : PartsView) → AreGeneraUpTo mesh parts [] 0
+genera_none mesh parts = record { long = refl; each = λ k less. absurd (omega arith) }
+
+pub genera_more : (mesh : FaceList) (parts : PartsView) (genera : List ℕ) (n genus : ℕ) → AreGeneraUpTo mesh parts genera n
+    → HasGenus (component_mesh mesh parts n) genus → AreGeneraUpTo mesh parts (genera ++ genus ∷ []) (n + 1)
+genera_more mesh parts genera n genus before here =
+    record {
+      long = omega (arith, length_push genera genus, before.long);
+      each = λ k less. elim (cases_lt k n) [
+        | inl earlier ↦
+            subst (HasGenus (component_mesh mesh parts k))
+            (sym (get_or_append_left genera (genus ∷ []) 0 k (omega (arith, earlier, before.long)))) (before.each k earlier)
+        | inr last ↦
+            (let same : n ≡ k = omega (arith, less, last) in
+            let value : get_or (genera ++ genus ∷ []) k 0 ≡ genus =
+            get_or_push genera genus 0 k (omega (arith, same, before.long)) in
+            subst (HasGenus (component_mesh mesh parts k)) (sym value)
+            (subst (λ (m : ℕ). HasGenus (component_mesh mesh parts m) genus) same here))
+      ];
+    }
+
+pub genera_all : (mesh : FaceList) (parts : PartsView) (genera : List ℕ) → AreParts mesh parts
+    → AreGeneraUpTo mesh parts genera (length parts.components) → AreGeneraOf mesh genera
+genera_all mesh parts genera h all =
+    record { parts = parts; are_parts = h; each = all.long; genus = λ k l. all.each k (omega (arith, l, all.long)) }
+
+record HasGenera (mesh : FaceList) (parts : PartsView) (n : ℕ) : Type 0 where
+  genera : List ℕ
+  are : AreGeneraUpTo mesh parts genera n
+
+genera_upto : (mesh : FaceList) (parts : PartsView) → IsFaceList mesh → IsOrientableSurface mesh → AreParts mesh parts → (n : ℕ)
+    → n ≤ length parts.components → HasGenera mesh parts n
+genera_upto mesh parts valid is h zero l = record { genera = []; are = genera_none mesh parts }
+genera_upto mesh parts valid is h (suc n) l =
+    let before : HasGenera mesh parts n = genera_upto mesh parts valid is h n (omega arith) in
+    let here : IsComponentSurface (component_mesh mesh parts n) = component_surface mesh parts n valid is h (omega arith) in
+    let found = some_genus (component_mesh mesh parts n) here.valid here.surface in
+    record {
+      genera = before.genera ++ found.0 ∷ [];
+      are = subst (AreGeneraUpTo mesh parts (before.genera ++ found.0 ∷ [])) (add-one n)
+          (genera_more mesh parts before.genera n found.0 before.are found.1);
+    }
+
+pub some_genera : (mesh : FaceList) → IsFaceList mesh → IsOrientableSurface mesh → (genera : List ℕ) × AreGeneraOf mesh genera
+some_genera mesh valid is =
+    let parts = some_parts mesh valid in
+    let all : HasGenera mesh parts.0 (length parts.0.components) =
+    genera_upto mesh parts.0 valid is parts.1 (length parts.0.components) (omega arith) in
+    (all.genera, genera_all mesh parts.0 all.genera parts.1 all.are)
+
+pub one_genera : (mesh : FaceList) (a b : List ℕ) → IsFaceList mesh → AreGeneraOf mesh a → AreGeneraOf mesh b → a ≡ b
+one_genera mesh a b valid p q =
+    let many : length a ≡ length b =
+    p.each ∙ same_count mesh _ _ p.parts.places q.parts.places p.are_parts.places q.are_parts.places ∙ sym q.each in
+    ext_get_or 0 a b many
+    (λ k l.
+    let same : component_mesh mesh p.parts k ≡ component_mesh mesh q.parts k =
+    same_meshes mesh p.parts q.parts k valid p.are_parts q.are_parts (omega (arith, l, p.each)) in
+    one_genus (component_mesh mesh q.parts k) (get_or a k 0) (get_or b k 0)
+    (subst (λ (m : FaceList). HasGenus m (get_or a k 0)) same (p.genus k l)) (q.genus k (omega (arith, l, many))))
