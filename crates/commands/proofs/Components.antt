@@ -182,7 +182,7 @@ renamed_more names moves k peak move renamed list l item same is =
 pub renamed_leads : (part : Part) (first second : List ℕ) (list : PeakedMoves) → IsPart part → IsWalk part.whole.faces first
     → LeadsAtPeak part.alone.mesh first list second
     → LeadsAtPeak part.whole.faces first
-      (record { moves = renamed_moves (component_at part.parts part.place) list.moves; peak = list.peak }) second
+    (record { moves = renamed_moves (component_at part.parts part.place) list.moves; peak = list.peak }) second
 renamed_leads part first second list is w h =
     let names : List ℕ = component_at part.parts part.place in
     let there : LeadsAtPeak (submesh part.whole.faces names) first list second =

@@ -53,7 +53,11 @@ impl Finding {
     {
         match self {
             Finding::Moves(list) => Certificate::Moves(list),
-            Finding::Words { good, first, second } => Certificate::Denial(Denial {
+            Finding::Words {
+                good,
+                first,
+                second,
+            } => Certificate::Denial(Denial {
                 labelling: good.into_labelling(),
                 first,
                 second,
@@ -76,9 +80,20 @@ impl Finding {
                 let renamed = rename(alloc, &part.parts, part.place, &list)?;
                 Ok(Certificate::Moves(renamed))
             }
-            Finding::Words { good, first, second } => {
+            Finding::Words {
+                good,
+                first,
+                second,
+            } => {
                 let whole = &part.whole;
-                let wide = widen(alloc, &whole.faces, &whole.signs, &part.parts, part.place, &good)?;
+                let wide = widen(
+                    alloc,
+                    &whole.faces,
+                    &whole.signs,
+                    &part.parts,
+                    part.place,
+                    &good,
+                )?;
                 Ok(Certificate::Denial(Denial {
                     labelling: wide,
                     first,
@@ -90,12 +105,7 @@ impl Finding {
 }
 
 /// A list of moves of a component, with the names that its faces have in the whole mesh.
-fn rename(
-    alloc: Global,
-    parts: &Parts,
-    place: u32,
-    list: &MoveList,
-) -> Result<MoveList, AllocError>
+fn rename(alloc: Global, parts: &Parts, place: u32, list: &MoveList) -> Result<MoveList, AllocError>
     requires place { place < length parts.now.components }
     requires faces { All (IsOfFaces (length (component_at parts.now place))) list.now.moves }
     ensures { IfOk result (λ renamed. renamed

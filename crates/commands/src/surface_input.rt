@@ -99,7 +99,10 @@ pub fn few_components(alloc: Global, surface: &SignedMesh, most: u32) -> Result<
     let parts = Parts::build(alloc, &surface.faces, &surface.sides)?;
     let count = parts.len();
     if count > most {
-        return Err(refused(&[Phrase::Text("surface components"), Phrase::Number(count as u64)]));
+        return Err(refused(&[
+            Phrase::Text("surface components"),
+            Phrase::Number(count as u64),
+        ]));
     }
     Ok(parts)
 }

@@ -10,5 +10,5 @@ loop-k-preserved c =
     let k = c.loop-k.k in
     c.in_ok-push.ensures.ok
     ∙ renamed_more (component_at c.args.parts.now c.args.place) moves k c.args.list.now.peak c.at.result c.rename_move.result
-      c.loop-k.renamed (omega (arith, c.loop-k-test.true, c.len-k-end.ensures))
-      (get_or_from_slice_get moves k c.at.result c.at.result c.at.ensures) c.rename_move.ensures c.loop-k.invariant
+    c.loop-k.renamed (omega (arith, c.loop-k-test.true, c.len-k-end.ensures))
+    (get_or_from_slice_get moves k c.at.result c.at.result c.at.ensures) c.rename_move.ensures c.loop-k.invariant
