@@ -189,8 +189,10 @@ renamed_leads part first second list is w h =
     subst (λ (m : FaceList). LeadsAtPeak m first list second) is.mesh h in
     let piece = piece_of_parts part.whole.faces part.parts part.place is.parts is.within in
     record {
-      leads = moves_up part.whole.faces (IsOfComponent part.parts.places part.place) names list.moves first second piece w.starts there.leads;
-      peak = there.peak ∙ sym (greatest_alike part.whole.faces (IsOfComponent part.parts.places part.place) names list.moves first second piece
+      leads = moves_up part.whole.faces (IsOfComponent part.parts.places part.place) names list.moves first second piece w.starts
+          there.leads;
+      peak = there.peak ∙ sym (greatest_alike part.whole.faces (IsOfComponent part.parts.places part.place) names list.moves first
+          second piece
           w.starts there.leads);
     }
 
@@ -222,6 +224,7 @@ widened_holds part first second good wide one other is w z at_first at_second si
     record {
       good = good_widened whole part.parts part.place part.whole.signs good wide widening;
       first_word = (word_alike whole part.parts part.place part.whole.signs good wide first one widening w at_first).1 there.first_word;
-      second_word = (word_alike whole part.parts part.place part.whole.signs good wide second other widening z at_second).1 there.second_word;
+      second_word = (word_alike whole part.parts part.place part.whole.signs good wide second other widening z at_second).1
+          there.second_word;
       differ = there.differ;
     }

@@ -25,7 +25,8 @@ use Rattle.tree_cotree.proofs.EdgeTables.{some_table}
 lesser_renamed : (a b x : ℕ) → renamed (max a b) (min a b) x ≤ x
 lesser_renamed a b x = grind (arith, nat_tests)
 
-one_of_three : (a b x : ℕ) → (renamed (max a b) (min a b) x ≡ a) ⊎ ((renamed (max a b) (min a b) x ≡ b) ⊎ (renamed (max a b) (min a b) x ≡ x))
+one_of_three : (a b x : ℕ) → (renamed (max a b) (min a b) x ≡ a) ⊎
+    ((renamed (max a b) (min a b) x ≡ b) ⊎ (renamed (max a b) (min a b) x ≡ x))
 one_of_three a b x = grind (arith, nat_tests)
 
 renamed_twice : (a b x : ℕ) → renamed (max a b) (min a b) (renamed (max a b) (min a b) x) ≡ renamed (max a b) (min a b) x
@@ -55,7 +56,12 @@ members_joined least x y l k h =
     r z = renamed (max (get_or least x 0) (get_or least y 0)) (min (get_or least x 0) (get_or least y 0)) (get_or least z 0)
 
     inside : (z : ℕ) → z < length (joined_at least x y) → z < length least
-    inside z w = omega (arith, w, length-map least (renamed (max (get_or least x 0) (get_or least y 0)) (min (get_or least x 0) (get_or least y 0))))
+    inside z w = omega (
+      arith,
+      w,
+      length-map least
+          (renamed (max (get_or least x 0) (get_or least y 0)) (min (get_or least x 0) (get_or least y 0))),
+    )
 
     at : (z : ℕ) → z < length least → get_or (joined_at least x y) z 0 ≡ r z
     at z w = get_or-map (renamed (max (get_or least x 0) (get_or least y 0)) (min (get_or least x 0) (get_or least y 0))) least z 0 0 w

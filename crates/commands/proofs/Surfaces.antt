@@ -51,7 +51,8 @@ pub sound-closed : (held : Option Files) (mesh : FaceList) → IsFaceList mesh �
 sound-closed held mesh valid =
     record {
       some = λ none.
-          manifold_or_fault mesh valid (λ is. none (Pass mesh) (is, refl)) (λ fault is. none (Refuse (surface_line fault)) (fault, is, refl));
+          manifold_or_fault mesh valid (λ is. none (Pass mesh) (is, refl))
+          (λ fault is. none (Refuse (surface_line fault)) (fault, is, refl));
       one = λ _ a b p q. one_closed mesh a b p q;
     }
 

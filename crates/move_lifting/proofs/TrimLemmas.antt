@@ -90,7 +90,8 @@ back_off mesh a b w alike edge h =
     regroup f y w = simp append_assoc
 
 -- what stands in front of both is taken off
-fronts_off : (mesh : FaceList) (front a b : List ℕ) → AreBetweenAlike a b → IsWalk mesh (front ++ a) → Homotopic mesh (front ++ a) (front ++ b)
+fronts_off : (mesh : FaceList) (front a b : List ℕ) → AreBetweenAlike a b → IsWalk mesh (front ++ a) → Homotopic mesh (front ++ a)
+    (front ++ b)
     → Homotopic mesh a b
 fronts_off mesh [] a b alike w h = h
 fronts_off mesh (u ∷ front) a b alike w h =
@@ -165,7 +166,8 @@ in_parts walk front back l =
     ∙ ap (λ (x : List ℕ). x ++ drop m walk) (sym (take-append-drop front (take m walk))
     ∙ ap (λ (x : List ℕ). x ++ between front back walk) (take-take front m walk (omega arith)))
 
-length-between : (walk : List ℕ) (front back : ℕ) → front + back < length walk → length (between front back walk) ≡ length walk - back - front
+length-between : (walk : List ℕ) (front back : ℕ) → front + back < length walk → length (between front back walk) ≡ length walk - back -
+    front
 length-between walk front back l =
     length-drop front (take (length walk - back) walk) ∙ ap (λ (n : ℕ). n - front) (length-take-le (length walk - back) walk (omega arith))
 
@@ -186,7 +188,8 @@ first_between : (walk : List ℕ) (front back : ℕ) → front + back < length w
     → get_or (between front back walk) 0 0 ≡ get_or (take (front + 1) walk) front 0
 first_between walk front back l =
     let at : front + 0 ≡ front = omega arith in
-    entry_between walk front back 0 (omega arith) ∙ ap (λ (n : ℕ). get_or walk n 0) at ∙ sym (get_or-take (front + 1) walk front 0 (omega arith))
+    entry_between walk front back 0 (omega arith) ∙ ap (λ (n : ℕ). get_or walk n 0) at ∙ sym
+    (get_or-take (front + 1) walk front 0 (omega arith))
 
 pub parted : (mesh : FaceList) (first second : List ℕ) (common : CommonDarts) → IsWalk mesh first → IsWalk mesh second
     → AreCommonDarts first second common → AreParted mesh first second common
@@ -232,7 +235,8 @@ pub still_together : (mesh : FaceList) (first second : List ℕ) (common : Commo
     → AreWalksTogether mesh (between common.front common.back first) (between common.front common.back second)
 still_together mesh first second common w z p = record {
   along = walk_between mesh p.front (between common.front common.back first) p.back p.alike.some (subst (IsWalk mesh) p.first_is w);
-  beside = walk_between mesh p.front (between common.front common.back second) p.back p.alike.other_some (subst (IsWalk mesh) p.second_is z);
+  beside = walk_between mesh p.front (between common.front common.back second) p.back p.alike.other_some
+      (subst (IsWalk mesh) p.second_is z);
   ends = record { starts = p.alike.starts; ends = p.alike.ends };
 }
 

@@ -125,7 +125,8 @@ returns g c =
       answer = certificate_answer surface.faces c.at-first.result.now c.at-second.result.now (decision_of shown);
       passes =
           certificate_found (g.S.Shelf.held c.args.shelf.now) c.args.mesh.now c.args.walks.now surface.faces pair c.at-first.result.now
-          c.at-second.result.now shown c.in_ok-surface.ensures.signed.valid known.first_walk c.in_ok-surface.ensures.reads.end passed first second
+          c.at-second.result.now shown c.in_ok-surface.ensures.signed.valid known.first_walk c.in_ok-surface.ensures.reads.end passed
+          first second
           c.in_ok-check_limits.ensures c.in_ok-shown.ensures;
       is_answer = c.reply_with.ensures surface.faces c.at-first.result.now c.at-second.result.now c.in_ok-shown.ensures;
     })

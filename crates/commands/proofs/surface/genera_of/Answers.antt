@@ -24,7 +24,8 @@ genus_of-requires c =
     let read : numbers ≡ get_or all part numbers =
     get_or_read all part _ (omega (arith, there, c.in_ok-all.ensures.count)) c.index-numbers.ensures numbers in
     let alone : IsComponentSurface (component_mesh mesh parts part) =
-    component_surface mesh parts part c.requires.signed.valid (signed_surface c.args.surface.now c.requires.signed) c.requires.parts there in
+    component_surface mesh parts part c.requires.signed.valid (signed_surface c.args.surface.now c.requires.signed) c.requires.parts
+    there in
     genus_by_counts (component_mesh mesh parts part) numbers alone.valid alone.surface
     (subst (AreNumbersOf (component_mesh mesh parts part)) (sym read) (c.in_ok-all.ensures.numbers part numbers there))
 
@@ -39,7 +40,8 @@ loop-part-preserved c =
     let read : numbers ≡ get_or all part numbers =
     get_or_read all part _ (omega (arith, there, c.in_ok-all.ensures.count)) c.index-numbers.ensures numbers in
     let alone : IsComponentSurface (component_mesh mesh parts part) =
-    component_surface mesh parts part c.requires.signed.valid (signed_surface c.args.surface.now c.requires.signed) c.requires.parts there in
+    component_surface mesh parts part c.requires.signed.valid (signed_surface c.args.surface.now c.requires.signed) c.requires.parts
+    there in
     let genus : HasGenus (component_mesh mesh parts part) c.genus_of.result =
     counts_give (component_mesh mesh parts part) numbers c.genus_of.result alone.valid
     (subst (AreNumbersOf (component_mesh mesh parts part)) (sym read) (c.in_ok-all.ensures.numbers part numbers there))

@@ -8,4 +8,9 @@ connected-requires-clause-joined c = one_component c.args.mesh.faces c.in_ok-par
 
 pub part_of-place-requires : goal.part_of-place-requires
 part_of-place-requires c =
-    omega (arith, c.in_ok-parts.ensures.places.each_vertex, used_below c.args.mesh.faces c.args.vertex.0 c.requires.signed.valid c.requires.used)
+    omega (
+      arith,
+      c.in_ok-parts.ensures.places.each_vertex,
+      used_below c.args.mesh.faces c.args.vertex.0 c.requires.signed.valid
+          c.requires.used,
+    )
