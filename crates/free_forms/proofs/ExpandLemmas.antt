@@ -11,11 +11,8 @@ use Rattle.surf_model.specs.declared.moves.Move.TheVariants.{Across}
 use Rattle.surf_model.specs.declared.names.VertexName.{VertexName}
 use Rattle.free_forms.specs.Parents.{OpenView, HasParents, Joins, parent_of, beyond}
 use Rattle.free_forms.specs.Reductions.{Expands, IsWayAlong}
+use Rattle.free_forms.proofs.Expansions.{length_beyond}
 use Rattle.free_forms.proofs.ParentEdgeLemmas.{way_found, expansion_read}
-
-pub length_beyond : (ring : List ℕ) (rising : Bool) (t k : ℕ) → length (beyond ring rising t k) ≡ k
-length_beyond ring rising t zero = refl
-length_beyond ring rising t (suc k) = ap suc (length_beyond ring rising (next_corner rising (length ring) t) k)
 
 pub length_numbers : (vertices : List VertexName) → length (numbers vertices) ≡ length vertices
 length_numbers vertices = length-map vertices (λ (v : VertexName). v.0)

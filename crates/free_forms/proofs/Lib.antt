@@ -10,3 +10,5 @@ pub mod StepLemmas
 pub mod ParentEdgeLemmas
 pub mod ExpandLemmas
 pub mod BackLemmas
+pub mod OnceLemmas
+pub mod WeightLemmas

@@ -25,40 +25,43 @@ use Rattle.connectivity.proofs.CornerLemmas.{ends_differ}
 abbrev pub count_on : ℕ → ℕ → ℕ → ℕ
 count_on s u v = suc s
 
-abbrev pub weight : OpenView → ℕ → List ℕ → ℕ
-weight surface u vs = run (act_fully surface count_on suc) zero u vs
+abbrev pub count_in : ℕ → ℕ → ℕ
+count_in f s = suc s
 
-run_from : (act : ℕ → ℕ → ℕ → ℕ) → ((s u v : ℕ) → act (suc s) u v ≡ suc (act s u v)) → (s u : ℕ) (vs : List ℕ)
+abbrev pub weight : OpenView → ℕ → List ℕ → ℕ
+weight surface u vs = run (act_fully surface count_on count_in) zero u vs
+
+pub run_from : (act : ℕ → ℕ → ℕ → ℕ) → ((s u v : ℕ) → act (suc s) u v ≡ suc (act s u v)) → (s u : ℕ) (vs : List ℕ)
     → run act (suc s) u vs ≡ suc (run act s u vs)
 run_from act one s u [] = refl
 run_from act one s u (v ∷ vs) = ap (λ (x : ℕ). run act x v vs) (one s u v) ∙ run_from act one (act s u v) v vs
 
 by_face_from : (surface : OpenView) (inner : ℕ → ℕ → ℕ → ℕ) → ((s u v : ℕ) → inner (suc s) u v ≡ suc (inner s u v)) → (o : Option ℕ)
-    → (s u v : ℕ) → by_face surface count_on suc inner o (suc s) u v ≡ suc (by_face surface count_on suc inner o s u v)
+    → (s u v : ℕ) → by_face surface count_on count_in inner o (suc s) u v ≡ suc (by_face surface count_on count_in inner o s u v)
 by_face_from surface inner one None s u v = refl
 by_face_from surface inner one (Some f) s u v = run_from inner one (suc s) u (expansion surface.mesh (parent_of surface f) u)
 
-count_from : (surface : OpenView) (n s u v : ℕ) → acting surface count_on suc n (suc s) u v ≡ suc (acting surface count_on suc n s u v)
+pub count_from : (surface : OpenView) (n s u v : ℕ) → acting surface count_on count_in n (suc s) u v ≡ suc (acting surface count_on count_in n s u v)
 count_from surface zero s u v = refl
 count_from surface (suc n) s u v =
-    by_face_from surface (acting surface count_on suc n) (count_from surface n) (parent_face_of surface u v) s u v
+    by_face_from surface (acting surface count_on count_in n) (count_from surface n) (parent_face_of surface u v) s u v
 
 -- a dart off the parent edges counts one
 weight_free : (surface : OpenView) (u v : ℕ) (vs : List ℕ) → HasParents surface → (IsParentEdge surface u v → ⊥)
     → weight surface u (v ∷ vs) ≡ suc (weight surface v vs)
 weight_free surface u v vs has free =
-    let act : ℕ → ℕ → ℕ → ℕ = act_fully surface count_on suc in
-    ap (λ (x : ℕ). run act x v vs) (acts_by_base surface count_on suc has u v zero free)
+    let act : ℕ → ℕ → ℕ → ℕ = act_fully surface count_on count_in in
+    ap (λ (x : ℕ). run act x v vs) (acts_by_base surface count_on count_in has u v zero free)
     ∙ run_from act (count_from surface (length surface.mesh.faces)) zero v vs
 
 -- a dart along a parent edge counts one more than its expansion
 weight_parent : (surface : OpenView) (f u v : ℕ) (vs : List ℕ) → HasParents surface → IsFound surface u v f
     → weight surface u (v ∷ vs) ≡ suc (weight surface u (expansion surface.mesh (parent_of surface f) u ++ vs))
 weight_parent surface f u v vs has found =
-    let act : ℕ → ℕ → ℕ → ℕ = act_fully surface count_on suc in
+    let act : ℕ → ℕ → ℕ → ℕ = act_fully surface count_on count_in in
     let way : List ℕ = expansion surface.mesh (parent_of surface f) u in
     let one : (s a b : ℕ) → act (suc s) a b ≡ suc (act s a b) = count_from surface (length surface.mesh.faces) in
-    ap (λ (x : ℕ). run act x v vs) (acts_by_expansion surface count_on suc has u v f zero found)
+    ap (λ (x : ℕ). run act x v vs) (acts_by_expansion surface count_on count_in has u v f zero found)
     ∙ ap (λ (x : ℕ). run act x v vs) (run_from act one zero u way)
     ∙ run_from act one (run act zero u way) v vs
     ∙ ap (λ (x : ℕ). suc (run act (run act zero u way) x vs)) (sym (expansion_ends surface f u v has found))
