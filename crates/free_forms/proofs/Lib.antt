@@ -12,3 +12,4 @@ pub mod ExpandLemmas
 pub mod BackLemmas
 pub mod OnceLemmas
 pub mod WeightLemmas
+pub mod CostLemmas

@@ -55,7 +55,7 @@ weight_free surface u v vs has free =
     ∙ run_from act (count_from surface (length surface.mesh.faces)) zero v vs
 
 -- a dart along a parent edge counts one more than its expansion
-weight_parent : (surface : OpenView) (f u v : ℕ) (vs : List ℕ) → HasParents surface → IsFound surface u v f
+pub weight_parent : (surface : OpenView) (f u v : ℕ) (vs : List ℕ) → HasParents surface → IsFound surface u v f
     → weight surface u (v ∷ vs) ≡ suc (weight surface u (expansion surface.mesh (parent_of surface f) u ++ vs))
 weight_parent surface f u v vs has found =
     let act : ℕ → ℕ → ℕ → ℕ = act_fully surface count_on count_in in

@@ -1,8 +1,8 @@
 -- A dart weighs one, and as much as the faces that are expanded below it have sides but one each. So it weighs no more than the mesh has
 -- sides.
-use Rattle.std.proofs.Common.{◌≡◌, ◌⊎◌, inl, inr, ℕ, zero, suc, ◌+◌, ◌-◌, ◌*◌, ◌<◌, ◌≤◌, List, [], ◌∷◌, length, get_or, take, refl, ap, sym, ◌∙◌, subst, arith}
-use Rattle.std.specs.Prelude.{All, Option, Some, None, sum_by, if◌then◌else◌, ◌==◌}
-use Rattle.std.proofs.lemmas.Bool.{cases_eq, cases_lt, eq-eqb}
+use Rattle.std.proofs.Common.{◌≡◌, inl, inr, ℕ, zero, suc, ◌+◌, ◌-◌, ◌*◌, ◌<◌, ◌≤◌, List, [], ◌∷◌, length, take, refl, ap, sym, ◌∙◌, arith}
+use Rattle.std.specs.Prelude.{All, Option, Some, None, sum_by}
+use Rattle.std.proofs.lemmas.Bool.{cases_eq, eq-eqb}
 use Rattle.std.proofs.lemmas.Bool.Decides.{nat_tests}
 use Rattle.std.proofs.lemmas.List.{take_more, take_all}
 use Rattle.std.proofs.lemmas.List.Elements.{All-nil, All-cons}
@@ -12,7 +12,7 @@ use Rattle.free_forms.specs.Parents.{OpenView, HasParents, parent_of, expansion}
 use Rattle.free_forms.proofs.Actions.{run}
 use Rattle.free_forms.proofs.Expansions.{acting, by_face, parent_face_of, found_face, expansion_size}
 use Rattle.free_forms.proofs.OnceLemmas.{list_on, list_in, listed, times, listed_once}
-use Rattle.free_forms.proofs.StepLemmas.{weight, count_on, count_in, run_from, count_from}
+use Rattle.free_forms.proofs.StepLemmas.{weight, count_on, count_in, count_from}
 
 -- the sides of a face but one
 abbrev others : FaceList → ℕ → ℕ
@@ -184,9 +184,11 @@ weight_bound surface most u vs has some few = omega (arith, go 0 u vs)
   where
     act : ℕ → ℕ → ℕ → ℕ
     act = counted surface (length surface.mesh.faces)
+
     from : (s u v : ℕ) → act s u v ≡ s + act 0 u v
     from zero u v = omega arith
     from (suc s) u v = omega (arith, count_from surface (length surface.mesh.faces) s u v, from s u v)
+
     dart : (u v : ℕ) → act 0 u v ≤ most
     dart u v = elim (cases_eq (length surface.mesh.faces) 0) [
       | inl none ↦ alone u v (length surface.mesh.faces) none
@@ -196,6 +198,7 @@ weight_bound surface most u vs has some few = omega (arith, go 0 u vs)
         alone : (u v n : ℕ) → n ≡ 0 → counted surface n 0 u v ≤ most
         alone u v zero e = omega arith
         alone u v (suc n) e = absurd (omega arith)
+
     go : (s u : ℕ) (vs : List ℕ) → run act s u vs ≤ s + length vs * most
     go s u [] = omega arith
     go s u (v ∷ vs) = omega (arith, go (act s u v) v vs, from s u v, dart u v)
@@ -206,6 +209,7 @@ weight_long surface u vs = omega (arith, go 0 u vs)
   where
     n : ℕ
     n = length surface.mesh.faces
+
     go : (s u : ℕ) (vs : List ℕ) → s + length vs ≤ run (counted surface n) s u vs
     go s u [] = omega arith
     go s u (v ∷ vs) =

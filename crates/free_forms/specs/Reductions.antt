@@ -1,10 +1,11 @@
 -- A walk on its way to its normal walk: a part that is normal, and the vertices that are still to come.
-use Rattle.std.specs.Prelude.{◌≡◌, ◌≢◌, ◌⊎◌, ℕ, ◌+◌, ◌-◌, ◌<◌, Bool, true, false, max, List, [], ◌∷◌, ◌++◌, length, slice_index, reverse}
+use Rattle.std.specs.Prelude.{◌≡◌, ◌≢◌, ◌⊎◌, ℕ, ◌+◌, ◌-◌, ◌<◌, ◌≤◌, Bool, true, false, max, List, [], ◌∷◌, ◌++◌, length, slice_index, reverse}
 use Rattle.surf_model.specs.FaceLists.{face_at, next_corner}
 use Rattle.surf_model.specs.Darts.{tail_of}
 use Rattle.surf_model.specs.Moves.{PeakedMoves}
 use Rattle.surf_model.specs.Vertices.{numbers}
 use Rattle.surf_model.specs.declared.edges.Side.{Side}
+use Rattle.surf_model.specs.declared.limits.TheConstants.{MOST_PEAK}
 use Rattle.surf_model.specs.declared.moves.Move.TheVariants.{Remove, Across}
 use Rattle.free_forms.specs.Parents.{OpenView, Joins, IsParentEdge, parent_of, expansion}
 use Rattle.free_forms.specs.declared.reduction.Reduction.{Reduction}
@@ -80,6 +81,12 @@ pub record Expands (surface : OpenView) (old : ReductionView) (next : ℕ) (new 
         moves = old.list.moves ++ Across (length old.front) (record { 0 = face }) corner forward 1 ∷ [];
         peak = max old.list.peak (length new.front + length new.coming);
       }
+
+-- there is room for the face of a parent edge that the next step goes along
+abbrev pub HasRoom : OpenView → ReductionView → ℕ → Type 0
+HasRoom surface state next =
+    (f : ℕ) → f < length surface.mesh.faces → Joins surface.mesh (parent_of surface f) state.last next
+    → darts_in state + length (face_at surface.mesh f) ≤ MOST_PEAK
 
 -- one of the three
 abbrev pub IsStep : OpenView → ReductionView → ℕ → ReductionView → Type 0
