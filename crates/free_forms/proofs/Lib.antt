@@ -13,3 +13,4 @@ pub mod BackLemmas
 pub mod OnceLemmas
 pub mod WeightLemmas
 pub mod CostLemmas
+pub mod OutcomeLemmas
