@@ -1,7 +1,7 @@
--- What `certify` prints spells its certificate again, and `verify` accepts it.
+-- What a certificate that convinces is written as spells it again, and `verify` accepts it.
 use Rattle.std.proofs.Common.{◌≡◌, ℕ, ◌^◌, ◌<◌, ◌≤◌, List, [], length, length-append, refl, sym, ap, subst, arith}
-use Rattle.std.specs.Prelude.{codes, Option, Some, None, Result, Ok, Err, IsSomeAnd}
-use Rattle.surf_io.specs.Files.{Files, file_of}
+use Rattle.std.specs.Prelude.{codes, Option, Some, Result, Ok, Err}
+use Rattle.surf_io.specs.Files.{Files}
 use Rattle.surf_model.specs.FaceLists.{FaceList, IsFaceList}
 use Rattle.surf_model.specs.Moves.{PeakedMoves}
 use Rattle.surf_model.specs.Walks.{IsWalk}
@@ -23,18 +23,14 @@ use Rattle.labellings.specs.declared.verdict.DenialVerdict.TheVariants as verdic
 use Rattle.walk_translate.specs.declared.deciding.Answer.TheVariants.{Homotopic, Different}
 use Rattle.commands.proofs.FittingDenials.{denial_fits}
 use Rattle.commands.proofs.FittingMoves.{list_fits}
-use Rattle.commands.proofs.MeshTexts.{is_face_list}
-use Rattle.commands.proofs.Rows.{sound-words}
-use Rattle.commands.proofs.Sound.{held}
+use Rattle.commands.proofs.Rows.{sound-verify}
 use Rattle.commands.proofs.VerifyOutcomes.{told_input, judgement_outcome}
 use Rattle.commands.specs.Certificates.{Convinces, decision_line, certificate_text}
-use Rattle.commands.specs.Certify.{IsCertifyInput, IsWithinLimits, IsCertificatePrinted}
 use Rattle.commands.specs.Checks.{Pass}
-use Rattle.commands.specs.Inputs.{as_certificate, certificate_behind, certificate_of, IsPeakRead, SpellsMesh, SpellsPair, SpellsCertificate}
+use Rattle.commands.specs.Inputs.{as_certificate, certificate_behind, certificate_of, IsPeakRead, SpellsCertificate}
 use Rattle.commands.specs.Lines.{line}
-use Rattle.commands.specs.Outcomes.{Outcome, IsOutcome, IsAnswerOf}
-use Rattle.commands.specs.PrintedCertificates.{IsVerifyOfText, IsAccepted}
-use Rattle.commands.specs.Verify.{judgement, IsVerifyInput, verdict_answer, denial_answer}
+use Rattle.commands.specs.Outcomes.{Outcome, IsAnswerOf}
+use Rattle.commands.specs.Verify.{verify, judgement, IsVerifyInput, verdict_answer, denial_answer}
 use Rattle.commands.specs.declared.certificate.Certificate.{Certificate}
 use Rattle.commands.specs.declared.certificate.Certificate.TheVariants.{Moves, Denial}
 use Rattle.commands.specs.declared.inputs.TheConstants.{MOST_BYTES}
@@ -72,7 +68,7 @@ spelled_denial text denial e = by_head (head_of_text text) e
     by_head (Ok (heads.Labels degree)) f = as_denial (denial_of_lines degree text) denial f
 
 -- a certificate that convinces is spelled by its text
-spelled : (mesh : FaceList) (first second : List ℕ) (shown : Certificate) → IsFaceList mesh → IsWalk mesh first → length first < 2 ^ 32
+pub spelled : (mesh : FaceList) (first second : List ℕ) (shown : Certificate) → IsFaceList mesh → IsWalk mesh first → length first < 2 ^ 32
     → length second < 2 ^ 32 → Convinces mesh first second shown → IsPeakRead shown → length (certificate_text shown) ≤ MOST_BYTES
     → SpellsCertificate shown (certificate_text shown)
 spelled mesh first second (Moves list) valid walk few_first few_second h peak short =
@@ -86,37 +82,20 @@ spelled mesh first second (Denial denial) valid walk few_first few_second h peak
 
 -- ---- the verdict
 
-some_and : {A : Type 0} (o : Option A) (P Q : A → Type 0) → ((x : A) → P x → Q x) → IsSomeAnd o P → IsSomeAnd o Q
-some_and None P Q more h = h
-some_and (Some x) P Q more h = more x h
-
--- a file of a text that spells the certificate
-verify_input : (files : Option Files) (words : List (List ℕ)) (mesh : FaceList) (first second text : List ℕ) (shown : Certificate)
-    → SpellsCertificate shown text → IsVerifyOfText files words mesh first second text → IsVerifyInput files words mesh first second shown
-verify_input files words mesh first second text shown spells h =
-    record {
-      mesh_name = h.mesh_name;
-      walks_name = h.walks_name;
-      certificate_name = h.certificate_name;
-      words_are = h.words_are;
-      mesh_file = h.mesh_file;
-      walks_file = h.walks_file;
-      certificate_file =
-          some_and (file_of files h.certificate_name) (λ bytes. (length bytes ≤ MOST_BYTES) × (bytes ≡ text))
-          (λ bytes. (length bytes ≤ MOST_BYTES) × SpellsCertificate shown bytes)
-          (λ bytes file. (file.0, subst (SpellsCertificate shown) (sym file.1) spells)) h.certificate_file;
-    }
-
--- the only outcome
 module _ (files : Option Files) (words : List (List ℕ)) (mesh : FaceList) (first second : List ℕ) where
-  one_end : (shown : Certificate) (outcome target : Outcome) → IsVerifyInput files words mesh first second shown
-      → (judgement mesh first second shown).Ends target → IsOutcome files words outcome → outcome ≡ target
+  -- as the judgement ends, each outcome of the command is
+  one_end : (shown : Certificate) (outcome target : Outcome) (input : IsVerifyInput files words mesh first second shown)
+      → (judgement mesh first second shown).Ends target
+      → (verify files input.mesh_name input.walks_name input.certificate_name).Ends outcome → outcome ≡ target
   one_end shown outcome target input ends is =
-      (sound-words files words).one (told_input files words mesh first second shown input) outcome target is
+      (sound-verify files input.mesh_name input.walks_name input.certificate_name).one
+      (told_input files words mesh first second shown input) outcome target is
       (judgement_outcome files words mesh first second shown target input ends)
 
-  accepted : (shown : Certificate) (outcome : Outcome) (status : Status) (answer : List ℕ) → Convinces mesh first second shown
-      → IsVerifyInput files words mesh first second shown → IsOutcome files words outcome → IsAnswerOf outcome status answer
+  -- a certificate that convinces is accepted
+  pub accepted : (shown : Certificate) (outcome : Outcome) (status : Status) (answer : List ℕ) → Convinces mesh first second shown
+      → (input : IsVerifyInput files words mesh first second shown)
+      → (verify files input.mesh_name input.walks_name input.certificate_name).Ends outcome → IsAnswerOf outcome status answer
       → (status ≡ Yes) × (answer ≡ line (codes "accepted") [])
   accepted (Moves list) outcome status answer h input is told =
       let verdict : verdict_of mesh first second list ≡ Accepted =
@@ -131,23 +110,3 @@ module _ (files : Option Files) (words : List (List ℕ)) (mesh : FaceList) (fir
       let same = one_end (Denial denial) outcome target input (verdicts.Accepted, refl, h) is in
       let a : IsAnswerOf target status answer = subst (λ (o : Outcome). IsAnswerOf o status answer) same told in
       (a.status_is, a.text_is)
-
--- ---- what is printed
-
-pub printed_accepted : (files : Option Files) (words : List (List ℕ)) (mesh : FaceList) (first second : List ℕ) (status : Status)
-    (text : List ℕ) → IsCertifyInput files words mesh first second → IsWithinLimits mesh first second
-    → (printed : IsCertificatePrinted mesh first second status text)
-    → IsPeakRead printed.shown → length text ≤ MOST_BYTES → IsAccepted mesh first second printed.shown text
-printed_accepted files words mesh first second status text input limits printed peak short =
-    let off = held files input.mesh_name (SpellsMesh mesh) input.mesh_file in
-    let pair = (held files input.walks_name (SpellsPair mesh first second) input.walks_file).holds in
-    let own : SpellsCertificate printed.shown (certificate_text printed.shown) =
-    spelled mesh first second printed.shown (is_face_list off.bytes mesh off.holds) pair.first_walk (omega (arith, limits.few))
-    (omega (arith, limits.few)) printed.convinces peak (subst (λ (t : List ℕ). length t ≤ MOST_BYTES) printed.text_is short) in
-    let spells : SpellsCertificate printed.shown text = subst (SpellsCertificate printed.shown) (sym printed.text_is) own in
-    record {
-      spells = spells;
-      accepted = λ others commands outcome end answer h is told.
-          accepted others commands mesh first second printed.shown outcome end answer printed.convinces
-          (verify_input others commands mesh first second text printed.shown spells h) is told;
-    }

@@ -1,5 +1,5 @@
 -- `certify` in the words of the mesh.
-use Rattle.std.proofs.Common.{◌≡◌, ℕ, ◌+◌, ◌<◌, ◌≤◌, true, false, List, [], ◌∷◌, refl, sym, ap, ◌∙◌, subst, arith}
+use Rattle.std.proofs.Common.{◌≡◌, ℕ, ◌+◌, ◌<◌, ◌≤◌, true, false, List, [], ◌∷◌, codes, refl, sym, ap, ◌∙◌, subst, arith}
 use Rattle.std.specs.Prelude.{◌↔◌, nat_lt, Option, Some, None}
 use Rattle.std.proofs.lemmas.Bool.Decides.{nat_tests}
 use Rattle.surf_io.specs.Files.{Files}
@@ -11,16 +11,14 @@ use Rattle.walk_translate.specs.declared.deciding.Answer as deciding
 use Rattle.walk_translate.specs.declared.deciding.Answer.TheVariants as answers
 use Rattle.commands.proofs.Certifying.{after_surface, after_pair, after_limits, limited}
 use Rattle.commands.proofs.Deciding.{behind, refused_behind, differs}
-use Rattle.commands.proofs.Rows.{one_row, sound-pair, sound-surface_in, surface_told, pair_told, unless_told, spelled_pair, spelled_surface}
-use Rattle.commands.proofs.Sound.{held, sound-found, sound-pass_unless}
+use Rattle.commands.proofs.Rows.{sound-pair, sound-surface_in, surface_told, pair_told, unless_told, spelled_pair, spelled_surface}
+use Rattle.commands.proofs.Sound.{held, sound-pass_unless}
 use Rattle.commands.specs.Answers.{Answer, Exactly}
 use Rattle.commands.specs.Certificates.{decision_status}
-use Rattle.commands.specs.Certify.{IsCertifyInput, IsWithinLimits, IsCertificatePrinted, IsCertified, limit_fault, certified, sides_line, certificate_answer, darts_line}
-use Rattle.commands.specs.Checks.{Refuse, Pass, found_or}
-use Rattle.commands.specs.Commands.{Certify, IsRow, answer_to}
+use Rattle.commands.specs.Certify.{certify, IsCertifyInput, IsWithinLimits, IsCertificatePrinted, IsCertified, limit_fault, certified, sides_line, certificate_answer, darts_line}
+use Rattle.commands.specs.Checks.{Refuse, Pass}
 use Rattle.commands.specs.Inputs.{pair_in, SpellsMesh, SpellsPair}
-use Rattle.commands.specs.Outcomes.{Outcome, IsOutcome, IsAnswerOf}
-use Rattle.commands.specs.Refusals.{wrong_words}
+use Rattle.commands.specs.Outcomes.{Outcome, AnswersTo, IsAnswerOf}
 use Rattle.commands.specs.SurfaceInput.{surface_in}
 use Rattle.commands.specs.declared.status.Status.{Status}
 use Rattle.commands.specs.declared.status.Status.TheVariants.{Yes, No, Refused}
@@ -90,22 +88,19 @@ by_certified mesh first second (Pass x) status text p answer =
 -- ---- such an input
 
 module _ (files : Option Files) (words : List (List ℕ)) (mesh : FaceList) (first second : List ℕ) (outcome : Outcome) (status : Status)
-    (text : List ℕ)
-    (is : IsOutcome files words outcome) (answer : IsAnswerOf outcome status text)
-    (input : IsCertifyInput files words mesh first second) where
+    (text : List ℕ) (input : IsCertifyInput files words mesh first second)
+    (is : (certify files input.mesh_name input.walks_name).Ends outcome) (answer : IsAnswerOf outcome status text) where
   two : List (List ℕ)
   two = first ∷ second ∷ []
 
-  -- as such words end, the checks behind the walks do
+  -- as the command ends, the checks behind the walks do
   behind_walks : (after_pair mesh two).Ends outcome
   unfolding two
   behind_walks =
-      let row = behind files (found_or wrong_words (IsRow words)) (answer_to files) (Certify input.mesh_name input.walks_name) outcome
-      (sound-found files _ _ (one_row words)) tt input.words_are is in
       let walks = behind files (surface_in files input.mesh_name) (after_surface files input.walks_name) mesh outcome
       (sound-surface_in files input.mesh_name)
       (surface_told files input.mesh_name (held files input.mesh_name (SpellsMesh mesh) input.mesh_file).told)
-      (spelled_surface files input.mesh_name mesh input.mesh_file input.is_surface) row in
+      (spelled_surface files input.mesh_name mesh input.mesh_file input.is_surface) is in
       behind files (pair_in files input.walks_name mesh) (after_pair mesh) two outcome (sound-pair files input.walks_name mesh)
       (pair_told files input.walks_name mesh (held files input.walks_name (SpellsPair mesh first second) input.walks_file).told)
       (spelled_pair files input.walks_name mesh first second input.walks_file) walks
@@ -127,20 +122,28 @@ module _ (files : Option Files) (words : List (List ℕ)) (mesh : FaceList) (fir
       (sound-pass_unless files (λ line. Exactly line) (limit_fault mesh first second) two)
       (unless_told files (λ line. Exactly line) (limit_fault mesh first second) two) (rw e refl) behind_walks) answer
 
--- what is answered of such an input
-pub certified_so : (files : Option Files) (words : List (List ℕ)) (outcome : Outcome) (status : Status) (text : List ℕ)
-    → IsOutcome files words outcome
-    → IsAnswerOf outcome status text → IsCertified files words status text
-certified_so files words outcome status text is answer =
+-- what `certify` is for, where the words are answered by its check
+pub certified_so : (files : Option Files) (words : List (List ℕ)) (status : Status) (text : List ℕ)
+    → ((mesh walks : List ℕ) → words ≡ codes "certify" ∷ mesh ∷ walks ∷ [] → AnswersTo files (certify files mesh walks) status text)
+    → IsCertified files words status text
+certified_so files words status text answered =
     record {
-      answered = λ mesh first second input within. (answers_input files words mesh first second outcome status text is answer input
-          within).answered;
-      exactly = λ mesh first second input within. (answers_input files words mesh first second outcome status text is answer input
-          within).exactly;
+      answered = λ mesh first second input within. (so mesh first second input within).answered;
+      exactly = λ mesh first second input within. (so mesh first second input within).exactly;
       many_sides = λ mesh first second input many.
-          refuses_input files words mesh first second outcome status text is answer input (sides_line mesh)
-          (side_limit mesh first second many);
+          refused mesh first second input (sides_line mesh) (side_limit mesh first second many);
       many_darts = λ mesh first second input few many.
-          refuses_input files words mesh first second outcome status text is answer input (darts_line first second)
-          (dart_limit mesh first second few many);
+          refused mesh first second input (darts_line first second) (dart_limit mesh first second few many);
     }
+  where
+    so : (mesh : FaceList) (first second : List ℕ) → IsCertifyInput files words mesh first second → IsWithinLimits mesh first second
+        → IsAnsweredSo mesh first second status text
+    so mesh first second input within =
+        let a = answered input.mesh_name input.walks_name input.words_are in
+        answers_input files words mesh first second a.outcome status text input a.is_outcome a.is_answer within
+
+    refused : (mesh : FaceList) (first second : List ℕ) → IsCertifyInput files words mesh first second → (line : List ℕ)
+        → limit_fault mesh first second ≡ Some line → (status ≡ Refused) × (text ≡ line)
+    refused mesh first second input line e =
+        let a = answered input.mesh_name input.walks_name input.words_are in
+        refuses_input files words mesh first second a.outcome status text input a.is_outcome a.is_answer line e

@@ -13,7 +13,7 @@ use Rattle.surf_model.specs.declared.moves.Move.{Move}
 use Rattle.surf_model.specs.declared.moves.Move.TheVariants.{Insert, Remove, Across}
 use Rattle.surf_model.proofs.EdgeLemmas.{head_used}
 use Rattle.surf_model.proofs.WayBackLemmas.{keeps_walk}
-use Rattle.manifold_check.proofs.EdgeLemmas.{used_below}
+use Rattle.surf_model.proofs.EdgeLemmas.{used_below}
 use Rattle.move_checker.proofs.Judgement.{greatest_darts-more, greatest_darts-first}
 use Rattle.move_lifting.specs.Lifts.{LeadsAtPeak}
 use Rattle.walk_files.specs.MoveTexts.{MoveFits, FitsFormat, list_text}

@@ -23,8 +23,6 @@ pub mod VerifyOutcomes
 pub mod ReduceOutcomes
 pub mod ChainReading
 pub mod TrialOutcomes
-pub mod HeadlineLemmas
-pub mod Outcomes
 pub mod TextLengths
 pub mod FittingMoves
 pub mod FittingDenials

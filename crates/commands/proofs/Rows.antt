@@ -1,6 +1,6 @@
--- The rows of the table of commands: what each looks at has an end, and one where its files are told.
-use Rattle.std.proofs.Common.{◌≡◌, inr, ℕ, List, [], ◌∷◌, refl, ap, arith, sym, codes, ◌∙◌, ◌+◌, ◌*◌}
-use Rattle.std.specs.Prelude.{Option, Some, None, Result, Ok, Err, slice_index_or}
+-- The files that commands look at, and the commands: the check of each has an end, and one where its files are told.
+use Rattle.std.proofs.Common.{inr, ℕ, List, [], ◌∷◌, refl}
+use Rattle.std.specs.Prelude.{Option, Some, None, Result, Ok, Err}
 use Rattle.surf_io.specs.Files.{Files}
 use Rattle.surf_model.specs.FaceLists.{FaceList}
 use Rattle.off_reader.specs.OffTexts.{meaning_of}
@@ -15,65 +15,18 @@ use Rattle.commands.proofs.Checking.{pair_passes}
 use Rattle.commands.proofs.Deciding.{sound-decided}
 use Rattle.commands.proofs.Measuring.{sound-numbers, surface_passed}
 use Rattle.commands.proofs.MeshTexts.{mesh_valid}
-use Rattle.commands.proofs.Reducing.{sound-reduce}
 use Rattle.commands.proofs.SomeVerdict.{sound-judgement}
-use Rattle.commands.proofs.Sound.{IsSound, sound-then, sound-pass, sound-found, sound-meant, sound-pass_unless, sound-file, held}
+use Rattle.commands.proofs.Sound.{IsSound, sound-then, sound-pass, sound-meant, sound-pass_unless, sound-file, held}
 use Rattle.commands.proofs.Surfaces.{sound-as_surface}
-use Rattle.commands.proofs.Trying.{sound-trial}
 use Rattle.commands.specs.Answers.{Exactly, Texts}
 use Rattle.commands.specs.Certify.{certify, limit_fault}
 use Rattle.commands.specs.Checks.{Passes, Holds, IsTold, meant, pass_unless, ◌>>=◌}
-use Rattle.commands.specs.Commands.{Row, Surface, Decide, Certify, Verify, Reduce, Trial, IsRow, answer_to}
 use Rattle.commands.specs.Decide.{decide}
 use Rattle.commands.specs.Inputs.{mesh_in, pair_in, certificate_in, certificate_of, walk_at, SpellsMesh, SpellsPair}
-use Rattle.commands.specs.Outcomes.{answer_of}
 use Rattle.commands.specs.Refusals.{numbers_line, certificate_line, off_line, pair_line}
 use Rattle.commands.specs.Surface.{surface}
 use Rattle.commands.specs.SurfaceInput.{surface_in}
 use Rattle.commands.specs.Verify.{verify}
-
--- ---- the rows
-
--- the keyword of a row
-abbrev keyword_of : Row → List ℕ
-keyword_of (Surface mesh) = codes "surface"
-keyword_of (Decide mesh walks) = codes "decide"
-keyword_of (Certify mesh walks) = codes "certify"
-keyword_of (Verify mesh walks certificate) = codes "verify"
-keyword_of (Reduce degree list) = codes "reduce"
-keyword_of (Trial genus grid) = codes "trial"
-
--- a keyword as one number, since keywords differ
-value : List ℕ → ℕ
-value [] = 0
-value (byte ∷ bytes) = byte + 256 * value bytes
-
-first_word : List (List ℕ) → List ℕ
-first_word words = slice_index_or words 0 []
-
-keyword-row : (words : List (List ℕ)) (row : Row) → IsRow words row → first_word words ≡ keyword_of row
-unfolding first_word
-keyword-row words (Surface mesh) p = ap first_word p
-keyword-row words (Decide mesh walks) p = ap first_word p
-keyword-row words (Certify mesh walks) p = ap first_word p
-keyword-row words (Verify mesh walks certificate) p = ap first_word p
-keyword-row words (Reduce degree list) p = ap first_word p.1
-keyword-row words (Trial genus grid) p = ap first_word p.2
-
--- rows of the same words have one keyword
-same_value : (words : List (List ℕ)) (a b : Row) → IsRow words a → IsRow words b → value (keyword_of a) ≡ value (keyword_of b)
-same_value words a b p q = ap value (sym (keyword-row words a p) ∙ keyword-row words b q)
-
--- words are one row at most
-pub one_row : (words : List (List ℕ)) (a b : Row) → IsRow words a → IsRow words b → a ≡ b
-unfolding value
-one_row words (Surface a) (Surface b) p q = cc
-one_row words (Decide a b) (Decide c d) p q = cc
-one_row words (Certify a b) (Certify c d) p q = cc
-one_row words (Verify a b c) (Verify d e f) p q = cc
-one_row words (Reduce a b) (Reduce c d) p q = cc
-one_row words (Trial a b) (Trial c d) p q = cc
-one_row words a b p q = absurd (omega (arith, same_value words a b p q))
 
 -- ---- the files
 
@@ -97,43 +50,32 @@ sound-surface_in held name =
     sound-then held _ _ (sound-mesh held name)
     (λ mesh h. sound-as_surface held mesh (mesh_valid held name mesh h))
 
-sound-surface : (held : Option Files) (name : List ℕ) → IsSound held (surface held name)
+pub sound-surface : (held : Option Files) (name : List ℕ) → IsSound held (surface held name)
 sound-surface held name =
     sound-then held _ _ (sound-surface_in held name)
     (λ mesh h. let is = surface_passed held name mesh h in
     sound-then held _ _ (sound-numbers held mesh is.0 is.1) (λ numbers _. sound-pass held _))
 
-sound-verify : (held : Option Files) (mesh walks certificate : List ℕ) → IsSound held (verify held mesh walks certificate)
+pub sound-verify : (held : Option Files) (mesh walks certificate : List ℕ) → IsSound held (verify held mesh walks certificate)
 sound-verify held mesh walks certificate =
     sound-then held _ _ (sound-mesh held mesh)
     (λ faces h. sound-then held _ _ (sound-pair held walks faces)
     (λ pair _. sound-then held _ _ (sound-certificate held certificate)
     (λ shown _. sound-judgement held faces (walk_at pair 0) (walk_at pair 1) shown (mesh_valid held mesh faces h))))
 
-sound-decide : (held : Option Files) (mesh walks : List ℕ) → IsSound held (decide held mesh walks)
+pub sound-decide : (held : Option Files) (mesh walks : List ℕ) → IsSound held (decide held mesh walks)
 sound-decide held mesh walks =
     sound-then held _ _ (sound-surface_in held mesh)
     (λ surface _. sound-then held _ _ (sound-pair held walks surface)
     (λ pair _. sound-decided held surface (walk_at pair 0) (walk_at pair 1)))
 
-sound-certify : (held : Option Files) (mesh walks : List ℕ) → IsSound held (certify held mesh walks)
+pub sound-certify : (held : Option Files) (mesh walks : List ℕ) → IsSound held (certify held mesh walks)
 sound-certify held mesh walks =
     sound-then held _ _ (sound-surface_in held mesh)
     (λ surface _. sound-then held _ _ (sound-pair held walks surface)
     (λ pair _. sound-then held _ _ (sound-pass_unless held (λ line. Exactly line)
     (limit_fault surface (walk_at pair 0) (walk_at pair 1)) pair)
     (λ _ _. sound-certified held surface (walk_at pair 0) (walk_at pair 1))))
-
-sound-row : (held : Option Files) (row : Row) → IsSound held (answer_to held row)
-sound-row held (Surface mesh) = sound-surface held mesh
-sound-row held (Decide mesh walks) = sound-decide held mesh walks
-sound-row held (Certify mesh walks) = sound-certify held mesh walks
-sound-row held (Verify mesh walks certificate) = sound-verify held mesh walks certificate
-sound-row held (Reduce degree list) = sound-reduce held degree list
-sound-row held (Trial genus grid) = sound-trial held genus grid
-
-pub sound-words : (held : Option Files) (words : List (List ℕ)) → IsSound held (answer_of held words)
-sound-words held words = sound-then held _ _ (sound-found held _ _ (one_row words)) (λ row _. sound-row held row)
 
 -- ---- files that are told
 

@@ -1,16 +1,15 @@
 -- `surface` in the words of the mesh.
-use Rattle.std.proofs.Common.{◌≡◌, inl, inr, ℕ, List, sym, ◌∙◌, subst}
+use Rattle.std.proofs.Common.{◌≡◌, ℕ, List, [], ◌∷◌, codes, sym, ◌∙◌}
 use Rattle.std.specs.Prelude.{Option}
 use Rattle.surf_io.specs.Files.{Files}
 use Rattle.surf_model.specs.FaceLists.{FaceList}
 use Rattle.surf_model.specs.Surfaces.{IsSurface}
 use Rattle.commands.proofs.Measuring.{some_numbers, answered_surface, behind_mesh, with_numbers, fault_ends, turned_ends, numbers_end}
 use Rattle.commands.proofs.MeshTexts.{mesh_valid}
-use Rattle.commands.proofs.Rows.{one_row, sound-mesh, mesh_told, mesh_passes}
+use Rattle.commands.proofs.Rows.{sound-mesh, mesh_told, mesh_passes}
 use Rattle.commands.specs.Answers.{OfOddChain, yes_with}
 use Rattle.commands.specs.Checks.{Refuse, Pass, IsTold, ◌>>=◌}
-use Rattle.commands.specs.Commands.{Row, Surface, answer_to}
-use Rattle.commands.specs.Outcomes.{Outcome, IsOutcome, AllTold, IsAnswerOf}
+use Rattle.commands.specs.Outcomes.{Outcome, AnswersTo, IsAnswerOf}
 use Rattle.commands.specs.Refusals.{surface_line}
 use Rattle.commands.specs.Surface.{surface, AreNumbersOf, IsSurfaceInput, IsMeasured, numbers_text}
 use Rattle.commands.specs.SurfaceInput.{as_surface}
@@ -18,67 +17,53 @@ use Rattle.commands.specs.declared.status.Status.{Status}
 use Rattle.commands.specs.declared.status.Status.TheVariants.{Yes}
 use Rattle.commands.specs.declared.surface.SurfaceNumbers.{SurfaceNumbers}
 
--- each file that such words look at is told
-told_surface : (files : Option Files) (words : List (List ℕ)) (mesh : FaceList) → IsSurfaceInput files words mesh → AllTold files words
-told_surface files words mesh input = (
-  tt,
-  λ row is.
-      subst (λ (r : Row). (answer_to files r).EachFile (IsTold files)) (one_row words (Surface input.mesh_name) row input.words_are is) (
-        (mesh_told files input.mesh_name mesh input.mesh_file, λ faces _. (tt, λ _ _. tt)),
-        λ _ _. (tt, λ _ _. tt),
-      ),
-)
+module _ (files : Option Files) (words : List (List ℕ)) (mesh : FaceList) (input : IsSurfaceInput files words mesh) where
+  -- each file that is looked at is told
+  input_told : (surface files input.mesh_name).EachFile (IsTold files)
+  input_told = ((mesh_told files input.mesh_name mesh input.mesh_file, λ faces _. (tt, λ _ _. tt)), λ _ _. (tt, λ _ _. tt))
 
--- as the checks behind the mesh end, the words do
-surface_outcome : (files : Option Files) (words : List (List ℕ)) (mesh : FaceList) (outcome : Outcome) → IsSurfaceInput files words mesh
-    → (as_surface mesh >>= with_numbers).Ends outcome → IsOutcome files words outcome
-surface_outcome files words mesh outcome input h =
-    inr (
-      Surface input.mesh_name,
-      input.words_are,
-      behind_mesh files input.mesh_name mesh outcome
-          (mesh_passes files input.mesh_name mesh input.mesh_file) h,
-    )
+  -- as the checks behind the mesh end, the command does
+  mesh_ends : (outcome : Outcome) → (as_surface mesh >>= with_numbers).Ends outcome → (surface files input.mesh_name).Ends outcome
+  mesh_ends outcome h = behind_mesh files input.mesh_name mesh outcome (mesh_passes files input.mesh_name mesh input.mesh_file) h
 
--- a status of yes tells of a surface
-yes_surface : (files : Option Files) (words : List (List ℕ)) (mesh : FaceList) (outcome : Outcome) (status : Status) (text : List ℕ)
-    → IsSurfaceInput files words mesh → IsOutcome files words outcome → IsAnswerOf outcome status text → status ≡ Yes → IsSurface mesh
-yes_surface files words mesh (Refuse texts) status text input is answer told = let e = sym told ∙ answer.status_is in cc
-yes_surface files words mesh (Pass found) status text input (inl p) answer told = let e = p.2 in cc
-yes_surface files words mesh (Pass found) status text input (inr p) answer told =
-    let row : (answer_to files (Surface input.mesh_name)).Ends (Pass found) =
-    subst (λ (r : Row). (answer_to files r).Ends (Pass found)) (one_row words p.0 (Surface input.mesh_name) p.1 input.words_are) p.2 in
-    answered_surface files input.mesh_name mesh found (mesh_passes files input.mesh_name mesh input.mesh_file)
-    ((sound-mesh files input.mesh_name).one (mesh_told files input.mesh_name mesh input.mesh_file)) row
+  -- a status of yes tells of a surface
+  yes_surface : (outcome : Outcome) (status : Status) (text : List ℕ) → (surface files input.mesh_name).Ends outcome
+      → IsAnswerOf outcome status text → status ≡ Yes → IsSurface mesh
+  yes_surface (Refuse texts) status text is answer told = let e = sym told ∙ answer.status_is in cc
+  yes_surface (Pass found) status text is answer told =
+      answered_surface files input.mesh_name mesh found (mesh_passes files input.mesh_name mesh input.mesh_file)
+      ((sound-mesh files input.mesh_name).one (mesh_told files input.mesh_name mesh input.mesh_file)) is
 
--- what is answered of such an input, where an answer is exact
-pub measured : (files : Option Files) (words : List (List ℕ)) (outcome : Outcome) (status : Status) (text : List ℕ)
-    → IsOutcome files words outcome
-    → IsAnswerOf outcome status text → (AllTold files words → (other : Outcome) → IsOutcome files words other
-    → IsAnswerOf other status text)
+-- what is answered of such an input, where the words are answered by the check
+pub measured : (files : Option Files) (words : List (List ℕ)) (status : Status) (text : List ℕ)
+    → ((name : List ℕ) → words ≡ codes "surface" ∷ name ∷ [] → AnswersTo files (surface files name) status text)
     → IsMeasured files words status text
-measured files words outcome status text is answer exact =
+measured files words status text answered =
     record {
-      surface = λ mesh input. (
-        λ told. yes_surface files words mesh outcome status text input is answer told,
-        λ surface. (numbers_told mesh input surface).0,
-      );
-      numbers = λ mesh input surface. (numbers_told mesh input surface).1;
+      surface = λ mesh input.
+          let a = answered input.mesh_name input.words_are in (
+            λ told. yes_surface files words mesh input a.outcome status text a.is_outcome a.is_answer told,
+            λ is. (numbers_told mesh input is).0,
+          );
+      numbers = λ mesh input is. (numbers_told mesh input is).1;
       not_closed = λ mesh fault input first.
-          let a = exact (told_surface files words mesh input) (Refuse (surface_line fault))
-          (surface_outcome files words mesh (Refuse (surface_line fault)) input (fault_ends mesh fault first)) in
+          let a = ended mesh input (Refuse (surface_line fault)) (fault_ends mesh fault first) in
           (a.status_is, a.text_is);
       not_orientable = λ mesh input closed turned.
-          let a = exact (told_surface files words mesh input) (Refuse (OfOddChain mesh))
-          (surface_outcome files words mesh (Refuse (OfOddChain mesh)) input (turned_ends mesh closed turned)) in
+          let a = ended mesh input (Refuse (OfOddChain mesh)) (turned_ends mesh closed turned) in
           (a.status_is, a.text_is.0, a.text_is.1, a.text_is.2);
     }
   where
+    ended : (mesh : FaceList) → IsSurfaceInput files words mesh → (outcome : Outcome) → (as_surface mesh >>= with_numbers).Ends outcome
+        → IsAnswerOf outcome status text
+    ended mesh input outcome h =
+        (answered input.mesh_name input.words_are).exact (input_told files words mesh input) outcome
+        (mesh_ends files words mesh input outcome h)
+
     numbers_told : (mesh : FaceList) → IsSurfaceInput files words mesh → IsSurface mesh
         → (status ≡ Yes) × ((numbers : SurfaceNumbers) × AreNumbersOf mesh numbers × (text ≡ numbers_text numbers))
-    numbers_told mesh input surface =
+    numbers_told mesh input is =
         let some = some_numbers mesh (mesh_valid files input.mesh_name mesh (mesh_passes files input.mesh_name mesh input.mesh_file))
-        surface in
-        let a = exact (told_surface files words mesh input) (Pass (yes_with (numbers_text some.0)))
-        (surface_outcome files words mesh (Pass (yes_with (numbers_text some.0))) input (numbers_end mesh some.0 surface some.1)) in
+        is in
+        let a = ended mesh input (Pass (yes_with (numbers_text some.0))) (numbers_end mesh some.0 is some.1) in
         (a.status_is, (some.0, some.1, a.text_is))

@@ -16,11 +16,10 @@ use Rattle.walk_files.specs.Pairs.{IsPair, pair_fault}
 use Rattle.walk_files.proofs.PairLemmas.{none_of_pair}
 use Rattle.walk_translate.specs.declared.deciding.Answer as deciding
 use Rattle.commands.specs.Answers.{Answer, yes_with}
-use Rattle.commands.specs.Checks.{Check, End, Refuse, Pass, Passes, found_or, pass, ◌>>=◌}
-use Rattle.commands.specs.Commands.{Trial, IsRow, answer_to}
+use Rattle.commands.specs.Checks.{Check, End, Refuse, Pass, Passes, pass, ◌>>=◌}
 use Rattle.commands.specs.Lines.{refused}
-use Rattle.commands.specs.Outcomes.{Outcome, IsOutcome, IsAnswerOf}
-use Rattle.commands.specs.Refusals.{off_line, pair_line, told, wrong_words}
+use Rattle.commands.specs.Outcomes.{Outcome, AnswersTo, IsAnswerOf}
+use Rattle.commands.specs.Refusals.{off_line, pair_line, told}
 use Rattle.commands.specs.Surface.{numbers_of, AreNumbersOf}
 use Rattle.commands.specs.Trial.{IsTrialRow, IsTried, AreDecisions, IsRightOn, is_within, size_fault, surface_spelled, pair_walks, pair_decided, pairs_decided, trial_text, trial}
 use Rattle.commands.specs.declared.status.Status.{Status}
@@ -29,15 +28,9 @@ use Rattle.commands.specs.declared.surface.SurfaceNumbers.{SurfaceNumbers}
 use Rattle.commands.specs.declared.trial.Decisions.{Decisions}
 use Rattle.commands.proofs.ChainReading.{chain_read}
 use Rattle.commands.proofs.Deciding.{behind, refused_behind}
-use Rattle.commands.proofs.Rows.{one_row, meant_told, unless_told}
-use Rattle.commands.proofs.Sound.{sound-found, sound-pass_unless}
+use Rattle.commands.proofs.Rows.{meant_told, unless_told}
+use Rattle.commands.proofs.Sound.{sound-pass_unless}
 use Rattle.commands.proofs.Trying.{sound-spelled, sizes, within_bounds, with_numbers, with_decisions, with_cell, with_loops, in_order, on_pair}
-
-trial_ends : (files : Option Files) (words : List (List ℕ)) (genus grid : ℕ) (outcome : Outcome) → IsOutcome files words outcome
-    → IsTrialRow words genus grid → (trial genus grid).Ends outcome
-trial_ends files words genus grid outcome is row =
-    behind files (found_or wrong_words (IsRow words)) (answer_to files) (Trial genus grid) outcome
-    (sound-found files _ _ (one_row words)) tt row is
 
 -- ---- out of bounds
 
@@ -150,14 +143,15 @@ within_so files genus grid outcome status text chain is pairs ends answer =
     subst (λ (o : Outcome). IsAnswerOf o status text) decided.behind_them answer in
     (given.status_is, numbered.numbers, numbered.are, decided.decisions, decided.are, given.text_is)
 
--- what `trial` is for
-pub tried : (files : Option Files) (words : List (List ℕ)) (outcome : Outcome) (status : Status) (text : List ℕ)
-    → IsOutcome files words outcome
-    → IsAnswerOf outcome status text → IsTried words status text
-tried files words outcome status text is answer =
+-- what `trial` is for, where the words are answered by its check
+pub tried : (files : Option Files) (words : List (List ℕ)) (status : Status) (text : List ℕ)
+    → ((genus grid : ℕ) → IsTrialRow words genus grid → AnswersTo files (trial genus grid) status text) → IsTried words status text
+tried files words status text answered =
     record {
       out_of_bounds = λ genus grid phrases row fault.
-          bounds_so files genus grid phrases outcome status text fault (trial_ends files words genus grid outcome is row) answer;
+          let a = answered genus grid row in
+          bounds_so files genus grid phrases a.outcome status text fault a.is_outcome a.is_answer;
       within_bounds = λ genus grid row chain surface pairs.
-          within_so files genus grid outcome status text chain surface pairs (trial_ends files words genus grid outcome is row) answer;
+          let a = answered genus grid row in
+          within_so files genus grid a.outcome status text chain surface pairs a.is_outcome a.is_answer;
     }

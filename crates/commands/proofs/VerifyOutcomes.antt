@@ -1,5 +1,5 @@
 -- `verify` in the words of the mesh.
-use Rattle.std.proofs.Common.{◌≡◌, inr, ℕ, ◌≤◌, List, [], ◌∷◌, refl, sym, ap, ◌∙◌, subst}
+use Rattle.std.proofs.Common.{◌≡◌, inr, ℕ, ◌≤◌, List, [], ◌∷◌, codes, refl, sym, ap, ◌∙◌, subst}
 use Rattle.std.specs.Prelude.{◌↔◌, Option}
 use Rattle.surf_io.specs.Files.{Files}
 use Rattle.surf_model.specs.FaceLists.{FaceList}
@@ -18,16 +18,15 @@ use Rattle.commands.specs.declared.certificate.Certificate.TheVariants as certif
 use Rattle.commands.specs.declared.refusal.Input.TheVariants as inputs
 use Rattle.commands.proofs.Deciding.{behind}
 use Rattle.commands.proofs.MeshTexts.{mesh_valid}
-use Rattle.commands.proofs.Rows.{one_row, sound-mesh, sound-pair, sound-certificate, meant_told, pair_told, mesh_told, mesh_passes, spelled_pair}
-use Rattle.commands.proofs.Sound.{held, sound-found}
+use Rattle.commands.proofs.Rows.{sound-mesh, sound-pair, sound-certificate, meant_told, pair_told, mesh_told, mesh_passes, spelled_pair}
+use Rattle.commands.proofs.Sound.{held}
 use Rattle.commands.proofs.Verifying.{after_mesh, after_pair}
 use Rattle.commands.specs.Answers.{Answer, IsText}
-use Rattle.commands.specs.Checks.{Refuse, Pass, Passes, IsTold, found_or}
-use Rattle.commands.specs.Commands.{Row, Verify, IsRow, answer_to}
+use Rattle.commands.specs.Checks.{Refuse, Pass, Passes, IsTold}
 use Rattle.commands.specs.Inputs.{mesh_in, pair_in, certificate_in, certificate_of, walk_at, SpellsPair, SpellsCertificate}
-use Rattle.commands.specs.Outcomes.{Outcome, IsOutcome, AllTold, IsAnswerOf}
-use Rattle.commands.specs.Refusals.{certificate_line, wrong_words}
-use Rattle.commands.specs.Verify.{verdict_status, denial_status, denial_line, judgement, IsVerifyInput, IsVerified, IsDenialVerified, verdict_answer, denial_answer}
+use Rattle.commands.specs.Outcomes.{Outcome, AnswersTo, IsAnswerOf}
+use Rattle.commands.specs.Refusals.{certificate_line}
+use Rattle.commands.specs.Verify.{verify, verdict_status, denial_status, denial_line, judgement, IsVerifyInput, IsVerified, IsDenialVerified, verdict_answer, denial_answer}
 use Rattle.commands.specs.declared.certificate.Certificate.{Certificate}
 use Rattle.commands.specs.declared.status.Status.{Status}
 use Rattle.commands.specs.declared.status.Status.TheVariants.{Yes}
@@ -53,45 +52,37 @@ judgement_told : (files : Option Files) (mesh : FaceList) (first second : List �
 judgement_told files mesh first second (certificates.Moves list) = tt
 judgement_told files mesh first second (certificates.Denial denial) = tt
 
--- each file that such words look at is told
+-- each file that is looked at is told
 pub told_input : (files : Option Files) (words : List (List ℕ)) (mesh : FaceList) (first second : List ℕ) (shown : Certificate)
-    → IsVerifyInput files words mesh first second shown → AllTold files words
+    (input : IsVerifyInput files words mesh first second shown)
+    → (verify files input.mesh_name input.walks_name input.certificate_name).EachFile (IsTold files)
 told_input files words mesh first second shown input = (
-  tt,
-  λ row is.
-      subst (λ (r : Row). (answer_to files r).EachFile (IsTold files))
-      (one_row words (Verify input.mesh_name input.walks_name input.certificate_name) row input.words_are is) (
-        mesh_told files input.mesh_name mesh input.mesh_file,
-        λ faces _. (
-          pair_told files input.walks_name faces (held files input.walks_name (SpellsPair mesh first second) input.walks_file).told,
-          λ pair _. (
-            (
-              (held files input.certificate_name (SpellsCertificate shown) input.certificate_file).told,
-              λ bytes _. meant_told files certificate_line (certificate_of bytes),
-            ),
-            λ certificate _. judgement_told files faces (walk_at pair 0) (walk_at pair 1) certificate,
-          ),
-        ),
+  mesh_told files input.mesh_name mesh input.mesh_file,
+  λ faces _. (
+    pair_told files input.walks_name faces (held files input.walks_name (SpellsPair mesh first second) input.walks_file).told,
+    λ pair _. (
+      (
+        (held files input.certificate_name (SpellsCertificate shown) input.certificate_file).told,
+        λ bytes _. meant_told files certificate_line (certificate_of bytes),
       ),
+      λ certificate _. judgement_told files faces (walk_at pair 0) (walk_at pair 1) certificate,
+    ),
+  ),
 )
 
--- as the judgement ends, the words do
+-- as the judgement ends, the command does
 pub judgement_outcome : (files : Option Files) (words : List (List ℕ)) (mesh : FaceList) (first second : List ℕ) (shown : Certificate)
-    (outcome : Outcome)
-    → IsVerifyInput files words mesh first second shown → (judgement mesh first second shown).Ends outcome → IsOutcome files words outcome
+    (outcome : Outcome) (input : IsVerifyInput files words mesh first second shown) → (judgement mesh first second shown).Ends outcome
+    → (verify files input.mesh_name input.walks_name input.certificate_name).Ends outcome
 judgement_outcome files words mesh first second shown outcome input h =
     let file = held files input.certificate_name (SpellsCertificate shown) input.certificate_file in
     inr (
-      Verify input.mesh_name input.walks_name input.certificate_name,
-      input.words_are,
+      mesh,
+      mesh_passes files input.mesh_name mesh input.mesh_file,
       inr (
-        mesh,
-        mesh_passes files input.mesh_name mesh input.mesh_file,
-        inr (
-          first ∷ second ∷ [],
-          spelled_pair files input.walks_name mesh first second input.walks_file,
-          inr (shown, inr (file.bytes, file.passes inputs.Certificate, rw file.holds refl), h),
-        ),
+        first ∷ second ∷ [],
+        spelled_pair files input.walks_name mesh first second input.walks_file,
+        inr (shown, inr (file.bytes, file.passes inputs.Certificate, rw file.holds refl), h),
       ),
     )
 
@@ -114,21 +105,19 @@ holds_where_yes mesh first second denial (verdicts.WordWrong walk) is e = cc
 holds_where_yes mesh first second denial verdicts.Equal is e = cc
 holds_where_yes mesh first second denial verdicts.Accepted is e = is
 
--- as such words end, the judgement does
+-- as the command ends, the judgement does
 behind_files : (files : Option Files) (words : List (List ℕ)) (mesh : FaceList) (first second : List ℕ) (shown : Certificate)
-    (outcome : Outcome)
-    → IsVerifyInput files words mesh first second shown → IsOutcome files words outcome → (judgement mesh first second shown).Ends outcome
+    (outcome : Outcome) (input : IsVerifyInput files words mesh first second shown)
+    → (verify files input.mesh_name input.walks_name input.certificate_name).Ends outcome
+    → (judgement mesh first second shown).Ends outcome
 behind_files files words mesh first second shown outcome input is =
     let pair : List (List ℕ) = first ∷ second ∷ [] in
     let file = held files input.certificate_name (SpellsCertificate shown) input.certificate_file in
     let passed : Passes (certificate_in files input.certificate_name) shown =
     inr (file.bytes, file.passes inputs.Certificate, rw file.holds refl) in
-    let row = behind files (found_or wrong_words (IsRow words)) (answer_to files)
-    (Verify input.mesh_name input.walks_name input.certificate_name) outcome (sound-found files _ _ (one_row words)) tt input.words_are
-    is in
     let walks = behind files (mesh_in files input.mesh_name) (after_mesh files input.walks_name input.certificate_name) mesh outcome
     (sound-mesh files input.mesh_name) (mesh_told files input.mesh_name mesh input.mesh_file)
-    (mesh_passes files input.mesh_name mesh input.mesh_file) row in
+    (mesh_passes files input.mesh_name mesh input.mesh_file) is in
     let certificate = behind files (pair_in files input.walks_name mesh) (after_pair files input.certificate_name mesh) pair outcome
     (sound-pair files input.walks_name mesh)
     (pair_told files input.walks_name mesh (held files input.walks_name (SpellsPair mesh first second) input.walks_file).told)
@@ -138,17 +127,24 @@ behind_files files words mesh first second shown outcome input is =
     passed certificate
 
 module _ (files : Option Files) (words : List (List ℕ)) (status : Status) (text : List ℕ)
-    (exact : AllTold files words → (other : Outcome) → IsOutcome files words other → IsAnswerOf other status text) where
+    (answered : (mesh walks certificate : List ℕ) → words ≡ codes "verify" ∷ mesh ∷ walks ∷ certificate ∷ []
+    → AnswersTo files (verify files mesh walks certificate) status text) where
+  -- the answer to such an input, if the judgement on it ends so
+  judged_so : (mesh : FaceList) (first second : List ℕ) (shown : Certificate) (outcome : Outcome)
+      → IsVerifyInput files words mesh first second shown → (judgement mesh first second shown).Ends outcome
+      → IsAnswerOf outcome status text
+  judged_so mesh first second shown outcome input ends =
+      (answered input.mesh_name input.walks_name input.certificate_name input.words_are).exact
+      (told_input files words mesh first second shown input) outcome
+      (judgement_outcome files words mesh first second shown outcome input ends)
+
   judged_list : (mesh : FaceList) (first second : List ℕ) (list : PeakedMoves)
       → IsVerifyInput files words mesh first second (certificates.Moves list)
       → IsAnswerOf (Pass (verdict_answer (verdict_of mesh first second list))) status text
   judged_list mesh first second list input =
-      exact (told_input files words mesh first second (certificates.Moves list) input)
-      (Pass (verdict_answer (verdict_of mesh first second list)))
-      (judgement_outcome files words mesh first second (certificates.Moves list)
-      (Pass (verdict_answer (verdict_of mesh first second list))) input refl)
+      judged_so mesh first second (certificates.Moves list) (Pass (verdict_answer (verdict_of mesh first second list))) input refl
 
-  -- what is answered of a list of moves
+  -- what is answered of a list of moves, where the words are answered by the check
   pub verified : IsVerified files words status text
   verified = record {
     judged = λ mesh first second list input. let a = judged_list mesh first second list input in (a.status_is, a.text_is);
@@ -160,35 +156,32 @@ module _ (files : Option Files) (words : List (List ℕ)) (status : Status) (tex
       → IsVerifyInput files words mesh first second (certificates.Denial denial) → IsVerdict mesh first second denial verdict
       → (status ≡ denial_status verdict) × IsText (denial_line verdict) text
   judged_denial mesh first second denial verdict input is =
-      let a =
-      exact (told_input files words mesh first second (certificates.Denial denial) input) (Pass (denial_answer verdict))
-      (judgement_outcome files words mesh first second (certificates.Denial denial) (Pass (denial_answer verdict)) input
-      (verdict, refl, is)) in
+      let a = judged_so mesh first second (certificates.Denial denial) (Pass (denial_answer verdict)) input (verdict, refl, is) in
       (a.status_is, a.text_is)
 
-  module _ (outcome : Outcome) (is : IsOutcome files words outcome) (answer : IsAnswerOf outcome status text) where
-    denial_told : (mesh : FaceList) (first second : List ℕ) (denial : Denial)
-        → IsVerifyInput files words mesh first second (certificates.Denial denial)
-        → (verdict : DenialVerdict) × IsVerdict mesh first second denial verdict × (status ≡ denial_status verdict)
-        × IsText (denial_line verdict) text
-    denial_told mesh first second denial input =
-        judged_end mesh first second denial outcome status text
-        (behind_files files words mesh first second (certificates.Denial denial) outcome input is) answer
+  denial_told : (mesh : FaceList) (first second : List ℕ) (denial : Denial)
+      → IsVerifyInput files words mesh first second (certificates.Denial denial)
+      → (verdict : DenialVerdict) × IsVerdict mesh first second denial verdict × (status ≡ denial_status verdict)
+      × IsText (denial_line verdict) text
+  denial_told mesh first second denial input =
+      let a = answered input.mesh_name input.walks_name input.certificate_name input.words_are in
+      judged_end mesh first second denial a.outcome status text
+      (behind_files files words mesh first second (certificates.Denial denial) a.outcome input a.is_outcome) a.is_answer
 
-    -- what is answered of a denial
-    pub denial_verified : IsDenialVerified files words status text
-    denial_verified = record {
-      different = λ mesh first second denial input yes homotopic.
-          let told = denial_told mesh first second denial input in
-          let holds = holds_where_yes mesh first second denial told.0 told.1 (sym told.2 ∙ yes) in
-          let pair = (held files input.walks_name (SpellsPair mesh first second) input.walks_file).holds in
-          denial_excludes mesh first second denial
-          (mesh_valid files input.mesh_name mesh (mesh_passes files input.mesh_name mesh input.mesh_file)) pair.first_walk holds homotopic;
-      accepted = λ mesh first second denial input. (
-        λ yes. let told = denial_told mesh first second denial input in holds_where_yes mesh first second denial told.0 told.1
-            (sym told.2 ∙ yes),
-        λ holds. (judged_denial mesh first second denial verdicts.Accepted input holds).0,
-      );
-      judged = denial_told;
-      exactly = judged_denial;
-    }
+  -- what is answered of a denial, where the words are answered by the check
+  pub denial_verified : IsDenialVerified files words status text
+  denial_verified = record {
+    different = λ mesh first second denial input yes homotopic.
+        let told = denial_told mesh first second denial input in
+        let holds = holds_where_yes mesh first second denial told.0 told.1 (sym told.2 ∙ yes) in
+        let pair = (held files input.walks_name (SpellsPair mesh first second) input.walks_file).holds in
+        denial_excludes mesh first second denial
+        (mesh_valid files input.mesh_name mesh (mesh_passes files input.mesh_name mesh input.mesh_file)) pair.first_walk holds homotopic;
+    accepted = λ mesh first second denial input. (
+      λ yes. let told = denial_told mesh first second denial input in holds_where_yes mesh first second denial told.0 told.1
+          (sym told.2 ∙ yes),
+      λ holds. (judged_denial mesh first second denial verdicts.Accepted input holds).0,
+    );
+    judged = denial_told;
+    exactly = judged_denial;
+  }

@@ -1,4 +1,3 @@
-pub mod Headline
 pub mod Lines
 pub mod Certificates
 pub mod Answers
@@ -13,10 +12,8 @@ pub mod Certify
 pub mod Verify
 pub mod Reduce
 pub mod Trial
-pub mod Commands
 pub mod Outcomes
 pub mod Statuses
-pub mod PrintedCertificates
 pub mod Gathered
 pub mod Writes
 pub mod Stops

@@ -1,33 +1,42 @@
-//! The commands of the homotopy tester for edge walks on polygon meshes.
+//! Commands of the homotopy tester for edge walks on polygon meshes, and what commands have in common.
 //!
-//! A caller hands `run` the words of a command line, a shelf of files and a sink, and gets the status with which the program
-//! ends. What is answered is in its contract, by the definitions of specs/: each command has a file there, with the theorem that
-//! a reader looks for first, and `Headline` has the one of all commands. What is promised of answers stands in `laws`. Proved:
-//! every command returns, and the answers are these.
+//! A command reads files from a shelf, one after another, and gives a `Reply`, or what stops it: a `Stop`, carried by `?`. What it
+//! does is said by one clause, `Runs` (specs/Replies.antt), of its check: what it looks at, in order, and what it answers then. Each
+//! command is a file of specs/ with its check, and with the theorem that a reader looks for first.
 //!
-//!     let status = run(alloc, &words, &mut shelf, &mut out);
+//! A command in another crate is written the same way. It takes from here:
+//!
+//! - `read_file`, `read_mesh`, `read_pair`, `read_cert` and `read_surface`, each with the clause `Reads` of its check;
+//! - `refused` and `refused_at`, which make the `Stop` of a fault that this crate does not know, with the clause `Tells`;
+//! - `Line`, `Phrase` and `Text`, of which a `Reply` is made, which `give` writes;
+//! - the parts that checks are made of (specs/Checks.antt), and the lemmas of proofs/: `Running` and `Checking` for the clause `Runs`,
+//!   `Sound` and `Rows` for the law of the command, which is said wherever words are answered by its check (`AnswersTo`).
 #![tactic(auto)]
 
 mod certificate;
-mod certify;
-mod command;
-mod decide;
+pub mod certify;
+pub mod decide;
 mod inputs;
-pub mod laws;
 mod line;
 mod odd_chain_line;
-mod reduce;
+pub mod reduce;
 mod refusal;
 mod reply;
 mod status;
 mod stop;
-mod surface;
+pub mod surface;
 mod surface_input;
 mod text;
-mod top;
-mod trial;
-mod verify;
+pub mod trial;
+pub mod verify;
 mod word_lines;
 
+pub use certificate::{Certificate, read_certificate};
+pub use inputs::{MOST_BYTES, read_cert, read_file, read_mesh, read_pair};
+pub use line::{Line, MOST_OTHERS, Phrase};
+pub use refusal::{Input, refused, refused_at};
+pub use reply::{Reply, give};
 pub use status::Status;
-pub use top::run;
+pub use stop::Stop;
+pub use surface_input::{read_surface, surface_of};
+pub use text::Text;

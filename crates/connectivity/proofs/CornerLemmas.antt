@@ -1,10 +1,10 @@
 -- Corners at a vertex, and steps round it.
-use Rattle.std.proofs.Common.{◌≡◌, ◌≢◌, ◌⊎◌, inl, inr, ℕ, ◌<◌, true, eqb, List, [], ◌∷◌, length, get_or, ap, sym, ◌∙◌, subst, arith}
+use Rattle.std.proofs.Common.{◌≡◌, ◌⊎◌, inl, inr, ℕ, ◌<◌, true, eqb, List, [], ◌∷◌, length, get_or, ap, sym, ◌∙◌, subst, arith}
 use Rattle.std.specs.Prelude.{Contains}
 use Rattle.std.specs.List.{list_any}
-use Rattle.std.proofs.lemmas.Bool.{eq-eqb}
+use Rattle.std.proofs.lemmas.Bool.{eq-eqb, eqb-true}
 use Rattle.std.proofs.lemmas.List.{get_or_default}
-use Rattle.std.proofs.lemmas.List.Folds.{list_any_at}
+use Rattle.std.proofs.lemmas.List.Folds.{list_any_at, Any-from_list_any}
 use Rattle.surf_model.specs.FaceLists.{FaceList, FaceSide, IsFaceList, face_at, all_sides, total_sides, is_used}
 use Rattle.surf_model.specs.Edges.{side_name}
 use Rattle.surf_model.specs.Darts.{IsSide, side_number, side_after, tail_of, head_of}
@@ -13,14 +13,12 @@ use Rattle.surf_model.specs.declared.edges.Side.{Side}
 use Rattle.surf_model.proofs.NumberLemmas.{face_side, length-all_sides}
 use Rattle.surf_model.proofs.TableLemmas.{face_side_in, next_within}
 use Rattle.surf_model.proofs.PartnerLemmas.{IsWholeSide, whole_side}
+use Rattle.surf_model.proofs.EdgeLemmas.{ends_differ}
 use Rattle.connectivity.specs.Partitions.{IsCornerStep, AreRings}
 use Rattle.connectivity.proofs.Joining.{joined_keep}
 
 pub after_in_mesh : (mesh : FaceList) (side : Side) → IsSide mesh side → IsSide mesh (side_after mesh side)
 after_in_mesh mesh side h = record { face = h.face; place = next_within (length (face_at mesh side.face.0)) side.at h.place }
-
-pub ends_differ : (mesh : FaceList) (side : Side) → IsFaceList mesh → IsSide mesh side → tail_of mesh side ≢ head_of mesh side
-ends_differ mesh side valid h = (valid.faces side.face.0 [] h.face).neighbours side.at h.place
 
 -- where a side stands among all sides
 record HasPlace (mesh : FaceList) (side : Side) : Type 0 where
@@ -142,6 +140,21 @@ unfolding is_used
 corner_used mesh v corner h =
     list_any_at (λ (face : List ℕ). list_any (λ c. eqb c v) face) mesh.faces corner.face.0 [] h.side.face
     (list_any_at (λ c. eqb c v) (face_at mesh corner.face.0) corner.at 0 h.side.place (eq-eqb (tail_of mesh corner) v h.vertex))
+
+-- a used vertex has a corner
+pub used_corner : (mesh : FaceList) (v : ℕ) → is_used mesh v ≡ true → (corner : Side) × IsCornerAt mesh v corner
+unfolding is_used
+used_corner mesh v is =
+    let face = Any-from_list_any (λ (face : List ℕ). list_any (λ c. eqb c v) face) mesh.faces is in
+    let corner = Any-from_list_any (λ c. eqb c v) face.1 face.4 in
+    let ring : face_at mesh face.0 ≡ face.1 = get_or_default mesh.faces face.0 [] face.1 face.2 ∙ face.3 in
+    let place : corner.0 < length (face_at mesh face.0) = subst (λ (r : List ℕ). corner.0 < length r) (sym ring) corner.2 in
+    let vertex : get_or (face_at mesh face.0) corner.0 0 ≡ v =
+    ap (λ (r : List ℕ). get_or r corner.0 0) ring ∙ get_or_default face.1 corner.0 0 corner.1 corner.2 ∙ corner.3
+    ∙ eqb-true corner.1 v corner.4 in (
+      record { face = record { 0 = face.0 }; at = corner.0 },
+      record { side = record { face = face.2; place = place }; vertex = vertex },
+    )
 
 pub corner_below : (mesh : FaceList) (side : Side) → IsFaceList mesh → IsSide mesh side → tail_of mesh side < mesh.count
 corner_below mesh side valid h = (valid.faces side.face.0 [] h.face).in_range side.at 0 h.place

@@ -1,17 +1,17 @@
 -- Edges of a mesh, by its table.
-use Rattle.std.proofs.Common.{◌≡◌, ◌≢◌, ◌⊎◌, inl, inr, ℕ, ◌<◌, ◌≤◌, true, eqb, List, length, get_or, sym, ◌∙◌, subst, arith}
-use Rattle.std.specs.List.{list_any}
-use Rattle.std.proofs.lemmas.Bool.{eqb-true}
+use Rattle.std.proofs.Common.{◌≡◌, ◌≢◌, ◌⊎◌, inl, inr, ℕ, ◌<◌, ◌≤◌, true, List, length, sym, ◌∙◌, subst, arith}
 use Rattle.std.proofs.lemmas.Bool.Decides.{nat_tests}
 use Rattle.std.proofs.lemmas.List.Folds.{Any-from_list_any, list_any-from_Any}
-use Rattle.surf_model.specs.FaceLists.{FaceList, FaceSide, IsFace, IsFaceList, all_sides, joins, is_edge, is_used}
+use Rattle.surf_model.specs.FaceLists.{FaceList, FaceSide, IsFaceList, all_sides, joins, is_edge, is_used}
 use Rattle.surf_model.specs.Darts.{IsSide, side_after, tail_of, head_of}
 use Rattle.surf_model.specs.Edges.{Edge, IsTableOf, side_name, edge_in}
 use Rattle.surf_model.specs.declared.edges.Side.{Side}
 use Rattle.surf_model.proofs.TableLemmas.{joins_swap}
 use Rattle.surf_model.proofs.TableEdgeLemmas.{table_pair, sides_of_edge}
 use Rattle.surf_model.proofs.PartnerLemmas.{IsWholeSide, whole_side}
-use Rattle.connectivity.proofs.CornerLemmas.{after_in_mesh, ends_differ, corner_used}
+pub use Rattle.surf_model.proofs.EdgeLemmas.{used_below}
+use Rattle.surf_model.proofs.EdgeLemmas.{ends_differ}
+use Rattle.connectivity.proofs.CornerLemmas.{after_in_mesh, corner_used}
 use Rattle.connectivity.specs.Joined.{NoEdgeHasThreeSides}
 
 pub edge_swap : (mesh : FaceList) (u v : ℕ) → is_edge mesh u v ≡ true → is_edge mesh v u ≡ true
@@ -61,15 +61,6 @@ edge_differs mesh u v valid is same =
       | inl e ↦ e.0 ∙ same ∙ sym e.1
       | inr e ↦ e.0 ∙ sym same ∙ sym e.1
     ])
-
-pub used_below : (mesh : FaceList) (v : ℕ) → IsFaceList mesh → is_used mesh v ≡ true → v < mesh.count
-unfolding is_used
-used_below mesh v h is =
-    let face = Any-from_list_any (λ (face : List ℕ). list_any (λ corner. eqb corner v) face) mesh.faces is in
-    let corner = Any-from_list_any (λ corner. eqb corner v) face.1 face.4 in
-    let is_face : IsFace mesh.count face.1 = subst (IsFace mesh.count) face.3 (h.faces face.0 face.1 face.2) in
-    let below : get_or face.1 corner.0 corner.1 < mesh.count = is_face.in_range corner.0 corner.1 corner.2 in
-    omega (arith, below, corner.3, eqb-true corner.1 v corner.4)
 
 pub ends_below : (mesh : FaceList) (table : List Edge) (k : ℕ) → IsFaceList mesh → IsTableOf mesh table → k < length table
     → ((edge_in table k).low < mesh.count) × ((edge_in table k).high < mesh.count)

@@ -6,3 +6,4 @@ pub mod ComponentLemmas
 pub mod CornerLemmas
 pub mod RingLemmas
 pub mod LinkLemmas
+pub mod EdgeCounts

@@ -20,7 +20,8 @@ use Rattle.connectivity.specs.Partitions.{JoinsOnlyByCornerSteps, IsCornerStep, 
 use Rattle.connectivity.proofs.Joining.{length-joined_at, joined_at_ends, joined_at_keeps, joins_only-joined_at, joins_only-alone}
 use Rattle.connectivity.specs.Joined.{NoEdgeHasThreeSides}
 use Rattle.connectivity.proofs.EdgeLemmas.{few_in_table}
-use Rattle.connectivity.proofs.CornerLemmas.{number_below, number_once, corner_in_mesh, corner_end, one_corner, ends_differ, partners_swap, step_across}
+use Rattle.surf_model.proofs.EdgeLemmas.{ends_differ}
+use Rattle.connectivity.proofs.CornerLemmas.{number_below, number_once, corner_in_mesh, corner_end, one_corner, partners_swap, step_across}
 
 -- the partner of a side, by its number; there is no other
 pub record HasPartner (mesh : FaceList) (side : Side) (n : ℕ) : Type 0 where

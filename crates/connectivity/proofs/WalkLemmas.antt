@@ -5,7 +5,8 @@ use Rattle.surf_model.specs.FaceLists.{FaceList, IsFaceList, is_edge, is_used}
 use Rattle.surf_model.specs.Walks.{IsWalk, darts}
 use Rattle.surf_model.specs.Surfaces.{IsPath, AreJoined, IsWalkBetween, AreJoinedByWalk}
 use Rattle.connectivity.specs.Partitions.{IsEdgeStep, AreComponents, IsLeastElsewhere}
-use Rattle.connectivity.specs.Joined.{EachTwoAreJoined, IsLeastUsed, AreLeastApart}
+use Rattle.surf_model.specs.Components.{EachTwoAreJoined}
+use Rattle.connectivity.specs.Joined.{IsLeastUsed, AreLeastApart}
 use Rattle.connectivity.proofs.EdgeLemmas.{edge_swap, edge_used, used_below}
 use Rattle.connectivity.proofs.Joining.{joined_refl, joined_step, joined_trans, joined_sym, joined_keep}
 
@@ -83,13 +84,13 @@ walk_between_ends mesh u v w used to_v to_w =
     (joined_from_walk mesh u w to_w))
 
 -- a walk leads only between vertices with one entry
-same_from_walk : (mesh : FaceList) (least : List ℕ) (u v : ℕ) → AreComponents mesh least → AreJoinedByWalk mesh u v
+pub same_from_walk : (mesh : FaceList) (least : List ℕ) (u v : ℕ) → AreComponents mesh least → AreJoinedByWalk mesh u v
     → get_or least u 0 ≡ get_or least v 0
 same_from_walk mesh least u v h walk =
     let joined : AreJoined (IsEdgeStep mesh) u v = joined_from_walk mesh u v walk in
     joined_keep (IsEdgeStep mesh) (λ x. get_or least x 0) h.steps u joined.0 v joined.1
 
-walk_from_same : (mesh : FaceList) (least : List ℕ) (u v : ℕ) → IsFaceList mesh → AreComponents mesh least
+pub walk_from_same : (mesh : FaceList) (least : List ℕ) (u v : ℕ) → IsFaceList mesh → AreComponents mesh least
     → is_used mesh u ≡ true → is_used mesh v ≡ true → get_or least u 0 ≡ get_or least v 0 → AreJoinedByWalk mesh u v
 walk_from_same mesh least u v valid parts used_u used_v same =
     walk_from_joined mesh u v used_u (parts.joined u v (used_below mesh u valid used_u) (used_below mesh v valid used_v) same)

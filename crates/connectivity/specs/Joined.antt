@@ -11,10 +11,6 @@ NoEdgeHasThreeSides mesh = (u v : ℕ) → sides_between mesh u v ≤ 2
 abbrev pub EachVertexHasOneRing : FaceList → Type 0
 EachVertexHasOneRing mesh = (v : ℕ) → IsTrue (is_used mesh v) → HasOneRing mesh v
 
--- any two used vertices are joined by a walk
-abbrev pub EachTwoAreJoined : FaceList → Type 0
-EachTwoAreJoined mesh = (u v : ℕ) → IsTrue (is_used mesh u) → IsTrue (is_used mesh v) → AreJoinedByWalk mesh u v
-
 -- the least used vertex at which some two corners are not joined by steps
 pub record IsLeastPinch (mesh : FaceList) (v : ℕ) : Type 0 where
   pub used : IsTrue (is_used mesh v)

@@ -13,4 +13,4 @@ pub mod corners;
 pub mod vertices;
 
 pub use corners::pinched_vertex;
-pub use vertices::vertices_apart;
+pub use vertices::{components, vertices_apart};

@@ -2,7 +2,9 @@
 ghost use Rattle.std.specs.Prelude.{◌≡◌, ◌<◌, ℕ, length, slice_index, IsTrue, IfOk, IfSome, IfNone, MatchOption};
 ghost use Rattle.surf_model.specs.FaceLists.{FaceList, IsFaceList, is_used};
 ghost use Rattle.surf_model.specs.Edges.{IsTableOf};
-ghost use Rattle.connectivity.specs.Joined.{EachTwoAreJoined, AreLeastApart, IsLeastUsed};
+ghost use Rattle.surf_model.specs.Components.{EachTwoAreJoined};
+ghost use Rattle.connectivity.specs.Classes.{AreLeastMembers};
+ghost use Rattle.connectivity.specs.Joined.{AreLeastApart, IsLeastUsed};
 ghost use Rattle.connectivity.specs.Partitions.{AreComponents, IsLeastElsewhere};
 
 use crate::classes::Classes;
@@ -31,11 +33,12 @@ pub fn vertices_apart(
 }
 
 /// For each vertex the least one that is joined to it by edges.
-fn components(alloc: Global, faces: &Faces, sides: &Sides) -> Result<Vec<u32>, AllocError>
+pub fn components(alloc: Global, faces: &Faces, sides: &Sides) -> Result<Vec<u32>, AllocError>
     requires valid { IsFaceList faces.now }
     requires table { IsTableOf faces.now sides.now }
     ensures count { IfOk result (λ least. length least.items ≡ faces.now.count) }
     ensures components { IfOk result (λ least. AreComponents faces.now least.items) }
+    ensures members { IfOk result (λ least. AreLeastMembers least.items) }
 {
     let mut vertices = Classes::new(alloc, faces.count())?;
     for edge in 0..sides.len() {

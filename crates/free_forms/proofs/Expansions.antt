@@ -10,7 +10,8 @@ use Rattle.surf_model.specs.declared.edges.Side.{Side}
 use Rattle.surf_model.proofs.EdgeLemmas.{step_within}
 use Rattle.surf_model.proofs.RoundLemmas.{corner_after, rises, rises_past, falls, falls_past, meet}
 use Rattle.surf_model.proofs.TableLemmas.{joins_swap}
-use Rattle.connectivity.proofs.CornerLemmas.{ends_differ, partners_swap}
+use Rattle.surf_model.proofs.EdgeLemmas.{ends_differ}
+use Rattle.connectivity.proofs.CornerLemmas.{partners_swap}
 use Rattle.free_forms.specs.Parents.{OpenView, HasParents, EndsOutside, Joins, IsParentEdge, parent_of, beyond, expansion}
 use Rattle.free_forms.proofs.Actions.{Acts, FacesActAsNothing, run, end_from, end_beyond, run_stays, run-add, round_and_back, after_back, after_within, corner_after-add}
 

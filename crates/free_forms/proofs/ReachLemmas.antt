@@ -12,7 +12,7 @@ use Rattle.free_forms.specs.OpenSurfaces.{IsOpenSurface}
 use Rattle.free_forms.specs.Parents.{HasParents}
 use Rattle.free_forms.specs.Searches.{SearchView, IsReached, IsSearch, IsClosedUpTo, IsStartedUpTo}
 use Rattle.free_forms.proofs.SearchLemmas.{reached_below, all_end_outside}
-use Rattle.free_forms.proofs.EdgeCountLemmas.{sides_by_table, no_edge_no_side}
+use Rattle.connectivity.proofs.EdgeCounts.{sides_by_table, no_edge_no_side}
 use Rattle.surf_model.proofs.TableEdgeLemmas.{IsEdgeBetween, edge_between}
 use Rattle.std.proofs.lemmas.Bool.{cases_Bool}
 

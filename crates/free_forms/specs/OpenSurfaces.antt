@@ -3,7 +3,8 @@
 use Rattle.std.specs.Prelude.{◌≡◌, ℕ, ◌<◌, length}
 use Rattle.surf_model.specs.FaceLists.{FaceList}
 use Rattle.surf_model.specs.Surfaces.{sides_between}
-use Rattle.connectivity.specs.Joined.{NoEdgeHasThreeSides, EachVertexHasOneRing, EachTwoAreJoined}
+use Rattle.surf_model.specs.Components.{EachTwoAreJoined}
+use Rattle.connectivity.specs.Joined.{NoEdgeHasThreeSides, EachVertexHasOneRing}
 
 -- some edge is the edge of one side alone: it is on the boundary
 abbrev pub HasBoundary : FaceList → Type 0

@@ -1,6 +1,6 @@
 //! The homotopy tester for edge walks on polygon meshes.
 //!
-//! `main` takes the words behind the program's name, and `commands::run` answers them; what it answers is in the contract there.
+//! `main` takes the words behind the program's name, and `program::run` answers them; what it answers is in the contract there.
 //!
 //!     homotopy_cli decide FILE WALKS
 #![tactic(auto)]
@@ -8,7 +8,7 @@
 #[cfg(test)]
 mod tests;
 
-use commands::{Status, run};
+use program::{Status, run};
 use std::process::ExitCode;
 use std::rt::Env;
 use std::{env, io};

@@ -1,6 +1,6 @@
 //! The commands over files and output in memory, for what no clause says: that it answers where memory is ample, that no file is
 //! read behind a refusal, and what comes where a call fails. The wanted texts are worked examples.
-use commands::{Status, run};
+use program::{Status, run};
 use std::alloc::{AllocError, Global};
 use std::process::Abort;
 use surf_io::{MemoryShelf, MemorySink, Shelf};

@@ -1,5 +1,5 @@
 //! The spokes of one dart.
-ghost use Rattle.std.specs.Prelude.{◌≡◌, ◌<◌, [], ◌∷◌, length, MatchOption};
+ghost use Rattle.std.specs.Prelude.{◌≡◌, ℕ, ◌<◌, [], ◌∷◌, length, MatchOption};
 ghost use Rattle.surf_model.specs.Edges.{IsTableOf, HasEnds, edge_in};
 ghost use Rattle.labellings.specs.GoodLabellings.{IsGood};
 ghost use Rattle.labellings.specs.QuadPaths.{spokes, spokes_by_labels};
@@ -8,21 +8,20 @@ use crate::labelling::Labelling;
 use crate::rules::{LabelledSide, follows_tree, labelled};
 use surf_model::{EdgeName, Faces, Sides, Spoke, VertexName};
 
-/// The spokes of a dart along an edge, by the two sides of the edge.
+/// The spokes of the dart along an edge from one of its ends to the other, by the two sides of the edge.
 pub(crate) fn spokes_between(
     faces: &Faces,
     sides: &Sides,
     labelling: &Labelling,
     edge: EdgeName,
     from: VertexName,
-    to: VertexName,
 ) -> Option<(Spoke, Spoke)>
     requires table { IsTableOf faces.now sides.now }
     requires good { IsGood faces.now labelling.now }
     requires edge { edge.0 < length sides.now }
-    requires ends { HasEnds from.0 to.0 (edge_in sides.now edge.0) }
-    ensures { MatchOption result (spokes faces.now labelling.now from.0 to.0 ≡ [])
-        (λ pair. spokes faces.now labelling.now from.0 to.0 ≡ pair.0.0 ∷ pair.1.0 ∷ []) }
+    ensures { (to : ℕ) → HasEnds from.0 to (edge_in sides.now edge.0)
+        → MatchOption result (spokes faces.now labelling.now from.0 to ≡ [])
+        (λ pair. spokes faces.now labelling.now from.0 to ≡ pair.0.0 ∷ pair.1.0 ∷ []) }
 {
     // The proof reads what holds of every mesh.
     let _ = faces.len();

@@ -71,7 +71,7 @@ impl GoodLabelling {
         let Some(edge) = sides.between(from, to) else {
             return None;
         };
-        spokes_between(faces, sides, &self.labelling, edge, from, to)
+        spokes_between(faces, sides, &self.labelling, edge, from)
     }
 
     /// The labelling itself.

@@ -57,10 +57,15 @@ pub fn check_denial(
         Ok(good) => good,
         Err(fault) => return verdict_on_labels(fault),
     };
-    if !has_word(alloc, faces, sides, &good, first, &first_word)? {
+    let on = LabelledMesh {
+        faces,
+        sides,
+        good: &good,
+    };
+    if !has_word(alloc, &on, first, &first_word)? {
         return Ok(DenialVerdict::WordWrong { walk: 1 });
     }
-    if !has_word(alloc, faces, sides, &good, second, &second_word)? {
+    if !has_word(alloc, &on, second, &second_word)? {
         return Ok(DenialVerdict::WordWrong { walk: 2 });
     }
     if are_same_words(&first_word, &second_word) {
@@ -79,22 +84,28 @@ fn verdict_on_labels(fault: LabelFault) -> Result<DenialVerdict, AllocError>
     }
 }
 
+/// A mesh with its edge table, and a labelling that is good for it.
+#[derive(Clone, Copy)]
+struct LabelledMesh<'a> {
+    faces: &'a Faces,
+    sides: &'a Sides,
+    good: &'a GoodLabelling,
+}
+
 /// Whether the word of a walk is this one.
 fn has_word(
     alloc: Global,
-    faces: &Faces,
-    sides: &Sides,
-    good: &GoodLabelling,
+    on: &LabelledMesh<'_>,
     walk: &Walk,
     word: &Word,
 ) -> Result<bool, AllocError>
-    requires table { IsTableOf faces.now sides.now }
-    requires good { IsGood faces.now good.now }
-    requires walk { IsWalk faces.now walk.now }
-    ensures { IfOk result (λ is. IsTrue is ↔ IsWordOf faces.now good.now walk.now word.now) }
+    requires table { IsTableOf on.now.faces.now on.now.sides.now }
+    requires good { IsGood on.now.faces.now on.now.good.now }
+    requires walk { IsWalk on.now.faces.now walk.now }
+    ensures { IfOk result (λ is. IsTrue is ↔ IsWordOf on.now.faces.now on.now.good.now walk.now word.now) }
 {
     // The proof reads what holds of every mesh.
-    let _ = faces.len();
-    let own = word_of(alloc, faces, sides, good, walk)?;
+    let _ = on.faces.len();
+    let own = word_of(alloc, on.faces, on.sides, on.good, walk)?;
     Ok(are_same_words(&own, word))
 }

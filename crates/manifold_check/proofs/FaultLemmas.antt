@@ -5,7 +5,8 @@ use Rattle.surf_model.specs.FaceLists.{FaceList}
 use Rattle.surf_model.specs.Edges.{IsPairBefore}
 use Rattle.surf_model.specs.Surfaces.{IsClosed, IsClosedManifold, sides_between}
 use Rattle.surf_model.specs.declared.names.VertexName.{VertexName}
-use Rattle.manifold_check.specs.Faults.{IsFirstFault, IsManifoldFault, IsLeastUnevenEdge, IsLeastPinch, IsLeastUsed, AreLeastApart}
+use Rattle.manifold_check.specs.Faults.{IsFirstFault, IsManifoldFault, IsLeastUnevenEdge}
+use Rattle.connectivity.specs.Joined.{IsLeastPinch, IsLeastUsed, AreLeastApart}
 use Rattle.manifold_check.specs.declared.fault.SurfaceFault.{SurfaceFault}
 use Rattle.manifold_check.specs.declared.fault.SurfaceFault.TheVariants.{NoFace, EdgeSides, Pinched, Apart, OutOfMemory}
 

@@ -1,5 +1,3 @@
-pub mod Forests
-pub mod Joining
 pub mod EdgeLemmas
 pub mod PieceLemmas
 pub mod PieceMoves
@@ -10,11 +8,6 @@ pub mod NumberLemmas
 pub mod Grouping
 pub mod StoredParts
 pub mod MeasureLemmas
-pub mod WalkLemmas
 pub mod FaultLemmas
-pub mod ComponentLemmas
-pub mod CornerLemmas
-pub mod RingLemmas
-pub mod LinkLemmas
 pub mod OutcomeLemmas
 pub mod RingExamples

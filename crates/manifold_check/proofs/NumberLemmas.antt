@@ -8,9 +8,9 @@ use Rattle.surf_model.specs.Walks.{darts}
 use Rattle.surf_model.specs.Surfaces.{IsWalkBetween, AreJoinedByWalk}
 use Rattle.surf_model.specs.Components.{IsLeastOfComponent, ArePlacesOfComponents}
 use Rattle.surf_model.proofs.EdgeLemmas.{used_below}
-use Rattle.manifold_check.specs.Classes.{AreLeastMembers}
-use Rattle.manifold_check.specs.Partitions.{AreComponents}
-use Rattle.manifold_check.proofs.WalkLemmas.{walk_from_joined, same_from_walk, walk_from_same}
+use Rattle.connectivity.specs.Classes.{AreLeastMembers}
+use Rattle.connectivity.specs.Partitions.{AreComponents}
+use Rattle.connectivity.proofs.WalkLemmas.{walk_from_joined, same_from_walk, walk_from_same}
 
 -- how many numbers below n pass
 pub rank : (ℕ → Bool) → ℕ → ℕ

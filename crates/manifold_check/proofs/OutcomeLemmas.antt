@@ -4,12 +4,13 @@ use Rattle.std.proofs.lemmas.Bool.{cases_Bool, cases_lt, cases_eq, both_ways}
 use Rattle.surf_model.specs.FaceLists.{FaceList, IsFaceList, is_edge, is_used}
 use Rattle.surf_model.specs.Surfaces.{IsClosed, EachEdgeHasTwoSides, HasOneRing, AreJoinedByWalk, sides_between}
 use Rattle.surf_model.specs.Components.{EachTwoAreJoined}
-use Rattle.manifold_check.specs.Faults.{IsFirstFault, IsLeastUsed, EachVertexHasOneRing}
+use Rattle.manifold_check.specs.Faults.{IsFirstFault}
+use Rattle.connectivity.specs.Joined.{IsLeastUsed, EachVertexHasOneRing}
 use Rattle.manifold_check.specs.declared.fault.SurfaceFault.{SurfaceFault}
 use Rattle.manifold_check.specs.declared.fault.SurfaceFault.TheVariants.{NoFace, EdgeSides, Pinched, Apart}
 use Rattle.surf_model.proofs.TableEdgeLemmas.{sides_between_swap}
-use Rattle.manifold_check.proofs.EdgeLemmas.{edge_swap, edge_differs, used_below}
-use Rattle.manifold_check.proofs.WalkLemmas.{walk_between_ends}
+use Rattle.connectivity.proofs.EdgeLemmas.{edge_swap, edge_differs, used_below}
+use Rattle.connectivity.proofs.WalkLemmas.{walk_between_ends}
 
 -- nothing is a first fault of the mesh
 abbrev HasNoFault : FaceList → Type 0

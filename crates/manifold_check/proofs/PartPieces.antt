@@ -10,11 +10,11 @@ use Rattle.surf_model.specs.Surfaces.{AreJoinedByWalk, IsWalkBetween, IsClosedMa
 use Rattle.surf_model.specs.Walks.{IsWalk}
 use Rattle.surf_model.proofs.EdgeLemmas.{step_edge, tail_used, head_used}
 use Rattle.manifold_check.specs.ComponentParts.{PartsView, AreParts, component_at, component_mesh}
-use Rattle.manifold_check.specs.Partitions.{IsEdgeStep}
+use Rattle.connectivity.specs.Partitions.{IsEdgeStep}
 use Rattle.manifold_check.specs.Submeshes.{submesh}
-use Rattle.manifold_check.proofs.Joining.{joined_step}
-use Rattle.manifold_check.proofs.WalkLemmas.{walk_from_joined}
-use Rattle.manifold_check.proofs.CornerLemmas.{used_corner}
+use Rattle.connectivity.proofs.Joining.{joined_step}
+use Rattle.connectivity.proofs.WalkLemmas.{walk_from_joined}
+use Rattle.connectivity.proofs.CornerLemmas.{used_corner}
 use Rattle.manifold_check.proofs.PieceLemmas.{IsPiece, HasPlaceAmong, piece_by_test, walk_down, walk_up, used_up}
 use Rattle.manifold_check.proofs.PieceSurfaces.{manifold_alone}
 

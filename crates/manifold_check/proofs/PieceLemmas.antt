@@ -14,8 +14,8 @@ use Rattle.surf_model.specs.declared.edges.Side.{Side}
 use Rattle.surf_model.proofs.EdgeLemmas.{edge_swap, step_edge}
 use Rattle.surf_model.proofs.TableLemmas.{Contains-filter}
 use Rattle.manifold_check.specs.Submeshes.{submesh}
-use Rattle.manifold_check.proofs.CornerLemmas.{after_in_mesh, corner_used, used_corner}
-use Rattle.manifold_check.proofs.EdgeLemmas.{HasSideBetween, side_between}
+use Rattle.connectivity.proofs.CornerLemmas.{after_in_mesh, corner_used, used_corner}
+use Rattle.connectivity.proofs.EdgeLemmas.{HasSideBetween, side_between}
 
 -- a face by its place among some faces
 pub record HasPlaceAmong (names : List ℕ) (f : ℕ) : Type 0 where

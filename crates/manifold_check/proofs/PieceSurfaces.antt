@@ -7,7 +7,7 @@ use Rattle.surf_model.specs.Surfaces.{IsPath, AreJoined, EachEdgeHasTwoSides, Ar
 use Rattle.surf_model.specs.declared.edges.Side.{Side}
 use Rattle.surf_model.proofs.EdgeLemmas.{tail_used}
 use Rattle.manifold_check.specs.Submeshes.{submesh, signs_among}
-use Rattle.manifold_check.proofs.CornerLemmas.{corner_end, corner_in_mesh}
+use Rattle.connectivity.proofs.CornerLemmas.{corner_end, corner_in_mesh}
 use Rattle.manifold_check.proofs.PieceLemmas.{IsPiece, IsRenamed, ComesFrom, renamed_side, named_once, renamed, comes_from_end, edge_up, used_up, length-submesh}
 use Rattle.manifold_check.proofs.PieceSides.{sides_alike}
 

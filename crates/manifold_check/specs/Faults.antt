@@ -1,14 +1,11 @@
 -- The first condition of a closed surface that fails, with its least element.
 use Rattle.std.specs.Prelude.{◌≡◌, ◌≢◌, ℕ, ◌<◌, length, IsTrue}
-use Rattle.surf_model.specs.FaceLists.{FaceList, is_edge, is_used}
+use Rattle.surf_model.specs.FaceLists.{FaceList, is_edge}
 use Rattle.surf_model.specs.Edges.{IsPairBefore}
-use Rattle.surf_model.specs.Surfaces.{sides_between, EachEdgeHasTwoSides, HasOneRing, AreJoinedByWalk}
+use Rattle.surf_model.specs.Surfaces.{sides_between, EachEdgeHasTwoSides}
+use Rattle.connectivity.specs.Joined.{EachVertexHasOneRing, IsLeastPinch, AreLeastApart}
 use Rattle.manifold_check.specs.declared.fault.SurfaceFault.{SurfaceFault}
 use Rattle.manifold_check.specs.declared.fault.SurfaceFault.TheVariants.{NoFace, EdgeSides, Pinched, Apart, OutOfMemory}
-
--- at each used vertex the corners make one ring
-abbrev pub EachVertexHasOneRing : FaceList → Type 0
-EachVertexHasOneRing mesh = (v : ℕ) → IsTrue (is_used mesh v) → HasOneRing mesh v
 
 -- the least edge, by its lower and then by its higher vertex, that is not the edge of exactly two sides, with their number
 pub record IsLeastUnevenEdge (mesh : FaceList) (low high sides : ℕ) : Type 0 where
@@ -17,24 +14,6 @@ pub record IsLeastUnevenEdge (mesh : FaceList) (low high sides : ℕ) : Type 0 w
   pub number : sides ≡ sides_between mesh low high
   pub uneven : sides ≢ 2
   pub least : (a b : ℕ) → a < b → IsTrue (is_edge mesh a b) → IsPairBefore a b low high → sides_between mesh a b ≡ 2
-
--- the least used vertex whose corners do not make one ring
-pub record IsLeastPinch (mesh : FaceList) (v : ℕ) : Type 0 where
-  pub used : IsTrue (is_used mesh v)
-  pub pinched : HasOneRing mesh v → ⊥
-  pub least : (w : ℕ) → w < v → IsTrue (is_used mesh w) → HasOneRing mesh w
-
--- the least used vertex
-pub record IsLeastUsed (mesh : FaceList) (v : ℕ) : Type 0 where
-  pub used : IsTrue (is_used mesh v)
-  pub least : (w : ℕ) → w < v → IsTrue (is_used mesh w) → ⊥
-
--- the least used vertex, and the least used vertex that no walk joins to it
-pub record AreLeastApart (mesh : FaceList) (u v : ℕ) : Type 0 where
-  pub vertex : IsLeastUsed mesh u
-  pub used : IsTrue (is_used mesh v)
-  pub apart : AreJoinedByWalk mesh u v → ⊥
-  pub least : (w : ℕ) → w < v → IsTrue (is_used mesh w) → AreJoinedByWalk mesh u w
 
 -- an edge is at fault, where there is a face
 pub record IsEdgeFault (mesh : FaceList) (low high sides : ℕ) : Type 0 where

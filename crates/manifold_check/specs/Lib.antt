@@ -1,6 +1,4 @@
-pub mod Classes
-pub mod Partitions
-pub mod Links
+pub mod UnevenEdges
 pub mod Faults
 pub mod Submeshes
 pub mod ComponentParts

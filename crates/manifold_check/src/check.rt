@@ -3,11 +3,10 @@ ghost use Rattle.std.specs.Prelude.{◌≡◌, ◌⊎◌, ℕ, ◌<◌, length, 
 ghost use Rattle.surf_model.specs.Edges.{IsTableOf, edge_in};
 ghost use Rattle.surf_model.specs.Surfaces.{IsClosed, IsClosedManifold};
 ghost use Rattle.manifold_check.specs.Faults.{IsFirstFault, IsManifoldFault};
-ghost use Rattle.manifold_check.specs.Partitions.{IsFirstUneven};
+ghost use Rattle.manifold_check.specs.UnevenEdges.{IsFirstUneven};
 
-use crate::components::vertices_apart;
 use crate::fault::SurfaceFault;
-use crate::links::pinched_vertex;
+use connectivity::{pinched_vertex, vertices_apart};
 use std::alloc::Global;
 use surf_model::{EdgeName, Faces, Sides};
 

@@ -9,11 +9,8 @@
 #![tactic(auto)]
 
 mod check;
-mod classes;
-mod components;
 pub mod fault;
 pub mod laws;
-mod links;
 pub mod measuring;
 mod numbering;
 pub mod part_laws;

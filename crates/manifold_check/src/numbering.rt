@@ -3,10 +3,10 @@ ghost use Rattle.std.specs.Prelude.{◌≡◌, ◌≤◌, ℕ, length, IfOk};
 ghost use Rattle.surf_model.specs.FaceLists.{IsFaceList};
 ghost use Rattle.surf_model.specs.Edges.{IsTableOf};
 ghost use Rattle.surf_model.specs.Components.{ArePlacesOfComponents};
-ghost use Rattle.manifold_check.specs.Classes.{AreLeastMembers};
-ghost use Rattle.manifold_check.specs.Partitions.{AreComponents};
+ghost use Rattle.connectivity.specs.Classes.{AreLeastMembers};
+ghost use Rattle.connectivity.specs.Partitions.{AreComponents};
 
-use crate::components::components;
+use connectivity::components;
 use std::alloc::{AllocError, Global};
 use surf_model::{Faces, Sides, VertexName};
 

@@ -4,6 +4,7 @@ pub mod Splits
 pub mod RingViews
 pub mod RingSets
 pub mod Searches
+pub mod Graphs
 pub mod Waiting
 pub mod Ways
 pub mod Markings

@@ -5,7 +5,7 @@ ghost use Rattle.tree_cotree.specs.Splits.{IsSplit};
 
 use crate::marking::{leftover_dart, leftover_edges, mark};
 use crate::maybe_dart::MaybeDart;
-use crate::search::{Edges, Nodes, search_over};
+use crate::search::{Edges, Graph, Nodes, search_over};
 use crate::turning::turn_round;
 use crate::waiting::Order;
 use halfedge_map::Surface;
@@ -117,27 +117,22 @@ pub fn split_edges(alloc: Global, surface: &Surface) -> Result<Split, AllocError
 {
     let faces = surface.faces().len();
     let mut kinds = vec![in alloc; Kind::Left; surface.sides().len() as usize]?;
-    let parents = search_over(
-        alloc,
+    let primal = Graph {
         surface,
-        Nodes::Vertices,
-        Order::Patches,
-        surface.faces().count(),
-        &kinds,
-        Edges::Every,
-        DartName(0),
-    )?;
+        nodes: Nodes::Vertices,
+        kinds: &kinds,
+        edges: Edges::Every,
+    };
+    let vertices = surface.faces().count();
+    let parents = search_over(alloc, &primal, Order::Patches, vertices, DartName(0))?;
     mark(&mut kinds, surface, &parents, Kind::Tree);
-    let mut face_parents = search_over(
-        alloc,
+    let dual = Graph {
         surface,
-        Nodes::Faces,
-        Order::LastFound,
-        faces,
-        &kinds,
-        Edges::OfKind(Kind::Left),
-        DartName(0),
-    )?;
+        nodes: Nodes::Faces,
+        kinds: &kinds,
+        edges: Edges::OfKind(Kind::Left),
+    };
+    let mut face_parents = search_over(alloc, &dual, Order::LastFound, faces, DartName(0))?;
     mark(&mut kinds, surface, &face_parents, Kind::Cotree);
     let start = leftover_dart(surface, &kinds);
     turn_round(alloc, surface, &mut face_parents, start)?;

@@ -11,7 +11,7 @@ use Rattle.surf_model.specs.declared.edges.Side.{Side}
 use Rattle.turn_words.specs.Modulo.{add}
 use Rattle.manifold_check.specs.ComponentParts.{PartsView, AreParts, component_at, component_mesh}
 use Rattle.manifold_check.specs.Submeshes.{submesh, signs_among}
-use Rattle.manifold_check.proofs.CornerLemmas.{after_in_mesh}
+use Rattle.connectivity.proofs.CornerLemmas.{after_in_mesh}
 use Rattle.manifold_check.proofs.PieceLemmas.{IsPiece, IsRenamed, ComesFrom, HasPlaceAmong, renamed_side, renamed, comes_from, edge_of_side, face-submesh, length-submesh}
 use Rattle.manifold_check.proofs.PieceSurfaces.{partners_down, flipped_alike}
 use Rattle.manifold_check.proofs.PartPieces.{IsOfComponent, face_same_place}

@@ -42,7 +42,7 @@ labelled-two-requires-clause-side c =
     (side_of_edge mesh (edge_in table k) 1 none (c.requires.table.edges k _ c.requires.edge) (omega arith)).side_of
 
 pub returns-then-eq : goal.returns-then-eq
-returns-then-eq c =
+returns-then-eq c = λ to ends.
     let mesh = c.args.faces.now in
     let table = c.args.sides.now in
     let labelling = c.args.labelling.now in
@@ -52,11 +52,11 @@ returns-then-eq c =
     let first = get_or_from_slice_get sides 0 c.side.result none c.side.ensures in
     let second = get_or_from_slice_get sides 1 c.side-2.result none c.side-2.ensures in
     let starts : c.labelled-one.result.tail.0 ≡ c.args.from.0 = search rules in
-    let along = spokes-along mesh table labelling k c.args.from.0 c.args.to.0 c.side.result c.side-2.result none c.len.ensures.valid
-    c.requires.good c.requires.table c.requires.edge c.requires.ends first second
+    let along = spokes-along mesh table labelling k c.args.from.0 to c.side.result c.side-2.result none c.len.ensures.valid
+    c.requires.good c.requires.table c.requires.edge ends first second
     (sym c.labelled-one.ensures.tail ∙ starts) in
     let labels : spokes_by_labels c.labelled-one.result.tail_label c.labelled-one.result.head_label c.labelled-two.result.tail_label
-    c.labelled-two.result.head_label ≡ spokes mesh labelling c.args.from.0 c.args.to.0 =
+    c.labelled-two.result.head_label ≡ spokes mesh labelling c.args.from.0 to =
     rw (
       c.labelled-one.ensures.tail_label,
       c.labelled-one.ensures.head_label,
@@ -67,7 +67,7 @@ returns-then-eq c =
     c.spokes_along.ensures
 
 pub returns-else-eq : goal.returns-else-eq
-returns-else-eq c =
+returns-else-eq c = λ to ends.
     let mesh = c.args.faces.now in
     let table = c.args.sides.now in
     let labelling = c.args.labelling.now in
@@ -77,11 +77,11 @@ returns-else-eq c =
     let first = get_or_from_slice_get sides 0 c.side.result none c.side.ensures in
     let second = get_or_from_slice_get sides 1 c.side-2.result none c.side-2.ensures in
     let other : c.labelled-one.result.tail.0 ≢ c.args.from.0 = search rules in
-    let along = spokes-against mesh table labelling k c.args.from.0 c.args.to.0 c.side.result c.side-2.result none c.len.ensures.valid
-    c.requires.good c.requires.table c.requires.edge c.requires.ends first second
+    let along = spokes-against mesh table labelling k c.args.from.0 to c.side.result c.side-2.result none c.len.ensures.valid
+    c.requires.good c.requires.table c.requires.edge ends first second
     (λ e. other (c.labelled-one.ensures.tail ∙ e)) in
     let labels : spokes_by_labels c.labelled-two.result.tail_label c.labelled-two.result.head_label c.labelled-one.result.tail_label
-    c.labelled-one.result.head_label ≡ spokes mesh labelling c.args.from.0 c.args.to.0 =
+    c.labelled-one.result.head_label ≡ spokes mesh labelling c.args.from.0 to =
     rw (
       c.labelled-two.ensures.tail_label,
       c.labelled-two.ensures.head_label,

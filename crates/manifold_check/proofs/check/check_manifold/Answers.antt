@@ -1,5 +1,6 @@
 use Rattle.std.proofs.Common.{inl, inr, Err, ap, arith}
 use Rattle.surf_model.specs.Surfaces.{IsClosedManifold}
+use Rattle.connectivity.proofs.EdgeCounts.{few_of_two}
 use Rattle.manifold_check.specs.Faults.{IsManifoldFault}
 use Rattle.manifold_check.specs.declared.fault.SurfaceFault.TheVariants.{EdgeSides, Pinched}
 use Rattle.manifold_check.proofs.EdgeLemmas.{two_sides_from_table, uneven_as_read}
@@ -39,8 +40,9 @@ returns-in-Some-clause-refused c =
     λ other first. inl (ap Err (one_fault c.args.faces.now fault other (manifold_fault_first c.args.faces.now fault here)
     (manifold_fault_first c.args.faces.now other first)))
 
-pub pinched_vertex-requires-clause-two : goal.pinched_vertex-requires-clause-two
-pinched_vertex-requires-clause-two c = two_sides_from_table c.args.faces.now c.args.sides.now c.requires c.in_default.ensures.none
+pub pinched_vertex-requires-clause-few : goal.pinched_vertex-requires-clause-few
+pinched_vertex-requires-clause-few c =
+    few_of_two c.args.faces.now (two_sides_from_table c.args.faces.now c.args.sides.now c.requires c.in_default.ensures.none)
 
 -- A vertex is pinched.
 pub returns-in-Some-2-clause-fault : goal.returns-in-Some-2-clause-fault

@@ -3,7 +3,7 @@ use Rattle.std.proofs.lemmas.List.{get_or_read, length-set}
 use Rattle.surf_model.specs.Building.{IsCounted}
 use Rattle.surf_model.specs.Edges.{Edge}
 use Rattle.surf_model.proofs.TallyLemmas.{counted_more, group_of_within}
-use Rattle.manifold_check.proofs.EdgeLemmas.{ends_below}
+use Rattle.connectivity.proofs.EdgeLemmas.{ends_below}
 use Rattle.manifold_check.proofs.MeasureLemmas.{place_of_edge, low_placed, edges_counted}
 use Rattle.manifold_check.proofs.measuring.count_edges.Goals as goal
 

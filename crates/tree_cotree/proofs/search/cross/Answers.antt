@@ -2,44 +2,45 @@ use Rattle.std.proofs.Common.{◌≡◌, ◌<◌, ℕ, true, List, [], ◌∷◌
 use Rattle.std.proofs.lemmas.List.{append_assoc}
 use Rattle.surf_model.specs.declared.names.DartName.{DartName}
 use Rattle.std.specs.Prelude.{is_some}
-use Rattle.halfedge_map.specs.RotationSystems.{Rotations, rotations_of}
+use Rattle.halfedge_map.specs.RotationSystems.{Rotations}
 use Rattle.halfedge_map.proofs.SystemLemmas.{rotation_system}
 use Rattle.tree_cotree.specs.RingViews.{dart_numbers}
 use Rattle.std.proofs.Math.ListN.{set}
-use Rattle.tree_cotree.specs.Searches.{node_of, is_allowed, IsFound, IsOrder}
+use Rattle.tree_cotree.specs.Graphs.{maps_of, node_in, crosses}
+use Rattle.tree_cotree.specs.Searches.{IsFound, IsOrder}
 use Rattle.tree_cotree.proofs.SearchLemmas.{IsNewDart, root_found, kept_found, none_kept, order_pushed, found_pushed, added_pushed}
 use Rattle.tree_cotree.proofs.search.cross.Goals.{then-across-root-via-then-across-root, then-across-root-via-else-across-root+then-is_some}
 use Rattle.tree_cotree.proofs.search.cross.Goals as goal
 
 pub returns-then-across-root-clause-crossed : goal.returns-then-across-root-clause-crossed
 returns-then-across-root-clause-crossed c =
-    let maps : Rotations = rotations_of c.args.surface.now in
-    let node : ℕ → ℕ = node_of c.args.nodes maps in
+    let maps : Rotations = maps_of c.args.graph.now in
+    let node : ℕ → ℕ = node_in c.args.graph.now in
     let across : c.node_across-across.result ≡ node (maps.twin c.args.dart.0) = c.node_across-across.ensures in
     let order : List ℕ = dart_numbers c.args.search.now.order.items in
     let from = c.args.search.now.from.items in
     let below : c.node_across-across.result < length from =
     rw across (c.requires.below (maps.twin c.args.dart.0)
-    ((rotation_system c.args.surface.now c.requires.valid).twin_within c.args.dart.0 c.requires.dart)) in
+    ((rotation_system c.args.graph.now.surface.now c.requires.valid).twin_within c.args.dart.0 c.requires.dart)) in
     λ passes. subst (IsFound node order) across (elim c.then-across-root.branch [
       | then-across-root-via-then-across-root w ↦
-          root_found maps node (is_allowed c.args.edges c.args.kinds.now) (length from) c.args.root order from
+          root_found maps node (crosses c.args.graph.now) (length from) c.args.root order from
           c.node_across-across.result c.requires.order w.if-across-root.true
       | then-across-root-via-else-across-root+then-is_some w ↦
-          kept_found maps node (is_allowed c.args.edges c.args.kinds.now) (length from) c.args.root order from
+          kept_found maps node (crosses c.args.graph.now) (length from) c.args.root order from
           c.node_across-across.result w.index.result.now c.requires.order
           below w.index.ensures (ap is_some (sym w.get.ensures) ∙ sym w.is_some.ensures ∙ w.if-is_some.true)
     ])
 
 pub returns-clause-order : goal.returns-clause-order
 returns-clause-order c =
-    let maps : Rotations = rotations_of c.args.surface.now in
-    let node : ℕ → ℕ = node_of c.args.nodes maps in
+    let maps : Rotations = maps_of c.args.graph.now in
+    let node : ℕ → ℕ = node_in c.args.graph.now in
     let d : ℕ = c.args.dart.0 in
     let order : List ℕ = dart_numbers c.args.search.now.order.items in
     let from = c.args.search.now.from.items in
-    let allowed = is_allowed c.args.edges c.args.kinds.now in
-    let system = rotation_system c.args.surface.now c.requires.valid in
+    let allowed = crosses c.args.graph.now in
+    let system = rotation_system c.args.graph.now.surface.now c.requires.valid in
     let across : c.node_across-across.result ≡ node (maps.twin d) = c.node_across-across.ensures in
     let below : node (maps.twin d) < length from = c.requires.below (maps.twin d) (system.twin_within d c.requires.dart) in
     let same : c.may_cross.result ≡ true = search rules in
@@ -61,18 +62,18 @@ returns-clause-order c =
 
 pub returns-clause-crossed : goal.returns-clause-crossed
 returns-clause-crossed c =
-    let maps : Rotations = rotations_of c.args.surface.now in
-    let node : ℕ → ℕ = node_of c.args.nodes maps in
+    let maps : Rotations = maps_of c.args.graph.now in
+    let node : ℕ → ℕ = node_in c.args.graph.now in
     λ passes. found_pushed maps node c.args.search.now.order.items c.push.new.self.items c.args.dart.0 c.twin-back.result
     c.twin-back.ensures.twin c.in_ok-push.ensures.items
 
 pub index-requires : goal.index-requires
 index-requires c =
-    let maps : Rotations = rotations_of c.args.surface.now in
+    let maps : Rotations = maps_of c.args.graph.now in
     let from = c.args.search.now.from.items in
     let below : c.node_across-across.result < length from =
     subst (λ v. v < length from) (sym c.node_across-across.ensures)
-    (c.requires.below (maps.twin c.args.dart.0) ((rotation_system c.args.surface.now c.requires.valid).twin_within c.args.dart.0
+    (c.requires.below (maps.twin c.args.dart.0) ((rotation_system c.args.graph.now.surface.now c.requires.valid).twin_within c.args.dart.0
     c.requires.dart)) in
     omega (arith, below, c.args.search.now.from.ok.0)
 

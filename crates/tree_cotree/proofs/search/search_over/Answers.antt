@@ -1,18 +1,19 @@
 use Rattle.std.proofs.Common.{◌≡◌, ◌≤◌, ℕ, List, length, sym, ap, subst, arith}
 use Rattle.std.proofs.lemmas.List.{length-map, length-append}
 use Rattle.surf_model.specs.declared.names.DartName.{DartName}
-use Rattle.halfedge_map.specs.RotationSystems.{Rotations, rotations_of}
+use Rattle.halfedge_map.specs.RotationSystems.{Rotations}
 use Rattle.tree_cotree.specs.RingViews.{dart_numbers}
 use Rattle.tree_cotree.specs.Waiting.{waiting_darts, IsTaken}
-use Rattle.tree_cotree.specs.Searches.{node_of, is_allowed, AreBelow, IsSearched}
+use Rattle.tree_cotree.specs.Graphs.{maps_of, node_in, crosses}
+use Rattle.tree_cotree.specs.Searches.{AreBelow, IsSearched}
 use Rattle.tree_cotree.proofs.SearchLemmas.{order_few, rebound}
 use Rattle.tree_cotree.proofs.WaitingLemmas.{taken, none_waits, taken_dart, taken_found, underway_more, underway_done}
 use Rattle.tree_cotree.proofs.search.search_over.Goals as goal
 
 pub visit-requires-clause-dart : goal.visit-requires-clause-dart
 visit-requires-clause-dart c =
-    let maps : Rotations = rotations_of c.args.surface.now in
-    taken_dart maps (node_of c.args.nodes maps) (is_allowed c.args.edges c.args.kinds.now) c.args.bound c.node-root.result
+    let maps : Rotations = maps_of c.args.graph.now in
+    taken_dart maps (node_in c.args.graph.now) (crosses c.args.graph.now) c.args.bound c.node-root.result
     (dart_numbers c.loop-search.search.order.items)
     (waiting_darts c.loop-search.search.waiting.far.items c.loop-search.search.waiting.near.items)
     (waiting_darts c.take.new.self.far.items c.take.new.self.near.items) c.loop-search.search.from.items c.in-Some.first.0
@@ -22,13 +23,13 @@ visit-requires-clause-dart c =
 
 pub visit-requires-clause-below : goal.visit-requires-clause-below
 visit-requires-clause-below c =
-    let maps : Rotations = rotations_of c.args.surface.now in
-    subst (AreBelow maps (node_of c.args.nodes maps)) (sym c.loop-search.invariant.is_order.long) c.requires.below
+    let maps : Rotations = maps_of c.args.graph.now in
+    subst (AreBelow maps (node_in c.args.graph.now)) (sym c.loop-search.invariant.is_order.long) c.requires.below
 
 pub visit-requires-clause-found : goal.visit-requires-clause-found
 visit-requires-clause-found c =
-    let maps : Rotations = rotations_of c.args.surface.now in
-    taken_found maps (node_of c.args.nodes maps) (is_allowed c.args.edges c.args.kinds.now) c.args.bound c.node-root.result
+    let maps : Rotations = maps_of c.args.graph.now in
+    taken_found maps (node_in c.args.graph.now) (crosses c.args.graph.now) c.args.bound c.node-root.result
     (dart_numbers c.loop-search.search.order.items)
     (waiting_darts c.loop-search.search.waiting.far.items c.loop-search.search.waiting.near.items)
     (waiting_darts c.take.new.self.far.items c.take.new.self.near.items) c.loop-search.search.from.items c.in-Some.first.0
@@ -38,15 +39,15 @@ visit-requires-clause-found c =
 
 pub visit-requires-clause-order : goal.visit-requires-clause-order
 visit-requires-clause-order c =
-    let maps : Rotations = rotations_of c.args.surface.now in
-    rebound maps (node_of c.args.nodes maps) (is_allowed c.args.edges c.args.kinds.now) c.args.bound
+    let maps : Rotations = maps_of c.args.graph.now in
+    rebound maps (node_in c.args.graph.now) (crosses c.args.graph.now) c.args.bound
     (length c.loop-search.search.from.items) c.node-root.result
     (dart_numbers c.loop-search.search.order.items) c.loop-search.search.from.items (sym c.loop-search.invariant.is_order.long)
     c.loop-search.invariant.is_order
 
 pub loop-search-smaller : goal.loop-search-smaller
 loop-search-smaller c =
-    let maps : Rotations = rotations_of c.args.surface.now in
+    let maps : Rotations = maps_of c.args.graph.now in
     let xs : List DartName = c.loop-search.search.order.items in
     let ys : List DartName = c.visit.new.search.order.items in
     let rest : List ℕ = waiting_darts c.take.new.self.far.items c.take.new.self.near.items in
@@ -55,8 +56,8 @@ loop-search-smaller c =
     (waiting_darts c.loop-search.search.waiting.far.items c.loop-search.search.waiting.near.items)
     (waiting_darts c.take.new.self.far.items c.take.new.self.near.items) c.in-Some.is c.in_ok-first.ensures.some) in
     let few : length (dart_numbers ys) ≤ c.args.bound =
-    order_few maps (node_of c.args.nodes maps) (is_allowed c.args.edges c.args.kinds.now) c.args.bound c.node-root.result (dart_numbers ys)
-    c.visit.new.search.from.items (rebound maps (node_of c.args.nodes maps) (is_allowed c.args.edges c.args.kinds.now)
+    order_few maps (node_in c.args.graph.now) (crosses c.args.graph.now) c.args.bound c.node-root.result (dart_numbers ys)
+    c.visit.new.search.from.items (rebound maps (node_in c.args.graph.now) (crosses c.args.graph.now)
     (length c.loop-search.search.from.items) c.args.bound
     c.node-root.result (dart_numbers c.visit.new.search.order.items) c.visit.new.search.from.items c.loop-search.invariant.is_order.long
     c.in_ok-visit.ensures.order) c.requires.below in
@@ -76,8 +77,8 @@ loop-search-smaller c =
 
 pub loop-search-preserved : goal.loop-search-preserved
 loop-search-preserved c =
-    let maps : Rotations = rotations_of c.args.surface.now in
-    underway_more maps (node_of c.args.nodes maps) (is_allowed c.args.edges c.args.kinds.now) c.args.bound c.node-root.result
+    let maps : Rotations = maps_of c.args.graph.now in
+    underway_more maps (node_in c.args.graph.now) (crosses c.args.graph.now) c.args.bound c.node-root.result
     (dart_numbers c.loop-search.search.order.items) (waiting_darts c.loop-search.search.waiting.far.items
     c.loop-search.search.waiting.near.items) (waiting_darts c.take.new.self.far.items c.take.new.self.near.items)
     (dart_numbers c.visit.new.search.order.items) (waiting_darts c.visit.new.search.waiting.far.items
@@ -86,7 +87,7 @@ loop-search-preserved c =
     (taken c.in_ok-first.field-0 c.in-Some.first (waiting_darts c.loop-search.search.waiting.far.items
     c.loop-search.search.waiting.near.items)
     (waiting_darts c.take.new.self.far.items c.take.new.self.near.items) c.in-Some.is c.in_ok-first.ensures.some)
-    (rebound maps (node_of c.args.nodes maps) (is_allowed c.args.edges c.args.kinds.now) (length c.loop-search.search.from.items)
+    (rebound maps (node_in c.args.graph.now) (crosses c.args.graph.now) (length c.loop-search.search.from.items)
     c.args.bound
     c.node-root.result (dart_numbers c.visit.new.search.order.items) c.visit.new.search.from.items c.loop-search.invariant.is_order.long
     c.in_ok-visit.ensures.order) c.in_ok-visit.ensures.added
@@ -94,9 +95,9 @@ loop-search-preserved c =
 
 pub returns : goal.returns
 returns c =
-    let maps : Rotations = rotations_of c.args.surface.now in
-    let node : ℕ → ℕ = node_of c.args.nodes maps in
-    let allowed = is_allowed c.args.edges c.args.kinds.now in
+    let maps : Rotations = maps_of c.args.graph.now in
+    let node : ℕ → ℕ = node_in c.args.graph.now in
+    let allowed = crosses c.args.graph.now in
     subst (λ r. IsSearched maps node allowed c.args.bound r c.loop-search.search.from.items) c.node-root.ensures
     (underway_done maps node allowed c.args.bound c.node-root.result (dart_numbers c.loop-search.search.order.items)
     (waiting_darts c.loop-search.search.waiting.far.items c.loop-search.search.waiting.near.items) c.loop-search.search.from.items

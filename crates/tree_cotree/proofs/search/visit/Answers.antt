@@ -1,66 +1,68 @@
 use Rattle.std.proofs.Common.{◌≡◌, ◌+◌, ◌≤◌, ℕ, List, length, sym, ◌∙◌, subst, arith}
 use Rattle.std.proofs.lemmas.Bool.{eqb-true}
-use Rattle.halfedge_map.specs.RotationSystems.{Rotations, rotations_of}
+use Rattle.halfedge_map.specs.RotationSystems.{Rotations}
 use Rattle.tree_cotree.specs.RingViews.{dart_numbers}
 use Rattle.tree_cotree.specs.Waiting.{waiting_darts}
-use Rattle.tree_cotree.specs.Searches.{node_of, turn_of, is_allowed, AreBelow}
+use Rattle.tree_cotree.specs.Graphs.{maps_of, node_in, turn_in, crosses}
+use Rattle.tree_cotree.specs.Searches.{AreBelow}
 use Rattle.tree_cotree.proofs.SearchLemmas.{IsVisiting, turning, visit_start, visit_more, visit_within, visit_found, rebound, added_on, crossed_round, crossed_all}
 use Rattle.tree_cotree.proofs.search.visit.Goals as goal
 
 pub loop-turn-init : goal.loop-turn-init
 loop-turn-init c =
-    let maps : Rotations = rotations_of c.args.surface.now in
-    visit_start maps (node_of c.args.nodes maps) (is_allowed c.args.edges c.args.kinds.now) (turn_of c.args.nodes maps)
+    let maps : Rotations = maps_of c.args.graph.now in
+    visit_start maps (node_in c.args.graph.now) (crosses c.args.graph.now) (turn_in c.args.graph.now)
     (length c.args.search.now.from.items) c.args.root
     (dart_numbers c.args.search.now.order.items) (waiting_darts c.args.search.now.waiting.far.items
     c.args.search.now.waiting.near.items) c.args.search.now.from.items c.args.first.0 c.requires.order
 
 pub cross-requires-clause-below : goal.cross-requires-clause-below
 cross-requires-clause-below c =
-    let maps : Rotations = rotations_of c.args.surface.now in
-    subst (AreBelow maps (node_of c.args.nodes maps)) (sym c.loop-turn.invariant.is_order.long) c.requires.below
+    let maps : Rotations = maps_of c.args.graph.now in
+    subst (AreBelow maps (node_in c.args.graph.now)) (sym c.loop-turn.invariant.is_order.long) c.requires.below
 
 pub cross-requires-clause-dart : goal.cross-requires-clause-dart
 cross-requires-clause-dart c =
-    let maps : Rotations = rotations_of c.args.surface.now in
-    visit_within maps (node_of c.args.nodes maps) (turn_of c.args.nodes maps) c.args.first.0 c.loop-turn.dart.0 c.loop-turn._turn
-    (turning c.args.surface.now c.darts-turn-end.ensures.valid c.args.nodes) c.requires.dart c.loop-turn.invariant.at
+    let maps : Rotations = maps_of c.args.graph.now in
+    visit_within maps (node_in c.args.graph.now) (turn_in c.args.graph.now) c.args.first.0 c.loop-turn.dart.0 c.loop-turn._turn
+    (turning c.args.graph.now.surface.now c.darts-turn-end.ensures.valid c.args.graph.now.nodes) c.requires.dart c.loop-turn.invariant.at
 
 pub cross-requires-clause-found : goal.cross-requires-clause-found
 cross-requires-clause-found c =
-    let maps : Rotations = rotations_of c.args.surface.now in
-    visit_found maps (node_of c.args.nodes maps) (is_allowed c.args.edges c.args.kinds.now) (turn_of c.args.nodes maps)
+    let maps : Rotations = maps_of c.args.graph.now in
+    visit_found maps (node_in c.args.graph.now) (crosses c.args.graph.now) (turn_in c.args.graph.now)
     (length c.args.search.now.from.items) c.args.root
     (dart_numbers c.args.search.now.order.items) (waiting_darts c.args.search.now.waiting.far.items
     c.args.search.now.waiting.near.items) (dart_numbers c.loop-turn.search.order.items)
     (waiting_darts c.loop-turn.search.waiting.far.items c.loop-turn.search.waiting.near.items) c.loop-turn.search.from.items
     c.args.first.0 c.loop-turn.dart.0 c.loop-turn._turn
-    (turning c.args.surface.now c.darts-turn-end.ensures.valid c.args.nodes) c.requires.dart c.requires.found c.loop-turn.invariant
+    (turning c.args.graph.now.surface.now c.darts-turn-end.ensures.valid c.args.graph.now.nodes)
+    c.requires.dart c.requires.found c.loop-turn.invariant
 
 pub cross-requires-clause-order : goal.cross-requires-clause-order
 cross-requires-clause-order c =
-    let maps : Rotations = rotations_of c.args.surface.now in
-    rebound maps (node_of c.args.nodes maps) (is_allowed c.args.edges c.args.kinds.now) (length c.args.search.now.from.items)
+    let maps : Rotations = maps_of c.args.graph.now in
+    rebound maps (node_in c.args.graph.now) (crosses c.args.graph.now) (length c.args.search.now.from.items)
     (length c.loop-turn.search.from.items) c.args.root
     (dart_numbers c.loop-turn.search.order.items) c.loop-turn.search.from.items (sym c.loop-turn.invariant.is_order.long)
     c.loop-turn.invariant.is_order
 
 pub turn-dart-requires : goal.turn-dart-requires
 turn-dart-requires c =
-    let maps : Rotations = rotations_of c.args.surface.now in
-    visit_within maps (node_of c.args.nodes maps) (turn_of c.args.nodes maps) c.args.first.0 c.loop-turn.dart.0 c.loop-turn._turn
-    (turning c.args.surface.now c.darts-turn-end.ensures.valid c.args.nodes) c.requires.dart c.loop-turn.invariant.at
+    let maps : Rotations = maps_of c.args.graph.now in
+    visit_within maps (node_in c.args.graph.now) (turn_in c.args.graph.now) c.args.first.0 c.loop-turn.dart.0 c.loop-turn._turn
+    (turning c.args.graph.now.surface.now c.darts-turn-end.ensures.valid c.args.graph.now.nodes) c.requires.dart c.loop-turn.invariant.at
 
 pub loop-turn-preserved : goal.loop-turn-preserved
 loop-turn-preserved c =
-    let maps : Rotations = rotations_of c.args.surface.now in
-    let node : ℕ → ℕ = node_of c.args.nodes maps in
-    let allowed = is_allowed c.args.edges c.args.kinds.now in
+    let maps : Rotations = maps_of c.args.graph.now in
+    let node : ℕ → ℕ = node_in c.args.graph.now in
+    let allowed = crosses c.args.graph.now in
     let order : List ℕ = dart_numbers c.loop-turn.search.order.items in
     let waiting : List ℕ = waiting_darts c.loop-turn.search.waiting.far.items c.loop-turn.search.waiting.near.items in
     let new : List ℕ = dart_numbers c.cross.new.search.order.items in
     let more : List ℕ = waiting_darts c.cross.new.search.waiting.far.items c.cross.new.search.waiting.near.items in
-    visit_more maps node allowed (turn_of c.args.nodes maps) (length c.args.search.now.from.items) c.args.root
+    visit_more maps node allowed (turn_in c.args.graph.now) (length c.args.search.now.from.items) c.args.root
     (dart_numbers c.args.search.now.order.items)
     (waiting_darts c.args.search.now.waiting.far.items c.args.search.now.waiting.near.items) order waiting new more
     c.loop-turn.search.from.items c.cross.new.search.from.items c.args.first.0 c.loop-turn.dart.0 c.turn-dart.result.0 c.loop-turn._turn
@@ -72,10 +74,10 @@ loop-turn-preserved c =
 
 pub returns-then-eq-clause-crossed : goal.returns-then-eq-clause-crossed
 returns-then-eq-clause-crossed c =
-    let maps : Rotations = rotations_of c.args.surface.now in
-    let node : ℕ → ℕ = node_of c.args.nodes maps in
-    let turn : ℕ → ℕ = turn_of c.args.nodes maps in
-    let allowed = is_allowed c.args.edges c.args.kinds.now in
+    let maps : Rotations = maps_of c.args.graph.now in
+    let node : ℕ → ℕ = node_in c.args.graph.now in
+    let turn : ℕ → ℕ = turn_in c.args.graph.now in
+    let allowed = crosses c.args.graph.now in
     let order : List ℕ = dart_numbers c.loop-turn.search.order.items in
     let waiting : List ℕ = waiting_darts c.loop-turn.search.waiting.far.items c.loop-turn.search.waiting.near.items in
     let new : List ℕ = dart_numbers c.cross.new.search.order.items in
@@ -95,22 +97,23 @@ returns-then-eq-clause-crossed c =
     c.in_ok-cross.ensures.added c.in_ok-cross.ensures.crossed c.turn-dart.ensures.turn in
     let home : c.turn-dart.result.0 ≡ c.args.first.0 = eqb-true c.turn-dart.result.0 c.args.first.0 (sym c.eq.ensures ∙ c.if-eq.true) in
     crossed_round maps node allowed turn new c.args.first.0 (k + 1)
-    (turning c.args.surface.now c.darts-turn-end.ensures.valid c.args.nodes) c.requires.dart
+    (turning c.args.graph.now.surface.now c.darts-turn-end.ensures.valid c.args.graph.now.nodes) c.requires.dart
     visited.crossed (omega arith, sym visited.at ∙ home)
 
 pub returns-clause-crossed : goal.returns-clause-crossed
 returns-clause-crossed c =
-    let maps : Rotations = rotations_of c.args.surface.now in
+    let maps : Rotations = maps_of c.args.graph.now in
     let all : maps.darts ≤ c.loop-turn._turn = omega (arith, c.loop-turn-test.false, c.darts-turn-end.ensures.count) in
-    crossed_all maps (node_of c.args.nodes maps) (is_allowed c.args.edges c.args.kinds.now) (turn_of c.args.nodes maps)
+    crossed_all maps (node_in c.args.graph.now) (crosses c.args.graph.now) (turn_in c.args.graph.now)
     (dart_numbers c.loop-turn.search.order.items)
-    c.args.first.0 c.loop-turn._turn (turning c.args.surface.now c.darts-turn-end.ensures.valid c.args.nodes) c.requires.dart
+    c.args.first.0 c.loop-turn._turn (turning c.args.graph.now.surface.now c.darts-turn-end.ensures.valid c.args.graph.now.nodes)
+    c.requires.dart
     c.loop-turn.invariant.crossed all
 
 pub returns-then-eq-clause-order : goal.returns-then-eq-clause-order
 returns-then-eq-clause-order c =
-    let maps : Rotations = rotations_of c.args.surface.now in
-    rebound maps (node_of c.args.nodes maps) (is_allowed c.args.edges c.args.kinds.now) (length c.loop-turn.search.from.items)
+    let maps : Rotations = maps_of c.args.graph.now in
+    rebound maps (node_in c.args.graph.now) (crosses c.args.graph.now) (length c.loop-turn.search.from.items)
     (length c.args.search.now.from.items) c.args.root (dart_numbers c.cross.new.search.order.items) c.cross.new.search.from.items
     c.loop-turn.invariant.is_order.long c.in_ok-cross.ensures.order
 

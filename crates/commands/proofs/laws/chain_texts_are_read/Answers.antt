@@ -1,5 +1,0 @@
-use Rattle.commands.proofs.ChainReading.{chain_read}
-use Rattle.commands.proofs.laws.chain_texts_are_read.Goals as goal
-
-pub returns : goal.returns
-returns c = chain_read

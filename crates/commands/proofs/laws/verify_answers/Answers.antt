@@ -1,5 +1,0 @@
-use Rattle.commands.proofs.Outcomes.{verified_by, denial_verified_by}
-use Rattle.commands.proofs.laws.verify_answers.Goals as goal
-
-pub returns : goal.returns
-returns c = record { moves = verified_by; denial = denial_verified_by }

@@ -1,5 +1,0 @@
-use Rattle.manifold_check.proofs.ComponentLemmas.{JoinsEdgesUpTo}
-use Rattle.manifold_check.proofs.components.components.Given as goal
-
-abbrev pub invariant-loop-edge : goal.invariant-loop-edge
-invariant-loop-edge l = JoinsEdgesUpTo l.faces l.sides l.vertices l.edge

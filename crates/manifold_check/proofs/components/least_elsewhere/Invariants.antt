@@ -1,6 +1,0 @@
-use Rattle.std.proofs.Common.{◌≡◌, ◌<◌, ℕ, true, get_or}
-use Rattle.surf_model.specs.FaceLists.{is_used}
-use Rattle.manifold_check.proofs.components.least_elsewhere.Given as goal
-
-abbrev pub invariant-loop-other : goal.invariant-loop-other
-invariant-loop-other l = (v : ℕ) → v < l.other → is_used l.faces v ≡ true → get_or l.least v 0 ≡ get_or l.least l.vertex.0 0

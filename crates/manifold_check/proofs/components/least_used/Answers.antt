@@ -1,6 +1,0 @@
-use Rattle.std.proofs.Common.{arith}
-use Rattle.manifold_check.proofs.EdgeLemmas.{used_below}
-use Rattle.manifold_check.proofs.components.least_used.Goals as goal
-
-pub returns-clause-none : goal.returns-clause-none
-returns-clause-none c = λ v used. c.loop-vertex.invariant v (omega (arith, used_below c.args.faces.now v c.requires.valid used)) used

@@ -1,6 +1,0 @@
-use Rattle.std.proofs.Common.{◌≡◌, ◌<◌, ℕ, true}
-use Rattle.surf_model.specs.FaceLists.{is_used}
-use Rattle.manifold_check.proofs.components.least_used.Given as goal
-
-abbrev pub invariant-loop-vertex : goal.invariant-loop-vertex
-invariant-loop-vertex l = (v : ℕ) → v < l.vertex → is_used l.faces v ≡ true → ⊥

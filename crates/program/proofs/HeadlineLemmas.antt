@@ -1,0 +1,55 @@
+-- The headline, from what `decide` and `certify` answer.
+use Rattle.std.proofs.Common.{◌≡◌, ◌⊎◌, inl, inr, ℕ, List, sym, ◌∙◌}
+use Rattle.std.specs.Prelude.{◌↔◌, Option}
+use Rattle.surf_io.specs.Files.{Files}
+use Rattle.surf_model.specs.FaceLists.{FaceList}
+use Rattle.surf_model.specs.Moves as moves
+use Rattle.walk_translate.specs.declared.deciding.Answer.TheVariants.{Homotopic, Different}
+use Rattle.commands.specs.Certificates.{Convinces, decision_of, decision_status, decision_line, certificate_text}
+use Rattle.commands.specs.Certify.{IsCertified}
+use Rattle.commands.specs.Decide.{IsDecided}
+use Rattle.program.specs.Headline.{SaysHomotopic, SaysDifferent, PrintsList, PrintsDenial, Headline}
+use Rattle.commands.specs.declared.certificate.Certificate.{Certificate}
+use Rattle.commands.specs.declared.certificate.Certificate.TheVariants.{Moves, Denial}
+use Rattle.commands.specs.declared.status.Status.{Status}
+use Rattle.commands.specs.declared.status.Status.TheVariants.{Yes, No}
+
+no_yes : No ≡ Yes → ⊥
+no_yes e = cc
+
+says : (mesh : FaceList) (first second : List ℕ) (status : Status) (text : List ℕ)
+    → ((status ≡ Yes) × (text ≡ decision_line Homotopic)) ⊎ ((status ≡ No) × (text ≡ decision_line Different))
+    → (status ≡ Yes) ↔ moves.Homotopic mesh first second
+    → SaysHomotopic mesh first second status text ⊎ SaysDifferent mesh first second status text
+says mesh first second status text (inl p) exact = inl (record { status_is = p.0; text_is = p.1; homotopic = exact.0 p.0 })
+says mesh first second status text (inr p) exact =
+    inr (record { status_is = p.0; text_is = p.1; different = λ h. no_yes (sym p.0 ∙ exact.1 h) })
+
+prints : (mesh : FaceList) (first second : List ℕ) (status : Status) (text : List ℕ) (shown : Certificate)
+    → Convinces mesh first second shown
+    → status ≡ decision_status (decision_of shown) → text ≡ certificate_text shown → (status ≡ Yes) ↔ moves.Homotopic mesh first second
+    → PrintsList mesh first second status text ⊎ PrintsDenial mesh first second status text
+prints mesh first second status text (Moves list) h e f exact = inl (record { list = list; leads = h.leads; status_is = e; text_is = f })
+prints mesh first second status text (Denial denial) h e f exact =
+    inr (record {
+      denial = denial;
+      good = h.good;
+      first_word = h.first_word;
+      second_word = h.second_word;
+      unequal = h.differ;
+      different = λ homotopic. no_yes (sym e ∙ exact.1 homotopic);
+      status_is = e;
+      text_is = f;
+    })
+
+pub headline : (files : Option Files) (words : List (List ℕ)) (status : Status) (text : List ℕ) → IsDecided files words status text
+    → IsCertified files words status text → Headline files words status text
+headline files words status text decided certified =
+    record {
+      decided = λ mesh first second input.
+          says mesh first second status text (decided.answered mesh first second input) (decided.exactly mesh first second input);
+      certified = λ mesh first second input within.
+          let printed = certified.answered mesh first second input within in
+          prints mesh first second status text printed.shown printed.convinces printed.status_is printed.text_is
+          (certified.exactly mesh first second input within);
+    }

@@ -1,0 +1,4 @@
+pub mod Rows
+pub mod HeadlineLemmas
+pub mod Outcomes
+pub mod Printed

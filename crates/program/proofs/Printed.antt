@@ -1,0 +1,59 @@
+-- What `certify` prints spells its certificate again, and `verify` accepts it.
+use Rattle.std.proofs.Common.{◌≡◌, ℕ, ◌≤◌, List, length, sym, subst, arith}
+use Rattle.std.specs.Prelude.{Option, Some, None, IsSomeAnd}
+use Rattle.surf_io.specs.Files.{Files, file_of}
+use Rattle.surf_model.specs.FaceLists.{FaceList}
+use Rattle.commands.proofs.Accepting.{accepted, spelled}
+use Rattle.commands.proofs.MeshTexts.{is_face_list}
+use Rattle.commands.proofs.Sound.{held}
+use Rattle.commands.specs.Certificates.{certificate_text}
+use Rattle.commands.specs.Certify.{IsCertifyInput, IsWithinLimits, IsCertificatePrinted}
+use Rattle.commands.specs.Inputs.{IsPeakRead, SpellsMesh, SpellsPair, SpellsCertificate}
+use Rattle.commands.specs.Verify.{IsVerifyInput}
+use Rattle.commands.specs.declared.certificate.Certificate.{Certificate}
+use Rattle.commands.specs.declared.inputs.TheConstants.{MOST_BYTES}
+use Rattle.commands.specs.declared.status.Status.{Status}
+use Rattle.program.proofs.Rows.{row_ends}
+use Rattle.program.specs.Commands.{Verify}
+use Rattle.program.specs.PrintedCertificates.{IsVerifyOfText, IsAccepted}
+
+some_and : {A : Type 0} (o : Option A) (P Q : A → Type 0) → ((x : A) → P x → Q x) → IsSomeAnd o P → IsSomeAnd o Q
+some_and None P Q more h = h
+some_and (Some x) P Q more h = more x h
+
+-- a file of a text that spells the certificate
+verify_input : (files : Option Files) (words : List (List ℕ)) (mesh : FaceList) (first second text : List ℕ) (shown : Certificate)
+    → SpellsCertificate shown text → IsVerifyOfText files words mesh first second text → IsVerifyInput files words mesh first second shown
+verify_input files words mesh first second text shown spells h =
+    record {
+      mesh_name = h.mesh_name;
+      walks_name = h.walks_name;
+      certificate_name = h.certificate_name;
+      words_are = h.words_are;
+      mesh_file = h.mesh_file;
+      walks_file = h.walks_file;
+      certificate_file =
+          some_and (file_of files h.certificate_name) (λ bytes. (length bytes ≤ MOST_BYTES) × (bytes ≡ text))
+          (λ bytes. (length bytes ≤ MOST_BYTES) × SpellsCertificate shown bytes)
+          (λ bytes file. (file.0, subst (SpellsCertificate shown) (sym file.1) spells)) h.certificate_file;
+    }
+
+pub printed_accepted : (files : Option Files) (words : List (List ℕ)) (mesh : FaceList) (first second : List ℕ) (status : Status)
+    (text : List ℕ) → IsCertifyInput files words mesh first second → IsWithinLimits mesh first second
+    → (printed : IsCertificatePrinted mesh first second status text)
+    → IsPeakRead printed.shown → length text ≤ MOST_BYTES → IsAccepted mesh first second printed.shown text
+unfolding verify_input
+printed_accepted files words mesh first second status text input limits printed peak short =
+    let off = held files input.mesh_name (SpellsMesh mesh) input.mesh_file in
+    let pair = (held files input.walks_name (SpellsPair mesh first second) input.walks_file).holds in
+    let own : SpellsCertificate printed.shown (certificate_text printed.shown) =
+    spelled mesh first second printed.shown (is_face_list off.bytes mesh off.holds) pair.first_walk (omega (arith, limits.few))
+    (omega (arith, limits.few)) printed.convinces peak (subst (λ (t : List ℕ). length t ≤ MOST_BYTES) printed.text_is short) in
+    let spells : SpellsCertificate printed.shown text = subst (SpellsCertificate printed.shown) (sym printed.text_is) own in
+    record {
+      spells = spells;
+      accepted = λ others commands outcome end answer h is told.
+          accepted others commands mesh first second printed.shown outcome end answer printed.convinces
+          (verify_input others commands mesh first second text printed.shown spells h)
+          (row_ends others commands (Verify h.mesh_name h.walks_name h.certificate_name) outcome h.words_are is) told;
+    }

@@ -1,0 +1,18 @@
+use Rattle.commands.specs.Trial.{trial}
+use Rattle.commands.proofs.Running.{runs_unread}
+use Rattle.program.proofs.command.answer.Goals as goal
+
+pub returns-in-Decide : goal.returns-in-Decide
+returns-in-Decide g c = rw c.in-Decide.is c.decide.ensures
+
+pub returns-in-Certify : goal.returns-in-Certify
+returns-in-Certify g c = rw c.in-Certify.is c.certify.ensures
+
+pub returns-in-Verify : goal.returns-in-Verify
+returns-in-Verify g c = rw c.in-Verify.is c.verify.ensures
+
+pub returns-in-Trial : goal.returns-in-Trial
+returns-in-Trial g c =
+    rw c.in-Trial.is
+    (runs_unread g.S.Shelf.held g.S.Shelf.faults c.args.shelf.now (λ files. trial c.in-Trial.genus c.in-Trial.grid) c.trial.result
+    c.trial.ensures.no_fault c.trial.ensures.end)

@@ -1,0 +1,18 @@
+use Rattle.program.specs.Commands.{row_of}
+use Rattle.program.specs.Outcomes.{answer_of}
+use Rattle.commands.specs.Refusals.{wrong_words}
+use Rattle.commands.specs.Words.{texts}
+use Rattle.program.proofs.Outcomes.{row_runs, wrong_stops}
+use Rattle.commands.proofs.Running.{runs_refused}
+use Rattle.program.proofs.top.find_answer.Goals as goal
+
+pub returns-in_default : goal.returns-in_default
+returns-in_default g c =
+    let words = texts c.args.words.now.items in
+    runs_refused g.S.Shelf.held g.S.Shelf.faults c.args.shelf.now (λ files. answer_of files words) wrong_words c.refused.result
+    (wrong_stops (g.S.Shelf.held c.args.shelf.now) words c.refused.result c.in_default.ensures.none c.refused.ensures) c.refused.ensures
+
+pub returns : goal.returns
+returns g c =
+    row_runs g.S.Shelf.held g.S.Shelf.faults c.args.shelf.now c.answer.new.shelf (texts c.args.words.now.items) (row_of c.in-Some.command)
+    c.answer.result c.in-Some.ensures.row c.answer.ensures

@@ -1,0 +1,4 @@
+pub mod Headline
+pub mod Commands
+pub mod Outcomes
+pub mod PrintedCertificates

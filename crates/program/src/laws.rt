@@ -1,0 +1,92 @@
+//! What is promised of answers, said of the definitions: the headline first, then what each command is for. A call of one of these
+//! functions does nothing; its contract is the law. `run` says of each answer that it is one of `Answers`.
+ghost use Rattle.std.specs.Prelude.{◌≡◌, ℕ, ◌≤◌, List, length, Ok, Option};
+ghost use Rattle.surf_io.specs.Files.{Files};
+ghost use Rattle.surf_model.specs.FaceLists.{FaceList};
+ghost use Rattle.off_reader.specs.OffTexts.{meaning_of};
+ghost use Rattle.surf_gen.specs.Chains.{chain_mesh};
+ghost use Rattle.surf_gen.specs.ChainTexts.{chain_text};
+ghost use Rattle.surf_gen.specs.Sizes.{IsChain};
+ghost use Rattle.commands.specs.Certify.{IsCertified, IsCertifyInput, IsWithinLimits, IsCertificatePrinted};
+ghost use Rattle.commands.specs.Decide.{IsDecided};
+ghost use Rattle.program.specs.Headline.{Headline};
+ghost use Rattle.commands.specs.Inputs.{IsPeakRead};
+ghost use Rattle.commands.specs.Outcomes.{Outcome};
+ghost use Rattle.program.specs.Outcomes.{AllTold, Answers, IsOutcome};
+ghost use Rattle.program.specs.PrintedCertificates.{IsAccepted};
+ghost use Rattle.commands.specs.Reduce.{IsReduced};
+ghost use Rattle.commands.specs.Surface.{IsMeasured};
+ghost use Rattle.commands.specs.Trial.{IsTried};
+ghost use Rattle.commands.specs.Verify.{IsVerified, IsDenialVerified};
+ghost use Rattle.commands.specs.declared.inputs.TheConstants.{MOST_BYTES};
+ghost use Rattle.commands.specs.declared.status.Status.{Status};
+
+/// The headline: on a connected orientable closed surface `decide` tells whether two walks are homotopic, and `certify` prints what
+/// shows it.
+pub fn headline()
+    ensures { (held : Option Files) (words : List (List ℕ)) (status : Status) (text : List ℕ)
+        → Answers held words status text → Headline held words status text }
+{}
+
+/// What `surface` answers of a mesh.
+pub fn surface_answers()
+    ensures { (held : Option Files) (words : List (List ℕ)) (status : Status) (text : List ℕ)
+        → Answers held words status text → IsMeasured held words status text }
+{}
+
+/// What `decide` answers of two walks of a surface.
+pub fn decide_answers()
+    ensures { (held : Option Files) (words : List (List ℕ)) (status : Status) (text : List ℕ)
+        → Answers held words status text → IsDecided held words status text }
+{}
+
+/// What `certify` answers of two walks of a surface.
+pub fn certify_answers()
+    ensures { (held : Option Files) (words : List (List ℕ)) (status : Status) (text : List ℕ)
+        → Answers held words status text → IsCertified held words status text }
+{}
+
+/// What `verify` answers of a list of moves, and of a denial.
+pub fn verify_answers()
+    ensures moves { (held : Option Files) (words : List (List ℕ)) (status : Status) (text : List ℕ)
+        → Answers held words status text → IsVerified held words status text }
+    ensures denial { (held : Option Files) (words : List (List ℕ)) (status : Status) (text : List ℕ)
+        → Answers held words status text → IsDenialVerified held words status text }
+{}
+
+/// What `reduce` answers of a list of turn words.
+pub fn reduce_answers()
+    ensures { (held : Option Files) (words : List (List ℕ)) (status : Status) (text : List ℕ)
+        → Answers held words status text → IsReduced held words status text }
+{}
+
+/// What `trial` answers of a chain of tori.
+pub fn trial_answers()
+    ensures { (held : Option Files) (words : List (List ℕ)) (status : Status) (text : List ℕ)
+        → Answers held words status text → IsTried words status text }
+{}
+
+/// The text of a chain of tori is read as the chain.
+pub fn chain_texts_are_read()
+    ensures { (genus grid : ℕ) → IsChain genus grid → meaning_of (chain_text genus grid) ≡ Ok (chain_mesh genus grid) }
+{}
+
+/// No words are without an outcome, whatever the files hold.
+pub fn some_outcome()
+    ensures { (held : Option Files) (words : List (List ℕ)) → ((outcome : Outcome) → IsOutcome held words outcome → ⊥) → ⊥ }
+{}
+
+/// Where each file that is looked at is told, words have one outcome.
+pub fn one_outcome()
+    ensures { (held : Option Files) (words : List (List ℕ)) (first second : Outcome) → AllTold held words
+        → IsOutcome held words first → IsOutcome held words second → first ≡ second }
+{}
+
+/// What `certify` prints is, as it is, a certificate that `verify` accepts on the same mesh and walks, where a file may be so large
+/// and a list of moves have such a peak.
+pub fn printed_certificates_are_accepted()
+    ensures { (held : Option Files) (words : List (List ℕ)) (mesh : FaceList) (first second : List ℕ) (status : Status) (text : List ℕ)
+        → IsCertifyInput held words mesh first second → IsWithinLimits mesh first second
+        → (printed : IsCertificatePrinted mesh first second status text) → IsPeakRead printed.shown → length text ≤ MOST_BYTES
+        → IsAccepted mesh first second printed.shown text }
+{}

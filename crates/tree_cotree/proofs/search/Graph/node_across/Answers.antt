@@ -1,0 +1,15 @@
+use Rattle.std.proofs.Common.{◌≡◌, ℕ, ap, sym, ◌∙◌, subst}
+use Rattle.halfedge_map.specs.RotationSystems.{Rotations, rotations_of}
+use Rattle.halfedge_map.proofs.SystemLemmas.{rotation_system}
+use Rattle.tree_cotree.specs.Searches.{node_of}
+use Rattle.tree_cotree.specs.declared.search.Nodes.{Nodes}
+use Rattle.tree_cotree.proofs.search.Graph.node_across.Goals as goal
+
+pub returns-in-Vertices : goal.returns-in-Vertices
+returns-in-Vertices c =
+    let maps : Rotations = rotations_of c.args.self.now.surface.now in
+    let d : ℕ = c.args.dart.0 in
+    let here : c.origin.result.0 ≡ maps.origin (maps.twin d) =
+    c.origin.ensures ∙ ap maps.origin c.next.ensures.next
+    ∙ (rotation_system c.args.self.now.surface.now c.requires.valid).follows d c.requires.dart in
+    subst (λ (nodes : Nodes). c.origin.result.0 ≡ node_of nodes maps (maps.twin d)) (sym c.in-Vertices.is) here
