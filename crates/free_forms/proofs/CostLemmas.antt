@@ -63,10 +63,16 @@ step_paid surface most old next new falls paid step =
               front = omega (arith, front, falls, paid.front);
               peak = omega (arith, peak, paid.peak);
             })
-        | inr wide ↦
-            (let front : length new.front ≡ length old.front = ap (λ (l : List ℕ). length l) wide.front in
-            noted_paid surface most old new (Across (length old.front) (record { 0 = wide.face }) wide.corner wide.forward 1) next falls
-            paid (omega (arith, front)) wide.list)
+        | inr rest ↦ elim rest [
+          | inl wide ↦
+              (let front : length new.front ≡ length old.front = ap (λ (l : List ℕ). length l) wide.front in
+              noted_paid surface most old new (Across (length old.front) (record { 0 = wide.face }) wide.corner wide.forward 1) next falls
+              paid (omega (arith, front)) wide.list)
+          | inr skip ↦
+              (let front : length new.front ≡ length old.front = ap (λ (l : List ℕ). length l) skip.front in
+              noted_paid surface most old new (Remove (length new.front) (record { 0 = next })) next falls paid (omega (arith, front))
+              skip.list)
+        ]
       ]
     ]
 

@@ -52,6 +52,17 @@ pub record StepsBack (old : ReductionView) (next : ℕ) (new : ReductionView) : 
         peak = max old.list.peak (length new.front + length new.coming);
       }
 
+-- the vertices to come lead to the next vertex and straight back, and the spur goes out
+pub record SkipsSpur (old : ReductionView) (next : ℕ) (new : ReductionView) : Type 0 where
+  pub front : new.front ≡ old.front
+  pub last : new.last ≡ old.last
+  pub coming : old.coming ≡ old.last ∷ new.coming
+  pub list : new.list
+      ≡ record {
+        moves = old.list.moves ++ Remove (length new.front) (record { 0 = next }) ∷ [];
+        peak = max old.list.peak (length new.front + length new.coming);
+      }
+
 -- the next vertex is put on: it makes no spur, and the edge is no parent edge
 pub record StepsOn (surface : OpenView) (old : ReductionView) (next : ℕ) (new : ReductionView) : Type 0 where
   pub no_parent : IsParentEdge surface old.last next → ⊥
@@ -88,6 +99,7 @@ HasRoom surface state next =
     (f : ℕ) → f < length surface.mesh.faces → Joins surface.mesh (parent_of surface f) state.last next
     → darts_in state + length (face_at surface.mesh f) ≤ MOST_PEAK
 
--- one of the three
+-- one of the four
 abbrev pub IsStep : OpenView → ReductionView → ℕ → ReductionView → Type 0
-IsStep surface old next new = StepsBack old next new ⊎ (StepsOn surface old next new ⊎ Expands surface old next new)
+IsStep surface old next new =
+    StepsBack old next new ⊎ (StepsOn surface old next new ⊎ (Expands surface old next new ⊎ SkipsSpur old next new))

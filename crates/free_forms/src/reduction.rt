@@ -8,7 +8,7 @@ ghost use Rattle.surf_model.specs.declared.limits.TheConstants.{MOST_PEAK};
 ghost use Rattle.free_forms.specs.Normal.{IsNormal};
 ghost use Rattle.free_forms.specs.Parents.{HasParents, Joins, parent_of, beyond};
 ghost use Rattle.free_forms.specs.PeakedLists.{LeadsAtPeak, IsWithin};
-ghost use Rattle.free_forms.specs.Reductions.{state_of, settled, whole, darts_in, IsTaken, StepsBack, IsWayAlong, Expands, IsStep, HasRoom};
+ghost use Rattle.free_forms.specs.Reductions.{state_of, settled, whole, darts_in, IsTaken, StepsBack, SkipsSpur, IsWayAlong, Expands, IsStep, HasRoom};
 ghost use Rattle.free_forms.specs.declared.limits.TheConstants.{MOST_OPEN_SIDES, MOST_OPEN_DARTS};
 
 use crate::open_mesh::OpenMesh;
@@ -106,7 +106,8 @@ fn take(reduction: &mut Reduction) -> Option<VertexName>
     reduction.pending.pop()
 }
 
-/// Goes on to the next vertex: takes out the spur, or expands the edge if it is a parent edge, or puts the vertex on.
+/// Goes on to the next vertex: takes out the spur that it ends, or the one that it begins along a parent edge, or expands the edge if it is
+/// a parent edge, or puts the vertex on.
 fn step(reduction: &mut Reduction, mesh: &OpenMesh, next: VertexName) -> Result<(), AllocError>
     requires few { darts_in (state_of reduction.old) < MOST_PEAK }
     requires room { HasRoom mesh.now (state_of reduction.old) next.0 }
@@ -119,6 +120,7 @@ fn step(reduction: &mut Reduction, mesh: &OpenMesh, next: VertexName) -> Result<
         return step_back(reduction);
     }
     match parent {
+        Some(_) if comes_back(reduction) => skip_spur(reduction, next),
         Some(side) => expand(reduction, mesh, side, next),
         None => step_on(reduction, next),
     }
@@ -148,6 +150,30 @@ fn step_back(reduction: &mut Reduction) -> Result<(), AllocError>
     )?;
     reduction.last = reduction.earlier.pop().unwrap();
     Ok(())
+}
+
+/// Whether the vertex behind the next one, which was taken, is the last one.
+fn comes_back(reduction: &Reduction) -> bool
+    ensures { IsTrue result ↔ ((0 < length (state_of reduction.now).coming)
+        × (slice_index (state_of reduction.now).coming 0 ≡ (state_of reduction.now).last)) }
+{
+    let left = reduction.pending.len();
+    left > 0 && reduction.pending[left - 1] == reduction.last
+}
+
+/// Takes out the spur to the next vertex and back, before it is gone along.
+fn skip_spur(reduction: &mut Reduction, via: VertexName) -> Result<(), AllocError>
+    requires some { 0 < length (state_of reduction.old).coming }
+    requires back { slice_index (state_of reduction.old).coming 0 ≡ (state_of reduction.old).last }
+    requires few { darts_in (state_of reduction.old) < MOST_PEAK }
+    ensures { OnOk result (SkipsSpur (state_of reduction.old) via.0 (state_of reduction.new)) }
+{
+    reduction.pending.pop();
+    let at = reduction.earlier.len() as u32;
+    reduction.moves.push(
+        Move::Remove { at, via },
+        at + reduction.pending.len() as u32,
+    )
 }
 
 /// Puts the next vertex on.
