@@ -1,5 +1,5 @@
 -- The way back along a list of moves: its peak, and the moves one by one.
-use Rattle.std.proofs.Common.{◌≡◌, inl, inr, ℕ, zero, suc, ◌+◌, ◌<◌, ◌≤◌, max, List, [], ◌∷◌, ◌++◌, length, drop, refl, ap, sym, ◌∙◌, subst, arith}
+use Rattle.std.proofs.Common.{◌≡◌, inl, inr, ℕ, zero, suc, ◌+◌, ◌<◌, ◌≤◌, max, List, [], ◌∷◌, ◌++◌, length, drop, refl, ap, sym, ◌∙◌, subst, arith, length-append}
 use Rattle.std.specs.Prelude.{All, Some, slice_get}
 use Rattle.std.proofs.lemmas.Bool.{cases_eq}
 use Rattle.std.proofs.lemmas.List.{drop_more}
@@ -13,7 +13,7 @@ use Rattle.surf_model.specs.declared.moves.Move.TheVariants.{Insert, Remove, Acr
 use Rattle.surf_model.proofs.ReplacementLemmas.{by_replacing}
 use Rattle.surf_model.proofs.ContextLemmas.{first_answer, one_after_another, stays_walk}
 use Rattle.surf_model.proofs.WayBackLemmas.{keeps_walk, undone, list_undone}
-use Rattle.free_forms.specs.PeakedLists.{LeadsAtPeak, IsMoveOf}
+use Rattle.free_forms.specs.PeakedLists.{LeadsAtPeak, IsWithin, IsMoveOf}
 use Rattle.free_forms.proofs.PeakLemmas.{greatest_darts-more, greatest_darts-none, greatest_darts-push}
 
 greatest_darts-first : (mesh : FaceList) (walk : List ℕ) (moves : List Move) → darts walk ≤ greatest_darts mesh walk moves
@@ -130,5 +130,35 @@ there_and_back_leads mesh first second one two list others whole is_walk h k sam
         | inl empty ↦
             none empty ∙ sym (no_others mesh first second one two list others h k same others.moves refl empty) ∙ sym whole_is
         | inr more ↦ some (omega arith) ∙ sym whole_is
+      ];
+    }
+
+length-way_back : (mesh : FaceList) (moves : List Move) → length (way_back mesh moves) ≡ length moves
+length-way_back mesh [] = refl
+length-way_back mesh (move ∷ moves) =
+    omega (
+      arith,
+      length-append (way_back mesh moves) (inverse_of (sides_of_move mesh move) move ∷ []),
+      length-way_back mesh moves,
+    )
+
+-- neither list is long, so neither is that of both
+pub both_within : (mesh : FaceList) (n m most : ℕ) (list others whole : PeakedMoves) → IsWithin n list → IsWithin m others → n + m ≤ most
+    → whole.moves ≡ list.moves ++ way_back mesh others.moves
+    → (length others.moves ≡ 0 → whole.peak ≡ list.peak) → (0 < length others.moves → whole.peak ≡ max list.peak others.peak)
+    → IsWithin most whole
+both_within mesh n m most list others whole h k few moves none some =
+    let count : length whole.moves ≡ length list.moves + length others.moves =
+    omega (
+      arith,
+      ap (λ (ms : List Move). length ms) moves,
+      length-append list.moves (way_back mesh others.moves),
+      length-way_back mesh others.moves,
+    ) in
+    record {
+      moves = omega (arith, count, h.moves, k.moves, few);
+      peak = elim (cases_eq (length others.moves) 0) [
+        | inl empty ↦ omega (arith, none empty, h.peak, few)
+        | inr more ↦ omega (arith, some (omega arith), h.peak, k.peak, few)
       ];
     }

@@ -1,12 +1,9 @@
 -- How many sides edges have, by the table of the mesh.
-use Rattle.std.proofs.Common.{◌≡◌, ◌≢◌, inl, inr, ℕ, ◌<◌, ◌≤◌, Bool, true, false, ◌||◌, List, [], ◌∷◌, length, refl, ap, sym, ◌∙◌, subst, arith}
-use Rattle.std.specs.Prelude.{filter, cond}
-use Rattle.std.specs.List.{list_any}
+use Rattle.std.proofs.Common.{◌≡◌, ◌≢◌, inl, inr, ℕ, ◌<◌, ◌≤◌, List, length, sym, ◌∙◌, subst, arith}
 use Rattle.std.proofs.lemmas.Bool.{cases_Bool}
-use Rattle.surf_model.specs.FaceLists.{FaceList, all_sides, joins, is_edge}
+use Rattle.surf_model.specs.FaceLists.{FaceList, is_edge}
 use Rattle.surf_model.specs.Edges.{Edge, IsTableOf, IsEdgeOf, IsPairBefore, edge_in}
-use Rattle.surf_model.specs.Surfaces.{sides_between}
-use Rattle.surf_model.proofs.TableEdgeLemmas.{IsEdgeBetween, edge_between, sides_of_edge, sides_between_swap, same_pair, place_before}
+use Rattle.surf_model.proofs.TableEdgeLemmas.{IsEdgeBetween, edge_between, sides_of_edge, same_pair, place_before}
 use Rattle.connectivity.proofs.EdgeCounts.{between_by_table, no_edge_no_side, sides_by_table}
 use Rattle.free_forms.specs.OpenSurfaces.{HasBoundary}
 use Rattle.free_forms.specs.OpenFaults.{IsFirstCrowded, IsLeastCrowdedEdge, IsBoundaryEdge}

@@ -1,5 +1,5 @@
 -- What the code reads of a face whose parent is expanded, and that this is its expansion.
-use Rattle.std.proofs.Common.{◌≡◌, ℕ, zero, suc, ◌+◌, ◌-◌, ◌<◌, Bool, true, eqb, max, List, [], ◌∷◌, ◌++◌, length, refl, ap, sym, ◌∙◌, subst, arith, length-append}
+use Rattle.std.proofs.Common.{◌≡◌, ℕ, ◌+◌, ◌-◌, ◌<◌, Bool, true, eqb, max, List, [], ◌∷◌, ◌++◌, length, refl, ap, sym, ◌∙◌, subst, arith, length-append}
 use Rattle.std.specs.Prelude.{cond, reverse}
 use Rattle.std.proofs.lemmas.List.{reverse-append, length-reverse, length-map}
 use Rattle.surf_model.specs.FaceLists.{FaceList, face_at, next_corner}
@@ -11,11 +11,8 @@ use Rattle.surf_model.specs.declared.moves.Move.TheVariants.{Across}
 use Rattle.surf_model.specs.declared.names.VertexName.{VertexName}
 use Rattle.free_forms.specs.Parents.{OpenView, HasParents, Joins, parent_of, beyond}
 use Rattle.free_forms.specs.Reductions.{Expands, IsWayAlong}
+use Rattle.free_forms.proofs.Expansions.{length_beyond}
 use Rattle.free_forms.proofs.ParentEdgeLemmas.{way_found, expansion_read}
-
-pub length_beyond : (ring : List ℕ) (rising : Bool) (t k : ℕ) → length (beyond ring rising t k) ≡ k
-length_beyond ring rising t zero = refl
-length_beyond ring rising t (suc k) = ap suc (length_beyond ring rising (next_corner rising (length ring) t) k)
 
 pub length_numbers : (vertices : List VertexName) → length (numbers vertices) ≡ length vertices
 length_numbers vertices = length-map vertices (λ (v : VertexName). v.0)

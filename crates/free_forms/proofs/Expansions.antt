@@ -13,7 +13,7 @@ use Rattle.surf_model.proofs.TableLemmas.{joins_swap}
 use Rattle.surf_model.proofs.EdgeLemmas.{ends_differ}
 use Rattle.connectivity.proofs.CornerLemmas.{partners_swap}
 use Rattle.free_forms.specs.Parents.{OpenView, HasParents, EndsOutside, Joins, IsParentEdge, parent_of, beyond, expansion}
-use Rattle.free_forms.proofs.Actions.{Acts, FacesActAsNothing, run, end_from, end_beyond, run_stays, run-add, round_and_back, after_back, corner_after-add}
+use Rattle.free_forms.proofs.Actions.{Acts, FacesActAsNothing, run, end_from, end_beyond, run_stays, run-add, round_and_back, after_back, after_within, corner_after-add}
 
 -- the parent of face f with its vertices
 abbrev pub whole_parent : OpenView → ℕ → FaceSide
@@ -30,13 +30,13 @@ abbrev pub parent_face_of : OpenView → ℕ → ℕ → Option ℕ
 parent_face_of surface u v = parent_face surface (length surface.mesh.faces) u v
 
 -- a dart acts by the expansion of a face's parent, or by the base where there is none
-abbrev pub by_face : {State : Type 0} → OpenView → (State → ℕ → ℕ → State) → (State → State) → (State → ℕ → ℕ → State) → Option ℕ
-    → State → ℕ → ℕ → State
+abbrev pub by_face : {State : Type 0} → OpenView → (State → ℕ → ℕ → State) → (ℕ → State → State) → (State → ℕ → ℕ → State)
+    → Option ℕ → State → ℕ → ℕ → State
 by_face surface base enter inner None s u v = base s u v
-by_face surface base enter inner (Some f) s u v = run inner (enter s) u (expansion surface.mesh (parent_of surface f) u)
+by_face surface base enter inner (Some f) s u v = run inner (enter f s) u (expansion surface.mesh (parent_of surface f) u)
 
 -- for so many levels of expansions, each of which is entered
-abbrev pub acting : {State : Type 0} → OpenView → (State → ℕ → ℕ → State) → (State → State) → ℕ → State → ℕ → ℕ → State
+abbrev pub acting : {State : Type 0} → OpenView → (State → ℕ → ℕ → State) → (ℕ → State → State) → ℕ → State → ℕ → ℕ → State
 acting surface base enter zero s u v = base s u v
 acting surface base enter (suc n) s u v =
     by_face surface base enter (acting surface base enter n) (parent_face_of surface u v) s u v
@@ -185,6 +185,23 @@ from_head surface f u isnt = by_test_not _ _ _ (let test : nat_test ≡ false = 
     nat_test : Bool
     nat_test = tail_of surface.mesh (parent_of surface f) == u
 
+pub length_beyond : (ring : List ℕ) (rising : Bool) (t k : ℕ) → length (beyond ring rising t k) ≡ k
+length_beyond ring rising t zero = refl
+length_beyond ring rising t (suc k) = ap suc (length_beyond ring rising (next_corner rising (length ring) t) k)
+
+-- an expansion has all sides but one
+pub expansion_size : (surface : OpenView) (f u : ℕ)
+    → length (expansion surface.mesh (parent_of surface f) u) ≡ length (face_at surface.mesh f) - 1
+expansion_size surface f u =
+    let ring : List ℕ = face_at surface.mesh f in
+    let m : ℕ = length ring in
+    let t : ℕ = (parent_of surface f).at in
+    elim (cases_eq (tail_of surface.mesh (parent_of surface f)) u) [
+      | inl same ↦ ap (λ (w : List ℕ). length w) (from_tail surface f u same) ∙ length_beyond ring false t (m - 1)
+      | inr other ↦
+          ap (λ (w : List ℕ). length w) (from_head surface f u other) ∙ length_beyond ring true (next_corner true m t) (m - 1)
+    ]
+
 pub ends_of : (surface : OpenView) (f u v : ℕ) → HasParents surface → IsFound surface u v f → Ends surface f u v
 ends_of surface f u v has found =
     let side : Side = parent_of surface f in
@@ -249,7 +266,7 @@ expansion_back {State} act At acts surface f u v has found s at =
 -- where there and back changes nothing by the base, and inside expansions, so it is one level up
 level_stays : {State : Type 0} (surface : OpenView) (base inner : State → ℕ → ℕ → State) (At : ℕ → State → Type 0) → HasParents surface
     → Acts base At → Acts inner At → (u v : ℕ) (o : Option ℕ) → parent_face_of surface u v ≡ o → (s : State) → At u s
-    → At v (by_face surface base (λ x. x) inner o s u v)
+    → At v (by_face surface base (λ f x. x) inner o s u v)
 level_stays surface base inner At has acts more u v None e s at = acts.stays s u v at
 level_stays surface base inner At has acts more u v (Some f) e s at =
     let way : List ℕ = expansion surface.mesh (parent_of surface f) u in
@@ -258,22 +275,22 @@ level_stays surface base inner At has acts more u v (Some f) e s at =
 
 level_back : {State : Type 0} (surface : OpenView) (base inner : State → ℕ → ℕ → State) (At : ℕ → State → Type 0) → HasParents surface
     → Acts base At → Acts inner At → (u v : ℕ) (o : Option ℕ) → parent_face_of surface u v ≡ o → (s : State) → At u s
-    → by_face surface base (λ x. x) inner o (by_face surface base (λ x. x) inner o s u v) v u ≡ s
+    → by_face surface base (λ f x. x) inner o (by_face surface base (λ f x. x) inner o s u v) v u ≡ s
 level_back surface base inner At has acts more u v None e s at = acts.back s u v at
 level_back surface base inner At has acts more u v (Some f) e s at =
     expansion_back inner At more surface f u v has (found_face surface u v f e) s at
 
 -- where there and back by the base changes nothing, so it is with expansions
 pub acting_acts : {State : Type 0} (surface : OpenView) (base : State → ℕ → ℕ → State) (At : ℕ → State → Type 0) → HasParents surface
-    → Acts base At → (n : ℕ) → Acts (acting surface base (λ s. s) n) At
+    → Acts base At → (n : ℕ) → Acts (acting surface base (λ f s. s) n) At
 acting_acts surface base At has acts zero = acts
 acting_acts {State} surface base At has acts (suc n) =
-    let inner : State → ℕ → ℕ → State = acting surface base (λ x. x) n in
+    let inner : State → ℕ → ℕ → State = acting surface base (λ f x. x) n in
     let more : Acts inner At = acting_acts surface base At has acts n in
     record {
       stays = λ s u v at. level_stays surface base inner At has acts more u v (parent_face_of surface u v) refl s at;
       back = λ s u v at.
-          ap (λ (o : Option ℕ). by_face surface base (λ x. x) inner o (acting surface base (λ x. x) (suc n) s u v) v u)
+          ap (λ (o : Option ℕ). by_face surface base (λ f x. x) inner o (acting surface base (λ f x. x) (suc n) s u v) v u)
           (face_swap surface (length surface.mesh.faces) v u)
           ∙ level_back surface base inner At has acts more u v (parent_face_of surface u v) refl s at;
     }
@@ -293,12 +310,33 @@ pub each_dart : (P Q : ℕ → ℕ → Type 0) → ((a b : ℕ) → P a b → Q 
 each_dart P Q more u [] h = tt
 each_dart P Q more u (v ∷ vs) h = (more u v h.0, each_dart P Q more v vs h.1)
 
--- the two vertices are joined by a side of face f other than its parent
-pub record IsAlongOther (surface : OpenView) (f a b : ℕ) : Type 0 where
-  pub place : ℕ
+-- the side of face f at a place
+abbrev pub side_at : ℕ → ℕ → Side
+side_at f place = record { face = record { 0 = f }; at = place }
+
+-- the two vertices are joined by the side of face f at a place, which is not its parent
+pub record IsAlong (surface : OpenView) (f place a b : ℕ) : Type 0 where
   pub within : place < length (face_at surface.mesh f)
   pub other : place ≢ (parent_of surface f).at
-  pub joined : Joins surface.mesh (record { face = record { 0 = f }; at = place }) a b
+  pub joined : Joins surface.mesh (side_at f place) a b
+
+-- by some such side
+abbrev IsAlongOther : OpenView → ℕ → ℕ → ℕ → Type 0
+IsAlongOther surface f a b = (place : ℕ) × IsAlong surface f place a b
+
+-- the darts from u on along a list of vertices go along sides of face f, those at the places i, i + 1 and so on of a listing
+abbrev pub EachAlong : OpenView → ℕ → (ℕ → ℕ) → ℕ → ℕ → List ℕ → Type 0
+EachAlong surface f places i u [] = Unit {0}
+EachAlong surface f places i u (v ∷ vs) = IsAlong surface f (places i) u v × EachAlong surface f places (suc i) v vs
+
+along_any : (surface : OpenView) (f : ℕ) (places : ℕ → ℕ) (i u : ℕ) (vs : List ℕ) → EachAlong surface f places i u vs
+    → EachDart (IsAlongOther surface f) u vs
+along_any surface f places i u [] h = tt
+along_any surface f places i u (v ∷ vs) h = ((places i, h.0), along_any surface f places (suc i) v vs h.1)
+
+-- the places of a face from that behind its parent on, going round
+abbrev pub places_behind : OpenView → ℕ → Bool → ℕ → ℕ
+places_behind surface f rising i = corner_after rising (length (face_at surface.mesh f)) (parent_of surface f).at (suc i)
 
 -- fewer steps than once round lead elsewhere
 elsewhere : (rising : Bool) (m t k : ℕ) → t < m → 0 < k → k < m → corner_after rising m t k ≢ t
@@ -318,37 +356,44 @@ after_more rising m t k =
     let up : suc k ≡ k + 1 = omega arith in
     sym (ap (corner_after rising m t) up ∙ corner_after-add rising m t k 1)
 
+-- no place comes twice
+pub places_differ : (surface : OpenView) (f : ℕ) (rising : Bool) (i j : ℕ) → HasParents surface → f < length surface.mesh.faces → i < j
+    → j + 1 < length (face_at surface.mesh f) → places_behind surface f rising j ≢ places_behind surface f rising i
+places_differ surface f rising i j has l less few same =
+    let m : ℕ = length (face_at surface.mesh f) in
+    let t : ℕ = (parent_of surface f).at in
+    let far : suc j ≡ suc i + (j - i) = omega arith in
+    elsewhere rising m (corner_after rising m t (suc i)) (j - i) (after_within rising m t (suc i) (has.within f l)) (omega arith)
+    (omega arith)
+    (sym (ap (corner_after rising m t) far ∙ corner_after-add rising m t (suc i) (j - i)) ∙ same)
+
 -- rising from the corner behind the parent
 along_rising : (surface : OpenView) (f j k c : ℕ) → HasParents surface → f < length surface.mesh.faces
-    → suc j + k ≤ length (face_at surface.mesh f)
-    → c ≡ corner_after true (length (face_at surface.mesh f)) (parent_of surface f).at (suc j)
-    → EachDart (IsAlongOther surface f) (get_or (face_at surface.mesh f) c 0) (beyond (face_at surface.mesh f) true c k)
+    → suc j + k ≤ length (face_at surface.mesh f) → c ≡ places_behind surface f true j
+    → EachAlong surface f (places_behind surface f true) j (get_or (face_at surface.mesh f) c 0) (beyond (face_at surface.mesh f) true c k)
 along_rising surface f j zero c has l few is = tt
 along_rising surface f j (suc k) c has l few is =
     let ring : List ℕ = face_at surface.mesh f in
     let m : ℕ = length ring in
     let t : ℕ = (parent_of surface f).at in
     let within : t < m = has.within f l in
-    let c_within : c < m = subst (λ (x : ℕ). x < m) (sym is) (after_in m t (suc j) within) in (
-      record {
-        place = c;
-        within = c_within;
-        other = λ same. elsewhere true m t (suc j) within (omega arith) (omega arith) (sym is ∙ same);
-        joined = inl (refl, refl);
-      },
+    let c_within : c < m = subst (λ (x : ℕ). x < m) (sym is) (after_within true m t (suc j) within) in
+    let here : IsAlong surface f c (get_or ring c 0) (get_or ring (next_corner true m c) 0) = record {
+      within = c_within;
+      other = λ same. elsewhere true m t (suc j) within (omega arith) (omega arith) (sym is ∙ same);
+      joined = inl (refl, refl);
+    } in (
+      subst (λ (p : ℕ). IsAlong surface f p (get_or ring c 0) (get_or ring (next_corner true m c) 0)) is here,
       along_rising surface f (suc j) k (next_corner true m c) has l (omega arith)
           (ap (next_corner true m) is ∙ after_more true m t (suc j)),
     )
-  where
-    after_in : (m t k : ℕ) → t < m → corner_after true m t k < m
-    after_in m t zero h = h
-    after_in m t (suc k) h = after_in m (next_corner true m t) k (step_within true m t h)
 
 -- falling from the corner where the parent starts
 along_falling : (surface : OpenView) (f j k c : ℕ) → HasParents surface → f < length surface.mesh.faces
     → suc j + k ≤ length (face_at surface.mesh f)
     → c ≡ corner_after false (length (face_at surface.mesh f)) (parent_of surface f).at j → c < length (face_at surface.mesh f)
-    → EachDart (IsAlongOther surface f) (get_or (face_at surface.mesh f) c 0) (beyond (face_at surface.mesh f) false c k)
+    → EachAlong surface f (places_behind surface f false) j (get_or (face_at surface.mesh f) c 0)
+    (beyond (face_at surface.mesh f) false c k)
 along_falling surface f j zero c has l few is c_within = tt
 along_falling surface f j (suc k) c has l few is c_within =
     let ring : List ℕ = face_at surface.mesh f in
@@ -357,20 +402,20 @@ along_falling surface f j (suc k) c has l few is c_within =
     let next : ℕ = next_corner false m c in
     let next_is : next ≡ corner_after false m t (suc j) = ap (next_corner false m) is ∙ after_more false m t j in
     let within : next < m = step_within false m c c_within in
-    let home : next_corner true m next ≡ c = after_back false m c 1 c_within in (
-      record {
-        place = next;
-        within = within;
-        other = λ same. elsewhere false m t (suc j) (has.within f l) (omega arith) (omega arith) (sym next_is ∙ same);
-        joined = inr (refl, ap (λ (x : ℕ). get_or ring x 0) home);
-      },
+    let home : next_corner true m next ≡ c = after_back false m c 1 c_within in
+    let here : IsAlong surface f next (get_or ring c 0) (get_or ring next 0) = record {
+      within = within;
+      other = λ same. elsewhere false m t (suc j) (has.within f l) (omega arith) (omega arith) (sym next_is ∙ same);
+      joined = inr (refl, ap (λ (x : ℕ). get_or ring x 0) home);
+    } in (
+      subst (λ (p : ℕ). IsAlong surface f p (get_or ring c 0) (get_or ring next 0)) next_is here,
       along_falling surface f (suc j) k next has l (omega arith) next_is within,
     )
 
--- each dart of an expansion goes along another side of the face
-pub expansion_along : (surface : OpenView) (f u v : ℕ) → HasParents surface → IsFound surface u v f
-    → EachDart (IsAlongOther surface f) u (expansion surface.mesh (parent_of surface f) u)
-expansion_along surface f u v has found =
+-- each dart of an expansion goes along another side of the face, one after the other
+pub expansion_places : (surface : OpenView) (f u v : ℕ) → HasParents surface → IsFound surface u v f
+    → (rising : Bool) × EachAlong surface f (places_behind surface f rising) 0 u (expansion surface.mesh (parent_of surface f) u)
+expansion_places surface f u v has found =
     let side : Side = parent_of surface f in
     let ring : List ℕ = face_at surface.mesh f in
     let m : ℕ = length ring in
@@ -378,29 +423,44 @@ expansion_along surface f u v has found =
     let differ : tail_of surface.mesh side ≢ head_of surface.mesh side =
     ends_differ surface.mesh side has.valid (parent_in_mesh surface f has found.within) in
     elim found.joined [
-      | inl e ↦
-          subst (EachDart (IsAlongOther surface f) u) (sym (from_tail surface f u e.0))
-          (subst (λ (x : ℕ). EachDart (IsAlongOther surface f) x (beyond ring false side.at (m - 1))) e.0
-          (along_falling surface f 0 (m - 1) side.at has found.within (omega arith) refl within))
-      | inr e ↦
-          subst (EachDart (IsAlongOther surface f) u) (sym (from_head surface f u (λ same. differ (same ∙ sym e.1))))
-          (subst (λ (x : ℕ). EachDart (IsAlongOther surface f) x (beyond ring true (next_corner true m side.at) (m - 1))) e.1
-          (along_rising surface f 0 (m - 1) (next_corner true m side.at) has found.within (omega arith) refl))
+      | inl e ↦ (
+        false,
+        subst (EachAlong surface f (places_behind surface f false) 0 u) (sym (from_tail surface f u e.0))
+            (subst (λ (x : ℕ). EachAlong surface f (places_behind surface f false) 0 x (beyond ring false side.at (m - 1))) e.0
+            (along_falling surface f 0 (m - 1) side.at has found.within (omega arith) refl within)),
+      )
+      | inr e ↦ (
+        true,
+        subst (EachAlong surface f (places_behind surface f true) 0 u) (sym (from_head surface f u (λ same. differ (same ∙ sym e.1))))
+            (subst (λ (x : ℕ). EachAlong surface f (places_behind surface f true) 0 x
+            (beyond ring true (next_corner true m side.at) (m - 1))) e.1
+            (along_rising surface f 0 (m - 1) (next_corner true m side.at) has found.within (omega arith) refl)),
+      )
     ]
 
--- across that side lies a face further from the outside
+expansion_along : (surface : OpenView) (f u v : ℕ) → HasParents surface → IsFound surface u v f
+    → EachDart (IsAlongOther surface f) u (expansion surface.mesh (parent_of surface f) u)
+expansion_along surface f u v has found =
+    let told = expansion_places surface f u v has found in
+    along_any surface f (places_behind surface f told.0) 0 u (expansion surface.mesh (parent_of surface f) u) told.1
+
+-- across that side lies a face whose parent it is
+pub across : (surface : OpenView) (f g place a b : ℕ) → HasParents surface → f < length surface.mesh.faces → IsAlong surface f place a b
+    → IsFound surface a b g → ArePartners surface.mesh (parent_of surface g) (side_at f place)
+across surface f g place a b has l along found = record {
+  first = parent_in_mesh surface g has found.within;
+  second = record { face = l; place = along.within };
+  different = λ same.
+      let face : g ≡ f = ap (λ (s : Side). s.face.0) same in
+      along.other (sym (ap (λ (s : Side). s.at) same) ∙ ap (λ (h : ℕ). (parent_of surface h).at) face);
+  one_edge = ends_same _ _ _ _ a b found.joined along.joined;
+}
+
+-- and it is further from the outside
 further : (surface : OpenView) (n f g a b : ℕ) → HasParents surface → f < length surface.mesh.faces → IsAlongOther surface f a b
     → IsFound surface a b g → EndsOutside surface (suc n) g → EndsOutside surface n f
 further surface n f g a b has l along found outside =
-    let side : Side = record { face = record { 0 = f }; at = along.place } in
-    outside side (record {
-      first = parent_in_mesh surface g has found.within;
-      second = record { face = l; place = along.within };
-      different = λ same.
-          let face : g ≡ f = ap (λ (s : Side). s.face.0) same in
-          along.other (sym (ap (λ (s : Side). s.at) same) ∙ ap (λ (h : ℕ). (parent_of surface h).at) face);
-      one_edge = ends_same _ _ _ _ a b found.joined along.joined;
-    })
+    outside (side_at f along.0) (across surface f g along.0 a b has l along.1 found)
 
 -- n levels are enough for the edge of the two vertices: its face, if it has one, takes as many crossings as are left
 abbrev IsDeep : OpenView → ℕ → ℕ → ℕ → Type 0
@@ -418,7 +478,7 @@ deep_on surface n f a b has l deep along g found outside =
       | inr more ↦ (let none : count - n ≡ 0 = omega arith in subst (λ (k : ℕ). EndsOutside surface k g) none outside)
     ]
 
-no_level : {State : Type 0} (surface : OpenView) (base inner : State → ℕ → ℕ → State) (enter : State → State) → HasParents surface
+no_level : {State : Type 0} (surface : OpenView) (base inner : State → ℕ → ℕ → State) (enter : ℕ → State → State) → HasParents surface
     → (u v : ℕ) → IsDeep surface 0 u v → (s : State) → (o : Option ℕ) → parent_face_of surface u v ≡ o
     → base s u v ≡ by_face surface base enter inner o s u v
 no_level surface base inner enter has u v deep s None e = refl
@@ -428,16 +488,16 @@ no_level surface base inner enter has u v deep s (Some f) e =
     absurd (deep f found (subst (λ (k : ℕ). EndsOutside surface k f) (sym all) (has.outside f found.within)))
 
 -- levels that agree inside expansions agree
-levels_agree : {State : Type 0} (surface : OpenView) (base inner other : State → ℕ → ℕ → State) (enter : State → State) → (u v : ℕ)
+levels_agree : {State : Type 0} (surface : OpenView) (base inner other : State → ℕ → ℕ → State) (enter : ℕ → State → State) → (u v : ℕ)
     → ((f : ℕ) → IsFound surface u v f → (x : State)
     → run inner x u (expansion surface.mesh (parent_of surface f) u) ≡ run other x u (expansion surface.mesh (parent_of surface f) u))
     → (s : State) → (o : Option ℕ) → parent_face_of surface u v ≡ o
     → by_face surface base enter inner o s u v ≡ by_face surface base enter other o s u v
 levels_agree surface base inner other enter u v agree s None e = refl
-levels_agree surface base inner other enter u v agree s (Some f) e = agree f (found_face surface u v f e) (enter s)
+levels_agree surface base inner other enter u v agree s (Some f) e = agree f (found_face surface u v f e) (enter f s)
 
 -- one level more changes nothing then
-level_more : {State : Type 0} (surface : OpenView) (base : State → ℕ → ℕ → State) (enter : State → State) → HasParents surface
+level_more : {State : Type 0} (surface : OpenView) (base : State → ℕ → ℕ → State) (enter : ℕ → State → State) → HasParents surface
     → (n u v : ℕ) → IsDeep surface n u v → (s : State) → acting surface base enter n s u v ≡ acting surface base enter (suc n) s u v
 level_more surface base enter has zero u v deep s =
     no_level surface base (acting surface base enter 0) enter has u v deep s (parent_face_of surface u v) refl
@@ -454,10 +514,10 @@ level_more {State} surface base enter has (suc n) u v deep s =
     s (parent_face_of surface u v) refl
 
 -- with as many levels as there are faces
-abbrev pub act_fully : {State : Type 0} → OpenView → (State → ℕ → ℕ → State) → (State → State) → State → ℕ → ℕ → State
+abbrev pub act_fully : {State : Type 0} → OpenView → (State → ℕ → ℕ → State) → (ℕ → State → State) → State → ℕ → ℕ → State
 act_fully surface base enter = acting surface base enter (length surface.mesh.faces)
 
-pub enough_levels : {State : Type 0} (surface : OpenView) (base : State → ℕ → ℕ → State) (enter : State → State) → HasParents surface
+pub enough_levels : {State : Type 0} (surface : OpenView) (base : State → ℕ → ℕ → State) (enter : ℕ → State → State) → HasParents surface
     → (u v : ℕ) (s : State)
     → act_fully surface base enter s u v
     ≡ by_face surface base enter (act_fully surface base enter) (parent_face_of surface u v) s u v
@@ -467,16 +527,16 @@ enough_levels surface base enter has u v s =
     (λ f found outside. subst (λ (k : ℕ). EndsOutside surface k f) none outside) s
 
 -- a parent edge acts as its expansion
-pub acts_by_expansion : {State : Type 0} (surface : OpenView) (base : State → ℕ → ℕ → State) (enter : State → State) → HasParents surface
+pub acts_by_expansion : {State : Type 0} (surface : OpenView) (base : State → ℕ → ℕ → State) (enter : ℕ → State → State) → HasParents surface
     → (u v f : ℕ) (s : State) → IsFound surface u v f
     → act_fully surface base enter s u v
-    ≡ run (act_fully surface base enter) (enter s) u (expansion surface.mesh (parent_of surface f) u)
+    ≡ run (act_fully surface base enter) (enter f s) u (expansion surface.mesh (parent_of surface f) u)
 acts_by_expansion surface base enter has u v f s found =
     enough_levels surface base enter has u v s
     ∙ ap (λ (o : Option ℕ). by_face surface base enter (act_fully surface base enter) o s u v) (face_found surface u v f has found)
 
 -- and another edge by the base
-pub acts_by_base : {State : Type 0} (surface : OpenView) (base : State → ℕ → ℕ → State) (enter : State → State) → HasParents surface
+pub acts_by_base : {State : Type 0} (surface : OpenView) (base : State → ℕ → ℕ → State) (enter : ℕ → State → State) → HasParents surface
     → (u v : ℕ) (s : State) → (IsParentEdge surface u v → ⊥) → act_fully surface base enter s u v ≡ base s u v
 acts_by_base surface base enter has u v s none =
     enough_levels surface base enter has u v s
@@ -484,7 +544,7 @@ acts_by_base surface base enter has u v s none =
 
 -- so once round each face from the corner behind its parent changes nothing
 pub faces_nothing : {State : Type 0} (surface : OpenView) (base : State → ℕ → ℕ → State) (At : ℕ → State → Type 0) → HasParents surface
-    → Acts base At → FacesActAsNothing surface.mesh (act_fully surface base (λ s. s)) At
+    → Acts base At → FacesActAsNothing surface.mesh (act_fully surface base (λ f s. s)) At
 faces_nothing {State} surface base At has acts = record {
   corner = λ f l. next_corner true (length (face_at surface.mesh f)) (parent_of surface f).at;
   within = λ f l. step_within true (length (face_at surface.mesh f)) (parent_of surface f).at (has.within f l);
@@ -500,7 +560,7 @@ faces_nothing {State} surface base At has acts = record {
       let found : IsFound surface head tail f = record { within = l; joined = inr (refl, refl) } in
       let around : State = run act s head (beyond ring true next (m - 1)) in
       let rest : around ≡ act s head tail =
-      sym (acts_by_expansion surface base (λ x. x) has head tail f s found ∙ ap (run act s head) (from_head surface f head differ)) in
+      sym (acts_by_expansion surface base (λ f x. x) has head tail f s found ∙ ap (run act s head) (from_head surface f head differ)) in
       let whole : m ≡ (m - 1) + 1 = omega arith in
       ap (λ (n : ℕ). run act s head (beyond ring true next n)) whole ∙ run-add act s ring true next (m - 1) 1
       ∙ ap (λ (c : ℕ). act around (get_or ring c 0) (get_or ring (next_corner true m c) 0)) (most_rising m side.at within)
@@ -509,4 +569,4 @@ faces_nothing {State} surface base At has acts = record {
 }
   where
     act : State → ℕ → ℕ → State
-    act = act_fully surface base (λ s. s)
+    act = act_fully surface base (λ f s. s)

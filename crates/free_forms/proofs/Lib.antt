@@ -10,3 +10,7 @@ pub mod StepLemmas
 pub mod ParentEdgeLemmas
 pub mod ExpandLemmas
 pub mod BackLemmas
+pub mod OnceLemmas
+pub mod WeightLemmas
+pub mod CostLemmas
+pub mod OutcomeLemmas

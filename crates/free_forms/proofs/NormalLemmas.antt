@@ -72,10 +72,10 @@ puts_act = record {
 
 -- off the parent edges each vertex is put on
 pub puts_all : (surface : OpenView) → HasParents surface → (s : List ℕ) (u : ℕ) (vs : List ℕ)
-    → EachDart (λ a b. IsParentEdge surface a b → ⊥) u vs → run (act_fully surface put (λ x. x)) s u vs ≡ all_put s vs
+    → EachDart (λ a b. IsParentEdge surface a b → ⊥) u vs → run (act_fully surface put (λ f x. x)) s u vs ≡ all_put s vs
 puts_all surface has s u [] h = refl
 puts_all surface has s u (v ∷ vs) h =
-    ap (λ (x : List ℕ). run (act_fully surface put (λ y. y)) x v vs) (acts_by_base surface put (λ y. y) has u v s h.0)
+    ap (λ (x : List ℕ). run (act_fully surface put (λ f y. y)) x v vs) (acts_by_base surface put (λ f y. y) has u v s h.0)
     ∙ puts_all surface has (put_on s v) v vs h.1
 
 pub off_parents : (surface : OpenView) (u : ℕ) (vs : List ℕ)
@@ -92,10 +92,10 @@ off_parents surface u (v ∷ vs) h = (
 -- what a walk makes of a stack is what is left where its normal walk is put on
 walk_puts : (surface : OpenView) (walk other stack : List ℕ) → HasParents surface → 0 < length walk → IsNormalWalkOf surface walk other
     → 0 < length other → HasNoSpur stack
-    → walked (act_fully surface put (λ s. s)) (put_on stack (get_or walk 0 0)) walk ≡ all_put stack other
+    → walked (act_fully surface put (λ f s. s)) (put_on stack (get_or walk 0 0)) walk ≡ all_put stack other
 walk_puts surface walk [] stack has start h some clean = absurd (omega arith)
 walk_puts surface walk (u ∷ us) stack has start h some clean =
-    let act : List ℕ → ℕ → ℕ → List ℕ = act_fully surface put (λ s. s) in
+    let act : List ℕ → ℕ → ℕ → List ℕ = act_fully surface put (λ f s. s) in
     let first : ℕ = get_or walk 0 0 in
     let same : first ≡ u = (list_keeps_ends surface.mesh h.homotopic.0 walk (u ∷ us) start h.homotopic.1).starts in
     moves_act surface.mesh act IsStackAt (acting_acts surface put IsStackAt has puts_act (length surface.mesh.faces))

@@ -1,5 +1,5 @@
 -- What a step of a reduction does: the moves lead on, the normal part stays normal, and less is to come.
-use Rattle.std.proofs.Common.{◌≡◌, ◌≢◌, inl, inr, ℕ, zero, suc, ◌+◌, ◌-◌, ◌<◌, Bool, true, false, not, max, List, [], ◌∷◌, ◌++◌, length, get_or, refl, ap, sym, ◌∙◌, subst, arith, append_assoc, length-append}
+use Rattle.std.proofs.Common.{◌≡◌, ◌≢◌, inl, inr, ℕ, zero, suc, ◌+◌, ◌-◌, ◌<◌, ◌≤◌, Bool, true, false, not, max, List, [], ◌∷◌, ◌++◌, length, get_or, refl, ap, sym, ◌∙◌, subst, arith, append_assoc, length-append}
 use Rattle.std.specs.Prelude.{Option, Some, None}
 use Rattle.std.proofs.lemmas.Bool.{cases_lt}
 use Rattle.std.proofs.lemmas.List.{get_or_append_left, get_or-append-add}
@@ -15,7 +15,7 @@ use Rattle.surf_model.proofs.ReplacementLemmas.{by_replacing}
 use Rattle.free_forms.specs.Normal.{IsNormal}
 use Rattle.free_forms.specs.Parents.{OpenView, HasParents, Joins, IsParentEdge, parent_of, beyond, expansion}
 use Rattle.free_forms.specs.PeakedLists.{LeadsAtPeak}
-use Rattle.free_forms.specs.Reductions.{ReductionView, settled, whole, IsTaken, StepsBack, StepsOn, Expands, IsWayAlong, IsStep}
+use Rattle.free_forms.specs.Reductions.{ReductionView, settled, whole, IsTaken, StepsBack, StepsOn, SkipsSpur, Expands, IsWayAlong, IsStep}
 use Rattle.free_forms.proofs.Actions.{run, run-append, corners_beyond, after_back}
 use Rattle.free_forms.proofs.Expansions.{act_fully, acting, by_face, parent_face_of, acts_by_base, acts_by_expansion, IsFound, expansion_ends, from_tail, from_head, parent_in_mesh}
 use Rattle.free_forms.proofs.PeakLemmas.{one_more}
@@ -25,40 +25,58 @@ use Rattle.surf_model.proofs.EdgeLemmas.{ends_differ}
 abbrev pub count_on : ℕ → ℕ → ℕ → ℕ
 count_on s u v = suc s
 
-abbrev pub weight : OpenView → ℕ → List ℕ → ℕ
-weight surface u vs = run (act_fully surface count_on suc) zero u vs
+abbrev pub count_in : ℕ → ℕ → ℕ
+count_in f s = suc s
 
-run_from : (act : ℕ → ℕ → ℕ → ℕ) → ((s u v : ℕ) → act (suc s) u v ≡ suc (act s u v)) → (s u : ℕ) (vs : List ℕ)
+abbrev pub weight : OpenView → ℕ → List ℕ → ℕ
+weight surface u vs = run (act_fully surface count_on count_in) zero u vs
+
+pub run_from : (act : ℕ → ℕ → ℕ → ℕ) → ((s u v : ℕ) → act (suc s) u v ≡ suc (act s u v)) → (s u : ℕ) (vs : List ℕ)
     → run act (suc s) u vs ≡ suc (run act s u vs)
 run_from act one s u [] = refl
 run_from act one s u (v ∷ vs) = ap (λ (x : ℕ). run act x v vs) (one s u v) ∙ run_from act one (act s u v) v vs
 
 by_face_from : (surface : OpenView) (inner : ℕ → ℕ → ℕ → ℕ) → ((s u v : ℕ) → inner (suc s) u v ≡ suc (inner s u v)) → (o : Option ℕ)
-    → (s u v : ℕ) → by_face surface count_on suc inner o (suc s) u v ≡ suc (by_face surface count_on suc inner o s u v)
+    → (s u v : ℕ) → by_face surface count_on count_in inner o (suc s) u v ≡ suc (by_face surface count_on count_in inner o s u v)
 by_face_from surface inner one None s u v = refl
 by_face_from surface inner one (Some f) s u v = run_from inner one (suc s) u (expansion surface.mesh (parent_of surface f) u)
 
-count_from : (surface : OpenView) (n s u v : ℕ) → acting surface count_on suc n (suc s) u v ≡ suc (acting surface count_on suc n s u v)
+pub count_from : (surface : OpenView) (n s u v : ℕ) → acting surface count_on count_in n (suc s) u v ≡ suc (acting surface count_on count_in n s u v)
 count_from surface zero s u v = refl
 count_from surface (suc n) s u v =
-    by_face_from surface (acting surface count_on suc n) (count_from surface n) (parent_face_of surface u v) s u v
+    by_face_from surface (acting surface count_on count_in n) (count_from surface n) (parent_face_of surface u v) s u v
+
+run_grows : (act : ℕ → ℕ → ℕ → ℕ) → ((s u v : ℕ) → s < act s u v) → (s u : ℕ) (vs : List ℕ) → s ≤ run act s u vs
+run_grows act more s u [] = omega arith
+run_grows act more s u (v ∷ vs) = omega (arith, more s u v, run_grows act more (act s u v) v vs)
+
+face_counts : (surface : OpenView) (inner : ℕ → ℕ → ℕ → ℕ) → ((s u v : ℕ) → s < inner s u v) → (o : Option ℕ)
+    → (s u v : ℕ) → s < by_face surface count_on count_in inner o s u v
+face_counts surface inner more None s u v = omega arith
+face_counts surface inner more (Some f) s u v =
+    omega (arith, run_grows inner more (suc s) u (expansion surface.mesh (parent_of surface f) u))
+
+level_counts : (surface : OpenView) (n s u v : ℕ) → s < acting surface count_on count_in n s u v
+level_counts surface zero s u v = omega arith
+level_counts surface (suc n) s u v =
+    face_counts surface (acting surface count_on count_in n) (level_counts surface n) (parent_face_of surface u v) s u v
 
 -- a dart off the parent edges counts one
 weight_free : (surface : OpenView) (u v : ℕ) (vs : List ℕ) → HasParents surface → (IsParentEdge surface u v → ⊥)
     → weight surface u (v ∷ vs) ≡ suc (weight surface v vs)
 weight_free surface u v vs has free =
-    let act : ℕ → ℕ → ℕ → ℕ = act_fully surface count_on suc in
-    ap (λ (x : ℕ). run act x v vs) (acts_by_base surface count_on suc has u v zero free)
+    let act : ℕ → ℕ → ℕ → ℕ = act_fully surface count_on count_in in
+    ap (λ (x : ℕ). run act x v vs) (acts_by_base surface count_on count_in has u v zero free)
     ∙ run_from act (count_from surface (length surface.mesh.faces)) zero v vs
 
 -- a dart along a parent edge counts one more than its expansion
-weight_parent : (surface : OpenView) (f u v : ℕ) (vs : List ℕ) → HasParents surface → IsFound surface u v f
+pub weight_parent : (surface : OpenView) (f u v : ℕ) (vs : List ℕ) → HasParents surface → IsFound surface u v f
     → weight surface u (v ∷ vs) ≡ suc (weight surface u (expansion surface.mesh (parent_of surface f) u ++ vs))
 weight_parent surface f u v vs has found =
-    let act : ℕ → ℕ → ℕ → ℕ = act_fully surface count_on suc in
+    let act : ℕ → ℕ → ℕ → ℕ = act_fully surface count_on count_in in
     let way : List ℕ = expansion surface.mesh (parent_of surface f) u in
     let one : (s a b : ℕ) → act (suc s) a b ≡ suc (act s a b) = count_from surface (length surface.mesh.faces) in
-    ap (λ (x : ℕ). run act x v vs) (acts_by_expansion surface count_on suc has u v f zero found)
+    ap (λ (x : ℕ). run act x v vs) (acts_by_expansion surface count_on count_in has u v f zero found)
     ∙ ap (λ (x : ℕ). run act x v vs) (run_from act one zero u way)
     ∙ run_from act one (run act zero u way) v vs
     ∙ ap (λ (x : ℕ). suc (run act (run act zero u way) x vs)) (sym (expansion_ends surface f u v has found))
@@ -317,6 +335,48 @@ has_expanded surface first old next new has leads normal step =
           omega (arith, fewer, same));
     }
 
+-- a dart weighs one at least
+weight_less : (surface : OpenView) (u v : ℕ) (vs : List ℕ) → weight surface v vs < weight surface u (v ∷ vs)
+weight_less surface u v vs =
+    let act : ℕ → ℕ → ℕ → ℕ = act_fully surface count_on count_in in
+    let some : 0 < act 0 u v = level_counts surface (length surface.mesh.faces) 0 u v in
+    let more : run act (act 0 u v) v vs ≡ act 0 u v + run act 0 v vs = run_more act (count_from surface (length surface.mesh.faces))
+    (act 0 u v) v vs in
+    omega (arith, some, more)
+  where
+    run_more : (act : ℕ → ℕ → ℕ → ℕ) → ((s u v : ℕ) → act (suc s) u v ≡ suc (act s u v)) → (s u : ℕ) (vs : List ℕ)
+        → run act s u vs ≡ s + run act 0 u vs
+    run_more act one zero u vs = omega arith
+    run_more act one (suc s) u vs = omega (arith, run_from act one s u vs, run_more act one s u vs)
+
+has_skipped : (surface : OpenView) (first : List ℕ) (old : ReductionView) (next : ℕ) (new : ReductionView)
+    → LeadsAtPeak surface.mesh first old.list (old.front ++ old.last ∷ next ∷ old.coming) → IsNormal surface (settled old)
+    → SkipsSpur old next new → HasStepped surface first old next new
+has_skipped surface first old next new leads normal step =
+    let mesh : FaceList = surface.mesh in
+    let from : old.front ++ old.last ∷ next ∷ old.coming ≡ new.front ++ old.last ∷ next ∷ old.last ∷ new.coming =
+    ap (λ (l : List ℕ). old.front ++ old.last ∷ next ∷ l) step.coming
+    ∙ ap (λ (l : List ℕ). l ++ old.last ∷ next ∷ old.last ∷ new.coming) (sym step.front) in
+    let to : new.front ++ old.last ∷ new.coming ≡ whole new = ap (λ (x : ℕ). new.front ++ x ∷ new.coming) (sym step.last) in
+    let count : length new.front + length new.coming ≡ darts (new.front ++ old.last ∷ new.coming) =
+    omega (arith, length-append new.front (old.last ∷ new.coming)) in
+    record {
+      leads =
+          subst (LeadsAtPeak mesh first new.list) to
+          (one_more mesh first (new.front ++ old.last ∷ next ∷ old.last ∷ new.coming) (new.front ++ old.last ∷ new.coming)
+          (Remove (length new.front) (record { 0 = next })) old.list new.list
+          (subst (LeadsAtPeak mesh first old.list) from leads) (spur_goes mesh new.front new.coming old.last next)
+          (step.list ∙ ap (λ (d : ℕ). noted old.list (Remove (length new.front) (record { 0 = next })) d) count));
+      normal =
+          subst (λ (l : List ℕ). IsNormal surface (l ++ new.last ∷ [])) (sym step.front)
+          (subst (λ (x : ℕ). IsNormal surface (old.front ++ x ∷ [])) (sym step.last) normal);
+      falls =
+          (let back : weight surface next old.coming ≡ weight surface next (old.last ∷ new.coming) = ap (weight surface next) step.coming in
+          let same : weight surface new.last new.coming ≡ weight surface old.last new.coming =
+          ap (λ (x : ℕ). weight surface x new.coming) step.last in
+          omega (arith, back, same, weight_less surface old.last next old.coming, weight_less surface next old.last new.coming));
+    }
+
 -- each step does so
 pub has_stepped : (surface : OpenView) (first : List ℕ) (old taken : ReductionView) (next : ℕ) (new : ReductionView) → HasParents surface
     → LeadsAtPeak surface.mesh first old.list (whole old) → IsNormal surface (settled old) → IsTaken old next taken
@@ -329,6 +389,9 @@ has_stepped surface first old taken next new has leads normal is_taken step =
       | inl back ↦ stepped_back surface first taken next new has from part back
       | inr more ↦ elim more [
         | inl on ↦ stepped_on surface first taken next new has from part on
-        | inr wide ↦ has_expanded surface first taken next new has from part wide
+        | inr rest ↦ elim rest [
+          | inl wide ↦ has_expanded surface first taken next new has from part wide
+          | inr skip ↦ has_skipped surface first taken next new from part skip
+        ]
       ]
     ]

@@ -11,6 +11,11 @@ pub record LeadsAtPeak (mesh : FaceList) (first : List ℕ) (list : PeakedMoves)
   pub leads : Leads mesh first list.moves second
   pub peak : list.peak ≡ greatest_darts mesh first list.moves
 
+-- the moves are no more than n, and neither is the peak
+pub record IsWithin (n : ℕ) (list : PeakedMoves) : Type 0 where
+  pub moves : length list.moves ≤ n
+  pub peak : list.peak ≤ n
+
 -- a move may be one of the mesh: its face is there, and it takes no more sides than that has
 abbrev pub IsMoveOf : FaceList → Move → Type 0
 IsMoveOf mesh (Insert at via) = Unit {0}

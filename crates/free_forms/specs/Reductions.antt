@@ -1,10 +1,11 @@
 -- A walk on its way to its normal walk: a part that is normal, and the vertices that are still to come.
-use Rattle.std.specs.Prelude.{◌≡◌, ◌≢◌, ◌⊎◌, ℕ, ◌+◌, ◌-◌, ◌<◌, Bool, true, false, max, List, [], ◌∷◌, ◌++◌, length, slice_index, reverse}
+use Rattle.std.specs.Prelude.{◌≡◌, ◌≢◌, ◌⊎◌, ℕ, ◌+◌, ◌-◌, ◌<◌, ◌≤◌, Bool, true, false, max, List, [], ◌∷◌, ◌++◌, length, slice_index, reverse}
 use Rattle.surf_model.specs.FaceLists.{face_at, next_corner}
 use Rattle.surf_model.specs.Darts.{tail_of}
 use Rattle.surf_model.specs.Moves.{PeakedMoves}
 use Rattle.surf_model.specs.Vertices.{numbers}
 use Rattle.surf_model.specs.declared.edges.Side.{Side}
+use Rattle.surf_model.specs.declared.limits.TheConstants.{MOST_PEAK}
 use Rattle.surf_model.specs.declared.moves.Move.TheVariants.{Remove, Across}
 use Rattle.free_forms.specs.Parents.{OpenView, Joins, IsParentEdge, parent_of, expansion}
 use Rattle.free_forms.specs.declared.reduction.Reduction.{Reduction}
@@ -51,6 +52,17 @@ pub record StepsBack (old : ReductionView) (next : ℕ) (new : ReductionView) : 
         peak = max old.list.peak (length new.front + length new.coming);
       }
 
+-- the vertices to come lead to the next vertex and straight back, and the spur goes out
+pub record SkipsSpur (old : ReductionView) (next : ℕ) (new : ReductionView) : Type 0 where
+  pub front : new.front ≡ old.front
+  pub last : new.last ≡ old.last
+  pub coming : old.coming ≡ old.last ∷ new.coming
+  pub list : new.list
+      ≡ record {
+        moves = old.list.moves ++ Remove (length new.front) (record { 0 = next }) ∷ [];
+        peak = max old.list.peak (length new.front + length new.coming);
+      }
+
 -- the next vertex is put on: it makes no spur, and the edge is no parent edge
 pub record StepsOn (surface : OpenView) (old : ReductionView) (next : ℕ) (new : ReductionView) : Type 0 where
   pub no_parent : IsParentEdge surface old.last next → ⊥
@@ -81,6 +93,13 @@ pub record Expands (surface : OpenView) (old : ReductionView) (next : ℕ) (new 
         peak = max old.list.peak (length new.front + length new.coming);
       }
 
--- one of the three
+-- there is room for the face of a parent edge that the next step goes along
+abbrev pub HasRoom : OpenView → ReductionView → ℕ → Type 0
+HasRoom surface state next =
+    (f : ℕ) → f < length surface.mesh.faces → Joins surface.mesh (parent_of surface f) state.last next
+    → darts_in state + length (face_at surface.mesh f) ≤ MOST_PEAK
+
+-- one of the four
 abbrev pub IsStep : OpenView → ReductionView → ℕ → ReductionView → Type 0
-IsStep surface old next new = StepsBack old next new ⊎ (StepsOn surface old next new ⊎ Expands surface old next new)
+IsStep surface old next new =
+    StepsBack old next new ⊎ (StepsOn surface old next new ⊎ (Expands surface old next new ⊎ SkipsSpur old next new))

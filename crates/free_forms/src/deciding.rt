@@ -4,18 +4,12 @@ ghost use Rattle.surf_model.specs.FaceLists.{total_sides};
 ghost use Rattle.surf_model.specs.Moves.{Homotopic};
 ghost use Rattle.surf_model.specs.Walks.{IsWalk, HaveCommonEnds, darts};
 ghost use Rattle.free_forms.specs.Normal.{IsNormalWalkOf};
-ghost use Rattle.free_forms.specs.declared.deciding.TheConstants.{MOST_OPEN_SIDES, MOST_OPEN_DARTS};
+ghost use Rattle.free_forms.specs.declared.limits.TheConstants.{MOST_OPEN_SIDES, MOST_OPEN_DARTS};
 
 use crate::open_mesh::OpenMesh;
 use crate::reduction::reduce;
 use std::alloc::{AllocError, Global};
 use surf_model::Walk;
-
-/// The most sides of an open mesh on which walks are made normal.
-pub const MOST_OPEN_SIDES: u32 = 16_384;
-
-/// The most darts of the walks that are made normal, together.
-pub const MOST_OPEN_DARTS: u32 = 512;
 
 /// The normal walk of a walk: the one without spurs and without parent edges to which some list of moves leads.
 pub fn normal(alloc: Global, mesh: &OpenMesh, walk: &Walk) -> Result<Walk, AllocError>

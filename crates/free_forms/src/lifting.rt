@@ -1,11 +1,11 @@
 //! Lists of moves that lead from a walk to a homotopic one.
-ghost use Rattle.std.specs.Prelude.{◌≡◌, ◌+◌, ◌<◌, ◌≤◌, ◌++◌, max, length, All, IfOk, OnOk, MatchOption};
+ghost use Rattle.std.specs.Prelude.{◌≡◌, ◌+◌, ◌<◌, ◌≤◌, ◌++◌, max, length, All, IfOk, IfSome, OnOk, MatchOption};
 ghost use Rattle.surf_model.specs.FaceLists.{total_sides};
 ghost use Rattle.surf_model.specs.Moves.{Homotopic};
 ghost use Rattle.surf_model.specs.Rewriting.{sides_of_move, way_back};
 ghost use Rattle.surf_model.specs.Walks.{IsWalk, HaveCommonEnds, darts};
-ghost use Rattle.free_forms.specs.PeakedLists.{LeadsAtPeak, IsMoveOf};
-ghost use Rattle.free_forms.specs.declared.deciding.TheConstants.{MOST_OPEN_SIDES, MOST_OPEN_DARTS};
+ghost use Rattle.free_forms.specs.PeakedLists.{LeadsAtPeak, IsWithin, IsMoveOf};
+ghost use Rattle.free_forms.specs.declared.limits.TheConstants.{MOST_OPEN_SIDES, MOST_OPEN_DARTS, MOST_OPEN_STEPS};
 
 use crate::deciding::are_equal;
 use crate::open_mesh::OpenMesh;
@@ -27,9 +27,10 @@ pub fn lift_open(
     requires ends { HaveCommonEnds first.now second.now }
     requires sides { total_sides mesh.now.mesh ≤ MOST_OPEN_SIDES }
     requires few { darts first.now + darts second.now ≤ MOST_OPEN_DARTS }
-    ensures { IfOk result (λ found. MatchOption found
+    ensures moves { IfOk result (λ found. MatchOption found
         (Homotopic mesh.now.mesh first.now second.now → ⊥)
         (λ list. LeadsAtPeak mesh.now.mesh first.now list second.now)) }
+    ensures short { IfOk result (λ found. IfSome found (λ list. IsWithin MOST_OPEN_STEPS list)) }
 {
     let one = reduce(alloc, mesh, first)?;
     let two = reduce(alloc, mesh, second)?;

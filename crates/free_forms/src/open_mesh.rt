@@ -69,6 +69,13 @@ impl OpenMesh {
         &self.faces
     }
 
+    /// The table of the edges.
+    pub fn sides(&self) -> &Sides
+        ensures { IsTableOf self.now.mesh result.now }
+    {
+        &self.sides
+    }
+
     /// The parent on the edge of two vertices; none where they form no parent edge.
     pub(crate) fn parent_between(&self, u: VertexName, v: VertexName) -> Option<Side>
         ensures face { IfSome result (λ side. side.face.0 < length self.now.mesh.faces) }

@@ -1,19 +1,20 @@
 //! A walk on its way to its normal walk, vertex by vertex, with the moves that lead there.
-ghost use Rattle.std.specs.Prelude.{◌≡◌, ◌≢◌, ◌+◌, ◌-◌, ◌<◌, ◌≤◌, ◌↔◌, [], ◌∷◌, ◌++◌, length, slice_index, true, if◌then◌else◌, IsTrue, IfOk, OnOk, IfSome, IfNone};
-ghost use Rattle.surf_model.specs.FaceLists.{face_at, next_corner};
+ghost use Rattle.std.specs.Prelude.{◌≡◌, ◌≢◌, ◌+◌, ◌-◌, ◌*◌, ◌<◌, ◌≤◌, ◌↔◌, [], ◌∷◌, ◌++◌, length, slice_index, true, if◌then◌else◌, IsTrue, IfOk, OnOk, IfSome, IfNone};
+ghost use Rattle.surf_model.specs.FaceLists.{face_at, next_corner, total_sides};
 ghost use Rattle.surf_model.specs.Darts.{IsSide};
 ghost use Rattle.surf_model.specs.Vertices.{numbers};
 ghost use Rattle.surf_model.specs.Walks.{darts};
 ghost use Rattle.surf_model.specs.declared.limits.TheConstants.{MOST_PEAK};
 ghost use Rattle.free_forms.specs.Normal.{IsNormal};
 ghost use Rattle.free_forms.specs.Parents.{HasParents, Joins, parent_of, beyond};
-ghost use Rattle.free_forms.specs.PeakedLists.{LeadsAtPeak};
-ghost use Rattle.free_forms.specs.Reductions.{state_of, settled, whole, darts_in, IsTaken, StepsBack, IsWayAlong, Expands, IsStep};
+ghost use Rattle.free_forms.specs.PeakedLists.{LeadsAtPeak, IsWithin};
+ghost use Rattle.free_forms.specs.Reductions.{state_of, settled, whole, darts_in, IsTaken, StepsBack, SkipsSpur, IsWayAlong, Expands, IsStep, HasRoom};
+ghost use Rattle.free_forms.specs.declared.limits.TheConstants.{MOST_OPEN_SIDES, MOST_OPEN_DARTS};
 
 use crate::open_mesh::OpenMesh;
 use std::alloc::{AllocError, Global};
 use surf_model::faces::corner_after;
-use surf_model::{FaceName, Faces, MOST_PEAK, Move, MoveList, Side, VertexName, Walk};
+use surf_model::{FaceName, Faces, Move, MoveList, Side, VertexName, Walk};
 
 /// A walk: a part that is normal, then the vertices to come; and the moves that led to it.
 #[derive(Drop)]
@@ -27,15 +28,17 @@ pub(crate) struct Reduction {
 }
 
 /// Leads a walk to its normal walk, by moves with their exact peak.
-///
-/// Past `MOST_PEAK` darts it gives up as for want of memory, which no walk within the limits comes to.
 pub(crate) fn reduce(alloc: Global, mesh: &OpenMesh, walk: &Walk) -> Result<Reduction, AllocError>
-    requires { darts walk.now ≤ MOST_PEAK }
+    requires sides { total_sides mesh.now.mesh ≤ MOST_OPEN_SIDES }
+    requires few { darts walk.now ≤ MOST_OPEN_DARTS }
     ensures leads { IfOk result (λ reduction. LeadsAtPeak mesh.now.mesh walk.now (state_of reduction).list (whole (state_of reduction))) }
     ensures normal { IfOk result (λ reduction. IsNormal mesh.now (whole (state_of reduction))) }
     ensures few { IfOk result (λ reduction. darts_in (state_of reduction) ≤ MOST_PEAK) }
+    ensures short { IfOk result (λ reduction. IsWithin (darts walk.now * MOST_OPEN_SIDES) (state_of reduction).list) }
     ensures done { IfOk result (λ reduction. (state_of reduction).coming ≡ []) }
 {
+    // The proof reads what holds of every open mesh.
+    let _ = mesh.faces();
     let mut reduction = start(alloc, walk)?;
     while let Some(next) = take(&mut reduction) {
         step(&mut reduction, mesh, next)?;
@@ -103,11 +106,12 @@ fn take(reduction: &mut Reduction) -> Option<VertexName>
     reduction.pending.pop()
 }
 
-/// Goes on to the next vertex: takes out the spur, or expands the edge if it is a parent edge, or puts the vertex on.
+/// Goes on to the next vertex: takes out the spur that it ends, or the one that it begins along a parent edge, or expands the edge if it is
+/// a parent edge, or puts the vertex on.
 fn step(reduction: &mut Reduction, mesh: &OpenMesh, next: VertexName) -> Result<(), AllocError>
-    requires { darts_in (state_of reduction.old) < MOST_PEAK }
+    requires few { darts_in (state_of reduction.old) < MOST_PEAK }
+    requires room { HasRoom mesh.now (state_of reduction.old) next.0 }
     ensures step { OnOk result (IsStep mesh.now (state_of reduction.old) next.0 (state_of reduction.new)) }
-    ensures few { OnOk result (darts_in (state_of reduction.new) ≤ MOST_PEAK) }
     // What holds of every open mesh.
     ensures parents { OnOk result (HasParents mesh.now) }
 {
@@ -116,6 +120,7 @@ fn step(reduction: &mut Reduction, mesh: &OpenMesh, next: VertexName) -> Result<
         return step_back(reduction);
     }
     match parent {
+        Some(_) if comes_back(reduction) => skip_spur(reduction, next),
         Some(side) => expand(reduction, mesh, side, next),
         None => step_on(reduction, next),
     }
@@ -147,6 +152,30 @@ fn step_back(reduction: &mut Reduction) -> Result<(), AllocError>
     Ok(())
 }
 
+/// Whether the vertex behind the next one, which was taken, is the last one.
+fn comes_back(reduction: &Reduction) -> bool
+    ensures { IsTrue result ↔ ((0 < length (state_of reduction.now).coming)
+        × (slice_index (state_of reduction.now).coming 0 ≡ (state_of reduction.now).last)) }
+{
+    let left = reduction.pending.len();
+    left > 0 && reduction.pending[left - 1] == reduction.last
+}
+
+/// Takes out the spur to the next vertex and back, before it is gone along.
+fn skip_spur(reduction: &mut Reduction, via: VertexName) -> Result<(), AllocError>
+    requires some { 0 < length (state_of reduction.old).coming }
+    requires back { slice_index (state_of reduction.old).coming 0 ≡ (state_of reduction.old).last }
+    requires few { darts_in (state_of reduction.old) < MOST_PEAK }
+    ensures { OnOk result (SkipsSpur (state_of reduction.old) via.0 (state_of reduction.new)) }
+{
+    reduction.pending.pop();
+    let at = reduction.earlier.len() as u32;
+    reduction.moves.push(
+        Move::Remove { at, via },
+        at + reduction.pending.len() as u32,
+    )
+}
+
 /// Puts the next vertex on.
 fn step_on(reduction: &mut Reduction, next: VertexName) -> Result<(), AllocError>
     ensures { OnOk result (state_of reduction.new ≡ record (state_of reduction.old) {
@@ -169,15 +198,10 @@ fn expand(
     requires face { side.face.0 < length mesh.now.mesh.faces }
     requires parent { side ≡ parent_of mesh.now side.face.0 }
     requires joined { Joins mesh.now.mesh side (state_of reduction.old).last next.0 }
-    requires few { darts_in (state_of reduction.old) < MOST_PEAK }
-    ensures step { OnOk result (Expands mesh.now (state_of reduction.old) next.0 (state_of reduction.new)) }
-    ensures few { OnOk result (darts_in (state_of reduction.new) ≤ MOST_PEAK) }
+    requires room { HasRoom mesh.now (state_of reduction.old) next.0 }
+    ensures { OnOk result (Expands mesh.now (state_of reduction.old) next.0 (state_of reduction.new)) }
 {
     let faces = mesh.faces();
-    let size = faces.sides(side.face);
-    if reduction.earlier.len() + reduction.pending.len() + size as usize > MOST_PEAK as usize {
-        return Err(AllocError);
-    }
     let forward = faces.corner(side.face, side.at) == reduction.last;
     let corner = corner_along(faces, side, forward);
     push_others(&mut reduction.pending, faces, side.face, corner, forward)?;

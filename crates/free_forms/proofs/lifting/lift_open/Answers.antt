@@ -1,13 +1,15 @@
-use Rattle.std.proofs.Common.{◌≡◌, ◌++◌, ap, sym, ◌∙◌, subst}
+use Rattle.std.proofs.Common.{◌≡◌, ℕ, ◌*◌, ◌++◌, ap, sym, ◌∙◌, subst, arith}
 use Rattle.std.specs.Prelude.{All, ◌↔◌}
 use Rattle.std.proofs.lemmas.Bool.{both_ways}
 use Rattle.surf_model.specs.FaceLists.{FaceList}
 use Rattle.surf_model.specs.Moves.{PeakedMoves, Homotopic}
 use Rattle.surf_model.specs.Rewriting.{way_back}
+use Rattle.surf_model.specs.Walks.{darts}
 use Rattle.free_forms.specs.Normal.{IsNormal}
-use Rattle.free_forms.specs.PeakedLists.{LeadsAtPeak, IsMoveOf}
+use Rattle.free_forms.specs.PeakedLists.{LeadsAtPeak, IsWithin, IsMoveOf}
+use Rattle.free_forms.specs.declared.limits.TheConstants.{MOST_OPEN_SIDES, MOST_OPEN_STEPS}
 use Rattle.free_forms.specs.Reductions.{state_of, whole}
-use Rattle.free_forms.proofs.BackLemmas.{moves_of, there_and_back_leads}
+use Rattle.free_forms.proofs.BackLemmas.{moves_of, there_and_back_leads, both_within}
 use Rattle.free_forms.proofs.NormalLemmas.{by_normal_walks}
 use Rattle.free_forms.proofs.lifting.lift_open.Goals as goal
 
@@ -20,8 +22,8 @@ push_back-requires c =
     subst (λ (m : FaceList). All (IsMoveOf m) c.in_ok-far.others.moves) (sym c.faces-faces.ensures.mesh)
     (subst (λ (l : PeakedMoves). All (IsMoveOf mesh) l.moves) (sym c.in_ok-far.ensures.moves) all)
 
-pub returns-then-are_equal : goal.returns-then-are_equal
-returns-then-are_equal c =
+pub returns-then-are_equal-clause-moves : goal.returns-then-are_equal-clause-moves
+returns-then-are_equal-clause-moves c =
     let mesh : FaceList = c.args.mesh.now.mesh in
     let one : LeadsAtPeak mesh c.args.first.now c.in_ok-near.moves c.in_ok-near.near =
     subst (λ (l : PeakedMoves). LeadsAtPeak mesh c.args.first.now l c.in_ok-near.near) (sym c.in_ok-near.ensures.moves)
@@ -35,8 +37,8 @@ returns-then-are_equal c =
     ∙ ap (λ (m : FaceList). c.in_ok-near.moves.moves ++ way_back m c.in_ok-far.others.moves) c.faces-faces.ensures.mesh)
     c.in_ok-push_back.ensures.none c.in_ok-push_back.ensures.some
 
-pub returns : goal.returns
-returns c =
+pub returns-clause-moves : goal.returns-clause-moves
+returns-clause-moves c =
     let mesh : FaceList = c.args.mesh.now.mesh in
     let equal : Homotopic mesh c.args.first.now c.args.second.now ↔ (c.in_ok-near.near ≡ c.in_ok-far.far) =
     by_normal_walks c.args.mesh.now c.args.first.now c.args.second.now c.in_ok-near.near c.in_ok-far.far c.faces-faces.ensures.parents
@@ -56,3 +58,12 @@ returns c =
       );
     }) in
     λ joined. both_ways c.are_equal.result c.if-are_equal.false (c.are_equal.ensures.1 (equal.0 joined))
+
+pub returns-then-are_equal-clause-short : goal.returns-then-are_equal-clause-short
+returns-then-are_equal-clause-short c =
+    let one : ℕ = darts c.args.first.now * MOST_OPEN_SIDES in
+    let two : ℕ = darts c.args.second.now * MOST_OPEN_SIDES in
+    both_within c.faces-faces.result.now one two MOST_OPEN_STEPS c.in_ok-near.moves c.in_ok-far.others c.push_back.new.moves
+    (subst (IsWithin one) (sym c.in_ok-near.ensures.moves) c.in_ok-one.ensures.short)
+    (subst (IsWithin two) (sym c.in_ok-far.ensures.moves) c.in_ok-two.ensures.short)
+    (omega (arith, c.requires.few)) c.in_ok-push_back.ensures.moves c.in_ok-push_back.ensures.none c.in_ok-push_back.ensures.some

@@ -1,94 +1,59 @@
-use Rattle.std.proofs.Common.{◌≡◌, ℕ, ◌+◌, ◌-◌, ◌≤◌, length, eqb, ap, ◌∙◌, arith}
+use Rattle.std.proofs.Common.{ℕ, ◌+◌, ◌≤◌, length, eqb, ap, ◌∙◌, subst, arith}
 use Rattle.std.proofs.lemmas.Result.{on_ok_weaker}
+use Rattle.surf_model.specs.FaceLists.{face_at}
+use Rattle.surf_model.specs.declared.edges.Side.{Side}
 use Rattle.surf_model.specs.declared.limits.TheConstants.{MOST_PEAK}
+use Rattle.free_forms.specs.Parents.{Joins}
 use Rattle.free_forms.proofs.ExpandLemmas.{IsRead, pushed_length, expands_made, length_numbers, length_coming}
 use Rattle.free_forms.proofs.reduction.expand.Goals as goal
+use Rattle.free_forms.proofs.reduction.expand.Goals.{In_ok-push_others}
+
+-- what is pushed
+read : (c : In_ok-push_others) → IsRead c.args.side c.args.reduction.now.last.0 c.corner_along-corner.result c.eq-forward.result
+    c.args.reduction.now.pending.items c.push_others.new.pending.items c.faces-faces.result.now
+read c = record {
+  forward_is = c.eq-forward.ensures ∙ ap (λ (x : ℕ). eqb x c.args.reduction.now.last.0) c.corner.ensures;
+  corner_is = c.corner_along-corner.ensures;
+  pushed = c.in_ok-push_others.ensures;
+}
+
+-- the walk is not too long
+few : (c : In_ok-push_others) → length c.args.reduction.now.earlier.items + length c.push_others.new.pending.items ≤ MOST_PEAK
+few c =
+    omega (
+      arith,
+      pushed_length c.args.side c.args.reduction.now.last.0 c.corner_along-corner.result c.eq-forward.result
+          c.args.reduction.now.pending.items c.push_others.new.pending.items c.faces-faces.result.now (read c),
+      ap (λ m. length (face_at m c.args.side.face.0)) c.faces-faces.ensures.mesh,
+      c.requires.room c.args.side.face.0 c.requires.face
+          (subst (λ (s : Side). Joins c.args.mesh.now.mesh s c.args.reduction.now.last.0 c.args.next.0) c.requires.parent
+          c.requires.joined),
+      length_numbers c.args.reduction.now.earlier.items,
+      length_coming c.args.reduction.now.pending.items,
+    )
 
 pub overflow_cast-len : goal.overflow_cast-len
-overflow_cast-len c =
-    let read : IsRead c.args.side c.args.reduction.now.last.0 c.corner_along-corner.result c.eq-forward.result
-    c.args.reduction.now.pending.items c.push_others.new.pending.items c.faces-faces.result.now = record {
-      forward_is = c.eq-forward.ensures ∙ ap (λ (x : ℕ). eqb x c.args.reduction.now.last.0) c.corner.ensures;
-      corner_is = c.corner_along-corner.ensures;
-      pushed = c.in_ok-push_others.ensures;
-    } in
-    let long : c.len-3.result ≡ c.len-2.result + (c.sides-size.result - 1) = omega (
-      arith,
-      c.len-3.ensures,
-      c.push_others.new.pending.ok.0,
-      pushed_length c.args.side c.args.reduction.now.last.0 c.corner_along-corner.result c.eq-forward.result
-          c.args.reduction.now.pending.items c.push_others.new.pending.items c.faces-faces.result.now read,
-      c.len-2.ensures,
-      c.args.reduction.now.pending.ok.0,
-      c.sides-size.ensures,
-    ) in
-    omega (arith, long, c.if-len-size.false)
+overflow_cast-len c = omega (arith, few (goal.at.overflow_cast-len c).In_ok-push_others, c.len.ensures, c.push_others.new.pending.ok.0)
 
 pub overflow_add-at : goal.overflow_add-at
 overflow_add-at c =
-    let read : IsRead c.args.side c.args.reduction.now.last.0 c.corner_along-corner.result c.eq-forward.result
-    c.args.reduction.now.pending.items c.push_others.new.pending.items c.faces-faces.result.now = record {
-      forward_is = c.eq-forward.ensures ∙ ap (λ (x : ℕ). eqb x c.args.reduction.now.last.0) c.corner.ensures;
-      corner_is = c.corner_along-corner.ensures;
-      pushed = c.in_ok-push_others.ensures;
-    } in
-    let long : c.len-3.result ≡ c.len-2.result + (c.sides-size.result - 1) = omega (
+    omega (
       arith,
-      c.len-3.ensures,
+      few (goal.at.overflow_add-at c).In_ok-push_others,
+      c.len.ensures,
       c.push_others.new.pending.ok.0,
-      pushed_length c.args.side c.args.reduction.now.last.0 c.corner_along-corner.result c.eq-forward.result
-          c.args.reduction.now.pending.items c.push_others.new.pending.items c.faces-faces.result.now read,
-      c.len-2.ensures,
-      c.args.reduction.now.pending.ok.0,
-      c.sides-size.ensures,
-    ) in
-    omega (arith, long, c.if-len-size.false, c.len-at.ensures, c.len.ensures)
+      c.len-at.ensures,
+      c.args.reduction.now.earlier.ok.0,
+    )
 
-pub returns-clause-step : goal.returns-clause-step
-returns-clause-step c =
-    let read : IsRead c.args.side c.args.reduction.now.last.0 c.corner_along-corner.result c.eq-forward.result
-    c.args.reduction.now.pending.items c.push_others.new.pending.items c.faces-faces.result.now = record {
-      forward_is = c.eq-forward.ensures ∙ ap (λ (x : ℕ). eqb x c.args.reduction.now.last.0) c.corner.ensures;
-      corner_is = c.corner_along-corner.ensures;
-      pushed = c.in_ok-push_others.ensures;
-    } in
+pub returns : goal.returns
+returns c =
     on_ok_weaker c.push.result
     (λ noted.
     expands_made c.args.mesh.now c.faces-faces.result.now c.args.side c.args.reduction.now.earlier.items c.args.reduction.now.pending.items
     c.push_others.new.pending.items c.args.reduction.now.last.0 c.args.next.0 c.corner_along-corner.result c.len-at.result
-    (c.len-at.result + c.len-3.result) c.eq-forward.result c.args.reduction.now.moves c.push.new.self c.faces-faces.ensures.parents
-    c.faces-faces.ensures.mesh c.requires.face c.requires.parent c.requires.joined read
+    (c.len-at.result + c.len.result) c.eq-forward.result c.args.reduction.now.moves c.push.new.self c.faces-faces.ensures.parents
+    c.faces-faces.ensures.mesh c.requires.face c.requires.parent c.requires.joined (read (goal.at.returns c).In_ok-push_others)
     (omega (arith, c.len-at.ensures, c.args.reduction.now.earlier.ok.0))
-    (omega (arith, c.len-at.ensures, c.args.reduction.now.earlier.ok.0, c.len-3.ensures, c.push_others.new.pending.ok.0)) noted)
-    c.push.ensures.ok
-
-pub returns-clause-few : goal.returns-clause-few
-returns-clause-few c =
-    let read : IsRead c.args.side c.args.reduction.now.last.0 c.corner_along-corner.result c.eq-forward.result
-    c.args.reduction.now.pending.items c.push_others.new.pending.items c.faces-faces.result.now = record {
-      forward_is = c.eq-forward.ensures ∙ ap (λ (x : ℕ). eqb x c.args.reduction.now.last.0) c.corner.ensures;
-      corner_is = c.corner_along-corner.ensures;
-      pushed = c.in_ok-push_others.ensures;
-    } in
-    let long : c.len-3.result ≡ c.len-2.result + (c.sides-size.result - 1) = omega (
-      arith,
-      c.len-3.ensures,
-      c.push_others.new.pending.ok.0,
-      pushed_length c.args.side c.args.reduction.now.last.0 c.corner_along-corner.result c.eq-forward.result
-          c.args.reduction.now.pending.items c.push_others.new.pending.items c.faces-faces.result.now read,
-      c.len-2.ensures,
-      c.args.reduction.now.pending.ok.0,
-      c.sides-size.ensures,
-    ) in
-    let few : length c.args.reduction.now.earlier.items + length c.push_others.new.pending.items ≤ MOST_PEAK = omega (
-      arith,
-      long,
-      c.if-len-size.false,
-      c.len.ensures,
-      c.args.reduction.now.earlier.ok.0,
-      c.len-3.ensures,
-      c.push_others.new.pending.ok.0,
-    ) in
-    on_ok_weaker c.push.result
-    (λ noted. omega (arith, few, length_numbers c.args.reduction.now.earlier.items, length_coming c.push_others.new.pending.items))
+    (omega (arith, c.len-at.ensures, c.args.reduction.now.earlier.ok.0, c.len.ensures, c.push_others.new.pending.ok.0)) noted)
     c.push.ensures.ok

@@ -1,9 +1,14 @@
-use Rattle.std.proofs.Common.{◌≡◌, ℕ, List, [], ◌∷◌, ◌++◌, length, ap, sym, ◌∙◌, subst, arith}
+use Rattle.std.proofs.Common.{◌≡◌, ℕ, List, [], ◌∷◌, ◌++◌, ◌+◌, ◌*◌, ◌≤◌, length, ap, sym, ◌∙◌, subst, arith}
+use Rattle.surf_model.specs.Moves.{PeakedMoves}
+use Rattle.surf_model.specs.Walks.{darts}
+use Rattle.free_forms.specs.declared.limits.TheConstants.{MOST_OPEN_SIDES}
 use Rattle.free_forms.specs.Normal.{IsNormal}
 use Rattle.free_forms.specs.PeakedLists.{LeadsAtPeak}
-use Rattle.free_forms.specs.Reductions.{ReductionView, state_of}
+use Rattle.free_forms.specs.Reductions.{ReductionView, state_of, darts_in}
+use Rattle.free_forms.proofs.CostLemmas.{stays_paid, has_room, paid_darts}
 use Rattle.free_forms.proofs.PeakLemmas.{leads_nowhere}
 use Rattle.free_forms.proofs.StepLemmas.{HasStepped, has_stepped, normal_alone, weight}
+use Rattle.free_forms.proofs.WeightLemmas.{weight_bound}
 use Rattle.free_forms.proofs.reduction.reduce.Goals as goal
 
 pub loop-next-init : goal.loop-next-init
@@ -13,6 +18,10 @@ loop-next-init c =
     ap (λ (f : List ℕ). length (f ++ start.last ∷ start.coming)) (sym c.in_ok-reduction.ensures.front)
     ∙ ap (λ (w : List ℕ). length w) c.in_ok-reduction.ensures.walk in
     let none : length start.front ≡ 0 = ap (λ (f : List ℕ). length f) c.in_ok-reduction.ensures.front in
+    let count : length start.list.moves ≡ 0 = ap (λ (l : PeakedMoves). length l.moves) c.in_ok-reduction.ensures.list in
+    let peak : start.list.peak ≡ darts c.args.walk.now = ap (λ (l : PeakedMoves). l.peak) c.in_ok-reduction.ensures.list in
+    let weight : weight c.args.mesh.now start.last start.coming ≤ length start.coming * MOST_OPEN_SIDES =
+    weight_bound c.args.mesh.now MOST_OPEN_SIDES start.last start.coming c.faces.ensures.parents (omega arith) c.requires.sides in
     record {
       leads =
           subst (LeadsAtPeak c.args.mesh.now.mesh c.args.walk.now start.list) (sym c.in_ok-reduction.ensures.walk)
@@ -20,7 +29,11 @@ loop-next-init c =
       normal =
           subst (λ (f : List ℕ). IsNormal c.args.mesh.now (f ++ start.last ∷ [])) (sym c.in_ok-reduction.ensures.front)
           (normal_alone c.args.mesh.now start.last);
-      few = omega (arith, long, none, c.requires);
+      paid = record {
+        moves = omega (arith, count, weight, long);
+        front = omega (arith, none, weight, long);
+        peak = omega (arith, peak, long);
+      };
     }
 
 -- the step at hand
@@ -41,4 +54,23 @@ loop-next-smaller c =
 pub loop-next-preserved : goal.loop-next-preserved
 loop-next-preserved c =
     let done = stepped c in
-    record { leads = done.leads; normal = done.normal; few = c.in_ok-step.ensures.few }
+    record {
+      leads = done.leads;
+      normal = done.normal;
+      paid = stays_paid c.args.mesh.now (darts c.args.walk.now * MOST_OPEN_SIDES) (state_of c.loop-next.reduction)
+          (state_of c.take.new.reduction) c.in-Some.next.0 (state_of c.step.new.reduction) c.args.walk.now c.loop-next.invariant.paid
+          c.in-Some.ensures.some done c.in_ok-step.ensures.step;
+    }
+
+pub step-requires-clause-few : goal.step-requires-clause-few
+step-requires-clause-few c =
+    let darts : darts_in (state_of c.loop-next.reduction) ≤ darts c.args.walk.now * MOST_OPEN_SIDES =
+    paid_darts c.args.mesh.now (darts c.args.walk.now * MOST_OPEN_SIDES) (state_of c.loop-next.reduction) c.loop-next.invariant.paid in
+    let taken : darts_in (state_of c.loop-next.reduction) ≡ darts_in (state_of c.take.new.reduction) + 1 =
+    omega (arith, ap darts_in c.in-Some.ensures.some) in
+    omega (arith, darts, taken, c.requires.few)
+
+pub step-requires-clause-room : goal.step-requires-clause-room
+step-requires-clause-room c =
+    has_room c.args.mesh.now (darts c.args.walk.now * MOST_OPEN_SIDES) (state_of c.loop-next.reduction) (state_of c.take.new.reduction)
+    c.in-Some.next.0 c.faces.ensures.parents c.loop-next.invariant.paid c.in-Some.ensures.some (omega (arith, c.requires.few))

@@ -1,8 +1,10 @@
-use Rattle.std.proofs.Common.{◌≤◌}
-use Rattle.surf_model.specs.declared.limits.TheConstants.{MOST_PEAK}
+use Rattle.std.proofs.Common.{◌*◌}
+use Rattle.surf_model.specs.Walks.{darts}
+use Rattle.free_forms.specs.declared.limits.TheConstants.{MOST_OPEN_SIDES}
 use Rattle.free_forms.specs.Normal.{IsNormal}
 use Rattle.free_forms.specs.PeakedLists.{LeadsAtPeak}
-use Rattle.free_forms.specs.Reductions.{state_of, settled, whole, darts_in}
+use Rattle.free_forms.specs.Reductions.{state_of, settled, whole}
+use Rattle.free_forms.proofs.CostLemmas.{IsPaid}
 use Rattle.free_forms.proofs.StepLemmas.{weight}
 use Rattle.free_forms.proofs.reduction.reduce.Given as goal
 
@@ -10,7 +12,7 @@ abbrev pub invariant-loop-next : goal.invariant-loop-next
 invariant-loop-next l = record {
   leads : LeadsAtPeak l.mesh.mesh l.walk (state_of l.reduction).list (whole (state_of l.reduction));
   normal : IsNormal l.mesh (settled (state_of l.reduction));
-  few : darts_in (state_of l.reduction) ≤ MOST_PEAK;
+  paid : IsPaid l.mesh (darts l.walk * MOST_OPEN_SIDES) (state_of l.reduction);
 }
 
 abbrev pub decreases-loop-next : goal.decreases-loop-next
