@@ -105,8 +105,8 @@ sums_agree surface labelling (u ∷ rest) (v ∷ others) (Flat x y) (Flat right 
 pub forms_decide : (surface : OrientedMesh) (labelling : LabellingView) (first second one other : List ℕ) (same : Bool)
     → IsOrientedSurface surface → IsLabelledByCut surface labelling → 5 ≤ labelling.degree → IsClosedWalk surface.mesh first
     → IsClosedWalk surface.mesh second → IsCyclicFormOf surface.mesh labelling first one
-    → IsCyclicFormOf surface.mesh labelling second other → IsTrue same ↔ IsRotation one other → IsTrue same ↔ FreelyHomotopic
-    surface.mesh first second
+    → IsCyclicFormOf surface.mesh labelling second other → IsTrue same ↔ IsRotation one other
+    → IsTrue same ↔ FreelyHomotopic surface.mesh first second
 forms_decide surface labelling first second one other same o h five first_closed second_closed f g told = (
   (λ yes. forms_free surface labelling first second one other o h first_closed second_closed f g (told.0 yes)),
   (λ free. told.1 (one_cyclic_form surface.mesh labelling first second one other o.faces (cut_is_good surface labelling o h)
