@@ -67,7 +67,7 @@ pub fn read_pair<S: Shelf>(
 }
 
 /// The walks that the bytes spell.
-fn walks_of_bytes(alloc: Global, bytes: &[u8]) -> Result<WalkList, Stop>
+pub fn walks_of_bytes(alloc: Global, bytes: &[u8]) -> Result<WalkList, Stop>
     ensures end { Ends (meant (numbers_line Input.Walks) (walks_of bytes.now)) result }
     ensures no_fault { result ≡ Err Stop.ReadFault → ⊥ }
 {

@@ -7,7 +7,8 @@
 //! A command in another crate is written the same way. It takes from here:
 //!
 //! - `read_file`, `read_mesh`, `read_pair`, `read_cert` and `read_surface`, each with the clause `Reads` of its check;
-//! - `refused` and `refused_at`, which make the `Stop` of a fault that this crate does not know, with the clause `Tells`;
+//! - `walks_of_bytes`, for the walks of a file of which a command asks something else than that they are a pair;
+//! - `refused`, `refused_at` and `refused_at_place`, which make the `Stop` of a fault that this crate does not know, with the clause `Tells`;
 //! - `Line`, `Phrase` and `Text`, of which a `Reply` is made, which `give` writes;
 //! - the parts that checks are made of (specs/Checks.antt), and the lemmas of proofs/: `Running` and `Checking` for the clause `Runs`,
 //!   `Sound` and `Rows` for the law of the command, which is said wherever words are answered by its check (`AnswersTo`).
@@ -32,9 +33,9 @@ pub mod verify;
 mod word_lines;
 
 pub use certificate::{Certificate, read_certificate};
-pub use inputs::{MOST_BYTES, read_cert, read_file, read_mesh, read_pair};
+pub use inputs::{MOST_BYTES, read_cert, read_file, read_mesh, read_pair, walks_of_bytes};
 pub use line::{Line, MOST_OTHERS, Phrase};
-pub use refusal::{Input, refused, refused_at};
+pub use refusal::{Input, refused, refused_at, refused_at_place};
 pub use reply::{Reply, give};
 pub use status::Status;
 pub use stop::Stop;

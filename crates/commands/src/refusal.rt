@@ -32,7 +32,7 @@ pub fn refused_at(what: &'static str, line: u64, cause: &'static str) -> Stop
 }
 
 /// A refusal for a cause at a place of a walk.
-fn refused_at_place(walk: u32, place: u32, cause: &'static str) -> Stop
+pub fn refused_at_place(walk: u32, place: u32, cause: &'static str) -> Stop
     ensures { Tells (told_at_place walk place cause.now) result }
 {
     refused(&[
