@@ -13,9 +13,11 @@ use Rattle.commands.proofs.ReduceOutcomes.{reduced}
 use Rattle.commands.proofs.SurfaceOutcomes.{measured}
 use Rattle.commands.proofs.TrialOutcomes.{tried}
 use Rattle.commands.proofs.VerifyOutcomes.{verified, denial_verified}
+use Rattle.loop_commands.proofs.LoopOutcomes.{loops_so}
+use Rattle.loop_commands.specs.Loops.{IsLoopsAnswered}
 use Rattle.commands.specs.Certify.{IsCertified}
 use Rattle.commands.specs.Checks.{Refuse, Pass, found_or}
-use Rattle.program.specs.Commands.{Row, Surface, Decide, Certify, Verify, Reduce, Trial, IsRow, answer_to}
+use Rattle.program.specs.Commands.{Row, Surface, Decide, Certify, Loops, Verify, Reduce, Trial, IsRow, answer_to}
 use Rattle.commands.specs.Decide.{IsDecided}
 use Rattle.program.specs.Headline.{Headline}
 use Rattle.commands.specs.Outcomes.{Outcome, AnswersTo, IsAnswerOf}
@@ -63,6 +65,11 @@ pub certified_by : (files : Option Files) (words : List (List ℕ)) (status : St
     → IsCertified files words status text
 certified_by files words status text a =
     certified_so files words status text (λ mesh walks is. row_answered files words (Certify mesh walks) status text a is)
+
+pub loops_by : (files : Option Files) (words : List (List ℕ)) (status : Status) (text : List ℕ) → Answers files words status text
+    → IsLoopsAnswered files words status text
+loops_by files words status text a =
+    loops_so files words status text (λ mesh walks is. row_answered files words (Loops mesh walks) status text a is)
 
 verify_answered : (files : Option Files) (words : List (List ℕ)) (status : Status) (text : List ℕ) → Answers files words status text
     → (mesh walks certificate : List ℕ) → IsRow words (Verify mesh walks certificate)

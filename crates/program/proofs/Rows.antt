@@ -5,13 +5,14 @@ use Rattle.surf_io.specs.Files.{Files}
 use Rattle.commands.proofs.Deciding.{behind}
 use Rattle.commands.proofs.Reducing.{sound-reduce}
 use Rattle.commands.proofs.Rows.{sound-surface, sound-decide, sound-certify, sound-verify}
+use Rattle.loop_commands.proofs.LoopAnswers.{sound-loops}
 use Rattle.commands.proofs.Sound.{IsSound, sound-then, sound-found}
 use Rattle.commands.proofs.Trying.{sound-trial}
 use Rattle.commands.specs.Checks.{IsTold, found_or}
 use Rattle.commands.specs.Outcomes.{Outcome, AnswersTo}
 use Rattle.commands.specs.Refusals.{wrong_words}
 use Rattle.commands.specs.declared.status.Status.{Status}
-use Rattle.program.specs.Commands.{Row, Surface, Decide, Certify, Verify, Reduce, Trial, IsRow, answer_to}
+use Rattle.program.specs.Commands.{Row, Surface, Decide, Certify, Loops, Verify, Reduce, Trial, IsRow, answer_to}
 use Rattle.program.specs.Outcomes.{AllTold, Answers, IsOutcome, answer_of}
 
 -- ---- one row
@@ -21,6 +22,7 @@ abbrev keyword_of : Row → List ℕ
 keyword_of (Surface mesh) = codes "surface"
 keyword_of (Decide mesh walks) = codes "decide"
 keyword_of (Certify mesh walks) = codes "certify"
+keyword_of (Loops mesh walks) = codes "loops"
 keyword_of (Verify mesh walks certificate) = codes "verify"
 keyword_of (Reduce degree list) = codes "reduce"
 keyword_of (Trial genus grid) = codes "trial"
@@ -38,6 +40,7 @@ unfolding first_word
 keyword-row words (Surface mesh) p = ap first_word p
 keyword-row words (Decide mesh walks) p = ap first_word p
 keyword-row words (Certify mesh walks) p = ap first_word p
+keyword-row words (Loops mesh walks) p = ap first_word p
 keyword-row words (Verify mesh walks certificate) p = ap first_word p
 keyword-row words (Reduce degree list) p = ap first_word p.1
 keyword-row words (Trial genus grid) p = ap first_word p.2
@@ -52,6 +55,7 @@ unfolding value
 one_row words (Surface a) (Surface b) p q = cc
 one_row words (Decide a b) (Decide c d) p q = cc
 one_row words (Certify a b) (Certify c d) p q = cc
+one_row words (Loops a b) (Loops c d) p q = cc
 one_row words (Verify a b c) (Verify d e f) p q = cc
 one_row words (Reduce a b) (Reduce c d) p q = cc
 one_row words (Trial a b) (Trial c d) p q = cc
@@ -63,6 +67,7 @@ sound-row : (held : Option Files) (row : Row) → IsSound held (answer_to held r
 sound-row held (Surface mesh) = sound-surface held mesh
 sound-row held (Decide mesh walks) = sound-decide held mesh walks
 sound-row held (Certify mesh walks) = sound-certify held mesh walks
+sound-row held (Loops mesh walks) = sound-loops held mesh walks
 sound-row held (Verify mesh walks certificate) = sound-verify held mesh walks certificate
 sound-row held (Reduce degree list) = sound-reduce held degree list
 sound-row held (Trial genus grid) = sound-trial held genus grid

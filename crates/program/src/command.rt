@@ -11,6 +11,7 @@ use commands::surface::measure;
 use commands::trial::trial;
 use commands::verify::verify;
 use commands::{Reply, Stop};
+use loop_commands::loops::loops;
 use std::alloc::Global;
 use surf_io::Shelf;
 
@@ -28,6 +29,11 @@ pub enum Command<'a> {
     },
     /// `certify FILE WALKS`
     Certify {
+        mesh: &'a str,
+        walks: &'a str,
+    },
+    /// `loops FILE WALKS`
+    Loops {
         mesh: &'a str,
         walks: &'a str,
     },
@@ -67,6 +73,10 @@ pub fn read_command(words: &Vec<String>) -> Option<Command<'_>>
             mesh: mesh.as_str(),
             walks: walks.as_str(),
         }),
+        ("loops", [mesh, walks]) => Some(Command::Loops {
+            mesh: mesh.as_str(),
+            walks: walks.as_str(),
+        }),
         ("verify", [mesh, walks, certificate]) => Some(Command::Verify {
             mesh: mesh.as_str(),
             walks: walks.as_str(),
@@ -92,6 +102,7 @@ pub fn answer<S: Shelf>(alloc: Global, shelf: &mut S, command: Command<'_>) -> R
         Command::Surface { mesh } => measure(alloc, shelf, mesh),
         Command::Decide { mesh, walks } => decide(alloc, shelf, mesh, walks),
         Command::Certify { mesh, walks } => certify(alloc, shelf, mesh, walks),
+        Command::Loops { mesh, walks } => loops(alloc, shelf, mesh, walks),
         Command::Verify {
             mesh,
             walks,

@@ -18,6 +18,7 @@ ghost use Rattle.commands.specs.Reduce.{IsReduced};
 ghost use Rattle.commands.specs.Surface.{IsMeasured};
 ghost use Rattle.commands.specs.Trial.{IsTried};
 ghost use Rattle.commands.specs.Verify.{IsVerified, IsDenialVerified};
+ghost use Rattle.loop_commands.specs.Loops.{IsLoopsAnswered};
 ghost use Rattle.commands.specs.declared.inputs.TheConstants.{MOST_BYTES};
 ghost use Rattle.commands.specs.declared.status.Status.{Status};
 
@@ -43,6 +44,12 @@ pub fn decide_answers()
 pub fn certify_answers()
     ensures { (held : Option Files) (words : List (List ℕ)) (status : Status) (text : List ℕ)
         → Answers held words status text → IsCertified held words status text }
+{}
+
+/// What `loops` answers of two closed walks of a surface.
+pub fn loops_answers()
+    ensures { (held : Option Files) (words : List (List ℕ)) (status : Status) (text : List ℕ)
+        → Answers held words status text → IsLoopsAnswered held words status text }
 {}
 
 /// What `verify` answers of a list of moves, and of a denial.

@@ -8,6 +8,9 @@ returns-in-Decide g c = rw c.in-Decide.is c.decide.ensures
 pub returns-in-Certify : goal.returns-in-Certify
 returns-in-Certify g c = rw c.in-Certify.is c.certify.ensures
 
+pub returns-in-Loops : goal.returns-in-Loops
+returns-in-Loops g c = rw c.in-Loops.is c.loops.ensures
+
 pub returns-in-Verify : goal.returns-in-Verify
 returns-in-Verify g c = rw c.in-Verify.is c.verify.ensures
 

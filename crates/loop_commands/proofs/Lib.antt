@@ -1,0 +1,3 @@
+pub mod LoopChecks
+pub mod LoopAnswers
+pub mod LoopOutcomes

@@ -1,0 +1,96 @@
+use Rattle.std.proofs.Common.{◌≡◌, ℕ, List, sym, subst, arith}
+use Rattle.std.specs.Prelude.{◌↔◌, Option}
+use Rattle.std.proofs.lemmas.Option.{get_or_from_slice_get}
+use Rattle.std.proofs.lemmas.Result.{err_from_is_err_and}
+use Rattle.surf_io.specs.Files.{Files}
+use Rattle.surf_model.specs.Edges.{IsTableOf}
+use Rattle.closed_walks.specs.FreeHomotopy.{FreelyFreely}
+use Rattle.free_loops.specs.declared.deciding.FreeAnswer.TheVariants.{Freely}
+use Rattle.commands.specs.Checks.{Passes}
+use Rattle.loop_commands.specs.Loops as of_loops
+use Rattle.loop_commands.specs.Loops.{free_answer, loops_in}
+use Rattle.commands.specs.Inputs.{walk_at}
+use Rattle.commands.specs.Stops.{Stops}
+use Rattle.commands.specs.declared.stop.Stop.TheVariants.{OutOfMemory}
+use Rattle.loop_commands.proofs.LoopChecks.{two_walks}
+use Rattle.loop_commands.proofs.LoopAnswers.{AreClosed, walks_of_pair, walks_stop, decision_passes}
+use Rattle.commands.proofs.Running.{memory_no_fault, only_then, runs_faulty, runs_replied, runs_stopped}
+use Rattle.loop_commands.proofs.loops.loops.Goals as goal
+
+pub returns-in_err-pair : goal.returns-in_err-pair
+returns-in_err-pair g c =
+    let held = g.S.Shelf.held in
+    let surface = c.in_ok-surface.surface in
+    let read = c.in_ok-surface.ensures.reads in
+    let stop = c.in_err-pair.field-0.0 in
+    let p = err_from_is_err_and c.from_residual-in_err-pair.result c.from_residual-in_err-pair.ensures.1 in
+    let table : IsTableOf surface.mesh c.sides.result.now = rw c.sides.ensures c.faces.ensures.valid.table in
+    let stops = c.in_err-pair.ensures.reads.end surface.mesh table in
+    rw (p.1, p.2)
+    (runs_stopped held g.S.Shelf.faults c.args.shelf.now c.read_loops.new.shelf
+    (λ files. of_loops.loops files c.args.mesh.now c.args.walks.now) (λ none. none.0.0.0) c.read_surface.new.shelf _ stop
+    read.only_reads c.in_err-pair.ensures.reads
+    (walks_stop (held c.args.shelf.now) c.args.mesh.now c.args.walks.now surface.mesh stop read.end
+    (subst (λ (files : Option Files). Stops (loops_in files c.args.walks.now surface.mesh) stop) read.only_reads.same_files stops)))
+
+pub at-requires : goal.at-requires
+at-requires g c =
+    let surface = c.in_ok-surface.surface in
+    let table : IsTableOf surface.mesh c.sides.result.now = rw c.sides.ensures c.faces.ensures.valid.table in
+    omega (arith, two_walks _ _ surface.mesh c.in_ok-pair.pair (c.in_ok-pair.ensures.reads.end surface.mesh table))
+
+pub at-requires-2 : goal.at-requires-2
+at-requires-2 g c =
+    let surface = c.in_ok-surface.surface in
+    let table : IsTableOf surface.mesh c.sides.result.now = rw c.sides.ensures c.faces.ensures.valid.table in
+    omega (arith, two_walks _ _ surface.mesh c.in_ok-pair.pair (c.in_ok-pair.ensures.reads.end surface.mesh table))
+
+-- what is known of the two walks
+walks : (g : _) (c : goal.After-at-2 g) → AreClosed c.in_ok-surface.surface.mesh c.at.result.now c.at-2.result.now
+walks g c =
+    let surface = c.in_ok-surface.surface in
+    let table : IsTableOf surface.mesh c.sides.result.now = rw c.sides.ensures c.faces.ensures.valid.table in
+    walks_of_pair surface.mesh c.in_ok-pair.pair c.at.result.now c.at-2.result.now (c.in_ok-pair.ensures.loops surface.mesh table)
+    c.at.ensures c.at-2.ensures
+
+pub decide_free-requires-clause-first : goal.decide_free-requires-clause-first
+decide_free-requires-clause-first g c = (walks g c).first_closed
+
+pub decide_free-requires-clause-second : goal.decide_free-requires-clause-second
+decide_free-requires-clause-second g c = (walks g c).second_closed
+
+pub returns-in_err-decision : goal.returns-in_err-decision
+returns-in_err-decision g c =
+    let held = g.S.Shelf.held in
+    let p = err_from_is_err_and c.from_residual-in_err-decision.result c.from_residual-in_err-decision.ensures.1 in
+    rw (p.1, p.2)
+    (runs_faulty held g.S.Shelf.faults c.args.shelf.now c.read_loops.new.shelf
+    (λ files. of_loops.loops files c.args.mesh.now c.args.walks.now) (λ none. none.0.0.0) OutOfMemory
+    (only_then held g.S.Shelf.faults c.args.shelf.now c.read_surface.new.shelf c.read_loops.new.shelf
+    c.in_ok-surface.ensures.reads.only_reads c.in_ok-pair.ensures.reads.only_reads) memory_no_fault tt)
+
+pub returns : goal.returns
+returns g c =
+    let held = g.S.Shelf.held in
+    let surface = c.in_ok-surface.surface in
+    let pair = c.in_ok-pair.pair in
+    let decision = c.in_ok-decision.decision in
+    let read = c.in_ok-surface.ensures.reads in
+    let table : IsTableOf surface.mesh c.sides.result.now = rw c.sides.ensures c.faces.ensures.valid.table in
+    let first : c.at.result.now ≡ walk_at pair 0 = sym (get_or_from_slice_get pair 0 c.at.result.now _ c.at.ensures) in
+    let second : c.at-2.result.now ≡ walk_at pair 1 = sym (get_or_from_slice_get pair 1 c.at-2.result.now _ c.at-2.ensures) in
+    let right : (decision ≡ Freely) ↔ FreelyHomotopic surface.mesh (walk_at pair 0) (walk_at pair 1) =
+    subst (λ (w : List ℕ). (decision ≡ Freely) ↔ FreelyHomotopic surface.mesh (walk_at pair 0) w) second
+    (subst (λ (w : List ℕ). (decision ≡ Freely) ↔ FreelyHomotopic surface.mesh w c.at-2.result.now) first c.in_ok-decision.ensures) in
+    runs_replied held g.S.Shelf.faults c.args.shelf.now c.read_loops.new.shelf
+    (λ files. of_loops.loops files c.args.mesh.now c.args.walks.now) (λ none. none.0.0.0) c.reply_on.result
+    (only_then held g.S.Shelf.faults c.args.shelf.now c.read_surface.new.shelf c.read_loops.new.shelf read.only_reads
+    c.in_ok-pair.ensures.reads.only_reads)
+    (record {
+      answer = free_answer decision;
+      passes =
+          decision_passes (held c.args.shelf.now) c.args.mesh.now c.args.walks.now surface.mesh pair decision read.end
+          (subst (λ (files : Option Files). Passes (loops_in files c.args.walks.now surface.mesh) pair) read.only_reads.same_files
+          (c.in_ok-pair.ensures.reads.end surface.mesh table)) right;
+      is_answer = c.reply_on.ensures;
+    })

@@ -1,0 +1,50 @@
+//! Reading the closed walks that a command is about.
+ghost use Rattle.std.specs.Prelude.{◌≡◌, IfOk};
+ghost use Rattle.surf_model.specs.FaceLists.{FaceList};
+ghost use Rattle.surf_model.specs.Edges.{IsTableOf};
+ghost use Rattle.walk_files.specs.Closed_pairs.{IsClosedPair};
+ghost use Rattle.commands.specs.Stops.{Ends, Reads, Tells};
+ghost use Rattle.loop_commands.specs.Loops.{loops_in, loops_line};
+
+use commands::{Input, Phrase, Stop, read_file, refused, refused_at_place, walks_of_bytes};
+use std::alloc::Global;
+use surf_io::Shelf;
+use surf_model::Sides;
+use walk_files::{LoopFault, WalkList, check_loops};
+
+/// Reads the two closed walks of the mesh with this table.
+pub fn read_loops<S: Shelf>(
+    alloc: Global,
+    shelf: &mut S,
+    name: &str,
+    sides: &Sides,
+) -> Result<WalkList, Stop>
+    ensures reads { Reads S.held S.faults shelf.old shelf.new
+        (λ files. (mesh : FaceList) → IsTableOf mesh sides.now → Ends (loops_in files name.now mesh) result) result }
+    ensures loops { IfOk result (λ walks. (mesh : FaceList) → IsTableOf mesh sides.now → IsClosedPair mesh walks) }
+{
+    let bytes = read_file(alloc, shelf, name, Input::Walks)?;
+    let walks = walks_of_bytes(alloc, &bytes)?;
+    match check_loops(sides, &walks) {
+        Ok(()) => Ok(walks),
+        Err(fault) => Err(stop_for(fault)),
+    }
+}
+
+/// What stops the command, where walks are not two closed walks of the mesh.
+fn stop_for(fault: LoopFault) -> Stop
+    ensures { Tells (loops_line fault) result }
+{
+    match fault {
+        LoopFault::NotTwo { count } => {
+            refused(&[Phrase::Text("walks count"), Phrase::Number(count)])
+        }
+        LoopFault::NoVertex { walk, place } => refused_at_place(walk, place, "vertex"),
+        LoopFault::NoEdge { walk, place } => refused_at_place(walk, place, "edge"),
+        LoopFault::NotClosed { walk } => refused(&[
+            Phrase::Text("walk"),
+            Phrase::Number(walk as u64),
+            Phrase::Text("open"),
+        ]),
+    }
+}
