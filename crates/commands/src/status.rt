@@ -34,3 +34,4 @@ impl Status {
         }
     }
 }
+// Temporary.

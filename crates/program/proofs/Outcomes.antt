@@ -13,9 +13,12 @@ use Rattle.commands.proofs.ReduceOutcomes.{reduced}
 use Rattle.commands.proofs.SurfaceOutcomes.{measured}
 use Rattle.commands.proofs.TrialOutcomes.{tried}
 use Rattle.commands.proofs.VerifyOutcomes.{verified, denial_verified}
+use Rattle.open_commands.proofs.OpenOutcomes.{decided_open_so, certified_open_so}
+use Rattle.open_commands.specs.CertifyOpen.{IsCertifiedOpen}
+use Rattle.open_commands.specs.DecideOpen.{IsDecidedOpen}
 use Rattle.commands.specs.Certify.{IsCertified}
 use Rattle.commands.specs.Checks.{Refuse, Pass, found_or}
-use Rattle.program.specs.Commands.{Row, Surface, Decide, Certify, Verify, Reduce, Trial, IsRow, answer_to}
+use Rattle.program.specs.Commands.{Row, Surface, Decide, Certify, DecideOpen, CertifyOpen, Verify, Reduce, Trial, IsRow, answer_to}
 use Rattle.commands.specs.Decide.{IsDecided}
 use Rattle.program.specs.Headline.{Headline}
 use Rattle.commands.specs.Outcomes.{Outcome, AnswersTo, IsAnswerOf}
@@ -63,6 +66,16 @@ pub certified_by : (files : Option Files) (words : List (List ℕ)) (status : St
     → IsCertified files words status text
 certified_by files words status text a =
     certified_so files words status text (λ mesh walks is. row_answered files words (Certify mesh walks) status text a is)
+
+pub decided_open_by : (files : Option Files) (words : List (List ℕ)) (status : Status) (text : List ℕ) → Answers files words status text
+    → IsDecidedOpen files words status text
+decided_open_by files words status text a =
+    decided_open_so files words status text (λ mesh walks is. row_answered files words (DecideOpen mesh walks) status text a is)
+
+pub certified_open_by : (files : Option Files) (words : List (List ℕ)) (status : Status) (text : List ℕ) → Answers files words status text
+    → IsCertifiedOpen files words status text
+certified_open_by files words status text a =
+    certified_open_so files words status text (λ mesh walks is. row_answered files words (CertifyOpen mesh walks) status text a is)
 
 verify_answered : (files : Option Files) (words : List (List ℕ)) (status : Status) (text : List ℕ) → Answers files words status text
     → (mesh walks certificate : List ℕ) → IsRow words (Verify mesh walks certificate)

@@ -11,7 +11,8 @@ use Rattle.commands.specs.Checks.{IsTold, found_or}
 use Rattle.commands.specs.Outcomes.{Outcome, AnswersTo}
 use Rattle.commands.specs.Refusals.{wrong_words}
 use Rattle.commands.specs.declared.status.Status.{Status}
-use Rattle.program.specs.Commands.{Row, Surface, Decide, Certify, Verify, Reduce, Trial, IsRow, answer_to}
+use Rattle.open_commands.proofs.OpenOutcomes.{sound-decide_open, sound-certify_open}
+use Rattle.program.specs.Commands.{Row, Surface, Decide, Certify, DecideOpen, CertifyOpen, Verify, Reduce, Trial, IsRow, answer_to}
 use Rattle.program.specs.Outcomes.{AllTold, Answers, IsOutcome, answer_of}
 
 -- ---- one row
@@ -21,6 +22,8 @@ abbrev keyword_of : Row → List ℕ
 keyword_of (Surface mesh) = codes "surface"
 keyword_of (Decide mesh walks) = codes "decide"
 keyword_of (Certify mesh walks) = codes "certify"
+keyword_of (DecideOpen mesh walks) = codes "decide-open"
+keyword_of (CertifyOpen mesh walks) = codes "certify-open"
 keyword_of (Verify mesh walks certificate) = codes "verify"
 keyword_of (Reduce degree list) = codes "reduce"
 keyword_of (Trial genus grid) = codes "trial"
@@ -38,6 +41,8 @@ unfolding first_word
 keyword-row words (Surface mesh) p = ap first_word p
 keyword-row words (Decide mesh walks) p = ap first_word p
 keyword-row words (Certify mesh walks) p = ap first_word p
+keyword-row words (DecideOpen mesh walks) p = ap first_word p
+keyword-row words (CertifyOpen mesh walks) p = ap first_word p
 keyword-row words (Verify mesh walks certificate) p = ap first_word p
 keyword-row words (Reduce degree list) p = ap first_word p.1
 keyword-row words (Trial genus grid) p = ap first_word p.2
@@ -52,6 +57,8 @@ unfolding value
 one_row words (Surface a) (Surface b) p q = cc
 one_row words (Decide a b) (Decide c d) p q = cc
 one_row words (Certify a b) (Certify c d) p q = cc
+one_row words (DecideOpen a b) (DecideOpen c d) p q = cc
+one_row words (CertifyOpen a b) (CertifyOpen c d) p q = cc
 one_row words (Verify a b c) (Verify d e f) p q = cc
 one_row words (Reduce a b) (Reduce c d) p q = cc
 one_row words (Trial a b) (Trial c d) p q = cc
@@ -63,6 +70,8 @@ sound-row : (held : Option Files) (row : Row) → IsSound held (answer_to held r
 sound-row held (Surface mesh) = sound-surface held mesh
 sound-row held (Decide mesh walks) = sound-decide held mesh walks
 sound-row held (Certify mesh walks) = sound-certify held mesh walks
+sound-row held (DecideOpen mesh walks) = sound-decide_open held mesh walks
+sound-row held (CertifyOpen mesh walks) = sound-certify_open held mesh walks
 sound-row held (Verify mesh walks certificate) = sound-verify held mesh walks certificate
 sound-row held (Reduce degree list) = sound-reduce held degree list
 sound-row held (Trial genus grid) = sound-trial held genus grid

@@ -11,6 +11,8 @@ use commands::surface::measure;
 use commands::trial::trial;
 use commands::verify::verify;
 use commands::{Reply, Stop};
+use open_commands::certify_open::certify_open;
+use open_commands::decide_open::decide_open;
 use std::alloc::Global;
 use surf_io::Shelf;
 
@@ -28,6 +30,16 @@ pub enum Command<'a> {
     },
     /// `certify FILE WALKS`
     Certify {
+        mesh: &'a str,
+        walks: &'a str,
+    },
+    /// `decide-open FILE WALKS`
+    DecideOpen {
+        mesh: &'a str,
+        walks: &'a str,
+    },
+    /// `certify-open FILE WALKS`
+    CertifyOpen {
         mesh: &'a str,
         walks: &'a str,
     },
@@ -67,6 +79,14 @@ pub fn read_command(words: &Vec<String>) -> Option<Command<'_>>
             mesh: mesh.as_str(),
             walks: walks.as_str(),
         }),
+        ("decide-open", [mesh, walks]) => Some(Command::DecideOpen {
+            mesh: mesh.as_str(),
+            walks: walks.as_str(),
+        }),
+        ("certify-open", [mesh, walks]) => Some(Command::CertifyOpen {
+            mesh: mesh.as_str(),
+            walks: walks.as_str(),
+        }),
         ("verify", [mesh, walks, certificate]) => Some(Command::Verify {
             mesh: mesh.as_str(),
             walks: walks.as_str(),
@@ -92,6 +112,8 @@ pub fn answer<S: Shelf>(alloc: Global, shelf: &mut S, command: Command<'_>) -> R
         Command::Surface { mesh } => measure(alloc, shelf, mesh),
         Command::Decide { mesh, walks } => decide(alloc, shelf, mesh, walks),
         Command::Certify { mesh, walks } => certify(alloc, shelf, mesh, walks),
+        Command::DecideOpen { mesh, walks } => decide_open(alloc, shelf, mesh, walks),
+        Command::CertifyOpen { mesh, walks } => certify_open(alloc, shelf, mesh, walks),
         Command::Verify {
             mesh,
             walks,

@@ -8,6 +8,12 @@ returns-in-Decide g c = rw c.in-Decide.is c.decide.ensures
 pub returns-in-Certify : goal.returns-in-Certify
 returns-in-Certify g c = rw c.in-Certify.is c.certify.ensures
 
+pub returns-in-DecideOpen : goal.returns-in-DecideOpen
+returns-in-DecideOpen g c = rw c.in-DecideOpen.is c.decide_open.ensures
+
+pub returns-in-CertifyOpen : goal.returns-in-CertifyOpen
+returns-in-CertifyOpen g c = rw c.in-CertifyOpen.is c.certify_open.ensures.runs
+
 pub returns-in-Verify : goal.returns-in-Verify
 returns-in-Verify g c = rw c.in-Verify.is c.verify.ensures
 
