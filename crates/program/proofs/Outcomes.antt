@@ -17,7 +17,10 @@ use Rattle.loop_commands.proofs.LoopOutcomes.{loops_so}
 use Rattle.loop_commands.specs.Loops.{IsLoopsAnswered}
 use Rattle.commands.specs.Certify.{IsCertified}
 use Rattle.commands.specs.Checks.{Refuse, Pass, found_or}
-use Rattle.program.specs.Commands.{Row, Surface, Decide, Certify, Loops, Verify, Reduce, Trial, IsRow, answer_to}
+use Rattle.open_commands.proofs.OpenOutcomes.{decided_open_so, certified_open_so}
+use Rattle.open_commands.specs.CertifyOpen.{IsCertifiedOpen}
+use Rattle.open_commands.specs.DecideOpen.{IsDecidedOpen}
+use Rattle.program.specs.Commands.{Row, Surface, Decide, Certify, Loops, DecideOpen, CertifyOpen, Verify, Reduce, Trial, IsRow, answer_to}
 use Rattle.commands.specs.Decide.{IsDecided}
 use Rattle.program.specs.Headline.{Headline}
 use Rattle.commands.specs.Outcomes.{Outcome, AnswersTo, IsAnswerOf}
@@ -70,6 +73,16 @@ pub loops_by : (files : Option Files) (words : List (List ℕ)) (status : Status
     → IsLoopsAnswered files words status text
 loops_by files words status text a =
     loops_so files words status text (λ mesh walks is. row_answered files words (Loops mesh walks) status text a is)
+
+pub decided_open_by : (files : Option Files) (words : List (List ℕ)) (status : Status) (text : List ℕ) → Answers files words status text
+    → IsDecidedOpen files words status text
+decided_open_by files words status text a =
+    decided_open_so files words status text (λ mesh walks is. row_answered files words (DecideOpen mesh walks) status text a is)
+
+pub certified_open_by : (files : Option Files) (words : List (List ℕ)) (status : Status) (text : List ℕ) → Answers files words status text
+    → IsCertifiedOpen files words status text
+certified_open_by files words status text a =
+    certified_open_so files words status text (λ mesh walks is. row_answered files words (CertifyOpen mesh walks) status text a is)
 
 verify_answered : (files : Option Files) (words : List (List ℕ)) (status : Status) (text : List ℕ) → Answers files words status text
     → (mesh walks certificate : List ℕ) → IsRow words (Verify mesh walks certificate)

@@ -1,6 +1,6 @@
 -- What `certify` prints spells its certificate again, and `verify` accepts it.
 use Rattle.std.proofs.Common.{◌≡◌, ℕ, ◌≤◌, List, length, sym, subst, arith}
-use Rattle.std.specs.Prelude.{Option, Some, None, IsSomeAnd}
+use Rattle.std.specs.Prelude.{codes, Option, Some, None, IsSomeAnd}
 use Rattle.surf_io.specs.Files.{Files, file_of}
 use Rattle.surf_model.specs.FaceLists.{FaceList}
 use Rattle.commands.proofs.Accepting.{accepted, spelled}
@@ -13,6 +13,13 @@ use Rattle.commands.specs.Verify.{IsVerifyInput}
 use Rattle.commands.specs.declared.certificate.Certificate.{Certificate}
 use Rattle.commands.specs.declared.inputs.TheConstants.{MOST_BYTES}
 use Rattle.commands.specs.declared.status.Status.{Status}
+use Rattle.commands.specs.declared.certificate.Certificate.TheVariants.{Moves}
+use Rattle.free_forms.specs.PeakedLists.{IsWithin}
+use Rattle.free_forms.specs.declared.limits.TheConstants.{MOST_OPEN_STEPS}
+use Rattle.open_commands.proofs.ShortTexts.{text_short}
+use Rattle.open_commands.specs.CertifyOpen.{IsListPrinted}
+use Rattle.open_commands.specs.OpenPairs as open_limits
+use Rattle.open_commands.specs.OpenPairs.{IsOpenInput}
 use Rattle.program.proofs.Rows.{row_ends}
 use Rattle.program.specs.Commands.{Verify}
 use Rattle.program.specs.PrintedCertificates.{IsVerifyOfText, IsAccepted}
@@ -55,5 +62,29 @@ printed_accepted files words mesh first second status text input limits printed 
       accepted = λ others commands outcome end answer h is told.
           accepted others commands mesh first second printed.shown outcome end answer printed.convinces
           (verify_input others commands mesh first second text printed.shown spells h)
+          (row_ends others commands (Verify h.mesh_name h.walks_name h.certificate_name) outcome h.words_are is) told;
+    }
+
+-- a list of `certify-open`, which is short
+pub printed_list_accepted : (files : Option Files) (words : List (List ℕ)) (mesh : FaceList) (first second : List ℕ) (status : Status)
+    (text : List ℕ) → IsOpenInput (codes "certify-open") files words mesh first second → open_limits.IsWithinLimits mesh first second
+    → (printed : IsListPrinted mesh first second status text) → IsWithin MOST_OPEN_STEPS printed.list
+    → IsAccepted mesh first second (Moves printed.list) text
+unfolding verify_input
+printed_list_accepted files words mesh first second status text input limits printed within =
+    let off = held files input.mesh_name (SpellsMesh mesh) input.mesh_file in
+    let pair = (held files input.walks_name (SpellsPair mesh first second) input.walks_file).holds in
+    let valid = is_face_list off.bytes mesh off.holds in
+    let short = text_short mesh first second printed.list valid limits.sides pair.first_walk
+    (record { leads = printed.convinces.leads; peak = printed.convinces.peak }) within in
+    let own : SpellsCertificate (Moves printed.list) (certificate_text (Moves printed.list)) =
+    spelled mesh first second (Moves printed.list) valid pair.first_walk (omega (arith, limits.few)) (omega (arith, limits.few))
+    printed.convinces (omega (arith, within.peak)) (omega (arith, short)) in
+    let spells : SpellsCertificate (Moves printed.list) text = subst (SpellsCertificate (Moves printed.list)) (sym printed.text_is) own in
+    record {
+      spells = spells;
+      accepted = λ others commands outcome end answer h is told.
+          accepted others commands mesh first second (Moves printed.list) outcome end answer printed.convinces
+          (verify_input others commands mesh first second text (Moves printed.list) spells h)
           (row_ends others commands (Verify h.mesh_name h.walks_name h.certificate_name) outcome h.words_are is) told;
     }

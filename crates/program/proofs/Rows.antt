@@ -12,7 +12,8 @@ use Rattle.commands.specs.Checks.{IsTold, found_or}
 use Rattle.commands.specs.Outcomes.{Outcome, AnswersTo}
 use Rattle.commands.specs.Refusals.{wrong_words}
 use Rattle.commands.specs.declared.status.Status.{Status}
-use Rattle.program.specs.Commands.{Row, Surface, Decide, Certify, Loops, Verify, Reduce, Trial, IsRow, answer_to}
+use Rattle.open_commands.proofs.OpenOutcomes.{sound-decide_open, sound-certify_open}
+use Rattle.program.specs.Commands.{Row, Surface, Decide, Certify, Loops, DecideOpen, CertifyOpen, Verify, Reduce, Trial, IsRow, answer_to}
 use Rattle.program.specs.Outcomes.{AllTold, Answers, IsOutcome, answer_of}
 
 -- ---- one row
@@ -23,6 +24,8 @@ keyword_of (Surface mesh) = codes "surface"
 keyword_of (Decide mesh walks) = codes "decide"
 keyword_of (Certify mesh walks) = codes "certify"
 keyword_of (Loops mesh walks) = codes "loops"
+keyword_of (DecideOpen mesh walks) = codes "decide-open"
+keyword_of (CertifyOpen mesh walks) = codes "certify-open"
 keyword_of (Verify mesh walks certificate) = codes "verify"
 keyword_of (Reduce degree list) = codes "reduce"
 keyword_of (Trial genus grid) = codes "trial"
@@ -41,6 +44,8 @@ keyword-row words (Surface mesh) p = ap first_word p
 keyword-row words (Decide mesh walks) p = ap first_word p
 keyword-row words (Certify mesh walks) p = ap first_word p
 keyword-row words (Loops mesh walks) p = ap first_word p
+keyword-row words (DecideOpen mesh walks) p = ap first_word p
+keyword-row words (CertifyOpen mesh walks) p = ap first_word p
 keyword-row words (Verify mesh walks certificate) p = ap first_word p
 keyword-row words (Reduce degree list) p = ap first_word p.1
 keyword-row words (Trial genus grid) p = ap first_word p.2
@@ -56,6 +61,8 @@ one_row words (Surface a) (Surface b) p q = cc
 one_row words (Decide a b) (Decide c d) p q = cc
 one_row words (Certify a b) (Certify c d) p q = cc
 one_row words (Loops a b) (Loops c d) p q = cc
+one_row words (DecideOpen a b) (DecideOpen c d) p q = cc
+one_row words (CertifyOpen a b) (CertifyOpen c d) p q = cc
 one_row words (Verify a b c) (Verify d e f) p q = cc
 one_row words (Reduce a b) (Reduce c d) p q = cc
 one_row words (Trial a b) (Trial c d) p q = cc
@@ -68,6 +75,8 @@ sound-row held (Surface mesh) = sound-surface held mesh
 sound-row held (Decide mesh walks) = sound-decide held mesh walks
 sound-row held (Certify mesh walks) = sound-certify held mesh walks
 sound-row held (Loops mesh walks) = sound-loops held mesh walks
+sound-row held (DecideOpen mesh walks) = sound-decide_open held mesh walks
+sound-row held (CertifyOpen mesh walks) = sound-certify_open held mesh walks
 sound-row held (Verify mesh walks certificate) = sound-verify held mesh walks certificate
 sound-row held (Reduce degree list) = sound-reduce held degree list
 sound-row held (Trial genus grid) = sound-trial held genus grid

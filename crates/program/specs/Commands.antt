@@ -10,6 +10,8 @@ use Rattle.commands.specs.Surface.{surface}
 use Rattle.commands.specs.Trial.{trial, IsTrialRow}
 use Rattle.commands.specs.Verify.{verify}
 use Rattle.loop_commands.specs.Loops.{loops}
+use Rattle.open_commands.specs.CertifyOpen.{certify_open}
+use Rattle.open_commands.specs.DecideOpen.{decide_open}
 use Rattle.program.specs.declared.command.Command.{Command}
 use Rattle.program.specs.declared.command.Command.TheVariants as read
 
@@ -19,6 +21,8 @@ pub data Row : Type 0 where
   Decide : (mesh walks : List ℕ) → Row
   Certify : (mesh walks : List ℕ) → Row
   Loops : (mesh walks : List ℕ) → Row
+  DecideOpen : (mesh walks : List ℕ) → Row
+  CertifyOpen : (mesh walks : List ℕ) → Row
   Verify : (mesh walks certificate : List ℕ) → Row
   Reduce : (degree : ℕ) (list : List ℕ) → Row
   Trial : (genus grid : ℕ) → Row
@@ -29,6 +33,8 @@ IsRow words (Surface mesh) = words ≡ codes "surface" ∷ mesh ∷ []
 IsRow words (Decide mesh walks) = words ≡ codes "decide" ∷ mesh ∷ walks ∷ []
 IsRow words (Certify mesh walks) = words ≡ codes "certify" ∷ mesh ∷ walks ∷ []
 IsRow words (Loops mesh walks) = words ≡ codes "loops" ∷ mesh ∷ walks ∷ []
+IsRow words (DecideOpen mesh walks) = words ≡ codes "decide-open" ∷ mesh ∷ walks ∷ []
+IsRow words (CertifyOpen mesh walks) = words ≡ codes "certify-open" ∷ mesh ∷ walks ∷ []
 IsRow words (Verify mesh walks certificate) = words ≡ codes "verify" ∷ mesh ∷ walks ∷ certificate ∷ []
 IsRow words (Reduce degree list) = IsReduceRow words degree list
 IsRow words (Trial genus grid) = IsTrialRow words genus grid
@@ -39,6 +45,8 @@ row_of (read.Surface mesh) = Surface mesh.now
 row_of (read.Decide mesh walks) = Decide mesh.now walks.now
 row_of (read.Certify mesh walks) = Certify mesh.now walks.now
 row_of (read.Loops mesh walks) = Loops mesh.now walks.now
+row_of (read.DecideOpen mesh walks) = DecideOpen mesh.now walks.now
+row_of (read.CertifyOpen mesh walks) = CertifyOpen mesh.now walks.now
 row_of (read.Verify mesh walks certificate) = Verify mesh.now walks.now certificate.now
 row_of (read.Reduce degree list) = Reduce degree list.now
 row_of (read.Trial genus grid) = Trial genus grid
@@ -49,6 +57,8 @@ answer_to held (Surface mesh) = surface held mesh
 answer_to held (Decide mesh walks) = decide held mesh walks
 answer_to held (Certify mesh walks) = certify held mesh walks
 answer_to held (Loops mesh walks) = loops held mesh walks
+answer_to held (DecideOpen mesh walks) = decide_open held mesh walks
+answer_to held (CertifyOpen mesh walks) = certify_open held mesh walks
 answer_to held (Verify mesh walks certificate) = verify held mesh walks certificate
 answer_to held (Reduce degree list) = reduce held degree list
 answer_to held (Trial genus grid) = trial genus grid

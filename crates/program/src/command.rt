@@ -12,6 +12,8 @@ use commands::trial::trial;
 use commands::verify::verify;
 use commands::{Reply, Stop};
 use loop_commands::loops::loops;
+use open_commands::certify_open::certify_open;
+use open_commands::decide_open::decide_open;
 use std::alloc::Global;
 use surf_io::Shelf;
 
@@ -34,6 +36,13 @@ pub enum Command<'a> {
     },
     /// `loops FILE WALKS`
     Loops {
+    /// `decide-open FILE WALKS`
+    DecideOpen {
+        mesh: &'a str,
+        walks: &'a str,
+    },
+    /// `certify-open FILE WALKS`
+    CertifyOpen {
         mesh: &'a str,
         walks: &'a str,
     },
@@ -74,6 +83,11 @@ pub fn read_command(words: &Vec<String>) -> Option<Command<'_>>
             walks: walks.as_str(),
         }),
         ("loops", [mesh, walks]) => Some(Command::Loops {
+        ("decide-open", [mesh, walks]) => Some(Command::DecideOpen {
+            mesh: mesh.as_str(),
+            walks: walks.as_str(),
+        }),
+        ("certify-open", [mesh, walks]) => Some(Command::CertifyOpen {
             mesh: mesh.as_str(),
             walks: walks.as_str(),
         }),
@@ -103,6 +117,8 @@ pub fn answer<S: Shelf>(alloc: Global, shelf: &mut S, command: Command<'_>) -> R
         Command::Decide { mesh, walks } => decide(alloc, shelf, mesh, walks),
         Command::Certify { mesh, walks } => certify(alloc, shelf, mesh, walks),
         Command::Loops { mesh, walks } => loops(alloc, shelf, mesh, walks),
+        Command::DecideOpen { mesh, walks } => decide_open(alloc, shelf, mesh, walks),
+        Command::CertifyOpen { mesh, walks } => certify_open(alloc, shelf, mesh, walks),
         Command::Verify {
             mesh,
             walks,

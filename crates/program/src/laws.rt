@@ -1,6 +1,6 @@
 //! What is promised of answers, said of the definitions: the headline first, then what each command is for. A call of one of these
 //! functions does nothing; its contract is the law. `run` says of each answer that it is one of `Answers`.
-ghost use Rattle.std.specs.Prelude.{◌≡◌, ℕ, ◌≤◌, List, length, Ok, Option};
+ghost use Rattle.std.specs.Prelude.{◌≡◌, ℕ, ◌≤◌, List, codes, length, Ok, Option};
 ghost use Rattle.surf_io.specs.Files.{Files};
 ghost use Rattle.surf_model.specs.FaceLists.{FaceList};
 ghost use Rattle.off_reader.specs.OffTexts.{meaning_of};
@@ -17,8 +17,14 @@ ghost use Rattle.program.specs.PrintedCertificates.{IsAccepted};
 ghost use Rattle.commands.specs.Reduce.{IsReduced};
 ghost use Rattle.commands.specs.Surface.{IsMeasured};
 ghost use Rattle.commands.specs.Trial.{IsTried};
+ghost use Rattle.open_commands.specs.CertifyOpen.{IsCertifiedOpen, IsListPrinted};
+ghost use Rattle.open_commands.specs.DecideOpen.{IsDecidedOpen};
+ghost use Rattle.open_commands.specs.OpenPairs.{IsOpenInput, IsWithinLimits as IsWithinOpenLimits};
 ghost use Rattle.commands.specs.Verify.{IsVerified, IsDenialVerified};
 ghost use Rattle.loop_commands.specs.Loops.{IsLoopsAnswered};
+ghost use Rattle.free_forms.specs.PeakedLists.{IsWithin};
+ghost use Rattle.free_forms.specs.declared.limits.TheConstants.{MOST_OPEN_STEPS};
+ghost use Rattle.commands.specs.declared.certificate.Certificate.{Certificate};
 ghost use Rattle.commands.specs.declared.inputs.TheConstants.{MOST_BYTES};
 ghost use Rattle.commands.specs.declared.status.Status.{Status};
 
@@ -50,6 +56,16 @@ pub fn certify_answers()
 pub fn loops_answers()
     ensures { (held : Option Files) (words : List (List ℕ)) (status : Status) (text : List ℕ)
         → Answers held words status text → IsLoopsAnswered held words status text }
+/// What `decide-open` answers of two walks of a surface with boundary.
+pub fn decide_open_answers()
+    ensures { (held : Option Files) (words : List (List ℕ)) (status : Status) (text : List ℕ)
+        → Answers held words status text → IsDecidedOpen held words status text }
+{}
+
+/// What `certify-open` answers of two walks of a surface with boundary.
+pub fn certify_open_answers()
+    ensures { (held : Option Files) (words : List (List ℕ)) (status : Status) (text : List ℕ)
+        → Answers held words status text → IsCertifiedOpen held words status text }
 {}
 
 /// What `verify` answers of a list of moves, and of a denial.
@@ -95,4 +111,13 @@ pub fn printed_certificates_are_accepted()
         → IsCertifyInput held words mesh first second → IsWithinLimits mesh first second
         → (printed : IsCertificatePrinted mesh first second status text) → IsPeakRead printed.shown → length text ≤ MOST_BYTES
         → IsAccepted mesh first second printed.shown text }
+{}
+
+/// What `certify-open` prints of a list is, as it is, a certificate that `verify` accepts on the same mesh and walks, where its moves and
+/// its peak are within the clause `short` of `certify_open`, which each reply of it meets.
+pub fn printed_lists_are_accepted()
+    ensures { (held : Option Files) (words : List (List ℕ)) (mesh : FaceList) (first second : List ℕ) (status : Status) (text : List ℕ)
+        → IsOpenInput (codes "certify-open") held words mesh first second → IsWithinOpenLimits mesh first second
+        → (printed : IsListPrinted mesh first second status text) → IsWithin MOST_OPEN_STEPS printed.list
+        → IsAccepted mesh first second (Certificate.Moves printed.list) text }
 {}

@@ -11,6 +11,12 @@ returns-in-Certify g c = rw c.in-Certify.is c.certify.ensures
 pub returns-in-Loops : goal.returns-in-Loops
 returns-in-Loops g c = rw c.in-Loops.is c.loops.ensures
 
+pub returns-in-DecideOpen : goal.returns-in-DecideOpen
+returns-in-DecideOpen g c = rw c.in-DecideOpen.is c.decide_open.ensures
+
+pub returns-in-CertifyOpen : goal.returns-in-CertifyOpen
+returns-in-CertifyOpen g c = rw c.in-CertifyOpen.is c.certify_open.ensures.runs
+
 pub returns-in-Verify : goal.returns-in-Verify
 returns-in-Verify g c = rw c.in-Verify.is c.verify.ensures
 

@@ -1,0 +1,4 @@
+pub mod ShortTexts
+pub mod OpenInputs
+pub mod OpenOutcomes
+pub mod Listing

@@ -1,0 +1,253 @@
+-- How the checks of an open surface and of walks of it end.
+use Rattle.std.proofs.Common.{◌≡◌, ◌⊎◌, inl, inr, ℕ, ◌+◌, ◌<◌, ◌≤◌, Bool, true, false, List, [], ◌∷◌, codes, decimal, length, refl, sym, ap, ◌∙◌, subst, arith}
+use Rattle.std.specs.Prelude.{Option, Some, None, Result, Ok, Err, IfOk, MatchResult, nat_lt, slice_get, if◌then◌else◌}
+use Rattle.std.proofs.lemmas.Bool.Decides.{nat_tests}
+use Rattle.surf_io.specs.Calls.{OnlyReads}
+use Rattle.surf_io.specs.Files.{Files}
+use Rattle.surf_model.specs.FaceLists.{FaceList, IsFaceList, total_sides}
+use Rattle.surf_model.specs.Surfaces.{IsOrientable}
+use Rattle.surf_model.specs.Walks.{darts}
+use Rattle.free_forms.specs.OpenFaults.{IsFirstFault}
+use Rattle.free_forms.specs.OpenSurfaces.{IsOpenSurface}
+use Rattle.free_forms.specs.Parents.{OpenView}
+use Rattle.free_forms.specs.declared.fault.OpenFault.{OpenFault}
+use Rattle.free_forms.specs.declared.fault.OpenFault.TheVariants.{OutOfMemory}
+use Rattle.free_forms.specs.declared.limits.TheConstants.{MOST_OPEN_SIDES, MOST_OPEN_DARTS}
+use Rattle.free_forms.proofs.FaultLemmas.{one_fault, no_fault}
+use Rattle.free_forms.proofs.OutcomeLemmas.{open_or_fault}
+use Rattle.std.proofs.lemmas.Option.{get_or_from_slice_get}
+use Rattle.commands.proofs.Deciding.{AreWalks, walks_of_pair}
+use Rattle.open_commands.specs.declared.open_pair.OpenPair.{OpenPair}
+use Rattle.commands.proofs.Checking.{stops_first, stops_next, told_stops, memory_stops}
+use Rattle.commands.proofs.MeshTexts.{mesh_valid}
+use Rattle.commands.proofs.Rows.{sound-mesh, sound-pair, mesh_passes, meant_told, unless_told, pair_told}
+use Rattle.commands.proofs.Running.{only_then}
+use Rattle.commands.proofs.Sound.{IsSound, sound-then, sound-pass_unless}
+use Rattle.commands.proofs.Surfaces.{sound-orientable}
+use Rattle.off_reader.specs.OffTexts.{meaning_of}
+use Rattle.commands.specs.Answers.{Answer, Exactly}
+use Rattle.commands.specs.Checks.{Check, End, Refuse, Pass, Passes, Holds, IsTold, pass_unless, ◌>>=◌}
+use Rattle.commands.specs.Inputs.{mesh_in, pair_in, walk_at, SpellsMesh}
+use Rattle.commands.specs.Refusals.{told, off_line}
+use Rattle.commands.specs.Replies.{Runs}
+use Rattle.commands.specs.Stops.{Reads, Stops, Tells}
+use Rattle.commands.specs.SurfaceInput.{orientable}
+use Rattle.commands.specs.declared.stop.Stop.{Stop}
+use Rattle.commands.specs.declared.stop.Stop.TheVariants.{ReadFault}
+use Rattle.open_commands.specs.OpenInput.{open_line, open_surface, as_open_surface, open_surface_in}
+use Rattle.open_commands.specs.OpenPairs.{IsOpenPair, IsWithinLimits, Question, question, limit_fault, sides_line, darts_line, open_pair_in}
+
+-- ---- the surface
+
+one_open : (mesh : FaceList) (a b : End FaceList) → (open_surface mesh).Ends a → (open_surface mesh).Ends b → a ≡ b
+one_open mesh (Refuse r) (Refuse s) p q = let same = one_fault mesh p.0 q.0 p.1 q.1 in cc (same, p.2, q.2)
+one_open mesh (Refuse r) (Pass y) p q = absurd (no_fault mesh p.0 q.0 p.1)
+one_open mesh (Pass x) (Refuse s) p q = absurd (no_fault mesh q.0 p.0 q.1)
+one_open mesh (Pass x) (Pass y) p q = cc (p.1, q.1)
+
+sound-open : (held : Option Files) (mesh : FaceList) → IsFaceList mesh → IsSound held (open_surface mesh)
+sound-open held mesh valid =
+    record {
+      some = λ none.
+          open_or_fault mesh valid (λ is. none (Pass mesh) (is, refl)) (λ fault is. none (Refuse (open_line fault)) (fault, is, refl));
+      one = λ _ a b p q. one_open mesh a b p q;
+    }
+
+pub sound-open_surface_in : (held : Option Files) (name : List ℕ) → IsSound held (open_surface_in held name)
+sound-open_surface_in held name =
+    sound-then held _ _ (sound-mesh held name)
+    (λ mesh h. sound-then held _ _ (sound-open held mesh (mesh_valid held name mesh h)) (λ surface _. sound-orientable held surface))
+
+-- a fault of the mesh, or want of memory
+pub fault_stops : (mesh : FaceList) (fault : OpenFault) (stop : Stop) → (fault ≡ OutOfMemory) ⊎ IsFirstFault mesh fault
+    → Tells (open_line fault) stop → Stops (open_surface mesh) stop
+fault_stops mesh fault stop (inl wanting) h =
+    memory_stops (open_surface mesh) stop (subst (λ (f : OpenFault). Tells (open_line f) stop) wanting h)
+fault_stops mesh fault stop (inr is) h = told_stops (open_line fault) (open_surface mesh) stop (fault, is, refl) h
+
+pub turned_stop : (mesh : FaceList) (stop : Stop) → Passes (open_surface mesh) mesh → Stops (orientable mesh) stop
+    → Stops (as_open_surface mesh) stop
+turned_stop mesh stop p h = stops_next (open_surface mesh) orientable mesh stop p h
+
+-- the surface of a file, by that of its mesh
+pub surface_end : (held : Option Files) (name : List ℕ) (mesh : FaceList) (result : Result OpenView Stop) → Passes (mesh_in held name) mesh
+    → IfOk result (λ surface. surface.mesh ≡ mesh)
+    → MatchResult result (λ _. Passes (as_open_surface mesh) mesh) (Stops (as_open_surface mesh))
+    → MatchResult result (λ surface. Passes (open_surface_in held name) surface.mesh) (Stops (open_surface_in held name))
+surface_end held name mesh (Ok surface) p same h = subst (Passes (open_surface_in held name)) (sym same) (inr (mesh, p, h))
+surface_end held name mesh (Err stop) p same h = stops_next (mesh_in held name) as_open_surface mesh stop p h
+
+-- a file that spells an open surface passes it, and is told
+pub spelled_open : (files : Option Files) (name : List ℕ) (mesh : FaceList) → Holds files name (SpellsMesh mesh) → IsOpenSurface mesh
+    → IsOrientable mesh → Passes (open_surface_in files name) mesh
+spelled_open files name mesh h is oriented =
+    inr (mesh, mesh_passes files name mesh h, inr (mesh, (is, refl), (oriented, refl)))
+
+pub open_told : (files : Option Files) (name : List ℕ) → IsTold files name → (open_surface_in files name).EachFile (IsTold files)
+open_told files name told = ((told, λ bytes _. meant_told files off_line (meaning_of bytes)), λ _ _. (tt, λ _ _. tt))
+
+-- ---- the limits
+
+-- the refusals, by the numbers that were counted
+pub sides_over : (mesh : FaceList) (first second : List ℕ) (sides : ℕ) (stop : Stop) → sides ≡ total_sides mesh → MOST_OPEN_SIDES < sides
+    → Tells (told (codes "open sides" ∷ decimal sides ∷ [])) stop
+    → (line : List ℕ) × (limit_fault mesh first second ≡ Some line) × Tells (Exactly line) stop
+sides_over mesh first second sides stop is many h =
+    let test : nat_lt MOST_OPEN_SIDES (total_sides mesh) ≡ true = grind (arith, nat_tests) in
+    (sides_line mesh, rw test refl, subst (λ (n : ℕ). Tells (told (codes "open sides" ∷ decimal n ∷ [])) stop) is h)
+
+pub darts_over : (mesh : FaceList) (first second : List ℕ) (sides number : ℕ) (stop : Stop) → sides ≡ total_sides mesh
+    → sides ≤ MOST_OPEN_SIDES → number ≡ darts first + darts second → MOST_OPEN_DARTS < number
+    → Tells (told (codes "open darts" ∷ decimal number ∷ [])) stop
+    → (line : List ℕ) × (limit_fault mesh first second ≡ Some line) × Tells (Exactly line) stop
+darts_over mesh first second sides number stop is few number_is many h =
+    let short : nat_lt MOST_OPEN_SIDES (total_sides mesh) ≡ false = grind (arith, nat_tests) in
+    let test : nat_lt MOST_OPEN_DARTS (darts first + darts second) ≡ true = grind (arith, nat_tests) in (
+      darts_line first second,
+      rw (short, test) refl,
+      subst (λ (n : ℕ). Tells (told (codes "open darts" ∷ decimal n ∷ [])) stop) number_is h,
+    )
+
+pub none_over : (mesh : FaceList) (first second : List ℕ) → total_sides mesh ≤ MOST_OPEN_SIDES
+    → darts first + darts second ≤ MOST_OPEN_DARTS → limit_fault mesh first second ≡ None
+none_over mesh first second few short =
+    let sides : nat_lt MOST_OPEN_SIDES (total_sides mesh) ≡ false = grind (arith, nat_tests) in
+    let darts : nat_lt MOST_OPEN_DARTS (darts first + darts second) ≡ false = grind (arith, nat_tests) in
+    rw (sides, darts) refl
+
+pub side_limit : (mesh : FaceList) (first second : List ℕ) → MOST_OPEN_SIDES < total_sides mesh
+    → limit_fault mesh first second ≡ Some (sides_line mesh)
+side_limit mesh first second many =
+    let sides : nat_lt MOST_OPEN_SIDES (total_sides mesh) ≡ true = grind (arith, nat_tests) in
+    rw sides refl
+
+pub dart_limit : (mesh : FaceList) (first second : List ℕ) → total_sides mesh ≤ MOST_OPEN_SIDES
+    → MOST_OPEN_DARTS < darts first + darts second → limit_fault mesh first second ≡ Some (darts_line first second)
+dart_limit mesh first second few many =
+    let sides : nat_lt MOST_OPEN_SIDES (total_sides mesh) ≡ false = grind (arith, nat_tests) in
+    let long : nat_lt MOST_OPEN_DARTS (darts first + darts second) ≡ true = grind (arith, nat_tests) in
+    rw (sides, long) refl
+
+-- the limits of a pair that passes them
+pub allowed : (mesh : FaceList) (first second : List ℕ) → limit_fault mesh first second ≡ None → IsWithinLimits mesh first second
+allowed mesh first second e = by_sides (nat_lt MOST_OPEN_SIDES (total_sides mesh)) refl e
+  where
+    by_darts : (b : Bool) → nat_lt MOST_OPEN_DARTS (darts first + darts second) ≡ b
+        → (if b then Some (darts_line first second) else None) ≡ None → darts first + darts second ≤ MOST_OPEN_DARTS
+    by_darts true t f = cc
+    by_darts false t f = grind (arith, nat_tests)
+
+    by_sides : (b : Bool) → nat_lt MOST_OPEN_SIDES (total_sides mesh) ≡ b
+        → (if b then Some (sides_line mesh)
+        else if nat_lt MOST_OPEN_DARTS (darts first + darts second) then Some (darts_line first second) else None) ≡ None
+        → IsWithinLimits mesh first second
+    by_sides true t f = cc
+    by_sides false t f =
+        record {
+          sides = grind (arith, nat_tests);
+          few = by_darts (nat_lt MOST_OPEN_DARTS (darts first + darts second)) refl f;
+        }
+
+-- ---- the surface and the walks
+
+-- what is looked at behind the surface, and behind the walks
+abbrev pub limited : FaceList → List (List ℕ) → Check Question
+limited surface pair = pass_unless (λ line. Exactly line) (limit_fault surface (walk_at pair 0) (walk_at pair 1)) (question surface pair)
+
+abbrev pub after_surface : Option Files → List ℕ → FaceList → Check Question
+after_surface held walks surface = pair_in held walks surface >>= limited surface
+
+pub sound-open_pair_in : (held : Option Files) (mesh walks : List ℕ) → IsSound held (open_pair_in held mesh walks)
+sound-open_pair_in held mesh walks =
+    sound-then held _ _ (sound-open_surface_in held mesh)
+    (λ surface _. sound-then held _ _ (sound-pair held walks surface)
+    (λ pair _. sound-pass_unless held (λ line. Exactly line) (limit_fault surface (walk_at pair 0) (walk_at pair 1))
+    (question surface pair)))
+
+pub pair_files_told : (held : Option Files) (mesh walks : List ℕ) → IsTold held mesh → IsTold held walks
+    → (open_pair_in held mesh walks).EachFile (IsTold held)
+pair_files_told held mesh walks one other = (
+  open_told held mesh one,
+  λ surface _. (
+    pair_told held walks surface other,
+    λ pair _. unless_told held (λ line. Exactly line) (limit_fault surface (walk_at pair 0) (walk_at pair 1)) (question surface pair),
+  ),
+)
+
+pub walks_stop : (held : Option Files) (mesh walks : List ℕ) (surface : FaceList) (stop : Stop) → Passes (open_surface_in held mesh) surface
+    → Stops (pair_in held walks surface) stop → Stops (open_pair_in held mesh walks) stop
+walks_stop held mesh walks surface stop p h =
+    stops_next (open_surface_in held mesh) (after_surface held walks) surface stop p
+    (stops_first (pair_in held walks surface) (limited surface) stop h)
+
+pub limits_stop : (held : Option Files) (mesh walks : List ℕ) (surface : FaceList) (pair : List (List ℕ)) (line : List ℕ) (stop : Stop)
+    → Passes (open_surface_in held mesh) surface → Passes (pair_in held walks surface) pair
+    → limit_fault surface (walk_at pair 0) (walk_at pair 1) ≡ Some line → Tells (Exactly line) stop
+    → Stops (open_pair_in held mesh walks) stop
+limits_stop held mesh walks surface pair line stop p q e h =
+    stops_next (open_surface_in held mesh) (after_surface held walks) surface stop p
+    (stops_next (pair_in held walks surface) (limited surface) pair stop q
+    (told_stops (Exactly line) (limited surface pair) stop (rw e refl) h))
+
+pub pair_passes : (held : Option Files) (mesh walks : List ℕ) (surface : FaceList) (pair : List (List ℕ))
+    → Passes (open_surface_in held mesh) surface → Passes (pair_in held walks surface) pair
+    → limit_fault surface (walk_at pair 0) (walk_at pair 1) ≡ None → Passes (open_pair_in held mesh walks) (question surface pair)
+pair_passes held mesh walks surface pair p q e = inr (surface, p, inr (pair, q, rw e refl))
+
+-- ---- a call that reads, behind one that did
+
+pub reads_stopped : {X V W : Type 0} (held : X → Option Files) (faults : X → ℕ) (old mid new : X) (IsEnd Other : Option Files → Type 0)
+    (stop : Stop) → OnlyReads held faults old mid → Reads {V = W} held faults mid new Other (Err stop) → IsEnd (held old)
+    → Reads {V = V} held faults old new IsEnd (Err stop)
+reads_stopped {X} {V} {W} held faults old mid new IsEnd Other stop first h end =
+    record {
+      end = end;
+      fault = λ e below.
+          let same : stop ≡ ReadFault = cc in
+          let rose : faults mid < faults new = h.fault (ap (λ (s : Stop). let r : Result W Stop = Err s in r) same) below in
+          omega (arith, first.never_falls, rose);
+      only_reads = only_then held faults old mid new first h.only_reads;
+    }
+
+-- ---- the two walks of a pair that was read
+
+-- the walks at the two places of a pair are those that were read, and are within the limits
+pub record AreOpenWalks (mesh : FaceList) (walks : List (List ℕ)) (first second : List ℕ) : Type 0 where
+  pub first_is : walk_at walks 0 ≡ first
+  pub second_is : walk_at walks 1 ≡ second
+  pub are : AreWalks mesh first second
+  pub sides : total_sides mesh ≤ MOST_OPEN_SIDES
+  pub few : darts first + darts second ≤ MOST_OPEN_DARTS
+
+pub open_walks : (pair : OpenPair) (first second : List ℕ) → IsOpenPair pair → slice_get pair.walks 0 ≡ Some first
+    → slice_get pair.walks 1 ≡ Some second → AreOpenWalks pair.surface.mesh pair.walks first second
+open_walks pair first second h f g =
+    let one : walk_at pair.walks 0 ≡ first = get_or_from_slice_get pair.walks 0 first _ f in
+    let two : walk_at pair.walks 1 ≡ second = get_or_from_slice_get pair.walks 1 second _ g in
+    record {
+      first_is = one;
+      second_is = two;
+      are = walks_of_pair pair.surface.mesh pair.walks first second h.walks f g;
+      sides = h.within.sides;
+      few = omega (arith, h.within.few, ap darts one, ap darts two);
+    }
+
+pub two_long : (pair : OpenPair) → IsOpenPair pair → length pair.walks ≡ 2
+two_long pair h = ap (λ (w : List (List ℕ)). length w) h.walks.two
+
+-- ---- a command whose files were read by one call
+
+module _ {X : Type 0} (held : X → Option Files) (faults : X → ℕ) (old new : X) (command : Option Files → Check Answer)
+    (looks : (command (held old)).EachFile (λ _. ⊥) → ⊥) where
+  -- that call stopped
+  pub runs_ended : {V : Type 0} (IsEnd : Option Files → Type 0) (stop : Stop) → Reads {V = V} held faults old new IsEnd (Err stop)
+      → Stops (command (held old)) stop → Runs held faults old new command (Err stop)
+  runs_ended {V} IsEnd stop h stops =
+      record {
+        end = stops;
+        fault = λ e.
+            let same : stop ≡ ReadFault = cc in
+            h.fault (ap (λ (s : Stop). let r : Result V Stop = Err s in r) same);
+        untouched = λ none. absurd (looks none);
+        only_reads = h.only_reads;
+      }

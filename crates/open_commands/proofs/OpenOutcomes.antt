@@ -1,0 +1,147 @@
+-- `decide-open` and `certify-open` in the words of the mesh.
+use Rattle.std.proofs.Common.{◌≡◌, ◌⊎◌, inl, inr, ℕ, ◌+◌, ◌<◌, ◌≤◌, List, [], ◌∷◌, codes, refl, subst, arith}
+use Rattle.std.specs.Prelude.{◌↔◌, Option, Some, None}
+use Rattle.surf_io.specs.Files.{Files}
+use Rattle.surf_model.specs.FaceLists.{FaceList}
+use Rattle.commands.proofs.Checking.{stops_first}
+use Rattle.commands.specs.Stops.{Stops}
+use Rattle.commands.specs.declared.stop.Stop.{Stop}
+use Rattle.commands.proofs.Deciding.{IsRightAnswer, right_answer, behind, refused_behind, sound-decided}
+use Rattle.commands.proofs.Rows.{spelled_pair}
+use Rattle.commands.proofs.Sound.{IsSound, held, sound-then}
+use Rattle.commands.specs.Answers.{Answer, Exactly}
+use Rattle.commands.specs.Checks.{Check, Refuse, Passes, IsTold, ◌>>=◌}
+use Rattle.commands.specs.Decide.{decided}
+use Rattle.commands.specs.Inputs.{pair_in, SpellsMesh, SpellsPair}
+use Rattle.commands.specs.Outcomes.{Outcome, AnswersTo, IsAnswerOf}
+use Rattle.commands.specs.declared.status.Status.{Status}
+use Rattle.commands.specs.declared.status.Status.TheVariants.{Refused}
+use Rattle.open_commands.specs.CertifyOpen.{IsCertifiedOpen, listed, certify_open}
+use Rattle.open_commands.specs.DecideOpen.{IsDecidedOpen, decide_open}
+use Rattle.open_commands.specs.OpenPairs.{IsOpenInput, IsWithinLimits, IsRefusedBeyond, Question, question, limit_fault, sides_line, darts_line, open_pair_in}
+use Rattle.open_commands.proofs.Listing.{IsRightList, right_list, sound-listed}
+use Rattle.open_commands.proofs.OpenInputs.{spelled_open, pair_files_told, pair_passes, limited, none_over, side_limit, dart_limit, sound-open_pair_in}
+
+-- the checks of the two commands have an end, and one where their files are told
+pub sound-decide_open : (held : Option Files) (mesh walks : List ℕ) → IsSound held (decide_open held mesh walks)
+sound-decide_open held mesh walks =
+    sound-then held _ _ (sound-open_pair_in held mesh walks) (λ asked _. sound-decided held asked.mesh asked.first asked.second)
+
+pub sound-certify_open : (held : Option Files) (mesh walks : List ℕ) → IsSound held (certify_open held mesh walks)
+sound-certify_open held mesh walks =
+    sound-then held _ _ (sound-open_pair_in held mesh walks) (λ asked _. sound-listed held asked.mesh asked.first asked.second)
+
+refused_so : (line : List ℕ) (outcome : Outcome) (status : Status) (text : List ℕ) → outcome ≡ Refuse (Exactly line)
+    → IsAnswerOf outcome status text → (status ≡ Refused) × (text ≡ line)
+refused_so line outcome status text e answer =
+    let a : IsAnswerOf (Refuse (Exactly line)) status text = subst (λ (o : Outcome). IsAnswerOf o status text) e answer in
+    (a.status_is, a.text_is)
+
+-- ---- such an input, for a command that makes its answer of the surface and the walks
+
+module _ (next : Question → Check Answer) (keyword : List ℕ) (files : Option Files) (words : List (List ℕ)) (mesh : FaceList)
+    (first second : List ℕ) (input : IsOpenInput keyword files words mesh first second) where
+  asked : Question
+  asked = record { mesh = mesh; first = first; second = second }
+
+  told : (open_pair_in files input.mesh_name input.walks_name).EachFile (IsTold files)
+  told =
+      pair_files_told files input.mesh_name input.walks_name (held files input.mesh_name (SpellsMesh mesh) input.mesh_file).told
+      (held files input.walks_name (SpellsPair mesh first second) input.walks_file).told
+
+  passes : Passes (pair_in files input.walks_name mesh) (first ∷ second ∷ [])
+  passes = spelled_pair files input.walks_name mesh first second input.walks_file
+
+  -- within the limits the answer is made
+  pub made : (outcome : Outcome) → IsWithinLimits mesh first second
+      → (open_pair_in files input.mesh_name input.walks_name >>= next).Ends outcome
+      → (next (record { mesh = mesh; first = first; second = second })).Ends outcome
+  unfolding asked
+  made outcome within is =
+      behind files (open_pair_in files input.mesh_name input.walks_name) next asked outcome
+      (sound-open_pair_in files input.mesh_name input.walks_name) told
+      (pair_passes files input.mesh_name input.walks_name mesh (first ∷ second ∷ [])
+      (spelled_open files input.mesh_name mesh input.mesh_file input.is_open input.is_orientable) passes
+      (none_over mesh first second within.sides within.few)) is
+
+  -- beyond them it is refused
+  pub refused : (outcome : Outcome) (status : Status) (text line : List ℕ) → limit_fault mesh first second ≡ Some line
+      → (open_pair_in files input.mesh_name input.walks_name >>= next).Ends outcome → IsAnswerOf outcome status text
+      → (status ≡ Refused) × (text ≡ line)
+  refused outcome status text line e is answer =
+      refused_so line outcome status text
+      (refused_behind files (open_pair_in files input.mesh_name input.walks_name) next (Exactly line) outcome
+      (sound-open_pair_in files input.mesh_name input.walks_name) told
+      (inr (mesh, spelled_open files input.mesh_name mesh input.mesh_file input.is_open input.is_orientable,
+      inr (first ∷ second ∷ [], passes, rw e refl))) is) answer
+
+-- ---- the two commands
+
+pub decided_open_so : (files : Option Files) (words : List (List ℕ)) (status : Status) (text : List ℕ)
+    → ((mesh walks : List ℕ) → words ≡ codes "decide-open" ∷ mesh ∷ walks ∷ [] → AnswersTo files (decide_open files mesh walks) status text)
+    → IsDecidedOpen files words status text
+decided_open_so files words status text answered =
+    record {
+      answered = λ mesh first second input within. (right mesh first second input within).answered;
+      exactly = λ mesh first second input within. (right mesh first second input within).exactly;
+      beyond = record {
+        many_sides = λ mesh first second input many.
+            beyond mesh first second input (sides_line mesh) (side_limit mesh first second many);
+        many_darts = λ mesh first second input few many.
+            beyond mesh first second input (darts_line first second) (dart_limit mesh first second few many);
+      };
+    }
+  where
+    right : (mesh : FaceList) (first second : List ℕ) → IsOpenInput (codes "decide-open") files words mesh first second
+        → IsWithinLimits mesh first second → IsRightAnswer mesh first second status text
+    right mesh first second input within =
+        let a = answered input.mesh_name input.walks_name input.words_are in
+        right_answer mesh first second a.outcome status text
+        (made (λ asked. decided asked.mesh asked.first asked.second) (codes "decide-open") files words mesh first second input a.outcome within a.is_outcome) a.is_answer
+
+    beyond : (mesh : FaceList) (first second : List ℕ) → IsOpenInput (codes "decide-open") files words mesh first second → (line : List ℕ)
+        → limit_fault mesh first second ≡ Some line → (status ≡ Refused) × (text ≡ line)
+    beyond mesh first second input line e =
+        let a = answered input.mesh_name input.walks_name input.words_are in
+        refused (λ asked. decided asked.mesh asked.first asked.second) (codes "decide-open") files words mesh first second input a.outcome status text line e a.is_outcome a.is_answer
+
+pub certified_open_so : (files : Option Files) (words : List (List ℕ)) (status : Status) (text : List ℕ)
+    → ((mesh walks : List ℕ) → words ≡ codes "certify-open" ∷ mesh ∷ walks ∷ []
+    → AnswersTo files (certify_open files mesh walks) status text)
+    → IsCertifiedOpen files words status text
+certified_open_so files words status text answered =
+    record {
+      answered = λ mesh first second input within. (right mesh first second input within).answered;
+      exactly = λ mesh first second input within. (right mesh first second input within).exactly;
+      beyond = record {
+        many_sides = λ mesh first second input many.
+            beyond mesh first second input (sides_line mesh) (side_limit mesh first second many);
+        many_darts = λ mesh first second input few many.
+            beyond mesh first second input (darts_line first second) (dart_limit mesh first second few many);
+      };
+    }
+  where
+    right : (mesh : FaceList) (first second : List ℕ) → IsOpenInput (codes "certify-open") files words mesh first second
+        → IsWithinLimits mesh first second → IsRightList mesh first second status text
+    right mesh first second input within =
+        let a = answered input.mesh_name input.walks_name input.words_are in
+        right_list mesh first second a.outcome status text
+        (made (λ asked. listed asked.mesh asked.first asked.second) (codes "certify-open") files words mesh first second input a.outcome within a.is_outcome) a.is_answer
+
+    beyond : (mesh : FaceList) (first second : List ℕ) → IsOpenInput (codes "certify-open") files words mesh first second → (line : List ℕ)
+        → limit_fault mesh first second ≡ Some line → (status ≡ Refused) × (text ≡ line)
+    beyond mesh first second input line e =
+        let a = answered input.mesh_name input.walks_name input.words_are in
+        refused (λ asked. listed asked.mesh asked.first asked.second) (codes "certify-open") files words mesh first second input a.outcome status text line e a.is_outcome a.is_answer
+
+-- ---- what stops the pair stops the command
+
+pub decide_stops : (held : Option Files) (mesh walks : List ℕ) (stop : Stop) → Stops (open_pair_in held mesh walks) stop
+    → Stops (decide_open held mesh walks) stop
+decide_stops held mesh walks stop h =
+    stops_first (open_pair_in held mesh walks) (λ asked. decided asked.mesh asked.first asked.second) stop h
+
+pub certify_stops : (held : Option Files) (mesh walks : List ℕ) (stop : Stop) → Stops (open_pair_in held mesh walks) stop
+    → Stops (certify_open held mesh walks) stop
+certify_stops held mesh walks stop h =
+    stops_first (open_pair_in held mesh walks) (λ asked. listed asked.mesh asked.first asked.second) stop h

@@ -1,0 +1,197 @@
+-- A list of moves within the limits has a short text: its numbers are small, and so its lines are short.
+use Rattle.std.proofs.Common.{◌≡◌, ℕ, zero, suc, ◌+◌, ◌-◌, ◌*◌, ◌^◌, ◌<◌, ◌≤◌, Bool, true, false, max, List, [], ◌∷◌, ◌++◌, length, get_or, length-append, refl, sym, ap, ◌∙◌, subst, arith}
+use Rattle.std.specs.Prelude.{codes, decimal, flat_map, map, sum_by, Some, All}
+use Rattle.std.specs.List.{join_with_byte}
+use Rattle.std.proofs.lemmas.Fmt.{length-decimal-le}
+use Rattle.std.proofs.lemmas.List.{get_or_append_left, get_or-append-add}
+use Rattle.std.proofs.lemmas.List.Elements.{All-nil, All-cons, All-head, All-tail}
+use Rattle.std.proofs.lemmas.List.Sums.{sum_by-cons, get_or-le-sum_by}
+use Rattle.text_scan.specs.Plain.{line_of}
+use Rattle.surf_model.specs.FaceLists.{FaceList, IsFace, IsFaceList, is_used, face_at, corners_from, total_sides}
+use Rattle.surf_model.specs.Moves.{PeakedMoves, Leads, apply, apply_all, greatest_darts}
+use Rattle.surf_model.specs.Walks.{IsWalk, darts}
+use Rattle.surf_model.specs.declared.moves.Move.{Move}
+use Rattle.surf_model.specs.declared.moves.Move.TheVariants.{Insert, Remove, Across}
+use Rattle.surf_model.proofs.ContextLemmas.{first_answer}
+use Rattle.surf_model.proofs.ReplacementLemmas.{by_replacing}
+use Rattle.surf_model.proofs.WayBackLemmas.{keeps_walk}
+use Rattle.connectivity.proofs.EdgeLemmas.{edge_used, used_below}
+use Rattle.free_forms.specs.PeakedLists.{LeadsAtPeak, IsWithin}
+use Rattle.free_forms.proofs.PeakLemmas.{greatest_darts-more}
+use Rattle.free_forms.specs.declared.limits.TheConstants.{MOST_OPEN_SIDES, MOST_OPEN_STEPS}
+use Rattle.walk_files.specs.MoveTexts.{direction_word, move_words, head_words, list_lines, list_text}
+use Rattle.walk_translate.specs.declared.deciding.Answer.TheVariants.{Homotopic}
+use Rattle.commands.specs.Certificates.{certificate_text, decision_line}
+use Rattle.commands.specs.declared.certificate.Certificate.TheVariants.{Moves}
+use Rattle.open_commands.specs.declared.certify_open.TheConstants.{MOST_OPEN_BYTES}
+
+-- ---- the moves of such a list have small numbers
+
+abbrev IsSmall : Move → Type 0
+IsSmall (Insert at via) = (at ≤ MOST_OPEN_STEPS) × (via.0 < 1000000)
+IsSmall (Remove at via) = (at ≤ MOST_OPEN_STEPS) × (via.0 < 1000000)
+IsSmall (Across at face corner forward taken) =
+    (at ≤ MOST_OPEN_STEPS) × (face.0 < 10000) × (corner < MOST_OPEN_SIDES) × (taken ≤ MOST_OPEN_SIDES)
+
+faces_few : (count : ℕ) (faces : List (List ℕ)) → All (IsFace count) faces → 3 * length faces ≤ sum_by (length {A = ℕ}) faces
+faces_few count [] each = omega arith
+faces_few count (face ∷ faces) each =
+    let first : 3 ≤ length face = (All-head (IsFace count) face faces each).polygon in
+    omega (arith, first, faces_few count faces (All-tail (IsFace count) face faces each), sum_by-cons (length {A = ℕ}) face faces)
+
+-- a vertex of a spur in a walk is used
+spur_used : (mesh : FaceList) (walk before after : List ℕ) (here via : ℕ) → IsWalk mesh walk
+    → walk ≡ before ++ (here ∷ via ∷ here ∷ []) ++ after → is_used mesh via ≡ true
+spur_used mesh walk before after here via w is =
+    let part : List ℕ = here ∷ via ∷ here ∷ [] in
+    let all : List ℕ = (before ++ part) ++ after in
+    let front : length (before ++ part) ≡ length before + 3 = length-append before part in
+    let long : length walk ≡ length before + 3 + length after =
+    omega (arith, ap (λ (l : List ℕ). length l) is, length-append (before ++ part) after, front) in
+    let at : get_or walk (length before + 1) 0 ≡ via =
+    ap (λ (l : List ℕ). get_or l (length before + 1) 0) is
+    ∙ get_or_append_left (before ++ part) after 0 (length before + 1) (omega (arith, front))
+    ∙ get_or-append-add before part 1 0 in
+    subst (λ (v : ℕ). is_used mesh v ≡ true) at (w.used (length before + 1) 0 (omega (arith, long)))
+
+-- the place of a move is not past the walk's darts
+place_within : (walk before part after : List ℕ) (at : ℕ) → walk ≡ before ++ part ++ after → length before ≡ at → 0 < length part
+    → at ≤ darts walk
+place_within walk before part after at is place some =
+    omega (
+      arith,
+      ap (λ (l : List ℕ). length l) is,
+      length-append (before ++ part) after,
+      length-append before part,
+      place,
+      some,
+    )
+
+length_corners : (ring : List ℕ) (rising : Bool) (t k : ℕ) → 0 < length (corners_from ring rising t k)
+length_corners ring rising t zero = omega arith
+length_corners ring rising t (suc k) = omega arith
+
+module _ (mesh : FaceList) (valid : IsFaceList mesh) (few : total_sides mesh ≤ MOST_OPEN_SIDES) where
+  move_small : (walk next : List ℕ) (move : Move) → IsWalk mesh walk → darts walk ≤ MOST_OPEN_STEPS → apply mesh walk move ≡ Some next
+      → IsSmall move
+  move_small walk next (Insert at via) w short e =
+      let r = (by_replacing mesh walk next (Insert at via) w.starts).0 e in
+      let some : 0 < length r.part = omega (arith, ap (λ (l : List ℕ). length l) r.replaces.2) in
+      let used : is_used mesh via.0 ≡ true = edge_used mesh r.replaces.0 via.0 r.replaces.1 in (
+        omega (arith, place_within walk r.before r.part r.after at r.walk_is r.place some, short),
+        omega (arith, used_below mesh via.0 valid used, valid.few_vertices),
+      )
+  move_small walk next (Remove at via) w short e =
+      let r = (by_replacing mesh walk next (Remove at via) w.starts).0 e in
+      let some : 0 < length r.part = omega (arith, ap (λ (l : List ℕ). length l) r.replaces.1) in
+      let used : is_used mesh via.0 ≡ true =
+      spur_used mesh walk r.before r.after r.replaces.0 via.0 w
+      (subst (λ (part : List ℕ). walk ≡ r.before ++ part ++ r.after) r.replaces.1 r.walk_is) in (
+        omega (arith, place_within walk r.before r.part r.after at r.walk_is r.place some, short),
+        omega (arith, used_below mesh via.0 valid used, valid.few_vertices),
+      )
+  move_small walk next (Across at face corner forward taken) w short e =
+      let r = (by_replacing mesh walk next (Across at face corner forward taken) w.starts).0 e in
+      let ring : List ℕ = face_at mesh face.0 in
+      let some : 0 < length r.part =
+      omega (arith, ap (λ (l : List ℕ). length l) r.replaces.3, length_corners ring forward corner taken) in
+      let sides : length ring ≤ total_sides mesh = get_or-le-sum_by (length {A = ℕ}) mesh.faces face.0 [] r.replaces.0 in (
+        omega (arith, place_within walk r.before r.part r.after at r.walk_is r.place some, short),
+        omega (arith, faces_few mesh.count mesh.faces valid.faces, r.replaces.0, few),
+        omega (arith, r.replaces.1, sides, few),
+        omega (arith, r.replaces.2, sides, few),
+      )
+
+  moves_small : (walk next : List ℕ) (moves : List Move) → IsWalk mesh walk → Leads mesh walk moves next
+      → greatest_darts mesh walk moves ≤ MOST_OPEN_STEPS → All IsSmall moves
+  moves_small walk next [] w leads short = All-nil IsSmall
+  moves_small walk next (move ∷ moves) w leads short =
+      let told = first_answer (λ x. apply_all mesh x moves) (apply mesh walk move) next leads in
+      let peaks = greatest_darts-more mesh walk told.0 move moves told.1 in
+      All-cons IsSmall move moves (move_small walk told.0 move w (omega (arith, short, peaks)) told.1)
+      (moves_small told.0 next moves (keeps_walk mesh walk told.0 move w told.1) told.2 (omega (arith, short, peaks)))
+
+-- ---- their lines
+
+digits : (k n : ℕ) → 0 < k → n < 10 ^ k → n < 2 ^ 64 → length (decimal n) ≤ k
+digits k n some few wide = length-decimal-le k n some few wide
+
+-- a line has a byte behind each word
+line_length : (word : List ℕ) (words : List (List ℕ))
+    → length (line_of (word ∷ words)) ≡ sum_by (λ (w : List ℕ). length w + 1) (word ∷ words)
+line_length word words =
+    length-append (join_with_byte 32 (word ∷ words)) (10 ∷ []) ∙ joined word words
+  where
+    joined : (w : List ℕ) (ws : List (List ℕ))
+        → length (join_with_byte 32 (w ∷ ws)) + 1 ≡ sum_by (λ (x : List ℕ). length x + 1) (w ∷ ws)
+    joined w [] = omega arith
+    joined w (v ∷ vs) =
+        omega (
+          arith,
+          length-append w (32 ∷ join_with_byte 32 (v ∷ vs)),
+          joined v vs,
+          sum_by-cons (λ (x : List ℕ). length x + 1) w (v ∷ vs),
+        )
+
+direction_one : (forward : Bool) → length (direction_word forward) ≡ 1
+direction_one true = refl
+direction_one false = refl
+
+move_line : (move : Move) → IsSmall move → length (line_of (move_words move)) ≤ 29
+move_line (Insert at via) small =
+    omega (
+      arith,
+      line_length (codes "+") (decimal at ∷ decimal via.0 ∷ []),
+      digits 7 at (omega arith) (omega (arith, small.0)) (omega (arith, small.0)),
+      digits 6 via.0 (omega arith) (omega (arith, small.1)) (omega (arith, small.1)),
+    )
+move_line (Remove at via) small =
+    omega (
+      arith,
+      line_length (codes "-") (decimal at ∷ decimal via.0 ∷ []),
+      digits 7 at (omega arith) (omega (arith, small.0)) (omega (arith, small.0)),
+      digits 6 via.0 (omega arith) (omega (arith, small.1)) (omega (arith, small.1)),
+    )
+move_line (Across at face corner forward taken) small =
+    omega (
+      arith,
+      line_length (codes "f") (decimal at ∷ decimal face.0 ∷ decimal corner ∷ direction_word forward ∷ decimal taken ∷ []),
+      digits 7 at (omega arith) (omega (arith, small.0)) (omega (arith, small.0)),
+      digits 4 face.0 (omega arith) (omega (arith, small.1)) (omega (arith, small.1)),
+      digits 5 corner (omega arith) (omega (arith, small.2)) (omega (arith, small.2)),
+      digits 5 taken (omega arith) (omega (arith, small.3)) (omega (arith, small.3)),
+      direction_one forward,
+    )
+
+lines_short : (moves : List Move) → All IsSmall moves → length (flat_map line_of (map move_words moves)) ≤ 29 * length moves
+lines_short [] small = omega arith
+lines_short (move ∷ moves) small =
+    omega (
+      arith,
+      move_line move (small 0 move (omega arith)),
+      lines_short moves (λ k d l. small (suc k) d (omega (arith, l))),
+      length-append (line_of (move_words move)) (flat_map line_of (map move_words moves)),
+    )
+
+head_short : (list : PeakedMoves) → length list.moves ≤ MOST_OPEN_STEPS → list.peak ≤ MOST_OPEN_STEPS
+    → length (line_of (head_words list)) ≤ 22
+head_short list few peak =
+    omega (
+      arith,
+      line_length (codes "MOVES") (decimal (length list.moves) ∷ decimal list.peak ∷ []),
+      digits 7 (length list.moves) (omega arith) (omega (arith, few)) (omega (arith, few)),
+      digits 7 list.peak (omega arith) (omega (arith, peak)) (omega (arith, peak)),
+    )
+
+pub text_short : (mesh : FaceList) (first second : List ℕ) (list : PeakedMoves) → IsFaceList mesh → total_sides mesh ≤ MOST_OPEN_SIDES
+    → IsWalk mesh first → LeadsAtPeak mesh first list second → IsWithin MOST_OPEN_STEPS list
+    → length (certificate_text (Moves list)) ≤ MOST_OPEN_BYTES
+text_short mesh first second list valid sides w h within =
+    omega (
+      arith,
+      length-append (decision_line Homotopic) (list_text list),
+      length-append (line_of (head_words list)) (flat_map line_of (map move_words list.moves)),
+      head_short list within.moves within.peak,
+      lines_short list.moves (moves_small mesh valid sides first second list.moves w h.leads (omega (arith, within.peak, h.peak))),
+      within.moves,
+    )

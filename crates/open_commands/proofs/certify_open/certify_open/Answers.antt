@@ -1,0 +1,86 @@
+use Rattle.std.proofs.Common.{◌≡◌, ◌∙◌, ℕ, List, true, false, refl, sym, subst, arith}
+use Rattle.std.specs.Prelude.{◌↔◌, Bool, IsTrue, if◌then◌else◌}
+use Rattle.std.proofs.lemmas.Result.{err_from_is_err_and}
+use Rattle.surf_model.specs.Moves as moves
+use Rattle.free_forms.specs.PeakedLists.{LeadsAtPeak, IsWithin}
+use Rattle.free_forms.specs.declared.limits.TheConstants.{MOST_OPEN_STEPS}
+use Rattle.commands.specs.declared.stop.Stop.TheVariants.{OutOfMemory}
+use Rattle.commands.proofs.Running.{memory_no_fault, runs_faulty, runs_replied}
+use Rattle.open_commands.specs.CertifyOpen as of_certify_open
+use Rattle.open_commands.specs.CertifyOpen.{list_answer}
+use Rattle.open_commands.proofs.Listing.{list_passes, found_reply, found_short}
+use Rattle.open_commands.proofs.OpenInputs.{AreOpenWalks, open_walks, two_long, runs_ended}
+use Rattle.open_commands.proofs.OpenOutcomes.{certify_stops}
+use Rattle.open_commands.proofs.certify_open.certify_open.Goals as goal
+use Rattle.open_commands.proofs.certify_open.certify_open.Goals.{After-at-2}
+
+pub returns-in_err-pair-clause-runs : goal.returns-in_err-pair-clause-runs
+returns-in_err-pair-clause-runs g c =
+    let stop = c.in_err-pair.field-0.0 in
+    let p = err_from_is_err_and c.from_residual-in_err-pair.result c.from_residual-in_err-pair.ensures.1 in
+    rw (p.1, p.2)
+    (runs_ended g.S.Shelf.held g.S.Shelf.faults c.args.shelf.now c.read_open_pair.new.shelf
+    (λ files. of_certify_open.certify_open files c.args.mesh.now c.args.walks.now) (λ none. none.0.0.0.0) _ stop
+    c.in_err-pair.ensures.reads
+    (certify_stops (g.S.Shelf.held c.args.shelf.now) c.args.mesh.now c.args.walks.now stop c.in_err-pair.ensures.reads.end))
+
+pub at-requires : goal.at-requires
+at-requires g c = omega (arith, two_long c.in_ok-pair.pair c.in_ok-pair.ensures.pair)
+
+pub at-requires-2 : goal.at-requires-2
+at-requires-2 g c = omega (arith, two_long c.in_ok-pair.pair c.in_ok-pair.ensures.pair)
+
+-- what is known of the two walks
+walks : (g : _) (c : After-at-2 g)
+    → AreOpenWalks c.in_ok-pair.pair.surface.mesh c.in_ok-pair.pair.walks c.at.result.now c.at-2.result.now
+walks g c =
+    open_walks c.in_ok-pair.pair c.at.result.now c.at-2.result.now c.in_ok-pair.ensures.pair c.at.ensures c.at-2.ensures
+
+pub lift_open-requires-clause-first : goal.lift_open-requires-clause-first
+lift_open-requires-clause-first g c = (walks g c).are.first_walk
+
+pub lift_open-requires-clause-second : goal.lift_open-requires-clause-second
+lift_open-requires-clause-second g c = (walks g c).are.second_walk
+
+pub lift_open-requires-clause-ends : goal.lift_open-requires-clause-ends
+lift_open-requires-clause-ends g c = (walks g c).are.ends
+
+pub lift_open-requires-clause-sides : goal.lift_open-requires-clause-sides
+lift_open-requires-clause-sides g c = (walks g c).sides
+
+pub lift_open-requires-clause-few : goal.lift_open-requires-clause-few
+lift_open-requires-clause-few g c = (walks g c).few
+
+pub returns-in_err-found-clause-runs : goal.returns-in_err-found-clause-runs
+returns-in_err-found-clause-runs g c =
+    let p = err_from_is_err_and c.from_residual-in_err-found.result c.from_residual-in_err-found.ensures.1 in
+    rw (p.1, p.2)
+    (runs_faulty g.S.Shelf.held g.S.Shelf.faults c.args.shelf.now c.read_open_pair.new.shelf
+    (λ files. of_certify_open.certify_open files c.args.mesh.now c.args.walks.now) (λ none. none.0.0.0.0) OutOfMemory
+    c.in_ok-pair.ensures.reads.only_reads memory_no_fault tt)
+
+pub returns-clause-runs : goal.returns-clause-runs
+returns-clause-runs g c =
+    let pair = c.in_ok-pair.pair in
+    let known = walks g (goal.at.returns-clause-runs g c).After-at-2 in
+    let reply =
+    found_reply pair.surface.mesh c.at.result.now c.at-2.result.now c.in_ok-found.found c.reply_with.result c.in_ok-found.ensures.moves
+    c.reply_with.ensures.some c.reply_with.ensures.none in
+    runs_replied g.S.Shelf.held g.S.Shelf.faults c.args.shelf.now c.read_open_pair.new.shelf
+    (λ files. of_certify_open.certify_open files c.args.mesh.now c.args.walks.now) (λ none. none.0.0.0.0) c.reply_with.result
+    c.in_ok-pair.ensures.reads.only_reads
+    (record {
+      answer = list_answer pair.surface.mesh c.at.result.now c.at-2.result.now reply.decision;
+      passes =
+          list_passes (g.S.Shelf.held c.args.shelf.now) c.args.mesh.now c.args.walks.now pair reply.decision c.at.result.now
+          c.at-2.result.now known.first_is known.second_is c.in_ok-pair.ensures.reads.end reply.right;
+      is_answer = reply.is_reply;
+    })
+
+pub returns-clause-short : goal.returns-clause-short
+returns-clause-short g c =
+    let mesh = c.in_ok-pair.pair.surface.mesh in
+    let known = walks g (goal.at.returns-clause-short g c).After-at-2 in
+    c.reply_with.ensures.short mesh c.at.result.now c.at-2.result.now c.faces.ensures.parents.valid known.sides known.are.first_walk
+    (found_short c.in_ok-found.found (λ list. LeadsAtPeak mesh c.at.result.now list c.at-2.result.now) (IsWithin MOST_OPEN_STEPS)
+    (moves.Homotopic mesh c.at.result.now c.at-2.result.now → ⊥) c.in_ok-found.ensures.moves c.in_ok-found.ensures.short)

@@ -1,0 +1,31 @@
+use Rattle.std.proofs.Common.{refl}
+use Rattle.surf_model.specs.Moves.{PeakedMoves}
+use Rattle.commands.specs.declared.certificate.Certificate.TheVariants.{Moves}
+use Rattle.open_commands.proofs.Listing.{list_convinces, no_list_short}
+use Rattle.open_commands.proofs.ShortTexts.{text_short}
+use Rattle.open_commands.proofs.certify_open.reply_with.Goals as goal
+
+pub returns-in-Some : goal.returns-in-Some
+returns-in-Some c =
+    let list : PeakedMoves = c.in-Some.list in
+    rw c.in-Some.is (record {
+      some = λ mesh first second leads. record {
+        status_is = refl;
+        text_is = (Moves list, list_convinces mesh first second list leads, refl, refl);
+      };
+      none = λ mesh first second. tt;
+      short = λ mesh first second valid sides walk found. record {
+        list = list;
+        within = found.1;
+        text_is = refl;
+        short = text_short mesh first second list valid sides walk found.0 found.1;
+      };
+    })
+
+pub returns-in-None : goal.returns-in-None
+returns-in-None c =
+    rw c.in-None.is (record {
+      some = tt;
+      none = λ mesh first second. c.different.ensures;
+      short = λ mesh first second valid sides walk found. no_list_short c.different.result c.different.ensures.status_is;
+    })

@@ -1,0 +1,76 @@
+use Rattle.std.proofs.Common.{◌≡◌, ◌∙◌, ℕ, List, true, false, refl, sym, subst, arith}
+use Rattle.std.specs.Prelude.{◌↔◌, Bool, IsTrue, if◌then◌else◌}
+use Rattle.std.proofs.lemmas.Result.{err_from_is_err_and}
+use Rattle.surf_model.specs.Moves as moves
+use Rattle.walk_translate.specs.declared.deciding.Answer as deciding
+use Rattle.walk_translate.specs.declared.deciding.Answer.TheVariants.{Homotopic, Different}
+use Rattle.commands.specs.Decide.{decision_answer}
+use Rattle.commands.specs.declared.stop.Stop.TheVariants.{OutOfMemory}
+use Rattle.commands.proofs.Running.{memory_no_fault, runs_faulty, runs_replied}
+use Rattle.open_commands.specs.DecideOpen as of_decide_open
+use Rattle.open_commands.proofs.Listing.{decision_passes}
+use Rattle.open_commands.proofs.OpenInputs.{AreOpenWalks, open_walks, two_long, runs_ended}
+use Rattle.open_commands.proofs.OpenOutcomes.{decide_stops}
+use Rattle.open_commands.proofs.decide_open.decide_open.Goals as goal
+use Rattle.open_commands.proofs.decide_open.decide_open.Goals.{After-at-2}
+
+pub returns-in_err-pair : goal.returns-in_err-pair
+returns-in_err-pair g c =
+    let stop = c.in_err-pair.field-0.0 in
+    let p = err_from_is_err_and c.from_residual-in_err-pair.result c.from_residual-in_err-pair.ensures.1 in
+    rw (p.1, p.2)
+    (runs_ended g.S.Shelf.held g.S.Shelf.faults c.args.shelf.now c.read_open_pair.new.shelf
+    (λ files. of_decide_open.decide_open files c.args.mesh.now c.args.walks.now) (λ none. none.0.0.0.0) _ stop
+    c.in_err-pair.ensures.reads
+    (decide_stops (g.S.Shelf.held c.args.shelf.now) c.args.mesh.now c.args.walks.now stop c.in_err-pair.ensures.reads.end))
+
+pub at-requires : goal.at-requires
+at-requires g c = omega (arith, two_long c.in_ok-pair.pair c.in_ok-pair.ensures.pair)
+
+pub at-requires-2 : goal.at-requires-2
+at-requires-2 g c = omega (arith, two_long c.in_ok-pair.pair c.in_ok-pair.ensures.pair)
+
+-- what is known of the two walks
+walks : (g : _) (c : After-at-2 g)
+    → AreOpenWalks c.in_ok-pair.pair.surface.mesh c.in_ok-pair.pair.walks c.at.result.now c.at-2.result.now
+walks g c =
+    open_walks c.in_ok-pair.pair c.at.result.now c.at-2.result.now c.in_ok-pair.ensures.pair c.at.ensures c.at-2.ensures
+
+pub same_class-requires-clause-first : goal.same_class-requires-clause-first
+same_class-requires-clause-first g c = (walks g c).are.first_walk
+
+pub same_class-requires-clause-second : goal.same_class-requires-clause-second
+same_class-requires-clause-second g c = (walks g c).are.second_walk
+
+pub same_class-requires-clause-ends : goal.same_class-requires-clause-ends
+same_class-requires-clause-ends g c = (walks g c).are.ends
+
+pub same_class-requires-clause-sides : goal.same_class-requires-clause-sides
+same_class-requires-clause-sides g c = (walks g c).sides
+
+pub same_class-requires-clause-few : goal.same_class-requires-clause-few
+same_class-requires-clause-few g c = (walks g c).few
+
+pub returns-in_err-same : goal.returns-in_err-same
+returns-in_err-same g c =
+    let p = err_from_is_err_and c.from_residual-in_err-same.result c.from_residual-in_err-same.ensures.1 in
+    rw (p.1, p.2)
+    (runs_faulty g.S.Shelf.held g.S.Shelf.faults c.args.shelf.now c.read_open_pair.new.shelf
+    (λ files. of_decide_open.decide_open files c.args.mesh.now c.args.walks.now) (λ none. none.0.0.0.0) OutOfMemory
+    c.in_ok-pair.ensures.reads.only_reads memory_no_fault tt)
+
+pub returns : goal.returns
+returns g c =
+    let pair = c.in_ok-pair.pair in
+    let known = walks g (goal.at.returns g c).After-at-2 in
+    let decision : deciding.Answer = (if c.in_ok-same.same then Homotopic else Different) in
+    runs_replied g.S.Shelf.held g.S.Shelf.faults c.args.shelf.now c.read_open_pair.new.shelf
+    (λ files. of_decide_open.decide_open files c.args.mesh.now c.args.walks.now) (λ none. none.0.0.0.0) c.reply_on.result
+    c.in_ok-pair.ensures.reads.only_reads
+    (record {
+      answer = decision_answer decision;
+      passes =
+          decision_passes (g.S.Shelf.held c.args.shelf.now) c.args.mesh.now c.args.walks.now pair c.in_ok-same.same c.at.result.now
+          c.at-2.result.now known.first_is known.second_is c.in_ok-pair.ensures.reads.end c.in_ok-same.ensures;
+      is_answer = c.reply_on.ensures;
+    })

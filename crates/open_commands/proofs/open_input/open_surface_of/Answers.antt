@@ -1,0 +1,14 @@
+use Rattle.std.proofs.Common.{inr}
+use Rattle.std.proofs.lemmas.Result.{err_from_is_err_and}
+use Rattle.open_commands.proofs.OpenInputs.{turned_stop}
+use Rattle.open_commands.proofs.open_input.open_surface_of.Goals as goal
+
+pub returns-in_err-check_orientable-clause-end : goal.returns-in_err-check_orientable-clause-end
+returns-in_err-check_orientable-clause-end c =
+    let p = err_from_is_err_and c.from_residual-in_err-check_orientable.result c.from_residual-in_err-check_orientable.ensures.1 in
+    rw (p.1, p.2)
+    (turned_stop c.args.faces c.in_err-check_orientable.field-0.0 c.in_ok-check_surface.ensures.end
+    c.in_err-check_orientable.ensures.end)
+
+pub returns-clause-end : goal.returns-clause-end
+returns-clause-end c = inr (c.args.faces, c.in_ok-check_surface.ensures.end, c.in_ok-check_orientable.ensures.end)

@@ -1,0 +1,4 @@
+pub mod OpenInput
+pub mod OpenPairs
+pub mod DecideOpen
+pub mod CertifyOpen
