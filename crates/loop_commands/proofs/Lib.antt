@@ -1,3 +1,4 @@
+pub mod ComponentLoops
 pub mod LoopChecks
 pub mod LoopAnswers
 pub mod LoopOutcomes

@@ -2,7 +2,6 @@
 use Rattle.std.specs.Prelude.{◌≡◌, ℕ, ◌↔◌, ◌⊎◌, List, [], ◌∷◌, codes, decimal, Option, Ok}
 use Rattle.surf_io.specs.Files.{Files}
 use Rattle.surf_model.specs.FaceLists.{FaceList}
-use Rattle.surf_model.specs.Surfaces.{IsSurface}
 use Rattle.closed_walks.specs.FreeHomotopy.{IsClosedWalk, FreelyHomotopic}
 use Rattle.walk_files.specs.Closed_pairs.{loops_fault}
 use Rattle.walk_files.specs.NumberTexts.{walks_of}
@@ -12,6 +11,7 @@ use Rattle.free_loops.specs.declared.deciding.FreeAnswer.{FreeAnswer}
 use Rattle.free_loops.specs.declared.deciding.FreeAnswer.TheVariants.{Freely, NotFreely}
 use Rattle.commands.specs.Answers.{Answer, Texts, Exactly}
 use Rattle.commands.specs.Checks.{Check, End, Refuse, Pass, Holds, file, meant, pass_unless, without_files, ◌>>=◌}
+use Rattle.commands.specs.ClosedSurfaces.{IsOrientableSurface}
 use Rattle.commands.specs.Inputs.{walk_at, SpellsMesh}
 use Rattle.commands.specs.Lines.{line}
 use Rattle.commands.specs.Refusals.{numbers_line, told, told_at_place}
@@ -26,14 +26,14 @@ pub record SpellsLoops (mesh : FaceList) (first second bytes : List ℕ) : Type 
   pub first_closed : IsClosedWalk mesh first
   pub second_closed : IsClosedWalk mesh second
 
--- The words are those of `loops`, and the two files that they name are told and stand for a connected orientable closed surface and
--- two closed walks of it.
+-- The words are those of `loops`, and the two files that they name are told and stand for an orientable closed surface and two closed
+-- walks of it.
 pub record IsLoopsInput (held : Option Files) (words : List (List ℕ)) (mesh : FaceList) (first second : List ℕ) : Type 0 where
   pub mesh_name : List ℕ
   pub walks_name : List ℕ
   pub words_are : words ≡ codes "loops" ∷ mesh_name ∷ walks_name ∷ []
   pub mesh_file : Holds held mesh_name (SpellsMesh mesh)
-  pub is_surface : IsSurface mesh
+  pub is_surface : IsOrientableSurface mesh
   pub walks_file : Holds held walks_name (SpellsLoops mesh first second)
 
 -- yes where the walks are freely homotopic

@@ -1,14 +1,19 @@
 //! The command `loops`: whether two closed walks of a surface are freely homotopic.
-ghost use Rattle.std.specs.Prelude.{◌≡◌};
+ghost use Rattle.std.specs.Prelude.{◌≡◌, ◌↔◌, ◌×◌, ◌<◌, ℕ, length, slice_index, IsTrue, IfOk};
+ghost use Rattle.surf_model.specs.FaceLists.{FaceList, is_used};
+ghost use Rattle.closed_walks.specs.FreeHomotopy.{IsClosedWalk, FreelyHomotopic};
+ghost use Rattle.commands.specs.ClosedSurfaces.{IsSigned, IsComponentOf};
 ghost use Rattle.commands.specs.Replies.{IsReplyTo, Runs};
 ghost use Rattle.loop_commands.specs.Loops as of_loops;
 ghost use Rattle.loop_commands.specs.Loops.{free_answer, free_line, free_phrase};
 
 use crate::input::read_loops;
-use commands::{Line, Phrase, Reply, Stop, Text, read_surface};
+use commands::component::Component;
+use commands::{Line, Phrase, Reply, SignedMesh, Stop, Text, read_surface};
 use free_loops::{FreeAnswer, decide_free};
-use std::alloc::Global;
+use std::alloc::{AllocError, Global};
 use surf_io::Shelf;
+use surf_model::{VertexName, Walk};
 
 /// Whether the two closed walks in the file `walks` are freely homotopic on the surface in the file `mesh`. The walks are read
 /// only where the surface is in order.
@@ -21,11 +26,40 @@ pub fn loops<S: Shelf>(
     ensures { Runs S.held S.faults shelf.old shelf.new (λ files. of_loops.loops files mesh.now walks.now) result }
 {
     let surface = read_surface(alloc, shelf, mesh)?;
-    // The proof reads what holds of every surface.
-    let _ = surface.faces();
-    let pair = read_loops(alloc, shelf, walks, surface.sides())?;
-    let decision = decide_free(alloc, &surface, pair.at(0), pair.at(1))?;
+    let pair = read_loops(alloc, shelf, walks, &surface.sides)?;
+    let decision = decide_on(alloc, surface, pair.at(0), pair.at(1))?;
     Ok(reply_on(decision))
+}
+
+/// Whether two closed walks of a surface are freely homotopic. Walks of two components are not, and else only their component is
+/// looked at.
+fn decide_on(
+    alloc: Global,
+    surface: SignedMesh,
+    first: &Walk,
+    second: &Walk,
+) -> Result<FreeAnswer, AllocError>
+    requires signed { IsSigned surface }
+    requires first { IsClosedWalk surface.faces first.now }
+    requires second { IsClosedWalk surface.faces second.now }
+    ensures { IfOk result (λ answer. (answer ≡ FreeAnswer.Freely) ↔ FreelyHomotopic surface.faces first.now second.now) }
+{
+    let component = Component::of(alloc, surface, first.at(0))?;
+    if !has(&component, second.at(0)) {
+        return Ok(FreeAnswer::NotFreely);
+    }
+    decide_free(alloc, component.surface(), first, second)
+}
+
+/// Whether a vertex of the mesh lies in a component of it.
+fn has(component: &Component, vertex: VertexName) -> bool
+    requires { (mesh : FaceList) × (v : ℕ) × IsComponentOf mesh v component.now × (vertex.0 < mesh.count) }
+    ensures { (mesh : FaceList) (v : ℕ) → IsComponentOf mesh v component.now → IsTrue result ↔ IsComponentOf mesh vertex.0 component.now }
+{
+    match component {
+        Component::Whole(_) => true,
+        Component::Alone(part) => part.parts.part_of(vertex) == part.place,
+    }
 }
 
 /// The reply that an answer is.

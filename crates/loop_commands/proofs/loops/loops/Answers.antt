@@ -4,7 +4,7 @@ use Rattle.std.proofs.lemmas.Option.{get_or_from_slice_get}
 use Rattle.std.proofs.lemmas.Result.{err_from_is_err_and}
 use Rattle.surf_io.specs.Files.{Files}
 use Rattle.surf_model.specs.Edges.{IsTableOf}
-use Rattle.closed_walks.specs.FreeHomotopy.{FreelyFreely}
+use Rattle.closed_walks.specs.FreeHomotopy.{FreelyHomotopic}
 use Rattle.free_loops.specs.declared.deciding.FreeAnswer.TheVariants.{Freely}
 use Rattle.commands.specs.Checks.{Passes}
 use Rattle.loop_commands.specs.Loops as of_loops
@@ -24,40 +24,40 @@ returns-in_err-pair g c =
     let read = c.in_ok-surface.ensures.reads in
     let stop = c.in_err-pair.field-0.0 in
     let p = err_from_is_err_and c.from_residual-in_err-pair.result c.from_residual-in_err-pair.ensures.1 in
-    let table : IsTableOf surface.mesh c.sides.result.now = rw c.sides.ensures c.faces.ensures.valid.table in
-    let stops = c.in_err-pair.ensures.reads.end surface.mesh table in
+    let table : IsTableOf surface.faces surface.sides = c.in_ok-surface.ensures.signed.table in
+    let stops = c.in_err-pair.ensures.reads.end surface.faces table in
     rw (p.1, p.2)
     (runs_stopped held g.S.Shelf.faults c.args.shelf.now c.read_loops.new.shelf
     (λ files. of_loops.loops files c.args.mesh.now c.args.walks.now) (λ none. none.0.0.0) c.read_surface.new.shelf _ stop
     read.only_reads c.in_err-pair.ensures.reads
-    (walks_stop (held c.args.shelf.now) c.args.mesh.now c.args.walks.now surface.mesh stop read.end
-    (subst (λ (files : Option Files). Stops (loops_in files c.args.walks.now surface.mesh) stop) read.only_reads.same_files stops)))
+    (walks_stop (held c.args.shelf.now) c.args.mesh.now c.args.walks.now surface.faces stop read.end
+    (subst (λ (files : Option Files). Stops (loops_in files c.args.walks.now surface.faces) stop) read.only_reads.same_files stops)))
 
 pub at-requires : goal.at-requires
 at-requires g c =
     let surface = c.in_ok-surface.surface in
-    let table : IsTableOf surface.mesh c.sides.result.now = rw c.sides.ensures c.faces.ensures.valid.table in
-    omega (arith, two_walks _ _ surface.mesh c.in_ok-pair.pair (c.in_ok-pair.ensures.reads.end surface.mesh table))
+    let table : IsTableOf surface.faces surface.sides = c.in_ok-surface.ensures.signed.table in
+    omega (arith, two_walks _ _ surface.faces c.in_ok-pair.pair (c.in_ok-pair.ensures.reads.end surface.faces table))
 
 pub at-requires-2 : goal.at-requires-2
 at-requires-2 g c =
     let surface = c.in_ok-surface.surface in
-    let table : IsTableOf surface.mesh c.sides.result.now = rw c.sides.ensures c.faces.ensures.valid.table in
-    omega (arith, two_walks _ _ surface.mesh c.in_ok-pair.pair (c.in_ok-pair.ensures.reads.end surface.mesh table))
+    let table : IsTableOf surface.faces surface.sides = c.in_ok-surface.ensures.signed.table in
+    omega (arith, two_walks _ _ surface.faces c.in_ok-pair.pair (c.in_ok-pair.ensures.reads.end surface.faces table))
 
 -- what is known of the two walks
-walks : (g : _) (c : goal.After-at-2 g) → AreClosed c.in_ok-surface.surface.mesh c.at.result.now c.at-2.result.now
+walks : (g : _) (c : goal.After-at-2 g) → AreClosed c.in_ok-surface.surface.faces c.at.result.now c.at-2.result.now
 walks g c =
     let surface = c.in_ok-surface.surface in
-    let table : IsTableOf surface.mesh c.sides.result.now = rw c.sides.ensures c.faces.ensures.valid.table in
-    walks_of_pair surface.mesh c.in_ok-pair.pair c.at.result.now c.at-2.result.now (c.in_ok-pair.ensures.loops surface.mesh table)
+    let table : IsTableOf surface.faces surface.sides = c.in_ok-surface.ensures.signed.table in
+    walks_of_pair surface.faces c.in_ok-pair.pair c.at.result.now c.at-2.result.now (c.in_ok-pair.ensures.loops surface.faces table)
     c.at.ensures c.at-2.ensures
 
-pub decide_free-requires-clause-first : goal.decide_free-requires-clause-first
-decide_free-requires-clause-first g c = (walks g c).first_closed
+pub decide_on-requires-clause-first : goal.decide_on-requires-clause-first
+decide_on-requires-clause-first g c = (walks g c).first_closed
 
-pub decide_free-requires-clause-second : goal.decide_free-requires-clause-second
-decide_free-requires-clause-second g c = (walks g c).second_closed
+pub decide_on-requires-clause-second : goal.decide_on-requires-clause-second
+decide_on-requires-clause-second g c = (walks g c).second_closed
 
 pub returns-in_err-decision : goal.returns-in_err-decision
 returns-in_err-decision g c =
@@ -76,12 +76,12 @@ returns g c =
     let pair = c.in_ok-pair.pair in
     let decision = c.in_ok-decision.decision in
     let read = c.in_ok-surface.ensures.reads in
-    let table : IsTableOf surface.mesh c.sides.result.now = rw c.sides.ensures c.faces.ensures.valid.table in
+    let table : IsTableOf surface.faces surface.sides = c.in_ok-surface.ensures.signed.table in
     let first : c.at.result.now ≡ walk_at pair 0 = sym (get_or_from_slice_get pair 0 c.at.result.now _ c.at.ensures) in
     let second : c.at-2.result.now ≡ walk_at pair 1 = sym (get_or_from_slice_get pair 1 c.at-2.result.now _ c.at-2.ensures) in
-    let right : (decision ≡ Freely) ↔ FreelyHomotopic surface.mesh (walk_at pair 0) (walk_at pair 1) =
-    subst (λ (w : List ℕ). (decision ≡ Freely) ↔ FreelyHomotopic surface.mesh (walk_at pair 0) w) second
-    (subst (λ (w : List ℕ). (decision ≡ Freely) ↔ FreelyHomotopic surface.mesh w c.at-2.result.now) first c.in_ok-decision.ensures) in
+    let right : (decision ≡ Freely) ↔ FreelyHomotopic surface.faces (walk_at pair 0) (walk_at pair 1) =
+    subst (λ (w : List ℕ). (decision ≡ Freely) ↔ FreelyHomotopic surface.faces (walk_at pair 0) w) second
+    (subst (λ (w : List ℕ). (decision ≡ Freely) ↔ FreelyHomotopic surface.faces w c.at-2.result.now) first c.in_ok-decision.ensures) in
     runs_replied held g.S.Shelf.faults c.args.shelf.now c.read_loops.new.shelf
     (λ files. of_loops.loops files c.args.mesh.now c.args.walks.now) (λ none. none.0.0.0) c.reply_on.result
     (only_then held g.S.Shelf.faults c.args.shelf.now c.read_surface.new.shelf c.read_loops.new.shelf read.only_reads
@@ -89,8 +89,8 @@ returns g c =
     (record {
       answer = free_answer decision;
       passes =
-          decision_passes (held c.args.shelf.now) c.args.mesh.now c.args.walks.now surface.mesh pair decision read.end
-          (subst (λ (files : Option Files). Passes (loops_in files c.args.walks.now surface.mesh) pair) read.only_reads.same_files
-          (c.in_ok-pair.ensures.reads.end surface.mesh table)) right;
+          decision_passes (held c.args.shelf.now) c.args.mesh.now c.args.walks.now surface.faces pair decision read.end
+          (subst (λ (files : Option Files). Passes (loops_in files c.args.walks.now surface.faces) pair) read.only_reads.same_files
+          (c.in_ok-pair.ensures.reads.end surface.faces table)) right;
       is_answer = c.reply_on.ensures;
     })
