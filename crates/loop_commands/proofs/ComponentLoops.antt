@@ -9,6 +9,10 @@ use Rattle.surf_model.proofs.WayBackLemmas.{keeps_ends}
 use Rattle.manifold_check.specs.ComponentParts.{PartsView, AreParts, component_at, component_mesh}
 use Rattle.manifold_check.proofs.PartPieces.{IsOfComponent, piece_of_parts, walk_alone, walk_whole, walk_same_place}
 use Rattle.manifold_check.proofs.PieceMoves.{homotopic_alike}
+use Rattle.commands.specs.ClosedSurfaces.{IsPart, IsComponentOf, surface_of}
+use Rattle.commands.specs.declared.component.Component.{Component}
+use Rattle.commands.specs.declared.component.Component.TheVariants.{Whole, Alone}
+use Rattle.commands.specs.declared.component.Part.{Part}
 use Rattle.closed_walks.specs.FreeHomotopy.{IsClosedWalk, FreeStep, Moved, Rotated, after_free, after_all_free, FreelyLeads, FreelyHomotopic}
 use Rattle.closed_walks.proofs.FreeStepLemmas.{on, step_keeps}
 use Rattle.closed_walks.proofs.MovedSteps.{freely}
@@ -97,3 +101,42 @@ module _ (mesh : FaceList) (parts : PartsView) (part : ℕ) (h : AreParts mesh p
   pub free_stays : (first second : List ℕ) → IsThere first → FreelyHomotopic mesh first second
       → get_or parts.places (get_or second 0 0) 0 ≡ part
   free_stays first second is free = (steps_alone free.0 first second is free.1).there.place
+
+-- ---- the component of a vertex
+
+alone_is : (mesh : FaceList) (part : Part) (walk : List ℕ) → (h : IsComponentOf mesh (get_or walk 0 0) (Alone part)) → IsClosedWalk mesh walk
+    → IsThere part.whole.faces part.parts part.place h.0.parts h.0.within walk
+alone_is mesh part walk h w = record { closed = subst (λ (m : FaceList). IsClosedWalk m walk) (sym h.1) w; place = h.2 }
+
+-- a closed walk of the mesh that starts in the component is one of the component
+pub closed_there : (mesh : FaceList) (component : Component) (walk : List ℕ) → IsComponentOf mesh (get_or walk 0 0) component
+    → IsClosedWalk mesh walk → IsClosedWalk (surface_of component).mesh walk
+closed_there mesh (Whole surface) walk h w = subst (λ (m : FaceList). IsClosedWalk m walk) (sym h) w
+closed_there mesh (Alone part) walk h w =
+    let is : IsPart part = h.0 in
+    subst (λ (m : FaceList). IsClosedWalk m walk) (sym is.mesh)
+    (there_alone part.whole.faces part.parts part.place is.parts is.within walk (alone_is mesh part walk h w))
+
+-- free homotopy is the same there
+pub free_there : (mesh : FaceList) (component : Component) (first second : List ℕ) → IsComponentOf mesh (get_or first 0 0) component
+    → IsClosedWalk mesh first → FreelyHomotopic mesh first second ↔ FreelyHomotopic (surface_of component).mesh first second
+free_there mesh (Whole surface) first second h w =
+    subst (λ (m : FaceList). FreelyHomotopic mesh first second ↔ FreelyHomotopic m first second) (sym h) ((λ e. e), (λ e. e))
+free_there mesh (Alone part) first second h w =
+    let is : IsPart part = h.0 in
+    let alone : FaceList = component_mesh part.whole.faces part.parts part.place in
+    subst (λ (m : FaceList). FreelyHomotopic mesh first second ↔ FreelyHomotopic m first second) (sym is.mesh)
+    (subst (λ (m : FaceList). FreelyHomotopic m first second ↔ FreelyHomotopic alone first second) h.1
+    (free_alike part.whole.faces part.parts part.place is.parts is.within first second (alone_is mesh part first h w)))
+
+-- and a walk that is freely homotopic to one of the component starts in it
+pub free_within : (mesh : FaceList) (component : Component) (first second : List ℕ) → IsComponentOf mesh (get_or first 0 0) component
+    → IsClosedWalk mesh first → FreelyHomotopic mesh first second → IsComponentOf mesh (get_or second 0 0) component
+free_within mesh (Whole surface) first second h w free = h
+free_within mesh (Alone part) first second h w free =
+    let is : IsPart part = h.0 in (
+      is,
+      h.1,
+      free_stays part.whole.faces part.parts part.place is.parts is.within first second (alone_is mesh part first h w)
+          (subst (λ (m : FaceList). FreelyHomotopic m first second) (sym h.1) free),
+    )

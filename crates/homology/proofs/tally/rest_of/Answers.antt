@@ -13,7 +13,8 @@ take_faces-requires c =
       long = ap (λ (xs : List ℤ). length xs) all ∙ c.in_ok-rest.ensures.counts.long;
       each_face = c.requires.each_face;
       small = c.requires.small;
-      room = subst (AreWithin (2 ^ 33)) (sym all)
+      room =
+          subst (AreWithin (2 ^ 33)) (sym all)
           (within_more (2 ^ 32) (2 ^ 33) c.in_ok-rest.rest.items c.in_ok-rest.ensures.room (omega arith));
     }
 
