@@ -78,7 +78,11 @@ module _ (mesh : FaceList) (parts : PartsView) (part : ℕ) (h : AreParts mesh p
   steps_alone (step ∷ steps) walk end is e =
       let met = first_answer (λ w. after_all_free mesh w steps) (after_free mesh walk step) end e in
       let rest = steps_alone steps met.0 end (stays step walk met.0 is met.1) met.2 in
-      record { there = rest.there; free = on (component_mesh mesh parts part) walk met.0 end (step_alone step walk met.0 is met.1) rest.free }
+      record {
+        there = rest.there;
+        free = on (component_mesh mesh parts part) walk met.0 end (step_alone step walk met.0 is met.1)
+            rest.free;
+      }
 
   steps_whole : (steps : List FreeStep) (walk end : List ℕ) → IsThere walk
       → FreelyLeads (component_mesh mesh parts part) walk steps end → FreelyHomotopic mesh walk end
@@ -104,7 +108,8 @@ module _ (mesh : FaceList) (parts : PartsView) (part : ℕ) (h : AreParts mesh p
 
 -- ---- the component of a vertex
 
-alone_is : (mesh : FaceList) (part : Part) (walk : List ℕ) → (h : IsComponentOf mesh (get_or walk 0 0) (Alone part)) → IsClosedWalk mesh walk
+alone_is : (mesh : FaceList) (part : Part) (walk : List ℕ) → (h : IsComponentOf mesh (get_or walk 0 0) (Alone part)) → IsClosedWalk mesh
+    walk
     → IsThere part.whole.faces part.parts part.place h.0.parts h.0.within walk
 alone_is mesh part walk h w = record { closed = subst (λ (m : FaceList). IsClosedWalk m walk) (sym h.1) w; place = h.2 }
 

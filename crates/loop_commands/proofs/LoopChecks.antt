@@ -29,7 +29,8 @@ pub loops_text_stop : (held : Option Files) (name : List ℕ) (mesh : FaceList) 
     → Stops (meant (numbers_line inputs.Walks) (walks_of bytes)) stop → Stops (loops_in held name mesh) stop
 loops_text_stop held name mesh bytes stop p h =
     stops_next (file held name inputs.Walks) (after_bytes mesh) bytes stop p
-    (stops_first (meant (numbers_line inputs.Walks) (walks_of bytes)) (λ walks. pass_unless loops_line (loops_fault mesh walks) walks) stop h)
+    (stops_first (meant (numbers_line inputs.Walks) (walks_of bytes)) (λ walks. pass_unless loops_line (loops_fault mesh walks) walks)
+    stop h)
 
 -- a walk file whose walks are no closed walks
 pub loops_stop : (held : Option Files) (name : List ℕ) (mesh : FaceList) (bytes : List ℕ) (walks : List (List ℕ)) (fault : LoopFault)

@@ -17,12 +17,7 @@ use surf_model::{VertexName, Walk};
 
 /// Whether the two closed walks in the file `walks` are freely homotopic on the surface in the file `mesh`. The walks are read
 /// only where the surface is in order.
-pub fn loops<S: Shelf>(
-    alloc: Global,
-    shelf: &mut S,
-    mesh: &str,
-    walks: &str,
-) -> Result<Reply, Stop>
+pub fn loops<S: Shelf>(alloc: Global, shelf: &mut S, mesh: &str, walks: &str) -> Result<Reply, Stop>
     ensures { Runs S.held S.faults shelf.old shelf.new (λ files. of_loops.loops files mesh.now walks.now) result }
 {
     let surface = read_surface(alloc, shelf, mesh)?;

@@ -46,7 +46,8 @@ sound-listed held mesh first second =
             refl,
             (
               (λ e. absurd (differs e)),
-              (λ h. absurd (none (Pass (list_answer mesh first second answers.Homotopic)) (answers.Homotopic, refl, ((λ _. h), (λ _. refl))))),
+              (λ h. absurd (none (Pass (list_answer mesh first second answers.Homotopic))
+                  (answers.Homotopic, refl, ((λ _. h), (λ _. refl))))),
             ),
           );
       one = λ _ a b p q. one_listed mesh first second a b p q;
@@ -61,7 +62,8 @@ pub record IsRightList (mesh : FaceList) (first second : List ℕ) (status : Sta
   pub exactly : (status ≡ Yes) ↔ Homotopic mesh first second
 
 -- a certificate for homotopic walks is a list
-is_list : (mesh : FaceList) (first second : List ℕ) (shown : Certificate) (status : Status) (text : List ℕ) → Convinces mesh first second shown
+is_list : (mesh : FaceList) (first second : List ℕ) (shown : Certificate) (status : Status) (text : List ℕ) → Convinces mesh first
+    second shown
     → decision_of shown ≡ answers.Homotopic → status ≡ Yes → text ≡ certificate_text shown → IsListPrinted mesh first second status text
 is_list mesh first second (Moves list) status text h e sure is = record { list = list; convinces = h; status_is = sure; text_is = is }
 is_list mesh first second (Denial denial) status text h e sure is = absurd (differs e)

@@ -72,8 +72,11 @@ module _ (next : Question → Check Answer) (keyword : List ℕ) (files : Option
       refused_so line outcome status text
       (refused_behind files (open_pair_in files input.mesh_name input.walks_name) next (Exactly line) outcome
       (sound-open_pair_in files input.mesh_name input.walks_name) told
-      (inr (mesh, spelled_open files input.mesh_name mesh input.mesh_file input.is_open input.is_orientable,
-      inr (first ∷ second ∷ [], passes, rw e refl))) is) answer
+      (inr (
+        mesh,
+        spelled_open files input.mesh_name mesh input.mesh_file input.is_open input.is_orientable,
+        inr (first ∷ second ∷ [], passes, rw e refl),
+      )) is) answer
 
 -- ---- the two commands
 
@@ -97,13 +100,15 @@ decided_open_so files words status text answered =
     right mesh first second input within =
         let a = answered input.mesh_name input.walks_name input.words_are in
         right_answer mesh first second a.outcome status text
-        (made (λ asked. decided asked.mesh asked.first asked.second) (codes "decide-open") files words mesh first second input a.outcome within a.is_outcome) a.is_answer
+        (made (λ asked. decided asked.mesh asked.first asked.second) (codes "decide-open") files words mesh first second input a.outcome
+        within a.is_outcome) a.is_answer
 
     beyond : (mesh : FaceList) (first second : List ℕ) → IsOpenInput (codes "decide-open") files words mesh first second → (line : List ℕ)
         → limit_fault mesh first second ≡ Some line → (status ≡ Refused) × (text ≡ line)
     beyond mesh first second input line e =
         let a = answered input.mesh_name input.walks_name input.words_are in
-        refused (λ asked. decided asked.mesh asked.first asked.second) (codes "decide-open") files words mesh first second input a.outcome status text line e a.is_outcome a.is_answer
+        refused (λ asked. decided asked.mesh asked.first asked.second) (codes "decide-open") files words mesh first second input
+        a.outcome status text line e a.is_outcome a.is_answer
 
 pub certified_open_so : (files : Option Files) (words : List (List ℕ)) (status : Status) (text : List ℕ)
     → ((mesh walks : List ℕ) → words ≡ codes "certify-open" ∷ mesh ∷ walks ∷ []
@@ -126,13 +131,15 @@ certified_open_so files words status text answered =
     right mesh first second input within =
         let a = answered input.mesh_name input.walks_name input.words_are in
         right_list mesh first second a.outcome status text
-        (made (λ asked. listed asked.mesh asked.first asked.second) (codes "certify-open") files words mesh first second input a.outcome within a.is_outcome) a.is_answer
+        (made (λ asked. listed asked.mesh asked.first asked.second) (codes "certify-open") files words mesh first second input a.outcome
+        within a.is_outcome) a.is_answer
 
     beyond : (mesh : FaceList) (first second : List ℕ) → IsOpenInput (codes "certify-open") files words mesh first second → (line : List ℕ)
         → limit_fault mesh first second ≡ Some line → (status ≡ Refused) × (text ≡ line)
     beyond mesh first second input line e =
         let a = answered input.mesh_name input.walks_name input.words_are in
-        refused (λ asked. listed asked.mesh asked.first asked.second) (codes "certify-open") files words mesh first second input a.outcome status text line e a.is_outcome a.is_answer
+        refused (λ asked. listed asked.mesh asked.first asked.second) (codes "certify-open") files words mesh first second input
+        a.outcome status text line e a.is_outcome a.is_answer
 
 -- ---- what stops the pair stops the command
 
