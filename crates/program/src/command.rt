@@ -36,6 +36,9 @@ pub enum Command<'a> {
     },
     /// `loops FILE WALKS`
     Loops {
+        mesh: &'a str,
+        walks: &'a str,
+    },
     /// `decide-open FILE WALKS`
     DecideOpen {
         mesh: &'a str,
@@ -83,6 +86,9 @@ pub fn read_command(words: &Vec<String>) -> Option<Command<'_>>
             walks: walks.as_str(),
         }),
         ("loops", [mesh, walks]) => Some(Command::Loops {
+            mesh: mesh.as_str(),
+            walks: walks.as_str(),
+        }),
         ("decide-open", [mesh, walks]) => Some(Command::DecideOpen {
             mesh: mesh.as_str(),
             walks: walks.as_str(),

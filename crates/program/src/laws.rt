@@ -56,6 +56,8 @@ pub fn certify_answers()
 pub fn loops_answers()
     ensures { (held : Option Files) (words : List (List ℕ)) (status : Status) (text : List ℕ)
         → Answers held words status text → IsLoopsAnswered held words status text }
+{}
+
 /// What `decide-open` answers of two walks of a surface with boundary.
 pub fn decide_open_answers()
     ensures { (held : Option Files) (words : List (List ℕ)) (status : Status) (text : List ℕ)
