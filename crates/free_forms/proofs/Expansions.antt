@@ -527,8 +527,8 @@ enough_levels surface base enter has u v s =
     (λ f found outside. subst (λ (k : ℕ). EndsOutside surface k f) none outside) s
 
 -- a parent edge acts as its expansion
-pub acts_by_expansion : {State : Type 0} (surface : OpenView) (base : State → ℕ → ℕ → State) (enter : ℕ → State → State) → HasParents
-    surface
+pub acts_by_expansion : {State : Type 0} (surface : OpenView) (base : State → ℕ → ℕ → State) (enter : ℕ → State → State)
+    → HasParents surface
     → (u v f : ℕ) (s : State) → IsFound surface u v f
     → act_fully surface base enter s u v
     ≡ run (act_fully surface base enter) (enter f s) u (expansion surface.mesh (parent_of surface f) u)

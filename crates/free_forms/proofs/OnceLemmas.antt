@@ -54,8 +54,8 @@ one_partner mesh side other third few h k =
     let own : joins u v (entry_of mesh side) ≡ true = grind (arith, nat_tests) in
     let listed : (s : Side) → IsSide mesh s → joins u v (entry_of mesh s) ≡ true
     → Contains (filter (joins u v) (all_sides mesh)) (entry_of mesh s) =
-    λ s is joined. Contains-filter (joins u v) (all_sides mesh) (entry_of mesh s) joined
-    (face_side_in mesh s.face.0 s.at is.face is.place) in
+    λ s is joined.
+    Contains-filter (joins u v) (all_sides mesh) (entry_of mesh s) joined (face_side_in mesh s.face.0 s.at is.face is.place) in
     let same : entry_of mesh other ≡ entry_of mesh third =
     two_same (filter (joins u v) (all_sides mesh)) (entry_of mesh side) (entry_of mesh other) (entry_of mesh third) (few u v)
     (listed side h.first own)

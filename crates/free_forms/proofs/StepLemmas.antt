@@ -41,8 +41,8 @@ by_face_from : (surface : OpenView) (inner : ℕ → ℕ → ℕ → ℕ) → ((
 by_face_from surface inner one None s u v = refl
 by_face_from surface inner one (Some f) s u v = run_from inner one (suc s) u (expansion surface.mesh (parent_of surface f) u)
 
-pub count_from : (surface : OpenView) (n s u v : ℕ) → acting surface count_on count_in n (suc s) u v ≡ suc
-    (acting surface count_on count_in n s u v)
+pub count_from : (surface : OpenView) (n s u v : ℕ)
+    → acting surface count_on count_in n (suc s) u v ≡ suc (acting surface count_on count_in n s u v)
 count_from surface zero s u v = refl
 count_from surface (suc n) s u v =
     by_face_from surface (acting surface count_on count_in n) (count_from surface n) (parent_face_of surface u v) s u v

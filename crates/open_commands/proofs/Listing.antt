@@ -62,8 +62,8 @@ pub record IsRightList (mesh : FaceList) (first second : List ℕ) (status : Sta
   pub exactly : (status ≡ Yes) ↔ Homotopic mesh first second
 
 -- a certificate for homotopic walks is a list
-is_list : (mesh : FaceList) (first second : List ℕ) (shown : Certificate) (status : Status) (text : List ℕ) → Convinces mesh first
-    second shown
+is_list : (mesh : FaceList) (first second : List ℕ) (shown : Certificate) (status : Status) (text : List ℕ)
+    → Convinces mesh first second shown
     → decision_of shown ≡ answers.Homotopic → status ≡ Yes → text ≡ certificate_text shown → IsListPrinted mesh first second status text
 is_list mesh first second (Moves list) status text h e sure is = record { list = list; convinces = h; status_is = sure; text_is = is }
 is_list mesh first second (Denial denial) status text h e sure is = absurd (differs e)

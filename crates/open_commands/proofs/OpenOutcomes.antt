@@ -100,15 +100,15 @@ decided_open_so files words status text answered =
     right mesh first second input within =
         let a = answered input.mesh_name input.walks_name input.words_are in
         right_answer mesh first second a.outcome status text
-        (made (λ asked. decided asked.mesh asked.first asked.second) (codes "decide-open") files words mesh first second input a.outcome
-        within a.is_outcome) a.is_answer
+        (made (λ asked. decided asked.mesh asked.first asked.second)
+        (codes "decide-open") files words mesh first second input a.outcome within a.is_outcome) a.is_answer
 
     beyond : (mesh : FaceList) (first second : List ℕ) → IsOpenInput (codes "decide-open") files words mesh first second → (line : List ℕ)
         → limit_fault mesh first second ≡ Some line → (status ≡ Refused) × (text ≡ line)
     beyond mesh first second input line e =
         let a = answered input.mesh_name input.walks_name input.words_are in
-        refused (λ asked. decided asked.mesh asked.first asked.second) (codes "decide-open") files words mesh first second input
-        a.outcome status text line e a.is_outcome a.is_answer
+        refused (λ asked. decided asked.mesh asked.first asked.second)
+        (codes "decide-open") files words mesh first second input a.outcome status text line e a.is_outcome a.is_answer
 
 pub certified_open_so : (files : Option Files) (words : List (List ℕ)) (status : Status) (text : List ℕ)
     → ((mesh walks : List ℕ) → words ≡ codes "certify-open" ∷ mesh ∷ walks ∷ []
@@ -131,15 +131,15 @@ certified_open_so files words status text answered =
     right mesh first second input within =
         let a = answered input.mesh_name input.walks_name input.words_are in
         right_list mesh first second a.outcome status text
-        (made (λ asked. listed asked.mesh asked.first asked.second) (codes "certify-open") files words mesh first second input a.outcome
-        within a.is_outcome) a.is_answer
+        (made (λ asked. listed asked.mesh asked.first asked.second)
+        (codes "certify-open") files words mesh first second input a.outcome within a.is_outcome) a.is_answer
 
     beyond : (mesh : FaceList) (first second : List ℕ) → IsOpenInput (codes "certify-open") files words mesh first second → (line : List ℕ)
         → limit_fault mesh first second ≡ Some line → (status ≡ Refused) × (text ≡ line)
     beyond mesh first second input line e =
         let a = answered input.mesh_name input.walks_name input.words_are in
-        refused (λ asked. listed asked.mesh asked.first asked.second) (codes "certify-open") files words mesh first second input
-        a.outcome status text line e a.is_outcome a.is_answer
+        refused (λ asked. listed asked.mesh asked.first asked.second)
+        (codes "certify-open") files words mesh first second input a.outcome status text line e a.is_outcome a.is_answer
 
 -- ---- what stops the pair stops the command
 
