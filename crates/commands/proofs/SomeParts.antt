@@ -10,12 +10,12 @@ use Rattle.std.proofs.lemmas.List.FromFn.{length-range_with_len, get_or-range_wi
 use Rattle.surf_model.specs.FaceLists.{FaceList, IsFaceList, IsFace, face_at, is_used}
 use Rattle.surf_model.specs.Edges.{Edge, IsTableOf, edge_in}
 use Rattle.surf_model.specs.Components.{ArePlacesOfComponents, IsLeastOfComponent, HasLeastVertex, place_of_face, faces_of_component}
-use Rattle.manifold_check.specs.Classes.{AreLeastMembers, joined_at, renamed}
+use Rattle.connectivity.specs.Classes.{AreLeastMembers, joined_at, renamed}
 use Rattle.manifold_check.specs.ComponentParts.{PartsView, AreParts, component_at, component_mesh}
 use Rattle.manifold_check.specs.Submeshes.{submesh}
-use Rattle.manifold_check.proofs.ComponentLemmas.{JoinsEdgesUpTo, edges_none, edges_more, edges_all}
-use Rattle.manifold_check.proofs.CornerLemmas.{corner_used}
-use Rattle.manifold_check.proofs.EdgeLemmas.{ends_below}
+use Rattle.connectivity.proofs.ComponentLemmas.{JoinsEdgesUpTo, edges_none, edges_more, edges_all}
+use Rattle.connectivity.proofs.CornerLemmas.{corner_used}
+use Rattle.connectivity.proofs.EdgeLemmas.{ends_below}
 use Rattle.manifold_check.proofs.NumberLemmas.{AreLeasts, AreNumbered, numbered_none, numbered_first, numbered_later, numbered_unused, places_of_components}
 use Rattle.tree_cotree.proofs.EdgeTables.{some_table}
 
