@@ -1,6 +1,6 @@
 //! The command `loops`: whether two closed walks of a surface are freely homotopic.
-ghost use Rattle.std.specs.Prelude.{◌≡◌, ◌↔◌, ◌×◌, ◌<◌, ℕ, length, slice_index, IsTrue, IfOk};
-ghost use Rattle.surf_model.specs.FaceLists.{FaceList, is_used};
+ghost use Rattle.std.specs.Prelude.{◌≡◌, ◌↔◌, ◌<◌, ℕ, IsTrue, IfOk};
+ghost use Rattle.surf_model.specs.FaceLists.{FaceList};
 ghost use Rattle.closed_walks.specs.FreeHomotopy.{IsClosedWalk, FreelyHomotopic};
 ghost use Rattle.commands.specs.ClosedSurfaces.{IsSigned, IsComponentOf};
 ghost use Rattle.commands.specs.Replies.{IsReplyTo, Runs};

@@ -20,10 +20,7 @@ pub fn label_surface(alloc: Global, surface: &Surface) -> Result<Option<GoodLabe
 
 /// The labelling of a polygon into which the surface is cut; none where no edge is left over, as on a sphere. It says of which
 /// cut the labelling is, where `label_surface` says what holds of it.
-pub fn label_by_cut(
-    alloc: Global,
-    surface: &Surface,
-) -> Result<Option<GoodLabelling>, AllocError>
+pub fn label_by_cut(alloc: Global, surface: &Surface) -> Result<Option<GoodLabelling>, AllocError>
     ensures { IfOk result (λ found. MatchOption found (HasSphereSplit surface.now) (IsLabelledByCut surface.now)) }
 {
     let split = split_edges(alloc, surface)?;

@@ -17,7 +17,7 @@ use Rattle.open_commands.proofs.certify_open.certify_open.Goals.{After-at-2}
 pub returns-in_err-pair-clause-runs : goal.returns-in_err-pair-clause-runs
 returns-in_err-pair-clause-runs g c =
     let stop = c.in_err-pair.field-0.0 in
-    let p = err_from_is_err_and c.from_residual-in_err-pair.result c.from_residual-in_err-pair.ensures.1 in
+    let p = err_from_is_err_and c.from_residual.result c.from_residual.ensures.1 in
     rw (p.1, p.2)
     (runs_ended g.S.Shelf.held g.S.Shelf.faults c.args.shelf.now c.read_open_pair.new.shelf
     (λ files. of_certify_open.certify_open files c.args.mesh.now c.args.walks.now) (λ none. none.0.0.0.0) _ stop
