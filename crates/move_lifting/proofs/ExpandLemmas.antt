@@ -150,7 +150,8 @@ put_on_way s split behind to begun track new pending rest v steps after on poppe
           subst (λ (x : ℕ). load s split t (x ∷ reverse rest) + (steps + 1) ≤ darts_of s) (sym last)
           (omega (arith, before, pair_positive s split t u v));
       long = omega (arith, long, on.long);
-      goes = putting_goes s.mesh behind (begun.walk ++ to ∷ []) begun.list track new pending rest v after popped counted on.goes (goes s.mesh);
+      goes = putting_goes s.mesh behind (begun.walk ++ to ∷ []) begun.list track new pending rest v after popped counted on.goes
+          (goes s.mesh);
       ends = subst (λ (x : ℕ). last_of (x ∷ reverse rest) ≡ to) (sym last) (last_below u v (reverse rest)
           ∙ subst (λ (l : List ℕ). last_of (u ∷ l) ≡ to) turned on.ends);
       leaves = leave_on s split begun.list.moves track.list.moves new.list.moves on.leaves
@@ -170,7 +171,8 @@ last-behind front rest x =
 -- round a face the other way, from the start of a step to its end
 pub record IsRest (mesh : FaceList) (step : FaceStep) (u v : ℕ) : Type 0 where
   pub front : List ℕ
-  pub ends : corners_from (face_at mesh step.face.0) (not step.forward) step.corner (length (face_at mesh step.face.0) - 1) ≡ front ++ v ∷ []
+  pub ends : corners_from (face_at mesh step.face.0) (not step.forward) step.corner (length (face_at mesh step.face.0) - 1)
+      ≡ front ++ v ∷ []
   pub turned : corners_from (face_at mesh step.face.0) (not step.forward) step.corner (length (face_at mesh step.face.0) - 1) ≡ u ∷ reverse
       (beyond mesh step)
   pub long : length (beyond mesh step) + 1 ≡ length (face_at mesh step.face.0)

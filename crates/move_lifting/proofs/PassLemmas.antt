@@ -42,7 +42,8 @@ pub record ArePutSoFar (behind : ℕ) (begun : TrackView) (were : List ℕ) (tra
   pub no_spur : HasNoSpur track.walk
   pub last : last_of (track.walk ++ reverse (numbers pending)) ≡ last_of (begun.walk ++ reverse were)
   pub long : length track.walk + length pending ≤ length begun.walk + length were
-  pub leads : (mesh : FaceList) → GoesOn mesh behind (begun.walk ++ reverse were) begun.list (track.walk ++ reverse (numbers pending)) track.list
+  pub leads : (mesh : FaceList)
+      → GoesOn mesh behind (begun.walk ++ reverse were) begun.list (track.walk ++ reverse (numbers pending)) track.list
   pub removals : MoreRemove begun.list.moves track.list.moves
 
 pub put_more : (behind : ℕ) (begun : TrackView) (were : List ℕ) (track new : TrackView) (pending rest : List VertexName) (v : VertexName)
@@ -90,8 +91,8 @@ crossed_once s split o behind v step track new before left none some under cross
     ∙ ap (λ (l : List ℕ). front ++ l) (sym around.turned ∙ around.ends)
     ∙ sym (append_assoc front around.front (v ∷ [])) in
     record {
-      goes = crossing_goes s split o.faces behind (track.walk ++ v ∷ []) track.list track new [] left v step some (λ first others l h. h) under
-          crossed;
+      goes = crossing_goes s split o.faces behind (track.walk ++ v ∷ []) track.list track new [] left v step some
+          (λ first others l h. h) under crossed;
       last = ap last_of whole ∙ last-push (front ++ around.front) v;
       long = ap (λ (l : List ℕ). length l + 1) crossed.comes ∙ around.long;
       leaves = crossed_leaves s split u v behind step track new [] left under crossed;

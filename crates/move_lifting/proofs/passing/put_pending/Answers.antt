@@ -1,11 +1,10 @@
-use Rattle.std.proofs.Common.{◌≡◌, ℕ, ◌+◌, ◌++◌, List, [], length, refl, ap, sym, ◌∙◌, subst, arith}
+use Rattle.std.proofs.Common.{◌≡◌, ℕ, ◌+◌, ◌++◌, List, length, subst, arith}
 use Rattle.std.specs.Prelude.{reverse}
 use Rattle.std.proofs.lemmas.List.{append-nil}
-use Rattle.surf_model.specs.FaceLists.{FaceList}
 use Rattle.surf_model.specs.Vertices.{numbers}
 use Rattle.surf_model.specs.declared.names.VertexName.{VertexName}
-use Rattle.move_lifting.specs.Tracks.{GoesOn, last_of}
-use Rattle.move_lifting.proofs.ExpandLemmas.{length-numbers, none_left}
+use Rattle.move_lifting.specs.Tracks.{GoesOn}
+use Rattle.move_lifting.proofs.ExpandLemmas.{none_left}
 use Rattle.move_lifting.proofs.PassLemmas.{put_more}
 use Rattle.move_lifting.proofs.passing.put_pending.Goals as goal
 
@@ -20,6 +19,7 @@ pub returns-clause-leads : goal.returns-clause-leads
 returns-clause-leads c = λ mesh.
     let few : length c.loop-next.pending.items ≡ 0 = omega (arith, c.in_default.ensures.cases.0) in
     let begun : List ℕ = c.args.track.now.walk ++ reverse (numbers c.args.pending.now.items) in
-    subst (λ (l : List ℕ). GoesOn mesh c.args.behind begun c.args.track.now.list l c.loop-next.track.list) (append-nil c.loop-next.track.walk)
+    subst (λ (l : List ℕ). GoesOn mesh c.args.behind begun c.args.track.now.list l c.loop-next.track.list)
+    (append-nil c.loop-next.track.walk)
     (subst (λ (l : List VertexName). GoesOn mesh c.args.behind begun c.args.track.now.list (c.loop-next.track.walk ++ reverse (numbers l))
     c.loop-next.track.list) (none_left c.loop-next.pending.items few) (c.loop-next.invariant.leads mesh))

@@ -3,8 +3,6 @@ use Rattle.std.proofs.lemmas.List.{get_or-map}
 use Rattle.surf_model.specs.FaceLists.{FaceList, is_edge}
 use Rattle.surf_model.specs.Vertices.{numbers}
 use Rattle.surf_model.specs.declared.names.VertexName.{VertexName}
-use Rattle.halfedge_map.specs.OrientedMeshes.{OrientedMesh}
-use Rattle.tree_cotree.specs.Splits.{SplitView}
 use Rattle.move_lifting.specs.Tracks.{TrackView}
 use Rattle.move_lifting.proofs.ExpandLemmas.{led_first, led_more, led_all, length-numbers}
 use Rattle.move_lifting.proofs.passing.Pass.over.Goals as goal

@@ -98,7 +98,8 @@ returns-in_ok-cross-in-Some-clause-leads c =
     (numbers c.cross.new.pending.items) =
     crossed_once s split c.faces.ensures.valid after c.args.to.0 c.in-Some.step c.args.track.now c.cross.new.track
     (numbers c.args.pending.now.items) (numbers c.cross.new.pending.items) (ap numbers c.requires.pending) c.requires.some under crossed in
-    on_ok_weaker c.put_pending.result (λ goes first rest l h. goes s.mesh first rest l (once.goes first rest l h)) c.put_pending.ensures.leads
+    on_ok_weaker c.put_pending.result (λ goes first rest l h. goes s.mesh first rest l (once.goes first rest l h))
+    c.put_pending.ensures.leads
 
 pub returns-in_ok-cross-in-Some-clause-leaves : goal.returns-in_ok-cross-in-Some-clause-leaves
 returns-in_ok-cross-in-Some-clause-leaves c =
