@@ -104,8 +104,25 @@ under_way s split o behind to track pending is some no_spur off edge =
     })
 
 -- a vertex is taken from what is pending
-reverse-push : (pending : List ℕ) (v : ℕ) → reverse (pending ++ v ∷ []) ≡ v ∷ reverse pending
+pub reverse-push : (pending : List ℕ) (v : ℕ) → reverse (pending ++ v ∷ []) ≡ v ∷ reverse pending
 reverse-push pending v = reverse-append pending (v ∷ [])
+
+-- the next vertex of what is pending is put on the track
+pub putting_goes : (mesh : FaceList) (behind : ℕ) (begun : List ℕ) (list : PeakedMoves) (track new : TrackView) (pending rest : List ℕ)
+    (v after : ℕ)
+    → pending ≡ rest ++ v ∷ [] → after ≡ length rest + behind
+    → GoesOn mesh behind begun list (track.walk ++ reverse pending) track.list
+    → GoesOn mesh after (track.walk ++ v ∷ []) track.list new.walk new.list
+    → GoesOn mesh behind begun list (new.walk ++ reverse rest) new.list
+putting_goes mesh behind begun list track new pending rest v after popped counted before goes first others l h =
+    let turned : reverse pending ≡ v ∷ reverse rest = ap (λ (x : List ℕ). reverse x) popped ∙ reverse-push rest v in
+    let there : LeadsAtPeak mesh first track.list (track.walk ++ reverse pending ++ others) = before first others l h in
+    let shape_is : track.walk ++ reverse pending ++ others ≡ track.walk ++ v ∷ [] ++ (reverse rest ++ others) =
+    ap (λ (x : List ℕ). track.walk ++ x ++ others) turned ∙ simp append_assoc in
+    let count : length (reverse rest ++ others) ≡ after =
+    length-append (reverse rest) others ∙ omega (arith, length-reverse rest, l, counted) in
+    subst (LeadsAtPeak mesh first new.list) (sym (append_assoc new.walk (reverse rest) others))
+    (goes first (reverse rest ++ others) count (subst (LeadsAtPeak mesh first track.list) shape_is there))
 
 -- a step that keeps off the cotree: the vertex is put on the track
 pub put_on_way : (s : OrientedMesh) (split : SplitView) (behind to : ℕ) (begun track new : TrackView) (pending rest : List ℕ)
@@ -133,14 +150,8 @@ put_on_way s split behind to begun track new pending rest v steps after on poppe
           subst (λ (x : ℕ). load s split t (x ∷ reverse rest) + (steps + 1) ≤ darts_of s) (sym last)
           (omega (arith, before, pair_positive s split t u v));
       long = omega (arith, long, on.long);
-      goes = λ first others l h.
-          let there : LeadsAtPeak s.mesh first track.list (track.walk ++ reverse pending ++ others) = on.goes first others l h in
-          let shape_is : track.walk ++ reverse pending ++ others ≡ track.walk ++ v ∷ [] ++ (reverse rest ++ others) =
-          ap (λ (l : List ℕ). track.walk ++ l ++ others) turned ∙ simp append_assoc in
-          let count : length (reverse rest ++ others) ≡ after =
-          length-append (reverse rest) others ∙ omega (arith, length-reverse rest, l, counted) in
-          subst (LeadsAtPeak s.mesh first new.list) (sym (append_assoc new.walk (reverse rest) others))
-          (goes s.mesh first (reverse rest ++ others) count (subst (LeadsAtPeak s.mesh first track.list) shape_is there));
+      goes = putting_goes s.mesh behind (begun.walk ++ to ∷ []) begun.list track new pending rest v after popped counted on.goes
+          (goes s.mesh);
       ends = subst (λ (x : ℕ). last_of (x ∷ reverse rest) ≡ to) (sym last) (last_below u v (reverse rest)
           ∙ subst (λ (l : List ℕ). last_of (u ∷ l) ≡ to) turned on.ends);
       leaves = leave_on s split begun.list.moves track.list.moves new.list.moves on.leaves
@@ -152,20 +163,21 @@ put_on_way s split behind to begun track new pending rest v steps after on poppe
         let at : length (u ∷ v ∷ rest) - 1 ≡ suc (length (v ∷ rest) - 1) = omega arith in
         sym (ap (λ (n : ℕ). get_or (u ∷ v ∷ rest) n 0) at)
 
-last-behind : (front rest : List ℕ) (x : ℕ) → last_of (front ++ x ∷ rest) ≡ last_of (x ∷ rest)
+pub last-behind : (front rest : List ℕ) (x : ℕ) → last_of (front ++ x ∷ rest) ≡ last_of (x ∷ rest)
 last-behind front rest x =
     let at : length (front ++ x ∷ rest) - 1 ≡ length front + (length (x ∷ rest) - 1) = omega (arith, length-append front (x ∷ rest)) in
     ap (λ (n : ℕ). get_or (front ++ x ∷ rest) n 0) at ∙ get_or-append-add front (x ∷ rest) (length (x ∷ rest) - 1) 0
 
 -- round a face the other way, from the start of a step to its end
-record IsRest (mesh : FaceList) (step : FaceStep) (u v : ℕ) : Type 0 where
-  front : List ℕ
-  ends : corners_from (face_at mesh step.face.0) (not step.forward) step.corner (length (face_at mesh step.face.0) - 1) ≡ front ++ v ∷ []
-  turned : corners_from (face_at mesh step.face.0) (not step.forward) step.corner (length (face_at mesh step.face.0) - 1) ≡ u ∷ reverse
+pub record IsRest (mesh : FaceList) (step : FaceStep) (u v : ℕ) : Type 0 where
+  pub front : List ℕ
+  pub ends : corners_from (face_at mesh step.face.0) (not step.forward) step.corner (length (face_at mesh step.face.0) - 1)
+      ≡ front ++ v ∷ []
+  pub turned : corners_from (face_at mesh step.face.0) (not step.forward) step.corner (length (face_at mesh step.face.0) - 1) ≡ u ∷ reverse
       (beyond mesh step)
-  long : length (beyond mesh step) + 1 ≡ length (face_at mesh step.face.0)
+  pub long : length (beyond mesh step) + 1 ≡ length (face_at mesh step.face.0)
 
-rest_of_step : (s : OrientedMesh) (split : SplitView) → IsFaceList s.mesh → (u v : ℕ) (step : FaceStep) → IsFaceBelow s split u v step
+pub rest_of_step : (s : OrientedMesh) (split : SplitView) → IsFaceList s.mesh → (u v : ℕ) (step : FaceStep) → IsFaceBelow s split u v step
     → IsRest s.mesh step u v
 rest_of_step s split valid u v step under =
     let ring : List ℕ = face_at s.mesh step.face.0 in
@@ -223,12 +235,12 @@ face_crossed s split u v step front behind under big =
 regroup : (front back rest others : List ℕ) (u : ℕ) → front ++ (u ∷ back) ++ (rest ++ others) ≡ front ++ u ∷ [] ++ (back ++ rest) ++ others
 regroup front back rest others u = simp append_assoc
 
-crossing_goes : (s : OrientedMesh) (split : SplitView) → IsFaceList s.mesh
-    → (behind to : ℕ) (begun track new : TrackView) (pending rest left : List ℕ) (v steps : ℕ) (step : FaceStep)
-    → IsUnderWay s split behind to begun track pending steps → pending ≡ rest ++ v ∷ [] → IsFaceBelow s split (last_of track.walk) v step
-    → IsCrossed s.mesh step behind track rest new left
-    → GoesOn s.mesh behind (begun.walk ++ to ∷ []) begun.list (new.walk ++ reverse left) new.list
-crossing_goes s split valid behind to begun track new pending rest left v steps step on popped under crossed first others l h =
+pub crossing_goes : (s : OrientedMesh) (split : SplitView) → IsFaceList s.mesh
+    → (behind : ℕ) (begun : List ℕ) (list : PeakedMoves) (track new : TrackView) (rest left : List ℕ) (v : ℕ) (step : FaceStep)
+    → 0 < length track.walk → GoesOn s.mesh behind begun list (track.walk ++ v ∷ reverse rest) track.list
+    → IsFaceBelow s split (last_of track.walk) v step → IsCrossed s.mesh step behind track rest new left
+    → GoesOn s.mesh behind begun list (new.walk ++ reverse left) new.list
+crossing_goes s split valid behind begun list track new rest left v step some goes under crossed first others l h =
     let u : ℕ = last_of track.walk in
     let ring : List ℕ = face_at s.mesh step.face.0 in
     let round : List ℕ = corners_from ring (not step.forward) step.corner (length ring - 1) in
@@ -236,13 +248,12 @@ crossing_goes s split valid behind to begun track new pending rest left v steps 
     let big : 3 ≤ length ring = (valid.faces step.face.0 [] under.is_step.face).polygon in
     let walk : List ℕ = track.walk in
     let front : List ℕ = take (length walk - 1) walk in
-    let walk_is : walk ≡ front ++ u ∷ [] = last_entry walk on.some in
+    let walk_is : walk ≡ front ++ u ∷ [] = last_entry walk some in
     let front_long : length front ≡ darts walk =
-    omega (arith, ap (λ (x : List ℕ). length x) walk_is, length-append front (u ∷ []), on.some) in
-    let turned : reverse pending ≡ v ∷ reverse rest = ap (λ (x : List ℕ). reverse x) popped ∙ reverse-push rest v in
-    let there : LeadsAtPeak s.mesh first track.list (walk ++ reverse pending ++ others) = on.goes first others l h in
-    let from : walk ++ reverse pending ++ others ≡ front ++ u ∷ v ∷ (reverse rest ++ others) =
-    ap (λ (x : List ℕ). walk ++ x ++ others) turned ∙ ap (λ (x : List ℕ). x ++ (v ∷ reverse rest) ++ others) walk_is ∙ simp append_assoc in
+    omega (arith, ap (λ (x : List ℕ). length x) walk_is, length-append front (u ∷ []), some) in
+    let there : LeadsAtPeak s.mesh first track.list (walk ++ v ∷ reverse rest ++ others) = goes first others l h in
+    let from : walk ++ v ∷ reverse rest ++ others ≡ front ++ u ∷ v ∷ (reverse rest ++ others) =
+    ap (λ (x : List ℕ). x ++ (v ∷ reverse rest) ++ others) walk_is ∙ simp append_assoc in
     let left_is : reverse left ≡ reverse (beyond s.mesh step) ++ reverse rest =
     ap (λ (x : List ℕ). reverse x) crossed.comes ∙ reverse-append rest (beyond s.mesh step) in
     let end : List ℕ = front ++ round ++ (reverse rest ++ others) in
@@ -323,7 +334,9 @@ cross_on_way s split o behind to begun track new pending rest left v steps step 
           subst (λ (x : ℕ). load s split t (x ∷ reverse left) + (steps + 1) ≤ darts_of s) (sym same_end)
           (omega (arith, before, fall, joined, first_part, all));
       long = omega (arith, on.long, ap (λ (l : List ℕ). length l) crossed.walk);
-      goes = crossing_goes s split o.faces behind to begun track new pending rest left v steps step on popped under crossed;
+      goes = crossing_goes s split o.faces behind (begun.walk ++ to ∷ []) begun.list track new rest left v step on.some
+          (subst (λ (l : List ℕ). GoesOn s.mesh behind (begun.walk ++ to ∷ []) begun.list (track.walk ++ l) track.list) turned on.goes)
+          under crossed;
       ends = subst (λ (x : ℕ). last_of (x ∷ reverse left) ≡ to) (sym same_end)
           (ap last_of whole ∙ last-behind around.front (reverse rest) v ∙ sym (last-behind (u ∷ []) (reverse rest) v)
           ∙ subst (λ (l : List ℕ). last_of (u ∷ l) ≡ to) turned on.ends);
@@ -414,7 +427,6 @@ pub record IsLedSoFar (s : OrientedMesh) (split : SplitView) (behind : ℕ) (wal
     (n : ℕ) : Type 0 where
   pub some : 0 < length track.walk
   pub no_spur : HasNoSpur track.walk
-  pub off_cotree : AvoidsCotree s split track.walk
   pub last : last_of track.walk ≡ get_or walk (n - 1) 0
   pub goes : GoesOn s.mesh behind walk begun (track.walk ++ drop n walk) track.list
   pub leaves : MoreLeaveCotree s split begun.moves track.list.moves
@@ -428,7 +440,6 @@ led_first s split behind walk begun track v some is start =
     (record {
       some = omega arith;
       no_spur = one_no_spur v;
-      off_cotree = λ k d l. absurd (omega arith);
       last = sym is;
       goes = λ first rest l h. subst (λ (w : List ℕ). LeadsAtPeak s.mesh first begun (w ++ rest)) whole h;
       leaves = none_leave s split begun.moves;
@@ -438,14 +449,12 @@ pub led_more : (s : OrientedMesh) (split : SplitView) (behind : ℕ) (walk : Lis
     (n v after : ℕ)
     → IsLedSoFar s split behind walk begun track n → n < length walk → get_or walk n 0 ≡ v → after ≡ length walk - n - 1 + behind
     → GoesOn s.mesh after (track.walk ++ v ∷ []) track.list new.walk new.list → 0 < length new.walk → HasNoSpur new.walk
-    → AvoidsCotree s split new.walk
     → last_of new.walk ≡ v → MoreLeaveCotree s split track.list.moves new.list.moves → IsLedSoFar s split behind walk begun new (n + 1)
-led_more s split behind walk begun track new n v after led l is counted goes some no_spur off last more =
+led_more s split behind walk begun track new n v after led l is counted goes some no_spur last more =
     let place : n + 1 - 1 ≡ n = omega arith in
     record {
       some = some;
       no_spur = no_spur;
-      off_cotree = off;
       last = last ∙ sym is ∙ ap (λ (k : ℕ). get_or walk k 0) (sym place);
       goes = λ first rest k h.
           let there : LeadsAtPeak s.mesh first track.list (track.walk ++ drop n walk ++ rest) = led.goes first rest k h in

@@ -15,6 +15,7 @@ pub mod ReductionLemmas
 pub mod WorthLemmas
 pub mod HomeLemmas
 pub mod StartLemmas
+pub mod PassLemmas
 pub mod LiftLemmas
 pub mod ContractLemmas
 pub mod BackLemmas

@@ -1,11 +1,11 @@
 -- What two walks begin with and end with: taken off, and put back around a list of moves between what is left.
-use Rattle.std.proofs.Common.{◌≡◌, ℕ, ◌+◌, ◌-◌, ◌<◌, ◌≤◌, true, List, [], ◌∷◌, ◌++◌, length, take, drop, get_or, refl, ap, sym, ◌∙◌, subst, arith, append_assoc, length-append}
-use Rattle.std.specs.Prelude.{IsTrue, Some}
+use Rattle.std.proofs.Common.{◌≡◌, ℕ, ◌+◌, ◌-◌, ◌<◌, true, List, [], ◌∷◌, ◌++◌, length, take, drop, get_or, refl, ap, sym, ◌∙◌, subst, arith, append_assoc, length-append}
+use Rattle.std.specs.Prelude.{IsTrue}
 use Rattle.std.proofs.lemmas.List.{append-nil, drop_more, drop-drop, get_or-append-add, get_or_append_left, get_or-drop, get_or-take, length-drop, length-take-le, take-append-drop, take-take}
 use Rattle.surf_model.specs.FaceLists.{FaceList, is_edge, is_used}
 use Rattle.surf_model.specs.Moves.{Homotopic, PeakedMoves}
 use Rattle.surf_model.specs.Rewriting.{raised, all_raised}
-use Rattle.surf_model.specs.Walks.{IsWalk, HaveCommonEnds, darts}
+use Rattle.surf_model.specs.Walks.{IsWalk, darts}
 use Rattle.surf_model.specs.declared.moves.Move.{Move}
 use Rattle.surf_model.specs.declared.moves.Move.TheVariants.{Insert, Remove, Across}
 use Rattle.surf_model.specs.declared.names.VertexName.{VertexName}

@@ -8,3 +8,4 @@ pub mod Reductions
 pub mod Contractions
 pub mod SpokeWalks
 pub mod Trimmed
+pub mod Passes

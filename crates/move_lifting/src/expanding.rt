@@ -12,6 +12,7 @@ ghost use Rattle.move_lifting.specs.Lifts.{AvoidsCotree, LeadsAtPeak, MoreLeaveC
 ghost use Rattle.move_lifting.specs.Tracks.{GoesOn, last_of};
 ghost use Rattle.move_lifting.specs.Crossings.{IsStepOf, IsCrossed};
 ghost use Rattle.move_lifting.specs.Cuts.{IsSplitSurface};
+ghost use Rattle.move_lifting.specs.declared.expanding.TheConstants.{MOST_PASSED_ENTRIES};
 
 use crate::crossing::{FaceStep, face_below, push_rest};
 use crate::cut::SplitSurface;
@@ -27,6 +28,9 @@ pub const MOST_LIFTED_SIDES: u32 = 16_384;
 
 /// The most darts of the walks between which a list of moves is made, together.
 pub const MOST_LIFTED_DARTS: u32 = 512;
+
+/// The most entries of a walk that is led off the cotree: no walk on the way has 2^31 entries then.
+pub(crate) const MOST_PASSED_ENTRIES: u32 = 131_071;
 
 /// Leads a walk off the cotree of a surface: every dart on a cotree edge is replaced by the rest of the face below the
 /// edge, again and again, and spurs are taken out.
@@ -76,7 +80,7 @@ pub(crate) fn lead_all(
 ) -> Result<Track, AllocError>
     requires on { IsSplitSurface on.now }
     requires walk { IsWalk on.now.surface.now.mesh (numbers walk.now) }
-    requires few { length walk.now ≤ MOST_LIFTED_SIDES + 1 }
+    requires few { length walk.now ≤ MOST_PASSED_ENTRIES }
     requires behind { behind ≤ MOST_LIFTED_DARTS }
     ensures leads { IfOk result (λ track. GoesOn on.now.surface.now.mesh behind (numbers walk.now) moves track.walk track.list) }
     ensures off_cotree { IfOk result (λ track. AvoidsCotree on.now.surface.now on.now.split.now track.walk) }
@@ -140,7 +144,7 @@ fn lead_on(
 }
 
 /// Replaces the step from the last vertex of a track, whose end is taken from `pending`, by the rest of its face.
-fn cross(
+pub(crate) fn cross(
     track: &mut Track,
     pending: &mut Vec<VertexName>,
     faces: &Faces,

@@ -17,8 +17,9 @@ ghost use Rattle.move_lifting.specs.declared.expanding.TheConstants.{MOST_LIFTED
 use crate::common_ends::CommonDarts;
 use crate::contracting::contract;
 use crate::cut::{Cut, SplitSurface};
-use crate::expanding::{lead_all, vertices_of};
+use crate::expanding::vertices_of;
 use crate::inserting::reduce_all;
+use crate::passing::lead_in_passes;
 use crate::reducing::Reduction;
 use crate::track::Track;
 use halfedge_map::Surface;
@@ -85,14 +86,14 @@ fn lift_between(
     let track = close(alloc, first, second)?;
     let (closed, moves) = track.into_parts()?;
     if polygon.degree() == 0 {
-        let track = lead_all(alloc, on, &closed, behind, moves)?;
+        let track = lead_in_passes(alloc, on, closed, behind, moves)?;
         return Ok(Some(track.into_moves()));
     }
     let reduction = Reduction::of(alloc, on.surface, polygon, &closed)?;
     if !reduction.leaves_nothing() {
         return Ok(None);
     }
-    let track = lead_all(alloc, on, &closed, behind, moves)?;
+    let track = lead_in_passes(alloc, on, closed, behind, moves)?;
     let cut = Cut { on: *on, polygon };
     let track = contract(alloc, &cut, reduction, track, behind)?;
     Ok(Some(track.into_moves()))

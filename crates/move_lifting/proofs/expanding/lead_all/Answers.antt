@@ -3,6 +3,7 @@ use Rattle.std.proofs.lemmas.List.{get_or-map}
 use Rattle.surf_model.specs.FaceLists.{is_edge}
 use Rattle.surf_model.specs.Vertices.{numbers}
 use Rattle.surf_model.specs.declared.names.VertexName.{VertexName}
+use Rattle.move_lifting.specs.Lifts.{AvoidsCotree}
 use Rattle.move_lifting.specs.Tracks.{TrackView}
 use Rattle.move_lifting.proofs.ExpandLemmas.{led_first, led_more, led_all, length-numbers}
 use Rattle.move_lifting.proofs.expanding.lead_all.Goals as goal
@@ -15,6 +16,8 @@ loop-place-init c =
     record {
       led = led_first c.args.on.now.surface.now c.args.on.now.split.now c.args.behind walk c.args.moves c.start-track.result _ some
           (get_or-map (λ (x : VertexName). x.0) c.args.walk.now 0 _ 0 (omega arith)) c.start-track.ensures;
+      off_cotree = subst (AvoidsCotree c.args.on.now.surface.now c.args.on.now.split.now)
+          (sym (ap (λ (t : TrackView). t.walk) c.start-track.ensures)) (λ k d l. absurd (omega arith));
       pending = c.in_ok-pending.ensures.items;
       few = omega (arith, ap (λ (t : TrackView). length t.walk) c.start-track.ensures);
     }
@@ -48,8 +51,8 @@ loop-place-preserved c =
           c.lead_on.new.track n _
           (length c.args.walk.now - n - 1 + c.args.behind) c.loop-place.invariant.led here
           (get_or-map (λ (x : VertexName). x.0) c.args.walk.now n _ 0 within) (omega arith) c.in_ok-lead_on.ensures.leads
-          c.in_ok-lead_on.ensures.some
-          c.in_ok-lead_on.ensures.no_spur c.in_ok-lead_on.ensures.off_cotree c.in_ok-lead_on.ensures.last c.in_ok-lead_on.ensures.leaves;
+          c.in_ok-lead_on.ensures.some c.in_ok-lead_on.ensures.no_spur c.in_ok-lead_on.ensures.last c.in_ok-lead_on.ensures.leaves;
+      off_cotree = c.in_ok-lead_on.ensures.off_cotree;
       pending = c.in_ok-lead_on.ensures.pending;
       few = omega (arith, c.in_ok-lead_on.ensures.long, c.loop-place.invariant.few, c.requires.on.sides);
     }

@@ -1,7 +1,7 @@
-use Rattle.std.proofs.Common.{◌≡◌, ℕ, ◌<◌, ◌≤◌, List, length, sym, subst, arith}
+use Rattle.std.proofs.Common.{ℕ, ◌<◌, ◌≤◌, List, length, sym, subst, arith}
 use Rattle.std.specs.Prelude.{MatchOption}
 use Rattle.surf_model.specs.FaceLists.{FaceList}
-use Rattle.surf_model.specs.Moves.{PeakedMoves, Homotopic, greatest_darts}
+use Rattle.surf_model.specs.Moves.{Homotopic, greatest_darts}
 use Rattle.move_lifting.specs.Lifts.{LeadsAtPeak}
 use Rattle.move_lifting.specs.Trimmed.{AreWalksTogether, between}
 use Rattle.move_lifting.specs.declared.common_ends.CommonDarts.{CommonDarts}

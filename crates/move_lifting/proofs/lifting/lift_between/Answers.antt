@@ -1,8 +1,9 @@
-use Rattle.std.proofs.Common.{◌≡◌, ℕ, ◌<◌, true, List, [], sym, ap, subst, arith}
+use Rattle.std.proofs.Common.{◌≡◌, ℕ, ◌<◌, true, List, [], drop, refl, sym, ap, ◌∙◌, subst, arith}
 use Rattle.std.proofs.lemmas.Bool.{both_ways}
+use Rattle.std.proofs.lemmas.List.{length-drop}
 use Rattle.surf_model.specs.Moves.{PeakedMoves}
 use Rattle.surf_model.specs.Vertices.{numbers}
-use Rattle.surf_model.specs.Walks.{IsWalk, darts}
+use Rattle.surf_model.specs.Walks.{IsWalk}
 use Rattle.surf_model.specs.declared.names.VertexName.{VertexName}
 use Rattle.spoke_paths.specs.Path_steps.{PathLeads}
 use Rattle.move_lifting.specs.Contractions.{IsLedFrom}
@@ -11,14 +12,21 @@ use Rattle.move_lifting.specs.Tracks.{GoesOn}
 use Rattle.move_lifting.proofs.LiftLemmas.{IsClosed, closed_is, IsOffCotree, off_cotree, second_left, second_stays, homotopic_leaves_nothing, steps_to_nothing, begun_freely}
 use Rattle.move_lifting.proofs.lifting.lift_between.Goals as goal
 
-pub lead_all-requires-clause-walk : goal.lead_all-requires-clause-walk
-lead_all-requires-clause-walk c =
+pub lead_in_passes-requires-clause-led : goal.lead_in_passes-requires-clause-led
+lead_in_passes-requires-clause-led c =
     let k : IsClosed c.args.on.now.surface.now.mesh c.args.first.now (numbers c.in_ok-closed.closed.items) c.args.second.now
     c.in_ok-closed.moves =
     closed_is c.args.on.now.surface.now.mesh c.args.first.now c.args.second.now c.in_ok-closed.closed.items c.in_ok-closed.moves
     c.in_ok-track.track c.requires.walks c.in_ok-track.ensures.leads c.in_ok-track.ensures.some c.in_ok-track.ensures.last
     c.in_ok-closed.ensures.vertices c.in_ok-closed.ensures.moves in
-    subst (λ (l : List VertexName). IsWalk c.args.on.now.surface.now.mesh (numbers l)) (sym c.deref.ensures.value) k.walk
+    record {
+      first = c.args.first.now;
+      rest = drop 1 c.args.second.now;
+      starts = c.requires.walks.along;
+      long = length-drop 1 c.args.second.now ∙ sym c.darts-behind.ensures.count;
+      leads = k.led;
+      some = k.some;
+    }
 
 pub of-requires-clause-walk : goal.of-requires-clause-walk
 of-requires-clause-walk c =
@@ -27,16 +35,23 @@ of-requires-clause-walk c =
     closed_is c.args.on.now.surface.now.mesh c.args.first.now c.args.second.now c.in_ok-closed.closed.items c.in_ok-closed.moves
     c.in_ok-track.track c.requires.walks c.in_ok-track.ensures.leads c.in_ok-track.ensures.some c.in_ok-track.ensures.last
     c.in_ok-closed.ensures.vertices c.in_ok-closed.ensures.moves in
-    subst (λ (l : List VertexName). IsWalk c.args.on.now.surface.now.mesh (numbers l)) (sym c.deref-2.ensures.value) k.walk
+    subst (λ (l : List VertexName). IsWalk c.args.on.now.surface.now.mesh (numbers l)) (sym c.deref.ensures.value) k.walk
 
-pub lead_all-requires-2-clause-walk : goal.lead_all-requires-2-clause-walk
-lead_all-requires-2-clause-walk c =
+pub lead_in_passes-requires-2-clause-led : goal.lead_in_passes-requires-2-clause-led
+lead_in_passes-requires-2-clause-led c =
     let k : IsClosed c.args.on.now.surface.now.mesh c.args.first.now (numbers c.in_ok-closed.closed.items) c.args.second.now
     c.in_ok-closed.moves =
     closed_is c.args.on.now.surface.now.mesh c.args.first.now c.args.second.now c.in_ok-closed.closed.items c.in_ok-closed.moves
     c.in_ok-track.track c.requires.walks c.in_ok-track.ensures.leads c.in_ok-track.ensures.some c.in_ok-track.ensures.last
     c.in_ok-closed.ensures.vertices c.in_ok-closed.ensures.moves in
-    subst (λ (l : List VertexName). IsWalk c.args.on.now.surface.now.mesh (numbers l)) (sym c.deref-3.ensures.value) k.walk
+    record {
+      first = c.args.first.now;
+      rest = drop 1 c.args.second.now;
+      starts = c.requires.walks.along;
+      long = length-drop 1 c.args.second.now ∙ sym c.darts-behind.ensures.count;
+      leads = k.led;
+      some = k.some;
+    }
 
 pub returns-then-degree-eq0 : goal.returns-then-degree-eq0
 returns-then-degree-eq0 c =
@@ -48,7 +63,7 @@ returns-then-degree-eq0 c =
     let off : IsOffCotree c.args.on.now.surface.now c.args.on.now.split.now c.args.first.now (numbers c.in_ok-closed.closed.items)
     c.args.second.now c.in_ok-closed.moves c.in_ok-track-2.track =
     off_cotree c.args.on.now.surface.now c.args.on.now.split.now c.args.first.now c.args.second.now c.in_ok-closed.closed.items
-    c.deref.result.now c.in_ok-closed.moves c.in_ok-track-2.track c.darts-behind.result c.requires.walks k c.deref.ensures.value
+    c.in_ok-closed.closed.items c.in_ok-closed.moves c.in_ok-track-2.track c.darts-behind.result c.requires.walks k refl
     c.darts-behind.ensures.count c.in_ok-track-2.ensures.leads c.in_ok-track-2.ensures.leaves c.in_ok-track-2.ensures.some
     c.in_ok-track-2.ensures.last in
     let sphere : c.args.on.now.split.now.genus ≡ 0 =
@@ -75,7 +90,7 @@ returns-then-not-leaves_nothing c = λ homotopic.
     let none : red.end ≡ [] =
     homotopic_leaves_nothing c.args.on.now.surface.now c.args.on.now.split.now c.args.polygon.now c.in_ok-reduction.ensures.valid
     c.requires.on.split c.requires.cut some_sides c.args.first.now (numbers c.in_ok-closed.closed.items) c.args.second.now
-    (numbers c.deref-2.result.now) c.in_ok-closed.moves c.in_ok-reduction.reduction red (ap numbers c.deref-2.ensures.value)
+    (numbers c.deref.result.now) c.in_ok-closed.moves c.in_ok-reduction.reduction red (ap numbers c.deref.ensures.value)
     c.requires.walks.along k.some c.requires.walks.beside.starts k.meets k.led homotopic in
     let yes : c.leaves_nothing.result ≡ true = (c.leaves_nothing.ensures red.end leads).1 none in
     both_ways c.leaves_nothing.result c.if-not-leaves_nothing.true yes
@@ -95,8 +110,8 @@ contract-requires-clause-reduction c =
     (sym red.wheel) red.leads in
     let none : red.end ≡ [] = (c.leaves_nothing.ensures red.end leads).0 c.if-not-leaves_nothing.false in
     steps_to_nothing c.args.on.now.surface.now c.args.on.now.split.now c.args.polygon.now c.in_ok-reduction.ensures.valid
-    c.requires.on.split c.requires.cut some_sides (numbers c.in_ok-closed.closed.items) (numbers c.deref-2.result.now)
-    c.in_ok-reduction.reduction red (ap numbers c.deref-2.ensures.value) k.walk none
+    c.requires.on.split c.requires.cut some_sides (numbers c.in_ok-closed.closed.items) (numbers c.deref.result.now)
+    c.in_ok-reduction.reduction red (ap numbers c.deref.ensures.value) k.walk none
 
 pub contract-requires-clause-led : goal.contract-requires-clause-led
 contract-requires-clause-led c =
@@ -108,7 +123,7 @@ contract-requires-clause-led c =
     let off : IsOffCotree c.args.on.now.surface.now c.args.on.now.split.now c.args.first.now (numbers c.in_ok-closed.closed.items)
     c.args.second.now c.in_ok-closed.moves c.in_ok-track-3.track =
     off_cotree c.args.on.now.surface.now c.args.on.now.split.now c.args.first.now c.args.second.now c.in_ok-closed.closed.items
-    c.deref-3.result.now c.in_ok-closed.moves c.in_ok-track-3.track c.darts-behind.result c.requires.walks k c.deref-3.ensures.value
+    c.in_ok-closed.closed.items c.in_ok-closed.moves c.in_ok-track-3.track c.darts-behind.result c.requires.walks k refl
     c.darts-behind.ensures.count c.in_ok-track-3.ensures.leads c.in_ok-track-3.ensures.leaves c.in_ok-track-3.ensures.some
     c.in_ok-track-3.ensures.last in
     subst (λ n. IsLedFrom c.args.on.now.surface.now.mesh n c.in_ok-track-3.track) (sym c.darts-behind.ensures.count) off.begun.led
@@ -123,7 +138,7 @@ contract-requires-clause-closed c =
     let off : IsOffCotree c.args.on.now.surface.now c.args.on.now.split.now c.args.first.now (numbers c.in_ok-closed.closed.items)
     c.args.second.now c.in_ok-closed.moves c.in_ok-track-3.track =
     off_cotree c.args.on.now.surface.now c.args.on.now.split.now c.args.first.now c.args.second.now c.in_ok-closed.closed.items
-    c.deref-3.result.now c.in_ok-closed.moves c.in_ok-track-3.track c.darts-behind.result c.requires.walks k c.deref-3.ensures.value
+    c.in_ok-closed.closed.items c.in_ok-closed.moves c.in_ok-track-3.track c.darts-behind.result c.requires.walks k refl
     c.darts-behind.ensures.count c.in_ok-track-3.ensures.leads c.in_ok-track-3.ensures.leaves c.in_ok-track-3.ensures.some
     c.in_ok-track-3.ensures.last in
     off.begun.home
@@ -138,14 +153,14 @@ contract-requires-clause-spokes c =
     let off : IsOffCotree c.args.on.now.surface.now c.args.on.now.split.now c.args.first.now (numbers c.in_ok-closed.closed.items)
     c.args.second.now c.in_ok-closed.moves c.in_ok-track-3.track =
     off_cotree c.args.on.now.surface.now c.args.on.now.split.now c.args.first.now c.args.second.now c.in_ok-closed.closed.items
-    c.deref-3.result.now c.in_ok-closed.moves c.in_ok-track-3.track c.darts-behind.result c.requires.walks k c.deref-3.ensures.value
+    c.in_ok-closed.closed.items c.in_ok-closed.moves c.in_ok-track-3.track c.darts-behind.result c.requires.walks k refl
     c.darts-behind.ensures.count c.in_ok-track-3.ensures.leads c.in_ok-track-3.ensures.leaves c.in_ok-track-3.ensures.some
     c.in_ok-track-3.ensures.last in
     let some_sides : 0 < c.args.polygon.now.degree = omega (arith, c.degree.ensures.degree, c.if-degree-eq0.false) in
     begun_freely c.args.on.now.surface.now c.args.on.now.split.now c.args.polygon.now c.in_ok-reduction.ensures.valid c.requires.on.split
-    c.requires.cut some_sides c.args.first.now (numbers c.in_ok-closed.closed.items) c.args.second.now (numbers c.deref-2.result.now)
+    c.requires.cut some_sides c.args.first.now (numbers c.in_ok-closed.closed.items) c.args.second.now (numbers c.deref.result.now)
     c.in_ok-closed.moves c.in_ok-track-3.track c.in_ok-reduction.reduction c.in_ok-reduction.ensures.reduction
-    (ap numbers c.deref-2.ensures.value) c.requires.walks.along k.some k.meets k.led off.begun c.in_ok-track-3.ensures.off_cotree off.last
+    (ap numbers c.deref.ensures.value) c.requires.walks.along k.some k.meets k.led off.begun c.in_ok-track-3.ensures.off_cotree off.last
 
 pub returns : goal.returns
 returns c =
@@ -157,7 +172,7 @@ returns c =
     let off : IsOffCotree c.args.on.now.surface.now c.args.on.now.split.now c.args.first.now (numbers c.in_ok-closed.closed.items)
     c.args.second.now c.in_ok-closed.moves c.in_ok-track-3.track =
     off_cotree c.args.on.now.surface.now c.args.on.now.split.now c.args.first.now c.args.second.now c.in_ok-closed.closed.items
-    c.deref-3.result.now c.in_ok-closed.moves c.in_ok-track-3.track c.darts-behind.result c.requires.walks k c.deref-3.ensures.value
+    c.in_ok-closed.closed.items c.in_ok-closed.moves c.in_ok-track-3.track c.darts-behind.result c.requires.walks k refl
     c.darts-behind.ensures.count c.in_ok-track-3.ensures.leads c.in_ok-track-3.ensures.leaves c.in_ok-track-3.ensures.some
     c.in_ok-track-3.ensures.last in
     subst (λ (l : PeakedMoves). LeadsAtPeak c.args.on.now.surface.now.mesh c.args.first.now l c.args.second.now)

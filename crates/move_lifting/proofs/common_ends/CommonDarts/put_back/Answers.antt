@@ -1,5 +1,4 @@
 use Rattle.std.proofs.Common.{◌≡◌, ◌+◌, ℕ, List, ap, sym, ◌∙◌, arith}
-use Rattle.surf_model.specs.Moves.{PeakedMoves}
 use Rattle.surf_model.specs.Rewriting.{all_raised}
 use Rattle.surf_model.specs.declared.moves.Move.{Move}
 use Rattle.move_lifting.proofs.TrimLemmas.{raised_nowhere}

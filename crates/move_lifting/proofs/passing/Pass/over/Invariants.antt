@@ -1,0 +1,12 @@
+use Rattle.std.proofs.Common.{◌≡◌, ◌+◌, ◌≤◌, [], length}
+use Rattle.surf_model.specs.Vertices.{numbers}
+use Rattle.move_lifting.specs.declared.expanding.TheConstants.{MOST_PASSED_ENTRIES}
+use Rattle.move_lifting.proofs.ExpandLemmas.{IsLedSoFar}
+use Rattle.move_lifting.proofs.passing.Pass.over.Given as goal
+
+abbrev pub invariant-loop-place : goal.invariant-loop-place
+invariant-loop-place l = record {
+  led : IsLedSoFar l.self.on.now.surface.now l.self.on.now.split.now l.self.behind (numbers l.walk) l.fn.moves l.track l.place;
+  pending : l.pending.items ≡ [];
+  few : length l.track.walk + length l.walk ≤ MOST_PASSED_ENTRIES + l.place;
+}

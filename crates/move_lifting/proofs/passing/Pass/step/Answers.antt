@@ -1,0 +1,124 @@
+use Rattle.std.proofs.Common.{◌≡◌, ℕ, ◌+◌, List, length, ap, ◌∙◌, subst, arith}
+use Rattle.std.proofs.lemmas.Result.{on_ok_weaker}
+use Rattle.surf_model.specs.FaceLists.{FaceList}
+use Rattle.surf_model.specs.Vertices.{numbers}
+use Rattle.halfedge_map.specs.OrientedMeshes.{OrientedMesh}
+use Rattle.tree_cotree.specs.Splits.{SplitView}
+use Rattle.move_lifting.specs.Crossings.{IsFaceBelow, IsCrossed}
+use Rattle.move_lifting.specs.Tracks.{last_of}
+use Rattle.move_lifting.proofs.ExpandLemmas.{length-numbers}
+use Rattle.move_lifting.proofs.LeavingLemmas.{leave_on, removed_leave}
+use Rattle.move_lifting.proofs.PassLemmas.{IsCrossedOnce, crossed_once}
+use Rattle.move_lifting.proofs.passing.Pass.step.Goals as goal
+
+pub put_pending-requires-clause-room : goal.put_pending-requires-clause-room
+put_pending-requires-clause-room c =
+    let s : OrientedMesh = c.args.self.now.on.now.surface.now in
+    let split : SplitView = c.args.self.now.on.now.split.now in
+    let after : ℕ = c.args.left + c.args.self.now.behind in
+    let under : IsFaceBelow s split (last_of c.args.track.now.walk) c.args.to.0 c.in-Some.step =
+    subst (λ (x : ℕ). IsFaceBelow s split x c.args.to.0 c.in-Some.step) c.last.ensures.vertex c.in-Some.ensures.below in
+    let crossed : IsCrossed s.mesh c.in-Some.step after c.args.track.now (numbers c.args.pending.now.items) c.cross.new.track
+    (numbers c.cross.new.pending.items) =
+    subst (λ (m : FaceList). IsCrossed m c.in-Some.step after c.args.track.now (numbers c.args.pending.now.items) c.cross.new.track
+    (numbers c.cross.new.pending.items)) c.faces.ensures.mesh c.in_ok-cross-in-Some.ensures in
+    let once : IsCrossedOnce s split after c.args.to.0 c.in-Some.step c.args.track.now c.cross.new.track
+    (numbers c.cross.new.pending.items) =
+    crossed_once s split c.faces.ensures.valid after c.args.to.0 c.in-Some.step c.args.track.now c.cross.new.track
+    (numbers c.args.pending.now.items) (numbers c.cross.new.pending.items) (ap numbers c.requires.pending) c.requires.some under crossed in
+    let same : length c.cross.new.track.walk ≡ length c.args.track.now.walk = ap (λ (l : List ℕ). length l) crossed.walk in
+    omega (
+      arith,
+      same,
+      once.long,
+      length-numbers c.cross.new.pending.items,
+      c.in-Some.ensures.room,
+      c.place.ensures,
+      c.requires.some,
+      c.requires.pass.behind,
+    )
+
+pub returns-in_ok-cross-in-Some-clause-last : goal.returns-in_ok-cross-in-Some-clause-last
+returns-in_ok-cross-in-Some-clause-last c =
+    let s : OrientedMesh = c.args.self.now.on.now.surface.now in
+    let split : SplitView = c.args.self.now.on.now.split.now in
+    let after : ℕ = c.args.left + c.args.self.now.behind in
+    let under : IsFaceBelow s split (last_of c.args.track.now.walk) c.args.to.0 c.in-Some.step =
+    subst (λ (x : ℕ). IsFaceBelow s split x c.args.to.0 c.in-Some.step) c.last.ensures.vertex c.in-Some.ensures.below in
+    let crossed : IsCrossed s.mesh c.in-Some.step after c.args.track.now (numbers c.args.pending.now.items) c.cross.new.track
+    (numbers c.cross.new.pending.items) =
+    subst (λ (m : FaceList). IsCrossed m c.in-Some.step after c.args.track.now (numbers c.args.pending.now.items) c.cross.new.track
+    (numbers c.cross.new.pending.items)) c.faces.ensures.mesh c.in_ok-cross-in-Some.ensures in
+    let once : IsCrossedOnce s split after c.args.to.0 c.in-Some.step c.args.track.now c.cross.new.track
+    (numbers c.cross.new.pending.items) =
+    crossed_once s split c.faces.ensures.valid after c.args.to.0 c.in-Some.step c.args.track.now c.cross.new.track
+    (numbers c.args.pending.now.items) (numbers c.cross.new.pending.items) (ap numbers c.requires.pending) c.requires.some under crossed in
+    on_ok_weaker c.put_pending.result (λ e. e ∙ once.last) c.put_pending.ensures.last
+
+pub returns-in_ok-cross-in-Some-clause-few : goal.returns-in_ok-cross-in-Some-clause-few
+returns-in_ok-cross-in-Some-clause-few c =
+    let s : OrientedMesh = c.args.self.now.on.now.surface.now in
+    let split : SplitView = c.args.self.now.on.now.split.now in
+    let after : ℕ = c.args.left + c.args.self.now.behind in
+    let under : IsFaceBelow s split (last_of c.args.track.now.walk) c.args.to.0 c.in-Some.step =
+    subst (λ (x : ℕ). IsFaceBelow s split x c.args.to.0 c.in-Some.step) c.last.ensures.vertex c.in-Some.ensures.below in
+    let crossed : IsCrossed s.mesh c.in-Some.step after c.args.track.now (numbers c.args.pending.now.items) c.cross.new.track
+    (numbers c.cross.new.pending.items) =
+    subst (λ (m : FaceList). IsCrossed m c.in-Some.step after c.args.track.now (numbers c.args.pending.now.items) c.cross.new.track
+    (numbers c.cross.new.pending.items)) c.faces.ensures.mesh c.in_ok-cross-in-Some.ensures in
+    let once : IsCrossedOnce s split after c.args.to.0 c.in-Some.step c.args.track.now c.cross.new.track
+    (numbers c.cross.new.pending.items) =
+    crossed_once s split c.faces.ensures.valid after c.args.to.0 c.in-Some.step c.args.track.now c.cross.new.track
+    (numbers c.args.pending.now.items) (numbers c.cross.new.pending.items) (ap numbers c.requires.pending) c.requires.some under crossed in
+    let same : length c.cross.new.track.walk ≡ length c.args.track.now.walk = ap (λ (l : List ℕ). length l) crossed.walk in
+    on_ok_weaker c.put_pending.result
+    (λ long. omega (
+      arith,
+      long,
+      same,
+      once.long,
+      length-numbers c.cross.new.pending.items,
+      c.in-Some.ensures.room,
+      c.place.ensures,
+      c.requires.some,
+    )) c.put_pending.ensures.long
+
+pub returns-in_ok-cross-in-Some-clause-leads : goal.returns-in_ok-cross-in-Some-clause-leads
+returns-in_ok-cross-in-Some-clause-leads c =
+    let s : OrientedMesh = c.args.self.now.on.now.surface.now in
+    let split : SplitView = c.args.self.now.on.now.split.now in
+    let after : ℕ = c.args.left + c.args.self.now.behind in
+    let under : IsFaceBelow s split (last_of c.args.track.now.walk) c.args.to.0 c.in-Some.step =
+    subst (λ (x : ℕ). IsFaceBelow s split x c.args.to.0 c.in-Some.step) c.last.ensures.vertex c.in-Some.ensures.below in
+    let crossed : IsCrossed s.mesh c.in-Some.step after c.args.track.now (numbers c.args.pending.now.items) c.cross.new.track
+    (numbers c.cross.new.pending.items) =
+    subst (λ (m : FaceList). IsCrossed m c.in-Some.step after c.args.track.now (numbers c.args.pending.now.items) c.cross.new.track
+    (numbers c.cross.new.pending.items)) c.faces.ensures.mesh c.in_ok-cross-in-Some.ensures in
+    let once : IsCrossedOnce s split after c.args.to.0 c.in-Some.step c.args.track.now c.cross.new.track
+    (numbers c.cross.new.pending.items) =
+    crossed_once s split c.faces.ensures.valid after c.args.to.0 c.in-Some.step c.args.track.now c.cross.new.track
+    (numbers c.args.pending.now.items) (numbers c.cross.new.pending.items) (ap numbers c.requires.pending) c.requires.some under crossed in
+    on_ok_weaker c.put_pending.result (λ goes first rest l h. goes s.mesh first rest l (once.goes first rest l h))
+    c.put_pending.ensures.leads
+
+pub returns-in_ok-cross-in-Some-clause-leaves : goal.returns-in_ok-cross-in-Some-clause-leaves
+returns-in_ok-cross-in-Some-clause-leaves c =
+    let s : OrientedMesh = c.args.self.now.on.now.surface.now in
+    let split : SplitView = c.args.self.now.on.now.split.now in
+    let after : ℕ = c.args.left + c.args.self.now.behind in
+    let under : IsFaceBelow s split (last_of c.args.track.now.walk) c.args.to.0 c.in-Some.step =
+    subst (λ (x : ℕ). IsFaceBelow s split x c.args.to.0 c.in-Some.step) c.last.ensures.vertex c.in-Some.ensures.below in
+    let crossed : IsCrossed s.mesh c.in-Some.step after c.args.track.now (numbers c.args.pending.now.items) c.cross.new.track
+    (numbers c.cross.new.pending.items) =
+    subst (λ (m : FaceList). IsCrossed m c.in-Some.step after c.args.track.now (numbers c.args.pending.now.items) c.cross.new.track
+    (numbers c.cross.new.pending.items)) c.faces.ensures.mesh c.in_ok-cross-in-Some.ensures in
+    let once : IsCrossedOnce s split after c.args.to.0 c.in-Some.step c.args.track.now c.cross.new.track
+    (numbers c.cross.new.pending.items) =
+    crossed_once s split c.faces.ensures.valid after c.args.to.0 c.in-Some.step c.args.track.now c.cross.new.track
+    (numbers c.args.pending.now.items) (numbers c.cross.new.pending.items) (ap numbers c.requires.pending) c.requires.some under crossed in
+    on_ok_weaker c.put_pending.result
+    (λ more. leave_on s split c.args.track.now.list.moves c.cross.new.track.list.moves c.put_pending.new.track.list.moves once.leaves
+    (removed_leave s split c.cross.new.track.list.moves c.put_pending.new.track.list.moves more)) c.put_pending.ensures.removals
+
+pub returns-in-None-clause-leads : goal.returns-in-None-clause-leads
+returns-in-None-clause-leads c = on_ok_weaker c.put.result (λ goes. goes c.args.self.now.on.now.surface.now.mesh) c.put.ensures.leads

@@ -1,0 +1,11 @@
+use Rattle.std.proofs.Common.{length}
+use Rattle.surf_model.specs.Vertices.{numbers}
+use Rattle.move_lifting.proofs.PassLemmas.{ArePutSoFar}
+use Rattle.move_lifting.proofs.passing.put_pending.Given as goal
+
+abbrev pub invariant-loop-next : goal.invariant-loop-next
+invariant-loop-next l = ArePutSoFar l.behind l.initial.track (numbers l.initial.pending.items) l.track l.pending.items
+
+-- one vertex is taken from what is pending
+abbrev pub decreases-loop-next : goal.decreases-loop-next
+decreases-loop-next l = length l.pending.items
