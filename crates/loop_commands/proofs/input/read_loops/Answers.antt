@@ -30,8 +30,8 @@ returns-in-Ok-clause-reads g c =
       inr (walks, rw c.deref.ensures.value at c.in_ok-walks.ensures.end, rw none refl),
     ))
 
-pub returns-in-Err-clause-reads : goal.returns-in-Err-clause-reads
-returns-in-Err-clause-reads g c =
+pub returns-clause-reads : goal.returns-in-Err-clause-reads
+returns-clause-reads g c =
     let fault = c.in-Err.fault in
     let stop = c.stop_for.result in
     reads_faulty g.S.Shelf.held g.S.Shelf.faults c.args.shelf.now c.read_file.new.shelf _ stop c.in_ok-bytes.ensures.only_reads

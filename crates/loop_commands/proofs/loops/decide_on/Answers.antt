@@ -14,3 +14,14 @@ pub of-requires-clause-used : goal.of-requires-clause-used
 of-requires-clause-used c =
     subst (λ (v : ℕ). is_used c.args.surface.faces v ≡ true) (sym c.at.ensures)
     (c.requires.first.is_walk.used 0 0 c.requires.first.is_walk.starts)
+
+pub has-requires : goal.has-requires
+has-requires c =
+    let second : ℕ = c.at-2.result.0 in (
+      c.args.surface.faces,
+      c.at.result.0,
+      c.in_ok-component.ensures,
+      used_below c.args.surface.faces second c.requires.signed.valid
+          (subst (λ (v : ℕ). is_used c.args.surface.faces v ≡ true) (sym c.at-2.ensures)
+          (c.requires.second.is_walk.used 0 0 c.requires.second.is_walk.starts)),
+    )
