@@ -30,7 +30,7 @@ returns-in-Ok-clause-reads g c =
       inr (walks, rw c.deref.ensures.value at c.in_ok-walks.ensures.end, rw none refl),
     ))
 
-pub returns-clause-reads : goal.returns-in-Err-clause-reads
+pub returns-clause-reads : goal.returns-clause-reads
 returns-clause-reads g c =
     let fault = c.in-Err.fault in
     let stop = c.stop_for.result in
