@@ -28,28 +28,37 @@ pub no_row : (words : List (List ℕ)) (name : List ℕ) (others : List (String 
     → (row : Row) → IsRow words row → ⊥
 no_row words name others e s d c l o p v r t (Surface mesh) is =
     let same : name ∷ texts others ≡ codes "surface" ∷ mesh ∷ [] = sym e ∙ is in
-    s (first_is name (texts others) (codes "surface") (mesh ∷ []) same) (behind others (mesh ∷ []) (rest_is name (texts others) (codes "surface") (mesh ∷ []) same))
+    s (first_is name (texts others) (codes "surface") (mesh ∷ []) same)
+    (behind others (mesh ∷ []) (rest_is name (texts others) (codes "surface") (mesh ∷ []) same))
 no_row words name others e s d c l o p v r t (Decide mesh walks) is =
     let same : name ∷ texts others ≡ codes "decide" ∷ mesh ∷ walks ∷ [] = sym e ∙ is in
-    d (first_is name (texts others) (codes "decide") (mesh ∷ walks ∷ []) same) (behind others (mesh ∷ walks ∷ []) (rest_is name (texts others) (codes "decide") (mesh ∷ walks ∷ []) same))
+    d (first_is name (texts others) (codes "decide") (mesh ∷ walks ∷ []) same)
+    (behind others (mesh ∷ walks ∷ []) (rest_is name (texts others) (codes "decide") (mesh ∷ walks ∷ []) same))
 no_row words name others e s d c l o p v r t (Certify mesh walks) is =
     let same : name ∷ texts others ≡ codes "certify" ∷ mesh ∷ walks ∷ [] = sym e ∙ is in
-    c (first_is name (texts others) (codes "certify") (mesh ∷ walks ∷ []) same) (behind others (mesh ∷ walks ∷ []) (rest_is name (texts others) (codes "certify") (mesh ∷ walks ∷ []) same))
+    c (first_is name (texts others) (codes "certify") (mesh ∷ walks ∷ []) same)
+    (behind others (mesh ∷ walks ∷ []) (rest_is name (texts others) (codes "certify") (mesh ∷ walks ∷ []) same))
 no_row words name others e s d c l o p v r t (Loops mesh walks) is =
     let same : name ∷ texts others ≡ codes "loops" ∷ mesh ∷ walks ∷ [] = sym e ∙ is in
-    l (first_is name (texts others) (codes "loops") (mesh ∷ walks ∷ []) same) (behind others (mesh ∷ walks ∷ []) (rest_is name (texts others) (codes "loops") (mesh ∷ walks ∷ []) same))
+    l (first_is name (texts others) (codes "loops") (mesh ∷ walks ∷ []) same)
+    (behind others (mesh ∷ walks ∷ []) (rest_is name (texts others) (codes "loops") (mesh ∷ walks ∷ []) same))
 no_row words name others e s d c l o p v r t (DecideOpen mesh walks) is =
     let same : name ∷ texts others ≡ codes "decide-open" ∷ mesh ∷ walks ∷ [] = sym e ∙ is in
-    o (first_is name (texts others) (codes "decide-open") (mesh ∷ walks ∷ []) same) (behind others (mesh ∷ walks ∷ []) (rest_is name (texts others) (codes "decide-open") (mesh ∷ walks ∷ []) same))
+    o (first_is name (texts others) (codes "decide-open") (mesh ∷ walks ∷ []) same)
+    (behind others (mesh ∷ walks ∷ []) (rest_is name (texts others) (codes "decide-open") (mesh ∷ walks ∷ []) same))
 no_row words name others e s d c l o p v r t (CertifyOpen mesh walks) is =
     let same : name ∷ texts others ≡ codes "certify-open" ∷ mesh ∷ walks ∷ [] = sym e ∙ is in
-    p (first_is name (texts others) (codes "certify-open") (mesh ∷ walks ∷ []) same) (behind others (mesh ∷ walks ∷ []) (rest_is name (texts others) (codes "certify-open") (mesh ∷ walks ∷ []) same))
+    p (first_is name (texts others) (codes "certify-open") (mesh ∷ walks ∷ []) same)
+    (behind others (mesh ∷ walks ∷ []) (rest_is name (texts others) (codes "certify-open") (mesh ∷ walks ∷ []) same))
 no_row words name others e s d c l o p v r t (Verify mesh walks certificate) is =
     let same : name ∷ texts others ≡ codes "verify" ∷ mesh ∷ walks ∷ certificate ∷ [] = sym e ∙ is in
-    v (first_is name (texts others) (codes "verify") (mesh ∷ walks ∷ certificate ∷ []) same) (behind others (mesh ∷ walks ∷ certificate ∷ []) (rest_is name (texts others) (codes "verify") (mesh ∷ walks ∷ certificate ∷ []) same))
+    v (first_is name (texts others) (codes "verify") (mesh ∷ walks ∷ certificate ∷ []) same)
+    (behind others (mesh ∷ walks ∷ certificate ∷ []) (rest_is name (texts others) (codes "verify") (mesh ∷ walks ∷ certificate ∷ []) same))
 no_row words name others e s d c l o p v r t (Reduce degree list) is =
     let same : name ∷ texts others ≡ codes "reduce" ∷ is.0 ∷ list ∷ [] = sym e ∙ is.1 in
-    r (first_is name (texts others) (codes "reduce") (is.0 ∷ list ∷ []) same) (behind others (is.0 ∷ list ∷ []) (rest_is name (texts others) (codes "reduce") (is.0 ∷ list ∷ []) same))
+    r (first_is name (texts others) (codes "reduce") (is.0 ∷ list ∷ []) same)
+    (behind others (is.0 ∷ list ∷ []) (rest_is name (texts others) (codes "reduce") (is.0 ∷ list ∷ []) same))
 no_row words name others e s d c l o p v r t (Trial genus grid) is =
     let same : name ∷ texts others ≡ codes "trial" ∷ is.0 ∷ is.1 ∷ [] = sym e ∙ is.2 in
-    t (first_is name (texts others) (codes "trial") (is.0 ∷ is.1 ∷ []) same) (behind others (is.0 ∷ is.1 ∷ []) (rest_is name (texts others) (codes "trial") (is.0 ∷ is.1 ∷ []) same))
+    t (first_is name (texts others) (codes "trial") (is.0 ∷ is.1 ∷ []) same)
+    (behind others (is.0 ∷ is.1 ∷ []) (rest_is name (texts others) (codes "trial") (is.0 ∷ is.1 ∷ []) same))
