@@ -24,7 +24,7 @@ use std::alloc::{AllocError, Global};
 use std::marker::Brand;
 use std::sync::ledger::{Blank, Ledger};
 use surf_io::Shelf;
-use turn_words::{Canoniser, Steps, TurnWord, WordFault};
+use turn_words::{Steps, TurnWord, WordFault, canonise};
 use walk_files::{NumberLines, read_words};
 
 /// The least degree of turn words.
@@ -96,10 +96,9 @@ fn canonise_lines<L: Ledger>(
         × Tells (range_line line) stop)) }
 {
     let mut steps: Steps<L> = Steps::new(blank);
-    let mut canoniser = Canoniser::new(alloc);
     let mut words = Vec::new(alloc);
     for k in 0..lines.len() {
-        let word = canonise_line(&mut canoniser, degree, lines, k, &mut steps)?;
+        let word = canonise_line(alloc, degree, lines, k, &mut steps)?;
         words.push(word).map_err(AllocError::from)?;
     }
     Ok(words)
@@ -107,7 +106,7 @@ fn canonise_lines<L: Ledger>(
 
 /// The canonical word of line `k`, counted from 0.
 fn canonise_line<L: Ledger>(
-    canoniser: &mut Canoniser,
+    alloc: Global,
     degree: u32,
     lines: &NumberLines,
     k: u64,
@@ -121,7 +120,7 @@ fn canonise_line<L: Ledger>(
         (λ stop. (stop ≡ Stop.OutOfMemory) ⊎ ((list_all (λ entry. nat_lt entry degree) (line_at lines.now k).numbers ≡ false)
         × Tells (range_line (line_at lines.now k).line) stop)) }
 {
-    match canoniser.canonise(degree, lines.numbers(k), steps) {
+    match canonise(alloc, degree, lines.numbers(k), steps) {
         Ok(word) => Ok(word),
         Err(WordFault::Degree) => unreachable!(),
         Err(WordFault::Range { .. }) => Err(refused_at("list", lines.line(k), "range")),

@@ -1,5 +1,5 @@
 //! The canonical word that a turn word reaches.
-ghost use Rattle.std.specs.Prelude.{⊤, ◌≡◌, ◌⊎◌, ℕ, ◌+◌, ◌*◌, ◌<◌, ◌≤◌, List, All, Contains, length, IfOk, MatchResult, MatchOption};
+ghost use Rattle.std.specs.Prelude.{◌≡◌, ◌⊎◌, ℕ, ◌+◌, ◌*◌, ◌<◌, ◌≤◌, List, All, Contains, length, IfOk, MatchResult, MatchOption};
 ghost use Rattle.turn_words.specs.Canonical.{IsCanonical, IsCanonicalOf, IsTurnWord};
 ghost use Rattle.turn_words.specs.Step_table.{Reaches};
 ghost use Rattle.turn_words.specs.Word_faults.{IsFirstAbove, IsWordFaultOf};
@@ -11,8 +11,6 @@ use crate::put::put_turn;
 use crate::run_word::RunWord;
 use crate::word::TurnWord;
 use std::alloc::{AllocError, Global};
-use std::marker::Model;
-use std::mem::replace;
 use std::sync::ledger::Ledger;
 
 /// The most entries of a word whose canonical word is looked for.
@@ -55,65 +53,20 @@ pub fn canonise<L: Ledger>(
     ensures cases { MatchResult result (λ _. IsTurnWord degree word.now) (IsWordFaultOf degree word.now) }
     ensures counted { steps.new ≤ steps.old + 8 * length word.now }
 {
-    Canoniser::new(alloc).canonise(degree, word, steps)
-}
-
-/// Finds the canonical words of many words, one after another, in room that is taken once.
-#[derive(Debug, Drop)]
-pub struct Canoniser {
-    alloc: Global,
-    /// What it holds between two calls means nothing.
-    room: RunWord,
-}
-
-impl Model for Canoniser {
-    ghost Value = { ⊤ };
-
-    ghost view = { λ _. tt };
-}
-
-impl Canoniser {
-    /// No room yet. It takes no memory.
-    pub fn new(alloc: Global) -> Canoniser {
-        Canoniser {
-            alloc,
-            room: RunWord::new(alloc),
-        }
+    if degree < 5 {
+        return Err(WordFault::Degree);
     }
-
-    /// What `canonise` gives, and for the same reasons.
-    pub fn canonise<L: Ledger>(
-        &mut self,
-        degree: u32,
-        word: &[u32],
-        steps: &mut Steps<L>,
-    ) -> Result<TurnWord, WordFault>
-        requires { length word.now ≤ MOST_ENTRIES }
-        ensures canonical { IfOk result (λ canonical. IsCanonicalOf degree word.now canonical) }
-        ensures only { IfOk result (λ canonical. (other : List ℕ) → IsCanonicalOf degree word.now other → other ≡ canonical) }
-        ensures same { IfOk result (λ canonical. IsCanonical degree word.now → canonical ≡ word.now) }
-        ensures cases { MatchResult result (λ _. IsTurnWord degree word.now) (IsWordFaultOf degree word.now) }
-        ensures counted { steps.new ≤ steps.old + 8 * length word.now }
-    {
-        if degree < 5 {
-            return Err(WordFault::Degree);
-        }
-        if let Some(at) = first_above(degree, word) {
-            return Err(WordFault::Range { at: at as u32 });
-        }
-        // The word that is put together is a value of this call, so that it need not go through memory.
-        let mut canonical = replace(&mut self.room, RunWord::new(self.alloc));
-        canonical.clear();
-        canonical.reserve(word.len() as u32)?;
-        let mut change = 0;
-        for entry in word {
-            let turn = sum_modulo(degree, *entry, change);
-            change = put_turn(&mut canonical, degree, turn, steps).change;
-        }
-        let written = canonical.written(self.alloc)?;
-        self.room = canonical;
-        Ok(written)
+    if let Some(at) = first_above(degree, word) {
+        return Err(WordFault::Range { at: at as u32 });
     }
+    // The word that is put together is passed to no call, so it need not go through memory.
+    let mut canonical = RunWord::with_room(alloc, word.len() as u32)?;
+    let mut change = 0;
+    for entry in word {
+        let turn = sum_modulo(degree, *entry, change);
+        change = put_turn(&mut canonical, degree, turn, steps).change;
+    }
+    Ok(canonical.written(alloc)?)
 }
 
 /// The first entry that is not below the degree.

@@ -26,7 +26,7 @@ mod step;
 mod wheel;
 mod word;
 
-pub use canonising::{Canoniser, MOST_ENTRIES, WordFault, canonise};
+pub use canonising::{MOST_ENTRIES, WordFault, canonise};
 pub use counter::Steps;
 pub use form::Form;
 pub use hyper::Hyper;

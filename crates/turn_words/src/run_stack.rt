@@ -40,6 +40,16 @@ impl RunStack {
         }
     }
 
+    /// No runs, with room for so many.
+    #[inline(always)]
+    pub(crate) fn with_room(alloc: Global, runs: u64) -> Result<RunStack, AllocError>
+        ensures { IfOk result (λ stack. (stack.runs ≡ []) × (runs ≤ stack.spare)) }
+    {
+        Ok(RunStack {
+            pairs: Vec::with_capacity(alloc, runs as usize)?,
+        })
+    }
+
     /// Makes room, so that as many runs can be pushed without a want of memory. The runs stay.
     pub fn reserve(&mut self, runs: u64) -> Result<(), AllocError>
         ensures spare { OnOk result (runs ≤ self.new.spare) }

@@ -51,6 +51,18 @@ impl RunWord {
         }
     }
 
+    /// The empty word, with room for so many entries and for one run beside them.
+    #[inline(always)]
+    pub(crate) fn with_room(alloc: Global, entries: u32) -> Result<RunWord, AllocError>
+        ensures { IfOk result (λ word. (word.word ≡ []) × (entries + 1 ≤ word.room)) }
+    {
+        Ok(RunWord {
+            len: 0,
+            start: 0,
+            runs: RunStack::with_room(alloc, u64::from(entries) + 1)?,
+        })
+    }
+
     /// Makes room in all for as many entries more than the word has, and for one run beside them.
     pub(crate) fn reserve(&mut self, entries: u32) -> Result<(), AllocError>
         ensures word { self.new.word ≡ self.old.word }

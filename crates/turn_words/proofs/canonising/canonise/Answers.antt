@@ -1,7 +1,7 @@
 use Rattle.std.proofs.Common.{arith, rules, ◌≡◌, ◌<◌, All, sym, ◌∙◌}
 use Rattle.turn_words.specs.Canonical.{IsTurnWord}
 use Rattle.turn_words.proofs.Unique.{ReadsTo, left, reads-more, reads-end, left-is-canonical, canonical-is-left, kept}
-use Rattle.turn_words.proofs.canonising.Canoniser.canonise.Goals as goal
+use Rattle.turn_words.proofs.canonising.canonise.Goals as goal
 
 pub loop-entry-preserved : goal.loop-entry-preserved
 loop-entry-preserved g c =
@@ -26,7 +26,7 @@ returns-clause-canonical g c =
     let word = c.args.word.now in
     let all : All (λ entry. entry < d) word = search rules in
     let turns : IsTurnWord d word = record { five = omega arith; in_range = all } in
-    let is : c.in_ok-written.written ≡ left d word =
+    let is : c.in_ok-written.field-0 ≡ left d word =
     c.in_ok-written.ensures ∙ reads-end d word c.loop-entry.entry-index c.loop-entry.canonical.word c.loop-entry.change (omega arith)
     c.loop-entry.invariant.reads in
     rw is (left-is-canonical d word turns)
@@ -37,7 +37,7 @@ returns-clause-only g c =
     let word = c.args.word.now in
     let all : All (λ entry. entry < d) word = search rules in
     let turns : IsTurnWord d word = record { five = omega arith; in_range = all } in
-    let is : c.in_ok-written.written ≡ left d word =
+    let is : c.in_ok-written.field-0 ≡ left d word =
     c.in_ok-written.ensures ∙ reads-end d word c.loop-entry.entry-index c.loop-entry.canonical.word c.loop-entry.change (omega arith)
     c.loop-entry.invariant.reads in
     λ other f. canonical-is-left d word other turns f ∙ sym is
@@ -48,7 +48,7 @@ returns-clause-same g c =
     let word = c.args.word.now in
     let all : All (λ entry. entry < d) word = search rules in
     let turns : IsTurnWord d word = record { five = omega arith; in_range = all } in
-    let is : c.in_ok-written.written ≡ left d word =
+    let is : c.in_ok-written.field-0 ≡ left d word =
     c.in_ok-written.ensures ∙ reads-end d word c.loop-entry.entry-index c.loop-entry.canonical.word c.loop-entry.change (omega arith)
     c.loop-entry.invariant.reads in
     λ canonical. is ∙ kept d word (left d word) turns canonical (left-is-canonical d word turns)

@@ -1,6 +1,6 @@
 use Rattle.std.proofs.Common.{◌≤◌, ◌+◌, ◌*◌, length}
 use Rattle.turn_words.proofs.Unique.{ReadsTo}
-use Rattle.turn_words.proofs.canonising.Canoniser.canonise.Given as goal
+use Rattle.turn_words.proofs.canonising.canonise.Given as goal
 
 abbrev pub invariant-loop-entry : goal.invariant-loop-entry
 invariant-loop-entry g l = record {
