@@ -44,5 +44,5 @@ pub use stream::CertStream;
 pub use stream_end::StreamEnd;
 pub use walk_list::WalkList;
 pub use walks::read_walks;
-pub use words::read_words;
+pub use words::{WordReader, read_words};
 pub use write::write_moves;
