@@ -20,9 +20,7 @@ pub fn read_words(alloc: Global, bytes: &[u8]) -> Result<NumberLines, WalkFault>
     let mut reader = WordReader::new(alloc, bytes);
     let mut lists = LinesBuilder::new(alloc);
     while reader.next_word()? {
-        for entry in reader.entries() {
-            lists.push(*entry)?;
-        }
+        lists.extend(reader.entries())?;
         lists.close(reader.line())?;
     }
     Ok(lists.finish())
@@ -41,7 +39,7 @@ pub struct WordReader<'a> {
 }
 
 impl<'a> Model for WordReader<'a> {
-    ghost use Rattle.std.specs.Prelude.{◌≤◌};
+    ghost use Rattle.std.specs.Prelude.{◌≤◌, length};
     ghost use Rattle.text_scan.specs.Unread.{lines_left};
     ghost use Rattle.walk_files.specs.NumberTexts.{WordsLeft, words_on};
     ghost use Rattle.walk_files.specs.declared.limits.TheConstants.{MOST_LINES};
@@ -51,13 +49,14 @@ impl<'a> Model for WordReader<'a> {
     ghost view = { λ a. record {
       present = record { line = a.line; numbers = a.entries.items };
       left = words_on a.count (lines_left a.cursor);
+      lines = length (lines_left a.cursor);
     } };
 
     ghost invariant = { λ a. a.count ≤ MOST_LINES };
 }
 
 impl<'a> WordReader<'a> {
-    ghost use Rattle.std.specs.Prelude.{[], if◌then◌else◌};
+    ghost use Rattle.std.specs.Prelude.{◌<◌, [], if◌then◌else◌, IfOk};
     ghost use Rattle.text_scan.specs.Each.{ok_first};
 
     /// The beginning of a text. It takes no memory.
@@ -74,9 +73,10 @@ impl<'a> WordReader<'a> {
 
     /// Reads the next turn word. `false` where there is none.
     pub fn next_word(&mut self) -> Result<bool, WalkFault>
-        ensures { MatchResult result
+        ensures word { MatchResult result
             (λ more. self.old.left ≡ (if more then ok_first (Ok self.new.present) self.new.left else Ok []))
             (λ fault. (self.old.left ≡ Err fault) ⊎ (fault ≡ OutOfMemory)) }
+        ensures fewer { IfOk result (λ more. IsTrue more → self.new.lines < self.old.lines) }
     {
         if !self.cursor.find_line() {
             return Ok(false);
