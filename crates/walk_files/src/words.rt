@@ -1,5 +1,5 @@
 //! Reading turn words.
-ghost use Rattle.std.specs.Prelude.{◌≡◌, ◌⊎◌, ◌++◌, [], ◌∷◌, length, IsTrue, OnOk, OnErr, MatchResult, Ok, Err, nat_lt, if◌then◌else◌};
+ghost use Rattle.std.specs.Prelude.{◌≡◌, ◌≤◌, ◌⊎◌, ◌++◌, [], ◌∷◌, length, IsTrue, OnOk, OnErr, MatchResult, Ok, Err, nat_lt, if◌then◌else◌};
 ghost use Rattle.text_scan.specs.Lines.{is_filled};
 ghost use Rattle.walk_files.specs.declared.fault.WalkFault.TheVariants.{BadNumber, TooLong, OutOfMemory};
 ghost use Rattle.walk_files.specs.declared.limits.TheConstants.{MOST_ENTRIES};
@@ -42,7 +42,7 @@ impl<'a> Model for WordReader<'a> {
     ghost use Rattle.std.specs.Prelude.{◌≤◌, length};
     ghost use Rattle.text_scan.specs.Unread.{lines_left};
     ghost use Rattle.walk_files.specs.NumberTexts.{WordsLeft, words_on};
-    ghost use Rattle.walk_files.specs.declared.limits.TheConstants.{MOST_LINES};
+    ghost use Rattle.walk_files.specs.declared.limits.TheConstants.{MOST_ENTRIES, MOST_LINES};
 
     ghost Value = { WordsLeft };
 
@@ -52,11 +52,11 @@ impl<'a> Model for WordReader<'a> {
       lines = length (lines_left a.cursor);
     } };
 
-    ghost invariant = { λ a. a.count ≤ MOST_LINES };
+    ghost invariant = { λ a. (a.count ≤ MOST_LINES) × (length a.entries.items ≤ MOST_ENTRIES) };
 }
 
 impl<'a> WordReader<'a> {
-    ghost use Rattle.std.specs.Prelude.{◌<◌, [], if◌then◌else◌, IfOk};
+    ghost use Rattle.std.specs.Prelude.{◌<◌, ◌≤◌, [], if◌then◌else◌, IfOk, length};
     ghost use Rattle.text_scan.specs.Each.{ok_first};
 
     /// The beginning of a text. It takes no memory.
@@ -101,7 +101,8 @@ impl<'a> WordReader<'a> {
 
     /// The entries of the turn word that was read last.
     pub fn entries(&self) -> &[u32]
-        ensures { result.now ≡ self.now.present.numbers }
+        ensures entries { result.now ≡ self.now.present.numbers }
+        ensures few { length result.now ≤ MOST_ENTRIES }
     {
         self.entries.as_slice()
     }
@@ -115,6 +116,7 @@ fn read_entries(cursor: &mut Cursor<'_>, entries: &mut Vec<u32>) -> Result<(), W
         (λ _. Ok entries.new.items ≡ numbers_on entries_of MOST_ENTRIES cursor.old.line cursor.old.words)
         (λ fault. (Err fault ≡ numbers_on entries_of MOST_ENTRIES cursor.old.line cursor.old.words) ⊎ (fault ≡ OutOfMemory)) }
     ensures place { OnOk result (cursor.new ≡ record cursor.old { words = [] }) }
+    ensures few { length entries.new.items ≤ MOST_ENTRIES }
 {
     let Some(word) = cursor.word() else {
         return Ok(());
