@@ -17,12 +17,13 @@ use Rattle.surf_model.specs.declared.moves.Move.{Move}
 use Rattle.surf_model.specs.declared.moves.Move.TheVariants.{Insert, Remove, Across}
 use Rattle.surf_model.proofs.ContextLemmas.{first_answer, stays_walk}
 use Rattle.surf_model.proofs.ReplacementLemmas.{by_replacing}
-use Rattle.manifold_check.specs.ComponentParts.{PartsView, AreParts, component_at, component_mesh}
-use Rattle.manifold_check.specs.Submeshes.{submesh, renamed_move, renamed_moves}
+use Rattle.manifold_check.specs.ComponentParts.{component_at, component_mesh}
+use Rattle.manifold_check.specs.Submeshes.{submesh, renamed_move, renamed_moves, signs_among}
 use Rattle.manifold_check.proofs.PartPieces.{IsOfComponent, piece_of_parts, walk_alone}
 use Rattle.manifold_check.proofs.PieceLemmas.{IsPiece, length-submesh}
 use Rattle.manifold_check.proofs.PieceMoves.{moves_up, greatest_alike, homotopic_alike}
 use Rattle.labellings.specs.Denials.{DenialHolds}
+use Rattle.labellings.specs.GoodLabellings.{IsGood}
 use Rattle.labellings.specs.Labellings.{LabellingView, signs_of}
 use Rattle.turn_words.specs.declared.word.Word.{Word}
 use Rattle.widening.specs.Widened.{IsWidened}
@@ -30,11 +31,10 @@ use Rattle.widening.proofs.WidenedLemmas.{Widening, good_widened}
 use Rattle.widening.proofs.WidenedPaths.{word_alike}
 use Rattle.move_lifting.specs.Lifts.{LeadsAtPeak}
 use Rattle.surf_model.specs.Moves.{PeakedMoves}
-use Rattle.commands.specs.Certificates.{Convinces}
 use Rattle.commands.specs.Certify.{IsWithinLimits}
 use Rattle.commands.specs.ClosedSurfaces.{IsOrientableSurface, IsSigned, IsPart, IsComponentOf, surface_of}
-use Rattle.commands.specs.Findings.{IsFinding, IsOfFaces}
-use Rattle.commands.specs.declared.certificate.Certificate.{Certificate}
+use Rattle.commands.specs.Findings.{IsOfFaces, TellsOfSome}
+use Rattle.commands.specs.declared.finding.Finding.TheVariants.{Words}
 use Rattle.commands.specs.declared.component.Component.{Component}
 use Rattle.commands.specs.declared.component.Component.TheVariants.{Whole, Alone}
 use Rattle.commands.specs.declared.component.Part.{Part}
@@ -195,6 +195,15 @@ renamed_leads part first second list is w h =
           second piece
           w.starts there.leads);
     }
+
+-- the labelling that is found is good for the component's own faces, and has the signs that these have in the whole
+pub good_there : (part : Part) (good : LabellingView) (one other : Word) → IsPart part → TellsOfSome part.alone (Words good one other)
+    → IsGood (component_mesh part.whole.faces part.parts part.place) good
+good_there part good one other is some = subst (λ (m : FaceList). IsGood m good) is.mesh some.3.0.good
+
+pub signs_there : (part : Part) (good : LabellingView) (one other : Word) → IsPart part → TellsOfSome part.alone (Words good one other)
+    → signs_of good ≡ signs_among part.whole.signs (component_at part.parts part.place)
+signs_there part good one other is some = some.3.1 ∙ is.signs
 
 -- words that differ there differ on the whole, under the widened labelling
 pub widened_holds : (part : Part) (first second : List ℕ) (good wide : LabellingView) (one other : Word) → IsPart part

@@ -8,7 +8,7 @@ use Rattle.std.proofs.lemmas.List.{ext_get_or, get_or_append_left, get_or_push, 
 use Rattle.std.proofs.lemmas.List.FromFn.{filter_of_map_range_with_len_more}
 use Rattle.surf_model.specs.FaceLists.{FaceList, IsFaceList, is_used}
 use Rattle.surf_model.specs.Edges.{Edge, IsTableOf}
-use Rattle.surf_model.specs.Surfaces.{IsSurface, IsCoherent}
+use Rattle.surf_model.specs.Surfaces.{IsSurface}
 use Rattle.surf_model.proofs.OneTableLemmas.{one_table}
 use Rattle.manifold_check.specs.ComponentNumbers as counts
 use Rattle.manifold_check.specs.ComponentParts.{PartsView, AreParts, component_at, component_mesh}

@@ -1,5 +1,5 @@
 -- The files that commands look at, and the commands: the check of each has an end, and one where its files are told.
-use Rattle.std.proofs.Common.{inl, inr, ℕ, List, [], ◌∷◌, refl, sym, subst}
+use Rattle.std.proofs.Common.{inr, ℕ, List, [], ◌∷◌, refl, sym, subst}
 use Rattle.std.specs.Prelude.{Option, Some, None, Result, Ok, Err}
 use Rattle.surf_io.specs.Files.{Files}
 use Rattle.surf_model.specs.FaceLists.{FaceList}
@@ -14,20 +14,18 @@ use Rattle.commands.proofs.Checking.{pair_passes}
 use Rattle.commands.proofs.Deciding.{sound-decided}
 use Rattle.commands.proofs.Measuring.{with_few, sound-numbers, sound-genera, surface_passed, as_passes}
 use Rattle.commands.proofs.MeshTexts.{mesh_valid}
-use Rattle.commands.proofs.SomeVerdict.{sound-judgement}
-use Rattle.commands.proofs.Sound.{IsSound, sound-then, sound-pass, sound-meant, sound-pass_unless, sound-file, held, sound-where_told}
+use Rattle.commands.proofs.Sound.{IsSound, sound-then, sound-pass, sound-meant, sound-pass_unless, sound-file, held}
 use Rattle.commands.proofs.Surfaces.{sound-as_surface, sound-few, few_passed}
 use Rattle.commands.specs.Answers.{Exactly, Texts}
 use Rattle.commands.specs.Certify.{certify, limit_fault}
-use Rattle.commands.specs.Checks.{Refuse, Passes, Holds, IsTold, meant, pass_unless, ◌>>=◌}
+use Rattle.commands.specs.Checks.{Passes, Holds, IsTold, meant, pass_unless, ◌>>=◌}
 use Rattle.commands.specs.Decide.{decide}
-use Rattle.commands.specs.Inputs.{IsCertificateEnd, mesh_in, pair_in, certificate_in, certificate_in_bytes, certificate_of, walk_at, SpellsMesh, SpellsPair}
-use Rattle.commands.specs.Refusals.{numbers_line, certificate_line, off_line, pair_line, too_large}
+use Rattle.commands.specs.Inputs.{mesh_in, pair_in, walk_at, SpellsMesh, SpellsPair}
+use Rattle.commands.specs.Refusals.{numbers_line, off_line, pair_line}
 use Rattle.commands.specs.ClosedSurfaces.{IsOrientableSurface}
 use Rattle.commands.specs.Surface.{surface}
 use Rattle.commands.specs.SurfaceInput.{surface_in}
 use Rattle.commands.specs.declared.surface.TheConstants.{MOST_COMPONENTS}
-use Rattle.commands.specs.Verify.{verify}
 
 -- ---- the files
 
@@ -39,12 +37,6 @@ sound-pair held name mesh =
     sound-then held _ _ (sound-file held name inputs.Walks)
     (λ bytes _. sound-then held _ _ (sound-meant held (numbers_line inputs.Walks) (walks_of bytes))
     (λ walks _. sound-pass_unless held pair_line (pair_fault mesh walks) walks))
-
-pub sound-certificate : (held : Option Files) (name : List ℕ) → IsSound held (certificate_in held name)
-sound-certificate held name =
-    sound-where_told held name (certificate_in_bytes held name) IsCertificateEnd (Refuse (too_large inputs.Certificate)) (λ told. told.0)
-    (inl refl)
-    (sound-then held _ _ (sound-file held name inputs.Certificate) (λ bytes _. sound-meant held certificate_line (certificate_of bytes)))
 
 -- ---- the commands
 
@@ -64,13 +56,6 @@ sound-surface held name =
   where
     after : FaceList → Type 0
     after few = IsSound held (with_few few)
-
-pub sound-verify : (held : Option Files) (mesh walks certificate : List ℕ) → IsSound held (verify held mesh walks certificate)
-sound-verify held mesh walks certificate =
-    sound-then held _ _ (sound-mesh held mesh)
-    (λ faces h. sound-then held _ _ (sound-pair held walks faces)
-    (λ pair _. sound-then held _ _ (sound-certificate held certificate)
-    (λ shown _. sound-judgement held faces (walk_at pair 0) (walk_at pair 1) shown (mesh_valid held mesh faces h))))
 
 pub sound-decide : (held : Option Files) (mesh walks : List ℕ) → IsSound held (decide held mesh walks)
 sound-decide held mesh walks =

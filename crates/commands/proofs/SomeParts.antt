@@ -11,7 +11,7 @@ use Rattle.surf_model.specs.FaceLists.{FaceList, IsFaceList, IsFace, face_at, is
 use Rattle.surf_model.specs.Edges.{Edge, IsTableOf, edge_in}
 use Rattle.surf_model.specs.Components.{ArePlacesOfComponents, IsLeastOfComponent, HasLeastVertex, place_of_face, faces_of_component}
 use Rattle.connectivity.specs.Classes.{AreLeastMembers, joined_at, renamed}
-use Rattle.manifold_check.specs.ComponentParts.{PartsView, AreParts, component_at, component_mesh}
+use Rattle.manifold_check.specs.ComponentParts.{PartsView, AreParts, component_mesh}
 use Rattle.manifold_check.specs.Submeshes.{submesh}
 use Rattle.connectivity.proofs.ComponentLemmas.{JoinsEdgesUpTo, edges_none, edges_more, edges_all}
 use Rattle.connectivity.proofs.CornerLemmas.{corner_used}

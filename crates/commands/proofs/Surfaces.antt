@@ -1,5 +1,5 @@
 -- How the checks of a surface end.
-use Rattle.std.proofs.Common.{◌≡◌, inl, inr, ◌⊎◌, ℕ, ◌<◌, ◌≤◌, List, refl, sym, ap, ◌∙◌, subst, arith}
+use Rattle.std.proofs.Common.{◌≡◌, inl, inr, ◌⊎◌, ℕ, ◌<◌, ◌≤◌, List, refl, sym, ap, subst, arith}
 use Rattle.std.specs.Prelude.{Option, Result, Ok, Err, IfOk, MatchResult, length}
 use Rattle.std.proofs.lemmas.Bool.{cases_lt}
 use Rattle.surf_io.specs.Files.{Files}

@@ -11,8 +11,6 @@ pub mod Surface
 pub mod Decide
 pub mod Findings
 pub mod Certify
-pub mod Progress
-pub mod Verify
 pub mod Reduce
 pub mod Trial
 pub mod Outcomes

@@ -1,5 +1,5 @@
 //! The command `certify`: a certificate for what `decide` answers.
-ghost use Rattle.std.specs.Prelude.{◌≡◌, ℕ, List, MatchResult, IfOk, Some, None};
+ghost use Rattle.std.specs.Prelude.{◌≡◌, ℕ, List, slice_index, MatchResult, IfOk, Some, None};
 ghost use Rattle.surf_model.specs.FaceLists.{FaceList};
 ghost use Rattle.surf_model.specs.Moves.{Homotopic};
 ghost use Rattle.surf_model.specs.Walks.{IsWalk, HaveCommonEnds};
@@ -8,7 +8,7 @@ ghost use Rattle.commands.specs.Answers.{Exactly};
 ghost use Rattle.commands.specs.Certificates.{Convinces, decision_of};
 ghost use Rattle.commands.specs.Certify.{IsWithinLimits, certificate_answer, limit_fault};
 ghost use Rattle.commands.specs.Certify as of_certify;
-ghost use Rattle.commands.specs.ClosedSurfaces.{IsSigned};
+ghost use Rattle.commands.specs.ClosedSurfaces.{IsComponentOf, IsSigned, surface_of};
 ghost use Rattle.commands.specs.Findings.{IsFinding};
 ghost use Rattle.commands.specs.Replies.{IsReplyTo, Runs};
 ghost use Rattle.commands.specs.Stops.{Tells};
@@ -94,8 +94,29 @@ fn find_certificate(
     ensures { IfOk result (Convinces surface.faces first.now second.now) }
 {
     let component = Component::of(alloc, surface, first.at(0))?;
+    let shown = certificate_on(alloc, &component, first, second);
+    // By a call, which is proved once, and not here again.
+    drop(component);
+    shown
+}
+
+/// A certificate for two walks that lie in a component, which shows what holds of them on the whole mesh.
+fn certificate_on(
+    alloc: Global,
+    component: &Component,
+    first: &Walk,
+    second: &Walk,
+) -> Result<Certificate, AllocError>
+    requires component { (mesh : FaceList) × (v : ℕ) × IsComponentOf mesh v component.now }
+    requires first { IsWalk (surface_of component.now).mesh first.now }
+    requires second { IsWalk (surface_of component.now).mesh second.now }
+    requires ends { HaveCommonEnds first.now second.now }
+    requires limits { IsWithinLimits (surface_of component.now).mesh first.now second.now }
+    ensures { (mesh : FaceList) → IsComponentOf mesh (slice_index first.now 0) component.now → IsWalk mesh first.now
+        → IsWalk mesh second.now → IfOk result (Convinces mesh first.now second.now) }
+{
     let finding = find(alloc, component.surface(), first, second)?;
-    finding.for_mesh(alloc, &component)
+    finding.for_mesh(alloc, component)
 }
 
 /// What tells of two walks of a connected surface with common ends whether they are homotopic.

@@ -50,7 +50,10 @@ fn decide_on(
     ensures { IfOk result (λ decision. (decision ≡ Answer.Homotopic) ↔ Homotopic surface.faces first.now second.now) }
 {
     let component = Component::of(alloc, surface, first.at(0))?;
-    walk_translate::decide(alloc, component.surface(), first, second)
+    let decision = walk_translate::decide(alloc, component.surface(), first, second);
+    // By a call, which is proved once, and not here again.
+    drop(component);
+    decision
 }
 
 /// The reply that a decision is.

@@ -24,7 +24,6 @@ mod finding;
 mod inputs;
 mod line;
 mod odd_chain_line;
-mod progress;
 pub mod reduce;
 mod refusal;
 mod reply;
@@ -34,7 +33,6 @@ pub mod surface;
 mod surface_input;
 mod text;
 pub mod trial;
-pub mod verify;
 mod word_lines;
 
 pub use certificate::Certificate;

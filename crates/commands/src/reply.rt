@@ -28,13 +28,27 @@ pub fn give<K: Sink>(out: &mut K, reply: Reply) -> Status
     ensures write_fault { result ≡ Status.WriteFault → WrotePart K.written K.faults out.old out.new (reply_text reply) }
     ensures never_falls { K.faults out.old ≤ K.faults out.new }
 {
-    let Ok(()) = put_reply(out, &reply) else {
+    let status = settle(out, &reply);
+    // By a call, which is proved once, and not here again.
+    drop(reply);
+    status
+}
+
+/// Writes a reply, and settles it.
+fn settle<K: Sink>(out: &mut K, reply: &Reply) -> Status
+    ensures either { (result ≡ reply_status reply.now) ⊎ (result ≡ Status.WriteFault) }
+    ensures written { IsAnswered result → WroteAll K.written out.old out.new (reply_text reply.now) }
+    ensures settled { IsAnswered result → IfSome (K.written out.new) (λ bytes. K.settled out.new ≡ length bytes) }
+    ensures write_fault { result ≡ Status.WriteFault → WrotePart K.written K.faults out.old out.new (reply_text reply.now) }
+    ensures never_falls { K.faults out.old ≤ K.faults out.new }
+{
+    let Ok(()) = put_reply(out, reply) else {
         return Status::WriteFault;
     };
     let Ok(()) = out.flush() else {
         return Status::WriteFault;
     };
-    status_of(&reply)
+    status_of(reply)
 }
 
 fn put_reply<K: Sink>(out: &mut K, reply: &Reply) -> Result<(), Failed>

@@ -2,15 +2,18 @@
 ghost use Rattle.std.specs.Prelude.{◌≡◌, [], ◌∷◌, ◌++◌, MatchResult, IfOk, OnOk, Err};
 ghost use Rattle.surf_gen.specs.ChainTexts.{chain_text};
 ghost use Rattle.surf_gen.specs.Sizes.{IsChain};
+ghost use Rattle.surf_model.specs.Components.{EachTwoAreJoined};
 ghost use Rattle.commands.specs.Certificates.{decision_word};
 ghost use Rattle.commands.specs.Checks.{Passes, pass_unless};
 ghost use Rattle.commands.specs.ClosedSurfaces.{IsSigned};
-ghost use Rattle.commands.specs.Lines.{line};
+ghost use Rattle.commands.specs.Lines.{in_lines, line};
 ghost use Rattle.commands.specs.Refusals.{told};
 ghost use Rattle.commands.specs.Replies.{Replies};
 ghost use Rattle.commands.specs.Stops.{Ends, Stops};
+ghost use Rattle.commands.specs.Surface.{AreNumbersOf, AreGeneraOf};
+ghost use Rattle.commands.specs.SurfaceInput.{of_few_components};
 ghost use Rattle.commands.specs.Trial as of_trial;
-ghost use Rattle.commands.specs.Trial.{is_within, size_fault, surface_spelled, pair_decided, pairs_decided, first_lines, last_lines};
+ghost use Rattle.commands.specs.Trial.{is_within, size_fault, surface_spelled, pair_decided, pairs_decided, first_lines, last_lines, trial_text};
 ghost use Rattle.commands.specs.declared.stop.Stop.{Stop};
 
 use crate::component::connected;
@@ -37,6 +40,13 @@ pub struct Decisions {
     pub loops: Answer,
 }
 
+/// The numbers of a chain, and the genus of each of its components.
+#[derive(Drop)]
+struct Measured {
+    numbers: SurfaceNumbers,
+    genera: Vec<u32>,
+}
+
 /// The numbers of a chain of `genus` tori of `grid` times `grid` points each, and the decisions on its pairs of walks. No
 /// file is read.
 pub fn trial(alloc: Global, genus: u32, grid: u32) -> Result<Reply, Stop>
@@ -45,14 +55,9 @@ pub fn trial(alloc: Global, genus: u32, grid: u32) -> Result<Reply, Stop>
 {
     check_sizes(genus, grid)?;
     let chain = chain_surface(alloc, genus, grid)?;
-    let parts = few_components(alloc, &chain, 1)?;
-    let numbers = numbers_of(&chain.faces, &chain.sides);
-    let genera = genera_of(alloc, &chain, &parts)?;
-    let surface = connected(alloc, chain)?;
-    let decisions = decide_pairs(alloc, &surface, genus, grid)?;
-    let mut lines = first_lines(alloc, genus, grid, numbers)?;
-    put_genera(&mut lines, &genera)?;
-    put_decisions(&mut lines, decisions)?;
+    let measured = measure_chain(alloc, &chain)?;
+    let decisions = decide_on(alloc, chain, genus, grid)?;
+    let lines = lines_of(alloc, genus, grid, &measured, decisions)?;
     Ok(Reply::Yes(Text::Lines(lines)))
 }
 
@@ -92,6 +97,37 @@ fn chain_surface(alloc: Global, genus: u32, grid: u32) -> Result<SignedMesh, Sto
     signed_mesh(alloc, faces)
 }
 
+/// The numbers of a chain that is of one piece, and its genera.
+fn measure_chain(alloc: Global, chain: &SignedMesh) -> Result<Measured, Stop>
+    requires { IsSigned chain.now }
+    ensures end { MatchResult result (λ _. Passes (of_few_components 1 chain.now.faces) chain.now.faces)
+        (Stops (of_few_components 1 chain.now.faces)) }
+    ensures joined { IfOk result (λ _. EachTwoAreJoined chain.now.faces) }
+    ensures numbers { IfOk result (λ measured. AreNumbersOf chain.now.faces measured.numbers) }
+    ensures genera { IfOk result (λ measured. AreGeneraOf chain.now.faces measured.genera.items) }
+    ensures no_fault { result ≡ Err Stop.ReadFault → ⊥ }
+{
+    let parts = few_components(alloc, chain, 1)?;
+    let numbers = numbers_of(&chain.faces, &chain.sides);
+    let genera = genera_of(alloc, chain, &parts)?;
+    Ok(Measured { numbers, genera })
+}
+
+/// The decisions on the three pairs of walks of a chain.
+fn decide_on(alloc: Global, chain: SignedMesh, genus: u32, grid: u32) -> Result<Decisions, Stop>
+    requires sizes { IsChain genus grid }
+    requires signed { IsSigned chain }
+    requires joined { EachTwoAreJoined chain.faces }
+    ensures end { Ends (pairs_decided chain.faces grid) result }
+    ensures no_fault { result ≡ Err Stop.ReadFault → ⊥ }
+{
+    let surface = connected(alloc, chain)?;
+    let decisions = decide_pairs(alloc, &surface, genus, grid);
+    // By a call, which is proved once, and not here again.
+    drop(surface);
+    decisions
+}
+
 /// The decisions on the three pairs.
 fn decide_pairs(alloc: Global, surface: &Surface, genus: u32, grid: u32) -> Result<Decisions, Stop>
     requires { IsChain genus grid }
@@ -126,6 +162,23 @@ fn decide_pair(
     let pair = WalkList::pair(alloc, first, second)?;
     check_pair(surface.sides(), &pair)?;
     Ok(walk_translate::decide(alloc, surface, pair.at(0), pair.at(1))?)
+}
+
+/// All lines.
+fn lines_of(
+    alloc: Global,
+    genus: u32,
+    grid: u32,
+    measured: &Measured,
+    decisions: Decisions,
+) -> Result<Vec<Line>, AllocError>
+    ensures { IfOk result (λ lines. in_lines lines.items
+        ≡ trial_text genus grid measured.now.numbers measured.now.genera.items decisions) }
+{
+    let mut lines = first_lines(alloc, genus, grid, measured.numbers)?;
+    put_genera(&mut lines, &measured.genera)?;
+    put_decisions(&mut lines, decisions)?;
+    Ok(lines)
 }
 
 /// The lines before the genus.

@@ -12,7 +12,7 @@ use Rattle.program.proofs.Rows.{row_answered, sound-words}
 use Rattle.commands.proofs.ReduceOutcomes.{reduced}
 use Rattle.commands.proofs.SurfaceOutcomes.{measured}
 use Rattle.commands.proofs.TrialOutcomes.{tried}
-use Rattle.commands.proofs.VerifyOutcomes.{verified, denial_verified}
+use Rattle.verify_commands.proofs.VerifyOutcomes.{verified, denial_verified}
 use Rattle.loop_commands.proofs.LoopOutcomes.{loops_so}
 use Rattle.loop_commands.specs.Loops.{IsLoopsAnswered}
 use Rattle.commands.specs.Certify.{IsCertified}
@@ -32,7 +32,7 @@ use Rattle.commands.specs.Statuses.{IsAnswered}
 use Rattle.commands.specs.Stops.{Stops, Tells}
 use Rattle.commands.specs.Surface.{IsMeasured}
 use Rattle.commands.specs.Trial.{IsTried}
-use Rattle.commands.specs.Verify.{verify, IsDenialVerified, IsVerified}
+use Rattle.verify_commands.specs.Verify.{verify, IsDenialVerified, IsVerified}
 use Rattle.commands.specs.declared.reply.Reply.{Reply}
 use Rattle.commands.specs.declared.status.Status.{Status}
 use Rattle.commands.specs.declared.status.Status.TheVariants.{WriteFault}

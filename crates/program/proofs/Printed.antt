@@ -3,13 +3,13 @@ use Rattle.std.proofs.Common.{◌≡◌, ℕ, ◌≤◌, List, length, sym, subs
 use Rattle.std.specs.Prelude.{codes, Option, Some, None, IsSomeAnd}
 use Rattle.surf_io.specs.Files.{Files, file_of}
 use Rattle.surf_model.specs.FaceLists.{FaceList}
-use Rattle.commands.proofs.Accepting.{accepted, spelled}
+use Rattle.verify_commands.proofs.Accepting.{accepted, spelled}
 use Rattle.commands.proofs.MeshTexts.{is_face_list}
 use Rattle.commands.proofs.Sound.{held}
 use Rattle.commands.specs.Certificates.{certificate_text}
 use Rattle.commands.specs.Certify.{IsCertifyInput, IsWithinLimits, IsCertificatePrinted}
 use Rattle.commands.specs.Inputs.{IsPeakRead, SpellsMesh, SpellsPair, SpellsCertificate}
-use Rattle.commands.specs.Verify.{IsVerifyInput}
+use Rattle.verify_commands.specs.Verify.{IsVerifyInput}
 use Rattle.commands.specs.declared.certificate.Certificate.{Certificate}
 use Rattle.commands.specs.declared.inputs.TheConstants.{MOST_BYTES}
 use Rattle.commands.specs.declared.status.Status.{Status}

@@ -4,7 +4,7 @@ use Rattle.std.specs.Prelude.{Option, slice_index_or}
 use Rattle.surf_io.specs.Files.{Files}
 use Rattle.commands.proofs.Deciding.{behind}
 use Rattle.commands.proofs.Reducing.{sound-reduce}
-use Rattle.commands.proofs.Rows.{sound-surface, sound-decide, sound-certify, sound-verify}
+use Rattle.commands.proofs.Rows.{sound-surface, sound-decide, sound-certify}
 use Rattle.loop_commands.proofs.LoopAnswers.{sound-loops}
 use Rattle.commands.proofs.Sound.{IsSound, sound-then, sound-found}
 use Rattle.commands.proofs.Trying.{sound-trial}
@@ -15,6 +15,7 @@ use Rattle.commands.specs.declared.status.Status.{Status}
 use Rattle.open_commands.proofs.OpenOutcomes.{sound-decide_open, sound-certify_open}
 use Rattle.program.specs.Commands.{Row, Surface, Decide, Certify, Loops, DecideOpen, CertifyOpen, Verify, Reduce, Trial, IsRow, answer_to}
 use Rattle.program.specs.Outcomes.{AllTold, Answers, IsOutcome, answer_of}
+use Rattle.verify_commands.proofs.VerifyRows.{sound-verify}
 
 -- ---- one row
 

@@ -8,7 +8,7 @@ use Rattle.commands.specs.Decide.{decide}
 use Rattle.commands.specs.Reduce.{reduce, IsReduceRow}
 use Rattle.commands.specs.Surface.{surface}
 use Rattle.commands.specs.Trial.{trial, IsTrialRow}
-use Rattle.commands.specs.Verify.{verify}
+use Rattle.verify_commands.specs.Verify.{verify}
 use Rattle.loop_commands.specs.Loops.{loops}
 use Rattle.open_commands.specs.CertifyOpen.{certify_open}
 use Rattle.open_commands.specs.DecideOpen.{decide_open}

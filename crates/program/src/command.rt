@@ -9,13 +9,13 @@ use commands::decide::decide;
 use commands::reduce::reduce;
 use commands::surface::measure;
 use commands::trial::trial;
-use commands::verify::verify;
 use commands::{Reply, Stop};
 use loop_commands::loops::loops;
 use open_commands::certify_open::certify_open;
 use open_commands::decide_open::decide_open;
 use std::alloc::Global;
 use surf_io::Shelf;
+use verify_commands::verify::verify;
 
 /// What the words ask for, with the names of the files.
 #[derive(Clone, Copy, Debug, PartialEq, Eq)]

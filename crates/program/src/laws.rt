@@ -20,7 +20,7 @@ ghost use Rattle.commands.specs.Trial.{IsTried};
 ghost use Rattle.open_commands.specs.CertifyOpen.{IsCertifiedOpen, IsListPrinted};
 ghost use Rattle.open_commands.specs.DecideOpen.{IsDecidedOpen};
 ghost use Rattle.open_commands.specs.OpenPairs.{IsOpenInput, IsWithinLimits as IsWithinOpenLimits};
-ghost use Rattle.commands.specs.Verify.{IsVerified, IsDenialVerified};
+ghost use Rattle.verify_commands.specs.Verify.{IsVerified, IsDenialVerified};
 ghost use Rattle.loop_commands.specs.Loops.{IsLoopsAnswered};
 ghost use Rattle.free_forms.specs.PeakedLists.{IsWithin};
 ghost use Rattle.free_forms.specs.declared.limits.TheConstants.{MOST_OPEN_STEPS};

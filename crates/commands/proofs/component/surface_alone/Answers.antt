@@ -1,4 +1,4 @@
-use Rattle.std.proofs.Common.{◌≡◌, Bool, List, sym, subst, arith}
+use Rattle.std.proofs.Common.{sym, subst, arith}
 use Rattle.surf_model.specs.FaceLists.{FaceList}
 use Rattle.surf_model.specs.Surfaces.{IsClosed, IsCoherent}
 use Rattle.manifold_check.specs.ComponentParts.{component_at, component_mesh}

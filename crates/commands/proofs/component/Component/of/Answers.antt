@@ -1,4 +1,4 @@
-use Rattle.std.proofs.Common.{arith, refl, sym}
+use Rattle.std.proofs.Common.{arith}
 use Rattle.surf_model.proofs.EdgeLemmas.{used_below}
 use Rattle.manifold_check.proofs.PartPieces.{one_component}
 use Rattle.commands.proofs.component.Component.of.Goals as goal

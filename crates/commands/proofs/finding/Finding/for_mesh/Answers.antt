@@ -4,7 +4,7 @@ use Rattle.surf_model.specs.FaceLists.{FaceList}
 use Rattle.surf_model.specs.Walks.{IsWalk}
 use Rattle.commands.specs.Certificates.{Convinces}
 use Rattle.commands.specs.ClosedSurfaces.{IsComponentOf, surface_of}
-use Rattle.commands.specs.Findings.{IsFinding}
+use Rattle.commands.specs.Findings.{IsFinding, TellsOfSome}
 use Rattle.commands.specs.declared.component.Component.{Component}
 use Rattle.commands.specs.declared.component.Component.TheVariants.{Whole, Alone}
 use Rattle.commands.proofs.finding.Finding.for_mesh.Goals as goal
@@ -19,6 +19,16 @@ returns-in-Whole c =
     subst (λ (x : Component). IsFinding (surface_of x) first second c.args.self) c.in-Whole.is h in
     subst (λ (m : FaceList). Convinces m first second c.into_certificate.result) is
     (c.into_certificate.ensures surface first second there)
+
+pub for_whole-requires-clause-part : goal.for_whole-requires-clause-part
+for_whole-requires-clause-part c =
+    let some = c.requires.component in
+    let is : IsComponentOf some.0 some.1 (Alone c.in-Alone.part) = subst (IsComponentOf some.0 some.1) c.in-Alone.is some.2 in
+    is.0
+
+pub for_whole-requires-clause-some : goal.for_whole-requires-clause-some
+for_whole-requires-clause-some c =
+    subst (λ (x : Component). TellsOfSome (surface_of x) c.args.self) c.in-Alone.is c.requires.some
 
 pub returns-in-Alone : goal.returns-in-Alone
 returns-in-Alone c =

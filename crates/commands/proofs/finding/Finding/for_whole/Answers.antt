@@ -3,8 +3,11 @@ use Rattle.surf_model.specs.Moves.{PeakedMoves}
 use Rattle.move_lifting.specs.Lifts.{LeadsAtPeak}
 use Rattle.commands.specs.Findings.{IsFinding, TellsOfSome}
 use Rattle.commands.specs.declared.finding.Finding.TheVariants.{Moves, Words}
-use Rattle.commands.proofs.Components.{names_of_moves, renamed_leads, widened_holds}
+use Rattle.commands.proofs.Components.{good_there, names_of_moves, renamed_leads, signs_there, widened_holds}
 use Rattle.commands.proofs.finding.Finding.for_whole.Goals as goal
+
+pub rename-requires-clause-place : goal.rename-requires-clause-place
+rename-requires-clause-place c = c.requires.part.within
 
 pub rename-requires-clause-faces : goal.rename-requires-clause-faces
 rename-requires-clause-faces c =
@@ -20,6 +23,30 @@ returns-in_ok-renamed-in-Moves c =
     subst (IsFinding part.alone first second) c.in-Moves.is h in
     subst (λ (l : PeakedMoves). LeadsAtPeak part.whole.faces first l second) (sym c.in_ok-renamed-in-Moves.ensures)
     (renamed_leads part first second c.in-Moves.list c.requires.part w there)
+
+pub widen-requires-clause-parts : goal.widen-requires-clause-parts
+widen-requires-clause-parts c = c.requires.part.parts
+
+pub widen-requires-clause-part : goal.widen-requires-clause-part
+widen-requires-clause-part c = c.requires.part.within
+
+pub widen-requires-clause-closed : goal.widen-requires-clause-closed
+widen-requires-clause-closed c = c.requires.part.whole.manifold
+
+pub widen-requires-clause-coherent : goal.widen-requires-clause-coherent
+widen-requires-clause-coherent c = c.requires.part.whole.coherent
+
+pub widen-requires-clause-good : goal.widen-requires-clause-good
+widen-requires-clause-good c =
+    let part = c.args.part.now in
+    good_there part c.in-Words.good c.in-Words.first c.in-Words.second c.requires.part
+    (subst (TellsOfSome part.alone) c.in-Words.is c.requires.some)
+
+pub widen-requires-clause-signs : goal.widen-requires-clause-signs
+widen-requires-clause-signs c =
+    let part = c.args.part.now in
+    signs_there part c.in-Words.good c.in-Words.first c.in-Words.second c.requires.part
+    (subst (TellsOfSome part.alone) c.in-Words.is c.requires.some)
 
 pub returns-in_ok-wide-in-Words : goal.returns-in_ok-wide-in-Words
 returns-in_ok-wide-in-Words c =

@@ -1,0 +1,112 @@
+-- What a certificate that convinces is written as spells it again, and `verify` accepts it.
+use Rattle.std.proofs.Common.{◌≡◌, ℕ, ◌^◌, ◌<◌, ◌≤◌, List, [], length, length-append, refl, sym, ap, subst, arith}
+use Rattle.std.specs.Prelude.{codes, Option, Some, Result, Ok, Err}
+use Rattle.surf_io.specs.Files.{Files}
+use Rattle.surf_model.specs.FaceLists.{FaceList, IsFaceList}
+use Rattle.surf_model.specs.Moves.{PeakedMoves}
+use Rattle.surf_model.specs.Walks.{IsWalk}
+use Rattle.move_checker.specs.Verdicts.{verdict_of}
+use Rattle.move_checker.specs.declared.judge.Verdict.{Verdict}
+use Rattle.move_checker.specs.declared.judge.Verdict.TheVariants.{Accepted}
+use Rattle.move_checker.proofs.Judgement.{accepted_exactly}
+use Rattle.labellings.specs.declared.denial.Denial as denials
+use Rattle.walk_files.specs.Certificates.{head_of_text, moves_of_text, with_peak, list_behind, list_of_text}
+use Rattle.walk_files.specs.Denials.{denial_of_lines, denial_behind, denial_of_text}
+use Rattle.walk_files.specs.DenialTexts.{denial_text}
+use Rattle.walk_files.specs.MoveTexts.{list_text}
+use Rattle.walk_files.specs.declared.certificate.CertHead.{CertHead}
+use Rattle.walk_files.specs.declared.certificate.CertHead.TheVariants as heads
+use Rattle.walk_files.specs.declared.fault.CertFault.{CertFault}
+use Rattle.walk_files.proofs.RoundTrip.{list_of_text-answered}
+use Rattle.walk_files.proofs.DenialRoundTrip.{denial_of_text-answered}
+use Rattle.labellings.specs.declared.verdict.DenialVerdict.TheVariants as verdicts
+use Rattle.walk_translate.specs.declared.deciding.Answer.TheVariants.{Homotopic, Different}
+use Rattle.verify_commands.proofs.FittingDenials.{denial_fits}
+use Rattle.verify_commands.proofs.FittingMoves.{list_fits}
+use Rattle.verify_commands.proofs.VerifyRows.{sound-verify}
+use Rattle.verify_commands.proofs.VerifyOutcomes.{told_input, judgement_outcome}
+use Rattle.commands.specs.Certificates.{Convinces, decision_line, certificate_text}
+use Rattle.commands.specs.Checks.{Pass}
+use Rattle.commands.specs.Inputs.{as_certificate, certificate_behind, certificate_of, IsPeakRead, SpellsCertificate}
+use Rattle.commands.specs.Lines.{line}
+use Rattle.commands.specs.Outcomes.{Outcome, IsAnswerOf}
+use Rattle.verify_commands.specs.Verify.{verify, judgement, IsVerifyInput, verdict_answer, denial_answer}
+use Rattle.commands.specs.declared.certificate.Certificate.{Certificate}
+use Rattle.commands.specs.declared.certificate.Certificate.TheVariants.{Moves, Denial}
+use Rattle.commands.specs.declared.inputs.TheConstants.{MOST_BYTES}
+use Rattle.commands.specs.declared.status.Status.{Status}
+use Rattle.commands.specs.declared.status.Status.TheVariants.{Yes}
+
+-- ---- the certificate of a text that is a list, and of one that is a denial
+
+as_list : (read : Result PeakedMoves CertFault) (list : PeakedMoves) → Some read ≡ Some (Ok list)
+    → as_certificate Moves read ≡ Ok (Moves list)
+as_list (Err fault) list e = cc
+as_list (Ok other) list e = let same : other ≡ list = cc in ap (λ (l : PeakedMoves). Ok (Moves l)) same
+
+spelled_list : (text : List ℕ) (list : PeakedMoves) → list_of_text text ≡ Some (Ok list) → certificate_of text ≡ Ok (Moves list)
+spelled_list text list e = by_head (head_of_text text) e
+  where
+    by_head : (head : Result CertHead CertFault) → list_behind head text ≡ Some (Ok list) → certificate_behind head text ≡ Ok (Moves list)
+    by_head (Err fault) f = cc
+    by_head (Ok (heads.Moves count peak)) f = as_list (with_peak peak (moves_of_text count text)) list f
+    by_head (Ok (heads.Labels degree)) f = cc
+
+as_denial : (read : Result denials.Denial CertFault) (denial : denials.Denial) → Some read ≡ Some (Ok denial)
+    → as_certificate Denial read ≡ Ok (Denial denial)
+as_denial (Err fault) denial e = cc
+as_denial (Ok other) denial e = let same : other ≡ denial = cc in ap (λ (d : denials.Denial). Ok (Denial d)) same
+
+spelled_denial : (text : List ℕ) (denial : denials.Denial) → denial_of_text text ≡ Some (Ok denial)
+    → certificate_of text ≡ Ok (Denial denial)
+spelled_denial text denial e = by_head (head_of_text text) e
+  where
+    by_head : (head : Result CertHead CertFault) → denial_behind head text ≡ Some (Ok denial)
+        → certificate_behind head text ≡ Ok (Denial denial)
+    by_head (Err fault) f = cc
+    by_head (Ok (heads.Moves count peak)) f = cc
+    by_head (Ok (heads.Labels degree)) f = as_denial (denial_of_lines degree text) denial f
+
+-- a certificate that convinces is spelled by its text
+pub spelled : (mesh : FaceList) (first second : List ℕ) (shown : Certificate) → IsFaceList mesh → IsWalk mesh first → length first < 2 ^ 32
+    → length second < 2 ^ 32 → Convinces mesh first second shown → IsPeakRead shown → length (certificate_text shown) ≤ MOST_BYTES
+    → SpellsCertificate shown (certificate_text shown)
+spelled mesh first second (Moves list) valid walk few_first few_second h peak short =
+    let part = length-append (decision_line Homotopic) (list_text list) in
+    spelled_list (certificate_text (Moves list)) list
+    (list_of_text-answered list (list_fits mesh first second list valid walk h peak (omega (arith, part, short))))
+spelled mesh first second (Denial denial) valid walk few_first few_second h peak short =
+    let part = length-append (decision_line Different) (denial_text denial) in
+    spelled_denial (certificate_text (Denial denial)) denial
+    (denial_of_text-answered denial (denial_fits mesh first second denial h (omega (arith, part, short)) few_first few_second))
+
+-- ---- the verdict
+
+module _ (files : Option Files) (words : List (List ℕ)) (mesh : FaceList) (first second : List ℕ) where
+  -- as the judgement ends, each outcome of the command is
+  one_end : (shown : Certificate) (outcome target : Outcome) (input : IsVerifyInput files words mesh first second shown)
+      → (judgement mesh first second shown).Ends target
+      → (verify files input.mesh_name input.walks_name input.certificate_name).Ends outcome → outcome ≡ target
+  one_end shown outcome target input ends is =
+      (sound-verify files input.mesh_name input.walks_name input.certificate_name).one
+      (told_input files words mesh first second shown input) outcome target is
+      (judgement_outcome files words mesh first second shown target input ends)
+
+  -- a certificate that convinces is accepted
+  pub accepted : (shown : Certificate) (outcome : Outcome) (status : Status) (answer : List ℕ) → Convinces mesh first second shown
+      → (input : IsVerifyInput files words mesh first second shown)
+      → (verify files input.mesh_name input.walks_name input.certificate_name).Ends outcome → IsAnswerOf outcome status answer
+      → (status ≡ Yes) × (answer ≡ line (codes "accepted") [])
+  accepted (Moves list) outcome status answer h input is told =
+      let verdict : verdict_of mesh first second list ≡ Accepted =
+      (accepted_exactly mesh first second list (verdict_of mesh first second list) refl).1 (h.leads, omega (arith, h.peak)) in
+      let target : Outcome = Pass (verdict_answer Accepted) in
+      let same = one_end (Moves list) outcome target input
+      (ap (λ (v : Verdict). let e : Outcome = Pass (verdict_answer v) in e) (sym verdict)) is in
+      let a : IsAnswerOf target status answer = subst (λ (o : Outcome). IsAnswerOf o status answer) same told in
+      (a.status_is, a.text_is)
+  accepted (Denial denial) outcome status answer h input is told =
+      let target : Outcome = Pass (denial_answer verdicts.Accepted) in
+      let same = one_end (Denial denial) outcome target input (verdicts.Accepted, refl, h) is in
+      let a : IsAnswerOf target status answer = subst (λ (o : Outcome). IsAnswerOf o status answer) same told in
+      (a.status_is, a.text_is)

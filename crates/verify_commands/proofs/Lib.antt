@@ -1,0 +1,10 @@
+pub mod Gathering
+pub mod Streaming
+pub mod Verifying
+pub mod SomeVerdict
+pub mod VerifyRows
+pub mod VerifyOutcomes
+pub mod TextLengths
+pub mod FittingMoves
+pub mod FittingDenials
+pub mod Accepting

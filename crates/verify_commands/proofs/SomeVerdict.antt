@@ -1,0 +1,128 @@
+-- Each denial has a verdict, and one.
+use Rattle.std.proofs.Common.{◌≡◌, ◌⊎◌, inl, inr, ℕ, zero, suc, ◌<◌, List, length, refl, sym, ap, ◌∙◌, subst, arith}
+use Rattle.std.specs.Prelude.{Option, slice_index}
+use Rattle.std.proofs.lemmas.Bool.{cases_lt}
+use Rattle.surf_io.specs.Files.{Files}
+use Rattle.surf_model.specs.Edges.{Edge, edge_in}
+use Rattle.surf_model.specs.FaceLists.{FaceList, IsFaceList}
+use Rattle.tree_cotree.proofs.EdgeTables.{some_table}
+use Rattle.turn_words.specs.Wheels.{StandsTwice, IsFirstTwice}
+use Rattle.labellings.specs.GoodLabellings.{HasShape, HasDegree, HasPlaces, IsGood}
+use Rattle.labellings.specs.Labellings.{LabellingView}
+use Rattle.labellings.specs.TableRules.{EntryMeetsRule}
+use Rattle.labellings.specs.declared.denial.Denial as denials
+use Rattle.labellings.specs.declared.fault.LabelFault.TheVariants.{Shape, Degree, PlaceTwice, EdgeRule}
+use Rattle.labellings.proofs.EdgeRuleLemmas.{each-edge, least-against}
+use Rattle.labellings.specs.DenialVerdicts.{IsVerdict}
+use Rattle.labellings.specs.declared.verdict.DenialVerdict.{DenialVerdict}
+use Rattle.labellings.specs.declared.verdict.DenialVerdict.TheVariants.{Label, WordWrong, Equal, Accepted}
+use Rattle.labellings.proofs.VerdictLemmas.{one_verdict}
+use Rattle.commands.proofs.Sound.{IsSound, sound-pass}
+use Rattle.commands.specs.Answers.{Answer}
+use Rattle.commands.specs.Checks.{End, Refuse, Pass}
+use Rattle.verify_commands.specs.Verify.{judgement, denial_answer}
+use Rattle.commands.specs.declared.certificate.Certificate.{Certificate}
+use Rattle.commands.specs.declared.certificate.Certificate.TheVariants.{Moves, Denial}
+
+-- below a bound there is a least number of which something fails, or it holds of all
+least_or_all : (n : ℕ) (P : ℕ → Type 0) → ((k : ℕ) → k < n → (P k → ⊥) → ((j : ℕ) → j < k → P j) → ⊥) → (((j : ℕ) → j < n → P j) → ⊥) → ⊥
+least_or_all zero P none some = some (λ j l. absurd (omega arith))
+least_or_all (suc n) P none some =
+    least_or_all n P (λ k l fails before. none k (omega arith) fails before)
+    (λ all. none n (omega arith) (λ here. some (λ j l. elim (cases_lt j n) [
+      | inl below ↦ all j below
+      | inr not_below ↦ let same : n ≡ j = omega arith in subst P same here
+    ])) all)
+
+-- where no place is the first that stands twice, none stands twice
+none_twice : (places : List ℕ) → ((p : ℕ) → IsFirstTwice places p → ⊥) → (n p : ℕ) → p < n → StandsTwice places p → ⊥
+none_twice places none zero p l twice = absurd (omega arith)
+none_twice places none (suc n) p l twice =
+    none p (record { twice = twice; first = λ lower below more. none_twice places none n lower (omega arith) more })
+
+three_ways : (p q : ℕ) → ((p < q) ⊎ (q < p)) ⊎ (p ≡ q)
+three_ways p q = grind arith
+
+each_once : (labelling : LabellingView) → length labelling.places ≡ labelling.degree → ((p : ℕ) → IsFirstTwice labelling.places p → ⊥)
+    → HasPlaces labelling
+each_once labelling each none i j below other same = elim (three_ways i j) [
+  | inl (inl less) ↦ absurd (never (slice_index labelling.places j)
+      (record { one = i; other = j; apart = less; below = omega (arith, other, each); one_place = same; other_place = refl }))
+  | inl (inr more) ↦ absurd (never (slice_index labelling.places j)
+      (record { one = j; other = i; apart = more; below = omega (arith, below, each); one_place = refl; other_place = same }))
+  | inr equal ↦ equal
+]
+  where
+    never : (p : ℕ) → StandsTwice labelling.places p → ⊥
+    never p twice = none_twice labelling.places none (suc p) p (omega arith) twice
+
+-- some verdict is the first that holds
+pub some_verdict : (mesh : FaceList) (first second : List ℕ) (denial : denials.Denial) → IsFaceList mesh
+    → ((verdict : DenialVerdict) → IsVerdict mesh first second denial verdict → ⊥) → ⊥
+some_verdict mesh first second denial valid none =
+    none (Label Shape) (λ shape. none (Label (Degree denial.labelling.degree)) (shape, (λ degree. with_degree shape degree), refl))
+  where
+    with_good : IsGood mesh denial.labelling → ⊥
+    with_good good =
+        none (WordWrong 1) (
+          good,
+          inl (
+            refl,
+            λ right. none (WordWrong 2) (
+              good,
+              inr (
+                refl,
+                right,
+                λ too. none Accepted (record {
+                  good = good;
+                  first_word = right;
+                  second_word = too;
+                  differ =
+                      λ same. none Equal (good, right, too, same);
+                }),
+              ),
+            ),
+          ),
+        )
+
+    with_degree : HasShape mesh denial.labelling → HasDegree denial.labelling → ⊥
+    with_degree shape degree =
+        let found = some_table mesh valid in
+        let table : List Edge = found.0 in
+        let places : HasPlaces denial.labelling =
+        each_once denial.labelling shape.each_spoke (λ p twice. none (Label (PlaceTwice p)) (shape, degree, twice)) in
+        least_or_all (length table) (EntryMeetsRule mesh table denial.labelling)
+        (λ k below against before.
+        none (Label (EdgeRule (record { 0 = (edge_in table k).low }) (record { 0 = (edge_in table k).high }))) (
+          shape,
+          degree,
+          places,
+          least-against mesh table denial.labelling k found.1
+              (record { in_table = below; against = against; first = before }),
+        ))
+        (λ all. with_good (record {
+          shape = shape;
+          degree = degree;
+          places = places;
+          edges =
+              each-edge mesh table denial.labelling found.1 all;
+        }))
+
+one_judged : (mesh : FaceList) (first second : List ℕ) (denial : denials.Denial) (a b : End Answer)
+    → (judgement mesh first second (Denial denial)).Ends a
+    → (judgement mesh first second (Denial denial)).Ends b → a ≡ b
+one_judged mesh first second denial (Refuse cause) b p q = absurd p
+one_judged mesh first second denial (Pass x) (Refuse cause) p q = absurd q
+one_judged mesh first second denial (Pass x) (Pass y) p q =
+    let same : p.0 ≡ q.0 = one_verdict mesh first second denial p.0 q.0 p.2 q.2 in
+    let answers : x ≡ y = p.1 ∙ ap denial_answer same ∙ sym q.1 in
+    cc
+
+pub sound-judgement : (held : Option Files) (mesh : FaceList) (first second : List ℕ) (shown : Certificate) → IsFaceList mesh
+    → IsSound held (judgement mesh first second shown)
+sound-judgement held mesh first second (Moves list) valid = sound-pass held _
+sound-judgement held mesh first second (Denial denial) valid =
+    record {
+      some = λ none. some_verdict mesh first second denial valid (λ verdict is. none (Pass (denial_answer verdict)) (verdict, refl, is));
+      one = λ _ a b p q. one_judged mesh first second denial a b p q;
+    }

@@ -1,0 +1,196 @@
+-- `verify` in the words of the mesh.
+use Rattle.std.proofs.Common.{◌≡◌, inr, ℕ, ◌≤◌, List, [], ◌∷◌, codes, refl, sym, ap, ◌∙◌, subst}
+use Rattle.std.specs.Prelude.{◌↔◌, Option}
+use Rattle.surf_io.specs.Files.{Files}
+use Rattle.surf_model.specs.FaceLists.{FaceList}
+use Rattle.surf_model.specs.Moves.{PeakedMoves, Leads, greatest_darts}
+use Rattle.move_checker.specs.Verdicts.{verdict_of}
+use Rattle.move_checker.specs.declared.judge.Verdict.{Verdict}
+use Rattle.move_checker.specs.declared.judge.Verdict.TheVariants.{Accepted, Peak, AtMove, End}
+use Rattle.move_checker.proofs.Judgement.{accepted_exactly}
+use Rattle.labellings.specs.Denials.{DenialHolds}
+use Rattle.labellings.specs.declared.denial.Denial.{Denial}
+use Rattle.labellings.proofs.WalkWordLemmas.{denial_excludes}
+use Rattle.labellings.specs.DenialVerdicts.{IsVerdict}
+use Rattle.labellings.specs.declared.verdict.DenialVerdict.{DenialVerdict}
+use Rattle.labellings.specs.declared.verdict.DenialVerdict.TheVariants as verdicts
+use Rattle.commands.specs.declared.certificate.Certificate.TheVariants as certificates
+use Rattle.commands.specs.declared.refusal.Input.TheVariants as inputs
+use Rattle.commands.proofs.Deciding.{behind}
+use Rattle.commands.proofs.MeshTexts.{mesh_valid}
+use Rattle.commands.proofs.Rows.{sound-mesh, sound-pair, meant_told, pair_told, mesh_told, mesh_passes, spelled_pair}
+use Rattle.commands.proofs.Sound.{held}
+use Rattle.verify_commands.proofs.Streaming.{where_told_ends}
+use Rattle.verify_commands.proofs.VerifyRows.{sound-certificate}
+use Rattle.verify_commands.proofs.Verifying.{after_mesh, after_pair}
+use Rattle.commands.specs.Answers.{Answer, IsText}
+use Rattle.commands.specs.Checks.{Refuse, Pass, Passes, IsTold, Holds}
+use Rattle.commands.specs.Inputs.{mesh_in, pair_in, IsCertificateEnd, certificate_in, certificate_in_bytes, certificate_of, walk_at, SpellsPair, SpellsCertificate}
+use Rattle.commands.specs.Outcomes.{Outcome, AnswersTo, IsAnswerOf}
+use Rattle.commands.specs.Refusals.{certificate_line}
+use Rattle.verify_commands.specs.Verify.{verify, verdict_status, denial_status, denial_line, judgement, IsVerifyInput, IsVerified, IsDenialVerified, verdict_answer, denial_answer}
+use Rattle.commands.specs.declared.certificate.Certificate.{Certificate}
+use Rattle.commands.specs.declared.status.Status.{Status}
+use Rattle.commands.specs.declared.status.Status.TheVariants.{Yes}
+
+-- the status is yes exactly where the verdict is that the list is accepted
+yes_accepted : (verdict : Verdict) → verdict_status verdict ≡ Yes → verdict ≡ Accepted
+yes_accepted Accepted e = refl
+yes_accepted Peak e = cc
+yes_accepted (AtMove number fault) e = cc
+yes_accepted End e = cc
+
+yes_exactly : (status : Status) (mesh : FaceList) (first second : List ℕ) (list : PeakedMoves)
+    → status ≡ verdict_status (verdict_of mesh first second list)
+    → (status ≡ Yes) ↔ (Leads mesh first list.moves second × (greatest_darts mesh first list.moves ≤ list.peak))
+yes_exactly status mesh first second list e =
+    let exact = accepted_exactly mesh first second list (verdict_of mesh first second list) refl in (
+      λ yes. exact.0 (yes_accepted (verdict_of mesh first second list) (sym e ∙ yes)),
+      λ leads. e ∙ ap verdict_status (exact.1 leads),
+    )
+
+judgement_told : (files : Option Files) (mesh : FaceList) (first second : List ℕ) (shown : Certificate)
+    → (judgement mesh first second shown).EachFile (IsTold files)
+judgement_told files mesh first second (certificates.Moves list) = tt
+judgement_told files mesh first second (certificates.Denial denial) = tt
+
+-- each file that is looked at is told
+pub told_input : (files : Option Files) (words : List (List ℕ)) (mesh : FaceList) (first second : List ℕ) (shown : Certificate)
+    (input : IsVerifyInput files words mesh first second shown)
+    → (verify files input.mesh_name input.walks_name input.certificate_name).EachFile (IsTold files)
+told_input files words mesh first second shown input = (
+  mesh_told files input.mesh_name mesh input.mesh_file,
+  λ faces _. (
+    pair_told files input.walks_name faces (held files input.walks_name (SpellsPair mesh first second) input.walks_file).told,
+    λ pair _. (
+      (
+        (held files input.certificate_name (SpellsCertificate shown) input.certificate_file).told,
+        λ bytes _. meant_told files certificate_line (certificate_of bytes),
+      ),
+      λ certificate _. judgement_told files faces (walk_at pair 0) (walk_at pair 1) certificate,
+    ),
+  ),
+)
+
+-- a file that spells a certificate passes it
+certificate_spelled : (files : Option Files) (name : List ℕ) (shown : Certificate) → Holds files name (SpellsCertificate shown)
+    → Passes (certificate_in files name) shown
+certificate_spelled files name shown h =
+    let file = held files name (SpellsCertificate shown) h in
+    where_told_ends files name (certificate_in_bytes files name) IsCertificateEnd (Pass shown) file.told
+    (inr (file.bytes, file.passes inputs.Certificate, rw file.holds refl))
+
+-- as the judgement ends, the command does
+pub judgement_outcome : (files : Option Files) (words : List (List ℕ)) (mesh : FaceList) (first second : List ℕ) (shown : Certificate)
+    (outcome : Outcome) (input : IsVerifyInput files words mesh first second shown) → (judgement mesh first second shown).Ends outcome
+    → (verify files input.mesh_name input.walks_name input.certificate_name).Ends outcome
+judgement_outcome files words mesh first second shown outcome input h =
+    inr (
+      mesh,
+      mesh_passes files input.mesh_name mesh input.mesh_file,
+      inr (
+        first ∷ second ∷ [],
+        spelled_pair files input.walks_name mesh first second input.walks_file,
+        inr (shown, certificate_spelled files input.certificate_name shown input.certificate_file, h),
+      ),
+    )
+
+-- a judgement on a denial is its verdict
+judged_end : (mesh : FaceList) (first second : List ℕ) (denial : Denial) (outcome : Outcome) (status : Status) (text : List ℕ)
+    → (judgement mesh first second (certificates.Denial denial)).Ends outcome → IsAnswerOf outcome status text
+    → (verdict : DenialVerdict) × IsVerdict mesh first second denial verdict × (status ≡ denial_status verdict)
+    × IsText (denial_line verdict) text
+judged_end mesh first second denial (Refuse texts) status text p answer = absurd p
+judged_end mesh first second denial (Pass x) status text p answer =
+    let here : IsAnswerOf (Pass (denial_answer p.0)) status text = subst (λ (y : Answer). IsAnswerOf (Pass y) status text) p.1 answer in
+    (p.0, p.2, here.status_is, here.text_is)
+
+-- where it is accepted, the denial holds
+holds_where_yes : (mesh : FaceList) (first second : List ℕ) (denial : Denial) (verdict : DenialVerdict)
+    → IsVerdict mesh first second denial verdict
+    → denial_status verdict ≡ Yes → DenialHolds mesh first second denial
+holds_where_yes mesh first second denial (verdicts.Label fault) is e = cc
+holds_where_yes mesh first second denial (verdicts.WordWrong walk) is e = cc
+holds_where_yes mesh first second denial verdicts.Equal is e = cc
+holds_where_yes mesh first second denial verdicts.Accepted is e = is
+
+-- as the command ends, the judgement does
+behind_files : (files : Option Files) (words : List (List ℕ)) (mesh : FaceList) (first second : List ℕ) (shown : Certificate)
+    (outcome : Outcome) (input : IsVerifyInput files words mesh first second shown)
+    → (verify files input.mesh_name input.walks_name input.certificate_name).Ends outcome
+    → (judgement mesh first second shown).Ends outcome
+behind_files files words mesh first second shown outcome input is =
+    let pair : List (List ℕ) = first ∷ second ∷ [] in
+    let file = held files input.certificate_name (SpellsCertificate shown) input.certificate_file in
+    let passed : Passes (certificate_in files input.certificate_name) shown =
+    certificate_spelled files input.certificate_name shown input.certificate_file in
+    let walks = behind files (mesh_in files input.mesh_name) (after_mesh files input.walks_name input.certificate_name) mesh outcome
+    (sound-mesh files input.mesh_name) (mesh_told files input.mesh_name mesh input.mesh_file)
+    (mesh_passes files input.mesh_name mesh input.mesh_file) is in
+    let certificate = behind files (pair_in files input.walks_name mesh) (after_pair files input.certificate_name mesh) pair outcome
+    (sound-pair files input.walks_name mesh)
+    (pair_told files input.walks_name mesh (held files input.walks_name (SpellsPair mesh first second) input.walks_file).told)
+    (spelled_pair files input.walks_name mesh first second input.walks_file) walks in
+    behind files (certificate_in files input.certificate_name) (judgement mesh first second) shown outcome
+    (sound-certificate files input.certificate_name) (file.told, λ bytes _. meant_told files certificate_line (certificate_of bytes))
+    passed certificate
+
+module _ (files : Option Files) (words : List (List ℕ)) (status : Status) (text : List ℕ)
+    (answered : (mesh walks certificate : List ℕ) → words ≡ codes "verify" ∷ mesh ∷ walks ∷ certificate ∷ []
+    → AnswersTo files (verify files mesh walks certificate) status text) where
+  -- the answer to such an input, if the judgement on it ends so
+  judged_so : (mesh : FaceList) (first second : List ℕ) (shown : Certificate) (outcome : Outcome)
+      → IsVerifyInput files words mesh first second shown → (judgement mesh first second shown).Ends outcome
+      → IsAnswerOf outcome status text
+  judged_so mesh first second shown outcome input ends =
+      (answered input.mesh_name input.walks_name input.certificate_name input.words_are).exact
+      (told_input files words mesh first second shown input) outcome
+      (judgement_outcome files words mesh first second shown outcome input ends)
+
+  judged_list : (mesh : FaceList) (first second : List ℕ) (list : PeakedMoves)
+      → IsVerifyInput files words mesh first second (certificates.Moves list)
+      → IsAnswerOf (Pass (verdict_answer (verdict_of mesh first second list))) status text
+  judged_list mesh first second list input =
+      judged_so mesh first second (certificates.Moves list) (Pass (verdict_answer (verdict_of mesh first second list))) input refl
+
+  -- what is answered of a list of moves, where the words are answered by the check
+  pub verified : IsVerified files words status text
+  verified = record {
+    judged = λ mesh first second list input. let a = judged_list mesh first second list input in (a.status_is, a.text_is);
+    accepted = λ mesh first second list input. yes_exactly status mesh first second list
+        (judged_list mesh first second list input).status_is;
+  }
+
+  judged_denial : (mesh : FaceList) (first second : List ℕ) (denial : Denial) (verdict : DenialVerdict)
+      → IsVerifyInput files words mesh first second (certificates.Denial denial) → IsVerdict mesh first second denial verdict
+      → (status ≡ denial_status verdict) × IsText (denial_line verdict) text
+  judged_denial mesh first second denial verdict input is =
+      let a = judged_so mesh first second (certificates.Denial denial) (Pass (denial_answer verdict)) input (verdict, refl, is) in
+      (a.status_is, a.text_is)
+
+  denial_told : (mesh : FaceList) (first second : List ℕ) (denial : Denial)
+      → IsVerifyInput files words mesh first second (certificates.Denial denial)
+      → (verdict : DenialVerdict) × IsVerdict mesh first second denial verdict × (status ≡ denial_status verdict)
+      × IsText (denial_line verdict) text
+  denial_told mesh first second denial input =
+      let a = answered input.mesh_name input.walks_name input.certificate_name input.words_are in
+      judged_end mesh first second denial a.outcome status text
+      (behind_files files words mesh first second (certificates.Denial denial) a.outcome input a.is_outcome) a.is_answer
+
+  -- what is answered of a denial, where the words are answered by the check
+  pub denial_verified : IsDenialVerified files words status text
+  denial_verified = record {
+    different = λ mesh first second denial input yes homotopic.
+        let told = denial_told mesh first second denial input in
+        let holds = holds_where_yes mesh first second denial told.0 told.1 (sym told.2 ∙ yes) in
+        let pair = (held files input.walks_name (SpellsPair mesh first second) input.walks_file).holds in
+        denial_excludes mesh first second denial
+        (mesh_valid files input.mesh_name mesh (mesh_passes files input.mesh_name mesh input.mesh_file)) pair.first_walk holds homotopic;
+    accepted = λ mesh first second denial input. (
+      λ yes. let told = denial_told mesh first second denial input in holds_where_yes mesh first second denial told.0 told.1
+          (sym told.2 ∙ yes),
+      λ holds. (judged_denial mesh first second denial verdicts.Accepted input holds).0,
+    );
+    judged = denial_told;
+    exactly = judged_denial;
+  }

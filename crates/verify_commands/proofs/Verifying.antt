@@ -1,0 +1,95 @@
+-- How the checks of `verify` end, by the place where the reading ends, and the verdicts on a denial.
+use Rattle.std.proofs.Common.{length, ap, ◌∙◌, inr, ℕ, List, refl, sym, subst, Ok, Err, Result, MatchResult, ◌≡◌}
+use Rattle.std.specs.Prelude.{Option, Some, slice_get}
+use Rattle.surf_io.specs.Files.{Files}
+use Rattle.surf_model.specs.FaceLists.{FaceList}
+use Rattle.surf_model.specs.Walks.{IsWalk}
+use Rattle.walk_files.specs.Pairs.{IsPair}
+use Rattle.move_checker.specs.Verdicts.{verdict_of}
+use Rattle.move_checker.specs.declared.judge.Verdict.{Verdict}
+use Rattle.labellings.specs.DenialVerdicts.{IsVerdict}
+use Rattle.labellings.specs.declared.denial.Denial as denials
+use Rattle.labellings.specs.declared.verdict.DenialVerdict.{DenialVerdict}
+use Rattle.commands.proofs.Checking.{stops_first, stops_next}
+use Rattle.commands.specs.Answers.{Answer}
+use Rattle.commands.specs.Checks.{Check, Passes, ◌>>=◌}
+use Rattle.commands.specs.Inputs.{mesh_in, pair_in, certificate_in, walk_at}
+use Rattle.verify_commands.specs.Progress.{IsVerdictOnFile}
+use Rattle.commands.specs.Replies.{Concludes, IsReplyTo, Replies}
+use Rattle.commands.specs.Stops.{Stops}
+use Rattle.verify_commands.specs.Verify.{denial_answer, judged_file, judgement, verdict_answer, verify}
+use Rattle.commands.specs.declared.certificate.Certificate.{Certificate}
+use Rattle.commands.specs.declared.certificate.Certificate.TheVariants.{Moves, Denial}
+use Rattle.commands.specs.declared.reply.Reply.{Reply}
+use Rattle.commands.specs.declared.stop.Stop.{Stop}
+use Rattle.commands.specs.declared.stop.Stop.TheVariants.{OutOfMemory}
+
+-- what is looked at behind the walks, and behind the mesh
+abbrev pub after_pair : Option Files → List ℕ → FaceList → List (List ℕ) → Check Answer
+after_pair held certificate faces pair = judged_file held certificate faces (walk_at pair 0) (walk_at pair 1)
+
+abbrev pub after_mesh : Option Files → (walks certificate : List ℕ) → FaceList → Check Answer
+after_mesh held walks certificate faces = pair_in held walks faces >>= after_pair held certificate faces
+
+pub walks_stop : (held : Option Files) (mesh walks certificate : List ℕ) (faces : FaceList) (stop : Stop) → Passes (mesh_in held mesh) faces
+    → Stops (pair_in held walks faces) stop → Stops (verify held mesh walks certificate) stop
+walks_stop held mesh walks certificate faces stop p h =
+    stops_next (mesh_in held mesh) (after_mesh held walks certificate) faces stop p
+    (stops_first (pair_in held walks faces) (after_pair held certificate faces) stop h)
+
+-- as the judgement on the file ends, the command does
+pub concluded : (held : Option Files) (mesh walks certificate : List ℕ) (faces : FaceList) (pair : List (List ℕ))
+    (result : Result Reply Stop) → Passes (mesh_in held mesh) faces → Passes (pair_in held walks faces) pair
+    → Concludes (after_pair held certificate faces pair) result → Concludes (verify held mesh walks certificate) result
+concluded held mesh walks certificate faces pair (Ok reply) p q h =
+    record { answer = h.answer; passes = inr (faces, p, inr (pair, q, h.passes)); is_answer = h.is_answer }
+concluded held mesh walks certificate faces pair (Err stop) p q h =
+    stops_next (mesh_in held mesh) (after_mesh held walks certificate) faces stop p
+    (stops_next (pair_in held walks faces) (after_pair held certificate faces) pair stop q h)
+
+-- a certificate that passes, and the judgement on it
+pub judged : (held : Option Files) (name : List ℕ) (mesh : FaceList) (first second : List ℕ) (shown : Certificate)
+    (result : Result Reply Stop) → Passes (certificate_in held name) shown
+    → MatchResult result (Replies (judgement mesh first second shown)) (λ stop. stop ≡ OutOfMemory)
+    → Concludes (judged_file held name mesh first second) result
+judged held name mesh first second shown (Ok reply) p h =
+    record { answer = h.answer; passes = inr (shown, p, h.passes); is_answer = h.is_answer }
+judged held name mesh first second shown (Err stop) p h = subst (Stops (judged_file held name mesh first second)) (sym h) tt
+
+-- the reply to the verdict on a list of moves is one to the judgement
+pub moves_judged : (held : Option Files) (name : List ℕ) (mesh : FaceList) (first second : List ℕ) (verdict : Verdict) (reply : Reply)
+    → IsVerdictOnFile held name mesh first second verdict → IsReplyTo (verdict_answer verdict) reply
+    → Concludes (judged_file held name mesh first second) (Ok reply)
+moves_judged held name mesh first second verdict reply is h =
+    record {
+      answer = verdict_answer (verdict_of mesh first second is.list);
+      passes = inr (Moves is.list, is.passes, refl);
+      is_answer = subst (λ (v : Verdict). IsReplyTo (verdict_answer v) reply) is.is h;
+    }
+
+-- the walks of a pair are walks
+pub two_in_pair : (mesh : FaceList) (walks : List (List ℕ)) → IsPair mesh walks → length walks ≡ 2
+two_in_pair mesh walks pair = ap (length {A = List ℕ}) pair.two
+
+pub first_walk : (mesh : FaceList) (walks : List (List ℕ)) (walk : List ℕ) → IsPair mesh walks → slice_get walks 0 ≡ Some walk
+    → IsWalk mesh walk
+first_walk mesh walks walk pair e =
+    let here : Some pair.first ≡ Some walk = sym (ap (λ (ws : List (List ℕ)). slice_get ws 0) pair.two) ∙ e in
+    let same : pair.first ≡ walk = cc in
+    subst (IsWalk mesh) same pair.first_walk
+
+pub second_walk : (mesh : FaceList) (walks : List (List ℕ)) (walk : List ℕ) → IsPair mesh walks → slice_get walks 1 ≡ Some walk
+    → IsWalk mesh walk
+second_walk mesh walks walk pair e =
+    let here : Some pair.second ≡ Some walk = sym (ap (λ (ws : List (List ℕ)). slice_get ws 1) pair.two) ∙ e in
+    let same : pair.second ≡ walk = cc in
+    subst (IsWalk mesh) same pair.second_walk
+
+-- the reply to a verdict on a denial is one to the judgement
+pub denial_judged : (mesh : FaceList) (first second : List ℕ) (denial : denials.Denial) (verdict : DenialVerdict)
+    (result : Result Reply Stop) → IsVerdict mesh first second denial verdict
+    → MatchResult result (IsReplyTo (denial_answer verdict)) (λ stop. stop ≡ OutOfMemory)
+    → MatchResult result (Replies (judgement mesh first second (Denial denial))) (λ stop. stop ≡ OutOfMemory)
+denial_judged mesh first second denial verdict (Ok reply) is h =
+    record { answer = denial_answer verdict; passes = (verdict, refl, is); is_answer = h }
+denial_judged mesh first second denial verdict (Err stop) is h = h

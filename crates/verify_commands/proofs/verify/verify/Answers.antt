@@ -1,0 +1,77 @@
+use Rattle.std.proofs.Common.{◌≡◌, ℕ, List, sym, subst, ◌∙◌, arith}
+use Rattle.std.specs.Prelude.{Option}
+use Rattle.std.proofs.lemmas.Option.{get_or_from_slice_get}
+use Rattle.std.proofs.lemmas.Result.{err_from_is_err_and}
+use Rattle.surf_io.specs.Files.{Files}
+use Rattle.commands.specs.Checks.{Passes}
+use Rattle.commands.specs.Inputs.{pair_in, walk_at}
+use Rattle.commands.specs.Replies.{Concludes}
+use Rattle.commands.specs.Stops.{Stops}
+use Rattle.verify_commands.specs.Verify as of_verify
+use Rattle.verify_commands.specs.Verify.{judged_file}
+use Rattle.verify_commands.proofs.Verifying.{concluded, first_walk, second_walk, two_in_pair, walks_stop}
+use Rattle.commands.proofs.Running.{only_then, runs_read, runs_stopped}
+use Rattle.verify_commands.proofs.verify.verify.Goals as goal
+
+pub returns-in_err-walks : goal.returns-in_err-walks
+returns-in_err-walks g c =
+    let faces = c.in_ok-faces.faces in
+    let stop = c.in_err-walks.field-0.0 in
+    let p = err_from_is_err_and c.from_residual-in_err-walks.result c.from_residual-in_err-walks.ensures.1 in
+    let stops = c.in_err-walks.ensures.reads.end faces c.in_ok-sides.ensures in
+    rw (p.1, p.2)
+    (runs_stopped g.S.Shelf.held g.S.Shelf.faults c.args.shelf.now c.read_pair.new.shelf
+    (λ files. of_verify.verify files c.args.mesh.now c.args.walks.now c.args.certificate.now) (λ none. none.0.0) c.read_mesh.new.shelf _
+    stop c.in_ok-faces.ensures.only_reads
+    c.in_err-walks.ensures.reads
+    (walks_stop (g.S.Shelf.held c.args.shelf.now) c.args.mesh.now c.args.walks.now c.args.certificate.now faces stop
+    c.in_ok-faces.ensures.end
+    (subst (λ (files : Option Files). Stops (pair_in files c.args.walks.now faces) stop) c.in_ok-faces.ensures.only_reads.same_files
+    stops)))
+
+pub at-requires : goal.at-requires
+at-requires g c =
+    let pair = c.in_ok-walks.ensures.pair c.in_ok-faces.faces c.in_ok-sides.ensures in
+    omega (arith, two_in_pair c.in_ok-faces.faces c.in_ok-walks.walks pair)
+
+pub at-requires-2 : goal.at-requires-2
+at-requires-2 g c =
+    let pair = c.in_ok-walks.ensures.pair c.in_ok-faces.faces c.in_ok-sides.ensures in
+    omega (arith, two_in_pair c.in_ok-faces.faces c.in_ok-walks.walks pair)
+
+pub returns : goal.returns
+returns g c =
+    let faces = c.in_ok-faces.faces in
+    let walks = c.in_ok-walks.walks in
+    let certificate : List ℕ = c.args.certificate.now in
+    let held : Option Files = g.S.Shelf.held c.args.shelf.now in
+    let same = c.in_ok-faces.ensures.only_reads.same_files in
+    let all_same = c.in_ok-walks.ensures.reads.only_reads.same_files ∙ same in
+    let first : c.at.result.now ≡ walk_at walks 0 = sym (get_or_from_slice_get walks 0 c.at.result.now _ c.at.ensures) in
+    let second : c.at-2.result.now ≡ walk_at walks 1 = sym (get_or_from_slice_get walks 1 c.at-2.result.now _ c.at-2.ensures) in
+    let end : Concludes (judged_file held certificate faces (walk_at walks 0) (walk_at walks 1)) c.judge-reply.result =
+    subst (λ (files : Option Files). Concludes (judged_file files certificate faces (walk_at walks 0) (walk_at walks 1))
+    c.judge-reply.result)
+    all_same
+    (subst (λ (w : List ℕ). Concludes (judged_file (g.S.Shelf.held c.read_pair.new.shelf) certificate faces (walk_at walks 0) w)
+    c.judge-reply.result) second
+    (subst (λ (w : List ℕ). Concludes (judged_file (g.S.Shelf.held c.read_pair.new.shelf) certificate faces w c.at-2.result.now)
+    c.judge-reply.result) first c.judge-reply.ensures.end)) in
+    runs_read g.S.Shelf.held g.S.Shelf.faults c.args.shelf.now c.judge-reply.new.shelf
+    (λ files. of_verify.verify files c.args.mesh.now c.args.walks.now certificate) (λ none. none.0.0) c.read_pair.new.shelf _
+    c.judge-reply.result
+    (only_then g.S.Shelf.held g.S.Shelf.faults c.args.shelf.now c.read_mesh.new.shelf c.read_pair.new.shelf
+    c.in_ok-faces.ensures.only_reads c.in_ok-walks.ensures.reads.only_reads) c.judge-reply.ensures
+    (concluded held c.args.mesh.now c.args.walks.now certificate faces walks c.judge-reply.result c.in_ok-faces.ensures.end
+    (subst (λ (files : Option Files). Passes (pair_in files c.args.walks.now faces) walks) same
+    (c.in_ok-walks.ensures.reads.end faces c.in_ok-sides.ensures)) end)
+
+pub judge-reply-requires-clause-first : goal.judge-reply-requires-clause-first
+judge-reply-requires-clause-first g c =
+    first_walk c.in_ok-faces.faces c.in_ok-walks.walks c.at.result.now
+    (c.in_ok-walks.ensures.pair c.in_ok-faces.faces c.in_ok-sides.ensures) c.at.ensures
+
+pub judge-reply-requires-clause-second : goal.judge-reply-requires-clause-second
+judge-reply-requires-clause-second g c =
+    second_walk c.in_ok-faces.faces c.in_ok-walks.walks c.at-2.result.now
+    (c.in_ok-walks.ensures.pair c.in_ok-faces.faces c.in_ok-sides.ensures) c.at-2.ensures
