@@ -6,24 +6,24 @@ use Rattle.labellings.specs.WalkWords.{IsWordOf}
 use Rattle.walk_translate.specs.SurfaceLabels.{HasSphereSplit, IsLabelledByCut}
 use Rattle.walk_translate.proofs.LabelLemmas.{cut_is_good}
 use Rattle.walk_translate.proofs.DecidingLemmas.{words_decide, sphere_decides, equal_decides, unequal_decides}
-use Rattle.walk_translate.proofs.deciding.decide.Goals as goal
+use Rattle.walk_translate.proofs.deciding.answer_by.Goals as goal
 
 pub word_of-requires-clause-good : goal.word_of-requires-clause-good
 word_of-requires-clause-good c =
     let surface = c.args.surface.now in
-    let labelled : IsLabelledByCut surface c.in-Some.good = rw c.in-Some.is at c.in_ok-good.ensures in
+    let labelled : IsLabelledByCut surface c.in-Some.good = rw c.in-Some.is at c.requires.labels in
     rw c.faces-faces.ensures.mesh (cut_is_good surface c.in-Some.good c.faces-faces.ensures.valid labelled)
 
 pub word_of-requires-2-clause-good : goal.word_of-requires-2-clause-good
 word_of-requires-2-clause-good c =
     let surface = c.args.surface.now in
-    let labelled : IsLabelledByCut surface c.in-Some.good = rw c.in-Some.is at c.in_ok-good.ensures in
+    let labelled : IsLabelledByCut surface c.in-Some.good = rw c.in-Some.is at c.requires.labels in
     rw c.faces-faces.ensures.mesh (cut_is_good surface c.in-Some.good c.faces-faces.ensures.valid labelled)
 
 pub returns-in_default : goal.returns-in_default
 returns-in_default c =
     let surface = c.args.surface.now in
-    let sphere : HasSphereSplit surface = rw c.in_default.is at c.in_ok-good.ensures in
+    let sphere : HasSphereSplit surface = rw c.in_default.is at c.requires.labels in
     sphere_decides surface c.args.first.now c.args.second.now _ c.faces-faces.ensures.valid sphere c.requires.first c.requires.second
     c.requires.ends refl
 
@@ -33,7 +33,7 @@ returns-then-are_same_words c =
     let first = c.args.first.now in
     let second = c.args.second.now in
     let mesh = c.faces-faces.ensures.mesh in
-    let labelled : IsLabelledByCut surface c.in-Some.good = rw c.in-Some.is at c.in_ok-good.ensures in
+    let labelled : IsLabelledByCut surface c.in-Some.good = rw c.in-Some.is at c.requires.labels in
     let decides : Homotopic surface.mesh first second ↔ (c.in_ok-one.one ≡ c.in_ok-other.other) =
     words_decide surface c.in-Some.good first second c.in_ok-one.one c.in_ok-other.other c.faces-faces.ensures.valid labelled
     c.requires.first c.requires.second c.requires.ends
@@ -47,7 +47,7 @@ returns c =
     let first = c.args.first.now in
     let second = c.args.second.now in
     let mesh = c.faces-faces.ensures.mesh in
-    let labelled : IsLabelledByCut surface c.in-Some.good = rw c.in-Some.is at c.in_ok-good.ensures in
+    let labelled : IsLabelledByCut surface c.in-Some.good = rw c.in-Some.is at c.requires.labels in
     let decides : Homotopic surface.mesh first second ↔ (c.in_ok-one.one ≡ c.in_ok-other.other) =
     words_decide surface c.in-Some.good first second c.in_ok-one.one c.in_ok-other.other c.faces-faces.ensures.valid labelled
     c.requires.first c.requires.second c.requires.ends
