@@ -1,5 +1,5 @@
 #!/usr/bin/env python3
-"""Makes the inputs of `bench/decide` in the folder that is named: tori joined in a chain, and walks on them.
+"""Makes the inputs of `bench/decide` and `bench/loops` in the folder that is named: tori joined in a chain, and walks on them.
 
 Nothing here is trusted: a mesh that is no surface is refused by the program, and the run says so.
 """
@@ -95,6 +95,7 @@ def main():
         write_walks(path + "-loops.walks", *chain.loops(1000))
         wander = chain.wander(1000000, rng)
         write_walks(path + "-wander.walks", wander, [wander[0]])
+        write_walks(path + "-long.walks", *chain.loops(1000000))
 
 
 main()
