@@ -21,6 +21,7 @@ ghost use Rattle.open_commands.specs.CertifyOpen.{IsCertifiedOpen, IsListPrinted
 ghost use Rattle.open_commands.specs.DecideOpen.{IsDecidedOpen};
 ghost use Rattle.open_commands.specs.OpenPairs.{IsOpenInput, IsWithinLimits as IsWithinOpenLimits};
 ghost use Rattle.verify_commands.specs.Verify.{IsVerified, IsDenialVerified};
+ghost use Rattle.homology_commands.specs.VerifyHomology.{IsHomologyVerified};
 ghost use Rattle.loop_commands.specs.Loops.{IsLoopsAnswered};
 ghost use Rattle.commands.specs.declared.certificate.Certificate.{Certificate};
 ghost use Rattle.commands.specs.declared.inputs.TheConstants.{MOST_BYTES};
@@ -74,6 +75,12 @@ pub fn verify_answers()
         → Answers held words status text → IsVerified held words status text }
     ensures denial { (held : Option Files) (words : List (List ℕ)) (status : Status) (text : List ℕ)
         → Answers held words status text → IsDenialVerified held words status text }
+{}
+
+/// What `verify-homology` answers of a chain, and of a cocycle.
+pub fn verify_homology_answers()
+    ensures { (held : Option Files) (words : List (List ℕ)) (status : Status) (text : List ℕ)
+        → Answers held words status text → IsHomologyVerified held words status text }
 {}
 
 /// What `reduce` answers of a list of turn words.
