@@ -1,6 +1,6 @@
 //! The command `loops`: whether two closed walks of a surface are freely homotopic.
-ghost use Rattle.std.specs.Prelude.{◌≡◌, ◌↔◌, ◌<◌, ℕ, IsTrue, IfOk};
-ghost use Rattle.surf_model.specs.FaceLists.{FaceList};
+ghost use Rattle.std.specs.Prelude.{◌≡◌, ◌↔◌, ◌<◌, ℕ, slice_index, IsTrue, IfOk};
+ghost use Rattle.surf_model.specs.FaceLists.{FaceList, IsFaceList};
 ghost use Rattle.closed_walks.specs.FreeHomotopy.{IsClosedWalk, FreelyHomotopic};
 ghost use Rattle.commands.specs.ClosedSurfaces.{IsSigned, IsComponentOf};
 ghost use Rattle.commands.specs.Replies.{IsReplyTo, Runs};
@@ -40,7 +40,26 @@ fn decide_on(
     ensures { IfOk result (λ answer. (answer ≡ FreeAnswer.Freely) ↔ FreelyHomotopic surface.faces first.now second.now) }
 {
     let component = Component::of(alloc, surface, first.at(0))?;
-    if !has(&component, second.at(0)) {
+    let answer = decide_within(alloc, &component, first, second);
+    // By a call, which is proved once, and not here again.
+    drop(component);
+    answer
+}
+
+/// Whether two closed walks are freely homotopic on the mesh of which this is the component of the first walk.
+fn decide_within(
+    alloc: Global,
+    component: &Component,
+    first: &Walk,
+    second: &Walk,
+) -> Result<FreeAnswer, AllocError>
+    requires { (mesh : FaceList) × IsComponentOf mesh (slice_index first.now 0) component.now × IsFaceList mesh
+        × IsClosedWalk mesh first.now × IsClosedWalk mesh second.now }
+    ensures { (mesh : FaceList) → IsComponentOf mesh (slice_index first.now 0) component.now → IsClosedWalk mesh first.now
+        → IsClosedWalk mesh second.now
+        → IfOk result (λ answer. (answer ≡ FreeAnswer.Freely) ↔ FreelyHomotopic mesh first.now second.now) }
+{
+    if !has(component, second.at(0)) {
         return Ok(FreeAnswer::NotFreely);
     }
     decide_free(alloc, component.surface(), first, second)
