@@ -73,6 +73,7 @@ abbrev pub numbers_line : Input → WalkFault → Texts
 numbers_line input (walks.BadNumber number) = told_at (input_name input) number (codes "number")
 numbers_line input (walks.TooLong number) = told_at (input_name input) number (codes "long")
 numbers_line input (walks.TooMany number) = told_at (input_name input) number (codes "many")
+numbers_line input (walks.BadGroup number) = told_at (input_name input) number (codes "group")
 numbers_line input walks.OutOfMemory = NoText
 
 -- why walks are not two walks of the mesh with common ends

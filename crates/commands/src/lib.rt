@@ -20,6 +20,7 @@ mod certificate;
 pub mod certify;
 pub mod component;
 pub mod decide;
+mod decision_lines;
 mod finding;
 mod inputs;
 mod line;

@@ -85,6 +85,7 @@ impl Input {
             WalkFault::BadNumber { line } => refused_at(self.name(), line, "number"),
             WalkFault::TooLong { line } => refused_at(self.name(), line, "long"),
             WalkFault::TooMany { line } => refused_at(self.name(), line, "many"),
+            WalkFault::BadGroup { line } => refused_at(self.name(), line, "group"),
             WalkFault::OutOfMemory => Stop::OutOfMemory,
         }
     }

@@ -105,26 +105,27 @@ test_decides true h = ((λ _. h.0 refl), (λ _. refl))
 test_decides false h = ((λ e. absurd (differs e)), (λ p. absurd (both_ways false refl (h.1 p))))
 
 pub decision_passes : (held : Option Files) (mesh walks : List ℕ) (pair : OpenPair) (same : Bool) (first second : List ℕ)
-    → walk_at pair.walks 0 ≡ first → walk_at pair.walks 1 ≡ second → Passes (open_pair_in held mesh walks) (asked pair)
+    → walk_at pair.walks.walks 0 ≡ first → walk_at pair.walks.walks 1 ≡ second → Passes (open_pair_in held mesh walks) (asked pair)
     → IsTrue same ↔ Homotopic pair.surface.mesh first second
     → Passes (decide_open held mesh walks) (decision_answer (decision_of_test same))
 decision_passes held mesh walks pair same first second f g p right =
-    let there : IsTrue same ↔ Homotopic pair.surface.mesh (walk_at pair.walks 0) (walk_at pair.walks 1) =
-    subst (λ (w : List ℕ). IsTrue same ↔ Homotopic pair.surface.mesh (walk_at pair.walks 0) w) (sym g)
+    let there : IsTrue same ↔ Homotopic pair.surface.mesh (walk_at pair.walks.walks 0) (walk_at pair.walks.walks 1) =
+    subst (λ (w : List ℕ). IsTrue same ↔ Homotopic pair.surface.mesh (walk_at pair.walks.walks 0) w) (sym g)
     (subst (λ (w : List ℕ). IsTrue same ↔ Homotopic pair.surface.mesh w second) (sym f) right) in
     inr (asked pair, p, (decision_of_test same, refl, test_decides same there))
 
 pub list_passes : (held : Option Files) (mesh walks : List ℕ) (pair : OpenPair) (decision : deciding.Answer) (first second : List ℕ)
-    → walk_at pair.walks 0 ≡ first → walk_at pair.walks 1 ≡ second → Passes (open_pair_in held mesh walks) (asked pair)
+    → walk_at pair.walks.walks 0 ≡ first → walk_at pair.walks.walks 1 ≡ second → Passes (open_pair_in held mesh walks) (asked pair)
     → (decision ≡ answers.Homotopic) ↔ Homotopic pair.surface.mesh first second
     → Passes (certify_open held mesh walks) (list_answer pair.surface.mesh first second decision)
 list_passes held mesh walks pair decision first second f g p right =
     let here : (listed pair.surface.mesh first second).Ends (Pass (list_answer pair.surface.mesh first second decision)) =
     (decision, refl, right) in
-    let there : (listed pair.surface.mesh (walk_at pair.walks 0) (walk_at pair.walks 1)).Ends
+    let there : (listed pair.surface.mesh (walk_at pair.walks.walks 0) (walk_at pair.walks.walks 1)).Ends
     (Pass (list_answer pair.surface.mesh first second decision)) =
     subst
-    (λ (w : List ℕ). (listed pair.surface.mesh (walk_at pair.walks 0) w).Ends (Pass (list_answer pair.surface.mesh first second decision)))
+    (λ (w : List ℕ). (listed pair.surface.mesh (walk_at pair.walks.walks 0) w).Ends
+    (Pass (list_answer pair.surface.mesh first second decision)))
     (sym g)
     (subst
     (λ (w : List ℕ). (listed pair.surface.mesh w second).Ends (Pass (list_answer pair.surface.mesh first second decision))) (sym f) here) in
