@@ -8,7 +8,7 @@ use Rattle.commands.specs.Lines.{in_lines}
 use Rattle.commands.specs.Stops.{Stops}
 use Rattle.commands.specs.Surface.{genus_line}
 use Rattle.commands.specs.Trial.{pairs_decided, last_lines, trial_text}
-use Rattle.commands.proofs.Surfaces.{few_joined}
+use Rattle.manifold_check.proofs.PartPieces.{few_joined}
 use Rattle.commands.proofs.Trying.{surface_stops, few_stop, decisions_stop, trial_answered}
 use Rattle.commands.proofs.trial.trial.Goals as goal
 
