@@ -11,6 +11,7 @@ pub mod SomeParts
 pub mod Surfaces
 pub mod Genera
 pub mod Measuring
+pub mod Premises
 pub mod Deciding
 pub mod GatheredLemmas
 pub mod WordLines
