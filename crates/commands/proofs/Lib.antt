@@ -8,6 +8,7 @@ pub mod SomeParts
 pub mod Surfaces
 pub mod Genera
 pub mod Measuring
+pub mod Premises
 pub mod Deciding
 pub mod GatheredLemmas
 pub mod LineByLine

@@ -134,12 +134,6 @@ impl From<SurfaceFault> for Stop {
                 Phrase::Number(vertex.0 as u64),
                 Phrase::Text("pinched"),
             ]),
-            SurfaceFault::Apart { vertex, other } => refused(&[
-                Phrase::Text("vertices"),
-                Phrase::Number(vertex.0 as u64),
-                Phrase::Number(other.0 as u64),
-                Phrase::Text("apart"),
-            ]),
             SurfaceFault::OutOfMemory => Stop::OutOfMemory,
         }
     }

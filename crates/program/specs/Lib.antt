@@ -1,4 +1,5 @@
 pub mod Headline
 pub mod Commands
 pub mod Outcomes
+pub mod Premises
 pub mod PrintedCertificates
