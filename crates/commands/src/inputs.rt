@@ -57,7 +57,7 @@ pub fn read_pair<S: Shelf>(
 ) -> Result<WalkList, Stop>
     ensures reads { Reads S.held S.faults shelf.old shelf.new
         (λ files. (mesh : FaceList) → IsTableOf mesh sides.now
-            → MatchResult result (λ list. Passes (pair_in files name.now mesh) list.walks) (Stops (pair_in files name.now mesh))) result }
+        → MatchResult result (λ list. Passes (pair_in files name.now mesh) list.walks) (Stops (pair_in files name.now mesh))) result }
     ensures pair { IfOk result (λ list. (mesh : FaceList) → IsTableOf mesh sides.now → IsPair mesh list.walks) }
 {
     let bytes = read_file(alloc, shelf, name, Input::Walks)?;

@@ -22,7 +22,7 @@ pub fn read_loops<S: Shelf>(
 ) -> Result<WalkList, Stop>
     ensures reads { Reads S.held S.faults shelf.old shelf.new
         (λ files. (mesh : FaceList) → IsTableOf mesh sides.now
-            → MatchResult result (λ list. Passes (loops_in files name.now mesh) list.walks) (Stops (loops_in files name.now mesh))) result }
+        → MatchResult result (λ list. Passes (loops_in files name.now mesh) list.walks) (Stops (loops_in files name.now mesh))) result }
     ensures loops { IfOk result (λ list. (mesh : FaceList) → IsTableOf mesh sides.now → IsClosedPair mesh list.walks) }
 {
     let bytes = read_file(alloc, shelf, name, Input::Walks)?;
