@@ -19,6 +19,7 @@ pub mod Certifying
 pub mod Trying
 pub mod Rows
 pub mod SurfaceOutcomes
+pub mod DecideOutcomes
 pub mod CertifyOutcomes
 pub mod ReduceOutcomes
 pub mod ChainReading

@@ -19,7 +19,7 @@
 mod certificate;
 pub mod certify;
 pub mod component;
-mod decision;
+pub mod decide;
 mod decision_lines;
 mod finding;
 mod inputs;

@@ -5,7 +5,7 @@ ghost use Rattle.commands.specs.Writes.{Writes};
 ghost use Rattle.commands.specs.declared.certificate.Certificate.{Certificate};
 
 use crate::certificate::Certificate;
-use crate::decision::line_of;
+use crate::decide::line_of;
 use crate::decision_lines::put_decisions;
 use crate::line::{Line, put_line, put_lines};
 use crate::odd_chain_line::put_odd_chain;
