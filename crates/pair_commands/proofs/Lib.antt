@@ -1,3 +1,0 @@
-pub mod PairChecks
-pub mod PairDecisions
-pub mod DecideOutcomes

@@ -1,2 +1,0 @@
-pub mod PairInput
-pub mod Decide
