@@ -20,7 +20,6 @@ mod certificate;
 pub mod certify;
 pub mod component;
 pub mod decide;
-mod decision_lines;
 mod finding;
 mod inputs;
 mod line;
