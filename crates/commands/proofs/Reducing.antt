@@ -92,7 +92,8 @@ no_range_fault degree (line ∷ lines) h =
 range_behind : (degree : ℕ) (lines : List NumberLine) (line : NumberLine) → range_fault degree lines ≡ None
     → range_fault degree (lines ++ line ∷ []) ≡ range_fault degree (line ∷ [])
 range_behind degree [] line e = refl
-range_behind degree (first ∷ lines) line e = by_test (list_all (λ entry. nat_lt entry degree) first.numbers) (range_behind degree lines line) e
+range_behind degree (first ∷ lines) line e =
+    by_test (list_all (λ entry. nat_lt entry degree) first.numbers) (range_behind degree lines line) e
   where
     by_test : (b : Bool) → (range_fault degree lines ≡ None → range_fault degree (lines ++ line ∷ []) ≡ range_fault degree (line ∷ []))
         → (if b then range_fault degree lines else Some first.line) ≡ None

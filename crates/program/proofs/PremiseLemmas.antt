@@ -41,6 +41,7 @@ answered_of_surface files words name status text a (inl is) told answered =
 answered_of_surface files words name status text a (inr (walks, inl is)) told answered =
     by_row files words name (Decide name walks) status text a told answered is (λ answer p. first_passed (surface_in files name) _ answer p)
 answered_of_surface files words name status text a (inr (walks, inr (inl is))) told answered =
-    by_row files words name (Certify name walks) status text a told answered is (λ answer p. first_passed (surface_in files name) _ answer p)
+    by_row files words name (Certify name walks) status text a told answered is
+    (λ answer p. first_passed (surface_in files name) _ answer p)
 answered_of_surface files words name status text a (inr (walks, inr (inr is))) told answered =
     by_row files words name (Loops name walks) status text a told answered is (λ answer p. first_passed (surface_in files name) _ answer p)
