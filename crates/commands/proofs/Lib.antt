@@ -8,7 +8,6 @@ pub mod SomeParts
 pub mod Surfaces
 pub mod Genera
 pub mod Measuring
-pub mod Premises
 pub mod Deciding
 pub mod GatheredLemmas
 pub mod LineByLine

@@ -1,5 +1,4 @@
 pub mod Headline
 pub mod Commands
 pub mod Outcomes
-pub mod Premises
 pub mod PrintedCertificates

@@ -14,7 +14,6 @@ ghost use Rattle.commands.specs.Checks.{IsTold};
 ghost use Rattle.commands.specs.Inputs.{IsPeakRead};
 ghost use Rattle.commands.specs.Outcomes.{Outcome};
 ghost use Rattle.program.specs.Outcomes.{AllTold, Answers, IsOutcome};
-ghost use Rattle.program.specs.Premises.{AskOfSurface, StandsForSurface};
 ghost use Rattle.program.specs.PrintedCertificates.{IsAccepted};
 ghost use Rattle.commands.specs.Reduce.{IsReduced};
 ghost use Rattle.commands.specs.Surface.{IsMeasured};
@@ -33,14 +32,6 @@ ghost use Rattle.commands.specs.declared.status.Status.{Status};
 pub fn headline()
     ensures { (held : Option Files) (words : List (List ℕ)) (status : Status) (text : List ℕ)
         → Answers held words status text → Headline held words status text }
-{}
-
-/// What the headline asks of the mesh is so wherever there is an answer: where a question of a surface ends with yes or no, and the file
-/// of its mesh is told, that file stands for an orientable closed surface.
-pub fn answers_are_of_surfaces()
-    ensures { (held : Option Files) (words : List (List ℕ)) (name : List ℕ) (status : Status) (text : List ℕ)
-        → Answers held words status text → AskOfSurface words name → IsTold held name → (status ≡ Status.Refused → ⊥)
-        → StandsForSurface held name }
 {}
 
 /// What `surface` answers of a mesh.
