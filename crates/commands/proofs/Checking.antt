@@ -4,16 +4,17 @@ use Rattle.std.specs.Prelude.{Option, Some, None, IfSome, Result, Ok, Err, repli
 use Rattle.std.proofs.lemmas.List.{length-replicate}
 use Rattle.surf_io.specs.Files.{Files}
 use Rattle.surf_model.specs.FaceLists.{FaceList}
-use Rattle.walk_files.specs.NumberTexts.{walks_of}
+use Rattle.walk_files.specs.WalkLists.{WalkText}
+use Rattle.walk_files.specs.WalkTexts.{walk_text_of, walks_of, walks_in}
 use Rattle.walk_files.specs.Pairs.{pair_fault}
 use Rattle.walk_files.specs.declared.fault.WalkFault.{WalkFault}
 use Rattle.walk_files.specs.declared.pair.PairFault.{PairFault}
 use Rattle.commands.specs.declared.refusal.Input.TheVariants as inputs
-use Rattle.commands.specs.Answers.{Texts, NoText}
+use Rattle.commands.specs.Answers.{Texts, NoText, IsText}
 use Rattle.commands.specs.Checks.{Check, Refuse, Pass, Passes, file, meant, pass_unless, ◌>>=◌}
 use Rattle.commands.specs.Inputs.{pair_in}
 use Rattle.commands.specs.Refusals.{numbers_line, pair_line}
-use Rattle.commands.specs.Stops.{Ends, Stops, Tells}
+use Rattle.commands.specs.Stops.{Ends, Stops, Tells, bytes_of}
 use Rattle.commands.specs.declared.stop.Stop.{Stop}
 use Rattle.commands.specs.declared.stop.Stop.TheVariants.{Refused, ReadFault, OutOfMemory}
 
@@ -72,27 +73,52 @@ read_stops line_of read fault wanting stop none (inr e) h =
     let same : fault ≡ wanting = cc in
     memory_stops (meant line_of read) stop (subst (λ (t : Texts). Tells t stop) (ap line_of same ∙ none) h)
 
+-- what a text stands for passes with its walks
+pub walks_pass : (line_of : WalkFault → Texts) (read : Result WalkText WalkFault) (text : WalkText) → Passes (meant line_of read) text
+    → Passes (meant line_of (walks_in read)) text.walks
+walks_pass line_of (Ok found) text h = let same : text ≡ found = cc in cc
+walks_pass line_of (Err fault) text h = cc
+
+-- and what stops the one stops the other
+pub walks_stop : (line_of : WalkFault → Texts) (read : Result WalkText WalkFault) (stop : Stop) → Stops (meant line_of read) stop
+    → Stops (meant line_of (walks_in read)) stop
+walks_stop line_of (Ok found) (Refused text) h = let e = h.1 in cc
+walks_stop line_of (Err fault) (Refused text) h =
+    let e = h.1 in
+    let same : h.0 ≡ line_of fault = cc in (line_of fault, refl, subst (λ (t : Texts). IsText t (bytes_of text)) same h.2)
+walks_stop line_of read ReadFault h = tt
+walks_stop line_of read OutOfMemory h = tt
+
 -- a walk file that is refused for its text
 pub walks_text_stops : (held : Option Files) (name : List ℕ) (mesh : FaceList) (bytes : List ℕ) (stop : Stop)
     → Passes (file held name inputs.Walks) bytes
-    → Stops (meant (numbers_line inputs.Walks) (walks_of bytes)) stop → Stops (pair_in held name mesh) stop
+    → Stops (meant (numbers_line inputs.Walks) (walk_text_of bytes)) stop → Stops (pair_in held name mesh) stop
 walks_text_stops held name mesh bytes stop p h =
     stops_next (file held name inputs.Walks) (after_bytes mesh) bytes stop p
-    (stops_first (meant (numbers_line inputs.Walks) (walks_of bytes)) (λ walks. pass_unless pair_line (pair_fault mesh walks) walks) stop h)
+    (stops_first (meant (numbers_line inputs.Walks) (walks_of bytes)) (λ walks. pass_unless pair_line (pair_fault mesh walks) walks) stop
+    (walks_stop (numbers_line inputs.Walks) (walk_text_of bytes) stop h))
 
 -- a walk file whose walks are no pair
-pub pair_stops : (held : Option Files) (name : List ℕ) (mesh : FaceList) (bytes : List ℕ) (walks : List (List ℕ)) (fault : PairFault)
+pub pair_stops : (held : Option Files) (name : List ℕ) (mesh : FaceList) (bytes : List ℕ) (text : WalkText) (fault : PairFault)
     (stop : Stop)
-    → Passes (file held name inputs.Walks) bytes → Passes (meant (numbers_line inputs.Walks) (walks_of bytes)) walks
-    → pair_fault mesh walks ≡ Some fault → Tells (pair_line fault) stop → Stops (pair_in held name mesh) stop
-pair_stops held name mesh bytes walks fault stop p q f h =
-    told_stops (pair_line fault) (pair_in held name mesh) stop (inr (bytes, p, inr (walks, q, rw f refl))) h
+    → Passes (file held name inputs.Walks) bytes → Passes (meant (numbers_line inputs.Walks) (walk_text_of bytes)) text
+    → pair_fault mesh text.walks ≡ Some fault → Tells (pair_line fault) stop → Stops (pair_in held name mesh) stop
+pair_stops held name mesh bytes text fault stop p q f h =
+    told_stops (pair_line fault) (pair_in held name mesh) stop
+    (inr (bytes, p, inr (text.walks, walks_pass (numbers_line inputs.Walks) (walk_text_of bytes) text q, rw f refl))) h
 
 -- a walk file that passes
 pub pair_passes : (held : Option Files) (name : List ℕ) (mesh : FaceList) (bytes : List ℕ) (walks : List (List ℕ))
     → Passes (file held name inputs.Walks) bytes → walks_of bytes ≡ Ok walks → pair_fault mesh walks ≡ None
     → Passes (pair_in held name mesh) walks
 pair_passes held name mesh bytes walks p e f = inr (bytes, p, inr (walks, rw e refl, rw f refl))
+
+-- and one that was read
+pub pair_read : (held : Option Files) (name : List ℕ) (mesh : FaceList) (bytes : List ℕ) (text : WalkText)
+    → Passes (file held name inputs.Walks) bytes → Passes (meant (numbers_line inputs.Walks) (walk_text_of bytes)) text
+    → pair_fault mesh text.walks ≡ None → Passes (pair_in held name mesh) text.walks
+pair_read held name mesh bytes text p q f =
+    inr (bytes, p, inr (text.walks, walks_pass (numbers_line inputs.Walks) (walk_text_of bytes) text q, rw f refl))
 
 counted : (mesh : FaceList) (xs : List (List ℕ)) → pair_fault mesh xs ≡ None → length xs ≡ 2
 counted mesh [] e = cc

@@ -9,9 +9,7 @@ use Rattle.std.proofs.lemmas.List.Elements.{All-nil, All-cons}
 use Rattle.std.proofs.lemmas.List.FromFn.{length-map-range_with_len, get_or-map-range_with_len}
 use Rattle.std.proofs.lemmas.List.Sums.{sum_by-cons}
 use Rattle.surf_model.specs.FaceLists.{FaceList, face_at, total_sides}
-use Rattle.surf_model.specs.Components.{EachTwoAreJoined}
 use Rattle.surf_model.specs.Moves.{apply, apply_all, Leads, Homotopic}
-use Rattle.surf_model.specs.Surfaces.{IsClosed, IsClosedManifold}
 use Rattle.surf_model.specs.Walks.{IsWalk}
 use Rattle.surf_model.specs.declared.moves.Move.{Move}
 use Rattle.surf_model.specs.declared.moves.Move.TheVariants.{Insert, Remove, Across}
@@ -39,11 +37,6 @@ use Rattle.commands.specs.declared.component.Component.{Component}
 use Rattle.commands.specs.declared.component.Component.TheVariants.{Whole, Alone}
 use Rattle.commands.specs.declared.component.Part.{Part}
 use Rattle.commands.specs.declared.surface_input.SignedMesh.{SignedMesh}
-
--- a closed manifold of which any two vertices are joined is a closed surface
-pub closed_joined : (mesh : FaceList) → IsClosedManifold mesh → EachTwoAreJoined mesh → IsClosed mesh
-closed_joined mesh is joined =
-    record { some_face = is.some_face; two_sides = is.two_sides; one_ring = is.one_ring; connected = joined }
 
 -- what a call ends with, by what it ends with besides
 pub if_ok : {V E : Type 0} {P Q : V → Type 0} (result : Result V E) → ((x : V) → P x → Q x) → IfOk result P → IfOk result Q

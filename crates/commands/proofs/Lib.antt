@@ -10,6 +10,7 @@ pub mod Genera
 pub mod Measuring
 pub mod Deciding
 pub mod GatheredLemmas
+pub mod LineByLine
 pub mod WordLines
 pub mod Reducing
 pub mod Components

@@ -4,7 +4,7 @@ use Rattle.std.specs.Prelude.{Option}
 use Rattle.surf_io.specs.Files.{Files}
 use Rattle.surf_model.specs.FaceLists.{FaceList, IsFaceList}
 use Rattle.surf_model.specs.Surfaces.{IsClosedManifold, IsOrientable}
-use Rattle.manifold_check.specs.Faults.{IsManifoldFault}
+use Rattle.manifold_check.specs.Faults.{IsFirstFault}
 use Rattle.manifold_check.specs.declared.fault.SurfaceFault.{SurfaceFault}
 use Rattle.commands.proofs.Checking.{stops_first, stops_next}
 use Rattle.commands.proofs.Genera.{some_numbers, one_numbers, some_genera, one_genera}
@@ -98,7 +98,7 @@ pub behind_mesh : (held : Option Files) (name : List ℕ) (mesh : FaceList) (end
 behind_mesh held name mesh end p (inl h) = inl (h.0, inr (mesh, p, h.1), h.2)
 behind_mesh held name mesh end p (inr h) = inr (h.0, inr (mesh, p, h.1), h.2)
 
-pub fault_ends : (mesh : FaceList) (fault : SurfaceFault) → IsManifoldFault mesh fault
+pub fault_ends : (mesh : FaceList) (fault : SurfaceFault) → IsFirstFault mesh fault
     → (as_surface mesh >>= with_surface).Ends (Refuse (surface_line fault))
 fault_ends mesh fault first =
     inl (surface_line fault, inl (surface_line fault, (fault, first, refl), refl), refl)

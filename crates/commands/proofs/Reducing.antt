@@ -1,24 +1,25 @@
 -- How the checks of `reduce` end.
-use Rattle.std.proofs.Common.{◌≡◌, ◌⊎◌, inl, inr, ℕ, zero, suc, ◌+◌, ◌<◌, ◌≤◌, Bool, true, false, List, [], ◌∷◌, ◌++◌, length, get_or, take, refl, sym, ap, ◌∙◌, subst, arith}
-use Rattle.std.specs.Prelude.{nat_lt, if◌then◌else◌, Option, Some, None, Result, Ok, Err, IfSome, IsSome, IsSomeAnd, All}
+use Rattle.std.proofs.Common.{◌≡◌, ◌⊎◌, inl, inr, ℕ, ◌<◌, ◌≤◌, Bool, true, false, List, [], ◌∷◌, ◌++◌, length, refl, sym, ap, ◌∙◌, subst, append-nil, arith}
+use Rattle.std.specs.Prelude.{nat_lt, if◌then◌else◌, Option, Some, None, Result, Ok, Err, is_some, IfSome, IsSome, IsSomeAnd, All}
 use Rattle.std.specs.List.{list_all}
 use Rattle.std.proofs.lemmas.Bool.{and_parts, ltb-true, ltb-false}
-use Rattle.std.proofs.lemmas.List.{length-map, take_all}
-use Rattle.std.proofs.lemmas.List.Elements.{All-nil, All-cons, All-head, All-tail, All-more, all_zip_more}
+use Rattle.std.proofs.lemmas.List.Elements.{All-nil, All-cons, All-head, All-tail}
 use Rattle.surf_io.specs.Files.{Files, file_of}
+use Rattle.text_scan.proofs.EachLemmas.{before_ok}
 use Rattle.turn_words.specs.Canonical.{IsTurnWord, IsCanonicalOf}
 use Rattle.turn_words.proofs.Unique.{left, left-is-canonical, unique}
-use Rattle.walk_files.specs.NumberLists.{NumberLine, line_at}
+use Rattle.walk_files.specs.NumberLists.{NumberLine}
 use Rattle.walk_files.specs.NumberTexts.{words_of}
-use Rattle.walk_files.specs.declared.limits.TheConstants.{MOST_ENTRIES}
-use Rattle.walk_files.proofs.WordLists.{words_of-short}
+use Rattle.walk_files.specs.declared.fault.WalkFault.{WalkFault}
+use Rattle.walk_files.specs.declared.fault.WalkFault.TheVariants as walks
 use Rattle.commands.specs.declared.refusal.Input.TheVariants as inputs
 use Rattle.commands.specs.declared.stop.Stop.TheVariants as stops
 use Rattle.commands.proofs.Checking.{stops_first, told_stops, stops_next}
 use Rattle.commands.proofs.Running.{tells_no_fault}
 use Rattle.commands.proofs.Sound.{IsSound, sound-then, sound-pass, sound-meant, sound-pass_unless, sound-file, held}
-use Rattle.commands.specs.Answers.{Answer, Texts, yes_with}
-use Rattle.commands.specs.Checks.{End, Refuse, Pass, Passes, IsTold, meant, pass_unless, Check, pass, ◌>>=◌}
+use Rattle.commands.specs.Answers.{Answer, Texts, NoText, yes_with}
+use Rattle.commands.specs.Canonised.{AreCanonised, IsNotCanonised, IsSoFar}
+use Rattle.commands.specs.Checks.{End, Refuse, Pass, Passes, IsTold, file, meant, pass_unless, Check, pass, ◌>>=◌}
 use Rattle.commands.specs.Outcomes.{Outcome, status_of}
 use Rattle.commands.specs.Reduce.{SpellsTurnWords, IsReduceInput, AreCanonicalOf, entries_on, degree_fault, lines_in, range_fault, canonical_words, reduce, range_line, degree_line, words_text}
 use Rattle.commands.specs.Refusals.{numbers_line}
@@ -87,46 +88,112 @@ no_range_fault degree (line ∷ lines) h =
 
 -- ---- line by line
 
-pub entries_at : (lines : List NumberLine) (k : ℕ) → k < length lines → get_or (entries_on lines) k [] ≡ (line_at lines k).numbers
-entries_at [] k below = absurd (omega (arith, below))
-entries_at (line ∷ lines) zero below = refl
-entries_at (line ∷ lines) (suc k) below = entries_at lines k (omega (arith, below))
+-- a line behind lines that are in range
+range_behind : (degree : ℕ) (lines : List NumberLine) (line : NumberLine) → range_fault degree lines ≡ None
+    → range_fault degree (lines ++ line ∷ []) ≡ range_fault degree (line ∷ [])
+range_behind degree [] line e = refl
+range_behind degree (first ∷ lines) line e =
+    by_test (list_all (λ entry. nat_lt entry degree) first.numbers) (range_behind degree lines line) e
+  where
+    by_test : (b : Bool) → (range_fault degree lines ≡ None → range_fault degree (lines ++ line ∷ []) ≡ range_fault degree (line ∷ []))
+        → (if b then range_fault degree lines else Some first.line) ≡ None
+        → (if b then range_fault degree (lines ++ line ∷ []) else Some first.line) ≡ range_fault degree (line ∷ [])
+    by_test true rest f = rest f
+    by_test false rest f = cc
 
-entries_there : (lines : List NumberLine) (k : ℕ) → k < length lines → k < length (entries_on lines)
-entries_there lines k below = omega (arith, below, length-map lines (λ (line : NumberLine). line.numbers))
+-- a line behind one that is out of range
+range_kept : (degree : ℕ) (lines : List NumberLine) (line : NumberLine) (number : ℕ) → range_fault degree lines ≡ Some number
+    → range_fault degree (lines ++ line ∷ []) ≡ Some number
+range_kept degree [] line number e = cc
+range_kept degree (first ∷ lines) line number e =
+    by_test (list_all (λ entry. nat_lt entry degree) first.numbers) (range_kept degree lines line number) e
+  where
+    by_test : (b : Bool) → (range_fault degree lines ≡ Some number → range_fault degree (lines ++ line ∷ []) ≡ Some number)
+        → (if b then range_fault degree lines else Some first.line) ≡ Some number
+        → (if b then range_fault degree (lines ++ line ∷ []) else Some first.line) ≡ Some number
+    by_test true rest f = rest f
+    by_test false rest f = f
 
-pub in_range-more : (degree : ℕ) (lines : List NumberLine) (k : ℕ) → k < length lines → All (IsTurnWord degree) (take k (entries_on lines))
-    → IsTurnWord degree (line_at lines k).numbers → All (IsTurnWord degree) (take (k + 1) (entries_on lines))
-in_range-more degree lines k below so_far next =
-    All-more (IsTurnWord degree) (entries_on lines) k [] (entries_there lines k below) so_far
-    (subst (IsTurnWord degree) (sym (entries_at lines k below)) next)
+canonical_more : (degree : ℕ) (lines : List NumberLine) (line : NumberLine) (words : List (List ℕ)) (word : List ℕ)
+    → AreCanonicalOf degree (entries_on lines) words → IsCanonicalOf degree line.numbers word
+    → AreCanonicalOf degree (entries_on (lines ++ line ∷ [])) (words ++ word ∷ [])
+canonical_more degree [] line [] word so_far next = (next, tt)
+canonical_more degree [] line (w ∷ words) word so_far next = absurd so_far
+canonical_more degree (first ∷ lines) line [] word so_far next = absurd so_far
+canonical_more degree (first ∷ lines) line (w ∷ words) word so_far next =
+    (so_far.0, canonical_more degree lines line words word so_far.1 next)
 
-same_element : (xs : List (List ℕ)) (i : ℕ) (d e : List ℕ) → i < length xs → get_or xs i d ≡ get_or xs i e
-same_element [] i d e below = absurd (omega (arith, below))
-same_element (x ∷ xs) zero d e below = refl
-same_element (x ∷ xs) (suc i) d e below = same_element xs i d e (omega (arith, below))
+-- one line more behind a line that is out of range
+pub so_far-kept : (degree : ℕ) (lines : List NumberLine) (line : NumberLine) (words : List (List ℕ)) (out : Option ℕ)
+    → is_some out ≡ true → IsSoFar degree lines words out → IsSoFar degree (lines ++ line ∷ []) words out
+so_far-kept degree lines line words None some h = cc
+so_far-kept degree lines line words (Some number) some h = range_kept degree lines line number h
 
-pub canonical-more : (degree : ℕ) (lines : List NumberLine) (k : ℕ) (words : List (List ℕ)) (word : List ℕ) → k < length lines
-    → AreCanonicalOf degree (take k (entries_on lines)) words → IsCanonicalOf degree (line_at lines k).numbers word
-    → AreCanonicalOf degree (take (k + 1) (entries_on lines)) (words ++ word ∷ [])
-canonical-more degree lines k words word below so_far next =
-    let there = entries_there lines k below in
-    all_zip_more (IsCanonicalOf degree) (entries_on lines) words k (line_at lines k).numbers word there
-    (sym (entries_at lines k below) ∙ same_element (entries_on lines) k [] (line_at lines k).numbers there) so_far next
+-- one line more that is a turn word
+pub so_far-word : (degree : ℕ) (lines : List NumberLine) (line : NumberLine) (words : List (List ℕ)) (word : List ℕ) (out : Option ℕ)
+    → is_some out ≡ false → IsTurnWord degree line.numbers → IsCanonicalOf degree line.numbers word → IsSoFar degree lines words out
+    → IsSoFar degree (lines ++ line ∷ []) (words ++ word ∷ []) out
+so_far-word degree lines line words word None none turn_word canonical h = (
+  range_behind degree lines line h.0 ∙ rw (all_below_test degree line.numbers turn_word.in_range) refl,
+  canonical_more degree lines line words word h.1 canonical,
+)
+so_far-word degree lines line words word (Some number) none turn_word canonical h = cc
 
--- the lines are turn words all
-pub all_entries : (lines : List NumberLine) (k : ℕ) → length lines ≤ k → take k (entries_on lines) ≡ entries_on lines
-all_entries lines k past = take_all k (entries_on lines) (omega (arith, past, length-map lines (λ (line : NumberLine). line.numbers)))
+-- one line more that is none
+pub so_far-fault : (degree : ℕ) (lines : List NumberLine) (line : NumberLine) (words : List (List ℕ)) (out : Option ℕ)
+    → is_some out ≡ false → list_all (λ entry. nat_lt entry degree) line.numbers ≡ false → IsSoFar degree lines words out
+    → IsSoFar degree (lines ++ line ∷ []) words (Some line.line)
+so_far-fault degree lines line words None none here h = range_behind degree lines line h.0 ∙ rw here refl
+so_far-fault degree lines line words (Some number) none here h = cc
 
--- the first line that is none
-pub range_found : (degree : ℕ) (lines : List NumberLine) (k : ℕ) → k < length lines → All (IsTurnWord degree) (take k (entries_on lines))
-    → list_all (λ entry. nat_lt entry degree) (line_at lines k).numbers ≡ false → range_fault degree lines ≡ Some (line_at lines k).line
-range_found degree [] k below before here = absurd (omega (arith, below))
-range_found degree (line ∷ lines) zero below before here = rw here refl
-range_found degree (line ∷ lines) (suc k) below before here =
-    let turn_word : IsTurnWord degree line.numbers = All-head (IsTurnWord degree) line.numbers (take k (entries_on lines)) before in
-    rw (all_below_test degree line.numbers turn_word.in_range)
-    (range_found degree lines k (omega (arith, below)) (All-tail (IsTurnWord degree) line.numbers (take k (entries_on lines)) before) here)
+-- the lines that were read are all
+all_read : (meaning : Result (List NumberLine) WalkFault) (lines : List NumberLine) (left : Result (List NumberLine) WalkFault)
+    → meaning ≡ before_ok lines left → left ≡ Ok [] → meaning ≡ Ok lines
+all_read meaning lines left e none = e ∙ rw none (ap Ok (append-nil lines))
+
+pub canonised-all : (degree : ℕ) (meaning : Result (List NumberLine) WalkFault) (lines : List NumberLine)
+    (left : Result (List NumberLine) WalkFault) (words : List (List ℕ)) (out : Option ℕ) → meaning ≡ before_ok lines left → left ≡ Ok []
+    → out ≡ None → IsSoFar degree lines words out → AreCanonised degree meaning words
+canonised-all degree meaning lines left words out e none sure h =
+    let here : IsSoFar degree lines words None = subst (IsSoFar degree lines words) sure h in
+    rw (all_read meaning lines left e none) here
+
+pub not_canonised-range : (degree : ℕ) (meaning : Result (List NumberLine) WalkFault) (lines : List NumberLine)
+    (left : Result (List NumberLine) WalkFault) (words : List (List ℕ)) (out : Option ℕ) (number : ℕ) (stop : Stop)
+    → meaning ≡ before_ok lines left → left ≡ Ok [] → out ≡ Some number → IsSoFar degree lines words out → Tells (range_line number) stop
+    → IsNotCanonised degree meaning stop
+not_canonised-range degree meaning lines left words out number stop e none is h told =
+    let here : IsSoFar degree lines words (Some number) = subst (IsSoFar degree lines words) is h in
+    rw (all_read meaning lines left e none) (number, here, told)
+
+pub not_canonised-fault : (degree : ℕ) (meaning : Result (List NumberLine) WalkFault) (lines : List NumberLine)
+    (left : Result (List NumberLine) WalkFault) (fault : WalkFault) (stop : Stop)
+    → meaning ≡ before_ok lines left → left ≡ Err fault → Tells (numbers_line inputs.TurnWords fault) stop
+    → IsNotCanonised degree meaning stop
+not_canonised-fault degree meaning lines left fault stop e is told =
+    let whole : meaning ≡ Err fault = e ∙ rw is refl in
+    rw whole told
+
+-- what stops the reading of a line stops the canonising
+pub not_read : (degree : ℕ) (meaning : Result (List NumberLine) WalkFault) (lines : List NumberLine)
+    (left : Result (List NumberLine) WalkFault) (stop : Stop) → meaning ≡ before_ok lines left
+    → (stop ≡ stops.OutOfMemory) ⊎ ((fault : WalkFault) × (left ≡ Err fault) × Tells (numbers_line inputs.TurnWords fault) stop)
+    → (stop ≡ stops.OutOfMemory) ⊎ IsNotCanonised degree meaning stop
+not_read degree meaning lines left stop e (inl wanting) = inl wanting
+not_read degree meaning lines left stop e (inr h) = inr (not_canonised-fault degree meaning lines left h.0 stop e h.1 h.2)
+
+-- want of memory in reading has no text
+pub wanting_stop : (stop : Stop) → Tells NoText stop → stop ≡ stops.OutOfMemory
+wanting_stop (stops.Refused text) h = absurd h
+wanting_stop stops.ReadFault h = absurd h
+wanting_stop stops.OutOfMemory h = refl
+
+pub read_wanting : (left : Result (List NumberLine) WalkFault) (fault : WalkFault) (stop : Stop)
+    → (left ≡ Err fault) ⊎ (fault ≡ walks.OutOfMemory) → Tells (numbers_line inputs.TurnWords fault) stop
+    → (stop ≡ stops.OutOfMemory) ⊎ ((other : WalkFault) × (left ≡ Err other) × Tells (numbers_line inputs.TurnWords other) stop)
+read_wanting left fault stop (inl e) h = inr (fault, e, h)
+read_wanting left fault stop (inr e) h =
+    inl (wanting_stop stop (subst (λ (f : WalkFault). Tells (numbers_line inputs.TurnWords f) stop) e h))
 
 -- ---- canonical words
 
@@ -243,29 +310,42 @@ lines_stop files degree name stop least h =
     (rw (no_degree_fault degree least) refl)
     (stops_first (lines_in files name) (behind_lines degree) stop h)
 
-pub short_lines : (files : Option Files) (name : List ℕ) (lines : List NumberLine) → Passes (lines_in files name) lines
-    → All (λ line. length line.numbers ≤ MOST_ENTRIES) lines
-short_lines files name lines (inl p) = let same = p.2 in cc
-short_lines files name lines (inr p) = words_of-short p.0 lines (meant_passed (numbers_line inputs.TurnWords) (words_of p.0) lines p.2)
-
--- what stops one line stops the command
-pub line_stops : (degree : ℕ) (lines : List NumberLine) (k : ℕ) (stop : Stop) → k < length lines
-    → All (IsTurnWord degree) (take k (entries_on lines))
-    → (stop ≡ stops.OutOfMemory) ⊎ ((list_all (λ entry. nat_lt entry degree) (line_at lines k).numbers ≡ false)
-    × Tells (range_line (line_at lines k).line) stop)
-    → (stop ≡ stops.OutOfMemory) ⊎ ((line : ℕ) × (range_fault degree lines ≡ Some line) × Tells (range_line line) stop)
-line_stops degree lines k stop below before (inl e) = inl e
-line_stops degree lines k stop below before (inr h) = inr ((line_at lines k).line, range_found degree lines k below before h.0, h.1)
+lines_passed : (files : Option Files) (name bytes : List ℕ) (lines : List NumberLine) → Passes (file files name inputs.TurnWords) bytes
+    → words_of bytes ≡ Ok lines → Passes (lines_in files name) lines
+lines_passed files name bytes lines passed e = inr (bytes, passed, rw e refl)
 
 -- what stops the canonical words stops the command
-pub words_stop : (files : Option Files) (degree : ℕ) (name : List ℕ) (lines : List NumberLine) (stop : Stop) → LEAST_DEGREE ≤ degree
-    → Passes (lines_in files name) lines
-    → (stop ≡ stops.OutOfMemory) ⊎ ((line : ℕ) × (range_fault degree lines ≡ Some line) × Tells (range_line line) stop)
+pub words_stop : (files : Option Files) (degree : ℕ) (name bytes : List ℕ) (stop : Stop) → LEAST_DEGREE ≤ degree
+    → Passes (file files name inputs.TurnWords) bytes → (stop ≡ stops.OutOfMemory) ⊎ IsNotCanonised degree (words_of bytes) stop
     → Stops (reduce files degree name) stop
-words_stop files degree name lines stop least passed (inl e) = subst (Stops (reduce files degree name)) (sym e) tt
-words_stop files degree name lines stop least passed (inr h) =
-    told_stops (range_line h.0) (reduce files degree name) stop
-    (inr (degree, rw (no_degree_fault degree least) refl, inr (lines, passed, inl (range_line h.0, rw h.1 refl, refl)))) h.2
+words_stop files degree name bytes stop least passed (inl e) = subst (Stops (reduce files degree name)) (sym e) tt
+words_stop files degree name bytes stop least passed (inr h) = by_meaning (words_of bytes) refl h
+  where
+    by_meaning : (meaning : Result (List NumberLine) WalkFault) → words_of bytes ≡ meaning → IsNotCanonised degree meaning stop
+        → Stops (reduce files degree name) stop
+    by_meaning (Err fault) e told =
+        lines_stop files degree name stop least
+        (stops_next (file files name inputs.TurnWords) (λ b. meant (numbers_line inputs.TurnWords) (words_of b)) bytes stop passed
+        (rw e (told_stops (numbers_line inputs.TurnWords fault) (meant (numbers_line inputs.TurnWords) (Err fault)) stop refl told)))
+    by_meaning (Ok lines) e told =
+        told_stops (range_line told.0) (reduce files degree name) stop
+        (inr (
+          degree,
+          rw (no_degree_fault degree least) refl,
+          inr (lines, lines_passed files name bytes lines passed e, inl (range_line told.0, rw told.1 refl, refl)),
+        ))
+        told.2
+
+pub words_pass : (files : Option Files) (degree : ℕ) (name bytes : List ℕ) (canonical : List (List ℕ)) → LEAST_DEGREE ≤ degree
+    → Passes (file files name inputs.TurnWords) bytes → AreCanonised degree (words_of bytes) canonical
+    → Passes (reduce files degree name) (yes_with (words_text canonical))
+words_pass files degree name bytes canonical least passed h = by_meaning (words_of bytes) refl h
+  where
+    by_meaning : (meaning : Result (List NumberLine) WalkFault) → words_of bytes ≡ meaning → AreCanonised degree meaning canonical
+        → Passes (reduce files degree name) (yes_with (words_text canonical))
+    by_meaning (Err fault) e are = absurd are
+    by_meaning (Ok lines) e are =
+        list_passes files degree name lines canonical least (lines_passed files name bytes lines passed e) are.0 are.1
 
 -- where the degree is in order, a file is looked at
 pub looks_at_file : (files : Option Files) (degree : ℕ) (name : List ℕ) → LEAST_DEGREE ≤ degree
@@ -273,11 +353,11 @@ pub looks_at_file : (files : Option Files) (degree : ℕ) (name : List ℕ) → 
 looks_at_file files degree name least none = (none.1 degree (rw (no_degree_fault degree least) refl)).0.0
 
 -- what stops the canonical words is no read fault
-pub words_no_fault : (degree : ℕ) (lines : List NumberLine) (stop : Stop)
-    → (stop ≡ stops.OutOfMemory) ⊎ ((line : ℕ) × (range_fault degree lines ≡ Some line) × Tells (range_line line) stop)
-    → stop ≡ stops.ReadFault → ⊥
-words_no_fault degree lines stop (inl wanting) e = cc
-words_no_fault degree lines stop (inr h) e = tells_no_fault (range_line h.0) stop h.2 e
+pub words_no_fault : (degree : ℕ) (meaning : Result (List NumberLine) WalkFault) (stop : Stop)
+    → (stop ≡ stops.OutOfMemory) ⊎ IsNotCanonised degree meaning stop → stop ≡ stops.ReadFault → ⊥
+words_no_fault degree meaning stop (inl wanting) e = cc
+words_no_fault degree (Err fault) stop (inr told) e = tells_no_fault (numbers_line inputs.TurnWords fault) stop told e
+words_no_fault degree (Ok lines) stop (inr told) e = tells_no_fault (range_line told.0) stop told.2 e
 
 unless_told : {T F : Type 0} (files : Option Files) (line_of : F → Texts) (fault : Option F) (thing : T)
     → (pass_unless line_of fault thing).EachFile (IsTold files)

@@ -4,13 +4,11 @@ use Rattle.std.specs.Prelude.{Option, Result, Ok, Err, IfOk, MatchResult, length
 use Rattle.std.proofs.lemmas.Bool.{cases_lt}
 use Rattle.surf_io.specs.Files.{Files}
 use Rattle.surf_model.specs.FaceLists.{FaceList, IsFaceList}
-use Rattle.surf_model.specs.Surfaces.{IsClosedManifold}
-use Rattle.surf_model.specs.Components.{EachTwoAreJoined, HasLeastVertex}
 use Rattle.manifold_check.specs.ComponentParts.{PartsView, AreParts}
-use Rattle.manifold_check.specs.Faults.{IsManifoldFault, IsFirstFault}
+use Rattle.manifold_check.specs.Faults.{IsFirstFault}
 use Rattle.manifold_check.specs.declared.fault.SurfaceFault.{SurfaceFault}
-use Rattle.manifold_check.specs.declared.fault.SurfaceFault.TheVariants.{NoFace, EdgeSides, Pinched, Apart, OutOfMemory}
-use Rattle.manifold_check.proofs.FaultLemmas.{one_fault, no_manifold_fault, manifold_fault_first}
+use Rattle.manifold_check.specs.declared.fault.SurfaceFault.TheVariants.{OutOfMemory}
+use Rattle.manifold_check.proofs.FaultLemmas.{one_fault, no_fault}
 use Rattle.manifold_check.proofs.OutcomeLemmas.{closed_or_fault}
 use Rattle.commands.proofs.Checking.{stops_next, told_stops, memory_stops}
 use Rattle.commands.proofs.SomeParts.{some_parts, same_count}
@@ -25,33 +23,18 @@ use Rattle.commands.specs.SurfaceInput.{as_surface, closed, orientable, surface_
 use Rattle.commands.specs.declared.stop.Stop.{Stop}
 use Rattle.commands.specs.declared.surface_input.SignedMesh.{SignedMesh}
 
--- a face list is a closed manifold or has a first fault of one, in that it cannot be without both
-manifold_or_fault : (mesh : FaceList) → IsFaceList mesh → (IsClosedManifold mesh → ⊥)
-    → ((fault : SurfaceFault) → IsManifoldFault mesh fault → ⊥) → ⊥
-manifold_or_fault mesh valid open_one none =
-    closed_or_fault mesh valid
-    (λ is. open_one (record { some_face = is.some_face; two_sides = is.two_sides; one_ring = is.one_ring })) first_none
-  where
-    first_none : (fault : SurfaceFault) → IsFirstFault mesh fault → ⊥
-    first_none NoFace is = none NoFace is
-    first_none (EdgeSides low high sides) is = none (EdgeSides low high sides) is
-    first_none (Pinched vertex) is = none (Pinched vertex) is
-    first_none (Apart vertex other) is =
-        open_one (record { some_face = is.some_face; two_sides = is.two_sides; one_ring = is.one_ring })
-    first_none OutOfMemory is = is
-
 one_closed : (mesh : FaceList) (a b : End FaceList) → (closed mesh).Ends a → (closed mesh).Ends b → a ≡ b
 one_closed mesh (Refuse r) (Refuse s) p q =
-    let same = one_fault mesh p.0 q.0 (manifold_fault_first mesh p.0 p.1) (manifold_fault_first mesh q.0 q.1) in cc (same, p.2, q.2)
-one_closed mesh (Refuse r) (Pass y) p q = absurd (no_manifold_fault mesh p.0 q.0 p.1)
-one_closed mesh (Pass x) (Refuse s) p q = absurd (no_manifold_fault mesh q.0 p.0 q.1)
+    let same = one_fault mesh p.0 q.0 p.1 q.1 in cc (same, p.2, q.2)
+one_closed mesh (Refuse r) (Pass y) p q = absurd (no_fault mesh p.0 q.0 p.1)
+one_closed mesh (Pass x) (Refuse s) p q = absurd (no_fault mesh q.0 p.0 q.1)
 one_closed mesh (Pass x) (Pass y) p q = cc (p.1, q.1)
 
 pub sound-closed : (held : Option Files) (mesh : FaceList) → IsFaceList mesh → IsSound held (closed mesh)
 sound-closed held mesh valid =
     record {
       some = λ none.
-          manifold_or_fault mesh valid (λ is. none (Pass mesh) (is, refl))
+          closed_or_fault mesh valid (λ is. none (Pass mesh) (is, refl))
           (λ fault is. none (Refuse (surface_line fault)) (fault, is, refl));
       one = λ _ a b p q. one_closed mesh a b p q;
     }
@@ -98,23 +81,6 @@ sound-few held most mesh valid =
       one = λ _ a b p q. one_few most mesh a b p q;
     }
 
--- a mesh of one component at most is connected, and a connected one has no more
-pub few_joined : (mesh : FaceList) (parts : PartsView) → AreParts mesh parts → length parts.components ≤ 1 → EachTwoAreJoined mesh
-few_joined mesh parts h few u v used_u used_v =
-    (h.places.joined u v used_u used_v).0
-    (let at_u = h.places.below u used_u in let at_v = h.places.below v used_v in omega (arith, at_u, at_v, few))
-
-pub joined_few : (mesh : FaceList) (parts : PartsView) → EachTwoAreJoined mesh → AreParts mesh parts → length parts.components ≤ 1
-joined_few mesh parts joined h = elim (cases_lt 1 (length parts.components)) [
-  | inl many ↦
-      (let one : HasLeastVertex mesh parts.places 0 = h.places.each_place 0 (omega (arith, many)) in
-      let other : HasLeastVertex mesh parts.places 1 = h.places.each_place 1 many in
-      let same = (h.places.joined one.vertex other.vertex one.least.used other.least.used).1
-      (joined one.vertex other.vertex one.least.used other.least.used) in
-      absurd (omega (arith, same, one.place, other.place)))
-  | inr few ↦ few
-]
-
 -- what passes is the mesh
 pub few_passed : (most : ℕ) (mesh few : FaceList) → Passes (of_few_components most mesh) few → few ≡ mesh
 few_passed most mesh few p = p.3
@@ -132,7 +98,7 @@ pub few_pass : (most : ℕ) (mesh : FaceList) (parts : PartsView) (count : ℕ) 
 few_pass most mesh parts count h is few = (count, subst (HasComponents mesh) (sym is) (has_components mesh parts h), few, refl)
 
 -- a fault of the mesh, or want of memory
-pub fault_stops : (mesh : FaceList) (fault : SurfaceFault) (stop : Stop) → (fault ≡ OutOfMemory) ⊎ IsManifoldFault mesh fault
+pub fault_stops : (mesh : FaceList) (fault : SurfaceFault) (stop : Stop) → (fault ≡ OutOfMemory) ⊎ IsFirstFault mesh fault
     → Tells (surface_line fault) stop → Stops (closed mesh) stop
 fault_stops mesh fault stop (inl wanting) h = memory_stops (closed mesh) stop
     (subst (λ (f : SurfaceFault). Tells (surface_line f) stop) wanting h)

@@ -34,7 +34,8 @@ use Rattle.commands.proofs.Measuring.{as_passes}
 use Rattle.commands.proofs.Rows.{meant_told, unless_told}
 use Rattle.commands.proofs.SomeParts.{some_parts}
 use Rattle.commands.proofs.Sound.{sound-pass_unless}
-use Rattle.commands.proofs.Surfaces.{sound-few, few_pass, joined_few}
+use Rattle.commands.proofs.Surfaces.{sound-few, few_pass}
+use Rattle.manifold_check.proofs.PartPieces.{joined_few}
 use Rattle.commands.proofs.Trying.{spelled_passed, sound-spelled, sizes, within_bounds, with_surface, with_few, with_numbers, with_genera, with_decisions, with_cell, with_loops, in_order, on_pair}
 
 -- ---- out of bounds
@@ -95,7 +96,7 @@ orientable_surface mesh is =
 one_passes : (mesh : FaceList) → IsFaceList mesh → IsSurface mesh → Passes (of_few_components 1 mesh) mesh
 one_passes mesh valid is =
     let parts = some_parts mesh valid in
-    few_pass 1 mesh parts.0 (length parts.0.components) parts.1 refl (joined_few mesh parts.0 is.closed.connected parts.1)
+    few_pass 1 mesh parts.0 (length parts.0.components) parts.1 refl (joined_few mesh parts.0 parts.1 is.closed.connected)
 
 -- the decision on a pair, and what comes behind it
 record PairDecided {T : Type 0} (mesh : FaceList) (grid : ℕ) (which : TrialPair) (next : deciding.Answer → Check T)

@@ -1,14 +1,13 @@
 -- The lines of turn words, entry by entry.
 use Rattle.std.proofs.Common.{◌≡◌, ◌↔◌, Bool, true, false, subst, ℕ, suc, zero, ◌+◌, ◌-◌, ◌<◌, ◌≤◌, List, [], ◌∷◌, ◌++◌, length, get_or, take, drop, refl, sym, ap, ◌∙◌, append_assoc, take-append-drop, arith}
 use Rattle.std.specs.Prelude.{map, flat_map, decimal, slice_index, codes, IsTrue, Option}
-use Rattle.std.proofs.Math.Seq.{split_at}
 use Rattle.std.proofs.lemmas.List.{append-nil, map-append, take_all, take_more}
 use Rattle.std.proofs.lemmas.Grind.{flat_map-append}
 use Rattle.surf_io.specs.Calls.{WrotePart}
-use Rattle.commands.proofs.GatheredLemmas.{gathers-put, gathers-then, gathers-fails, gathers-stops}
+use Rattle.commands.proofs.GatheredLemmas.{gathers-put, gathers-then, gathers-stops}
 use Rattle.commands.specs.Gathered.{Gathers}
 use Rattle.commands.specs.Lines.{behind_blank}
-use Rattle.commands.specs.Reduce.{word_line, words_text}
+use Rattle.commands.specs.Reduce.{word_line}
 
 -- the line of a word up to its entry k
 abbrev pub line_up_to : List ℕ → ℕ → List ℕ
@@ -64,20 +63,6 @@ line-parts (entry ∷ entries) k =
     ∙ ap (λ t. t ++ 10 ∷ []) (sym (append_assoc first before after))
     ∙ append_assoc (first ++ before) after (10 ∷ [])
 
--- ---- line by line
-
-pub words-more : (words : List (List ℕ)) (i : ℕ) (d : List ℕ) → i < length words
-    → words_text (take (i + 1) words) ≡ words_text (take i words) ++ word_line (get_or words i d)
-words-more words i d below =
-    ap words_text (take_more words i d below)
-    ∙ flat_map-append word_line (take i words) (get_or words i d ∷ [])
-    ∙ ap (λ t. words_text (take i words) ++ t) (append-nil (word_line (get_or words i d)))
-
-pub words-parts : (words : List (List ℕ)) (i : ℕ) (d : List ℕ) → i < length words
-    → words_text words ≡ words_text (take i words) ++ (word_line (get_or words i d) ++ words_text (drop (suc i) words))
-words-parts words i d below =
-    ap words_text (split_at words i d below) ∙ flat_map-append word_line (take i words) (get_or words i d ∷ drop (suc i) words)
-
 -- ---- what is put of a line
 
 pub filled : (empty : Bool) (word : List ℕ) → IsTrue empty ↔ (word ≡ []) → empty ≡ false → 0 < length word
@@ -114,32 +99,3 @@ pub line-stops : {X : Type 0} (written : X → Option (List ℕ)) (faults : X �
 line-stops written faults old mid new held left word k first never_falls failed =
     subst (λ t. WrotePart written faults old new (held ++ t)) (sym (line-parts word k))
     (gathers-stops written faults old mid new held left (line_up_to word k) (line_from word k) first never_falls failed)
-
--- ---- what is put of the lines
-
-pub words-more-put : {X : Type 0} (written : X → Option (List ℕ)) (old mid new : X) (left after : List ℕ) (words : List (List ℕ))
-    (i : ℕ) (word : List ℕ)
-    → i < length words → word ≡ get_or words i word → Gathers written old mid [] left (words_text (take i words))
-    → Gathers written mid new left after (word_line word) → Gathers written old new [] after (words_text (take (i + 1) words))
-words-more-put written old mid new left after words i word below is first second =
-    subst (Gathers written old new [] after)
-    (ap (λ w. words_text (take i words) ++ word_line w) is ∙ sym (words-more words i word below))
-    (gathers-then written old mid new [] left after (words_text (take i words)) (word_line word) first second)
-
-pub words-stop : {X : Type 0} (written : X → Option (List ℕ)) (faults : X → ℕ) (old mid new : X) (left : List ℕ) (words : List (List ℕ))
-    (i : ℕ) (word : List ℕ)
-    → i < length words → word ≡ get_or words i word → Gathers written old mid [] left (words_text (take i words)) → faults old ≤ faults mid
-    → WrotePart written faults mid new (left ++ word_line word) → WrotePart written faults old new (words_text words)
-words-stop written faults old mid new left words i word below is first never_falls failed =
-    subst (WrotePart written faults old new)
-    (ap (λ w. words_text (take i words) ++ (word_line w ++ words_text (drop (suc i) words))) is ∙ sym (words-parts words i word below))
-    (gathers-fails written faults old mid new [] left (words_text (take i words)) (word_line word) (words_text (drop (suc i) words))
-    first never_falls failed)
-
-pub words-stop_last : {X : Type 0} (written : X → Option (List ℕ)) (faults : X → ℕ) (old mid new : X) (left : List ℕ)
-    (words : List (List ℕ)) (i : ℕ)
-    → take i words ≡ words → Gathers written old mid [] left (words_text (take i words)) → faults old ≤ faults mid
-    → WrotePart written faults mid new left → WrotePart written faults old new (words_text words)
-words-stop_last written faults old mid new left words i all first never_falls failed =
-    subst (WrotePart written faults old new) (append-nil (words_text (take i words)) ∙ ap words_text all)
-    (gathers-stops written faults old mid new [] left (words_text (take i words)) [] first never_falls failed)

@@ -1,12 +1,14 @@
 -- What the program answers: a status, and a text or any of several.
-use Rattle.std.specs.Prelude.{◌≡◌, ℕ, List}
+use Rattle.std.specs.Prelude.{◌≡◌, ℕ, ◌≤◌, List, length}
 use Rattle.surf_model.specs.FaceLists.{FaceList}
+use Rattle.surf_model.specs.Moves.{PeakedMoves}
 use Rattle.surf_model.specs.declared.chains.ChainLink.{ChainLink}
 use Rattle.orientation.specs.Chains.{IsOddChain}
 use Rattle.walk_translate.specs.declared.deciding.Answer as deciding
 use Rattle.commands.specs.Certificates.{Convinces, decision_of, certificate_text}
 use Rattle.commands.specs.Lines.{odd_chain_line}
 use Rattle.commands.specs.declared.certificate.Certificate.{Certificate}
+use Rattle.commands.specs.declared.certificate.Certificate.TheVariants.{Moves}
 use Rattle.commands.specs.declared.status.Status.{Status}
 use Rattle.commands.specs.declared.status.Status.TheVariants.{Yes}
 
@@ -20,6 +22,9 @@ pub data Texts : Type 0 where
   OfOddChain : FaceList → Texts
   -- a certificate for two walks of the mesh and the decision on them, of any that convinces
   OfCertificate : FaceList → (first second : List ℕ) → deciding.Answer → Texts
+  -- a list of moves between two walks of the mesh and its decision, of any that convinces and is short: neither its moves nor its peak
+  -- are more than this
+  OfShortList : FaceList → (first second : List ℕ) → (most : ℕ) → Texts
 
 -- the text is one of them
 abbrev pub IsText : Texts → List ℕ → Type 0
@@ -28,6 +33,9 @@ IsText (Exactly wanted) text = text ≡ wanted
 IsText (OfOddChain mesh) text = (chain : List ChainLink) × IsOddChain mesh chain × (text ≡ odd_chain_line chain)
 IsText (OfCertificate mesh first second decision) text =
     (shown : Certificate) × Convinces mesh first second shown × (decision_of shown ≡ decision) × (text ≡ certificate_text shown)
+IsText (OfShortList mesh first second most) text =
+    (list : PeakedMoves) × Convinces mesh first second (Moves list) × (length list.moves ≤ most) × (list.peak ≤ most)
+    × (text ≡ certificate_text (Moves list))
 
 -- what is answered where nothing is refused
 pub record Answer : Type 0 where

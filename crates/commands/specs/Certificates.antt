@@ -1,5 +1,5 @@
 -- What a certificate shows, and how it is written.
-use Rattle.std.specs.Prelude.{ℕ, List, [], ◌++◌, codes}
+use Rattle.std.specs.Prelude.{ℕ, List, [], ◌∷◌, ◌++◌, flat_map, codes}
 use Rattle.surf_model.specs.FaceLists.{FaceList}
 use Rattle.move_lifting.specs.Lifts.{LeadsAtPeak}
 use Rattle.labellings.specs.Denials.{DenialHolds}

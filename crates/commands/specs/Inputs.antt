@@ -6,7 +6,7 @@ use Rattle.surf_model.specs.Walks.{IsWalk, HaveCommonEnds}
 use Rattle.off_reader.specs.OffTexts.{meaning_of}
 use Rattle.walk_files.specs.Certificates.{head_of_text, moves_of_text, with_peak}
 use Rattle.walk_files.specs.Denials.{denial_of_lines}
-use Rattle.walk_files.specs.NumberTexts.{walks_of}
+use Rattle.walk_files.specs.WalkTexts.{walks_of}
 use Rattle.walk_files.specs.Pairs.{pair_fault}
 use Rattle.walk_files.specs.declared.certificate.CertHead.{CertHead}
 use Rattle.walk_files.specs.declared.certificate.CertHead.TheVariants as heads

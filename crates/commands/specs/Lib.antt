@@ -19,3 +19,4 @@ pub mod Gathered
 pub mod Writes
 pub mod Stops
 pub mod Replies
+pub mod Canonised

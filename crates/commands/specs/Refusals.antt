@@ -55,13 +55,12 @@ off_line (off.EqualNeighbours number) = told_at (codes "off") number (codes "nei
 off_line (off.TooMany number) = told_at (codes "off") number (codes "many")
 off_line off.OutOfMemory = NoText
 
--- the first condition of a closed surface that fails, with its least element
+-- the first condition of a closed manifold that fails, with its least element
 abbrev pub surface_line : SurfaceFault → Texts
 surface_line surfaces.NoFace = told (codes "no face" ∷ [])
 surface_line (surfaces.EdgeSides low high sides) =
     told (codes "edge" ∷ decimal low.0 ∷ decimal high.0 ∷ codes "sides" ∷ decimal sides ∷ [])
 surface_line (surfaces.Pinched vertex) = told (codes "vertex" ∷ decimal vertex.0 ∷ codes "pinched" ∷ [])
-surface_line (surfaces.Apart vertex other) = told (codes "vertices" ∷ decimal vertex.0 ∷ decimal other.0 ∷ codes "apart" ∷ [])
 surface_line surfaces.OutOfMemory = NoText
 
 -- a surface of more components than a command takes, with their number
@@ -73,6 +72,7 @@ abbrev pub numbers_line : Input → WalkFault → Texts
 numbers_line input (walks.BadNumber number) = told_at (input_name input) number (codes "number")
 numbers_line input (walks.TooLong number) = told_at (input_name input) number (codes "long")
 numbers_line input (walks.TooMany number) = told_at (input_name input) number (codes "many")
+numbers_line input (walks.BadGroup number) = told_at (input_name input) number (codes "group")
 numbers_line input walks.OutOfMemory = NoText
 
 -- why walks are not two walks of the mesh with common ends

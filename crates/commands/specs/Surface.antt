@@ -7,7 +7,7 @@ use Rattle.surf_model.specs.Edges.{Edge, IsTableOf}
 use Rattle.surf_model.specs.Surfaces.{IsClosedManifold, IsOrientable}
 use Rattle.surf_model.specs.declared.chains.ChainLink.{ChainLink}
 use Rattle.manifold_check.specs.ComponentParts.{PartsView, AreParts, component_mesh}
-use Rattle.manifold_check.specs.Faults.{IsManifoldFault}
+use Rattle.manifold_check.specs.Faults.{IsFirstFault}
 use Rattle.manifold_check.specs.declared.fault.SurfaceFault.{SurfaceFault}
 use Rattle.manifold_check.specs.declared.measuring.PartNumbers.{PartNumbers}
 use Rattle.orientation.specs.Chains.{IsOddChain}
@@ -75,7 +75,7 @@ pub record IsMeasured (held : Option Files) (words : List (List ℕ)) (status : 
   pub numbers : (mesh : FaceList) → IsSurfaceInput held words mesh → IsOrientableSurface mesh → HasFewComponents mesh
       → (numbers : SurfaceNumbers) × AreNumbersOf mesh numbers × (genera : List ℕ) × AreGeneraOf mesh genera
       × (text ≡ numbers_text numbers genera)
-  pub not_closed : (mesh : FaceList) (fault : SurfaceFault) → IsSurfaceInput held words mesh → IsManifoldFault mesh fault
+  pub not_closed : (mesh : FaceList) (fault : SurfaceFault) → IsSurfaceInput held words mesh → IsFirstFault mesh fault
       → (status ≡ Refused) × IsText (surface_line fault) text
   pub not_orientable : (mesh : FaceList) → IsSurfaceInput held words mesh → IsClosedManifold mesh → (IsOrientable mesh → ⊥)
       → (status ≡ Refused) × (chain : List ChainLink) × IsOddChain mesh chain × (text ≡ odd_chain_line chain)

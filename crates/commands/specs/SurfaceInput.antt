@@ -4,7 +4,7 @@ use Rattle.std.specs.Prelude.{◌≡◌, ℕ, ◌<◌, ◌≤◌, List, Option}
 use Rattle.surf_io.specs.Files.{Files}
 use Rattle.surf_model.specs.FaceLists.{FaceList}
 use Rattle.surf_model.specs.Surfaces.{IsClosedManifold, IsOrientable}
-use Rattle.manifold_check.specs.Faults.{IsManifoldFault}
+use Rattle.manifold_check.specs.Faults.{IsFirstFault}
 use Rattle.manifold_check.specs.declared.fault.SurfaceFault.{SurfaceFault}
 use Rattle.commands.specs.Answers.{OfOddChain}
 use Rattle.commands.specs.Checks.{Check, End, Refuse, Pass, without_files, ◌>>=◌}
@@ -12,12 +12,12 @@ use Rattle.commands.specs.ClosedSurfaces.{HasComponents}
 use Rattle.commands.specs.Inputs.{mesh_in}
 use Rattle.commands.specs.Refusals.{surface_line, components_line}
 
--- a closed surface passes, and any other mesh is refused for its first fault
+-- a closed manifold passes, and any other mesh is refused for its first fault
 abbrev pub closed : FaceList → Check FaceList
 closed mesh = without_files ends
   where
     ends : End FaceList → Type 0
-    ends (Refuse texts) = (fault : SurfaceFault) × IsManifoldFault mesh fault × (texts ≡ surface_line fault)
+    ends (Refuse texts) = (fault : SurfaceFault) × IsFirstFault mesh fault × (texts ≡ surface_line fault)
     ends (Pass surface) = IsClosedManifold mesh × (surface ≡ mesh)
 
 -- an orientable mesh passes, and any other is refused by an odd chain

@@ -78,7 +78,7 @@ pub fn connected(alloc: Global, mesh: SignedMesh) -> Result<Surface, AllocError>
 }
 
 /// A component by its place, as a surface of its own.
-fn surface_alone(
+pub fn surface_alone(
     alloc: Global,
     mesh: &SignedMesh,
     parts: &Parts,

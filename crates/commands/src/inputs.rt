@@ -8,7 +8,7 @@ ghost use Rattle.commands.specs.Inputs.{mesh_in, pair_in};
 ghost use Rattle.commands.specs.Refusals.{numbers_line};
 ghost use Rattle.commands.specs.declared.refusal.Input.{Input};
 ghost use Rattle.commands.specs.declared.stop.Stop.{Stop};
-ghost use Rattle.walk_files.specs.NumberTexts.{walks_of};
+ghost use Rattle.walk_files.specs.WalkTexts.{walk_text_of};
 ghost use Rattle.commands.specs.Stops.{Ends, Reads, Stops};
 
 use crate::refusal::Input;
@@ -56,8 +56,9 @@ pub fn read_pair<S: Shelf>(
     sides: &Sides,
 ) -> Result<WalkList, Stop>
     ensures reads { Reads S.held S.faults shelf.old shelf.new
-        (λ files. (mesh : FaceList) → IsTableOf mesh sides.now → Ends (pair_in files name.now mesh) result) result }
-    ensures pair { IfOk result (λ walks. (mesh : FaceList) → IsTableOf mesh sides.now → IsPair mesh walks) }
+        (λ files. (mesh : FaceList) → IsTableOf mesh sides.now
+        → MatchResult result (λ list. Passes (pair_in files name.now mesh) list.walks) (Stops (pair_in files name.now mesh))) result }
+    ensures pair { IfOk result (λ list. (mesh : FaceList) → IsTableOf mesh sides.now → IsPair mesh list.walks) }
 {
     let bytes = read_file(alloc, shelf, name, Input::Walks)?;
     let walks = walks_of_bytes(alloc, &bytes)?;
@@ -67,7 +68,7 @@ pub fn read_pair<S: Shelf>(
 
 /// The walks that the bytes spell.
 pub fn walks_of_bytes(alloc: Global, bytes: &[u8]) -> Result<WalkList, Stop>
-    ensures end { Ends (meant (numbers_line Input.Walks) (walks_of bytes.now)) result }
+    ensures end { Ends (meant (numbers_line Input.Walks) (walk_text_of bytes.now)) result }
     ensures no_fault { result ≡ Err Stop.ReadFault → ⊥ }
 {
     match read_walks(alloc, bytes) {

@@ -85,6 +85,7 @@ impl Input {
             WalkFault::BadNumber { line } => refused_at(self.name(), line, "number"),
             WalkFault::TooLong { line } => refused_at(self.name(), line, "long"),
             WalkFault::TooMany { line } => refused_at(self.name(), line, "many"),
+            WalkFault::BadGroup { line } => refused_at(self.name(), line, "group"),
             WalkFault::OutOfMemory => Stop::OutOfMemory,
         }
     }
@@ -132,12 +133,6 @@ impl From<SurfaceFault> for Stop {
                 Phrase::Text("vertex"),
                 Phrase::Number(vertex.0 as u64),
                 Phrase::Text("pinched"),
-            ]),
-            SurfaceFault::Apart { vertex, other } => refused(&[
-                Phrase::Text("vertices"),
-                Phrase::Number(vertex.0 as u64),
-                Phrase::Number(other.0 as u64),
-                Phrase::Text("apart"),
             ]),
             SurfaceFault::OutOfMemory => Stop::OutOfMemory,
         }

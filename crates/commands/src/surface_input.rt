@@ -16,7 +16,7 @@ use crate::line::Phrase;
 use crate::refusal::refused;
 use crate::stop::Stop;
 use crate::text::Text;
-use manifold_check::{Parts, check_manifold};
+use manifold_check::{Parts, check_closed};
 use orientation::{OrientFault, orient};
 use std::alloc::Global;
 use surf_io::Shelf;
@@ -63,16 +63,16 @@ pub fn signed_mesh(alloc: Global, faces: Faces) -> Result<SignedMesh, Stop>
     })
 }
 
-/// Checks that the mesh with this table is a closed surface.
+/// Checks that the mesh with this table is a closed manifold.
 fn check_surface(alloc: Global, faces: &Faces, sides: &Sides) -> Result<(), Stop>
     requires { IsTableOf faces.now sides.now }
     ensures end { MatchResult result (λ _. Passes (closed faces.now) faces.now) (Stops (closed faces.now)) }
     ensures no_fault { result ≡ Err Stop.ReadFault → ⊥ }
 {
-    Ok(check_manifold(alloc, faces, sides)?)
+    Ok(check_closed(alloc, faces, sides)?)
 }
 
-/// Signs under which the faces of a closed surface are listed coherently.
+/// Signs under which the faces of a closed manifold are listed coherently.
 fn find_signs(alloc: Global, faces: &Faces, sides: &Sides) -> Result<Signs, Stop>
     requires table { IsTableOf faces.now sides.now }
     requires closed { IsClosedManifold faces.now }

@@ -1,7 +1,8 @@
 //! A surface as its darts.
 ghost use Rattle.std.specs.Prelude.{◌≡◌, ◌<◌, IfOk};
 ghost use Rattle.surf_model.specs.Edges.{IsTableOf};
-ghost use Rattle.surf_model.specs.Surfaces.{IsClosed, IsCoherent};
+ghost use Rattle.surf_model.specs.Components.{EachTwoAreJoined};
+ghost use Rattle.surf_model.specs.Surfaces.{IsClosedManifold, IsCoherent};
 
 use crate::darts::{Origins, kept_origins, next_darts, used_vertices};
 use std::alloc::{AllocError, Global};
@@ -44,7 +45,8 @@ impl Surface {
     ghost use Rattle.halfedge_map.specs.RotationSystems.{rotations_of, IsDartFrom};
     ghost use Rattle.surf_model.specs.FaceLists.{is_edge};
 
-    /// The surface of a mesh, from the table of its edges and from coherent signs of its faces.
+    /// The surface of a mesh, from the table of its edges and from coherent signs of its faces. The mesh is a closed manifold, of
+    /// which any two used vertices are joined by a walk.
     pub fn build(
         alloc: Global,
         faces: Faces,
@@ -52,7 +54,8 @@ impl Surface {
         signs: Signs,
     ) -> Result<Surface, AllocError>
         requires table { IsTableOf faces sides }
-        requires closed { IsClosed faces }
+        requires closed { IsClosedManifold faces }
+        requires connected { EachTwoAreJoined faces }
         requires coherent { IsCoherent faces signs }
         ensures { IfOk result (λ surface. surface ≡ record { mesh = faces; table = sides; signs = signs }) }
     {

@@ -12,7 +12,7 @@ use Rattle.homology.specs.Verdicts.{IsBalancedAt, IsLeastUnbalanced}
 use Rattle.homology.specs.Tallies.{number_at, GrewBy, AreWithin, AreNumbersOf, IsLeft}
 
 -- faces with the same numbers have the same boundary
-boundary_agrees : (mesh : FaceList) (one other : ℕ → ℤ) (low high : ℕ) → ((f : ℕ) → one f ≡ other f)
+pub boundary_agrees : (mesh : FaceList) (one other : ℕ → ℤ) (low high : ℕ) → ((f : ℕ) → one f ≡ other f)
     → boundary mesh one low high ≡ boundary mesh other low high
 boundary_agrees mesh one other low high same = along_sides (all_sides mesh)
   where

@@ -27,7 +27,7 @@ all_more P xs k x h here holds j d l = elim (cases_lt j k) [
 ]
 
 -- one more line: it is the one that counts where it passes, and else those before it
-listed_more : {X : Type 0} (test : X → Bool) (number : X → ℤ) (xs : List X) (x : X)
+pub listed_more : {X : Type 0} (test : X → Bool) (number : X → ℤ) (xs : List X) (x : X)
     → (test x ≡ true → All (λ y. test y ≡ false) xs)
     → listed_number test number (xs ++ x ∷ []) ≡ if test x then number x else listed_number test number xs
 listed_more test number [] x h = refl

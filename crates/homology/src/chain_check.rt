@@ -9,28 +9,28 @@ use crate::certificate::ChainNumbers;
 use crate::numbers::{first_missing, numbers_by_face};
 use crate::tally::{first_nonzero, rest_of};
 use crate::verdict::HomologyVerdict;
+use crate::walk_pair::WalkPair;
 use std::alloc::{AllocError, Global};
-use surf_model::{Faces, Sides, Walk};
+use surf_model::{Faces, Sides};
 
 /// Checks the numbers of a chain: that each listed face is there, and then each edge.
 pub(crate) fn check_chain(
     alloc: Global,
     faces: &Faces,
     sides: &Sides,
-    first: &Walk,
-    second: &Walk,
+    walks: WalkPair<'_>,
     numbers: &ChainNumbers,
 ) -> Result<HomologyVerdict, AllocError>
     requires table { IsTableOf faces.now sides.now }
-    requires first { IsWalk faces.now first.now }
-    requires second { IsWalk faces.now second.now }
-    ensures { IfOk result (IsVerdict faces.now first.now second.now (Chain numbers.now)) }
+    requires first { IsWalk faces.now walks.first.now }
+    requires second { IsWalk faces.now walks.second.now }
+    ensures { IfOk result (IsVerdict faces.now walks.entry.first.now walks.entry.second.now (Chain numbers.now)) }
 {
     if let Some(face) = first_missing(faces, numbers) {
         return Ok(HomologyVerdict::Face(face));
     }
     let of_face = numbers_by_face(alloc, faces, numbers)?;
-    let rest = rest_of(alloc, faces, sides, first, second, &of_face)?;
+    let rest = rest_of(alloc, faces, sides, walks, &of_face)?;
     if let Some(edge) = first_nonzero(&rest, sides) {
         let (low, high) = sides.ends(edge);
         return Ok(HomologyVerdict::Edge(low, high));

@@ -13,6 +13,7 @@ use crate::certificate::CocycleNumbers;
 use crate::numbers::{first_stray, numbers_by_edge};
 use crate::tally::{edge_between, number_of_dart};
 use crate::verdict::HomologyVerdict;
+use crate::walk_pair::WalkPair;
 use std::alloc::{AllocError, Global};
 use surf_model::{FaceName, Faces, Side, Sides, Walk};
 
@@ -22,14 +23,13 @@ pub(crate) fn check_cocycle(
     alloc: Global,
     faces: &Faces,
     sides: &Sides,
-    first: &Walk,
-    second: &Walk,
+    walks: WalkPair<'_>,
     numbers: &CocycleNumbers,
 ) -> Result<HomologyVerdict, AllocError>
     requires table { IsTableOf faces.now sides.now }
-    requires first { IsWalk faces.now first.now }
-    requires second { IsWalk faces.now second.now }
-    ensures { IfOk result (IsVerdict faces.now first.now second.now (Cocycle numbers.now)) }
+    requires first { IsWalk faces.now walks.first.now }
+    requires second { IsWalk faces.now walks.second.now }
+    ensures { IfOk result (IsVerdict faces.now walks.entry.first.now walks.entry.second.now (Cocycle numbers.now)) }
 {
     if let Some(line) = first_stray(faces, sides, numbers) {
         return Ok(HomologyVerdict::Edge(line.low, line.high));
@@ -38,7 +38,9 @@ pub(crate) fn check_cocycle(
     if let Some(face) = first_open(faces, sides, &of_edge) {
         return Ok(HomologyVerdict::Sum(face));
     }
-    if sum_along(faces, sides, &of_edge, first) == sum_along(faces, sides, &of_edge, second) {
+    let first = sum_along(faces, sides, &of_edge, walks.first);
+    let second = sum_along(faces, sides, &of_edge, walks.second);
+    if first == second {
         return Ok(HomologyVerdict::Zero);
     }
     Ok(HomologyVerdict::Accepted)

@@ -17,6 +17,7 @@ pub mod laws;
 mod numbers;
 pub mod tally;
 mod verdict;
+mod walk_pair;
 
 pub use certificate::{
     ChainNumbers, CocycleNumbers, EdgeNumber, FaceNumber, HomologyCert, MOST_NUMBER,

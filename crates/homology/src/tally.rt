@@ -7,6 +7,7 @@ ghost use Rattle.homology.specs.Chains.{boundary, count_difference};
 ghost use Rattle.homology.specs.Tallies.{number_at, turned, GrewBy, AreWithin, AreNumbersOf, face_share, IsLeft};
 ghost use Rattle.homology.specs.declared.certificate.TheConstants.{MOST_NUMBER};
 
+use crate::walk_pair::WalkPair;
 use std::alloc::{AllocError, Global};
 use surf_model::{EdgeName, FaceName, Faces, Side, Sides, VertexName, Walk};
 
@@ -49,19 +50,19 @@ pub(crate) fn rest_of(
     alloc: Global,
     faces: &Faces,
     sides: &Sides,
-    first: &Walk,
-    second: &Walk,
+    walks: WalkPair<'_>,
     of_face: &[i64],
 ) -> Result<Vec<i64>, AllocError>
     requires table { IsTableOf faces.now sides.now }
-    requires first { IsWalk faces.now first.now }
-    requires second { IsWalk faces.now second.now }
+    requires first { IsWalk faces.now walks.first.now }
+    requires second { IsWalk faces.now walks.second.now }
     requires each_face { length of_face.now ≡ length faces.now.faces }
     requires small { AreWithin MOST_NUMBER of_face.now }
     ensures long { IfOk result (λ rest. length rest.items ≡ length sides.now) }
-    ensures left { IfOk result (λ rest. IsLeft faces.now sides.now (number_at of_face.now) first.now second.now rest.items) }
+    ensures left { IfOk result (λ rest. IsLeft faces.now sides.now (number_at of_face.now) walks.entry.first.now walks.entry.second.now
+        rest.items) }
 {
-    let mut rest = count_differences(alloc, faces, sides, first, second)?;
+    let mut rest = count_differences(alloc, faces, sides, walks.first, walks.second)?;
     take_faces(&mut rest, faces, sides, of_face);
     Ok(rest)
 }

@@ -8,6 +8,7 @@ ghost use Rattle.homology.specs.declared.verdict.HomologyVerdict.{HomologyVerdic
 use crate::certificate::HomologyCert;
 use crate::chain_check::check_chain;
 use crate::cocycle_check::check_cocycle;
+use crate::walk_pair::WalkPair;
 use std::alloc::{AllocError, Global};
 use surf_model::{FaceName, Faces, Sides, VertexName, Walk};
 
@@ -46,10 +47,9 @@ pub fn check_homology(
     ensures exact { (verdict : HomologyVerdict) → IsVerdict faces.now first.now second.now certificate.now verdict
         → IfOk result (λ given. given ≡ verdict) }
 {
+    let walks = WalkPair { first, second };
     match certificate {
-        HomologyCert::Chain(numbers) => check_chain(alloc, faces, sides, first, second, numbers),
-        HomologyCert::Cocycle(numbers) => check_cocycle(
-            alloc, faces, sides, first, second, numbers,
-        ),
+        HomologyCert::Chain(numbers) => check_chain(alloc, faces, sides, walks, numbers),
+        HomologyCert::Cocycle(numbers) => check_cocycle(alloc, faces, sides, walks, numbers),
     }
 }

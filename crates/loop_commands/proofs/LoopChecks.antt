@@ -4,11 +4,12 @@ use Rattle.std.specs.Prelude.{Option, Some, None, Result, Ok, Err}
 use Rattle.surf_io.specs.Files.{Files}
 use Rattle.surf_model.specs.FaceLists.{FaceList}
 use Rattle.walk_files.specs.Closed_pairs.{IsClosedPair, loops_fault}
-use Rattle.walk_files.specs.NumberTexts.{walks_of}
+use Rattle.walk_files.specs.WalkLists.{WalkText}
+use Rattle.walk_files.specs.WalkTexts.{walk_text_of, walks_of}
 use Rattle.walk_files.specs.declared.fault.WalkFault.{WalkFault}
 use Rattle.walk_files.specs.declared.loops.LoopFault.{LoopFault}
 use Rattle.walk_files.proofs.ClosedPairLemmas.{none_of_loops}
-use Rattle.commands.proofs.Checking.{stops_first, stops_next, told_stops}
+use Rattle.commands.proofs.Checking.{stops_first, stops_next, told_stops, walks_pass, walks_stop}
 use Rattle.commands.proofs.Rows.{meant_told, unless_told}
 use Rattle.commands.proofs.Sound.{IsSound, sound-file, sound-then, sound-meant, sound-pass_unless, held}
 use Rattle.commands.specs.Checks.{Check, Passes, Holds, IsTold, file, meant, pass_unless, ◌>>=◌}
@@ -26,25 +27,33 @@ after_bytes mesh bytes = meant (numbers_line inputs.Walks) (walks_of bytes) >>=
 -- a walk file that is refused for its text
 pub loops_text_stop : (held : Option Files) (name : List ℕ) (mesh : FaceList) (bytes : List ℕ) (stop : Stop)
     → Passes (file held name inputs.Walks) bytes
-    → Stops (meant (numbers_line inputs.Walks) (walks_of bytes)) stop → Stops (loops_in held name mesh) stop
+    → Stops (meant (numbers_line inputs.Walks) (walk_text_of bytes)) stop → Stops (loops_in held name mesh) stop
 loops_text_stop held name mesh bytes stop p h =
     stops_next (file held name inputs.Walks) (after_bytes mesh) bytes stop p
     (stops_first (meant (numbers_line inputs.Walks) (walks_of bytes)) (λ walks. pass_unless loops_line (loops_fault mesh walks) walks)
-    stop h)
+    stop (walks_stop (numbers_line inputs.Walks) (walk_text_of bytes) stop h))
 
 -- a walk file whose walks are no closed walks
-pub loops_stop : (held : Option Files) (name : List ℕ) (mesh : FaceList) (bytes : List ℕ) (walks : List (List ℕ)) (fault : LoopFault)
+pub loops_stop : (held : Option Files) (name : List ℕ) (mesh : FaceList) (bytes : List ℕ) (text : WalkText) (fault : LoopFault)
     (stop : Stop)
-    → Passes (file held name inputs.Walks) bytes → Passes (meant (numbers_line inputs.Walks) (walks_of bytes)) walks
-    → loops_fault mesh walks ≡ Some fault → Tells (loops_line fault) stop → Stops (loops_in held name mesh) stop
-loops_stop held name mesh bytes walks fault stop p q f h =
-    told_stops (loops_line fault) (loops_in held name mesh) stop (inr (bytes, p, inr (walks, q, rw f refl))) h
+    → Passes (file held name inputs.Walks) bytes → Passes (meant (numbers_line inputs.Walks) (walk_text_of bytes)) text
+    → loops_fault mesh text.walks ≡ Some fault → Tells (loops_line fault) stop → Stops (loops_in held name mesh) stop
+loops_stop held name mesh bytes text fault stop p q f h =
+    told_stops (loops_line fault) (loops_in held name mesh) stop
+    (inr (bytes, p, inr (text.walks, walks_pass (numbers_line inputs.Walks) (walk_text_of bytes) text q, rw f refl))) h
 
 -- a walk file that passes
 pub loops_pass : (held : Option Files) (name : List ℕ) (mesh : FaceList) (bytes : List ℕ) (walks : List (List ℕ))
     → Passes (file held name inputs.Walks) bytes → walks_of bytes ≡ Ok walks → loops_fault mesh walks ≡ None
     → Passes (loops_in held name mesh) walks
 loops_pass held name mesh bytes walks p e f = inr (bytes, p, inr (walks, rw e refl, rw f refl))
+
+-- and one that was read
+pub loops_read : (held : Option Files) (name : List ℕ) (mesh : FaceList) (bytes : List ℕ) (text : WalkText)
+    → Passes (file held name inputs.Walks) bytes → Passes (meant (numbers_line inputs.Walks) (walk_text_of bytes)) text
+    → loops_fault mesh text.walks ≡ None → Passes (loops_in held name mesh) text.walks
+loops_read held name mesh bytes text p q f =
+    inr (bytes, p, inr (text.walks, walks_pass (numbers_line inputs.Walks) (walk_text_of bytes) text q, rw f refl))
 
 counted : (mesh : FaceList) (xs : List (List ℕ)) → loops_fault mesh xs ≡ None → length xs ≡ 2
 counted mesh [] e = cc

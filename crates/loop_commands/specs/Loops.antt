@@ -4,7 +4,7 @@ use Rattle.surf_io.specs.Files.{Files}
 use Rattle.surf_model.specs.FaceLists.{FaceList}
 use Rattle.closed_walks.specs.FreeHomotopy.{IsClosedWalk, FreelyHomotopic}
 use Rattle.walk_files.specs.Closed_pairs.{loops_fault}
-use Rattle.walk_files.specs.NumberTexts.{walks_of}
+use Rattle.walk_files.specs.WalkTexts.{walks_of}
 use Rattle.walk_files.specs.declared.loops.LoopFault.{LoopFault}
 use Rattle.walk_files.specs.declared.loops.LoopFault.TheVariants.{NotTwo, NoVertex, NoEdge, NotClosed}
 use Rattle.free_loops.specs.declared.deciding.FreeAnswer.{FreeAnswer}

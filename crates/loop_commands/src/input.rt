@@ -1,9 +1,10 @@
 //! Reading the closed walks that a command is about.
-ghost use Rattle.std.specs.Prelude.{◌≡◌, IfOk};
+ghost use Rattle.std.specs.Prelude.{◌≡◌, MatchResult, IfOk};
 ghost use Rattle.surf_model.specs.FaceLists.{FaceList};
 ghost use Rattle.surf_model.specs.Edges.{IsTableOf};
 ghost use Rattle.walk_files.specs.Closed_pairs.{IsClosedPair};
-ghost use Rattle.commands.specs.Stops.{Ends, Reads, Tells};
+ghost use Rattle.commands.specs.Checks.{Passes};
+ghost use Rattle.commands.specs.Stops.{Reads, Stops, Tells};
 ghost use Rattle.loop_commands.specs.Loops.{loops_in, loops_line};
 
 use commands::{Input, Phrase, Stop, read_file, refused, refused_at_place, walks_of_bytes};
@@ -20,8 +21,9 @@ pub fn read_loops<S: Shelf>(
     sides: &Sides,
 ) -> Result<WalkList, Stop>
     ensures reads { Reads S.held S.faults shelf.old shelf.new
-        (λ files. (mesh : FaceList) → IsTableOf mesh sides.now → Ends (loops_in files name.now mesh) result) result }
-    ensures loops { IfOk result (λ walks. (mesh : FaceList) → IsTableOf mesh sides.now → IsClosedPair mesh walks) }
+        (λ files. (mesh : FaceList) → IsTableOf mesh sides.now
+        → MatchResult result (λ list. Passes (loops_in files name.now mesh) list.walks) (Stops (loops_in files name.now mesh))) result }
+    ensures loops { IfOk result (λ list. (mesh : FaceList) → IsTableOf mesh sides.now → IsClosedPair mesh list.walks) }
 {
     let bytes = read_file(alloc, shelf, name, Input::Walks)?;
     let walks = walks_of_bytes(alloc, &bytes)?;

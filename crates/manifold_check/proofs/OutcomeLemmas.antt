@@ -1,16 +1,13 @@
--- No face list is without the one or the other: it is closed, or it has a first fault. Nothing is decided for this.
+-- No face list is without the one or the other: it is a closed manifold, or it has a first fault. Nothing is decided for this.
 use Rattle.std.proofs.Common.{◌≡◌, ◌⊎◌, inl, inr, ℕ, zero, suc, ◌<◌, true, length, refl, sym, ◌∙◌, subst, arith}
 use Rattle.std.proofs.lemmas.Bool.{cases_Bool, cases_lt, cases_eq, both_ways}
 use Rattle.surf_model.specs.FaceLists.{FaceList, IsFaceList, is_edge, is_used}
-use Rattle.surf_model.specs.Surfaces.{IsClosed, EachEdgeHasTwoSides, HasOneRing, AreJoinedByWalk, sides_between}
-use Rattle.surf_model.specs.Components.{EachTwoAreJoined}
+use Rattle.surf_model.specs.Surfaces.{IsClosedManifold, EachEdgeHasTwoSides, HasOneRing, sides_between}
 use Rattle.manifold_check.specs.Faults.{IsFirstFault}
-use Rattle.connectivity.specs.Joined.{IsLeastUsed, EachVertexHasOneRing}
 use Rattle.manifold_check.specs.declared.fault.SurfaceFault.{SurfaceFault}
-use Rattle.manifold_check.specs.declared.fault.SurfaceFault.TheVariants.{NoFace, EdgeSides, Pinched, Apart}
+use Rattle.manifold_check.specs.declared.fault.SurfaceFault.TheVariants.{NoFace, EdgeSides, Pinched}
 use Rattle.surf_model.proofs.TableEdgeLemmas.{sides_between_swap}
 use Rattle.connectivity.proofs.EdgeLemmas.{edge_swap, edge_differs, used_below}
-use Rattle.connectivity.proofs.WalkLemmas.{walk_between_ends}
 
 -- nothing is a first fault of the mesh
 abbrev HasNoFault : FaceList → Type 0
@@ -94,44 +91,9 @@ rings_below mesh some two none (suc n) k =
       | inr unused ↦ k (up_to (λ w. is_used mesh w ≡ true → HasOneRing mesh w) n below (λ u. absurd (both_ways (is_used mesh n) unused u)))
     ])
 
--- there is a least used vertex below n, or no used one
-least_below : (mesh : FaceList) (n : ℕ) → ((w : ℕ) → w < n → is_used mesh w ≡ true → ⊥) ⊎ ((u : ℕ) × IsLeastUsed mesh u)
-least_below mesh zero = inl (λ w l. absurd (omega arith))
-least_below mesh (suc n) =
-    elim (least_below mesh n) [
-      | inl unused ↦ elim (cases_Bool (is_used mesh n)) [
-        | inl used ↦ inr (n, record { used = used; least = unused })
-        | inr not ↦ inl (up_to (λ w. is_used mesh w ≡ true → ⊥) n unused (both_ways (is_used mesh n) not))
-      ]
-      | inr found ↦ inr found
-    ]
-
-walks_below : (mesh : FaceList) (u : ℕ) → 0 < length mesh.faces → EachEdgeHasTwoSides mesh → EachVertexHasOneRing mesh → HasNoFault mesh
-    → IsLeastUsed mesh u → (n : ℕ)
-    → (((w : ℕ) → w < n → is_used mesh w ≡ true → AreJoinedByWalk mesh u w) → ⊥) → ⊥
-walks_below mesh u some two ring none least zero k = k (λ w l. absurd (omega arith))
-walks_below mesh u some two ring none least (suc n) k =
-    walks_below mesh u some two ring none least n
-    (λ below.
-    elim (cases_Bool (is_used mesh n)) [
-      | inl used ↦
-          none (Apart (record { 0 = u }) (record { 0 = n })) (record {
-            some_face = some;
-            two_sides = two;
-            one_ring = ring;
-            vertices = record {
-              vertex = least;
-              used = used;
-              apart = λ walk. k (up_to (λ w. is_used mesh w ≡ true → AreJoinedByWalk mesh u w) n below (λ x. walk));
-              least = below;
-            };
-          })
-      | inr unused ↦ k (up_to (λ w. is_used mesh w ≡ true → AreJoinedByWalk mesh u w) n below
-          (λ x. absurd (both_ways (is_used mesh n) unused x)))
-    ])
-
--- no face list is neither closed nor at fault
-pub closed_or_fault : (mesh : FaceList) → IsFaceList mesh → (IsClosed mesh → ⊥) → ((fault : SurfaceFault) → IsFirstFault mesh fault → ⊥) → ⊥
+-- no face list is neither a closed manifold nor at fault
+pub closed_or_fault : (mesh : FaceList) → IsFaceList mesh → (IsClosedManifold mesh → ⊥)
+    → ((fault : SurfaceFault) → IsFirstFault mesh fault → ⊥) → ⊥
 closed_or_fault mesh valid open_one none =
     elim (cases_eq (length mesh.faces) 0) [
       | inl empty ↦ none NoFace empty
@@ -139,17 +101,9 @@ closed_or_fault mesh valid open_one none =
           (let some : 0 < length mesh.faces = omega arith in
           let two : EachEdgeHasTwoSides mesh = each_two_sides mesh valid some none in
           rings_below mesh some two none mesh.count
-          (λ rings.
-          let ring : EachVertexHasOneRing mesh = λ w used. rings w (used_below mesh w valid used) used in
-          let closed : EachTwoAreJoined mesh → ⊥ = λ joined. open_one
-          (record { some_face = some; two_sides = two; one_ring = ring; connected = joined }) in
-          elim (least_below mesh mesh.count) [
-            | inl unused ↦ closed (λ u v used_u used_v. absurd (unused u (used_below mesh u valid used_u) used_u))
-            | inr found ↦
-                walks_below mesh found.0 some two ring none found.1 mesh.count
-                (λ walks.
-                closed (λ v w used_v used_w.
-                walk_between_ends mesh found.0 v w used_v (walks v (used_below mesh v valid used_v) used_v)
-                (walks w (used_below mesh w valid used_w) used_w)))
-          ]))
+          (λ rings. open_one (record {
+            some_face = some;
+            two_sides = two;
+            one_ring = λ w used. rings w (used_below mesh w valid used) used;
+          })))
     ]

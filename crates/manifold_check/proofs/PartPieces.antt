@@ -1,14 +1,14 @@
 -- Each component of a mesh is a part that no edge joins to the rest.
-use Rattle.std.proofs.Common.{◌≡◌, ℕ, zero, suc, ◌+◌, ◌<◌, true, eqb, List, length, get_or, refl, ap, sym, ◌∙◌, subst, arith, add-one}
+use Rattle.std.proofs.Common.{◌≡◌, inl, inr, ℕ, zero, suc, ◌+◌, ◌<◌, ◌≤◌, true, eqb, List, [], length, get_or, refl, ap, sym, ◌∙◌, subst, arith, add-one}
 use Rattle.std.specs.Prelude.{All}
-use Rattle.std.proofs.lemmas.Bool.{eq-eqb, eqb-true}
+use Rattle.std.proofs.lemmas.Bool.{cases_lt, eq-eqb, eqb-true}
 use Rattle.std.proofs.lemmas.List.{get_or_default}
 use Rattle.std.proofs.lemmas.Bool.Decides.{nat_tests}
-use Rattle.surf_model.specs.FaceLists.{FaceList, face_at, next_corner, is_edge}
+use Rattle.surf_model.specs.FaceLists.{FaceList, IsFace, IsFaceList, face_at, next_corner, is_edge}
 use Rattle.surf_model.specs.Components.{ArePlacesOfComponents, HasLeastVertex, EachTwoAreJoined, place_of_face, faces_of_component}
 use Rattle.surf_model.specs.Surfaces.{AreJoinedByWalk, IsWalkBetween, IsClosedManifold, IsClosed}
 use Rattle.surf_model.specs.Walks.{IsWalk}
-use Rattle.surf_model.proofs.EdgeLemmas.{step_edge, tail_used, head_used}
+use Rattle.surf_model.proofs.EdgeLemmas.{step_edge, corner_used, tail_used, head_used}
 use Rattle.manifold_check.specs.ComponentParts.{PartsView, AreParts, component_at, component_mesh}
 use Rattle.connectivity.specs.Partitions.{IsEdgeStep}
 use Rattle.manifold_check.specs.Submeshes.{submesh}
@@ -103,11 +103,33 @@ closed_alone mesh parts k h l closed =
       connected = connected_alone mesh parts k h l;
     }
 
--- a mesh of one component is connected
-pub one_component : (mesh : FaceList) (parts : PartsView) → AreParts mesh parts → length parts.components ≡ 1 → EachTwoAreJoined mesh
-one_component mesh parts h one u v used_u used_v =
+-- a mesh of one component at most is connected, and a connected one has no more
+pub few_joined : (mesh : FaceList) (parts : PartsView) → AreParts mesh parts → length parts.components ≤ 1 → EachTwoAreJoined mesh
+few_joined mesh parts h few u v used_u used_v =
     (h.places.joined u v used_u used_v).0
-    (let at_u = h.places.below u used_u in let at_v = h.places.below v used_v in omega (arith, at_u, at_v, one))
+    (let at_u = h.places.below u used_u in let at_v = h.places.below v used_v in omega (arith, at_u, at_v, few))
+
+pub joined_few : (mesh : FaceList) (parts : PartsView) → AreParts mesh parts → EachTwoAreJoined mesh → length parts.components ≤ 1
+joined_few mesh parts h joined = elim (cases_lt 1 (length parts.components)) [
+  | inl many ↦
+      (let one : HasLeastVertex mesh parts.places 0 = h.places.each_place 0 (omega (arith, many)) in
+      let other : HasLeastVertex mesh parts.places 1 = h.places.each_place 1 many in
+      let same = (h.places.joined one.vertex other.vertex one.least.used other.least.used).1
+      (joined one.vertex other.vertex one.least.used other.least.used) in
+      absurd (omega (arith, same, one.place, other.place)))
+  | inr few ↦ few
+]
+
+pub one_component : (mesh : FaceList) (parts : PartsView) → AreParts mesh parts → length parts.components ≡ 1 → EachTwoAreJoined mesh
+one_component mesh parts h one = few_joined mesh parts h (omega (arith, one))
+
+-- a mesh with a face has a component, so a connected one has just one
+pub joined_one : (mesh : FaceList) (parts : PartsView) → IsFaceList mesh → AreParts mesh parts → 0 < length mesh.faces
+    → EachTwoAreJoined mesh → length parts.components ≡ 1
+joined_one mesh parts valid h some joined =
+    let face : IsFace mesh.count (face_at mesh 0) = valid.faces 0 [] some in
+    let below = h.places.below (get_or (face_at mesh 0) 0 0) (corner_used mesh 0 0 some (omega (arith, face.polygon))) in
+    omega (arith, below, joined_few mesh parts h joined)
 
 -- a walk stays in the component of its first vertex
 pub walk_same_place : (mesh : FaceList) (parts : PartsView) (walk : List ℕ) (k : ℕ) → AreParts mesh parts → IsWalk mesh walk

@@ -1,11 +1,11 @@
--- The first condition of a closed surface that fails, with its least element.
+-- The first condition of a closed manifold that fails, with its least element.
 use Rattle.std.specs.Prelude.{◌≡◌, ◌≢◌, ℕ, ◌<◌, length, IsTrue}
 use Rattle.surf_model.specs.FaceLists.{FaceList, is_edge}
 use Rattle.surf_model.specs.Edges.{IsPairBefore}
 use Rattle.surf_model.specs.Surfaces.{sides_between, EachEdgeHasTwoSides}
-use Rattle.connectivity.specs.Joined.{EachVertexHasOneRing, IsLeastPinch, AreLeastApart}
+use Rattle.connectivity.specs.Joined.{IsLeastPinch}
 use Rattle.manifold_check.specs.declared.fault.SurfaceFault.{SurfaceFault}
-use Rattle.manifold_check.specs.declared.fault.SurfaceFault.TheVariants.{NoFace, EdgeSides, Pinched, Apart, OutOfMemory}
+use Rattle.manifold_check.specs.declared.fault.SurfaceFault.TheVariants.{NoFace, EdgeSides, Pinched, OutOfMemory}
 
 -- the least edge, by its lower and then by its higher vertex, that is not the edge of exactly two sides, with their number
 pub record IsLeastUnevenEdge (mesh : FaceList) (low high sides : ℕ) : Type 0 where
@@ -26,25 +26,9 @@ pub record IsPinchFault (mesh : FaceList) (v : ℕ) : Type 0 where
   pub two_sides : EachEdgeHasTwoSides mesh
   pub vertex : IsLeastPinch mesh v
 
--- the condition of the fault is the first of a closed manifold that fails, and its element is the least
-abbrev pub IsManifoldFault : FaceList → SurfaceFault → Type 0
-IsManifoldFault mesh NoFace = length mesh.faces ≡ 0
-IsManifoldFault mesh (EdgeSides low high sides) = IsEdgeFault mesh low.0 high.0 sides
-IsManifoldFault mesh (Pinched vertex) = IsPinchFault mesh vertex.0
-IsManifoldFault mesh (Apart vertex other) = ⊥
-IsManifoldFault mesh OutOfMemory = ⊥
-
--- two vertices are apart, where each vertex has one ring too
-pub record IsApartFault (mesh : FaceList) (u v : ℕ) : Type 0 where
-  pub some_face : 0 < length mesh.faces
-  pub two_sides : EachEdgeHasTwoSides mesh
-  pub one_ring : EachVertexHasOneRing mesh
-  pub vertices : AreLeastApart mesh u v
-
 -- the condition of the fault is the first that fails, and its element is the least; want of memory is no fault of the mesh
 abbrev pub IsFirstFault : FaceList → SurfaceFault → Type 0
 IsFirstFault mesh NoFace = length mesh.faces ≡ 0
 IsFirstFault mesh (EdgeSides low high sides) = IsEdgeFault mesh low.0 high.0 sides
 IsFirstFault mesh (Pinched vertex) = IsPinchFault mesh vertex.0
-IsFirstFault mesh (Apart vertex other) = IsApartFault mesh vertex.0 other.0
 IsFirstFault mesh OutOfMemory = ⊥

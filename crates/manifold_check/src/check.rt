@@ -1,45 +1,25 @@
-//! The conditions of a closed surface, in their order.
+//! The conditions of a closed manifold, in their order.
 ghost use Rattle.std.specs.Prelude.{◌≡◌, ◌⊎◌, ℕ, ◌<◌, length, Err, OnOk, IfErr, IfSome, IfNone};
 ghost use Rattle.surf_model.specs.Edges.{IsTableOf, edge_in};
-ghost use Rattle.surf_model.specs.Surfaces.{IsClosed, IsClosedManifold};
-ghost use Rattle.manifold_check.specs.Faults.{IsFirstFault, IsManifoldFault};
+ghost use Rattle.surf_model.specs.Surfaces.{IsClosedManifold};
+ghost use Rattle.manifold_check.specs.Faults.{IsFirstFault};
 ghost use Rattle.manifold_check.specs.UnevenEdges.{IsFirstUneven};
 
 use crate::fault::SurfaceFault;
-use connectivity::{pinched_vertex, vertices_apart};
+use connectivity::pinched_vertex;
 use std::alloc::Global;
 use surf_model::{EdgeName, Faces, Sides};
 
-/// Checks that a face list is a connected closed surface: a closed manifold, as `check_manifold` finds it, of which any two
-/// used vertices are joined by a walk. The error names the first of these conditions that fails, with its least element.
+/// Checks that a face list is a closed manifold, in one piece or in several: there is a face, each edge has exactly two sides,
+/// and the corners at each used vertex make one ring. The error names the first of these that fails, with its least element.
 /// The time is that of going over the sides a few times.
 pub fn check_closed(alloc: Global, faces: &Faces, sides: &Sides) -> Result<(), SurfaceFault>
     requires { IsTableOf faces.now sides.now }
-    ensures closed { OnOk result (IsClosed faces.now) }
-    ensures fault { IfErr result (λ fault. (fault ≡ SurfaceFault.OutOfMemory) ⊎ IsFirstFault faces.now fault) }
-    // A closed surface is refused, and another fault than the first is named, for want of memory alone.
-    ensures accepted { IsClosed faces.now → IfErr result (λ fault. fault ≡ SurfaceFault.OutOfMemory) }
-    ensures refused { (fault : SurfaceFault) → IsFirstFault faces.now fault
-        → (result ≡ Err fault) ⊎ (result ≡ Err SurfaceFault.OutOfMemory) }
-{
-    // The proof reads what holds of every face list.
-    let _ = faces.len();
-    check_manifold(alloc, faces, sides)?;
-    if let Some((vertex, other)) = vertices_apart(alloc, faces, sides)? {
-        return Err(SurfaceFault::Apart { vertex, other });
-    }
-    Ok(())
-}
-
-/// Checks that a face list is a closed manifold, in one piece or in several: there is a face, each edge has exactly two sides,
-/// and the corners at each used vertex make one ring. The error names the first of these that fails, with its least element.
-pub fn check_manifold(alloc: Global, faces: &Faces, sides: &Sides) -> Result<(), SurfaceFault>
-    requires { IsTableOf faces.now sides.now }
     ensures closed { OnOk result (IsClosedManifold faces.now) }
-    ensures fault { IfErr result (λ fault. (fault ≡ SurfaceFault.OutOfMemory) ⊎ IsManifoldFault faces.now fault) }
+    ensures fault { IfErr result (λ fault. (fault ≡ SurfaceFault.OutOfMemory) ⊎ IsFirstFault faces.now fault) }
     // A closed manifold is refused, and another fault than the first is named, for want of memory alone.
     ensures accepted { IsClosedManifold faces.now → IfErr result (λ fault. fault ≡ SurfaceFault.OutOfMemory) }
-    ensures refused { (fault : SurfaceFault) → IsManifoldFault faces.now fault
+    ensures refused { (fault : SurfaceFault) → IsFirstFault faces.now fault
         → (result ≡ Err fault) ⊎ (result ≡ Err SurfaceFault.OutOfMemory) }
 {
     if faces.len() == 0 {

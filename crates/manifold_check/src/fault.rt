@@ -1,10 +1,10 @@
-//! Why a face list is no closed surface.
+//! Why a face list is no closed manifold.
 ghost use Rattle.std.specs.Prelude.{◌≡◌};
 
 use std::alloc::AllocError;
 use surf_model::VertexName;
 
-/// The first condition of a closed surface that fails, with the least element at which it does.
+/// The first condition of a closed manifold that fails, with the least element at which it does.
 #[derive(Clone, Copy, Debug, PartialEq, Eq)]
 pub enum SurfaceFault {
     /// The list has no face.
@@ -18,11 +18,6 @@ pub enum SurfaceFault {
     /// The least used vertex whose corners do not make one ring.
     Pinched {
         vertex: VertexName,
-    },
-    /// The least used vertex, and the least used vertex that no walk joins to it.
-    Apart {
-        vertex: VertexName,
-        other: VertexName,
     },
     /// There is no memory for the check.
     OutOfMemory,

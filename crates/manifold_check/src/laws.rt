@@ -1,8 +1,8 @@
 //! What the definitions of this crate say together. The functions do nothing.
 ghost use Rattle.std.specs.Prelude.{◌≡◌};
 ghost use Rattle.surf_model.specs.FaceLists.{FaceList, IsFaceList};
-ghost use Rattle.surf_model.specs.Surfaces.{IsClosed, IsClosedManifold};
-ghost use Rattle.manifold_check.specs.Faults.{IsFirstFault, IsManifoldFault};
+ghost use Rattle.surf_model.specs.Surfaces.{IsClosedManifold};
+ghost use Rattle.manifold_check.specs.Faults.{IsFirstFault};
 ghost use Rattle.manifold_check.specs.declared.fault.SurfaceFault.{SurfaceFault};
 
 /// A face list has at most one first fault.
@@ -10,20 +10,13 @@ pub fn one_first_fault()
     ensures { (mesh : FaceList) (fault other : SurfaceFault) → IsFirstFault mesh fault → IsFirstFault mesh other → fault ≡ other }
 {}
 
-/// A closed surface has none.
+/// A closed manifold has none.
 pub fn closed_without_fault()
-    ensures { (mesh : FaceList) (fault : SurfaceFault) → IsClosed mesh → IsFirstFault mesh fault → ⊥ }
+    ensures { (mesh : FaceList) (fault : SurfaceFault) → IsClosedManifold mesh → IsFirstFault mesh fault → ⊥ }
 {}
 
-/// No face list is neither closed nor at fault.
+/// No face list is neither a closed manifold nor at fault.
 pub fn closed_or_fault()
-    ensures { (mesh : FaceList) → IsFaceList mesh → (IsClosed mesh → ⊥)
+    ensures { (mesh : FaceList) → IsFaceList mesh → (IsClosedManifold mesh → ⊥)
         → ((fault : SurfaceFault) → IsFirstFault mesh fault → ⊥) → ⊥ }
-{}
-
-/// A face list has at most one first fault of a closed manifold, and a closed manifold has none.
-pub fn manifold_or_fault()
-    ensures one { (mesh : FaceList) (fault other : SurfaceFault) → IsManifoldFault mesh fault → IsManifoldFault mesh other
-        → fault ≡ other }
-    ensures none { (mesh : FaceList) (fault : SurfaceFault) → IsClosedManifold mesh → IsManifoldFault mesh fault → ⊥ }
 {}

@@ -63,7 +63,10 @@ pub fn components_are_surfaces()
         → All (λ f. f < length mesh.faces) (component_at parts part) }
 {}
 
-/// A mesh of one component is connected.
+/// A mesh of one component is connected, and a connected mesh with a face has one component.
 pub fn one_component_is_connected()
-    ensures { (mesh : FaceList) (parts : PartsView) → AreParts mesh parts → length parts.components ≡ 1 → EachTwoAreJoined mesh }
+    ensures connected { (mesh : FaceList) (parts : PartsView) → AreParts mesh parts → length parts.components ≡ 1
+        → EachTwoAreJoined mesh }
+    ensures one { (mesh : FaceList) (parts : PartsView) → IsFaceList mesh → AreParts mesh parts → 0 < length mesh.faces
+        → EachTwoAreJoined mesh → length parts.components ≡ 1 }
 {}

@@ -5,7 +5,8 @@ use Rattle.std.proofs.lemmas.Bool.{both_ways}
 use Rattle.surf_io.specs.Files.{Files}
 use Rattle.surf_model.specs.FaceLists.{FaceList}
 use Rattle.surf_model.specs.Moves.{PeakedMoves, Homotopic}
-use Rattle.free_forms.specs.PeakedLists.{LeadsAtPeak}
+use Rattle.free_forms.specs.PeakedLists.{IsWithin, LeadsAtPeak}
+use Rattle.free_forms.specs.declared.limits.TheConstants.{MOST_OPEN_STEPS}
 use Rattle.walk_translate.specs.declared.deciding.Answer as deciding
 use Rattle.walk_translate.specs.declared.deciding.Answer.TheVariants as answers
 use Rattle.commands.proofs.Deciding.{one_decision, differs}
@@ -61,20 +62,20 @@ pub record IsRightList (mesh : FaceList) (first second : List ℕ) (status : Sta
   pub answered : IsListPrinted mesh first second status text ⊎ ((status ≡ No) × (text ≡ decision_line answers.Different))
   pub exactly : (status ≡ Yes) ↔ Homotopic mesh first second
 
--- a certificate for homotopic walks is a list
-is_list : (mesh : FaceList) (first second : List ℕ) (shown : Certificate) (status : Status) (text : List ℕ)
-    → Convinces mesh first second shown
-    → decision_of shown ≡ answers.Homotopic → status ≡ Yes → text ≡ certificate_text shown → IsListPrinted mesh first second status text
-is_list mesh first second (Moves list) status text h e sure is = record { list = list; convinces = h; status_is = sure; text_is = is }
-is_list mesh first second (Denial denial) status text h e sure is = absurd (differs e)
-
 right_by : (mesh : FaceList) (first second : List ℕ) (decision : deciding.Answer) (status : Status) (text : List ℕ)
     → (decision ≡ answers.Homotopic) ↔ Homotopic mesh first second
     → IsAnswerOf (Pass (list_answer mesh first second decision)) status text → IsRightList mesh first second status text
 right_by mesh first second answers.Homotopic status text right told =
     let shown = told.text_is in
     record {
-      answered = inl (is_list mesh first second shown.0 status text shown.1 shown.2 told.status_is shown.3);
+      answered =
+          inl (record {
+            list = shown.0;
+            convinces = shown.1;
+            within = record { moves = shown.2; peak = shown.3 };
+            status_is = told.status_is;
+            text_is = shown.4;
+          });
       exactly = ((λ _. right.0 refl), (λ _. told.status_is));
     }
 right_by mesh first second answers.Different status text right told =
@@ -105,26 +106,27 @@ test_decides true h = ((λ _. h.0 refl), (λ _. refl))
 test_decides false h = ((λ e. absurd (differs e)), (λ p. absurd (both_ways false refl (h.1 p))))
 
 pub decision_passes : (held : Option Files) (mesh walks : List ℕ) (pair : OpenPair) (same : Bool) (first second : List ℕ)
-    → walk_at pair.walks 0 ≡ first → walk_at pair.walks 1 ≡ second → Passes (open_pair_in held mesh walks) (asked pair)
+    → walk_at pair.walks.walks 0 ≡ first → walk_at pair.walks.walks 1 ≡ second → Passes (open_pair_in held mesh walks) (asked pair)
     → IsTrue same ↔ Homotopic pair.surface.mesh first second
     → Passes (decide_open held mesh walks) (decision_answer (decision_of_test same))
 decision_passes held mesh walks pair same first second f g p right =
-    let there : IsTrue same ↔ Homotopic pair.surface.mesh (walk_at pair.walks 0) (walk_at pair.walks 1) =
-    subst (λ (w : List ℕ). IsTrue same ↔ Homotopic pair.surface.mesh (walk_at pair.walks 0) w) (sym g)
+    let there : IsTrue same ↔ Homotopic pair.surface.mesh (walk_at pair.walks.walks 0) (walk_at pair.walks.walks 1) =
+    subst (λ (w : List ℕ). IsTrue same ↔ Homotopic pair.surface.mesh (walk_at pair.walks.walks 0) w) (sym g)
     (subst (λ (w : List ℕ). IsTrue same ↔ Homotopic pair.surface.mesh w second) (sym f) right) in
     inr (asked pair, p, (decision_of_test same, refl, test_decides same there))
 
 pub list_passes : (held : Option Files) (mesh walks : List ℕ) (pair : OpenPair) (decision : deciding.Answer) (first second : List ℕ)
-    → walk_at pair.walks 0 ≡ first → walk_at pair.walks 1 ≡ second → Passes (open_pair_in held mesh walks) (asked pair)
+    → walk_at pair.walks.walks 0 ≡ first → walk_at pair.walks.walks 1 ≡ second → Passes (open_pair_in held mesh walks) (asked pair)
     → (decision ≡ answers.Homotopic) ↔ Homotopic pair.surface.mesh first second
     → Passes (certify_open held mesh walks) (list_answer pair.surface.mesh first second decision)
 list_passes held mesh walks pair decision first second f g p right =
     let here : (listed pair.surface.mesh first second).Ends (Pass (list_answer pair.surface.mesh first second decision)) =
     (decision, refl, right) in
-    let there : (listed pair.surface.mesh (walk_at pair.walks 0) (walk_at pair.walks 1)).Ends
+    let there : (listed pair.surface.mesh (walk_at pair.walks.walks 0) (walk_at pair.walks.walks 1)).Ends
     (Pass (list_answer pair.surface.mesh first second decision)) =
     subst
-    (λ (w : List ℕ). (listed pair.surface.mesh (walk_at pair.walks 0) w).Ends (Pass (list_answer pair.surface.mesh first second decision)))
+    (λ (w : List ℕ). (listed pair.surface.mesh (walk_at pair.walks.walks 0) w).Ends
+    (Pass (list_answer pair.surface.mesh first second decision)))
     (sym g)
     (subst
     (λ (w : List ℕ). (listed pair.surface.mesh w second).Ends (Pass (list_answer pair.surface.mesh first second decision))) (sym f) here) in
@@ -138,20 +140,22 @@ pub record IsFoundReply (mesh : FaceList) (first second : List ℕ) (reply : Rep
 
 pub found_reply : (mesh : FaceList) (first second : List ℕ) (found : Option PeakedMoves) (reply : Reply)
     → MatchOption found (Homotopic mesh first second → ⊥) (λ list. LeadsAtPeak mesh first list second)
-    → IfSome found (λ list. (m : FaceList) (a b : List ℕ) → LeadsAtPeak m a list b → IsReplyTo (list_answer m a b answers.Homotopic) reply)
+    → IfSome found (IsWithin MOST_OPEN_STEPS)
+    → IfSome found (λ list. (m : FaceList) (a b : List ℕ) → LeadsAtPeak m a list b → IsWithin MOST_OPEN_STEPS list
+    → IsReplyTo (list_answer m a b answers.Homotopic) reply)
     → ((m : FaceList) (a b : List ℕ) → IfNone found (IsReplyTo (list_answer m a b answers.Different) reply))
     → IsFoundReply mesh first second reply
-found_reply mesh first second None reply none some other =
+found_reply mesh first second None reply none short some other =
     record {
       decision = answers.Different;
       right = ((λ e. absurd (differs e)), (λ h. absurd (none h)));
       is_reply = other mesh first second;
     }
-found_reply mesh first second (Some list) reply leads some other =
+found_reply mesh first second (Some list) reply leads short some other =
     record {
       decision = answers.Homotopic;
       right = ((λ _. (list.moves, leads.leads)), (λ _. refl));
-      is_reply = some mesh first second leads;
+      is_reply = some mesh first second leads short;
     }
 
 pub found_short : (found : Option PeakedMoves) (P Q : PeakedMoves → Type 0) (R : Type 0) → MatchOption found R P → IfSome found Q

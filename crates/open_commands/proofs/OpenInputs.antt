@@ -219,20 +219,20 @@ pub record AreOpenWalks (mesh : FaceList) (walks : List (List ℕ)) (first secon
   pub sides : total_sides mesh ≤ MOST_OPEN_SIDES
   pub few : darts first + darts second ≤ MOST_OPEN_DARTS
 
-pub open_walks : (pair : OpenPair) (first second : List ℕ) → IsOpenPair pair → slice_get pair.walks 0 ≡ Some first
-    → slice_get pair.walks 1 ≡ Some second → AreOpenWalks pair.surface.mesh pair.walks first second
+pub open_walks : (pair : OpenPair) (first second : List ℕ) → IsOpenPair pair → slice_get pair.walks.walks 0 ≡ Some first
+    → slice_get pair.walks.walks 1 ≡ Some second → AreOpenWalks pair.surface.mesh pair.walks.walks first second
 open_walks pair first second h f g =
-    let one : walk_at pair.walks 0 ≡ first = get_or_from_slice_get pair.walks 0 first _ f in
-    let two : walk_at pair.walks 1 ≡ second = get_or_from_slice_get pair.walks 1 second _ g in
+    let one : walk_at pair.walks.walks 0 ≡ first = get_or_from_slice_get pair.walks.walks 0 first _ f in
+    let two : walk_at pair.walks.walks 1 ≡ second = get_or_from_slice_get pair.walks.walks 1 second _ g in
     record {
       first_is = one;
       second_is = two;
-      are = walks_of_pair pair.surface.mesh pair.walks first second h.walks f g;
+      are = walks_of_pair pair.surface.mesh pair.walks.walks first second h.walks f g;
       sides = h.within.sides;
       few = omega (arith, h.within.few, ap darts one, ap darts two);
     }
 
-pub two_long : (pair : OpenPair) → IsOpenPair pair → length pair.walks ≡ 2
+pub two_long : (pair : OpenPair) → IsOpenPair pair → length pair.walks.walks ≡ 2
 two_long pair h = ap (λ (w : List (List ℕ)). length w) h.walks.two
 
 -- ---- a command whose files were read by one call

@@ -8,9 +8,8 @@ use Rattle.walk_translate.specs.declared.deciding.Answer as deciding
 use Rattle.walk_translate.specs.declared.deciding.Answer.TheVariants.{Homotopic, Different}
 use Rattle.free_forms.specs.PeakedLists.{IsWithin}
 use Rattle.free_forms.specs.declared.limits.TheConstants.{MOST_OPEN_STEPS}
-use Rattle.commands.specs.Answers.{Answer}
+use Rattle.commands.specs.Answers.{Answer, OfShortList}
 use Rattle.commands.specs.Certificates.{Convinces, decision_line, certificate_text}
-use Rattle.commands.specs.Certify.{certificate_answer}
 use Rattle.commands.specs.Checks.{Check, End, Refuse, Pass, without_files, ◌>>=◌}
 use Rattle.commands.specs.Decide.{decision_answer}
 use Rattle.commands.specs.Stops.{bytes_of}
@@ -22,11 +21,12 @@ use Rattle.commands.specs.declared.status.Status.TheVariants.{Yes, No}
 use Rattle.open_commands.specs.OpenPairs.{IsOpenInput, IsWithinLimits, IsRefusedBeyond, open_pair_in}
 use Rattle.open_commands.specs.declared.certify_open.TheConstants.{MOST_OPEN_BYTES}
 
--- Behind the line `homotopic` a list was written, with status 0. It leads from the first walk to the second, and its peak is the greatest
--- number of darts among the walks that it passes.
+-- Behind the line `homotopic` a list was written, with status 0. It leads from the first walk to the second, its peak is the greatest
+-- number of darts among the walks that it passes, and neither its moves nor its peak are more than `MOST_OPEN_STEPS`.
 pub record IsListPrinted (mesh : FaceList) (first second : List ℕ) (status : Status) (text : List ℕ) : Type 0 where
   pub list : PeakedMoves
   pub convinces : Convinces mesh first second (Moves list)
+  pub within : IsWithin MOST_OPEN_STEPS list
   pub status_is : status ≡ Yes
   pub text_is : text ≡ certificate_text (Moves list)
 
@@ -59,7 +59,7 @@ IsShortReply (replies.Refused text) = Unit {0}
 
 -- the answer that a list of moves is, or that there is none
 abbrev pub list_answer : FaceList → (first second : List ℕ) → deciding.Answer → Answer
-list_answer mesh first second Homotopic = certificate_answer mesh first second Homotopic
+list_answer mesh first second Homotopic = record { status = Yes; texts = OfShortList mesh first second MOST_OPEN_STEPS }
 list_answer mesh first second Different = decision_answer Different
 
 -- the decision on two walks of a mesh, with a list of moves where there is one

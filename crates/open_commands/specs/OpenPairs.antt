@@ -77,9 +77,9 @@ open_pair_in held mesh walks = do
 
 -- what a pair that was read asks
 abbrev pub asked : OpenPair → Question
-asked pair = question pair.surface.mesh pair.walks
+asked pair = question pair.surface.mesh pair.walks.walks
 
 -- the walks are two walks of the surface with common ends, and all is within the limits
 pub record IsOpenPair (pair : OpenPair) : Type 0 where
-  pub walks : IsPair pair.surface.mesh pair.walks
-  pub within : IsWithinLimits pair.surface.mesh (walk_at pair.walks 0) (walk_at pair.walks 1)
+  pub walks : IsPair pair.surface.mesh pair.walks.walks
+  pub within : IsWithinLimits pair.surface.mesh (walk_at pair.walks.walks 0) (walk_at pair.walks.walks 1)

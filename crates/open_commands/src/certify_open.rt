@@ -41,7 +41,7 @@ pub fn certify_open<S: Shelf>(
 /// The reply with a list of moves, or that there is none.
 fn reply_with(found: Option<MoveList>) -> Reply
     ensures some { IfSome found (λ list. (mesh : FaceList) (first second : List ℕ) → LeadsAtPeak mesh first list second
-        → IsReplyTo (list_answer mesh first second Homotopic) result) }
+        → IsWithin MOST_OPEN_STEPS list → IsReplyTo (list_answer mesh first second Homotopic) result) }
     ensures none { (mesh : FaceList) (first second : List ℕ) → IfNone found (IsReplyTo (list_answer mesh first second Different) result) }
     ensures short { (mesh : FaceList) (first second : List ℕ) → IsFaceList mesh → total_sides mesh ≤ MOST_OPEN_SIDES → IsWalk mesh first
         → IfSome found (λ list. LeadsAtPeak mesh first list second × IsWithin MOST_OPEN_STEPS list) → IsShortReply result }

@@ -13,6 +13,8 @@ use Rattle.commands.proofs.ReduceOutcomes.{reduced}
 use Rattle.commands.proofs.SurfaceOutcomes.{measured}
 use Rattle.commands.proofs.TrialOutcomes.{tried}
 use Rattle.verify_commands.proofs.VerifyOutcomes.{verified, denial_verified}
+use Rattle.homology_commands.proofs.VerifyHomologyOutcomes.{homology_verified}
+use Rattle.homology_commands.specs.VerifyHomology.{IsHomologyVerified}
 use Rattle.loop_commands.proofs.LoopOutcomes.{loops_so}
 use Rattle.loop_commands.specs.Loops.{IsLoopsAnswered}
 use Rattle.commands.specs.Certify.{IsCertified}
@@ -20,7 +22,7 @@ use Rattle.commands.specs.Checks.{Refuse, Pass, found_or}
 use Rattle.open_commands.proofs.OpenOutcomes.{decided_open_so, certified_open_so}
 use Rattle.open_commands.specs.CertifyOpen.{IsCertifiedOpen}
 use Rattle.open_commands.specs.DecideOpen.{IsDecidedOpen}
-use Rattle.program.specs.Commands.{Row, Surface, Decide, Certify, Loops, DecideOpen, CertifyOpen, Verify, Reduce, Trial, IsRow, answer_to}
+use Rattle.program.specs.Commands.{Row, Surface, Decide, Certify, Loops, DecideOpen, CertifyOpen, Verify, VerifyHomology, Reduce, Trial, IsRow, answer_to}
 use Rattle.commands.specs.Decide.{IsDecided}
 use Rattle.program.specs.Headline.{Headline}
 use Rattle.commands.specs.Outcomes.{Outcome, AnswersTo, IsAnswerOf}
@@ -97,6 +99,12 @@ verified_by files words status text a = verified files words status text (verify
 pub denial_verified_by : (files : Option Files) (words : List (List ℕ)) (status : Status) (text : List ℕ) → Answers files words status text
     → IsDenialVerified files words status text
 denial_verified_by files words status text a = denial_verified files words status text (verify_answered files words status text a)
+
+pub homology_verified_by : (files : Option Files) (words : List (List ℕ)) (status : Status) (text : List ℕ)
+    → Answers files words status text → IsHomologyVerified files words status text
+homology_verified_by files words status text a =
+    homology_verified files words status text
+    (λ mesh walks certificate is. row_answered files words (VerifyHomology mesh walks certificate) status text a is)
 
 pub reduced_by : (files : Option Files) (words : List (List ℕ)) (status : Status) (text : List ℕ) → Answers files words status text
     → IsReduced files words status text

@@ -14,8 +14,6 @@ use Rattle.commands.specs.declared.certificate.Certificate.{Certificate}
 use Rattle.commands.specs.declared.inputs.TheConstants.{MOST_BYTES}
 use Rattle.commands.specs.declared.status.Status.{Status}
 use Rattle.commands.specs.declared.certificate.Certificate.TheVariants.{Moves}
-use Rattle.free_forms.specs.PeakedLists.{IsWithin}
-use Rattle.free_forms.specs.declared.limits.TheConstants.{MOST_OPEN_STEPS}
 use Rattle.open_commands.proofs.ShortTexts.{text_short}
 use Rattle.open_commands.specs.CertifyOpen.{IsListPrinted}
 use Rattle.open_commands.specs.OpenPairs as open_limits
@@ -68,10 +66,10 @@ printed_accepted files words mesh first second status text input limits printed 
 -- a list of `certify-open`, which is short
 pub printed_list_accepted : (files : Option Files) (words : List (List ℕ)) (mesh : FaceList) (first second : List ℕ) (status : Status)
     (text : List ℕ) → IsOpenInput (codes "certify-open") files words mesh first second → open_limits.IsWithinLimits mesh first second
-    → (printed : IsListPrinted mesh first second status text) → IsWithin MOST_OPEN_STEPS printed.list
-    → IsAccepted mesh first second (Moves printed.list) text
+    → (printed : IsListPrinted mesh first second status text) → IsAccepted mesh first second (Moves printed.list) text
 unfolding verify_input
-printed_list_accepted files words mesh first second status text input limits printed within =
+printed_list_accepted files words mesh first second status text input limits printed =
+    let within = printed.within in
     let off = held files input.mesh_name (SpellsMesh mesh) input.mesh_file in
     let pair = (held files input.walks_name (SpellsPair mesh first second) input.walks_file).holds in
     let valid = is_face_list off.bytes mesh off.holds in

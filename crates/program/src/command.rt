@@ -10,6 +10,7 @@ use commands::reduce::reduce;
 use commands::surface::measure;
 use commands::trial::trial;
 use commands::{Reply, Stop};
+use homology_commands::verify_homology::verify_homology;
 use loop_commands::loops::loops;
 use open_commands::certify_open::certify_open;
 use open_commands::decide_open::decide_open;
@@ -55,6 +56,12 @@ pub enum Command<'a> {
         walks: &'a str,
         certificate: &'a str,
     },
+    /// `verify-homology FILE WALKS CERT`
+    VerifyHomology {
+        mesh: &'a str,
+        walks: &'a str,
+        certificate: &'a str,
+    },
     /// `reduce D FILE`
     Reduce {
         degree: u32,
@@ -67,6 +74,16 @@ pub enum Command<'a> {
     },
 }
 
+/// A command on a mesh and walks, with the names of their files.
+macro_rules! on_walks {
+    ($command:ident, $mesh:expr, $walks:expr) => {
+        Some(Command::$command {
+            mesh: $mesh.as_str(),
+            walks: $walks.as_str(),
+        })
+    };
+}
+
 /// The command whose row the words are; none where they are no row. It takes no memory.
 pub fn read_command(words: &Vec<String>) -> Option<Command<'_>>
     ensures row { IfSome result (λ command. IsRow (texts words.now.items) (row_of command)) }
@@ -77,27 +94,17 @@ pub fn read_command(words: &Vec<String>) -> Option<Command<'_>>
         ("surface", [mesh]) => Some(Command::Surface {
             mesh: mesh.as_str(),
         }),
-        ("decide", [mesh, walks]) => Some(Command::Decide {
-            mesh: mesh.as_str(),
-            walks: walks.as_str(),
-        }),
-        ("certify", [mesh, walks]) => Some(Command::Certify {
-            mesh: mesh.as_str(),
-            walks: walks.as_str(),
-        }),
-        ("loops", [mesh, walks]) => Some(Command::Loops {
-            mesh: mesh.as_str(),
-            walks: walks.as_str(),
-        }),
-        ("decide-open", [mesh, walks]) => Some(Command::DecideOpen {
-            mesh: mesh.as_str(),
-            walks: walks.as_str(),
-        }),
-        ("certify-open", [mesh, walks]) => Some(Command::CertifyOpen {
-            mesh: mesh.as_str(),
-            walks: walks.as_str(),
-        }),
+        ("decide", [mesh, walks]) => on_walks!(Decide, mesh, walks),
+        ("certify", [mesh, walks]) => on_walks!(Certify, mesh, walks),
+        ("loops", [mesh, walks]) => on_walks!(Loops, mesh, walks),
+        ("decide-open", [mesh, walks]) => on_walks!(DecideOpen, mesh, walks),
+        ("certify-open", [mesh, walks]) => on_walks!(CertifyOpen, mesh, walks),
         ("verify", [mesh, walks, certificate]) => Some(Command::Verify {
+            mesh: mesh.as_str(),
+            walks: walks.as_str(),
+            certificate: certificate.as_str(),
+        }),
+        ("verify-homology", [mesh, walks, certificate]) => Some(Command::VerifyHomology {
             mesh: mesh.as_str(),
             walks: walks.as_str(),
             certificate: certificate.as_str(),
@@ -130,6 +137,11 @@ pub fn answer<S: Shelf>(alloc: Global, shelf: &mut S, command: Command<'_>) -> R
             walks,
             certificate,
         } => verify(alloc, shelf, mesh, walks, certificate),
+        Command::VerifyHomology {
+            mesh,
+            walks,
+            certificate,
+        } => verify_homology(alloc, shelf, mesh, walks, certificate),
         Command::Reduce { degree, list } => reduce(alloc, shelf, degree, list),
         Command::Trial { genus, grid } => trial(alloc, genus, grid),
     }

@@ -10,6 +10,7 @@ ghost use Rattle.surf_gen.specs.Sizes.{IsChain};
 ghost use Rattle.commands.specs.Certify.{IsCertified, IsCertifyInput, IsWithinLimits, IsCertificatePrinted};
 ghost use Rattle.commands.specs.Decide.{IsDecided};
 ghost use Rattle.program.specs.Headline.{Headline};
+ghost use Rattle.commands.specs.Checks.{IsTold};
 ghost use Rattle.commands.specs.Inputs.{IsPeakRead};
 ghost use Rattle.commands.specs.Outcomes.{Outcome};
 ghost use Rattle.program.specs.Outcomes.{AllTold, Answers, IsOutcome};
@@ -21,9 +22,8 @@ ghost use Rattle.open_commands.specs.CertifyOpen.{IsCertifiedOpen, IsListPrinted
 ghost use Rattle.open_commands.specs.DecideOpen.{IsDecidedOpen};
 ghost use Rattle.open_commands.specs.OpenPairs.{IsOpenInput, IsWithinLimits as IsWithinOpenLimits};
 ghost use Rattle.verify_commands.specs.Verify.{IsVerified, IsDenialVerified};
+ghost use Rattle.homology_commands.specs.VerifyHomology.{IsHomologyVerified};
 ghost use Rattle.loop_commands.specs.Loops.{IsLoopsAnswered};
-ghost use Rattle.free_forms.specs.PeakedLists.{IsWithin};
-ghost use Rattle.free_forms.specs.declared.limits.TheConstants.{MOST_OPEN_STEPS};
 ghost use Rattle.commands.specs.declared.certificate.Certificate.{Certificate};
 ghost use Rattle.commands.specs.declared.inputs.TheConstants.{MOST_BYTES};
 ghost use Rattle.commands.specs.declared.status.Status.{Status};
@@ -78,6 +78,12 @@ pub fn verify_answers()
         → Answers held words status text → IsDenialVerified held words status text }
 {}
 
+/// What `verify-homology` answers of a chain, and of a cocycle.
+pub fn verify_homology_answers()
+    ensures { (held : Option Files) (words : List (List ℕ)) (status : Status) (text : List ℕ)
+        → Answers held words status text → IsHomologyVerified held words status text }
+{}
+
 /// What `reduce` answers of a list of turn words.
 pub fn reduce_answers()
     ensures { (held : Option Files) (words : List (List ℕ)) (status : Status) (text : List ℕ)
@@ -115,11 +121,9 @@ pub fn printed_certificates_are_accepted()
         → IsAccepted mesh first second printed.shown text }
 {}
 
-/// What `certify-open` prints of a list is, as it is, a certificate that `verify` accepts on the same mesh and walks, where its moves and
-/// its peak are within the clause `short` of `certify_open`, which each reply of it meets.
+/// Each list that `certify-open` prints is, as it is, a certificate that `verify` accepts on the same mesh and walks.
 pub fn printed_lists_are_accepted()
     ensures { (held : Option Files) (words : List (List ℕ)) (mesh : FaceList) (first second : List ℕ) (status : Status) (text : List ℕ)
         → IsOpenInput (codes "certify-open") held words mesh first second → IsWithinOpenLimits mesh first second
-        → (printed : IsListPrinted mesh first second status text) → IsWithin MOST_OPEN_STEPS printed.list
-        → IsAccepted mesh first second (Certificate.Moves printed.list) text }
+        → (printed : IsListPrinted mesh first second status text) → IsAccepted mesh first second (Certificate.Moves printed.list) text }
 {}

@@ -15,7 +15,7 @@ ghost use Rattle.surf_model.specs.declared.limits.TheConstants.{MOST_SIDES, MOST
 ghost use Rattle.small_surfaces.specs.Triangles.{IsSurfaceOf};
 
 use halfedge_map::Surface;
-use manifold_check::{SurfaceFault, check_closed};
+use manifold_check::{Parts, SurfaceFault, check_closed};
 use orientation::{OrientFault, orient};
 use small_meshes::{Triangle, TriangleFault, mesh_of};
 use std::alloc::{AllocError, Global};
@@ -59,6 +59,9 @@ pub fn surface_of(alloc: Global, count: u32, triangles: &[Triangle]) -> Result<S
         Ok(()) => {}
         Err(SurfaceFault::OutOfMemory) => return Err(NoSurface::OutOfMemory),
         Err(_) => return Err(NoSurface::Faulty),
+    }
+    if Parts::build(alloc, &faces, &sides)?.len() != 1 {
+        return Err(NoSurface::Faulty);
     }
     let signs = match orient(alloc, &faces, &sides) {
         Ok(signs) => signs,

@@ -1,5 +1,6 @@
 pub mod EntryLemmas
 pub mod PairLemmas
+pub mod PairListLemmas
 pub mod ClosedPairLemmas
 pub mod MoveLines
 pub mod EachLemmas
@@ -12,6 +13,8 @@ pub mod DenialLines
 pub mod DenialParts
 pub mod DenialRoundTrip
 pub mod AnswerLines
+pub mod TokenLemmas
+pub mod HeaderLemmas
 mod SameGrammar
 mod StreamLemmas
 mod StreamDenials

@@ -8,7 +8,8 @@ use Rattle.surf_model.specs.FaceLists.{FaceList, all_sides, is_edge, is_used}
 use Rattle.walk_files.specs.Pairs.{pair_fault}
 use Rattle.walk_files.specs.declared.pair.PairFault.{PairFault}
 use Rattle.walk_files.specs.declared.pair.PairFault.TheVariants.{NotTwo, NoVertex, NoEdge, EndsDiffer}
-use Rattle.walk_files.specs.NumberTexts.{walks_of, words_of}
+use Rattle.walk_files.specs.NumberTexts.{words_of}
+use Rattle.walk_files.specs.WalkTexts.{walks_of}
 use Rattle.walk_files.specs.Certificates.{list_of_text}
 use Rattle.walk_files.specs.MoveTexts.{list_text}
 use Rattle.walk_files.specs.declared.fault.WalkFault.{WalkFault}

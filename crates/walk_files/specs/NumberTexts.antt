@@ -34,10 +34,21 @@ abbrev pub on_line : ℕ → Result (List ℕ) WalkFault → Result NumberLine W
 on_line line (Err fault) = Err fault
 on_line line (Ok numbers) = Ok (record { line = line; numbers = numbers })
 
--- the walks of a text, one on each line, or its first fault
-abbrev pub walks_of : List ℕ → Result (List (List ℕ)) WalkFault
-walks_of text = each_ok (λ p. line_of_numbers walk_of MOST_WALK_VERTICES p.0 p.1) (enumerate_from 0 (full_lines text))
+-- the walks of lines, one on each, or their first fault
+abbrev pub plain_walks_of : List Line → Result (List (List ℕ)) WalkFault
+plain_walks_of lines = each_ok (λ p. line_of_numbers walk_of MOST_WALK_VERTICES p.0 p.1) (enumerate_from 0 lines)
+
+-- the turn words on lines before which `before` lines came, each with the number of its line, or the first fault of them
+abbrev pub words_on : ℕ → List Line → Result (List NumberLine) WalkFault
+words_on before lines =
+    each_ok (λ p. on_line p.1.number (line_of_numbers entries_of MOST_ENTRIES p.0 p.1)) (enumerate_from before lines)
 
 -- the turn words of a text, each with the number of its line, or its first fault
 abbrev pub words_of : List ℕ → Result (List NumberLine) WalkFault
-words_of text = each_ok (λ p. on_line p.1.number (line_of_numbers entries_of MOST_ENTRIES p.0 p.1)) (enumerate_from 0 (full_lines text))
+words_of text = words_on 0 (full_lines text)
+
+-- a text of turn words of which some were read: the one that was read last, what is left, and on how many lines
+pub record WordsLeft : Type 0 where
+  pub present : NumberLine
+  pub left : Result (List NumberLine) WalkFault
+  pub lines : ℕ

@@ -20,8 +20,8 @@ pub(crate) enum EntryFault {
 /// Whether these are walks of the mesh with this table, or the first thing that is wrong: the entries of all walks are
 /// looked at, and then the darts of all.
 pub(crate) fn check_walks(sides: &Sides, walks: &WalkList) -> Result<(), EntryFault>
-    requires { length walks.now < 2 ^ 32 }
-    ensures { (mesh : FaceList) → IsTableOf mesh sides.now → result_err result ≡ walks_fault mesh walks.now }
+    requires { length walks.now.walks < 2 ^ 32 }
+    ensures { (mesh : FaceList) → IsTableOf mesh sides.now → result_err result ≡ walks_fault mesh walks.now.walks }
 {
     for k in 0..walks.len() {
         check_vertices(sides, k as u32 + 1, walks.at(k))?;

@@ -7,15 +7,18 @@ use thiserror::Error;
 /// Why walks or turn words were not read. Lines are counted from 1, blank ones too.
 #[derive(Clone, Copy, Debug, PartialEq, Eq, Error)]
 pub enum WalkFault {
-    /// A word of the line is no natural of at most 4,294,967,295.
+    /// A word of the line is no natural of at most 4,294,967,295, nor a parenthesis where groups may stand.
     #[error("line {line}: a word is no natural of at most 4294967295")]
     BadNumber { line: u64 },
-    /// The line has too many words.
-    #[error("line {line}: too many words")]
+    /// The line has too many words, or stands for too many darts, with those of the lines before or without them.
+    #[error("line {line}: too long")]
     TooLong { line: u64 },
     /// The text has too many lines with words, and this is the first too many.
     #[error("line {line}: too many lines")]
     TooMany { line: u64 },
+    /// The signs of the line do not form a walk with groups.
+    #[error("line {line}: no walk with groups")]
+    BadGroup { line: u64 },
     /// No memory was left for what was read.
     #[error("no memory was left for what was read")]
     OutOfMemory,

@@ -27,8 +27,8 @@ pub enum LoopFault {
 /// Whether these are two closed walks of the mesh with this table; or the first thing that is wrong, all entries being
 /// looked at before any edge, and all edges before any end. It takes no memory.
 pub fn check_loops(sides: &Sides, walks: &WalkList) -> Result<(), LoopFault>
-    ensures loops { (mesh : FaceList) → IsTableOf mesh sides.now → (IsOk result ↔ IsClosedPair mesh walks.now) }
-    ensures fault { (mesh : FaceList) → IsTableOf mesh sides.now → result_err result ≡ loops_fault mesh walks.now }
+    ensures loops { (mesh : FaceList) → IsTableOf mesh sides.now → (IsOk result ↔ IsClosedPair mesh walks.now.walks) }
+    ensures fault { (mesh : FaceList) → IsTableOf mesh sides.now → result_err result ≡ loops_fault mesh walks.now.walks }
 {
     let count = walks.len();
     if count != 2 {

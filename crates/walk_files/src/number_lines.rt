@@ -73,13 +73,12 @@ impl LinesBuilder {
         self.places.len() as u64
     }
 
-    /// Puts a number last in the present line.
-    #[inline(always)]
-    pub(crate) fn push(&mut self, number: u32) -> Result<(), AllocError>
-        ensures ok { OnOk result (self.new ≡ record self.old { pending = self.old.pending ++ number ∷ [] }) }
+    /// Puts numbers last in the present line.
+    pub(crate) fn extend(&mut self, numbers: &[u32]) -> Result<(), AllocError>
+        ensures ok { OnOk result (self.new ≡ record self.old { pending = self.old.pending ++ numbers.now }) }
         ensures err { OnErr result (self.new ≡ self.old) }
     {
-        self.numbers.push(number)?;
+        self.numbers.extend_from_slice(numbers)?;
         Ok(())
     }
 

@@ -27,8 +27,8 @@ pub enum PairFault {
 /// Whether these are two walks of the mesh with this table, with common ends; or the first thing
 /// that is wrong, all entries being looked at before any edge. It takes no memory.
 pub fn check_pair(sides: &Sides, walks: &WalkList) -> Result<(), PairFault>
-    ensures pair { (mesh : FaceList) → IsTableOf mesh sides.now → (IsOk result ↔ IsPair mesh walks.now) }
-    ensures fault { (mesh : FaceList) → IsTableOf mesh sides.now → result_err result ≡ pair_fault mesh walks.now }
+    ensures pair { (mesh : FaceList) → IsTableOf mesh sides.now → (IsOk result ↔ IsPair mesh walks.now.walks) }
+    ensures fault { (mesh : FaceList) → IsTableOf mesh sides.now → result_err result ≡ pair_fault mesh walks.now.walks }
 {
     let count = walks.len();
     if count != 2 {

@@ -1,11 +1,13 @@
 //! Deciding homotopy.
-ghost use Rattle.std.specs.Prelude.{◌≡◌, ◌↔◌, IfOk};
+ghost use Rattle.std.specs.Prelude.{◌≡◌, ◌↔◌, IfOk, MatchOption};
 ghost use Rattle.surf_model.specs.Walks.{IsWalk, HaveCommonEnds};
 ghost use Rattle.surf_model.specs.Moves.{Homotopic};
+ghost use Rattle.walk_translate.specs.SurfaceLabels.{HasSphereSplit, IsLabelledByCut};
 
 use crate::labels::label_by_cut;
 use halfedge_map::Surface;
 use labellings::{are_same_words, word_of};
+use quad_system::GoodLabelling;
 use std::alloc::{AllocError, Global};
 use surf_model::Walk;
 
@@ -21,7 +23,7 @@ pub enum Answer {
 /// Decides whether two walks of a surface with common ends are homotopic.
 ///
 /// On a sphere they always are. On every other surface their words are compared, under the labelling of a polygon into which
-/// the surface is cut.
+/// the surface is cut. A caller who asks of many pairs keeps a `Decider`.
 pub fn decide(
     alloc: Global,
     surface: &Surface,
@@ -33,13 +35,31 @@ pub fn decide(
     requires ends { HaveCommonEnds first.now second.now }
     ensures { IfOk result (λ answer. (answer ≡ Answer.Homotopic) ↔ Homotopic surface.now.mesh first.now second.now) }
 {
+    let labels = label_by_cut(alloc, surface)?;
+    answer_by(alloc, surface, &labels, first, second)
+}
+
+/// Decides by the labelling of a polygon into which the surface is cut; a sphere has none.
+pub(crate) fn answer_by(
+    alloc: Global,
+    surface: &Surface,
+    labels: &Option<GoodLabelling>,
+    first: &Walk,
+    second: &Walk,
+) -> Result<Answer, AllocError>
+    requires labels { MatchOption labels.now (HasSphereSplit surface.now) (IsLabelledByCut surface.now) }
+    requires first { IsWalk surface.now.mesh first.now }
+    requires second { IsWalk surface.now.mesh second.now }
+    requires ends { HaveCommonEnds first.now second.now }
+    ensures { IfOk result (λ answer. (answer ≡ Answer.Homotopic) ↔ Homotopic surface.now.mesh first.now second.now) }
+{
     let faces = surface.faces();
     let sides = surface.sides();
-    let Some(good) = label_by_cut(alloc, surface)? else {
+    let Some(good) = labels else {
         return Ok(Answer::Homotopic);
     };
-    let one = word_of(alloc, faces, sides, &good, first)?;
-    let other = word_of(alloc, faces, sides, &good, second)?;
+    let one = word_of(alloc, faces, sides, good, first)?;
+    let other = word_of(alloc, faces, sides, good, second)?;
     if are_same_words(&one, &other) {
         Ok(Answer::Homotopic)
     } else {

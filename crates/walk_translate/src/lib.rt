@@ -1,15 +1,18 @@
 //! From walks to words: which walks of a surface are homotopic.
 //!
-//! A caller who has a surface and two walks calls `decide`. `label_surface` gives the labelling under which words are taken;
+//! A caller who has a surface and two walks calls `decide`, and one who has many pairs of walks keeps a `Decider`, which labels
+//! the surface once. `label_surface` gives the labelling under which words are taken;
 //! what is said of words and denials under any labelling stands in `labellings`, and its calls are found here too.
 //! Proved: the decision is exact for every genus.
 //!
 //!     let answer = decide(alloc, &surface, &first, &second)?;
 #![tactic(auto)]
 
+mod decider;
 mod deciding;
 mod labels;
 
+pub use decider::Decider;
 pub use deciding::{Answer, decide};
 pub use labellings::{DenialVerdict, check_denial, fold, word_of};
 pub use labels::{label_by_cut, label_surface};

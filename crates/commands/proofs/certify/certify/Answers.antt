@@ -37,18 +37,18 @@ pub at-first-requires : goal.at-first-requires
 at-first-requires g c =
     let surface = c.in_ok-surface.surface in
     let table : IsTableOf surface.faces surface.sides = c.in_ok-surface.ensures.signed.table in
-    omega (arith, two_walks _ _ surface.faces c.in_ok-pair.pair (c.in_ok-pair.ensures.reads.end surface.faces table))
+    omega (arith, two_walks _ _ surface.faces c.in_ok-pair.pair.walks (c.in_ok-pair.ensures.reads.end surface.faces table))
 
 pub at-second-requires : goal.at-second-requires
 at-second-requires g c =
     let surface = c.in_ok-surface.surface in
     let table : IsTableOf surface.faces surface.sides = c.in_ok-surface.ensures.signed.table in
-    omega (arith, two_walks _ _ surface.faces c.in_ok-pair.pair (c.in_ok-pair.ensures.reads.end surface.faces table))
+    omega (arith, two_walks _ _ surface.faces c.in_ok-pair.pair.walks (c.in_ok-pair.ensures.reads.end surface.faces table))
 
 pub returns-in_err-check_limits : goal.returns-in_err-check_limits
 returns-in_err-check_limits g c =
     let surface = c.in_ok-surface.surface in
-    let pair = c.in_ok-pair.pair in
+    let pair = c.in_ok-pair.pair.walks in
     let stop = c.in_err-check_limits.field-0.0 in
     let limit = c.in_err-check_limits.ensures in
     let table : IsTableOf surface.faces surface.sides = c.in_ok-surface.ensures.signed.table in
@@ -73,7 +73,7 @@ returns-in_err-check_limits g c =
 pub find_certificate-requires-clause-first : goal.find_certificate-requires-clause-first
 find_certificate-requires-clause-first g c =
     let surface = c.in_ok-surface.surface in
-    let pair = c.in_ok-pair.pair in
+    let pair = c.in_ok-pair.pair.walks in
     let table : IsTableOf surface.faces surface.sides = c.in_ok-surface.ensures.signed.table in
     (walks_of_pair surface.faces pair c.at-first.result.now c.at-second.result.now (c.in_ok-pair.ensures.pair surface.faces table)
     c.at-first.ensures
@@ -82,7 +82,7 @@ find_certificate-requires-clause-first g c =
 pub find_certificate-requires-clause-second : goal.find_certificate-requires-clause-second
 find_certificate-requires-clause-second g c =
     let surface = c.in_ok-surface.surface in
-    let pair = c.in_ok-pair.pair in
+    let pair = c.in_ok-pair.pair.walks in
     let table : IsTableOf surface.faces surface.sides = c.in_ok-surface.ensures.signed.table in
     (walks_of_pair surface.faces pair c.at-first.result.now c.at-second.result.now (c.in_ok-pair.ensures.pair surface.faces table)
     c.at-first.ensures
@@ -91,7 +91,7 @@ find_certificate-requires-clause-second g c =
 pub find_certificate-requires-clause-ends : goal.find_certificate-requires-clause-ends
 find_certificate-requires-clause-ends g c =
     let surface = c.in_ok-surface.surface in
-    let pair = c.in_ok-pair.pair in
+    let pair = c.in_ok-pair.pair.walks in
     let table : IsTableOf surface.faces surface.sides = c.in_ok-surface.ensures.signed.table in
     (walks_of_pair surface.faces pair c.at-first.result.now c.at-second.result.now (c.in_ok-pair.ensures.pair surface.faces table)
     c.at-first.ensures
@@ -104,7 +104,7 @@ find_certificate-requires-clause-limits g c =
 pub returns : goal.returns
 returns g c =
     let surface = c.in_ok-surface.surface in
-    let pair = c.in_ok-pair.pair in
+    let pair = c.in_ok-pair.pair.walks in
     let table : IsTableOf surface.faces surface.sides = c.in_ok-surface.ensures.signed.table in
     let passed : Passes (pair_in (g.S.Shelf.held c.args.shelf.now) c.args.walks.now surface.faces) pair =
     subst (λ (files : Option Files). Passes (pair_in files c.args.walks.now surface.faces) pair)

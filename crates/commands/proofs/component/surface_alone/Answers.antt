@@ -1,6 +1,7 @@
 use Rattle.std.proofs.Common.{sym, subst, arith}
 use Rattle.surf_model.specs.FaceLists.{FaceList}
-use Rattle.surf_model.specs.Surfaces.{IsClosed, IsCoherent}
+use Rattle.surf_model.specs.Components.{EachTwoAreJoined}
+use Rattle.surf_model.specs.Surfaces.{IsClosedManifold, IsCoherent}
 use Rattle.manifold_check.specs.ComponentParts.{component_at, component_mesh}
 use Rattle.manifold_check.specs.Submeshes.{signs_among}
 use Rattle.manifold_check.proofs.PartPieces.{IsOfComponent, piece_of_parts, closed_alone, names_within}
@@ -17,8 +18,16 @@ signs-requires-clause-signs c =
 
 pub build-requires-2-clause-closed : goal.build-requires-2-clause-closed
 build-requires-2-clause-closed c =
-    subst IsClosed (sym c.in_ok-faces.ensures)
-    (closed_alone c.args.mesh.now.faces c.args.parts.now c.args.place c.requires.parts c.requires.place c.requires.signed.manifold)
+    let alone = closed_alone c.args.mesh.now.faces c.args.parts.now c.args.place c.requires.parts c.requires.place
+    c.requires.signed.manifold in
+    subst IsClosedManifold (sym c.in_ok-faces.ensures)
+    (record { some_face = alone.some_face; two_sides = alone.two_sides; one_ring = alone.one_ring })
+
+pub build-requires-2-clause-connected : goal.build-requires-2-clause-connected
+build-requires-2-clause-connected c =
+    let alone = closed_alone c.args.mesh.now.faces c.args.parts.now c.args.place c.requires.parts c.requires.place
+    c.requires.signed.manifold in
+    subst EachTwoAreJoined (sym c.in_ok-faces.ensures) alone.connected
 
 pub build-requires-2-clause-coherent : goal.build-requires-2-clause-coherent
 build-requires-2-clause-coherent c =

@@ -1,9 +1,7 @@
-use Rattle.std.proofs.Common.{◌≡◌, inr, sym, refl}
-use Rattle.std.specs.Prelude.{None}
+use Rattle.std.proofs.Common.{sym}
 use Rattle.std.proofs.lemmas.Result.{err_from_is_err_and}
-use Rattle.walk_files.specs.Pairs.{pair_fault}
 use Rattle.commands.specs.Refusals.{pair_line}
-use Rattle.commands.proofs.Checking.{pair_stops, walks_text_stops}
+use Rattle.commands.proofs.Checking.{pair_read, pair_stops, walks_text_stops}
 use Rattle.commands.proofs.Running.{err_no_fault, reads_faulty, reads_made, tells_no_fault}
 use Rattle.commands.proofs.inputs.read_pair.Goals as goal
 
@@ -35,9 +33,5 @@ returns-clause-reads g c =
     let walks = c.in_ok-walks.walks in
     reads_made g.S.Shelf.held g.S.Shelf.faults c.args.shelf.now c.read_file.new.shelf _ _ c.in_ok-bytes.ensures.only_reads
     (λ mesh table.
-    let none : pair_fault mesh walks ≡ None = sym (c.in_ok-check_pair.ensures.fault mesh table) in
-    inr (
-      c.in_ok-bytes.bytes.items,
-      c.in_ok-bytes.ensures.end,
-      inr (walks, rw c.deref.ensures.value at c.in_ok-walks.ensures.end, rw none refl),
-    ))
+    pair_read (g.S.Shelf.held c.args.shelf.now) c.args.name.now mesh c.in_ok-bytes.bytes.items walks c.in_ok-bytes.ensures.end
+    (rw c.deref.ensures.value at c.in_ok-walks.ensures.end) (sym (c.in_ok-check_pair.ensures.fault mesh table)))

@@ -1,5 +1,5 @@
 use Rattle.std.proofs.Common.{refl}
-use Rattle.walk_files.specs.NumberTexts.{walks_of}
+use Rattle.walk_files.specs.WalkTexts.{walk_text_of}
 use Rattle.walk_files.specs.declared.fault.WalkFault.TheVariants.{OutOfMemory}
 use Rattle.commands.specs.Refusals.{numbers_line}
 use Rattle.commands.specs.declared.refusal.Input.TheVariants.{Walks}
@@ -10,7 +10,7 @@ use Rattle.commands.proofs.inputs.walks_of_bytes.Goals as goal
 pub returns-in-Ok : goal.returns-in-Ok
 returns-in-Ok c =
     record {
-      end = read_passes (numbers_line Walks) (walks_of c.args.bytes.now) _ OutOfMemory c.in-Ok.ensures;
+      end = read_passes (numbers_line Walks) (walk_text_of c.args.bytes.now) _ OutOfMemory c.in-Ok.ensures;
       no_fault = λ e. cc;
     }
 
@@ -18,7 +18,7 @@ pub returns-in-Err : goal.returns-in-Err
 returns-in-Err c =
     let stop = c.refused_for.result in
     record {
-      end = read_stops (numbers_line Walks) (walks_of c.args.bytes.now) c.in-Err.fault OutOfMemory stop refl c.in-Err.ensures
+      end = read_stops (numbers_line Walks) (walk_text_of c.args.bytes.now) c.in-Err.fault OutOfMemory stop refl c.in-Err.ensures
           c.refused_for.ensures;
       no_fault = λ e. tells_no_fault (numbers_line Walks c.in-Err.fault) stop c.refused_for.ensures cc;
     }

@@ -1,13 +1,15 @@
-use Rattle.std.proofs.Common.{take}
-use Rattle.std.specs.Prelude.{All}
-use Rattle.turn_words.specs.Canonical.{IsTurnWord}
-use Rattle.commands.specs.Reduce.{AreCanonicalOf, entries_on}
+use Rattle.std.proofs.Common.{◌≡◌, List}
+use Rattle.text_scan.proofs.EachLemmas.{before_ok}
+use Rattle.walk_files.specs.NumberLists.{NumberLine}
+use Rattle.walk_files.specs.NumberTexts.{words_of}
+use Rattle.commands.specs.Canonised.{IsSoFar}
 use Rattle.commands.proofs.reduce.canonise_lines.Given as goal
 
--- the lines so far are turn words, and the words are their canonical ones
-abbrev pub invariant-loop-k : goal.invariant-loop-k
-invariant-loop-k g l =
-    record {
-      in_range : All (IsTurnWord l.degree) (take l.k (entries_on l.lines));
-      canonical : AreCanonicalOf l.degree (take l.k (entries_on l.lines)) l.words.items;
-    }
+-- lines were read, and this is what they came to
+abbrev pub invariant-loop-so_far : goal.invariant-loop-so_far
+invariant-loop-so_far g l =
+    (lines : List NumberLine) × (words_of l.bytes ≡ before_ok lines l.reader.left)
+    × IsSoFar l.degree lines l.so_far.words.items l.so_far.out_of_range
+
+abbrev pub decreases-loop-so_far : goal.decreases-loop-so_far
+decreases-loop-so_far g l = l.reader.lines

@@ -1,4 +1,4 @@
-use Rattle.commands.proofs.Surfaces.{few_joined}
+use Rattle.manifold_check.proofs.PartPieces.{few_joined}
 use Rattle.commands.proofs.trial.measure_chain.Goals as goal
 
 pub returns-clause-joined : goal.returns-clause-joined

@@ -3,10 +3,10 @@ use Rattle.std.proofs.lemmas.List.{take_all}
 use Rattle.std.proofs.lemmas.Result.{err_from_is_err_and}
 use Rattle.surf_io.proofs.Appending.{on_err}
 use Rattle.commands.specs.Gathered.{Gathers}
-use Rattle.commands.specs.Reduce.{words_text}
+use Rattle.commands.specs.Reduce.{word_line, words_text}
 use Rattle.commands.proofs.GatheredLemmas.{gathers-all}
 use Rattle.commands.proofs.Writing.{both_ok}
-use Rattle.commands.proofs.WordLines.{words-more-put, words-stop, words-stop_last}
+use Rattle.commands.proofs.LineByLine.{lines-more-put, lines-stop, lines-stop_last}
 use Rattle.commands.proofs.word_lines.put_words.Goals as goal
 
 pub returns-in_err-put_word : goal.returns-in_err-put_word
@@ -17,7 +17,7 @@ returns-in_err-put_word g c =
     rw p.1 (record {
       ok = tt;
       failed =
-          words-stop g.K.Sink.written g.K.Sink.faults c.args.out.now c.loop-word.out c.put_word.new.out c.loop-word.piece
+          lines-stop word_line g.K.Sink.written g.K.Sink.faults c.args.out.now c.loop-word.out c.put_word.new.out c.loop-word.piece
           c.args.words.now.items
           c.loop-word.word-index c.word-item.result (subst (λ (t : List (List ℕ)). c.loop-word.word-index < length t) value
           c.loop-word-test.true)
@@ -35,7 +35,7 @@ loop-word-preserved g c =
     let value : c.deref-word-items.result.now ≡ c.args.words.now.items = c.deref-word-items.ensures.value in
     record {
       gathers =
-          words-more-put g.K.Sink.written c.args.out.now c.loop-word.out c.put_word.new.out c.loop-word.piece c.put_word.new.piece
+          lines-more-put word_line g.K.Sink.written c.args.out.now c.loop-word.out c.put_word.new.out c.loop-word.piece c.put_word.new.piece
           c.args.words.now.items
           c.loop-word.word-index c.word-item.result (subst (λ (t : List (List ℕ)). c.loop-word.word-index < length t) value
           c.loop-word-test.true)
@@ -62,7 +62,7 @@ returns g c =
           gathers) c.write_piece.ensures.ok;
       failed =
           on_err c.write_piece.result
-          (words-stop_last g.K.Sink.written g.K.Sink.faults c.args.out.now c.loop-word.out c.write_piece.new.out c.loop-word.piece
+          (lines-stop_last word_line g.K.Sink.written g.K.Sink.faults c.args.out.now c.loop-word.out c.write_piece.new.out c.loop-word.piece
           c.args.words.now.items
           c.loop-word.word-index all c.loop-word.invariant.gathers c.loop-word.invariant.never_falls)
           c.write_piece.ensures.failed;

@@ -1,4 +1,4 @@
-use Rattle.std.proofs.Common.{◌≡◌, ◌^◌, ◌++◌, List, length, take, drop, ap, sym, ◌∙◌, subst, arith, ℤ}
+use Rattle.std.proofs.Common.{◌≡◌, ℕ, ◌^◌, ◌++◌, List, length, take, drop, ap, sym, ◌∙◌, subst, arith, ℤ}
 use Rattle.std.proofs.Math.Seq.{take-append_seam}
 use Rattle.homology.specs.Chains.{count_difference}
 use Rattle.homology.specs.Tallies.{number_at, AreWithin, AreNumbersOf, IsLeft}
@@ -20,24 +20,28 @@ take_faces-requires c =
 
 pub returns-clause-left : goal.returns-clause-left
 returns-clause-left c =
+    let first : List ℕ = c.args.walks.first.now in
+    let second : List ℕ = c.args.walks.second.now in
     let new : List ℤ = c.take_faces.new.tally in
-    let left : IsLeft c.args.faces.now c.args.sides.now (number_at c.args.of_face.now) c.args.first.now c.args.second.now new =
-    left_over c.args.faces.now c.args.sides.now (number_at c.args.of_face.now) c.args.first.now c.args.second.now c.deref_mut.result.now new
-    (subst (λ (xs : List ℤ). AreNumbersOf c.args.sides.now xs (count_difference c.args.first.now c.args.second.now))
+    let left : IsLeft c.args.faces.now c.args.sides.now (number_at c.args.of_face.now) first second new =
+    left_over c.args.faces.now c.args.sides.now (number_at c.args.of_face.now) first second c.deref_mut.result.now new
+    (subst (λ (xs : List ℤ). AreNumbersOf c.args.sides.now xs (count_difference first second))
     (sym c.deref_mut.ensures.value) c.in_ok-rest.ensures.counts) c.take_faces.ensures in
     let long : c.in_ok-rest.rest.len ≡ length new = omega (arith, c.deref_mut.ensures.len, c.take_faces.ensures.long) in
     let all : take c.in_ok-rest.rest.len (new ++ drop (length new) c.in_ok-rest.rest.items) ≡ new =
     ap (λ n. take n (new ++ drop (length new) c.in_ok-rest.rest.items)) long
     ∙ take-append_seam new (drop (length new) c.in_ok-rest.rest.items) in
-    subst (λ (xs : List ℤ). IsLeft c.args.faces.now c.args.sides.now (number_at c.args.of_face.now) c.args.first.now c.args.second.now xs)
+    subst (λ (xs : List ℤ). IsLeft c.args.faces.now c.args.sides.now (number_at c.args.of_face.now) first second xs)
     (sym all) left
 
 pub returns-clause-long : goal.returns-clause-long
 returns-clause-long c =
+    let first : List ℕ = c.args.walks.first.now in
+    let second : List ℕ = c.args.walks.second.now in
     let new : List ℤ = c.take_faces.new.tally in
-    let left : IsLeft c.args.faces.now c.args.sides.now (number_at c.args.of_face.now) c.args.first.now c.args.second.now new =
-    left_over c.args.faces.now c.args.sides.now (number_at c.args.of_face.now) c.args.first.now c.args.second.now c.deref_mut.result.now new
-    (subst (λ (xs : List ℤ). AreNumbersOf c.args.sides.now xs (count_difference c.args.first.now c.args.second.now))
+    let left : IsLeft c.args.faces.now c.args.sides.now (number_at c.args.of_face.now) first second new =
+    left_over c.args.faces.now c.args.sides.now (number_at c.args.of_face.now) first second c.deref_mut.result.now new
+    (subst (λ (xs : List ℤ). AreNumbersOf c.args.sides.now xs (count_difference first second))
     (sym c.deref_mut.ensures.value) c.in_ok-rest.ensures.counts) c.take_faces.ensures in
     let long : c.in_ok-rest.rest.len ≡ length new = omega (arith, c.deref_mut.ensures.len, c.take_faces.ensures.long) in
     let all : take c.in_ok-rest.rest.len (new ++ drop (length new) c.in_ok-rest.rest.items) ≡ new =

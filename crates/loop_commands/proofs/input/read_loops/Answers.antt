@@ -1,10 +1,8 @@
-use Rattle.std.proofs.Common.{◌≡◌, inr, sym, refl}
-use Rattle.std.specs.Prelude.{None}
+use Rattle.std.proofs.Common.{sym}
 use Rattle.std.proofs.lemmas.Result.{err_from_is_err_and}
-use Rattle.walk_files.specs.Closed_pairs.{loops_fault}
 use Rattle.commands.proofs.Running.{err_no_fault, reads_faulty, reads_made, tells_no_fault}
 use Rattle.loop_commands.specs.Loops.{loops_line}
-use Rattle.loop_commands.proofs.LoopChecks.{loops_stop, loops_text_stop}
+use Rattle.loop_commands.proofs.LoopChecks.{loops_read, loops_stop, loops_text_stop}
 use Rattle.loop_commands.proofs.input.read_loops.Goals as goal
 
 pub returns-in_err-walks-clause-reads : goal.returns-in_err-walks-clause-reads
@@ -23,12 +21,8 @@ returns-in-Ok-clause-reads g c =
     let walks = c.in_ok-walks.walks in
     reads_made g.S.Shelf.held g.S.Shelf.faults c.args.shelf.now c.read_file.new.shelf _ _ c.in_ok-bytes.ensures.only_reads
     (λ mesh table.
-    let none : loops_fault mesh walks ≡ None = sym (c.in-Ok.ensures.fault mesh table) in
-    inr (
-      c.in_ok-bytes.bytes.items,
-      c.in_ok-bytes.ensures.end,
-      inr (walks, rw c.deref.ensures.value at c.in_ok-walks.ensures.end, rw none refl),
-    ))
+    loops_read (g.S.Shelf.held c.args.shelf.now) c.args.name.now mesh c.in_ok-bytes.bytes.items walks c.in_ok-bytes.ensures.end
+    (rw c.deref.ensures.value at c.in_ok-walks.ensures.end) (sym (c.in-Ok.ensures.fault mesh table)))
 
 pub returns-clause-reads : goal.returns-clause-reads
 returns-clause-reads g c =

@@ -37,20 +37,20 @@ pub at-requires : goal.at-requires
 at-requires g c =
     let surface = c.in_ok-surface.surface in
     let table : IsTableOf surface.faces surface.sides = c.in_ok-surface.ensures.signed.table in
-    omega (arith, two_walks _ _ surface.faces c.in_ok-pair.pair (c.in_ok-pair.ensures.reads.end surface.faces table))
+    omega (arith, two_walks _ _ surface.faces c.in_ok-pair.pair.walks (c.in_ok-pair.ensures.reads.end surface.faces table))
 
 pub at-requires-2 : goal.at-requires-2
 at-requires-2 g c =
     let surface = c.in_ok-surface.surface in
     let table : IsTableOf surface.faces surface.sides = c.in_ok-surface.ensures.signed.table in
-    omega (arith, two_walks _ _ surface.faces c.in_ok-pair.pair (c.in_ok-pair.ensures.reads.end surface.faces table))
+    omega (arith, two_walks _ _ surface.faces c.in_ok-pair.pair.walks (c.in_ok-pair.ensures.reads.end surface.faces table))
 
 -- what is known of the two walks
 walks : (g : _) (c : goal.After-at-2 g) → AreClosed c.in_ok-surface.surface.faces c.at.result.now c.at-2.result.now
 walks g c =
     let surface = c.in_ok-surface.surface in
     let table : IsTableOf surface.faces surface.sides = c.in_ok-surface.ensures.signed.table in
-    walks_of_pair surface.faces c.in_ok-pair.pair c.at.result.now c.at-2.result.now (c.in_ok-pair.ensures.loops surface.faces table)
+    walks_of_pair surface.faces c.in_ok-pair.pair.walks c.at.result.now c.at-2.result.now (c.in_ok-pair.ensures.loops surface.faces table)
     c.at.ensures c.at-2.ensures
 
 pub decide_on-requires-clause-first : goal.decide_on-requires-clause-first
@@ -73,7 +73,7 @@ pub returns : goal.returns
 returns g c =
     let held = g.S.Shelf.held in
     let surface = c.in_ok-surface.surface in
-    let pair = c.in_ok-pair.pair in
+    let pair = c.in_ok-pair.pair.walks in
     let decision = c.in_ok-decision.decision in
     let read = c.in_ok-surface.ensures.reads in
     let table : IsTableOf surface.faces surface.sides = c.in_ok-surface.ensures.signed.table in

@@ -1,26 +1,80 @@
-use Rattle.std.proofs.Common.{inl, inr, Err, ap}
-use Rattle.std.proofs.lemmas.Result.{err_from_is_err_and}
+use Rattle.std.proofs.Common.{inl, inr, Err, ap, arith}
 use Rattle.surf_model.specs.Surfaces.{IsClosedManifold}
-use Rattle.manifold_check.proofs.FaultLemmas.{one_fault, manifold_fault_first}
+use Rattle.connectivity.proofs.EdgeCounts.{few_of_two}
+use Rattle.manifold_check.specs.Faults.{IsFirstFault}
+use Rattle.manifold_check.specs.declared.fault.SurfaceFault.TheVariants.{EdgeSides, Pinched}
+use Rattle.manifold_check.proofs.EdgeLemmas.{two_sides_from_table, uneven_as_read}
+use Rattle.manifold_check.proofs.FaultLemmas.{one_fault, no_fault}
 use Rattle.manifold_check.proofs.check.check_closed.Goals as goal
 
--- It is no closed manifold.
-pub returns-in_err-check_manifold-clause-refused : goal.returns-in_err-check_manifold-clause-refused
-returns-in_err-check_manifold-clause-refused c =
-    let p = err_from_is_err_and c.from_residual.result c.from_residual.ensures.1 in
-    rw (p.1, p.2)
-    (λ fault first. elim c.in_err-check_manifold.ensures.fault [
-      | inl none ↦ inr (ap Err none)
-      | inr here ↦ inl (ap Err (one_fault c.args.faces.now _ fault (manifold_fault_first c.args.faces.now _ here) first))
-    ])
-
--- Two vertices are apart.
+-- An edge has not two sides.
 pub returns-in-Some-clause-fault : goal.returns-in-Some-clause-fault
 returns-in-Some-clause-fault c =
-    let closed : IsClosedManifold c.args.faces.now = c.in_ok-check_manifold.ensures.closed in
     inr (record {
-      some_face = closed.some_face;
-      two_sides = closed.two_sides;
-      one_ring = closed.one_ring;
-      vertices = rw c.in-Some.is at c.in_ok-vertex.ensures;
+      some_face = omega arith;
+      edge = uneven_as_read c.args.faces.now c.args.sides.now c.in-Some.edge.0 c.ends.result.0.0 c.ends.result.1.0 c.sides_of.result
+          c.requires c.in-Some.ensures.some
+          c.ends.ensures.low c.ends.ensures.high c.sides_of.ensures;
     })
+
+pub returns-in-Some-clause-accepted : goal.returns-in-Some-clause-accepted
+returns-in-Some-clause-accepted c =
+    let fault = EdgeSides c.ends.result.0 c.ends.result.1 c.sides_of.result in
+    let here : IsFirstFault c.args.faces.now fault = record {
+      some_face = omega arith;
+      edge = uneven_as_read c.args.faces.now c.args.sides.now c.in-Some.edge.0 c.ends.result.0.0 c.ends.result.1.0 c.sides_of.result
+          c.requires c.in-Some.ensures.some
+          c.ends.ensures.low c.ends.ensures.high c.sides_of.ensures;
+    } in
+    λ closed. absurd (no_fault c.args.faces.now fault closed here)
+
+pub returns-in-Some-clause-refused : goal.returns-in-Some-clause-refused
+returns-in-Some-clause-refused c =
+    let fault = EdgeSides c.ends.result.0 c.ends.result.1 c.sides_of.result in
+    let here : IsFirstFault c.args.faces.now fault = record {
+      some_face = omega arith;
+      edge = uneven_as_read c.args.faces.now c.args.sides.now c.in-Some.edge.0 c.ends.result.0.0 c.ends.result.1.0 c.sides_of.result
+          c.requires c.in-Some.ensures.some
+          c.ends.ensures.low c.ends.ensures.high c.sides_of.ensures;
+    } in
+    λ other first. inl (ap Err (one_fault c.args.faces.now fault other here first))
+
+pub pinched_vertex-requires-clause-few : goal.pinched_vertex-requires-clause-few
+pinched_vertex-requires-clause-few c =
+    few_of_two c.args.faces.now (two_sides_from_table c.args.faces.now c.args.sides.now c.requires c.in_default.ensures.none)
+
+-- A vertex is pinched.
+pub returns-in-Some-2-clause-fault : goal.returns-in-Some-2-clause-fault
+returns-in-Some-2-clause-fault c =
+    inr (record {
+      some_face = omega arith;
+      two_sides = two_sides_from_table c.args.faces.now c.args.sides.now c.requires c.in_default.ensures.none;
+      vertex = rw c.in-Some-2.is at c.in_ok-vertex.ensures;
+    })
+
+pub returns-in-Some-2-clause-refused : goal.returns-in-Some-2-clause-refused
+returns-in-Some-2-clause-refused c =
+    let fault = Pinched c.in-Some-2.vertex in
+    let here : IsFirstFault c.args.faces.now fault = record {
+      some_face = omega arith;
+      two_sides = two_sides_from_table c.args.faces.now c.args.sides.now c.requires c.in_default.ensures.none;
+      vertex = rw c.in-Some-2.is at c.in_ok-vertex.ensures;
+    } in
+    λ other first. inl (ap Err (one_fault c.args.faces.now fault other here first))
+
+-- All three conditions hold.
+pub returns-clause-closed : goal.returns-clause-closed
+returns-clause-closed c = record {
+  some_face = omega arith;
+  two_sides = two_sides_from_table c.args.faces.now c.args.sides.now c.requires c.in_default.ensures.none;
+  one_ring = rw c.in_default-2.is at c.in_ok-vertex.ensures;
+}
+
+pub returns-clause-refused : goal.returns-clause-refused
+returns-clause-refused c =
+    let closed : IsClosedManifold c.args.faces.now = record {
+      some_face = omega arith;
+      two_sides = two_sides_from_table c.args.faces.now c.args.sides.now c.requires c.in_default.ensures.none;
+      one_ring = rw c.in_default-2.is at c.in_ok-vertex.ensures;
+    } in
+    λ fault first. absurd (no_fault c.args.faces.now fault closed first)

@@ -32,7 +32,7 @@ at-requires-2 g c = omega (arith, two_long c.in_ok-pair.pair c.in_ok-pair.ensure
 
 -- what is known of the two walks
 walks : (g : _) (c : After-at-2 g)
-    → AreOpenWalks c.in_ok-pair.pair.surface.mesh c.in_ok-pair.pair.walks c.at.result.now c.at-2.result.now
+    → AreOpenWalks c.in_ok-pair.pair.surface.mesh c.in_ok-pair.pair.walks.walks c.at.result.now c.at-2.result.now
 walks g c =
     open_walks c.in_ok-pair.pair c.at.result.now c.at-2.result.now c.in_ok-pair.ensures.pair c.at.ensures c.at-2.ensures
 
@@ -65,7 +65,7 @@ returns-clause-runs g c =
     let known = walks g (goal.at.returns-clause-runs g c).After-at-2 in
     let reply =
     found_reply pair.surface.mesh c.at.result.now c.at-2.result.now c.in_ok-found.found c.reply_with.result c.in_ok-found.ensures.moves
-    c.reply_with.ensures.some c.reply_with.ensures.none in
+    c.in_ok-found.ensures.short c.reply_with.ensures.some c.reply_with.ensures.none in
     runs_replied g.S.Shelf.held g.S.Shelf.faults c.args.shelf.now c.read_open_pair.new.shelf
     (λ files. of_certify_open.certify_open files c.args.mesh.now c.args.walks.now) (λ none. none.0.0.0.0) c.reply_with.result
     c.in_ok-pair.ensures.reads.only_reads

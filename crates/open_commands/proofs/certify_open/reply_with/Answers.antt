@@ -1,6 +1,5 @@
 use Rattle.std.proofs.Common.{refl}
 use Rattle.surf_model.specs.Moves.{PeakedMoves}
-use Rattle.commands.specs.declared.certificate.Certificate.TheVariants.{Moves}
 use Rattle.open_commands.proofs.Listing.{list_convinces, no_list_short}
 use Rattle.open_commands.proofs.ShortTexts.{text_short}
 use Rattle.open_commands.proofs.certify_open.reply_with.Goals as goal
@@ -9,9 +8,9 @@ pub returns-in-Some : goal.returns-in-Some
 returns-in-Some c =
     let list : PeakedMoves = c.in-Some.list in
     rw c.in-Some.is (record {
-      some = λ mesh first second leads. record {
+      some = λ mesh first second leads within. record {
         status_is = refl;
-        text_is = (Moves list, list_convinces mesh first second list leads, refl, refl);
+        text_is = (list, list_convinces mesh first second list leads, within.moves, within.peak, refl);
       };
       none = λ mesh first second. tt;
       short = λ mesh first second valid sides walk found. record {

@@ -32,7 +32,7 @@ at-requires-2 g c = omega (arith, two_long c.in_ok-pair.pair c.in_ok-pair.ensure
 
 -- what is known of the two walks
 walks : (g : _) (c : After-at-2 g)
-    → AreOpenWalks c.in_ok-pair.pair.surface.mesh c.in_ok-pair.pair.walks c.at.result.now c.at-2.result.now
+    → AreOpenWalks c.in_ok-pair.pair.surface.mesh c.in_ok-pair.pair.walks.walks c.at.result.now c.at-2.result.now
 walks g c =
     open_walks c.in_ok-pair.pair c.at.result.now c.at-2.result.now c.in_ok-pair.ensures.pair c.at.ensures c.at-2.ensures
 

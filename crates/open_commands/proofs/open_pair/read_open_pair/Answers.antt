@@ -31,7 +31,7 @@ pub at-requires : goal.at-requires
 at-requires g c =
     omega (
       arith,
-      two_walks _ _ c.in_ok-surface.surface.mesh c.in_ok-walks.walks
+      two_walks _ _ c.in_ok-surface.surface.mesh c.in_ok-walks.walks.walks
           (c.in_ok-walks.ensures.reads.end c.in_ok-surface.surface.mesh c.sides.ensures),
     )
 
@@ -39,24 +39,24 @@ pub at-requires-2 : goal.at-requires-2
 at-requires-2 g c =
     omega (
       arith,
-      two_walks _ _ c.in_ok-surface.surface.mesh c.in_ok-walks.walks
+      two_walks _ _ c.in_ok-surface.surface.mesh c.in_ok-walks.walks.walks
           (c.in_ok-walks.ensures.reads.end c.in_ok-surface.surface.mesh c.sides.ensures),
     )
 
 -- the pair passes where the files are as they were at first
 passed : (g : _) (c : After-at-2 g)
-    → Passes (pair_in (g.S.Shelf.held c.args.shelf.now) c.args.walks.now c.in_ok-surface.surface.mesh) c.in_ok-walks.walks
+    → Passes (pair_in (g.S.Shelf.held c.args.shelf.now) c.args.walks.now c.in_ok-surface.surface.mesh) c.in_ok-walks.walks.walks
 passed g c =
-    subst (λ (files : Option Files). Passes (pair_in files c.args.walks.now c.in_ok-surface.surface.mesh) c.in_ok-walks.walks)
+    subst (λ (files : Option Files). Passes (pair_in files c.args.walks.now c.in_ok-surface.surface.mesh) c.in_ok-walks.walks.walks)
     c.in_ok-surface.ensures.only_reads.same_files
     (c.in_ok-walks.ensures.reads.end c.in_ok-surface.surface.mesh c.sides.ensures)
 
 -- the walks that are looked at are the two of the list
 same_fault : (g : _) (c : After-at-2 g)
-    → limit_fault c.in_ok-surface.surface.mesh (walk_at c.in_ok-walks.walks 0) (walk_at c.in_ok-walks.walks 1)
+    → limit_fault c.in_ok-surface.surface.mesh (walk_at c.in_ok-walks.walks.walks 0) (walk_at c.in_ok-walks.walks.walks 1)
     ≡ limit_fault c.in_ok-surface.surface.mesh c.at.result.now c.at-2.result.now
 same_fault g c =
-    let pair = c.in_ok-walks.walks in
+    let pair = c.in_ok-walks.walks.walks in
     let mesh = c.in_ok-surface.surface.mesh in
     let first : walk_at pair 0 ≡ c.at.result.now = get_or_from_slice_get pair 0 c.at.result.now _ c.at.ensures in
     let second : walk_at pair 1 ≡ c.at-2.result.now = get_or_from_slice_get pair 1 c.at-2.result.now _ c.at-2.ensures in
@@ -72,7 +72,7 @@ returns-in_err-check_limits-clause-reads g c =
     (reads_faulty g.S.Shelf.held g.S.Shelf.faults c.args.shelf.now c.read_pair.new.shelf _ stop
     (only_then g.S.Shelf.held g.S.Shelf.faults c.args.shelf.now c.read_open_surface.new.shelf c.read_pair.new.shelf
     c.in_ok-surface.ensures.only_reads c.in_ok-walks.ensures.reads.only_reads) (tells_no_fault (Exactly limit.0) stop limit.2)
-    (limits_stop (g.S.Shelf.held c.args.shelf.now) c.args.mesh.now c.args.walks.now surface.mesh c.in_ok-walks.walks limit.0 stop
+    (limits_stop (g.S.Shelf.held c.args.shelf.now) c.args.mesh.now c.args.walks.now surface.mesh c.in_ok-walks.walks.walks limit.0 stop
     c.in_ok-surface.ensures.end (passed g (goal.at.returns-in_err-check_limits-clause-reads g c).After-at-2)
     (same_fault g (goal.at.returns-in_err-check_limits-clause-reads g c).After-at-2 ∙ limit.1) limit.2))
 
@@ -81,7 +81,7 @@ returns-clause-reads g c =
     reads_made g.S.Shelf.held g.S.Shelf.faults c.args.shelf.now c.read_pair.new.shelf _ _
     (only_then g.S.Shelf.held g.S.Shelf.faults c.args.shelf.now c.read_open_surface.new.shelf c.read_pair.new.shelf
     c.in_ok-surface.ensures.only_reads c.in_ok-walks.ensures.reads.only_reads)
-    (pair_passes (g.S.Shelf.held c.args.shelf.now) c.args.mesh.now c.args.walks.now c.in_ok-surface.surface.mesh c.in_ok-walks.walks
+    (pair_passes (g.S.Shelf.held c.args.shelf.now) c.args.mesh.now c.args.walks.now c.in_ok-surface.surface.mesh c.in_ok-walks.walks.walks
     c.in_ok-surface.ensures.end (passed g (goal.at.returns-clause-reads g c).After-at-2)
     (same_fault g (goal.at.returns-clause-reads g c).After-at-2 ∙ c.in_ok-check_limits.ensures))
 
@@ -90,6 +90,6 @@ returns-clause-pair g c =
     let surface = c.in_ok-surface.surface in
     record {
       walks = c.in_ok-walks.ensures.pair surface.mesh c.sides.ensures;
-      within = allowed surface.mesh (walk_at c.in_ok-walks.walks 0) (walk_at c.in_ok-walks.walks 1)
+      within = allowed surface.mesh (walk_at c.in_ok-walks.walks.walks 0) (walk_at c.in_ok-walks.walks.walks 1)
           (same_fault g (goal.at.returns-clause-pair g c).After-at-2 ∙ c.in_ok-check_limits.ensures);
     }

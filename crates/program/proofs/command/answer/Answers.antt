@@ -20,6 +20,9 @@ returns-in-CertifyOpen g c = rw c.in-CertifyOpen.is c.certify_open.ensures.runs
 pub returns-in-Verify : goal.returns-in-Verify
 returns-in-Verify g c = rw c.in-Verify.is c.verify.ensures
 
+pub returns-in-VerifyHomology : goal.returns-in-VerifyHomology
+returns-in-VerifyHomology g c = rw c.in-VerifyHomology.is c.verify_homology.ensures
+
 pub returns-in-Trial : goal.returns-in-Trial
 returns-in-Trial g c =
     rw c.in-Trial.is

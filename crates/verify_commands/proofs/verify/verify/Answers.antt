@@ -32,17 +32,17 @@ returns-in_err-walks g c =
 pub at-requires : goal.at-requires
 at-requires g c =
     let pair = c.in_ok-walks.ensures.pair c.in_ok-faces.faces c.in_ok-sides.ensures in
-    omega (arith, two_in_pair c.in_ok-faces.faces c.in_ok-walks.walks pair)
+    omega (arith, two_in_pair c.in_ok-faces.faces c.in_ok-walks.walks.walks pair)
 
 pub at-requires-2 : goal.at-requires-2
 at-requires-2 g c =
     let pair = c.in_ok-walks.ensures.pair c.in_ok-faces.faces c.in_ok-sides.ensures in
-    omega (arith, two_in_pair c.in_ok-faces.faces c.in_ok-walks.walks pair)
+    omega (arith, two_in_pair c.in_ok-faces.faces c.in_ok-walks.walks.walks pair)
 
 pub returns : goal.returns
 returns g c =
     let faces = c.in_ok-faces.faces in
-    let walks = c.in_ok-walks.walks in
+    let walks = c.in_ok-walks.walks.walks in
     let certificate : List ℕ = c.args.certificate.now in
     let held : Option Files = g.S.Shelf.held c.args.shelf.now in
     let same = c.in_ok-faces.ensures.only_reads.same_files in
@@ -68,10 +68,10 @@ returns g c =
 
 pub judge-reply-requires-clause-first : goal.judge-reply-requires-clause-first
 judge-reply-requires-clause-first g c =
-    first_walk c.in_ok-faces.faces c.in_ok-walks.walks c.at.result.now
+    first_walk c.in_ok-faces.faces c.in_ok-walks.walks.walks c.at.result.now
     (c.in_ok-walks.ensures.pair c.in_ok-faces.faces c.in_ok-sides.ensures) c.at.ensures
 
 pub judge-reply-requires-clause-second : goal.judge-reply-requires-clause-second
 judge-reply-requires-clause-second g c =
-    second_walk c.in_ok-faces.faces c.in_ok-walks.walks c.at-2.result.now
+    second_walk c.in_ok-faces.faces c.in_ok-walks.walks.walks c.at-2.result.now
     (c.in_ok-walks.ensures.pair c.in_ok-faces.faces c.in_ok-sides.ensures) c.at-2.ensures

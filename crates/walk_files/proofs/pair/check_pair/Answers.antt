@@ -16,25 +16,25 @@ pub returns-in_err-check_walks-clause-fault : goal.returns-in_err-check_walks-cl
 returns-in_err-check_walks-clause-fault c = λ mesh table.
     let failed = err_from_is_err_and c.from_residual.result c.from_residual.ensures.1 in
     ap result_err failed.1 ∙ ap Some failed.2
-    ∙ pair_fault-entry mesh c.args.walks.now c.in_err-check_walks.field-0.0 (sym c.len-count.ensures ∙ c.if-count-ne2.false)
+    ∙ pair_fault-entry mesh c.args.walks.now.walks c.in_err-check_walks.field-0.0 (sym c.len-count.ensures.count ∙ c.if-count-ne2.false)
     (c.in_err-check_walks.ensures mesh table)
 
 pub returns-in_err-check_walks-clause-pair : goal.returns-in_err-check_walks-clause-pair
 returns-in_err-check_walks-clause-pair c = λ mesh table.
     let failed = err_from_is_err_and c.from_residual.result c.from_residual.ensures.1 in
-    fails_pair mesh c.args.walks.now c.from_residual.result failed.0 failed.1 (returns-in_err-check_walks-clause-fault c mesh table)
+    fails_pair mesh c.args.walks.now.walks c.from_residual.result failed.0 failed.1 (returns-in_err-check_walks-clause-fault c mesh table)
 
 pub returns-clause-fault : goal.returns-clause-fault
 returns-clause-fault c = λ mesh table.
     c.check_ends.ensures.fault
-    ∙ pair_fault-ends mesh c.args.walks.now c.at.result.now c.at-2.result.now
-    (two_are c.args.walks.now c.at.result.now c.at-2.result.now (sym c.len-count.ensures ∙ c.if-count-ne2.false) c.at.ensures
+    ∙ pair_fault-ends mesh c.args.walks.now.walks c.at.result.now c.at-2.result.now
+    (two_are c.args.walks.now.walks c.at.result.now c.at-2.result.now (sym c.len-count.ensures.count ∙ c.if-count-ne2.false) c.at.ensures
     c.at-2.ensures)
     (c.in_ok-check_walks.ensures mesh table)
 
 pub returns-clause-pair : goal.returns-clause-pair
 returns-clause-pair c = λ mesh table.
-    says_pair mesh c.args.walks.now c.at.result.now c.at-2.result.now c.check_ends.result
-    (two_are c.args.walks.now c.at.result.now c.at-2.result.now (sym c.len-count.ensures ∙ c.if-count-ne2.false) c.at.ensures
+    says_pair mesh c.args.walks.now.walks c.at.result.now c.at-2.result.now c.check_ends.result
+    (two_are c.args.walks.now.walks c.at.result.now c.at-2.result.now (sym c.len-count.ensures.count ∙ c.if-count-ne2.false) c.at.ensures
     c.at-2.ensures)
     c.check_ends.ensures.starts (returns-clause-fault c mesh table)

@@ -9,10 +9,9 @@ use Rattle.walk_files.proofs.words.read_entries.Given as goal
 abbrev pub invariant-loop-value : goal.invariant-loop-value
 invariant-loop-value l =
     record {
-      numbers : entries_of l.fn.cursor.words ≡ before_some l.lists.pending (each_some number_of l.cursor.words);
-      count : length l.fn.cursor.words ≡ length l.lists.pending + length l.cursor.words;
-      room : l.room + length l.lists.pending ≡ 1000000;
-      lists : l.lists.lists ≡ l.fn.lists.lists;
+      numbers : entries_of l.fn.cursor.words ≡ before_some l.entries.items (each_some number_of l.cursor.words);
+      count : length l.fn.cursor.words ≡ length l.entries.items + length l.cursor.words;
+      room : l.room + length l.entries.items ≡ 1000000;
       place : l.cursor ≡ record l.fn.cursor { words = l.cursor.words };
     }
 

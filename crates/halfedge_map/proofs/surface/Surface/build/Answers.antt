@@ -12,7 +12,12 @@ invariant_of-result c =
       oriented = record {
         faces = c.in_ok-next.ensures.valid;
         table = c.requires.table;
-        closed = c.requires.closed;
+        closed = record {
+          some_face = c.requires.closed.some_face;
+          two_sides = c.requires.closed.two_sides;
+          one_ring = c.requires.closed.one_ring;
+          connected = c.requires.connected;
+        };
         coherent = c.requires.coherent;
       };
       nexts = nexts_signed s (total_sides c.args.faces) c.in_ok-next.next.items c.in_ok-next.ensures.stored;

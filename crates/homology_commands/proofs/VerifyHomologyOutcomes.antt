@@ -1,0 +1,151 @@
+-- `verify-homology` in the words of the mesh.
+use Rattle.std.proofs.Common.{◌≡◌, inr, ℕ, List, [], ◌∷◌, codes, refl, sym, ap, ◌∙◌, subst}
+use Rattle.std.specs.Prelude.{Option, Ok}
+use Rattle.surf_io.specs.Files.{Files}
+use Rattle.surf_model.specs.FaceLists.{FaceList}
+use Rattle.homology.specs.Chains.{AreHomologous}
+use Rattle.homology.specs.Certificates.{face_number, edge_number}
+use Rattle.homology.specs.Verdicts.{IsVerdict}
+use Rattle.homology.specs.declared.certificate.HomologyCert.{HomologyCert}
+use Rattle.homology.specs.declared.certificate.HomologyCert.TheVariants as certificates
+use Rattle.homology.specs.declared.verdict.HomologyVerdict.{HomologyVerdict}
+use Rattle.homology.specs.declared.verdict.HomologyVerdict.TheVariants.{Face, Edge, Sum, Zero, Accepted}
+use Rattle.homology.proofs.PairingLemmas.{refuted}
+use Rattle.homology_files.specs.HomologyTexts.{cert_of_text}
+use Rattle.commands.proofs.Deciding.{behind}
+use Rattle.commands.proofs.MeshTexts.{mesh_valid}
+use Rattle.commands.proofs.Rows.{sound-mesh, sound-pair, meant_told, pair_told, mesh_told, mesh_passes, spelled_pair}
+use Rattle.commands.proofs.Sound.{IsSound, sound-then, sound-meant, sound-file, held}
+use Rattle.commands.specs.Answers.{Answer, IsText}
+use Rattle.commands.specs.Checks.{Refuse, Pass, Passes, IsTold}
+use Rattle.commands.specs.Inputs.{mesh_in, pair_in, walk_at, SpellsPair}
+use Rattle.commands.specs.Outcomes.{Outcome, AnswersTo, IsAnswerOf}
+use Rattle.commands.specs.declared.refusal.Input.TheVariants as inputs
+use Rattle.commands.specs.declared.status.Status.{Status}
+use Rattle.commands.specs.declared.status.Status.TheVariants.{Yes}
+use Rattle.homology_commands.specs.VerifyHomology.{verify_homology, verdict_status, verdict_line, verdict_answer, fault_line, judgement, certificate_in, ShownBy, IsInput, IsHomologyVerified}
+use Rattle.homology_commands.proofs.SomeVerdicts.{sound-judgement}
+use Rattle.homology_commands.proofs.Verifying.{after_mesh, after_pair}
+
+pub sound-certificate : (files : Option Files) (name : List ℕ) → IsSound files (certificate_in files name)
+sound-certificate files name =
+    sound-then files _ _ (sound-file files name inputs.Certificate) (λ bytes _. sound-meant files fault_line (cert_of_text bytes))
+
+pub sound-verify_homology : (files : Option Files) (mesh walks certificate : List ℕ)
+    → IsSound files (verify_homology files mesh walks certificate)
+sound-verify_homology files mesh walks certificate =
+    sound-then files _ _ (sound-mesh files mesh)
+    (λ faces h. sound-then files _ _ (sound-pair files walks faces)
+    (λ pair _. sound-then files _ _ (sound-certificate files certificate)
+    (λ shown _. sound-judgement files faces (walk_at pair 0) (walk_at pair 1) shown (mesh_valid files mesh faces h))))
+
+-- the bytes of the certificate's file
+abbrev Spells : HomologyCert → List ℕ → Type 0
+Spells certificate bytes = cert_of_text bytes ≡ Ok certificate
+
+-- each file that is looked at is told
+told_input : (files : Option Files) (words : List (List ℕ)) (mesh : FaceList) (first second : List ℕ) (shown : HomologyCert)
+    (input : IsInput files words mesh first second shown)
+    → (verify_homology files input.mesh_name input.walks_name input.certificate_name).EachFile (IsTold files)
+told_input files words mesh first second shown input = (
+  mesh_told files input.mesh_name mesh input.mesh_file,
+  λ faces _. (
+    pair_told files input.walks_name faces (held files input.walks_name (SpellsPair mesh first second) input.walks_file).told,
+    λ pair _. (
+      (
+        (held files input.certificate_name (Spells shown) input.certificate_file).told,
+        λ bytes _. meant_told files fault_line (cert_of_text bytes),
+      ),
+      λ certificate _. tt,
+    ),
+  ),
+)
+
+-- as the judgement ends, the command does
+judgement_outcome : (files : Option Files) (words : List (List ℕ)) (mesh : FaceList) (first second : List ℕ) (shown : HomologyCert)
+    (outcome : Outcome) (input : IsInput files words mesh first second shown) → (judgement mesh first second shown).Ends outcome
+    → (verify_homology files input.mesh_name input.walks_name input.certificate_name).Ends outcome
+judgement_outcome files words mesh first second shown outcome input h =
+    let file = held files input.certificate_name (Spells shown) input.certificate_file in
+    inr (
+      mesh,
+      mesh_passes files input.mesh_name mesh input.mesh_file,
+      inr (
+        first ∷ second ∷ [],
+        spelled_pair files input.walks_name mesh first second input.walks_file,
+        inr (shown, inr (file.bytes, file.passes inputs.Certificate, rw file.holds refl), h),
+      ),
+    )
+
+-- as the command ends, the judgement does
+behind_files : (files : Option Files) (words : List (List ℕ)) (mesh : FaceList) (first second : List ℕ) (shown : HomologyCert)
+    (outcome : Outcome) (input : IsInput files words mesh first second shown)
+    → (verify_homology files input.mesh_name input.walks_name input.certificate_name).Ends outcome
+    → (judgement mesh first second shown).Ends outcome
+behind_files files words mesh first second shown outcome input is =
+    let pair : List (List ℕ) = first ∷ second ∷ [] in
+    let file = held files input.certificate_name (Spells shown) input.certificate_file in
+    let passed : Passes (certificate_in files input.certificate_name) shown =
+    inr (file.bytes, file.passes inputs.Certificate, rw file.holds refl) in
+    let walks = behind files (mesh_in files input.mesh_name) (after_mesh files input.walks_name input.certificate_name) mesh outcome
+    (sound-mesh files input.mesh_name) (mesh_told files input.mesh_name mesh input.mesh_file)
+    (mesh_passes files input.mesh_name mesh input.mesh_file) is in
+    let certificate = behind files (pair_in files input.walks_name mesh) (after_pair files input.certificate_name mesh) pair outcome
+    (sound-pair files input.walks_name mesh)
+    (pair_told files input.walks_name mesh (held files input.walks_name (SpellsPair mesh first second) input.walks_file).told)
+    (spelled_pair files input.walks_name mesh first second input.walks_file) walks in
+    behind files (certificate_in files input.certificate_name) (judgement mesh first second) shown outcome
+    (sound-certificate files input.certificate_name) (file.told, λ bytes _. meant_told files fault_line (cert_of_text bytes)) passed
+    certificate
+
+-- a judgement is its verdict
+judged_end : (mesh : FaceList) (first second : List ℕ) (shown : HomologyCert) (outcome : Outcome) (status : Status) (text : List ℕ)
+    → (judgement mesh first second shown).Ends outcome → IsAnswerOf outcome status text
+    → (verdict : HomologyVerdict) × IsVerdict mesh first second shown verdict × (status ≡ verdict_status verdict)
+    × (text ≡ verdict_line verdict)
+judged_end mesh first second shown (Refuse texts) status text p answer = absurd p
+judged_end mesh first second shown (Pass x) status text p answer =
+    let here : IsAnswerOf (Pass (verdict_answer p.0)) status text = subst (λ (y : Answer). IsAnswerOf (Pass y) status text) p.1 answer in
+    (p.0, p.2, here.status_is, here.text_is)
+
+-- the status is yes only where the certificate is accepted
+yes_accepted : (verdict : HomologyVerdict) → verdict_status verdict ≡ Yes → verdict ≡ Accepted
+yes_accepted (Face face) e = cc
+yes_accepted (Edge low high) e = cc
+yes_accepted (Sum face) e = cc
+yes_accepted Zero e = cc
+yes_accepted Accepted e = refl
+
+-- what an accepted certificate shows
+shown_by : (mesh : FaceList) (first second bytes : List ℕ) (shown : HomologyCert) → SpellsPair mesh first second bytes
+    → IsVerdict mesh first second shown Accepted → ShownBy mesh first second shown
+shown_by mesh first second bytes (certificates.Chain lines) pair is = (face_number lines, is.1)
+shown_by mesh first second bytes (certificates.Cocycle lines) pair is = λ homologous.
+    refuted mesh (edge_number lines) first second pair.first_walk pair.second_walk is.1 is.2 homologous.0 homologous.1
+
+module _ (files : Option Files) (words : List (List ℕ)) (status : Status) (text : List ℕ)
+    (answered : (mesh walks certificate : List ℕ) → words ≡ codes "verify-homology" ∷ mesh ∷ walks ∷ certificate ∷ []
+    → AnswersTo files (verify_homology files mesh walks certificate) status text) where
+  judged_so : (mesh : FaceList) (first second : List ℕ) (shown : HomologyCert) → IsInput files words mesh first second shown
+      → (verdict : HomologyVerdict) × IsVerdict mesh first second shown verdict × (status ≡ verdict_status verdict)
+      × (text ≡ verdict_line verdict)
+  judged_so mesh first second shown input =
+      let a = answered input.mesh_name input.walks_name input.certificate_name input.words_are in
+      judged_end mesh first second shown a.outcome status text
+      (behind_files files words mesh first second shown a.outcome input a.is_outcome) a.is_answer
+
+  -- what is answered, where the words are answered by the check
+  pub homology_verified : IsHomologyVerified files words status text
+  homology_verified = record {
+    exactly = λ mesh first second shown verdict input is.
+        let a = (answered input.mesh_name input.walks_name input.certificate_name input.words_are).exact
+        (told_input files words mesh first second shown input) (Pass (verdict_answer verdict))
+        (judgement_outcome files words mesh first second shown (Pass (verdict_answer verdict)) input (verdict, refl, is)) in
+        (a.status_is, a.text_is);
+    judged = judged_so;
+    homologous = λ mesh first second shown input yes.
+        let told = judged_so mesh first second shown input in
+        let file = held files input.walks_name (SpellsPair mesh first second) input.walks_file in
+        shown_by mesh first second file.bytes shown file.holds
+        (subst (IsVerdict mesh first second shown) (yes_accepted told.0 (sym told.2 ∙ yes)) told.1);
+  }

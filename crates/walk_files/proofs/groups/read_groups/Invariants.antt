@@ -1,0 +1,19 @@
+use Rattle.std.proofs.Common.{◌≡◌, ◌≤◌, length}
+use Rattle.std.specs.Prelude.{[]}
+use Rattle.std.specs.List.{sum_by}
+use Rattle.surf_model.specs.Walks.{darts}
+use Rattle.walk_files.specs.WalkTexts.{walks_behind}
+use Rattle.walk_files.proofs.groups.read_groups.Given as goal
+
+-- the walks so far and the lines left are those of the text
+abbrev pub invariant-loop-line : goal.invariant-loop-line
+invariant-loop-line l = record {
+  walks : walks_behind [] l.fn.lines.lines ≡ walks_behind l.walks.walks l.lines.lines;
+  version : l.walks.version ≡ 2;
+  total : l.total ≡ sum_by darts l.walks.walks;
+  few : l.total ≤ 16000000;
+  count : length l.walks.walks ≤ 1000000;
+}
+
+abbrev pub decreases-loop-line : goal.decreases-loop-line
+decreases-loop-line l = length l.lines.lines

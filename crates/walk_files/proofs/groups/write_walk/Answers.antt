@@ -1,0 +1,76 @@
+use Rattle.std.proofs.Common.{◌≡◌, ◌+◌, ◌++◌, [], ◌∷◌, length, Ok, Err, inr, sym, ap, ◌∙◌, subst, arith}
+use Rattle.std.specs.Prelude.{None, Some}
+use Rattle.std.proofs.lemmas.Result.{err_from_is_err_and}
+use Rattle.walk_files.specs.LineReads.{rest_of, put_before, walk_on}
+use Rattle.walk_files.proofs.TokenLemmas.{rest_of-number, rest_of-open, room_left, put_before-twice, group_read}
+use Rattle.walk_files.proofs.groups.write_walk.Goals as goal
+
+pub loop-walk-preserved-in-Continue-branch-5 : goal.loop-walk-preserved-in-Continue-branch-5
+loop-walk-preserved-in-Continue-branch-5 c =
+    let so_far = c.loop-walk.invariant in
+    let line = c.args.line.now.number in
+    let next = c.in-Number.next in
+    let read = rw (c.in-Some.is, c.in-Number.is) at c.in_ok-token.ensures.token in
+    let left = rest_of line next None c.next.new.self.words in (
+      next,
+      record {
+        rest = so_far.1.rest
+            ∙ ap (put_before c.loop-walk.walk) (rest_of-number line so_far.0 next c.loop-walk.tokens.words c.next.new.self.words read.0)
+            ∙ put_before-twice c.loop-walk.walk (next ∷ []) left
+            ∙ ap (λ walk. put_before walk left) (sym c.in_ok-push-in-Number.ensures.ok);
+        line = c.in_ok-token.ensures.line ∙ so_far.1.line;
+      },
+    )
+
+pub write_group-requires : goal.write_group-requires
+write_group-requires c =
+    let so_far = c.loop-walk.invariant in
+    let line = c.args.line.now.number in
+    let read = rw (c.in-Some.is, c.in-Open.is) at c.in_ok-token.ensures.token in
+    let here = c.in_ok-token.ensures.line ∙ so_far.1.line in
+    let opened = rest_of-open line so_far.0 c.loop-walk.tokens.words c.next.new.self.words read.0 in
+    let left = room_left c.loop-walk.walk c.requires.0 (walk_on c.args.line.now) (rest_of line so_far.0 None c.loop-walk.tokens.words)
+    c.requires.1 so_far.1.rest in
+    record {
+      vertex = so_far.0;
+      rest = left.left;
+      rest_is = ap (λ n. rest_of n so_far.0 (Some []) c.next.new.self.words) here ∙ sym opened ∙ left.rest_is;
+      short = omega (arith, left.parts, c.requires.2);
+    }
+
+pub loop-walk-preserved : goal.loop-walk-preserved
+loop-walk-preserved c =
+    let so_far = c.loop-walk.invariant in
+    let line = c.args.line.now.number in
+    let read = rw (c.in-Some.is, c.in-Open.is) at c.in_ok-token.ensures.token in
+    let here = c.in_ok-token.ensures.line ∙ so_far.1.line in
+    let opened = rest_of-open line so_far.0 c.loop-walk.tokens.words c.next.new.self.words read.0 in
+    let left = room_left c.loop-walk.walk c.requires.0 (walk_on c.args.line.now) (rest_of line so_far.0 None c.loop-walk.tokens.words)
+    c.requires.1 so_far.1.rest in
+    let known = ap (λ n. rest_of n so_far.0 (Some []) c.next.new.self.words) here ∙ sym opened ∙ left.rest_is in
+    let group = c.in_ok-write_group-in-Open.ensures.written so_far.0 left.left known in
+    let behind = rest_of line so_far.0 None c.write_group.new.tokens.words in (
+      so_far.0,
+      record {
+        rest = so_far.1.rest
+            ∙ ap (put_before c.loop-walk.walk)
+            (opened ∙ group_read line c.next.new.self.line so_far.0 c.next.new.self.words c.write_group.new.tokens.words group.written here
+            group.rest)
+            ∙ put_before-twice c.loop-walk.walk group.written behind
+            ∙ ap (λ walk. put_before walk behind) (sym group.walk_is);
+        line = c.in_ok-write_group-in-Open.ensures.line ∙ here;
+      },
+    )
+
+pub returns-in_err-write_group-in-Open : goal.returns-in_err-write_group-in-Open
+returns-in_err-write_group-in-Open c =
+    let so_far = c.loop-walk.invariant in
+    let line = c.args.line.now.number in
+    let read = rw (c.in-Some.is, c.in-Open.is) at c.in_ok-token.ensures.token in
+    let here = c.in_ok-token.ensures.line ∙ so_far.1.line in
+    let opened = rest_of-open line so_far.0 c.loop-walk.tokens.words c.next.new.self.words read.0 in
+    let left = room_left c.loop-walk.walk c.requires.0 (walk_on c.args.line.now) (rest_of line so_far.0 None c.loop-walk.tokens.words)
+    c.requires.1 so_far.1.rest in
+    let known = ap (λ n. rest_of n so_far.0 (Some []) c.next.new.self.words) here ∙ sym opened ∙ left.rest_is in
+    let p = err_from_is_err_and c.from_residual-in_err-write_group-in-Open.result c.from_residual-in_err-write_group-in-Open.ensures.1 in
+    inr (p.1 ∙ ap Err (p.2 ∙ c.in_err-write_group-in-Open.ensures.written so_far.0 left.left known))

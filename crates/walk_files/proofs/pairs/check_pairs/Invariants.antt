@@ -1,0 +1,14 @@
+use Rattle.std.proofs.Common.{◌≡◌, ◌+◌, ◌*◌, drop}
+use Rattle.std.specs.Prelude.{None}
+use Rattle.surf_model.specs.FaceLists.{FaceList}
+use Rattle.surf_model.specs.Edges.{IsTableOf}
+use Rattle.walk_files.specs.Entries.{walks_fault}
+use Rattle.walk_files.specs.PairLists.{in_pairs, pairs_ends_fault}
+use Rattle.walk_files.proofs.pairs.check_pairs.Given as goal
+
+-- the first fault is that of the pairs that are left
+abbrev pub invariant-loop-k : goal.invariant-loop-k
+invariant-loop-k l =
+    (mesh : FaceList) → IsTableOf mesh l.sides
+    → (None ≡ walks_fault mesh l.walks.walks)
+    × (pairs_ends_fault 1 (in_pairs l.walks.walks) ≡ pairs_ends_fault (l.k + 1) (in_pairs (drop (2 * l.k) l.walks.walks)))

@@ -1,0 +1,14 @@
+use Rattle.std.proofs.Common.{◌≡◌, length}
+use Rattle.std.specs.Prelude.{is_some}
+use Rattle.text_scan.specs.Each.{each_some}
+use Rattle.walk_files.specs.WalkTexts.{token_of}
+use Rattle.walk_files.proofs.tokens.Tokens.no_walk.Given as goal
+
+-- the words so far are tokens
+abbrev pub invariant-loop-word : goal.invariant-loop-word
+invariant-loop-word l =
+    (is_some (each_some token_of l.fn.self.words) ≡ is_some (each_some token_of l.self.words))
+    × (l.self.line ≡ l.fn.self.line)
+
+abbrev pub decreases-loop-word : goal.decreases-loop-word
+decreases-loop-word l = length l.self.words
