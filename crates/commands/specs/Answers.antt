@@ -4,7 +4,9 @@ use Rattle.surf_model.specs.FaceLists.{FaceList}
 use Rattle.surf_model.specs.declared.chains.ChainLink.{ChainLink}
 use Rattle.orientation.specs.Chains.{IsOddChain}
 use Rattle.walk_translate.specs.declared.deciding.Answer as deciding
+use Rattle.homology.specs.declared.certificate.HomologyCert.{HomologyCert}
 use Rattle.commands.specs.Certificates.{Convinces, decision_of, certificate_text}
+use Rattle.commands.specs.HomologyCertificates.{HomologyAnswer, ShowsHomology, answer_in, homology_text}
 use Rattle.commands.specs.Lines.{odd_chain_line}
 use Rattle.commands.specs.declared.certificate.Certificate.{Certificate}
 use Rattle.commands.specs.declared.status.Status.{Status}
@@ -20,6 +22,8 @@ pub data Texts : Type 0 where
   OfOddChain : FaceList → Texts
   -- a certificate for two walks of the mesh and the decision on them, of any that convinces
   OfCertificate : FaceList → (first second : List ℕ) → deciding.Answer → Texts
+  -- the answer whether two walks of the mesh are homologous, and a certificate that shows it, of any
+  OfHomology : FaceList → (first second : List ℕ) → HomologyAnswer → Texts
 
 -- the text is one of them
 abbrev pub IsText : Texts → List ℕ → Type 0
@@ -28,6 +32,8 @@ IsText (Exactly wanted) text = text ≡ wanted
 IsText (OfOddChain mesh) text = (chain : List ChainLink) × IsOddChain mesh chain × (text ≡ odd_chain_line chain)
 IsText (OfCertificate mesh first second decision) text =
     (shown : Certificate) × Convinces mesh first second shown × (decision_of shown ≡ decision) × (text ≡ certificate_text shown)
+IsText (OfHomology mesh first second answer) text =
+    (shown : HomologyCert) × ShowsHomology mesh first second shown × (answer_in shown ≡ answer) × (text ≡ homology_text shown)
 
 -- what is answered where nothing is refused
 pub record Answer : Type 0 where
