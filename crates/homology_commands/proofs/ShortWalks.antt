@@ -1,21 +1,22 @@
 -- How long the walks of a file are.
-use Rattle.std.proofs.Common.{◌≡◌, ◌⊎◌, inl, inr, ℕ, ◌+◌, ◌≤◌, Bool, true, false, List, [], ◌∷◌, length, get_or, refl, ap, sym, ◌∙◌, subst, arith}
-use Rattle.std.specs.Prelude.{All, nat_le, nat_lt, if◌then◌else◌, Option, Some, None, Result, Ok, Err}
-use Rattle.std.specs.List.{enumerate_from}
+use Rattle.std.proofs.Common.{◌≡◌, ◌⊎◌, inl, inr, ℕ, ◌+◌, ◌≤◌, Bool, true, false, List, [], ◌∷◌, ◌++◌, length, get_or, drop, refl, ap, sym, ◌∙◌, subst, arith}
+use Rattle.std.specs.Prelude.{All, nat_le, nat_lt, ◌||◌, if◌then◌else◌, Option, Some, None, Result, Ok, Err}
+use Rattle.std.specs.List.{enumerate_from, sum_by}
 use Rattle.std.specs.Option.{ok_or}
 use Rattle.std.proofs.lemmas.Bool.{ltb-false}
-use Rattle.std.proofs.lemmas.List.Elements.{All-cons, All-nil}
+use Rattle.std.proofs.lemmas.List.Elements.{All-cons, All-nil, All-push}
 use Rattle.surf_io.specs.Files.{Files}
 use Rattle.surf_model.specs.FaceLists.{FaceList}
 use Rattle.surf_model.specs.Walks.{darts}
 use Rattle.text_scan.specs.Each.{each_ok, each_some, ok_first, some_first}
 use Rattle.text_scan.specs.Lines.{Line, full_lines}
 use Rattle.text_scan.specs.Numbers.{number_of}
-use Rattle.walk_files.specs.NumberTexts.{line_of_numbers, numbers_on, walk_of, walks_of}
+use Rattle.walk_files.specs.NumberTexts.{line_of_numbers, numbers_on, plain_walks_of, walk_of}
 use Rattle.walk_files.specs.Pairs.{pair_fault}
+use Rattle.walk_files.specs.WalkTexts.{has_header, in_version, read_tokens, token_of, walk_of_line, walks_behind, walks_in, walks_of, within_limits, written_out}
 use Rattle.walk_files.specs.declared.fault.WalkFault.{WalkFault}
 use Rattle.walk_files.specs.declared.fault.WalkFault.TheVariants.{BadNumber, TooLong, TooMany}
-use Rattle.walk_files.specs.declared.limits.TheConstants.{MOST_LINES, MOST_WALK_VERTICES}
+use Rattle.walk_files.specs.declared.limits.TheConstants.{MOST_DARTS, MOST_LINES, MOST_WALK_DARTS, MOST_WALK_VERTICES}
 use Rattle.walk_files.specs.declared.pair.PairFault.{PairFault}
 use Rattle.commands.specs.Checks.{Passes, meant, pass_unless, ◌>>=◌}
 use Rattle.commands.specs.Inputs.{pair_in, walk_at}
@@ -74,6 +75,68 @@ short_lines (p ∷ lines) walks e =
         let same : walk ∷ rest ≡ walks = cc in
         subst (All IsShort) same (All-cons IsShort walk rest (one walk refl) (more rest refl))
 
+-- ---- a text of version 2
+
+within_short : (line total : ℕ) (read : Result (List ℕ) WalkFault) (walk : List ℕ) → within_limits line total read ≡ Ok walk → IsShort walk
+within_short line total (Err fault) walk e = cc
+within_short line total (Ok read) walk e = by_long (nat_lt MOST_WALK_DARTS (darts read)) refl e
+  where
+    by_all : (b : Bool) → nat_lt MOST_WALK_DARTS (darts read) ≡ false → (if b then Err (TooLong line) else Ok read) ≡ Ok walk → IsShort walk
+    by_all true f h = cc
+    by_all false f h =
+        let same : read ≡ walk = cc in
+        subst IsShort same (omega (arith, ltb-false MOST_WALK_DARTS (darts read) f))
+
+    by_long : (b : Bool) → nat_lt MOST_WALK_DARTS (darts read) ≡ b
+        → (if b || nat_lt MOST_DARTS (total + darts read) then Err (TooLong line) else Ok read) ≡ Ok walk → IsShort walk
+    by_long true f h = cc
+    by_long false f h = by_all (nat_lt MOST_DARTS (total + darts read)) f h
+
+short_of_line : (before total : ℕ) (line : Line) (walk : List ℕ) → walk_of_line before total line ≡ Ok walk → IsShort walk
+short_of_line before total line walk e = by_many (nat_le MOST_LINES before) e
+  where
+    read : Result (List ℕ) WalkFault
+    read = read_tokens written_out line.number (each_some token_of line.words)
+
+    by_many : (b : Bool) → (if b then Err (TooMany line.number) else within_limits line.number total read) ≡ Ok walk → IsShort walk
+    by_many true h = cc
+    by_many false h = within_short line.number total read walk h
+
+short_behind : (lines : List Line) (before walks : List (List ℕ)) → All IsShort before → walks_behind before lines ≡ Ok walks
+    → All IsShort walks
+short_behind [] before walks short e = let same : before ≡ walks = cc in subst (All IsShort) same short
+short_behind (line ∷ lines) before walks short e =
+    by_line (walk_of_line (length before) (sum_by darts before) line) refl
+    (λ walk short h. short_behind lines (before ++ walk ∷ []) walks short h)
+  where
+    by_line : (r : Result (List ℕ) WalkFault) → walk_of_line (length before) (sum_by darts before) line ≡ r
+        → ((walk : List ℕ) → All IsShort (before ++ walk ∷ []) → walks_behind (before ++ walk ∷ []) lines ≡ Ok walks → All IsShort walks)
+        → All IsShort walks
+    by_line (Err fault) f more = let h = rw f at e in cc
+    by_line (Ok walk) f more =
+        more walk (All-push IsShort before walk short (short_of_line (length before) (sum_by darts before) line walk f)) (rw f at e)
+
+-- ---- a text of either version
+
+versioned : (version : ℕ) (read : Result (List (List ℕ)) WalkFault) (walks : List (List ℕ))
+    → ((all : List (List ℕ)) → read ≡ Ok all → All IsShort all) → walks_in (in_version version read) ≡ Ok walks → All IsShort walks
+versioned version (Err fault) walks short h = cc
+versioned version (Ok all) walks short h = let same : all ≡ walks = cc in subst (All IsShort) same (short all refl)
+
+short_text : (text : List ℕ) (walks : List (List ℕ)) → walks_of text ≡ Ok walks → All IsShort walks
+short_text text walks e = by_header (has_header lines) e
+  where
+    lines : List Line
+    lines = full_lines text
+
+    by_header : (b : Bool)
+        → walks_in (if b then in_version 2 (walks_behind [] (drop 1 lines)) else in_version 1 (plain_walks_of lines)) ≡ Ok walks
+        → All IsShort walks
+    by_header true h =
+        versioned 2 (walks_behind [] (drop 1 lines)) walks
+        (λ all f. short_behind (drop 1 lines) [] all (All-nil IsShort) f) h
+    by_header false h = versioned 1 (plain_walks_of lines) walks (λ all f. short_lines (enumerate_from 0 lines) all f) h
+
 -- the walks that a file passes
 short_among : (mesh : FaceList) (read : Result (List (List ℕ)) WalkFault) (walks : List (List ℕ))
     → ((all : List (List ℕ)) → read ≡ Ok all → All IsShort all)
@@ -97,8 +160,7 @@ pub few_darts : (held : Option Files) (name : List ℕ) (mesh : FaceList) (walks
 few_darts held name mesh walks (inl p) two = let e = p.2 in cc
 few_darts held name mesh walks (inr p) two =
     let short : All IsShort walks =
-    short_among mesh (walks_of p.0) walks
-    (λ all e. short_lines (enumerate_from 0 (full_lines p.0)) all e) p.2 in
+    short_among mesh (walks_of p.0) walks (λ all e. short_text p.0 all e) p.2 in
     let first : IsShort (get_or walks 0 []) = short 0 [] (omega (arith, two)) in
     let second : IsShort (get_or walks 1 []) = short 1 [] (omega (arith, two)) in
     omega (arith, first, second)

@@ -40,20 +40,20 @@ pub at-requires : goal.at-requires
 at-requires g c =
     let surface = c.in_ok-surface.surface in
     let table : IsTableOf surface.faces surface.sides = c.in_ok-surface.ensures.signed.table in
-    omega (arith, two_walks _ _ surface.faces c.in_ok-pair.pair (c.in_ok-pair.ensures.reads.end surface.faces table))
+    omega (arith, two_walks _ _ surface.faces c.in_ok-pair.pair.walks (c.in_ok-pair.ensures.reads.end surface.faces table))
 
 pub at-requires-2 : goal.at-requires-2
 at-requires-2 g c =
     let surface = c.in_ok-surface.surface in
     let table : IsTableOf surface.faces surface.sides = c.in_ok-surface.ensures.signed.table in
-    omega (arith, two_walks _ _ surface.faces c.in_ok-pair.pair (c.in_ok-pair.ensures.reads.end surface.faces table))
+    omega (arith, two_walks _ _ surface.faces c.in_ok-pair.pair.walks (c.in_ok-pair.ensures.reads.end surface.faces table))
 
 -- what is known of the two walks
 walks : (g : _) (c : goal.After-at-2 g) → AreWalks c.in_ok-surface.surface.faces c.at.result.now c.at-2.result.now
 walks g c =
     let surface = c.in_ok-surface.surface in
     let table : IsTableOf surface.faces surface.sides = c.in_ok-surface.ensures.signed.table in
-    walks_of_pair surface.faces c.in_ok-pair.pair c.at.result.now c.at-2.result.now (c.in_ok-pair.ensures.pair surface.faces table)
+    walks_of_pair surface.faces c.in_ok-pair.pair.walks c.at.result.now c.at-2.result.now (c.in_ok-pair.ensures.pair surface.faces table)
     c.at.ensures c.at-2.ensures
 
 pub find_certificate-requires-clause-first : goal.find_certificate-requires-clause-first
@@ -68,7 +68,7 @@ find_certificate-requires-clause-ends g c = (walks g c).ends
 pub find_certificate-requires-clause-few : goal.find_certificate-requires-clause-few
 find_certificate-requires-clause-few g c =
     let surface = c.in_ok-surface.surface in
-    let pair = c.in_ok-pair.pair in
+    let pair = c.in_ok-pair.pair.walks in
     let table : IsTableOf surface.faces surface.sides = c.in_ok-surface.ensures.signed.table in
     let passed = c.in_ok-pair.ensures.reads.end surface.faces table in
     let first : c.at.result.now ≡ walk_at pair 0 = sym (get_or_from_slice_get pair 0 c.at.result.now _ c.at.ensures) in
@@ -92,7 +92,7 @@ pub returns : goal.returns
 returns g c =
     let held = g.S.Shelf.held in
     let surface = c.in_ok-surface.surface in
-    let pair = c.in_ok-pair.pair in
+    let pair = c.in_ok-pair.pair.walks in
     let shown = c.in_ok-shown.shown in
     let read = c.in_ok-surface.ensures.reads in
     let table : IsTableOf surface.faces surface.sides = c.in_ok-surface.ensures.signed.table in
