@@ -98,8 +98,11 @@ returns g c =
     let table : IsTableOf surface.faces surface.sides = c.in_ok-surface.ensures.signed.table in
     let first : c.at.result.now ≡ walk_at pair 0 = sym (get_or_from_slice_get pair 0 c.at.result.now _ c.at.ensures) in
     let second : c.at-2.result.now ≡ walk_at pair 1 = sym (get_or_from_slice_get pair 1 c.at-2.result.now _ c.at-2.ensures) in
-    let one : IsWalk surface.faces (walk_at pair 0) = subst (IsWalk surface.faces) first (walks g c).first_walk in
-    let two : IsWalk surface.faces (walk_at pair 1) = subst (IsWalk surface.faces) second (walks g c).second_walk in
+    let known : AreWalks surface.faces c.at.result.now c.at-2.result.now =
+    walks_of_pair surface.faces pair c.at.result.now c.at-2.result.now (c.in_ok-pair.ensures.pair surface.faces table) c.at.ensures
+    c.at-2.ensures in
+    let one : IsWalk surface.faces (walk_at pair 0) = subst (IsWalk surface.faces) first known.first_walk in
+    let two : IsWalk surface.faces (walk_at pair 1) = subst (IsWalk surface.faces) second known.second_walk in
     let is : ShowsHomology surface.faces (walk_at pair 0) (walk_at pair 1) shown =
     subst (λ (w : List ℕ). ShowsHomology surface.faces (walk_at pair 0) w shown) second
     (subst (λ (w : List ℕ). ShowsHomology surface.faces w c.at-2.result.now shown) first c.in_ok-shown.ensures) in
