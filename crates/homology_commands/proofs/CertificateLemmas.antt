@@ -1,22 +1,22 @@
 -- What was found of two walks on their component, listed, shows the same of them on the whole mesh.
-use Rattle.std.proofs.Common.{◌≡◌, ◌↔◌, inl, inr, ℕ, ◌+◌, ◌<◌, ◌≤◌, true, false, List, length, get_or, refl, ap, ap₂, sym, ◌∙◌, subst, arith, ℤ, pos}
-use Rattle.std.specs.Prelude.{All, filter}
+use Rattle.std.proofs.Common.{◌≡◌, ◌↔◌, inl, inr, ℕ, ◌<◌, ◌≤◌, true, false, List, length, get_or, refl, ap, ap₂, sym, ◌∙◌, subst, arith, ℤ, pos}
+use Rattle.std.specs.Prelude.{All}
 use Rattle.std.specs.List.{range_with_len}
 use Rattle.std.proofs.lemmas.Bool.{cases_lt}
 use Rattle.std.proofs.lemmas.List.{get_or_past}
 use Rattle.std.proofs.lemmas.List.Elements.{filter_passes}
 use Rattle.surf_model.specs.FaceLists.{FaceList, is_edge}
 use Rattle.surf_model.specs.Edges.{IsTableOf, edge_in}
-use Rattle.surf_model.specs.Walks.{IsWalk, darts}
+use Rattle.surf_model.specs.Walks.{IsWalk}
 use Rattle.surf_model.proofs.LinkLemmas.{Linked, links}
 use Rattle.surf_model.proofs.TableEdgeLemmas.{IsEdgeBetween, edge_between, same_pair, table_pair}
-use Rattle.manifold_check.specs.ComponentParts.{component_at, component_mesh}
+use Rattle.manifold_check.specs.ComponentParts.{component_at}
 use Rattle.manifold_check.proofs.PartPieces.{IsOfComponent, piece_of_parts}
 use Rattle.manifold_check.proofs.PieceLemmas.{IsPiece, edge_up, length-submesh}
 use Rattle.halfedge_map.specs.OrientedMeshes.{OrientedMesh}
 use Rattle.homology.specs.Certificates.{AreFaceNumbers, AreEdgeNumbers, face_number, edge_number}
 use Rattle.homology.specs.Chains.{AreHomologous, IsChain}
-use Rattle.homology.specs.Cocycles.{IsCocycle, Separates}
+use Rattle.homology.specs.Cocycles.{IsCocycle}
 use Rattle.homology.specs.Tallies.{number_at}
 use Rattle.homology.specs.Verdicts.{HasFace, HasEdge}
 use Rattle.homology.specs.declared.certificate.EdgeNumber.{EdgeNumber}
@@ -30,8 +30,7 @@ use Rattle.commands.specs.ClosedSurfaces.{IsComponentOf, IsPart, surface_of}
 use Rattle.commands.specs.HomologyCertificates.{Homologous, NotHomologous, ShowsHomology, answer_in}
 use Rattle.commands.specs.declared.component.Component.{Component}
 use Rattle.commands.specs.declared.component.Component.TheVariants.{Whole, Alone}
-use Rattle.commands.specs.declared.component.Part.{Part}
-use Rattle.homology_commands.specs.Listings.{IsNamed, ListsFaces, IsAmong, RunsBetween, ListsEdges, name_in}
+use Rattle.homology_commands.specs.Listings.{IsNamed, ListsFaces, IsAmong, ListsEdges, name_in}
 use Rattle.homology_commands.proofs.PieceChains.{chain_alike, chain_widened}
 use Rattle.homology_commands.proofs.PieceCocycles.{IsWidened, cocycle_alike, cocycle_widened, separates_widened}
 

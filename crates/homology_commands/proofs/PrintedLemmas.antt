@@ -1,5 +1,5 @@
 -- What `homology` prints spells its certificate again, and `verify-homology` accepts it.
-use Rattle.std.proofs.Common.{◌≡◌, ℕ, ◌≤◌, List, length, refl, ap, sym, ◌∙◌, subst}
+use Rattle.std.proofs.Common.{◌≡◌, ℕ, ◌≤◌, List, length, refl, ap, ◌∙◌}
 use Rattle.std.specs.Prelude.{◌++◌, Ok, Option, Some, None, IsSomeAnd}
 use Rattle.surf_io.specs.Files.{Files, file_of}
 use Rattle.surf_model.specs.FaceLists.{FaceList}

@@ -1,6 +1,6 @@
-use Rattle.std.proofs.Common.{◌≡◌, ℕ, List, ℤ, length, sym, ap, ◌∙◌, subst, arith}
-use Rattle.surf_model.specs.Edges.{Edge, IsTableOf}
-use Rattle.halfedge_map.specs.OrientedMeshes.{OrientedMesh, IsOrientedSurface}
+use Rattle.std.proofs.Common.{length, sym, ap, ◌∙◌, subst, arith}
+use Rattle.surf_model.specs.Edges.{IsTableOf}
+use Rattle.halfedge_map.specs.OrientedMeshes.{OrientedMesh}
 use Rattle.homology.specs.Tallies.{number_at}
 use Rattle.homology.specs.declared.certificate.TheConstants.{MOST_NUMBER}
 use Rattle.homology.proofs.ChainVerdictLemmas.{within_more}

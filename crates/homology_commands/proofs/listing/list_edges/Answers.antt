@@ -1,4 +1,4 @@
-use Rattle.std.proofs.Common.{◌≡◌, ℕ, ◌<◌, ◌≤◌, ◌^◌, List, [], length, get_or, sym, ap, ◌∙◌, subst, arith, ℤ, pos, to_z, of_z, w64}
+use Rattle.std.proofs.Common.{◌≡◌, ℕ, ◌<◌, ◌≤◌, List, length, sym, ap, ◌∙◌, subst, arith, ℤ, pos, to_z, of_z, w64}
 use Rattle.std.specs.Prelude.{All, unsigned_abs}
 use Rattle.std.proofs.lemmas.Option.{get_or_from_slice_get}
 use Rattle.surf_model.specs.Edges.{Edge, IsPairBefore, edge_in}

@@ -1,4 +1,4 @@
-use Rattle.std.proofs.Common.{◌≡◌, ℕ, List, get_or, sym, ap₂, subst, arith, ◌+◌, ◌≤◌}
+use Rattle.std.proofs.Common.{◌≡◌, ℕ, List, sym, ap₂, subst, arith, ◌+◌}
 use Rattle.std.specs.Prelude.{Option}
 use Rattle.std.proofs.lemmas.Option.{get_or_from_slice_get}
 use Rattle.std.proofs.lemmas.Result.{err_from_is_err_and}
@@ -8,7 +8,6 @@ use Rattle.surf_model.specs.Walks.{IsWalk, darts}
 use Rattle.commands.specs.Checks.{Passes}
 use Rattle.commands.specs.HomologyCertificates.{ShowsHomology, answer_in}
 use Rattle.commands.specs.Inputs.{pair_in, walk_at}
-use Rattle.commands.specs.Replies.{IsReplyTo}
 use Rattle.commands.specs.Stops.{Stops}
 use Rattle.commands.specs.declared.stop.Stop.TheVariants.{OutOfMemory}
 use Rattle.commands.proofs.Checking.{two_walks}
