@@ -14,30 +14,7 @@ use Rattle.surf_model.proofs.ReplacementLemmas.{by_replacing}
 use Rattle.surf_model.proofs.ContextLemmas.{first_answer, one_after_another, stays_walk}
 use Rattle.surf_model.proofs.WayBackLemmas.{keeps_walk, undone, list_undone}
 use Rattle.free_forms.specs.PeakedLists.{LeadsAtPeak, IsWithin, IsMoveOf}
-use Rattle.free_forms.proofs.PeakLemmas.{greatest_darts-more, greatest_darts-none, greatest_darts-push}
-
-greatest_darts-first : (mesh : FaceList) (walk : List ℕ) (moves : List Move) → darts walk ≤ greatest_darts mesh walk moves
-unfolding greatest_darts
-greatest_darts-first mesh walk [] = omega arith
-greatest_darts-first mesh walk (move ∷ moves) = omega arith
-
--- lists of moves one after another
-greatest_darts-append : (mesh : FaceList) (moves others : List Move) (first walk : List ℕ) → apply_all mesh first moves ≡ Some walk
-    → greatest_darts mesh first (moves ++ others) ≡ max (greatest_darts mesh first moves) (greatest_darts mesh walk others)
-greatest_darts-append mesh [] others first walk e =
-    let same : walk ≡ first = cc in
-    let last : greatest_darts mesh walk others ≡ greatest_darts mesh first others =
-    ap (λ (w : List ℕ). greatest_darts mesh w others) same in
-    omega (arith, last, greatest_darts-none mesh first, greatest_darts-first mesh first others)
-greatest_darts-append mesh (move ∷ moves) others first walk e =
-    let told = first_answer (λ x. apply_all mesh x moves) (apply mesh first move) walk e in
-    let rest = greatest_darts-append mesh moves others told.0 walk told.2 in
-    omega (
-      arith,
-      rest,
-      greatest_darts-more mesh first told.0 move moves told.1,
-      greatest_darts-more mesh first told.0 move (moves ++ others) told.1,
-    )
+use Rattle.common_ends.proofs.PeakLemmas.{greatest_darts-more, greatest_darts-none, greatest_darts-push, greatest_both}
 
 -- the way back passes the same walks
 greatest_darts-back : (mesh : FaceList) (moves : List Move) (walk next : List ℕ) → IsWalk mesh walk → apply_all mesh walk moves ≡ Some next
@@ -120,7 +97,7 @@ there_and_back_leads mesh first second one two list others whole is_walk h k sam
     ap (λ (w : List ℕ). greatest_darts mesh w (way_back mesh others.moves)) same
     ∙ greatest_darts-back mesh others.moves second two is_walk k.leads in
     let all : greatest_darts mesh first (list.moves ++ way_back mesh others.moves) ≡ max list.peak others.peak =
-    omega (arith, greatest_darts-append mesh list.moves (way_back mesh others.moves) first one h.leads, passed, h.peak, k.peak) in
+    omega (arith, greatest_both mesh list.moves (way_back mesh others.moves) first one h.leads, passed, h.peak, k.peak) in
     let whole_is : greatest_darts mesh first whole.moves ≡ max list.peak others.peak = ap (greatest_darts mesh first) moves ∙ all in
     record {
       leads =

@@ -5,7 +5,6 @@ pub mod EdgeCountLemmas
 pub mod FaultLemmas
 pub mod SearchLemmas
 pub mod ReachLemmas
-pub mod PeakLemmas
 pub mod StepLemmas
 pub mod ParentEdgeLemmas
 pub mod ExpandLemmas
@@ -13,4 +12,5 @@ pub mod BackLemmas
 pub mod OnceLemmas
 pub mod WeightLemmas
 pub mod CostLemmas
+pub mod AroundLemmas
 pub mod OutcomeLemmas

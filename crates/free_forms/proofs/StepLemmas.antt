@@ -18,7 +18,7 @@ use Rattle.free_forms.specs.PeakedLists.{LeadsAtPeak}
 use Rattle.free_forms.specs.Reductions.{ReductionView, settled, whole, IsTaken, StepsBack, StepsOn, SkipsSpur, Expands, IsWayAlong, IsStep}
 use Rattle.free_forms.proofs.Actions.{run, run-append, corners_beyond, after_back}
 use Rattle.free_forms.proofs.Expansions.{act_fully, acting, by_face, parent_face_of, acts_by_base, acts_by_expansion, IsFound, expansion_ends, from_tail, from_head, parent_in_mesh}
-use Rattle.free_forms.proofs.PeakLemmas.{one_more}
+use Rattle.common_ends.proofs.PeakLemmas.{one_more}
 use Rattle.surf_model.proofs.EdgeLemmas.{ends_differ}
 
 -- how much is to come: each dart counts as many as its expansion comes to, and one more if it has one

@@ -1,15 +1,10 @@
--- Lists of moves that lead from a walk to a walk, with their peaks.
-use Rattle.std.specs.Prelude.{◌≡◌, ℕ, ◌<◌, ◌≤◌, List, length}
+-- Lists of moves that lead from a walk to a walk, with their peaks; lists that are no longer than so much, and moves that fit a mesh.
+pub use Rattle.common_ends.specs.PeakedLists.{LeadsAtPeak}
+use Rattle.std.specs.Prelude.{ℕ, ◌<◌, ◌≤◌, length}
 use Rattle.surf_model.specs.FaceLists.{FaceList, face_at}
-use Rattle.surf_model.specs.Moves.{PeakedMoves, Leads, greatest_darts}
+use Rattle.surf_model.specs.Moves.{PeakedMoves}
 use Rattle.surf_model.specs.declared.moves.Move.{Move}
 use Rattle.surf_model.specs.declared.moves.Move.TheVariants.{Insert, Remove, Across}
-
--- The moves lead from the first walk to the second, and the peak is the greatest number of darts among the walks that they pass, both
--- included.
-pub record LeadsAtPeak (mesh : FaceList) (first : List ℕ) (list : PeakedMoves) (second : List ℕ) : Type 0 where
-  pub leads : Leads mesh first list.moves second
-  pub peak : list.peak ≡ greatest_darts mesh first list.moves
 
 -- the moves are no more than n, and neither is the peak
 pub record IsWithin (n : ℕ) (list : PeakedMoves) : Type 0 where

@@ -9,8 +9,9 @@ use Rattle.surf_model.specs.declared.names.VertexName.{VertexName}
 use Rattle.polygon_cut.specs.SpokeLoops.{backward}
 use Rattle.polygon_cut.proofs.WayLemmas.{IsWay, back, start_used}
 use Rattle.polygon_cut.proofs.WalkLemmas.{walk_way}
+use Rattle.common_ends.proofs.TrimLemmas.{last_entry}
 use Rattle.move_lifting.specs.Tracks.{last_of}
-use Rattle.move_lifting.proofs.ExpandLemmas.{last_entry, one_pending, length-numbers}
+use Rattle.move_lifting.proofs.ExpandLemmas.{one_pending, length-numbers}
 
 last-more : (u w : ℕ) (xs : List ℕ) → last_of (u ∷ w ∷ xs) ≡ last_of (w ∷ xs)
 last-more u w xs =

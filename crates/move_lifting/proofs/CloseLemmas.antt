@@ -1,35 +1,16 @@
 -- The second walk comes behind the first, backward and forward.
-use Rattle.std.proofs.Common.{◌≡◌, ℕ, ◌+◌, ◌-◌, ◌<◌, ◌≤◌, max, true, List, [], ◌∷◌, ◌++◌, length, take, drop, get_or, refl, ap, sym, ◌∙◌, subst, arith, append_assoc, length-append}
-use Rattle.std.specs.Prelude.{Some}
+use Rattle.std.proofs.Common.{◌≡◌, ℕ, ◌+◌, ◌-◌, ◌<◌, ◌≤◌, max, true, List, [], ◌∷◌, ◌++◌, length, take, drop, get_or, ap, sym, ◌∙◌, subst, arith, append_assoc, length-append}
 use Rattle.std.proofs.lemmas.List.{drop_more, drop_all, append-nil, length-drop}
 use Rattle.surf_model.specs.FaceLists.{FaceList, is_edge}
 use Rattle.surf_model.specs.Walks.{IsWalk, darts}
-use Rattle.surf_model.specs.Moves.{PeakedMoves, apply}
+use Rattle.surf_model.specs.Moves.{PeakedMoves}
 use Rattle.surf_model.specs.declared.moves.Move.TheVariants.{Insert}
 use Rattle.surf_model.specs.declared.names.VertexName.{VertexName}
-use Rattle.surf_model.proofs.ReplacementLemmas.{by_replacing}
 use Rattle.surf_model.proofs.EdgeLemmas.{edge_swap}
+use Rattle.common_ends.proofs.PeakLemmas.{one_more, spur_comes}
+use Rattle.common_ends.proofs.TrimLemmas.{last_entry}
 use Rattle.move_lifting.specs.Lifts.{LeadsAtPeak}
 use Rattle.move_lifting.specs.Tracks.{last_of}
-use Rattle.move_lifting.proofs.MoveLemmas.{one_more}
-use Rattle.move_lifting.proofs.ExpandLemmas.{last_entry}
-
--- a spur comes in
-pub spur_comes : (mesh : FaceList) (front rest : List ℕ) (here : ℕ) (via : VertexName) → is_edge mesh here via.0 ≡ true
-    → apply mesh (front ++ here ∷ rest) (Insert (length front) via) ≡ Some (front ++ here ∷ via.0 ∷ here ∷ rest)
-spur_comes mesh front rest here via edge =
-    let some : 0 < length (front ++ here ∷ rest) = rw length-append (omega arith) in
-    (by_replacing mesh (front ++ here ∷ rest) (front ++ here ∷ via.0 ∷ here ∷ rest) (Insert (length front) via) some).1
-    (record {
-      before = front;
-      part = here ∷ [];
-      other = here ∷ via.0 ∷ here ∷ [];
-      after = rest;
-      walk_is = sym (append_assoc front (here ∷ []) rest);
-      next_is = sym (append_assoc front (here ∷ via.0 ∷ here ∷ []) rest);
-      place = refl;
-      replaces = (here, edge, refl, refl);
-    })
 
 -- one dart back along a walk, from the place after `place`
 pub goes_on_back : (mesh : FaceList) (first out second : List ℕ) (place : ℕ) (via : VertexName) (list more : PeakedMoves)

@@ -18,20 +18,18 @@ use Rattle.halfedge_map.specs.DartMaps.{darts_of, edge_of}
 use Rattle.halfedge_map.specs.RotationSystems.{rotations_of, IsDartFrom}
 use Rattle.halfedge_map.proofs.EdgeLemmas.{dart_between}
 use Rattle.tree_cotree.specs.Splits.{SplitView, IsSplit, in_cotree}
+use Rattle.common_ends.proofs.PeakLemmas.{one_more, leads_nowhere}
+use Rattle.common_ends.proofs.TrimLemmas.{last_entry}
 use Rattle.move_lifting.specs.Lifts.{LeadsAtPeak, AvoidsCotree, MoreRemove, MoreLeaveCotree}
 use Rattle.move_lifting.specs.Tracks.{TrackView, GoesOn, GrowsOrShrinks, last_of}
 use Rattle.move_lifting.specs.Crossings.{beyond, IsFaceBelow, IsCrossed}
 use Rattle.move_lifting.specs.declared.crossing.FaceStep.{FaceStep}
 use Rattle.move_lifting.proofs.LeavingLemmas.{none_leave, leave_on, removed_leave, crossed_leaves}
-use Rattle.move_lifting.proofs.ListLemmas.{front_and_last, read_on, one_no_spur}
-use Rattle.move_lifting.proofs.MoveLemmas.{one_more, leads_nowhere}
+use Rattle.move_lifting.proofs.ListLemmas.{read_on, one_no_spur}
 use Rattle.move_lifting.proofs.RoundLemmas.{before-from, rest_turned, rest_ends}
 use Rattle.move_lifting.proofs.RestLemmas.{load, load-join, load_long, pair_weight, pair_positive, pair_most, rest_falls}
 
--- a walk with a last entry
-pub last_entry : (walk : List ℕ) → 0 < length walk → walk ≡ take (length walk - 1) walk ++ last_of walk ∷ []
-last_entry walk some = front_and_last walk (length walk - 1) (omega arith)
-
+-- the last entry of a walk that is put on
 pub last-push : (front : List ℕ) (v : ℕ) → last_of (front ++ v ∷ []) ≡ v
 last-push front v =
     let at : length (front ++ v ∷ []) - 1 ≡ length front + 0 = omega (arith, length-append front (v ∷ [])) in

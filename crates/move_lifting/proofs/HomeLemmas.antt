@@ -40,9 +40,9 @@ use Rattle.spoke_paths.specs.Path_steps.{PathLeads}
 use Rattle.spoke_paths.specs.Reduced_words.{IsReduced}
 use Rattle.spoke_paths.specs.declared.step.PathStep.{PathStep}
 use Rattle.spoke_paths.proofs.Leaving_nothing.{turns-leave, flat-leave}
+use Rattle.common_ends.proofs.TrimLemmas.{last_entry}
 use Rattle.move_lifting.specs.LoopsPutIn.{IsFreelyPath}
 use Rattle.move_lifting.specs.Tracks.{last_of}
-use Rattle.move_lifting.proofs.ExpandLemmas.{last_entry}
 
 -- spokes that lead two states to one lead from one
 led_apart : {State : Type 0} (places : List ℕ) (next : List ℕ → State → ℕ → State) (Belongs IsAtVertex : State → Type 0)

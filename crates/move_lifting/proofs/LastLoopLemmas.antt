@@ -34,12 +34,12 @@ use Rattle.polygon_cut.proofs.FreeLawLemmas.{backward_is, side_in, led_round, le
 use Rattle.polygon_cut.proofs.FreeProductLemmas.{end_of}
 use Rattle.polygon_cut.proofs.FreeRoundLemmas.{read_back}
 use Rattle.polygon_cut.proofs.WayLemmas.{back}
+use Rattle.common_ends.proofs.PeakLemmas.{leads_nowhere, one_more}
 use Rattle.move_lifting.specs.Crossings.{IsStepOf, IsStepFrom}
 use Rattle.move_lifting.specs.Lifts.{LeadsAtPeak, MoreLeaveCotree, AvoidsCotree}
 use Rattle.move_lifting.specs.LoopsPutIn.{signed_loop}
 use Rattle.move_lifting.specs.Tracks.{TrackView}
 use Rattle.move_lifting.specs.declared.crossing.FaceStep.{FaceStep}
-use Rattle.move_lifting.proofs.MoveLemmas.{leads_nowhere, one_more}
 
 -- the step from where a dart starts, from the side that the dart is
 pub step_is_from : (s : OrientedMesh) (d : ℕ) (side : Side) (back flipped : Bool) (step : FaceStep) → IsSide s.mesh side

@@ -28,4 +28,3 @@ pub mod TreeUpLemmas
 pub mod ApproachLemmas
 pub mod FrontLemmas
 pub mod LoopInLemmas
-pub mod TrimLemmas

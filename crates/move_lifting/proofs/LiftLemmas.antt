@@ -18,6 +18,8 @@ use Rattle.polygon_cut.specs.Polygons.{PolygonView, IsCutFrom}
 use Rattle.polygon_cut.specs.SpokeLoops.{spokes_along}
 use Rattle.quad_system.proofs.FreePathLemmas.{free_walk_below}
 use Rattle.spoke_paths.specs.Path_steps.{PathLeads}
+use Rattle.common_ends.proofs.PeakLemmas.{leads_nowhere}
+use Rattle.common_ends.proofs.TrimLemmas.{walk_front}
 use Rattle.move_lifting.specs.Contractions.{IsLedFrom, LeavesNothing}
 use Rattle.move_lifting.specs.LoopsPutIn.{IsFreelyPath}
 use Rattle.move_lifting.specs.Reductions.{IsReductionOf}
@@ -26,9 +28,8 @@ use Rattle.move_lifting.proofs.HomeLemmas.{nothing_is_left}
 use Rattle.move_lifting.proofs.StartLemmas.{starts_freely}
 use Rattle.move_lifting.specs.Lifts.{LeadsAtPeak, AvoidsCotree, MoreLeaveCotree}
 use Rattle.move_lifting.specs.Tracks.{TrackView, GoesOn, last_of}
-use Rattle.move_lifting.specs.Trimmed.{AreWalksTogether}
-use Rattle.move_lifting.proofs.MoveLemmas.{leads_nowhere}
-use Rattle.move_lifting.proofs.TreeLiftLemmas.{one_vertex, walk_front}
+use Rattle.common_ends.specs.Trimmed.{AreWalksTogether}
+use Rattle.move_lifting.proofs.TreeLiftLemmas.{one_vertex}
 
 -- what is done to the vertices of the first walk, done from the first walk on
 pub closed_from : (mesh : FaceList) (first second vertices closed : List ℕ) (begun list : PeakedMoves) (n : ℕ) → IsWalk mesh second

@@ -1,5 +1,5 @@
 -- One more move behind a list of moves, and a spur that goes out at the end of the part of a walk that is laid.
-use Rattle.std.proofs.Common.{◌≡◌, ℕ, suc, ◌+◌, ◌-◌, ◌<◌, ◌≤◌, max, List, [], ◌∷◌, ◌++◌, length, take, drop, get_or, refl, ap, sym, ◌∙◌, subst, arith, append_assoc, length-append}
+use Rattle.std.proofs.Common.{◌≡◌, ℕ, suc, ◌+◌, ◌-◌, ◌<◌, ◌≤◌, max, List, [], ◌∷◌, ◌++◌, length, take, drop, get_or, ap, sym, ◌∙◌, subst, arith, append_assoc, length-append}
 use Rattle.std.specs.Prelude.{Some, All}
 use Rattle.std.proofs.lemmas.List.Elements.{All-push}
 use Rattle.std.proofs.lemmas.List.{get_or_append_left, length-take-le, append-nil, drop_more, drop_all}
@@ -11,61 +11,14 @@ use Rattle.surf_model.specs.declared.moves.Move.{Move}
 use Rattle.surf_model.specs.declared.moves.Move.TheVariants.{Insert, Remove, Across}
 use Rattle.surf_model.specs.declared.names.VertexName.{VertexName}
 use Rattle.surf_model.proofs.ReplacementLemmas.{by_replacing}
-use Rattle.surf_model.proofs.ContextLemmas.{first_answer, one_after_another, stays_walk}
+use Rattle.surf_model.proofs.ContextLemmas.{first_answer, stays_walk}
 use Rattle.surf_model.proofs.WayBackLemmas.{list_keeps_ends}
-use Rattle.move_checker.proofs.Judgement.{greatest_darts-more, greatest_darts-none}
+use Rattle.common_ends.proofs.PeakLemmas.{greatest_darts-more, greatest_darts-none, one_more, leads_nowhere, spur_goes}
 use Rattle.move_lifting.specs.Lifts.{LeadsAtPeak, IsRemoval}
 use Rattle.move_lifting.specs.Tracks.{TrackView, GoesOn, IsStepBack}
 use Rattle.move_lifting.proofs.ListLemmas.{front_and_last, no_spur_front, read_on}
 
--- the greatest number of darts, with one move more
-pub greatest_darts-push : (mesh : FaceList) (moves : List Move) (first walk next : List ℕ) (move : Move)
-    → apply_all mesh first moves ≡ Some walk
-    → apply mesh walk move ≡ Some next → greatest_darts mesh first (moves ++ move ∷ []) ≡ max (greatest_darts mesh first moves) (darts next)
-greatest_darts-push mesh [] first walk next move e f =
-    let same : first ≡ walk = cc in
-    let one : apply mesh first move ≡ Some next = ap (λ (w : List ℕ). apply mesh w move) same ∙ f in
-    omega (arith, greatest_darts-more mesh first next move [] one, greatest_darts-none mesh first, greatest_darts-none mesh next)
-greatest_darts-push mesh (one ∷ moves) first walk next move e f =
-    let told = first_answer (λ x. apply_all mesh x moves) (apply mesh first one) walk e in
-    let rest = greatest_darts-push mesh moves told.0 walk next move told.2 f in
-    omega (
-      arith,
-      rest,
-      greatest_darts-more mesh first told.0 one moves told.1,
-      greatest_darts-more mesh first told.0 one
-          (moves ++ move ∷ []) told.1,
-    )
-
--- a list of moves that leads at its peak, with one move more
-pub one_more : (mesh : FaceList) (first walk next : List ℕ) (move : Move) (list more : PeakedMoves) → LeadsAtPeak mesh first list walk
-    → apply mesh walk move ≡ Some next → more ≡ record { moves = list.moves ++ move ∷ []; peak = max list.peak (darts next) }
-    → LeadsAtPeak mesh first more next
-one_more mesh first walk next move list more h e is =
-    let alone : apply_all mesh walk (move ∷ []) ≡ Some next = rw e refl in
-    subst (λ (l : PeakedMoves). LeadsAtPeak mesh first l next) (sym is)
-    (record {
-      leads = one_after_another mesh list.moves (move ∷ []) first walk next h.leads alone;
-      peak = ap (λ (p : ℕ). max p (darts next)) h.peak ∙ sym (greatest_darts-push mesh list.moves first walk next move h.leads e);
-    })
-
 -- a spur goes out
-pub spur_goes : (mesh : FaceList) (front rest : List ℕ) (here : ℕ) (via : VertexName)
-    → apply mesh (front ++ here ∷ via.0 ∷ here ∷ rest) (Remove (length front) via) ≡ Some (front ++ here ∷ rest)
-spur_goes mesh front rest here via =
-    let some : 0 < length (front ++ here ∷ via.0 ∷ here ∷ rest) = rw length-append (omega arith) in
-    (by_replacing mesh (front ++ here ∷ via.0 ∷ here ∷ rest) (front ++ here ∷ rest) (Remove (length front) via) some).1
-    (record {
-      before = front;
-      part = here ∷ via.0 ∷ here ∷ [];
-      other = here ∷ [];
-      after = rest;
-      walk_is = sym (append_assoc front (here ∷ via.0 ∷ here ∷ []) rest);
-      next_is = sym (append_assoc front (here ∷ []) rest);
-      place = refl;
-      replaces = (here, refl, refl);
-    })
-
 goes_back : (mesh : FaceList) (behind : ℕ) (front : List ℕ) (here : ℕ) (via : VertexName) (list more : PeakedMoves)
     → more ≡ record { moves = list.moves ++ Remove (length front) via ∷ []; peak = max list.peak (length front + behind) }
     → GoesOn mesh behind (front ++ here ∷ [] ++ via.0 ∷ [] ++ here ∷ []) list (front ++ here ∷ []) more
@@ -113,12 +66,6 @@ step_back_removes behind old new back h =
     let moves : new.list.moves ≡ old.list.moves ++ Remove (length old.walk - 2) back.via ∷ [] =
     ap (λ (l : PeakedMoves). l.moves) back.list in
     subst (All IsRemoval) (sym moves) (All-push IsRemoval old.list.moves (Remove (length old.walk - 2) back.via) h tt)
-
--- no moves lead from a walk to itself
-pub leads_nowhere : (mesh : FaceList) (walk : List ℕ) (list : PeakedMoves) → list ≡ record { moves = []; peak = darts walk }
-    → LeadsAtPeak mesh walk list walk
-leads_nowhere mesh walk list is =
-    subst (λ (l : PeakedMoves). LeadsAtPeak mesh walk l walk) (sym is) (record { leads = refl; peak = sym (greatest_darts-none mesh walk) })
 
 -- the next entry of a walk is put on what is laid of it
 pub goes_along : (mesh : FaceList) (walk old new : List ℕ) (list more : PeakedMoves) (place v behind : ℕ)

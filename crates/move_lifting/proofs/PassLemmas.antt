@@ -12,15 +12,15 @@ use Rattle.surf_model.specs.declared.names.VertexName.{VertexName}
 use Rattle.surf_model.proofs.WayBackLemmas.{list_keeps_walk}
 use Rattle.halfedge_map.specs.OrientedMeshes.{OrientedMesh, IsOrientedSurface}
 use Rattle.tree_cotree.specs.Splits.{SplitView}
+use Rattle.common_ends.proofs.TrimLemmas.{last_entry, walk_front}
 use Rattle.move_lifting.specs.Contractions.{IsLedFrom}
 use Rattle.move_lifting.specs.Crossings.{beyond, IsFaceBelow, IsCrossed}
 use Rattle.move_lifting.specs.Lifts.{IsRemoval, MoreRemove, MoreLeaveCotree}
 use Rattle.move_lifting.specs.Passes.{IsPassedFrom}
 use Rattle.move_lifting.specs.Tracks.{TrackView, GoesOn, last_of}
 use Rattle.move_lifting.specs.declared.crossing.FaceStep.{FaceStep}
-use Rattle.move_lifting.proofs.ExpandLemmas.{crossing_goes, last_entry, last-push, last-behind, one_pending, putting_goes, rest_of_step, reverse-push, length-numbers}
+use Rattle.move_lifting.proofs.ExpandLemmas.{crossing_goes, last-push, last-behind, one_pending, putting_goes, rest_of_step, reverse-push, length-numbers}
 use Rattle.move_lifting.proofs.LeavingLemmas.{crossed_leaves, leave_on, none_leave}
-use Rattle.move_lifting.proofs.TreeLiftLemmas.{walk_front}
 
 -- removals come one after another
 pub removed_on : (a b c : List Move) → MoreRemove a b → MoreRemove b c → MoreRemove a c

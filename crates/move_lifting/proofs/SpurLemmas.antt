@@ -8,11 +8,11 @@ use Rattle.surf_model.specs.Moves.{PeakedMoves}
 use Rattle.surf_model.specs.declared.moves.Move.{Move}
 use Rattle.surf_model.specs.declared.moves.Move.TheVariants.{Remove}
 use Rattle.polygon_cut.proofs.FreeLoopLemmas.{free_equality}
+use Rattle.common_ends.proofs.PeakLemmas.{spur_goes}
+use Rattle.common_ends.proofs.TrimLemmas.{last_entry}
 use Rattle.move_lifting.specs.Lifts.{LeadsAtPeak}
 use Rattle.move_lifting.specs.Tracks.{TrackView, GoesOn, GrowsOrShrinks, last_of}
-use Rattle.move_lifting.proofs.ExpandLemmas.{last_entry}
 use Rattle.move_lifting.proofs.ListLemmas.{read_on, one_no_spur}
-use Rattle.move_lifting.proofs.MoveLemmas.{spur_goes}
 
 -- one entry more, and its spur if it makes one taken out
 pub put_freely : (mesh : FaceList) (old new : List ℕ) (next : ℕ) → GrowsOrShrinks old new next → 0 < length new → last_of new ≡ next

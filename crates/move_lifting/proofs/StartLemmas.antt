@@ -22,10 +22,10 @@ use Rattle.polygon_cut.proofs.FreeWayLemmas.{path_along, path_value}
 use Rattle.polygon_cut.proofs.FreeLawLemmas.{root_is, path_list, path_is, off_walk}
 use Rattle.polygon_cut.proofs.DartLoopLemmas.{Loops, spoke}
 use Rattle.polygon_cut.proofs.WalkLemmas.{walk_way}
+use Rattle.common_ends.proofs.TrimLemmas.{walk_front}
 use Rattle.move_lifting.specs.Lifts.{AvoidsCotree}
 use Rattle.move_lifting.specs.LoopsPutIn.{IsFreelyPath}
 use Rattle.move_lifting.specs.Tracks.{last_of}
-use Rattle.move_lifting.proofs.TreeLiftLemmas.{walk_front}
 
 -- what stands behind two elements goes
 cancel_behind : {X : Type 0} (Same : X → X → Type 0) (mul : X → X → X) (inv : X → X) (one : X) → IsGroup Same mul inv one → (a b r : X)

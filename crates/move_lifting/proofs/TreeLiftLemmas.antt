@@ -1,10 +1,9 @@
 -- On a sphere a walk off the cotree goes along the tree, so that a closed one without spurs is one vertex.
-use Rattle.std.proofs.Common.{◌≡◌, ◌⊎◌, inl, inr, ℕ, ◌+◌, ◌-◌, ◌*◌, ◌<◌, true, false, List, [], ◌∷◌, ◌++◌, length, get_or, refl, ap, sym, ◌∙◌, subst, arith, length-append}
-use Rattle.std.specs.Prelude.{Option, Some, None, IsTrue}
+use Rattle.std.proofs.Common.{◌≡◌, ◌⊎◌, inl, inr, ℕ, ◌+◌, ◌-◌, ◌*◌, ◌<◌, true, false, List, [], ◌∷◌, length, get_or, refl, ap, sym, ◌∙◌, subst, arith}
+use Rattle.std.specs.Prelude.{Option, Some, None}
 use Rattle.std.specs.Option.{option_map}
 use Rattle.std.proofs.lemmas.Bool.{cases_Bool}
-use Rattle.std.proofs.lemmas.List.{get_or_append_left}
-use Rattle.surf_model.specs.FaceLists.{FaceList, is_used}
+use Rattle.surf_model.specs.FaceLists.{is_used}
 use Rattle.surf_model.specs.Walks.{IsWalk}
 use Rattle.surf_model.specs.FreeWalks.{HasNoSpur, IsAlongTree, RankFalls}
 use Rattle.surf_model.proofs.TreeWalkLemmas.{one_tree_walk}
@@ -116,16 +115,3 @@ one_vertex s split o t sphere walk v w off no_spur starts ends =
     one_tree_walk (parent s split) (λ x. length (up s split t x)) (rank_falls s split o t) walk (v ∷ []) w.starts (omega arith)
     (along_tree s split o t sphere walk w off) (λ k l. absurd (omega arith)) no_spur (one_no_spur v)
     (record { starts = starts; ends = ends })
-
--- a part in front of a walk is a walk
-pub walk_front : (mesh : FaceList) (front rest : List ℕ) → 0 < length front → IsWalk mesh (front ++ rest) → IsWalk mesh front
-walk_front mesh front rest some w = record {
-  starts = some;
-  used = λ k d l.
-      subst (λ (x : ℕ). IsTrue (is_used mesh x)) (get_or_append_left front rest d k l)
-      (w.used k d (omega (arith, length-append front rest, l)));
-  edges = λ k l.
-      let one : get_or (front ++ rest) k 0 ≡ get_or front k 0 = get_or_append_left front rest 0 k (omega arith) in
-      let two : get_or (front ++ rest) (k + 1) 0 ≡ get_or front (k + 1) 0 = get_or_append_left front rest 0 (k + 1) (omega arith) in
-      rw (← one, ← two) (w.edges k (omega (arith, length-append front rest, l)));
-}

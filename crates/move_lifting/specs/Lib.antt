@@ -7,5 +7,4 @@ pub mod LoopFronts
 pub mod Reductions
 pub mod Contractions
 pub mod SpokeWalks
-pub mod Trimmed
 pub mod Passes

@@ -1,7 +1,6 @@
 -- Lists of moves that lead from a walk to a walk, with their peaks, and walks that keep off the cotree.
+pub use Rattle.common_ends.specs.PeakedLists.{LeadsAtPeak}
 use Rattle.std.specs.Prelude.{◌≡◌, ℕ, ◌+◌, ◌<◌, false, List, ◌++◌, length, slice_index, All}
-use Rattle.surf_model.specs.FaceLists.{FaceList}
-use Rattle.surf_model.specs.Moves.{PeakedMoves, Leads, greatest_darts}
 use Rattle.surf_model.specs.declared.moves.Move.{Move}
 use Rattle.halfedge_map.specs.OrientedMeshes.{OrientedMesh}
 use Rattle.halfedge_map.specs.DartMaps.{edge_of}
@@ -9,12 +8,6 @@ use Rattle.halfedge_map.specs.RotationSystems.{rotations_of, IsDartFrom}
 use Rattle.tree_cotree.specs.Splits.{SplitView, in_cotree}
 use Rattle.polygon_cut.specs.SpokeLoops.{LeavesCotree}
 use Rattle.surf_model.specs.declared.moves.Move.TheVariants.{Insert, Remove, Across}
-
--- The moves lead from the first walk to the second, and the peak is the greatest number of darts among the walks that they pass, both
--- included.
-pub record LeadsAtPeak (mesh : FaceList) (first : List ℕ) (list : PeakedMoves) (second : List ℕ) : Type 0 where
-  pub leads : Leads mesh first list.moves second
-  pub peak : list.peak ≡ greatest_darts mesh first list.moves
 
 -- the move takes a spur out
 abbrev pub IsRemoval : Move → Type 0

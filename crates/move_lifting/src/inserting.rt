@@ -1,9 +1,8 @@
 //! Turns put into walks: there, round, back, and on.
-ghost use Rattle.std.specs.Prelude.{◌≡◌, ◌+◌, ◌*◌, ◌-◌, ◌<◌, ◌≤◌, ◌^◌, ◌∷◌, [], ◌++◌, ℕ, List, max, length, take, drop, slice_index, IfOk, OnOk, All};
+ghost use Rattle.std.specs.Prelude.{◌≡◌, ◌+◌, ◌*◌, ◌-◌, ◌<◌, ◌≤◌, ◌^◌, ◌∷◌, [], ◌++◌, ℕ, List, length, take, drop, slice_index, IfOk, OnOk, All};
 ghost use Rattle.surf_model.specs.FaceLists.{FaceList};
 ghost use Rattle.surf_model.specs.FreeWalks.{AreFreelyEqual, HasNoSpur};
 ghost use Rattle.surf_model.specs.Replacements.{place_of};
-ghost use Rattle.surf_model.specs.Rewriting.{raised, all_raised};
 ghost use Rattle.surf_model.specs.Vertices.{numbers};
 ghost use Rattle.surf_model.specs.Walks.{IsWalk};
 ghost use Rattle.polygon_cut.specs.SpokeLoops.{backward, put_behind};
@@ -13,6 +12,7 @@ ghost use Rattle.move_lifting.specs.Tracks.{GoesOn, last_of};
 
 use crate::lifted::Lifted;
 use crate::track::Track;
+use common_ends::raise_moves;
 use std::alloc::{AllocError, Global};
 use surf_model::{Move, MoveList, VertexName, Walk};
 
@@ -61,7 +61,7 @@ pub(crate) fn put_turn(
 }
 
 /// Fails where these numbers of entries and of darts are too many together.
-pub(crate) fn find_room(whole: usize, walk: usize, behind: u32, peak: u32) -> Result<(), AllocError>
+fn find_room(whole: usize, walk: usize, behind: u32, peak: u32) -> Result<(), AllocError>
     requires whole { whole < 2 ^ 62 }
     requires walk { walk < 2 ^ 62 }
     ensures { OnOk result (whole + walk + behind + peak < MOST_ENTRIES) }
@@ -178,51 +178,6 @@ fn insert_there_and_back(
         behind += 1;
     }
     Ok(())
-}
-
-/// Notes the moves of a list once more where `by` entries stand in front of the walk that they start from, and so many entries
-/// in front of it and behind it together.
-pub(crate) fn raise_moves(
-    moves: &mut MoveList,
-    turn: &MoveList,
-    by: u32,
-    around: u32,
-) -> Result<(), AllocError>
-    requires places { All (λ (mv : Move). place_of mv ≤ turn.now.peak) turn.now.moves }
-    requires room { by + around + turn.now.peak < 2 ^ 32 }
-    ensures moves { OnOk result (moves.new.moves ≡ moves.old.moves ++ all_raised by turn.now.moves) }
-    ensures none { OnOk result (length turn.now.moves ≡ 0 → moves.new.peak ≡ moves.old.peak) }
-    ensures some { OnOk result (0 < length turn.now.moves → moves.new.peak ≡ max moves.old.peak (around + turn.now.peak)) }
-{
-    let most = around + turn.peak();
-    for place in 0..turn.len() {
-        moves.push(raise(turn.at(place), by), most)?;
-    }
-    Ok(())
-}
-
-/// The same move where `by` entries stand in front.
-fn raise(mv: Move, by: u32) -> Move
-    requires { place_of mv + by < 2 ^ 32 }
-    ensures { result ≡ raised by mv }
-{
-    match mv {
-        Move::Insert { at, via } => Move::Insert { at: by + at, via },
-        Move::Remove { at, via } => Move::Remove { at: by + at, via },
-        Move::Across {
-            at,
-            face,
-            corner,
-            forward,
-            taken,
-        } => Move::Across {
-            at: by + at,
-            face,
-            corner,
-            forward,
-            taken,
-        },
-    }
 }
 
 /// Takes the spurs out of a walk with `behind` entries behind it, by moves that come after those that led to it.

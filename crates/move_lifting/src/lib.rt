@@ -8,7 +8,6 @@
 //!     let list = lift(alloc, &surface, &split, &polygon, &first, &second)?;
 #![tactic(auto)]
 
-mod common_ends;
 mod contracting;
 mod crossing;
 mod cut;

@@ -6,7 +6,7 @@ use Rattle.free_forms.specs.Normal.{IsNormal}
 use Rattle.free_forms.specs.PeakedLists.{LeadsAtPeak}
 use Rattle.free_forms.specs.Reductions.{ReductionView, state_of, darts_in}
 use Rattle.free_forms.proofs.CostLemmas.{stays_paid, has_room, paid_darts}
-use Rattle.free_forms.proofs.PeakLemmas.{leads_nowhere}
+use Rattle.common_ends.proofs.PeakLemmas.{leads_nowhere}
 use Rattle.free_forms.proofs.StepLemmas.{HasStepped, has_stepped, normal_alone, weight}
 use Rattle.free_forms.proofs.WeightLemmas.{weight_bound}
 use Rattle.free_forms.proofs.reduction.reduce.Goals as goal

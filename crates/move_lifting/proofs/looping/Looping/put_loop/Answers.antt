@@ -7,11 +7,11 @@ use Rattle.surf_model.specs.declared.names.VertexName.{VertexName}
 use Rattle.halfedge_map.specs.DartMaps.{darts_of, origin_of}
 use Rattle.polygon_cut.specs.Polygons.{side_at}
 use Rattle.polygon_cut.specs.SpokeLoops.{by_loop, last_side}
+use Rattle.common_ends.proofs.PeakLemmas.{places_below}
 use Rattle.move_lifting.specs.SpokeWalks.{IsLastLoop, walks_loop}
 use Rattle.move_lifting.specs.Tracks.{last_of}
 use Rattle.move_lifting.proofs.ApproachLemmas.{spokes_some, goes_end, goes_start, goes_some, goes_walk}
 use Rattle.move_lifting.proofs.ExpandLemmas.{length-numbers}
-use Rattle.move_lifting.proofs.InsertLemmas.{places_below}
 use Rattle.move_lifting.proofs.LastLoopLemmas.{last_below}
 use Rattle.move_lifting.proofs.LoopInLemmas.{IsReady, is_ready, picked, loop_put_in}
 use Rattle.move_lifting.proofs.TreeUpLemmas.{origin_used}

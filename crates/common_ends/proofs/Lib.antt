@@ -1,0 +1,2 @@
+pub mod PeakLemmas
+pub mod TrimLemmas

@@ -1,0 +1,3 @@
+pub mod PeakedLists
+pub mod Trimmed
+pub mod Examples

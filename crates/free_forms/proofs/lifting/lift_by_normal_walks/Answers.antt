@@ -1,0 +1,70 @@
+use Rattle.std.proofs.Common.{◌≡◌, ℕ, ◌+◌, ◌*◌, ◌++◌, ap, sym, ◌∙◌, subst, arith}
+use Rattle.std.specs.Prelude.{All, ◌↔◌}
+use Rattle.std.proofs.lemmas.Bool.{both_ways}
+use Rattle.surf_model.specs.FaceLists.{FaceList}
+use Rattle.surf_model.specs.Moves.{PeakedMoves, Homotopic}
+use Rattle.surf_model.specs.Rewriting.{way_back}
+use Rattle.surf_model.specs.Walks.{darts}
+use Rattle.free_forms.specs.Normal.{IsNormal}
+use Rattle.free_forms.specs.PeakedLists.{LeadsAtPeak, IsWithin, IsMoveOf}
+use Rattle.free_forms.specs.declared.limits.TheConstants.{MOST_OPEN_SIDES}
+use Rattle.free_forms.specs.Reductions.{state_of, whole}
+use Rattle.free_forms.proofs.BackLemmas.{moves_of, there_and_back_leads, both_within}
+use Rattle.free_forms.proofs.NormalLemmas.{by_normal_walks}
+use Rattle.free_forms.proofs.lifting.lift_by_normal_walks.Goals as goal
+
+pub push_back-requires : goal.push_back-requires
+push_back-requires c =
+    let mesh : FaceList = c.args.mesh.now.mesh in
+    let all : All (IsMoveOf mesh) c.in_ok-two.two.moves.moves =
+    moves_of mesh c.in_ok-two.two.moves.moves c.args.second.now (whole (state_of c.in_ok-two.two)) c.requires.walks.beside.starts
+    c.in_ok-two.ensures.leads.leads in
+    subst (λ (m : FaceList). All (IsMoveOf m) c.in_ok-far.others.moves) (sym c.faces-faces.ensures.mesh)
+    (subst (λ (l : PeakedMoves). All (IsMoveOf mesh) l.moves) (sym c.in_ok-far.ensures.moves) all)
+
+pub returns-then-are_equal-clause-moves : goal.returns-then-are_equal-clause-moves
+returns-then-are_equal-clause-moves c =
+    let mesh : FaceList = c.args.mesh.now.mesh in
+    let one : LeadsAtPeak mesh c.args.first.now c.in_ok-near.moves c.in_ok-near.near =
+    subst (λ (l : PeakedMoves). LeadsAtPeak mesh c.args.first.now l c.in_ok-near.near) (sym c.in_ok-near.ensures.moves)
+    (subst (LeadsAtPeak mesh c.args.first.now c.in_ok-one.one.moves) (sym c.in_ok-near.ensures.walk) c.in_ok-one.ensures.leads) in
+    let two : LeadsAtPeak mesh c.args.second.now c.in_ok-far.others c.in_ok-far.far =
+    subst (λ (l : PeakedMoves). LeadsAtPeak mesh c.args.second.now l c.in_ok-far.far) (sym c.in_ok-far.ensures.moves)
+    (subst (LeadsAtPeak mesh c.args.second.now c.in_ok-two.two.moves) (sym c.in_ok-far.ensures.walk) c.in_ok-two.ensures.leads) in
+    there_and_back_leads mesh c.args.first.now c.args.second.now c.in_ok-near.near c.in_ok-far.far c.in_ok-near.moves c.in_ok-far.others
+    c.push_back.new.moves c.requires.walks.beside one two (c.are_equal.ensures.0 c.if-are_equal.true)
+    (c.in_ok-push_back.ensures.moves
+    ∙ ap (λ (m : FaceList). c.in_ok-near.moves.moves ++ way_back m c.in_ok-far.others.moves) c.faces-faces.ensures.mesh)
+    c.in_ok-push_back.ensures.none c.in_ok-push_back.ensures.some
+
+pub returns-clause-moves : goal.returns-clause-moves
+returns-clause-moves c =
+    let mesh : FaceList = c.args.mesh.now.mesh in
+    let equal : Homotopic mesh c.args.first.now c.args.second.now ↔ (c.in_ok-near.near ≡ c.in_ok-far.far) =
+    by_normal_walks c.args.mesh.now c.args.first.now c.args.second.now c.in_ok-near.near c.in_ok-far.far c.faces-faces.ensures.parents
+    c.requires.walks.along c.requires.walks.beside
+    (record {
+      normal = subst (IsNormal c.args.mesh.now) (sym c.in_ok-near.ensures.walk) c.in_ok-one.ensures.normal;
+      homotopic = (
+        c.in_ok-one.one.moves.moves,
+        (subst (LeadsAtPeak mesh c.args.first.now c.in_ok-one.one.moves) (sym c.in_ok-near.ensures.walk) c.in_ok-one.ensures.leads).leads,
+      );
+    })
+    (record {
+      normal = subst (IsNormal c.args.mesh.now) (sym c.in_ok-far.ensures.walk) c.in_ok-two.ensures.normal;
+      homotopic = (
+        c.in_ok-two.two.moves.moves,
+        (subst (LeadsAtPeak mesh c.args.second.now c.in_ok-two.two.moves) (sym c.in_ok-far.ensures.walk) c.in_ok-two.ensures.leads).leads,
+      );
+    }) in
+    λ joined. both_ways c.are_equal.result c.if-are_equal.false (c.are_equal.ensures.1 (equal.0 joined))
+
+pub returns-then-are_equal-clause-short : goal.returns-then-are_equal-clause-short
+returns-then-are_equal-clause-short c =
+    let one : ℕ = darts c.args.first.now * MOST_OPEN_SIDES in
+    let two : ℕ = darts c.args.second.now * MOST_OPEN_SIDES in
+    let both : ℕ = (darts c.args.first.now + darts c.args.second.now) * MOST_OPEN_SIDES in
+    both_within c.faces-faces.result.now one two both c.in_ok-near.moves c.in_ok-far.others c.push_back.new.moves
+    (subst (IsWithin one) (sym c.in_ok-near.ensures.moves) c.in_ok-one.ensures.short)
+    (subst (IsWithin two) (sym c.in_ok-far.ensures.moves) c.in_ok-two.ensures.short)
+    (omega arith) c.in_ok-push_back.ensures.moves c.in_ok-push_back.ensures.none c.in_ok-push_back.ensures.some

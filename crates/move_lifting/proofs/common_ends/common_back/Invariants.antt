@@ -1,6 +1,0 @@
-use Rattle.std.proofs.Common.{◌≡◌, ◌-◌, drop}
-use Rattle.surf_model.specs.Walks.{darts}
-use Rattle.move_lifting.proofs.common_ends.common_back.Given as goal
-
-abbrev pub invariant-loop-back : goal.invariant-loop-back
-invariant-loop-back l = drop (darts l.first - l.back) l.first ≡ drop (darts l.second - l.back) l.second

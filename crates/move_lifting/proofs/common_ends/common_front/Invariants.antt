@@ -1,5 +1,0 @@
-use Rattle.std.proofs.Common.{◌≡◌, ◌+◌, take}
-use Rattle.move_lifting.proofs.common_ends.common_front.Given as goal
-
-abbrev pub invariant-loop-front : goal.invariant-loop-front
-invariant-loop-front l = take (l.front + 1) l.first ≡ take (l.front + 1) l.second
