@@ -309,6 +309,50 @@ pub natural_place : (rest : List ℕ) (capped : ℕ) (after : List ℕ) → AreP
     → begins_word after ≡ false → IsPast 1 rest after
 natural_place rest capped after h shorter e = (natural_first rest capped after h shorter e).place
 
+-- a digit between a blank and the end of its word
+record IsDigitFirst (rest : List ℕ) (number : ℕ) (after : List ℕ) : Type 0 where
+  value : next_natural (words_here rest) ≡ Some number
+  place : IsPast 1 rest after
+
+digit_between : (digit : ℕ) (after : List ℕ) → is_digit digit ≡ true → begins_word after ≡ false
+    → IsDigitFirst (32 ∷ digit ∷ after) (digit - 48) after
+unfolding is_natural value_of
+digit_between digit after kind ends =
+    let all : list_all is_digit (digit ∷ []) ≡ true = and_from _ _ kind refl in
+    let word = digits_in_word (digit ∷ []) all in
+    let natural : is_natural (digit ∷ []) ≡ true = all in
+    let past = past_word (digit ∷ []) after refl word ends in
+    let same : words_here (32 ∷ digit ∷ after) ≡ words_here (digit ∷ after) = words_here-blank 32 (digit ∷ after) refl in
+    let first : words_here (32 ∷ digit ∷ after) ≡ (digit ∷ []) ∷ words_here after = same ∙ word_first (digit ∷ []) after refl word ends in
+    record {
+      value = ap next_natural first ∙ rw natural (ap Some (omega arith));
+      place = record {
+        words = past.words ∙ ap (λ (ws : List (List ℕ)). drop 1 ws) (sym same);
+        behind = past.behind ∙ sym (behind-other 32 (digit ∷ after) refl);
+        shorter = omega arith;
+      };
+    }
+
+digit_first : (rest : List ℕ) → 3 ≤ length rest → get_or rest 0 0 ≡ 32 → is_digit (get_or rest 1 0) ≡ true
+    → ends_word (get_or rest 2 0) ≡ true → IsDigitFirst rest (get_or rest 1 0 - 48) (take (length rest - 2) (drop 2 rest))
+digit_first [] some blank kind ends = absurd (omega (arith, some))
+digit_first (before ∷ []) some blank kind ends = absurd (omega (arith, some))
+digit_first (before ∷ digit ∷ []) some blank kind ends = absurd (omega (arith, some))
+digit_first (before ∷ digit ∷ next ∷ after) some blank kind ends =
+    let all : take (length (before ∷ digit ∷ next ∷ after) - 2) (next ∷ after) ≡ next ∷ after =
+    take_all (length (before ∷ digit ∷ next ∷ after) - 2) (next ∷ after) (omega arith) in
+    subst (IsDigitFirst (before ∷ digit ∷ next ∷ after) (digit - 48)) (sym all)
+    (subst (λ b. IsDigitFirst (b ∷ digit ∷ next ∷ after) (digit - 48) (next ∷ after)) (sym blank)
+    (digit_between digit (next ∷ after) kind (rw ends refl)))
+
+pub digit_value : (rest : List ℕ) (value : ℕ) → 3 ≤ length rest → get_or rest 0 0 ≡ 32 → is_digit (get_or rest 1 0) ≡ true
+    → ends_word (get_or rest 2 0) ≡ true → value ≡ get_or rest 1 0 - 48 → next_natural (words_here rest) ≡ Some value
+digit_value rest value some blank kind ends is = (digit_first rest some blank kind ends).value ∙ ap Some (sym is)
+
+pub digit_place : (rest : List ℕ) → 3 ≤ length rest → get_or rest 0 0 ≡ 32 → is_digit (get_or rest 1 0) ≡ true
+    → ends_word (get_or rest 2 0) ≡ true → IsPast 1 rest (take (length rest - 2) (drop 2 rest))
+digit_place rest some blank kind ends = (digit_first rest some blank kind ends).place
+
 -- a word goes on behind the digits
 not_all_digits : (digits after : List ℕ) → begins_word after ≡ true → begins_with is_digit after ≡ false
     → is_natural (digits ++ before_first ends_word after) ≡ false

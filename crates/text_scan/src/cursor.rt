@@ -7,8 +7,8 @@ ghost use Rattle.text_scan.specs.Unread.{Unread, lines_left, at_line, past_word,
 use crate::line_by_line::Words;
 use crate::naturals::signed;
 use crate::steps::{
-    after_blanks, after_line, begins_word, first_word, line_count, natural_at, number_text_at,
-    word_at,
+    after_blanks, after_line, begins_word, digit_at, first_word, line_count, natural_at,
+    number_text_at, word_at,
 };
 use std::marker::Model;
 
@@ -97,6 +97,21 @@ impl<'a> Cursor<'a> {
         let (value, rest) = natural_at(after_blanks(self.rest))?;
         self.rest = rest;
         Some(value)
+    }
+
+    /// What `natural` gives and where it goes. It is faster where nearly all naturals have one digit, with single blanks between
+    /// them, and slower elsewhere.
+    #[inline(always)]
+    pub fn short_natural(&mut self) -> Option<u64>
+        ensures value { result ≡ option_map (λ n. min n (2 ^ 64 - 1)) (next_natural self.old.words) }
+        ensures place { self.new ≡ (if is_some result then past_word self.old else self.old) }
+        ensures few { length self.new.words < 2 ^ 64 - 1 }
+    {
+        if let Some((value, rest)) = digit_at(self.rest) {
+            self.rest = rest;
+            return Some(value);
+        }
+        self.natural()
     }
 
     /// The number of at most 2^32 - 1 that the next word of the present line is, and goes past that

@@ -1,5 +1,5 @@
 //! Steps over the bytes of a text.
-ghost use Rattle.std.specs.Prelude.{◌≡◌, ℕ, List, ◌+◌, ◌-◌, ◌^◌, ◌<◌, ◌≤◌, ◌==◌, min, not, true, false, [], IfSome, IfNone, IsTrue, is_some, MatchOption, option_map, length};
+ghost use Rattle.std.specs.Prelude.{◌≡◌, ℕ, List, ◌+◌, ◌-◌, ◌^◌, ◌<◌, ◌≤◌, ◌==◌, min, not, true, false, [], Some, IfSome, IfNone, IsTrue, is_some, MatchOption, option_map, length};
 ghost use Rattle.text_scan.specs.Lines.{is_blank, cut, lines_from};
 ghost use Rattle.text_scan.specs.Numbers.{is_digit};
 ghost use Rattle.text_scan.specs.Unread.{words_here, behind, next_natural, next_is_number_text};
@@ -249,4 +249,20 @@ pub(crate) fn natural_at(rest: &[u8]) -> Option<(u64, &[u8])>
         return None;
     }
     Some((value, after))
+}
+
+/// The digit that is the whole first word, and the bytes behind it. It is found with one look, behind a single blank, and so `None`
+/// says nothing of the first word.
+#[inline(always)]
+pub(crate) fn digit_at(rest: &[u8]) -> Option<(u64, &[u8])>
+    ensures value { IfSome result (λ read. next_natural (words_here rest.now) ≡ Some read.0) }
+    ensures place { IfSome result (λ read. IsPast 1 rest.now read.1.now) }
+{
+    let [before, digit, next, ..] = rest else {
+        return None;
+    };
+    if *before != b' ' || !digit.is_ascii_digit() || !ends_word(*next) {
+        return None;
+    }
+    Some((u64::from(*digit - b'0'), &rest[2..]))
 }

@@ -129,7 +129,7 @@ fn read_entries(cursor: &mut Cursor<'_>, entries: &mut Vec<u32>) -> Result<(), W
         return Err(fault_of_line(cursor, room));
     };
     push(entries, first)?;
-    while let Some(value) = cursor.natural() {
+    while let Some(value) = cursor.short_natural() {
         if room == 0 {
             return Err(WalkFault::TooLong {
                 line: cursor.line(),
