@@ -1,5 +1,6 @@
 #!/usr/bin/env python3
-"""Makes the inputs of `bench/decide` and `bench/loops` in the folder that is named: tori joined in a chain, and walks on them.
+"""Makes the inputs of `bench/decide`, `bench/homology` and `bench/loops` in the folder that is named: tori joined in a chain, and walks
+on them.
 
 Nothing here is trusted: a mesh that is no surface is refused by the program, and the run says so.
 """
@@ -98,4 +99,5 @@ def main():
         write_walks(path + "-long.walks", *chain.loops(1000000))
 
 
-main()
+if __name__ == "__main__":
+    main()

@@ -5,7 +5,9 @@ use Rattle.surf_model.specs.Moves.{PeakedMoves}
 use Rattle.surf_model.specs.declared.chains.ChainLink.{ChainLink}
 use Rattle.orientation.specs.Chains.{IsOddChain}
 use Rattle.walk_translate.specs.declared.deciding.Answer as deciding
+use Rattle.homology.specs.declared.certificate.HomologyCert.{HomologyCert}
 use Rattle.commands.specs.Certificates.{Convinces, decision_of, certificate_text}
+use Rattle.commands.specs.HomologyCertificates.{HomologyAnswer, ShowsHomology, answer_in, homology_text}
 use Rattle.commands.specs.Lines.{odd_chain_line}
 use Rattle.commands.specs.declared.certificate.Certificate.{Certificate}
 use Rattle.commands.specs.declared.certificate.Certificate.TheVariants.{Moves}
@@ -25,6 +27,8 @@ pub data Texts : Type 0 where
   -- a list of moves between two walks of the mesh and its decision, of any that convinces and is short: neither its moves nor its peak
   -- are more than this
   OfShortList : FaceList → (first second : List ℕ) → (most : ℕ) → Texts
+  -- the answer whether two walks of the mesh are homologous, and a certificate that shows it, of any
+  OfHomology : FaceList → (first second : List ℕ) → HomologyAnswer → Texts
 
 -- the text is one of them
 abbrev pub IsText : Texts → List ℕ → Type 0
@@ -36,6 +40,8 @@ IsText (OfCertificate mesh first second decision) text =
 IsText (OfShortList mesh first second most) text =
     (list : PeakedMoves) × Convinces mesh first second (Moves list) × (length list.moves ≤ most) × (list.peak ≤ most)
     × (text ≡ certificate_text (Moves list))
+IsText (OfHomology mesh first second answer) text =
+    (shown : HomologyCert) × ShowsHomology mesh first second shown × (answer_in shown ≡ answer) × (text ≡ homology_text shown)
 
 -- what is answered where nothing is refused
 pub record Answer : Type 0 where

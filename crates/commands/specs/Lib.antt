@@ -1,5 +1,6 @@
 pub mod Lines
 pub mod Certificates
+pub mod HomologyCertificates
 pub mod Answers
 pub mod Refusals
 pub mod Checks

@@ -1,14 +1,18 @@
 //! What the program writes, by its kinds.
+ghost use Rattle.std.specs.Prelude.{◌≡◌};
 ghost use Rattle.commands.specs.Certificates.{certificate_text};
+ghost use Rattle.commands.specs.HomologyCertificates.{answer_in, homology_line, homology_phrase, homology_text};
 ghost use Rattle.commands.specs.Stops.{bytes_of};
 ghost use Rattle.commands.specs.Writes.{Writes};
 ghost use Rattle.commands.specs.declared.certificate.Certificate.{Certificate};
 
 use crate::certificate::Certificate;
 use crate::decide::line_of;
-use crate::line::{Line, put_line, put_lines};
+use crate::line::{Line, Phrase, put_line, put_lines};
 use crate::odd_chain_line::put_odd_chain;
 use crate::word_lines::put_words;
+use homology::HomologyCert;
+use homology_files::write_homology;
 use labellings::Denial;
 use surf_io::{Failed, Sink};
 use surf_model::{MoveList, OddChain};
@@ -29,6 +33,8 @@ pub enum Text {
     Certificate(Certificate),
     /// Turn words, each on a line.
     Words(Vec<TurnWord>),
+    /// A certificate of homology behind the answer that it is for.
+    Homology(HomologyCert),
 }
 
 /// Writes a text.
@@ -42,6 +48,7 @@ pub fn put_text<K: Sink>(out: &mut K, text: &Text) -> Result<(), Failed>
         Text::Certificate(Certificate::Moves(list)) => put_moves(out, list),
         Text::Certificate(Certificate::Denial(denial)) => put_denial(out, denial),
         Text::Words(words) => put_words(out, words),
+        Text::Homology(shown) => put_homology(out, shown),
     }
 }
 
@@ -59,4 +66,29 @@ fn put_denial<K: Sink>(out: &mut K, denial: &Denial) -> Result<(), Failed>
 {
     put_line(out, &line_of(Answer::Different))?;
     write_denial(denial, out)
+}
+
+/// Writes a certificate of homology behind the answer that it is for.
+fn put_homology<K: Sink>(out: &mut K, shown: &HomologyCert) -> Result<(), Failed>
+    ensures { Writes K.written K.settled K.faults out.old out.new (homology_text shown.now) result }
+{
+    put_line(out, &line_for(shown))?;
+    write_homology(shown, out)
+}
+
+/// The line of the answer that a certificate of homology is for.
+fn line_for(shown: &HomologyCert) -> Line
+    ensures { result ≡ homology_line (answer_in shown.now) }
+{
+    Line::of(Phrase::Text(phrase_for(shown)), &[])
+}
+
+/// The phrase of the answer that a certificate of homology is for.
+fn phrase_for(shown: &HomologyCert) -> &'static str
+    ensures { result.now ≡ homology_phrase (answer_in shown.now) }
+{
+    match shown {
+        HomologyCert::Chain(_) => "homologous",
+        HomologyCert::Cocycle(_) => "not homologous",
+    }
 }

@@ -1,3 +1,11 @@
 pub mod Verifying
 pub mod SomeVerdicts
 pub mod VerifyHomologyOutcomes
+pub mod ShortWalks
+pub mod PieceChains
+pub mod PieceCocycles
+pub mod ListedLemmas
+pub mod CertificateLemmas
+pub mod HomologyAnswers
+pub mod HomologyOutcomes
+pub mod PrintedLemmas

@@ -5,7 +5,7 @@ use Rattle.std.proofs.lemmas.Bool.{cases_lt}
 use Rattle.std.proofs.lemmas.List.{get_or-map, get_or_default, length-map}
 use Rattle.std.proofs.lemmas.List.Elements.{All-nil, All-from_get_or}
 use Rattle.surf_io.specs.Files.{Files}
-use Rattle.surf_model.specs.Edges.{Edge, IsTableOf, edge_in}
+use Rattle.surf_model.specs.Edges.{Edge, edge_in}
 use Rattle.surf_model.specs.FaceLists.{FaceList, IsFaceList}
 use Rattle.tree_cotree.proofs.EdgeTables.{some_table}
 use Rattle.homology.specs.Certificates.{face_number, edge_number}

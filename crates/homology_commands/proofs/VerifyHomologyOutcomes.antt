@@ -1,9 +1,8 @@
 -- `verify-homology` in the words of the mesh.
-use Rattle.std.proofs.Common.{◌≡◌, inr, ℕ, List, [], ◌∷◌, codes, refl, sym, ap, ◌∙◌, subst}
+use Rattle.std.proofs.Common.{◌≡◌, inr, ℕ, List, [], ◌∷◌, codes, refl, sym, ◌∙◌, subst}
 use Rattle.std.specs.Prelude.{Option, Ok}
 use Rattle.surf_io.specs.Files.{Files}
 use Rattle.surf_model.specs.FaceLists.{FaceList}
-use Rattle.homology.specs.Chains.{AreHomologous}
 use Rattle.homology.specs.Certificates.{face_number, edge_number}
 use Rattle.homology.specs.Verdicts.{IsVerdict}
 use Rattle.homology.specs.declared.certificate.HomologyCert.{HomologyCert}
@@ -16,7 +15,7 @@ use Rattle.commands.proofs.Deciding.{behind}
 use Rattle.commands.proofs.MeshTexts.{mesh_valid}
 use Rattle.commands.proofs.Rows.{sound-mesh, sound-pair, meant_told, pair_told, mesh_told, mesh_passes, spelled_pair}
 use Rattle.commands.proofs.Sound.{IsSound, sound-then, sound-meant, sound-file, held}
-use Rattle.commands.specs.Answers.{Answer, IsText}
+use Rattle.commands.specs.Answers.{Answer}
 use Rattle.commands.specs.Checks.{Refuse, Pass, Passes, IsTold}
 use Rattle.commands.specs.Inputs.{mesh_in, pair_in, walk_at, SpellsPair}
 use Rattle.commands.specs.Outcomes.{Outcome, AnswersTo, IsAnswerOf}

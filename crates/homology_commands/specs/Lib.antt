@@ -1,1 +1,4 @@
 pub mod VerifyHomology
+pub mod Listings
+pub mod Homology
+pub mod PrintedHomology

@@ -1,8 +1,14 @@
-//! The commands of the homotopy tester that answer for homology.
+//! Commands that answer for homology: `homology` and `verify-homology`.
 //!
-//! Each is written as the commands of `commands` are: one clause, `Runs`, of its check, and the theorem that a reader looks for first,
-//! in its file of specs/.
+//! Each is a command as those of `commands` are: it gives a `Reply`, or what stops it, with the clause `Runs` of its check, a file of
+//! specs/ with the theorem that a reader looks for first. Proved: `homology` tells whether two walks of a surface are homologous, with a
+//! chain or a cocycle that shows it; `verify-homology` tells the verdict on a chain or a cocycle, whoever made it and on any mesh.
+//!
+//!     let reply = show_homology::show_homology(alloc, &mut shelf, mesh, walks)?;
+//!     let reply = verify_homology::verify_homology(alloc, &mut shelf, mesh, walks, certificate)?;
 #![tactic(auto)]
 
 pub mod laws;
+mod listing;
+pub mod show_homology;
 pub mod verify_homology;

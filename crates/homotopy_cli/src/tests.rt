@@ -144,11 +144,11 @@ fn words_are_answered(rt: HostRuntime) -> Result<(), AllocError> {
     Ok(())
 }
 
-/// What `certify` printed is put beside the files, and looked at by `verify`.
+/// What `certify` and `homology` printed, of a yes and of a no, is put beside the files, and looked at by the judge of it.
 #[test]
 fn certificates_are_accepted(rt: HostRuntime) -> Result<(), AllocError> {
     let alloc = rt.alloc();
-    for (certify, verify, wanted) in [
+    for (command, judge, wanted) in [
         (
             "certify torus round",
             "verify torus round printed",
@@ -159,11 +159,21 @@ fn certificates_are_accepted(rt: HostRuntime) -> Result<(), AllocError> {
             "verify torus across printed",
             Status::No,
         ),
+        (
+            "homology torus round",
+            "verify-homology torus round printed",
+            Status::Yes,
+        ),
+        (
+            "homology torus across",
+            "verify-homology torus across printed",
+            Status::No,
+        ),
     ] {
         let mut shelf = shelf_of_files(alloc)?;
         let mut printed = MemorySink::new(alloc, 64);
-        let status = run(alloc, &words_in(alloc, certify)?, &mut shelf, &mut printed);
-        assert!(rt; status == wanted, "{certify:?}");
+        let status = run(alloc, &words_in(alloc, command)?, &mut shelf, &mut printed);
+        assert!(rt; status == wanted, "{command:?}");
         shelf.put("printed", printed.bytes())?;
         let mut out = MemorySink::new(alloc, 64);
         check(
@@ -171,7 +181,7 @@ fn certificates_are_accepted(rt: HostRuntime) -> Result<(), AllocError> {
             alloc,
             &mut shelf,
             &mut out,
-            (verify, "accepted\n", Status::Yes),
+            (judge, "accepted\n", Status::Yes),
         )?;
     }
     Ok(())

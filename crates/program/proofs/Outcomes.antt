@@ -15,6 +15,8 @@ use Rattle.commands.proofs.TrialOutcomes.{tried}
 use Rattle.verify_commands.proofs.VerifyOutcomes.{verified, denial_verified}
 use Rattle.homology_commands.proofs.VerifyHomologyOutcomes.{homology_verified}
 use Rattle.homology_commands.specs.VerifyHomology.{IsHomologyVerified}
+use Rattle.homology_commands.proofs.HomologyOutcomes.{homology_so}
+use Rattle.homology_commands.specs.Homology.{IsHomologyAnswered}
 use Rattle.loop_commands.proofs.LoopOutcomes.{loops_so}
 use Rattle.loop_commands.specs.Loops.{IsLoopsAnswered}
 use Rattle.commands.specs.Certify.{IsCertified}
@@ -22,7 +24,7 @@ use Rattle.commands.specs.Checks.{Refuse, Pass, found_or}
 use Rattle.open_commands.proofs.OpenOutcomes.{decided_open_so, certified_open_so}
 use Rattle.open_commands.specs.CertifyOpen.{IsCertifiedOpen}
 use Rattle.open_commands.specs.DecideOpen.{IsDecidedOpen}
-use Rattle.program.specs.Commands.{Row, Surface, Decide, Certify, Loops, DecideOpen, CertifyOpen, Verify, VerifyHomology, Reduce, Trial, IsRow, answer_to}
+use Rattle.program.specs.Commands.{Row, Surface, Decide, Certify, Loops, DecideOpen, CertifyOpen, Homology, Verify, VerifyHomology, Reduce, Trial, IsRow, answer_to}
 use Rattle.commands.specs.Decide.{IsDecided}
 use Rattle.program.specs.Headline.{Headline}
 use Rattle.commands.specs.Outcomes.{Outcome, AnswersTo, IsAnswerOf}
@@ -85,6 +87,12 @@ pub certified_open_by : (files : Option Files) (words : List (List ℕ)) (status
     → IsCertifiedOpen files words status text
 certified_open_by files words status text a =
     certified_open_so files words status text (λ mesh walks is. row_answered files words (CertifyOpen mesh walks) status text a is)
+
+pub homology_by : (files : Option Files) (words : List (List ℕ)) (status : Status) (text : List ℕ) → Answers files words status text
+    → IsHomologyAnswered files words status text
+homology_by files words status text a =
+    homology_so files words status text
+    (λ mesh walks is. row_answered files words (Homology mesh walks) status text a is)
 
 verify_answered : (files : Option Files) (words : List (List ℕ)) (status : Status) (text : List ℕ) → Answers files words status text
     → (mesh walks certificate : List ℕ) → IsRow words (Verify mesh walks certificate)

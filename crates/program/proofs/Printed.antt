@@ -1,5 +1,5 @@
 -- What `certify` prints spells its certificate again, and `verify` accepts it.
-use Rattle.std.proofs.Common.{◌≡◌, ℕ, ◌≤◌, List, length, sym, subst, arith}
+use Rattle.std.proofs.Common.{◌≡◌, ℕ, ◌≤◌, List, [], length, sym, subst, arith}
 use Rattle.std.specs.Prelude.{codes, Option, Some, None, IsSomeAnd}
 use Rattle.surf_io.specs.Files.{Files, file_of}
 use Rattle.surf_model.specs.FaceLists.{FaceList}
@@ -8,18 +8,24 @@ use Rattle.commands.proofs.MeshTexts.{is_face_list}
 use Rattle.commands.proofs.Sound.{held}
 use Rattle.commands.specs.Certificates.{certificate_text}
 use Rattle.commands.specs.Certify.{IsCertifyInput, IsWithinLimits, IsCertificatePrinted}
+use Rattle.commands.specs.Lines.{line}
 use Rattle.commands.specs.Inputs.{IsPeakRead, SpellsMesh, SpellsPair, SpellsCertificate}
 use Rattle.verify_commands.specs.Verify.{IsVerifyInput}
 use Rattle.commands.specs.declared.certificate.Certificate.{Certificate}
 use Rattle.commands.specs.declared.inputs.TheConstants.{MOST_BYTES}
 use Rattle.commands.specs.declared.status.Status.{Status}
+use Rattle.commands.specs.declared.status.Status.TheVariants.{Yes}
 use Rattle.commands.specs.declared.certificate.Certificate.TheVariants.{Moves}
+use Rattle.homology_commands.proofs.PrintedLemmas.{printed_accepted as homology_accepted}
+use Rattle.homology_commands.specs.Homology.{IsHomologyPrinted}
+use Rattle.homology_commands.specs.PrintedHomology as homology_texts
 use Rattle.open_commands.proofs.ShortTexts.{text_short}
 use Rattle.open_commands.specs.CertifyOpen.{IsListPrinted}
 use Rattle.open_commands.specs.OpenPairs as open_limits
 use Rattle.open_commands.specs.OpenPairs.{IsOpenInput}
-use Rattle.program.proofs.Rows.{row_ends}
-use Rattle.program.specs.Commands.{Verify}
+use Rattle.program.proofs.Rows.{row_answered, row_ends}
+use Rattle.program.specs.Commands.{Verify, VerifyHomology}
+use Rattle.program.specs.Outcomes.{Answers}
 use Rattle.program.specs.PrintedCertificates.{IsVerifyOfText, IsAccepted}
 
 some_and : {A : Type 0} (o : Option A) (P Q : A → Type 0) → ((x : A) → P x → Q x) → IsSomeAnd o P → IsSomeAnd o Q
@@ -86,3 +92,13 @@ printed_list_accepted files words mesh first second status text input limits pri
           (verify_input others commands mesh first second text (Moves printed.list) spells h)
           (row_ends others commands (Verify h.mesh_name h.walks_name h.certificate_name) outcome h.words_are is) told;
     }
+
+-- and what `homology` prints, `verify-homology` accepts
+pub printed_homology_accepted : (mesh : FaceList) (first second : List ℕ) (status : Status) (text : List ℕ)
+    → IsHomologyPrinted mesh first second status text → (files : Option Files) (words : List (List ℕ)) (told : Status) (answer : List ℕ)
+    → homology_texts.IsVerifyOfText files words mesh first second text → Answers files words told answer
+    → (told ≡ Yes) × (answer ≡ line (codes "accepted") [])
+printed_homology_accepted mesh first second status text printed files words told answer h answered =
+    (homology_accepted mesh first second status text printed).accepted files words told answer h
+    (λ mesh_name walks_name certificate_name is.
+    row_answered files words (VerifyHomology mesh_name walks_name certificate_name) told answer answered is)

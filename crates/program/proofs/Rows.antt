@@ -6,6 +6,7 @@ use Rattle.commands.proofs.Deciding.{behind}
 use Rattle.commands.proofs.Reducing.{sound-reduce}
 use Rattle.commands.proofs.Rows.{sound-surface, sound-decide, sound-certify}
 use Rattle.homology_commands.proofs.VerifyHomologyOutcomes.{sound-verify_homology}
+use Rattle.homology_commands.proofs.HomologyAnswers.{sound-homology}
 use Rattle.loop_commands.proofs.LoopAnswers.{sound-loops}
 use Rattle.commands.proofs.Sound.{IsSound, sound-then, sound-found}
 use Rattle.commands.proofs.Trying.{sound-trial}
@@ -14,7 +15,7 @@ use Rattle.commands.specs.Outcomes.{Outcome, AnswersTo}
 use Rattle.commands.specs.Refusals.{wrong_words}
 use Rattle.commands.specs.declared.status.Status.{Status}
 use Rattle.open_commands.proofs.OpenOutcomes.{sound-decide_open, sound-certify_open}
-use Rattle.program.specs.Commands.{Row, Surface, Decide, Certify, Loops, DecideOpen, CertifyOpen, Verify, VerifyHomology, Reduce, Trial, IsRow, answer_to}
+use Rattle.program.specs.Commands.{Row, Surface, Decide, Certify, Loops, DecideOpen, CertifyOpen, Homology, Verify, VerifyHomology, Reduce, Trial, IsRow, answer_to}
 use Rattle.program.specs.Outcomes.{AllTold, Answers, IsOutcome, answer_of}
 use Rattle.verify_commands.proofs.VerifyRows.{sound-verify}
 
@@ -28,6 +29,7 @@ keyword_of (Certify mesh walks) = codes "certify"
 keyword_of (Loops mesh walks) = codes "loops"
 keyword_of (DecideOpen mesh walks) = codes "decide-open"
 keyword_of (CertifyOpen mesh walks) = codes "certify-open"
+keyword_of (Homology mesh walks) = codes "homology"
 keyword_of (Verify mesh walks certificate) = codes "verify"
 keyword_of (VerifyHomology mesh walks certificate) = codes "verify-homology"
 keyword_of (Reduce degree list) = codes "reduce"
@@ -49,6 +51,7 @@ keyword-row words (Certify mesh walks) p = ap first_word p
 keyword-row words (Loops mesh walks) p = ap first_word p
 keyword-row words (DecideOpen mesh walks) p = ap first_word p
 keyword-row words (CertifyOpen mesh walks) p = ap first_word p
+keyword-row words (Homology mesh walks) p = ap first_word p
 keyword-row words (Verify mesh walks certificate) p = ap first_word p
 keyword-row words (VerifyHomology mesh walks certificate) p = ap first_word p
 keyword-row words (Reduce degree list) p = ap first_word p.1
@@ -67,6 +70,7 @@ one_row words (Certify a b) (Certify c d) p q = cc
 one_row words (Loops a b) (Loops c d) p q = cc
 one_row words (DecideOpen a b) (DecideOpen c d) p q = cc
 one_row words (CertifyOpen a b) (CertifyOpen c d) p q = cc
+one_row words (Homology a b) (Homology c d) p q = cc
 one_row words (Verify a b c) (Verify d e f) p q = cc
 one_row words (VerifyHomology a b c) (VerifyHomology d e f) p q = cc
 one_row words (Reduce a b) (Reduce c d) p q = cc
@@ -82,6 +86,7 @@ sound-row held (Certify mesh walks) = sound-certify held mesh walks
 sound-row held (Loops mesh walks) = sound-loops held mesh walks
 sound-row held (DecideOpen mesh walks) = sound-decide_open held mesh walks
 sound-row held (CertifyOpen mesh walks) = sound-certify_open held mesh walks
+sound-row held (Homology mesh walks) = sound-homology held mesh walks
 sound-row held (Verify mesh walks certificate) = sound-verify held mesh walks certificate
 sound-row held (VerifyHomology mesh walks certificate) = sound-verify_homology held mesh walks certificate
 sound-row held (Reduce degree list) = sound-reduce held degree list

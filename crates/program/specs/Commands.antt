@@ -10,6 +10,7 @@ use Rattle.commands.specs.Surface.{surface}
 use Rattle.commands.specs.Trial.{trial, IsTrialRow}
 use Rattle.verify_commands.specs.Verify.{verify}
 use Rattle.homology_commands.specs.VerifyHomology.{verify_homology}
+use Rattle.homology_commands.specs.Homology.{homology}
 use Rattle.loop_commands.specs.Loops.{loops}
 use Rattle.open_commands.specs.CertifyOpen.{certify_open}
 use Rattle.open_commands.specs.DecideOpen.{decide_open}
@@ -24,6 +25,7 @@ pub data Row : Type 0 where
   Loops : (mesh walks : List ℕ) → Row
   DecideOpen : (mesh walks : List ℕ) → Row
   CertifyOpen : (mesh walks : List ℕ) → Row
+  Homology : (mesh walks : List ℕ) → Row
   Verify : (mesh walks certificate : List ℕ) → Row
   VerifyHomology : (mesh walks certificate : List ℕ) → Row
   Reduce : (degree : ℕ) (list : List ℕ) → Row
@@ -37,6 +39,7 @@ IsRow words (Certify mesh walks) = words ≡ codes "certify" ∷ mesh ∷ walks 
 IsRow words (Loops mesh walks) = words ≡ codes "loops" ∷ mesh ∷ walks ∷ []
 IsRow words (DecideOpen mesh walks) = words ≡ codes "decide-open" ∷ mesh ∷ walks ∷ []
 IsRow words (CertifyOpen mesh walks) = words ≡ codes "certify-open" ∷ mesh ∷ walks ∷ []
+IsRow words (Homology mesh walks) = words ≡ codes "homology" ∷ mesh ∷ walks ∷ []
 IsRow words (Verify mesh walks certificate) = words ≡ codes "verify" ∷ mesh ∷ walks ∷ certificate ∷ []
 IsRow words (VerifyHomology mesh walks certificate) = words ≡ codes "verify-homology" ∷ mesh ∷ walks ∷ certificate ∷ []
 IsRow words (Reduce degree list) = IsReduceRow words degree list
@@ -50,6 +53,7 @@ row_of (read.Certify mesh walks) = Certify mesh.now walks.now
 row_of (read.Loops mesh walks) = Loops mesh.now walks.now
 row_of (read.DecideOpen mesh walks) = DecideOpen mesh.now walks.now
 row_of (read.CertifyOpen mesh walks) = CertifyOpen mesh.now walks.now
+row_of (read.Homology mesh walks) = Homology mesh.now walks.now
 row_of (read.Verify mesh walks certificate) = Verify mesh.now walks.now certificate.now
 row_of (read.VerifyHomology mesh walks certificate) = VerifyHomology mesh.now walks.now certificate.now
 row_of (read.Reduce degree list) = Reduce degree list.now
@@ -63,6 +67,7 @@ answer_to held (Certify mesh walks) = certify held mesh walks
 answer_to held (Loops mesh walks) = loops held mesh walks
 answer_to held (DecideOpen mesh walks) = decide_open held mesh walks
 answer_to held (CertifyOpen mesh walks) = certify_open held mesh walks
+answer_to held (Homology mesh walks) = homology held mesh walks
 answer_to held (Verify mesh walks certificate) = verify held mesh walks certificate
 answer_to held (VerifyHomology mesh walks certificate) = verify_homology held mesh walks certificate
 answer_to held (Reduce degree list) = reduce held degree list

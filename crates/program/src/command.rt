@@ -10,6 +10,7 @@ use commands::reduce::reduce;
 use commands::surface::measure;
 use commands::trial::trial;
 use commands::{Reply, Stop};
+use homology_commands::show_homology::show_homology;
 use homology_commands::verify_homology::verify_homology;
 use loop_commands::loops::loops;
 use open_commands::certify_open::certify_open;
@@ -47,6 +48,11 @@ pub enum Command<'a> {
     },
     /// `certify-open FILE WALKS`
     CertifyOpen {
+        mesh: &'a str,
+        walks: &'a str,
+    },
+    /// `homology FILE WALKS`
+    Homology {
         mesh: &'a str,
         walks: &'a str,
     },
@@ -99,6 +105,7 @@ pub fn read_command(words: &Vec<String>) -> Option<Command<'_>>
         ("loops", [mesh, walks]) => on_walks!(Loops, mesh, walks),
         ("decide-open", [mesh, walks]) => on_walks!(DecideOpen, mesh, walks),
         ("certify-open", [mesh, walks]) => on_walks!(CertifyOpen, mesh, walks),
+        ("homology", [mesh, walks]) => on_walks!(Homology, mesh, walks),
         ("verify", [mesh, walks, certificate]) => Some(Command::Verify {
             mesh: mesh.as_str(),
             walks: walks.as_str(),
@@ -132,6 +139,7 @@ pub fn answer<S: Shelf>(alloc: Global, shelf: &mut S, command: Command<'_>) -> R
         Command::Loops { mesh, walks } => loops(alloc, shelf, mesh, walks),
         Command::DecideOpen { mesh, walks } => decide_open(alloc, shelf, mesh, walks),
         Command::CertifyOpen { mesh, walks } => certify_open(alloc, shelf, mesh, walks),
+        Command::Homology { mesh, walks } => show_homology(alloc, shelf, mesh, walks),
         Command::Verify {
             mesh,
             walks,

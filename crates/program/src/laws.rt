@@ -1,6 +1,6 @@
 //! What is promised of answers, said of the definitions: the headline first, then what each command is for. A call of one of these
 //! functions does nothing; its contract is the law. `run` says of each answer that it is one of `Answers`.
-ghost use Rattle.std.specs.Prelude.{◌≡◌, ℕ, ◌≤◌, List, codes, length, Ok, Option};
+ghost use Rattle.std.specs.Prelude.{◌≡◌, ℕ, ◌≤◌, List, [], codes, length, Ok, Option};
 ghost use Rattle.surf_io.specs.Files.{Files};
 ghost use Rattle.surf_model.specs.FaceLists.{FaceList};
 ghost use Rattle.off_reader.specs.OffTexts.{meaning_of};
@@ -12,6 +12,7 @@ ghost use Rattle.commands.specs.Decide.{IsDecided};
 ghost use Rattle.program.specs.Headline.{Headline};
 ghost use Rattle.commands.specs.Checks.{IsTold};
 ghost use Rattle.commands.specs.Inputs.{IsPeakRead};
+ghost use Rattle.commands.specs.Lines.{line};
 ghost use Rattle.commands.specs.Outcomes.{Outcome};
 ghost use Rattle.program.specs.Outcomes.{AllTold, Answers, IsOutcome};
 ghost use Rattle.program.specs.PrintedCertificates.{IsAccepted};
@@ -23,6 +24,8 @@ ghost use Rattle.open_commands.specs.DecideOpen.{IsDecidedOpen};
 ghost use Rattle.open_commands.specs.OpenPairs.{IsOpenInput, IsWithinLimits as IsWithinOpenLimits};
 ghost use Rattle.verify_commands.specs.Verify.{IsVerified, IsDenialVerified};
 ghost use Rattle.homology_commands.specs.VerifyHomology.{IsHomologyVerified};
+ghost use Rattle.homology_commands.specs.Homology.{IsHomologyAnswered, IsHomologyPrinted};
+ghost use Rattle.homology_commands.specs.PrintedHomology.{IsVerifyOfText as IsHomologyVerifyOfText};
 ghost use Rattle.loop_commands.specs.Loops.{IsLoopsAnswered};
 ghost use Rattle.commands.specs.declared.certificate.Certificate.{Certificate};
 ghost use Rattle.commands.specs.declared.inputs.TheConstants.{MOST_BYTES};
@@ -68,6 +71,12 @@ pub fn decide_open_answers()
 pub fn certify_open_answers()
     ensures { (held : Option Files) (words : List (List ℕ)) (status : Status) (text : List ℕ)
         → Answers held words status text → IsCertifiedOpen held words status text }
+{}
+
+/// What `homology` answers of two walks of a surface.
+pub fn homology_answers()
+    ensures { (held : Option Files) (words : List (List ℕ)) (status : Status) (text : List ℕ)
+        → Answers held words status text → IsHomologyAnswered held words status text }
 {}
 
 /// What `verify` answers of a list of moves, and of a denial.
@@ -119,6 +128,14 @@ pub fn printed_certificates_are_accepted()
         → IsCertifyInput held words mesh first second → IsWithinLimits mesh first second
         → (printed : IsCertificatePrinted mesh first second status text) → IsPeakRead printed.shown → length text ≤ MOST_BYTES
         → IsAccepted mesh first second printed.shown text }
+{}
+
+/// What `homology` prints is, as it is, a certificate: `verify-homology` answers `accepted` of it, on the same mesh and walks.
+pub fn printed_homology_is_accepted()
+    ensures { (mesh : FaceList) (first second : List ℕ) (status : Status) (text : List ℕ) → IsHomologyPrinted mesh first second status text
+        → (held : Option Files) (words : List (List ℕ)) (told : Status) (answer : List ℕ)
+        → IsHomologyVerifyOfText held words mesh first second text → Answers held words told answer
+        → (told ≡ Status.Yes) × (answer ≡ line (codes "accepted") []) }
 {}
 
 /// Each list that `certify-open` prints is, as it is, a certificate that `verify` accepts on the same mesh and walks.

@@ -17,6 +17,9 @@ returns-in-DecideOpen g c = rw c.in-DecideOpen.is c.decide_open.ensures
 pub returns-in-CertifyOpen : goal.returns-in-CertifyOpen
 returns-in-CertifyOpen g c = rw c.in-CertifyOpen.is c.certify_open.ensures.runs
 
+pub returns-in-Homology : goal.returns-in-Homology
+returns-in-Homology g c = rw c.in-Homology.is c.show_homology.ensures
+
 pub returns-in-Verify : goal.returns-in-Verify
 returns-in-Verify g c = rw c.in-Verify.is c.verify.ensures
 

@@ -1,0 +1,7 @@
+use Rattle.homology.specs.Tallies.{number_at}
+use Rattle.homology_commands.specs.Listings.{ListsEdges}
+use Rattle.homology_commands.proofs.listing.list_edges.Given as goal
+
+-- the numbers of the edges so far are listed
+abbrev pub invariant-loop-edge : goal.invariant-loop-edge
+invariant-loop-edge l = ListsEdges l.surface.table (number_at l.numbers) l.edge l.lines

@@ -1,0 +1,64 @@
+use Rattle.std.proofs.Common.{◌≡◌, ℕ, ◌<◌, ◌≤◌, List, sym, ◌∙◌, subst, arith, ℤ, pos, to_z, of_z, w64}
+use Rattle.std.specs.Prelude.{All, unsigned_abs}
+use Rattle.std.proofs.lemmas.Option.{get_or_from_slice_get}
+use Rattle.homology.specs.Tallies.{number_at}
+use Rattle.homology.specs.declared.certificate.FaceNumber.{FaceNumber}
+use Rattle.homology.specs.declared.certificate.TheConstants.{MOST_NUMBER}
+use Rattle.homology.proofs.SizeLemmas.{sent}
+use Rattle.homology_commands.specs.Listings.{ListsFaces, name_in}
+use Rattle.homology_commands.proofs.CertificateLemmas.{names_rise}
+use Rattle.homology_commands.proofs.ListedLemmas.{face_more, faces_before, no_faces}
+use Rattle.homology_commands.proofs.listing.list_faces.Goals as goal
+
+pub loop-face-init : goal.loop-face-init
+loop-face-init c =
+    subst (ListsFaces (name_in c.args.component.now) (number_at c.args.numbers.now) 0) (sym c.new-lines.ensures)
+    (no_faces (name_in c.args.component.now) (number_at c.args.numbers.now))
+
+pub name_of-name-requires-clause-face : goal.name_of-name-requires-clause-face
+name_of-name-requires-clause-face c = omega (arith, c.loop-face-test.true, c.len-face-end.ensures, c.requires.each_face)
+
+pub list_face-requires-clause-above : goal.list_face-requires-clause-above
+list_face-requires-clause-above c =
+    let component = c.args.component.now in
+    let numbers : List ℤ = c.args.numbers.now in
+    let face : ℕ = c.loop-face.face in
+    let rises : (j : ℕ) → j < face → name_in component j < name_in component face =
+    λ j less.
+    names_rise c.requires.component.0 c.requires.component.1 component j face c.requires.component.2 less
+    (omega (arith, c.loop-face-test.true, c.len-face-end.ensures, c.requires.each_face)) in
+    subst (λ n. All (λ (other : FaceNumber). other.face.0 < n) c.loop-face.lines) (sym c.name_of-name.ensures)
+    (faces_before (name_in component) (number_at numbers) face c.loop-face.lines c.loop-face.invariant rises)
+
+pub list_face-requires-clause-small : goal.list_face-requires-clause-small
+list_face-requires-clause-small c =
+    let numbers : List ℤ = c.args.numbers.now in
+    let face : ℕ = c.loop-face.face in
+    let is : number_at numbers face ≡ c.at-number.result =
+    get_or_from_slice_get numbers face c.at-number.result (pos 0) c.at-number.ensures in
+    let small : unsigned_abs c.at-number.result ≤ MOST_NUMBER =
+    subst (λ z. unsigned_abs z ≤ MOST_NUMBER) is (c.requires.small.each face) in
+    let passed : to_z w64 (of_z w64 c.at-number.result) ≡ c.at-number.result = sent c.at-number.result (omega (arith, small)) in
+    subst (λ z. unsigned_abs z ≤ MOST_NUMBER) (sym passed) small
+
+pub list_face-requires-clause-few : goal.list_face-requires-clause-few
+list_face-requires-clause-few c =
+    omega (arith, c.loop-face.invariant.few, c.loop-face-test.true, c.len-face-end.ensures)
+
+pub loop-face-preserved : goal.loop-face-preserved
+loop-face-preserved c =
+    let component = c.args.component.now in
+    let numbers : List ℤ = c.args.numbers.now in
+    let face : ℕ = c.loop-face.face in
+    let rises : (j : ℕ) → j < face → name_in component j < name_in component face =
+    λ j less.
+    names_rise c.requires.component.0 c.requires.component.1 component j face c.requires.component.2 less
+    (omega (arith, c.loop-face-test.true, c.len-face-end.ensures, c.requires.each_face)) in
+    let is : number_at numbers face ≡ c.at-number.result =
+    get_or_from_slice_get numbers face c.at-number.result (pos 0) c.at-number.ensures in
+    let small : unsigned_abs c.at-number.result ≤ MOST_NUMBER =
+    subst (λ z. unsigned_abs z ≤ MOST_NUMBER) is (c.requires.small.each face) in
+    let passed : to_z w64 (of_z w64 c.at-number.result) ≡ c.at-number.result = sent c.at-number.result (omega (arith, small)) in
+    face_more (name_in component) (number_at numbers) face c.loop-face.lines c.loop-face.invariant rises _ c.list_face.new.lines
+    c.name_of-name.ensures (passed ∙ sym is) c.list_face.ensures.fits c.in_ok-list_face.ensures.zero
+    c.in_ok-list_face.ensures.listed
