@@ -5,7 +5,8 @@ ghost use Rattle.commands.specs.Writes.{Writes};
 ghost use Rattle.commands.specs.declared.certificate.Certificate.{Certificate};
 
 use crate::certificate::Certificate;
-use crate::decide::line_of;
+use crate::decision::line_of;
+use crate::decision_lines::put_decisions;
 use crate::line::{Line, put_line, put_lines};
 use crate::odd_chain_line::put_odd_chain;
 use crate::word_lines::put_words;
@@ -29,6 +30,8 @@ pub enum Text {
     Certificate(Certificate),
     /// Turn words, each on a line.
     Words(Vec<TurnWord>),
+    /// Decisions, each on a line.
+    Decisions(Vec<Answer>),
 }
 
 /// Writes a text.
@@ -42,6 +45,7 @@ pub fn put_text<K: Sink>(out: &mut K, text: &Text) -> Result<(), Failed>
         Text::Certificate(Certificate::Moves(list)) => put_moves(out, list),
         Text::Certificate(Certificate::Denial(denial)) => put_denial(out, denial),
         Text::Words(words) => put_words(out, words),
+        Text::Decisions(decisions) => put_decisions(out, decisions),
     }
 }
 

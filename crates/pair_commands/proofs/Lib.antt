@@ -1,0 +1,3 @@
+pub mod PairChecks
+pub mod PairDecisions
+pub mod DecideOutcomes

@@ -1,0 +1,2 @@
+pub mod PairInput
+pub mod Decide
