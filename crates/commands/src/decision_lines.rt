@@ -11,8 +11,8 @@ use surf_io::{Failed, Piece, Sink};
 use walk_translate::Answer;
 
 /// Writes a line for each decision. It takes no memory.
-pub fn put_decisions<K: Sink>(out: &mut K, decisions: &Vec<Answer>) -> Result<(), Failed>
-    ensures { Writes K.written K.settled K.faults out.old out.new (decision_lines decisions.now.items) result }
+pub fn put_decisions<K: Sink>(out: &mut K, decisions: &[Answer]) -> Result<(), Failed>
+    ensures { Writes K.written K.settled K.faults out.old out.new (decision_lines decisions.now) result }
 {
     let mut piece = Piece::new();
     for decision in decisions {
