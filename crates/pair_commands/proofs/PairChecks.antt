@@ -1,6 +1,6 @@
 -- How the check of pairs of walks ends.
-use Rattle.std.proofs.Common.{◌≡◌, inr, ℕ, List, refl, sym}
-use Rattle.std.specs.Prelude.{Option, Some, None, Result, Ok, Err}
+use Rattle.std.proofs.Common.{◌≡◌, inr, ℕ, List, refl}
+use Rattle.std.specs.Prelude.{Option, Some, None, Result}
 use Rattle.surf_io.specs.Files.{Files}
 use Rattle.surf_model.specs.FaceLists.{FaceList}
 use Rattle.walk_files.specs.PairLists.{WalkPair, in_pairs, pairs_fault}

@@ -1,5 +1,5 @@
 -- Decisions on pairs: one more, all of them, and what they are worth.
-use Rattle.std.proofs.Common.{◌≡◌, ◌↔◌, ℕ, zero, suc, ◌+◌, ◌*◌, ◌<◌, ◌≤◌, List, [], ◌∷◌, ◌++◌, length, get_or, take, refl, sym, ap, ◌∙◌, subst, arith}
+use Rattle.std.proofs.Common.{◌≡◌, ◌↔◌, ℕ, zero, suc, ◌+◌, ◌*◌, ◌≤◌, List, [], ◌∷◌, ◌++◌, length, take, refl, sym, ap, ◌∙◌, subst, arith}
 use Rattle.std.specs.Prelude.{All, Option, Some, slice_get}
 use Rattle.std.specs.List.{AllZip}
 use Rattle.std.proofs.lemmas.List.{take_all}
@@ -8,9 +8,6 @@ use Rattle.surf_io.specs.Files.{Files}
 use Rattle.surf_model.specs.FaceLists.{FaceList}
 use Rattle.surf_model.specs.Moves as moves
 use Rattle.surf_model.specs.Walks.{IsWalk, HaveCommonEnds}
-use Rattle.manifold_check.specs.ComponentParts.{PartsView, AreParts, component_at, component_mesh}
-use Rattle.manifold_check.proofs.PartPieces.{IsOfComponent, piece_of_parts, walk_alone}
-use Rattle.manifold_check.proofs.PieceMoves.{homotopic_alike}
 use Rattle.walk_files.specs.PairLists.{WalkPair, ArePairs, in_pairs}
 use Rattle.walk_files.specs.WalkLists.{WalkText}
 use Rattle.walk_translate.specs.declared.deciding.Answer as deciding
@@ -56,7 +53,7 @@ few_pairs (x ∷ y ∷ walks) zero few = absurd (omega (arith, few))
 few_pairs (x ∷ y ∷ walks) (suc k) few =
     let rest : length (in_pairs walks) ≤ k = few_pairs walks k (omega (arith, few)) in omega (arith, rest)
 
-all_at : {A : Type 0} (P : A → Type 0) (xs : List A) (k : ℕ) (x : A) → All P xs → slice_get xs k ≡ Some x → P x
+pub all_at : {A : Type 0} (P : A → Type 0) (xs : List A) (k : ℕ) (x : A) → All P xs → slice_get xs k ≡ Some x → P x
 all_at P [] k x all e = cc
 all_at P (y ∷ xs) zero x all e = let same : y ≡ x = cc in subst P same (All-head P y xs all)
 all_at P (y ∷ xs) (suc k) x all e = all_at P xs k x (All-tail P y xs all) e
@@ -95,30 +92,6 @@ pub decisions_all : (mesh : FaceList) (walks : List (List ℕ)) (decisions : Lis
 decisions_all mesh walks decisions first few =
     subst (λ (pairs : List WalkPair). AreDecisions mesh pairs decisions)
     (take_all (length decisions) (in_pairs walks) (few_pairs walks (length decisions) few)) first
-
--- ---- a component
-
--- the walks of a pair in a component are walks of it
-pub walks_there : (mesh : FaceList) (parts : PartsView) (place : ℕ) (first second : List ℕ) → AreParts mesh parts
-    → place < length parts.components → AreWalks mesh first second → get_or parts.places (get_or first 0 0) 0 ≡ place
-    → AreWalks (component_mesh mesh parts place) first second
-walks_there mesh parts place first second is within walks at =
-    record {
-      first_walk = walk_alone mesh parts place first is within walks.first_walk at;
-      second_walk = walk_alone mesh parts place second is within walks.second_walk
-          (ap (λ v. get_or parts.places v 0) (sym walks.ends.starts) ∙ at);
-      ends = walks.ends;
-    }
-
--- and a decision there is one on the whole mesh
-pub decision_there : (mesh : FaceList) (parts : PartsView) (place : ℕ) (first second : List ℕ) (decision : deciding.Answer)
-    → AreParts mesh parts → place < length parts.components → IsWalk mesh first → get_or parts.places (get_or first 0 0) 0 ≡ place
-    → (decision ≡ Homotopic) ↔ moves.Homotopic (component_mesh mesh parts place) first second
-    → (decision ≡ Homotopic) ↔ moves.Homotopic mesh first second
-decision_there mesh parts place first second decision is within walk at right =
-    let alike = homotopic_alike mesh (IsOfComponent parts.places place) (component_at parts place) first second
-    (piece_of_parts mesh parts place is within) walk at in
-    ((λ e. alike.1 (right.0 e)), (λ h. right.1 (alike.0 h)))
 
 -- ---- all decisions
 

@@ -1,2 +1,3 @@
 pub mod PairInput
 pub mod Decide
+pub mod Asked

@@ -1,12 +1,14 @@
 //! Deciding on many pairs of walks of a surface, of one component or of several.
-ghost use Rattle.std.specs.Prelude.{◌+◌, ◌*◌, ◌<◌, length, IfOk, OnOk};
-ghost use Rattle.manifold_check.specs.ComponentParts.{AreParts};
+ghost use Rattle.std.specs.Prelude.{◌≡◌, ◌+◌, ◌*◌, ◌<◌, length, IfOk, OnOk};
+ghost use Rattle.manifold_check.specs.ComponentParts.{component_mesh};
 ghost use Rattle.walk_files.specs.PairLists.{ArePairs, in_pairs};
 ghost use Rattle.commands.specs.ClosedSurfaces.{IsSigned};
-ghost use Rattle.pair_commands.specs.Decide.{AreDecisions, AreFirstDecisions};
+ghost use Rattle.pair_commands.specs.Asked.{AreDecisionsSoFar, IsAsked, LiesIn};
+ghost use Rattle.pair_commands.specs.Decide.{AreDecisions};
 
+use crate::asked::Asked;
 use commands::SignedMesh;
-use commands::component::{connected, surface_alone};
+use commands::component::connected;
 use halfedge_map::Surface;
 use manifold_check::Parts;
 use std::alloc::{AllocError, Global};
@@ -30,7 +32,12 @@ pub(crate) fn decide_pairs(
         let surface = connected(alloc, mesh)?;
         return decide_in_one(alloc, surface, walks);
     }
-    decide_in_several(alloc, &mesh, &parts, walks)
+    let asked = Asked {
+        mesh: &mesh,
+        parts: &parts,
+        walks,
+    };
+    decide_in_several(alloc, &asked)
 }
 
 /// The decisions on the pairs of walks of a connected surface.
@@ -43,6 +50,17 @@ fn decide_in_one(
     ensures { IfOk result (λ decisions. AreDecisions surface.mesh (in_pairs walks.now.walks) decisions.items) }
 {
     let decider = Decider::start(alloc, surface)?;
+    let decisions = decide_all(alloc, &decider, walks);
+    // By a call, which is proved once, and not here again.
+    drop(decider);
+    decisions
+}
+
+/// The decisions on the pairs of walks of the surface that a decider has.
+fn decide_all(alloc: Global, decider: &Decider, walks: &WalkList) -> Result<Vec<Answer>, AllocError>
+    requires { ArePairs decider.now walks.now }
+    ensures { IfOk result (λ decisions. AreDecisions decider.now (in_pairs walks.now.walks) decisions.items) }
+{
     let count = walks.len() / 2;
     let mut decisions = Vec::with_capacity(alloc, count as usize)?;
     for k in 0..count {
@@ -53,21 +71,14 @@ fn decide_in_one(
 }
 
 /// The decisions on the pairs of walks of a surface of several components.
-fn decide_in_several(
-    alloc: Global,
-    mesh: &SignedMesh,
-    parts: &Parts,
-    walks: &WalkList,
-) -> Result<Vec<Answer>, AllocError>
-    requires signed { IsSigned mesh.now }
-    requires parts { AreParts mesh.now.faces parts.now }
-    requires pairs { ArePairs mesh.now.faces walks.now }
-    ensures { IfOk result (λ decisions. AreDecisions mesh.now.faces (in_pairs walks.now.walks) decisions.items) }
+fn decide_in_several(alloc: Global, asked: &Asked<'_>) -> Result<Vec<Answer>, AllocError>
+    requires { IsAsked asked.now }
+    ensures { IfOk result (λ decisions. AreDecisions asked.now.mesh.now.faces (in_pairs asked.now.walks.now.walks) decisions.items) }
 {
-    let count = walks.len() / 2;
-    let mut decisions = Vec::with_capacity(alloc, count as usize)?;
-    while (decisions.len() as u64) < count {
-        decide_run(alloc, mesh, parts, walks, &mut decisions)?;
+    let count = asked.count() as usize;
+    let mut decisions = Vec::with_capacity(alloc, count)?;
+    'runs: while decisions.len() < count {
+        decide_run(alloc, asked, &mut decisions)?;
     }
     Ok(decisions)
 }
@@ -76,29 +87,45 @@ fn decide_in_several(
 /// component is labelled once for them, and its memory given back.
 fn decide_run(
     alloc: Global,
-    mesh: &SignedMesh,
-    parts: &Parts,
-    walks: &WalkList,
+    asked: &Asked<'_>,
     decisions: &mut Vec<Answer>,
 ) -> Result<(), AllocError>
-    requires signed { IsSigned mesh.now }
-    requires parts { AreParts mesh.now.faces parts.now }
-    requires pairs { ArePairs mesh.now.faces walks.now }
-    requires first { AreFirstDecisions mesh.now.faces (in_pairs walks.now.walks) decisions.old.items }
-    requires next { 2 * length decisions.old.items + 1 < length walks.now.walks }
-    ensures first { OnOk result (AreFirstDecisions mesh.now.faces (in_pairs walks.now.walks) decisions.new.items) }
+    requires asked { IsAsked asked.now }
+    requires first { AreDecisionsSoFar asked.now decisions.old.items }
+    requires next { 2 * length decisions.old.items + 1 < length asked.now.walks.now.walks }
+    ensures first { OnOk result (AreDecisionsSoFar asked.now decisions.new.items) }
+    ensures more { OnOk result (length decisions.old.items < length decisions.new.items) }
+{
+    let place = asked.place_of(decisions.len() as u64);
+    let decider = asked.decider_at(alloc, place)?;
+    let ended = decide_there(asked, &decider, place, decisions);
+    drop(decider);
+    ended
+}
+
+/// Puts the decisions on the pairs that come next, as long as they lie in the component of a decider, behind those on the pairs before
+/// them.
+fn decide_there(
+    asked: &Asked<'_>,
+    decider: &Decider,
+    place: u32,
+    decisions: &mut Vec<Answer>,
+) -> Result<(), AllocError>
+    requires asked { IsAsked asked.now }
+    requires place { place < length asked.now.parts.now.components }
+    requires there { decider.now ≡ component_mesh asked.now.mesh.now.faces asked.now.parts.now place }
+    requires first { AreDecisionsSoFar asked.now decisions.old.items }
+    requires next { 2 * length decisions.old.items + 1 < length asked.now.walks.now.walks }
+    requires next_there { LiesIn asked.now (length decisions.old.items) place }
+    ensures first { OnOk result (AreDecisionsSoFar asked.now decisions.new.items) }
     ensures more { OnOk result (length decisions.old.items < length decisions.new.items) }
 {
     let start = decisions.len() as u64;
-    let place = parts.part_of(walks.at(2 * start).at(0));
-    let alone = surface_alone(alloc, mesh, parts, place)?;
-    let decider = Decider::start(alloc, alone)?;
-    for k in start..walks.len() / 2 {
-        let first = walks.at(2 * k);
-        if parts.part_of(first.at(0)) != place {
+    for k in start..asked.count() {
+        if asked.place_of(k) != place {
             return Ok(());
         }
-        let decision = decider.answer(first, walks.at(2 * k + 1))?;
+        let decision = decider.answer(asked.walks.at(2 * k), asked.walks.at(2 * k + 1))?;
         decisions.push(decision)?;
     }
     Ok(())

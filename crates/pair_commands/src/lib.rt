@@ -5,6 +5,7 @@
 //! that follow one another.
 #![tactic(auto)]
 
+mod asked;
 pub mod decide;
 mod deciding;
 mod pair_input;

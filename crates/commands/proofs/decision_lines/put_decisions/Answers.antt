@@ -49,20 +49,21 @@ loop-decision-preserved g c =
 
 pub returns : goal.returns
 returns g c =
-    let all = take_all c.loop-decision.decision-index c.args.decisions.now c.loop-decision-test.false in
+    let decisions = c.args.decisions.now in
+    let all = take_all c.loop-decision.decision-index decisions c.loop-decision-test.false in
     let only = c.write_piece.ensures.only_writes in
-    let gathers : Gathers g.K.Sink.written c.args.out.now c.loop-decision.out [] c.loop-decision.piece (decision_lines c.args.decisions.now) =
+    let gathers : Gathers g.K.Sink.written c.args.out.now c.loop-decision.out [] c.loop-decision.piece (decision_lines decisions) =
     subst (λ (t : List Answer). Gathers g.K.Sink.written c.args.out.now c.loop-decision.out [] c.loop-decision.piece (decision_lines t)) all
     c.loop-decision.invariant.gathers in
     record {
       ok =
           both_ok c.write_piece.result
           (gathers-all g.K.Sink.written c.args.out.now c.loop-decision.out c.write_piece.new.out c.loop-decision.piece
-          (decision_lines c.args.decisions.now) gathers) c.write_piece.ensures.ok;
+          (decision_lines decisions) gathers) c.write_piece.ensures.ok;
       failed =
           on_err c.write_piece.result
           (lines-stop_last decision_line g.K.Sink.written g.K.Sink.faults c.args.out.now c.loop-decision.out c.write_piece.new.out
-          c.loop-decision.piece c.args.decisions.now c.loop-decision.decision-index all c.loop-decision.invariant.gathers
+          c.loop-decision.piece decisions c.loop-decision.decision-index all c.loop-decision.invariant.gathers
           c.loop-decision.invariant.never_falls)
           c.write_piece.ensures.failed;
       only_writes =
