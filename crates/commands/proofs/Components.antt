@@ -1,5 +1,5 @@
 -- The component in which two walks lie: what holds of them there, and what it tells of the whole mesh.
-use Rattle.std.proofs.Common.{◌≡◌, ◌↔◌, inl, inr, ℕ, ◌+◌, ◌<◌, ◌≤◌, Bool, List, [], ◌∷◌, ◌++◌, length, get_or, take, refl, sym, ap, ◌∙◌, subst, arith}
+use Rattle.std.proofs.Common.{◌≡◌, inl, inr, ℕ, ◌+◌, ◌<◌, ◌≤◌, Bool, List, [], ◌∷◌, ◌++◌, length, get_or, take, refl, sym, ap, ◌∙◌, subst, arith}
 use Rattle.std.specs.Prelude.{All, Some, filter, map, max, sum_by, Result, Ok, Err, IfOk}
 use Rattle.std.specs.List.{range_with_len}
 use Rattle.std.proofs.lemmas.Bool.{cases_Bool, cond-true, cond-false}
@@ -9,7 +9,7 @@ use Rattle.std.proofs.lemmas.List.Elements.{All-nil, All-cons}
 use Rattle.std.proofs.lemmas.List.FromFn.{length-map-range_with_len, get_or-map-range_with_len}
 use Rattle.std.proofs.lemmas.List.Sums.{sum_by-cons}
 use Rattle.surf_model.specs.FaceLists.{FaceList, face_at, total_sides}
-use Rattle.surf_model.specs.Moves.{apply, apply_all, Leads, Homotopic}
+use Rattle.surf_model.specs.Moves.{apply, apply_all, Leads}
 use Rattle.surf_model.specs.Walks.{IsWalk}
 use Rattle.surf_model.specs.declared.moves.Move.{Move}
 use Rattle.surf_model.specs.declared.moves.Move.TheVariants.{Insert, Remove, Across}
@@ -19,7 +19,7 @@ use Rattle.manifold_check.specs.ComponentParts.{component_at, component_mesh}
 use Rattle.manifold_check.specs.Submeshes.{submesh, renamed_move, renamed_moves, signs_among}
 use Rattle.manifold_check.proofs.PartPieces.{IsOfComponent, piece_of_parts, walk_alone}
 use Rattle.manifold_check.proofs.PieceLemmas.{IsPiece, length-submesh}
-use Rattle.manifold_check.proofs.PieceMoves.{moves_up, greatest_alike, homotopic_alike}
+use Rattle.manifold_check.proofs.PieceMoves.{moves_up, greatest_alike}
 use Rattle.labellings.specs.Denials.{DenialHolds}
 use Rattle.labellings.specs.GoodLabellings.{IsGood}
 use Rattle.labellings.specs.Labellings.{LabellingView, signs_of}
@@ -57,19 +57,6 @@ walk_there mesh v (Alone part) walk h w start =
     subst (λ (m : FaceList). IsWalk m walk) (sym is.mesh)
     (walk_alone part.whole.faces part.parts part.place walk is.parts is.within (subst (λ (m : FaceList). IsWalk m walk) (sym h.1) w)
     (ap (λ (n : ℕ). get_or part.parts.places n 0) start ∙ h.2))
-
-pub homotopic_there : (mesh : FaceList) (v : ℕ) (component : Component) (first second : List ℕ) → IsComponentOf mesh v component
-    → IsWalk mesh first → get_or first 0 0 ≡ v → Homotopic mesh first second ↔ Homotopic (surface_of component).mesh first second
-homotopic_there mesh v (Whole surface) first second h w start =
-    subst (λ (m : FaceList). Homotopic mesh first second ↔ Homotopic m first second) (sym h) ((λ e. e), (λ e. e))
-homotopic_there mesh v (Alone part) first second h w start =
-    let is : IsPart part = h.0 in
-    let there : IsWalk part.whole.faces first = subst (λ (m : FaceList). IsWalk m first) (sym h.1) w in
-    subst (λ (m : FaceList). Homotopic mesh first second ↔ Homotopic m first second) (sym is.mesh)
-    (subst (λ (m : FaceList). Homotopic m first second ↔ Homotopic (component_mesh part.whole.faces part.parts part.place) first second) h.1
-    (homotopic_alike part.whole.faces (IsOfComponent part.parts.places part.place) (component_at part.parts part.place) first second
-    (piece_of_parts part.whole.faces part.parts part.place is.parts is.within) there
-    (ap (λ (n : ℕ). get_or part.parts.places n 0) start ∙ h.2)))
 
 -- ---- a component has no more sides than the whole
 

@@ -1,4 +1,4 @@
--- How the checks of `decide` end, and what they leave to be answered.
+-- How the decision on two walks ends, and what it leaves to be answered.
 use Rattle.std.proofs.Common.{◌≡◌, ◌⊎◌, inl, inr, ℕ, List, [], get_or, refl, sym, ap, ◌∙◌, subst}
 use Rattle.std.specs.Prelude.{◌↔◌, Option, Some, slice_get}
 use Rattle.std.proofs.lemmas.Option.{get_or_from_slice_get}
@@ -9,19 +9,14 @@ use Rattle.surf_model.specs.Moves as moves
 use Rattle.walk_files.specs.Pairs.{IsPair}
 use Rattle.walk_translate.specs.declared.deciding.Answer as deciding
 use Rattle.walk_translate.specs.declared.deciding.Answer.TheVariants.{Homotopic, Different}
-use Rattle.commands.proofs.Checking.{stops_first, stops_next}
 use Rattle.commands.proofs.Sound.{IsSound}
 use Rattle.commands.specs.Answers.{Answer, Texts}
 use Rattle.commands.specs.Certificates.{decision_status, decision_line}
 use Rattle.commands.specs.Checks.{Check, End, Refuse, Pass, Passes, IsTold, ◌>>=◌}
-use Rattle.commands.specs.Decide.{decide, decided, decision_answer}
-use Rattle.commands.specs.Inputs.{pair_in, walk_at}
+use Rattle.commands.specs.Decisions.{decided, decision_answer}
 use Rattle.commands.specs.Outcomes.{Outcome, IsAnswerOf}
-use Rattle.commands.specs.Stops.{Stops}
-use Rattle.commands.specs.SurfaceInput.{surface_in}
 use Rattle.commands.specs.declared.status.Status.{Status}
 use Rattle.commands.specs.declared.status.Status.TheVariants.{Yes, No}
-use Rattle.commands.specs.declared.stop.Stop.{Stop}
 
 -- ---- a decision
 
@@ -98,26 +93,7 @@ refused_behind {A} {B} held first next texts end sound told p (inl q) =
     q.2 ∙ ap (λ (t : Texts). let e : End B = Refuse t in e) same
 refused_behind held first next texts end sound told p (inr q) = let e = sound.one told (Pass q.0) (Refuse texts) q.1 p in cc
 
--- ---- the parts of the command
-
--- what is looked at behind the walks, and behind the surface
-abbrev pub after_pair : FaceList → List (List ℕ) → Check Answer
-after_pair surface pair = decided surface (walk_at pair 0) (walk_at pair 1)
-
-abbrev pub after_surface : Option Files → List ℕ → FaceList → Check Answer
-after_surface held walks surface = pair_in held walks surface >>= after_pair surface
-
-pub walks_stop : (held : Option Files) (mesh walks : List ℕ) (surface : FaceList) (stop : Stop) → Passes (surface_in held mesh) surface
-    → Stops (pair_in held walks surface) stop → Stops (decide held mesh walks) stop
-walks_stop held mesh walks surface stop p h =
-    stops_next (surface_in held mesh) (after_surface held walks) surface stop p
-    (stops_first (pair_in held walks surface) (after_pair surface) stop h)
-
-pub decision_passes : (held : Option Files) (mesh walks : List ℕ) (surface : FaceList) (pair : List (List ℕ)) (decision : deciding.Answer)
-    → Passes (surface_in held mesh) surface → Passes (pair_in held walks surface) pair
-    → (decision ≡ Homotopic) ↔ moves.Homotopic surface (walk_at pair 0) (walk_at pair 1)
-    → Passes (decide held mesh walks) (decision_answer decision)
-decision_passes held mesh walks surface pair decision p q right = inr (surface, p, inr (pair, q, (decision, refl, right)))
+-- ---- walks
 
 -- the two walks of a pair
 pub record AreWalks (mesh : FaceList) (first second : List ℕ) : Type 0 where

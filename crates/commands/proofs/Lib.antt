@@ -18,7 +18,6 @@ pub mod Certifying
 pub mod Trying
 pub mod Rows
 pub mod SurfaceOutcomes
-pub mod DecideOutcomes
 pub mod CertifyOutcomes
 pub mod ReduceOutcomes
 pub mod ChainReading

@@ -11,7 +11,6 @@ use Rattle.walk_files.proofs.PairLemmas.{none_of_pair}
 use Rattle.commands.specs.declared.refusal.Input.TheVariants as inputs
 use Rattle.commands.proofs.Certifying.{sound-certified}
 use Rattle.commands.proofs.Checking.{pair_passes}
-use Rattle.commands.proofs.Deciding.{sound-decided}
 use Rattle.commands.proofs.Measuring.{with_few, sound-numbers, sound-genera, surface_passed, as_passes}
 use Rattle.commands.proofs.MeshTexts.{mesh_valid}
 use Rattle.commands.proofs.Sound.{IsSound, sound-then, sound-pass, sound-meant, sound-pass_unless, sound-file, held}
@@ -19,7 +18,6 @@ use Rattle.commands.proofs.Surfaces.{sound-as_surface, sound-few, few_passed}
 use Rattle.commands.specs.Answers.{Exactly, Texts}
 use Rattle.commands.specs.Certify.{certify, limit_fault}
 use Rattle.commands.specs.Checks.{Passes, Holds, IsTold, meant, pass_unless, ◌>>=◌}
-use Rattle.commands.specs.Decide.{decide}
 use Rattle.commands.specs.Inputs.{mesh_in, pair_in, walk_at, SpellsMesh, SpellsPair}
 use Rattle.commands.specs.Refusals.{numbers_line, off_line, pair_line}
 use Rattle.commands.specs.ClosedSurfaces.{IsOrientableSurface}
@@ -56,12 +54,6 @@ sound-surface held name =
   where
     after : FaceList → Type 0
     after few = IsSound held (with_few few)
-
-pub sound-decide : (held : Option Files) (mesh walks : List ℕ) → IsSound held (decide held mesh walks)
-sound-decide held mesh walks =
-    sound-then held _ _ (sound-surface_in held mesh)
-    (λ surface _. sound-then held _ _ (sound-pair held walks surface)
-    (λ pair _. sound-decided held surface (walk_at pair 0) (walk_at pair 1)))
 
 pub sound-certify : (held : Option Files) (mesh walks : List ℕ) → IsSound held (certify held mesh walks)
 sound-certify held mesh walks =

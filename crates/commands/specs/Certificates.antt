@@ -37,6 +37,15 @@ decision_word Different = codes "different"
 abbrev pub decision_line : deciding.Answer → List ℕ
 decision_line decision = line (decision_word decision) []
 
+-- a line for each of several decisions, and yes where the walks of each pair are homotopic
+abbrev pub decision_lines : List deciding.Answer → List ℕ
+decision_lines decisions = flat_map decision_line decisions
+
+abbrev pub decisions_status : List deciding.Answer → Status
+decisions_status [] = Yes
+decisions_status (Homotopic ∷ decisions) = decisions_status decisions
+decisions_status (Different ∷ decisions) = No
+
 -- a certificate behind the line of the decision that it is for
 abbrev pub certificate_text : Certificate → List ℕ
 certificate_text (Moves list) = decision_line Homotopic ++ list_text list

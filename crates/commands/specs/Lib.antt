@@ -9,7 +9,7 @@ pub mod Inputs
 pub mod ClosedSurfaces
 pub mod SurfaceInput
 pub mod Surface
-pub mod Decide
+pub mod Decisions
 pub mod Findings
 pub mod Certify
 pub mod Reduce

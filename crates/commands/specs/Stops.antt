@@ -6,7 +6,7 @@ use Rattle.surf_io.specs.Files.{Files}
 use Rattle.walk_files.specs.declared.stream_end.StreamEnd.{StreamEnd}
 use Rattle.walk_files.specs.declared.stream_end.StreamEnd.TheVariants as streams
 use Rattle.commands.specs.Answers.{Texts, NoText, IsText}
-use Rattle.commands.specs.Certificates.{certificate_text}
+use Rattle.commands.specs.Certificates.{certificate_text, decision_lines}
 use Rattle.commands.specs.Checks.{Check, Refuse, Passes}
 use Rattle.commands.specs.HomologyCertificates.{homology_text}
 use Rattle.commands.specs.Lines.{in_lines, odd_chain_line}
@@ -16,7 +16,7 @@ use Rattle.commands.specs.declared.refusal.Input.TheVariants as inputs
 use Rattle.commands.specs.declared.stop.Stop.{Stop}
 use Rattle.commands.specs.declared.stop.Stop.TheVariants.{Refused, ReadFault, OutOfMemory}
 use Rattle.commands.specs.declared.text.Text.{Text}
-use Rattle.commands.specs.declared.text.Text.TheVariants.{Line, Lines, OddChain, Certificate, Words, Homology}
+use Rattle.commands.specs.declared.text.Text.TheVariants.{Line, Lines, OddChain, Certificate, Words, Decisions, Homology}
 
 -- the bytes of what is to be written
 abbrev pub bytes_of : Text → List ℕ
@@ -25,6 +25,7 @@ bytes_of (Lines lines) = in_lines lines.items
 bytes_of (OddChain chain) = odd_chain_line chain
 bytes_of (Certificate shown) = certificate_text shown
 bytes_of (Words words) = words_text words.items
+bytes_of (Decisions decisions) = decision_lines decisions.items
 bytes_of (Homology shown) = homology_text shown
 
 -- what stops a command tells a fault that has these texts: it is refused by one of them; or memory is wanting, where there is none

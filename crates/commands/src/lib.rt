@@ -19,7 +19,8 @@
 mod certificate;
 pub mod certify;
 pub mod component;
-pub mod decide;
+mod decision;
+mod decision_lines;
 mod finding;
 mod inputs;
 mod line;

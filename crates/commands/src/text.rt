@@ -7,7 +7,8 @@ ghost use Rattle.commands.specs.Writes.{Writes};
 ghost use Rattle.commands.specs.declared.certificate.Certificate.{Certificate};
 
 use crate::certificate::Certificate;
-use crate::decide::line_of;
+use crate::decision::line_of;
+use crate::decision_lines::put_decisions;
 use crate::line::{Line, Phrase, put_line, put_lines};
 use crate::odd_chain_line::put_odd_chain;
 use crate::word_lines::put_words;
@@ -33,6 +34,8 @@ pub enum Text {
     Certificate(Certificate),
     /// Turn words, each on a line.
     Words(Vec<TurnWord>),
+    /// Decisions, each on a line.
+    Decisions(Vec<Answer>),
     /// A certificate of homology behind the answer that it is for.
     Homology(HomologyCert),
 }
@@ -48,6 +51,7 @@ pub fn put_text<K: Sink>(out: &mut K, text: &Text) -> Result<(), Failed>
         Text::Certificate(Certificate::Moves(list)) => put_moves(out, list),
         Text::Certificate(Certificate::Denial(denial)) => put_denial(out, denial),
         Text::Words(words) => put_words(out, words),
+        Text::Decisions(decisions) => put_decisions(out, decisions),
         Text::Homology(shown) => put_homology(out, shown),
     }
 }

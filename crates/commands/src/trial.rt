@@ -17,7 +17,7 @@ ghost use Rattle.commands.specs.Trial.{is_within, size_fault, surface_spelled, p
 ghost use Rattle.commands.specs.declared.stop.Stop.{Stop};
 
 use crate::component::connected;
-use crate::decide::word_of;
+use crate::decision::word_of;
 use crate::line::{Line, Phrase};
 use crate::refusal::refused;
 use crate::reply::Reply;

@@ -9,8 +9,8 @@ ghost use Rattle.commands.specs.Writes.{Writes};
 use surf_io::{Failed, Piece, Sink};
 use turn_words::TurnWord;
 
-/// Room for an entry and the byte before it, and for the line of an empty word.
-const ENTRY_ROOM: usize = 32;
+/// Room for an entry and the byte before it, for the line of an empty word, and for that of a decision.
+pub(crate) const ENTRY_ROOM: usize = 32;
 
 /// Writes a line for each word. It takes no memory.
 pub fn put_words<K: Sink>(out: &mut K, words: &Vec<TurnWord>) -> Result<(), Failed>
@@ -56,7 +56,7 @@ fn put_behind<K: Sink>(out: &mut K, piece: &mut Piece, entry: u32) -> Result<(),
 }
 
 /// Writes the piece out where it has little room left.
-fn make_room<K: Sink>(out: &mut K, piece: &mut Piece) -> Result<(), Failed>
+pub(crate) fn make_room<K: Sink>(out: &mut K, piece: &mut Piece) -> Result<(), Failed>
     ensures ok { OnOk result (Gathers K.written out.old out.new piece.old piece.new []) }
     ensures room { OnOk result (length piece.new + ENTRY_ROOM ≤ Piece.ROOM) }
     ensures failed { OnErr result (WrotePart K.written K.faults out.old out.new piece.old) }
@@ -69,7 +69,7 @@ fn make_room<K: Sink>(out: &mut K, piece: &mut Piece) -> Result<(), Failed>
 }
 
 /// Writes the piece out, after which it holds nothing.
-fn write_piece<K: Sink>(out: &mut K, piece: &mut Piece) -> Result<(), Failed>
+pub(crate) fn write_piece<K: Sink>(out: &mut K, piece: &mut Piece) -> Result<(), Failed>
     ensures ok { OnOk result (WroteAll K.written out.old out.new piece.old) }
     ensures emptied { piece.new ≡ [] }
     ensures failed { OnErr result (WrotePart K.written K.faults out.old out.new piece.old) }

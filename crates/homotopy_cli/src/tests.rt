@@ -6,7 +6,7 @@ use std::process::Abort;
 use surf_io::{MemoryShelf, MemorySink, Shelf};
 
 /// The files that the words of the tests name.
-const FILES: [(&str, &str); 10] = [
+const FILES: [(&str, &str); 11] = [
     (
         "tetrahedron",
         "OFF\n4 4 6\n0 0 0\n1 0 0\n0 1 0\n0 0 1\n3 0 1 2\n3 0 3 1\n3 0 2 3\n3 1 3 2\n",
@@ -26,6 +26,10 @@ const FILES: [(&str, &str); 10] = [
     ("sides", "0 1 2\n0 2\n"),
     ("round", "0 1 2 0 2 4 0\n0 2 4 0 1 2 0\n"),
     ("across", "0 1 2 3\n0 3\n"),
+    (
+        "pairs",
+        "WALKS 2\n0 ( 1 2 0 ) 3 2 4 0\n0 1 2 3 4 5 6 0\n0 1 2 3\n0 3\n",
+    ),
     ("moves", "MOVES 1 2\nf 0 0 0 + 2\n"),
     ("backwards", "MOVES 1 2\nf 0 0 0 - 2\n"),
     (
@@ -40,7 +44,7 @@ const FILES: [(&str, &str); 10] = [
 type Case = (&'static str, &'static str, Status);
 
 /// The words stand in one text, with blanks between them.
-const CASES: [Case; 20] = [
+const CASES: [Case; 22] = [
     (
         "surface torus",
         "V 7\nE 21\nF 14\nchi 0\ngenus 1\n",
@@ -53,6 +57,12 @@ const CASES: [Case; 20] = [
     ),
     ("decide torus round", "homotopic\n", Status::Yes),
     ("decide torus across", "different\n", Status::No),
+    ("decide torus pairs", "homotopic\ndifferent\n", Status::No),
+    (
+        "certify torus pairs",
+        "refused: walks count 4\n",
+        Status::Refused,
+    ),
     ("verify tetrahedron sides moves", "accepted\n", Status::Yes),
     (
         "verify tetrahedron sides backwards",

@@ -16,7 +16,7 @@ use Rattle.commands.specs.Certificates.{Convinces, certificate_text, decision_li
 use Rattle.commands.specs.declared.certificate.Certificate.{Certificate}
 use Rattle.commands.specs.declared.certificate.Certificate.TheVariants.{Moves, Denial}
 use Rattle.commands.specs.Checks.{End, Refuse, Pass, Passes}
-use Rattle.commands.specs.Decide.{decision_answer}
+use Rattle.commands.specs.Decisions.{decision_answer}
 use Rattle.commands.specs.Inputs.{walk_at}
 use Rattle.commands.specs.Replies.{IsReplyTo, reply_status}
 use Rattle.commands.specs.declared.reply.Reply.TheVariants as replies

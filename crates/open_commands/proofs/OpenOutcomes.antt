@@ -11,7 +11,7 @@ use Rattle.commands.proofs.Rows.{spelled_pair}
 use Rattle.commands.proofs.Sound.{IsSound, held, sound-then}
 use Rattle.commands.specs.Answers.{Answer, Exactly}
 use Rattle.commands.specs.Checks.{Check, Refuse, Passes, IsTold, ◌>>=◌}
-use Rattle.commands.specs.Decide.{decided}
+use Rattle.commands.specs.Decisions.{decided}
 use Rattle.commands.specs.Inputs.{pair_in, SpellsMesh, SpellsPair}
 use Rattle.commands.specs.Outcomes.{Outcome, AnswersTo, IsAnswerOf}
 use Rattle.commands.specs.declared.status.Status.{Status}

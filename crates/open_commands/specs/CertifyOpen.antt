@@ -11,7 +11,7 @@ use Rattle.free_forms.specs.declared.limits.TheConstants.{MOST_OPEN_STEPS}
 use Rattle.commands.specs.Answers.{Answer, OfShortList}
 use Rattle.commands.specs.Certificates.{Convinces, decision_line, certificate_text}
 use Rattle.commands.specs.Checks.{Check, End, Refuse, Pass, without_files, ◌>>=◌}
-use Rattle.commands.specs.Decide.{decision_answer}
+use Rattle.commands.specs.Decisions.{decision_answer}
 use Rattle.commands.specs.Stops.{bytes_of}
 use Rattle.commands.specs.declared.certificate.Certificate.TheVariants.{Moves}
 use Rattle.commands.specs.declared.reply.Reply.{Reply}

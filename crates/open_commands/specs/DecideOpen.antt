@@ -7,7 +7,7 @@ use Rattle.walk_translate.specs.declared.deciding.Answer.TheVariants.{Homotopic,
 use Rattle.commands.specs.Answers.{Answer}
 use Rattle.commands.specs.Certificates.{decision_line}
 use Rattle.commands.specs.Checks.{Check, ◌>>=◌}
-use Rattle.commands.specs.Decide.{decided}
+use Rattle.commands.specs.Decisions.{decided}
 use Rattle.commands.specs.declared.status.Status.{Status}
 use Rattle.commands.specs.declared.status.Status.TheVariants.{Yes, No}
 use Rattle.open_commands.specs.OpenPairs.{IsOpenInput, IsWithinLimits, IsRefusedBeyond, open_pair_in}

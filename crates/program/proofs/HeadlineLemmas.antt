@@ -4,11 +4,10 @@ use Rattle.std.specs.Prelude.{◌↔◌, Option}
 use Rattle.surf_io.specs.Files.{Files}
 use Rattle.surf_model.specs.FaceLists.{FaceList}
 use Rattle.surf_model.specs.Moves as moves
-use Rattle.walk_translate.specs.declared.deciding.Answer.TheVariants.{Homotopic, Different}
-use Rattle.commands.specs.Certificates.{Convinces, decision_of, decision_status, decision_line, certificate_text}
+use Rattle.commands.specs.Certificates.{Convinces, decision_of, decision_status, certificate_text}
 use Rattle.commands.specs.Certify.{IsCertified}
-use Rattle.commands.specs.Decide.{IsDecided}
-use Rattle.program.specs.Headline.{SaysHomotopic, SaysDifferent, PrintsList, PrintsDenial, Headline}
+use Rattle.pair_commands.specs.Decide.{IsDecided}
+use Rattle.program.specs.Headline.{PrintsList, PrintsDenial, Headline}
 use Rattle.commands.specs.declared.certificate.Certificate.{Certificate}
 use Rattle.commands.specs.declared.certificate.Certificate.TheVariants.{Moves, Denial}
 use Rattle.commands.specs.declared.status.Status.{Status}
@@ -16,14 +15,6 @@ use Rattle.commands.specs.declared.status.Status.TheVariants.{Yes, No}
 
 no_yes : No ≡ Yes → ⊥
 no_yes e = cc
-
-says : (mesh : FaceList) (first second : List ℕ) (status : Status) (text : List ℕ)
-    → ((status ≡ Yes) × (text ≡ decision_line Homotopic)) ⊎ ((status ≡ No) × (text ≡ decision_line Different))
-    → (status ≡ Yes) ↔ moves.Homotopic mesh first second
-    → SaysHomotopic mesh first second status text ⊎ SaysDifferent mesh first second status text
-says mesh first second status text (inl p) exact = inl (record { status_is = p.0; text_is = p.1; homotopic = exact.0 p.0 })
-says mesh first second status text (inr p) exact =
-    inr (record { status_is = p.0; text_is = p.1; different = λ h. no_yes (sym p.0 ∙ exact.1 h) })
 
 prints : (mesh : FaceList) (first second : List ℕ) (status : Status) (text : List ℕ) (shown : Certificate)
     → Convinces mesh first second shown
@@ -46,8 +37,8 @@ pub headline : (files : Option Files) (words : List (List ℕ)) (status : Status
     → IsCertified files words status text → Headline files words status text
 headline files words status text decided certified =
     record {
-      decided = λ mesh first second input.
-          says mesh first second status text (decided.answered mesh first second input) (decided.exactly mesh first second input);
+      decided = decided.answered;
+      all_homotopic = decided.exactly;
       certified = λ mesh first second input within.
           let printed = certified.answered mesh first second input within in
           prints mesh first second status text printed.shown printed.convinces printed.status_is printed.text_is

@@ -6,7 +6,7 @@ use Rattle.commands.specs.declared.reply.Reply.TheVariants as replies
 use Rattle.commands.specs.declared.stop.Stop.TheVariants as stops
 use Rattle.commands.proofs.CertifyOutcomes.{certified_so}
 use Rattle.commands.proofs.Checking.{stops_next, told_stops}
-use Rattle.commands.proofs.DecideOutcomes.{decided_so}
+use Rattle.pair_commands.proofs.DecideOutcomes.{decided_so}
 use Rattle.program.proofs.HeadlineLemmas.{headline}
 use Rattle.program.proofs.Rows.{row_answered, sound-words}
 use Rattle.commands.proofs.ReduceOutcomes.{reduced}
@@ -25,7 +25,7 @@ use Rattle.open_commands.proofs.OpenOutcomes.{decided_open_so, certified_open_so
 use Rattle.open_commands.specs.CertifyOpen.{IsCertifiedOpen}
 use Rattle.open_commands.specs.DecideOpen.{IsDecidedOpen}
 use Rattle.program.specs.Commands.{Row, Surface, Decide, Certify, Loops, DecideOpen, CertifyOpen, Homology, Verify, VerifyHomology, Reduce, Trial, IsRow, answer_to}
-use Rattle.commands.specs.Decide.{IsDecided}
+use Rattle.pair_commands.specs.Decide.{IsDecided}
 use Rattle.program.specs.Headline.{Headline}
 use Rattle.commands.specs.Outcomes.{Outcome, AnswersTo, IsAnswerOf}
 use Rattle.program.specs.Outcomes.{answer_of, IsOutcome, Answers}

@@ -4,7 +4,8 @@ use Rattle.std.specs.Prelude.{Option, slice_index_or}
 use Rattle.surf_io.specs.Files.{Files}
 use Rattle.commands.proofs.Deciding.{behind}
 use Rattle.commands.proofs.Reducing.{sound-reduce}
-use Rattle.commands.proofs.Rows.{sound-surface, sound-decide, sound-certify}
+use Rattle.commands.proofs.Rows.{sound-surface, sound-certify}
+use Rattle.pair_commands.proofs.DecideOutcomes.{sound-decide}
 use Rattle.homology_commands.proofs.VerifyHomologyOutcomes.{sound-verify_homology}
 use Rattle.homology_commands.proofs.HomologyAnswers.{sound-homology}
 use Rattle.loop_commands.proofs.LoopAnswers.{sound-loops}

@@ -4,7 +4,7 @@ use Rattle.surf_io.specs.Files.{Files}
 use Rattle.commands.specs.Answers.{Answer}
 use Rattle.commands.specs.Checks.{Check}
 use Rattle.commands.specs.Certify.{certify}
-use Rattle.commands.specs.Decide.{decide}
+use Rattle.pair_commands.specs.Decide.{decide}
 use Rattle.commands.specs.Reduce.{reduce, IsReduceRow}
 use Rattle.commands.specs.Surface.{surface}
 use Rattle.commands.specs.Trial.{trial, IsTrialRow}

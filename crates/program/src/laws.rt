@@ -8,7 +8,7 @@ ghost use Rattle.surf_gen.specs.Chains.{chain_mesh};
 ghost use Rattle.surf_gen.specs.ChainTexts.{chain_text};
 ghost use Rattle.surf_gen.specs.Sizes.{IsChain};
 ghost use Rattle.commands.specs.Certify.{IsCertified, IsCertifyInput, IsWithinLimits, IsCertificatePrinted};
-ghost use Rattle.commands.specs.Decide.{IsDecided};
+ghost use Rattle.pair_commands.specs.Decide.{IsDecided};
 ghost use Rattle.program.specs.Headline.{Headline};
 ghost use Rattle.commands.specs.Checks.{IsTold};
 ghost use Rattle.commands.specs.Inputs.{IsPeakRead};

@@ -4,7 +4,7 @@ use Rattle.std.proofs.lemmas.Result.{err_from_is_err_and}
 use Rattle.surf_model.specs.Moves as moves
 use Rattle.walk_translate.specs.declared.deciding.Answer as deciding
 use Rattle.walk_translate.specs.declared.deciding.Answer.TheVariants.{Homotopic, Different}
-use Rattle.commands.specs.Decide.{decision_answer}
+use Rattle.commands.specs.Decisions.{decision_answer}
 use Rattle.commands.specs.declared.stop.Stop.TheVariants.{OutOfMemory}
 use Rattle.commands.proofs.Running.{memory_no_fault, runs_faulty, runs_replied}
 use Rattle.open_commands.specs.DecideOpen as of_decide_open

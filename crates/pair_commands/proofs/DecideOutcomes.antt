@@ -1,0 +1,96 @@
+-- How the checks of `decide` end, and `decide` in the words of the mesh.
+use Rattle.std.proofs.Common.{◌≡◌, inr, ℕ, List, [], ◌∷◌, codes, refl, sym, ◌∙◌, subst}
+use Rattle.std.specs.Prelude.{◌↔◌, Option, All}
+use Rattle.surf_io.specs.Files.{Files}
+use Rattle.surf_model.specs.FaceLists.{FaceList}
+use Rattle.walk_files.specs.PairLists.{WalkPair, in_pairs}
+use Rattle.walk_files.specs.WalkLists.{WalkText}
+use Rattle.walk_translate.specs.declared.deciding.Answer as deciding
+use Rattle.commands.proofs.Checking.{stops_first, stops_next}
+use Rattle.commands.proofs.Deciding.{behind}
+use Rattle.commands.proofs.Rows.{sound-surface_in, surface_told, spelled_surface}
+use Rattle.commands.proofs.Sound.{IsSound, sound-then, held}
+use Rattle.commands.specs.Answers.{Answer}
+use Rattle.commands.specs.Checks.{Check, Refuse, Pass, Passes, ◌>>=◌}
+use Rattle.commands.specs.Inputs.{SpellsMesh}
+use Rattle.commands.specs.Outcomes.{Outcome, AnswersTo, IsAnswerOf}
+use Rattle.commands.specs.Stops.{Stops}
+use Rattle.commands.specs.SurfaceInput.{surface_in}
+use Rattle.commands.specs.declared.status.Status.{Status}
+use Rattle.commands.specs.declared.status.Status.TheVariants.{Yes}
+use Rattle.commands.specs.declared.stop.Stop.{Stop}
+use Rattle.pair_commands.specs.Decide.{decide, all_decided, decisions_answer, AreDecided, AreDecisions, IsDecided, IsDecideInput, IsHomotopic}
+use Rattle.pair_commands.specs.PairInput.{SpellsPairs, pairs_in}
+use Rattle.pair_commands.proofs.PairChecks.{sound-pairs_in, pairs_in_told, spelled_pairs}
+use Rattle.pair_commands.proofs.PairDecisions.{all_yes, sound-all_decided}
+
+-- ---- the parts of the command
+
+-- what is looked at behind the walks, and behind the surface
+abbrev after_pairs : FaceList → WalkText → Check Answer
+after_pairs surface text = all_decided surface (in_pairs text.walks)
+
+abbrev after_surface : Option Files → List ℕ → FaceList → Check Answer
+after_surface held walks surface = pairs_in held walks surface >>= after_pairs surface
+
+pub walks_stop : (held : Option Files) (mesh walks : List ℕ) (surface : FaceList) (stop : Stop) → Passes (surface_in held mesh) surface
+    → Stops (pairs_in held walks surface) stop → Stops (decide held mesh walks) stop
+walks_stop held mesh walks surface stop p h =
+    stops_next (surface_in held mesh) (after_surface held walks) surface stop p
+    (stops_first (pairs_in held walks surface) (after_pairs surface) stop h)
+
+pub decisions_pass : (held : Option Files) (mesh walks : List ℕ) (surface : FaceList) (text : WalkText) (decisions : List deciding.Answer)
+    → Passes (surface_in held mesh) surface → Passes (pairs_in held walks surface) text
+    → AreDecisions surface (in_pairs text.walks) decisions → Passes (decide held mesh walks) (decisions_answer decisions)
+decisions_pass held mesh walks surface text decisions p q right = inr (surface, p, inr (text, q, (decisions, refl, right)))
+
+pub sound-decide : (held : Option Files) (mesh walks : List ℕ) → IsSound held (decide held mesh walks)
+sound-decide held mesh walks =
+    sound-then held _ _ (sound-surface_in held mesh)
+    (λ surface _. sound-then held _ _ (sound-pairs_in held walks surface)
+    (λ text _. sound-all_decided held surface (in_pairs text.walks)))
+
+-- ---- what is answered
+
+-- the answer of decisions that are right
+answered_right : (mesh : FaceList) (pairs : List WalkPair) (outcome : Outcome) (status : Status) (text : List ℕ)
+    → (all_decided mesh pairs).Ends outcome → IsAnswerOf outcome status text → AreDecided mesh pairs status text
+answered_right mesh pairs (Refuse texts) status text p answer = absurd p
+answered_right mesh pairs (Pass x) status text p answer =
+    let here : IsAnswerOf (Pass (decisions_answer p.0)) status text = subst (λ (y : Answer). IsAnswerOf (Pass y) status text) p.1 answer in
+    record { decisions = p.0; right = p.2; text_is = here.text_is; status_is = here.status_is }
+
+decides : (files : Option Files) (words : List (List ℕ)) (outcome : Outcome) (status : Status) (text : List ℕ) (mesh : FaceList)
+    (pairs : List WalkPair) (input : IsDecideInput files words mesh pairs)
+    → (decide files input.mesh_name input.walks_name).Ends outcome → IsAnswerOf outcome status text → AreDecided mesh pairs status text
+decides files words outcome status text mesh pairs input is answer =
+    let mesh_file = held files input.mesh_name (SpellsMesh mesh) input.mesh_file in
+    let walks_file = held files input.walks_name (SpellsPairs mesh pairs) input.walks_file in
+    let spelled = spelled_pairs files input.walks_name mesh pairs input.walks_file in
+    let surface = spelled_surface files input.mesh_name mesh input.mesh_file input.is_surface in
+    let walks = behind files (surface_in files input.mesh_name) (after_surface files input.walks_name) mesh outcome
+    (sound-surface_in files input.mesh_name) (surface_told files input.mesh_name mesh_file.told) surface is in
+    let decision = behind files (pairs_in files input.walks_name mesh) (after_pairs mesh) spelled.0 outcome
+    (sound-pairs_in files input.walks_name mesh) (pairs_in_told files input.walks_name mesh walks_file.told) spelled.1 walks in
+    subst (λ (ps : List WalkPair). AreDecided mesh ps status text) (sym spelled.2)
+    (answered_right mesh (in_pairs spelled.0.walks) outcome status text decision answer)
+
+yes_all : (mesh : FaceList) (pairs : List WalkPair) (status : Status) (text : List ℕ) → AreDecided mesh pairs status text
+    → (status ≡ Yes) ↔ All (IsHomotopic mesh) pairs
+yes_all mesh pairs status text h =
+    let all = all_yes mesh pairs h.decisions h.right in ((λ e. all.0 (sym h.status_is ∙ e)), (λ homotopic. h.status_is ∙ all.1 homotopic))
+
+-- what `decide` is for, where the words are answered by its check
+pub decided_so : (files : Option Files) (words : List (List ℕ)) (status : Status) (text : List ℕ)
+    → ((mesh walks : List ℕ) → words ≡ codes "decide" ∷ mesh ∷ walks ∷ [] → AnswersTo files (decide files mesh walks) status text)
+    → IsDecided files words status text
+decided_so files words status text answered =
+    record {
+      answered = right;
+      exactly = λ mesh pairs input. yes_all mesh pairs status text (right mesh pairs input);
+    }
+  where
+    right : (mesh : FaceList) (pairs : List WalkPair) → IsDecideInput files words mesh pairs → AreDecided mesh pairs status text
+    right mesh pairs input =
+        let a = answered input.mesh_name input.walks_name input.words_are in
+        decides files words a.outcome status text mesh pairs input a.is_outcome a.is_answer

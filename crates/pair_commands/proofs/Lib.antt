@@ -1,0 +1,4 @@
+pub mod PairChecks
+pub mod PairDecisions
+pub mod AskedLemmas
+pub mod DecideOutcomes

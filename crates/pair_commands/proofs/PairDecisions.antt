@@ -1,0 +1,154 @@
+-- Decisions on pairs: one more, all of them, and what they are worth.
+use Rattle.std.proofs.Common.{◌≡◌, ◌↔◌, ℕ, zero, suc, ◌+◌, ◌*◌, ◌≤◌, List, [], ◌∷◌, ◌++◌, length, take, refl, sym, ap, ◌∙◌, subst, arith}
+use Rattle.std.specs.Prelude.{All, Option, Some, slice_get}
+use Rattle.std.specs.List.{AllZip}
+use Rattle.std.proofs.lemmas.List.{take_all}
+use Rattle.std.proofs.lemmas.List.Elements.{All-nil, All-cons, All-head, All-tail}
+use Rattle.surf_io.specs.Files.{Files}
+use Rattle.surf_model.specs.FaceLists.{FaceList}
+use Rattle.surf_model.specs.Moves as moves
+use Rattle.surf_model.specs.Walks.{IsWalk, HaveCommonEnds}
+use Rattle.walk_files.specs.PairLists.{WalkPair, ArePairs, in_pairs}
+use Rattle.walk_files.specs.WalkLists.{WalkText}
+use Rattle.walk_translate.specs.declared.deciding.Answer as deciding
+use Rattle.walk_translate.specs.declared.deciding.Answer.TheVariants.{Homotopic, Different}
+use Rattle.commands.proofs.Deciding.{AreWalks, differs, one_decision}
+use Rattle.commands.proofs.Sound.{IsSound}
+use Rattle.commands.specs.Answers.{Answer}
+use Rattle.commands.specs.Certificates.{decisions_status}
+use Rattle.commands.specs.Checks.{End, Refuse, Pass}
+use Rattle.commands.specs.declared.status.Status.TheVariants.{Yes, No}
+use Rattle.pair_commands.specs.Decide.{IsHomotopic, IsDecision, AreDecisions, AreFirstDecisions, all_decided, decisions_answer}
+
+-- ---- the pairs of a list of walks
+
+abbrev pair_of : (a b : List ℕ) → Option WalkPair
+pair_of a b = Some (record { first = a; second = b })
+
+-- pair k has the walks 2 k and 2 k + 1
+pair_at : (walks : List (List ℕ)) (k : ℕ) (a b : List ℕ) → slice_get walks (2 * k) ≡ Some a → slice_get walks (2 * k + 1) ≡ Some b
+    → slice_get (in_pairs walks) k ≡ Some (record { first = a; second = b })
+pair_at [] zero a b e f = cc
+pair_at [] (suc k) a b e f = cc
+pair_at (x ∷ []) zero a b e f = cc
+pair_at (x ∷ []) (suc k) a b e f =
+    let later : 2 * suc k ≡ suc (suc (2 * k)) = omega arith in
+    let none : slice_get (x ∷ []) (suc (suc (2 * k))) ≡ Some a = subst (λ n. slice_get (x ∷ []) n ≡ Some a) later e in
+    cc
+pair_at (x ∷ y ∷ walks) zero a b e f =
+    let one : x ≡ a = cc in
+    let other : y ≡ b = cc in
+    ap (λ (w : List ℕ). pair_of w y) one ∙ ap (λ (w : List ℕ). pair_of a w) other
+pair_at (x ∷ y ∷ walks) (suc k) a b e f =
+    let later : 2 * suc k ≡ suc (suc (2 * k)) = omega arith in
+    let last : 2 * suc k + 1 ≡ suc (suc (2 * k + 1)) = omega arith in
+    pair_at walks k a b (subst (λ n. slice_get (x ∷ y ∷ walks) n ≡ Some a) later e)
+    (subst (λ n. slice_get (x ∷ y ∷ walks) n ≡ Some b) last f)
+
+-- there are half as many
+few_pairs : (walks : List (List ℕ)) (k : ℕ) → length walks ≤ 2 * k + 1 → length (in_pairs walks) ≤ k
+few_pairs [] k few = omega arith
+few_pairs (x ∷ []) k few = omega arith
+few_pairs (x ∷ y ∷ walks) zero few = absurd (omega (arith, few))
+few_pairs (x ∷ y ∷ walks) (suc k) few =
+    let rest : length (in_pairs walks) ≤ k = few_pairs walks k (omega (arith, few)) in omega (arith, rest)
+
+pub all_at : {A : Type 0} (P : A → Type 0) (xs : List A) (k : ℕ) (x : A) → All P xs → slice_get xs k ≡ Some x → P x
+all_at P [] k x all e = cc
+all_at P (y ∷ xs) zero x all e = let same : y ≡ x = cc in subst P same (All-head P y xs all)
+all_at P (y ∷ xs) (suc k) x all e = all_at P xs k x (All-tail P y xs all) e
+
+-- the two walks of pair k
+pub walks_at : (mesh : FaceList) (text : WalkText) (k : ℕ) (a b : List ℕ) → ArePairs mesh text → slice_get text.walks (2 * k) ≡ Some a
+    → slice_get text.walks (2 * k + 1) ≡ Some b → AreWalks mesh a b
+walks_at mesh text k a b pairs e f =
+    record {
+      first_walk = all_at (IsWalk mesh) text.walks (2 * k) a pairs.walks e;
+      second_walk = all_at (IsWalk mesh) text.walks (2 * k + 1) b pairs.walks f;
+      ends = all_at (λ (pair : WalkPair). HaveCommonEnds pair.first pair.second) (in_pairs text.walks) k
+          (record { first = a; second = b }) pairs.ends (pair_at text.walks k a b e f);
+    }
+
+-- ---- one decision more
+
+zip_more : {A B : Type 0} (R : A → B → Type 0) (xs : List A) (ys : List B) (x : A) (y : B) → slice_get xs (length ys) ≡ Some x
+    → AllZip R (take (length ys) xs) ys → R x y → AllZip R (take (length (ys ++ y ∷ [])) xs) (ys ++ y ∷ [])
+zip_more R [] ys x y e all is = cc
+zip_more {A} R (z ∷ xs) [] x y e all is = let same : x ≡ z = cc in (subst (λ (w : A). R w y) same is, tt)
+zip_more R (z ∷ xs) (w ∷ ys) x y e all is = (all.0, zip_more R xs ys x y e all.1 is)
+
+pub decision_more : (mesh : FaceList) (walks : List (List ℕ)) (decisions : List deciding.Answer) (k : ℕ) (a b : List ℕ)
+    (decision : deciding.Answer) → k ≡ length decisions → slice_get walks (2 * k) ≡ Some a → slice_get walks (2 * k + 1) ≡ Some b
+    → AreFirstDecisions mesh (in_pairs walks) decisions → (decision ≡ Homotopic) ↔ moves.Homotopic mesh a b
+    → AreFirstDecisions mesh (in_pairs walks) (decisions ++ decision ∷ [])
+decision_more mesh walks decisions k a b decision is e f first right =
+    zip_more (IsDecision mesh) (in_pairs walks) decisions (record { first = a; second = b }) decision
+    (subst (λ n. slice_get (in_pairs walks) n ≡ Some (record { first = a; second = b })) is (pair_at walks k a b e f)) first right
+
+-- as many decisions as there are pairs are all
+pub decisions_all : (mesh : FaceList) (walks : List (List ℕ)) (decisions : List deciding.Answer)
+    → AreFirstDecisions mesh (in_pairs walks) decisions → length walks ≤ 2 * length decisions + 1
+    → AreDecisions mesh (in_pairs walks) decisions
+decisions_all mesh walks decisions first few =
+    subst (λ (pairs : List WalkPair). AreDecisions mesh pairs decisions)
+    (take_all (length decisions) (in_pairs walks) (few_pairs walks (length decisions) few)) first
+
+-- ---- all decisions
+
+no_yes : No ≡ Yes → ⊥
+no_yes e = cc
+
+-- yes exactly where all are homotopic
+pub all_yes : (mesh : FaceList) (pairs : List WalkPair) (decisions : List deciding.Answer) → AreDecisions mesh pairs decisions
+    → (decisions_status decisions ≡ Yes) ↔ All (IsHomotopic mesh) pairs
+all_yes mesh [] [] right = ((λ _. All-nil (IsHomotopic mesh)), (λ _. refl))
+all_yes mesh [] (d ∷ ds) right = absurd right
+all_yes mesh (pair ∷ pairs) [] right = absurd right
+all_yes mesh (pair ∷ pairs) (Homotopic ∷ ds) right =
+    let rest = all_yes mesh pairs ds right.1 in (
+      λ e. All-cons (IsHomotopic mesh) pair pairs (right.0.0 refl) (rest.0 e),
+      λ all. rest.1 (All-tail (IsHomotopic mesh) pair pairs all),
+    )
+all_yes mesh (pair ∷ pairs) (Different ∷ ds) right = (
+  λ e. absurd (no_yes e),
+  λ all. absurd (differs (right.0.1 (All-head (IsHomotopic mesh) pair pairs all))),
+)
+
+some_decision : (mesh : FaceList) (pair : WalkPair) → ((decision : deciding.Answer) → IsDecision mesh pair decision → ⊥) → ⊥
+some_decision mesh pair none =
+    none Different ((λ e. absurd (differs e)), (λ h. absurd (none Homotopic ((λ _. h), (λ _. refl)))))
+
+some_decisions : (mesh : FaceList) (pairs : List WalkPair)
+    → ((decisions : List deciding.Answer) → AreDecisions mesh pairs decisions → ⊥) → ⊥
+some_decisions mesh [] none = none [] tt
+some_decisions mesh (pair ∷ pairs) none =
+    some_decisions mesh pairs (λ decisions right. some_decision mesh pair (λ decision is. none (decision ∷ decisions) (is, right)))
+
+-- decisions that are right are one list
+same_decisions : (mesh : FaceList) (pairs : List WalkPair) (a b : List deciding.Answer) → AreDecisions mesh pairs a
+    → AreDecisions mesh pairs b → a ≡ b
+same_decisions mesh [] [] [] p q = refl
+same_decisions mesh [] [] (y ∷ ys) p q = absurd q
+same_decisions mesh [] (x ∷ xs) b p q = absurd p
+same_decisions mesh (pair ∷ pairs) [] b p q = absurd p
+same_decisions mesh (pair ∷ pairs) (x ∷ xs) [] p q = absurd q
+same_decisions mesh (pair ∷ pairs) (x ∷ xs) (y ∷ ys) p q =
+    let first : x ≡ y = one_decision x y p.0 q.0 in
+    let rest : xs ≡ ys = same_decisions mesh pairs xs ys p.1 q.1 in
+    cc
+
+one_end : (mesh : FaceList) (pairs : List WalkPair) (a b : End Answer) → (all_decided mesh pairs).Ends a → (all_decided mesh pairs).Ends b
+    → a ≡ b
+one_end mesh pairs (Refuse texts) b p q = absurd p
+one_end mesh pairs (Pass x) (Refuse texts) p q = absurd q
+one_end mesh pairs (Pass x) (Pass y) p q =
+    let same : p.0 ≡ q.0 = same_decisions mesh pairs p.0 q.0 p.2 q.2 in
+    let answers : x ≡ y = p.1 ∙ ap decisions_answer same ∙ sym q.1 in
+    cc
+
+pub sound-all_decided : (held : Option Files) (mesh : FaceList) (pairs : List WalkPair) → IsSound held (all_decided mesh pairs)
+sound-all_decided held mesh pairs =
+    record {
+      some = λ none. some_decisions mesh pairs (λ decisions right. none (Pass (decisions_answer decisions)) (decisions, refl, right));
+      one = λ _ a b p q. one_end mesh pairs a b p q;
+    }

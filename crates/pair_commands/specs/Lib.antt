@@ -1,0 +1,3 @@
+pub mod PairInput
+pub mod Decide
+pub mod Asked

@@ -1,0 +1,54 @@
+//! The command `decide`: whether two walks of a surface are homotopic, for each of several pairs.
+ghost use Rattle.std.specs.Prelude.{◌≡◌, if◌then◌else◌};
+ghost use Rattle.commands.specs.Certificates.{decisions_status};
+ghost use Rattle.commands.specs.Replies.{IsReplyTo, Runs};
+ghost use Rattle.commands.specs.declared.status.Status.{Status};
+ghost use Rattle.pair_commands.specs.Decide as of_decide;
+ghost use Rattle.pair_commands.specs.Decide.{decisions_answer};
+
+use crate::deciding::decide_pairs;
+use crate::pair_input::read_pairs;
+use commands::{Reply, Stop, Text, read_surface};
+use std::alloc::Global;
+use surf_io::Shelf;
+use walk_translate::Answer;
+
+/// For each pair of walks in the file `walks` whether they are homotopic on the surface in the file `mesh`. The walks are read only
+/// where the surface is in order.
+pub fn decide<S: Shelf>(
+    alloc: Global,
+    shelf: &mut S,
+    mesh: &str,
+    walks: &str,
+) -> Result<Reply, Stop>
+    ensures { Runs S.held S.faults shelf.old shelf.new (λ files. of_decide.decide files mesh.now walks.now) result }
+{
+    let surface = read_surface(alloc, shelf, mesh)?;
+    let pairs = read_pairs(alloc, shelf, walks, &surface.sides)?;
+    let decisions = decide_pairs(alloc, surface, &pairs)?;
+    Ok(reply_on(decisions))
+}
+
+/// The reply that decisions are: yes where the walks of each pair are homotopic.
+fn reply_on(decisions: Vec<Answer>) -> Reply
+    ensures { IsReplyTo (decisions_answer decisions.items) result }
+{
+    if are_all_homotopic(&decisions) {
+        Reply::Yes(Text::Decisions(decisions))
+    } else {
+        Reply::No(Text::Decisions(decisions))
+    }
+}
+
+/// Whether each decision is that walks are homotopic.
+fn are_all_homotopic(decisions: &[Answer]) -> bool
+    ensures { decisions_status decisions.now ≡ (if result then Status.Yes else Status.No) }
+{
+    for decision in decisions {
+        match decision {
+            Answer::Homotopic => {}
+            Answer::Different => return false,
+        }
+    }
+    true
+}

@@ -1,0 +1,67 @@
+//! Reading the pairs of walks that the command is about.
+ghost use Rattle.std.specs.Prelude.{◌≡◌, IfOk};
+ghost use Rattle.surf_model.specs.FaceLists.{FaceList};
+ghost use Rattle.surf_model.specs.Edges.{IsTableOf};
+ghost use Rattle.walk_files.specs.PairLists.{ArePairs};
+ghost use Rattle.commands.specs.Stops.{Ends, Reads, Tells};
+ghost use Rattle.pair_commands.specs.PairInput.{pairs_in, pairs_line, ends_line};
+
+use commands::{Input, Phrase, Stop, read_file, refused, refused_at_place, walks_of_bytes};
+use std::alloc::Global;
+use surf_io::Shelf;
+use surf_model::Sides;
+use walk_files::{PairsFault, WalkList, check_pairs};
+
+/// Reads the pairs of walks of the mesh with this table.
+pub fn read_pairs<S: Shelf>(
+    alloc: Global,
+    shelf: &mut S,
+    name: &str,
+    sides: &Sides,
+) -> Result<WalkList, Stop>
+    ensures reads { Reads S.held S.faults shelf.old shelf.new
+        (λ files. (mesh : FaceList) → IsTableOf mesh sides.now → Ends (pairs_in files name.now mesh) result) result }
+    ensures pairs { IfOk result (λ walks. (mesh : FaceList) → IsTableOf mesh sides.now → ArePairs mesh walks) }
+{
+    let bytes = read_file(alloc, shelf, name, Input::Walks)?;
+    let walks = walks_of_bytes(alloc, &bytes)?;
+    match check_pairs(sides, &walks) {
+        Ok(()) => Ok(walks),
+        Err(fault) => Err(stop_for(walks.version(), fault)),
+    }
+}
+
+/// What stops the command, where the walks of a text of that version do not come in pairs.
+fn stop_for(version: u32, fault: PairsFault) -> Stop
+    ensures { Tells (pairs_line version fault) result }
+{
+    match fault {
+        PairsFault::NotPairs { count } => {
+            refused(&[Phrase::Text("walks count"), Phrase::Number(count)])
+        }
+        PairsFault::NoVertex { walk, place } => refused_at_place(walk, place, "vertex"),
+        PairsFault::NoEdge { walk, place } => refused_at_place(walk, place, "edge"),
+        PairsFault::EndsDiffer {
+            pair,
+            at_start: true,
+        } => stop_for_ends(version, pair, "start"),
+        PairsFault::EndsDiffer {
+            pair,
+            at_start: false,
+        } => stop_for_ends(version, pair, "end"),
+    }
+}
+
+/// What stops the command, where two ends of a pair differ. The one pair of version 1 is told without a number.
+fn stop_for_ends(version: u32, pair: u32, which: &'static str) -> Stop
+    ensures { Tells (ends_line version pair which.now) result }
+{
+    if version == 2 {
+        return refused(&[
+            Phrase::Text("pair"),
+            Phrase::Number(pair as u64),
+            Phrase::Text(which),
+        ]);
+    }
+    refused(&[Phrase::Text("walks"), Phrase::Text(which)])
+}
