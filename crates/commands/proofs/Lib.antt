@@ -12,13 +12,11 @@ pub mod Deciding
 pub mod GatheredLemmas
 pub mod LineByLine
 pub mod WordLines
-pub mod Reducing
 pub mod Components
 pub mod Certifying
 pub mod Trying
 pub mod Rows
 pub mod SurfaceOutcomes
 pub mod CertifyOutcomes
-pub mod ReduceOutcomes
 pub mod ChainReading
 pub mod TrialOutcomes

@@ -12,7 +12,7 @@ pub mod Surface
 pub mod Decisions
 pub mod Findings
 pub mod Certify
-pub mod Reduce
+pub mod WordTexts
 pub mod Trial
 pub mod Outcomes
 pub mod Statuses
@@ -20,4 +20,3 @@ pub mod Gathered
 pub mod Writes
 pub mod Stops
 pub mod Replies
-pub mod Canonised

@@ -5,7 +5,6 @@ ghost use Rattle.commands.specs.Replies.{Runs};
 ghost use Rattle.commands.specs.Words.{IsNatural, texts};
 
 use commands::certify::certify;
-use commands::reduce::reduce;
 use commands::surface::measure;
 use commands::trial::trial;
 use commands::{Reply, Stop};
@@ -15,6 +14,7 @@ use loop_commands::loops::loops;
 use open_commands::certify_open::certify_open;
 use open_commands::decide_open::decide_open;
 use pair_commands::decide::decide;
+use reduce_commands::reduce::reduce;
 use std::alloc::Global;
 use surf_io::Shelf;
 use verify_commands::verify::verify;
