@@ -1,6 +1,6 @@
 -- Words that are no row of the table: the keyword is none, or too few or too many words stand behind it.
 use Rattle.std.proofs.Common.{◌≡◌, ℕ, List, [], ◌∷◌, length, codes, ap, sym, ◌∙◌}
-use Rattle.std.specs.Prelude.{map, string_bytes, String}
+use Rattle.std.specs.Prelude.{string_bytes, String}
 use Rattle.std.specs.Global.{Global}
 use Rattle.std.proofs.lemmas.List.{length-map}
 use Rattle.commands.specs.Words.{texts}
