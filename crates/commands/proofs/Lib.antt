@@ -12,7 +12,6 @@ pub mod Deciding
 pub mod GatheredLemmas
 pub mod LineByLine
 pub mod WordLines
-pub mod Reducing
 pub mod Components
 pub mod Certifying
 pub mod Trying
@@ -20,6 +19,5 @@ pub mod Rows
 pub mod SurfaceOutcomes
 pub mod DecideOutcomes
 pub mod CertifyOutcomes
-pub mod ReduceOutcomes
 pub mod ChainReading
 pub mod TrialOutcomes

@@ -7,7 +7,7 @@ use Rattle.surf_io.specs.Calls.{WrotePart}
 use Rattle.commands.proofs.GatheredLemmas.{gathers-put, gathers-then, gathers-stops}
 use Rattle.commands.specs.Gathered.{Gathers}
 use Rattle.commands.specs.Lines.{behind_blank}
-use Rattle.commands.specs.Reduce.{word_line}
+use Rattle.commands.specs.WordTexts.{word_line}
 
 -- the line of a word up to its entry k
 abbrev pub line_up_to : List ℕ → ℕ → List ℕ

@@ -11,7 +11,7 @@ pub mod Surface
 pub mod Decide
 pub mod Findings
 pub mod Certify
-pub mod Reduce
+pub mod WordTexts
 pub mod Trial
 pub mod Outcomes
 pub mod Statuses
@@ -19,4 +19,3 @@ pub mod Gathered
 pub mod Writes
 pub mod Stops
 pub mod Replies
-pub mod Canonised

@@ -9,7 +9,7 @@ use Rattle.commands.specs.Answers.{Texts, NoText, IsText}
 use Rattle.commands.specs.Certificates.{certificate_text}
 use Rattle.commands.specs.Checks.{Check, Refuse, Passes}
 use Rattle.commands.specs.Lines.{in_lines, odd_chain_line}
-use Rattle.commands.specs.Reduce.{words_text}
+use Rattle.commands.specs.WordTexts.{words_text}
 use Rattle.commands.specs.Refusals.{certificate_line, too_large}
 use Rattle.commands.specs.declared.refusal.Input.TheVariants as inputs
 use Rattle.commands.specs.declared.stop.Stop.{Stop}

@@ -24,7 +24,6 @@ mod finding;
 mod inputs;
 mod line;
 mod odd_chain_line;
-pub mod reduce;
 mod refusal;
 mod reply;
 mod status;

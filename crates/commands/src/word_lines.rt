@@ -3,7 +3,7 @@ ghost use Rattle.std.specs.Prelude.{◌≡◌, ◌+◌, ◌≤◌, ℕ, List, []
 ghost use Rattle.surf_io.specs.Calls.{OnlyWrites, WroteAll, WrotePart};
 ghost use Rattle.commands.specs.Gathered.{Gathers};
 ghost use Rattle.commands.specs.Lines.{behind_blank};
-ghost use Rattle.commands.specs.Reduce.{word_line, words_text};
+ghost use Rattle.commands.specs.WordTexts.{word_line, words_text};
 ghost use Rattle.commands.specs.Writes.{Writes};
 
 use surf_io::{Failed, Piece, Sink};

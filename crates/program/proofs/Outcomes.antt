@@ -9,7 +9,7 @@ use Rattle.commands.proofs.Checking.{stops_next, told_stops}
 use Rattle.commands.proofs.DecideOutcomes.{decided_so}
 use Rattle.program.proofs.HeadlineLemmas.{headline}
 use Rattle.program.proofs.Rows.{row_answered, sound-words}
-use Rattle.commands.proofs.ReduceOutcomes.{reduced}
+use Rattle.reduce_commands.proofs.ReduceOutcomes.{reduced}
 use Rattle.commands.proofs.SurfaceOutcomes.{measured}
 use Rattle.commands.proofs.TrialOutcomes.{tried}
 use Rattle.verify_commands.proofs.VerifyOutcomes.{verified, denial_verified}
@@ -27,7 +27,7 @@ use Rattle.commands.specs.Decide.{IsDecided}
 use Rattle.program.specs.Headline.{Headline}
 use Rattle.commands.specs.Outcomes.{Outcome, AnswersTo, IsAnswerOf}
 use Rattle.program.specs.Outcomes.{answer_of, IsOutcome, Answers}
-use Rattle.commands.specs.Reduce.{IsReduced}
+use Rattle.reduce_commands.specs.Reduce.{IsReduced}
 use Rattle.commands.specs.Refusals.{wrong_words}
 use Rattle.commands.specs.Replies.{Replies, reply_status, reply_text, Runs}
 use Rattle.commands.specs.Statuses.{IsAnswered}

@@ -3,7 +3,7 @@ use Rattle.std.proofs.Common.{◌≡◌, inr, ℕ, List, [], ◌∷◌, ap, arit
 use Rattle.std.specs.Prelude.{Option, slice_index_or}
 use Rattle.surf_io.specs.Files.{Files}
 use Rattle.commands.proofs.Deciding.{behind}
-use Rattle.commands.proofs.Reducing.{sound-reduce}
+use Rattle.reduce_commands.proofs.Reducing.{sound-reduce}
 use Rattle.commands.proofs.Rows.{sound-surface, sound-decide, sound-certify}
 use Rattle.homology_commands.proofs.VerifyHomologyOutcomes.{sound-verify_homology}
 use Rattle.loop_commands.proofs.LoopAnswers.{sound-loops}

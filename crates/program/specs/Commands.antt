@@ -5,7 +5,7 @@ use Rattle.commands.specs.Answers.{Answer}
 use Rattle.commands.specs.Checks.{Check}
 use Rattle.commands.specs.Certify.{certify}
 use Rattle.commands.specs.Decide.{decide}
-use Rattle.commands.specs.Reduce.{reduce, IsReduceRow}
+use Rattle.reduce_commands.specs.Reduce.{reduce, IsReduceRow}
 use Rattle.commands.specs.Surface.{surface}
 use Rattle.commands.specs.Trial.{trial, IsTrialRow}
 use Rattle.verify_commands.specs.Verify.{verify}

@@ -6,7 +6,6 @@ ghost use Rattle.commands.specs.Words.{IsNatural, texts};
 
 use commands::certify::certify;
 use commands::decide::decide;
-use commands::reduce::reduce;
 use commands::surface::measure;
 use commands::trial::trial;
 use commands::{Reply, Stop};
@@ -14,6 +13,7 @@ use homology_commands::verify_homology::verify_homology;
 use loop_commands::loops::loops;
 use open_commands::certify_open::certify_open;
 use open_commands::decide_open::decide_open;
+use reduce_commands::reduce::reduce;
 use std::alloc::Global;
 use surf_io::Shelf;
 use verify_commands::verify::verify;

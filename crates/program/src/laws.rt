@@ -15,7 +15,7 @@ ghost use Rattle.commands.specs.Inputs.{IsPeakRead};
 ghost use Rattle.commands.specs.Outcomes.{Outcome};
 ghost use Rattle.program.specs.Outcomes.{AllTold, Answers, IsOutcome};
 ghost use Rattle.program.specs.PrintedCertificates.{IsAccepted};
-ghost use Rattle.commands.specs.Reduce.{IsReduced};
+ghost use Rattle.reduce_commands.specs.Reduce.{IsReduced};
 ghost use Rattle.commands.specs.Surface.{IsMeasured};
 ghost use Rattle.commands.specs.Trial.{IsTried};
 ghost use Rattle.open_commands.specs.CertifyOpen.{IsCertifiedOpen, IsListPrinted};

@@ -3,7 +3,7 @@ use Rattle.std.proofs.lemmas.List.{take_all}
 use Rattle.std.proofs.lemmas.Result.{err_from_is_err_and}
 use Rattle.surf_io.proofs.Appending.{on_err}
 use Rattle.commands.specs.Gathered.{Gathers}
-use Rattle.commands.specs.Reduce.{word_line, words_text}
+use Rattle.commands.specs.WordTexts.{word_line, words_text}
 use Rattle.commands.proofs.GatheredLemmas.{gathers-all}
 use Rattle.commands.proofs.Writing.{both_ok}
 use Rattle.commands.proofs.LineByLine.{lines-more-put, lines-stop, lines-stop_last}

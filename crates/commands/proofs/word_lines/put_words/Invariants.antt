@@ -1,6 +1,6 @@
 use Rattle.std.proofs.Common.{◌≡◌, ◌≤◌, [], take}
 use Rattle.commands.specs.Gathered.{Gathers}
-use Rattle.commands.specs.Reduce.{words_text}
+use Rattle.commands.specs.WordTexts.{words_text}
 use Rattle.commands.proofs.word_lines.put_words.Given as goal
 
 -- the lines of the words so far were put

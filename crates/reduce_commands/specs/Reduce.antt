@@ -1,5 +1,5 @@
 -- The command `reduce`.
-use Rattle.std.specs.Prelude.{◌≡◌, ℕ, ◌≤◌, ◌↔◌, Ok, nat_lt, if◌then◌else◌, List, [], ◌∷◌, map, flat_map, codes, decimal, All, Option, Some, None}
+use Rattle.std.specs.Prelude.{◌≡◌, ℕ, ◌≤◌, ◌↔◌, Ok, nat_lt, if◌then◌else◌, List, [], ◌∷◌, map, codes, decimal, All, Option, Some, None}
 use Rattle.std.specs.List.{list_all, AllZip}
 use Rattle.surf_io.specs.Files.{Files}
 use Rattle.turn_words.specs.Canonical.{IsTurnWord, IsCanonicalOf}
@@ -7,10 +7,10 @@ use Rattle.walk_files.specs.NumberLists.{NumberLine}
 use Rattle.walk_files.specs.NumberTexts.{words_of}
 use Rattle.commands.specs.Answers.{Answer, Texts, yes_with}
 use Rattle.commands.specs.Checks.{Check, End, Refuse, Pass, Holds, IsTold, file, meant, pass, pass_unless, without_files, ◌>>=◌}
-use Rattle.commands.specs.Lines.{line}
 use Rattle.commands.specs.Refusals.{told, told_at, numbers_line}
+use Rattle.commands.specs.WordTexts.{words_text}
 use Rattle.commands.specs.Words.{IsNatural}
-use Rattle.commands.specs.declared.reduce.TheConstants.{LEAST_DEGREE}
+use Rattle.reduce_commands.specs.declared.reduce.TheConstants.{LEAST_DEGREE}
 use Rattle.commands.specs.declared.refusal.Input.TheVariants as inputs
 use Rattle.commands.specs.declared.status.Status.{Status}
 use Rattle.commands.specs.declared.status.Status.TheVariants.{Yes}
@@ -18,15 +18,6 @@ use Rattle.commands.specs.declared.status.Status.TheVariants.{Yes}
 -- the words are those of `reduce`, with this degree and the name of this file
 abbrev pub IsReduceRow : List (List ℕ) → ℕ → List ℕ → Type 0
 IsReduceRow words degree list = (digits : List ℕ) × (words ≡ codes "reduce" ∷ digits ∷ list ∷ []) × IsNatural digits degree
-
--- the line of a turn word: its entries, or `empty` where it has none
-abbrev pub word_line : List ℕ → List ℕ
-word_line [] = line (codes "empty") []
-word_line (entry ∷ entries) = line (decimal entry) (map decimal entries)
-
--- a line for each turn word
-abbrev pub words_text : List (List ℕ) → List ℕ
-words_text words = flat_map word_line words
 
 -- the entries on each line
 abbrev pub entries_on : List NumberLine → List (List ℕ)

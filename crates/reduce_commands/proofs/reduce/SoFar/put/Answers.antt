@@ -1,7 +1,6 @@
-use Rattle.std.proofs.Common.{rules, ◌≡◌, ◌∷◌, [], ◌++◌, subst}
-use Rattle.commands.specs.Canonised.{IsSoFar}
-use Rattle.commands.proofs.Reducing.{so_far-fault, so_far-kept, so_far-word}
-use Rattle.commands.proofs.reduce.SoFar.put.Goals as goal
+use Rattle.std.proofs.Common.{rules, ◌≡◌, ◌∷◌, [], ◌++◌}
+use Rattle.reduce_commands.proofs.Reducing.{so_far-fault, so_far-kept, so_far-word}
+use Rattle.reduce_commands.proofs.reduce.SoFar.put.Goals as goal
 
 pub returns-then-is_some : goal.returns-then-is_some
 returns-then-is_some g c =

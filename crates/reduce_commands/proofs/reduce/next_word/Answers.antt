@@ -1,5 +1,5 @@
-use Rattle.commands.proofs.Reducing.{read_wanting}
-use Rattle.commands.proofs.reduce.next_word.Goals as goal
+use Rattle.reduce_commands.proofs.Reducing.{read_wanting}
+use Rattle.reduce_commands.proofs.reduce.next_word.Goals as goal
 
 pub returns-in-Err-clause-word : goal.returns-in-Err-clause-word
 returns-in-Err-clause-word c =

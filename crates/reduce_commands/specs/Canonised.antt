@@ -2,7 +2,7 @@
 use Rattle.std.specs.Prelude.{◌≡◌, ℕ, List, Option, Some, None, Result, Ok, Err}
 use Rattle.walk_files.specs.NumberLists.{NumberLine}
 use Rattle.walk_files.specs.declared.fault.WalkFault.{WalkFault}
-use Rattle.commands.specs.Reduce.{AreCanonicalOf, entries_on, range_fault, range_line}
+use Rattle.reduce_commands.specs.Reduce.{AreCanonicalOf, entries_on, range_fault, range_line}
 use Rattle.commands.specs.Refusals.{numbers_line}
 use Rattle.commands.specs.Stops.{Tells}
 use Rattle.commands.specs.declared.refusal.Input.TheVariants.{TurnWords}

@@ -2,7 +2,7 @@ use Rattle.std.proofs.Common.{rules, ◌≡◌, ◌∷◌, [], ◌++◌, ◌∙�
 use Rattle.text_scan.specs.Each.{ok_first}
 use Rattle.text_scan.proofs.EachLemmas.{before_ok-more}
 use Rattle.walk_files.specs.NumberLists.{NumberLine}
-use Rattle.commands.proofs.reduce.canonise_lines.Goals as goal
+use Rattle.reduce_commands.proofs.reduce.canonise_lines.Goals as goal
 
 pub loop-so_far-preserved : goal.loop-so_far-preserved
 loop-so_far-preserved g c =

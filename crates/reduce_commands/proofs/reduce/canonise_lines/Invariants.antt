@@ -2,8 +2,8 @@ use Rattle.std.proofs.Common.{◌≡◌, List}
 use Rattle.text_scan.proofs.EachLemmas.{before_ok}
 use Rattle.walk_files.specs.NumberLists.{NumberLine}
 use Rattle.walk_files.specs.NumberTexts.{words_of}
-use Rattle.commands.specs.Canonised.{IsSoFar}
-use Rattle.commands.proofs.reduce.canonise_lines.Given as goal
+use Rattle.reduce_commands.specs.Canonised.{IsSoFar}
+use Rattle.reduce_commands.proofs.reduce.canonise_lines.Given as goal
 
 -- lines were read, and this is what they came to
 abbrev pub invariant-loop-so_far : goal.invariant-loop-so_far

@@ -18,14 +18,15 @@ use Rattle.commands.proofs.Checking.{stops_first, told_stops, stops_next}
 use Rattle.commands.proofs.Running.{tells_no_fault}
 use Rattle.commands.proofs.Sound.{IsSound, sound-then, sound-pass, sound-meant, sound-pass_unless, sound-file, held}
 use Rattle.commands.specs.Answers.{Answer, Texts, NoText, yes_with}
-use Rattle.commands.specs.Canonised.{AreCanonised, IsNotCanonised, IsSoFar}
+use Rattle.reduce_commands.specs.Canonised.{AreCanonised, IsNotCanonised, IsSoFar}
 use Rattle.commands.specs.Checks.{End, Refuse, Pass, Passes, IsTold, file, meant, pass_unless, Check, pass, ◌>>=◌}
 use Rattle.commands.specs.Outcomes.{Outcome, status_of}
-use Rattle.commands.specs.Reduce.{SpellsTurnWords, IsReduceInput, AreCanonicalOf, entries_on, degree_fault, lines_in, range_fault, canonical_words, reduce, range_line, degree_line, words_text}
+use Rattle.commands.specs.WordTexts.{words_text}
+use Rattle.reduce_commands.specs.Reduce.{SpellsTurnWords, IsReduceInput, AreCanonicalOf, entries_on, degree_fault, lines_in, range_fault, canonical_words, reduce, range_line, degree_line}
 use Rattle.commands.specs.Refusals.{numbers_line}
 use Rattle.commands.specs.Stops.{Stops, Tells}
 use Rattle.commands.specs.declared.inputs.TheConstants.{MOST_BYTES}
-use Rattle.commands.specs.declared.reduce.TheConstants.{LEAST_DEGREE}
+use Rattle.reduce_commands.specs.declared.reduce.TheConstants.{LEAST_DEGREE}
 use Rattle.commands.specs.declared.status.Status.TheVariants.{Yes}
 use Rattle.commands.specs.declared.stop.Stop.{Stop}
 
