@@ -17,7 +17,7 @@ use Rattle.surf_model.proofs.ReplacementLemmas.{by_replacing}
 use Rattle.surf_model.proofs.WayBackLemmas.{keeps_walk}
 use Rattle.connectivity.proofs.EdgeLemmas.{edge_used, used_below}
 use Rattle.free_forms.specs.PeakedLists.{LeadsAtPeak, IsWithin}
-use Rattle.free_forms.proofs.PeakLemmas.{greatest_darts-more}
+use Rattle.common_ends.proofs.PeakLemmas.{greatest_darts-more}
 use Rattle.free_forms.specs.declared.limits.TheConstants.{MOST_OPEN_SIDES, MOST_OPEN_STEPS}
 use Rattle.walk_files.specs.MoveTexts.{direction_word, move_words, head_words, list_lines, list_text}
 use Rattle.walk_translate.specs.declared.deciding.Answer.TheVariants.{Homotopic}
