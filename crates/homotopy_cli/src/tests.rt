@@ -6,7 +6,7 @@ use std::process::Abort;
 use surf_io::{MemoryShelf, MemorySink, Shelf};
 
 /// The files that the words of the tests name.
-const FILES: [(&str, &str); 11] = [
+const FILES: [(&str, &str); 14] = [
     (
         "tetrahedron",
         "OFF\n4 4 6\n0 0 0\n1 0 0\n0 1 0\n0 0 1\n3 0 1 2\n3 0 3 1\n3 0 2 3\n3 1 3 2\n",
@@ -23,6 +23,12 @@ const FILES: [(&str, &str); 11] = [
         "OFF\n7 8 0\n0 0 0\n0 0 0\n0 0 0\n0 0 0\n0 0 0\n0 0 0\n0 0 0\n\
 3 0 1 2\n3 0 3 1\n3 0 2 3\n3 1 3 2\n3 0 4 5\n3 0 6 4\n3 0 5 6\n3 4 6 5\n",
     ),
+    // Two tetrahedra apart.
+    (
+        "apart",
+        "OFF\n8 8 0\n0 0 0\n0 0 0\n0 0 0\n0 0 0\n0 0 0\n0 0 0\n0 0 0\n0 0 0\n\
+3 0 1 2\n3 0 3 1\n3 0 2 3\n3 1 3 2\n3 4 5 6\n3 4 7 5\n3 4 6 7\n3 5 7 6\n",
+    ),
     ("sides", "0 1 2\n0 2\n"),
     ("round", "0 1 2 0 2 4 0\n0 2 4 0 1 2 0\n"),
     ("across", "0 1 2 3\n0 3\n"),
@@ -30,6 +36,8 @@ const FILES: [(&str, &str); 11] = [
         "pairs",
         "WALKS 2\n0 ( 1 2 0 ) 3 2 4 0\n0 1 2 3 4 5 6 0\n0 1 2 3\n0 3\n",
     ),
+    ("visits", "WALKS 2\n4 5 6\n4 6\n4\n4\n0 1\n0 2 1\n7\n7\n"),
+    ("astray", "WALKS 2\n0 1\n0 1\n0 1\n0 2\n"),
     ("moves", "MOVES 1 2\nf 0 0 0 + 2\n"),
     ("backwards", "MOVES 1 2\nf 0 0 0 - 2\n"),
     (
@@ -44,7 +52,7 @@ const FILES: [(&str, &str); 11] = [
 type Case = (&'static str, &'static str, Status);
 
 /// The words stand in one text, with blanks between them.
-const CASES: [Case; 22] = [
+const CASES: [Case; 24] = [
     (
         "surface torus",
         "V 7\nE 21\nF 14\nchi 0\ngenus 1\n",
@@ -58,6 +66,16 @@ const CASES: [Case; 22] = [
     ("decide torus round", "homotopic\n", Status::Yes),
     ("decide torus across", "different\n", Status::No),
     ("decide torus pairs", "homotopic\ndifferent\n", Status::No),
+    (
+        "decide apart visits",
+        "homotopic\nhomotopic\nhomotopic\nhomotopic\n",
+        Status::Yes,
+    ),
+    (
+        "decide torus astray",
+        "refused: pair 2 end\n",
+        Status::Refused,
+    ),
     (
         "certify torus pairs",
         "refused: walks count 4\n",

@@ -2,4 +2,4 @@ pub mod Rows
 pub mod HeadlineLemmas
 pub mod Outcomes
 pub mod Printed
-pub mod Keywords
+pub mod WordTexts

@@ -1,5 +1,5 @@
 //! The words of the command line.
-ghost use Rattle.std.specs.Prelude.{◌≡◌, ℕ, Some, IfSome, IfNone};
+ghost use Rattle.std.specs.Prelude.{◌≡◌, ℕ, [], ◌∷◌, Some, IfSome, IfNone};
 ghost use Rattle.program.specs.Commands.{Row, IsRow, answer_to, row_of};
 ghost use Rattle.commands.specs.Replies.{Runs};
 ghost use Rattle.commands.specs.Words.{IsNatural, texts};
@@ -74,48 +74,76 @@ pub enum Command<'a> {
     },
 }
 
-/// A command on a mesh and walks, with the names of their files.
-macro_rules! on_walks {
-    ($command:ident, $mesh:expr, $walks:expr) => {
-        Some(Command::$command {
-            mesh: $mesh.as_str(),
-            walks: $walks.as_str(),
-        })
-    };
-}
-
 /// The command whose row the words are; none where they are no row. It takes no memory.
 pub fn read_command(words: &Vec<String>) -> Option<Command<'_>>
     ensures row { IfSome result (λ command. IsRow (texts words.now.items) (row_of command)) }
     ensures none { IfNone result ((row : Row) → IsRow (texts words.now.items) row → ⊥) }
 {
-    let (name, others) = words.split_first()?;
-    match (name.as_str(), others) {
-        ("surface", [mesh]) => Some(Command::Surface {
-            mesh: mesh.as_str(),
+    match words.as_slice() {
+        [name, one] => with_one(name.as_str(), one.as_str()),
+        [name, one, two] => with_two(name.as_str(), one.as_str(), two.as_str()),
+        [name, one, two, three] => {
+            with_three(name.as_str(), one.as_str(), two.as_str(), three.as_str())
+        }
+        _ => None,
+    }
+}
+
+/// The command with that name and one word behind it.
+fn with_one<'a>(name: &str, mesh: &'a str) -> Option<Command<'a>>
+    ensures row { IfSome result (λ command. IsRow (name.now ∷ mesh.now ∷ []) (row_of command)) }
+    ensures none { IfNone result ((row : Row) → IsRow (name.now ∷ mesh.now ∷ []) row → ⊥) }
+{
+    match name {
+        "surface" => Some(Command::Surface { mesh }),
+        _ => None,
+    }
+}
+
+/// The command with that name and two words behind it.
+fn with_two<'a>(name: &str, one: &'a str, two: &'a str) -> Option<Command<'a>>
+    ensures row { IfSome result (λ command. IsRow (name.now ∷ one.now ∷ two.now ∷ []) (row_of command)) }
+    ensures none { IfNone result ((row : Row) → IsRow (name.now ∷ one.now ∷ two.now ∷ []) row → ⊥) }
+{
+    let (mesh, walks) = (one, two);
+    match name {
+        "decide" => Some(Command::Decide { mesh, walks }),
+        "certify" => Some(Command::Certify { mesh, walks }),
+        "loops" => Some(Command::Loops { mesh, walks }),
+        "decide-open" => Some(Command::DecideOpen { mesh, walks }),
+        "certify-open" => Some(Command::CertifyOpen { mesh, walks }),
+        "reduce" => Some(Command::Reduce {
+            degree: natural(one)?,
+            list: two,
         }),
-        ("decide", [mesh, walks]) => on_walks!(Decide, mesh, walks),
-        ("certify", [mesh, walks]) => on_walks!(Certify, mesh, walks),
-        ("loops", [mesh, walks]) => on_walks!(Loops, mesh, walks),
-        ("decide-open", [mesh, walks]) => on_walks!(DecideOpen, mesh, walks),
-        ("certify-open", [mesh, walks]) => on_walks!(CertifyOpen, mesh, walks),
-        ("verify", [mesh, walks, certificate]) => Some(Command::Verify {
-            mesh: mesh.as_str(),
-            walks: walks.as_str(),
-            certificate: certificate.as_str(),
+        "trial" => Some(Command::Trial {
+            genus: natural(one)?,
+            grid: natural(two)?,
         }),
-        ("verify-homology", [mesh, walks, certificate]) => Some(Command::VerifyHomology {
-            mesh: mesh.as_str(),
-            walks: walks.as_str(),
-            certificate: certificate.as_str(),
+        _ => None,
+    }
+}
+
+/// The command with that name and three words behind it.
+fn with_three<'a>(
+    name: &str,
+    mesh: &'a str,
+    walks: &'a str,
+    certificate: &'a str,
+) -> Option<Command<'a>>
+    ensures row { IfSome result (λ command. IsRow (name.now ∷ mesh.now ∷ walks.now ∷ certificate.now ∷ []) (row_of command)) }
+    ensures none { IfNone result ((row : Row) → IsRow (name.now ∷ mesh.now ∷ walks.now ∷ certificate.now ∷ []) row → ⊥) }
+{
+    match name {
+        "verify" => Some(Command::Verify {
+            mesh,
+            walks,
+            certificate,
         }),
-        ("reduce", [degree, list]) => Some(Command::Reduce {
-            degree: natural(degree.as_str())?,
-            list: list.as_str(),
-        }),
-        ("trial", [genus, grid]) => Some(Command::Trial {
-            genus: natural(genus.as_str())?,
-            grid: natural(grid.as_str())?,
+        "verify-homology" => Some(Command::VerifyHomology {
+            mesh,
+            walks,
+            certificate,
         }),
         _ => None,
     }

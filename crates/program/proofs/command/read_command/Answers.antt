@@ -1,57 +1,53 @@
-use Rattle.std.proofs.Common.{rules, ◌≡◌, ℕ, List, ◌∷◌}
+use Rattle.std.proofs.Common.{◌≡◌, ◌∷◌, [], ℕ, List, ap, sym, subst, ◌∙◌}
+use Rattle.std.specs.Prelude.{IfSome, IfNone}
 use Rattle.commands.specs.Words.{texts}
-use Rattle.program.proofs.Keywords.{no_row}
-use Rattle.program.proofs.command.read_command.Goals.{in_default-via-in-surface-0+then-others-lt1, in_default-via-in-surface-0+else-others-lt1+else-this-lt2, in_default-via-in-decide-0+then-this-lt2-2, in_default-via-in-decide-0+else-this-lt2-2+else-this-lt3, in_default-via-in-certify-0+then-this-lt2-3, in_default-via-in-certify-0+else-this-lt2-3+else-this-lt3-2, in_default-via-in-loops-0+then-this-lt2-4, in_default-via-in-loops-0+else-this-lt2-4+else-this-lt3-3, in_default-via-in-text-0+then-this-lt2-5, in_default-via-in-text-0+else-this-lt2-5+else-this-lt3-4, in_default-via-in-text-2-0+then-this-lt2-6, in_default-via-in-text-2-0+else-this-lt2-6+else-this-lt3-5, in_default-via-in-verify-0+then-this-lt3-6, in_default-via-in-verify-0+else-this-lt3-6+else-this-lt4, in_default-via-in-text-3-0+then-this-lt3-7, in_default-via-in-text-3-0+else-this-lt3-7+else-this-lt4-2, in_default-via-in-reduce-0+then-this-lt2-7, in_default-via-in-reduce-0+else-this-lt2-7+else-this-lt3-8, in_default-via-in-trial-0+then-this-lt2-8, in_default-via-in-trial-0+else-this-lt2-8+else-this-lt3-9, in_default-via-in_default}
+use Rattle.program.specs.Commands.{Row, IsRow, row_of}
+use Rattle.program.specs.declared.command.Command.{Command}
+use Rattle.program.proofs.WordTexts.{three_texts, four_texts}
 use Rattle.program.proofs.command.read_command.Goals as goal
 
--- words that come to no row are none
-pub returns-in_default-clause-none : goal.returns-in_default-clause-none
-returns-in_default-clause-none c =
-    let words : List (List ℕ) = texts c.args.words.now.items in
-    let name : List ℕ = c.as_str.result.now in
-    let others = c.in_ok-name.others.now in
-    let is : words ≡ name ∷ texts others = search rules in
-    elim c.in_default.branch [
-      | in_default-via-in-surface-0+then-others-lt1 w ↦ no_row words name others is (search rules) (search rules) (search rules)
-          (search rules) (search rules) (search rules) (search rules) (search rules) (search rules) (search rules)
-      | in_default-via-in-surface-0+else-others-lt1+else-this-lt2 w ↦ no_row words name others is (search rules) (search rules)
-          (search rules) (search rules) (search rules) (search rules) (search rules) (search rules) (search rules) (search rules)
-      | in_default-via-in-decide-0+then-this-lt2-2 w ↦ no_row words name others is (search rules) (search rules) (search rules)
-          (search rules) (search rules) (search rules) (search rules) (search rules) (search rules) (search rules)
-      | in_default-via-in-decide-0+else-this-lt2-2+else-this-lt3 w ↦ no_row words name others is (search rules) (search rules)
-          (search rules) (search rules) (search rules) (search rules) (search rules) (search rules) (search rules) (search rules)
-      | in_default-via-in-certify-0+then-this-lt2-3 w ↦ no_row words name others is (search rules) (search rules) (search rules)
-          (search rules) (search rules) (search rules) (search rules) (search rules) (search rules) (search rules)
-      | in_default-via-in-certify-0+else-this-lt2-3+else-this-lt3-2 w ↦ no_row words name others is (search rules) (search rules)
-          (search rules) (search rules) (search rules) (search rules) (search rules) (search rules) (search rules) (search rules)
-      | in_default-via-in-loops-0+then-this-lt2-4 w ↦ no_row words name others is (search rules) (search rules) (search rules)
-          (search rules) (search rules) (search rules) (search rules) (search rules) (search rules) (search rules)
-      | in_default-via-in-loops-0+else-this-lt2-4+else-this-lt3-3 w ↦ no_row words name others is (search rules) (search rules)
-          (search rules) (search rules) (search rules) (search rules) (search rules) (search rules) (search rules) (search rules)
-      | in_default-via-in-text-0+then-this-lt2-5 w ↦ no_row words name others is (search rules) (search rules) (search rules) (search rules)
-          (search rules) (search rules) (search rules) (search rules) (search rules) (search rules)
-      | in_default-via-in-text-0+else-this-lt2-5+else-this-lt3-4 w ↦ no_row words name others is (search rules) (search rules)
-          (search rules) (search rules) (search rules) (search rules) (search rules) (search rules) (search rules) (search rules)
-      | in_default-via-in-text-2-0+then-this-lt2-6 w ↦ no_row words name others is (search rules) (search rules) (search rules)
-          (search rules) (search rules) (search rules) (search rules) (search rules) (search rules) (search rules)
-      | in_default-via-in-text-2-0+else-this-lt2-6+else-this-lt3-5 w ↦ no_row words name others is (search rules) (search rules)
-          (search rules) (search rules) (search rules) (search rules) (search rules) (search rules) (search rules) (search rules)
-      | in_default-via-in-verify-0+then-this-lt3-6 w ↦ no_row words name others is (search rules) (search rules) (search rules)
-          (search rules) (search rules) (search rules) (search rules) (search rules) (search rules) (search rules)
-      | in_default-via-in-verify-0+else-this-lt3-6+else-this-lt4 w ↦ no_row words name others is (search rules) (search rules)
-          (search rules) (search rules) (search rules) (search rules) (search rules) (search rules) (search rules) (search rules)
-      | in_default-via-in-text-3-0+then-this-lt3-7 w ↦ no_row words name others is (search rules) (search rules) (search rules)
-          (search rules) (search rules) (search rules) (search rules) (search rules) (search rules) (search rules)
-      | in_default-via-in-text-3-0+else-this-lt3-7+else-this-lt4-2 w ↦ no_row words name others is (search rules) (search rules)
-          (search rules) (search rules) (search rules) (search rules) (search rules) (search rules) (search rules) (search rules)
-      | in_default-via-in-reduce-0+then-this-lt2-7 w ↦ no_row words name others is (search rules) (search rules) (search rules)
-          (search rules) (search rules) (search rules) (search rules) (search rules) (search rules) (search rules)
-      | in_default-via-in-reduce-0+else-this-lt2-7+else-this-lt3-8 w ↦ no_row words name others is (search rules) (search rules)
-          (search rules) (search rules) (search rules) (search rules) (search rules) (search rules) (search rules) (search rules)
-      | in_default-via-in-trial-0+then-this-lt2-8 w ↦ no_row words name others is (search rules) (search rules) (search rules)
-          (search rules) (search rules) (search rules) (search rules) (search rules) (search rules) (search rules)
-      | in_default-via-in-trial-0+else-this-lt2-8+else-this-lt3-9 w ↦ no_row words name others is (search rules) (search rules)
-          (search rules) (search rules) (search rules) (search rules) (search rules) (search rules) (search rules) (search rules)
-      | in_default-via-in_default w ↦ no_row words name others is (search rules) (search rules) (search rules) (search rules) (search rules)
-          (search rules) (search rules) (search rules) (search rules) (search rules)
-    ]
+pub returns-in-len3 : goal.returns-in-len3
+returns-in-len3 c =
+    let words = c.as_slice.result.now in
+    let a = c.name-item-then-this-lt4.result in
+    let b = c.one-item-then-this-lt4.result in
+    let d = c.two-item.result in
+    let x = c.as_str-in-len3.result.now in
+    let y = c.as_str-in-len3-2.result.now in
+    let z = c.as_str-in-len3-3.result.now in
+    let is : texts c.args.words.now.items ≡ x ∷ y ∷ z ∷ [] =
+    ap texts (sym c.as_slice.ensures.value)
+    ∙ three_texts words a b d x y z c.in-len3.len_at_least c.in-len3.len_below
+    c.name-item-then-this-lt4.is c.one-item-then-this-lt4.is
+    c.two-item.is c.as_str-in-len3.ensures.value c.as_str-in-len3-2.ensures.value
+    c.as_str-in-len3-3.ensures.value in
+    record {
+      row =
+          subst (λ (ws : List (List ℕ)). IfSome c.with_two.result (λ (command : Command). IsRow ws (row_of command))) (sym is)
+          c.with_two.ensures.row;
+      none = subst (λ (ws : List (List ℕ)). IfNone c.with_two.result ((row : Row) → IsRow ws row → ⊥)) (sym is) c.with_two.ensures.none;
+    }
+
+pub returns-in-len4 : goal.returns-in-len4
+returns-in-len4 c =
+    let words = c.as_slice.result.now in
+    let a = c.name-item-then-this-lt5.result in
+    let b = c.one-item-then-this-lt5.result in
+    let d = c.two-item-then-this-lt5.result in
+    let e = c.three-item.result in
+    let x = c.as_str-in-len4.result.now in
+    let y = c.as_str-in-len4-2.result.now in
+    let z = c.as_str-in-len4-3.result.now in
+    let t = c.as_str-in-len4-4.result.now in
+    let is : texts c.args.words.now.items ≡ x ∷ y ∷ z ∷ t ∷ [] =
+    ap texts (sym c.as_slice.ensures.value)
+    ∙ four_texts words a b d e x y z t c.in-len4.len_at_least c.in-len4.len_below
+    c.name-item-then-this-lt5.is c.one-item-then-this-lt5.is
+    c.two-item-then-this-lt5.is c.three-item.is
+    c.as_str-in-len4.ensures.value c.as_str-in-len4-2.ensures.value c.as_str-in-len4-3.ensures.value c.as_str-in-len4-4.ensures.value in
+    record {
+      row =
+          subst (λ (ws : List (List ℕ)). IfSome c.with_three.result (λ (command : Command). IsRow ws (row_of command))) (sym is)
+          c.with_three.ensures.row;
+      none = subst (λ (ws : List (List ℕ)). IfNone c.with_three.result ((row : Row) → IsRow ws row → ⊥)) (sym is) c.with_three.ensures.none;
+    }
