@@ -1,4 +1,4 @@
-use Rattle.std.proofs.Common.{◌≡◌, ◌<◌, ◌≤◌, ◌∷◌, [], ℕ, List, length, get_or, ap, arith, sym, subst, ◌∙◌}
+use Rattle.std.proofs.Common.{◌≡◌, ◌∷◌, [], ℕ, List, ap, sym, subst, ◌∙◌}
 use Rattle.std.specs.Prelude.{IfSome, IfNone}
 use Rattle.commands.specs.Words.{texts}
 use Rattle.program.specs.Commands.{Row, IsRow, row_of}
@@ -17,9 +17,9 @@ returns-in-len3 c =
     let z = c.as_str-in-len3-3.result.now in
     let is : texts c.args.words.now.items ≡ x ∷ y ∷ z ∷ [] =
     ap texts (sym c.as_slice.ensures.value)
-    ∙ three_texts words a b d x y z (omega (arith, ap length c.as_slice.ensures.value)) (omega (arith, ap length c.as_slice.ensures.value))
-    (cc (c.name-item-then-this-lt4.is, c.as_slice.ensures.value)) (cc (c.one-item-then-this-lt4.is, c.as_slice.ensures.value))
-    (cc (c.two-item.is, c.as_slice.ensures.value)) c.as_str-in-len3.ensures.value c.as_str-in-len3-2.ensures.value
+    ∙ three_texts words a b d x y z c.in-len3.len_at_least c.in-len3.len_below
+    c.name-item-then-this-lt4.is c.one-item-then-this-lt4.is
+    c.two-item.is c.as_str-in-len3.ensures.value c.as_str-in-len3-2.ensures.value
     c.as_str-in-len3-3.ensures.value in
     record {
       row =
@@ -41,10 +41,9 @@ returns-in-len4 c =
     let t = c.as_str-in-len4-4.result.now in
     let is : texts c.args.words.now.items ≡ x ∷ y ∷ z ∷ t ∷ [] =
     ap texts (sym c.as_slice.ensures.value)
-    ∙ four_texts words a b d e x y z t (omega (arith, ap length c.as_slice.ensures.value))
-    (omega (arith, ap length c.as_slice.ensures.value))
-    (cc (c.name-item-then-this-lt5.is, c.as_slice.ensures.value)) (cc (c.one-item-then-this-lt5.is, c.as_slice.ensures.value))
-    (cc (c.two-item-then-this-lt5.is, c.as_slice.ensures.value)) (cc (c.three-item.is, c.as_slice.ensures.value))
+    ∙ four_texts words a b d e x y z t c.in-len4.len_at_least c.in-len4.len_below
+    c.name-item-then-this-lt5.is c.one-item-then-this-lt5.is
+    c.two-item-then-this-lt5.is c.three-item.is
     c.as_str-in-len4.ensures.value c.as_str-in-len4-2.ensures.value c.as_str-in-len4-3.ensures.value c.as_str-in-len4-4.ensures.value in
     record {
       row =
