@@ -1,0 +1,79 @@
+/* Times of calls: on a tetrahedron; on a torus of 1000 times 1000 squares, of 4,000,000 sides, with one pair and with 100,000 pairs of
+ * walks of 20 darts each pair. Prints seconds of the processor, the least of some runs. */
+#include <homotopy.h>
+#include <stdio.h>
+#include <stdlib.h>
+#include <time.h>
+
+enum { GRID = 1000, FACES = GRID * GRID, PAIRS = 100000, DARTS = 10 };
+
+static uint32_t sizes[FACES], corners[4 * FACES], walk_sizes[2 * PAIRS], walk_vertices[2 * PAIRS * (DARTS + 1)];
+static uint8_t answers[PAIRS];
+
+static uint32_t at(int x, int y) { return (uint32_t)(GRID * (y % GRID) + x % GRID); }
+
+static double seconds(void) {
+    struct timespec now;
+    clock_gettime(CLOCK_PROCESS_CPUTIME_ID, &now);
+    return now.tv_sec + 1e-9 * now.tv_nsec;
+}
+
+/* A walk from (x, y) by `right` steps right and as many up: right first, or up first. */
+static void put(size_t walk, int x, int y, int right_first) {
+    uint32_t *to = walk_vertices + walk * (DARTS + 1);
+    const int half = DARTS / 2;
+    for (int k = 0; k <= DARTS; k++) {
+        const int first = k < half ? k : half, second = k - first;
+        to[k] = right_first ? at(x + first, y + second) : at(x + second, y + first);
+    }
+    walk_sizes[walk] = DARTS + 1;
+}
+
+static double torus(size_t pairs) {
+    homotopy_outcome outcome;
+    const double began = seconds();
+    homotopy_decide(FACES, sizes, FACES, corners, 4 * FACES, walk_sizes, 2 * pairs, walk_vertices, 2 * pairs * (DARTS + 1), answers, pairs,
+                    &outcome);
+    const double took = seconds() - began;
+    if (outcome.code != HOMOTOPY_DONE) exit(1);
+    for (size_t k = 0; k < pairs; k++)
+        if (answers[k] != HOMOTOPY_HOMOTOPIC) exit(1);
+    return took;
+}
+
+int main(int count, char **words) {
+    const int runs = count > 1 ? atoi(words[1]) : 3;
+    static const uint32_t tetra_sizes[4] = {3, 3, 3, 3}, tetra[12] = {0, 1, 2, 0, 3, 1, 0, 2, 3, 1, 3, 2}, walks[5] = {0, 1, 2, 0, 2};
+    static const uint32_t two[2] = {3, 2};
+    homotopy_outcome outcome;
+    double least = 1e9;
+    for (int run = 0; run < 10 * runs; run++) {
+        const double began = seconds();
+        for (int k = 0; k < 1000; k++) homotopy_decide(4, tetra_sizes, 4, tetra, 12, two, 2, walks, 5, answers, 1, &outcome);
+        const double took = (seconds() - began) / 1000;
+        if (took < least) least = took;
+    }
+    printf("a tetrahedron and a pair: %.2f microseconds\n", 1e6 * least);
+
+    for (int y = 0; y < GRID; y++)
+        for (int x = 0; x < GRID; x++) {
+            const uint32_t ring[4] = {at(x, y), at(x + 1, y), at(x + 1, y + 1), at(x, y + 1)};
+            for (int k = 0; k < 4; k++) corners[4 * at(x, y) + k] = ring[k];
+            sizes[at(x, y)] = 4;
+        }
+    srand(1);
+    for (size_t pair = 0; pair < PAIRS; pair++) {
+        const int x = rand() % GRID, y = rand() % GRID;
+        put(2 * pair, x, y, 1);
+        put(2 * pair + 1, x, y, 0);
+    }
+    double one = 1e9, many = 1e9;
+    for (int run = 0; run < runs; run++) {
+        const double first = torus(1), second = torus(PAIRS);
+        if (first < one) one = first;
+        if (second < many) many = second;
+    }
+    printf("4,000,000 sides and a pair: %.3f seconds\n", one);
+    printf("4,000,000 sides and 100,000 pairs: %.3f seconds more\n", many - one);
+    return 0;
+}

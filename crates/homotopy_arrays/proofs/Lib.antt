@@ -1,0 +1,5 @@
+pub mod MeshLemmas
+pub mod ArraysOfMeshes
+pub mod PairLemmas
+pub mod PartLemmas
+pub mod EndLemmas

@@ -1,0 +1,148 @@
+-- Pairs of walks, cut from arrays.
+use Rattle.std.proofs.Common.{◌≡◌, ◌≢◌, ◌↔◌, ℕ, Bool, true, false, cond, eqb, ltb, ◌+◌, ◌-◌, ◌*◌, ◌<◌, ◌≤◌, List, [], ◌∷◌, ◌++◌, length, take, drop, get_or, refl, sym, ap, ap₂, subst, ◌∙◌, inl, inr, arith}
+use Rattle.std.specs.Prelude.{Some, None, Option, option_map, IsOk, Result, Ok, Err, sum, sum_by}
+use Rattle.std.specs.Option.{option_or}
+use Rattle.std.specs.Result.{result_err}
+use Rattle.std.proofs.Math.Seq.{get_or-append_seam}
+use Rattle.std.proofs.lemmas.Bool.{cases_lt, ne_eqb, eqb-false, le-ltb, ltb-false}
+use Rattle.std.proofs.lemmas.List.{take_more, get_or_append_left, length_push}
+use Rattle.std.proofs.lemmas.Option.{none-some}
+use Rattle.std.proofs.lemmas.List.Sums.{sum_by-append, sum_by-take-drop, sum_by-cons}
+use Rattle.surf_model.specs.FaceLists.{FaceList}
+use Rattle.surf_model.specs.Walks.{IsWalk, HaveCommonEnds}
+use Rattle.walk_files.specs.Pairs.{IsPair, pair_fault}
+use Rattle.walk_files.specs.declared.pair.PairFault.{PairFault}
+use Rattle.homotopy_arrays.specs.CheckedPairs.{AreChecked, IsChecked}
+use Rattle.homotopy_arrays.specs.Pairs.{AreWalks, length_fault, walk_at, walks_fault}
+use Rattle.homotopy_arrays.specs.declared.pair.Checked.{Checked}
+use Rattle.homotopy_arrays.specs.declared.pair.WalkFault.{WalkFault}
+use Rattle.homotopy_arrays.specs.declared.pair.WalkFault.TheVariants.{Empty, Long, Pair}
+use Rattle.homotopy_arrays.specs.declared.pair.TheConstants.{MOST_WALK}
+
+-- ---- the lengths
+
+pub length_good : (walk : ℕ) (vertices : List ℕ) → length_fault walk vertices ≡ None
+    → (0 < length vertices) × (length vertices ≤ MOST_WALK)
+length_good walk vertices e = by_tests (eqb (length vertices) 0) (ltb MOST_WALK (length vertices)) refl refl e
+  where
+    by_tests : (a b : Bool) → eqb (length vertices) 0 ≡ a → ltb MOST_WALK (length vertices) ≡ b
+        → cond a (Some (Empty walk)) (cond b (Some (Long walk)) None) ≡ None → (0 < length vertices) × (length vertices ≤ MOST_WALK)
+    by_tests true b p q e = absurd cc
+    by_tests false true p q e = absurd cc
+    by_tests false false p q e =
+        let some : length vertices ≢ 0 = eqb-false (length vertices) 0 p in
+        (omega (arith, some), ltb-false MOST_WALK (length vertices) q)
+
+pub length_bad : (walk : ℕ) (vertices : List ℕ) (fault : WalkFault) → length_fault walk vertices ≡ Some fault → 0 < length vertices
+    → length vertices ≤ MOST_WALK → ⊥
+length_bad walk vertices fault e some few = none-some fault (sym good ∙ e)
+  where
+    good : length_fault walk vertices ≡ None
+    good = rw (ne_eqb (length vertices) 0 (omega (arith, some)), le-ltb MOST_WALK (length vertices) few) refl
+
+-- ---- the walks of a pair
+
+pub walks_of_pair : (mesh : FaceList) (first second : List ℕ) → IsPair mesh (first ∷ second ∷ [])
+    → (length first ≤ MOST_WALK) × (length second ≤ MOST_WALK) → AreWalks mesh first second
+walks_of_pair mesh first second is few =
+    let one : is.first ≡ first = cc is.two in
+    let other : is.second ≡ second = cc is.two in
+    record {
+      first_walk = subst (IsWalk mesh) one is.first_walk;
+      second_walk = subst (IsWalk mesh) other is.second_walk;
+      ends = subst (HaveCommonEnds first) other (subst (λ (w : List ℕ). HaveCommonEnds w is.second) one is.ends);
+      few = few;
+    }
+
+pub pair_of_walks : (mesh : FaceList) (first second : List ℕ) → AreWalks mesh first second → IsPair mesh (first ∷ second ∷ [])
+pair_of_walks mesh first second are =
+    record {
+      first = first;
+      second = second;
+      two = refl;
+      first_walk = are.first_walk;
+      second_walk = are.second_walk;
+      ends = are.ends;
+    }
+
+-- ---- what is first wrong
+
+pub first_length : (mesh : FaceList) (first second : List ℕ) (fault : WalkFault) → length_fault 1 first ≡ Some fault
+    → (walks_fault mesh first second ≡ Some fault) × (AreWalks mesh first second → ⊥)
+first_length mesh first second fault e = (rw e refl, λ are. length_bad 1 first fault e are.first_walk.starts are.few.0)
+
+pub second_length : (mesh : FaceList) (first second : List ℕ) (fault : WalkFault) → length_fault 1 first ≡ None
+    → length_fault 2 second ≡ Some fault → (walks_fault mesh first second ≡ Some fault) × (AreWalks mesh first second → ⊥)
+second_length mesh first second fault one e = (rw (one, e) refl, λ are. length_bad 2 second fault e are.second_walk.starts are.few.1)
+
+pub no_pair : (mesh : FaceList) (first second : List ℕ) (fault : PairFault) → length_fault 1 first ≡ None → length_fault 2 second ≡ None
+    → Some fault ≡ pair_fault mesh (first ∷ second ∷ []) → (IsPair mesh (first ∷ second ∷ []) → ⊥)
+    → (walks_fault mesh first second ≡ Some (Pair fault)) × (AreWalks mesh first second → ⊥)
+no_pair mesh first second fault one other e none =
+    let found : option_map Pair (pair_fault mesh (first ∷ second ∷ [])) ≡ Some (Pair fault) = ap (option_map Pair) (sym e) in
+    (rw (one, other) found, λ are. none (pair_of_walks mesh first second are))
+
+-- ---- the walks that sizes cut from vertices
+
+-- behind one more walk
+pub next_place : (sizes : List ℕ) (k : ℕ) → k < length sizes → sum (take (k + 1) sizes) ≡ sum (take k sizes) + get_or sizes k 0
+next_place sizes k below =
+    ap (sum_by (λ x. x)) (take_more sizes k 0 below)
+    ∙ sum_by-append (λ x. x) (take k sizes) (get_or sizes k 0 ∷ [])
+    ∙ ap (λ (n : ℕ). sum (take k sizes) + n) (sum_by-cons (λ x. x) (get_or sizes k 0) [] ∙ omega arith)
+
+-- a walk ends within the vertices
+pub walk_end : (sizes : List ℕ) (total k : ℕ) → sum sizes ≡ total → k < length sizes → sum (take k sizes) + get_or sizes k 0 ≤ total
+walk_end sizes total k all below =
+    omega (arith, all, next_place sizes k below, sum_by-take-drop (λ x. x) sizes (k + 1))
+
+-- the two slices of a pair are its walks
+pub first_of_pair : (sizes vertices : List ℕ) (k at : ℕ) → at ≡ sum (take (2 * k) sizes)
+    → take (at + get_or sizes (2 * k) 0 - at) (drop at vertices) ≡ walk_at sizes vertices (2 * k)
+first_of_pair sizes vertices k at place =
+    let size : at + get_or sizes (2 * k) 0 - at ≡ get_or sizes (2 * k) 0 = omega arith in
+    ap₂ (λ (n a : ℕ). take n (drop a vertices)) size place
+
+pub second_of_pair : (sizes vertices : List ℕ) (k at : ℕ) → at ≡ sum (take (2 * k) sizes) → 2 * k < length sizes
+    → take (at + get_or sizes (2 * k) 0 + get_or sizes (2 * k + 1) 0 - (at + get_or sizes (2 * k) 0))
+    (drop (at + get_or sizes (2 * k) 0) vertices)
+    ≡ walk_at sizes vertices (2 * k + 1)
+second_of_pair sizes vertices k at place below =
+    let size : at + get_or sizes (2 * k) 0 + get_or sizes (2 * k + 1) 0 - (at + get_or sizes (2 * k) 0) ≡ get_or sizes (2 * k + 1) 0 =
+    omega arith in
+    let behind : at + get_or sizes (2 * k) 0 ≡ sum (take (2 * k + 1) sizes) = omega (arith, place, next_place sizes (2 * k) below) in
+    ap₂ (λ (n a : ℕ). take n (drop a vertices)) size behind
+
+-- where the next pair starts, which is within the vertices
+pub pair_end : (sizes : List ℕ) (k at : ℕ) → at ≡ sum (take (2 * k) sizes) → 2 * k + 1 < length sizes
+    → at + get_or sizes (2 * k) 0 + get_or sizes (2 * k + 1) 0 ≡ sum (take (2 * (k + 1)) sizes)
+pair_end sizes k at place below =
+    let two : 2 * (k + 1) ≡ 2 * k + 1 + 1 = omega arith in
+    let first : sum (take (2 * k + 1) sizes) ≡ sum (take (2 * k) sizes) + get_or sizes (2 * k) 0 =
+    next_place sizes (2 * k) (omega (arith, below)) in
+    let second : sum (take (2 * k + 1 + 1) sizes) ≡ sum (take (2 * k + 1) sizes) + get_or sizes (2 * k + 1) 0 =
+    next_place sizes (2 * k + 1) below in
+    omega (arith, place, first, second, ap (λ (n : ℕ). sum (take n sizes)) two)
+
+pub within : (sizes : List ℕ) (k at total : ℕ) → at ≡ sum (take (2 * k) sizes) → 2 * k + 1 < length sizes → sum sizes ≡ total
+    → at + get_or sizes (2 * k) 0 + get_or sizes (2 * k + 1) 0 ≤ total
+within sizes k at total place below all =
+    omega (arith, all, pair_end sizes k at place below, sum_by-take-drop (λ x. x) sizes (2 * (k + 1)))
+
+-- a pair more
+pub more_checked : (mesh : FaceList) (sizes vertices : List ℕ) (checked : List Checked) (k : ℕ) (pair : Checked) → length checked ≡ k
+    → AreChecked mesh sizes vertices checked → IsChecked mesh (walk_at sizes vertices (2 * k)) (walk_at sizes vertices (2 * k + 1)) pair
+    → AreChecked mesh sizes vertices (checked ++ pair ∷ [])
+more_checked mesh sizes vertices checked k pair many so_far is j none below =
+    elim (cases_lt j (length checked)) [
+      | inl before ↦
+          subst (IsChecked mesh (walk_at sizes vertices (2 * j)) (walk_at sizes vertices (2 * j + 1)))
+          (sym (get_or_append_left checked (pair ∷ []) none j before)) (so_far j none before)
+      | inr last ↦
+          (let here : j ≡ length checked = omega (arith, last, below, length_push checked pair) in
+          let there : k ≡ j = omega (arith, here, many) in
+          let found : pair ≡ get_or (checked ++ pair ∷ []) j none =
+          sym (ap (λ (n : ℕ). get_or (checked ++ pair ∷ []) n none) here ∙ get_or-append_seam checked pair [] none) in
+          subst (IsChecked mesh (walk_at sizes vertices (2 * j)) (walk_at sizes vertices (2 * j + 1))) found
+          (subst (λ (n : ℕ). IsChecked mesh (walk_at sizes vertices (2 * n)) (walk_at sizes vertices (2 * n + 1)) pair) there is))
+    ]

@@ -1,0 +1,6 @@
+pub mod MeshArrays
+pub mod Surfaces
+pub mod Pairs
+pub mod CheckedPairs
+pub mod AskedPairs
+pub mod Decisions

@@ -1,0 +1,71 @@
+//! Why arrays have no answer.
+ghost use Rattle.std.specs.Prelude.{◌≡◌};
+ghost use Rattle.homotopy_arrays.specs.declared.fault.Fault.TheVariants.{OutOfMemory};
+
+use manifold_check::SurfaceFault;
+use std::alloc::AllocError;
+use surf_model::{FaceName, VertexName};
+
+/// Why a question about arrays has no answer: what is first wrong with them.
+#[derive(Clone, Copy, Debug, PartialEq, Eq)]
+pub enum Fault {
+    /// There are more vertices than a mesh may have.
+    ManyVertices,
+    /// The sizes of the faces together are not the number of the corners.
+    CornerCount,
+    /// There are more corners than a mesh may have sides.
+    ManySides,
+    /// The face has fewer than three corners.
+    FewCorners {
+        face: FaceName,
+    },
+    /// The face names a vertex that there is not.
+    NoVertex {
+        face: FaceName,
+    },
+    /// Two neighbours round the face are one vertex.
+    EqualNeighbours {
+        face: FaceName,
+    },
+    /// The mesh has no face.
+    NoFace,
+    /// The least edge, by its lower and then by its higher vertex, that is not in exactly two sides, and its number of sides.
+    EdgeSides {
+        low: VertexName,
+        high: VertexName,
+        sides: u32,
+    },
+    /// The least used vertex whose corners do not make one ring.
+    Pinched {
+        vertex: VertexName,
+    },
+    /// The faces cannot be turned round so that the two sides of every edge run oppositely.
+    NotOrientable,
+    /// The sizes of the walks together are not the number of their vertices, or the walks are not two for each pair.
+    WalkCount,
+    /// There is no memory for the answer.
+    OutOfMemory,
+}
+
+impl From<AllocError> for Fault {
+    ghost from_gives = { λ _ fault. fault ≡ OutOfMemory };
+
+    fn from(_: AllocError) -> Fault {
+        Fault::OutOfMemory
+    }
+}
+
+impl From<SurfaceFault> for Fault {
+    ghost use Rattle.homotopy_arrays.specs.Surfaces.{of_surface_fault};
+
+    ghost from_gives = { λ first fault. fault ≡ of_surface_fault first };
+
+    fn from(fault: SurfaceFault) -> Fault {
+        match fault {
+            SurfaceFault::NoFace => Fault::NoFace,
+            SurfaceFault::EdgeSides { low, high, sides } => Fault::EdgeSides { low, high, sides },
+            SurfaceFault::Pinched { vertex } => Fault::Pinched { vertex },
+            SurfaceFault::OutOfMemory => Fault::OutOfMemory,
+        }
+    }
+}

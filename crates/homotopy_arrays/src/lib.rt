@@ -1,0 +1,16 @@
+//! The questions of the program, asked of meshes and walks that lie in arrays.
+#![tactic(auto)]
+
+mod by_parts;
+mod decide;
+mod fault;
+pub mod laws;
+mod mesh;
+mod pair;
+mod surface;
+
+pub use decide::{PairAnswer, decide_arrays};
+pub use fault::Fault;
+pub use mesh::mesh_of_arrays;
+pub use pair::{MOST_WALK, WalkFault};
+pub use surface::{Measured, measure_arrays};

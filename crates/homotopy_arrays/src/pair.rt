@@ -1,0 +1,117 @@
+//! Two walks that lie in arrays.
+ghost use Rattle.std.specs.Prelude.{◌≡◌, ◌≤◌, ◌<◌, ◌+◌, ◌*◌, ◌/◌, [], ◌∷◌, ℕ, length, slice_index_or, IfOk, IfSome, IsTrue};
+ghost use Rattle.surf_model.specs.FaceLists.{FaceList};
+ghost use Rattle.surf_model.specs.Edges.{IsTableOf};
+ghost use Rattle.homotopy_arrays.specs.CheckedPairs.{IsChecked, AreChecked};
+ghost use Rattle.homotopy_arrays.specs.Pairs.{are_pairs, length_fault};
+
+use crate::mesh::add_up_to;
+use std::alloc::{AllocError, Global};
+use surf_model::{Sides, VertexName, Walk};
+use walk_files::{PairFault, WalkList, check_pair};
+
+/// The most vertices of a walk.
+pub const MOST_WALK: usize = 1 << 31;
+
+/// What is first wrong with two lists of vertices that are no two walks of a mesh with common ends. Walks are counted from 1.
+#[derive(Clone, Copy, Debug, PartialEq, Eq)]
+pub enum WalkFault {
+    /// The walk has no vertex.
+    Empty { walk: u32 },
+    /// The walk has more vertices than a walk may have.
+    Long { walk: u32 },
+    /// The walks are no walks of the mesh, or have no common ends.
+    Pair(PairFault),
+}
+
+/// Two walks that were compared with a mesh.
+#[derive(Debug, Drop)]
+pub(crate) enum Checked {
+    /// Two walks of the mesh with common ends.
+    Pair(WalkList),
+    /// What is first wrong with them.
+    Faulty(WalkFault),
+}
+
+/// Compares two walks with the mesh that has this table.
+pub(crate) fn check_walks(
+    alloc: Global,
+    sides: &Sides,
+    first: &[u32],
+    second: &[u32],
+) -> Result<Checked, AllocError>
+    ensures { IfOk result (λ checked. (mesh : FaceList) → IsTableOf mesh sides.now → IsChecked mesh first.now second.now checked) }
+{
+    if let Some(fault) = length_fault(1, first) {
+        return Ok(Checked::Faulty(fault));
+    }
+    if let Some(fault) = length_fault(2, second) {
+        return Ok(Checked::Faulty(fault));
+    }
+    let one = walk_of(alloc, first)?;
+    let other = walk_of(alloc, second)?;
+    let pair = WalkList::pair(alloc, one, other)?;
+    match check_pair(sides, &pair) {
+        Ok(()) => Ok(Checked::Pair(pair)),
+        Err(fault) => Ok(Checked::Faulty(WalkFault::Pair(fault))),
+    }
+}
+
+/// Whether the walk with this number has no vertex, or too many.
+fn length_fault(walk: u32, vertices: &[u32]) -> Option<WalkFault>
+    ensures { result ≡ length_fault walk vertices.now }
+{
+    if vertices.is_empty() {
+        Some(WalkFault::Empty { walk })
+    } else if vertices.len() > MOST_WALK {
+        Some(WalkFault::Long { walk })
+    } else {
+        None
+    }
+}
+
+/// The walk along these vertices.
+fn walk_of(alloc: Global, vertices: &[u32]) -> Result<Walk, AllocError>
+    requires some { 0 < length vertices.now }
+    requires few { length vertices.now ≤ MOST_WALK }
+    ensures { IfOk result (λ walk. walk ≡ vertices.now) }
+{
+    let mut walk = Walk::new(alloc, VertexName(vertices[0]))?;
+    for place in 1..vertices.len() {
+        walk.push(VertexName(vertices[place]))?;
+    }
+    Ok(walk)
+}
+
+/// Whether the sizes are those of two walks for each pair, and together are the number of the vertices.
+pub(crate) fn are_pairs(sizes: &[u32], vertices: &[u32]) -> bool
+    ensures { result ≡ are_pairs sizes.now vertices.now }
+{
+    add_up_to(sizes, vertices.len()) && sizes.len() % 2 == 0
+}
+
+/// Compares pairs of walks with the mesh that has this table.
+pub(crate) fn check_pairs(
+    alloc: Global,
+    sides: &Sides,
+    sizes: &[u32],
+    vertices: &[u32],
+) -> Result<Vec<Checked>, AllocError>
+    requires { IsTrue (are_pairs sizes.now vertices.now) }
+    ensures each { IfOk result (λ checked. 2 * length checked.items ≡ length sizes.now) }
+    ensures checked { IfOk result (λ checked. (mesh : FaceList) → IsTableOf mesh sides.now
+        → AreChecked mesh sizes.now vertices.now checked.items) }
+{
+    let count = sizes.len() / 2;
+    let mut checked = Vec::with_capacity(alloc, count)?;
+    let mut at = 0;
+    for pair in 0..count {
+        let middle = at + sizes[2 * pair] as usize;
+        let end = middle + sizes[2 * pair + 1] as usize;
+        let first = &vertices[at..middle];
+        let second = &vertices[middle..end];
+        checked.push(check_walks(alloc, sides, first, second)?)?;
+        at = end;
+    }
+    Ok(checked)
+}

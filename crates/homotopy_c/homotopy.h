@@ -1,0 +1,90 @@
+/* Whether walks along the edges of a polygon mesh are homotopic: the questions of the program homotopy_cli, asked from C and C++.
+ *
+ * A MESH is three arrays. `vertices` is how many vertices there are, numbered from 0. `sizes` has the number of corners of each face, and
+ * `corners` the corners of all faces, face after face, each the number of a vertex, in order round its face. A triangle mesh has sizes
+ * 3, 3, .. A mesh has at most 1,000,000 vertices and 4,000,000 corners. No coordinates are asked for.
+ *
+ * A WALK is an array of the numbers of the vertices that it passes, one after another joined by edges. A walk of one vertex stays there.
+ * Two walks with the same first and the same last vertex are homotopic where one can be moved over the surface to the other.
+ *
+ * What a caller must ensure: each pointer leads to as many numbers as the length behind it says; an array of none has any aligned pointer
+ * that is not null; no array that is written overlaps another; malloc, realloc and free are of one allocator; and no call comes from a
+ * signal handler, or from the forked child of a process with threads. Everything else is looked at, and what is wrong is answered. Calls
+ * share nothing, so any number of threads may make them at once. No array that is read is written.
+ */
+#ifndef HOMOTOPY_H
+#define HOMOTOPY_H
+
+#include <stddef.h>
+#include <stdint.h>
+
+#ifdef __cplusplus
+extern "C" {
+#endif
+
+/* How a call ended, or what is answered of a pair. In brackets the numbers that belong to a code, in the order of `numbers`. Faces,
+ * vertices and places of a walk are counted from 0, and walks from 1. What is first wrong is told. */
+enum homotopy_code {
+    HOMOTOPY_DONE = 0,              /* the question is answered */
+    HOMOTOPY_HOMOTOPIC = 1,         /* the walks are homotopic */
+    HOMOTOPY_DIFFERENT = 2,         /* they are two walks of the surface with common ends, and are not homotopic */
+    HOMOTOPY_SHORT_ROOM = 4,        /* the caller's array is too short [the length that is wanted] */
+    HOMOTOPY_NO_MEMORY = 5,         /* memory was wanting; this says nothing of the mesh or of the walks */
+
+    HOMOTOPY_MANY_VERTICES = 10,    /* more than 1,000,000 vertices */
+    HOMOTOPY_CORNER_COUNT = 11,     /* the sizes of the faces together are not the number of the corners */
+    HOMOTOPY_MANY_SIDES = 12,       /* more than 4,000,000 corners */
+    HOMOTOPY_FEW_CORNERS = 13,      /* a face has fewer than three corners [face] */
+    HOMOTOPY_CORNER_RANGE = 14,     /* a corner is no vertex [face] */
+    HOMOTOPY_EQUAL_NEIGHBOURS = 15, /* two neighbours round a face are one vertex [face] */
+
+    HOMOTOPY_NO_FACE = 20,          /* the mesh has no face */
+    HOMOTOPY_EDGE_SIDES = 21,       /* an edge is not in exactly two sides of faces [lower vertex, higher vertex, sides] */
+    HOMOTOPY_PINCHED = 22,          /* the corners at a vertex do not make one ring [vertex] */
+    HOMOTOPY_NOT_ORIENTABLE = 23,   /* the faces cannot be turned so that each edge is run both ways */
+
+    HOMOTOPY_WALK_COUNT = 30,       /* the sizes of the walks are not the number of their vertices, or of an odd number of walks */
+    HOMOTOPY_EMPTY_WALK = 31,       /* a walk has no vertex [walk] */
+    HOMOTOPY_LONG_WALK = 32,        /* a walk has more than 2,147,483,648 vertices [walk] */
+    HOMOTOPY_NO_VERTEX = 33,        /* an entry is no vertex that a face names [walk, place] */
+    HOMOTOPY_NO_EDGE = 34,          /* an entry and the next one form no edge [walk, place] */
+    HOMOTOPY_STARTS_DIFFER = 35,    /* the walks start at different vertices */
+    HOMOTOPY_ENDS_DIFFER = 36       /* the walks end at different vertices */
+};
+
+/* A code of the list above, and the numbers that belong to it; 0 where there are fewer. */
+typedef struct homotopy_outcome {
+    uint32_t code;
+    uint64_t numbers[3];
+} homotopy_outcome;
+
+/* The numbers of a surface. */
+typedef struct homotopy_numbers {
+    uint32_t vertices;   /* how many vertices some face names */
+    uint32_t edges;
+    uint32_t faces;
+    int64_t euler;       /* vertices - edges + faces */
+    uint64_t components; /* how many pieces there are */
+} homotopy_numbers;
+
+/* The numbers of an orientable closed surface, in one piece or in several, and the genus of each piece, in the order of their least
+ * vertices. Code DONE; or SHORT_ROOM where `genera` has too little room: it is left as it was then, and the numbers are written all the
+ * same; or what is first wrong, with nothing else written. */
+void homotopy_surface(
+    uint32_t vertices, const uint32_t *sizes, size_t face_count, const uint32_t *corners, size_t corner_count,
+    homotopy_numbers *numbers, uint32_t *genera, size_t genera_room, homotopy_outcome *outcome);
+
+/* Whether the walks of each pair are homotopic on an orientable closed surface. `walk_sizes` has the number of vertices of each walk, two
+ * walks for each pair, and `walk_vertices` the vertices of all walks, walk after walk. A byte of `answers` for each pair is HOMOTOPIC,
+ * DIFFERENT, or the code 31 to 36 of what is first wrong with its walks. The outcome's code is DONE where each pair has its byte; else
+ * `answers` is left as it was. The mesh is read once, and the time for a pair is that of its walks. */
+void homotopy_decide(
+    uint32_t vertices, const uint32_t *sizes, size_t face_count, const uint32_t *corners, size_t corner_count,
+    const uint32_t *walk_sizes, size_t walk_count, const uint32_t *walk_vertices, size_t walk_vertex_count,
+    uint8_t *answers, size_t answer_room, homotopy_outcome *outcome);
+
+#ifdef __cplusplus
+}
+#endif
+
+#endif

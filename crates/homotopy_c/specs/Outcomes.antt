@@ -1,0 +1,53 @@
+-- The codes of what is answered, and of what is wrong, with the numbers that belong to them.
+use Rattle.std.specs.Prelude.{ℕ, true, false, [], ◌∷◌}
+use Rattle.walk_files.specs.declared.pair.PairFault.TheVariants.{NotTwo, NoVertex, NoEdge, EndsDiffer}
+use Rattle.homotopy_arrays.specs.declared.decide.PairAnswer.{PairAnswer}
+use Rattle.homotopy_arrays.specs.declared.decide.PairAnswer.TheVariants.{Homotopic, Different, Faulty}
+use Rattle.homotopy_arrays.specs.declared.fault.Fault.{Fault}
+use Rattle.homotopy_arrays.specs.declared.fault.Fault.TheVariants as faults
+use Rattle.homotopy_arrays.specs.declared.pair.WalkFault.{WalkFault}
+use Rattle.homotopy_arrays.specs.declared.pair.WalkFault.TheVariants.{Empty, Long, Pair}
+use Rattle.homotopy_c.specs.declared.codes.TheConstants as codes
+use Rattle.homotopy_c.specs.declared.outcome.Outcome.{Outcome}
+
+abbrev pub coded : (code first second third : ℕ) → Outcome
+coded code first second third = record { code = code; numbers = first ∷ second ∷ third ∷ [] }
+
+-- what is answered, with no number
+abbrev pub done : Outcome
+done = coded codes.DONE 0 0 0
+
+-- the caller's array has too little room, and this length is wanted
+abbrev pub short_room : ℕ → Outcome
+short_room wanted = coded codes.SHORT_ROOM wanted 0 0
+
+-- what is wrong
+abbrev pub told : Fault → Outcome
+told faults.ManyVertices = coded codes.MANY_VERTICES 0 0 0
+told faults.CornerCount = coded codes.CORNER_COUNT 0 0 0
+told faults.ManySides = coded codes.MANY_SIDES 0 0 0
+told (faults.FewCorners face) = coded codes.FEW_CORNERS face.0 0 0
+told (faults.NoVertex face) = coded codes.CORNER_RANGE face.0 0 0
+told (faults.EqualNeighbours face) = coded codes.EQUAL_NEIGHBOURS face.0 0 0
+told faults.NoFace = coded codes.NO_FACE 0 0 0
+told (faults.EdgeSides low high sides) = coded codes.EDGE_SIDES low.0 high.0 sides
+told (faults.Pinched vertex) = coded codes.PINCHED vertex.0 0 0
+told faults.NotOrientable = coded codes.NOT_ORIENTABLE 0 0 0
+told faults.WalkCount = coded codes.WALK_COUNT 0 0 0
+told faults.OutOfMemory = coded codes.NO_MEMORY 0 0 0
+
+-- what is wrong with two walks
+abbrev pub walk_code : WalkFault → ℕ
+walk_code (Empty walk) = codes.EMPTY_WALK
+walk_code (Long walk) = codes.LONG_WALK
+walk_code (Pair (NotTwo count)) = codes.WALK_COUNT
+walk_code (Pair (NoVertex walk place)) = codes.NO_VERTEX
+walk_code (Pair (NoEdge walk place)) = codes.NO_EDGE
+walk_code (Pair (EndsDiffer true)) = codes.STARTS_DIFFER
+walk_code (Pair (EndsDiffer false)) = codes.ENDS_DIFFER
+
+-- the answer on a pair
+abbrev pub byte_of : PairAnswer → ℕ
+byte_of Homotopic = codes.HOMOTOPIC
+byte_of Different = codes.DIFFERENT
+byte_of (Faulty fault) = walk_code fault

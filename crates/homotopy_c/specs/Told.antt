@@ -1,0 +1,65 @@
+-- What calls write where their caller sees it.
+use Rattle.std.specs.Prelude.{◌≡◌, ℕ, ◌/◌, ◌<◌, ◌≤◌, List, ◌++◌, length, drop, map, Result, Ok, Err}
+use Rattle.std.specs.Global.{Vec}
+use Rattle.surf_model.specs.FaceLists.{FaceList}
+use Rattle.homotopy_arrays.specs.Decisions.{AreDecided, IsDecideFault}
+use Rattle.homotopy_arrays.specs.Surfaces.{EndsOn, IsMeasured, IsSurfaceFault}
+use Rattle.homotopy_arrays.specs.declared.decide.PairAnswer.{PairAnswer}
+use Rattle.homotopy_arrays.specs.declared.fault.Fault.{Fault}
+use Rattle.homotopy_arrays.specs.declared.surface.Measured.{Measured}
+use Rattle.homotopy_c.specs.Outcomes.{byte_of, done, short_room, told}
+use Rattle.homotopy_c.specs.declared.outcome.Outcome.{Outcome}
+use Rattle.homotopy_c.specs.declared.surface.SurfaceNumbers.{SurfaceNumbers}
+
+-- an array in front of which this was written
+abbrev pub in_front : {T : Type 0} → List T → List T → List T
+in_front put old = put ++ drop (length put) old
+
+-- This was written in front of the array, with this outcome; where there is too little room nothing is, and the length that is wanted is
+-- told.
+pub record IsPut {T : Type 0} (items old new : List T) (put outcome : Outcome) : Type 0 where
+  pub room : length items ≤ length old → (new ≡ in_front items old) × (outcome ≡ put)
+  pub short : length old < length items → (new ≡ old) × (outcome ≡ short_room (length items))
+
+-- ---- surfaces
+
+abbrev pub numbers_of : Measured → SurfaceNumbers
+numbers_of measured =
+    record {
+      vertices = measured.numbers.vertices;
+      edges = measured.numbers.edges;
+      faces = measured.numbers.faces;
+      euler = measured.numbers.euler;
+      components = length measured.genera.items;
+    }
+
+-- how the question ended is told: the numbers and the genera; or what is wrong, and nothing else is written
+abbrev pub TellsSurface : Result Measured Fault → (old_numbers numbers : SurfaceNumbers) → (old_genera genera : List ℕ) → Outcome → Type 0
+TellsSurface (Ok measured) old_numbers numbers old_genera genera outcome =
+    (numbers ≡ numbers_of measured) × IsPut measured.genera.items old_genera genera done outcome
+TellsSurface (Err fault) old_numbers numbers old_genera genera outcome =
+    (numbers ≡ old_numbers) × (genera ≡ old_genera) × (outcome ≡ told fault)
+
+-- `read` is the mesh that the arrays are, or what is first wrong with them
+pub record IsSurfaceTold (read : Result FaceList Fault) (old_numbers numbers : SurfaceNumbers) (old_genera genera : List ℕ)
+    (outcome : Outcome) : Type 0 where
+  pub end : Result Measured Fault
+  pub right : EndsOn read IsMeasured IsSurfaceFault end
+  pub tells : TellsSurface end old_numbers numbers old_genera genera outcome
+
+-- ---- decisions
+
+-- how the question ended is told: a byte for each pair; or what is wrong, and nothing else is written
+abbrev pub TellsDecisions : Result (Vec PairAnswer) Fault → (old answers : List ℕ) → Outcome → Type 0
+TellsDecisions (Ok given) old answers outcome = (answers ≡ in_front (map byte_of given.items) old) × (outcome ≡ done)
+TellsDecisions (Err fault) old answers outcome = (answers ≡ old) × (outcome ≡ told fault)
+
+pub record AreDecisionsTold (read : Result FaceList Fault) (sizes vertices old answers : List ℕ) (outcome : Outcome) : Type 0 where
+  pub end : Result (Vec PairAnswer) Fault
+  pub right : EndsOn read (λ mesh given. AreDecided sizes vertices mesh given.items) (IsDecideFault sizes vertices) end
+  pub tells : TellsDecisions end old answers outcome
+
+-- where there is too little room for the answers nothing is looked at, and the length that is wanted is told
+pub record IsDecideCall (read : Result FaceList Fault) (sizes vertices old answers : List ℕ) (outcome : Outcome) : Type 0 where
+  pub room : length sizes / 2 ≤ length old → AreDecisionsTold read sizes vertices old answers outcome
+  pub short : length old < length sizes / 2 → (answers ≡ old) × (outcome ≡ short_room (length sizes / 2))

@@ -1,0 +1,67 @@
+//! The codes by which calls tell how they ended. `homotopy.h` has them too.
+
+/// The question is answered.
+pub const DONE: u8 = 0;
+
+/// The walks are homotopic.
+pub const HOMOTOPIC: u8 = 1;
+
+/// The walks are two walks of the surface with common ends, and are not homotopic.
+pub const DIFFERENT: u8 = 2;
+
+/// The caller's array has too little room; the number is the length that is wanted.
+pub const SHORT_ROOM: u8 = 4;
+
+/// Memory was wanting.
+pub const NO_MEMORY: u8 = 5;
+
+/// There are more vertices than a mesh may have.
+pub const MANY_VERTICES: u8 = 10;
+
+/// The sizes of the faces together are not the number of the corners.
+pub const CORNER_COUNT: u8 = 11;
+
+/// There are more corners than a mesh may have sides.
+pub const MANY_SIDES: u8 = 12;
+
+/// The face has fewer than three corners.
+pub const FEW_CORNERS: u8 = 13;
+
+/// The face names a vertex that there is not.
+pub const CORNER_RANGE: u8 = 14;
+
+/// Two neighbours round the face are one vertex.
+pub const EQUAL_NEIGHBOURS: u8 = 15;
+
+/// The mesh has no face.
+pub const NO_FACE: u8 = 20;
+
+/// An edge has another number of sides than two: its lower and its higher vertex, and that number.
+pub const EDGE_SIDES: u8 = 21;
+
+/// The corners at the vertex make no ring.
+pub const PINCHED: u8 = 22;
+
+/// The mesh is not orientable.
+pub const NOT_ORIENTABLE: u8 = 23;
+
+/// The sizes of the walks together are not the number of their vertices, or the walks are not two for each pair.
+pub const WALK_COUNT: u8 = 30;
+
+/// The walk has no vertex.
+pub const EMPTY_WALK: u8 = 31;
+
+/// The walk has more vertices than a walk may have.
+pub const LONG_WALK: u8 = 32;
+
+/// The entry of the walk at the place is no vertex that a face names.
+pub const NO_VERTEX: u8 = 33;
+
+/// The entry of the walk at the place and the one behind it form no edge.
+pub const NO_EDGE: u8 = 34;
+
+/// The walks start at different vertices.
+pub const STARTS_DIFFER: u8 = 35;
+
+/// The walks end at different vertices.
+pub const ENDS_DIFFER: u8 = 36;

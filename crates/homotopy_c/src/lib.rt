@@ -1,0 +1,12 @@
+//! The questions of the program, for C and for what calls C: of meshes and walks that lie in the caller's arrays.
+//!
+//! `homotopy.h` beside this crate's `src` is its header. Each function tests everything that it is handed, and tells what is wrong by a
+//! code; what a caller must ensure is that pointers and lengths are true, aligned and not overlapping. Nothing is kept between calls.
+//! Proved: each outcome is the one that the mesh and the walks of the arrays have, by the definitions of `homotopy_arrays`.
+#![tactic(auto)]
+
+pub mod codes;
+mod decide;
+pub mod outcome;
+mod room;
+pub mod surface;

@@ -1,0 +1,77 @@
+//! How a call ended, as C sees it.
+ghost use Rattle.std.specs.Prelude.{◌≡◌};
+ghost use Rattle.homotopy_c.specs.Outcomes.{byte_of, coded, told, walk_code};
+
+use crate::codes;
+use homotopy_arrays::{Fault, PairAnswer, WalkFault};
+use walk_files::PairFault;
+
+/// A code, and the numbers that belong to it, 0 where there are fewer than three.
+#[repr(C)]
+#[derive(Clone, Copy, Debug, PartialEq, Eq)]
+pub struct Outcome {
+    pub code: u32,
+    pub numbers: [u64; 3],
+}
+
+/// The outcome with this code and these numbers.
+pub(crate) fn coded(code: u8, first: u64, second: u64, third: u64) -> Outcome
+    ensures { result ≡ coded code first second third }
+{
+    Outcome {
+        code: u32::from(code),
+        numbers: [first, second, third],
+    }
+}
+
+/// The outcome that a fault is.
+pub(crate) fn told(fault: Fault) -> Outcome
+    ensures { result ≡ told fault }
+{
+    match fault {
+        Fault::ManyVertices => coded(codes::MANY_VERTICES, 0, 0, 0),
+        Fault::CornerCount => coded(codes::CORNER_COUNT, 0, 0, 0),
+        Fault::ManySides => coded(codes::MANY_SIDES, 0, 0, 0),
+        Fault::FewCorners { face } => coded(codes::FEW_CORNERS, u64::from(face.0), 0, 0),
+        Fault::NoVertex { face } => coded(codes::CORNER_RANGE, u64::from(face.0), 0, 0),
+        Fault::EqualNeighbours { face } => coded(codes::EQUAL_NEIGHBOURS, u64::from(face.0), 0, 0),
+        Fault::NoFace => coded(codes::NO_FACE, 0, 0, 0),
+        Fault::EdgeSides { low, high, sides } => coded(
+            codes::EDGE_SIDES,
+            u64::from(low.0),
+            u64::from(high.0),
+            u64::from(sides),
+        ),
+        Fault::Pinched { vertex } => coded(codes::PINCHED, u64::from(vertex.0), 0, 0),
+        Fault::NotOrientable => coded(codes::NOT_ORIENTABLE, 0, 0, 0),
+        Fault::WalkCount => coded(codes::WALK_COUNT, 0, 0, 0),
+        Fault::OutOfMemory => coded(codes::NO_MEMORY, 0, 0, 0),
+    }
+}
+
+/// The code of what is wrong with two walks.
+pub(crate) fn walk_code(fault: WalkFault) -> u8
+    ensures { result ≡ walk_code fault }
+{
+    match fault {
+        WalkFault::Empty { .. } => codes::EMPTY_WALK,
+        WalkFault::Long { .. } => codes::LONG_WALK,
+        // It does not come, since the walks are two.
+        WalkFault::Pair(PairFault::NotTwo { .. }) => codes::WALK_COUNT,
+        WalkFault::Pair(PairFault::NoVertex { .. }) => codes::NO_VERTEX,
+        WalkFault::Pair(PairFault::NoEdge { .. }) => codes::NO_EDGE,
+        WalkFault::Pair(PairFault::EndsDiffer { at_start: true }) => codes::STARTS_DIFFER,
+        WalkFault::Pair(PairFault::EndsDiffer { at_start: false }) => codes::ENDS_DIFFER,
+    }
+}
+
+/// The byte of the answer on a pair.
+pub(crate) fn byte_of(answer: PairAnswer) -> u8
+    ensures { result ≡ byte_of answer }
+{
+    match answer {
+        PairAnswer::Homotopic => codes::HOMOTOPIC,
+        PairAnswer::Different => codes::DIFFERENT,
+        PairAnswer::Faulty(fault) => walk_code(fault),
+    }
+}

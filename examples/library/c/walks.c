@@ -1,0 +1,36 @@
+/* The torus of seven vertices: its numbers, and whether walks on it are homotopic. */
+#include <homotopy.h>
+#include <stdio.h>
+
+static const uint32_t sizes[14] = {3, 3, 3, 3, 3, 3, 3, 3, 3, 3, 3, 3, 3, 3};
+static const uint32_t corners[42] = {
+    0, 1, 3, 0, 3, 2, 1, 2, 4, 1, 4, 3, 2, 3, 5, 2, 5, 4, 3, 4, 6, 3, 6, 5, 4, 5, 0, 4, 0, 6, 5, 6, 1, 5, 1, 0, 6, 0, 2, 6, 2, 1,
+};
+
+/* Three pairs of walks, a row each: the sizes, and the vertices. */
+static const uint32_t walk_sizes[6] = {3, 3, 4, 2, 15, 15};
+static const uint32_t walk_vertices[42] = {
+    0, 1, 3, 0, 2, 3,
+    0, 1, 2, 3, 0, 3,
+    0, 1, 2, 3, 4, 5, 6, 0, 3, 6, 2, 5, 1, 4, 0, 0, 3, 6, 2, 5, 1, 4, 0, 1, 2, 3, 4, 5, 6, 0,
+};
+
+int main(void) {
+    homotopy_numbers numbers;
+    homotopy_outcome outcome;
+    uint32_t genus;
+    homotopy_surface(7, sizes, 14, corners, 42, &numbers, &genus, 1, &outcome);
+    if (outcome.code != HOMOTOPY_DONE) return 1;
+    printf("%u vertices, %u edges, %u faces: genus %u\n", numbers.vertices, numbers.edges, numbers.faces, genus);
+
+    uint8_t answers[3];
+    homotopy_decide(7, sizes, 14, corners, 42, walk_sizes, 6, walk_vertices, 42, answers, 3, &outcome);
+    if (outcome.code != HOMOTOPY_DONE) return 1;
+    for (int pair = 0; pair < 3; pair++) puts(answers[pair] == HOMOTOPY_HOMOTOPIC ? "homotopic" : "different");
+
+    /* One corner is no vertex: it is told, and nothing is read there. */
+    const uint32_t wrong[3] = {0, 1, 7};
+    homotopy_surface(7, sizes, 1, wrong, 3, &numbers, &genus, 1, &outcome);
+    if (outcome.code == HOMOTOPY_CORNER_RANGE) printf("face %u has a corner that is no vertex\n", (unsigned)outcome.numbers[0]);
+    return 0;
+}

@@ -1,0 +1,27 @@
+"""Walks on a torus of squares."""
+import homotopy
+
+GRID = 30
+
+
+def at(x, y):
+    return GRID * (y % GRID) + x % GRID
+
+
+faces = [(at(x, y), at(x + 1, y), at(x + 1, y + 1), at(x, y + 1)) for y in range(GRID) for x in range(GRID)]
+print(homotopy.surface(GRID * GRID, faces))
+
+row = [at(x, 0) for x in range(GRID + 1)]
+column = [at(0, y) for y in range(GRID + 1)]
+pairs = [(row + column[1:], column + row[1:]), (row, column), (row, [0]), ([0, 1, 31], [0, 30, 31]), ([0, 2], [0, 1, 2])]
+for code in homotopy.decide(GRID * GRID, faces, pairs):
+    print({homotopy.HOMOTOPIC: "homotopic", homotopy.DIFFERENT: "different"}.get(code, "code %d" % code))
+
+try:
+    homotopy.surface(4, [(0, 1, 2), (0, 3, 1), (0, 2, 3)])
+except homotopy.Refused as refused:
+    print("refused:", refused)
+if homotopy.numpy is not None:
+    import numpy
+    tetrahedron = numpy.array([[0, 1, 2], [0, 3, 1], [0, 2, 3], [1, 3, 2]])
+    assert homotopy.surface(4, tetrahedron).genera == [0]
