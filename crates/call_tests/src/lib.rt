@@ -13,6 +13,8 @@ mod lifts;
 #[cfg(test)]
 mod models;
 #[cfg(test)]
+mod pool_edits;
+#[cfg(test)]
 mod pools;
 #[cfg(test)]
 mod rings;
