@@ -70,7 +70,8 @@ whole_numbers : (surface : OrientedMesh) (numbers : List ℤ) (lines : List Face
 whole_numbers surface numbers lines listed f = elim (cases_lt f (length numbers)) [
   | inl less ↦ listed.each f less
   | inr past ↦
-      listed.others f (λ k l e. let same : k ≡ f = e in omega (arith, l, same, past)) ∙ sym (get_or_past numbers f (pos 0) (omega (arith, past)))
+      listed.others f (λ k l e. let same : k ≡ f = e in omega (arith, l, same, past))
+      ∙ sym (get_or_past numbers f (pos 0) (omega (arith, past)))
 ]
 
 chain_of : (mesh : FaceList) (v : ℕ) (component : Component) (first second : List ℕ) (numbers : List ℤ) (lines : List FaceNumber)

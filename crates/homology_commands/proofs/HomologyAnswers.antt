@@ -66,7 +66,8 @@ pub record IsRightAnswer (mesh : FaceList) (first second : List ℕ) (status : S
 no_yes : No ≡ Yes → ⊥
 no_yes e = cc
 
-yes_for : {P : Type 0} (found : HomologyAnswer) (status : Status) → status ≡ homology_status found → (found ≡ Homologous) ↔ P → (status ≡ Yes) ↔ P
+yes_for : {P : Type 0} (found : HomologyAnswer) (status : Status) → status ≡ homology_status found → (found ≡ Homologous) ↔ P
+    → (status ≡ Yes) ↔ P
 yes_for Homologous status e right = ((λ _. right.0 refl), (λ _. e))
 yes_for NotHomologous status e right = ((λ yes. absurd (no_yes (sym e ∙ yes))), (λ h. absurd (differs (right.1 h))))
 

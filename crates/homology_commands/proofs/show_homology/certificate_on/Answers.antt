@@ -5,7 +5,8 @@ use Rattle.homology_deciding.specs.Proofs.{IsProofFor}
 use Rattle.homology_commands.proofs.show_homology.certificate_on.Goals as goal
 
 pub homologous-requires-clause-first : goal.homologous-requires-clause-first
-homologous-requires-clause-first c = subst (λ (s : OrientedMesh). IsWalk s.mesh c.args.first.now) (sym c.surface-surface.ensures) c.requires.first
+homologous-requires-clause-first c =
+    subst (λ (s : OrientedMesh). IsWalk s.mesh c.args.first.now) (sym c.surface-surface.ensures) c.requires.first
 
 pub homologous-requires-clause-second : goal.homologous-requires-clause-second
 homologous-requires-clause-second c =
