@@ -66,6 +66,14 @@ class Chain:
         rounds = max(1, darts // (2 * size))
         return [start] + (row + column) * rounds, [start] + (column + row) * rounds
 
+    def row_and_half(self, darts):
+        """A row loop of the last torus, as often as it takes; and the way to the row half round it, that row as often, and the way back."""
+        torus, last, half = self.handles - 1, self.size - 1, self.size // 2
+        rounds = max(1, darts // (2 * self.size))
+        way = [self.at(torus, last + step, last) for step in range(half + 1)]
+        row, other = ([self.at(torus, last + down, last + step) for step in range(1, self.size + 1)] for down in (0, half))
+        return way[:1] + row * rounds, way + other * rounds + way[-2::-1]
+
     def wander(self, darts, rng):
         """A walk that wanders in the last torus, and comes back by the way that it went."""
         torus, row, column = self.handles - 1, self.size - 1, self.size - 1
@@ -97,7 +105,9 @@ def main():
         wander = chain.wander(1000000, rng)
         write_walks(path + "-wander.walks", wander, [wander[0]])
         write_walks(path + "-long.walks", *chain.loops(1000000))
+        row, half = chain.row_and_half(1000000)
+        write_walks(path + "-half.walks", row, half)
+        write_walks(path + "-row.walks", row, [start])
 
 
-if __name__ == "__main__":
-    main()
+main()
