@@ -1,6 +1,8 @@
 pub mod RingCounts
 pub mod SpanningTrees
 pub mod Splits
+pub mod Colourings
+pub mod ColouredTrees
 pub mod RingViews
 pub mod RingSets
 pub mod Searches
