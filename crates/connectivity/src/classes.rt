@@ -1,5 +1,5 @@
 //! Classes of numbers: at first each number is a class of its own, and then classes are joined two by two.
-ghost use Rattle.std.specs.Prelude.{◌≡◌, ◌<◌, ◌≤◌, ◌^◌, ℕ, length, slice_index, IfOk};
+ghost use Rattle.std.specs.Prelude.{◌≡◌, ◌≢◌, ◌↔◌, ◌<◌, ◌≤◌, ◌^◌, ℕ, length, slice_index, IfOk, IsTrue};
 ghost use Rattle.std.specs.List.{range_with_len};
 ghost use Rattle.connectivity.specs.Classes.{IsForest, AreLeastMembers, root_of, roots_of, joined_at, HasSameRoots};
 
@@ -43,7 +43,17 @@ impl Classes {
         requires second { y < length self.old }
         ensures { self.new ≡ joined_at self.old x y }
     {
-        link(&mut self.parents, x, y);
+        self.join_apart(x, y);
+    }
+
+    /// Makes one class of those of two numbers, and tells whether they were in two classes before.
+    pub fn join_apart(&mut self, x: u32, y: u32) -> bool
+        requires first { x < length self.old }
+        requires second { y < length self.old }
+        ensures joined { self.new ≡ joined_at self.old x y }
+        ensures apart { IsTrue result ↔ (slice_index self.old x ≢ slice_index self.old y) }
+    {
+        link(&mut self.parents, x, y)
     }
 
     /// For each number the least member of its class.
@@ -76,17 +86,19 @@ fn root(parents: &mut [u32], number: u32) -> u32
     at
 }
 
-/// Puts the greater of the roots of two numbers below the lesser.
-fn link(parents: &mut [u32], x: u32, y: u32)
+/// Puts the greater of the roots of two numbers below the lesser, and tells whether they were two.
+fn link(parents: &mut [u32], x: u32, y: u32) -> bool
     requires forest { IsForest parents.old }
     requires first { x < length parents.old }
     requires second { y < length parents.old }
     ensures forest { IsForest parents.new }
     ensures roots { roots_of parents.new ≡ joined_at (roots_of parents.old) x y }
+    ensures apart { IsTrue result ↔ (root_of parents.old x ≢ root_of parents.old y) }
 {
     let first = root(parents, x);
     let second = root(parents, y);
     parents[first.max(second) as usize] = first.min(second);
+    first != second
 }
 
 /// Writes at each number its root.
