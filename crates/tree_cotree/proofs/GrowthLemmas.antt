@@ -21,7 +21,7 @@ pub record HasNodes (maps : Rotations) (node : ℕ → ℕ) (is_node : ℕ → B
   pub has_dart : (v : ℕ) → v < bound → is_node v ≡ true → (d : ℕ) × (d < maps.darts) × (node d ≡ v)
 
 -- along a path that leaves a set some step leads out of it
-leaves : {step : ℕ → ℕ → Type 0} (set : ℕ → Bool) (path : List ℕ) (u v : ℕ) → IsPath step u path v → set u ≡ true → set v ≡ false
+pub leaves : {step : ℕ → ℕ → Type 0} (set : ℕ → Bool) (path : List ℕ) (u v : ℕ) → IsPath step u path v → set u ≡ true → set v ≡ false
     → (a : ℕ) × (b : ℕ) × (step a b) × (set a ≡ true) × (set b ≡ false)
 leaves set [] u v e h k = absurd (both_ways (set v) k (subst (λ (x : ℕ). set x ≡ true) e h))
 leaves set (w ∷ path) u v p h k = elim (cases_Bool (set w)) [

@@ -13,6 +13,8 @@ pub mod TreeLemmas
 pub mod TurningLemmas
 pub mod BelowLemmas
 pub mod SplittingLemmas
+pub mod ColourOrders
+pub mod ColourLemmas
 pub mod EdgeTables
 pub mod GenusLemmas
 pub mod NameLemmas

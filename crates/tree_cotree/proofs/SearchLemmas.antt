@@ -269,7 +269,7 @@ pub root_found : (maps : Rotations) (node : ℕ → ℕ) (allowed : ℕ → Bool
     → IsOrder maps node allowed bound root order from → v ≡ root → IsFound node order v
 root_found maps node allowed bound root order from v h is = record { place = 0; within = h.some; is = h.first ∙ sym is }
 
-named_found : (node : ℕ → ℕ) (order : List ℕ) (v x : ℕ) → IsNamed node order v x → IsFound node order v
+pub named_found : (node : ℕ → ℕ) (order : List ℕ) (v x : ℕ) → IsNamed node order v x → IsFound node order v
 named_found node order v x h = record { place = h.place; within = h.within; is = ap node h.is ∙ h.of_node }
 
 kept_is : (from : List (Option DartName)) (v : ℕ) (o : Option DartName) → v < length from → o ≡ get_or from v o → get_or from v None ≡ o

@@ -27,7 +27,7 @@ use Rattle.tree_cotree.proofs.LawLemmas.{vertex_nodes, face_nodes, some_dart, ev
 use Rattle.tree_cotree.proofs.TreeLemmas.{crossed_from, vertices_found, kept_nodes, root_not_kept, kept_join, kept_apart, all_to_root, kept_allowed}
 use Rattle.tree_cotree.proofs.BelowLemmas.{AreBelowEdges, options_read, below_edges}
 
-option_cases : (o : Option ℕ) → (o ≡ None) ⊎ ((x : ℕ) × (o ≡ Some x))
+pub option_cases : (o : Option ℕ) → (o ≡ None) ⊎ ((x : ℕ) × (o ≡ Some x))
 option_cases None = inl refl
 option_cases (Some x) = inr (x, refl)
 
@@ -50,12 +50,12 @@ kind_is Cotree Left h = cc
 kind_is Left Tree h = cc
 kind_is Left Cotree h = cc
 
-tree_kind : (kind : Kind) → is_tree_kind kind ≡ same_kind kind Tree
+pub tree_kind : (kind : Kind) → is_tree_kind kind ≡ same_kind kind Tree
 tree_kind Tree = refl
 tree_kind Cotree = refl
 tree_kind Left = refl
 
-cotree_kind : (kind : Kind) → is_cotree_kind kind ≡ same_kind kind Cotree
+pub cotree_kind : (kind : Kind) → is_cotree_kind kind ≡ same_kind kind Cotree
 cotree_kind Tree = refl
 cotree_kind Cotree = refl
 cotree_kind Left = refl
@@ -232,24 +232,26 @@ split_trees s h k0 k1 k2 p q t start genus m =
           (cotree_spans s h k0 k1 k2 p q m.first m.marked g m.crossed);
     }
 
-split_parents : (s : OrientedMesh) → IsOrientedSurface s
-    → (k0 k1 k2 : List Kind) (p q t : List (Option DartName)) (start genus : ℕ)
-    → IsMade s k0 k1 k2 p q t start → HasParents s (made_split k2 p t ((rotations_of s).face start) genus)
-split_parents s h k0 k1 k2 p q t start genus m =
+-- the parents of the vertices, from a search that finds all across edges of the tree
+pub parents_from : (s : OrientedMesh) → IsOrientedSurface s
+    → (kinds : List Kind) (p t : List (Option DartName)) (start top genus : ℕ) (allowed : ℕ → Bool)
+    → start < (rotations_of s).darts
+    → FindsAll (rotations_of s) (rotations_of s).origin allowed s.mesh.count ((rotations_of s).origin start) p
+    → ((v x : ℕ) → back_at p v ≡ Some x → has_kind kinds Tree ((rotations_of s).edge x) ≡ true)
+    → HasParents s (made_split kinds p t top genus)
+parents_from s h kinds p t start top genus allowed l f in_kind =
     let maps : Rotations = rotations_of s in
     let names : NamesAll s = names_all s h in
-    let root : ℕ = maps.origin 0 in
-    let f : FindsAll maps maps.origin (λ e. true) s.mesh.count root p = tree_found s h k0 p m.first m.tree in
-    let g = cotree_found s h k0 k1 p q m.first f m.marked m.cotree in
+    let root : ℕ = maps.origin start in
     let n = vertex_nodes s names in
-    let split : SplitView = made_split k2 p t (maps.face start) genus in
+    let split : SplitView = made_split kinds p t top genus in
     let kept : ℕ → Bool = λ w. is_some (back_at p w) in
     let read : (v : ℕ) → get_or (dart_options p) v None ≡ back_at p v = options_read p in
     let used : (v : ℕ) → v < s.mesh.count → is_used s.mesh v ≡ with_one kept root v =
-    kept_nodes maps maps.origin (λ e. true) s.mesh.count root (length s.table) (is_used s.mesh) p n f in
+    kept_nodes maps maps.origin allowed s.mesh.count root (length s.table) (is_used s.mesh) p n f in
     record {
       root = root;
-      root_used = names.vertex_used 0 (some_dart s h);
+      root_used = names.vertex_used start l;
       each_vertex = length-map p (option_map (λ (d : DartName). d.0)) ∙ f.is_order.long;
       none = λ v l. (
         λ none. elim (cases_Bool (is_used s.mesh v)) [
@@ -262,7 +264,7 @@ split_parents s h k0 k1 k2 p q t start genus m =
         λ either. elim (option_cases (back_at p v)) [
           | inl none ↦ read v ∙ none
           | inr some ↦ elim either [
-            | inl at_root ↦ absurd (root_not_kept maps maps.origin (λ e. true) s.mesh.count root f.order p some.0 f.is_order
+            | inl at_root ↦ absurd (root_not_kept maps maps.origin allowed s.mesh.count root f.order p some.0 f.is_order
                 (ap (back_at p) (sym at_root) ∙ some.1))
             | inr out ↦ absurd (both_ways (is_used s.mesh v) out (used v l ∙ with_keeps kept root v (ap is_some some.1)))
           ]
@@ -271,18 +273,26 @@ split_parents s h k0 k1 k2 p q t start genus m =
       within = λ v dart e. let name : IsNamed maps.origin f.order v dart = f.is_order.only v dart (sym (read v) ∙ e) in
           subst (λ d. d < maps.darts) name.is (f.is_order.within name.place name.within);
       starts = λ v dart e. (f.is_order.only v dart (sym (read v) ∙ e)).of_node;
-      tree_dart = λ v dart e.
-          let some : back_at p v ≡ Some dart = sym (read v) ∙ e in
-          tree_kind (get_or k2 (maps.edge dart) Tree)
-          ∙ tree_stays s k1 k2 q (length s.mesh.faces) (maps.face 0) m.crossed g (maps.edge dart)
-          ∙ m.marked.sets.marked v dart (kept_below maps maps.origin (λ e. true) s.mesh.count root (length s.table) (is_used s.mesh) p v
-          dart n f some) some;
+      tree_dart = λ v dart e. tree_kind (get_or kinds (maps.edge dart) Tree) ∙ in_kind v dart (sym (read v) ∙ e);
       to_root = λ v is.
           let dart = names.each_vertex v is in
           subst (λ u. AreJoined (StepsToParent maps split) u root) dart.2
-          (all_to_root (StepsToParent maps split) maps maps.origin (λ e. true) s.mesh.count root p f
+          (all_to_root (StepsToParent maps split) maps maps.origin allowed s.mesh.count root p f
           (λ u x e. (x, record { is_parent = read u ∙ e; ends = refl })) dart.0 dart.1);
     }
+
+split_parents : (s : OrientedMesh) → IsOrientedSurface s
+    → (k0 k1 k2 : List Kind) (p q t : List (Option DartName)) (start genus : ℕ)
+    → IsMade s k0 k1 k2 p q t start → HasParents s (made_split k2 p t ((rotations_of s).face start) genus)
+split_parents s h k0 k1 k2 p q t start genus m =
+    let maps : Rotations = rotations_of s in
+    let root : ℕ = maps.origin 0 in
+    let f : FindsAll maps maps.origin (λ e. true) s.mesh.count root p = tree_found s h k0 p m.first m.tree in
+    let g = cotree_found s h k0 k1 p q m.first f m.marked m.cotree in
+    parents_from s h k2 p t 0 (maps.face start) genus (λ e. true) (some_dart s h) f
+    (λ v dart some. tree_stays s k1 k2 q (length s.mesh.faces) (maps.face 0) m.crossed g (maps.edge dart)
+    ∙ m.marked.sets.marked v dart (kept_below maps maps.origin (λ e. true) s.mesh.count root (length s.table) (is_used s.mesh) p v
+    dart (vertex_nodes s (names_all s h)) f some) some)
 
 -- as many edges have a face below them as there are cotree edges, so these are the cotree edges
 below_is_cotree : (s : OrientedMesh) → IsOrientedSurface s
@@ -308,18 +318,17 @@ below_is_cotree s h k2 t below start l span f b =
     ])
     counts
 
-split_child_faces : (s : OrientedMesh) → IsOrientedSurface s
-    → (k0 k1 k2 : List Kind) (p q t : List (Option DartName)) (start genus : ℕ)
-    → IsMade s k0 k1 k2 p q t start → HasChildFaces s (made_split k2 p t ((rotations_of s).face start) genus)
-split_child_faces s h k0 k1 k2 p q t start genus m =
+-- the parents of the faces, from a search that finds all across edges of the cotree
+pub child_faces_from : (s : OrientedMesh) → IsOrientedSurface s
+    → (kinds : List Kind) (p t : List (Option DartName)) (start genus : ℕ) → start < (rotations_of s).darts
+    → IsSpanningTree (rotations_of s) (rotations_of s).face (λ f. true) (length s.mesh.faces) (length s.table) (has_kind kinds Cotree)
+    → FindsAll (rotations_of s) (rotations_of s).face (has_kind kinds Cotree) (length s.mesh.faces) ((rotations_of s).face start) t
+    → HasChildFaces s (made_split kinds p t ((rotations_of s).face start) genus)
+child_faces_from s h kinds p t start genus l span a =
     let maps : Rotations = rotations_of s in
     let names : NamesAll s = names_all s h in
     let root : ℕ = maps.face start in
-    let split : SplitView = made_split k2 p t root genus in
-    let f = tree_found s h k0 p m.first m.tree in
-    let g = cotree_found s h k0 k1 p q m.first f m.marked m.cotree in
-    let span = cotree_spans s h k0 k1 k2 p q m.first m.marked g m.crossed in
-    let a : FindsAll maps maps.face (has_kind k2 Cotree) (length s.mesh.faces) root t = m.hanging in
+    let split : SplitView = made_split kinds p t root genus in
     let dart_in : (v x : ℕ) → back_at t v ≡ Some x → x < maps.darts =
     λ v x e. let name : IsNamed maps.face a.order v x =
     a.is_order.only v x e in subst (λ d. d < maps.darts) name.is (a.is_order.within name.place name.within) in
@@ -328,25 +337,25 @@ split_child_faces s h k0 k1 k2 p q t start genus m =
     let faces : AreBelowEdges maps t (length s.table) up (length t) =
     subst (λ n. AreBelowEdges maps t (length s.table) (λ e. face_with maps split.face_parents e n) (length t)) many
     (below_edges maps t (length s.table)
-    (kept_apart maps maps.face (has_kind k2 Cotree) (length s.mesh.faces) root a.order t (rotation_system s h) a.is_order)
+    (kept_apart maps maps.face (has_kind kinds Cotree) (length s.mesh.faces) root a.order t (rotation_system s h) a.is_order)
     (λ v x e. names.edge_below x (dart_in v x e)) (length t)) in
     let read : (f : ℕ) → get_or (dart_options t) f None ≡ back_at t f = options_read t in
     let kept_in : (v x : ℕ) → back_at t v ≡ Some x → v < length t =
-    λ v x e. kept_below maps maps.face (has_kind k2 Cotree) (length s.mesh.faces) root (length s.table) (λ f. true) t v x
+    λ v x e. kept_below maps maps.face (has_kind kinds Cotree) (length s.mesh.faces) root (length s.table) (λ f. true) t v x
     (face_nodes s names) a e in
-    let is_cotree : (e : ℕ) → e < length s.table → is_some (up e) ≡ has_kind k2 Cotree e =
-    below_is_cotree s h k2 t up start m.start_in span a faces in
+    let is_cotree : (e : ℕ) → e < length s.table → is_some (up e) ≡ has_kind kinds Cotree e =
+    below_is_cotree s h kinds t up start l span a faces in
     record {
-      root_below = names.face_below start m.start_in;
+      root_below = names.face_below start l;
       each_face = sym many ∙ a.is_order.long;
       within = λ f x e. dart_in f x (sym (read f) ∙ e);
       inside = λ f x e. (a.is_order.only f x (sym (read f) ∙ e)).of_node;
       below = λ f x e. let kept : back_at t f ≡ Some x = sym (read f) ∙ e in faces.keeps f x (kept_in f x kept) kept;
       none = λ e l. (
-        λ none. cotree_kind (get_or k2 e Tree) ∙ sym (is_cotree e l) ∙ ap is_some none,
+        λ none. cotree_kind (get_or kinds e Tree) ∙ sym (is_cotree e l) ∙ ap is_some none,
         λ out. elim (option_cases (up e)) [
           | inl none ↦ none
-          | inr some ↦ absurd (both_ways (has_kind k2 Cotree e) (sym (cotree_kind (get_or k2 e Tree)) ∙ out)
+          | inr some ↦ absurd (both_ways (has_kind kinds Cotree e) (sym (cotree_kind (get_or kinds e Tree)) ∙ out)
               (sym (is_cotree e l) ∙ ap is_some some.1))
         ],
       );
@@ -361,11 +370,11 @@ split_child_faces s h k0 k1 k2 p q t start genus m =
           sym one.3 ∙ ap maps.edge is ∙ other.3;
       not_root = λ e k.
           let there = faces.faces e root k in
-          root_not_kept maps maps.face (has_kind k2 Cotree) (length s.mesh.faces) root a.order t there.0 a.is_order there.2;
+          root_not_kept maps maps.face (has_kind kinds Cotree) (length s.mesh.faces) root a.order t there.0 a.is_order there.2;
       to_root = λ x l.
           let dart = names.each_face x l in
           subst (λ v. AreJoined (StepsUp maps split) v root) dart.2
-          (all_to_root (StepsUp maps split) maps maps.face (has_kind k2 Cotree) (length s.mesh.faces) root t a
+          (all_to_root (StepsUp maps split) maps maps.face (has_kind kinds Cotree) (length s.mesh.faces) root t a
           (λ v d e. (
             d,
             record {
@@ -377,6 +386,14 @@ split_child_faces s h k0 k1 k2 p q t start genus m =
           ))
           dart.0 dart.1);
     }
+
+split_child_faces : (s : OrientedMesh) → IsOrientedSurface s
+    → (k0 k1 k2 : List Kind) (p q t : List (Option DartName)) (start genus : ℕ)
+    → IsMade s k0 k1 k2 p q t start → HasChildFaces s (made_split k2 p t ((rotations_of s).face start) genus)
+split_child_faces s h k0 k1 k2 p q t start genus m =
+    let f = tree_found s h k0 p m.first m.tree in
+    let g = cotree_found s h k0 k1 p q m.first f m.marked m.cotree in
+    child_faces_from s h k2 p t start genus m.start_in (cotree_spans s h k0 k1 k2 p q m.first m.marked g m.crossed) m.hanging
 
 pub split_is : (s : OrientedMesh) → IsOrientedSurface s
     → (k0 k1 k2 : List Kind) (p q t : List (Option DartName)) (start genus : ℕ)

@@ -1,6 +1,6 @@
 //! What holds of every split of a surface, however it was made, said of the definitions. A call of one of these
 //! functions does nothing; its contract is the law.
-ghost use Rattle.std.specs.Prelude.{◌≡◌, ◌≢◌, ℕ, ◌+◌, ◌*◌, ◌<◌, Bool, true, false, not, List, length};
+ghost use Rattle.std.specs.Prelude.{◌≡◌, ◌≢◌, ◌↔◌, ℕ, ◌+◌, ◌*◌, ◌<◌, Bool, true, false, not, List, length};
 ghost use Rattle.surf_model.specs.FaceLists.{FaceList, IsFaceList, is_used};
 ghost use Rattle.surf_model.specs.Edges.{Edge, IsTableOf};
 ghost use Rattle.surf_model.specs.Surfaces.{IsSurface};
@@ -10,6 +10,8 @@ ghost use Rattle.halfedge_map.specs.DartMaps.{used_vertices};
 ghost use Rattle.halfedge_map.specs.RotationSystems.{rotations_of};
 ghost use Rattle.tree_cotree.specs.SpanningTrees.{HasOneRing};
 ghost use Rattle.tree_cotree.specs.Splits.{SplitView, HasTrees, IsSplit, in_tree, in_cotree, is_left};
+ghost use Rattle.tree_cotree.specs.Colourings.{ColouringView, IsColouring};
+ghost use Rattle.tree_cotree.specs.ColouredTrees.{HasColouredTrees};
 
 /// All darts stand on one ring of the tree, and on one ring of the edges outside the cotree, which are those of the tree
 /// and the leftover ones.
@@ -39,4 +41,11 @@ pub fn leftover_edges_are_even()
     ensures { (surface : OrientedMesh) (split : SplitView) → IsOrientedSurface surface
         → HasTrees surface split
         → (genus : ℕ) × (count_below (is_left split) (length surface.table) ≡ 2 * genus) }
+{}
+
+/// Whatever tree and cotree edges are coloured by: where a root face with a leftover edge, if there is one, and half the number of
+/// the leftover edges are told with them, there are ways to the roots, so that some split tells this. And each split does.
+pub fn colourings_with_trees_are_of_splits()
+    ensures { (surface : OrientedMesh) (colouring : ColouringView) → IsOrientedSurface surface
+        → HasColouredTrees surface colouring ↔ IsColouring surface colouring }
 {}

@@ -9,6 +9,7 @@
 //!     let genus = split.genus();
 #![tactic(auto)]
 
+pub mod colouring;
 pub mod laws;
 mod marking;
 mod maybe_dart;
@@ -19,5 +20,6 @@ pub mod split;
 mod turning;
 mod waiting;
 
+pub use colouring::Colouring;
 pub use rings::Rings;
 pub use split::{Kind, Split, split_edges};

@@ -3,6 +3,7 @@ ghost use Rattle.std.specs.Prelude.{◌≡◌, ◌<◌, ℕ, length, Some, IfOk,
 ghost use Rattle.std.specs.Option.{option_map};
 ghost use Rattle.tree_cotree.specs.Splits.{IsSplit};
 
+use crate::colouring::Colouring;
 use crate::marking::{leftover_dart, leftover_edges, mark};
 use crate::maybe_dart::MaybeDart;
 use crate::search::{Edges, Graph, Nodes, search_over};
@@ -28,14 +29,12 @@ pub enum Kind {
 /// together, and the leftover edges.
 #[derive(Debug, Drop)]
 pub struct Split {
-    /// For each edge its kind.
-    kinds: Vec<Kind>,
+    /// What it tells without its ways.
+    colouring: Colouring,
     /// For each vertex the dart to its parent in the tree.
     parents: Vec<MaybeDart>,
     /// For each face the dart to its parent in the cotree.
     face_parents: Vec<MaybeDart>,
-    root_face: FaceName,
-    genus: u32,
 }
 
 impl Model for Split {
@@ -44,20 +43,28 @@ impl Model for Split {
 
     ghost Value = { SplitView };
 
-    ghost view = { λ a. made_split a.kinds.items a.parents.items a.face_parents.items a.root_face.0 a.genus };
+    ghost view = { λ a. made_split a.colouring.kinds a.parents.items a.face_parents.items a.colouring.root_face a.colouring.genus };
 }
 
 impl Split {
     ghost use Rattle.halfedge_map.specs.DartMaps.{darts_of};
     ghost use Rattle.halfedge_map.specs.RotationSystems.{rotations_of};
     ghost use Rattle.tree_cotree.specs.Splits.{kind_of, parent_dart, face_parent, child_face};
+    ghost use Rattle.tree_cotree.specs.Colourings.{colouring_of};
+
+    /// What it tells without its ways.
+    pub fn colouring(&self) -> &Colouring
+        ensures { result.now ≡ colouring_of self.now }
+    {
+        &self.colouring
+    }
 
     /// What an edge is.
     pub fn kind(&self, edge: EdgeName) -> Kind
         requires { edge.0 < length self.now.kinds }
         ensures { result ≡ kind_of self.now edge.0 }
     {
-        self.kinds[edge.0 as usize]
+        self.colouring.kind(edge)
     }
 
     /// A tree dart from a vertex to its parent; none for the root and for unused vertices.
@@ -99,14 +106,14 @@ impl Split {
     pub fn root_face(&self) -> FaceName
         ensures { result.0 ≡ self.now.root_face }
     {
-        self.root_face
+        self.colouring.root_face()
     }
 
     /// The genus: half the number of leftover edges.
     pub fn genus(&self) -> u32
         ensures { result ≡ self.now.genus }
     {
-        self.genus
+        self.colouring.genus()
     }
 }
 
@@ -137,11 +144,14 @@ pub fn split_edges(alloc: Global, surface: &Surface) -> Result<Split, AllocError
     let start = leftover_dart(surface, &kinds);
     turn_round(alloc, surface, &mut face_parents, start)?;
     let genus = leftover_edges(&kinds) / 2;
-    Ok(Split {
+    let colouring = Colouring {
         kinds,
-        parents,
-        face_parents,
         root_face: surface.face_of(start),
         genus,
+    };
+    Ok(Split {
+        colouring,
+        parents,
+        face_parents,
     })
 }
