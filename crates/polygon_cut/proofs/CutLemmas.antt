@@ -11,9 +11,11 @@ use Rattle.halfedge_map.specs.RotationSystems.{Rotations, rotations_of, IsRotati
 use Rattle.halfedge_map.proofs.OrbitLemmas.{steps_within}
 use Rattle.halfedge_map.proofs.SystemLemmas.{rotation_system, names_all}
 use Rattle.tree_cotree.specs.RingViews.{dart_numbers}
-use Rattle.tree_cotree.specs.Splits.{SplitView, IsSplit, in_tree, in_cotree, is_left}
+use Rattle.tree_cotree.specs.Splits.{SplitView, HasTrees, in_tree, in_cotree, is_left}
+use Rattle.tree_cotree.specs.Colourings.{ColouringView, colouring_of}
+use Rattle.tree_cotree.specs.ColouredTrees.{without_ways, HasColouredTrees}
 use Rattle.tree_cotree.proofs.LawLemmas.{one_of_three, tree_has_ring}
-use Rattle.polygon_cut.specs.Polygons.{PolygonView, IsLabelled, IsCutFrom, across, turned}
+use Rattle.polygon_cut.specs.Polygons.{PolygonView, IsLabelled, IsCutFrom, IsCutByColours, across, turned}
 use Rattle.polygon_cut.specs.StoredPolygons.{outer_ring, left_at, without_places, IsWalked, TurnsRound, IsPlaced}
 use Rattle.polygon_cut.proofs.CountLemmas.{count_at_most, count_along, count_darts, count_nothing}
 use Rattle.polygon_cut.proofs.PlaceLemmas.{Crosses, sides_cross, turning_permutes}
@@ -37,7 +39,7 @@ labelled s split last degree sides labels places w is =
     (walk_labels (rotations_of s) (outer_ring s split) (is_left split) last sides labels places w)
 
 pub turns_round : (s : OrientedMesh) (split : SplitView) (last degree : ℕ) (sides labels places : List ℕ) → IsOrientedSurface s
-    → IsSplit s split
+    → HasTrees s split
     → IsRingWalk s split last sides labels → degree ≡ length sides → TurnsRound (rotations_of s) (polygon_of degree sides labels places)
 turns_round s split last degree sides labels places o t w is =
     let maps : Rotations = rotations_of s in
@@ -53,14 +55,15 @@ turns_round s split last degree sides labels places o t w is =
       injective = (turning_permutes degree (across maps polygon) crosses).injective;
       reaches = λ j l.
           turning_reaches_all maps (in_tree split) (in_cotree split) (is_left split) polygon r (λ e k. one_of_three split (maps.edge e)) h
-          (tree_has_ring s split o t.trees) j l;
+          (tree_has_ring s split o t) j l;
     }
 
 -- there are four sides to each handle
-four_each : (s : OrientedMesh) (split : SplitView) (last : ℕ) (sides labels : List ℕ) → IsOrientedSurface s → IsSplit s split
-    → IsRingWalk s split last sides labels → length sides ≡ 4 * split.genus
-four_each s split last sides labels o t w =
+four_each : (s : OrientedMesh) (colouring : ColouringView) (last : ℕ) (sides labels : List ℕ) → IsOrientedSurface s
+    → HasColouredTrees s colouring → IsRingWalk s (without_ways colouring) last sides labels → length sides ≡ 4 * colouring.genus
+four_each s colouring last sides labels o t w =
     let maps : Rotations = rotations_of s in
+    let split : SplitView = without_ways colouring in
     let n : ℕ = darts_of s in
     let ring : ℕ → ℕ = outer_ring s split in
     let start : ℕ = ring last in
@@ -84,28 +87,30 @@ few_sides s split last sides labels o w =
     )
 
 -- the walk that `last` ends
-pub ring_walk : (s : OrientedMesh) (split : SplitView) (last : ℕ) (sides labels : List ℕ) → IsOrientedSurface s → IsSplit s split
+pub ring_walk : (s : OrientedMesh) (split : SplitView) (last : ℕ) (sides labels : List ℕ) → IsOrientedSurface s → HasTrees s split
     → last < darts_of s → is_left split (edge_of s last) ≡ true
     → IsWalked (rotations_of s) (outer_ring s split) (is_left split) (outer_ring s split last) (darts_of s) sides labels
     → IsRingWalk s split last sides labels
 ring_walk s split last sides labels o t l is w =
     record { round = ring_goes_round s split last o t l; last_in = l; last_left = is; walked = w }
 
-pub cut_is : (s : OrientedMesh) (split : SplitView) (last degree : ℕ) (sides labels places : List ℕ) → IsOrientedSurface s → IsSplit s split
-    → IsRingWalk s split last sides labels → degree ≡ length sides → face_of s last ≡ split.root_face
+cut_is : (s : OrientedMesh) (colouring : ColouringView) (last degree : ℕ) (sides labels places : List ℕ) → IsOrientedSurface s
+    → HasColouredTrees s colouring → IsRingWalk s (without_ways colouring) last sides labels → degree ≡ length sides
+    → face_of s last ≡ colouring.root_face
     → IsPlaced degree (turned (rotations_of s) (polygon_of degree sides labels places)) degree places
-    → IsCutFrom s split (polygon_of degree sides labels places)
-cut_is s split last degree sides labels places o t w is root placed =
+    → IsCutFrom s (without_ways colouring) (polygon_of degree sides labels places)
+cut_is s colouring last degree sides labels places o t w is root placed =
     let maps : Rotations = rotations_of s in
+    let split : SplitView = without_ways colouring in
     let before : degree - 1 ≡ length sides - 1 = ap (λ (k : ℕ). k - 1) is in
     record {
-      degree = is ∙ four_each s split last sides labels o t w;
+      degree = is ∙ four_each s colouring last sides labels o t w;
       labels = λ some. labelled s split last degree sides labels places w is;
       last_side = λ some.
           ap (λ (k : ℕ). face_of s (slice_index sides k)) before
           ∙ ap (face_of s) (last_is maps (outer_ring s split) (is_left split) last sides labels w) ∙ root;
       places = λ some. places_are maps (polygon_of degree sides labels places)
-          (turns_round s split last degree sides labels places o t w is) some placed;
+          (turns_round s split last degree sides labels places o t.trees w is) some placed;
     }
 
 -- places by turning, said of lists that are the same
@@ -118,10 +123,29 @@ placed_too s sides those labels these degree places one two three h =
     (subst (λ (ys : List ℕ). IsPlaced (length those) (turned (rotations_of s) (without_places those ys)) (length those) places) two
     (subst (λ (xs : List DartName). IsPlaced (length xs) (turned (rotations_of s) (without_places xs labels)) (length xs) places) one h))
 
+-- a cut looks at no way, so it is one with each split that tells the colours
+any_split : (s : OrientedMesh) (colouring : ColouringView) (polygon : PolygonView) → IsCutFrom s (without_ways colouring) polygon
+    → IsCutByColours s colouring polygon
+any_split s colouring polygon h split is tells =
+    let same : IsCutFrom s (without_ways (colouring_of split)) polygon =
+    subst (λ (told : ColouringView). IsCutFrom s (without_ways told) polygon) (sym tells) h in
+    record { degree = same.degree; labels = same.labels; last_side = same.last_side; places = same.places }
+
+pub cut_by_colours_is : (s : OrientedMesh) (colouring : ColouringView) (last degree : ℕ) (sides labels places : List ℕ)
+    → IsOrientedSurface s → HasColouredTrees s colouring → IsRingWalk s (without_ways colouring) last sides labels
+    → degree ≡ length sides → face_of s last ≡ colouring.root_face
+    → IsPlaced degree (turned (rotations_of s) (polygon_of degree sides labels places)) degree places
+    → IsCutByColours s colouring (polygon_of degree sides labels places)
+cut_by_colours_is s colouring last degree sides labels places o t w is root placed =
+    any_split s colouring (polygon_of degree sides labels places)
+    (cut_is s colouring last degree sides labels places o t w is root placed)
+
 -- without a leftover dart in the root face there is none at all
-pub nothing_left : (s : OrientedMesh) (split : SplitView) → IsOrientedSurface s → IsSplit s split
-    → ((d : ℕ) → d < darts_of s → face_of s d ≡ split.root_face → is_left split (edge_of s d) ≡ false) → split.genus ≡ 0
-nothing_left s split o t none =
+nothing_left : (s : OrientedMesh) (colouring : ColouringView) → IsOrientedSurface s → HasColouredTrees s colouring
+    → ((d : ℕ) → d < darts_of s → face_of s d ≡ colouring.root_face → is_left (without_ways colouring) (edge_of s d) ≡ false)
+    → colouring.genus ≡ 0
+nothing_left s colouring o t none =
+    let split : SplitView = without_ways colouring in
     let count : count_below (is_left split) (length s.table) ≡ 0 = count_nothing (is_left split) (length s.table) (λ e l.
     let dart = (names_all s o).each_edge e l in
     elim (cases_Bool (is_left split e)) [
@@ -131,3 +155,17 @@ nothing_left s split o t none =
       | inr other ↦ other
     ]) in
     omega (arith, count, t.genus)
+
+-- so the polygon has no side
+pub nothing_to_cut : (s : OrientedMesh) (colouring : ColouringView) (sides labels places : List ℕ) → IsOrientedSurface s
+    → HasColouredTrees s colouring
+    → ((d : ℕ) → d < darts_of s → face_of s d ≡ colouring.root_face → is_left (without_ways colouring) (edge_of s d) ≡ false)
+    → IsCutByColours s colouring (polygon_of 0 sides labels places)
+nothing_to_cut s colouring sides labels places o t none =
+    let no_genus : colouring.genus ≡ 0 = nothing_left s colouring o t none in
+    any_split s colouring (polygon_of 0 sides labels places) (record {
+      degree = omega (arith, no_genus);
+      labels = λ some. absurd (omega arith);
+      last_side = λ some. absurd (omega arith);
+      places = λ some. absurd (omega arith);
+    })

@@ -14,14 +14,14 @@ use Rattle.halfedge_map.proofs.NumberLemmas.{IsNumberOf, HasPlace, placed}
 use Rattle.halfedge_map.proofs.DartLemmas.{face_at_number}
 use Rattle.halfedge_map.proofs.SystemLemmas.{rotation_system}
 use Rattle.tree_cotree.specs.RingViews.{dart_numbers}
-use Rattle.tree_cotree.specs.Splits.{SplitView, IsSplit, in_cotree, is_left}
+use Rattle.tree_cotree.specs.Splits.{SplitView, HasTrees, in_cotree, is_left}
 use Rattle.tree_cotree.proofs.AfterLemmas.{after_permutes}
 use Rattle.tree_cotree.proofs.LawLemmas.{rest_has_ring}
 use Rattle.polygon_cut.specs.StoredPolygons.{outer_ring, IsWalked}
 use Rattle.polygon_cut.proofs.RoundLemmas.{GoesRound}
 use Rattle.polygon_cut.proofs.WalkedLemmas.{walked_left, walked_other}
 
-pub ring_goes_round : (s : OrientedMesh) (split : SplitView) (last : ℕ) → IsOrientedSurface s → IsSplit s split → last < darts_of s
+pub ring_goes_round : (s : OrientedMesh) (split : SplitView) (last : ℕ) → IsOrientedSurface s → HasTrees s split → last < darts_of s
     → GoesRound (darts_of s) (outer_ring s split) (outer_ring s split last)
 ring_goes_round s split last o t l =
     let p : IsPermutationBelow (darts_of s) (outer_ring s split) =
@@ -29,7 +29,7 @@ ring_goes_round s split last o t l =
     record {
       permutes = p;
       start = p.within last l;
-      all = λ j b. rest_has_ring s split o t.trees (outer_ring s split last) j (p.within last l) b;
+      all = λ j b. rest_has_ring s split o t (outer_ring s split last) j (p.within last l) b;
     }
 
 -- as far as the walk has come: at which dart it is
@@ -39,7 +39,7 @@ pub record IsWalking (s : OrientedMesh) (split : SplitView) (last steps : ℕ) (
     pub walked : IsWalked (rotations_of s) (outer_ring s split) (is_left split) (outer_ring s split last) steps (dart_numbers sides) labels
 
 pub walking_within : (s : OrientedMesh) (split : SplitView) (last steps : ℕ) (sides : List DartName) (labels : List ℕ) (dart : ℕ)
-    → IsOrientedSurface s → IsSplit s split → last < darts_of s → IsWalking s split last steps sides labels dart → dart < darts_of s
+    → IsOrientedSurface s → HasTrees s split → last < darts_of s → IsWalking s split last steps sides labels dart → dart < darts_of s
 walking_within s split last steps sides labels dart o t l h =
     let g = ring_goes_round s split last o t l in
     subst (λ (d : ℕ). d < darts_of s) (sym h.at)
@@ -59,7 +59,7 @@ written sides labels new_labels dart here at is =
 
 -- one dart more, which is leftover, or is not
 pub walking_left : (s : OrientedMesh) (split : SplitView) (last steps : ℕ) (sides new : List DartName) (labels new_labels : List ℕ)
-    (dart : DartName) (next : ℕ) → IsOrientedSurface s → IsSplit s split → last < darts_of s → steps < darts_of s
+    (dart : DartName) (next : ℕ) → IsOrientedSurface s → HasTrees s split → last < darts_of s → steps < darts_of s
     → IsWalking s split last steps sides labels dart.0 → is_left split (edge_of s dart.0) ≡ true → new ≡ sides ++ dart ∷ []
     → new_labels ≡ set labels dart.0 (length sides) → next ≡ outer_ring s split dart.0
     → IsWalking s split last (steps + 1) new new_labels next
@@ -84,7 +84,7 @@ walking_left s split last steps sides new labels new_labels dart next o t l b h 
     }
 
 pub walking_other : (s : OrientedMesh) (split : SplitView) (last steps : ℕ) (sides new : List DartName) (labels new_labels : List ℕ)
-    (dart : DartName) (next : ℕ) → IsOrientedSurface s → IsSplit s split → last < darts_of s → steps < darts_of s
+    (dart : DartName) (next : ℕ) → IsOrientedSurface s → HasTrees s split → last < darts_of s → steps < darts_of s
     → IsWalking s split last steps sides labels dart.0 → is_left split (edge_of s dart.0) ≡ false → new ≡ sides
     → new_labels ≡ set labels dart.0 (length sides) → next ≡ outer_ring s split dart.0
     → IsWalking s split last (steps + 1) new new_labels next

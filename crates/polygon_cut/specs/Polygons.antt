@@ -6,6 +6,7 @@ use Rattle.halfedge_map.specs.OrientedMeshes.{OrientedMesh}
 use Rattle.halfedge_map.specs.RotationSystems.{Rotations, rotations_of}
 use Rattle.tree_cotree.specs.Splits.{SplitView, IsSplit, in_cotree, is_left}
 use Rattle.tree_cotree.specs.SpanningTrees.{after_dart}
+use Rattle.tree_cotree.specs.Colourings.{ColouringView, colouring_of}
 
 -- the number after i, and the number before it, of so many round
 abbrev pub one_up : ℕ → ℕ → ℕ
@@ -72,6 +73,11 @@ pub record IsCutFrom (surface : OrientedMesh) (split : SplitView) (polygon : Pol
       → IsLabelled (rotations_of surface) (after_dart (rotations_of surface) (λ e. not (in_cotree split e))) (is_left split) polygon
   pub last_side : 0 < polygon.degree → (rotations_of surface).face (side_at polygon (polygon.degree - 1)) ≡ split.root_face
   pub places : 0 < polygon.degree → HasPlaces (rotations_of surface) polygon
+
+-- 'The polygon was cut from this surface by these colours': whatever split of it tells them, the polygon was cut with that split.
+abbrev pub IsCutByColours : OrientedMesh → ColouringView → PolygonView → Type 0
+IsCutByColours surface colouring polygon =
+    (split : SplitView) → IsSplit surface split → colouring_of split ≡ colouring → IsCutFrom surface split polygon
 
 -- a polygon that was cut from a surface along some split of it
 abbrev pub IsPolygonOf : OrientedMesh → PolygonView → Type 0

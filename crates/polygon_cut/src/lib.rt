@@ -15,5 +15,5 @@ mod polygon;
 mod ring;
 mod turning;
 
-pub use cutting::cut;
+pub use cutting::{cut, cut_by_colours};
 pub use polygon::{Polygon, PolygonNumbers};

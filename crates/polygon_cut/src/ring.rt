@@ -4,13 +4,15 @@ ghost use Rattle.halfedge_map.specs.OrientedMeshes.{IsOrientedSurface};
 ghost use Rattle.halfedge_map.specs.DartMaps.{darts_of, edge_of, face_of};
 ghost use Rattle.halfedge_map.specs.RotationSystems.{rotations_of};
 ghost use Rattle.tree_cotree.specs.RingViews.{dart_numbers};
-ghost use Rattle.tree_cotree.specs.Splits.{IsSplit, is_left, is_left_kind, kind_of};
+ghost use Rattle.tree_cotree.specs.Splits.{is_left, is_left_kind, kind_of};
+ghost use Rattle.tree_cotree.specs.Colourings.{IsColouring};
+ghost use Rattle.tree_cotree.specs.ColouredTrees.{without_ways};
 ghost use Rattle.polygon_cut.specs.StoredPolygons.{outer_ring, dart_after_kind, IsWalked};
 
 use halfedge_map::Surface;
 use std::alloc::{AllocError, Global};
 use surf_model::DartName;
-use tree_cotree::{Kind, Split};
+use tree_cotree::{Colouring, Kind};
 
 /// The leftover darts along the ring, and for each dart the number of them before it.
 #[derive(Drop)]
@@ -30,21 +32,21 @@ fn is_leftover(kind: Kind) -> bool
 }
 
 /// A leftover dart in the root face of the cotree, if there is one.
-pub(crate) fn leftover_in_root(surface: &Surface, split: &Split) -> Option<DartName>
-    requires { IsSplit surface.now split.now }
+pub(crate) fn leftover_in_root(surface: &Surface, colouring: &Colouring) -> Option<DartName>
+    requires { IsColouring surface.now colouring.now }
     ensures dart { MatchOption result
-        ((d : ℕ) → d < darts_of surface.now → face_of surface.now d ≡ split.now.root_face
-        → is_left split.now (edge_of surface.now d) ≡ false)
-        (λ dart. (dart.0 < darts_of surface.now) × (face_of surface.now dart.0 ≡ split.now.root_face)
-        × (is_left split.now (edge_of surface.now dart.0) ≡ true)) }
+        ((d : ℕ) → d < darts_of surface.now → face_of surface.now d ≡ colouring.now.root_face
+        → is_left (without_ways colouring.now) (edge_of surface.now d) ≡ false)
+        (λ dart. (dart.0 < darts_of surface.now) × (face_of surface.now dart.0 ≡ colouring.now.root_face)
+        × (is_left (without_ways colouring.now) (edge_of surface.now dart.0) ≡ true)) }
     // What holds of every surface.
     ensures valid { IsOrientedSurface surface.now }
 {
-    let face = split.root_face();
+    let face = colouring.root_face();
     let first = surface.faces().first_dart(face).0;
     for at in 0..surface.faces().sides(face) {
         let dart = DartName(first + at);
-        if is_leftover(split.kind(surface.edge_of(dart))) {
+        if is_leftover(colouring.kind(surface.edge_of(dart))) {
             return Some(dart);
         }
     }
@@ -66,19 +68,20 @@ fn dart_after(surface: &Surface, kind: Kind, dart: DartName) -> DartName
 pub(crate) fn label_ring(
     alloc: Global,
     surface: &Surface,
-    split: &Split,
+    colouring: &Colouring,
     last: DartName,
 ) -> Result<LabelledRing, AllocError>
-    requires split { IsSplit surface.now split.now }
+    requires colouring { IsColouring surface.now colouring.now }
     requires last { last.0 < darts_of surface.now }
-    ensures { IfOk result (λ ring. IsWalked (rotations_of surface.now) (outer_ring surface.now split.now) (is_left split.now)
-        (outer_ring surface.now split.now last.0) (darts_of surface.now) (dart_numbers ring.sides.items) ring.labels.items) }
+    ensures { IfOk result (λ ring. IsWalked (rotations_of surface.now) (outer_ring surface.now (without_ways colouring.now))
+        (is_left (without_ways colouring.now)) (outer_ring surface.now (without_ways colouring.now) last.0) (darts_of surface.now)
+        (dart_numbers ring.sides.items) ring.labels.items) }
 {
     let mut labels = vec![in alloc; 0; surface.darts() as usize]?;
-    let mut sides = Vec::with_capacity(alloc, split.genus() as usize * 4)?;
-    let mut dart = dart_after(surface, split.kind(surface.edge_of(last)), last);
+    let mut sides = Vec::with_capacity(alloc, colouring.genus() as usize * 4)?;
+    let mut dart = dart_after(surface, colouring.kind(surface.edge_of(last)), last);
     for _step in 0..surface.darts() {
-        let kind = split.kind(surface.edge_of(dart));
+        let kind = colouring.kind(surface.edge_of(dart));
         labels[dart.0 as usize] = sides.len() as u32;
         if is_leftover(kind) {
             sides.push(dart)?;

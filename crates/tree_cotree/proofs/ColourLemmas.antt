@@ -8,7 +8,7 @@ use Rattle.tree_cotree.specs.declared.split.Kind.{Kind}
 use Rattle.tree_cotree.specs.declared.split.Kind.TheVariants.{Tree, Cotree}
 use Rattle.tree_cotree.specs.SpanningTrees.{IsSpanningTree}
 use Rattle.tree_cotree.specs.Searches.{has_kind}
-use Rattle.tree_cotree.specs.Splits.{SplitView, IsSplit, in_tree, in_cotree}
+use Rattle.tree_cotree.specs.Splits.{SplitView, IsSplit, HasTrees, in_tree, in_cotree}
 use Rattle.tree_cotree.specs.StoredSplits.{made_split}
 use Rattle.tree_cotree.specs.Colourings.{ColouringView, colouring_of, IsColouring}
 use Rattle.tree_cotree.specs.ColouredTrees.{without_ways, HasColouredTrees}
@@ -66,3 +66,6 @@ colourings_have_trees s colouring c =
       root_left = c.is_split.root_left;
       genus = c.is_split.genus;
     })
+
+pub trees_of : (s : OrientedMesh) (colouring : ColouringView) → IsColouring s colouring → HasTrees s (without_ways colouring)
+trees_of s colouring c = (colourings_have_trees s colouring c).trees

@@ -1,69 +1,8 @@
-use Rattle.std.proofs.Common.{◌≡◌, ◌∙◌, List, [], length, sym, ap, arith}
-use Rattle.std.proofs.lemmas.List.{length-map}
-use Rattle.surf_model.specs.declared.names.DartName.{DartName}
-use Rattle.tree_cotree.specs.RingViews.{dart_numbers}
-use Rattle.polygon_cut.proofs.CutLemmas.{ring_walk, turns_round, few_sides, placed_too, cut_is, nothing_left}
+use Rattle.std.proofs.Common.{sym, subst}
+use Rattle.tree_cotree.specs.Colourings.{IsColouring}
+use Rattle.tree_cotree.proofs.ColourLemmas.{split_tells}
 use Rattle.polygon_cut.proofs.cutting.cut.Goals as goal
 
-pub returns-in_default : goal.returns-in_default
-returns-in_default c =
-    let none = nothing_left c.args.surface.now c.args.split.now c.leftover_in_root.ensures.valid c.requires c.in_default.ensures.dart in
-    record {
-      degree = omega (arith, none);
-      labels = λ some. absurd (omega arith);
-      last_side = λ some. absurd (omega arith);
-      places = λ some. absurd (omega arith);
-    }
-
-pub places_by_turns-requires-clause-round : goal.places_by_turns-requires-clause-round
-places_by_turns-requires-clause-round c =
-    let s = c.args.surface.now in
-    let split = c.args.split.now in
-    let valid = c.leftover_in_root.ensures.valid in
-    let last = c.in-Some.ensures.dart in
-    let sides = c.in_ok-sides.field-0.sides.items in
-    let walk = ring_walk s split c.in-Some.last.0 (dart_numbers sides) c.in_ok-sides.field-0.labels.items valid c.requires last.0 last.2
-    c.in_ok-sides.ensures in
-    rw (c.deref.ensures.value, c.deref-2.ensures.value)
-    (turns_round s split c.in-Some.last.0 (length sides) (dart_numbers sides) c.in_ok-sides.field-0.labels.items [] valid c.requires walk
-    (sym (length-map sides (λ (d : DartName). d.0))))
-
-pub places_by_turns-requires-clause-few : goal.places_by_turns-requires-clause-few
-places_by_turns-requires-clause-few c =
-    let s = c.args.surface.now in
-    let split = c.args.split.now in
-    let valid = c.leftover_in_root.ensures.valid in
-    let last = c.in-Some.ensures.dart in
-    let sides = c.in_ok-sides.field-0.sides.items in
-    let walk = ring_walk s split c.in-Some.last.0 (dart_numbers sides) c.in_ok-sides.field-0.labels.items valid c.requires last.0 last.2
-    c.in_ok-sides.ensures in
-    let few = few_sides s split c.in-Some.last.0 (dart_numbers sides) c.in_ok-sides.field-0.labels.items valid walk in
-    omega (arith, few, length-map sides (λ (d : DartName). d.0), ap (λ (xs : List DartName). length xs) c.deref.ensures.value)
-
-pub overflow_cast-result : goal.overflow_cast-result
-overflow_cast-result c =
-    let s = c.args.surface.now in
-    let split = c.args.split.now in
-    let valid = c.leftover_in_root.ensures.valid in
-    let last = c.in-Some.ensures.dart in
-    let sides = c.in_ok-sides.field-0.sides.items in
-    let walk = ring_walk s split c.in-Some.last.0 (dart_numbers sides) c.in_ok-sides.field-0.labels.items valid c.requires last.0 last.2
-    c.in_ok-sides.ensures in
-    let few = few_sides s split c.in-Some.last.0 (dart_numbers sides) c.in_ok-sides.field-0.labels.items valid walk in
-    omega (arith, few, length-map sides (λ (d : DartName). d.0), c.len.ensures, c.in_ok-sides.field-0.sides.ok.0)
-
-pub returns : goal.returns
-returns c =
-    let s = c.args.surface.now in
-    let split = c.args.split.now in
-    let valid = c.leftover_in_root.ensures.valid in
-    let last = c.in-Some.ensures.dart in
-    let sides = c.in_ok-sides.field-0.sides.items in
-    let labels = c.in_ok-sides.field-0.labels.items in
-    let walk = ring_walk s split c.in-Some.last.0 (dart_numbers sides) labels valid c.requires last.0 last.2 c.in_ok-sides.ensures in
-    let long : c.len.result ≡ length sides = omega (arith, c.len.ensures, c.in_ok-sides.field-0.sides.ok.0) in
-    let placed = placed_too s c.deref.result.now sides c.deref-2.result.now labels c.len.result c.in_ok-places.places.items
-    c.deref.ensures.value
-    c.deref-2.ensures.value long c.in_ok-places.ensures in
-    cut_is s split c.in-Some.last.0 c.len.result (dart_numbers sides) labels c.in_ok-places.places.items valid c.requires walk
-    (long ∙ sym (length-map sides (λ (d : DartName). d.0))) last.1 placed
+pub cut_by_colours-requires : goal.cut_by_colours-requires
+cut_by_colours-requires c =
+    subst (IsColouring c.args.surface.now) (sym c.colouring.ensures) (split_tells c.args.surface.now c.args.split.now c.requires)

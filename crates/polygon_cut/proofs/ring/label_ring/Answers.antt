@@ -5,6 +5,8 @@ use Rattle.surf_model.specs.declared.names.DartName.{DartName}
 use Rattle.halfedge_map.specs.DartMaps.{darts_of}
 use Rattle.halfedge_map.specs.RotationSystems.{rotations_of}
 use Rattle.tree_cotree.specs.Splits.{is_left, is_left_kind, kind_of}
+use Rattle.tree_cotree.specs.ColouredTrees.{without_ways}
+use Rattle.tree_cotree.proofs.ColourLemmas.{trees_of}
 use Rattle.polygon_cut.specs.StoredPolygons.{outer_ring, left_at, dart_after_kind}
 use Rattle.polygon_cut.proofs.CountLemmas.{count_at_most}
 use Rattle.polygon_cut.proofs.RingWalkLemmas.{walking_within, walking_left, walking_other}
@@ -13,14 +15,17 @@ use Rattle.polygon_cut.proofs.ring.label_ring.Goals.{then-is_leftover+in_ok-push
 
 pub edge_of-requires-in-loop-step : goal.edge_of-requires-in-loop-step
 edge_of-requires-in-loop-step c =
-    walking_within c.args.surface.now c.args.split.now c.args.last.0 c.loop-step._step c.loop-step.sides.items c.loop-step.labels.items
-    c.loop-step.dart.0 c.darts.ensures.valid c.requires.split c.requires.last c.loop-step.invariant
+    let split = without_ways c.args.colouring.now in
+    let trees = trees_of c.args.surface.now c.args.colouring.now c.requires.colouring in
+    walking_within c.args.surface.now split c.args.last.0 c.loop-step._step c.loop-step.sides.items c.loop-step.labels.items
+    c.loop-step.dart.0 c.darts.ensures.valid trees c.requires.last c.loop-step.invariant
 
 pub overflow_cast-len : goal.overflow_cast-len
 overflow_cast-len c =
+    let split = without_ways c.args.colouring.now in
     let maps = rotations_of c.args.surface.now in
-    let ring = outer_ring c.args.surface.now c.args.split.now in
-    let few = count_at_most (left_at maps ring (is_left c.args.split.now) (ring c.args.last.0)) c.loop-step._step in
+    let ring = outer_ring c.args.surface.now split in
+    let few = count_at_most (left_at maps ring (is_left split) (ring c.args.last.0)) c.loop-step._step in
     let long = length-map c.loop-step.sides.items (λ (d : DartName). d.0) in
     omega (
       arith,
@@ -36,38 +41,44 @@ overflow_cast-len c =
 
 pub index_mut-requires : goal.index_mut-requires
 index_mut-requires c =
+    let split = without_ways c.args.colouring.now in
+    let trees = trees_of c.args.surface.now c.args.colouring.now c.requires.colouring in
     let within : c.loop-step.dart.0 < darts_of c.args.surface.now =
-    walking_within c.args.surface.now c.args.split.now c.args.last.0 c.loop-step._step c.loop-step.sides.items c.loop-step.labels.items
-    c.loop-step.dart.0 c.darts.ensures.valid c.requires.split c.requires.last c.loop-step.invariant in
+    walking_within c.args.surface.now split c.args.last.0 c.loop-step._step c.loop-step.sides.items c.loop-step.labels.items
+    c.loop-step.dart.0 c.darts.ensures.valid trees c.requires.last c.loop-step.invariant in
     omega (arith, within, c.loop-step.invariant.walked.each_dart, c.loop-step.labels.ok.0)
 
 pub dart_after-dart-requires-in-loop-step : goal.dart_after-dart-requires-in-loop-step
 dart_after-dart-requires-in-loop-step c =
-    walking_within c.args.surface.now c.args.split.now c.args.last.0 c.loop-step._step c.loop-step.sides.items c.loop-step.labels.items
-    c.loop-step.dart.0 c.darts.ensures.valid c.requires.split c.requires.last c.loop-step.invariant
+    let split = without_ways c.args.colouring.now in
+    let trees = trees_of c.args.surface.now c.args.colouring.now c.requires.colouring in
+    walking_within c.args.surface.now split c.args.last.0 c.loop-step._step c.loop-step.sides.items c.loop-step.labels.items
+    c.loop-step.dart.0 c.darts.ensures.valid trees c.requires.last c.loop-step.invariant
 
 pub loop-step-preserved : goal.loop-step-preserved
 loop-step-preserved c =
+    let split = without_ways c.args.colouring.now in
+    let trees = trees_of c.args.surface.now c.args.colouring.now c.requires.colouring in
     let long : c.len.result ≡ length c.loop-step.sides.items = omega (arith, c.len.ensures, c.loop-step.sides.ok.0) in
     let few : c.loop-step._step < darts_of c.args.surface.now = omega (arith, c.loop-step-test.true, c.darts-step-end.ensures.count) in
-    let next : c.dart_after-dart-in-loop-step.result.0 ≡ outer_ring c.args.surface.now c.args.split.now c.loop-step.dart.0 =
+    let next : c.dart_after-dart-in-loop-step.result.0 ≡ outer_ring c.args.surface.now split c.loop-step.dart.0 =
     c.dart_after-dart-in-loop-step.ensures
     ∙ ap (λ kind. dart_after_kind (rotations_of c.args.surface.now) kind c.loop-step.dart.0)
-    (c.kind-kind.ensures ∙ ap (kind_of c.args.split.now) c.edge_of-in-loop-step.ensures.edge) in
+    (c.kind-kind.ensures ∙ ap (kind_of split) c.edge_of-in-loop-step.ensures.edge) in
     let written = ap (set c.loop-step.labels.items c.loop-step.dart.0) long in
-    let kind_is = ap is_left_kind (c.kind-kind.ensures ∙ ap (kind_of c.args.split.now) c.edge_of-in-loop-step.ensures.edge) in
+    let kind_is = ap is_left_kind (c.kind-kind.ensures ∙ ap (kind_of split) c.edge_of-in-loop-step.ensures.edge) in
     elim c.if-is_leftover.branch [
       | then-is_leftover+in_ok-push w ↦
-          walking_left c.args.surface.now c.args.split.now c.args.last.0 c.loop-step._step c.loop-step.sides.items
+          walking_left c.args.surface.now split c.args.last.0 c.loop-step._step c.loop-step.sides.items
           c.if-is_leftover.sides.items
           c.loop-step.labels.items (set c.loop-step.labels.items c.loop-step.dart.0 c.len.result) c.loop-step.dart
-          c.dart_after-dart-in-loop-step.result.0 c.darts.ensures.valid c.requires.split c.requires.last few c.loop-step.invariant
+          c.dart_after-dart-in-loop-step.result.0 c.darts.ensures.valid trees c.requires.last few c.loop-step.invariant
           (sym kind_is ∙ sym c.is_leftover.ensures ∙ w.if-is_leftover.true) (ap (λ sides. sides.items) w.sides-is
           ∙ w.in_ok-push.ensures.items) written next
       | else-is_leftover w ↦
-          walking_other c.args.surface.now c.args.split.now c.args.last.0 c.loop-step._step c.loop-step.sides.items
+          walking_other c.args.surface.now split c.args.last.0 c.loop-step._step c.loop-step.sides.items
           c.if-is_leftover.sides.items
           c.loop-step.labels.items (set c.loop-step.labels.items c.loop-step.dart.0 c.len.result) c.loop-step.dart
-          c.dart_after-dart-in-loop-step.result.0 c.darts.ensures.valid c.requires.split c.requires.last few c.loop-step.invariant
+          c.dart_after-dart-in-loop-step.result.0 c.darts.ensures.valid trees c.requires.last few c.loop-step.invariant
           (sym kind_is ∙ sym c.is_leftover.ensures ∙ w.if-is_leftover.false) (ap (λ sides. sides.items) w.sides-is) written next
     ]

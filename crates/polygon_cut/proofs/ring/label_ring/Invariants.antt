@@ -1,5 +1,6 @@
+use Rattle.tree_cotree.specs.ColouredTrees.{without_ways}
 use Rattle.polygon_cut.proofs.RingWalkLemmas.{IsWalking}
 use Rattle.polygon_cut.proofs.ring.label_ring.Given as goal
 
 abbrev pub invariant-loop-step : goal.invariant-loop-step
-invariant-loop-step l = IsWalking l.surface l.split l.fn.last.0 l._step l.sides.items l.labels.items l.dart.0
+invariant-loop-step l = IsWalking l.surface (without_ways l.colouring) l.fn.last.0 l._step l.sides.items l.labels.items l.dart.0

@@ -5,36 +5,43 @@ use Rattle.halfedge_map.specs.DartMaps.{edge_of}
 use Rattle.halfedge_map.proofs.NumberLemmas.{number_below}
 use Rattle.halfedge_map.proofs.DartLemmas.{face_at_number}
 use Rattle.tree_cotree.specs.Splits.{is_left, is_left_kind, kind_of}
+use Rattle.tree_cotree.specs.ColouredTrees.{without_ways}
+use Rattle.tree_cotree.proofs.ColourLemmas.{colourings_have_trees}
 use Rattle.polygon_cut.proofs.RingWalkLemmas.{number_in_face, none_in_face}
 use Rattle.polygon_cut.proofs.ring.leftover_in_root.Goals as goal
 
 pub returns-then-is_leftover-clause-dart : goal.returns-then-is_leftover-clause-dart
 returns-then-is_leftover-clause-dart c =
     let s = c.args.surface.now in
-    let root : c.root_face-face.result.0 ≡ c.args.split.now.root_face = c.root_face-face.ensures in
-    let first : c.first_dart-first.result.0 ≡ first_side s.mesh c.args.split.now.root_face =
+    let colouring = c.args.colouring.now in
+    let split = without_ways colouring in
+    let root : c.root_face-face.result.0 ≡ colouring.root_face = c.root_face-face.ensures in
+    let first : c.first_dart-first.result.0 ≡ first_side s.mesh colouring.root_face =
     c.first_dart-first.ensures ∙ ap (λ mesh. first_side mesh c.root_face-face.result.0) c.faces.ensures.mesh
     ∙ ap (first_side s.mesh) root in
-    let sides : c.sides-at-end.result ≡ length (face_at s.mesh c.args.split.now.root_face) =
+    let sides : c.sides-at-end.result ≡ length (face_at s.mesh colouring.root_face) =
     c.sides-at-end.ensures ∙ ap (λ mesh. length (face_at mesh c.root_face-face.result.0)) c.faces-2.ensures.mesh
     ∙ ap (λ f. length (face_at s.mesh f)) root in
-    let h = number_in_face s c.args.split.now.root_face c.first_dart-first.result.0 c.loop-at.at c.requires.child_faces.root_below first
+    let below = (colourings_have_trees s colouring c.requires).root_below in
+    let h = number_in_face s colouring.root_face c.first_dart-first.result.0 c.loop-at.at below first
     (omega (arith, sides, c.loop-at-test.true)) in
-    let kind = c.kind.ensures ∙ ap (kind_of c.args.split.now) c.edge_of.ensures.edge in (
-      number_below s.mesh c.args.split.now.root_face c.loop-at.at (c.first_dart-first.result.0 + c.loop-at.at) h,
-      face_at_number s c.args.split.now.root_face c.loop-at.at (c.first_dart-first.result.0 + c.loop-at.at) h,
+    let kind = c.kind.ensures ∙ ap (kind_of split) c.edge_of.ensures.edge in (
+      number_below s.mesh colouring.root_face c.loop-at.at (c.first_dart-first.result.0 + c.loop-at.at) h,
+      face_at_number s colouring.root_face c.loop-at.at (c.first_dart-first.result.0 + c.loop-at.at) h,
       sym (ap is_left_kind kind) ∙ sym c.is_leftover.ensures ∙ c.if-is_leftover.true,
     )
 
 pub returns-clause-dart : goal.returns-clause-dart
 returns-clause-dart c =
     let s = c.args.surface.now in
-    let root : c.root_face-face.result.0 ≡ c.args.split.now.root_face = c.root_face-face.ensures in
-    let first : c.first_dart-first.result.0 ≡ first_side s.mesh c.args.split.now.root_face =
+    let colouring = c.args.colouring.now in
+    let split = without_ways colouring in
+    let root : c.root_face-face.result.0 ≡ colouring.root_face = c.root_face-face.ensures in
+    let first : c.first_dart-first.result.0 ≡ first_side s.mesh colouring.root_face =
     c.first_dart-first.ensures ∙ ap (λ mesh. first_side mesh c.root_face-face.result.0) c.faces.ensures.mesh
     ∙ ap (first_side s.mesh) root in
-    let sides : c.sides-at-end.result ≡ length (face_at s.mesh c.args.split.now.root_face) =
+    let sides : c.sides-at-end.result ≡ length (face_at s.mesh colouring.root_face) =
     c.sides-at-end.ensures ∙ ap (λ mesh. length (face_at mesh c.root_face-face.result.0)) c.faces-2.ensures.mesh
     ∙ ap (λ f. length (face_at s.mesh f)) root in
-    none_in_face s c.args.split.now.root_face c.first_dart-first.result.0 (λ d. is_left c.args.split.now (edge_of s d)) first
+    none_in_face s colouring.root_face c.first_dart-first.result.0 (λ d. is_left split (edge_of s d)) first
     (λ k l. c.loop-at.invariant k (omega (arith, l, sides, c.loop-at-test.false)))
