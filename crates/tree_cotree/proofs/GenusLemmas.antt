@@ -34,7 +34,7 @@ widen_path maps node set more wider u v (w ∷ path) p =
       widen_path maps node set more wider w v path p.1,
     )
 
-widen : (maps : Rotations) (node : ℕ → ℕ) (set more : ℕ → Bool) → ((e : ℕ) → set e ≡ true → more e ≡ true) → (u v : ℕ)
+pub widen : (maps : Rotations) (node : ℕ → ℕ) (set more : ℕ → Bool) → ((e : ℕ) → set e ≡ true → more e ≡ true) → (u v : ℕ)
     → AreJoined (StepsIn maps node set) u v → AreJoined (StepsIn maps node more) u v
 widen maps node set more wider u v h = (h.0, widen_path maps node set more wider u v h.0 h.1)
 
@@ -50,7 +50,7 @@ record IsGrown (maps : Rotations) (node : ℕ → ℕ) (is_node : ℕ → Bool) 
   to_root : (d : ℕ) → d < maps.darts → nodes (node d) ≡ true → AreJoined (StepsIn maps node set) (node d) (node root)
   from_root : (d : ℕ) → d < maps.darts → nodes (node d) ≡ true → AreJoined (StepsIn maps node set) (node root) (node d)
 
-count_none : (n : ℕ) → count_below (λ _. false) n ≡ 0
+pub count_none : (n : ℕ) → count_below (λ _. false) n ≡ 0
 count_none zero = refl
 count_none (suc n) = rw (count_none n) refl
 

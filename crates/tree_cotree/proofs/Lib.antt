@@ -18,4 +18,7 @@ pub mod ColourLemmas
 pub mod EdgeTables
 pub mod GenusLemmas
 pub mod NameLemmas
+pub mod EndLemmas
+pub mod JoiningLemmas
+pub mod ColouringLemmas
 pub mod RingCountLemmas

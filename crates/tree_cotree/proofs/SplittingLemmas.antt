@@ -60,12 +60,12 @@ cotree_kind Tree = refl
 cotree_kind Cotree = refl
 cotree_kind Left = refl
 
-left_kind : (kind : Kind) → is_left_kind kind ≡ same_kind kind Left
+pub left_kind : (kind : Kind) → is_left_kind kind ≡ same_kind kind Left
 left_kind Tree = refl
 left_kind Cotree = refl
 left_kind Left = refl
 
-other_kind : (kinds : List Kind) (kind other : Kind) (e : ℕ) → same_kind kind other ≡ false → has_kind kinds kind e ≡ true
+pub other_kind : (kinds : List Kind) (kind other : Kind) (e : ℕ) → same_kind kind other ≡ false → has_kind kinds kind e ≡ true
     → has_kind kinds other e ≡ false
 other_kind kinds kind other e differ is = ap (λ k. same_kind k other) (kind_is (get_or kinds e Tree) kind is) ∙ differ
 

@@ -10,5 +10,6 @@ pub mod Graphs
 pub mod Waiting
 pub mod Ways
 pub mod Markings
+pub mod Joinings
 pub mod MaybeDarts
 pub mod StoredSplits

@@ -1,7 +1,19 @@
 //! Colourings of a surface's edges: tree, cotree and leftover edges without the ways to a root.
-ghost use Rattle.std.specs.Prelude.{◌≡◌, ◌<◌, length};
+ghost use Rattle.std.specs.Prelude.{◌≡◌, ◌<◌, ℕ, false, length, IfOk};
+ghost use Rattle.std.specs.List.{range_with_len};
+ghost use Rattle.halfedge_map.specs.OrientedMeshes.{IsOrientedSurface};
+ghost use Rattle.halfedge_map.specs.RotationSystems.{rotations_of};
+ghost use Rattle.tree_cotree.specs.Colourings.{IsColouring};
+ghost use Rattle.tree_cotree.specs.Joinings.{bound_of, AreEnds, AreSpanned, HangTogether};
+ghost use Rattle.tree_cotree.specs.Searches.{has_kind, node_of};
+ghost use Rattle.tree_cotree.specs.declared.split.Kind.TheVariants.{Left};
 
+use crate::marking::{leftover_dart, leftover_edges};
+use crate::search::{Nodes, is_same};
 use crate::split::Kind;
+use connectivity::Classes;
+use halfedge_map::Surface;
+use std::alloc::{AllocError, Global};
 use std::marker::Model;
 use surf_model::{EdgeName, FaceName};
 
@@ -46,5 +58,59 @@ impl Colouring {
         ensures { result ≡ self.now.genus }
     {
         self.genus
+    }
+}
+
+/// Colours the edges of a surface. Edge by edge it is tried whether the two vertices hang together already, and then for the edges that
+/// are left whether the two faces do: no ring is gone round, and no way to a root is found.
+pub fn colour_edges(alloc: Global, surface: &Surface) -> Result<Colouring, AllocError>
+    ensures { IfOk result (IsColouring surface.now) }
+{
+    let mut kinds = vec![in alloc; Kind::Left; surface.sides().len() as usize]?;
+    let vertices = Classes::new(alloc, surface.faces().count())?;
+    span(surface, Nodes::Vertices, vertices, &mut kinds, Kind::Tree);
+    let faces = Classes::new(alloc, surface.faces().len())?;
+    span(surface, Nodes::Faces, faces, &mut kinds, Kind::Cotree);
+    let start = leftover_dart(surface, &kinds);
+    let genus = leftover_edges(&kinds) / 2;
+    Ok(Colouring {
+        kinds,
+        root_face: surface.face_of(start),
+        genus,
+    })
+}
+
+/// Gives a kind to leftover edges that span the nodes: in turn to each whose two nodes those before it do not join.
+fn span(surface: &Surface, nodes: Nodes, mut classes: Classes, kinds: &mut Vec<Kind>, kind: Kind)
+    requires valid { IsOrientedSurface surface.now }
+    requires alone { classes ≡ range_with_len 0 (bound_of nodes surface.now) }
+    requires kinds { length kinds.old.items ≡ length surface.now.table }
+    requires free { (edge : ℕ) → edge < length surface.now.table → has_kind kinds.old.items kind edge ≡ false }
+    requires together { HangTogether (rotations_of surface.now) (node_of nodes (rotations_of surface.now)) (has_kind kinds.old.items Left) }
+    ensures { AreSpanned surface.now nodes kind kinds.old.items kinds.new.items }
+{
+    for edge in 0..surface.sides().len() {
+        if is_same(kinds[edge as usize], Kind::Left) {
+            let (first, second) = ends(surface, nodes, EdgeName(edge));
+            if classes.join_apart(first, second) {
+                kinds[edge as usize] = kind;
+            }
+        }
+    }
+}
+
+/// The two nodes at an edge: its vertices, or the faces of its sides.
+fn ends(surface: &Surface, nodes: Nodes, edge: EdgeName) -> (u32, u32)
+    requires valid { IsOrientedSurface surface.now }
+    requires edge { edge.0 < length surface.now.table }
+    ensures { AreEnds (rotations_of surface.now) (node_of nodes (rotations_of surface.now)) edge.0 result.0 result.1 }
+{
+    let sides = surface.sides();
+    match nodes {
+        Nodes::Vertices => {
+            let (low, high) = sides.ends(edge);
+            (low.0, high.0)
+        }
+        Nodes::Faces => (sides.side(edge, 0).face.0, sides.side(edge, 1).face.0),
     }
 }

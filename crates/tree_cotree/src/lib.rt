@@ -8,6 +8,8 @@
 //!
 //!     let split = split_edges(alloc, &surface)?;
 //!     let genus = split.genus();
+//!
+//! Where no way is asked for, `colour_edges` finds kinds, root face and genus alone, and quicker.
 #![tactic(auto)]
 
 pub mod colouring;
@@ -21,6 +23,6 @@ pub mod split;
 mod turning;
 mod waiting;
 
-pub use colouring::Colouring;
+pub use colouring::{Colouring, colour_edges};
 pub use rings::Rings;
 pub use split::{Kind, Split, split_edges};

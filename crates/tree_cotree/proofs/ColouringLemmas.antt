@@ -1,0 +1,277 @@
+-- Kinds of edges that are made by joining classes, edge by edge: what they are when the edges below n have been tried, and the trees that
+-- they make in the end.
+use Rattle.std.proofs.Common.{◌≡◌, ◌≢◌, inl, inr, ℕ, ◌+◌, ◌/◌, ◌<◌, ◌≤◌, Bool, true, false, List, [], ◌∷◌, length, get_or, refl, ap, sym, ◌∙◌, subst, arith}
+use Rattle.std.proofs.Math.ListN.{set}
+use Rattle.std.specs.List.{range_with_len}
+use Rattle.std.specs.Prelude.{replicate}
+use Rattle.std.proofs.lemmas.Bool.{cases_Bool, cases_eq, cases_lt, both_ways}
+use Rattle.std.proofs.lemmas.List.{length-replicate, get_or-set_same, get_or-set_other, length-set, get_or_past}
+use Rattle.surf_model.specs.FaceLists.{is_used}
+use Rattle.surf_model.specs.Surfaces.{IsPath, AreJoined}
+use Rattle.connectivity.specs.Classes.{joined_at}
+use Rattle.connectivity.proofs.Joining.{joined_at_same, joined_refl, joined_step, joined_trans}
+use Rattle.halfedge_map.specs.Numbers.{count_below}
+use Rattle.halfedge_map.specs.OrientedMeshes.{OrientedMesh, IsOrientedSurface}
+use Rattle.halfedge_map.specs.RotationSystems.{Rotations, rotations_of, IsRotationSystem, IsDartStep, IsDartFrom}
+use Rattle.halfedge_map.proofs.SystemLemmas.{rotation_system, names_all}
+use Rattle.tree_cotree.specs.declared.split.Kind.{Kind}
+use Rattle.tree_cotree.specs.declared.split.Kind.TheVariants.{Tree, Cotree, Left}
+use Rattle.tree_cotree.specs.declared.search.Nodes.{Nodes}
+use Rattle.tree_cotree.specs.declared.search.Nodes.TheVariants.{Vertices, Faces}
+use Rattle.tree_cotree.specs.SpanningTrees.{StepsIn, IsSpanningTree, HasOneRing}
+use Rattle.tree_cotree.specs.Searches.{node_of, same_kind, has_kind}
+use Rattle.tree_cotree.specs.Splits.{SplitView, HasTrees, in_tree, in_cotree, is_left}
+use Rattle.tree_cotree.specs.Colourings.{ColouringView}
+use Rattle.tree_cotree.specs.ColouredTrees.{HasColouredTrees, without_ways}
+use Rattle.tree_cotree.specs.Joinings.{bound_of, is_node_of, AreEnds, HangTogether, AreSpanned}
+use Rattle.tree_cotree.proofs.SetLemmas.{with_one, with_itself, with_other}
+use Rattle.tree_cotree.proofs.GrowthLemmas.{HasNodes}
+use Rattle.tree_cotree.proofs.SplitLemmas.{tree_ring, closed_holds_all}
+use Rattle.tree_cotree.proofs.LawLemmas.{vertex_nodes, face_nodes, some_dart, even}
+use Rattle.tree_cotree.proofs.TreeLemmas.{same_itself}
+use Rattle.tree_cotree.proofs.SplittingLemmas.{all_left, other_kind, tree_kind, cotree_kind, left_kind}
+use Rattle.tree_cotree.proofs.JoiningLemmas.{IsJoining, joining_none, joining_skip, joining_same, joining_apart, joined_spans}
+
+pub has_nodes : (s : OrientedMesh) → IsOrientedSurface s → (nodes : Nodes)
+    → HasNodes (rotations_of s) (node_of nodes (rotations_of s)) (is_node_of nodes s) (bound_of nodes s) (length s.table)
+has_nodes s o Vertices = vertex_nodes s (names_all s o)
+has_nodes s o Faces = face_nodes s (names_all s o)
+
+-- the kinds when the edges below n are tried
+pub record IsSpanning (s : OrientedMesh) (nodes : Nodes) (kind : Kind) (old : List Kind) (n : ℕ) (least : List ℕ) (kinds : List Kind)
+    : Type 0 where
+  pub long : length kinds ≡ length old
+  pub others : (e : ℕ) → has_kind kinds kind e ≡ false → get_or kinds e Tree ≡ get_or old e Tree
+  pub joining :
+      IsJoining (rotations_of s) (node_of nodes (rotations_of s)) (is_node_of nodes s) (bound_of nodes s) (length s.table) (has_kind old Left)
+      n least (has_kind kinds kind)
+
+pub spanning_none : (s : OrientedMesh) (nodes : Nodes) (kind : Kind) (old : List Kind) (least : List ℕ)
+    → least ≡ range_with_len 0 (bound_of nodes s) → ((e : ℕ) → e < length s.table → has_kind old kind e ≡ false)
+    → IsSpanning s nodes kind old 0 least old
+spanning_none s nodes kind old least is free = record {
+  long = refl;
+  others = λ e out. refl;
+  joining = subst (λ l. IsJoining (rotations_of s) (node_of nodes (rotations_of s)) (is_node_of nodes s) (bound_of nodes s)
+      (length s.table) (has_kind old Left) 0 l (has_kind old kind)) (sym is)
+      (joining_none (rotations_of s) (node_of nodes (rotations_of s)) (is_node_of nodes s) (bound_of nodes s) (length s.table)
+      (has_kind old Left) (has_kind old kind) free);
+}
+
+-- an edge that is not tried yet has its old kind
+untried : (s : OrientedMesh) (nodes : Nodes) (kind : Kind) (old : List Kind) (n : ℕ) (least : List ℕ) (kinds : List Kind)
+    → IsSpanning s nodes kind old n least kinds → n < length s.table → get_or kinds n Tree ≡ get_or old n Tree
+untried s nodes kind old n least kinds h l = elim (cases_Bool (has_kind kinds kind n)) [
+  | inl is ↦ absurd (omega (arith, h.joining.tried n l is))
+  | inr out ↦ h.others n out
+]
+
+pub spanning_skip : (s : OrientedMesh) (nodes : Nodes) (kind : Kind) (old : List Kind) (n : ℕ) (least : List ℕ) (kinds : List Kind)
+    → n < length s.table → same_kind (get_or kinds n Tree) Left ≡ false → IsSpanning s nodes kind old n least kinds
+    → IsSpanning s nodes kind old (n + 1) least kinds
+spanning_skip s nodes kind old n least kinds l out h = record {
+  long = h.long;
+  others = h.others;
+  joining = joining_skip (rotations_of s) (node_of nodes (rotations_of s)) (is_node_of nodes s) (bound_of nodes s) (length s.table)
+      (has_kind old Left) n least (has_kind kinds kind)
+      (ap (λ k. same_kind k Left) (sym (untried s nodes kind old n least kinds h l)) ∙ out) h.joining;
+}
+
+pub spanning_same : (s : OrientedMesh) (nodes : Nodes) (kind : Kind) (old : List Kind) (n : ℕ) (least more : List ℕ) (kinds : List Kind)
+    (x y : ℕ)
+    → IsOrientedSurface s → AreEnds (rotations_of s) (node_of nodes (rotations_of s)) n x y → get_or least x 0 ≡ get_or least y 0
+    → more ≡ joined_at least x y → IsSpanning s nodes kind old n least kinds
+    → IsSpanning s nodes kind old (n + 1) more kinds
+spanning_same s nodes kind old n least more kinds x y o a same is h = record {
+  long = h.long;
+  others = h.others;
+  joining = subst (λ l. IsJoining (rotations_of s) (node_of nodes (rotations_of s)) (is_node_of nodes s) (bound_of nodes s)
+      (length s.table) (has_kind old Left) (n + 1) l (has_kind kinds kind)) (sym (is ∙ joined_at_same least x y same))
+      (joining_same (rotations_of s) (node_of nodes (rotations_of s)) (is_node_of nodes s) (bound_of nodes s) (length s.table)
+      (has_kind old Left) n least (has_kind kinds kind) x y (rotation_system s o) a same h.joining);
+}
+
+pub spanning_apart : (s : OrientedMesh) (nodes : Nodes) (kind : Kind) (old : List Kind) (n : ℕ) (least more : List ℕ)
+    (kinds new : List Kind) (x y : ℕ)
+    → IsOrientedSurface s → n < length s.table → n < length kinds → same_kind (get_or kinds n Tree) Left ≡ true
+    → AreEnds (rotations_of s) (node_of nodes (rotations_of s)) n x y → get_or least x 0 ≢ get_or least y 0
+    → more ≡ joined_at least x y → new ≡ set kinds n kind → IsSpanning s nodes kind old n least kinds
+    → IsSpanning s nodes kind old (n + 1) more new
+spanning_apart s nodes kind old n least more kinds new x y o l b left a apart is sets h = record {
+  long = ap (λ (ks : List Kind). length ks) sets ∙ length-set kinds n kind ∙ h.long;
+  others = λ e out. elim (cases_eq e n) [
+    | inl here ↦ absurd (both_ways (has_kind new kind e) out (ap (has_kind new kind) here ∙ at_n))
+    | inr ne ↦ elsewhere e ne ∙ h.others e (ap (λ k. same_kind k kind) (sym (elsewhere e ne)) ∙ out)
+  ];
+  joining = subst (λ r. IsJoining maps node (is_node_of nodes s) (bound_of nodes s) (length s.table) (has_kind old Left) (n + 1) r
+      (has_kind new kind)) (sym is)
+      (subst (IsJoining maps node (is_node_of nodes s) (bound_of nodes s) (length s.table) (has_kind old Left) (n + 1)
+      (joined_at least x y)) (sym with_n)
+      (joining_apart maps node (is_node_of nodes s) (bound_of nodes s) (length s.table) (has_kind old Left) n least (has_kind kinds kind)
+      x y (rotation_system s o) (has_nodes s o nodes) l
+      (ap (λ k. same_kind k Left) (sym (untried s nodes kind old n least kinds h l)) ∙ left) a apart h.joining));
+}
+  where
+    maps : Rotations
+    maps = rotations_of s
+
+    node : ℕ → ℕ
+    node = node_of nodes (rotations_of s)
+
+    at_n : has_kind new kind n ≡ true
+    at_n = ap (λ (ks : List Kind). has_kind ks kind n) sets ∙ ap (λ k. same_kind k kind) (get_or-set_same kinds n kind Tree b)
+        ∙ same_itself kind
+
+    elsewhere : (e : ℕ) → e ≢ n → get_or new e Tree ≡ get_or kinds e Tree
+    elsewhere e ne = ap (λ (ks : List Kind). get_or ks e Tree) sets ∙ get_or-set_other kinds n e kind Tree ne
+
+    with_n_at : (e : ℕ) → has_kind new kind e ≡ with_one (has_kind kinds kind) n e
+    with_n_at e = elim (cases_eq e n) [
+      | inl here ↦
+          ap (has_kind new kind) here ∙ at_n
+          ∙ sym (ap (with_one (has_kind kinds kind) n) here ∙ with_itself (has_kind kinds kind) n)
+      | inr ne ↦ ap (λ k. same_kind k kind) (elsewhere e ne) ∙ sym (with_other (has_kind kinds kind) n e ne)
+    ]
+
+    with_n : has_kind new kind ≡ with_one (has_kind kinds kind) n
+    with_n = λ i e. with_n_at e i
+
+pub spanning_all : (s : OrientedMesh) (nodes : Nodes) (kind : Kind) (old : List Kind) (n : ℕ) (least : List ℕ) (kinds : List Kind)
+    → IsOrientedSurface s → HangTogether (rotations_of s) (node_of nodes (rotations_of s)) (has_kind old Left) → length s.table ≤ n
+    → IsSpanning s nodes kind old n least kinds
+    → AreSpanned s nodes kind old kinds
+spanning_all s nodes kind old n least kinds o together all h = record {
+  long = h.long;
+  spans = joined_spans (rotations_of s) (node_of nodes (rotations_of s)) (is_node_of nodes s) (bound_of nodes s) (length s.table)
+      (has_kind old Left) n least (has_kind kinds kind) (has_nodes s o nodes) (some_dart s o) together all h.joining;
+  were_left = h.joining.within;
+  others = h.others;
+}
+
+-- the vertices hang together across all edges
+along_darts : (maps : Rotations) (inside : ℕ → Bool) → ((d : ℕ) → d < maps.darts → inside (maps.edge d) ≡ true) → (u v : ℕ)
+    (path : List ℕ)
+    → IsPath (IsDartStep maps) u path v → IsPath (StepsIn maps maps.origin inside) u path v
+along_darts maps inside all u v [] p = p
+along_darts maps inside all u v (w ∷ path) p =
+    let d : ℕ = p.0.0 in
+    let step : IsDartFrom maps u w d = p.0.1 in (
+      (d, record { within = step.within; in_set = all d step.within; starts = step.starts; ends = step.ends }),
+      along_darts maps inside all w v path p.1,
+    )
+
+pub vertices_hang : (s : OrientedMesh) (k0 : List Kind) → IsOrientedSurface s → k0 ≡ replicate (length s.table) Left
+    → HangTogether (rotations_of s) (rotations_of s).origin (has_kind k0 Left)
+vertices_hang s k0 o first d e l k =
+    let maps : Rotations = rotations_of s in
+    let way = (rotation_system s o).connected d e l k in (
+      way.0,
+      along_darts maps (has_kind k0 Left)
+          (λ x b. ap (λ z. same_kind z Left) (all_left s k0 (maps.edge x) first ((names_all s o).edge_below x b))) (maps.origin d)
+          (maps.origin e) way.0 way.1,
+    )
+
+-- an edge outside the tree is left
+left_outside : (s : OrientedMesh) (k0 k1 : List Kind) (e : ℕ) → k0 ≡ replicate (length s.table) Left
+    → AreSpanned s Vertices Tree k0 k1 → e < length s.table → has_kind k1 Tree e ≡ false → has_kind k1 Left e ≡ true
+left_outside s k0 k1 e first t l out = ap (λ k. same_kind k Left) (t.others e out ∙ all_left s k0 e first l)
+
+-- the faces hang together across the edges outside the tree
+pub faces_hang : (s : OrientedMesh) (k0 k1 : List Kind) → IsOrientedSurface s → k0 ≡ replicate (length s.table) Left
+    → AreSpanned s Vertices Tree k0 k1 → HangTogether (rotations_of s) (rotations_of s).face (has_kind k1 Left)
+faces_hang s k0 k1 o first t d e l k =
+    closed_holds_all maps (has_kind k1 Tree) (λ f. AreJoined steps (maps.face d) f) r ring
+    (λ x b out reached. joined_trans steps (maps.face d) (maps.face x) (maps.face (maps.twin x)) reached
+    (joined_step steps (maps.face x) (maps.face (maps.twin x)) (
+      x,
+      record {
+        within = b;
+        in_set = left_outside s k0 k1 (maps.edge x) first t ((names_all s o).edge_below x b) out;
+        starts = refl;
+        ends = refl;
+      },
+    )))
+    d e l k (joined_refl steps (maps.face d) (maps.face d) refl)
+  where
+    maps : Rotations
+    maps = rotations_of s
+
+    r : IsRotationSystem maps
+    r = rotation_system s o
+
+    steps : ℕ → ℕ → Type 0
+    steps = StepsIn (rotations_of s) (rotations_of s).face (has_kind k1 Left)
+
+    ring : HasOneRing maps (has_kind k1 Tree)
+    ring = tree_ring maps (is_used s.mesh) s.mesh.count (length s.table) (has_kind k1 Tree) r (vertex_nodes s (names_all s o)) t.spans
+
+-- no edge is of another kind than leftover at first, and none in the cotree after the tree
+pub none_before : (s : OrientedMesh) (k0 : List Kind) (kind : Kind) → k0 ≡ replicate (length s.table) Left → same_kind Left kind ≡ false
+    → (e : ℕ) → e < length s.table → has_kind k0 kind e ≡ false
+none_before s k0 kind first other e l = ap (λ k. same_kind k kind) (all_left s k0 e first l) ∙ other
+
+pub none_between : (s : OrientedMesh) (k0 k1 : List Kind) → k0 ≡ replicate (length s.table) Left → AreSpanned s Vertices Tree k0 k1
+    → (e : ℕ) → e < length s.table → has_kind k1 Cotree e ≡ false
+none_between s k0 k1 first t e l = elim (cases_Bool (has_kind k1 Tree e)) [
+  | inl is ↦ other_kind k1 Tree Cotree e refl is
+  | inr out ↦ other_kind k1 Left Cotree e refl (left_outside s k0 k1 e first t l out)
+]
+
+-- the cotree leaves the tree as it is
+tree_stays : (s : OrientedMesh) (k1 k2 : List Kind) → length k1 ≡ length s.table → AreSpanned s Faces Cotree k1 k2 → (e : ℕ)
+    → has_kind k2 Tree e ≡ has_kind k1 Tree e
+tree_stays s k1 k2 long c e = elim (cases_Bool (has_kind k2 Cotree e)) [
+  | inr out ↦ ap (λ k. same_kind k Tree) (c.others e out)
+  | inl is ↦ elim (cases_lt e (length s.table)) [
+    | inl l ↦ other_kind k2 Cotree Tree e refl is ∙ sym (other_kind k1 Left Tree e refl (c.were_left e l is))
+    | inr past ↦
+        ap (λ k. same_kind k Tree)
+        (get_or_past k2 e Tree (omega (arith, past, long, c.long)) ∙ sym (get_or_past k1 e Tree (omega (arith, past, long))))
+  ]
+]
+
+coloured_trees : (s : OrientedMesh) (k0 k1 k2 : List Kind) (root genus : ℕ) → k0 ≡ replicate (length s.table) Left
+    → AreSpanned s Vertices Tree k0 k1 → AreSpanned s Faces Cotree k1 k2
+    → HasTrees s (without_ways (record { kinds = k2; root_face = root; genus = genus }))
+coloured_trees s k0 k1 k2 root genus first t c =
+    let maps : Rotations = rotations_of s in
+    let colours : ColouringView = record { kinds = k2; root_face = root; genus = genus } in
+    let long : length k1 ≡ length s.table =
+    t.long ∙ ap (λ (ks : List Kind). length ks) first ∙ length-replicate (length s.table) Left in
+    let tree_set : in_tree (without_ways colours) ≡ has_kind k1 Tree = λ i e.
+    (tree_kind (get_or k2 e Tree) ∙ tree_stays s k1 k2 long c e) i in
+    let cotree_set : in_cotree (without_ways colours) ≡ has_kind k2 Cotree = λ i e. cotree_kind (get_or k2 e Tree) i in
+    record {
+      each_edge = c.long ∙ long;
+      tree = subst (IsSpanningTree maps maps.origin (is_used s.mesh) s.mesh.count (length s.table)) (sym tree_set) t.spans;
+      cotree = subst (IsSpanningTree maps maps.face (λ f. true) (length s.mesh.faces) (length s.table)) (sym cotree_set) c.spans;
+    }
+
+-- what joining vertices and then faces makes
+pub coloured : (s : OrientedMesh) → IsOrientedSurface s → (k0 k1 k2 : List Kind) (start root genus : ℕ)
+    → k0 ≡ replicate (length s.table) Left
+    → AreSpanned s Vertices Tree k0 k1 → AreSpanned s Faces Cotree k1 k2 → start < (rotations_of s).darts
+    → ((d : ℕ) → d < (rotations_of s).darts → has_kind k2 Left ((rotations_of s).edge d) ≡ true
+    → has_kind k2 Left ((rotations_of s).edge start) ≡ true)
+    → root ≡ (rotations_of s).face start → genus ≡ count_below (has_kind k2 Left) (length s.table) / 2
+    → HasColouredTrees s (record { kinds = k2; root_face = root; genus = genus })
+coloured s o k0 k1 k2 start root genus first t c start_in start_left is_root half =
+    let maps : Rotations = rotations_of s in
+    let colours : ColouringView = record { kinds = k2; root_face = root; genus = genus } in
+    let split : SplitView = without_ways colours in
+    let trees : HasTrees s split = coloured_trees s k0 k1 k2 root genus first t c in
+    let pairs = even s split o trees in
+    let same : is_left split ≡ has_kind k2 Left = λ i e. left_kind (get_or k2 e Tree) i in
+    let count : count_below (is_left split) (length s.table) ≡ count_below (has_kind k2 Left) (length s.table) =
+    ap (λ set_of. count_below set_of (length s.table)) same in
+    record {
+      trees = trees;
+      root_below = subst (λ f. f < length s.mesh.faces) (sym is_root) ((names_all s o).face_below start start_in);
+      root_left = λ d l is. (
+        start,
+        start_in,
+        left_kind (get_or k2 (maps.edge start) Tree) ∙ start_left d l (sym (left_kind (get_or k2 (maps.edge d) Tree)) ∙ is),
+        sym is_root,
+      );
+      genus = omega (arith, pairs.1, count, half);
+    }

@@ -1,0 +1,287 @@
+-- Edges are tried in turn: one whose two nodes lie in two classes is put into a set, and the classes become one. Once all are tried, the
+-- set is a spanning tree.
+use Rattle.std.proofs.Common.{◌≡◌, ◌≢◌, ◌⊎◌, inl, inr, ℕ, suc, ◌+◌, ◌<◌, ◌≤◌, Bool, true, false, ◌&&◌, eqb, List, length, get_or, refl, ap, sym, ◌∙◌, subst, arith}
+use Rattle.std.specs.List.{range_with_len}
+use Rattle.std.proofs.lemmas.Bool.{cases_Bool, cases_eq, both_ways, and_parts, and_from, eqb-true, eq-eqb}
+use Rattle.std.proofs.lemmas.List.FromFn.{length-range_with_len, get_or-range_with_len}
+use Rattle.connectivity.specs.Classes.{joined_at, AreLeastMembers}
+use Rattle.connectivity.specs.Partitions.{JoinsOnlyBySteps}
+use Rattle.connectivity.proofs.Joining.{joined_keep, joins_only-alone, joins_only-joined_at, length-joined_at, joined_at_ends, joined_at_keeps}
+use Rattle.connectivity.proofs.Joining.{high_at, low_at, joined_at_high, joined_at_other, either_way, entries_own, least_range, least_joined_at, high_gone, others_own}
+use Rattle.halfedge_map.specs.Numbers.{count_below}
+use Rattle.halfedge_map.specs.RotationSystems.{Rotations, IsRotationSystem}
+use Rattle.tree_cotree.specs.SpanningTrees.{IsStepIn, StepsIn, IsSpanningTree}
+use Rattle.tree_cotree.specs.Joinings.{AreEnds, HangTogether}
+use Rattle.tree_cotree.proofs.AfterLemmas.{twin_edge}
+use Rattle.tree_cotree.proofs.ClassLemmas.{count_same, count_less}
+use Rattle.tree_cotree.proofs.SetLemmas.{with_one, with_itself, with_keeps, with_cases, count_with}
+use Rattle.tree_cotree.proofs.GrowthLemmas.{HasNodes}
+use Rattle.tree_cotree.proofs.GenusLemmas.{widen, count_none}
+
+-- the nodes that are their own entries: one for each class of nodes
+abbrev pub is_root : (ℕ → Bool) → List ℕ → ℕ → Bool
+is_root is_node least v = is_node v && eqb (get_or least v 0) v
+
+-- how far the edges are tried: those below n
+pub record IsJoining (maps : Rotations) (node : ℕ → ℕ) (is_node : ℕ → Bool) (bound edges : ℕ) (allowed : ℕ → Bool) (n : ℕ)
+    (least : List ℕ) (set : ℕ → Bool) : Type 0 where
+  pub long : length least ≡ bound
+  pub members : AreLeastMembers least
+  pub nodes : (v : ℕ) → v < bound → is_node v ≡ true → is_node (get_or least v 0) ≡ true
+  pub sound : JoinsOnlyBySteps (λ v. v < bound) (λ v. v) (StepsIn maps node set) least
+  pub within : (e : ℕ) → e < edges → set e ≡ true → allowed e ≡ true
+  pub tried : (e : ℕ) → e < edges → set e ≡ true → e < n
+  pub ends : (d : ℕ) → d < maps.darts → maps.edge d < n → allowed (maps.edge d) ≡ true
+      → get_or least (node d) 0 ≡ get_or least (node (maps.twin d)) 0
+  pub count : count_below set edges + count_below (is_root is_node least) bound ≡ count_below is_node bound
+
+and_true : (a b : Bool) → b ≡ true → (a && b) ≡ a
+and_true true b h = h
+and_true false b h = refl
+
+and_false : (a b : Bool) → b ≡ false → (a && b) ≡ false
+and_false true b h = h
+and_false false b h = refl
+
+same_test : (a b : Bool) → (a ≡ true → b ≡ true) → (b ≡ true → a ≡ true) → a ≡ b
+same_test true b h k = sym (h refl)
+same_test false true h k = k refl
+same_test false false h k = refl
+
+-- at first each number is a class
+pub joining_none : (maps : Rotations) (node : ℕ → ℕ) (is_node : ℕ → Bool) (bound edges : ℕ) (allowed set : ℕ → Bool)
+    → ((e : ℕ) → e < edges → set e ≡ false)
+    → IsJoining maps node is_node bound edges allowed 0 (range_with_len 0 bound) set
+joining_none maps node is_node bound edges allowed set none = record {
+  long = length-range_with_len 0 bound;
+  members = least_range bound;
+  nodes = λ v l is. ap is_node (read v l) ∙ is;
+  sound = joins_only-alone (λ v. v < bound) (λ v. v) (StepsIn maps node set) bound (λ v l. l) (λ v w l k same. same);
+  within = λ e l is. absurd (both_ways (set e) (none e l) is);
+  tried = λ e l is. absurd (both_ways (set e) (none e l) is);
+  ends = λ d l k. absurd (omega (arith, k));
+  count =
+      let empty : count_below set edges ≡ 0 = count_same set (λ _. false) edges none ∙ count_none edges in
+      let roots : count_below (is_root is_node (range_with_len 0 bound)) bound ≡ count_below is_node bound =
+      count_same (is_root is_node (range_with_len 0 bound)) is_node bound
+      (λ v l. and_true (is_node v) (eqb (get_or (range_with_len 0 bound) v 0) v)
+      (eq-eqb (get_or (range_with_len 0 bound) v 0) v (read v l))) in
+      omega (arith, empty, roots);
+}
+  where
+    read : (v : ℕ) → v < bound → get_or (range_with_len 0 bound) v 0 ≡ v
+    read v l = get_or-range_with_len 0 bound v 0 l ∙ omega arith
+
+-- an edge that is not allowed is passed
+pub joining_skip : (maps : Rotations) (node : ℕ → ℕ) (is_node : ℕ → Bool) (bound edges : ℕ) (allowed : ℕ → Bool) (n : ℕ) (least : List ℕ)
+    (set : ℕ → Bool)
+    → allowed n ≡ false → IsJoining maps node is_node bound edges allowed n least set
+    → IsJoining maps node is_node bound edges allowed (n + 1) least set
+joining_skip maps node is_node bound edges allowed n least set out h = record {
+  long = h.long;
+  members = h.members;
+  nodes = h.nodes;
+  sound = h.sound;
+  within = h.within;
+  tried = λ e l is. omega (arith, h.tried e l is);
+  ends = λ d l k is. elim (cases_eq (maps.edge d) n) [
+    | inl here ↦ absurd (both_ways (allowed n) out (ap allowed (sym here) ∙ is))
+    | inr ne ↦ h.ends d l (omega (arith, k, ne)) is
+  ];
+  count = h.count;
+}
+
+-- the nodes of the darts of an edge
+ends_of : (maps : Rotations) (node : ℕ → ℕ) (n x y : ℕ) → IsRotationSystem maps → AreEnds maps node n x y → (d : ℕ) → d < maps.darts
+    → maps.edge d ≡ n → ((node d ≡ x) × (node (maps.twin d) ≡ y)) ⊎ ((node d ≡ y) × (node (maps.twin d) ≡ x))
+ends_of maps node n x y r a d l on = elim ((r.edges a.dart d a.within l).0 (a.on_edge ∙ sym on)) [
+  | inl is ↦ inl (ap node is ∙ a.starts, ap (λ e. node (maps.twin e)) is ∙ a.ends)
+  | inr is ↦ inr (
+    ap node is ∙ a.ends,
+    ap (λ e. node (maps.twin e)) is ∙ ap node (r.twin_back a.dart a.within) ∙ a.starts,
+  )
+]
+
+same_ends : (maps : Rotations) (node : ℕ → ℕ) (n x y : ℕ) (least : List ℕ) → IsRotationSystem maps → AreEnds maps node n x y
+    → get_or least x 0 ≡ get_or least y 0 → (d : ℕ) → d < maps.darts → maps.edge d ≡ n
+    → get_or least (node d) 0 ≡ get_or least (node (maps.twin d)) 0
+same_ends maps node n x y least r a same d l on = elim (ends_of maps node n x y r a d l on) [
+  | inl p ↦ ap (λ v. get_or least v 0) p.0 ∙ same ∙ sym (ap (λ v. get_or least v 0) p.1)
+  | inr p ↦ ap (λ v. get_or least v 0) p.0 ∙ sym same ∙ sym (ap (λ v. get_or least v 0) p.1)
+]
+
+-- one whose nodes are joined already is left out
+pub joining_same : (maps : Rotations) (node : ℕ → ℕ) (is_node : ℕ → Bool) (bound edges : ℕ) (allowed : ℕ → Bool) (n : ℕ) (least : List ℕ)
+    (set : ℕ → Bool) (x y : ℕ)
+    → IsRotationSystem maps → AreEnds maps node n x y → get_or least x 0 ≡ get_or least y 0
+    → IsJoining maps node is_node bound edges allowed n least set
+    → IsJoining maps node is_node bound edges allowed (n + 1) least set
+joining_same maps node is_node bound edges allowed n least set x y r a same h = record {
+  long = h.long;
+  members = h.members;
+  nodes = h.nodes;
+  sound = h.sound;
+  within = h.within;
+  tried = λ e l is. omega (arith, h.tried e l is);
+  ends = λ d l k is. elim (cases_eq (maps.edge d) n) [
+    | inl here ↦ same_ends maps node n x y least r a same d l here
+    | inr ne ↦ h.ends d l (omega (arith, k, ne)) is
+  ];
+  count = h.count;
+}
+
+pub ends_within : (maps : Rotations) (node : ℕ → ℕ) (is_node : ℕ → Bool) (bound edges n x y : ℕ) → IsRotationSystem maps
+    → HasNodes maps node is_node bound edges → AreEnds maps node n x y
+    → ((x < bound) × (is_node x ≡ true)) × ((y < bound) × (is_node y ≡ true))
+ends_within maps node is_node bound edges n x y r h a =
+    let turned : maps.twin a.dart < maps.darts = r.twin_within a.dart a.within in (
+      (
+        subst (λ v. v < bound) a.starts (h.node_within a.dart a.within),
+        subst (λ v. is_node v ≡ true) a.starts (h.is_of_dart a.dart a.within),
+      ),
+      (
+        subst (λ v. v < bound) a.ends (h.node_within (maps.twin a.dart) turned),
+        subst (λ v. is_node v ≡ true) a.ends (h.is_of_dart (maps.twin a.dart) turned),
+      ),
+    )
+
+-- one whose nodes are apart joins them
+pub joining_apart : (maps : Rotations) (node : ℕ → ℕ) (is_node : ℕ → Bool) (bound edges : ℕ) (allowed : ℕ → Bool) (n : ℕ) (least : List ℕ)
+    (set : ℕ → Bool) (x y : ℕ)
+    → IsRotationSystem maps → HasNodes maps node is_node bound edges → n < edges → allowed n ≡ true → AreEnds maps node n x y
+    → get_or least x 0 ≢ get_or least y 0
+    → IsJoining maps node is_node bound edges allowed n least set
+    → IsJoining maps node is_node bound edges allowed (n + 1) (joined_at least x y) (with_one set n)
+joining_apart maps node is_node bound edges allowed n least set x y r hn n_in passes a apart h = record {
+  long = length-joined_at least x y ∙ h.long;
+  members = least_joined_at least x y h.members x_in y_in;
+  nodes = λ v l is. elim (cases_eq (get_or least v 0) high) [
+    | inl e ↦ ap is_node (joined_at_high least x y v (omega (arith, l, h.long)) e) ∙ both_nodes.1
+    | inr ne ↦ ap is_node (joined_at_other least x y v (omega (arith, l, h.long)) ne) ∙ h.nodes v l is
+  ];
+  sound = joins_only-joined_at (λ v. v < bound) (λ v. v) (StepsIn maps node (with_one set n)) least x y
+      (λ u v l k same. widen maps node set (with_one set n) (λ e is. with_keeps set n e is) u v (h.sound u v l k same))
+      (λ v l. omega (arith, l, h.long)) at.0.0 at.1.0 step back;
+  within = λ e l is. elim (with_cases set n e is) [ inl same ↦ ap allowed same ∙ passes | inr old ↦ h.within e l old ];
+  tried = λ e l is. elim (with_cases set n e is) [ inl same ↦ omega (arith, same) | inr old ↦ omega (arith, h.tried e l old) ];
+  ends = λ d l k is. elim (cases_eq (maps.edge d) n) [
+    | inl here ↦ same_ends maps node n x y (joined_at least x y) r a (joined_at_ends least x y x_in y_in) d l here
+    | inr ne ↦ joined_at_keeps least x y (node d) (node (maps.twin d)) (omega (arith, hn.node_within d l, h.long))
+        (omega (arith, hn.node_within (maps.twin d) (r.twin_within d l), h.long)) (h.ends d l (omega (arith, k, ne)) is)
+  ];
+  count =
+      let one : count_below (with_one set n) edges ≡ suc (count_below set edges) = count_with set edges n n_in fresh in
+      let less : count_below (is_root is_node least) bound ≡ suc (count_below (is_root is_node (joined_at least x y)) bound) =
+      count_less (is_root is_node least) (is_root is_node (joined_at least x y)) bound high high_in
+      (and_from (is_node high) (eqb (get_or least high 0) high) both_nodes.0 (eq-eqb (get_or least high 0) high own.0.1)) gone others in
+      omega (arith, h.count, one, less);
+}
+  where
+    at : ((x < bound) × (is_node x ≡ true)) × ((y < bound) × (is_node y ≡ true))
+    at = ends_within maps node is_node bound edges n x y r hn a
+
+    x_in : x < length least
+    x_in = omega (arith, at.0.0, h.long)
+
+    y_in : y < length least
+    y_in = omega (arith, at.1.0, h.long)
+
+    high : ℕ
+    high = high_at least x y
+
+    both_nodes : (is_node (high_at least x y) ≡ true) × (is_node (low_at least x y) ≡ true)
+    both_nodes = either_way (λ v. is_node v ≡ true) (get_or least x 0) (get_or least y 0) (h.nodes x at.0.0 at.0.1)
+        (h.nodes y at.1.0 at.1.1)
+
+    own : ((high_at least x y < length least) × (get_or least (high_at least x y) 0 ≡ high_at least x y))
+        × ((low_at least x y < length least) × (get_or least (low_at least x y) 0 ≡ low_at least x y))
+    own = entries_own least x y h.members x_in y_in
+
+    high_in : high < bound
+    high_in = omega (arith, own.0.0, h.long)
+
+    fresh : set n ≡ false
+    fresh = elim (cases_Bool (set n)) [ inl is ↦ absurd (omega (arith, h.tried n n_in is)) | inr is ↦ is ]
+
+    step : StepsIn maps node (with_one set n) x y
+    step = (
+      a.dart,
+      record {
+        within = a.within;
+        in_set = ap (with_one set n) a.on_edge ∙ with_itself set n;
+        starts = a.starts;
+        ends = a.ends;
+      },
+    )
+
+    back : StepsIn maps node (with_one set n) y x
+    back = (
+      maps.twin a.dart,
+      record {
+        within = r.twin_within a.dart a.within;
+        in_set = ap (with_one set n) (sym (twin_edge maps r a.dart a.within) ∙ a.on_edge) ∙ with_itself set n;
+        starts = a.ends;
+        ends = ap node (r.twin_back a.dart a.within) ∙ a.starts;
+      },
+    )
+
+    gone : is_root is_node (joined_at least x y) high ≡ false
+    gone = and_false (is_node high) (eqb (get_or (joined_at least x y) high 0) high)
+        (elim (cases_Bool (eqb (get_or (joined_at least x y) high 0) high)) [
+          | inl is ↦ absurd (high_gone least x y h.members x_in y_in apart (eqb-true (get_or (joined_at least x y) high 0) high is))
+          | inr is ↦ is
+        ])
+
+    others : (v : ℕ) → v < bound → v ≢ high → is_root is_node least v ≡ is_root is_node (joined_at least x y) v
+    others v l ne =
+        let either = others_own least x y v h.members x_in y_in (omega (arith, l, h.long)) ne in
+        ap (λ b. is_node v && b) (same_test (eqb (get_or least v 0) v) (eqb (get_or (joined_at least x y) v 0) v)
+        (λ is. eq-eqb (get_or (joined_at least x y) v 0) v (either.0 (eqb-true (get_or least v 0) v is)))
+        (λ is. eq-eqb (get_or least v 0) v (either.1 (eqb-true (get_or (joined_at least x y) v 0) v is))))
+
+-- Once all edges are tried, and the nodes hang together across the allowed ones, all nodes are in one class, and the set spans them.
+pub joined_spans : (maps : Rotations) (node : ℕ → ℕ) (is_node : ℕ → Bool) (bound edges : ℕ) (allowed : ℕ → Bool) (n : ℕ) (least : List ℕ)
+    (set : ℕ → Bool)
+    → HasNodes maps node is_node bound edges → 0 < maps.darts → HangTogether maps node allowed → edges ≤ n
+    → IsJoining maps node is_node bound edges allowed n least set
+    → IsSpanningTree maps node is_node bound edges set
+joined_spans maps node is_node bound edges allowed n least set hn some together all h = record {
+  joins = λ d e l k. h.sound (node d) (node e) (hn.node_within d l) (hn.node_within e k) (one_entry d e l k);
+  count = omega (arith, h.count, roots, count_none bound);
+}
+  where
+    entry : ℕ → ℕ
+    entry v = get_or least v 0
+
+    keeps : (u v : ℕ) → StepsIn maps node allowed u v → entry u ≡ entry v
+    keeps u v step =
+        let is : IsStepIn maps node allowed u v step.0 = step.1 in
+        ap entry (sym is.starts) ∙ h.ends step.0 is.within (omega (arith, hn.edge_within step.0 is.within, all)) is.in_set ∙ ap entry is.ends
+
+    one_entry : (d e : ℕ) → d < maps.darts → e < maps.darts → entry (node d) ≡ entry (node e)
+    one_entry d e l k =
+        let way = together d e l k in
+        joined_keep (StepsIn maps node allowed) entry keeps (node d) way.0 (node e) way.1
+
+    root : ℕ
+    root = entry (node 0)
+
+    start_in : node 0 < length least
+    start_in = omega (arith, hn.node_within 0 some, h.long)
+
+    root_in : root < bound
+    root_in = omega (arith, h.members.lesser (node 0) start_in, hn.node_within 0 some)
+
+    root_is : is_root is_node least root ≡ true
+    root_is = and_from (is_node root) (eqb (entry root) root) (h.nodes (node 0) (hn.node_within 0 some) (hn.is_of_dart 0 some))
+        (eq-eqb (entry root) root (h.members.itself (node 0) start_in))
+
+    only : (v : ℕ) → v < bound → is_root is_node least v ≡ true → v ≡ root
+    only v l is =
+        let parts = and_parts (is_node v) (eqb (entry v) v) is in
+        let dart = hn.has_dart v l parts.0 in
+        sym (eqb-true (entry v) v parts.1) ∙ ap entry (sym dart.2) ∙ one_entry dart.0 0 dart.1 some
+
+    roots : count_below (is_root is_node least) bound ≡ suc (count_below (λ _. false) bound)
+    roots = count_less (is_root is_node least) (λ _. false) bound root root_in root_is refl
+        (λ v l ne. elim (cases_Bool (is_root is_node least v)) [ inl is ↦ absurd (ne (only v l is)) | inr is ↦ is ])
