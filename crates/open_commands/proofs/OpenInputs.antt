@@ -4,12 +4,12 @@ use Rattle.std.specs.Prelude.{Option, Some, None, Result, Ok, Err, IfOk, MatchRe
 use Rattle.std.proofs.lemmas.Bool.Decides.{nat_tests}
 use Rattle.surf_io.specs.Calls.{OnlyReads}
 use Rattle.surf_io.specs.Files.{Files}
+use Rattle.surf_model.specs.Edges.{Edge}
 use Rattle.surf_model.specs.FaceLists.{FaceList, IsFaceList, total_sides}
 use Rattle.surf_model.specs.Surfaces.{IsOrientable}
 use Rattle.surf_model.specs.Walks.{darts}
 use Rattle.free_forms.specs.OpenFaults.{IsFirstFault}
 use Rattle.free_forms.specs.OpenSurfaces.{IsOpenSurface}
-use Rattle.free_forms.specs.Parents.{OpenView}
 use Rattle.free_forms.specs.declared.fault.OpenFault.{OpenFault}
 use Rattle.free_forms.specs.declared.fault.OpenFault.TheVariants.{OutOfMemory}
 use Rattle.free_forms.specs.declared.limits.TheConstants.{MOST_OPEN_SIDES, MOST_OPEN_DARTS}
@@ -70,10 +70,10 @@ pub turned_stop : (mesh : FaceList) (stop : Stop) → Passes (open_surface mesh)
 turned_stop mesh stop p h = stops_next (open_surface mesh) orientable mesh stop p h
 
 -- the surface of a file, by that of its mesh
-pub surface_end : (held : Option Files) (name : List ℕ) (mesh : FaceList) (result : Result OpenView Stop) → Passes (mesh_in held name) mesh
-    → IfOk result (λ surface. surface.mesh ≡ mesh)
+pub surface_end : (held : Option Files) (name : List ℕ) (mesh : FaceList) (result : Result (FaceList × List Edge) Stop) → Passes (mesh_in held name) mesh
+    → IfOk result (λ surface. surface.0 ≡ mesh)
     → MatchResult result (λ _. Passes (as_open_surface mesh) mesh) (Stops (as_open_surface mesh))
-    → MatchResult result (λ surface. Passes (open_surface_in held name) surface.mesh) (Stops (open_surface_in held name))
+    → MatchResult result (λ surface. Passes (open_surface_in held name) surface.0) (Stops (open_surface_in held name))
 surface_end held name mesh (Ok surface) p same h = subst (Passes (open_surface_in held name)) (sym same) (inr (mesh, p, h))
 surface_end held name mesh (Err stop) p same h = stops_next (mesh_in held name) as_open_surface mesh stop p h
 
@@ -193,6 +193,11 @@ pub pair_passes : (held : Option Files) (mesh walks : List ℕ) (surface : FaceL
     → Passes (open_surface_in held mesh) surface → Passes (pair_in held walks surface) pair
     → limit_fault surface (walk_at pair 0) (walk_at pair 1) ≡ None → Passes (open_pair_in held mesh walks) (question surface pair)
 pair_passes held mesh walks surface pair p q e = inr (surface, p, inr (pair, q, rw e refl))
+
+-- the pair that is asked of an open mesh that was made of the surface
+pub built_passes : (check : Check Question) (surface made : FaceList) (walks : List (List ℕ)) → made ≡ surface
+    → Passes check (question surface walks) → Passes check (question made walks)
+built_passes check surface made walks same h = subst (λ (m : FaceList). Passes check (question m walks)) (sym same) h
 
 -- ---- a call that reads, behind one that did
 

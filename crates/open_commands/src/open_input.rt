@@ -10,36 +10,40 @@ ghost use Rattle.open_commands.specs.OpenInput.{as_open_surface, open_surface, o
 
 use crate::refusal::refused_for;
 use commands::{Stop, Text, read_mesh};
-use free_forms::{OpenMesh, check_open};
+use free_forms::check_open;
 use orientation::{OrientFault, orient};
 use std::alloc::Global;
 use surf_io::Shelf;
 use surf_model::{Faces, Sides};
 
-/// The surface with boundary in the file `name`. Where the mesh is no orientable open surface, the first condition of one that fails
-/// stops the command.
+/// The surface with boundary in the file `name`, and the table of its sides. Where the mesh is no orientable open surface, the first
+/// condition of one that fails stops the command.
 pub fn read_open_surface<S: Shelf>(
     alloc: Global,
     shelf: &mut S,
     name: &str,
-) -> Result<OpenMesh, Stop>
-    ensures { Reads S.held S.faults shelf.old shelf.new (λ files. MatchResult result
-        (λ surface. Passes (open_surface_in files name.now) surface.mesh) (Stops (open_surface_in files name.now))) result }
+) -> Result<(Faces, Sides), Stop>
+    ensures reads { Reads S.held S.faults shelf.old shelf.new (λ files. MatchResult result
+        (λ surface. Passes (open_surface_in files name.now) surface.0) (Stops (open_surface_in files name.now))) result }
+    ensures table { IfOk result (λ surface. IsTableOf surface.0 surface.1) }
+    ensures surface { IfOk result (λ surface. IsOpenSurface surface.0) }
 {
     let faces = read_mesh(alloc, shelf, name)?;
     open_surface_of(alloc, faces)
 }
 
-/// The open surface of a mesh.
-fn open_surface_of(alloc: Global, faces: Faces) -> Result<OpenMesh, Stop>
-    ensures mesh { IfOk result (λ surface. surface.mesh ≡ faces) }
+/// A mesh that is an orientable open surface, and the table of its sides.
+fn open_surface_of(alloc: Global, faces: Faces) -> Result<(Faces, Sides), Stop>
+    ensures mesh { IfOk result (λ surface. surface.0 ≡ faces) }
+    ensures table { IfOk result (λ surface. IsTableOf surface.0 surface.1) }
+    ensures surface { IfOk result (λ surface. IsOpenSurface surface.0) }
     ensures end { MatchResult result (λ _. Passes (as_open_surface faces) faces) (Stops (as_open_surface faces)) }
     ensures no_fault { result ≡ Err Stop.ReadFault → ⊥ }
 {
     let sides = Sides::build(alloc, &faces)?;
     check_surface(alloc, &faces, &sides)?;
     check_orientable(alloc, &faces, &sides)?;
-    Ok(OpenMesh::build(alloc, faces, sides)?)
+    Ok((faces, sides))
 }
 
 /// Checks that the mesh with this table is an open surface.

@@ -10,7 +10,7 @@ use commands::{Phrase, Stop, read_pair, refused};
 use free_forms::{MOST_OPEN_DARTS, MOST_OPEN_SIDES, OpenMesh};
 use std::alloc::Global;
 use surf_io::Shelf;
-use surf_model::Walk;
+use surf_model::{Faces, Walk};
 use walk_files::WalkList;
 
 /// An open surface and two walks of it with common ends, within the limits.
@@ -21,7 +21,7 @@ pub(crate) struct OpenPair {
 }
 
 /// The open surface in the file `mesh` and the two walks of it in the file `walks`. The walks are read only where the surface is in order,
-/// and the limits are looked at last.
+/// and the limits are looked at last. Then a parent is found for each face.
 pub(crate) fn read_open_pair<S: Shelf>(
     alloc: Global,
     shelf: &mut S,
@@ -32,18 +32,19 @@ pub(crate) fn read_open_pair<S: Shelf>(
         (λ pair. Passes (open_pair_in files mesh.now walks.now) (asked pair)) (Stops (open_pair_in files mesh.now walks.now))) result }
     ensures pair { IfOk result IsOpenPair }
 {
-    let surface = read_open_surface(alloc, shelf, mesh)?;
-    let walks = read_pair(alloc, shelf, walks, surface.sides())?;
-    check_limits(&surface, walks.at(0), walks.at(1))?;
+    let (faces, sides) = read_open_surface(alloc, shelf, mesh)?;
+    let walks = read_pair(alloc, shelf, walks, &sides)?;
+    check_limits(&faces, walks.at(0), walks.at(1))?;
+    let surface = OpenMesh::build(alloc, faces, sides)?;
     Ok(OpenPair { surface, walks })
 }
 
 /// Checks that the surface and the walks are not too large.
-fn check_limits(surface: &OpenMesh, first: &Walk, second: &Walk) -> Result<(), Stop>
-    ensures { MatchResult result (λ _. limit_fault surface.now.mesh first.now second.now ≡ None)
-        (λ stop. (line : List ℕ) × (limit_fault surface.now.mesh first.now second.now ≡ Some line) × Tells (Exactly line) stop) }
+fn check_limits(faces: &Faces, first: &Walk, second: &Walk) -> Result<(), Stop>
+    ensures { MatchResult result (λ _. limit_fault faces.now first.now second.now ≡ None)
+        (λ stop. (line : List ℕ) × (limit_fault faces.now first.now second.now ≡ Some line) × Tells (Exactly line) stop) }
 {
-    let sides = surface.faces().total();
+    let sides = faces.total();
     if sides > MOST_OPEN_SIDES {
         return Err(refused(&[Phrase::Text("open sides"), Phrase::Number(sides as u64)]));
     }

@@ -1,5 +1,7 @@
 pub mod Rows
 pub mod HeadlineLemmas
+pub mod PremiseLemmas
+mod PremiseInputs
 pub mod Outcomes
 pub mod Printed
 pub mod WordTexts

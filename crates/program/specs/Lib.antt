@@ -1,4 +1,5 @@
 pub mod Headline
+pub mod Premises
 pub mod Commands
 pub mod Outcomes
 pub mod PrintedCertificates

@@ -15,6 +15,7 @@ ghost use Rattle.commands.specs.Inputs.{IsPeakRead};
 ghost use Rattle.commands.specs.Lines.{line};
 ghost use Rattle.commands.specs.Outcomes.{Outcome};
 ghost use Rattle.program.specs.Outcomes.{AllTold, Answers, IsOutcome};
+ghost use Rattle.program.specs.Premises.{HasPremises};
 ghost use Rattle.program.specs.PrintedCertificates.{IsAccepted};
 ghost use Rattle.reduce_commands.specs.Reduce.{IsReduced};
 ghost use Rattle.commands.specs.Surface.{IsMeasured};
@@ -35,6 +36,13 @@ ghost use Rattle.commands.specs.declared.status.Status.{Status};
 pub fn headline()
     ensures { (held : Option Files) (words : List (List ℕ)) (status : Status) (text : List ℕ)
         → Answers held words status text → Headline held words status text }
+{}
+
+/// The premises of the headline are met wherever an answer comes: where `decide` or `certify` does not refuse, and its files are told,
+/// these stand for an orientable closed surface and for walks of it with common ends, for `certify` within its limits.
+pub fn answers_have_their_premises()
+    ensures { (held : Option Files) (words : List (List ℕ)) (status : Status) (text : List ℕ)
+        → Answers held words status text → HasPremises held words status }
 {}
 
 /// What `surface` answers of a mesh.

@@ -15,6 +15,7 @@ pub mod DenialRoundTrip
 pub mod AnswerLines
 pub mod TokenLemmas
 pub mod HeaderLemmas
+pub mod TextLemmas
 mod SameGrammar
 mod StreamLemmas
 mod StreamDenials

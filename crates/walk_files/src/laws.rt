@@ -1,5 +1,5 @@
-//! What holds of all lists of moves and of all denials.
-ghost use Rattle.std.specs.Prelude.{◌≡◌, [], ◌∷◌, ◌++◌, codes, Some, Ok};
+//! What holds of all lists of moves and of all denials, and of the walks of every text.
+ghost use Rattle.std.specs.Prelude.{◌≡◌, ℕ, ◌<◌, List, [], ◌∷◌, ◌++◌, length, codes, Some, Ok, All};
 ghost use Rattle.text_scan.specs.Plain.{line_of};
 ghost use Rattle.surf_model.specs.Moves.{PeakedMoves};
 ghost use Rattle.walk_files.specs.MoveTexts.{list_text, FitsFormat};
@@ -7,6 +7,8 @@ ghost use Rattle.walk_files.specs.Certificates.{list_of_text};
 ghost use Rattle.labellings.specs.declared.denial.Denial.{Denial};
 ghost use Rattle.walk_files.specs.DenialTexts.{denial_text, ReadsBack};
 ghost use Rattle.walk_files.specs.Denials.{denial_of_text};
+ghost use Rattle.walk_files.specs.WalkLists.{WalkText};
+ghost use Rattle.walk_files.specs.WalkTexts.{walk_text_of};
 
 /// What was written reads back as the list that it was.
 pub fn written_lists_read_back()
@@ -28,4 +30,9 @@ pub fn answered_lists_read_back()
 pub fn answered_denials_read_back()
     ensures { (denial : Denial) → ReadsBack denial
         → denial_of_text (line_of (codes "different" ∷ []) ++ denial_text denial) ≡ Some (Ok denial) }
+{}
+
+/// Each walk that a text stands for has a vertex.
+pub fn walks_of_texts_have_vertices()
+    ensures { (bytes : List ℕ) (text : WalkText) → walk_text_of bytes ≡ Ok text → All (λ walk. 0 < length walk) text.walks }
 {}

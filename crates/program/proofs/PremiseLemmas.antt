@@ -1,0 +1,43 @@
+-- Where an answer comes that is no refusal, the files stand for what it asks of them.
+use Rattle.std.proofs.Common.{◌≡◌, ◌⊎◌, inl, inr, ℕ, suc, ◌+◌, ◌<◌, ◌≤◌, List, [], ◌∷◌, ◌++◌, length, drop, Bool, true, false, refl, sym, ap, subst, ◌∙◌, get_or, arith}
+use Rattle.std.specs.Prelude.{Option, Some, None, Result, Ok, Err, IfSome, IsSome, IsSomeAnd, All, if◌then◌else◌, ◌||◌, nat_le, nat_lt, option_map}
+use Rattle.std.specs.List.{enumerate_from, sum_by}
+use Rattle.std.specs.Option.{ok_or}
+use Rattle.std.proofs.lemmas.List.Elements.{All-head, All-tail, All-cons, All-nil, All-push, filter_passes}
+use Rattle.surf_io.specs.Files.{Files, file_of}
+use Rattle.surf_model.specs.FaceLists.{FaceList}
+use Rattle.surf_model.specs.Walks.{darts}
+use Rattle.commands.specs.Answers.{Answer, Texts}
+use Rattle.commands.specs.Checks.{Check, End, Refuse, Pass, Passes, IsTold, Holds, file, meant, pass_unless, ◌>>=◌}
+use Rattle.commands.specs.declared.inputs.TheConstants.{MOST_BYTES}
+use Rattle.commands.specs.declared.refusal.Input.{Input}
+
+-- ---- what passed
+
+-- of a sequence that passes each check passes
+pub both_passed : {A B : Type 0} (first : Check A) (next : A → Check B) (thing : B) → Passes (first >>= next) thing
+    → (a : A) × Passes first a × Passes (next a) thing
+both_passed first next thing (inl p) = let e = p.2 in cc
+both_passed first next thing (inr p) = p
+
+-- what passes is what was meant
+pub meant_passed : {T F : Type 0} (line_of : F → Texts) (read : Result T F) (thing : T) → Passes (meant line_of read) thing
+    → read ≡ Ok thing
+meant_passed line_of (Ok found) thing p = cc
+meant_passed line_of (Err fault) thing p = cc
+
+-- nothing is wrong with what passes
+pub unless_passed : {T F : Type 0} (line_of : F → Texts) (fault : Option F) (thing passed : T)
+    → Passes (pass_unless line_of fault thing) passed → (fault ≡ None) × (passed ≡ thing)
+unless_passed line_of None thing passed p = (refl, cc)
+unless_passed line_of (Some fault) thing passed p = cc
+
+told_bytes : (told : Option (List ℕ)) (limit : ℕ) (P : List ℕ → Type 0) (bytes : List ℕ) → IsSome told → IfSome told (λ f. bytes ≡ f)
+    → length bytes ≤ limit → P bytes → IsSomeAnd told (λ f. (length f ≤ limit) × P f)
+told_bytes (Some f) limit P bytes is same short holds = subst (λ (b : List ℕ). (length b ≤ limit) × P b) same (short, holds)
+told_bytes None limit P bytes is same short holds = absurd (let wrong = is in cc)
+
+-- what holds of the bytes that pass holds of a file that is told
+pub file_holds : (held : Option Files) (name : List ℕ) (input : Input) (P : List ℕ → Type 0) (bytes : List ℕ) → IsTold held name
+    → Passes (file held name input) bytes → P bytes → Holds held name P
+file_holds held name input P bytes told p holds = told_bytes (file_of held name) MOST_BYTES P bytes told p.0 p.1 holds
