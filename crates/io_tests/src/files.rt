@@ -37,6 +37,18 @@ fn each_read_may_fail(rt: HostRuntime) -> Result<(), Fail> {
     Ok(())
 }
 
+#[test]
+fn a_file_of_the_limit_is_read(rt: HostRuntime) -> Result<(), Fail> {
+    let mut shelf = MemoryShelf::new(rt.alloc());
+    shelf.put("ten", b"0123456789")?;
+    shelf.put("eleven", b"0123456789a")?;
+    let read = read_whole(rt.alloc(), &mut shelf, "ten", 10)?;
+    assert!(rt; read.as_slice() == b"0123456789".as_slice());
+    let large = read_whole(rt.alloc(), &mut shelf, "eleven", 10);
+    assert!(rt; large == Err(ReadEnd::TooLarge));
+    Ok(())
+}
+
 /// Tells whether nine bytes that are read of a file are those from the place on.
 fn reads_nine<S: Shelf>(shelf: &mut S, name: &str, letter: u8, place: u64) -> bool {
     let mut piece = [0; 9];
