@@ -3,10 +3,10 @@ ghost use Rattle.std.specs.Prelude.{IfOk, MatchOption};
 ghost use Rattle.walk_translate.specs.SurfaceLabels.{IsSphere, IsSurfaceLabelling, HasSphereSplit, IsLabelledByCut};
 
 use halfedge_map::Surface;
-use polygon_cut::cut;
+use polygon_cut::cut_by_colours;
 use quad_system::{FromPolygon, GoodLabelling};
 use std::alloc::{AllocError, Global};
-use tree_cotree::split_edges;
+use tree_cotree::colour_edges;
 
 /// A labelling of a surface that is good and full and has the signs of the surface, with four spokes for each handle; none
 /// where the surface is a sphere.
@@ -23,12 +23,12 @@ pub fn label_surface(alloc: Global, surface: &Surface) -> Result<Option<GoodLabe
 pub fn label_by_cut(alloc: Global, surface: &Surface) -> Result<Option<GoodLabelling>, AllocError>
     ensures { IfOk result (λ found. MatchOption found (HasSphereSplit surface.now) (IsLabelledByCut surface.now)) }
 {
-    let split = split_edges(alloc, surface)?;
-    if split.genus() == 0 {
+    let colouring = colour_edges(alloc, surface)?;
+    if colouring.genus() == 0 {
         return Ok(None);
     }
-    let polygon = cut(alloc, surface, &split)?;
-    drop(split);
+    let polygon = cut_by_colours(alloc, surface, &colouring)?;
+    drop(colouring);
     let good = GoodLabelling::from_spent_polygon(alloc, surface, polygon)?;
     Ok(Some(good))
 }
