@@ -2,3 +2,4 @@ mod ReadingLemmas
 mod SameLemmas
 mod ShortLemmas
 mod FileLineLemmas
+mod KeptLines

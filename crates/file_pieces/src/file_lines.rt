@@ -1,5 +1,5 @@
 //! Reading a file line by line.
-ghost use Rattle.std.specs.Prelude.{◌≡◌, ◌≢◌, ℕ, ◌+◌, ◌-◌, ◌^◌, ◌<◌, ◌≤◌, true, false, List, [], ◌∷◌, ◌++◌, length, IfOk, IfSome, IfNone, IsTrue, OnOk, OnErr, OnSome, MatchOption, if◌then◌else◌};
+ghost use Rattle.std.specs.Prelude.{◌≡◌, ◌≢◌, ℕ, ◌+◌, ◌-◌, ◌^◌, ◌<◌, ◌≤◌, true, false, List, [], ◌∷◌, ◌++◌, length, take, Some, slice_index, IfOk, IfSome, IfNone, IsTrue, OnOk, OnErr, OnSome, MatchOption, if◌then◌else◌};
 ghost use Rattle.surf_io.specs.Calls.{OnlyReads};
 ghost use Rattle.surf_io.specs.Faults.{Rose};
 ghost use Rattle.surf_io.specs.Files.{file_of};
@@ -7,7 +7,7 @@ ghost use Rattle.text_scan.specs.Lines.{is_filled, unmarked};
 ghost use Rattle.text_scan.specs.Unread.{words_here};
 ghost use Rattle.file_pieces.specs.Reading.{Reading, Reads, left_of, read_so_far};
 ghost use Rattle.file_pieces.specs.ShortLines.{Stands};
-ghost use Rattle.file_pieces.specs.FileLines.{ReadsLine, IsOn, StandsBehind, HasLine, TakesPlace, IsNumbered, Passes};
+ghost use Rattle.file_pieces.specs.FileLines.{IsOneLine, ReadsLine, IsOn, StandsBehind, HasLine, TakesPlace, IsNumbered, Passes};
 
 use crate::fault::{GatherFault, PieceFault};
 use crate::pieces::Pieces;
@@ -115,6 +115,32 @@ impl FileLines {
     {
         line.clear();
         read_line(&mut self.pieces, &mut self.number, line, shelf, name)
+    }
+
+    /// The bytes from the place on that were read already.
+    #[inline(always)]
+    pub fn kept(&self) -> &[u8]
+        ensures { result.now ≡ self.now.reading.kept }
+    {
+        self.pieces.kept()
+    }
+
+    /// Goes past the line at the place, which has words, where it was read up to its line feed already: so many bytes lie before that.
+    #[inline(always)]
+    pub fn pass_line(&mut self, len: usize)
+        requires kept { len < length self.old.reading.kept }
+        requires feed { slice_index self.old.reading.kept len ≡ 10 }
+        requires alone { IsOneLine (take len self.old.reading.kept) }
+        requires filled { is_filled (words_here (take len self.old.reading.kept)) ≡ true }
+        ensures reads { (file : List ℕ) → Reads self.old.reading file → Reads self.new.reading file }
+        ensures line { (file : List ℕ) → Reads self.old.reading file →
+            ReadsLine self.old.number (left_of self.old.reading file) (Some self.old.number) (words_here (take len self.old.reading.kept))
+            self.new.number (left_of self.new.reading file) }
+        ensures limit { self.new.reading.limit ≡ self.old.reading.limit }
+    {
+        let _ = self.pieces.place();
+        self.number += 1;
+        self.pieces.pass(len + 1);
     }
 
     /// Passes over the rest of the file.

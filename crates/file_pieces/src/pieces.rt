@@ -170,10 +170,22 @@ impl Pieces {
     }
 
     /// The bytes that were read and not looked at yet.
-    fn kept(&self) -> &[u8]
+    #[inline(always)]
+    pub fn kept(&self) -> &[u8]
         ensures { result.now ≡ self.now.kept }
     {
         &self.piece[self.at..self.filled]
+    }
+
+    /// Goes past so many of them.
+    #[inline(always)]
+    pub fn pass(&mut self, count: usize)
+        requires { count ≤ length self.old.kept }
+        ensures kept { self.new ≡ record self.old { place = self.old.place + count; kept = drop count self.old.kept } }
+        ensures within { read_so_far self.new ≤ self.new.limit }
+        ensures small { self.new.limit < 2 ^ 32 }
+    {
+        self.at += count;
     }
 
     /// Passes over them.
