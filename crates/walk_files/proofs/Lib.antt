@@ -18,3 +18,4 @@ pub mod HeaderLemmas
 mod SameGrammar
 mod StreamLemmas
 mod StreamDenials
+mod WholeLineLemmas
