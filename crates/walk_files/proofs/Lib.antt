@@ -19,3 +19,4 @@ pub mod TextLemmas
 mod SameGrammar
 mod StreamLemmas
 mod StreamDenials
+mod WholeLineLemmas

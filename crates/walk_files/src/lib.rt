@@ -34,6 +34,7 @@ mod stream_lines;
 mod tokens;
 mod walk_list;
 mod walks;
+mod whole_lines;
 mod words;
 mod write;
 

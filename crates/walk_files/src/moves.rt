@@ -56,7 +56,7 @@ pub(crate) fn read_line(
 }
 
 /// The move that the words of the present line are.
-fn read_move(cursor: &mut Cursor<'_>) -> Option<Move>
+pub(crate) fn read_move(cursor: &mut Cursor<'_>) -> Option<Move>
     ensures mv { result ≡ move_of cursor.old.words }
     ensures place { cursor.new ≡ record cursor.old { words = cursor.new.words } }
     ensures ended { OnSome result (cursor.new.words ≡ []) }
