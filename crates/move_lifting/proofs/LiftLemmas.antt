@@ -1,5 +1,5 @@
 -- The closed walk along the first and back along the second is contracted, and the second is left.
-use Rattle.std.proofs.Common.{◌≡◌, ℕ, ◌<◌, refl, List, [], ◌∷◌, ◌++◌, length, drop, get_or, ap, sym, ◌∙◌, subst}
+use Rattle.std.proofs.Common.{◌≡◌, ℕ, ◌<◌, refl, List, [], ◌∷◌, ◌++◌, length, drop, get_or, ap, sym, ◌∙◌, subst, arith}
 use Rattle.std.specs.Prelude.{All, Some, option_and_then}
 use Rattle.std.proofs.lemmas.Option.{option_and_then_some}
 use Rattle.std.proofs.lemmas.List.{drop_more, length-drop, get_or_append_left}
@@ -70,6 +70,15 @@ closed_is mesh first second names list track walks leads some meets same noted =
       meets = meets;
       walk = closed_walk mesh first track.walk (drop 1 second) track.list walks.along (leads mesh walks.beside) some;
     }))
+
+-- where the closed walk is one vertex, the second walk is all that stands there
+pub second_there : (mesh : FaceList) (first closed second : List ℕ) (list : PeakedMoves) → IsClosed mesh first closed second list
+    → length closed ≡ 1 → 0 < length second → LeadsAtPeak mesh first list second
+second_there mesh first [] second list k one some = absurd (omega (arith, one))
+second_there mesh first (v ∷ []) second list k one some =
+    let whole : v ∷ drop 1 second ≡ second = ap (λ (x : ℕ). x ∷ drop 1 second) k.meets ∙ sym (drop_more second 0 0 some) in
+    subst (LeadsAtPeak mesh first list) whole k.led
+second_there mesh first (v ∷ w ∷ rest) second list k one some = absurd (omega (arith, one))
 
 pub second_left : (s : OrientedMesh) (split : SplitView) → IsOrientedSurface s → IsSplit s split → split.genus ≡ 0
     → (first closed second : List ℕ) (list : PeakedMoves) (track : TrackView)

@@ -32,9 +32,9 @@ use tree_cotree::Split;
 ///
 /// What both walks begin with and end with stays as it is. Of what is between, the second part comes behind the first,
 /// backward and forward, and the spurs of that are taken out. Then the closed walk that goes along the first and back along
-/// the second is contracted to its start, and the second walk behind it is left: it is led off the cotree, and follows
-/// the steps that leave nothing of its spokes. The steps leave something exactly where the walks are not homotopic. On a
-/// sphere there are no spokes, and off the cotree nothing but the tree is left to go along.
+/// the second is contracted to its start, if that is not all of it yet, and the second walk behind it is left: it is led off
+/// the cotree, and follows the steps that leave nothing of its spokes. The steps leave something exactly where the walks are
+/// not homotopic. On a sphere there are no spokes, and off the cotree nothing but the tree is left to go along.
 ///
 /// A walk of 2^31 vertices on the way is answered as want of memory.
 pub fn lift(
@@ -85,6 +85,9 @@ fn lift_between(
     let behind = second.darts();
     let track = close(alloc, first, second)?;
     let (closed, moves) = track.into_parts()?;
+    if closed.len() == 1 {
+        return Ok(Some(moves));
+    }
     if polygon.degree() == 0 {
         let track = lead_in_passes(alloc, on, closed, behind, moves)?;
         return Ok(Some(track.into_moves()));

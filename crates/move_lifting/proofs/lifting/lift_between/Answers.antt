@@ -9,7 +9,8 @@ use Rattle.spoke_paths.specs.Path_steps.{PathLeads}
 use Rattle.move_lifting.specs.Contractions.{IsLedFrom}
 use Rattle.move_lifting.specs.Lifts.{LeadsAtPeak}
 use Rattle.move_lifting.specs.Tracks.{GoesOn}
-use Rattle.move_lifting.proofs.LiftLemmas.{IsClosed, closed_is, IsOffCotree, off_cotree, second_left, second_stays, homotopic_leaves_nothing, steps_to_nothing, begun_freely}
+use Rattle.move_lifting.proofs.ExpandLemmas.{length-numbers}
+use Rattle.move_lifting.proofs.LiftLemmas.{IsClosed, closed_is, IsOffCotree, off_cotree, second_left, second_stays, second_there, homotopic_leaves_nothing, steps_to_nothing, begun_freely}
 use Rattle.move_lifting.proofs.lifting.lift_between.Goals as goal
 
 pub lead_in_passes-requires-clause-led : goal.lead_in_passes-requires-clause-led
@@ -27,6 +28,18 @@ lead_in_passes-requires-clause-led c =
       leads = k.led;
       some = k.some;
     }
+
+pub returns-then-len-eq1 : goal.returns-then-len-eq1
+returns-then-len-eq1 c =
+    let k : IsClosed c.args.on.now.surface.now.mesh c.args.first.now (numbers c.in_ok-closed.closed.items) c.args.second.now
+    c.in_ok-closed.moves =
+    closed_is c.args.on.now.surface.now.mesh c.args.first.now c.args.second.now c.in_ok-closed.closed.items c.in_ok-closed.moves
+    c.in_ok-track.track c.requires.walks c.in_ok-track.ensures.leads c.in_ok-track.ensures.some c.in_ok-track.ensures.last
+    c.in_ok-closed.ensures.vertices c.in_ok-closed.ensures.moves in
+    second_there c.args.on.now.surface.now.mesh c.args.first.now (numbers c.in_ok-closed.closed.items) c.args.second.now
+    c.in_ok-closed.moves k
+    (omega (arith, length-numbers c.in_ok-closed.closed.items, c.len.ensures, c.if-len-eq1.true, c.in_ok-closed.closed.ok.0))
+    c.requires.walks.beside.starts
 
 pub of-requires-clause-walk : goal.of-requires-clause-walk
 of-requires-clause-walk c =
