@@ -43,8 +43,8 @@ pub record IsSpanning (s : OrientedMesh) (nodes : Nodes) (kind : Kind) (old : Li
   pub long : length kinds ≡ length old
   pub others : (e : ℕ) → has_kind kinds kind e ≡ false → get_or kinds e Tree ≡ get_or old e Tree
   pub joining :
-      IsJoining (rotations_of s) (node_of nodes (rotations_of s)) (is_node_of nodes s) (bound_of nodes s) (length s.table) (has_kind old Left)
-      n least (has_kind kinds kind)
+      IsJoining (rotations_of s) (node_of nodes (rotations_of s)) (is_node_of nodes s) (bound_of nodes s) (length s.table)
+      (has_kind old Left) n least (has_kind kinds kind)
 
 pub spanning_none : (s : OrientedMesh) (nodes : Nodes) (kind : Kind) (old : List Kind) (least : List ℕ)
     → least ≡ range_with_len 0 (bound_of nodes s) → ((e : ℕ) → e < length s.table → has_kind old kind e ≡ false)

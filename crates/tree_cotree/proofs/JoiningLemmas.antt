@@ -256,7 +256,8 @@ joined_spans maps node is_node bound edges allowed n least set hn some together 
     keeps : (u v : ℕ) → StepsIn maps node allowed u v → entry u ≡ entry v
     keeps u v step =
         let is : IsStepIn maps node allowed u v step.0 = step.1 in
-        ap entry (sym is.starts) ∙ h.ends step.0 is.within (omega (arith, hn.edge_within step.0 is.within, all)) is.in_set ∙ ap entry is.ends
+        let passed : maps.edge step.0 < n = omega (arith, hn.edge_within step.0 is.within, all) in
+        ap entry (sym is.starts) ∙ h.ends step.0 is.within passed is.in_set ∙ ap entry is.ends
 
     one_entry : (d e : ℕ) → d < maps.darts → e < maps.darts → entry (node d) ≡ entry (node e)
     one_entry d e l k =

@@ -2,7 +2,8 @@ use Rattle.tree_cotree.proofs.EndLemmas.{vertices_at, second_side, faces_at}
 use Rattle.tree_cotree.proofs.colouring.ends.Goals as goal
 
 pub side-requires-in-Faces-clause-side : goal.side-requires-in-Faces-clause-side
-side-requires-in-Faces-clause-side c = rw c.sides-sides.ensures (second_side c.args.surface.now c.requires.valid c.args.edge.0 c.requires.edge)
+side-requires-in-Faces-clause-side c =
+    rw c.sides-sides.ensures (second_side c.args.surface.now c.requires.valid c.args.edge.0 c.requires.edge)
 
 pub returns-in-Vertices : goal.returns-in-Vertices
 returns-in-Vertices c =
