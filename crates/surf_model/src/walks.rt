@@ -1,5 +1,6 @@
 //! Walks along the edges of a mesh.
 ghost use Rattle.std.specs.Prelude.{◌≡◌, ◌+◌, ◌<◌, ◌≤◌, ◌^◌, [], ◌∷◌, ◌++◌, length, slice_index, OnOk, OnErr, IfOk};
+ghost use Rattle.surf_model.specs.Vertices.{numbers};
 ghost use Rattle.surf_model.specs.Walks.{darts};
 
 use crate::names::VertexName;
@@ -33,6 +34,17 @@ impl Walk {
         let mut vertices = Vec::new(alloc);
         vertices.push(start)?;
         Ok(Walk { vertices })
+    }
+
+    /// The walk of these vertices, in memory for them alone.
+    pub fn of(alloc: Global, vertices: &[VertexName]) -> Result<Walk, AllocError>
+        requires some { 0 < length vertices.now }
+        requires few { length vertices.now ≤ 2 ^ 31 }
+        ensures { IfOk result (λ walk. walk ≡ numbers vertices.now) }
+    {
+        Ok(Walk {
+            vertices: Vec::from_slice(alloc, vertices)?,
+        })
     }
 
     /// Goes on to a vertex, which becomes the last one.

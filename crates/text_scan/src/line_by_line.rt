@@ -1,10 +1,10 @@
 //! The lines of a text, and the words of a line, one after the other.
-ghost use Rattle.std.specs.Prelude.{◌≡◌, [], ◌∷◌, drop, option_map, MatchOption};
+ghost use Rattle.std.specs.Prelude.{◌≡◌, [], ◌∷◌, drop, is_some, if◌then◌else◌, option_map, MatchOption};
 ghost use Rattle.text_scan.specs.Lines.{full_lines, line_count};
-ghost use Rattle.text_scan.specs.Unread.{LinesLeft, next_word, words_here};
+ghost use Rattle.text_scan.specs.Unread.{LinesLeft, next_word, next_number, words_here};
 
 use crate::cursor::unmarked;
-use crate::steps::{after_blanks, after_line, first_word, line_count, word_at};
+use crate::steps::{after_blanks, after_line, first_word, line_count, natural_at, word_at};
 use std::marker::Model;
 
 /// The lines of a text that have words, one after the other. It takes no memory.
@@ -126,5 +126,18 @@ impl<'a> Words<'a> {
         let (word, rest) = word_at(after_blanks(self.rest))?;
         self.rest = rest;
         Some(word)
+    }
+
+    /// The number of at most 2^32 - 1 that the next word is, and goes past that word. `None` where it is none, or where there
+    /// is no further word, and then nothing changes.
+    #[inline(always)]
+    pub fn number(&mut self) -> Option<u32>
+        ensures value { result ≡ next_number self.old }
+        ensures place { self.new ≡ (if is_some result then drop 1 self.old else self.old) }
+    {
+        let (value, rest) = natural_at(after_blanks(self.rest))?;
+        let number = u32::try_from(value).ok()?;
+        self.rest = rest;
+        Some(number)
     }
 }

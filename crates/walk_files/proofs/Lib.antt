@@ -14,6 +14,7 @@ pub mod DenialParts
 pub mod DenialRoundTrip
 pub mod AnswerLines
 pub mod TokenLemmas
+pub mod PlainLines
 pub mod HeaderLemmas
 pub mod TextLemmas
 mod SameGrammar
