@@ -83,7 +83,8 @@ pub denial_judged : (mesh : FaceList) (first second text : List ℕ) (reader : C
     → IsVerdict mesh first second denial verdict → JudgesText mesh first second text (Denial verdict)
 denial_judged mesh first second text reader degree denial verdict e head answer is =
     let spelt : head_of_text text ≡ Ok (heads.Labels degree) = head_is text reader (heads.Labels degree) e head in
-    let given : denial_of_lines degree text ≡ Ok denial = denial_given text degree reader denial (denial_of text reader degree e head) answer in
+    let given : denial_of_lines degree text ≡ Ok denial =
+    denial_given text degree reader denial (denial_of text reader degree e head) answer in
     (shown.Denial denial, denial_spelt text degree denial spelt given, is)
 
 -- ---- the walks

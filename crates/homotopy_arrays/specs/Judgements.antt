@@ -72,7 +72,8 @@ IsFaultOfText certificate fault =
 abbrev pub IsFaultOfWalks : FaceList → (first second certificate : List ℕ) → VerifyFault → Type 0
 IsFaultOfWalks mesh first second certificate fault =
     (fault ≡ no_memory)
-    ⊎ (((walks : WalkFault) × (walks_fault mesh first second ≡ Some walks) × (AreWalks mesh first second → ⊥) × (fault ≡ faults.Walks walks))
+    ⊎ (((walks : WalkFault) × (walks_fault mesh first second ≡ Some walks) × (AreWalks mesh first second → ⊥)
+    × (fault ≡ faults.Walks walks))
     ⊎ (AreWalks mesh first second × IsFaultOfText certificate fault))
 
 -- memory is wanting; or the arrays are no mesh; or they are one, and something is wrong with the walks or the certificate

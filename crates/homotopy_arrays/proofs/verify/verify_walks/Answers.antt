@@ -29,7 +29,8 @@ judge-requires-clause-first c =
     let second : List ℕ = c.args.second.now in
     let checked : IsChecked c.args.faces.now first second (Pair c.in-Pair.walks) =
     subst (IsChecked c.args.faces.now first second) c.in-Pair.is (c.in_ok-walks.ensures c.args.faces.now c.requires) in
-    subst (IsWalk c.args.faces.now) (first_of c.in-Pair.walks.walks first second c.at.result.now checked.1 c.at.ensures) checked.0.first_walk
+    subst (IsWalk c.args.faces.now) (first_of c.in-Pair.walks.walks first second c.at.result.now checked.1 c.at.ensures)
+    checked.0.first_walk
 
 pub judge-requires-clause-second : goal.judge-requires-clause-second
 judge-requires-clause-second c =
