@@ -28,6 +28,7 @@ enum homotopy_code {
     HOMOTOPY_DONE = 0,              /* the question is answered */
     HOMOTOPY_HOMOTOPIC = 1,         /* the walks are homotopic */
     HOMOTOPY_DIFFERENT = 2,         /* they are two walks of the surface with common ends, and are not homotopic */
+    HOMOTOPY_ACCEPTED = 3,          /* the certificate is accepted */
     HOMOTOPY_SHORT_ROOM = 4,        /* the caller's array is too short [the length that is wanted] */
     HOMOTOPY_NO_MEMORY = 5,         /* memory was wanting; this says nothing of the mesh or of the walks */
 
@@ -49,7 +50,31 @@ enum homotopy_code {
     HOMOTOPY_NO_VERTEX = 33,        /* an entry is no vertex that a face names [walk, place] */
     HOMOTOPY_NO_EDGE = 34,          /* an entry and the next one form no edge [walk, place] */
     HOMOTOPY_STARTS_DIFFER = 35,    /* the walks start at different vertices */
-    HOMOTOPY_ENDS_DIFFER = 36       /* the walks end at different vertices */
+    HOMOTOPY_ENDS_DIFFER = 36,      /* the walks end at different vertices */
+
+    /* the text is no certificate; lines are counted from 1, blank ones too */
+    HOMOTOPY_LONG_CERTIFICATE = 40, /* it has more than 268,435,456 bytes */
+    HOMOTOPY_NO_HEAD = 41,          /* it has no line with words */
+    HOMOTOPY_BAD_LINE = 42,         /* a line is not of the form that its place asks for [line] */
+    HOMOTOPY_ENDED_EARLY = 43,      /* it ends, and lines are missing [the line behind its last] */
+    HOMOTOPY_EXTRA_LINE = 44,       /* a line stands behind the last one [line] */
+    HOMOTOPY_LARGE_PEAK = 45,       /* the peak in its head is more than 16,000,000 [line] */
+
+    /* the certificate is rejected: of a list of moves, which are counted from 1 */
+    HOMOTOPY_REJECTED_PEAK = 50,       /* the first walk has more darts than the peak */
+    HOMOTOPY_REJECTED_MOVE_PLACE = 51, /* the walk does not reach so far [move] */
+    HOMOTOPY_REJECTED_MOVE_EDGE = 52,  /* the two vertices of an insertion form no edge [move] */
+    HOMOTOPY_REJECTED_MOVE_SPUR = 53,  /* the entries of a removal are no spur [move] */
+    HOMOTOPY_REJECTED_MOVE_FACE = 54,  /* the entries do not read the face [move] */
+    HOMOTOPY_REJECTED_MOVE_PEAK = 55,  /* the walk that the move gives has more darts than the peak [move] */
+    HOMOTOPY_REJECTED_END = 56,        /* the moves lead to another walk than the second */
+    /* and of a denial */
+    HOMOTOPY_REJECTED_SHAPE = 57,      /* faces, labels or places are too few or too many, or too large */
+    HOMOTOPY_REJECTED_DEGREE = 58,     /* a labelling of this degree is not good [degree] */
+    HOMOTOPY_REJECTED_PLACE = 59,      /* two spokes have this place [place] */
+    HOMOTOPY_REJECTED_EDGE = 60,       /* the labels at an edge meet no rule [lower vertex, higher vertex] */
+    HOMOTOPY_REJECTED_WORD = 61,       /* the word of a walk is another one [walk] */
+    HOMOTOPY_REJECTED_EQUAL = 62       /* both words are right, and are equal */
 };
 
 /* A code of the list above, and the numbers that belong to it; 0 where there are fewer. */
@@ -82,6 +107,14 @@ void homotopy_decide(
     uint32_t vertices, const uint32_t *sizes, size_t face_count, const uint32_t *corners, size_t corner_count,
     const uint32_t *walk_sizes, size_t walk_count, const uint32_t *walk_vertices, size_t walk_vertex_count,
     uint8_t *answers, size_t answer_room, homotopy_outcome *outcome);
+
+/* What comes of a certificate between two walks on a mesh, which need be no surface. `certificate` is a text as `certify` prints it: a list
+ * of moves that leads from the first walk to the second, or a denial, by which none does. Code ACCEPTED where it does; REJECTED_.. for the
+ * first reason against it; or what is first wrong with the mesh, the walks, or the text, in this order. */
+void homotopy_verify(
+    uint32_t vertices, const uint32_t *sizes, size_t face_count, const uint32_t *corners, size_t corner_count,
+    const uint32_t *first, size_t first_count, const uint32_t *second, size_t second_count,
+    const uint8_t *certificate, size_t certificate_bytes, homotopy_outcome *outcome);
 
 #ifdef __cplusplus
 }

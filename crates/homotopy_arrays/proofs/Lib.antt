@@ -3,3 +3,5 @@ pub mod ArraysOfMeshes
 pub mod PairLemmas
 pub mod PartLemmas
 pub mod EndLemmas
+pub mod CertificateLemmas
+pub mod JudgementLemmas

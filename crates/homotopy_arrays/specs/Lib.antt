@@ -4,3 +4,4 @@ pub mod Pairs
 pub mod CheckedPairs
 pub mod AskedPairs
 pub mod Decisions
+pub mod Judgements

@@ -8,9 +8,11 @@ pub mod laws;
 mod mesh;
 mod pair;
 mod surface;
+mod verify;
 
 pub use decide::{PairAnswer, decide_arrays};
 pub use fault::Fault;
 pub use mesh::mesh_of_arrays;
 pub use pair::{MOST_WALK, WalkFault};
 pub use surface::{Measured, measure_arrays};
+pub use verify::{Judgement, VerifyFault, verify_arrays};

@@ -46,6 +46,16 @@ walk_code (Pair (NoEdge walk place)) = codes.NO_EDGE
 walk_code (Pair (EndsDiffer true)) = codes.STARTS_DIFFER
 walk_code (Pair (EndsDiffer false)) = codes.ENDS_DIFFER
 
+-- the same with its numbers; walks are counted from 1, and places from 0
+abbrev pub told_walks : WalkFault → Outcome
+told_walks (Empty walk) = coded codes.EMPTY_WALK walk 0 0
+told_walks (Long walk) = coded codes.LONG_WALK walk 0 0
+told_walks (Pair (NotTwo count)) = coded codes.WALK_COUNT 0 0 0
+told_walks (Pair (NoVertex walk place)) = coded codes.NO_VERTEX walk place 0
+told_walks (Pair (NoEdge walk place)) = coded codes.NO_EDGE walk place 0
+told_walks (Pair (EndsDiffer true)) = coded codes.STARTS_DIFFER 0 0 0
+told_walks (Pair (EndsDiffer false)) = coded codes.ENDS_DIFFER 0 0 0
+
 -- the answer on a pair
 abbrev pub byte_of : PairAnswer → ℕ
 byte_of Homotopic = codes.HOMOTOPIC

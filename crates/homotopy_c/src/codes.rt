@@ -9,6 +9,9 @@ pub const HOMOTOPIC: u8 = 1;
 /// The walks are two walks of the surface with common ends, and are not homotopic.
 pub const DIFFERENT: u8 = 2;
 
+/// The certificate is accepted.
+pub const ACCEPTED: u8 = 3;
+
 /// The caller's array has too little room; the number is the length that is wanted.
 pub const SHORT_ROOM: u8 = 4;
 
@@ -65,3 +68,60 @@ pub const STARTS_DIFFER: u8 = 35;
 
 /// The walks end at different vertices.
 pub const ENDS_DIFFER: u8 = 36;
+
+/// The certificate has more bytes than are read.
+pub const LONG_CERTIFICATE: u8 = 40;
+
+/// The certificate has no line with words.
+pub const NO_HEAD: u8 = 41;
+
+/// The line of the certificate is not of the form that its place asks for.
+pub const BAD_LINE: u8 = 42;
+
+/// The certificate ends before all lines came; the line is the one behind its last.
+pub const ENDED_EARLY: u8 = 43;
+
+/// The line of the certificate stands behind the last one.
+pub const EXTRA_LINE: u8 = 44;
+
+/// The peak in the head of the certificate, on that line, is too large.
+pub const LARGE_PEAK: u8 = 45;
+
+/// Rejected: the first walk has more darts than the peak.
+pub const REJECTED_PEAK: u8 = 50;
+
+/// Rejected: the walk does not reach so far as the move says.
+pub const REJECTED_MOVE_PLACE: u8 = 51;
+
+/// Rejected: the two vertices of the move form no edge.
+pub const REJECTED_MOVE_EDGE: u8 = 52;
+
+/// Rejected: the entries that the move names are no spur.
+pub const REJECTED_MOVE_SPUR: u8 = 53;
+
+/// Rejected: the entries that the move names do not read the face.
+pub const REJECTED_MOVE_FACE: u8 = 54;
+
+/// Rejected: the walk that the move gives has more darts than the peak.
+pub const REJECTED_MOVE_PEAK: u8 = 55;
+
+/// Rejected: the moves lead to another walk than the second.
+pub const REJECTED_END: u8 = 56;
+
+/// Rejected: the labels are too few or too many, or too large.
+pub const REJECTED_SHAPE: u8 = 57;
+
+/// Rejected: a labelling of this degree is not good.
+pub const REJECTED_DEGREE: u8 = 58;
+
+/// Rejected: two spokes have this place.
+pub const REJECTED_PLACE: u8 = 59;
+
+/// Rejected: the labels at the edge from the lower to the higher vertex meet no rule.
+pub const REJECTED_EDGE: u8 = 60;
+
+/// Rejected: the word of this walk is another one.
+pub const REJECTED_WORD: u8 = 61;
+
+/// Rejected: both words are right, and are equal.
+pub const REJECTED_EQUAL: u8 = 62;

@@ -10,3 +10,4 @@ mod decide;
 pub mod outcome;
 mod room;
 pub mod surface;
+mod verify;

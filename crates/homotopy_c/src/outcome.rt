@@ -1,6 +1,6 @@
 //! How a call ended, as C sees it.
 ghost use Rattle.std.specs.Prelude.{◌≡◌};
-ghost use Rattle.homotopy_c.specs.Outcomes.{byte_of, coded, told, walk_code};
+ghost use Rattle.homotopy_c.specs.Outcomes.{byte_of, coded, told, told_walks, walk_code};
 
 use crate::codes;
 use homotopy_arrays::{Fault, PairAnswer, WalkFault};
@@ -62,6 +62,25 @@ pub(crate) fn walk_code(fault: WalkFault) -> u8
         WalkFault::Pair(PairFault::NoEdge { .. }) => codes::NO_EDGE,
         WalkFault::Pair(PairFault::EndsDiffer { at_start: true }) => codes::STARTS_DIFFER,
         WalkFault::Pair(PairFault::EndsDiffer { at_start: false }) => codes::ENDS_DIFFER,
+    }
+}
+
+/// The outcome that what is wrong with two walks is.
+pub(crate) fn told_walks(fault: WalkFault) -> Outcome
+    ensures { result ≡ told_walks fault }
+{
+    let code = walk_code(fault);
+    match fault {
+        WalkFault::Empty { walk } => coded(code, u64::from(walk), 0, 0),
+        WalkFault::Long { walk } => coded(code, u64::from(walk), 0, 0),
+        WalkFault::Pair(PairFault::NoVertex { walk, place }) => {
+            coded(code, u64::from(walk), u64::from(place), 0)
+        }
+        WalkFault::Pair(PairFault::NoEdge { walk, place }) => {
+            coded(code, u64::from(walk), u64::from(place), 0)
+        }
+        WalkFault::Pair(PairFault::NotTwo { .. }) => coded(code, 0, 0, 0),
+        WalkFault::Pair(PairFault::EndsDiffer { .. }) => coded(code, 0, 0, 0),
     }
 }
 

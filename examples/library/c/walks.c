@@ -28,6 +28,13 @@ int main(void) {
     if (outcome.code != HOMOTOPY_DONE) return 1;
     for (int pair = 0; pair < 3; pair++) puts(answers[pair] == HOMOTOPY_HOMOTOPIC ? "homotopic" : "different");
 
+    /* A list of two moves leads from 0 1 3 to 0 2 3, each across a face; and no list does that ends early. */
+    static const char moves[] = "MOVES 2 2\nf 0 0 0 + 2\nf 0 1 0 + 1\n", fewer[] = "MOVES 1 2\nf 0 0 0 + 2\n";
+    homotopy_verify(7, sizes, 14, corners, 42, walk_vertices, 3, walk_vertices + 3, 3, (const uint8_t *)moves, sizeof moves - 1, &outcome);
+    puts(outcome.code == HOMOTOPY_ACCEPTED ? "accepted" : "rejected");
+    homotopy_verify(7, sizes, 14, corners, 42, walk_vertices, 3, walk_vertices + 3, 3, (const uint8_t *)fewer, sizeof fewer - 1, &outcome);
+    puts(outcome.code == HOMOTOPY_REJECTED_END ? "rejected: end" : "accepted");
+
     /* One corner is no vertex: it is told, and nothing is read there. */
     const uint32_t wrong[3] = {0, 1, 7};
     homotopy_surface(7, sizes, 1, wrong, 3, &numbers, &genus, 1, &outcome);

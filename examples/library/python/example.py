@@ -17,6 +17,10 @@ pairs = [(row + column[1:], column + row[1:]), (row, column), (row, [0]), ([0, 1
 for code in homotopy.decide(GRID * GRID, faces, pairs):
     print({homotopy.HOMOTOPIC: "homotopic", homotopy.DIFFERENT: "different"}.get(code, "code %d" % code))
 
+# One face crossed, and the same face the other way.
+print(homotopy.verify(GRID * GRID, faces, [0, 1, GRID + 1], [0, GRID, GRID + 1], b"MOVES 1 2\nf 0 0 0 + 2\n"))
+print(homotopy.verify(GRID * GRID, faces, [0, 1, GRID + 1], [0, GRID, GRID + 1], b"MOVES 1 2\nf 0 0 0 - 2\n"))
+
 try:
     homotopy.surface(4, [(0, 1, 2), (0, 3, 1), (0, 2, 3)])
 except homotopy.Refused as refused:

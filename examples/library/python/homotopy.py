@@ -12,12 +12,21 @@ try:
 except ImportError:
     numpy = None
 
-HOMOTOPIC, DIFFERENT = 1, 2
+HOMOTOPIC, DIFFERENT, ACCEPTED = 1, 2, 3
 MESSAGES = {
     4: "too little room", 5: "out of memory", 10: "too many vertices", 11: "the sizes are not the number of corners",
     12: "too many corners", 13: "face {0} has fewer than three corners", 14: "face {0} has a corner that is no vertex",
     15: "face {0} has two neighbours that are one", 20: "no face", 21: "the edge {0} {1} is in {2} sides", 22: "vertex {0} is pinched",
     23: "not orientable", 30: "the walks are not pairs",
+    31: "walk {0} has no vertex", 32: "walk {0} is too long", 33: "walk {0} has no vertex of the mesh at place {1}",
+    34: "walk {0} has no edge behind place {1}", 35: "the walks start at different vertices", 36: "the walks end at different vertices",
+    40: "the certificate is too long", 41: "the certificate is empty", 42: "line {0} of the certificate is bad",
+    43: "the certificate ends at line {0}", 44: "line {0} of the certificate is one too many", 45: "the peak on line {0} is too large",
+}
+# Why a certificate is rejected.
+REASONS = {
+    50: "peak", 51: "move {0} place", 52: "move {0} edge", 53: "move {0} spur", 54: "move {0} face", 55: "move {0} peak", 56: "end",
+    57: "shape", 58: "degree {0}", 59: "place {0}", 60: "edge {0} {1}", 61: "word {0}", 62: "equal",
 }
 
 _library = ctypes.CDLL(os.environ["LIBHOMOTOPY"])
@@ -37,6 +46,8 @@ _library.homotopy_surface.argtypes = [ctypes.c_uint32] + 2 * _ARRAY + [ctypes.PO
 _library.homotopy_surface.restype = None
 _library.homotopy_decide.argtypes = [ctypes.c_uint32] + 5 * _ARRAY + [ctypes.POINTER(_Outcome)]
 _library.homotopy_decide.restype = None
+_library.homotopy_verify.argtypes = [ctypes.c_uint32] + 5 * _ARRAY + [ctypes.POINTER(_Outcome)]
+_library.homotopy_verify.restype = None
 
 Surface = collections.namedtuple("Surface", "vertices edges faces euler genera")
 
@@ -106,3 +117,16 @@ def decide(vertices, faces, pairs):
                              outcome)
     _check(outcome)
     return answers[:len(walks) // 2]
+
+
+def verify(vertices, faces, first, second, certificate):
+    """None where the certificate, a text of bytes, is accepted; else the first reason against it."""
+    count, sizes, corners = _mesh(vertices, faces)
+    one, other, outcome = _lent(first), _lent(second), _Outcome()
+    text = (ctypes.c_uint8 * max(len(certificate), 1))(*certificate)
+    _library.homotopy_verify(count, *sizes[1:], *corners[1:], *one[1:], *other[1:], ctypes.addressof(text), len(certificate), outcome)
+    if outcome.code == ACCEPTED:
+        return None
+    if outcome.code in REASONS:
+        return REASONS[outcome.code].format(*outcome.numbers)
+    _check(outcome)

@@ -1,0 +1,156 @@
+-- Certificates in bytes, read move by move or whole.
+use Rattle.std.proofs.Common.{◌≡◌, ◌⊎◌, inl, inr, ℕ, ◌<◌, ◌≤◌, Bool, true, false, List, [], ◌∷◌, ◌++◌, refl, ap, sym, ◌∙◌, subst, arith}
+use Rattle.std.specs.Prelude.{◌==◌, nat_lt, if◌then◌else◌, Option, Some, None, Result, Ok, Err, option_map, is_some}
+use Rattle.std.specs.Option.{ok_or}
+use Rattle.std.proofs.lemmas.Bool.Decides.{nat_tests}
+use Rattle.std.proofs.lemmas.List.{append-nil}
+use Rattle.text_scan.specs.Lines.{Line, full_lines, end_line}
+use Rattle.surf_model.specs.declared.moves.Move.{Move}
+use Rattle.labellings.specs.declared.denial.Denial.{Denial}
+use Rattle.walk_files.specs.Certificates.{answer_of, first_head, fits, fitting_head, head_among, head_in, head_of, head_of_text, move_of, moves_of_text, within_peak}
+use Rattle.walk_files.specs.Denials.{denial_of_lines}
+use Rattle.walk_files.specs.Readers.{Certificate, after_answer, answer_first, denial_left, lines_to_come, moves_left, moves_to_come, next_answer, next_of, started, unless_refused}
+use Rattle.walk_files.specs.declared.certificate.CertHead.{CertHead}
+use Rattle.walk_files.specs.declared.certificate.CertHead.TheVariants.{Moves, Labels}
+use Rattle.walk_files.specs.declared.fault.CertFault.{CertFault}
+use Rattle.walk_files.specs.declared.fault.CertFault.TheVariants.{Bad, Ended, Extra, Peak, OutOfMemory}
+use Rattle.walk_files.specs.declared.limits.TheConstants.{MOST_PEAK}
+use Rattle.walk_files.proofs.EachLemmas.{before_ok, before_ok-more}
+use Rattle.walk_files.proofs.ReaderLemmas.{moves_left-started}
+use Rattle.commands.specs.Inputs.{certificate_of}
+use Rattle.commands.specs.declared.certificate.Certificate.TheVariants as certificates
+
+-- ---- moves one after another
+
+some_left : (end left : ℕ) (lines : List Line) (move : Move) → next_of end left lines ≡ Ok (Some move) → 0 < left
+some_left end left [] move e = absurd (by_test (left == 0) e)
+  where
+    by_test : (b : Bool) → (if b then Ok None else Err (Ended end)) ≡ Ok (Some move) → ⊥
+    by_test true e = cc
+    by_test false e = cc
+some_left end left (line ∷ lines) move e = by_test (left == 0) refl e
+  where
+    by_test : (b : Bool) → (left == 0) ≡ b
+        → (if b then Err (Extra line.number) else ok_or (option_map Some (move_of line.words)) (Bad line.number)) ≡ Ok (Some move)
+        → 0 < left
+    by_test true t e = cc
+    by_test false t e = grind (arith, nat_tests)
+
+some_to_come : (reader : Certificate) (refusal : Option CertFault) (move : Move)
+    → unless_refused refusal (next_of (end_line reader.text) (moves_to_come reader) (lines_to_come reader)) ≡ Ok (Some move)
+    → 0 < moves_to_come reader
+some_to_come reader (Some fault) move e = cc
+some_to_come reader None move e = some_left (end_line reader.text) (moves_to_come reader) (lines_to_come reader) move e
+
+-- behind a move fewer are to come
+pub fewer_to_come : (reader : Certificate) (move : Move) → next_answer reader ≡ Ok (Some move)
+    → moves_to_come (after_answer reader (Ok (Some move))) < moves_to_come reader
+fewer_to_come reader move e = omega (arith, some_to_come reader reader.refusal move e)
+
+-- the moves that were gathered are the first of those to come
+pub one_more : (all rest more : Result (List Move) CertFault) (moves : List Move) (move : Move) → all ≡ before_ok moves rest
+    → rest ≡ answer_first (Ok (Some move)) more → all ≡ before_ok (moves ++ move ∷ []) more
+one_more all rest more moves move e f = e ∙ ap (before_ok moves) f ∙ before_ok-more moves move more
+
+pub none_more : (all rest : Result (List Move) CertFault) (moves : List Move) → all ≡ before_ok moves rest → rest ≡ Ok [] → all ≡ Ok moves
+none_more all rest moves e f = e ∙ ap (before_ok moves) f
+    ∙ ap (λ (xs : List Move). let r : Result (List Move) CertFault = Ok xs in r) (append-nil moves)
+
+pub wrong_line : (all rest : Result (List Move) CertFault) (moves : List Move) (fault : CertFault) → all ≡ before_ok moves rest
+    → rest ≡ Err fault → all ≡ Err fault
+wrong_line all rest moves fault e f = e ∙ ap (before_ok moves) f
+
+-- ---- the text
+
+pub started_ok : (text : List ℕ) (head : Result CertHead CertFault) (reader : Certificate) → Ok reader ≡ started text head
+    → (head ≡ Ok reader.head) × (reader.text ≡ text) × (reader.given ≡ 0) × (reader.refusal ≡ None)
+started_ok text (Err fault) reader e = cc
+started_ok text (Ok head) reader e = (cc, cc, cc, cc)
+
+pub bad_head : (text : List ℕ) (head : Result CertHead CertFault) (fault : CertFault) → head_of_text text ≡ head
+    → Err fault ≡ started text head → certificate_of text ≡ Err fault
+bad_head text (Err other) fault is e = let same : other ≡ fault = cc in rw is (ap Err same)
+bad_head text (Ok head) fault is e = cc
+
+pub list_spelt : (text : List ℕ) (count peak : ℕ) (moves : List Move) → head_of_text text ≡ Ok (Moves count peak)
+    → moves_of_text count text ≡ Ok moves → certificate_of text ≡ Ok (certificates.Moves (record { moves = moves; peak = peak }))
+list_spelt text count peak moves e f = rw (e, f) refl
+
+pub list_faulty : (text : List ℕ) (count peak : ℕ) (fault : CertFault) → head_of_text text ≡ Ok (Moves count peak)
+    → moves_of_text count text ≡ Err fault → certificate_of text ≡ Err fault
+list_faulty text count peak fault e f = rw (e, f) refl
+
+pub denial_spelt : (text : List ℕ) (degree : ℕ) (denial : Denial) → head_of_text text ≡ Ok (Labels degree)
+    → denial_of_lines degree text ≡ Ok denial → certificate_of text ≡ Ok (certificates.Denial denial)
+denial_spelt text degree denial e f = rw (e, f) refl
+
+pub denial_faulty : (text : List ℕ) (degree : ℕ) (fault : CertFault) → head_of_text text ≡ Ok (Labels degree)
+    → denial_of_lines degree text ≡ Err fault → certificate_of text ≡ Err fault
+denial_faulty text degree fault e f = rw (e, f) refl
+
+-- a reader that has just started has all moves of the text to come, or the whole denial to give
+pub left_start : (reader : Certificate) (text : List ℕ) (count peak : ℕ) → reader.text ≡ text → reader.head ≡ Moves count peak
+    → reader.given ≡ 0 → reader.refusal ≡ None → moves_left reader ≡ moves_of_text count text
+left_start reader text count peak is_text is_head is_given kept = rw (is_text, is_head, is_given, kept) (moves_left-started text count peak)
+
+pub denial_start : (reader : Certificate) (text : List ℕ) (degree : ℕ) → reader.text ≡ text → reader.head ≡ Labels degree → reader.given ≡ 0
+    → reader.refusal ≡ None → denial_left reader ≡ denial_of_lines degree text
+denial_start reader text degree is_text is_head is_given kept = rw (is_text, is_head, is_given, kept) refl
+
+-- what a reader of a denial gives is that of the text, unless memory is wanting
+pub denial_or_memory : (text : List ℕ) (degree : ℕ) (reader : Certificate) (fault : CertFault)
+    → denial_left reader ≡ denial_of_lines degree text
+    → (Err fault ≡ denial_left reader) ⊎ ((reader.refusal ≡ None)
+    × (let wanting : Result Denial CertFault = Err OutOfMemory in Err fault ≡ wanting))
+    → (Err fault ≡ denial_of_lines degree text) ⊎ (fault ≡ OutOfMemory)
+denial_or_memory text degree reader fault start (inl given) = inl (given ∙ start)
+denial_or_memory text degree reader fault start (inr wanting) = let e = wanting.1 in inr cc
+
+pub denial_given : (text : List ℕ) (degree : ℕ) (reader : Certificate) (denial : Denial) → denial_left reader ≡ denial_of_lines degree text
+    → (Ok denial ≡ denial_left reader) ⊎ ((reader.refusal ≡ None) × (Ok denial ≡ Err OutOfMemory))
+    → denial_of_lines degree text ≡ Ok denial
+denial_given text degree reader denial start (inl given) = sym (given ∙ start)
+denial_given text degree reader denial start (inr wanting) = let e = wanting.1 in cc
+
+-- ---- the peak of a head is within the limit
+
+within : (line : ℕ) (head : CertHead) (count peak : ℕ) → within_peak line head ≡ Ok (Moves count peak) → peak ≤ MOST_PEAK
+within line (Labels degree) count peak e = cc
+within line (Moves n p) count peak e = by_test (nat_lt MOST_PEAK p) refl e
+  where
+    by_test : (b : Bool) → nat_lt MOST_PEAK p ≡ b → (if b then Err (Peak line) else Ok (Moves n p)) ≡ Ok (Moves count peak)
+        → peak ≤ MOST_PEAK
+    by_test true t e = cc
+    by_test false t e = let same : p ≡ peak = cc in subst (λ (q : ℕ). q ≤ MOST_PEAK) same (grind (arith, nat_tests))
+
+fitting : (b : Bool) (line : ℕ) (head : CertHead) (count peak : ℕ)
+    → (if b then within_peak line head else Err (Bad line)) ≡ Ok (Moves count peak) → peak ≤ MOST_PEAK
+fitting true line head count peak e = within line head count peak e
+fitting false line head count peak e = cc
+
+-- a head that stands alone, or behind an answer that the words before it are
+alone : (line : ℕ) (head : Option CertHead) (count peak : ℕ) → fitting_head None line head ≡ Ok (Moves count peak) → peak ≤ MOST_PEAK
+alone line None count peak e = cc
+alone line (Some head) count peak e = fitting (fits None head) line head count peak e
+
+behind : (words : List (List ℕ)) (line : ℕ) (head : Option CertHead) (count peak : ℕ)
+    → fitting_head (answer_of words) line head ≡ Ok (Moves count peak) → peak ≤ MOST_PEAK
+behind words line None count peak e = cc
+behind words line (Some head) count peak e = fitting (fits (answer_of words) head) line head count peak e
+
+first : (words : List (List ℕ)) (end : ℕ) (lines : List Line) (count peak : ℕ)
+    → first_head (answer_of words) end lines ≡ Ok (Moves count peak) → peak ≤ MOST_PEAK
+first words end [] count peak e = cc
+first words end (line ∷ lines) count peak e = behind words line.number (head_of line.words) count peak e
+
+among : (end : ℕ) (lines : List Line) (count peak : ℕ) → head_among end lines ≡ Ok (Moves count peak) → peak ≤ MOST_PEAK
+among end [] count peak e = cc
+among end (line ∷ lines) count peak e = by_test (is_some (answer_of line.words)) e
+  where
+    by_test : (b : Bool) → (if b then first_head (answer_of line.words) end lines else head_in None line) ≡ Ok (Moves count peak)
+        → peak ≤ MOST_PEAK
+    by_test true e = first line.words end lines count peak e
+    by_test false e = alone line.number (head_of line.words) count peak e
+
+pub head_within : (text : List ℕ) (count peak : ℕ) → head_of_text text ≡ Ok (Moves count peak) → peak ≤ MOST_PEAK
+head_within text count peak e = among (end_line text) (full_lines text) count peak e

@@ -1,0 +1,129 @@
+-- What comes of certificates, from their parts.
+use Rattle.std.proofs.Common.{◌≡◌, ◌⊎◌, ◌<◌, ℕ, List, [], ◌∷◌, length, get_or, refl, sym, ap, subst, ◌∙◌, inl, inr, arith}
+use Rattle.std.specs.Prelude.{Result, Ok, Err, MatchResult, Some, None, slice_get}
+use Rattle.std.proofs.lemmas.Option.{get_or_from_slice_get}
+use Rattle.surf_model.specs.FaceLists.{FaceList}
+use Rattle.surf_model.specs.Moves.{PeakedMoves}
+use Rattle.labellings.specs.DenialVerdicts.{IsVerdict}
+use Rattle.labellings.specs.declared.denial.Denial as denials
+use Rattle.labellings.specs.declared.verdict.DenialVerdict.{DenialVerdict}
+use Rattle.move_checker.specs.Verdicts.{verdict_of}
+use Rattle.move_checker.specs.declared.judge.Verdict.{Verdict}
+use Rattle.walk_files.specs.Certificates.{head_of_text, moves_of_text}
+use Rattle.walk_files.specs.Denials.{denial_of_lines}
+use Rattle.walk_files.specs.Readers.{Certificate, denial_left, moves_left, started}
+use Rattle.walk_files.specs.declared.certificate.CertHead.{CertHead}
+use Rattle.walk_files.specs.declared.certificate.CertHead.TheVariants as heads
+use Rattle.walk_files.specs.declared.fault.CertFault.{CertFault}
+use Rattle.walk_files.specs.declared.fault.CertFault.TheVariants as certificates
+use Rattle.commands.specs.declared.certificate.Certificate.TheVariants as shown
+use Rattle.homotopy_arrays.specs.Judgements.{IsFaultOfMoves, IsFaultOfText, IsFaultOfWalks, IsVerifyFault, Judges, JudgesText, JudgesWalks, of_certificate_fault}
+use Rattle.homotopy_arrays.specs.Pairs.{AreWalks}
+use Rattle.homotopy_arrays.specs.declared.fault.Fault.{Fault}
+use Rattle.homotopy_arrays.specs.declared.fault.Fault.TheVariants.{OutOfMemory}
+use Rattle.homotopy_arrays.specs.declared.verify.Judgement.{Judgement}
+use Rattle.homotopy_arrays.specs.declared.verify.Judgement.TheVariants.{Moves, Denial}
+use Rattle.homotopy_arrays.specs.declared.verify.VerifyFault.{VerifyFault}
+use Rattle.homotopy_arrays.specs.declared.verify.VerifyFault.TheVariants.{Mesh}
+use Rattle.homotopy_arrays.proofs.CertificateLemmas.{bad_head, denial_faulty, denial_given, denial_or_memory, denial_spelt, denial_start, left_start, list_faulty, list_spelt, started_ok}
+
+-- ---- the text
+
+pub head_faulty : (text : List ℕ) (first : CertFault) (fault : VerifyFault) → Err first ≡ started text (head_of_text text)
+    → fault ≡ of_certificate_fault first → IsFaultOfText text fault
+head_faulty text first fault e is = inr (inr (first, bad_head text (head_of_text text) first refl e, is))
+
+-- the head of a reader that has started
+pub head_is : (text : List ℕ) (reader : Certificate) (head : CertHead) → Ok reader ≡ started text (head_of_text text) → reader.head ≡ head
+    → head_of_text text ≡ Ok head
+head_is text reader head e is = (started_ok text (head_of_text text) reader e).0 ∙ ap Ok is
+
+left_of : (text : List ℕ) (reader : Certificate) (count peak : ℕ) → Ok reader ≡ started text (head_of_text text)
+    → reader.head ≡ heads.Moves count peak → moves_left reader ≡ moves_of_text count text
+left_of text reader count peak e head =
+    let start = started_ok text (head_of_text text) reader e in left_start reader text count peak start.1 head start.2 start.3
+
+denial_of : (text : List ℕ) (reader : Certificate) (degree : ℕ) → Ok reader ≡ started text (head_of_text text)
+    → reader.head ≡ heads.Labels degree → denial_left reader ≡ denial_of_lines degree text
+denial_of text reader degree e head =
+    let start = started_ok text (head_of_text text) reader e in denial_start reader text degree start.1 head start.2 start.3
+
+pub moves_faulty : (text : List ℕ) (reader : Certificate) (count peak : ℕ) (fault : VerifyFault)
+    → Ok reader ≡ started text (head_of_text text) → reader.head ≡ heads.Moves count peak → IsFaultOfMoves (moves_left reader) fault
+    → IsFaultOfText text fault
+moves_faulty text reader count peak fault e head (inl memory) = inr (inl memory)
+moves_faulty text reader count peak fault e head (inr wrong) =
+    let spelt : head_of_text text ≡ Ok (heads.Moves count peak) = head_is text reader (heads.Moves count peak) e head in
+    inr (inr (wrong.0, list_faulty text count peak wrong.0 spelt (sym (left_of text reader count peak e head) ∙ wrong.1), wrong.2))
+
+pub moves_judged : (mesh : FaceList) (first second text : List ℕ) (reader : Certificate) (count peak : ℕ) (list : PeakedMoves)
+    (verdict : Verdict) → Ok reader ≡ started text (head_of_text text) → reader.head ≡ heads.Moves count peak
+    → moves_left reader ≡ Ok list.moves → list.peak ≡ peak → verdict ≡ verdict_of mesh first second list
+    → JudgesText mesh first second text (Moves verdict)
+moves_judged mesh first second text reader count peak list verdict e head left is_peak is =
+    let same : reader.head ≡ heads.Moves count list.peak = head ∙ ap (λ (p : ℕ). heads.Moves count p) (sym is_peak) in
+    let spelt : head_of_text text ≡ Ok (heads.Moves count list.peak) = head_is text reader (heads.Moves count list.peak) e same in
+    (shown.Moves list, list_spelt text count list.peak list.moves spelt (sym (left_of text reader count list.peak e same) ∙ left), is)
+
+pub denial_wrong : (text : List ℕ) (reader : Certificate) (degree : ℕ) (first : CertFault) (fault : VerifyFault)
+    → Ok reader ≡ started text (head_of_text text) → reader.head ≡ heads.Labels degree
+    → (Err first ≡ denial_left reader) ⊎ ((reader.refusal ≡ None)
+    × (let wanting : Result denials.Denial CertFault = Err certificates.OutOfMemory in Err first ≡ wanting))
+    → fault ≡ of_certificate_fault first → IsFaultOfText text fault
+denial_wrong text reader degree first fault e head answer is =
+    let spelt : head_of_text text ≡ Ok (heads.Labels degree) = head_is text reader (heads.Labels degree) e head in
+    elim (denial_or_memory text degree reader first (denial_of text reader degree e head) answer) [
+      | inl wrong ↦ inr (inr (first, denial_faulty text degree first spelt (sym wrong), is))
+      | inr memory ↦ inr (inl (is ∙ ap of_certificate_fault memory))
+    ]
+
+pub denial_judged : (mesh : FaceList) (first second text : List ℕ) (reader : Certificate) (degree : ℕ) (denial : denials.Denial)
+    (verdict : DenialVerdict) → Ok reader ≡ started text (head_of_text text) → reader.head ≡ heads.Labels degree
+    → (Ok denial ≡ denial_left reader) ⊎ ((reader.refusal ≡ None) × (Ok denial ≡ Err certificates.OutOfMemory))
+    → IsVerdict mesh first second denial verdict → JudgesText mesh first second text (Denial verdict)
+denial_judged mesh first second text reader degree denial verdict e head answer is =
+    let spelt : head_of_text text ≡ Ok (heads.Labels degree) = head_is text reader (heads.Labels degree) e head in
+    let given : denial_of_lines degree text ≡ Ok denial =
+    denial_given text degree reader denial (denial_of text reader degree e head) answer in
+    (shown.Denial denial, denial_spelt text degree denial spelt given, is)
+
+-- ---- the walks
+
+-- the walks of a list of two
+pub first_of : (walks : List (List ℕ)) (first second walk : List ℕ) → walks ≡ first ∷ second ∷ [] → slice_get walks 0 ≡ Some walk
+    → first ≡ walk
+first_of walks first second walk are got =
+    ap (λ (l : List (List ℕ)). get_or l 0 []) (sym are) ∙ get_or_from_slice_get walks 0 walk [] got
+
+pub second_of : (walks : List (List ℕ)) (first second walk : List ℕ) → walks ≡ first ∷ second ∷ [] → slice_get walks 1 ≡ Some walk
+    → second ≡ walk
+second_of walks first second walk are got =
+    ap (λ (l : List (List ℕ)). get_or l 1 []) (sym are) ∙ get_or_from_slice_get walks 1 walk [] got
+
+pub two_walks : (walks : List (List ℕ)) (first second : List ℕ) → walks ≡ first ∷ second ∷ [] → 1 < length walks
+two_walks walks first second are = subst (λ (l : List (List ℕ)). 1 < length l) (sym are) (omega arith)
+
+pub on_walks : (mesh : FaceList) (first second text : List ℕ) (end : Result Judgement VerifyFault) → AreWalks mesh first second
+    → MatchResult end (JudgesText mesh first second text) (IsFaultOfText text)
+    → MatchResult end (JudgesWalks mesh first second text) (IsFaultOfWalks mesh first second text)
+on_walks mesh first second text (Ok judgement) are h = (are, h)
+on_walks mesh first second text (Err fault) are h = inr (inr (are, h))
+
+-- ---- the mesh
+
+pub on_mesh : (read : Result FaceList Fault) (mesh : FaceList) (first second text : List ℕ) (end : Result Judgement VerifyFault)
+    → read ≡ Ok mesh → MatchResult end (JudgesWalks mesh first second text) (IsFaultOfWalks mesh first second text)
+    → MatchResult end (Judges read first second text) (IsVerifyFault read first second text)
+on_mesh read mesh first second text (Ok judgement) is h = record { mesh = mesh; is = is; holds = h }
+on_mesh read mesh first second text (Err fault) is h = inr (inr (record { mesh = mesh; is = is; holds = h }))
+
+pub no_mesh : (read : Result FaceList Fault) (first second text : List ℕ) (fault : Fault) (told : VerifyFault)
+    → (Err fault ≡ read) ⊎ (let wanting : Result FaceList Fault = Err OutOfMemory in Err fault ≡ wanting) → told ≡ Mesh fault
+    → IsVerifyFault read first second text told
+no_mesh read first second text fault told (inl bad) is = inr (inl (fault, sym bad, is))
+no_mesh read first second text fault told (inr memory) is = let same : fault ≡ OutOfMemory = cc in inl (is ∙ ap Mesh same)
+
+pub mesh_read : (read : Result FaceList Fault) (mesh : FaceList)
+    → (Ok mesh ≡ read) ⊎ (let wanting : Result FaceList Fault = Err OutOfMemory in Ok mesh ≡ wanting) → read ≡ Ok mesh
+mesh_read read mesh (inl is) = sym is
+mesh_read read mesh (inr wanting) = cc

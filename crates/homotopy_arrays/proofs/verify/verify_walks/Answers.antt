@@ -1,0 +1,67 @@
+use Rattle.std.proofs.Common.{◌≡◌, List, ℕ, arith, refl, sym, subst, inl, inr}
+use Rattle.std.specs.Prelude.{MatchResult}
+use Rattle.surf_model.specs.Walks.{IsWalk}
+use Rattle.homotopy_arrays.specs.CheckedPairs.{IsChecked}
+use Rattle.homotopy_arrays.specs.Judgements.{IsFaultOfText, JudgesText}
+use Rattle.homotopy_arrays.specs.declared.pair.Checked.TheVariants.{Pair, Faulty}
+use Rattle.homotopy_arrays.proofs.JudgementLemmas.{first_of, on_walks, second_of, two_walks}
+use Rattle.homotopy_arrays.proofs.verify.verify_walks.Goals as goal
+
+pub at-requires : goal.at-requires
+at-requires c =
+    let first : List ℕ = c.args.first.now in
+    let second : List ℕ = c.args.second.now in
+    let checked : IsChecked c.args.faces.now first second (Pair c.in-Pair.walks) =
+    subst (IsChecked c.args.faces.now first second) c.in-Pair.is (c.in_ok-walks.ensures c.args.faces.now c.requires) in
+    omega (arith, two_walks c.in-Pair.walks.walks first second checked.1)
+
+pub at-requires-in-Pair : goal.at-requires-in-Pair
+at-requires-in-Pair c =
+    let first : List ℕ = c.args.first.now in
+    let second : List ℕ = c.args.second.now in
+    let checked : IsChecked c.args.faces.now first second (Pair c.in-Pair.walks) =
+    subst (IsChecked c.args.faces.now first second) c.in-Pair.is (c.in_ok-walks.ensures c.args.faces.now c.requires) in
+    two_walks c.in-Pair.walks.walks first second checked.1
+
+pub judge-requires-clause-first : goal.judge-requires-clause-first
+judge-requires-clause-first c =
+    let first : List ℕ = c.args.first.now in
+    let second : List ℕ = c.args.second.now in
+    let checked : IsChecked c.args.faces.now first second (Pair c.in-Pair.walks) =
+    subst (IsChecked c.args.faces.now first second) c.in-Pair.is (c.in_ok-walks.ensures c.args.faces.now c.requires) in
+    subst (IsWalk c.args.faces.now) (first_of c.in-Pair.walks.walks first second c.at.result.now checked.1 c.at.ensures)
+    checked.0.first_walk
+
+pub judge-requires-clause-second : goal.judge-requires-clause-second
+judge-requires-clause-second c =
+    let first : List ℕ = c.args.first.now in
+    let second : List ℕ = c.args.second.now in
+    let checked : IsChecked c.args.faces.now first second (Pair c.in-Pair.walks) =
+    subst (IsChecked c.args.faces.now first second) c.in-Pair.is (c.in_ok-walks.ensures c.args.faces.now c.requires) in
+    subst (IsWalk c.args.faces.now) (second_of c.in-Pair.walks.walks first second c.at-in-Pair.result.now checked.1 c.at-in-Pair.ensures)
+    checked.0.second_walk
+
+pub returns-in-Pair : goal.returns-in-Pair
+returns-in-Pair c =
+    let faces = c.args.faces.now in
+    let first : List ℕ = c.args.first.now in
+    let second : List ℕ = c.args.second.now in
+    let text : List ℕ = c.args.certificate.now in
+    let walks = c.in-Pair.walks.walks in
+    let checked : IsChecked faces first second (Pair c.in-Pair.walks) =
+    subst (IsChecked faces first second) c.in-Pair.is (c.in_ok-walks.ensures faces c.requires) in
+    let one : c.at.result.now ≡ first = sym (first_of walks first second c.at.result.now checked.1 c.at.ensures) in
+    let other : c.at-in-Pair.result.now ≡ second =
+    sym (second_of walks first second c.at-in-Pair.result.now checked.1 c.at-in-Pair.ensures) in
+    on_walks faces first second text c.judge.result checked.0
+    (subst (λ (w : List ℕ). MatchResult c.judge.result (JudgesText faces first w text) (IsFaultOfText text)) other
+    (subst (λ (w : List ℕ). MatchResult c.judge.result (JudgesText faces w c.at-in-Pair.result.now text) (IsFaultOfText text)) one
+    c.judge.ensures))
+
+pub returns-in-Faulty : goal.returns-in-Faulty
+returns-in-Faulty c =
+    let first : List ℕ = c.args.first.now in
+    let second : List ℕ = c.args.second.now in
+    let checked : IsChecked c.args.faces.now first second (Faulty c.in-Faulty.fault) =
+    subst (IsChecked c.args.faces.now first second) c.in-Faulty.is (c.in_ok-walks.ensures c.args.faces.now c.requires) in
+    inr (inl (c.in-Faulty.fault, checked.0, checked.1, refl))

@@ -1,0 +1,192 @@
+//! What comes of certificates that lie in bytes.
+ghost use Rattle.std.specs.Prelude.{◌≡◌, Ok, MatchResult, IsTrue};
+ghost use Rattle.surf_model.specs.Edges.{IsTableOf};
+ghost use Rattle.surf_model.specs.Walks.{IsWalk};
+ghost use Rattle.walk_files.specs.Readers.{is_list, moves_left};
+ghost use Rattle.homotopy_arrays.specs.Judgements.{IsFaultOfMoves, IsFaultOfText, IsVerifyFault, Judges, JudgesText, JudgesWalks, IsFaultOfWalks};
+ghost use Rattle.homotopy_arrays.specs.MeshArrays.{mesh_of};
+
+use crate::fault::Fault;
+use crate::mesh::mesh_of_arrays;
+use crate::pair::{Checked, WalkFault, check_walks};
+use commands::MOST_BYTES;
+use labellings::{DenialVerdict, check_denial};
+use move_checker::{Verdict, check_moves};
+use std::alloc::{AllocError, Global};
+use surf_model::{Faces, MoveList, Sides, Walk};
+use walk_files::{CertFault, CertHead, CertReader};
+
+/// Why nothing comes of a certificate.
+#[derive(Clone, Copy, Debug, PartialEq, Eq)]
+pub enum VerifyFault {
+    /// The arrays are no mesh, for this fault, or there is no memory.
+    Mesh(Fault),
+    /// The two walks are no walks of the mesh with common ends, for this fault.
+    Walks(WalkFault),
+    /// The certificate has more bytes than the program reads.
+    Long,
+    /// The bytes are no certificate, for this fault. It is never for want of memory.
+    Certificate(CertFault),
+}
+
+impl From<Fault> for VerifyFault {
+    ghost use Rattle.homotopy_arrays.specs.declared.verify.VerifyFault.TheVariants.{Mesh};
+
+    ghost from_gives = { λ first fault. fault ≡ Mesh first };
+
+    fn from(fault: Fault) -> VerifyFault {
+        VerifyFault::Mesh(fault)
+    }
+}
+
+impl From<AllocError> for VerifyFault {
+    ghost use Rattle.homotopy_arrays.specs.Judgements.{no_memory};
+
+    ghost from_gives = { λ _ fault. fault ≡ no_memory };
+
+    fn from(_: AllocError) -> VerifyFault {
+        VerifyFault::Mesh(Fault::OutOfMemory)
+    }
+}
+
+impl From<CertFault> for VerifyFault {
+    ghost use Rattle.homotopy_arrays.specs.Judgements.{of_certificate_fault};
+
+    ghost from_gives = { λ first fault. fault ≡ of_certificate_fault first };
+
+    fn from(fault: CertFault) -> VerifyFault {
+        match fault {
+            CertFault::OutOfMemory => VerifyFault::Mesh(Fault::OutOfMemory),
+            _ => VerifyFault::Certificate(fault),
+        }
+    }
+}
+
+/// What comes of a certificate.
+#[derive(Clone, Copy, Debug, PartialEq, Eq)]
+pub enum Judgement {
+    /// It is a list of moves, with this verdict.
+    Moves(Verdict),
+    /// It is a denial, with this verdict.
+    Denial(DenialVerdict),
+}
+
+/// Two walks of a mesh.
+#[derive(Clone, Copy)]
+struct Compared<'a> {
+    faces: &'a Faces,
+    sides: &'a Sides,
+    first: &'a Walk,
+    second: &'a Walk,
+}
+
+/// What comes of the certificate that the bytes spell, between two walks of the mesh that the arrays are, which need be no surface.
+pub fn verify_arrays(
+    alloc: Global,
+    vertices: u32,
+    sizes: &[u32],
+    corners: &[u32],
+    first: &[u32],
+    second: &[u32],
+    certificate: &[u8],
+) -> Result<Judgement, VerifyFault>
+    ensures { MatchResult result (Judges (mesh_of vertices sizes.now corners.now) first.now second.now certificate.now)
+        (IsVerifyFault (mesh_of vertices sizes.now corners.now) first.now second.now certificate.now) }
+{
+    let faces = mesh_of_arrays(alloc, vertices, sizes, corners)?;
+    let judged = verify_on(alloc, &faces, first, second, certificate);
+    // By a call, which is proved once, and not here again.
+    drop(faces);
+    judged
+}
+
+/// What comes of a certificate between two walks of a mesh.
+fn verify_on(
+    alloc: Global,
+    faces: &Faces,
+    first: &[u32],
+    second: &[u32],
+    certificate: &[u8],
+) -> Result<Judgement, VerifyFault>
+    ensures { MatchResult result (JudgesWalks faces.now first.now second.now certificate.now)
+        (IsFaultOfWalks faces.now first.now second.now certificate.now) }
+{
+    // The proof reads what holds of every face list.
+    let _ = faces.len();
+    let sides = Sides::build(alloc, faces)?;
+    let judged = verify_walks(alloc, faces, &sides, first, second, certificate);
+    // By a call, which is proved once, and not here again.
+    drop(sides);
+    judged
+}
+
+/// What comes of a certificate between two walks of the mesh that has this table.
+fn verify_walks(
+    alloc: Global,
+    faces: &Faces,
+    sides: &Sides,
+    first: &[u32],
+    second: &[u32],
+    certificate: &[u8],
+) -> Result<Judgement, VerifyFault>
+    requires { IsTableOf faces.now sides.now }
+    ensures { MatchResult result (JudgesWalks faces.now first.now second.now certificate.now)
+        (IsFaultOfWalks faces.now first.now second.now certificate.now) }
+{
+    match check_walks(alloc, sides, first, second)? {
+        Checked::Pair(walks) => {
+            let on = Compared {
+                faces,
+                sides,
+                first: walks.at(0),
+                second: walks.at(1),
+            };
+            judge(alloc, &on, certificate)
+        }
+        Checked::Faulty(fault) => Err(VerifyFault::Walks(fault)),
+    }
+}
+
+/// What comes of the certificate that the bytes spell.
+fn judge(alloc: Global, on: &Compared<'_>, certificate: &[u8]) -> Result<Judgement, VerifyFault>
+    requires table { IsTableOf on.now.faces.now on.now.sides.now }
+    requires first { IsWalk on.now.faces.now on.now.first.now }
+    requires second { IsWalk on.now.faces.now on.now.second.now }
+    ensures { MatchResult result (JudgesText on.now.faces.now on.now.first.now on.now.second.now certificate.now)
+        (IsFaultOfText certificate.now) }
+{
+    if certificate.len() as u64 > MOST_BYTES {
+        return Err(VerifyFault::Long);
+    }
+    let mut reader = CertReader::start(certificate)?;
+    match reader.head() {
+        CertHead::Moves { peak, .. } => {
+            let list = read_moves(alloc, &mut reader, peak)?;
+            let verdict = check_moves(alloc, on.faces, on.sides, on.first, on.second, &list)?;
+            Ok(Judgement::Moves(verdict))
+        }
+        CertHead::Labels { .. } => {
+            let denial = reader.denial(alloc)?;
+            let verdict = check_denial(alloc, on.faces, on.sides, on.first, on.second, denial)?;
+            Ok(Judgement::Denial(verdict))
+        }
+    }
+}
+
+/// The moves that a reader has still to give, with this peak.
+fn read_moves(
+    alloc: Global,
+    reader: &mut CertReader<'_>,
+    peak: u32,
+) -> Result<MoveList, VerifyFault>
+    requires { IsTrue (is_list reader.old) }
+    ensures { MatchResult result (λ list. (moves_left reader.old ≡ Ok list.moves) × (list.peak ≡ peak))
+        (IsFaultOfMoves (moves_left reader.old)) }
+{
+    let mut list = MoveList::new(alloc, peak);
+    'moves: while let Some(mv) = reader.next_move()? {
+        // The peak is declared already.
+        list.push(mv, 0)?;
+    }
+    Ok(list)
+}
