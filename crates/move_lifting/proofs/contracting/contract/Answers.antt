@@ -27,7 +27,8 @@ pub follow-requires-clause-allowed : goal.follow-requires-clause-allowed
 follow-requires-clause-allowed c =
     let allowed = next_allowed c.args.cut.now.on.surface.now c.args.cut.now.on.split.now c.requires.cut.valid c.requires.cut.on.split
     c.args.cut.now.polygon.now c.requires.cut.polygon c.requires.cut.some c.args.behind c.args.track c.loop-step.track
-    c.loop-step.path.items c.deref-step-items.result.now c.loop-step.step-index (Spur 0) c.loop-step-test.true c.loop-step.invariant.so_far in
+    c.loop-step.path.items c.deref-step-items.result.now c.loop-step.step-index (Spur 0) c.loop-step-test.true
+    c.loop-step.invariant.so_far in
     (allowed.0, ap (after_path_step c.args.cut.now.polygon.now.places _) c.deref.ensures.value ∙ allowed.1)
 
 pub follow-requires-clause-walk : goal.follow-requires-clause-walk
@@ -40,7 +41,8 @@ pub take_step-requires : goal.take_step-requires
 take_step-requires c =
     let allowed = next_allowed c.args.cut.now.on.surface.now c.args.cut.now.on.split.now c.requires.cut.valid c.requires.cut.on.split
     c.args.cut.now.polygon.now c.requires.cut.polygon c.requires.cut.some c.args.behind c.args.track c.loop-step.track
-    c.loop-step.path.items c.deref-step-items.result.now c.loop-step.step-index (Spur 0) c.loop-step-test.true c.loop-step.invariant.so_far in (
+    c.loop-step.path.items c.deref-step-items.result.now c.loop-step.step-index (Spur 0) c.loop-step-test.true
+    c.loop-step.invariant.so_far in (
       allowed.0,
       ap (λ (places : List ℕ). after_path_step places (get_or c.deref-step-items.result.now c.loop-step.step-index (Spur 0))
           c.loop-step.path.items) c.requires.reduction.wheel ∙ allowed.1,
@@ -80,4 +82,5 @@ follow-requires-clause-looping c = record { cut = c.requires.cut }
 
 pub returns-then-is_one_vertex-clause-nothing : goal.returns-then-is_one_vertex-clause-nothing
 returns-then-is_one_vertex-clause-nothing c =
-    one_left c.loop-step.track.walk c.args.track.walk (c.is_one_vertex.ensures.0 c.if-is_one_vertex.true) c.loop-step.invariant.so_far.starts
+    one_left c.loop-step.track.walk c.args.track.walk (c.is_one_vertex.ensures.0 c.if-is_one_vertex.true)
+    c.loop-step.invariant.so_far.starts

@@ -31,7 +31,8 @@ returns-then-partner-last-clause-spokes c = λ next e.
     (λ other. c.if-partner-last.true (other ∙ ap (λ n. n - 1) (sym c.degree-last.ensures.degree))) c.requires.spokes
 
 -- the turn is allowed, and so it is across a quad
-turn : (c : goal.After-front_of_loop-arg-1) → (c.in-Turn.at + 1 < length c.args.path.now) × IsQuad c.args.looping.now.cut.now.polygon.now.places
+turn : (c : goal.After-front_of_loop-arg-1) → (c.in-Turn.at + 1 < length c.args.path.now)
+    × IsQuad c.args.looping.now.cut.now.polygon.now.places
     c.in-Turn.side c.in-Turn.partner
 turn c =
     some-turn c.args.looping.now.cut.now.polygon.now.places c.in-Turn.side c.in-Turn.partner c.in-Turn.up c.in-Turn.at c.args.path.now

@@ -72,7 +72,8 @@ returns-clause-freely c =
     laid_four s.mesh begun (numbers c.put_all.new.walk.items) (numbers c.put_all-2.new.walk.items) (numbers c.put_all-3.new.walk.items)
     (numbers c.put_all-4.new.walk.items) (ways y) (backward tail (ways tail)) (head ∷ ways head) (backward y (ways y))
     (omega (arith, c.requires.some, length-numbers c.args.walk.now.items))
-    (subst (λ (l : List ℕ). AreFreelyEqual s.mesh (begun ++ l) (numbers c.put_all.new.walk.items)) up (c.in_ok-put_all.ensures.freely s.mesh))
+    (subst (λ (l : List ℕ). AreFreelyEqual s.mesh (begun ++ l) (numbers c.put_all.new.walk.items)) up
+    (c.in_ok-put_all.ensures.freely s.mesh))
     (subst (λ (l : List ℕ). AreFreelyEqual s.mesh (numbers c.put_all.new.walk.items ++ l) (numbers c.put_all-2.new.walk.items)) down
     (c.in_ok-put_all-2.ensures.freely s.mesh))
     (subst (λ (l : List ℕ). AreFreelyEqual s.mesh (numbers c.put_all-2.new.walk.items ++ l) (numbers c.put_all-3.new.walk.items)) on

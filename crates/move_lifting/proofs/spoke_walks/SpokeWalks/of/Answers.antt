@@ -27,7 +27,9 @@ loop-spoke-init c =
     let alone : numbers c.push.new.self.items ≡ origin_of s (last_side polygon) ∷ [] =
     one_pending c.push.new.self.items c.new-walk.result.items c.origin-start.result c.in_ok-push.ensures.items
     ∙ ap (λ (l : List VertexName). numbers l ++ c.origin-start.result.0 ∷ []) c.new-walk.ensures.items
-    ∙ ap (λ (x : ℕ). x ∷ []) (start_is c.args.cut.now.on.surface.now c.args.cut.now.polygon.now c.origin-start.result.0 c.side.result.0 c.degree-degree.result
+    ∙ ap (λ (x : ℕ). x ∷ [])
+    (start_is c.args.cut.now.on.surface.now c.args.cut.now.polygon.now c.origin-start.result.0
+    c.side.result.0 c.degree-degree.result
     c.origin-start.ensures c.side.ensures c.degree-degree.ensures.degree) in
     none_made s split polygon c.args.named.now c.new-walks.result (numbers c.push.new.self.items) c.new-walks.ensures
     (first_spoke s split c.requires.cut.valid c.requires.cut.on.split polygon c.requires.cut.polygon c.requires.cut.some
@@ -45,7 +47,9 @@ go_round-requires-clause-some c =
 
 pub go_round-requires-clause-start : goal.go_round-requires-clause-start
 go_round-requires-clause-start c =
-    ap (is_used c.args.cut.now.on.surface.now.mesh) (start_is c.args.cut.now.on.surface.now c.args.cut.now.polygon.now c.origin-start.result.0 c.side.result.0 c.degree-degree.result
+    ap (is_used c.args.cut.now.on.surface.now.mesh)
+    (start_is c.args.cut.now.on.surface.now c.args.cut.now.polygon.now c.origin-start.result.0
+    c.side.result.0 c.degree-degree.result
     c.origin-start.ensures c.side.ensures c.degree-degree.ensures.degree)
     ∙ last_used c.args.cut.now.on.surface.now c.args.cut.now.on.split.now c.requires.cut.valid c.args.cut.now.polygon.now
     c.requires.cut.polygon c.requires.cut.some
@@ -61,7 +65,8 @@ loop-spoke-preserved c =
     made_more c.args.cut.now.on.surface.now c.args.cut.now.on.split.now c.requires.cut.valid c.requires.cut.on.split polygon
     c.requires.cut.polygon c.requires.cut.some c.args.named.now c.loop-spoke.spoke c.side-in-loop-spoke.result.0
     c.origin-start.result.0 c.loop-spoke.walks c.push_if.new.self walk (numbers c.go_round.new.walk.items) marked
-    c.side-in-loop-spoke.ensures (start_is c.args.cut.now.on.surface.now c.args.cut.now.polygon.now c.origin-start.result.0 c.side.result.0 c.degree-degree.result
+    c.side-in-loop-spoke.ensures (start_is c.args.cut.now.on.surface.now c.args.cut.now.polygon.now c.origin-start.result.0
+    c.side.result.0 c.degree-degree.result
     c.origin-start.ensures c.side.ensures c.degree-degree.ensures.degree) refl c.loop-spoke.invariant more c.in_ok-go_round.ensures.no_spur
     c.in_ok-go_round.ensures.freely
 
