@@ -191,3 +191,9 @@ module _ (s : OrientedMesh) (split : SplitView) (o : IsOrientedSurface s) (t : I
       subst (λ (x : List ℕ). IsFreelyPath s split polygon x track.walk) gone on.spokes in
       goes_nowhere s split polygon o t track.walk (led_walk behind begun track path (drop n steps) led on) on.no_spur free
       ∙ ap (λ x. x ∷ []) on.starts
+
+-- a walk of one vertex from where another one starts
+pub one_left : (walk begun : List ℕ) → length walk ≡ 1 → slice_index walk 0 ≡ slice_index begun 0 → walk ≡ slice_index begun 0 ∷ []
+one_left [] begun one starts = absurd (omega (arith, one))
+one_left (v ∷ []) begun one starts = ap (λ (x : ℕ). x ∷ []) starts
+one_left (v ∷ w ∷ rest) begun one starts = absurd (omega (arith, one))

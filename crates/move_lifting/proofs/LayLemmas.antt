@@ -88,6 +88,19 @@ laid_three mesh x start first second third down up rest is a b c =
     subst (λ (l : List ℕ). AreFreelyEqual mesh (x ∷ l) third) (append_assoc down up rest)
     (freely_further mesh (x ∷ down ++ up) second third rest (omega arith) two c)
 
+-- four parts laid on a walk
+pub laid_four : (mesh : FaceList) (start first second third fourth a b c d : List ℕ) → 0 < length start
+    → AreFreelyEqual mesh (start ++ a) first → AreFreelyEqual mesh (first ++ b) second → AreFreelyEqual mesh (second ++ c) third
+    → AreFreelyEqual mesh (third ++ d) fourth → AreFreelyEqual mesh (start ++ (a ++ ((b ++ c) ++ d))) fourth
+laid_four mesh start first second third fourth a b c d some one two three four =
+    let shape : start ++ (a ++ ((b ++ c) ++ d)) ≡ ((start ++ a) ++ b ++ c) ++ d = simp append_assoc in
+    let long : 0 < length (start ++ a) = omega (arith, some, length-append start a) in
+    let longer : 0 < length (start ++ a ++ b) = omega (arith, long, length-append (start ++ a) b) in
+    let longest : 0 < length (start ++ a ++ b ++ c) = omega (arith, longer, length-append (start ++ a ++ b) c) in
+    subst (λ (l : List ℕ). AreFreelyEqual mesh l fourth) (sym shape)
+    (freely_further mesh (start ++ a ++ b ++ c) third fourth d longest
+    (freely_further mesh (start ++ a ++ b) second third c longer (freely_further mesh (start ++ a) first second b long one two) three) four)
+
 -- the first name alone
 pub first_alone : (none one names : List VertexName) (v d : VertexName) → none ≡ [] → one ≡ none ++ v ∷ [] → v ≡ get_or names 0 d
     → 0 < length names

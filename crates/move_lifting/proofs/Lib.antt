@@ -25,6 +25,7 @@ pub mod TurnLemmas
 pub mod LastLoopLemmas
 pub mod LayLemmas
 pub mod TreeUpLemmas
+pub mod StoredWalkLemmas
 pub mod ApproachLemmas
 pub mod FrontLemmas
 pub mod LoopInLemmas

@@ -21,74 +21,87 @@ use Rattle.polygon_cut.proofs.RelatorLemmas.{loop_in}
 use Rattle.polygon_cut.proofs.TreeWayLemmas.{up, up_path}
 use Rattle.move_lifting.specs.Lifts.{LeadsAtPeak}
 use Rattle.move_lifting.specs.LoopsPutIn.{signed_loop, HasLoopIn}
-use Rattle.move_lifting.specs.SpokeWalks.{IsSpokeWalk, AreSpokeWalks, IsLastLoop, IsLooper, along_or_back, walks_loop}
+use Rattle.move_lifting.specs.SpokeWalks.{IsSpokeWalk, AreSpokeWalks, AreTurns, HasWalk, IsLastLoop, along_or_back, walks_loop}
 use Rattle.move_lifting.specs.Tracks.{last_of}
 use Rattle.move_lifting.specs.declared.lifted.Lifted.{Lifted}
-use Rattle.move_lifting.specs.declared.looping.Looper.{Looper}
-use Rattle.move_lifting.proofs.ApproachLemmas.{GoesFrom, free_way, goes_end, goes_walk, walk_goes, turn_goes_home, has_ways, dart_loop_way, spoke_way, path_way, spoke_walk}
+use Rattle.move_lifting.specs.declared.looping.Turns.{Turns}
+use Rattle.move_lifting.proofs.ApproachLemmas.{GoesFrom, free_way, goes_end, goes_walk, walk_goes, turn_goes_home, has_ways, dart_loop_way, spoke_way, path_way, spoke_walk, home_way, closed_way, down_and_up, joined_loops, no_loop, back_by_loop, last_used}
 use Rattle.move_lifting.proofs.BackLemmas.{backward_is}
 use Rattle.move_lifting.proofs.TreeUpLemmas.{own_ways}
 
 -- The walks of spokes go the way of their loops, up to spurs.
 piece : (s : OrientedMesh) (split : SplitView) → IsOrientedSurface s → (t : IsSplit s split) → (polygon : PolygonView)
     → IsCutFrom s split polygon → 0 < polygon.degree
-    → (ways : ℕ → List ℕ) → AreWaysUp s split t.parents.root ways → (i : ℕ) (walk : List ℕ) → IsSpokeWalk s split polygon i walk
-    → (AreFreelyEqual s.mesh (t.parents.root ∷ spoke_loop s polygon t.parents.root ways i) (t.parents.root ∷ along_or_back true walk)
-    × IsWay s.mesh t.parents.root t.parents.root (along_or_back true walk))
-    × (AreFreelyEqual s.mesh (t.parents.root ∷ backward t.parents.root (spoke_loop s polygon t.parents.root ways i))
-    (t.parents.root ∷ along_or_back false walk)
-    × IsWay s.mesh t.parents.root t.parents.root (along_or_back false walk))
-piece s split o t polygon c some ways h i walk is =
+    → (ways : ℕ → List ℕ) → AreWaysUp s split t.parents.root ways → (y : ℕ) → y ≡ origin_of s (last_side polygon)
+    → (i : ℕ) (walk : List ℕ) → IsSpokeWalk s split polygon i walk
+    → (AreFreelyEqual s.mesh (by_loop ways y y (spoke_loop s polygon t.parents.root ways i)) (y ∷ along_or_back true walk)
+    × IsWay s.mesh y y (along_or_back true walk))
+    × (AreFreelyEqual s.mesh (by_loop ways y y (backward t.parents.root (spoke_loop s polygon t.parents.root ways i)))
+    (y ∷ along_or_back false walk)
+    × IsWay s.mesh y y (along_or_back false walk))
+piece s split o t polygon c some ways h y y_is i walk is =
     let root : ℕ = t.parents.root in
-    let known : GoesFrom s.mesh root root walk = spoke_walk s split o t polygon c some i walk is in
+    let w : HasWays s.mesh root ways = has_ways s split o t ways h in
+    let used : IsTrue (is_used s.mesh y) =
+    subst (λ (x : ℕ). IsTrue (is_used s.mesh x)) (sym y_is) (last_used s split o polygon c some) in
+    let known : GoesFrom s.mesh y y walk =
+    subst (λ (x : ℕ). GoesFrom s.mesh x x walk) (sym y_is) (spoke_walk s split o t polygon c some i walk is) in
     let loop : List ℕ = spoke_loop s polygon root ways i in
-    let a : Loop s.mesh root = record { rest = loop; is_way = spoke_way s split o t polygon c some ways h i } in
-    let b : Loop s.mesh root = record { rest = known.rest; is_way = known.way } in
-    let same : SameFreely a b = subst (AreFreelyEqual s.mesh (root ∷ loop)) known.walk_is (is.freely root ways h) in
-    let there : known.rest ≡ along_or_back true walk = sym (ap (drop 1) known.walk_is) in
-    let home : back root known.rest ≡ along_or_back false walk =
-    sym (ap (λ (l : List ℕ). backward (get_or l 0 0) (drop 1 l)) known.walk_is ∙ backward_is root known.rest) in
-    let turned : AreFreelyEqual s.mesh (root ∷ back root loop) (root ∷ back root known.rest) =
-    (loops_make_a_free_group s.mesh root t.parents.root_used).inv_same a b same in (
+    let loop_way : IsWay s.mesh root root loop = spoke_way s split o t polygon c some ways h i in
+    let whole : List ℕ = ways y ++ (backward root loop ++ backward y (ways y)) in
+    let a : Loop s.mesh y = record {
+      rest = whole;
+      is_way = closed_way s.mesh root ways w y used (backward root loop) (home_way s.mesh root loop loop_way);
+    } in
+    let b : Loop s.mesh y = record { rest = known.rest; is_way = known.way } in
+    let same : SameFreely a b =
+    subst (AreFreelyEqual s.mesh (y ∷ whole)) known.walk_is
+    (subst (λ (x : ℕ). AreFreelyEqual s.mesh (by_loop ways x x (backward root loop)) walk) (sym y_is) (is.freely root ways h)) in
+    let turned : AreFreelyEqual s.mesh (y ∷ back y whole) (y ∷ back y known.rest) =
+    (loops_make_a_free_group s.mesh y used).inv_same a b same in
+    let home : known.rest ≡ along_or_back false walk = sym (ap (drop 1) known.walk_is) in
+    let there : back y known.rest ≡ along_or_back true walk =
+    sym (ap (λ (l : List ℕ). backward (get_or l 0 0) (drop 1 l)) known.walk_is ∙ backward_is y known.rest) in (
       (
-        subst (λ (l : List ℕ). AreFreelyEqual s.mesh (root ∷ loop) (root ∷ l)) there same,
-        subst (IsWay s.mesh root root) there known.way,
+        subst (λ (l : List ℕ). AreFreelyEqual s.mesh (by_loop ways y y loop) (y ∷ l)) there
+            (subst (λ (l : List ℕ). AreFreelyEqual s.mesh (y ∷ l) (y ∷ back y known.rest))
+            (back_by_loop s.mesh root ways w y used loop loop_way) turned),
+        subst (IsWay s.mesh y y) there (way_home s.mesh y y known.rest known.way),
       ),
       (
-        subst (λ (l : List ℕ). AreFreelyEqual s.mesh (root ∷ l) (root ∷ along_or_back false walk)) (sym (backward_is root loop))
-            (subst (λ (l : List ℕ). AreFreelyEqual s.mesh (root ∷ back root loop) (root ∷ l)) home turned),
-        subst (IsWay s.mesh root root) home (way_home s.mesh root root known.rest known.way),
+        subst (λ (l : List ℕ). AreFreelyEqual s.mesh (y ∷ whole) (y ∷ l)) home same,
+        subst (IsWay s.mesh y y) home known.way,
       ),
     )
 
 front_free : (s : OrientedMesh) (split : SplitView) → IsOrientedSurface s → (t : IsSplit s split) → (polygon : PolygonView)
     → IsCutFrom s split polygon → 0 < polygon.degree
-    → (ways : ℕ → List ℕ) → AreWaysUp s split t.parents.root ways → (walks : List (List ℕ))
-    → AreSpokeWalks s split polygon polygon.degree walks
-    → (along : Bool) (path : List ℕ) → All (λ i. i < polygon.degree) path
-    → AreFreelyEqual s.mesh (t.parents.root ∷ path_loop s polygon t.parents.root ways along path)
-    (t.parents.root ∷ walks_loop walks along path)
-front_free s split o t polygon c some ways h walks all along [] below = (free_equality s.mesh).itself (t.parents.root ∷ [])
-front_free s split o t polygon c some ways h walks all true (i ∷ path) below =
+    → (ways : ℕ → List ℕ) → AreWaysUp s split t.parents.root ways → (y : ℕ) → y ≡ origin_of s (last_side polygon)
+    → (walks : List (List ℕ)) → AreSpokeWalks s split polygon walks
+    → (along : Bool) (path : List ℕ) → All (HasWalk walks) path
+    → AreFreelyEqual s.mesh (by_loop ways y y (path_loop s polygon t.parents.root ways along path)) (y ∷ walks_loop walks along path)
+front_free s split o t polygon c some ways h y y_is walks all along [] made =
+    no_loop s.mesh t.parents.root ways (has_ways s split o t ways h) y
+    (subst (λ (x : ℕ). IsTrue (is_used s.mesh x)) (sym y_is) (last_used s split o polygon c some))
+front_free s split o t polygon c some ways h y y_is walks all true (i ∷ path) made =
     let root : ℕ = t.parents.root in
-    let one = (piece s split o t polygon c some ways h i (get_or walks i []) (all.each i (below 0 i (omega arith)))).0 in
-    let rest = front_free s split o t polygon c some ways h walks all false path (λ k d l. below (suc k) d (omega arith)) in
-    let first : List ℕ = along_or_back true (get_or walks i []) in
-    let more : List ℕ = path_loop s polygon root ways false path in
-    (free_equality s.mesh).on (root ∷ (spoke_loop s polygon root ways i ++ more)) (root ∷ (first ++ more))
-    (root ∷ (first ++ walks_loop walks false path))
-    (before (free_equality s.mesh) root (spoke_loop s polygon root ways i) first more one.0)
-    (behind (free_equality s.mesh) root root first more (walks_loop walks false path) one.1 rest)
-front_free s split o t polygon c some ways h walks all false (i ∷ path) below =
+    let walk : List ℕ = get_or walks i [] in
+    let one = (piece s split o t polygon c some ways h y y_is i walk (all i (made 0 i (omega arith)))).0 in
+    joined_loops s.mesh root ways (has_ways s split o t ways h) y
+    (subst (λ (x : ℕ). IsTrue (is_used s.mesh x)) (sym y_is) (last_used s split o polygon c some))
+    (spoke_loop s polygon root ways i) (path_loop s polygon root ways false path) (along_or_back true walk) (walks_loop walks false path)
+    (spoke_way s split o t polygon c some ways h i) one.1 one.0
+    (front_free s split o t polygon c some ways h y y_is walks all false path (λ k d l. made (suc k) d (omega arith)))
+front_free s split o t polygon c some ways h y y_is walks all false (i ∷ path) made =
     let root : ℕ = t.parents.root in
-    let one = (piece s split o t polygon c some ways h i (get_or walks i []) (all.each i (below 0 i (omega arith)))).1 in
-    let rest = front_free s split o t polygon c some ways h walks all true path (λ k d l. below (suc k) d (omega arith)) in
-    let first : List ℕ = along_or_back false (get_or walks i []) in
-    let more : List ℕ = path_loop s polygon root ways true path in
-    (free_equality s.mesh).on (root ∷ (backward root (spoke_loop s polygon root ways i) ++ more)) (root ∷ (first ++ more))
-    (root ∷ (first ++ walks_loop walks true path))
-    (before (free_equality s.mesh) root (backward root (spoke_loop s polygon root ways i)) first more one.0)
-    (behind (free_equality s.mesh) root root first more (walks_loop walks true path) one.1 rest)
+    let walk : List ℕ = get_or walks i [] in
+    let one = (piece s split o t polygon c some ways h y y_is i walk (all i (made 0 i (omega arith)))).1 in
+    joined_loops s.mesh root ways (has_ways s split o t ways h) y
+    (subst (λ (x : ℕ). IsTrue (is_used s.mesh x)) (sym y_is) (last_used s split o polygon c some))
+    (backward root (spoke_loop s polygon root ways i)) (path_loop s polygon root ways true path) (along_or_back false walk)
+    (walks_loop walks true path)
+    (home_way s.mesh root (spoke_loop s polygon root ways i) (spoke_way s split o t polygon c some ways h i)) one.1 one.0
+    (front_free s split o t polygon c some ways h y y_is walks all true path (λ k d l. made (suc k) d (omega arith)))
 
 -- a loop, up the tree before it and down the tree behind it
 whole_way : (mesh : FaceList) (root : ℕ) (ways : ℕ → List ℕ) (w : HasWays mesh root ways) (u v : ℕ) (loop : Loop mesh root)
@@ -231,34 +244,47 @@ put_in_there s split o t polygon c some ways h front path against x y there turn
     (free_equality mesh).on new (x ∷ rest) (by_loop ways x x (put_behind root f.rest z.rest p.rest))
     ((free_equality mesh).turn (x ∷ rest) new (way_walk mesh x x rest rest_way) own) (subst (AreFreelyEqual mesh (x ∷ rest)) shape by_outer)
 
+-- from a vertex up the tree, down the tree to another one, and along walks there
+abbrev pub approach_by : (ℕ → List ℕ) → ℕ → ℕ → List ℕ → List ℕ
+approach_by ways x y laid = x ∷ (ways x ++ (backward y (ways y) ++ laid))
+
 -- the way along the walks is the way along the loops, up the tree before it and down the tree behind it
 approach_free : (s : OrientedMesh) (split : SplitView) → IsOrientedSurface s → (t : IsSplit s split) → (polygon : PolygonView)
     → IsCutFrom s split polygon
     → 0 < polygon.degree → (ways : ℕ → List ℕ) → AreWaysUp s split t.parents.root ways → (walks : List (List ℕ))
-    → AreSpokeWalks s split polygon polygon.degree walks → (front : List ℕ) → All (λ i. i < polygon.degree) front
-    → (x y : ℕ) (walk : List ℕ) → IsTrue (is_used s.mesh x)
-    → AreFreelyEqual s.mesh (by_loop ways x y (walks_loop walks true front)) walk
+    → AreSpokeWalks s split polygon walks → (front : List ℕ) → All (HasWalk walks) front
+    → (x y : ℕ) (walk : List ℕ) → IsTrue (is_used s.mesh x) → y ≡ origin_of s (last_side polygon)
+    → AreFreelyEqual s.mesh (approach_by ways x y (walks_loop walks true front)) walk
     → AreFreelyEqual s.mesh (by_loop ways x y (path_loop s polygon t.parents.root ways true front)) walk
-approach_free s split o t polygon c some ways h walks all front below x y walk used free =
+approach_free s split o t polygon c some ways h walks all front made x y walk used y_is free =
+    let f = free_equality s.mesh in
     let root : ℕ = t.parents.root in
+    let w : HasWays s.mesh root ways = has_ways s split o t ways h in
+    let y_used : IsTrue (is_used s.mesh y) =
+    subst (λ (v : ℕ). IsTrue (is_used s.mesh v)) (sym y_is) (last_used s split o polygon c some) in
     let path : List ℕ = path_loop s polygon root ways true front in
     let laid : List ℕ = walks_loop walks true front in
     let down : List ℕ = backward y (ways y) in
-    (free_equality s.mesh).on (by_loop ways x y path) (by_loop ways x y laid) walk
-    (behind (free_equality s.mesh) x root (ways x) (path ++ down) (laid ++ down) ((has_ways s split o t ways h).way x used)
-    (before (free_equality s.mesh) root path laid down (front_free s split o t polygon c some ways h walks all true front below)))
-    free
+    let more : List ℕ = ways y ++ (path ++ down) in
+    let there : IsWay s.mesh x y (ways x ++ down) =
+    subst (λ (k : List ℕ). IsWay s.mesh x y (ways x ++ k)) (sym (backward_is y (ways y)))
+    (way_on s.mesh x root y (ways x) (back y (ways y)) (w.way x used) (way_home s.mesh y root (ways y) (w.way y y_used))) in
+    f.on (by_loop ways x y path) (x ∷ ((ways x ++ down) ++ more)) walk
+    (down_and_up s.mesh root ways w y y_used x (ways x) (path ++ down) (w.way x used))
+    (f.on (x ∷ ((ways x ++ down) ++ more)) (x ∷ ((ways x ++ down) ++ laid)) walk
+    (behind f x y (ways x ++ down) more laid there (front_free s split o t polygon c some ways h y y_is walks all true front made))
+    (subst (λ (k : List ℕ). AreFreelyEqual s.mesh (x ∷ k) walk) (sym (append_assoc (ways x) down laid)) free))
 
 -- the approach is a way
 pub approach_goes : (s : OrientedMesh) (split : SplitView) → IsOrientedSurface s → (t : IsSplit s split) → (polygon : PolygonView)
     → IsCutFrom s split polygon
-    → 0 < polygon.degree → (walks : List (List ℕ)) → AreSpokeWalks s split polygon polygon.degree walks → (front : List ℕ)
-    → All (λ i. i < polygon.degree) front
-    → (x y : ℕ) (walk : List ℕ) → IsTrue (is_used s.mesh x) → IsTrue (is_used s.mesh y)
+    → 0 < polygon.degree → (walks : List (List ℕ)) → AreSpokeWalks s split polygon walks → (front : List ℕ)
+    → All (HasWalk walks) front
+    → (x y : ℕ) (walk : List ℕ) → IsTrue (is_used s.mesh x) → y ≡ origin_of s (last_side polygon) → IsTrue (is_used s.mesh y)
     → ((root : ℕ) (ways : ℕ → List ℕ) → AreWaysUp s split root ways
-    → AreFreelyEqual s.mesh (by_loop ways x y (walks_loop walks true front)) walk)
+    → AreFreelyEqual s.mesh (approach_by ways x y (walks_loop walks true front)) walk)
     → GoesFrom s.mesh x y walk
-approach_goes s split o t polygon c some walks all front below x y walk x_used y_used free =
+approach_goes s split o t polygon c some walks all front made x y walk x_used y_is y_used free =
     let root : ℕ = t.parents.root in
     let ways : ℕ → List ℕ = up s split t in
     let h : AreWaysUp s split root ways = λ v used. up_path s split t v used in
@@ -271,29 +297,29 @@ approach_goes s split o t polygon c some walks all front below x y walk x_used y
     subst (λ (k : List ℕ). IsWay s.mesh x y (ways x ++ (loop.rest ++ k))) (sym (backward_is y (ways y)))
     (whole_way s.mesh root ways w x y loop x_used y_used) in
     free_way s.mesh x y (ways x ++ (loop.rest ++ backward y (ways y))) walk way
-    (approach_free s split o t polygon c some ways h walks all front below x y walk x_used (free root ways h))
+    (approach_free s split o t polygon c some ways h walks all front made x y walk x_used y_is (free root ways h))
 
 -- the loop of the last side is put in
 pub loop_put_in : (s : OrientedMesh) (split : SplitView) → IsOrientedSurface s → (t : IsSplit s split) → (polygon : PolygonView)
     → IsCutFrom s split polygon
-    → 0 < polygon.degree → (walks : List (List ℕ)) → AreSpokeWalks s split polygon polygon.degree walks → (turn : Lifted) (against : Bool)
-    → IsLastLoop s split polygon against turn → (front : List ℕ) → All (λ i. i < polygon.degree) front
+    → 0 < polygon.degree → (walks : List (List ℕ)) → AreSpokeWalks s split polygon walks → (turn : Lifted) (against : Bool)
+    → IsLastLoop s split polygon against turn → (front : List ℕ) → All (HasWalk walks) front
     → (walk approach new : List ℕ) (y : ℕ)
     → y ≡ origin_of s (last_side polygon) → IsTrue (is_used s.mesh y) → IsWalk s.mesh walk → last_of walk ≡ get_or walk 0 0
     → ((root : ℕ) (ways : ℕ → List ℕ) → AreWaysUp s split root ways
-    → AreFreelyEqual s.mesh (by_loop ways (get_or walk 0 0) y (walks_loop walks true front)) approach)
+    → AreFreelyEqual s.mesh (approach_by ways (get_or walk 0 0) y (walks_loop walks true front)) approach)
     → (IsWalk s.mesh approach
     → AreFreelyEqual s.mesh (get_or walk 0 0 ∷ put_behind (get_or walk 0 0) (drop 1 approach) (drop 1 turn.walk) (drop 1 walk)) new)
     → HasLoopIn s split polygon front against walk new
-loop_put_in s split o t polygon c some walks all turn against last front below walk approach new y y_is y_used w closed free put root ways
+loop_put_in s split o t polygon c some walks all turn against last front made walk approach new y y_is y_used w closed free put root ways
     path h path_below old =
     let x : ℕ = get_or walk 0 0 in
     let own : AreWaysUp s split t.parents.root ways = own_ways s split o t root ways h in
     let same : t.parents.root ≡ root = root_is s split o t root ways h in
     let here : GoesFrom s.mesh x (last_of walk) walk = walk_goes s.mesh walk w in
     let x_used : IsTrue (is_used s.mesh x) = start_used s.mesh x (last_of walk) here.rest here.way in
-    let there : GoesFrom s.mesh x y approach = approach_goes s split o t polygon c some walks all front below x y approach x_used y_used
-    free in
+    let there : GoesFrom s.mesh x y approach = approach_goes s split o t polygon c some walks all front made x y approach x_used y_is
+    y_used free in
     let round : GoesFrom s.mesh y y turn.walk =
     turn_goes_home s.mesh y turn.walk turn.moves.moves y_used
     (subst (λ (v : ℕ). apply_all s.mesh (v ∷ []) turn.moves.moves ≡ Some turn.walk) (sym y_is) last.leads.leads) in
@@ -303,7 +329,7 @@ loop_put_in s split o t polygon c some walks all turn against last front below w
     let here_rest : drop 1 walk ≡ here.rest = ap (drop 1) here.walk_is in
     let out : AreFreelyEqual s.mesh (by_loop ways x y (path_loop s polygon t.parents.root ways true front)) (x ∷ there.rest) =
     subst (AreFreelyEqual s.mesh (by_loop ways x y (path_loop s polygon t.parents.root ways true front))) there.walk_is
-    (approach_free s split o t polygon c some ways own walks all front below x y approach x_used (free t.parents.root ways own)) in
+    (approach_free s split o t polygon c some ways own walks all front made x y approach x_used y_is (free t.parents.root ways own)) in
     let turned : AreFreelyEqual s.mesh (y ∷ round.rest) (by_loop ways y y (signed_loop s polygon t.parents.root ways against)) =
     subst (λ (l : List ℕ). AreFreelyEqual s.mesh l (by_loop ways y y (signed_loop s polygon t.parents.root ways against))) round.walk_is
     (subst (λ (v : ℕ). AreFreelyEqual s.mesh turn.walk (by_loop ways v v (signed_loop s polygon t.parents.root ways against))) (sym y_is)
@@ -326,11 +352,11 @@ loop_put_in s split o t polygon c some walks all turn against last front below w
     out turned begun made)
 
 -- the loop of the last side that is taken, or the way back along it
-pub picked : (s : OrientedMesh) (split : SplitView) (polygon : PolygonView) (looper : Looper) (against : Bool) (turn : Lifted)
-    → IsLooper s split polygon looper
-    → turn ≡ (if against then looper.back else looper.forth) → IsLastLoop s split polygon against turn
-picked s split polygon looper true turn l is = subst (IsLastLoop s split polygon true) (sym is) l.back
-picked s split polygon looper false turn l is = subst (IsLastLoop s split polygon false) (sym is) l.forth
+pub picked : (s : OrientedMesh) (split : SplitView) (polygon : PolygonView) (turns : Turns) (against : Bool) (turn : Lifted)
+    → AreTurns s split polygon turns
+    → turn ≡ (if against then turns.back else turns.forth) → IsLastLoop s split polygon against turn
+picked s split polygon turns true turn l is = subst (IsLastLoop s split polygon true) (sym is) l.back
+picked s split polygon turns false turn l is = subst (IsLastLoop s split polygon false) (sym is) l.forth
 
 -- what is ready to be put in
 pub record IsReady (mesh : FaceList) (x y : ℕ) (approach : List ℕ) (turn : Lifted) : Type 0 where
@@ -340,20 +366,19 @@ pub record IsReady (mesh : FaceList) (x y : ℕ) (approach : List ℕ) (turn : L
 
 pub is_ready : (s : OrientedMesh) (split : SplitView) → IsOrientedSurface s → (t : IsSplit s split) → (polygon : PolygonView)
     → IsCutFrom s split polygon
-    → 0 < polygon.degree → (looper : Looper) → IsLooper s split polygon looper → (turn : Lifted) (against : Bool)
-    → turn ≡ (if against then looper.back else looper.forth) → (front : List ℕ) → All (λ i. i < polygon.degree) front
+    → 0 < polygon.degree → (walks : List (List ℕ)) → AreSpokeWalks s split polygon walks → (turn : Lifted) (against : Bool)
+    → IsLastLoop s split polygon against turn → (front : List ℕ) → All (HasWalk walks) front
     → (x y : ℕ) (names read : List VertexName)
     → y ≡ origin_of s (last_side polygon) → IsTrue (is_used s.mesh x) → IsTrue (is_used s.mesh y) → read ≡ names
     → ((root : ℕ) (ways : ℕ → List ℕ) → AreWaysUp s split root ways
-    → AreFreelyEqual s.mesh (by_loop ways x y (walks_loop looper.spokes true front)) (numbers names))
+    → AreFreelyEqual s.mesh (approach_by ways x y (walks_loop walks true front)) (numbers names))
     → IsReady s.mesh x y (numbers read) turn
-is_ready s split o t polygon c some looper l turn against is front below x y names read y_is x_used y_used same free =
-    let last : IsLastLoop s split polygon against turn = picked s split polygon looper against turn l is in
+is_ready s split o t polygon c some walks all turn against last front made x y names read y_is x_used y_used same free =
     let from_y : LeadsAtPeak s.mesh (y ∷ []) turn.moves turn.walk =
     subst (λ (v : ℕ). LeadsAtPeak s.mesh (v ∷ []) turn.moves turn.walk) (sym y_is) last.leads in
     let there : GoesFrom s.mesh x y (numbers read) =
     subst (λ (k : List VertexName). GoesFrom s.mesh x y (numbers k)) (sym same)
-    (approach_goes s split o t polygon c some looper.spokes l.spokes front below x y (numbers names) x_used y_used free) in
+    (approach_goes s split o t polygon c some walks all front made x y (numbers names) x_used y_is y_used free) in
     record {
       there = there;
       round = turn_goes_home s.mesh y turn.walk turn.moves.moves y_used from_y.leads;

@@ -7,4 +7,5 @@ pub mod LoopFronts
 pub mod Reductions
 pub mod Contractions
 pub mod SpokeWalks
+pub mod StoredWalks
 pub mod Passes

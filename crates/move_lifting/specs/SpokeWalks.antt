@@ -1,5 +1,5 @@
 -- Walks for the loops of spokes and for the loop of the last side.
-use Rattle.std.specs.Prelude.{◌≡◌, ℕ, ◌<◌, Bool, false, true, not, List, [], ◌∷◌, ◌++◌, length, drop, slice_index, slice_index_or}
+use Rattle.std.specs.Prelude.{◌≡◌, ℕ, ◌<◌, Bool, false, true, not, List, [], ◌∷◌, ◌++◌, length, drop, slice_index, slice_index_or, IfSome}
 use Rattle.surf_model.specs.FreeWalks.{AreFreelyEqual, HasNoSpur}
 use Rattle.halfedge_map.specs.OrientedMeshes.{OrientedMesh}
 use Rattle.halfedge_map.specs.DartMaps.{origin_of}
@@ -12,23 +12,29 @@ use Rattle.move_lifting.specs.LoopsPutIn.{signed_loop}
 use Rattle.move_lifting.specs.declared.lifted.Lifted.{Lifted}
 use Rattle.move_lifting.specs.declared.looping.Looper.{Looper}
 use Rattle.move_lifting.specs.declared.looping.Looping.{Looping}
+use Rattle.move_lifting.specs.declared.looping.Turns.{Turns}
 
--- the walk is the loop of the spoke, and has no spur
+-- the walk goes back along the loop of the spoke, from where the last side starts by way of the tree, and has no spur
 pub record IsSpokeWalk (surface : OrientedMesh) (split : SplitView) (polygon : PolygonView) (spoke : ℕ) (walk : List ℕ) : Type 0 where
   pub no_spur : HasNoSpur walk
   pub freely : (root : ℕ) (ways : ℕ → List ℕ) → AreWaysUp surface split root ways
-      → AreFreelyEqual surface.mesh (root ∷ spoke_loop surface polygon root ways spoke) walk
+      → AreFreelyEqual surface.mesh
+      (by_loop ways (origin_of surface (last_side polygon)) (origin_of surface (last_side polygon))
+      (backward root (spoke_loop surface polygon root ways spoke))) walk
 
--- so many walks, each that of its spoke
-pub record AreSpokeWalks (surface : OrientedMesh) (split : SplitView) (polygon : PolygonView) (many : ℕ) (walks : List (List ℕ))
-    : Type 0 where
-  pub count : length walks ≡ many
-  pub each : (spoke : ℕ) → spoke < many → IsSpokeWalk surface split polygon spoke (slice_index_or walks spoke [])
+-- the walk with that number was made
+abbrev pub HasWalk : List (List ℕ) → ℕ → Type 0
+HasWalk walks spoke = 0 < length (slice_index_or walks spoke [])
 
--- the vertices of a walk behind its first one, or those of the way back behind its last one
+-- each walk that was made is that of its spoke
+abbrev pub AreSpokeWalks : OrientedMesh → SplitView → PolygonView → List (List ℕ) → Type 0
+AreSpokeWalks surface split polygon walks =
+    (spoke : ℕ) → HasWalk walks spoke → IsSpokeWalk surface split polygon spoke (slice_index_or walks spoke [])
+
+-- along a walk that is kept backward, as the vertices behind its start, or back along it
 abbrev pub along_or_back : Bool → List ℕ → List ℕ
-along_or_back true walk = drop 1 walk
-along_or_back false walk = backward (slice_index walk 0) (drop 1 walk)
+along_or_back true walk = backward (slice_index walk 0) (drop 1 walk)
+along_or_back false walk = drop 1 walk
 
 -- the way along the walks of a list of numbers: there along the first, back along the second, and so on; or back along the first
 abbrev pub walks_loop : List (List ℕ) → Bool → List ℕ → List ℕ
@@ -45,13 +51,16 @@ pub record IsLastLoop (surface : OrientedMesh) (split : SplitView) (polygon : Po
       (by_loop ways (origin_of surface (last_side polygon)) (origin_of surface (last_side polygon))
       (signed_loop surface polygon root ways back))
 
--- what a looper keeps: the walks of the spokes, and the loop of the last side and the way back along it, each with moves that lead to it
-pub record IsLooper (surface : OrientedMesh) (split : SplitView) (polygon : PolygonView) (looper : Looper) : Type 0 where
-  pub spokes : AreSpokeWalks surface split polygon polygon.degree looper.spokes
-  pub forth : IsLastLoop surface split polygon false looper.forth
-  pub back : IsLastLoop surface split polygon true looper.back
+-- the loop of the last side and the way back along it, each with moves that lead to it
+pub record AreTurns (surface : OrientedMesh) (split : SplitView) (polygon : PolygonView) (turns : Turns) : Type 0 where
+  pub forth : IsLastLoop surface split polygon false turns.forth
+  pub back : IsLastLoop surface split polygon true turns.back
 
--- the polygon is cut from the surface, and the looper is the one of this polygon
+-- what a looper keeps: walks of spokes, and the loop of the last side with the way back along it, if they were made
+pub record IsLooper (surface : OrientedMesh) (split : SplitView) (polygon : PolygonView) (looper : Looper) : Type 0 where
+  pub spokes : AreSpokeWalks surface split polygon looper.spokes
+  pub turns : IfSome looper.turns (AreTurns surface split polygon)
+
+-- the polygon is cut from the surface
 pub record IsLooping (looping : Looping) : Type 0 where
   pub cut : IsCut looping.cut.now
-  pub looper : IsLooper looping.cut.now.on.surface.now looping.cut.now.on.split.now looping.cut.now.polygon.now looping.looper.now

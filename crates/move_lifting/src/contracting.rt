@@ -1,11 +1,11 @@
 //! A closed walk is contracted to its start, along the steps that leave nothing of its spokes.
-ghost use Rattle.std.specs.Prelude.{◌≡◌, ◌+◌, ◌-◌, ◌*◌, ◌<◌, ◌≤◌, ◌^◌, ℕ, List, [], ◌∷◌, length, slice_index, All, Some, IfOk};
+ghost use Rattle.std.specs.Prelude.{◌≡◌, ◌+◌, ◌-◌, ◌*◌, ◌<◌, ◌≤◌, ◌^◌, ℕ, List, [], ◌∷◌, length, slice_index, All, Some, IfOk, OnOk};
 ghost use Rattle.surf_model.specs.FreeWalks.{HasNoSpur};
 ghost use Rattle.surf_model.specs.Walks.{IsWalk};
 ghost use Rattle.spoke_paths.specs.Path_steps.{after_path_step};
 ghost use Rattle.move_lifting.specs.Contractions.{IsLedFrom, LeavesNothing};
 ghost use Rattle.move_lifting.specs.Cuts.{IsCut};
-ghost use Rattle.move_lifting.specs.SpokeWalks.{IsLooping};
+ghost use Rattle.move_lifting.specs.SpokeWalks.{IsLooper, IsLooping};
 ghost use Rattle.move_lifting.specs.LoopFronts.{spokes_in_front};
 ghost use Rattle.move_lifting.specs.LoopsPutIn.{IsFreelyPath};
 ghost use Rattle.move_lifting.specs.Tracks.{GoesOn, last_of};
@@ -20,7 +20,7 @@ use std::alloc::{AllocError, Global};
 /// Contracts a closed walk to its start, with `behind` entries behind it, where the steps leave nothing of its spokes.
 ///
 /// Up to spurs the walk is the loop of its spokes, before and after each step on them. So a walk without spurs, of which no
-/// spokes are left, is one vertex.
+/// spokes are left, is one vertex; where it is one before, the other steps need no moves.
 pub(crate) fn contract(
     alloc: Global,
     cut: &Cut<'_>,
@@ -37,12 +37,8 @@ pub(crate) fn contract(
     ensures leads { IfOk result (λ after. GoesOn cut.now.on.surface.now.mesh behind track.walk track.list after.walk after.list) }
     ensures nothing { IfOk result (λ after. after.walk ≡ slice_index track.walk 0 ∷ []) }
 {
-    let looper = Looper::start(alloc, cut)?;
-    let looping = Looping {
-        cut,
-        looper: &looper,
-        behind,
-    };
+    let looping = Looping { alloc, cut, behind };
+    let mut looper = Looper::new(alloc);
     let Reduction {
         wheel,
         spokes: mut path,
@@ -50,7 +46,10 @@ pub(crate) fn contract(
     } = reduction;
     let mut track = track;
     for step in &steps {
-        track = follow(alloc, &looping, track, &path, *step)?;
+        if track.is_one_vertex() {
+            return Ok(track);
+        }
+        track = follow(&looping, &mut looper, track, &path, *step)?;
         take_step(&wheel, &mut path, *step);
     }
     Ok(track)
@@ -59,13 +58,14 @@ pub(crate) fn contract(
 /// Follows a step on the spokes of a closed walk: a turn across the quad of the last side puts the loop of that side in,
 /// and after every other step the walk is what it was.
 fn follow(
-    alloc: Global,
     looping: &Looping<'_>,
+    looper: &mut Looper,
     track: Track,
     path: &[u32],
     step: PathStep,
 ) -> Result<Track, AllocError>
     requires looping { IsLooping looping.now }
+    requires looper { IsLooper looping.now.cut.now.on.surface.now looping.now.cut.now.on.split.now looping.now.cut.now.polygon.now looper.old }
     requires below { All (λ spoke. spoke < looping.now.cut.now.polygon.now.degree) path.now }
     requires allowed { (next : List ℕ) × (after_path_step looping.now.cut.now.polygon.now.places step path.now ≡ Some next) }
     requires walk { IsWalk looping.now.cut.now.on.surface.now.mesh track.walk }
@@ -73,6 +73,8 @@ fn follow(
     requires no_spur { HasNoSpur track.walk }
     requires spokes { IsFreelyPath looping.now.cut.now.on.surface.now looping.now.cut.now.on.split.now
         looping.now.cut.now.polygon.now path.now track.walk }
+    ensures looper { OnOk result
+        (IsLooper looping.now.cut.now.on.surface.now looping.now.cut.now.on.split.now looping.now.cut.now.polygon.now looper.new) }
     ensures leads { IfOk result (λ after. GoesOn looping.now.cut.now.on.surface.now.mesh looping.now.behind track.walk track.list
         after.walk after.list) }
     ensures no_spur { IfOk result (λ after. HasNoSpur after.walk) }
@@ -98,8 +100,8 @@ fn follow(
     if side != last && partner != last {
         return Ok(track);
     }
-    let front = front_of_loop(alloc, last, path, at, Quad { side, partner })?;
-    looping.put_loop(alloc, track, &front, up)
+    let front = front_of_loop(looping.alloc, last, path, at, Quad { side, partner })?;
+    looping.put_loop(looper, track, &front, up)
 }
 
 /// The two sides that a quad belongs to.

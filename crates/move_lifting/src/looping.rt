@@ -1,14 +1,17 @@
 //! The loop of the last side of a polygon, put into walks.
-ghost use Rattle.std.specs.Prelude.{◌≡◌, ◌<◌, ◌≤◌, ◌^◌, ◌++◌, ℕ, List, true, if◌then◌else◌, length, slice_index, IfOk, OnOk, All};
+ghost use Rattle.std.specs.Prelude.{◌≡◌, ◌<◌, ◌≤◌, ◌^◌, ◌∷◌, ◌++◌, ℕ, List, true, if◌then◌else◌, length, slice_index, IfOk, IfSome, OnOk, All};
 ghost use Rattle.surf_model.specs.FaceLists.{FaceList, is_used};
 ghost use Rattle.surf_model.specs.FreeWalks.{AreFreelyEqual, HasNoSpur};
 ghost use Rattle.surf_model.specs.Vertices.{numbers};
 ghost use Rattle.surf_model.specs.Walks.{IsWalk};
 ghost use Rattle.tree_cotree.specs.Splits.{IsSplit};
-ghost use Rattle.polygon_cut.specs.SpokeLoops.{AreWaysUp, by_loop};
+ghost use Rattle.halfedge_map.specs.OrientedMeshes.{OrientedMesh};
+ghost use Rattle.tree_cotree.specs.Splits.{SplitView};
+ghost use Rattle.polygon_cut.specs.Polygons.{PolygonView};
+ghost use Rattle.polygon_cut.specs.SpokeLoops.{AreWaysUp, backward};
 ghost use Rattle.move_lifting.specs.Cuts.{IsCut};
 ghost use Rattle.move_lifting.specs.LoopsPutIn.{HasLoopIn};
-ghost use Rattle.move_lifting.specs.SpokeWalks.{IsLooper, IsLooping, along_or_back, walks_loop};
+ghost use Rattle.move_lifting.specs.SpokeWalks.{AreTurns, HasWalk, IsLooper, IsLooping, along_or_back, walks_loop};
 ghost use Rattle.move_lifting.specs.Tracks.{GoesOn, last_of};
 
 use crate::cut::Cut;
@@ -22,22 +25,20 @@ use crate::tree_way::way_up;
 use std::alloc::{AllocError, Global};
 use surf_model::VertexName;
 
-/// What is made once for a polygon, so that the loop of its last side can be put into walks.
+/// The loop of the last side of a polygon, and the way back along it.
 #[derive(Drop)]
-pub(crate) struct Looper {
-    spokes: SpokeWalks,
+pub(crate) struct Turns {
     forth: Lifted,
     back: Lifted,
 }
 
-impl Looper {
-    /// Makes it.
-    pub(crate) fn start(alloc: Global, cut: &Cut<'_>) -> Result<Looper, AllocError>
+impl Turns {
+    /// Makes them.
+    fn of(alloc: Global, cut: &Cut<'_>) -> Result<Turns, AllocError>
         requires { IsCut cut.now }
-        ensures { IfOk result (IsLooper cut.now.on.surface.now cut.now.on.split.now cut.now.polygon.now) }
+        ensures { IfOk result (AreTurns cut.now.on.surface.now cut.now.on.split.now cut.now.polygon.now) }
     {
-        Ok(Looper {
-            spokes: SpokeWalks::of(alloc, cut)?,
+        Ok(Turns {
             forth: last_loop(alloc, cut, false)?,
             back: last_loop(alloc, cut, true)?,
         })
@@ -51,11 +52,43 @@ impl Looper {
     }
 }
 
-/// A cut surface with the looper of its polygon, and how many entries stand behind the closed walk that loops are put into.
+/// What is made for a polygon so that the loop of its last side can be put into walks: each part of it when it is wanted first.
+#[derive(Drop)]
+pub(crate) struct Looper {
+    spokes: SpokeWalks,
+    turns: Option<Turns>,
+}
+
+impl Looper {
+    /// Nothing is made yet. It takes no memory.
+    pub(crate) fn new(alloc: Global) -> Looper
+        ensures { (surface : OrientedMesh) (split : SplitView) (polygon : PolygonView) → IsLooper surface split polygon result }
+    {
+        Looper {
+            spokes: SpokeWalks::new(alloc),
+            turns: None,
+        }
+    }
+
+    /// The loop of the last side and the way back along it, which are made if they were not. They are the caller's then.
+    fn take_turns(&mut self, alloc: Global, cut: &Cut<'_>) -> Result<Turns, AllocError>
+        requires cut { IsCut cut.now }
+        requires turns { IfSome self.old.turns (AreTurns cut.now.on.surface.now cut.now.on.split.now cut.now.polygon.now) }
+        ensures turns { IfOk result (AreTurns cut.now.on.surface.now cut.now.on.split.now cut.now.polygon.now) }
+        ensures kept { self.new.spokes ≡ self.old.spokes }
+    {
+        match self.turns.take() {
+            Some(turns) => Ok(turns),
+            None => Turns::of(alloc, cut),
+        }
+    }
+}
+
+/// A cut surface, and how many entries stand behind the closed walk that loops are put into.
 #[derive(Drop)]
 pub(crate) struct Looping<'a> {
+    pub(crate) alloc: Global,
     pub(crate) cut: &'a Cut<'a>,
-    pub(crate) looper: &'a Looper,
     pub(crate) behind: u32,
 }
 
@@ -66,15 +99,18 @@ impl Looping<'_> {
     /// A walk of 2^31 vertices is answered as want of memory.
     pub(crate) fn put_loop(
         &self,
-        alloc: Global,
+        looper: &mut Looper,
         track: Track,
         front: &[u32],
         up: bool,
     ) -> Result<Track, AllocError>
         requires looping { IsLooping self.now }
+        requires looper { IsLooper self.now.cut.now.on.surface.now self.now.cut.now.on.split.now self.now.cut.now.polygon.now looper.old }
         requires front { All (λ spoke. spoke < self.now.cut.now.polygon.now.degree) front.now }
         requires walk { IsWalk self.now.cut.now.on.surface.now.mesh track.walk }
         requires closed { last_of track.walk ≡ slice_index track.walk 0 }
+        ensures looper { OnOk result
+            (IsLooper self.now.cut.now.on.surface.now self.now.cut.now.on.split.now self.now.cut.now.polygon.now looper.new) }
         ensures leads { IfOk result (λ after. GoesOn self.now.cut.now.on.surface.now.mesh self.now.behind track.walk track.list
             after.walk after.list) }
         ensures freely { IfOk result (λ after. HasLoopIn self.now.cut.now.on.surface.now self.now.cut.now.on.split.now
@@ -84,40 +120,44 @@ impl Looping<'_> {
         ensures some { IfOk result (λ after. 0 < length after.walk) }
         ensures few { IfOk result (λ after. length after.walk < 2 ^ 31) }
     {
-        let (cut, looper) = (self.cut, self.looper);
+        let (alloc, cut) = (self.alloc, self.cut);
         let (surface, polygon) = (cut.on.surface, cut.polygon);
+        looper.spokes.make(alloc, cut, front)?;
+        let turns = looper.take_turns(alloc, cut)?;
         let end = surface.origin(polygon.side(polygon.degree() - 1));
-        let approach = self.approach_of(alloc, track.first(), front, end)?;
-        put_turn(alloc, track, &approach, looper.turn(up), self.behind)
+        let approach = self.approach_of(&looper.spokes, track.first(), front, end)?;
+        let after = put_turn(alloc, track, &approach, turns.turn(up), self.behind)?;
+        looper.turns = Some(turns);
+        Ok(after)
     }
 
-    /// From a vertex up the tree, along spokes, and down the tree to another vertex, without spurs.
+    /// From a vertex up the tree, down the tree to another vertex, and along walks of spokes there, without spurs.
     fn approach_of(
         &self,
-        alloc: Global,
+        spokes: &SpokeWalks,
         start: VertexName,
         front: &[u32],
         end: VertexName,
     ) -> Result<Vec<VertexName>, AllocError>
         requires split { IsSplit self.now.cut.now.on.surface.now self.now.cut.now.on.split.now }
-        requires front { All (λ spoke. spoke < length self.now.looper.now.spokes) front.now }
-        requires each { All (λ (walk : List ℕ). 0 < length walk) self.now.looper.now.spokes }
+        requires front { All (HasWalk spokes.now) front.now }
         requires start { is_used self.now.cut.now.on.surface.now.mesh start.0 ≡ true }
         requires end { is_used self.now.cut.now.on.surface.now.mesh end.0 ≡ true }
         ensures { IfOk result (λ walk. (root : ℕ) (ways : ℕ → List ℕ)
             → AreWaysUp self.now.cut.now.on.surface.now self.now.cut.now.on.split.now root ways
             → AreFreelyEqual self.now.cut.now.on.surface.now.mesh
-            (by_loop ways start.0 end.0 (walks_loop self.now.looper.now.spokes true front.now)) (numbers walk.items)) }
+            (start.0 ∷ (ways start.0 ++ (backward end.0 (ways end.0) ++ walks_loop spokes.now true front.now)))
+            (numbers walk.items)) }
     {
-        let (cut, looper) = (self.cut, self.looper);
+        let (alloc, cut) = (self.alloc, self.cut);
         let (surface, split) = (cut.on.surface, cut.on.split);
         let up = way_up(alloc, surface, split, start)?;
         let down = back_along(alloc, &way_up(alloc, surface, split, end)?)?;
         let mut walk = Vec::new(alloc);
         walk.push(start)?;
         put_all(&mut walk, &up[1..])?;
-        put_spokes(alloc, &mut walk, &looper.spokes, front)?;
         put_all(&mut walk, &down)?;
+        put_spokes(alloc, &mut walk, spokes, front)?;
         Ok(walk)
     }
 }
@@ -131,8 +171,7 @@ fn put_spokes(
 ) -> Result<(), AllocError>
     requires some { 0 < length walk.old.items }
     requires no_spur { HasNoSpur (numbers walk.old.items) }
-    requires front { All (λ spoke. spoke < length spokes.now) front.now }
-    requires each { All (λ (walk : List ℕ). 0 < length walk) spokes.now }
+    requires front { All (HasWalk spokes.now) front.now }
     ensures some { OnOk result (0 < length walk.new.items) }
     ensures no_spur { OnOk result (HasNoSpur (numbers walk.new.items)) }
     ensures freely { OnOk result ((mesh : FaceList)
@@ -146,7 +185,7 @@ fn put_spokes(
     Ok(())
 }
 
-/// Goes on along a walk, or back along it, without spurs.
+/// Goes on along a walk that is kept backward, or back along it, without spurs.
 fn put_spoke(
     alloc: Global,
     walk: &mut Vec<VertexName>,
@@ -162,9 +201,9 @@ fn put_spoke(
         → AreFreelyEqual mesh (numbers walk.old.items ++ along_or_back along (numbers spoke.now)) (numbers walk.new.items)) }
 {
     if along {
-        put_all(walk, &spoke[1..])
+        let there = back_along(alloc, spoke)?;
+        put_all(walk, &there)
     } else {
-        let back = back_along(alloc, spoke)?;
-        put_all(walk, &back)
+        put_all(walk, &spoke[1..])
     }
 }

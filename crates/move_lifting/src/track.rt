@@ -95,6 +95,13 @@ impl Track {
         Ok(())
     }
 
+    /// Whether the walk is one vertex.
+    pub(crate) fn is_one_vertex(&self) -> bool
+        ensures { IsTrue result ↔ (length self.now.walk ≡ 1) }
+    {
+        self.earlier.is_empty()
+    }
+
     /// The last vertex.
     pub(crate) fn last(&self) -> VertexName
         ensures vertex { result.0 ≡ last_of self.now.walk }

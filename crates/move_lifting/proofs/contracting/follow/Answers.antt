@@ -31,7 +31,8 @@ returns-then-partner-last-clause-spokes c = λ next e.
     (λ other. c.if-partner-last.true (other ∙ ap (λ n. n - 1) (sym c.degree-last.ensures.degree))) c.requires.spokes
 
 -- the turn is allowed, and so it is across a quad
-turn : (c : goal.Joined-else-side-last) → (c.in-Turn.at + 1 < length c.args.path.now) × IsQuad c.args.looping.now.cut.now.polygon.now.places
+turn : (c : goal.After-front_of_loop-arg-1) → (c.in-Turn.at + 1 < length c.args.path.now)
+    × IsQuad c.args.looping.now.cut.now.polygon.now.places
     c.in-Turn.side c.in-Turn.partner
 turn c =
     some-turn c.args.looping.now.cut.now.polygon.now.places c.in-Turn.side c.in-Turn.partner c.in-Turn.up c.in-Turn.at c.args.path.now
@@ -39,7 +40,7 @@ turn c =
     (subst (λ (step : PathStep). after_path_step c.args.looping.now.cut.now.polygon.now.places step c.args.path.now
     ≡ Some c.requires.allowed.0) c.in-Turn.is c.requires.allowed.1)
 
-below : (c : goal.Joined-else-side-last) → (c.in-Turn.side < c.args.looping.now.cut.now.polygon.now.degree)
+below : (c : goal.After-front_of_loop-arg-1) → (c.in-Turn.side < c.args.looping.now.cut.now.polygon.now.degree)
     × (c.in-Turn.partner < c.args.looping.now.cut.now.polygon.now.degree)
 below c =
     quad_below c.args.looping.now.cut.now.on.surface.now c.args.looping.now.cut.now.on.split.now c.requires.looping.cut.valid

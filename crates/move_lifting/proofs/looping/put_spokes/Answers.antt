@@ -1,11 +1,26 @@
-use Rattle.std.proofs.Common.{ℕ, ◌++◌, true, List, subst, arith}
+use Rattle.std.proofs.Common.{ℕ, ◌<◌, ◌++◌, true, List, length, get_or, ap, subst, arith}
 use Rattle.std.proofs.lemmas.List.{take_all}
 use Rattle.surf_model.specs.FreeWalks.{AreFreelyEqual}
 use Rattle.surf_model.specs.Vertices.{numbers}
 use Rattle.move_lifting.specs.SpokeWalks.{walks_loop}
+use Rattle.move_lifting.proofs.ApproachLemmas.{walk_within}
 use Rattle.move_lifting.proofs.ExpandLemmas.{length-numbers}
 use Rattle.move_lifting.proofs.FrontLemmas.{turned_more, walked_more}
 use Rattle.move_lifting.proofs.looping.put_spokes.Goals as goal
+
+pub get-requires : goal.get-requires
+get-requires c =
+    walk_within c.args.spokes.now (get_or c.args.front.now c.loop-spoke.spoke-index 0)
+    (c.requires.front c.loop-spoke.spoke-index 0 c.loop-spoke-test.true)
+
+pub put_spoke-requires-clause-spoke : goal.put_spoke-requires-clause-spoke
+put_spoke-requires-clause-spoke c =
+    omega (
+      arith,
+      c.requires.front c.loop-spoke.spoke-index 0 c.loop-spoke-test.true,
+      ap (λ (l : List ℕ). length l) c.get.ensures,
+      length-numbers c.get.result.now,
+    )
 
 pub loop-spoke-preserved : goal.loop-spoke-preserved
 loop-spoke-preserved c =

@@ -32,7 +32,7 @@ returns c root ways h =
     let s = c.args.self.now.cut.now.on.surface.now in
     let x : ℕ = c.args.start.0 in
     let y : ℕ = c.args.end.0 in
-    let laid : List ℕ = walks_loop c.args.self.now.looper.now.spokes true c.args.front.now in
+    let laid : List ℕ = walks_loop c.args.spokes.now true c.args.front.now in
     let start : numbers c.push.new.self.items ≡ x ∷ [] =
     one_pending c.push.new.self.items c.new-walk.result.items c.args.start c.in_ok-push.ensures.items
     ∙ ap (λ (l : List VertexName). numbers l ++ x ∷ []) c.new-walk.ensures.items in
@@ -44,11 +44,11 @@ returns c root ways h =
     ap numbers c.deref-3.ensures.value ∙ c.in_ok-down.ensures
     ∙ ap (λ (l : List VertexName). backward (get_or (numbers l) 0 0) (drop 1 (numbers l))) c.deref.ensures.value
     ∙ ap (λ (l : List ℕ). backward (get_or l 0 0) (drop 1 l)) (c.in_ok-way_up.ensures root ways h) in
-    laid_three s.mesh x (numbers c.push.new.self.items) (numbers c.put_all.new.walk.items) (numbers c.put_spokes.new.walk.items)
-    (numbers c.put_all-2.new.walk.items)
-    (ways x) laid (backward y (ways y)) start
+    laid_three s.mesh x (numbers c.push.new.self.items) (numbers c.put_all.new.walk.items) (numbers c.put_all-2.new.walk.items)
+    (numbers c.put_spokes.new.walk.items)
+    (ways x) (backward y (ways y)) laid start
     (subst (λ (l : List ℕ). AreFreelyEqual s.mesh (numbers c.push.new.self.items ++ l) (numbers c.put_all.new.walk.items)) up
     (c.in_ok-put_all.ensures.freely s.mesh))
-    (c.in_ok-put_spokes.ensures.freely s.mesh)
-    (subst (λ (l : List ℕ). AreFreelyEqual s.mesh (numbers c.put_spokes.new.walk.items ++ l) (numbers c.put_all-2.new.walk.items)) down
+    (subst (λ (l : List ℕ). AreFreelyEqual s.mesh (numbers c.put_all.new.walk.items ++ l) (numbers c.put_all-2.new.walk.items)) down
     (c.in_ok-put_all-2.ensures.freely s.mesh))
+    (c.in_ok-put_spokes.ensures.freely s.mesh)

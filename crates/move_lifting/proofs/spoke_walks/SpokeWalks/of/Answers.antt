@@ -1,43 +1,82 @@
-use Rattle.std.proofs.Common.{◌≡◌, ℕ, suc, ◌-◌, ◌<◌, List, [], length, get_or, ap, sym, subst, arith}
+use Rattle.std.proofs.Common.{◌≡◌, inl, inr, ℕ, ◌-◌, ◌<◌, ◌∷◌, [], ◌++◌, false, List, length, get_or, refl, ap, sym, ◌∙◌, subst, arith, if◌then◌else◌}
+use Rattle.std.proofs.lemmas.Bool.{both_ways, cases_lt}
+use Rattle.std.proofs.lemmas.List.{get_or_past}
 use Rattle.surf_model.specs.Vertices.{numbers}
-use Rattle.move_lifting.specs.SpokeWalks.{IsSpokeWalk, AreSpokeWalks}
-use Rattle.move_lifting.proofs.ApproachLemmas.{spoke_some, first_spoke, spoke_after, spokes_more, no_spokes}
-use Rattle.move_lifting.proofs.ExpandLemmas.{length-numbers}
+use Rattle.surf_model.specs.FaceLists.{is_used}
+use Rattle.surf_model.specs.declared.names.VertexName.{VertexName}
+use Rattle.halfedge_map.specs.OrientedMeshes.{OrientedMesh}
+use Rattle.halfedge_map.specs.DartMaps.{origin_of}
+use Rattle.polygon_cut.specs.Polygons.{PolygonView, side_at}
+use Rattle.polygon_cut.specs.SpokeLoops.{last_side}
+use Rattle.move_lifting.specs.SpokeWalks.{HasWalk}
+use Rattle.move_lifting.proofs.ApproachLemmas.{first_spoke, made_more, none_made, last_used, spoke_some}
+use Rattle.move_lifting.proofs.ExpandLemmas.{length-numbers, one_pending}
 use Rattle.move_lifting.proofs.spoke_walks.SpokeWalks.of.Goals as goal
+
+-- where the walks start
+start_is : (s : OrientedMesh) (polygon : PolygonView) (start side count : ℕ) → start ≡ origin_of s side
+    → side ≡ side_at polygon (count - 1) → count ≡ polygon.degree → start ≡ origin_of s (last_side polygon)
+start_is s polygon start side count starts last all =
+    starts ∙ ap (origin_of s) (last ∙ ap (λ (n : ℕ). side_at polygon (n - 1)) all)
 
 pub loop-spoke-init : goal.loop-spoke-init
 loop-spoke-init c =
     let s = c.args.cut.now.on.surface.now in
     let split = c.args.cut.now.on.split.now in
     let polygon = c.args.cut.now.polygon.now in
-    spokes_more s split polygon 0 c.new-walks.result c.push.new.self (numbers c.in_ok-root_alone.field-0.items)
-    (subst (AreSpokeWalks s split polygon 0) (sym c.new-walks.ensures) (no_spokes s split polygon))
-    (first_spoke s split c.requires.on.split polygon (numbers c.in_ok-root_alone.field-0.items) c.in_ok-root_alone.ensures)
-    c.in_ok-push.ensures
+    let alone : numbers c.push.new.self.items ≡ origin_of s (last_side polygon) ∷ [] =
+    one_pending c.push.new.self.items c.new-walk.result.items c.origin-start.result c.in_ok-push.ensures.items
+    ∙ ap (λ (l : List VertexName). numbers l ++ c.origin-start.result.0 ∷ []) c.new-walk.ensures.items
+    ∙ ap (λ (x : ℕ). x ∷ [])
+    (start_is c.args.cut.now.on.surface.now c.args.cut.now.polygon.now c.origin-start.result.0
+    c.side.result.0 c.degree-degree.result
+    c.origin-start.ensures c.side.ensures c.degree-degree.ensures.degree) in
+    none_made s split polygon c.args.named.now c.new-walks.result (numbers c.push.new.self.items) c.new-walks.ensures
+    (first_spoke s split c.requires.cut.valid c.requires.cut.on.split polygon c.requires.cut.polygon c.requires.cut.some
+    (numbers c.push.new.self.items) alone)
 
-pub next_spoke-requires-clause-some : goal.next_spoke-requires-clause-some
-next_spoke-requires-clause-some c =
-    let n : ℕ = c.loop-spoke.spoke - 1 in
-    let known = c.loop-spoke.invariant.each n (omega (arith, c.loop-spoke.auto.spoke)) in
-    let some : 0 < length (get_or c.loop-spoke.walks n []) =
-    spoke_some c.args.cut.now.on.surface.now c.args.cut.now.on.split.now c.requires.valid c.requires.on.split c.args.cut.now.polygon.now
-    c.requires.polygon c.requires.some n
-    (get_or c.loop-spoke.walks n []) known in
-    omega (arith, some, ap (λ (l : List ℕ). length l) c.get.ensures, length-numbers c.get.result.now)
+pub go_round-requires-clause-some : goal.go_round-requires-clause-some
+go_round-requires-clause-some c =
+    omega (
+      arith,
+      spoke_some c.args.cut.now.on.surface.now c.args.cut.now.on.split.now c.requires.cut.valid c.requires.cut.on.split
+          c.args.cut.now.polygon.now c.requires.cut.polygon c.requires.cut.some c.loop-spoke.spoke (numbers c.loop-spoke.walk.items)
+          c.loop-spoke.invariant.own,
+      length-numbers c.loop-spoke.walk.items,
+    )
+
+pub go_round-requires-clause-start : goal.go_round-requires-clause-start
+go_round-requires-clause-start c =
+    ap (is_used c.args.cut.now.on.surface.now.mesh)
+    (start_is c.args.cut.now.on.surface.now c.args.cut.now.polygon.now c.origin-start.result.0
+    c.side.result.0 c.degree-degree.result
+    c.origin-start.ensures c.side.ensures c.degree-degree.ensures.degree)
+    ∙ last_used c.args.cut.now.on.surface.now c.args.cut.now.on.split.now c.requires.cut.valid c.args.cut.now.polygon.now
+    c.requires.cut.polygon c.requires.cut.some
 
 pub loop-spoke-preserved : goal.loop-spoke-preserved
 loop-spoke-preserved c =
-    let s = c.args.cut.now.on.surface.now in
-    let split = c.args.cut.now.on.split.now in
     let polygon = c.args.cut.now.polygon.now in
-    let n : ℕ = c.loop-spoke.spoke - 1 in
-    let count : suc n ≡ c.loop-spoke.spoke = omega (arith, c.loop-spoke.auto.spoke) in
-    let walk : List ℕ = numbers c.get.result.now in
-    let known : IsSpokeWalk s split polygon n walk =
-    subst (IsSpokeWalk s split polygon n) (sym c.get.ensures) (c.loop-spoke.invariant.each n (omega (arith, c.loop-spoke.auto.spoke))) in
-    let next : IsSpokeWalk s split polygon c.loop-spoke.spoke (numbers c.in_ok-next.next.items) =
-    subst (λ (k : ℕ). IsSpokeWalk s split polygon k (numbers c.in_ok-next.next.items)) count
-    (spoke_after s split c.requires.valid c.requires.on.split polygon c.requires.polygon c.requires.some n c.side-side.result.0 walk
-    (numbers c.in_ok-next.next.items) c.side-side.ensures known c.in_ok-next.ensures.no_spur c.in_ok-next.ensures.freely) in
-    spokes_more s split polygon c.loop-spoke.spoke c.loop-spoke.walks c.push-in-loop-spoke.new.self (numbers c.in_ok-next.next.items)
-    c.loop-spoke.invariant next c.in_ok-push-2.ensures
+    let marked = get_or c.args.named.now c.loop-spoke.spoke false in
+    let walk : List ℕ = numbers c.loop-spoke.walk.items in
+    let more : c.push_if.new.self ≡ c.loop-spoke.walks ++ (if marked then walk else []) ∷ [] =
+    c.in_ok-push_if.ensures
+    ∙ ap (λ (l : List VertexName). c.loop-spoke.walks ++ (if marked then numbers l else []) ∷ []) c.deref.ensures.value in
+    made_more c.args.cut.now.on.surface.now c.args.cut.now.on.split.now c.requires.cut.valid c.requires.cut.on.split polygon
+    c.requires.cut.polygon c.requires.cut.some c.args.named.now c.loop-spoke.spoke c.side-in-loop-spoke.result.0
+    c.origin-start.result.0 c.loop-spoke.walks c.push_if.new.self walk (numbers c.go_round.new.walk.items) marked
+    c.side-in-loop-spoke.ensures (start_is c.args.cut.now.on.surface.now c.args.cut.now.polygon.now c.origin-start.result.0
+    c.side.result.0 c.degree-degree.result
+    c.origin-start.ensures c.side.ensures c.degree-degree.ensures.degree) refl c.loop-spoke.invariant more c.in_ok-go_round.ensures.no_spur
+    c.in_ok-go_round.ensures.freely
+
+pub returns-clause-made : goal.returns-clause-made
+returns-clause-made c spoke marked =
+    elim (cases_lt spoke c.loop-spoke.spoke) [
+      | inl below ↦ c.loop-spoke.invariant.made spoke below marked
+      | inr above ↦
+          let none : get_or c.args.named.now spoke false ≡ false =
+          get_or_past c.args.named.now spoke false
+          (omega (arith, above, c.loop-spoke-test.false, c.requires.named, c.degree-degree.ensures.degree)) in
+          absurd (both_ways (get_or c.args.named.now spoke false) none marked)
+    ]

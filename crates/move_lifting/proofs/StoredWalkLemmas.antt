@@ -1,0 +1,61 @@
+-- Walks that lie one after another, and marks for their numbers.
+use Rattle.std.proofs.Common.{◌≡◌, inl, inr, ℕ, ◌+◌, ◌-◌, ◌<◌, ◌≤◌, Bool, true, false, List, [], ◌∷◌, ◌++◌, length, map, take, drop, set, get_or, refl, ap, sym, ◌∙◌, subst, arith}
+use Rattle.std.specs.Prelude.{All}
+use Rattle.std.proofs.lemmas.Bool.{cases_eq}
+use Rattle.std.proofs.lemmas.List.{drop-append-le, drop_all, get_or-set_same, get_or-set_other, length-drop, map-append, take-append-le, take_all}
+use Rattle.std.proofs.lemmas.List.Elements.{All-head, All-more, All-tail}
+use Rattle.surf_model.specs.Vertices.{numbers}
+use Rattle.surf_model.specs.declared.names.VertexName.{VertexName}
+use Rattle.move_lifting.specs.declared.spoke_walks.Place.{Place}
+use Rattle.move_lifting.specs.StoredWalks.{AreWithin, stored_walks, walk_at}
+
+-- a place among the vertices
+abbrev IsWithin : List VertexName → Place → Type 0
+IsWithin vertices place = (place.start ≤ place.end) × (place.end ≤ length vertices)
+
+-- vertices behind a walk leave it
+walk_at-append : (vertices more : List VertexName) (place : Place) → IsWithin vertices place
+    → walk_at (vertices ++ more) place ≡ walk_at vertices place
+walk_at-append vertices more place within =
+    ap (λ (l : List VertexName). numbers (take (place.end - place.start) l)) (drop-append-le place.start vertices more (omega arith))
+    ∙ ap numbers
+    (take-append-le (place.end - place.start) (drop place.start vertices) more (omega (arith, length-drop place.start vertices)))
+
+stored-append : (places : List Place) (vertices more : List VertexName) → AreWithin places vertices
+    → stored_walks places (vertices ++ more) ≡ stored_walks places vertices
+stored-append [] vertices more within = refl
+stored-append (place ∷ places) vertices more within =
+    ap (λ (w : List ℕ). w ∷ stored_walks places (vertices ++ more))
+    (walk_at-append vertices more place (All-head (IsWithin vertices) place places within))
+    ∙ ap (λ (l : List (List ℕ)). walk_at vertices place ∷ l)
+    (stored-append places vertices more (All-tail (IsWithin vertices) place places within))
+
+-- one walk more
+pub stored-push : (places : List Place) (vertices walk : List VertexName) (place : Place) → AreWithin places vertices
+    → place.start ≡ length vertices → place.end ≡ length vertices + length walk
+    → stored_walks (places ++ place ∷ []) (vertices ++ walk) ≡ stored_walks places vertices ++ numbers walk ∷ []
+stored-push places vertices walk place within start end =
+    let behind : drop place.start (vertices ++ walk) ≡ walk =
+    drop-append-le place.start vertices walk (omega (arith, start))
+    ∙ ap (λ (l : List VertexName). l ++ walk) (drop_all place.start vertices (omega (arith, start))) in
+    let own : walk_at (vertices ++ walk) place ≡ numbers walk =
+    ap (λ (l : List VertexName). numbers (take (place.end - place.start) l)) behind
+    ∙ ap numbers (take_all (place.end - place.start) walk (omega (arith, start, end))) in
+    map-append (walk_at (vertices ++ walk)) places (place ∷ [])
+    ∙ ap (λ (l : List (List ℕ)). l ++ walk_at (vertices ++ walk) place ∷ []) (stored-append places vertices walk within)
+    ∙ ap (λ (w : List ℕ). stored_walks places vertices ++ w ∷ []) own
+
+-- one mark more leaves the others
+pub marked_more : (marks : List Bool) (xs : List ℕ) (k : ℕ) (d : ℕ) → k < length xs → get_or xs k d < length marks
+    → All (λ x. get_or marks x false ≡ true) (take k xs)
+    → All (λ x. get_or (set marks (get_or xs k d) true) x false ≡ true) (take (k + 1) xs)
+marked_more marks xs k d l within all =
+    let own : ℕ = get_or xs k d in
+    let same : get_or (set marks own true) own false ≡ true = get_or-set_same marks own true false within in
+    All-more (λ x. get_or (set marks own true) x false ≡ true) xs k d l
+    (λ j e below.
+    let x : ℕ = get_or (take k xs) j e in
+    elim (cases_eq x own) [
+      | inl is ↦ subst (λ (y : ℕ). get_or (set marks own true) y false ≡ true) (sym is) same
+      | inr other ↦ get_or-set_other marks own x true false other ∙ all j e below
+    ]) same

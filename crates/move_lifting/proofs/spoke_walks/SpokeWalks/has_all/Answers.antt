@@ -1,0 +1,16 @@
+use Rattle.std.proofs.Common.{subst, arith}
+use Rattle.std.specs.Prelude.{All}
+use Rattle.std.proofs.lemmas.List.{take_all}
+use Rattle.std.proofs.lemmas.List.Elements.{All-more}
+use Rattle.move_lifting.specs.SpokeWalks.{HasWalk}
+use Rattle.move_lifting.proofs.spoke_walks.SpokeWalks.has_all.Goals as goal
+
+pub loop-spoke-preserved : goal.loop-spoke-preserved
+loop-spoke-preserved c =
+    All-more (HasWalk c.args.self.now) c.args.front.now c.loop-spoke.spoke-index 0 c.loop-spoke-test.true c.loop-spoke.invariant
+    (c.has.ensures.0 c.if-not-has.false)
+
+pub returns : goal.returns
+returns c said =
+    subst (All (HasWalk c.args.self.now))
+    (take_all c.loop-spoke.spoke-index c.args.front.now (omega (arith, c.loop-spoke-test.false))) c.loop-spoke.invariant
