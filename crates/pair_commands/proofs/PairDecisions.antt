@@ -114,6 +114,21 @@ all_yes mesh (pair ∷ pairs) (Different ∷ ds) right = (
   λ all. absurd (differs (right.0.1 (All-head (IsHomotopic mesh) pair pairs all))),
 )
 
+-- as all decisions are, so is the status
+abbrev pub AreHomotopic : List deciding.Answer → Type 0
+AreHomotopic decisions = All (λ decision. decision ≡ Homotopic) decisions
+
+pub status_yes : (decisions : List deciding.Answer) → AreHomotopic decisions → decisions_status decisions ≡ Yes
+status_yes [] all = refl
+status_yes (Homotopic ∷ ds) all = status_yes ds (All-tail (λ (d : deciding.Answer). d ≡ Homotopic) Homotopic ds all)
+status_yes (Different ∷ ds) all = absurd (differs (All-head (λ (d : deciding.Answer). d ≡ Homotopic) Different ds all))
+
+pub status_no : (decisions : List deciding.Answer) → (AreHomotopic decisions → ⊥) → decisions_status decisions ≡ No
+status_no [] none = absurd (none (All-nil (λ (d : deciding.Answer). d ≡ Homotopic)))
+status_no (Homotopic ∷ ds) none =
+    status_no ds (λ all. none (All-cons (λ (d : deciding.Answer). d ≡ Homotopic) Homotopic ds refl all))
+status_no (Different ∷ ds) none = refl
+
 some_decision : (mesh : FaceList) (pair : WalkPair) → ((decision : deciding.Answer) → IsDecision mesh pair decision → ⊥) → ⊥
 some_decision mesh pair none =
     none Different ((λ e. absurd (differs e)), (λ h. absurd (none Homotopic ((λ _. h), (λ _. refl)))))

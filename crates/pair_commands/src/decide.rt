@@ -1,8 +1,6 @@
 //! The command `decide`: whether two walks of a surface are homotopic, for each of several pairs.
-ghost use Rattle.std.specs.Prelude.{◌≡◌, if◌then◌else◌};
-ghost use Rattle.commands.specs.Certificates.{decisions_status};
+ghost use Rattle.std.specs.Prelude.{◌≡◌, ◌↔◌, All, IsTrue};
 ghost use Rattle.commands.specs.Replies.{IsReplyTo, Runs};
-ghost use Rattle.commands.specs.declared.status.Status.{Status};
 ghost use Rattle.pair_commands.specs.Decide as of_decide;
 ghost use Rattle.pair_commands.specs.Decide.{decisions_answer};
 
@@ -42,13 +40,9 @@ fn reply_on(decisions: Vec<Answer>) -> Reply
 
 /// Whether each decision is that walks are homotopic.
 fn are_all_homotopic(decisions: &[Answer]) -> bool
-    ensures { decisions_status decisions.now ≡ (if result then Status.Yes else Status.No) }
+    ensures { IsTrue result ↔ All (λ decision. decision ≡ Answer.Homotopic) decisions.now }
 {
-    for decision in decisions {
-        match decision {
-            Answer::Homotopic => {}
-            Answer::Different => return false,
-        }
-    }
-    true
+    decisions
+        .iter()
+        .all(|decision| *decision == Answer::Homotopic)
 }
