@@ -172,15 +172,3 @@ module _ (old : PartedChains) (slots : List (Option Cell)) (capacity : ℕ) (fre
       → IsEdit old.chains (chains_of (with_head slots name left right)) name (Some (parted_at (joined
       (parted_under old.chains name)) place))
   gone place e = SameLists-done old (seen_with slots name left right spare free.len) name place going.same (before_now ∙ e)
-
--- the place is the one where the chain is
-pub stays : (old : PartedChains) (slots : List (Option Cell)) (capacity : ℕ) (free : Stack) (spare name : ℕ) (left right : Stack)
-    → IsSound slots capacity free spare → record { chains = chains_of slots; spare = spare; free = free.len } ≡ old
-    → under slots name ≡ Some (Head left right) → IsUnder old.chains name
-    → (place : ℕ) → left.len ≡ place
-    → IsEdit old.chains old.chains name (Some (parted_at (joined (parted_under old.chains name)) place))
-stays old slots capacity free spare name left right sound seen head live place here =
-    subst (λ (chains : List (Option Parted)). IsEdit old.chains chains name (Some (parted_at (joined (parted_under old.chains name)) place)))
-    (ap chains_of (set-own slots name (Head left right) head) ∙ ap (λ (c : PartedChains). c.chains) seen)
-    (gone old slots capacity free spare name left right
-    (IsGoing-start old slots capacity free spare name left right sound seen head live) place here)

@@ -233,10 +233,6 @@ impl Cells {
         ensures free { self.new.free ≡ self.old.free }
     {
         let (mut left, mut right) = head(&self.slots, chain);
-        // A call that stays where the last one was takes one look.
-        if left.len == place {
-            return;
-        }
         'on: while left.len < place {
             let (next, value) = entry(&self.slots, right.top);
             write(

@@ -12,11 +12,15 @@ use Rattle.file_pieces.proofs.ReadingLemmas.{kept_and_others}
 use Rattle.file_pieces.proofs.SameLemmas.{SameLine-refl}
 use Rattle.file_pieces.proofs.FileLineLemmas.{line_found}
 
+-- a reading that stands at this place, with these bytes kept
+abbrev pub standing : (limit : ℕ) (ended : Bool) (place : ℕ) (kept : List ℕ) → Reading
+standing limit ended place kept = record { limit = limit; place = place; kept = kept; ended = ended }
+
 -- some of those that are kept were passed over
 pub pass_some : (limit before at filled count : ℕ) (piece : List ℕ) (ended : Bool)
     → count ≤ length (take (filled - at) (drop at piece))
-    → ◌≡◌ {A = Reading} (record { limit = limit; place = before + (at + count); kept = take (filled - (at + count)) (drop (at + count) piece); ended = ended })
-    (record { limit = limit; place = before + at + count; kept = drop count (take (filled - at) (drop at piece)); ended = ended })
+    → standing limit ended (before + (at + count)) (take (filled - (at + count)) (drop (at + count) piece))
+    ≡ standing limit ended (before + at + count) (drop count (take (filled - at) (drop at piece)))
 pass_some limit before at filled count piece ended some =
     let few : count ≤ filled - at = omega (
       arith,
@@ -31,8 +35,8 @@ pass_some limit before at filled count piece ended some =
     ∙ sym (drop-take count (filled - (at + count)) (drop at piece))
     ∙ ap (λ n. drop count (take n (drop at piece))) (sym parts) in
     let place : before + (at + count) ≡ before + at + count = omega arith in
-    ap (λ (kept : List ℕ). let r : Reading = record { limit = limit; place = before + (at + count); kept = kept; ended = ended } in r) same
-    ∙ ap (λ (p : ℕ). let r : Reading = record { limit = limit; place = p; kept = drop count (take (filled - at) (drop at piece)); ended = ended } in r) place
+    ap (standing limit ended (before + (at + count))) same
+    ∙ ap (λ p. standing limit ended p (drop count (take (filled - at) (drop at piece)))) place
 
 -- a line that is kept up to its line feed was passed over
 pub pass_line-reads : (old new : Reading) (file : List ℕ) (len : ℕ) → new ≡ record old {

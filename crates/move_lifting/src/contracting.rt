@@ -65,7 +65,8 @@ fn follow(
     step: PathStep,
 ) -> Result<Track, AllocError>
     requires looping { IsLooping looping.now }
-    requires looper { IsLooper looping.now.cut.now.on.surface.now looping.now.cut.now.on.split.now looping.now.cut.now.polygon.now looper.old }
+    requires looper { IsLooper looping.now.cut.now.on.surface.now looping.now.cut.now.on.split.now looping.now.cut.now.polygon.now
+        looper.old }
     requires below { All (λ spoke. spoke < looping.now.cut.now.polygon.now.degree) path.now }
     requires allowed { (next : List ℕ) × (after_path_step looping.now.cut.now.polygon.now.places step path.now ≡ Some next) }
     requires walk { IsWalk looping.now.cut.now.on.surface.now.mesh track.walk }

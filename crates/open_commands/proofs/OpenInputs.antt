@@ -70,7 +70,8 @@ pub turned_stop : (mesh : FaceList) (stop : Stop) → Passes (open_surface mesh)
 turned_stop mesh stop p h = stops_next (open_surface mesh) orientable mesh stop p h
 
 -- the surface of a file, by that of its mesh
-pub surface_end : (held : Option Files) (name : List ℕ) (mesh : FaceList) (result : Result (FaceList × List Edge) Stop) → Passes (mesh_in held name) mesh
+pub surface_end : (held : Option Files) (name : List ℕ) (mesh : FaceList) (result : Result (FaceList × List Edge) Stop)
+    → Passes (mesh_in held name) mesh
     → IfOk result (λ surface. surface.0 ≡ mesh)
     → MatchResult result (λ _. Passes (as_open_surface mesh) mesh) (Stops (as_open_surface mesh))
     → MatchResult result (λ surface. Passes (open_surface_in held name) surface.0) (Stops (open_surface_in held name))

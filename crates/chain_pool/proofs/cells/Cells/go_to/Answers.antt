@@ -1,12 +1,7 @@
 use Rattle.std.proofs.Common.{arith}
-use Rattle.chain_pool.proofs.Going.{IsGoing-start, going_on, going_back, gone, stays, right_top, left_top, both_now, few_now}
+use Rattle.chain_pool.proofs.Going.{IsGoing-start, going_on, going_back, gone, right_top, left_top, both_now, few_now}
 use Rattle.chain_pool.proofs.Writes.{once_written}
 use Rattle.chain_pool.proofs.cells.Cells.go_to.Goals as goal
-
-pub returns-then-left-place-clause-chain : goal.returns-then-left-place-clause-chain
-returns-then-left-place-clause-chain c =
-    stays c.args.self.now c.self.inside.slots.slots c.self.inside.slots.capacity c.self.inside.free c.self.inside.spare c.args.chain.0
-    c.head.result.0 c.head.result.1 c.self.invariant c.self.view_is c.head.ensures c.requires.live c.args.place c.if-left-place.true
 
 pub on-init : goal.on-init
 on-init c =
