@@ -80,7 +80,7 @@ fn check_limits(faces: &Faces, first: &Walk, second: &Walk) -> Result<(), Stop>
 }
 
 /// A certificate for two walks of a surface with common ends. It is found on the component in which they lie.
-fn find_certificate(
+pub fn find_certificate(
     alloc: Global,
     surface: SignedMesh,
     first: &Walk,

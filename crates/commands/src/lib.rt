@@ -43,4 +43,4 @@ pub use reply::{Reply, give};
 pub use status::Status;
 pub use stop::Stop;
 pub use surface_input::{SignedMesh, read_surface, signed_mesh};
-pub use text::Text;
+pub use text::{Text, put_text};

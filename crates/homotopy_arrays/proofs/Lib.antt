@@ -5,3 +5,4 @@ pub mod PartLemmas
 pub mod EndLemmas
 pub mod CertificateLemmas
 pub mod JudgementLemmas
+pub mod CertificationLemmas

@@ -5,3 +5,4 @@ pub mod CheckedPairs
 pub mod AskedPairs
 pub mod Decisions
 pub mod Judgements
+pub mod Certifications

@@ -2,6 +2,7 @@
 #![tactic(auto)]
 
 mod by_parts;
+mod certify;
 mod decide;
 mod fault;
 pub mod laws;
@@ -10,6 +11,7 @@ mod pair;
 mod surface;
 mod verify;
 
+pub use certify::{CertifyFault, certify_arrays, text_of};
 pub use decide::{PairAnswer, decide_arrays};
 pub use fault::Fault;
 pub use mesh::mesh_of_arrays;

@@ -1,0 +1,79 @@
+-- Certificates, from their parts.
+use Rattle.std.proofs.Common.{◌≡◌, ◌⊎◌, ◌+◌, ◌<◌, ◌≤◌, ℕ, List, sym, ap, subst, ◌∙◌, inl, inr}
+use Rattle.std.specs.Prelude.{MatchResult, Result, Ok, Err}
+use Rattle.surf_model.specs.FaceLists.{FaceList, total_sides}
+use Rattle.surf_model.specs.Walks.{darts}
+use Rattle.move_lifting.specs.declared.expanding.TheConstants.{MOST_LIFTED_SIDES, MOST_LIFTED_DARTS}
+use Rattle.commands.proofs.Certifying.{convinces_decides}
+use Rattle.commands.proofs.Components.{signed_surface}
+use Rattle.commands.specs.Certificates.{Convinces}
+use Rattle.commands.specs.Certify.{IsWithinLimits}
+use Rattle.commands.specs.ClosedSurfaces.{IsSigned}
+use Rattle.commands.specs.declared.certificate.Certificate.{Certificate}
+use Rattle.commands.specs.declared.surface_input.SignedMesh.{SignedMesh}
+use Rattle.homotopy_arrays.specs.Certifications.{Certifies, IsCertified, IsCertifyFault, IsFaultOfPair, IsLimitFault, no_memory}
+use Rattle.homotopy_arrays.specs.Pairs.{AreWalks}
+use Rattle.homotopy_arrays.specs.Surfaces.{IsSurfaceFault, IsSurfaceOf, OfMesh}
+use Rattle.homotopy_arrays.specs.declared.certify.CertifyFault.{CertifyFault}
+use Rattle.homotopy_arrays.specs.declared.certify.CertifyFault.TheVariants.{Darts, Mesh, Sides}
+use Rattle.homotopy_arrays.specs.declared.fault.Fault.{Fault}
+use Rattle.homotopy_arrays.specs.declared.fault.Fault.TheVariants.{OutOfMemory}
+
+-- ---- limits
+
+pub many_sides : (mesh : FaceList) (first second : List ℕ) (sides : ℕ) → sides ≡ total_sides mesh → MOST_LIFTED_SIDES < sides
+    → IsLimitFault mesh first second (Sides sides)
+many_sides mesh first second sides is many = inl (subst (λ (n : ℕ). MOST_LIFTED_SIDES < n) is many, ap Sides is)
+
+pub many_darts : (mesh : FaceList) (first second : List ℕ) (sides count : ℕ) → sides ≡ total_sides mesh → sides ≤ MOST_LIFTED_SIDES
+    → count ≡ darts first + darts second → MOST_LIFTED_DARTS < count → IsLimitFault mesh first second (Darts count)
+many_darts mesh first second sides count is few are many =
+    inr (subst (λ (n : ℕ). n ≤ MOST_LIFTED_SIDES) is few, subst (λ (n : ℕ). MOST_LIFTED_DARTS < n) are many, ap Darts are)
+
+-- ---- certificates
+
+-- what convinces is for the right decision
+pub found : (surface : SignedMesh) (first second : List ℕ) (shown : Certificate) → IsSigned surface → AreWalks surface.faces first second
+    → IsWithinLimits surface.faces first second → Convinces surface.faces first second shown → IsCertified surface.faces first second shown
+found surface first second shown signed are within h =
+    record {
+      walks = are;
+      limits = within;
+      convinces = h;
+      exactly = convinces_decides surface.faces first second shown signed.valid are.first_walk h;
+    }
+
+-- what was found on walks of the mesh
+pub on_walks : (mesh : FaceList) (first second : List ℕ) (end : Result Certificate CertifyFault) → AreWalks mesh first second
+    → MatchResult end (IsCertified mesh first second) (λ fault. (fault ≡ no_memory) ⊎ IsLimitFault mesh first second fault)
+    → MatchResult end (IsCertified mesh first second) (IsFaultOfPair mesh first second)
+on_walks mesh first second (Ok shown) are h = h
+on_walks mesh first second (Err fault) are (inl memory) = inl memory
+on_walks mesh first second (Err fault) are (inr limit) = inr (inr (are, limit))
+
+-- what was found on the surface that the arrays are
+pub on_surface : (read : Result FaceList Fault) (surface : SignedMesh) (first second : List ℕ) (end : Result Certificate CertifyFault)
+    → OfMesh read (λ mesh. IsSurfaceOf mesh surface)
+    → MatchResult end (IsCertified surface.faces first second) (IsFaultOfPair surface.faces first second)
+    → MatchResult end (Certifies read first second) (IsCertifyFault read first second)
+on_surface read surface first second (Ok shown) of h =
+    record {
+      mesh = surface.faces;
+      is = of.is ∙ ap (λ (m : FaceList). Ok m) (sym of.holds.faces);
+      holds = (signed_surface surface of.holds.signed, h);
+    }
+on_surface read surface first second (Err fault) of h =
+    inr (inr (record {
+      mesh = surface.faces;
+      is = of.is ∙ ap (λ (m : FaceList). Ok m) (sym of.holds.faces);
+      holds = inr (signed_surface surface of.holds.signed, h);
+    }))
+
+-- the arrays are no surface
+pub no_surface : (read : Result FaceList Fault) (first second : List ℕ) (fault : Fault) (told : CertifyFault)
+    → (fault ≡ OutOfMemory) ⊎ ((read ≡ Err fault) ⊎ OfMesh read (λ mesh. IsSurfaceFault mesh fault)) → told ≡ Mesh fault
+    → IsCertifyFault read first second told
+no_surface read first second fault told (inl memory) is = inl (is ∙ ap Mesh memory)
+no_surface read first second fault told (inr (inl bad)) is = inr (inl (fault, bad, is))
+no_surface read first second fault told (inr (inr of)) is =
+    inr (inr (record { mesh = of.mesh; is = of.is; holds = inl (fault, of.holds, is) }))

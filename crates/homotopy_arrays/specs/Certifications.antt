@@ -1,0 +1,63 @@
+-- How the question ends for a certificate of two walks.
+use Rattle.std.specs.Prelude.{◌≡◌, ◌⊎◌, ◌↔◌, ℕ, ◌+◌, ◌<◌, ◌≤◌, List, Some, Result, Err}
+use Rattle.surf_model.specs.FaceLists.{FaceList, total_sides}
+use Rattle.surf_model.specs.Moves as moves
+use Rattle.surf_model.specs.Walks.{darts}
+use Rattle.move_lifting.specs.declared.expanding.TheConstants.{MOST_LIFTED_SIDES, MOST_LIFTED_DARTS}
+use Rattle.walk_translate.specs.declared.deciding.Answer.TheVariants as deciding
+use Rattle.commands.specs.Certificates.{Convinces, decision_of}
+use Rattle.commands.specs.Certify.{IsWithinLimits}
+use Rattle.commands.specs.ClosedSurfaces.{IsOrientableSurface}
+use Rattle.commands.specs.declared.certificate.Certificate.{Certificate}
+use Rattle.homotopy_arrays.specs.Pairs.{AreWalks, walks_fault}
+use Rattle.homotopy_arrays.specs.Surfaces.{IsSurfaceFault, OfMesh}
+use Rattle.homotopy_arrays.specs.declared.certify.CertifyFault.{CertifyFault}
+use Rattle.homotopy_arrays.specs.declared.certify.CertifyFault.TheVariants.{Mesh, Walks, Sides, Darts}
+use Rattle.homotopy_arrays.specs.declared.fault.Fault.{Fault}
+use Rattle.homotopy_arrays.specs.declared.fault.Fault.TheVariants.{OutOfMemory}
+use Rattle.homotopy_arrays.specs.declared.pair.WalkFault.{WalkFault}
+
+-- two walks of the mesh with common ends, within the limits, and a certificate that shows what holds of them: moves where they are
+-- homotopic, and a denial where they are not
+pub record IsCertified (mesh : FaceList) (first second : List ℕ) (shown : Certificate) : Type 0 where
+  pub walks : AreWalks mesh first second
+  pub limits : IsWithinLimits mesh first second
+  pub convinces : Convinces mesh first second shown
+  pub exactly : (decision_of shown ≡ deciding.Homotopic) ↔ moves.Homotopic mesh first second
+
+-- the arrays are an orientable closed surface, and the certificate is for two walks of it; `read` is the mesh that they are, or what is
+-- first wrong with them
+abbrev pub Certifies : (read : Result FaceList Fault) → (first second : List ℕ) → Certificate → Type 0
+Certifies read first second shown = OfMesh read (λ mesh. IsOrientableSurface mesh × IsCertified mesh first second shown)
+
+-- ---- what is wrong
+
+abbrev pub no_memory : CertifyFault
+no_memory = Mesh OutOfMemory
+
+-- the surface has too many sides; or it has not, and the walks have too many darts
+abbrev pub IsLimitFault : FaceList → (first second : List ℕ) → CertifyFault → Type 0
+IsLimitFault mesh first second fault =
+    ((MOST_LIFTED_SIDES < total_sides mesh) × (fault ≡ Sides (total_sides mesh)))
+    ⊎ ((total_sides mesh ≤ MOST_LIFTED_SIDES) × (MOST_LIFTED_DARTS < darts first + darts second)
+    × (fault ≡ Darts (darts first + darts second)))
+
+-- memory is wanting; or these are not two walks of the mesh with common ends; or they are, and something is too large
+abbrev pub IsFaultOfPair : FaceList → (first second : List ℕ) → CertifyFault → Type 0
+IsFaultOfPair mesh first second fault =
+    (fault ≡ no_memory)
+    ⊎ (((walks : WalkFault) × (walks_fault mesh first second ≡ Some walks) × (AreWalks mesh first second → ⊥) × (fault ≡ Walks walks))
+    ⊎ (AreWalks mesh first second × IsLimitFault mesh first second fault))
+
+-- the mesh is no orientable closed surface; or it is one, and something is wrong with the walks, or too large
+abbrev pub IsFaultOfMesh : FaceList → (first second : List ℕ) → CertifyFault → Type 0
+IsFaultOfMesh mesh first second fault =
+    ((first_fault : Fault) × IsSurfaceFault mesh first_fault × (fault ≡ Mesh first_fault))
+    ⊎ (IsOrientableSurface mesh × IsFaultOfPair mesh first second fault)
+
+-- memory is wanting; or the arrays are no mesh; or they are one, and something is wrong with it or with the walks, or too large
+abbrev pub IsCertifyFault : (read : Result FaceList Fault) → (first second : List ℕ) → CertifyFault → Type 0
+IsCertifyFault read first second fault =
+    (fault ≡ no_memory)
+    ⊎ (((first_fault : Fault) × (read ≡ Err first_fault) × (fault ≡ Mesh first_fault))
+    ⊎ OfMesh read (λ mesh. IsFaultOfMesh mesh first second fault))
