@@ -29,7 +29,7 @@ enum homotopy_code {
     HOMOTOPY_HOMOTOPIC = 1,         /* the walks are homotopic */
     HOMOTOPY_DIFFERENT = 2,         /* they are two walks of the surface with common ends, and are not homotopic */
     HOMOTOPY_ACCEPTED = 3,          /* the certificate is accepted */
-    HOMOTOPY_SHORT_ROOM = 4,        /* the caller's array is too short [the length that is wanted] */
+    HOMOTOPY_SHORT_ROOM = 4,        /* the caller's array is too short [the length that is wanted; the answer] */
     HOMOTOPY_NO_MEMORY = 5,         /* memory was wanting; this says nothing of the mesh or of the walks */
 
     HOMOTOPY_MANY_VERTICES = 10,    /* more than 1,000,000 vertices */
@@ -74,7 +74,10 @@ enum homotopy_code {
     HOMOTOPY_REJECTED_PLACE = 59,      /* two spokes have this place [place] */
     HOMOTOPY_REJECTED_EDGE = 60,       /* the labels at an edge meet no rule [lower vertex, higher vertex] */
     HOMOTOPY_REJECTED_WORD = 61,       /* the word of a walk is another one [walk] */
-    HOMOTOPY_REJECTED_EQUAL = 62       /* both words are right, and are equal */
+    HOMOTOPY_REJECTED_EQUAL = 62,      /* both words are right, and are equal */
+
+    HOMOTOPY_CERTIFY_SIDES = 70, /* the surface has more sides than a certificate is made on, 16,384 [sides] */
+    HOMOTOPY_CERTIFY_DARTS = 71  /* the walks together have more darts than one is made for, 512 [darts] */
 };
 
 /* A code of the list above, and the numbers that belong to it; 0 where there are fewer. */
@@ -107,6 +110,16 @@ void homotopy_decide(
     uint32_t vertices, const uint32_t *sizes, size_t face_count, const uint32_t *corners, size_t corner_count,
     const uint32_t *walk_sizes, size_t walk_count, const uint32_t *walk_vertices, size_t walk_vertex_count,
     uint8_t *answers, size_t answer_room, homotopy_outcome *outcome);
+
+/* Whether two walks on an orientable closed surface are homotopic, with the text that shows it, as the program's `certify` prints it: a
+ * list of moves, or a denial. Code HOMOTOPIC or DIFFERENT, and the length of the text, which stands in front of `text`; or SHORT_ROOM,
+ * where it has too little room, with the length that is wanted and the code of the answer; or what is first wrong with the mesh or the
+ * walks, or what is too large. `text` is left as it was then. The text is made in memory first: a call with no room costs what one with
+ * room does. */
+void homotopy_certify(
+    uint32_t vertices, const uint32_t *sizes, size_t face_count, const uint32_t *corners, size_t corner_count,
+    const uint32_t *first, size_t first_count, const uint32_t *second, size_t second_count,
+    uint8_t *text, size_t text_room, homotopy_outcome *outcome);
 
 /* What comes of a certificate between two walks on a mesh, which need be no surface. `certificate` is a text as `certify` prints it: a list
  * of moves that leads from the first walk to the second, or a denial, by which none does. Code ACCEPTED where it does; REJECTED_.. for the

@@ -97,8 +97,69 @@ static void walks(void) {
     EXPECT(is(outcome, HOMOTOPY_CORNER_RANGE, 1, 0, 0));
 }
 
+/* The torus of seven vertices: triangles i, i + 1, i + 3 and i, i + 3, i + 2, modulo 7. What is certified is judged. */
+static void certified(const uint32_t *first, size_t firsts, const uint32_t *second, size_t seconds, uint32_t code, const char *begin) {
+    uint32_t sizes[14], corners[42];
+    for (uint32_t i = 0; i < 7; i++) {
+        const uint32_t faces[] = {i, (i + 1) % 7, (i + 3) % 7, i, (i + 3) % 7, (i + 2) % 7};
+        memcpy(corners + 6 * i, faces, sizeof faces);
+        sizes[2 * i] = sizes[2 * i + 1] = 3;
+    }
+    homotopy_outcome outcome;
+    uint8_t none[1] = {7};
+    homotopy_certify(7, sizes, 14, corners, 42, first, firsts, second, seconds, none, 0, &outcome);
+    EXPECT(outcome.code == HOMOTOPY_SHORT_ROOM && outcome.numbers[1] == code && none[0] == 7);
+    size_t length = outcome.numbers[0];
+
+    uint8_t *text = malloc(length);
+    memset(text, 7, length);
+    homotopy_certify(7, sizes, 14, corners, 42, first, firsts, second, seconds, text, length - 1, &outcome);
+    EXPECT(is(outcome, HOMOTOPY_SHORT_ROOM, length, code, 0) && text[0] == 7 && text[length - 1] == 7);
+    homotopy_certify(7, sizes, 14, corners, 42, first, firsts, second, seconds, text, length, &outcome);
+    EXPECT(is(outcome, code, length, 0, 0) && memcmp(text, begin, strlen(begin)) == 0 && text[length - 1] == '\n');
+    homotopy_verify(7, sizes, 14, corners, 42, first, firsts, second, seconds, text, length, &outcome);
+    EXPECT(is(outcome, HOMOTOPY_ACCEPTED, 0, 0, 0));
+    free(text);
+}
+
+static void certificates(void) {
+    static const uint32_t over[] = {0, 1, 3}, under[] = {0, 2, 3}, round[] = {0, 1, 2, 3}, straight[] = {0, 3};
+    certified(over, 3, under, 3, HOMOTOPY_HOMOTOPIC, "homotopic\nMOVES ");
+    certified(round, 4, straight, 2, HOMOTOPY_DIFFERENT, "different\nLABELS 4\n");
+
+    uint8_t text[1000];
+    homotopy_outcome outcome;
+    homotopy_certify(4, SIZES, 3, TETRA, 9, ROUND, 3, SHORT, 2, text, sizeof text, &outcome);
+    EXPECT(is(outcome, HOMOTOPY_EDGE_SIDES, 1, 2, 1));
+    homotopy_certify(4, SIZES, 4, TETRA, 12, ROUND, 0, SHORT, 2, text, sizeof text, &outcome);
+    EXPECT(is(outcome, HOMOTOPY_EMPTY_WALK, 1, 0, 0));
+
+    /* 256 steps each way are 512 darts, and one more is too many. */
+    uint32_t way[514];
+    for (uint32_t k = 0; k < COUNT(way); k++) way[k] = k % 2;
+    text[0] = 7;
+    homotopy_certify(4, SIZES, 4, TETRA, 12, way, 514, way, 2, text, sizeof text, &outcome);
+    EXPECT(is(outcome, HOMOTOPY_CERTIFY_DARTS, 514, 0, 0) && text[0] == 7);
+    homotopy_certify(4, SIZES, 4, TETRA, 12, way, 512, way, 2, text, 0, &outcome);
+    EXPECT(outcome.code == HOMOTOPY_SHORT_ROOM && outcome.numbers[1] == HOMOTOPY_HOMOTOPIC);
+
+    /* A torus of 64 times 65 squares has 16,640 sides. */
+    enum { WIDE = 64, HIGH = 65, FACES = WIDE * HIGH };
+    static uint32_t squares[4 * FACES], fours[FACES];
+    for (uint32_t y = 0; y < HIGH; y++)
+        for (uint32_t x = 0; x < WIDE; x++) {
+            const uint32_t right = (x + 1) % WIDE, up = (y + 1) % HIGH;
+            const uint32_t ring[4] = {WIDE * y + x, WIDE * y + right, WIDE * up + right, WIDE * up + x};
+            memcpy(squares + 4 * (WIDE * y + x), ring, sizeof ring);
+            fours[WIDE * y + x] = 4;
+        }
+    homotopy_certify(FACES, fours, FACES, squares, 4 * FACES, way, 2, way, 2, text, sizeof text, &outcome);
+    EXPECT(is(outcome, HOMOTOPY_CERTIFY_SIDES, 16640, 0, 0));
+}
+
 int main(void) {
     lists();
+    certificates();
     denials();
     texts();
     walks();

@@ -1,3 +1,4 @@
 pub mod Outcomes
 pub mod Told
 pub mod Judged
+pub mod Certified

@@ -125,3 +125,9 @@ pub const REJECTED_WORD: u8 = 61;
 
 /// Rejected: both words are right, and are equal.
 pub const REJECTED_EQUAL: u8 = 62;
+
+/// The surface has more sides than a certificate is made on, and their number.
+pub const CERTIFY_SIDES: u8 = 70;
+
+/// The walks together have more darts than a certificate is made for, and their number.
+pub const CERTIFY_DARTS: u8 = 71;

@@ -5,6 +5,7 @@
 //! Proved: each outcome is the one that the mesh and the walks of the arrays have, by the definitions of `homotopy_arrays`.
 #![tactic(auto)]
 
+mod certify;
 pub mod codes;
 mod decide;
 pub mod outcome;

@@ -20,6 +20,8 @@ for code in homotopy.decide(GRID * GRID, faces, pairs):
 # One face crossed, and the same face the other way.
 print(homotopy.verify(GRID * GRID, faces, [0, 1, GRID + 1], [0, GRID, GRID + 1], b"MOVES 1 2\nf 0 0 0 + 2\n"))
 print(homotopy.verify(GRID * GRID, faces, [0, 1, GRID + 1], [0, GRID, GRID + 1], b"MOVES 1 2\nf 0 0 0 - 2\n"))
+shown, text = homotopy.certify(GRID * GRID, faces, row, column)
+print(shown == homotopy.DIFFERENT, text[:9].decode(), homotopy.verify(GRID * GRID, faces, row, column, text))
 
 try:
     homotopy.surface(4, [(0, 1, 2), (0, 3, 1), (0, 2, 3)])

@@ -20,6 +20,7 @@ MESSAGES = {
     23: "not orientable", 30: "the walks are not pairs",
     31: "walk {0} has no vertex", 32: "walk {0} is too long", 33: "walk {0} has no vertex of the mesh at place {1}",
     34: "walk {0} has no edge behind place {1}", 35: "the walks start at different vertices", 36: "the walks end at different vertices",
+    70: "more than 16,384 corners are too many for certify", 71: "more than 512 steps are too many for certify",
     40: "the certificate is too long", 41: "the certificate is empty", 42: "line {0} of the certificate is bad",
     43: "the certificate ends at line {0}", 44: "line {0} of the certificate is one too many", 45: "the peak on line {0} is too large",
 }
@@ -46,6 +47,8 @@ _library.homotopy_surface.argtypes = [ctypes.c_uint32] + 2 * _ARRAY + [ctypes.PO
 _library.homotopy_surface.restype = None
 _library.homotopy_decide.argtypes = [ctypes.c_uint32] + 5 * _ARRAY + [ctypes.POINTER(_Outcome)]
 _library.homotopy_decide.restype = None
+_library.homotopy_certify.argtypes = [ctypes.c_uint32] + 5 * _ARRAY + [ctypes.POINTER(_Outcome)]
+_library.homotopy_certify.restype = None
 _library.homotopy_verify.argtypes = [ctypes.c_uint32] + 5 * _ARRAY + [ctypes.POINTER(_Outcome)]
 _library.homotopy_verify.restype = None
 
@@ -117,6 +120,21 @@ def decide(vertices, faces, pairs):
                              outcome)
     _check(outcome)
     return answers[:len(walks) // 2]
+
+
+def certify(vertices, faces, first, second):
+    """HOMOTOPIC or DIFFERENT, with the text of bytes that shows it."""
+    count, sizes, corners = _mesh(vertices, faces)
+    one, other, outcome, room = _lent(first), _lent(second), _Outcome(), 65536
+    while True:
+        text = (ctypes.c_uint8 * room)()
+        _library.homotopy_certify(count, *sizes[1:], *corners[1:], *one[1:], *other[1:], ctypes.addressof(text), room, outcome)
+        if outcome.code != 4:
+            break
+        room = outcome.numbers[0]
+    if outcome.code in (HOMOTOPIC, DIFFERENT):
+        return outcome.code, bytes(text[:outcome.numbers[0]])
+    _check(outcome)
 
 
 def verify(vertices, faces, first, second, certificate):
