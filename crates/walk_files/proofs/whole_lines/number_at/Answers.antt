@@ -7,7 +7,8 @@ loop-rest-init c = no_digits (after_head c.args.bytes.now)
 
 pub loop-rest-preserved : goal.loop-rest-preserved
 loop-rest-preserved c =
-    subst (λ d. PastDigits (after_head c.args.bytes.now) (c.loop-rest.value * 10 + d) (after_head c.loop-rest.rest.now)) (sym c.from.ensures)
+    subst (λ d. PastDigits (after_head c.args.bytes.now) (c.loop-rest.value * 10 + d) (after_head c.loop-rest.rest.now))
+    (sym c.from.ensures)
     (one_digit (after_head c.args.bytes.now) c.loop-rest.rest.now c.loop-rest.value c.in-len1-up.len_at_least
     (grind (arith, c.if-not-is_ascii_digit.ensures.value, c.if-not-is_ascii_digit.false)) c.loop-rest.invariant)
 
