@@ -91,7 +91,7 @@ fn keep_dart(ups: &mut [Option<DartName>], surface: &Surface, split: &Split, edg
 {
     // The proof reads what holds of every surface.
     let _ = surface.faces();
-    if let Some(face) = split.child_face(surface, edge) {
+    if let Some(face) = split.child_face(edge) {
         ups[face.0 as usize] = Some(dart_in(surface, edge, face));
     }
 }

@@ -38,7 +38,7 @@ pub(crate) fn face_below(
 {
     let faces = surface.faces();
     let dart = surface.dart_between(from, to).unwrap();
-    let face = split.child_face(surface, surface.edge_of(dart))?;
+    let face = split.child_face(surface.edge_of(dart))?;
     let side = faces.side_at(dart_in(surface, dart, face));
     Some(step_along(faces, side, from))
 }

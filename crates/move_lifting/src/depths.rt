@@ -57,7 +57,7 @@ fn find_below(
     for _side in 0..surface.faces().sides(face) {
         let twin = surface.twin(side);
         let below = surface.face_of(twin);
-        let child = on.split.child_face(surface, surface.edge_of(side));
+        let child = on.split.child_face(surface.edge_of(side));
         if child == Some(below) && depths[below.0 as usize] == DEEPEST {
             depths[below.0 as usize] = depth;
             found.push(twin)?;

@@ -1,5 +1,5 @@
 -- A colouring with a tree, a cotree and a root face is one of a split: ways are there within the tree and within the cotree.
-use Rattle.std.proofs.Common.{◌≡◌, ℕ, true, List, length, get_or, refl, ap, sym, ◌∙◌, subst}
+use Rattle.std.proofs.Common.{◌≡◌, ◌<◌, ℕ, true, List, length, get_or, refl, ap, sym, ◌∙◌, subst}
 use Rattle.surf_model.specs.FaceLists.{is_used}
 use Rattle.halfedge_map.specs.OrientedMeshes.{OrientedMesh, IsOrientedSurface}
 use Rattle.halfedge_map.specs.RotationSystems.{Rotations, rotations_of, IsRotationSystem, NamesAll}
@@ -7,13 +7,14 @@ use Rattle.halfedge_map.proofs.SystemLemmas.{rotation_system, names_all}
 use Rattle.tree_cotree.specs.declared.split.Kind.{Kind}
 use Rattle.tree_cotree.specs.declared.split.Kind.TheVariants.{Tree, Cotree}
 use Rattle.tree_cotree.specs.SpanningTrees.{IsSpanningTree}
-use Rattle.tree_cotree.specs.Searches.{has_kind}
+use Rattle.tree_cotree.specs.Searches.{has_kind, IsNamed}
 use Rattle.tree_cotree.specs.Splits.{SplitView, IsSplit, HasTrees, in_tree, in_cotree}
 use Rattle.tree_cotree.specs.StoredSplits.{made_split}
 use Rattle.tree_cotree.specs.Colourings.{ColouringView, colouring_of, IsColouring}
 use Rattle.tree_cotree.specs.ColouredTrees.{without_ways, HasColouredTrees}
 use Rattle.tree_cotree.proofs.LawLemmas.{vertex_nodes, face_nodes, some_dart}
-use Rattle.tree_cotree.proofs.TreeLemmas.{kept_allowed}
+use Rattle.tree_cotree.proofs.TreeLemmas.{kept_apart, kept_allowed}
+use Rattle.tree_cotree.proofs.BelowLemmas.{faces_there}
 use Rattle.tree_cotree.proofs.SplittingLemmas.{tree_kind, cotree_kind, parents_from, child_faces_from}
 use Rattle.tree_cotree.proofs.ColourOrders.{finds_all_within}
 
@@ -37,14 +38,18 @@ coloured_trees_are_of_a_split s colouring o c =
     let start : ℕ = top.0 in
     let across = finds_all_within maps maps.face (λ f. true) (length s.mesh.faces) (length s.table) (has_kind kinds Cotree) start r
     (face_nodes s names) cotree top.1 in
-    let split : SplitView = made_split kinds up.0 across.0 (maps.face start) colouring.genus in
+    let below = faces_there maps across.0 (length s.table)
+    (kept_apart maps maps.face (has_kind kinds Cotree) (length s.mesh.faces) (maps.face start) across.1.order across.0 r across.1.is_order)
+    (λ v x e. let name : IsNamed maps.face across.1.order v x = across.1.is_order.only v x e in
+    names.edge_below x (subst (λ d. d < maps.darts) name.is (across.1.is_order.within name.place name.within))) (length across.0) in
+    let split : SplitView = made_split kinds up.0 below.0 (maps.face start) colouring.genus in
     record {
       split = split;
       is_split = record {
         trees = record { each_edge = c.trees.each_edge; tree = c.trees.tree; cotree = c.trees.cotree };
-        parents = parents_from s o kinds up.0 across.0 0 (maps.face start) colouring.genus (has_kind kinds Tree) (some_dart s o) up.1
+        parents = parents_from s o kinds up.0 below.0 0 (maps.face start) colouring.genus (has_kind kinds Tree) (some_dart s o) up.1
             (λ v x e. kept_allowed maps maps.origin (has_kind kinds Tree) s.mesh.count (maps.origin 0) up.1.order up.0 v x up.1.is_order e);
-        child_faces = child_faces_from s o kinds up.0 across.0 start colouring.genus top.1 cotree across.1;
+        child_faces = child_faces_from s o kinds up.0 across.0 below.0 start colouring.genus top.1 cotree across.1 below.1 below.2;
         root_left = λ d l is. let there = c.root_left d l is in (there.0, there.1, there.2, there.3 ∙ sym top.2);
         genus = c.genus;
       };

@@ -8,6 +8,7 @@ use Rattle.std.proofs.lemmas.List.{length-map, length-replicate, get_or-replicat
 use Rattle.surf_model.specs.FaceLists.{is_used}
 use Rattle.surf_model.specs.Surfaces.{AreJoined}
 use Rattle.surf_model.specs.declared.names.DartName.{DartName}
+use Rattle.surf_model.specs.declared.names.FaceName.{FaceName}
 use Rattle.halfedge_map.specs.Numbers.{count_below}
 use Rattle.halfedge_map.specs.OrientedMeshes.{OrientedMesh, IsOrientedSurface}
 use Rattle.halfedge_map.specs.RotationSystems.{Rotations, rotations_of, IsRotationSystem, NamesAll}
@@ -17,15 +18,18 @@ use Rattle.tree_cotree.specs.declared.split.Kind.TheVariants.{Tree, Cotree, Left
 use Rattle.tree_cotree.specs.SpanningTrees.{IsSpanningTree, HasOneRing}
 use Rattle.tree_cotree.specs.Searches.{same_kind, has_kind, back_at, IsFound, IsNamed, IsSearched, FindsAll}
 use Rattle.tree_cotree.specs.Markings.{AreMarked, IsMarked}
-use Rattle.tree_cotree.specs.Splits.{SplitView, HasParents, HasChildFaces, HasTrees, IsSplit, StepsToParent, StepsUp, child_face, face_with, in_tree, in_cotree, is_left, is_tree_kind, is_cotree_kind, is_left_kind}
+use Rattle.tree_cotree.specs.Splits.{SplitView, HasParents, HasChildFaces, HasTrees, IsSplit, StepsToParent, StepsUp, below_edge, in_tree, in_cotree, is_left, is_tree_kind, is_cotree_kind, is_left_kind}
+use Rattle.tree_cotree.specs.Ways.{HasRoot}
+use Rattle.tree_cotree.specs.EdgeFaces.{face_at, AreBelowEdges}
 use Rattle.tree_cotree.specs.StoredSplits.{dart_options, made_split}
 use Rattle.tree_cotree.proofs.ClassLemmas.{count_same}
 use Rattle.tree_cotree.proofs.SetLemmas.{with_one, with_cases, with_keeps, count_with, same_from_count}
 use Rattle.tree_cotree.proofs.GrowthLemmas.{HasNodes}
 use Rattle.tree_cotree.proofs.SplitLemmas.{tree_ring, closed_holds_all}
 use Rattle.tree_cotree.proofs.LawLemmas.{vertex_nodes, face_nodes, some_dart, even}
-use Rattle.tree_cotree.proofs.TreeLemmas.{crossed_from, vertices_found, kept_nodes, root_not_kept, kept_join, kept_apart, all_to_root, kept_allowed}
-use Rattle.tree_cotree.proofs.BelowLemmas.{AreBelowEdges, options_read, below_edges}
+use Rattle.tree_cotree.proofs.TreeLemmas.{crossed_from, vertices_found, kept_nodes, root_not_kept, kept_join, all_to_root, kept_allowed}
+use Rattle.tree_cotree.proofs.TurningLemmas.{allow}
+use Rattle.tree_cotree.proofs.BelowLemmas.{options_read, faces_read}
 
 pub option_cases : (o : Option ℕ) → (o ≡ None) ⊎ ((x : ℕ) × (o ≡ Some x))
 option_cases None = inl refl
@@ -114,7 +118,8 @@ spans maps node allowed bound root edges is_node from old inside r n f l m none 
     }
 
 -- the parts of a split that is made so
-pub record IsMade (s : OrientedMesh) (k0 k1 k2 : List Kind) (p q t : List (Option DartName)) (start : ℕ) : Type 0 where
+pub record IsMade (s : OrientedMesh) (k0 k1 k2 : List Kind) (p q t : List (Option DartName)) (b : List (Option FaceName)) (start : ℕ)
+    : Type 0 where
   pub first : k0 ≡ replicate (length s.table) Left
   pub tree : IsSearched (rotations_of s) (rotations_of s).origin (λ e. true) s.mesh.count ((rotations_of s).origin 0) p
   pub marked : IsMarked (rotations_of s) p Tree k0 k1 (length p)
@@ -124,6 +129,8 @@ pub record IsMade (s : OrientedMesh) (k0 k1 k2 : List Kind) (p q t : List (Optio
   pub start_left : (d : ℕ) → d < (rotations_of s).darts → has_kind k2 Left ((rotations_of s).edge d) ≡ true
       → has_kind k2 Left ((rotations_of s).edge start) ≡ true
   pub hanging : FindsAll (rotations_of s) (rotations_of s).face (has_kind k2 Cotree) (length s.mesh.faces) ((rotations_of s).face start) t
+  pub each_edge : length b ≡ length s.table
+  pub below : AreBelowEdges (rotations_of s) t (length s.table) (face_at b) (length t)
 
 -- the first search: all edges are allowed
 pub all_left : (s : OrientedMesh) (k0 : List Kind) (e : ℕ) → k0 ≡ replicate (length s.table) Left → e < length s.table
@@ -178,6 +185,22 @@ cotree_found s h k0 k1 p q is f m searched =
           0 d (some_dart s h) l (record { place = 0; within = searched.is_order.some; is = searched.is_order.first });
     }
 
+pub cotree_has_root : (s : OrientedMesh) → IsOrientedSurface s → (k0 k1 : List Kind) (p q : List (Option DartName))
+    → k0 ≡ replicate (length s.table) Left
+    → IsSearched (rotations_of s) (rotations_of s).origin (λ e. true) s.mesh.count ((rotations_of s).origin 0) p
+    → IsMarked (rotations_of s) p Tree k0 k1 (length p)
+    → IsSearched (rotations_of s) (rotations_of s).face (has_kind k1 Left) (length s.mesh.faces) ((rotations_of s).face 0) q
+    → HasRoot (rotations_of s) q
+cotree_has_root s h k0 k1 p q is tree m searched =
+    let maps : Rotations = rotations_of s in
+    let found : FindsAll maps maps.face (has_kind k1 Left) (length s.mesh.faces) (maps.face 0) q =
+    cotree_found s h k0 k1 p q is (tree_found s h k0 p is tree) m searched in
+    record {
+      root = maps.face 0;
+      finds = subst (λ n. FindsAll maps maps.face (λ e. true) n (maps.face 0) q) (sym found.is_order.long)
+          (allow maps maps.face (has_kind k1 Left) (λ e. true) (length s.mesh.faces) (maps.face 0) q found (λ v x e. refl));
+    }
+
 cotree_spans : (s : OrientedMesh) → IsOrientedSurface s → (k0 k1 k2 : List Kind) (p q : List (Option DartName))
     → k0 ≡ replicate (length s.table) Left
     → IsMarked (rotations_of s) p Tree k0 k1 (length p)
@@ -214,13 +237,13 @@ tree_stays s k1 k2 q bound root c f e =
     ]
 
 split_trees : (s : OrientedMesh) → IsOrientedSurface s
-    → (k0 k1 k2 : List Kind) (p q t : List (Option DartName)) (start genus : ℕ)
-    → IsMade s k0 k1 k2 p q t start → HasTrees s (made_split k2 p t ((rotations_of s).face start) genus)
-split_trees s h k0 k1 k2 p q t start genus m =
+    → (k0 k1 k2 : List Kind) (p q t : List (Option DartName)) (b : List (Option FaceName)) (start genus : ℕ)
+    → IsMade s k0 k1 k2 p q t b start → HasTrees s (made_split k2 p b ((rotations_of s).face start) genus)
+split_trees s h k0 k1 k2 p q t b start genus m =
     let maps : Rotations = rotations_of s in
     let f = tree_found s h k0 p m.first m.tree in
     let g = cotree_found s h k0 k1 p q m.first f m.marked m.cotree in
-    let split : SplitView = made_split k2 p t (maps.face start) genus in
+    let split : SplitView = made_split k2 p b (maps.face start) genus in
     let tree_set : in_tree split ≡ has_kind k1 Tree = λ i e.
     (tree_kind (get_or k2 e Tree) ∙ tree_stays s k1 k2 q (length s.mesh.faces) (maps.face 0) m.crossed g e) i in
     let cotree_set : in_cotree split ≡ has_kind k2 Cotree = λ i e. cotree_kind (get_or k2 e Tree) i in
@@ -234,17 +257,17 @@ split_trees s h k0 k1 k2 p q t start genus m =
 
 -- the parents of the vertices, from a search that finds all across edges of the tree
 pub parents_from : (s : OrientedMesh) → IsOrientedSurface s
-    → (kinds : List Kind) (p t : List (Option DartName)) (start top genus : ℕ) (allowed : ℕ → Bool)
+    → (kinds : List Kind) (p : List (Option DartName)) (b : List (Option FaceName)) (start top genus : ℕ) (allowed : ℕ → Bool)
     → start < (rotations_of s).darts
     → FindsAll (rotations_of s) (rotations_of s).origin allowed s.mesh.count ((rotations_of s).origin start) p
     → ((v x : ℕ) → back_at p v ≡ Some x → has_kind kinds Tree ((rotations_of s).edge x) ≡ true)
-    → HasParents s (made_split kinds p t top genus)
-parents_from s h kinds p t start top genus allowed l f in_kind =
+    → HasParents s (made_split kinds p b top genus)
+parents_from s h kinds p b start top genus allowed l f in_kind =
     let maps : Rotations = rotations_of s in
     let names : NamesAll s = names_all s h in
     let root : ℕ = maps.origin start in
     let n = vertex_nodes s names in
-    let split : SplitView = made_split kinds p t top genus in
+    let split : SplitView = made_split kinds p b top genus in
     let kept : ℕ → Bool = λ w. is_some (back_at p w) in
     let read : (v : ℕ) → get_or (dart_options p) v None ≡ back_at p v = options_read p in
     let used : (v : ℕ) → v < s.mesh.count → is_used s.mesh v ≡ with_one kept root v =
@@ -282,14 +305,14 @@ parents_from s h kinds p t start top genus allowed l f in_kind =
     }
 
 split_parents : (s : OrientedMesh) → IsOrientedSurface s
-    → (k0 k1 k2 : List Kind) (p q t : List (Option DartName)) (start genus : ℕ)
-    → IsMade s k0 k1 k2 p q t start → HasParents s (made_split k2 p t ((rotations_of s).face start) genus)
-split_parents s h k0 k1 k2 p q t start genus m =
+    → (k0 k1 k2 : List Kind) (p q t : List (Option DartName)) (b : List (Option FaceName)) (start genus : ℕ)
+    → IsMade s k0 k1 k2 p q t b start → HasParents s (made_split k2 p b ((rotations_of s).face start) genus)
+split_parents s h k0 k1 k2 p q t b start genus m =
     let maps : Rotations = rotations_of s in
     let root : ℕ = maps.origin 0 in
     let f : FindsAll maps maps.origin (λ e. true) s.mesh.count root p = tree_found s h k0 p m.first m.tree in
     let g = cotree_found s h k0 k1 p q m.first f m.marked m.cotree in
-    parents_from s h k2 p t 0 (maps.face start) genus (λ e. true) (some_dart s h) f
+    parents_from s h k2 p b 0 (maps.face start) genus (λ e. true) (some_dart s h) f
     (λ v dart some. tree_stays s k1 k2 q (length s.mesh.faces) (maps.face 0) m.crossed g (maps.edge dart)
     ∙ m.marked.sets.marked v dart (kept_below maps maps.origin (λ e. true) s.mesh.count root (length s.table) (is_used s.mesh) p v
     dart (vertex_nodes s (names_all s h)) f some) some)
@@ -318,28 +341,24 @@ below_is_cotree s h k2 t below start l span f b =
     ])
     counts
 
--- the parents of the faces, from a search that finds all across edges of the cotree
+-- the faces below the edges, from a search that finds all across edges of the cotree
 pub child_faces_from : (s : OrientedMesh) → IsOrientedSurface s
-    → (kinds : List Kind) (p t : List (Option DartName)) (start genus : ℕ) → start < (rotations_of s).darts
+    → (kinds : List Kind) (p t : List (Option DartName)) (b : List (Option FaceName)) (start genus : ℕ) → start < (rotations_of s).darts
     → IsSpanningTree (rotations_of s) (rotations_of s).face (λ f. true) (length s.mesh.faces) (length s.table) (has_kind kinds Cotree)
     → FindsAll (rotations_of s) (rotations_of s).face (has_kind kinds Cotree) (length s.mesh.faces) ((rotations_of s).face start) t
-    → HasChildFaces s (made_split kinds p t ((rotations_of s).face start) genus)
-child_faces_from s h kinds p t start genus l span a =
+    → length b ≡ length s.table → AreBelowEdges (rotations_of s) t (length s.table) (face_at b) (length t)
+    → HasChildFaces s (made_split kinds p b ((rotations_of s).face start) genus)
+child_faces_from s h kinds p t b start genus l span a long kept_faces =
     let maps : Rotations = rotations_of s in
     let names : NamesAll s = names_all s h in
     let root : ℕ = maps.face start in
-    let split : SplitView = made_split kinds p t root genus in
+    let split : SplitView = made_split kinds p b root genus in
     let dart_in : (v x : ℕ) → back_at t v ≡ Some x → x < maps.darts =
     λ v x e. let name : IsNamed maps.face a.order v x =
     a.is_order.only v x e in subst (λ d. d < maps.darts) name.is (a.is_order.within name.place name.within) in
-    let up : ℕ → Option ℕ = child_face maps split in
-    let many : length t ≡ length split.face_parents = sym (length-map t (option_map (λ (d : DartName). d.0))) in
+    let up : ℕ → Option ℕ = below_edge split in
     let faces : AreBelowEdges maps t (length s.table) up (length t) =
-    subst (λ n. AreBelowEdges maps t (length s.table) (λ e. face_with maps split.face_parents e n) (length t)) many
-    (below_edges maps t (length s.table)
-    (kept_apart maps maps.face (has_kind kinds Cotree) (length s.mesh.faces) root a.order t (rotation_system s h) a.is_order)
-    (λ v x e. names.edge_below x (dart_in v x e)) (length t)) in
-    let read : (f : ℕ) → get_or (dart_options t) f None ≡ back_at t f = options_read t in
+    subst (λ (below : ℕ → Option ℕ). AreBelowEdges maps t (length s.table) below (length t)) (λ i e. sym (faces_read b e) i) kept_faces in
     let kept_in : (v x : ℕ) → back_at t v ≡ Some x → v < length t =
     λ v x e. kept_below maps maps.face (has_kind kinds Cotree) (length s.mesh.faces) root (length s.table) (λ f. true) t v x
     (face_nodes s names) a e in
@@ -347,10 +366,7 @@ child_faces_from s h kinds p t start genus l span a =
     below_is_cotree s h kinds t up start l span a faces in
     record {
       root_below = names.face_below start l;
-      each_face = sym many ∙ a.is_order.long;
-      within = λ f x e. dart_in f x (sym (read f) ∙ e);
-      inside = λ f x e. (a.is_order.only f x (sym (read f) ∙ e)).of_node;
-      below = λ f x e. let kept : back_at t f ≡ Some x = sym (read f) ∙ e in faces.keeps f x (kept_in f x kept) kept;
+      each_edge = length-map b (option_map (λ (f : FaceName). f.0)) ∙ long;
       none = λ e l. (
         λ none. cotree_kind (get_or kinds e Tree) ∙ sym (is_cotree e l) ∙ ap is_some none,
         λ out. elim (option_cases (up e)) [
@@ -388,29 +404,30 @@ child_faces_from s h kinds p t start genus l span a =
     }
 
 split_child_faces : (s : OrientedMesh) → IsOrientedSurface s
-    → (k0 k1 k2 : List Kind) (p q t : List (Option DartName)) (start genus : ℕ)
-    → IsMade s k0 k1 k2 p q t start → HasChildFaces s (made_split k2 p t ((rotations_of s).face start) genus)
-split_child_faces s h k0 k1 k2 p q t start genus m =
+    → (k0 k1 k2 : List Kind) (p q t : List (Option DartName)) (b : List (Option FaceName)) (start genus : ℕ)
+    → IsMade s k0 k1 k2 p q t b start → HasChildFaces s (made_split k2 p b ((rotations_of s).face start) genus)
+split_child_faces s h k0 k1 k2 p q t b start genus m =
     let f = tree_found s h k0 p m.first m.tree in
     let g = cotree_found s h k0 k1 p q m.first f m.marked m.cotree in
-    child_faces_from s h k2 p t start genus m.start_in (cotree_spans s h k0 k1 k2 p q m.first m.marked g m.crossed) m.hanging
+    child_faces_from s h k2 p t b start genus m.start_in (cotree_spans s h k0 k1 k2 p q m.first m.marked g m.crossed) m.hanging
+    m.each_edge m.below
 
 pub split_is : (s : OrientedMesh) → IsOrientedSurface s
-    → (k0 k1 k2 : List Kind) (p q t : List (Option DartName)) (start genus : ℕ)
-    → IsMade s k0 k1 k2 p q t start → genus ≡ count_below (has_kind k2 Left) (length s.table) / 2
-    → IsSplit s (made_split k2 p t ((rotations_of s).face start) genus)
-split_is s h k0 k1 k2 p q t start genus m half =
+    → (k0 k1 k2 : List Kind) (p q t : List (Option DartName)) (b : List (Option FaceName)) (start genus : ℕ)
+    → IsMade s k0 k1 k2 p q t b start → genus ≡ count_below (has_kind k2 Left) (length s.table) / 2
+    → IsSplit s (made_split k2 p b ((rotations_of s).face start) genus)
+split_is s h k0 k1 k2 p q t b start genus m half =
     let maps : Rotations = rotations_of s in
-    let split : SplitView = made_split k2 p t (maps.face start) genus in
-    let trees : HasTrees s split = split_trees s h k0 k1 k2 p q t start genus m in
+    let split : SplitView = made_split k2 p b (maps.face start) genus in
+    let trees : HasTrees s split = split_trees s h k0 k1 k2 p q t b start genus m in
     let pairs = even s split h trees in
     let same : is_left split ≡ has_kind k2 Left = λ i e. left_kind (get_or k2 e Tree) i in
     let count : count_below (is_left split) (length s.table) ≡ count_below (has_kind k2 Left) (length s.table) =
     ap (λ set_of. count_below set_of (length s.table)) same in
     record {
       trees = trees;
-      parents = split_parents s h k0 k1 k2 p q t start genus m;
-      child_faces = split_child_faces s h k0 k1 k2 p q t start genus m;
+      parents = split_parents s h k0 k1 k2 p q t b start genus m;
+      child_faces = split_child_faces s h k0 k1 k2 p q t b start genus m;
       root_left = λ d l is. (
         start,
         m.start_in,

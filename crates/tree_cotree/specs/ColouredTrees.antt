@@ -9,7 +9,7 @@ use Rattle.tree_cotree.specs.Colourings.{ColouringView}
 -- the split that a colouring would be, with no ways in it
 abbrev pub without_ways : ColouringView → SplitView
 without_ways colouring =
-    record { kinds = colouring.kinds; parents = []; face_parents = []; root_face = colouring.root_face; genus = colouring.genus }
+    record { kinds = colouring.kinds; parents = []; children = []; root_face = colouring.root_face; genus = colouring.genus }
 
 -- The tree edges span the used vertices, the cotree edges the faces, the leftover edges are twice as many as the genus says, and the
 -- root face has a leftover dart where there is one.

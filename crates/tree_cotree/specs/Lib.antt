@@ -12,4 +12,6 @@ pub mod Ways
 pub mod Markings
 pub mod Joinings
 pub mod MaybeDarts
+pub mod MaybeFaces
+pub mod EdgeFaces
 pub mod StoredSplits

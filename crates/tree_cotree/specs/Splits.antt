@@ -1,6 +1,6 @@
 -- Splits: the edges of a surface coloured as a tree over its vertices, a cotree over its faces, and the leftover edges
 -- (the tree-cotree decomposition).
-use Rattle.std.specs.Prelude.{◌≡◌, ◌⊎◌, ◌↔◌, ℕ, zero, suc, ◌*◌, ◌<◌, Bool, true, false, nat_eq, if◌then◌else◌, List, length, slice_index_or, Option, Some, None}
+use Rattle.std.specs.Prelude.{◌≡◌, ◌⊎◌, ◌↔◌, ℕ, ◌*◌, ◌<◌, Bool, true, false, List, length, slice_index_or, Option, Some, None}
 use Rattle.surf_model.specs.FaceLists.{is_used}
 use Rattle.surf_model.specs.Surfaces.{AreJoined}
 use Rattle.halfedge_map.specs.Numbers.{count_below}
@@ -10,12 +10,12 @@ use Rattle.tree_cotree.specs.SpanningTrees.{IsSpanningTree}
 use Rattle.tree_cotree.specs.declared.split.Kind.{Kind}
 use Rattle.tree_cotree.specs.declared.split.Kind.TheVariants.{Tree, Cotree, Left}
 
--- what a split tells: the kind of each edge, for each vertex and for each face a dart to its parent, the root of the cotree, and the
--- genus
+-- what a split tells: the kind of each edge, for each vertex a dart to its parent, for each edge the face below it, the root of the
+-- cotree, and the genus
 pub record SplitView : Type 0 where
   pub kinds : List Kind
   pub parents : List (Option ℕ)
-  pub face_parents : List (Option ℕ)
+  pub children : List (Option ℕ)
   pub root_face : ℕ
   pub genus : ℕ
 
@@ -51,23 +51,13 @@ is_left split e = is_left_kind (kind_of split e)
 abbrev pub parent_dart : SplitView → ℕ → Option ℕ
 parent_dart split v = slice_index_or split.parents v None
 
--- the dart from a face to its parent
-abbrev pub face_parent : SplitView → ℕ → Option ℕ
-face_parent split f = slice_index_or split.face_parents f None
+-- the face below an edge
+abbrev pub below_edge : SplitView → ℕ → Option ℕ
+below_edge split e = slice_index_or split.children e None
 
--- whether a dart, if there is one, lies on the edge
-abbrev pub lies_on : Rotations → ℕ → Option ℕ → Bool
-lies_on maps e None = false
-lies_on maps e (Some dart) = nat_eq (maps.edge dart) e
-
--- among the first n faces the one whose dart lies on the edge
-abbrev pub face_with : Rotations → List (Option ℕ) → ℕ → ℕ → Option ℕ
-face_with maps darts e zero = None
-face_with maps darts e (suc n) = if lies_on maps e (slice_index_or darts n None) then Some n else face_with maps darts e n
-
--- the face below an edge: the one whose dart to its parent lies on the edge
+-- the same, of an edge of the maps of a surface
 abbrev pub child_face : Rotations → SplitView → ℕ → Option ℕ
-child_face maps split e = face_with maps split.face_parents e (length split.face_parents)
+child_face maps split e = below_edge split e
 
 -- the dart to the parent of u leads to v
 pub record IsParentStep (maps : Rotations) (split : SplitView) (u v dart : ℕ) : Type 0 where
@@ -92,27 +82,23 @@ pub record HasParents (surface : OrientedMesh) (split : SplitView) : Type 0 wher
 -- the dart lies in the face f, which is below its edge, and its twin in the face g
 pub record IsStepUp (maps : Rotations) (split : SplitView) (f g dart : ℕ) : Type 0 where
   pub within : dart < maps.darts
-  pub below : child_face maps split (maps.edge dart) ≡ Some f
+  pub below : below_edge split (maps.edge dart) ≡ Some f
   pub inside : maps.face dart ≡ f
   pub leads : maps.face (maps.twin dart) ≡ g
 
 abbrev pub StepsUp : Rotations → SplitView → ℕ → ℕ → Type 0
 StepsUp maps split f g = (dart : ℕ) × IsStepUp maps split f g dart
 
--- The parents of the faces, and so the faces below the cotree edges: below each cotree edge lies one of its two faces, each face but the
--- root lies below just one, that of its dart to its parent, and going up from any face ends at the root.
+-- The faces below the cotree edges: below each cotree edge lies one of its two faces, no face lies below two, the root below none, and
+-- going up from any face ends at the root.
 pub record HasChildFaces (surface : OrientedMesh) (split : SplitView) : Type 0 where
   pub root_below : split.root_face < length surface.mesh.faces
-  pub each_face : length split.face_parents ≡ length surface.mesh.faces
-  pub within : (f dart : ℕ) → face_parent split f ≡ Some dart → dart < (rotations_of surface).darts
-  pub inside : (f dart : ℕ) → face_parent split f ≡ Some dart → (rotations_of surface).face dart ≡ f
-  pub below : (f dart : ℕ) → face_parent split f ≡ Some dart
-      → child_face (rotations_of surface) split ((rotations_of surface).edge dart) ≡ Some f
-  pub none : (e : ℕ) → e < length surface.table → (child_face (rotations_of surface) split e ≡ None) ↔ (in_cotree split e ≡ false)
-  pub step : (e f : ℕ) → child_face (rotations_of surface) split e ≡ Some f
+  pub each_edge : length split.children ≡ length surface.table
+  pub none : (e : ℕ) → e < length surface.table → (below_edge split e ≡ None) ↔ (in_cotree split e ≡ false)
+  pub step : (e f : ℕ) → below_edge split e ≡ Some f
       → (dart : ℕ) × (dart < (rotations_of surface).darts) × ((rotations_of surface).edge dart ≡ e) × ((rotations_of surface).face dart ≡ f)
-  pub once : (d e f : ℕ) → child_face (rotations_of surface) split d ≡ Some f → child_face (rotations_of surface) split e ≡ Some f → d ≡ e
-  pub not_root : (e : ℕ) → child_face (rotations_of surface) split e ≡ Some split.root_face → ⊥
+  pub once : (d e f : ℕ) → below_edge split d ≡ Some f → below_edge split e ≡ Some f → d ≡ e
+  pub not_root : (e : ℕ) → below_edge split e ≡ Some split.root_face → ⊥
   pub to_root : (f : ℕ) → f < length surface.mesh.faces → AreJoined (StepsUp (rotations_of surface) split) f split.root_face
 
 -- the tree edges span the used vertices without a cycle, and the cotree edges the faces

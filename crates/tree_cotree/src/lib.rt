@@ -1,10 +1,10 @@
 //! Tree, cotree and leftover edges of a surface (the tree-cotree decomposition), and the rings of a set of edges.
 //!
-//! A caller sees a split as the kind of each edge, the way from each vertex and each face to its root, and the genus; a
-//! colouring as a split without the ways; and rings as a map from dart to dart. Proved: the split is one of the surface, and
-//! of each split: tree and cotree are spanning trees that no edge shares, the leftover edges are even in number, and half
-//! that number is the genus (laws). The rings of no edge are as many as the used vertices, those of all edges as many as the
-//! faces (ring laws).
+//! A caller sees a split as the kind of each edge, the dart from each vertex to its parent, the face below each edge, the root
+//! of the faces, and the genus; a colouring as a split without the ways; and rings as a map from dart to dart. Proved: the
+//! split is one of the surface, and of each split: tree and cotree are spanning trees that no edge shares, the leftover edges
+//! are even in number, and half that number is the genus (laws). The rings of no edge are as many as the used vertices, those
+//! of all edges as many as the faces (ring laws).
 //!
 //!     let split = split_edges(alloc, &surface)?;
 //!     let genus = split.genus();
@@ -13,9 +13,11 @@
 #![tactic(auto)]
 
 pub mod colouring;
+mod edge_faces;
 pub mod laws;
 mod marking;
 mod maybe_dart;
+mod maybe_face;
 pub mod ring_laws;
 pub mod rings;
 mod search;

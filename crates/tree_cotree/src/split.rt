@@ -1,11 +1,13 @@
 //! Splits of a surface.
-ghost use Rattle.std.specs.Prelude.{◌≡◌, ◌<◌, ℕ, length, Some, IfOk, IfSome, IfNone};
+ghost use Rattle.std.specs.Prelude.{◌≡◌, ◌<◌, length, IfOk};
 ghost use Rattle.std.specs.Option.{option_map};
 ghost use Rattle.tree_cotree.specs.Splits.{IsSplit};
 
 use crate::colouring::Colouring;
+use crate::edge_faces::faces_below;
 use crate::marking::{leftover_dart, leftover_edges, mark};
 use crate::maybe_dart::MaybeDart;
+use crate::maybe_face::MaybeFace;
 use crate::search::{Edges, Graph, Nodes, search_over};
 use crate::turning::turn_round;
 use crate::waiting::Order;
@@ -33,8 +35,8 @@ pub struct Split {
     colouring: Colouring,
     /// For each vertex the dart to its parent in the tree.
     parents: Vec<MaybeDart>,
-    /// For each face the dart to its parent in the cotree.
-    face_parents: Vec<MaybeDart>,
+    /// For each edge the face below it in the cotree.
+    children: Vec<MaybeFace>,
 }
 
 impl Model for Split {
@@ -43,13 +45,11 @@ impl Model for Split {
 
     ghost Value = { SplitView };
 
-    ghost view = { λ a. made_split a.colouring.kinds a.parents.items a.face_parents.items a.colouring.root_face a.colouring.genus };
+    ghost view = { λ a. made_split a.colouring.kinds a.parents.items a.children.items a.colouring.root_face a.colouring.genus };
 }
 
 impl Split {
-    ghost use Rattle.halfedge_map.specs.DartMaps.{darts_of};
-    ghost use Rattle.halfedge_map.specs.RotationSystems.{rotations_of};
-    ghost use Rattle.tree_cotree.specs.Splits.{kind_of, parent_dart, face_parent, child_face};
+    ghost use Rattle.tree_cotree.specs.Splits.{kind_of, parent_dart, below_edge};
     ghost use Rattle.tree_cotree.specs.Colourings.{colouring_of};
 
     /// What it tells without its ways.
@@ -75,31 +75,12 @@ impl Split {
         self.parents[vertex.0 as usize].get()
     }
 
-    /// The face below a cotree edge of the surface that was split; none for other edges.
-    pub fn child_face(&self, surface: &Surface, edge: EdgeName) -> Option<FaceName>
-        requires split { IsSplit surface.now self.now }
-        requires edge { edge.0 < length surface.now.table }
-        ensures { option_map (λ face. face.0) result ≡ child_face (rotations_of surface.now) self.now edge.0 }
+    /// The face below a cotree edge; none for other edges.
+    pub fn child_face(&self, edge: EdgeName) -> Option<FaceName>
+        requires { edge.0 < length self.now.children }
+        ensures { option_map (λ face. face.0) result ≡ below_edge self.now edge.0 }
     {
-        let dart = surface.dart_of(edge);
-        match self.face_up(surface, dart) {
-            Some(face) => Some(face),
-            None => self.face_up(surface, surface.twin(dart)),
-        }
-    }
-
-    /// The face of a dart, where the dart is the one from that face to its parent.
-    fn face_up(&self, surface: &Surface, dart: DartName) -> Option<FaceName>
-        requires split { IsSplit surface.now self.now }
-        requires dart { dart.0 < darts_of surface.now }
-        ensures some { IfSome result (λ face. face_parent self.now face.0 ≡ Some dart.0) }
-        ensures none { IfNone result ((f : ℕ) → face_parent self.now f ≡ Some dart.0 → ⊥) }
-    {
-        let face = surface.face_of(dart);
-        match self.face_parents[face.0 as usize].get() {
-            Some(up) if up == dart => Some(face),
-            _ => None,
-        }
+        self.children[edge.0 as usize].get()
     }
 
     /// The root of the cotree. It has a leftover dart where there is one.
@@ -143,6 +124,7 @@ pub fn split_edges(alloc: Global, surface: &Surface) -> Result<Split, AllocError
     mark(&mut kinds, surface, &face_parents, Kind::Cotree);
     let start = leftover_dart(surface, &kinds);
     turn_round(alloc, surface, &mut face_parents, start)?;
+    let children = faces_below(alloc, surface, &face_parents)?;
     let genus = leftover_edges(&kinds) / 2;
     let colouring = Colouring {
         kinds,
@@ -152,6 +134,6 @@ pub fn split_edges(alloc: Global, surface: &Surface) -> Result<Split, AllocError
     Ok(Split {
         colouring,
         parents,
-        face_parents,
+        children,
     })
 }

@@ -1,4 +1,4 @@
-use Rattle.std.proofs.Common.{◌≡◌, ◌<◌, ◌/◌, ℕ, true, refl, List, length, sym, ap, ◌∙◌, subst, rules, arith}
+use Rattle.std.proofs.Common.{◌≡◌, ◌<◌, ◌/◌, ℕ, true, List, length, sym, ap, ◌∙◌, subst, rules, arith}
 use Rattle.std.specs.Prelude.{Option, Some, replicate}
 use Rattle.std.proofs.lemmas.List.{length-replicate, with_items_is}
 use Rattle.surf_model.specs.FaceLists.{FaceList}
@@ -11,8 +11,9 @@ use Rattle.tree_cotree.specs.declared.split.Kind.{Kind}
 use Rattle.tree_cotree.specs.declared.split.Kind.TheVariants.{Tree, Cotree, Left}
 use Rattle.tree_cotree.specs.Searches.{same_kind, has_kind, back_at, IsSearched, FindsAll}
 use Rattle.tree_cotree.specs.Markings.{AreApart, IsMarked}
+use Rattle.tree_cotree.specs.EdgeFaces.{face_at, AreBelowEdges}
 use Rattle.tree_cotree.proofs.TreeLemmas.{kept_apart}
-use Rattle.tree_cotree.proofs.SplittingLemmas.{IsMade, all_left, tree_found, cotree_found, kept_below, split_is}
+use Rattle.tree_cotree.proofs.SplittingLemmas.{IsMade, all_left, tree_found, cotree_found, cotree_has_root, kept_below, split_is}
 use Rattle.tree_cotree.proofs.TurningLemmas.{allow}
 use Rattle.tree_cotree.proofs.LawLemmas.{face_nodes}
 use Rattle.tree_cotree.specs.Ways.{HasRoot}
@@ -67,23 +68,13 @@ turn_round-requires-clause-tree c =
     let maps : Rotations = rotations_of s in
     let k0 : List Kind = c.in_ok-kinds.kinds.items in
     let k1 : List Kind = c.mark.new.kinds.items in
-    let k2 : List Kind = c.mark-2.new.kinds.items in
     let p : List (Option DartName) = c.in_ok-parents.parents.items in
     let q : List (Option DartName) = c.in_ok-face_parents.face_parents.items in
-    let first : k0 ≡ replicate (length s.table) Left = search rules in
-    let tree : IsSearched maps maps.origin (λ e. true) s.mesh.count (maps.origin 0) p =
-    rw (c.deref.ensures.value, c.count-vertices.ensures, c.faces-2.ensures.mesh) at c.in_ok-parents.ensures in
-    let marked : IsMarked maps p Tree k0 k1 (length p) = rw c.deref-2.ensures.value at c.mark.ensures in
-    let cotree : IsSearched maps maps.face (has_kind k1 Left) (length s.mesh.faces) (maps.face 0) q =
-    rw (c.deref-3.ensures.value, c.len-faces.ensures.count, c.faces.ensures.mesh) at c.in_ok-face_parents.ensures in
-    let found : FindsAll maps maps.face (has_kind k1 Left) (length s.mesh.faces) (maps.face 0) q =
-    cotree_found s c.faces.ensures.valid k0 k1 p q first (tree_found s c.faces.ensures.valid k0 p first tree) marked cotree in
-    let long : length q ≡ length s.mesh.faces = found.is_order.long in
-    subst (HasRoot maps) (sym c.deref_mut.ensures.value) (record {
-      root = maps.face 0;
-      finds = subst (λ n. FindsAll maps maps.face (λ e. true) n (maps.face 0) q) (sym long)
-          (allow maps maps.face (has_kind k1 Left) (λ e. true) (length s.mesh.faces) (maps.face 0) q found (λ v x e. refl));
-    })
+    subst (HasRoot maps) (sym c.deref_mut.ensures.value)
+    (cotree_has_root s c.faces.ensures.valid k0 k1 p q (search rules)
+    (rw (c.deref.ensures.value, c.count-vertices.ensures, c.faces-2.ensures.mesh) at c.in_ok-parents.ensures)
+    (rw c.deref-2.ensures.value at c.mark.ensures)
+    (rw (c.deref-3.ensures.value, c.len-faces.ensures.count, c.faces.ensures.mesh) at c.in_ok-face_parents.ensures))
 
 pub turn_round-requires-clause-each_face : goal.turn_round-requires-clause-each_face
 turn_round-requires-clause-each_face c =
@@ -91,6 +82,33 @@ turn_round-requires-clause-each_face c =
     let searched = c.in_ok-face_parents.ensures in
     ap (λ (ds : List (Option DartName)). length ds) c.deref_mut.ensures.value ∙ searched.is_order.long ∙ c.len-faces.ensures.count
     ∙ ap (λ (m : FaceList). length m.faces) c.faces.ensures.mesh
+
+pub faces_below-requires-clause-apart : goal.faces_below-requires-clause-apart
+faces_below-requires-clause-apart c =
+    let s : OrientedMesh = c.args.surface.now in
+    let maps : Rotations = rotations_of s in
+    let k0 : List Kind = c.in_ok-kinds.kinds.items in
+    let k1 : List Kind = c.mark.new.kinds.items in
+    let p : List (Option DartName) = c.in_ok-parents.parents.items in
+    let q : List (Option DartName) = c.in_ok-face_parents.face_parents.items in
+    let t : List (Option DartName) = c.turn_round.new.from in
+    let rooted : HasRoot maps c.deref_mut.result.now =
+    subst (HasRoot maps) (sym c.deref_mut.ensures.value)
+    (cotree_has_root s c.faces.ensures.valid k0 k1 p q (search rules)
+    (rw (c.deref.ensures.value, c.count-vertices.ensures, c.faces-2.ensures.mesh) at c.in_ok-parents.ensures)
+    (rw c.deref-2.ensures.value at c.mark.ensures)
+    (rw (c.deref-3.ensures.value, c.len-faces.ensures.count, c.faces.ensures.mesh) at c.in_ok-face_parents.ensures)) in
+    let turned = c.in_ok-turn_round.ensures (λ e. true) rooted.root rooted.finds in
+    let size : length t ≡ c.in_ok-face_parents.face_parents.len =
+    omega (
+      arith,
+      turned.is_order.long,
+      ap (λ (ds : List (Option DartName)). length ds) c.deref_mut.ensures.value,
+      c.in_ok-face_parents.face_parents.ok.0,
+    ) in
+    subst (AreApart maps) (sym (c.deref-6.ensures.value ∙ with_items_is c.in_ok-face_parents.face_parents t size))
+    (kept_apart maps maps.face (λ e. true) (length c.deref_mut.result.now) (maps.face c.leftover_dart-start.result.0) turned.order
+    t (rotation_system s c.faces.ensures.valid) turned.is_order)
 
 pub returns : goal.returns
 returns c =
@@ -126,7 +144,11 @@ returns c =
     (subst (λ n. FindsAll maps maps.face (has_kind k2 Cotree) n (maps.face 0) c.deref_mut.result.now) (sym long)
     (subst (FindsAll maps maps.face (has_kind k2 Cotree) (length s.mesh.faces) (maps.face 0)) (sym is_q) on_cotree))) in
     let start : ℕ = c.leftover_dart-start.result.0 in
-    let made : IsMade s k0 k1 k2 p q t start = record {
+    let size : length t ≡ c.in_ok-face_parents.face_parents.len =
+    omega (arith, turned.is_order.long, found.is_order.long, c.in_ok-face_parents.face_parents.ok.0) in
+    let is_t : c.deref-6.result.now ≡ t =
+    c.deref-6.ensures.value ∙ with_items_is c.in_ok-face_parents.face_parents t size in
+    let made : IsMade s k0 k1 k2 p q t c.in_ok-children.children.items start = record {
       first = first;
       tree = tree;
       marked = marked;
@@ -135,14 +157,15 @@ returns c =
       start_in = c.leftover_dart-start.ensures.within;
       start_left = rw c.deref-5.ensures.value at c.leftover_dart-start.ensures.left;
       hanging = turned;
+      each_edge = c.in_ok-children.ensures.each_edge;
+      below = subst (λ ds. AreBelowEdges maps ds (length s.table) (face_at c.in_ok-children.children.items) (length ds)) is_t
+          c.in_ok-children.ensures.below;
     } in
     let long_2 : length k2 ≡ length s.table =
     c.mark-2.ensures.long ∙ c.mark.ensures.long ∙ ap (λ (ks : List Kind). length ks) first ∙ length-replicate (length s.table) Left in
     let half : c.leftover_edges-genus.result / 2 ≡ count_below (has_kind k2 Left) (length s.table) / 2 =
     ap (λ n. n / 2)
-    (c.leftover_edges-genus.ensures ∙ ap (λ (ks : List Kind). count_below (has_kind ks Left) (length ks)) c.deref-6.ensures.value
+    (c.leftover_edges-genus.ensures ∙ ap (λ (ks : List Kind). count_below (has_kind ks Left) (length ks)) c.deref-7.ensures.value
     ∙ ap (count_below (has_kind k2 Left)) long_2) in
-    let size : length t ≡ c.in_ok-face_parents.face_parents.len =
-    omega (arith, turned.is_order.long, found.is_order.long, c.in_ok-face_parents.face_parents.ok.0) in
-    rw (c.face_of.ensures.face, with_items_is c.in_ok-face_parents.face_parents t size)
-    (split_is s c.faces.ensures.valid k0 k1 k2 p q t start (c.leftover_edges-genus.result / 2) made half)
+    rw c.face_of.ensures.face
+    (split_is s c.faces.ensures.valid k0 k1 k2 p q t c.in_ok-children.children.items start (c.leftover_edges-genus.result / 2) made half)
