@@ -222,8 +222,34 @@ impl Cells {
         value
     }
 
-    /// The place of a chain becomes this one.
+    /// How many entries of a chain are before its place.
+    #[inline(always)]
+    fn place(&self, chain: CellName) -> u32
+        requires { IsUnder self.now.chains chain.0 }
+        ensures { result ≡ length (parted_under self.now.chains chain.0).before }
+    {
+        let (left, _) = head(&self.slots, chain);
+        left.len
+    }
+
+    /// The place of a chain becomes this one. Where it is this one already, nothing is called.
+    #[inline(always)]
     pub fn go_to(&mut self, chain: CellName, place: u32)
+        requires live { IsUnder self.old.chains chain.0 }
+        requires place { place ≤ length (joined (parted_under self.old.chains chain.0)) }
+        ensures chain { IsEdit self.old.chains self.new.chains chain.0
+            (Some (parted_at (joined (parted_under self.old.chains chain.0)) place)) }
+        ensures names { length self.new.chains ≡ length self.old.chains }
+        ensures spare { self.new.spare ≡ self.old.spare }
+        ensures free { self.new.free ≡ self.old.free }
+    {
+        if self.place(chain) != place {
+            self.travel(chain, place);
+        }
+    }
+
+    /// The place of a chain becomes this one, entry by entry.
+    fn travel(&mut self, chain: CellName, place: u32)
         requires live { IsUnder self.old.chains chain.0 }
         requires place { place ≤ length (joined (parted_under self.old.chains chain.0)) }
         ensures chain { IsEdit self.old.chains self.new.chains chain.0

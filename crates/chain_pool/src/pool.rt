@@ -117,6 +117,18 @@ impl Pool {
         }
     }
 
+    /// An entry of a chain, whose place becomes the remembered one. Of the pool the same is seen. It costs the way from the
+    /// place that was remembered, so entries read one after the other cost a step each.
+    pub fn entry(&mut self, chain: CellName, place: u32) -> u32
+        requires live { IsLive self.old chain.0 }
+        requires place { place < length (list_of self.old chain.0) }
+        ensures value { result ≡ slice_index (list_of self.old chain.0) place }
+        ensures same { self.new ≡ self.old }
+    {
+        self.cells.go_to(chain, place);
+        self.cells.next(chain)
+    }
+
     /// Readers of both sides of a chain's remembered place. The list is the first side turned round, and then the second.
     pub fn halves(&self, chain: CellName) -> Halves<'_>
         requires { IsLive self.now chain.0 }

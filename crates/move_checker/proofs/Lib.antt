@@ -1,6 +1,7 @@
 pub mod Ways
 pub mod SameWalks
 pub mod Replacements
+pub mod Ends
 pub mod Steps
 pub mod Outcomes
 pub mod Judgement

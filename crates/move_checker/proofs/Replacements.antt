@@ -1,6 +1,6 @@
 -- A list with some entries replaced by others, by cuts and pushes.
 use Rattle.std.proofs.Common.{◌≡◌, ℕ, ◌+◌, ◌<◌, ◌≤◌, List, [], ◌∷◌, ◌++◌, length, take, drop, get_or, ap, sym, ◌∙◌, arith, append_assoc, length-append, append-nil}
-use Rattle.std.proofs.lemmas.List.{length-take-le, length-drop, take_all, drop_all, take-append-le, drop-append-le, take_more}
+use Rattle.std.proofs.lemmas.List.{length-take-le, length-drop, take_all, drop_all, take-append-le, drop-append-le, take_more, drop_more}
 use Rattle.chain_pool.specs.Chains.{inserted, cut}
 use Rattle.surf_model.specs.Moves.{replaced}
 
@@ -29,23 +29,28 @@ inserted-append front back place value e =
     ap (λ (l : List ℕ). l ++ value ∷ drop place (front ++ back)) (take-append front back place e)
     ∙ ap (λ (l : List ℕ). front ++ value ∷ l) (drop-append front back place e)
 
--- two entries pushed behind entry `at`
+-- two entries pushed before entry `at`, the first of them equal to it
 pub pushed_spur : (walk : List ℕ) (at via here : ℕ) → at < length walk → here ≡ get_or walk at 0
-    → inserted (inserted walk (at + 1) via) (at + 2) here ≡ replaced at 1 (get_or walk at 0 ∷ via ∷ get_or walk at 0 ∷ []) walk
+    → inserted (inserted walk at here) (at + 1) via ≡ replaced at 1 (get_or walk at 0 ∷ via ∷ get_or walk at 0 ∷ []) walk
 pushed_spur walk at via here lt e =
-    let front : List ℕ = take (at + 1) walk in
-    let back : List ℕ = drop (at + 1) walk in
-    let long : length (front ++ via ∷ []) ≡ at + 2 =
-    omega (arith, length-append front (via ∷ []), length-take-le (at + 1) walk (omega arith)) in
-    ap (λ (l : List ℕ). inserted l (at + 2) here) (sym (append_assoc front (via ∷ []) back))
-    ∙ inserted-append (front ++ via ∷ []) back (at + 2) here long
-    ∙ ap (λ (v : ℕ). (front ++ via ∷ []) ++ v ∷ back) e
-    ∙ ap (λ (l : List ℕ). (l ++ via ∷ []) ++ get_or walk at 0 ∷ back) (take_more walk at 0 lt)
+    let front : List ℕ = take at walk in
+    let long : length (front ++ here ∷ []) ≡ at + 1 =
+    omega (arith, length-append front (here ∷ []), length-take-le at walk (omega arith)) in
+    ap (λ (l : List ℕ). inserted l (at + 1) via) (sym (append_assoc front (here ∷ []) (drop at walk)))
+    ∙ inserted-append (front ++ here ∷ []) (drop at walk) (at + 1) via long
+    ∙ ap (λ (v : ℕ). (front ++ v ∷ []) ++ via ∷ drop at walk) e
+    ∙ ap (λ (l : List ℕ). (front ++ get_or walk at 0 ∷ []) ++ via ∷ l) (drop_more walk at 0 lt)
     ∙ simp append_assoc
 
--- the two entries behind entry `at` cut
-pub cut_spur : (walk : List ℕ) (at : ℕ) → at < length walk → cut walk (at + 1) (at + 3) ≡ replaced at 3 (get_or walk at 0 ∷ []) walk
-cut_spur walk at lt = ap (λ (l : List ℕ). l ++ drop (at + 3) walk) (take_more walk at 0 lt)
+-- entry `at` and the one behind it cut, where the next one is equal
+pub cut_spur : (walk : List ℕ) (at : ℕ) → at + 2 < length walk → get_or walk at 0 ≡ get_or walk (at + 2) 0
+    → cut walk at (at + 2) ≡ replaced at 3 (get_or walk at 0 ∷ []) walk
+cut_spur walk at lt e =
+    let to : at + 2 + 1 ≡ at + 3 = omega arith in
+    ap (λ (l : List ℕ). take at walk ++ l) (drop_more walk (at + 2) 0 lt)
+    ∙ ap (λ (v : ℕ). take at walk ++ v ∷ drop (at + 2 + 1) walk) (sym e)
+    ∙ ap (λ (k : ℕ). take at walk ++ get_or walk at 0 ∷ drop k walk) to
+    ∙ sym (append_assoc (take at walk) (get_or walk at 0 ∷ []) (drop (at + 3) walk))
 
 -- entries cut, and others put in their place
 pub cut_replaced : (walk others : List ℕ) (at n to : ℕ) → at + n ≡ to → to ≤ length walk

@@ -9,7 +9,7 @@ ghost use Rattle.surf_model.specs.declared.moves.Move.TheVariants.{Insert, Remov
 ghost use Rattle.move_checker.specs.Refusals.{step_of};
 ghost use Rattle.surf_model.specs.declared.limits.TheConstants.{MOST_PEAK};
 
-use crate::edits::{Spot, Way, form_edge, is_on_face, push_face, read};
+use crate::edits::{Spot, Way, form_edge, is_on_face, read, replace_sides};
 use crate::fault::MoveFault;
 use crate::sides::{are_before, are_behind};
 use chain_pool::{CellName, Pool};
@@ -167,8 +167,9 @@ impl Tape {
         if darts + 2 > self.peak {
             return Err(MoveFault::OverPeak);
         }
+        // Before its entry: so the place of the chain, which is there, stays for the next move.
+        self.pool.push_after(chain, at, here.0);
         self.pool.push_after(chain, at + 1, via.0);
-        self.pool.push_after(chain, at + 2, here.0);
         Ok(())
     }
 
@@ -190,7 +191,8 @@ impl Tape {
         if here != VertexName(self.pool.at(chain, at + 2)) || middle != via {
             return Err(MoveFault::NotSpur);
         }
-        self.pool.cut_between(chain, at + 1, at + 3);
+        // The last of the three entries is left, which is the first one too.
+        self.pool.cut_between(chain, at, at + 2);
         Ok(())
     }
 
@@ -219,9 +221,7 @@ impl Tape {
         if darts + u64::from(left) > u64::from(self.peak) + taken_darts {
             return Err(MoveFault::OverPeak);
         }
-        // First out, then in: so no more cells are wanted than the peak has.
-        self.pool.cut_between(spot.chain, at, at + taken + 1);
-        push_face(&mut self.pool, spot, faces, way.reversed(), left);
+        replace_sides(&mut self.pool, spot, faces, way, taken);
         Ok(())
     }
 }

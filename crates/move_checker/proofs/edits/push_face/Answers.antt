@@ -1,74 +1,76 @@
-use Rattle.std.proofs.Common.{◌≡◌, ◌+◌, ◌++◌, ℕ, List, length, take, drop, get_or, Some, refl, ap, sym, ◌∙◌, arith, length-append}
-use Rattle.std.proofs.lemmas.List.{length-take-le, take_all}
-use Rattle.chain_pool.specs.Chains.{under, list_of}
+use Rattle.std.proofs.Common.{◌≡◌, ◌+◌, ◌++◌, ℕ, Bool, List, length, take, drop, get_or, Some, ap, sym, ◌∙◌, arith, length-append}
+use Rattle.std.proofs.lemmas.List.{length-take-le, length-drop, take_all, get_or-drop}
+use Rattle.chain_pool.specs.Chains.{list_of}
 use Rattle.chain_pool.proofs.Lists.{list_under-is}
 use Rattle.surf_model.specs.FaceLists.{face_at, next_corner, corners_from}
 use Rattle.move_checker.proofs.Replacements.{pushed_more}
-use Rattle.move_checker.proofs.Ways.{on_way_more, get_or-corners_from, length-corners_from}
+use Rattle.move_checker.proofs.Ways.{corner_after, corner_after-more, get_or-corners_from, length-corners_from}
 use Rattle.move_checker.proofs.edits.push_face.Goals as goal
 use Rattle.move_checker.proofs.edits.push_face.Goals.{After-push_after}
+
+long : (ring : List ℕ) (forward : Bool) (corner steps : ℕ) → length (drop 1 (corners_from ring forward corner steps)) ≡ steps
+long ring forward corner steps =
+    omega (arith, length-drop 1 (corners_from ring forward corner steps), length-corners_from ring forward corner steps)
 
 pub push_after-requires-clause-place : goal.push_after-requires-clause-place
 push_after-requires-clause-place c =
     let list = list_of c.args.pool.now c.args.spot.chain.0 in
-    let corners = corners_from (face_at c.args.faces.now c.args.way.face.0) c.args.way.forward c.args.way.corner c.args.steps in
-    let now = list_under-is c.loop-step.pool.lists c.args.spot.chain.0 _ c.loop-step.invariant.0 in
+    let ring = face_at c.args.faces.now c.args.way.face.0 in
+    let others = drop 1 (corners_from ring c.args.way.forward c.args.way.corner c.args.steps) in
     omega (
       arith,
-      ap (λ (l : List ℕ). length l) now,
-      length-append (take c.args.spot.at list ++ take c.loop-step.step corners) (drop c.args.spot.at list),
-      length-append (take c.args.spot.at list) (take c.loop-step.step corners),
+      c.loop-step-test.true,
+      ap (λ (l : List ℕ). length l) (list_under-is c.loop-step.pool.lists c.args.spot.chain.0 _ c.loop-step.invariant.0),
+      length-append (take c.args.spot.at list ++ take c.loop-step.step others) (drop c.args.spot.at list),
+      length-append (take c.args.spot.at list) (take c.loop-step.step others),
       length-take-le c.args.spot.at list c.requires.place,
-      length-take-le c.loop-step.step corners (omega (
-        arith,
-        length-corners_from (face_at c.args.faces.now c.args.way.face.0) c.args.way.forward c.args.way.corner c.args.steps,
-      )),
+      length-take-le c.loop-step.step others
+          (omega (arith, c.loop-step-test.true, long ring c.args.way.forward c.args.way.corner c.args.steps)),
     )
 
--- the corner that is pushed
-value : (c : After-push_after) → c.corner.result.0
-    ≡ get_or (corners_from
-    (face_at c.args.faces.now c.args.way.face.0) c.args.way.forward c.args.way.corner c.args.steps) c.loop-step.step 0
-value c =
-    c.corner.ensures ∙ ap (λ (t : ℕ). get_or (face_at c.args.faces.now c.args.way.face.0) t 0) c.loop-step.invariant.2.reached
-    ∙ sym (get_or-corners_from (face_at c.args.faces.now c.args.way.face.0) c.args.way.forward c.args.way.corner c.args.steps
-    c.loop-step.step (omega arith))
+-- the corner that the way goes on to
+reached : (c : After-push_after) → c.corner_after-corner.result
+    ≡ corner_after c.args.way.forward (length (face_at c.args.faces.now c.args.way.face.0)) c.args.way.corner (c.loop-step.step + 1)
+reached c =
+    let ring = face_at c.args.faces.now c.args.way.face.0 in
+    c.corner_after-corner.ensures.corner ∙ ap (λ m. next_corner c.args.way.forward m c.loop-step.corner) c.sides-sides.ensures
+    ∙ ap (λ t. next_corner c.args.way.forward (length ring) t) c.loop-step.invariant.2
+    ∙ sym (corner_after-more c.args.way.forward (length ring) c.args.way.corner c.loop-step.step)
 
--- the list with one corner more
-more : (c : After-push_after) → under c.push_after.new.self.lists c.args.spot.chain.0
-    ≡ Some (take c.args.spot.at (list_of c.args.pool.now c.args.spot.chain.0)
-    ++ take (c.loop-step.step + 1) (corners_from
-    (face_at c.args.faces.now c.args.way.face.0) c.args.way.forward c.args.way.corner c.args.steps)
-    ++ drop c.args.spot.at (list_of c.args.pool.now c.args.spot.chain.0))
-more c =
-    let corners = corners_from (face_at c.args.faces.now c.args.way.face.0) c.args.way.forward c.args.way.corner c.args.steps in
-    c.push_after.ensures.list.here
-    ∙ ap (λ (l : List ℕ). Some l) (pushed_more (list_of c.args.pool.now c.args.spot.chain.0) corners
-    (list_of c.loop-step.pool c.args.spot.chain.0) c.args.spot.at c.loop-step.step c.corner.result.0 c.requires.place
-    (omega (arith, length-corners_from (face_at c.args.faces.now c.args.way.face.0) c.args.way.forward c.args.way.corner c.args.steps))
-    (list_under-is c.loop-step.pool.lists c.args.spot.chain.0 _ c.loop-step.invariant.0) (value c))
+-- its vertex, which is pushed
+value : (c : After-push_after) → c.corner.result.0
+    ≡ get_or (drop 1 (corners_from (face_at c.args.faces.now c.args.way.face.0) c.args.way.forward c.args.way.corner c.args.steps))
+    c.loop-step.step 0
+value c =
+    let ring = face_at c.args.faces.now c.args.way.face.0 in
+    let more : c.loop-step.step + 1 ≡ 1 + c.loop-step.step = omega arith in
+    let all = corners_from ring c.args.way.forward c.args.way.corner c.args.steps in
+    c.corner.ensures ∙ ap (λ (t : ℕ). get_or ring t 0) (reached c)
+    ∙ sym (get_or-corners_from ring c.args.way.forward c.args.way.corner c.args.steps (c.loop-step.step + 1)
+    (omega (arith, c.loop-step-test.true)))
+    ∙ ap (λ (k : ℕ). get_or all k 0) more ∙ sym (get_or-drop 1 all c.loop-step.step 0)
 
 pub loop-step-preserved : goal.loop-step-preserved
 loop-step-preserved c =
     let ring = face_at c.args.faces.now c.args.way.face.0 in
-    let corners = corners_from ring c.args.way.forward c.args.way.corner c.args.steps in
+    let others = drop 1 (corners_from ring c.args.way.forward c.args.way.corner c.args.steps) in
     let at = (goal.at.loop-step-preserved c).After-push_after in (
-      more at,
+      c.push_after.ensures.list.here
+          ∙ ap (λ (l : List ℕ). Some l) (pushed_more (list_of c.args.pool.now c.args.spot.chain.0) others
+          (list_of c.loop-step.pool c.args.spot.chain.0) c.args.spot.at c.loop-step.step c.corner.result.0 c.requires.place
+          (omega (arith, c.loop-step-test.true, long ring c.args.way.forward c.args.way.corner c.args.steps))
+          (list_under-is c.loop-step.pool.lists c.args.spot.chain.0 _ c.loop-step.invariant.0) (value at)),
       omega (arith, c.loop-step.invariant.1, c.push_after.ensures.spare),
-      on_way_more ring c.args.way.forward c.args.way.corner corners corners c.loop-step.step c.loop-step.corner c.corner_after-corner.result
-          c.loop-step.invariant.2 (λ k h. refl)
-          (sym (value at) ∙ c.corner.ensures)
-          (c.corner_after-corner.ensures.corner ∙ ap (λ m. next_corner c.args.way.forward m c.loop-step.corner) c.sides-sides.ensures)
-          (omega (arith, c.corner_after-corner.ensures.within, c.sides-sides.ensures)),
+      reached at,
+      omega (arith, c.corner_after-corner.ensures.within, c.sides-sides.ensures),
     )
 
-pub returns-2-clause-list : goal.returns-2-clause-list
-returns-2-clause-list c =
+pub returns-clause-list : goal.returns-clause-list
+returns-clause-list c =
     let list = list_of c.args.pool.now c.args.spot.chain.0 in
-    let corners = corners_from (face_at c.args.faces.now c.args.way.face.0) c.args.way.forward c.args.way.corner c.args.steps in
-    more (goal.at.returns-2-clause-list c).After-push_after
+    let ring = face_at c.args.faces.now c.args.way.face.0 in
+    let others = drop 1 (corners_from ring c.args.way.forward c.args.way.corner c.args.steps) in
+    c.loop-step.invariant.0
     ∙ ap (λ (l : List ℕ). Some (take c.args.spot.at list ++ l ++ drop c.args.spot.at list))
-    (take_all (c.loop-step.step + 1) corners (omega (
-      arith,
-      length-corners_from (face_at c.args.faces.now c.args.way.face.0) c.args.way.forward c.args.way.corner c.args.steps,
-    )))
+    (take_all c.loop-step.step others
+    (omega (arith, c.loop-step-test.false, long ring c.args.way.forward c.args.way.corner c.args.steps)))

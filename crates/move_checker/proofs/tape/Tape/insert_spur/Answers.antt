@@ -52,12 +52,12 @@ returns-clause-step c = λ mesh table.
     let below : c.args.at + 1 ≤ length list = omega (arith, c.if-darts-at.false, c.len-darts.ensures, c.self.invariant.starts) in
     let within : c.args.at < length list = omega (arith, below) in
     let grown = length-replaced c.args.at 1 others list below in
-    let first : list_of c.push_after.new.self name ≡ inserted list (c.args.at + 1) c.args.via.0 =
+    let first : list_of c.push_after.new.self name ≡ inserted list c.args.at c.read-here.result.0 =
     list_under-is c.push_after.new.self.lists name _ c.push_after.ensures.list.here
-    ∙ ap (λ (p : Chains). inserted (list_of p name) (c.args.at + 1) c.args.via.0) c.read-here.ensures.same in
+    ∙ ap (λ (p : Chains). inserted (list_of p name) c.args.at c.read-here.result.0) c.read-here.ensures.same in
     let second : list_of c.push_after-2.new.self name ≡ replaced c.args.at 1 others list =
     list_under-is c.push_after-2.new.self.lists name _ c.push_after-2.ensures.list.here
-    ∙ ap (λ (l : List ℕ). inserted l (c.args.at + 2) c.read-here.result.0) first
+    ∙ ap (λ (l : List ℕ). inserted l (c.args.at + 1) c.args.via.0) first
     ∙ pushed_spur list c.args.at c.args.via.0 c.read-here.result.0 within c.read-here.ensures.value in
     let allowed : IsAllowed mesh list (Insert c.args.at c.args.via) (replaced c.args.at 1 others list) =
     insert_allowed mesh list c.args.at c.args.via (omega (arith, c.if-darts-at.false, c.len-darts.ensures))

@@ -1,6 +1,6 @@
 use Rattle.std.proofs.Common.{◌≡◌, ℕ, ◌+◌, ◌≤◌, ◌∷◌, [], List, length, get_or, true, ap, sym, subst, ◌∙◌, arith}
 use Rattle.std.specs.Prelude.{◌==◌, Ok, Err}
-use Rattle.std.proofs.lemmas.Bool.{and_left, and_right, and_from, not-true, not-false}
+use Rattle.std.proofs.lemmas.Bool.{and_left, and_right, and_from, not-true, not-false, eqb-true}
 use Rattle.chain_pool.specs.Chains.{Chains, list_of, cut}
 use Rattle.chain_pool.proofs.Lists.{list_under-is}
 use Rattle.surf_model.specs.Moves.{replaced}
@@ -57,8 +57,8 @@ returns-clause-step c = λ mesh.
     let shorter = length-replaced c.args.at 3 others list below in
     let written : list_of c.cut_between.new.self name ≡ replaced c.args.at 3 others list =
     list_under-is c.cut_between.new.self.lists name _ c.cut_between.ensures.list.here
-    ∙ ap (λ (p : Chains). cut (list_of p name) (c.args.at + 1) (c.args.at + 3)) c.read-here.ensures.same
-    ∙ cut_spur list c.args.at (omega (arith, below)) in
+    ∙ ap (λ (p : Chains). cut (list_of p name) c.args.at (c.args.at + 2)) c.read-here.ensures.same
+    ∙ cut_spur list c.args.at (omega (arith, below)) (eqb-true _ _ same) in
     subst (λ (t : PeakedWalk). step_of mesh t.peak t.walk (Remove c.args.at c.args.via) ≡ Ok (list_of c.cut_between.new.self name))
     c.self.view_is
     (rw written (within_peak mesh c.self.inside.peak list (Remove c.args.at c.args.via) (replaced c.args.at 3 others list)

@@ -1,6 +1,6 @@
 use Rattle.std.proofs.Common.{◌≤◌, ◌-◌}
 use Rattle.chain_pool.proofs.Going.{IsGoing}
-use Rattle.chain_pool.proofs.cells.Cells.go_to.Given as goal
+use Rattle.chain_pool.proofs.cells.Cells.travel.Given as goal
 
 abbrev pub invariant-on : goal.invariant-on
 invariant-on l =

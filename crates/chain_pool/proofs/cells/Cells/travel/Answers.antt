@@ -1,0 +1,98 @@
+use Rattle.std.proofs.Common.{arith}
+use Rattle.chain_pool.proofs.Going.{IsGoing-start, going_on, going_back, gone, right_top, left_top, both_now, few_now}
+use Rattle.chain_pool.proofs.Writes.{once_written}
+use Rattle.chain_pool.proofs.cells.Cells.travel.Goals as goal
+
+pub on-init : goal.on-init
+on-init c =
+    IsGoing-start c.args.self.now c.self.inside.slots.slots c.self.inside.slots.capacity c.self.inside.free c.self.inside.spare
+    c.args.chain.0
+    c.head.result.0 c.head.result.1 c.self.invariant c.self.view_is c.head.ensures c.requires.live
+
+pub entry-next-requires : goal.entry-next-requires
+entry-next-requires c =
+    right_top c.args.self.now c.on.self-inside.slots.slots c.on.self-inside.slots.capacity c.on.self-inside.free c.on.self-inside.spare
+    c.args.chain.0 c.on.left c.on.right c.on.invariant
+    (omega (
+      arith,
+      c.on-test.true,
+      c.requires.place,
+      both_now c.args.self.now c.on.self-inside.slots.slots
+          c.on.self-inside.slots.capacity c.on.self-inside.free c.on.self-inside.spare
+          c.args.chain.0 c.on.left c.on.right c.on.invariant,
+    ))
+
+pub overflow_add-left : goal.overflow_add-left
+overflow_add-left c = omega (
+  arith,
+  few_now c.args.self.now c.on.self-inside.slots.slots c.on.self-inside.slots.capacity c.on.self-inside.free
+      c.on.self-inside.spare
+      c.args.chain.0 c.on.left c.on.right c.on.invariant,
+)
+
+pub overflow_sub-right : goal.overflow_sub-right
+overflow_sub-right c =
+    omega (
+      arith,
+      c.on-test.true,
+      c.requires.place,
+      both_now c.args.self.now c.on.self-inside.slots.slots
+          c.on.self-inside.slots.capacity c.on.self-inside.free c.on.self-inside.spare
+          c.args.chain.0 c.on.left c.on.right c.on.invariant,
+    )
+
+pub on-preserved : goal.on-preserved
+on-preserved c =
+    let written = once_written c.on.self-inside.slots c.write.new.slots _ _ c.write.ensures in
+    rw (written.slots, written.capacity)
+    (going_on c.args.self.now c.on.self-inside.slots.slots c.on.self-inside.slots.capacity c.on.self-inside.free c.on.self-inside.spare
+    c.args.chain.0 c.on.left c.on.right c.on.invariant
+    c.entry-next.result.0 c.entry-next.result.1 c.entry-next.ensures
+    (omega (
+      arith,
+      c.on-test.true,
+      c.requires.place,
+      both_now c.args.self.now c.on.self-inside.slots.slots
+          c.on.self-inside.slots.capacity c.on.self-inside.free c.on.self-inside.spare
+          c.args.chain.0 c.on.left c.on.right c.on.invariant,
+    )))
+
+pub entry-next-requires-in-back : goal.entry-next-requires-in-back
+entry-next-requires-in-back c =
+    left_top c.args.self.now c.back.self-inside.slots.slots c.back.self-inside.slots.capacity c.back.self-inside.free
+    c.back.self-inside.spare
+    c.args.chain.0 c.back.left c.back.right c.back.invariant.0
+    (omega (arith, c.back-test.true))
+
+pub overflow_add-right : goal.overflow_add-right
+overflow_add-right c = omega (
+  arith,
+  few_now c.args.self.now c.back.self-inside.slots.slots c.back.self-inside.slots.capacity c.back.self-inside.free
+      c.back.self-inside.spare
+      c.args.chain.0 c.back.left c.back.right c.back.invariant.0,
+)
+
+pub back-preserved : goal.back-preserved
+back-preserved c =
+    let written = once_written c.back.self-inside.slots c.write-in-back.new.slots _ _ c.write-in-back.ensures in (
+      rw (written.slots, written.capacity)
+          (going_back c.args.self.now c.back.self-inside.slots.slots c.back.self-inside.slots.capacity c.back.self-inside.free
+          c.back.self-inside.spare
+          c.args.chain.0 c.back.left c.back.right c.back.invariant.0
+          c.entry-next-in-back.result.0 c.entry-next-in-back.result.1 c.entry-next-in-back.ensures
+          (omega (arith, c.back-test.true))),
+      omega (arith, c.back-test.true),
+    )
+
+pub invariant_of-self : goal.invariant_of-self
+invariant_of-self c =
+    let written = once_written c.back.self-inside.slots c.write-2.new.slots _ _ c.write-2.ensures in
+    rw (written.slots, written.capacity) c.back.invariant.0.sound
+
+pub returns-clause-chain : goal.returns-clause-chain
+returns-clause-chain c =
+    let written = once_written c.back.self-inside.slots c.write-2.new.slots _ _ c.write-2.ensures in
+    rw written.slots (gone c.args.self.now c.back.self-inside.slots.slots c.back.self-inside.slots.capacity c.back.self-inside.free
+    c.back.self-inside.spare
+    c.args.chain.0 c.back.left c.back.right c.back.invariant.0
+    c.args.place (omega (arith, c.back.invariant.1, c.back-test.false)))
