@@ -21,6 +21,7 @@ pub mod ContractLemmas
 pub mod BackLemmas
 pub mod InsertLemmas
 pub mod SpurLemmas
+pub mod ShortestLemmas
 pub mod TurnLemmas
 pub mod LastLoopLemmas
 pub mod LayLemmas
