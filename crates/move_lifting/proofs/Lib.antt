@@ -7,7 +7,10 @@ pub mod RoundLemmas
 pub mod RestLemmas
 pub mod CrossingLemmas
 pub mod LeavingLemmas
+pub mod WithinLemmas
 pub mod ExpandLemmas
+pub mod BoundLemmas
+pub mod OffCotreeLemmas
 pub mod TreeLiftLemmas
 pub mod CloseLemmas
 pub mod PathLemmas

@@ -159,5 +159,6 @@ reduced_is_shortest mesh walk reduced some free clean =
     let found : HasReduced walk = has_reduced walk some in
     let equal : found.reduced ≡ reduced =
     same_equal found.reduced reduced found.no_spur clean
-    (same_on found.reduced walk reduced (turned_same walk found.reduced found.same) (moves_same mesh free.0 walk reduced some free.1 free.2)) in
+    (same_on found.reduced walk reduced (turned_same walk found.reduced found.same)
+    (moves_same mesh free.0 walk reduced some free.1 free.2)) in
     omega (arith, found.long, ap (λ (l : List ℕ). length l) equal)

@@ -2,6 +2,8 @@ pub mod Cuts
 pub mod Lifts
 pub mod Tracks
 pub mod Crossings
+pub mod Loads
+pub mod WalksOff
 pub mod LoopsPutIn
 pub mod LoopFronts
 pub mod Reductions

@@ -1,8 +1,9 @@
 -- Walks for the loops of spokes and for the loop of the last side.
-use Rattle.std.specs.Prelude.{◌≡◌, ℕ, ◌<◌, Bool, false, true, not, List, [], ◌∷◌, ◌++◌, length, drop, slice_index, slice_index_or, IfSome}
+use Rattle.std.specs.Prelude.{ℕ, ◌<◌, ◌≤◌, Bool, false, true, not, List, [], ◌∷◌, ◌++◌, length, drop, slice_index, slice_index_or, IfSome}
 use Rattle.surf_model.specs.FreeWalks.{AreFreelyEqual, HasNoSpur}
+use Rattle.surf_model.specs.Walks.{darts}
 use Rattle.halfedge_map.specs.OrientedMeshes.{OrientedMesh}
-use Rattle.halfedge_map.specs.DartMaps.{origin_of}
+use Rattle.halfedge_map.specs.DartMaps.{darts_of, origin_of}
 use Rattle.tree_cotree.specs.Splits.{SplitView}
 use Rattle.polygon_cut.specs.Polygons.{PolygonView}
 use Rattle.polygon_cut.specs.SpokeLoops.{AreWaysUp, backward, spoke_loop, by_loop, last_side}
@@ -42,9 +43,11 @@ walks_loop walks along [] = []
 walks_loop walks along (i ∷ path) = along_or_back along (slice_index_or walks i []) ++ walks_loop walks (not along) path
 
 -- the walk is the loop of the last side, or if `back` the way back along it, and the moves lead to it from the vertex where that
--- side starts
+-- side starts: no walk on the way has more darts than the surface
 pub record IsLastLoop (surface : OrientedMesh) (split : SplitView) (polygon : PolygonView) (back : Bool) (lifted : Lifted) : Type 0 where
   pub leads : LeadsAtPeak surface.mesh (origin_of surface (last_side polygon) ∷ []) lifted.moves lifted.walk
+  pub low : lifted.moves.peak ≤ darts_of surface
+  pub short : darts lifted.walk ≤ darts_of surface
   pub no_spur : HasNoSpur lifted.walk
   pub freely : (root : ℕ) (ways : ℕ → List ℕ) → AreWaysUp surface split root ways
       → AreFreelyEqual surface.mesh lifted.walk

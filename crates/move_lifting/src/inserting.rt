@@ -1,10 +1,10 @@
 //! Turns put into walks: there, round, back, and on.
-ghost use Rattle.std.specs.Prelude.{◌≡◌, ◌+◌, ◌*◌, ◌-◌, ◌<◌, ◌≤◌, ◌^◌, ◌∷◌, [], ◌++◌, ℕ, List, length, take, drop, slice_index, IfOk, OnOk, All};
+ghost use Rattle.std.specs.Prelude.{◌≡◌, ◌+◌, ◌*◌, ◌-◌, ◌<◌, ◌≤◌, ◌^◌, ◌∷◌, [], ◌++◌, ℕ, List, length, max, take, drop, slice_index, IfOk, OnOk, All};
 ghost use Rattle.surf_model.specs.FaceLists.{FaceList};
 ghost use Rattle.surf_model.specs.FreeWalks.{AreFreelyEqual, HasNoSpur};
 ghost use Rattle.surf_model.specs.Replacements.{place_of};
 ghost use Rattle.surf_model.specs.Vertices.{numbers};
-ghost use Rattle.surf_model.specs.Walks.{IsWalk};
+ghost use Rattle.surf_model.specs.Walks.{IsWalk, darts};
 ghost use Rattle.polygon_cut.specs.SpokeLoops.{backward, put_behind};
 ghost use Rattle.move_lifting.specs.declared.inserting.TheConstants.{MOST_ENTRIES};
 ghost use Rattle.move_lifting.specs.Lifts.{LeadsAtPeak};
@@ -195,6 +195,7 @@ pub(crate) fn reduce_all(
     ensures last { IfOk result (λ track. last_of track.walk ≡ last_of (numbers walk.now)) }
     ensures some { IfOk result (λ track. 0 < length track.walk) }
     ensures few { IfOk result (λ track. length track.walk ≤ length walk.now) }
+    ensures peak { IfOk result (λ track. track.list.peak ≤ max moves.peak (darts (numbers walk.now) + behind)) }
 {
     let mut track = Track::start(alloc, walk[0], moves);
     for place in 1..walk.len() {

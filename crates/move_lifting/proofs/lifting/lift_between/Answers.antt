@@ -1,14 +1,16 @@
-use Rattle.std.proofs.Common.{◌≡◌, ℕ, ◌<◌, true, List, [], drop, refl, sym, ap, ◌∙◌, subst, arith}
+use Rattle.std.proofs.Common.{◌≡◌, ℕ, ◌+◌, ◌*◌, ◌<◌, ◌≤◌, true, List, [], length, drop, refl, sym, ap, ◌∙◌, subst, arith}
 use Rattle.std.proofs.lemmas.Bool.{both_ways}
 use Rattle.std.proofs.lemmas.List.{length-drop}
 use Rattle.surf_model.specs.Moves.{PeakedMoves}
 use Rattle.surf_model.specs.Vertices.{numbers}
-use Rattle.surf_model.specs.Walks.{IsWalk}
+use Rattle.surf_model.specs.Walks.{IsWalk, darts}
 use Rattle.surf_model.specs.declared.names.VertexName.{VertexName}
+use Rattle.halfedge_map.specs.DartMaps.{darts_of}
 use Rattle.spoke_paths.specs.Path_steps.{PathLeads}
 use Rattle.move_lifting.specs.Contractions.{IsLedFrom}
 use Rattle.move_lifting.specs.Lifts.{LeadsAtPeak}
 use Rattle.move_lifting.specs.Tracks.{GoesOn}
+use Rattle.move_lifting.proofs.BoundLemmas.{IsShort, short_walk, three_darts, is_low}
 use Rattle.move_lifting.proofs.ExpandLemmas.{length-numbers}
 use Rattle.move_lifting.proofs.LiftLemmas.{IsClosed, closed_is, IsOffCotree, off_cotree, second_left, second_stays, second_there, homotopic_leaves_nothing, steps_to_nothing, begun_freely}
 use Rattle.move_lifting.proofs.lifting.lift_between.Goals as goal
@@ -29,8 +31,8 @@ lead_in_passes-requires-clause-led c =
       some = k.some;
     }
 
-pub returns-then-len-eq1 : goal.returns-then-len-eq1
-returns-then-len-eq1 c =
+pub returns-then-len-eq1-clause-list : goal.returns-then-len-eq1-clause-list
+returns-then-len-eq1-clause-list c =
     let k : IsClosed c.args.on.now.surface.now.mesh c.args.first.now (numbers c.in_ok-closed.closed.items) c.args.second.now
     c.in_ok-closed.moves =
     closed_is c.args.on.now.surface.now.mesh c.args.first.now c.args.second.now c.in_ok-closed.closed.items c.in_ok-closed.moves
@@ -66,8 +68,8 @@ lead_in_passes-requires-2-clause-led c =
       some = k.some;
     }
 
-pub returns-then-degree-eq0 : goal.returns-then-degree-eq0
-returns-then-degree-eq0 c =
+pub returns-then-degree-eq0-clause-list : goal.returns-then-degree-eq0-clause-list
+returns-then-degree-eq0-clause-list c =
     let k : IsClosed c.args.on.now.surface.now.mesh c.args.first.now (numbers c.in_ok-closed.closed.items) c.args.second.now
     c.in_ok-closed.moves =
     closed_is c.args.on.now.surface.now.mesh c.args.first.now c.args.second.now c.in_ok-closed.closed.items c.in_ok-closed.moves
@@ -87,8 +89,8 @@ returns-then-degree-eq0 c =
     c.requires.walks.along c.requires.walks.beside.starts c.requires.walks.ends.starts k.led off.goes c.in_ok-track-2.ensures.off_cotree
     c.in_ok-track-2.ensures.no_spur c.in_ok-track-2.ensures.some off.last)
 
-pub returns-then-not-leaves_nothing : goal.returns-then-not-leaves_nothing
-returns-then-not-leaves_nothing c = λ homotopic.
+pub returns-then-not-leaves_nothing-clause-list : goal.returns-then-not-leaves_nothing-clause-list
+returns-then-not-leaves_nothing-clause-list c = λ homotopic.
     let k : IsClosed c.args.on.now.surface.now.mesh c.args.first.now (numbers c.in_ok-closed.closed.items) c.args.second.now
     c.in_ok-closed.moves =
     closed_is c.args.on.now.surface.now.mesh c.args.first.now c.args.second.now c.in_ok-closed.closed.items c.in_ok-closed.moves
@@ -175,8 +177,8 @@ contract-requires-clause-spokes c =
     c.in_ok-closed.moves c.in_ok-track-3.track c.in_ok-reduction.reduction c.in_ok-reduction.ensures.reduction
     (ap numbers c.deref.ensures.value) c.requires.walks.along k.some k.meets k.led off.begun c.in_ok-track-3.ensures.off_cotree off.last
 
-pub returns : goal.returns
-returns c =
+pub returns-clause-list : goal.returns-clause-list
+returns-clause-list c =
     let k : IsClosed c.args.on.now.surface.now.mesh c.args.first.now (numbers c.in_ok-closed.closed.items) c.args.second.now
     c.in_ok-closed.moves =
     closed_is c.args.on.now.surface.now.mesh c.args.first.now c.args.second.now c.in_ok-closed.closed.items c.in_ok-closed.moves
@@ -195,3 +197,38 @@ returns c =
     (subst (λ (n : ℕ). GoesOn c.args.on.now.surface.now.mesh n c.in_ok-track-3.track.walk c.in_ok-track-3.track.list
     c.in_ok-track-4.track.walk c.in_ok-track-4.track.list) c.darts-behind.ensures.count c.in_ok-track-4.ensures.leads)
     c.in_ok-track-4.ensures.nothing)
+
+-- on a sphere the peak is low
+pub returns-then-len-eq1-clause-low : goal.returns-then-len-eq1-clause-low
+returns-then-len-eq1-clause-low c = λ sphere.
+    let s = c.args.on.now.surface.now in
+    is_low (darts_of s) (darts c.args.first.now + darts c.args.second.now) 0 c.in_ok-closed.moves.peak (three_darts s c.requires.valid)
+    (omega arith) (omega (arith, c.in_ok-track.ensures.peak, ap (λ (l : PeakedMoves). l.peak) c.in_ok-closed.ensures.moves))
+
+pub returns-then-degree-eq0-clause-low : goal.returns-then-degree-eq0-clause-low
+returns-then-degree-eq0-clause-low c = λ sphere.
+    let s = c.args.on.now.surface.now in
+    let k : IsClosed s.mesh c.args.first.now (numbers c.in_ok-closed.closed.items) c.args.second.now c.in_ok-closed.moves =
+    closed_is s.mesh c.args.first.now c.args.second.now c.in_ok-closed.closed.items c.in_ok-closed.moves
+    c.in_ok-track.track c.requires.walks c.in_ok-track.ensures.leads c.in_ok-track.ensures.some c.in_ok-track.ensures.last
+    c.in_ok-closed.ensures.vertices c.in_ok-closed.ensures.moves in
+    let track = c.in_ok-track-2.track in
+    let few : darts (numbers c.in_ok-closed.closed.items) ≤ darts c.args.first.now + darts c.args.second.now =
+    omega (arith, c.in_ok-track.ensures.long, ap (λ (l : List ℕ). length l) c.in_ok-closed.ensures.vertices) in
+    let short : IsShort (darts (numbers c.in_ok-closed.closed.items) * darts_of s) c.darts-behind.result track.walk c.in_ok-closed.moves
+    track.list =
+    short_walk s c.args.on.now.split.now c.requires.valid c.requires.on.split c.darts-behind.result
+    (numbers c.in_ok-closed.closed.items) track.walk c.in_ok-closed.moves track.list k.walk c.in_ok-track-2.ensures.within in
+    is_low (darts_of s) (darts c.args.first.now + darts c.args.second.now) (darts (numbers c.in_ok-closed.closed.items))
+    c.into_moves.result.peak (three_darts s c.requires.valid) few
+    (omega (
+      arith,
+      short.peak,
+      c.in_ok-track.ensures.peak,
+      ap (λ (l : PeakedMoves). l.peak) c.in_ok-closed.ensures.moves,
+      ap (λ (l : PeakedMoves). l.peak) c.into_moves.ensures,
+      c.darts-behind.ensures.count,
+    ))
+
+pub returns-clause-low : goal.returns-clause-low
+returns-clause-low c = λ sphere. absurd (omega (arith, sphere, c.degree.ensures.degree, c.if-degree-eq0.false))
