@@ -2,6 +2,7 @@
 use Rattle.std.proofs.Common.{◌≡◌, ℕ, ◌+◌, ◌*◌, ◌<◌, ◌≤◌, max, List, [], ◌∷◌, length, ap, subst, arith}
 use Rattle.std.proofs.Math.Nat.{mul-le-mul_left, mul-le-mul_right}
 use Rattle.std.proofs.lemmas.List.Sums.{get_or-le-sum_by}
+use Rattle.std.proofs.lemmas.Nat.{mul-le}
 use Rattle.surf_model.specs.Moves.{PeakedMoves}
 use Rattle.surf_model.specs.Walks.{IsWalk, darts}
 use Rattle.halfedge_map.specs.OrientedMeshes.{OrientedMesh, IsOrientedSurface}
@@ -9,6 +10,7 @@ use Rattle.halfedge_map.specs.DartMaps.{darts_of}
 use Rattle.halfedge_map.proofs.EdgeLemmas.{dart_between}
 use Rattle.tree_cotree.specs.Splits.{SplitView, IsSplit}
 use Rattle.move_lifting.specs.Loads.{load_of, AreWeights, StaysWithin}
+use Rattle.move_lifting.specs.declared.expanding.TheConstants.{MOST_LIFTED_SIDES, MOST_LIFTED_DARTS}
 use Rattle.move_lifting.proofs.ExpandLemmas.{IsRest, rest_of_step}
 use Rattle.move_lifting.proofs.RestLemmas.{pair_weight, pair_positive, pair_most, rest_falls}
 use Rattle.move_lifting.proofs.WithinLemmas.{darts_weigh, load_most}
@@ -78,6 +80,12 @@ is_low sides darts few peak three less low =
   where
     parts : (k n : ℕ) → (3 * k + 7) * n ≡ 3 * (k * n) + 7 * n
     parts k n = omega arith
+
+-- within the limits it is no greater than this
+pub low_most : (sides darts peak : ℕ) → sides ≤ MOST_LIFTED_SIDES → darts ≤ MOST_LIFTED_DARTS → 2 * peak ≤ (3 * darts + 7) * sides
+    → peak ≤ 12640256
+low_most sides darts peak few less low =
+    omega (arith, low, mul-le (3 * darts + 7) sides 1543 16384 (omega (arith, less)) few)
 
 -- a low peak stays low where the walks have so many darts more before and behind
 pub low_around : (sides darts around peak : ℕ) → 3 ≤ sides → 2 * peak ≤ (3 * darts + 7) * sides

@@ -1,24 +1,27 @@
 -- Each walk leads off the cotree: dart by dart the rest of the face below takes the place of a dart on a cotree edge.
-use Rattle.std.proofs.Common.{◌≡◌, ◌⊎◌, inl, inr, ℕ, zero, suc, ◌+◌, ◌*◌, ◌-◌, ◌<◌, ◌≤◌, true, false, not, List, [], ◌∷◌, ◌++◌, length, get_or, refl, ap, sym, ◌∙◌, subst, arith, append_assoc}
-use Rattle.std.specs.Prelude.{Option, Some, None, option_and_then, reverse}
+use Rattle.std.proofs.Common.{Bool, ◌≡◌, ◌⊎◌, inl, inr, ℕ, zero, suc, ◌+◌, ◌*◌, ◌-◌, ◌<◌, ◌≤◌, true, false, not, List, [], ◌∷◌, ◌++◌, length, get_or, refl, ap, sym, ◌∙◌, subst, arith, append_assoc}
+use Rattle.std.specs.Prelude.{IsTrue, Option, Some, None, option_and_then, reverse}
 use Rattle.std.proofs.lemmas.Bool.{cases_eq}
 use Rattle.std.proofs.lemmas.List.Elements.{All-nil, All-cons}
-use Rattle.surf_model.specs.FaceLists.{face_at, next_corner, corners_from, is_edge}
+use Rattle.surf_model.specs.FaceLists.{is_used, face_at, next_corner, corners_from, is_edge}
 use Rattle.surf_model.specs.Darts.{tail_of}
+use Rattle.surf_model.specs.Surfaces.{is_flipped}
 use Rattle.surf_model.specs.Moves.{apply, apply_all}
 use Rattle.surf_model.specs.Walks.{IsWalk, darts}
 use Rattle.surf_model.specs.declared.edges.Side.{Side}
 use Rattle.surf_model.specs.declared.moves.Move.{Move}
 use Rattle.surf_model.specs.declared.moves.Move.TheVariants.{Across}
+use Rattle.surf_model.proofs.LinkLemmas.{walk_from, all_more, none_yet}
 use Rattle.surf_model.proofs.WayBackLemmas.{keeps_walk}
 use Rattle.halfedge_map.specs.OrientedMeshes.{OrientedMesh, IsOrientedSurface}
-use Rattle.halfedge_map.specs.DartMaps.{darts_of, twin_of, edge_of, face_of}
+use Rattle.halfedge_map.specs.DartMaps.{origin_of, start_corner_of, darts_of, twin_of, edge_of, face_of}
 use Rattle.halfedge_map.specs.RotationSystems.{rotations_of, IsDartFrom}
 use Rattle.halfedge_map.proofs.EdgeLemmas.{dart_between}
 use Rattle.halfedge_map.proofs.NumberLemmas.{HasPlace, placed}
-use Rattle.halfedge_map.proofs.SystemLemmas.{rotation_system}
+use Rattle.halfedge_map.proofs.SystemLemmas.{names_all, rotation_system}
 use Rattle.tree_cotree.specs.Splits.{SplitView, IsSplit, child_face, in_cotree}
-use Rattle.polygon_cut.specs.SpokeLoops.{LeavesCotree}
+use Rattle.polygon_cut.specs.SpokeLoops.{LeavesCotree, way_round}
+use Rattle.polygon_cut.proofs.FaceRoundLemmas.{at_face}
 use Rattle.move_lifting.specs.Crossings.{beyond, IsFaceBelow, IsOneIn, GoesAlong}
 use Rattle.move_lifting.specs.Lifts.{AvoidsCotree}
 use Rattle.move_lifting.specs.WalksOff.{LeadsOffCotree}
@@ -26,8 +29,9 @@ use Rattle.move_lifting.specs.declared.crossing.FaceStep.{FaceStep}
 use Rattle.move_lifting.proofs.BoundLemmas.{walk_most}
 use Rattle.move_lifting.proofs.CrossingLemmas.{below_step, not_below}
 use Rattle.move_lifting.proofs.ExpandLemmas.{IsRest, rest_of_step, face_crossed}
+use Rattle.move_lifting.proofs.LastLoopLemmas.{round_move}
 use Rattle.move_lifting.proofs.LeavingLemmas.{step_leaves}
-use Rattle.move_lifting.proofs.RestLemmas.{load, load-join, load_long, pair_weight, rest_falls}
+use Rattle.move_lifting.proofs.RestLemmas.{root_round, load, load-join, load_long, pair_weight, rest_falls}
 
 -- the step along the edge between two vertices, round the face below it
 step_below : (s : OrientedMesh) (split : SplitView) → IsOrientedSurface s → IsSplit s split → (u v d face : ℕ)
@@ -196,3 +200,23 @@ lead_off s split o t (suc n) walk w light = elim (find_dart s split o t walk (λ
 pub walk_leads_off : (s : OrientedMesh) (split : SplitView) → IsOrientedSurface s → IsSplit s split → (walk : List ℕ) → IsWalk s.mesh walk
     → LeadsOffCotree s split walk (darts walk * darts_of s)
 walk_leads_off s split o t walk w = lead_off s split o t (darts walk * darts_of s) walk w (walk_most s split o t walk w)
+
+-- all round the root face
+pub root_face_leads_off : (s : OrientedMesh) (split : SplitView) → IsOrientedSurface s → IsSplit s split → (d : ℕ) → d < darts_of s
+    → face_of s d ≡ split.root_face → LeadsOffCotree s split (way_round s split d) (darts_of s)
+root_face_leads_off s split o t d l root =
+    let v : ℕ = origin_of s d in
+    let f : ℕ = face_of s d in
+    let c : ℕ = start_corner_of s d in
+    let rising : Bool = not (is_flipped s.signs split.root_face) in
+    let at = at_face s d l in
+    let round : ℕ → List ℕ = λ g. corners_from (face_at s.mesh g) rising c (length (face_at s.mesh g)) in
+    let move : Move = Across 0 (record { 0 = f }) c (not rising) 0 in
+    let leads : apply s.mesh (v ∷ []) move ≡ Some (round f) =
+    round_move s.mesh (record { 0 = f }) c v rising at.in_list at.in_face at.vertex in
+    let one : IsWalk s.mesh (v ∷ []) =
+    walk_from s.mesh (v ∷ []) (omega arith)
+    (all_more (λ x. IsTrue (is_used s.mesh x)) v [] ((names_all s o).vertex_used d l) (none_yet (λ x. IsTrue (is_used s.mesh x)))) tt in
+    subst (λ (w : List ℕ). LeadsOffCotree s split w (darts_of s)) (ap round root)
+    (lead_off s split o t (darts_of s) (round f) (keeps_walk s.mesh (v ∷ []) (round f) move one leads)
+    (root_round s split o t f c rising root at.in_list at.in_face))
