@@ -21,11 +21,13 @@ pub mod StartLemmas
 pub mod PassLemmas
 pub mod LiftLemmas
 pub mod ContractLemmas
+pub mod ShortStepLemmas
 pub mod BackLemmas
 pub mod InsertLemmas
 pub mod SpurLemmas
 pub mod ShortestLemmas
 pub mod TurnLemmas
+pub mod BackPeakLemmas
 pub mod LastLoopLemmas
 pub mod LayLemmas
 pub mod TreeUpLemmas
@@ -33,3 +35,4 @@ pub mod StoredWalkLemmas
 pub mod ApproachLemmas
 pub mod FrontLemmas
 pub mod LoopInLemmas
+pub mod LoopRiseLemmas

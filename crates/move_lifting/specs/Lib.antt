@@ -6,6 +6,7 @@ pub mod Loads
 pub mod WalksOff
 pub mod LoopsPutIn
 pub mod LoopFronts
+pub mod TurnPeaks
 pub mod Reductions
 pub mod Contractions
 pub mod SpokeWalks

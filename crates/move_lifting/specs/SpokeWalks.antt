@@ -10,6 +10,7 @@ use Rattle.polygon_cut.specs.SpokeLoops.{AreWaysUp, backward, spoke_loop, by_loo
 use Rattle.move_lifting.specs.Cuts.{IsCut}
 use Rattle.move_lifting.specs.Lifts.{LeadsAtPeak}
 use Rattle.move_lifting.specs.LoopsPutIn.{signed_loop}
+use Rattle.move_lifting.specs.declared.expanding.TheConstants.{MOST_LIFTED_DARTS}
 use Rattle.move_lifting.specs.declared.lifted.Lifted.{Lifted}
 use Rattle.move_lifting.specs.declared.looping.Looper.{Looper}
 use Rattle.move_lifting.specs.declared.looping.Looping.{Looping}
@@ -64,6 +65,7 @@ pub record IsLooper (surface : OrientedMesh) (split : SplitView) (polygon : Poly
   pub spokes : AreSpokeWalks surface split polygon looper.spokes
   pub turns : IfSome looper.turns (AreTurns surface split polygon)
 
--- the polygon is cut from the surface
+-- the polygon is cut from the surface, and no more entries stand behind than a second walk has
 pub record IsLooping (looping : Looping) : Type 0 where
   pub cut : IsCut looping.cut.now
+  pub behind : looping.behind ≤ MOST_LIFTED_DARTS

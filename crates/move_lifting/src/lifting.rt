@@ -36,8 +36,6 @@ use tree_cotree::Split;
 /// the second is contracted to its start, if that is not all of it yet, and the second walk behind it is left: it is led off
 /// the cotree, and follows the steps that leave nothing of its spokes. The steps leave something exactly where the walks are
 /// not homotopic. On a sphere there are no spokes, and off the cotree nothing but the tree is left to go along.
-///
-/// A walk of 2^31 vertices on the way is answered as want of memory.
 pub fn lift(
     alloc: Global,
     surface: &Surface,
@@ -56,8 +54,7 @@ pub fn lift(
     ensures list { IfOk result (λ found. MatchOption found
         (Homotopic surface.now.mesh first.now second.now → ⊥)
         (λ list. LeadsAtPeak surface.now.mesh first.now list second.now)) }
-    ensures low { polygon.now.degree ≡ 0 → IfOk result (λ found. IfSome found
-        (HasLowPeak (darts_of surface.now) (darts first.now + darts second.now))) }
+    ensures low { IfOk result (λ found. IfSome found (HasLowPeak (darts_of surface.now) (darts first.now + darts second.now))) }
 {
     let sides = surface.darts();
     prove!(sides <= MOST_LIFTED_SIDES);
@@ -87,7 +84,7 @@ fn lift_between(
     ensures list { IfOk result (λ found. MatchOption found
         (Homotopic on.now.surface.now.mesh first.now second.now → ⊥)
         (λ list. LeadsAtPeak on.now.surface.now.mesh first.now list second.now)) }
-    ensures low { polygon.now.degree ≡ 0 → IfOk result (λ found. IfSome found
+    ensures low { IfOk result (λ found. IfSome found
         (HasLowPeak (darts_of on.now.surface.now) (darts first.now + darts second.now))) }
 {
     let behind = second.darts();

@@ -48,13 +48,13 @@ returns-clause-list c =
     c.requires.second c.of-common.ensures (record { near_is = c.in_ok-first.ensures; far_is = c.in_ok-second.ensures }) apart
 
 pub returns-in-Some-clause-low : goal.returns-in-Some-clause-low
-returns-in-Some-clause-low c = λ sphere.
+returns-in-Some-clause-low c =
     let s = c.args.surface.now in
     let near : ℕ = darts c.in_ok-first.first + darts c.in_ok-second.second in
     let all : ℕ = darts c.args.first.now + darts c.args.second.now in
     let around : ℕ = c.of-common.result.front + c.of-common.result.back in
     let low : HasLowPeak (darts_of s) near c.in-Some.list =
-    subst (λ o. IfSome o (HasLowPeak (darts_of s) near)) c.in-Some.is (c.in_ok-list.ensures.low sphere) in
+    subst (λ o. IfSome o (HasLowPeak (darts_of s) near)) c.in-Some.is c.in_ok-list.ensures.low in
     let count : near + 2 * around ≡ all =
     omega (
       arith,

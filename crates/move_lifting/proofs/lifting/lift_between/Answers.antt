@@ -6,6 +6,7 @@ use Rattle.surf_model.specs.Vertices.{numbers}
 use Rattle.surf_model.specs.Walks.{IsWalk, darts}
 use Rattle.surf_model.specs.declared.names.VertexName.{VertexName}
 use Rattle.halfedge_map.specs.DartMaps.{darts_of}
+use Rattle.polygon_cut.specs.SpokeLoops.{spokes_along}
 use Rattle.spoke_paths.specs.Path_steps.{PathLeads}
 use Rattle.move_lifting.specs.Contractions.{IsLedFrom}
 use Rattle.move_lifting.specs.Lifts.{LeadsAtPeak}
@@ -13,6 +14,7 @@ use Rattle.move_lifting.specs.Tracks.{GoesOn}
 use Rattle.move_lifting.proofs.BoundLemmas.{IsShort, short_walk, three_darts, is_low}
 use Rattle.move_lifting.proofs.ExpandLemmas.{length-numbers}
 use Rattle.move_lifting.proofs.LiftLemmas.{IsClosed, closed_is, IsOffCotree, off_cotree, second_left, second_stays, second_there, homotopic_leaves_nothing, steps_to_nothing, begun_freely}
+use Rattle.move_lifting.proofs.ShortStepLemmas.{walk_spokes}
 use Rattle.move_lifting.proofs.lifting.lift_between.Goals as goal
 
 pub lead_in_passes-requires-clause-led : goal.lead_in_passes-requires-clause-led
@@ -128,6 +130,28 @@ contract-requires-clause-reduction c =
     c.requires.on.split c.requires.cut some_sides (numbers c.in_ok-closed.closed.items) (numbers c.deref.result.now)
     c.in_ok-reduction.reduction red (ap numbers c.deref.ensures.value) k.walk none
 
+pub contract-requires-clause-few : goal.contract-requires-clause-few
+contract-requires-clause-few c =
+    let s = c.args.on.now.surface.now in
+    let closed : List ℕ = numbers c.in_ok-closed.closed.items in
+    let k : IsClosed s.mesh c.args.first.now closed c.args.second.now c.in_ok-closed.moves =
+    closed_is s.mesh c.args.first.now c.args.second.now c.in_ok-closed.closed.items c.in_ok-closed.moves
+    c.in_ok-track.track c.requires.walks c.in_ok-track.ensures.leads c.in_ok-track.ensures.some c.in_ok-track.ensures.last
+    c.in_ok-closed.ensures.vertices c.in_ok-closed.ensures.moves in
+    let red = c.in_ok-reduction.ensures.reduction in
+    let read : numbers c.deref.result.now ≡ closed = ap numbers c.deref.ensures.value in
+    omega (
+      arith,
+      c.requires.few,
+      c.in_ok-track.ensures.long,
+      ap (λ (l : List ℕ). length l) c.in_ok-closed.ensures.vertices,
+      ap (λ (l : List ℕ). length l) (red.spokes.path_is ∙ ap (spokes_along red.spokes.spokes) read),
+      walk_spokes s c.requires.valid c.args.polygon.now red.spokes.spokes red.spokes.free closed k.walk,
+    )
+
+pub contract-requires-clause-behind : goal.contract-requires-clause-behind
+contract-requires-clause-behind c = omega (arith, c.requires.few, c.darts-behind.ensures.count)
+
 pub contract-requires-clause-led : goal.contract-requires-clause-led
 contract-requires-clause-led c =
     let k : IsClosed c.args.on.now.surface.now.mesh c.args.first.now (numbers c.in_ok-closed.closed.items) c.args.second.now
@@ -198,15 +222,15 @@ returns-clause-list c =
     c.in_ok-track-4.track.walk c.in_ok-track-4.track.list) c.darts-behind.ensures.count c.in_ok-track-4.ensures.leads)
     c.in_ok-track-4.ensures.nothing)
 
--- on a sphere the peak is low
+-- the peak is low
 pub returns-then-len-eq1-clause-low : goal.returns-then-len-eq1-clause-low
-returns-then-len-eq1-clause-low c = λ sphere.
+returns-then-len-eq1-clause-low c =
     let s = c.args.on.now.surface.now in
     is_low (darts_of s) (darts c.args.first.now + darts c.args.second.now) 0 c.in_ok-closed.moves.peak (three_darts s c.requires.valid)
     (omega arith) (omega (arith, c.in_ok-track.ensures.peak, ap (λ (l : PeakedMoves). l.peak) c.in_ok-closed.ensures.moves))
 
 pub returns-then-degree-eq0-clause-low : goal.returns-then-degree-eq0-clause-low
-returns-then-degree-eq0-clause-low c = λ sphere.
+returns-then-degree-eq0-clause-low c =
     let s = c.args.on.now.surface.now in
     let k : IsClosed s.mesh c.args.first.now (numbers c.in_ok-closed.closed.items) c.args.second.now c.in_ok-closed.moves =
     closed_is s.mesh c.args.first.now c.args.second.now c.in_ok-closed.closed.items c.in_ok-closed.moves
@@ -231,4 +255,43 @@ returns-then-degree-eq0-clause-low c = λ sphere.
     ))
 
 pub returns-clause-low : goal.returns-clause-low
-returns-clause-low c = λ sphere. absurd (omega (arith, sphere, c.degree.ensures.degree, c.if-degree-eq0.false))
+returns-clause-low c =
+    let s = c.args.on.now.surface.now in
+    let n : ℕ = darts_of s in
+    let all : ℕ = darts c.args.first.now + darts c.args.second.now in
+    let closed : List ℕ = numbers c.in_ok-closed.closed.items in
+    let k : IsClosed s.mesh c.args.first.now closed c.args.second.now c.in_ok-closed.moves =
+    closed_is s.mesh c.args.first.now c.args.second.now c.in_ok-closed.closed.items c.in_ok-closed.moves
+    c.in_ok-track.track c.requires.walks c.in_ok-track.ensures.leads c.in_ok-track.ensures.some c.in_ok-track.ensures.last
+    c.in_ok-closed.ensures.vertices c.in_ok-closed.ensures.moves in
+    let few : darts closed ≤ all =
+    omega (arith, c.in_ok-track.ensures.long, ap (λ (l : List ℕ). length l) c.in_ok-closed.ensures.vertices) in
+    let short : IsShort (darts closed * n) c.darts-behind.result c.in_ok-track-3.track.walk c.in_ok-closed.moves
+    c.in_ok-track-3.track.list =
+    short_walk s c.args.on.now.split.now c.requires.valid c.requires.on.split c.darts-behind.result closed c.in_ok-track-3.track.walk
+    c.in_ok-closed.moves c.in_ok-track-3.track.list k.walk c.in_ok-track-3.ensures.within in
+    let begun : 2 * c.in_ok-track-3.track.list.peak ≤ (3 * all + 7) * n =
+    is_low n all (darts closed) c.in_ok-track-3.track.list.peak (three_darts s c.requires.valid) few
+    (omega (
+      arith,
+      short.peak,
+      c.in_ok-track.ensures.peak,
+      ap (λ (l : PeakedMoves). l.peak) c.in_ok-closed.ensures.moves,
+      c.darts-behind.ensures.count,
+    )) in
+    let red = c.in_ok-reduction.ensures.reduction in
+    let read : numbers c.deref.result.now ≡ closed = ap numbers c.deref.ensures.value in
+    let spokes : length c.in_ok-reduction.reduction.spokes.items ≤ 2 * all =
+    omega (
+      arith,
+      few,
+      ap (λ (l : List ℕ). length l) (red.spokes.path_is ∙ ap (spokes_along red.spokes.spokes) read),
+      walk_spokes s c.requires.valid c.args.polygon.now red.spokes.spokes red.spokes.free closed k.walk,
+    ) in
+    let low : 2 * c.in_ok-track-4.track.list.peak ≤ (3 * all + 7) * n =
+    c.in_ok-track-4.ensures.peak all spokes ((3 * all + 7) * n) begun
+    (omega (arith, room_left all n, c.darts-behind.ensures.count)) in
+    omega (arith, low, ap (λ (l : PeakedMoves). l.peak) c.into_moves-2.ensures)
+  where
+    room_left : (k n : ℕ) → 3 * ((k + 1) * n) + 4 * n ≡ (3 * k + 7) * n
+    room_left k n = omega arith
