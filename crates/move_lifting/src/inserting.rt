@@ -1,14 +1,14 @@
 //! Turns put into walks: there, round, back, and on.
-ghost use Rattle.std.specs.Prelude.{◌≡◌, ◌+◌, ◌*◌, ◌-◌, ◌<◌, ◌≤◌, ◌^◌, ◌∷◌, [], ◌++◌, ℕ, List, length, take, drop, slice_index, IfOk, OnOk, All};
+ghost use Rattle.std.specs.Prelude.{◌≡◌, ◌≢◌, ◌+◌, ◌*◌, ◌-◌, ◌<◌, ◌≤◌, ◌^◌, ◌∷◌, [], ◌++◌, ℕ, List, length, max, take, drop, slice_index, IfOk, OnOk, All};
 ghost use Rattle.surf_model.specs.FaceLists.{FaceList};
 ghost use Rattle.surf_model.specs.FreeWalks.{AreFreelyEqual, HasNoSpur};
 ghost use Rattle.surf_model.specs.Replacements.{place_of};
 ghost use Rattle.surf_model.specs.Vertices.{numbers};
-ghost use Rattle.surf_model.specs.Walks.{IsWalk};
+ghost use Rattle.surf_model.specs.Walks.{IsWalk, darts};
 ghost use Rattle.polygon_cut.specs.SpokeLoops.{backward, put_behind};
-ghost use Rattle.move_lifting.specs.declared.inserting.TheConstants.{MOST_ENTRIES};
 ghost use Rattle.move_lifting.specs.Lifts.{LeadsAtPeak};
 ghost use Rattle.move_lifting.specs.Tracks.{GoesOn, last_of};
+ghost use Rattle.move_lifting.specs.TurnPeaks.{RisesWithTurn};
 
 use crate::lifted::Lifted;
 use crate::track::Track;
@@ -16,14 +16,10 @@ use common_ends::raise_moves;
 use std::alloc::{AllocError, Global};
 use surf_model::{Move, MoveList, VertexName, Walk};
 
-/// A walk that is made has fewer entries than this.
-const MOST_ENTRIES: u64 = 2_147_483_648;
-
 /// Puts a turn into the walk of a track, with `behind` entries behind it: along the approach from the walk's first vertex,
 /// round the turn, back along the approach, and on. The spurs are taken out of the whole.
 ///
-/// The moves build the approach and the way back from where it leaves the walk, and then turn as those of the turn do. A
-/// whole of 2^31 vertices is answered as want of memory.
+/// The moves build the approach and the way back from where it leaves the walk, and then turn as those of the turn do.
 pub(crate) fn put_turn(
     alloc: Global,
     track: Track,
@@ -37,6 +33,7 @@ pub(crate) fn put_turn(
     requires turn { slice_index turn.now.walk 0 ≡ last_of (numbers approach.now) }
     requires closed { last_of turn.now.walk ≡ last_of (numbers approach.now) }
     requires places { All (λ (mv : Move). place_of mv ≤ turn.now.moves.peak) turn.now.moves.moves }
+    requires room { 2 * length approach.now + length track.walk + length turn.now.walk + behind + turn.now.moves.peak < 2 ^ 31 }
     ensures leads { IfOk result (λ after. (mesh : FaceList) → IsWalk mesh (numbers approach.now)
         → LeadsAtPeak mesh (last_of (numbers approach.now) ∷ []) turn.now.moves turn.now.walk
         → GoesOn mesh behind track.walk track.list after.walk after.list) }
@@ -47,31 +44,19 @@ pub(crate) fn put_turn(
     ensures last { IfOk result (λ after. last_of after.walk ≡ last_of track.walk) }
     ensures some { IfOk result (λ after. 0 < length after.walk) }
     ensures few { IfOk result (λ after. length after.walk < 2 ^ 31) }
+    ensures peak { IfOk result (λ after. (most : ℕ) → turn.now.moves.peak ≤ most → darts turn.now.walk ≤ most
+        → HasNoSpur (numbers approach.now) → HasNoSpur track.walk
+        → RisesWithTurn (numbers approach.now) track.walk behind most track.list.peak after.list.peak) }
 {
     let (walk, mut moves) = track.into_parts()?;
     let common = common_start(approach, &walk);
     let whole = there_round_and_back(alloc, approach, &turn.walk, &walk, common)?;
-    find_room(whole.len(), walk.len(), behind, turn.moves.peak())?;
     let after = (walk.len() - common) as u32 + behind;
     insert_there_and_back(&mut moves, approach, common, after)?;
     let out = approach.len() as u32 - 1;
     let back = (approach.len() - common) as u32;
     raise_moves(&mut moves, &turn.moves, out, out + back + after)?;
     reduce_all(alloc, &whole, behind, moves)
-}
-
-/// Fails where these numbers of entries and of darts are too many together.
-fn find_room(whole: usize, walk: usize, behind: u32, peak: u32) -> Result<(), AllocError>
-    requires whole { whole < 2 ^ 62 }
-    requires walk { walk < 2 ^ 62 }
-    ensures { OnOk result (whole + walk + behind + peak < MOST_ENTRIES) }
-{
-    let entries = whole as u64 + walk as u64 + u64::from(behind) + u64::from(peak);
-    if entries < MOST_ENTRIES {
-        Ok(())
-    } else {
-        Err(AllocError)
-    }
 }
 
 /// The walk along an approach, round a turn, back to the end of the first `common` vertices that the approach has in common with
@@ -110,6 +95,8 @@ fn common_start(first: &[VertexName], second: &[VertexName]) -> usize
     ensures in_first { result ≤ length first.now }
     ensures in_second { result ≤ length second.now }
     ensures same { take result (numbers first.now) ≡ take result (numbers second.now) }
+    ensures apart { result < length first.now → result < length second.now
+        → slice_index (numbers first.now) result ≢ slice_index (numbers second.now) result }
 {
     let most = first.len().min(second.len());
     for place in 1..most {
@@ -165,10 +152,12 @@ fn insert_there_and_back(
     requires some { 0 < common }
     requires within { common ≤ length approach.now }
     requires room { 2 * length approach.now + after < 2 ^ 32 }
-    ensures { OnOk result ((mesh : FaceList) (first rest : List ℕ) → IsWalk mesh (numbers approach.now) → length rest ≡ after
+    ensures leads { OnOk result ((mesh : FaceList) (first rest : List ℕ) → IsWalk mesh (numbers approach.now) → length rest ≡ after
         → LeadsAtPeak mesh first moves.old (take common (numbers approach.now) ++ rest)
         → LeadsAtPeak mesh first moves.new (numbers approach.now
         ++ (backward (last_of (take common (numbers approach.now))) (drop common (numbers approach.now)) ++ rest))) }
+    ensures peak { OnOk result (moves.new.peak
+        ≤ max moves.old.peak (length approach.now - 1 + (length approach.now - common) + after)) }
 {
     let mut behind = after;
     for place in common..approach.len() {
@@ -195,6 +184,7 @@ pub(crate) fn reduce_all(
     ensures last { IfOk result (λ track. last_of track.walk ≡ last_of (numbers walk.now)) }
     ensures some { IfOk result (λ track. 0 < length track.walk) }
     ensures few { IfOk result (λ track. length track.walk ≤ length walk.now) }
+    ensures peak { IfOk result (λ track. track.list.peak ≤ max moves.peak (darts (numbers walk.now) + behind)) }
 {
     let mut track = Track::start(alloc, walk[0], moves);
     for place in 1..walk.len() {

@@ -57,6 +57,7 @@ impl Track {
         ensures some { OnOk result (0 < length self.new.walk) }
         ensures last { OnOk result (last_of self.new.walk ≡ next.0) }
         ensures shape { OnOk result (GrowsOrShrinks self.old.walk self.new.walk next.0) }
+        ensures peak { OnOk result (self.new.list.peak ≤ max self.old.list.peak (length self.old.walk + behind)) }
     {
         if self.came_from(next) {
             self.step_back(behind)
