@@ -9,7 +9,7 @@ use Rattle.std.proofs.lemmas.List.{length-replicate, get_or-set_same, get_or-set
 use Rattle.surf_model.specs.FaceLists.{is_used}
 use Rattle.surf_model.specs.Surfaces.{IsPath, AreJoined}
 use Rattle.connectivity.specs.Classes.{joined_at}
-use Rattle.connectivity.proofs.Joining.{joined_at_same, joined_refl, joined_step, joined_trans}
+use Rattle.connectivity.proofs.Joining.{joined_at_same, joined_at_ends, joined_refl, joined_step, joined_trans}
 use Rattle.halfedge_map.specs.Numbers.{count_below}
 use Rattle.halfedge_map.specs.OrientedMeshes.{OrientedMesh, IsOrientedSurface}
 use Rattle.halfedge_map.specs.RotationSystems.{Rotations, rotations_of, IsRotationSystem, IsDartStep, IsDartFrom}
@@ -23,21 +23,21 @@ use Rattle.tree_cotree.specs.Searches.{node_of, same_kind, has_kind}
 use Rattle.tree_cotree.specs.Splits.{SplitView, HasTrees, in_tree, in_cotree, is_left}
 use Rattle.tree_cotree.specs.Colourings.{ColouringView}
 use Rattle.tree_cotree.specs.ColouredTrees.{HasColouredTrees, without_ways}
-use Rattle.tree_cotree.specs.Joinings.{bound_of, is_node_of, AreEnds, HangTogether, AreSpanned}
+use Rattle.tree_cotree.specs.Joinings.{bound_of, is_node_of, AreEnds, HangTogether, AreSpanned, IsTried}
 use Rattle.tree_cotree.proofs.SetLemmas.{with_one, with_itself, with_other}
 use Rattle.tree_cotree.proofs.GrowthLemmas.{HasNodes}
 use Rattle.tree_cotree.proofs.SplitLemmas.{tree_ring, closed_holds_all}
 use Rattle.tree_cotree.proofs.LawLemmas.{vertex_nodes, face_nodes, some_dart, even}
 use Rattle.tree_cotree.proofs.TreeLemmas.{same_itself}
 use Rattle.tree_cotree.proofs.SplittingLemmas.{all_left, other_kind, tree_kind, cotree_kind, left_kind}
-use Rattle.tree_cotree.proofs.JoiningLemmas.{IsJoining, joining_none, joining_skip, joining_same, joining_apart, joined_spans}
+use Rattle.tree_cotree.proofs.JoiningLemmas.{IsJoining, joining_none, joining_skip, joining_same, joining_set, joining_apart, ends_within, joined_spans}
 
 pub has_nodes : (s : OrientedMesh) → IsOrientedSurface s → (nodes : Nodes)
     → HasNodes (rotations_of s) (node_of nodes (rotations_of s)) (is_node_of nodes s) (bound_of nodes s) (length s.table)
 has_nodes s o Vertices = vertex_nodes s (names_all s o)
 has_nodes s o Faces = face_nodes s (names_all s o)
 
--- the kinds when the edges below n are tried
+-- the kinds when the edges below n are tried, and maybe some others
 pub record IsSpanning (s : OrientedMesh) (nodes : Nodes) (kind : Kind) (old : List Kind) (n : ℕ) (least : List ℕ) (kinds : List Kind)
     : Type 0 where
   pub long : length kinds ≡ length old
@@ -58,58 +58,28 @@ spanning_none s nodes kind old least is free = record {
       (has_kind old Left) (has_kind old kind) free);
 }
 
--- an edge that is not tried yet has its old kind
-untried : (s : OrientedMesh) (nodes : Nodes) (kind : Kind) (old : List Kind) (n : ℕ) (least : List ℕ) (kinds : List Kind)
-    → IsSpanning s nodes kind old n least kinds → n < length s.table → get_or kinds n Tree ≡ get_or old n Tree
-untried s nodes kind old n least kinds h l = elim (cases_Bool (has_kind kinds kind n)) [
-  | inl is ↦ absurd (omega (arith, h.joining.tried n l is))
-  | inr out ↦ h.others n out
-]
+-- an edge that is left was left before
+was_left : (s : OrientedMesh) (nodes : Nodes) (kind : Kind) (old : List Kind) (n e : ℕ) (least : List ℕ) (kinds : List Kind)
+    → same_kind Left kind ≡ false → has_kind kinds Left e ≡ true → IsSpanning s nodes kind old n least kinds → has_kind old Left e ≡ true
+was_left s nodes kind old n e least kinds other left h =
+    ap (λ k. same_kind k Left) (sym (h.others e (other_kind kinds Left kind e other left))) ∙ left
 
-pub spanning_skip : (s : OrientedMesh) (nodes : Nodes) (kind : Kind) (old : List Kind) (n : ℕ) (least : List ℕ) (kinds : List Kind)
-    → n < length s.table → same_kind (get_or kinds n Tree) Left ≡ false → IsSpanning s nodes kind old n least kinds
-    → IsSpanning s nodes kind old (n + 1) least kinds
-spanning_skip s nodes kind old n least kinds l out h = record {
-  long = h.long;
-  others = h.others;
-  joining = joining_skip (rotations_of s) (node_of nodes (rotations_of s)) (is_node_of nodes s) (bound_of nodes s) (length s.table)
-      (has_kind old Left) n least (has_kind kinds kind)
-      (ap (λ k. same_kind k Left) (sym (untried s nodes kind old n least kinds h l)) ∙ out) h.joining;
-}
-
-pub spanning_same : (s : OrientedMesh) (nodes : Nodes) (kind : Kind) (old : List Kind) (n : ℕ) (least more : List ℕ) (kinds : List Kind)
-    (x y : ℕ)
-    → IsOrientedSurface s → AreEnds (rotations_of s) (node_of nodes (rotations_of s)) n x y → get_or least x 0 ≡ get_or least y 0
-    → more ≡ joined_at least x y → IsSpanning s nodes kind old n least kinds
-    → IsSpanning s nodes kind old (n + 1) more kinds
-spanning_same s nodes kind old n least more kinds x y o a same is h = record {
-  long = h.long;
-  others = h.others;
-  joining = subst (λ l. IsJoining (rotations_of s) (node_of nodes (rotations_of s)) (is_node_of nodes s) (bound_of nodes s)
-      (length s.table) (has_kind old Left) (n + 1) l (has_kind kinds kind)) (sym (is ∙ joined_at_same least x y same))
-      (joining_same (rotations_of s) (node_of nodes (rotations_of s)) (is_node_of nodes s) (bound_of nodes s) (length s.table)
-      (has_kind old Left) n least (has_kind kinds kind) x y (rotation_system s o) a same h.joining);
-}
-
-pub spanning_apart : (s : OrientedMesh) (nodes : Nodes) (kind : Kind) (old : List Kind) (n : ℕ) (least more : List ℕ)
-    (kinds new : List Kind) (x y : ℕ)
-    → IsOrientedSurface s → n < length s.table → n < length kinds → same_kind (get_or kinds n Tree) Left ≡ true
-    → AreEnds (rotations_of s) (node_of nodes (rotations_of s)) n x y → get_or least x 0 ≢ get_or least y 0
-    → more ≡ joined_at least x y → new ≡ set kinds n kind → IsSpanning s nodes kind old n least kinds
-    → IsSpanning s nodes kind old (n + 1) more new
-spanning_apart s nodes kind old n least more kinds new x y o l b left a apart is sets h = record {
-  long = ap (λ (ks : List Kind). length ks) sets ∙ length-set kinds n kind ∙ h.long;
-  others = λ e out. elim (cases_eq e n) [
-    | inl here ↦ absurd (both_ways (has_kind new kind e) out (ap (has_kind new kind) here ∙ at_n))
+-- an edge whose nodes are apart joins them
+spanning_more : (s : OrientedMesh) (nodes : Nodes) (kind : Kind) (old : List Kind) (n m : ℕ) (least : List ℕ) (kinds : List Kind) (x y : ℕ)
+    → IsOrientedSurface s → m < length s.table → m < length kinds → same_kind Left kind ≡ false → has_kind kinds Left m ≡ true
+    → AreEnds (rotations_of s) (node_of nodes (rotations_of s)) m x y → get_or least x 0 ≢ get_or least y 0
+    → IsSpanning s nodes kind old n least kinds → IsSpanning s nodes kind old n (joined_at least x y) (set kinds m kind)
+spanning_more s nodes kind old n m least kinds x y o l b other left a apart h = record {
+  long = length-set kinds m kind ∙ h.long;
+  others = λ e out. elim (cases_eq e m) [
+    | inl here ↦ absurd (both_ways (has_kind new kind e) out (ap (has_kind new kind) here ∙ at_m))
     | inr ne ↦ elsewhere e ne ∙ h.others e (ap (λ k. same_kind k kind) (sym (elsewhere e ne)) ∙ out)
   ];
-  joining = subst (λ r. IsJoining maps node (is_node_of nodes s) (bound_of nodes s) (length s.table) (has_kind old Left) (n + 1) r
-      (has_kind new kind)) (sym is)
-      (subst (IsJoining maps node (is_node_of nodes s) (bound_of nodes s) (length s.table) (has_kind old Left) (n + 1)
-      (joined_at least x y)) (sym with_n)
-      (joining_apart maps node (is_node_of nodes s) (bound_of nodes s) (length s.table) (has_kind old Left) n least (has_kind kinds kind)
-      x y (rotation_system s o) (has_nodes s o nodes) l
-      (ap (λ k. same_kind k Left) (sym (untried s nodes kind old n least kinds h l)) ∙ left) a apart h.joining));
+  joining = subst (IsJoining maps node (is_node_of nodes s) (bound_of nodes s) (length s.table) (has_kind old Left) n (joined_at least x y))
+      (sym with_m)
+      (joining_apart maps node (is_node_of nodes s) (bound_of nodes s) (length s.table) (has_kind old Left) n m least (has_kind kinds kind)
+      x y (rotation_system s o) (has_nodes s o nodes) l (was_left s nodes kind old n m least kinds other left h)
+      (other_kind kinds Left kind m other left) a apart h.joining);
 }
   where
     maps : Rotations
@@ -118,23 +88,99 @@ spanning_apart s nodes kind old n least more kinds new x y o l b left a apart is
     node : ℕ → ℕ
     node = node_of nodes (rotations_of s)
 
-    at_n : has_kind new kind n ≡ true
-    at_n = ap (λ (ks : List Kind). has_kind ks kind n) sets ∙ ap (λ k. same_kind k kind) (get_or-set_same kinds n kind Tree b)
-        ∙ same_itself kind
+    new : List Kind
+    new = set kinds m kind
 
-    elsewhere : (e : ℕ) → e ≢ n → get_or new e Tree ≡ get_or kinds e Tree
-    elsewhere e ne = ap (λ (ks : List Kind). get_or ks e Tree) sets ∙ get_or-set_other kinds n e kind Tree ne
+    at_m : has_kind (set kinds m kind) kind m ≡ true
+    at_m = ap (λ k. same_kind k kind) (get_or-set_same kinds m kind Tree b) ∙ same_itself kind
 
-    with_n_at : (e : ℕ) → has_kind new kind e ≡ with_one (has_kind kinds kind) n e
-    with_n_at e = elim (cases_eq e n) [
+    elsewhere : (e : ℕ) → e ≢ m → get_or (set kinds m kind) e Tree ≡ get_or kinds e Tree
+    elsewhere e ne = get_or-set_other kinds m e kind Tree ne
+
+    with_m_at : (e : ℕ) → has_kind (set kinds m kind) kind e ≡ with_one (has_kind kinds kind) m e
+    with_m_at e = elim (cases_eq e m) [
       | inl here ↦
-          ap (has_kind new kind) here ∙ at_n
-          ∙ sym (ap (with_one (has_kind kinds kind) n) here ∙ with_itself (has_kind kinds kind) n)
-      | inr ne ↦ ap (λ k. same_kind k kind) (elsewhere e ne) ∙ sym (with_other (has_kind kinds kind) n e ne)
+          ap (has_kind new kind) here ∙ at_m
+          ∙ sym (ap (with_one (has_kind kinds kind) m) here ∙ with_itself (has_kind kinds kind) m)
+      | inr ne ↦ ap (λ k. same_kind k kind) (elsewhere e ne) ∙ sym (with_other (has_kind kinds kind) m e ne)
     ]
 
-    with_n : has_kind new kind ≡ with_one (has_kind kinds kind) n
-    with_n = λ i e. with_n_at e i
+    with_m : has_kind (set kinds m kind) kind ≡ with_one (has_kind kinds kind) m
+    with_m = λ i e. with_m_at e i
+
+-- an edge is tried, whether its turn has come or not
+pub spanning_early : (s : OrientedMesh) (nodes : Nodes) (kind : Kind) (old : List Kind) (n m : ℕ) (least more : List ℕ)
+    (kinds new : List Kind)
+    → IsOrientedSurface s → m < length s.table → m < length kinds → same_kind Left kind ≡ false
+    → IsTried s nodes kind m least more kinds new → IsSpanning s nodes kind old n least kinds
+    → IsSpanning s nodes kind old n more new
+spanning_early s nodes kind old n m least more kinds new o l b other tried h =
+    elim (cases_Bool (has_kind kinds Left m)) [
+      | inr out ↦ both least kinds (tried.other out).0 (tried.other out).1 h
+      | inl left ↦
+          (let t = tried.left left in
+          elim (cases_eq (get_or least t.x 0) (get_or least t.y 0)) [
+            | inl same ↦ both least kinds (t.joined ∙ joined_at_same least t.x t.y same) (t.same same) h
+            | inr apart ↦ both (joined_at least t.x t.y) (set kinds m kind) t.joined (t.apart apart)
+                (spanning_more s nodes kind old n m least kinds t.x t.y o l b other left t.ends apart h)
+          ])
+    ]
+  where
+    both : (classes : List ℕ) (ks : List Kind) → more ≡ classes → new ≡ ks → IsSpanning s nodes kind old n classes ks
+        → IsSpanning s nodes kind old n more new
+    both classes ks is sets h =
+        subst (λ r. IsSpanning s nodes kind old n r new) (sym is) (subst (IsSpanning s nodes kind old n classes) (sym sets) h)
+
+-- the turn of an edge passes: its nodes are in one class, or it is in the set, or it was not left
+spanning_joined : (s : OrientedMesh) (nodes : Nodes) (kind : Kind) (old : List Kind) (n : ℕ) (least : List ℕ) (kinds : List Kind) (x y : ℕ)
+    → IsOrientedSurface s → AreEnds (rotations_of s) (node_of nodes (rotations_of s)) n x y → get_or least x 0 ≡ get_or least y 0
+    → IsSpanning s nodes kind old n least kinds → IsSpanning s nodes kind old (n + 1) least kinds
+spanning_joined s nodes kind old n least kinds x y o a same h = record {
+  long = h.long;
+  others = h.others;
+  joining = joining_same (rotations_of s) (node_of nodes (rotations_of s)) (is_node_of nodes s) (bound_of nodes s) (length s.table)
+      (has_kind old Left) n least (has_kind kinds kind) x y (rotation_system s o) a same h.joining;
+}
+
+spanning_passed : (s : OrientedMesh) (nodes : Nodes) (kind : Kind) (old : List Kind) (n : ℕ) (least : List ℕ) (kinds : List Kind)
+    → n < length s.table → has_kind kinds Left n ≡ false → IsSpanning s nodes kind old n least kinds
+    → IsSpanning s nodes kind old (n + 1) least kinds
+spanning_passed s nodes kind old n least kinds l out h = record {
+  long = h.long;
+  others = h.others;
+  joining = elim (cases_Bool (has_kind kinds kind n)) [
+    | inl kept ↦
+        joining_set (rotations_of s) (node_of nodes (rotations_of s)) (is_node_of nodes s) (bound_of nodes s) (length s.table)
+        (has_kind old Left) n least (has_kind kinds kind) l kept h.joining
+    | inr free ↦
+        joining_skip (rotations_of s) (node_of nodes (rotations_of s)) (is_node_of nodes s) (bound_of nodes s) (length s.table)
+        (has_kind old Left) n least (has_kind kinds kind) (ap (λ k. same_kind k Left) (sym (h.others n free)) ∙ out) h.joining
+  ];
+}
+
+-- an edge is tried in its turn
+pub spanning_next : (s : OrientedMesh) (nodes : Nodes) (kind : Kind) (old : List Kind) (n : ℕ) (least more : List ℕ)
+    (kinds new : List Kind)
+    → IsOrientedSurface s → n < length s.table → n < length kinds → same_kind Left kind ≡ false
+    → IsTried s nodes kind n least more kinds new → IsSpanning s nodes kind old n least kinds
+    → IsSpanning s nodes kind old (n + 1) more new
+spanning_next s nodes kind old n least more kinds new o l b other tried h =
+    elim (cases_Bool (has_kind kinds Left n)) [
+      | inr out ↦
+          spanning_passed s nodes kind old n more new l (ap (λ (ks : List Kind). has_kind ks Left n) (tried.other out).1 ∙ out) after
+      | inl left ↦
+          (let t = tried.left left in
+          let at = ends_within (rotations_of s) (node_of nodes (rotations_of s)) (is_node_of nodes s) (bound_of nodes s) (length s.table)
+          n t.x t.y (rotation_system s o) (has_nodes s o nodes) t.ends in
+          let one : get_or more t.x 0 ≡ get_or more t.y 0 =
+          ap (λ (r : List ℕ). get_or r t.x 0) t.joined
+          ∙ joined_at_ends least t.x t.y (omega (arith, at.0.0, h.joining.long)) (omega (arith, at.1.0, h.joining.long))
+          ∙ sym (ap (λ (r : List ℕ). get_or r t.y 0) t.joined) in
+          spanning_joined s nodes kind old n more new t.x t.y o t.ends one after)
+    ]
+  where
+    after : IsSpanning s nodes kind old n more new
+    after = spanning_early s nodes kind old n n least more kinds new o l b other tried h
 
 pub spanning_all : (s : OrientedMesh) (nodes : Nodes) (kind : Kind) (old : List Kind) (n : ℕ) (least : List ℕ) (kinds : List Kind)
     → IsOrientedSurface s → HangTogether (rotations_of s) (node_of nodes (rotations_of s)) (has_kind old Left) → length s.table ≤ n

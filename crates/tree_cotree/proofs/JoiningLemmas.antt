@@ -22,7 +22,7 @@ use Rattle.tree_cotree.proofs.GenusLemmas.{widen, count_none}
 abbrev pub is_root : (ℕ → Bool) → List ℕ → ℕ → Bool
 is_root is_node least v = is_node v && eqb (get_or least v 0) v
 
--- how far the edges are tried: those below n
+-- how far the edges are tried: those below n, and maybe some others
 pub record IsJoining (maps : Rotations) (node : ℕ → ℕ) (is_node : ℕ → Bool) (bound edges : ℕ) (allowed : ℕ → Bool) (n : ℕ)
     (least : List ℕ) (set : ℕ → Bool) : Type 0 where
   pub long : length least ≡ bound
@@ -30,7 +30,8 @@ pub record IsJoining (maps : Rotations) (node : ℕ → ℕ) (is_node : ℕ → 
   pub nodes : (v : ℕ) → v < bound → is_node v ≡ true → is_node (get_or least v 0) ≡ true
   pub sound : JoinsOnlyBySteps (λ v. v < bound) (λ v. v) (StepsIn maps node set) least
   pub within : (e : ℕ) → e < edges → set e ≡ true → allowed e ≡ true
-  pub tried : (e : ℕ) → e < edges → set e ≡ true → e < n
+  pub joined : (d : ℕ) → d < maps.darts → maps.edge d < edges → set (maps.edge d) ≡ true
+      → get_or least (node d) 0 ≡ get_or least (node (maps.twin d)) 0
   pub ends : (d : ℕ) → d < maps.darts → maps.edge d < n → allowed (maps.edge d) ≡ true
       → get_or least (node d) 0 ≡ get_or least (node (maps.twin d)) 0
   pub count : count_below set edges + count_below (is_root is_node least) bound ≡ count_below is_node bound
@@ -58,7 +59,7 @@ joining_none maps node is_node bound edges allowed set none = record {
   nodes = λ v l is. ap is_node (read v l) ∙ is;
   sound = joins_only-alone (λ v. v < bound) (λ v. v) (StepsIn maps node set) bound (λ v l. l) (λ v w l k same. same);
   within = λ e l is. absurd (both_ways (set e) (none e l) is);
-  tried = λ e l is. absurd (both_ways (set e) (none e l) is);
+  joined = λ d l k is. absurd (both_ways (set (maps.edge d)) (none (maps.edge d) k) is);
   ends = λ d l k. absurd (omega (arith, k));
   count =
       let empty : count_below set edges ≡ 0 = count_same set (λ _. false) edges none ∙ count_none edges in
@@ -83,7 +84,7 @@ joining_skip maps node is_node bound edges allowed n least set out h = record {
   nodes = h.nodes;
   sound = h.sound;
   within = h.within;
-  tried = λ e l is. omega (arith, h.tried e l is);
+  joined = h.joined;
   ends = λ d l k is. elim (cases_eq (maps.edge d) n) [
     | inl here ↦ absurd (both_ways (allowed n) out (ap allowed (sym here) ∙ is))
     | inr ne ↦ h.ends d l (omega (arith, k, ne)) is
@@ -122,9 +123,28 @@ joining_same maps node is_node bound edges allowed n least set x y r a same h = 
   nodes = h.nodes;
   sound = h.sound;
   within = h.within;
-  tried = λ e l is. omega (arith, h.tried e l is);
+  joined = h.joined;
   ends = λ d l k is. elim (cases_eq (maps.edge d) n) [
     | inl here ↦ same_ends maps node n x y least r a same d l here
+    | inr ne ↦ h.ends d l (omega (arith, k, ne)) is
+  ];
+  count = h.count;
+}
+
+-- one that is in the set already is passed
+pub joining_set : (maps : Rotations) (node : ℕ → ℕ) (is_node : ℕ → Bool) (bound edges : ℕ) (allowed : ℕ → Bool) (n : ℕ) (least : List ℕ)
+    (set : ℕ → Bool)
+    → n < edges → set n ≡ true → IsJoining maps node is_node bound edges allowed n least set
+    → IsJoining maps node is_node bound edges allowed (n + 1) least set
+joining_set maps node is_node bound edges allowed n least set n_in kept h = record {
+  long = h.long;
+  members = h.members;
+  nodes = h.nodes;
+  sound = h.sound;
+  within = h.within;
+  joined = h.joined;
+  ends = λ d l k is. elim (cases_eq (maps.edge d) n) [
+    | inl here ↦ h.joined d l (omega (arith, here, n_in)) (ap set here ∙ kept)
     | inr ne ↦ h.ends d l (omega (arith, k, ne)) is
   ];
   count = h.count;
@@ -145,32 +165,33 @@ ends_within maps node is_node bound edges n x y r h a =
       ),
     )
 
--- one whose nodes are apart joins them
-pub joining_apart : (maps : Rotations) (node : ℕ → ℕ) (is_node : ℕ → Bool) (bound edges : ℕ) (allowed : ℕ → Bool) (n : ℕ) (least : List ℕ)
-    (set : ℕ → Bool) (x y : ℕ)
-    → IsRotationSystem maps → HasNodes maps node is_node bound edges → n < edges → allowed n ≡ true → AreEnds maps node n x y
-    → get_or least x 0 ≢ get_or least y 0
+-- one whose nodes are apart joins them, whether its turn has come or not
+pub joining_apart : (maps : Rotations) (node : ℕ → ℕ) (is_node : ℕ → Bool) (bound edges : ℕ) (allowed : ℕ → Bool) (n m : ℕ)
+    (least : List ℕ) (set : ℕ → Bool) (x y : ℕ)
+    → IsRotationSystem maps → HasNodes maps node is_node bound edges → m < edges → allowed m ≡ true → set m ≡ false
+    → AreEnds maps node m x y → get_or least x 0 ≢ get_or least y 0
     → IsJoining maps node is_node bound edges allowed n least set
-    → IsJoining maps node is_node bound edges allowed (n + 1) (joined_at least x y) (with_one set n)
-joining_apart maps node is_node bound edges allowed n least set x y r hn n_in passes a apart h = record {
+    → IsJoining maps node is_node bound edges allowed n (joined_at least x y) (with_one set m)
+joining_apart maps node is_node bound edges allowed n m least set x y r hn m_in passes fresh a apart h = record {
   long = length-joined_at least x y ∙ h.long;
   members = least_joined_at least x y h.members x_in y_in;
   nodes = λ v l is. elim (cases_eq (get_or least v 0) high) [
     | inl e ↦ ap is_node (joined_at_high least x y v (omega (arith, l, h.long)) e) ∙ both_nodes.1
     | inr ne ↦ ap is_node (joined_at_other least x y v (omega (arith, l, h.long)) ne) ∙ h.nodes v l is
   ];
-  sound = joins_only-joined_at (λ v. v < bound) (λ v. v) (StepsIn maps node (with_one set n)) least x y
-      (λ u v l k same. widen maps node set (with_one set n) (λ e is. with_keeps set n e is) u v (h.sound u v l k same))
+  sound = joins_only-joined_at (λ v. v < bound) (λ v. v) (StepsIn maps node (with_one set m)) least x y
+      (λ u v l k same. widen maps node set (with_one set m) (λ e is. with_keeps set m e is) u v (h.sound u v l k same))
       (λ v l. omega (arith, l, h.long)) at.0.0 at.1.0 step back;
-  within = λ e l is. elim (with_cases set n e is) [ inl same ↦ ap allowed same ∙ passes | inr old ↦ h.within e l old ];
-  tried = λ e l is. elim (with_cases set n e is) [ inl same ↦ omega (arith, same) | inr old ↦ omega (arith, h.tried e l old) ];
-  ends = λ d l k is. elim (cases_eq (maps.edge d) n) [
-    | inl here ↦ same_ends maps node n x y (joined_at least x y) r a (joined_at_ends least x y x_in y_in) d l here
-    | inr ne ↦ joined_at_keeps least x y (node d) (node (maps.twin d)) (omega (arith, hn.node_within d l, h.long))
-        (omega (arith, hn.node_within (maps.twin d) (r.twin_within d l), h.long)) (h.ends d l (omega (arith, k, ne)) is)
+  within = λ e l is. elim (with_cases set m e is) [ inl same ↦ ap allowed same ∙ passes | inr old ↦ h.within e l old ];
+  joined = λ d l k is. elim (with_cases set m (maps.edge d) is) [
+    | inl here ↦ same_ends maps node m x y (joined_at least x y) r a (joined_at_ends least x y x_in y_in) d l here
+    | inr old ↦ joined_at_keeps least x y (node d) (node (maps.twin d)) (in_list d l) (in_list (maps.twin d) (r.twin_within d l))
+        (h.joined d l k old)
   ];
+  ends = λ d l k is. joined_at_keeps least x y (node d) (node (maps.twin d)) (in_list d l) (in_list (maps.twin d) (r.twin_within d l))
+      (h.ends d l k is);
   count =
-      let one : count_below (with_one set n) edges ≡ suc (count_below set edges) = count_with set edges n n_in fresh in
+      let one : count_below (with_one set m) edges ≡ suc (count_below set edges) = count_with set edges m m_in fresh in
       let less : count_below (is_root is_node least) bound ≡ suc (count_below (is_root is_node (joined_at least x y)) bound) =
       count_less (is_root is_node least) (is_root is_node (joined_at least x y)) bound high high_in
       (and_from (is_node high) (eqb (get_or least high 0) high) both_nodes.0 (eq-eqb (get_or least high 0) high own.0.1)) gone others in
@@ -178,7 +199,10 @@ joining_apart maps node is_node bound edges allowed n least set x y r hn n_in pa
 }
   where
     at : ((x < bound) × (is_node x ≡ true)) × ((y < bound) × (is_node y ≡ true))
-    at = ends_within maps node is_node bound edges n x y r hn a
+    at = ends_within maps node is_node bound edges m x y r hn a
+
+    in_list : (d : ℕ) → d < maps.darts → node d < length least
+    in_list d l = omega (arith, hn.node_within d l, h.long)
 
     x_in : x < length least
     x_in = omega (arith, at.0.0, h.long)
@@ -200,26 +224,23 @@ joining_apart maps node is_node bound edges allowed n least set x y r hn n_in pa
     high_in : high < bound
     high_in = omega (arith, own.0.0, h.long)
 
-    fresh : set n ≡ false
-    fresh = elim (cases_Bool (set n)) [ inl is ↦ absurd (omega (arith, h.tried n n_in is)) | inr is ↦ is ]
-
-    step : StepsIn maps node (with_one set n) x y
+    step : StepsIn maps node (with_one set m) x y
     step = (
       a.dart,
       record {
         within = a.within;
-        in_set = ap (with_one set n) a.on_edge ∙ with_itself set n;
+        in_set = ap (with_one set m) a.on_edge ∙ with_itself set m;
         starts = a.starts;
         ends = a.ends;
       },
     )
 
-    back : StepsIn maps node (with_one set n) y x
+    back : StepsIn maps node (with_one set m) y x
     back = (
       maps.twin a.dart,
       record {
         within = r.twin_within a.dart a.within;
-        in_set = ap (with_one set n) (sym (twin_edge maps r a.dart a.within) ∙ a.on_edge) ∙ with_itself set n;
+        in_set = ap (with_one set m) (sym (twin_edge maps r a.dart a.within) ∙ a.on_edge) ∙ with_itself set m;
         starts = a.ends;
         ends = ap node (r.twin_back a.dart a.within) ∙ a.starts;
       },

@@ -1,7 +1,9 @@
 -- Edges that join the nodes of a surface, its vertices or its faces, and those of them that are given a kind until they span the nodes.
-use Rattle.std.specs.Prelude.{◌≡◌, ℕ, ◌<◌, true, false, Bool, List, length, slice_index_or}
+use Rattle.std.specs.Prelude.{◌≡◌, ◌≢◌, ℕ, ◌<◌, true, false, Bool, List, length, slice_index, slice_index_or}
+use Rattle.std.proofs.Math.ListN.{set}
 use Rattle.surf_model.specs.FaceLists.{is_used}
 use Rattle.surf_model.specs.Surfaces.{AreJoined}
+use Rattle.connectivity.specs.Classes.{joined_at}
 use Rattle.halfedge_map.specs.OrientedMeshes.{OrientedMesh}
 use Rattle.halfedge_map.specs.RotationSystems.{Rotations, rotations_of}
 use Rattle.tree_cotree.specs.SpanningTrees.{StepsIn, IsSpanningTree}
@@ -31,6 +33,22 @@ pub record AreEnds (maps : Rotations) (node : ℕ → ℕ) (edge x y : ℕ) : Ty
 -- any two nodes are joined across edges of a set
 abbrev pub HangTogether : Rotations → (ℕ → ℕ) → (ℕ → Bool) → Type 0
 HangTogether maps node inside = (d e : ℕ) → d < maps.darts → e < maps.darts → AreJoined (StepsIn maps node inside) (node d) (node e)
+
+-- The classes of the two nodes of an edge become one. If they were two, the edge is given a kind; else all kinds stay.
+pub record AreJoinedAcross (surface : OrientedMesh) (nodes : Nodes) (kind : Kind) (edge : ℕ) (least more : List ℕ) (old new : List Kind)
+    : Type 0 where
+  pub x : ℕ
+  pub y : ℕ
+  pub ends : AreEnds (rotations_of surface) (node_of nodes (rotations_of surface)) edge x y
+  pub joined : more ≡ joined_at least x y
+  pub apart : slice_index least x ≢ slice_index least y → new ≡ set old edge kind
+  pub same : slice_index least x ≡ slice_index least y → new ≡ old
+
+-- a leftover edge is tried so; at another edge all stays as it is
+pub record IsTried (surface : OrientedMesh) (nodes : Nodes) (kind : Kind) (edge : ℕ) (least more : List ℕ) (old new : List Kind)
+    : Type 0 where
+  pub left : has_kind old Left edge ≡ true → AreJoinedAcross surface nodes kind edge least more old new
+  pub other : has_kind old Left edge ≡ false → (more ≡ least) × (new ≡ old)
 
 -- some leftover edges are given a kind, and the edges of this kind span the nodes
 pub record AreSpanned (surface : OrientedMesh) (nodes : Nodes) (kind : Kind) (old new : List Kind) : Type 0 where

@@ -1,11 +1,11 @@
 //! Colourings of a surface's edges: tree, cotree and leftover edges without the ways to a root.
-ghost use Rattle.std.specs.Prelude.{◌≡◌, ◌<◌, ℕ, false, length, IfOk};
+ghost use Rattle.std.specs.Prelude.{◌≡◌, ◌<◌, ◌≤◌, ℕ, false, length, IfOk};
 ghost use Rattle.std.specs.List.{range_with_len};
 ghost use Rattle.halfedge_map.specs.OrientedMeshes.{IsOrientedSurface};
 ghost use Rattle.halfedge_map.specs.RotationSystems.{rotations_of};
 ghost use Rattle.tree_cotree.specs.Colourings.{IsColouring};
-ghost use Rattle.tree_cotree.specs.Joinings.{bound_of, AreEnds, AreSpanned, HangTogether};
-ghost use Rattle.tree_cotree.specs.Searches.{has_kind, node_of};
+ghost use Rattle.tree_cotree.specs.Joinings.{bound_of, AreEnds, AreSpanned, HangTogether, IsTried};
+ghost use Rattle.tree_cotree.specs.Searches.{same_kind, has_kind, node_of};
 ghost use Rattle.tree_cotree.specs.declared.split.Kind.TheVariants.{Left};
 
 use crate::marking::{leftover_dart, leftover_edges};
@@ -81,20 +81,70 @@ pub fn colour_edges(alloc: Global, surface: &Surface) -> Result<Colouring, Alloc
 }
 
 /// Gives a kind to leftover edges that span the nodes: in turn to each whose two nodes those before it do not join.
+///
+/// Where the nodes are vertices, the first edge of each lower vertex is tried before all others. A tree that is made so leads
+/// along the rows of a mesh that is numbered row by row, and who goes round it stays in one part of memory.
 fn span(surface: &Surface, nodes: Nodes, mut classes: Classes, kinds: &mut Vec<Kind>, kind: Kind)
     requires valid { IsOrientedSurface surface.now }
     requires alone { classes ≡ range_with_len 0 (bound_of nodes surface.now) }
     requires kinds { length kinds.old.items ≡ length surface.now.table }
+    requires other { same_kind Left kind ≡ false }
     requires free { (edge : ℕ) → edge < length surface.now.table → has_kind kinds.old.items kind edge ≡ false }
     requires together { HangTogether (rotations_of surface.now) (node_of nodes (rotations_of surface.now)) (has_kind kinds.old.items Left) }
     ensures { AreSpanned surface.now nodes kind kinds.old.items kinds.new.items }
 {
-    for edge in 0..surface.sides().len() {
-        if is_same(kinds[edge as usize], Kind::Left) {
-            let (first, second) = ends(surface, nodes, EdgeName(edge));
-            if classes.join_apart(first, second) {
-                kinds[edge as usize] = kind;
-            }
+    let edges = surface.sides().len();
+    for early in 0..first_round(nodes, edges) {
+        if begins_vertex(surface, EdgeName(early)) {
+            try_edge(surface, nodes, &mut classes, kinds, kind, EdgeName(early));
+        }
+    }
+    for edge in 0..edges {
+        try_edge(surface, nodes, &mut classes, kinds, kind, EdgeName(edge));
+    }
+}
+
+/// How many edges are looked at in a first round, of so many.
+fn first_round(nodes: Nodes, edges: u32) -> u32
+    ensures { result ≤ edges }
+{
+    match nodes {
+        Nodes::Vertices => edges,
+        Nodes::Faces => 0,
+    }
+}
+
+/// Whether an edge is the first one of its lower vertex. Only the order in which edges are tried rests on it.
+fn begins_vertex(surface: &Surface, edge: EdgeName) -> bool
+    requires { edge.0 < length surface.now.table }
+{
+    if edge.0 == 0 {
+        return true;
+    }
+    let (before, _) = surface.sides().ends(EdgeName(edge.0 - 1));
+    let (low, _) = surface.sides().ends(edge);
+    low.0 != before.0
+}
+
+/// Tries an edge: if it is left over and its nodes are in two classes, these become one and the edge gets the kind.
+fn try_edge(
+    surface: &Surface,
+    nodes: Nodes,
+    classes: &mut Classes,
+    kinds: &mut Vec<Kind>,
+    kind: Kind,
+    edge: EdgeName,
+)
+    requires valid { IsOrientedSurface surface.now }
+    requires edge { edge.0 < length surface.now.table }
+    requires classes { length classes.old ≡ bound_of nodes surface.now }
+    requires kinds { length kinds.old.items ≡ length surface.now.table }
+    ensures { IsTried surface.now nodes kind edge.0 classes.old classes.new kinds.old.items kinds.new.items }
+{
+    if is_same(kinds[edge.0 as usize], Kind::Left) {
+        let (first, second) = ends(surface, nodes, edge);
+        if classes.join_apart(first, second) {
+            kinds[edge.0 as usize] = kind;
         }
     }
 }

@@ -1,0 +1,84 @@
+use Rattle.std.proofs.Common.{◌≡◌, ◌<◌, List, length, refl, ap, sym, ◌∙◌, arith}
+use Rattle.std.proofs.lemmas.Bool.{both_ways}
+use Rattle.std.proofs.lemmas.List.{get_or_default}
+use Rattle.halfedge_map.specs.OrientedMeshes.{OrientedMesh}
+use Rattle.halfedge_map.specs.RotationSystems.{Rotations, rotations_of}
+use Rattle.halfedge_map.proofs.SystemLemmas.{rotation_system}
+use Rattle.tree_cotree.specs.declared.split.Kind.{Kind}
+use Rattle.tree_cotree.specs.declared.split.Kind.TheVariants.{Tree, Left}
+use Rattle.tree_cotree.specs.Searches.{same_kind, has_kind, node_of}
+use Rattle.tree_cotree.specs.Joinings.{bound_of, is_node_of}
+use Rattle.tree_cotree.proofs.JoiningLemmas.{ends_within}
+use Rattle.tree_cotree.proofs.ColouringLemmas.{has_nodes}
+use Rattle.tree_cotree.proofs.colouring.try_edge.Goals as goal
+
+pub join_apart-requires-clause-first : goal.join_apart-requires-clause-first
+join_apart-requires-clause-first c =
+    let s : OrientedMesh = c.args.surface.now in
+    let maps : Rotations = rotations_of s in
+    let at = ends_within maps (node_of c.args.nodes maps) (is_node_of c.args.nodes s) (bound_of c.args.nodes s) (length s.table)
+    c.args.edge.0 c.ends-first.result.0 c.ends-first.result.1 (rotation_system s c.requires.valid)
+    (has_nodes s c.requires.valid c.args.nodes) c.ends-first.ensures in
+    omega (arith, at.0.0, c.requires.classes)
+
+pub join_apart-requires-clause-second : goal.join_apart-requires-clause-second
+join_apart-requires-clause-second c =
+    let s : OrientedMesh = c.args.surface.now in
+    let maps : Rotations = rotations_of s in
+    let at = ends_within maps (node_of c.args.nodes maps) (is_node_of c.args.nodes s) (bound_of c.args.nodes s) (length s.table)
+    c.args.edge.0 c.ends-first.result.0 c.ends-first.result.1 (rotation_system s c.requires.valid)
+    (has_nodes s c.requires.valid c.args.nodes) c.ends-first.ensures in
+    omega (arith, at.1.0, c.requires.classes)
+
+pub returns-then-join_apart : goal.returns-then-join_apart
+returns-then-join_apart c =
+    let kinds : List Kind = c.args.kinds.now.items in
+    let few : c.args.edge.0 < length kinds = omega (arith, c.requires.edge, c.requires.kinds) in
+    let read : c.is_same.result ≡ has_kind kinds Left c.args.edge.0 =
+    c.is_same.ensures
+    ∙ ap (λ k. same_kind k Left) (c.index.ensures ∙ get_or_default kinds c.args.edge.0 c.index.result.now Tree few) in
+    let left = sym read ∙ c.if-is_same.true in
+    record {
+      left = λ is. record {
+        x = c.ends-first.result.0;
+        y = c.ends-first.result.1;
+        ends = c.ends-first.ensures;
+        joined = c.join_apart.ensures.joined;
+        apart = λ differ. refl;
+        same = λ equal. absurd (c.join_apart.ensures.apart.0 c.if-join_apart.true equal);
+      };
+      other = λ out. absurd (both_ways (has_kind kinds Left c.args.edge.0) out left);
+    }
+
+pub returns-else-join_apart : goal.returns-else-join_apart
+returns-else-join_apart c =
+    let kinds : List Kind = c.args.kinds.now.items in
+    let few : c.args.edge.0 < length kinds = omega (arith, c.requires.edge, c.requires.kinds) in
+    let read : c.is_same.result ≡ has_kind kinds Left c.args.edge.0 =
+    c.is_same.ensures
+    ∙ ap (λ k. same_kind k Left) (c.index.ensures ∙ get_or_default kinds c.args.edge.0 c.index.result.now Tree few) in
+    let left = sym read ∙ c.if-is_same.true in
+    record {
+      left = λ is. record {
+        x = c.ends-first.result.0;
+        y = c.ends-first.result.1;
+        ends = c.ends-first.ensures;
+        joined = c.join_apart.ensures.joined;
+        apart = λ differ. absurd (both_ways c.join_apart.result c.if-join_apart.false (c.join_apart.ensures.apart.1 differ));
+        same = λ equal. refl;
+      };
+      other = λ out. absurd (both_ways (has_kind kinds Left c.args.edge.0) out left);
+    }
+
+pub returns-else-is_same : goal.returns-else-is_same
+returns-else-is_same c =
+    let kinds : List Kind = c.args.kinds.now.items in
+    let few : c.args.edge.0 < length kinds = omega (arith, c.requires.edge, c.requires.kinds) in
+    let read : c.is_same.result ≡ has_kind kinds Left c.args.edge.0 =
+    c.is_same.ensures
+    ∙ ap (λ k. same_kind k Left) (c.index.ensures ∙ get_or_default kinds c.args.edge.0 c.index.result.now Tree few) in
+    let out = sym read ∙ c.if-is_same.false in
+    record {
+      left = λ is. absurd (both_ways (has_kind kinds Left c.args.edge.0) out is);
+      other = λ other. (refl, refl);
+    }
