@@ -1,11 +1,12 @@
 //! The cells of a pool: each chain as two stacks of cells that meet at its place, and the free cells as one more.
-ghost use Rattle.std.specs.Prelude.{◌≡◌, ◌+◌, ◌-◌, ◌<◌, ◌≤◌, ◌^◌, [], ◌∷◌, length, reverse, slice_index, IsSome, Some, None, IsOk, OnOk, OnErr, max};
+ghost use Rattle.std.specs.Prelude.{◌≡◌, ℕ, ◌+◌, ◌-◌, ◌<◌, ◌≤◌, ◌^◌, [], ◌∷◌, length, reverse, slice_index, IsSome, Some, None, IsOk, OnOk, OnErr, max};
 ghost use Rattle.chain_pool.specs.Chains.{under, IsUnder, IsEdit, IsAlike, cells_in};
 
 use crate::entries::{Entries, Halves};
 use slab::Slab;
 use std::alloc::{AllocError, Global};
 use std::marker::Model;
+use std::mem;
 
 /// The most cells that a pool has: links have 32 bits.
 pub const MOST_CELLS: usize = 4_294_967_296;
@@ -260,15 +261,7 @@ impl Cells {
     {
         let (mut left, mut right) = head(&self.slots, chain);
         'on: while left.len < place {
-            let (next, value) = entry(&self.slots, right.top);
-            write(
-                &mut self.slots,
-                right.top,
-                Cell::Entry {
-                    next: left.top,
-                    value,
-                },
-            );
+            let next = relink(&mut self.slots, right.top, left.top);
             left = Stack {
                 top: right.top,
                 len: left.len + 1,
@@ -279,15 +272,7 @@ impl Cells {
             };
         }
         'back: while place < left.len {
-            let (next, value) = entry(&self.slots, left.top);
-            write(
-                &mut self.slots,
-                left.top,
-                Cell::Entry {
-                    next: right.top,
-                    value,
-                },
-            );
+            let next = relink(&mut self.slots, left.top, right.top);
             right = Stack {
                 top: left.top,
                 len: right.len + 1,
@@ -342,15 +327,7 @@ impl Cells {
     {
         let (left, right) = head(&self.slots, chain);
         let freed = right.top;
-        let (next, value) = entry(&self.slots, freed);
-        write(
-            &mut self.slots,
-            freed,
-            Cell::Entry {
-                next: self.free.top,
-                value,
-            },
-        );
+        let next = relink(&mut self.slots, freed, self.free.top);
         self.free = Stack {
             top: freed,
             len: self.free.len + 1,
@@ -386,6 +363,19 @@ pub fn entry(slots: &Slab<Cell>, key: u32) -> (u32, u32)
     match slots.get(key as usize) {
         Some(Cell::Entry { next, value }) => (*next, *value),
         _ => unreachable!(),
+    }
+}
+
+/// The link of a cell that is no head becomes this one, and its value stays. The link that it was.
+#[inline(always)]
+fn relink(slots: &mut Slab<Cell>, key: u32, to: u32) -> u32
+    requires { IsEntry (under slots.old.slots key) }
+    ensures { (value : ℕ) × (under slots.old.slots key ≡ Some (Cell.Entry result value))
+        × (slots.new ≡ with_value slots.old key (Cell.Entry to value)) }
+{
+    match &mut slots[key as usize] {
+        Cell::Entry { next, .. } => mem::replace(next, to),
+        Cell::Head { .. } => unreachable!(),
     }
 }
 

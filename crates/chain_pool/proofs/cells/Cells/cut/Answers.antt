@@ -15,10 +15,10 @@ some c =
     c.args.chain.0 c.head.result.0 c.head.result.1 c.head.ensures c.args.self.now.chains (view c) in
     omega (arith, same, c.requires.behind)
 
-pub entry-next-requires : goal.entry-next-requires
-entry-next-requires c =
+pub relink-next-requires : goal.relink-next-requires
+relink-next-requires c =
     right_entry c.self.inside.slots.slots c.self.inside.slots.capacity c.self.inside.free c.self.inside.spare c.self.invariant
-    c.args.chain.0 c.head.result.0 c.head.result.1 c.head.ensures (some (goal.at.entry-next-requires c).After-head)
+    c.args.chain.0 c.head.result.0 c.head.result.1 c.head.ensures (some (goal.at.relink-next-requires c).After-head)
 
 pub overflow_add-self : goal.overflow_add-self
 overflow_add-self c =
@@ -44,16 +44,18 @@ overflow_add-self-2 c =
 
 pub invariant_of-self : goal.invariant_of-self
 invariant_of-self c =
-    let written = twice_written c.self.inside.slots c.write.new.slots c.write-2.new.slots _ _ _ _ c.write.ensures c.write-2.ensures in
+    let written = twice_written c.self.inside.slots c.relink-next.new.slots c.write.new.slots _ _ _ _ c.relink-next.ensures.2
+    c.write.ensures in
     rw (written.slots, written.capacity)
     (cut_edits c.self.inside.slots.slots c.self.inside.slots.capacity c.self.inside.free c.self.inside.spare
-    c.self.invariant c.args.chain.0 c.head.result.0 c.head.result.1 c.head.ensures c.entry-next.result.0 c.entry-next.result.1
-    c.entry-next.ensures (some (goal.at.invariant_of-self c).After-head)).sound
+    c.self.invariant c.args.chain.0 c.head.result.0 c.head.result.1 c.head.ensures c.relink-next.result c.relink-next.ensures.0
+    c.relink-next.ensures.1 (some (goal.at.invariant_of-self c).After-head)).sound
 
 pub returns-clause-chain : goal.returns-clause-chain
 returns-clause-chain c =
-    let written = twice_written c.self.inside.slots c.write.new.slots c.write-2.new.slots _ _ _ _ c.write.ensures c.write-2.ensures in
+    let written = twice_written c.self.inside.slots c.relink-next.new.slots c.write.new.slots _ _ _ _ c.relink-next.ensures.2
+    c.write.ensures in
     let same : chains_of c.self.inside.slots.slots ≡ c.args.self.now.chains = view (goal.at.returns-clause-chain c).After-head in
     rw (written.slots, ← same) (cut_edits c.self.inside.slots.slots c.self.inside.slots.capacity c.self.inside.free c.self.inside.spare
-    c.self.invariant c.args.chain.0 c.head.result.0 c.head.result.1 c.head.ensures c.entry-next.result.0 c.entry-next.result.1
-    c.entry-next.ensures (some (goal.at.returns-clause-chain c).After-head)).edit
+    c.self.invariant c.args.chain.0 c.head.result.0 c.head.result.1 c.head.ensures c.relink-next.result c.relink-next.ensures.0
+    c.relink-next.ensures.1 (some (goal.at.returns-clause-chain c).After-head)).edit

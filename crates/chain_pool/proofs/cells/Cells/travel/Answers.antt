@@ -9,8 +9,8 @@ on-init c =
     c.args.chain.0
     c.head.result.0 c.head.result.1 c.self.invariant c.self.view_is c.head.ensures c.requires.live
 
-pub entry-next-requires : goal.entry-next-requires
-entry-next-requires c =
+pub relink-next-requires : goal.relink-next-requires
+relink-next-requires c =
     right_top c.args.self.now c.on.self-inside.slots.slots c.on.self-inside.slots.capacity c.on.self-inside.free c.on.self-inside.spare
     c.args.chain.0 c.on.left c.on.right c.on.invariant
     (omega (
@@ -43,11 +43,11 @@ overflow_sub-right c =
 
 pub on-preserved : goal.on-preserved
 on-preserved c =
-    let written = once_written c.on.self-inside.slots c.write.new.slots _ _ c.write.ensures in
+    let written = once_written c.on.self-inside.slots c.relink-next.new.slots _ _ c.relink-next.ensures.2 in
     rw (written.slots, written.capacity)
     (going_on c.args.self.now c.on.self-inside.slots.slots c.on.self-inside.slots.capacity c.on.self-inside.free c.on.self-inside.spare
     c.args.chain.0 c.on.left c.on.right c.on.invariant
-    c.entry-next.result.0 c.entry-next.result.1 c.entry-next.ensures
+    c.relink-next.result c.relink-next.ensures.0 c.relink-next.ensures.1
     (omega (
       arith,
       c.on-test.true,
@@ -57,8 +57,8 @@ on-preserved c =
           c.args.chain.0 c.on.left c.on.right c.on.invariant,
     )))
 
-pub entry-next-requires-in-back : goal.entry-next-requires-in-back
-entry-next-requires-in-back c =
+pub relink-next-requires-in-back : goal.relink-next-requires-in-back
+relink-next-requires-in-back c =
     left_top c.args.self.now c.back.self-inside.slots.slots c.back.self-inside.slots.capacity c.back.self-inside.free
     c.back.self-inside.spare
     c.args.chain.0 c.back.left c.back.right c.back.invariant.0
@@ -74,24 +74,24 @@ overflow_add-right c = omega (
 
 pub back-preserved : goal.back-preserved
 back-preserved c =
-    let written = once_written c.back.self-inside.slots c.write-in-back.new.slots _ _ c.write-in-back.ensures in (
+    let written = once_written c.back.self-inside.slots c.relink-next-in-back.new.slots _ _ c.relink-next-in-back.ensures.2 in (
       rw (written.slots, written.capacity)
           (going_back c.args.self.now c.back.self-inside.slots.slots c.back.self-inside.slots.capacity c.back.self-inside.free
           c.back.self-inside.spare
           c.args.chain.0 c.back.left c.back.right c.back.invariant.0
-          c.entry-next-in-back.result.0 c.entry-next-in-back.result.1 c.entry-next-in-back.ensures
+          c.relink-next-in-back.result c.relink-next-in-back.ensures.0 c.relink-next-in-back.ensures.1
           (omega (arith, c.back-test.true))),
       omega (arith, c.back-test.true),
     )
 
 pub invariant_of-self : goal.invariant_of-self
 invariant_of-self c =
-    let written = once_written c.back.self-inside.slots c.write-2.new.slots _ _ c.write-2.ensures in
+    let written = once_written c.back.self-inside.slots c.write.new.slots _ _ c.write.ensures in
     rw (written.slots, written.capacity) c.back.invariant.0.sound
 
 pub returns-clause-chain : goal.returns-clause-chain
 returns-clause-chain c =
-    let written = once_written c.back.self-inside.slots c.write-2.new.slots _ _ c.write-2.ensures in
+    let written = once_written c.back.self-inside.slots c.write.new.slots _ _ c.write.ensures in
     rw written.slots (gone c.args.self.now c.back.self-inside.slots.slots c.back.self-inside.slots.capacity c.back.self-inside.free
     c.back.self-inside.spare
     c.args.chain.0 c.back.left c.back.right c.back.invariant.0
