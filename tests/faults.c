@@ -1,5 +1,6 @@
 /* For `LD_PRELOAD`: the call number FAIL_AT of the kind FAIL_KIND (read, open, write or memory) fails, and a byte goes to the descriptor
-   FAIL_TOLD then. Calls before `main` are not counted, nor those on standard error. */
+   FAIL_TOLD then; where FAIL_ON is set, so does each call of the kind behind it. Calls before `main` are not counted; where
+   FAIL_BEHIND_WRITE is set, none before the first write either. */
 #define _GNU_SOURCE
 #include <dlfcn.h>
 #include <errno.h>
@@ -15,15 +16,21 @@ static int fails(const char *kind)
 {
     static unsigned long calls, at;
     static const char *wanted;
-    if (!started)
+    static int on;
+    if (!started) {
+        started = !strcmp(kind, "write");
         return 0;
+    }
     if (!wanted) {
         wanted = getenv("FAIL_KIND");
         at = wanted ? strtoul(getenv("FAIL_AT"), 0, 10) : 0;
+        on = getenv("FAIL_ON") != 0;
         wanted = wanted ? wanted : "";
     }
-    if (strcmp(kind, wanted) || ++calls != at)
+    if (strcmp(kind, wanted) || ++calls < at)
         return 0;
+    if (calls > at)
+        return on;
     ssize_t (*told)(int, const void *, size_t) = dlsym(RTLD_NEXT, "write");
     return told(atoi(getenv("FAIL_TOLD")), "!", 1) == 1;
 }
@@ -77,5 +84,5 @@ void *aligned_alloc(size_t alignment, size_t size)
 
 __attribute__((constructor)) static void start(void)
 {
-    started = 1;
+    started = getenv("FAIL_BEHIND_WRITE") == 0;
 }

@@ -1,5 +1,5 @@
 -- How questions end.
-use Rattle.std.proofs.Common.{◌≡◌, ◌⊎◌, ℕ, ◌+◌, ◌*◌, ◌<◌, List, length, get_or, refl, sym, ap, subst, ◌∙◌, inl, inr, arith}
+use Rattle.std.proofs.Common.{◌≡◌, ◌⊎◌, ℕ, ◌+◌, ◌*◌, ◌<◌, List, length, get_or, sym, ap, subst, ◌∙◌, inl, inr, arith}
 use Rattle.std.specs.Prelude.{Result, Ok, Err, IsTrue}
 use Rattle.surf_model.specs.FaceLists.{FaceList}
 use Rattle.commands.proofs.Components.{signed_surface}
@@ -7,7 +7,7 @@ use Rattle.commands.specs.declared.surface_input.SignedMesh.{SignedMesh}
 use Rattle.homotopy_arrays.specs.CheckedPairs.{AreAnswersTo, AreChecked, IsAnswerTo, IsChecked, IsPairOf}
 use Rattle.homotopy_arrays.specs.Decisions.{AreDecided}
 use Rattle.homotopy_arrays.specs.Pairs.{IsAnswer, are_pairs, walk_at}
-use Rattle.homotopy_arrays.specs.Surfaces.{EndsOn, IsSurfaceOf, OfMesh}
+use Rattle.homotopy_arrays.specs.Surfaces.{IsSurfaceOf, OfMesh}
 use Rattle.homotopy_arrays.specs.declared.decide.PairAnswer.{PairAnswer}
 use Rattle.homotopy_arrays.specs.declared.decide.PairAnswer.TheVariants as answers
 use Rattle.homotopy_arrays.specs.declared.fault.Fault.{Fault}

@@ -1,5 +1,5 @@
 -- What comes of certificates, from their parts.
-use Rattle.std.proofs.Common.{◌≡◌, ◌⊎◌, ◌<◌, ℕ, List, [], ◌∷◌, length, get_or, refl, sym, ap, subst, ◌∙◌, inl, inr, arith}
+use Rattle.std.proofs.Common.{◌≡◌, ◌⊎◌, ◌<◌, ◌≤◌, ℕ, List, [], ◌∷◌, length, get_or, refl, sym, ap, subst, ◌∙◌, inl, inr, arith}
 use Rattle.std.specs.Prelude.{Result, Ok, Err, MatchResult, Some, None, slice_get}
 use Rattle.std.proofs.lemmas.Option.{get_or_from_slice_get}
 use Rattle.surf_model.specs.FaceLists.{FaceList}
@@ -17,7 +17,8 @@ use Rattle.walk_files.specs.declared.certificate.CertHead.TheVariants as heads
 use Rattle.walk_files.specs.declared.fault.CertFault.{CertFault}
 use Rattle.walk_files.specs.declared.fault.CertFault.TheVariants as certificates
 use Rattle.commands.specs.declared.certificate.Certificate.TheVariants as shown
-use Rattle.homotopy_arrays.specs.Judgements.{IsFaultOfMoves, IsFaultOfText, IsFaultOfWalks, IsVerifyFault, Judges, JudgesText, JudgesWalks, of_certificate_fault}
+use Rattle.commands.specs.declared.inputs.TheConstants.{MOST_BYTES}
+use Rattle.homotopy_arrays.specs.Judgements.{IsFaultOfMoves, IsFaultOfSpelling, IsFaultOfText, IsFaultOfWalks, IsVerifyFault, Judges, JudgesSpelt, JudgesText, JudgesWalks, of_certificate_fault}
 use Rattle.homotopy_arrays.specs.Pairs.{AreWalks}
 use Rattle.homotopy_arrays.specs.declared.fault.Fault.{Fault}
 use Rattle.homotopy_arrays.specs.declared.fault.Fault.TheVariants.{OutOfMemory}
@@ -30,8 +31,8 @@ use Rattle.homotopy_arrays.proofs.CertificateLemmas.{bad_head, denial_faulty, de
 -- ---- the text
 
 pub head_faulty : (text : List ℕ) (first : CertFault) (fault : VerifyFault) → Err first ≡ started text (head_of_text text)
-    → fault ≡ of_certificate_fault first → IsFaultOfText text fault
-head_faulty text first fault e is = inr (inr (first, bad_head text (head_of_text text) first refl e, is))
+    → fault ≡ of_certificate_fault first → IsFaultOfSpelling text fault
+head_faulty text first fault e is = inr (first, bad_head text (head_of_text text) first refl e, is)
 
 -- the head of a reader that has started
 pub head_is : (text : List ℕ) (reader : Certificate) (head : CertHead) → Ok reader ≡ started text (head_of_text text) → reader.head ≡ head
@@ -50,16 +51,16 @@ denial_of text reader degree e head =
 
 pub moves_faulty : (text : List ℕ) (reader : Certificate) (count peak : ℕ) (fault : VerifyFault)
     → Ok reader ≡ started text (head_of_text text) → reader.head ≡ heads.Moves count peak → IsFaultOfMoves (moves_left reader) fault
-    → IsFaultOfText text fault
-moves_faulty text reader count peak fault e head (inl memory) = inr (inl memory)
+    → IsFaultOfSpelling text fault
+moves_faulty text reader count peak fault e head (inl memory) = inl memory
 moves_faulty text reader count peak fault e head (inr wrong) =
     let spelt : head_of_text text ≡ Ok (heads.Moves count peak) = head_is text reader (heads.Moves count peak) e head in
-    inr (inr (wrong.0, list_faulty text count peak wrong.0 spelt (sym (left_of text reader count peak e head) ∙ wrong.1), wrong.2))
+    inr (wrong.0, list_faulty text count peak wrong.0 spelt (sym (left_of text reader count peak e head) ∙ wrong.1), wrong.2)
 
 pub moves_judged : (mesh : FaceList) (first second text : List ℕ) (reader : Certificate) (count peak : ℕ) (list : PeakedMoves)
     (verdict : Verdict) → Ok reader ≡ started text (head_of_text text) → reader.head ≡ heads.Moves count peak
     → moves_left reader ≡ Ok list.moves → list.peak ≡ peak → verdict ≡ verdict_of mesh first second list
-    → JudgesText mesh first second text (Moves verdict)
+    → JudgesSpelt mesh first second text (Moves verdict)
 moves_judged mesh first second text reader count peak list verdict e head left is_peak is =
     let same : reader.head ≡ heads.Moves count list.peak = head ∙ ap (λ (p : ℕ). heads.Moves count p) (sym is_peak) in
     let spelt : head_of_text text ≡ Ok (heads.Moves count list.peak) = head_is text reader (heads.Moves count list.peak) e same in
@@ -69,23 +70,30 @@ pub denial_wrong : (text : List ℕ) (reader : Certificate) (degree : ℕ) (firs
     → Ok reader ≡ started text (head_of_text text) → reader.head ≡ heads.Labels degree
     → (Err first ≡ denial_left reader) ⊎ ((reader.refusal ≡ None)
     × (let wanting : Result denials.Denial CertFault = Err certificates.OutOfMemory in Err first ≡ wanting))
-    → fault ≡ of_certificate_fault first → IsFaultOfText text fault
+    → fault ≡ of_certificate_fault first → IsFaultOfSpelling text fault
 denial_wrong text reader degree first fault e head answer is =
     let spelt : head_of_text text ≡ Ok (heads.Labels degree) = head_is text reader (heads.Labels degree) e head in
     elim (denial_or_memory text degree reader first (denial_of text reader degree e head) answer) [
-      | inl wrong ↦ inr (inr (first, denial_faulty text degree first spelt (sym wrong), is))
-      | inr memory ↦ inr (inl (is ∙ ap of_certificate_fault memory))
+      | inl wrong ↦ inr (first, denial_faulty text degree first spelt (sym wrong), is)
+      | inr memory ↦ inl (is ∙ ap of_certificate_fault memory)
     ]
 
 pub denial_judged : (mesh : FaceList) (first second text : List ℕ) (reader : Certificate) (degree : ℕ) (denial : denials.Denial)
     (verdict : DenialVerdict) → Ok reader ≡ started text (head_of_text text) → reader.head ≡ heads.Labels degree
     → (Ok denial ≡ denial_left reader) ⊎ ((reader.refusal ≡ None) × (Ok denial ≡ Err certificates.OutOfMemory))
-    → IsVerdict mesh first second denial verdict → JudgesText mesh first second text (Denial verdict)
+    → IsVerdict mesh first second denial verdict → JudgesSpelt mesh first second text (Denial verdict)
 denial_judged mesh first second text reader degree denial verdict e head answer is =
     let spelt : head_of_text text ≡ Ok (heads.Labels degree) = head_is text reader (heads.Labels degree) e head in
     let given : denial_of_lines degree text ≡ Ok denial =
     denial_given text degree reader denial (denial_of text reader degree e head) answer in
     (shown.Denial denial, denial_spelt text degree denial spelt given, is)
+
+-- the text, where it is no longer than is read
+pub within_limit : (mesh : FaceList) (first second text : List ℕ) (end : Result Judgement VerifyFault) → length text ≤ MOST_BYTES
+    → MatchResult end (JudgesSpelt mesh first second text) (IsFaultOfSpelling text)
+    → MatchResult end (JudgesText mesh first second text) (IsFaultOfText text)
+within_limit mesh first second text (Ok judgement) few h = (few, h)
+within_limit mesh first second text (Err fault) few h = inr (few, h)
 
 -- ---- the walks
 

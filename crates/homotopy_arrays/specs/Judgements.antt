@@ -1,5 +1,5 @@
 -- How the question ends what comes of a certificate.
-use Rattle.std.specs.Prelude.{◌≡◌, ◌⊎◌, ℕ, ◌<◌, List, length, Some, Result, Ok, Err}
+use Rattle.std.specs.Prelude.{◌≡◌, ◌⊎◌, ℕ, ◌<◌, ◌≤◌, List, length, Some, Result, Ok, Err}
 use Rattle.surf_model.specs.FaceLists.{FaceList}
 use Rattle.surf_model.specs.declared.moves.Move.{Move}
 use Rattle.labellings.specs.DenialVerdicts.{IsVerdict}
@@ -30,9 +30,14 @@ IsJudgement mesh first second (shown.Denial denial) (Moves verdict) = ⊥
 IsJudgement mesh first second (shown.Denial denial) (Denial verdict) = IsVerdict mesh first second denial verdict
 
 -- the bytes spell a certificate that is judged so
+abbrev pub JudgesSpelt : FaceList → (first second certificate : List ℕ) → Judgement → Type 0
+JudgesSpelt mesh first second certificate judgement =
+    (spelt : Certificate) × (certificate_of certificate ≡ Ok spelt) × IsJudgement mesh first second spelt judgement
+
+-- the bytes are no more than are read, and spell a certificate that is judged so
 abbrev pub JudgesText : FaceList → (first second certificate : List ℕ) → Judgement → Type 0
 JudgesText mesh first second certificate judgement =
-    (spelt : Certificate) × (certificate_of certificate ≡ Ok spelt) × IsJudgement mesh first second spelt judgement
+    (length certificate ≤ MOST_BYTES) × JudgesSpelt mesh first second certificate judgement
 
 -- the walks are two walks of the mesh with common ends, and the bytes spell a certificate between them that is judged so
 abbrev pub JudgesWalks : FaceList → (first second certificate : List ℕ) → Judgement → Type 0
@@ -63,10 +68,15 @@ IsFaultOf read fault = (fault ≡ no_memory) ⊎ ((first : CertFault) × (read �
 abbrev pub IsFaultOfMoves : Result (List Move) CertFault → VerifyFault → Type 0
 IsFaultOfMoves read fault = IsFaultOf read fault
 
--- the bytes are too many, or are no certificate, for their first fault
+-- the bytes are no certificate, for their first fault
+abbrev pub IsFaultOfSpelling : (certificate : List ℕ) → VerifyFault → Type 0
+IsFaultOfSpelling certificate fault = IsFaultOf (certificate_of certificate) fault
+
+-- the bytes are too many; or they are not, and are no certificate, for their first fault
 abbrev pub IsFaultOfText : (certificate : List ℕ) → VerifyFault → Type 0
 IsFaultOfText certificate fault =
-    ((MOST_BYTES < length certificate) × (fault ≡ faults.Long)) ⊎ IsFaultOf (certificate_of certificate) fault
+    ((MOST_BYTES < length certificate) × (fault ≡ faults.Long))
+    ⊎ ((length certificate ≤ MOST_BYTES) × IsFaultOfSpelling certificate fault)
 
 -- memory is wanting; or the walks are not two walks of the mesh with common ends; or they are, and something is wrong with the certificate
 abbrev pub IsFaultOfWalks : FaceList → (first second certificate : List ℕ) → VerifyFault → Type 0

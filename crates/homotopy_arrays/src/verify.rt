@@ -1,9 +1,9 @@
 //! What comes of certificates that lie in bytes.
-ghost use Rattle.std.specs.Prelude.{◌≡◌, Ok, MatchResult, IsTrue};
+ghost use Rattle.std.specs.Prelude.{◌≡◌, ◌≤◌, Ok, MatchResult, IsTrue, length};
 ghost use Rattle.surf_model.specs.Edges.{IsTableOf};
 ghost use Rattle.surf_model.specs.Walks.{IsWalk};
 ghost use Rattle.walk_files.specs.Readers.{is_list, moves_left};
-ghost use Rattle.homotopy_arrays.specs.Judgements.{IsFaultOfMoves, IsFaultOfText, IsVerifyFault, Judges, JudgesText, JudgesWalks, IsFaultOfWalks};
+ghost use Rattle.homotopy_arrays.specs.Judgements.{IsFaultOfMoves, IsFaultOfSpelling, IsFaultOfText, IsVerifyFault, Judges, JudgesSpelt, JudgesText, JudgesWalks, IsFaultOfWalks};
 ghost use Rattle.homotopy_arrays.specs.MeshArrays.{mesh_of};
 
 use crate::fault::Fault;
@@ -158,6 +158,22 @@ fn judge(alloc: Global, on: &Compared<'_>, certificate: &[u8]) -> Result<Judgeme
     if certificate.len() as u64 > MOST_BYTES {
         return Err(VerifyFault::Long);
     }
+    judge_text(alloc, on, certificate)
+}
+
+/// What comes of the certificate that the bytes spell, which are no more than are read.
+fn judge_text(
+    alloc: Global,
+    on: &Compared<'_>,
+    certificate: &[u8],
+) -> Result<Judgement, VerifyFault>
+    requires table { IsTableOf on.now.faces.now on.now.sides.now }
+    requires first { IsWalk on.now.faces.now on.now.first.now }
+    requires second { IsWalk on.now.faces.now on.now.second.now }
+    requires short { length certificate.now ≤ MOST_BYTES }
+    ensures { MatchResult result (JudgesSpelt on.now.faces.now on.now.first.now on.now.second.now certificate.now)
+        (IsFaultOfSpelling certificate.now) }
+{
     let mut reader = CertReader::start(certificate)?;
     match reader.head() {
         CertHead::Moves { peak, .. } => {

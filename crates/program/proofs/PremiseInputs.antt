@@ -1,5 +1,5 @@
 -- What is asked of a surface and of its walks, where `decide` or `certify` answers and its files are told.
-use Rattle.std.proofs.Common.{◌≡◌, ◌⊎◌, inl, inr, ℕ, List, [], ◌∷◌, length, refl, sym, ap, subst, ◌∙◌, arith}
+use Rattle.std.proofs.Common.{◌≡◌, ℕ, List, [], ◌∷◌, refl, sym, ap, subst, ◌∙◌}
 use Rattle.std.specs.Prelude.{◌≢◌, Option, None, Result, Ok, Err, All, codes}
 use Rattle.std.proofs.lemmas.List.Elements.{All-head, All-tail}
 use Rattle.off_reader.specs.OffTexts.{meaning_of}
@@ -10,12 +10,12 @@ use Rattle.surf_model.specs.Walks.{IsWalk, HaveCommonEnds}
 use Rattle.walk_files.proofs.PairLemmas.{pair_of_none}
 use Rattle.walk_files.proofs.PairListLemmas.{pairs_of_none}
 use Rattle.walk_files.specs.PairLists.{ArePairs, in_pairs, pairs_fault}
-use Rattle.walk_files.specs.Pairs.{IsPair, pair_fault}
+use Rattle.walk_files.specs.Pairs.{pair_fault}
 use Rattle.walk_files.specs.WalkLists.{WalkText}
 use Rattle.walk_files.specs.WalkTexts.{walk_text_of, walks_in, walks_of}
 use Rattle.walk_files.specs.declared.fault.WalkFault.{WalkFault}
-use Rattle.commands.specs.Answers.{Answer, Texts, Exactly}
-use Rattle.commands.specs.Certify.{certified, certify, limit_fault, IsCertifyInput, IsWithinLimits}
+use Rattle.commands.specs.Answers.{Answer, Exactly}
+use Rattle.commands.specs.Certify.{certified, certify, limit_fault}
 use Rattle.commands.specs.Checks.{Check, Refuse, Pass, Passes, IsTold, Holds, file, meant, pass_unless, ◌>>=◌}
 use Rattle.commands.specs.ClosedSurfaces.{IsOrientableSurface}
 use Rattle.commands.specs.Inputs.{mesh_in, pair_in, walk_at, SpellsMesh, SpellsPair}
@@ -31,7 +31,7 @@ use Rattle.pair_commands.specs.PairInput.{SpellsPairs, pairs_in, pairs_line}
 use Rattle.walk_files.proofs.TextLemmas.{HasVertex, text_walks}
 use Rattle.program.proofs.PremiseLemmas.{both_passed, meant_passed, unless_passed, file_holds}
 use Rattle.program.proofs.Rows.{row_answered}
-use Rattle.program.specs.Commands.{Row, Decide, Certify, answer_to}
+use Rattle.program.specs.Commands.{Decide, Certify}
 use Rattle.program.specs.Outcomes.{Answers}
 use Rattle.program.specs.Premises.{HasPremises, HasDecideInput, HasCertifyInput, NamesTold}
 

@@ -1,14 +1,9 @@
 -- Where an answer comes that is no refusal, the files stand for what it asks of them.
-use Rattle.std.proofs.Common.{◌≡◌, ◌⊎◌, inl, inr, ℕ, suc, ◌+◌, ◌<◌, ◌≤◌, List, [], ◌∷◌, ◌++◌, length, drop, Bool, true, false, refl, sym, ap, subst, ◌∙◌, get_or, arith}
-use Rattle.std.specs.Prelude.{Option, Some, None, Result, Ok, Err, IfSome, IsSome, IsSomeAnd, All, if◌then◌else◌, ◌||◌, nat_le, nat_lt, option_map}
-use Rattle.std.specs.List.{enumerate_from, sum_by}
-use Rattle.std.specs.Option.{ok_or}
-use Rattle.std.proofs.lemmas.List.Elements.{All-head, All-tail, All-cons, All-nil, All-push, filter_passes}
+use Rattle.std.proofs.Common.{◌≡◌, inl, inr, ℕ, ◌≤◌, List, length, refl, subst}
+use Rattle.std.specs.Prelude.{Option, Some, None, Result, Ok, Err, IfSome, IsSome, IsSomeAnd}
 use Rattle.surf_io.specs.Files.{Files, file_of}
-use Rattle.surf_model.specs.FaceLists.{FaceList}
-use Rattle.surf_model.specs.Walks.{darts}
-use Rattle.commands.specs.Answers.{Answer, Texts}
-use Rattle.commands.specs.Checks.{Check, End, Refuse, Pass, Passes, IsTold, Holds, file, meant, pass_unless, ◌>>=◌}
+use Rattle.commands.specs.Answers.{Texts}
+use Rattle.commands.specs.Checks.{Check, Passes, IsTold, Holds, file, meant, pass_unless, ◌>>=◌}
 use Rattle.commands.specs.declared.inputs.TheConstants.{MOST_BYTES}
 use Rattle.commands.specs.declared.refusal.Input.{Input}
 

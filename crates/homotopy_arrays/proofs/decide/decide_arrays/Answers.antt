@@ -1,6 +1,5 @@
-use Rattle.std.proofs.Common.{◌≡◌, ℕ, ◌+◌, ◌*◌, ◌<◌, true, List, length, get_or, sym, ap, subst, ◌∙◌, inl, arith}
+use Rattle.std.proofs.Common.{◌≡◌, ℕ, ◌+◌, ◌*◌, ◌<◌, true, List, length, get_or, sym, subst, ◌∙◌, inl}
 use Rattle.std.proofs.lemmas.Result.{err_from_is_err_and}
-use Rattle.surf_model.specs.FaceLists.{FaceList}
 use Rattle.homotopy_arrays.specs.CheckedPairs.{AreAnswersTo, IsPairOf}
 use Rattle.homotopy_arrays.specs.Decisions.{IsDecideFault}
 use Rattle.homotopy_arrays.specs.MeshArrays.{mesh_of}
