@@ -1,9 +1,9 @@
 -- How the check of pairs of walks ends.
-use Rattle.std.proofs.Common.{◌≡◌, inr, ℕ, List, refl}
-use Rattle.std.specs.Prelude.{Option, Some, None, Result}
+use Rattle.std.proofs.Common.{◌≡◌, inl, inr, ℕ, List, refl}
+use Rattle.std.specs.Prelude.{Option, Some, None, Result, Ok, Err}
 use Rattle.surf_io.specs.Files.{Files}
 use Rattle.surf_model.specs.FaceLists.{FaceList}
-use Rattle.walk_files.specs.PairLists.{WalkPair, in_pairs, pairs_fault}
+use Rattle.walk_files.specs.PairLists.{WalkPair, ArePairs, in_pairs, pairs_fault}
 use Rattle.walk_files.specs.WalkLists.{WalkText}
 use Rattle.walk_files.specs.WalkTexts.{walk_text_of}
 use Rattle.walk_files.specs.declared.fault.WalkFault.{WalkFault}
@@ -12,16 +12,17 @@ use Rattle.walk_files.proofs.PairListLemmas.{none_of_pairs}
 use Rattle.commands.proofs.Checking.{stops_first, stops_next, told_stops}
 use Rattle.commands.proofs.Rows.{meant_told, unless_told}
 use Rattle.commands.proofs.Sound.{IsSound, sound-file, sound-then, sound-meant, sound-pass_unless, held}
-use Rattle.commands.specs.Checks.{Check, Passes, Holds, IsTold, file, meant, pass_unless, ◌>>=◌}
+use Rattle.commands.specs.Checks.{Check, Refuse, Passes, Holds, IsTold, file, meant, ◌>>=◌}
 use Rattle.commands.specs.Refusals.{numbers_line}
-use Rattle.commands.specs.Stops.{Stops, Tells}
+use Rattle.commands.specs.Stops.{Ends, Stops, Tells}
 use Rattle.commands.specs.declared.refusal.Input.TheVariants as inputs
 use Rattle.commands.specs.declared.stop.Stop.{Stop}
-use Rattle.pair_commands.specs.PairInput.{SpellsPairs, pairs_line, pairs_in}
+use Rattle.commands.specs.declared.stop.Stop.TheVariants.{Refused, ReadFault, OutOfMemory}
+use Rattle.pair_commands.specs.PairInput.{SpellsPairs, come_in_pairs, pairs_line, pairs_in, text_in}
 
 -- what is looked at of a text, and behind the bytes of a walk file
 abbrev after_text : FaceList → WalkText → Check WalkText
-after_text mesh text = pass_unless (pairs_line text.version) (pairs_fault mesh text) text
+after_text mesh text = come_in_pairs mesh text
 
 abbrev after_bytes : FaceList → List ℕ → Check WalkText
 after_bytes mesh bytes = meant (numbers_line inputs.Walks) (walk_text_of bytes) >>= after_text mesh
@@ -46,6 +47,55 @@ pub pairs_pass : (held : Option Files) (name : List ℕ) (mesh : FaceList) (byte
     → Passes (file held name inputs.Walks) bytes → Passes (meant (numbers_line inputs.Walks) (walk_text_of bytes)) text
     → pairs_fault mesh text ≡ None → Passes (pairs_in held name mesh) text
 pairs_pass held name mesh bytes text p q f = inr (bytes, p, inr (text, q, rw f refl))
+
+-- a text that was read passes the file and its meaning
+record WasRead (held : Option Files) (name : List ℕ) (text : WalkText) : Type 0 where
+  bytes : List ℕ
+  file : Passes (file held name inputs.Walks) bytes
+  meaning : Passes (meant (numbers_line inputs.Walks) (walk_text_of bytes)) text
+
+was_read : (held : Option Files) (name : List ℕ) (text : WalkText) → Passes (text_in held name) text → WasRead held name text
+was_read held name text (inl refused) = absurd (let wrong = refused.2 in cc)
+was_read held name text (inr passed) = record { bytes = passed.0; file = passed.1; meaning = passed.2 }
+
+-- what is read of a walk file
+pub text_ends : (held : Option Files) (name : List ℕ) (bytes : List ℕ) (result : Result WalkText Stop)
+    → Passes (file held name inputs.Walks) bytes → Ends (meant (numbers_line inputs.Walks) (walk_text_of bytes)) result
+    → Ends (text_in held name) result
+text_ends held name bytes (Ok text) p h = inr (bytes, p, h)
+text_ends held name bytes (Err stop) p h =
+    stops_next (file held name inputs.Walks) (λ read. meant (numbers_line inputs.Walks) (walk_text_of read)) bytes stop p h
+
+-- a walk file that is refused before its pairs are looked at
+pub text_stop : (held : Option Files) (name : List ℕ) (mesh : FaceList) (stop : Stop) → Stops (text_in held name) stop
+    → Stops (pairs_in held name mesh) stop
+text_stop held name mesh (Refused text) h = (h.0, refused h.1, h.2)
+  where
+    refused : (text_in held name).Ends (Refuse h.0) → (pairs_in held name mesh).Ends (Refuse h.0)
+    refused (inl first) = inl first
+    refused (inr second) = inr (second.0, second.1, inl (h.0, second.2, refl))
+text_stop held name mesh ReadFault h = tt
+text_stop held name mesh OutOfMemory h = tt
+
+-- and one whose pairs are refused
+pub list_stop : (held : Option Files) (name : List ℕ) (mesh : FaceList) (text : WalkText) (stop : Stop) → Passes (text_in held name) text
+    → Stops (come_in_pairs mesh text) stop → Stops (pairs_in held name mesh) stop
+list_stop held name mesh text stop p h =
+    let read = was_read held name text p in
+    stops_next (file held name inputs.Walks) (after_bytes mesh) read.bytes stop read.file
+    (stops_next (meant (numbers_line inputs.Walks) (walk_text_of read.bytes)) (after_text mesh) text stop read.meaning h)
+
+-- and one that passes
+pub list_pass : (held : Option Files) (name : List ℕ) (mesh : FaceList) (text : WalkText) → Passes (text_in held name) text
+    → ArePairs mesh text → Passes (pairs_in held name mesh) text
+list_pass held name mesh text p pairs =
+    let read = was_read held name text p in
+    pairs_pass held name mesh read.bytes text read.file read.meaning (none_of_pairs mesh text pairs)
+
+-- what is told of walks that do not come in pairs
+pub fault_stop : (mesh : FaceList) (text : WalkText) (fault : PairsFault) (stop : Stop) → pairs_fault mesh text ≡ Some fault
+    → Tells (pairs_line text.version fault) stop → Stops (come_in_pairs mesh text) stop
+fault_stop mesh text fault stop f h = told_stops (pairs_line text.version fault) (come_in_pairs mesh text) stop (rw f refl) h
 
 pub sound-pairs_in : (held : Option Files) (name : List ℕ) (mesh : FaceList) → IsSound held (pairs_in held name mesh)
 sound-pairs_in held name mesh =

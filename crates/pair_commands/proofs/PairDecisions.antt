@@ -1,15 +1,18 @@
 -- Decisions on pairs: one more, all of them, and what they are worth.
-use Rattle.std.proofs.Common.{◌≡◌, ◌↔◌, ℕ, zero, suc, ◌+◌, ◌*◌, ◌≤◌, List, [], ◌∷◌, ◌++◌, length, take, refl, sym, ap, ◌∙◌, subst, arith}
+use Rattle.std.proofs.Common.{◌≡◌, ◌↔◌, inl, inr, ℕ, zero, suc, ◌+◌, ◌*◌, ◌/◌, ◌<◌, ◌≤◌, true, List, [], ◌∷◌, ◌++◌, length, take, refl, sym, ap, ◌∙◌, subst, arith}
 use Rattle.std.specs.Prelude.{All, Option, Some, slice_get}
 use Rattle.std.specs.List.{AllZip}
+use Rattle.std.proofs.lemmas.Bool.Decides.{nat_tests}
 use Rattle.std.proofs.lemmas.List.{take_all}
 use Rattle.std.proofs.lemmas.List.Elements.{All-nil, All-cons, All-head, All-tail}
 use Rattle.surf_io.specs.Files.{Files}
 use Rattle.surf_model.specs.FaceLists.{FaceList}
 use Rattle.surf_model.specs.Moves as moves
 use Rattle.surf_model.specs.Walks.{IsWalk, HaveCommonEnds}
-use Rattle.walk_files.specs.PairLists.{WalkPair, ArePairs, in_pairs}
+use Rattle.walk_files.specs.PairLists.{WalkPair, ArePairs, are_paired, in_pairs}
 use Rattle.walk_files.specs.WalkLists.{WalkText}
+use Rattle.walk_translate.specs.WalkPairs.{AreWalkPair}
+use Rattle.walk_translate.proofs.SpokedLemmas.{before_or_last}
 use Rattle.walk_translate.specs.declared.deciding.Answer as deciding
 use Rattle.walk_translate.specs.declared.deciding.Answer.TheVariants.{Homotopic, Different}
 use Rattle.commands.proofs.Deciding.{AreWalks, differs, one_decision}
@@ -68,6 +71,82 @@ walks_at mesh text k a b pairs e f =
       ends = all_at (λ (pair : WalkPair). HaveCommonEnds pair.first pair.second) (in_pairs text.walks) k
           (record { first = a; second = b }) pairs.ends (pair_at text.walks k a b e f);
     }
+
+-- ---- walks that come in pairs
+
+-- the number of such walks is even
+pub paired_even : (version count : ℕ) → are_paired version count ≡ true → count ≡ 2 * (count / 2)
+paired_even version count is = grind (arith, nat_tests)
+
+-- of the first pairs, as many as that, each has two walks of the mesh with common ends
+abbrev pub ArePairsBelow : FaceList → List (List ℕ) → ℕ → Type 0
+ArePairsBelow mesh walks n =
+    (k : ℕ) (a b : List ℕ) → k < n → slice_get walks (2 * k) ≡ Some a → slice_get walks (2 * k + 1) ≡ Some b → AreWalkPair mesh a b
+
+-- one pair more
+pub pairs_more : (mesh : FaceList) (walks : List (List ℕ)) (n : ℕ) (a b : List ℕ) → ArePairsBelow mesh walks n
+    → slice_get walks (2 * n) ≡ Some a → slice_get walks (2 * n + 1) ≡ Some b → AreWalkPair mesh a b → ArePairsBelow mesh walks (n + 1)
+pairs_more mesh walks n a b below e f pair = λ k x y l p q. elim (before_or_last k n l) [
+  | inl before ↦ below k x y before p q
+  | inr last ↦
+      let here : slice_get walks (2 * n) ≡ Some x = subst (λ i. slice_get walks (2 * i) ≡ Some x) last p in
+      let there : slice_get walks (2 * n + 1) ≡ Some y = subst (λ i. slice_get walks (2 * i + 1) ≡ Some y) last q in
+      let one : a ≡ x = (let both : Some a ≡ Some x = sym e ∙ here in cc) in
+      let other : b ≡ y = (let both : Some b ≡ Some y = sym f ∙ there in cc) in
+      subst (λ (w : List ℕ). AreWalkPair mesh w y) one (subst (AreWalkPair mesh a) other pair)
+]
+
+-- all pairs but the first
+later_pairs : (mesh : FaceList) (x y : List ℕ) (walks : List (List ℕ)) (n : ℕ) → ArePairsBelow mesh (x ∷ y ∷ walks) (suc n)
+    → ArePairsBelow mesh walks n
+later_pairs mesh x y walks n below = λ k a b l p q.
+    let later : 2 * suc k ≡ suc (suc (2 * k)) = omega arith in
+    let last : 2 * suc k + 1 ≡ suc (suc (2 * k + 1)) = omega arith in
+    below (suc k) a b (omega (arith, l)) (subst (λ i. slice_get (x ∷ y ∷ walks) i ≡ Some a) (sym later) p)
+    (subst (λ i. slice_get (x ∷ y ∷ walks) i ≡ Some b) (sym last) q)
+
+first_pair : (mesh : FaceList) (x y : List ℕ) (walks : List (List ℕ)) (n : ℕ) → ArePairsBelow mesh (x ∷ y ∷ walks) (suc n)
+    → AreWalkPair mesh x y
+first_pair mesh x y walks n below = below 0 x y (omega arith) refl refl
+
+-- then all are walks, and all pairs have common ends
+walks_of_pairs : (mesh : FaceList) (walks : List (List ℕ)) (n : ℕ) → length walks ≡ 2 * n → ArePairsBelow mesh walks n
+    → All (IsWalk mesh) walks
+walks_of_pairs mesh [] n e below = All-nil (IsWalk mesh)
+walks_of_pairs mesh (x ∷ []) n e below = absurd (omega (arith, e))
+walks_of_pairs mesh (x ∷ y ∷ walks) zero e below = absurd (omega (arith, e))
+walks_of_pairs mesh (x ∷ y ∷ walks) (suc n) e below =
+    let pair = first_pair mesh x y walks n below in
+    All-cons (IsWalk mesh) x (y ∷ walks) pair.first_walk
+    (All-cons (IsWalk mesh) y walks pair.second_walk
+    (walks_of_pairs mesh walks n (omega (arith, e)) (later_pairs mesh x y walks n below)))
+
+abbrev HasCommonEnds : WalkPair → Type 0
+HasCommonEnds pair = HaveCommonEnds pair.first pair.second
+
+ends_of_pairs : (mesh : FaceList) (walks : List (List ℕ)) (n : ℕ) → length walks ≡ 2 * n → ArePairsBelow mesh walks n
+    → All HasCommonEnds (in_pairs walks)
+ends_of_pairs mesh [] n e below = All-nil HasCommonEnds
+ends_of_pairs mesh (x ∷ []) n e below = All-nil HasCommonEnds
+ends_of_pairs mesh (x ∷ y ∷ walks) zero e below = absurd (omega (arith, e))
+ends_of_pairs mesh (x ∷ y ∷ walks) (suc n) e below =
+    All-cons HasCommonEnds (record { first = x; second = y }) (in_pairs walks) (first_pair mesh x y walks n below).ends
+    (ends_of_pairs mesh walks n (omega (arith, e)) (later_pairs mesh x y walks n below))
+
+pub all_pairs : (mesh : FaceList) (text : WalkText) (n : ℕ) → are_paired text.version (length text.walks) ≡ true
+    → length text.walks ≡ 2 * n → ArePairsBelow mesh text.walks n → ArePairs mesh text
+all_pairs mesh text n paired e below = record {
+  paired = paired;
+  walks = walks_of_pairs mesh text.walks n e below;
+  ends = ends_of_pairs mesh text.walks n e below;
+}
+
+-- and one that is none is no such list
+pub no_pairs : (mesh : FaceList) (text : WalkText) (k : ℕ) (a b : List ℕ) → slice_get text.walks (2 * k) ≡ Some a
+    → slice_get text.walks (2 * k + 1) ≡ Some b → (AreWalkPair mesh a b → ⊥) → ArePairs mesh text → ⊥
+no_pairs mesh text k a b e f none pairs =
+    let walks = walks_at mesh text k a b pairs e f in
+    none (record { first_walk = walks.first_walk; second_walk = walks.second_walk; ends = walks.ends })
 
 -- ---- one decision more
 

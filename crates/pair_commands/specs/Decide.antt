@@ -4,7 +4,8 @@ use Rattle.std.specs.List.{AllZip}
 use Rattle.surf_io.specs.Files.{Files}
 use Rattle.surf_model.specs.FaceLists.{FaceList}
 use Rattle.surf_model.specs.Moves as moves
-use Rattle.walk_files.specs.PairLists.{WalkPair, in_pairs}
+use Rattle.walk_files.specs.PairLists.{WalkPair, ArePairs, in_pairs}
+use Rattle.walk_files.specs.WalkLists.{WalkText}
 use Rattle.walk_translate.specs.declared.deciding.Answer as deciding
 use Rattle.walk_translate.specs.declared.deciding.Answer.TheVariants.{Homotopic}
 use Rattle.commands.specs.Answers.{Answer, Exactly}
@@ -42,6 +43,11 @@ AreDecisions mesh pairs decisions = AllZip (IsDecision mesh) pairs decisions
 -- these are the decisions on the first pairs, as many as there are decisions
 abbrev pub AreFirstDecisions : FaceList → List WalkPair → List deciding.Answer → Type 0
 AreFirstDecisions mesh pairs decisions = AreDecisions mesh (take (length decisions) pairs) decisions
+
+-- the walks of a text come in pairs of walks of the mesh with common ends, and these are the decisions on them
+pub record ArePairsDecided (mesh : FaceList) (text : WalkText) (decisions : List deciding.Answer) : Type 0 where
+  pub pairs : ArePairs mesh text
+  pub right : AreDecisions mesh (in_pairs text.walks) decisions
 
 -- the status and the text are those of the decisions on the pairs: a line for each, and yes where all are homotopic
 pub record AreDecided (mesh : FaceList) (pairs : List WalkPair) (status : Status) (text : List ℕ) : Type 0 where

@@ -4,8 +4,8 @@ ghost use Rattle.commands.specs.Replies.{IsReplyTo, Runs};
 ghost use Rattle.pair_commands.specs.Decide as of_decide;
 ghost use Rattle.pair_commands.specs.Decide.{decisions_answer};
 
-use crate::deciding::decide_pairs;
-use crate::pair_input::read_pairs;
+use crate::deciding::decide_walks;
+use crate::pair_input::read_list;
 use commands::{Reply, Stop, Text, read_surface};
 use std::alloc::Global;
 use surf_io::Shelf;
@@ -22,8 +22,8 @@ pub fn decide<S: Shelf>(
     ensures { Runs S.held S.faults shelf.old shelf.new (λ files. of_decide.decide files mesh.now walks.now) result }
 {
     let surface = read_surface(alloc, shelf, mesh)?;
-    let pairs = read_pairs(alloc, shelf, walks, &surface.sides)?;
-    let decisions = decide_pairs(alloc, surface, &pairs)?;
+    let walks = read_list(alloc, shelf, walks)?;
+    let decisions = decide_walks(alloc, surface, &walks)?;
     Ok(reply_on(decisions))
 }
 

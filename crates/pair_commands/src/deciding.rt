@@ -1,29 +1,34 @@
 //! Deciding on many pairs of walks of a surface, of one component or of several.
-ghost use Rattle.std.specs.Prelude.{◌≡◌, ◌+◌, ◌*◌, ◌<◌, length, IfOk, OnOk};
-ghost use Rattle.manifold_check.specs.ComponentParts.{component_mesh};
-ghost use Rattle.walk_files.specs.PairLists.{ArePairs, in_pairs};
+ghost use Rattle.std.specs.Prelude.{◌≡◌, ◌+◌, ◌*◌, ◌<◌, length, Err, IfOk, OnOk, MatchOption, MatchResult};
+ghost use Rattle.manifold_check.specs.ComponentParts.{AreParts, component_mesh};
+ghost use Rattle.walk_files.specs.PairLists.{ArePairs, are_paired, in_pairs};
 ghost use Rattle.commands.specs.ClosedSurfaces.{IsSigned};
+ghost use Rattle.commands.specs.Stops.{Stops};
 ghost use Rattle.pair_commands.specs.Asked.{AreDecisionsSoFar, IsAsked, LiesIn};
-ghost use Rattle.pair_commands.specs.Decide.{AreDecisions};
+ghost use Rattle.pair_commands.specs.Decide.{AreDecisions, ArePairsDecided};
+ghost use Rattle.pair_commands.specs.PairInput.{come_in_pairs};
 
 use crate::asked::Asked;
-use commands::SignedMesh;
+use crate::pair_input::check_list;
 use commands::component::connected;
+use commands::{SignedMesh, Stop};
 use halfedge_map::Surface;
 use manifold_check::Parts;
 use std::alloc::{AllocError, Global};
 use walk_files::WalkList;
 use walk_translate::{Answer, Decider};
 
-/// The decisions on the pairs of walks of a surface, in order. Where there is one component alone, no face is copied.
-pub(crate) fn decide_pairs(
+/// The decisions on the walks of a surface, pair by pair, or what is first wrong where they do not come in pairs. Where there is
+/// one component alone, no face is copied, and a walk is looked at while it is decided on.
+pub(crate) fn decide_walks(
     alloc: Global,
     mesh: SignedMesh,
     walks: &WalkList,
-) -> Result<Vec<Answer>, AllocError>
-    requires signed { IsSigned mesh }
-    requires pairs { ArePairs mesh.faces walks.now }
-    ensures { IfOk result (λ decisions. AreDecisions mesh.faces (in_pairs walks.now.walks) decisions.items) }
+) -> Result<Vec<Answer>, Stop>
+    requires { IsSigned mesh }
+    ensures ends { MatchResult result (λ decisions. ArePairsDecided mesh.faces walks.now decisions.items)
+        (Stops (come_in_pairs mesh.faces walks.now)) }
+    ensures no_fault { result ≡ Err Stop.ReadFault → ⊥ }
 {
     let parts = Parts::build(alloc, &mesh.faces, &mesh.sides)?;
     if parts.len() == 1 {
@@ -32,42 +37,101 @@ pub(crate) fn decide_pairs(
         let surface = connected(alloc, mesh)?;
         return decide_in_one(alloc, surface, walks);
     }
-    let asked = Asked {
-        mesh: &mesh,
-        parts: &parts,
-        walks,
-    };
-    decide_in_several(alloc, &asked)
+    decide_apart(alloc, &mesh, &parts, walks)
 }
 
-/// The decisions on the pairs of walks of a connected surface.
-fn decide_in_one(
+/// The decisions on the walks of a surface of several components, pair by pair, or what is first wrong with the walks.
+fn decide_apart(
     alloc: Global,
-    surface: Surface,
+    mesh: &SignedMesh,
+    parts: &Parts,
     walks: &WalkList,
-) -> Result<Vec<Answer>, AllocError>
-    requires { ArePairs surface.mesh walks.now }
-    ensures { IfOk result (λ decisions. AreDecisions surface.mesh (in_pairs walks.now.walks) decisions.items) }
+) -> Result<Vec<Answer>, Stop>
+    requires signed { IsSigned mesh.now }
+    requires parts { AreParts mesh.now.faces parts.now }
+    ensures ends { MatchResult result (λ decisions. ArePairsDecided mesh.now.faces walks.now decisions.items)
+        (Stops (come_in_pairs mesh.now.faces walks.now)) }
+    ensures no_fault { result ≡ Err Stop.ReadFault → ⊥ }
 {
-    let decider = Decider::start(alloc, surface)?;
-    let decisions = decide_all(alloc, &decider, walks);
+    check_list(&mesh.sides, walks)?;
+    let asked = Asked { mesh, parts, walks };
+    Ok(decide_in_several(alloc, &asked)?)
+}
+
+/// The decisions on the walks of a connected surface, pair by pair, or what is first wrong with the walks.
+fn decide_in_one(alloc: Global, surface: Surface, walks: &WalkList) -> Result<Vec<Answer>, Stop>
+    ensures ends { MatchResult result (λ decisions. ArePairsDecided surface.mesh walks.now decisions.items)
+        (Stops (come_in_pairs surface.mesh walks.now)) }
+    ensures no_fault { result ≡ Err Stop.ReadFault → ⊥ }
+{
+    let mut decider = Decider::for_darts(alloc, surface, darts_of(walks))?;
+    let decided = decide_or_refuse(alloc, &mut decider, walks);
     // By a call, which is proved once, and not here again.
     drop(decider);
-    decisions
+    decided
 }
 
-/// The decisions on the pairs of walks of the surface that a decider has.
-fn decide_all(alloc: Global, decider: &Decider, walks: &WalkList) -> Result<Vec<Answer>, AllocError>
-    requires { ArePairs decider.now walks.now }
-    ensures { IfOk result (λ decisions. AreDecisions decider.now (in_pairs walks.now.walks) decisions.items) }
+/// How many darts the walks have together.
+fn darts_of(walks: &WalkList) -> u64 {
+    let mut darts: u64 = 0;
+    for k in 0..walks.len() {
+        darts = darts.saturating_add(u64::from(walks.at(k).darts()));
+    }
+    darts
+}
+
+/// The decisions on the walks of the surface that a decider has, pair by pair, or what is first wrong with the walks.
+fn decide_or_refuse(
+    alloc: Global,
+    decider: &mut Decider,
+    walks: &WalkList,
+) -> Result<Vec<Answer>, Stop>
+    ensures ends { MatchResult result (λ decisions. ArePairsDecided decider.old walks.now decisions.items)
+        (Stops (come_in_pairs decider.old walks.now)) }
+    ensures no_fault { result ≡ Err Stop.ReadFault → ⊥ }
 {
+    if let Some(decisions) = decide_all(alloc, decider, walks)? {
+        return Ok(decisions);
+    }
+    // Some walk is none, or some ends differ. What comes first in the order of refusals is looked for now.
+    check_list(decider.sides(), walks)?;
+    unreachable!()
+}
+
+/// The decisions on the walks of the surface that a decider has, pair by pair; none where they do not come in pairs.
+fn decide_all(
+    alloc: Global,
+    decider: &mut Decider,
+    walks: &WalkList,
+) -> Result<Option<Vec<Answer>>, AllocError>
+    ensures same { decider.new ≡ decider.old }
+    ensures decisions { IfOk result (λ found. MatchOption found (ArePairs decider.old walks.now → ⊥)
+        (λ decisions. ArePairsDecided decider.old walks.now decisions.items)) }
+{
+    if !are_paired(walks) {
+        return Ok(None);
+    }
     let count = walks.len() / 2;
     let mut decisions = Vec::with_capacity(alloc, count as usize)?;
     for k in 0..count {
-        let decision = decider.answer(walks.at(2 * k), walks.at(2 * k + 1))?;
+        let pair = decider.answer_if_pair(walks.at(2 * k), walks.at(2 * k + 1))?;
+        let Some(decision) = pair else {
+            return Ok(None);
+        };
         decisions.push(decision)?;
     }
-    Ok(decisions)
+    Ok(Some(decisions))
+}
+
+/// Whether the number of walks is one of pairs, for the version of the text.
+fn are_paired(walks: &WalkList) -> bool
+    ensures { result ≡ are_paired walks.now.version (length walks.now.walks) }
+{
+    if walks.version() == 2 {
+        walks.len() > 0 && walks.len() % 2 == 0
+    } else {
+        walks.len() == 2
+    }
 }
 
 /// The decisions on the pairs of walks of a surface of several components.

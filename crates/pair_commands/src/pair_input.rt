@@ -1,10 +1,10 @@
 //! Reading the pairs of walks that the command is about.
-ghost use Rattle.std.specs.Prelude.{◌≡◌, IfOk};
+ghost use Rattle.std.specs.Prelude.{◌≡◌, Err, IfOk, MatchResult};
 ghost use Rattle.surf_model.specs.FaceLists.{FaceList};
 ghost use Rattle.surf_model.specs.Edges.{IsTableOf};
 ghost use Rattle.walk_files.specs.PairLists.{ArePairs};
-ghost use Rattle.commands.specs.Stops.{Ends, Reads, Tells};
-ghost use Rattle.pair_commands.specs.PairInput.{pairs_in, pairs_line, ends_line};
+ghost use Rattle.commands.specs.Stops.{Ends, Reads, Stops, Tells};
+ghost use Rattle.pair_commands.specs.PairInput.{come_in_pairs, text_in, pairs_in, pairs_line, ends_line};
 
 use commands::{Input, Phrase, Stop, read_file, refused, refused_at_place, walks_of_bytes};
 use std::alloc::Global;
@@ -27,6 +27,30 @@ pub fn read_pairs<S: Shelf>(
     let walks = walks_of_bytes(alloc, &bytes)?;
     match check_pairs(sides, &walks) {
         Ok(()) => Ok(walks),
+        Err(fault) => Err(stop_for(walks.version(), fault)),
+    }
+}
+
+/// Reads walks, of which nothing is asked yet.
+pub(crate) fn read_list<S: Shelf>(
+    alloc: Global,
+    shelf: &mut S,
+    name: &str,
+) -> Result<WalkList, Stop>
+    ensures { Reads S.held S.faults shelf.old shelf.new (λ files. Ends (text_in files name.now) result) result }
+{
+    let bytes = read_file(alloc, shelf, name, Input::Walks)?;
+    walks_of_bytes(alloc, &bytes)
+}
+
+/// Looks whether walks come in pairs of walks of the mesh with this table.
+pub(crate) fn check_list(sides: &Sides, walks: &WalkList) -> Result<(), Stop>
+    ensures ends { (mesh : FaceList) → IsTableOf mesh sides.now
+        → MatchResult result (λ _. ArePairs mesh walks.now) (Stops (come_in_pairs mesh walks.now)) }
+    ensures no_fault { result ≡ Err Stop.ReadFault → ⊥ }
+{
+    match check_pairs(sides, walks) {
+        Ok(()) => Ok(()),
         Err(fault) => Err(stop_for(walks.version(), fault)),
     }
 }

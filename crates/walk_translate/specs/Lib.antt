@@ -1,1 +1,4 @@
 pub mod SurfaceLabels
+pub mod DartSpokes
+pub mod WalkPairs
+pub mod Spoked

@@ -8,9 +8,12 @@
 //!     let answer = decide(alloc, &surface, &first, &second)?;
 #![tactic(auto)]
 
+mod dart_spokes;
 mod decider;
 mod deciding;
 mod labels;
+mod spoked;
+mod walks;
 
 pub use decider::Decider;
 pub use deciding::{Answer, decide};

@@ -1,0 +1,138 @@
+//! Deciding on walks whose darts are looked up once.
+ghost use Rattle.std.specs.Prelude.{◌≡◌, ◌↔◌, ℕ, ◌+◌, ◌-◌, ◌*◌, ◌^◌, ◌<◌, ◌≤◌, List, length, IsTrue, OnOk, IfOk, IfSome, MatchOption};
+ghost use Rattle.surf_model.specs.Walks.{darts, IsWalk};
+ghost use Rattle.surf_model.specs.Moves.{Homotopic};
+ghost use Rattle.turn_words.specs.Form_laws.{led};
+ghost use Rattle.labellings.specs.QuadPaths.{quad_path};
+ghost use Rattle.labellings.specs.Spokes.{spoke_list};
+ghost use Rattle.walk_translate.specs.WalkPairs.{AreWalkPair};
+
+use crate::dart_spokes::DartSpokes;
+use crate::deciding::Answer;
+use crate::walks::have_common_ends;
+use flat_forms::Flat;
+use halfedge_map::Surface;
+use labellings::GoodLabelling;
+use std::alloc::AllocError;
+use surf_model::{Spoke, Walk};
+use turn_words::{Form, Hyper, Silent, Wheel};
+
+/// A surface with its labels, and the spokes of its darts.
+#[derive(Clone, Copy)]
+pub(crate) struct Spoked<'a> {
+    pub(crate) surface: &'a Surface,
+    pub(crate) good: &'a GoodLabelling,
+    pub(crate) kept: &'a DartSpokes,
+}
+
+impl Spoked<'_> {
+    ghost use Rattle.walk_translate.specs.Spoked.{IsSpoked};
+
+    /// Decides on two lists of vertices, if they are walks of the surface with common ends. The two forms are for its use, over
+    /// more than four spokes.
+    pub(crate) fn answer(
+        &self,
+        one: &mut Hyper,
+        other: &mut Hyper,
+        first: &Walk,
+        second: &Walk,
+    ) -> Result<Option<Answer>, AllocError>
+        requires { IsSpoked self.now }
+        ensures { IfOk result (λ found. MatchOption found (AreWalkPair self.now.surface.now.mesh first.now second.now → ⊥)
+            (λ answer. AreWalkPair self.now.surface.now.mesh first.now second.now
+            × ((answer ≡ Answer.Homotopic) ↔ Homotopic self.now.surface.now.mesh first.now second.now))) }
+    {
+        // The proof reads what holds of every surface.
+        let _ = self.surface.faces();
+        if self.good.labelling().degree() == 4 {
+            self.answer_by(&mut Flat::new(), &mut Flat::new(), first, second)
+        } else {
+            one.restart();
+            other.restart();
+            self.answer_by(one, other, first, second)
+        }
+    }
+
+    /// Decides by two forms that are in the state of the empty word, where states of such forms decide.
+    fn answer_by<F: Form>(
+        &self,
+        one: &mut F,
+        other: &mut F,
+        first: &Walk,
+        second: &Walk,
+    ) -> Result<Option<Answer>, AllocError>
+        requires spoked { IsSpoked self.now }
+        requires own { F.IsOwn self.now.good.now.places }
+        requires one { F.state one.old ≡ F.empty }
+        requires other { F.state other.old ≡ F.empty }
+        requires room { 2 ^ 32 - 2 ≤ F.limit }
+        requires decides { (walk twin : List ℕ) → AreWalkPair self.now.surface.now.mesh walk twin
+            → Homotopic self.now.surface.now.mesh walk twin
+            ↔ (led F.next self.now.good.now.places F.empty (quad_path self.now.surface.now.mesh self.now.good.now walk)
+            ≡ led F.next self.now.good.now.places F.empty (quad_path self.now.surface.now.mesh self.now.good.now twin)) }
+        ensures { IfOk result (λ found. MatchOption found (AreWalkPair self.now.surface.now.mesh first.now second.now → ⊥)
+            (λ answer. AreWalkPair self.now.surface.now.mesh first.now second.now
+            × ((answer ≡ Answer.Homotopic) ↔ Homotopic self.now.surface.now.mesh first.now second.now))) }
+    {
+        // The proof reads what holds of every walk.
+        let _ = (first.darts(), second.darts());
+        if !have_common_ends(first, second)
+            || !self.fold(one, first)?
+            || !self.fold(other, second)?
+        {
+            return Ok(None);
+        }
+        if one.same(other) {
+            Ok(Some(Answer::Homotopic))
+        } else {
+            Ok(Some(Answer::Different))
+        }
+    }
+
+    /// Puts the spokes of a walk's darts into a form, in order, if the vertices are a walk of the surface, and tells whether
+    /// they are. Each dart is looked up once.
+    fn fold<F: Form>(&self, form: &mut F, walk: &Walk) -> Result<bool, AllocError>
+        requires spoked { IsSpoked self.now }
+        requires belongs { F.Belongs self.now.good.now.places (F.state form.old) }
+        requires room { F.size (F.state form.old) + 2 * darts walk.now ≤ F.limit }
+        ensures walk { IfOk result (λ found. IsTrue found ↔ IsWalk self.now.surface.now.mesh walk.now) }
+        ensures state { IfOk result (λ found. IsTrue found → F.state form.new
+            ≡ led F.next self.now.good.now.places (F.state form.old)
+            (quad_path self.now.surface.now.mesh self.now.good.now walk.now)) }
+    {
+        // The proof reads what holds of every surface.
+        let _ = self.surface.faces();
+        let sides = self.surface.sides();
+        if !sides.used(walk.at(0)) {
+            return Ok(false);
+        }
+        for dart in 0..walk.darts() {
+            let (from, to) = (walk.at(dart), walk.at(dart + 1));
+            let Some(edge) = self.kept.edge_between(sides, from, to) else {
+                return Ok(false);
+            };
+            put_spokes(self.good.wheel(), form, self.kept.along(edge, from, to))?;
+        }
+        Ok(true)
+    }
+}
+
+/// Puts the spokes of one dart into a form.
+fn put_spokes<F: Form>(
+    wheel: &Wheel,
+    form: &mut F,
+    spokes: Option<(Spoke, Spoke)>,
+) -> Result<(), AllocError>
+    requires belongs { F.Belongs wheel.now (F.state form.old) }
+    requires below { IfSome spokes (λ pair. (pair.0.0 < length wheel.now) × (pair.1.0 < length wheel.now)) }
+    requires room { F.size (F.state form.old) + 2 ≤ F.limit }
+    ensures state { OnOk result (F.state form.new ≡ led F.next wheel.now (F.state form.old) (spoke_list spokes)) }
+    ensures belongs { OnOk result (F.Belongs wheel.now (F.state form.new)) }
+    ensures size { OnOk result (F.size (F.state form.new) ≤ F.size (F.state form.old) + 2) }
+{
+    let Some((there, back)) = spokes else {
+        return Ok(());
+    };
+    form.act(wheel, there, &mut Silent)?;
+    form.act(wheel, back, &mut Silent)
+}
