@@ -1,4 +1,5 @@
 pub mod ListLemmas
+pub mod ChainLemmas
 pub mod MoveLemmas
 pub mod CountLemmas
 pub mod FaceTreeLemmas

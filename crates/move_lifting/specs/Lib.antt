@@ -9,3 +9,4 @@ pub mod Contractions
 pub mod SpokeWalks
 pub mod StoredWalks
 pub mod Passes
+pub mod PooledWalks

@@ -6,9 +6,11 @@ use Rattle.surf_model.specs.declared.moves.Move.TheVariants.{Remove}
 use Rattle.surf_model.specs.declared.names.VertexName.{VertexName}
 use Rattle.move_lifting.specs.Lifts.{LeadsAtPeak}
 
+-- the walk that is laid, the moves that led to it, and how many more vertices can be laid with no memory for them
 pub record TrackView : Type 0 where
   pub walk : List ℕ
   pub list : PeakedMoves
+  pub spare : ℕ
 
 -- What is done at the end of a walk may be done wherever so many entries stand behind: if the moves before lead to the first walk with
 -- them behind it, the moves after lead to the second walk with them behind it.

@@ -48,7 +48,7 @@ pub(crate) fn put_turn(
     ensures some { IfOk result (λ after. 0 < length after.walk) }
     ensures few { IfOk result (λ after. length after.walk < 2 ^ 31) }
 {
-    let (walk, mut moves) = track.into_parts()?;
+    let (walk, mut moves) = track.into_parts(alloc)?;
     let common = common_start(approach, &walk);
     let whole = there_round_and_back(alloc, approach, &turn.walk, &walk, common)?;
     find_room(whole.len(), walk.len(), behind, turn.moves.peak())?;
@@ -196,7 +196,7 @@ pub(crate) fn reduce_all(
     ensures some { IfOk result (λ track. 0 < length track.walk) }
     ensures few { IfOk result (λ track. length track.walk ≤ length walk.now) }
 {
-    let mut track = Track::start(alloc, walk[0], moves);
+    let mut track = Track::start(alloc, walk[0], walk.len() as u32 - 1, moves)?;
     for place in 1..walk.len() {
         track.put(walk[place], (walk.len() - place - 1) as u32 + behind)?;
     }
