@@ -22,6 +22,7 @@ pub mod ContractLemmas
 pub mod BackLemmas
 pub mod InsertLemmas
 pub mod SpurLemmas
+pub mod InPlaceLemmas
 pub mod TurnLemmas
 pub mod LastLoopLemmas
 pub mod LayLemmas

@@ -1,5 +1,5 @@
 -- Walks for the loops of spokes and for the loop of the last side.
-use Rattle.std.specs.Prelude.{◌≡◌, ℕ, ◌<◌, Bool, false, true, not, List, [], ◌∷◌, ◌++◌, length, drop, slice_index, slice_index_or, IfSome}
+use Rattle.std.specs.Prelude.{ℕ, ◌<◌, Bool, false, true, not, List, [], ◌∷◌, ◌++◌, length, drop, slice_index, slice_index_or, IfSome}
 use Rattle.surf_model.specs.FreeWalks.{AreFreelyEqual, HasNoSpur}
 use Rattle.halfedge_map.specs.OrientedMeshes.{OrientedMesh}
 use Rattle.halfedge_map.specs.DartMaps.{origin_of}

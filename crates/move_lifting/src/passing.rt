@@ -55,7 +55,7 @@ impl Pass<'_> {
             track.list.moves) }
     {
         let mut track = Track::start(alloc, walk[0], walk.len() as u32 - 1, moves)?;
-        let mut pending = Vec::new(alloc);
+        let mut pending = Vec::with_capacity(alloc, self.on.surface.darts() as usize)?;
         for place in 1..walk.len() {
             let left = (walk.len() - place - 1) as u32;
             self.step(&mut track, &mut pending, walk[place], left)?;

@@ -1,11 +1,13 @@
 //! A walk that is edited in place, in cells that were reserved before.
-ghost use Rattle.std.specs.Prelude.{◌≡◌, ◌+◌, ◌-◌, ◌<◌, ◌≤◌, ◌^◌, [], ◌∷◌, ◌++◌, max, length, slice_index, IfOk, OnOk};
-ghost use Rattle.chain_pool.specs.Chains.{cut};
+ghost use Rattle.std.specs.Prelude.{◌≡◌, ◌+◌, ◌-◌, ◌<◌, ◌≤◌, ◌^◌, [], ◌∷◌, ◌++◌, max, length, drop, slice_index, IfOk, OnOk};
+ghost use Rattle.chain_pool.specs.Chains.{IsEdit, IsLive, list_of, cut, spliced};
+ghost use Rattle.surf_model.specs.Vertices.{numbers};
+ghost use Rattle.move_lifting.specs.PooledWalks.{IsPushed};
 
 use chain_pool::{CellName, Pool};
 use std::alloc::{AllocError, Global};
 use std::marker::Model;
-use surf_model::VertexName;
+use surf_model::{VertexName, Walk};
 
 /// A walk as one chain of a pool. An entry that comes takes one of the cells that were reserved before, and one that goes
 /// gives its cell back, so that no edit takes memory.
@@ -92,8 +94,7 @@ impl PooledWalk {
         ensures walk { self.new.walk ≡ self.old.walk ++ vertex.0 ∷ [] }
         ensures spare { self.new.spare + 1 ≡ self.old.spare }
     {
-        let place = self.pool.len(self.chain);
-        self.pool.push_after(self.chain, place, vertex.0);
+        push_vertex(&mut self.pool, self.chain, vertex);
     }
 
     /// The entries from place `from` up to `to`, without `to`, go.
@@ -105,5 +106,61 @@ impl PooledWalk {
         ensures spare { self.new.spare + from ≡ self.old.spare + to }
     {
         self.pool.cut_between(self.chain, from, to);
+    }
+
+    /// A piece is moved in at a place: first these vertices, then a turn without its start, and then those of the way back.
+    ///
+    /// The piece is made as a chain of its own, which costs a cell for a while.
+    pub(crate) fn put_in(
+        &mut self,
+        place: u32,
+        there: &[VertexName],
+        turn: &Walk,
+        back: &[VertexName],
+    )
+        requires place { place ≤ length self.old.walk }
+        requires turn { 0 < length turn.now }
+        requires spare { length there.now + length turn.now + length back.now ≤ self.old.spare }
+        ensures walk { self.new.walk
+            ≡ spliced self.old.walk place (numbers there.now ++ (drop 1 turn.now ++ numbers back.now)) }
+        ensures cells { length self.new.walk + self.new.spare ≡ length self.old.walk + self.old.spare }
+    {
+        let piece = self.pool.start_chain();
+        push_all(&mut self.pool, piece, there);
+        push_turn(&mut self.pool, piece, turn);
+        push_all(&mut self.pool, piece, back);
+        self.pool.splice(self.chain, place, piece);
+    }
+}
+
+/// Puts a vertex last in a chain.
+fn push_vertex(pool: &mut Pool, chain: CellName, vertex: VertexName)
+    requires live { IsLive pool.old chain.0 }
+    requires spare { 0 < pool.old.spare }
+    ensures { IsPushed pool.old pool.new chain (vertex.0 ∷ []) }
+{
+    let place = pool.len(chain);
+    pool.push_after(chain, place, vertex.0);
+}
+
+/// Puts vertices last in a chain.
+fn push_all(pool: &mut Pool, chain: CellName, vertices: &[VertexName])
+    requires live { IsLive pool.old chain.0 }
+    requires spare { length vertices.now ≤ pool.old.spare }
+    ensures { IsPushed pool.old pool.new chain (numbers vertices.now) }
+{
+    for vertex in vertices {
+        push_vertex(pool, chain, *vertex);
+    }
+}
+
+/// Puts the vertices of a walk behind its start last in a chain.
+fn push_turn(pool: &mut Pool, chain: CellName, turn: &Walk)
+    requires live { IsLive pool.old chain.0 }
+    requires spare { length turn.now ≤ pool.old.spare + 1 }
+    ensures { IsPushed pool.old pool.new chain (drop 1 turn.now) }
+{
+    for place in 0..turn.darts() {
+        push_vertex(pool, chain, turn.at(place + 1));
     }
 }

@@ -1,11 +1,11 @@
 //! A walk that is laid vertex by vertex, without spurs, and the moves that led to it.
-ghost use Rattle.std.specs.Prelude.{◌≡◌, ◌+◌, ◌-◌, ◌<◌, ◌≤◌, ◌^◌, ◌↔◌, [], ◌∷◌, ◌++◌, max, length, slice_index, IfOk, OnOk, All, IsTrue};
+ghost use Rattle.std.specs.Prelude.{◌≡◌, ◌+◌, ◌-◌, ◌<◌, ◌≤◌, ◌^◌, ◌↔◌, [], ◌∷◌, ◌++◌, max, length, take, slice_index, IfOk, OnOk, All, IsTrue};
 ghost use Rattle.surf_model.specs.FaceLists.{FaceList};
-ghost use Rattle.surf_model.specs.FreeWalks.{HasNoSpur};
+ghost use Rattle.surf_model.specs.FreeWalks.{AreFreelyEqual, HasNoSpur};
 ghost use Rattle.surf_model.specs.Vertices.{numbers};
 ghost use Rattle.surf_model.specs.Walks.{darts};
 ghost use Rattle.move_lifting.specs.Lifts.{IsRemoval, MoreRemove};
-ghost use Rattle.move_lifting.specs.Tracks.{GoesOn, IsStepBack, GrowsOrShrinks, last_of};
+ghost use Rattle.move_lifting.specs.Tracks.{GoesOn, IsStepBack, IsNextPut, GrowsOrShrinks, last_of};
 
 use crate::lifted::Lifted;
 use crate::pooled_walk::PooledWalk;
@@ -43,6 +43,62 @@ impl Track {
     {
         let laid = PooledWalk::start(alloc, start, more)?;
         Ok(Track { laid, moves })
+    }
+
+    /// The track of a walk whose spurs are taken out in place, with `behind` entries behind it, by moves that come after those
+    /// that led to it. Only the moves take memory.
+    pub(crate) fn reduced(
+        laid: PooledWalk,
+        behind: u32,
+        moves: MoveList,
+    ) -> Result<Track, AllocError>
+        requires some { 0 < length laid.walk }
+        requires room { length laid.walk + behind < 2 ^ 31 }
+        ensures leads { IfOk result (λ track. (mesh : FaceList) → GoesOn mesh behind laid.walk moves track.walk track.list) }
+        ensures freely { IfOk result (λ track. (mesh : FaceList) → AreFreelyEqual mesh laid.walk track.walk) }
+        ensures no_spur { IfOk result (λ track. HasNoSpur track.walk) }
+        ensures last { IfOk result (λ track. last_of track.walk ≡ last_of laid.walk) }
+        ensures some { IfOk result (λ track. 0 < length track.walk) }
+        ensures few { IfOk result (λ track. length track.walk ≤ length laid.walk) }
+    {
+        let entries = laid.len();
+        let mut track = Track { laid, moves };
+        let mut front = 1;
+        for _read in 1..entries {
+            front = track.put_next(front, behind)?;
+        }
+        Ok(track)
+    }
+
+    /// Goes on to the entry behind the first `front` ones, which have no spur, with `behind` entries behind the walk. Where that
+    /// leads straight back, the spur is taken out. The result is how many entries are in front then.
+    fn put_next(&mut self, front: u32, behind: u32) -> Result<u32, AllocError>
+        requires some { 0 < front }
+        requires next { front < length self.old.walk }
+        requires room { length self.old.walk + behind < 2 ^ 31 }
+        requires no_spur { HasNoSpur (take front self.old.walk) }
+        ensures { IfOk result (λ now. IsNextPut behind self.old front self.new now) }
+    {
+        if !self.leads_back(front) {
+            return Ok(front + 1);
+        }
+        let at = front - 2;
+        let via = self.laid.at(front - 1);
+        self.moves
+            .push(Move::Remove { at, via }, self.laid.len() - 3 + behind)?;
+        self.laid.cut(front - 1, front + 1);
+        Ok(front - 1)
+    }
+
+    /// Whether the entry behind the first `front` ones leads straight back to the one before their last.
+    fn leads_back(&mut self, front: u32) -> bool
+        requires { front < length self.old.walk }
+        ensures back { IsTrue result
+            ↔ ((1 < front) × (slice_index self.old.walk (front - 2) ≡ slice_index self.old.walk front)) }
+        ensures same { self.new ≡ self.old }
+    {
+        let next = self.laid.read(front);
+        front > 1 && self.laid.at(front - 2) == next
     }
 
     /// Makes room, so that at least so many more vertices can be laid.
@@ -149,6 +205,15 @@ impl Track {
     {
         let Track { laid: _, moves } = self;
         moves
+    }
+
+    /// The walk that is laid, in its cells, and the moves.
+    pub(crate) fn into_laid(self) -> (PooledWalk, MoveList)
+        ensures walk { result.0 ≡ record { walk = self.walk; spare = self.spare } }
+        ensures list { result.1 ≡ self.list }
+    {
+        let Track { laid, moves } = self;
+        (laid, moves)
     }
 
     /// The vertices that are laid, and the moves.

@@ -15,7 +15,7 @@ loop-place-init c =
     record {
       led = led_first c.args.self.now.on.now.surface.now c.args.self.now.on.now.split.now c.args.self.now.behind walk c.args.moves
           c.in_ok-track.track _ _ some (get_or-map (λ (x : VertexName). x.0) c.args.walk.now 0 _ 0 (omega arith)) c.in_ok-track.ensures;
-      pending = c.new-pending.ensures.items;
+      pending = c.in_ok-pending.ensures.items;
       few = omega (arith, ap (λ (t : TrackView). length t.walk) c.in_ok-track.ensures, c.requires.few);
       cells = omega (arith, long, ap (λ (t : TrackView). t.spare) c.in_ok-track.ensures);
     }
