@@ -21,6 +21,7 @@ use Rattle.tree_cotree.specs.Splits.{SplitView, IsSplit, in_cotree}
 use Rattle.common_ends.proofs.PeakLemmas.{one_more, leads_nowhere}
 use Rattle.common_ends.proofs.TrimLemmas.{last_entry}
 use Rattle.move_lifting.specs.Lifts.{LeadsAtPeak, AvoidsCotree, MoreRemove, MoreLeaveCotree}
+use Rattle.move_lifting.specs.Loads.{load_of, StaysWithin}
 use Rattle.move_lifting.specs.Tracks.{TrackView, GoesOn, GrowsOrShrinks, last_of}
 use Rattle.move_lifting.specs.Crossings.{beyond, IsFaceBelow, IsCrossed}
 use Rattle.move_lifting.specs.declared.crossing.FaceStep.{FaceStep}
@@ -28,6 +29,7 @@ use Rattle.move_lifting.proofs.LeavingLemmas.{none_leave, leave_on, removed_leav
 use Rattle.move_lifting.proofs.ListLemmas.{read_on, one_no_spur}
 use Rattle.move_lifting.proofs.RoundLemmas.{before-from, rest_turned, rest_ends}
 use Rattle.move_lifting.proofs.RestLemmas.{load, load-join, load_long, pair_weight, pair_positive, pair_most, rest_falls}
+use Rattle.move_lifting.proofs.WithinLemmas.{load-joined, darts_weigh, within_itself, within_on, within_put, within_behind}
 
 -- the last entry of a walk that is put on
 pub last-push : (front : List ℕ) (v : ℕ) → last_of (front ++ v ∷ []) ≡ v
@@ -77,6 +79,7 @@ pub record IsUnderWay (s : OrientedMesh) (split : SplitView) (behind to : ℕ) (
   pub falls : (t : IsSplit s split) → load s split t (last_of track.walk ∷ reverse pending) + steps ≤ darts_of s
   pub long : length track.walk ≤ length begun.walk + steps
   pub goes : GoesOn s.mesh behind (begun.walk ++ to ∷ []) begun.list (track.walk ++ reverse pending) track.list
+  pub within : StaysWithin s split behind (begun.walk ++ to ∷ []) begun.list (track.walk ++ reverse pending) track.list
   pub ends : last_of (last_of track.walk ∷ reverse pending) ≡ to
   pub leaves : MoreLeaveCotree s split begun.list.moves track.list.moves
 
@@ -99,6 +102,7 @@ under_way s split o behind to spare begun track pending same is some no_spur off
       falls = λ t. omega (arith, pair_most s split t (last_of begun.walk) to darts_there);
       long = omega arith;
       goes = λ first rest l h. h;
+      within = within_itself s split behind (begun.walk ++ to ∷ []) begun.list;
       ends = refl;
       leaves = none_leave s split begun.list.moves;
     }))
@@ -131,8 +135,9 @@ pub put_on_way : (s : OrientedMesh) (split : SplitView) (behind to : ℕ) (begun
     → ((d : ℕ) → IsDartFrom (rotations_of s) (last_of track.walk) v d → in_cotree split (edge_of s d) ≡ false)
     → ((mesh : FaceList) → GoesOn mesh after (track.walk ++ v ∷ []) track.list new.walk new.list) → HasNoSpur new.walk
     → length new.walk ≤ length track.walk + 1 → last_of new.walk ≡ v → GrowsOrShrinks track.walk new.walk v → 0 < length new.walk
-    → MoreRemove track.list.moves new.list.moves → IsUnderWay s split behind to begun new rest (steps + 1)
-put_on_way s split behind to begun track new pending rest v steps after on popped counted off goes no_spur long last shape some more =
+    → MoreRemove track.list.moves new.list.moves → new.list.peak ≤ max track.list.peak (length track.walk + after)
+    → IsUnderWay s split behind to begun new rest (steps + 1)
+put_on_way s split behind to begun track new pending rest v steps after on popped counted off goes no_spur long last shape some more peak =
     let turned : reverse pending ≡ v ∷ reverse rest = ap (λ (l : List ℕ). reverse l) popped ∙ reverse-push rest v in
     let u : ℕ = last_of track.walk in
     let linked : Linked s.mesh (u ∷ v ∷ reverse rest) = subst (λ (l : List ℕ). Linked s.mesh (u ∷ l)) turned on.linked in
@@ -152,6 +157,12 @@ put_on_way s split behind to begun track new pending rest v steps after on poppe
       long = omega (arith, long, on.long);
       goes = putting_goes s.mesh behind (begun.walk ++ to ∷ []) begun.list track new pending rest v after popped counted on.goes
           (goes s.mesh);
+      within = within_on s split behind (begun.walk ++ to ∷ []) (track.walk ++ v ∷ reverse rest) (new.walk ++ reverse rest) begun.list
+          track.list new.list
+          (subst (λ (l : List ℕ). StaysWithin s split behind (begun.walk ++ to ∷ []) begun.list (track.walk ++ l) track.list) turned
+          on.within)
+          (within_behind s split after behind v track.walk new.walk (reverse rest) track.list new.list some last
+          (omega (arith, counted, length-reverse rest)) (within_put s split after v track new shape peak));
       ends = subst (λ (x : ℕ). last_of (x ∷ reverse rest) ≡ to) (sym last) (last_below u v (reverse rest)
           ∙ subst (λ (l : List ℕ). last_of (u ∷ l) ≡ to) turned on.ends);
       leaves = leave_on s split begun.list.moves track.list.moves new.list.moves on.leaves
@@ -204,7 +215,7 @@ rest_of_step s split valid u v step under =
     }
 
 -- the move across the face
-face_crossed : (s : OrientedMesh) (split : SplitView) (u v : ℕ) (step : FaceStep) (front behind : List ℕ) → IsFaceBelow s split u v step
+pub face_crossed : (s : OrientedMesh) (split : SplitView) (u v : ℕ) (step : FaceStep) (front behind : List ℕ) → IsFaceBelow s split u v step
     → 3 ≤ length (face_at s.mesh step.face.0)
     → apply s.mesh (front ++ u ∷ v ∷ behind) (Across (length front) step.face step.corner step.forward 1)
     ≡ Some (front ++ corners_from (face_at s.mesh step.face.0) (not step.forward) step.corner (length (face_at s.mesh step.face.0) - 1)
@@ -292,6 +303,56 @@ crossing_goes s split valid behind begun list track new rest left v step some go
     track.list new.list
     (subst (LeadsAtPeak s.mesh first track.list) from there) (face_crossed s split u v step front (reverse rest ++ others) under big) noted)
 
+-- what stands there weighs less then, and is as long as the move notes
+pub crossing_within : (s : OrientedMesh) (split : SplitView) → IsFaceList s.mesh → (behind : ℕ) (track new : TrackView) (rest left : List ℕ)
+    (v : ℕ) (step : FaceStep)
+    → 0 < length track.walk → IsFaceBelow s split (last_of track.walk) v step → IsCrossed s.mesh step behind track rest new left
+    → StaysWithin s split behind (track.walk ++ v ∷ reverse rest) track.list (new.walk ++ reverse left) new.list
+crossing_within s split valid behind track new rest left v step some under crossed weight are =
+    let u : ℕ = last_of track.walk in
+    let front : List ℕ = take (length track.walk - 1) track.walk in
+    let round : List ℕ = reverse (beyond s.mesh step) in
+    let around : IsRest s.mesh step u v = rest_of_step s split valid u v step under in
+    let walk_is : track.walk ≡ front ++ u ∷ [] = last_entry track.walk some in
+    let left_is : reverse left ≡ round ++ reverse rest =
+    ap (λ (x : List ℕ). reverse x) crossed.comes ∙ reverse-append rest (beyond s.mesh step) in
+    let from : track.walk ++ v ∷ reverse rest ≡ front ++ u ∷ v ∷ reverse rest =
+    ap (λ (l : List ℕ). l ++ v ∷ reverse rest) walk_is ∙ append_assoc front (u ∷ []) (v ∷ reverse rest) in
+    let to : new.walk ++ reverse left ≡ front ++ u ∷ (round ++ reverse rest) =
+    ap (λ (l : List ℕ). l ++ reverse left) (crossed.walk ∙ walk_is) ∙ append_assoc front (u ∷ []) (reverse left)
+    ∙ ap (λ (l : List ℕ). front ++ u ∷ l) left_is in
+    let ends : u ∷ round ≡ around.front ++ v ∷ [] = sym around.turned ∙ around.ends in
+    let inside : u ∷ (round ++ reverse rest) ≡ around.front ++ v ∷ reverse rest =
+    ap (λ (l : List ℕ). l ++ reverse rest) ends ∙ append_assoc around.front (v ∷ []) (reverse rest) in
+    let falls : load_of weight (u ∷ round) < weight u v = are.falls u v step under in
+    let before = load-joined weight front (v ∷ reverse rest) u in
+    let after = load-joined weight front (round ++ reverse rest) u in
+    let joined = load-joined weight around.front (reverse rest) v in
+    let less : load_of weight (new.walk ++ reverse left) ≤ load_of weight (track.walk ++ v ∷ reverse rest) =
+    omega (
+      arith,
+      falls,
+      before,
+      after,
+      joined,
+      ap (load_of weight) from,
+      ap (load_of weight) to,
+      ap (load_of weight) ends,
+      ap (load_of weight) inside,
+    ) in (
+      less,
+      omega (
+        arith,
+        less,
+        some,
+        darts_weigh weight are.some (new.walk ++ reverse left),
+        length-append new.walk (reverse left),
+        length-reverse left,
+        ap (λ (l : List ℕ). length l) crossed.walk,
+        ap (λ (l : PeakedMoves). l.peak) crossed.list,
+      ),
+    )
+
 -- a step across the face below an edge
 pub cross_on_way : (s : OrientedMesh) (split : SplitView) → IsOrientedSurface s
     → (behind to : ℕ) (begun track new : TrackView) (pending rest left : List ℕ) (v steps : ℕ) (step : FaceStep)
@@ -337,6 +398,11 @@ cross_on_way s split o behind to begun track new pending rest left v steps step 
       goes = crossing_goes s split o.faces behind (begun.walk ++ to ∷ []) begun.list track new rest left v step on.some
           (subst (λ (l : List ℕ). GoesOn s.mesh behind (begun.walk ++ to ∷ []) begun.list (track.walk ++ l) track.list) turned on.goes)
           under crossed;
+      within = within_on s split behind (begun.walk ++ to ∷ []) (track.walk ++ v ∷ reverse rest) (new.walk ++ reverse left) begun.list
+          track.list new.list
+          (subst (λ (l : List ℕ). StaysWithin s split behind (begun.walk ++ to ∷ []) begun.list (track.walk ++ l) track.list) turned
+          on.within)
+          (crossing_within s split o.faces behind track new rest left v step on.some under crossed);
       ends = subst (λ (x : ℕ). last_of (x ∷ reverse left) ≡ to) (sym same_end)
           (ap last_of whole ∙ last-behind around.front (reverse rest) v ∙ sym (last-behind (u ∷ []) (reverse rest) v)
           ∙ subst (λ (l : List ℕ). last_of (u ∷ l) ≡ to) turned on.ends);
@@ -361,6 +427,14 @@ led_on s split behind to begun track pending steps on none =
     let ends : last_of (last_of track.walk ∷ []) ≡ to =
     subst (λ (l : List ℕ). last_of (last_of track.walk ∷ reverse l) ≡ to) none on.ends in
     (subst (λ (l : List ℕ). GoesOn s.mesh behind (begun.walk ++ to ∷ []) begun.list l track.list) (append-nil track.walk) goes, ends)
+
+pub led_within : (s : OrientedMesh) (split : SplitView) (behind to : ℕ) (begun track : TrackView) (pending : List ℕ) (steps : ℕ)
+    → IsUnderWay s split behind to begun track pending steps → pending ≡ []
+    → StaysWithin s split behind (begun.walk ++ to ∷ []) begun.list track.walk track.list
+led_within s split behind to begun track pending steps on none =
+    subst (λ (l : List ℕ). StaysWithin s split behind (begun.walk ++ to ∷ []) begun.list l track.list) (append-nil track.walk)
+    (subst (λ (l : List ℕ). StaysWithin s split behind (begun.walk ++ to ∷ []) begun.list (track.walk ++ reverse l) track.list) none
+    on.within)
 
 -- the numbers of what is pending
 pub none_left : (xs : List VertexName) → length xs ≡ 0 → xs ≡ []
@@ -429,6 +503,7 @@ pub record IsLedSoFar (s : OrientedMesh) (split : SplitView) (behind : ℕ) (wal
   pub no_spur : HasNoSpur track.walk
   pub last : last_of track.walk ≡ get_or walk (n - 1) 0
   pub goes : GoesOn s.mesh behind walk begun (track.walk ++ drop n walk) track.list
+  pub within : StaysWithin s split behind walk begun (track.walk ++ drop n walk) track.list
   pub leaves : MoreLeaveCotree s split begun.moves track.list.moves
 
 pub led_first : (s : OrientedMesh) (split : SplitView) (behind : ℕ) (walk : List ℕ) (begun : PeakedMoves) (track : TrackView) (v spare : ℕ)
@@ -442,6 +517,7 @@ led_first s split behind walk begun track v spare some is start =
       no_spur = one_no_spur v;
       last = sym is;
       goes = λ first rest l h. subst (λ (w : List ℕ). LeadsAtPeak s.mesh first begun (w ++ rest)) whole h;
+      within = subst (λ (w : List ℕ). StaysWithin s split behind walk begun w begun) whole (within_itself s split behind walk begun);
       leaves = none_leave s split begun.moves;
     })
 
@@ -449,8 +525,9 @@ pub led_more : (s : OrientedMesh) (split : SplitView) (behind : ℕ) (walk : Lis
     (n v after : ℕ)
     → IsLedSoFar s split behind walk begun track n → n < length walk → get_or walk n 0 ≡ v → after ≡ length walk - n - 1 + behind
     → GoesOn s.mesh after (track.walk ++ v ∷ []) track.list new.walk new.list → 0 < length new.walk → HasNoSpur new.walk
-    → last_of new.walk ≡ v → MoreLeaveCotree s split track.list.moves new.list.moves → IsLedSoFar s split behind walk begun new (n + 1)
-led_more s split behind walk begun track new n v after led l is counted goes some no_spur last more =
+    → last_of new.walk ≡ v → MoreLeaveCotree s split track.list.moves new.list.moves
+    → StaysWithin s split after (track.walk ++ v ∷ []) track.list new.walk new.list → IsLedSoFar s split behind walk begun new (n + 1)
+led_more s split behind walk begun track new n v after led l is counted goes some no_spur last more within =
     let place : n + 1 - 1 ≡ n = omega arith in
     record {
       some = some;
@@ -465,6 +542,13 @@ led_more s split behind walk begun track new n v after led l is counted goes som
           length-append (drop (n + 1) walk) rest ∙ omega (arith, length-drop (n + 1) walk, k, counted) in
           subst (LeadsAtPeak s.mesh first new.list) (sym (append_assoc new.walk (drop (n + 1) walk) rest))
           (goes first (drop (n + 1) walk ++ rest) count (subst (LeadsAtPeak s.mesh first track.list) read there));
+      within =
+          let read : track.walk ++ drop n walk ≡ track.walk ++ v ∷ drop (n + 1) walk =
+          read_on track.walk walk n v l is ∙ append_assoc track.walk (v ∷ []) (drop (n + 1) walk) in
+          within_on s split behind walk (track.walk ++ v ∷ drop (n + 1) walk) (new.walk ++ drop (n + 1) walk) begun track.list new.list
+          (subst (λ (w : List ℕ). StaysWithin s split behind walk begun w track.list) read led.within)
+          (within_behind s split after behind v track.walk new.walk (drop (n + 1) walk) track.list new.list some last
+          (omega (arith, counted, length-drop (n + 1) walk)) within);
       leaves = leave_on s split begun.moves track.list.moves new.list.moves led.leaves more;
     }
 
@@ -477,6 +561,12 @@ led_all s split behind walk begun track n led all = (
       (ap (λ (w : List ℕ). track.walk ++ w) (drop_all n walk (omega arith)) ∙ append-nil track.walk) led.goes,
   led.last ∙ ap (λ (k : ℕ). get_or walk (k - 1) 0) all,
 )
+
+pub led_all_within : (s : OrientedMesh) (split : SplitView) (behind : ℕ) (walk : List ℕ) (begun : PeakedMoves) (track : TrackView) (n : ℕ)
+    → IsLedSoFar s split behind walk begun track n → n ≡ length walk → StaysWithin s split behind walk begun track.walk track.list
+led_all_within s split behind walk begun track n led all =
+    subst (λ (w : List ℕ). StaysWithin s split behind walk begun w track.list)
+    (ap (λ (w : List ℕ). track.walk ++ w) (drop_all n walk (omega arith)) ∙ append-nil track.walk) led.within
 
 -- a walk that is led on from itself
 pub led_whole : (s : OrientedMesh) (walk vertices : List ℕ) (begun : PeakedMoves) (track : TrackView) → vertices ≡ walk

@@ -5,6 +5,7 @@ use Rattle.chain_pool.specs.Chains.{cut}
 use Rattle.surf_model.specs.FaceLists.{FaceList}
 use Rattle.surf_model.specs.FreeWalks.{AreFreelyEqual, HasNoSpur}
 use Rattle.surf_model.specs.Moves.{PeakedMoves}
+use Rattle.surf_model.specs.Walks.{darts}
 use Rattle.surf_model.specs.declared.moves.Move.TheVariants.{Remove}
 use Rattle.surf_model.specs.declared.names.VertexName.{VertexName}
 use Rattle.move_lifting.specs.Lifts.{LeadsAtPeak}
@@ -36,6 +37,7 @@ next_on behind track front l no_spur other =
           other k (omega (arith, e, long)) (sym (get_or-take front track.walk k 0 (omega (arith, e, long))) ∙ same)));
       last = ap last_of more ∙ last-push laid next;
       long = omega arith;
+      peak = omega arith;
       shape = inl more;
     }
 
@@ -98,6 +100,7 @@ next_back behind old new front via some l no_spur same read walk_is noted =
       no_spur = subst HasNoSpur (sym here) (step_back_no_spur after before then no_spur back);
       last = ap last_of here ∙ last;
       long = omega arith;
+      peak = omega (arith, ap (λ (p : PeakedMoves). p.peak) noted);
       shape = inr (via.0, laid_is ∙ ap (λ (w : List ℕ). w ++ via.0 ∷ []) (sym here));
     }
 
@@ -156,7 +159,7 @@ in_place_more behind walk begun track new front next n now begins l put =
     record {
       so_far = reduced_more behind walk begun (front_of track front) (front_of new next) n v (length track.walk - front - 1 + behind)
           now.so_far begins l entry (omega (arith, count, now.within)) put.leads (omega (arith, put_long, put.some)) put.no_spur put.last
-          (omega (arith, put_long, laid_long, put.long)) put.shape;
+          (omega (arith, put_long, laid_long, put.long)) put.shape (omega (arith, put.peak, laid_long, count, now.within, l));
       some = put.some;
       within = put.within;
       rest = put.rest ∙ sym (drop-drop 1 front track.walk) ∙ ap (λ (w : List ℕ). drop 1 w) now.rest ∙ drop-drop 1 n walk;
@@ -169,6 +172,7 @@ pub record IsReduced (behind : ℕ) (walk : List ℕ) (begun : PeakedMoves) (tra
   pub no_spur : HasNoSpur track.walk
   pub last : last_of track.walk ≡ last_of walk
   pub few : length track.walk ≤ length walk
+  pub peak : track.list.peak ≤ max begun.peak (darts walk + behind)
 
 pub in_place_all : (behind : ℕ) (walk : List ℕ) (begun : PeakedMoves) (track : TrackView) (front n : ℕ)
     → IsReducedInPlace behind walk begun track front n → n ≡ length walk → IsReduced behind walk begun track
@@ -183,4 +187,5 @@ in_place_all behind walk begun track front n now all =
       no_spur = subst HasNoSpur whole now.so_far.no_spur;
       last = ap last_of (sym whole) ∙ end.2;
       few = omega (arith, ap (λ (w : List ℕ). length w) whole, now.so_far.long, all);
+      peak = now.so_far.peak;
     }

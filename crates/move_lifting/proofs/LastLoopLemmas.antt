@@ -37,9 +37,11 @@ use Rattle.polygon_cut.proofs.WayLemmas.{back}
 use Rattle.common_ends.proofs.PeakLemmas.{leads_nowhere, one_more}
 use Rattle.move_lifting.specs.Crossings.{IsStepOf, IsStepFrom}
 use Rattle.move_lifting.specs.Lifts.{LeadsAtPeak, MoreLeaveCotree, AvoidsCotree}
+use Rattle.move_lifting.specs.Loads.{load_of}
 use Rattle.move_lifting.specs.LoopsPutIn.{signed_loop}
 use Rattle.move_lifting.specs.Tracks.{TrackView}
 use Rattle.move_lifting.specs.declared.crossing.FaceStep.{FaceStep}
+use Rattle.move_lifting.proofs.RestLemmas.{pair_weight, root_round}
 
 -- the step from where a dart starts, from the side that the dart is
 pub step_is_from : (s : OrientedMesh) (d : ℕ) (side : Side) (back flipped : Bool) (step : FaceStep) → IsSide s.mesh side
@@ -127,6 +129,7 @@ pub record IsAllRound (s : OrientedMesh) (split : SplitView) (polygon : PolygonV
     (around : List ℕ) : Type 0 where
   pub is_walk : IsWalk s.mesh around
   pub long : length around ≤ darts_of s + 1
+  pub light : (t : IsSplit s split) → load_of (pair_weight s split t) around ≤ darts_of s
   pub leads : apply s.mesh (origin_of s (last_side polygon) ∷ []) (Across 0 step.face step.corner (not step.forward) 0) ≡ Some around
   pub goes : ((back ≡ false) × (around ≡ way_round s split (last_side polygon)))
       ⊎ ((back ≡ true) × (around ≡ way_back_round s split (last_side polygon)))
@@ -187,6 +190,8 @@ is_all_round s split polygon o c some back turned around l along is =
         length-corners_from ring turned.forward (start_corner_of s d) (length ring),
         get_or-le-sum_by (λ (l : List ℕ). length l) s.mesh.faces (face_of s d) [] at.in_list,
       );
+      light = λ t. subst (λ (l : List ℕ). load_of (pair_weight s split t) l ≤ darts_of s) (sym read)
+          (root_round s split o t (face_of s d) (start_corner_of s d) turned.forward root at.in_list at.in_face);
       is_walk = keeps_walk s.mesh (v ∷ []) around (Across 0 turned.face turned.corner (not turned.forward) 0) one leads;
       leads = leads;
       goes = by ring rising (start_corner_of s d) v rest around (way_round s split d) read round at.in_face at.vertex begins back

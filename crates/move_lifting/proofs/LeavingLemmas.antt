@@ -46,6 +46,18 @@ pub removed_leave : (s : OrientedMesh) (split : SplitView) (a b : List Move) →
 removed_leave s split a b more = (more.0, more.1, λ k d l. removal_leaves s split _ (more.2 k d l))
 
 -- and so is a step across the face below an edge
+pub step_leaves : (s : OrientedMesh) (split : SplitView) (u v at : ℕ) (step : FaceStep) → IsFaceBelow s split u v step
+    → LeavesCotree s split (Across at step.face step.corner step.forward 1)
+step_leaves s split u v at step under = record {
+  dart = under.dart;
+  within = under.from.within;
+  below = under.below;
+  corner_in = under.is_step.corner;
+  starts = under.starts ∙ sym under.from.starts;
+  ends = under.ends ∙ sym under.from.ends;
+  one = refl;
+}
+
 pub crossed_leaves : (s : OrientedMesh) (split : SplitView) (u v behind : ℕ) (step : FaceStep) (old new : TrackView) (pending left : List ℕ)
     → IsFaceBelow s split u v step
     → IsCrossed s.mesh step behind old pending new left → MoreLeaveCotree s split old.list.moves new.list.moves
@@ -53,15 +65,7 @@ crossed_leaves s split u v behind step old new pending left under crossed = (
   Across (darts old.walk) step.face step.corner step.forward 1 ∷ [],
   ap (λ l. l.moves) crossed.list,
   All-cons (LeavesCotree s split) (Across (darts old.walk) step.face step.corner step.forward 1) []
-      (record {
-        dart = under.dart;
-        within = under.from.within;
-        below = under.below;
-        corner_in = under.is_step.corner;
-        starts = under.starts ∙ sym under.from.starts;
-        ends = under.ends ∙ sym under.from.ends;
-        one = refl;
-      })
+      (step_leaves s split u v (darts old.walk) step under)
       (All-nil (LeavesCotree s split)),
 )
 

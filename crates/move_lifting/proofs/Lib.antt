@@ -8,7 +8,10 @@ pub mod RoundLemmas
 pub mod RestLemmas
 pub mod CrossingLemmas
 pub mod LeavingLemmas
+pub mod WithinLemmas
 pub mod ExpandLemmas
+pub mod BoundLemmas
+pub mod OffCotreeLemmas
 pub mod TreeLiftLemmas
 pub mod CloseLemmas
 pub mod PathLemmas
@@ -19,11 +22,14 @@ pub mod StartLemmas
 pub mod PassLemmas
 pub mod LiftLemmas
 pub mod ContractLemmas
+pub mod ShortStepLemmas
 pub mod BackLemmas
 pub mod InsertLemmas
 pub mod SpurLemmas
 pub mod InPlaceLemmas
+pub mod ShortestLemmas
 pub mod TurnLemmas
+pub mod BackPeakLemmas
 pub mod LastLoopLemmas
 pub mod LayLemmas
 pub mod TreeUpLemmas
@@ -31,3 +37,4 @@ pub mod StoredWalkLemmas
 pub mod ApproachLemmas
 pub mod FrontLemmas
 pub mod LoopInLemmas
+pub mod LoopRiseLemmas

@@ -9,7 +9,7 @@ use Rattle.halfedge_map.specs.DartMaps.{darts_of}
 use Rattle.halfedge_map.specs.RotationSystems.{Rotations, rotations_of, IsRotationSystem}
 use Rattle.halfedge_map.proofs.SystemLemmas.{rotation_system, names_all}
 use Rattle.tree_cotree.specs.Splits.{SplitView, IsSplit, child_face, StepsUp}
-use Rattle.move_lifting.proofs.CountLemmas.{sum_below, sum_same, disjoint_counts_less, count_most, count_some, count_one}
+use Rattle.move_lifting.proofs.CountLemmas.{sum_below, sum_same, disjoint_counts, disjoint_counts_less, count_most, count_some, count_one}
 use Rattle.move_lifting.proofs.FaceTreeLemmas.{below, below_itself, below_higher, below_once, not_above, not_itself}
 
 -- whether a dart hangs below the edge of a dart; below an edge that is not of the cotree hangs the dart alone
@@ -103,6 +103,81 @@ one_below s split o t x h f l k in_f h_in is same =
           absurd (not_itself s split o t f step)
     ]
 
+-- darts of a face, each apart from the others
+pub record AreInFace (s : OrientedMesh) (f k : ℕ) (x : ℕ → ℕ) : Type 0 where
+  pub within : (j : ℕ) → j < k → x j < darts_of s
+  pub inside : (j : ℕ) → j < k → (rotations_of s).face (x j) ≡ f
+  pub apart : (i j : ℕ) → i < j → j < k → x i ≢ x j
+
+-- where the faces below their edges step up to the face, nothing hangs below two of them
+hang_apart : (s : OrientedMesh) (split : SplitView) → IsOrientedSurface s → (t : IsSplit s split) → (f k : ℕ) (x : ℕ → ℕ)
+    → AreInFace s f k x
+    → ((j c : ℕ) → j < k → child_face (rotations_of s) split ((rotations_of s).edge (x j)) ≡ Some c → StepsUp (rotations_of s) split c f)
+    → (i j z : ℕ) → i < j → j < k → z < darts_of s
+    → hangs_at s split t (child_face (rotations_of s) split ((rotations_of s).edge (x i))) (x i) z ≡ true
+    → hangs_at s split t (child_face (rotations_of s) split ((rotations_of s).edge (x j))) (x j) z ≡ true → ⊥
+unfolding hangs_at
+hang_apart s split o t f k x are up i j z i_j m z_in = by (child_face (rotations_of s) split ((rotations_of s).edge (x i)))
+    (child_face (rotations_of s) split ((rotations_of s).edge (x j))) refl refl
+  where
+    m_i : i < k
+    m_i = omega arith
+
+    -- a dart of the face f hangs below no face under f
+    not_lower : (i j c z : ℕ) → i < k → j < k → child_face (rotations_of s) split ((rotations_of s).edge (x j)) ≡ Some c → z ≡ x i
+        → below s split t c ((rotations_of s).face z) ≡ true → ⊥
+    not_lower i j c z m_i m_j below_x same hit =
+        not_above s split o t c f (up j c m_j below_x)
+        (ap (below s split t c) (sym (ap (rotations_of s).face same ∙ are.inside i m_i)) ∙ hit)
+
+    by : (c d : Option ℕ) → child_face (rotations_of s) split ((rotations_of s).edge (x i)) ≡ c
+        → child_face (rotations_of s) split ((rotations_of s).edge (x j)) ≡ d
+        → hangs_at s split t c (x i) z ≡ true → hangs_at s split t d (x j) z ≡ true → ⊥
+    by None None _ _ a b = are.apart i j i_j m (sym (eqb-true z (x i) a) ∙ eqb-true z (x j) b)
+    by None (Some d) _ below_j a b = not_lower i j d z m_i m below_j (eqb-true z (x i) a) b
+    by (Some c) None below_i _ a b = not_lower j i c z m m_i below_i (eqb-true z (x j) b) a
+    by (Some c) (Some d) below_i below_j a b =
+        let same : c ≡ d =
+        below_once s split o t c d f ((rotations_of s).face z) (up i c m_i below_i) (up j d m below_j)
+        ((names_all s o).face_below z z_in) a b in
+        let edges : (rotations_of s).edge (x i) ≡ (rotations_of s).edge (x j) =
+        t.child_faces.once ((rotations_of s).edge (x i)) ((rotations_of s).edge (x j)) d (below_i ∙ ap Some same) below_j in
+        elim (((rotation_system s o).edges (x i) (x j) (are.within i m_i) (are.within j m)).0 edges) [
+          | inl one ↦ are.apart i j i_j m (sym one)
+          | inr turned ↦
+              let dart = t.child_faces.step ((rotations_of s).edge (x i)) c below_i in
+              let c_is_f : c ≡ f = elim (((rotation_system s o).edges (x i) dart.0 (are.within i m_i) dart.1).0 (sym dart.2)) [
+                | inl here ↦ sym dart.3 ∙ ap (rotations_of s).face here ∙ are.inside i m_i
+                | inr there ↦ sym dart.3 ∙ ap (rotations_of s).face (there ∙ sym turned) ∙ are.inside j m
+              ] in
+              not_itself s split o t f (subst (λ (y : ℕ). StepsUp (rotations_of s) split y f) c_is_f (up i c m_i below_i))
+        ]
+
+-- what darts weigh is what hangs below their edges
+counted : (s : OrientedMesh) (split : SplitView) (t : IsSplit s split) (k : ℕ) (x : ℕ → ℕ) → ((j : ℕ) → j < k → x j < darts_of s)
+    → sum_below (λ j. weight s split t ((rotations_of s).edge (x j))) k
+    ≡ sum_below
+    (λ j. count_below (hangs_at s split t (child_face (rotations_of s) split ((rotations_of s).edge (x j))) (x j)) (darts_of s)) k
+counted s split t k x within =
+    sum_same (λ j. weight s split t ((rotations_of s).edge (x j)))
+    (λ j. count_below (hangs_at s split t (child_face (rotations_of s) split ((rotations_of s).edge (x j))) (x j)) (darts_of s)) k
+    (λ j m. weight_is s split t (x j) (within j m))
+
+-- darts of the root face weigh no more together than there are darts
+pub root_weights : (s : OrientedMesh) (split : SplitView) → IsOrientedSurface s → (t : IsSplit s split) → (f k : ℕ) (x : ℕ → ℕ)
+    → f ≡ split.root_face → AreInFace s f k x → sum_below (λ j. weight s split t ((rotations_of s).edge (x j))) k ≤ darts_of s
+root_weights s split o t f k x root are =
+    let n : ℕ = darts_of s in
+    let maps : Rotations = rotations_of s in
+    let p : ℕ → ℕ → Bool = λ j. hangs_at s split t (child_face (rotations_of s) split (maps.edge (x j))) (x j) in
+    let up : (j c : ℕ) → j < k → child_face (rotations_of s) split (maps.edge (x j)) ≡ Some c → StepsUp (rotations_of s) split c f =
+    λ j c m below_x. steps_up s split o t (x j) c f (are.within j m) (are.inside j m) below_x
+    (λ same. t.child_faces.not_root (maps.edge (x j)) (below_x ∙ ap Some (same ∙ root))) in
+    let most : sum_below (λ j. count_below (p j) n) k ≤ count_below (λ z. true) n =
+    disjoint_counts p (λ z. true) k n (λ j z m z_in hit. refl)
+    (λ i j z i_j m z_in. hang_apart s split o t f k x are up i j z i_j m z_in) in
+    omega (arith, counted s split t k x are.within, most, count_most (λ z. true) n)
+
 -- darts of a face f besides the one on the edge above f
 pub record AreBeside (s : OrientedMesh) (f h k : ℕ) (x : ℕ → ℕ) : Type 0 where
   pub within : (j : ℕ) → j < k → x j < darts_of s
@@ -121,13 +196,11 @@ weights_fall s split o t f h k x l h_in is are =
     let maps : Rotations = rotations_of s in
     let q : ℕ → Bool = λ z. below s split t f (maps.face z) in
     let p : ℕ → ℕ → Bool = λ j. hangs_at s split t (child_face (rotations_of s) split (maps.edge (x j))) (x j) in
-    let counted : sum_below (λ j. weight s split t (maps.edge (x j))) k ≡ sum_below (λ j. count_below (p j) n) k =
-    sum_same (λ j. weight s split t (maps.edge (x j))) (λ j. count_below (p j) n) k (λ j m. weight_is s split t (x j) (are.within j m)) in
     let h_passes : q h ≡ true = ap (below s split t f) h_in ∙ below_itself s split t f in
     let less : sum_below (λ j. count_below (p j) n) k + 1 ≤ count_below q n =
     disjoint_counts_less p q k n h l h_passes (λ j z m z_in. inside j z m z_in) (λ j m. left_out j m)
     (λ i j z i_j m z_in. apart i j z i_j m z_in) in
-    omega (arith, counted, less, weight_some s split t (maps.edge h) f is)
+    omega (arith, counted s split t k x are.within, less, weight_some s split t (maps.edge h) f is)
   where
     maps : Rotations
     maps = rotations_of s
@@ -157,41 +230,9 @@ weights_fall s split o t f h k x l h_in is are =
         by None _ hit = are.beside j m (sym (eqb-true h (x j) hit))
         by (Some c) below_x hit = not_above s split o t c f (up j c m below_x) (ap (below s split t c) (sym h_in) ∙ hit)
 
-    -- a dart of the face f hangs below no face under f
-    not_lower : (i j c z : ℕ) → i < k → j < k → child_face (rotations_of s) split ((rotations_of s).edge (x j)) ≡ Some c → z ≡ x i
-        → below s split t c ((rotations_of s).face z) ≡ true → ⊥
-    not_lower i j c z m_i m_j below_x same hit =
-        not_above s split o t c f (up j c m_j below_x)
-        (ap (below s split t c) (sym (ap (rotations_of s).face same ∙ are.inside i m_i)) ∙ hit)
-
     apart : (i j z : ℕ) → i < j → j < k → z < darts_of s
         → hangs_at s split t (child_face (rotations_of s) split ((rotations_of s).edge (x i))) (x i) z ≡ true
         → hangs_at s split t (child_face (rotations_of s) split ((rotations_of s).edge (x j))) (x j) z ≡ true → ⊥
-    apart i j z i_j m z_in = by (child_face (rotations_of s) split ((rotations_of s).edge (x i)))
-        (child_face (rotations_of s) split ((rotations_of s).edge (x j))) refl refl
-      where
-        m_i : i < k
-        m_i = omega arith
-
-        by : (c d : Option ℕ) → child_face (rotations_of s) split ((rotations_of s).edge (x i)) ≡ c
-            → child_face (rotations_of s) split ((rotations_of s).edge (x j)) ≡ d
-            → hangs_at s split t c (x i) z ≡ true → hangs_at s split t d (x j) z ≡ true → ⊥
-        by None None _ _ a b = are.apart i j i_j m (sym (eqb-true z (x i) a) ∙ eqb-true z (x j) b)
-        by None (Some d) _ below_j a b = not_lower i j d z m_i m below_j (eqb-true z (x i) a) b
-        by (Some c) None below_i _ a b = not_lower j i c z m m_i below_i (eqb-true z (x j) b) a
-        by (Some c) (Some d) below_i below_j a b =
-            let same : c ≡ d =
-            below_once s split o t c d f ((rotations_of s).face z) (up i c m_i below_i) (up j d m below_j)
-            ((names_all s o).face_below z z_in) a b in
-            let edges : (rotations_of s).edge (x i) ≡ (rotations_of s).edge (x j) =
-            t.child_faces.once ((rotations_of s).edge (x i)) ((rotations_of s).edge (x j)) d (below_i ∙ ap Some same) below_j in
-            elim (((rotation_system s o).edges (x i) (x j) (are.within i m_i) (are.within j m)).0 edges) [
-              | inl one ↦ are.apart i j i_j m (sym one)
-              | inr turned ↦
-                  let dart = t.child_faces.step ((rotations_of s).edge (x i)) c below_i in
-                  let c_is_f : c ≡ f = elim (((rotation_system s o).edges (x i) dart.0 (are.within i m_i) dart.1).0 (sym dart.2)) [
-                    | inl here ↦ sym dart.3 ∙ ap (rotations_of s).face here ∙ are.inside i m_i
-                    | inr there ↦ sym dart.3 ∙ ap (rotations_of s).face (there ∙ sym turned) ∙ are.inside j m
-                  ] in
-                  not_itself s split o t f (subst (λ (y : ℕ). StepsUp (rotations_of s) split y f) c_is_f (up i c m_i below_i))
-            ]
+    apart =
+        hang_apart s split o t f k x (record { within = are.within; inside = are.inside; apart = are.apart })
+        (λ j c m below_x. up j c m below_x)

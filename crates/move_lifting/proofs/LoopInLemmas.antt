@@ -104,7 +104,7 @@ front_free s split o t polygon c some ways h y y_is walks all false (i ∷ path)
     (front_free s split o t polygon c some ways h y y_is walks all true path (λ k d l. made (suc k) d (omega arith)))
 
 -- a loop, up the tree before it and down the tree behind it
-whole_way : (mesh : FaceList) (root : ℕ) (ways : ℕ → List ℕ) (w : HasWays mesh root ways) (u v : ℕ) (loop : Loop mesh root)
+pub whole_way : (mesh : FaceList) (root : ℕ) (ways : ℕ → List ℕ) (w : HasWays mesh root ways) (u v : ℕ) (loop : Loop mesh root)
     → IsTrue (is_used mesh u) → IsTrue (is_used mesh v)
     → IsWay mesh u v (ways u ++ (loop.rest ++ back v (ways v)))
 whole_way mesh root ways w u v loop u_used v_used =
@@ -135,7 +135,8 @@ own_loop mesh root ways w u v loop k =
     (root ∷ loop.rest) front end)
 
 -- so is that of a walk that spur moves lead to it
-loop_by : (mesh : FaceList) (root : ℕ) (ways : ℕ → List ℕ) (w : HasWays mesh root ways) (u v : ℕ) (rest : List ℕ) (loop : Loop mesh root)
+pub loop_by : (mesh : FaceList) (root : ℕ) (ways : ℕ → List ℕ) (w : HasWays mesh root ways) (u v : ℕ) (rest : List ℕ)
+    (loop : Loop mesh root)
     (k : IsWay mesh u v rest)
     → AreFreelyEqual mesh (u ∷ rest) (by_loop ways u v loop.rest) → SameFreely (loop_of mesh root ways w u v rest k) loop
 loop_by mesh root ways w u v rest loop k free =
@@ -249,7 +250,7 @@ abbrev pub approach_by : (ℕ → List ℕ) → ℕ → ℕ → List ℕ → Lis
 approach_by ways x y laid = x ∷ (ways x ++ (backward y (ways y) ++ laid))
 
 -- the way along the walks is the way along the loops, up the tree before it and down the tree behind it
-approach_free : (s : OrientedMesh) (split : SplitView) → IsOrientedSurface s → (t : IsSplit s split) → (polygon : PolygonView)
+pub approach_free : (s : OrientedMesh) (split : SplitView) → IsOrientedSurface s → (t : IsSplit s split) → (polygon : PolygonView)
     → IsCutFrom s split polygon
     → 0 < polygon.degree → (ways : ℕ → List ℕ) → AreWaysUp s split t.parents.root ways → (walks : List (List ℕ))
     → AreSpokeWalks s split polygon walks → (front : List ℕ) → All (HasWalk walks) front

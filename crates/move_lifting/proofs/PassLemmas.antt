@@ -1,7 +1,7 @@
 -- Passes over a walk: a face is crossed, and the vertices of its rest are put on the track.
-use Rattle.std.proofs.Common.{◌≡◌, ℕ, ◌+◌, ◌-◌, ◌<◌, ◌≤◌, List, [], ◌∷◌, ◌++◌, length, take, refl, ap, sym, ◌∙◌, subst, arith, append_assoc, length-append}
+use Rattle.std.proofs.Common.{◌≡◌, ℕ, ◌+◌, ◌-◌, ◌<◌, ◌≤◌, max, List, [], ◌∷◌, ◌++◌, length, take, refl, ap, sym, ◌∙◌, subst, arith, append_assoc, length-append}
 use Rattle.std.specs.Prelude.{reverse, Result, Ok, Err, OnOk}
-use Rattle.std.proofs.lemmas.List.{append-nil}
+use Rattle.std.proofs.lemmas.List.{append-nil, length-reverse}
 use Rattle.std.proofs.lemmas.List.Elements.{All-append}
 use Rattle.surf_model.specs.FaceLists.{FaceList, face_at}
 use Rattle.surf_model.specs.FreeWalks.{HasNoSpur}
@@ -17,11 +17,13 @@ use Rattle.common_ends.proofs.TrimLemmas.{last_entry, walk_front}
 use Rattle.move_lifting.specs.Contractions.{IsLedFrom}
 use Rattle.move_lifting.specs.Crossings.{beyond, IsFaceBelow, IsCrossed}
 use Rattle.move_lifting.specs.Lifts.{IsRemoval, MoreRemove, MoreLeaveCotree}
+use Rattle.move_lifting.specs.Loads.{StaysWithin}
 use Rattle.move_lifting.specs.Passes.{IsPassedFrom}
-use Rattle.move_lifting.specs.Tracks.{TrackView, GoesOn, last_of}
+use Rattle.move_lifting.specs.Tracks.{TrackView, GoesOn, GrowsOrShrinks, last_of}
 use Rattle.move_lifting.specs.declared.crossing.FaceStep.{FaceStep}
-use Rattle.move_lifting.proofs.ExpandLemmas.{crossing_goes, last-push, last-behind, one_pending, putting_goes, rest_of_step, reverse-push, length-numbers}
+use Rattle.move_lifting.proofs.ExpandLemmas.{crossing_goes, crossing_within, last-push, last-behind, one_pending, putting_goes, rest_of_step, reverse-push, length-numbers}
 use Rattle.move_lifting.proofs.LeavingLemmas.{crossed_leaves, leave_on, none_leave}
+use Rattle.move_lifting.proofs.WithinLemmas.{within_itself, within_on, within_put, within_behind}
 
 -- removals come one after another
 pub removed_on : (a b c : List Move) → MoreRemove a b → MoreRemove b c → MoreRemove a c
@@ -46,13 +48,16 @@ pub record ArePutSoFar (behind : ℕ) (begun : TrackView) (were : List ℕ) (tra
   pub leads : (mesh : FaceList)
       → GoesOn mesh behind (begun.walk ++ reverse were) begun.list (track.walk ++ reverse (numbers pending)) track.list
   pub removals : MoreRemove begun.list.moves track.list.moves
+  pub within : (s : OrientedMesh) (split : SplitView)
+      → StaysWithin s split behind (begun.walk ++ reverse were) begun.list (track.walk ++ reverse (numbers pending)) track.list
 
 pub put_more : (behind : ℕ) (begun : TrackView) (were : List ℕ) (track new : TrackView) (pending rest : List VertexName) (v : VertexName)
     (after : ℕ) → ArePutSoFar behind begun were track pending → pending ≡ rest ++ v ∷ [] → after ≡ length rest + behind
     → ((mesh : FaceList) → GoesOn mesh after (track.walk ++ v.0 ∷ []) track.list new.walk new.list) → HasNoSpur new.walk
     → 0 < length new.walk → length new.walk ≤ length track.walk + 1 → last_of new.walk ≡ v.0 → MoreRemove track.list.moves new.list.moves
+    → GrowsOrShrinks track.walk new.walk v.0 → new.list.peak ≤ max track.list.peak (length track.walk + after)
     → ArePutSoFar behind begun were new rest
-put_more behind begun were track new pending rest v after on popped counted goes no_spur some long last removals =
+put_more behind begun were track new pending rest v after on popped counted goes no_spur some long last removals shape peak =
     let names : numbers pending ≡ numbers rest ++ v.0 ∷ [] = one_pending pending rest v popped in
     let turned : reverse (numbers pending) ≡ v.0 ∷ reverse (numbers rest) =
     ap (λ (l : List ℕ). reverse l) names ∙ reverse-push (numbers rest) v.0 in
@@ -66,6 +71,12 @@ put_more behind begun were track new pending rest v after on popped counted goes
       leads = λ mesh. putting_goes mesh behind (begun.walk ++ reverse were) begun.list track new (numbers pending) (numbers rest) v.0 after
           names count (on.leads mesh) (goes mesh);
       removals = removed_on begun.list.moves track.list.moves new.list.moves on.removals removals;
+      within = λ s split. within_on s split behind (begun.walk ++ reverse were) (track.walk ++ v.0 ∷ reverse (numbers rest))
+          (new.walk ++ reverse (numbers rest)) begun.list track.list new.list
+          (subst (λ (l : List ℕ). StaysWithin s split behind (begun.walk ++ reverse were) begun.list (track.walk ++ l) track.list) turned
+          (on.within s split))
+          (within_behind s split after behind v.0 track.walk new.walk (reverse (numbers rest)) track.list new.list some last
+          (omega (arith, count, length-reverse (numbers rest))) (within_put s split after v.0 track new shape peak));
     }
 
 -- one face is crossed where nothing was pending
@@ -75,6 +86,7 @@ pub record IsCrossedOnce (s : OrientedMesh) (split : SplitView) (behind v : ℕ)
   pub last : last_of (new.walk ++ reverse left) ≡ v
   pub long : length left + 1 ≡ length (face_at s.mesh step.face.0)
   pub leaves : MoreLeaveCotree s split track.list.moves new.list.moves
+  pub within : StaysWithin s split behind (track.walk ++ v ∷ []) track.list (new.walk ++ reverse left) new.list
 
 pub crossed_once : (s : OrientedMesh) (split : SplitView) → IsOrientedSurface s → (behind v : ℕ) (step : FaceStep) (track new : TrackView)
     (before left : List ℕ) → before ≡ [] → 0 < length track.walk → IsFaceBelow s split (last_of track.walk) v step
@@ -97,6 +109,7 @@ crossed_once s split o behind v step track new before left none some under cross
       last = ap last_of whole ∙ last-push (front ++ around.front) v;
       long = ap (λ (l : List ℕ). length l + 1) crossed.comes ∙ around.long;
       leaves = crossed_leaves s split u v behind step track new [] left under crossed;
+      within = crossing_within s split o.faces behind track new [] left v step some under crossed;
     }
 
 -- a face is crossed by a track with more cells in reserve
@@ -121,14 +134,16 @@ pub not_passed : (s : OrientedMesh) (split : SplitView) (behind : ℕ) (begun : 
 not_passed s split behind begun led = record {
   led = led;
   goes = λ first rest l h. h;
+  within = within_itself s split behind begun.walk begun.list;
   last = refl;
   leaves = none_leave s split begun.list.moves;
 }
 
 pub passed_on : (s : OrientedMesh) (split : SplitView) (behind : ℕ) (begun old new : TrackView) → IsPassedFrom s split behind begun old
     → GoesOn s.mesh behind old.walk old.list new.walk new.list → last_of new.walk ≡ last_of old.walk → 0 < length new.walk
-    → MoreLeaveCotree s split old.list.moves new.list.moves → IsPassedFrom s split behind begun new
-passed_on s split behind begun old new passed goes last some more = record {
+    → MoreLeaveCotree s split old.list.moves new.list.moves → StaysWithin s split behind old.walk old.list new.walk new.list
+    → IsPassedFrom s split behind begun new
+passed_on s split behind begun old new passed goes last some more within = record {
   led = record {
     first = passed.led.first;
     rest = passed.led.rest;
@@ -138,6 +153,7 @@ passed_on s split behind begun old new passed goes last some more = record {
     some = some;
   };
   goes = λ first rest l h. goes first rest l (passed.goes first rest l h);
+  within = within_on s split behind begun.walk old.walk new.walk begun.list old.list new.list passed.within within;
   last = last ∙ passed.last;
   leaves = leave_on s split begun.list.moves old.list.moves new.list.moves passed.leaves more;
 }
@@ -159,6 +175,7 @@ passed_as s split behind begun track walk list passed same moves =
         some = passed.led.some;
       };
       goes = passed.goes;
+      within = passed.within;
       last = passed.last;
       leaves = passed.leaves;
     }))

@@ -1,4 +1,4 @@
--- The rest of a face below a cotree edge weighs less than the edge.
+-- The rest of a face below a cotree edge weighs less than the edge, and all round the root face there is no more than all darts.
 use Rattle.std.proofs.Common.{◌≡◌, ◌≢◌, ◌⊎◌, inl, inr, ℕ, zero, suc, ◌+◌, ◌-◌, ◌<◌, ◌≤◌, Bool, true, false, not, ◌&&◌, eqb, cond, List, [], ◌∷◌, ◌++◌, length, get_or, refl, ap, sym, ◌∙◌, subst, arith, append_assoc}
 use Rattle.std.specs.Prelude.{Some}
 use Rattle.std.proofs.lemmas.Bool.{cases_Bool, cases_eq, eqb-true, eq-eqb, and_parts}
@@ -16,9 +16,11 @@ use Rattle.halfedge_map.proofs.TwinLemmas.{origin-twin}
 use Rattle.halfedge_map.proofs.EdgeLemmas.{edge-twin}
 use Rattle.halfedge_map.proofs.SystemLemmas.{rotation_system}
 use Rattle.tree_cotree.specs.Splits.{SplitView, IsSplit, child_face}
+use Rattle.move_lifting.specs.Loads.{load_of}
 use Rattle.move_lifting.proofs.CountLemmas.{sum_below}
-use Rattle.move_lifting.proofs.LoadLemmas.{weight, weight_positive, weight_most, AreBeside, weights_fall}
+use Rattle.move_lifting.proofs.LoadLemmas.{weight, weight_positive, weight_most, AreBeside, AreInFace, weights_fall, root_weights}
 use Rattle.move_lifting.proofs.RoundLemmas.{corner_after_suc, corner_in, corners_apart, corners_more}
+use Rattle.move_lifting.proofs.WithinLemmas.{load-joined, darts_weigh}
 
 -- the dart from one vertex to another
 pick_below : (ℕ → Bool) → ℕ → ℕ
@@ -136,15 +138,11 @@ pub pair_weight : (s : OrientedMesh) (split : SplitView) → IsSplit s split →
 pair_weight s split t u v = weight s split t (edge_of s (dart_from s u v))
 
 abbrev pub load : (s : OrientedMesh) (split : SplitView) → IsSplit s split → List ℕ → ℕ
-load s split t [] = 0
-load s split t (u ∷ []) = 0
-load s split t (u ∷ v ∷ rest) = pair_weight s split t u v + load s split t (v ∷ rest)
+load s split t walk = load_of (pair_weight s split t) walk
 
 pub load-join : (s : OrientedMesh) (split : SplitView) (t : IsSplit s split) (front rest : List ℕ) (v : ℕ)
     → load s split t (front ++ v ∷ rest) ≡ load s split t (front ++ v ∷ []) + load s split t (v ∷ rest)
-load-join s split t [] rest v = omega arith
-load-join s split t (u ∷ []) rest v = omega arith
-load-join s split t (u ∷ w ∷ front) rest v = omega (arith, load-join s split t (w ∷ front) rest v)
+load-join s split t front rest v = load-joined (pair_weight s split t) front rest v
 
 pub pair_positive : (s : OrientedMesh) (split : SplitView) (t : IsSplit s split) (u v : ℕ) → 0 < pair_weight s split t u v
 unfolding pair_weight
@@ -156,9 +154,7 @@ unfolding pair_weight
 pair_most s split t u v l = weight_most s split t (edge_of s (dart_from s u v)) l
 
 pub load_long : (s : OrientedMesh) (split : SplitView) (t : IsSplit s split) (walk : List ℕ) → length walk ≤ load s split t walk + 1
-load_long s split t [] = omega arith
-load_long s split t (u ∷ []) = omega arith
-load_long s split t (u ∷ v ∷ rest) = omega (arith, load_long s split t (v ∷ rest), pair_positive s split t u v)
+load_long s split t walk = darts_weigh (pair_weight s split t) (pair_positive s split t) walk
 
 -- the load of steps round a face
 pub round_load : (s : OrientedMesh) (split : SplitView) → IsOrientedSurface s → (t : IsSplit s split) → (f : ℕ) (rising : Bool) (c k : ℕ)
@@ -207,8 +203,8 @@ unfolding shift
 shift_most true = omega arith
 shift_most false = omega arith
 
--- the sides of the rest of a face are apart from each other, and from the side of the step
-rest_apart : (rising : Bool) (m c i j : ℕ) → c < m → i < j → j < m - 1
+-- the sides of a face are apart from each other, and those of the rest from the side of the step
+rest_apart : (rising : Bool) (m c i j : ℕ) → c < m → i < j → j < m
     → side_place rising m (corner_after rising m c i) ≢ side_place rising m (corner_after rising m c j)
 rest_apart rising m c i j b less few same =
     let most : shift rising ≤ 1 = shift_most rising in
@@ -222,6 +218,9 @@ rest_beside true m c j b few same =
     corners_apart false m c 0 (j + 1) b (omega arith) (omega arith) (omega arith) (sym same ∙ side-after false m c j)
 rest_beside false m c j b few same =
     corners_apart true m c j (m - 1) b (omega arith) (omega arith) (omega arith) (same ∙ meet false m c 1 b (omega arith))
+
+plus_same : (x y z : ℕ) → x + y ≡ x + z → y ≡ z
+plus_same x y z e = omega arith
 
 rest_sides : (s : OrientedMesh) (f c : ℕ) (rising : Bool) → f < length s.mesh.faces → c < length (face_at s.mesh f)
     → AreBeside s f (first_side s.mesh f + side_place rising (length (face_at s.mesh f)) c) (length (face_at s.mesh f) - 1)
@@ -237,11 +236,8 @@ rest_sides s f c rising l b =
       within = λ j h. number_below s.mesh f (place j) (first_side s.mesh f + place j) (number j);
       inside = λ j h. face_at_number s f (place j) (first_side s.mesh f + place j) (number j);
       beside = λ j h same. rest_beside rising m c j b h (plus_same (first_side s.mesh f) (place j) (side_place rising m c) same);
-      apart = λ i j less h same. rest_apart back m c i j b less h (plus_same (first_side s.mesh f) (place i) (place j) same);
+      apart = λ i j less h same. rest_apart back m c i j b less (omega arith) (plus_same (first_side s.mesh f) (place i) (place j) same);
     }
-  where
-    plus_same : (x y z : ℕ) → x + y ≡ x + z → y ≡ z
-    plus_same x y z e = omega arith
 
 -- the rest of the face below an edge weighs less than a step along the edge
 pub rest_falls : (s : OrientedMesh) (split : SplitView) → IsOrientedSurface s → (t : IsSplit s split)
@@ -265,3 +261,23 @@ rest_falls s split o t f c rising u v d l b starts ends from under =
     (number_below s.mesh f (side_place rising m c) h n) (face_at_number s f (side_place rising m c) h n) below_h
     (rest_sides s f c rising l b) in
     omega (arith, fall, round_load s split o t f (not rising) c (m - 1) l b, ap (weight s split t) h_edge)
+
+-- all round the root face
+pub root_round : (s : OrientedMesh) (split : SplitView) → IsOrientedSurface s → (t : IsSplit s split) → (f c : ℕ) (rising : Bool)
+    → f ≡ split.root_face → f < length s.mesh.faces → c < length (face_at s.mesh f)
+    → load s split t (corners_from (face_at s.mesh f) rising c (length (face_at s.mesh f))) ≤ darts_of s
+root_round s split o t f c rising root l b =
+    let m : ℕ = length (face_at s.mesh f) in
+    let place : ℕ → ℕ = λ j. side_place rising m (corner_after rising m c j) in
+    let number : (j : ℕ) → IsNumberOf s.mesh f (place j) (first_side s.mesh f + place j) =
+    λ j. numbered s f (place j) l (side_in rising m (corner_after rising m c j) (corner_in rising m c j b)) in
+    let sides : AreInFace s f m (λ j. first_side s.mesh f + place j) = record {
+      within = λ j h. number_below s.mesh f (place j) (first_side s.mesh f + place j) (number j);
+      inside = λ j h. face_at_number s f (place j) (first_side s.mesh f + place j) (number j);
+      apart = λ i j less h same. rest_apart rising m c i j b less h (plus_same (first_side s.mesh f) (place i) (place j) same);
+    } in
+    omega (
+      arith,
+      round_load s split o t f rising c m l b,
+      root_weights s split o t f m (λ j. first_side s.mesh f + place j) root sides,
+    )

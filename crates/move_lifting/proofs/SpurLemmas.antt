@@ -1,10 +1,11 @@
 -- Walks from which spurs are taken out as they are laid, up to spurs.
-use Rattle.std.proofs.Common.{◌≡◌, inl, inr, ℕ, ◌+◌, ◌-◌, ◌<◌, ◌≤◌, List, [], ◌∷◌, ◌++◌, length, take, drop, get_or, refl, ap, sym, ◌∙◌, subst, arith, append_assoc, length-append}
+use Rattle.std.proofs.Common.{◌≡◌, inl, inr, ℕ, ◌+◌, ◌-◌, ◌<◌, ◌≤◌, max, List, [], ◌∷◌, ◌++◌, length, take, drop, get_or, refl, ap, sym, ◌∙◌, subst, arith, append_assoc, length-append}
 use Rattle.std.proofs.lemmas.List.{append-nil, drop_all, take_all, take_more, drop_more, length-take-le, length-drop}
 use Rattle.std.proofs.lemmas.List.Elements.{All-nil, All-cons}
 use Rattle.surf_model.specs.FaceLists.{FaceList}
 use Rattle.surf_model.specs.FreeWalks.{IsSpurMove, AreFreelyEqual, HasNoSpur}
 use Rattle.surf_model.specs.Moves.{PeakedMoves}
+use Rattle.surf_model.specs.Walks.{darts}
 use Rattle.surf_model.specs.declared.moves.Move.{Move}
 use Rattle.surf_model.specs.declared.moves.Move.TheVariants.{Remove}
 use Rattle.polygon_cut.proofs.FreeLoopLemmas.{free_equality}
@@ -49,6 +50,7 @@ pub record IsReducedSoFar (behind : ℕ) (walk : List ℕ) (begun : PeakedMoves)
   pub last : last_of track.walk ≡ get_or walk (n - 1) 0
   pub freely : (mesh : FaceList) → AreFreelyEqual mesh (take n walk) track.walk
   pub goes : (mesh : FaceList) → GoesOn mesh behind walk begun (track.walk ++ drop n walk) track.list
+  pub peak : track.list.peak ≤ max begun.peak (darts walk + behind)
 
 pub reduced_first : (behind : ℕ) (walk : List ℕ) (begun : PeakedMoves) (track : TrackView) (v spare : ℕ) → 0 < length walk
     → get_or walk 0 0 ≡ v → track ≡ record { walk = v ∷ []; list = begun; spare = spare } → IsReducedSoFar behind walk begun track 1
@@ -63,6 +65,7 @@ reduced_first behind walk begun track v spare some is start =
       last = sym is;
       freely = λ mesh. subst (λ (l : List ℕ). AreFreelyEqual mesh l (v ∷ [])) one ((free_equality mesh).itself (v ∷ []));
       goes = λ mesh first rest l h. subst (λ (w : List ℕ). LeadsAtPeak mesh first begun (w ++ rest)) whole h;
+      peak = omega arith;
     })
 
 pub reduced_more : (behind : ℕ) (walk : List ℕ) (begun : PeakedMoves) (track new : TrackView) (n v after : ℕ)
@@ -70,8 +73,8 @@ pub reduced_more : (behind : ℕ) (walk : List ℕ) (begun : PeakedMoves) (track
     → 0 < n → n < length walk → get_or walk n 0 ≡ v → after ≡ length walk - n - 1 + behind
     → ((mesh : FaceList) → GoesOn mesh after (track.walk ++ v ∷ []) track.list new.walk new.list) → 0 < length new.walk → HasNoSpur new.walk
     → last_of new.walk ≡ v → length new.walk ≤ length track.walk + 1 → GrowsOrShrinks track.walk new.walk v
-    → IsReducedSoFar behind walk begun new (n + 1)
-reduced_more behind walk begun track new n v after led begins l is counted goes some no_spur last long shape =
+    → new.list.peak ≤ max track.list.peak (length track.walk + after) → IsReducedSoFar behind walk begun new (n + 1)
+reduced_more behind walk begun track new n v after led begins l is counted goes some no_spur last long shape peak =
     let place : n + 1 - 1 ≡ n = omega arith in
     let more : take (n + 1) walk ≡ take n walk ++ v ∷ [] = take_more walk n 0 l ∙ ap (λ (x : ℕ). take n walk ++ x ∷ []) is in
     let begun_some : 0 < length (take n walk) = omega (arith, length-take-le n walk (omega arith)) in
@@ -92,6 +95,7 @@ reduced_more behind walk begun track new n v after led begins l is counted goes 
           length-append (drop (n + 1) walk) rest ∙ omega (arith, length-drop (n + 1) walk, k, counted) in
           subst (LeadsAtPeak mesh first new.list) (sym (append_assoc new.walk (drop (n + 1) walk) rest))
           (goes mesh first (drop (n + 1) walk ++ rest) count (subst (LeadsAtPeak mesh first track.list) read there));
+      peak = omega (arith, peak, led.peak, led.long, counted, l);
     }
 
 -- when all entries are read

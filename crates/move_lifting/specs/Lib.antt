@@ -2,8 +2,11 @@ pub mod Cuts
 pub mod Lifts
 pub mod Tracks
 pub mod Crossings
+pub mod Loads
+pub mod WalksOff
 pub mod LoopsPutIn
 pub mod LoopFronts
+pub mod TurnPeaks
 pub mod Reductions
 pub mod Contractions
 pub mod SpokeWalks

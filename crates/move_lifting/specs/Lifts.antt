@@ -1,6 +1,7 @@
 -- Lists of moves that lead from a walk to a walk, with their peaks, and walks that keep off the cotree.
 pub use Rattle.common_ends.specs.PeakedLists.{LeadsAtPeak}
-use Rattle.std.specs.Prelude.{◌≡◌, ℕ, ◌+◌, ◌<◌, false, List, ◌++◌, length, slice_index, All}
+use Rattle.std.specs.Prelude.{◌≡◌, ℕ, ◌+◌, ◌*◌, ◌<◌, ◌≤◌, false, List, ◌++◌, length, slice_index, All}
+use Rattle.surf_model.specs.Moves.{PeakedMoves}
 use Rattle.surf_model.specs.declared.moves.Move.{Move}
 use Rattle.halfedge_map.specs.OrientedMeshes.{OrientedMesh}
 use Rattle.halfedge_map.specs.DartMaps.{edge_of}
@@ -22,6 +23,11 @@ MoreRemove old new = (more : List Move) × (new ≡ old ++ more) × All IsRemova
 -- more moves come, and each puts a spur in, takes one out, or goes round the face below a cotree edge in place of that edge
 abbrev pub MoreLeaveCotree : OrientedMesh → SplitView → List Move → List Move → Type 0
 MoreLeaveCotree surface split old new = (more : List Move) × (new ≡ old ++ more) × All (LeavesCotree surface split) more
+
+-- The peak is low, for so many sides of a surface and so many darts of two walks together: twice the peak is no more than three times the
+-- darts and seven, for each side.
+abbrev pub HasLowPeak : ℕ → ℕ → PeakedMoves → Type 0
+HasLowPeak sides darts list = 2 * list.peak ≤ (3 * darts + 7) * sides
 
 -- no dart of the walk lies on a cotree edge
 abbrev pub AvoidsCotree : OrientedMesh → SplitView → List ℕ → Type 0

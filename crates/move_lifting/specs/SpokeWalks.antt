@@ -1,14 +1,16 @@
 -- Walks for the loops of spokes and for the loop of the last side.
-use Rattle.std.specs.Prelude.{ℕ, ◌<◌, Bool, false, true, not, List, [], ◌∷◌, ◌++◌, length, drop, slice_index, slice_index_or, IfSome}
+use Rattle.std.specs.Prelude.{ℕ, ◌<◌, ◌≤◌, Bool, false, true, not, List, [], ◌∷◌, ◌++◌, length, drop, slice_index, slice_index_or, IfSome}
 use Rattle.surf_model.specs.FreeWalks.{AreFreelyEqual, HasNoSpur}
+use Rattle.surf_model.specs.Walks.{darts}
 use Rattle.halfedge_map.specs.OrientedMeshes.{OrientedMesh}
-use Rattle.halfedge_map.specs.DartMaps.{origin_of}
+use Rattle.halfedge_map.specs.DartMaps.{darts_of, origin_of}
 use Rattle.tree_cotree.specs.Splits.{SplitView}
 use Rattle.polygon_cut.specs.Polygons.{PolygonView}
 use Rattle.polygon_cut.specs.SpokeLoops.{AreWaysUp, backward, spoke_loop, by_loop, last_side}
 use Rattle.move_lifting.specs.Cuts.{IsCut}
 use Rattle.move_lifting.specs.Lifts.{LeadsAtPeak}
 use Rattle.move_lifting.specs.LoopsPutIn.{signed_loop}
+use Rattle.move_lifting.specs.declared.expanding.TheConstants.{MOST_LIFTED_DARTS}
 use Rattle.move_lifting.specs.declared.lifted.Lifted.{Lifted}
 use Rattle.move_lifting.specs.declared.looping.Looper.{Looper}
 use Rattle.move_lifting.specs.declared.looping.Looping.{Looping}
@@ -42,9 +44,11 @@ walks_loop walks along [] = []
 walks_loop walks along (i ∷ path) = along_or_back along (slice_index_or walks i []) ++ walks_loop walks (not along) path
 
 -- the walk is the loop of the last side, or if `back` the way back along it, and the moves lead to it from the vertex where that
--- side starts
+-- side starts: no walk on the way has more darts than the surface
 pub record IsLastLoop (surface : OrientedMesh) (split : SplitView) (polygon : PolygonView) (back : Bool) (lifted : Lifted) : Type 0 where
   pub leads : LeadsAtPeak surface.mesh (origin_of surface (last_side polygon) ∷ []) lifted.moves lifted.walk
+  pub low : lifted.moves.peak ≤ darts_of surface
+  pub short : darts lifted.walk ≤ darts_of surface
   pub no_spur : HasNoSpur lifted.walk
   pub freely : (root : ℕ) (ways : ℕ → List ℕ) → AreWaysUp surface split root ways
       → AreFreelyEqual surface.mesh lifted.walk
@@ -61,6 +65,7 @@ pub record IsLooper (surface : OrientedMesh) (split : SplitView) (polygon : Poly
   pub spokes : AreSpokeWalks surface split polygon looper.spokes
   pub turns : IfSome looper.turns (AreTurns surface split polygon)
 
--- the polygon is cut from the surface
+-- the polygon is cut from the surface, and no more entries stand behind than a second walk has
 pub record IsLooping (looping : Looping) : Type 0 where
   pub cut : IsCut looping.cut.now
+  pub behind : looping.behind ≤ MOST_LIFTED_DARTS

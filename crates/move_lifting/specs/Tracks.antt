@@ -45,4 +45,5 @@ pub record IsNextPut (behind : ℕ) (old : TrackView) (front : ℕ) (new : Track
   pub no_spur : HasNoSpur (take now new.walk)
   pub last : last_of (take now new.walk) ≡ slice_index old.walk front
   pub long : now ≤ front + 1
+  pub peak : new.list.peak ≤ max old.list.peak (length old.walk - 1 + behind)
   pub shape : GrowsOrShrinks (take front old.walk) (take now new.walk) (slice_index old.walk front)

@@ -2,6 +2,7 @@
 ghost use Rattle.std.specs.Prelude.{◌≡◌, ◌+◌, ◌-◌, ◌*◌, ◌<◌, ◌≤◌, ◌^◌, ℕ, List, [], ◌∷◌, length, slice_index, All, Some, IfOk, OnOk};
 ghost use Rattle.surf_model.specs.FreeWalks.{HasNoSpur};
 ghost use Rattle.surf_model.specs.Walks.{IsWalk};
+ghost use Rattle.halfedge_map.specs.DartMaps.{darts_of};
 ghost use Rattle.spoke_paths.specs.Path_steps.{after_path_step};
 ghost use Rattle.move_lifting.specs.Contractions.{IsLedFrom, LeavesNothing};
 ghost use Rattle.move_lifting.specs.Cuts.{IsCut};
@@ -9,6 +10,8 @@ ghost use Rattle.move_lifting.specs.SpokeWalks.{IsLooper, IsLooping};
 ghost use Rattle.move_lifting.specs.LoopFronts.{spokes_in_front};
 ghost use Rattle.move_lifting.specs.LoopsPutIn.{IsFreelyPath};
 ghost use Rattle.move_lifting.specs.Tracks.{GoesOn, last_of};
+ghost use Rattle.move_lifting.specs.declared.expanding.TheConstants.{MOST_LIFTED_DARTS};
+ghost use Rattle.move_lifting.specs.TurnPeaks.{KeepsBound};
 
 use crate::cut::Cut;
 use crate::looping::{Looper, Looping};
@@ -34,8 +37,12 @@ pub(crate) fn contract(
     requires closed { last_of track.walk ≡ slice_index track.walk 0 }
     requires no_spur { HasNoSpur track.walk }
     requires spokes { IsFreelyPath cut.now.on.surface.now cut.now.on.split.now cut.now.polygon.now reduction.spokes.items track.walk }
+    requires few { length reduction.spokes.items ≤ 2 * MOST_LIFTED_DARTS }
+    requires behind { behind ≤ MOST_LIFTED_DARTS }
     ensures leads { IfOk result (λ after. GoesOn cut.now.on.surface.now.mesh behind track.walk track.list after.walk after.list) }
     ensures nothing { IfOk result (λ after. after.walk ≡ slice_index track.walk 0 ∷ []) }
+    ensures peak { IfOk result (λ after. (pairs : ℕ) → length reduction.spokes.items ≤ 2 * pairs
+        → KeepsBound (darts_of cut.now.on.surface.now) behind (pairs + 1) track.list.peak after.list.peak) }
 {
     let looping = Looping { alloc, cut, behind };
     let mut looper = Looper::new(alloc);
@@ -74,6 +81,7 @@ fn follow(
     requires no_spur { HasNoSpur track.walk }
     requires spokes { IsFreelyPath looping.now.cut.now.on.surface.now looping.now.cut.now.on.split.now
         looping.now.cut.now.polygon.now path.now track.walk }
+    requires few { length path.now ≤ 2 * MOST_LIFTED_DARTS }
     ensures looper { OnOk result
         (IsLooper looping.now.cut.now.on.surface.now looping.now.cut.now.on.split.now looping.now.cut.now.polygon.now looper.new) }
     ensures leads { IfOk result (λ after. GoesOn looping.now.cut.now.on.surface.now.mesh looping.now.behind track.walk track.list
@@ -86,6 +94,8 @@ fn follow(
         → after_path_step looping.now.cut.now.polygon.now.places step path.now ≡ Some next
         → IsFreelyPath looping.now.cut.now.on.surface.now looping.now.cut.now.on.split.now looping.now.cut.now.polygon.now next
         after.walk) }
+    ensures peak { IfOk result (λ after. (pairs : ℕ) → length path.now ≤ 2 * pairs
+        → KeepsBound (darts_of looping.now.cut.now.on.surface.now) looping.now.behind (pairs + 1) track.list.peak after.list.peak) }
 {
     let PathStep::Turn {
         at,

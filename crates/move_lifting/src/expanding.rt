@@ -1,5 +1,5 @@
 //! Walks that are led off the cotree of a surface.
-ghost use Rattle.std.specs.Prelude.{◌≡◌, ◌+◌, ◌<◌, ◌≤◌, ◌^◌, [], ◌∷◌, ◌++◌, true, length, IfOk, OnOk, All};
+ghost use Rattle.std.specs.Prelude.{◌≡◌, ◌+◌, ◌*◌, ◌<◌, ◌≤◌, ◌^◌, [], ◌∷◌, ◌++◌, true, length, IfOk, OnOk, All};
 ghost use Rattle.surf_model.specs.FaceLists.{face_at, is_edge};
 ghost use Rattle.surf_model.specs.FreeWalks.{HasNoSpur};
 ghost use Rattle.surf_model.specs.Vertices.{numbers};
@@ -9,6 +9,7 @@ ghost use Rattle.halfedge_map.specs.OrientedMeshes.{IsOrientedSurface};
 ghost use Rattle.tree_cotree.specs.Splits.{IsSplit};
 ghost use Rattle.polygon_cut.specs.SpokeLoops.{LeavesCotree};
 ghost use Rattle.move_lifting.specs.Lifts.{AvoidsCotree, LeadsAtPeak, MoreLeaveCotree};
+ghost use Rattle.move_lifting.specs.Loads.{StaysWithin};
 ghost use Rattle.move_lifting.specs.Tracks.{GoesOn, last_of};
 ghost use Rattle.move_lifting.specs.Crossings.{IsStepOf, IsCrossed};
 ghost use Rattle.move_lifting.specs.Cuts.{IsSplitSurface};
@@ -35,7 +36,8 @@ pub(crate) const MOST_PASSED_ENTRIES: u32 = 131_071;
 /// Leads a walk off the cotree of a surface: every dart on a cotree edge is replaced by the rest of the face below the
 /// edge, again and again, and spurs are taken out.
 ///
-/// It goes over the walk once. The peak is that of the moves.
+/// It goes over the walk once. The peak is that of the moves. No walk on the way has more darts than the surface for each dart of
+/// the first.
 pub fn expand(
     alloc: Global,
     surface: &Surface,
@@ -51,6 +53,8 @@ pub fn expand(
     ensures no_spur { IfOk result (λ lifted. HasNoSpur lifted.walk) }
     ensures ends { IfOk result (λ lifted. HaveCommonEnds walk.now lifted.walk) }
     ensures leaves { IfOk result (λ lifted. All (LeavesCotree surface.now split.now) lifted.moves.moves) }
+    ensures long { IfOk result (λ lifted. darts lifted.walk ≤ darts walk.now * darts_of surface.now) }
+    ensures low { IfOk result (λ lifted. lifted.moves.peak ≤ darts walk.now * darts_of surface.now) }
 {
     let vertices = vertices_of(alloc, walk)?;
     let moves = MoveList::new(alloc, walk.darts());
@@ -89,6 +93,8 @@ pub(crate) fn lead_all(
     ensures some { IfOk result (λ track. 0 < length track.walk) }
     ensures few { IfOk result (λ track. length track.walk < 2 ^ 31) }
     ensures leaves { IfOk result (λ track. MoreLeaveCotree on.now.surface.now on.now.split.now moves.moves track.list.moves) }
+    ensures within { IfOk result (λ track. StaysWithin on.now.surface.now on.now.split.now behind (numbers walk.now) moves
+        track.walk track.list) }
     // What holds of every surface.
     ensures valid { IfOk result (λ _. IsOrientedSurface on.now.surface.now) }
 {
@@ -128,6 +134,8 @@ fn lead_on(
     ensures leads { OnOk result (GoesOn on.now.surface.now.mesh behind (track.old.walk ++ to.0 ∷ []) track.old.list
         track.new.walk track.new.list) }
     ensures leaves { OnOk result (MoreLeaveCotree on.now.surface.now on.now.split.now track.old.list.moves track.new.list.moves) }
+    ensures within { OnOk result (StaysWithin on.now.surface.now on.now.split.now behind (track.old.walk ++ to.0 ∷ []) track.old.list
+        track.new.walk track.new.list) }
 {
     // With each step one of the darts below the edge goes for good, so there are no more steps than darts, and no more vertices.
     track.reserve(on.surface.darts())?;

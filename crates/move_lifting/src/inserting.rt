@@ -1,14 +1,14 @@
 //! Turns put into walks: there, round, back, and on.
-ghost use Rattle.std.specs.Prelude.{◌≡◌, ◌+◌, ◌*◌, ◌-◌, ◌<◌, ◌≤◌, ◌^◌, ◌∷◌, [], ◌++◌, ℕ, List, length, take, drop, slice_index, IfOk, OnOk, All};
+ghost use Rattle.std.specs.Prelude.{◌≡◌, ◌≢◌, ◌+◌, ◌*◌, ◌-◌, ◌<◌, ◌≤◌, ◌^◌, ◌∷◌, [], ◌++◌, ℕ, List, length, max, take, drop, slice_index, IfOk, OnOk, All};
 ghost use Rattle.surf_model.specs.FaceLists.{FaceList};
 ghost use Rattle.surf_model.specs.FreeWalks.{AreFreelyEqual, HasNoSpur};
 ghost use Rattle.surf_model.specs.Replacements.{place_of};
 ghost use Rattle.surf_model.specs.Vertices.{numbers};
-ghost use Rattle.surf_model.specs.Walks.{IsWalk};
+ghost use Rattle.surf_model.specs.Walks.{IsWalk, darts};
 ghost use Rattle.polygon_cut.specs.SpokeLoops.{backward, put_behind};
-ghost use Rattle.move_lifting.specs.declared.inserting.TheConstants.{MOST_ENTRIES};
 ghost use Rattle.move_lifting.specs.Lifts.{LeadsAtPeak};
 ghost use Rattle.move_lifting.specs.Tracks.{GoesOn, last_of};
+ghost use Rattle.move_lifting.specs.TurnPeaks.{RisesWithTurn};
 
 use crate::lifted::Lifted;
 use crate::pooled_walk::PooledWalk;
@@ -17,14 +17,10 @@ use common_ends::raise_moves;
 use std::alloc::{AllocError, Global};
 use surf_model::{Move, MoveList, VertexName};
 
-/// A walk that is made has fewer entries than this.
-const MOST_ENTRIES: u64 = 2_147_483_648;
-
 /// Puts a turn into the walk of a track, with `behind` entries behind it: along the approach from the walk's first vertex,
 /// round the turn, back along the approach, and on. The spurs are taken out of the whole.
 ///
-/// The moves build the approach and the way back from where it leaves the walk, and then turn as those of the turn do. A
-/// whole of 2^31 vertices is answered as want of memory.
+/// The moves build the approach and the way back from where it leaves the walk, and then turn as those of the turn do.
 pub(crate) fn put_turn(
     alloc: Global,
     track: Track,
@@ -38,6 +34,7 @@ pub(crate) fn put_turn(
     requires turn { slice_index turn.now.walk 0 ≡ last_of (numbers approach.now) }
     requires closed { last_of turn.now.walk ≡ last_of (numbers approach.now) }
     requires places { All (λ (mv : Move). place_of mv ≤ turn.now.moves.peak) turn.now.moves.moves }
+    requires room { 2 * length approach.now + length track.walk + length turn.now.walk + behind + turn.now.moves.peak < 2 ^ 31 }
     ensures leads { IfOk result (λ after. (mesh : FaceList) → IsWalk mesh (numbers approach.now)
         → LeadsAtPeak mesh (last_of (numbers approach.now) ∷ []) turn.now.moves turn.now.walk
         → GoesOn mesh behind track.walk track.list after.walk after.list) }
@@ -48,18 +45,14 @@ pub(crate) fn put_turn(
     ensures last { IfOk result (λ after. last_of after.walk ≡ last_of track.walk) }
     ensures some { IfOk result (λ after. 0 < length after.walk) }
     ensures few { IfOk result (λ after. length after.walk < 2 ^ 31) }
+    ensures peak { IfOk result (λ after. (most : ℕ) → turn.now.moves.peak ≤ most → darts turn.now.walk ≤ most
+        → HasNoSpur (numbers approach.now) → HasNoSpur track.walk
+        → RisesWithTurn (numbers approach.now) track.walk behind most track.list.peak after.list.peak) }
 {
     let (mut laid, mut moves) = track.into_laid();
     let common = common_start(approach, &mut laid);
     let back = back_to(alloc, approach, common)?;
     let around = turn.walk.darts();
-    find_room(
-        approach.len(),
-        around,
-        laid.len(),
-        behind,
-        turn.moves.peak(),
-    )?;
     // The piece is the approach beyond what is in common, the turn, and the way back, and costs a cell for a while.
     laid.reserve(around + 2 * back.len() as u32 + 1)?;
     let after = laid.len() - common as u32 + behind;
@@ -75,23 +68,6 @@ pub(crate) fn put_turn(
     Track::reduced(laid, behind, moves)
 }
 
-/// Fails where a way out and back of so many entries, a turn, a walk, what stands behind, and a peak are too many together.
-fn find_room(out: usize, turn: u32, walk: u32, behind: u32, peak: u32) -> Result<(), AllocError>
-    requires { out < 2 ^ 62 }
-    ensures { OnOk result (2 * out + turn + walk + behind + peak < MOST_ENTRIES) }
-{
-    let entries = 2 * out as u64
-        + u64::from(turn)
-        + u64::from(walk)
-        + u64::from(behind)
-        + u64::from(peak);
-    if entries < MOST_ENTRIES {
-        Ok(())
-    } else {
-        Err(AllocError)
-    }
-}
-
 /// How many vertices an approach and a walk from its start have in common at the start.
 fn common_start(approach: &[VertexName], walk: &mut PooledWalk) -> usize
     requires approach { 0 < length approach.now }
@@ -102,6 +78,8 @@ fn common_start(approach: &[VertexName], walk: &mut PooledWalk) -> usize
     ensures in_walk { result ≤ length walk.old.walk }
     ensures same { take result (numbers approach.now) ≡ take result walk.old.walk }
     ensures kept { walk.new ≡ walk.old }
+    ensures apart { result < length approach.now → result < length walk.old.walk
+        → slice_index (numbers approach.now) result ≢ slice_index walk.old.walk result }
 {
     let most = approach.len().min(walk.len() as usize);
     for place in 1..most {
@@ -145,10 +123,12 @@ fn insert_there_and_back(
     requires some { 0 < common }
     requires within { common ≤ length approach.now }
     requires room { 2 * length approach.now + after < 2 ^ 32 }
-    ensures { OnOk result ((mesh : FaceList) (first rest : List ℕ) → IsWalk mesh (numbers approach.now) → length rest ≡ after
+    ensures leads { OnOk result ((mesh : FaceList) (first rest : List ℕ) → IsWalk mesh (numbers approach.now) → length rest ≡ after
         → LeadsAtPeak mesh first moves.old (take common (numbers approach.now) ++ rest)
         → LeadsAtPeak mesh first moves.new (numbers approach.now
         ++ (backward (last_of (take common (numbers approach.now))) (drop common (numbers approach.now)) ++ rest))) }
+    ensures peak { OnOk result (moves.new.peak
+        ≤ max moves.old.peak (length approach.now - 1 + (length approach.now - common) + after)) }
 {
     let mut behind = after;
     for place in common..approach.len() {
@@ -175,6 +155,7 @@ pub(crate) fn reduce_all(
     ensures last { IfOk result (λ track. last_of track.walk ≡ last_of (numbers walk.now)) }
     ensures some { IfOk result (λ track. 0 < length track.walk) }
     ensures few { IfOk result (λ track. length track.walk ≤ length walk.now) }
+    ensures peak { IfOk result (λ track. track.list.peak ≤ max moves.peak (darts (numbers walk.now) + behind)) }
 {
     let mut track = Track::start(alloc, walk[0], walk.len() as u32 - 1, moves)?;
     for place in 1..walk.len() {

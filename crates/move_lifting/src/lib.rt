@@ -15,6 +15,7 @@ mod depths;
 pub mod expanding;
 mod inserting;
 mod last_loop;
+pub mod laws;
 mod laying;
 pub mod lifted;
 pub mod lifting;

@@ -1,22 +1,23 @@
 //! Lists of moves from one walk to another.
-ghost use Rattle.std.specs.Prelude.{◌≡◌, ◌+◌, ◌*◌, ◌<◌, ◌≤◌, ◌^◌, ℕ, List, ◌++◌, length, drop, slice_index, IfOk, OnOk, MatchOption};
+ghost use Rattle.std.specs.Prelude.{◌≡◌, ◌+◌, ◌*◌, ◌<◌, ◌≤◌, ◌^◌, ℕ, List, ◌++◌, length, max, drop, slice_index, IfOk, IfSome, OnOk, MatchOption};
 ghost use Rattle.surf_model.specs.FaceLists.{FaceList};
 ghost use Rattle.surf_model.specs.Moves.{Homotopic};
 ghost use Rattle.surf_model.specs.Vertices.{numbers};
 ghost use Rattle.surf_model.specs.Walks.{IsWalk, HaveCommonEnds, darts};
 ghost use Rattle.halfedge_map.specs.DartMaps.{darts_of};
+ghost use Rattle.halfedge_map.specs.OrientedMeshes.{IsOrientedSurface};
 ghost use Rattle.tree_cotree.specs.Splits.{IsSplit};
 ghost use Rattle.polygon_cut.specs.Polygons.{IsCutFrom};
 ghost use Rattle.surf_model.specs.FreeWalks.{HasNoSpur};
 ghost use Rattle.move_lifting.specs.Cuts.{IsSplitSurface};
-ghost use Rattle.move_lifting.specs.Lifts.{LeadsAtPeak};
+ghost use Rattle.move_lifting.specs.Lifts.{HasLowPeak, LeadsAtPeak};
 ghost use Rattle.common_ends.specs.Trimmed.{AreWalksTogether};
 ghost use Rattle.move_lifting.specs.Tracks.{last_of};
 ghost use Rattle.move_lifting.specs.declared.expanding.TheConstants.{MOST_LIFTED_SIDES, MOST_LIFTED_DARTS};
 
 use crate::contracting::contract;
 use crate::cut::{Cut, SplitSurface};
-use crate::expanding::vertices_of;
+use crate::expanding::{MOST_LIFTED_SIDES, vertices_of};
 use crate::inserting::reduce_all;
 use crate::passing::lead_in_passes;
 use crate::reducing::Reduction;
@@ -35,8 +36,6 @@ use tree_cotree::Split;
 /// the second is contracted to its start, if that is not all of it yet, and the second walk behind it is left: it is led off
 /// the cotree, and follows the steps that leave nothing of its spokes. The steps leave something exactly where the walks are
 /// not homotopic. On a sphere there are no spokes, and off the cotree nothing but the tree is left to go along.
-///
-/// A walk of 2^31 vertices on the way is answered as want of memory.
 pub fn lift(
     alloc: Global,
     surface: &Surface,
@@ -52,10 +51,13 @@ pub fn lift(
     requires ends { HaveCommonEnds first.now second.now }
     requires sides { darts_of surface.now ≤ MOST_LIFTED_SIDES }
     requires few { darts first.now + darts second.now ≤ MOST_LIFTED_DARTS }
-    ensures { IfOk result (λ found. MatchOption found
+    ensures list { IfOk result (λ found. MatchOption found
         (Homotopic surface.now.mesh first.now second.now → ⊥)
         (λ list. LeadsAtPeak surface.now.mesh first.now list second.now)) }
+    ensures low { IfOk result (λ found. IfSome found (HasLowPeak (darts_of surface.now) (darts first.now + darts second.now))) }
 {
+    let sides = surface.darts();
+    prove!(sides <= MOST_LIFTED_SIDES);
     let common = CommonDarts::of(first, second);
     let first = common.between(alloc, first)?;
     let second = common.between(alloc, second)?;
@@ -74,13 +76,16 @@ fn lift_between(
     first: &Walk,
     second: &Walk,
 ) -> Result<Option<MoveList>, AllocError>
+    requires valid { IsOrientedSurface on.now.surface.now }
     requires on { IsSplitSurface on.now }
     requires cut { IsCutFrom on.now.surface.now on.now.split.now polygon.now }
     requires walks { AreWalksTogether on.now.surface.now.mesh first.now second.now }
     requires few { darts first.now + darts second.now ≤ MOST_LIFTED_DARTS }
-    ensures { IfOk result (λ found. MatchOption found
+    ensures list { IfOk result (λ found. MatchOption found
         (Homotopic on.now.surface.now.mesh first.now second.now → ⊥)
         (λ list. LeadsAtPeak on.now.surface.now.mesh first.now list second.now)) }
+    ensures low { IfOk result (λ found. IfSome found
+        (HasLowPeak (darts_of on.now.surface.now) (darts first.now + darts second.now))) }
 {
     let behind = second.darts();
     let track = close(alloc, first, second)?;
@@ -113,6 +118,8 @@ fn close(alloc: Global, first: &Walk, second: &Walk) -> Result<Track, AllocError
     ensures last { IfOk result (λ closed. last_of closed.walk ≡ slice_index second.now 0) }
     ensures some { IfOk result (λ closed. 0 < length closed.walk) }
     ensures few { IfOk result (λ closed. length closed.walk ≤ MOST_LIFTED_DARTS + 1) }
+    ensures long { IfOk result (λ closed. darts closed.walk ≤ darts first.now + darts second.now) }
+    ensures peak { IfOk result (λ closed. closed.list.peak ≤ darts first.now + 2 * darts second.now) }
 {
     let mut closed = vertices_of(alloc, first)?;
     let mut moves = MoveList::new(alloc, first.darts());
@@ -135,6 +142,7 @@ fn append_back(
     ensures leads { OnOk result ((mesh : FaceList) (first : List ℕ) → IsWalk mesh walk.now
         → LeadsAtPeak mesh first moves.old (numbers vertices.old.items)
         → LeadsAtPeak mesh first moves.new (numbers vertices.new.items ++ drop 1 walk.now)) }
+    ensures peak { OnOk result (moves.new.peak ≤ max moves.old.peak (darts (numbers vertices.old.items) + 2 * darts walk.now)) }
 {
     let darts = walk.darts();
     for done in 0..darts {

@@ -5,14 +5,18 @@ ghost use Rattle.surf_model.specs.FreeWalks.{AreFreelyEqual, HasNoSpur};
 ghost use Rattle.surf_model.specs.Vertices.{numbers};
 ghost use Rattle.surf_model.specs.Walks.{IsWalk};
 ghost use Rattle.tree_cotree.specs.Splits.{IsSplit};
+ghost use Rattle.halfedge_map.specs.DartMaps.{darts_of};
 ghost use Rattle.halfedge_map.specs.OrientedMeshes.{OrientedMesh};
 ghost use Rattle.tree_cotree.specs.Splits.{SplitView};
 ghost use Rattle.polygon_cut.specs.Polygons.{PolygonView};
+ghost use Rattle.polygon_cut.specs.ShortWalks.{AreShortAround};
 ghost use Rattle.polygon_cut.specs.SpokeLoops.{AreWaysUp, backward};
 ghost use Rattle.move_lifting.specs.Cuts.{IsCut};
-ghost use Rattle.move_lifting.specs.LoopsPutIn.{HasLoopIn};
+ghost use Rattle.move_lifting.specs.LoopsPutIn.{HasLoopIn, IsFreelyPath};
 ghost use Rattle.move_lifting.specs.SpokeWalks.{AreTurns, HasWalk, IsLooper, IsLooping, along_or_back, walks_loop};
 ghost use Rattle.move_lifting.specs.Tracks.{GoesOn, last_of};
+ghost use Rattle.move_lifting.specs.declared.expanding.TheConstants.{MOST_LIFTED_DARTS};
+ghost use Rattle.move_lifting.specs.TurnPeaks.{GoesInShortly, KeepsBound};
 
 use crate::cut::Cut;
 use crate::inserting::{back_along, put_turn};
@@ -95,8 +99,6 @@ pub(crate) struct Looping<'a> {
 impl Looping<'_> {
     /// Puts the loop of the last side, or if `up` the way back along it, into the closed walk of a track: behind the spokes in
     /// front, by way of the tree.
-    ///
-    /// A walk of 2^31 vertices is answered as want of memory.
     pub(crate) fn put_loop(
         &self,
         looper: &mut Looper,
@@ -109,6 +111,9 @@ impl Looping<'_> {
         requires front { All (λ spoke. spoke < self.now.cut.now.polygon.now.degree) front.now }
         requires walk { IsWalk self.now.cut.now.on.surface.now.mesh track.walk }
         requires closed { last_of track.walk ≡ slice_index track.walk 0 }
+        requires no_spur { HasNoSpur track.walk }
+        requires short { GoesInShortly self.now.cut.now.on.surface.now self.now.cut.now.on.split.now self.now.cut.now.polygon.now
+            front.now track.walk MOST_LIFTED_DARTS }
         ensures looper { OnOk result
             (IsLooper self.now.cut.now.on.surface.now self.now.cut.now.on.split.now self.now.cut.now.polygon.now looper.new) }
         ensures leads { IfOk result (λ after. GoesOn self.now.cut.now.on.surface.now.mesh self.now.behind track.walk track.list
@@ -119,6 +124,10 @@ impl Looping<'_> {
         ensures last { IfOk result (λ after. last_of after.walk ≡ last_of track.walk) }
         ensures some { IfOk result (λ after. 0 < length after.walk) }
         ensures few { IfOk result (λ after. length after.walk < 2 ^ 31) }
+        ensures peak { IfOk result (λ after. (path : List ℕ) (pairs : ℕ)
+            → IsFreelyPath self.now.cut.now.on.surface.now self.now.cut.now.on.split.now self.now.cut.now.polygon.now path track.walk
+            → AreShortAround self.now.cut.now.on.surface.now self.now.cut.now.on.split.now self.now.cut.now.polygon.now front.now path pairs
+            → KeepsBound (darts_of self.now.cut.now.on.surface.now) self.now.behind pairs track.list.peak after.list.peak) }
     {
         let (alloc, cut) = (self.alloc, self.cut);
         let (surface, polygon) = (cut.on.surface, cut.polygon);
@@ -143,11 +152,12 @@ impl Looping<'_> {
         requires front { All (HasWalk spokes.now) front.now }
         requires start { is_used self.now.cut.now.on.surface.now.mesh start.0 ≡ true }
         requires end { is_used self.now.cut.now.on.surface.now.mesh end.0 ≡ true }
-        ensures { IfOk result (λ walk. (root : ℕ) (ways : ℕ → List ℕ)
+        ensures freely { IfOk result (λ walk. (root : ℕ) (ways : ℕ → List ℕ)
             → AreWaysUp self.now.cut.now.on.surface.now self.now.cut.now.on.split.now root ways
             → AreFreelyEqual self.now.cut.now.on.surface.now.mesh
             (start.0 ∷ (ways start.0 ++ (backward end.0 (ways end.0) ++ walks_loop spokes.now true front.now)))
             (numbers walk.items)) }
+        ensures no_spur { IfOk result (λ walk. HasNoSpur (numbers walk.items)) }
     {
         let (alloc, cut) = (self.alloc, self.cut);
         let (surface, split) = (cut.on.surface, cut.on.split);

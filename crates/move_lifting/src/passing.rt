@@ -4,11 +4,13 @@ ghost use Rattle.surf_model.specs.FaceLists.{FaceList, face_at, is_edge};
 ghost use Rattle.surf_model.specs.FreeWalks.{HasNoSpur};
 ghost use Rattle.surf_model.specs.Vertices.{numbers};
 ghost use Rattle.surf_model.specs.Walks.{IsWalk};
-ghost use Rattle.halfedge_map.specs.OrientedMeshes.{IsOrientedSurface};
+ghost use Rattle.halfedge_map.specs.OrientedMeshes.{IsOrientedSurface, OrientedMesh};
+ghost use Rattle.tree_cotree.specs.Splits.{SplitView};
 ghost use Rattle.move_lifting.specs.Contractions.{IsLedFrom};
 ghost use Rattle.move_lifting.specs.Crossings.{IsFaceBelow};
 ghost use Rattle.move_lifting.specs.Cuts.{IsSplitSurface};
 ghost use Rattle.move_lifting.specs.Lifts.{AvoidsCotree, MoreLeaveCotree, MoreRemove};
+ghost use Rattle.move_lifting.specs.Loads.{StaysWithin};
 ghost use Rattle.move_lifting.specs.Passes.{IsPass, IsPassedFrom};
 ghost use Rattle.move_lifting.specs.Tracks.{GoesOn, last_of};
 ghost use Rattle.move_lifting.specs.declared.expanding.TheConstants.{MOST_PASSED_ENTRIES, MOST_LIFTED_DARTS};
@@ -53,6 +55,8 @@ impl Pass<'_> {
         ensures few { IfOk result (λ track. length track.walk ≤ MOST_PASSED_ENTRIES) }
         ensures leaves { IfOk result (λ track. MoreLeaveCotree self.now.on.now.surface.now self.now.on.now.split.now moves.moves
             track.list.moves) }
+        ensures within { IfOk result (λ track. StaysWithin self.now.on.now.surface.now self.now.on.now.split.now self.now.behind
+            (numbers walk.now) moves track.walk track.list) }
     {
         let mut track = Track::start(alloc, walk[0], walk.len() as u32 - 1, moves)?;
         let mut pending = Vec::with_capacity(alloc, self.on.surface.darts() as usize)?;
@@ -89,6 +93,8 @@ impl Pass<'_> {
             track.old.list track.new.walk track.new.list) }
         ensures leaves { OnOk result (MoreLeaveCotree self.now.on.now.surface.now self.now.on.now.split.now track.old.list.moves
             track.new.list.moves) }
+        ensures within { OnOk result (StaysWithin self.now.on.now.surface.now self.now.on.now.split.now (left + self.now.behind)
+            (track.old.walk ++ to.0 ∷ []) track.old.list track.new.walk track.new.list) }
     {
         let after = left + self.behind;
         let entries = track.place() + 2 + left;
@@ -140,6 +146,8 @@ fn put_pending(
         track.old.list track.new.walk track.new.list) }
     ensures removals { OnOk result (MoreRemove track.old.list.moves track.new.list.moves) }
     ensures cells { OnOk result (length track.new.walk + track.new.spare ≡ length track.old.walk + track.old.spare) }
+    ensures within { OnOk result ((surface : OrientedMesh) (split : SplitView) → StaysWithin surface split behind
+        (track.old.walk ++ reverse (numbers pending.old.items)) track.old.list track.new.walk track.new.list) }
 {
     while let Some(next) = pending.pop() {
         track.put(next, pending.len() as u32 + behind)?;
@@ -166,6 +174,8 @@ pub(crate) fn lead_in_passes(
     ensures last { IfOk result (λ track. last_of track.walk ≡ last_of (numbers walk.items)) }
     ensures some { IfOk result (λ track. 0 < length track.walk) }
     ensures leaves { IfOk result (λ track. MoreLeaveCotree on.now.surface.now on.now.split.now moves.moves track.list.moves) }
+    ensures within { IfOk result (λ track. StaysWithin on.now.surface.now on.now.split.now behind (numbers walk.items) moves
+        track.walk track.list) }
     // What holds of every surface.
     ensures valid { IfOk result (λ _. IsOrientedSurface on.now.surface.now) }
 {

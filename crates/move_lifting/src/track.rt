@@ -60,6 +60,7 @@ impl Track {
         ensures last { IfOk result (λ track. last_of track.walk ≡ last_of laid.walk) }
         ensures some { IfOk result (λ track. 0 < length track.walk) }
         ensures few { IfOk result (λ track. length track.walk ≤ length laid.walk) }
+        ensures peak { IfOk result (λ track. track.list.peak ≤ max moves.peak (darts laid.walk + behind)) }
     {
         let entries = laid.len();
         let mut track = Track { laid, moves };
@@ -125,6 +126,7 @@ impl Track {
         ensures last { OnOk result (last_of self.new.walk ≡ next.0) }
         ensures shape { OnOk result (GrowsOrShrinks self.old.walk self.new.walk next.0) }
         ensures cells { OnOk result (length self.new.walk + self.new.spare ≡ length self.old.walk + self.old.spare) }
+        ensures peak { OnOk result (self.new.list.peak ≤ max self.old.list.peak (length self.old.walk + behind)) }
     {
         if self.came_from(next) {
             return self.step_back(behind);

@@ -118,7 +118,7 @@ turned_parity : (at_vertex : Bool) (path : List ℕ) → ends_at_vertex (not at_
 turned_parity at_vertex [] = refl
 turned_parity at_vertex (i ∷ path) = turned_parity (not at_vertex) path
 
-parity : (path : List ℕ) → ends_at_vertex true path ≡ comes_back path
+pub parity : (path : List ℕ) → ends_at_vertex true path ≡ comes_back path
 parity [] = refl
 parity (i ∷ path) = turned_parity true path ∙ ap not (parity path)
 

@@ -27,5 +27,9 @@ pub mod FreeMoveLemmas
 pub mod FreeQuadLemmas
 pub mod FreeWayLemmas
 pub mod FreeLawLemmas
+pub mod RingArcLemmas
+pub mod TreePathLemmas
+pub mod ShortWalkLemmas
+pub mod ShortFrontLemmas
 pub mod WalkLemmas
 pub mod SphereLemmas

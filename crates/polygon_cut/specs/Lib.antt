@@ -1,3 +1,4 @@
 pub mod Polygons
 pub mod StoredPolygons
 pub mod SpokeLoops
+pub mod ShortWalks

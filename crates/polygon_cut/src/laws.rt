@@ -1,6 +1,7 @@
 //! What holds of every polygon cut from a surface, said of the definitions. A call of one of these functions does
 //! nothing; its contract is the law.
-ghost use Rattle.std.specs.Prelude.{◌≡◌, ℕ, ◌+◌, ◌-◌, ◌<◌, true, List, length, slice_index, All};
+ghost use Rattle.std.specs.Prelude.{◌≡◌, ℕ, ◌+◌, ◌*◌, ◌-◌, ◌<◌, ◌≤◌, true, false, List, [], ◌∷◌, ◌++◌, length, slice_index, All};
+ghost use Rattle.surf_model.specs.FaceLists.{is_used};
 ghost use Rattle.surf_model.specs.Walks.{IsWalk, HaveCommonEnds};
 ghost use Rattle.surf_model.specs.Moves.{Homotopic, Leads};
 ghost use Rattle.surf_model.specs.FreeWalks.{AreFreelyEqual};
@@ -11,8 +12,9 @@ ghost use Rattle.halfedge_map.specs.DartMaps.{darts_of, twin_of, edge_of, origin
 ghost use Rattle.halfedge_map.specs.RotationSystems.{rotations_of};
 ghost use Rattle.tree_cotree.specs.Splits.{SplitView, IsSplit, in_tree, in_cotree, is_left};
 ghost use Rattle.polygon_cut.specs.Polygons.{PolygonView, IsCutFrom, KindLabels, label_of, place_of, turned, one_up, one_down};
+ghost use Rattle.polygon_cut.specs.ShortWalks.{AreShortAround, IsFreelyShort};
 ghost use Rattle.polygon_cut.specs.SpokeLoops.{AreWaysUp, HaveFreeSpokes, LeavesCotree, IsOffCotree, by_loop, path_loop, spokes_along};
-ghost use Rattle.polygon_cut.specs.SpokeLoops.{backward, way_round, way_back_round, last_side, last_side_loop, across_last, ArePushedFreely, ArePushedWithLoop};
+ghost use Rattle.polygon_cut.specs.SpokeLoops.{backward, comes_back, way_round, way_back_round, last_side, last_side_loop, across_last, ArePushedFreely, ArePushedWithLoop};
 
 /// One step along the ring of tree and leftover edges keeps the label, or raises it by one past a leftover dart: along a
 /// tree edge both labels are one, across a cotree edge they are, and along a leftover edge the label rises by one.
@@ -96,4 +98,38 @@ pub fn pushes_are_free_but_at_the_last_side()
         → IsOrientedSurface surface → IsSplit surface split → IsCutFrom surface split polygon → 0 < polygon.degree
         → AreWaysUp surface split root up
         → ArePushedWithLoop surface polygon root up (polygon.degree - 1) (across_last surface polygon) }
+{}
+
+/// The loop of a list of spokes, with a way up the tree before it and a way down behind it, is a short walk, up to spurs:
+/// for each two spokes it goes once along the tree and once along a part of the ring, and at the end along the tree again.
+pub fn loops_of_spokes_are_short()
+    ensures { (surface : OrientedMesh) (split : SplitView) (polygon : PolygonView) (root : ℕ) (up : ℕ → List ℕ) (u v pairs : ℕ)
+        (path : List ℕ) → IsOrientedSurface surface → IsSplit surface split → IsCutFrom surface split polygon
+        → 0 < polygon.degree → AreWaysUp surface split root up → is_used surface.mesh u ≡ true → is_used surface.mesh v ≡ true
+        → All (λ spoke. spoke < polygon.degree) path → length path ≤ 2 * pairs
+        → IsFreelyShort surface pairs (by_loop up u v (path_loop surface polygon root up true path)) }
+{}
+
+/// Where the loop of the last side is put in, the way there and the way back and on are short, up to spurs: behind an even
+/// number of spokes of a path, with or without the two of the side across from the last one behind them, or behind an odd
+/// number with any one spoke behind them.
+pub fn loops_are_put_in_along_short_ways()
+    ensures behind { (surface : OrientedMesh) (split : SplitView) (polygon : PolygonView) (before after : List ℕ)
+        (there home pairs : ℕ) → IsOrientedSurface surface → IsSplit surface split → IsCutFrom surface split polygon
+        → 0 < polygon.degree → comes_back before ≡ true → All (λ spoke. spoke < polygon.degree) before
+        → All (λ spoke. spoke < polygon.degree) after → length before ≤ 2 * there → length after ≤ 2 * home
+        → there + home ≤ pairs → AreShortAround surface split polygon before (before ++ after) pairs }
+    ensures behind_two { (surface : OrientedMesh) (split : SplitView) (polygon : PolygonView) (before after : List ℕ)
+        (there home pairs : ℕ) → IsOrientedSurface surface → IsSplit surface split → IsCutFrom surface split polygon
+        → 0 < polygon.degree → comes_back before ≡ true → All (λ spoke. spoke < polygon.degree) before
+        → All (λ spoke. spoke < polygon.degree) after → length before ≤ 2 * there → length after ≤ 2 * home
+        → there + home ≤ pairs
+        → AreShortAround surface split polygon
+        (before ++ across_last surface polygon ∷ (across_last surface polygon + 1) ∷ []) (before ++ after) pairs }
+    ensures behind_one { (surface : OrientedMesh) (split : SplitView) (polygon : PolygonView) (before : List ℕ) (spoke : ℕ)
+        (after : List ℕ) (there home pairs : ℕ) → IsOrientedSurface surface → IsSplit surface split
+        → IsCutFrom surface split polygon → 0 < polygon.degree → comes_back before ≡ false
+        → All (λ spoke. spoke < polygon.degree) (before ++ spoke ∷ []) → All (λ spoke. spoke < polygon.degree) (spoke ∷ after)
+        → length before < 2 * there → length after < 2 * home → there + home ≤ pairs
+        → AreShortAround surface split polygon (before ++ spoke ∷ []) (before ++ after) pairs }
 {}

@@ -1,9 +1,10 @@
-use Rattle.std.proofs.Common.{◌≡◌, ℕ, List, [], get_or, refl, ap, sym, ◌∙◌, subst, arith, Some}
+use Rattle.std.proofs.Common.{◌≡◌, ℕ, ◌≤◌, List, [], length, get_or, refl, ap, sym, ◌∙◌, subst, arith, Some}
 use Rattle.spoke_paths.specs.Path_steps.{after_path_step, PathLeads}
 use Rattle.spoke_paths.specs.declared.step.PathStep.{PathStep}
 use Rattle.spoke_paths.specs.declared.step.PathStep.TheVariants.{Spur}
 use Rattle.move_lifting.specs.LoopsPutIn.{IsFreelyPath}
 use Rattle.move_lifting.proofs.ContractLemmas.{led_walk, next_allowed, contracted_on, all_contracted, one_left}
+use Rattle.move_lifting.proofs.ShortStepLemmas.{step_no_longer}
 use Rattle.move_lifting.proofs.contracting.contract.Goals as goal
 
 pub loop-step-init : goal.loop-step-init
@@ -20,6 +21,8 @@ loop-step-init c = record {
         (sym c.deref-step-items.ensures.value)
         c.requires.reduction.leads;
   };
+  few = omega arith;
+  low = λ pairs few bound begun room. begun;
   looper = c.new-looper.ensures c.args.cut.now.on.surface.now c.args.cut.now.on.split.now c.args.cut.now.polygon.now;
 }
 
@@ -62,7 +65,17 @@ loop-step-preserved c =
     c.in_ok-track.ensures.last
     (λ other e.
     c.in_ok-track.ensures.spokes other (ap (after_path_step c.args.cut.now.polygon.now.places step) c.deref.ensures.value ∙ e)) in
-    record { so_far = so_far; looper = c.in_ok-track.ensures.looper }
+    let shorter : length c.take_step.new.path.items ≤ length c.loop-step.path.items =
+    step_no_longer c.args.cut.now.polygon.now.places step c.loop-step.path.items c.take_step.new.path.items taken in
+    record {
+      so_far = so_far;
+      few = omega (arith, shorter, c.loop-step.invariant.few);
+      low = λ pairs few bound begun room.
+          c.in_ok-track.ensures.peak pairs
+          (omega (arith, few, c.loop-step.invariant.few, ap (λ (l : List ℕ). length l) c.deref.ensures.value)) bound
+          (c.loop-step.invariant.low pairs few bound begun room) room;
+      looper = c.in_ok-track.ensures.looper;
+    }
 
 pub returns-clause-nothing : goal.returns-clause-nothing
 returns-clause-nothing c =
@@ -78,7 +91,11 @@ follow-requires-clause-spokes c =
     c.loop-step.invariant.so_far.spokes
 
 pub follow-requires-clause-looping : goal.follow-requires-clause-looping
-follow-requires-clause-looping c = record { cut = c.requires.cut }
+follow-requires-clause-looping c = record { cut = c.requires.cut; behind = c.requires.behind }
+
+pub follow-requires-clause-few : goal.follow-requires-clause-few
+follow-requires-clause-few c =
+    omega (arith, c.requires.few, c.loop-step.invariant.few, ap (λ (l : List ℕ). length l) c.deref.ensures.value)
 
 pub returns-then-is_one_vertex-clause-nothing : goal.returns-then-is_one_vertex-clause-nothing
 returns-then-is_one_vertex-clause-nothing c =

@@ -1,13 +1,17 @@
 use Rattle.std.proofs.Common.{◌≡◌, ◌⊎◌, inl, inr, ℕ, ◌+◌, ◌-◌, ◌<◌, List, length, ap, sym, ◌∙◌, subst, arith, Some}
 use Rattle.std.specs.Prelude.{All, slice_index}
+use Rattle.std.proofs.lemmas.Result.{IfOk-weaker}
 use Rattle.turn_words.specs.Form_laws.{IsQuad}
+use Rattle.polygon_cut.specs.ShortWalks.{AreShortAround}
 use Rattle.spoke_paths.specs.Path_steps.{after_path_step}
 use Rattle.spoke_paths.specs.declared.step.PathStep.{PathStep}
 use Rattle.spoke_paths.proofs.Placing.{some-turn}
 use Rattle.move_lifting.specs.LoopFronts.{spokes_in_front}
 use Rattle.move_lifting.specs.LoopsPutIn.{IsFreelyPath, HasLoopIn}
 use Rattle.move_lifting.specs.Tracks.{TrackView}
+use Rattle.move_lifting.specs.declared.expanding.TheConstants.{MOST_LIFTED_DARTS}
 use Rattle.move_lifting.proofs.ContractLemmas.{spur_follows, turn_follows, loop_starts, loop_follows, quad_below, front_below, both_ok}
+use Rattle.move_lifting.proofs.ShortStepLemmas.{front_short}
 use Rattle.move_lifting.proofs.contracting.follow.Goals as goal
 
 pub returns-in_default-clause-spokes : goal.returns-in_default-clause-spokes
@@ -112,3 +116,50 @@ returns-clause-spokes c =
     c.in-Turn.is e) c.requires.walk c.requires.below which front_is
     there puts c.requires.spokes)
     c.put_loop.ensures.some c.put_loop.ensures.freely
+
+-- where the loop goes in, the ways are short
+pub put_loop-requires-clause-short : goal.put_loop-requires-clause-short
+put_loop-requires-clause-short c =
+    let s = c.args.looping.now.cut.now.on.surface.now in
+    let split = c.args.looping.now.cut.now.on.split.now in
+    let polygon = c.args.looping.now.cut.now.polygon.now in
+    let front_is : c.deref.result.now ≡ spokes_in_front (polygon.degree - 1) c.args.path.now c.in-Turn.at c.in-Turn.side c.in-Turn.partner =
+    c.deref.ensures.value ∙ c.in_ok-front.ensures
+    ∙ ap (λ n. spokes_in_front (n - 1) c.args.path.now c.in-Turn.at c.in-Turn.side c.in-Turn.partner) c.degree-last.ensures.degree in
+    let last_is = ap (λ n. n - 1) c.degree-last.ensures.degree in
+    let which : (c.in-Turn.side ≡ polygon.degree - 1) ⊎ (c.in-Turn.partner ≡ polygon.degree - 1) =
+    elim c.else-side-last.either [ inl other ↦ inr (other.1 ∙ last_is) | inr own ↦ inl (own ∙ last_is) ] in
+    let allowed = subst (λ (step : PathStep). after_path_step polygon.places step c.args.path.now ≡ Some c.requires.allowed.0) c.in-Turn.is
+    c.requires.allowed.1 in
+    record {
+      path = c.args.path.now;
+      below = c.requires.below;
+      few = c.requires.few;
+      spokes = c.requires.spokes;
+      around = subst (λ (l : List ℕ). AreShortAround s split polygon l c.args.path.now (MOST_LIFTED_DARTS + 1)) (sym front_is)
+          (front_short s split c.requires.looping.cut.valid c.requires.looping.cut.on.split polygon c.requires.looping.cut.polygon
+          c.requires.looping.cut.some c.in-Turn.up c.in-Turn.at c.in-Turn.side c.in-Turn.partner c.args.path.now c.requires.allowed.0
+          MOST_LIFTED_DARTS allowed c.requires.below which c.requires.few);
+    }
+
+pub returns-clause-peak : goal.returns-clause-peak
+returns-clause-peak c =
+    let s = c.args.looping.now.cut.now.on.surface.now in
+    let split = c.args.looping.now.cut.now.on.split.now in
+    let polygon = c.args.looping.now.cut.now.polygon.now in
+    let front_is : c.deref.result.now ≡ spokes_in_front (polygon.degree - 1) c.args.path.now c.in-Turn.at c.in-Turn.side c.in-Turn.partner =
+    c.deref.ensures.value ∙ c.in_ok-front.ensures
+    ∙ ap (λ n. spokes_in_front (n - 1) c.args.path.now c.in-Turn.at c.in-Turn.side c.in-Turn.partner) c.degree-last.ensures.degree in
+    let last_is = ap (λ n. n - 1) c.degree-last.ensures.degree in
+    let which : (c.in-Turn.side ≡ polygon.degree - 1) ⊎ (c.in-Turn.partner ≡ polygon.degree - 1) =
+    elim c.else-side-last.either [ inl other ↦ inr (other.1 ∙ last_is) | inr own ↦ inl (own ∙ last_is) ] in
+    let allowed = subst (λ (step : PathStep). after_path_step polygon.places step c.args.path.now ≡ Some c.requires.allowed.0) c.in-Turn.is
+    c.requires.allowed.1 in
+    IfOk-weaker c.put_loop.result _ _
+    (λ x keeps pairs few.
+    keeps c.args.path.now (pairs + 1) c.requires.spokes
+    (subst (λ (l : List ℕ). AreShortAround s split polygon l c.args.path.now (pairs + 1)) (sym front_is)
+    (front_short s split c.requires.looping.cut.valid c.requires.looping.cut.on.split polygon c.requires.looping.cut.polygon
+    c.requires.looping.cut.some c.in-Turn.up c.in-Turn.at c.in-Turn.side c.in-Turn.partner c.args.path.now c.requires.allowed.0 pairs
+    allowed c.requires.below which few)))
+    c.put_loop.ensures.peak

@@ -1,10 +1,15 @@
-use Rattle.std.proofs.Common.{◌≡◌, [], ℕ, sym, ap, ◌∙◌, subst}
+use Rattle.std.proofs.Common.{◌≡◌, List, [], ℕ, ◌*◌, ◌≤◌, length, sym, ap, ◌∙◌, subst, arith}
+use Rattle.std.proofs.Math.Nat.{mul-le-mul_left}
 use Rattle.std.proofs.lemmas.Result.{IfOk-weaker}
+use Rattle.surf_model.specs.Moves.{PeakedMoves}
 use Rattle.surf_model.specs.Vertices.{numbers}
 use Rattle.surf_model.specs.Walks.{HaveCommonEnds, darts}
 use Rattle.surf_model.proofs.WayBackLemmas.{list_keeps_ends}
+use Rattle.halfedge_map.specs.DartMaps.{darts_of}
 use Rattle.move_lifting.specs.Lifts.{LeadsAtPeak, AvoidsCotree}
+use Rattle.move_lifting.specs.Loads.{StaysWithin}
 use Rattle.move_lifting.specs.declared.lifted.Lifted.{Lifted}
+use Rattle.move_lifting.proofs.BoundLemmas.{IsShort, short_walk, three_darts}
 use Rattle.move_lifting.proofs.ExpandLemmas.{led_whole}
 use Rattle.move_lifting.proofs.expanding.expand.Goals as goal
 
@@ -38,6 +43,37 @@ returns-clause-ends c =
     (list_keeps_ends c.args.surface.now.mesh c.in_ok-track.track.list.moves c.args.walk.now c.in_ok-track.track.walk c.requires.walk.starts
     (led c).leads))
     c.finish.ensures
+
+short : (c : goal.After-drop-vertices-2)
+    → IsShort (darts c.args.walk.now * darts_of c.args.surface.now) 0 c.in_ok-track.track.walk c.new-moves.result c.in_ok-track.track.list
+short c =
+    let s = c.args.surface.now in
+    let same : numbers c.deref.result.now ≡ c.args.walk.now = ap numbers c.deref.ensures.value ∙ c.in_ok-vertices.ensures in
+    short_walk s c.args.split.now c.in_ok-track.ensures.valid c.requires.split 0 c.args.walk.now c.in_ok-track.track.walk c.new-moves.result
+    c.in_ok-track.track.list c.requires.walk
+    (subst (λ (l : List ℕ). StaysWithin s c.args.split.now 0 l c.new-moves.result c.in_ok-track.track.walk c.in_ok-track.track.list) same
+    c.in_ok-track.ensures.within)
+
+pub returns-clause-long : goal.returns-clause-long
+returns-clause-long c =
+    IfOk-weaker c.finish.result (λ (x : Lifted). x ≡ record { walk = c.in_ok-track.track.walk; moves = c.in_ok-track.track.list })
+    (λ (x : Lifted). darts x.walk ≤ darts c.args.walk.now * darts_of c.args.surface.now)
+    (λ x e. omega (arith, (short c).long, ap (λ (y : Lifted). length y.walk) e)) c.finish.ensures
+
+pub returns-clause-low : goal.returns-clause-low
+returns-clause-low c =
+    let s = c.args.surface.now in
+    let one : 1 ≤ darts_of s = omega (arith, three_darts s c.in_ok-track.ensures.valid) in
+    IfOk-weaker c.finish.result (λ (x : Lifted). x ≡ record { walk = c.in_ok-track.track.walk; moves = c.in_ok-track.track.list })
+    (λ (x : Lifted). x.moves.peak ≤ darts c.args.walk.now * darts_of s)
+    (λ x e. omega (
+      arith,
+      (short c).peak,
+      mul-le-mul_left (darts c.args.walk.now) one,
+      ap (λ (y : Lifted). y.moves.peak) e,
+      ap (λ (l : PeakedMoves). l.peak) c.new-moves.ensures,
+      c.darts.ensures.count,
+    )) c.finish.ensures
 
 pub lead_all-requires-clause-on : goal.lead_all-requires-clause-on
 lead_all-requires-clause-on c = record { split = c.requires.split; sides = c.requires.sides }

@@ -5,7 +5,7 @@ use Rattle.surf_model.specs.Vertices.{numbers}
 use Rattle.surf_model.specs.declared.names.VertexName.{VertexName}
 use Rattle.move_lifting.specs.Lifts.{AvoidsCotree}
 use Rattle.move_lifting.specs.Tracks.{TrackView}
-use Rattle.move_lifting.proofs.ExpandLemmas.{led_first, led_more, led_all, length-numbers}
+use Rattle.move_lifting.proofs.ExpandLemmas.{led_first, led_more, led_all, led_all_within, length-numbers}
 use Rattle.move_lifting.proofs.expanding.lead_all.Goals as goal
 
 pub loop-place-init : goal.loop-place-init
@@ -51,7 +51,8 @@ loop-place-preserved c =
           c.lead_on.new.track n _
           (length c.args.walk.now - n - 1 + c.args.behind) c.loop-place.invariant.led here
           (get_or-map (λ (x : VertexName). x.0) c.args.walk.now n _ 0 within) (omega arith) c.in_ok-lead_on.ensures.leads
-          c.in_ok-lead_on.ensures.some c.in_ok-lead_on.ensures.no_spur c.in_ok-lead_on.ensures.last c.in_ok-lead_on.ensures.leaves;
+          c.in_ok-lead_on.ensures.some c.in_ok-lead_on.ensures.no_spur c.in_ok-lead_on.ensures.last c.in_ok-lead_on.ensures.leaves
+          c.in_ok-lead_on.ensures.within;
       off_cotree = c.in_ok-lead_on.ensures.off_cotree;
       pending = c.in_ok-lead_on.ensures.pending;
       few = omega (arith, c.in_ok-lead_on.ensures.long, c.loop-place.invariant.few, c.requires.on.sides);
@@ -64,3 +65,10 @@ returns-clause-leads c =
     (led_all c.args.on.now.surface.now c.args.on.now.split.now c.args.behind (numbers c.args.walk.now) c.args.moves c.loop-place.track
     c.loop-place.place
     c.loop-place.invariant.led all).0
+
+pub returns-clause-within : goal.returns-clause-within
+returns-clause-within c =
+    let all : c.loop-place.place ≡ length (numbers c.args.walk.now) =
+    omega (arith, c.loop-place-test.false, c.loop-place.auto.place-end, length-numbers c.args.walk.now, c.requires.walk.starts) in
+    led_all_within c.args.on.now.surface.now c.args.on.now.split.now c.args.behind (numbers c.args.walk.now) c.args.moves c.loop-place.track
+    c.loop-place.place c.loop-place.invariant.led all

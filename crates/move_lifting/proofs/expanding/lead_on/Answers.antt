@@ -7,7 +7,7 @@ use Rattle.halfedge_map.specs.RotationSystems.{rotations_of, IsDartFrom}
 use Rattle.tree_cotree.specs.Splits.{in_cotree}
 use Rattle.move_lifting.specs.Tracks.{TrackView, last_of}
 use Rattle.move_lifting.specs.Crossings.{IsFaceBelow, IsCrossed}
-use Rattle.move_lifting.proofs.ExpandLemmas.{under_way, led_on, all_come, none_left, one_pending, length-numbers, next_edge, room_along, room_across, put_on_way, cross_on_way}
+use Rattle.move_lifting.proofs.ExpandLemmas.{under_way, led_on, led_within, all_come, none_left, one_pending, length-numbers, next_edge, room_along, room_across, put_on_way, cross_on_way}
 use Rattle.move_lifting.proofs.expanding.lead_on.Goals as goal
 use Rattle.move_lifting.proofs.expanding.lead_on.Goals.{in-Some-face_below+in_ok-cross-in-Some-face_below, in-None+in_ok-put-in-None}
 
@@ -50,6 +50,13 @@ returns-in_default-clause-leads c =
     (led_on c.args.on.now.surface.now c.args.on.now.split.now c.args.behind c.args.to.0 c.args.track.now c.loop-step.track
     (numbers c.loop-step.pending.items)
     c.loop-step._step c.loop-step.invariant.under (ap numbers (none_left c.loop-step.pending.items few))).0
+
+pub returns-in_default-clause-within : goal.returns-in_default-clause-within
+returns-in_default-clause-within c =
+    let few : length c.loop-step.pending.items ≡ 0 = omega (arith, c.in_default.ensures.cases.0) in
+    led_within c.args.on.now.surface.now c.args.on.now.split.now c.args.behind c.args.to.0 c.args.track.now c.loop-step.track
+    (numbers c.loop-step.pending.items)
+    c.loop-step._step c.loop-step.invariant.under (ap numbers (none_left c.loop-step.pending.items few))
 
 pub face_below-requires-clause-edge : goal.face_below-requires-clause-edge
 face_below-requires-clause-edge c =
@@ -144,7 +151,7 @@ loop-step-preserved c =
             under = put_on_way s split c.args.behind c.args.to.0 c.args.track.now c.loop-step.track w.put.new.self
                 (numbers c.loop-step.pending.items)
                 (numbers c.pop.new.self.items) v c.loop-step._step (w.len.result + c.args.behind) c.loop-step.invariant.under popped after off
-                put.leads put.no_spur put.long put.last put.shape put.some put.more;
+                put.leads put.no_spur put.long put.last put.shape put.some put.more put.peak;
             cells = omega (arith, put.cells, c.loop-step.invariant.cells);
           })
     ]
@@ -179,3 +186,9 @@ returns-clause-leads c =
     (led_on c.args.on.now.surface.now c.args.on.now.split.now c.args.behind c.args.to.0 c.args.track.now c.loop-step.track
     (numbers c.loop-step.pending.items)
     c.loop-step._step c.loop-step.invariant.under (ap numbers (returns-clause-pending c))).0
+
+pub returns-clause-within : goal.returns-clause-within
+returns-clause-within c =
+    led_within c.args.on.now.surface.now c.args.on.now.split.now c.args.behind c.args.to.0 c.args.track.now c.loop-step.track
+    (numbers c.loop-step.pending.items)
+    c.loop-step._step c.loop-step.invariant.under (ap numbers (returns-clause-pending c))

@@ -1,5 +1,6 @@
-use Rattle.std.proofs.Common.{◌≡◌, ℕ, ◌-◌, ◌+◌, ◌++◌, List, length, take, drop, sym, subst, arith}
+use Rattle.std.proofs.Common.{◌≡◌, ℕ, ◌-◌, ◌+◌, ◌++◌, List, length, take, drop, ap, sym, subst, arith}
 use Rattle.std.proofs.lemmas.List.{get_or-map, take_all}
+use Rattle.surf_model.specs.Moves.{PeakedMoves}
 use Rattle.surf_model.specs.Vertices.{numbers}
 use Rattle.surf_model.specs.declared.names.VertexName.{VertexName}
 use Rattle.polygon_cut.specs.SpokeLoops.{backward}
@@ -18,6 +19,14 @@ loop-place-preserved c =
     let le = c.loop-place.auto.place in
     record {
       count = omega (arith, c.loop-place.invariant.count);
+      peak = omega (
+        arith,
+        ap (λ (l : PeakedMoves). l.peak) c.in_ok-push.ensures.ok,
+        c.loop-place.invariant.peak,
+        c.loop-place.invariant.count,
+        le,
+        c.requires.some,
+      );
       leads = λ mesh first rest w counted h.
           let count : k - 1 + 2 + c.loop-place.behind ≡ k + 1 + (k - n + length rest) =
           omega (arith, c.loop-place.invariant.count, counted, le, c.requires.some) in
@@ -28,8 +37,11 @@ loop-place-preserved c =
           (c.loop-place.invariant.leads mesh first rest w counted h);
     }
 
-pub returns : goal.returns
-returns c mesh first rest w counted h =
+pub returns-clause-peak : goal.returns-clause-peak
+returns-clause-peak c = omega (arith, c.loop-place.invariant.peak, c.loop-place-test.false, c.loop-place.auto.place-end c.requires.within)
+
+pub returns-clause-leads : goal.returns-clause-leads
+returns-clause-leads c mesh first rest w counted h =
     let walk : List ℕ = numbers c.args.approach.now in
     let all : take c.loop-place.place walk ≡ walk =
     take_all c.loop-place.place walk (omega (arith, c.loop-place-test.false, length-numbers c.args.approach.now)) in

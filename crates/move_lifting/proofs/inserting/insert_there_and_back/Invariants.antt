@@ -1,4 +1,4 @@
-use Rattle.std.proofs.Common.{◌≡◌, ℕ, ◌+◌, ◌++◌, List, length, take, drop}
+use Rattle.std.proofs.Common.{◌≡◌, ℕ, ◌+◌, ◌-◌, ◌≤◌, ◌++◌, max, List, length, take, drop}
 use Rattle.surf_model.specs.FaceLists.{FaceList}
 use Rattle.surf_model.specs.Vertices.{numbers}
 use Rattle.surf_model.specs.Walks.{IsWalk}
@@ -13,6 +13,7 @@ invariant-loop-place l =
     let back : List ℕ = backward (last_of (take l.common walk)) (drop l.common (take l.place walk)) in
     record {
       count : l.behind + l.common ≡ l.after + l.place;
+      peak : l.moves.peak ≤ max l.initial.moves.peak (l.place - 1 + (l.place - l.common) + l.after);
       leads : (mesh : FaceList) (first rest : List ℕ) → IsWalk mesh walk → length rest ≡ l.after
           → LeadsAtPeak mesh first l.initial.moves (take l.common walk ++ rest)
           → LeadsAtPeak mesh first l.moves (take l.place walk ++ (back ++ rest));

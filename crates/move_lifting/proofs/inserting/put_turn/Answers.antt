@@ -1,4 +1,4 @@
-use Rattle.std.proofs.Common.{refl, ◌<◌, ◌≡◌, ℕ, ◌+◌, ◌-◌, ◌++◌, List, length, drop, take, ap, sym, ◌∙◌, subst, arith}
+use Rattle.std.proofs.Common.{refl, ◌<◌, ◌≡◌, ◌≢◌, ℕ, ◌+◌, ◌-◌, ◌++◌, List, length, drop, take, get_or, ap, sym, ◌∙◌, subst, arith}
 use Rattle.std.proofs.lemmas.Result.{IfOk-weaker}
 use Rattle.chain_pool.specs.Chains.{spliced}
 use Rattle.surf_model.specs.Moves.{PeakedMoves}
@@ -8,6 +8,7 @@ use Rattle.move_lifting.specs.Lifts.{LeadsAtPeak}
 use Rattle.move_lifting.specs.PooledWalks.{Pooled}
 use Rattle.move_lifting.specs.Tracks.{last_of}
 use Rattle.move_lifting.proofs.ExpandLemmas.{length-numbers}
+use Rattle.move_lifting.proofs.BackPeakLemmas.{turn_rises}
 use Rattle.move_lifting.proofs.TurnLemmas.{BeginAlike, turned_whole, spliced_whole, back_long, length-turned_whole, turn_goes, turn_freely, turn_last}
 use Rattle.move_lifting.proofs.inserting.put_turn.Goals as goal
 use Rattle.move_lifting.proofs.inserting.put_turn.Goals.{After-put_in}
@@ -16,8 +17,8 @@ pub overflow_cast-len : goal.overflow_cast-len
 overflow_cast-len c =
     omega (
       arith,
-      c.in_ok-find_room.ensures,
-      c.len-2.ensures,
+      c.requires.room,
+      c.len.ensures,
       back_long c.args.approach.now c.in_ok-back.back.items c.common_start-common.result c.in_ok-back.ensures,
     )
 
@@ -25,8 +26,8 @@ pub overflow_mul-len : goal.overflow_mul-len
 overflow_mul-len c =
     omega (
       arith,
-      c.in_ok-find_room.ensures,
-      c.len-2.ensures,
+      c.requires.room,
+      c.len.ensures,
       back_long c.args.approach.now c.in_ok-back.back.items c.common_start-common.result c.in_ok-back.ensures,
     )
 
@@ -34,8 +35,8 @@ pub overflow_add-around : goal.overflow_add-around
 overflow_add-around c =
     omega (
       arith,
-      c.in_ok-find_room.ensures,
-      c.len-2.ensures,
+      c.requires.room,
+      c.len.ensures,
       back_long c.args.approach.now c.in_ok-back.back.items c.common_start-common.result c.in_ok-back.ensures,
     )
 
@@ -43,8 +44,8 @@ pub overflow_add-around-2 : goal.overflow_add-around-2
 overflow_add-around-2 c =
     omega (
       arith,
-      c.in_ok-find_room.ensures,
-      c.len-2.ensures,
+      c.requires.room,
+      c.len.ensures,
       back_long c.args.approach.now c.in_ok-back.back.items c.common_start-common.result c.in_ok-back.ensures,
     )
 
@@ -52,9 +53,10 @@ pub reserve-requires : goal.reserve-requires
 reserve-requires c =
     omega (
       arith,
-      c.in_ok-find_room.ensures,
-      c.len.ensures.count,
-      c.len-2.ensures,
+      c.requires.room,
+      ap (λ (p : Pooled). length p.walk) (c.common_start-common.ensures.kept ∙ c.into_laid-laid.ensures.walk),
+      c.darts-around.ensures.count,
+      c.len.ensures,
       back_long c.args.approach.now c.in_ok-back.back.items c.common_start-common.result c.in_ok-back.ensures,
     )
 
@@ -65,7 +67,7 @@ put_in-requires-clause-spare c =
       ap (λ (p : Pooled). p.spare) c.in_ok-reserve.ensures,
       c.darts-around.ensures.count,
       c.darts-around.ensures.starts,
-      c.len-2.ensures,
+      c.len.ensures,
       c.deref.ensures.len,
       back_long c.args.approach.now c.in_ok-back.back.items c.common_start-common.result c.in_ok-back.ensures,
     )
@@ -108,9 +110,8 @@ roomy c =
       length-turned_whole (numbers c.args.approach.now) c.args.turn.now.walk c.args.track.walk c.common_start-common.result
           c.darts-around.ensures.starts,
       length-numbers c.args.approach.now,
-      c.in_ok-find_room.ensures,
+      c.requires.room,
       c.darts-around.ensures.count,
-      c.len.ensures.count,
       ap (λ (p : Pooled). length p.walk) (c.common_start-common.ensures.kept ∙ c.into_laid-laid.ensures.walk),
     )
 
@@ -124,13 +125,13 @@ returns-clause-leads c =
     let approach : List ℕ = numbers c.args.approach.now in
     let walk : List ℕ = c.args.track.walk in
     let whole : List ℕ = c.put_in.new.self.walk in
-    let entries : c.len-3.result ≡ length walk = c.len-3.ensures.count ∙ ap (λ (l : List ℕ). length l) (was at) in
-    let after : c.len-3.result - n + c.args.behind ≡ length walk - n + c.args.behind =
+    let entries : c.len-2.result ≡ length walk = c.len-2.ensures.count ∙ ap (λ (l : List ℕ). length l) (was at) in
+    let after : c.len-2.result - n + c.args.behind ≡ length walk - n + c.args.behind =
     ap (λ (k : ℕ). k - n + c.args.behind) entries in
     let back = back_long c.args.approach.now c.in_ok-back.back.items n c.in_ok-back.ensures in
-    let counted : length c.args.approach.now - 1 + c.len-4.result + (c.len-3.result - n + c.args.behind)
+    let counted : length c.args.approach.now - 1 + c.len-3.result + (c.len-2.result - n + c.args.behind)
     ≡ length approach - 1 + (length approach - n) + (length walk - n + c.args.behind) =
-    omega (arith, after, back, c.len-4.ensures, length-numbers c.args.approach.now) in
+    omega (arith, after, back, c.len-3.ensures, length-numbers c.args.approach.now) in
     let moved : c.raise_moves.new.moves.moves
     ≡ c.insert_there_and_back.new.moves.moves ++ all_raised (length approach - 1) c.args.turn.now.moves.moves =
     c.in_ok-raise_moves.ensures.moves
@@ -141,7 +142,7 @@ returns-clause-leads c =
     turn_goes mesh c.args.behind approach walk c.args.turn.now.walk whole n _ c.args.track.list c.insert_there_and_back.new.moves
     c.raise_moves.new.moves c.args.turn.now.moves track (alike at)
     (λ first rest long h.
-    c.in_ok-insert_there_and_back.ensures mesh first rest w (long ∙ sym after)
+    c.in_ok-insert_there_and_back.ensures.leads mesh first rest w (long ∙ sym after)
     (subst (λ (l : PeakedMoves). LeadsAtPeak mesh first l (take n approach ++ rest)) (sym c.into_laid-laid.ensures.list) h))
     leads c.darts-around.ensures.starts c.requires.turn moved c.in_ok-raise_moves.ensures.none c.in_ok-raise_moves.ensures.some counted
     (is_whole at) (goes mesh))
@@ -170,3 +171,27 @@ pub returns-clause-few : goal.returns-clause-few
 returns-clause-few c =
     IfOk-weaker c.reduced.result _ _
     (λ track few. omega (arith, few, roomy (goal.at.returns-clause-few c).After-put_in)) c.reduced.ensures.few
+
+pub returns-clause-peak : goal.returns-clause-peak
+returns-clause-peak c =
+    let at = (goal.at.returns-clause-peak c).After-put_in in
+    let n : ℕ = c.common_start-common.result in
+    let approach : List ℕ = numbers c.args.approach.now in
+    let walk : List ℕ = c.args.track.walk in
+    let long : length approach ≡ length c.args.approach.now = length-numbers c.args.approach.now in
+    let read : c.into_laid-laid.result.0.walk ≡ walk = ap (λ (p : Pooled). p.walk) c.into_laid-laid.ensures.walk in
+    let entries : c.len-2.result ≡ length walk = c.len-2.ensures.count ∙ ap (λ (l : List ℕ). length l) (was at) in
+    let back = back_long c.args.approach.now c.in_ok-back.back.items n c.in_ok-back.ensures in
+    let begun : c.into_laid-laid.result.1.peak ≡ c.args.track.list.peak = ap (λ (l : PeakedMoves). l.peak) c.into_laid-laid.ensures.list in
+    let apart : n < length approach → n < length walk → get_or approach n 0 ≢ get_or walk n 0 = λ l m.
+    subst (λ (w : List ℕ). get_or approach n 0 ≢ get_or w n 0) read
+    (c.common_start-common.ensures.apart (omega (arith, l, long)) (omega (arith, m, ap (λ (w : List ℕ). length w) read))) in
+    IfOk-weaker c.reduced.result _ _
+    (λ track rises most low few clean other.
+    turn_rises approach walk c.args.turn.now.walk c.put_in.new.self.walk n c.args.behind
+    _ most (length c.args.turn.now.moves.moves) c.args.turn.now.moves.peak c.args.track.list.peak
+    c.insert_there_and_back.new.moves.peak c.raise_moves.new.moves.peak track.list.peak (alike at) clean other apart
+    (omega (arith, c.in_ok-insert_there_and_back.ensures.peak, begun, long, entries))
+    (omega (arith, c.len-3.ensures, back, entries, long)) c.in_ok-raise_moves.ensures.none c.in_ok-raise_moves.ensures.some low few
+    c.darts-around.ensures.starts (is_whole at) rises)
+    c.reduced.ensures.peak

@@ -19,7 +19,8 @@ loop-place-preserved c =
           c.loop-place.invariant.so_far
           (omega (arith, c.loop-place.auto.place)) here (get_or-map (λ (x : VertexName). x.0) c.args.walk.now n _ 0 within) (omega arith)
           c.in_ok-put.ensures.leads
-          c.in_ok-put.ensures.some c.in_ok-put.ensures.no_spur c.in_ok-put.ensures.last c.in_ok-put.ensures.long c.in_ok-put.ensures.shape;
+          c.in_ok-put.ensures.some c.in_ok-put.ensures.no_spur c.in_ok-put.ensures.last c.in_ok-put.ensures.long c.in_ok-put.ensures.shape
+          c.in_ok-put.ensures.peak;
       cells = omega (arith, c.in_ok-put.ensures.cells, c.loop-place.invariant.cells);
     }
 

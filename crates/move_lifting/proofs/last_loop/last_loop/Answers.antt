@@ -13,10 +13,12 @@ use Rattle.polygon_cut.specs.Polygons.{side_at}
 use Rattle.polygon_cut.specs.SpokeLoops.{last_side}
 use Rattle.move_lifting.specs.Crossings.{IsStepOf}
 use Rattle.move_lifting.specs.Lifts.{LeadsAtPeak}
+use Rattle.move_lifting.specs.Loads.{StaysWithin}
 use Rattle.move_lifting.specs.SpokeWalks.{IsLastLoop}
 use Rattle.move_lifting.specs.Tracks.{GoesOn}
 use Rattle.move_lifting.specs.declared.cut.Cut.{Cut}
 use Rattle.move_lifting.specs.declared.lifted.Lifted.{Lifted}
+use Rattle.move_lifting.proofs.BoundLemmas.{IsShort, short_within}
 use Rattle.move_lifting.proofs.ExpandLemmas.{length-numbers}
 use Rattle.move_lifting.proofs.LastLoopLemmas.{IsAllRound, round_leads, round_freely, gone_round, last_below, step_within, step_starts}
 use Rattle.move_lifting.proofs.last_loop.last_loop.Goals as goal
@@ -115,6 +117,12 @@ returns c =
     let led : LeadsAtPeak s.mesh (v ∷ []) c.in_ok-track.track.list c.in_ok-track.track.walk =
     subst (LeadsAtPeak s.mesh (v ∷ []) c.in_ok-track.track.list) (append-nil c.in_ok-track.track.walk)
     (goes (v ∷ []) [] refl (subst (LeadsAtPeak s.mesh (v ∷ []) c.push.new.self) (sym (append-nil corners)) noted)) in
+    let stays : StaysWithin s c.args.cut.now.on.split.now 0 corners c.push.new.self c.in_ok-track.track.walk c.in_ok-track.track.list =
+    subst (λ (l : List VertexName). StaysWithin s c.args.cut.now.on.split.now 0 (numbers l) c.push.new.self c.in_ok-track.track.walk
+    c.in_ok-track.track.list) c.deref.ensures.value c.in_ok-track.ensures.within in
+    let few : IsShort (darts_of s) 0 c.in_ok-track.track.walk c.push.new.self c.in_ok-track.track.list =
+    short_within s c.args.cut.now.on.split.now c.requires.valid c.requires.on.split 0 (darts_of s) corners c.in_ok-track.track.walk
+    c.push.new.self c.in_ok-track.track.list (round.light c.requires.on.split) stays in
     let begun : c.push.new.self.moves ≡ Across 0 c.step_from-step.result.face c.step_from-step.result.corner
     (not c.step_from-step.result.forward) 0 ∷ [] =
     ap (λ (l : PeakedMoves). l.moves) c.in_ok-push.ensures.ok ∙ ap (λ (l : PeakedMoves). l.moves ++ c.move_round.result ∷ [])
@@ -124,6 +132,15 @@ returns c =
     (record { walk = c.in_ok-track.track.walk; moves = c.in_ok-track.track.list }) =
     record {
       leads = led;
+      low = omega (
+        arith,
+        few.peak,
+        round.long,
+        count,
+        ap (λ (l : PeakedMoves). l.peak) c.in_ok-push.ensures.ok,
+        ap (λ (l : PeakedMoves). l.peak) c.new-moves.ensures,
+      );
+      short = omega (arith, few.long);
       no_spur = c.in_ok-track.ensures.no_spur;
       freely = λ root ways h.
           round_freely s c.args.cut.now.on.split.now c.args.cut.now.polygon.now c.args.back c.step_from-step.result corners

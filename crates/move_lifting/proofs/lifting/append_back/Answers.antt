@@ -1,4 +1,5 @@
 use Rattle.std.proofs.Common.{◌≡◌, ℕ, ◌+◌, ◌-◌, ◌<◌, ◌++◌, ◌∷◌, [], List, length, drop, get_or, max, sym, ap, ◌∙◌, subst, arith}
+use Rattle.surf_model.specs.Moves.{PeakedMoves}
 use Rattle.surf_model.specs.Vertices.{numbers}
 use Rattle.surf_model.specs.declared.moves.Move.TheVariants.{Insert}
 use Rattle.move_lifting.specs.Lifts.{LeadsAtPeak}
@@ -42,6 +43,17 @@ loop-done-preserved c =
     let one : place + 1 ≡ c.darts-darts.result - (c.loop-done.done + 1) + 1 = omega arith in
     let here : place ≡ c.darts-darts.result - (c.loop-done.done + 1) = omega arith in
     record {
+      peak = omega (
+        arith,
+        ap (λ (m : PeakedMoves). m.peak) noted,
+        c.loop-done.invariant.peak,
+        c.loop-done.invariant.long,
+        count,
+        c.len.ensures,
+        long,
+        length-numbers c.args.vertices.now.items,
+        c.requires.some,
+      );
       long = omega (arith, c.in_ok-push.ensures.len, c.loop-done.invariant.long);
       last = ap last_of pushed ∙ last-push out via.0 ∙ c.at-via.ensures ∙ ap (λ (n : ℕ). get_or second n 0) here;
       leads = λ mesh first w h.

@@ -1,13 +1,14 @@
-use Rattle.std.proofs.Common.{◌≡◌, ◌+◌, ◌-◌, ◌++◌, ℕ, List, length, drop, get_or}
+use Rattle.std.proofs.Common.{◌≡◌, ◌+◌, ◌*◌, ◌-◌, ◌≤◌, ◌++◌, max, ℕ, List, length, drop, get_or}
 use Rattle.surf_model.specs.FaceLists.{FaceList}
 use Rattle.surf_model.specs.Vertices.{numbers}
-use Rattle.surf_model.specs.Walks.{IsWalk}
+use Rattle.surf_model.specs.Walks.{IsWalk, darts}
 use Rattle.move_lifting.specs.Lifts.{LeadsAtPeak}
 use Rattle.move_lifting.specs.Tracks.{last_of}
 use Rattle.move_lifting.proofs.lifting.append_back.Given as goal
 
 abbrev pub invariant-loop-done : goal.invariant-loop-done
 invariant-loop-done l = record {
+  peak : l.moves.peak ≤ max l.initial.moves.peak (darts (numbers l.initial.vertices.items) + 2 * l.done);
   long : length l.vertices.items ≡ length l.initial.vertices.items + l.done;
   last : last_of (numbers l.vertices.items) ≡ get_or l.walk (l.darts - l.done) 0;
   leads : (mesh : FaceList) (first : List ℕ) → IsWalk mesh l.walk

@@ -1,9 +1,11 @@
-use Rattle.std.proofs.Common.{◌++◌, List, drop, sym, ◌∙◌, subst}
+use Rattle.std.proofs.Common.{◌++◌, ℕ, List, length, ap, drop, sym, ◌∙◌, subst, arith}
 use Rattle.std.proofs.lemmas.List.{length-drop}
 use Rattle.std.proofs.lemmas.Result.{IfOk-weaker}
+use Rattle.surf_model.specs.Moves.{PeakedMoves}
 use Rattle.surf_model.specs.Vertices.{numbers}
 use Rattle.surf_model.specs.declared.names.VertexName.{VertexName}
 use Rattle.move_lifting.specs.Lifts.{LeadsAtPeak}
+use Rattle.move_lifting.proofs.ExpandLemmas.{length-numbers}
 use Rattle.move_lifting.proofs.LiftLemmas.{closed_from}
 use Rattle.move_lifting.proofs.lifting.close.Goals as goal
 
@@ -18,3 +20,34 @@ returns-clause-leads c =
     c.new-moves.result c.append_back.new.moves c.darts.result w c.in_ok-closed.ensures c.new-moves.ensures c.darts.ensures.count
     c.in_ok-append_back.ensures.leads)))
     c.reduce_all.ensures.leads
+
+pub returns-clause-long : goal.returns-clause-long
+returns-clause-long c =
+    IfOk-weaker c.reduce_all.result _ _
+    (λ track few. omega (
+      arith,
+      few,
+      ap (λ (l : List VertexName). length l) c.deref.ensures.value,
+      c.in_ok-append_back.ensures.long,
+      length-numbers c.in_ok-closed.closed.items,
+      ap (λ (l : List ℕ). length l) c.in_ok-closed.ensures,
+      c.darts.ensures.starts,
+    )) c.reduce_all.ensures.few
+
+pub returns-clause-peak : goal.returns-clause-peak
+returns-clause-peak c =
+    IfOk-weaker c.reduce_all.result _ _
+    (λ track low. omega (
+      arith,
+      low,
+      c.in_ok-append_back.ensures.peak,
+      ap (λ (l : PeakedMoves). l.peak) c.new-moves.ensures,
+      c.darts.ensures.count,
+      c.darts-2.ensures.count,
+      ap (λ (l : List VertexName). length l) c.deref.ensures.value,
+      c.in_ok-append_back.ensures.long,
+      length-numbers c.deref.result.now,
+      length-numbers c.in_ok-closed.closed.items,
+      ap (λ (l : List ℕ). length l) c.in_ok-closed.ensures,
+      c.darts.ensures.starts,
+    )) c.reduce_all.ensures.peak

@@ -1,11 +1,14 @@
-use Rattle.std.proofs.Common.{subst}
-use Rattle.std.specs.Prelude.{MatchOption}
+use Rattle.std.proofs.Common.{◌≡◌, ℕ, ◌+◌, ◌*◌, ◌≤◌, List, length, sym, ap, subst, arith}
+use Rattle.std.specs.Prelude.{IfSome, MatchOption}
 use Rattle.surf_model.specs.FaceLists.{FaceList}
-use Rattle.surf_model.specs.Moves.{Homotopic}
+use Rattle.surf_model.specs.Moves.{Homotopic, PeakedMoves}
+use Rattle.surf_model.specs.Walks.{darts}
+use Rattle.halfedge_map.specs.DartMaps.{darts_of}
 use Rattle.common_ends.specs.Trimmed.{AreWalksTogether}
 use Rattle.common_ends.proofs.PeakLemmas.{places_within}
-use Rattle.common_ends.proofs.TrimLemmas.{left_together, left_apart, left_leads}
-use Rattle.move_lifting.specs.Lifts.{LeadsAtPeak}
+use Rattle.common_ends.proofs.TrimLemmas.{left_together, left_apart, left_leads, length-between}
+use Rattle.move_lifting.specs.Lifts.{HasLowPeak, LeadsAtPeak}
+use Rattle.move_lifting.proofs.BoundLemmas.{three_darts, low_around}
 use Rattle.move_lifting.proofs.lifting.lift.Goals as goal
 
 pub lift_between-requires-clause-walks : goal.lift_between-requires-clause-walks
@@ -22,24 +25,52 @@ put_back-requires c =
     c.requires.second c.of-common.ensures (record { near_is = c.in_ok-first.ensures; far_is = c.in_ok-second.ensures }) in
     let leads : LeadsAtPeak mesh c.in_ok-first.first c.in-Some.list c.in_ok-second.second =
     subst (λ o. MatchOption o (Homotopic mesh c.in_ok-first.first c.in_ok-second.second → ⊥)
-    (λ l. LeadsAtPeak mesh c.in_ok-first.first l c.in_ok-second.second)) c.in-Some.is c.in_ok-list.ensures in
+    (λ l. LeadsAtPeak mesh c.in_ok-first.first l c.in_ok-second.second)) c.in-Some.is c.in_ok-list.ensures.list in
     places_within mesh c.in_ok-first.first c.in_ok-second.second c.in-Some.list together.along.starts leads
 
-pub returns-in-Some : goal.returns-in-Some
-returns-in-Some c =
+pub returns-in-Some-clause-list : goal.returns-in-Some-clause-list
+returns-in-Some-clause-list c =
     let mesh : FaceList = c.args.surface.now.mesh in
     let leads : LeadsAtPeak mesh c.in_ok-first.first c.in-Some.list c.in_ok-second.second =
     subst (λ o. MatchOption o (Homotopic mesh c.in_ok-first.first c.in_ok-second.second → ⊥)
-    (λ l. LeadsAtPeak mesh c.in_ok-first.first l c.in_ok-second.second)) c.in-Some.is c.in_ok-list.ensures in
+    (λ l. LeadsAtPeak mesh c.in_ok-first.first l c.in_ok-second.second)) c.in-Some.is c.in_ok-list.ensures.list in
     left_leads mesh c.args.first.now c.args.second.now c.of-common.result c.in_ok-first.first c.in_ok-second.second c.in-Some.list
     c.in_ok-put_back-in-Some.field-0 c.requires.first c.requires.second c.of-common.ensures
     (record { near_is = c.in_ok-first.ensures; far_is = c.in_ok-second.ensures }) leads c.in_ok-put_back-in-Some.ensures
 
-pub returns : goal.returns
-returns c =
+pub returns-clause-list : goal.returns-clause-list
+returns-clause-list c =
     let mesh : FaceList = c.args.surface.now.mesh in
     let apart : Homotopic mesh c.in_ok-first.first c.in_ok-second.second → ⊥ =
     subst (λ o. MatchOption o (Homotopic mesh c.in_ok-first.first c.in_ok-second.second → ⊥)
-    (λ l. LeadsAtPeak mesh c.in_ok-first.first l c.in_ok-second.second)) c.in-None.is c.in_ok-list.ensures in
+    (λ l. LeadsAtPeak mesh c.in_ok-first.first l c.in_ok-second.second)) c.in-None.is c.in_ok-list.ensures.list in
     left_apart mesh c.args.first.now c.args.second.now c.of-common.result c.in_ok-first.first c.in_ok-second.second c.requires.first
     c.requires.second c.of-common.ensures (record { near_is = c.in_ok-first.ensures; far_is = c.in_ok-second.ensures }) apart
+
+pub returns-in-Some-clause-low : goal.returns-in-Some-clause-low
+returns-in-Some-clause-low c =
+    let s = c.args.surface.now in
+    let near : ℕ = darts c.in_ok-first.first + darts c.in_ok-second.second in
+    let all : ℕ = darts c.args.first.now + darts c.args.second.now in
+    let around : ℕ = c.of-common.result.front + c.of-common.result.back in
+    let low : HasLowPeak (darts_of s) near c.in-Some.list =
+    subst (λ o. IfSome o (HasLowPeak (darts_of s) near)) c.in-Some.is c.in_ok-list.ensures.low in
+    let count : near + 2 * around ≡ all =
+    omega (
+      arith,
+      c.of-common.ensures.in_first,
+      c.of-common.ensures.in_second,
+      c.requires.first.starts,
+      c.requires.second.starts,
+      ap (λ (l : List ℕ). length l) c.in_ok-first.ensures,
+      ap (λ (l : List ℕ). length l) c.in_ok-second.ensures,
+      length-between c.args.first.now c.of-common.result.front c.of-common.result.back
+          (omega (arith, c.of-common.ensures.in_first, c.requires.first.starts)),
+      length-between c.args.second.now c.of-common.result.front c.of-common.result.back
+          (omega (arith, c.of-common.ensures.in_second, c.requires.second.starts)),
+    ) in
+    let peak : around + c.in-Some.list.peak ≡ c.in_ok-put_back-in-Some.field-0.peak =
+    sym (ap (λ (l : PeakedMoves). l.peak) c.in_ok-put_back-in-Some.ensures) in
+    subst (λ n. 2 * n ≤ (3 * all + 7) * darts_of s) peak
+    (subst (λ n. 2 * (around + c.in-Some.list.peak) ≤ (3 * n + 7) * darts_of s) count
+    (low_around (darts_of s) near around c.in-Some.list.peak (three_darts s c.darts-sides.ensures.valid) low))

@@ -4,9 +4,11 @@ use Rattle.surf_model.specs.Vertices.{numbers}
 use Rattle.surf_model.specs.Walks.{IsWalk}
 use Rattle.surf_model.specs.declared.names.VertexName.{VertexName}
 use Rattle.move_lifting.specs.Lifts.{LeadsAtPeak}
+use Rattle.move_lifting.specs.Loads.{StaysWithin}
 use Rattle.move_lifting.specs.Tracks.{last_of}
 use Rattle.move_lifting.proofs.LeavingLemmas.{leave_on}
 use Rattle.move_lifting.proofs.PassLemmas.{led_walk}
+use Rattle.move_lifting.proofs.WithinLemmas.{within_on}
 use Rattle.move_lifting.proofs.passing.lead_in_passes.Goals as goal
 
 pub lead_all-requires-clause-walk : goal.lead_all-requires-clause-walk
@@ -34,3 +36,11 @@ returns-clause-leaves c =
     IfOk-weaker c.lead_all.result _ _
     (λ track more. leave_on c.args.on.now.surface.now c.args.on.now.split.now c.args.moves.moves c.in_ok-walk.moves.moves
     track.list.moves c.in_ok-walk.ensures.passed.leaves more) c.lead_all.ensures.leaves
+
+pub returns-clause-within : goal.returns-clause-within
+returns-clause-within c =
+    IfOk-weaker c.lead_all.result _ _
+    (λ track stays. within_on c.args.on.now.surface.now c.args.on.now.split.now c.args.behind (numbers c.args.walk.items)
+    (numbers c.in_ok-walk.walk.items) track.walk c.args.moves c.in_ok-walk.moves track.list c.in_ok-walk.ensures.passed.within
+    (subst (λ (v : List VertexName). StaysWithin c.args.on.now.surface.now c.args.on.now.split.now c.args.behind (numbers v)
+    c.in_ok-walk.moves track.walk track.list) c.deref.ensures.value stays)) c.lead_all.ensures.within

@@ -4,6 +4,7 @@ use Rattle.surf_model.specs.Walks.{IsWalk}
 use Rattle.surf_model.specs.declared.names.VertexName.{VertexName}
 use Rattle.halfedge_map.specs.OrientedMeshes.{OrientedMesh}
 use Rattle.tree_cotree.specs.Splits.{SplitView}
+use Rattle.move_lifting.specs.Loads.{StaysWithin}
 use Rattle.move_lifting.specs.Passes.{IsPassedFrom}
 use Rattle.move_lifting.specs.Tracks.{TrackView, GoesOn, last_of}
 use Rattle.move_lifting.proofs.ExpandLemmas.{length-numbers}
@@ -38,11 +39,14 @@ loop-pass-preserved c =
     let goes : GoesOn s.mesh c.args.behind old.walk old.list track.walk track.list =
     subst (λ (l : List VertexName). GoesOn s.mesh c.args.behind (numbers l) c.loop-pass.moves track.walk track.list)
     c.deref-in-loop-pass-3.ensures.value c.in_ok-track.ensures.leads in
+    let within : StaysWithin s split c.args.behind old.walk old.list track.walk track.list =
+    subst (λ (l : List VertexName). StaysWithin s split c.args.behind (numbers l) c.loop-pass.moves track.walk track.list)
+    c.deref-in-loop-pass-3.ensures.value c.in_ok-track.ensures.within in
     let last : last_of track.walk ≡ last_of old.walk =
     c.in_ok-track.ensures.last ∙ ap (λ (l : List VertexName). last_of (numbers l)) c.deref-in-loop-pass-3.ensures.value in
     let passed : IsPassedFrom s split c.args.behind begun track =
     passed_on s split c.args.behind begun old track c.loop-pass.invariant.passed goes last c.in_ok-track.ensures.some
-    c.in_ok-track.ensures.leaves in
+    c.in_ok-track.ensures.leaves within in
     let vertices : numbers c.in_ok-next.next.items ≡ track.walk = c.in_ok-next.ensures.vertices in
     let moves : c.in_ok-next.list ≡ track.list = c.in_ok-next.ensures.moves in
     let long : length c.in_ok-next.next.items ≡ length track.walk =

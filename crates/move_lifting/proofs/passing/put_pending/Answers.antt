@@ -3,6 +3,7 @@ use Rattle.std.specs.Prelude.{reverse}
 use Rattle.std.proofs.lemmas.List.{append-nil}
 use Rattle.surf_model.specs.Vertices.{numbers}
 use Rattle.surf_model.specs.declared.names.VertexName.{VertexName}
+use Rattle.move_lifting.specs.Loads.{StaysWithin}
 use Rattle.move_lifting.specs.Tracks.{GoesOn}
 use Rattle.move_lifting.proofs.ExpandLemmas.{none_left}
 use Rattle.move_lifting.proofs.PassLemmas.{put_more}
@@ -16,7 +17,7 @@ loop-next-preserved c =
           c.pop.new.self.items c.in-Some.next (c.len.result + c.args.behind) c.loop-next.invariant.so_far c.in-Some.ensures.items
           (omega (arith, c.len.ensures)) c.in_ok-put.ensures.leads c.in_ok-put.ensures.no_spur c.in_ok-put.ensures.some
           c.in_ok-put.ensures.long
-          c.in_ok-put.ensures.last c.in_ok-put.ensures.more;
+          c.in_ok-put.ensures.last c.in_ok-put.ensures.more c.in_ok-put.ensures.shape c.in_ok-put.ensures.peak;
       cells = omega (arith, c.in_ok-put.ensures.cells, c.loop-next.invariant.cells);
     }
 
@@ -28,3 +29,13 @@ returns-clause-leads c = λ mesh.
     (append-nil c.loop-next.track.walk)
     (subst (λ (l : List VertexName). GoesOn mesh c.args.behind begun c.args.track.now.list (c.loop-next.track.walk ++ reverse (numbers l))
     c.loop-next.track.list) (none_left c.loop-next.pending.items few) (c.loop-next.invariant.so_far.leads mesh))
+
+pub returns-clause-within : goal.returns-clause-within
+returns-clause-within c = λ s split.
+    let few : length c.loop-next.pending.items ≡ 0 = omega (arith, c.in_default.ensures.cases.0) in
+    let begun : List ℕ = c.args.track.now.walk ++ reverse (numbers c.args.pending.now.items) in
+    subst (λ (l : List ℕ). StaysWithin s split c.args.behind begun c.args.track.now.list l c.loop-next.track.list)
+    (append-nil c.loop-next.track.walk)
+    (subst (λ (l : List VertexName). StaysWithin s split c.args.behind begun c.args.track.now.list
+    (c.loop-next.track.walk ++ reverse (numbers l)) c.loop-next.track.list) (none_left c.loop-next.pending.items few)
+    (c.loop-next.invariant.so_far.within s split))

@@ -27,8 +27,8 @@ slice_bounds-put_all-start c =
     c.in_ok-up.up.items c.in_ok-up.ensures in
     omega (arith, some, ap (λ (l : List VertexName). length l) c.deref-2.ensures.value)
 
-pub returns : goal.returns
-returns c root ways h =
+pub returns-clause-freely : goal.returns-clause-freely
+returns-clause-freely c root ways h =
     let s = c.args.self.now.cut.now.on.surface.now in
     let x : ℕ = c.args.start.0 in
     let y : ℕ = c.args.end.0 in

@@ -1,7 +1,7 @@
 use Rattle.std.proofs.Common.{◌≡◌, ℕ, ◌-◌, ◌<◌, ◌∷◌, [], Bool, true, List, get_or, ap, sym, ◌∙◌, subst, arith}
 use Rattle.std.specs.Prelude.{All, if◌then◌else◌}
 use Rattle.surf_model.specs.FaceLists.{is_used}
-use Rattle.surf_model.specs.FreeWalks.{AreFreelyEqual}
+use Rattle.surf_model.specs.FreeWalks.{AreFreelyEqual, HasNoSpur}
 use Rattle.surf_model.specs.Vertices.{numbers}
 use Rattle.surf_model.specs.Walks.{IsWalk}
 use Rattle.surf_model.specs.declared.names.VertexName.{VertexName}
@@ -15,11 +15,13 @@ use Rattle.move_lifting.proofs.ApproachLemmas.{goes_end, goes_start, goes_some, 
 use Rattle.move_lifting.proofs.ExpandLemmas.{length-numbers}
 use Rattle.move_lifting.proofs.LastLoopLemmas.{last_below}
 use Rattle.move_lifting.proofs.LoopInLemmas.{IsReady, approach_by, is_ready, picked, loop_put_in}
+use Rattle.move_lifting.proofs.LoopRiseLemmas.{loop_rises, loop_room}
 use Rattle.move_lifting.proofs.TreeUpLemmas.{origin_used}
 use Rattle.halfedge_map.specs.OrientedMeshes.{OrientedMesh}
 use Rattle.tree_cotree.specs.Splits.{SplitView}
 use Rattle.polygon_cut.specs.Polygons.{PolygonView}
 use Rattle.move_lifting.specs.SpokeWalks.{IsLooping}
+use Rattle.move_lifting.specs.declared.expanding.TheConstants.{MOST_LIFTED_DARTS}
 use Rattle.move_lifting.specs.declared.lifted.Lifted.{Lifted}
 use Rattle.move_lifting.specs.declared.looping.Looping.{Looping}
 use Rattle.move_lifting.specs.declared.looping.Turns.{Turns}
@@ -83,7 +85,7 @@ ready c =
     c.turn.ensures c.make.new.self c.take_turns.new.self.spokes c.take_turns.ensures.kept c.in_ok-make.ensures.walks c.args.front.now
     c.in_ok-make.ensures.made c.args.track.walk c.requires.walk c.first.result.0 c.origin-end.result.0 c.side.result.0 c.first.ensures
     (last_is c.args.self.now c.side.result.0 c.degree.result c.side.ensures c.degree.ensures.degree) c.origin-end.ensures
-    c.in_ok-approach.approach.items c.deref.result.now c.deref.ensures.value c.in_ok-approach.ensures
+    c.in_ok-approach.approach.items c.deref.result.now c.deref.ensures.value c.in_ok-approach.ensures.freely
 
 pub put_turn-requires-clause-approach : goal.put_turn-requires-clause-approach
 put_turn-requires-clause-approach c =
@@ -118,6 +120,42 @@ put_turn-requires-clause-places c =
     places_below (surface_of c.args.self.now).mesh c.turn.result.now.moves.moves (last_of (numbers c.deref.result.now) ∷ [])
     c.turn.result.now.walk c.turn.result.now.moves.peak (omega arith) r.leads.leads (omega (arith, r.leads.peak))
 
+pub put_turn-requires-clause-room : goal.put_turn-requires-clause-room
+put_turn-requires-clause-room c =
+    let l : Looping = c.args.self.now in
+    let s : OrientedMesh = surface_of l in
+    let r : IsLooping l = c.requires.looping in
+    let last : c.side.result.0 ≡ last_side (polygon_of l) =
+    last_is l c.side.result.0 c.degree.result c.side.ensures c.degree.ensures.degree in
+    let front : List ℕ = c.args.front.now in
+    let walks : List (List ℕ) = c.take_turns.new.self.spokes in
+    let y_is : c.origin-end.result.0 ≡ origin_of s (last_side (polygon_of l)) = c.origin-end.ensures ∙ ap (origin_of s) last in
+    let all : AreSpokeWalks s (split_of l) (polygon_of l) walks =
+    subst (AreSpokeWalks s (split_of l) (polygon_of l)) (sym c.take_turns.ensures.kept) c.in_ok-make.ensures.walks in
+    let made : All (HasWalk walks) front =
+    subst (λ (w : List (List ℕ)). All (HasWalk w) front) (sym c.take_turns.ensures.kept) c.in_ok-make.ensures.made in
+    let turn = picked s (split_of l) (polygon_of l) c.in_ok-turns.turns c.args.up c.turn.result.now c.in_ok-turns.ensures.turns
+    c.turn.ensures in
+    let no_spur : HasNoSpur (numbers c.deref.result.now) =
+    subst (λ (x : List VertexName). HasNoSpur (numbers x)) (sym c.deref.ensures.value) c.in_ok-approach.ensures.no_spur in
+    let goes = c.requires.short in
+    omega (
+      arith,
+      length-numbers c.deref.result.now,
+      loop_room s (split_of l) r.cut.valid r.cut.on.split (polygon_of l) r.cut.polygon r.cut.some walks all front made goes.path
+          c.args.track.walk (numbers c.deref.result.now) c.turn.result.now.walk c.origin-end.result.0 l.behind c.turn.result.now.moves.peak
+          MOST_LIFTED_DARTS y_is (end_used l r c.side.result.0 c.origin-end.result.0 last c.origin-end.ensures) c.requires.walk
+          c.requires.closed
+          (λ root ways h.
+          subst (λ (x : List VertexName). AreFreelyEqual s.mesh
+          (approach_by ways (get_or c.args.track.walk 0 0) c.origin-end.result.0 (walks_loop walks true front)) (numbers x))
+          (sym c.deref.ensures.value)
+          (subst (λ (v : ℕ). AreFreelyEqual s.mesh (approach_by ways v c.origin-end.result.0 (walks_loop walks true front))
+          (numbers c.in_ok-approach.approach.items)) c.first.ensures (c.in_ok-approach.ensures.freely root ways h)))
+          no_spur c.requires.no_spur goes.spokes goes.around goes.below goes.few (omega arith) (omega (arith, r.behind))
+          (omega (arith, r.cut.on.sides)) turn.short turn.low,
+    )
+
 -- where the approach is ready, the moves lead there and round and back
 pub returns-clause-leads : goal.returns-clause-leads
 returns-clause-leads c =
@@ -127,7 +165,7 @@ returns-clause-leads c =
     c.turn.ensures c.make.new.self c.take_turns.new.self.spokes c.take_turns.ensures.kept c.in_ok-make.ensures.walks c.args.front.now
     c.in_ok-make.ensures.made c.args.track.walk c.requires.walk c.first.result.0 c.origin-end.result.0 c.side.result.0 c.first.ensures
     (last_is c.args.self.now c.side.result.0 c.degree.result c.side.ensures c.degree.ensures.degree) c.origin-end.ensures
-    c.in_ok-approach.approach.items c.deref.result.now c.deref.ensures.value c.in_ok-approach.ensures in
+    c.in_ok-approach.approach.items c.deref.result.now c.deref.ensures.value c.in_ok-approach.ensures.freely in
     c.in_ok-after.ensures.leads s.mesh
     (goes_walk s.mesh c.first.result.0 c.origin-end.result.0 (numbers c.deref.result.now) there.there) there.leads
 
@@ -157,8 +195,39 @@ returns-clause-freely c =
     (approach_by ways (get_or c.args.track.walk 0 0) c.origin-end.result.0 (walks_loop walks true front)) (numbers x))
     (sym c.deref.ensures.value)
     (subst (λ (v : ℕ). AreFreelyEqual s.mesh (approach_by ways v c.origin-end.result.0 (walks_loop walks true front))
-    (numbers c.in_ok-approach.approach.items)) x_is (c.in_ok-approach.ensures root ways h)))
+    (numbers c.in_ok-approach.approach.items)) x_is (c.in_ok-approach.ensures.freely root ways h)))
     (c.in_ok-after.ensures.freely s.mesh)
+
+pub returns-clause-peak : goal.returns-clause-peak
+returns-clause-peak c path pairs is_path short =
+    let l : Looping = c.args.self.now in
+    let s : OrientedMesh = surface_of l in
+    let r : IsLooping l = c.requires.looping in
+    let last : c.side.result.0 ≡ last_side (polygon_of l) =
+    last_is l c.side.result.0 c.degree.result c.side.ensures c.degree.ensures.degree in
+    let front : List ℕ = c.args.front.now in
+    let walks : List (List ℕ) = c.take_turns.new.self.spokes in
+    let x_is : c.first.result.0 ≡ get_or c.args.track.walk 0 0 = c.first.ensures in
+    let y_is : c.origin-end.result.0 ≡ origin_of s (last_side (polygon_of l)) = c.origin-end.ensures ∙ ap (origin_of s) last in
+    let all : AreSpokeWalks s (split_of l) (polygon_of l) walks =
+    subst (AreSpokeWalks s (split_of l) (polygon_of l)) (sym c.take_turns.ensures.kept) c.in_ok-make.ensures.walks in
+    let made : All (HasWalk walks) front =
+    subst (λ (w : List (List ℕ)). All (HasWalk w) front) (sym c.take_turns.ensures.kept) c.in_ok-make.ensures.made in
+    let turn = picked s (split_of l) (polygon_of l) c.in_ok-turns.turns c.args.up c.turn.result.now c.in_ok-turns.ensures.turns
+    c.turn.ensures in
+    let no_spur : HasNoSpur (numbers c.deref.result.now) =
+    subst (λ (x : List VertexName). HasNoSpur (numbers x)) (sym c.deref.ensures.value) c.in_ok-approach.ensures.no_spur in
+    loop_rises s (split_of l) r.cut.valid r.cut.on.split (polygon_of l) r.cut.polygon r.cut.some walks all front made path
+    c.args.track.walk (numbers c.deref.result.now) c.origin-end.result.0 l.behind pairs c.args.track.list.peak
+    c.in_ok-after.after.list.peak y_is (end_used l r c.side.result.0 c.origin-end.result.0 last c.origin-end.ensures) c.requires.walk
+    c.requires.closed
+    (λ root ways h.
+    subst (λ (x : List VertexName). AreFreelyEqual s.mesh
+    (approach_by ways (get_or c.args.track.walk 0 0) c.origin-end.result.0 (walks_loop walks true front)) (numbers x))
+    (sym c.deref.ensures.value)
+    (subst (λ (v : ℕ). AreFreelyEqual s.mesh (approach_by ways v c.origin-end.result.0 (walks_loop walks true front))
+    (numbers c.in_ok-approach.approach.items)) x_is (c.in_ok-approach.ensures.freely root ways h)))
+    no_spur is_path short (c.in_ok-after.ensures.peak (darts_of s) turn.low turn.short no_spur c.requires.no_spur)
 
 pub returns-clause-looper : goal.returns-clause-looper
 returns-clause-looper c = record {

@@ -4,7 +4,7 @@ use Rattle.surf_model.specs.FaceLists.{FaceList, is_edge}
 use Rattle.surf_model.specs.Vertices.{numbers}
 use Rattle.surf_model.specs.declared.names.VertexName.{VertexName}
 use Rattle.move_lifting.specs.Tracks.{TrackView}
-use Rattle.move_lifting.proofs.ExpandLemmas.{led_first, led_more, led_all, length-numbers}
+use Rattle.move_lifting.proofs.ExpandLemmas.{led_first, led_more, led_all, led_all_within, length-numbers}
 use Rattle.move_lifting.proofs.passing.Pass.over.Goals as goal
 
 pub loop-place-init : goal.loop-place-init
@@ -48,7 +48,8 @@ loop-place-preserved c =
       led = led_more c.args.self.now.on.now.surface.now c.args.self.now.on.now.split.now c.args.self.now.behind walk c.args.moves
           c.loop-place.track c.step.new.track n _ (length c.args.walk.now - n - 1 + c.args.self.now.behind) c.loop-place.invariant.led here
           (get_or-map (λ (x : VertexName). x.0) c.args.walk.now n _ 0 within) (omega arith) c.in_ok-step.ensures.leads
-          c.in_ok-step.ensures.some c.in_ok-step.ensures.no_spur c.in_ok-step.ensures.last c.in_ok-step.ensures.leaves;
+          c.in_ok-step.ensures.some c.in_ok-step.ensures.no_spur c.in_ok-step.ensures.last c.in_ok-step.ensures.leaves
+          c.in_ok-step.ensures.within;
       pending = c.in_ok-step.ensures.pending;
       few = omega (arith, c.in_ok-step.ensures.few, within);
       cells = omega (arith, c.in_ok-step.ensures.spare, within);
@@ -67,3 +68,10 @@ returns-clause-last c =
     omega (arith, c.loop-place-test.false, c.loop-place.auto.place-end, length-numbers c.args.walk.now, c.requires.walk.starts) in
     (led_all c.args.self.now.on.now.surface.now c.args.self.now.on.now.split.now c.args.self.now.behind (numbers c.args.walk.now)
     c.args.moves c.loop-place.track c.loop-place.place c.loop-place.invariant.led all).1
+
+pub returns-clause-within : goal.returns-clause-within
+returns-clause-within c =
+    let all : c.loop-place.place ≡ length (numbers c.args.walk.now) =
+    omega (arith, c.loop-place-test.false, c.loop-place.auto.place-end, length-numbers c.args.walk.now, c.requires.walk.starts) in
+    led_all_within c.args.self.now.on.now.surface.now c.args.self.now.on.now.split.now c.args.self.now.behind (numbers c.args.walk.now)
+    c.args.moves c.loop-place.track c.loop-place.place c.loop-place.invariant.led all

@@ -1,4 +1,5 @@
-use Rattle.std.proofs.Common.{◌≡◌, ℕ, ◌+◌, List, length, ap, ◌∙◌, subst, arith}
+use Rattle.std.proofs.Common.{◌≡◌, ℕ, ◌+◌, List, [], ◌∷◌, ◌++◌, length, ap, ◌∙◌, subst, arith}
+use Rattle.std.specs.Prelude.{reverse}
 use Rattle.std.proofs.lemmas.Result.{on_ok_weaker}
 use Rattle.surf_model.specs.FaceLists.{FaceList, face_at}
 use Rattle.surf_model.specs.Vertices.{numbers}
@@ -6,9 +7,11 @@ use Rattle.halfedge_map.specs.OrientedMeshes.{OrientedMesh}
 use Rattle.tree_cotree.specs.Splits.{SplitView}
 use Rattle.move_lifting.specs.Crossings.{IsFaceBelow, IsCrossed}
 use Rattle.move_lifting.specs.Tracks.{TrackView, last_of}
+use Rattle.move_lifting.proofs.ContractLemmas.{both_ok}
 use Rattle.move_lifting.proofs.ExpandLemmas.{length-numbers}
 use Rattle.move_lifting.proofs.LeavingLemmas.{leave_on, removed_leave}
 use Rattle.move_lifting.proofs.PassLemmas.{IsCrossedOnce, crossed_on, crossed_once, on_both}
+use Rattle.move_lifting.proofs.WithinLemmas.{within_on, within_put}
 use Rattle.move_lifting.proofs.passing.Pass.step.Goals as goal
 
 pub put_pending-requires-clause-room : goal.put_pending-requires-clause-room
@@ -180,5 +183,32 @@ returns-in_ok-cross-in-Some-clause-leaves c =
     (λ more. leave_on s split c.args.track.now.list.moves c.cross.new.track.list.moves c.put_pending.new.track.list.moves once.leaves
     (removed_leave s split c.cross.new.track.list.moves c.put_pending.new.track.list.moves more)) c.put_pending.ensures.removals
 
+pub returns-in_ok-cross-in-Some-clause-within : goal.returns-in_ok-cross-in-Some-clause-within
+returns-in_ok-cross-in-Some-clause-within c =
+    let s : OrientedMesh = c.args.self.now.on.now.surface.now in
+    let split : SplitView = c.args.self.now.on.now.split.now in
+    let after : ℕ = c.args.left + c.args.self.now.behind in
+    let under : IsFaceBelow s split (last_of c.args.track.now.walk) c.args.to.0 c.in-Some.step =
+    subst (λ (x : ℕ). IsFaceBelow s split x c.args.to.0 c.in-Some.step) c.last.ensures.vertex c.in-Some.ensures.below in
+    let crossed : IsCrossed s.mesh c.in-Some.step after c.args.track.now (numbers c.args.pending.now.items) c.cross.new.track
+    (numbers c.cross.new.pending.items) =
+    crossed_on c.args.self.now.on.now.surface.now.mesh c.faces-faces.result.now c.in-Some.step after _ c.args.track.now c.reserve.new.self
+    c.cross.new.track (numbers c.args.pending.now.items) (numbers c.cross.new.pending.items) c.faces-faces.ensures.mesh
+    c.in_ok-reserve-in-Some.ensures c.in_ok-cross-in-Some.ensures.crossed in
+    let once : IsCrossedOnce s split after c.args.to.0 c.in-Some.step c.args.track.now c.cross.new.track
+    (numbers c.cross.new.pending.items) =
+    crossed_once s split c.faces-faces.ensures.valid after c.args.to.0 c.in-Some.step c.args.track.now c.cross.new.track
+    (numbers c.args.pending.now.items) (numbers c.cross.new.pending.items) (ap numbers c.requires.pending) c.requires.some under crossed in
+    on_ok_weaker c.put_pending.result
+    (λ stays. within_on s split after (c.args.track.now.walk ++ c.args.to.0 ∷ [])
+    (c.cross.new.track.walk ++ reverse (numbers c.cross.new.pending.items)) c.put_pending.new.track.walk c.args.track.now.list
+    c.cross.new.track.list c.put_pending.new.track.list once.within (stays s split)) c.put_pending.ensures.within
+
 pub returns-in-None-clause-leads : goal.returns-in-None-clause-leads
 returns-in-None-clause-leads c = on_ok_weaker c.put.result (λ goes. goes c.args.self.now.on.now.surface.now.mesh) c.put.ensures.leads
+
+pub returns-in-None-clause-within : goal.returns-in-None-clause-within
+returns-in-None-clause-within c =
+    both_ok c.put.result _ _ _
+    (λ _ shape peak. within_put c.args.self.now.on.now.surface.now c.args.self.now.on.now.split.now (c.args.left + c.args.self.now.behind)
+    c.args.to.0 c.args.track.now c.put.new.self shape peak) c.put.ensures.shape c.put.ensures.peak

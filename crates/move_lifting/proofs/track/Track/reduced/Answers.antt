@@ -57,3 +57,6 @@ returns-clause-last c = (done c).last
 
 pub returns-clause-few : goal.returns-clause-few
 returns-clause-few c = (done c).few
+
+pub returns-clause-peak : goal.returns-clause-peak
+returns-clause-peak c = (done c).peak

@@ -1,0 +1,97 @@
+-- How long a walk gets on the way off the cotree, and how great the peak, in numbers of darts.
+use Rattle.std.proofs.Common.{◌≡◌, ℕ, ◌+◌, ◌*◌, ◌<◌, ◌≤◌, max, List, [], ◌∷◌, length, ap, subst, arith}
+use Rattle.std.proofs.Math.Nat.{mul-le-mul_left, mul-le-mul_right}
+use Rattle.std.proofs.lemmas.List.Sums.{get_or-le-sum_by}
+use Rattle.std.proofs.lemmas.Nat.{mul-le}
+use Rattle.surf_model.specs.Moves.{PeakedMoves}
+use Rattle.surf_model.specs.Walks.{IsWalk, darts}
+use Rattle.halfedge_map.specs.OrientedMeshes.{OrientedMesh, IsOrientedSurface}
+use Rattle.halfedge_map.specs.DartMaps.{darts_of}
+use Rattle.halfedge_map.proofs.EdgeLemmas.{dart_between}
+use Rattle.tree_cotree.specs.Splits.{SplitView, IsSplit}
+use Rattle.move_lifting.specs.Loads.{load_of, AreWeights, StaysWithin}
+use Rattle.move_lifting.specs.declared.expanding.TheConstants.{MOST_LIFTED_SIDES, MOST_LIFTED_DARTS}
+use Rattle.move_lifting.proofs.ExpandLemmas.{IsRest, rest_of_step}
+use Rattle.move_lifting.proofs.RestLemmas.{pair_weight, pair_positive, pair_most, rest_falls}
+use Rattle.move_lifting.proofs.WithinLemmas.{darts_weigh, load_most}
+
+-- a dart weighs as many darts as hang below its edge
+pub are_weights : (s : OrientedMesh) (split : SplitView) → IsOrientedSurface s → (t : IsSplit s split)
+    → AreWeights s split (pair_weight s split t)
+are_weights s split o t = record {
+  some = pair_positive s split t;
+  falls = λ u v step under.
+      let around : IsRest s.mesh step u v = rest_of_step s split o.faces u v step under in
+      let fall =
+      rest_falls s split o t step.face.0 step.corner step.forward u v under.dart under.is_step.face under.is_step.corner under.starts
+      under.ends under.from under.below in
+      omega (arith, fall, ap (load_of (pair_weight s split t)) around.turned);
+}
+
+-- a walk weighs no more than all darts for each of its own
+pub walk_most : (s : OrientedMesh) (split : SplitView) → IsOrientedSurface s → (t : IsSplit s split) → (walk : List ℕ) → IsWalk s.mesh walk
+    → load_of (pair_weight s split t) walk ≤ darts walk * darts_of s
+walk_most s split o t [] w = omega arith
+walk_most s split o t (u ∷ []) w = omega arith
+walk_most s split o t (u ∷ v ∷ rest) w =
+    let found = dart_between s o u v (w.edges 0 (omega arith)) in
+    let some : 0 < darts_of s = (let within : found.0 < darts_of s = found.1.within in omega arith) in
+    let count : length (v ∷ rest) ≡ darts (u ∷ v ∷ rest) = omega arith in
+    subst (λ (n : ℕ). load_of (pair_weight s split t) (u ∷ v ∷ rest) ≤ n * darts_of s) count
+    (load_most (pair_weight s split t) (darts_of s) (λ x y. pair_most s split t x y some) u (v ∷ rest))
+
+-- the walk that is left has no more darts than a walk weighs, and the peak is no greater than that with what stands behind
+pub record IsShort (most behind : ℕ) (next : List ℕ) (list more : PeakedMoves) : Type 0 where
+  pub long : length next ≤ most + 1
+  pub peak : more.peak ≤ max list.peak (most + behind)
+
+pub short_within : (s : OrientedMesh) (split : SplitView) → IsOrientedSurface s → (t : IsSplit s split)
+    → (behind most : ℕ) (walk next : List ℕ) (list more : PeakedMoves)
+    → load_of (pair_weight s split t) walk ≤ most → StaysWithin s split behind walk list next more → IsShort most behind next list more
+short_within s split o t behind most walk next list more light stays =
+    let weight : ℕ → ℕ → ℕ = pair_weight s split t in
+    let told = stays weight (are_weights s split o t) in
+    record {
+      long = omega (arith, light, told.0, darts_weigh weight (pair_positive s split t) next);
+      peak = omega (arith, light, told.1);
+    }
+
+pub short_walk : (s : OrientedMesh) (split : SplitView) → IsOrientedSurface s → IsSplit s split
+    → (behind : ℕ) (walk next : List ℕ) (list more : PeakedMoves)
+    → IsWalk s.mesh walk → StaysWithin s split behind walk list next more
+    → IsShort (darts walk * darts_of s) behind next list more
+short_walk s split o t behind walk next list more w stays =
+    short_within s split o t behind (darts walk * darts_of s) walk next list more (walk_most s split o t walk w) stays
+
+-- a surface has a face, and so three darts
+pub three_darts : (s : OrientedMesh) → IsOrientedSurface s → 3 ≤ darts_of s
+three_darts s o =
+    omega (
+      arith,
+      (o.faces.faces 0 [] o.closed.some_face).polygon,
+      get_or-le-sum_by (λ (l : List ℕ). length l) s.mesh.faces 0 [] o.closed.some_face,
+    )
+
+-- a peak of so many darts for each dart of two walks, and the darts of the walks, is low
+pub is_low : (sides darts few peak : ℕ) → 3 ≤ sides → few ≤ darts → peak ≤ max (2 * darts) (few * sides + darts)
+    → 2 * peak ≤ (3 * darts + 7) * sides
+is_low sides darts few peak three less low =
+    omega (arith, low, three, mul-le-mul_right sides less, mul-le-mul_left darts three, parts darts sides)
+  where
+    parts : (k n : ℕ) → (3 * k + 7) * n ≡ 3 * (k * n) + 7 * n
+    parts k n = omega arith
+
+-- within the limits it is no greater than this
+pub low_most : (sides darts peak : ℕ) → sides ≤ MOST_LIFTED_SIDES → darts ≤ MOST_LIFTED_DARTS → 2 * peak ≤ (3 * darts + 7) * sides
+    → peak ≤ 12640256
+low_most sides darts peak few less low =
+    omega (arith, low, mul-le (3 * darts + 7) sides 1543 16384 (omega (arith, less)) few)
+
+-- a low peak stays low where the walks have so many darts more before and behind
+pub low_around : (sides darts around peak : ℕ) → 3 ≤ sides → 2 * peak ≤ (3 * darts + 7) * sides
+    → 2 * (around + peak) ≤ (3 * (darts + 2 * around) + 7) * sides
+low_around sides darts around peak three low =
+    omega (arith, low, mul-le-mul_left around three, parts darts around sides)
+  where
+    parts : (k a n : ℕ) → (3 * (k + 2 * a) + 7) * n ≡ (3 * k + 7) * n + 6 * (a * n)
+    parts k a n = omega arith

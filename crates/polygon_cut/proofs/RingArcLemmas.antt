@@ -1,0 +1,255 @@
+-- Arcs of the ring of tree and leftover edges: the walk along it from one side to another, past no last side, is worth the loops of the
+-- two spokes, there along the one and back along the other, and it has fewer darts than the surface has sides.
+use Rattle.std.proofs.Common.{◌≡◌, ◌≢◌, inl, inr, ℕ, zero, suc, ◌+◌, ◌-◌, ◌<◌, ◌≤◌, false, not, List, [], ◌∷◌, ◌++◌, length, refl, ap, sym, ◌∙◌, subst, arith, length-append}
+use Rattle.std.proofs.lemmas.Bool.{cases_Bool, cases_lt}
+use Rattle.surf_model.specs.FreeWalks.{AreFreelyEqual}
+use Rattle.halfedge_map.specs.Orbits.{after_steps}
+use Rattle.halfedge_map.specs.OrientedMeshes.{OrientedMesh, IsOrientedSurface}
+use Rattle.halfedge_map.specs.DartMaps.{darts_of, next_of, twin_of, origin_of, edge_of}
+use Rattle.halfedge_map.specs.RotationSystems.{rotations_of, IsRotationSystem}
+use Rattle.halfedge_map.proofs.OrbitLemmas.{IsPermutationBelow, steps_add, steps_within}
+use Rattle.halfedge_map.proofs.SystemLemmas.{rotation_system, names_all}
+use Rattle.tree_cotree.specs.Splits.{SplitView, IsSplit, in_cotree}
+use Rattle.tree_cotree.proofs.AfterLemmas.{after_permutes, go_on, turn}
+use Rattle.tree_cotree.proofs.LawLemmas.{rest_has_ring}
+use Rattle.polygon_cut.specs.Polygons.{PolygonView, IsCutFrom, side_at, label_of}
+use Rattle.polygon_cut.specs.SpokeLoops.{last_side}
+use Rattle.polygon_cut.specs.StoredPolygons.{outer_ring}
+use Rattle.polygon_cut.proofs.GroupLemmas.{quotient, middle, inverse_of_quotient}
+use Rattle.polygon_cut.proofs.RoundLemmas.{GoesRound, round_reaches, round_apart}
+use Rattle.polygon_cut.proofs.WayLemmas.{IsWay, back, way_on, way_home, HasWays, loop_mul, loop_inv, loop_of}
+use Rattle.polygon_cut.proofs.CongruenceLemmas.{no_dart}
+use Rattle.polygon_cut.proofs.FreeLoopLemmas.{SameFreely, free_equality}
+use Rattle.polygon_cut.proofs.LawLemmas.{labels_ride}
+use Rattle.polygon_cut.proofs.TreeWayLemmas.{up, tree_ways}
+use Rattle.polygon_cut.proofs.DartLoopLemmas.{Loops, dart_way, value, value_along, spoke, one_of}
+use Rattle.polygon_cut.proofs.FreeSpokeLemmas.{free_group, of_other_dart, free_is_two_spokes}
+use Rattle.polygon_cut.proofs.FreeWayLemmas.{loop_on, loop_home}
+use Rattle.polygon_cut.proofs.FreeLawLemmas.{side_in}
+
+-- the ring behind a dart leads along all darts
+ring_from : (s : OrientedMesh) (split : SplitView) → IsOrientedSurface s → IsSplit s split → (d : ℕ) → d < darts_of s
+    → GoesRound (darts_of s) (outer_ring s split) d
+ring_from s split o t d l = record {
+  permutes = after_permutes (rotations_of s) (rotation_system s o) (λ e. not (in_cotree split e));
+  start = l;
+  all = λ j b. rest_has_ring s split o t.trees d j l b;
+}
+
+-- as many steps back
+steps_once : (n : ℕ) (f : ℕ → ℕ) → IsPermutationBelow n f → (k x y : ℕ) → x < n → y < n → after_steps f k x ≡ after_steps f k y → x ≡ y
+steps_once n f p zero x y l m e = e
+steps_once n f p (suc k) x y l m e =
+    steps_once n f p k x y l m
+    (p.injective (after_steps f k x) (after_steps f k y) (steps_within n f p k x l) (steps_within n f p k y m) e)
+
+-- the walk between two vertices is worth the loop
+abbrev pub IsWorth : (s : OrientedMesh) (split : SplitView) (t : IsSplit s split) → ℕ → ℕ → List ℕ → Loops s split t → Type 0
+IsWorth s split t u v rest loop =
+    AreFreelyEqual s.mesh (t.parents.root ∷ (back u (up s split t u) ++ (rest ++ up s split t v))) (t.parents.root ∷ loop.rest)
+
+-- there along the one spoke, and back along the other
+abbrev pub two_spokes : (s : OrientedMesh) (split : SplitView) (o : IsOrientedSurface s) (t : IsSplit s split) → PolygonView → ℕ → ℕ
+    → Loops s split t
+two_spokes s split o t polygon a b = quotient loop_mul loop_inv (spoke s split o t polygon a) (spoke s split o t polygon b)
+
+-- a walk of so many darts at most from where one dart starts to where another does, worth the spokes of their labels
+record IsArc (s : OrientedMesh) (split : SplitView) (o : IsOrientedSurface s) (t : IsSplit s split) (polygon : PolygonView) (d e k : ℕ)
+    : Type 0 where
+  rest : List ℕ
+  few : length rest ≤ k
+  way : IsWay s.mesh (origin_of s d) (origin_of s e) rest
+  worth : IsWorth s split t (origin_of s d) (origin_of s e) rest
+      (two_spokes s split o t polygon (label_of polygon d) (label_of polygon e))
+
+-- the same to another dart at that vertex with that label
+arc_turned : (s : OrientedMesh) (split : SplitView) (o : IsOrientedSurface s) (t : IsSplit s split) (polygon : PolygonView) (d e f k m : ℕ)
+    → k ≤ m → origin_of s f ≡ origin_of s e → label_of polygon f ≡ label_of polygon e
+    → IsArc s split o t polygon d e k → IsArc s split o t polygon d f m
+arc_turned s split o t polygon d e f k m more at label a = record {
+  rest = a.rest;
+  few = omega (arith, a.few, more);
+  way = subst (λ v. IsWay s.mesh (origin_of s d) v a.rest) (sym at) a.way;
+  worth =
+      subst (λ v. IsWorth s split t (origin_of s d) v a.rest
+      (two_spokes s split o t polygon (label_of polygon d) (label_of polygon f))) (sym at)
+      (subst (λ x. IsWorth s split t (origin_of s d) (origin_of s e) a.rest (two_spokes s split o t polygon (label_of polygon d) x))
+      (sym label) a.worth);
+}
+
+-- one dart more
+arc_longer : (s : OrientedMesh) (split : SplitView) (o : IsOrientedSurface s) (t : IsSplit s split) (polygon : PolygonView)
+    → IsCutFrom s split polygon → 0 < polygon.degree → (d e k : ℕ) → e < darts_of s → e ≢ last_side polygon
+    → in_cotree split (edge_of s e) ≡ false → IsArc s split o t polygon d e k → IsArc s split o t polygon d (next_of s e) (suc k)
+arc_longer s split o t polygon c some d e k l other off a =
+    let r : IsRotationSystem (rotations_of s) = rotation_system s o in
+    let g = free_group s split t in
+    let ways : HasWays s.mesh t.parents.root (up s split t) = tree_ways s split o t in
+    let u : ℕ = origin_of s d in
+    let v : ℕ = origin_of s e in
+    let w : ℕ = origin_of s (twin_of s e) in
+    let one : IsWay s.mesh v w (w ∷ []) = dart_way s o e l in
+    let whole : IsWay s.mesh u w (a.rest ++ w ∷ []) = way_on s.mesh u v w a.rest (w ∷ []) a.way one in
+    let before : Loops s split t = loop_of s.mesh t.parents.root (up s split t) ways u v a.rest a.way in
+    let dart : Loops s split t = loop_of s.mesh t.parents.root (up s split t) ways v w (w ∷ []) one in
+    let all : Loops s split t = loop_of s.mesh t.parents.root (up s split t) ways u w (a.rest ++ w ∷ []) whole in
+    let i : ℕ = label_of polygon d in
+    let j : ℕ = label_of polygon e in
+    let n : ℕ = label_of polygon (next_of s e) in
+    let S : ℕ → Loops s split t = spoke s split o t polygon in
+    let along : SameFreely (value s split o t e) dart =
+    value_along (free_equality s.mesh) split o t v w e (record { within = l; starts = refl; ends = refl }) one in
+    let val_is : SameFreely (value s split o t e) (two_spokes s split o t polygon j n) =
+    subst (λ x. SameFreely x (two_spokes s split o t polygon j n)) (of_other_dart s split o t polygon e off)
+    (free_is_two_spokes s split o t polygon c some e l other) in
+    let dart_is : SameFreely dart (two_spokes s split o t polygon j n) =
+    g.on dart (value s split o t e) (two_spokes s split o t polygon j n) (g.turn (value s split o t e) dart along) val_is in
+    let joined : SameFreely all (loop_mul before dart) =
+    loop_on s.mesh t.parents.root (up s split t) ways u v w a.rest (w ∷ []) a.way one whole in
+    let product : SameFreely (loop_mul before dart) (loop_mul (two_spokes s split o t polygon i j) (two_spokes s split o t polygon j n)) =
+    g.mul_same before (two_spokes s split o t polygon i j) dart (two_spokes s split o t polygon j n) a.worth dart_is in
+    let worth : SameFreely all (two_spokes s split o t polygon i n) =
+    g.on all (loop_mul before dart) (two_spokes s split o t polygon i n) joined
+    (g.on (loop_mul before dart) (loop_mul (two_spokes s split o t polygon i j) (two_spokes s split o t polygon j n))
+    (two_spokes s split o t polygon i n) product (middle SameFreely loop_mul loop_inv (one_of s split t) g (S i) (S j) (S n))) in
+    let at : origin_of s (next_of s e) ≡ w = r.follows e l in
+    record {
+      rest = a.rest ++ w ∷ [];
+      few = omega (arith, a.few, length-append a.rest (w ∷ []));
+      way = subst (λ x. IsWay s.mesh u x (a.rest ++ w ∷ [])) (sym at) whole;
+      worth = subst (λ x. IsWorth s split t u x (a.rest ++ w ∷ []) (two_spokes s split o t polygon i n)) (sym at) worth;
+    }
+
+-- so many steps along the ring
+arc : (s : OrientedMesh) (split : SplitView) (o : IsOrientedSurface s) (t : IsSplit s split) (polygon : PolygonView)
+    → IsCutFrom s split polygon → 0 < polygon.degree → (d : ℕ) → d < darts_of s → (k : ℕ)
+    → ((j : ℕ) → j < k → after_steps (outer_ring s split) j d ≢ last_side polygon)
+    → IsArc s split o t polygon d (after_steps (outer_ring s split) k d) k
+arc s split o t polygon c some d l zero other =
+    let g = free_group s split t in
+    let ways : HasWays s.mesh t.parents.root (up s split t) = tree_ways s split o t in
+    let u : ℕ = origin_of s d in
+    let stay : IsWay s.mesh u u [] = (refl, (names_all s o).vertex_used d l) in
+    let still : Loops s split t = loop_of s.mesh t.parents.root (up s split t) ways u u [] stay in
+    let x : Loops s split t = spoke s split o t polygon (label_of polygon d) in
+    record {
+      rest = [];
+      few = omega arith;
+      way = stay;
+      worth = g.on still (one_of s split t) (quotient loop_mul loop_inv x x) (no_dart (free_equality s.mesh) ways u u stay)
+          (g.turn (quotient loop_mul loop_inv x x) (one_of s split t) (g.cancels x));
+    }
+arc s split o t polygon c some d l (suc k) other =
+    let r : IsRotationSystem (rotations_of s) = rotation_system s o in
+    let inside = λ (e : ℕ). not (in_cotree split e) in
+    let e : ℕ = after_steps (outer_ring s split) k d in
+    let e_in : e < darts_of s = steps_within (darts_of s) (outer_ring s split) (after_permutes (rotations_of s) r inside) k d l in
+    let before : IsArc s split o t polygon d e k = arc s split o t polygon c some d l k (λ j less. other j (omega arith)) in
+    elim (cases_Bool (in_cotree split (edge_of s e))) [
+      | inl crossed ↦
+          let on : outer_ring s split e ≡ next_of s (twin_of s e) = turn (rotations_of s) inside e (ap not crossed) in
+          let at : origin_of s (next_of s (twin_of s e)) ≡ origin_of s e =
+          r.follows (twin_of s e) (r.twin_within e e_in) ∙ ap (origin_of s) (r.twin_back e e_in) in
+          let label : label_of polygon (next_of s (twin_of s e)) ≡ label_of polygon e =
+          (labels_ride s split polygon e o t c some e_in).of_cotree crossed in
+          arc_turned s split o t polygon d e (outer_ring s split e) k (suc k) (omega arith) (ap (origin_of s) on ∙ at)
+          (ap (label_of polygon) on ∙ label) before
+      | inr off ↦
+          subst (λ f. IsArc s split o t polygon d f (suc k)) (sym (go_on (rotations_of s) inside e (ap not off)))
+          (arc_longer s split o t polygon c some d e k e_in (other k (omega arith)) off before)
+    ]
+
+-- how far it is along the ring to the last side
+record IsBefore (s : OrientedMesh) (split : SplitView) (polygon : PolygonView) (d : ℕ) : Type 0 where
+  steps : ℕ
+  few : steps < darts_of s
+  leads : after_steps (outer_ring s split) steps d ≡ last_side polygon
+  first : (j : ℕ) → j < steps → after_steps (outer_ring s split) j d ≢ last_side polygon
+
+how_far : (s : OrientedMesh) (split : SplitView) → IsOrientedSurface s → IsSplit s split → (polygon : PolygonView)
+    → IsCutFrom s split polygon → 0 < polygon.degree → (d : ℕ) → d < darts_of s → IsBefore s split polygon d
+how_far s split o t polygon c some d l =
+    let round = ring_from s split o t d l in
+    let there = round_reaches (darts_of s) (outer_ring s split) d round (last_side polygon)
+    (side_in s split polygon c some (polygon.degree - 1)) in
+    record {
+      steps = there.0;
+      few = there.1;
+      leads = there.2;
+      first = λ j less same. round_apart (darts_of s) (outer_ring s split) d round j there.0 less there.1 (same ∙ sym there.2);
+    }
+
+-- a walk from where the one side starts to where the other does, worth the two spokes
+pub record IsSideArc (s : OrientedMesh) (split : SplitView) (o : IsOrientedSurface s) (t : IsSplit s split) (polygon : PolygonView)
+    (a b : ℕ) : Type 0 where
+  pub rest : List ℕ
+  pub few : length rest < darts_of s
+  pub way : IsWay s.mesh (origin_of s (side_at polygon a)) (origin_of s (side_at polygon b)) rest
+  pub worth : IsWorth s split t (origin_of s (side_at polygon a)) (origin_of s (side_at polygon b)) rest
+      (two_spokes s split o t polygon a b)
+
+-- along the ring, where the other side comes before the last one
+forward : (s : OrientedMesh) (split : SplitView) (o : IsOrientedSurface s) (t : IsSplit s split) (polygon : PolygonView)
+    → IsCutFrom s split polygon → 0 < polygon.degree → (a b : ℕ) → a < polygon.degree → b < polygon.degree
+    → (x : IsBefore s split polygon (side_at polygon a)) (y : IsBefore s split polygon (side_at polygon b)) → y.steps ≤ x.steps
+    → IsSideArc s split o t polygon a b
+forward s split o t polygon c some a b a_in b_in x y less =
+    let ring : ℕ → ℕ = outer_ring s split in
+    let d : ℕ = side_at polygon a in
+    let e : ℕ = side_at polygon b in
+    let d_in : d < darts_of s = side_in s split polygon c some a in
+    let e_in : e < darts_of s = side_in s split polygon c some b in
+    let p : IsPermutationBelow (darts_of s) ring = (ring_from s split o t d d_in).permutes in
+    let k : ℕ = x.steps - y.steps in
+    let sum : y.steps + k ≡ x.steps = omega (arith, less) in
+    let meets : after_steps ring k d ≡ e =
+    steps_once (darts_of s) ring p y.steps (after_steps ring k d) e (steps_within (darts_of s) ring p k d d_in) e_in
+    (sym (steps_add ring y.steps k d) ∙ ap (λ m. after_steps ring m d) sum ∙ x.leads ∙ sym y.leads) in
+    let along : IsArc s split o t polygon d e k =
+    subst (λ z. IsArc s split o t polygon d z k) meets
+    (arc s split o t polygon c some d d_in k (λ j m. x.first j (omega (arith, m)))) in
+    let own_a : label_of polygon d ≡ a = (c.labels some).own_number a a_in in
+    let own_b : label_of polygon e ≡ b = (c.labels some).own_number b b_in in
+    record {
+      rest = along.rest;
+      few = omega (arith, along.few, x.few);
+      way = along.way;
+      worth =
+          subst (λ i. IsWorth s split t (origin_of s d) (origin_of s e) along.rest (two_spokes s split o t polygon i b)) own_a
+          (subst (λ i. IsWorth s split t (origin_of s d) (origin_of s e) along.rest
+          (two_spokes s split o t polygon (label_of polygon d) i)) own_b along.worth);
+    }
+
+pub back-length : (u : ℕ) (rest : List ℕ) → length (back u rest) ≡ length rest
+back-length u [] = refl
+back-length u (v ∷ rest) = length-append (back v rest) (u ∷ []) ∙ omega (arith, back-length v rest)
+
+turned : (s : OrientedMesh) (split : SplitView) (o : IsOrientedSurface s) (t : IsSplit s split) (polygon : PolygonView) (a b : ℕ)
+    → IsSideArc s split o t polygon b a → IsSideArc s split o t polygon a b
+turned s split o t polygon a b h =
+    let g = free_group s split t in
+    let ways : HasWays s.mesh t.parents.root (up s split t) = tree_ways s split o t in
+    let S : ℕ → Loops s split t = spoke s split o t polygon in
+    let u : ℕ = origin_of s (side_at polygon b) in
+    let v : ℕ = origin_of s (side_at polygon a) in
+    let home : IsWay s.mesh v u (back u h.rest) = way_home s.mesh u v h.rest h.way in
+    let there_loop : Loops s split t = loop_of s.mesh t.parents.root (up s split t) ways u v h.rest h.way in
+    let home_loop : Loops s split t = loop_of s.mesh t.parents.root (up s split t) ways v u (back u h.rest) home in
+    let worth : SameFreely home_loop (two_spokes s split o t polygon a b) =
+    g.on home_loop (loop_inv there_loop) (two_spokes s split o t polygon a b)
+    (loop_home s.mesh t.parents.root (up s split t) ways u v h.rest h.way home)
+    (g.on (loop_inv there_loop) (loop_inv (two_spokes s split o t polygon b a)) (two_spokes s split o t polygon a b)
+    (g.inv_same there_loop (two_spokes s split o t polygon b a) h.worth)
+    (inverse_of_quotient SameFreely loop_mul loop_inv (one_of s split t) g (S b) (S a))) in
+    record { rest = back u h.rest; few = omega (arith, h.few, back-length u h.rest); way = home; worth = worth }
+
+pub side_arc : (s : OrientedMesh) (split : SplitView) (o : IsOrientedSurface s) (t : IsSplit s split) (polygon : PolygonView)
+    → IsCutFrom s split polygon → 0 < polygon.degree → (a b : ℕ) → a < polygon.degree → b < polygon.degree
+    → IsSideArc s split o t polygon a b
+side_arc s split o t polygon c some a b a_in b_in =
+    let x = how_far s split o t polygon c some (side_at polygon a) (side_in s split polygon c some a) in
+    let y = how_far s split o t polygon c some (side_at polygon b) (side_in s split polygon c some b) in
+    elim (cases_lt x.steps y.steps) [
+      | inl less ↦ turned s split o t polygon a b (forward s split o t polygon c some b a b_in a_in y x (omega (arith, less)))
+      | inr more ↦ forward s split o t polygon c some a b a_in b_in x y more
+    ]
