@@ -83,27 +83,29 @@ pub record IsUnderWay (s : OrientedMesh) (split : SplitView) (behind to : ℕ) (
   pub ends : last_of (last_of track.walk ∷ reverse pending) ≡ to
   pub leaves : MoreLeaveCotree s split begun.list.moves track.list.moves
 
--- at the start
-pub under_way : (s : OrientedMesh) (split : SplitView) → IsOrientedSurface s → (behind to : ℕ) (track : TrackView) (pending : List ℕ)
-    → pending ≡ to ∷ []
-    → 0 < length track.walk → HasNoSpur track.walk → AvoidsCotree s split track.walk → is_edge s.mesh (last_of track.walk) to ≡ true
-    → IsUnderWay s split behind to track track pending 0
-under_way s split o behind to track pending is some no_spur off edge =
-    let found = dart_between s o (last_of track.walk) to edge in
+-- at the start, with cells in reserve
+pub under_way : (s : OrientedMesh) (split : SplitView) → IsOrientedSurface s → (behind to spare : ℕ) (begun track : TrackView)
+    (pending : List ℕ)
+    → track ≡ record begun { spare = spare } → pending ≡ to ∷ []
+    → 0 < length begun.walk → HasNoSpur begun.walk → AvoidsCotree s split begun.walk → is_edge s.mesh (last_of begun.walk) to ≡ true
+    → IsUnderWay s split behind to begun track pending 0
+under_way s split o behind to spare begun track pending same is some no_spur off edge =
+    let found = dart_between s o (last_of begun.walk) to edge in
     let darts_there : 0 < darts_of s = (let within : found.0 < darts_of s = found.1.within in omega arith) in
-    subst (λ (l : List ℕ). IsUnderWay s split behind to track track l 0) (sym is)
+    subst (λ (t : TrackView). IsUnderWay s split behind to begun t pending 0) (sym same)
+    (subst (λ (l : List ℕ). IsUnderWay s split behind to begun (record begun { spare = spare }) l 0) (sym is)
     (record {
       some = some;
       no_spur = no_spur;
       off_cotree = off;
       linked = (edge, tt);
-      falls = λ t. omega (arith, pair_most s split t (last_of track.walk) to darts_there);
+      falls = λ t. omega (arith, pair_most s split t (last_of begun.walk) to darts_there);
       long = omega arith;
       goes = λ first rest l h. h;
-      within = within_itself s split behind (track.walk ++ to ∷ []) track.list;
+      within = within_itself s split behind (begun.walk ++ to ∷ []) begun.list;
       ends = refl;
-      leaves = none_leave s split track.list.moves;
-    })
+      leaves = none_leave s split begun.list.moves;
+    }))
 
 -- a vertex is taken from what is pending
 pub reverse-push : (pending : List ℕ) (v : ℕ) → reverse (pending ++ v ∷ []) ≡ v ∷ reverse pending
@@ -504,10 +506,10 @@ pub record IsLedSoFar (s : OrientedMesh) (split : SplitView) (behind : ℕ) (wal
   pub within : StaysWithin s split behind walk begun (track.walk ++ drop n walk) track.list
   pub leaves : MoreLeaveCotree s split begun.moves track.list.moves
 
-pub led_first : (s : OrientedMesh) (split : SplitView) (behind : ℕ) (walk : List ℕ) (begun : PeakedMoves) (track : TrackView) (v : ℕ)
+pub led_first : (s : OrientedMesh) (split : SplitView) (behind : ℕ) (walk : List ℕ) (begun : PeakedMoves) (track : TrackView) (v spare : ℕ)
     → 0 < length walk
-    → get_or walk 0 0 ≡ v → track ≡ record { walk = v ∷ []; list = begun } → IsLedSoFar s split behind walk begun track 1
-led_first s split behind walk begun track v some is start =
+    → get_or walk 0 0 ≡ v → track ≡ record { walk = v ∷ []; list = begun; spare = spare } → IsLedSoFar s split behind walk begun track 1
+led_first s split behind walk begun track v spare some is start =
     let whole : walk ≡ v ∷ [] ++ drop 1 walk = drop_more walk 0 0 some ∙ ap (λ (x : ℕ). x ∷ drop 1 walk) is in
     subst (λ (t : TrackView). IsLedSoFar s split behind walk begun t 1) (sym start)
     (record {

@@ -1,4 +1,5 @@
 pub mod ListLemmas
+pub mod ChainLemmas
 pub mod MoveLemmas
 pub mod CountLemmas
 pub mod FaceTreeLemmas
@@ -25,6 +26,7 @@ pub mod ShortStepLemmas
 pub mod BackLemmas
 pub mod InsertLemmas
 pub mod SpurLemmas
+pub mod InPlaceLemmas
 pub mod ShortestLemmas
 pub mod TurnLemmas
 pub mod BackPeakLemmas

@@ -1,10 +1,11 @@
 -- Passes over a walk: a face is crossed, and the vertices of its rest are put on the track.
 use Rattle.std.proofs.Common.{◌≡◌, ℕ, ◌+◌, ◌-◌, ◌<◌, ◌≤◌, max, List, [], ◌∷◌, ◌++◌, length, take, refl, ap, sym, ◌∙◌, subst, arith, append_assoc, length-append}
-use Rattle.std.specs.Prelude.{reverse}
+use Rattle.std.specs.Prelude.{reverse, Result, Ok, Err, OnOk}
 use Rattle.std.proofs.lemmas.List.{append-nil, length-reverse}
 use Rattle.std.proofs.lemmas.List.Elements.{All-append}
 use Rattle.surf_model.specs.FaceLists.{FaceList, face_at}
 use Rattle.surf_model.specs.FreeWalks.{HasNoSpur}
+use Rattle.surf_model.specs.Moves.{PeakedMoves}
 use Rattle.surf_model.specs.Vertices.{numbers}
 use Rattle.surf_model.specs.Walks.{IsWalk}
 use Rattle.surf_model.specs.declared.moves.Move.{Move}
@@ -111,6 +112,16 @@ crossed_once s split o behind v step track new before left none some under cross
       within = crossing_within s split o.faces behind track new [] left v step some under crossed;
     }
 
+-- a face is crossed by a track with more cells in reserve
+pub crossed_on : (mesh faces : FaceList) (step : FaceStep) (behind spare : ℕ) (old reserved new : TrackView) (pending left : List ℕ)
+    → faces ≡ mesh → reserved ≡ record old { spare = spare } → IsCrossed faces step behind reserved pending new left
+    → IsCrossed mesh step behind old pending new left
+crossed_on mesh faces step behind spare old reserved new pending left is same h =
+    let crossed : IsCrossed mesh step behind (record old { spare = spare }) pending new left =
+    subst (λ (t : TrackView). IsCrossed mesh step behind t pending new left) same
+    (subst (λ (m : FaceList). IsCrossed m step behind reserved pending new left) is h) in
+    record { walk = crossed.walk; comes = crossed.comes; list = crossed.list }
+
 -- a walk that moves led to, with what stands behind, is one
 pub led_walk : (mesh : FaceList) (behind : ℕ) (track : TrackView) → IsLedFrom mesh behind track → IsWalk mesh track.walk
 led_walk mesh behind track led =
@@ -146,3 +157,30 @@ passed_on s split behind begun old new passed goes last some more within = recor
   last = last ∙ passed.last;
   leaves = leave_on s split begun.list.moves old.list.moves new.list.moves passed.leaves more;
 }
+
+-- a walk that is read off a track, and its moves
+pub passed_as : (s : OrientedMesh) (split : SplitView) (behind : ℕ) (begun track : TrackView) (walk : List ℕ) (list : PeakedMoves)
+    → IsPassedFrom s split behind begun track → walk ≡ track.walk → list ≡ track.list
+    → IsPassedFrom s split behind begun (record { walk = walk; list = list; spare = 0 })
+passed_as s split behind begun track walk list passed same moves =
+    subst (λ (w : List ℕ). IsPassedFrom s split behind begun (record { walk = w; list = list; spare = 0 })) (sym same)
+    (subst (λ (l : PeakedMoves). IsPassedFrom s split behind begun (record { walk = track.walk; list = l; spare = 0 })) (sym moves)
+    (record {
+      led = record {
+        first = passed.led.first;
+        rest = passed.led.rest;
+        starts = passed.led.starts;
+        long = passed.led.long;
+        leads = passed.led.leads;
+        some = passed.led.some;
+      };
+      goes = passed.goes;
+      within = passed.within;
+      last = passed.last;
+      leaves = passed.leaves;
+    }))
+
+-- what follows from two clauses on what is returned
+pub on_both : {T E A B C : Type 0} (r : Result T E) → (A → B → C) → OnOk r A → OnOk r B → OnOk r C
+on_both (Ok x) f a b = f a b
+on_both (Err y) f a b = tt

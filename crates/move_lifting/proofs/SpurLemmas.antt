@@ -52,9 +52,9 @@ pub record IsReducedSoFar (behind : ℕ) (walk : List ℕ) (begun : PeakedMoves)
   pub goes : (mesh : FaceList) → GoesOn mesh behind walk begun (track.walk ++ drop n walk) track.list
   pub peak : track.list.peak ≤ max begun.peak (darts walk + behind)
 
-pub reduced_first : (behind : ℕ) (walk : List ℕ) (begun : PeakedMoves) (track : TrackView) (v : ℕ) → 0 < length walk → get_or walk 0 0 ≡ v
-    → track ≡ record { walk = v ∷ []; list = begun } → IsReducedSoFar behind walk begun track 1
-reduced_first behind walk begun track v some is start =
+pub reduced_first : (behind : ℕ) (walk : List ℕ) (begun : PeakedMoves) (track : TrackView) (v spare : ℕ) → 0 < length walk
+    → get_or walk 0 0 ≡ v → track ≡ record { walk = v ∷ []; list = begun; spare = spare } → IsReducedSoFar behind walk begun track 1
+reduced_first behind walk begun track v spare some is start =
     let whole : walk ≡ v ∷ [] ++ drop 1 walk = drop_more walk 0 0 some ∙ ap (λ (x : ℕ). x ∷ drop 1 walk) is in
     let one : v ∷ [] ≡ take 1 walk = sym (take_more walk 0 0 some ∙ ap (λ (x : ℕ). x ∷ []) is) in
     subst (λ (t : TrackView). IsReducedSoFar behind walk begun t 1) (sym start)

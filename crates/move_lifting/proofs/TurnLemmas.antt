@@ -1,6 +1,7 @@
 -- A turn put into a walk: there, round, back, and on.
 use Rattle.std.proofs.Common.{◌≡◌, ℕ, ◌+◌, ◌-◌, ◌<◌, ◌≤◌, max, true, List, [], ◌∷◌, ◌++◌, length, take, drop, get_or, ap, sym, ◌∙◌, subst, arith, append_assoc, length-append}
-use Rattle.std.proofs.lemmas.List.{map-append, take-append-drop, take_more, drop_more, length-take-le, length-drop, get_or-take}
+use Rattle.std.proofs.lemmas.List.{take_rest, drop-map, take-append-drop, take_more, drop_more, length-take-le, length-drop, get_or-take}
+use Rattle.chain_pool.specs.Chains.{spliced}
 use Rattle.surf_model.specs.FaceLists.{FaceList, is_edge}
 use Rattle.surf_model.specs.FreeWalks.{AreFreelyEqual}
 use Rattle.surf_model.specs.Vertices.{numbers}
@@ -222,64 +223,51 @@ turn_freely mesh approach walk turn whole new n w a turn_some starts closed is h
     shape : (a t h e : List ℕ) → a ++ (t ++ h) ++ e ≡ a ++ (t ++ (h ++ e))
     shape a t h e = simp append_assoc
 
--- the whole, put together part by part
-pub joined : (none first second third whole approach back rest : List VertexName) (turn left : List ℕ) → none ≡ []
-    → first ≡ none ++ approach
-    → numbers second ≡ numbers first ++ turn → third ≡ second ++ back → whole ≡ third ++ rest → numbers rest ≡ left
-    → numbers whole ≡ numbers approach ++ (turn ++ (numbers back ++ left))
-joined none first second third whole approach back rest turn left a b d e f g =
-    let first_is : numbers first ≡ numbers approach = ap numbers b ∙ ap (λ (l : List VertexName). numbers (l ++ approach)) a in
-    let third_is : numbers third ≡ numbers approach ++ turn ++ numbers back =
-    ap numbers e ∙ map-append (λ (v : VertexName). v.0) second back
-    ∙ ap (λ (l : List ℕ). l ++ numbers back) (d ∙ ap (λ (l : List ℕ). l ++ turn) first_is) in
-    ap numbers f ∙ map-append (λ (v : VertexName). v.0) third rest ∙ ap (λ (l : List ℕ). l ++ numbers rest) third_is
-    ∙ ap (λ (l : List ℕ). numbers approach ++ turn ++ numbers back ++ l) g ∙ regroup (numbers approach) turn (numbers back) left
+-- the whole, with the piece between moved in where the walk leaves the approach
+pub spliced_whole : (approach there back : List VertexName) (turn walk : List ℕ) (n : ℕ) → BeginAlike (numbers approach) walk n
+    → there ≡ take (length approach - n) (drop n approach)
+    → numbers back ≡ backward (last_of (take n (numbers approach))) (drop n (numbers approach))
+    → spliced walk n (numbers there ++ (drop 1 turn ++ numbers back)) ≡ turned_whole (numbers approach) turn walk n
+spliced_whole approach there back turn walk n a there_is back_is =
+    let names : List ℕ = numbers approach in
+    let home : List ℕ = backward (last_of (take n names)) (drop n names) in
+    let out : numbers there ≡ drop n names =
+    ap numbers (there_is ∙ take_rest approach n) ∙ sym (drop-map (λ (v : VertexName). v.0) n approach) in
+    ap (λ (l : List ℕ). l ++ (numbers there ++ (drop 1 turn ++ numbers back) ++ drop n walk)) (sym a.same)
+    ∙ ap (λ (l : List ℕ). take n names ++ (l ++ (drop 1 turn ++ numbers back) ++ drop n walk)) out
+    ∙ ap (λ (l : List ℕ). take n names ++ (drop n names ++ (drop 1 turn ++ l) ++ drop n walk)) back_is
+    ∙ regroup (take n names) (drop n names) (drop 1 turn) home (drop n walk)
+    ∙ ap (λ (l : List ℕ). l ++ (drop 1 turn ++ (home ++ drop n walk))) (take-append-drop n names)
   where
-    regroup : (a t b l : List ℕ) → a ++ t ++ b ++ l ≡ a ++ (t ++ (b ++ l))
-    regroup a t b l = simp append_assoc
+    regroup : (a b c d e : List ℕ) → a ++ (b ++ (c ++ d) ++ e) ≡ a ++ b ++ (c ++ (d ++ e))
+    regroup a b c d e = simp append_assoc
 
--- how long it is
-pub whole_long : (whole approach : List VertexName) (turn walk : List ℕ) (n : ℕ) → 0 < length turn
-    → numbers whole ≡ numbers approach
-    ++ (drop 1 turn ++ (backward (last_of (take n (numbers approach))) (drop n (numbers approach)) ++ drop n walk))
-    → length whole + 1 ≡ length approach + (length turn + ((length approach - n) + (length walk - n)))
-whole_long whole approach turn walk n some is =
-    let home : List ℕ = backward (last_of (take n (numbers approach))) (drop n (numbers approach)) in
+-- how long the way back is
+pub back_long : (approach back : List VertexName) (n : ℕ)
+    → numbers back ≡ backward (last_of (take n (numbers approach))) (drop n (numbers approach)) → length back ≡ length approach - n
+back_long approach back n is =
+    omega (
+      arith,
+      length-numbers back,
+      length-numbers approach,
+      ap (λ (l : List ℕ). length l) is,
+      length-backward (last_of (take n (numbers approach))) (drop n (numbers approach)),
+      length-drop n (numbers approach),
+    )
+
+-- how long the whole is
+pub length-turned_whole : (approach turn walk : List ℕ) (n : ℕ) → 0 < length turn
+    → length (turned_whole approach turn walk n) + 1 ≡ length approach + (length turn + ((length approach - n) + (length walk - n)))
+length-turned_whole approach turn walk n some =
+    let home : List ℕ = backward (last_of (take n approach)) (drop n approach) in
     omega (
       arith,
       some,
-      length-numbers whole,
-      length-numbers approach,
-      ap (λ (l : List ℕ). length l) is,
-      length-append (numbers approach) (drop 1 turn ++ (home ++ drop n walk)),
+      length-append approach (drop 1 turn ++ (home ++ drop n walk)),
       length-append (drop 1 turn) (home ++ drop n walk),
       length-append home (drop n walk),
-      length-backward (last_of (take n (numbers approach))) (drop n (numbers approach)),
-      length-drop n (numbers approach),
+      length-backward (last_of (take n approach)) (drop n approach),
+      length-drop n approach,
       length-drop 1 turn,
       length-drop n walk,
     )
-
--- a walk kept as names, and an approach with a common beginning
-pub begun_alike : (approach read names : List VertexName) (walk : List ℕ) (n : ℕ) → read ≡ names → numbers names ≡ walk → 0 < n
-    → n ≤ length approach
-    → n ≤ length read → take n (numbers approach) ≡ take n (numbers read) → BeginAlike (numbers approach) walk n
-begun_alike approach read names walk n same is some in_approach in_read alike =
-    let read_is : numbers read ≡ walk = ap numbers same ∙ is in
-    record {
-      some = some;
-      in_approach = omega (arith, in_approach, length-numbers approach);
-      in_walk = omega (arith, in_read, length-numbers read, ap (λ (l : List ℕ). length l) read_is);
-      same = alike ∙ ap (take n) read_is;
-    }
-
--- the whole, put together from names
-pub whole_is : (whole approach names read : List VertexName) (turn walk : List ℕ) (n : ℕ) → read ≡ names → numbers names ≡ walk
-    → numbers whole ≡ numbers approach
-    ++ (drop 1 turn ++ (backward (last_of (take n (numbers approach))) (drop n (numbers approach)) ++ drop n (numbers read)))
-    → numbers whole ≡ turned_whole (numbers approach) turn walk n
-whole_is whole approach names read turn walk n same is parts =
-    parts
-    ∙ ap (λ (l : List ℕ). numbers approach
-    ++ (drop 1 turn ++ (backward (last_of (take n (numbers approach))) (drop n (numbers approach)) ++ drop n l)))
-    (ap numbers same ∙ is)

@@ -12,3 +12,4 @@ pub mod Contractions
 pub mod SpokeWalks
 pub mod StoredWalks
 pub mod Passes
+pub mod PooledWalks

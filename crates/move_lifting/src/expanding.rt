@@ -98,7 +98,7 @@ pub(crate) fn lead_all(
     // What holds of every surface.
     ensures valid { IfOk result (λ _. IsOrientedSurface on.now.surface.now) }
 {
-    let mut track = Track::start(alloc, walk[0], moves);
+    let mut track = Track::start(alloc, walk[0], 0, moves)?;
     let mut pending = Vec::with_capacity(alloc, on.surface.darts() as usize)?;
     for place in 1..walk.len() {
         let after = (walk.len() - place - 1) as u32 + behind;
@@ -137,8 +137,9 @@ fn lead_on(
     ensures within { OnOk result (StaysWithin on.now.surface.now on.now.split.now behind (track.old.walk ++ to.0 ∷ []) track.old.list
         track.new.walk track.new.list) }
 {
+    // With each step one of the darts below the edge goes for good, so there are no more steps than darts, and no more vertices.
+    track.reserve(on.surface.darts())?;
     pending.push(to)?;
-    // With each step one of the darts below the edge goes for good, so there are no more steps than darts.
     for _step in 0..on.surface.darts() {
         let Some(next) = pending.pop() else {
             return Ok(());
@@ -161,7 +162,9 @@ pub(crate) fn cross(
 ) -> Result<(), AllocError>
     requires step { IsStepOf faces.now step }
     requires room { length track.old.walk + length pending.old.items + length (face_at faces.now step.face.0) + behind < 2 ^ 31 }
-    ensures { OnOk result (IsCrossed faces.now step behind track.old (numbers pending.old.items) track.new (numbers pending.new.items)) }
+    ensures crossed { OnOk result
+        (IsCrossed faces.now step behind track.old (numbers pending.old.items) track.new (numbers pending.new.items)) }
+    ensures spare { OnOk result (track.new.spare ≡ track.old.spare) }
 {
     push_rest(pending, faces, step)?;
     let across = Move::Across {

@@ -11,10 +11,11 @@ ghost use Rattle.move_lifting.specs.Tracks.{GoesOn, last_of};
 ghost use Rattle.move_lifting.specs.TurnPeaks.{RisesWithTurn};
 
 use crate::lifted::Lifted;
+use crate::pooled_walk::PooledWalk;
 use crate::track::Track;
 use common_ends::raise_moves;
 use std::alloc::{AllocError, Global};
-use surf_model::{Move, MoveList, VertexName, Walk};
+use surf_model::{Move, MoveList, VertexName};
 
 /// Puts a turn into the walk of a track, with `behind` entries behind it: along the approach from the walk's first vertex,
 /// round the turn, back along the approach, and on. The spurs are taken out of the whole.
@@ -48,59 +49,41 @@ pub(crate) fn put_turn(
         → HasNoSpur (numbers approach.now) → HasNoSpur track.walk
         → RisesWithTurn (numbers approach.now) track.walk behind most track.list.peak after.list.peak) }
 {
-    let (walk, mut moves) = track.into_parts()?;
-    let common = common_start(approach, &walk);
-    let whole = there_round_and_back(alloc, approach, &turn.walk, &walk, common)?;
-    let after = (walk.len() - common) as u32 + behind;
+    let (mut laid, mut moves) = track.into_laid();
+    let common = common_start(approach, &mut laid);
+    let back = back_to(alloc, approach, common)?;
+    let around = turn.walk.darts();
+    // The piece is the approach beyond what is in common, the turn, and the way back, and costs a cell for a while.
+    laid.reserve(around + 2 * back.len() as u32 + 1)?;
+    let after = laid.len() - common as u32 + behind;
     insert_there_and_back(&mut moves, approach, common, after)?;
     let out = approach.len() as u32 - 1;
-    let back = (approach.len() - common) as u32;
-    raise_moves(&mut moves, &turn.moves, out, out + back + after)?;
-    reduce_all(alloc, &whole, behind, moves)
+    raise_moves(
+        &mut moves,
+        &turn.moves,
+        out,
+        out + back.len() as u32 + after,
+    )?;
+    laid.put_in(common as u32, &approach[common..], &turn.walk, &back);
+    Track::reduced(laid, behind, moves)
 }
 
-/// The walk along an approach, round a turn, back to the end of the first `common` vertices that the approach has in common with
-/// a walk, and on along that walk.
-fn there_round_and_back(
-    alloc: Global,
-    approach: &[VertexName],
-    turn: &Walk,
-    walk: &[VertexName],
-    common: usize,
-) -> Result<Vec<VertexName>, AllocError>
-    requires some { 0 < common }
-    requires in_approach { common ≤ length approach.now }
-    requires in_walk { common ≤ length walk.now }
-    ensures whole { IfOk result (λ whole. numbers whole.items
-        ≡ numbers approach.now ++ (drop 1 turn.now
-        ++ (backward (last_of (take common (numbers approach.now))) (drop common (numbers approach.now))
-        ++ drop common (numbers walk.now)))) }
-    // What holds of every walk.
-    ensures starts { IfOk result (λ _. 0 < length turn.now) }
-{
-    let mut whole = Vec::new(alloc);
-    whole.extend_from_slice(approach)?;
-    push_turn(&mut whole, turn)?;
-    whole.extend_from_slice(&back_to(alloc, approach, common)?)?;
-    whole.extend_from_slice(&walk[common..])?;
-    Ok(whole)
-}
-
-/// How many vertices two walks from one vertex have in common at the start.
-fn common_start(first: &[VertexName], second: &[VertexName]) -> usize
-    requires first { 0 < length first.now }
-    requires second { 0 < length second.now }
-    requires starts { slice_index (numbers first.now) 0 ≡ slice_index (numbers second.now) 0 }
+/// How many vertices an approach and a walk from its start have in common at the start.
+fn common_start(approach: &[VertexName], walk: &mut PooledWalk) -> usize
+    requires approach { 0 < length approach.now }
+    requires walk { 0 < length walk.old.walk }
+    requires starts { slice_index (numbers approach.now) 0 ≡ slice_index walk.old.walk 0 }
     ensures some { 0 < result }
-    ensures in_first { result ≤ length first.now }
-    ensures in_second { result ≤ length second.now }
-    ensures same { take result (numbers first.now) ≡ take result (numbers second.now) }
-    ensures apart { result < length first.now → result < length second.now
-        → slice_index (numbers first.now) result ≢ slice_index (numbers second.now) result }
+    ensures in_approach { result ≤ length approach.now }
+    ensures in_walk { result ≤ length walk.old.walk }
+    ensures same { take result (numbers approach.now) ≡ take result walk.old.walk }
+    ensures kept { walk.new ≡ walk.old }
+    ensures apart { result < length approach.now → result < length walk.old.walk
+        → slice_index (numbers approach.now) result ≢ slice_index walk.old.walk result }
 {
-    let most = first.len().min(second.len());
+    let most = approach.len().min(walk.len() as usize);
     for place in 1..most {
-        if first[place] != second[place] {
+        if approach[place] != walk.read(place as u32) {
             return place;
         }
     }
@@ -127,18 +110,6 @@ pub(crate) fn back_along(alloc: Global, walk: &[VertexName]) -> Result<Vec<Verte
         back.push(walk[walk.len() - done - 1])?;
     }
     Ok(back)
-}
-
-/// Puts the vertices of a walk behind its start last.
-fn push_turn(vertices: &mut Vec<VertexName>, turn: &Walk) -> Result<(), AllocError>
-    ensures turn { OnOk result (numbers vertices.new.items ≡ numbers vertices.old.items ++ drop 1 turn.now) }
-    // What holds of every walk.
-    ensures starts { 0 < length turn.now }
-{
-    for place in 0..turn.darts() {
-        vertices.push(turn.at(place + 1))?;
-    }
-    Ok(())
 }
 
 /// Notes the moves that go along an approach and back, from the end of its first `common` vertices, where a walk has `after`
@@ -186,7 +157,7 @@ pub(crate) fn reduce_all(
     ensures few { IfOk result (λ track. length track.walk ≤ length walk.now) }
     ensures peak { IfOk result (λ track. track.list.peak ≤ max moves.peak (darts (numbers walk.now) + behind)) }
 {
-    let mut track = Track::start(alloc, walk[0], moves);
+    let mut track = Track::start(alloc, walk[0], walk.len() as u32 - 1, moves)?;
     for place in 1..walk.len() {
         track.put(walk[place], (walk.len() - place - 1) as u32 + behind)?;
     }

@@ -21,6 +21,7 @@ pub mod lifted;
 pub mod lifting;
 mod looping;
 mod passing;
+mod pooled_walk;
 mod reducing;
 mod spoke_walks;
 mod track;

@@ -28,7 +28,7 @@ pub fn reduce_free(alloc: Global, walk: &Walk) -> Result<Lifted, AllocError>
     ensures ends { IfOk result (λ lifted. HaveCommonEnds walk.now lifted.walk) }
 {
     let darts = walk.darts();
-    let mut track = Track::start(alloc, walk.at(0), MoveList::new(alloc, darts));
+    let mut track = Track::start(alloc, walk.at(0), darts, MoveList::new(alloc, darts))?;
     for place in 0..darts {
         track.put(walk.at(place + 1), darts - place - 1)?;
     }

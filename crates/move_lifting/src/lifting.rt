@@ -89,7 +89,7 @@ fn lift_between(
 {
     let behind = second.darts();
     let track = close(alloc, first, second)?;
-    let (closed, moves) = track.into_parts()?;
+    let (closed, moves) = track.into_parts(alloc)?;
     if closed.len() == 1 {
         return Ok(Some(moves));
     }

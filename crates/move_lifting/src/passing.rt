@@ -58,8 +58,8 @@ impl Pass<'_> {
         ensures within { IfOk result (λ track. StaysWithin self.now.on.now.surface.now self.now.on.now.split.now self.now.behind
             (numbers walk.now) moves track.walk track.list) }
     {
-        let mut track = Track::start(alloc, walk[0], moves);
-        let mut pending = Vec::new(alloc);
+        let mut track = Track::start(alloc, walk[0], walk.len() as u32 - 1, moves)?;
+        let mut pending = Vec::with_capacity(alloc, self.on.surface.darts() as usize)?;
         for place in 1..walk.len() {
             let left = (walk.len() - place - 1) as u32;
             self.step(&mut track, &mut pending, walk[place], left)?;
@@ -82,11 +82,13 @@ impl Pass<'_> {
         requires no_spur { HasNoSpur track.old.walk }
         requires edge { is_edge self.now.on.now.surface.now.mesh (last_of track.old.walk) to.0 ≡ true }
         requires few { length track.old.walk + 1 + left ≤ MOST_PASSED_ENTRIES }
+        requires spare { left < track.old.spare }
         ensures pending { OnOk result (pending.new.items ≡ []) }
         ensures some { OnOk result (0 < length track.new.walk) }
         ensures no_spur { OnOk result (HasNoSpur track.new.walk) }
         ensures last { OnOk result (last_of track.new.walk ≡ to.0) }
         ensures few { OnOk result (length track.new.walk + left ≤ MOST_PASSED_ENTRIES) }
+        ensures spare { OnOk result (left ≤ track.new.spare) }
         ensures leads { OnOk result (GoesOn self.now.on.now.surface.now.mesh (left + self.now.behind) (track.old.walk ++ to.0 ∷ [])
             track.old.list track.new.walk track.new.list) }
         ensures leaves { OnOk result (MoreLeaveCotree self.now.on.now.surface.now self.now.on.now.split.now track.old.list.moves
@@ -98,7 +100,9 @@ impl Pass<'_> {
         let entries = track.place() + 2 + left;
         match self.crossing(track.last(), to, entries) {
             Some(step) => {
-                cross(track, pending, self.on.surface.faces(), step, after)?;
+                let faces = self.on.surface.faces();
+                track.reserve(left + faces.sides(step.face))?;
+                cross(track, pending, faces, step, after)?;
                 put_pending(track, pending, after)
             }
             None => track.put(to, after),
@@ -132,6 +136,7 @@ fn put_pending(
     requires some { 0 < length track.old.walk }
     requires no_spur { HasNoSpur track.old.walk }
     requires room { length track.old.walk + length pending.old.items + behind < 2 ^ 31 }
+    requires spare { length pending.old.items ≤ track.old.spare }
     ensures pending { OnOk result (pending.new.items ≡ []) }
     ensures some { OnOk result (0 < length track.new.walk) }
     ensures no_spur { OnOk result (HasNoSpur track.new.walk) }
@@ -140,6 +145,7 @@ fn put_pending(
     ensures leads { OnOk result ((mesh : FaceList) → GoesOn mesh behind (track.old.walk ++ reverse (numbers pending.old.items))
         track.old.list track.new.walk track.new.list) }
     ensures removals { OnOk result (MoreRemove track.old.list.moves track.new.list.moves) }
+    ensures cells { OnOk result (length track.new.walk + track.new.spare ≡ length track.old.walk + track.old.spare) }
     ensures within { OnOk result ((surface : OrientedMesh) (split : SplitView) → StaysWithin surface split behind
         (track.old.walk ++ reverse (numbers pending.old.items)) track.old.list track.new.walk track.new.list) }
 {
@@ -159,7 +165,7 @@ pub(crate) fn lead_in_passes(
     moves: MoveList,
 ) -> Result<Track, AllocError>
     requires on { IsSplitSurface on.now }
-    requires led { IsLedFrom on.now.surface.now.mesh behind (record { walk = numbers walk.items; list = moves }) }
+    requires led { IsLedFrom on.now.surface.now.mesh behind (record { walk = numbers walk.items; list = moves; spare = 0 }) }
     requires few { length walk.items ≤ MOST_PASSED_ENTRIES }
     requires behind { behind ≤ MOST_LIFTED_DARTS }
     ensures leads { IfOk result (λ track. GoesOn on.now.surface.now.mesh behind (numbers walk.items) moves track.walk track.list) }
@@ -186,11 +192,12 @@ fn pass_over(
     moves: MoveList,
 ) -> Result<(Vec<VertexName>, MoveList), AllocError>
     requires on { IsSplitSurface on.now }
-    requires led { IsLedFrom on.now.surface.now.mesh behind (record { walk = numbers walk.items; list = moves }) }
+    requires led { IsLedFrom on.now.surface.now.mesh behind (record { walk = numbers walk.items; list = moves; spare = 0 }) }
     requires few { length walk.items ≤ MOST_PASSED_ENTRIES }
     requires behind { behind ≤ MOST_LIFTED_DARTS }
     ensures passed { IfOk result (λ after. IsPassedFrom on.now.surface.now on.now.split.now behind
-        (record { walk = numbers walk.items; list = moves }) (record { walk = numbers after.0.items; list = after.1 })) }
+        (record { walk = numbers walk.items; list = moves; spare = 0 })
+        (record { walk = numbers after.0.items; list = after.1; spare = 0 })) }
     ensures few { IfOk result (λ after. length after.0.items ≤ MOST_PASSED_ENTRIES) }
 {
     let depths = face_depths(alloc, on)?;
@@ -210,7 +217,7 @@ fn pass_over(
             behind,
         };
         let track = pass.over(alloc, &walk, moves)?;
-        let (next, list) = track.into_parts()?;
+        let (next, list) = track.into_parts(alloc)?;
         walk = next;
         moves = list;
     }

@@ -14,12 +14,12 @@ loop-place-init c =
     let long : length walk ≡ length c.args.walk.now = length-numbers c.args.walk.now in
     let some : 0 < length walk = c.requires.walk.starts in
     record {
-      led = led_first c.args.on.now.surface.now c.args.on.now.split.now c.args.behind walk c.args.moves c.start-track.result _ some
-          (get_or-map (λ (x : VertexName). x.0) c.args.walk.now 0 _ 0 (omega arith)) c.start-track.ensures;
+      led = led_first c.args.on.now.surface.now c.args.on.now.split.now c.args.behind walk c.args.moves c.in_ok-track.track _ _ some
+          (get_or-map (λ (x : VertexName). x.0) c.args.walk.now 0 _ 0 (omega arith)) c.in_ok-track.ensures;
       off_cotree = subst (AvoidsCotree c.args.on.now.surface.now c.args.on.now.split.now)
-          (sym (ap (λ (t : TrackView). t.walk) c.start-track.ensures)) (λ k d l. absurd (omega arith));
+          (sym (ap (λ (t : TrackView). t.walk) c.in_ok-track.ensures)) (λ k d l. absurd (omega arith));
       pending = c.in_ok-pending.ensures.items;
-      few = omega (arith, ap (λ (t : TrackView). length t.walk) c.start-track.ensures);
+      few = omega (arith, ap (λ (t : TrackView). length t.walk) c.in_ok-track.ensures);
     }
 
 pub lead_on-requires-clause-edge : goal.lead_on-requires-clause-edge

@@ -5,7 +5,7 @@ use Rattle.surf_model.specs.declared.names.VertexName.{VertexName}
 use Rattle.halfedge_map.specs.DartMaps.{darts_of, edge_of}
 use Rattle.halfedge_map.specs.RotationSystems.{rotations_of, IsDartFrom}
 use Rattle.tree_cotree.specs.Splits.{in_cotree}
-use Rattle.move_lifting.specs.Tracks.{last_of}
+use Rattle.move_lifting.specs.Tracks.{TrackView, last_of}
 use Rattle.move_lifting.specs.Crossings.{IsFaceBelow, IsCrossed}
 use Rattle.move_lifting.proofs.ExpandLemmas.{under_way, led_on, led_within, all_come, none_left, one_pending, length-numbers, next_edge, room_along, room_across, put_on_way, cross_on_way}
 use Rattle.move_lifting.proofs.expanding.lead_on.Goals as goal
@@ -15,39 +15,48 @@ pub loop-step-init : goal.loop-step-init
 loop-step-init c =
     let items : c.push.new.self.items ≡ c.args.to ∷ [] =
     c.in_ok-push.ensures.items ∙ ap (λ (l : List VertexName). l ++ c.args.to ∷ []) c.requires.pending in
-    under_way c.args.on.now.surface.now c.args.on.now.split.now c.darts-step-end.ensures.valid c.args.behind c.args.to.0 c.args.track.now
-    (numbers c.push.new.self.items) (ap numbers items) c.requires.some c.requires.no_spur c.requires.off_cotree c.requires.edge
+    record {
+      under = under_way c.args.on.now.surface.now c.args.on.now.split.now c.darts-step-end.ensures.valid c.args.behind c.args.to.0 _
+          c.args.track.now c.reserve.new.self (numbers c.push.new.self.items) c.in_ok-reserve.ensures (ap numbers items) c.requires.some
+          c.requires.no_spur c.requires.off_cotree c.requires.edge;
+      cells = omega (
+        arith,
+        ap (λ (t : TrackView). length t.walk) c.in_ok-reserve.ensures,
+        ap (λ (t : TrackView). t.spare) c.in_ok-reserve.ensures,
+        c.darts.ensures.count,
+      );
+    }
 
 pub returns-in_default-clause-no_spur : goal.returns-in_default-clause-no_spur
-returns-in_default-clause-no_spur c = c.loop-step.invariant.no_spur
+returns-in_default-clause-no_spur c = c.loop-step.invariant.under.no_spur
 
 pub returns-in_default-clause-off_cotree : goal.returns-in_default-clause-off_cotree
-returns-in_default-clause-off_cotree c = c.loop-step.invariant.off_cotree
+returns-in_default-clause-off_cotree c = c.loop-step.invariant.under.off_cotree
 
 pub returns-in_default-clause-last : goal.returns-in_default-clause-last
 returns-in_default-clause-last c =
     let few : length c.loop-step.pending.items ≡ 0 = omega (arith, c.in_default.ensures.cases.0) in
     (led_on c.args.on.now.surface.now c.args.on.now.split.now c.args.behind c.args.to.0 c.args.track.now c.loop-step.track
     (numbers c.loop-step.pending.items)
-    c.loop-step._step c.loop-step.invariant (ap numbers (none_left c.loop-step.pending.items few))).1
+    c.loop-step._step c.loop-step.invariant.under (ap numbers (none_left c.loop-step.pending.items few))).1
 
 pub returns-in_default-clause-long : goal.returns-in_default-clause-long
 returns-in_default-clause-long c =
-    omega (arith, c.loop-step.invariant.long, c.darts-step-end.ensures.count, c.loop-step-test.true)
+    omega (arith, c.loop-step.invariant.under.long, c.darts-step-end.ensures.count, c.loop-step-test.true)
 
 pub returns-in_default-clause-leads : goal.returns-in_default-clause-leads
 returns-in_default-clause-leads c =
     let few : length c.loop-step.pending.items ≡ 0 = omega (arith, c.in_default.ensures.cases.0) in
     (led_on c.args.on.now.surface.now c.args.on.now.split.now c.args.behind c.args.to.0 c.args.track.now c.loop-step.track
     (numbers c.loop-step.pending.items)
-    c.loop-step._step c.loop-step.invariant (ap numbers (none_left c.loop-step.pending.items few))).0
+    c.loop-step._step c.loop-step.invariant.under (ap numbers (none_left c.loop-step.pending.items few))).0
 
 pub returns-in_default-clause-within : goal.returns-in_default-clause-within
 returns-in_default-clause-within c =
     let few : length c.loop-step.pending.items ≡ 0 = omega (arith, c.in_default.ensures.cases.0) in
     led_within c.args.on.now.surface.now c.args.on.now.split.now c.args.behind c.args.to.0 c.args.track.now c.loop-step.track
     (numbers c.loop-step.pending.items)
-    c.loop-step._step c.loop-step.invariant (ap numbers (none_left c.loop-step.pending.items few))
+    c.loop-step._step c.loop-step.invariant.under (ap numbers (none_left c.loop-step.pending.items few))
 
 pub face_below-requires-clause-edge : goal.face_below-requires-clause-edge
 face_below-requires-clause-edge c =
@@ -55,7 +64,7 @@ face_below-requires-clause-edge c =
     ap (λ (x : ℕ). is_edge c.args.on.now.surface.now.mesh x c.in-Some.next.0) c.last.ensures.vertex
     ∙ next_edge c.args.on.now.surface.now c.args.on.now.split.now c.args.behind c.args.to.0 c.args.track.now c.loop-step.track
     (numbers c.loop-step.pending.items)
-    (numbers c.pop.new.self.items) c.in-Some.next.0 c.loop-step._step c.loop-step.invariant popped
+    (numbers c.pop.new.self.items) c.in-Some.next.0 c.loop-step._step c.loop-step.invariant.under popped
 
 pub cross-requires-clause-room : goal.cross-requires-clause-room
 cross-requires-clause-room c =
@@ -67,7 +76,7 @@ cross-requires-clause-room c =
     subst (λ (x : ℕ). IsFaceBelow s c.args.on.now.split.now x c.in-Some.next.0 step) c.last.ensures.vertex c.in-Some-face_below.ensures in
     let room = room_across s c.args.on.now.split.now c.faces.ensures.valid c.requires.on.split c.args.behind c.args.to.0 c.args.track.now
     c.loop-step.track
-    (numbers c.loop-step.pending.items) (numbers c.pop.new.self.items) c.in-Some.next.0 c.loop-step._step step c.loop-step.invariant popped
+    (numbers c.loop-step.pending.items) (numbers c.pop.new.self.items) c.in-Some.next.0 c.loop-step._step step c.loop-step.invariant.under popped
     under in
     let mesh : length (face_at c.faces.result.now step.face.0) ≡ length (face_at s.mesh step.face.0) =
     ap (λ (m : FaceList). length (face_at m step.face.0)) c.faces.ensures.mesh in
@@ -78,7 +87,7 @@ overflow_cast-len c =
     let popped = one_pending c.loop-step.pending.items c.pop.new.self.items c.in-Some.next c.in-Some.ensures.items in
     let room = room_along c.args.on.now.surface.now c.args.on.now.split.now c.requires.on.split c.args.behind c.args.to.0 c.args.track.now
     c.loop-step.track
-    (numbers c.loop-step.pending.items) (numbers c.pop.new.self.items) c.in-Some.next.0 c.loop-step._step c.loop-step.invariant popped in
+    (numbers c.loop-step.pending.items) (numbers c.pop.new.self.items) c.in-Some.next.0 c.loop-step._step c.loop-step.invariant.under popped in
     omega (arith, room, c.requires.room, c.len.ensures, length-numbers c.pop.new.self.items)
 
 pub overflow_add-len : goal.overflow_add-len
@@ -86,18 +95,18 @@ overflow_add-len c =
     let popped = one_pending c.loop-step.pending.items c.pop.new.self.items c.in-Some.next c.in-Some.ensures.items in
     let room = room_along c.args.on.now.surface.now c.args.on.now.split.now c.requires.on.split c.args.behind c.args.to.0 c.args.track.now
     c.loop-step.track
-    (numbers c.loop-step.pending.items) (numbers c.pop.new.self.items) c.in-Some.next.0 c.loop-step._step c.loop-step.invariant popped in
+    (numbers c.loop-step.pending.items) (numbers c.pop.new.self.items) c.in-Some.next.0 c.loop-step._step c.loop-step.invariant.under popped in
     omega (arith, room, c.requires.room, c.len.ensures, length-numbers c.pop.new.self.items)
 
 pub put-requires-clause-no_spur : goal.put-requires-clause-no_spur
-put-requires-clause-no_spur c = c.loop-step.invariant.no_spur
+put-requires-clause-no_spur c = c.loop-step.invariant.under.no_spur
 
 pub put-requires-clause-room : goal.put-requires-clause-room
 put-requires-clause-room c =
     let popped = one_pending c.loop-step.pending.items c.pop.new.self.items c.in-Some.next c.in-Some.ensures.items in
     let room = room_along c.args.on.now.surface.now c.args.on.now.split.now c.requires.on.split c.args.behind c.args.to.0 c.args.track.now
     c.loop-step.track
-    (numbers c.loop-step.pending.items) (numbers c.pop.new.self.items) c.in-Some.next.0 c.loop-step._step c.loop-step.invariant popped in
+    (numbers c.loop-step.pending.items) (numbers c.pop.new.self.items) c.in-Some.next.0 c.loop-step._step c.loop-step.invariant.under popped in
     omega (arith, room, c.requires.room, c.len.ensures, length-numbers c.pop.new.self.items)
 
 pub loop-step-preserved : goal.loop-step-preserved
@@ -116,12 +125,20 @@ loop-step-preserved c =
           (numbers w.cross.new.pending.items) =
           subst (λ (m : FaceList). IsCrossed m step c.args.behind c.loop-step.track (numbers c.pop.new.self.items) w.cross.new.track
           (numbers w.cross.new.pending.items))
-          w.faces.ensures.mesh w.in_ok-cross-in-Some-face_below.ensures in
+          w.faces.ensures.mesh w.in_ok-cross-in-Some-face_below.ensures.crossed in
           rw (w.track-is, w.pending-is)
-          (cross_on_way s split c.darts-step-end.ensures.valid c.args.behind c.args.to.0 c.args.track.now c.loop-step.track
-          w.cross.new.track
-          (numbers c.loop-step.pending.items) (numbers c.pop.new.self.items) (numbers w.cross.new.pending.items) v c.loop-step._step step
-          c.loop-step.invariant popped under crossed)
+          (record {
+            under = cross_on_way s split c.darts-step-end.ensures.valid c.args.behind c.args.to.0 c.args.track.now c.loop-step.track
+                w.cross.new.track
+                (numbers c.loop-step.pending.items) (numbers c.pop.new.self.items) (numbers w.cross.new.pending.items) v c.loop-step._step step
+                c.loop-step.invariant.under popped under crossed;
+            cells = omega (
+              arith,
+              w.in_ok-cross-in-Some-face_below.ensures.spare,
+              ap (λ (l : List ℕ). length l) crossed.walk,
+              c.loop-step.invariant.cells,
+            );
+          })
       | in-None+in_ok-put-in-None w ↦
           let put = w.in_ok-put-in-None.ensures in
           let off : (d : ℕ) → IsDartFrom (rotations_of s) u v d → in_cotree split (edge_of s d) ≡ false =
@@ -130,10 +147,13 @@ loop-step-preserved c =
           let after : w.len.result + c.args.behind ≡ length (numbers c.pop.new.self.items) + c.args.behind =
           omega (arith, w.len.ensures, length-numbers c.pop.new.self.items) in
           rw (w.track-is, w.pending-is)
-          (put_on_way s split c.args.behind c.args.to.0 c.args.track.now c.loop-step.track w.put.new.self
-          (numbers c.loop-step.pending.items)
-          (numbers c.pop.new.self.items) v c.loop-step._step (w.len.result + c.args.behind) c.loop-step.invariant popped after off
-          put.leads put.no_spur put.long put.last put.shape put.some put.more put.peak)
+          (record {
+            under = put_on_way s split c.args.behind c.args.to.0 c.args.track.now c.loop-step.track w.put.new.self
+                (numbers c.loop-step.pending.items)
+                (numbers c.pop.new.self.items) v c.loop-step._step (w.len.result + c.args.behind) c.loop-step.invariant.under popped after off
+                put.leads put.no_spur put.long put.last put.shape put.some put.more put.peak;
+            cells = omega (arith, put.cells, c.loop-step.invariant.cells);
+          })
     ]
 
 pub returns-clause-pending : goal.returns-clause-pending
@@ -144,31 +164,31 @@ returns-clause-pending c =
     (sym (length-numbers c.loop-step.pending.items)
     ∙ all_come c.args.on.now.surface.now c.args.on.now.split.now c.requires.on.split c.args.behind c.args.to.0 c.args.track.now
     c.loop-step.track
-    (numbers c.loop-step.pending.items) c.loop-step._step c.loop-step.invariant done)
+    (numbers c.loop-step.pending.items) c.loop-step._step c.loop-step.invariant.under done)
 
 pub returns-clause-no_spur : goal.returns-clause-no_spur
-returns-clause-no_spur c = c.loop-step.invariant.no_spur
+returns-clause-no_spur c = c.loop-step.invariant.under.no_spur
 
 pub returns-clause-off_cotree : goal.returns-clause-off_cotree
-returns-clause-off_cotree c = c.loop-step.invariant.off_cotree
+returns-clause-off_cotree c = c.loop-step.invariant.under.off_cotree
 
 pub returns-clause-last : goal.returns-clause-last
 returns-clause-last c =
     (led_on c.args.on.now.surface.now c.args.on.now.split.now c.args.behind c.args.to.0 c.args.track.now c.loop-step.track
     (numbers c.loop-step.pending.items)
-    c.loop-step._step c.loop-step.invariant (ap numbers (returns-clause-pending c))).1
+    c.loop-step._step c.loop-step.invariant.under (ap numbers (returns-clause-pending c))).1
 
 pub returns-clause-long : goal.returns-clause-long
-returns-clause-long c = omega (arith, c.loop-step.invariant.long, c.darts-step-end.ensures.count, c.loop-step.auto._step-end)
+returns-clause-long c = omega (arith, c.loop-step.invariant.under.long, c.darts-step-end.ensures.count, c.loop-step.auto._step-end)
 
 pub returns-clause-leads : goal.returns-clause-leads
 returns-clause-leads c =
     (led_on c.args.on.now.surface.now c.args.on.now.split.now c.args.behind c.args.to.0 c.args.track.now c.loop-step.track
     (numbers c.loop-step.pending.items)
-    c.loop-step._step c.loop-step.invariant (ap numbers (returns-clause-pending c))).0
+    c.loop-step._step c.loop-step.invariant.under (ap numbers (returns-clause-pending c))).0
 
 pub returns-clause-within : goal.returns-clause-within
 returns-clause-within c =
     led_within c.args.on.now.surface.now c.args.on.now.split.now c.args.behind c.args.to.0 c.args.track.now c.loop-step.track
     (numbers c.loop-step.pending.items)
-    c.loop-step._step c.loop-step.invariant (ap numbers (returns-clause-pending c))
+    c.loop-step._step c.loop-step.invariant.under (ap numbers (returns-clause-pending c))

@@ -1,26 +1,28 @@
-use Rattle.std.proofs.Common.{Bool, true, false, not, refl, ◌≡◌, ℕ, ◌<◌, List, length, get_or, sym, ◌∙◌, arith}
+use Rattle.std.proofs.Common.{Bool, true, false, not, refl, ◌≡◌, ℕ, ◌<◌, List, length, get_or, ap, sym, ◌∙◌, arith}
 use Rattle.std.proofs.lemmas.Bool.{eqb-true}
 use Rattle.std.proofs.lemmas.List.{get_or-map, take_more_same}
 use Rattle.surf_model.specs.Vertices.{numbers}
 use Rattle.surf_model.specs.declared.names.VertexName.{VertexName}
+use Rattle.move_lifting.specs.PooledWalks.{Pooled}
 use Rattle.move_lifting.proofs.ExpandLemmas.{length-numbers}
 use Rattle.move_lifting.proofs.inserting.common_start.Goals as goal
 
 pub loop-place-preserved : goal.loop-place-preserved
 loop-place-preserved c =
-    let first : List ℕ = numbers c.args.first.now in
-    let second : List ℕ = numbers c.args.second.now in
+    let approach : List ℕ = numbers c.args.approach.now in
+    let walk : List ℕ = c.args.walk.now.walk in
     let k : ℕ = c.loop-place.place in
-    let in_first : k < length c.args.first.now = omega (arith, c.loop-place-test.true, c.min-most.ensures) in
-    let in_second : k < length c.args.second.now = omega (arith, c.loop-place-test.true, c.min-most.ensures) in
+    let in_approach : k < length c.args.approach.now = omega (arith, c.loop-place-test.true, c.min-most.ensures) in
+    let in_walk : k < length walk = omega (arith, c.loop-place-test.true, c.min-most.ensures, c.len.ensures.count) in
     let equal = eqb-true _ _ (not_false _ (sym c.ne.ensures ∙ c.if-ne.false)) in
-    let same : get_or first k 0 ≡ get_or second k 0 =
-    get_or-map (λ (x : VertexName). x.0) c.args.first.now k (record { 0 = 0 }) 0 in_first ∙ equal
-    ∙ sym (get_or-map (λ (x : VertexName). x.0) c.args.second.now k (record { 0 = 0 }) 0 in_second) in
+    let same : get_or approach k 0 ≡ get_or walk k 0 =
+    get_or-map (λ (x : VertexName). x.0) c.args.approach.now k (record { 0 = 0 }) 0 in_approach ∙ equal ∙ c.read.ensures.value
+    ∙ ap (λ (p : Pooled). get_or p.walk k 0) c.loop-place.invariant.kept in
     record {
       within = omega (arith, c.loop-place-test.true);
-      same = take_more_same first second k 0 (omega (arith, in_first, length-numbers c.args.first.now))
-          (omega (arith, in_second, length-numbers c.args.second.now)) c.loop-place.invariant.same same;
+      kept = c.read.ensures.same ∙ c.loop-place.invariant.kept;
+      same = take_more_same approach walk k 0 (omega (arith, in_approach, length-numbers c.args.approach.now)) in_walk
+          c.loop-place.invariant.same same;
     }
   where
     not_false : (b : Bool) → not b ≡ false → b ≡ true

@@ -5,5 +5,6 @@ use Rattle.move_lifting.proofs.inserting.common_start.Given as goal
 abbrev pub invariant-loop-place : goal.invariant-loop-place
 invariant-loop-place l = record {
   within : l.place ≤ l.most;
-  same : take l.place (numbers l.first) ≡ take l.place (numbers l.second);
+  kept : l.walk ≡ l.fn.walk;
+  same : take l.place (numbers l.approach) ≡ take l.place l.fn.walk.walk;
 }

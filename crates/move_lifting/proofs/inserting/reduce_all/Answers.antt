@@ -13,21 +13,25 @@ loop-place-preserved c =
     let within : n < length c.args.walk.now = c.loop-place-test.true in
     let long : length walk ≡ length c.args.walk.now = length-numbers c.args.walk.now in
     let here : n < length walk = omega arith in
-    reduced_more c.args.behind walk c.args.moves c.loop-place.track c.put.new.self n _ (length c.args.walk.now - n - 1 + c.args.behind)
-    c.loop-place.invariant
-    (omega (arith, c.loop-place.auto.place)) here (get_or-map (λ (x : VertexName). x.0) c.args.walk.now n _ 0 within) (omega arith)
-    c.in_ok-put.ensures.leads
-    c.in_ok-put.ensures.some c.in_ok-put.ensures.no_spur c.in_ok-put.ensures.last c.in_ok-put.ensures.long c.in_ok-put.ensures.shape
-    c.in_ok-put.ensures.peak
+    record {
+      so_far = reduced_more c.args.behind walk c.args.moves c.loop-place.track c.put.new.self n _
+          (length c.args.walk.now - n - 1 + c.args.behind)
+          c.loop-place.invariant.so_far
+          (omega (arith, c.loop-place.auto.place)) here (get_or-map (λ (x : VertexName). x.0) c.args.walk.now n _ 0 within) (omega arith)
+          c.in_ok-put.ensures.leads
+          c.in_ok-put.ensures.some c.in_ok-put.ensures.no_spur c.in_ok-put.ensures.last c.in_ok-put.ensures.long c.in_ok-put.ensures.shape
+          c.in_ok-put.ensures.peak;
+      cells = omega (arith, c.in_ok-put.ensures.cells, c.loop-place.invariant.cells);
+    }
 
 pub returns-clause-leads : goal.returns-clause-leads
 returns-clause-leads c =
     let all : c.loop-place.place ≡ length (numbers c.args.walk.now) =
     omega (arith, c.loop-place-test.false, c.loop-place.auto.place-end, length-numbers c.args.walk.now, c.requires.some) in
-    (reduced_all c.args.behind (numbers c.args.walk.now) c.args.moves c.loop-place.track c.loop-place.place c.loop-place.invariant all).0
+    (reduced_all c.args.behind (numbers c.args.walk.now) c.args.moves c.loop-place.track c.loop-place.place c.loop-place.invariant.so_far all).0
 
 pub returns-clause-freely : goal.returns-clause-freely
 returns-clause-freely c =
     let all : c.loop-place.place ≡ length (numbers c.args.walk.now) =
     omega (arith, c.loop-place-test.false, c.loop-place.auto.place-end, length-numbers c.args.walk.now, c.requires.some) in
-    (reduced_all c.args.behind (numbers c.args.walk.now) c.args.moves c.loop-place.track c.loop-place.place c.loop-place.invariant all).1
+    (reduced_all c.args.behind (numbers c.args.walk.now) c.args.moves c.loop-place.track c.loop-place.place c.loop-place.invariant.so_far all).1

@@ -1,6 +1,10 @@
+use Rattle.std.proofs.Common.{◌≡◌, ◌+◌, length}
 use Rattle.surf_model.specs.Vertices.{numbers}
 use Rattle.move_lifting.proofs.SpurLemmas.{IsReducedSoFar}
 use Rattle.move_lifting.proofs.inserting.reduce_all.Given as goal
 
 abbrev pub invariant-loop-place : goal.invariant-loop-place
-invariant-loop-place l = IsReducedSoFar l.behind (numbers l.walk) l.fn.moves l.track l.place
+invariant-loop-place l = record {
+  so_far : IsReducedSoFar l.behind (numbers l.walk) l.fn.moves l.track l.place;
+  cells : length l.track.walk + l.track.spare ≡ length l.walk;
+}

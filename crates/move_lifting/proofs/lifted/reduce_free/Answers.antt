@@ -16,18 +16,20 @@ use Rattle.move_lifting.proofs.lifted.reduce_free.Goals as goal
 pub loop-place-init : goal.loop-place-init
 loop-place-init c =
     let walk : List ℕ = c.args.walk.now in
-    let begun : c.start-track.result ≡ record { walk = c.at.result.0 ∷ []; list = c.new.result } = c.start-track.ensures in
-    let w : c.start-track.result.walk ≡ c.at.result.0 ∷ [] = ap (λ (t : TrackView). t.walk) begun in
-    let l : c.start-track.result.list ≡ record { moves = []; peak = c.darts-darts.result } = ap (λ (t : TrackView). t.list) begun
+    let begun : c.in_ok-track.track ≡ record { walk = c.at.result.0 ∷ []; list = c.new.result; spare = c.darts-darts.result } =
+    c.in_ok-track.ensures in
+    let w : c.in_ok-track.track.walk ≡ c.at.result.0 ∷ [] = ap (λ (t : TrackView). t.walk) begun in
+    let l : c.in_ok-track.track.list ≡ record { moves = []; peak = c.darts-darts.result } = ap (λ (t : TrackView). t.list) begun
     ∙ c.new.ensures in
-    let noted : c.start-track.result.list ≡ record { moves = []; peak = darts walk } =
-    subst (λ (n : ℕ). c.start-track.result.list ≡ record { moves = []; peak = n }) c.darts-darts.ensures.count l in
+    let noted : c.in_ok-track.track.list ≡ record { moves = []; peak = darts walk } =
+    subst (λ (n : ℕ). c.in_ok-track.track.list ≡ record { moves = []; peak = n }) c.darts-darts.ensures.count l in
     record {
       no_spur = subst HasNoSpur (sym w) (one_no_spur c.at.result.0);
       long = subst (λ (x : List ℕ). length x ≤ 1) (sym w) (omega arith);
+      cells = omega (arith, ap (λ (x : List ℕ). length x) w, ap (λ (t : TrackView). t.spare) begun);
       removals = subst (All IsRemoval) (sym (ap (λ (x : PeakedMoves). x.moves) l)) (λ k d h. absurd (omega arith));
-      leads = λ mesh. subst (λ (x : List ℕ). LeadsAtPeak mesh walk c.start-track.result.list (x ++ drop 1 walk)) (sym w)
-          (starts_whole mesh walk c.at.result.0 c.start-track.result.list c.darts-darts.ensures.starts (sym c.at.ensures) noted);
+      leads = λ mesh. subst (λ (x : List ℕ). LeadsAtPeak mesh walk c.in_ok-track.track.list (x ++ drop 1 walk)) (sym w)
+          (starts_whole mesh walk c.at.result.0 c.in_ok-track.track.list c.darts-darts.ensures.starts (sym c.at.ensures) noted);
     }
 
 pub loop-place-preserved : goal.loop-place-preserved
@@ -40,6 +42,7 @@ loop-place-preserved c =
     record {
       no_spur = c.in_ok-put.ensures.no_spur;
       long = omega (arith, c.in_ok-put.ensures.long, c.loop-place.invariant.long);
+      cells = omega (arith, c.in_ok-put.ensures.cells, c.loop-place.invariant.cells);
       removals = c.in_ok-put.ensures.removals c.loop-place.invariant.removals;
       leads = λ mesh. goes_along mesh walk c.loop-place.track.walk c.put.new.self.walk c.loop-place.track.list c.put.new.self.list place
           c.at-in-loop-place.result.0 (c.darts-darts.result - c.loop-place.place - 1) (c.in_ok-put.ensures.leads mesh) within

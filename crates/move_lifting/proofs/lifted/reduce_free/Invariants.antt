@@ -1,4 +1,4 @@
-use Rattle.std.proofs.Common.{◌+◌, ◌≤◌, ◌++◌, length, drop}
+use Rattle.std.proofs.Common.{◌≡◌, ◌+◌, ◌≤◌, ◌++◌, length, drop}
 use Rattle.std.specs.Prelude.{All}
 use Rattle.surf_model.specs.FaceLists.{FaceList}
 use Rattle.surf_model.specs.FreeWalks.{HasNoSpur}
@@ -9,6 +9,7 @@ abbrev pub invariant-loop-place : goal.invariant-loop-place
 invariant-loop-place l = record {
   no_spur : HasNoSpur l.track.walk;
   long : length l.track.walk ≤ l.place + 1;
+  cells : length l.track.walk + l.track.spare ≡ l.darts + 1;
   removals : All IsRemoval l.track.list.moves;
   leads : (mesh : FaceList) → LeadsAtPeak mesh l.walk l.track.list (l.track.walk ++ drop (l.place + 1) l.walk);
 }

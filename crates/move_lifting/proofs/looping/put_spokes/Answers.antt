@@ -1,4 +1,4 @@
-use Rattle.std.proofs.Common.{ℕ, ◌<◌, ◌++◌, true, List, length, get_or, ap, subst, arith}
+use Rattle.std.proofs.Common.{ℕ, ◌++◌, true, List, length, get_or, ap, subst, arith}
 use Rattle.std.proofs.lemmas.List.{take_all}
 use Rattle.surf_model.specs.FreeWalks.{AreFreelyEqual}
 use Rattle.surf_model.specs.Vertices.{numbers}

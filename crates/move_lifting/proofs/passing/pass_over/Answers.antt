@@ -1,5 +1,4 @@
 use Rattle.std.proofs.Common.{◌≡◌, ℕ, List, length, ap, sym, ◌∙◌, subst, arith}
-use Rattle.surf_model.specs.Moves.{PeakedMoves}
 use Rattle.surf_model.specs.Vertices.{numbers}
 use Rattle.surf_model.specs.Walks.{IsWalk}
 use Rattle.surf_model.specs.declared.names.VertexName.{VertexName}
@@ -9,13 +8,13 @@ use Rattle.move_lifting.specs.Loads.{StaysWithin}
 use Rattle.move_lifting.specs.Passes.{IsPassedFrom}
 use Rattle.move_lifting.specs.Tracks.{TrackView, GoesOn, last_of}
 use Rattle.move_lifting.proofs.ExpandLemmas.{length-numbers}
-use Rattle.move_lifting.proofs.PassLemmas.{led_walk, not_passed, passed_on}
+use Rattle.move_lifting.proofs.PassLemmas.{led_walk, not_passed, passed_as, passed_on}
 use Rattle.move_lifting.proofs.passing.pass_over.Goals as goal
 
 pub loop-pass-init : goal.loop-pass-init
 loop-pass-init c = record {
   passed = not_passed c.args.on.now.surface.now c.args.on.now.split.now c.args.behind
-      (record { walk = numbers c.args.walk.items; list = c.args.moves }) c.requires.led;
+      (record { walk = numbers c.args.walk.items; list = c.args.moves; spare = 0 }) c.requires.led;
   few = c.requires.few;
   looked_at = omega arith;
 }
@@ -34,8 +33,8 @@ pub loop-pass-preserved : goal.loop-pass-preserved
 loop-pass-preserved c =
     let s : OrientedMesh = c.args.on.now.surface.now in
     let split : SplitView = c.args.on.now.split.now in
-    let begun : TrackView = record { walk = numbers c.args.walk.items; list = c.args.moves } in
-    let old : TrackView = record { walk = numbers c.loop-pass.walk.items; list = c.loop-pass.moves } in
+    let begun : TrackView = record { walk = numbers c.args.walk.items; list = c.args.moves; spare = 0 } in
+    let old : TrackView = record { walk = numbers c.loop-pass.walk.items; list = c.loop-pass.moves; spare = 0 } in
     let track : TrackView = c.in_ok-track.track in
     let goes : GoesOn s.mesh c.args.behind old.walk old.list track.walk track.list =
     subst (λ (l : List VertexName). GoesOn s.mesh c.args.behind (numbers l) c.loop-pass.moves track.walk track.list)
@@ -50,13 +49,10 @@ loop-pass-preserved c =
     c.in_ok-track.ensures.leaves within in
     let vertices : numbers c.in_ok-next.next.items ≡ track.walk = c.in_ok-next.ensures.vertices in
     let moves : c.in_ok-next.list ≡ track.list = c.in_ok-next.ensures.moves in
-    let same : track ≡ record { walk = numbers c.in_ok-next.next.items; list = c.in_ok-next.list } =
-    ap (λ (w : List ℕ). record { walk = w; list = track.list }) (sym vertices)
-    ∙ ap (λ (m : PeakedMoves). record { walk = numbers c.in_ok-next.next.items; list = m }) (sym moves) in
     let long : length c.in_ok-next.next.items ≡ length track.walk =
     sym (length-numbers c.in_ok-next.next.items) ∙ ap (λ (l : List ℕ). length l) vertices in
     record {
-      passed = subst (IsPassedFrom s split c.args.behind begun) same passed;
+      passed = passed_as s split c.args.behind begun track (numbers c.in_ok-next.next.items) c.in_ok-next.list passed vertices moves;
       few = omega (arith, long, c.in_ok-track.ensures.few);
       looked_at = omega (arith, c.loop-pass.invariant.looked_at, c.loop-pass.invariant.few, c.len.ensures);
     }

@@ -1,10 +1,13 @@
-use Rattle.std.proofs.Common.{length}
+use Rattle.std.proofs.Common.{◌≡◌, ◌+◌, length}
 use Rattle.surf_model.specs.Vertices.{numbers}
 use Rattle.move_lifting.proofs.PassLemmas.{ArePutSoFar}
 use Rattle.move_lifting.proofs.passing.put_pending.Given as goal
 
 abbrev pub invariant-loop-next : goal.invariant-loop-next
-invariant-loop-next l = ArePutSoFar l.behind l.initial.track (numbers l.initial.pending.items) l.track l.pending.items
+invariant-loop-next l = record {
+  so_far : ArePutSoFar l.behind l.initial.track (numbers l.initial.pending.items) l.track l.pending.items;
+  cells : length l.track.walk + l.track.spare ≡ length l.initial.track.walk + l.initial.track.spare;
+}
 
 -- one vertex is taken from what is pending
 abbrev pub decreases-loop-next : goal.decreases-loop-next

@@ -14,9 +14,10 @@ loop-place-init c =
     let some : 0 < length walk = c.requires.walk.starts in
     record {
       led = led_first c.args.self.now.on.now.surface.now c.args.self.now.on.now.split.now c.args.self.now.behind walk c.args.moves
-          c.start-track.result _ some (get_or-map (λ (x : VertexName). x.0) c.args.walk.now 0 _ 0 (omega arith)) c.start-track.ensures;
-      pending = c.new-pending.ensures.items;
-      few = omega (arith, ap (λ (t : TrackView). length t.walk) c.start-track.ensures, c.requires.few);
+          c.in_ok-track.track _ _ some (get_or-map (λ (x : VertexName). x.0) c.args.walk.now 0 _ 0 (omega arith)) c.in_ok-track.ensures;
+      pending = c.in_ok-pending.ensures.items;
+      few = omega (arith, ap (λ (t : TrackView). length t.walk) c.in_ok-track.ensures, c.requires.few);
+      cells = omega (arith, long, ap (λ (t : TrackView). t.spare) c.in_ok-track.ensures);
     }
 
 pub step-requires-clause-edge : goal.step-requires-clause-edge
@@ -51,6 +52,7 @@ loop-place-preserved c =
           c.in_ok-step.ensures.within;
       pending = c.in_ok-step.ensures.pending;
       few = omega (arith, c.in_ok-step.ensures.few, within);
+      cells = omega (arith, c.in_ok-step.ensures.spare, within);
     }
 
 pub returns-clause-leads : goal.returns-clause-leads

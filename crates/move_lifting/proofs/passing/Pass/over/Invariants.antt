@@ -9,4 +9,5 @@ invariant-loop-place l = record {
   led : IsLedSoFar l.self.on.now.surface.now l.self.on.now.split.now l.self.behind (numbers l.walk) l.fn.moves l.track l.place;
   pending : l.pending.items ≡ [];
   few : length l.track.walk + length l.walk ≤ MOST_PASSED_ENTRIES + l.place;
+  cells : length l.walk ≤ l.place + l.track.spare;
 }

@@ -1,4 +1,4 @@
-use Rattle.std.proofs.Common.{◌≡◌, inl, inr, ℕ, ◌-◌, ◌<◌, ◌∷◌, [], ◌++◌, false, List, length, get_or, refl, ap, sym, ◌∙◌, subst, arith, if◌then◌else◌}
+use Rattle.std.proofs.Common.{◌≡◌, inl, inr, ℕ, ◌-◌, ◌∷◌, [], ◌++◌, false, List, get_or, refl, ap, ◌∙◌, arith, if◌then◌else◌}
 use Rattle.std.proofs.lemmas.Bool.{both_ways, cases_lt}
 use Rattle.std.proofs.lemmas.List.{get_or_past}
 use Rattle.surf_model.specs.Vertices.{numbers}
@@ -8,7 +8,6 @@ use Rattle.halfedge_map.specs.OrientedMeshes.{OrientedMesh}
 use Rattle.halfedge_map.specs.DartMaps.{origin_of}
 use Rattle.polygon_cut.specs.Polygons.{PolygonView, side_at}
 use Rattle.polygon_cut.specs.SpokeLoops.{last_side}
-use Rattle.move_lifting.specs.SpokeWalks.{HasWalk}
 use Rattle.move_lifting.proofs.ApproachLemmas.{first_spoke, made_more, none_made, last_used, spoke_some}
 use Rattle.move_lifting.proofs.ExpandLemmas.{length-numbers, one_pending}
 use Rattle.move_lifting.proofs.spoke_walks.SpokeWalks.of.Goals as goal

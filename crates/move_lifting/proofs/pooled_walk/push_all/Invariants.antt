@@ -1,0 +1,7 @@
+use Rattle.std.proofs.Common.{take}
+use Rattle.surf_model.specs.Vertices.{numbers}
+use Rattle.move_lifting.specs.PooledWalks.{IsPushed}
+use Rattle.move_lifting.proofs.pooled_walk.push_all.Given as goal
+
+abbrev pub invariant-loop-vertex : goal.invariant-loop-vertex
+invariant-loop-vertex l = IsPushed l.fn.pool l.pool l.chain (numbers (take l.vertex-index l.vertices))

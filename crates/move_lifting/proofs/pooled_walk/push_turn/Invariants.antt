@@ -1,0 +1,6 @@
+use Rattle.std.proofs.Common.{take, drop}
+use Rattle.move_lifting.specs.PooledWalks.{IsPushed}
+use Rattle.move_lifting.proofs.pooled_walk.push_turn.Given as goal
+
+abbrev pub invariant-loop-place : goal.invariant-loop-place
+invariant-loop-place l = IsPushed l.fn.pool l.pool l.chain (take l.place (drop 1 l.turn))

@@ -1,0 +1,10 @@
+use Rattle.std.proofs.Common.{◌≡◌, length, take}
+use Rattle.surf_model.specs.Vertices.{numbers}
+use Rattle.move_lifting.proofs.track.Track.into_parts.Given as goal
+
+abbrev pub invariant-loop-place : goal.invariant-loop-place
+invariant-loop-place l = record {
+  same : l.laid ≡ l.initial.laid;
+  long : l.vertices ≡ length l.initial.laid.walk;
+  so_far : numbers l.walk.items ≡ take l.place l.initial.laid.walk;
+}
