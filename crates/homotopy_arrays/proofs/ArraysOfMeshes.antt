@@ -1,15 +1,14 @@
 -- The arrays of a mesh are read as that mesh, and what is read is the mesh whose arrays they are.
-use Rattle.std.proofs.Common.{◌≡◌, ℕ, zero, suc, ◌+◌, ◌<◌, ◌≤◌, Bool, true, false, cond, not, eqb, ltb, List, [], ◌∷◌, ◌++◌, length, take, drop, map, get_or, append_assoc, append-nil, length-take-le, refl, sym, ap, ap₂, subst, ◌∙◌, arith}
-use Rattle.std.specs.Prelude.{All, Option, Some, None, Result, Ok, Err, sum, sum_by, flat_map}
+use Rattle.std.proofs.Common.{◌≡◌, ℕ, zero, suc, ◌+◌, ◌<◌, ◌≤◌, Bool, true, false, cond, not, eqb, ltb, List, [], ◌∷◌, ◌++◌, length, take, drop, map, append_assoc, append-nil, length-take-le, refl, sym, ap, ap₂, subst, ◌∙◌, arith}
+use Rattle.std.specs.Prelude.{All, Option, Some, None, Result, Ok, sum, sum_by, flat_map}
 use Rattle.std.specs.List.{list_all}
-use Rattle.std.proofs.lemmas.Bool.{le-ltb, lt-ltb, ne_eqb, eq-eqb, eqb-true, ltb-false, and_from}
+use Rattle.std.proofs.lemmas.Bool.{le-ltb, lt-ltb, ne_eqb, eqb-true, ltb-false, and_from}
 use Rattle.std.proofs.lemmas.List.{take_at, drop_at, take-append-drop, length-drop}
 use Rattle.std.proofs.lemmas.List.Concat.{length-flat_map}
-use Rattle.std.proofs.lemmas.List.Elements.{All-nil, All-cons, All-head, All-tail, All-get_or}
+use Rattle.std.proofs.lemmas.List.Elements.{All-nil, All-cons, All-head, All-tail}
 use Rattle.std.proofs.lemmas.List.Sums.{sum_by-cons}
-use Rattle.surf_model.specs.FaceLists.{FaceList, IsFace, IsFaceList, total_sides}
+use Rattle.surf_model.specs.FaceLists.{FaceList, IsFace, total_sides}
 use Rattle.surf_model.specs.declared.limits.TheConstants.{MOST_VERTICES, MOST_SIDES}
-use Rattle.off_reader.specs.OffTexts.{has_equal_neighbours}
 use Rattle.off_reader.proofs.RingLemmas.{DifferTo, differ_more, differ_all}
 use Rattle.homotopy_arrays.specs.MeshArrays.{AreArraysOf, counts_fault, face_fault, faces_behind, mesh_of, unless}
 use Rattle.homotopy_arrays.specs.declared.fault.Fault.{Fault}

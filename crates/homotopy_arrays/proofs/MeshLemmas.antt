@@ -1,17 +1,17 @@
 -- Meshes from arrays, face by face.
-use Rattle.std.proofs.Common.{◌≡◌, ◌≢◌, ℕ, ◌+◌, ◌*◌, ◌-◌, ◌<◌, ◌≤◌, Bool, true, false, cond, not, eqb, ltb, List, [], ◌∷◌, ◌++◌, length, take, drop, get_or, length-take-le, refl, sym, ap, ap₂, subst, ◌∙◌, arith}
-use Rattle.std.specs.Prelude.{All, Option, Some, None, Result, Ok, Err, sum, sum_by}
+use Rattle.std.proofs.Common.{◌≡◌, ◌≢◌, ℕ, ◌+◌, ◌*◌, ◌<◌, ◌≤◌, Bool, true, false, cond, not, eqb, ltb, List, [], ◌∷◌, ◌++◌, length, take, drop, get_or, length-take-le, refl, sym, ap, subst, ◌∙◌, arith}
+use Rattle.std.specs.Prelude.{All, Option, Some, None, Ok, Err, sum, sum_by}
 use Rattle.std.specs.List.{list_all}
-use Rattle.std.proofs.lemmas.Bool.{both_ways, eq-eqb, ne_eqb, and_parts, lt-ltb, le-ltb, ltb-true, ltb-false}
+use Rattle.std.proofs.lemmas.Bool.{both_ways, eq-eqb, and_parts, lt-ltb, le-ltb, ltb-true, ltb-false}
 use Rattle.std.proofs.lemmas.List.{drop-drop, drop_more, drop_all, length-drop, take_more, length_push}
 use Rattle.std.proofs.lemmas.List.Elements.{All-nil, All-cons}
 use Rattle.std.proofs.lemmas.List.Sums.{sum_by-append, sum_by-take-drop, sum_by-cons}
 use Rattle.std.proofs.lemmas.Option.{none-some}
-use Rattle.surf_model.specs.FaceLists.{FaceList, PendingFace, IsFace, next_corner, total_sides}
+use Rattle.surf_model.specs.FaceLists.{PendingFace, IsFace, next_corner, total_sides}
 use Rattle.surf_model.specs.declared.limits.TheConstants.{MOST_VERTICES, MOST_SIDES}
 use Rattle.off_reader.specs.OffTexts.{has_equal_neighbours}
 use Rattle.off_reader.proofs.RingLemmas.{equal_found}
-use Rattle.homotopy_arrays.specs.MeshArrays.{counts_fault, face_fault, faces_behind, mesh_of, unless}
+use Rattle.homotopy_arrays.specs.MeshArrays.{face_fault, faces_behind, mesh_of, unless}
 use Rattle.homotopy_arrays.specs.declared.fault.Fault.{Fault}
 use Rattle.homotopy_arrays.specs.declared.fault.Fault.TheVariants.{ManyVertices, CornerCount, ManySides, FewCorners, NoVertex, EqualNeighbours}
 

@@ -6,7 +6,6 @@ use Rattle.std.proofs.lemmas.List.{get_or_append_left, length_push}
 use Rattle.std.proofs.lemmas.List.Elements.{All-get_or}
 use Rattle.surf_model.specs.FaceLists.{FaceList, IsFace, IsFaceList, face_at, is_used}
 use Rattle.surf_model.specs.Moves as moves
-use Rattle.surf_model.specs.Walks.{IsWalk, HaveCommonEnds}
 use Rattle.surf_model.proofs.EdgeLemmas.{corner_used, used_below}
 use Rattle.manifold_check.specs.ComponentParts.{PartsView, AreParts, component_at, component_mesh}
 use Rattle.manifold_check.proofs.PartPieces.{IsOfComponent, piece_of_parts, walk_alone}

@@ -1,4 +1,4 @@
-use Rattle.std.proofs.Common.{◌≡◌, List, length, get_or, arith, ap, sym, subst, ◌∙◌}
+use Rattle.std.proofs.Common.{List, get_or, arith, sym, subst, ◌∙◌}
 use Rattle.std.proofs.lemmas.Result.{on_ok_weaker}
 use Rattle.surf_model.specs.FaceLists.{FaceList}
 use Rattle.homotopy_arrays.specs.CheckedPairs.{IsAnswerTo}

@@ -1,6 +1,6 @@
-use Rattle.std.proofs.Common.{◌≡◌, List, length, get_or, arith, ap, sym, subst, ◌∙◌}
+use Rattle.std.proofs.Common.{get_or, arith, sym, subst, ◌∙◌}
 use Rattle.surf_model.specs.FaceLists.{FaceList}
-use Rattle.homotopy_arrays.specs.CheckedPairs.{IsPairOf, place_of}
+use Rattle.homotopy_arrays.specs.CheckedPairs.{IsPairOf}
 use Rattle.homotopy_arrays.specs.declared.pair.Checked.{Checked}
 use Rattle.homotopy_arrays.proofs.PartLemmas.{pair_there}
 use Rattle.homotopy_arrays.proofs.by_parts.answer_there.Goals as goal

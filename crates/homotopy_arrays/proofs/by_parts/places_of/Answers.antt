@@ -1,4 +1,4 @@
-use Rattle.std.proofs.Common.{◌≡◌, ◌+◌, List, ap, sym, subst, ◌∙◌}
+use Rattle.std.proofs.Common.{◌+◌, List, ap, sym, subst, ◌∙◌}
 use Rattle.std.proofs.lemmas.List.{get_or_read}
 use Rattle.homotopy_arrays.specs.CheckedPairs.{place_of}
 use Rattle.homotopy_arrays.specs.declared.pair.Checked.{Checked}

@@ -1,5 +1,3 @@
-use Rattle.std.proofs.Common.{◌≡◌, length}
-use Rattle.homotopy_arrays.specs.CheckedPairs.{AreAt}
 use Rattle.homotopy_arrays.proofs.PartLemmas.{AreAtTo}
 use Rattle.homotopy_arrays.proofs.by_parts.places_of.Given as goal
 

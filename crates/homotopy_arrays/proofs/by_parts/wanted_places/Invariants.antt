@@ -1,4 +1,4 @@
-use Rattle.std.proofs.Common.{◌≡◌, ◌<◌, ℕ, true, false, length, take, get_or}
+use Rattle.std.proofs.Common.{◌≡◌, ◌<◌, ℕ, true, false, length, get_or}
 use Rattle.homotopy_arrays.proofs.by_parts.wanted_places.Given as goal
 
 abbrev pub invariant-loop-place : goal.invariant-loop-place
