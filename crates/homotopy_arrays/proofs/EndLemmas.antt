@@ -6,10 +6,9 @@ use Rattle.commands.proofs.Components.{signed_surface}
 use Rattle.commands.specs.declared.surface_input.SignedMesh.{SignedMesh}
 use Rattle.homotopy_arrays.specs.CheckedPairs.{AreAnswersTo, AreChecked, IsAnswerTo, IsChecked, IsPairOf}
 use Rattle.homotopy_arrays.specs.Decisions.{AreDecided}
-use Rattle.homotopy_arrays.specs.Pairs.{IsAnswer, are_pairs, walk_at}
+use Rattle.homotopy_arrays.specs.Pairs.{IsAnswer, are_pairs, walk_at, AreAnswers}
 use Rattle.homotopy_arrays.specs.Surfaces.{IsSurfaceOf, OfMesh}
 use Rattle.homotopy_arrays.specs.declared.decide.PairAnswer.{PairAnswer}
-use Rattle.homotopy_arrays.specs.declared.decide.PairAnswer.TheVariants as answers
 use Rattle.homotopy_arrays.specs.declared.fault.Fault.{Fault}
 use Rattle.homotopy_arrays.specs.declared.fault.Fault.TheVariants.{OutOfMemory}
 use Rattle.homotopy_arrays.specs.declared.pair.Checked.{Checked}
@@ -36,24 +35,26 @@ answer_of : (mesh : FaceList) (first second : List ℕ) (pair : Checked) (answer
 answer_of mesh first second (Pair list) answer h to = to first second h.0 h.1
 answer_of mesh first second (Faulty fault) answer h to = subst (IsAnswer mesh first second) (sym to) h
 
-pub decided : (read : Result FaceList Fault) (surface : SignedMesh) (sizes vertices : List ℕ) (checked : List Checked)
-    (given : List PairAnswer) → OfMesh read (λ mesh. IsSurfaceOf mesh surface) → IsTrue (are_pairs sizes vertices)
-    → 2 * length checked ≡ length sizes → AreChecked surface.faces sizes vertices checked → AreAnswersTo surface.faces checked given
-    → OfMesh read (λ mesh. AreDecided sizes vertices mesh given)
-decided read surface sizes vertices checked given of pairs each are to =
+-- an answer for each pair, from the answers on what was compared
+pub answers_on : (mesh : FaceList) (sizes vertices : List ℕ) (checked : List Checked) (given : List PairAnswer)
+    → 2 * length checked ≡ length sizes → AreChecked mesh sizes vertices checked → AreAnswersTo mesh checked given
+    → AreAnswers mesh sizes vertices given
+answers_on mesh sizes vertices checked given each are to =
+    record {
+      each_pair = omega (arith, each, to.each);
+      answer = λ k none below.
+          let d : Checked = Faulty (Empty 0) in
+          let there : k < length checked = omega (arith, below, to.each) in
+          answer_of mesh (walk_at sizes vertices (2 * k)) (walk_at sizes vertices (2 * k + 1)) (get_or checked k d) (get_or given k none)
+          (are k d there) (to.answer k d none there);
+    }
+
+pub decided : (read : Result FaceList Fault) (surface : SignedMesh) (sizes vertices : List ℕ) (given : List PairAnswer)
+    → OfMesh read (λ mesh. IsSurfaceOf mesh surface) → IsTrue (are_pairs sizes vertices)
+    → AreAnswers surface.faces sizes vertices given → OfMesh read (λ mesh. AreDecided sizes vertices mesh given)
+decided read surface sizes vertices given of pairs answers =
     record {
       mesh = surface.faces;
       is = of.is ∙ ap (λ (m : FaceList). Ok m) (sym of.holds.faces);
-      holds = record {
-        surface = signed_surface surface of.holds.signed;
-        pairs = pairs;
-        answers = record {
-          each_pair = omega (arith, each, to.each);
-          answer = λ k none below.
-              let d : Checked = Faulty (Empty 0) in
-              let there : k < length checked = omega (arith, below, to.each) in
-              answer_of surface.faces (walk_at sizes vertices (2 * k)) (walk_at sizes vertices (2 * k + 1)) (get_or checked k d)
-              (get_or given k none) (are k d there) (to.answer k d none there);
-        };
-      };
+      holds = record { surface = signed_surface surface of.holds.signed; pairs = pairs; answers = answers };
     }

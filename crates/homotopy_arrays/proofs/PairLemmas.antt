@@ -1,6 +1,6 @@
 -- Pairs of walks, cut from arrays.
-use Rattle.std.proofs.Common.{◌≡◌, ◌≢◌, ℕ, Bool, true, false, cond, eqb, ltb, ◌+◌, ◌-◌, ◌*◌, ◌<◌, ◌≤◌, List, [], ◌∷◌, ◌++◌, length, take, drop, get_or, refl, sym, ap, ap₂, subst, ◌∙◌, inl, inr, arith}
-use Rattle.std.specs.Prelude.{Some, None, option_map, sum, sum_by}
+use Rattle.std.proofs.Common.{◌≡◌, ◌≢◌, ℕ, Bool, true, false, cond, eqb, ltb, ◌+◌, ◌-◌, ◌*◌, ◌<◌, ◌≤◌, List, [], ◌∷◌, ◌++◌, length, take, drop, get_or, refl, sym, ap, ap₂, subst, ◌∙◌, inl, inr, arith, ◌↔◌}
+use Rattle.std.specs.Prelude.{Some, None, option_map, sum, sum_by, Option, MatchOption}
 use Rattle.std.proofs.Math.Seq.{get_or-append_seam}
 use Rattle.std.proofs.lemmas.Bool.{cases_lt, ne_eqb, eqb-false, le-ltb, ltb-false}
 use Rattle.std.proofs.lemmas.List.{take_more, get_or_append_left, length_push}
@@ -8,10 +8,15 @@ use Rattle.std.proofs.lemmas.Option.{none-some}
 use Rattle.std.proofs.lemmas.List.Sums.{sum_by-append, sum_by-take-drop, sum_by-cons}
 use Rattle.surf_model.specs.FaceLists.{FaceList}
 use Rattle.surf_model.specs.Walks.{IsWalk, HaveCommonEnds}
+use Rattle.surf_model.specs.Moves as moves
+use Rattle.walk_translate.specs.WalkPairs.{AreWalkPair}
+use Rattle.walk_translate.specs.declared.deciding.Answer as deciding
+use Rattle.walk_translate.specs.declared.deciding.Answer.TheVariants.{Homotopic}
 use Rattle.walk_files.specs.Pairs.{IsPair, pair_fault}
 use Rattle.walk_files.specs.declared.pair.PairFault.{PairFault}
 use Rattle.homotopy_arrays.specs.CheckedPairs.{AreChecked, IsChecked}
-use Rattle.homotopy_arrays.specs.Pairs.{AreWalks, length_fault, walk_at, walks_fault}
+use Rattle.homotopy_arrays.specs.Pairs.{AreWalks, IsAnswer, length_fault, walk_at, walks_fault}
+use Rattle.homotopy_arrays.specs.declared.decide.PairAnswer.{PairAnswer}
 use Rattle.homotopy_arrays.specs.declared.pair.Checked.{Checked}
 use Rattle.homotopy_arrays.specs.declared.pair.WalkFault.{WalkFault}
 use Rattle.homotopy_arrays.specs.declared.pair.WalkFault.TheVariants.{Empty, Long, Pair}
@@ -143,4 +148,48 @@ more_checked mesh sizes vertices checked k pair many so_far is j none below =
           sym (ap (λ (n : ℕ). get_or (checked ++ pair ∷ []) n none) here ∙ get_or-append_seam checked pair [] none) in
           subst (IsChecked mesh (walk_at sizes vertices (2 * j)) (walk_at sizes vertices (2 * j + 1))) found
           (subst (λ (n : ℕ). IsChecked mesh (walk_at sizes vertices (2 * n)) (walk_at sizes vertices (2 * n + 1)) pair) there is))
+    ]
+
+-- ---- the answers on pairs
+
+-- what is told of two walks is told of their vertices
+pub told_of_vertices : (mesh : FaceList) (first second one other : List ℕ) (found : Option deciding.Answer) → one ≡ first → other ≡ second
+    → (length first ≤ MOST_WALK) × (length second ≤ MOST_WALK)
+    → MatchOption found (AreWalkPair mesh one other → ⊥)
+    (λ answer. AreWalkPair mesh one other × ((answer ≡ Homotopic) ↔ moves.Homotopic mesh one other))
+    → MatchOption found (AreWalks mesh first second → ⊥)
+    (λ answer. AreWalks mesh first second × ((answer ≡ Homotopic) ↔ moves.Homotopic mesh first second))
+told_of_vertices mesh first second one other None e f few none =
+    let so : AreWalkPair mesh first second → ⊥ =
+    subst (λ (w : List ℕ). AreWalkPair mesh first w → ⊥) f (subst (λ (w : List ℕ). AreWalkPair mesh w other → ⊥) e none) in
+    λ are. so (record { first_walk = are.first_walk; second_walk = are.second_walk; ends = are.ends })
+told_of_vertices mesh first second one other (Some answer) e f few told =
+    let so : AreWalkPair mesh first second × ((answer ≡ Homotopic) ↔ moves.Homotopic mesh first second) =
+    subst (λ (w : List ℕ). AreWalkPair mesh first w × ((answer ≡ Homotopic) ↔ moves.Homotopic mesh first w)) f
+    (subst (λ (w : List ℕ). AreWalkPair mesh w other × ((answer ≡ Homotopic) ↔ moves.Homotopic mesh w other)) e told) in
+    (record { first_walk = so.0.first_walk; second_walk = so.0.second_walk; ends = so.0.ends; few = few }, so.1)
+
+-- the answers on the first pairs
+abbrev pub AreFirstAnswers : FaceList → (sizes vertices : List ℕ) → List PairAnswer → Type 0
+AreFirstAnswers mesh sizes vertices answers =
+    (k : ℕ) (none : PairAnswer) → k < length answers
+    → IsAnswer mesh (walk_at sizes vertices (2 * k)) (walk_at sizes vertices (2 * k + 1)) (get_or answers k none)
+
+-- an answer more
+pub more_answered : (mesh : FaceList) (sizes vertices : List ℕ) (answers : List PairAnswer) (k : ℕ) (answer : PairAnswer)
+    → length answers ≡ k → AreFirstAnswers mesh sizes vertices answers
+    → IsAnswer mesh (walk_at sizes vertices (2 * k)) (walk_at sizes vertices (2 * k + 1)) answer
+    → AreFirstAnswers mesh sizes vertices (answers ++ answer ∷ [])
+more_answered mesh sizes vertices answers k answer many so_far is j none below =
+    elim (cases_lt j (length answers)) [
+      | inl before ↦
+          subst (IsAnswer mesh (walk_at sizes vertices (2 * j)) (walk_at sizes vertices (2 * j + 1)))
+          (sym (get_or_append_left answers (answer ∷ []) none j before)) (so_far j none before)
+      | inr last ↦
+          (let here : j ≡ length answers = omega (arith, last, below, length_push answers answer) in
+          let there : k ≡ j = omega (arith, here, many) in
+          let found : answer ≡ get_or (answers ++ answer ∷ []) j none =
+          sym (ap (λ (n : ℕ). get_or (answers ++ answer ∷ []) n none) here ∙ get_or-append_seam answers answer [] none) in
+          subst (IsAnswer mesh (walk_at sizes vertices (2 * j)) (walk_at sizes vertices (2 * j + 1))) found
+          (subst (λ (n : ℕ). IsAnswer mesh (walk_at sizes vertices (2 * n)) (walk_at sizes vertices (2 * n + 1)) answer) there is))
     ]

@@ -1,18 +1,20 @@
 //! Whether walks that lie in arrays are homotopic, pair by pair.
-ghost use Rattle.std.specs.Prelude.{IfOk, All};
-ghost use Rattle.homotopy_arrays.specs.CheckedPairs.{AreAnswersTo, IsAnswerTo, IsPairOf};
+ghost use Rattle.std.specs.Prelude.{IfOk, IsTrue};
+ghost use Rattle.homotopy_arrays.specs.CheckedPairs.{IsAnswerTo, IsPairOf};
 ghost use Rattle.homotopy_arrays.specs.Decisions.{AreDecided, IsDecideFault};
 ghost use Rattle.homotopy_arrays.specs.MeshArrays.{mesh_of};
+ghost use Rattle.homotopy_arrays.specs.Pairs.{AreAnswers, are_pairs};
+ghost use Rattle.manifold_check.specs.ComponentParts.{AreParts};
 ghost use Rattle.homotopy_arrays.specs.Surfaces.{EndsOn};
 ghost use Rattle.commands.specs.ClosedSurfaces.{IsSigned};
 
 use crate::by_parts::answer_by_parts;
+use crate::connected::answer_connected;
 use crate::fault::Fault;
 use crate::pair::{Checked, WalkFault, are_pairs, check_pairs};
 use crate::surface::surface_of_arrays;
 use commands::SignedMesh;
 use commands::component::connected;
-use halfedge_map::Surface;
 use manifold_check::Parts;
 use std::alloc::{AllocError, Global};
 use walk_translate::{Answer, Decider};
@@ -47,62 +49,47 @@ pub fn decide_arrays(
     if !are_pairs(walk_sizes, walk_vertices) {
         return Err(Fault::WalkCount);
     }
-    let checked = check_pairs(alloc, &surface.sides, walk_sizes, walk_vertices)?;
-    let answers = answer_pairs(alloc, surface, &checked);
-    // By a call, which is proved once, and not here again.
-    drop(checked);
-    Ok(answers?)
+    Ok(answer_pairs(alloc, surface, walk_sizes, walk_vertices)?)
 }
 
-/// The answer on each pair that was compared with a surface.
+/// The answer on each pair of walks that have these sizes and vertices.
 fn answer_pairs(
     alloc: Global,
     surface: SignedMesh,
-    checked: &[Checked],
+    walk_sizes: &[u32],
+    walk_vertices: &[u32],
 ) -> Result<Vec<PairAnswer>, AllocError>
     requires signed { IsSigned surface }
-    requires pairs { All (IsPairOf surface.faces) checked.now }
-    ensures { IfOk result (λ answers. AreAnswersTo surface.faces checked.now answers.items) }
+    requires pairs { IsTrue (are_pairs walk_sizes.now walk_vertices.now) }
+    ensures { IfOk result (λ answers. AreAnswers surface.faces walk_sizes.now walk_vertices.now answers.items) }
 {
     let parts = Parts::build(alloc, &surface.faces, &surface.sides)?;
     if parts.len() == 1 {
         // Its memory is for the surface.
         drop(parts);
-        return answer_connected(alloc, connected(alloc, surface)?, checked);
+        return answer_connected(alloc, connected(alloc, surface)?, walk_sizes, walk_vertices);
     }
-    answer_by_parts(alloc, &surface, &parts, checked)
+    answer_apart(alloc, &surface, &parts, walk_sizes, walk_vertices)
 }
 
-/// The answer on each pair, on a connected surface.
-fn answer_connected(
+/// The answer on each pair of walks of a surface of several components. All walks are looked at first.
+fn answer_apart(
     alloc: Global,
-    surface: Surface,
-    checked: &[Checked],
+    surface: &SignedMesh,
+    parts: &Parts,
+    walk_sizes: &[u32],
+    walk_vertices: &[u32],
 ) -> Result<Vec<PairAnswer>, AllocError>
-    requires { All (IsPairOf surface.mesh) checked.now }
-    ensures { IfOk result (λ answers. AreAnswersTo surface.mesh checked.now answers.items) }
+    requires signed { IsSigned surface.now }
+    requires parts { AreParts surface.now.faces parts.now }
+    requires pairs { IsTrue (are_pairs walk_sizes.now walk_vertices.now) }
+    ensures { IfOk result (λ answers. AreAnswers surface.now.faces walk_sizes.now walk_vertices.now answers.items) }
 {
-    let decider = Decider::start(alloc, surface)?;
-    let answers = answer_all(alloc, &decider, checked);
+    let checked = check_pairs(alloc, &surface.sides, walk_sizes, walk_vertices)?;
+    let answers = answer_by_parts(alloc, surface, parts, &checked);
     // By a call, which is proved once, and not here again.
-    drop(decider);
-    answers
-}
-
-/// The answer on each pair, on the surface that a decider has.
-fn answer_all(
-    alloc: Global,
-    decider: &Decider,
-    checked: &[Checked],
-) -> Result<Vec<PairAnswer>, AllocError>
-    requires { All (IsPairOf decider.now) checked.now }
-    ensures { IfOk result (λ answers. AreAnswersTo decider.now checked.now answers.items) }
-{
-    let mut answers = Vec::with_capacity(alloc, checked.len())?;
-    for k in 0..checked.len() {
-        answers.push(answer_on(decider, &checked[k])?)?;
-    }
-    Ok(answers)
+    drop(checked);
+    Ok(answers?)
 }
 
 /// The answer on a pair, on a connected surface.

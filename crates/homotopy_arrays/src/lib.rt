@@ -3,6 +3,7 @@
 
 mod by_parts;
 mod certify;
+mod connected;
 mod decide;
 mod fault;
 pub mod laws;

@@ -58,7 +58,7 @@ pub(crate) fn check_walks(
 }
 
 /// Whether the walk with this number has no vertex, or too many.
-fn length_fault(walk: u32, vertices: &[u32]) -> Option<WalkFault>
+pub(crate) fn length_fault(walk: u32, vertices: &[u32]) -> Option<WalkFault>
     ensures { result ≡ length_fault walk vertices.now }
 {
     if vertices.is_empty() {
@@ -71,7 +71,7 @@ fn length_fault(walk: u32, vertices: &[u32]) -> Option<WalkFault>
 }
 
 /// The walk along these vertices.
-fn walk_of(alloc: Global, vertices: &[u32]) -> Result<Walk, AllocError>
+pub(crate) fn walk_of(alloc: Global, vertices: &[u32]) -> Result<Walk, AllocError>
     requires some { 0 < length vertices.now }
     requires few { length vertices.now ≤ MOST_WALK }
     ensures { IfOk result (λ walk. walk ≡ vertices.now) }

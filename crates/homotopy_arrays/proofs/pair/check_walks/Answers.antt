@@ -3,7 +3,6 @@ use Rattle.std.specs.Prelude.{Some}
 use Rattle.std.proofs.lemmas.Bool.{both_ways}
 use Rattle.walk_files.specs.Pairs.{IsPair, pair_fault}
 use Rattle.walk_files.specs.WalkLists.{WalkText}
-use Rattle.homotopy_arrays.specs.Pairs.{length_fault}
 use Rattle.homotopy_arrays.proofs.PairLemmas.{first_length, second_length, no_pair, walks_of_pair, length_good}
 use Rattle.homotopy_arrays.proofs.pair.check_walks.Goals as goal
 
