@@ -13,6 +13,10 @@ use surf_model::{EdgeName, Faces, Sides, Spoke, VertexName};
 /// How many guesses are kept for each edge, so that few edges have a number in common.
 const GUESSES_AN_EDGE: usize = 2;
 
+/// Odd factors, which spread the numbers of neighbouring vertices over 32 bits.
+const LOW_FACTOR: u32 = 0x9E37_79B1;
+const APART_FACTOR: u32 = 0x85EB_CA77;
+
 /// The spokes of all darts of a mesh. Contracts see them in the order of the edges, two darts an edge: the one from its lower
 /// vertex to its higher one, and the one back.
 #[derive(Debug, Drop)]
@@ -133,8 +137,8 @@ fn number_of(low: VertexName, high: VertexName, count: usize) -> usize {
     let apart = high.0.wrapping_sub(low.0);
     let mixed = low
         .0
-        .wrapping_mul(0x9E37_79B1)
-        .wrapping_add(apart.wrapping_mul(0x85EB_CA77));
+        .wrapping_mul(LOW_FACTOR)
+        .wrapping_add(apart.wrapping_mul(APART_FACTOR));
     (u64::from(mixed).wrapping_mul(count as u64) >> 32) as usize
 }
 
