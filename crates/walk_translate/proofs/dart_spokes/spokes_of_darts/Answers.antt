@@ -10,7 +10,8 @@ use Rattle.walk_translate.proofs.dart_spokes.spokes_of_darts.Goals as goal
 pub spokes-requires-clause-edge : goal.spokes-requires-clause-edge
 spokes-requires-clause-edge c =
     rw (c.ends.ensures.low, c.ends.ensures.high)
-    (table_pair c.args.faces.now c.args.sides.now c.loop-edge.edge c.requires.table (omega (arith, c.loop-edge-test.true, c.len-edge-end.ensures)))
+    (table_pair c.args.faces.now c.args.sides.now c.loop-edge.edge c.requires.table
+      (omega (arith, c.loop-edge-test.true, c.len-edge-end.ensures)))
 
 pub spokes-requires-in-loop-edge-clause-edge : goal.spokes-requires-in-loop-edge-clause-edge
 spokes-requires-in-loop-edge-clause-edge c =
