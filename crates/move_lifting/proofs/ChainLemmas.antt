@@ -130,7 +130,8 @@ pushed_both old mid new chain first second one two =
     ap (λ (l : List ℕ). l ++ second) now ∙ append_assoc list first second in
     record {
       list = subst (λ (l : List ℕ). IsEdit old.lists new.lists chain.0 (Some l)) whole
-          (edit_twice old.lists mid.lists new.lists chain.0 (Some (list ++ first)) (Some (list_of mid chain.0 ++ second)) one.list two.list);
+          (edit_twice old.lists mid.lists new.lists chain.0 (Some (list ++ first)) (Some (list_of mid chain.0 ++ second))
+          one.list two.list);
       spare = omega (arith, one.spare, two.spare, length-append first second);
     }
 

@@ -76,7 +76,8 @@ cross-requires-clause-room c =
     subst (λ (x : ℕ). IsFaceBelow s c.args.on.now.split.now x c.in-Some.next.0 step) c.last.ensures.vertex c.in-Some-face_below.ensures in
     let room = room_across s c.args.on.now.split.now c.faces.ensures.valid c.requires.on.split c.args.behind c.args.to.0 c.args.track.now
     c.loop-step.track
-    (numbers c.loop-step.pending.items) (numbers c.pop.new.self.items) c.in-Some.next.0 c.loop-step._step step c.loop-step.invariant.under popped
+    (numbers c.loop-step.pending.items) (numbers c.pop.new.self.items) c.in-Some.next.0 c.loop-step._step step
+    c.loop-step.invariant.under popped
     under in
     let mesh : length (face_at c.faces.result.now step.face.0) ≡ length (face_at s.mesh step.face.0) =
     ap (λ (m : FaceList). length (face_at m step.face.0)) c.faces.ensures.mesh in
@@ -87,7 +88,8 @@ overflow_cast-len c =
     let popped = one_pending c.loop-step.pending.items c.pop.new.self.items c.in-Some.next c.in-Some.ensures.items in
     let room = room_along c.args.on.now.surface.now c.args.on.now.split.now c.requires.on.split c.args.behind c.args.to.0 c.args.track.now
     c.loop-step.track
-    (numbers c.loop-step.pending.items) (numbers c.pop.new.self.items) c.in-Some.next.0 c.loop-step._step c.loop-step.invariant.under popped in
+    (numbers c.loop-step.pending.items) (numbers c.pop.new.self.items) c.in-Some.next.0 c.loop-step._step
+    c.loop-step.invariant.under popped in
     omega (arith, room, c.requires.room, c.len.ensures, length-numbers c.pop.new.self.items)
 
 pub overflow_add-len : goal.overflow_add-len
@@ -95,7 +97,8 @@ overflow_add-len c =
     let popped = one_pending c.loop-step.pending.items c.pop.new.self.items c.in-Some.next c.in-Some.ensures.items in
     let room = room_along c.args.on.now.surface.now c.args.on.now.split.now c.requires.on.split c.args.behind c.args.to.0 c.args.track.now
     c.loop-step.track
-    (numbers c.loop-step.pending.items) (numbers c.pop.new.self.items) c.in-Some.next.0 c.loop-step._step c.loop-step.invariant.under popped in
+    (numbers c.loop-step.pending.items) (numbers c.pop.new.self.items) c.in-Some.next.0 c.loop-step._step
+    c.loop-step.invariant.under popped in
     omega (arith, room, c.requires.room, c.len.ensures, length-numbers c.pop.new.self.items)
 
 pub put-requires-clause-no_spur : goal.put-requires-clause-no_spur
@@ -106,7 +109,8 @@ put-requires-clause-room c =
     let popped = one_pending c.loop-step.pending.items c.pop.new.self.items c.in-Some.next c.in-Some.ensures.items in
     let room = room_along c.args.on.now.surface.now c.args.on.now.split.now c.requires.on.split c.args.behind c.args.to.0 c.args.track.now
     c.loop-step.track
-    (numbers c.loop-step.pending.items) (numbers c.pop.new.self.items) c.in-Some.next.0 c.loop-step._step c.loop-step.invariant.under popped in
+    (numbers c.loop-step.pending.items) (numbers c.pop.new.self.items) c.in-Some.next.0 c.loop-step._step
+    c.loop-step.invariant.under popped in
     omega (arith, room, c.requires.room, c.len.ensures, length-numbers c.pop.new.self.items)
 
 pub loop-step-preserved : goal.loop-step-preserved
@@ -130,8 +134,8 @@ loop-step-preserved c =
           (record {
             under = cross_on_way s split c.darts-step-end.ensures.valid c.args.behind c.args.to.0 c.args.track.now c.loop-step.track
                 w.cross.new.track
-                (numbers c.loop-step.pending.items) (numbers c.pop.new.self.items) (numbers w.cross.new.pending.items) v c.loop-step._step step
-                c.loop-step.invariant.under popped under crossed;
+                (numbers c.loop-step.pending.items) (numbers c.pop.new.self.items) (numbers w.cross.new.pending.items) v
+                c.loop-step._step step c.loop-step.invariant.under popped under crossed;
             cells = omega (
               arith,
               w.in_ok-cross-in-Some-face_below.ensures.spare,
@@ -150,7 +154,8 @@ loop-step-preserved c =
           (record {
             under = put_on_way s split c.args.behind c.args.to.0 c.args.track.now c.loop-step.track w.put.new.self
                 (numbers c.loop-step.pending.items)
-                (numbers c.pop.new.self.items) v c.loop-step._step (w.len.result + c.args.behind) c.loop-step.invariant.under popped after off
+                (numbers c.pop.new.self.items) v c.loop-step._step (w.len.result + c.args.behind)
+                c.loop-step.invariant.under popped after off
                 put.leads put.no_spur put.long put.last put.shape put.some put.more put.peak;
             cells = omega (arith, put.cells, c.loop-step.invariant.cells);
           })

@@ -28,10 +28,12 @@ pub returns-clause-leads : goal.returns-clause-leads
 returns-clause-leads c =
     let all : c.loop-place.place ≡ length (numbers c.args.walk.now) =
     omega (arith, c.loop-place-test.false, c.loop-place.auto.place-end, length-numbers c.args.walk.now, c.requires.some) in
-    (reduced_all c.args.behind (numbers c.args.walk.now) c.args.moves c.loop-place.track c.loop-place.place c.loop-place.invariant.so_far all).0
+    (reduced_all c.args.behind (numbers c.args.walk.now) c.args.moves c.loop-place.track c.loop-place.place
+    c.loop-place.invariant.so_far all).0
 
 pub returns-clause-freely : goal.returns-clause-freely
 returns-clause-freely c =
     let all : c.loop-place.place ≡ length (numbers c.args.walk.now) =
     omega (arith, c.loop-place-test.false, c.loop-place.auto.place-end, length-numbers c.args.walk.now, c.requires.some) in
-    (reduced_all c.args.behind (numbers c.args.walk.now) c.args.moves c.loop-place.track c.loop-place.place c.loop-place.invariant.so_far all).1
+    (reduced_all c.args.behind (numbers c.args.walk.now) c.args.moves c.loop-place.track c.loop-place.place
+    c.loop-place.invariant.so_far all).1

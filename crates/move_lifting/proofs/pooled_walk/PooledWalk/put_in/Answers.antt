@@ -51,7 +51,8 @@ put c =
     put_in c.self.inside.pool c.start_chain-piece.new.self c.push_all-2.new.pool c.splice.new.self c.self.inside.chain piece c.args.place
     (there ++ (turn ++ back)) c.self.invariant c.start_chain-piece.ensures.was c.start_chain-piece.ensures.list
     c.start_chain-piece.ensures.spare
-    (pushed_both c.start_chain-piece.new.self c.push_all.new.pool c.push_all-2.new.pool piece there (turn ++ back) c.push_all.ensures around)
+    (pushed_both c.start_chain-piece.new.self c.push_all.new.pool c.push_all-2.new.pool piece there (turn ++ back)
+    c.push_all.ensures around)
     (omega (arith, c.requires.place, ap (λ (p : Pooled). length p.walk) c.self.view_is))
     c.splice.ensures.list c.splice.ensures.gone c.splice.ensures.others c.splice.ensures.spare
 
