@@ -78,7 +78,8 @@ by_certified mesh first second (Pass x) status text p answer =
       answered =
           record {
             shown = shown.0;
-            convinces = shown.1;
+            convinces = shown.1.0;
+            read = shown.1.1;
             status_is = here.status_is ∙ ap decision_status (sym shown.2);
             text_is = shown.3;
           };

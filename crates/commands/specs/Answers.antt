@@ -6,7 +6,7 @@ use Rattle.surf_model.specs.declared.chains.ChainLink.{ChainLink}
 use Rattle.orientation.specs.Chains.{IsOddChain}
 use Rattle.walk_translate.specs.declared.deciding.Answer as deciding
 use Rattle.homology.specs.declared.certificate.HomologyCert.{HomologyCert}
-use Rattle.commands.specs.Certificates.{Convinces, decision_of, certificate_text}
+use Rattle.commands.specs.Certificates.{Convinces, IsShown, decision_of, certificate_text}
 use Rattle.commands.specs.HomologyCertificates.{HomologyAnswer, ShowsHomology, answer_in, homology_text}
 use Rattle.commands.specs.Lines.{odd_chain_line}
 use Rattle.commands.specs.declared.certificate.Certificate.{Certificate}
@@ -22,7 +22,7 @@ pub data Texts : Type 0 where
   Exactly : List ℕ → Texts
   -- the line of an odd chain of the mesh, of any
   OfOddChain : FaceList → Texts
-  -- a certificate for two walks of the mesh and the decision on them, of any that convinces
+  -- a certificate for two walks of the mesh and the decision on them, of any that convinces and has no peak that is not read
   OfCertificate : FaceList → (first second : List ℕ) → deciding.Answer → Texts
   -- a list of moves between two walks of the mesh and its decision, of any that convinces and is short: neither its moves nor its peak
   -- are more than this
@@ -36,7 +36,7 @@ IsText NoText text = ⊥
 IsText (Exactly wanted) text = text ≡ wanted
 IsText (OfOddChain mesh) text = (chain : List ChainLink) × IsOddChain mesh chain × (text ≡ odd_chain_line chain)
 IsText (OfCertificate mesh first second decision) text =
-    (shown : Certificate) × Convinces mesh first second shown × (decision_of shown ≡ decision) × (text ≡ certificate_text shown)
+    (shown : Certificate) × IsShown mesh first second shown × (decision_of shown ≡ decision) × (text ≡ certificate_text shown)
 IsText (OfShortList mesh first second most) text =
     (list : PeakedMoves) × Convinces mesh first second (Moves list) × (length list.moves ≤ most) × (list.peak ≤ most)
     × (text ≡ certificate_text (Moves list))

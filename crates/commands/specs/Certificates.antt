@@ -1,10 +1,11 @@
 -- What a certificate shows, and how it is written.
-use Rattle.std.specs.Prelude.{ℕ, List, [], ◌∷◌, ◌++◌, flat_map, codes}
+use Rattle.std.specs.Prelude.{ℕ, ◌≤◌, List, [], ◌∷◌, ◌++◌, flat_map, codes}
 use Rattle.surf_model.specs.FaceLists.{FaceList}
 use Rattle.move_lifting.specs.Lifts.{LeadsAtPeak}
 use Rattle.labellings.specs.Denials.{DenialHolds}
 use Rattle.walk_files.specs.DenialTexts.{denial_text}
 use Rattle.walk_files.specs.MoveTexts.{list_text}
+use Rattle.walk_files.specs.declared.limits.TheConstants.{MOST_PEAK}
 use Rattle.walk_translate.specs.declared.deciding.Answer as deciding
 use Rattle.walk_translate.specs.declared.deciding.Answer.TheVariants.{Homotopic, Different}
 use Rattle.commands.specs.Lines.{line}
@@ -18,6 +19,15 @@ use Rattle.commands.specs.declared.status.Status.TheVariants.{Yes, No}
 abbrev pub Convinces : FaceList → (first second : List ℕ) → Certificate → Type 0
 Convinces mesh first second (Moves list) = LeadsAtPeak mesh first list second
 Convinces mesh first second (Denial denial) = DenialHolds mesh first second denial
+
+-- the peak of a list of moves is one that is read
+abbrev pub IsPeakRead : Certificate → Type 0
+IsPeakRead (Moves list) = list.peak ≤ MOST_PEAK
+IsPeakRead (Denial denial) = Unit {0}
+
+-- the certificate convinces, and no peak stands in the way of its reader
+abbrev pub IsShown : FaceList → (first second : List ℕ) → Certificate → Type 0
+IsShown mesh first second shown = Convinces mesh first second shown × IsPeakRead shown
 
 -- the decision that it is for
 abbrev pub decision_of : Certificate → deciding.Answer

@@ -1,5 +1,5 @@
 -- The checks of the files that a command reads, each with what it passes.
-use Rattle.std.specs.Prelude.{◌≡◌, ◌⊎◌, ℕ, ◌≤◌, List, [], ◌∷◌, slice_index_or, Option, Result, Ok, Err}
+use Rattle.std.specs.Prelude.{◌≡◌, ◌⊎◌, ℕ, List, [], ◌∷◌, slice_index_or, Option, Result, Ok, Err}
 use Rattle.surf_io.specs.Files.{Files}
 use Rattle.surf_model.specs.FaceLists.{FaceList}
 use Rattle.surf_model.specs.Walks.{IsWalk, HaveCommonEnds}
@@ -11,7 +11,6 @@ use Rattle.walk_files.specs.Pairs.{pair_fault}
 use Rattle.walk_files.specs.declared.certificate.CertHead.{CertHead}
 use Rattle.walk_files.specs.declared.certificate.CertHead.TheVariants as heads
 use Rattle.walk_files.specs.declared.fault.CertFault.{CertFault}
-use Rattle.walk_files.specs.declared.limits.TheConstants.{MOST_PEAK}
 use Rattle.commands.specs.Checks.{Check, End, Pass, Refuse, file, meant, pass_unless, where_told, ◌>>=◌}
 use Rattle.commands.specs.Refusals.{off_line, numbers_line, pair_line, certificate_line, too_large}
 use Rattle.commands.specs.declared.certificate.Certificate.{Certificate}
@@ -49,11 +48,6 @@ certificate_behind (Ok (heads.Labels degree)) text = as_certificate Denial (deni
 -- the certificate that a text is, or its first fault
 abbrev pub certificate_of : List ℕ → Result Certificate CertFault
 certificate_of text = certificate_behind (head_of_text text) text
-
--- the peak of a list of moves is one that is read
-abbrev pub IsPeakRead : Certificate → Type 0
-IsPeakRead (Moves list) = list.peak ≤ MOST_PEAK
-IsPeakRead (Denial denial) = Unit {0}
 
 -- the certificate that the bytes of the file spell
 abbrev pub certificate_in_bytes : Option Files → List ℕ → Check Certificate

@@ -5,7 +5,7 @@ ghost use Rattle.surf_model.specs.Moves.{Homotopic};
 ghost use Rattle.surf_model.specs.Walks.{IsWalk, HaveCommonEnds};
 ghost use Rattle.polygon_cut.specs.Polygons.{IsPolygonOf};
 ghost use Rattle.commands.specs.Answers.{Exactly};
-ghost use Rattle.commands.specs.Certificates.{Convinces, decision_of};
+ghost use Rattle.commands.specs.Certificates.{IsShown, decision_of};
 ghost use Rattle.commands.specs.Certify.{IsWithinLimits, certificate_answer, limit_fault};
 ghost use Rattle.commands.specs.Certify as of_certify;
 ghost use Rattle.commands.specs.ClosedSurfaces.{IsComponentOf, IsSigned, surface_of};
@@ -54,7 +54,7 @@ pub fn certify<S: Shelf>(
 
 /// The reply that a certificate is.
 fn reply_with(shown: Certificate) -> Reply
-    ensures { (mesh : FaceList) (first second : List ℕ) → Convinces mesh first second shown
+    ensures { (mesh : FaceList) (first second : List ℕ) → IsShown mesh first second shown
         → IsReplyTo (certificate_answer mesh first second (decision_of shown)) result }
 {
     match shown {
@@ -91,7 +91,7 @@ pub fn find_certificate(
     requires second { IsWalk surface.faces second.now }
     requires ends { HaveCommonEnds first.now second.now }
     requires limits { IsWithinLimits surface.faces first.now second.now }
-    ensures { IfOk result (Convinces surface.faces first.now second.now) }
+    ensures { IfOk result (IsShown surface.faces first.now second.now) }
 {
     let component = Component::of(alloc, surface, first.at(0))?;
     let shown = certificate_on(alloc, &component, first, second);
@@ -113,7 +113,7 @@ fn certificate_on(
     requires ends { HaveCommonEnds first.now second.now }
     requires limits { IsWithinLimits (surface_of component.now).mesh first.now second.now }
     ensures { (mesh : FaceList) → IsComponentOf mesh (slice_index first.now 0) component.now → IsWalk mesh first.now
-        → IsWalk mesh second.now → IfOk result (Convinces mesh first.now second.now) }
+        → IsWalk mesh second.now → IfOk result (IsShown mesh first.now second.now) }
 {
     let finding = find(alloc, component.surface(), first, second)?;
     finding.for_mesh(alloc, component)

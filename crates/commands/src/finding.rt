@@ -5,7 +5,7 @@ ghost use Rattle.surf_model.specs.Walks.{HaveCommonEnds, IsWalk};
 ghost use Rattle.halfedge_map.specs.OrientedMeshes.{OrientedMesh};
 ghost use Rattle.manifold_check.specs.ComponentParts.{component_at};
 ghost use Rattle.manifold_check.specs.Submeshes.{renamed_move, renamed_moves};
-ghost use Rattle.commands.specs.Certificates.{Convinces};
+ghost use Rattle.commands.specs.Certificates.{IsShown};
 ghost use Rattle.commands.specs.ClosedSurfaces.{IsComponentOf, IsPart, surface_of};
 ghost use Rattle.commands.specs.Findings.{IsFinding, IsOfFaces, TellsOfSome};
 
@@ -38,7 +38,7 @@ impl Finding {
         requires some { TellsOfSome (surface_of component.now) self }
         ensures { (mesh : FaceList) (first second : List ℕ) → IsComponentOf mesh (slice_index first 0) component.now
             → IsWalk mesh first → IsWalk mesh second → HaveCommonEnds first second
-            → IsFinding (surface_of component.now) first second self → IfOk result (Convinces mesh first second) }
+            → IsFinding (surface_of component.now) first second self → IfOk result (IsShown mesh first second) }
     {
         match component {
             Component::Whole(_) => Ok(self.into_certificate()),
@@ -49,7 +49,7 @@ impl Finding {
     /// The certificate where the surface is the whole mesh.
     fn into_certificate(self) -> Certificate
         ensures { (surface : OrientedMesh) (first second : List ℕ) → IsFinding surface first second self
-            → Convinces surface.mesh first second result }
+            → IsShown surface.mesh first second result }
     {
         match self {
             Finding::Moves(list) => Certificate::Moves(list),
@@ -73,7 +73,7 @@ impl Finding {
         ensures { (first second : List ℕ) → IsWalk part.now.whole.faces first → IsWalk part.now.whole.faces second
             → slice_index part.now.parts.places (slice_index first 0) ≡ part.now.place
             → slice_index part.now.parts.places (slice_index second 0) ≡ part.now.place
-            → IsFinding part.now.alone first second self → IfOk result (Convinces part.now.whole.faces first second) }
+            → IsFinding part.now.alone first second self → IfOk result (IsShown part.now.whole.faces first second) }
     {
         match self {
             Finding::Moves(list) => {

@@ -9,7 +9,7 @@ use Rattle.commands.proofs.Sound.{held}
 use Rattle.commands.specs.Certificates.{certificate_text}
 use Rattle.commands.specs.Certify.{IsCertifyInput, IsWithinLimits, IsCertificatePrinted}
 use Rattle.commands.specs.Lines.{line}
-use Rattle.commands.specs.Inputs.{IsPeakRead, SpellsMesh, SpellsPair, SpellsCertificate}
+use Rattle.commands.specs.Inputs.{SpellsMesh, SpellsPair, SpellsCertificate}
 use Rattle.verify_commands.specs.Verify.{IsVerifyInput}
 use Rattle.commands.specs.declared.certificate.Certificate.{Certificate}
 use Rattle.commands.specs.declared.inputs.TheConstants.{MOST_BYTES}
@@ -52,14 +52,14 @@ verify_input files words mesh first second text shown spells h =
 pub printed_accepted : (files : Option Files) (words : List (List ℕ)) (mesh : FaceList) (first second : List ℕ) (status : Status)
     (text : List ℕ) → IsCertifyInput files words mesh first second → IsWithinLimits mesh first second
     → (printed : IsCertificatePrinted mesh first second status text)
-    → IsPeakRead printed.shown → length text ≤ MOST_BYTES → IsAccepted mesh first second printed.shown text
+    → length text ≤ MOST_BYTES → IsAccepted mesh first second printed.shown text
 unfolding verify_input
-printed_accepted files words mesh first second status text input limits printed peak short =
+printed_accepted files words mesh first second status text input limits printed short =
     let off = held files input.mesh_name (SpellsMesh mesh) input.mesh_file in
     let pair = (held files input.walks_name (SpellsPair mesh first second) input.walks_file).holds in
     let own : SpellsCertificate printed.shown (certificate_text printed.shown) =
     spelled mesh first second printed.shown (is_face_list off.bytes mesh off.holds) pair.first_walk (omega (arith, limits.few))
-    (omega (arith, limits.few)) printed.convinces peak (subst (λ (t : List ℕ). length t ≤ MOST_BYTES) printed.text_is short) in
+    (omega (arith, limits.few)) printed.convinces printed.read (subst (λ (t : List ℕ). length t ≤ MOST_BYTES) printed.text_is short) in
     let spells : SpellsCertificate printed.shown text = subst (SpellsCertificate printed.shown) (sym printed.text_is) own in
     record {
       spells = spells;

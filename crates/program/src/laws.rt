@@ -11,7 +11,6 @@ ghost use Rattle.commands.specs.Certify.{IsCertified, IsCertifyInput, IsWithinLi
 ghost use Rattle.pair_commands.specs.Decide.{IsDecided};
 ghost use Rattle.program.specs.Headline.{Headline};
 ghost use Rattle.commands.specs.Checks.{IsTold};
-ghost use Rattle.commands.specs.Inputs.{IsPeakRead};
 ghost use Rattle.commands.specs.Lines.{line};
 ghost use Rattle.commands.specs.Outcomes.{Outcome};
 ghost use Rattle.program.specs.Outcomes.{AllTold, Answers, IsOutcome};
@@ -129,12 +128,11 @@ pub fn one_outcome()
         → IsOutcome held words first → IsOutcome held words second → first ≡ second }
 {}
 
-/// What `certify` prints is, as it is, a certificate that `verify` accepts on the same mesh and walks, where a file may be so large
-/// and a list of moves have such a peak.
+/// What `certify` prints is, as it is, a certificate that `verify` accepts on the same mesh and walks, where a file may be so large.
 pub fn printed_certificates_are_accepted()
     ensures { (held : Option Files) (words : List (List ℕ)) (mesh : FaceList) (first second : List ℕ) (status : Status) (text : List ℕ)
         → IsCertifyInput held words mesh first second → IsWithinLimits mesh first second
-        → (printed : IsCertificatePrinted mesh first second status text) → IsPeakRead printed.shown → length text ≤ MOST_BYTES
+        → (printed : IsCertificatePrinted mesh first second status text) → length text ≤ MOST_BYTES
         → IsAccepted mesh first second printed.shown text }
 {}
 

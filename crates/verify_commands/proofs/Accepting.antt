@@ -25,9 +25,9 @@ use Rattle.verify_commands.proofs.FittingDenials.{denial_fits}
 use Rattle.verify_commands.proofs.FittingMoves.{list_fits}
 use Rattle.verify_commands.proofs.VerifyRows.{sound-verify}
 use Rattle.verify_commands.proofs.VerifyOutcomes.{told_input, judgement_outcome}
-use Rattle.commands.specs.Certificates.{Convinces, decision_line, certificate_text}
+use Rattle.commands.specs.Certificates.{Convinces, IsPeakRead, decision_line, certificate_text}
 use Rattle.commands.specs.Checks.{Pass}
-use Rattle.commands.specs.Inputs.{as_certificate, certificate_behind, certificate_of, IsPeakRead, SpellsCertificate}
+use Rattle.commands.specs.Inputs.{as_certificate, certificate_behind, certificate_of, SpellsCertificate}
 use Rattle.commands.specs.Lines.{line}
 use Rattle.commands.specs.Outcomes.{Outcome, IsAnswerOf}
 use Rattle.verify_commands.specs.Verify.{verify, judgement, IsVerifyInput, verdict_answer, denial_answer}

@@ -127,7 +127,7 @@ returns g c =
           certificate_found (g.S.Shelf.held c.args.shelf.now) c.args.mesh.now c.args.walks.now surface.faces pair c.at-first.result.now
           c.at-second.result.now shown c.in_ok-surface.ensures.signed.valid known.first_walk c.in_ok-surface.ensures.reads.end passed
           first second
-          c.in_ok-check_limits.ensures c.in_ok-shown.ensures;
+          c.in_ok-check_limits.ensures c.in_ok-shown.ensures.0;
       is_answer = c.reply_with.ensures surface.faces c.at-first.result.now c.at-second.result.now c.in_ok-shown.ensures;
     })
 

@@ -2,7 +2,7 @@ use Rattle.std.proofs.Common.{◌≡◌, ℕ, get_or, ap, sym, subst, ◌∙◌}
 use Rattle.std.specs.Prelude.{IfOk}
 use Rattle.surf_model.specs.FaceLists.{FaceList}
 use Rattle.surf_model.specs.Walks.{IsWalk}
-use Rattle.commands.specs.Certificates.{Convinces}
+use Rattle.commands.specs.Certificates.{IsShown}
 use Rattle.commands.specs.ClosedSurfaces.{IsComponentOf, surface_of}
 use Rattle.commands.specs.Findings.{IsFinding, TellsOfSome}
 use Rattle.commands.specs.declared.component.Component.{Component}
@@ -17,7 +17,7 @@ returns-in-Whole c =
     subst (IsComponentOf mesh (get_or first 0 0)) c.in-Whole.is component in
     let there : IsFinding surface first second c.args.self =
     subst (λ (x : Component). IsFinding (surface_of x) first second c.args.self) c.in-Whole.is h in
-    subst (λ (m : FaceList). Convinces m first second c.into_certificate.result) is
+    subst (λ (m : FaceList). IsShown m first second c.into_certificate.result) is
     (c.into_certificate.ensures surface first second there)
 
 pub for_whole-requires-clause-part : goal.for_whole-requires-clause-part
@@ -40,6 +40,6 @@ returns-in-Alone c =
     subst (λ (x : Component). IsFinding (surface_of x) first second c.args.self) c.in-Alone.is h in
     let at_second : get_or part.parts.places (get_or second 0 0) 0 ≡ part.place =
     ap (λ (v : ℕ). get_or part.parts.places v 0) (sym ends.starts) ∙ is.2 in
-    subst (λ (m : FaceList). IfOk c.for_whole.result (Convinces m first second)) is.1
+    subst (λ (m : FaceList). IfOk c.for_whole.result (IsShown m first second)) is.1
     (c.for_whole.ensures first second (subst (λ (m : FaceList). IsWalk m first) (sym is.1) w)
     (subst (λ (m : FaceList). IsWalk m second) (sym is.1) z) is.2 at_second there)

@@ -1,6 +1,7 @@
-use Rattle.std.proofs.Common.{sym, subst}
+use Rattle.std.proofs.Common.{◌≤◌, sym, subst}
 use Rattle.surf_model.specs.Moves.{PeakedMoves}
 use Rattle.move_lifting.specs.Lifts.{LeadsAtPeak}
+use Rattle.walk_files.specs.declared.limits.TheConstants.{MOST_PEAK}
 use Rattle.commands.specs.Findings.{IsFinding, TellsOfSome}
 use Rattle.commands.specs.declared.finding.Finding.TheVariants.{Moves, Words}
 use Rattle.commands.proofs.Components.{good_there, names_of_moves, renamed_leads, signs_there, widened_holds}
@@ -13,7 +14,7 @@ pub rename-requires-clause-faces : goal.rename-requires-clause-faces
 rename-requires-clause-faces c =
     let part = c.args.part.now in
     let some : TellsOfSome part.alone (Moves c.in-Moves.list) = subst (TellsOfSome part.alone) c.in-Moves.is c.requires.some in
-    names_of_moves part some.0 some.1 c.in-Moves.list c.requires.part some.2 some.3
+    names_of_moves part some.0 some.1 c.in-Moves.list c.requires.part some.2 some.3.0
 
 pub returns-in_ok-renamed-in-Moves : goal.returns-in_ok-renamed-in-Moves
 returns-in_ok-renamed-in-Moves c =
@@ -21,8 +22,8 @@ returns-in_ok-renamed-in-Moves c =
     let part = c.args.part.now in
     let there : IsFinding part.alone first second (Moves c.in-Moves.list) =
     subst (IsFinding part.alone first second) c.in-Moves.is h in
-    subst (λ (l : PeakedMoves). LeadsAtPeak part.whole.faces first l second) (sym c.in_ok-renamed-in-Moves.ensures)
-    (renamed_leads part first second c.in-Moves.list c.requires.part w there)
+    subst (λ (l : PeakedMoves). LeadsAtPeak part.whole.faces first l second × (l.peak ≤ MOST_PEAK)) (sym c.in_ok-renamed-in-Moves.ensures)
+    (renamed_leads part first second c.in-Moves.list c.requires.part w there.0, there.1)
 
 pub widen-requires-clause-parts : goal.widen-requires-clause-parts
 widen-requires-clause-parts c = c.requires.part.parts
@@ -53,6 +54,8 @@ returns-in_ok-wide-in-Words c =
     λ first second w z at_first at_second h.
     let part = c.args.part.now in
     let there : IsFinding part.alone first second (Words c.in-Words.good c.in-Words.first c.in-Words.second) =
-    subst (IsFinding part.alone first second) c.in-Words.is h in
-    widened_holds part first second c.in-Words.good c.in_ok-wide-in-Words.wide c.in-Words.first c.in-Words.second c.requires.part w z
-    at_first at_second there.1 there.0 c.in_ok-wide-in-Words.ensures.widened
+    subst (IsFinding part.alone first second) c.in-Words.is h in (
+      widened_holds part first second c.in-Words.good c.in_ok-wide-in-Words.wide c.in-Words.first c.in-Words.second c.requires.part w z
+          at_first at_second there.1 there.0 c.in_ok-wide-in-Words.ensures.widened,
+      tt,
+    )
