@@ -1,20 +1,19 @@
 -- How the check of pairs of walks ends.
 use Rattle.std.proofs.Common.{◌≡◌, inl, inr, ℕ, List, refl}
-use Rattle.std.specs.Prelude.{Option, Some, None, Result, Ok, Err}
+use Rattle.std.specs.Prelude.{Option, None, Result, Ok, Err}
 use Rattle.surf_io.specs.Files.{Files}
 use Rattle.surf_model.specs.FaceLists.{FaceList}
 use Rattle.walk_files.specs.PairLists.{WalkPair, ArePairs, in_pairs, pairs_fault}
 use Rattle.walk_files.specs.WalkLists.{WalkText}
 use Rattle.walk_files.specs.WalkTexts.{walk_text_of}
 use Rattle.walk_files.specs.declared.fault.WalkFault.{WalkFault}
-use Rattle.walk_files.specs.declared.pairs.PairsFault.{PairsFault}
 use Rattle.walk_files.proofs.PairListLemmas.{none_of_pairs}
-use Rattle.commands.proofs.Checking.{stops_first, stops_next, told_stops}
+use Rattle.commands.proofs.Checking.{stops_next}
 use Rattle.commands.proofs.Rows.{meant_told, unless_told}
 use Rattle.commands.proofs.Sound.{IsSound, sound-file, sound-then, sound-meant, sound-pass_unless, held}
 use Rattle.commands.specs.Checks.{Check, Refuse, Passes, Holds, IsTold, file, meant, ◌>>=◌}
 use Rattle.commands.specs.Refusals.{numbers_line}
-use Rattle.commands.specs.Stops.{Ends, Stops, Tells}
+use Rattle.commands.specs.Stops.{Ends, Stops}
 use Rattle.commands.specs.declared.refusal.Input.TheVariants as inputs
 use Rattle.commands.specs.declared.stop.Stop.{Stop}
 use Rattle.commands.specs.declared.stop.Stop.TheVariants.{Refused, ReadFault, OutOfMemory}
@@ -26,21 +25,6 @@ after_text mesh text = come_in_pairs mesh text
 
 abbrev after_bytes : FaceList → List ℕ → Check WalkText
 after_bytes mesh bytes = meant (numbers_line inputs.Walks) (walk_text_of bytes) >>= after_text mesh
-
--- a walk file that is refused for its text
-pub pairs_text_stop : (held : Option Files) (name : List ℕ) (mesh : FaceList) (bytes : List ℕ) (stop : Stop)
-    → Passes (file held name inputs.Walks) bytes
-    → Stops (meant (numbers_line inputs.Walks) (walk_text_of bytes)) stop → Stops (pairs_in held name mesh) stop
-pairs_text_stop held name mesh bytes stop p h =
-    stops_next (file held name inputs.Walks) (after_bytes mesh) bytes stop p
-    (stops_first (meant (numbers_line inputs.Walks) (walk_text_of bytes)) (after_text mesh) stop h)
-
--- a walk file whose walks do not come in pairs
-pub pairs_stop : (held : Option Files) (name : List ℕ) (mesh : FaceList) (bytes : List ℕ) (text : WalkText) (fault : PairsFault)
-    (stop : Stop) → Passes (file held name inputs.Walks) bytes → Passes (meant (numbers_line inputs.Walks) (walk_text_of bytes)) text
-    → pairs_fault mesh text ≡ Some fault → Tells (pairs_line text.version fault) stop → Stops (pairs_in held name mesh) stop
-pairs_stop held name mesh bytes text fault stop p q f h =
-    told_stops (pairs_line text.version fault) (pairs_in held name mesh) stop (inr (bytes, p, inr (text, q, rw f refl))) h
 
 -- a walk file that passes
 pub pairs_pass : (held : Option Files) (name : List ℕ) (mesh : FaceList) (bytes : List ℕ) (text : WalkText)
@@ -91,11 +75,6 @@ pub list_pass : (held : Option Files) (name : List ℕ) (mesh : FaceList) (text 
 list_pass held name mesh text p pairs =
     let read = was_read held name text p in
     pairs_pass held name mesh read.bytes text read.file read.meaning (none_of_pairs mesh text pairs)
-
--- what is told of walks that do not come in pairs
-pub fault_stop : (mesh : FaceList) (text : WalkText) (fault : PairsFault) (stop : Stop) → pairs_fault mesh text ≡ Some fault
-    → Tells (pairs_line text.version fault) stop → Stops (come_in_pairs mesh text) stop
-fault_stop mesh text fault stop f h = told_stops (pairs_line text.version fault) (come_in_pairs mesh text) stop (rw f refl) h
 
 pub sound-pairs_in : (held : Option Files) (name : List ℕ) (mesh : FaceList) → IsSound held (pairs_in held name mesh)
 sound-pairs_in held name mesh =

@@ -9,5 +9,3 @@ mod asked;
 pub mod decide;
 mod deciding;
 mod pair_input;
-
-pub use pair_input::read_pairs;

@@ -1,35 +1,16 @@
-//! Reading the pairs of walks that the command is about.
-ghost use Rattle.std.specs.Prelude.{◌≡◌, Err, IfOk, MatchResult};
+//! Reading the walks that the command is about, and whether they come in pairs.
+ghost use Rattle.std.specs.Prelude.{◌≡◌, Err, MatchResult};
 ghost use Rattle.surf_model.specs.FaceLists.{FaceList};
 ghost use Rattle.surf_model.specs.Edges.{IsTableOf};
 ghost use Rattle.walk_files.specs.PairLists.{ArePairs};
 ghost use Rattle.commands.specs.Stops.{Ends, Reads, Stops, Tells};
-ghost use Rattle.pair_commands.specs.PairInput.{come_in_pairs, text_in, pairs_in, pairs_line, ends_line};
+ghost use Rattle.pair_commands.specs.PairInput.{come_in_pairs, text_in, pairs_line, ends_line};
 
 use commands::{Input, Phrase, Stop, read_file, refused, refused_at_place, walks_of_bytes};
 use std::alloc::Global;
 use surf_io::Shelf;
 use surf_model::Sides;
 use walk_files::{PairsFault, WalkList, check_pairs};
-
-/// Reads the pairs of walks of the mesh with this table.
-pub fn read_pairs<S: Shelf>(
-    alloc: Global,
-    shelf: &mut S,
-    name: &str,
-    sides: &Sides,
-) -> Result<WalkList, Stop>
-    ensures reads { Reads S.held S.faults shelf.old shelf.new
-        (λ files. (mesh : FaceList) → IsTableOf mesh sides.now → Ends (pairs_in files name.now mesh) result) result }
-    ensures pairs { IfOk result (λ walks. (mesh : FaceList) → IsTableOf mesh sides.now → ArePairs mesh walks) }
-{
-    let bytes = read_file(alloc, shelf, name, Input::Walks)?;
-    let walks = walks_of_bytes(alloc, &bytes)?;
-    match check_pairs(sides, &walks) {
-        Ok(()) => Ok(walks),
-        Err(fault) => Err(stop_for(walks.version(), fault)),
-    }
-}
 
 /// Reads walks, of which nothing is asked yet.
 pub(crate) fn read_list<S: Shelf>(
