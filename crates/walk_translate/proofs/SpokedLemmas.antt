@@ -89,7 +89,7 @@ spokes_more mesh labelling table n kept there back is up down =
         | inl before ↦ is.there k before ∙ ap spoke_list (sym (early (2 * k) (omega (arith, before))))
         | inr last ↦
             subst (λ i.
-                spokes mesh labelling (edge_in table i).low (edge_in table i).high ≡ spoke_list (kept_at (one ++ back ∷ []) (2 * i)))
+            spokes mesh labelling (edge_in table i).low (edge_in table i).high ≡ spoke_list (kept_at (one ++ back ∷ []) (2 * i)))
             (sym last) (up ∙ ap spoke_list (sym first))
       ];
       back = λ k l. elim (before_or_last k n l) [
@@ -107,12 +107,12 @@ pub kept_spokes : (mesh : FaceList) (labelling : LabellingView) (table : List Ed
     → spokes mesh labelling u v ≡ spoke_list found
 kept_spokes mesh labelling table kept edge u v found h is l (inl ends) up down =
     let rises : (edge_in table edge).low < (edge_in table edge).high =
-          (h.edges edge (record { low = 0; high = 0; sides = [] }) l).ordered in
+    (h.edges edge (record { low = 0; high = 0; sides = [] }) l).ordered in
     ap (λ x. spokes mesh labelling x v) (sym ends.0) ∙ ap (spokes mesh labelling (edge_in table edge).low) (sym ends.1)
     ∙ is.there edge l ∙ ap spoke_list (sym (up (omega (arith, rises, ends.0, ends.1))))
 kept_spokes mesh labelling table kept edge u v found h is l (inr ends) up down =
     let rises : (edge_in table edge).low < (edge_in table edge).high =
-          (h.edges edge (record { low = 0; high = 0; sides = [] }) l).ordered in
+    (h.edges edge (record { low = 0; high = 0; sides = [] }) l).ordered in
     ap (λ x. spokes mesh labelling x v) (sym ends.1) ∙ ap (spokes mesh labelling (edge_in table edge).high) (sym ends.0)
     ∙ is.back edge l ∙ ap spoke_list (sym (down (omega (arith, rises, ends.0, ends.1))))
 

@@ -13,8 +13,10 @@ use surf_model::{EdgeName, Faces, Sides, Spoke, VertexName};
 /// How many guesses are kept for each edge, so that few edges have a number in common.
 const GUESSES_AN_EDGE: usize = 2;
 
-/// Odd factors, which spread the numbers of neighbouring vertices over 32 bits.
+/// An odd factor, which spreads the numbers of neighbouring vertices over 32 bits.
 const LOW_FACTOR: u32 = 0x9E37_79B1;
+
+/// Another one, for how far apart the ends of an edge are.
 const APART_FACTOR: u32 = 0x85EB_CA77;
 
 /// The spokes of all darts of a mesh. Contracts see them in the order of the edges, two darts an edge: the one from its lower

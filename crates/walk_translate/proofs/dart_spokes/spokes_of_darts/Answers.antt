@@ -11,7 +11,7 @@ pub spokes-requires-clause-edge : goal.spokes-requires-clause-edge
 spokes-requires-clause-edge c =
     rw (c.ends.ensures.low, c.ends.ensures.high)
     (table_pair c.args.faces.now c.args.sides.now c.loop-edge.edge c.requires.table
-      (omega (arith, c.loop-edge-test.true, c.len-edge-end.ensures)))
+    (omega (arith, c.loop-edge-test.true, c.len-edge-end.ensures)))
 
 pub spokes-requires-in-loop-edge-clause-edge : goal.spokes-requires-in-loop-edge-clause-edge
 spokes-requires-in-loop-edge-clause-edge c =
