@@ -77,7 +77,7 @@ sum_of_fewer c test (x ∷ xs) =
           omega (arith, ap (sum_by c) is, sum_by-cons c x xs, sum_of_fewer c test xs))
     ]
 
-faces_by_name : (mesh : FaceList) → map (face_at mesh) (range_with_len 0 (length mesh.faces)) ≡ mesh.faces
+pub faces_by_name : (mesh : FaceList) → map (face_at mesh) (range_with_len 0 (length mesh.faces)) ≡ mesh.faces
 faces_by_name mesh =
     let n : ℕ = length mesh.faces in
     let size : length (map (face_at mesh) (range_with_len 0 n)) ≡ n = length-map-range_with_len (face_at mesh) 0 n in

@@ -1,12 +1,14 @@
 -- The numbers of a mesh, and the genera of the components of a surface: that they are there, and that there are no others.
-use Rattle.std.proofs.Common.{◌≡◌, inl, inr, ℕ, zero, suc, ◌+◌, ◌*◌, ◌<◌, ◌≤◌, Bool, true, false, cond, List, [], ◌∷◌, ◌++◌, length, get_or, refl, sym, ap, ◌∙◌, subst, arith, add-one, length-append}
-use Rattle.std.specs.Prelude.{ℤ, pos, ◌+ℤ◌, ◌-ℤ◌, filter, map}
+use Rattle.std.proofs.Common.{◌≡◌, inl, inr, ℕ, zero, suc, ◌+◌, ◌*◌, ◌<◌, ◌≤◌, Bool, true, false, cond, eqb, List, [], ◌∷◌, ◌++◌, length, get_or, refl, sym, ap, ◌∙◌, subst, arith, add-one, length-append}
+use Rattle.std.specs.Prelude.{ℤ, pos, ◌+ℤ◌, ◌-ℤ◌, filter, map, All}
 use Rattle.std.specs.List.{range_with_len}
-use Rattle.std.proofs.lemmas.Bool.{cases_lt}
+use Rattle.std.proofs.lemmas.Bool.{cases_lt, eq-eqb}
 use Rattle.std.proofs.lemmas.Int.{ints}
 use Rattle.std.proofs.lemmas.List.{ext_get_or, get_or_append_left, get_or_push, length_push}
-use Rattle.std.proofs.lemmas.List.FromFn.{filter_of_map_range_with_len_more}
-use Rattle.surf_model.specs.FaceLists.{FaceList, IsFaceList, is_used}
+use Rattle.std.proofs.lemmas.List.Elements.{All-head, All-tail}
+use Rattle.std.proofs.lemmas.List.FromFn.{filter_of_map_range_with_len_more, length-range_with_len, get_or-range_with_len}
+use Rattle.surf_model.specs.FaceLists.{FaceList, IsFaceList, IsFace, face_at, is_used}
+use Rattle.surf_model.specs.Components.{EachTwoAreJoined, place_of_face}
 use Rattle.surf_model.specs.Edges.{Edge, IsTableOf}
 use Rattle.surf_model.specs.Surfaces.{IsSurface}
 use Rattle.surf_model.proofs.OneTableLemmas.{one_table}
@@ -16,13 +18,23 @@ use Rattle.manifold_check.specs.declared.measuring.PartNumbers.{PartNumbers}
 use Rattle.manifold_check.proofs.PartPieces.{IsOfComponent, piece_of_parts, closed_alone}
 use Rattle.manifold_check.proofs.PieceSides.{valid_alone}
 use Rattle.manifold_check.proofs.PieceSurfaces.{coherent_alone}
-use Rattle.manifold_check.specs.Submeshes.{signs_among}
+use Rattle.manifold_check.specs.Submeshes.{signs_among, submesh}
+use Rattle.connectivity.proofs.CornerLemmas.{corner_used}
 use Rattle.halfedge_map.specs.Numbers.{count_below}
+use Rattle.halfedge_map.specs.DartMaps.{used_vertices}
+use Rattle.halfedge_map.specs.OrientedMeshes.{OrientedMesh, IsOrientedSurface}
+use Rattle.tree_cotree.specs.Splits.{SplitView, IsSplit}
 use Rattle.tree_cotree.proofs.EdgeTables.{some_table}
 use Rattle.tree_cotree.proofs.GenusLemmas.{table_and_genus}
-use Rattle.commands.proofs.SomeParts.{some_parts, same_count, same_meshes}
+use Rattle.tree_cotree.proofs.LawLemmas.{exact}
+use Rattle.polygon_cut.specs.Polygons.{PolygonView, IsCutFrom}
+use Rattle.commands.proofs.Components.{faces_by_name}
+use Rattle.commands.proofs.SomeParts.{some_parts, same_count, same_places, same_meshes}
 use Rattle.commands.specs.ClosedSurfaces.{IsOrientableSurface}
+use Rattle.commands.specs.ClosedSurfaces.{IsPart}
+use Rattle.commands.specs.Genera.{LiesOnSphere}
 use Rattle.commands.specs.Surface.{AreNumbersOf, HasGenus, IsGenusOf, AreGeneraOf}
+use Rattle.commands.specs.declared.component.Part.{Part}
 use Rattle.commands.specs.declared.surface.SurfaceNumbers.{SurfaceNumbers}
 
 -- ---- numbers
@@ -126,6 +138,70 @@ some_genus mesh valid is =
         genus_from (count_below (is_used mesh) mesh.count) (length found.0) (length mesh.faces) found.2 found.3,
       ),
     )
+
+-- the genus of a split is the surface's, so where that is 0 the polygon has no sides
+genus_of_split : (s : OrientedMesh) (split : SplitView) → IsOrientedSurface s → IsSplit s split → HasGenus s.mesh split.genus
+unfolding used_vertices
+genus_of_split s split o t =
+    let count : count_below (is_used s.mesh) s.mesh.count + length s.mesh.faces + 2 * split.genus ≡ length s.table + 2 =
+    exact s split t.trees split.genus t.genus in (
+      numbers_with s.mesh s.table,
+      are_numbers s.mesh s.table o.table,
+      genus_from (count_below (is_used s.mesh) s.mesh.count) (length s.table) (length s.mesh.faces) split.genus count,
+    )
+
+pub no_sides : (s : OrientedMesh) (split : SplitView) (polygon : PolygonView) → IsOrientedSurface s → IsSplit s split
+    → IsCutFrom s split polygon → HasGenus s.mesh 0 → polygon.degree ≡ 0
+no_sides s split polygon o t cut sphere =
+    omega (arith, cut.degree, one_genus s.mesh split.genus 0 (genus_of_split s split o t) sphere)
+
+-- ---- spheres among the components
+
+-- a part is the component of its vertices, however the parts are told
+pub part_sphere : (part : Part) (v : ℕ) → IsPart part → is_used part.whole.faces v ≡ true → get_or part.parts.places v 0 ≡ part.place
+    → LiesOnSphere part.whole.faces v → HasGenus part.alone.mesh 0
+part_sphere part v is used here sphere =
+    let mesh : FaceList = part.whole.faces in
+    let there : get_or sphere.0.places v 0 ≡ part.place =
+    same_places mesh (length sphere.0.components) (length part.parts.components) sphere.0.places part.parts.places sphere.1.places
+    is.parts.places v used ∙ here in
+    subst (λ (m : FaceList). HasGenus m 0) (sym is.mesh)
+    (subst (λ (m : FaceList). HasGenus m 0)
+    (sym (same_meshes mesh part.parts sphere.0 part.place is.whole.valid is.parts sphere.1 is.within))
+    (subst (λ (k : ℕ). HasGenus (component_mesh mesh sphere.0 k) 0) there sphere.2))
+
+-- a connected mesh is the component of each of its vertices
+filter_all : (p : ℕ → Bool) (xs : List ℕ) → All (λ x. p x ≡ true) xs → filter p xs ≡ xs
+filter_all p [] h = refl
+filter_all p (x ∷ xs) h =
+    rw (All-head (λ y. p y ≡ true) x xs h, filter_all p xs (All-tail (λ y. p y ≡ true) x xs h)) refl
+
+whole_component : (mesh : FaceList) (parts : PartsView) (v : ℕ) → IsFaceList mesh → EachTwoAreJoined mesh → is_used mesh v ≡ true
+    → AreParts mesh parts → component_mesh mesh parts (get_or parts.places v 0) ≡ mesh
+whole_component mesh parts v valid joined used h =
+    let k : ℕ = get_or parts.places v 0 in
+    let all : List ℕ = range_with_len 0 (length mesh.faces) in
+    let test : ℕ → Bool = λ f. eqb (place_of_face mesh parts.places f) k in
+    let passes : All (λ f. test f ≡ true) all =
+    λ i d few.
+    let within : i < length mesh.faces = omega (arith, few, length-range_with_len 0 (length mesh.faces)) in
+    let is : get_or all i d ≡ i = get_or-range_with_len 0 (length mesh.faces) i d within ∙ (let e : 0 + i ≡ i = omega arith in e) in
+    subst (λ f. eqb (place_of_face mesh parts.places f) k ≡ true) (sym is) (eq-eqb (place_of_face mesh parts.places i) k (placed i within)) in
+    ap (submesh mesh) (h.faces k (h.places.below v used) ∙ filter_all test all passes)
+    ∙ ap (λ (faces : List (List ℕ)). record { count = mesh.count; faces = faces }) (faces_by_name mesh)
+  where
+    placed : (f : ℕ) → f < length mesh.faces → place_of_face mesh parts.places f ≡ get_or parts.places v 0
+    placed f within =
+        let face : IsFace mesh.count (face_at mesh f) = valid.faces f [] within in
+        let corner : is_used mesh (get_or (face_at mesh f) 0 0) ≡ true =
+        corner_used mesh (get_or (face_at mesh f) 0 0) (record { face = record { 0 = f }; at = 0 })
+        (record { side = record { face = within; place = omega (arith, face.polygon) }; vertex = refl }) in
+        (h.places.joined (get_or (face_at mesh f) 0 0) v corner used).1 (joined (get_or (face_at mesh f) 0 0) v corner used)
+
+pub whole_sphere : (mesh : FaceList) (v : ℕ) → IsFaceList mesh → EachTwoAreJoined mesh → is_used mesh v ≡ true → LiesOnSphere mesh v
+    → HasGenus mesh 0
+whole_sphere mesh v valid joined used sphere =
+    subst (λ (m : FaceList). HasGenus m 0) (whole_component mesh sphere.0 v valid joined used sphere.1) sphere.2
 
 -- ---- the genera of the components
 

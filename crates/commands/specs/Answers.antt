@@ -22,7 +22,8 @@ pub data Texts : Type 0 where
   Exactly : List ℕ → Texts
   -- the line of an odd chain of the mesh, of any
   OfOddChain : FaceList → Texts
-  -- a certificate for two walks of the mesh and the decision on them, of any that convinces and has no peak that is not read
+  -- a certificate for two walks of the mesh and the decision on them, of any that convinces, has no peak that is not read, and on a sphere
+  -- is short
   OfCertificate : FaceList → (first second : List ℕ) → deciding.Answer → Texts
   -- a list of moves between two walks of the mesh and its decision, of any that convinces and is short: neither its moves nor its peak
   -- are more than this

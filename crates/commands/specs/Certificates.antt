@@ -1,5 +1,5 @@
 -- What a certificate shows, and how it is written.
-use Rattle.std.specs.Prelude.{ℕ, ◌≤◌, List, [], ◌∷◌, ◌++◌, flat_map, codes}
+use Rattle.std.specs.Prelude.{ℕ, ◌≤◌, List, [], ◌∷◌, ◌++◌, length, slice_index, flat_map, codes}
 use Rattle.surf_model.specs.FaceLists.{FaceList}
 use Rattle.move_lifting.specs.Lifts.{LeadsAtPeak}
 use Rattle.labellings.specs.Denials.{DenialHolds}
@@ -8,9 +8,11 @@ use Rattle.walk_files.specs.MoveTexts.{list_text}
 use Rattle.walk_files.specs.declared.limits.TheConstants.{MOST_PEAK}
 use Rattle.walk_translate.specs.declared.deciding.Answer as deciding
 use Rattle.walk_translate.specs.declared.deciding.Answer.TheVariants.{Homotopic, Different}
+use Rattle.commands.specs.Genera.{LiesOnSphere}
 use Rattle.commands.specs.Lines.{line}
 use Rattle.commands.specs.declared.certificate.Certificate.{Certificate}
 use Rattle.commands.specs.declared.certificate.Certificate.TheVariants.{Moves, Denial}
+use Rattle.commands.specs.declared.certify.TheConstants.{MOST_SPHERE_MOVES}
 use Rattle.commands.specs.declared.status.Status.{Status}
 use Rattle.commands.specs.declared.status.Status.TheVariants.{Yes, No}
 
@@ -25,9 +27,14 @@ abbrev pub IsPeakRead : Certificate → Type 0
 IsPeakRead (Moves list) = list.peak ≤ MOST_PEAK
 IsPeakRead (Denial denial) = Unit {0}
 
--- the certificate convinces, and no peak stands in the way of its reader
+-- For walks on a sphere it is a list, of no more moves than this; no denial is for them.
+abbrev pub IsShortOnSphere : FaceList → (first : List ℕ) → Certificate → Type 0
+IsShortOnSphere mesh first (Moves list) = LiesOnSphere mesh (slice_index first 0) → length list.moves ≤ MOST_SPHERE_MOVES
+IsShortOnSphere mesh first (Denial denial) = LiesOnSphere mesh (slice_index first 0) → ⊥
+
+-- the certificate convinces, no peak stands in the way of its reader, and on a sphere it is short
 abbrev pub IsShown : FaceList → (first second : List ℕ) → Certificate → Type 0
-IsShown mesh first second shown = Convinces mesh first second shown × IsPeakRead shown
+IsShown mesh first second shown = Convinces mesh first second shown × IsPeakRead shown × IsShortOnSphere mesh first shown
 
 -- the decision that it is for
 abbrev pub decision_of : Certificate → deciding.Answer

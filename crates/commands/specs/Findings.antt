@@ -1,5 +1,5 @@
 -- What is found of two walks on a connected surface: moves, or words that differ.
-use Rattle.std.specs.Prelude.{◌≡◌, ℕ, ◌<◌, ◌≤◌, List}
+use Rattle.std.specs.Prelude.{◌≡◌, ℕ, ◌<◌, ◌≤◌, List, length}
 use Rattle.surf_model.specs.Walks.{IsWalk}
 use Rattle.surf_model.specs.declared.moves.Move.{Move}
 use Rattle.surf_model.specs.declared.moves.Move.TheVariants.{Insert, Remove, Across}
@@ -8,15 +8,20 @@ use Rattle.labellings.specs.Denials.{DenialHolds}
 use Rattle.labellings.specs.Labellings.{signs_of}
 use Rattle.move_lifting.specs.Lifts.{LeadsAtPeak}
 use Rattle.walk_files.specs.declared.limits.TheConstants.{MOST_PEAK}
+use Rattle.commands.specs.Genera.{HasGenus}
+use Rattle.commands.specs.declared.certify.TheConstants.{MOST_SPHERE_MOVES}
 use Rattle.commands.specs.declared.finding.Finding.{Finding}
 use Rattle.commands.specs.declared.finding.Finding.TheVariants.{Moves, Words}
 
--- the moves lead from the first walk to the second, and their peak is one that is read; or the words are those of the walks under a good
--- labelling, with the signs of the surface, and differ
+-- The moves lead from the first walk to the second, their peak is one that is read, and on a sphere they are few; or the words are those of
+-- the walks under a good labelling, with the signs of the surface, and differ, and the surface is no sphere.
 abbrev pub IsFinding : OrientedMesh → (first second : List ℕ) → Finding → Type 0
-IsFinding surface first second (Moves list) = LeadsAtPeak surface.mesh first list second × (list.peak ≤ MOST_PEAK)
+IsFinding surface first second (Moves list) =
+    LeadsAtPeak surface.mesh first list second × (list.peak ≤ MOST_PEAK)
+    × (HasGenus surface.mesh 0 → length list.moves ≤ MOST_SPHERE_MOVES)
 IsFinding surface first second (Words good one other) =
     DenialHolds surface.mesh first second (record { labelling = good; first = one; second = other }) × (signs_of good ≡ surface.signs)
+    × (HasGenus surface.mesh 0 → ⊥)
 
 -- it is so of some two walks
 abbrev pub TellsOfSome : OrientedMesh → Finding → Type 0

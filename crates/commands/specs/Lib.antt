@@ -1,4 +1,5 @@
 pub mod Lines
+pub mod Genera
 pub mod Certificates
 pub mod HomologyCertificates
 pub mod Answers

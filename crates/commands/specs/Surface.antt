@@ -1,9 +1,9 @@
 -- The command `surface`: what it answers of a mesh.
-use Rattle.std.specs.Prelude.{◌≡◌, ℕ, ◌+◌, ◌*◌, ◌<◌, ◌≤◌, ◌↔◌, List, [], ◌∷◌, length, map, slice_index, codes, decimal, Option, pos, ◌+ℤ◌, ◌-ℤ◌}
+pub use Rattle.commands.specs.Genera.{AreNumbersOf, HasGenus}
+use Rattle.std.specs.Prelude.{◌≡◌, ℕ, ◌+◌, ◌*◌, ◌<◌, ◌≤◌, ◌↔◌, List, [], ◌∷◌, length, map, slice_index, codes, decimal, Option}
 use Rattle.std.specs.Fmt.{signed_decimal}
 use Rattle.surf_io.specs.Files.{Files}
-use Rattle.surf_model.specs.FaceLists.{FaceList, is_used}
-use Rattle.surf_model.specs.Edges.{Edge, IsTableOf}
+use Rattle.surf_model.specs.FaceLists.{FaceList}
 use Rattle.surf_model.specs.Surfaces.{IsClosedManifold, IsOrientable}
 use Rattle.surf_model.specs.declared.chains.ChainLink.{ChainLink}
 use Rattle.manifold_check.specs.ComponentParts.{PartsView, AreParts, component_mesh}
@@ -11,7 +11,6 @@ use Rattle.manifold_check.specs.Faults.{IsFirstFault}
 use Rattle.manifold_check.specs.declared.fault.SurfaceFault.{SurfaceFault}
 use Rattle.manifold_check.specs.declared.measuring.PartNumbers.{PartNumbers}
 use Rattle.orientation.specs.Chains.{IsOddChain}
-use Rattle.halfedge_map.specs.Numbers.{count_below}
 use Rattle.commands.specs.Answers.{Answer, IsText, yes_with}
 use Rattle.commands.specs.Checks.{Check, End, Refuse, Pass, Holds, without_files, pass, ◌>>=◌}
 use Rattle.commands.specs.ClosedSurfaces.{IsOrientableSurface, HasComponents}
@@ -23,19 +22,6 @@ use Rattle.commands.specs.declared.surface.SurfaceNumbers.{SurfaceNumbers}
 use Rattle.commands.specs.declared.surface.TheConstants.{MOST_COMPONENTS}
 use Rattle.commands.specs.declared.status.Status.{Status}
 use Rattle.commands.specs.declared.status.Status.TheVariants.{Yes, Refused}
-
--- The numbers of a mesh: how many vertices are used, how many edges and faces there are, and the Euler characteristic V - E + F.
-pub record AreNumbersOf (mesh : FaceList) (numbers : SurfaceNumbers) : Type 0 where
-  pub vertices : numbers.vertices ≡ count_below (is_used mesh) mesh.count
-  pub table : List Edge
-  pub is_table : IsTableOf mesh table
-  pub edges : numbers.edges ≡ length table
-  pub faces : numbers.faces ≡ length mesh.faces
-  pub euler : numbers.euler ≡ (pos numbers.vertices -ℤ pos numbers.edges) +ℤ pos numbers.faces
-
--- the mesh has the genus g for which 2 - 2 g is its Euler characteristic
-abbrev pub HasGenus : FaceList → ℕ → Type 0
-HasGenus mesh genus = (numbers : SurfaceNumbers) × AreNumbersOf mesh numbers × (pos 2 -ℤ pos (2 * genus) ≡ numbers.euler)
 
 -- the counts are those of a connected surface of this genus: V + F + 2 g is E + 2
 abbrev pub IsGenusOf : PartNumbers → ℕ → Type 0

@@ -33,6 +33,9 @@ use surf_io::Shelf;
 use surf_model::{Faces, Walk};
 use tree_cotree::split_edges;
 
+/// The most moves of a list between walks that lie on a sphere: 512 darts, and for each a move for each of 16,384 sides and one more.
+pub const MOST_SPHERE_MOVES: u32 = 8_389_120;
+
 /// A certificate for the two walks in the file `walks` on the surface in the file `mesh`: moves that lead from the first to
 /// the second, or a denial that holds.
 pub fn certify<S: Shelf>(
@@ -132,6 +135,8 @@ fn find(
     requires limits { IsWithinLimits surface.now.mesh first.now second.now }
     ensures { IfOk result (IsFinding surface.now first.now second.now) }
 {
+    // The proof reads what holds of every surface.
+    let _ = surface.faces();
     let split = split_edges(alloc, surface)?;
     let polygon = cut(alloc, surface, &split)?;
     if let Some(list) = lift(alloc, surface, &split, &polygon, first, second)? {

@@ -8,6 +8,7 @@ ghost use Rattle.manifold_check.specs.Submeshes.{renamed_move, renamed_moves};
 ghost use Rattle.commands.specs.Certificates.{IsShown};
 ghost use Rattle.commands.specs.ClosedSurfaces.{IsComponentOf, IsPart, surface_of};
 ghost use Rattle.commands.specs.Findings.{IsFinding, IsOfFaces, TellsOfSome};
+ghost use Rattle.commands.specs.Genera.{HasGenus, LiesOnSphere};
 
 use crate::certificate::Certificate;
 use crate::component::{Component, Part};
@@ -41,7 +42,11 @@ impl Finding {
             → IsFinding (surface_of component.now) first second self → IfOk result (IsShown mesh first second) }
     {
         match component {
-            Component::Whole(_) => Ok(self.into_certificate()),
+            Component::Whole(surface) => {
+                // The proof reads that it is connected.
+                let _ = surface.faces();
+                Ok(self.into_certificate())
+            }
             Component::Alone(part) => self.for_whole(alloc, part),
         }
     }
@@ -49,7 +54,7 @@ impl Finding {
     /// The certificate where the surface is the whole mesh.
     fn into_certificate(self) -> Certificate
         ensures { (surface : OrientedMesh) (first second : List ℕ) → IsFinding surface first second self
-            → IsShown surface.mesh first second result }
+            → (LiesOnSphere surface.mesh (slice_index first 0) → HasGenus surface.mesh 0) → IsShown surface.mesh first second result }
     {
         match self {
             Finding::Moves(list) => Certificate::Moves(list),

@@ -1,5 +1,5 @@
 -- How long a walk gets on the way off the cotree, and how great the peak, in numbers of darts.
-use Rattle.std.proofs.Common.{◌≡◌, ℕ, ◌+◌, ◌*◌, ◌<◌, ◌≤◌, max, List, [], ◌∷◌, length, ap, subst, arith}
+use Rattle.std.proofs.Common.{◌≡◌, ℕ, ◌+◌, ◌*◌, ◌-◌, ◌<◌, ◌≤◌, max, List, [], ◌∷◌, length, sym, ap, subst, arith}
 use Rattle.std.proofs.Math.Nat.{mul-le-mul_left, mul-le-mul_right}
 use Rattle.std.proofs.lemmas.List.Sums.{get_or-le-sum_by}
 use Rattle.std.proofs.lemmas.Nat.{mul-le}
@@ -44,6 +44,7 @@ walk_most s split o t (u ∷ v ∷ rest) w =
 pub record IsShort (most behind : ℕ) (next : List ℕ) (list more : PeakedMoves) : Type 0 where
   pub long : length next ≤ most + 1
   pub peak : more.peak ≤ max list.peak (most + behind)
+  pub moves : length more.moves ≤ length list.moves + most
 
 pub short_within : (s : OrientedMesh) (split : SplitView) → IsOrientedSurface s → (t : IsSplit s split)
     → (behind most : ℕ) (walk next : List ℕ) (list more : PeakedMoves)
@@ -54,6 +55,7 @@ short_within s split o t behind most walk next list more light stays =
     record {
       long = omega (arith, light, told.0, darts_weigh weight (pair_positive s split t) next);
       peak = omega (arith, light, told.1);
+      moves = omega (arith, light, told.2);
     }
 
 pub short_walk : (s : OrientedMesh) (split : SplitView) → IsOrientedSurface s → IsSplit s split
@@ -81,11 +83,29 @@ is_low sides darts few peak three less low =
     parts : (k n : ℕ) → (3 * k + 7) * n ≡ 3 * (k * n) + 7 * n
     parts k n = omega arith
 
+-- So many moves before the walk is led off the cotree, and a move for each side for each of its darts, are few for the darts of two walks.
+pub is_few : (sides darts second few begun moves : ℕ) → 0 < sides → second ≤ darts → few ≤ darts → begun + few ≤ darts + second
+    → moves ≤ begun + few * sides → moves ≤ darts * (sides + 1)
+is_few sides darts second few begun moves some part less start more =
+    let rest : ℕ = darts - few in
+    let all : darts ≡ few + rest = omega (arith, less) in
+    let each : rest * 1 ≤ rest * sides = mul-le-mul_left rest (omega (arith, some)) in
+    subst (λ (n : ℕ). moves ≤ n * (sides + 1)) (sym all)
+    (omega (arith, start, more, part, all, each, parts few rest sides))
+  where
+    parts : (f r n : ℕ) → (f + r) * (n + 1) ≡ f * n + r * n + f + r
+    parts f r n = omega arith
+
 -- within the limits it is no greater than this
 pub low_most : (sides darts peak : ℕ) → sides ≤ MOST_LIFTED_SIDES → darts ≤ MOST_LIFTED_DARTS → 2 * peak ≤ (3 * darts + 7) * sides
     → peak ≤ 12640256
 low_most sides darts peak few less low =
     omega (arith, low, mul-le (3 * darts + 7) sides 1543 16384 (omega (arith, less)) few)
+
+-- within the limits a short list has no more moves than these
+pub few_most : (sides darts moves : ℕ) → sides ≤ MOST_LIFTED_SIDES → darts ≤ MOST_LIFTED_DARTS → moves ≤ darts * (sides + 1)
+    → moves ≤ 8389120
+few_most sides darts moves few less short = omega (arith, short, mul-le darts (sides + 1) 512 16385 less (omega (arith, few)))
 
 -- a low peak stays low where the walks have so many darts more before and behind
 pub low_around : (sides darts around peak : ℕ) → 3 ≤ sides → 2 * peak ≤ (3 * darts + 7) * sides

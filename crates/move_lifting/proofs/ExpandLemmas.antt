@@ -136,8 +136,10 @@ pub put_on_way : (s : OrientedMesh) (split : SplitView) (behind to : ℕ) (begun
     → ((mesh : FaceList) → GoesOn mesh after (track.walk ++ v ∷ []) track.list new.walk new.list) → HasNoSpur new.walk
     → length new.walk ≤ length track.walk + 1 → last_of new.walk ≡ v → GrowsOrShrinks track.walk new.walk v → 0 < length new.walk
     → MoreRemove track.list.moves new.list.moves → new.list.peak ≤ max track.list.peak (length track.walk + after)
+    → length new.list.moves + length new.walk ≤ length track.list.moves + length track.walk + 1
     → IsUnderWay s split behind to begun new rest (steps + 1)
-put_on_way s split behind to begun track new pending rest v steps after on popped counted off goes no_spur long last shape some more peak =
+put_on_way s split behind to begun track new pending rest v steps after on popped counted off goes no_spur long last shape some more peak
+    count =
     let turned : reverse pending ≡ v ∷ reverse rest = ap (λ (l : List ℕ). reverse l) popped ∙ reverse-push rest v in
     let u : ℕ = last_of track.walk in
     let linked : Linked s.mesh (u ∷ v ∷ reverse rest) = subst (λ (l : List ℕ). Linked s.mesh (u ∷ l)) turned on.linked in
@@ -162,7 +164,7 @@ put_on_way s split behind to begun track new pending rest v steps after on poppe
           (subst (λ (l : List ℕ). StaysWithin s split behind (begun.walk ++ to ∷ []) begun.list (track.walk ++ l) track.list) turned
           on.within)
           (within_behind s split after behind v track.walk new.walk (reverse rest) track.list new.list some last
-          (omega (arith, counted, length-reverse rest)) (within_put s split after v track new shape peak));
+          (omega (arith, counted, length-reverse rest)) (within_put s split after v track new shape some count peak));
       ends = subst (λ (x : ℕ). last_of (x ∷ reverse rest) ≡ to) (sym last) (last_below u v (reverse rest)
           ∙ subst (λ (l : List ℕ). last_of (u ∷ l) ≡ to) turned on.ends);
       leaves = leave_on s split begun.list.moves track.list.moves new.list.moves on.leaves
@@ -328,7 +330,7 @@ crossing_within s split valid behind track new rest left v step some under cross
     let before = load-joined weight front (v ∷ reverse rest) u in
     let after = load-joined weight front (round ++ reverse rest) u in
     let joined = load-joined weight around.front (reverse rest) v in
-    let less : load_of weight (new.walk ++ reverse left) ≤ load_of weight (track.walk ++ v ∷ reverse rest) =
+    let less : load_of weight (new.walk ++ reverse left) + 1 ≤ load_of weight (track.walk ++ v ∷ reverse rest) =
     omega (
       arith,
       falls,
@@ -340,7 +342,7 @@ crossing_within s split valid behind track new rest left v step some under cross
       ap (load_of weight) ends,
       ap (load_of weight) inside,
     ) in (
-      less,
+      omega (arith, less),
       omega (
         arith,
         less,
@@ -350,6 +352,12 @@ crossing_within s split valid behind track new rest left v step some under cross
         length-reverse left,
         ap (λ (l : List ℕ). length l) crossed.walk,
         ap (λ (l : PeakedMoves). l.peak) crossed.list,
+      ),
+      omega (
+        arith,
+        less,
+        ap (λ (l : PeakedMoves). length l.moves) crossed.list,
+        length-append track.list.moves (Across (darts track.walk) step.face step.corner step.forward 1 ∷ []),
       ),
     )
 

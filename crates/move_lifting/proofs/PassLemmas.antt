@@ -56,8 +56,9 @@ pub put_more : (behind : ℕ) (begun : TrackView) (were : List ℕ) (track new :
     → ((mesh : FaceList) → GoesOn mesh after (track.walk ++ v.0 ∷ []) track.list new.walk new.list) → HasNoSpur new.walk
     → 0 < length new.walk → length new.walk ≤ length track.walk + 1 → last_of new.walk ≡ v.0 → MoreRemove track.list.moves new.list.moves
     → GrowsOrShrinks track.walk new.walk v.0 → new.list.peak ≤ max track.list.peak (length track.walk + after)
+    → length new.list.moves + length new.walk ≤ length track.list.moves + length track.walk + 1
     → ArePutSoFar behind begun were new rest
-put_more behind begun were track new pending rest v after on popped counted goes no_spur some long last removals shape peak =
+put_more behind begun were track new pending rest v after on popped counted goes no_spur some long last removals shape peak moves =
     let names : numbers pending ≡ numbers rest ++ v.0 ∷ [] = one_pending pending rest v popped in
     let turned : reverse (numbers pending) ≡ v.0 ∷ reverse (numbers rest) =
     ap (λ (l : List ℕ). reverse l) names ∙ reverse-push (numbers rest) v.0 in
@@ -76,7 +77,7 @@ put_more behind begun were track new pending rest v after on popped counted goes
           (subst (λ (l : List ℕ). StaysWithin s split behind (begun.walk ++ reverse were) begun.list (track.walk ++ l) track.list) turned
           (on.within s split))
           (within_behind s split after behind v.0 track.walk new.walk (reverse (numbers rest)) track.list new.list some last
-          (omega (arith, count, length-reverse (numbers rest))) (within_put s split after v.0 track new shape peak));
+          (omega (arith, count, length-reverse (numbers rest))) (within_put s split after v.0 track new shape some moves peak));
     }
 
 -- one face is crossed where nothing was pending

@@ -25,6 +25,12 @@ darts_weigh weight some [] = omega arith
 darts_weigh weight some (u ∷ []) = omega arith
 darts_weigh weight some (u ∷ v ∷ rest) = omega (arith, darts_weigh weight some (v ∷ rest), some u v)
 
+load_grows : (weight : ℕ → ℕ → ℕ) → ((u v : ℕ) → 0 < weight u v) → (front : List ℕ) (v : ℕ) → 0 < length front
+    → load_of weight front + 1 ≤ load_of weight (front ++ v ∷ [])
+load_grows weight some [] v l = absurd (omega arith)
+load_grows weight some (u ∷ []) v l = omega (arith, some u v)
+load_grows weight some (u ∷ w ∷ front) v l = omega (arith, load_grows weight some (w ∷ front) v (omega arith))
+
 -- no dart weighs more than so much
 pub load_most : (weight : ℕ → ℕ → ℕ) (most : ℕ) → ((u v : ℕ) → weight u v ≤ most) → (u : ℕ) (rest : List ℕ)
     → load_of weight (u ∷ rest) ≤ length rest * most
@@ -37,20 +43,21 @@ load_most weight most h u (v ∷ rest) = omega (arith, load_most weight most h v
 -- nothing is done, and one thing after another
 pub within_itself : (s : OrientedMesh) (split : SplitView) (behind : ℕ) (walk : List ℕ) (list : PeakedMoves)
     → StaysWithin s split behind walk list walk list
-within_itself s split behind walk list weight are = (omega arith, omega arith)
+within_itself s split behind walk list weight are = (omega arith, omega arith, omega arith)
 
 pub within_on : (s : OrientedMesh) (split : SplitView) (behind : ℕ) (a b c : List ℕ) (x y z : PeakedMoves)
     → StaysWithin s split behind a x b y → StaysWithin s split behind b y c z → StaysWithin s split behind a x c z
 within_on s split behind a b c x y z h k weight are =
     let one = h weight are in
     let two = k weight are in
-    (omega (arith, one.0, two.0), omega (arith, one.0, one.1, two.1))
+    (omega (arith, one.0, two.0), omega (arith, one.0, one.1, two.1), omega (arith, one.2, two.2))
 
 -- a vertex is put on a track
 pub within_put : (s : OrientedMesh) (split : SplitView) (behind v : ℕ) (old new : TrackView) → GrowsOrShrinks old.walk new.walk v
+    → 0 < length new.walk → length new.list.moves + length new.walk ≤ length old.list.moves + length old.walk + 1
     → new.list.peak ≤ max old.list.peak (length old.walk + behind)
     → StaysWithin s split behind (old.walk ++ v ∷ []) old.list new.walk new.list
-within_put s split behind v old new shape peak weight are = (
+within_put s split behind v old new shape some count peak weight are = (
   elim shape [
     | inl grown ↦ omega (arith, ap (load_of weight) grown)
     | inr shrunk ↦ omega (
@@ -61,6 +68,26 @@ within_put s split behind v old new shape peak weight are = (
     )
   ],
   omega (arith, peak, darts_weigh weight are.some (old.walk ++ v ∷ []), length-append old.walk (v ∷ [])),
+  elim shape [
+    | inl grown ↦ omega (
+      arith,
+      count,
+      ap (load_of weight) grown,
+      ap (λ (l : List ℕ). length l) grown,
+      length-append old.walk (v ∷ []),
+    )
+    | inr shrunk ↦
+        let long : length old.walk ≡ length new.walk + 1 =
+        ap (λ (l : List ℕ). length l) shrunk.1 ∙ length-append new.walk (shrunk.0 ∷ []) in
+        omega (
+          arith,
+          count,
+          long,
+          ap (load_of weight) shrunk.1,
+          load_grows weight are.some new.walk shrunk.0 some,
+          load_grows weight are.some old.walk v (omega (arith, long)),
+        )
+  ],
 )
 
 -- the same where more of the walk stands behind
@@ -76,4 +103,5 @@ within_behind s split after behind v old new rest list more some last counted h 
     let after_that = load-joined weight front rest v in (
       omega (arith, one.0, before, after_that, ap (load_of weight) whole, ap (load_of weight) new_is),
       omega (arith, one.1, before, counted, darts_weigh weight are.some (v ∷ rest)),
+      omega (arith, one.2, before, after_that, ap (load_of weight) whole, ap (load_of weight) new_is),
     )

@@ -29,6 +29,11 @@ MoreLeaveCotree surface split old new = (more : List Move) × (new ≡ old ++ mo
 abbrev pub HasLowPeak : ℕ → ℕ → PeakedMoves → Type 0
 HasLowPeak sides darts list = 2 * list.peak ≤ (3 * darts + 7) * sides
 
+-- The list is short, for so many sides of a surface and so many darts of two walks together: for each of the darts it has at most a move
+-- for each side, and one more.
+abbrev pub IsShortList : ℕ → ℕ → PeakedMoves → Type 0
+IsShortList sides darts list = length list.moves ≤ darts * (sides + 1)
+
 -- no dart of the walk lies on a cotree edge
 abbrev pub AvoidsCotree : OrientedMesh → SplitView → List ℕ → Type 0
 AvoidsCotree surface split walk =

@@ -1,5 +1,5 @@
 -- Weights of darts, and what a walk weighs that is led off the cotree.
-use Rattle.std.specs.Prelude.{ℕ, ◌+◌, ◌<◌, ◌≤◌, max, List, [], ◌∷◌, reverse}
+use Rattle.std.specs.Prelude.{ℕ, ◌+◌, ◌<◌, ◌≤◌, max, List, [], ◌∷◌, length, reverse}
 use Rattle.surf_model.specs.Moves.{PeakedMoves}
 use Rattle.halfedge_map.specs.OrientedMeshes.{OrientedMesh}
 use Rattle.tree_cotree.specs.Splits.{SplitView}
@@ -19,8 +19,9 @@ pub record AreWeights (surface : OrientedMesh) (split : SplitView) (weight : ℕ
       → load_of weight (u ∷ reverse (beyond surface.mesh step)) < weight u v
 
 -- Whatever the darts weigh so, the next walk weighs no more than the walk, and the peak of its list is no greater than that of the list
--- before, or than what the walk weighs with so many entries behind it.
+-- before, or than what the walk weighs with so many entries behind it. Each move on the way makes the walk lighter.
 abbrev pub StaysWithin : OrientedMesh → SplitView → ℕ → List ℕ → PeakedMoves → List ℕ → PeakedMoves → Type 0
 StaysWithin surface split behind walk list next more =
     (weight : ℕ → ℕ → ℕ) → AreWeights surface split weight
     → (load_of weight next ≤ load_of weight walk) × (more.peak ≤ max list.peak (load_of weight walk + behind))
+    × (length more.moves + load_of weight next ≤ length list.moves + load_of weight walk)

@@ -156,6 +156,7 @@ pub(crate) fn reduce_all(
     ensures some { IfOk result (λ track. 0 < length track.walk) }
     ensures few { IfOk result (λ track. length track.walk ≤ length walk.now) }
     ensures peak { IfOk result (λ track. track.list.peak ≤ max moves.peak (darts (numbers walk.now) + behind)) }
+    ensures count { IfOk result (λ track. length track.list.moves + length track.walk ≤ length moves.moves + length walk.now) }
 {
     let mut track = Track::start(alloc, walk[0], walk.len() as u32 - 1, moves)?;
     for place in 1..walk.len() {

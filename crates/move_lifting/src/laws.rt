@@ -10,7 +10,7 @@ ghost use Rattle.halfedge_map.specs.OrientedMeshes.{OrientedMesh, IsOrientedSurf
 ghost use Rattle.halfedge_map.specs.DartMaps.{darts_of, face_of};
 ghost use Rattle.tree_cotree.specs.Splits.{SplitView, IsSplit};
 ghost use Rattle.polygon_cut.specs.SpokeLoops.{way_round};
-ghost use Rattle.move_lifting.specs.Lifts.{HasLowPeak};
+ghost use Rattle.move_lifting.specs.Lifts.{HasLowPeak, IsShortList};
 ghost use Rattle.move_lifting.specs.WalksOff.{LeadsOffCotree};
 ghost use Rattle.move_lifting.specs.declared.expanding.TheConstants.{MOST_LIFTED_SIDES, MOST_LIFTED_DARTS};
 
@@ -32,6 +32,12 @@ pub fn low_peaks_are_read()
         → HasLowPeak sides darts list → list.peak ≤ 12640256 }
     ensures read { (sides darts : ℕ) (list : PeakedMoves) → sides ≤ MOST_LIFTED_SIDES → darts ≤ MOST_LIFTED_DARTS
         → HasLowPeak sides darts list → list.peak ≤ MOST_PEAK }
+{}
+
+/// A short list, within the limits of `lift`, has at most 8,389,120 moves.
+pub fn short_lists_are_few()
+    ensures { (sides darts : ℕ) (list : PeakedMoves) → sides ≤ MOST_LIFTED_SIDES → darts ≤ MOST_LIFTED_DARTS
+        → IsShortList sides darts list → length list.moves ≤ 8389120 }
 {}
 
 /// A walk is at least as long as one without spurs that spur moves alone lead to.

@@ -10,7 +10,7 @@ ghost use Rattle.tree_cotree.specs.Splits.{IsSplit};
 ghost use Rattle.polygon_cut.specs.Polygons.{IsCutFrom};
 ghost use Rattle.surf_model.specs.FreeWalks.{HasNoSpur};
 ghost use Rattle.move_lifting.specs.Cuts.{IsSplitSurface};
-ghost use Rattle.move_lifting.specs.Lifts.{HasLowPeak, LeadsAtPeak};
+ghost use Rattle.move_lifting.specs.Lifts.{HasLowPeak, IsShortList, LeadsAtPeak};
 ghost use Rattle.common_ends.specs.Trimmed.{AreWalksTogether};
 ghost use Rattle.move_lifting.specs.Tracks.{last_of};
 ghost use Rattle.move_lifting.specs.declared.expanding.TheConstants.{MOST_LIFTED_SIDES, MOST_LIFTED_DARTS};
@@ -55,6 +55,8 @@ pub fn lift(
         (Homotopic surface.now.mesh first.now second.now → ⊥)
         (λ list. LeadsAtPeak surface.now.mesh first.now list second.now)) }
     ensures low { IfOk result (λ found. IfSome found (HasLowPeak (darts_of surface.now) (darts first.now + darts second.now))) }
+    ensures short { polygon.now.degree ≡ 0 → IfOk result (λ found. MatchOption found ⊥
+        (IsShortList (darts_of surface.now) (darts first.now + darts second.now))) }
 {
     let sides = surface.darts();
     prove!(sides <= MOST_LIFTED_SIDES);
@@ -86,6 +88,8 @@ fn lift_between(
         (λ list. LeadsAtPeak on.now.surface.now.mesh first.now list second.now)) }
     ensures low { IfOk result (λ found. IfSome found
         (HasLowPeak (darts_of on.now.surface.now) (darts first.now + darts second.now))) }
+    ensures short { polygon.now.degree ≡ 0 → IfOk result (λ found. MatchOption found ⊥
+        (IsShortList (darts_of on.now.surface.now) (darts first.now + darts second.now))) }
 {
     let behind = second.darts();
     let track = close(alloc, first, second)?;
@@ -120,6 +124,7 @@ fn close(alloc: Global, first: &Walk, second: &Walk) -> Result<Track, AllocError
     ensures few { IfOk result (λ closed. length closed.walk ≤ MOST_LIFTED_DARTS + 1) }
     ensures long { IfOk result (λ closed. darts closed.walk ≤ darts first.now + darts second.now) }
     ensures peak { IfOk result (λ closed. closed.list.peak ≤ darts first.now + 2 * darts second.now) }
+    ensures count { IfOk result (λ closed. length closed.list.moves + darts closed.walk ≤ darts first.now + 2 * darts second.now) }
 {
     let mut closed = vertices_of(alloc, first)?;
     let mut moves = MoveList::new(alloc, first.darts());
@@ -143,6 +148,7 @@ fn append_back(
         → LeadsAtPeak mesh first moves.old (numbers vertices.old.items)
         → LeadsAtPeak mesh first moves.new (numbers vertices.new.items ++ drop 1 walk.now)) }
     ensures peak { OnOk result (moves.new.peak ≤ max moves.old.peak (darts (numbers vertices.old.items) + 2 * darts walk.now)) }
+    ensures count { OnOk result (length moves.new.moves ≡ length moves.old.moves + darts walk.now) }
 {
     let darts = walk.darts();
     for done in 0..darts {

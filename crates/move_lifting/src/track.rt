@@ -127,6 +127,8 @@ impl Track {
         ensures shape { OnOk result (GrowsOrShrinks self.old.walk self.new.walk next.0) }
         ensures cells { OnOk result (length self.new.walk + self.new.spare ≡ length self.old.walk + self.old.spare) }
         ensures peak { OnOk result (self.new.list.peak ≤ max self.old.list.peak (length self.old.walk + behind)) }
+        ensures count { OnOk result (length self.new.list.moves + length self.new.walk
+            ≤ length self.old.list.moves + length self.old.walk + 1) }
     {
         if self.came_from(next) {
             return self.step_back(behind);

@@ -1,5 +1,5 @@
 -- A list of moves within the limits has a short text: its numbers are small, and so its lines are short.
-use Rattle.std.proofs.Common.{◌≡◌, ℕ, zero, suc, ◌+◌, ◌-◌, ◌*◌, ◌^◌, ◌<◌, ◌≤◌, Bool, true, false, max, List, [], ◌∷◌, ◌++◌, length, get_or, length-append, refl, sym, ap, ◌∙◌, subst, arith}
+use Rattle.std.proofs.Common.{◌≡◌, ℕ, zero, suc, ◌+◌, ◌*◌, ◌^◌, ◌<◌, ◌≤◌, Bool, true, false, List, [], ◌∷◌, ◌++◌, length, get_or, length-append, refl, ap, ◌∙◌, subst, arith}
 use Rattle.std.specs.Prelude.{codes, decimal, flat_map, map, sum_by, Some, All}
 use Rattle.std.specs.List.{join_with_byte}
 use Rattle.std.proofs.lemmas.Fmt.{length-decimal-le}
@@ -19,19 +19,23 @@ use Rattle.connectivity.proofs.EdgeLemmas.{edge_used, used_below}
 use Rattle.free_forms.specs.PeakedLists.{LeadsAtPeak, IsWithin}
 use Rattle.common_ends.proofs.PeakLemmas.{greatest_darts-more}
 use Rattle.free_forms.specs.declared.limits.TheConstants.{MOST_OPEN_SIDES, MOST_OPEN_STEPS}
-use Rattle.walk_files.specs.MoveTexts.{direction_word, move_words, head_words, list_lines, list_text}
+use Rattle.walk_files.specs.declared.limits.TheConstants.{MOST_PEAK}
+use Rattle.walk_files.specs.MoveTexts.{direction_word, move_words, head_words, list_text}
 use Rattle.walk_translate.specs.declared.deciding.Answer.TheVariants.{Homotopic}
 use Rattle.commands.specs.Certificates.{certificate_text, decision_line}
 use Rattle.commands.specs.declared.certificate.Certificate.TheVariants.{Moves}
+use Rattle.commands.specs.declared.certify.TheConstants.{MOST_SPHERE_MOVES}
+use Rattle.commands.specs.declared.inputs.TheConstants.{MOST_BYTES}
 use Rattle.open_commands.specs.declared.certify_open.TheConstants.{MOST_OPEN_BYTES}
 
 -- ---- the moves of such a list have small numbers
 
-abbrev IsSmall : Move → Type 0
-IsSmall (Insert at via) = (at ≤ MOST_OPEN_STEPS) × (via.0 < 1000000)
-IsSmall (Remove at via) = (at ≤ MOST_OPEN_STEPS) × (via.0 < 1000000)
-IsSmall (Across at face corner forward taken) =
-    (at ≤ MOST_OPEN_STEPS) × (face.0 < 10000) × (corner < MOST_OPEN_SIDES) × (taken ≤ MOST_OPEN_SIDES)
+-- no place is more than this, and what else the move names is of a mesh of few sides
+abbrev IsSmall : ℕ → Move → Type 0
+IsSmall most (Insert at via) = (at ≤ most) × (via.0 < 1000000)
+IsSmall most (Remove at via) = (at ≤ most) × (via.0 < 1000000)
+IsSmall most (Across at face corner forward taken) =
+    (at ≤ most) × (face.0 < 10000) × (corner < MOST_OPEN_SIDES) × (taken ≤ MOST_OPEN_SIDES)
 
 faces_few : (count : ℕ) (faces : List (List ℕ)) → All (IsFace count) faces → 3 * length faces ≤ sum_by (length {A = ℕ}) faces
 faces_few count [] each = omega arith
@@ -71,9 +75,9 @@ length_corners : (ring : List ℕ) (rising : Bool) (t k : ℕ) → 0 < length (c
 length_corners ring rising t zero = omega arith
 length_corners ring rising t (suc k) = omega arith
 
-module _ (mesh : FaceList) (valid : IsFaceList mesh) (few : total_sides mesh ≤ MOST_OPEN_SIDES) where
-  move_small : (walk next : List ℕ) (move : Move) → IsWalk mesh walk → darts walk ≤ MOST_OPEN_STEPS → apply mesh walk move ≡ Some next
-      → IsSmall move
+module _ (mesh : FaceList) (most : ℕ) (valid : IsFaceList mesh) (few : total_sides mesh ≤ MOST_OPEN_SIDES) where
+  move_small : (walk next : List ℕ) (move : Move) → IsWalk mesh walk → darts walk ≤ most → apply mesh walk move ≡ Some next
+      → IsSmall most move
   move_small walk next (Insert at via) w short e =
       let r = (by_replacing mesh walk next (Insert at via) w.starts).0 e in
       let some : 0 < length r.part = omega (arith, ap (λ (l : List ℕ). length l) r.replaces.2) in
@@ -103,12 +107,12 @@ module _ (mesh : FaceList) (valid : IsFaceList mesh) (few : total_sides mesh ≤
       )
 
   moves_small : (walk next : List ℕ) (moves : List Move) → IsWalk mesh walk → Leads mesh walk moves next
-      → greatest_darts mesh walk moves ≤ MOST_OPEN_STEPS → All IsSmall moves
-  moves_small walk next [] w leads short = All-nil IsSmall
+      → greatest_darts mesh walk moves ≤ most → All (IsSmall most) moves
+  moves_small walk next [] w leads short = All-nil (IsSmall most)
   moves_small walk next (move ∷ moves) w leads short =
       let told = first_answer (λ x. apply_all mesh x moves) (apply mesh walk move) next leads in
       let peaks = greatest_darts-more mesh walk told.0 move moves told.1 in
-      All-cons IsSmall move moves (move_small walk told.0 move w (omega (arith, short, peaks)) told.1)
+      All-cons (IsSmall most) move moves (move_small walk told.0 move w (omega (arith, short, peaks)) told.1)
       (moves_small told.0 next moves (keeps_walk mesh walk told.0 move w told.1) told.2 (omega (arith, short, peaks)))
 
 -- ---- their lines
@@ -137,50 +141,71 @@ direction_one : (forward : Bool) → length (direction_word forward) ≡ 1
 direction_one true = refl
 direction_one false = refl
 
-move_line : (move : Move) → IsSmall move → length (line_of (move_words move)) ≤ 29
-move_line (Insert at via) small =
+move_line : (k most : ℕ) (move : Move) → 0 < k → most < 10 ^ k → most < 2 ^ 64 → IsSmall most move
+    → length (line_of (move_words move)) ≤ 22 + k
+move_line k most (Insert at via) some few wide small =
     omega (
       arith,
       line_length (codes "+") (decimal at ∷ decimal via.0 ∷ []),
-      digits 7 at (omega arith) (omega (arith, small.0)) (omega (arith, small.0)),
+      digits k at some (omega (arith, small.0, few)) (omega (arith, small.0, wide)),
       digits 6 via.0 (omega arith) (omega (arith, small.1)) (omega (arith, small.1)),
     )
-move_line (Remove at via) small =
+move_line k most (Remove at via) some few wide small =
     omega (
       arith,
       line_length (codes "-") (decimal at ∷ decimal via.0 ∷ []),
-      digits 7 at (omega arith) (omega (arith, small.0)) (omega (arith, small.0)),
+      digits k at some (omega (arith, small.0, few)) (omega (arith, small.0, wide)),
       digits 6 via.0 (omega arith) (omega (arith, small.1)) (omega (arith, small.1)),
     )
-move_line (Across at face corner forward taken) small =
+move_line k most (Across at face corner forward taken) some few wide small =
     omega (
       arith,
       line_length (codes "f") (decimal at ∷ decimal face.0 ∷ decimal corner ∷ direction_word forward ∷ decimal taken ∷ []),
-      digits 7 at (omega arith) (omega (arith, small.0)) (omega (arith, small.0)),
+      digits k at some (omega (arith, small.0, few)) (omega (arith, small.0, wide)),
       digits 4 face.0 (omega arith) (omega (arith, small.1)) (omega (arith, small.1)),
       digits 5 corner (omega arith) (omega (arith, small.2)) (omega (arith, small.2)),
       digits 5 taken (omega arith) (omega (arith, small.3)) (omega (arith, small.3)),
       direction_one forward,
     )
 
-lines_short : (moves : List Move) → All IsSmall moves → length (flat_map line_of (map move_words moves)) ≤ 29 * length moves
-lines_short [] small = omega arith
-lines_short (move ∷ moves) small =
+lines_short : (k most line : ℕ) (moves : List Move) → ((move : Move) → IsSmall most move → length (line_of (move_words move)) ≤ line)
+    → All (IsSmall most) moves → length (flat_map line_of (map move_words moves)) ≤ length moves * line
+lines_short k most line [] each small = omega arith
+lines_short k most line (move ∷ moves) each small =
     omega (
       arith,
-      move_line move (small 0 move (omega arith)),
-      lines_short moves (λ k d l. small (suc k) d (omega (arith, l))),
+      each move (small 0 move (omega arith)),
+      lines_short k most line moves each (λ n d l. small (suc n) d (omega (arith, l))),
       length-append (line_of (move_words move)) (flat_map line_of (map move_words moves)),
+      one_more (length moves) line,
     )
+  where
+    one_more : (n m : ℕ) → suc n * m ≡ m + n * m
+    one_more n m = omega arith
 
-head_short : (list : PeakedMoves) → length list.moves ≤ MOST_OPEN_STEPS → list.peak ≤ MOST_OPEN_STEPS
-    → length (line_of (head_words list)) ≤ 22
-head_short list few peak =
+head_short : (k : ℕ) (list : PeakedMoves) → 0 < k → length list.moves < 10 ^ k → list.peak < 10 ^ k → length list.moves < 2 ^ 64
+    → list.peak < 2 ^ 64 → length (line_of (head_words list)) ≤ 8 + 2 * k
+head_short k list some few peak wide high =
     omega (
       arith,
       line_length (codes "MOVES") (decimal (length list.moves) ∷ decimal list.peak ∷ []),
-      digits 7 (length list.moves) (omega arith) (omega (arith, few)) (omega (arith, few)),
-      digits 7 list.peak (omega arith) (omega (arith, peak)) (omega (arith, peak)),
+      digits k (length list.moves) some few wide,
+      digits k list.peak some peak high,
+    )
+
+-- the numbers of a list have so many digits at most, and its moves are no more than so many
+list_short : (mesh : FaceList) (first second : List ℕ) (list : PeakedMoves) (k most : ℕ) → IsFaceList mesh
+    → total_sides mesh ≤ MOST_OPEN_SIDES → IsWalk mesh first → LeadsAtPeak mesh first list second → 0 < k → most < 10 ^ k → most < 2 ^ 64
+    → length list.moves ≤ most → list.peak ≤ most
+    → length (certificate_text (Moves list)) ≤ 18 + 2 * k + length list.moves * (22 + k)
+list_short mesh first second list k most valid sides w h some few wide moves peak =
+    omega (
+      arith,
+      length-append (decision_line Homotopic) (list_text list),
+      length-append (line_of (head_words list)) (flat_map line_of (map move_words list.moves)),
+      head_short k list some (omega (arith, moves, few)) (omega (arith, peak, few)) (omega (arith, moves, wide)) (omega (arith, peak, wide)),
+      lines_short k most (22 + k) list.moves (λ move small. move_line k most move some few wide small)
+          (moves_small mesh most valid sides first second list.moves w h.leads (omega (arith, peak, h.peak))),
     )
 
 pub text_short : (mesh : FaceList) (first second : List ℕ) (list : PeakedMoves) → IsFaceList mesh → total_sides mesh ≤ MOST_OPEN_SIDES
@@ -189,9 +214,17 @@ pub text_short : (mesh : FaceList) (first second : List ℕ) (list : PeakedMoves
 text_short mesh first second list valid sides w h within =
     omega (
       arith,
-      length-append (decision_line Homotopic) (list_text list),
-      length-append (line_of (head_words list)) (flat_map line_of (map move_words list.moves)),
-      head_short list within.moves within.peak,
-      lines_short list.moves (moves_small mesh valid sides first second list.moves w h.leads (omega (arith, within.peak, h.peak))),
+      list_short mesh first second list 7 MOST_OPEN_STEPS valid sides w h (omega arith) (omega arith) (omega arith) within.moves within.peak,
       within.moves,
+    )
+
+-- a list on a sphere, whose peak is one that is read
+pub sphere_text_short : (mesh : FaceList) (first second : List ℕ) (list : PeakedMoves) → IsFaceList mesh
+    → total_sides mesh ≤ MOST_OPEN_SIDES → IsWalk mesh first → LeadsAtPeak mesh first list second → length list.moves ≤ MOST_SPHERE_MOVES
+    → list.peak ≤ MOST_PEAK → length (certificate_text (Moves list)) ≤ MOST_BYTES
+sphere_text_short mesh first second list valid sides w h moves peak =
+    omega (
+      arith,
+      list_short mesh first second list 8 MOST_PEAK valid sides w h (omega arith) (omega arith) (omega arith) (omega (arith, moves)) peak,
+      moves,
     )

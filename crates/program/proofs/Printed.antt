@@ -1,13 +1,16 @@
 -- What `certify` prints spells its certificate again, and `verify` accepts it.
-use Rattle.std.proofs.Common.{◌≡◌, ℕ, ◌≤◌, List, [], length, sym, subst, arith}
+use Rattle.std.proofs.Common.{◌≡◌, ℕ, ◌≤◌, List, [], length, get_or, sym, subst, arith}
 use Rattle.std.specs.Prelude.{codes, Option, Some, None, IsSomeAnd}
 use Rattle.surf_io.specs.Files.{Files, file_of}
-use Rattle.surf_model.specs.FaceLists.{FaceList}
+use Rattle.surf_model.specs.FaceLists.{FaceList, IsFaceList, total_sides}
+use Rattle.surf_model.specs.Walks.{IsWalk}
+use Rattle.move_lifting.specs.declared.expanding.TheConstants.{MOST_LIFTED_SIDES}
 use Rattle.verify_commands.proofs.Accepting.{accepted, spelled}
 use Rattle.commands.proofs.MeshTexts.{is_face_list}
 use Rattle.commands.proofs.Sound.{held}
-use Rattle.commands.specs.Certificates.{certificate_text}
+use Rattle.commands.specs.Certificates.{Convinces, IsPeakRead, IsShortOnSphere, certificate_text}
 use Rattle.commands.specs.Certify.{IsCertifyInput, IsWithinLimits, IsCertificatePrinted}
+use Rattle.commands.specs.Genera.{LiesOnSphere}
 use Rattle.commands.specs.Lines.{line}
 use Rattle.commands.specs.Inputs.{SpellsMesh, SpellsPair, SpellsCertificate}
 use Rattle.verify_commands.specs.Verify.{IsVerifyInput}
@@ -15,11 +18,11 @@ use Rattle.commands.specs.declared.certificate.Certificate.{Certificate}
 use Rattle.commands.specs.declared.inputs.TheConstants.{MOST_BYTES}
 use Rattle.commands.specs.declared.status.Status.{Status}
 use Rattle.commands.specs.declared.status.Status.TheVariants.{Yes}
-use Rattle.commands.specs.declared.certificate.Certificate.TheVariants.{Moves}
+use Rattle.commands.specs.declared.certificate.Certificate.TheVariants.{Moves, Denial}
 use Rattle.homology_commands.proofs.PrintedLemmas.{printed_accepted as homology_accepted}
 use Rattle.homology_commands.specs.Homology.{IsHomologyPrinted}
 use Rattle.homology_commands.specs.PrintedHomology as homology_texts
-use Rattle.open_commands.proofs.ShortTexts.{text_short}
+use Rattle.open_commands.proofs.ShortTexts.{text_short, sphere_text_short}
 use Rattle.open_commands.specs.CertifyOpen.{IsListPrinted}
 use Rattle.open_commands.specs.OpenPairs as open_limits
 use Rattle.open_commands.specs.OpenPairs.{IsOpenInput}
@@ -68,6 +71,26 @@ printed_accepted files words mesh first second status text input limits printed 
           (verify_input others commands mesh first second text printed.shown spells h)
           (row_ends others commands (Verify h.mesh_name h.walks_name h.certificate_name) outcome h.words_are is) told;
     }
+
+-- for walks on a sphere its text is short
+sphere_short : (mesh : FaceList) (first second : List ℕ) (shown : Certificate) → IsFaceList mesh → total_sides mesh ≤ MOST_LIFTED_SIDES
+    → IsWalk mesh first → LiesOnSphere mesh (get_or first 0 0) → Convinces mesh first second shown → IsPeakRead shown
+    → IsShortOnSphere mesh first shown → length (certificate_text shown) ≤ MOST_BYTES
+sphere_short mesh first second (Moves list) valid sides w sphere h read short =
+    sphere_text_short mesh first second list valid (omega (arith, sides)) w h (short sphere) read
+sphere_short mesh first second (Denial denial) valid sides w sphere h read short = absurd (short sphere)
+
+pub printed_on_sphere_accepted : (files : Option Files) (words : List (List ℕ)) (mesh : FaceList) (first second : List ℕ) (status : Status)
+    (text : List ℕ) → IsCertifyInput files words mesh first second → IsWithinLimits mesh first second
+    → LiesOnSphere mesh (get_or first 0 0) → (printed : IsCertificatePrinted mesh first second status text)
+    → IsAccepted mesh first second printed.shown text
+printed_on_sphere_accepted files words mesh first second status text input limits sphere printed =
+    let off = held files input.mesh_name (SpellsMesh mesh) input.mesh_file in
+    let pair = (held files input.walks_name (SpellsPair mesh first second) input.walks_file).holds in
+    printed_accepted files words mesh first second status text input limits printed
+    (subst (λ (t : List ℕ). length t ≤ MOST_BYTES) (sym printed.text_is)
+    (sphere_short mesh first second printed.shown (is_face_list off.bytes mesh off.holds) limits.sides pair.first_walk sphere
+    printed.convinces printed.read printed.short))
 
 -- a list of `certify-open`, which is short
 pub printed_list_accepted : (files : Option Files) (words : List (List ℕ)) (mesh : FaceList) (first second : List ℕ) (status : Status)

@@ -1,6 +1,6 @@
 //! What is promised of answers, said of the definitions: the headline first, then what each command is for. A call of one of these
 //! functions does nothing; its contract is the law. `run` says of each answer that it is one of `Answers`.
-ghost use Rattle.std.specs.Prelude.{◌≡◌, ℕ, ◌≤◌, List, [], codes, length, Ok, Option};
+ghost use Rattle.std.specs.Prelude.{◌≡◌, ℕ, ◌≤◌, List, [], codes, length, slice_index, Ok, Option};
 ghost use Rattle.surf_io.specs.Files.{Files};
 ghost use Rattle.surf_model.specs.FaceLists.{FaceList};
 ghost use Rattle.off_reader.specs.OffTexts.{meaning_of};
@@ -11,6 +11,7 @@ ghost use Rattle.commands.specs.Certify.{IsCertified, IsCertifyInput, IsWithinLi
 ghost use Rattle.pair_commands.specs.Decide.{IsDecided};
 ghost use Rattle.program.specs.Headline.{Headline};
 ghost use Rattle.commands.specs.Checks.{IsTold};
+ghost use Rattle.commands.specs.Genera.{LiesOnSphere};
 ghost use Rattle.commands.specs.Lines.{line};
 ghost use Rattle.commands.specs.Outcomes.{Outcome};
 ghost use Rattle.program.specs.Outcomes.{AllTold, Answers, IsOutcome};
@@ -134,6 +135,13 @@ pub fn printed_certificates_are_accepted()
         → IsCertifyInput held words mesh first second → IsWithinLimits mesh first second
         → (printed : IsCertificatePrinted mesh first second status text) → length text ≤ MOST_BYTES
         → IsAccepted mesh first second printed.shown text }
+{}
+
+/// For walks on a sphere all that `certify` prints is, as it is, a certificate that `verify` accepts on the same mesh and walks.
+pub fn printed_on_spheres_is_accepted()
+    ensures { (held : Option Files) (words : List (List ℕ)) (mesh : FaceList) (first second : List ℕ) (status : Status) (text : List ℕ)
+        → IsCertifyInput held words mesh first second → IsWithinLimits mesh first second → LiesOnSphere mesh (slice_index first 0)
+        → (printed : IsCertificatePrinted mesh first second status text) → IsAccepted mesh first second printed.shown text }
 {}
 
 /// What `homology` prints is, as it is, a certificate: `verify-homology` answers `accepted` of it, on the same mesh and walks.

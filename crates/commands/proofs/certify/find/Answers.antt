@@ -1,11 +1,12 @@
-use Rattle.std.proofs.Common.{◌+◌, ◌≤◌, subst, arith}
+use Rattle.std.proofs.Common.{◌≡◌, ◌+◌, ◌≤◌, length, subst, arith}
 use Rattle.std.specs.Prelude.{IfSome, MatchOption}
 use Rattle.surf_model.specs.Moves.{Homotopic}
 use Rattle.surf_model.specs.Walks.{darts}
 use Rattle.halfedge_map.specs.DartMaps.{darts_of}
-use Rattle.move_lifting.specs.Lifts.{HasLowPeak, LeadsAtPeak}
-use Rattle.move_lifting.proofs.BoundLemmas.{low_most}
+use Rattle.move_lifting.specs.Lifts.{HasLowPeak, IsShortList, LeadsAtPeak}
+use Rattle.move_lifting.proofs.BoundLemmas.{few_most, low_most}
 use Rattle.walk_files.specs.declared.limits.TheConstants.{MOST_PEAK}
+use Rattle.commands.proofs.Genera.{no_sides}
 use Rattle.commands.proofs.certify.find.Goals as goal
 
 pub returns-in-Some : goal.returns-in-Some
@@ -22,5 +23,15 @@ returns-in-Some c =
     omega (
       arith,
       low_most (darts_of s) (darts first + darts second) c.in-Some.list.peak c.requires.limits.sides c.requires.limits.few low,
-    ) in
-    (leads, read)
+    ) in (
+      leads,
+      read,
+      λ sphere.
+          let none : c.in_ok-polygon.polygon.degree ≡ 0 =
+          no_sides s c.in_ok-split.split c.in_ok-polygon.polygon c.faces.ensures.valid c.in_ok-split.ensures c.in_ok-polygon.ensures sphere in
+          let short : IsShortList (darts_of s) (darts first + darts second) c.in-Some.list =
+          subst (λ o. MatchOption o ⊥ (IsShortList (darts_of s) (darts first + darts second))) c.in-Some.is
+          (c.in_ok-list.ensures.short none) in
+          few_most (darts_of s) (darts first + darts second) (length c.in-Some.list.moves) c.requires.limits.sides c.requires.limits.few
+          short,
+    )

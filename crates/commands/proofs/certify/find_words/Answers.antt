@@ -1,7 +1,8 @@
-use Rattle.std.proofs.Common.{subst}
+use Rattle.std.proofs.Common.{subst, arith}
 use Rattle.surf_model.specs.FaceLists.{FaceList}
 use Rattle.labellings.specs.WalkWords.{IsWordOf}
 use Rattle.commands.proofs.Certifying.{some_sides, denial_holds, signs_are}
+use Rattle.commands.proofs.Genera.{no_sides}
 use Rattle.commands.proofs.certify.find_words.Goals as goal
 
 pub from_spent_polygon-requires-clause-some : goal.from_spent_polygon-requires-clause-some
@@ -27,4 +28,5 @@ returns c =
           (subst (λ (m : FaceList). IsWordOf m good first one) mesh c.in_ok-first_word.ensures)
           (subst (λ (m : FaceList). IsWordOf m good second other) mesh c.in_ok-second_word.ensures),
       signs_are surface c.args.polygon good o c.in_ok-good.ensures.labelling,
+      λ sphere. omega (arith, some, no_sides surface c.requires.cut.0 c.args.polygon o c.requires.cut.1 c.requires.cut.2 sphere),
     )

@@ -156,7 +156,7 @@ loop-step-preserved c =
                 (numbers c.loop-step.pending.items)
                 (numbers c.pop.new.self.items) v c.loop-step._step (w.len.result + c.args.behind)
                 c.loop-step.invariant.under popped after off
-                put.leads put.no_spur put.long put.last put.shape put.some put.more put.peak;
+                put.leads put.no_spur put.long put.last put.shape put.some put.more put.peak put.count;
             cells = omega (arith, put.cells, c.loop-step.invariant.cells);
           })
     ]

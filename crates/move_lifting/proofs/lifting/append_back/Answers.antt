@@ -1,4 +1,4 @@
-use Rattle.std.proofs.Common.{◌≡◌, ℕ, ◌+◌, ◌-◌, ◌<◌, ◌++◌, ◌∷◌, [], List, length, drop, get_or, max, sym, ap, ◌∙◌, subst, arith}
+use Rattle.std.proofs.Common.{◌≡◌, ℕ, ◌+◌, ◌-◌, ◌<◌, ◌++◌, ◌∷◌, [], List, length, drop, get_or, max, sym, ap, ◌∙◌, subst, arith, length-append}
 use Rattle.surf_model.specs.Moves.{PeakedMoves}
 use Rattle.surf_model.specs.Vertices.{numbers}
 use Rattle.surf_model.specs.declared.moves.Move.TheVariants.{Insert}
@@ -53,6 +53,12 @@ loop-done-preserved c =
         long,
         length-numbers c.args.vertices.now.items,
         c.requires.some,
+      );
+      count = omega (
+        arith,
+        c.loop-done.invariant.count,
+        ap (λ (m : PeakedMoves). length m.moves) noted,
+        length-append c.loop-done.moves.moves (Insert (length out - 1) via ∷ []),
       );
       long = omega (arith, c.in_ok-push.ensures.len, c.loop-done.invariant.long);
       last = ap last_of pushed ∙ last-push out via.0 ∙ c.at-via.ensures ∙ ap (λ (n : ℕ). get_or second n 0) here;

@@ -5,6 +5,7 @@ use Rattle.surf_model.specs.Moves.{PeakedMoves}
 use Rattle.surf_model.specs.Vertices.{numbers}
 use Rattle.surf_model.specs.declared.names.VertexName.{VertexName}
 use Rattle.move_lifting.specs.Lifts.{LeadsAtPeak}
+use Rattle.move_lifting.proofs.ContractLemmas.{both_ok}
 use Rattle.move_lifting.proofs.ExpandLemmas.{length-numbers}
 use Rattle.move_lifting.proofs.LiftLemmas.{closed_from}
 use Rattle.move_lifting.proofs.lifting.close.Goals as goal
@@ -51,3 +52,21 @@ returns-clause-peak c =
       ap (λ (l : List ℕ). length l) c.in_ok-closed.ensures,
       c.darts.ensures.starts,
     )) c.reduce_all.ensures.peak
+
+pub returns-clause-count : goal.returns-clause-count
+returns-clause-count c =
+    both_ok c.reduce_all.result _ _ _
+    (λ track count some. omega (
+      arith,
+      count,
+      some,
+      c.in_ok-append_back.ensures.count,
+      ap (λ (l : PeakedMoves). length l.moves) c.new-moves.ensures,
+      c.darts.ensures.count,
+      c.darts-2.ensures.count,
+      ap (λ (l : List VertexName). length l) c.deref.ensures.value,
+      c.in_ok-append_back.ensures.long,
+      length-numbers c.in_ok-closed.closed.items,
+      ap (λ (l : List ℕ). length l) c.in_ok-closed.ensures,
+      c.darts.ensures.starts,
+    )) c.reduce_all.ensures.count c.reduce_all.ensures.some

@@ -1,13 +1,16 @@
 use Rattle.std.proofs.Common.{◌≡◌, ℕ, ◌+◌, ◌*◌, ◌≤◌, List, length, sym, ap, subst, arith}
 use Rattle.std.specs.Prelude.{IfSome, MatchOption}
+use Rattle.std.proofs.Math.Nat.{mul-le-mul_right}
+use Rattle.std.proofs.lemmas.List.{length-map}
 use Rattle.surf_model.specs.FaceLists.{FaceList}
 use Rattle.surf_model.specs.Moves.{Homotopic, PeakedMoves}
+use Rattle.surf_model.specs.Rewriting.{raised}
 use Rattle.surf_model.specs.Walks.{darts}
 use Rattle.halfedge_map.specs.DartMaps.{darts_of}
 use Rattle.common_ends.specs.Trimmed.{AreWalksTogether}
 use Rattle.common_ends.proofs.PeakLemmas.{places_within}
 use Rattle.common_ends.proofs.TrimLemmas.{left_together, left_apart, left_leads, length-between}
-use Rattle.move_lifting.specs.Lifts.{HasLowPeak, LeadsAtPeak}
+use Rattle.move_lifting.specs.Lifts.{HasLowPeak, IsShortList, LeadsAtPeak}
 use Rattle.move_lifting.proofs.BoundLemmas.{three_darts, low_around}
 use Rattle.move_lifting.proofs.lifting.lift.Goals as goal
 
@@ -74,3 +77,39 @@ returns-in-Some-clause-low c =
     subst (λ n. 2 * n ≤ (3 * all + 7) * darts_of s) peak
     (subst (λ n. 2 * (around + c.in-Some.list.peak) ≤ (3 * n + 7) * darts_of s) count
     (low_around (darts_of s) near around c.in-Some.list.peak (three_darts s c.darts-sides.ensures.valid) low))
+
+-- on a sphere the list is short
+pub returns-in-Some-clause-short : goal.returns-in-Some-clause-short
+returns-in-Some-clause-short c sphere =
+    let s = c.args.surface.now in
+    let near : ℕ = darts c.in_ok-first.first + darts c.in_ok-second.second in
+    let all : ℕ = darts c.args.first.now + darts c.args.second.now in
+    let short : IsShortList (darts_of s) near c.in-Some.list =
+    subst (λ o. MatchOption o ⊥ (IsShortList (darts_of s) near)) c.in-Some.is (c.in_ok-list.ensures.short sphere) in
+    let less : near ≤ all =
+    omega (
+      arith,
+      c.of-common.ensures.in_first,
+      c.of-common.ensures.in_second,
+      c.requires.first.starts,
+      c.requires.second.starts,
+      ap (λ (l : List ℕ). length l) c.in_ok-first.ensures,
+      ap (λ (l : List ℕ). length l) c.in_ok-second.ensures,
+      length-between c.args.first.now c.of-common.result.front c.of-common.result.back
+          (omega (arith, c.of-common.ensures.in_first, c.requires.first.starts)),
+      length-between c.args.second.now c.of-common.result.front c.of-common.result.back
+          (omega (arith, c.of-common.ensures.in_second, c.requires.second.starts)),
+    ) in
+    omega (
+      arith,
+      short,
+      mul-le-mul_right (darts_of s + 1) less,
+      ap (λ (l : PeakedMoves). length l.moves) c.in_ok-put_back-in-Some.ensures,
+      length-map c.in-Some.list.moves (raised c.of-common.result.front),
+    )
+
+pub returns-clause-short : goal.returns-clause-short
+returns-clause-short c sphere =
+    subst (λ o. MatchOption o ⊥
+    (IsShortList (darts_of c.args.surface.now) (darts c.in_ok-first.first + darts c.in_ok-second.second))) c.in-None.is
+    (c.in_ok-list.ensures.short sphere)

@@ -11,7 +11,7 @@ use Rattle.spoke_paths.specs.Path_steps.{PathLeads}
 use Rattle.move_lifting.specs.Contractions.{IsLedFrom}
 use Rattle.move_lifting.specs.Lifts.{LeadsAtPeak}
 use Rattle.move_lifting.specs.Tracks.{GoesOn}
-use Rattle.move_lifting.proofs.BoundLemmas.{IsShort, short_walk, three_darts, is_low}
+use Rattle.move_lifting.proofs.BoundLemmas.{IsShort, short_walk, three_darts, is_few, is_low}
 use Rattle.move_lifting.proofs.ExpandLemmas.{length-numbers}
 use Rattle.move_lifting.proofs.LiftLemmas.{IsClosed, closed_is, IsOffCotree, off_cotree, second_left, second_stays, second_there, homotopic_leaves_nothing, steps_to_nothing, begun_freely}
 use Rattle.move_lifting.proofs.ShortStepLemmas.{walk_spokes}
@@ -295,3 +295,38 @@ returns-clause-low c =
   where
     room_left : (k n : ℕ) → 3 * ((k + 1) * n) + 4 * n ≡ (3 * k + 7) * n
     room_left k n = omega arith
+
+-- on a sphere the list is short
+pub returns-then-len-eq1-clause-short : goal.returns-then-len-eq1-clause-short
+returns-then-len-eq1-clause-short c sphere =
+    let s = c.args.on.now.surface.now in
+    is_few (darts_of s) (darts c.args.first.now + darts c.args.second.now) (darts c.args.second.now) 0
+    (length c.in_ok-closed.moves.moves) (length c.in_ok-closed.moves.moves)
+    (omega (arith, three_darts s c.requires.valid)) (omega arith) (omega arith)
+    (omega (arith, c.in_ok-track.ensures.count, ap (λ (l : PeakedMoves). length l.moves) c.in_ok-closed.ensures.moves)) (omega arith)
+
+pub returns-then-degree-eq0-clause-short : goal.returns-then-degree-eq0-clause-short
+returns-then-degree-eq0-clause-short c sphere =
+    let s = c.args.on.now.surface.now in
+    let k : IsClosed s.mesh c.args.first.now (numbers c.in_ok-closed.closed.items) c.args.second.now c.in_ok-closed.moves =
+    closed_is s.mesh c.args.first.now c.args.second.now c.in_ok-closed.closed.items c.in_ok-closed.moves
+    c.in_ok-track.track c.requires.walks c.in_ok-track.ensures.leads c.in_ok-track.ensures.some c.in_ok-track.ensures.last
+    c.in_ok-closed.ensures.vertices c.in_ok-closed.ensures.moves in
+    let track = c.in_ok-track-2.track in
+    let same : length (numbers c.in_ok-closed.closed.items) ≡ length c.in_ok-track.track.walk =
+    ap (λ (l : List ℕ). length l) c.in_ok-closed.ensures.vertices in
+    let short : IsShort (darts (numbers c.in_ok-closed.closed.items) * darts_of s) c.darts-behind.result track.walk c.in_ok-closed.moves
+    track.list =
+    short_walk s c.args.on.now.split.now c.requires.valid c.requires.on.split c.darts-behind.result
+    (numbers c.in_ok-closed.closed.items) track.walk c.in_ok-closed.moves track.list k.walk c.in_ok-track-2.ensures.within in
+    is_few (darts_of s) (darts c.args.first.now + darts c.args.second.now) (darts c.args.second.now)
+    (darts (numbers c.in_ok-closed.closed.items))
+    (length c.in_ok-closed.moves.moves) (length c.into_moves.result.moves)
+    (omega (arith, three_darts s c.requires.valid)) (omega arith) (omega (arith, c.in_ok-track.ensures.long, same))
+    (omega (
+      arith,
+      c.in_ok-track.ensures.count,
+      same,
+      ap (λ (l : PeakedMoves). length l.moves) c.in_ok-closed.ensures.moves,
+    ))
+    (omega (arith, short.moves, ap (λ (l : PeakedMoves). length l.moves) c.into_moves.ensures))

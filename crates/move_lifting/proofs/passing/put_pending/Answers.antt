@@ -17,7 +17,8 @@ loop-next-preserved c =
           c.pop.new.self.items c.in-Some.next (c.len.result + c.args.behind) c.loop-next.invariant.so_far c.in-Some.ensures.items
           (omega (arith, c.len.ensures)) c.in_ok-put.ensures.leads c.in_ok-put.ensures.no_spur c.in_ok-put.ensures.some
           c.in_ok-put.ensures.long
-          c.in_ok-put.ensures.last c.in_ok-put.ensures.more c.in_ok-put.ensures.shape c.in_ok-put.ensures.peak;
+          c.in_ok-put.ensures.last c.in_ok-put.ensures.more c.in_ok-put.ensures.shape c.in_ok-put.ensures.peak
+          c.in_ok-put.ensures.count;
       cells = omega (arith, c.in_ok-put.ensures.cells, c.loop-next.invariant.cells);
     }
 

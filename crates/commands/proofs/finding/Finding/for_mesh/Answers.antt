@@ -1,24 +1,27 @@
-use Rattle.std.proofs.Common.{◌≡◌, ℕ, get_or, ap, sym, subst, ◌∙◌}
+use Rattle.std.proofs.Common.{◌≡◌, ℕ, true, get_or, ap, sym, subst, ◌∙◌}
 use Rattle.std.specs.Prelude.{IfOk}
-use Rattle.surf_model.specs.FaceLists.{FaceList}
+use Rattle.surf_model.specs.FaceLists.{FaceList, is_used}
 use Rattle.surf_model.specs.Walks.{IsWalk}
 use Rattle.commands.specs.Certificates.{IsShown}
 use Rattle.commands.specs.ClosedSurfaces.{IsComponentOf, surface_of}
 use Rattle.commands.specs.Findings.{IsFinding, TellsOfSome}
 use Rattle.commands.specs.declared.component.Component.{Component}
 use Rattle.commands.specs.declared.component.Component.TheVariants.{Whole, Alone}
+use Rattle.commands.proofs.Genera.{whole_sphere}
 use Rattle.commands.proofs.finding.Finding.for_mesh.Goals as goal
 
 pub returns-in-Whole : goal.returns-in-Whole
 returns-in-Whole c =
     λ mesh first second component w z ends h.
-    let surface = c.in-Whole.field-0 in
+    let surface = c.in-Whole.surface in
     let is : IsComponentOf mesh (get_or first 0 0) (Whole surface) =
     subst (IsComponentOf mesh (get_or first 0 0)) c.in-Whole.is component in
     let there : IsFinding surface first second c.args.self =
     subst (λ (x : Component). IsFinding (surface_of x) first second c.args.self) c.in-Whole.is h in
     subst (λ (m : FaceList). IsShown m first second c.into_certificate.result) is
-    (c.into_certificate.ensures surface first second there)
+    (c.into_certificate.ensures surface first second there
+    (whole_sphere surface.mesh (get_or first 0 0) c.faces.ensures.valid.faces c.faces.ensures.valid.closed.connected
+    (subst (λ (m : FaceList). is_used m (get_or first 0 0) ≡ true) (sym is) (w.used 0 0 w.starts))))
 
 pub for_whole-requires-clause-part : goal.for_whole-requires-clause-part
 for_whole-requires-clause-part c =

@@ -1,10 +1,16 @@
-use Rattle.std.proofs.Common.{◌≤◌, sym, subst}
+use Rattle.std.proofs.Common.{◌≤◌, ℕ, List, length, get_or, sym, subst, arith}
+use Rattle.std.proofs.lemmas.List.{length-map}
 use Rattle.surf_model.specs.Moves.{PeakedMoves}
 use Rattle.move_lifting.specs.Lifts.{LeadsAtPeak}
+use Rattle.manifold_check.specs.ComponentParts.{component_at}
+use Rattle.manifold_check.specs.Submeshes.{renamed_move, renamed_moves}
 use Rattle.walk_files.specs.declared.limits.TheConstants.{MOST_PEAK}
 use Rattle.commands.specs.Findings.{IsFinding, TellsOfSome}
+use Rattle.commands.specs.Genera.{LiesOnSphere}
+use Rattle.commands.specs.declared.certify.TheConstants.{MOST_SPHERE_MOVES}
 use Rattle.commands.specs.declared.finding.Finding.TheVariants.{Moves, Words}
 use Rattle.commands.proofs.Components.{good_there, names_of_moves, renamed_leads, signs_there, widened_holds}
+use Rattle.commands.proofs.Genera.{part_sphere}
 use Rattle.commands.proofs.finding.Finding.for_whole.Goals as goal
 
 pub rename-requires-clause-place : goal.rename-requires-clause-place
@@ -22,8 +28,17 @@ returns-in_ok-renamed-in-Moves c =
     let part = c.args.part.now in
     let there : IsFinding part.alone first second (Moves c.in-Moves.list) =
     subst (IsFinding part.alone first second) c.in-Moves.is h in
-    subst (λ (l : PeakedMoves). LeadsAtPeak part.whole.faces first l second × (l.peak ≤ MOST_PEAK)) (sym c.in_ok-renamed-in-Moves.ensures)
-    (renamed_leads part first second c.in-Moves.list c.requires.part w there.0, there.1)
+    let names : List ℕ = component_at part.parts part.place in
+    let few : LiesOnSphere part.whole.faces (get_or first 0 0) → length (renamed_moves names c.in-Moves.list.moves) ≤ MOST_SPHERE_MOVES =
+    λ sphere. omega (
+      arith,
+      there.2 (part_sphere part (get_or first 0 0) c.requires.part (w.used 0 0 w.starts) at_first sphere),
+      length-map c.in-Moves.list.moves (renamed_move names),
+    ) in
+    subst
+    (λ (l : PeakedMoves). LeadsAtPeak part.whole.faces first l second × (l.peak ≤ MOST_PEAK)
+    × (LiesOnSphere part.whole.faces (get_or first 0 0) → length l.moves ≤ MOST_SPHERE_MOVES)) (sym c.in_ok-renamed-in-Moves.ensures)
+    (renamed_leads part first second c.in-Moves.list c.requires.part w there.0, there.1, few)
 
 pub widen-requires-clause-parts : goal.widen-requires-clause-parts
 widen-requires-clause-parts c = c.requires.part.parts
@@ -58,4 +73,5 @@ returns-in_ok-wide-in-Words c =
       widened_holds part first second c.in-Words.good c.in_ok-wide-in-Words.wide c.in-Words.first c.in-Words.second c.requires.part w z
           at_first at_second there.1 there.0 c.in_ok-wide-in-Words.ensures.widened,
       tt,
+      λ sphere. there.2 (part_sphere part (get_or first 0 0) c.requires.part (w.used 0 0 w.starts) at_first sphere),
     )

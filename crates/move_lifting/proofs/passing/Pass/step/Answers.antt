@@ -1,5 +1,5 @@
 use Rattle.std.proofs.Common.{◌≡◌, ℕ, ◌+◌, List, [], ◌∷◌, ◌++◌, length, ap, ◌∙◌, subst, arith}
-use Rattle.std.specs.Prelude.{reverse}
+use Rattle.std.specs.Prelude.{reverse, Result, Ok, Err, OnOk}
 use Rattle.std.proofs.lemmas.Result.{on_ok_weaker}
 use Rattle.surf_model.specs.FaceLists.{FaceList, face_at}
 use Rattle.surf_model.specs.Vertices.{numbers}
@@ -7,7 +7,6 @@ use Rattle.halfedge_map.specs.OrientedMeshes.{OrientedMesh}
 use Rattle.tree_cotree.specs.Splits.{SplitView}
 use Rattle.move_lifting.specs.Crossings.{IsFaceBelow, IsCrossed}
 use Rattle.move_lifting.specs.Tracks.{TrackView, last_of}
-use Rattle.move_lifting.proofs.ContractLemmas.{both_ok}
 use Rattle.move_lifting.proofs.ExpandLemmas.{length-numbers}
 use Rattle.move_lifting.proofs.LeavingLemmas.{leave_on, removed_leave}
 use Rattle.move_lifting.proofs.PassLemmas.{IsCrossedOnce, crossed_on, crossed_once, on_both}
@@ -209,6 +208,10 @@ returns-in-None-clause-leads c = on_ok_weaker c.put.result (λ goes. goes c.args
 
 pub returns-in-None-clause-within : goal.returns-in-None-clause-within
 returns-in-None-clause-within c =
-    both_ok c.put.result _ _ _
-    (λ _ shape peak. within_put c.args.self.now.on.now.surface.now c.args.self.now.on.now.split.now (c.args.left + c.args.self.now.behind)
-    c.args.to.0 c.args.track.now c.put.new.self shape peak) c.put.ensures.shape c.put.ensures.peak
+    all_ok c.put.result
+    (within_put c.args.self.now.on.now.surface.now c.args.self.now.on.now.split.now (c.args.left + c.args.self.now.behind) c.args.to.0
+    c.args.track.now c.put.new.self) c.put.ensures.shape c.put.ensures.some c.put.ensures.count c.put.ensures.peak
+  where
+    all_ok : {T E A B C D F : Type 0} (r : Result T E) → (A → B → C → D → F) → OnOk r A → OnOk r B → OnOk r C → OnOk r D → OnOk r F
+    all_ok (Ok x) f a b c d = f a b c d
+    all_ok (Err y) f a b c d = tt
