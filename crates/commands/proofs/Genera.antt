@@ -186,7 +186,8 @@ whole_component mesh parts v valid joined used h =
     λ i d few.
     let within : i < length mesh.faces = omega (arith, few, length-range_with_len 0 (length mesh.faces)) in
     let is : get_or all i d ≡ i = get_or-range_with_len 0 (length mesh.faces) i d within ∙ (let e : 0 + i ≡ i = omega arith in e) in
-    subst (λ f. eqb (place_of_face mesh parts.places f) k ≡ true) (sym is) (eq-eqb (place_of_face mesh parts.places i) k (placed i within)) in
+    subst (λ f. eqb (place_of_face mesh parts.places f) k ≡ true) (sym is)
+    (eq-eqb (place_of_face mesh parts.places i) k (placed i within)) in
     ap (submesh mesh) (h.faces k (h.places.below v used) ∙ filter_all test all passes)
     ∙ ap (λ (faces : List (List ℕ)). record { count = mesh.count; faces = faces }) (faces_by_name mesh)
   where

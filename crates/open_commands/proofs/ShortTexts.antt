@@ -203,7 +203,8 @@ list_short mesh first second list k most valid sides w h some few wide moves pea
       arith,
       length-append (decision_line Homotopic) (list_text list),
       length-append (line_of (head_words list)) (flat_map line_of (map move_words list.moves)),
-      head_short k list some (omega (arith, moves, few)) (omega (arith, peak, few)) (omega (arith, moves, wide)) (omega (arith, peak, wide)),
+      head_short k list some (omega (arith, moves, few)) (omega (arith, peak, few)) (omega (arith, moves, wide))
+          (omega (arith, peak, wide)),
       lines_short k most (22 + k) list.moves (λ move small. move_line k most move some few wide small)
           (moves_small mesh most valid sides first second list.moves w h.leads (omega (arith, peak, h.peak))),
     )
@@ -214,7 +215,8 @@ pub text_short : (mesh : FaceList) (first second : List ℕ) (list : PeakedMoves
 text_short mesh first second list valid sides w h within =
     omega (
       arith,
-      list_short mesh first second list 7 MOST_OPEN_STEPS valid sides w h (omega arith) (omega arith) (omega arith) within.moves within.peak,
+      list_short mesh first second list 7 MOST_OPEN_STEPS valid sides w h (omega arith) (omega arith) (omega arith) within.moves
+          within.peak,
       within.moves,
     )
 

@@ -28,7 +28,8 @@ returns-in-Some c =
       read,
       λ sphere.
           let none : c.in_ok-polygon.polygon.degree ≡ 0 =
-          no_sides s c.in_ok-split.split c.in_ok-polygon.polygon c.faces.ensures.valid c.in_ok-split.ensures c.in_ok-polygon.ensures sphere in
+          no_sides s c.in_ok-split.split c.in_ok-polygon.polygon c.faces.ensures.valid c.in_ok-split.ensures c.in_ok-polygon.ensures
+          sphere in
           let short : IsShortList (darts_of s) (darts first + darts second) c.in-Some.list =
           subst (λ o. MatchOption o ⊥ (IsShortList (darts_of s) (darts first + darts second))) c.in-Some.is
           (c.in_ok-list.ensures.short none) in
