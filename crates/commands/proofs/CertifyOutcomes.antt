@@ -79,7 +79,7 @@ by_certified mesh first second (Pass x) status text p answer =
           record {
             shown = shown.0;
             convinces = shown.1.0;
-            read = shown.1.1;
+            low = shown.1.1;
             short = shown.1.2;
             status_is = here.status_is ∙ ap decision_status (sym shown.2);
             text_is = shown.3;

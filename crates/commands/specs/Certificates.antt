@@ -5,14 +5,13 @@ use Rattle.move_lifting.specs.Lifts.{LeadsAtPeak}
 use Rattle.labellings.specs.Denials.{DenialHolds}
 use Rattle.walk_files.specs.DenialTexts.{denial_text}
 use Rattle.walk_files.specs.MoveTexts.{list_text}
-use Rattle.walk_files.specs.declared.limits.TheConstants.{MOST_PEAK}
 use Rattle.walk_translate.specs.declared.deciding.Answer as deciding
 use Rattle.walk_translate.specs.declared.deciding.Answer.TheVariants.{Homotopic, Different}
 use Rattle.commands.specs.Genera.{LiesOnSphere}
 use Rattle.commands.specs.Lines.{line}
 use Rattle.commands.specs.declared.certificate.Certificate.{Certificate}
 use Rattle.commands.specs.declared.certificate.Certificate.TheVariants.{Moves, Denial}
-use Rattle.commands.specs.declared.certify.TheConstants.{MOST_SPHERE_MOVES}
+use Rattle.commands.specs.declared.certify.TheConstants.{MOST_SHOWN_PEAK, MOST_SPHERE_MOVES}
 use Rattle.commands.specs.declared.status.Status.{Status}
 use Rattle.commands.specs.declared.status.Status.TheVariants.{Yes, No}
 
@@ -22,10 +21,10 @@ abbrev pub Convinces : FaceList → (first second : List ℕ) → Certificate �
 Convinces mesh first second (Moves list) = LeadsAtPeak mesh first list second
 Convinces mesh first second (Denial denial) = DenialHolds mesh first second denial
 
--- the peak of a list of moves is one that is read
-abbrev pub IsPeakRead : Certificate → Type 0
-IsPeakRead (Moves list) = list.peak ≤ MOST_PEAK
-IsPeakRead (Denial denial) = Unit {0}
+-- the peak of a list of moves is low, and so one that is read
+abbrev pub IsPeakLow : Certificate → Type 0
+IsPeakLow (Moves list) = list.peak ≤ MOST_SHOWN_PEAK
+IsPeakLow (Denial denial) = Unit {0}
 
 -- For walks on a sphere it is a list, of no more moves than this; no denial is for them.
 abbrev pub IsShortOnSphere : FaceList → (first : List ℕ) → Certificate → Type 0
@@ -34,7 +33,7 @@ IsShortOnSphere mesh first (Denial denial) = LiesOnSphere mesh (slice_index firs
 
 -- the certificate convinces, no peak stands in the way of its reader, and on a sphere it is short
 abbrev pub IsShown : FaceList → (first second : List ℕ) → Certificate → Type 0
-IsShown mesh first second shown = Convinces mesh first second shown × IsPeakRead shown × IsShortOnSphere mesh first shown
+IsShown mesh first second shown = Convinces mesh first second shown × IsPeakLow shown × IsShortOnSphere mesh first shown
 
 -- the decision that it is for
 abbrev pub decision_of : Certificate → deciding.Answer

@@ -8,7 +8,7 @@ use Rattle.move_lifting.specs.declared.expanding.TheConstants.{MOST_LIFTED_SIDES
 use Rattle.walk_translate.specs.declared.deciding.Answer as deciding
 use Rattle.walk_translate.specs.declared.deciding.Answer.TheVariants.{Homotopic}
 use Rattle.commands.specs.Answers.{Answer, Exactly, OfCertificate}
-use Rattle.commands.specs.Certificates.{Convinces, IsPeakRead, IsShortOnSphere, decision_of, decision_status, certificate_text}
+use Rattle.commands.specs.Certificates.{Convinces, IsPeakLow, IsShortOnSphere, decision_of, decision_status, certificate_text}
 use Rattle.commands.specs.Checks.{Check, End, Refuse, Pass, Holds, pass_unless, without_files, ◌>>=◌}
 use Rattle.commands.specs.ClosedSurfaces.{IsOrientableSurface}
 use Rattle.commands.specs.Inputs.{pair_in, walk_at, SpellsMesh, SpellsPair}
@@ -40,12 +40,12 @@ pub record IsWithinLimits (mesh : FaceList) (first second : List ℕ) : Type 0 w
   pub sides : total_sides mesh ≤ MOST_LIFTED_SIDES
   pub few : darts first + darts second ≤ MOST_LIFTED_DARTS
 
--- A certificate that convinces, whose peak is one that is read, and that is short on a sphere, is printed behind the decision that it is
+-- A certificate that convinces, whose peak is low, and that is short on a sphere, is printed behind the decision that it is
 -- for, with the status of that decision. That `verify` accepts what is printed is said in `PrintedCertificates`.
 pub record IsCertificatePrinted (mesh : FaceList) (first second : List ℕ) (status : Status) (text : List ℕ) : Type 0 where
   pub shown : Certificate
   pub convinces : Convinces mesh first second shown
-  pub read : IsPeakRead shown
+  pub low : IsPeakLow shown
   pub short : IsShortOnSphere mesh first shown
   pub status_is : status ≡ decision_status (decision_of shown)
   pub text_is : text ≡ certificate_text shown

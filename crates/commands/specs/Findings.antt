@@ -7,17 +7,16 @@ use Rattle.halfedge_map.specs.OrientedMeshes.{OrientedMesh}
 use Rattle.labellings.specs.Denials.{DenialHolds}
 use Rattle.labellings.specs.Labellings.{signs_of}
 use Rattle.move_lifting.specs.Lifts.{LeadsAtPeak}
-use Rattle.walk_files.specs.declared.limits.TheConstants.{MOST_PEAK}
 use Rattle.commands.specs.Genera.{HasGenus}
-use Rattle.commands.specs.declared.certify.TheConstants.{MOST_SPHERE_MOVES}
+use Rattle.commands.specs.declared.certify.TheConstants.{MOST_SHOWN_PEAK, MOST_SPHERE_MOVES}
 use Rattle.commands.specs.declared.finding.Finding.{Finding}
 use Rattle.commands.specs.declared.finding.Finding.TheVariants.{Moves, Words}
 
--- The moves lead from the first walk to the second, their peak is one that is read, and on a sphere they are few; or the words are those of
+-- The moves lead from the first walk to the second, their peak is low, and on a sphere they are few; or the words are those of
 -- the walks under a good labelling, with the signs of the surface, and differ, and the surface is no sphere.
 abbrev pub IsFinding : OrientedMesh → (first second : List ℕ) → Finding → Type 0
 IsFinding surface first second (Moves list) =
-    LeadsAtPeak surface.mesh first list second × (list.peak ≤ MOST_PEAK)
+    LeadsAtPeak surface.mesh first list second × (list.peak ≤ MOST_SHOWN_PEAK)
     × (HasGenus surface.mesh 0 → length list.moves ≤ MOST_SPHERE_MOVES)
 IsFinding surface first second (Words good one other) =
     DenialHolds surface.mesh first second (record { labelling = good; first = one; second = other }) × (signs_of good ≡ surface.signs)

@@ -7,7 +7,7 @@ ghost use Rattle.commands.specs.Statuses.{status_number};
 pub enum Status {
     /// Yes, or the thing asked for was printed.
     Yes,
-    /// No: the walks are different, or the certificate is rejected.
+    /// No: the walks are different, not freely homotopic or not homologous, or the certificate is rejected.
     No,
     /// The input is refused, with one line that says why.
     Refused,

@@ -8,7 +8,7 @@ use Rattle.move_lifting.specs.declared.expanding.TheConstants.{MOST_LIFTED_SIDES
 use Rattle.verify_commands.proofs.Accepting.{accepted, spelled}
 use Rattle.commands.proofs.MeshTexts.{is_face_list}
 use Rattle.commands.proofs.Sound.{held}
-use Rattle.commands.specs.Certificates.{Convinces, IsPeakRead, IsShortOnSphere, certificate_text}
+use Rattle.commands.specs.Certificates.{Convinces, IsPeakLow, IsShortOnSphere, certificate_text}
 use Rattle.commands.specs.Certify.{IsCertifyInput, IsWithinLimits, IsCertificatePrinted}
 use Rattle.commands.specs.Genera.{LiesOnSphere}
 use Rattle.commands.specs.Lines.{line}
@@ -62,7 +62,7 @@ printed_accepted files words mesh first second status text input limits printed 
     let pair = (held files input.walks_name (SpellsPair mesh first second) input.walks_file).holds in
     let own : SpellsCertificate printed.shown (certificate_text printed.shown) =
     spelled mesh first second printed.shown (is_face_list off.bytes mesh off.holds) pair.first_walk (omega (arith, limits.few))
-    (omega (arith, limits.few)) printed.convinces printed.read (subst (λ (t : List ℕ). length t ≤ MOST_BYTES) printed.text_is short) in
+    (omega (arith, limits.few)) printed.convinces printed.low (subst (λ (t : List ℕ). length t ≤ MOST_BYTES) printed.text_is short) in
     let spells : SpellsCertificate printed.shown text = subst (SpellsCertificate printed.shown) (sym printed.text_is) own in
     record {
       spells = spells;
@@ -74,10 +74,10 @@ printed_accepted files words mesh first second status text input limits printed 
 
 -- for walks on a sphere its text is short
 sphere_short : (mesh : FaceList) (first second : List ℕ) (shown : Certificate) → IsFaceList mesh → total_sides mesh ≤ MOST_LIFTED_SIDES
-    → IsWalk mesh first → LiesOnSphere mesh (get_or first 0 0) → Convinces mesh first second shown → IsPeakRead shown
+    → IsWalk mesh first → LiesOnSphere mesh (get_or first 0 0) → Convinces mesh first second shown → IsPeakLow shown
     → IsShortOnSphere mesh first shown → length (certificate_text shown) ≤ MOST_BYTES
 sphere_short mesh first second (Moves list) valid sides w sphere h read short =
-    sphere_text_short mesh first second list valid (omega (arith, sides)) w h (short sphere) read
+    sphere_text_short mesh first second list valid (omega (arith, sides)) w h (short sphere) (omega (arith, read))
 sphere_short mesh first second (Denial denial) valid sides w sphere h read short = absurd (short sphere)
 
 pub printed_on_sphere_accepted : (files : Option Files) (words : List (List ℕ)) (mesh : FaceList) (first second : List ℕ) (status : Status)
@@ -90,7 +90,7 @@ printed_on_sphere_accepted files words mesh first second status text input limit
     printed_accepted files words mesh first second status text input limits printed
     (subst (λ (t : List ℕ). length t ≤ MOST_BYTES) (sym printed.text_is)
     (sphere_short mesh first second printed.shown (is_face_list off.bytes mesh off.holds) limits.sides pair.first_walk sphere
-    printed.convinces printed.read printed.short))
+    printed.convinces printed.low printed.short))
 
 -- a list of `certify-open`, which is short
 pub printed_list_accepted : (files : Option Files) (words : List (List ℕ)) (mesh : FaceList) (first second : List ℕ) (status : Status)

@@ -2,7 +2,7 @@
 //!
 //! A closed walk is a closed list of spokes here, which may start at any of its spokes that lead from the vertex.
 //! Proved: each one is brought to a cyclically canonical list by steps, each an elementary homotopy or a conjugation; and
-//! two closed lists are compared up to where they start, in a time that is linear.
+//! two closed lists are compared up to where they start. (That this takes linear time is meant; no clause says so.)
 //!
 //!     let first = cyclic_form(alloc, &wheel, &[3, 4])?;
 //!     let same = is_rotation(&first, &second);

@@ -69,7 +69,7 @@ impl RunStack {
         self.pairs.len() as u64
     }
 
-    /// Puts a run on top. Where memory runs out the runs stay.
+    /// Puts a run on top. Where memory runs out everything stays.
     pub fn push<L: Ledger>(
         &mut self,
         value: u32,
@@ -78,7 +78,7 @@ impl RunStack {
     ) -> Result<(), AllocError>
         requires { 0 < count }
         ensures ok { OnOk result (self.new.runs ≡ self.old.runs ++ (value, count) ∷ []) }
-        ensures err { OnErr result (self.new.runs ≡ self.old.runs) }
+        ensures err { OnErr result (self.new ≡ self.old) }
         ensures sure { 1 ≤ self.old.spare → IsOk result }
         ensures spare { self.old.spare ≤ self.new.spare + 1 }
         ensures counted { steps.new ≡ steps.old + 1 }

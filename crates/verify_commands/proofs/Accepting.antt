@@ -25,7 +25,7 @@ use Rattle.verify_commands.proofs.FittingDenials.{denial_fits}
 use Rattle.verify_commands.proofs.FittingMoves.{list_fits}
 use Rattle.verify_commands.proofs.VerifyRows.{sound-verify}
 use Rattle.verify_commands.proofs.VerifyOutcomes.{told_input, judgement_outcome}
-use Rattle.commands.specs.Certificates.{Convinces, IsPeakRead, decision_line, certificate_text}
+use Rattle.commands.specs.Certificates.{Convinces, IsPeakLow, decision_line, certificate_text}
 use Rattle.commands.specs.Checks.{Pass}
 use Rattle.commands.specs.Inputs.{as_certificate, certificate_behind, certificate_of, SpellsCertificate}
 use Rattle.commands.specs.Lines.{line}
@@ -69,12 +69,12 @@ spelled_denial text denial e = by_head (head_of_text text) e
 
 -- a certificate that convinces is spelled by its text
 pub spelled : (mesh : FaceList) (first second : List ℕ) (shown : Certificate) → IsFaceList mesh → IsWalk mesh first → length first < 2 ^ 32
-    → length second < 2 ^ 32 → Convinces mesh first second shown → IsPeakRead shown → length (certificate_text shown) ≤ MOST_BYTES
+    → length second < 2 ^ 32 → Convinces mesh first second shown → IsPeakLow shown → length (certificate_text shown) ≤ MOST_BYTES
     → SpellsCertificate shown (certificate_text shown)
 spelled mesh first second (Moves list) valid walk few_first few_second h peak short =
     let part = length-append (decision_line Homotopic) (list_text list) in
     spelled_list (certificate_text (Moves list)) list
-    (list_of_text-answered list (list_fits mesh first second list valid walk h peak (omega (arith, part, short))))
+    (list_of_text-answered list (list_fits mesh first second list valid walk h (omega (arith, peak)) (omega (arith, part, short))))
 spelled mesh first second (Denial denial) valid walk few_first few_second h peak short =
     let part = length-append (decision_line Different) (denial_text denial) in
     spelled_denial (certificate_text (Denial denial)) denial

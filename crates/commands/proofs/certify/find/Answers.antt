@@ -5,7 +5,7 @@ use Rattle.surf_model.specs.Walks.{darts}
 use Rattle.halfedge_map.specs.DartMaps.{darts_of}
 use Rattle.move_lifting.specs.Lifts.{HasLowPeak, IsShortList, LeadsAtPeak}
 use Rattle.move_lifting.proofs.BoundLemmas.{few_most, low_most}
-use Rattle.walk_files.specs.declared.limits.TheConstants.{MOST_PEAK}
+use Rattle.commands.specs.declared.certify.TheConstants.{MOST_SHOWN_PEAK}
 use Rattle.commands.proofs.Genera.{no_sides}
 use Rattle.commands.proofs.certify.find.Goals as goal
 
@@ -19,13 +19,13 @@ returns-in-Some c =
     c.in_ok-list.ensures.list in
     let low : HasLowPeak (darts_of s) (darts first + darts second) c.in-Some.list =
     subst (λ o. IfSome o (HasLowPeak (darts_of s) (darts first + darts second))) c.in-Some.is c.in_ok-list.ensures.low in
-    let read : c.in-Some.list.peak ≤ MOST_PEAK =
+    let peak : c.in-Some.list.peak ≤ MOST_SHOWN_PEAK =
     omega (
       arith,
       low_most (darts_of s) (darts first + darts second) c.in-Some.list.peak c.requires.limits.sides c.requires.limits.few low,
     ) in (
       leads,
-      read,
+      peak,
       λ sphere.
           let none : c.in_ok-polygon.polygon.degree ≡ 0 =
           no_sides s c.in_ok-split.split c.in_ok-polygon.polygon c.faces.ensures.valid c.in_ok-split.ensures c.in_ok-polygon.ensures

@@ -4,10 +4,9 @@ use Rattle.surf_model.specs.Moves.{PeakedMoves}
 use Rattle.move_lifting.specs.Lifts.{LeadsAtPeak}
 use Rattle.manifold_check.specs.ComponentParts.{component_at}
 use Rattle.manifold_check.specs.Submeshes.{renamed_move, renamed_moves}
-use Rattle.walk_files.specs.declared.limits.TheConstants.{MOST_PEAK}
 use Rattle.commands.specs.Findings.{IsFinding, TellsOfSome}
 use Rattle.commands.specs.Genera.{LiesOnSphere}
-use Rattle.commands.specs.declared.certify.TheConstants.{MOST_SPHERE_MOVES}
+use Rattle.commands.specs.declared.certify.TheConstants.{MOST_SHOWN_PEAK, MOST_SPHERE_MOVES}
 use Rattle.commands.specs.declared.finding.Finding.TheVariants.{Moves, Words}
 use Rattle.commands.proofs.Components.{good_there, names_of_moves, renamed_leads, signs_there, widened_holds}
 use Rattle.commands.proofs.Genera.{part_sphere}
@@ -36,7 +35,7 @@ returns-in_ok-renamed-in-Moves c =
       length-map c.in-Moves.list.moves (renamed_move names),
     ) in
     subst
-    (λ (l : PeakedMoves). LeadsAtPeak part.whole.faces first l second × (l.peak ≤ MOST_PEAK)
+    (λ (l : PeakedMoves). LeadsAtPeak part.whole.faces first l second × (l.peak ≤ MOST_SHOWN_PEAK)
     × (LiesOnSphere part.whole.faces (get_or first 0 0) → length l.moves ≤ MOST_SPHERE_MOVES)) (sym c.in_ok-renamed-in-Moves.ensures)
     (renamed_leads part first second c.in-Moves.list c.requires.part w there.0, there.1, few)
 
