@@ -19,4 +19,6 @@ mod pools;
 #[cfg(test)]
 mod rings;
 #[cfg(test)]
+mod splits;
+#[cfg(test)]
 mod words;

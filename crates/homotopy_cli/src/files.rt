@@ -9,7 +9,7 @@ pub const TETRAHEDRON: &str =
     "OFF\n4 4 6\n0 0 0\n1 0 0\n0 1 0\n0 0 1\n3 0 1 2\n3 0 3 1\n3 0 2 3\n3 1 3 2\n";
 
 /// The files that the words of the tests name.
-const FILES: [(&str, &str); 16] = [
+const FILES: [(&str, &str); 17] = [
     ("tetrahedron", TETRAHEDRON),
     (
         "torus",
@@ -39,6 +39,7 @@ const FILES: [(&str, &str); 16] = [
     ("sides", "0 1 2\n0 2\n"),
     ("round", "0 1 2 0 2 4 0\n0 2 4 0 1 2 0\n"),
     ("across", "0 1 2 3\n0 3\n"),
+    ("thrice", "0 1 2 0 1 2 0 1 2 0 2 4 0\n0 1 2 3 4 5 6 0\n"),
     (
         "pairs",
         "WALKS 2\n0 ( 1 2 0 ) 3 2 4 0\n0 1 2 3 4 5 6 0\n0 1 2 3\n0 3\n",

@@ -85,10 +85,15 @@ const CASES: [Case; 24] = [
 ];
 
 /// What prints a certificate, and what judges it.
-const CERTIFICATES: [Case; 5] = [
+const CERTIFICATES: [Case; 6] = [
     (
         "certify torus round",
         "verify torus round printed",
+        Status::Yes,
+    ),
+    (
+        "certify torus thrice",
+        "verify torus thrice printed",
         Status::Yes,
     ),
     (

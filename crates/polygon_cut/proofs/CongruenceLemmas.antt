@@ -85,44 +85,42 @@ module _ {mesh : FaceList} {Same : List ℕ → List ℕ → Type 0} (congruence
 
 module _ {mesh : FaceList} {Same : List ℕ → List ℕ → Type 0} (congruence : IsWalkCongruence mesh Same) {root : ℕ} {up : ℕ → List ℕ}
     (ways : HasWays mesh root up) where
+  -- up to the root, the own loop of a way, and down again, is that way
+  own_loop : (u v : ℕ) (rest : List ℕ) → IsWay mesh u v rest
+      → Same (u ∷ rest) (u ∷ (up u ++ ((back u (up u) ++ (rest ++ up v)) ++ back v (up v))))
+  own_loop u v rest h =
+      let u_way : IsWay mesh u root (up u) = ways.way u (start_used mesh u v rest h) in
+      let v_way : IsWay mesh v root (up v) = ways.way v (end_used mesh u v rest h) in
+      let whole : List ℕ = up u ++ ((back u (up u) ++ (rest ++ up v)) ++ back v (up v)) in
+      let whole_way : IsWay mesh u v whole =
+      way_on mesh u root v (up u) ((back u (up u) ++ (rest ++ up v)) ++ back v (up v)) u_way
+      (way_on mesh root root v (back u (up u) ++ (rest ++ up v)) (back v (up v))
+      (way_on mesh root u root (back u (up u)) (rest ++ up v) (way_home mesh u root (up u) u_way) (way_on mesh u v root rest (up v) h v_way))
+      (way_home mesh v root (up v) v_way)) in
+      let shape : whole ≡ (up u ++ back u (up u)) ++ (rest ++ (up v ++ back v (up v))) = simp append_assoc in
+      let front : Same (u ∷ ((up u ++ back u (up u)) ++ (rest ++ (up v ++ back v (up v))))) (u ∷ (rest ++ (up v ++ back v (up v)))) =
+      before congruence u (up u ++ back u (up u)) [] (rest ++ (up v ++ back v (up v))) (there_and_home congruence u root (up u) u_way) in
+      let end : Same (u ∷ (rest ++ (up v ++ back v (up v)))) (u ∷ rest) =
+      subst (λ (l : List ℕ). Same (u ∷ (rest ++ (up v ++ back v (up v)))) (u ∷ l)) (append_none rest)
+      (behind congruence u v rest (up v ++ back v (up v)) [] h (there_and_home congruence v root (up v) v_way)) in
+      congruence.turn _ _ (way_walk mesh u v whole whole_way)
+      (subst (λ (l : List ℕ). Same (u ∷ l) (u ∷ rest)) (sym shape) (congruence.on _ _ _ front end))
+
+  -- a way whose loop is another is that loop, up to the root before it and down again behind it
+  pub by_own_loop : (u v : ℕ) (rest : List ℕ) (h : IsWay mesh u v rest) (loop : Loop mesh root)
+      → SameLoops Same (loop_of mesh root up ways u v rest h) loop → Same (u ∷ rest) (u ∷ (up u ++ (loop.rest ++ back v (up v))))
+  by_own_loop u v rest h loop same =
+      congruence.on _ _ _ (own_loop u v rest h)
+      (behind congruence u root (up u) _ _ (ways.way u (start_used mesh u v rest h))
+      (before congruence root (back u (up u) ++ (rest ++ up v)) loop.rest (back v (up v)) same))
+
   -- ways with the same loops are the same, and the other way round
   pub from_loops : (u v : ℕ) (rest others : List ℕ) (h : IsWay mesh u v rest) (k : IsWay mesh u v others)
       → SameLoops Same (loop_of mesh root up ways u v rest h) (loop_of mesh root up ways u v others k) → Same (u ∷ rest) (u ∷ others)
   from_loops u v rest others h k same =
-      congruence.on _ _ _ (congruence.turn _ _ (way_walk mesh u v (whole rest) (whole_way rest h)) (contracts rest h))
-      (congruence.on _ _ _ across (contracts others k))
-    where
-      u_way : IsWay mesh u root (up u)
-      u_way = ways.way u (start_used mesh u v rest h)
-
-      v_way : IsWay mesh v root (up v)
-      v_way = ways.way v (end_used mesh u v rest h)
-
-      -- up to the root, the loop, and down again
-      whole : List ℕ → List ℕ
-      whole x = up u ++ ((back u (up u) ++ (x ++ up v)) ++ back v (up v))
-
-      whole_way : (x : List ℕ) → IsWay mesh u v x → IsWay mesh u v (whole x)
-      whole_way x w =
-          way_on mesh u root v (up u) ((back u (up u) ++ (x ++ up v)) ++ back v (up v)) u_way
-          (way_on mesh root root v (back u (up u) ++ (x ++ up v)) (back v (up v))
-          (way_on mesh root u root (back u (up u)) (x ++ up v) (way_home mesh u root (up u) u_way) (way_on mesh u v root x (up v) w v_way))
-          (way_home mesh v root (up v) v_way))
-
-      across : Same (u ∷ whole rest) (u ∷ whole others)
-      across =
-          behind congruence u root (up u) _ _ u_way
-          (before congruence root (back u (up u) ++ (rest ++ up v)) (back u (up u) ++ (others ++ up v)) (back v (up v)) same)
-
-      contracts : (x : List ℕ) → IsWay mesh u v x → Same (u ∷ whole x) (u ∷ x)
-      contracts x w =
-          let shape : whole x ≡ (up u ++ back u (up u)) ++ (x ++ (up v ++ back v (up v))) = simp append_assoc in
-          let front : Same (u ∷ ((up u ++ back u (up u)) ++ (x ++ (up v ++ back v (up v))))) (u ∷ (x ++ (up v ++ back v (up v)))) =
-          before congruence u (up u ++ back u (up u)) [] (x ++ (up v ++ back v (up v))) (there_and_home congruence u root (up u) u_way) in
-          let end : Same (u ∷ (x ++ (up v ++ back v (up v)))) (u ∷ x) =
-          subst (λ (l : List ℕ). Same (u ∷ (x ++ (up v ++ back v (up v)))) (u ∷ l)) (append_none x)
-          (behind congruence u v x (up v ++ back v (up v)) [] w (there_and_home congruence v root (up v) v_way)) in
-          subst (λ (l : List ℕ). Same (u ∷ l) (u ∷ x)) (sym shape) (congruence.on _ _ _ front end)
+      let other : Loop mesh root = loop_of mesh root up ways u v others k in
+      congruence.on _ _ _ (by_own_loop u v rest h other same)
+      (congruence.turn _ _ (way_walk mesh u v others k) (own_loop u v others k))
 
   pub to_loops : (u v : ℕ) (rest others : List ℕ) (h : IsWay mesh u v rest) (k : IsWay mesh u v others) → Same (u ∷ rest) (u ∷ others)
       → SameLoops Same (loop_of mesh root up ways u v rest h) (loop_of mesh root up ways u v others k)

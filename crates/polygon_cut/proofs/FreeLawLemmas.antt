@@ -1,5 +1,5 @@
 -- The laws on walks and loops as lists, from those on the loops of a split.
-use Rattle.std.proofs.Common.{◌≡◌, inl, inr, ℕ, zero, suc, ◌+◌, ◌-◌, ◌<◌, Bool, true, false, not, List, [], ◌∷◌, ◌++◌, length, drop, refl, ap, sym, ◌∙◌, subst, arith, append_assoc}
+use Rattle.std.proofs.Common.{◌≡◌, inl, inr, ℕ, zero, suc, ◌+◌, ◌-◌, ◌<◌, Bool, true, false, not, List, [], ◌∷◌, ◌++◌, length, drop, refl, ap, sym, ◌∙◌, subst, arith}
 use Rattle.std.specs.Prelude.{All, slice_index}
 use Rattle.std.proofs.lemmas.Bool.{cases_lt}
 use Rattle.std.proofs.Math.ListN.{get_or-eq_default}
@@ -20,8 +20,8 @@ use Rattle.polygon_cut.specs.SpokeLoops.{AreWaysUp, way_round, way_back_round, b
 use Rattle.polygon_cut.proofs.RelatorLemmas.{spoke_product, ends_at_vertex, loop_in, free_push}
 use Rattle.polygon_cut.proofs.GroupWordLemmas.{Var, One, Mul, Inv, by_words}
 use Rattle.polygon_cut.proofs.FreeProductLemmas.{way_end, product_back}
-use Rattle.polygon_cut.proofs.WayLemmas.{IsWay, way_walk, start_used, end_used, way_on, way_home, append_none, back, HasWays, Loop, loop_mul, loop_inv, loop_of}
-use Rattle.polygon_cut.proofs.CongruenceLemmas.{before, behind, there_and_home}
+use Rattle.polygon_cut.proofs.WayLemmas.{IsWay, way_walk, start_used, end_used, way_home, append_none, back, HasWays, Loop, loop_mul, loop_inv, loop_of}
+use Rattle.polygon_cut.proofs.CongruenceLemmas as Congruence
 use Rattle.polygon_cut.proofs.FreeLoopLemmas.{SameFreely, free_equality}
 use Rattle.polygon_cut.proofs.FreeSpokeLemmas.{free_group}
 use Rattle.polygon_cut.proofs.FreeRoundLemmas.{step_value, steps_turn}
@@ -126,31 +126,7 @@ parity (i ∷ path) = turned_parity true path ∙ ap not (parity path)
 pub by_own_loop : (mesh : FaceList) (root : ℕ) (up : ℕ → List ℕ) (ways : HasWays mesh root up) (u v : ℕ) (rest : List ℕ)
     (h : IsWay mesh u v rest) (loop : Loop mesh root)
     → SameFreely (loop_of mesh root up ways u v rest h) loop → AreFreelyEqual mesh (u ∷ rest) (u ∷ (up u ++ (loop.rest ++ back v (up v))))
-by_own_loop mesh root up ways u v rest h loop same =
-    let u_way : IsWay mesh u root (up u) = ways.way u (start_used mesh u v rest h) in
-    let v_way : IsWay mesh v root (up v) = ways.way v (end_used mesh u v rest h) in
-    let own : List ℕ = back u (up u) ++ (rest ++ up v) in
-    let whole : List ℕ = up u ++ (own ++ back v (up v)) in
-    let shape : whole ≡ (up u ++ back u (up u)) ++ (rest ++ (up v ++ back v (up v))) = simp append_assoc in
-    let front : AreFreelyEqual mesh (u ∷ ((up u ++ back u (up u)) ++ (rest ++ (up v ++ back v (up v)))))
-    (u ∷ (rest ++ (up v ++ back v (up v)))) =
-    before (free_equality mesh) u (up u ++ back u (up u)) [] (rest ++ (up v ++ back v (up v)))
-    (there_and_home (free_equality mesh) u root (up u) u_way) in
-    let end : AreFreelyEqual mesh (u ∷ (rest ++ (up v ++ back v (up v)))) (u ∷ rest) =
-    subst (λ (l : List ℕ). AreFreelyEqual mesh (u ∷ (rest ++ (up v ++ back v (up v)))) (u ∷ l)) (append_none rest)
-    (behind (free_equality mesh) u v rest (up v ++ back v (up v)) [] h (there_and_home (free_equality mesh) v root (up v) v_way)) in
-    let contracts : AreFreelyEqual mesh (u ∷ whole) (u ∷ rest) =
-    subst (λ (l : List ℕ). AreFreelyEqual mesh (u ∷ l) (u ∷ rest)) (sym shape)
-    ((free_equality mesh).on (u ∷ ((up u ++ back u (up u)) ++ (rest ++ (up v ++ back v (up v))))) (u ∷ (rest ++ (up v ++ back v (up v))))
-    (u ∷ rest) front end) in
-    let whole_way : IsWay mesh u v whole =
-    way_on mesh u root v (up u) (own ++ back v (up v)) u_way
-    (way_on mesh root root v own (back v (up v)) (loop_of mesh root up ways u v rest h).is_way (way_home mesh v root (up v) v_way)) in
-    let across : AreFreelyEqual mesh (u ∷ whole) (u ∷ (up u ++ (loop.rest ++ back v (up v)))) =
-    behind (free_equality mesh) u root (up u) (own ++ back v (up v)) (loop.rest ++ back v (up v)) u_way
-    (before (free_equality mesh) root own loop.rest (back v (up v)) same) in
-    (free_equality mesh).on (u ∷ rest) (u ∷ whole) (u ∷ (up u ++ (loop.rest ++ back v (up v))))
-    ((free_equality mesh).turn (u ∷ whole) (u ∷ rest) (way_walk mesh u v whole whole_way) contracts) across
+by_own_loop mesh root up ways u v rest h loop same = Congruence.by_own_loop (free_equality mesh) ways u v rest h loop same
 
 -- the same in the words of the laws
 pub by_loop_is : (s : OrientedMesh) (split : SplitView) → IsOrientedSurface s → (t : IsSplit s split) → (ups : ℕ → List ℕ)

@@ -22,6 +22,7 @@ use Rattle.turn_words.proofs.Spokes.{turns, canonical}
 use Rattle.tree_cotree.specs.Splits.{SplitView, IsSplit}
 use Rattle.polygon_cut.specs.Polygons.{PolygonView, IsCutFrom, HasPlaces, label_of, place_of}
 use Rattle.polygon_cut.proofs.GroupLemmas.{IsGroup}
+use Rattle.polygon_cut.proofs.RelatorLemmas.{spoke_product}
 use Rattle.polygon_cut.proofs.LoopLemmas.{IsWay, way_walk, SameLoop, loop_mul, loop_inv, loop_one, loop_of, from_loops}
 use Rattle.polygon_cut.proofs.WalkLemmas.{walk_way, other_way}
 use Rattle.polygon_cut.proofs.TreeWayLemmas.{up, tree_ways}
@@ -32,7 +33,7 @@ use Rattle.quad_system.specs.PolygonLabellings.{labelling_from}
 use Rattle.labellings.proofs.FoldLemmas.{PutLaws}
 use Rattle.labellings.proofs.KeepingLemmas.{moves_keep}
 use Rattle.quad_system.proofs.PolygonLabelLemmas.{polygon_good}
-use Rattle.quad_system.proofs.ReadingLemmas.{HasQuads, within_from, read, reached_reads, along_spokes, spokes_read}
+use Rattle.quad_system.proofs.ReadingLemmas.{HasQuads, within_from, read, reached_reads, spokes_read}
 use Rattle.quad_system.proofs.SpokeProductLemmas.{DartSpokes, dart_spokes, polygon_quads, spoke_at, walk_product}
 
 both_below : (n a b c d : ℕ) → a < n → b < n → All (λ i. i < n) (spokes_by_labels a b c d)
@@ -72,19 +73,19 @@ one_product : {X : Type 0} (Same : X → X → Type 0) (mul : X → X → X) (in
     → All (λ i. i < length places) first → All (λ i. i < length places) second
     → IsCanonicalOf (length places) (turn_word_of places first) canonical
     → IsCanonicalOf (length places) (turn_word_of places second) canonical
-    → Same (along_spokes mul inv one element true first) (along_spokes mul inv one element true second)
+    → Same (spoke_product mul inv one element true first) (spoke_product mul inv one element true second)
 one_product Same mul inv one g element places spoke_at q own first second canonical f s to_first to_second =
     let d : ℕ = length places in
     let five : 5 ≤ d = own.five in
     let reading : List ℕ → _ = read mul inv one element d (λ i. get_or places i 0) spoke_at true 0 in
     let reads : (spokes : List ℕ) → All (λ i. i < d) spokes → IsCanonicalOf d (turn_word_of places spokes) canonical
-    → Same (along_spokes mul inv one element true spokes) (reading canonical) =
+    → Same (spoke_product mul inv one element true spokes) (reading canonical) =
     λ spokes h c.
     subst (λ x. Same x (reading canonical)) (spokes_read mul inv one element places spoke_at q.place_in q.spoke_of_place spokes h)
     (reached_reads Same mul inv one g element d (λ i. get_or places i 0) spoke_at q c.reached.0 (turn_word_of places spokes) canonical
     (within_from d (turn_word_of places spokes) (turns places spokes own h).in_range) c.reached.1 true 0 (omega arith)) in
-    g.on (along_spokes mul inv one element true first) (reading canonical) (along_spokes mul inv one element true second)
-    (reads first f to_first) (g.turn (along_spokes mul inv one element true second) (reading canonical) (reads second s to_second))
+    g.on (spoke_product mul inv one element true first) (reading canonical) (spoke_product mul inv one element true second)
+    (reads first f to_first) (g.turn (spoke_product mul inv one element true second) (reading canonical) (reads second s to_second))
 
 -- the places of a polygon with five spokes at least
 own_wheel : (maps : Rotations) (polygon : PolygonView) → HasPlaces maps polygon → 5 ≤ polygon.degree → IsHyperWheel polygon.places
@@ -137,8 +138,8 @@ equal_words s split polygon (u ∷ rest) (v ∷ others) canonical o t c five w z
         let second : List ℕ = quad_path s.mesh (labelling_from s polygon) (u ∷ others) in
         let x : Loops s split t = loop_of s.mesh t.parents.root (up s split t) (tree_ways s split o t) u v rest way in
         let y : Loops s split t = loop_of s.mesh t.parents.root (up s split t) (tree_ways s split o t) u v others along in
-        let a : Loops s split t = along_spokes loop_mul loop_inv one element true first in
-        let b : Loops s split t = along_spokes loop_mul loop_inv one element true second in
+        let a : Loops s split t = spoke_product loop_mul loop_inv one element true first in
+        let b : Loops s split t = spoke_product loop_mul loop_inv one element true second in
         let quads : HasQuads {X = Loops s split t} SameLoop loop_mul loop_inv element (length polygon.places) (place_of polygon)
         (spoke_at polygon) =
         subst (λ n. HasQuads {X = Loops s split t} SameLoop loop_mul loop_inv element n (place_of polygon) (spoke_at polygon)) number

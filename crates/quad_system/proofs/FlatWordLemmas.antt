@@ -19,6 +19,7 @@ use Rattle.flat_forms.proofs.Sums_of_pairs.{leads-to-sum}
 use Rattle.tree_cotree.specs.Splits.{SplitView, IsSplit}
 use Rattle.polygon_cut.specs.Polygons.{PolygonView, IsCutFrom, label_of, place_of}
 use Rattle.polygon_cut.proofs.GroupLemmas.{IsGroup, quotient}
+use Rattle.polygon_cut.proofs.RelatorLemmas.{spoke_product}
 use Rattle.polygon_cut.proofs.LawLemmas.{four_places}
 use Rattle.polygon_cut.proofs.LoopLemmas.{IsWay, SameLoop, loop_mul, loop_inv, loop_one, loop_of, from_loops}
 use Rattle.polygon_cut.proofs.WalkLemmas.{walk_way, other_way}
@@ -29,7 +30,7 @@ use Rattle.quad_system.specs.PolygonLabellings.{labelling_from}
 use Rattle.labellings.proofs.FoldLemmas.{PutLaws}
 use Rattle.labellings.proofs.KeepingLemmas.{moves_keep}
 use Rattle.quad_system.proofs.PolygonLabelLemmas.{polygon_good, up_is_add}
-use Rattle.quad_system.proofs.ReadingLemmas.{HasQuads, along_spokes}
+use Rattle.quad_system.proofs.ReadingLemmas.{HasQuads}
 use Rattle.quad_system.proofs.SpokeProductLemmas.{DartSpokes, dart_spokes, polygon_quads, spoke_at, walk_product}
 use Rattle.quad_system.proofs.EqualWordLemmas.{path_below}
 use Rattle.quad_system.proofs.PlaneGroupLemmas.{along_first, along_second, over_firsts, over_seconds, AreBelow, balance, undo, right_off, grid, Over, over_product, over_same}
@@ -148,12 +149,12 @@ module _ {X : Type 0} (Same : X → X → Type 0) (mul : X → X → X) (inv : X
 
   -- and a product of pairs
   pairs_over : (pairs : List (ℕ × ℕ)) → AreBelow 4 pairs
-      → Over Same mul inv one g a b swap (along_spokes mul inv one e true (spokes_of pairs)) (over_firsts along_first pairs)
+      → Over Same mul inv one g a b swap (spoke_product mul inv one e true (spokes_of pairs)) (over_firsts along_first pairs)
       (over_firsts along_second pairs)
       (over_seconds along_first pairs) (over_seconds along_second pairs)
   pairs_over [] h = g.one_left one
   pairs_over (pair ∷ pairs) h =
-      let rest : X = along_spokes mul inv one e true (spokes_of pairs) in
+      let rest : X = spoke_product mul inv one e true (spokes_of pairs) in
       let product =
       over_product Same mul inv one g a b swap (quotient mul inv (e pair.0) (e pair.1)) rest (along_first pair.0) (along_second pair.0)
       (along_first pair.1) (along_second pair.1)
@@ -162,11 +163,11 @@ module _ {X : Type 0} (Same : X → X → Type 0) (mul : X → X → X) (inv : X
       g.on _ _ _ (g.mul_same _ _ _ _ (g.itself _) (g.turn _ _ (g.associates (e pair.0) (inv (e pair.1)) rest))) product
 
   pub same_product : (pairs others : List (ℕ × ℕ)) → AreBelow 4 pairs → AreBelow 4 others → sum_of_pairs pairs ≡ sum_of_pairs others
-      → Same (along_spokes mul inv one e true (spokes_of pairs)) (along_spokes mul inv one e true (spokes_of others))
+      → Same (spoke_product mul inv one e true (spokes_of pairs)) (spoke_product mul inv one e true (spokes_of others))
   same_product pairs others h k same =
       let even = balance pairs others h k same in
-      over_same Same mul inv one g a b swap (along_spokes mul inv one e true (spokes_of pairs))
-      (along_spokes mul inv one e true (spokes_of others))
+      over_same Same mul inv one g a b swap (spoke_product mul inv one e true (spokes_of pairs))
+      (spoke_product mul inv one e true (spokes_of others))
       (over_firsts along_first pairs) (over_firsts along_second pairs) (over_seconds along_first pairs) (over_seconds along_second pairs)
       (over_firsts along_first others) (over_firsts along_second others) (over_seconds along_first others)
       (over_seconds along_second others)
@@ -241,7 +242,7 @@ one_point s split polygon o t c four u v rest others way along same =
     let q = path_pairs s split polygon o t c some u v others along in
     let x : Loops s split t = loop_of s.mesh t.parents.root (up s split t) (tree_ways s split o t) u v rest way in
     let y : Loops s split t = loop_of s.mesh t.parents.root (up s split t) (tree_ways s split o t) u v others along in
-    let product : List ℕ → Loops s split t = along_spokes loop_mul loop_inv nothing element true in
+    let product : List ℕ → Loops s split t = spoke_product loop_mul loop_inv nothing element true in
     let p_below : AreBelow 4 p.0 = pairs_below 4 p.0 (subst (All (λ i. i < 4)) p.1
     (subst (λ n. All (λ i. i < n) (quad_path s.mesh (labelling_from s polygon) (u ∷ rest))) four
     (path_below s split polygon o t c some u v rest way))) in

@@ -2,6 +2,7 @@ pub mod PolygonLabelLemmas
 pub mod FullLemmas
 pub mod PushPathLemmas
 pub mod SpokeProductLemmas
+pub mod WalkLoopLemmas
 pub mod PushWorthLemmas
 pub mod FreePathLemmas
 pub mod EqualWordLemmas

@@ -10,6 +10,7 @@ use Rattle.turn_words.specs.Spoke_paths.{place_round, turns_after, turn_word_of}
 use Rattle.turn_words.specs.declared.step.Step.{Step}
 use Rattle.turn_words.specs.declared.step.Step.TheVariants.{SpurIn, SpurOut, Push}
 use Rattle.polygon_cut.proofs.GroupLemmas.{IsGroup, quotient}
+use Rattle.polygon_cut.proofs.RelatorLemmas.{spoke_product}
 
 -- The spokes of a wheel as elements of a group: places are undone by `spoke_at`, and each number has a partner with which it
 -- makes a quad.
@@ -407,19 +408,13 @@ reached_reads Same mul inv one g element degree place spoke_at q (step ∷ steps
     (first.reads at_vertex m l) (reached_reads Same mul inv one g element degree place spoke_at q steps told.0 v first.within told.2
     at_vertex m l)
 
--- the product of a list of spokes, in turn put and taken away
-abbrev pub along_spokes : {X : Type 0} → (X → X → X) → (X → X) → X → (ℕ → X) → Bool → List ℕ → X
-along_spokes mul inv one element at_vertex [] = one
-along_spokes mul inv one element true (i ∷ spokes) = mul (element i) (along_spokes mul inv one element false spokes)
-along_spokes mul inv one element false (i ∷ spokes) = mul (inv (element i)) (along_spokes mul inv one element true spokes)
-
--- it is what its turn word reads to
+-- the product of a list of spokes is what its turn word reads to
 turns_read : {X : Type 0} (mul : X → X → X) (inv : X → X) (one : X) (element : ℕ → X) (places : List ℕ) (spoke_at : ℕ → ℕ)
     → ((i : ℕ) → i < length places → get_or places i 0 < length places) → ((i : ℕ) → i < length places → spoke_at (get_or places i 0) ≡ i)
     → (spokes : List ℕ) (at_vertex : Bool) (last : ℕ) → last < length places → All (λ i. i < length places) spokes
     → read mul inv one element (length places) (λ i. get_or places i 0) spoke_at at_vertex (place_round places at_vertex last)
     (turns_after places at_vertex last spokes)
-    ≡ along_spokes mul inv one element at_vertex spokes
+    ≡ spoke_product mul inv one element at_vertex spokes
 turns_read mul inv one element places spoke_at place_in back [] at_vertex last l h = refl
 turns_read mul inv one element places spoke_at place_in back (i ∷ spokes) true last l h =
     let d : ℕ = length places in
@@ -449,7 +444,7 @@ turns_read mul inv one element places spoke_at place_in back (i ∷ spokes) fals
 pub spokes_read : {X : Type 0} (mul : X → X → X) (inv : X → X) (one : X) (element : ℕ → X) (places : List ℕ) (spoke_at : ℕ → ℕ)
     → ((i : ℕ) → i < length places → get_or places i 0 < length places) → ((i : ℕ) → i < length places → spoke_at (get_or places i 0) ≡ i)
     → (spokes : List ℕ) → All (λ i. i < length places) spokes
-    → read mul inv one element (length places) (λ i. get_or places i 0) spoke_at true 0 (turn_word_of places spokes) ≡ along_spokes mul
+    → read mul inv one element (length places) (λ i. get_or places i 0) spoke_at true 0 (turn_word_of places spokes) ≡ spoke_product mul
     inv one element true spokes
 spokes_read mul inv one element places spoke_at place_in back [] h = refl
 spokes_read mul inv one element places spoke_at place_in back (i ∷ spokes) h =

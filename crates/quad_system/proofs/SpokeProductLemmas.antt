@@ -21,6 +21,7 @@ use Rattle.tree_cotree.specs.Splits.{SplitView, IsSplit, in_cotree, is_left}
 use Rattle.tree_cotree.proofs.ClassLemmas.{found_below, passes_below}
 use Rattle.polygon_cut.specs.Polygons.{PolygonView, IsCutFrom, side_at, label_of, place_of, across, one_up}
 use Rattle.polygon_cut.proofs.GroupLemmas.{IsGroup, quotient, inverse_of_quotient, inverse_twice}
+use Rattle.polygon_cut.proofs.RelatorLemmas.{spoke_product}
 use Rattle.polygon_cut.proofs.LoopLemmas.{back, leads_to, IsWay, HasWays, SameLoop, loop_mul, loop_inv, loop_one, loop_of, no_dart, first_dart, start_used}
 use Rattle.polygon_cut.proofs.PlaceLemmas.{Crosses, sides_cross}
 use Rattle.polygon_cut.proofs.PolygonLemmas.{is_own_side}
@@ -32,7 +33,7 @@ use Rattle.labellings.specs.QuadPaths.{spokes, spokes_by_labels, quad_path}
 use Rattle.quad_system.specs.PolygonLabellings.{labelling_from}
 use Rattle.labellings.proofs.SideLemmas.{SpokesOfSide, spokes_of_side}
 use Rattle.quad_system.proofs.PolygonLabelLemmas.{polygon_good, up_is_add, down_is_add, degree_is, LabelsOfSide, labels_of_side, flips_are}
-use Rattle.quad_system.proofs.ReadingLemmas.{HasQuads, along_spokes}
+use Rattle.quad_system.proofs.ReadingLemmas.{HasQuads}
 
 -- from one side of a quad round the middle follows the other, round the vertex
 around : {X : Type 0} (Same : X → X → Type 0) (mul : X → X → X) (inv : X → X) (one : X) → IsGroup Same mul inv one → (p q r t : X)
@@ -222,19 +223,19 @@ polygon_quads s split o t polygon c some = record {
 -- two spokes by the labels of an edge are what the two labels are, and nothing where they are one
 labels_product : {X : Type 0} (Same : X → X → Type 0) (mul : X → X → X) (inv : X → X) (one : X) → IsGroup Same mul inv one
     → (element : ℕ → X) (a b c d : ℕ) (more : List ℕ)
-    → Same (along_spokes mul inv one element true (spokes_by_labels a b c d ++ more))
-    (mul (quotient mul inv (element a) (element b)) (along_spokes mul inv one element true more))
+    → Same (spoke_product mul inv one element true (spokes_by_labels a b c d ++ more))
+    (mul (quotient mul inv (element a) (element b)) (spoke_product mul inv one element true more))
 labels_product Same mul inv one g element a b c d more = elim (cases_Bool (eqb a b && eqb c d)) [
   | inl tree ↦
       let same : a ≡ b = eqb-true a b (and_parts (eqb a b) (eqb c d) tree).0 in
-      let rest = along_spokes mul inv one element true more in
+      let rest = spoke_product mul inv one element true more in
       let nothing : Same (mul (quotient mul inv (element a) (element a)) rest) rest =
       g.on (mul (quotient mul inv (element a) (element a)) rest) (mul one rest) rest
       (g.mul_same (quotient mul inv (element a) (element a)) one rest rest (g.cancels (element a)) (g.itself rest)) (g.one_left rest) in
       rw tree (subst (λ x. Same rest (mul (quotient mul inv (element a) (element x)) rest)) same
       (g.turn (mul (quotient mul inv (element a) (element a)) rest) rest nothing))
   | inr other ↦
-      let rest = along_spokes mul inv one element true more in
+      let rest = spoke_product mul inv one element true more in
       rw other (g.turn (mul (mul (element a) (inv (element b))) rest) (mul (element a) (mul (inv (element b)) rest))
       (g.associates (element a) (inv (element b)) rest))
 ]
@@ -285,7 +286,7 @@ pub walk_product : (s : OrientedMesh) (split : SplitView) (o : IsOrientedSurface
     → IsCutFrom s split polygon → 0 < polygon.degree
     → (u v : ℕ) (rest : List ℕ) (way : IsWay s.mesh u v rest)
     → SameLoop (loop_of s.mesh t.parents.root (up s split t) (tree_ways s split o t) u v rest way)
-    (along_spokes loop_mul loop_inv (loop_one s.mesh t.parents.root t.parents.root_used) (spoke s split o t polygon) true
+    (spoke_product loop_mul loop_inv (loop_one s.mesh t.parents.root t.parents.root_used) (spoke s split o t polygon) true
     (quad_path s.mesh (labelling_from s polygon) (u ∷ rest)))
 walk_product s split o t polygon cut some u v [] way = no_dart s.mesh t.parents.root (up s split t) (tree_ways s split o t) u v way
 walk_product s split o t polygon cut some u v (w ∷ rest) way =
@@ -309,8 +310,8 @@ walk_product s split o t polygon cut some u v (w ∷ rest) way =
     let whole : Loops s split t = loop_of s.mesh t.parents.root (up s split t) ways u v (w ∷ rest) way in
     let element : ℕ → Loops s split t = spoke s split o t polygon in
     let q : Loops s split t = quotient loop_mul loop_inv (element (label_of polygon d)) (element (label_of polygon (next_of s d))) in
-    let z : Loops s split t = along_spokes loop_mul loop_inv nothing element true more in
-    let long : Loops s split t = along_spokes loop_mul loop_inv nothing element true
+    let z : Loops s split t = spoke_product loop_mul loop_inv nothing element true more in
+    let long : Loops s split t = spoke_product loop_mul loop_inv nothing element true
     (spokes_by_labels (label_of polygon d) (label_of polygon (next_of s d)) labels.c labels.e ++ more) in
     let val : Loops s split t = value s split o t d in
     let raw_loop : Loops s split t = loop_of s.mesh t.parents.root (up s split t) ways (origin_of s d) (origin_of s (twin_of s d))
@@ -322,7 +323,7 @@ walk_product s split o t polygon cut some u v (w ∷ rest) way =
     let first : SameLoop whole (loop_mul x y) = first_dart s.mesh t.parents.root (up s split t) ways u w v rest way one_way way.1 in
     let last : SameLoop long (loop_mul q z) = labels_product SameLoop loop_mul loop_inv nothing g element (label_of polygon d)
     (label_of polygon (next_of s d)) labels.c labels.e more in
-    subst (λ p. SameLoop whole (along_spokes loop_mul loop_inv nothing element true p)) (sym path)
+    subst (λ p. SameLoop whole (spoke_product loop_mul loop_inv nothing element true p)) (sym path)
     (g.on whole (loop_mul x y) long first (g.on (loop_mul x y) (loop_mul q z) long (g.mul_same x q y z dart rest_is)
     (g.turn long (loop_mul q z) last)))
   where

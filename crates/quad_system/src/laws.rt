@@ -1,6 +1,6 @@
 //! What holds of the labelling of a cut, said of the definitions. A call of one of these functions does nothing; its
 //! contract is the law.
-ghost use Rattle.std.specs.Prelude.{◌≡◌, ◌↔◌, ℕ, ◌<◌, ◌≤◌, List, All, length};
+ghost use Rattle.std.specs.Prelude.{◌≡◌, ◌↔◌, ℕ, ◌-◌, ◌<◌, ◌≤◌, true, List, All, length, slice_index};
 ghost use Rattle.surf_model.specs.Walks.{IsWalk, HaveCommonEnds};
 ghost use Rattle.surf_model.specs.Moves.{Homotopic};
 ghost use Rattle.turn_words.specs.Form_laws.{led};
@@ -14,7 +14,7 @@ ghost use Rattle.quad_system.specs.PolygonLabellings.{labelling_from, all_zero, 
 ghost use Rattle.halfedge_map.specs.OrientedMeshes.{OrientedMesh, IsOrientedSurface};
 ghost use Rattle.tree_cotree.specs.Splits.{SplitView, IsSplit};
 ghost use Rattle.polygon_cut.specs.Polygons.{PolygonView, IsCutFrom};
-ghost use Rattle.polygon_cut.specs.SpokeLoops.{HaveFreeSpokes, spokes_along};
+ghost use Rattle.polygon_cut.specs.SpokeLoops.{AreWaysUp, HaveFreeSpokes, by_loop, path_loop, spokes_along};
 
 pub use labellings::laws::{
     homotopic_walks_have_one_word, moves_keep_the_state,
@@ -53,6 +53,16 @@ pub fn free_spokes_lead_where_the_quad_path_does<F: Form>()
         → IsWalk surface.mesh walk → F.Belongs polygon.places state → F.IsAtVertex state
         → led F.next polygon.places state (spokes_along spokes walk)
         ≡ led F.next polygon.places state (quad_path surface.mesh (labelling_from surface polygon) walk) }
+{}
+
+/// A walk is homotopic to the loop of the spokes of its quad path, with the way up the tree before it and the way down behind it.
+pub fn walks_are_the_loops_of_their_quad_paths()
+    ensures { (surface : OrientedMesh) (split : SplitView) (polygon : PolygonView) (root : ℕ) (up : ℕ → List ℕ) (walk : List ℕ)
+        → IsOrientedSurface surface → IsSplit surface split → IsCutFrom surface split polygon → 0 < polygon.degree
+        → AreWaysUp surface split root up → IsWalk surface.mesh walk
+        → Homotopic surface.mesh walk
+        (by_loop up (slice_index walk 0) (slice_index walk (length walk - 1))
+        (path_loop surface polygon root up true (quad_path surface.mesh (labelling_from surface polygon) walk))) }
 {}
 
 /// What canonical words decide. On a cut with five sides at least, two walks with common ends are homotopic exactly where
