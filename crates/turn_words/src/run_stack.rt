@@ -84,7 +84,8 @@ impl RunStack {
         ensures counted { steps.new ≡ steps.old + 1 }
     {
         steps.tick();
-        self.pairs.push((value, count))?;
+        self.pairs.reserve(1)?;
+        self.pairs.push_reserved((value, count));
         Ok(())
     }
 
