@@ -18,7 +18,7 @@ use Rattle.halfedge_map.specs.DartMaps.{darts_of, face_of, edge_of, origin_of, t
 use Rattle.halfedge_map.specs.RotationSystems.{rotations_of}
 use Rattle.halfedge_map.proofs.SystemLemmas.{names_all}
 use Rattle.halfedge_map.proofs.EdgeLemmas.{edge_has_ends}
-use Rattle.tree_cotree.specs.Splits.{SplitView, IsStepUp, child_face}
+use Rattle.tree_cotree.specs.Splits.{SplitView, IsStepUp, below_edge}
 use Rattle.homology.specs.Sums.{share}
 use Rattle.homology.specs.Tallies.{number_at, turned, GrewBy, AreWithin}
 use Rattle.homology.specs.declared.certificate.TheConstants.{MOST_NUMBER}
@@ -51,7 +51,7 @@ module _ (s : OrientedMesh) (split : SplitView) (o : IsOrientedSurface s) where
   }
 
   -- an edge with no face below it
-  pub ups_pass : (e : ℕ) (ups : List (Option DartName)) → AreUps s split e ups → child_face (rotations_of s) split e ≡ None
+  pub ups_pass : (e : ℕ) (ups : List (Option DartName)) → AreUps s split e ups → below_edge split e ≡ None
       → AreUps s split (e + 1) ups
   ups_pass e ups h none = record {
     each_face = h.each_face;
@@ -60,14 +60,14 @@ module _ (s : OrientedMesh) (split : SplitView) (o : IsOrientedSurface s) where
       | inl less ↦ h.done k f less below
       | inr last ↦
           let same : k ≡ e = omega arith in
-          let clash : None ≡ Some f = sym none ∙ ap (child_face (rotations_of s) split) (sym same) ∙ below in
+          let clash : None ≡ Some f = sym none ∙ ap (below_edge split) (sym same) ∙ below in
           cc
     ];
   }
 
   -- an edge with a face below it
   pub ups_more : (e f : ℕ) (dart : DartName) (ups : List (Option DartName)) → AreUps s split e ups
-      → child_face (rotations_of s) split e ≡ Some f → dart.0 < darts_of s → edge_of s dart.0 ≡ e → face_of s dart.0 ≡ f
+      → below_edge split e ≡ Some f → dart.0 < darts_of s → edge_of s dart.0 ≡ e → face_of s dart.0 ≡ f
       → AreUps s split (e + 1) (set ups f (Some dart))
   ups_more e f dart ups h below within edge face =
       let room : f < length ups =
@@ -82,7 +82,7 @@ module _ (s : OrientedMesh) (split : SplitView) (o : IsOrientedSurface s) where
               let darts : dart ≡ other = cc in
               subst (λ (x : DartName). IsStepUp (rotations_of s) split g (face_across s x.0) x.0) darts (record {
                 within = within;
-                below = ap (child_face (rotations_of s) split) edge ∙ below ∙ ap Some (sym new.0);
+                below = ap (below_edge split) edge ∙ below ∙ ap Some (sym new.0);
                 inside = face ∙ sym new.0;
                 leads = refl;
               })
@@ -93,7 +93,7 @@ module _ (s : OrientedMesh) (split : SplitView) (o : IsOrientedSurface s) where
             | inl less ↦ h.done k g less is
             | inr last ↦
                 let same : k ≡ e = omega arith in
-                let faces : Some g ≡ Some f = sym is ∙ ap (child_face (rotations_of s) split) same ∙ below in
+                let faces : Some g ≡ Some f = sym is ∙ ap (below_edge split) same ∙ below in
                 let one : g ≡ f = cc in
                 absurd (old.0 one)
           ]

@@ -9,7 +9,7 @@ use Rattle.halfedge_map.specs.DartMaps.{face_of, edge_of, twin_of}
 use Rattle.halfedge_map.specs.RotationSystems.{Rotations, rotations_of, IsRotationSystem}
 use Rattle.halfedge_map.proofs.OrbitLemmas.{AreAlike, two_alike}
 use Rattle.halfedge_map.proofs.SystemLemmas.{rotation_system, names_all}
-use Rattle.tree_cotree.specs.Splits.{SplitView, IsSplit, IsStepUp, StepsUp, child_face}
+use Rattle.tree_cotree.specs.Splits.{SplitView, IsSplit, IsStepUp, StepsUp}
 use Rattle.homology_deciding.specs.FaceTrees.{up_of, face_across, HasDartIn, IsTreeOfFaces, AreUps}
 
 -- of two darts of an edge, of which one lies in a face, the other one does if the first does not

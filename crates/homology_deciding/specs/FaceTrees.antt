@@ -4,7 +4,7 @@ use Rattle.surf_model.specs.declared.names.DartName.{DartName}
 use Rattle.halfedge_map.specs.OrientedMeshes.{OrientedMesh, IsOrientedSurface}
 use Rattle.halfedge_map.specs.DartMaps.{darts_of, face_of, edge_of, origin_of, twin_of}
 use Rattle.halfedge_map.specs.RotationSystems.{rotations_of}
-use Rattle.tree_cotree.specs.Splits.{SplitView, IsStepUp, child_face}
+use Rattle.tree_cotree.specs.Splits.{SplitView, IsStepUp, below_edge}
 use Rattle.homology.specs.Sums.{share}
 use Rattle.homology_deciding.specs.declared.face_tree.FaceTree.{FaceTree}
 
@@ -57,4 +57,4 @@ pub record AreUps (surface : OrientedMesh) (split : SplitView) (n : ℕ) (ups : 
   pub each_face : length ups ≡ length surface.mesh.faces
   pub steps : (f : ℕ) (dart : DartName) → up_of ups f ≡ Some dart
       → IsStepUp (rotations_of surface) split f (face_across surface dart.0) dart.0
-  pub done : (e f : ℕ) → e < n → child_face (rotations_of surface) split e ≡ Some f → is_some (up_of ups f) ≡ true
+  pub done : (e f : ℕ) → e < n → below_edge split e ≡ Some f → is_some (up_of ups f) ≡ true

@@ -16,7 +16,7 @@ use Rattle.halfedge_map.proofs.CornerLemmas.{corner_within, corner_back}
 use Rattle.halfedge_map.proofs.DartLemmas.{face_at_number, vertex_at}
 use Rattle.halfedge_map.proofs.TwinLemmas.{origin-twin}
 use Rattle.halfedge_map.proofs.SystemLemmas.{rotation_system, names_all}
-use Rattle.tree_cotree.specs.Splits.{SplitView, IsSplit, child_face, in_cotree}
+use Rattle.tree_cotree.specs.Splits.{SplitView, IsSplit, below_edge, in_cotree}
 use Rattle.move_lifting.specs.Crossings.{beyond, GoesAlong, IsOneIn, IsFaceBelow}
 use Rattle.move_lifting.specs.declared.crossing.FaceStep.{FaceStep}
 use Rattle.move_lifting.proofs.RestLemmas.{side_ends}
@@ -30,7 +30,7 @@ before-suc ring rising t (suc k) = ap (λ (l : List ℕ). get_or ring t 0 ∷ l)
 
 -- the one of the two darts lies in the face below their edge
 chosen_in : (s : OrientedMesh) (split : SplitView) → IsOrientedSurface s → IsSplit s split → (d face x : ℕ) → d < darts_of s
-    → child_face (rotations_of s) split (edge_of s d) ≡ Some face → IsOneIn s d face x → face_of s x ≡ face
+    → below_edge split (edge_of s d) ≡ Some face → IsOneIn s d face x → face_of s x ≡ face
 chosen_in s split o t d face x l is one = elim one.either [
   | inl own ↦ ap (face_of s) own.1 ∙ own.0
   | inr other ↦
@@ -75,7 +75,7 @@ record IsPlaced (s : OrientedMesh) (u v f : ℕ) (step : FaceStep) : Type 0 wher
 
 pub below_step : (s : OrientedMesh) (split : SplitView) → IsOrientedSurface s → IsSplit s split
     → (u v d face x : ℕ) (side : Side) (step : FaceStep)
-    → IsDartFrom (rotations_of s) u v d → child_face (rotations_of s) split (edge_of s d) ≡ Some face → IsOneIn s d face x
+    → IsDartFrom (rotations_of s) u v d → below_edge split (edge_of s d) ≡ Some face → IsOneIn s d face x
     → IsSide s.mesh side
     → side_number s.mesh side ≡ x → GoesAlong s.mesh side u step → IsFaceBelow s split u v step
 below_step s split o t u v d face x side step from is one in_mesh number along =
@@ -88,7 +88,7 @@ below_step s split o t u v d face x side step from is one in_mesh number along =
     let ends : ((a ≡ u) × (b ≡ v)) ⊎ ((a ≡ v) × (b ≡ u)) =
     either_end a b u v (origin_of s x) (target_of s x) (ends_of_chosen s o u v d face x from one) (side_ends s f side.at x n).ends in
     let step_face : f ≡ step.face.0 = ap (λ y. y.0) (sym along.face) in
-    let below : child_face (rotations_of s) split (edge_of s d) ≡ Some step.face.0 = is ∙ ap Some (face_is ∙ step_face) in
+    let below : below_edge split (edge_of s d) ≡ Some step.face.0 = is ∙ ap Some (face_is ∙ step_face) in
     let placed : IsPlaced s u v f step = elim along.way [
       | inl on ↦
           let end : b ≡ v = elim ends [ inl straight ↦ straight.1 | inr crossed ↦ crossed.1 ∙ sym on.0 ∙ crossed.0 ] in
@@ -121,7 +121,7 @@ below_step s split o t u v d face x side step from is one in_mesh number along =
 -- where no face lies below the edge, no dart from u to v is on the cotree
 pub not_below : (s : OrientedMesh) (split : SplitView) → IsOrientedSurface s → IsSplit s split → (u v d x : ℕ)
     → IsDartFrom (rotations_of s) u v d
-    → child_face (rotations_of s) split (edge_of s d) ≡ None → IsDartFrom (rotations_of s) u v x → in_cotree split (edge_of s x) ≡ false
+    → below_edge split (edge_of s d) ≡ None → IsDartFrom (rotations_of s) u v x → in_cotree split (edge_of s x) ≡ false
 not_below s split o t u v d x from none other =
     let same : d ≡ x = (rotation_system s o).one_dart d x from.within other.within (from.starts ∙ sym other.starts)
     (from.ends ∙ sym other.ends) in

@@ -8,7 +8,7 @@ use Rattle.halfedge_map.specs.OrientedMeshes.{OrientedMesh, IsOrientedSurface}
 use Rattle.halfedge_map.specs.DartMaps.{darts_of}
 use Rattle.halfedge_map.specs.RotationSystems.{Rotations, rotations_of, IsRotationSystem}
 use Rattle.halfedge_map.proofs.SystemLemmas.{rotation_system, names_all}
-use Rattle.tree_cotree.specs.Splits.{SplitView, IsSplit, child_face, StepsUp}
+use Rattle.tree_cotree.specs.Splits.{SplitView, IsSplit, below_edge, StepsUp}
 use Rattle.move_lifting.proofs.CountLemmas.{sum_below, sum_same, disjoint_counts, disjoint_counts_less, count_most, count_some, count_one}
 use Rattle.move_lifting.proofs.FaceTreeLemmas.{below, below_itself, below_higher, below_once, not_above, not_itself}
 
@@ -23,24 +23,24 @@ weight_at s split t None = 1
 weight_at s split t (Some c) = count_below (λ z. below s split t c ((rotations_of s).face z)) (darts_of s)
 
 pub weight : (s : OrientedMesh) (split : SplitView) → IsSplit s split → ℕ → ℕ
-weight s split t e = weight_at s split t (child_face (rotations_of s) split e)
+weight s split t e = weight_at s split t (below_edge split e)
 
 weight_is : (s : OrientedMesh) (split : SplitView) (t : IsSplit s split) (d : ℕ) → d < darts_of s
     → weight s split t ((rotations_of s).edge d) ≡ count_below
-    (hangs_at s split t (child_face (rotations_of s) split ((rotations_of s).edge d)) d) (darts_of s)
+    (hangs_at s split t (below_edge split ((rotations_of s).edge d)) d) (darts_of s)
 unfolding weight weight_at hangs_at
-weight_is s split t d l = by (child_face (rotations_of s) split ((rotations_of s).edge d))
+weight_is s split t d l = by (below_edge split ((rotations_of s).edge d))
   where
     by : (o : Option ℕ) → weight_at s split t o ≡ count_below (hangs_at s split t o d) (darts_of s)
     by None = sym (count_one (darts_of s) d l)
     by (Some c) = refl
 
-pub weight_none : (s : OrientedMesh) (split : SplitView) (t : IsSplit s split) (e : ℕ) → child_face (rotations_of s) split e ≡ None
+pub weight_none : (s : OrientedMesh) (split : SplitView) (t : IsSplit s split) (e : ℕ) → below_edge split e ≡ None
     → weight s split t e ≡ 1
 unfolding weight weight_at
 weight_none s split t e is = ap (weight_at s split t) is
 
-weight_some : (s : OrientedMesh) (split : SplitView) (t : IsSplit s split) (e c : ℕ) → child_face (rotations_of s) split e ≡ Some c
+weight_some : (s : OrientedMesh) (split : SplitView) (t : IsSplit s split) (e c : ℕ) → below_edge split e ≡ Some c
     → weight s split t e ≡ count_below (λ z. below s split t c ((rotations_of s).face z)) (darts_of s)
 unfolding weight weight_at
 weight_some s split t e c is = ap (weight_at s split t) is
@@ -50,7 +50,7 @@ cases_child None = inl refl
 cases_child (Some c) = inr (c, refl)
 
 pub weight_positive : (s : OrientedMesh) (split : SplitView) (t : IsSplit s split) (e : ℕ) → 0 < weight s split t e
-weight_positive s split t e = elim (cases_child (child_face (rotations_of s) split e)) [
+weight_positive s split t e = elim (cases_child (below_edge split e)) [
   | inl none ↦ (let one : weight s split t e ≡ 1 = weight_none s split t e none in omega arith)
   | inr some ↦
       let c : ℕ = some.0 in
@@ -62,7 +62,7 @@ weight_positive s split t e = elim (cases_child (child_face (rotations_of s) spl
 ]
 
 pub weight_most : (s : OrientedMesh) (split : SplitView) (t : IsSplit s split) (e : ℕ) → 0 < darts_of s → weight s split t e ≤ darts_of s
-weight_most s split t e l = elim (cases_child (child_face (rotations_of s) split e)) [
+weight_most s split t e l = elim (cases_child (below_edge split e)) [
   | inl none ↦ (let one : weight s split t e ≡ 1 = weight_none s split t e none in omega arith)
   | inr some ↦ omega (
     arith,
@@ -75,7 +75,7 @@ weight_most s split t e l = elim (cases_child (child_face (rotations_of s) split
 -- the face below the edge of a dart of f, which is not the face f itself, steps up to f
 steps_up : (s : OrientedMesh) (split : SplitView) → IsOrientedSurface s → IsSplit s split → (x c f : ℕ) → x < darts_of s
     → (rotations_of s).face x ≡ f
-    → child_face (rotations_of s) split ((rotations_of s).edge x) ≡ Some c → c ≢ f → StepsUp (rotations_of s) split c f
+    → below_edge split ((rotations_of s).edge x) ≡ Some c → c ≢ f → StepsUp (rotations_of s) split c f
 steps_up s split o t x c f l in_f is other =
     let maps : Rotations = rotations_of s in
     let r : IsRotationSystem maps = rotation_system s o in
@@ -85,12 +85,12 @@ steps_up s split o t x c f l in_f is other =
       | inr turned ↦
           let back : maps.face (maps.twin dart.0) ≡ f = ap (λ (d : ℕ). maps.face (maps.twin d)) turned ∙ ap maps.face (r.twin_back x l)
           ∙ in_f in
-          (dart.0, record { within = dart.1; below = ap (child_face (rotations_of s) split) dart.2 ∙ is; inside = dart.3; leads = back })
+          (dart.0, record { within = dart.1; below = ap (below_edge split) dart.2 ∙ is; inside = dart.3; leads = back })
     ]
 
 -- two darts of a face on one edge with the face f below it are one dart
 one_below : (s : OrientedMesh) (split : SplitView) → IsOrientedSurface s → IsSplit s split → (x h f : ℕ) → x < darts_of s → h < darts_of s
-    → (rotations_of s).face x ≡ f → (rotations_of s).face h ≡ f → child_face (rotations_of s) split ((rotations_of s).edge h) ≡ Some f
+    → (rotations_of s).face x ≡ f → (rotations_of s).face h ≡ f → below_edge split ((rotations_of s).edge h) ≡ Some f
     → (rotations_of s).edge x ≡ (rotations_of s).edge h → x ≡ h
 one_below s split o t x h f l k in_f h_in is same =
     let maps : Rotations = rotations_of s in
@@ -112,26 +112,26 @@ pub record AreInFace (s : OrientedMesh) (f k : ℕ) (x : ℕ → ℕ) : Type 0 w
 -- where the faces below their edges step up to the face, nothing hangs below two of them
 hang_apart : (s : OrientedMesh) (split : SplitView) → IsOrientedSurface s → (t : IsSplit s split) → (f k : ℕ) (x : ℕ → ℕ)
     → AreInFace s f k x
-    → ((j c : ℕ) → j < k → child_face (rotations_of s) split ((rotations_of s).edge (x j)) ≡ Some c → StepsUp (rotations_of s) split c f)
+    → ((j c : ℕ) → j < k → below_edge split ((rotations_of s).edge (x j)) ≡ Some c → StepsUp (rotations_of s) split c f)
     → (i j z : ℕ) → i < j → j < k → z < darts_of s
-    → hangs_at s split t (child_face (rotations_of s) split ((rotations_of s).edge (x i))) (x i) z ≡ true
-    → hangs_at s split t (child_face (rotations_of s) split ((rotations_of s).edge (x j))) (x j) z ≡ true → ⊥
+    → hangs_at s split t (below_edge split ((rotations_of s).edge (x i))) (x i) z ≡ true
+    → hangs_at s split t (below_edge split ((rotations_of s).edge (x j))) (x j) z ≡ true → ⊥
 unfolding hangs_at
-hang_apart s split o t f k x are up i j z i_j m z_in = by (child_face (rotations_of s) split ((rotations_of s).edge (x i)))
-    (child_face (rotations_of s) split ((rotations_of s).edge (x j))) refl refl
+hang_apart s split o t f k x are up i j z i_j m z_in = by (below_edge split ((rotations_of s).edge (x i)))
+    (below_edge split ((rotations_of s).edge (x j))) refl refl
   where
     m_i : i < k
     m_i = omega arith
 
     -- a dart of the face f hangs below no face under f
-    not_lower : (i j c z : ℕ) → i < k → j < k → child_face (rotations_of s) split ((rotations_of s).edge (x j)) ≡ Some c → z ≡ x i
+    not_lower : (i j c z : ℕ) → i < k → j < k → below_edge split ((rotations_of s).edge (x j)) ≡ Some c → z ≡ x i
         → below s split t c ((rotations_of s).face z) ≡ true → ⊥
     not_lower i j c z m_i m_j below_x same hit =
         not_above s split o t c f (up j c m_j below_x)
         (ap (below s split t c) (sym (ap (rotations_of s).face same ∙ are.inside i m_i)) ∙ hit)
 
-    by : (c d : Option ℕ) → child_face (rotations_of s) split ((rotations_of s).edge (x i)) ≡ c
-        → child_face (rotations_of s) split ((rotations_of s).edge (x j)) ≡ d
+    by : (c d : Option ℕ) → below_edge split ((rotations_of s).edge (x i)) ≡ c
+        → below_edge split ((rotations_of s).edge (x j)) ≡ d
         → hangs_at s split t c (x i) z ≡ true → hangs_at s split t d (x j) z ≡ true → ⊥
     by None None _ _ a b = are.apart i j i_j m (sym (eqb-true z (x i) a) ∙ eqb-true z (x j) b)
     by None (Some d) _ below_j a b = not_lower i j d z m_i m below_j (eqb-true z (x i) a) b
@@ -157,10 +157,10 @@ hang_apart s split o t f k x are up i j z i_j m z_in = by (child_face (rotations
 counted : (s : OrientedMesh) (split : SplitView) (t : IsSplit s split) (k : ℕ) (x : ℕ → ℕ) → ((j : ℕ) → j < k → x j < darts_of s)
     → sum_below (λ j. weight s split t ((rotations_of s).edge (x j))) k
     ≡ sum_below
-    (λ j. count_below (hangs_at s split t (child_face (rotations_of s) split ((rotations_of s).edge (x j))) (x j)) (darts_of s)) k
+    (λ j. count_below (hangs_at s split t (below_edge split ((rotations_of s).edge (x j))) (x j)) (darts_of s)) k
 counted s split t k x within =
     sum_same (λ j. weight s split t ((rotations_of s).edge (x j)))
-    (λ j. count_below (hangs_at s split t (child_face (rotations_of s) split ((rotations_of s).edge (x j))) (x j)) (darts_of s)) k
+    (λ j. count_below (hangs_at s split t (below_edge split ((rotations_of s).edge (x j))) (x j)) (darts_of s)) k
     (λ j m. weight_is s split t (x j) (within j m))
 
 -- darts of the root face weigh no more together than there are darts
@@ -169,8 +169,8 @@ pub root_weights : (s : OrientedMesh) (split : SplitView) → IsOrientedSurface 
 root_weights s split o t f k x root are =
     let n : ℕ = darts_of s in
     let maps : Rotations = rotations_of s in
-    let p : ℕ → ℕ → Bool = λ j. hangs_at s split t (child_face (rotations_of s) split (maps.edge (x j))) (x j) in
-    let up : (j c : ℕ) → j < k → child_face (rotations_of s) split (maps.edge (x j)) ≡ Some c → StepsUp (rotations_of s) split c f =
+    let p : ℕ → ℕ → Bool = λ j. hangs_at s split t (below_edge split (maps.edge (x j))) (x j) in
+    let up : (j c : ℕ) → j < k → below_edge split (maps.edge (x j)) ≡ Some c → StepsUp (rotations_of s) split c f =
     λ j c m below_x. steps_up s split o t (x j) c f (are.within j m) (are.inside j m) below_x
     (λ same. t.child_faces.not_root (maps.edge (x j)) (below_x ∙ ap Some (same ∙ root))) in
     let most : sum_below (λ j. count_below (p j) n) k ≤ count_below (λ z. true) n =
@@ -188,14 +188,14 @@ pub record AreBeside (s : OrientedMesh) (f h k : ℕ) (x : ℕ → ℕ) : Type 0
 -- together they weigh less than the edge above the face
 pub weights_fall : (s : OrientedMesh) (split : SplitView) → IsOrientedSurface s → (t : IsSplit s split) → (f h k : ℕ) (x : ℕ → ℕ)
     → h < darts_of s
-    → (rotations_of s).face h ≡ f → child_face (rotations_of s) split ((rotations_of s).edge h) ≡ Some f → AreBeside s f h k x
+    → (rotations_of s).face h ≡ f → below_edge split ((rotations_of s).edge h) ≡ Some f → AreBeside s f h k x
     → sum_below (λ j. weight s split t ((rotations_of s).edge (x j))) k + 1 ≤ weight s split t ((rotations_of s).edge h)
 unfolding hangs_at
 weights_fall s split o t f h k x l h_in is are =
     let n : ℕ = darts_of s in
     let maps : Rotations = rotations_of s in
     let q : ℕ → Bool = λ z. below s split t f (maps.face z) in
-    let p : ℕ → ℕ → Bool = λ j. hangs_at s split t (child_face (rotations_of s) split (maps.edge (x j))) (x j) in
+    let p : ℕ → ℕ → Bool = λ j. hangs_at s split t (below_edge split (maps.edge (x j))) (x j) in
     let h_passes : q h ≡ true = ap (below s split t f) h_in ∙ below_itself s split t f in
     let less : sum_below (λ j. count_below (p j) n) k + 1 ≤ count_below q n =
     disjoint_counts_less p q k n h l h_passes (λ j z m z_in. inside j z m z_in) (λ j m. left_out j m)
@@ -205,34 +205,34 @@ weights_fall s split o t f h k x l h_in is are =
     maps : Rotations
     maps = rotations_of s
 
-    up : (j c : ℕ) → j < k → child_face (rotations_of s) split ((rotations_of s).edge (x j)) ≡ Some c → StepsUp (rotations_of s) split c f
+    up : (j c : ℕ) → j < k → below_edge split ((rotations_of s).edge (x j)) ≡ Some c → StepsUp (rotations_of s) split c f
     up j c m below_x =
         steps_up s split o t (x j) c f (are.within j m) (are.inside j m) below_x
         (λ same. are.beside j m (one_below s split o t (x j) h f (are.within j m) l (are.inside j m) h_in is
         (t.child_faces.once ((rotations_of s).edge (x j)) ((rotations_of s).edge h) f (below_x ∙ ap Some same) is)))
 
-    inside : (j z : ℕ) → j < k → z < darts_of s → hangs_at s split t (child_face (rotations_of s) split ((rotations_of s).edge (x j))) (x j)
+    inside : (j z : ℕ) → j < k → z < darts_of s → hangs_at s split t (below_edge split ((rotations_of s).edge (x j))) (x j)
         z ≡ true
         → below s split t f ((rotations_of s).face z) ≡ true
-    inside j z m z_in = by (child_face (rotations_of s) split ((rotations_of s).edge (x j))) refl
+    inside j z m z_in = by (below_edge split ((rotations_of s).edge (x j))) refl
       where
-        by : (c : Option ℕ) → child_face (rotations_of s) split ((rotations_of s).edge (x j)) ≡ c → hangs_at s split t c (x j) z ≡ true
+        by : (c : Option ℕ) → below_edge split ((rotations_of s).edge (x j)) ≡ c → hangs_at s split t c (x j) z ≡ true
             → below s split t f ((rotations_of s).face z) ≡ true
         by None _ hit = ap (λ (d : ℕ). below s split t f ((rotations_of s).face d)) (eqb-true z (x j) hit)
             ∙ ap (below s split t f) (are.inside j m) ∙ below_itself s split t f
         by (Some c) below_x hit = below_higher s split o t c f ((rotations_of s).face z) (up j c m below_x)
             ((names_all s o).face_below z z_in) hit
 
-    left_out : (j : ℕ) → j < k → hangs_at s split t (child_face (rotations_of s) split ((rotations_of s).edge (x j))) (x j) h ≡ true → ⊥
-    left_out j m = by (child_face (rotations_of s) split ((rotations_of s).edge (x j))) refl
+    left_out : (j : ℕ) → j < k → hangs_at s split t (below_edge split ((rotations_of s).edge (x j))) (x j) h ≡ true → ⊥
+    left_out j m = by (below_edge split ((rotations_of s).edge (x j))) refl
       where
-        by : (c : Option ℕ) → child_face (rotations_of s) split ((rotations_of s).edge (x j)) ≡ c → hangs_at s split t c (x j) h ≡ true → ⊥
+        by : (c : Option ℕ) → below_edge split ((rotations_of s).edge (x j)) ≡ c → hangs_at s split t c (x j) h ≡ true → ⊥
         by None _ hit = are.beside j m (sym (eqb-true h (x j) hit))
         by (Some c) below_x hit = not_above s split o t c f (up j c m below_x) (ap (below s split t c) (sym h_in) ∙ hit)
 
     apart : (i j z : ℕ) → i < j → j < k → z < darts_of s
-        → hangs_at s split t (child_face (rotations_of s) split ((rotations_of s).edge (x i))) (x i) z ≡ true
-        → hangs_at s split t (child_face (rotations_of s) split ((rotations_of s).edge (x j))) (x j) z ≡ true → ⊥
+        → hangs_at s split t (below_edge split ((rotations_of s).edge (x i))) (x i) z ≡ true
+        → hangs_at s split t (below_edge split ((rotations_of s).edge (x j))) (x j) z ≡ true → ⊥
     apart =
         hang_apart s split o t f k x (record { within = are.within; inside = are.inside; apart = are.apart })
         (λ j c m below_x. up j c m below_x)

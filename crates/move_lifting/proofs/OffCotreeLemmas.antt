@@ -19,7 +19,7 @@ use Rattle.halfedge_map.specs.RotationSystems.{rotations_of, IsDartFrom}
 use Rattle.halfedge_map.proofs.EdgeLemmas.{dart_between}
 use Rattle.halfedge_map.proofs.NumberLemmas.{HasPlace, placed}
 use Rattle.halfedge_map.proofs.SystemLemmas.{names_all, rotation_system}
-use Rattle.tree_cotree.specs.Splits.{SplitView, IsSplit, child_face, in_cotree}
+use Rattle.tree_cotree.specs.Splits.{SplitView, IsSplit, below_edge, in_cotree}
 use Rattle.polygon_cut.specs.SpokeLoops.{LeavesCotree, way_round}
 use Rattle.polygon_cut.proofs.FaceRoundLemmas.{at_face}
 use Rattle.move_lifting.specs.Crossings.{beyond, IsFaceBelow, IsOneIn, GoesAlong}
@@ -35,7 +35,7 @@ use Rattle.move_lifting.proofs.RestLemmas.{root_round, load, load-join, load_lon
 
 -- the step along the edge between two vertices, round the face below it
 step_below : (s : OrientedMesh) (split : SplitView) → IsOrientedSurface s → IsSplit s split → (u v d face : ℕ)
-    → IsDartFrom (rotations_of s) u v d → child_face (rotations_of s) split (edge_of s d) ≡ Some face
+    → IsDartFrom (rotations_of s) u v d → below_edge split (edge_of s d) ≡ Some face
     → (step : FaceStep) × IsFaceBelow s split u v step
 step_below s split o t u v d face from is =
     let chosen : (x : ℕ) × IsOneIn s d face x = elim (cases_eq (face_of s d) face) [
@@ -96,7 +96,7 @@ find_dart s split o t (u ∷ v ∷ rest) edges =
     let later : (k : ℕ) → k + 1 < length (v ∷ rest) → is_edge s.mesh (get_or (v ∷ rest) k 0) (get_or (v ∷ rest) (k + 1) 0) ≡ true =
     λ k l. (let up : suc k + 1 ≡ suc (k + 1) = omega arith in
     subst (λ (n : ℕ). is_edge s.mesh (get_or (v ∷ rest) k 0) (get_or (u ∷ v ∷ rest) n 0) ≡ true) up (edges (suc k) (omega arith))) in
-    elim (either_way (child_face (rotations_of s) split (edge_of s d))) [
+    elim (either_way (below_edge split (edge_of s d))) [
       | inr below ↦
           let step = step_below s split o t u v d below.0 found.1 below.1 in
           inr (record { front = []; u = u; v = v; rest = rest; is = refl; step = step.0; under = step.1 })

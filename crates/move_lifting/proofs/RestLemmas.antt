@@ -15,7 +15,7 @@ use Rattle.halfedge_map.proofs.DartLemmas.{face_at_number, origin_at, target_at,
 use Rattle.halfedge_map.proofs.TwinLemmas.{origin-twin}
 use Rattle.halfedge_map.proofs.EdgeLemmas.{edge-twin}
 use Rattle.halfedge_map.proofs.SystemLemmas.{rotation_system}
-use Rattle.tree_cotree.specs.Splits.{SplitView, IsSplit, child_face}
+use Rattle.tree_cotree.specs.Splits.{SplitView, IsSplit, below_edge}
 use Rattle.move_lifting.specs.Loads.{load_of}
 use Rattle.move_lifting.proofs.CountLemmas.{sum_below}
 use Rattle.move_lifting.proofs.LoadLemmas.{weight, weight_positive, weight_most, AreBeside, AreInFace, weights_fall, root_weights}
@@ -244,7 +244,7 @@ pub rest_falls : (s : OrientedMesh) (split : SplitView) → IsOrientedSurface s 
     → (f c : ℕ) (rising : Bool) (u v d : ℕ)
     → f < length s.mesh.faces → c < length (face_at s.mesh f) → vertex_at s f c ≡ u
     → vertex_at s f (next_corner rising (length (face_at s.mesh f)) c) ≡ v
-    → IsDartFrom (rotations_of s) u v d → child_face (rotations_of s) split (edge_of s d) ≡ Some f
+    → IsDartFrom (rotations_of s) u v d → below_edge split (edge_of s d) ≡ Some f
     → load s split t (corners_from (face_at s.mesh f) (not rising) c (length (face_at s.mesh f) - 1)) + 1 ≤ pair_weight s split t u v
 unfolding pair_weight
 rest_falls s split o t f c rising u v d l b starts ends from under =
@@ -255,7 +255,7 @@ rest_falls s split o t f c rising u v d l b starts ends from under =
     subst (λ (x : ℕ). edge_of s (dart_from s x v) ≡ edge_of s h) starts
     (subst (λ (x : ℕ). edge_of s (dart_from s (vertex_at s f c) x) ≡ edge_of s h) ends (step_edge s o f rising c l b)) in
     let d_edge : edge_of s (dart_from s u v) ≡ edge_of s d = ap (edge_of s) (found_is s o u v d from) in
-    let below_h : child_face (rotations_of s) split (edge_of s h) ≡ Some f = ap (child_face (rotations_of s) split) (sym h_edge ∙ d_edge)
+    let below_h : below_edge split (edge_of s h) ≡ Some f = ap (below_edge split) (sym h_edge ∙ d_edge)
     ∙ under in
     let fall = weights_fall s split o t f h (m - 1) (λ j. first_side s.mesh f + side_place (not rising) m (corner_after (not rising) m c j))
     (number_below s.mesh f (side_place rising m c) h n) (face_at_number s f (side_place rising m c) h n) below_h

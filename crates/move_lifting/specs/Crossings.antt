@@ -10,7 +10,7 @@ use Rattle.surf_model.proofs.RoundLemmas.{corners_before}
 use Rattle.halfedge_map.specs.OrientedMeshes.{OrientedMesh}
 use Rattle.halfedge_map.specs.DartMaps.{darts_of, edge_of, face_of, start_corner_of, twin_of}
 use Rattle.halfedge_map.specs.RotationSystems.{rotations_of, IsDartFrom}
-use Rattle.tree_cotree.specs.Splits.{SplitView, child_face}
+use Rattle.tree_cotree.specs.Splits.{SplitView, below_edge}
 use Rattle.move_lifting.specs.Tracks.{TrackView}
 use Rattle.move_lifting.specs.declared.crossing.FaceStep.{FaceStep}
 
@@ -41,7 +41,7 @@ pub record IsOneIn (surface : OrientedMesh) (dart face chosen : ℕ) : Type 0 wh
 pub record IsFaceBelow (surface : OrientedMesh) (split : SplitView) (u v : ℕ) (step : FaceStep) : Type 0 where
   pub dart : ℕ
   pub from : IsDartFrom (rotations_of surface) u v dart
-  pub below : child_face (rotations_of surface) split (edge_of surface dart) ≡ Some step.face.0
+  pub below : below_edge split (edge_of surface dart) ≡ Some step.face.0
   pub is_step : IsStepOf surface.mesh step
   pub starts : slice_index (face_at surface.mesh step.face.0) step.corner ≡ u
   pub ends :

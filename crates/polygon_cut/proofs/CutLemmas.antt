@@ -15,8 +15,8 @@ use Rattle.tree_cotree.specs.Splits.{SplitView, HasTrees, in_tree, in_cotree, is
 use Rattle.tree_cotree.specs.Colourings.{ColouringView, colouring_of}
 use Rattle.tree_cotree.specs.ColouredTrees.{without_ways, HasColouredTrees}
 use Rattle.tree_cotree.proofs.LawLemmas.{one_of_three, tree_has_ring}
-use Rattle.polygon_cut.specs.Polygons.{PolygonView, IsLabelled, IsCutFrom, IsCutByColours, across, turned}
-use Rattle.polygon_cut.specs.StoredPolygons.{outer_ring, left_at, without_places, IsWalked, TurnsRound, IsPlaced}
+use Rattle.polygon_cut.specs.Polygons.{PolygonView, IsLabelled, IsCutFrom, IsCutByColours, across, turned, outer_ring}
+use Rattle.polygon_cut.specs.StoredPolygons.{left_at, without_places, IsWalked, TurnsRound, IsPlaced}
 use Rattle.polygon_cut.proofs.CountLemmas.{count_at_most, count_along, count_darts, count_nothing}
 use Rattle.polygon_cut.proofs.PlaceLemmas.{Crosses, sides_cross, turning_permutes}
 use Rattle.polygon_cut.proofs.PolygonLemmas.{turning_reaches_all}

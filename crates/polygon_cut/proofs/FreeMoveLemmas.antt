@@ -20,7 +20,7 @@ use Rattle.halfedge_map.specs.RotationSystems.{rotations_of, IsRotationSystem}
 use Rattle.halfedge_map.proofs.CornerLemmas.{corner_back}
 use Rattle.halfedge_map.proofs.DartLemmas.{dart_starts}
 use Rattle.halfedge_map.proofs.SystemLemmas.{rotation_system, names_all}
-use Rattle.tree_cotree.specs.Splits.{SplitView, IsSplit, in_cotree, child_face}
+use Rattle.tree_cotree.specs.Splits.{SplitView, IsSplit, in_cotree, below_edge}
 use Rattle.polygon_cut.specs.Polygons.{PolygonView, IsCutFrom}
 use Rattle.polygon_cut.specs.SpokeLoops.{CrossesBelow, LeavesCotree}
 use Rattle.polygon_cut.proofs.GroupLemmas.{IsGroup, inverse_twice}
@@ -95,7 +95,7 @@ record BeginsBelow (s : OrientedMesh) (split : SplitView) (f corner : ℕ) (forw
   dart : ℕ
   within : dart < darts_of s
   inside : face_of s dart ≡ f
-  below : child_face (rotations_of s) split (edge_of s dart) ≡ Some f
+  below : below_edge split (edge_of s dart) ≡ Some f
   one : taken ≡ 1
   way : ((forward ≡ dir s f) × (corner ≡ start_corner_of s dart))
       ⊎ ((forward ≡ not (dir s f)) × (corner ≡ start_corner_of s (next_of s dart)))
@@ -147,7 +147,7 @@ begins_below s split o t f corner taken forward cross = elim (either forward (di
         dart = x;
         within = at.within;
         inside = at.inside;
-        below = ap (λ y. child_face (rotations_of s) split (edge_of s y)) same ∙ cross.below;
+        below = ap (λ y. below_edge split (edge_of s y)) same ∙ cross.below;
         one = cross.one;
         way = inl (along, sym at.corner_is);
       }
@@ -168,7 +168,7 @@ begins_below s split o t f corner taken forward cross = elim (either forward (di
         dart = x;
         within = at.within;
         inside = at.inside;
-        below = ap (child_face (rotations_of s) split) same_edge ∙ cross.below;
+        below = ap (below_edge split) same_edge ∙ cross.below;
         one = cross.one;
         way = inr (against, sym (at.next_corner_is ∙ home));
       }

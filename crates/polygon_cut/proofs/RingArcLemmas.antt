@@ -1,6 +1,7 @@
--- Arcs of the ring of tree and leftover edges: the walk along it from one side to another, past no last side, is worth the loops of the
--- two spokes, there along the one and back along the other, and it has fewer darts than the surface has sides.
-use Rattle.std.proofs.Common.{◌≡◌, ◌≢◌, inl, inr, ℕ, zero, suc, ◌+◌, ◌-◌, ◌<◌, ◌≤◌, false, not, List, [], ◌∷◌, ◌++◌, length, refl, ap, sym, ◌∙◌, subst, arith, length-append}
+-- Arcs of the ring of tree and leftover edges: the walk along one, past no last side, is worth the loops of two spokes, there along the
+-- one and back along the other; and of any two sides there is one from the one to the other, with fewer darts than the surface has sides.
+use Rattle.std.proofs.Common.{◌≡◌, ◌≢◌, ◌⊎◌, inl, inr, ℕ, zero, suc, ◌+◌, ◌-◌, ◌<◌, ◌≤◌, true, false, not, List, [], ◌∷◌, ◌++◌, length, refl, ap, sym, ◌∙◌, subst, arith, length-append}
+use Rattle.std.specs.Prelude.{if◌then◌else◌}
 use Rattle.std.proofs.lemmas.Bool.{cases_Bool, cases_lt}
 use Rattle.surf_model.specs.FreeWalks.{AreFreelyEqual}
 use Rattle.halfedge_map.specs.Orbits.{after_steps}
@@ -12,12 +13,13 @@ use Rattle.halfedge_map.proofs.SystemLemmas.{rotation_system, names_all}
 use Rattle.tree_cotree.specs.Splits.{SplitView, IsSplit, in_cotree}
 use Rattle.tree_cotree.proofs.AfterLemmas.{after_permutes, go_on, turn}
 use Rattle.tree_cotree.proofs.LawLemmas.{rest_has_ring}
-use Rattle.polygon_cut.specs.Polygons.{PolygonView, IsCutFrom, side_at, label_of}
-use Rattle.polygon_cut.specs.SpokeLoops.{last_side}
-use Rattle.polygon_cut.specs.StoredPolygons.{outer_ring}
+use Rattle.polygon_cut.specs.Polygons.{PolygonView, IsCutFrom, outer_ring, side_at, label_of}
+use Rattle.polygon_cut.specs.RingWalks.{ring_walk, IsRingArc}
+use Rattle.polygon_cut.specs.SpokeLoops.{AreWaysUp, by_loop, last_side, path_loop}
 use Rattle.polygon_cut.proofs.GroupLemmas.{quotient, middle, inverse_of_quotient}
 use Rattle.polygon_cut.proofs.RoundLemmas.{GoesRound, round_reaches, round_apart}
-use Rattle.polygon_cut.proofs.WayLemmas.{IsWay, back, way_on, way_home, HasWays, loop_mul, loop_inv, loop_of}
+use Rattle.polygon_cut.proofs.RelatorLemmas.{spoke_product}
+use Rattle.polygon_cut.proofs.WayLemmas.{IsWay, start_used, end_used, append_none, back, way_on, way_home, HasWays, loop_mul, loop_inv, loop_of}
 use Rattle.polygon_cut.proofs.CongruenceLemmas.{no_dart}
 use Rattle.polygon_cut.proofs.FreeLoopLemmas.{SameFreely, free_equality}
 use Rattle.polygon_cut.proofs.LawLemmas.{labels_ride}
@@ -25,7 +27,7 @@ use Rattle.polygon_cut.proofs.TreeWayLemmas.{up, tree_ways}
 use Rattle.polygon_cut.proofs.DartLoopLemmas.{Loops, dart_way, value, value_along, spoke, one_of}
 use Rattle.polygon_cut.proofs.FreeSpokeLemmas.{free_group, of_other_dart, free_is_two_spokes}
 use Rattle.polygon_cut.proofs.FreeWayLemmas.{loop_on, loop_home}
-use Rattle.polygon_cut.proofs.FreeLawLemmas.{side_in}
+use Rattle.polygon_cut.proofs.FreeLawLemmas.{root_is, side_in, path_list, by_own_loop, by_loop_is}
 
 -- the ring behind a dart leads along all darts
 ring_from : (s : OrientedMesh) (split : SplitView) → IsOrientedSurface s → IsSplit s split → (d : ℕ) → d < darts_of s
@@ -54,34 +56,50 @@ abbrev pub two_spokes : (s : OrientedMesh) (split : SplitView) (o : IsOrientedSu
 two_spokes s split o t polygon a b = quotient loop_mul loop_inv (spoke s split o t polygon a) (spoke s split o t polygon b)
 
 -- a walk of so many darts at most from where one dart starts to where another does, worth the spokes of their labels
-record IsArc (s : OrientedMesh) (split : SplitView) (o : IsOrientedSurface s) (t : IsSplit s split) (polygon : PolygonView) (d e k : ℕ)
-    : Type 0 where
-  rest : List ℕ
+record IsArc (s : OrientedMesh) (split : SplitView) (o : IsOrientedSurface s) (t : IsSplit s split) (polygon : PolygonView)
+    (d e k : ℕ) (rest : List ℕ) : Type 0 where
   few : length rest ≤ k
   way : IsWay s.mesh (origin_of s d) (origin_of s e) rest
   worth : IsWorth s split t (origin_of s d) (origin_of s e) rest
       (two_spokes s split o t polygon (label_of polygon d) (label_of polygon e))
 
+-- no dart
+no_arc : (s : OrientedMesh) (split : SplitView) (o : IsOrientedSurface s) (t : IsSplit s split) (polygon : PolygonView) (d : ℕ)
+    → d < darts_of s → IsArc s split o t polygon d d 0 []
+no_arc s split o t polygon d l =
+    let g = free_group s split t in
+    let ways : HasWays s.mesh t.parents.root (up s split t) = tree_ways s split o t in
+    let u : ℕ = origin_of s d in
+    let stay : IsWay s.mesh u u [] = (refl, (names_all s o).vertex_used d l) in
+    let still : Loops s split t = loop_of s.mesh t.parents.root (up s split t) ways u u [] stay in
+    let x : Loops s split t = spoke s split o t polygon (label_of polygon d) in
+    record {
+      few = omega arith;
+      way = stay;
+      worth = g.on still (one_of s split t) (quotient loop_mul loop_inv x x) (no_dart (free_equality s.mesh) ways u u stay)
+          (g.turn (quotient loop_mul loop_inv x x) (one_of s split t) (g.cancels x));
+    }
+
 -- the same to another dart at that vertex with that label
 arc_turned : (s : OrientedMesh) (split : SplitView) (o : IsOrientedSurface s) (t : IsSplit s split) (polygon : PolygonView) (d e f k m : ℕ)
-    → k ≤ m → origin_of s f ≡ origin_of s e → label_of polygon f ≡ label_of polygon e
-    → IsArc s split o t polygon d e k → IsArc s split o t polygon d f m
-arc_turned s split o t polygon d e f k m more at label a = record {
-  rest = a.rest;
+    (rest : List ℕ) → k ≤ m → origin_of s f ≡ origin_of s e → label_of polygon f ≡ label_of polygon e
+    → IsArc s split o t polygon d e k rest → IsArc s split o t polygon d f m rest
+arc_turned s split o t polygon d e f k m rest more at label a = record {
   few = omega (arith, a.few, more);
-  way = subst (λ v. IsWay s.mesh (origin_of s d) v a.rest) (sym at) a.way;
+  way = subst (λ v. IsWay s.mesh (origin_of s d) v rest) (sym at) a.way;
   worth =
-      subst (λ v. IsWorth s split t (origin_of s d) v a.rest
+      subst (λ v. IsWorth s split t (origin_of s d) v rest
       (two_spokes s split o t polygon (label_of polygon d) (label_of polygon f))) (sym at)
-      (subst (λ x. IsWorth s split t (origin_of s d) (origin_of s e) a.rest (two_spokes s split o t polygon (label_of polygon d) x))
+      (subst (λ x. IsWorth s split t (origin_of s d) (origin_of s e) rest (two_spokes s split o t polygon (label_of polygon d) x))
       (sym label) a.worth);
 }
 
 -- one dart more
 arc_longer : (s : OrientedMesh) (split : SplitView) (o : IsOrientedSurface s) (t : IsSplit s split) (polygon : PolygonView)
-    → IsCutFrom s split polygon → 0 < polygon.degree → (d e k : ℕ) → e < darts_of s → e ≢ last_side polygon
-    → in_cotree split (edge_of s e) ≡ false → IsArc s split o t polygon d e k → IsArc s split o t polygon d (next_of s e) (suc k)
-arc_longer s split o t polygon c some d e k l other off a =
+    → IsCutFrom s split polygon → 0 < polygon.degree → (d e k : ℕ) (rest : List ℕ) → e < darts_of s → e ≢ last_side polygon
+    → in_cotree split (edge_of s e) ≡ false → IsArc s split o t polygon d e k rest
+    → IsArc s split o t polygon d (next_of s e) (suc k) (rest ++ origin_of s (twin_of s e) ∷ [])
+arc_longer s split o t polygon c some d e k rest l other off a =
     let r : IsRotationSystem (rotations_of s) = rotation_system s o in
     let g = free_group s split t in
     let ways : HasWays s.mesh t.parents.root (up s split t) = tree_ways s split o t in
@@ -89,10 +107,10 @@ arc_longer s split o t polygon c some d e k l other off a =
     let v : ℕ = origin_of s e in
     let w : ℕ = origin_of s (twin_of s e) in
     let one : IsWay s.mesh v w (w ∷ []) = dart_way s o e l in
-    let whole : IsWay s.mesh u w (a.rest ++ w ∷ []) = way_on s.mesh u v w a.rest (w ∷ []) a.way one in
-    let before : Loops s split t = loop_of s.mesh t.parents.root (up s split t) ways u v a.rest a.way in
+    let whole : IsWay s.mesh u w (rest ++ w ∷ []) = way_on s.mesh u v w rest (w ∷ []) a.way one in
+    let before : Loops s split t = loop_of s.mesh t.parents.root (up s split t) ways u v rest a.way in
     let dart : Loops s split t = loop_of s.mesh t.parents.root (up s split t) ways v w (w ∷ []) one in
-    let all : Loops s split t = loop_of s.mesh t.parents.root (up s split t) ways u w (a.rest ++ w ∷ []) whole in
+    let all : Loops s split t = loop_of s.mesh t.parents.root (up s split t) ways u w (rest ++ w ∷ []) whole in
     let i : ℕ = label_of polygon d in
     let j : ℕ = label_of polygon e in
     let n : ℕ = label_of polygon (next_of s e) in
@@ -105,7 +123,7 @@ arc_longer s split o t polygon c some d e k l other off a =
     let dart_is : SameFreely dart (two_spokes s split o t polygon j n) =
     g.on dart (value s split o t e) (two_spokes s split o t polygon j n) (g.turn (value s split o t e) dart along) val_is in
     let joined : SameFreely all (loop_mul before dart) =
-    loop_on s.mesh t.parents.root (up s split t) ways u v w a.rest (w ∷ []) a.way one whole in
+    loop_on s.mesh t.parents.root (up s split t) ways u v w rest (w ∷ []) a.way one whole in
     let product : SameFreely (loop_mul before dart) (loop_mul (two_spokes s split o t polygon i j) (two_spokes s split o t polygon j n)) =
     g.mul_same before (two_spokes s split o t polygon i j) dart (two_spokes s split o t polygon j n) a.worth dart_is in
     let worth : SameFreely all (two_spokes s split o t polygon i n) =
@@ -114,37 +132,32 @@ arc_longer s split o t polygon c some d e k l other off a =
     (two_spokes s split o t polygon i n) product (middle SameFreely loop_mul loop_inv (one_of s split t) g (S i) (S j) (S n))) in
     let at : origin_of s (next_of s e) ≡ w = r.follows e l in
     record {
-      rest = a.rest ++ w ∷ [];
-      few = omega (arith, a.few, length-append a.rest (w ∷ []));
-      way = subst (λ x. IsWay s.mesh u x (a.rest ++ w ∷ [])) (sym at) whole;
-      worth = subst (λ x. IsWorth s split t u x (a.rest ++ w ∷ []) (two_spokes s split o t polygon i n)) (sym at) worth;
+      few = omega (arith, a.few, length-append rest (w ∷ []));
+      way = subst (λ x. IsWay s.mesh u x (rest ++ w ∷ [])) (sym at) whole;
+      worth = subst (λ x. IsWorth s split t u x (rest ++ w ∷ []) (two_spokes s split o t polygon i n)) (sym at) worth;
     }
+
+-- one dart
+dart_arc : (s : OrientedMesh) (split : SplitView) (o : IsOrientedSurface s) (t : IsSplit s split) (polygon : PolygonView)
+    → IsCutFrom s split polygon → 0 < polygon.degree → (d : ℕ) → d < darts_of s → d ≢ last_side polygon
+    → in_cotree split (edge_of s d) ≡ false → IsArc s split o t polygon d (next_of s d) 1 (origin_of s (twin_of s d) ∷ [])
+dart_arc s split o t polygon c some d l other off =
+    arc_longer s split o t polygon c some d d 0 [] l other off (no_arc s split o t polygon d l)
 
 -- so many steps along the ring
 arc : (s : OrientedMesh) (split : SplitView) (o : IsOrientedSurface s) (t : IsSplit s split) (polygon : PolygonView)
     → IsCutFrom s split polygon → 0 < polygon.degree → (d : ℕ) → d < darts_of s → (k : ℕ)
     → ((j : ℕ) → j < k → after_steps (outer_ring s split) j d ≢ last_side polygon)
-    → IsArc s split o t polygon d (after_steps (outer_ring s split) k d) k
-arc s split o t polygon c some d l zero other =
-    let g = free_group s split t in
-    let ways : HasWays s.mesh t.parents.root (up s split t) = tree_ways s split o t in
-    let u : ℕ = origin_of s d in
-    let stay : IsWay s.mesh u u [] = (refl, (names_all s o).vertex_used d l) in
-    let still : Loops s split t = loop_of s.mesh t.parents.root (up s split t) ways u u [] stay in
-    let x : Loops s split t = spoke s split o t polygon (label_of polygon d) in
-    record {
-      rest = [];
-      few = omega arith;
-      way = stay;
-      worth = g.on still (one_of s split t) (quotient loop_mul loop_inv x x) (no_dart (free_equality s.mesh) ways u u stay)
-          (g.turn (quotient loop_mul loop_inv x x) (one_of s split t) (g.cancels x));
-    }
+    → IsArc s split o t polygon d (after_steps (outer_ring s split) k d) k (ring_walk s split k d)
+arc s split o t polygon c some d l zero other = no_arc s split o t polygon d l
 arc s split o t polygon c some d l (suc k) other =
     let r : IsRotationSystem (rotations_of s) = rotation_system s o in
     let inside = λ (e : ℕ). not (in_cotree split e) in
     let e : ℕ = after_steps (outer_ring s split) k d in
+    let w : ℕ = origin_of s (twin_of s e) in
+    let walk : List ℕ = ring_walk s split k d in
     let e_in : e < darts_of s = steps_within (darts_of s) (outer_ring s split) (after_permutes (rotations_of s) r inside) k d l in
-    let before : IsArc s split o t polygon d e k = arc s split o t polygon c some d l k (λ j less. other j (omega arith)) in
+    let before : IsArc s split o t polygon d e k walk = arc s split o t polygon c some d l k (λ j less. other j (omega arith)) in
     elim (cases_Bool (in_cotree split (edge_of s e))) [
       | inl crossed ↦
           let on : outer_ring s split e ≡ next_of s (twin_of s e) = turn (rotations_of s) inside e (ap not crossed) in
@@ -152,19 +165,23 @@ arc s split o t polygon c some d l (suc k) other =
           r.follows (twin_of s e) (r.twin_within e e_in) ∙ ap (origin_of s) (r.twin_back e e_in) in
           let label : label_of polygon (next_of s (twin_of s e)) ≡ label_of polygon e =
           (labels_ride s split polygon e o t c some e_in).of_cotree crossed in
-          arc_turned s split o t polygon d e (outer_ring s split e) k (suc k) (omega arith) (ap (origin_of s) on ∙ at)
-          (ap (label_of polygon) on ∙ label) before
+          let stays : walk ≡ ring_walk s split (suc k) d =
+          sym (append_none walk) ∙ ap (λ b. walk ++ (if b then [] else w ∷ [])) (sym crossed) in
+          subst (IsArc s split o t polygon d (outer_ring s split e) (suc k)) stays
+          (arc_turned s split o t polygon d e (outer_ring s split e) k (suc k) walk (omega arith) (ap (origin_of s) on ∙ at)
+          (ap (label_of polygon) on ∙ label) before)
       | inr off ↦
-          subst (λ f. IsArc s split o t polygon d f (suc k)) (sym (go_on (rotations_of s) inside e (ap not off)))
-          (arc_longer s split o t polygon c some d e k e_in (other k (omega arith)) off before)
+          let goes : walk ++ w ∷ [] ≡ ring_walk s split (suc k) d = ap (λ b. walk ++ (if b then [] else w ∷ [])) (sym off) in
+          subst (IsArc s split o t polygon d (outer_ring s split e) (suc k)) goes
+          (subst (λ f. IsArc s split o t polygon d f (suc k) (walk ++ w ∷ [])) (sym (go_on (rotations_of s) inside e (ap not off)))
+          (arc_longer s split o t polygon c some d e k walk e_in (other k (omega arith)) off before))
     ]
 
 -- how far it is along the ring to the last side
 record IsBefore (s : OrientedMesh) (split : SplitView) (polygon : PolygonView) (d : ℕ) : Type 0 where
   steps : ℕ
   few : steps < darts_of s
-  leads : after_steps (outer_ring s split) steps d ≡ last_side polygon
-  first : (j : ℕ) → j < steps → after_steps (outer_ring s split) j d ≢ last_side polygon
+  leads : IsRingArc s split polygon d (last_side polygon) steps
 
 how_far : (s : OrientedMesh) (split : SplitView) → IsOrientedSurface s → IsSplit s split → (polygon : PolygonView)
     → IsCutFrom s split polygon → 0 < polygon.degree → (d : ℕ) → d < darts_of s → IsBefore s split polygon d
@@ -175,9 +192,41 @@ how_far s split o t polygon c some d l =
     record {
       steps = there.0;
       few = there.1;
-      leads = there.2;
-      first = λ j less same. round_apart (darts_of s) (outer_ring s split) d round j there.0 less there.1 (same ∙ sym there.2);
+      leads = record {
+        leads = there.2;
+        before_last = λ j less same.
+            round_apart (darts_of s) (outer_ring s split) d round j there.0 less there.1 (same ∙ sym there.2);
+      };
     }
+
+-- from the one of two darts that is further from the last side to the other
+between : (s : OrientedMesh) (split : SplitView) → IsOrientedSurface s → IsSplit s split → (polygon : PolygonView) (d e : ℕ)
+    → d < darts_of s → e < darts_of s → (x : IsBefore s split polygon d) (y : IsBefore s split polygon e) → y.steps ≤ x.steps
+    → IsRingArc s split polygon d e (x.steps - y.steps)
+between s split o t polygon d e d_in e_in x y less =
+    let ring : ℕ → ℕ = outer_ring s split in
+    let p : IsPermutationBelow (darts_of s) ring = (ring_from s split o t d d_in).permutes in
+    let k : ℕ = x.steps - y.steps in
+    let sum : y.steps + k ≡ x.steps = omega (arith, less) in
+    record {
+      leads =
+          steps_once (darts_of s) ring p y.steps (after_steps ring k d) e (steps_within (darts_of s) ring p k d d_in) e_in
+          (sym (steps_add ring y.steps k d) ∙ ap (λ m. after_steps ring m d) sum ∙ x.leads.leads ∙ sym y.leads.leads);
+      before_last = λ j m. x.leads.before_last j (omega (arith, m));
+    }
+
+-- of any two darts the ring leads from the one to the other before it passes the last side
+pub darts_joined : (s : OrientedMesh) (split : SplitView) (polygon : PolygonView) (d e : ℕ) → IsOrientedSurface s → IsSplit s split
+    → IsCutFrom s split polygon → 0 < polygon.degree → d < darts_of s → e < darts_of s
+    → (steps : ℕ) × (steps < darts_of s) × (IsRingArc s split polygon d e steps ⊎ IsRingArc s split polygon e d steps)
+darts_joined s split polygon d e o t c some d_in e_in =
+    let x = how_far s split o t polygon c some d d_in in
+    let y = how_far s split o t polygon c some e e_in in
+    elim (cases_lt x.steps y.steps) [
+      | inl less ↦
+          (y.steps - x.steps, omega (arith, y.few), inr (between s split o t polygon e d e_in d_in y x (omega (arith, less))))
+      | inr more ↦ (x.steps - y.steps, omega (arith, x.few), inl (between s split o t polygon d e d_in e_in x y more))
+    ]
 
 -- a walk from where the one side starts to where the other does, worth the two spokes
 pub record IsSideArc (s : OrientedMesh) (split : SplitView) (o : IsOrientedSurface s) (t : IsSplit s split) (polygon : PolygonView)
@@ -188,35 +237,26 @@ pub record IsSideArc (s : OrientedMesh) (split : SplitView) (o : IsOrientedSurfa
   pub worth : IsWorth s split t (origin_of s (side_at polygon a)) (origin_of s (side_at polygon b)) rest
       (two_spokes s split o t polygon a b)
 
--- along the ring, where the other side comes before the last one
+-- along an arc of the ring
 forward : (s : OrientedMesh) (split : SplitView) (o : IsOrientedSurface s) (t : IsSplit s split) (polygon : PolygonView)
-    → IsCutFrom s split polygon → 0 < polygon.degree → (a b : ℕ) → a < polygon.degree → b < polygon.degree
-    → (x : IsBefore s split polygon (side_at polygon a)) (y : IsBefore s split polygon (side_at polygon b)) → y.steps ≤ x.steps
-    → IsSideArc s split o t polygon a b
-forward s split o t polygon c some a b a_in b_in x y less =
-    let ring : ℕ → ℕ = outer_ring s split in
+    → IsCutFrom s split polygon → 0 < polygon.degree → (a b steps : ℕ) → a < polygon.degree → b < polygon.degree → steps < darts_of s
+    → IsRingArc s split polygon (side_at polygon a) (side_at polygon b) steps → IsSideArc s split o t polygon a b
+forward s split o t polygon c some a b steps a_in b_in few r =
     let d : ℕ = side_at polygon a in
     let e : ℕ = side_at polygon b in
-    let d_in : d < darts_of s = side_in s split polygon c some a in
-    let e_in : e < darts_of s = side_in s split polygon c some b in
-    let p : IsPermutationBelow (darts_of s) ring = (ring_from s split o t d d_in).permutes in
-    let k : ℕ = x.steps - y.steps in
-    let sum : y.steps + k ≡ x.steps = omega (arith, less) in
-    let meets : after_steps ring k d ≡ e =
-    steps_once (darts_of s) ring p y.steps (after_steps ring k d) e (steps_within (darts_of s) ring p k d d_in) e_in
-    (sym (steps_add ring y.steps k d) ∙ ap (λ m. after_steps ring m d) sum ∙ x.leads ∙ sym y.leads) in
-    let along : IsArc s split o t polygon d e k =
-    subst (λ z. IsArc s split o t polygon d z k) meets
-    (arc s split o t polygon c some d d_in k (λ j m. x.first j (omega (arith, m)))) in
+    let walk : List ℕ = ring_walk s split steps d in
+    let along : IsArc s split o t polygon d e steps walk =
+    subst (λ z. IsArc s split o t polygon d z steps walk) r.leads
+    (arc s split o t polygon c some d (side_in s split polygon c some a) steps r.before_last) in
     let own_a : label_of polygon d ≡ a = (c.labels some).own_number a a_in in
     let own_b : label_of polygon e ≡ b = (c.labels some).own_number b b_in in
     record {
-      rest = along.rest;
-      few = omega (arith, along.few, x.few);
+      rest = walk;
+      few = omega (arith, along.few, few);
       way = along.way;
       worth =
-          subst (λ i. IsWorth s split t (origin_of s d) (origin_of s e) along.rest (two_spokes s split o t polygon i b)) own_a
-          (subst (λ i. IsWorth s split t (origin_of s d) (origin_of s e) along.rest
+          subst (λ i. IsWorth s split t (origin_of s d) (origin_of s e) walk (two_spokes s split o t polygon i b)) own_a
+          (subst (λ i. IsWorth s split t (origin_of s d) (origin_of s e) walk
           (two_spokes s split o t polygon (label_of polygon d) i)) own_b along.worth);
     }
 
@@ -247,9 +287,70 @@ pub side_arc : (s : OrientedMesh) (split : SplitView) (o : IsOrientedSurface s) 
     → IsCutFrom s split polygon → 0 < polygon.degree → (a b : ℕ) → a < polygon.degree → b < polygon.degree
     → IsSideArc s split o t polygon a b
 side_arc s split o t polygon c some a b a_in b_in =
-    let x = how_far s split o t polygon c some (side_at polygon a) (side_in s split polygon c some a) in
-    let y = how_far s split o t polygon c some (side_at polygon b) (side_in s split polygon c some b) in
-    elim (cases_lt x.steps y.steps) [
-      | inl less ↦ turned s split o t polygon a b (forward s split o t polygon c some b a b_in a_in y x (omega (arith, less)))
-      | inr more ↦ forward s split o t polygon c some a b a_in b_in x y more
+    let joined = darts_joined s split polygon (side_at polygon a) (side_at polygon b) o t c some (side_in s split polygon c some a)
+    (side_in s split polygon c some b) in
+    elim joined.2 [
+      | inl there ↦ forward s split o t polygon c some a b joined.0 a_in b_in joined.1 there
+      | inr home ↦ turned s split o t polygon a b (forward s split o t polygon c some b a joined.0 b_in a_in joined.1 home)
     ]
+
+-- The same in the words of the laws.
+
+-- a walk that is worth a loop is that loop, with the way up the tree before it and the way down behind it
+pub worth_by_loop : (s : OrientedMesh) (split : SplitView) (o : IsOrientedSurface s) (t : IsSplit s split) (ups : ℕ → List ℕ)
+    → AreWaysUp s split t.parents.root ups → (u v : ℕ) (rest : List ℕ) (loop : Loops s split t) → IsWay s.mesh u v rest
+    → IsWorth s split t u v rest loop → AreFreelyEqual s.mesh (u ∷ rest) (by_loop ups u v loop.rest)
+worth_by_loop s split o t ups h u v rest loop way worth =
+    subst (AreFreelyEqual s.mesh (u ∷ rest))
+    (sym (by_loop_is s split o t ups h u v loop.rest (start_used s.mesh u v rest way) (end_used s.mesh u v rest way)))
+    (by_own_loop s.mesh t.parents.root (up s split t) (tree_ways s split o t) u v rest way loop worth)
+
+-- and an arc is so the loop of the spokes of its two labels
+arc_by_loop : (s : OrientedMesh) (split : SplitView) (polygon : PolygonView) (root : ℕ) (ups : ℕ → List ℕ) (o : IsOrientedSurface s)
+    (t : IsSplit s split) → IsCutFrom s split polygon → 0 < polygon.degree → AreWaysUp s split root ups → (d e k : ℕ) (rest : List ℕ)
+    → IsArc s split o t polygon d e k rest
+    → AreFreelyEqual s.mesh (origin_of s d ∷ rest) (by_loop ups (origin_of s d) (origin_of s e)
+    (path_loop s polygon root ups true (label_of polygon d ∷ label_of polygon e ∷ [])))
+arc_by_loop s split polygon root ups o t c some h d e k rest a =
+    let g = free_group s split t in
+    let u : ℕ = origin_of s d in
+    let v : ℕ = origin_of s e in
+    let path : List ℕ = label_of polygon d ∷ label_of polygon e ∷ [] in
+    let own_ways : AreWaysUp s split t.parents.root ups = subst (λ x. AreWaysUp s split x ups) (sym (root_is s split o t root ups h)) h in
+    let none : Loops s split t = one_of s split t in
+    let first : Loops s split t = spoke s split o t polygon (label_of polygon d) in
+    let second : Loops s split t = loop_inv (spoke s split o t polygon (label_of polygon e)) in
+    let product : Loops s split t = spoke_product loop_mul loop_inv none (spoke s split o t polygon) true path in
+    let same : SameFreely (loop_mul first second) product =
+    g.mul_same first first second (loop_mul second none) (g.itself first) (g.turn (loop_mul second none) second (g.one_right second)) in
+    let worth : IsWorth s split t u v rest product =
+    (free_equality s.mesh).on (t.parents.root ∷ (back u (up s split t u) ++ (rest ++ up s split t v)))
+    (t.parents.root ∷ (loop_mul first second).rest) (t.parents.root ∷ product.rest) a.worth same in
+    subst (λ x. AreFreelyEqual s.mesh (u ∷ rest) (by_loop ups u v (path_loop s polygon x ups true path))) (root_is s split o t root ups h)
+    (subst (λ (l : List ℕ). AreFreelyEqual s.mesh (u ∷ rest) (by_loop ups u v l))
+    (sym (path_list s split o t polygon c some ups own_ways true path))
+    (worth_by_loop s split o t ups own_ways u v rest product a.way worth))
+
+pub walk_by_loop : (s : OrientedMesh) (split : SplitView) (polygon : PolygonView) (root : ℕ) (ups : ℕ → List ℕ) (from to steps : ℕ)
+    → IsOrientedSurface s → IsSplit s split → IsCutFrom s split polygon → 0 < polygon.degree → AreWaysUp s split root ups
+    → from < darts_of s → IsRingArc s split polygon from to steps
+    → AreFreelyEqual s.mesh (origin_of s from ∷ ring_walk s split steps from) (by_loop ups (origin_of s from) (origin_of s to)
+    (path_loop s polygon root ups true (label_of polygon from ∷ label_of polygon to ∷ [])))
+walk_by_loop s split polygon root ups from to steps o t c some h l r =
+    let walk : List ℕ = ring_walk s split steps from in
+    arc_by_loop s split polygon root ups o t c some h from to steps walk
+    (subst (λ e. IsArc s split o t polygon from e steps walk) r.leads (arc s split o t polygon c some from l steps r.before_last))
+
+pub dart_by_loop : (s : OrientedMesh) (split : SplitView) (polygon : PolygonView) (root : ℕ) (ups : ℕ → List ℕ) (dart : ℕ)
+    → IsOrientedSurface s → IsSplit s split → IsCutFrom s split polygon → 0 < polygon.degree → AreWaysUp s split root ups
+    → dart < darts_of s → in_cotree split (edge_of s dart) ≡ false → dart ≢ last_side polygon
+    → AreFreelyEqual s.mesh (origin_of s dart ∷ origin_of s (twin_of s dart) ∷ [])
+    (by_loop ups (origin_of s dart) (origin_of s (twin_of s dart))
+    (path_loop s polygon root ups true (label_of polygon dart ∷ label_of polygon (next_of s dart) ∷ [])))
+dart_by_loop s split polygon root ups dart o t c some h l off other =
+    let w : ℕ = origin_of s (twin_of s dart) in
+    subst (λ v. AreFreelyEqual s.mesh (origin_of s dart ∷ w ∷ []) (by_loop ups (origin_of s dart) v
+    (path_loop s polygon root ups true (label_of polygon dart ∷ label_of polygon (next_of s dart) ∷ []))))
+    ((rotation_system s o).follows dart l)
+    (arc_by_loop s split polygon root ups o t c some h dart (next_of s dart) 1 (w ∷ [])
+    (dart_arc s split o t polygon c some dart l other off))

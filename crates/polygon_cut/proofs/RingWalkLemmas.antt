@@ -17,7 +17,8 @@ use Rattle.tree_cotree.specs.RingViews.{dart_numbers}
 use Rattle.tree_cotree.specs.Splits.{SplitView, HasTrees, in_cotree, is_left}
 use Rattle.tree_cotree.proofs.AfterLemmas.{after_permutes}
 use Rattle.tree_cotree.proofs.LawLemmas.{rest_has_ring}
-use Rattle.polygon_cut.specs.StoredPolygons.{outer_ring, IsWalked}
+use Rattle.polygon_cut.specs.Polygons.{outer_ring}
+use Rattle.polygon_cut.specs.StoredPolygons.{IsWalked}
 use Rattle.polygon_cut.proofs.RoundLemmas.{GoesRound}
 use Rattle.polygon_cut.proofs.WalkedLemmas.{walked_left, walked_other}
 

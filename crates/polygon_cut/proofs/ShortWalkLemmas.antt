@@ -3,7 +3,6 @@
 use Rattle.std.proofs.Common.{◌≡◌, ℕ, zero, suc, ◌+◌, ◌*◌, ◌<◌, ◌≤◌, true, List, [], ◌∷◌, ◌++◌, length, ap, sym, ◌∙◌, subst, arith, length-append}
 use Rattle.std.specs.Prelude.{All}
 use Rattle.surf_model.specs.FaceLists.{is_used}
-use Rattle.surf_model.specs.FreeWalks.{AreFreelyEqual}
 use Rattle.halfedge_map.specs.OrientedMeshes.{OrientedMesh, IsOrientedSurface}
 use Rattle.halfedge_map.specs.DartMaps.{darts_of, origin_of}
 use Rattle.halfedge_map.proofs.SystemLemmas.{names_all}
@@ -13,14 +12,14 @@ use Rattle.polygon_cut.specs.SpokeLoops.{AreWaysUp, by_loop, path_loop}
 use Rattle.polygon_cut.specs.ShortWalks.{IsFreelyShort}
 use Rattle.polygon_cut.proofs.FreeProductLemmas.{inverse_of_one}
 use Rattle.polygon_cut.proofs.RelatorLemmas.{spoke_product}
-use Rattle.polygon_cut.proofs.WayLemmas.{IsWay, way_walk, start_used, end_used, way_on, HasWays, loop_mul, loop_inv, loop_of}
+use Rattle.polygon_cut.proofs.WayLemmas.{IsWay, way_walk, way_on, HasWays, loop_mul, loop_inv, loop_of}
 use Rattle.polygon_cut.proofs.FreeLoopLemmas.{SameFreely, free_equality}
 use Rattle.polygon_cut.proofs.TreeWayLemmas.{up, tree_ways}
 use Rattle.polygon_cut.proofs.DartLoopLemmas.{Loops, spoke, one_of}
 use Rattle.polygon_cut.proofs.FreeSpokeLemmas.{free_group}
 use Rattle.polygon_cut.proofs.FreeWayLemmas.{loop_on}
-use Rattle.polygon_cut.proofs.FreeLawLemmas.{side_in, root_is, path_list, by_own_loop, by_loop_is}
-use Rattle.polygon_cut.proofs.RingArcLemmas.{IsWorth, two_spokes, IsSideArc, side_arc}
+use Rattle.polygon_cut.proofs.FreeLawLemmas.{side_in, root_is, path_list}
+use Rattle.polygon_cut.proofs.RingArcLemmas.{IsWorth, two_spokes, IsSideArc, side_arc, worth_by_loop}
 use Rattle.polygon_cut.proofs.TreePathLemmas.{IsTreeWalk, tree_walk, few_vertices}
 
 -- one walk after another is worth the product
@@ -146,14 +145,11 @@ pub by_short : (s : OrientedMesh) (split : SplitView) (o : IsOrientedSurface s) 
     → IsWorth s split t u v rest loop → 2 * length rest + 6 * pairs + 2 ≤ 3 * (pairs * darts_of s) + darts_of s
     → IsFreelyShort s pairs (by_loop ups u v loop.rest)
 by_short s split o t ups h u v pairs loop rest way worth few =
-    let root : ℕ = t.parents.root in
-    let own : AreFreelyEqual s.mesh (u ∷ rest) (by_loop ups u v loop.rest) =
-    subst (AreFreelyEqual s.mesh (u ∷ rest))
-    (sym (by_loop_is s split o t ups h u v loop.rest (start_used s.mesh u v rest way) (end_used s.mesh u v rest way)))
-    (by_own_loop s.mesh root (up s split t) (tree_ways s split o t) u v rest way loop worth) in
     record {
       short = u ∷ rest;
-      freely = (free_equality s.mesh).turn (u ∷ rest) (by_loop ups u v loop.rest) (way_walk s.mesh u v rest way) own;
+      freely =
+          (free_equality s.mesh).turn (u ∷ rest) (by_loop ups u v loop.rest) (way_walk s.mesh u v rest way)
+          (worth_by_loop s split o t ups h u v rest loop way worth);
       few = omega (arith, few);
     }
 

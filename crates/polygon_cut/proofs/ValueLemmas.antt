@@ -10,7 +10,7 @@ use Rattle.halfedge_map.specs.DartMaps.{darts_of}
 use Rattle.halfedge_map.specs.RotationSystems.{Rotations, rotations_of, IsRotationSystem}
 use Rattle.halfedge_map.proofs.OrbitLemmas.{step_first}
 use Rattle.halfedge_map.proofs.SystemLemmas.{rotation_system}
-use Rattle.tree_cotree.specs.Splits.{SplitView, IsSplit, in_tree, in_cotree, is_left, child_face, IsStepUp, StepsUp}
+use Rattle.tree_cotree.specs.Splits.{SplitView, IsSplit, in_tree, in_cotree, is_left, below_edge, IsStepUp, StepsUp}
 use Rattle.tree_cotree.proofs.SplitLemmas.{OneOfThree, tree_one, cotree_one, left_one}
 use Rattle.tree_cotree.proofs.LawLemmas.{one_of_three}
 use Rattle.polygon_cut.proofs.GroupLemmas.{IsGroup, quotient, inverse_of_quotient, middle, left_factor}
@@ -186,13 +186,13 @@ below : (s : OrientedMesh) (split : SplitView) → IsOrientedSurface s → IsSpl
 below s split o t d l e_in is =
     let maps : Rotations = rotations_of s in
     let r : IsRotationSystem maps = rotation_system s o in
-    let child = some_child (child_face (rotations_of s) split (maps.edge d))
+    let child = some_child (below_edge split (maps.edge d))
     (λ none. both_ways (in_cotree split (maps.edge d)) ((t.child_faces.none (maps.edge d) e_in).0 none) is) in
     let dart = t.child_faces.step (maps.edge d) child.0 child.1 in
     record {
       face = child.0;
       dart = dart.0;
-      step = record { within = dart.1; below = ap (child_face (rotations_of s) split) dart.2 ∙ child.1; inside = dart.3; leads = refl };
+      step = record { within = dart.1; below = ap (below_edge split) dart.2 ∙ child.1; inside = dart.3; leads = refl };
       one_edge = dart.2;
       is_one = (r.edges dart.0 d dart.1 l).0 dart.2;
     }

@@ -1,4 +1,5 @@
 pub mod Polygons
 pub mod StoredPolygons
 pub mod SpokeLoops
+pub mod RingWalks
 pub mod ShortWalks

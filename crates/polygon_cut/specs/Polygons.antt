@@ -8,6 +8,10 @@ use Rattle.tree_cotree.specs.Splits.{SplitView, IsSplit, in_cotree, is_left}
 use Rattle.tree_cotree.specs.SpanningTrees.{after_dart}
 use Rattle.tree_cotree.specs.Colourings.{ColouringView, colouring_of}
 
+-- the ring of tree and leftover edges: the dart after a dart on it
+abbrev pub outer_ring : OrientedMesh → SplitView → ℕ → ℕ
+outer_ring surface split = after_dart (rotations_of surface) (λ e. not (in_cotree split e))
+
 -- the number after i, and the number before it, of so many round
 abbrev pub one_up : ℕ → ℕ → ℕ
 one_up degree i = if i + 1 == degree then 0 else i + 1
@@ -69,8 +73,7 @@ pub record HasPlaces (maps : Rotations) (polygon : PolygonView) : Type 0 where
 -- vertex; for four sides they rise by one with the spokes.
 pub record IsCutFrom (surface : OrientedMesh) (split : SplitView) (polygon : PolygonView) : Type 0 where
   pub degree : polygon.degree ≡ 4 * split.genus
-  pub labels : 0 < polygon.degree
-      → IsLabelled (rotations_of surface) (after_dart (rotations_of surface) (λ e. not (in_cotree split e))) (is_left split) polygon
+  pub labels : 0 < polygon.degree → IsLabelled (rotations_of surface) (outer_ring surface split) (is_left split) polygon
   pub last_side : 0 < polygon.degree → (rotations_of surface).face (side_at polygon (polygon.degree - 1)) ≡ split.root_face
   pub places : 0 < polygon.degree → HasPlaces (rotations_of surface) polygon
 

@@ -8,7 +8,7 @@ use Rattle.surf_model.specs.declared.moves.Move.TheVariants.{Insert, Remove, Acr
 use Rattle.halfedge_map.specs.OrientedMeshes.{OrientedMesh}
 use Rattle.halfedge_map.specs.DartMaps.{darts_of, next_of, twin_of, origin_of, edge_of, start_corner_of}
 use Rattle.halfedge_map.specs.RotationSystems.{rotations_of, IsDartFrom}
-use Rattle.tree_cotree.specs.Splits.{SplitView, in_cotree, child_face, StepsToParent}
+use Rattle.tree_cotree.specs.Splits.{SplitView, in_cotree, below_edge, StepsToParent}
 use Rattle.polygon_cut.specs.Polygons.{PolygonView, side_at, label_of, across}
 
 -- the edges of the walk are in the tree or left over
@@ -21,7 +21,7 @@ IsOffCotree surface split walk =
 pub record CrossesBelow (surface : OrientedMesh) (split : SplitView) (face corner : ℕ) (forward : Bool) (taken : ℕ) : Type 0 where
   pub dart : ℕ
   pub within : dart < darts_of surface
-  pub below : child_face (rotations_of surface) split (edge_of surface dart) ≡ Some face
+  pub below : below_edge split (edge_of surface dart) ≡ Some face
   pub corner_in : corner < length (face_at surface.mesh face)
   pub starts : slice_index (face_at surface.mesh face) corner ≡ origin_of surface dart
   pub ends : slice_index (face_at surface.mesh face) (next_corner forward (length (face_at surface.mesh face)) corner)

@@ -3,17 +3,11 @@ use Rattle.std.specs.Prelude.{◌≡◌, ℕ, ◌<◌, ◌-◌, Bool, true, not,
 use Rattle.surf_model.specs.declared.names.DartName.{DartName}
 use Rattle.halfedge_map.specs.Numbers.{count_below}
 use Rattle.halfedge_map.specs.Orbits.{after_steps, IsReached}
-use Rattle.halfedge_map.specs.OrientedMeshes.{OrientedMesh}
-use Rattle.halfedge_map.specs.RotationSystems.{Rotations, rotations_of}
+use Rattle.halfedge_map.specs.RotationSystems.{Rotations}
 use Rattle.tree_cotree.specs.RingViews.{dart_numbers}
-use Rattle.tree_cotree.specs.SpanningTrees.{after_dart}
-use Rattle.tree_cotree.specs.Splits.{SplitView, in_cotree, is_cotree_kind}
+use Rattle.tree_cotree.specs.Splits.{is_cotree_kind}
 use Rattle.tree_cotree.specs.declared.split.Kind.{Kind}
 use Rattle.polygon_cut.specs.Polygons.{PolygonView, side_at, across, turned}
-
--- the ring of tree and leftover edges
-abbrev pub outer_ring : OrientedMesh → SplitView → ℕ → ℕ
-outer_ring surface split = after_dart (rotations_of surface) (λ e. not (in_cotree split e))
 
 -- the dart after a dart on that ring, by the kind of its edge
 abbrev pub dart_after_kind : Rotations → Kind → ℕ → ℕ

@@ -1,6 +1,6 @@
 //! What holds of every polygon cut from a surface, said of the definitions. A call of one of these functions does
 //! nothing; its contract is the law.
-ghost use Rattle.std.specs.Prelude.{◌≡◌, ℕ, ◌+◌, ◌*◌, ◌-◌, ◌<◌, ◌≤◌, true, false, List, [], ◌∷◌, ◌++◌, length, slice_index, All};
+ghost use Rattle.std.specs.Prelude.{◌≡◌, ◌≢◌, ◌⊎◌, ℕ, ◌+◌, ◌*◌, ◌-◌, ◌<◌, ◌≤◌, true, false, List, [], ◌∷◌, ◌++◌, length, slice_index, All};
 ghost use Rattle.surf_model.specs.FaceLists.{is_used};
 ghost use Rattle.surf_model.specs.Walks.{IsWalk, HaveCommonEnds};
 ghost use Rattle.surf_model.specs.Moves.{Homotopic, Leads};
@@ -8,10 +8,11 @@ ghost use Rattle.surf_model.specs.FreeWalks.{AreFreelyEqual};
 ghost use Rattle.surf_model.specs.declared.moves.Move.{Move};
 ghost use Rattle.halfedge_map.specs.Orbits.{IsReached};
 ghost use Rattle.halfedge_map.specs.OrientedMeshes.{OrientedMesh, IsOrientedSurface};
-ghost use Rattle.halfedge_map.specs.DartMaps.{darts_of, twin_of, edge_of, origin_of};
+ghost use Rattle.halfedge_map.specs.DartMaps.{darts_of, next_of, twin_of, edge_of, origin_of};
 ghost use Rattle.halfedge_map.specs.RotationSystems.{rotations_of};
 ghost use Rattle.tree_cotree.specs.Splits.{SplitView, IsSplit, in_tree, in_cotree, is_left};
 ghost use Rattle.polygon_cut.specs.Polygons.{PolygonView, IsCutFrom, KindLabels, label_of, place_of, turned, one_up, one_down};
+ghost use Rattle.polygon_cut.specs.RingWalks.{ring_walk, IsRingArc};
 ghost use Rattle.polygon_cut.specs.ShortWalks.{AreShortAround, IsFreelyShort};
 ghost use Rattle.polygon_cut.specs.SpokeLoops.{AreWaysUp, HaveFreeSpokes, LeavesCotree, IsOffCotree, by_loop, path_loop, spokes_along};
 ghost use Rattle.polygon_cut.specs.SpokeLoops.{backward, comes_back, way_round, way_back_round, last_side, last_side_loop, across_last, ArePushedFreely, ArePushedWithLoop};
@@ -98,6 +99,33 @@ pub fn pushes_are_free_but_at_the_last_side()
         → IsOrientedSurface surface → IsSplit surface split → IsCutFrom surface split polygon → 0 < polygon.degree
         → AreWaysUp surface split root up
         → ArePushedWithLoop surface polygon root up (polygon.degree - 1) (across_last surface polygon) }
+{}
+
+/// What a walk along the ring of tree and leftover edges is worth: up to spurs, an arc of the ring is the loop of two spokes, there
+/// along that of the label at its first dart, and back along that of the label at the dart to which it leads, with the way up the tree
+/// before the loop and the way down behind it. So is each dart off the cotree that is not the last side, by the labels at its
+/// tail and at its head. And of any two darts, so of any two sides too, there is an arc from the one to the other or from the other to
+/// the one, with fewer steps than there are darts.
+pub fn ring_walks_are_freely_two_spokes()
+    ensures walk { (surface : OrientedMesh) (split : SplitView) (polygon : PolygonView) (root : ℕ) (up : ℕ → List ℕ)
+        (from to steps : ℕ) → IsOrientedSurface surface → IsSplit surface split → IsCutFrom surface split polygon
+        → 0 < polygon.degree → AreWaysUp surface split root up → from < darts_of surface
+        → IsRingArc surface split polygon from to steps
+        → AreFreelyEqual surface.mesh (origin_of surface from ∷ ring_walk surface split steps from)
+        (by_loop up (origin_of surface from) (origin_of surface to)
+        (path_loop surface polygon root up true (label_of polygon from ∷ label_of polygon to ∷ []))) }
+    ensures dart { (surface : OrientedMesh) (split : SplitView) (polygon : PolygonView) (root : ℕ) (up : ℕ → List ℕ)
+        (dart : ℕ) → IsOrientedSurface surface → IsSplit surface split → IsCutFrom surface split polygon
+        → 0 < polygon.degree → AreWaysUp surface split root up → dart < darts_of surface
+        → in_cotree split (edge_of surface dart) ≡ false → dart ≢ last_side polygon
+        → AreFreelyEqual surface.mesh (origin_of surface dart ∷ origin_of surface (twin_of surface dart) ∷ [])
+        (by_loop up (origin_of surface dart) (origin_of surface (twin_of surface dart))
+        (path_loop surface polygon root up true (label_of polygon dart ∷ label_of polygon (next_of surface dart) ∷ []))) }
+    ensures joined { (surface : OrientedMesh) (split : SplitView) (polygon : PolygonView) (one other : ℕ)
+        → IsOrientedSurface surface → IsSplit surface split → IsCutFrom surface split polygon → 0 < polygon.degree
+        → one < darts_of surface → other < darts_of surface
+        → (steps : ℕ) × (steps < darts_of surface)
+        × (IsRingArc surface split polygon one other steps ⊎ IsRingArc surface split polygon other one steps) }
 {}
 
 /// The loop of a list of spokes, with a way up the tree before it and a way down behind it, is a short walk, up to spurs:

@@ -7,7 +7,8 @@ ghost use Rattle.tree_cotree.specs.RingViews.{dart_numbers};
 ghost use Rattle.tree_cotree.specs.Splits.{is_left, is_left_kind, kind_of};
 ghost use Rattle.tree_cotree.specs.Colourings.{IsColouring};
 ghost use Rattle.tree_cotree.specs.ColouredTrees.{without_ways};
-ghost use Rattle.polygon_cut.specs.StoredPolygons.{outer_ring, dart_after_kind, IsWalked};
+ghost use Rattle.polygon_cut.specs.Polygons.{outer_ring};
+ghost use Rattle.polygon_cut.specs.StoredPolygons.{dart_after_kind, IsWalked};
 
 use halfedge_map::Surface;
 use std::alloc::{AllocError, Global};

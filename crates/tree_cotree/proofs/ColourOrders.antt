@@ -5,7 +5,6 @@ use Rattle.std.proofs.Math.ListN.{set}
 use Rattle.std.specs.Prelude.{Option, Some, None, replicate}
 use Rattle.std.proofs.lemmas.Bool.{cases_lt, both_ways}
 use Rattle.std.proofs.lemmas.List.{length_push, get_or_push, get_or_append_left, length-replicate}
-use Rattle.surf_model.specs.declared.names.DartName.{DartName}
 use Rattle.halfedge_map.specs.Numbers.{count_below}
 use Rattle.halfedge_map.specs.RotationSystems.{Rotations, IsRotationSystem}
 use Rattle.tree_cotree.specs.SpanningTrees.{IsStepIn, IsSpanningTree}
@@ -17,7 +16,7 @@ use Rattle.tree_cotree.proofs.SplittingLemmas.{option_cases}
 
 -- an order within the set, and its nodes as a test
 record IsListed (maps : Rotations) (node : ℕ → ℕ) (is_node : ℕ → Bool) (bound : ℕ) (tree : ℕ → Bool) (root : ℕ) (order : List ℕ)
-    (from : List (Option DartName)) (nodes : ℕ → Bool) : Type 0 where
+    (from : List (Option ℕ)) (nodes : ℕ → Bool) : Type 0 where
   is_order : IsOrder maps node tree bound (node root) order from
   found : (v : ℕ) → nodes v ≡ true → IsFound node order v
   listed : (v : ℕ) → IsFound node order v → nodes v ≡ true
@@ -59,15 +58,15 @@ record LeadsOut (maps : Rotations) (node : ℕ → ℕ) (tree nodes : ℕ → Bo
 
 -- one node more
 one_more : (maps : Rotations) (node : ℕ → ℕ) (is_node : ℕ → Bool) (bound edges : ℕ) (tree : ℕ → Bool) (root : ℕ) (order : List ℕ)
-    (from : List (Option DartName)) (nodes : ℕ → Bool) (d : ℕ)
+    (from : List (Option ℕ)) (nodes : ℕ → Bool) (d : ℕ)
     → IsRotationSystem maps → HasNodes maps node is_node bound edges → IsListed maps node is_node bound tree root order from nodes
     → LeadsOut maps node tree nodes d
     → IsListed maps node is_node bound tree root (order ++ maps.twin d ∷ [])
-    (set from (node (maps.twin d)) (Some (record { 0 = maps.twin d }))) (with_one nodes (node (maps.twin d)))
+    (set from (node (maps.twin d)) (Some (maps.twin d))) (with_one nodes (node (maps.twin d)))
 one_more maps node is_node bound edges tree root order from nodes d r n h out =
     let twin_in : twin < maps.darts = r.twin_within d out.within in
     record {
-      is_order = order_more maps node tree bound (node root) order from d (record { 0 = twin }) r h.is_order (record {
+      is_order = order_more maps node tree bound (node root) order from d twin r h.is_order (record {
         dart = out.within;
         from_found = h.found (node d) out.inner;
         crosses = out.in_set;
@@ -127,10 +126,10 @@ one_more maps node is_node bound edges tree root order from nodes d r n h out =
 list_all : (maps : Rotations) (node : ℕ → ℕ) (is_node : ℕ → Bool) (bound edges : ℕ) (tree : ℕ → Bool) (root : ℕ)
     → IsRotationSystem maps → HasNodes maps node is_node bound edges → IsSpanningTree maps node is_node bound edges tree
     → root < maps.darts
-    → (left : ℕ) (order : List ℕ) (from : List (Option DartName)) (nodes : ℕ → Bool) → nodes (node root) ≡ true
+    → (left : ℕ) (order : List ℕ) (from : List (Option ℕ)) (nodes : ℕ → Bool) → nodes (node root) ≡ true
     → count_below nodes bound + left ≡ count_below is_node bound
     → IsListed maps node is_node bound tree root order from nodes
-    → (kept : List (Option DartName)) × FindsAll maps node tree bound (node root) kept
+    → (kept : List (Option ℕ)) × FindsAll maps node tree bound (node root) kept
 list_all maps node is_node bound edges tree root r n t root_in zero order from nodes rooted count h =
     let all : (v : ℕ) → v < bound → nodes v ≡ is_node v = same_from_count nodes is_node bound h.are_nodes (omega arith) in (
       from,
@@ -162,7 +161,7 @@ list_all maps node is_node bound edges tree root r n t root_in (suc left) order 
           let more : count_below (with_one nodes v) bound ≡ suc (count_below nodes bound) =
           count_with nodes bound v (n.node_within (maps.twin d) (r.twin_within d is.within)) leads.outer in
           list_all maps node is_node bound edges tree root r n t root_in left (order ++ maps.twin d ∷ [])
-          (set from v (Some (record { 0 = maps.twin d }))) (with_one nodes v) (with_keeps nodes v (node root) rooted)
+          (set from v (Some (maps.twin d))) (with_one nodes v) (with_keeps nodes v (node root) rooted)
           (omega (arith, count, more)) (one_more maps node is_node bound edges tree root order from nodes d r n h leads)
     ]
 
@@ -170,7 +169,7 @@ list_all maps node is_node bound edges tree root r n t root_in (suc left) order 
 pub finds_all_within : (maps : Rotations) (node : ℕ → ℕ) (is_node : ℕ → Bool) (bound edges : ℕ) (tree : ℕ → Bool) (root : ℕ)
     → IsRotationSystem maps → HasNodes maps node is_node bound edges → IsSpanningTree maps node is_node bound edges tree
     → root < maps.darts
-    → (kept : List (Option DartName)) × FindsAll maps node tree bound (node root) kept
+    → (kept : List (Option ℕ)) × FindsAll maps node tree bound (node root) kept
 finds_all_within maps node is_node bound edges tree root r n t root_in =
     let start : IsListed maps node is_node bound tree root (root ∷ []) (replicate bound None) (with_one (λ v. false) (node root)) =
     root_listed maps node is_node bound edges tree root n root_in in

@@ -28,15 +28,15 @@ new_at : (order : List ℕ) (x j : ℕ) → j ≡ length order → get_or (order
 new_at order x j e = get_or_push order x 0 j (sym e)
 
 -- what is kept for a node, after another dart is kept
-kept_same : (from : List (Option DartName)) (v : ℕ) (x : DartName) → v < length from → back_at (set from v (Some x)) v ≡ Some x.0
-kept_same from v x l = ap (option_map (λ (d : DartName). d.0)) (get_or-set_same from v (Some x) None l)
+kept_same : (from : List (Option ℕ)) (v x : ℕ) → v < length from → back_at (set from v (Some x)) v ≡ Some x
+kept_same from v x l = get_or-set_same from v (Some x) None l
 
-kept_other : (from : List (Option DartName)) (v w : ℕ) (x : DartName) → w ≢ v → back_at (set from v (Some x)) w ≡ back_at from w
-kept_other from v w x ne = ap (option_map (λ (d : DartName). d.0)) (get_or-set_other from v w (Some x) None ne)
+kept_other : (from : List (Option ℕ)) (v w x : ℕ) → w ≢ v → back_at (set from v (Some x)) w ≡ back_at from w
+kept_other from v w x ne = get_or-set_other from v w (Some x) None ne
 
 -- a dart with a new node across an allowed edge
 pub record IsNewDart (maps : Rotations) (node : ℕ → ℕ) (allowed : ℕ → Bool) (bound root : ℕ) (order : List ℕ)
-    (from : List (Option DartName)) (d : ℕ) : Type 0 where
+    (from : List (Option ℕ)) (d : ℕ) : Type 0 where
   pub dart : d < maps.darts
   pub from_found : IsFound node order (node d)
   pub crosses : allowed (maps.edge d) ≡ true
@@ -48,20 +48,20 @@ some_is_none : (o : Option ℕ) (x : ℕ) → o ≡ Some x → o ≡ None → �
 some_is_none o x e k = cc
 
 pub order_more : (maps : Rotations) (node : ℕ → ℕ) (allowed : ℕ → Bool) (bound root : ℕ) (order : List ℕ)
-    (from : List (Option DartName)) (d : ℕ) (x : DartName)
+    (from : List (Option ℕ)) (d x : ℕ)
     → IsRotationSystem maps → IsOrder maps node allowed bound root order from → IsNewDart maps node allowed bound root order from d
-    → x.0 ≡ maps.twin d
-    → IsOrder maps node allowed bound root (order ++ x.0 ∷ []) (set from (node (maps.twin d)) (Some x))
+    → x ≡ maps.twin d
+    → IsOrder maps node allowed bound root (order ++ x ∷ []) (set from (node (maps.twin d)) (Some x))
 order_more maps node allowed bound root order from d x r h new is =
     let v : ℕ = node (maps.twin d) in
     let n : ℕ = length order in
-    let more : List ℕ = order ++ x.0 ∷ [] in
-    let kept : List (Option DartName) = set from v (Some x) in
-    let long : length more ≡ n + 1 = length_push order x.0 in
+    let more : List ℕ = order ++ x ∷ [] in
+    let kept : List (Option ℕ) = set from v (Some x) in
+    let long : length more ≡ n + 1 = length_push order x in
     let v_in : v < length from = omega (arith, new.below, h.long) in
-    let x_node : node x.0 ≡ v = ap node is in
-    let old : (j : ℕ) → j < n → get_or more j 0 ≡ get_or order j 0 = old_at order x.0 in
-    let last : (j : ℕ) → j ≡ n → get_or more j 0 ≡ x.0 = new_at order x.0 in
+    let x_node : node x ≡ v = ap node is in
+    let old : (j : ℕ) → j < n → get_or more j 0 ≡ get_or order j 0 = old_at order x in
+    let last : (j : ℕ) → j ≡ n → get_or more j 0 ≡ x = new_at order x in
     let unlike : (i : ℕ) → i < n → node (get_or order i 0) ≢ v =
     λ i l e. elim (cases_eq i 0) [
       | inl at_root ↦ new.not_root (sym e ∙ ap (λ k. node (get_or order k 0)) at_root ∙ h.first)
@@ -108,13 +108,13 @@ order_more maps node allowed bound root order from d x r h new is =
             ∙ h.named j later less
             ∙ ap Some (sym (old j less))
         | inr at_end ↦
-            (let here : get_or more j 0 ≡ x.0 = last j (omega (arith, l, long, at_end)) in
+            (let here : get_or more j 0 ≡ x = last j (omega (arith, l, long, at_end)) in
             ap (λ y. back_at kept (node y)) here ∙ ap (back_at kept) x_node ∙ kept_same from v x v_in ∙ ap Some (sym here))
       ];
       only = λ w y k. elim (cases_eq w v) [
         | inl same ↦
-            (let own : Some y ≡ Some x.0 = sym k ∙ ap (back_at kept) same ∙ kept_same from v x v_in in
-            let is_x : y ≡ x.0 = cc in
+            (let own : Some y ≡ Some x = sym k ∙ ap (back_at kept) same ∙ kept_same from v x v_in in
+            let is_x : y ≡ x = cc in
             record {
               place = n;
               later = h.some;
@@ -135,7 +135,7 @@ order_more maps node allowed bound root order from d x r h new is =
     }
 
 -- the order of a start
-pub order_start : (maps : Rotations) (node : ℕ → ℕ) (allowed : ℕ → Bool) (bound start : ℕ) (order : List ℕ) (from : List (Option DartName))
+pub order_start : (maps : Rotations) (node : ℕ → ℕ) (allowed : ℕ → Bool) (bound start : ℕ) (order : List ℕ) (from : List (Option ℕ))
     → order ≡ start ∷ [] → start < maps.darts → length from ≡ bound → ((v : ℕ) → back_at from v ≡ None)
     → IsOrder maps node allowed bound (node start) order from
 order_start maps node allowed bound start order from is l long none =
@@ -169,7 +169,7 @@ found_on node old new v h found =
     }
 
 -- an order has no more darts than there are numbers of nodes
-pub order_few : (maps : Rotations) (node : ℕ → ℕ) (allowed : ℕ → Bool) (bound root : ℕ) (order : List ℕ) (from : List (Option DartName))
+pub order_few : (maps : Rotations) (node : ℕ → ℕ) (allowed : ℕ → Bool) (bound root : ℕ) (order : List ℕ) (from : List (Option ℕ))
     → IsOrder maps node allowed bound root order from → ((d : ℕ) → d < maps.darts → node d < bound) → length order ≤ bound
 order_few maps node allowed bound root order from h below =
     elim (cases_lt bound (length order)) [
@@ -265,45 +265,44 @@ turning s h Faces =
 
 -- a node that is the root, or for which a dart is kept, is found
 pub root_found : (maps : Rotations) (node : ℕ → ℕ) (allowed : ℕ → Bool) (bound root : ℕ) (order : List ℕ)
-    (from : List (Option DartName)) (v : ℕ)
+    (from : List (Option ℕ)) (v : ℕ)
     → IsOrder maps node allowed bound root order from → v ≡ root → IsFound node order v
 root_found maps node allowed bound root order from v h is = record { place = 0; within = h.some; is = h.first ∙ sym is }
 
 pub named_found : (node : ℕ → ℕ) (order : List ℕ) (v x : ℕ) → IsNamed node order v x → IsFound node order v
 named_found node order v x h = record { place = h.place; within = h.within; is = ap node h.is ∙ h.of_node }
 
-kept_is : (from : List (Option DartName)) (v : ℕ) (o : Option DartName) → v < length from → o ≡ get_or from v o → get_or from v None ≡ o
+kept_is : (from : List (Option ℕ)) (v : ℕ) (o : Option ℕ) → v < length from → o ≡ get_or from v o → get_or from v None ≡ o
 kept_is from v o l e = sym (get_or_read from v o l e None)
 
 -- what is read from a list of kept darts
-pub kept_read : (from : List (Option DartName)) (v : ℕ) (o got x : Option DartName) → v < length from → o ≡ get_or from v o → got ≡ o
-    → got ≡ x
-    → back_at from v ≡ option_map (λ d. d.0) x
-kept_read from v o got x l e get is = ap (option_map (λ (d : DartName). d.0)) (kept_is from v o l e ∙ sym get ∙ is)
+pub kept_read : (from : List (Option ℕ)) (v : ℕ) (o : Option ℕ) (got x : Option DartName) → v < length from → o ≡ get_or from v o
+    → option_map (λ d. d.0) got ≡ o → got ≡ x → back_at from v ≡ option_map (λ d. d.0) x
+kept_read from v o got x l e get is = kept_is from v o l e ∙ sym get ∙ ap (option_map (λ (d : DartName). d.0)) is
 
 pub kept_found : (maps : Rotations) (node : ℕ → ℕ) (allowed : ℕ → Bool) (bound root : ℕ) (order : List ℕ)
-    (from : List (Option DartName)) (v : ℕ) (o : Option DartName)
+    (from : List (Option ℕ)) (v : ℕ) (o : Option ℕ)
     → IsOrder maps node allowed bound root order from → v < length from → o ≡ get_or from v o → is_some o ≡ true → IsFound node order v
 kept_found maps node allowed bound root order from v None h l e some = cc
 kept_found maps node allowed bound root order from v (Some x) h l e some =
-    named_found node order v x.0 (h.only v x.0 (ap (option_map (λ (d : DartName). d.0)) (kept_is from v (Some x) l e)))
+    named_found node order v x (h.only v x (kept_is from v (Some x) l e))
 
-pub none_kept : (from : List (Option DartName)) (v : ℕ) (o : Option DartName) → v < length from → o ≡ get_or from v o
+pub none_kept : (from : List (Option ℕ)) (v : ℕ) (o : Option ℕ) → v < length from → o ≡ get_or from v o
     → is_some o ≡ false → back_at from v ≡ None
-none_kept from v None l e none = ap (option_map (λ (d : DartName). d.0)) (kept_is from v None l e)
+none_kept from v None l e none = kept_is from v None l e
 none_kept from v (Some x) l e none = cc
 
 pub numbers_push : (xs ys : List DartName) (x : DartName) → ys ≡ xs ++ x ∷ [] → dart_numbers ys ≡ dart_numbers xs ++ x.0 ∷ []
 numbers_push xs ys x e = ap dart_numbers e ∙ map-append (λ (d : DartName). d.0) xs (x ∷ [])
 
 pub order_pushed : (maps : Rotations) (node : ℕ → ℕ) (allowed : ℕ → Bool) (bound root : ℕ) (xs ys : List DartName)
-    (from : List (Option DartName)) (d v : ℕ) (x : DartName)
+    (from : List (Option ℕ)) (d v : ℕ) (x : DartName)
     → IsRotationSystem maps → IsOrder maps node allowed bound root (dart_numbers xs) from
     → IsNewDart maps node allowed bound root (dart_numbers xs) from d
     → x.0 ≡ maps.twin d → v ≡ node (maps.twin d) → ys ≡ xs ++ x ∷ []
-    → IsOrder maps node allowed bound root (dart_numbers ys) (set from v (Some x))
+    → IsOrder maps node allowed bound root (dart_numbers ys) (set from v (Some x.0))
 order_pushed maps node allowed bound root xs ys from d v x r h new is at pushed =
-    rw (numbers_push xs ys x pushed, at) (order_more maps node allowed bound root (dart_numbers xs) from d x r h new is)
+    rw (numbers_push xs ys x pushed, at) (order_more maps node allowed bound root (dart_numbers xs) from d x.0 r h new is)
 
 pub found_pushed : (maps : Rotations) (node : ℕ → ℕ) (xs ys : List DartName) (d : ℕ) (x : DartName) → x.0 ≡ maps.twin d → ys ≡ xs ++ x ∷ []
     → IsFound node (dart_numbers ys) (node (maps.twin d))
@@ -346,21 +345,21 @@ added_goes xs ws ys vs h =
 
 -- going round a node: so many turns are done, and all that they cross is found
 pub record IsVisiting (maps : Rotations) (node : ℕ → ℕ) (allowed : ℕ → Bool) (turn : ℕ → ℕ) (bound root : ℕ)
-    (before waited order waiting : List ℕ) (from : List (Option DartName)) (first dart k : ℕ) : Type 0 where
+    (before waited order waiting : List ℕ) (from : List (Option ℕ)) (first dart k : ℕ) : Type 0 where
   pub is_order : IsOrder maps node allowed bound root order from
   pub added : AreAdded before waited order waiting
   pub at : dart ≡ after_steps turn k first
   pub crossed : CrossedUpTo maps node allowed turn order first k
 
 pub visit_start : (maps : Rotations) (node : ℕ → ℕ) (allowed : ℕ → Bool) (turn : ℕ → ℕ) (bound root : ℕ) (order waiting : List ℕ)
-    (from : List (Option DartName)) (first : ℕ)
+    (from : List (Option ℕ)) (first : ℕ)
     → IsOrder maps node allowed bound root order from
     → IsVisiting maps node allowed turn bound root order waiting order waiting from first first 0
 visit_start maps node allowed turn bound root order waiting from first h =
     record { is_order = h; added = added_none order waiting; at = refl; crossed = λ i l passes. absurd (omega arith) }
 
 pub visit_more : (maps : Rotations) (node : ℕ → ℕ) (allowed : ℕ → Bool) (turn : ℕ → ℕ) (bound root : ℕ)
-    (before waited order waiting new more : List ℕ) (from kept : List (Option DartName)) (first dart next k : ℕ)
+    (before waited order waiting new more : List ℕ) (from kept : List (Option ℕ)) (first dart next k : ℕ)
     → IsVisiting maps node allowed turn bound root before waited order waiting from first dart k
     → IsOrder maps node allowed bound root new kept
     → AreAdded order waiting new more → (allowed (maps.edge dart) ≡ true → IsFound node new (node (maps.twin dart))) → next ≡ turn dart
@@ -380,7 +379,7 @@ pub visit_within : (maps : Rotations) (node : ℕ → ℕ) (turn : ℕ → ℕ) 
 visit_within maps node turn first dart k t l at = subst (λ d. d < maps.darts) (sym at) (steps_within maps.darts turn t.permutes k first l)
 
 pub visit_found : (maps : Rotations) (node : ℕ → ℕ) (allowed : ℕ → Bool) (turn : ℕ → ℕ) (bound root : ℕ)
-    (before waited order waiting : List ℕ) (from : List (Option DartName)) (first dart k : ℕ)
+    (before waited order waiting : List ℕ) (from : List (Option ℕ)) (first dart k : ℕ)
     → IsTurning maps node turn → first < maps.darts → IsFound node before (node first)
     → IsVisiting maps node allowed turn bound root before waited order waiting from first dart k → IsFound node order (node dart)
 visit_found maps node allowed turn bound root before waited order waiting from first dart k t l found h =
@@ -391,6 +390,6 @@ visit_found maps node allowed turn bound root before waited order waiting from f
 
 -- the order and its bound
 pub rebound : (maps : Rotations) (node : ℕ → ℕ) (allowed : ℕ → Bool) (bound other root : ℕ) (order : List ℕ)
-    (from : List (Option DartName)) → bound ≡ other
+    (from : List (Option ℕ)) → bound ≡ other
     → IsOrder maps node allowed bound root order from → IsOrder maps node allowed other root order from
 rebound maps node allowed bound other root order from e h = subst (λ b. IsOrder maps node allowed b root order from) e h

@@ -2,13 +2,10 @@
 -- turned round, so that its root is a face that has a leftover dart.
 use Rattle.std.proofs.Common.{◌≡◌, ◌⊎◌, inl, inr, ℕ, zero, suc, ◌+◌, ◌/◌, ◌<◌, Bool, true, false, List, length, get_or, refl, ap, sym, ◌∙◌, subst, arith}
 use Rattle.std.specs.Prelude.{Option, Some, None, is_some, replicate}
-use Rattle.std.specs.Option.{option_map}
 use Rattle.std.proofs.lemmas.Bool.{cases_Bool, both_ways}
-use Rattle.std.proofs.lemmas.List.{length-map, length-replicate, get_or-replicate}
+use Rattle.std.proofs.lemmas.List.{length-replicate, get_or-replicate}
 use Rattle.surf_model.specs.FaceLists.{is_used}
 use Rattle.surf_model.specs.Surfaces.{AreJoined}
-use Rattle.surf_model.specs.declared.names.DartName.{DartName}
-use Rattle.surf_model.specs.declared.names.FaceName.{FaceName}
 use Rattle.halfedge_map.specs.Numbers.{count_below}
 use Rattle.halfedge_map.specs.OrientedMeshes.{OrientedMesh, IsOrientedSurface}
 use Rattle.halfedge_map.specs.RotationSystems.{Rotations, rotations_of, IsRotationSystem, NamesAll}
@@ -21,7 +18,7 @@ use Rattle.tree_cotree.specs.Markings.{AreMarked, IsMarked}
 use Rattle.tree_cotree.specs.Splits.{SplitView, HasParents, HasChildFaces, HasTrees, IsSplit, StepsToParent, StepsUp, below_edge, in_tree, in_cotree, is_left, is_tree_kind, is_cotree_kind, is_left_kind}
 use Rattle.tree_cotree.specs.Ways.{HasRoot}
 use Rattle.tree_cotree.specs.EdgeFaces.{face_at, AreBelowEdges}
-use Rattle.tree_cotree.specs.StoredSplits.{dart_options, made_split}
+use Rattle.tree_cotree.specs.StoredSplits.{made_split}
 use Rattle.tree_cotree.proofs.ClassLemmas.{count_same}
 use Rattle.tree_cotree.proofs.SetLemmas.{with_one, with_cases, with_keeps, count_with, same_from_count}
 use Rattle.tree_cotree.proofs.GrowthLemmas.{HasNodes}
@@ -29,7 +26,6 @@ use Rattle.tree_cotree.proofs.SplitLemmas.{tree_ring, closed_holds_all}
 use Rattle.tree_cotree.proofs.LawLemmas.{vertex_nodes, face_nodes, some_dart, even}
 use Rattle.tree_cotree.proofs.TreeLemmas.{crossed_from, vertices_found, kept_nodes, root_not_kept, kept_join, all_to_root, kept_allowed}
 use Rattle.tree_cotree.proofs.TurningLemmas.{allow}
-use Rattle.tree_cotree.proofs.BelowLemmas.{options_read, faces_read}
 
 pub option_cases : (o : Option ℕ) → (o ≡ None) ⊎ ((x : ℕ) × (o ≡ Some x))
 option_cases None = inl refl
@@ -74,7 +70,7 @@ pub other_kind : (kinds : List Kind) (kind other : Kind) (e : ℕ) → same_kind
 other_kind kinds kind other e differ is = ap (λ k. same_kind k other) (kind_is (get_or kinds e Tree) kind is) ∙ differ
 
 -- the marked edges of a search that finds all nodes span them
-root_free : (maps : Rotations) (node : ℕ → ℕ) (allowed : ℕ → Bool) (bound root : ℕ) (from : List (Option DartName))
+root_free : (maps : Rotations) (node : ℕ → ℕ) (allowed : ℕ → Bool) (bound root : ℕ) (from : List (Option ℕ))
     → FindsAll maps node allowed bound root from
     → is_some (back_at from root) ≡ false
 root_free maps node allowed bound root from f =
@@ -84,7 +80,7 @@ root_free maps node allowed bound root from f =
     ]
 
 count_nodes : (maps : Rotations) (node : ℕ → ℕ) (allowed : ℕ → Bool) (bound root edges : ℕ) (is_node : ℕ → Bool)
-    (from : List (Option DartName))
+    (from : List (Option ℕ))
     → HasNodes maps node is_node bound edges → FindsAll maps node allowed bound root from → root < bound
     → count_below is_node bound ≡ count_below (λ w. is_some (back_at from w)) (length from) + 1
 count_nodes maps node allowed bound root edges is_node from n f l =
@@ -96,7 +92,7 @@ count_nodes maps node allowed bound root edges is_node from n f l =
     (length from) + 1 = omega arith in e)
 
 pub kept_below : (maps : Rotations) (node : ℕ → ℕ) (allowed : ℕ → Bool) (bound root edges : ℕ) (is_node : ℕ → Bool)
-    (from : List (Option DartName)) (v x : ℕ)
+    (from : List (Option ℕ)) (v x : ℕ)
     → HasNodes maps node is_node bound edges → FindsAll maps node allowed bound root from → back_at from v ≡ Some x → v < length from
 kept_below maps node allowed bound root edges is_node from v x n f e =
     let name : IsNamed node f.order v x = f.is_order.only v x e in
@@ -105,7 +101,7 @@ kept_below maps node allowed bound root edges is_node from v x n f e =
     omega (arith, below, name.of_node, f.is_order.long)
 
 spans : (maps : Rotations) (node : ℕ → ℕ) (allowed : ℕ → Bool) (bound root edges : ℕ) (is_node : ℕ → Bool)
-    (from : List (Option DartName)) (old inside : ℕ → Bool)
+    (from : List (Option ℕ)) (old inside : ℕ → Bool)
     → IsRotationSystem maps → HasNodes maps node is_node bound edges → FindsAll maps node allowed bound root from → root < bound
     → AreMarked maps from edges old inside (length from) → ((e : ℕ) → e < edges → old e ≡ false)
     → IsSpanningTree maps node is_node bound edges inside
@@ -118,7 +114,7 @@ spans maps node allowed bound root edges is_node from old inside r n f l m none 
     }
 
 -- the parts of a split that is made so
-pub record IsMade (s : OrientedMesh) (k0 k1 k2 : List Kind) (p q t : List (Option DartName)) (b : List (Option FaceName)) (start : ℕ)
+pub record IsMade (s : OrientedMesh) (k0 k1 k2 : List Kind) (p q t : List (Option ℕ)) (b : List (Option ℕ)) (start : ℕ)
     : Type 0 where
   pub first : k0 ≡ replicate (length s.table) Left
   pub tree : IsSearched (rotations_of s) (rotations_of s).origin (λ e. true) s.mesh.count ((rotations_of s).origin 0) p
@@ -137,7 +133,7 @@ pub all_left : (s : OrientedMesh) (k0 : List Kind) (e : ℕ) → k0 ≡ replicat
     → get_or k0 e Tree ≡ Left
 all_left s k0 e is l = ap (λ (ks : List Kind). get_or ks e Tree) is ∙ get_or-replicate (length s.table) e Left Tree l
 
-pub tree_found : (s : OrientedMesh) → IsOrientedSurface s → (k0 : List Kind) (p : List (Option DartName))
+pub tree_found : (s : OrientedMesh) → IsOrientedSurface s → (k0 : List Kind) (p : List (Option ℕ))
     → k0 ≡ replicate (length s.table) Left
     → IsSearched (rotations_of s) (rotations_of s).origin (λ e. true) s.mesh.count ((rotations_of s).origin 0) p
     → FindsAll (rotations_of s) (rotations_of s).origin (λ e. true) s.mesh.count ((rotations_of s).origin 0) p
@@ -145,7 +141,7 @@ tree_found s h k0 p is searched =
     vertices_found (rotations_of s) (λ e. true) s.mesh.count 0 p (rotation_system s h) (some_dart s h) searched
     (λ d l. refl)
 
-tree_spans : (s : OrientedMesh) → IsOrientedSurface s → (k0 k1 : List Kind) (p : List (Option DartName))
+tree_spans : (s : OrientedMesh) → IsOrientedSurface s → (k0 k1 : List Kind) (p : List (Option ℕ))
     → k0 ≡ replicate (length s.table) Left
     → FindsAll (rotations_of s) (rotations_of s).origin (λ e. true) s.mesh.count ((rotations_of s).origin 0) p
     → IsMarked (rotations_of s) p Tree k0 k1 (length p)
@@ -159,12 +155,12 @@ tree_spans s h k0 k1 p is f m =
     (λ e l. ap (λ k. same_kind k Tree) (all_left s k0 e is l))
 
 -- an edge outside the tree is left after the first search
-left_after : (s : OrientedMesh) (k0 k1 : List Kind) (p : List (Option DartName)) (e : ℕ) → k0 ≡ replicate (length s.table) Left
+left_after : (s : OrientedMesh) (k0 k1 : List Kind) (p : List (Option ℕ)) (e : ℕ) → k0 ≡ replicate (length s.table) Left
     → IsMarked (rotations_of s) p Tree k0 k1 (length p)
     → e < length s.table → has_kind k1 Tree e ≡ false → has_kind k1 Left e ≡ true
 left_after s k0 k1 p e is m l out = ap (λ k. same_kind k Left) (m.others e out ∙ all_left s k0 e is l)
 
-pub cotree_found : (s : OrientedMesh) → IsOrientedSurface s → (k0 k1 : List Kind) (p q : List (Option DartName))
+pub cotree_found : (s : OrientedMesh) → IsOrientedSurface s → (k0 k1 : List Kind) (p q : List (Option ℕ))
     → k0 ≡ replicate (length s.table) Left
     → FindsAll (rotations_of s) (rotations_of s).origin (λ e. true) s.mesh.count ((rotations_of s).origin 0) p
     → IsMarked (rotations_of s) p Tree k0 k1 (length p)
@@ -185,7 +181,7 @@ cotree_found s h k0 k1 p q is f m searched =
           0 d (some_dart s h) l (record { place = 0; within = searched.is_order.some; is = searched.is_order.first });
     }
 
-pub cotree_has_root : (s : OrientedMesh) → IsOrientedSurface s → (k0 k1 : List Kind) (p q : List (Option DartName))
+pub cotree_has_root : (s : OrientedMesh) → IsOrientedSurface s → (k0 k1 : List Kind) (p q : List (Option ℕ))
     → k0 ≡ replicate (length s.table) Left
     → IsSearched (rotations_of s) (rotations_of s).origin (λ e. true) s.mesh.count ((rotations_of s).origin 0) p
     → IsMarked (rotations_of s) p Tree k0 k1 (length p)
@@ -201,7 +197,7 @@ cotree_has_root s h k0 k1 p q is tree m searched =
           (allow maps maps.face (has_kind k1 Left) (λ e. true) (length s.mesh.faces) (maps.face 0) q found (λ v x e. refl));
     }
 
-cotree_spans : (s : OrientedMesh) → IsOrientedSurface s → (k0 k1 k2 : List Kind) (p q : List (Option DartName))
+cotree_spans : (s : OrientedMesh) → IsOrientedSurface s → (k0 k1 k2 : List Kind) (p q : List (Option ℕ))
     → k0 ≡ replicate (length s.table) Left
     → IsMarked (rotations_of s) p Tree k0 k1 (length p)
     → FindsAll (rotations_of s) (rotations_of s).face (has_kind k1 Left) (length s.mesh.faces) ((rotations_of s).face 0) q
@@ -220,7 +216,7 @@ cotree_spans s h k0 k1 k2 p q is m f c =
     ])
 
 -- the second search leaves the tree as it is
-tree_stays : (s : OrientedMesh) (k1 k2 : List Kind) (q : List (Option DartName)) (bound root : ℕ)
+tree_stays : (s : OrientedMesh) (k1 k2 : List Kind) (q : List (Option ℕ)) (bound root : ℕ)
     → IsMarked (rotations_of s) q Cotree k1 k2 (length q)
     → FindsAll (rotations_of s) (rotations_of s).face (has_kind k1 Left) bound root q → (e : ℕ) → has_kind k2 Tree e ≡ has_kind k1 Tree e
 tree_stays s k1 k2 q bound root c f e =
@@ -237,7 +233,7 @@ tree_stays s k1 k2 q bound root c f e =
     ]
 
 split_trees : (s : OrientedMesh) → IsOrientedSurface s
-    → (k0 k1 k2 : List Kind) (p q t : List (Option DartName)) (b : List (Option FaceName)) (start genus : ℕ)
+    → (k0 k1 k2 : List Kind) (p q t : List (Option ℕ)) (b : List (Option ℕ)) (start genus : ℕ)
     → IsMade s k0 k1 k2 p q t b start → HasTrees s (made_split k2 p b ((rotations_of s).face start) genus)
 split_trees s h k0 k1 k2 p q t b start genus m =
     let maps : Rotations = rotations_of s in
@@ -257,7 +253,7 @@ split_trees s h k0 k1 k2 p q t b start genus m =
 
 -- the parents of the vertices, from a search that finds all across edges of the tree
 pub parents_from : (s : OrientedMesh) → IsOrientedSurface s
-    → (kinds : List Kind) (p : List (Option DartName)) (b : List (Option FaceName)) (start top genus : ℕ) (allowed : ℕ → Bool)
+    → (kinds : List Kind) (p : List (Option ℕ)) (b : List (Option ℕ)) (start top genus : ℕ) (allowed : ℕ → Bool)
     → start < (rotations_of s).darts
     → FindsAll (rotations_of s) (rotations_of s).origin allowed s.mesh.count ((rotations_of s).origin start) p
     → ((v x : ℕ) → back_at p v ≡ Some x → has_kind kinds Tree ((rotations_of s).edge x) ≡ true)
@@ -269,23 +265,22 @@ parents_from s h kinds p b start top genus allowed l f in_kind =
     let n = vertex_nodes s names in
     let split : SplitView = made_split kinds p b top genus in
     let kept : ℕ → Bool = λ w. is_some (back_at p w) in
-    let read : (v : ℕ) → get_or (dart_options p) v None ≡ back_at p v = options_read p in
     let used : (v : ℕ) → v < s.mesh.count → is_used s.mesh v ≡ with_one kept root v =
     kept_nodes maps maps.origin allowed s.mesh.count root (length s.table) (is_used s.mesh) p n f in
     record {
       root = root;
       root_used = names.vertex_used start l;
-      each_vertex = length-map p (option_map (λ (d : DartName). d.0)) ∙ f.is_order.long;
+      each_vertex = f.is_order.long;
       none = λ v l. (
         λ none. elim (cases_Bool (is_used s.mesh v)) [
           | inr out ↦ inr out
           | inl is_in ↦ elim (with_cases kept root v (sym (used v l) ∙ is_in)) [
             | inl at_root ↦ inl at_root
-            | inr is_kept ↦ absurd (both_ways (kept v) (ap is_some (sym (read v) ∙ none)) is_kept)
+            | inr is_kept ↦ absurd (both_ways (kept v) (ap is_some none) is_kept)
           ]
         ],
         λ either. elim (option_cases (back_at p v)) [
-          | inl none ↦ read v ∙ none
+          | inl none ↦ none
           | inr some ↦ elim either [
             | inl at_root ↦ absurd (root_not_kept maps maps.origin allowed s.mesh.count root f.order p some.0 f.is_order
                 (ap (back_at p) (sym at_root) ∙ some.1))
@@ -293,19 +288,19 @@ parents_from s h kinds p b start top genus allowed l f in_kind =
           ]
         ],
       );
-      within = λ v dart e. let name : IsNamed maps.origin f.order v dart = f.is_order.only v dart (sym (read v) ∙ e) in
+      within = λ v dart e. let name : IsNamed maps.origin f.order v dart = f.is_order.only v dart e in
           subst (λ d. d < maps.darts) name.is (f.is_order.within name.place name.within);
-      starts = λ v dart e. (f.is_order.only v dart (sym (read v) ∙ e)).of_node;
-      tree_dart = λ v dart e. tree_kind (get_or kinds (maps.edge dart) Tree) ∙ in_kind v dart (sym (read v) ∙ e);
+      starts = λ v dart e. (f.is_order.only v dart e).of_node;
+      tree_dart = λ v dart e. tree_kind (get_or kinds (maps.edge dart) Tree) ∙ in_kind v dart e;
       to_root = λ v is.
           let dart = names.each_vertex v is in
           subst (λ u. AreJoined (StepsToParent maps split) u root) dart.2
           (all_to_root (StepsToParent maps split) maps maps.origin allowed s.mesh.count root p f
-          (λ u x e. (x, record { is_parent = read u ∙ e; ends = refl })) dart.0 dart.1);
+          (λ u x e. (x, record { is_parent = e; ends = refl })) dart.0 dart.1);
     }
 
 split_parents : (s : OrientedMesh) → IsOrientedSurface s
-    → (k0 k1 k2 : List Kind) (p q t : List (Option DartName)) (b : List (Option FaceName)) (start genus : ℕ)
+    → (k0 k1 k2 : List Kind) (p q t : List (Option ℕ)) (b : List (Option ℕ)) (start genus : ℕ)
     → IsMade s k0 k1 k2 p q t b start → HasParents s (made_split k2 p b ((rotations_of s).face start) genus)
 split_parents s h k0 k1 k2 p q t b start genus m =
     let maps : Rotations = rotations_of s in
@@ -319,7 +314,7 @@ split_parents s h k0 k1 k2 p q t b start genus m =
 
 -- as many edges have a face below them as there are cotree edges, so these are the cotree edges
 below_is_cotree : (s : OrientedMesh) → IsOrientedSurface s
-    → (k2 : List Kind) (t : List (Option DartName)) (below : ℕ → Option ℕ) (start : ℕ) → start < (rotations_of s).darts
+    → (k2 : List Kind) (t : List (Option ℕ)) (below : ℕ → Option ℕ) (start : ℕ) → start < (rotations_of s).darts
     → IsSpanningTree (rotations_of s) (rotations_of s).face (λ f. true) (length s.mesh.faces) (length s.table) (has_kind k2 Cotree)
     → FindsAll (rotations_of s) (rotations_of s).face (has_kind k2 Cotree) (length s.mesh.faces) ((rotations_of s).face start) t
     → AreBelowEdges (rotations_of s) t (length s.table) below (length t) → (e : ℕ) → e < length s.table
@@ -343,7 +338,7 @@ below_is_cotree s h k2 t below start l span f b =
 
 -- the faces below the edges, from a search that finds all across edges of the cotree
 pub child_faces_from : (s : OrientedMesh) → IsOrientedSurface s
-    → (kinds : List Kind) (p t : List (Option DartName)) (b : List (Option FaceName)) (start genus : ℕ) → start < (rotations_of s).darts
+    → (kinds : List Kind) (p t : List (Option ℕ)) (b : List (Option ℕ)) (start genus : ℕ) → start < (rotations_of s).darts
     → IsSpanningTree (rotations_of s) (rotations_of s).face (λ f. true) (length s.mesh.faces) (length s.table) (has_kind kinds Cotree)
     → FindsAll (rotations_of s) (rotations_of s).face (has_kind kinds Cotree) (length s.mesh.faces) ((rotations_of s).face start) t
     → length b ≡ length s.table → AreBelowEdges (rotations_of s) t (length s.table) (face_at b) (length t)
@@ -357,8 +352,7 @@ child_faces_from s h kinds p t b start genus l span a long kept_faces =
     λ v x e. let name : IsNamed maps.face a.order v x =
     a.is_order.only v x e in subst (λ d. d < maps.darts) name.is (a.is_order.within name.place name.within) in
     let up : ℕ → Option ℕ = below_edge split in
-    let faces : AreBelowEdges maps t (length s.table) up (length t) =
-    subst (λ (below : ℕ → Option ℕ). AreBelowEdges maps t (length s.table) below (length t)) (λ i e. sym (faces_read b e) i) kept_faces in
+    let faces : AreBelowEdges maps t (length s.table) up (length t) = kept_faces in
     let kept_in : (v x : ℕ) → back_at t v ≡ Some x → v < length t =
     λ v x e. kept_below maps maps.face (has_kind kinds Cotree) (length s.mesh.faces) root (length s.table) (λ f. true) t v x
     (face_nodes s names) a e in
@@ -366,7 +360,7 @@ child_faces_from s h kinds p t b start genus l span a long kept_faces =
     below_is_cotree s h kinds t up start l span a faces in
     record {
       root_below = names.face_below start l;
-      each_edge = length-map b (option_map (λ (f : FaceName). f.0)) ∙ long;
+      each_edge = long;
       none = λ e l. (
         λ none. cotree_kind (get_or kinds e Tree) ∙ sym (is_cotree e l) ∙ ap is_some none,
         λ out. elim (option_cases (up e)) [
@@ -404,7 +398,7 @@ child_faces_from s h kinds p t b start genus l span a long kept_faces =
     }
 
 split_child_faces : (s : OrientedMesh) → IsOrientedSurface s
-    → (k0 k1 k2 : List Kind) (p q t : List (Option DartName)) (b : List (Option FaceName)) (start genus : ℕ)
+    → (k0 k1 k2 : List Kind) (p q t : List (Option ℕ)) (b : List (Option ℕ)) (start genus : ℕ)
     → IsMade s k0 k1 k2 p q t b start → HasChildFaces s (made_split k2 p b ((rotations_of s).face start) genus)
 split_child_faces s h k0 k1 k2 p q t b start genus m =
     let f = tree_found s h k0 p m.first m.tree in
@@ -413,7 +407,7 @@ split_child_faces s h k0 k1 k2 p q t b start genus m =
     m.each_edge m.below
 
 pub split_is : (s : OrientedMesh) → IsOrientedSurface s
-    → (k0 k1 k2 : List Kind) (p q t : List (Option DartName)) (b : List (Option FaceName)) (start genus : ℕ)
+    → (k0 k1 k2 : List Kind) (p q t : List (Option ℕ)) (b : List (Option ℕ)) (start genus : ℕ)
     → IsMade s k0 k1 k2 p q t b start → genus ≡ count_below (has_kind k2 Left) (length s.table) / 2
     → IsSplit s (made_split k2 p b ((rotations_of s).face start) genus)
 split_is s h k0 k1 k2 p q t b start genus m half =

@@ -4,7 +4,6 @@ use Rattle.std.proofs.Math.ListN.{set}
 use Rattle.std.specs.Prelude.{Option, Some, None, is_some}
 use Rattle.std.proofs.lemmas.Bool.{cases_Bool, cases_eq, cases_lt, both_ways}
 use Rattle.surf_model.specs.Surfaces.{IsPath, AreJoined}
-use Rattle.surf_model.specs.declared.names.DartName.{DartName}
 use Rattle.halfedge_map.specs.Numbers.{count_below}
 use Rattle.halfedge_map.specs.RotationSystems.{Rotations, IsRotationSystem, IsDartStep, IsDartFrom}
 use Rattle.tree_cotree.specs.SpanningTrees.{StepsIn}
@@ -27,13 +26,13 @@ joined_more step u v w (x ∷ path) more h k = (h.0, joined_more step x v w path
 pub join : (step : ℕ → ℕ → Type 0) (u v w : ℕ) → AreJoined step u v → AreJoined step v w → AreJoined step u w
 join step u v w h k = (h.0 ++ k.0, joined_more step u v w h.0 k.0 h.1 k.1)
 
-pub crossed_from : (maps : Rotations) (node : ℕ → ℕ) (allowed : ℕ → Bool) (bound root : ℕ) (from : List (Option DartName))
+pub crossed_from : (maps : Rotations) (node : ℕ → ℕ) (allowed : ℕ → Bool) (bound root : ℕ) (from : List (Option ℕ))
     (s : IsSearched maps node allowed bound root from)
     → (d : ℕ) → d < maps.darts → allowed (maps.edge d) ≡ true → IsFound node s.order (node d) → IsFound node s.order (node (maps.twin d))
 crossed_from maps node allowed bound root from s d l passes found = s.closed found.place found.within d l (sym found.is) passes
 
 -- over the vertices, where all edges are allowed
-path_found : (maps : Rotations) (allowed : ℕ → Bool) (bound root : ℕ) (from : List (Option DartName))
+path_found : (maps : Rotations) (allowed : ℕ → Bool) (bound root : ℕ) (from : List (Option ℕ))
     (s : IsSearched maps maps.origin allowed bound root from)
     → ((d : ℕ) → d < maps.darts → allowed (maps.edge d) ≡ true) → (u v : ℕ) (path : List ℕ) → IsPath (IsDartStep maps) u path v
     → IsFound maps.origin s.order u → IsFound maps.origin s.order v
@@ -47,7 +46,7 @@ path_found maps allowed bound root from s free u v (w ∷ path) p found =
     (subst (IsFound maps.origin s.order) (sym step.starts) found)) in
     path_found maps allowed bound root from s free w v path p.1 next
 
-pub vertices_found : (maps : Rotations) (allowed : ℕ → Bool) (bound start : ℕ) (from : List (Option DartName)) → IsRotationSystem maps
+pub vertices_found : (maps : Rotations) (allowed : ℕ → Bool) (bound start : ℕ) (from : List (Option ℕ)) → IsRotationSystem maps
     → start < maps.darts
     → IsSearched maps maps.origin allowed bound (maps.origin start) from → ((d : ℕ) → d < maps.darts → allowed (maps.edge d) ≡ true)
     → FindsAll maps maps.origin allowed bound (maps.origin start) from
@@ -63,7 +62,7 @@ vertices_found maps allowed bound start from r l s free =
 
 -- the edges of two darts of an order differ
 pub edges_differ : (maps : Rotations) (node : ℕ → ℕ) (allowed : ℕ → Bool) (bound root : ℕ) (order : List ℕ)
-    (from : List (Option DartName)) (i j : ℕ)
+    (from : List (Option ℕ)) (i j : ℕ)
     → IsRotationSystem maps → IsOrder maps node allowed bound root order from → 0 < i → i < j → j < length order
     → maps.edge (get_or order i 0) ≢ maps.edge (get_or order j 0)
 edges_differ maps node allowed bound root order from i j r h later less l same =
@@ -76,7 +75,7 @@ edges_differ maps node allowed bound root order from i j r h later less l same =
 
 -- the dart that is kept for a node, by its place in the order
 pub kept_differ : (maps : Rotations) (node : ℕ → ℕ) (allowed : ℕ → Bool) (bound root : ℕ) (order : List ℕ)
-    (from : List (Option DartName)) (v w x y : ℕ)
+    (from : List (Option ℕ)) (v w x y : ℕ)
     → IsRotationSystem maps → IsOrder maps node allowed bound root order from → back_at from v ≡ Some x → back_at from w ≡ Some y
     → v ≢ w → maps.edge x ≢ maps.edge y
 kept_differ maps node allowed bound root order from v w x y r h a b ne same =
@@ -92,7 +91,7 @@ kept_differ maps node allowed bound root order from v w x y r h a b ne same =
 
 -- the nodes for which a dart is kept are all but the root
 pub kept_nodes : (maps : Rotations) (node : ℕ → ℕ) (allowed : ℕ → Bool) (bound root edges : ℕ) (is_node : ℕ → Bool)
-    (from : List (Option DartName))
+    (from : List (Option ℕ))
     → HasNodes maps node is_node bound edges → (f : FindsAll maps node allowed bound root from) → (v : ℕ) → v < bound
     → is_node v ≡ with_one (λ w. is_some (back_at from w)) root v
 kept_nodes maps node allowed bound root edges is_node from n f v l =
@@ -135,7 +134,7 @@ kept_nodes maps node allowed bound root edges is_node from n f v l =
         (subst (λ d. d < maps.darts) name.is (f.is_order.within name.place name.within)))
 
 pub root_not_kept : (maps : Rotations) (node : ℕ → ℕ) (allowed : ℕ → Bool) (bound root : ℕ) (order : List ℕ)
-    (from : List (Option DartName)) (x : ℕ)
+    (from : List (Option ℕ)) (x : ℕ)
     → IsOrder maps node allowed bound root order from → back_at from root ≡ Some x → ⊥
 root_not_kept maps node allowed bound root order from x h e =
     let name : IsNamed node order root x = h.only root x e in
@@ -143,7 +142,7 @@ root_not_kept maps node allowed bound root order from x h e =
 
 -- from each node found the darts lead back to the root, if each kept dart gives a step
 pub to_root : (step : ℕ → ℕ → Type 0) (maps : Rotations) (node : ℕ → ℕ) (allowed : ℕ → Bool) (bound root : ℕ) (order : List ℕ)
-    (from : List (Option DartName))
+    (from : List (Option ℕ))
     → IsOrder maps node allowed bound root order from
     → ((v x : ℕ) → back_at from v ≡ Some x → step v (node (maps.twin x)))
     → (fuel j : ℕ) → j < fuel → j < length order → AreJoined step (node (get_or order j 0)) root
@@ -163,7 +162,7 @@ to_root step maps node allowed bound root order from h steps (suc fuel) j b l =
     ]
 
 pub all_to_root : (step : ℕ → ℕ → Type 0) (maps : Rotations) (node : ℕ → ℕ) (allowed : ℕ → Bool) (bound root : ℕ)
-    (from : List (Option DartName))
+    (from : List (Option ℕ))
     → (f : FindsAll maps node allowed bound root from) → ((v x : ℕ) → back_at from v ≡ Some x → step v (node (maps.twin x)))
     → (d : ℕ) → d < maps.darts → AreJoined step (node d) root
 all_to_root step maps node allowed bound root from f steps d l =
@@ -173,7 +172,7 @@ all_to_root step maps node allowed bound root from f steps d l =
 
 -- and from the root they lead to each node, if each kept dart gives a step the other way
 from_root : (step : ℕ → ℕ → Type 0) (maps : Rotations) (node : ℕ → ℕ) (allowed : ℕ → Bool) (bound root : ℕ) (order : List ℕ)
-    (from : List (Option DartName))
+    (from : List (Option ℕ))
     → IsOrder maps node allowed bound root order from
     → ((v x : ℕ) → back_at from v ≡ Some x → step (node (maps.twin x)) v)
     → (fuel j : ℕ) → j < fuel → j < length order → AreJoined step root (node (get_or order j 0))
@@ -193,7 +192,7 @@ from_root step maps node allowed bound root order from h steps (suc fuel) j b l 
     ]
 
 -- the kept darts and the set of their edges join any two nodes
-pub kept_join : (maps : Rotations) (node : ℕ → ℕ) (allowed inside : ℕ → Bool) (bound root : ℕ) (from : List (Option DartName))
+pub kept_join : (maps : Rotations) (node : ℕ → ℕ) (allowed inside : ℕ → Bool) (bound root : ℕ) (from : List (Option ℕ))
     → IsRotationSystem maps
     → (f : FindsAll maps node allowed bound root from) → ((v x : ℕ) → back_at from v ≡ Some x → inside (maps.edge x) ≡ true)
     → (d e : ℕ) → d < maps.darts → e < maps.darts → AreJoined (StepsIn maps node inside) (node d) (node e)
@@ -226,12 +225,12 @@ kept_join maps node allowed inside bound root from r f marked d e l k =
           },
         )
 
-pub marked_none : (maps : Rotations) (from : List (Option DartName)) (edges : ℕ) (old : ℕ → Bool) → AreMarked maps from edges old old 0
+pub marked_none : (maps : Rotations) (from : List (Option ℕ)) (edges : ℕ) (old : ℕ → Bool) → AreMarked maps from edges old old 0
 marked_none maps from edges old =
     record { count = omega arith; marked = λ v x l e. absurd (omega arith); kept = λ e k. k; only = λ e k. inl k }
 
 -- no dart is kept for the next node
-pub marked_skip : (maps : Rotations) (from : List (Option DartName)) (edges n : ℕ) (old new : ℕ → Bool)
+pub marked_skip : (maps : Rotations) (from : List (Option ℕ)) (edges n : ℕ) (old new : ℕ → Bool)
     → AreMarked maps from edges old new n → back_at from n ≡ None
     → AreMarked maps from edges old new (n + 1)
 marked_skip maps from edges n old new h none =
@@ -256,7 +255,7 @@ marked_skip maps from edges n old new h none =
     some_none o x e k = cc
 
 -- the edge of the dart that is kept for the next node is put in
-pub marked_more : (maps : Rotations) (from : List (Option DartName)) (edges n x : ℕ) (old new others : ℕ → Bool)
+pub marked_more : (maps : Rotations) (from : List (Option ℕ)) (edges n x : ℕ) (old new others : ℕ → Bool)
     → AreMarked maps from edges old new n → back_at from n ≡ Some x
     → maps.edge x < edges → old (maps.edge x) ≡ false → ((v y : ℕ) → v ≢ n → back_at from v ≡ Some y → maps.edge y ≢ maps.edge x)
     → ((e : ℕ) → others e ≡ with_one new (maps.edge x) e) → AreMarked maps from edges old others (n + 1)
@@ -296,7 +295,7 @@ marked_more maps from edges n x old new others h some l free apart is =
     }
 
 pub kept_apart : (maps : Rotations) (node : ℕ → ℕ) (allowed : ℕ → Bool) (bound root : ℕ) (order : List ℕ)
-    (from : List (Option DartName)) → IsRotationSystem maps
+    (from : List (Option ℕ)) → IsRotationSystem maps
     → IsOrder maps node allowed bound root order from → AreApart maps from
 kept_apart maps node allowed bound root order from r h =
     record {
@@ -306,7 +305,7 @@ kept_apart maps node allowed bound root order from r h =
     }
 
 pub kept_allowed : (maps : Rotations) (node : ℕ → ℕ) (allowed : ℕ → Bool) (bound root : ℕ) (order : List ℕ)
-    (from : List (Option DartName)) (v x : ℕ)
+    (from : List (Option ℕ)) (v x : ℕ)
     → IsOrder maps node allowed bound root order from → back_at from v ≡ Some x → allowed (maps.edge x) ≡ true
 kept_allowed maps node allowed bound root order from v x h e =
     let name : IsNamed node order v x = h.only v x e in
@@ -317,10 +316,10 @@ same_itself Tree = refl
 same_itself Cotree = refl
 same_itself Left = refl
 
-pub marks_none : (maps : Rotations) (from : List (Option DartName)) (kind : Kind) (old : List Kind) → IsMarked maps from kind old old 0
+pub marks_none : (maps : Rotations) (from : List (Option ℕ)) (kind : Kind) (old : List Kind) → IsMarked maps from kind old old 0
 marks_none maps from kind old = record { long = refl; sets = marked_none maps from (length old) (has_kind old kind); others = λ e k. refl }
 
-pub marks_skip : (maps : Rotations) (from : List (Option DartName)) (kind : Kind) (old new : List Kind) (n : ℕ)
+pub marks_skip : (maps : Rotations) (from : List (Option ℕ)) (kind : Kind) (old new : List Kind) (n : ℕ)
     → IsMarked maps from kind old new n → back_at from n ≡ None
     → IsMarked maps from kind old new (n + 1)
 marks_skip maps from kind old new n h none =
@@ -331,7 +330,7 @@ marks_skip maps from kind old new n h none =
           h.others;
     }
 
-pub marks_more : (maps : Rotations) (from : List (Option DartName)) (kind : Kind) (old new : List Kind) (n x : ℕ) → AreApart maps from
+pub marks_more : (maps : Rotations) (from : List (Option ℕ)) (kind : Kind) (old new : List Kind) (n x : ℕ) → AreApart maps from
     → IsMarked maps from kind old new n
     → back_at from n ≡ Some x → maps.edge x < length old → has_kind old kind (maps.edge x) ≡ false
     → IsMarked maps from kind old (set new (maps.edge x) kind) (n + 1)

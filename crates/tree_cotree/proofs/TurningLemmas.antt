@@ -3,10 +3,8 @@
 use Rattle.std.proofs.Common.{◌≡◌, ◌≢◌, inl, inr, ℕ, zero, suc, ◌+◌, ◌<◌, ◌≤◌, Bool, true, List, [], ◌∷◌, ◌++◌, length, get_or, refl, ap, sym, ◌∙◌, subst, arith}
 use Rattle.std.proofs.Math.ListN.{set}
 use Rattle.std.specs.Prelude.{Option, Some, None}
-use Rattle.std.specs.Option.{option_map}
 use Rattle.std.proofs.lemmas.Bool.{cases_eq, cases_lt}
 use Rattle.std.proofs.lemmas.List.{get_or-set_same, get_or-set_other, length-set, length_push, get_or_push, get_or_append_left}
-use Rattle.surf_model.specs.declared.names.DartName.{DartName}
 use Rattle.halfedge_map.specs.RotationSystems.{Rotations, IsRotationSystem}
 use Rattle.tree_cotree.specs.Searches.{back_at, IsFound, IsNamed, LeadsBack, IsOrder, FindsAll}
 use Rattle.tree_cotree.specs.Ways.{HasRoot, IsWay, IsWayUp}
@@ -162,7 +160,7 @@ spot node order p d back q later l at root b =
     ]
 
 -- two places of an order with one node are one place
-one_place : (maps : Rotations) (node : ℕ → ℕ) (allowed : ℕ → Bool) (bound root : ℕ) (order : List ℕ) (from : List (Option DartName))
+one_place : (maps : Rotations) (node : ℕ → ℕ) (allowed : ℕ → Bool) (bound root : ℕ) (order : List ℕ) (from : List (Option ℕ))
     (i j : ℕ)
     → IsOrder maps node allowed bound root order from → i < length order → j < length order
     → node (get_or order i 0) ≡ node (get_or order j 0) → i ≡ j
@@ -176,22 +174,15 @@ one_place maps node allowed bound root order from i j h a b e =
     ]
 
 -- what is kept after two nodes are changed
-kept_root : (from : List (Option DartName)) (v w : ℕ) (x : DartName) → v < length from → v ≢ w
-    → back_at (set (set from v (Some x)) w None) v ≡ Some x.0
-kept_root from v w x l ne =
-    ap (option_map (λ (d : DartName). d.0))
-    (get_or-set_other (set from v (Some x)) w v None None ne ∙ get_or-set_same from v (Some x) None l)
+kept_root : (from : List (Option ℕ)) (v w x : ℕ) → v < length from → v ≢ w → back_at (set (set from v (Some x)) w None) v ≡ Some x
+kept_root from v w x l ne = get_or-set_other (set from v (Some x)) w v None None ne ∙ get_or-set_same from v (Some x) None l
 
-kept_none : (from : List (Option DartName)) (v w : ℕ) (x : DartName) → w < length from → back_at (set (set from v (Some x)) w None) w ≡ None
-kept_none from v w x l =
-    ap (option_map (λ (d : DartName). d.0))
-    (get_or-set_same (set from v (Some x)) w None None (omega (arith, l, length-set from v (Some x))))
+kept_none : (from : List (Option ℕ)) (v w x : ℕ) → w < length from → back_at (set (set from v (Some x)) w None) w ≡ None
+kept_none from v w x l = get_or-set_same (set from v (Some x)) w None None (omega (arith, l, length-set from v (Some x)))
 
-kept_else : (from : List (Option DartName)) (v w u : ℕ) (x : DartName) → u ≢ v → u ≢ w
-    → back_at (set (set from v (Some x)) w None) u ≡ back_at from u
+kept_else : (from : List (Option ℕ)) (v w u x : ℕ) → u ≢ v → u ≢ w → back_at (set (set from v (Some x)) w None) u ≡ back_at from u
 kept_else from v w u x not_v not_w =
-    ap (option_map (λ (d : DartName). d.0))
-    (get_or-set_other (set from v (Some x)) w u None None not_w ∙ get_or-set_other from v u (Some x) None not_v)
+    get_or-set_other (set from v (Some x)) w u None None not_w ∙ get_or-set_other from v u (Some x) None not_v
 
 not_both : (o : Option ℕ) (x : ℕ) → o ≡ Some x → o ≡ None → ⊥
 not_both o x e k = cc
@@ -273,10 +264,9 @@ still_later p q k later other low high =
     ]
 
 -- the dart d of a node that leads to the root is turned, and the node is the root
-pub rerooted : (maps : Rotations) (node : ℕ → ℕ) (allowed : ℕ → Bool) (bound root : ℕ) (from : List (Option DartName)) (d : ℕ)
-    (x : DartName)
+pub rerooted : (maps : Rotations) (node : ℕ → ℕ) (allowed : ℕ → Bool) (bound root : ℕ) (from : List (Option ℕ)) (d x : ℕ)
     → IsRotationSystem maps → ((e : ℕ) → e < maps.darts → node e < length from) → FindsAll maps node allowed bound root from
-    → back_at from (node d) ≡ Some d → node (maps.twin d) ≡ root → x.0 ≡ maps.twin d
+    → back_at from (node d) ≡ Some d → node (maps.twin d) ≡ root → x ≡ maps.twin d
     → FindsAll maps node allowed bound (node d) (set (set from root (Some x)) (node d) None)
 rerooted maps node allowed bound root from d x r below f keeps leads twin =
     let order : List ℕ = f.order in
@@ -284,19 +274,19 @@ rerooted maps node allowed bound root from d x r below f keeps leads twin =
     let own : IsNamed node order (node d) d = h.only (node d) d keeps in
     let p : ℕ = own.place in
     let n : ℕ = length order in
-    let new : List ℕ = fronted order p d x.0 in
-    let kept : List (Option DartName) = set (set from root (Some x)) (node d) None in
-    let long : length new ≡ n = fronted_long order p d x.0 own.within in
+    let new : List ℕ = fronted order p d x in
+    let kept : List (Option ℕ) = set (set from root (Some x)) (node d) None in
+    let long : length new ≡ n = fronted_long order p d x own.within in
     let d_in : d < maps.darts = subst (λ y. y < maps.darts) own.is (h.within p own.within) in
-    let x_node : node x.0 ≡ root = ap node twin ∙ leads in
-    let second : (j : ℕ) → j ≡ 1 → get_or new j 0 ≡ x.0 =
-    λ j e. ap (λ k. get_or new k 0) e ∙ fronted_second order p d x.0 own.later own.within in
-    let at : (q : ℕ) → q < n → IsSpot node order p d x.0 q =
-    λ q b. spot node order p d x.0 q own.later own.within own.is (x_node ∙ sym h.first) b in
-    let old : (j : ℕ) → j < n → IsOld node order p d x.0 j =
-    λ j b. old_place node order p d x.0 j own.later own.within own.is (x_node ∙ sym h.first) b in
-    let from_where : (j : ℕ) → 0 < j → j ≢ 1 → j < length new → IsSource order p d x.0 j =
-    λ j later other b. source order p d x.0 j own.within (omega (arith, later, other)) (omega (arith, b, long)) in
+    let x_node : node x ≡ root = ap node twin ∙ leads in
+    let second : (j : ℕ) → j ≡ 1 → get_or new j 0 ≡ x =
+    λ j e. ap (λ k. get_or new k 0) e ∙ fronted_second order p d x own.later own.within in
+    let at : (q : ℕ) → q < n → IsSpot node order p d x q =
+    λ q b. spot node order p d x q own.later own.within own.is (x_node ∙ sym h.first) b in
+    let old : (j : ℕ) → j < n → IsOld node order p d x j =
+    λ j b. old_place node order p d x j own.later own.within own.is (x_node ∙ sym h.first) b in
+    let from_where : (j : ℕ) → 0 < j → j ≢ 1 → j < length new → IsSource order p d x j =
+    λ j later other b. source order p d x j own.within (omega (arith, later, other)) (omega (arith, b, long)) in
     let root_in : root < length from = subst (λ v. v < length from) h.first (below (get_or order 0 0) (h.within 0 h.some)) in
     let own_in : node d < length from = below d d_in in
     let apart : root ≢ node d = λ e. h.fresh 0 p own.later own.within (h.first ∙ e ∙ ap node (sym own.is)) in
@@ -314,13 +304,13 @@ rerooted maps node allowed bound root from d x r below f keeps leads twin =
           | inr later ↦ elim (cases_eq j 1) [
             | inl one ↦ subst (λ y. y < maps.darts) (sym (second j one ∙ twin)) (r.twin_within d d_in)
             | inr more ↦
-                (let here : IsSource order p d x.0 j = from_where j (omega (arith, later)) more l in
+                (let here : IsSource order p d x j = from_where j (omega (arith, later)) more l in
                 subst (λ y. y < maps.darts) (sym here.is) (h.within here.place here.within))
           ]
         ];
         fresh = λ i j less l e.
-            let one : IsOld node order p d x.0 i = old i (omega (arith, less, l, long)) in
-            let other : IsOld node order p d x.0 j = old j (omega (arith, l, long)) in
+            let one : IsOld node order p d x i = old i (omega (arith, less, l, long)) in
+            let other : IsOld node order p d x j = old j (omega (arith, l, long)) in
             let same : other.place ≡ one.place =
             one_place maps node allowed bound root order from other.place one.place h other.within one.within
             (sym other.same ∙ sym e ∙ one.same) in
@@ -336,9 +326,9 @@ rerooted maps node allowed bound root from d x r below f keeps leads twin =
             is = ap (λ y. node (maps.twin y)) (second j one ∙ twin) ∙ ap node (r.twin_back d d_in);
           }
           | inr more ↦
-              (let here : IsSource order p d x.0 j = from_where j later more l in
+              (let here : IsSource order p d x j = from_where j later more l in
               let b : LeadsBack maps node order here.place = h.back here.place here.later here.within in
-              let there : IsSpot node order p d x.0 b.place = at b.place (omega (arith, b.before, here.within)) in
+              let there : IsSpot node order p d x b.place = at b.place (omega (arith, b.before, here.within)) in
               record {
                 place = there.place;
                 before = still_before p here.place b.place j there.place b.before here.other here.low here.high there.mid there.low
@@ -350,7 +340,7 @@ rerooted maps node allowed bound root from d x r below f keeps leads twin =
           | inl one ↦ ap (λ y. allowed (maps.edge y)) (second j one ∙ twin) ∙ ap allowed (sym (twin_edge maps r d d_in))
               ∙ ap (λ y. allowed (maps.edge y)) (sym own.is) ∙ h.inside p own.later own.within
           | inr more ↦
-              (let here : IsSource order p d x.0 j = from_where j later more l in
+              (let here : IsSource order p d x j = from_where j later more l in
               ap (λ y. allowed (maps.edge y)) here.is ∙ h.inside here.place here.later here.within)
         ];
         named = λ j later l. elim (cases_eq j 1) [
@@ -358,7 +348,7 @@ rerooted maps node allowed bound root from d x r below f keeps leads twin =
               ∙ kept_root from root (node d) x root_in apart
               ∙ ap Some (sym (second j one))
           | inr more ↦
-              (let here : IsSource order p d x.0 j = from_where j later more l in
+              (let here : IsSource order p d x j = from_where j later more l in
               ap (λ y. back_at kept (node y)) here.is
               ∙ kept_else from root (node d) (node (get_or order here.place 0)) x (no_root here.place here.later here.within)
               (no_own here.place here.within here.other)
@@ -368,7 +358,7 @@ rerooted maps node allowed bound root from d x r below f keeps leads twin =
           | inl at_top ↦ absurd (not_both (back_at kept v) y e (ap (back_at kept) at_top ∙ kept_none from root (node d) x own_in))
           | inr not_top ↦ elim (cases_eq v root) [
             | inl at_root ↦
-                (let is_x : y ≡ x.0 = same_some (back_at kept v) y x.0 e
+                (let is_x : y ≡ x = same_some (back_at kept v) y x e
                 (ap (back_at kept) at_root ∙ kept_root from root (node d) x root_in apart) in
                 record {
                   place = 1;
@@ -381,7 +371,7 @@ rerooted maps node allowed bound root from d x r below f keeps leads twin =
                 (let before : IsNamed node order v y = h.only v y (sym (kept_else from root (node d) v x not_root not_top) ∙ e) in
                 let other : before.place ≢ p =
                 λ k. not_top (sym before.of_node ∙ ap node (sym before.is) ∙ ap (λ q. node (get_or order q 0)) k ∙ ap node own.is) in
-                let there : IsSpot node order p d x.0 before.place = at before.place before.within in
+                let there : IsSpot node order p d x before.place = at before.place before.within in
                 record {
                   place = there.place;
                   later = still_later p before.place there.place before.later other there.low there.high;
@@ -394,12 +384,12 @@ rerooted maps node allowed bound root from d x r below f keeps leads twin =
       };
       all = λ e l.
           let found : IsFound node order (node e) = f.all e l in
-          let there : IsSpot node order p d x.0 found.place = at found.place found.within in
+          let there : IsSpot node order p d x found.place = at found.place found.within in
           record { place = there.place; within = omega (arith, there.within, long); is = there.same ∙ found.is };
     }
 
 -- a way without darts
-pub way_start : (maps : Rotations) (from : List (Option DartName)) (start : ℕ) → IsWay maps from start start []
+pub way_start : (maps : Rotations) (from : List (Option ℕ)) (start : ℕ) → IsWay maps from start start []
 way_start maps from start = record {
   within = λ k l. absurd (omega (arith, l));
   kept = λ k l. absurd (omega (arith, l));
@@ -412,7 +402,7 @@ way_start maps from start = record {
 }
 
 -- a way with a dart more
-pub way_more : (maps : Rotations) (from : List (Option DartName)) (start top : ℕ) (way : List ℕ) (d : ℕ) → IsWay maps from start top way
+pub way_more : (maps : Rotations) (from : List (Option ℕ)) (start top : ℕ) (way : List ℕ) (d : ℕ) → IsWay maps from start top way
     → d < maps.darts
     → back_at from top ≡ Some d → maps.face d ≡ top
     → ((k : ℕ) → k < length way → maps.face (get_or way k 0) ≢ maps.face (maps.twin d)) → maps.face d ≢ maps.face (maps.twin d)
@@ -458,7 +448,7 @@ way_more maps from start top way d w d_in keeps own off not_back =
     }
 
 -- a way without its last dart, when that is turned
-pub way_less : (maps : Rotations) (from : List (Option DartName)) (start top : ℕ) (way : List ℕ) (d : ℕ) (x : DartName)
+pub way_less : (maps : Rotations) (from : List (Option ℕ)) (start top : ℕ) (way : List ℕ) (d x : ℕ)
     → IsWay maps from start top (way ++ d ∷ []) → IsWay maps (set (set from top (Some x)) (maps.face d) None) start (maps.face d) way
 way_less maps from start top way d x w =
     let n : ℕ = length way in
@@ -487,7 +477,7 @@ way_less maps from start top way d x w =
     }
 
 -- A climb: the way so far leads to a face, and each face of it was found later than that face in some order of the tree.
-pub record IsClimb (maps : Rotations) (from : List (Option DartName)) (start face : ℕ) (way : List ℕ) : Type 0 where
+pub record IsClimb (maps : Rotations) (from : List (Option ℕ)) (start face : ℕ) (way : List ℕ) : Type 0 where
   pub root : ℕ
   pub finds : FindsAll maps maps.face (λ e. true) (length from) root from
   pub place : ℕ
@@ -498,7 +488,7 @@ pub record IsClimb (maps : Rotations) (from : List (Option DartName)) (start fac
       → maps.face (get_or way k 0) ≢ maps.face (get_or finds.order q 0)
   pub is_way : IsWay maps from start face way
 
-pub climb_start : (maps : Rotations) (from : List (Option DartName)) (start : ℕ) → HasRoot maps from → start < maps.darts
+pub climb_start : (maps : Rotations) (from : List (Option ℕ)) (start : ℕ) → HasRoot maps from → start < maps.darts
     → IsClimb maps from (maps.face start) (maps.face start) []
 climb_start maps from start t l =
     let found : IsFound maps.face t.finds.order (maps.face start) = t.finds.all start l in
@@ -514,14 +504,14 @@ climb_start maps from start t l =
     }
 
 -- the face of the dart that is kept for a face is that face, and the dart is one
-pub climb_dart : (maps : Rotations) (from : List (Option DartName)) (start face : ℕ) (way : List ℕ) (d : ℕ)
+pub climb_dart : (maps : Rotations) (from : List (Option ℕ)) (start face : ℕ) (way : List ℕ) (d : ℕ)
     → IsClimb maps from start face way
     → back_at from face ≡ Some d → (d < maps.darts) × (maps.face d ≡ face)
 climb_dart maps from start face way d c keeps =
     let name : IsNamed maps.face c.finds.order face d = c.finds.is_order.only face d keeps in
     (subst (λ y. y < maps.darts) name.is (c.finds.is_order.within name.place name.within), name.of_node)
 
-pub climb_more : (maps : Rotations) (from : List (Option DartName)) (start face : ℕ) (way : List ℕ) (d : ℕ)
+pub climb_more : (maps : Rotations) (from : List (Option ℕ)) (start face : ℕ) (way : List ℕ) (d : ℕ)
     → IsClimb maps from start face way
     → back_at from face ≡ Some d → IsClimb maps from start (maps.face (maps.twin d)) (way ++ d ∷ [])
 climb_more maps from start face way d c keeps =
@@ -553,19 +543,19 @@ climb_more maps from start face way d c keeps =
           (λ e. h.fresh back.place c.place under c.within (leads ∙ sym e ∙ name.of_node ∙ sym c.is));
     }
 
-pub climb_few : (maps : Rotations) (from : List (Option DartName)) (start face : ℕ) (way : List ℕ) → IsClimb maps from start face way
+pub climb_few : (maps : Rotations) (from : List (Option ℕ)) (start face : ℕ) (way : List ℕ) → IsClimb maps from start face way
     → ((e : ℕ) → e < maps.darts → maps.face e < length from) → length way < length from
 climb_few maps from start face way c below =
     let few : length c.finds.order ≤ length from =
     order_few maps maps.face (λ e. true) (length from) c.root c.finds.order from c.finds.is_order below in
     omega (arith, c.room, few)
 
-pub climb_within : (maps : Rotations) (from : List (Option DartName)) (start face : ℕ) (way : List ℕ) → IsClimb maps from start face way
+pub climb_within : (maps : Rotations) (from : List (Option ℕ)) (start face : ℕ) (way : List ℕ) → IsClimb maps from start face way
     → ((e : ℕ) → e < maps.darts → maps.face e < length from) → face < length from
 climb_within maps from start face way c below =
     subst (λ v. v < length from) c.is (below (get_or c.finds.order c.place 0) (c.finds.is_order.within c.place c.within))
 
-pub climb_done : (maps : Rotations) (from : List (Option DartName)) (start face : ℕ) (way : List ℕ) → IsClimb maps from start face way
+pub climb_done : (maps : Rotations) (from : List (Option ℕ)) (start face : ℕ) (way : List ℕ) → IsClimb maps from start face way
     → ((e : ℕ) → e < maps.darts → maps.face e < length from) → back_at from face ≡ None → IsWayUp maps from start way
 climb_done maps from start face way c below none = record {
   top = face;
@@ -575,7 +565,7 @@ climb_done maps from start face way c below none = record {
 }
 
 -- a tree that is turned as far as the way that is left leads
-pub record IsPartlyTurned (maps : Rotations) (old : List (Option DartName)) (start : ℕ) (from : List (Option DartName))
+pub record IsPartlyTurned (maps : Rotations) (old : List (Option ℕ)) (start : ℕ) (from : List (Option ℕ))
     (way : List ℕ) : Type 0 where
   pub top : ℕ
   pub long : length from ≡ length old
@@ -584,7 +574,7 @@ pub record IsPartlyTurned (maps : Rotations) (old : List (Option DartName)) (sta
       → FindsAll maps maps.face allowed (length old) top from
 
 -- a node for which nothing is kept is the root
-root_is : (maps : Rotations) (node : ℕ → ℕ) (allowed : ℕ → Bool) (bound root top e : ℕ) (from : List (Option DartName))
+root_is : (maps : Rotations) (node : ℕ → ℕ) (allowed : ℕ → Bool) (bound root top e : ℕ) (from : List (Option ℕ))
     → FindsAll maps node allowed bound root from → e < maps.darts → node e ≡ top → back_at from top ≡ None → top ≡ root
 root_is maps node allowed bound root top e from f l is none =
     let found : IsFound node f.order (node e) = f.all e l in
@@ -594,7 +584,7 @@ root_is maps node allowed bound root top e from f l is none =
           (f.is_order.named found.place (omega (arith, later)) found.within) (ap (back_at from) (found.is ∙ is) ∙ none))
     ]
 
-pub turning_start : (maps : Rotations) (from : List (Option DartName)) (start : ℕ) (way : List ℕ) → (w : IsWayUp maps from start way)
+pub turning_start : (maps : Rotations) (from : List (Option ℕ)) (start : ℕ) (way : List ℕ) → (w : IsWayUp maps from start way)
     → (e : ℕ) × (e < maps.darts) × (maps.face e ≡ w.top) → IsPartlyTurned maps from start from way
 turning_start maps from start way w dart = record {
   top = w.top;
@@ -605,11 +595,10 @@ turning_start maps from start way w dart = record {
       (sym (root_is maps maps.face allowed (length from) root w.top dart.0 from f dart.1 dart.2 w.is_root)) f;
 }
 
-pub turning_more : (maps : Rotations) (old : List (Option DartName)) (start : ℕ) (from : List (Option DartName)) (way : List ℕ) (d : ℕ)
-    (x : DartName)
+pub turning_more : (maps : Rotations) (old : List (Option ℕ)) (start : ℕ) (from : List (Option ℕ)) (way : List ℕ) (d x : ℕ)
     → IsRotationSystem maps → ((e : ℕ) → e < maps.darts → maps.face e < length from)
-    → (t : IsPartlyTurned maps old start from (way ++ d ∷ [])) → x.0 ≡ maps.twin d
-    → IsPartlyTurned maps old start (set (set from (maps.face x.0) (Some x)) (maps.face d) None) way
+    → (t : IsPartlyTurned maps old start from (way ++ d ∷ [])) → x ≡ maps.twin d
+    → IsPartlyTurned maps old start (set (set from (maps.face x) (Some x)) (maps.face d) None) way
 turning_more maps old start from way d x r below t twin =
     let more : List ℕ = way ++ d ∷ [] in
     let n : ℕ = length way in
@@ -618,7 +607,7 @@ turning_more maps old start from way d x r below t twin =
     let keeps : back_at from (maps.face d) ≡ Some d =
     ap (λ y. back_at from (maps.face y)) (sym last) ∙ t.is_way.kept n (omega (arith, long)) ∙ ap Some last in
     let leads : maps.face (maps.twin d) ≡ t.top = ap (λ y. maps.face (maps.twin y)) (sym last) ∙ t.is_way.last n (sym long) in
-    let at_top : maps.face x.0 ≡ t.top = ap maps.face twin ∙ leads in
+    let at_top : maps.face x ≡ t.top = ap maps.face twin ∙ leads in
     subst (λ v. IsPartlyTurned maps old start (set (set from v (Some x)) (maps.face d) None) way) (sym at_top) (record {
       top = maps.face d;
       long = length-set (set from t.top (Some x)) (maps.face d) None ∙ length-set from t.top (Some x) ∙ t.long;
@@ -627,7 +616,7 @@ turning_more maps old start from way d x r below t twin =
           twin;
     })
 
-pub turning_done : (maps : Rotations) (old : List (Option DartName)) (start : ℕ) (from : List (Option DartName)) (way : List ℕ)
+pub turning_done : (maps : Rotations) (old : List (Option ℕ)) (start : ℕ) (from : List (Option ℕ)) (way : List ℕ)
     → IsPartlyTurned maps old start from way → way ≡ [] → (allowed : ℕ → Bool) (root : ℕ)
     → FindsAll maps maps.face allowed (length old) root old
     → FindsAll maps maps.face allowed (length old) start from
@@ -636,7 +625,7 @@ turning_done maps old start from way t empty allowed root f =
     (t.finds allowed root f)
 
 -- the last dart of what is left is one
-pub last_in : (maps : Rotations) (old : List (Option DartName)) (start : ℕ) (from : List (Option DartName)) (whole way : List ℕ) (d : ℕ)
+pub last_in : (maps : Rotations) (old : List (Option ℕ)) (start : ℕ) (from : List (Option ℕ)) (whole way : List ℕ) (d : ℕ)
     → IsPartlyTurned maps old start from whole → whole ≡ way ++ d ∷ [] → d < maps.darts
 last_in maps old start from whole way d t is =
     let last : get_or whole (length way) 0 ≡ d = ap (λ (ds : List ℕ). get_or ds (length way) 0) is
@@ -645,7 +634,7 @@ last_in maps old start from whole way d t is =
     subst (λ y. y < maps.darts) last (t.is_way.within (length way) (omega (arith, long)))
 
 -- the edges of the kept darts are all that a search has to be allowed
-pub allow : (maps : Rotations) (node : ℕ → ℕ) (allowed other : ℕ → Bool) (bound root : ℕ) (from : List (Option DartName))
+pub allow : (maps : Rotations) (node : ℕ → ℕ) (allowed other : ℕ → Bool) (bound root : ℕ) (from : List (Option ℕ))
     → FindsAll maps node allowed bound root from → ((v x : ℕ) → back_at from v ≡ Some x → other (maps.edge x) ≡ true)
     → FindsAll maps node other bound root from
 allow maps node allowed other bound root from f all =

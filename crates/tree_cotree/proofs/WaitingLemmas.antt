@@ -167,13 +167,13 @@ none_waits (Some x) waiting never h = absurd (never x refl)
 
 -- a search that is underway
 pub record IsUnderway (maps : Rotations) (node : ℕ → ℕ) (allowed : ℕ → Bool) (bound root : ℕ) (order waiting : List ℕ)
-    (from : List (Option DartName)) : Type 0 where
+    (from : List (Option ℕ)) : Type 0 where
   pub is_order : IsOrder maps node allowed bound root order from
   pub known : (x : ℕ) → IsAmong waiting x → IsAmong order x
   pub either : (j : ℕ) → j < length order → IsCrossed maps node allowed order (node (get_or order j 0)) ⊎ IsAmong waiting (get_or order j 0)
 
 pub underway_start : (maps : Rotations) (node : ℕ → ℕ) (allowed : ℕ → Bool) (bound root start : ℕ) (order waiting : List ℕ)
-    (from : List (Option DartName))
+    (from : List (Option ℕ))
     → IsOrder maps node allowed bound root order from → order ≡ start ∷ [] → waiting ≡ start ∷ []
     → IsUnderway maps node allowed bound root order waiting from
 underway_start maps node allowed bound root start order waiting from h one waits =
@@ -186,14 +186,14 @@ underway_start maps node allowed bound root start order waiting from h one waits
 
 -- the dart that is taken is one, of a node that was found
 pub taken_dart : (maps : Rotations) (node : ℕ → ℕ) (allowed : ℕ → Bool) (bound root : ℕ) (order waiting rest : List ℕ)
-    (from : List (Option DartName)) (x : ℕ)
+    (from : List (Option ℕ)) (x : ℕ)
     → IsUnderway maps node allowed bound root order waiting from → IsTaken waiting rest x → x < maps.darts
 taken_dart maps node allowed bound root order waiting rest from x h t =
     let among : IsAmong order x = h.known x t.stood in
     subst (λ d. d < maps.darts) among.is (h.is_order.within among.place among.within)
 
 pub taken_found : (maps : Rotations) (node : ℕ → ℕ) (allowed : ℕ → Bool) (bound root : ℕ) (order waiting rest : List ℕ)
-    (from : List (Option DartName)) (x : ℕ)
+    (from : List (Option ℕ)) (x : ℕ)
     → IsUnderway maps node allowed bound root order waiting from → IsTaken waiting rest x → IsFound node order (node x)
 taken_found maps node allowed bound root order waiting rest from x h t =
     let among : IsAmong order x = h.known x t.stood in
@@ -201,7 +201,7 @@ taken_found maps node allowed bound root order waiting rest from x h t =
 
 -- one more node is crossed
 pub underway_more : (maps : Rotations) (node : ℕ → ℕ) (allowed : ℕ → Bool) (bound root : ℕ) (order waiting rest new more : List ℕ)
-    (from kept : List (Option DartName)) (x : ℕ)
+    (from kept : List (Option ℕ)) (x : ℕ)
     → IsUnderway maps node allowed bound root order waiting from → IsTaken waiting rest x → IsOrder maps node allowed bound root new kept
     → AreAdded order rest new more → IsCrossed maps node allowed new (node x) → IsUnderway maps node allowed bound root new more kept
 underway_more maps node allowed bound root order waiting rest new more from kept x h t is adds crossed =
@@ -238,7 +238,7 @@ underway_more maps node allowed bound root order waiting rest new more from kept
 
 -- where none waits, the search is done
 pub underway_done : (maps : Rotations) (node : ℕ → ℕ) (allowed : ℕ → Bool) (bound root : ℕ) (order waiting : List ℕ)
-    (from : List (Option DartName))
+    (from : List (Option ℕ))
     → IsUnderway maps node allowed bound root order waiting from → waiting ≡ [] → IsSearched maps node allowed bound root from
 underway_done maps node allowed bound root order waiting from h none =
     record {

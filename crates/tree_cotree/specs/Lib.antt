@@ -11,7 +11,6 @@ pub mod Waiting
 pub mod Ways
 pub mod Markings
 pub mod Joinings
-pub mod MaybeDarts
-pub mod MaybeFaces
+pub mod MaybeNumbers
 pub mod EdgeFaces
 pub mod StoredSplits

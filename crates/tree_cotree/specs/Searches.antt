@@ -1,8 +1,6 @@
 -- A search over the vertices or over the faces of a surface, across allowed edges: the nodes in the order in which they are found, each
 -- by a dart of it that leads back to one found before.
 use Rattle.std.specs.Prelude.{◌≡◌, ◌≢◌, ℕ, ◌<◌, true, false, Bool, List, ◌++◌, length, slice_index, slice_index_or, Option, Some, None}
-use Rattle.std.specs.Option.{option_map}
-use Rattle.surf_model.specs.declared.names.DartName.{DartName}
 use Rattle.halfedge_map.specs.RotationSystems.{Rotations, around}
 use Rattle.tree_cotree.specs.declared.split.Kind.{Kind}
 use Rattle.tree_cotree.specs.declared.split.Kind.TheVariants.{Tree, Cotree, Left}
@@ -22,8 +20,8 @@ turn_of Vertices maps = around maps
 turn_of Faces maps = maps.next
 
 -- the dart that is kept for a node, if one is
-abbrev pub back_at : List (Option DartName) → ℕ → Option ℕ
-back_at from v = option_map (λ d. d.0) (slice_index_or from v None)
+abbrev pub back_at : List (Option ℕ) → ℕ → Option ℕ
+back_at from v = slice_index_or from v None
 
 -- the node v is among those of an order
 pub record IsFound (node : ℕ → ℕ) (order : List ℕ) (v : ℕ) : Type 0 where
@@ -48,7 +46,7 @@ pub record LeadsBack (maps : Rotations) (node : ℕ → ℕ) (order : List ℕ) 
 -- Darts in the order of a search from a root: no node twice, each but the first across an allowed edge from a node before it, and
 -- kept for its node.
 pub record IsOrder (maps : Rotations) (node : ℕ → ℕ) (allowed : ℕ → Bool) (bound root : ℕ) (order : List ℕ)
-    (from : List (Option DartName)) : Type 0 where
+    (from : List (Option ℕ)) : Type 0 where
   pub long : length from ≡ bound
   pub some : 0 < length order
   pub first : node (slice_index order 0) ≡ root
@@ -65,13 +63,13 @@ IsCrossed maps node allowed order v =
     (d : ℕ) → d < maps.darts → node d ≡ v → allowed (maps.edge d) ≡ true → IsFound node order (node (maps.twin d))
 
 -- What a search gives: an order to which no allowed edge would add a node.
-pub record IsSearched (maps : Rotations) (node : ℕ → ℕ) (allowed : ℕ → Bool) (bound root : ℕ) (from : List (Option DartName)) : Type 0 where
+pub record IsSearched (maps : Rotations) (node : ℕ → ℕ) (allowed : ℕ → Bool) (bound root : ℕ) (from : List (Option ℕ)) : Type 0 where
   pub order : List ℕ
   pub is_order : IsOrder maps node allowed bound root order from
   pub closed : (j : ℕ) → j < length order → IsCrossed maps node allowed order (node (slice_index order j))
 
 -- a search that found the nodes of all darts
-pub record FindsAll (maps : Rotations) (node : ℕ → ℕ) (allowed : ℕ → Bool) (bound root : ℕ) (from : List (Option DartName)) : Type 0 where
+pub record FindsAll (maps : Rotations) (node : ℕ → ℕ) (allowed : ℕ → Bool) (bound root : ℕ) (from : List (Option ℕ)) : Type 0 where
   pub order : List ℕ
   pub is_order : IsOrder maps node allowed bound root order from
   pub all : (d : ℕ) → d < maps.darts → IsFound node order (node d)

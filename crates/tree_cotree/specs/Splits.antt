@@ -55,10 +55,6 @@ parent_dart split v = slice_index_or split.parents v None
 abbrev pub below_edge : SplitView → ℕ → Option ℕ
 below_edge split e = slice_index_or split.children e None
 
--- the same, of an edge of the maps of a surface
-abbrev pub child_face : Rotations → SplitView → ℕ → Option ℕ
-child_face maps split e = below_edge split e
-
 -- the dart to the parent of u leads to v
 pub record IsParentStep (maps : Rotations) (split : SplitView) (u v dart : ℕ) : Type 0 where
   pub is_parent : parent_dart split u ≡ Some dart

@@ -1,16 +1,15 @@
 -- Ways up a tree over the faces, in which a dart is kept for each face but the root that leads on towards it.
 use Rattle.std.specs.Prelude.{◌≡◌, ◌≢◌, ℕ, ◌+◌, ◌<◌, true, List, length, slice_index, Option, Some, None}
-use Rattle.surf_model.specs.declared.names.DartName.{DartName}
 use Rattle.halfedge_map.specs.RotationSystems.{Rotations}
 use Rattle.tree_cotree.specs.Searches.{FindsAll, back_at}
 
 -- the kept darts make a tree over all faces
-pub record HasRoot (maps : Rotations) (from : List (Option DartName)) : Type 0 where
+pub record HasRoot (maps : Rotations) (from : List (Option ℕ)) : Type 0 where
   pub root : ℕ
   pub finds : FindsAll maps maps.face (λ e. true) (length from) root from
 
 -- kept darts that lead from the face `start` to the face `top`, through no face twice
-pub record IsWay (maps : Rotations) (from : List (Option DartName)) (start top : ℕ) (way : List ℕ) : Type 0 where
+pub record IsWay (maps : Rotations) (from : List (Option ℕ)) (start top : ℕ) (way : List ℕ) : Type 0 where
   pub within : (k : ℕ) → k < length way → slice_index way k < maps.darts
   pub kept : (k : ℕ) → k < length way → back_at from (maps.face (slice_index way k)) ≡ Some (slice_index way k)
   pub none : length way ≡ 0 → top ≡ start
@@ -21,7 +20,7 @@ pub record IsWay (maps : Rotations) (from : List (Option DartName)) (start top :
   pub off : (k : ℕ) → k < length way → maps.face (slice_index way k) ≢ top
 
 -- such a way to the root
-pub record IsWayUp (maps : Rotations) (from : List (Option DartName)) (start : ℕ) (way : List ℕ) : Type 0 where
+pub record IsWayUp (maps : Rotations) (from : List (Option ℕ)) (start : ℕ) (way : List ℕ) : Type 0 where
   pub top : ℕ
   pub is_root : back_at from top ≡ None
   pub within : top < length from

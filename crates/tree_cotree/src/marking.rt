@@ -8,14 +8,14 @@ ghost use Rattle.tree_cotree.specs.Searches.{back_at, has_kind};
 ghost use Rattle.tree_cotree.specs.Markings.{AreApart, IsMarked};
 ghost use Rattle.tree_cotree.specs.declared.split.Kind.TheVariants.{Left};
 
-use crate::maybe_dart::MaybeDart;
+use crate::maybe_number::MaybeNumber;
 use crate::search::is_same;
 use crate::split::Kind;
 use halfedge_map::Surface;
 use surf_model::{DartName, EdgeName};
 
 /// Gives the edges of the darts that are kept a kind.
-pub(crate) fn mark(kinds: &mut Vec<Kind>, surface: &Surface, from: &[MaybeDart], kind: Kind)
+pub(crate) fn mark(kinds: &mut Vec<Kind>, surface: &Surface, from: &[MaybeNumber], kind: Kind)
     requires valid { IsOrientedSurface surface.now }
     requires kinds { length kinds.old.items ≡ length surface.now.table }
     requires apart { AreApart (rotations_of surface.now) from.now }
@@ -23,7 +23,7 @@ pub(crate) fn mark(kinds: &mut Vec<Kind>, surface: &Surface, from: &[MaybeDart],
     ensures { IsMarked (rotations_of surface.now) from.now kind kinds.old.items kinds.new.items (length from.now) }
 {
     for node in 0..from.len() {
-        if let Some(dart) = from[node].get() {
+        if let Some(dart) = from[node].dart() {
             kinds[surface.edge_of(dart).0 as usize] = kind;
         }
     }

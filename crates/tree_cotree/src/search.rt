@@ -7,7 +7,7 @@ ghost use Rattle.tree_cotree.specs.Graphs.{maps_of, node_in, turn_in, crosses};
 ghost use Rattle.tree_cotree.specs.Waiting.{waiting_darts};
 ghost use Rattle.tree_cotree.specs.Searches.{same_kind, AreBelow, IsFound, IsOrder, IsCrossed, IsSearched, AreAdded};
 
-use crate::maybe_dart::MaybeDart;
+use crate::maybe_number::MaybeNumber;
 use crate::split::Kind;
 use crate::waiting::{Order, Waiting};
 use halfedge_map::Surface;
@@ -109,7 +109,7 @@ pub(crate) fn is_same(kind: Kind, other: Kind) -> bool
 struct Search {
     order: Vec<DartName>,
     waiting: Waiting,
-    from: Vec<MaybeDart>,
+    from: Vec<MaybeNumber>,
 }
 
 /// Goes across the edge of a dart, if it may be crossed, and keeps the node beyond it, if it is new.
@@ -140,13 +140,13 @@ fn cross(
         return Ok(());
     }
     let across = graph.node_across(dart);
-    if across == root || search.from[across as usize].get().is_some() {
+    if across == root || search.from[across as usize].is_some() {
         return Ok(());
     }
     let back = graph.surface.twin(dart);
     search.order.push(back)?;
     search.waiting.push(back)?;
-    search.from[across as usize] = MaybeDart::some(back);
+    search.from[across as usize] = MaybeNumber::some(back.0);
     Ok(())
 }
 
@@ -191,7 +191,7 @@ pub(crate) fn search_over(
     order: Order,
     bound: u32,
     start: DartName,
-) -> Result<Vec<MaybeDart>, AllocError>
+) -> Result<Vec<MaybeNumber>, AllocError>
     requires kinds { length graph.now.kinds.now ≡ length graph.now.surface.now.table }
     requires below { AreBelow (maps_of graph.now) (node_in graph.now) bound }
     requires dart { start.0 < darts_of graph.now.surface.now }
@@ -201,7 +201,7 @@ pub(crate) fn search_over(
     let mut search = Search {
         order: Vec::with_capacity(alloc, bound as usize)?,
         waiting: Waiting::new(alloc),
-        from: vec![in alloc; MaybeDart::none(); bound as usize]?,
+        from: vec![in alloc; MaybeNumber::none(); bound as usize]?,
     };
     search.order.push(start)?;
     search.waiting.push(start)?;

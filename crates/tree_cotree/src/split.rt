@@ -6,8 +6,7 @@ ghost use Rattle.tree_cotree.specs.Splits.{IsSplit};
 use crate::colouring::Colouring;
 use crate::edge_faces::faces_below;
 use crate::marking::{leftover_dart, leftover_edges, mark};
-use crate::maybe_dart::MaybeDart;
-use crate::maybe_face::MaybeFace;
+use crate::maybe_number::MaybeNumber;
 use crate::search::{Edges, Graph, Nodes, search_over};
 use crate::turning::turn_round;
 use crate::waiting::Order;
@@ -34,9 +33,9 @@ pub struct Split {
     /// What it tells without its ways.
     colouring: Colouring,
     /// For each vertex the dart to its parent in the tree.
-    parents: Vec<MaybeDart>,
+    parents: Vec<MaybeNumber>,
     /// For each edge the face below it in the cotree.
-    children: Vec<MaybeFace>,
+    children: Vec<MaybeNumber>,
 }
 
 impl Model for Split {
@@ -72,7 +71,7 @@ impl Split {
         requires { vertex.0 < length self.now.parents }
         ensures { option_map (λ dart. dart.0) result ≡ parent_dart self.now vertex.0 }
     {
-        self.parents[vertex.0 as usize].get()
+        self.parents[vertex.0 as usize].dart()
     }
 
     /// The face below a cotree edge; none for other edges.
@@ -80,7 +79,7 @@ impl Split {
         requires { edge.0 < length self.now.children }
         ensures { option_map (λ face. face.0) result ≡ below_edge self.now edge.0 }
     {
-        self.children[edge.0 as usize].get()
+        self.children[edge.0 as usize].face()
     }
 
     /// The root of the cotree. It has a leftover dart where there is one.

@@ -7,7 +7,7 @@ ghost use Rattle.tree_cotree.specs.RingViews.{dart_numbers};
 ghost use Rattle.tree_cotree.specs.Searches.{FindsAll};
 ghost use Rattle.tree_cotree.specs.Ways.{HasRoot, IsWayUp};
 
-use crate::maybe_dart::MaybeDart;
+use crate::maybe_number::MaybeNumber;
 use halfedge_map::Surface;
 use std::alloc::{AllocError, Global};
 use surf_model::DartName;
@@ -17,7 +17,7 @@ use surf_model::DartName;
 pub(crate) fn turn_round(
     alloc: Global,
     surface: &Surface,
-    from: &mut [MaybeDart],
+    from: &mut [MaybeNumber],
     start: DartName,
 ) -> Result<(), AllocError>
     requires valid { IsOrientedSurface surface.now }
@@ -32,8 +32,8 @@ pub(crate) fn turn_round(
     let mut way = way_up(alloc, surface, from, start)?;
     while let Some(dart) = way.pop() {
         let back = surface.twin(dart);
-        from[surface.face_of(back).0 as usize] = MaybeDart::some(back);
-        from[surface.face_of(dart).0 as usize] = MaybeDart::none();
+        from[surface.face_of(back).0 as usize] = MaybeNumber::some(back.0);
+        from[surface.face_of(dart).0 as usize] = MaybeNumber::none();
     }
     Ok(())
 }
@@ -42,7 +42,7 @@ pub(crate) fn turn_round(
 fn way_up(
     alloc: Global,
     surface: &Surface,
-    from: &[MaybeDart],
+    from: &[MaybeNumber],
     start: DartName,
 ) -> Result<Vec<DartName>, AllocError>
     requires valid { IsOrientedSurface surface.now }
@@ -54,7 +54,7 @@ fn way_up(
 {
     let mut way = Vec::new(alloc);
     let mut face = surface.face_of(start);
-    while let Some(dart) = from[face.0 as usize].get() {
+    while let Some(dart) = from[face.0 as usize].dart() {
         way.push(dart)?;
         face = surface.face_of(surface.twin(dart));
     }

@@ -7,7 +7,7 @@ use Rattle.surf_model.specs.declared.names.DartName.{DartName}
 use Rattle.surf_model.specs.declared.names.FaceName.{FaceName}
 use Rattle.halfedge_map.specs.DartMaps.{edge_of}
 use Rattle.halfedge_map.specs.RotationSystems.{rotations_of, IsDartFrom}
-use Rattle.tree_cotree.specs.Splits.{child_face, in_cotree}
+use Rattle.tree_cotree.specs.Splits.{below_edge, in_cotree}
 use Rattle.move_lifting.specs.Crossings.{GoesAlong, IsFaceBelow}
 use Rattle.move_lifting.specs.declared.crossing.FaceStep.{FaceStep}
 use Rattle.move_lifting.proofs.CrossingLemmas.{below_step, not_below}
@@ -22,8 +22,8 @@ returns-in_err-face c =
     let from : IsDartFrom (rotations_of s) u v d =
     subst (λ (r : Option DartName). IfSome r (λ dart. IsDartFrom (rotations_of s) u v dart.0)) c.unwrap-dart.ensures
     c.dart_between.ensures.leads in
-    let none : child_face (rotations_of s) c.args.split.now (edge_of s d) ≡ None =
-    ap (child_face (rotations_of s) c.args.split.now) (sym c.edge_of.ensures.edge) ∙ sym c.child_face.ensures
+    let none : below_edge c.args.split.now (edge_of s d) ≡ None =
+    ap (below_edge c.args.split.now) (sym c.edge_of.ensures.edge) ∙ sym c.child_face.ensures
     ∙ ap (λ (r : Option FaceName). option_map (λ face. face.0) r) c.in_err-face.was in
     subst
     (λ (r : Option FaceStep).
@@ -41,8 +41,8 @@ returns c =
     let from : IsDartFrom (rotations_of s) u v d =
     subst (λ (r : Option DartName). IfSome r (λ dart. IsDartFrom (rotations_of s) u v dart.0)) c.unwrap-dart.ensures
     c.dart_between.ensures.leads in
-    let face : child_face (rotations_of s) c.args.split.now (edge_of s d) ≡ Some c.in_ok-face.face.0 =
-    ap (child_face (rotations_of s) c.args.split.now) (sym c.edge_of.ensures.edge) ∙ sym c.child_face.ensures
+    let face : below_edge c.args.split.now (edge_of s d) ≡ Some c.in_ok-face.face.0 =
+    ap (below_edge c.args.split.now) (sym c.edge_of.ensures.edge) ∙ sym c.child_face.ensures
     ∙ ap (λ (r : Option FaceName). option_map (λ f. f.0) r) c.in_ok-face.was in
     let mesh = c.faces-faces.ensures.mesh in
     let in_mesh : IsSide s.mesh c.side_at-side.result =

@@ -7,7 +7,8 @@ use Rattle.halfedge_map.specs.RotationSystems.{rotations_of}
 use Rattle.tree_cotree.specs.Splits.{is_left, is_left_kind, kind_of}
 use Rattle.tree_cotree.specs.ColouredTrees.{without_ways}
 use Rattle.tree_cotree.proofs.ColourLemmas.{trees_of}
-use Rattle.polygon_cut.specs.StoredPolygons.{outer_ring, left_at, dart_after_kind}
+use Rattle.polygon_cut.specs.Polygons.{outer_ring}
+use Rattle.polygon_cut.specs.StoredPolygons.{left_at, dart_after_kind}
 use Rattle.polygon_cut.proofs.CountLemmas.{count_at_most}
 use Rattle.polygon_cut.proofs.RingWalkLemmas.{walking_within, walking_left, walking_other}
 use Rattle.polygon_cut.proofs.ring.label_ring.Goals as goal

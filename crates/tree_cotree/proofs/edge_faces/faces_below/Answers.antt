@@ -1,10 +1,8 @@
-use Rattle.std.proofs.Common.{◌≡◌, ◌<◌, ◌+◌, ℕ, List, length, refl, ap, sym, ◌∙◌, subst, arith}
+use Rattle.std.proofs.Common.{◌≡◌, ◌<◌, ◌+◌, ℕ, List, length, ap, sym, ◌∙◌, subst, arith}
 use Rattle.std.specs.Prelude.{Option, Some, None}
 use Rattle.std.proofs.Math.ListN.{set}
 use Rattle.std.proofs.lemmas.List.{length-set}
 use Rattle.surf_model.specs.FaceLists.{FaceList}
-use Rattle.surf_model.specs.declared.names.DartName.{DartName}
-use Rattle.surf_model.specs.declared.names.FaceName.{FaceName}
 use Rattle.halfedge_map.specs.DartMaps.{edge_of}
 use Rattle.halfedge_map.specs.OrientedMeshes.{OrientedMesh}
 use Rattle.halfedge_map.specs.RotationSystems.{Rotations, rotations_of}
@@ -20,42 +18,41 @@ edge_of-requires c =
     let count = c.len-face-end.ensures.count ∙ ap (λ (m : FaceList). length m.faces) c.faces.ensures.mesh in
     let within : c.loop-face.face < length c.args.from.now = omega (arith, c.loop-face-test.true, count, c.requires.each_face) in
     let some : back_at c.args.from.now c.loop-face.face ≡ Some c.in-Some.dart.0 =
-    kept_read c.args.from.now c.loop-face.face c.index-from-face.result c.get.result (Some c.in-Some.dart) within
-    c.index-from-face.is c.get.ensures c.in-Some.is in
+    kept_read c.args.from.now c.loop-face.face c.index-from-face.result c.dart.result (Some c.in-Some.dart) within
+    c.index-from-face.is c.dart.ensures c.in-Some.is in
     c.requires.apart.within c.loop-face.face c.in-Some.dart.0 some
 
 pub loop-face-preserved : goal.loop-face-preserved
 loop-face-preserved c =
     let s : OrientedMesh = c.args.surface.now in
     let maps : Rotations = rotations_of s in
-    let from : List (Option DartName) = c.args.from.now in
+    let from : List (Option ℕ) = c.args.from.now in
     let n : ℕ = c.loop-face.face in
-    let old : List (Option FaceName) = c.loop-face.below.items in
-    let new : List (Option FaceName) = c.match-get.below.items in
+    let old : List (Option ℕ) = c.loop-face.below.items in
+    let new : List (Option ℕ) = c.match-dart.below.items in
     let count = c.len-face-end.ensures.count ∙ ap (λ (m : FaceList). length m.faces) c.faces.ensures.mesh in
     let within : n < length from = omega (arith, c.loop-face-test.true, count, c.requires.each_face) in
-    elim c.match-get.branch [
+    elim c.match-dart.branch [
       | in-Some w ↦
           (let x : ℕ = w.in-Some.dart.0 in
-          let face : FaceName = record { 0 = n } in
-          let some : back_at from n ≡ Some x = kept_read from n c.index-from-face.result c.get.result (Some w.in-Some.dart) within
-          c.index-from-face.is c.get.ensures w.in-Some.is in
-          let is : new ≡ set old (edge_of s x) (Some face) =
+          let some : back_at from n ≡ Some x = kept_read from n c.index-from-face.result c.dart.result (Some w.in-Some.dart) within
+          c.index-from-face.is c.dart.ensures w.in-Some.is in
+          let is : new ≡ set old (edge_of s x) (Some n) =
           ap (λ v. v.items) w.below-is ∙ ap (λ e. set old e w.some.result) w.edge_of.ensures.edge
           ∙ ap (set old (edge_of s x)) w.some.ensures in
           record {
-            long = ap (λ (fs : List (Option FaceName)). length fs) is ∙ length-set old (edge_of s x) (Some face)
+            long = ap (λ (fs : List (Option ℕ)). length fs) is ∙ length-set old (edge_of s x) (Some n)
                 ∙ c.loop-face.invariant.long;
             kept = subst (λ fs. AreBelowEdges maps from (length s.table) (face_at fs) (n + 1)) (sym is)
-                (faces_more maps from (length s.table) n x face old c.requires.apart c.loop-face.invariant.long c.loop-face.invariant.kept
-                some (subst (λ e. e < length s.table) w.edge_of.ensures.edge w.edge_of.ensures.within) refl);
+                (faces_more maps from (length s.table) n x old c.requires.apart c.loop-face.invariant.long c.loop-face.invariant.kept
+                some (subst (λ e. e < length s.table) w.edge_of.ensures.edge w.edge_of.ensures.within));
           })
       | in_default w ↦
           (let is : new ≡ old = ap (λ v. v.items) w.below-is in
           record {
-            long = ap (λ (fs : List (Option FaceName)). length fs) is ∙ c.loop-face.invariant.long;
+            long = ap (λ (fs : List (Option ℕ)). length fs) is ∙ c.loop-face.invariant.long;
             kept = subst (λ fs. AreBelowEdges maps from (length s.table) (face_at fs) (n + 1)) (sym is)
                 (faces_skip maps from (length s.table) n old c.loop-face.invariant.kept
-                (kept_read from n c.index-from-face.result c.get.result None within c.index-from-face.is c.get.ensures w.in_default.is));
+                (kept_read from n c.index-from-face.result c.dart.result None within c.index-from-face.is c.dart.ensures w.in_default.is));
           })
     ]

@@ -1,7 +1,6 @@
 use Rattle.std.proofs.Common.{◌≡◌, ◌<◌, ℕ, true, List, [], ◌∷◌, ◌++◌, length, ap, sym, ◌∙◌, subst, rules, arith}
 use Rattle.std.proofs.lemmas.List.{append_assoc}
 use Rattle.surf_model.specs.declared.names.DartName.{DartName}
-use Rattle.std.specs.Prelude.{is_some}
 use Rattle.halfedge_map.specs.RotationSystems.{Rotations}
 use Rattle.halfedge_map.proofs.SystemLemmas.{rotation_system}
 use Rattle.tree_cotree.specs.RingViews.{dart_numbers}
@@ -29,7 +28,7 @@ returns-then-across-root-clause-crossed c =
       | then-across-root-via-else-across-root+then-is_some w ↦
           kept_found maps node (crosses c.args.graph.now) (length from) c.args.root order from
           c.node_across-across.result w.index.result.now c.requires.order
-          below w.index.ensures (ap is_some (sym w.get.ensures) ∙ sym w.is_some.ensures ∙ w.if-is_some.true)
+          below w.index.ensures (sym w.is_some.ensures ∙ w.if-is_some.true)
     ])
 
 pub returns-clause-order : goal.returns-clause-order
@@ -45,7 +44,7 @@ returns-clause-order c =
     let below : node (maps.twin d) < length from = c.requires.below (maps.twin d) (system.twin_within d c.requires.dart) in
     let same : c.may_cross.result ≡ true = search rules in
     let none = none_kept from c.node_across-across.result c.index.result.now (rw across below) c.index.ensures
-    (ap is_some (sym c.get.ensures) ∙ sym c.is_some.ensures ∙ c.if-is_some.false) in
+    (sym c.is_some.ensures ∙ c.if-is_some.false) in
     let new : IsNewDart maps node allowed (length from) c.args.root order from d = record {
       dart = c.requires.dart;
       from_found = c.requires.found;

@@ -2,7 +2,6 @@ use Rattle.std.proofs.Common.{◌≡◌, ◌<◌, ◌/◌, ℕ, true, List, leng
 use Rattle.std.specs.Prelude.{Option, Some, replicate}
 use Rattle.std.proofs.lemmas.List.{length-replicate, with_items_is}
 use Rattle.surf_model.specs.FaceLists.{FaceList}
-use Rattle.surf_model.specs.declared.names.DartName.{DartName}
 use Rattle.halfedge_map.specs.Numbers.{count_below}
 use Rattle.halfedge_map.specs.OrientedMeshes.{OrientedMesh}
 use Rattle.halfedge_map.specs.RotationSystems.{Rotations, rotations_of, NamesAll}
@@ -68,8 +67,8 @@ turn_round-requires-clause-tree c =
     let maps : Rotations = rotations_of s in
     let k0 : List Kind = c.in_ok-kinds.kinds.items in
     let k1 : List Kind = c.mark.new.kinds.items in
-    let p : List (Option DartName) = c.in_ok-parents.parents.items in
-    let q : List (Option DartName) = c.in_ok-face_parents.face_parents.items in
+    let p : List (Option ℕ) = c.in_ok-parents.parents.items in
+    let q : List (Option ℕ) = c.in_ok-face_parents.face_parents.items in
     subst (HasRoot maps) (sym c.deref_mut.ensures.value)
     (cotree_has_root s c.faces.ensures.valid k0 k1 p q (search rules)
     (rw (c.deref.ensures.value, c.count-vertices.ensures, c.faces-2.ensures.mesh) at c.in_ok-parents.ensures)
@@ -80,7 +79,7 @@ pub turn_round-requires-clause-each_face : goal.turn_round-requires-clause-each_
 turn_round-requires-clause-each_face c =
     let s : OrientedMesh = c.args.surface.now in
     let searched = c.in_ok-face_parents.ensures in
-    ap (λ (ds : List (Option DartName)). length ds) c.deref_mut.ensures.value ∙ searched.is_order.long ∙ c.len-faces.ensures.count
+    ap (λ (ds : List (Option ℕ)). length ds) c.deref_mut.ensures.value ∙ searched.is_order.long ∙ c.len-faces.ensures.count
     ∙ ap (λ (m : FaceList). length m.faces) c.faces.ensures.mesh
 
 pub faces_below-requires-clause-apart : goal.faces_below-requires-clause-apart
@@ -89,9 +88,9 @@ faces_below-requires-clause-apart c =
     let maps : Rotations = rotations_of s in
     let k0 : List Kind = c.in_ok-kinds.kinds.items in
     let k1 : List Kind = c.mark.new.kinds.items in
-    let p : List (Option DartName) = c.in_ok-parents.parents.items in
-    let q : List (Option DartName) = c.in_ok-face_parents.face_parents.items in
-    let t : List (Option DartName) = c.turn_round.new.from in
+    let p : List (Option ℕ) = c.in_ok-parents.parents.items in
+    let q : List (Option ℕ) = c.in_ok-face_parents.face_parents.items in
+    let t : List (Option ℕ) = c.turn_round.new.from in
     let rooted : HasRoot maps c.deref_mut.result.now =
     subst (HasRoot maps) (sym c.deref_mut.ensures.value)
     (cotree_has_root s c.faces.ensures.valid k0 k1 p q (search rules)
@@ -103,7 +102,7 @@ faces_below-requires-clause-apart c =
     omega (
       arith,
       turned.is_order.long,
-      ap (λ (ds : List (Option DartName)). length ds) c.deref_mut.ensures.value,
+      ap (λ (ds : List (Option ℕ)). length ds) c.deref_mut.ensures.value,
       c.in_ok-face_parents.face_parents.ok.0,
     ) in
     subst (AreApart maps) (sym (c.deref-6.ensures.value ∙ with_items_is c.in_ok-face_parents.face_parents t size))
@@ -117,8 +116,8 @@ returns c =
     let k0 : List Kind = c.in_ok-kinds.kinds.items in
     let k1 : List Kind = c.mark.new.kinds.items in
     let k2 : List Kind = c.mark-2.new.kinds.items in
-    let p : List (Option DartName) = c.in_ok-parents.parents.items in
-    let q : List (Option DartName) = c.in_ok-face_parents.face_parents.items in
+    let p : List (Option ℕ) = c.in_ok-parents.parents.items in
+    let q : List (Option ℕ) = c.in_ok-face_parents.face_parents.items in
     let first : k0 ≡ replicate (length s.table) Left = search rules in
     let tree : IsSearched maps maps.origin (λ e. true) s.mesh.count (maps.origin 0) p =
     rw (c.deref.ensures.value, c.count-vertices.ensures, c.faces-2.ensures.mesh) at c.in_ok-parents.ensures in
@@ -127,7 +126,7 @@ returns c =
     rw (c.deref-3.ensures.value, c.len-faces.ensures.count, c.faces.ensures.mesh) at c.in_ok-face_parents.ensures in
     let found : FindsAll maps maps.face (has_kind k1 Left) (length s.mesh.faces) (maps.face 0) q =
     cotree_found s c.faces.ensures.valid k0 k1 p q first (tree_found s c.faces.ensures.valid k0 p first tree) marked cotree in
-    let t : List (Option DartName) = c.turn_round.new.from in
+    let t : List (Option ℕ) = c.turn_round.new.from in
     let crossed : IsMarked maps q Cotree k1 k2 (length q) = rw c.deref-4.ensures.value at c.mark-2.ensures in
     let kept_in : (v x : ℕ) → back_at q v ≡ Some x → v < length q =
     λ v x e. kept_below maps maps.face (has_kind k1 Left) (length s.mesh.faces) (maps.face 0) (length s.table) (λ f. true) q v x
@@ -137,7 +136,7 @@ returns c =
     (λ v x e. crossed.sets.marked v x (kept_in v x e) e) in
     let is_q : c.deref_mut.result.now ≡ q = c.deref_mut.ensures.value in
     let long : length c.deref_mut.result.now ≡ length s.mesh.faces =
-    ap (λ (ds : List (Option DartName)). length ds) is_q ∙ found.is_order.long in
+    ap (λ (ds : List (Option ℕ)). length ds) is_q ∙ found.is_order.long in
     let turned : FindsAll maps maps.face (has_kind k2 Cotree) (length s.mesh.faces) (maps.face c.leftover_dart-start.result.0) t =
     subst (λ n. FindsAll maps maps.face (has_kind k2 Cotree) n (maps.face c.leftover_dart-start.result.0) t) long
     (c.in_ok-turn_round.ensures (has_kind k2 Cotree) (maps.face 0)

@@ -2,7 +2,6 @@ use Rattle.std.proofs.Common.{◌≡◌, ◌<◌, ℕ, List, [], length, ap, sym
 use Rattle.std.specs.Prelude.{Option, Some, None}
 use Rattle.std.proofs.Math.ListN.{set}
 use Rattle.std.proofs.lemmas.List.{length-set}
-use Rattle.surf_model.specs.declared.names.DartName.{DartName}
 use Rattle.halfedge_map.specs.OrientedMeshes.{OrientedMesh}
 use Rattle.halfedge_map.specs.RotationSystems.{Rotations, rotations_of}
 use Rattle.halfedge_map.proofs.SystemLemmas.{rotation_system, names_all}
@@ -53,11 +52,11 @@ loop-dart-preserved c =
     let maps : Rotations = rotations_of s in
     let start : ℕ = maps.face c.args.start.0 in
     let d : ℕ = c.in-Some.dart.0 in
-    let x : DartName = c.twin-back.result in
-    let from : List (Option DartName) = c.loop-dart.from in
+    let x : ℕ = c.twin-back.result.0 in
+    let from : List (Option ℕ) = c.loop-dart.from in
     let way : List ℕ = dart_numbers c.pop.new.self.items in
     let long : length from ≡ length s.mesh.faces = c.loop-dart.auto.from ∙ c.requires.each_face in
-    let turned : IsPartlyTurned maps c.args.from.now start (set (set from (maps.face x.0) (Some x)) (maps.face d) None) way =
+    let turned : IsPartlyTurned maps c.args.from.now start (set (set from (maps.face x) (Some x)) (maps.face d) None) way =
     turning_more maps c.args.from.now start from way d x (rotation_system s c.requires.valid)
     (λ e l. subst (λ n. maps.face e < n) (sym long) ((names_all s c.requires.valid).face_below e l))
     (subst (IsPartlyTurned maps c.args.from.now start from)
@@ -66,7 +65,7 @@ loop-dart-preserved c =
     c.twin-back.ensures.twin in
     subst (λ v. IsPartlyTurned maps c.args.from.now start (set (set from v c.some.result) c.face_of-in-Some.result.0 c.none.result) way)
     (sym c.face_of.ensures.face)
-    (subst (λ w. IsPartlyTurned maps c.args.from.now start (set (set from (maps.face x.0) c.some.result) w c.none.result) way)
+    (subst (λ w. IsPartlyTurned maps c.args.from.now start (set (set from (maps.face x) c.some.result) w c.none.result) way)
     (sym c.face_of-in-Some.ensures.face)
     (rw (sym c.some.ensures, sym c.none.ensures) at turned))
 

@@ -36,8 +36,8 @@ twin-requires c =
     (λ e l. subst (λ n. maps.face e < n) (sym c.requires.each_face) ((names_all s c.requires.valid).face_below e l)) in
     (climb_dart maps c.args.from.now (maps.face c.args.start.0) c.loop-dart.face.0 (dart_numbers c.loop-dart.way.items) c.in-Some.dart.0
     c.loop-dart.invariant
-    (kept_read c.args.from.now c.loop-dart.face.0 c.index-from-face.result c.get.result (Some c.in-Some.dart) within
-    c.index-from-face.is c.get.ensures c.in-Some.is)).0
+    (kept_read c.args.from.now c.loop-dart.face.0 c.index-from-face.result c.dart.result (Some c.in-Some.dart) within
+    c.index-from-face.is c.dart.ensures c.in-Some.is)).0
 
 pub loop-dart-smaller : goal.loop-dart-smaller
 loop-dart-smaller c =
@@ -72,8 +72,8 @@ loop-dart-preserved c =
     (subst (IsClimb maps c.args.from.now start (maps.face (maps.twin d)))
     (sym (numbers_push xs c.push.new.self.items c.in-Some.dart c.in_ok-push.ensures.items))
     (climb_more maps c.args.from.now start c.loop-dart.face.0 (dart_numbers xs) d c.loop-dart.invariant
-    (kept_read c.args.from.now c.loop-dart.face.0 c.index-from-face.result c.get.result (Some c.in-Some.dart) within
-    c.index-from-face.is c.get.ensures c.in-Some.is)))
+    (kept_read c.args.from.now c.loop-dart.face.0 c.index-from-face.result c.dart.result (Some c.in-Some.dart) within
+    c.index-from-face.is c.dart.ensures c.in-Some.is)))
 
 pub returns : goal.returns
 returns c =
@@ -85,5 +85,5 @@ returns c =
     (λ e l. subst (λ n. maps.face e < n) (sym c.requires.each_face) ((names_all s c.requires.valid).face_below e l)) in
     climb_done maps c.args.from.now (maps.face c.args.start.0) c.loop-dart.face.0 (dart_numbers c.loop-dart.way.items) c.loop-dart.invariant
     (λ e l. subst (λ n. maps.face e < n) (sym c.requires.each_face) ((names_all s c.requires.valid).face_below e l))
-    (kept_read c.args.from.now c.loop-dart.face.0 c.index-from-face.result c.get.result None within c.index-from-face.is c.get.ensures
+    (kept_read c.args.from.now c.loop-dart.face.0 c.index-from-face.result c.dart.result None within c.index-from-face.is c.dart.ensures
     c.in_default.is)
