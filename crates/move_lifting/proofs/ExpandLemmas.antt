@@ -20,7 +20,8 @@ use Rattle.halfedge_map.proofs.EdgeLemmas.{dart_between}
 use Rattle.tree_cotree.specs.Splits.{SplitView, IsSplit, in_cotree}
 use Rattle.common_ends.proofs.PeakLemmas.{one_more, leads_nowhere}
 use Rattle.common_ends.proofs.TrimLemmas.{last_entry}
-use Rattle.move_lifting.specs.Lifts.{LeadsAtPeak, AvoidsCotree, MoreRemove, MoreLeaveCotree}
+use Rattle.polygon_cut.specs.SpokeLoops.{IsOffCotree}
+use Rattle.move_lifting.specs.Lifts.{LeadsAtPeak, MoreRemove, MoreLeaveCotree}
 use Rattle.move_lifting.specs.Loads.{load_of, StaysWithin}
 use Rattle.move_lifting.specs.Tracks.{TrackView, GoesOn, GrowsOrShrinks, last_of}
 use Rattle.move_lifting.specs.Crossings.{beyond, IsFaceBelow, IsCrossed}
@@ -38,8 +39,8 @@ last-push front v =
     ap (λ (n : ℕ). get_or (front ++ v ∷ []) n 0) at ∙ get_or-append-add front (v ∷ []) 0 0
 
 -- keeping off the cotree: a part in front does, and one more dart that is not of the cotree
-pub avoids_front : (s : OrientedMesh) (split : SplitView) (front rest : List ℕ) → AvoidsCotree s split (front ++ rest)
-    → AvoidsCotree s split front
+pub avoids_front : (s : OrientedMesh) (split : SplitView) (front rest : List ℕ) → IsOffCotree s split (front ++ rest)
+    → IsOffCotree s split front
 avoids_front s split front rest h k d l from =
     let more : k + 1 < length (front ++ rest) = omega (arith, length-append front rest, l) in
     let one : get_or front k 0 ≡ get_or (front ++ rest) k 0 = sym (get_or_append_left front rest 0 k (omega arith)) in
@@ -47,9 +48,9 @@ avoids_front s split front rest h k d l from =
     h k d more (subst (λ (x : ℕ). IsDartFrom (rotations_of s) x (get_or (front ++ rest) (k + 1) 0) d) one
     (subst (λ (x : ℕ). IsDartFrom (rotations_of s) (get_or front k 0) x d) two from))
 
-pub avoids_on : (s : OrientedMesh) (split : SplitView) (walk : List ℕ) (v : ℕ) → 0 < length walk → AvoidsCotree s split walk
+pub avoids_on : (s : OrientedMesh) (split : SplitView) (walk : List ℕ) (v : ℕ) → 0 < length walk → IsOffCotree s split walk
     → ((d : ℕ) → IsDartFrom (rotations_of s) (last_of walk) v d → in_cotree split (edge_of s d) ≡ false)
-    → AvoidsCotree s split (walk ++ v ∷ [])
+    → IsOffCotree s split (walk ++ v ∷ [])
 avoids_on s split walk v some h last k d l from =
     let long : k + 1 < length walk + 1 = omega (arith, length-append walk (v ∷ []), l) in
     let one : get_or (walk ++ v ∷ []) k 0 ≡ get_or walk k 0 = get_or_append_left walk (v ∷ []) 0 k (omega arith) in
@@ -74,7 +75,7 @@ pub record IsUnderWay (s : OrientedMesh) (split : SplitView) (behind to : ℕ) (
     (steps : ℕ) : Type 0 where
   pub some : 0 < length track.walk
   pub no_spur : HasNoSpur track.walk
-  pub off_cotree : AvoidsCotree s split track.walk
+  pub off_cotree : IsOffCotree s split track.walk
   pub linked : Linked s.mesh (last_of track.walk ∷ reverse pending)
   pub falls : (t : IsSplit s split) → load s split t (last_of track.walk ∷ reverse pending) + steps ≤ darts_of s
   pub long : length track.walk ≤ length begun.walk + steps
@@ -87,7 +88,7 @@ pub record IsUnderWay (s : OrientedMesh) (split : SplitView) (behind to : ℕ) (
 pub under_way : (s : OrientedMesh) (split : SplitView) → IsOrientedSurface s → (behind to spare : ℕ) (begun track : TrackView)
     (pending : List ℕ)
     → track ≡ record begun { spare = spare } → pending ≡ to ∷ []
-    → 0 < length begun.walk → HasNoSpur begun.walk → AvoidsCotree s split begun.walk → is_edge s.mesh (last_of begun.walk) to ≡ true
+    → 0 < length begun.walk → HasNoSpur begun.walk → IsOffCotree s split begun.walk → is_edge s.mesh (last_of begun.walk) to ≡ true
     → IsUnderWay s split behind to begun track pending 0
 under_way s split o behind to spare begun track pending same is some no_spur off edge =
     let found = dart_between s o (last_of begun.walk) to edge in
@@ -147,8 +148,8 @@ put_on_way s split behind to begun track new pending rest v steps after on poppe
       some = some;
       no_spur = no_spur;
       off_cotree = elim shape [
-        | inl grown ↦ subst (AvoidsCotree s split) (sym grown) (avoids_on s split track.walk v on.some on.off_cotree off)
-        | inr shrunk ↦ avoids_front s split new.walk (shrunk.0 ∷ []) (subst (AvoidsCotree s split) shrunk.1 on.off_cotree)
+        | inl grown ↦ subst (IsOffCotree s split) (sym grown) (avoids_on s split track.walk v on.some on.off_cotree off)
+        | inr shrunk ↦ avoids_front s split new.walk (shrunk.0 ∷ []) (subst (IsOffCotree s split) shrunk.1 on.off_cotree)
       ];
       linked = subst (λ (x : ℕ). Linked s.mesh (x ∷ reverse rest)) (sym last) linked.1;
       falls = λ t.
@@ -386,7 +387,7 @@ cross_on_way s split o behind to begun track new pending rest left v steps step 
     record {
       some = subst (λ (l : List ℕ). 0 < length l) (sym crossed.walk) on.some;
       no_spur = subst HasNoSpur (sym crossed.walk) on.no_spur;
-      off_cotree = subst (AvoidsCotree s split) (sym crossed.walk) on.off_cotree;
+      off_cotree = subst (IsOffCotree s split) (sym crossed.walk) on.off_cotree;
       linked = subst (λ (x : ℕ). Linked s.mesh (x ∷ reverse left)) (sym same_end)
           (subst (Linked s.mesh) (sym whole) (together s.mesh v around.front (reverse rest) round_is_linked linked.1));
       falls = λ t.

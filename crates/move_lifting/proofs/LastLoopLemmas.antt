@@ -28,7 +28,7 @@ use Rattle.halfedge_map.proofs.DartLemmas.{face_at_number, start_kept, start_fli
 use Rattle.halfedge_map.proofs.SystemLemmas.{names_all}
 use Rattle.tree_cotree.specs.Splits.{SplitView, IsSplit}
 use Rattle.polygon_cut.specs.Polygons.{PolygonView, IsCutFrom}
-use Rattle.polygon_cut.specs.SpokeLoops.{AreWaysUp, backward, by_loop, last_side, way_round, way_back_round}
+use Rattle.polygon_cut.specs.SpokeLoops.{AreWaysUp, backward, by_loop, last_side, way_round, way_back_round, IsOffCotree}
 use Rattle.polygon_cut.proofs.FaceRoundLemmas.{at_face}
 use Rattle.polygon_cut.proofs.FreeLawLemmas.{backward_is, side_in, led_round, led_back_round}
 use Rattle.polygon_cut.proofs.FreeProductLemmas.{end_of}
@@ -36,7 +36,7 @@ use Rattle.polygon_cut.proofs.FreeRoundLemmas.{read_back}
 use Rattle.polygon_cut.proofs.WayLemmas.{back}
 use Rattle.common_ends.proofs.PeakLemmas.{leads_nowhere, one_more}
 use Rattle.move_lifting.specs.Crossings.{IsStepOf, IsStepFrom}
-use Rattle.move_lifting.specs.Lifts.{LeadsAtPeak, MoreLeaveCotree, AvoidsCotree}
+use Rattle.move_lifting.specs.Lifts.{LeadsAtPeak, MoreLeaveCotree}
 use Rattle.move_lifting.specs.Loads.{load_of}
 use Rattle.move_lifting.specs.LoopsPutIn.{signed_loop}
 use Rattle.move_lifting.specs.Tracks.{TrackView}
@@ -246,7 +246,7 @@ pub round_freely : (s : OrientedMesh) (split : SplitView) (polygon : PolygonView
     → IsOrientedSurface s → IsSplit s split → IsCutFrom s split polygon → 0 < polygon.degree → IsAllRound s split polygon back step around
     → LeadsAtPeak s.mesh (origin_of s (last_side polygon) ∷ []) track.list track.walk
     → list.moves ≡ Across 0 step.face step.corner (not step.forward) 0 ∷ [] → MoreLeaveCotree s split list.moves track.list.moves
-    → AvoidsCotree s split track.walk
+    → IsOffCotree s split track.walk
     → (root : ℕ) (ways : ℕ → List ℕ) → AreWaysUp s split root ways
     → AreFreelyEqual s.mesh track.walk (by_loop ways (origin_of s (last_side polygon)) (origin_of s (last_side polygon))
     (signed_loop s polygon root ways back))

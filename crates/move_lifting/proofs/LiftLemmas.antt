@@ -13,7 +13,7 @@ use Rattle.surf_model.specs.declared.names.VertexName.{VertexName}
 use Rattle.surf_model.proofs.WayBackLemmas.{list_keeps_walk, list_keeps_ends}
 use Rattle.halfedge_map.specs.OrientedMeshes.{OrientedMesh, IsOrientedSurface}
 use Rattle.tree_cotree.specs.Splits.{SplitView, IsSplit}
-use Rattle.polygon_cut.specs.SpokeLoops.{LeavesCotree}
+use Rattle.polygon_cut.specs.SpokeLoops.{LeavesCotree, IsOffCotree}
 use Rattle.polygon_cut.specs.Polygons.{PolygonView, IsCutFrom}
 use Rattle.polygon_cut.specs.SpokeLoops.{spokes_along}
 use Rattle.quad_system.proofs.FreePathLemmas.{free_walk_below}
@@ -26,7 +26,7 @@ use Rattle.move_lifting.specs.Reductions.{IsReductionOf}
 use Rattle.move_lifting.specs.declared.reducing.Reduction.{Reduction}
 use Rattle.move_lifting.proofs.HomeLemmas.{nothing_is_left}
 use Rattle.move_lifting.proofs.StartLemmas.{starts_freely}
-use Rattle.move_lifting.specs.Lifts.{LeadsAtPeak, AvoidsCotree, MoreLeaveCotree}
+use Rattle.move_lifting.specs.Lifts.{LeadsAtPeak, MoreLeaveCotree}
 use Rattle.move_lifting.specs.Tracks.{TrackView, GoesOn, last_of}
 use Rattle.common_ends.specs.Trimmed.{AreWalksTogether}
 use Rattle.move_lifting.proofs.TreeLiftLemmas.{one_vertex}
@@ -84,7 +84,7 @@ pub second_left : (s : OrientedMesh) (split : SplitView) → IsOrientedSurface s
     → (first closed second : List ℕ) (list : PeakedMoves) (track : TrackView)
     → IsWalk s.mesh first → 0 < length second → get_or first 0 0 ≡ get_or second 0 0
     → LeadsAtPeak s.mesh first list (closed ++ drop 1 second)
-    → GoesOn s.mesh (darts second) closed list track.walk track.list → AvoidsCotree s split track.walk → HasNoSpur track.walk
+    → GoesOn s.mesh (darts second) closed list track.walk track.list → IsOffCotree s split track.walk → HasNoSpur track.walk
     → 0 < length track.walk
     → last_of track.walk ≡ get_or second 0 0 → LeadsAtPeak s.mesh first track.list second
 second_left s split o t sphere first closed second list track w some common h goes off no_spur track_some last =
@@ -219,7 +219,7 @@ pub begun_freely : (s : OrientedMesh) (split : SplitView) (polygon : PolygonView
     → (first closed second vertices : List ℕ) (list : PeakedMoves) (track : TrackView) (reduction : Reduction)
     (r : IsReductionOf s polygon vertices reduction) → vertices ≡ closed
     → IsWalk s.mesh first → 0 < length closed → last_of closed ≡ get_or second 0 0 → LeadsAtPeak s.mesh first list (closed ++ drop 1 second)
-    → IsBegun s split first closed second track → AvoidsCotree s split track.walk → last_of track.walk ≡ get_or second 0 0
+    → IsBegun s split first closed second track → IsOffCotree s split track.walk → last_of track.walk ≡ get_or second 0 0
     → IsFreelyPath s split polygon reduction.spokes.items track.walk
 begun_freely s split polygon o t cut some first closed second vertices list track reduction r is w closed_some meets led begun off last =
     subst (λ (l : List ℕ). IsFreelyPath s split polygon l track.walk) (sym (r.spokes.path_is ∙ ap (spokes_along r.spokes.spokes) is))

@@ -20,10 +20,9 @@ use Rattle.halfedge_map.proofs.EdgeLemmas.{dart_between}
 use Rattle.halfedge_map.proofs.NumberLemmas.{HasPlace, placed}
 use Rattle.halfedge_map.proofs.SystemLemmas.{names_all, rotation_system}
 use Rattle.tree_cotree.specs.Splits.{SplitView, IsSplit, below_edge, in_cotree}
-use Rattle.polygon_cut.specs.SpokeLoops.{LeavesCotree, way_round}
+use Rattle.polygon_cut.specs.SpokeLoops.{LeavesCotree, way_round, IsOffCotree}
 use Rattle.polygon_cut.proofs.FaceRoundLemmas.{at_face}
 use Rattle.move_lifting.specs.Crossings.{beyond, IsFaceBelow, IsOneIn, GoesAlong}
-use Rattle.move_lifting.specs.Lifts.{AvoidsCotree}
 use Rattle.move_lifting.specs.WalksOff.{LeadsOffCotree}
 use Rattle.move_lifting.specs.declared.crossing.FaceStep.{FaceStep}
 use Rattle.move_lifting.proofs.BoundLemmas.{walk_most}
@@ -77,8 +76,8 @@ either_way None = inl refl
 either_way (Some c) = inr (c, refl)
 
 avoids_more : (s : OrientedMesh) (split : SplitView) (u v : ℕ) (rest : List ℕ)
-    → ((d : ℕ) → IsDartFrom (rotations_of s) u v d → in_cotree split (edge_of s d) ≡ false) → AvoidsCotree s split (v ∷ rest)
-    → AvoidsCotree s split (u ∷ v ∷ rest)
+    → ((d : ℕ) → IsDartFrom (rotations_of s) u v d → in_cotree split (edge_of s d) ≡ false) → IsOffCotree s split (v ∷ rest)
+    → IsOffCotree s split (u ∷ v ∷ rest)
 avoids_more s split u v rest first others zero d l from = first d from
 avoids_more s split u v rest first others (suc k) d l from =
     let up : suc k + 1 ≡ suc (k + 1) = omega arith in
@@ -87,7 +86,7 @@ avoids_more s split u v rest first others (suc k) d l from =
 
 find_dart : (s : OrientedMesh) (split : SplitView) → IsOrientedSurface s → IsSplit s split → (walk : List ℕ)
     → ((k : ℕ) → k + 1 < length walk → is_edge s.mesh (get_or walk k 0) (get_or walk (k + 1) 0) ≡ true)
-    → AvoidsCotree s split walk ⊎ HasCotreeDart s split walk
+    → IsOffCotree s split walk ⊎ HasCotreeDart s split walk
 find_dart s split o t [] edges = inl (λ k d l. absurd (omega arith))
 find_dart s split o t (u ∷ []) edges = inl (λ k d l. absurd (omega arith))
 find_dart s split o t (u ∷ v ∷ rest) edges =
@@ -164,7 +163,7 @@ step_off s split o t walk has =
 
 -- where no dart is left
 off_already : (s : OrientedMesh) (split : SplitView) (t : IsSplit s split) (n : ℕ) (walk : List ℕ) → load s split t walk ≤ n
-    → AvoidsCotree s split walk → LeadsOffCotree s split walk n
+    → IsOffCotree s split walk → LeadsOffCotree s split walk n
 off_already s split t n walk light avoids = record {
   moves = [];
   off = walk;

@@ -9,7 +9,7 @@ use Rattle.surf_model.proofs.WayBackLemmas.{list_keeps_walk}
 use Rattle.halfedge_map.specs.OrientedMeshes.{OrientedMesh, IsOrientedSurface}
 use Rattle.tree_cotree.specs.Splits.{SplitView, IsSplit}
 use Rattle.polygon_cut.specs.Polygons.{PolygonView, IsCutFrom}
-use Rattle.polygon_cut.specs.SpokeLoops.{AreWaysUp, HaveFreeSpokes, LeavesCotree, by_loop, path_loop, spokes_along}
+use Rattle.polygon_cut.specs.SpokeLoops.{AreWaysUp, HaveFreeSpokes, LeavesCotree, by_loop, path_loop, spokes_along, IsOffCotree}
 use Rattle.polygon_cut.proofs.GroupLemmas.{IsGroup}
 use Rattle.polygon_cut.proofs.RelatorLemmas.{spoke_product}
 use Rattle.polygon_cut.proofs.WayLemmas.{IsWay, loop_mul, loop_inv, loop_one}
@@ -23,7 +23,6 @@ use Rattle.polygon_cut.proofs.FreeLawLemmas.{root_is, path_list, path_is, off_wa
 use Rattle.polygon_cut.proofs.DartLoopLemmas.{Loops, spoke}
 use Rattle.polygon_cut.proofs.WalkLemmas.{walk_way}
 use Rattle.common_ends.proofs.TrimLemmas.{walk_front}
-use Rattle.move_lifting.specs.Lifts.{AvoidsCotree}
 use Rattle.move_lifting.specs.LoopsPutIn.{IsFreelyPath}
 use Rattle.move_lifting.specs.Tracks.{last_of}
 
@@ -46,7 +45,7 @@ pub starts_freely : (s : OrientedMesh) (split : SplitView) (polygon : PolygonVie
     → IsCutFrom s split polygon → 0 < polygon.degree
     → (spokes : ℕ → ℕ → List ℕ) → HaveFreeSpokes s polygon spokes → (closed walk tail : List ℕ) (moves : List Move)
     → IsWalk s.mesh (closed ++ tail)
-    → Leads s.mesh (closed ++ tail) moves (walk ++ tail) → All (LeavesCotree s split) moves → AvoidsCotree s split walk → 0 < length closed
+    → Leads s.mesh (closed ++ tail) moves (walk ++ tail) → All (LeavesCotree s split) moves → IsOffCotree s split walk → 0 < length closed
     → 0 < length walk
     → last_of walk ≡ last_of closed → slice_index walk 0 ≡ last_of walk
     → IsFreelyPath s split polygon (spokes_along spokes closed) walk

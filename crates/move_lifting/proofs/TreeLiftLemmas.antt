@@ -17,7 +17,7 @@ use Rattle.tree_cotree.specs.Splits.{SplitView, IsSplit, in_tree, in_cotree, is_
 use Rattle.tree_cotree.specs.declared.split.Kind.{Kind}
 use Rattle.tree_cotree.specs.declared.split.Kind.TheVariants.{Tree, Cotree, Left}
 use Rattle.polygon_cut.proofs.TreeWayLemmas.{up, up_step, tree_edge}
-use Rattle.move_lifting.specs.Lifts.{AvoidsCotree}
+use Rattle.polygon_cut.specs.SpokeLoops.{IsOffCotree}
 use Rattle.move_lifting.proofs.CountLemmas.{count_some}
 use Rattle.move_lifting.proofs.ListLemmas.{one_no_spur}
 
@@ -101,7 +101,7 @@ along_dart s split o t u v d from is =
 
 along_tree : (s : OrientedMesh) (split : SplitView) → IsOrientedSurface s → (t : IsSplit s split) → split.genus ≡ 0 → (walk : List ℕ)
     → IsWalk s.mesh walk
-    → AvoidsCotree s split walk → IsAlongTree (parent s split) walk
+    → IsOffCotree s split walk → IsAlongTree (parent s split) walk
 along_tree s split o t sphere walk w off k l =
     let found = dart_between s o (get_or walk k 0) (get_or walk (k + 1) 0) (w.edges k (omega arith)) in
     along_dart s split o t (get_or walk k 0) (get_or walk (k + 1) 0) found.0 found.1
@@ -110,7 +110,7 @@ along_tree s split o t sphere walk w off k l =
 -- a closed walk without spurs off the cotree of a sphere is one vertex
 pub one_vertex : (s : OrientedMesh) (split : SplitView) → IsOrientedSurface s → (t : IsSplit s split) → split.genus ≡ 0
     → (walk : List ℕ) (v : ℕ) → IsWalk s.mesh walk
-    → AvoidsCotree s split walk → HasNoSpur walk → get_or walk 0 0 ≡ v → get_or walk (length walk - 1) 0 ≡ v → walk ≡ v ∷ []
+    → IsOffCotree s split walk → HasNoSpur walk → get_or walk 0 0 ≡ v → get_or walk (length walk - 1) 0 ≡ v → walk ≡ v ∷ []
 one_vertex s split o t sphere walk v w off no_spur starts ends =
     one_tree_walk (parent s split) (λ x. length (up s split t x)) (rank_falls s split o t) walk (v ∷ []) w.starts (omega arith)
     (along_tree s split o t sphere walk w off) (λ k l. absurd (omega arith)) no_spur (one_no_spur v)

@@ -1,12 +1,10 @@
--- Lists of moves that lead from a walk to a walk, with their peaks, and walks that keep off the cotree.
+-- Lists of moves that lead from a walk to a walk, with their peaks.
 pub use Rattle.common_ends.specs.PeakedLists.{LeadsAtPeak}
-use Rattle.std.specs.Prelude.{◌≡◌, ℕ, ◌+◌, ◌*◌, ◌<◌, ◌≤◌, false, List, ◌++◌, length, slice_index, All}
+use Rattle.std.specs.Prelude.{◌≡◌, ℕ, ◌+◌, ◌*◌, ◌≤◌, List, ◌++◌, length, All}
 use Rattle.surf_model.specs.Moves.{PeakedMoves}
 use Rattle.surf_model.specs.declared.moves.Move.{Move}
 use Rattle.halfedge_map.specs.OrientedMeshes.{OrientedMesh}
-use Rattle.halfedge_map.specs.DartMaps.{edge_of}
-use Rattle.halfedge_map.specs.RotationSystems.{rotations_of, IsDartFrom}
-use Rattle.tree_cotree.specs.Splits.{SplitView, in_cotree}
+use Rattle.tree_cotree.specs.Splits.{SplitView}
 use Rattle.polygon_cut.specs.SpokeLoops.{LeavesCotree}
 use Rattle.surf_model.specs.declared.moves.Move.TheVariants.{Insert, Remove, Across}
 
@@ -33,9 +31,3 @@ HasLowPeak sides darts list = 2 * list.peak ≤ (3 * darts + 7) * sides
 -- for each side, and one more.
 abbrev pub IsShortList : ℕ → ℕ → PeakedMoves → Type 0
 IsShortList sides darts list = length list.moves ≤ darts * (sides + 1)
-
--- no dart of the walk lies on a cotree edge
-abbrev pub AvoidsCotree : OrientedMesh → SplitView → List ℕ → Type 0
-AvoidsCotree surface split walk =
-    (k dart : ℕ) → k + 1 < length walk → IsDartFrom (rotations_of surface) (slice_index walk k) (slice_index walk (k + 1)) dart
-    → in_cotree split (edge_of surface dart) ≡ false

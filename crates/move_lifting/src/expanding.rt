@@ -7,8 +7,8 @@ ghost use Rattle.surf_model.specs.Walks.{IsWalk, HaveCommonEnds, darts};
 ghost use Rattle.halfedge_map.specs.DartMaps.{darts_of};
 ghost use Rattle.halfedge_map.specs.OrientedMeshes.{IsOrientedSurface};
 ghost use Rattle.tree_cotree.specs.Splits.{IsSplit};
-ghost use Rattle.polygon_cut.specs.SpokeLoops.{LeavesCotree};
-ghost use Rattle.move_lifting.specs.Lifts.{AvoidsCotree, LeadsAtPeak, MoreLeaveCotree};
+ghost use Rattle.polygon_cut.specs.SpokeLoops.{LeavesCotree, IsOffCotree};
+ghost use Rattle.move_lifting.specs.Lifts.{LeadsAtPeak, MoreLeaveCotree};
 ghost use Rattle.move_lifting.specs.Loads.{StaysWithin};
 ghost use Rattle.move_lifting.specs.Tracks.{GoesOn, last_of};
 ghost use Rattle.move_lifting.specs.Crossings.{IsStepOf, IsCrossed};
@@ -49,7 +49,7 @@ pub fn expand(
     requires sides { darts_of surface.now ≤ MOST_LIFTED_SIDES }
     requires few { darts walk.now ≤ MOST_LIFTED_DARTS }
     ensures leads { IfOk result (λ lifted. LeadsAtPeak surface.now.mesh walk.now lifted.moves lifted.walk) }
-    ensures off_cotree { IfOk result (λ lifted. AvoidsCotree surface.now split.now lifted.walk) }
+    ensures off_cotree { IfOk result (λ lifted. IsOffCotree surface.now split.now lifted.walk) }
     ensures no_spur { IfOk result (λ lifted. HasNoSpur lifted.walk) }
     ensures ends { IfOk result (λ lifted. HaveCommonEnds walk.now lifted.walk) }
     ensures leaves { IfOk result (λ lifted. All (LeavesCotree surface.now split.now) lifted.moves.moves) }
@@ -87,7 +87,7 @@ pub(crate) fn lead_all(
     requires few { length walk.now ≤ MOST_PASSED_ENTRIES }
     requires behind { behind ≤ MOST_LIFTED_DARTS }
     ensures leads { IfOk result (λ track. GoesOn on.now.surface.now.mesh behind (numbers walk.now) moves track.walk track.list) }
-    ensures off_cotree { IfOk result (λ track. AvoidsCotree on.now.surface.now on.now.split.now track.walk) }
+    ensures off_cotree { IfOk result (λ track. IsOffCotree on.now.surface.now on.now.split.now track.walk) }
     ensures no_spur { IfOk result (λ track. HasNoSpur track.walk) }
     ensures last { IfOk result (λ track. last_of track.walk ≡ last_of (numbers walk.now)) }
     ensures some { IfOk result (λ track. 0 < length track.walk) }
@@ -122,13 +122,13 @@ fn lead_on(
     requires pending { pending.old.items ≡ [] }
     requires some { 0 < length track.old.walk }
     requires no_spur { HasNoSpur track.old.walk }
-    requires off_cotree { AvoidsCotree on.now.surface.now on.now.split.now track.old.walk }
+    requires off_cotree { IsOffCotree on.now.surface.now on.now.split.now track.old.walk }
     requires edge { is_edge on.now.surface.now.mesh (last_of track.old.walk) to.0 ≡ true }
     requires room { length track.old.walk + darts_of on.now.surface.now + behind < 2 ^ 31 }
     ensures pending { OnOk result (pending.new.items ≡ []) }
     ensures some { OnOk result (0 < length track.new.walk) }
     ensures no_spur { OnOk result (HasNoSpur track.new.walk) }
-    ensures off_cotree { OnOk result (AvoidsCotree on.now.surface.now on.now.split.now track.new.walk) }
+    ensures off_cotree { OnOk result (IsOffCotree on.now.surface.now on.now.split.now track.new.walk) }
     ensures last { OnOk result (last_of track.new.walk ≡ to.0) }
     ensures long { OnOk result (length track.new.walk ≤ length track.old.walk + darts_of on.now.surface.now) }
     ensures leads { OnOk result (GoesOn on.now.surface.now.mesh behind (track.old.walk ++ to.0 ∷ []) track.old.list

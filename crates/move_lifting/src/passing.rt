@@ -6,10 +6,11 @@ ghost use Rattle.surf_model.specs.Vertices.{numbers};
 ghost use Rattle.surf_model.specs.Walks.{IsWalk};
 ghost use Rattle.halfedge_map.specs.OrientedMeshes.{IsOrientedSurface, OrientedMesh};
 ghost use Rattle.tree_cotree.specs.Splits.{SplitView};
+ghost use Rattle.polygon_cut.specs.SpokeLoops.{IsOffCotree};
 ghost use Rattle.move_lifting.specs.Contractions.{IsLedFrom};
 ghost use Rattle.move_lifting.specs.Crossings.{IsFaceBelow};
 ghost use Rattle.move_lifting.specs.Cuts.{IsSplitSurface};
-ghost use Rattle.move_lifting.specs.Lifts.{AvoidsCotree, MoreLeaveCotree, MoreRemove};
+ghost use Rattle.move_lifting.specs.Lifts.{MoreLeaveCotree, MoreRemove};
 ghost use Rattle.move_lifting.specs.Loads.{StaysWithin};
 ghost use Rattle.move_lifting.specs.Passes.{IsPass, IsPassedFrom};
 ghost use Rattle.move_lifting.specs.Tracks.{GoesOn, last_of};
@@ -169,7 +170,7 @@ pub(crate) fn lead_in_passes(
     requires few { length walk.items ≤ MOST_PASSED_ENTRIES }
     requires behind { behind ≤ MOST_LIFTED_DARTS }
     ensures leads { IfOk result (λ track. GoesOn on.now.surface.now.mesh behind (numbers walk.items) moves track.walk track.list) }
-    ensures off_cotree { IfOk result (λ track. AvoidsCotree on.now.surface.now on.now.split.now track.walk) }
+    ensures off_cotree { IfOk result (λ track. IsOffCotree on.now.surface.now on.now.split.now track.walk) }
     ensures no_spur { IfOk result (λ track. HasNoSpur track.walk) }
     ensures last { IfOk result (λ track. last_of track.walk ≡ last_of (numbers walk.items)) }
     ensures some { IfOk result (λ track. 0 < length track.walk) }

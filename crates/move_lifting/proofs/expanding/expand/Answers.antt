@@ -6,7 +6,8 @@ use Rattle.surf_model.specs.Vertices.{numbers}
 use Rattle.surf_model.specs.Walks.{HaveCommonEnds, darts}
 use Rattle.surf_model.proofs.WayBackLemmas.{list_keeps_ends}
 use Rattle.halfedge_map.specs.DartMaps.{darts_of}
-use Rattle.move_lifting.specs.Lifts.{LeadsAtPeak, AvoidsCotree}
+use Rattle.polygon_cut.specs.SpokeLoops.{IsOffCotree}
+use Rattle.move_lifting.specs.Lifts.{LeadsAtPeak}
 use Rattle.move_lifting.specs.Loads.{StaysWithin}
 use Rattle.move_lifting.specs.declared.lifted.Lifted.{Lifted}
 use Rattle.move_lifting.proofs.BoundLemmas.{IsShort, short_walk, three_darts}
@@ -31,8 +32,8 @@ returns-clause-leads c =
 pub returns-clause-off_cotree : goal.returns-clause-off_cotree
 returns-clause-off_cotree c =
     IfOk-weaker c.finish.result (λ (x : Lifted). x ≡ record { walk = c.in_ok-track.track.walk; moves = c.in_ok-track.track.list })
-    (λ (x : Lifted). AvoidsCotree c.args.surface.now c.args.split.now x.walk)
-    (λ x e. subst (λ (y : Lifted). AvoidsCotree c.args.surface.now c.args.split.now y.walk) (sym e) c.in_ok-track.ensures.off_cotree)
+    (λ (x : Lifted). IsOffCotree c.args.surface.now c.args.split.now x.walk)
+    (λ x e. subst (λ (y : Lifted). IsOffCotree c.args.surface.now c.args.split.now y.walk) (sym e) c.in_ok-track.ensures.off_cotree)
     c.finish.ensures
 
 pub returns-clause-ends : goal.returns-clause-ends

@@ -3,7 +3,7 @@ use Rattle.std.proofs.lemmas.List.{get_or-map}
 use Rattle.surf_model.specs.FaceLists.{is_edge}
 use Rattle.surf_model.specs.Vertices.{numbers}
 use Rattle.surf_model.specs.declared.names.VertexName.{VertexName}
-use Rattle.move_lifting.specs.Lifts.{AvoidsCotree}
+use Rattle.polygon_cut.specs.SpokeLoops.{IsOffCotree}
 use Rattle.move_lifting.specs.Tracks.{TrackView}
 use Rattle.move_lifting.proofs.ExpandLemmas.{led_first, led_more, led_all, led_all_within, length-numbers}
 use Rattle.move_lifting.proofs.expanding.lead_all.Goals as goal
@@ -16,7 +16,7 @@ loop-place-init c =
     record {
       led = led_first c.args.on.now.surface.now c.args.on.now.split.now c.args.behind walk c.args.moves c.in_ok-track.track _ _ some
           (get_or-map (λ (x : VertexName). x.0) c.args.walk.now 0 _ 0 (omega arith)) c.in_ok-track.ensures;
-      off_cotree = subst (AvoidsCotree c.args.on.now.surface.now c.args.on.now.split.now)
+      off_cotree = subst (IsOffCotree c.args.on.now.surface.now c.args.on.now.split.now)
           (sym (ap (λ (t : TrackView). t.walk) c.in_ok-track.ensures)) (λ k d l. absurd (omega arith));
       pending = c.in_ok-pending.ensures.items;
       few = omega (arith, ap (λ (t : TrackView). length t.walk) c.in_ok-track.ensures);
