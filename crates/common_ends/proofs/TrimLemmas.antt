@@ -1,5 +1,5 @@
 -- What two walks begin with and end with: taken off, and put back around a list of moves between what is left.
-use Rattle.std.proofs.Common.{◌≡◌, ℕ, ◌+◌, ◌-◌, ◌<◌, true, List, [], ◌∷◌, ◌++◌, length, take, drop, get_or, refl, ap, sym, ◌∙◌, subst, arith, append_assoc, length-append}
+use Rattle.std.proofs.Common.{◌≡◌, ℕ, ◌+◌, ◌-◌, ◌<◌, ◌≤◌, true, List, [], ◌∷◌, ◌++◌, length, take, drop, get_or, refl, ap, sym, ◌∙◌, subst, arith, append_assoc, length-append}
 use Rattle.std.specs.Prelude.{IsTrue}
 use Rattle.std.proofs.lemmas.List.{append-nil, drop_more, drop-drop, get_or-append-add, get_or_append_left, get_or-drop, get_or-take, length-drop, length-take-le, take-append-drop, take-take, take_all, take_more}
 use Rattle.surf_model.specs.FaceLists.{FaceList, is_edge, is_used}
@@ -334,6 +334,26 @@ homotopic_around mesh first second common p h =
 pub record AreLeft (first second : List ℕ) (common : CommonDarts) (near far : List ℕ) : Type 0 where
   pub near_is : near ≡ between common.front common.back first
   pub far_is : far ≡ between common.front common.back second
+
+-- the darts of what is left
+pub record HaveFewerDarts (first second near far : List ℕ) (common : CommonDarts) : Type 0 where
+  pub in_near : darts near + common.front + common.back ≡ darts first
+  pub in_far : darts far + common.front + common.back ≡ darts second
+
+-- the darts of a walk are those that are left and those that are taken off
+rest_and_ends : (walk rest : List ℕ) (front back : ℕ) → 0 < length walk → front + back ≤ darts walk → rest ≡ between front back walk
+    → darts rest + front + back ≡ darts walk
+rest_and_ends walk rest front back some within is =
+    let long : length rest ≡ length walk - back - front =
+    ap (λ (l : List ℕ). length l) is ∙ length-between walk front back (omega (arith, some, within)) in
+    omega (arith, long, some, within)
+
+pub fewer_darts : (first second near far : List ℕ) (common : CommonDarts) → 0 < length first → 0 < length second
+    → AreCommonDarts first second common → AreLeft first second common near far → HaveFewerDarts first second near far common
+fewer_darts first second near far common some other_some c left = record {
+  in_near = rest_and_ends first near common.front common.back some c.in_first left.near_is;
+  in_far = rest_and_ends second far common.front common.back other_some c.in_second left.far_is;
+}
 
 pub left_together : (mesh : FaceList) (first second : List ℕ) (common : CommonDarts) (near far : List ℕ) → IsWalk mesh first
     → IsWalk mesh second → AreCommonDarts first second common → AreLeft first second common near far → AreWalksTogether mesh near far

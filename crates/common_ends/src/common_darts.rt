@@ -1,17 +1,13 @@
 //! What two walks begin with and end with, taken off and put back.
-ghost use Rattle.std.specs.Prelude.{◌≡◌, ◌+◌, ◌-◌, ◌<◌, ◌≤◌, take, drop, All, IfOk, OnOk};
+ghost use Rattle.std.specs.Prelude.{◌≡◌, ◌+◌, ◌-◌, ◌<◌, ◌≤◌, ◌^◌, take, drop, All, IfOk};
 ghost use Rattle.surf_model.specs.Replacements.{place_of};
 ghost use Rattle.surf_model.specs.Walks.{HaveCommonEnds, darts};
 ghost use Rattle.surf_model.specs.declared.moves.Move.{Move};
-ghost use Rattle.common_ends.specs.declared.common_darts.TheConstants.{MOST_ENTRIES};
 ghost use Rattle.common_ends.specs.Trimmed.{AreCommonDarts, between, put_around, DifferBehind, DifferBefore};
 
 use crate::raising::raise_moves;
 use std::alloc::{AllocError, Global};
 use surf_model::{MoveList, Walk};
-
-/// A walk that is made has fewer entries than this.
-const MOST_ENTRIES: u64 = 2_147_483_648;
 
 /// How many darts two walks begin with together, and how many of the others they end with together.
 #[derive(Clone, Copy)]
@@ -44,32 +40,19 @@ impl CommonDarts {
         Ok(part)
     }
 
-    /// The moves of a list where the common darts stand around the walk again. A walk of 2^31 vertices on the way is answered
-    /// as want of memory.
+    /// The moves of a list where the common darts stand around the walk again.
     pub fn put_back(self, alloc: Global, list: MoveList) -> Result<MoveList, AllocError>
-        requires { All (λ (mv : Move). place_of mv ≤ list.peak) list.moves }
+        requires places { All (λ (mv : Move). place_of mv ≤ list.peak) list.moves }
+        requires room { self.front + self.back + list.peak < 2 ^ 32 }
         ensures { IfOk result (λ whole. whole ≡ put_around self list) }
     {
         if self.front == 0 && self.back == 0 {
             return Ok(list);
         }
-        self.find_room(list.peak())?;
         let around = self.front + self.back;
         let mut whole = MoveList::new(alloc, around + list.peak());
         raise_moves(&mut whole, &list, self.front, around)?;
         Ok(whole)
-    }
-
-    /// Fails where the common darts and so many between them are too many together.
-    fn find_room(self, between: u32) -> Result<(), AllocError>
-        ensures { OnOk result (self.front + self.back + between < MOST_ENTRIES) }
-    {
-        let entries = u64::from(self.front) + u64::from(self.back) + u64::from(between);
-        if entries < MOST_ENTRIES {
-            Ok(())
-        } else {
-            Err(AllocError)
-        }
     }
 }
 

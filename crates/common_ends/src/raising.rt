@@ -16,7 +16,8 @@ pub fn raise_moves(
     around: u32,
 ) -> Result<(), AllocError>
     requires places { All (λ (mv : Move). place_of mv ≤ list.now.peak) list.now.moves }
-    requires room { by + around + list.now.peak < 2 ^ 32 }
+    requires raised { by + list.now.peak < 2 ^ 32 }
+    requires room { around + list.now.peak < 2 ^ 32 }
     ensures moves { OnOk result (moves.new.moves ≡ moves.old.moves ++ all_raised by list.now.moves) }
     ensures none { OnOk result (length list.now.moves ≡ 0 → moves.new.peak ≡ moves.old.peak) }
     ensures some { OnOk result (0 < length list.now.moves → moves.new.peak ≡ max moves.old.peak (around + list.now.peak)) }

@@ -1,34 +1,14 @@
 -- A list between what is left of two walks stays within its bound where the common darts stand around it.
-use Rattle.std.proofs.Common.{◌≡◌, ℕ, ◌+◌, ◌-◌, ◌*◌, ◌<◌, ◌≤◌, List, length, ap, ◌∙◌, arith}
+use Rattle.std.proofs.Common.{◌≡◌, ℕ, ◌+◌, ◌*◌, ◌<◌, ◌≤◌, List, length, ap, ◌∙◌, arith}
 use Rattle.std.proofs.lemmas.List.{length-map}
 use Rattle.surf_model.specs.Moves.{PeakedMoves}
 use Rattle.surf_model.specs.Rewriting.{raised}
 use Rattle.surf_model.specs.Walks.{darts}
-use Rattle.common_ends.specs.Trimmed.{AreCommonDarts, between, put_around}
+use Rattle.common_ends.specs.Trimmed.{AreCommonDarts, put_around}
 use Rattle.common_ends.specs.declared.common_darts.CommonDarts.{CommonDarts}
-use Rattle.common_ends.proofs.TrimLemmas.{AreLeft, length-between}
+use Rattle.common_ends.proofs.TrimLemmas.{AreLeft, HaveFewerDarts, fewer_darts}
 use Rattle.free_forms.specs.PeakedLists.{IsWithin}
 use Rattle.free_forms.specs.declared.limits.TheConstants.{MOST_OPEN_SIDES, MOST_OPEN_DARTS, MOST_OPEN_STEPS}
-
--- the darts of what is left
-pub record HaveFewerDarts (first second near far : List ℕ) (common : CommonDarts) : Type 0 where
-  pub in_near : darts near + common.front + common.back ≡ darts first
-  pub in_far : darts far + common.front + common.back ≡ darts second
-
--- the darts of a walk are those that are left and those that are taken off
-rest_and_ends : (walk rest : List ℕ) (front back : ℕ) → 0 < length walk → front + back ≤ darts walk → rest ≡ between front back walk
-    → darts rest + front + back ≡ darts walk
-rest_and_ends walk rest front back some within is =
-    let long : length rest ≡ length walk - back - front =
-    ap (λ (l : List ℕ). length l) is ∙ length-between walk front back (omega (arith, some, within)) in
-    omega (arith, long, some, within)
-
-pub fewer_darts : (first second near far : List ℕ) (common : CommonDarts) → 0 < length first → 0 < length second
-    → AreCommonDarts first second common → AreLeft first second common near far → HaveFewerDarts first second near far common
-fewer_darts first second near far common some other_some c left = record {
-  in_near = rest_and_ends first near common.front common.back some c.in_first left.near_is;
-  in_far = rest_and_ends second far common.front common.back other_some c.in_second left.far_is;
-}
 
 -- each common dart is paid for by those of the whole walks
 pub around_within : (first second near far : List ℕ) (common : CommonDarts) (list whole : PeakedMoves) → 0 < length first

@@ -1,14 +1,14 @@
-use Rattle.std.proofs.Common.{ℕ, ◌+◌, ◌*◌, subst, arith}
+use Rattle.std.proofs.Common.{ℕ, ◌+◌, ◌*◌, refl, subst, arith}
 use Rattle.std.specs.Prelude.{MatchOption, IfSome}
 use Rattle.surf_model.specs.FaceLists.{FaceList}
 use Rattle.surf_model.specs.Moves.{Homotopic}
 use Rattle.surf_model.specs.Walks.{darts}
-use Rattle.common_ends.specs.Trimmed.{AreWalksTogether}
+use Rattle.common_ends.specs.Trimmed.{AreWalksTogether, put_around}
 use Rattle.common_ends.proofs.PeakLemmas.{places_within}
-use Rattle.common_ends.proofs.TrimLemmas.{AreLeft, left_together, left_apart, left_leads}
+use Rattle.common_ends.proofs.TrimLemmas.{AreLeft, fewer_darts, left_together, left_apart, left_leads}
 use Rattle.free_forms.specs.PeakedLists.{LeadsAtPeak, IsWithin}
-use Rattle.free_forms.specs.declared.limits.TheConstants.{MOST_OPEN_SIDES}
-use Rattle.free_forms.proofs.AroundLemmas.{fewer_darts, around_within}
+use Rattle.free_forms.specs.declared.limits.TheConstants.{MOST_OPEN_SIDES, MOST_OPEN_STEPS}
+use Rattle.free_forms.proofs.AroundLemmas.{around_within}
 use Rattle.free_forms.proofs.lifting.lift_open.Goals as goal
 
 pub lift_by_normal_walks-requires-clause-walks : goal.lift_by_normal_walks-requires-clause-walks
@@ -24,8 +24,8 @@ lift_by_normal_walks-requires-clause-few c =
     c.requires.first.starts c.requires.second.starts c.of-common.ensures left in
     omega (arith, fewer.in_near, fewer.in_far, c.requires.few)
 
-pub put_back-requires : goal.put_back-requires
-put_back-requires c =
+pub put_back-requires-clause-places : goal.put_back-requires-clause-places
+put_back-requires-clause-places c =
     let mesh : FaceList = c.args.mesh.now.mesh in
     let together : AreWalksTogether mesh c.in_ok-near.near c.in_ok-far.far =
     left_together mesh c.args.first.now c.args.second.now c.of-common.result c.in_ok-near.near c.in_ok-far.far
@@ -34,6 +34,18 @@ put_back-requires c =
     subst (λ o. MatchOption o (Homotopic mesh c.in_ok-near.near c.in_ok-far.far → ⊥)
     (λ l. LeadsAtPeak mesh c.in_ok-near.near l c.in_ok-far.far)) c.in-Some.is c.in_ok-list.ensures.moves in
     places_within mesh c.in_ok-near.near c.in_ok-far.far c.in-Some.list together.along.starts leads
+
+-- the list between is within the limits, and so it is with the common darts around
+pub put_back-requires-clause-room : goal.put_back-requires-clause-room
+put_back-requires-clause-room c =
+    let most : ℕ = (darts c.in_ok-near.near + darts c.in_ok-far.far) * MOST_OPEN_SIDES in
+    let short : IsWithin most c.in-Some.list =
+    subst (λ o. IfSome o (λ l. IsWithin most l)) c.in-Some.is c.in_ok-list.ensures.short in
+    let within : IsWithin MOST_OPEN_STEPS (put_around c.of-common.result c.in-Some.list) =
+    around_within c.args.first.now c.args.second.now c.in_ok-near.near c.in_ok-far.far c.of-common.result c.in-Some.list
+    (put_around c.of-common.result c.in-Some.list) c.requires.first.starts c.requires.second.starts c.of-common.ensures
+    (record { near_is = c.in_ok-near.ensures; far_is = c.in_ok-far.ensures }) short refl c.requires.few in
+    omega (arith, within.peak)
 
 pub returns-in-Some-clause-moves : goal.returns-in-Some-clause-moves
 returns-in-Some-clause-moves c =

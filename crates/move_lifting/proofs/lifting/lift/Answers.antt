@@ -1,4 +1,4 @@
-use Rattle.std.proofs.Common.{◌≡◌, ℕ, ◌+◌, ◌*◌, ◌≤◌, List, length, sym, ap, subst, arith}
+use Rattle.std.proofs.Common.{◌≡◌, ℕ, ◌+◌, ◌*◌, ◌≤◌, length, sym, ap, subst, arith}
 use Rattle.std.specs.Prelude.{IfSome, MatchOption}
 use Rattle.std.proofs.Math.Nat.{mul-le-mul_right}
 use Rattle.std.proofs.lemmas.List.{length-map}
@@ -9,9 +9,10 @@ use Rattle.surf_model.specs.Walks.{darts}
 use Rattle.halfedge_map.specs.DartMaps.{darts_of}
 use Rattle.common_ends.specs.Trimmed.{AreWalksTogether}
 use Rattle.common_ends.proofs.PeakLemmas.{places_within}
-use Rattle.common_ends.proofs.TrimLemmas.{left_together, left_apart, left_leads, length-between}
+use Rattle.common_ends.proofs.TrimLemmas.{fewer_darts, left_together, left_apart, left_leads}
 use Rattle.move_lifting.specs.Lifts.{HasLowPeak, IsShortList, LeadsAtPeak}
-use Rattle.move_lifting.proofs.BoundLemmas.{three_darts, low_around}
+use Rattle.move_lifting.specs.declared.expanding.TheConstants.{MOST_LIFTED_DARTS}
+use Rattle.move_lifting.proofs.BoundLemmas.{three_darts, low_around, low_most}
 use Rattle.move_lifting.proofs.lifting.lift.Goals as goal
 
 pub lift_between-requires-clause-walks : goal.lift_between-requires-clause-walks
@@ -20,8 +21,8 @@ lift_between-requires-clause-walks c =
     c.requires.first c.requires.second c.of-common.ensures
     (record { near_is = c.in_ok-first.ensures; far_is = c.in_ok-second.ensures })
 
-pub put_back-requires : goal.put_back-requires
-put_back-requires c =
+pub put_back-requires-clause-places : goal.put_back-requires-clause-places
+put_back-requires-clause-places c =
     let mesh : FaceList = c.args.surface.now.mesh in
     let together : AreWalksTogether mesh c.in_ok-first.first c.in_ok-second.second =
     left_together mesh c.args.first.now c.args.second.now c.of-common.result c.in_ok-first.first c.in_ok-second.second c.requires.first
@@ -30,6 +31,18 @@ put_back-requires c =
     subst (λ o. MatchOption o (Homotopic mesh c.in_ok-first.first c.in_ok-second.second → ⊥)
     (λ l. LeadsAtPeak mesh c.in_ok-first.first l c.in_ok-second.second)) c.in-Some.is c.in_ok-list.ensures.list in
     places_within mesh c.in_ok-first.first c.in_ok-second.second c.in-Some.list together.along.starts leads
+
+-- the peak of the list between is low, and few darts stand around
+pub put_back-requires-clause-room : goal.put_back-requires-clause-room
+put_back-requires-clause-room c =
+    let n : ℕ = darts_of c.args.surface.now in
+    let near : ℕ = darts c.in_ok-first.first + darts c.in_ok-second.second in
+    let low : HasLowPeak n near c.in-Some.list = subst (λ o. IfSome o (HasLowPeak n near)) c.in-Some.is c.in_ok-list.ensures.low in
+    let fewer = fewer_darts c.args.first.now c.args.second.now c.in_ok-first.first c.in_ok-second.second c.of-common.result
+    c.requires.first.starts c.requires.second.starts c.of-common.ensures
+    (record { near_is = c.in_ok-first.ensures; far_is = c.in_ok-second.ensures }) in
+    let few : near ≤ MOST_LIFTED_DARTS = omega (arith, fewer.in_near, fewer.in_far, c.requires.few) in
+    omega (arith, low_most n near c.in-Some.list.peak c.requires.sides few low, fewer.in_near, c.requires.few)
 
 pub returns-in-Some-clause-list : goal.returns-in-Some-clause-list
 returns-in-Some-clause-list c =
@@ -58,20 +71,10 @@ returns-in-Some-clause-low c =
     let around : ℕ = c.of-common.result.front + c.of-common.result.back in
     let low : HasLowPeak (darts_of s) near c.in-Some.list =
     subst (λ o. IfSome o (HasLowPeak (darts_of s) near)) c.in-Some.is c.in_ok-list.ensures.low in
-    let count : near + 2 * around ≡ all =
-    omega (
-      arith,
-      c.of-common.ensures.in_first,
-      c.of-common.ensures.in_second,
-      c.requires.first.starts,
-      c.requires.second.starts,
-      ap (λ (l : List ℕ). length l) c.in_ok-first.ensures,
-      ap (λ (l : List ℕ). length l) c.in_ok-second.ensures,
-      length-between c.args.first.now c.of-common.result.front c.of-common.result.back
-          (omega (arith, c.of-common.ensures.in_first, c.requires.first.starts)),
-      length-between c.args.second.now c.of-common.result.front c.of-common.result.back
-          (omega (arith, c.of-common.ensures.in_second, c.requires.second.starts)),
-    ) in
+    let fewer = fewer_darts c.args.first.now c.args.second.now c.in_ok-first.first c.in_ok-second.second c.of-common.result
+    c.requires.first.starts c.requires.second.starts c.of-common.ensures
+    (record { near_is = c.in_ok-first.ensures; far_is = c.in_ok-second.ensures }) in
+    let count : near + 2 * around ≡ all = omega (arith, fewer.in_near, fewer.in_far) in
     let peak : around + c.in-Some.list.peak ≡ c.in_ok-put_back-in-Some.field-0.peak =
     sym (ap (λ (l : PeakedMoves). l.peak) c.in_ok-put_back-in-Some.ensures) in
     subst (λ n. 2 * n ≤ (3 * all + 7) * darts_of s) peak
@@ -86,20 +89,10 @@ returns-in-Some-clause-short c sphere =
     let all : ℕ = darts c.args.first.now + darts c.args.second.now in
     let short : IsShortList (darts_of s) near c.in-Some.list =
     subst (λ o. MatchOption o ⊥ (IsShortList (darts_of s) near)) c.in-Some.is (c.in_ok-list.ensures.short sphere) in
-    let less : near ≤ all =
-    omega (
-      arith,
-      c.of-common.ensures.in_first,
-      c.of-common.ensures.in_second,
-      c.requires.first.starts,
-      c.requires.second.starts,
-      ap (λ (l : List ℕ). length l) c.in_ok-first.ensures,
-      ap (λ (l : List ℕ). length l) c.in_ok-second.ensures,
-      length-between c.args.first.now c.of-common.result.front c.of-common.result.back
-          (omega (arith, c.of-common.ensures.in_first, c.requires.first.starts)),
-      length-between c.args.second.now c.of-common.result.front c.of-common.result.back
-          (omega (arith, c.of-common.ensures.in_second, c.requires.second.starts)),
-    ) in
+    let fewer = fewer_darts c.args.first.now c.args.second.now c.in_ok-first.first c.in_ok-second.second c.of-common.result
+    c.requires.first.starts c.requires.second.starts c.of-common.ensures
+    (record { near_is = c.in_ok-first.ensures; far_is = c.in_ok-second.ensures }) in
+    let less : near ≤ all = omega (arith, fewer.in_near, fewer.in_far) in
     omega (
       arith,
       short,
