@@ -1,5 +1,5 @@
 -- Walk texts of version 2, and pairs. Each line is proved by computing.
-use Rattle.std.specs.Prelude.{◌≡◌, ℕ, true, false, List, [], ◌∷◌, ◌++◌, flat_map, map, Some, None, Result, Ok, Err, codes, refl}
+use Rattle.std.specs.Prelude.{◌≡◌, ℕ, true, false, List, [], ◌∷◌, ◌++◌, flat_map, map, Some, None, Ok, Err, codes, refl}
 use Rattle.text_scan.specs.Lines.{Line, unmarked, cut, words, lines_from}
 use Rattle.text_scan.specs.Numbers.{is_natural, value_of}
 use Rattle.surf_model.specs.FaceLists.{FaceList, all_sides, is_edge, is_used}

@@ -1,8 +1,6 @@
-use Rattle.std.proofs.Common.{◌≡◌, List, [], ◌∷◌, sym, ap, ◌∙◌, arith}
-use Rattle.text_scan.specs.Each.{each_some, some_first}
-use Rattle.walk_files.specs.LineReads.{rest_of, put_before}
+use Rattle.std.proofs.Common.{[], ◌∷◌, sym, ap, ◌∙◌, arith}
+use Rattle.text_scan.specs.Each.{each_some}
 use Rattle.walk_files.specs.WalkTexts.{token_of}
-use Rattle.walk_files.specs.declared.tokens.Token.TheVariants.{Number}
 use Rattle.walk_files.proofs.TokenLemmas.{counted_first, counted_on, rest_of-number, rest_of-open, group_read}
 use Rattle.walk_files.proofs.counting.count_darts.Goals as goal
 

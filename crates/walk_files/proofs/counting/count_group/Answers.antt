@@ -1,4 +1,4 @@
-use Rattle.std.proofs.Common.{◌≡◌, List, [], ◌∷◌, ◌++◌, length, Some, Err, sym, ap, ◌∙◌, length-append, arith}
+use Rattle.std.proofs.Common.{[], ◌∷◌, ◌++◌, length, Err, sym, ap, ◌∙◌, length-append, arith}
 use Rattle.std.proofs.lemmas.Result.{err_from_is_err_and}
 use Rattle.std.proofs.lemmas.Bool.{le-leb}
 use Rattle.text_scan.specs.Each.{each_some}

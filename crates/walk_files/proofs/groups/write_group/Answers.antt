@@ -1,5 +1,4 @@
-use Rattle.std.proofs.Common.{◌≡◌, ◌+◌, ◌++◌, length, Ok, Err, sym, ap, ◌∙◌, arith}
-use Rattle.std.proofs.lemmas.Result.{err_from_is_err_and}
+use Rattle.std.proofs.Common.{◌≡◌, ◌++◌, length, Err, sym, ap, ◌∙◌, arith}
 use Rattle.text_scan.specs.Each.{each_some}
 use Rattle.walk_files.specs.LineReads.{rest_of}
 use Rattle.walk_files.specs.WalkTexts.{token_of, times, read_tokens}

@@ -1,4 +1,4 @@
-use Rattle.std.proofs.Common.{◌≡◌, ℕ, ◌≤◌, List, length}
+use Rattle.std.proofs.Common.{◌≡◌, ℕ, ◌≤◌, length}
 use Rattle.std.specs.Prelude.{Some, []}
 use Rattle.walk_files.specs.LineReads.{rest_of}
 use Rattle.walk_files.proofs.groups.write_group.Given as goal

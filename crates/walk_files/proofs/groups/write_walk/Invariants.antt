@@ -1,5 +1,5 @@
-use Rattle.std.proofs.Common.{◌≡◌, ℕ, ◌≤◌, List, length}
-use Rattle.std.specs.Prelude.{Ok, None}
+use Rattle.std.proofs.Common.{◌≡◌, ℕ, length}
+use Rattle.std.specs.Prelude.{None}
 use Rattle.walk_files.specs.LineReads.{walk_on, put_before, rest_of}
 use Rattle.walk_files.proofs.groups.write_walk.Given as goal
 

@@ -1,10 +1,8 @@
-use Rattle.std.proofs.Common.{◌≡◌, ◌+◌, ℕ, Bool, true, length, inl, inr, sym, ap, subst, ◌∙◌, arith}
-use Rattle.std.specs.Prelude.{Some, None, Result, Ok, Err}
+use Rattle.std.proofs.Common.{◌≡◌, ℕ, Bool, true, length, sym, ap, ◌∙◌, arith}
+use Rattle.std.specs.Prelude.{Some, None, Ok}
 use Rattle.std.specs.Result.{result_err}
 use Rattle.std.proofs.lemmas.Result.{err_from_is_err_and}
-use Rattle.surf_model.specs.FaceLists.{FaceList}
-use Rattle.surf_model.specs.Edges.{IsTableOf}
-use Rattle.walk_files.specs.PairLists.{are_paired, pairs_fault}
+use Rattle.walk_files.specs.PairLists.{are_paired}
 use Rattle.walk_files.proofs.PairListLemmas.{pair_passed, pair_failed, pairs_left, entry_fails, ends_fail, says_pairs}
 use Rattle.walk_files.proofs.pairs.check_pairs.Goals as goal
 

@@ -1,4 +1,4 @@
-use Rattle.std.proofs.Common.{◌≡◌, ◌∷◌, [], ◌++◌, ap, rules}
+use Rattle.std.proofs.Common.{◌≡◌, ◌++◌, ap, rules}
 use Rattle.std.proofs.lemmas.List.{drop-append-le}
 use Rattle.walk_files.specs.NumberLists.{PendingLists}
 use Rattle.walk_files.proofs.ListLemmas.{stored_lists-append}
