@@ -1,10 +1,9 @@
 -- The lines of a certificate, one by one.
-use Rattle.std.proofs.Common.{◌≡◌, ℕ, ◌+◌, ◌-◌, ◌<◌, eqb, Bool, true, false, List, [], ◌∷◌, ◌++◌, length, refl, sym, ap, ◌∙◌, arith}
-use Rattle.std.specs.Prelude.{Option, Some, None, Result, Ok, Err}
+use Rattle.std.proofs.Common.{◌≡◌, ℕ, ◌-◌, ◌<◌, eqb, Bool, true, false, List, [], ◌∷◌, ◌++◌, refl, arith}
+use Rattle.std.specs.Prelude.{Option, Some, None, Err}
 use Rattle.std.proofs.lemmas.Bool.{ne_eqb}
 use Rattle.text_scan.specs.Lines.{Line}
-use Rattle.homology_files.specs.declared.fault.HomologyFault.{HomologyFault}
-use Rattle.homology_files.specs.declared.fault.HomologyFault.TheVariants.{Bad, Ended, Extra}
+use Rattle.homology_files.specs.declared.fault.HomologyFault.TheVariants.{Bad, Ended}
 use Rattle.homology_files.specs.HomologyTexts.{numbers_in}
 
 module _ {X : Type 0} (read : List (List ℕ) → Option X) (is_above : List X → X → Bool) where

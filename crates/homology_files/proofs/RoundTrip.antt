@@ -1,9 +1,9 @@
 -- A certificate that was written is read again.
-use Rattle.std.proofs.Common.{◌≡◌, ℕ, ℤ, ◌+◌, ◌-◌, ◌^◌, ◌<◌, ◌≤◌, eqb, Bool, true, false, List, [], ◌∷◌, ◌++◌, length, map, refl, ap, sym, ◌∙◌, subst, arith, pos, negsuc, append_assoc, length-append, inl, inr}
-use Rattle.std.specs.Prelude.{Option, Some, None, Result, Ok, decimal, codes, All, AllPairs, nat_le, nat_lt, unsigned_abs, flat_map, get_or}
+use Rattle.std.proofs.Common.{◌≡◌, ℕ, ℤ, ◌+◌, ◌-◌, ◌^◌, ◌<◌, ◌≤◌, Bool, true, List, [], ◌∷◌, ◌++◌, length, map, refl, ap, sym, ◌∙◌, subst, arith, pos, negsuc, append_assoc, length-append}
+use Rattle.std.specs.Prelude.{Option, Some, Result, Ok, decimal, codes, All, AllPairs, nat_lt, unsigned_abs, get_or}
 use Rattle.std.specs.Fmt.{signed_decimal}
 use Rattle.std.specs.List.{list_all}
-use Rattle.std.proofs.lemmas.Bool.{le-leb, lt-ltb, ne_eqb}
+use Rattle.std.proofs.lemmas.Bool.{le-leb, lt-ltb}
 use Rattle.std.proofs.lemmas.List.{append-nil}
 use Rattle.std.proofs.lemmas.List.Elements.{All-head, All-tail, All-cons, All-nil}
 use Rattle.std.proofs.lemmas.List.Sums.{list_all-from_AllPass}
@@ -12,7 +12,6 @@ use Rattle.text_scan.specs.Lines.{Line, unmarked, lines_from, full_lines, end_li
 use Rattle.text_scan.specs.Numbers.{number_of, fits_i64}
 use Rattle.text_scan.specs.Plain.{line_of}
 use Rattle.text_scan.proofs.WrittenLemmas.{IsWritable, IsLine, numbered, lines_from-written, decimal-writable, number_below-decimal, integer-writable, integer-read}
-use Rattle.surf_model.specs.Edges.{IsPairBefore}
 use Rattle.homology.specs.Certificates.{AreFaceNumbers, AreEdgeNumbers}
 use Rattle.homology.specs.declared.certificate.FaceNumber.{FaceNumber}
 use Rattle.homology.specs.declared.certificate.EdgeNumber.{EdgeNumber}
