@@ -1,5 +1,5 @@
 -- The answers of the two commands: one, and the right one.
-use Rattle.std.proofs.Common.{◌≡◌, ◌⊎◌, inl, inr, ℕ, ◌≤◌, List, [], ◌∷◌, length, codes, refl, sym, ap, ◌∙◌, subst, arith}
+use Rattle.std.proofs.Common.{◌≡◌, ◌⊎◌, inl, inr, ℕ, List, refl, sym, ap, ◌∙◌, subst}
 use Rattle.std.specs.Prelude.{◌↔◌, Bool, true, false, IsTrue, IfNone, IfSome, MatchOption, Option, Some, None, if◌then◌else◌}
 use Rattle.std.proofs.lemmas.Bool.{both_ways}
 use Rattle.surf_io.specs.Files.{Files}
@@ -12,9 +12,8 @@ use Rattle.walk_translate.specs.declared.deciding.Answer.TheVariants as answers
 use Rattle.commands.proofs.Deciding.{one_decision, differs}
 use Rattle.commands.proofs.Sound.{IsSound}
 use Rattle.commands.specs.Answers.{Answer}
-use Rattle.commands.specs.Certificates.{Convinces, certificate_text, decision_line, decision_of}
-use Rattle.commands.specs.declared.certificate.Certificate.{Certificate}
-use Rattle.commands.specs.declared.certificate.Certificate.TheVariants.{Moves, Denial}
+use Rattle.commands.specs.Certificates.{Convinces, decision_line}
+use Rattle.commands.specs.declared.certificate.Certificate.TheVariants.{Moves}
 use Rattle.commands.specs.Checks.{End, Refuse, Pass, Passes}
 use Rattle.commands.specs.Decisions.{decision_answer}
 use Rattle.commands.specs.Inputs.{walk_at}

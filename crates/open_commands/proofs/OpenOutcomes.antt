@@ -1,6 +1,6 @@
 -- `decide-open` and `certify-open` in the words of the mesh.
-use Rattle.std.proofs.Common.{◌≡◌, ◌⊎◌, inl, inr, ℕ, ◌+◌, ◌<◌, ◌≤◌, List, [], ◌∷◌, codes, refl, subst, arith}
-use Rattle.std.specs.Prelude.{◌↔◌, Option, Some, None}
+use Rattle.std.proofs.Common.{◌≡◌, inr, ℕ, List, [], ◌∷◌, codes, refl, subst}
+use Rattle.std.specs.Prelude.{Option, Some}
 use Rattle.surf_io.specs.Files.{Files}
 use Rattle.surf_model.specs.FaceLists.{FaceList}
 use Rattle.commands.proofs.Checking.{stops_first}
@@ -18,9 +18,9 @@ use Rattle.commands.specs.declared.status.Status.{Status}
 use Rattle.commands.specs.declared.status.Status.TheVariants.{Refused}
 use Rattle.open_commands.specs.CertifyOpen.{IsCertifiedOpen, listed, certify_open}
 use Rattle.open_commands.specs.DecideOpen.{IsDecidedOpen, decide_open}
-use Rattle.open_commands.specs.OpenPairs.{IsOpenInput, IsWithinLimits, IsRefusedBeyond, Question, question, limit_fault, sides_line, darts_line, open_pair_in}
+use Rattle.open_commands.specs.OpenPairs.{IsOpenInput, IsWithinLimits, Question, limit_fault, sides_line, darts_line, open_pair_in}
 use Rattle.open_commands.proofs.Listing.{IsRightList, right_list, sound-listed}
-use Rattle.open_commands.proofs.OpenInputs.{spelled_open, pair_files_told, pair_passes, limited, none_over, side_limit, dart_limit, sound-open_pair_in}
+use Rattle.open_commands.proofs.OpenInputs.{spelled_open, pair_files_told, pair_passes, none_over, side_limit, dart_limit, sound-open_pair_in}
 
 -- the checks of the two commands have an end, and one where their files are told
 pub sound-decide_open : (held : Option Files) (mesh walks : List ℕ) → IsSound held (decide_open held mesh walks)

@@ -1,7 +1,6 @@
-use Rattle.std.proofs.Common.{◌≡◌, ◌∙◌, ℕ, List, true, false, refl, sym, subst, arith}
-use Rattle.std.specs.Prelude.{◌↔◌, Bool, IsTrue, if◌then◌else◌}
+use Rattle.std.proofs.Common.{arith}
+use Rattle.std.specs.Prelude.{if◌then◌else◌}
 use Rattle.std.proofs.lemmas.Result.{err_from_is_err_and}
-use Rattle.surf_model.specs.Moves as moves
 use Rattle.walk_translate.specs.declared.deciding.Answer as deciding
 use Rattle.walk_translate.specs.declared.deciding.Answer.TheVariants.{Homotopic, Different}
 use Rattle.commands.specs.Decisions.{decision_answer}
