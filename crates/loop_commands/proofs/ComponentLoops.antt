@@ -3,7 +3,7 @@ use Rattle.std.proofs.Common.{◌≡◌, ◌↔◌, ℕ, ◌<◌, List, [], ◌�
 use Rattle.std.specs.Prelude.{Some}
 use Rattle.surf_model.specs.FaceLists.{FaceList}
 use Rattle.surf_model.specs.Moves.{Homotopic}
-use Rattle.surf_model.specs.Walks.{IsWalk, HaveCommonEnds}
+use Rattle.surf_model.specs.Walks.{HaveCommonEnds}
 use Rattle.surf_model.proofs.ContextLemmas.{first_answer}
 use Rattle.surf_model.proofs.WayBackLemmas.{keeps_ends}
 use Rattle.manifold_check.specs.ComponentParts.{PartsView, AreParts, component_at, component_mesh}

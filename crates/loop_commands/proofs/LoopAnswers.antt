@@ -11,7 +11,7 @@ use Rattle.free_loops.specs.declared.deciding.FreeAnswer.TheVariants.{Freely, No
 use Rattle.commands.proofs.Checking.{stops_first, stops_next}
 use Rattle.commands.proofs.Rows.{sound-surface_in}
 use Rattle.commands.proofs.Sound.{IsSound, sound-then}
-use Rattle.commands.specs.Answers.{Answer, Texts}
+use Rattle.commands.specs.Answers.{Answer}
 use Rattle.commands.specs.Checks.{Check, End, Refuse, Pass, Passes, ◌>>=◌}
 use Rattle.commands.specs.Inputs.{walk_at}
 use Rattle.commands.specs.Outcomes.{Outcome, IsAnswerOf}
