@@ -6,7 +6,7 @@ use Rattle.surf_model.specs.Walks.{darts}
 use Rattle.move_lifting.specs.declared.expanding.TheConstants.{MOST_LIFTED_SIDES, MOST_LIFTED_DARTS}
 use Rattle.commands.proofs.Certifying.{convinces_decides}
 use Rattle.commands.proofs.Components.{signed_surface}
-use Rattle.commands.specs.Certificates.{Convinces}
+use Rattle.commands.specs.Certificates.{IsShown}
 use Rattle.commands.specs.Certify.{IsWithinLimits}
 use Rattle.commands.specs.ClosedSurfaces.{IsSigned}
 use Rattle.commands.specs.declared.certificate.Certificate.{Certificate}
@@ -32,15 +32,17 @@ many_darts mesh first second sides count is few are many =
 
 -- ---- certificates
 
--- what convinces is for the right decision
+-- what is shown is for the right decision
 pub found : (surface : SignedMesh) (first second : List ℕ) (shown : Certificate) → IsSigned surface → AreWalks surface.faces first second
-    → IsWithinLimits surface.faces first second → Convinces surface.faces first second shown → IsCertified surface.faces first second shown
+    → IsWithinLimits surface.faces first second → IsShown surface.faces first second shown → IsCertified surface.faces first second shown
 found surface first second shown signed are within h =
     record {
       walks = are;
       limits = within;
-      convinces = h;
-      exactly = convinces_decides surface.faces first second shown signed.valid are.first_walk h;
+      convinces = h.0;
+      read = h.1;
+      short = h.2;
+      exactly = convinces_decides surface.faces first second shown signed.valid are.first_walk h.0;
     }
 
 -- what was found on walks of the mesh

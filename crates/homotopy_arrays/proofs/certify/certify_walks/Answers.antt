@@ -19,4 +19,4 @@ find_certificate-requires-clause-ends c = c.requires.walks.ends
 pub returns : goal.returns
 returns c =
     found c.args.surface c.args.first.now c.args.second.now c.in_ok-find_certificate.field-0 c.requires.signed c.requires.walks
-    c.in_ok-check_limits.ensures c.in_ok-find_certificate.ensures.0
+    c.in_ok-check_limits.ensures c.in_ok-find_certificate.ensures
