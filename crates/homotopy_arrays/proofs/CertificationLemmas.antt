@@ -40,7 +40,7 @@ found surface first second shown signed are within h =
       walks = are;
       limits = within;
       convinces = h.0;
-      read = h.1;
+      low = h.1;
       short = h.2;
       exactly = convinces_decides surface.faces first second shown signed.valid are.first_walk h.0;
     }

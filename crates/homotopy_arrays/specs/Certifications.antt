@@ -5,7 +5,7 @@ use Rattle.surf_model.specs.Moves as moves
 use Rattle.surf_model.specs.Walks.{darts}
 use Rattle.move_lifting.specs.declared.expanding.TheConstants.{MOST_LIFTED_SIDES, MOST_LIFTED_DARTS}
 use Rattle.walk_translate.specs.declared.deciding.Answer.TheVariants as deciding
-use Rattle.commands.specs.Certificates.{Convinces, IsPeakRead, IsShortOnSphere, decision_of}
+use Rattle.commands.specs.Certificates.{Convinces, IsPeakLow, IsShortOnSphere, decision_of}
 use Rattle.commands.specs.Certify.{IsWithinLimits}
 use Rattle.commands.specs.ClosedSurfaces.{IsOrientableSurface}
 use Rattle.commands.specs.declared.certificate.Certificate.{Certificate}
@@ -18,12 +18,12 @@ use Rattle.homotopy_arrays.specs.declared.fault.Fault.TheVariants.{OutOfMemory}
 use Rattle.homotopy_arrays.specs.declared.pair.WalkFault.{WalkFault}
 
 -- two walks of the mesh with common ends, within the limits, and a certificate that shows what holds of them: moves where they are
--- homotopic, and a denial where they are not; its peak is one that is read, and on a sphere it is short
+-- homotopic, and a denial where they are not; its peak is low, and on a sphere it is short
 pub record IsCertified (mesh : FaceList) (first second : List ℕ) (shown : Certificate) : Type 0 where
   pub walks : AreWalks mesh first second
   pub limits : IsWithinLimits mesh first second
   pub convinces : Convinces mesh first second shown
-  pub read : IsPeakRead shown
+  pub low : IsPeakLow shown
   pub short : IsShortOnSphere mesh first shown
   pub exactly : (decision_of shown ≡ deciding.Homotopic) ↔ moves.Homotopic mesh first second
 
