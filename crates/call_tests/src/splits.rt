@@ -15,8 +15,8 @@ fn edges_of_each_kind(rt: HostRuntime) {
     count_kinds(&rt, rt.alloc(), 11, &DOUBLE_TORUS, [10, 25, 4]);
 }
 
-/// Splits the surface of these triangles, and compares the numbers of tree, cotree and leftover edges; the polygon has two sides for each of
-/// the last.
+/// Splits the surface of these triangles, and compares the numbers of tree, cotree and leftover edges. The polygon has two sides for each
+/// leftover edge.
 fn count_kinds(
     rt: &impl Abort,
     alloc: Global,

@@ -95,8 +95,8 @@ module _ {mesh : FaceList} {Same : List ℕ → List ℕ → Type 0} (congruence
       let whole_way : IsWay mesh u v whole =
       way_on mesh u root v (up u) ((back u (up u) ++ (rest ++ up v)) ++ back v (up v)) u_way
       (way_on mesh root root v (back u (up u) ++ (rest ++ up v)) (back v (up v))
-      (way_on mesh root u root (back u (up u)) (rest ++ up v) (way_home mesh u root (up u) u_way) (way_on mesh u v root rest (up v) h v_way))
-      (way_home mesh v root (up v) v_way)) in
+      (way_on mesh root u root (back u (up u)) (rest ++ up v) (way_home mesh u root (up u) u_way)
+      (way_on mesh u v root rest (up v) h v_way)) (way_home mesh v root (up v) v_way)) in
       let shape : whole ≡ (up u ++ back u (up u)) ++ (rest ++ (up v ++ back v (up v))) = simp append_assoc in
       let front : Same (u ∷ ((up u ++ back u (up u)) ++ (rest ++ (up v ++ back v (up v))))) (u ∷ (rest ++ (up v ++ back v (up v)))) =
       before congruence u (up u ++ back u (up u)) [] (rest ++ (up v ++ back v (up v))) (there_and_home congruence u root (up u) u_way) in
