@@ -148,7 +148,7 @@ begun_from s split first closed second list track w z common h closed_some goes 
     }
 
 -- what the closed walk becomes off the cotree
-pub record IsOffCotree (s : OrientedMesh) (split : SplitView) (first closed second : List ℕ) (list : PeakedMoves) (track : TrackView)
+pub record IsLedOff (s : OrientedMesh) (split : SplitView) (first closed second : List ℕ) (list : PeakedMoves) (track : TrackView)
     : Type 0 where
   pub goes : GoesOn s.mesh (darts second) closed list track.walk track.list
   pub last : last_of track.walk ≡ get_or second 0 0
@@ -159,7 +159,7 @@ pub off_cotree : (s : OrientedMesh) (split : SplitView) (first second : List ℕ
     → AreWalksTogether s.mesh first second → IsClosed s.mesh first (numbers names) second list → read ≡ names → behind ≡ darts second
     → GoesOn s.mesh behind (numbers read) list track.walk track.list → MoreLeaveCotree s split list.moves track.list.moves
     → 0 < length track.walk → last_of track.walk ≡ last_of (numbers read)
-    → IsOffCotree s split first (numbers names) second list track
+    → IsLedOff s split first (numbers names) second list track
 off_cotree s split first second names read list track behind walks k same counted goes more some last =
     let ends : last_of track.walk ≡ get_or second 0 0 = last ∙ ap (λ (l : List VertexName). last_of (numbers l)) same ∙ k.meets in
     let on : GoesOn s.mesh (darts second) (numbers names) list track.walk track.list =

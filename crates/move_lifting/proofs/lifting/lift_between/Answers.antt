@@ -13,7 +13,7 @@ use Rattle.move_lifting.specs.Lifts.{LeadsAtPeak}
 use Rattle.move_lifting.specs.Tracks.{GoesOn}
 use Rattle.move_lifting.proofs.BoundLemmas.{IsShort, short_walk, three_darts, is_few, is_low}
 use Rattle.move_lifting.proofs.ExpandLemmas.{length-numbers}
-use Rattle.move_lifting.proofs.LiftLemmas.{IsClosed, closed_is, IsOffCotree, off_cotree, second_left, second_stays, second_there, homotopic_leaves_nothing, steps_to_nothing, begun_freely}
+use Rattle.move_lifting.proofs.LiftLemmas.{IsClosed, closed_is, IsLedOff, off_cotree, second_left, second_stays, second_there, homotopic_leaves_nothing, steps_to_nothing, begun_freely}
 use Rattle.move_lifting.proofs.ShortStepLemmas.{walk_spokes}
 use Rattle.move_lifting.proofs.lifting.lift_between.Goals as goal
 
@@ -77,7 +77,7 @@ returns-then-degree-eq0-clause-list c =
     closed_is c.args.on.now.surface.now.mesh c.args.first.now c.args.second.now c.in_ok-closed.closed.items c.in_ok-closed.moves
     c.in_ok-track.track c.requires.walks c.in_ok-track.ensures.leads c.in_ok-track.ensures.some c.in_ok-track.ensures.last
     c.in_ok-closed.ensures.vertices c.in_ok-closed.ensures.moves in
-    let off : IsOffCotree c.args.on.now.surface.now c.args.on.now.split.now c.args.first.now (numbers c.in_ok-closed.closed.items)
+    let off : IsLedOff c.args.on.now.surface.now c.args.on.now.split.now c.args.first.now (numbers c.in_ok-closed.closed.items)
     c.args.second.now c.in_ok-closed.moves c.in_ok-track-2.track =
     off_cotree c.args.on.now.surface.now c.args.on.now.split.now c.args.first.now c.args.second.now c.in_ok-closed.closed.items
     c.in_ok-closed.closed.items c.in_ok-closed.moves c.in_ok-track-2.track c.darts-behind.result c.requires.walks k refl
@@ -159,7 +159,7 @@ contract-requires-clause-led c =
     closed_is c.args.on.now.surface.now.mesh c.args.first.now c.args.second.now c.in_ok-closed.closed.items c.in_ok-closed.moves
     c.in_ok-track.track c.requires.walks c.in_ok-track.ensures.leads c.in_ok-track.ensures.some c.in_ok-track.ensures.last
     c.in_ok-closed.ensures.vertices c.in_ok-closed.ensures.moves in
-    let off : IsOffCotree c.args.on.now.surface.now c.args.on.now.split.now c.args.first.now (numbers c.in_ok-closed.closed.items)
+    let off : IsLedOff c.args.on.now.surface.now c.args.on.now.split.now c.args.first.now (numbers c.in_ok-closed.closed.items)
     c.args.second.now c.in_ok-closed.moves c.in_ok-track-3.track =
     off_cotree c.args.on.now.surface.now c.args.on.now.split.now c.args.first.now c.args.second.now c.in_ok-closed.closed.items
     c.in_ok-closed.closed.items c.in_ok-closed.moves c.in_ok-track-3.track c.darts-behind.result c.requires.walks k refl
@@ -174,7 +174,7 @@ contract-requires-clause-closed c =
     closed_is c.args.on.now.surface.now.mesh c.args.first.now c.args.second.now c.in_ok-closed.closed.items c.in_ok-closed.moves
     c.in_ok-track.track c.requires.walks c.in_ok-track.ensures.leads c.in_ok-track.ensures.some c.in_ok-track.ensures.last
     c.in_ok-closed.ensures.vertices c.in_ok-closed.ensures.moves in
-    let off : IsOffCotree c.args.on.now.surface.now c.args.on.now.split.now c.args.first.now (numbers c.in_ok-closed.closed.items)
+    let off : IsLedOff c.args.on.now.surface.now c.args.on.now.split.now c.args.first.now (numbers c.in_ok-closed.closed.items)
     c.args.second.now c.in_ok-closed.moves c.in_ok-track-3.track =
     off_cotree c.args.on.now.surface.now c.args.on.now.split.now c.args.first.now c.args.second.now c.in_ok-closed.closed.items
     c.in_ok-closed.closed.items c.in_ok-closed.moves c.in_ok-track-3.track c.darts-behind.result c.requires.walks k refl
@@ -189,7 +189,7 @@ contract-requires-clause-spokes c =
     closed_is c.args.on.now.surface.now.mesh c.args.first.now c.args.second.now c.in_ok-closed.closed.items c.in_ok-closed.moves
     c.in_ok-track.track c.requires.walks c.in_ok-track.ensures.leads c.in_ok-track.ensures.some c.in_ok-track.ensures.last
     c.in_ok-closed.ensures.vertices c.in_ok-closed.ensures.moves in
-    let off : IsOffCotree c.args.on.now.surface.now c.args.on.now.split.now c.args.first.now (numbers c.in_ok-closed.closed.items)
+    let off : IsLedOff c.args.on.now.surface.now c.args.on.now.split.now c.args.first.now (numbers c.in_ok-closed.closed.items)
     c.args.second.now c.in_ok-closed.moves c.in_ok-track-3.track =
     off_cotree c.args.on.now.surface.now c.args.on.now.split.now c.args.first.now c.args.second.now c.in_ok-closed.closed.items
     c.in_ok-closed.closed.items c.in_ok-closed.moves c.in_ok-track-3.track c.darts-behind.result c.requires.walks k refl
@@ -208,7 +208,7 @@ returns-clause-list c =
     closed_is c.args.on.now.surface.now.mesh c.args.first.now c.args.second.now c.in_ok-closed.closed.items c.in_ok-closed.moves
     c.in_ok-track.track c.requires.walks c.in_ok-track.ensures.leads c.in_ok-track.ensures.some c.in_ok-track.ensures.last
     c.in_ok-closed.ensures.vertices c.in_ok-closed.ensures.moves in
-    let off : IsOffCotree c.args.on.now.surface.now c.args.on.now.split.now c.args.first.now (numbers c.in_ok-closed.closed.items)
+    let off : IsLedOff c.args.on.now.surface.now c.args.on.now.split.now c.args.first.now (numbers c.in_ok-closed.closed.items)
     c.args.second.now c.in_ok-closed.moves c.in_ok-track-3.track =
     off_cotree c.args.on.now.surface.now c.args.on.now.split.now c.args.first.now c.args.second.now c.in_ok-closed.closed.items
     c.in_ok-closed.closed.items c.in_ok-closed.moves c.in_ok-track-3.track c.darts-behind.result c.requires.walks k refl
