@@ -1,10 +1,10 @@
 -- The boundary of numbered faces at the edge of a dart: the number of its face less that of the face across.
-use Rattle.std.proofs.Common.{◌≡◌, ◌≢◌, ◌⊎◌, inl, inr, ℕ, zero, suc, ◌<◌, Bool, true, false, List, [], ◌∷◌, length, get_or, refl, ap, ap₂, sym, ◌∙◌, subst, arith, ℤ, pos, ◌+ℤ◌, ◌-ℤ◌}
+use Rattle.std.proofs.Common.{◌≡◌, ◌≢◌, inl, inr, ℕ, zero, suc, ◌<◌, true, false, List, [], ◌∷◌, length, get_or, refl, ap, sym, ◌∙◌, subst, arith, ℤ, pos, ◌+ℤ◌, ◌-ℤ◌}
 use Rattle.std.specs.Prelude.{neg_ℤ, map, if◌then◌else◌}
 use Rattle.std.proofs.lemmas.Int.{ints}
-use Rattle.std.proofs.lemmas.Bool.{cases_Bool, cases_eq}
+use Rattle.std.proofs.lemmas.Bool.{cases_Bool}
 use Rattle.std.proofs.lemmas.Bool.Decides.{nat_tests}
-use Rattle.surf_model.specs.FaceLists.{FaceList, FaceSide, all_sides, joins, face_at}
+use Rattle.surf_model.specs.FaceLists.{FaceSide, all_sides, joins, face_at}
 use Rattle.surf_model.specs.Surfaces.{is_flipped}
 use Rattle.surf_model.proofs.NumberLemmas.{length-all_sides}
 use Rattle.halfedge_map.specs.OrientedMeshes.{OrientedMesh, IsOrientedSurface}
@@ -14,7 +14,7 @@ use Rattle.halfedge_map.proofs.EdgeLemmas.{dart_joins}
 use Rattle.homology.specs.Sums.{total, share, along as along_walk, round}
 use Rattle.homology.specs.Chains.{boundary}
 use Rattle.homology.proofs.RingLemmas.{one-times}
-use Rattle.homology.proofs.BoundaryLemmas.{part_sum, only_at, one_face, boundary_is}
+use Rattle.homology.proofs.BoundaryLemmas.{only_at, one_face, boundary_is}
 use Rattle.homology_deciding.specs.FaceTrees.{face_across, dart_share}
 use Rattle.homology_deciding.specs.Heights.{listed}
 

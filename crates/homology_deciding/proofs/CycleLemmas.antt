@@ -1,25 +1,23 @@
 -- A closed way across faces gives a cocycle.
-use Rattle.std.proofs.Common.{◌≡◌, ◌≢◌, ◌⊎◌, inl, inr, ℕ, zero, suc, ◌+◌, ◌-◌, ◌*◌, ◌<◌, ◌≤◌, List, [], ◌∷◌, length, refl, ap, ap₂, sym, ◌∙◌, subst, arith, ℤ, pos, negsuc, ◌+ℤ◌, ◌-ℤ◌}
-use Rattle.std.specs.Prelude.{Option, Some, None, neg_ℤ, unsigned_abs, map, nat_lt}
+use Rattle.std.proofs.Common.{◌≡◌, ◌≢◌, inl, inr, ℕ, ◌+◌, ◌<◌, ◌≤◌, List, [], ◌∷◌, length, refl, ap, ap₂, sym, ◌∙◌, subst, arith, ℤ, pos, negsuc, ◌+ℤ◌, ◌-ℤ◌}
+use Rattle.std.specs.Prelude.{Option, neg_ℤ, unsigned_abs}
 use Rattle.std.proofs.lemmas.Int.{ints}
 use Rattle.std.proofs.lemmas.Bool.{cases_order}
 use Rattle.std.proofs.lemmas.Bool.Decides.{nat_tests}
 use Rattle.surf_model.specs.FaceLists.{face_at}
-use Rattle.surf_model.specs.Edges.{edge_in, HasEnds}
-use Rattle.surf_model.specs.Walks.{IsWalk, darts}
+use Rattle.surf_model.specs.Walks.{darts}
 use Rattle.surf_model.specs.declared.names.DartName.{DartName}
-use Rattle.halfedge_map.specs.OrientedMeshes.{OrientedMesh, IsOrientedSurface}
+use Rattle.halfedge_map.specs.OrientedMeshes.{OrientedMesh}
 use Rattle.halfedge_map.specs.DartMaps.{darts_of, face_of, edge_of, origin_of, twin_of}
-use Rattle.halfedge_map.specs.RotationSystems.{rotations_of, IsRotationSystem}
 use Rattle.halfedge_map.proofs.SystemLemmas.{rotation_system}
 use Rattle.halfedge_map.proofs.EdgeLemmas.{edge_has_ends}
 use Rattle.homology.specs.Sums.{share, along, round}
 use Rattle.homology.specs.Chains.{count_difference}
-use Rattle.homology.specs.Cocycles.{IsCocycle, face_sum, dart_number, separation}
-use Rattle.homology.specs.Tallies.{number_at, turned, AreNumbersOf}
+use Rattle.homology.specs.Cocycles.{IsCocycle, dart_number, separation}
+use Rattle.homology.specs.Tallies.{AreNumbersOf}
 use Rattle.homology.proofs.SizeLemmas.{size-sum, size-opposite}
 use Rattle.homology.proofs.CocycleVerdictLemmas.{dart_is}
-use Rattle.homology_deciding.specs.FaceTrees.{up_of, face_across, IsTreeOfFaces, IsWayUp, dart_share, way_share}
+use Rattle.homology_deciding.specs.FaceTrees.{face_across, IsTreeOfFaces, IsWayUp, dart_share, way_share}
 use Rattle.homology_deciding.specs.Heights.{dart_count, way_count}
 use Rattle.homology_deciding.specs.Cuts.{cycle_share}
 use Rattle.homology_deciding.proofs.BoundaryLemmas.{sign_at, round_dart}

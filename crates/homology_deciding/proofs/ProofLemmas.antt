@@ -1,6 +1,6 @@
 -- What the forced numbers prove.
-use Rattle.std.proofs.Common.{◌≡◌, ◌≢◌, ◌↔◌, inl, inr, ℕ, zero, suc, ◌+◌, ◌<◌, ◌≤◌, Bool, true, false, List, length, get_or, refl, ap, ap₂, sym, ◌∙◌, subst, arith, ℤ, pos, negsuc, ◌+ℤ◌, ◌-ℤ◌}
-use Rattle.std.specs.Prelude.{Option, neg_ℤ, unsigned_abs}
+use Rattle.std.proofs.Common.{◌≡◌, ◌≢◌, ◌↔◌, inl, inr, ℕ, ◌+◌, ◌<◌, ◌≤◌, true, false, List, length, refl, ap, ap₂, sym, ◌∙◌, subst, arith, ℤ, pos, ◌+ℤ◌, ◌-ℤ◌}
+use Rattle.std.specs.Prelude.{neg_ℤ, unsigned_abs}
 use Rattle.std.proofs.lemmas.Int.{ints}
 use Rattle.std.proofs.lemmas.Bool.{cases_lt, cases_Bool, both_ways}
 use Rattle.std.proofs.lemmas.List.{get_or_past}
@@ -9,12 +9,12 @@ use Rattle.surf_model.specs.Surfaces.{is_flipped}
 use Rattle.surf_model.specs.Walks.{IsWalk, darts}
 use Rattle.surf_model.specs.declared.names.DartName.{DartName}
 use Rattle.halfedge_map.specs.OrientedMeshes.{OrientedMesh}
-use Rattle.halfedge_map.specs.DartMaps.{darts_of, face_of, origin_of, twin_of}
+use Rattle.halfedge_map.specs.DartMaps.{face_of, twin_of}
 use Rattle.halfedge_map.specs.RotationSystems.{rotations_of, IsDartFrom}
 use Rattle.halfedge_map.proofs.SystemLemmas.{rotation_system, names_all}
 use Rattle.homology.specs.Sums.{share, along}
-use Rattle.homology.specs.Chains.{AreHomologous, IsChain, count_difference, boundary}
-use Rattle.homology.specs.Cocycles.{separation, Separates}
+use Rattle.homology.specs.Chains.{AreHomologous, count_difference, boundary}
+use Rattle.homology.specs.Cocycles.{Separates}
 use Rattle.homology.specs.Tallies.{number_at, AreWithin, AreNumbersOf}
 use Rattle.homology.proofs.SizeLemmas.{size-sum, size-share, size-opposite}
 use Rattle.homology.proofs.ChainVerdictLemmas.{chain_holds}

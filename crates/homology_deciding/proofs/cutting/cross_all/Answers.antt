@@ -1,4 +1,4 @@
-use Rattle.std.proofs.Common.{◌≡◌, ◌+◌, ◌^◌, ℕ, ℤ, List, ap, sym, ◌∙◌, subst, arith, pos}
+use Rattle.std.proofs.Common.{◌+◌, arith}
 use Rattle.homology_deciding.proofs.LoopLemmas.{within_more, dart_within, cut_at}
 use Rattle.homology_deciding.proofs.cutting.cross_all.Goals as goal
 

@@ -1,8 +1,8 @@
-use Rattle.std.proofs.Common.{◌≡◌, ◌+◌, ◌^◌, ◌<◌, ℕ, ℤ, List, [], ◌∷◌, ◌++◌, length, sym, ◌∙◌, subst, arith, to_z, of_z, w64}
+use Rattle.std.proofs.Common.{◌≡◌, ◌+◌, [], ◌∷◌, ◌++◌, sym, ◌∙◌, subst, arith, to_z, of_z, w64}
 use Rattle.std.proofs.lemmas.List.{length_push}
 use Rattle.surf_model.specs.declared.names.DartName.{DartName}
 use Rattle.halfedge_map.specs.OrientedMeshes.{OrientedMesh}
-use Rattle.homology.specs.Tallies.{GrewBy, AreWithin}
+use Rattle.homology.specs.Tallies.{GrewBy}
 use Rattle.homology.proofs.SizeLemmas.{sent}
 use Rattle.homology_deciding.specs.FaceTrees.{IsWayUp, way_share}
 use Rattle.homology_deciding.proofs.LoopLemmas.{within_grown, within_more, way_grown, is_root, way_short}

@@ -4,7 +4,7 @@ use Rattle.halfedge_map.specs.OrientedMeshes.{OrientedMesh}
 use Rattle.homology.specs.Chains.{count_difference}
 use Rattle.homology.specs.Tallies.{AreNumbersOf}
 use Rattle.std.specs.Prelude.{IfOk}
-use Rattle.homology_deciding.specs.Proofs.{CountsOf, IsProofFor}
+use Rattle.homology_deciding.specs.Proofs.{IsProofFor}
 use Rattle.homology_deciding.proofs.LoopLemmas.{if_ok}
 use Rattle.homology_deciding.proofs.ProofLemmas.{exact_proof}
 use Rattle.homology_deciding.proofs.deciding.homologous.Goals as goal

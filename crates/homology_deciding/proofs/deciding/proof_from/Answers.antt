@@ -1,8 +1,6 @@
-use Rattle.std.proofs.Common.{◌≡◌, ◌<◌, ℕ, ℤ, List, length, ap, sym, ◌∙◌, subst, arith}
+use Rattle.std.proofs.Common.{◌<◌, ℕ, List, length, ap, sym, subst, arith}
 use Rattle.surf_model.specs.Edges.{Edge}
-use Rattle.surf_model.specs.Edges.{edge_in}
 use Rattle.halfedge_map.specs.OrientedMeshes.{OrientedMesh}
-use Rattle.halfedge_map.specs.RotationSystems.{rotations_of, IsDartFrom}
 use Rattle.homology_deciding.specs.Proofs.{IsChainFor, IsCocycleFor}
 use Rattle.homology_deciding.proofs.LoopLemmas.{few_faces}
 use Rattle.homology_deciding.proofs.ProofLemmas.{chain_proof, cocycle_proof}

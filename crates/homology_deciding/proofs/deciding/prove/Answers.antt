@@ -1,4 +1,4 @@
-use Rattle.std.proofs.Common.{◌≡◌, ◌+◌, ℕ, ℤ, List, sym, subst, arith}
+use Rattle.std.proofs.Common.{◌+◌, ℤ, List, sym, subst, arith}
 use Rattle.std.specs.Prelude.{neg_ℤ}
 use Rattle.surf_model.specs.Edges.{Edge}
 use Rattle.surf_model.specs.FaceLists.{FaceList}

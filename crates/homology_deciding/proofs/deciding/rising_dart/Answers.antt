@@ -1,6 +1,6 @@
 use Rattle.std.proofs.Common.{◌≢◌, ℕ, List, ap, refl, sym, ◌∙◌, subst, inl}
 use Rattle.std.proofs.lemmas.Bool.{eqb-true, eq-eqb, both_ways}
-use Rattle.surf_model.specs.Edges.{HasEnds, Edge, edge_in}
+use Rattle.surf_model.specs.Edges.{Edge, edge_in}
 use Rattle.halfedge_map.specs.OrientedMeshes.{OrientedMesh}
 use Rattle.halfedge_map.specs.DartMaps.{origin_of}
 use Rattle.halfedge_map.specs.RotationSystems.{rotations_of, IsDartFrom}

@@ -1,4 +1,4 @@
-use Rattle.std.proofs.Common.{ap, ◌∙◌, sym}
+use Rattle.std.proofs.Common.{ap, ◌∙◌}
 use Rattle.std.proofs.lemmas.Bool.{eq-eqb, both_ways}
 use Rattle.halfedge_map.specs.DartMaps.{edge_of, face_of}
 use Rattle.halfedge_map.proofs.EdgeLemmas.{edge-twin}

@@ -1,4 +1,4 @@
-use Rattle.std.proofs.Common.{◌≡◌, ℕ, List, length, ap, sym, ◌∙◌, subst, arith}
+use Rattle.std.proofs.Common.{◌≡◌, List, length, ap, subst, arith}
 use Rattle.surf_model.specs.Edges.{Edge}
 use Rattle.homology_deciding.specs.FaceTrees.{AreUps}
 use Rattle.homology_deciding.proofs.TreeLemmas.{tree_of}

@@ -1,5 +1,5 @@
-use Rattle.std.proofs.Common.{◌≡◌, ◌+◌, ◌^◌, ◌<◌, ℕ, ℤ, List, length, ap, sym, ◌∙◌, subst, arith, pos, to_z, of_z, w64}
-use Rattle.std.specs.Prelude.{Option, None, unwrap_or, unsigned_abs}
+use Rattle.std.proofs.Common.{◌≡◌, ◌^◌, ◌<◌, ℕ, ℤ, List, length, ap, sym, ◌∙◌, subst, arith, pos, to_z, of_z, w64}
+use Rattle.std.specs.Prelude.{unwrap_or, unsigned_abs}
 use Rattle.std.proofs.lemmas.List.{length_push}
 use Rattle.surf_model.specs.FaceLists.{FaceList}
 use Rattle.halfedge_map.specs.OrientedMeshes.{OrientedMesh}

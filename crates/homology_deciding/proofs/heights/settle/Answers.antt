@@ -1,8 +1,8 @@
-use Rattle.std.proofs.Common.{◌≡◌, ◌+◌, ◌<◌, ℕ, ℤ, List, [], length, ap, refl, sym, ◌∙◌, subst, arith, rules, to_z, of_z, w64, ◌+ℤ◌}
-use Rattle.std.specs.Prelude.{Some, is_some, unsigned_abs}
+use Rattle.std.proofs.Common.{◌≡◌, ◌<◌, ℕ, ℤ, List, [], length, ap, refl, sym, ◌∙◌, subst, arith, rules, to_z, of_z, w64, ◌+ℤ◌}
+use Rattle.std.specs.Prelude.{is_some}
 use Rattle.surf_model.specs.declared.names.DartName.{DartName}
 use Rattle.halfedge_map.specs.OrientedMeshes.{OrientedMesh}
-use Rattle.halfedge_map.specs.DartMaps.{darts_of, face_of}
+use Rattle.halfedge_map.specs.DartMaps.{face_of}
 use Rattle.homology_deciding.specs.FaceTrees.{up_of, IsWayUp}
 use Rattle.homology_deciding.specs.Heights.{height_of, dart_count}
 use Rattle.homology_deciding.proofs.LoopLemmas.{top_known, known, height_small, height_more, height_kept, height_there, added_fits, added_is}
