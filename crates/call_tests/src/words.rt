@@ -1,6 +1,6 @@
 //! How a word is rewritten, step by step, and what comes where a note of that is refused.
 ghost use Rattle.std.specs.Prelude.{◌≡◌};
-ghost use Rattle.turn_words.specs.Hyper_states.{empty_state};
+ghost use Rattle.turn_words.specs.HyperStates.{empty_state};
 
 use std::alloc::AllocError;
 use std::process::Abort;

@@ -1,2 +1,2 @@
 pub mod Within
-pub mod Sums_of_pairs
+pub mod SumsOfPairs

@@ -3,8 +3,8 @@ use Rattle.std.proofs.Common.{◌≡◌, ℕ, ◌^◌, ◌<◌, ◌≤◌, lit�
 use Rattle.std.specs.Prelude.{unsigned_abs}
 use Rattle.std.proofs.lemmas.Int.{ints}
 use Rattle.flat_forms.specs.Vectors.{Vector, plus, less, unit_step}
-use Rattle.flat_forms.specs.Flat_states.{size_of}
-use Rattle.flat_forms.specs.Lemmas.Steps_in_the_plane.{IsUnit, right_one, up_one, left_one, down_one, is-unit}
+use Rattle.flat_forms.specs.FlatStates.{size_of}
+use Rattle.flat_forms.specs.Lemmas.StepsInThePlane.{IsUnit, right_one, up_one, left_one, down_one, is-unit}
 
 -- a sum and a difference as the program forms them
 sum-within : (x r : ℤ) → unsigned_abs x < 2 ^ 62 → unsigned_abs r ≤ 1

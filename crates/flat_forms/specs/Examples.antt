@@ -1,8 +1,8 @@
 -- Walks on the torus of seven vertices, cut open into a square: the spokes of their darts, and where these lead.
 use Rattle.std.specs.Prelude.{◌≡◌, ℕ, List, [], ◌∷◌, refl, ℤ, pos, negsuc}
-use Rattle.turn_words.specs.Form_laws.{led}
+use Rattle.turn_words.specs.FormLaws.{led}
 use Rattle.flat_forms.specs.Vectors.{Vector, origin}
-use Rattle.flat_forms.specs.Flat_states.{flat_next}
+use Rattle.flat_forms.specs.FlatStates.{flat_next}
 use Rattle.flat_forms.specs.Pairs.{sum_of_pairs}
 
 abbrev pub vector : ℤ → ℤ → Vector

@@ -1,4 +1,4 @@
 -- Lemmas behind the laws of the forms.
-pub mod Steps_in_the_plane
-pub mod Flat_laws
-pub mod Point_laws
+pub mod StepsInThePlane
+pub mod FlatLaws
+pub mod PointLaws

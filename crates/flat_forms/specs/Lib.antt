@@ -1,5 +1,5 @@
 pub mod Vectors
-pub mod Flat_states
+pub mod FlatStates
 pub mod Pairs
 pub mod Examples
 pub mod Lemmas

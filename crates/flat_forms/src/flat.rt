@@ -1,7 +1,7 @@
 //! The form for the degree 4.
 ghost use Rattle.std.specs.Prelude.{◌≡◌, ◌<◌, ◌^◌, ◌↔◌, length, IsTrue, IsOk};
 ghost use Rattle.flat_forms.specs.Vectors.{origin, unit_step};
-ghost use Rattle.flat_forms.specs.Flat_states.{IsEven, IsFlatWheel, flat_next, size_of};
+ghost use Rattle.flat_forms.specs.FlatStates.{IsEven, IsFlatWheel, flat_next, size_of};
 
 use std::alloc::AllocError;
 use std::marker::Model;
@@ -57,8 +57,8 @@ impl Flat {
 impl Form for Flat {
     ghost use Rattle.std.specs.Prelude.{◌≡◌, ◌^◌, []};
     ghost use Rattle.flat_forms.specs.Vectors.{Vector, origin};
-    ghost use Rattle.flat_forms.specs.Flat_states.{IsEven, IsFlatWheel, flat_next, size_of};
-    ghost use Rattle.flat_forms.specs.Lemmas.Flat_laws.{flat_starts, flat_stays, flat_there_and_back, flat_across};
+    ghost use Rattle.flat_forms.specs.FlatStates.{IsEven, IsFlatWheel, flat_next, size_of};
+    ghost use Rattle.flat_forms.specs.Lemmas.FlatLaws.{flat_starts, flat_stays, flat_there_and_back, flat_across};
 
     ghost State = { Vector };
 

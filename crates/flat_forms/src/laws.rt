@@ -1,9 +1,9 @@
 //! What holds of the forms, said of the definitions. A call of one of these functions does nothing; its
 //! contract is the law.
 ghost use Rattle.std.specs.Prelude.{◌≡◌, ℕ, List};
-ghost use Rattle.turn_words.specs.Form_laws.{led};
+ghost use Rattle.turn_words.specs.FormLaws.{led};
 ghost use Rattle.flat_forms.specs.Vectors.{origin};
-ghost use Rattle.flat_forms.specs.Flat_states.{flat_next};
+ghost use Rattle.flat_forms.specs.FlatStates.{flat_next};
 ghost use Rattle.flat_forms.specs.Pairs.{spokes_of, sum_of_pairs};
 
 /// Pairs of spokes lead from the start to the sum of their steps: that of the first spoke less that of the

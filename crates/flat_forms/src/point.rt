@@ -20,7 +20,7 @@ impl Point {
 impl Form for Point {
     ghost use Rattle.std.specs.Prelude.{◌≡◌, ◌^◌, []};
     ghost use Rattle.turn_words.specs.Wheels.{IsWheel};
-    ghost use Rattle.flat_forms.specs.Lemmas.Point_laws.{point_starts, point_stays, point_there_and_back, point_across};
+    ghost use Rattle.flat_forms.specs.Lemmas.PointLaws.{point_starts, point_stays, point_there_and_back, point_across};
 
     ghost State = { Unit {0} };
 

@@ -5,7 +5,7 @@ use Rattle.halfedge_map.specs.RotationSystems.{rotations_of}
 use Rattle.halfedge_map.proofs.SystemLemmas.{rotation_system}
 use Rattle.turn_words.specs.Modulo.{add, minus}
 use Rattle.turn_words.specs.Lemmas.Sums.{add-lt}
-use Rattle.turn_words.specs.Form_laws.{IsQuad}
+use Rattle.turn_words.specs.FormLaws.{IsQuad}
 use Rattle.tree_cotree.specs.SpanningTrees.{after_dart}
 use Rattle.tree_cotree.specs.Splits.{SplitView, IsSplit, in_cotree, is_left}
 use Rattle.polygon_cut.specs.Polygons.{PolygonView, IsCutFrom, place_of, across}
@@ -16,7 +16,7 @@ use Rattle.polygon_cut.proofs.SpokeLemmas.{Loops, spoke}
 use Rattle.quad_system.proofs.PushPathLemmas.{IsQuadWheel, add_back}
 use Rattle.quad_system.proofs.PushWorthLemmas.{polygon_wheel}
 use Rattle.quad_system.proofs.SpokeProductLemmas.{polygon_quads, spoke_at}
-use Rattle.spoke_rings.specs.Cyclic_words.{IsFullWheel}
+use Rattle.spoke_rings.specs.CyclicWords.{IsFullWheel}
 
 module _ (s : OrientedMesh) (split : SplitView) (o : IsOrientedSurface s) (t : IsSplit s split) (polygon : PolygonView)
     (c : IsCutFrom s split polygon) (some : 0 < polygon.degree) where

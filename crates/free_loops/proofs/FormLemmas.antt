@@ -4,11 +4,11 @@ use Rattle.std.proofs.Common.{◌≡◌, ℕ, ◌%◌, ◌<◌, List, [], ◌∷
 use Rattle.std.specs.Prelude.{All}
 use Rattle.surf_model.specs.FaceLists.{FaceList}
 use Rattle.turn_words.specs.Canonical.{IsCanonicalOf}
-use Rattle.turn_words.specs.Step_table.{Reaches}
-use Rattle.turn_words.specs.Spoke_paths.{turn_word_of}
-use Rattle.turn_words.specs.Form_laws.{led}
-use Rattle.turn_words.specs.Hyper_states.{HyperState, BelongsTo, IsEven, empty_state, hyper_next}
-use Rattle.turn_words.specs.Lemmas.Hyper_laws.{hyper_starts, hyper_stays}
+use Rattle.turn_words.specs.StepTable.{Reaches}
+use Rattle.turn_words.specs.SpokePaths.{turn_word_of}
+use Rattle.turn_words.specs.FormLaws.{led}
+use Rattle.turn_words.specs.HyperStates.{HyperState, BelongsTo, IsEven, empty_state, hyper_next}
+use Rattle.turn_words.specs.Lemmas.HyperLaws.{hyper_starts, hyper_stays}
 use Rattle.turn_words.specs.declared.word.Word.TheVariants.{Turns, Flat}
 use Rattle.turn_words.proofs.Unique.{unique}
 use Rattle.turn_words.proofs.Spokes.{turns, canonical}
@@ -17,10 +17,10 @@ use Rattle.labellings.specs.GoodLabellings.{IsGood}
 use Rattle.labellings.specs.QuadPaths.{quad_path}
 use Rattle.labellings.specs.WalkWords.{IsWordOf}
 use Rattle.labellings.proofs.WalkWordLemmas.{quad_path_below}
-use Rattle.spoke_rings.specs.Cyclic_words.{IsLoop, IsFullWheel, IsCyclicallyCanonical}
-use Rattle.spoke_rings.specs.Loop_steps.{LoopLeads}
+use Rattle.spoke_rings.specs.CyclicWords.{IsLoop, IsFullWheel, IsCyclicallyCanonical}
+use Rattle.spoke_rings.specs.LoopSteps.{LoopLeads}
 use Rattle.spoke_rings.proofs.Leading.{leads-on}
-use Rattle.free_loops.specs.Cyclic_forms.{IsCyclicFormOf}
+use Rattle.free_loops.specs.CyclicForms.{IsCyclicFormOf}
 use Rattle.free_loops.proofs.ClosedLoopLemmas.{even_path}
 use Rattle.free_loops.proofs.SpellingLemmas.{as_many}
 use Rattle.free_loops.proofs.WordStepLemmas.{Below, below_from, reached_leads}

@@ -16,7 +16,7 @@ use Rattle.polygon_cut.proofs.WalkLemmas.{walk_way}
 use Rattle.labellings.specs.QuadPaths.{quad_path}
 use Rattle.quad_system.specs.PolygonLabellings.{labelling_from}
 use Rattle.quad_system.proofs.PushWorthLemmas.{loop_of_path}
-use Rattle.spoke_rings.specs.Loop_steps.{rotate, LoopLeads}
+use Rattle.spoke_rings.specs.LoopSteps.{rotate, LoopLeads}
 use Rattle.spoke_rings.specs.Rotations.{IsRotation}
 use Rattle.spoke_rings.proofs.Leading.{leads-on}
 use Rattle.closed_walks.specs.FreeHomotopy.{IsClosedWalk, FreelyHomotopic}

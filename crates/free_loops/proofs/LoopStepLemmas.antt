@@ -4,12 +4,12 @@ use Rattle.std.specs.Prelude.{Option, Some, None, option_map, nat_lt}
 use Rattle.std.proofs.lemmas.Bool.{cases_Bool, eqb-true, ltb-true, and_parts}
 use Rattle.std.proofs.lemmas.List.{length-append, length-take, take-append-drop}
 use Rattle.turn_words.specs.Modulo.{add}
-use Rattle.turn_words.specs.Form_laws.{IsQuad}
+use Rattle.turn_words.specs.FormLaws.{IsQuad}
 use Rattle.polygon_cut.proofs.GroupLemmas.{IsGroup, quotient}
 use Rattle.polygon_cut.proofs.RelatorLemmas.{spoke_product, ends_at_vertex, spokes_on, free_push, free_spur}
 use Rattle.surf_model.proofs.ContextLemmas.{first_answer}
-use Rattle.spoke_paths.specs.Path_steps.{is_quad, from_spoke, spur_goes, quad_turned, two_become}
-use Rattle.spoke_rings.specs.Loop_steps.{LoopStep, spur_out, spur_in, across, rotate, spur_comes, across_quad, after_loop_step, after_loop_steps}
+use Rattle.spoke_paths.specs.PathSteps.{is_quad, from_spoke, spur_goes, quad_turned, two_become}
+use Rattle.spoke_rings.specs.LoopSteps.{LoopStep, spur_out, spur_in, across, rotate, spur_comes, across_quad, after_loop_step, after_loop_steps}
 
 -- a rule was used behind some spokes
 record ChangedBehind (rule : Bool → List ℕ → Option (List ℕ)) (at_vertex : Bool) (path other : List ℕ) : Type 0 where

@@ -5,12 +5,12 @@ use Rattle.std.proofs.lemmas.Int.{ints}
 use Rattle.surf_model.specs.FaceLists.{FaceList, IsFaceList}
 use Rattle.surf_model.specs.Moves.{Homotopic}
 use Rattle.halfedge_map.specs.OrientedMeshes.{OrientedMesh, IsOrientedSurface}
-use Rattle.turn_words.specs.Form_laws.{led}
+use Rattle.turn_words.specs.FormLaws.{led}
 use Rattle.flat_forms.specs.Vectors.{Vector, origin, plus, less, unit_step}
-use Rattle.flat_forms.specs.Flat_states.{IsEven, IsFlatWheel, flat_next}
+use Rattle.flat_forms.specs.FlatStates.{IsEven, IsFlatWheel, flat_next}
 use Rattle.flat_forms.specs.Pairs.{spokes_of, sum_of_pairs}
-use Rattle.flat_forms.specs.Lemmas.Flat_laws.{flat_stays, flat_there_and_back, flat_across}
-use Rattle.flat_forms.specs.Lemmas.Steps_in_the_plane.{next-next, vertex-again}
+use Rattle.flat_forms.specs.Lemmas.FlatLaws.{flat_stays, flat_there_and_back, flat_across}
+use Rattle.flat_forms.specs.Lemmas.StepsInThePlane.{next-next, vertex-again}
 use Rattle.tree_cotree.specs.Splits.{SplitView, IsSplit}
 use Rattle.polygon_cut.specs.Polygons.{PolygonView, IsCutFrom}
 use Rattle.polygon_cut.proofs.CongruenceLemmas.{behind, there_and_home, home_and_there}

@@ -5,8 +5,8 @@ use Rattle.std.proofs.Math.Seq.{take-suc, take-length}
 use Rattle.std.proofs.lemmas.List.{append-nil}
 use Rattle.std.proofs.lemmas.List.Elements.{All-append, All-nil, All-cons}
 use Rattle.turn_words.specs.Modulo.{add, minus}
-use Rattle.turn_words.specs.Spoke_paths.{place_round, turns_after, turn_word_of}
-use Rattle.spoke_rings.specs.Cyclic_words.{IsFullWheel}
+use Rattle.turn_words.specs.SpokePaths.{place_round, turns_after, turn_word_of}
+use Rattle.spoke_rings.specs.CyclicWords.{IsFullWheel}
 use Rattle.free_loops.proofs.WordStepLemmas.{turns_from, below_from, taken, word_is}
 
 -- So many entries of a word are spelled out: whatever spokes come next, their turns come behind these entries.

@@ -6,16 +6,16 @@ use Rattle.std.proofs.lemmas.Bool.{eqb-true, ltb-true, eq-eqb, lt-ltb, and_from}
 use Rattle.surf_model.proofs.ContextLemmas.{first_answer}
 use Rattle.turn_words.specs.Modulo.{add, minus}
 use Rattle.turn_words.specs.Lemmas.Sums.{add-cases, minus-cases, add-lt, minus-lt, add_comm, add_assoc, add-zero, zero-add, add-minus}
-use Rattle.turn_words.specs.Step_table.{next_changed, spur_in, spur_out, pushed, from_place, after_step, after_steps, Reaches}
-use Rattle.turn_words.specs.Spoke_paths.{place_round, turns_after, turn_word_of}
-use Rattle.turn_words.specs.Form_laws.{IsQuad}
+use Rattle.turn_words.specs.StepTable.{next_changed, spur_in, spur_out, pushed, from_place, after_step, after_steps, Reaches}
+use Rattle.turn_words.specs.SpokePaths.{place_round, turns_after, turn_word_of}
+use Rattle.turn_words.specs.FormLaws.{IsQuad}
 use Rattle.turn_words.specs.declared.step.Step.{Step}
 use Rattle.turn_words.specs.declared.step.Step.TheVariants.{SpurIn, SpurOut, Push}
 use Rattle.polygon_cut.proofs.RelatorLemmas.{ends_at_vertex}
 use Rattle.quad_system.proofs.PushPathLemmas.{add_back}
-use Rattle.spoke_paths.specs.Path_steps.{is_quad, from_spoke}
-use Rattle.spoke_rings.specs.Cyclic_words.{Partner, IsFullWheel}
-use Rattle.spoke_rings.specs.Loop_steps.{LoopStep, across, across_quad, after_loop_step, after_loop_steps, LoopLeads}
+use Rattle.spoke_paths.specs.PathSteps.{is_quad, from_spoke}
+use Rattle.spoke_rings.specs.CyclicWords.{Partner, IsFullWheel}
+use Rattle.spoke_rings.specs.LoopSteps.{LoopStep, across, across_quad, after_loop_step, after_loop_steps, LoopLeads}
 use Rattle.spoke_rings.proofs.Leading.{leads-same, leads-on, spur-leaves, spur-enters}
 
 -- sums and differences, counted round

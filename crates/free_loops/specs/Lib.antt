@@ -1,1 +1,1 @@
-pub mod Cyclic_forms
+pub mod CyclicForms

@@ -3,8 +3,8 @@ ghost use Rattle.std.specs.Prelude.{◌<◌, ◌^◌, length, IfOk};
 ghost use Rattle.surf_model.specs.Edges.{IsTableOf};
 ghost use Rattle.surf_model.specs.Walks.{IsWalk};
 ghost use Rattle.labellings.specs.GoodLabellings.{IsGood};
-ghost use Rattle.spoke_rings.specs.Cyclic_words.{IsFullWheel};
-ghost use Rattle.free_loops.specs.Cyclic_forms.{IsCyclicFormOf};
+ghost use Rattle.spoke_rings.specs.CyclicWords.{IsFullWheel};
+ghost use Rattle.free_loops.specs.CyclicForms.{IsCyclicFormOf};
 
 use crate::spelling::spokes_of;
 use labellings::{GoodLabelling, word_of};

@@ -1,8 +1,8 @@
 //! Turn words, spelled out as spokes.
 ghost use Rattle.std.specs.Prelude.{◌≡◌, ◌<◌, ◌^◌, All, length, IfOk};
 ghost use Rattle.turn_words.specs.Modulo.{add};
-ghost use Rattle.turn_words.specs.Spoke_paths.{place_round, turn_word_of};
-ghost use Rattle.spoke_rings.specs.Cyclic_words.{IsFullWheel};
+ghost use Rattle.turn_words.specs.SpokePaths.{place_round, turn_word_of};
+ghost use Rattle.spoke_rings.specs.CyclicWords.{IsFullWheel};
 
 use std::alloc::{AllocError, Global};
 use surf_model::Spoke;

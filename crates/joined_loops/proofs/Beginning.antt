@@ -3,18 +3,18 @@
 use Rattle.std.proofs.Common.{◌≡◌, ℕ, ◌+◌, ◌-◌, ◌<◌, ◌≤◌, arith, refl, sym, ◌∙◌, ap, subst, zero, suc, List, [], ◌∷◌, length, reverse}
 use Rattle.std.proofs.lemmas.List.{length-reverse}
 use Rattle.turn_words.specs.Modulo.{add}
-use Rattle.turn_words.specs.Put_turns.{put}
-use Rattle.turn_words.specs.Form_laws.{led}
-use Rattle.turn_words.specs.Hyper_states.{empty_state, hyper_next, BelongsTo}
+use Rattle.turn_words.specs.PutTurns.{put}
+use Rattle.turn_words.specs.FormLaws.{led}
+use Rattle.turn_words.specs.HyperStates.{empty_state, hyper_next, BelongsTo}
 use Rattle.turn_words.specs.Lemmas.Sums.{add-lt, add-zero}
-use Rattle.turn_words.specs.Lemmas.Word_ends.{IsGood, good-cons}
-use Rattle.turn_words.specs.Lemmas.Put_laws.{put-back}
-use Rattle.turn_words.specs.Lemmas.Hyper_laws.{hyper_starts}
+use Rattle.turn_words.specs.Lemmas.WordEnds.{IsGood, good-cons}
+use Rattle.turn_words.specs.Lemmas.PutLaws.{put-back}
+use Rattle.turn_words.specs.Lemmas.HyperLaws.{hyper_starts}
 use Rattle.turn_words.proofs.Reading.{state}
-use Rattle.settling.specs.Turn_rows.{IsCanonicalRow}
+use Rattle.settling.specs.TurnRows.{IsCanonicalRow}
 use Rattle.settling.proofs.Rows.{along, upto, upto-cons}
 use Rattle.settling.proofs.Settling.{upto-shut, row-follows}
-use Rattle.spoke_rings.specs.Cyclic_words.{IsLoop, IsFullWheel, cyclic_turn}
+use Rattle.spoke_rings.specs.CyclicWords.{IsLoop, IsFullWheel, cyclic_turn}
 use Rattle.joined_loops.proofs.Times.{times, times-some, times-add}
 use Rattle.joined_loops.proofs.Keeping.{EndsIn, ends-later, begins, begins-ends, Anchors, anchors, led-rounds}
 use Rattle.joined_loops.proofs.Going.{gone, began, began-sound, rowed}

@@ -3,23 +3,23 @@ use Rattle.std.proofs.Common.{◌≡◌, ℕ, ◌+◌, ◌-◌, ◌%◌, ◌<◌
 use Rattle.std.proofs.lemmas.Bool.{cases_eq}
 use Rattle.std.proofs.lemmas.List.{reverse-reverse}
 use Rattle.turn_words.specs.Modulo.{add, minus}
-use Rattle.turn_words.specs.Put_turns.{Put, put}
-use Rattle.turn_words.specs.Form_laws.{led}
-use Rattle.turn_words.specs.Hyper_states.{HyperState, IsEven, turn_to, hyper_next, BelongsTo}
+use Rattle.turn_words.specs.PutTurns.{Put, put}
+use Rattle.turn_words.specs.FormLaws.{led}
+use Rattle.turn_words.specs.HyperStates.{HyperState, IsEven, turn_to, hyper_next, BelongsTo}
 use Rattle.turn_words.specs.Lemmas.Sums.{add-lt, minus-lt}
 use Rattle.turn_words.specs.Lemmas.Lists.{InRange}
-use Rattle.turn_words.specs.Lemmas.From_end.{in-range-from}
-use Rattle.turn_words.specs.Lemmas.Hyper_laws.{good_word, next_belongs, length-next}
+use Rattle.turn_words.specs.Lemmas.FromEnd.{in-range-from}
+use Rattle.turn_words.specs.Lemmas.HyperLaws.{good_word, next_belongs, length-next}
 use Rattle.turn_words.proofs.Reading.{IsSound, state}
 use Rattle.turn_words.proofs.Spokes.{Stands, Counts, counts-next, counts-turn}
 use Rattle.turn_words.proofs.Led.{led-append}
-use Rattle.settling.specs.Turn_rows.{entries}
+use Rattle.settling.specs.TurnRows.{entries}
 use Rattle.settling.proofs.Rows.{along}
-use Rattle.spoke_rings.specs.Cyclic_words.{IsLoop, IsFullWheel, spoke_along, stands_before, cyclic_turn}
+use Rattle.spoke_rings.specs.CyclicWords.{IsLoop, IsFullWheel, spoke_along, stands_before, cyclic_turn}
 use Rattle.spoke_rings.proofs.Along.{along-first, along-round}
 use Rattle.spoke_rings.proofs.Fine.{along-below}
-use Rattle.spoke_rings.proofs.Ring_turns.{stands-even, stands-odd}
-use Rattle.joined_loops.specs.Joined_lists.{JoinedBy}
+use Rattle.spoke_rings.proofs.RingTurns.{stands-even, stands-odd}
+use Rattle.joined_loops.specs.JoinedLists.{JoinedBy}
 use Rattle.joined_loops.proofs.Numbers.{take-back}
 use Rattle.joined_loops.proofs.Times.{times, times-even, later-rounds}
 

@@ -2,14 +2,14 @@
 use Rattle.std.proofs.Common.{◌≡◌, ℕ, ◌%◌, ◌<◌, arith, refl, sym, ◌∙◌, ap, subst, zero, suc, List, [], ◌∷◌, ◌++◌, length, reverse, append_assoc}
 use Rattle.std.proofs.lemmas.List.{reverse-reverse, length-reverse, length-append, append-nil}
 use Rattle.std.proofs.lemmas.List.Elements.{All-append, All-nil}
-use Rattle.turn_words.specs.Form_laws.{led}
-use Rattle.turn_words.specs.Hyper_states.{HyperState, IsEven, hyper_next, BelongsTo}
+use Rattle.turn_words.specs.FormLaws.{led}
+use Rattle.turn_words.specs.HyperStates.{HyperState, IsEven, hyper_next, BelongsTo}
 use Rattle.turn_words.specs.Lemmas.Lists.{InRange, reverse-cons}
-use Rattle.turn_words.specs.Lemmas.From_end.{all-from, in-range-reverse}
-use Rattle.turn_words.specs.Lemmas.Hyper_laws.{next_belongs, hyper_there_and_back}
+use Rattle.turn_words.specs.Lemmas.FromEnd.{all-from, in-range-reverse}
+use Rattle.turn_words.specs.Lemmas.HyperLaws.{next_belongs, hyper_there_and_back}
 use Rattle.turn_words.proofs.Led.{led-append}
-use Rattle.spoke_rings.specs.Cyclic_words.{IsLoop}
-use Rattle.joined_loops.specs.Joined_lists.{JoinedBy, Joined, repeated}
+use Rattle.spoke_rings.specs.CyclicWords.{IsLoop}
+use Rattle.joined_loops.specs.JoinedLists.{JoinedBy, Joined, repeated}
 use Rattle.joined_loops.proofs.Going.{loop-range, led-belongs, led-even}
 
 module _ (places : List ℕ) where

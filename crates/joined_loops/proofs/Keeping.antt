@@ -4,13 +4,13 @@ use Rattle.std.proofs.Common.{◌≡◌, ◌≢◌, ℕ, ◌+◌, ◌-◌, ◌<�
 use Rattle.std.proofs.lemmas.Bool.{cases_eq}
 use Rattle.std.proofs.lemmas.List.{reverse-reverse}
 use Rattle.turn_words.specs.Modulo.{add, minus}
-use Rattle.turn_words.specs.Put_turns.{is_open, flipped, closed, put}
-use Rattle.turn_words.specs.Form_laws.{led}
-use Rattle.turn_words.specs.Hyper_states.{HyperState, turn_to, hyper_next}
+use Rattle.turn_words.specs.PutTurns.{is_open, flipped, closed, put}
+use Rattle.turn_words.specs.FormLaws.{led}
+use Rattle.turn_words.specs.HyperStates.{HyperState, turn_to, hyper_next}
 use Rattle.turn_words.specs.Lemmas.Sums.{minus-two}
-use Rattle.turn_words.specs.Lemmas.Word_ends.{IsCons, flipped-run, flipped-end, closed-two, open-cases, open-two, open-other, put-flip, put-close, put-else}
-use Rattle.turn_words.specs.Lemmas.Put_laws.{cases, spur, flip, close, other}
-use Rattle.settling.specs.Turn_rows.{IsCanonicalRow}
+use Rattle.turn_words.specs.Lemmas.WordEnds.{IsCons, flipped-run, flipped-end, closed-two, open-cases, open-two, open-other, put-flip, put-close, put-else}
+use Rattle.turn_words.specs.Lemmas.PutLaws.{cases, spur, flip, close, other}
+use Rattle.settling.specs.TurnRows.{IsCanonicalRow}
 use Rattle.settling.proofs.Rows.{upto, upto-cons}
 use Rattle.joined_loops.proofs.Times.{times, later-rounds, everywhere, find}
 

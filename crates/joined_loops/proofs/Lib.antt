@@ -8,7 +8,7 @@ pub mod Beginning
 pub mod Settled
 pub mod Rotating
 pub mod Stepping
-pub mod Closed_paths
-pub mod Free_walks
-pub mod Flat_walks
-pub mod Rounds_kept
+pub mod ClosedPaths
+pub mod FreeWalks
+pub mod FlatWalks
+pub mod RoundsKept

@@ -4,19 +4,19 @@ use Rattle.std.proofs.Common.{◌≡◌, ℕ, ◌%◌, ◌<◌, ◌≤◌, arith
 use Rattle.std.proofs.lemmas.Bool.{eq-eqb, ne_eqb}
 use Rattle.std.proofs.lemmas.List.{reverse-reverse}
 use Rattle.turn_words.specs.Modulo.{add, minus}
-use Rattle.turn_words.specs.Put_turns.{put}
-use Rattle.turn_words.specs.Spoke_paths.{place_round}
-use Rattle.turn_words.specs.Form_laws.{led}
-use Rattle.turn_words.specs.Hyper_states.{HyperState, empty_state, value_at, turn_to, hyper_next, BelongsTo}
+use Rattle.turn_words.specs.PutTurns.{put}
+use Rattle.turn_words.specs.SpokePaths.{place_round}
+use Rattle.turn_words.specs.FormLaws.{led}
+use Rattle.turn_words.specs.HyperStates.{HyperState, empty_state, value_at, turn_to, hyper_next, BelongsTo}
 use Rattle.turn_words.specs.Lemmas.Sums.{add-cases, minus-cases, minus-one, add-lt, minus-lt, add-minus}
 use Rattle.turn_words.specs.Lemmas.Lists.{InRange}
-use Rattle.turn_words.specs.Lemmas.From_end.{in-range-from}
-use Rattle.turn_words.specs.Lemmas.Word_ends.{put-flip, put-close, put-else}
-use Rattle.turn_words.specs.Lemmas.Put_laws.{cases, spur, flip, close, other}
-use Rattle.turn_words.specs.Lemmas.Hyper_laws.{hyper_starts}
+use Rattle.turn_words.specs.Lemmas.FromEnd.{in-range-from}
+use Rattle.turn_words.specs.Lemmas.WordEnds.{put-flip, put-close, put-else}
+use Rattle.turn_words.specs.Lemmas.PutLaws.{cases, spur, flip, close, other}
+use Rattle.turn_words.specs.Lemmas.HyperLaws.{hyper_starts}
 use Rattle.turn_words.proofs.Spokes.{Stands, counts-next}
-use Rattle.spoke_rings.specs.Cyclic_words.{IsFullWheel}
-use Rattle.spoke_rings.proofs.Ring_turns.{turn_at, place-below}
+use Rattle.spoke_rings.specs.CyclicWords.{IsFullWheel}
+use Rattle.spoke_rings.proofs.RingTurns.{turn_at, place-below}
 use Rattle.joined_loops.proofs.Spelling.{Spells, Spelled, by-round, no-turn, last-in, spell-cons, flips, closes}
 
 -- where the last spoke of a list comes, or 0 where there is none

@@ -6,19 +6,19 @@ use Rattle.std.proofs.lemmas.Grind.{same_number_lists}
 use Rattle.std.proofs.lemmas.Bool.{cases_lt, cases_eq}
 use Rattle.std.proofs.lemmas.List.{reverse-reverse, length-reverse, length-append, length-drop, take-append-drop}
 use Rattle.turn_words.specs.Modulo.{add, minus}
-use Rattle.turn_words.specs.Spoke_paths.{place_round}
-use Rattle.turn_words.specs.Form_laws.{led}
-use Rattle.turn_words.specs.Hyper_states.{HyperState, IsEven, empty_state, hyper_next, BelongsTo}
-use Rattle.turn_words.specs.Lemmas.Hyper_laws.{hyper_starts}
+use Rattle.turn_words.specs.SpokePaths.{place_round}
+use Rattle.turn_words.specs.FormLaws.{led}
+use Rattle.turn_words.specs.HyperStates.{HyperState, IsEven, empty_state, hyper_next, BelongsTo}
+use Rattle.turn_words.specs.Lemmas.HyperLaws.{hyper_starts}
 use Rattle.turn_words.proofs.Reading.{state}
-use Rattle.settling.specs.Turn_rows.{IsCanonicalRow}
+use Rattle.settling.specs.TurnRows.{IsCanonicalRow}
 use Rattle.settling.proofs.Rows.{along, upto}
-use Rattle.spoke_rings.specs.Cyclic_words.{IsLoop, IsFullWheel, IsCyclicallyCanonical, spoke_along, stands_before, cyclic_turn}
+use Rattle.spoke_rings.specs.CyclicWords.{IsLoop, IsFullWheel, IsCyclicallyCanonical, spoke_along, stands_before, cyclic_turn}
 use Rattle.spoke_rings.specs.Rotations.{IsRotation}
 use Rattle.spoke_rings.proofs.Along.{along-first, along-round, rotated, rotated-length, rotated-along}
 use Rattle.spoke_rings.proofs.Fine.{along-below}
-use Rattle.spoke_rings.proofs.Ring_turns.{turn_at, place-below, stands-even}
-use Rattle.joined_loops.specs.Joined_lists.{JoinedBy, Joined}
+use Rattle.spoke_rings.proofs.RingTurns.{turn_at, place-below, stands-even}
+use Rattle.joined_loops.specs.JoinedLists.{JoinedBy, Joined}
 use Rattle.joined_loops.proofs.Times.{times, times-some, times-add, times-even, later-rounds}
 use Rattle.joined_loops.proofs.Spelling.{by-round}
 use Rattle.joined_loops.proofs.Numbers.{Reached, start-reached, next-reached, led-reached, one-number, same-turn, less-none}

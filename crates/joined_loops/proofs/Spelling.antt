@@ -2,13 +2,13 @@
 use Rattle.std.proofs.Common.{◌≡◌, ◌≢◌, ℕ, ◌<◌, ◌≤◌, inl, inr, arith, refl, sym, ◌∙◌, ap, subst, Bool, true, false, not, List, [], ◌∷◌, length, get_or}
 use Rattle.std.proofs.lemmas.Bool.{cases_eq}
 use Rattle.turn_words.specs.Modulo.{add, minus}
-use Rattle.turn_words.specs.Put_turns.{is_open, flipped, closed}
-use Rattle.turn_words.specs.Spoke_paths.{place_round}
+use Rattle.turn_words.specs.PutTurns.{is_open, flipped, closed}
+use Rattle.turn_words.specs.SpokePaths.{place_round}
 use Rattle.turn_words.specs.Lemmas.Sums.{add-cases, minus-cases, minus-one, minus-two, add-lt}
-use Rattle.turn_words.specs.Lemmas.Word_ends.{flipped-run, flipped-end, open-cases}
+use Rattle.turn_words.specs.Lemmas.WordEnds.{flipped-run, flipped-end, open-cases}
 use Rattle.spoke_paths.proofs.Ways.{up-one, down-one, less-one, more-one, turn-up, turn-down}
-use Rattle.spoke_rings.specs.Cyclic_words.{IsFullWheel}
-use Rattle.spoke_rings.proofs.Ring_turns.{turn_at, place-below}
+use Rattle.spoke_rings.specs.CyclicWords.{IsFullWheel}
+use Rattle.spoke_rings.proofs.RingTurns.{turn_at, place-below}
 
 -- the list of spokes has the word, and it is told whether it ends at the vertex
 abbrev pub Spells : List ℕ → Bool → List ℕ → List ℕ → Type 0

@@ -5,19 +5,19 @@ use Rattle.std.proofs.lemmas.Option.{option_and_then_some}
 use Rattle.std.proofs.lemmas.Bool.{cases_Bool, cases_lt, eq-eqb, lt-ltb, le-ltb, ltb-true, eqb-true, and_parts}
 use Rattle.std.proofs.lemmas.List.{length-take-le, take-append-drop}
 use Rattle.std.proofs.lemmas.List.Elements.{All-take}
-use Rattle.turn_words.specs.Form_laws.{StartsWell, StaysWell, led}
-use Rattle.turn_words.specs.Hyper_states.{HyperState, IsHyperWheel, IsEven, empty_state, hyper_next, BelongsTo}
+use Rattle.turn_words.specs.FormLaws.{StartsWell, StaysWell, led}
+use Rattle.turn_words.specs.HyperStates.{HyperState, IsHyperWheel, IsEven, empty_state, hyper_next, BelongsTo}
 use Rattle.turn_words.specs.Lemmas.Lists.{InRange}
-use Rattle.turn_words.specs.Lemmas.From_end.{in-range-from, all-from}
-use Rattle.turn_words.specs.Lemmas.Hyper_laws.{hyper_starts, hyper_stays, hyper_there_and_back, hyper_across}
-use Rattle.spoke_paths.specs.Path_steps.{from_spoke, spur_goes, quad_turned, after_path_step, PathLeads}
+use Rattle.turn_words.specs.Lemmas.FromEnd.{in-range-from, all-from}
+use Rattle.turn_words.specs.Lemmas.HyperLaws.{hyper_starts, hyper_stays, hyper_there_and_back, hyper_across}
+use Rattle.spoke_paths.specs.PathSteps.{from_spoke, spur_goes, quad_turned, after_path_step, PathLeads}
 use Rattle.spoke_paths.specs.declared.step.PathStep.{PathStep}
 use Rattle.spoke_paths.specs.declared.step.PathStep.TheVariants.{Spur, Turn}
-use Rattle.spoke_paths.proofs.Steps_keep.{mapped-is, spokes-stay-below, state-stays}
-use Rattle.spoke_rings.specs.Cyclic_words.{IsLoop}
-use Rattle.spoke_rings.specs.Loop_steps.{LoopStep, spur_out, spur_in, across, rotate, spur_comes, across_quad, after_loop_step, after_loop_steps, LoopLeads}
-use Rattle.spoke_rings.proofs.Ring_turns.{loop-rotated}
-use Rattle.joined_loops.specs.Joined_lists.{Joined}
+use Rattle.spoke_paths.proofs.StepsKeep.{mapped-is, spokes-stay-below, state-stays}
+use Rattle.spoke_rings.specs.CyclicWords.{IsLoop}
+use Rattle.spoke_rings.specs.LoopSteps.{LoopStep, spur_out, spur_in, across, rotate, spur_comes, across_quad, after_loop_step, after_loop_steps, LoopLeads}
+use Rattle.spoke_rings.proofs.RingTurns.{loop-rotated}
+use Rattle.joined_loops.specs.JoinedLists.{Joined}
 use Rattle.joined_loops.proofs.Going.{led-parity}
 use Rattle.joined_loops.proofs.Joining.{same-joined, joined-itself, joined-on}
 

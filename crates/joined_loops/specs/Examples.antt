@@ -1,7 +1,7 @@
 -- What the definitions give.
 use Rattle.std.specs.Prelude.{◌≡◌, ℕ, List, [], ◌∷◌, refl}
-use Rattle.spoke_rings.specs.Cyclic_words.{IsLoop}
-use Rattle.joined_loops.specs.Joined_lists.{JoinedBy, repeated}
+use Rattle.spoke_rings.specs.CyclicWords.{IsLoop}
+use Rattle.joined_loops.specs.JoinedLists.{JoinedBy, repeated}
 
 pub twice_round : repeated (3 ∷ 4 ∷ []) 2 ≡ 3 ∷ 4 ∷ 3 ∷ 4 ∷ []
 twice_round = refl

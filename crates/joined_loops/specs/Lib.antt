@@ -1,2 +1,2 @@
-pub mod Joined_lists
+pub mod JoinedLists
 pub mod Examples

@@ -3,21 +3,21 @@
 ghost use Rattle.std.specs.Prelude.{◌≡◌, ◌≢◌, ◌+◌, ◌*◌, ◌<◌, ◌≤◌, ℕ, List, [], ◌∷◌, ◌++◌, All, length, take};
 ghost use Rattle.surf_model.specs.FaceLists.{FaceList, IsFaceList};
 ghost use Rattle.turn_words.specs.Modulo.{minus};
-ghost use Rattle.turn_words.specs.Put_turns.{put_last};
-ghost use Rattle.turn_words.specs.Five_cases.{EndsOpen};
-ghost use Rattle.turn_words.specs.Form_laws.{led};
-ghost use Rattle.turn_words.specs.Hyper_states.{empty_state, hyper_next, IsHyperWheel};
+ghost use Rattle.turn_words.specs.PutTurns.{put_last};
+ghost use Rattle.turn_words.specs.FiveCases.{EndsOpen};
+ghost use Rattle.turn_words.specs.FormLaws.{led};
+ghost use Rattle.turn_words.specs.HyperStates.{empty_state, hyper_next, IsHyperWheel};
 ghost use Rattle.turn_words.specs.declared.word.Word.{Word};
-ghost use Rattle.settling.specs.Turn_rows.{IsCanonicalRow};
+ghost use Rattle.settling.specs.TurnRows.{IsCanonicalRow};
 ghost use Rattle.labellings.specs.Labellings.{LabellingView};
 ghost use Rattle.labellings.specs.GoodLabellings.{IsGood};
 ghost use Rattle.labellings.specs.QuadPaths.{quad_path};
 ghost use Rattle.labellings.specs.WalkWords.{IsWordOf};
-ghost use Rattle.spoke_rings.specs.Cyclic_words.{cyclic_turn, IsLoop, IsFullWheel, IsCyclicallyCanonical};
-ghost use Rattle.spoke_rings.specs.Loop_steps.{LoopLeads};
+ghost use Rattle.spoke_rings.specs.CyclicWords.{cyclic_turn, IsLoop, IsFullWheel, IsCyclicallyCanonical};
+ghost use Rattle.spoke_rings.specs.LoopSteps.{LoopLeads};
 ghost use Rattle.spoke_rings.specs.Rotations.{IsRotation};
 ghost use Rattle.closed_walks.specs.FreeHomotopy.{IsClosedWalk, FreelyHomotopic};
-ghost use Rattle.joined_loops.specs.Joined_lists.{JoinedBy, Joined, repeated};
+ghost use Rattle.joined_loops.specs.JoinedLists.{JoinedBy, Joined, repeated};
 
 /// To be joined is an equivalence of closed lists of spokes.
 pub fn joining_is_an_equivalence()

@@ -10,7 +10,7 @@ use Rattle.surf_model.specs.declared.edges.Side.{Side}
 use Rattle.surf_model.proofs.EdgeLemmas.{step_within, back_within, there_and_back}
 use Rattle.surf_model.proofs.RoundLemmas.{corner_after}
 use Rattle.turn_words.specs.Modulo.{add}
-use Rattle.turn_words.specs.Form_laws.{IsQuad, led}
+use Rattle.turn_words.specs.FormLaws.{IsQuad, led}
 use Rattle.labellings.specs.Labellings.{LabellingView, signs_of, labels_at, label_at, tail_label, head_label}
 use Rattle.labellings.specs.GoodLabellings.{IsGood, MeetsSomeRule}
 use Rattle.labellings.specs.QuadPaths.{spokes, spokes_by_labels, quad_path}

@@ -19,7 +19,7 @@ use Rattle.surf_model.proofs.ContextLemmas.{first_answer, stays_walk}
 use Rattle.surf_model.proofs.RoundLemmas.{meet}
 use Rattle.surf_model.proofs.ListedLemmas.{IsListed, all_listed}
 use Rattle.surf_model.proofs.WayBackLemmas.{AreAlike, alike, at_first, at_last, keeps_walk, undone}
-use Rattle.turn_words.specs.Form_laws.{led}
+use Rattle.turn_words.specs.FormLaws.{led}
 use Rattle.labellings.specs.Labellings.{LabellingView, signs_of, label_at, tail_label, head_label}
 use Rattle.labellings.specs.GoodLabellings.{IsGood}
 use Rattle.labellings.specs.QuadPaths.{side_from, spokes, spokes_of_sides, quad_path}

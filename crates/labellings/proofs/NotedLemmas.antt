@@ -1,6 +1,6 @@
 -- Spokes put into a form, and what is noted there.
 use Rattle.std.proofs.Common.{◌≡◌, ℕ, refl, List, [], ◌∷◌, ◌++◌, Option, subst, sym, ◌∙◌, ap}
-use Rattle.turn_words.specs.Form_laws.{led, NotesAlong}
+use Rattle.turn_words.specs.FormLaws.{led, NotesAlong}
 use Rattle.turn_words.specs.Recorded.{TellsMore}
 use Rattle.turn_words.specs.declared.step.Step.{Step}
 use Rattle.turn_words.proofs.Led.{led-append, notes-append, notes-one}

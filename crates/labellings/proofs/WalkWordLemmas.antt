@@ -10,20 +10,20 @@ use Rattle.surf_model.specs.Walks.{IsWalk}
 use Rattle.surf_model.specs.Moves.{Homotopic}
 use Rattle.turn_words.specs.Wheels.{IsWheel}
 use Rattle.turn_words.specs.Canonical.{IsCanonicalOf}
-use Rattle.turn_words.specs.Spoke_paths.{turn_word_of}
-use Rattle.turn_words.specs.Form_laws.{led}
-use Rattle.turn_words.specs.Hyper_states.{HyperState, IsHyperWheel, BelongsTo, IsEven, empty_state, hyper_next}
-use Rattle.turn_words.specs.Lemmas.Hyper_laws.{hyper_starts, hyper_stays, hyper_there_and_back, hyper_across}
+use Rattle.turn_words.specs.SpokePaths.{turn_word_of}
+use Rattle.turn_words.specs.FormLaws.{led}
+use Rattle.turn_words.specs.HyperStates.{HyperState, IsHyperWheel, BelongsTo, IsEven, empty_state, hyper_next}
+use Rattle.turn_words.specs.Lemmas.HyperLaws.{hyper_starts, hyper_stays, hyper_there_and_back, hyper_across}
 use Rattle.turn_words.specs.declared.word.Word.{Word}
 use Rattle.turn_words.specs.declared.word.Word.TheVariants.{Turns, Flat}
 use Rattle.turn_words.proofs.Unique.{unique}
 use Rattle.turn_words.proofs.Spokes.{turns, canonical}
 use Rattle.flat_forms.specs.Vectors.{Vector, origin}
 use Rattle.flat_forms.specs.Pairs.{spokes_of, sum_of_pairs}
-use Rattle.flat_forms.proofs.Sums_of_pairs.{leads-to-sum}
-use Rattle.flat_forms.specs.Flat_states.{IsFlatWheel, flat_next}
-use Rattle.flat_forms.specs.Flat_states as flat
-use Rattle.flat_forms.specs.Lemmas.Flat_laws.{flat_starts, flat_stays, flat_there_and_back, flat_across}
+use Rattle.flat_forms.proofs.SumsOfPairs.{leads-to-sum}
+use Rattle.flat_forms.specs.FlatStates.{IsFlatWheel, flat_next}
+use Rattle.flat_forms.specs.FlatStates as flat
+use Rattle.flat_forms.specs.Lemmas.FlatLaws.{flat_starts, flat_stays, flat_there_and_back, flat_across}
 use Rattle.labellings.specs.Labellings.{LabellingView, tail_label, head_label}
 use Rattle.labellings.specs.GoodLabellings.{IsGood}
 use Rattle.labellings.specs.QuadPaths.{side_from, spokes, spokes_of_sides, spokes_by_labels, quad_path}

@@ -2,14 +2,14 @@
 use Rattle.std.proofs.Common.{◌≡◌, inl, inr, ℕ, ◌≤◌, List, sym, ◌∙◌, subst}
 use Rattle.std.specs.Prelude.{ℤ}
 use Rattle.surf_model.specs.FaceLists.{FaceList}
-use Rattle.turn_words.specs.Form_laws.{led}
+use Rattle.turn_words.specs.FormLaws.{led}
 use Rattle.turn_words.specs.Canonical.{IsCanonicalOf}
-use Rattle.turn_words.specs.Spoke_paths.{turn_word_of}
-use Rattle.turn_words.specs.Hyper_states.{empty_state, hyper_next}
+use Rattle.turn_words.specs.SpokePaths.{turn_word_of}
+use Rattle.turn_words.specs.HyperStates.{empty_state, hyper_next}
 use Rattle.turn_words.specs.declared.word.Word.TheVariants.{Turns, Flat}
 use Rattle.turn_words.proofs.Spokes.{canonical}
 use Rattle.flat_forms.specs.Vectors.{Vector, origin}
-use Rattle.flat_forms.specs.Flat_states.{flat_next}
+use Rattle.flat_forms.specs.FlatStates.{flat_next}
 use Rattle.labellings.specs.Labellings.{LabellingView}
 use Rattle.labellings.specs.GoodLabellings.{IsGood}
 use Rattle.labellings.specs.QuadPaths.{quad_path}

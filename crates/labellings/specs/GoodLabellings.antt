@@ -6,7 +6,7 @@ use Rattle.surf_model.specs.Darts.{tail_of, head_of}
 use Rattle.surf_model.specs.Surfaces.{sides_between, ArePartners, RunOppositely}
 use Rattle.surf_model.specs.declared.edges.Side.{Side}
 use Rattle.turn_words.specs.Modulo.{add}
-use Rattle.turn_words.specs.Form_laws.{IsQuad}
+use Rattle.turn_words.specs.FormLaws.{IsQuad}
 use Rattle.labellings.specs.Labellings.{LabellingView, labels_at, signs_of, tail_label, head_label}
 
 -- Shape: a face for each of the mesh with a label for each of its corners, a place for each spoke, and all below the degree.

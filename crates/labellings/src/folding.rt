@@ -3,7 +3,7 @@ ghost use Rattle.std.specs.Prelude.{◌≡◌, ◌+◌, ◌*◌, ◌<◌, ◌≤
 ghost use Rattle.surf_model.specs.Edges.{IsTableOf};
 ghost use Rattle.surf_model.specs.Walks.{darts, IsWalk};
 ghost use Rattle.surf_model.specs.Moves.{Homotopic};
-ghost use Rattle.turn_words.specs.Form_laws.{led, NotesAlong};
+ghost use Rattle.turn_words.specs.FormLaws.{led, NotesAlong};
 ghost use Rattle.turn_words.specs.Recorded.{TellsMore};
 ghost use Rattle.labellings.specs.GoodLabellings.{IsGood};
 ghost use Rattle.labellings.specs.QuadPaths.{quad_path};

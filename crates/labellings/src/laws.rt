@@ -4,7 +4,7 @@ ghost use Rattle.std.specs.Prelude.{◌≡◌, ℕ, List};
 ghost use Rattle.surf_model.specs.FaceLists.{FaceList, IsFaceList};
 ghost use Rattle.surf_model.specs.Walks.{IsWalk};
 ghost use Rattle.surf_model.specs.Moves.{Homotopic};
-ghost use Rattle.turn_words.specs.Form_laws.{led};
+ghost use Rattle.turn_words.specs.FormLaws.{led};
 ghost use Rattle.labellings.specs.Labellings.{LabellingView};
 ghost use Rattle.labellings.specs.GoodLabellings.{IsGood};
 ghost use Rattle.labellings.specs.QuadPaths.{quad_path};

@@ -3,7 +3,7 @@ use Rattle.std.proofs.Common.{◌≡◌, inl, inr, ℕ, List, [], ◌∷◌, len
 use Rattle.std.specs.Prelude.{Option, Some, None, Result, Ok}
 use Rattle.surf_io.specs.Files.{Files}
 use Rattle.surf_model.specs.FaceLists.{FaceList}
-use Rattle.walk_files.specs.Closed_pairs.{IsClosedPair, loops_fault}
+use Rattle.walk_files.specs.ClosedPairs.{IsClosedPair, loops_fault}
 use Rattle.walk_files.specs.WalkLists.{WalkText}
 use Rattle.walk_files.specs.WalkTexts.{walk_text_of, walks_of}
 use Rattle.walk_files.specs.declared.fault.WalkFault.{WalkFault}

@@ -3,7 +3,7 @@ use Rattle.std.specs.Prelude.{◌≡◌, ℕ, ◌↔◌, ◌⊎◌, List, [], �
 use Rattle.surf_io.specs.Files.{Files}
 use Rattle.surf_model.specs.FaceLists.{FaceList}
 use Rattle.closed_walks.specs.FreeHomotopy.{IsClosedWalk, FreelyHomotopic}
-use Rattle.walk_files.specs.Closed_pairs.{loops_fault}
+use Rattle.walk_files.specs.ClosedPairs.{loops_fault}
 use Rattle.walk_files.specs.WalkTexts.{walks_of}
 use Rattle.walk_files.specs.declared.loops.LoopFault.{LoopFault}
 use Rattle.walk_files.specs.declared.loops.LoopFault.TheVariants.{NotTwo, NoVertex, NoEdge, NotClosed}

@@ -2,7 +2,7 @@
 ghost use Rattle.std.specs.Prelude.{◌≡◌, MatchResult, IfOk};
 ghost use Rattle.surf_model.specs.FaceLists.{FaceList};
 ghost use Rattle.surf_model.specs.Edges.{IsTableOf};
-ghost use Rattle.walk_files.specs.Closed_pairs.{IsClosedPair};
+ghost use Rattle.walk_files.specs.ClosedPairs.{IsClosedPair};
 ghost use Rattle.commands.specs.Checks.{Passes};
 ghost use Rattle.commands.specs.Stops.{Reads, Stops, Tells};
 ghost use Rattle.loop_commands.specs.Loops.{loops_in, loops_line};

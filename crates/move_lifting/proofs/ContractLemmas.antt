@@ -12,16 +12,16 @@ use Rattle.halfedge_map.specs.RotationSystems.{rotations_of}
 use Rattle.halfedge_map.proofs.SystemLemmas.{rotation_system}
 use Rattle.tree_cotree.specs.SpanningTrees.{after_dart}
 use Rattle.tree_cotree.specs.Splits.{SplitView, IsSplit, in_cotree, is_left}
-use Rattle.turn_words.specs.Form_laws.{IsQuad}
+use Rattle.turn_words.specs.FormLaws.{IsQuad}
 use Rattle.polygon_cut.specs.Polygons.{PolygonView, IsCutFrom, across}
 use Rattle.polygon_cut.specs.SpokeLoops.{AreWaysUp, by_loop, path_loop, put_behind}
 use Rattle.polygon_cut.proofs.PlaceLemmas.{Crosses, sides_cross}
 use Rattle.polygon_cut.proofs.TreeWayLemmas.{up, up_path}
-use Rattle.spoke_paths.specs.Path_steps.{after_path_step, after_path_steps, PathLeads}
-use Rattle.spoke_paths.specs.Path_turns.{from_vertex}
+use Rattle.spoke_paths.specs.PathSteps.{after_path_step, after_path_steps, PathLeads}
+use Rattle.spoke_paths.specs.PathTurns.{from_vertex}
 use Rattle.spoke_paths.specs.declared.step.PathStep.{PathStep}
 use Rattle.spoke_paths.specs.declared.step.PathStep.TheVariants.{Spur, Turn}
-use Rattle.spoke_paths.proofs.Steps_keep.{later-is, spokes-stay-below}
+use Rattle.spoke_paths.proofs.StepsKeep.{later-is, spokes-stay-below}
 use Rattle.move_lifting.specs.Contractions.{IsLedFrom}
 use Rattle.move_lifting.specs.LoopFronts.{spokes_in_front}
 use Rattle.move_lifting.specs.LoopsPutIn.{signed_loop, IsFreelyPath, HasLoopIn}

@@ -11,14 +11,14 @@ use Rattle.surf_model.specs.Walks.{IsWalk}
 use Rattle.surf_model.specs.Moves.{Homotopic}
 use Rattle.surf_model.proofs.FreeWalkLemmas.{one_reduced_walk}
 use Rattle.halfedge_map.specs.OrientedMeshes.{OrientedMesh, IsOrientedSurface}
-use Rattle.turn_words.specs.Form_laws.{led}
-use Rattle.turn_words.specs.Hyper_states.{HyperState, IsHyperWheel, BelongsTo, IsEven, empty_state, hyper_next}
-use Rattle.turn_words.specs.Lemmas.Hyper_laws.{hyper_starts, hyper_stays, hyper_there_and_back, hyper_across}
-use Rattle.turn_words.specs.Spoke_paths.{turn_word_of}
+use Rattle.turn_words.specs.FormLaws.{led}
+use Rattle.turn_words.specs.HyperStates.{HyperState, IsHyperWheel, BelongsTo, IsEven, empty_state, hyper_next}
+use Rattle.turn_words.specs.Lemmas.HyperLaws.{hyper_starts, hyper_stays, hyper_there_and_back, hyper_across}
+use Rattle.turn_words.specs.SpokePaths.{turn_word_of}
 use Rattle.flat_forms.specs.Vectors.{origin}
-use Rattle.flat_forms.specs.Flat_states.{IsFlatWheel, flat_next}
-use Rattle.flat_forms.specs.Flat_states.{IsEven as IsEvenPoint}
-use Rattle.flat_forms.specs.Lemmas.Flat_laws.{flat_starts, flat_stays, flat_there_and_back, flat_across}
+use Rattle.flat_forms.specs.FlatStates.{IsFlatWheel, flat_next}
+use Rattle.flat_forms.specs.FlatStates.{IsEven as IsEvenPoint}
+use Rattle.flat_forms.specs.Lemmas.FlatLaws.{flat_starts, flat_stays, flat_there_and_back, flat_across}
 use Rattle.tree_cotree.specs.Splits.{SplitView, IsSplit}
 use Rattle.polygon_cut.specs.Polygons.{PolygonView, IsCutFrom}
 use Rattle.polygon_cut.specs.SpokeLoops.{HaveFreeSpokes, spokes_along, backward}
@@ -36,10 +36,10 @@ use Rattle.quad_system.proofs.FreePathLemmas.{free_walk_leads, free_walk_below}
 use Rattle.labellings.proofs.KeepingLemmas.{moves_keep, run_ready}
 use Rattle.quad_system.proofs.PolygonLabelLemmas.{polygon_good}
 use Rattle.labellings.proofs.WalkWordLemmas.{quad_path_below, hyper_wheel_of_good, flat_wheel_of_good}
-use Rattle.spoke_paths.specs.Path_steps.{PathLeads}
-use Rattle.spoke_paths.specs.Reduced_words.{IsReduced}
+use Rattle.spoke_paths.specs.PathSteps.{PathLeads}
+use Rattle.spoke_paths.specs.ReducedWords.{IsReduced}
 use Rattle.spoke_paths.specs.declared.step.PathStep.{PathStep}
-use Rattle.spoke_paths.proofs.Leaving_nothing.{turns-leave, flat-leave}
+use Rattle.spoke_paths.proofs.LeavingNothing.{turns-leave, flat-leave}
 use Rattle.common_ends.proofs.TrimLemmas.{last_entry}
 use Rattle.move_lifting.specs.LoopsPutIn.{IsFreelyPath}
 use Rattle.move_lifting.specs.Tracks.{last_of}

@@ -17,7 +17,7 @@ use Rattle.polygon_cut.specs.SpokeLoops.{LeavesCotree, IsOffCotree}
 use Rattle.polygon_cut.specs.Polygons.{PolygonView, IsCutFrom}
 use Rattle.polygon_cut.specs.SpokeLoops.{spokes_along}
 use Rattle.quad_system.proofs.FreePathLemmas.{free_walk_below}
-use Rattle.spoke_paths.specs.Path_steps.{PathLeads}
+use Rattle.spoke_paths.specs.PathSteps.{PathLeads}
 use Rattle.common_ends.proofs.PeakLemmas.{leads_nowhere}
 use Rattle.common_ends.proofs.TrimLemmas.{walk_front}
 use Rattle.move_lifting.specs.Contractions.{IsLedFrom, LeavesNothing}

@@ -4,14 +4,14 @@ use Rattle.halfedge_map.specs.OrientedMeshes.{OrientedMesh, IsOrientedSurface}
 use Rattle.halfedge_map.specs.RotationSystems.{rotations_of}
 use Rattle.tree_cotree.specs.Splits.{SplitView, IsSplit}
 use Rattle.turn_words.specs.Modulo.{add, minus}
-use Rattle.turn_words.specs.Form_laws.{IsQuad}
+use Rattle.turn_words.specs.FormLaws.{IsQuad}
 use Rattle.turn_words.specs.Lemmas.Sums.{add-lt}
 use Rattle.polygon_cut.specs.Polygons.{PolygonView, IsCutFrom, place_of, across}
 use Rattle.polygon_cut.proofs.RelatorLemmas.{ends_at_vertex}
 use Rattle.quad_system.proofs.PushPathLemmas.{IsQuadWheel, add_back}
 use Rattle.quad_system.proofs.FreePathLemmas.{places_wheel}
 use Rattle.quad_system.proofs.SpokeProductLemmas.{spoke_at}
-use Rattle.spoke_paths.specs.Path_turns.{from_vertex, HasQuads}
+use Rattle.spoke_paths.specs.PathTurns.{from_vertex, HasQuads}
 use Rattle.spoke_paths.proofs.Turning.{from-next}
 
 -- the end of so many spokes

@@ -10,12 +10,12 @@ use Rattle.tree_cotree.specs.Splits.{SplitView}
 use Rattle.polygon_cut.specs.Polygons.{PolygonView, IsCutFrom, label_of}
 use Rattle.polygon_cut.specs.SpokeLoops.{HasFreeSpokes, HaveFreeSpokes, spokes_along, last_side}
 use Rattle.polygon_cut.proofs.FreeRoundLemmas.{dart_from, from_is}
-use Rattle.spoke_paths.specs.Path_steps.{PathLeads, spur_goes, quad_turned, after_path_step}
+use Rattle.spoke_paths.specs.PathSteps.{PathLeads, spur_goes, quad_turned, after_path_step}
 use Rattle.spoke_paths.specs.declared.step.PathStep.{PathStep}
 use Rattle.spoke_paths.specs.declared.step.PathStep.TheVariants.{Spur, Turn}
-use Rattle.spoke_paths.specs.Path_turns.{from_vertex}
+use Rattle.spoke_paths.specs.PathTurns.{from_vertex}
 use Rattle.spoke_paths.proofs.Placing.{AtPlace, at-place, old_way, new_way, IsTurned, is-turned}
-use Rattle.spoke_paths.proofs.Steps_keep.{spur-is, later-is}
+use Rattle.spoke_paths.proofs.StepsKeep.{spur-is, later-is}
 use Rattle.move_lifting.specs.Reductions.{spokes_of_dart, HasSpokesMore, AreSpokesOf, spurs_of}
 
 -- the spokes of the dart from u to v

@@ -23,12 +23,12 @@ use Rattle.polygon_cut.proofs.ShortFrontLemmas.{short_behind, short_behind_one, 
 use Rattle.quad_system.proofs.PushPathLemmas.{IsQuadWheel}
 use Rattle.quad_system.proofs.PushWorthLemmas.{polygon_wheel}
 use Rattle.quad_system.proofs.SpokeProductLemmas.{spoke_at}
-use Rattle.spoke_paths.specs.Path_steps.{spur_goes, quad_turned, after_path_step}
-use Rattle.spoke_paths.specs.Path_turns.{from_vertex}
+use Rattle.spoke_paths.specs.PathSteps.{spur_goes, quad_turned, after_path_step}
+use Rattle.spoke_paths.specs.PathTurns.{from_vertex}
 use Rattle.spoke_paths.specs.declared.step.PathStep.{PathStep}
 use Rattle.spoke_paths.specs.declared.step.PathStep.TheVariants.{Spur, Turn}
 use Rattle.spoke_paths.proofs.Placing.{AtPlace, at-place, take-front, old_way, new_way, IsTurned, is-turned}
-use Rattle.spoke_paths.proofs.Steps_keep.{spur-is}
+use Rattle.spoke_paths.proofs.StepsKeep.{spur-is}
 use Rattle.move_lifting.specs.LoopFronts.{spokes_in_front}
 use Rattle.move_lifting.proofs.ContractLemmas.{front_below}
 use Rattle.move_lifting.proofs.PathLemmas.{ends_at, quad_partner}

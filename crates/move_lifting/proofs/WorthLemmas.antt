@@ -29,10 +29,10 @@ use Rattle.quad_system.proofs.PushWorthLemmas.{loop_of_path, front_of_last, fron
 use Rattle.quad_system.proofs.PushWorthLemmas.{signed_loop as own_loop}
 use Rattle.quad_system.proofs.SpokeProductLemmas.{spoke_at}
 use Rattle.turn_words.specs.Modulo.{add}
-use Rattle.spoke_paths.specs.Path_steps.{upper_way, lower_way, spur_goes, quad_turned, from_spoke}
-use Rattle.spoke_paths.specs.Path_turns.{from_vertex}
+use Rattle.spoke_paths.specs.PathSteps.{upper_way, lower_way, spur_goes, quad_turned, from_spoke}
+use Rattle.spoke_paths.specs.PathTurns.{from_vertex}
 use Rattle.spoke_paths.proofs.Placing.{AtPlace, at-place, take-front, old_way, new_way, IsTurned, is-turned}
-use Rattle.spoke_paths.proofs.Steps_keep.{spur-is}
+use Rattle.spoke_paths.proofs.StepsKeep.{spur-is}
 use Rattle.move_lifting.specs.LoopsPutIn.{signed_loop, IsFreelyPath, HasLoopIn}
 use Rattle.move_lifting.specs.LoopFronts.{spokes_in_front}
 use Rattle.move_lifting.proofs.PathLemmas.{ends_at, quad_partner}

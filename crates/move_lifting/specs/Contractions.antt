@@ -3,7 +3,7 @@ use Rattle.std.specs.Prelude.{◌≡◌, ℕ, ◌<◌, List, [], ◌++◌, lengt
 use Rattle.surf_model.specs.FaceLists.{FaceList}
 use Rattle.surf_model.specs.Walks.{IsWalk}
 use Rattle.polygon_cut.specs.Polygons.{PolygonView}
-use Rattle.spoke_paths.specs.Path_steps.{PathLeads}
+use Rattle.spoke_paths.specs.PathSteps.{PathLeads}
 use Rattle.move_lifting.specs.Lifts.{LeadsAtPeak}
 use Rattle.move_lifting.specs.Tracks.{TrackView}
 use Rattle.move_lifting.specs.declared.reducing.Reduction.{Reduction}

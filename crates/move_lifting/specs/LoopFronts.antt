@@ -1,6 +1,6 @@
 -- Where a turn on a path of spokes puts the loop of the last side in.
 use Rattle.std.specs.Prelude.{ℕ, ◌+◌, ◌==◌, if◌then◌else◌, List, [], ◌∷◌, ◌++◌, take}
-use Rattle.spoke_paths.specs.Path_turns.{from_vertex}
+use Rattle.spoke_paths.specs.PathTurns.{from_vertex}
 
 -- The spokes behind which a turn at a place of the path puts the loop in: those before the place, and where the loop starts further
 -- on, those of one way round the quad that lead there.

@@ -3,11 +3,11 @@ use Rattle.std.specs.Prelude.{◌≡◌, ℕ, zero, suc, ◌+◌, ◌==◌, if�
 use Rattle.halfedge_map.specs.OrientedMeshes.{OrientedMesh}
 use Rattle.halfedge_map.specs.DartMaps.{next_of}
 use Rattle.halfedge_map.specs.RotationSystems.{rotations_of, IsDartFrom}
-use Rattle.turn_words.specs.Spoke_paths.{turn_word_of}
+use Rattle.turn_words.specs.SpokePaths.{turn_word_of}
 use Rattle.polygon_cut.specs.Polygons.{PolygonView, label_of}
 use Rattle.polygon_cut.specs.SpokeLoops.{HaveFreeSpokes, spokes_along, last_side, across_last}
-use Rattle.spoke_paths.specs.Path_steps.{PathLeads}
-use Rattle.spoke_paths.specs.Reduced_words.{IsReduced}
+use Rattle.spoke_paths.specs.PathSteps.{PathLeads}
+use Rattle.spoke_paths.specs.ReducedWords.{IsReduced}
 use Rattle.spoke_paths.specs.declared.step.PathStep.{PathStep}
 use Rattle.spoke_paths.specs.declared.step.PathStep.TheVariants.{Spur, Turn}
 use Rattle.move_lifting.specs.declared.reducing.Reduction.{Reduction}

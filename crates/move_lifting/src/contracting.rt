@@ -3,7 +3,7 @@ ghost use Rattle.std.specs.Prelude.{◌≡◌, ◌+◌, ◌-◌, ◌*◌, ◌<�
 ghost use Rattle.surf_model.specs.FreeWalks.{HasNoSpur};
 ghost use Rattle.surf_model.specs.Walks.{IsWalk};
 ghost use Rattle.halfedge_map.specs.DartMaps.{darts_of};
-ghost use Rattle.spoke_paths.specs.Path_steps.{after_path_step};
+ghost use Rattle.spoke_paths.specs.PathSteps.{after_path_step};
 ghost use Rattle.move_lifting.specs.Contractions.{IsLedFrom, LeavesNothing};
 ghost use Rattle.move_lifting.specs.Cuts.{IsCut};
 ghost use Rattle.move_lifting.specs.SpokeWalks.{IsLooper, IsLooping};

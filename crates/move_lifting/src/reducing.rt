@@ -6,7 +6,7 @@ ghost use Rattle.surf_model.specs.Walks.{IsWalk, darts};
 ghost use Rattle.halfedge_map.specs.OrientedMeshes.{IsOrientedSurface};
 ghost use Rattle.turn_words.specs.Wheels.{IsWheel};
 ghost use Rattle.polygon_cut.specs.Polygons.{IsPolygonOf};
-ghost use Rattle.spoke_paths.specs.Path_steps.{PathLeads};
+ghost use Rattle.spoke_paths.specs.PathSteps.{PathLeads};
 ghost use Rattle.move_lifting.specs.Reductions.{HasSpokesMore, AreSpokesOf, IsReductionOf, spurs_of};
 ghost use Rattle.move_lifting.specs.declared.expanding.TheConstants.{MOST_LIFTED_DARTS};
 

@@ -13,10 +13,10 @@ use Rattle.halfedge_map.specs.RotationSystems.{Rotations, rotations_of}
 use Rattle.halfedge_map.proofs.EdgeLemmas.{dart_between}
 use Rattle.halfedge_map.proofs.SystemLemmas.{rotation_system}
 use Rattle.turn_words.specs.Canonical.{IsCanonicalOf}
-use Rattle.turn_words.specs.Spoke_paths.{turn_word_of}
-use Rattle.turn_words.specs.Form_laws.{led}
-use Rattle.turn_words.specs.Hyper_states.{HyperState, IsHyperWheel, BelongsTo, IsEven, empty_state, hyper_next}
-use Rattle.turn_words.specs.Lemmas.Hyper_laws.{hyper_starts, hyper_stays, hyper_there_and_back, hyper_across}
+use Rattle.turn_words.specs.SpokePaths.{turn_word_of}
+use Rattle.turn_words.specs.FormLaws.{led}
+use Rattle.turn_words.specs.HyperStates.{HyperState, IsHyperWheel, BelongsTo, IsEven, empty_state, hyper_next}
+use Rattle.turn_words.specs.Lemmas.HyperLaws.{hyper_starts, hyper_stays, hyper_there_and_back, hyper_across}
 use Rattle.turn_words.proofs.Unique.{unique}
 use Rattle.turn_words.proofs.Spokes.{turns, canonical}
 use Rattle.tree_cotree.specs.Splits.{SplitView, IsSplit}

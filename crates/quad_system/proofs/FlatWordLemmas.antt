@@ -10,12 +10,12 @@ use Rattle.halfedge_map.specs.DartMaps.{next_of, origin_of}
 use Rattle.halfedge_map.proofs.EdgeLemmas.{dart_between}
 use Rattle.turn_words.specs.Modulo.{add, minus}
 use Rattle.turn_words.specs.Lemmas.Sums.{add-cases, add-lt}
-use Rattle.turn_words.specs.Form_laws.{led}
+use Rattle.turn_words.specs.FormLaws.{led}
 use Rattle.flat_forms.specs.Vectors.{origin}
-use Rattle.flat_forms.specs.Flat_states.{IsEven, IsFlatWheel, flat_next}
+use Rattle.flat_forms.specs.FlatStates.{IsEven, IsFlatWheel, flat_next}
 use Rattle.flat_forms.specs.Pairs.{spokes_of, sum_of_pairs}
-use Rattle.flat_forms.specs.Lemmas.Flat_laws.{flat_starts, flat_stays, flat_there_and_back, flat_across}
-use Rattle.flat_forms.proofs.Sums_of_pairs.{leads-to-sum}
+use Rattle.flat_forms.specs.Lemmas.FlatLaws.{flat_starts, flat_stays, flat_there_and_back, flat_across}
+use Rattle.flat_forms.proofs.SumsOfPairs.{leads-to-sum}
 use Rattle.tree_cotree.specs.Splits.{SplitView, IsSplit}
 use Rattle.polygon_cut.specs.Polygons.{PolygonView, IsCutFrom, label_of, place_of}
 use Rattle.polygon_cut.proofs.GroupLemmas.{IsGroup, quotient}

@@ -12,7 +12,7 @@ use Rattle.halfedge_map.specs.RotationSystems.{rotations_of, IsDartFrom}
 use Rattle.halfedge_map.proofs.EdgeLemmas.{dart_between}
 use Rattle.halfedge_map.proofs.SystemLemmas.{rotation_system}
 use Rattle.turn_words.specs.Modulo.{add}
-use Rattle.turn_words.specs.Form_laws.{IsQuad, led}
+use Rattle.turn_words.specs.FormLaws.{IsQuad, led}
 use Rattle.tree_cotree.specs.SpanningTrees.{after_dart}
 use Rattle.tree_cotree.specs.Splits.{SplitView, IsSplit, in_cotree, is_left}
 use Rattle.polygon_cut.specs.Polygons.{PolygonView, IsCutFrom, label_of, place_of, across, one_up}

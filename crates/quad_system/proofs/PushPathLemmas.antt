@@ -5,8 +5,8 @@ use Rattle.std.specs.Prelude.{All, Option, Some, None, option_map, cond}
 use Rattle.std.proofs.lemmas.Bool.{eqb-true}
 use Rattle.turn_words.specs.Modulo.{add, minus}
 use Rattle.turn_words.specs.Lemmas.Sums.{add-lt, minus-lt, add_comm, add_assoc, add-zero, zero-add, add-minus}
-use Rattle.turn_words.specs.Step_table.{next_changed, spur_out, pushed, from_place, after_step}
-use Rattle.turn_words.specs.Spoke_paths.{place_round, turns_after, turn_word_of}
+use Rattle.turn_words.specs.StepTable.{next_changed, spur_out, pushed, from_place, after_step}
+use Rattle.turn_words.specs.SpokePaths.{place_round, turns_after, turn_word_of}
 use Rattle.turn_words.specs.declared.step.Step.TheVariants.{SpurOut, Push}
 use Rattle.quad_system.proofs.ReadingLemmas.{Within, changed_within}
 

@@ -7,7 +7,7 @@ use Rattle.halfedge_map.specs.OrientedMeshes.{OrientedMesh, IsOrientedSurface}
 use Rattle.halfedge_map.specs.RotationSystems.{rotations_of}
 use Rattle.halfedge_map.proofs.SystemLemmas.{rotation_system}
 use Rattle.turn_words.specs.Modulo.{add}
-use Rattle.turn_words.specs.Step_table.{after_step}
+use Rattle.turn_words.specs.StepTable.{after_step}
 use Rattle.turn_words.specs.declared.step.Step.TheVariants.{SpurOut, Push}
 use Rattle.tree_cotree.specs.SpanningTrees.{after_dart}
 use Rattle.tree_cotree.specs.Splits.{SplitView, IsSplit, in_cotree, is_left}

@@ -5,8 +5,8 @@ use Rattle.std.specs.Prelude.{All, Option, Some, None, option_map, option_and_th
 use Rattle.std.proofs.lemmas.Bool.{eqb-true, ltb-true}
 use Rattle.turn_words.specs.Modulo.{add, minus}
 use Rattle.turn_words.specs.Lemmas.Sums.{add-lt, minus-lt, add_comm, add_assoc, add-zero, zero-add, add-minus}
-use Rattle.turn_words.specs.Step_table.{next_changed, spur_in, spur_out, pushed, from_place, after_step, after_steps}
-use Rattle.turn_words.specs.Spoke_paths.{place_round, turns_after, turn_word_of}
+use Rattle.turn_words.specs.StepTable.{next_changed, spur_in, spur_out, pushed, from_place, after_step, after_steps}
+use Rattle.turn_words.specs.SpokePaths.{place_round, turns_after, turn_word_of}
 use Rattle.turn_words.specs.declared.step.Step.{Step}
 use Rattle.turn_words.specs.declared.step.Step.TheVariants.{SpurIn, SpurOut, Push}
 use Rattle.polygon_cut.proofs.GroupLemmas.{IsGroup, quotient}

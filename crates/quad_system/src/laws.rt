@@ -3,11 +3,11 @@
 ghost use Rattle.std.specs.Prelude.{◌≡◌, ◌↔◌, ℕ, ◌-◌, ◌<◌, ◌≤◌, true, List, All, length, slice_index};
 ghost use Rattle.surf_model.specs.Walks.{IsWalk, HaveCommonEnds};
 ghost use Rattle.surf_model.specs.Moves.{Homotopic};
-ghost use Rattle.turn_words.specs.Form_laws.{led};
+ghost use Rattle.turn_words.specs.FormLaws.{led};
 ghost use Rattle.turn_words.specs.Canonical.{IsCanonicalOf};
-ghost use Rattle.turn_words.specs.Spoke_paths.{turn_word_of};
+ghost use Rattle.turn_words.specs.SpokePaths.{turn_word_of};
 ghost use Rattle.flat_forms.specs.Vectors.{origin};
-ghost use Rattle.flat_forms.specs.Flat_states.{flat_next};
+ghost use Rattle.flat_forms.specs.FlatStates.{flat_next};
 ghost use Rattle.labellings.specs.GoodLabellings.{IsGood};
 ghost use Rattle.labellings.specs.QuadPaths.{quad_path};
 ghost use Rattle.quad_system.specs.PolygonLabellings.{labelling_from, all_zero, IsFull};

@@ -2,10 +2,10 @@
 use Rattle.std.proofs.Common.{◌≡◌, ℕ, ◌+◌, ◌<◌, ◌≤◌, arith, sym, ◌∙◌, ap, ◌++◌, length, reverse}
 use Rattle.std.proofs.lemmas.List.{reverse-reverse, length-reverse}
 use Rattle.turn_words.specs.Canonical.{IsCanonical}
-use Rattle.turn_words.specs.Put_turns.{Put}
-use Rattle.turn_words.specs.Lemmas.From_end.{good-from-canonical}
+use Rattle.turn_words.specs.PutTurns.{Put}
+use Rattle.turn_words.specs.Lemmas.FromEnd.{good-from-canonical}
 use Rattle.turn_words.proofs.Reading.{IsSound, state}
-use Rattle.settling.specs.Turn_rows.{entries, put_along, IsCanonicalRow, LosesAtMost, Settles}
+use Rattle.settling.specs.TurnRows.{entries, put_along, IsCanonicalRow, LosesAtMost, Settles}
 use Rattle.settling.proofs.Rows.{along, along-is, upto, reverse-upto}
 use Rattle.settling.proofs.Settling.{within_budget}
 use Rattle.settling.proofs.Losses.{loses-at-most}

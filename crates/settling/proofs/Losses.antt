@@ -3,17 +3,17 @@
 use Rattle.std.proofs.Common.{◌≡◌, ℕ, ◌+◌, ◌<◌, ◌≤◌, inl, inr, arith, refl, sym, ◌∙◌, ap, zero, suc, List, [], ◌∷◌, ◌++◌, length, reverse}
 use Rattle.std.proofs.lemmas.List.{length-reverse, append-nil}
 use Rattle.turn_words.specs.Modulo.{add, minus}
-use Rattle.turn_words.specs.Put_turns.{Put, put}
-use Rattle.turn_words.specs.Step_table.{next_changed}
+use Rattle.turn_words.specs.PutTurns.{Put, put}
+use Rattle.turn_words.specs.StepTable.{next_changed}
 use Rattle.turn_words.specs.Lemmas.Sums.{add-cases, minus-cases, add-lt, minus-lt}
 use Rattle.turn_words.specs.Lemmas.Lists.{InRange}
-use Rattle.turn_words.specs.Lemmas.Word_ends.{IsGood, good-cons, good-head, good-tail}
-use Rattle.turn_words.specs.Lemmas.Put_laws.{put-good, put-put}
-use Rattle.turn_words.specs.Lemmas.From_end.{in-range-reverse}
-use Rattle.turn_words.specs.Lemmas.Hyper_laws.{length-put}
+use Rattle.turn_words.specs.Lemmas.WordEnds.{IsGood, good-cons, good-head, good-tail}
+use Rattle.turn_words.specs.Lemmas.PutLaws.{put-good, put-put}
+use Rattle.turn_words.specs.Lemmas.FromEnd.{in-range-reverse}
+use Rattle.turn_words.specs.Lemmas.HyperLaws.{length-put}
 use Rattle.turn_words.proofs.Reading.{read, IsSound, state}
 use Rattle.turn_words.proofs.Reaching.{read-append, read-good, read-reached, keeps-steps, start-sound}
-use Rattle.settling.specs.Turn_rows.{entries, IsCanonicalRow}
+use Rattle.settling.specs.TurnRows.{entries, IsCanonicalRow}
 use Rattle.settling.proofs.Rows.{along, upto, upto-cons, reverse-upto}
 use Rattle.settling.proofs.Settling.{upto-shut, row-follows}
 

@@ -2,13 +2,13 @@
 use Rattle.std.proofs.Common.{◌≡◌, ℕ, ◌+◌, ◌<◌, ◌≤◌, inl, inr, arith, refl, sym, ◌∙◌, ap, ap₂, zero, suc, true, List, [], ◌∷◌, ◌++◌, length, reverse}
 use Rattle.std.proofs.lemmas.List.{reverse-reverse, append-nil}
 use Rattle.turn_words.specs.Modulo.{add, minus}
-use Rattle.turn_words.specs.Put_turns.{Put, is_open, closed, put, put_last}
+use Rattle.turn_words.specs.PutTurns.{Put, is_open, closed, put, put_last}
 use Rattle.turn_words.specs.Lemmas.Sums.{add-cases, minus-one, minus-two}
 use Rattle.turn_words.specs.Lemmas.Lists.{reverse-next}
-use Rattle.turn_words.specs.Lemmas.Word_ends.{IsCons, open-cases, put-flip, put-close, put-else}
-use Rattle.turn_words.specs.Lemmas.Put_laws.{cases, spur, flip, close, other}
+use Rattle.turn_words.specs.Lemmas.WordEnds.{IsCons, open-cases, put-flip, put-close, put-else}
+use Rattle.turn_words.specs.Lemmas.PutLaws.{cases, spur, flip, close, other}
 use Rattle.turn_words.proofs.Reading.{IsSound, state, put-sound}
-use Rattle.settling.specs.Turn_rows.{entries, put_along}
+use Rattle.settling.specs.TurnRows.{entries, put_along}
 
 -- the words along a row, read from their end
 abbrev pub along : ℕ → Put → (ℕ → ℕ) → ℕ → Put

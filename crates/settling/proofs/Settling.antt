@@ -3,12 +3,12 @@ use Rattle.std.proofs.Common.{◌≡◌, ℕ, ◌+◌, ◌*◌, ◌-◌, ◌<◌
 use Rattle.std.proofs.Math.Nat.{mul-le-mul_left}
 use Rattle.std.proofs.lemmas.Bool.{cases_eq, cases_lt}
 use Rattle.turn_words.specs.Modulo.{add, minus}
-use Rattle.turn_words.specs.Put_turns.{Put, is_open, put}
+use Rattle.turn_words.specs.PutTurns.{Put, is_open, put}
 use Rattle.turn_words.specs.Lemmas.Sums.{add-zero}
-use Rattle.turn_words.specs.Lemmas.Word_ends.{Follows, IsCons, open-two, open-other, put-else}
-use Rattle.turn_words.specs.Lemmas.Hyper_laws.{length-put}
+use Rattle.turn_words.specs.Lemmas.WordEnds.{Follows, IsCons, open-two, open-other, put-else}
+use Rattle.turn_words.specs.Lemmas.HyperLaws.{length-put}
 use Rattle.turn_words.proofs.Reading.{IsSound, state}
-use Rattle.settling.specs.Turn_rows.{IsCanonicalRow}
+use Rattle.settling.specs.TurnRows.{IsCanonicalRow}
 use Rattle.settling.proofs.Rows.{along, upto, upto-cons, Grown, plain, turned, grown, longer-cons, one-more}
 
 module _ (d n : ℕ) (row : ℕ → ℕ) (five : 5 ≤ d) (canonical : IsCanonicalRow d n row) where

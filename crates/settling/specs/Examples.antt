@@ -1,7 +1,7 @@
 -- What the definitions give, on rows of turns over the degree 8.
 use Rattle.std.specs.Prelude.{◌≡◌, ℕ, [], ◌∷◌, refl}
 use Rattle.turn_words.specs.Modulo.{add, minus}
-use Rattle.settling.specs.Turn_rows.{entries, put_along}
+use Rattle.settling.specs.TurnRows.{entries, put_along}
 
 -- a row that is the same turn everywhere
 abbrev pub always : ℕ → ℕ → ℕ

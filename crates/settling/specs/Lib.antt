@@ -1,2 +1,2 @@
-pub mod Turn_rows
+pub mod TurnRows
 pub mod Examples

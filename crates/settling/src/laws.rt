@@ -2,8 +2,8 @@
 //! the law.
 ghost use Rattle.std.specs.Prelude.{◌≡◌, ◌+◌, ◌<◌, ◌≤◌, ℕ, List, length};
 ghost use Rattle.turn_words.specs.Canonical.{IsCanonical};
-ghost use Rattle.turn_words.specs.Put_turns.{Put};
-ghost use Rattle.settling.specs.Turn_rows.{put_along, IsCanonicalRow, LosesAtMost, Settles};
+ghost use Rattle.turn_words.specs.PutTurns.{Put};
+ghost use Rattle.settling.specs.TurnRows.{put_along, IsCanonicalRow, LosesAtMost, Settles};
 
 /// Where a canonical row loses few entries, it settles soon.
 pub fn row_settles_within_its_losses()

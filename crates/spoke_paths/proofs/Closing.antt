@@ -6,9 +6,9 @@ use Rattle.std.proofs.lemmas.Bool.{cases_eq, cases_lt}
 use Rattle.std.proofs.lemmas.List.Edits.{get_or-remove_below, get_or-remove_above, length-remove}
 use Rattle.turn_words.specs.Modulo.{add, minus}
 use Rattle.turn_words.specs.Wheels.{IsWheel}
-use Rattle.turn_words.specs.Spoke_paths.{place_round}
+use Rattle.turn_words.specs.SpokePaths.{place_round}
 use Rattle.turn_words.specs.Lemmas.Sums.{add-cases, minus-cases, add-lt, minus-lt, add-zero}
-use Rattle.spoke_paths.specs.Path_turns.{from_vertex, turn_of, Opens, IsTurnedOver, IsClosed}
+use Rattle.spoke_paths.specs.PathTurns.{from_vertex, turn_of, Opens, IsTurnedOver, IsClosed}
 use Rattle.spoke_paths.proofs.Turning.{from-next, not-not}
 
 -- what is known while the quads are gone round: the turn at `at` still closes, or is 0 where the bracket opened

@@ -5,7 +5,7 @@ use Rattle.std.specs.List.{remove}
 use Rattle.std.proofs.lemmas.Bool.{eq-eqb}
 use Rattle.std.proofs.lemmas.List.{append-nil, take_all, drop_all}
 use Rattle.std.proofs.lemmas.Option.{option_and_then_some}
-use Rattle.spoke_paths.specs.Path_steps.{spur_goes, from_spoke, after_path_step, after_path_steps, PathLeads}
+use Rattle.spoke_paths.specs.PathSteps.{spur_goes, from_spoke, after_path_step, after_path_steps, PathLeads}
 use Rattle.spoke_paths.specs.declared.step.PathStep.{PathStep}
 
 pub leads-more : (places : List ℕ) (steps : List PathStep) (step : PathStep) (begin path next : List ℕ)

@@ -1,10 +1,10 @@
-pub mod Reduced_turns
-pub mod Steps_keep
-pub mod Reduced_plane
+pub mod ReducedTurns
+pub mod StepsKeep
+pub mod ReducedPlane
 pub mod Ways
 pub mod Turning
 pub mod Closing
 pub mod Leading
 pub mod Shortening
-pub mod Leaving_nothing
+pub mod LeavingNothing
 pub mod Placing

@@ -3,10 +3,10 @@ use Rattle.std.proofs.Common.{◌≡◌, ℕ, zero, suc, ◌+◌, ◌<◌, Bool,
 use Rattle.std.specs.Prelude.{if◌then◌else◌}
 use Rattle.std.specs.List.{remove}
 use Rattle.turn_words.specs.Modulo.{add}
-use Rattle.turn_words.specs.Form_laws.{IsQuad}
-use Rattle.spoke_paths.specs.Path_steps.{upper_way, lower_way, quad_turned, spur_goes, from_spoke}
-use Rattle.spoke_paths.specs.Path_turns.{from_vertex}
-use Rattle.spoke_paths.proofs.Steps_keep.{mapped-is, turned-is, becomes-is, spur-is}
+use Rattle.turn_words.specs.FormLaws.{IsQuad}
+use Rattle.spoke_paths.specs.PathSteps.{upper_way, lower_way, quad_turned, spur_goes, from_spoke}
+use Rattle.spoke_paths.specs.PathTurns.{from_vertex}
+use Rattle.spoke_paths.proofs.StepsKeep.{mapped-is, turned-is, becomes-is, spur-is}
 use Rattle.spoke_paths.proofs.Turning.{turned}
 use Rattle.spoke_paths.proofs.Turning.{turned-is as end-is}
 

@@ -7,10 +7,10 @@ use Rattle.std.proofs.lemmas.List.{length_push, get_or_append_left, drop_all, ap
 use Rattle.std.proofs.lemmas.Bool.{cases_eq, cases_lt, eq-eqb, ne_eqb}
 use Rattle.turn_words.specs.Modulo.{add, minus}
 use Rattle.turn_words.specs.Wheels.{IsWheel}
-use Rattle.turn_words.specs.Spoke_paths.{place_round, turns_after, turn_word_of}
+use Rattle.turn_words.specs.SpokePaths.{place_round, turns_after, turn_word_of}
 use Rattle.turn_words.specs.Lemmas.Sums.{add-cases, minus-cases, add-lt, minus-lt}
-use Rattle.spoke_paths.specs.Reduced_words.{closes, HasNoBracket, IsReduced}
-use Rattle.spoke_paths.specs.Path_turns.{from_vertex, turn_of, Opens, EndsNothing, IsShort, IsClosed}
+use Rattle.spoke_paths.specs.ReducedWords.{closes, HasNoBracket, IsReduced}
+use Rattle.spoke_paths.specs.PathTurns.{from_vertex, turn_of, Opens, EndsNothing, IsShort, IsClosed}
 use Rattle.spoke_paths.proofs.Turning.{from-next}
 use Rattle.spoke_paths.proofs.Closing.{Signs, signs-of}
 

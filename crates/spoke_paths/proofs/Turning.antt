@@ -5,10 +5,10 @@ use Rattle.std.proofs.lemmas.Bool.{cases_eq, eq-eqb, ne_eqb}
 use Rattle.std.proofs.lemmas.List.{length-set, get_or-set_same, get_or-set_other}
 use Rattle.turn_words.specs.Modulo.{minus}
 use Rattle.turn_words.specs.Wheels.{IsWheel}
-use Rattle.turn_words.specs.Spoke_paths.{place_round}
-use Rattle.spoke_paths.specs.Path_steps.{is_quad, upper_way, lower_way, two_become, quad_turned, from_spoke}
-use Rattle.spoke_paths.specs.Path_turns.{from_vertex, HasQuads, IsTurnedOver}
-use Rattle.spoke_paths.proofs.Steps_keep.{quad-is}
+use Rattle.turn_words.specs.SpokePaths.{place_round}
+use Rattle.spoke_paths.specs.PathSteps.{is_quad, upper_way, lower_way, two_become, quad_turned, from_spoke}
+use Rattle.spoke_paths.specs.PathTurns.{from_vertex, HasQuads, IsTurnedOver}
+use Rattle.spoke_paths.proofs.StepsKeep.{quad-is}
 use Rattle.spoke_paths.proofs.Ways.{changes}
 
 pub from-next : (n : ℕ) → from_vertex (suc n) ≡ not (from_vertex n)

@@ -3,12 +3,12 @@ use Rattle.std.proofs.Common.{◌≡◌, ℕ, ◌<◌, ◌≤◌, arith, refl, s
 use Rattle.std.specs.Prelude.{if◌then◌else◌}
 use Rattle.std.proofs.lemmas.Bool.{eq-eqb, lt-ltb, and_from}
 use Rattle.turn_words.specs.Modulo.{add, minus}
-use Rattle.turn_words.specs.Form_laws.{IsQuad}
+use Rattle.turn_words.specs.FormLaws.{IsQuad}
 use Rattle.turn_words.specs.Wheels.{IsWheel}
-use Rattle.turn_words.specs.Spoke_paths.{place_round}
+use Rattle.turn_words.specs.SpokePaths.{place_round}
 use Rattle.turn_words.specs.Lemmas.Sums.{add-cases, minus-cases, add-lt, minus-lt}
-use Rattle.spoke_paths.specs.Path_steps.{is_quad, upper_way, lower_way}
-use Rattle.spoke_paths.specs.Path_turns.{HasQuads}
+use Rattle.spoke_paths.specs.PathSteps.{is_quad, upper_way, lower_way}
+use Rattle.spoke_paths.specs.PathTurns.{HasQuads}
 
 quad-true : (places : List ℕ) (a c : ℕ) → IsQuad places a c → is_quad places a c ≡ true
 quad-true places a c q =

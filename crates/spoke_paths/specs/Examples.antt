@@ -1,7 +1,7 @@
 -- What the definitions give.
 use Rattle.std.specs.Prelude.{◌≡◌, ℕ, true, false, List, [], ◌∷◌, refl, Some, None}
 use Rattle.turn_words.specs.Modulo.{add, minus}
-use Rattle.spoke_paths.specs.Path_steps.{is_quad, after_path_step, after_path_steps}
+use Rattle.spoke_paths.specs.PathSteps.{is_quad, after_path_step, after_path_steps}
 use Rattle.spoke_paths.specs.declared.step.PathStep.TheVariants.{Spur, Turn}
 
 -- the places of a torus with four sides

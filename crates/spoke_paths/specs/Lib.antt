@@ -1,4 +1,4 @@
-pub mod Path_steps
-pub mod Reduced_words
-pub mod Path_turns
+pub mod PathSteps
+pub mod ReducedWords
+pub mod PathTurns
 pub mod Examples

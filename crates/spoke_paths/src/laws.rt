@@ -1,13 +1,13 @@
 //! What holds of paths of spokes, said of the definitions. A call of one of these functions does nothing; its
 //! contract is the law.
 ghost use Rattle.std.specs.Prelude.{◌≡◌, ◌<◌, ℕ, List, [], All, length};
-ghost use Rattle.turn_words.specs.Form_laws.{led};
-ghost use Rattle.turn_words.specs.Hyper_states.{empty_state, hyper_next, IsHyperWheel};
-ghost use Rattle.turn_words.specs.Spoke_paths.{turn_word_of};
+ghost use Rattle.turn_words.specs.FormLaws.{led};
+ghost use Rattle.turn_words.specs.HyperStates.{empty_state, hyper_next, IsHyperWheel};
+ghost use Rattle.turn_words.specs.SpokePaths.{turn_word_of};
 ghost use Rattle.flat_forms.specs.Vectors.{origin};
-ghost use Rattle.flat_forms.specs.Flat_states.{flat_next, IsFlatWheel};
-ghost use Rattle.spoke_paths.specs.Path_steps.{PathLeads};
-ghost use Rattle.spoke_paths.specs.Reduced_words.{IsReduced};
+ghost use Rattle.flat_forms.specs.FlatStates.{flat_next, IsFlatWheel};
+ghost use Rattle.spoke_paths.specs.PathSteps.{PathLeads};
+ghost use Rattle.spoke_paths.specs.ReducedWords.{IsReduced};
 ghost use Rattle.spoke_paths.specs.declared.step.PathStep.{PathStep};
 
 use turn_words::Form;

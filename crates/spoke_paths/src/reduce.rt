@@ -3,10 +3,10 @@ ghost use Rattle.std.specs.Prelude.{◌≡◌, ◌+◌, ◌-◌, ◌<◌, ◌≤
 ghost use Rattle.std.specs.Prelude.{if◌then◌else◌, OnOk, IfOk};
 ghost use Rattle.turn_words.specs.Modulo.{minus};
 ghost use Rattle.turn_words.specs.Wheels.{IsWheel};
-ghost use Rattle.turn_words.specs.Spoke_paths.{turn_word_of};
-ghost use Rattle.spoke_paths.specs.Path_steps.{PathLeads};
-ghost use Rattle.spoke_paths.specs.Path_turns.{turn_of, Opens, EndsNothing, IsShort, HasQuads, IsClosed, LeadsOn};
-ghost use Rattle.spoke_paths.specs.Reduced_words.{IsReduced};
+ghost use Rattle.turn_words.specs.SpokePaths.{turn_word_of};
+ghost use Rattle.spoke_paths.specs.PathSteps.{PathLeads};
+ghost use Rattle.spoke_paths.specs.PathTurns.{turn_of, Opens, EndsNothing, IsShort, HasQuads, IsClosed, LeadsOn};
+ghost use Rattle.spoke_paths.specs.ReducedWords.{IsReduced};
 
 use crate::step::PathStep;
 use crate::turn::{opening, turn_at, turn_over};

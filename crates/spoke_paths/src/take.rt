@@ -1,6 +1,6 @@
 //! Steps taken on a path of spokes.
 ghost use Rattle.std.specs.Prelude.{◌≡◌, ◌<◌, [], ◌∷◌, ℕ, List, length, Some, if◌then◌else◌};
-ghost use Rattle.spoke_paths.specs.Path_steps.{upper_way, lower_way, after_path_step};
+ghost use Rattle.spoke_paths.specs.PathSteps.{upper_way, lower_way, after_path_step};
 
 use crate::step::PathStep;
 use crate::turn::next_number;

@@ -3,9 +3,9 @@ ghost use Rattle.std.specs.Prelude.{◌≡◌, ◌+◌, ◌-◌, ◌<◌, ◌≤
 ghost use Rattle.std.specs.Prelude.{All, length, slice_index, true, if◌then◌else◌, Some, MatchOption};
 ghost use Rattle.turn_words.specs.Modulo.{add, minus};
 ghost use Rattle.turn_words.specs.Wheels.{IsWheel};
-ghost use Rattle.turn_words.specs.Spoke_paths.{place_round};
-ghost use Rattle.spoke_paths.specs.Path_steps.{is_quad, upper_way, lower_way, after_path_step};
-ghost use Rattle.spoke_paths.specs.Path_turns.{turn_of, Opens, HasQuads, IsTurnedOver};
+ghost use Rattle.turn_words.specs.SpokePaths.{place_round};
+ghost use Rattle.spoke_paths.specs.PathSteps.{is_quad, upper_way, lower_way, after_path_step};
+ghost use Rattle.spoke_paths.specs.PathTurns.{turn_of, Opens, HasQuads, IsTurnedOver};
 
 use crate::step::PathStep;
 use surf_model::Spoke;

@@ -3,12 +3,12 @@ use Rattle.std.proofs.Common.{◌≡◌, ℕ, ◌+◌, ◌-◌, ◌%◌, ◌<◌
 use Rattle.std.proofs.Math.Seq.{drop-append_seam, take-append_seam}
 use Rattle.std.proofs.lemmas.List.{length-append}
 use Rattle.std.proofs.lemmas.List.Elements.{All-take, All-drop}
-use Rattle.spoke_rings.specs.Cyclic_words.{IsLoop}
-use Rattle.spoke_rings.specs.Loop_steps.{LoopLeads}
+use Rattle.spoke_rings.specs.CyclicWords.{IsLoop}
+use Rattle.spoke_rings.specs.LoopSteps.{LoopLeads}
 use Rattle.spoke_rings.specs.Private.Rings.{RingView, from_vertex, ring_turn, Acts, Shortens}
 use Rattle.spoke_rings.proofs.Along.{rotated, rotated-length}
 use Rattle.spoke_rings.proofs.Leading.{leads-nowhere, leads-same, leads-on, spur-leaves, turned-round}
-use Rattle.spoke_rings.proofs.Ring_turns.{turn-rotated, loop-rotated}
+use Rattle.spoke_rings.proofs.RingTurns.{turn-rotated, loop-rotated}
 use Rattle.spoke_rings.proofs.Pushing.{two-ends, last-apart, from-seam}
 
 abbrev ring : List ℕ → Bool → RingView

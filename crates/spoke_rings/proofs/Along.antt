@@ -3,7 +3,7 @@ use Rattle.std.proofs.Common.{◌≡◌, ℕ, ◌+◌, ◌-◌, ◌<◌, ◌≤�
 use Rattle.std.proofs.Math.Nat.{add-mod_right, mod-eq_of_lt}
 use Rattle.std.proofs.lemmas.Bool.{cases_lt}
 use Rattle.std.proofs.lemmas.List.{get_or-drop, get_or-take, get_or_append_left, get_or-append_right, length-append, length-drop, length-take-le}
-use Rattle.spoke_rings.specs.Cyclic_words.{spoke_along}
+use Rattle.spoke_rings.specs.CyclicWords.{spoke_along}
 
 pub along-first : (s : List ℕ) (k : ℕ) → k < length s → spoke_along s k ≡ get_or s k 0
 along-first s k below = ap (λ i. get_or s i 0) (mod-eq_of_lt below)

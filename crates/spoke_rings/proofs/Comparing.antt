@@ -2,7 +2,7 @@
 use Rattle.std.proofs.Common.{◌≡◌, ℕ, ◌+◌, ◌-◌, ◌*◌, ◌/◌, ◌%◌, ◌<◌, ◌≤◌, inl, inr, arith, refl, sym, ◌∙◌, ap, List, length}
 use Rattle.std.proofs.lemmas.Bool.{cases_lt}
 use Rattle.std.proofs.lemmas.Grind.{same_number_lists}
-use Rattle.spoke_rings.specs.Cyclic_words.{spoke_along}
+use Rattle.spoke_rings.specs.CyclicWords.{spoke_along}
 use Rattle.spoke_rings.specs.Rotations.{IsRotation}
 use Rattle.spoke_rings.proofs.Along.{along-first, along-round, same-rows, rotated, rotated-length, rotated-along}
 use Rattle.spoke_rings.proofs.Least.{from, Greater, least-start}

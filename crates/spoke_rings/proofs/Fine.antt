@@ -5,10 +5,10 @@ use Rattle.std.proofs.lemmas.Bool.{cases_eq, cases_lt}
 use Rattle.turn_words.specs.Modulo.{add, minus}
 use Rattle.turn_words.specs.Lemmas.Sums.{add-cases, add-lt, minus-lt}
 use Rattle.spoke_paths.proofs.Ways.{up-one, less-one}
-use Rattle.settling.specs.Turn_rows.{IsCanonicalRow}
-use Rattle.spoke_rings.specs.Cyclic_words.{IsLoop, IsFullWheel, turn_along, cyclic_turn, spoke_along, stands_before}
+use Rattle.settling.specs.TurnRows.{IsCanonicalRow}
+use Rattle.spoke_rings.specs.CyclicWords.{IsLoop, IsFullWheel, turn_along, cyclic_turn, spoke_along, stands_before}
 use Rattle.spoke_rings.specs.Private.Rings.{IsFine}
-use Rattle.spoke_rings.proofs.Ring_turns.{turn_at, turn-round, turn-seam, turn-behind, spoke-below, place-below}
+use Rattle.spoke_rings.proofs.RingTurns.{turn_at, turn-round, turn-seam, turn-behind, spoke-below, place-below}
 
 -- the turns from a place on
 abbrev pub turns_from : (ℕ → ℕ) → ℕ → ℕ → ℕ

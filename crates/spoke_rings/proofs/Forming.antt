@@ -3,14 +3,14 @@ use Rattle.std.proofs.Common.{◌≡◌, ℕ, ◌<◌, ◌≤◌, inl, inr, arit
 use Rattle.std.specs.Prelude.{if◌then◌else◌}
 use Rattle.std.proofs.lemmas.Bool.{cases_eq}
 use Rattle.turn_words.specs.Modulo.{minus}
-use Rattle.spoke_rings.specs.Cyclic_words.{IsLoop, IsFullWheel, IsCyclicallyCanonical, turn_along, cyclic_turn}
-use Rattle.spoke_rings.specs.Loop_steps.{LoopLeads}
+use Rattle.spoke_rings.specs.CyclicWords.{IsLoop, IsFullWheel, IsCyclicallyCanonical, turn_along, cyclic_turn}
+use Rattle.spoke_rings.specs.LoopSteps.{LoopLeads}
 use Rattle.spoke_rings.specs.Private.Rings.{RingView, ring_turn, from_vertex, Acts, IsFineRing, TurnsOver}
 use Rattle.spoke_rings.proofs.Along.{rotated, same-rows}
-use Rattle.spoke_rings.proofs.Ring_turns.{turn-round}
+use Rattle.spoke_rings.proofs.RingTurns.{turn-round}
 use Rattle.spoke_rings.proofs.Acting.{acts-on}
 use Rattle.spoke_rings.proofs.Fine.{canonical-turns}
-use Rattle.spoke_rings.proofs.Turning_over.{at-vertex, twos-canonical}
+use Rattle.spoke_rings.proofs.TurningOver.{at-vertex, twos-canonical}
 
 -- a cyclically canonical ring at the vertex, to which steps lead
 pub record Form (places : List ℕ) (start ring : RingView) : Type 0 where

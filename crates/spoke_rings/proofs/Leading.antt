@@ -5,9 +5,9 @@ use Rattle.std.proofs.Math.Seq.{drop-append_seam, take-append_seam}
 use Rattle.std.proofs.lemmas.Bool.{eq-eqb, lt-ltb, and_from}
 use Rattle.std.proofs.lemmas.List.{length-append}
 use Rattle.turn_words.specs.Modulo.{add}
-use Rattle.turn_words.specs.Form_laws.{IsQuad}
-use Rattle.spoke_paths.specs.Path_steps.{is_quad, from_spoke, spur_goes}
-use Rattle.spoke_rings.specs.Loop_steps.{LoopStep, spur_out, spur_in, across, rotate, spur_comes, after_loop_step, after_loop_steps, LoopLeads}
+use Rattle.turn_words.specs.FormLaws.{IsQuad}
+use Rattle.spoke_paths.specs.PathSteps.{is_quad, from_spoke, spur_goes}
+use Rattle.spoke_rings.specs.LoopSteps.{LoopStep, spur_out, spur_in, across, rotate, spur_comes, after_loop_step, after_loop_steps, LoopLeads}
 
 module _ (places : List ℕ) where
   -- no steps, one step, and steps after steps

@@ -9,6 +9,6 @@ pub mod Fine
 pub mod Weights
 pub mod Closing
 pub mod Reducing
-pub mod Turning_over
+pub mod TurningOver
 pub mod Forming
-pub mod Ring_turns
+pub mod RingTurns

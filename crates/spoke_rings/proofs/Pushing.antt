@@ -5,15 +5,15 @@ use Rattle.std.proofs.lemmas.Grind.{same_number_lists}
 use Rattle.std.proofs.lemmas.Bool.{cases_eq}
 use Rattle.std.proofs.lemmas.List.{length-append, get_or_append_left}
 use Rattle.turn_words.specs.Modulo.{add, minus}
-use Rattle.turn_words.specs.Form_laws.{IsQuad}
-use Rattle.turn_words.specs.Spoke_paths.{place_round}
+use Rattle.turn_words.specs.FormLaws.{IsQuad}
+use Rattle.turn_words.specs.SpokePaths.{place_round}
 use Rattle.turn_words.specs.Lemmas.Sums.{add-cases, minus-cases, minus-one, add-lt, minus-lt}
-use Rattle.spoke_rings.specs.Cyclic_words.{stands_before, turn_along, IsLoop, IsFullWheel}
-use Rattle.spoke_rings.specs.Loop_steps.{LoopLeads}
+use Rattle.spoke_rings.specs.CyclicWords.{stands_before, turn_along, IsLoop, IsFullWheel}
+use Rattle.spoke_rings.specs.LoopSteps.{LoopLeads}
 use Rattle.spoke_rings.specs.Private.Rings.{RingView, Pushes, TurnsPushed, one_on, from_vertex, ring_turn, Acts}
 use Rattle.spoke_paths.proofs.Ways.{up-one, down-one, less-one, more-one, turn-up, turn-down}
 use Rattle.spoke_rings.proofs.Leading.{leads-same, leads-on, quad-down, quad-up, seam-down, seam-up}
-use Rattle.spoke_rings.proofs.Ring_turns.{turn_at, turn-seam, turn-behind, stands-odd, place-below, spoke-below}
+use Rattle.spoke_rings.proofs.RingTurns.{turn_at, turn-seam, turn-behind, stands-odd, place-below, spoke-below}
 
 -- a list with two ends
 pub record Ends (s : List ℕ) : Type 0 where

@@ -2,11 +2,11 @@
 use Rattle.std.proofs.Common.{◌≡◌, ◌≢◌, ℕ, ◌+◌, ◌-◌, ◌*◌, ◌<◌, ◌≤◌, ◌⊎◌, inl, inr, arith, refl, sym, ◌∙◌, ap, ap₂, subst, suc, Bool, true, false, List, length, get_or}
 use Rattle.std.proofs.lemmas.Bool.{cases_eq, cases_lt}
 use Rattle.turn_words.specs.Modulo.{add, minus}
-use Rattle.turn_words.specs.Spoke_paths.{place_round}
+use Rattle.turn_words.specs.SpokePaths.{place_round}
 use Rattle.turn_words.specs.Lemmas.Sums.{add-cases, minus-cases, minus-one}
-use Rattle.spoke_rings.specs.Cyclic_words.{IsLoop, IsFullWheel}
+use Rattle.spoke_rings.specs.CyclicWords.{IsLoop, IsFullWheel}
 use Rattle.spoke_rings.specs.Private.Rings.{RingView, ring_turn, Acts, Pushes, Rises, Shortens, IsBracket, IsFine, IsFineRing, turns_sum}
-use Rattle.spoke_rings.proofs.Ring_turns.{turn-round, turn-seam, spoke-below, place-below}
+use Rattle.spoke_rings.proofs.RingTurns.{turn-round, turn-seam, spoke-below, place-below}
 use Rattle.spoke_rings.proofs.Pushing.{push-acts, push-turns}
 use Rattle.spoke_rings.proofs.Acting.{WentOn, acts-on, acts-start}
 use Rattle.spoke_rings.proofs.Fine.{turns_from, fine-same, fine-everywhere, turn-in}

@@ -2,8 +2,8 @@
 use Rattle.std.specs.Prelude.{◌≡◌, false, [], ◌∷◌, refl, Some, None, map}
 use Rattle.turn_words.specs.Modulo.{add, minus}
 use Rattle.turn_words.specs.Examples.{double_torus}
-use Rattle.spoke_rings.specs.Cyclic_words.{cyclic_turn}
-use Rattle.spoke_rings.specs.Loop_steps.{after_loop_step, after_loop_steps, spur_out, spur_in, across, rotate}
+use Rattle.spoke_rings.specs.CyclicWords.{cyclic_turn}
+use Rattle.spoke_rings.specs.LoopSteps.{after_loop_step, after_loop_steps, spur_out, spur_in, across, rotate}
 
 -- the cyclic turns of a closed list, twice round
 pub the_turns : map (cyclic_turn double_torus (3 ∷ 4 ∷ 4 ∷ 2 ∷ [])) (0 ∷ 1 ∷ 2 ∷ 3 ∷ 4 ∷ 5 ∷ 6 ∷ 7 ∷ [])

@@ -1,5 +1,5 @@
-pub mod Cyclic_words
-pub mod Loop_steps
+pub mod CyclicWords
+pub mod LoopSteps
 pub mod Rotations
 pub mod Examples
 pub mod Private

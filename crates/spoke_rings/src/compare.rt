@@ -1,6 +1,6 @@
 //! Closed lists of spokes are compared up to where they start.
 ghost use Rattle.std.specs.Prelude.{◌≡◌, ◌+◌, ◌<◌, ◌≤◌, ◌%◌, ◌^◌, ◌↔◌, length, IsTrue};
-ghost use Rattle.spoke_rings.specs.Cyclic_words.{spoke_along};
+ghost use Rattle.spoke_rings.specs.CyclicWords.{spoke_along};
 ghost use Rattle.spoke_rings.specs.Rotations.{IsRotation};
 
 /// Tells whether two closed lists of spokes are one, but for the spoke from the vertex at which each starts. It takes

@@ -1,7 +1,7 @@
 //! A closed list of spokes is brought to a cyclically canonical one.
 ghost use Rattle.std.specs.Prelude.{◌≡◌, ℕ, ◌<◌, ◌≤◌, length, IfOk};
-ghost use Rattle.spoke_rings.specs.Cyclic_words.{IsLoop, IsFullWheel, IsCyclicallyCanonical};
-ghost use Rattle.spoke_rings.specs.Loop_steps.{LoopLeads};
+ghost use Rattle.spoke_rings.specs.CyclicWords.{IsLoop, IsFullWheel, IsCyclicallyCanonical};
+ghost use Rattle.spoke_rings.specs.LoopSteps.{LoopLeads};
 
 use crate::ring::Ring;
 use std::alloc::{AllocError, Global};

@@ -1,8 +1,8 @@
 //! A closed list of spokes while it is worked on. All work is done at the seam, between the last spoke and the first.
 ghost use Rattle.std.specs.Prelude.{◌≡◌, ◌≢◌, ℕ, ◌+◌, ◌-◌, ◌<◌, ◌≤◌, ◌%◌, ◌↔◌, ◌++◌, ◌∷◌, [], not, true, if◌then◌else◌, List, length, slice_index, take, drop, IsTrue, IfOk, OnOk};
 ghost use Rattle.turn_words.specs.Modulo.{add, minus};
-ghost use Rattle.turn_words.specs.Spoke_paths.{place_round};
-ghost use Rattle.spoke_rings.specs.Cyclic_words.{stands_before, IsLoop, IsFullWheel};
+ghost use Rattle.turn_words.specs.SpokePaths.{place_round};
+ghost use Rattle.spoke_rings.specs.CyclicWords.{stands_before, IsLoop, IsFullWheel};
 ghost use Rattle.spoke_rings.specs.Private.Rings.{ring_turn, one_on, Acts, Pushes, Rises, Shortens, IsBracket, IsFineRing, TurnsOver};
 ghost use Rattle.spoke_rings.specs.Private.Seams.{IsSeam};
 

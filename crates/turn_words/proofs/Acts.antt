@@ -2,16 +2,16 @@
 use Rattle.std.proofs.Common.{◌≡◌, ℕ, ◌<◌, arith, sym, ◌∙◌, ap, ap₂, List, [], ◌∷◌, ◌++◌, length, reverse, Option, Some}
 use Rattle.std.proofs.lemmas.List.{reverse-reverse, append-nil}
 use Rattle.turn_words.specs.Modulo.{add, minus}
-use Rattle.turn_words.specs.Put_turns.{put}
-use Rattle.turn_words.specs.Hyper_states.{HyperState, turn_to, value_at, hyper_next, BelongsTo, LeadOn}
-use Rattle.turn_words.specs.Step_table.{next_changed, after_steps}
+use Rattle.turn_words.specs.PutTurns.{put}
+use Rattle.turn_words.specs.HyperStates.{HyperState, turn_to, value_at, hyper_next, BelongsTo, LeadOn}
+use Rattle.turn_words.specs.StepTable.{next_changed, after_steps}
 use Rattle.turn_words.specs.Recorded.{with_steps, TellsMore}
-use Rattle.turn_words.specs.Private.Put_steps.{put_steps}
+use Rattle.turn_words.specs.Private.PutSteps.{put_steps}
 use Rattle.turn_words.specs.declared.step.Step.{Step}
-use Rattle.turn_words.specs.Lemmas.Put_laws.{put-good}
+use Rattle.turn_words.specs.Lemmas.PutLaws.{put-good}
 use Rattle.turn_words.proofs.Telling.{tells-steps}
 use Rattle.turn_words.proofs.Reaching.{IsNextBelow, put-reached}
-use Rattle.turn_words.specs.Lemmas.Hyper_laws.{good_word, turn_below, next_belongs}
+use Rattle.turn_words.specs.Lemmas.HyperLaws.{good_word, turn_below, next_belongs}
 
 abbrev state-of : List ℕ → ℕ → HyperState
 state-of w n = record { word = w; number = n }

@@ -3,14 +3,14 @@ use Rattle.std.proofs.Common.{◌≡◌, ℕ, ◌<◌, ◌≤◌, inl, inr, arit
 use Rattle.std.specs.Prelude.{option_map}
 use Rattle.std.proofs.lemmas.Bool.{cases_eq, eq-eqb, ne_eqb, cases_lt, lt-ltb, le-ltb}
 use Rattle.turn_words.specs.Modulo.{add, minus}
-use Rattle.turn_words.specs.Step_table.{next_changed, spur_in, spur_out, pushed, from_place, after_step, after_steps, Reaches}
+use Rattle.turn_words.specs.StepTable.{next_changed, spur_in, spur_out, pushed, from_place, after_step, after_steps, Reaches}
 use Rattle.turn_words.specs.Canonical.{IsTurnWord}
 use Rattle.turn_words.specs.declared.step.Step.{Step}
 use Rattle.turn_words.specs.declared.step.Step.TheVariants.{SpurIn, SpurOut, Push}
 use Rattle.turn_words.specs.Lemmas.Lists.{InRange}
 use Rattle.turn_words.specs.Lemmas.Sums.{add-cases, minus-cases}
-use Rattle.turn_words.specs.Lemmas.From_end.{in-range-from, all-from}
-use Rattle.turn_words.specs.Lemmas.Put_laws.{up-down, down-up}
+use Rattle.turn_words.specs.Lemmas.FromEnd.{in-range-from, all-from}
+use Rattle.turn_words.specs.Lemmas.PutLaws.{up-down, down-up}
 use Rattle.turn_words.proofs.Reading.{state, keeps-step, next-back, minus-next}
 use Rattle.turn_words.proofs.Reaching.{start-sound, after_steps-append}
 

@@ -5,7 +5,7 @@ use Rattle.std.proofs.lemmas.Bool.{cases_eq, cases_lt, cases_order, lt-ltb, le-l
 use Rattle.std.proofs.lemmas.List.{length-set, get_or-set_same, get_or-set_other}
 use Rattle.std.proofs.lemmas.List.Sums.{sum_by-set, sum_by-cons}
 use Rattle.turn_words.specs.Wheels.{IsInside, StandsTwice, IsFirstTwice, IsWheel}
-use Rattle.turn_words.specs.Private.Stored_wheels.{IsInverse}
+use Rattle.turn_words.specs.Private.StoredWheels.{IsInverse}
 
 -- 1 for a place that has a spoke
 abbrev pub filled : ℕ → ℕ → ℕ

@@ -1,7 +1,7 @@
 -- Spokes put one after another, in two lists.
 use Rattle.std.proofs.Common.{◌≡◌, ℕ, refl, sym, ◌∙◌, ap, List, [], ◌∷◌, ◌++◌, append_assoc}
 use Rattle.std.proofs.lemmas.List.{append-nil}
-use Rattle.turn_words.specs.Form_laws.{led, NotesAlong}
+use Rattle.turn_words.specs.FormLaws.{led, NotesAlong}
 use Rattle.turn_words.specs.declared.step.Step.{Step}
 
 module _ {State : Type 0} (next : List ℕ → State → ℕ → State) (places : List ℕ) where

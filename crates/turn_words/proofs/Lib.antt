@@ -4,12 +4,12 @@ pub mod Reaching
 pub mod Backward
 pub mod Unique
 pub mod Filling
-pub mod Run_lists
-pub mod Run_words
+pub mod RunLists
+pub mod RunWords
 pub mod Rewrites
 pub mod Acts
 pub mod Table
 pub mod Places
 pub mod Spokes
 pub mod Led
-pub mod Notes_along
+pub mod NotesAlong

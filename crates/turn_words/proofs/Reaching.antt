@@ -5,15 +5,15 @@ use Rattle.std.specs.Prelude.{option_map, option_and_then}
 use Rattle.std.proofs.lemmas.Bool.{cases_eq, eq-eqb, ne_eqb}
 use Rattle.std.proofs.lemmas.List.{append-nil, length-reverse}
 use Rattle.turn_words.specs.Modulo.{add, minus}
-use Rattle.turn_words.specs.Put_turns.{Put, is_open, flipped, closed, put}
-use Rattle.turn_words.specs.Private.Put_steps.{flip_steps, close_steps, put_steps}
-use Rattle.turn_words.specs.Step_table.{next_changed, spur_out, pushed, from_place, after_step, after_steps, Reaches}
+use Rattle.turn_words.specs.PutTurns.{Put, is_open, flipped, closed, put}
+use Rattle.turn_words.specs.Private.PutSteps.{flip_steps, close_steps, put_steps}
+use Rattle.turn_words.specs.StepTable.{next_changed, spur_out, pushed, from_place, after_step, after_steps, Reaches}
 use Rattle.turn_words.specs.declared.step.Step.{Step}
 use Rattle.turn_words.specs.declared.step.Step.TheVariants.{SpurOut, Push}
 use Rattle.turn_words.specs.Lemmas.Lists.{InRange, reverse-next, reverse-cons}
 use Rattle.turn_words.specs.Lemmas.Sums.{minus-one, add-zero, add_comm}
-use Rattle.turn_words.specs.Lemmas.Word_ends.{IsGood, open-cases, put-flip, put-close, put-else, good-head, good-tail, Follows}
-use Rattle.turn_words.specs.Lemmas.Put_laws.{put-back, cases, spur, flip, close, other}
+use Rattle.turn_words.specs.Lemmas.WordEnds.{IsGood, open-cases, put-flip, put-close, put-else, good-head, good-tail, Follows}
+use Rattle.turn_words.specs.Lemmas.PutLaws.{put-back, cases, spur, flip, close, other}
 use Rattle.turn_words.specs.Lemmas.Across.{two-up, one-one, one-minus, two-down, minus-minus}
 use Rattle.turn_words.proofs.Reading.{read, IsSound, Keeps, state, put-sound, keeps-step}
 

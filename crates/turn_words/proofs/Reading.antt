@@ -3,14 +3,14 @@
 use Rattle.std.proofs.Common.{◌≡◌, ℕ, ◌<◌, ◌≤◌, inl, inr, arith, refl, sym, ◌∙◌, ap, ap₂, zero, suc, true, false, List, [], ◌∷◌, Option, Some, None}
 use Rattle.std.proofs.lemmas.Bool.{cases_eq, eq-eqb, ne_eqb, cases_lt, lt-ltb, le-ltb}
 use Rattle.turn_words.specs.Modulo.{add, minus}
-use Rattle.turn_words.specs.Put_turns.{Put, put}
-use Rattle.turn_words.specs.Step_table.{next_changed, spur_in, spur_out, pushed, from_place, after_step}
+use Rattle.turn_words.specs.PutTurns.{Put, put}
+use Rattle.turn_words.specs.StepTable.{next_changed, spur_in, spur_out, pushed, from_place, after_step}
 use Rattle.turn_words.specs.declared.step.Step.{Step}
 use Rattle.turn_words.specs.declared.step.Step.TheVariants.{SpurIn, SpurOut, Push}
 use Rattle.turn_words.specs.Lemmas.Sums.{add-cases, minus-cases, minus-one, add-lt, minus-lt, zero-add, add_assoc}
 use Rattle.turn_words.specs.Lemmas.Lists.{InRange}
-use Rattle.turn_words.specs.Lemmas.Word_ends.{IsGood}
-use Rattle.turn_words.specs.Lemmas.Put_laws.{put-good, put-put}
+use Rattle.turn_words.specs.Lemmas.WordEnds.{IsGood}
+use Rattle.turn_words.specs.Lemmas.PutLaws.{put-good, put-put}
 use Rattle.turn_words.specs.Lemmas.Across.{first_side, second_side, across}
 
 -- the entries put one after another, each changed by what the one before it left

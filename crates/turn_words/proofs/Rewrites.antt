@@ -3,16 +3,16 @@ use Rattle.std.proofs.Common.{◌≡◌, ◌≢◌, ℕ, ◌+◌, ◌-◌, ◌<�
 use Rattle.std.proofs.lemmas.Bool.{eq-eqb, ne_eqb}
 use Rattle.std.proofs.lemmas.List.{append-nil, length-append, length-replicate, length-reverse}
 use Rattle.turn_words.specs.Modulo.{minus}
-use Rattle.turn_words.specs.Put_turns.{is_open, flipped, closed}
+use Rattle.turn_words.specs.PutTurns.{is_open, flipped, closed}
 use Rattle.turn_words.specs.Recorded.{with_steps}
-use Rattle.turn_words.specs.Private.Put_steps.{flip_steps, close_steps, put_steps, pushes}
-use Rattle.turn_words.specs.Private.Stored_words.{EndsOtherwise, EndsBelow, last_changed}
+use Rattle.turn_words.specs.Private.PutSteps.{flip_steps, close_steps, put_steps, pushes}
+use Rattle.turn_words.specs.Private.StoredWords.{EndsOtherwise, EndsBelow, last_changed}
 use Rattle.turn_words.specs.declared.step.Step.{Step}
 use Rattle.turn_words.specs.declared.step.Step.TheVariants.{SpurOut, Push}
 use Rattle.turn_words.specs.Lemmas.Lists.{InRange}
-use Rattle.turn_words.specs.Lemmas.Word_ends.{IsCons, open-two, open-cases}
-use Rattle.turn_words.specs.Lemmas.From_end.{in-range-from, in-range-reverse}
-use Rattle.turn_words.proofs.Run_lists.{cons-behind}
+use Rattle.turn_words.specs.Lemmas.WordEnds.{IsCons, open-two, open-cases}
+use Rattle.turn_words.specs.Lemmas.FromEnd.{in-range-from, in-range-reverse}
+use Rattle.turn_words.proofs.RunLists.{cons-behind}
 use Rattle.turn_words.proofs.Table.{flipped-table, closed-table}
 
 -- steps noted after steps

@@ -3,18 +3,18 @@ use Rattle.std.proofs.Common.{◌≡◌, ℕ, ◌+◌, ◌%◌, ◌<◌, ◌⊎�
 use Rattle.std.proofs.lemmas.Bool.{eq-eqb, ne_eqb}
 use Rattle.std.proofs.lemmas.List.{reverse-reverse}
 use Rattle.turn_words.specs.Modulo.{add, minus}
-use Rattle.turn_words.specs.Put_turns.{put}
+use Rattle.turn_words.specs.PutTurns.{put}
 use Rattle.turn_words.specs.Canonical.{IsCanonicalOf, IsTurnWord}
 use Rattle.turn_words.specs.Wheels.{IsWheel}
-use Rattle.turn_words.specs.Hyper_states.{HyperState, empty_state, value_at, turn_to, hyper_next, IsHyperWheel, BelongsTo}
-use Rattle.turn_words.specs.Form_laws.{led}
-use Rattle.turn_words.specs.Spoke_paths.{place_round, turns_after, turn_word_of}
+use Rattle.turn_words.specs.HyperStates.{HyperState, empty_state, value_at, turn_to, hyper_next, IsHyperWheel, BelongsTo}
+use Rattle.turn_words.specs.FormLaws.{led}
+use Rattle.turn_words.specs.SpokePaths.{place_round, turns_after, turn_word_of}
 use Rattle.turn_words.specs.Lemmas.Sums.{add-cases, minus-cases, add-lt, minus-lt}
-use Rattle.turn_words.specs.Lemmas.Put_laws.{put-good}
+use Rattle.turn_words.specs.Lemmas.PutLaws.{put-good}
 use Rattle.turn_words.specs.Lemmas.Lists.{InRange}
 use Rattle.turn_words.proofs.Reading.{read, state}
-use Rattle.turn_words.specs.Lemmas.From_end.{in-range-from, all-from}
-use Rattle.turn_words.specs.Lemmas.Hyper_laws.{good_word, turn_below, next_belongs, length-next, hyper_starts}
+use Rattle.turn_words.specs.Lemmas.FromEnd.{in-range-from, all-from}
+use Rattle.turn_words.specs.Lemmas.HyperLaws.{good_word, turn_below, next_belongs, length-next, hyper_starts}
 use Rattle.turn_words.proofs.Unique.{left, left-is-canonical}
 
 place-below : (places : List ℕ) (at_vertex : Bool) (i : ℕ) → IsWheel places → i < length places

@@ -3,11 +3,11 @@ use Rattle.std.proofs.Common.{◌≡◌, ◌≢◌, ℕ, ◌≤◌, inl, inr, re
 use Rattle.std.proofs.lemmas.Bool.{cases_Bool}
 use Rattle.std.proofs.lemmas.List.{reverse-append, reverse-reverse}
 use Rattle.turn_words.specs.Modulo.{add, minus}
-use Rattle.turn_words.specs.Put_turns.{Put, is_open, flipped, closed, put, put_last}
-use Rattle.turn_words.specs.Five_cases.{FiveCases}
-use Rattle.turn_words.specs.Lemmas.Word_ends.{Follows, IsCons, open-cases, open-two, flipped-run, flipped-end, closed-two, put-flip, put-close, put-else}
+use Rattle.turn_words.specs.PutTurns.{Put, is_open, flipped, closed, put, put_last}
+use Rattle.turn_words.specs.FiveCases.{FiveCases}
+use Rattle.turn_words.specs.Lemmas.WordEnds.{Follows, IsCons, open-cases, open-two, flipped-run, flipped-end, closed-two, put-flip, put-close, put-else}
 use Rattle.turn_words.specs.Lemmas.Lists.{reverse-cons}
-use Rattle.turn_words.proofs.Run_lists.{reverse-replicate}
+use Rattle.turn_words.proofs.RunLists.{reverse-replicate}
 
 -- a front, an entry and a run, read from the end
 reverse-run : (v : List ℕ) (x k y : ℕ) → reverse (v ++ x ∷ replicate k y) ≡ replicate k y ++ x ∷ reverse v

@@ -2,15 +2,15 @@
 use Rattle.std.proofs.Common.{◌≡◌, ◌↔◌, ℕ, ◌+◌, ◌<◌, ◌≤◌, arith, refl, sym, ◌∙◌, ap, ap₂, subst, zero, suc, List, [], ◌∷◌, ◌++◌, All, length, reverse, take, get_or}
 use Rattle.std.proofs.lemmas.List.{reverse-reverse, take_more, take_all}
 use Rattle.turn_words.specs.Modulo.{add}
-use Rattle.turn_words.specs.Put_turns.{put}
-use Rattle.turn_words.specs.Step_table.{Reaches}
+use Rattle.turn_words.specs.PutTurns.{put}
+use Rattle.turn_words.specs.StepTable.{Reaches}
 use Rattle.turn_words.specs.Canonical.{IsCanonical, IsCanonicalOf, IsTurnWord}
-use Rattle.turn_words.specs.Lemmas.Word_ends.{IsGood}
+use Rattle.turn_words.specs.Lemmas.WordEnds.{IsGood}
 use Rattle.turn_words.specs.Lemmas.Lists.{InRange}
 use Rattle.turn_words.proofs.Reading.{read, IsSound, state}
 use Rattle.turn_words.proofs.Backward.{both-ways}
 use Rattle.turn_words.proofs.Reaching.{reached-good, left-reached, read-sound, start-sound, after_steps-append, read-append}
-use Rattle.turn_words.specs.Lemmas.From_end.{canonical-from, good-from-canonical, in-range-from, all-from}
+use Rattle.turn_words.specs.Lemmas.FromEnd.{canonical-from, good-from-canonical, in-range-from, all-from}
 
 -- what is left of a word
 abbrev pub left : ℕ → List ℕ → List ℕ

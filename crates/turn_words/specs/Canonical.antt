@@ -1,7 +1,7 @@
 -- Canonical turn words.
 use Rattle.std.specs.Prelude.{◌≡◌, ◌≢◌, ℕ, ◌<◌, ◌≤◌, ◌==◌, Bool, false, ◌&&◌, ◌||◌, List, [], ◌∷◌, ◌++◌, replicate, All}
 use Rattle.turn_words.specs.Modulo.{minus}
-use Rattle.turn_words.specs.Step_table.{Reaches}
+use Rattle.turn_words.specs.StepTable.{Reaches}
 
 -- the entries of a word but the start direction, which is no turn
 abbrev pub turns_of : List ℕ → List ℕ

@@ -1,12 +1,12 @@
 -- What the definitions give, on words over the degrees 8 and 5 and on the wheel of a double torus.
 use Rattle.std.specs.Prelude.{◌≡◌, ℕ, true, false, List, [], ◌∷◌, refl, Option, Some, None}
 use Rattle.turn_words.specs.Modulo.{add, minus}
-use Rattle.turn_words.specs.Step_table.{after_step, after_steps}
+use Rattle.turn_words.specs.StepTable.{after_step, after_steps}
 use Rattle.turn_words.specs.Canonical.{closes_bracket}
-use Rattle.turn_words.specs.Put_turns.{Put, put_last}
-use Rattle.turn_words.specs.Hyper_states.{empty_state, hyper_next}
-use Rattle.turn_words.specs.Form_laws.{led}
-use Rattle.turn_words.specs.Spoke_paths.{turn_word_of}
+use Rattle.turn_words.specs.PutTurns.{Put, put_last}
+use Rattle.turn_words.specs.HyperStates.{empty_state, hyper_next}
+use Rattle.turn_words.specs.FormLaws.{led}
+use Rattle.turn_words.specs.SpokePaths.{turn_word_of}
 use Rattle.turn_words.specs.declared.step.Step.{Step}
 use Rattle.turn_words.specs.declared.step.Step.TheVariants.{SpurIn, SpurOut, Push}
 

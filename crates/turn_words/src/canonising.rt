@@ -1,8 +1,8 @@
 //! The canonical word that a turn word reaches.
 ghost use Rattle.std.specs.Prelude.{◌≡◌, ◌⊎◌, ℕ, ◌+◌, ◌*◌, ◌<◌, ◌≤◌, List, All, Contains, length, IfOk, MatchResult, MatchOption};
 ghost use Rattle.turn_words.specs.Canonical.{IsCanonical, IsCanonicalOf, IsTurnWord};
-ghost use Rattle.turn_words.specs.Step_table.{Reaches};
-ghost use Rattle.turn_words.specs.Word_faults.{IsFirstAbove, IsWordFaultOf};
+ghost use Rattle.turn_words.specs.StepTable.{Reaches};
+ghost use Rattle.turn_words.specs.WordFaults.{IsFirstAbove, IsWordFaultOf};
 ghost use Rattle.turn_words.specs.declared.canonising.TheConstants.{MOST_ENTRIES};
 
 use crate::counter::Steps;

@@ -1,7 +1,7 @@
 //! Forms: how the word of a walk is kept, spoke by spoke.
 ghost use Rattle.std.specs.Prelude.{◌≡◌, ℕ, ◌<◌, ◌↔◌, ⊤, List, length, IsTrue, OnOk};
 ghost use Rattle.turn_words.specs.Recorded.{TellsMore};
-ghost use Rattle.turn_words.specs.Form_laws.{StartsWell, StaysWell, ThereAndBack, AcrossQuads};
+ghost use Rattle.turn_words.specs.FormLaws.{StartsWell, StaysWell, ThereAndBack, AcrossQuads};
 ghost use Rattle.turn_words.specs.declared.step.Step.{Step};
 
 use crate::recorder::Recorder;

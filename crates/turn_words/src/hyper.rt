@@ -1,11 +1,11 @@
 //! The form for degrees from 5 on.
 ghost use Rattle.std.specs.Prelude.{◌≡◌, ◌+◌, ◌-◌, ◌^◌, ◌<◌, ◌≤◌, ⊤, All, length, reverse, IsOk, OnOk, OnErr, IfOk};
 ghost use Rattle.turn_words.specs.Canonical.{turns_of};
-ghost use Rattle.turn_words.specs.Hyper_states.{empty_state, hyper_next, value_at, BelongsTo, LeadOn};
-ghost use Rattle.turn_words.specs.Put_turns.{put};
+ghost use Rattle.turn_words.specs.HyperStates.{empty_state, hyper_next, value_at, BelongsTo, LeadOn};
+ghost use Rattle.turn_words.specs.PutTurns.{put};
 ghost use Rattle.turn_words.specs.Recorded.{TellsMore};
 ghost use Rattle.turn_words.specs.Runs.{AreRunsOf};
-ghost use Rattle.turn_words.specs.Private.Put_steps.{put_steps, rewrite_steps, StoodIn};
+ghost use Rattle.turn_words.specs.Private.PutSteps.{put_steps, rewrite_steps, StoodIn};
 
 use crate::counter::Steps;
 use crate::form::Form;
@@ -32,7 +32,7 @@ pub struct Hyper {
 
 impl Model for Hyper {
     ghost use Rattle.std.specs.Prelude.{◌+◌, ◌-◌, length};
-    ghost use Rattle.turn_words.specs.Hyper_states.{HyperView};
+    ghost use Rattle.turn_words.specs.HyperStates.{HyperView};
 
     ghost Value = { HyperView };
 
@@ -83,8 +83,8 @@ impl Hyper {
 
 impl Form for Hyper {
     ghost use Rattle.std.specs.Prelude.{◌-◌, ◌^◌, length};
-    ghost use Rattle.turn_words.specs.Hyper_states.{HyperState, empty_state, IsHyperWheel, BelongsTo, IsEven, hyper_next, LeadOn};
-    ghost use Rattle.turn_words.specs.Lemmas.Hyper_laws.{hyper_starts, hyper_stays, hyper_there_and_back, hyper_across};
+    ghost use Rattle.turn_words.specs.HyperStates.{HyperState, empty_state, IsHyperWheel, BelongsTo, IsEven, hyper_next, LeadOn};
+    ghost use Rattle.turn_words.specs.Lemmas.HyperLaws.{hyper_starts, hyper_stays, hyper_there_and_back, hyper_across};
 
     ghost State = { HyperState };
 

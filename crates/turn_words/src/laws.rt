@@ -2,11 +2,11 @@
 //! contract is the law.
 ghost use Rattle.std.specs.Prelude.{◌≡◌, ◌<◌, ◌≤◌, ◌↔◌, ◌++◌, ℕ, List, All, length, Some};
 ghost use Rattle.turn_words.specs.Canonical.{IsCanonical, IsCanonicalOf, IsTurnWord, StandsNowhere};
-ghost use Rattle.turn_words.specs.Five_cases.{FiveCases};
-ghost use Rattle.turn_words.specs.Form_laws.{led, NotesAlong};
-ghost use Rattle.turn_words.specs.Hyper_states.{empty_state, hyper_next, IsHyperWheel, LeadOn};
-ghost use Rattle.turn_words.specs.Spoke_paths.{turn_word_of};
-ghost use Rattle.turn_words.specs.Step_table.{after_steps, Reaches};
+ghost use Rattle.turn_words.specs.FiveCases.{FiveCases};
+ghost use Rattle.turn_words.specs.FormLaws.{led, NotesAlong};
+ghost use Rattle.turn_words.specs.HyperStates.{empty_state, hyper_next, IsHyperWheel, LeadOn};
+ghost use Rattle.turn_words.specs.SpokePaths.{turn_word_of};
+ghost use Rattle.turn_words.specs.StepTable.{after_steps, Reaches};
 ghost use Rattle.turn_words.specs.declared.step.Step.{Step};
 
 use crate::form::Form;

@@ -1,7 +1,7 @@
 //! The steps of a put, noted one after another.
 ghost use Rattle.std.specs.Prelude.{◌≡◌, ◌+◌, ◌<◌, ◌≤◌, ◌^◌, Bool, IsOk, OnOk, ⊤};
 ghost use Rattle.turn_words.specs.Recorded.{with_steps, TellsMore};
-ghost use Rattle.turn_words.specs.Private.Put_steps.{pushes, rewrite_steps, StoodIn};
+ghost use Rattle.turn_words.specs.Private.PutSteps.{pushes, rewrite_steps, StoodIn};
 
 use crate::put::Rewrite;
 use crate::recorder::Recorder;

@@ -2,8 +2,8 @@
 //! of the runs then need not go through memory.
 ghost use Rattle.std.specs.Prelude.{◌≡◌, ◌+◌, ◌-◌, ◌^◌, ◌<◌, ◌≤◌, true, All, length, reverse};
 ghost use Rattle.turn_words.specs.Modulo.{minus};
-ghost use Rattle.turn_words.specs.Put_turns.{is_open, flipped, closed, put};
-ghost use Rattle.turn_words.specs.Private.Put_steps.{flip_steps, close_steps, put_steps, rewrite_steps, StoodIn};
+ghost use Rattle.turn_words.specs.PutTurns.{is_open, flipped, closed, put};
+ghost use Rattle.turn_words.specs.Private.PutSteps.{flip_steps, close_steps, put_steps, rewrite_steps, StoodIn};
 ghost use Rattle.turn_words.specs.declared.put.Rewrite.TheVariants.{Flip, Close};
 
 use crate::counter::Steps;

@@ -2,7 +2,7 @@
 ghost use Rattle.std.specs.Prelude.{◌≡◌, ◌+◌, ◌<◌, ◌≤◌, [], ◌∷◌, ◌++◌, ◌^◌, List, ℕ, length, replicate, IsOk, OnOk, OnErr, IfOk, IfSome, IfNone, MatchOption};
 ghost use Rattle.std.specs.Option.{option_to_list};
 ghost use Rattle.turn_words.specs.Runs.{written, AreFilled, AreApart};
-ghost use Rattle.turn_words.specs.Private.Stored_words.{TopDiffers};
+ghost use Rattle.turn_words.specs.Private.StoredWords.{TopDiffers};
 
 use crate::counter::Steps;
 use std::alloc::{AllocError, Global};

@@ -1,9 +1,9 @@
 //! A turn word that is kept as runs, and the edits at its end.
 ghost use Rattle.std.specs.Prelude.{◌≡◌, ◌+◌, ◌^◌, ◌<◌, ◌≤◌, ◌++◌, ◌∷◌, ◌↔◌, [], length, reverse, replicate, IsOk, OnOk, OnErr, IfOk, IsTrue, vec_len, vec_capacity};
 ghost use Rattle.turn_words.specs.Canonical.{turns_of};
-ghost use Rattle.turn_words.specs.Put_turns.{is_open};
+ghost use Rattle.turn_words.specs.PutTurns.{is_open};
 ghost use Rattle.turn_words.specs.Runs.{AreRunsOf};
-ghost use Rattle.turn_words.specs.Private.Stored_words.{EndsOtherwise, EndsBelow, last_changed};
+ghost use Rattle.turn_words.specs.Private.StoredWords.{EndsOtherwise, EndsBelow, last_changed};
 
 use crate::counter::Steps;
 use crate::modulo::sum_modulo;
@@ -26,7 +26,7 @@ pub(crate) struct RunWord {
 
 impl Model for RunWord {
     ghost use Rattle.std.specs.Prelude.{◌+◌, length};
-    ghost use Rattle.turn_words.specs.Private.Stored_words.{RunWordView, IsStoredWord, word_of};
+    ghost use Rattle.turn_words.specs.Private.StoredWords.{RunWordView, IsStoredWord, word_of};
 
     ghost Value = { RunWordView };
 

@@ -1,7 +1,7 @@
 //! The order of the spokes round the one vertex.
 ghost use Rattle.std.specs.Prelude.{◌≡◌, ◌<◌, ◌≤◌, ◌^◌, ◌↔◌, length, slice_index, IfOk, MatchResult, MatchOption};
 ghost use Rattle.turn_words.specs.Wheels.{IsWheel, IsInside, IsFirstOutside};
-ghost use Rattle.turn_words.specs.Private.Stored_wheels.{IsInverse};
+ghost use Rattle.turn_words.specs.Private.StoredWheels.{IsInverse};
 ghost use Rattle.turn_words.specs.Faults.{IsFaultOf};
 
 use std::alloc::{AllocError, Global};
@@ -18,7 +18,7 @@ pub struct Wheel {
 
 impl Model for Wheel {
     ghost use Rattle.std.specs.Prelude.{List, ℕ};
-    ghost use Rattle.turn_words.specs.Private.Stored_wheels.{IsStored};
+    ghost use Rattle.turn_words.specs.Private.StoredWheels.{IsStored};
 
     ghost Value = { List ℕ };
 

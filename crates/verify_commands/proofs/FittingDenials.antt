@@ -11,7 +11,7 @@ use Rattle.turn_words.specs.declared.word.Word.{Word}
 use Rattle.turn_words.specs.declared.word.Word.TheVariants.{Turns, Flat}
 use Rattle.flat_forms.specs.Vectors.{unit_step}
 use Rattle.flat_forms.specs.Pairs.{sum_of_pairs}
-use Rattle.flat_forms.specs.Lemmas.Steps_in_the_plane.{right_one, up_one, left_one, down_one, is-unit}
+use Rattle.flat_forms.specs.Lemmas.StepsInThePlane.{right_one, up_one, left_one, down_one, is-unit}
 use Rattle.labellings.specs.Denials.{DenialHolds}
 use Rattle.labellings.specs.GoodLabellings.{IsGood}
 use Rattle.labellings.specs.Labellings.{FaceLabels, LabellingView, tail_label, head_label}

@@ -10,7 +10,7 @@ use Rattle.walk_files.specs.declared.entries.EntryFault.{EntryFault}
 use Rattle.walk_files.specs.declared.loops.LoopFault.{LoopFault}
 use Rattle.walk_files.specs.declared.loops.LoopFault.TheVariants.{NotClosed}
 use Rattle.walk_files.specs.Entries.{vertex_fault, edge_fault, first_fault, walks_fault}
-use Rattle.walk_files.specs.Closed_pairs.{IsClosedPair, of_entry, open_fault, loops_fault}
+use Rattle.walk_files.specs.ClosedPairs.{IsClosedPair, of_entry, open_fault, loops_fault}
 use Rattle.walk_files.proofs.EntryLemmas.{both_none, none_or, walk_of_none, no_vertex_fault, no_edge_fault}
 
 -- a list ends where it starts

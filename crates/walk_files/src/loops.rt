@@ -3,7 +3,7 @@ ghost use Rattle.std.specs.Prelude.{◌≡◌, ◌↔◌, ◌<◌, length, IsOk}
 ghost use Rattle.std.specs.Result.{result_err};
 ghost use Rattle.surf_model.specs.FaceLists.{FaceList};
 ghost use Rattle.surf_model.specs.Edges.{IsTableOf};
-ghost use Rattle.walk_files.specs.Closed_pairs.{IsClosedPair, loops_fault, open_fault};
+ghost use Rattle.walk_files.specs.ClosedPairs.{IsClosedPair, loops_fault, open_fault};
 
 use crate::entries::{EntryFault, check_walks};
 use crate::walk_list::WalkList;
@@ -39,7 +39,7 @@ pub fn check_loops(sides: &Sides, walks: &WalkList) -> Result<(), LoopFault>
 }
 
 impl From<EntryFault> for LoopFault {
-    ghost use Rattle.walk_files.specs.Closed_pairs.{of_entry};
+    ghost use Rattle.walk_files.specs.ClosedPairs.{of_entry};
 
     ghost from_gives = { λ entry fault. fault ≡ of_entry entry };
 

@@ -10,16 +10,16 @@ use Rattle.surf_model.specs.Moves.{Homotopic}
 use Rattle.surf_model.specs.declared.names.Spoke.{Spoke}
 use Rattle.surf_model.proofs.EdgeLemmas.{edge_swap, head_used}
 use Rattle.surf_model.proofs.TableEdgeLemmas.{table_pair}
-use Rattle.turn_words.specs.Form_laws.{led}
-use Rattle.turn_words.specs.Hyper_states.{HyperState, IsHyperWheel, BelongsTo, IsEven, empty_state, hyper_next}
-use Rattle.turn_words.specs.Lemmas.Hyper_laws.{hyper_starts, hyper_stays, hyper_there_and_back, hyper_across}
+use Rattle.turn_words.specs.FormLaws.{led}
+use Rattle.turn_words.specs.HyperStates.{HyperState, IsHyperWheel, BelongsTo, IsEven, empty_state, hyper_next}
+use Rattle.turn_words.specs.Lemmas.HyperLaws.{hyper_starts, hyper_stays, hyper_there_and_back, hyper_across}
 use Rattle.turn_words.specs.Canonical.{IsCanonicalOf}
-use Rattle.turn_words.specs.Spoke_paths.{turn_word_of}
+use Rattle.turn_words.specs.SpokePaths.{turn_word_of}
 use Rattle.turn_words.specs.declared.word.Word.TheVariants.{Turns}
 use Rattle.turn_words.proofs.Led.{led-append}
 use Rattle.turn_words.proofs.Spokes.{canonical}
 use Rattle.flat_forms.specs.Vectors.{origin}
-use Rattle.flat_forms.specs.Flat_states.{flat_next}
+use Rattle.flat_forms.specs.FlatStates.{flat_next}
 use Rattle.halfedge_map.specs.OrientedMeshes.{OrientedMesh, IsOrientedSurface}
 use Rattle.labellings.specs.Labellings.{LabellingView}
 use Rattle.labellings.specs.GoodLabellings.{IsGood}

@@ -2,7 +2,7 @@
 ghost use Rattle.std.specs.Prelude.{◌≡◌, ◌↔◌, ℕ, ◌+◌, ◌-◌, ◌*◌, ◌^◌, ◌<◌, ◌≤◌, List, length, IsTrue, OnOk, IfOk, IfSome, MatchOption};
 ghost use Rattle.surf_model.specs.Walks.{darts, IsWalk};
 ghost use Rattle.surf_model.specs.Moves.{Homotopic};
-ghost use Rattle.turn_words.specs.Form_laws.{led};
+ghost use Rattle.turn_words.specs.FormLaws.{led};
 ghost use Rattle.labellings.specs.QuadPaths.{quad_path};
 ghost use Rattle.labellings.specs.Spokes.{spoke_list};
 ghost use Rattle.walk_translate.specs.WalkPairs.{AreWalkPair};

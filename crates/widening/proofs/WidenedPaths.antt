@@ -7,7 +7,7 @@ use Rattle.surf_model.specs.Darts.{IsSide, tail_of, head_of}
 use Rattle.surf_model.specs.Surfaces.{is_flipped, start_under, end_under}
 use Rattle.surf_model.specs.declared.edges.Side.{Side}
 use Rattle.turn_words.specs.Canonical.{IsCanonicalOf}
-use Rattle.turn_words.specs.Spoke_paths.{turn_word_of}
+use Rattle.turn_words.specs.SpokePaths.{turn_word_of}
 use Rattle.turn_words.specs.declared.word.Word.{Word}
 use Rattle.turn_words.specs.declared.word.Word.TheVariants.{Turns, Flat}
 use Rattle.flat_forms.specs.Pairs.{sum_of_pairs}

@@ -1,9 +1,9 @@
 -- A closed list of spokes while it is worked on. All work is done at the seam, between its last spoke and its first.
 use Rattle.std.specs.Prelude.{◌≡◌, ◌≢◌, ◌⊎◌, ℕ, zero, suc, ◌+◌, ◌-◌, ◌<◌, ◌≤◌, Bool, not, if◌then◌else◌, List, ◌++◌, take, drop, length, slice_index}
 use Rattle.turn_words.specs.Modulo.{add, minus}
-use Rattle.turn_words.specs.Spoke_paths.{place_round}
-use Rattle.spoke_rings.specs.Cyclic_words.{turn_along, IsLoop}
-use Rattle.spoke_rings.specs.Loop_steps.{LoopLeads}
+use Rattle.turn_words.specs.SpokePaths.{place_round}
+use Rattle.spoke_rings.specs.CyclicWords.{turn_along, IsLoop}
+use Rattle.spoke_rings.specs.LoopSteps.{LoopLeads}
 
 -- the spokes from the seam on, and whether the seam stands at the vertex or in the middle
 pub record RingView : Type 0 where

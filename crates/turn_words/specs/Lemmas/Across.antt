@@ -2,10 +2,10 @@
 use Rattle.std.proofs.Common.{◌≡◌, ◌≢◌, ℕ, ◌<◌, ◌≤◌, inl, inr, arith, refl, sym, ◌∙◌, ap, subst, true, false, List, [], ◌∷◌}
 use Rattle.std.proofs.lemmas.Bool.{cases_eq, cases_Bool}
 use Rattle.turn_words.specs.Modulo.{add, minus}
-use Rattle.turn_words.specs.Put_turns.{Put, is_open, flipped, closed, put}
+use Rattle.turn_words.specs.PutTurns.{Put, is_open, flipped, closed, put}
 use Rattle.turn_words.specs.Lemmas.Sums.{add-cases, minus-one, minus-two, add-zero, zero-add, add_comm}
-use Rattle.turn_words.specs.Lemmas.Word_ends.{Follows, IsGood, IsCons, good-head, open-two, open-other, open-cases, flipped-run, flipped-end, flipped-cons, closed-two, closed-cons, put-flip, put-close, put-else}
-use Rattle.turn_words.specs.Lemmas.Put_laws.{up-down, follows-up, follows-two, follows-one, follows-minus-two}
+use Rattle.turn_words.specs.Lemmas.WordEnds.{Follows, IsGood, IsCons, good-head, open-two, open-other, open-cases, flipped-run, flipped-end, flipped-cons, closed-two, closed-cons, put-flip, put-close, put-else}
+use Rattle.turn_words.specs.Lemmas.PutLaws.{up-down, follows-up, follows-two, follows-one, follows-minus-two}
 
 -- the first side and the second side
 abbrev pub first_side : ℕ → List ℕ → ℕ → Put

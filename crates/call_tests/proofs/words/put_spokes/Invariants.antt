@@ -1,5 +1,5 @@
 use Rattle.std.proofs.Common.{◌≤◌, length}
-use Rattle.turn_words.specs.Hyper_states.{BelongsTo}
+use Rattle.turn_words.specs.HyperStates.{BelongsTo}
 use Rattle.call_tests.proofs.words.put_spokes.Given as goal
 
 -- the spokes so far

@@ -1,9 +1,9 @@
 use Rattle.std.proofs.Common.{◌≡◌, ◌<◌, ℕ, List, length, subst}
 use Rattle.std.specs.Prelude.{All}
-use Rattle.turn_words.specs.Spoke_paths.{turn_word_of}
+use Rattle.turn_words.specs.SpokePaths.{turn_word_of}
 use Rattle.turn_words.specs.declared.word.Word.TheVariants.{Turns}
-use Rattle.spoke_rings.specs.Cyclic_words.{IsLoop, IsCyclicallyCanonical}
-use Rattle.spoke_rings.specs.Loop_steps.{LoopLeads}
+use Rattle.spoke_rings.specs.CyclicWords.{IsLoop, IsCyclicallyCanonical}
+use Rattle.spoke_rings.specs.LoopSteps.{LoopLeads}
 use Rattle.labellings.specs.WalkWords.{IsWordOf}
 use Rattle.free_loops.proofs.FormLemmas.{spelled_loop, cyclic_form_is}
 use Rattle.free_loops.proofs.form.cyclic_form_of.Goals as goal

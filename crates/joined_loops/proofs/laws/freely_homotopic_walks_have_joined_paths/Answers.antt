@@ -1,4 +1,4 @@
-use Rattle.joined_loops.proofs.Free_walks.{free-joined}
+use Rattle.joined_loops.proofs.FreeWalks.{free-joined}
 use Rattle.joined_loops.proofs.laws.freely_homotopic_walks_have_joined_paths.Goals as goal
 
 pub returns : goal.returns

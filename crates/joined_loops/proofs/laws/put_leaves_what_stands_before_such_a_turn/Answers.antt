@@ -1,4 +1,4 @@
-use Rattle.joined_loops.proofs.Rounds_kept.{put-leaves}
+use Rattle.joined_loops.proofs.RoundsKept.{put-leaves}
 use Rattle.joined_loops.proofs.laws.put_leaves_what_stands_before_such_a_turn.Goals as goal
 
 pub returns : goal.returns

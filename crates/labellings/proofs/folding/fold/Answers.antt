@@ -1,6 +1,6 @@
 use Rattle.std.proofs.Common.{◌≡◌, ℕ, suc, ◌+◌, ◌<◌, ◌≤◌, List, ◌++◌, length, get_or, take, ap, sym, ◌∙◌, subst, arith}
 use Rattle.std.proofs.lemmas.List.{take_all}
-use Rattle.turn_words.specs.Form_laws.{led, NotesAlong}
+use Rattle.turn_words.specs.FormLaws.{led, NotesAlong}
 use Rattle.turn_words.specs.Recorded.{TellsMore}
 use Rattle.labellings.specs.QuadPaths.{spokes, quad_path}
 use Rattle.labellings.proofs.KeepingLemmas.{moves_keep}

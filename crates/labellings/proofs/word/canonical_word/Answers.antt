@@ -1,6 +1,6 @@
 use Rattle.std.proofs.Common.{◌≡◌, List, ℕ, length, ap, ◌∙◌, arith}
-use Rattle.turn_words.specs.Hyper_states.{HyperState, empty_state, hyper_next}
-use Rattle.turn_words.specs.Form_laws.{led}
+use Rattle.turn_words.specs.HyperStates.{HyperState, empty_state, hyper_next}
+use Rattle.turn_words.specs.FormLaws.{led}
 use Rattle.labellings.specs.QuadPaths.{quad_path}
 use Rattle.labellings.proofs.WordLemmas.{turns_word}
 use Rattle.labellings.proofs.word.canonical_word.Goals as goal

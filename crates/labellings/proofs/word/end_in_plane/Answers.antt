@@ -1,8 +1,8 @@
 use Rattle.std.proofs.Common.{◌≡◌, List, ℕ, ap, ap₂, ◌∙◌, arith, to_z, of_z, w64}
 use Rattle.std.proofs.lemmas.Int.{ints}
-use Rattle.flat_forms.specs.Flat_states.{flat_next}
+use Rattle.flat_forms.specs.FlatStates.{flat_next}
 use Rattle.flat_forms.specs.Vectors.{Vector, origin}
-use Rattle.turn_words.specs.Form_laws.{led}
+use Rattle.turn_words.specs.FormLaws.{led}
 use Rattle.labellings.specs.QuadPaths.{quad_path}
 use Rattle.labellings.proofs.WordLemmas.{vector, flat_word}
 use Rattle.labellings.proofs.word.end_in_plane.Goals as goal

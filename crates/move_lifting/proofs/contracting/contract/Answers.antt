@@ -1,5 +1,5 @@
 use Rattle.std.proofs.Common.{◌≡◌, ℕ, ◌≤◌, List, [], length, get_or, refl, ap, sym, ◌∙◌, subst, arith, Some}
-use Rattle.spoke_paths.specs.Path_steps.{after_path_step, PathLeads}
+use Rattle.spoke_paths.specs.PathSteps.{after_path_step, PathLeads}
 use Rattle.spoke_paths.specs.declared.step.PathStep.{PathStep}
 use Rattle.spoke_paths.specs.declared.step.PathStep.TheVariants.{Spur}
 use Rattle.move_lifting.specs.LoopsPutIn.{IsFreelyPath}

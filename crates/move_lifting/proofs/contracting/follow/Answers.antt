@@ -1,9 +1,9 @@
 use Rattle.std.proofs.Common.{◌≡◌, ◌⊎◌, inl, inr, ℕ, ◌+◌, ◌-◌, ◌<◌, List, length, ap, sym, ◌∙◌, subst, arith, Some}
 use Rattle.std.specs.Prelude.{All, slice_index}
 use Rattle.std.proofs.lemmas.Result.{IfOk-weaker}
-use Rattle.turn_words.specs.Form_laws.{IsQuad}
+use Rattle.turn_words.specs.FormLaws.{IsQuad}
 use Rattle.polygon_cut.specs.ShortWalks.{AreShortAround}
-use Rattle.spoke_paths.specs.Path_steps.{after_path_step}
+use Rattle.spoke_paths.specs.PathSteps.{after_path_step}
 use Rattle.spoke_paths.specs.declared.step.PathStep.{PathStep}
 use Rattle.spoke_paths.proofs.Placing.{some-turn}
 use Rattle.move_lifting.specs.LoopFronts.{spokes_in_front}

@@ -7,7 +7,7 @@ use Rattle.surf_model.specs.Walks.{IsWalk, darts}
 use Rattle.surf_model.specs.declared.names.VertexName.{VertexName}
 use Rattle.halfedge_map.specs.DartMaps.{darts_of}
 use Rattle.polygon_cut.specs.SpokeLoops.{spokes_along}
-use Rattle.spoke_paths.specs.Path_steps.{PathLeads}
+use Rattle.spoke_paths.specs.PathSteps.{PathLeads}
 use Rattle.move_lifting.specs.Contractions.{IsLedFrom}
 use Rattle.move_lifting.specs.Lifts.{LeadsAtPeak}
 use Rattle.move_lifting.specs.Tracks.{GoesOn}

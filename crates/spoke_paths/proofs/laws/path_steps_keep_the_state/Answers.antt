@@ -1,4 +1,4 @@
-use Rattle.spoke_paths.proofs.Steps_keep.{spokes-stay-below, state-stays}
+use Rattle.spoke_paths.proofs.StepsKeep.{spokes-stay-below, state-stays}
 use Rattle.spoke_paths.proofs.laws.path_steps_keep_the_state.Goals as goal
 
 pub returns-clause-below : goal.returns-clause-below

@@ -3,8 +3,8 @@ use Rattle.std.specs.Prelude.{if◌then◌else◌}
 use Rattle.std.specs.List.{remove}
 use Rattle.std.proofs.lemmas.List.Edits.{length-remove}
 use Rattle.turn_words.specs.Modulo.{minus}
-use Rattle.spoke_paths.specs.Path_steps.{PathLeads, after_path_step}
-use Rattle.spoke_paths.specs.Path_turns.{IsTurnedOver}
+use Rattle.spoke_paths.specs.PathSteps.{PathLeads, after_path_step}
+use Rattle.spoke_paths.specs.PathTurns.{IsTurnedOver}
 use Rattle.spoke_paths.specs.declared.step.PathStep.TheVariants.{Spur}
 use Rattle.spoke_paths.proofs.Closing.{closing-next, closed-is, spur-stands, below-remove, signs-of}
 use Rattle.spoke_paths.proofs.Leading.{leads-more, spur-at, written}

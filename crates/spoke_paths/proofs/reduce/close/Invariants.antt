@@ -1,7 +1,7 @@
 use Rattle.std.proofs.Common.{◌<◌, All, length}
 use Rattle.std.specs.Prelude.{if◌then◌else◌}
 use Rattle.turn_words.specs.Modulo.{minus}
-use Rattle.spoke_paths.specs.Path_turns.{LeadsOn}
+use Rattle.spoke_paths.specs.PathTurns.{LeadsOn}
 use Rattle.spoke_paths.proofs.Closing.{Closing}
 use Rattle.spoke_paths.proofs.reduce.close.Given as goal
 

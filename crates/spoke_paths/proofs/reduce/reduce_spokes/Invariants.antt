@@ -1,6 +1,6 @@
 use Rattle.std.proofs.Common.{◌≤◌, ◌<◌, ◌++◌, All, length, drop}
-use Rattle.spoke_paths.specs.Path_steps.{PathLeads}
-use Rattle.spoke_paths.specs.Path_turns.{IsShort}
+use Rattle.spoke_paths.specs.PathSteps.{PathLeads}
+use Rattle.spoke_paths.specs.PathTurns.{IsShort}
 use Rattle.spoke_paths.proofs.reduce.reduce_spokes.Given as goal
 
 abbrev pub invariant-loop-spoke : goal.invariant-loop-spoke

@@ -1,7 +1,7 @@
 use Rattle.std.proofs.Common.{◌≡◌, ◌-◌, ◌+◌, ◌≤◌, ◌++◌, true, false, arith, length, get_or, suc, sym, ◌∙◌, ap, ap₂, subst}
 use Rattle.std.specs.List.{remove}
 use Rattle.turn_words.specs.Modulo.{minus}
-use Rattle.spoke_paths.specs.Path_turns.{turn_of, Opens}
+use Rattle.spoke_paths.specs.PathTurns.{turn_of, Opens}
 use Rattle.spoke_paths.specs.declared.step.PathStep.TheVariants.{Spur}
 use Rattle.spoke_paths.proofs.Leading.{leads-more, spur-at}
 use Rattle.spoke_paths.proofs.Shortening.{short-closed, short-more, turns-below, equal-by-turn, spur-short, minus-is}

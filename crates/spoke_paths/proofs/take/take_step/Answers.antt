@@ -1,7 +1,7 @@
 use Rattle.std.proofs.Common.{◌≡◌, ℕ, ◌<◌, List, [], ◌∷◌, length, ap, sym, ◌∙◌, subst, arith, Some}
 use Rattle.std.specs.List.{remove}
-use Rattle.spoke_paths.specs.Path_steps.{after_path_step}
-use Rattle.spoke_paths.specs.Path_turns.{from_vertex}
+use Rattle.spoke_paths.specs.PathSteps.{after_path_step}
+use Rattle.spoke_paths.specs.PathTurns.{from_vertex}
 use Rattle.spoke_paths.specs.declared.step.PathStep.{PathStep}
 use Rattle.spoke_paths.proofs.Placing.{new_way, AreTakenOut, spur-taken, turn-written, some-turn}
 use Rattle.spoke_paths.proofs.take.take_step.Goals as goal

@@ -1,5 +1,5 @@
 use Rattle.std.proofs.Common.{◌≡◌, ℕ, ◌-◌, ◌<◌, ◌≤◌, length}
-use Rattle.spoke_paths.specs.Path_turns.{turn_of}
+use Rattle.spoke_paths.specs.PathTurns.{turn_of}
 use Rattle.spoke_paths.proofs.turn.opening.Given as goal
 
 abbrev pub invariant-loop-at : goal.invariant-loop-at

@@ -1,4 +1,4 @@
-use Rattle.spoke_paths.proofs.Steps_keep.{quad-is}
+use Rattle.spoke_paths.proofs.StepsKeep.{quad-is}
 use Rattle.spoke_paths.proofs.Ways.{lower-from-vertex, upper-from-vertex, lower-from-middle, upper-from-middle}
 use Rattle.spoke_paths.proofs.turn.other_way.Goals as goal
 

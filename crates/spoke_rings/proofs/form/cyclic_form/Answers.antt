@@ -1,5 +1,5 @@
 use Rattle.std.proofs.Common.{◌≤◌, length, arith, refl, ap, sym, subst}
-use Rattle.spoke_rings.specs.Cyclic_words.{IsLoop, IsCyclicallyCanonical}
+use Rattle.spoke_rings.specs.CyclicWords.{IsLoop, IsCyclicallyCanonical}
 use Rattle.spoke_rings.proofs.Forming.{Form, form-of, form-over, form-leads, loop-now, all-turns}
 use Rattle.spoke_rings.proofs.form.cyclic_form.Goals as goal
 use Rattle.spoke_rings.proofs.form.cyclic_form.Goals.{then-len-gt0+then-all_fall+in_ok-turn_over, else-len-gt0, else-len-gt0-via-then-len-gt0+else-all_fall, else-len-gt0-via-else-len-gt0}

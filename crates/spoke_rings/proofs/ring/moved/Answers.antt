@@ -1,6 +1,6 @@
 use Rattle.std.proofs.Common.{◌≡◌, length, ap, ◌∙◌, ◌-◌, arith}
 use Rattle.turn_words.specs.Modulo.{add}
-use Rattle.turn_words.specs.Spoke_paths.{place_round}
+use Rattle.turn_words.specs.SpokePaths.{place_round}
 use Rattle.spoke_rings.proofs.Places.{moved-on, moved-round}
 use Rattle.spoke_rings.proofs.ring.moved.Goals as goal
 use Rattle.spoke_rings.proofs.ring.moved.Goals.{then-place-room, else-place-room}

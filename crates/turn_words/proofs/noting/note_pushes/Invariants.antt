@@ -1,6 +1,6 @@
 use Rattle.std.proofs.Common.{◌≡◌, ◌-◌}
 use Rattle.turn_words.specs.Recorded.{with_steps, TellsMore}
-use Rattle.turn_words.specs.Private.Put_steps.{pushes}
+use Rattle.turn_words.specs.Private.PutSteps.{pushes}
 use Rattle.turn_words.proofs.noting.note_pushes.Given as goal
 
 abbrev pub invariant-loop-k : goal.invariant-loop-k

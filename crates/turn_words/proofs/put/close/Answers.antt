@@ -1,6 +1,6 @@
 use Rattle.std.proofs.Common.{arith, ◌∙◌, ap, sym, ◌++◌, reverse, replicate}
 use Rattle.std.proofs.lemmas.List.{length-reverse}
-use Rattle.turn_words.specs.Private.Stored_words.{last_changed}
+use Rattle.turn_words.specs.Private.StoredWords.{last_changed}
 use Rattle.turn_words.specs.Lemmas.Sums.{minus-one}
 use Rattle.turn_words.proofs.Rewrites.{before-below, open-ends, changed-some, close-written, close-noted}
 use Rattle.turn_words.proofs.put.close.Goals as goal

@@ -1,7 +1,7 @@
 use Rattle.std.proofs.Common.{◌≡◌, ◌∙◌, ap, sym, subst, ◌++◌, reverse, replicate}
 use Rattle.std.proofs.lemmas.List.{length-reverse}
 use Rattle.turn_words.specs.Modulo.{minus}
-use Rattle.turn_words.specs.Private.Stored_words.{EndsOtherwise}
+use Rattle.turn_words.specs.Private.StoredWords.{EndsOtherwise}
 use Rattle.turn_words.proofs.Rewrites.{behind-below, flip-written, flip-noted}
 use Rattle.turn_words.proofs.put.flip.Goals as goal
 

@@ -1,6 +1,6 @@
 use Rattle.std.proofs.Common.{rules, sym, ◌∙◌}
-use Rattle.flat_forms.specs.Flat_states.{IsEven}
-use Rattle.flat_forms.specs.Lemmas.Steps_in_the_plane.{next-even, next-odd}
+use Rattle.flat_forms.specs.FlatStates.{IsEven}
+use Rattle.flat_forms.specs.Lemmas.StepsInThePlane.{next-even, next-odd}
 use Rattle.flat_forms.proofs.Within.{sums-within, differences-within}
 use Rattle.flat_forms.proofs.flat.FlatForm.act.Goals as goal
 

@@ -1,9 +1,9 @@
 use Rattle.std.proofs.Common.{◌≡◌, ◌-◌, suc, true, length, arith, sym, subst, ◌∙◌, ap}
 use Rattle.turn_words.specs.Modulo.{add}
-use Rattle.turn_words.specs.Spoke_paths.{place_round}
+use Rattle.turn_words.specs.SpokePaths.{place_round}
 use Rattle.spoke_rings.proofs.Acting.{went-forward, took-out}
 use Rattle.spoke_rings.proofs.Reducing.{spur-spokes}
-use Rattle.spoke_rings.proofs.Turning_over.{Turning, turning-begins, turning-next, turning-spur, turning-end}
+use Rattle.spoke_rings.proofs.TurningOver.{Turning, turning-begins, turning-next, turning-spur, turning-end}
 use Rattle.spoke_rings.proofs.ring.Ring.turn_over.Goals as goal
 
 pub loop-left-init : goal.loop-left-init

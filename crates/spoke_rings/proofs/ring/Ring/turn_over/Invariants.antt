@@ -1,4 +1,4 @@
-use Rattle.spoke_rings.proofs.Turning_over.{Turning}
+use Rattle.spoke_rings.proofs.TurningOver.{Turning}
 use Rattle.spoke_rings.proofs.ring.Ring.turn_over.Given as goal
 
 abbrev pub invariant-loop-left : goal.invariant-loop-left

@@ -1,9 +1,9 @@
 use Rattle.std.proofs.Common.{arith, ◌≡◌, ◌∙◌, ap, ap₂, sym, length, reverse}
 use Rattle.turn_words.specs.Modulo.{add, minus}
-use Rattle.turn_words.specs.Put_turns.{put}
+use Rattle.turn_words.specs.PutTurns.{put}
 use Rattle.turn_words.specs.Recorded.{with_steps}
-use Rattle.turn_words.specs.Private.Put_steps.{put_steps, rewrite_steps}
-use Rattle.turn_words.specs.Hyper_states.{HyperView, turn_to, value_at}
+use Rattle.turn_words.specs.Private.PutSteps.{put_steps, rewrite_steps}
+use Rattle.turn_words.specs.HyperStates.{HyperView, turn_to, value_at}
 use Rattle.turn_words.proofs.Acts.{notes-put, change-below, belongs-next}
 use Rattle.turn_words.proofs.hyper.HyperForm.act.Goals as goal
 

@@ -1,6 +1,6 @@
 use Rattle.std.proofs.Common.{◌+◌, ◌∙◌, ap, sym, subst, ◌++◌, replicate}
 use Rattle.turn_words.specs.Runs.{AreApart}
-use Rattle.turn_words.proofs.Run_lists.{apart-push, written-joined}
+use Rattle.turn_words.proofs.RunLists.{apart-push, written-joined}
 use Rattle.turn_words.proofs.run_stack.RunStack.join.Goals as goal
 
 pub returns-clause-written : goal.returns-clause-written

@@ -1,5 +1,5 @@
 use Rattle.turn_words.specs.Runs.{AreFilled}
-use Rattle.turn_words.proofs.Run_lists.{popped-filled}
+use Rattle.turn_words.proofs.RunLists.{popped-filled}
 use Rattle.turn_words.proofs.run_stack.RunStack.pop.Goals as goal
 
 pub invariant_of-self : goal.invariant_of-self

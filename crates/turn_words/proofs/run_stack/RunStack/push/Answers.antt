@@ -1,5 +1,5 @@
 use Rattle.turn_words.specs.Runs.{AreFilled}
-use Rattle.turn_words.proofs.Run_lists.{filled-push}
+use Rattle.turn_words.proofs.RunLists.{filled-push}
 use Rattle.turn_words.proofs.run_stack.RunStack.push.Goals as goal
 
 pub invariant_of-self-2 : goal.invariant_of-self-2

@@ -1,8 +1,8 @@
 use Rattle.std.proofs.Common.{◌≡◌, ◌∙◌, ℕ, ap, sym, subst, ◌++◌, replicate}
 use Rattle.std.proofs.lemmas.List.{same_from_push}
 use Rattle.turn_words.specs.Runs.{written, AreFilled, AreApart}
-use Rattle.turn_words.specs.Private.Stored_words.{TopDiffers}
-use Rattle.turn_words.proofs.Run_lists.{filled-front, apart-front, top-differs, written-push}
+use Rattle.turn_words.specs.Private.StoredWords.{TopDiffers}
+use Rattle.turn_words.proofs.RunLists.{filled-front, apart-front, top-differs, written-push}
 use Rattle.turn_words.proofs.run_stack.RunStack.take_run.Goals as goal
 
 pub returns-then-top-value-clause-differs : goal.returns-then-top-value-clause-differs

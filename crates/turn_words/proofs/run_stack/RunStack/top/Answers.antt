@@ -1,6 +1,6 @@
 use Rattle.std.proofs.Common.{arith, ◌-◌, ◌<◌, ◌∙◌, sym, ap, length, take}
 use Rattle.turn_words.specs.Runs.{RunStackView}
-use Rattle.turn_words.proofs.Run_lists.{last-run}
+use Rattle.turn_words.proofs.RunLists.{last-run}
 use Rattle.turn_words.proofs.run_stack.RunStack.top.Goals as goal
 
 pub returns-clause-top : goal.returns-clause-top

@@ -1,7 +1,7 @@
 use Rattle.std.proofs.Common.{arith, ◌≡◌, ◌≢◌, ◌-◌, ◌∙◌, ap, sym, subst, ◌∷◌, ◌++◌, reverse, replicate}
-use Rattle.turn_words.specs.Private.Stored_words.{RunWordView, word_of, EndsBelow, last_changed}
-use Rattle.turn_words.proofs.Run_lists.{back}
-use Rattle.turn_words.proofs.Run_words.{last-of, changed-inside, changed-alone, under-short, under-apart, add-differs}
+use Rattle.turn_words.specs.Private.StoredWords.{RunWordView, word_of, EndsBelow, last_changed}
+use Rattle.turn_words.proofs.RunLists.{back}
+use Rattle.turn_words.proofs.RunWords.{last-of, changed-inside, changed-alone, under-short, under-apart, add-differs}
 use Rattle.turn_words.proofs.run_word.RunWord.change_last.Goals as goal
 
 pub sum_modulo-changed-requires-clause-a_below : goal.sum_modulo-changed-requires-clause-a_below

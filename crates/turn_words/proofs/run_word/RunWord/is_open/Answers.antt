@@ -1,8 +1,8 @@
 use Rattle.std.proofs.Common.{arith, ◌≡◌, ◌≢◌, ◌<◌, ◌-◌, ◌∙◌, ℕ, ap, sym, eqb, reverse, length, get_or, List}
 use Rattle.std.proofs.lemmas.Bool.{lt-leb}
-use Rattle.turn_words.specs.Put_turns.{is_open}
-use Rattle.turn_words.specs.Private.Stored_words.{RunWordView, word_of}
-use Rattle.turn_words.proofs.Run_words.{open-at-one, open-at-none, open-at-start, open-at-two}
+use Rattle.turn_words.specs.PutTurns.{is_open}
+use Rattle.turn_words.specs.Private.StoredWords.{RunWordView, word_of}
+use Rattle.turn_words.proofs.RunWords.{open-at-one, open-at-none, open-at-start, open-at-two}
 use Rattle.turn_words.proofs.run_word.RunWord.is_open.Goals as goal
 
 -- the value of the run on top

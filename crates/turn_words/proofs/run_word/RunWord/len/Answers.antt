@@ -1,6 +1,6 @@
 use Rattle.std.proofs.Common.{arith, ap, length}
-use Rattle.turn_words.specs.Private.Stored_words.{RunWordView}
-use Rattle.turn_words.proofs.Run_words.{runs-few, word-length}
+use Rattle.turn_words.specs.Private.StoredWords.{RunWordView}
+use Rattle.turn_words.proofs.RunWords.{runs-few, word-length}
 use Rattle.turn_words.proofs.run_word.RunWord.len.Goals as goal
 
 pub returns-clause-runs : goal.returns-clause-runs

@@ -1,5 +1,5 @@
 use Rattle.std.proofs.Common.{arith}
-use Rattle.turn_words.proofs.Run_words.{runs-few}
+use Rattle.turn_words.proofs.RunWords.{runs-few}
 use Rattle.turn_words.proofs.run_word.RunWord.reserve.Goals as goal
 
 pub overflow_sub-runs : goal.overflow_sub-runs

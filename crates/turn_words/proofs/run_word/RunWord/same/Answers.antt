@@ -1,8 +1,8 @@
 use Rattle.std.proofs.Common.{◌≡◌, ◌⊎◌, ◌∙◌, ap, sym, inl, inr}
 use Rattle.std.proofs.lemmas.Bool.{eqb-true}
 use Rattle.std.proofs.lemmas.Slice.Eq.{slice_eq-Decides}
-use Rattle.turn_words.specs.Private.Stored_words.{RunWordView, word_of}
-use Rattle.turn_words.proofs.Run_words.{pair-decides, same-words, same-runs}
+use Rattle.turn_words.specs.Private.StoredWords.{RunWordView, word_of}
+use Rattle.turn_words.proofs.RunWords.{pair-decides, same-words, same-runs}
 use Rattle.turn_words.proofs.run_word.RunWord.same.Goals as goal
 use Rattle.turn_words.proofs.run_word.RunWord.same.Goals.{then-self-other+then-self-eq0, then-self-other+else-self-eq0, else-self-other}
 

@@ -1,7 +1,7 @@
 use Rattle.std.proofs.Common.{arith, ◌<◌, ◌-◌, ap, sym, subst, length}
-use Rattle.turn_words.specs.Private.Stored_words.{RunWordView, EndsOtherwise}
-use Rattle.turn_words.proofs.Run_lists.{ends-otherwise}
-use Rattle.turn_words.proofs.Run_words.{reverse-some, taken-off, word-length}
+use Rattle.turn_words.specs.Private.StoredWords.{RunWordView, EndsOtherwise}
+use Rattle.turn_words.proofs.RunLists.{ends-otherwise}
+use Rattle.turn_words.proofs.RunWords.{reverse-some, taken-off, word-length}
 use Rattle.turn_words.proofs.run_word.RunWord.take_run.Goals as goal
 
 pub returns-clause-whole : goal.returns-clause-whole

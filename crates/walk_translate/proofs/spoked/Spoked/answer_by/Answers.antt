@@ -1,5 +1,5 @@
 use Rattle.std.proofs.Common.{◌≡◌, ℕ, true, false, List, refl, ap, sym, ◌∙◌, subst, arith}
-use Rattle.turn_words.specs.Form_laws.{led}
+use Rattle.turn_words.specs.FormLaws.{led}
 use Rattle.labellings.specs.QuadPaths.{quad_path}
 use Rattle.walk_translate.specs.WalkPairs.{AreWalkPair}
 use Rattle.walk_translate.proofs.DecidingLemmas.{equal_decides, unequal_decides}

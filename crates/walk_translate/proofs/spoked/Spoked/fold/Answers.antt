@@ -2,7 +2,7 @@ use Rattle.std.proofs.Common.{◌≡◌, ℕ, suc, ◌+◌, ◌<◌, ◌≤◌, 
 use Rattle.std.proofs.lemmas.List.{take_all}
 use Rattle.surf_model.specs.FaceLists.{is_edge, is_used}
 use Rattle.surf_model.specs.Edges.{IsTableOf}
-use Rattle.turn_words.specs.Form_laws.{led}
+use Rattle.turn_words.specs.FormLaws.{led}
 use Rattle.labellings.specs.QuadPaths.{spokes, quad_path}
 use Rattle.labellings.specs.Spokes.{spoke_list}
 use Rattle.labellings.specs.GoodLabellings.{IsGood}

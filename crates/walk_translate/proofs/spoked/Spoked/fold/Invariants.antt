@@ -1,6 +1,6 @@
 use Rattle.std.proofs.Common.{◌≡◌, ℕ, suc, ◌+◌, ◌*◌, ◌<◌, ◌≤◌, true, get_or, take}
 use Rattle.surf_model.specs.FaceLists.{is_edge}
-use Rattle.turn_words.specs.Form_laws.{led}
+use Rattle.turn_words.specs.FormLaws.{led}
 use Rattle.labellings.specs.QuadPaths.{quad_path}
 use Rattle.walk_translate.proofs.spoked.Spoked.fold.Given as goal
 

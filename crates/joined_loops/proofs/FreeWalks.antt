@@ -4,23 +4,23 @@ use Rattle.std.specs.Prelude.{Some, option_and_then}
 use Rattle.surf_model.specs.FaceLists.{FaceList, IsFaceList}
 use Rattle.surf_model.specs.Moves.{apply_all}
 use Rattle.surf_model.proofs.ContextLemmas.{first_answer}
-use Rattle.turn_words.specs.Form_laws.{led}
-use Rattle.turn_words.specs.Hyper_states.{IsEven, hyper_next, BelongsTo}
-use Rattle.turn_words.specs.Lemmas.Hyper_laws.{hyper_stays, hyper_there_and_back, hyper_across}
+use Rattle.turn_words.specs.FormLaws.{led}
+use Rattle.turn_words.specs.HyperStates.{IsEven, hyper_next, BelongsTo}
+use Rattle.turn_words.specs.Lemmas.HyperLaws.{hyper_stays, hyper_there_and_back, hyper_across}
 use Rattle.labellings.specs.Labellings.{LabellingView}
 use Rattle.labellings.specs.GoodLabellings.{IsGood}
 use Rattle.labellings.specs.QuadPaths.{quad_path}
 use Rattle.labellings.proofs.FoldLemmas.{PutLaws}
 use Rattle.labellings.proofs.KeepingLemmas.{moves_keep}
-use Rattle.spoke_rings.specs.Cyclic_words.{IsFullWheel, IsCyclicallyCanonical}
-use Rattle.spoke_rings.specs.Loop_steps.{LoopLeads}
+use Rattle.spoke_rings.specs.CyclicWords.{IsFullWheel, IsCyclicallyCanonical}
+use Rattle.spoke_rings.specs.LoopSteps.{LoopLeads}
 use Rattle.spoke_rings.specs.Rotations.{IsRotation}
 use Rattle.closed_walks.specs.FreeHomotopy.{IsClosedWalk, FreeStep, Moved, Rotated, after_free, after_all_free, FreelyHomotopic}
-use Rattle.joined_loops.specs.Joined_lists.{Joined}
+use Rattle.joined_loops.specs.JoinedLists.{Joined}
 use Rattle.joined_loops.proofs.Joining.{same-joined, joined-itself, joined-back, joined-on}
 use Rattle.joined_loops.proofs.Stepping.{leads-loop, leads-joined}
 use Rattle.joined_loops.proofs.Rotating.{joined-rotations}
-use Rattle.joined_loops.proofs.Closed_paths.{quad-loop, goes-last, step-closed}
+use Rattle.joined_loops.proofs.ClosedPaths.{quad-loop, goes-last, step-closed}
 
 -- spokes put on one wheel meet the two laws
 hyper-laws : (places : List ℕ) → PutLaws places hyper_next (BelongsTo places) IsEven

@@ -2,8 +2,8 @@
 -- the spoke before it.
 use Rattle.std.specs.Prelude.{◌≡◌, ◌≢◌, ℕ, ◌+◌, ◌-◌, ◌<◌, ◌≤◌, ◌%◌, ◌==◌, Bool, List, ◌++◌, length, slice_index}
 use Rattle.turn_words.specs.Modulo.{add, minus}
-use Rattle.turn_words.specs.Spoke_paths.{place_round}
-use Rattle.spoke_paths.specs.Path_steps.{PathLeads}
+use Rattle.turn_words.specs.SpokePaths.{place_round}
+use Rattle.spoke_paths.specs.PathSteps.{PathLeads}
 use Rattle.spoke_paths.specs.declared.step.PathStep.{PathStep}
 
 -- the spoke with this number leads from the vertex to the middle

@@ -3,11 +3,11 @@ use Rattle.std.proofs.Common.{◌≡◌, ℕ, ◌<◌, inl, inr, arith, refl, sy
 use Rattle.std.proofs.lemmas.Bool.{cases_eq}
 use Rattle.std.proofs.lemmas.Int.{ints}
 use Rattle.turn_words.specs.Modulo.{add, minus}
-use Rattle.turn_words.specs.Form_laws.{IsQuad, StartsWell, StaysWell, ThereAndBack, AcrossQuads}
+use Rattle.turn_words.specs.FormLaws.{IsQuad, StartsWell, StaysWell, ThereAndBack, AcrossQuads}
 use Rattle.turn_words.specs.Lemmas.Sums.{add-cases, add-lt}
 use Rattle.flat_forms.specs.Vectors.{Vector, origin, plus, less, unit_step}
-use Rattle.flat_forms.specs.Flat_states.{parity, IsEven, IsFlatWheel, flat_next, size_of}
-use Rattle.flat_forms.specs.Lemmas.Steps_in_the_plane.{is-unit, parity-less, less-plus, plus-less, size-plus, size-less, next-even, next-odd, next-next, vertex-again}
+use Rattle.flat_forms.specs.FlatStates.{parity, IsEven, IsFlatWheel, flat_next, size_of}
+use Rattle.flat_forms.specs.Lemmas.StepsInThePlane.{is-unit, parity-less, less-plus, plus-less, size-plus, size-less, next-even, next-odd, next-next, vertex-again}
 
 pub flat_starts : StartsWell IsFlatWheel (λ places _. IsFlatWheel places) IsEven size_of origin
 flat_starts = record { belongs = λ places own. own; at_vertex = refl; size_zero = refl }

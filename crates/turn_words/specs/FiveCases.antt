@@ -1,7 +1,7 @@
 -- How a turn is put at the end of a word, as a table over the five cases, with the word written from its start.
 use Rattle.std.specs.Prelude.{◌≡◌, ◌≢◌, ℕ, List, [], ◌∷◌, ◌++◌, replicate}
 use Rattle.turn_words.specs.Modulo.{add, minus}
-use Rattle.turn_words.specs.Put_turns.{put_last}
+use Rattle.turn_words.specs.PutTurns.{put_last}
 
 -- the word ends in `x 1 2^k`, with that 1 a turn
 pub record EndsOpen (word : List ℕ) : Type 0 where

@@ -3,16 +3,16 @@ use Rattle.std.proofs.Common.{◌≡◌, ◌≢◌, ℕ, ◌+◌, ◌*◌, ◌�
 use Rattle.std.proofs.lemmas.Bool.{cases_Bool}
 use Rattle.std.proofs.lemmas.List.{append-nil, reverse-append, reverse-reverse, length-reverse, take-append-le}
 use Rattle.turn_words.specs.Modulo.{minus}
-use Rattle.turn_words.specs.Put_turns.{is_open, put, put_last}
-use Rattle.turn_words.specs.Five_cases.{EndsOpen}
-use Rattle.turn_words.specs.Form_laws.{led}
-use Rattle.turn_words.specs.Hyper_states.{HyperState, empty_state, hyper_next}
+use Rattle.turn_words.specs.PutTurns.{is_open, put, put_last}
+use Rattle.turn_words.specs.FiveCases.{EndsOpen}
+use Rattle.turn_words.specs.FormLaws.{led}
+use Rattle.turn_words.specs.HyperStates.{HyperState, empty_state, hyper_next}
 use Rattle.turn_words.specs.Lemmas.Lists.{reverse-next}
-use Rattle.turn_words.specs.Lemmas.Word_ends.{open-cases}
+use Rattle.turn_words.specs.Lemmas.WordEnds.{open-cases}
 use Rattle.turn_words.proofs.Led.{led-append}
-use Rattle.settling.specs.Turn_rows.{IsCanonicalRow}
-use Rattle.spoke_rings.specs.Cyclic_words.{IsLoop, IsFullWheel, cyclic_turn}
-use Rattle.joined_loops.specs.Joined_lists.{repeated}
+use Rattle.settling.specs.TurnRows.{IsCanonicalRow}
+use Rattle.spoke_rings.specs.CyclicWords.{IsLoop, IsFullWheel, cyclic_turn}
+use Rattle.joined_loops.specs.JoinedLists.{repeated}
 use Rattle.joined_loops.proofs.Times.{times}
 use Rattle.joined_loops.proofs.Keeping.{EndsIn, ends-later, put-keeps}
 use Rattle.joined_loops.proofs.Going.{gone, gone-round}

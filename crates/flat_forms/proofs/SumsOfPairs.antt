@@ -1,11 +1,11 @@
 -- Pairs of spokes lead from the vertex by the sum of their steps.
 use Rattle.std.proofs.Common.{◌≡◌, ℕ, arith, refl, ◌∙◌, ap, ap₂, List, [], ◌∷◌, ℤ}
 use Rattle.std.proofs.lemmas.Int.{ints}
-use Rattle.turn_words.specs.Form_laws.{led}
+use Rattle.turn_words.specs.FormLaws.{led}
 use Rattle.flat_forms.specs.Vectors.{Vector, origin, plus, less, unit_step}
-use Rattle.flat_forms.specs.Flat_states.{IsEven, flat_next}
+use Rattle.flat_forms.specs.FlatStates.{IsEven, flat_next}
 use Rattle.flat_forms.specs.Pairs.{spokes_of, sum_of_pairs}
-use Rattle.flat_forms.specs.Lemmas.Steps_in_the_plane.{next-next, vertex-again}
+use Rattle.flat_forms.specs.Lemmas.StepsInThePlane.{next-next, vertex-again}
 
 abbrev vector : ℤ → ℤ → Vector
 vector x y = record { x = x; y = y }

@@ -2,9 +2,9 @@
 -- degree is the length of that list.
 use Rattle.std.specs.Prelude.{◌≡◌, ℕ, ◌<◌, ◌≤◌, ◌%◌, ◌==◌, if◌then◌else◌, List, [], ◌∷◌, ◌++◌, length, slice_index, Some}
 use Rattle.turn_words.specs.Modulo.{add, minus}
-use Rattle.turn_words.specs.Step_table.{after_steps}
+use Rattle.turn_words.specs.StepTable.{after_steps}
 use Rattle.turn_words.specs.Canonical.{IsCanonical}
-use Rattle.turn_words.specs.Put_turns.{Put, put_last}
+use Rattle.turn_words.specs.PutTurns.{Put, put_last}
 use Rattle.turn_words.specs.Wheels.{IsWheel}
 use Rattle.turn_words.specs.declared.step.Step.{Step}
 

@@ -2,7 +2,7 @@
 -- canonical word.
 use Rattle.std.specs.Prelude.{◌≡◌, ◌≢◌, ℕ, ◌+◌, ◌*◌, ◌<◌, ◌≤◌, zero, suc, List, [], ◌∷◌, ◌++◌, length}
 use Rattle.turn_words.specs.Modulo.{add, minus}
-use Rattle.turn_words.specs.Put_turns.{Put, put_last}
+use Rattle.turn_words.specs.PutTurns.{Put, put_last}
 
 -- some entries of a row, from a place on
 abbrev pub entries : (ℕ → ℕ) → ℕ → ℕ → List ℕ

@@ -1,7 +1,7 @@
 -- The laws of the form with one state.
 use Rattle.std.proofs.Common.{refl, arith}
 use Rattle.turn_words.specs.Wheels.{IsWheel}
-use Rattle.turn_words.specs.Form_laws.{StartsWell, StaysWell, ThereAndBack, AcrossQuads}
+use Rattle.turn_words.specs.FormLaws.{StartsWell, StaysWell, ThereAndBack, AcrossQuads}
 
 pub point_starts : StartsWell {State = Unit {0}} IsWheel (λ places _. IsWheel places) (λ _. Unit {0}) (λ _. 0) tt
 point_starts = record { belongs = λ places own. own; at_vertex = tt; size_zero = refl }

@@ -4,9 +4,9 @@ use Rattle.std.specs.List.{AllByRecursion}
 use Rattle.std.proofs.lemmas.Bool.{cases_eq, cases_Bool, ne_eqb}
 use Rattle.std.proofs.lemmas.List.{append-nil, reverse-reverse}
 use Rattle.std.proofs.lemmas.List.Elements.{recursion_from_All, All-nil, All-cons}
-use Rattle.turn_words.specs.Put_turns.{is_open}
+use Rattle.turn_words.specs.PutTurns.{is_open}
 use Rattle.turn_words.specs.Canonical.{turns_of, closes_bracket, AreReduced, IsCanonical}
-use Rattle.turn_words.specs.Lemmas.Word_ends.{IsGood, open-cases, open-two}
+use Rattle.turn_words.specs.Lemmas.WordEnds.{IsGood, open-cases, open-two}
 use Rattle.turn_words.specs.Lemmas.Lists.{InRange, reverse-next}
 
 pub in-range-from : (d : ℕ) (w : List ℕ) → All (λ entry. entry < d) w → InRange d w

@@ -4,7 +4,7 @@ use Rattle.std.specs.Prelude.{unsigned_abs}
 use Rattle.std.proofs.lemmas.Bool.{cases_eq, eq-eqb, ne_eqb}
 use Rattle.std.proofs.lemmas.Int.{ints}
 use Rattle.flat_forms.specs.Vectors.{Vector, plus, less, unit_step}
-use Rattle.flat_forms.specs.Flat_states.{parity, IsEven, flat_next, size_of}
+use Rattle.flat_forms.specs.FlatStates.{parity, IsEven, flat_next, size_of}
 
 abbrev vector : ℤ → ℤ → Vector
 vector x y = record { x = x; y = y }

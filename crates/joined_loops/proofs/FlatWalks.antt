@@ -9,8 +9,8 @@ use Rattle.turn_words.specs.declared.word.Word.{Word}
 use Rattle.turn_words.specs.declared.word.Word.TheVariants.{Turns, Flat}
 use Rattle.flat_forms.specs.Vectors.{Vector, origin, plus, less, unit_step}
 use Rattle.flat_forms.specs.Pairs.{spokes_of, sum_of_pairs}
-use Rattle.flat_forms.specs.Flat_states.{IsFlatWheel, IsEven, flat_next}
-use Rattle.flat_forms.specs.Lemmas.Flat_laws.{flat_starts, flat_stays, flat_there_and_back, flat_across}
+use Rattle.flat_forms.specs.FlatStates.{IsFlatWheel, IsEven, flat_next}
+use Rattle.flat_forms.specs.Lemmas.FlatLaws.{flat_starts, flat_stays, flat_there_and_back, flat_across}
 use Rattle.labellings.specs.Labellings.{LabellingView}
 use Rattle.labellings.specs.GoodLabellings.{IsGood}
 use Rattle.labellings.specs.QuadPaths.{quad_path}
@@ -19,7 +19,7 @@ use Rattle.labellings.proofs.FoldLemmas.{PutLaws}
 use Rattle.labellings.proofs.KeepingLemmas.{moves_keep}
 use Rattle.labellings.proofs.WalkWordLemmas.{quad_path_in_pairs, quad_path_leads_to_sum, flat_wheel_of_good}
 use Rattle.closed_walks.specs.FreeHomotopy.{IsClosedWalk, FreeStep, Moved, Rotated, after_free, after_all_free, FreelyHomotopic}
-use Rattle.joined_loops.proofs.Closed_paths.{goes-last, step-closed}
+use Rattle.joined_loops.proofs.ClosedPaths.{goes-last, step-closed}
 
 abbrev vector : ℤ → ℤ → Vector
 vector x y = record { x = x; y = y }

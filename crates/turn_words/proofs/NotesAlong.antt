@@ -1,15 +1,15 @@
 -- The steps that are noted along a list of spokes lead from its turn word to the word of the state.
 use Rattle.std.proofs.Common.{◌≡◌, ℕ, ◌<◌, refl, sym, ◌∙◌, ap, Bool, false, true, not, List, [], ◌∷◌, ◌++◌, All, length, slice_index, Some}
 use Rattle.std.proofs.lemmas.List.{append-nil}
-use Rattle.turn_words.specs.Step_table.{next_changed, after_steps}
-use Rattle.turn_words.specs.Hyper_states.{HyperState, empty_state, turn_to, put_spoke, hyper_next, IsHyperWheel, LeadOn}
-use Rattle.turn_words.specs.Form_laws.{led, NotesAlong}
-use Rattle.turn_words.specs.Spoke_paths.{turns_after, turn_word_of}
+use Rattle.turn_words.specs.StepTable.{next_changed, after_steps}
+use Rattle.turn_words.specs.HyperStates.{HyperState, empty_state, turn_to, put_spoke, hyper_next, IsHyperWheel, LeadOn}
+use Rattle.turn_words.specs.FormLaws.{led, NotesAlong}
+use Rattle.turn_words.specs.SpokePaths.{turns_after, turn_word_of}
 use Rattle.turn_words.specs.declared.step.Step.{Step}
 use Rattle.turn_words.specs.Lemmas.Lists.{InRange}
 use Rattle.turn_words.specs.Lemmas.Sums.{add-zero}
-use Rattle.turn_words.specs.Lemmas.From_end.{in-range-from}
-use Rattle.turn_words.specs.Lemmas.Hyper_laws.{hyper_starts}
+use Rattle.turn_words.specs.Lemmas.FromEnd.{in-range-from}
+use Rattle.turn_words.specs.Lemmas.HyperLaws.{hyper_starts}
 use Rattle.turn_words.proofs.Reaching.{IsNextBelow, next-below, after_steps-append}
 use Rattle.turn_words.proofs.Spokes.{Counts, counts-next, counts-turn, start-turn, turns-in-range}
 

@@ -3,15 +3,15 @@ use Rattle.std.proofs.Common.{◌≡◌, ◌≢◌, ℕ, ◌+◌, ◌%◌, ◌<�
 use Rattle.std.proofs.lemmas.Bool.{cases_eq, eq-eqb, ne_eqb}
 use Rattle.std.proofs.lemmas.List.{reverse-reverse, length-reverse}
 use Rattle.turn_words.specs.Modulo.{add, minus}
-use Rattle.turn_words.specs.Put_turns.{is_open, flipped, closed, put}
+use Rattle.turn_words.specs.PutTurns.{is_open, flipped, closed, put}
 use Rattle.turn_words.specs.Wheels.{IsWheel}
-use Rattle.turn_words.specs.Hyper_states.{HyperState, empty_state, IsEven, value_at, turn_to, hyper_next, IsHyperWheel, BelongsTo}
-use Rattle.turn_words.specs.Form_laws.{StartsWell, StaysWell, ThereAndBack, AcrossQuads}
+use Rattle.turn_words.specs.HyperStates.{HyperState, empty_state, IsEven, value_at, turn_to, hyper_next, IsHyperWheel, BelongsTo}
+use Rattle.turn_words.specs.FormLaws.{StartsWell, StaysWell, ThereAndBack, AcrossQuads}
 use Rattle.turn_words.specs.Lemmas.Sums.{add-cases, minus-cases, minus-one, add-lt, minus-lt}
-use Rattle.turn_words.specs.Lemmas.Word_ends.{IsGood, open-cases, put-flip, put-close, put-else}
-use Rattle.turn_words.specs.Lemmas.Put_laws.{put-good, put-put, cases, spur, flip, close, other}
+use Rattle.turn_words.specs.Lemmas.WordEnds.{IsGood, open-cases, put-flip, put-close, put-else}
+use Rattle.turn_words.specs.Lemmas.PutLaws.{put-good, put-put, cases, spur, flip, close, other}
 use Rattle.turn_words.specs.Lemmas.Across.{first_side, second_side, across}
-use Rattle.turn_words.specs.Lemmas.From_end.{canonical-from, good-from-canonical}
+use Rattle.turn_words.specs.Lemmas.FromEnd.{canonical-from, good-from-canonical}
 
 module _ (d : ℕ) (five : 5 ≤ d) where
   -- a put makes a word one longer or one shorter

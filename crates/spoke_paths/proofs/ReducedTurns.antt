@@ -3,18 +3,18 @@ use Rattle.std.proofs.Common.{◌≡◌, ◌≢◌, ℕ, ◌+◌, ◌<◌, ◌�
 use Rattle.std.proofs.lemmas.Bool.{cases_eq, cases_Bool, eq-eqb, ne_eqb}
 use Rattle.std.proofs.lemmas.List.{reverse-reverse}
 use Rattle.turn_words.specs.Modulo.{add, minus}
-use Rattle.turn_words.specs.Put_turns.{Put, is_open, flipped, put}
-use Rattle.turn_words.specs.Hyper_states.{empty_state, hyper_next, IsHyperWheel}
-use Rattle.turn_words.specs.Form_laws.{led}
-use Rattle.turn_words.specs.Spoke_paths.{turn_word_of}
+use Rattle.turn_words.specs.PutTurns.{Put, is_open, flipped, put}
+use Rattle.turn_words.specs.HyperStates.{empty_state, hyper_next, IsHyperWheel}
+use Rattle.turn_words.specs.FormLaws.{led}
+use Rattle.turn_words.specs.SpokePaths.{turn_word_of}
 use Rattle.turn_words.specs.Lemmas.Lists.{InRange}
 use Rattle.turn_words.specs.Lemmas.Sums.{add-cases, minus-one, minus-two, add-zero}
-use Rattle.turn_words.specs.Lemmas.Word_ends.{IsCons, Follows, open-cases, put-flip, put-else}
-use Rattle.turn_words.specs.Lemmas.From_end.{in-range-from}
+use Rattle.turn_words.specs.Lemmas.WordEnds.{IsCons, Follows, open-cases, put-flip, put-else}
+use Rattle.turn_words.specs.Lemmas.FromEnd.{in-range-from}
 use Rattle.turn_words.proofs.Reading.{read, state}
 use Rattle.turn_words.proofs.Unique.{left, canonical-is-left}
 use Rattle.turn_words.proofs.Spokes.{turns, canonical}
-use Rattle.spoke_paths.specs.Reduced_words.{closes, HasNoBracket, IsReduced}
+use Rattle.spoke_paths.specs.ReducedWords.{closes, HasNoBracket, IsReduced}
 
 -- what is known of the word that is left so far, of the change, and of the turns that come
 data Keeps (d : ℕ) (u : List ℕ) (n : ℕ) (turns : List ℕ) : Type 0 where

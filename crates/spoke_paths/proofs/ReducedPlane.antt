@@ -4,15 +4,15 @@ use Rattle.std.specs.Prelude.{if◌then◌else◌}
 use Rattle.std.proofs.lemmas.Bool.{cases_eq, eq-eqb, ne_eqb}
 use Rattle.std.proofs.lemmas.Int.{ints}
 use Rattle.turn_words.specs.Modulo.{add, minus}
-use Rattle.turn_words.specs.Form_laws.{led}
-use Rattle.turn_words.specs.Spoke_paths.{place_round, turns_after, turn_word_of}
+use Rattle.turn_words.specs.FormLaws.{led}
+use Rattle.turn_words.specs.SpokePaths.{place_round, turns_after, turn_word_of}
 use Rattle.turn_words.specs.Lemmas.Lists.{InRange}
 use Rattle.turn_words.specs.Lemmas.Sums.{add-cases, minus-cases, add-lt, minus-lt}
-use Rattle.turn_words.specs.Lemmas.From_end.{in-range-from}
+use Rattle.turn_words.specs.Lemmas.FromEnd.{in-range-from}
 use Rattle.flat_forms.specs.Vectors.{Vector, origin, plus, less, unit_step}
-use Rattle.flat_forms.specs.Flat_states.{parity, IsFlatWheel, flat_next}
-use Rattle.flat_forms.specs.Lemmas.Steps_in_the_plane.{is-unit, parity-plus, parity-less, next-even, next-odd}
-use Rattle.spoke_paths.specs.Reduced_words.{closes, HasNoBracket, IsReduced}
+use Rattle.flat_forms.specs.FlatStates.{parity, IsFlatWheel, flat_next}
+use Rattle.flat_forms.specs.Lemmas.StepsInThePlane.{is-unit, parity-plus, parity-less, next-even, next-odd}
+use Rattle.spoke_paths.specs.ReducedWords.{closes, HasNoBracket, IsReduced}
 
 -- how far a point lies along the diagonal between a direction and the next one
 abbrev along : ℕ → Vector → ℤ

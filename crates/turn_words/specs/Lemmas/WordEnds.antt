@@ -2,7 +2,7 @@
 use Rattle.std.proofs.Common.{◌≡◌, ◌≢◌, ℕ, ◌<◌, ◌≤◌, ◌⊎◌, inl, inr, arith, refl, sym, ◌∙◌, ap, true, false, List, [], ◌∷◌}
 use Rattle.std.proofs.lemmas.Bool.{cases_eq, eq-eqb, ne_eqb}
 use Rattle.turn_words.specs.Modulo.{add, minus}
-use Rattle.turn_words.specs.Put_turns.{is_open, flipped, closed, put}
+use Rattle.turn_words.specs.PutTurns.{is_open, flipped, closed, put}
 use Rattle.turn_words.specs.Lemmas.Sums.{minus-one}
 
 -- a turn that can follow in a canonical word

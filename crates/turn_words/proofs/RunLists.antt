@@ -4,8 +4,8 @@ use Rattle.std.specs.Prelude.{IfSome}
 use Rattle.std.specs.Option.{option_to_list}
 use Rattle.std.proofs.lemmas.List.{append-nil, reverse-append, length-append, length-replicate, length-reverse, replicate_more, replicate-append-replicate, take_all, take_more}
 use Rattle.turn_words.specs.Runs.{written, AreFilled, AreApart}
-use Rattle.turn_words.specs.Private.Stored_words.{EndsOtherwise, TopDiffers}
-use Rattle.turn_words.specs.Lemmas.Word_ends.{IsCons}
+use Rattle.turn_words.specs.Private.StoredWords.{EndsOtherwise, TopDiffers}
+use Rattle.turn_words.specs.Lemmas.WordEnds.{IsCons}
 
 -- a run of copies, read from its end
 pub reverse-replicate : (n x : ℕ) → reverse (replicate n x) ≡ replicate n x

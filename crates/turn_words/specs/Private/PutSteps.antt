@@ -1,7 +1,7 @@
--- The elementary steps that a put notes. Here a word is read from its end, as in `Put_turns`.
+-- The elementary steps that a put notes. Here a word is read from its end, as in `PutTurns`.
 use Rattle.std.specs.Prelude.{ℕ, ◌+◌, ◌-◌, ◌≤◌, ◌==◌, Bool, true, false, ◌&&◌, if◌then◌else◌, zero, suc, List, [], ◌∷◌, ◌++◌, length}
 use Rattle.turn_words.specs.Modulo.{minus}
-use Rattle.turn_words.specs.Put_turns.{is_open}
+use Rattle.turn_words.specs.PutTurns.{is_open}
 use Rattle.turn_words.specs.declared.step.Step.{Step}
 use Rattle.turn_words.specs.declared.step.Step.TheVariants.{SpurOut, Push}
 use Rattle.turn_words.specs.declared.put.Rewrite.{Rewrite}

@@ -1,10 +1,10 @@
 -- The turns of a closed list of spokes, which starts at the vertex and comes back to its first spoke behind the last one.
 use Rattle.std.specs.Prelude.{◌≡◌, ◌≢◌, ℕ, ◌+◌, ◌-◌, ◌<◌, ◌%◌, ◌==◌, ◌⊎◌, Bool, true, not, if◌then◌else◌, List, [], All, length, slice_index}
 use Rattle.turn_words.specs.Modulo.{add, minus}
-use Rattle.turn_words.specs.Hyper_states.{IsHyperWheel}
-use Rattle.turn_words.specs.Form_laws.{IsQuad}
-use Rattle.turn_words.specs.Spoke_paths.{place_round}
-use Rattle.settling.specs.Turn_rows.{IsCanonicalRow}
+use Rattle.turn_words.specs.HyperStates.{IsHyperWheel}
+use Rattle.turn_words.specs.FormLaws.{IsQuad}
+use Rattle.turn_words.specs.SpokePaths.{place_round}
+use Rattle.settling.specs.TurnRows.{IsCanonicalRow}
 
 -- the spokes of a list that is gone along again and again
 abbrev pub spoke_along : List ℕ → ℕ → ℕ

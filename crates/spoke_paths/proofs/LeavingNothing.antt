@@ -1,19 +1,19 @@
 -- Steps to a reduced path leave nothing of a path that has no word.
 use Rattle.std.proofs.Common.{◌≡◌, ℕ, ◌<◌, ◌∙◌, ap, List, [], All, length}
-use Rattle.turn_words.specs.Form_laws.{led}
-use Rattle.turn_words.specs.Hyper_states.{IsEven, empty_state, hyper_next, IsHyperWheel, BelongsTo}
-use Rattle.turn_words.specs.Lemmas.Hyper_laws.{hyper_starts, hyper_stays, hyper_there_and_back, hyper_across}
-use Rattle.turn_words.specs.Spoke_paths.{turn_word_of}
+use Rattle.turn_words.specs.FormLaws.{led}
+use Rattle.turn_words.specs.HyperStates.{IsEven, empty_state, hyper_next, IsHyperWheel, BelongsTo}
+use Rattle.turn_words.specs.Lemmas.HyperLaws.{hyper_starts, hyper_stays, hyper_there_and_back, hyper_across}
+use Rattle.turn_words.specs.SpokePaths.{turn_word_of}
 use Rattle.flat_forms.specs.Vectors.{origin}
-use Rattle.flat_forms.specs.Flat_states.{flat_next, size_of, IsFlatWheel}
-use Rattle.flat_forms.specs.Flat_states.{IsEven as IsEvenPoint}
-use Rattle.flat_forms.specs.Lemmas.Flat_laws.{flat_starts, flat_stays, flat_there_and_back, flat_across}
-use Rattle.spoke_paths.specs.Path_steps.{PathLeads}
-use Rattle.spoke_paths.specs.Reduced_words.{IsReduced}
+use Rattle.flat_forms.specs.FlatStates.{flat_next, size_of, IsFlatWheel}
+use Rattle.flat_forms.specs.FlatStates.{IsEven as IsEvenPoint}
+use Rattle.flat_forms.specs.Lemmas.FlatLaws.{flat_starts, flat_stays, flat_there_and_back, flat_across}
+use Rattle.spoke_paths.specs.PathSteps.{PathLeads}
+use Rattle.spoke_paths.specs.ReducedWords.{IsReduced}
 use Rattle.spoke_paths.specs.declared.step.PathStep.{PathStep}
-use Rattle.spoke_paths.proofs.Steps_keep.{spokes-stay-below, state-stays}
-use Rattle.spoke_paths.proofs.Reduced_turns.{hyper-empty}
-use Rattle.spoke_paths.proofs.Reduced_plane.{plane-empty}
+use Rattle.spoke_paths.proofs.StepsKeep.{spokes-stay-below, state-stays}
+use Rattle.spoke_paths.proofs.ReducedTurns.{hyper-empty}
+use Rattle.spoke_paths.proofs.ReducedPlane.{plane-empty}
 
 pub turns-leave : (places path end : List ℕ) (steps : List PathStep) → IsHyperWheel places → All (λ spoke. spoke < length places) path
     → PathLeads places path steps end

@@ -2,9 +2,9 @@
 use Rattle.std.proofs.Common.{◌≡◌, ◌≢◌, ℕ, ◌<◌, ◌≤◌, inl, inr, arith, refl, sym, ◌∙◌, ap, subst, true, false, List, [], ◌∷◌}
 use Rattle.std.proofs.lemmas.Bool.{cases_eq, cases_Bool}
 use Rattle.turn_words.specs.Modulo.{add, minus}
-use Rattle.turn_words.specs.Put_turns.{is_open, flipped, closed, put}
+use Rattle.turn_words.specs.PutTurns.{is_open, flipped, closed, put}
 use Rattle.turn_words.specs.Lemmas.Sums.{add-cases, minus-one, minus-two, add-lt}
-use Rattle.turn_words.specs.Lemmas.Word_ends.{Follows, IsGood, IsCons, good-cons, good-head, good-tail, open-two, open-other, open-cases, flipped-run, flipped-end, flipped-cons, closed-two, closed-cons, put-flip, put-close, put-else}
+use Rattle.turn_words.specs.Lemmas.WordEnds.{Follows, IsGood, IsCons, good-cons, good-head, good-tail, open-two, open-other, open-cases, flipped-run, flipped-end, flipped-cons, closed-two, closed-cons, put-flip, put-close, put-else}
 
 module _ (d : ℕ) (five : 5 ≤ d) where
   -- one up and one down

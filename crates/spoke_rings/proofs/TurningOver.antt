@@ -4,18 +4,18 @@ use Rattle.std.proofs.lemmas.Bool.{cases_eq}
 use Rattle.std.proofs.lemmas.List.{append-nil, length-append, get_or_append_left, get_or-append-add}
 use Rattle.std.proofs.lemmas.List.Elements.{All-append, All-cons, All-nil}
 use Rattle.turn_words.specs.Modulo.{add, minus}
-use Rattle.turn_words.specs.Spoke_paths.{place_round}
+use Rattle.turn_words.specs.SpokePaths.{place_round}
 use Rattle.turn_words.specs.Lemmas.Sums.{add-cases, minus-cases, minus-one, minus-two, add-lt, add-minus}
 use Rattle.turn_words.specs.Lemmas.Across.{two-up}
-use Rattle.spoke_rings.specs.Cyclic_words.{IsLoop, IsFullWheel, turn_along, stands_before}
+use Rattle.spoke_rings.specs.CyclicWords.{IsLoop, IsFullWheel, turn_along, stands_before}
 use Rattle.spoke_rings.specs.Private.Rings.{RingView, ring_turn, Acts, Pushes, TurnsPushed, TurnsOver, Shortens, IsFineRing}
 use Rattle.spoke_rings.proofs.Along.{same-rows, rotated}
 use Rattle.spoke_rings.proofs.Leading.{leads-same, leads-on, spur-enters}
-use Rattle.spoke_rings.proofs.Ring_turns.{turn_at, turn-round, turn-seam, turn-behind, stands-even, stands-odd, stands-turned, spoke-below, place-below}
+use Rattle.spoke_rings.proofs.RingTurns.{turn_at, turn-round, turn-seam, turn-behind, stands-even, stands-odd, stands-turned, spoke-below, place-below}
 use Rattle.spoke_rings.proofs.Pushing.{push-acts, push-turns}
 use Rattle.spoke_rings.proofs.Acting.{WentOn, acts-on, acts-start, went-forward}
 use Rattle.spoke_rings.proofs.Reducing.{fine-on}
-use Rattle.settling.specs.Turn_rows.{IsCanonicalRow}
+use Rattle.settling.specs.TurnRows.{IsCanonicalRow}
 use Rattle.std.specs.Prelude.{if◌then◌else◌}
 
 -- how the turns of a ring of n + 2 spokes stand after so many pushes of n

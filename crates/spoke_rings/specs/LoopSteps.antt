@@ -1,7 +1,7 @@
 -- Steps on a closed list of spokes that starts at the vertex. They change the list at one place, or go once round a part of
 -- it; in the field, each is an elementary homotopy or a conjugation.
 use Rattle.std.specs.Prelude.{◌≡◌, ℕ, ◌+◌, ◌%◌, ◌==◌, nat_lt, Bool, true, false, ◌&&◌, if◌then◌else◌, List, [], ◌∷◌, ◌++◌, take, drop, length, Option, Some, None, option_and_then}
-use Rattle.spoke_paths.specs.Path_steps.{from_spoke, spur_goes, quad_turned}
+use Rattle.spoke_paths.specs.PathSteps.{from_spoke, spur_goes, quad_turned}
 
 pub data LoopStep : Type 0 where
   -- two equal neighbours go

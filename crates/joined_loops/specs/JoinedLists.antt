@@ -1,8 +1,8 @@
 -- Two lists of spokes that a third one joins. In the field: the third conjugates the second into the first.
 use Rattle.std.specs.Prelude.{◌≡◌, ℕ, zero, suc, List, [], ◌++◌}
-use Rattle.turn_words.specs.Form_laws.{led}
-use Rattle.turn_words.specs.Hyper_states.{HyperState, BelongsTo, IsEven, hyper_next}
-use Rattle.spoke_rings.specs.Cyclic_words.{IsLoop}
+use Rattle.turn_words.specs.FormLaws.{led}
+use Rattle.turn_words.specs.HyperStates.{HyperState, BelongsTo, IsEven, hyper_next}
+use Rattle.spoke_rings.specs.CyclicWords.{IsLoop}
 
 -- the joining list, put behind the first one, leads each state at the vertex where the second one leads it, put behind the joining list
 pub record JoinedBy (places first second joining : List ℕ) : Type 0 where

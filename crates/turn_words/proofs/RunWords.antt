@@ -4,12 +4,12 @@ use Rattle.std.proofs.lemmas.Bool.{cases_eq, eq-eqb, ne_eqb}
 use Rattle.std.proofs.lemmas.List.{length-append, length-replicate, length-take-le, length_push, get_or-take, take_more, take-append-drop}
 use Rattle.std.specs.Bool.{Decides}
 use Rattle.turn_words.specs.Modulo.{add}
-use Rattle.turn_words.specs.Put_turns.{is_open}
+use Rattle.turn_words.specs.PutTurns.{is_open}
 use Rattle.turn_words.specs.Runs.{written, AreFilled, AreApart}
-use Rattle.turn_words.specs.Private.Stored_words.{word_of, IsStoredWord, TopDiffers}
+use Rattle.turn_words.specs.Private.StoredWords.{word_of, IsStoredWord, TopDiffers}
 use Rattle.turn_words.specs.Lemmas.Sums.{add-cases}
-use Rattle.turn_words.specs.Lemmas.Word_ends.{IsCons, open-one, open-two, open-other}
-use Rattle.turn_words.proofs.Run_lists.{cons-behind, written-append, written-push, filled-front, filled-length, apart-push, apart-front, top-differs, differs-top, last-run, back, back-written, back-push, back-cons, back-first, one-list}
+use Rattle.turn_words.specs.Lemmas.WordEnds.{IsCons, open-one, open-two, open-other}
+use Rattle.turn_words.proofs.RunLists.{cons-behind, written-append, written-push, filled-front, filled-length, apart-push, apart-front, top-differs, differs-top, last-run, back, back-written, back-push, back-cons, back-first, one-list}
 
 word-some : (len start : ℕ) (rs : List (ℕ × ℕ)) → 0 < len → word_of len start rs ≡ start ∷ written rs
 word-some len start rs h = rw (ne_eqb len 0 (λ e. absurd (omega arith))) refl

@@ -13,7 +13,7 @@ use Rattle.labellings.specs.GoodLabellings.{IsGood}
 use Rattle.labellings.specs.QuadPaths.{spokes, quad_path}
 use Rattle.labellings.specs.WalkWords.{in_pairs}
 use Rattle.labellings.proofs.WalkWordLemmas.{quad_path_below, quad_path_in_pairs}
-use Rattle.spoke_rings.specs.Cyclic_words.{IsLoop}
+use Rattle.spoke_rings.specs.CyclicWords.{IsLoop}
 use Rattle.spoke_rings.proofs.Pushing.{last-apart}
 use Rattle.closed_walks.specs.FreeHomotopy.{IsClosedWalk, FreeStep, Moved, Rotated, from_next, after_free}
 
