@@ -69,6 +69,14 @@ pub fn spokes_lead_to_their_canonical_word()
         (led hyper_next places empty_state spokes).word }
 {}
 
+/// So do spokes from a state that others lead to: to the canonical word of all of them.
+pub fn spokes_lead_on_to_the_canonical_word()
+    ensures { (places before spokes : List ℕ) → IsHyperWheel places → All (λ spoke. spoke < length places) before →
+        All (λ spoke. spoke < length places) spokes →
+        IsCanonicalOf (length places) (turn_word_of places (before ++ spokes))
+        (led hyper_next places (led hyper_next places empty_state before) spokes).word }
+{}
+
 /// The steps that are noted along a list of spokes, from the state of the empty word, lead from the turn word
 /// of the spokes to its canonical word.
 pub fn noted_steps_lead_to_the_canonical_word()
