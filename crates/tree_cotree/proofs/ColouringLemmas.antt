@@ -23,7 +23,7 @@ use Rattle.tree_cotree.specs.Searches.{node_of, same_kind, has_kind}
 use Rattle.tree_cotree.specs.Splits.{SplitView, HasTrees, in_tree, in_cotree, is_left}
 use Rattle.tree_cotree.specs.Colourings.{ColouringView}
 use Rattle.tree_cotree.specs.ColouredTrees.{HasColouredTrees, without_ways}
-use Rattle.tree_cotree.specs.Joinings.{bound_of, is_node_of, AreEnds, HangTogether, AreSpanned, IsTried}
+use Rattle.tree_cotree.specs.Joinings.{bound_of, is_node_of, kind_over, AreEnds, HangTogether, AreSpanned, IsTried}
 use Rattle.tree_cotree.proofs.SetLemmas.{with_one, with_itself, with_other}
 use Rattle.tree_cotree.proofs.GrowthLemmas.{HasNodes}
 use Rattle.tree_cotree.proofs.SplitLemmas.{tree_ring, closed_holds_all}
@@ -36,6 +36,11 @@ pub has_nodes : (s : OrientedMesh) → IsOrientedSurface s → (nodes : Nodes)
     → HasNodes (rotations_of s) (node_of nodes (rotations_of s)) (is_node_of nodes s) (bound_of nodes s) (length s.table)
 has_nodes s o Vertices = vertex_nodes s (names_all s o)
 has_nodes s o Faces = face_nodes s (names_all s o)
+
+-- edges that span nodes are not left over
+pub kind_not_left : (nodes : Nodes) → same_kind Left (kind_over nodes) ≡ false
+kind_not_left Vertices = refl
+kind_not_left Faces = refl
 
 -- the kinds when the edges below n are tried, and maybe some others
 pub record IsSpanning (s : OrientedMesh) (nodes : Nodes) (kind : Kind) (old : List Kind) (n : ℕ) (least : List ℕ) (kinds : List Kind)

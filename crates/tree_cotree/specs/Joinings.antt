@@ -8,7 +8,7 @@ use Rattle.halfedge_map.specs.OrientedMeshes.{OrientedMesh}
 use Rattle.halfedge_map.specs.RotationSystems.{Rotations, rotations_of}
 use Rattle.tree_cotree.specs.SpanningTrees.{StepsIn, IsSpanningTree}
 use Rattle.tree_cotree.specs.declared.split.Kind.{Kind}
-use Rattle.tree_cotree.specs.declared.split.Kind.TheVariants.{Tree, Left}
+use Rattle.tree_cotree.specs.declared.split.Kind.TheVariants.{Tree, Cotree, Left}
 use Rattle.tree_cotree.specs.declared.search.Nodes.{Nodes}
 use Rattle.tree_cotree.specs.declared.search.Nodes.TheVariants.{Vertices, Faces}
 use Rattle.tree_cotree.specs.Searches.{node_of, has_kind}
@@ -21,6 +21,11 @@ bound_of Faces surface = length surface.mesh.faces
 abbrev pub is_node_of : Nodes → OrientedMesh → ℕ → Bool
 is_node_of Vertices surface = is_used surface.mesh
 is_node_of Faces surface = λ f. true
+
+-- the kind of the edges that span the nodes: a tree over the vertices, a cotree over the faces
+abbrev pub kind_over : Nodes → Kind
+kind_over Vertices = Tree
+kind_over Faces = Cotree
 
 -- a dart of the edge leads from the node x to the node y
 pub record AreEnds (maps : Rotations) (node : ℕ → ℕ) (edge x y : ℕ) : Type 0 where

@@ -4,8 +4,8 @@ ghost use Rattle.std.specs.List.{range_with_len};
 ghost use Rattle.halfedge_map.specs.OrientedMeshes.{IsOrientedSurface};
 ghost use Rattle.halfedge_map.specs.RotationSystems.{rotations_of};
 ghost use Rattle.tree_cotree.specs.Colourings.{IsColouring};
-ghost use Rattle.tree_cotree.specs.Joinings.{bound_of, AreEnds, AreSpanned, HangTogether, IsTried};
-ghost use Rattle.tree_cotree.specs.Searches.{same_kind, has_kind, node_of};
+ghost use Rattle.tree_cotree.specs.Joinings.{bound_of, kind_over, AreEnds, AreSpanned, HangTogether, IsTried};
+ghost use Rattle.tree_cotree.specs.Searches.{has_kind, node_of};
 ghost use Rattle.tree_cotree.specs.declared.split.Kind.TheVariants.{Left};
 
 use crate::marking::{leftover_dart, leftover_edges};
@@ -68,9 +68,9 @@ pub fn colour_edges(alloc: Global, surface: &Surface) -> Result<Colouring, Alloc
 {
     let mut kinds = vec![in alloc; Kind::Left; surface.sides().len() as usize]?;
     let vertices = Classes::new(alloc, surface.faces().count())?;
-    span(surface, Nodes::Vertices, vertices, &mut kinds, Kind::Tree);
+    span(surface, Nodes::Vertices, vertices, &mut kinds);
     let faces = Classes::new(alloc, surface.faces().len())?;
-    span(surface, Nodes::Faces, faces, &mut kinds, Kind::Cotree);
+    span(surface, Nodes::Faces, faces, &mut kinds);
     let start = leftover_dart(surface, &kinds);
     let genus = leftover_edges(&kinds) / 2;
     Ok(Colouring {
@@ -80,27 +80,36 @@ pub fn colour_edges(alloc: Global, surface: &Surface) -> Result<Colouring, Alloc
     })
 }
 
-/// Gives a kind to leftover edges that span the nodes: in turn to each whose two nodes those before it do not join.
+/// Gives their kind to leftover edges that span the nodes: in turn to each whose two nodes those before it do not join.
 ///
 /// Where the nodes are vertices, the first edge of each lower vertex is tried before all others. A tree that is made so leads
 /// along the rows of a mesh that is numbered row by row, and who goes round it stays in one part of memory.
-fn span(surface: &Surface, nodes: Nodes, mut classes: Classes, kinds: &mut Vec<Kind>, kind: Kind)
+fn span(surface: &Surface, nodes: Nodes, mut classes: Classes, kinds: &mut Vec<Kind>)
     requires valid { IsOrientedSurface surface.now }
     requires alone { classes ≡ range_with_len 0 (bound_of nodes surface.now) }
     requires kinds { length kinds.old.items ≡ length surface.now.table }
-    requires other { same_kind Left kind ≡ false }
-    requires free { (edge : ℕ) → edge < length surface.now.table → has_kind kinds.old.items kind edge ≡ false }
+    requires free { (edge : ℕ) → edge < length surface.now.table → has_kind kinds.old.items (kind_over nodes) edge ≡ false }
     requires together { HangTogether (rotations_of surface.now) (node_of nodes (rotations_of surface.now)) (has_kind kinds.old.items Left) }
-    ensures { AreSpanned surface.now nodes kind kinds.old.items kinds.new.items }
+    ensures { AreSpanned surface.now nodes (kind_over nodes) kinds.old.items kinds.new.items }
 {
     let edges = surface.sides().len();
     for early in 0..first_round(nodes, edges) {
         if begins_vertex(surface, EdgeName(early)) {
-            try_edge(surface, nodes, &mut classes, kinds, kind, EdgeName(early));
+            try_edge(surface, nodes, &mut classes, kinds, EdgeName(early));
         }
     }
     for edge in 0..edges {
-        try_edge(surface, nodes, &mut classes, kinds, kind, EdgeName(edge));
+        try_edge(surface, nodes, &mut classes, kinds, EdgeName(edge));
+    }
+}
+
+/// The kind of the edges that span the nodes.
+fn kind_over(nodes: Nodes) -> Kind
+    ensures { result ≡ kind_over nodes }
+{
+    match nodes {
+        Nodes::Vertices => Kind::Tree,
+        Nodes::Faces => Kind::Cotree,
     }
 }
 
@@ -126,25 +135,24 @@ fn begins_vertex(surface: &Surface, edge: EdgeName) -> bool
     low.0 != before.0
 }
 
-/// Tries an edge: if it is left over and its nodes are in two classes, these become one and the edge gets the kind.
+/// Tries an edge: if it is left over and its nodes are in two classes, these become one and the edge gets its kind.
 fn try_edge(
     surface: &Surface,
     nodes: Nodes,
     classes: &mut Classes,
     kinds: &mut Vec<Kind>,
-    kind: Kind,
     edge: EdgeName,
 )
     requires valid { IsOrientedSurface surface.now }
     requires edge { edge.0 < length surface.now.table }
     requires classes { length classes.old ≡ bound_of nodes surface.now }
     requires kinds { length kinds.old.items ≡ length surface.now.table }
-    ensures { IsTried surface.now nodes kind edge.0 classes.old classes.new kinds.old.items kinds.new.items }
+    ensures { IsTried surface.now nodes (kind_over nodes) edge.0 classes.old classes.new kinds.old.items kinds.new.items }
 {
     if is_same(kinds[edge.0 as usize], Kind::Left) {
         let (first, second) = ends(surface, nodes, edge);
         if classes.join_apart(first, second) {
-            kinds[edge.0 as usize] = kind;
+            kinds[edge.0 as usize] = kind_over(nodes);
         }
     }
 }

@@ -2,17 +2,19 @@ use Rattle.std.proofs.Common.{◌<◌, ◌≤◌, ℕ, List, length, ap, sym, su
 use Rattle.surf_model.specs.Edges.{Edge}
 use Rattle.halfedge_map.specs.OrientedMeshes.{OrientedMesh}
 use Rattle.tree_cotree.specs.declared.split.Kind.{Kind}
-use Rattle.tree_cotree.specs.Joinings.{IsTried}
-use Rattle.tree_cotree.proofs.ColouringLemmas.{IsSpanning, spanning_none, spanning_early, spanning_next, spanning_all}
+use Rattle.tree_cotree.specs.Joinings.{IsTried, kind_over}
+use Rattle.tree_cotree.proofs.ColouringLemmas.{IsSpanning, kind_not_left, spanning_none, spanning_early, spanning_next, spanning_all}
 use Rattle.tree_cotree.proofs.colouring.span.Goals.{then-begins_vertex, else-begins_vertex}
 use Rattle.tree_cotree.proofs.colouring.span.Goals as goal
 
 pub loop-early-init : goal.loop-early-init
 loop-early-init c =
-    spanning_none c.args.surface.now c.args.nodes c.args.kind c.args.kinds.now.items c.args.classes c.requires.alone c.requires.free
+    let kind : Kind = kind_over c.args.nodes in
+    spanning_none c.args.surface.now c.args.nodes kind c.args.kinds.now.items c.args.classes c.requires.alone c.requires.free
 
 pub loop-early-preserved : goal.loop-early-preserved
 loop-early-preserved c =
+    let kind : Kind = kind_over c.args.nodes in
     let s : OrientedMesh = c.args.surface.now in
     let old : List Kind = c.args.kinds.now.items in
     let m : ℕ = c.loop-early.early in
@@ -22,32 +24,34 @@ loop-early-preserved c =
     let few : m < length c.loop-early.kinds.items = omega (arith, within, c.requires.kinds, c.loop-early.invariant.long) in
     elim c.if-begins_vertex.branch [
       | then-begins_vertex w ↦
-          spanning_early s c.args.nodes c.args.kind old 0 m c.loop-early.classes c.if-begins_vertex.classes c.loop-early.kinds.items
-          c.if-begins_vertex.kinds.items c.requires.valid within few c.requires.other
-          (subst (λ ks. IsTried s c.args.nodes c.args.kind m c.loop-early.classes c.if-begins_vertex.classes c.loop-early.kinds.items ks)
+          spanning_early s c.args.nodes kind old 0 m c.loop-early.classes c.if-begins_vertex.classes c.loop-early.kinds.items
+          c.if-begins_vertex.kinds.items c.requires.valid within few (kind_not_left c.args.nodes)
+          (subst (λ ks. IsTried s c.args.nodes kind m c.loop-early.classes c.if-begins_vertex.classes c.loop-early.kinds.items ks)
           (sym (ap (λ v. v.items) w.kinds-is))
-          (subst (λ r. IsTried s c.args.nodes c.args.kind m c.loop-early.classes r c.loop-early.kinds.items w.try_edge.new.kinds.items)
+          (subst (λ r. IsTried s c.args.nodes kind m c.loop-early.classes r c.loop-early.kinds.items w.try_edge.new.kinds.items)
           (sym w.classes-is) w.try_edge.ensures))
           c.loop-early.invariant
       | else-begins_vertex w ↦
-          subst (IsSpanning s c.args.nodes c.args.kind old 0 c.if-begins_vertex.classes) (sym (ap (λ v. v.items) w.kinds-is))
-          (subst (λ r. IsSpanning s c.args.nodes c.args.kind old 0 r c.loop-early.kinds.items) (sym w.classes-is) c.loop-early.invariant)
+          subst (IsSpanning s c.args.nodes kind old 0 c.if-begins_vertex.classes) (sym (ap (λ v. v.items) w.kinds-is))
+          (subst (λ r. IsSpanning s c.args.nodes kind old 0 r c.loop-early.kinds.items) (sym w.classes-is) c.loop-early.invariant)
     ]
 
 pub loop-edge-preserved : goal.loop-edge-preserved
 loop-edge-preserved c =
+    let kind : Kind = kind_over c.args.nodes in
     let s : OrientedMesh = c.args.surface.now in
     let n : ℕ = c.loop-edge.edge in
     let within : n < length s.table =
     subst (λ (t : List Edge). n < length t) c.sides.ensures (omega (arith, c.loop-edge-test.true, c.len-edges.ensures)) in
-    spanning_next s c.args.nodes c.args.kind c.args.kinds.now.items n c.loop-edge.classes c.try_edge-in-loop-edge.new.classes
+    spanning_next s c.args.nodes kind c.args.kinds.now.items n c.loop-edge.classes c.try_edge-in-loop-edge.new.classes
     c.loop-edge.kinds.items c.try_edge-in-loop-edge.new.kinds.items c.requires.valid within
-    (omega (arith, within, c.requires.kinds, c.loop-edge.invariant.long)) c.requires.other c.try_edge-in-loop-edge.ensures
+    (omega (arith, within, c.requires.kinds, c.loop-edge.invariant.long)) (kind_not_left c.args.nodes) c.try_edge-in-loop-edge.ensures
     c.loop-edge.invariant
 
 pub returns : goal.returns
 returns c =
-    spanning_all c.args.surface.now c.args.nodes c.args.kind c.args.kinds.now.items c.loop-edge.edge c.loop-edge.classes
+    let kind : Kind = kind_over c.args.nodes in
+    spanning_all c.args.surface.now c.args.nodes kind c.args.kinds.now.items c.loop-edge.edge c.loop-edge.classes
     c.loop-edge.kinds.items c.requires.valid c.requires.together
     (subst (λ (t : List Edge). length t ≤ c.loop-edge.edge) c.sides.ensures
     (omega (arith, c.loop-edge-test.false, c.len-edges.ensures)))

@@ -1,4 +1,5 @@
 use Rattle.std.proofs.Common.{◌≡◌, ◌<◌, List, length, refl, ap, sym, ◌∙◌, arith}
+use Rattle.std.proofs.Math.ListN.{set}
 use Rattle.std.proofs.lemmas.Bool.{both_ways}
 use Rattle.std.proofs.lemmas.List.{get_or_default}
 use Rattle.halfedge_map.specs.OrientedMeshes.{OrientedMesh}
@@ -44,7 +45,7 @@ returns-then-join_apart c =
         y = c.ends-first.result.1;
         ends = c.ends-first.ensures;
         joined = c.join_apart.ensures.joined;
-        apart = λ differ. refl;
+        apart = λ differ. ap (set kinds c.args.edge.0) c.kind_over.ensures;
         same = λ equal. absurd (c.join_apart.ensures.apart.0 c.if-join_apart.true equal);
       };
       other = λ out. absurd (both_ways (has_kind kinds Left c.args.edge.0) out left);
