@@ -38,6 +38,6 @@ pub use edges::{Side, Sides};
 pub use faces::{Faces, FacesBuilder};
 pub use limits::{MOST_PEAK, MOST_SIDES, MOST_VERTICES};
 pub use moves::{Move, MoveList};
-pub use names::{CellName, DartName, EdgeName, FaceName, Spoke, VertexName};
+pub use names::{DartName, EdgeName, FaceName, Spoke, VertexName};
 pub use signs::Signs;
 pub use walks::Walk;

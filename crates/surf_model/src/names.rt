@@ -19,7 +19,3 @@ pub struct EdgeName(pub u32);
 /// A spoke of a system of quads: a way from the one vertex to the middle of the polygon.
 #[derive(Clone, Copy, Debug, PartialEq, Eq, PartialOrd, Ord)]
 pub struct Spoke(pub u32);
-
-/// A cell of a pool of linked cells.
-#[derive(Clone, Copy, Debug, PartialEq, Eq, PartialOrd, Ord)]
-pub struct CellName(pub usize);
