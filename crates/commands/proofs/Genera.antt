@@ -24,7 +24,7 @@ use Rattle.halfedge_map.specs.Numbers.{count_below}
 use Rattle.halfedge_map.specs.DartMaps.{used_vertices}
 use Rattle.halfedge_map.specs.OrientedMeshes.{OrientedMesh, IsOrientedSurface}
 use Rattle.tree_cotree.specs.Splits.{SplitView, IsSplit}
-use Rattle.tree_cotree.proofs.EdgeTables.{some_table}
+use Rattle.surf_model.proofs.EdgeTables.{some_table}
 use Rattle.tree_cotree.proofs.GenusLemmas.{table_and_genus}
 use Rattle.tree_cotree.proofs.LawLemmas.{exact}
 use Rattle.polygon_cut.specs.Polygons.{PolygonView, IsCutFrom}

@@ -17,7 +17,7 @@ use Rattle.connectivity.proofs.ComponentLemmas.{JoinsEdgesUpTo, edges_none, edge
 use Rattle.connectivity.proofs.CornerLemmas.{corner_used}
 use Rattle.connectivity.proofs.EdgeLemmas.{ends_below}
 use Rattle.manifold_check.proofs.NumberLemmas.{AreLeasts, AreNumbered, numbered_none, numbered_first, numbered_later, numbered_unused, places_of_components}
-use Rattle.tree_cotree.proofs.EdgeTables.{some_table}
+use Rattle.surf_model.proofs.EdgeTables.{some_table}
 
 -- ---- there are components
 

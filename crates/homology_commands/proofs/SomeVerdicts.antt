@@ -7,7 +7,7 @@ use Rattle.std.proofs.lemmas.List.Elements.{All-nil, All-from_get_or}
 use Rattle.surf_io.specs.Files.{Files}
 use Rattle.surf_model.specs.Edges.{Edge, edge_in}
 use Rattle.surf_model.specs.FaceLists.{FaceList, IsFaceList}
-use Rattle.tree_cotree.proofs.EdgeTables.{some_table}
+use Rattle.surf_model.proofs.EdgeTables.{some_table}
 use Rattle.homology.specs.Certificates.{face_number, edge_number}
 use Rattle.homology.specs.Chains.{boundary, count_difference}
 use Rattle.homology.specs.Cocycles.{face_sum}

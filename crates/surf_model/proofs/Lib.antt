@@ -29,3 +29,4 @@ pub mod StackLemmas
 pub mod TreeWalkLemmas
 pub mod FreeWalkLemmas
 pub mod ListedLemmas
+pub mod EdgeTables

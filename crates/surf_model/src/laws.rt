@@ -3,7 +3,7 @@
 ghost use Rattle.std.specs.Prelude.{◌≡◌, ◌+◌, ◌<◌, ◌↔◌, ℕ, List, ◌∷◌, ◌++◌, length, take, drop, slice_index, Some, Any, Contains};
 ghost use Rattle.surf_model.specs.Darts.{IsSide};
 ghost use Rattle.surf_model.specs.Edges.{Edge, IsTableOf};
-ghost use Rattle.surf_model.specs.FaceLists.{FaceList};
+ghost use Rattle.surf_model.specs.FaceLists.{FaceList, IsFaceList};
 ghost use Rattle.surf_model.specs.Moves.{apply};
 ghost use Rattle.surf_model.specs.Replacements.{IsReplacement};
 ghost use Rattle.surf_model.specs.declared.moves.Move.TheVariants.{Insert, Remove};
@@ -11,7 +11,12 @@ ghost use Rattle.surf_model.specs.declared.moves.Move.{Move};
 ghost use Rattle.surf_model.specs.declared.edges.Side.{Side};
 ghost use Rattle.surf_model.specs.declared.names.VertexName.{VertexName};
 
-/// A mesh has one edge table.
+/// Each mesh has an edge table.
+pub fn each_mesh_has_a_table()
+    ensures { (mesh : FaceList) → IsFaceList mesh → (table : List Edge) × IsTableOf mesh table }
+{}
+
+/// A mesh has no second one.
 pub fn one_table()
     ensures { (mesh : FaceList) (table other : List Edge) → IsTableOf mesh table → IsTableOf mesh other → table ≡ other }
 {}

@@ -14,7 +14,7 @@ use Rattle.tree_cotree.specs.RingCounts.{any_below}
 use Rattle.tree_cotree.specs.SpanningTrees.{IsStepIn, StepsIn, IsSpanningTree, HasOneRing}
 use Rattle.tree_cotree.proofs.AfterLemmas.{twin_edge}
 use Rattle.tree_cotree.proofs.ClassLemmas.{found_below, passes_below}
-use Rattle.tree_cotree.proofs.EdgeTables.{some_table}
+use Rattle.surf_model.proofs.EdgeTables.{some_table}
 use Rattle.tree_cotree.proofs.SetLemmas.{with_one, with_itself, with_keeps, with_cases, count_with, count_few, same_from_count, some_outside}
 use Rattle.tree_cotree.proofs.GrowthLemmas.{HasNodes}
 use Rattle.tree_cotree.proofs.SplitLemmas.{OneOfThree, tree_one, cotree_one, left_one, tree_ring, cotree_ring, closed_holds_all, count_three}

@@ -15,7 +15,6 @@ pub mod BelowLemmas
 pub mod SplittingLemmas
 pub mod ColourOrders
 pub mod ColourLemmas
-pub mod EdgeTables
 pub mod GenusLemmas
 pub mod NameLemmas
 pub mod EndLemmas

@@ -15,7 +15,7 @@ use Rattle.surf_model.proofs.EdgeLemmas.{head_used}
 use Rattle.surf_model.proofs.WayBackLemmas.{keeps_walk}
 use Rattle.surf_model.proofs.EdgeLemmas.{used_below}
 use Rattle.move_checker.proofs.Judgement.{greatest_darts-more, greatest_darts-first}
-use Rattle.move_lifting.specs.Lifts.{LeadsAtPeak}
+use Rattle.common_ends.specs.PeakedLists.{LeadsAtPeak}
 use Rattle.walk_files.specs.MoveTexts.{MoveFits, FitsFormat, list_text}
 use Rattle.verify_commands.proofs.TextLengths.{moves_below}
 

@@ -5,7 +5,7 @@ use Rattle.std.proofs.lemmas.Bool.{cases_lt}
 use Rattle.surf_io.specs.Files.{Files}
 use Rattle.surf_model.specs.Edges.{Edge, edge_in}
 use Rattle.surf_model.specs.FaceLists.{FaceList, IsFaceList}
-use Rattle.tree_cotree.proofs.EdgeTables.{some_table}
+use Rattle.surf_model.proofs.EdgeTables.{some_table}
 use Rattle.turn_words.specs.Wheels.{StandsTwice, IsFirstTwice}
 use Rattle.labellings.specs.GoodLabellings.{HasShape, HasDegree, HasPlaces, IsGood}
 use Rattle.labellings.specs.Labellings.{LabellingView}
