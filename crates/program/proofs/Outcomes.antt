@@ -4,39 +4,16 @@ use Rattle.std.specs.Prelude.{Option, Result, Ok, Err, MatchResult}
 use Rattle.surf_io.specs.Files.{Files}
 use Rattle.commands.specs.declared.reply.Reply.TheVariants as replies
 use Rattle.commands.specs.declared.stop.Stop.TheVariants as stops
-use Rattle.commands.proofs.CertifyOutcomes.{certified_so}
 use Rattle.commands.proofs.Checking.{stops_next, told_stops}
-use Rattle.pair_commands.proofs.DecideOutcomes.{decided_so}
-use Rattle.program.proofs.HeadlineLemmas.{headline}
-use Rattle.program.proofs.Rows.{row_answered, sound-words}
-use Rattle.reduce_commands.proofs.ReduceOutcomes.{reduced}
-use Rattle.commands.proofs.SurfaceOutcomes.{measured}
-use Rattle.commands.proofs.TrialOutcomes.{tried}
-use Rattle.verify_commands.proofs.VerifyOutcomes.{verified, denial_verified}
-use Rattle.homology_commands.proofs.VerifyHomologyOutcomes.{homology_verified}
-use Rattle.homology_commands.specs.VerifyHomology.{IsHomologyVerified}
-use Rattle.homology_commands.proofs.HomologyOutcomes.{homology_so}
-use Rattle.homology_commands.specs.Homology.{IsHomologyAnswered}
-use Rattle.loop_commands.proofs.LoopOutcomes.{loops_so}
-use Rattle.loop_commands.specs.Loops.{IsLoopsAnswered}
-use Rattle.commands.specs.Certify.{IsCertified}
+use Rattle.program.proofs.Rows.{sound-words}
 use Rattle.commands.specs.Checks.{Refuse, Pass, found_or}
-use Rattle.open_commands.proofs.OpenOutcomes.{decided_open_so, certified_open_so}
-use Rattle.open_commands.specs.CertifyOpen.{IsCertifiedOpen}
-use Rattle.open_commands.specs.DecideOpen.{IsDecidedOpen}
-use Rattle.program.specs.Commands.{Row, Surface, Decide, Certify, Loops, DecideOpen, CertifyOpen, Homology, Verify, VerifyHomology, Reduce, Trial, IsRow, answer_to}
-use Rattle.pair_commands.specs.Decide.{IsDecided}
-use Rattle.program.specs.Headline.{Headline}
-use Rattle.commands.specs.Outcomes.{Outcome, AnswersTo, IsAnswerOf}
+use Rattle.program.specs.Commands.{Row, IsRow, answer_to}
+use Rattle.commands.specs.Outcomes.{Outcome, IsAnswerOf}
 use Rattle.program.specs.Outcomes.{answer_of, IsOutcome, Answers}
-use Rattle.reduce_commands.specs.Reduce.{IsReduced}
 use Rattle.commands.specs.Refusals.{wrong_words}
 use Rattle.commands.specs.Replies.{Replies, reply_status, reply_text, Runs}
 use Rattle.commands.specs.Statuses.{IsAnswered}
 use Rattle.commands.specs.Stops.{Stops, Tells}
-use Rattle.commands.specs.Surface.{IsMeasured}
-use Rattle.commands.specs.Trial.{IsTried}
-use Rattle.verify_commands.specs.Verify.{verify, IsDenialVerified, IsVerified}
 use Rattle.commands.specs.declared.reply.Reply.{Reply}
 use Rattle.commands.specs.declared.status.Status.{Status}
 use Rattle.commands.specs.declared.status.Status.TheVariants.{WriteFault}
@@ -55,79 +32,6 @@ answers files words outcome status text is answer =
       exact = λ told other other_is.
           subst (λ (o : Outcome). IsAnswerOf o status text) ((sound-words files words).one told outcome other is other_is) answer;
     }
-
--- ---- what each command is for, said of an answer to words by what is said of one to its check
-
-pub measured_by : (files : Option Files) (words : List (List ℕ)) (status : Status) (text : List ℕ) → Answers files words status text
-    → IsMeasured files words status text
-measured_by files words status text a =
-    measured files words status text (λ mesh is. row_answered files words (Surface mesh) status text a is)
-
-pub decided_by : (files : Option Files) (words : List (List ℕ)) (status : Status) (text : List ℕ) → Answers files words status text
-    → IsDecided files words status text
-decided_by files words status text a =
-    decided_so files words status text (λ mesh walks is. row_answered files words (Decide mesh walks) status text a is)
-
-pub certified_by : (files : Option Files) (words : List (List ℕ)) (status : Status) (text : List ℕ) → Answers files words status text
-    → IsCertified files words status text
-certified_by files words status text a =
-    certified_so files words status text (λ mesh walks is. row_answered files words (Certify mesh walks) status text a is)
-
-pub loops_by : (files : Option Files) (words : List (List ℕ)) (status : Status) (text : List ℕ) → Answers files words status text
-    → IsLoopsAnswered files words status text
-loops_by files words status text a =
-    loops_so files words status text (λ mesh walks is. row_answered files words (Loops mesh walks) status text a is)
-
-pub decided_open_by : (files : Option Files) (words : List (List ℕ)) (status : Status) (text : List ℕ) → Answers files words status text
-    → IsDecidedOpen files words status text
-decided_open_by files words status text a =
-    decided_open_so files words status text (λ mesh walks is. row_answered files words (DecideOpen mesh walks) status text a is)
-
-pub certified_open_by : (files : Option Files) (words : List (List ℕ)) (status : Status) (text : List ℕ) → Answers files words status text
-    → IsCertifiedOpen files words status text
-certified_open_by files words status text a =
-    certified_open_so files words status text (λ mesh walks is. row_answered files words (CertifyOpen mesh walks) status text a is)
-
-pub homology_by : (files : Option Files) (words : List (List ℕ)) (status : Status) (text : List ℕ) → Answers files words status text
-    → IsHomologyAnswered files words status text
-homology_by files words status text a =
-    homology_so files words status text
-    (λ mesh walks is. row_answered files words (Homology mesh walks) status text a is)
-
-verify_answered : (files : Option Files) (words : List (List ℕ)) (status : Status) (text : List ℕ) → Answers files words status text
-    → (mesh walks certificate : List ℕ) → IsRow words (Verify mesh walks certificate)
-    → AnswersTo files (verify files mesh walks certificate) status text
-verify_answered files words status text a mesh walks certificate is =
-    row_answered files words (Verify mesh walks certificate) status text a is
-
-pub verified_by : (files : Option Files) (words : List (List ℕ)) (status : Status) (text : List ℕ) → Answers files words status text
-    → IsVerified files words status text
-verified_by files words status text a = verified files words status text (verify_answered files words status text a)
-
-pub denial_verified_by : (files : Option Files) (words : List (List ℕ)) (status : Status) (text : List ℕ) → Answers files words status text
-    → IsDenialVerified files words status text
-denial_verified_by files words status text a = denial_verified files words status text (verify_answered files words status text a)
-
-pub homology_verified_by : (files : Option Files) (words : List (List ℕ)) (status : Status) (text : List ℕ)
-    → Answers files words status text → IsHomologyVerified files words status text
-homology_verified_by files words status text a =
-    homology_verified files words status text
-    (λ mesh walks certificate is. row_answered files words (VerifyHomology mesh walks certificate) status text a is)
-
-pub reduced_by : (files : Option Files) (words : List (List ℕ)) (status : Status) (text : List ℕ) → Answers files words status text
-    → IsReduced files words status text
-reduced_by files words status text a =
-    reduced files words status text (λ degree list is. row_answered files words (Reduce degree list) status text a is)
-
-pub tried_by : (files : Option Files) (words : List (List ℕ)) (status : Status) (text : List ℕ) → Answers files words status text
-    → IsTried words status text
-tried_by files words status text a =
-    tried files words status text (λ genus grid is. row_answered files words (Trial genus grid) status text a is)
-
-pub headline_by : (files : Option Files) (words : List (List ℕ)) (status : Status) (text : List ℕ) → Answers files words status text
-    → Headline files words status text
-headline_by files words status text a =
-    headline files words status text (decided_by files words status text a) (certified_by files words status text a)
 
 -- ---- the reply
 

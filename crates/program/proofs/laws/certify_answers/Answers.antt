@@ -1,5 +1,8 @@
-use Rattle.program.proofs.Outcomes.{certified_by}
+use Rattle.commands.proofs.CertifyOutcomes.{certified_so}
+use Rattle.program.specs.Commands.{Certify}
+use Rattle.program.proofs.Rows.{row_answered}
 use Rattle.program.proofs.laws.certify_answers.Goals as goal
 
 pub returns : goal.returns
-returns c = certified_by
+returns c = λ files words status text a.
+    certified_so files words status text (λ mesh walks is. row_answered files words (Certify mesh walks) status text a is)

@@ -1,5 +1,8 @@
-use Rattle.program.proofs.Outcomes.{certified_open_by}
+use Rattle.open_commands.proofs.OpenOutcomes.{certified_open_so}
+use Rattle.program.specs.Commands.{CertifyOpen}
+use Rattle.program.proofs.Rows.{row_answered}
 use Rattle.program.proofs.laws.certify_open_answers.Goals as goal
 
 pub returns : goal.returns
-returns c = certified_open_by
+returns c = λ files words status text a.
+    certified_open_so files words status text (λ mesh walks is. row_answered files words (CertifyOpen mesh walks) status text a is)

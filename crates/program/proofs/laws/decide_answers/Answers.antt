@@ -1,5 +1,8 @@
-use Rattle.program.proofs.Outcomes.{decided_by}
+use Rattle.pair_commands.proofs.DecideOutcomes.{decided_so}
+use Rattle.program.specs.Commands.{Decide}
+use Rattle.program.proofs.Rows.{row_answered}
 use Rattle.program.proofs.laws.decide_answers.Goals as goal
 
 pub returns : goal.returns
-returns c = decided_by
+returns c = λ files words status text a.
+    decided_so files words status text (λ mesh walks is. row_answered files words (Decide mesh walks) status text a is)

@@ -1,5 +1,8 @@
-use Rattle.program.proofs.Outcomes.{decided_open_by}
+use Rattle.open_commands.proofs.OpenOutcomes.{decided_open_so}
+use Rattle.program.specs.Commands.{DecideOpen}
+use Rattle.program.proofs.Rows.{row_answered}
 use Rattle.program.proofs.laws.decide_open_answers.Goals as goal
 
 pub returns : goal.returns
-returns c = decided_open_by
+returns c = λ files words status text a.
+    decided_open_so files words status text (λ mesh walks is. row_answered files words (DecideOpen mesh walks) status text a is)

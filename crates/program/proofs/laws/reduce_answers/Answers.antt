@@ -1,5 +1,8 @@
-use Rattle.program.proofs.Outcomes.{reduced_by}
+use Rattle.reduce_commands.proofs.ReduceOutcomes.{reduced}
+use Rattle.program.specs.Commands.{Reduce}
+use Rattle.program.proofs.Rows.{row_answered}
 use Rattle.program.proofs.laws.reduce_answers.Goals as goal
 
 pub returns : goal.returns
-returns c = reduced_by
+returns c = λ files words status text a.
+    reduced files words status text (λ degree list is. row_answered files words (Reduce degree list) status text a is)

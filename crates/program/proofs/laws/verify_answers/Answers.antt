@@ -1,5 +1,12 @@
-use Rattle.program.proofs.Outcomes.{verified_by, denial_verified_by}
+use Rattle.verify_commands.proofs.VerifyOutcomes.{verified, denial_verified}
+use Rattle.program.specs.Commands.{Verify}
+use Rattle.program.proofs.Rows.{row_answered}
 use Rattle.program.proofs.laws.verify_answers.Goals as goal
 
 pub returns : goal.returns
-returns c = record { moves = verified_by; denial = denial_verified_by }
+returns c = record {
+  moves = λ files words status text a. verified files words status text
+      (λ mesh walks certificate is. row_answered files words (Verify mesh walks certificate) status text a is);
+  denial = λ files words status text a. denial_verified files words status text
+      (λ mesh walks certificate is. row_answered files words (Verify mesh walks certificate) status text a is);
+}

@@ -1,5 +1,9 @@
-use Rattle.program.proofs.Outcomes.{homology_verified_by}
+use Rattle.homology_commands.proofs.VerifyHomologyOutcomes.{homology_verified}
+use Rattle.program.specs.Commands.{VerifyHomology}
+use Rattle.program.proofs.Rows.{row_answered}
 use Rattle.program.proofs.laws.verify_homology_answers.Goals as goal
 
 pub returns : goal.returns
-returns c = homology_verified_by
+returns c = λ files words status text a.
+    homology_verified files words status text
+    (λ mesh walks certificate is. row_answered files words (VerifyHomology mesh walks certificate) status text a is)
