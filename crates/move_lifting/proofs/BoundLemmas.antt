@@ -100,7 +100,7 @@ is_few sides darts second few begun moves some part less start more =
 pub low_most : (sides darts peak : ℕ) → sides ≤ MOST_LIFTED_SIDES → darts ≤ MOST_LIFTED_DARTS → 2 * peak ≤ (3 * darts + 7) * sides
     → peak ≤ 12640256
 low_most sides darts peak few less low =
-    omega (arith, low, mul-le (3 * darts + 7) sides 1543 16384 (omega (arith, less)) few)
+    omega (arith, low, mul-le (3 * darts + 7) sides 1543 MOST_LIFTED_SIDES (omega (arith, less)) few)
 
 -- within the limits a short list has no more moves than these
 pub few_most : (sides darts moves : ℕ) → sides ≤ MOST_LIFTED_SIDES → darts ≤ MOST_LIFTED_DARTS → moves ≤ darts * (sides + 1)

@@ -24,6 +24,7 @@ use Rattle.move_lifting.specs.LoopsPutIn.{IsFreelyPath}
 use Rattle.move_lifting.specs.SpokeWalks.{AreSpokeWalks, HasWalk, walks_loop}
 use Rattle.move_lifting.specs.Tracks.{last_of}
 use Rattle.move_lifting.specs.TurnPeaks.{RisesWithTurn, KeepsBound}
+use Rattle.move_lifting.specs.declared.expanding.TheConstants.{MOST_LIFTED_SIDES, MOST_LIFTED_DARTS}
 use Rattle.move_lifting.proofs.ApproachLemmas.{GoesFrom, goes_end, goes_walk, has_ways, path_way, walk_goes}
 use Rattle.move_lifting.proofs.BackLemmas.{backward_is}
 use Rattle.move_lifting.proofs.LoopInLemmas.{approach_by, approach_free, approach_goes, loop_by, whole_way}
@@ -205,7 +206,8 @@ module _ (s : OrientedMesh) (split : SplitView) (o : IsOrientedSurface s) (t : I
       → AreFreelyEqual s.mesh (approach_by ways (get_or walk 0 0) y (walks_loop walks true front)) approach)
       → HasNoSpur approach → HasNoSpur walk → IsFreelyPath s split polygon path walk
       → AreShortAround s split polygon front path (pairs + 1) → All (λ i. i < polygon.degree) path → length path ≤ 2 * pairs
-      → pairs ≤ 512 → behind ≤ 512 → darts_of s ≤ 16384 → darts turn ≤ darts_of s → peak ≤ darts_of s
+      → pairs ≤ MOST_LIFTED_DARTS → behind ≤ MOST_LIFTED_DARTS → darts_of s ≤ MOST_LIFTED_SIDES → darts turn ≤ darts_of s
+      → peak ≤ darts_of s
       → 2 * length approach + length walk + length turn + behind + peak < 2147483648
   loop_room walks all front made path walk approach turn y behind peak pairs y_is y_used w closed free clean other is_path short below few
       few_pairs few_behind few_sides turn_few low =
@@ -231,5 +233,5 @@ module _ (s : OrientedMesh) (split : SplitView) (o : IsOrientedSurface s) (t : I
       (spokes_short s split polygon root ways x x pairs path o t c some own x_used x_used below few) in
       let there_few : short.there ≤ 513 = omega (arith, short.together, few_pairs) in
       let one : short.there * n ≤ 513 * n = mul-le-mul_right n there_few in
-      let two : pairs * n ≤ 512 * n = mul-le-mul_right n few_pairs in
+      let two : pairs * n ≤ MOST_LIFTED_DARTS * n = mul-le-mul_right n few_pairs in
       omega (arith, out, round, one, two, few_sides, few_behind, turn_few, low)

@@ -13,6 +13,7 @@ use Rattle.walk_files.specs.declared.certificate.Answer.TheVariants.{Homotopic}
 use Rattle.text_scan.specs.Numbers.{number_of}
 use Rattle.walk_files.specs.Certificates.{head_of, head_among, behind_head, direction_of, move_of, moves_in, head_of_text, fitting_head, moves_of_text, list_behind, list_of_text, with_peak}
 use Rattle.walk_files.specs.MoveTexts.{direction_word, move_words, head_words, list_lines, list_text, FitsFormat, MoveFits}
+use Rattle.walk_files.specs.declared.limits.TheConstants.{MOST_PEAK}
 use Rattle.text_scan.proofs.WrittenLemmas.{IsWritable, IsLine, numbered, lines_from-written, decimal-writable, number_below-decimal}
 
 -- ---- the words that are written
@@ -115,7 +116,7 @@ list_of_text-list_text list fits =
     let lines = full_lines-list_text list fits in
     let end = end_line (list_text list) in
     let head : head_of_text (list_text list) ≡ Ok (Moves (length list.moves) list.peak) =
-    ap (head_among end) lines ∙ ap (fitting_head None 1) (head_of-head_words list fits) ∙ rw (le-ltb 16000000 list.peak fits.peak) refl in
+    ap (head_among end) lines ∙ ap (fitting_head None 1) (head_of-head_words list fits) ∙ rw (le-ltb MOST_PEAK list.peak fits.peak) refl in
     let moves : moves_of_text (length list.moves) (list_text list) ≡ Ok list.moves =
     ap (λ ls. moves_in end (length list.moves) (behind_head ls)) lines ∙ moves_in-numbered end 2 list.moves fits.moves in
     ap (λ h. list_behind h (list_text list)) head ∙ ap (λ m. Some (with_peak list.peak m)) moves
@@ -151,7 +152,7 @@ list_of_text-answered list fits =
     let end = end_line (answered_text list) in
     let head : head_of_text (answered_text list) ≡ Ok (Moves (length list.moves) list.peak) =
     ap (head_among end) lines ∙ ap (fitting_head (Some Homotopic) 2) (head_of-head_words list fits)
-    ∙ rw (le-ltb 16000000 list.peak fits.peak) refl in
+    ∙ rw (le-ltb MOST_PEAK list.peak fits.peak) refl in
     let moves : moves_of_text (length list.moves) (answered_text list) ≡ Ok list.moves =
     ap (λ ls. moves_in end (length list.moves) (behind_head ls)) lines ∙ moves_in-numbered end 3 list.moves fits.moves in
     ap (λ h. list_behind h (answered_text list)) head ∙ ap (λ m. Some (with_peak list.peak m)) moves

@@ -2,6 +2,7 @@ use Rattle.std.proofs.Common.{Err, refl, ap}
 use Rattle.surf_io.specs.Files.{file_of}
 use Rattle.commands.specs.Checks.{file}
 use Rattle.commands.specs.Refusals.{too_large}
+use Rattle.commands.specs.declared.inputs.TheConstants.{MOST_BYTES}
 use Rattle.commands.proofs.Checking.{long_file, told_stops}
 use Rattle.commands.proofs.Running.{reads_faulty, tells_no_fault}
 use Rattle.commands.proofs.inputs.read_file.Goals as goal
@@ -11,7 +12,7 @@ returns-in-Err-TooLarge g c =
     let files = g.S.Shelf.held c.args.shelf.now in
     let stop = c.too_large.result in
     let long =
-    long_file (file_of files c.args.name.now) 268435456 (c.in-Err-TooLarge.ensures.too_large (ap Err c.in-Err-TooLarge.field-0-is)) in
+    long_file (file_of files c.args.name.now) MOST_BYTES (c.in-Err-TooLarge.ensures.too_large (ap Err c.in-Err-TooLarge.field-0-is)) in
     reads_faulty g.S.Shelf.held g.S.Shelf.faults c.args.shelf.now c.read_whole.new.shelf _ stop c.in-Err-TooLarge.ensures.only_reads
     (tells_no_fault (too_large c.args.input) stop c.too_large.ensures)
     (told_stops (too_large c.args.input) (file files c.args.name.now c.args.input) stop (long.0, long.1, long.2, refl) c.too_large.ensures)

@@ -1,6 +1,7 @@
 use Rattle.std.proofs.Common.{◌≡◌, ◌+◌, ◌*◌, ◌≤◌, [], length}
 use Rattle.surf_model.specs.Vertices.{numbers}
 use Rattle.polygon_cut.specs.SpokeLoops.{IsOffCotree}
+use Rattle.move_lifting.specs.declared.expanding.TheConstants.{MOST_LIFTED_SIDES}
 use Rattle.move_lifting.proofs.ExpandLemmas.{IsLedSoFar}
 use Rattle.move_lifting.proofs.expanding.lead_all.Given as goal
 
@@ -9,5 +10,5 @@ invariant-loop-place l = record {
   led : IsLedSoFar l.on.surface.now l.on.split.now l.behind (numbers l.walk) l.fn.moves l.track l.place;
   off_cotree : IsOffCotree l.on.surface.now l.on.split.now l.track.walk;
   pending : l.pending.items ≡ [];
-  few : length l.track.walk ≤ 1 + l.place * 16384;
+  few : length l.track.walk ≤ 1 + l.place * MOST_LIFTED_SIDES;
 }

@@ -3,6 +3,7 @@ use Rattle.std.specs.Prelude.{[]}
 use Rattle.std.specs.List.{sum_by}
 use Rattle.surf_model.specs.Walks.{darts}
 use Rattle.walk_files.specs.WalkTexts.{walks_behind}
+use Rattle.walk_files.specs.declared.limits.TheConstants.{MOST_DARTS, MOST_LINES}
 use Rattle.walk_files.proofs.groups.read_groups.Given as goal
 
 -- the walks so far and the lines left are those of the text
@@ -11,8 +12,8 @@ invariant-loop-line l = record {
   walks : walks_behind [] l.fn.lines.lines ≡ walks_behind l.walks.walks l.lines.lines;
   version : l.walks.version ≡ 2;
   total : l.total ≡ sum_by darts l.walks.walks;
-  few : l.total ≤ 16000000;
-  count : length l.walks.walks ≤ 1000000;
+  few : l.total ≤ MOST_DARTS;
+  count : length l.walks.walks ≤ MOST_LINES;
 }
 
 abbrev pub decreases-loop-line : goal.decreases-loop-line

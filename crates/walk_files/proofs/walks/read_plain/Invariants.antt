@@ -3,6 +3,7 @@ use Rattle.std.specs.List.{enumerate_from}
 use Rattle.text_scan.specs.Unread.{lines_left}
 use Rattle.text_scan.specs.Each.{each_ok}
 use Rattle.walk_files.specs.NumberTexts.{plain_walks_of, walk_of, line_of_numbers}
+use Rattle.walk_files.specs.declared.limits.TheConstants.{MOST_WALK_VERTICES, MOST_LINES}
 use Rattle.text_scan.proofs.EachLemmas.{before_ok}
 use Rattle.walk_files.proofs.walks.read_plain.Given as goal
 
@@ -10,8 +11,8 @@ use Rattle.walk_files.proofs.walks.read_plain.Given as goal
 abbrev pub invariant-loop-alloc : goal.invariant-loop-alloc
 invariant-loop-alloc l =
     (plain_walks_of (lines_left l.fn.cursor) ≡ before_ok l.walks.walks
-    (each_ok (λ p. line_of_numbers walk_of 1000001 p.0 p.1) (enumerate_from (length l.walks.walks) (lines_left l.cursor))))
-    × (length l.walks.walks ≤ 1000000) × (l.walks.version ≡ 1)
+    (each_ok (λ p. line_of_numbers walk_of MOST_WALK_VERTICES p.0 p.1) (enumerate_from (length l.walks.walks) (lines_left l.cursor))))
+    × (length l.walks.walks ≤ MOST_LINES) × (l.walks.version ≡ 1)
 
 abbrev pub decreases-loop-alloc : goal.decreases-loop-alloc
 decreases-loop-alloc l = length (lines_left l.cursor)

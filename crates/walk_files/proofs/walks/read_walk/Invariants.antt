@@ -1,6 +1,7 @@
 use Rattle.std.proofs.Common.{◌≡◌, ◌+◌, length}
 use Rattle.text_scan.specs.Each.{each_some}
 use Rattle.text_scan.specs.Numbers.{number_of}
+use Rattle.walk_files.specs.declared.limits.TheConstants.{MOST_WALK_VERTICES}
 use Rattle.text_scan.proofs.EachLemmas.{before_some}
 use Rattle.walk_files.proofs.walks.read_walk.Given as goal
 
@@ -10,7 +11,7 @@ invariant-loop-walk l =
     record {
       numbers : each_some number_of l.fn.cursor.words ≡ before_some l.walk (each_some number_of l.cursor.words);
       count : length l.fn.cursor.words ≡ length l.walk + length l.cursor.words;
-      room : l.room + length l.walk ≡ 1000001;
+      room : l.room + length l.walk ≡ MOST_WALK_VERTICES;
       place : l.cursor ≡ record l.fn.cursor { words = l.cursor.words };
     }
 

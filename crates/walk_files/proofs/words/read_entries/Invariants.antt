@@ -2,6 +2,7 @@ use Rattle.std.proofs.Common.{◌≡◌, ◌+◌, length}
 use Rattle.text_scan.specs.Each.{each_some}
 use Rattle.text_scan.specs.Numbers.{number_of}
 use Rattle.walk_files.specs.NumberTexts.{entries_of}
+use Rattle.walk_files.specs.declared.limits.TheConstants.{MOST_ENTRIES}
 use Rattle.text_scan.proofs.EachLemmas.{before_some}
 use Rattle.walk_files.proofs.words.read_entries.Given as goal
 
@@ -11,7 +12,7 @@ invariant-loop-value l =
     record {
       numbers : entries_of l.fn.cursor.words ≡ before_some l.entries.items (each_some number_of l.cursor.words);
       count : length l.fn.cursor.words ≡ length l.entries.items + length l.cursor.words;
-      room : l.room + length l.entries.items ≡ 1000000;
+      room : l.room + length l.entries.items ≡ MOST_ENTRIES;
       place : l.cursor ≡ record l.fn.cursor { words = l.cursor.words };
     }
 
