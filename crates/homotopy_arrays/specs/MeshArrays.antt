@@ -5,6 +5,7 @@ use Rattle.surf_model.specs.FaceLists.{FaceList, IsFaceList}
 use Rattle.surf_model.specs.declared.limits.TheConstants.{MOST_VERTICES, MOST_SIDES}
 use Rattle.off_reader.specs.OffTexts.{has_equal_neighbours}
 use Rattle.homotopy_arrays.specs.declared.fault.Fault.{Fault}
+use Rattle.homotopy_arrays.specs.declared.mesh.MeshArrays.{MeshArrays}
 use Rattle.homotopy_arrays.specs.declared.fault.Fault.TheVariants.{ManyVertices, CornerCount, ManySides, FewCorners, NoVertex, EqualNeighbours}
 
 -- the arrays of a mesh that is within the limits
@@ -48,3 +49,7 @@ faces_behind vertices faces (size ∷ sizes) corners =
 -- the mesh that the arrays are
 unfoldable pub mesh_of : (vertices : ℕ) (sizes corners : List ℕ) → Result FaceList Fault
 mesh_of vertices sizes corners = unless (counts_fault vertices sizes corners) (faces_behind vertices [] sizes corners)
+
+-- the same of arrays that travel together
+abbrev pub mesh_in : MeshArrays → Result FaceList Fault
+mesh_in arrays = mesh_of arrays.vertices arrays.sizes.now arrays.corners.now

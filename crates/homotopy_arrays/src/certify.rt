@@ -4,10 +4,11 @@ ghost use Rattle.commands.specs.Certificates.{certificate_text};
 ghost use Rattle.commands.specs.Certify.{IsWithinLimits};
 ghost use Rattle.commands.specs.ClosedSurfaces.{IsSigned};
 ghost use Rattle.homotopy_arrays.specs.Certifications.{Certifies, IsCertified, IsCertifyFault, IsFaultOfPair, IsLimitFault, no_memory};
-ghost use Rattle.homotopy_arrays.specs.MeshArrays.{mesh_of};
+ghost use Rattle.homotopy_arrays.specs.MeshArrays.{mesh_in};
 ghost use Rattle.homotopy_arrays.specs.Pairs.{AreWalks};
 
 use crate::fault::Fault;
+use crate::mesh::MeshArrays;
 use crate::pair::{Checked, WalkFault, check_walks};
 use crate::surface::surface_of_arrays;
 use commands::certify::find_certificate;
@@ -54,16 +55,14 @@ impl From<AllocError> for CertifyFault {
 /// denial that holds.
 pub fn certify_arrays(
     alloc: Global,
-    vertices: u32,
-    sizes: &[u32],
-    corners: &[u32],
+    mesh: MeshArrays<'_>,
     first: &[u32],
     second: &[u32],
 ) -> Result<Certificate, CertifyFault>
-    ensures { MatchResult result (Certifies (mesh_of vertices sizes.now corners.now) first.now second.now)
-        (IsCertifyFault (mesh_of vertices sizes.now corners.now) first.now second.now) }
+    ensures { MatchResult result (Certifies (mesh_in mesh.entry) first.now second.now)
+        (IsCertifyFault (mesh_in mesh.entry) first.now second.now) }
 {
-    let surface = surface_of_arrays(alloc, vertices, sizes, corners)?;
+    let surface = surface_of_arrays(alloc, mesh)?;
     certify_on(alloc, surface, first, second)
 }
 

@@ -2,7 +2,7 @@
 ghost use Rattle.std.specs.Prelude.{IfOk, IsTrue};
 ghost use Rattle.homotopy_arrays.specs.CheckedPairs.{IsAnswerTo, IsPairOf};
 ghost use Rattle.homotopy_arrays.specs.Decisions.{AreDecided, IsDecideFault};
-ghost use Rattle.homotopy_arrays.specs.MeshArrays.{mesh_of};
+ghost use Rattle.homotopy_arrays.specs.MeshArrays.{mesh_in};
 ghost use Rattle.homotopy_arrays.specs.Pairs.{AreAnswers, are_pairs};
 ghost use Rattle.manifold_check.specs.ComponentParts.{AreParts};
 ghost use Rattle.homotopy_arrays.specs.Surfaces.{EndsOn};
@@ -11,6 +11,7 @@ ghost use Rattle.commands.specs.ClosedSurfaces.{IsSigned};
 use crate::by_parts::answer_by_parts;
 use crate::connected::answer_connected;
 use crate::fault::Fault;
+use crate::mesh::MeshArrays;
 use crate::pair::{Checked, WalkFault, are_pairs, check_pairs};
 use crate::surface::surface_of_arrays;
 use commands::SignedMesh;
@@ -36,16 +37,14 @@ pub enum PairAnswer {
 /// The surface is labelled once, or once for each component in which walks lie. Nothing is answered where memory is wanting.
 pub fn decide_arrays(
     alloc: Global,
-    vertices: u32,
-    sizes: &[u32],
-    corners: &[u32],
+    mesh: MeshArrays<'_>,
     walk_sizes: &[u32],
     walk_vertices: &[u32],
 ) -> Result<Vec<PairAnswer>, Fault>
-    ensures { EndsOn (mesh_of vertices sizes.now corners.now) (λ mesh given. AreDecided walk_sizes.now walk_vertices.now mesh given.items)
+    ensures { EndsOn (mesh_in mesh.entry) (λ mesh given. AreDecided walk_sizes.now walk_vertices.now mesh given.items)
         (IsDecideFault walk_sizes.now walk_vertices.now) result }
 {
-    let surface = surface_of_arrays(alloc, vertices, sizes, corners)?;
+    let surface = surface_of_arrays(alloc, mesh)?;
     if !are_pairs(walk_sizes, walk_vertices) {
         return Err(Fault::WalkCount);
     }

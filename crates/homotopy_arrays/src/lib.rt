@@ -15,7 +15,7 @@ mod verify;
 pub use certify::{CertifyFault, certify_arrays, text_of};
 pub use decide::{PairAnswer, decide_arrays};
 pub use fault::Fault;
-pub use mesh::mesh_of_arrays;
+pub use mesh::{MeshArrays, mesh_of_arrays};
 pub use pair::{MOST_WALK, WalkFault};
 pub use surface::{Measured, measure_arrays};
 pub use verify::{Judgement, VerifyFault, verify_arrays};

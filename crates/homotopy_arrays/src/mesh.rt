@@ -4,23 +4,30 @@ ghost use Rattle.std.specs.List.{list_all};
 ghost use Rattle.surf_model.specs.FaceLists.{total_sides};
 ghost use Rattle.surf_model.specs.declared.limits.TheConstants.{MOST_VERTICES, MOST_SIDES};
 ghost use Rattle.off_reader.specs.OffTexts.{has_equal_neighbours};
-ghost use Rattle.homotopy_arrays.specs.MeshArrays.{face_fault, mesh_of};
+ghost use Rattle.homotopy_arrays.specs.MeshArrays.{face_fault, mesh_in};
 
 use crate::fault::Fault;
 use std::alloc::Global;
 use surf_model::faces::corner_after;
 use surf_model::{FaceName, Faces, FacesBuilder, MOST_SIDES, MOST_VERTICES, VertexName};
 
-/// The mesh of so many vertices whose faces have these sizes, one after another, and these corners, face after face; or what is first
-/// wrong with the arrays.
-pub fn mesh_of_arrays(
-    alloc: Global,
-    vertices: u32,
-    sizes: &[u32],
-    corners: &[u32],
-) -> Result<Faces, Fault>
-    ensures { (result ≡ mesh_of vertices sizes.now corners.now) ⊎ (result ≡ Err Fault.OutOfMemory) }
+/// A mesh in arrays: how many vertices, the size of each face, and the corners of all faces, face after face.
+#[derive(Clone, Copy)]
+pub struct MeshArrays<'a> {
+    pub vertices: u32,
+    pub sizes: &'a [u32],
+    pub corners: &'a [u32],
+}
+
+/// The mesh that the arrays are, or what is first wrong with them.
+pub fn mesh_of_arrays(alloc: Global, mesh: MeshArrays<'_>) -> Result<Faces, Fault>
+    ensures { (result ≡ mesh_in mesh.entry) ⊎ (result ≡ Err Fault.OutOfMemory) }
 {
+    let MeshArrays {
+        vertices,
+        sizes,
+        corners,
+    } = mesh;
     if vertices > MOST_VERTICES {
         return Err(Fault::ManyVertices);
     }

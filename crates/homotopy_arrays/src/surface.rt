@@ -4,11 +4,11 @@ ghost use Rattle.surf_model.specs.FaceLists.{FaceList};
 ghost use Rattle.surf_model.specs.Edges.{IsTableOf};
 ghost use Rattle.surf_model.specs.Surfaces.{IsClosedManifold, IsCoherent, IsOrientable};
 ghost use Rattle.commands.specs.ClosedSurfaces.{IsSigned};
-ghost use Rattle.homotopy_arrays.specs.MeshArrays.{mesh_of};
+ghost use Rattle.homotopy_arrays.specs.MeshArrays.{mesh_in};
 ghost use Rattle.homotopy_arrays.specs.Surfaces.{EndsOn, IsMeasured, IsSurfaceFault, IsSurfaceOf};
 
 use crate::fault::Fault;
-use crate::mesh::mesh_of_arrays;
+use crate::mesh::{MeshArrays, mesh_of_arrays};
 use commands::SignedMesh;
 use commands::surface::{SurfaceNumbers, genera_of, numbers_of};
 use manifold_check::{Parts, check_closed};
@@ -24,15 +24,10 @@ pub struct Measured {
 }
 
 /// The numbers of the orientable closed surface that the arrays are, and the genus of each of its components; or what is first wrong.
-pub fn measure_arrays(
-    alloc: Global,
-    vertices: u32,
-    sizes: &[u32],
-    corners: &[u32],
-) -> Result<Measured, Fault>
-    ensures { EndsOn (mesh_of vertices sizes.now corners.now) IsMeasured IsSurfaceFault result }
+pub fn measure_arrays(alloc: Global, mesh: MeshArrays<'_>) -> Result<Measured, Fault>
+    ensures { EndsOn (mesh_in mesh.entry) IsMeasured IsSurfaceFault result }
 {
-    let surface = surface_of_arrays(alloc, vertices, sizes, corners)?;
+    let surface = surface_of_arrays(alloc, mesh)?;
     let parts = Parts::build(alloc, &surface.faces, &surface.sides)?;
     let numbers = numbers_of(&surface.faces, &surface.sides);
     let genera = genera_of(alloc, &surface, &parts)?;
@@ -40,15 +35,10 @@ pub fn measure_arrays(
 }
 
 /// The orientable closed surface that the arrays are, in one piece or in several; or what is first wrong.
-pub(crate) fn surface_of_arrays(
-    alloc: Global,
-    vertices: u32,
-    sizes: &[u32],
-    corners: &[u32],
-) -> Result<SignedMesh, Fault>
-    ensures { EndsOn (mesh_of vertices sizes.now corners.now) IsSurfaceOf IsSurfaceFault result }
+pub(crate) fn surface_of_arrays(alloc: Global, mesh: MeshArrays<'_>) -> Result<SignedMesh, Fault>
+    ensures { EndsOn (mesh_in mesh.entry) IsSurfaceOf IsSurfaceFault result }
 {
-    let faces = mesh_of_arrays(alloc, vertices, sizes, corners)?;
+    let faces = mesh_of_arrays(alloc, mesh)?;
     surface_of(alloc, faces)
 }
 

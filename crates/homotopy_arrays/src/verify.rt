@@ -4,10 +4,10 @@ ghost use Rattle.surf_model.specs.Edges.{IsTableOf};
 ghost use Rattle.surf_model.specs.Walks.{IsWalk};
 ghost use Rattle.walk_files.specs.Readers.{is_list, moves_left};
 ghost use Rattle.homotopy_arrays.specs.Judgements.{IsFaultOfMoves, IsFaultOfSpelling, IsFaultOfText, IsVerifyFault, Judges, JudgesSpelt, JudgesText, JudgesWalks, IsFaultOfWalks};
-ghost use Rattle.homotopy_arrays.specs.MeshArrays.{mesh_of};
+ghost use Rattle.homotopy_arrays.specs.MeshArrays.{mesh_in};
 
 use crate::fault::Fault;
-use crate::mesh::mesh_of_arrays;
+use crate::mesh::{MeshArrays, mesh_of_arrays};
 use crate::pair::{Checked, WalkFault, check_walks};
 use commands::MOST_BYTES;
 use labellings::{DenialVerdict, check_denial};
@@ -71,6 +71,13 @@ pub enum Judgement {
     Denial(DenialVerdict),
 }
 
+/// A mesh with its table.
+#[derive(Clone, Copy)]
+struct Tabled<'a> {
+    faces: &'a Faces,
+    sides: &'a Sides,
+}
+
 /// Two walks of a mesh.
 #[derive(Clone, Copy)]
 struct Compared<'a> {
@@ -83,17 +90,15 @@ struct Compared<'a> {
 /// What comes of the certificate that the bytes spell, between two walks of the mesh that the arrays are, which need be no surface.
 pub fn verify_arrays(
     alloc: Global,
-    vertices: u32,
-    sizes: &[u32],
-    corners: &[u32],
+    mesh: MeshArrays<'_>,
     first: &[u32],
     second: &[u32],
     certificate: &[u8],
 ) -> Result<Judgement, VerifyFault>
-    ensures { MatchResult result (Judges (mesh_of vertices sizes.now corners.now) first.now second.now certificate.now)
-        (IsVerifyFault (mesh_of vertices sizes.now corners.now) first.now second.now certificate.now) }
+    ensures { MatchResult result (Judges (mesh_in mesh.entry) first.now second.now certificate.now)
+        (IsVerifyFault (mesh_in mesh.entry) first.now second.now certificate.now) }
 {
-    let faces = mesh_of_arrays(alloc, vertices, sizes, corners)?;
+    let faces = mesh_of_arrays(alloc, mesh)?;
     let judged = verify_on(alloc, &faces, first, second, certificate);
     // By a call, which is proved once, and not here again.
     drop(faces);
@@ -114,7 +119,11 @@ fn verify_on(
     // The proof reads what holds of every face list.
     let _ = faces.len();
     let sides = Sides::build(alloc, faces)?;
-    let judged = verify_walks(alloc, faces, &sides, first, second, certificate);
+    let on = Tabled {
+        faces,
+        sides: &sides,
+    };
+    let judged = verify_walks(alloc, on, first, second, certificate);
     // By a call, which is proved once, and not here again.
     drop(sides);
     judged
@@ -123,25 +132,24 @@ fn verify_on(
 /// What comes of a certificate between two walks of the mesh that has this table.
 fn verify_walks(
     alloc: Global,
-    faces: &Faces,
-    sides: &Sides,
+    on: Tabled<'_>,
     first: &[u32],
     second: &[u32],
     certificate: &[u8],
 ) -> Result<Judgement, VerifyFault>
-    requires { IsTableOf faces.now sides.now }
-    ensures { MatchResult result (JudgesWalks faces.now first.now second.now certificate.now)
-        (IsFaultOfWalks faces.now first.now second.now certificate.now) }
+    requires { IsTableOf on.faces.now on.sides.now }
+    ensures { MatchResult result (JudgesWalks on.entry.faces.now first.now second.now certificate.now)
+        (IsFaultOfWalks on.entry.faces.now first.now second.now certificate.now) }
 {
-    match check_walks(alloc, sides, first, second)? {
+    match check_walks(alloc, on.sides, first, second)? {
         Checked::Pair(walks) => {
-            let on = Compared {
-                faces,
-                sides,
+            let compared = Compared {
+                faces: on.faces,
+                sides: on.sides,
                 first: walks.at(0),
                 second: walks.at(1),
             };
-            judge(alloc, &on, certificate)
+            judge(alloc, &compared, certificate)
         }
         Checked::Faulty(fault) => Err(VerifyFault::Walks(fault)),
     }

@@ -6,7 +6,7 @@ ghost use Rattle.homotopy_c.specs.Certified.{IsCertifyCall, IsShownPut, IsTextPu
 use crate::codes;
 use crate::outcome::{Outcome, coded, told, told_walks};
 use commands::Certificate;
-use homotopy_arrays::{CertifyFault, certify_arrays, text_of};
+use homotopy_arrays::{CertifyFault, MeshArrays, certify_arrays, text_of};
 use std::alloc::Global;
 
 /// Whether two walks of the orientable closed surface that the arrays are are homotopic, with the text that shows it: what the command
@@ -27,7 +27,12 @@ pub extern "C" fn homotopy_certify(
 )
     ensures { IsCertifyCall (mesh_of vertices sizes.now corners.now) first.now second.now text.old text.new outcome.new }
 {
-    match certify_arrays(alloc, vertices, sizes, corners, first, second) {
+    let mesh = MeshArrays {
+        vertices,
+        sizes,
+        corners,
+    };
+    match certify_arrays(alloc, mesh, first, second) {
         Ok(shown) => *outcome = put_shown(alloc, shown, text),
         Err(fault) => *outcome = told_certify(fault),
     }

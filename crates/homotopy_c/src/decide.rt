@@ -7,7 +7,7 @@ ghost use Rattle.homotopy_c.specs.Told.{IsDecideCall, in_front};
 use crate::codes;
 use crate::outcome::{Outcome, byte_of, coded, told};
 use crate::room::short_room;
-use homotopy_arrays::{PairAnswer, decide_arrays};
+use homotopy_arrays::{MeshArrays, PairAnswer, decide_arrays};
 use std::alloc::Global;
 
 /// Whether the two walks of each pair are homotopic on the surface that the arrays are: a byte for each pair, which is the code of its
@@ -33,7 +33,12 @@ pub extern "C" fn homotopy_decide(
         *outcome = short_room(wanted);
         return;
     }
-    match decide_arrays(alloc, vertices, sizes, corners, walk_sizes, walk_vertices) {
+    let mesh = MeshArrays {
+        vertices,
+        sizes,
+        corners,
+    };
+    match decide_arrays(alloc, mesh, walk_sizes, walk_vertices) {
         Ok(given) => {
             put_answers(&given, answers);
             *outcome = coded(codes::DONE, 0, 0, 0);

@@ -6,7 +6,7 @@ ghost use Rattle.homotopy_c.specs.Told.{IsSurfaceTold, numbers_of};
 use crate::codes;
 use crate::outcome::{Outcome, coded, told};
 use crate::room::put_numbers;
-use homotopy_arrays::{Measured, measure_arrays};
+use homotopy_arrays::{Measured, MeshArrays, measure_arrays};
 use std::alloc::Global;
 
 /// The numbers of a surface.
@@ -38,7 +38,12 @@ pub extern "C" fn homotopy_surface(
 )
     ensures { IsSurfaceTold (mesh_of vertices sizes.now corners.now) numbers.old numbers.new genera.old genera.new outcome.new }
 {
-    match measure_arrays(alloc, vertices, sizes, corners) {
+    let mesh = MeshArrays {
+        vertices,
+        sizes,
+        corners,
+    };
+    match measure_arrays(alloc, mesh) {
         Ok(measured) => {
             *numbers = numbers_of(&measured);
             *outcome = put_numbers(&measured.genera, genera, coded(codes::DONE, 0, 0, 0));

@@ -5,7 +5,7 @@ ghost use Rattle.homotopy_c.specs.Judged.{IsVerifyCall, judged, judged_denial, j
 
 use crate::codes;
 use crate::outcome::{Outcome, coded, told, told_walks};
-use homotopy_arrays::{Judgement, VerifyFault, verify_arrays};
+use homotopy_arrays::{Judgement, MeshArrays, VerifyFault, verify_arrays};
 use labellings::{DenialVerdict, LabelFault};
 use move_checker::{MoveFault, Verdict};
 use std::alloc::Global;
@@ -26,7 +26,12 @@ pub extern "C" fn homotopy_verify(
 )
     ensures { IsVerifyCall (mesh_of vertices sizes.now corners.now) first.now second.now certificate.now outcome.new }
 {
-    *outcome = match verify_arrays(alloc, vertices, sizes, corners, first, second, certificate) {
+    let mesh = MeshArrays {
+        vertices,
+        sizes,
+        corners,
+    };
+    *outcome = match verify_arrays(alloc, mesh, first, second, certificate) {
         Ok(judgement) => judged(judgement),
         Err(fault) => told_verify(fault),
     };

@@ -11,39 +11,39 @@ pub at-requires : goal.at-requires
 at-requires c =
     let first : List ℕ = c.args.first.now in
     let second : List ℕ = c.args.second.now in
-    let checked : IsChecked c.args.faces.now first second (Pair c.in-Pair.walks) =
-    subst (IsChecked c.args.faces.now first second) c.in-Pair.is (c.in_ok-walks.ensures c.args.faces.now c.requires) in
+    let checked : IsChecked c.args.on.faces.now first second (Pair c.in-Pair.walks) =
+    subst (IsChecked c.args.on.faces.now first second) c.in-Pair.is (c.in_ok-walks.ensures c.args.on.faces.now c.requires) in
     omega (arith, two_walks c.in-Pair.walks.walks first second checked.1)
 
 pub at-requires-in-Pair : goal.at-requires-in-Pair
 at-requires-in-Pair c =
     let first : List ℕ = c.args.first.now in
     let second : List ℕ = c.args.second.now in
-    let checked : IsChecked c.args.faces.now first second (Pair c.in-Pair.walks) =
-    subst (IsChecked c.args.faces.now first second) c.in-Pair.is (c.in_ok-walks.ensures c.args.faces.now c.requires) in
+    let checked : IsChecked c.args.on.faces.now first second (Pair c.in-Pair.walks) =
+    subst (IsChecked c.args.on.faces.now first second) c.in-Pair.is (c.in_ok-walks.ensures c.args.on.faces.now c.requires) in
     two_walks c.in-Pair.walks.walks first second checked.1
 
 pub judge-requires-clause-first : goal.judge-requires-clause-first
 judge-requires-clause-first c =
     let first : List ℕ = c.args.first.now in
     let second : List ℕ = c.args.second.now in
-    let checked : IsChecked c.args.faces.now first second (Pair c.in-Pair.walks) =
-    subst (IsChecked c.args.faces.now first second) c.in-Pair.is (c.in_ok-walks.ensures c.args.faces.now c.requires) in
-    subst (IsWalk c.args.faces.now) (first_of c.in-Pair.walks.walks first second c.at.result.now checked.1 c.at.ensures)
+    let checked : IsChecked c.args.on.faces.now first second (Pair c.in-Pair.walks) =
+    subst (IsChecked c.args.on.faces.now first second) c.in-Pair.is (c.in_ok-walks.ensures c.args.on.faces.now c.requires) in
+    subst (IsWalk c.args.on.faces.now) (first_of c.in-Pair.walks.walks first second c.at.result.now checked.1 c.at.ensures)
     checked.0.first_walk
 
 pub judge-requires-clause-second : goal.judge-requires-clause-second
 judge-requires-clause-second c =
     let first : List ℕ = c.args.first.now in
     let second : List ℕ = c.args.second.now in
-    let checked : IsChecked c.args.faces.now first second (Pair c.in-Pair.walks) =
-    subst (IsChecked c.args.faces.now first second) c.in-Pair.is (c.in_ok-walks.ensures c.args.faces.now c.requires) in
-    subst (IsWalk c.args.faces.now) (second_of c.in-Pair.walks.walks first second c.at-in-Pair.result.now checked.1 c.at-in-Pair.ensures)
+    let checked : IsChecked c.args.on.faces.now first second (Pair c.in-Pair.walks) =
+    subst (IsChecked c.args.on.faces.now first second) c.in-Pair.is (c.in_ok-walks.ensures c.args.on.faces.now c.requires) in
+    subst (IsWalk c.args.on.faces.now) (second_of c.in-Pair.walks.walks first second c.at-in-Pair.result.now checked.1 c.at-in-Pair.ensures)
     checked.0.second_walk
 
 pub returns-in-Pair : goal.returns-in-Pair
 returns-in-Pair c =
-    let faces = c.args.faces.now in
+    let faces = c.args.on.faces.now in
     let first : List ℕ = c.args.first.now in
     let second : List ℕ = c.args.second.now in
     let text : List ℕ = c.args.certificate.now in
@@ -62,6 +62,6 @@ pub returns-in-Faulty : goal.returns-in-Faulty
 returns-in-Faulty c =
     let first : List ℕ = c.args.first.now in
     let second : List ℕ = c.args.second.now in
-    let checked : IsChecked c.args.faces.now first second (Faulty c.in-Faulty.fault) =
-    subst (IsChecked c.args.faces.now first second) c.in-Faulty.is (c.in_ok-walks.ensures c.args.faces.now c.requires) in
+    let checked : IsChecked c.args.on.faces.now first second (Faulty c.in-Faulty.fault) =
+    subst (IsChecked c.args.on.faces.now first second) c.in-Faulty.is (c.in_ok-walks.ensures c.args.on.faces.now c.requires) in
     inr (inl (c.in-Faulty.fault, checked.0, checked.1, refl))
