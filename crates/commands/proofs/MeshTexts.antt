@@ -6,7 +6,7 @@ use Rattle.std.proofs.lemmas.Bool.{and_parts, leb-true}
 use Rattle.std.proofs.lemmas.List.Elements.{filter_map-append, All-nil, All-cons, All-append}
 use Rattle.std.proofs.lemmas.List.Sums.{sum_by-append}
 use Rattle.surf_io.specs.Files.{Files}
-use Rattle.surf_model.specs.FaceLists.{FaceList, IsFace, IsFaceList}
+use Rattle.surf_model.specs.FaceLists.{FaceList, IsFace, IsFaceList, HasFileSize}
 use Rattle.text_scan.specs.Lines.{Line, is_filled, full_lines, end_line}
 use Rattle.off_reader.specs.OffTexts.{◌>>=◌, Header, Keyword, coordinates_of, has_piece, counts_at, bare_counts, counts_behind, counted, two_naturals, line_before, keyword_in, header_of, taken, point_fault, face_fault, ring_fault, corners_of, rings_of, mesh_of, meaning_of}
 use Rattle.off_reader.specs.declared.off_fault.OffFault.{OffFault}
@@ -15,6 +15,8 @@ use Rattle.off_reader.proofs.RingLemmas.{ring_face, ring_room}
 use Rattle.commands.specs.Checks.{Passes, meant}
 use Rattle.commands.specs.Inputs.{mesh_in}
 use Rattle.commands.specs.Refusals.{off_line}
+use Rattle.surf_model.specs.declared.limits.TheConstants.{MOST_VERTICES, MOST_SIDES}
+use Rattle.off_reader.specs.declared.header.TheConstants.{MOST_FACES}
 
 -- ---- a header has few vertices
 
@@ -24,32 +26,33 @@ vertices_in (Err fault) = 0
 
 few_counted : (c : ℕ) (line : Line) (lines : List Line) (counts : Option (ℕ × ℕ)) (header : Header)
     → counted c line lines counts ≡ Ok header
-    → header.vertices ≤ 1000000
+    → header.vertices ≤ MOST_VERTICES
 unfolding vertices_in
 few_counted c line lines None header e = cc
-few_counted c line lines (Some counts) header e = by_test (nat_le counts.0 1000000 && nat_le counts.1 1333333) refl e
+few_counted c line lines (Some counts) header e = by_test (nat_le counts.0 MOST_VERTICES && nat_le counts.1 MOST_FACES) refl e
   where
-    by_test : (b : Bool) → (nat_le counts.0 1000000 && nat_le counts.1 1333333) ≡ b
+    by_test : (b : Bool) → (nat_le counts.0 MOST_VERTICES && nat_le counts.1 MOST_FACES) ≡ b
         → (if b then Ok (record { coordinates = c; vertices = counts.0; faces = counts.1; lines = lines }) else Err
         (TooMany line.number)) ≡ Ok header
-        → header.vertices ≤ 1000000
+        → header.vertices ≤ MOST_VERTICES
     by_test false t f = cc
     by_test true t f =
         let same : counts.0 ≡ header.vertices = ap vertices_in f in
-        subst (λ n. n ≤ 1000000) same (leb-true counts.0 1000000 (and_parts (nat_le counts.0 1000000) (nat_le counts.1 1333333) t).0)
+        subst (λ n. n ≤ MOST_VERTICES) same
+        (leb-true counts.0 MOST_VERTICES (and_parts (nat_le counts.0 MOST_VERTICES) (nat_le counts.1 MOST_FACES) t).0)
 
-few_at : (c : ℕ) (lines : List Line) (header : Header) → counts_at c lines ≡ Ok header → header.vertices ≤ 1000000
+few_at : (c : ℕ) (lines : List Line) (header : Header) → counts_at c lines ≡ Ok header → header.vertices ≤ MOST_VERTICES
 unfolding counts_at
 few_at c [] header e = cc
 few_at c (line ∷ lines) header e = few_counted c line lines (two_naturals line.words) header e
 
 few_behind : (keyword : Keyword) (line : Line) (lines : List Line) (header : Header) → counts_behind keyword line lines ≡ Ok header
-    → header.vertices ≤ 1000000
+    → header.vertices ≤ MOST_VERTICES
 few_behind keyword line lines header e = by_form (has_piece 110 keyword) (is_filled keyword.rest) e
   where
     bare : (b : Bool) → (if b then Err (UnreadForm line.number) else counts_at (coordinates_of keyword) (line_before line lines)) ≡ Ok
         header
-        → header.vertices ≤ 1000000
+        → header.vertices ≤ MOST_VERTICES
     bare true f = cc
     bare false f = few_at (coordinates_of keyword) (line_before line lines) header f
 
@@ -57,17 +60,17 @@ few_behind keyword line lines header e = by_form (has_piece 110 keyword) (is_fil
         → (if b then Err (UnreadForm line.number)
         else if d then counts_at (coordinates_of keyword) (record line { words = keyword.rest ∷ line.words } ∷ lines)
         else bare_counts (coordinates_of keyword) line lines) ≡ Ok header
-        → header.vertices ≤ 1000000
+        → header.vertices ≤ MOST_VERTICES
     by_form true d f = cc
     by_form false true f = few_at (coordinates_of keyword) (record line { words = keyword.rest ∷ line.words } ∷ lines) header f
     by_form false false f = bare (list_any (λ word. bytes_eq word (codes "BINARY")) (take 1 line.words)) f
 
-few_vertices : (lines : List Line) (header : Header) → header_of lines ≡ Ok header → header.vertices ≤ 1000000
+few_vertices : (lines : List Line) (header : Header) → header_of lines ≡ Ok header → header.vertices ≤ MOST_VERTICES
 unfolding header_of
 few_vertices [] header e = cc
 few_vertices (line ∷ lines) header e = by_keyword (keyword_in line.words) refl
   where
-    by_keyword : (o : Option Keyword) → keyword_in line.words ≡ o → header.vertices ≤ 1000000
+    by_keyword : (o : Option Keyword) → keyword_in line.words ≡ o → header.vertices ≤ MOST_VERTICES
     by_keyword None is =
         let same : header_of (line ∷ lines) ≡ counts_at 3 (line ∷ lines) = rw is refl in
         few_at 3 (line ∷ lines) header (sym same ∙ e)
@@ -78,9 +81,14 @@ few_vertices (line ∷ lines) header e = by_keyword (keyword_in line.words) refl
 
 -- ---- the lines that were taken name faces
 
+-- what holds of each mesh that a file spells
+record IsFileMesh (mesh : FaceList) : Type 0 where
+  valid : IsFaceList mesh
+  small : HasFileSize mesh
+
 record NameFaces (vertices : ℕ) (lines : List Line) : Type 0 where
   faces : All (IsFace vertices) (rings_of lines)
-  few : sum_by length (rings_of lines) ≤ 4000000
+  few : sum_by length (rings_of lines) ≤ MOST_SIDES
 
 one_more : (vertices : ℕ) (before : List Line) (line : Line) → NameFaces vertices before → face_fault vertices before line ≡ None
     → NameFaces vertices (before ++ line ∷ [])
@@ -142,37 +150,43 @@ all_name vertices end (suc n) before (line ∷ lines) parts h e =
 
 -- ---- the whole text
 
-by_faces : (vertices end n : ℕ) (lines : List Line) (mesh : FaceList) (read : Result (List Line × List Line) OffFault) → vertices ≤ 1000000
-    → taken (face_fault vertices) end [] n lines ≡ read
-    → (read >>= (λ faces. Ok (record { count = vertices; faces = rings_of faces.0 }))) ≡ Ok mesh → IsFaceList mesh
+by_faces : (vertices end n : ℕ) (lines : List Line) (mesh : FaceList) (read : Result (List Line × List Line) OffFault)
+    → vertices ≤ MOST_VERTICES → taken (face_fault vertices) end [] n lines ≡ read
+    → (read >>= (λ faces. Ok (record { count = vertices; faces = rings_of faces.0 }))) ≡ Ok mesh → IsFileMesh mesh
 by_faces vertices end n lines mesh (Err fault) few is e = cc
 by_faces vertices end n lines mesh (Ok parts) few is e =
     let none : NameFaces vertices [] = record { faces = All-nil (IsFace vertices); few = omega arith } in
     let named = all_name vertices end n [] lines parts none is in
-    let valid : IsFaceList (record { count = vertices; faces = rings_of parts.0 }) =
-    record { faces = named.faces; few_vertices = few; few_sides = named.few } in
+    let read : IsFileMesh (record { count = vertices; faces = rings_of parts.0 }) =
+    record { valid = record { faces = named.faces }; small = record { few_vertices = few; few_sides = named.few } } in
     let same : record { count = vertices; faces = rings_of parts.0 } ≡ mesh = cc in
-    subst IsFaceList same valid
+    subst IsFileMesh same read
 
-by_points : (vertices end n : ℕ) (mesh : FaceList) (read : Result (List Line × List Line) OffFault) → vertices ≤ 1000000
+by_points : (vertices end n : ℕ) (mesh : FaceList) (read : Result (List Line × List Line) OffFault) → vertices ≤ MOST_VERTICES
     → (read >>= (λ points. taken (face_fault vertices) end [] n points.1 >>=
     (λ faces. Ok (record { count = vertices; faces = rings_of faces.0 })))) ≡ Ok mesh
-    → IsFaceList mesh
+    → IsFileMesh mesh
 by_points vertices end n mesh (Err fault) few e = cc
 by_points vertices end n mesh (Ok parts) few e = by_faces vertices end n parts.1 mesh (taken (face_fault vertices) end [] n parts.1) few
     refl e
 
 by_header : (end : ℕ) (lines : List Line) (mesh : FaceList) (read : Result Header OffFault) → header_of lines ≡ read
     → mesh_of end lines ≡ Ok mesh
-    → IsFaceList mesh
+    → IsFileMesh mesh
 unfolding mesh_of
 by_header end lines mesh (Err fault) is e = let bad : mesh_of end lines ≡ Err fault = rw is refl in cc
 by_header end lines mesh (Ok header) is e =
     by_points header.vertices end header.faces mesh (taken (point_fault header.coordinates) end [] header.vertices header.lines)
     (few_vertices lines header is) (rw is at e)
 
+is_file_mesh : (text : List ℕ) (mesh : FaceList) → meaning_of text ≡ Ok mesh → IsFileMesh mesh
+is_file_mesh text mesh e = by_header (end_line text) (full_lines text) mesh (header_of (full_lines text)) refl e
+
 pub is_face_list : (text : List ℕ) (mesh : FaceList) → meaning_of text ≡ Ok mesh → IsFaceList mesh
-is_face_list text mesh e = by_header (end_line text) (full_lines text) mesh (header_of (full_lines text)) refl e
+is_face_list text mesh e = (is_file_mesh text mesh e).valid
+
+pub has_file_size : (text : List ℕ) (mesh : FaceList) → meaning_of text ≡ Ok mesh → HasFileSize mesh
+has_file_size text mesh e = (is_file_mesh text mesh e).small
 
 by_meaning : (mesh : FaceList) (text : List ℕ) (read : Result FaceList OffFault) → meaning_of text ≡ read
     → Passes (meant off_line read) mesh → IsFaceList mesh

@@ -1,5 +1,5 @@
 //! Whether the corners at each used vertex make one ring, or one fan where the vertex is on the boundary.
-ghost use Rattle.std.specs.Prelude.{◌≡◌, ◌<◌, ◌≤◌, ℕ, length, slice_set, IfOk, IfSome, IfNone, MatchOption};
+ghost use Rattle.std.specs.Prelude.{◌≡◌, ◌<◌, ◌^◌, ℕ, length, slice_set, IfOk, IfSome, IfNone, MatchOption};
 ghost use Rattle.surf_model.specs.FaceLists.{IsFaceList, total_sides};
 ghost use Rattle.surf_model.specs.Edges.{IsTableOf};
 ghost use Rattle.surf_model.specs.Darts.{IsSide, side_number, side_after};
@@ -8,7 +8,6 @@ ghost use Rattle.connectivity.specs.Joined.{NoEdgeHasThreeSides, EachVertexHasOn
 ghost use Rattle.connectivity.specs.Partitions.{AreRings, JoinsOnlyByCornerSteps};
 ghost use Rattle.connectivity.specs.Classes.{AreLeastMembers, KeepsJoined};
 ghost use Rattle.connectivity.specs.Links.{IsJoinedAcross, AreLinks, IsFirstPinched, with_ring, link_at};
-ghost use Rattle.surf_model.specs.declared.limits.TheConstants.{MOST_VERTICES};
 
 use crate::classes::Classes;
 use std::alloc::{AllocError, Global};
@@ -118,7 +117,8 @@ fn links(alloc: Global, faces: &Faces, rings: &[u32]) -> Result<Vec<Link>, Alloc
     requires count { length rings.now ≡ total_sides faces.now }
     requires rings { AreRings faces.now rings.now }
     requires least { AreLeastMembers rings.now }
-    ensures { IfOk result (λ links. AreLinks faces.now rings.now links.items) }
+    ensures links { IfOk result (λ links. AreLinks faces.now rings.now links.items) }
+    ensures few { IfOk result (λ links. length links.items < 2 ^ 32) }
 {
     let mut links = vec![in alloc; Link::NoRing; faces.count() as usize]?;
     for corner in 0..faces.total() {
@@ -142,7 +142,7 @@ fn add_ring(links: &mut [Link], vertex: VertexName)
 
 /// The first vertex whose link is pinched.
 fn first_pinched(links: &[Link]) -> Option<VertexName>
-    requires { length links.now ≤ MOST_VERTICES }
+    requires { length links.now < 2 ^ 32 }
     ensures some { IfSome result (λ vertex. IsFirstPinched links.now vertex.0) }
     ensures none { IfNone result ((v : ℕ) → v < length links.now → link_at links.now v ≡ Link.Pinched → ⊥) }
 {

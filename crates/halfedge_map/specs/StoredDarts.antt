@@ -1,6 +1,6 @@
 -- How the maps on the darts lie in memory: as lists, by rising darts, where the face list does not have them.
 use Rattle.std.specs.Prelude.{◌≡◌, ℕ, ◌<◌, false, [], Bool, List, length, slice_index_or}
-use Rattle.surf_model.specs.FaceLists.{FaceList}
+use Rattle.surf_model.specs.FaceLists.{FaceList, HasFileSize}
 use Rattle.surf_model.specs.declared.names.DartName.{DartName}
 use Rattle.surf_model.specs.declared.names.VertexName.{VertexName}
 use Rattle.surf_model.specs.Surfaces.{is_flipped}
@@ -38,6 +38,7 @@ signed mesh signs = record { mesh = mesh; table = []; signs = signs }
 -- what holds of a stored surface
 pub record IsStoredSurface (surface : OrientedMesh) (next : List DartName) (origins : Origins) (vertices : ℕ) : Type 0 where
   pub oriented : IsOrientedSurface surface
+  pub small : HasFileSize surface.mesh
   pub nexts : ListNexts surface (darts_of surface) next
   pub origins_kept : KeepOrigins surface (darts_of surface) origins
   pub used : vertices ≡ used_vertices surface

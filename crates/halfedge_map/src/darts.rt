@@ -1,6 +1,6 @@
 //! The maps on the darts of a mesh whose faces are signed, as they are kept.
 ghost use Rattle.std.specs.Prelude.{◌≡◌, ◌+◌, ◌<◌, ◌≤◌, ℕ, true, false, length, IfOk, OnOk};
-ghost use Rattle.surf_model.specs.FaceLists.{IsFaceList, is_used, total_sides};
+ghost use Rattle.surf_model.specs.FaceLists.{IsFaceList, HasFileSize, is_used, total_sides};
 ghost use Rattle.surf_model.specs.Darts.{first_side};
 ghost use Rattle.surf_model.specs.Edges.{IsTableOf};
 ghost use Rattle.surf_model.specs.Surfaces.{is_flipped};
@@ -30,6 +30,7 @@ pub(crate) fn next_darts(
     requires { length signs.now ≡ length faces.now.faces }
     // What holds of every face list.
     ensures valid { OnOk result (IsFaceList faces.now) }
+    ensures small { OnOk result (HasFileSize faces.now) }
     ensures stored { IfOk result (λ next. ListNexts (signed faces.now signs.now) (total_sides faces.now) next.items) }
 {
     let mut next = Vec::with_capacity(alloc, faces.total() as usize)?;

@@ -43,7 +43,7 @@ impl Surface {
     ghost use Rattle.halfedge_map.specs.OrientedMeshes.{OrientedMesh, IsOrientedSurface};
     ghost use Rattle.halfedge_map.specs.DartMaps.{darts_of, next_of, twin_of, origin_of, face_of, edge_of, used_vertices, euler_of};
     ghost use Rattle.halfedge_map.specs.RotationSystems.{rotations_of, IsDartFrom};
-    ghost use Rattle.surf_model.specs.FaceLists.{is_edge};
+    ghost use Rattle.surf_model.specs.FaceLists.{is_edge, HasFileSize};
 
     /// The surface of a mesh, from the table of its edges and from coherent signs of its faces. The mesh is a closed manifold, of
     /// which any two used vertices are joined by a walk.
@@ -77,6 +77,7 @@ impl Surface {
         ensures mesh { result.now ≡ self.now.mesh }
         // What holds of every surface.
         ensures valid { IsOrientedSurface self.now }
+        ensures small { HasFileSize self.now.mesh }
     {
         &self.faces
     }
@@ -100,6 +101,7 @@ impl Surface {
         ensures count { result ≡ darts_of self.now }
         // What holds of every surface.
         ensures valid { IsOrientedSurface self.now }
+        ensures small { HasFileSize self.now.mesh }
     {
         // The proof reads it there.
         let _ = &self.next;
@@ -165,6 +167,8 @@ impl Surface {
         requires { dart.0 < darts_of self.now }
         ensures twin { result.0 ≡ twin_of self.now dart.0 }
         ensures within { result.0 < darts_of self.now }
+        // What holds of every surface.
+        ensures small { HasFileSize self.now.mesh }
     {
         // The proof reads what holds of every surface.
         let _ = &self.next;

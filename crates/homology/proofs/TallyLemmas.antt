@@ -6,7 +6,7 @@ use Rattle.std.proofs.lemmas.Int.{ints}
 use Rattle.std.proofs.lemmas.Bool.{cases_eq, cases_lt}
 use Rattle.std.proofs.lemmas.Bool.Decides.{nat_tests}
 use Rattle.std.proofs.lemmas.List.{get_or-set_same, get_or-set_other, length-set, get_or_default, get_or_past}
-use Rattle.surf_model.specs.FaceLists.{FaceList, FaceSide, IsFaceList, face_at, sides_of_face, is_edge}
+use Rattle.surf_model.specs.FaceLists.{FaceList, FaceSide, HasFileSize, face_at, sides_of_face, is_edge}
 use Rattle.surf_model.specs.Walks.{IsWalk}
 use Rattle.surf_model.specs.declared.limits.TheConstants.{MOST_SIDES}
 use Rattle.surf_model.specs.Edges.{Edge, IsTableOf, IsPairBefore, HasEnds, edge_in}
@@ -285,14 +285,14 @@ walk_room table walk k amount old now e grew l within small few =
     omega (arith, size, few_taken (suc k) walk)
 
 -- a face has few sides
-pub face_few : (mesh : FaceList) (f : ℕ) → IsFaceList mesh → f < length mesh.faces → length (face_at mesh f) ≤ MOST_SIDES
-face_few mesh f valid few =
+pub face_few : (mesh : FaceList) (f : ℕ) → HasFileSize mesh → f < length mesh.faces → length (face_at mesh f) ≤ MOST_SIDES
+face_few mesh f small few =
     let whole = length-sides_up_to mesh (f + 1) in
     let parts : length (sides_up_to mesh (f + 1)) ≡ length (sides_up_to mesh f) + length (face_at mesh f) =
     ap (λ (sides : List FaceSide). length sides) (sides_up_to-more mesh f few)
     ∙ length-append (sides_up_to mesh f) (sides_of_face f (face_at mesh f))
     ∙ ap (λ n. length (sides_up_to mesh f) + n) (length-sides_of_face f (face_at mesh f)) in
-    omega (arith, whole, parts, valid.few_sides)
+    omega (arith, whole, parts, small.few_sides)
 
 -- there is room for one more side
 pub face_room : (table : List Edge) (sides : List FaceSide) (t : ℕ) (amount : ℤ) (old now : List ℤ) (e : ℕ)
@@ -308,10 +308,10 @@ face_room table sides t amount old now e grew l within small few =
     omega (arith, size, few_taken t sides)
 
 -- there is room for one more face
-pub faces_room : (mesh : FaceList) (table : List Edge) (of_face : List ℤ) (n : ℕ) (old now : List ℤ) → IsFaceList mesh
+pub faces_room : (mesh : FaceList) (table : List Edge) (of_face : List ℤ) (n : ℕ) (old now : List ℤ) → HasFileSize mesh
     → GrewBy table (λ low high. neg_ℤ (shares_up_to mesh of_face n low high)) old now → length old ≡ length table
     → AreWithin (2 ^ 33) old → AreWithin MOST_NUMBER of_face → AreWithin (2 ^ 60) now
-faces_room mesh table of_face n old now valid grew long within small = record {
+faces_room mesh table of_face n old now limits grew long within small = record {
   each = λ k. elim (cases_lt k (length table)) [
     | inl l ↦
         let low : ℕ = (edge_in table k).low in
@@ -324,7 +324,7 @@ faces_room mesh table of_face n old now valid grew long within small = record {
         omega (arith, sum, size-opposite (shares_up_to mesh of_face n low high)) in
         let size = grown_size table (λ low high. neg_ℤ (shares_up_to mesh of_face n low high)) old now k (2 ^ 33)
         (MOST_NUMBER * length (sides_up_to mesh n)) grew l within back in
-        omega (arith, size, length-sides_up_to mesh n, valid.few_sides)
+        omega (arith, size, length-sides_up_to mesh n, limits.few_sides)
     | inr past ↦
         let none : number_at now k ≡ pos 0 = get_or_past now k (pos 0) (omega (arith, grew.long, long, past)) in
         subst (λ z. unsigned_abs z ≤ 2 ^ 60) (sym none) (omega arith)

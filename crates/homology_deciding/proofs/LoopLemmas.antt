@@ -9,7 +9,7 @@ use Rattle.std.proofs.lemmas.Bool.Decides.{nat_tests}
 use Rattle.std.proofs.lemmas.List.{get_or-set_same, get_or-set_other, get_or_past, get_or_append_left, length-set}
 use Rattle.std.proofs.Math.Seq.{get_or-append_seam}
 use Rattle.std.proofs.Math.Nat.{mul-suc}
-use Rattle.surf_model.specs.FaceLists.{IsFaceList, total_sides}
+use Rattle.surf_model.specs.FaceLists.{IsFaceList, HasFileSize, total_sides}
 use Rattle.surf_model.specs.Edges.{Edge, edge_in, HasEnds}
 use Rattle.surf_model.specs.declared.names.DartName.{DartName}
 use Rattle.surf_model.specs.declared.limits.TheConstants.{MOST_SIDES}
@@ -170,12 +170,12 @@ faces-le-sides (face ∷ faces) some =
     let more = faces-le-sides faces (All-tail (λ (x : List ℕ). 0 < length x) face faces some) in
     omega (arith, here, more, sum_by-cons (λ (x : List ℕ). length x) face faces)
 
-pub few_faces : (s : OrientedMesh) → IsOrientedSurface s → length s.mesh.faces ≤ MOST_SIDES
-few_faces s o =
+pub few_faces : (s : OrientedMesh) → IsOrientedSurface s → HasFileSize s.mesh → length s.mesh.faces ≤ MOST_SIDES
+few_faces s o small =
     omega (
       arith,
       faces-le-sides s.mesh.faces (λ k d l. omega (arith, (o.faces.faces k d l).polygon)),
-      o.faces.few_sides,
+      small.few_sides,
     )
 
 module _ (tree : FaceTree) (h : IsTree tree) (counts : List ℤ) (small : AreWithin MOST_NUMBER counts) where

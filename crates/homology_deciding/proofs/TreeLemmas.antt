@@ -2,6 +2,7 @@
 use Rattle.std.proofs.Common.{◌≡◌, ◌≢◌, ◌⊎◌, inl, inr, ℕ, zero, suc, ◌+◌, ◌<◌, ◌≤◌, Bool, true, List, [], ◌∷◌, length, get_or, refl, ap, sym, ◌∙◌, subst, arith}
 use Rattle.std.specs.Prelude.{Option, Some, None, is_some}
 use Rattle.std.proofs.lemmas.Bool.{cases_lt}
+use Rattle.surf_model.specs.FaceLists.{HasFileSize}
 use Rattle.surf_model.specs.Surfaces.{IsPath}
 use Rattle.surf_model.specs.declared.names.DartName.{DartName}
 use Rattle.halfedge_map.specs.OrientedMeshes.{OrientedMesh, IsOrientedSurface}
@@ -112,9 +113,11 @@ module _ (s : OrientedMesh) (split : SplitView) (o : IsOrientedSurface s) (t : I
         absurd (omega (arith, one, two, same, twice.before))
   ]
 
-  pub tree_of : (ups : List (Option DartName)) → AreUps s split (length s.table) ups → IsTreeOfFaces s split.root_face ups
-  tree_of ups h = record {
+  pub tree_of : HasFileSize s.mesh → (ups : List (Option DartName)) → AreUps s split (length s.table) ups
+      → IsTreeOfFaces s split.root_face ups
+  tree_of small ups h = record {
     valid = o;
+    small = small;
     each_face = h.each_face;
     root_below = t.child_faces.root_below;
     none = no_up (up_of ups split.root_face) refl;

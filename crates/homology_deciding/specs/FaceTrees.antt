@@ -1,5 +1,6 @@
 -- A tree over the faces of a surface, and the ways up in it.
 use Rattle.std.specs.Prelude.{◌≡◌, ◌≢◌, ℕ, suc, ◌<◌, true, List, [], ◌∷◌, length, slice_index_or, Option, Some, None, is_some, ℤ, pos, ◌+ℤ◌}
+use Rattle.surf_model.specs.FaceLists.{HasFileSize}
 use Rattle.surf_model.specs.declared.names.DartName.{DartName}
 use Rattle.halfedge_map.specs.OrientedMeshes.{OrientedMesh, IsOrientedSurface}
 use Rattle.halfedge_map.specs.DartMaps.{darts_of, face_of, edge_of, origin_of, twin_of}
@@ -20,6 +21,7 @@ face_across surface dart = face_of surface (twin_of surface dart)
 -- root.
 pub record IsTreeOfFaces (surface : OrientedMesh) (root : ℕ) (ups : List (Option DartName)) : Type 0 where
   pub valid : IsOrientedSurface surface
+  pub small : HasFileSize surface.mesh
   pub each_face : length ups ≡ length surface.mesh.faces
   pub root_below : root < length surface.mesh.faces
   pub none : up_of ups root ≡ None

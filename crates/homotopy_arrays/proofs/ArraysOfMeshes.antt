@@ -154,6 +154,8 @@ read_arrays mesh vertices sizes corners e =
     record {
       valid = record {
         faces = subst (λ (n : ℕ). All (IsFace n) mesh.faces) (sym cut.count) (subst (All (IsFace vertices)) (sym cut.faces) cut.each);
+      };
+      small = record {
         few_vertices = omega (arith, counts.few, cut.count);
         few_sides = omega (arith, total, counts.all, counts.room);
       };
@@ -169,7 +171,7 @@ arrays_read mesh vertices sizes corners h =
     ap (sum_by (λ x. x)) h.sizes_are ∙ sizes_total mesh.faces ∙ sym (length-flat_map (λ face. face) mesh.faces)
     ∙ ap length (sym h.corners_are) in
     let sides : total_sides mesh ≡ length corners = sym (sizes_total mesh.faces) ∙ ap (sum_by (λ x. x)) (sym h.sizes_are) ∙ total in
-    counts_good vertices sizes corners (omega (arith, h.vertices_are, h.valid.few_vertices)) total (omega (arith, sides, h.valid.few_sides))
+    counts_good vertices sizes corners (omega (arith, h.vertices_are, h.small.few_vertices)) total (omega (arith, sides, h.small.few_sides))
     ∙ ap₂ (λ (s c : List ℕ). faces_behind vertices [] s c) h.sizes_are h.corners_are
     ∙ ap (λ (n : ℕ). faces_behind n [] (map length mesh.faces) (flat_map (λ face. face) mesh.faces)) h.vertices_are
     ∙ put_faces mesh.count [] mesh.faces h.valid.faces

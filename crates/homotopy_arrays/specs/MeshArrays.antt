@@ -1,7 +1,7 @@
 -- Meshes as arrays: a vertex count, the size of each face, and the corners of all faces, face after face.
 use Rattle.std.specs.Prelude.{◌≡◌, ℕ, ◌==◌, not, nat_lt, if◌then◌else◌, List, [], ◌∷◌, ◌++◌, length, take, drop, map, flat_map, sum, Option, Some, None, Result, Ok, Err}
 use Rattle.std.specs.List.{list_all}
-use Rattle.surf_model.specs.FaceLists.{FaceList, IsFaceList}
+use Rattle.surf_model.specs.FaceLists.{FaceList, IsFaceList, HasFileSize}
 use Rattle.surf_model.specs.declared.limits.TheConstants.{MOST_VERTICES, MOST_SIDES}
 use Rattle.off_reader.specs.OffTexts.{has_equal_neighbours}
 use Rattle.homotopy_arrays.specs.declared.fault.Fault.{Fault}
@@ -11,6 +11,7 @@ use Rattle.homotopy_arrays.specs.declared.fault.Fault.TheVariants.{ManyVertices,
 -- the arrays of a mesh that is within the limits
 pub record AreArraysOf (mesh : FaceList) (vertices : ℕ) (sizes corners : List ℕ) : Type 0 where
   pub valid : IsFaceList mesh
+  pub small : HasFileSize mesh
   pub vertices_are : vertices ≡ mesh.count
   pub sizes_are : sizes ≡ map length mesh.faces
   pub corners_are : corners ≡ flat_map (λ face. face) mesh.faces

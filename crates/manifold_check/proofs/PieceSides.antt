@@ -9,7 +9,7 @@ use Rattle.std.proofs.lemmas.List.{length-map, ext_get_or, get_or-map}
 use Rattle.std.proofs.lemmas.List.Elements.{filter-append, All-tail}
 use Rattle.std.proofs.lemmas.List.FromFn.{length-range_with_len, get_or-range_with_len, length-map-range_with_len, get_or-map-range_with_len}
 use Rattle.std.proofs.lemmas.List.Sums.{sum_by-cons, sum_by_more_le}
-use Rattle.surf_model.specs.FaceLists.{FaceList, FaceSide, face_at, next_corner, all_sides, sides_of_face, joins, total_sides, IsFace, IsFaceList}
+use Rattle.surf_model.specs.FaceLists.{FaceList, FaceSide, face_at, next_corner, all_sides, sides_of_face, joins, total_sides, IsFace, IsFaceList, HasFileSize}
 use Rattle.surf_model.specs.Surfaces.{sides_between}
 use Rattle.surf_model.proofs.FilterLemmas.{filter-map, filter_none}
 use Rattle.surf_model.proofs.NumberLemmas.{face_side}
@@ -160,13 +160,17 @@ total_alone mesh Inside names h =
       whole,
     )
 
--- what holds of each face list of the program holds of the submesh
+-- the submesh of a polygon mesh is one
 pub valid_alone : (mesh : FaceList) (Inside : ℕ → Type 0) (names : List ℕ) → IsPiece mesh Inside names → IsFaceList mesh
     → IsFaceList (submesh mesh names)
 valid_alone mesh Inside names h valid = record {
   faces = λ f d l.
       let few : f < length names = omega (arith, l, length-submesh mesh names) in
       subst (IsFace mesh.count) (sym (get_or-map (face_at mesh) names f 0 d few)) (valid.faces (get_or names f 0) [] (h.each f few));
-  few_vertices = valid.few_vertices;
-  few_sides = omega (arith, total_alone mesh Inside names h, valid.few_sides);
 }
+
+-- and it is no larger
+pub small_alone : (mesh : FaceList) (Inside : ℕ → Type 0) (names : List ℕ) → IsPiece mesh Inside names → HasFileSize mesh
+    → HasFileSize (submesh mesh names)
+small_alone mesh Inside names h small =
+    record { few_vertices = small.few_vertices; few_sides = omega (arith, total_alone mesh Inside names h, small.few_sides) }

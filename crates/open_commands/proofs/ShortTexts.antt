@@ -7,7 +7,7 @@ use Rattle.std.proofs.lemmas.List.{get_or_append_left, get_or-append-add}
 use Rattle.std.proofs.lemmas.List.Elements.{All-nil, All-cons, All-head, All-tail}
 use Rattle.std.proofs.lemmas.List.Sums.{sum_by-cons, get_or-le-sum_by}
 use Rattle.text_scan.specs.Plain.{line_of}
-use Rattle.surf_model.specs.FaceLists.{FaceList, IsFace, IsFaceList, is_used, face_at, corners_from, total_sides}
+use Rattle.surf_model.specs.FaceLists.{FaceList, IsFace, IsFaceList, HasFileSize, is_used, face_at, corners_from, total_sides}
 use Rattle.surf_model.specs.Moves.{PeakedMoves, Leads, apply, apply_all, greatest_darts}
 use Rattle.surf_model.specs.Walks.{IsWalk, darts}
 use Rattle.surf_model.specs.declared.moves.Move.{Move}
@@ -27,13 +27,14 @@ use Rattle.commands.specs.declared.certificate.Certificate.TheVariants.{Moves}
 use Rattle.commands.specs.declared.certify.TheConstants.{MOST_SPHERE_MOVES}
 use Rattle.commands.specs.declared.inputs.TheConstants.{MOST_BYTES}
 use Rattle.open_commands.specs.declared.certify_open.TheConstants.{MOST_OPEN_BYTES}
+use Rattle.surf_model.specs.declared.limits.TheConstants.{MOST_VERTICES}
 
 -- ---- the moves of such a list have small numbers
 
 -- no place is more than this, and what else the move names is of a mesh of few sides
 abbrev IsSmall : ℕ → Move → Type 0
-IsSmall most (Insert at via) = (at ≤ most) × (via.0 < 1000000)
-IsSmall most (Remove at via) = (at ≤ most) × (via.0 < 1000000)
+IsSmall most (Insert at via) = (at ≤ most) × (via.0 < MOST_VERTICES)
+IsSmall most (Remove at via) = (at ≤ most) × (via.0 < MOST_VERTICES)
 IsSmall most (Across at face corner forward taken) =
     (at ≤ most) × (face.0 < 10000) × (corner < MOST_OPEN_SIDES) × (taken ≤ MOST_OPEN_SIDES)
 
@@ -75,45 +76,46 @@ length_corners : (ring : List ℕ) (rising : Bool) (t k : ℕ) → 0 < length (c
 length_corners ring rising t zero = omega arith
 length_corners ring rising t (suc k) = omega arith
 
-module _ (mesh : FaceList) (most : ℕ) (valid : IsFaceList mesh) (few : total_sides mesh ≤ MOST_OPEN_SIDES) where
-  move_small : (walk next : List ℕ) (move : Move) → IsWalk mesh walk → darts walk ≤ most → apply mesh walk move ≡ Some next
-      → IsSmall most move
-  move_small walk next (Insert at via) w short e =
-      let r = (by_replacing mesh walk next (Insert at via) w.starts).0 e in
-      let some : 0 < length r.part = omega (arith, ap (λ (l : List ℕ). length l) r.replaces.2) in
-      let used : is_used mesh via.0 ≡ true = edge_used mesh r.replaces.0 via.0 r.replaces.1 in (
-        omega (arith, place_within walk r.before r.part r.after at r.walk_is r.place some, short),
-        omega (arith, used_below mesh via.0 valid used, valid.few_vertices),
-      )
-  move_small walk next (Remove at via) w short e =
-      let r = (by_replacing mesh walk next (Remove at via) w.starts).0 e in
-      let some : 0 < length r.part = omega (arith, ap (λ (l : List ℕ). length l) r.replaces.1) in
-      let used : is_used mesh via.0 ≡ true =
-      spur_used mesh walk r.before r.after r.replaces.0 via.0 w
-      (subst (λ (part : List ℕ). walk ≡ r.before ++ part ++ r.after) r.replaces.1 r.walk_is) in (
-        omega (arith, place_within walk r.before r.part r.after at r.walk_is r.place some, short),
-        omega (arith, used_below mesh via.0 valid used, valid.few_vertices),
-      )
-  move_small walk next (Across at face corner forward taken) w short e =
-      let r = (by_replacing mesh walk next (Across at face corner forward taken) w.starts).0 e in
-      let ring : List ℕ = face_at mesh face.0 in
-      let some : 0 < length r.part =
-      omega (arith, ap (λ (l : List ℕ). length l) r.replaces.3, length_corners ring forward corner taken) in
-      let sides : length ring ≤ total_sides mesh = get_or-le-sum_by (length {A = ℕ}) mesh.faces face.0 [] r.replaces.0 in (
-        omega (arith, place_within walk r.before r.part r.after at r.walk_is r.place some, short),
-        omega (arith, faces_few mesh.count mesh.faces valid.faces, r.replaces.0, few),
-        omega (arith, r.replaces.1, sides, few),
-        omega (arith, r.replaces.2, sides, few),
-      )
+module _ (mesh : FaceList) (most : ℕ) (valid : IsFaceList mesh) (small : HasFileSize mesh) (few : total_sides mesh ≤ MOST_OPEN_SIDES)
+  where
+    move_small : (walk next : List ℕ) (move : Move) → IsWalk mesh walk → darts walk ≤ most → apply mesh walk move ≡ Some next
+        → IsSmall most move
+    move_small walk next (Insert at via) w short e =
+        let r = (by_replacing mesh walk next (Insert at via) w.starts).0 e in
+        let some : 0 < length r.part = omega (arith, ap (λ (l : List ℕ). length l) r.replaces.2) in
+        let used : is_used mesh via.0 ≡ true = edge_used mesh r.replaces.0 via.0 r.replaces.1 in (
+          omega (arith, place_within walk r.before r.part r.after at r.walk_is r.place some, short),
+          omega (arith, used_below mesh via.0 valid used, small.few_vertices),
+        )
+    move_small walk next (Remove at via) w short e =
+        let r = (by_replacing mesh walk next (Remove at via) w.starts).0 e in
+        let some : 0 < length r.part = omega (arith, ap (λ (l : List ℕ). length l) r.replaces.1) in
+        let used : is_used mesh via.0 ≡ true =
+        spur_used mesh walk r.before r.after r.replaces.0 via.0 w
+        (subst (λ (part : List ℕ). walk ≡ r.before ++ part ++ r.after) r.replaces.1 r.walk_is) in (
+          omega (arith, place_within walk r.before r.part r.after at r.walk_is r.place some, short),
+          omega (arith, used_below mesh via.0 valid used, small.few_vertices),
+        )
+    move_small walk next (Across at face corner forward taken) w short e =
+        let r = (by_replacing mesh walk next (Across at face corner forward taken) w.starts).0 e in
+        let ring : List ℕ = face_at mesh face.0 in
+        let some : 0 < length r.part =
+        omega (arith, ap (λ (l : List ℕ). length l) r.replaces.3, length_corners ring forward corner taken) in
+        let sides : length ring ≤ total_sides mesh = get_or-le-sum_by (length {A = ℕ}) mesh.faces face.0 [] r.replaces.0 in (
+          omega (arith, place_within walk r.before r.part r.after at r.walk_is r.place some, short),
+          omega (arith, faces_few mesh.count mesh.faces valid.faces, r.replaces.0, few),
+          omega (arith, r.replaces.1, sides, few),
+          omega (arith, r.replaces.2, sides, few),
+        )
 
-  moves_small : (walk next : List ℕ) (moves : List Move) → IsWalk mesh walk → Leads mesh walk moves next
-      → greatest_darts mesh walk moves ≤ most → All (IsSmall most) moves
-  moves_small walk next [] w leads short = All-nil (IsSmall most)
-  moves_small walk next (move ∷ moves) w leads short =
-      let told = first_answer (λ x. apply_all mesh x moves) (apply mesh walk move) next leads in
-      let peaks = greatest_darts-more mesh walk told.0 move moves told.1 in
-      All-cons (IsSmall most) move moves (move_small walk told.0 move w (omega (arith, short, peaks)) told.1)
-      (moves_small told.0 next moves (keeps_walk mesh walk told.0 move w told.1) told.2 (omega (arith, short, peaks)))
+    moves_small : (walk next : List ℕ) (moves : List Move) → IsWalk mesh walk → Leads mesh walk moves next
+        → greatest_darts mesh walk moves ≤ most → All (IsSmall most) moves
+    moves_small walk next [] w leads short = All-nil (IsSmall most)
+    moves_small walk next (move ∷ moves) w leads short =
+        let told = first_answer (λ x. apply_all mesh x moves) (apply mesh walk move) next leads in
+        let peaks = greatest_darts-more mesh walk told.0 move moves told.1 in
+        All-cons (IsSmall most) move moves (move_small walk told.0 move w (omega (arith, short, peaks)) told.1)
+        (moves_small told.0 next moves (keeps_walk mesh walk told.0 move w told.1) told.2 (omega (arith, short, peaks)))
 
 -- ---- their lines
 
@@ -195,10 +197,10 @@ head_short k list some few peak wide high =
 
 -- the numbers of a list have so many digits at most, and its moves are no more than so many
 list_short : (mesh : FaceList) (first second : List ℕ) (list : PeakedMoves) (k most : ℕ) → IsFaceList mesh
-    → total_sides mesh ≤ MOST_OPEN_SIDES → IsWalk mesh first → LeadsAtPeak mesh first list second → 0 < k → most < 10 ^ k → most < 2 ^ 64
-    → length list.moves ≤ most → list.peak ≤ most
+    → HasFileSize mesh → total_sides mesh ≤ MOST_OPEN_SIDES → IsWalk mesh first → LeadsAtPeak mesh first list second → 0 < k
+    → most < 10 ^ k → most < 2 ^ 64 → length list.moves ≤ most → list.peak ≤ most
     → length (certificate_text (Moves list)) ≤ 18 + 2 * k + length list.moves * (22 + k)
-list_short mesh first second list k most valid sides w h some few wide moves peak =
+list_short mesh first second list k most valid small sides w h some few wide moves peak =
     omega (
       arith,
       length-append (decision_line Homotopic) (list_text list),
@@ -206,27 +208,28 @@ list_short mesh first second list k most valid sides w h some few wide moves pea
       head_short k list some (omega (arith, moves, few)) (omega (arith, peak, few)) (omega (arith, moves, wide))
           (omega (arith, peak, wide)),
       lines_short k most (22 + k) list.moves (λ move small. move_line k most move some few wide small)
-          (moves_small mesh most valid sides first second list.moves w h.leads (omega (arith, peak, h.peak))),
+          (moves_small mesh most valid small sides first second list.moves w h.leads (omega (arith, peak, h.peak))),
     )
 
-pub text_short : (mesh : FaceList) (first second : List ℕ) (list : PeakedMoves) → IsFaceList mesh → total_sides mesh ≤ MOST_OPEN_SIDES
-    → IsWalk mesh first → LeadsAtPeak mesh first list second → IsWithin MOST_OPEN_STEPS list
+pub text_short : (mesh : FaceList) (first second : List ℕ) (list : PeakedMoves) → IsFaceList mesh → HasFileSize mesh
+    → total_sides mesh ≤ MOST_OPEN_SIDES → IsWalk mesh first → LeadsAtPeak mesh first list second → IsWithin MOST_OPEN_STEPS list
     → length (certificate_text (Moves list)) ≤ MOST_OPEN_BYTES
-text_short mesh first second list valid sides w h within =
+text_short mesh first second list valid small sides w h within =
     omega (
       arith,
-      list_short mesh first second list 7 MOST_OPEN_STEPS valid sides w h (omega arith) (omega arith) (omega arith) within.moves
+      list_short mesh first second list 7 MOST_OPEN_STEPS valid small sides w h (omega arith) (omega arith) (omega arith) within.moves
           within.peak,
       within.moves,
     )
 
 -- a list on a sphere, whose peak is one that is read
-pub sphere_text_short : (mesh : FaceList) (first second : List ℕ) (list : PeakedMoves) → IsFaceList mesh
+pub sphere_text_short : (mesh : FaceList) (first second : List ℕ) (list : PeakedMoves) → IsFaceList mesh → HasFileSize mesh
     → total_sides mesh ≤ MOST_OPEN_SIDES → IsWalk mesh first → LeadsAtPeak mesh first list second → length list.moves ≤ MOST_SPHERE_MOVES
     → list.peak ≤ MOST_PEAK → length (certificate_text (Moves list)) ≤ MOST_BYTES
-sphere_text_short mesh first second list valid sides w h moves peak =
+sphere_text_short mesh first second list valid small sides w h moves peak =
     omega (
       arith,
-      list_short mesh first second list 8 MOST_PEAK valid sides w h (omega arith) (omega arith) (omega arith) (omega (arith, moves)) peak,
+      list_short mesh first second list 8 MOST_PEAK valid small sides w h (omega arith) (omega arith) (omega arith)
+          (omega (arith, moves)) peak,
       moves,
     )

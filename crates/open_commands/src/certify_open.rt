@@ -1,6 +1,6 @@
 //! The command `certify-open`: a list of moves from the one walk of a surface with boundary to the other.
 ghost use Rattle.std.specs.Prelude.{◌≤◌, ℕ, List, IfOk, IfSome, IfNone};
-ghost use Rattle.surf_model.specs.FaceLists.{FaceList, IsFaceList, total_sides};
+ghost use Rattle.surf_model.specs.FaceLists.{FaceList, IsFaceList, HasFileSize, total_sides};
 ghost use Rattle.surf_model.specs.Walks.{IsWalk};
 ghost use Rattle.walk_translate.specs.declared.deciding.Answer.TheVariants.{Homotopic, Different};
 ghost use Rattle.free_forms.specs.PeakedLists.{LeadsAtPeak, IsWithin};
@@ -33,7 +33,7 @@ pub fn certify_open<S: Shelf>(
 {
     let pair = read_open_pair(alloc, shelf, mesh, walks)?;
     // The proof reads what holds of every open mesh.
-    let _ = pair.surface.faces();
+    let _ = pair.surface.faces().len();
     let found = lift_open(alloc, &pair.surface, pair.walks.at(0), pair.walks.at(1))?;
     Ok(reply_with(found))
 }
@@ -43,8 +43,9 @@ fn reply_with(found: Option<MoveList>) -> Reply
     ensures some { IfSome found (λ list. (mesh : FaceList) (first second : List ℕ) → LeadsAtPeak mesh first list second
         → IsWithin MOST_OPEN_STEPS list → IsReplyTo (list_answer mesh first second Homotopic) result) }
     ensures none { (mesh : FaceList) (first second : List ℕ) → IfNone found (IsReplyTo (list_answer mesh first second Different) result) }
-    ensures short { (mesh : FaceList) (first second : List ℕ) → IsFaceList mesh → total_sides mesh ≤ MOST_OPEN_SIDES → IsWalk mesh first
-        → IfSome found (λ list. LeadsAtPeak mesh first list second × IsWithin MOST_OPEN_STEPS list) → IsShortReply result }
+    ensures short { (mesh : FaceList) (first second : List ℕ) → IsFaceList mesh → HasFileSize mesh → total_sides mesh ≤ MOST_OPEN_SIDES
+        → IsWalk mesh first → IfSome found (λ list. LeadsAtPeak mesh first list second × IsWithin MOST_OPEN_STEPS list)
+        → IsShortReply result }
 {
     match found {
         Some(list) => Reply::Yes(Text::Certificate(Certificate::Moves(list))),

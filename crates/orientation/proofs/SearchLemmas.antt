@@ -3,7 +3,7 @@ use mathlib.Core.Bool.{beq}
 use Rattle.std.proofs.Common.{◌≡◌, ◌⊎◌, inl, inr, ℕ, ◌+◌, ◌<◌, ◌≤◌, Bool, true, false, not, List, [], ◌∷◌, ◌++◌, length, refl, ap, sym, ◌∙◌, subst, arith, below_more, replicate}
 use Rattle.std.proofs.lemmas.Bool.{cases_lt, both_ways}
 use Rattle.std.proofs.lemmas.List.{length_push, get_or_past, get_or-set_same, get_or-replicate, length-replicate}
-use Rattle.surf_model.specs.FaceLists.{FaceList, IsFaceList, face_at}
+use Rattle.surf_model.specs.FaceLists.{FaceList, IsFaceList, HasFileSize, face_at}
 use Rattle.surf_model.specs.Surfaces.{ArePartners, IsCoherent, is_flipped}
 use Rattle.surf_model.specs.declared.edges.Side.{Side}
 use Rattle.surf_model.specs.declared.names.FaceName.{FaceName}
@@ -188,16 +188,17 @@ none_seen n f =
       | inr more ↦ get_or_past (replicate n false) f false (omega (arith, more, length-replicate n false))
     ]
 
-pub through_none : (mesh : FaceList) (n : ℕ) (growth : Growth) (waiting : List FaceName) → IsFaceList mesh → n ≡ length mesh.faces
-    → growth ≡ unseen n → waiting ≡ []
+pub through_none : (mesh : FaceList) (n : ℕ) (growth : Growth) (waiting : List FaceName) → IsFaceList mesh → HasFileSize mesh
+    → n ≡ length mesh.faces → growth ≡ unseen n → waiting ≡ []
     → IsThrough mesh growth waiting 0
-through_none mesh n growth waiting is size fresh empty =
+through_none mesh n growth waiting is small size fresh empty =
     let none : (f : ℕ) → is_seen growth f ≡ true → ⊥ = λ f seen. both_ways (is_seen growth f)
     (ap (λ g. is_seen g f) fresh ∙ none_seen n f) seen in
     record {
       search = record {
         trees = record {
           mesh_is = is;
+          small = small;
           each_face = ap (λ (g : Growth). length g.seen) fresh ∙ length-replicate n false ∙ size;
           signs = ap (λ (g : Growth). length g.flipped) fresh ∙ length-replicate n false ∙ size;
           places = ap (λ (g : Growth). length g.places) fresh ∙ length-replicate n no_place ∙ size;

@@ -7,7 +7,7 @@ use Rattle.std.proofs.lemmas.List.{get_or-set_other, get_or-set_same}
 use Rattle.std.proofs.Math.ListN.{length-set}
 use Rattle.std.proofs.lemmas.List.Sums.{sum_by-set, count_by-le-length, sum_by-cons}
 use Rattle.std.proofs.lemmas.List.Elements.{Contains-append_left, Contains-push, Contains-push_cases, All-weaker, All-push, All-head, All-tail, All-contains, Contains-get_or}
-use Rattle.surf_model.specs.FaceLists.{FaceList, IsFaceList, IsFace, face_at}
+use Rattle.surf_model.specs.FaceLists.{FaceList, IsFaceList, HasFileSize, IsFace, face_at}
 use Rattle.surf_model.specs.Surfaces.{IsPath, ArePartners, IsCoherent, is_flipped}
 use Rattle.surf_model.specs.declared.edges.Side.{Side}
 use Rattle.surf_model.specs.declared.names.FaceName.{FaceName}
@@ -127,6 +127,7 @@ put_kept mesh growth g b p h few none new shallow =
     let place : place_of (with_face growth g b p) g ≡ p = get_or-set_same growth.places g p _ (omega (arith, few, h.places)) in
     record {
       mesh_is = h.mesh_is;
+      small = h.small;
       each_face = length-set growth.seen g true ∙ h.each_face;
       signs = length-set growth.flipped g b ∙ h.signs;
       places = length-set growth.places g p ∙ h.places;
@@ -414,8 +415,8 @@ faces_few count (face ∷ faces) h =
       sum_by-cons {X = List ℕ} length face faces,
     )
 
-pub few_faces : (mesh : FaceList) → IsFaceList mesh → 3 * length mesh.faces ≤ MOST_SIDES
-few_faces mesh h = omega (arith, faces_few mesh.count mesh.faces h.faces, h.few_sides)
+pub few_faces : (mesh : FaceList) → IsFaceList mesh → HasFileSize mesh → 3 * length mesh.faces ≤ MOST_SIDES
+few_faces mesh h small = omega (arith, faces_few mesh.count mesh.faces h.faces, small.few_sides)
 
 -- the sign that fits
 pub fitting : (a b : Bool) → differ a (not (beq a b)) ≡ b

@@ -1,6 +1,6 @@
 -- The search for signs: trees of faces, each face found from another one across an edge.
 use Rattle.std.specs.Prelude.{◌≡◌, ◌⊎◌, ℕ, ◌+◌, ◌<◌, Bool, true, false, not, ◌==◌, List, length, count_by, slice_index_or, slice_set, replicate, All, Contains, Option, None, Some}
-use Rattle.surf_model.specs.FaceLists.{FaceList, IsFaceList}
+use Rattle.surf_model.specs.FaceLists.{FaceList, IsFaceList, HasFileSize}
 use Rattle.surf_model.specs.Darts.{tail_of, head_of}
 use Rattle.surf_model.specs.Surfaces.{ArePartners, is_flipped}
 use Rattle.surf_model.specs.declared.edges.Side.{Side}
@@ -85,6 +85,7 @@ pub record IsFirst (mesh : FaceList) (growth : Growth) (f : ℕ) : Type 0 where
 -- the faces that were seen stand in trees
 pub record AreTrees (mesh : FaceList) (growth : Growth) : Type 0 where
   pub mesh_is : IsFaceList mesh
+  pub small : HasFileSize mesh
   pub each_face : length growth.seen ≡ length mesh.faces
   pub signs : length growth.flipped ≡ length mesh.faces
   pub places : length growth.places ≡ length mesh.faces

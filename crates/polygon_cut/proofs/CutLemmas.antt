@@ -2,6 +2,7 @@
 use Rattle.std.proofs.Common.{◌≡◌, ℕ, ◌*◌, ◌^◌, ◌<◌, true, false, List, length, ◌-◌, ap, sym, ◌∙◌, subst, arith, inl, inr}
 use Rattle.std.specs.Prelude.{slice_index}
 use Rattle.std.proofs.lemmas.Bool.{cases_Bool, both_ways}
+use Rattle.surf_model.specs.FaceLists.{HasFileSize}
 use Rattle.surf_model.specs.declared.names.DartName.{DartName}
 use Rattle.halfedge_map.specs.Numbers.{count_below}
 use Rattle.halfedge_map.specs.Orbits.{after_steps}
@@ -76,14 +77,14 @@ four_each s colouring last sides labels o t w =
     omega (arith, along, doubled, t.genus, w.walked.each_left)
 
 -- the sides are few
-pub few_sides : (s : OrientedMesh) (split : SplitView) (last : ℕ) (sides labels : List ℕ) → IsOrientedSurface s
+pub few_sides : (s : OrientedMesh) (split : SplitView) (last : ℕ) (sides labels : List ℕ) → HasFileSize s.mesh
     → IsRingWalk s split last sides labels → length sides < 2 ^ 32
-few_sides s split last sides labels o w =
+few_sides s split last sides labels small w =
     omega (
       arith,
       count_at_most (left_at (rotations_of s) (outer_ring s split) (is_left split) (outer_ring s split last)) (darts_of s),
       w.walked.each_left,
-      o.faces.few_sides,
+      small.few_sides,
     )
 
 -- the walk that `last` ends

@@ -1,5 +1,6 @@
 //! A walk once along the ring of tree and leftover edges, which labels each dart.
 ghost use Rattle.std.specs.Prelude.{◌≡◌, ◌<◌, ℕ, true, false, length, IfOk, MatchOption};
+ghost use Rattle.surf_model.specs.FaceLists.{HasFileSize};
 ghost use Rattle.halfedge_map.specs.OrientedMeshes.{IsOrientedSurface};
 ghost use Rattle.halfedge_map.specs.DartMaps.{darts_of, edge_of, face_of};
 ghost use Rattle.halfedge_map.specs.RotationSystems.{rotations_of};
@@ -42,6 +43,7 @@ pub(crate) fn leftover_in_root(surface: &Surface, colouring: &Colouring) -> Opti
         × (is_left (without_ways colouring.now) (edge_of surface.now dart.0) ≡ true)) }
     // What holds of every surface.
     ensures valid { IsOrientedSurface surface.now }
+    ensures small { HasFileSize surface.now.mesh }
 {
     let face = colouring.root_face();
     let first = surface.faces().first_dart(face).0;

@@ -2,11 +2,11 @@
 use Rattle.std.proofs.Common.{◌≡◌, ℕ, ◌≤◌, List, [], length, get_or, sym, subst, arith}
 use Rattle.std.specs.Prelude.{codes, Option, Some, None, IsSomeAnd}
 use Rattle.surf_io.specs.Files.{Files, file_of}
-use Rattle.surf_model.specs.FaceLists.{FaceList, IsFaceList, total_sides}
+use Rattle.surf_model.specs.FaceLists.{FaceList, IsFaceList, HasFileSize, total_sides}
 use Rattle.surf_model.specs.Walks.{IsWalk}
 use Rattle.move_lifting.specs.declared.expanding.TheConstants.{MOST_LIFTED_SIDES}
 use Rattle.verify_commands.proofs.Accepting.{accepted, spelled}
-use Rattle.commands.proofs.MeshTexts.{is_face_list}
+use Rattle.commands.proofs.MeshTexts.{is_face_list, has_file_size}
 use Rattle.commands.proofs.Sound.{held}
 use Rattle.commands.specs.Certificates.{Convinces, IsPeakLow, IsShortOnSphere, certificate_text}
 use Rattle.commands.specs.Certify.{IsCertifyInput, IsWithinLimits, IsCertificatePrinted}
@@ -61,7 +61,8 @@ printed_accepted files words mesh first second status text input limits printed 
     let off = held files input.mesh_name (SpellsMesh mesh) input.mesh_file in
     let pair = (held files input.walks_name (SpellsPair mesh first second) input.walks_file).holds in
     let own : SpellsCertificate printed.shown (certificate_text printed.shown) =
-    spelled mesh first second printed.shown (is_face_list off.bytes mesh off.holds) pair.first_walk (omega (arith, limits.few))
+    spelled mesh first second printed.shown (is_face_list off.bytes mesh off.holds) (has_file_size off.bytes mesh off.holds)
+    pair.first_walk (omega (arith, limits.few))
     (omega (arith, limits.few)) printed.convinces printed.low (subst (λ (t : List ℕ). length t ≤ MOST_BYTES) printed.text_is short) in
     let spells : SpellsCertificate printed.shown text = subst (SpellsCertificate printed.shown) (sym printed.text_is) own in
     record {
@@ -73,12 +74,12 @@ printed_accepted files words mesh first second status text input limits printed 
     }
 
 -- for walks on a sphere its text is short
-sphere_short : (mesh : FaceList) (first second : List ℕ) (shown : Certificate) → IsFaceList mesh → total_sides mesh ≤ MOST_LIFTED_SIDES
-    → IsWalk mesh first → LiesOnSphere mesh (get_or first 0 0) → Convinces mesh first second shown → IsPeakLow shown
-    → IsShortOnSphere mesh first shown → length (certificate_text shown) ≤ MOST_BYTES
-sphere_short mesh first second (Moves list) valid sides w sphere h read short =
-    sphere_text_short mesh first second list valid (omega (arith, sides)) w h (short sphere) (omega (arith, read))
-sphere_short mesh first second (Denial denial) valid sides w sphere h read short = absurd (short sphere)
+sphere_short : (mesh : FaceList) (first second : List ℕ) (shown : Certificate) → IsFaceList mesh → HasFileSize mesh
+    → total_sides mesh ≤ MOST_LIFTED_SIDES → IsWalk mesh first → LiesOnSphere mesh (get_or first 0 0) → Convinces mesh first second shown
+    → IsPeakLow shown → IsShortOnSphere mesh first shown → length (certificate_text shown) ≤ MOST_BYTES
+sphere_short mesh first second (Moves list) valid small sides w sphere h read short =
+    sphere_text_short mesh first second list valid small (omega (arith, sides)) w h (short sphere) (omega (arith, read))
+sphere_short mesh first second (Denial denial) valid small sides w sphere h read short = absurd (short sphere)
 
 pub printed_on_sphere_accepted : (files : Option Files) (words : List (List ℕ)) (mesh : FaceList) (first second : List ℕ) (status : Status)
     (text : List ℕ) → IsCertifyInput files words mesh first second → IsWithinLimits mesh first second
@@ -89,7 +90,8 @@ printed_on_sphere_accepted files words mesh first second status text input limit
     let pair = (held files input.walks_name (SpellsPair mesh first second) input.walks_file).holds in
     printed_accepted files words mesh first second status text input limits printed
     (subst (λ (t : List ℕ). length t ≤ MOST_BYTES) (sym printed.text_is)
-    (sphere_short mesh first second printed.shown (is_face_list off.bytes mesh off.holds) limits.sides pair.first_walk sphere
+    (sphere_short mesh first second printed.shown (is_face_list off.bytes mesh off.holds) (has_file_size off.bytes mesh off.holds)
+    limits.sides pair.first_walk sphere
     printed.convinces printed.low printed.short))
 
 -- a list of `certify-open`, which is short
@@ -102,10 +104,12 @@ printed_list_accepted files words mesh first second status text input limits pri
     let off = held files input.mesh_name (SpellsMesh mesh) input.mesh_file in
     let pair = (held files input.walks_name (SpellsPair mesh first second) input.walks_file).holds in
     let valid = is_face_list off.bytes mesh off.holds in
-    let short = text_short mesh first second printed.list valid limits.sides pair.first_walk
+    let small = has_file_size off.bytes mesh off.holds in
+    let short = text_short mesh first second printed.list valid small limits.sides pair.first_walk
     (record { leads = printed.convinces.leads; peak = printed.convinces.peak }) within in
     let own : SpellsCertificate (Moves printed.list) (certificate_text (Moves printed.list)) =
-    spelled mesh first second (Moves printed.list) valid pair.first_walk (omega (arith, limits.few)) (omega (arith, limits.few))
+    spelled mesh first second (Moves printed.list) valid small pair.first_walk (omega (arith, limits.few))
+    (omega (arith, limits.few))
     printed.convinces (omega (arith, within.peak)) (omega (arith, short)) in
     let spells : SpellsCertificate (Moves printed.list) text = subst (SpellsCertificate (Moves printed.list)) (sym printed.text_is) own in
     record {

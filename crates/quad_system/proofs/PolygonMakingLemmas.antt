@@ -6,7 +6,7 @@ use Rattle.std.proofs.lemmas.Bool.{cases_eq, cases_Bool, eq-eqb, eqb-true}
 use Rattle.std.proofs.lemmas.Grind.{same_number_lists}
 use Rattle.std.proofs.lemmas.List.{take_more, take_all, take_at, drop_at, drop-drop, map-append, length-append, length-drop, length-take-le, length_push, get_or-take, get_or-drop, get_or_append_left, get_or-append_right}
 use Rattle.std.proofs.lemmas.List.FromFn.{get_or-map-range_with_len, length-map-range_with_len, get_or-enumerate_from, length-enumerate_from}
-use Rattle.surf_model.specs.FaceLists.{FaceList, IsFace, IsFaceList, face_at, next_corner, total_sides}
+use Rattle.surf_model.specs.FaceLists.{FaceList, IsFace, IsFaceList, HasFileSize, face_at, next_corner, total_sides}
 use Rattle.surf_model.specs.Darts.{first_side}
 use Rattle.surf_model.specs.Parts.{parts, EndsRise}
 use Rattle.surf_model.specs.Surfaces.{is_flipped}
@@ -157,19 +157,20 @@ made_none s polygon signs ends long no_signs no_ends = rw (no_signs, no_ends) (r
 
 pub made_more : (s : OrientedMesh) (polygon : PolygonView) (k : ℕ) (signs : List Bool) (ends labels new : List ℕ) (flipped : Bool)
     (start end : ℕ)
-    → IsFaceList s.mesh → length s.mesh.faces < 2 ^ 32 → length polygon.labels ≡ darts_of s → IsMadeUpTo s polygon k signs ends labels
+    → IsFaceList s.mesh → HasFileSize s.mesh → length s.mesh.faces < 2 ^ 32 → length polygon.labels ≡ darts_of s
+    → IsMadeUpTo s polygon k signs ends labels
     → k < length s.mesh.faces
     → flipped ≡ is_flipped s.signs k → start ≡ first_side s.mesh k → end ≡ start + length (face_at s.mesh k)
     → new ≡ take start labels ++ at_corners flipped (between start end labels) ++ drop end labels
     → IsMadeUpTo s polygon (k + 1) (signs ++ flipped ∷ []) (ends ++ end ∷ []) new
-made_more s polygon k signs ends labels new flipped start end valid count long made l sign from to is =
+made_more s polygon k signs ends labels new flipped start end valid small count long made l sign from to is =
     record {
       few = omega (arith, l);
       each_face = length_push ends end ∙ ap (λ n. n + 1) made.each_face;
       each_dart = all;
       stored = subst (λ (xs : List ℕ). IsStoredLabelling (signs ++ flipped ∷ []) (ends ++ end ∷ []) xs []) (sym front)
           (IsStoredLabelling-push signs ends done [] flipped face end made.stored reach (omega (arith, made.each_face, l, count))
-          (omega (arith, size, inside, valid.few_sides)));
+          (omega (arith, size, inside, small.few_sides)));
       faces = ap (λ (xs : List ℕ). with_signs (signs ++ flipped ∷ []) (parts 0 (ends ++ end ∷ []) xs)) front
           ∙ stored_labelling-push 0 signs ends done [] flipped face end made.stored reach
           ∙ ap (λ (fs : List FaceLabels). fs ++ one_face flipped face ∷ []) made.faces

@@ -105,9 +105,9 @@ IsStored-push count ends corners face m h ok room e =
     let all_faces : All (IsFace count) (stored_mesh count (ends ++ m ∷ []) (corners ++ face)).faces =
     All-same (IsFace count) _ _ (ap (λ (mesh : FaceList). mesh.faces) (stored_mesh-push count ends corners face m h.rising e)) faces in
     record {
-      mesh = record {
-        faces = all_faces;
-        few_vertices = h.mesh.few_vertices;
+      mesh = record { faces = all_faces };
+      small = record {
+        few_vertices = h.small.few_vertices;
         few_sides = omega (arith, all_total, whole, e, total, room);
       };
       rising = rises_whole;

@@ -36,9 +36,12 @@ pub record IsFace (count : ℕ) (face : List ℕ) : Type 0 where
 abbrev pub total_sides : FaceList → ℕ
 total_sides mesh = sum_by length mesh.faces
 
--- what holds of each face list of the program; the bounds are those of a mesh file
+-- what makes a face list a polygon mesh: each face is one
 pub record IsFaceList (mesh : FaceList) : Type 0 where
   pub faces : All (IsFace mesh.count) mesh.faces
+
+-- the bounds of a mesh file, which each face list of the program keeps to
+pub record HasFileSize (mesh : FaceList) : Type 0 where
   pub few_vertices : mesh.count ≤ MOST_VERTICES
   pub few_sides : total_sides mesh ≤ MOST_SIDES
 

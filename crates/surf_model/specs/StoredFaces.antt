@@ -2,7 +2,7 @@
 use Rattle.std.specs.Prelude.{ℕ, ◌*◌, ◌≤◌, List, length, take, drop}
 use Rattle.surf_model.specs.Parts.{parts, last_end, EndsRise}
 use Rattle.surf_model.specs.Vertices.{numbers}
-use Rattle.surf_model.specs.FaceLists.{FaceList, PendingFace, IsFaceList}
+use Rattle.surf_model.specs.FaceLists.{FaceList, PendingFace, IsFaceList, HasFileSize}
 use Rattle.surf_model.specs.declared.names.VertexName.{VertexName}
 use Rattle.surf_model.specs.declared.limits.TheConstants.{MOST_SIDES}
 
@@ -12,6 +12,7 @@ stored_mesh count ends corners = record { count = count; faces = parts 0 ends (n
 
 pub record IsStored (count : ℕ) (ends : List ℕ) (corners : List VertexName) : Type 0 where
   pub mesh : IsFaceList (stored_mesh count ends corners)
+  pub small : HasFileSize (stored_mesh count ends corners)
   pub rising : EndsRise 0 ends (length corners)
   pub few_corners : length corners ≤ MOST_SIDES
   pub few_faces : 3 * length ends ≤ length corners

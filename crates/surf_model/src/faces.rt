@@ -1,6 +1,6 @@
 //! Face lists: polygon meshes as lists of faces, each face the ring of its corners.
 ghost use Rattle.std.specs.Prelude.{◌≡◌, ◌+◌, ◌<◌, ◌≤◌, [], ◌∷◌, ◌++◌, length, slice_index, OnOk, OnErr, IfOk};
-ghost use Rattle.surf_model.specs.FaceLists.{face_at, next_corner, total_sides, IsFace, IsFaceList};
+ghost use Rattle.surf_model.specs.FaceLists.{face_at, next_corner, total_sides, IsFace, IsFaceList, HasFileSize};
 ghost use Rattle.surf_model.specs.Darts.{first_side, IsSide, side_number, side_after, tail_of};
 ghost use Rattle.surf_model.specs.StoredEdges.{IsNumbering};
 ghost use Rattle.surf_model.specs.Vertices.{numbers};
@@ -85,6 +85,7 @@ impl Faces {
         ensures count { result ≡ length self.now.faces }
         // What holds of every face list.
         ensures valid { IsFaceList self.now }
+        ensures small { HasFileSize self.now }
     {
         self.parts.len()
     }

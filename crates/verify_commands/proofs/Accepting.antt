@@ -2,7 +2,7 @@
 use Rattle.std.proofs.Common.{◌≡◌, ℕ, ◌^◌, ◌<◌, ◌≤◌, List, [], length, length-append, refl, sym, ap, subst, arith}
 use Rattle.std.specs.Prelude.{codes, Option, Some, Result, Ok, Err}
 use Rattle.surf_io.specs.Files.{Files}
-use Rattle.surf_model.specs.FaceLists.{FaceList, IsFaceList}
+use Rattle.surf_model.specs.FaceLists.{FaceList, IsFaceList, HasFileSize}
 use Rattle.surf_model.specs.Moves.{PeakedMoves}
 use Rattle.surf_model.specs.Walks.{IsWalk}
 use Rattle.move_checker.specs.Verdicts.{verdict_of}
@@ -68,14 +68,14 @@ spelled_denial text denial e = by_head (head_of_text text) e
     by_head (Ok (heads.Labels degree)) f = as_denial (denial_of_lines degree text) denial f
 
 -- a certificate that convinces is spelled by its text
-pub spelled : (mesh : FaceList) (first second : List ℕ) (shown : Certificate) → IsFaceList mesh → IsWalk mesh first → length first < 2 ^ 32
-    → length second < 2 ^ 32 → Convinces mesh first second shown → IsPeakLow shown → length (certificate_text shown) ≤ MOST_BYTES
-    → SpellsCertificate shown (certificate_text shown)
-spelled mesh first second (Moves list) valid walk few_first few_second h peak short =
+pub spelled : (mesh : FaceList) (first second : List ℕ) (shown : Certificate) → IsFaceList mesh → HasFileSize mesh → IsWalk mesh first
+    → length first < 2 ^ 32 → length second < 2 ^ 32 → Convinces mesh first second shown → IsPeakLow shown
+    → length (certificate_text shown) ≤ MOST_BYTES → SpellsCertificate shown (certificate_text shown)
+spelled mesh first second (Moves list) valid small walk few_first few_second h peak short =
     let part = length-append (decision_line Homotopic) (list_text list) in
     spelled_list (certificate_text (Moves list)) list
-    (list_of_text-answered list (list_fits mesh first second list valid walk h (omega (arith, peak)) (omega (arith, part, short))))
-spelled mesh first second (Denial denial) valid walk few_first few_second h peak short =
+    (list_of_text-answered list (list_fits mesh first second list valid small walk h (omega (arith, peak)) (omega (arith, part, short))))
+spelled mesh first second (Denial denial) valid small walk few_first few_second h peak short =
     let part = length-append (decision_line Different) (denial_text denial) in
     spelled_denial (certificate_text (Denial denial)) denial
     (denial_of_text-answered denial (denial_fits mesh first second denial h (omega (arith, part, short)) few_first few_second))

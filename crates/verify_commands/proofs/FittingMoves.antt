@@ -5,7 +5,7 @@ use Rattle.std.proofs.lemmas.Bool.{and_parts, eqb-true, ltb-true, leb-true}
 use Rattle.std.proofs.lemmas.List.Elements.{All-head, All-tail, All-cons, All-nil}
 use Rattle.std.proofs.lemmas.List.Sums.{sum_by-cons, get_or-le-sum_by}
 use Rattle.std.proofs.lemmas.Option.{option_and_then_some}
-use Rattle.surf_model.specs.FaceLists.{FaceList, IsFace, IsFaceList, face_at, corners_from, is_edge, is_used, total_sides}
+use Rattle.surf_model.specs.FaceLists.{FaceList, IsFace, IsFaceList, HasFileSize, face_at, corners_from, is_edge, is_used, total_sides}
 use Rattle.surf_model.specs.Walks.{IsWalk, darts}
 use Rattle.surf_model.specs.Moves.{PeakedMoves, apply, apply_all, Leads, greatest_darts, same_walk}
 use Rattle.surf_model.specs.declared.limits.TheConstants.{MOST_PEAK}
@@ -21,8 +21,8 @@ use Rattle.verify_commands.proofs.TextLengths.{moves_below}
 
 -- ---- the numbers of a mesh
 
-used_fits : (mesh : FaceList) (v : ℕ) → IsFaceList mesh → is_used mesh v ≡ true → v < 2 ^ 32
-used_fits mesh v valid is = omega (arith, used_below mesh v valid is, valid.few_vertices)
+used_fits : (mesh : FaceList) (v : ℕ) → IsFaceList mesh → HasFileSize mesh → is_used mesh v ≡ true → v < 2 ^ 32
+used_fits mesh v valid small is = omega (arith, used_below mesh v valid is, small.few_vertices)
 
 faces_few : (count : ℕ) (faces : List (List ℕ)) → All (IsFace count) faces → length faces ≤ sum_by (length {A = ℕ}) faces
 faces_few count [] each = omega arith
@@ -52,22 +52,23 @@ crossed true true false place reads x y e = cc
 crossed true false sides place reads x y e = cc
 crossed false corner sides place reads x y e = cc
 
-move_fits : (mesh : FaceList) (walk next : List ℕ) (move : Move) → IsFaceList mesh → IsWalk mesh walk → darts walk ≤ MOST_PEAK
+move_fits : (mesh : FaceList) (walk next : List ℕ) (move : Move) → IsFaceList mesh → HasFileSize mesh → IsWalk mesh walk
+    → darts walk ≤ MOST_PEAK
     → apply mesh walk move ≡ Some next → MoveFits move
 unfolding apply
-move_fits mesh walk next (Insert at via) valid w few e =
+move_fits mesh walk next (Insert at via) valid small w few e =
     let both = and_parts (nat_le at (darts walk)) (is_edge mesh (get_or walk at 0) via.0) (tested _ _ next e) in
     let here : at ≤ darts walk = leb-true at (darts walk) both.0 in
-    (omega (arith, here, few), used_fits mesh via.0 valid (head_used mesh (get_or walk at 0) via.0 both.1))
-move_fits mesh walk next (Remove at via) valid w few e =
+    (omega (arith, here, few), used_fits mesh via.0 valid small (head_used mesh (get_or walk at 0) via.0 both.1))
+move_fits mesh walk next (Remove at via) valid small w few e =
     let tests =
     removed (nat_le (at + 2) (darts walk)) (eqb (get_or walk at 0) (get_or walk (at + 2) 0)) (eqb (get_or walk (at + 1) 0) via.0) _ next
     e in
     let here : at + 2 ≤ darts walk = leb-true (at + 2) (darts walk) tests.0 in
     let used : is_used mesh (get_or walk (at + 1) 0) ≡ true = w.used (at + 1) 0 (omega (arith, here)) in
     let same : get_or walk (at + 1) 0 ≡ via.0 = eqb-true (get_or walk (at + 1) 0) via.0 tests.2 in
-    (omega (arith, here, few), subst (λ (v : ℕ). v < 2 ^ 32) same (used_fits mesh (get_or walk (at + 1) 0) valid used))
-move_fits mesh walk next (Across at face corner forward taken) valid w few e =
+    (omega (arith, here, few), subst (λ (v : ℕ). v < 2 ^ 32) same (used_fits mesh (get_or walk (at + 1) 0) valid small used))
+move_fits mesh walk next (Across at face corner forward taken) valid small w few e =
     let ring : List ℕ = face_at mesh face.0 in
     let tests =
     crossed (nat_lt face.0 (length mesh.faces)) (nat_lt corner (length ring)) (nat_le taken (length ring))
@@ -80,27 +81,27 @@ move_fits mesh walk next (Across at face corner forward taken) valid w few e =
     let faces = faces_few mesh.count mesh.faces valid.faces in
     let few_corners : length ring ≤ total_sides mesh = get_or-le-sum_by (length {A = ℕ}) mesh.faces face.0 [] in_list in (
       omega (arith, here, few),
-      omega (arith, in_list, faces, valid.few_sides),
-      omega (arith, in_ring, few_corners, valid.few_sides),
-      omega (arith, sides, few_corners, valid.few_sides),
+      omega (arith, in_list, faces, small.few_sides),
+      omega (arith, in_ring, few_corners, small.few_sides),
+      omega (arith, sides, few_corners, small.few_sides),
     )
 
-moves_fit : (mesh : FaceList) (walk second : List ℕ) (moves : List Move) → IsFaceList mesh → IsWalk mesh walk → Leads mesh walk moves second
-    → greatest_darts mesh walk moves ≤ MOST_PEAK → All MoveFits moves
-moves_fit mesh walk second [] valid w leads few = All-nil MoveFits
-moves_fit mesh walk second (move ∷ moves) valid w leads few =
+moves_fit : (mesh : FaceList) (walk second : List ℕ) (moves : List Move) → IsFaceList mesh → HasFileSize mesh → IsWalk mesh walk
+    → Leads mesh walk moves second → greatest_darts mesh walk moves ≤ MOST_PEAK → All MoveFits moves
+moves_fit mesh walk second [] valid small w leads few = All-nil MoveFits
+moves_fit mesh walk second (move ∷ moves) valid small w leads few =
     let here : darts walk ≤ MOST_PEAK = omega (arith, few, greatest_darts-first mesh walk (move ∷ moves)) in
     option_and_then_some (λ next. apply_all mesh next moves) (apply mesh walk move) second leads
     (λ next is rest.
     let peaks = greatest_darts-more mesh walk next move moves is in
-    All-cons MoveFits move moves (move_fits mesh walk next move valid w here is)
-    (moves_fit mesh next second moves valid (keeps_walk mesh walk next move w is) rest (omega (arith, few, peaks))))
+    All-cons MoveFits move moves (move_fits mesh walk next move valid small w here is)
+    (moves_fit mesh next second moves valid small (keeps_walk mesh walk next move w is) rest (omega (arith, few, peaks))))
 
-pub list_fits : (mesh : FaceList) (first second : List ℕ) (list : PeakedMoves) → IsFaceList mesh → IsWalk mesh first
+pub list_fits : (mesh : FaceList) (first second : List ℕ) (list : PeakedMoves) → IsFaceList mesh → HasFileSize mesh → IsWalk mesh first
     → LeadsAtPeak mesh first list second → list.peak ≤ MOST_PEAK → length (list_text list) < 2 ^ 64 → FitsFormat list
-list_fits mesh first second list valid w h few short =
+list_fits mesh first second list valid small w h few short =
     record {
-      moves = moves_fit mesh first second list.moves valid w h.leads (omega (arith, few, h.peak));
+      moves = moves_fit mesh first second list.moves valid small w h.leads (omega (arith, few, h.peak));
       count = omega (arith, short, moves_below list);
       peak = few;
     }

@@ -3,6 +3,7 @@ use Rattle.std.specs.Prelude.{unsigned_abs}
 use Rattle.std.proofs.lemmas.List.{take_all}
 use Rattle.homology.specs.Sums.{along}
 use Rattle.homology.specs.Cocycles.{dart_number}
+use Rattle.homology.specs.declared.certificate.TheConstants.{MOST_NUMBER}
 use Rattle.homology.proofs.TallyLemmas.{walk_edge}
 use Rattle.homology.proofs.CocycleVerdictLemmas.{added, added_fits, added_size, along_step, along_start}
 use Rattle.homology.proofs.cocycle_check.sum_along.Goals as goal
@@ -27,7 +28,7 @@ loop-dart-preserved c =
     let is : to_z w64 (of_z w64 (s +ℤ to_z w64 (of_z w64 r))) ≡ s +ℤ r =
     added s r c.loop-dart.dart c.loop-dart.invariant.0 c.number_of_dart-sum.ensures.small
     (omega (arith, c.loop-dart-test.true, c.darts-dart-end.ensures.few)) in (
-      subst (λ z. unsigned_abs z ≤ 2147483647 * (c.loop-dart.dart + 1)) (sym is)
+      subst (λ z. unsigned_abs z ≤ MOST_NUMBER * (c.loop-dart.dart + 1)) (sym is)
           (added_size s r c.loop-dart.dart c.loop-dart.invariant.0 c.number_of_dart-sum.ensures.small),
       λ number are.
           is ∙ along_step c.args.faces.now c.args.sides.now c.args.of_edge.now number c.args.walk.now c.loop-dart.dart

@@ -3,6 +3,7 @@ use Rattle.std.specs.Prelude.{unsigned_abs}
 use Rattle.surf_model.specs.FaceLists.{face_at}
 use Rattle.surf_model.proofs.OneTableLemmas.{sides_in_table}
 use Rattle.homology.specs.Cocycles.{dart_number}
+use Rattle.homology.specs.declared.certificate.TheConstants.{MOST_NUMBER}
 use Rattle.homology.proofs.AlongLemmas.{first_sides, round-sides}
 use Rattle.homology.proofs.TallyLemmas.{face_few}
 use Rattle.homology.proofs.CocycleVerdictLemmas.{added, added_fits, added_size, round_step}
@@ -21,7 +22,7 @@ overflow_add-sum c =
       arith,
       c.loop-at-test.true,
       c.sides-at-end.ensures,
-      face_few c.args.faces.now c.args.face.0 c.len.ensures.valid c.requires.face,
+      face_few c.args.faces.now c.args.face.0 c.len.ensures.small c.requires.face,
     ))
 
 pub loop-at-init : goal.loop-at-init
@@ -31,11 +32,11 @@ pub loop-at-preserved : goal.loop-at-preserved
 loop-at-preserved c =
     let s : ℤ = to_z w64 c.loop-at.sum-bits in
     let r : ℤ = c.number_of_dart-sum.result in
-    let few = face_few c.args.faces.now c.args.face.0 c.len.ensures.valid c.requires.face in
+    let few = face_few c.args.faces.now c.args.face.0 c.len.ensures.small c.requires.face in
     let is : to_z w64 (of_z w64 (s +ℤ to_z w64 (of_z w64 r))) ≡ s +ℤ r =
     added s r c.loop-at.at c.loop-at.invariant.0 c.number_of_dart-sum.ensures.small
     (omega (arith, c.loop-at-test.true, c.sides-at-end.ensures, few)) in (
-      subst (λ z. unsigned_abs z ≤ 2147483647 * (c.loop-at.at + 1)) (sym is)
+      subst (λ z. unsigned_abs z ≤ MOST_NUMBER * (c.loop-at.at + 1)) (sym is)
           (added_size s r c.loop-at.at c.loop-at.invariant.0 c.number_of_dart-sum.ensures.small),
       λ number are.
           is ∙ round_step c.args.faces.now c.args.sides.now c.args.of_edge.now number c.args.face.0 c.loop-at.at c.edge_at-edge.result.0

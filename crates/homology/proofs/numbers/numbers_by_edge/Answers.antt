@@ -8,6 +8,7 @@ use Rattle.surf_model.proofs.TableEdgeLemmas.{IsEdgeBetween, edge_between}
 use Rattle.homology.specs.Certificates.{edge_number}
 use Rattle.homology.specs.Tallies.{number_at, AreNumbersOf}
 use Rattle.homology.specs.declared.certificate.EdgeNumber.{EdgeNumber}
+use Rattle.homology.specs.declared.certificate.TheConstants.{MOST_NUMBER}
 use Rattle.homology.proofs.SizeLemmas.{sent}
 use Rattle.homology.proofs.ChainVerdictLemmas.{number_at-zeros}
 use Rattle.homology.proofs.NumbersLemmas.{edge_written, edges_small}
@@ -46,8 +47,8 @@ loop-k-preserved c =
     let k : ℕ = c.loop-k.k in
     let within : k < length lines = omega arith in
     let is : get_or lines k line ≡ line = get_or_from_slice_get lines k line line c.at-line.ensures in
-    let small : unsigned_abs line.number ≤ 2147483647 =
-    subst (λ (x : EdgeNumber). unsigned_abs x.number ≤ 2147483647) is (c.len-k-end.ensures.valid.small k line within) in
+    let small : unsigned_abs line.number ≤ MOST_NUMBER =
+    subst (λ (x : EdgeNumber). unsigned_abs x.number ≤ MOST_NUMBER) is (c.len-k-end.ensures.valid.small k line within) in
     record {
       long = length-set c.loop-k.of_edge.items c.edge_between-edge.result.0 _ ∙ c.loop-k.invariant.long;
       each = λ f l. edge_written c.args.faces.now c.args.sides.now lines k c.edge_between-edge.result.0 f line c.loop-k.of_edge.items _

@@ -5,6 +5,7 @@ use Rattle.std.proofs.lemmas.Option.{get_or_from_slice_get}
 use Rattle.homology.specs.Certificates.{face_number}
 use Rattle.homology.specs.Tallies.{number_at}
 use Rattle.homology.specs.declared.certificate.FaceNumber.{FaceNumber}
+use Rattle.homology.specs.declared.certificate.TheConstants.{MOST_NUMBER}
 use Rattle.homology.proofs.SizeLemmas.{sent}
 use Rattle.homology.proofs.ChainVerdictLemmas.{number_at-zeros}
 use Rattle.homology.proofs.NumbersLemmas.{face_written, faces_small}
@@ -25,8 +26,8 @@ loop-k-preserved c =
     let k : ℕ = c.loop-k.k in
     let within : k < length lines = omega arith in
     let is : get_or lines k line ≡ line = get_or_from_slice_get lines k line line c.at-line.ensures in
-    let small : unsigned_abs line.number ≤ 2147483647 =
-    subst (λ (x : FaceNumber). unsigned_abs x.number ≤ 2147483647) is (c.len-k-end.ensures.valid.small k line within) in
+    let small : unsigned_abs line.number ≤ MOST_NUMBER =
+    subst (λ (x : FaceNumber). unsigned_abs x.number ≤ MOST_NUMBER) is (c.len-k-end.ensures.valid.small k line within) in
     let there : line.face.0 < length c.args.faces.now.faces =
     subst (λ (x : FaceNumber). x.face.0 < length c.args.faces.now.faces) is (c.requires k line within) in (
       length-set c.loop-k.of_face.items line.face.0 _ ∙ c.loop-k.invariant.0,

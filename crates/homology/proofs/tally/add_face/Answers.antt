@@ -6,6 +6,7 @@ use Rattle.surf_model.specs.FaceLists.{FaceSide, face_at, sides_of_face}
 use Rattle.surf_model.proofs.NumberLemmas.{length-sides_of_face}
 use Rattle.surf_model.proofs.OneTableLemmas.{sides_in_table}
 use Rattle.homology.specs.Tallies.{GrewBy}
+use Rattle.homology.specs.declared.certificate.TheConstants.{MOST_NUMBER}
 use Rattle.homology.proofs.TallyLemmas.{shares_of, face_few, face_room, face_start, face_step}
 use Rattle.homology.proofs.tally.add_face.Goals as goal
 
@@ -20,12 +21,12 @@ add_dart-requires-clause-room c =
     let same : amount ≡ c.args.amount = to_z-of_z w64 c.args.amount c.ranges.amount in
     face_room c.args.sides.now (sides_of_face c.args.face.0 (face_at c.args.faces.now c.args.face.0)) c.loop-at.at amount c.args.tally.now
     c.loop-at.tally c.edge_at-edge.result.0 c.loop-at.invariant c.edge_at-edge.ensures.found c.requires.room
-    (subst (λ z. unsigned_abs z ≤ 2147483647) (sym same) c.requires.small)
+    (subst (λ z. unsigned_abs z ≤ MOST_NUMBER) (sym same) c.requires.small)
     (omega (
       arith,
       c.loop-at-test.true,
       c.sides-at-end.ensures,
-      face_few c.args.faces.now c.args.face.0 c.len.ensures.valid c.requires.face,
+      face_few c.args.faces.now c.args.face.0 c.len.ensures.small c.requires.face,
     ))
 
 pub loop-at-init : goal.loop-at-init

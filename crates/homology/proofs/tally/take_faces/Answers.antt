@@ -1,5 +1,6 @@
 use Rattle.std.proofs.Common.{◌≤◌, sym, subst, arith, ℤ, get_or, pos}
 use Rattle.std.specs.Prelude.{unsigned_abs}
+use Rattle.homology.specs.declared.certificate.TheConstants.{MOST_NUMBER}
 use Rattle.homology.proofs.SizeLemmas.{sent_back, size-opposite}
 use Rattle.homology.proofs.TallyLemmas.{faces_room, faces_start, faces_step, faces_all}
 use Rattle.homology.proofs.tally.take_faces.Goals as goal
@@ -7,13 +8,13 @@ use Rattle.homology.proofs.tally.take_faces.Goals as goal
 pub add_face-requires-clause-small : goal.add_face-requires-clause-small
 add_face-requires-clause-small c =
     let number : ℤ = get_or c.args.of_face.now c.loop-face.face (pos 0) in
-    subst (λ z. unsigned_abs z ≤ 2147483647) (sym (sent_back number (c.requires.small.each c.loop-face.face)))
+    subst (λ z. unsigned_abs z ≤ MOST_NUMBER) (sym (sent_back number (c.requires.small.each c.loop-face.face)))
     (omega (arith, size-opposite number, c.requires.small.each c.loop-face.face))
 
 pub add_face-requires-clause-room : goal.add_face-requires-clause-room
 add_face-requires-clause-room c =
     faces_room c.args.faces.now c.args.sides.now c.args.of_face.now c.loop-face.face c.args.tally.now c.loop-face.tally
-    c.len-face-end.ensures.valid c.loop-face.invariant c.requires.long c.requires.room c.requires.small
+    c.len-face-end.ensures.small c.loop-face.invariant c.requires.long c.requires.room c.requires.small
 
 pub loop-face-init : goal.loop-face-init
 loop-face-init c = faces_start c.args.faces.now c.args.sides.now c.args.of_face.now c.args.tally.now

@@ -7,7 +7,7 @@ use Rattle.homology_deciding.proofs.ProofLemmas.{chain_proof, cocycle_proof}
 use Rattle.homology_deciding.proofs.deciding.proof_from.Goals as goal
 
 pub of-requires : goal.of-requires
-of-requires c = omega (arith, c.requires.numbers, few_faces c.args.tree.now.surface.now c.requires.tree.valid)
+of-requires c = omega (arith, c.requires.numbers, few_faces c.args.tree.now.surface.now c.requires.tree.valid c.requires.tree.small)
 
 pub of-requires-in-Some : goal.of-requires-in-Some
 of-requires-in-Some c =

@@ -19,5 +19,5 @@ returns c =
       c.len-edge-end.ensures,
       ap (λ (t : List Edge). length t) c.sides.ensures,
     ) in
-    tree_of s c.args.split.now c.faces.ensures.valid c.requires.split c.loop-edge.ups
+    tree_of s c.args.split.now c.faces.ensures.valid c.requires.split c.faces.ensures.small c.loop-edge.ups
     (subst (λ n. AreUps s c.args.split.now n c.loop-edge.ups) all c.loop-edge.invariant)

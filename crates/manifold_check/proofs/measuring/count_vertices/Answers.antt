@@ -35,7 +35,7 @@ overflow_add-index_mut c =
       group_of_within (place_of_used mesh c.args.parts.now) place v,
       c.loop-vertex-test.true,
       c.count-vertex-end.ensures,
-      c.len.ensures.valid.few_vertices,
+      c.len.ensures.small.few_vertices,
     )
 
 pub loop-vertex-preserved : goal.loop-vertex-preserved

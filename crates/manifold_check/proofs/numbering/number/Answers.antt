@@ -13,8 +13,8 @@ overflow_add-count c =
       arith,
       c.loop-vertex.invariant.counted,
       rank_within (leads c.args.faces.now c.args.least.now) c.loop-vertex.vertex,
-      c.requires.valid.few_vertices,
       c.count-vertex-end.ensures,
+      c.count-vertex-end.type_inv,
       c.loop-vertex-test.true,
     )
 

@@ -1,5 +1,6 @@
-use Rattle.std.proofs.Common.{arith}
+use Rattle.std.proofs.Common.{subst, arith}
 use Rattle.std.proofs.lemmas.Result.{err_from_is_err_and}
+use Rattle.surf_model.specs.FaceLists.{HasFileSize}
 use Rattle.surf_model.specs.Moves as moves
 use Rattle.free_forms.specs.PeakedLists.{LeadsAtPeak, IsWithin}
 use Rattle.free_forms.specs.declared.limits.TheConstants.{MOST_OPEN_STEPS}
@@ -80,6 +81,7 @@ pub returns-clause-short : goal.returns-clause-short
 returns-clause-short g c =
     let mesh = c.in_ok-pair.pair.surface.mesh in
     let known = walks g (goal.at.returns-clause-short g c).After-at-2 in
-    c.reply_with.ensures.short mesh c.at.result.now c.at-2.result.now c.faces.ensures.parents.valid known.sides known.are.first_walk
+    c.reply_with.ensures.short mesh c.at.result.now c.at-2.result.now c.faces.ensures.parents.valid
+    (subst HasFileSize c.faces.ensures.mesh c.len.ensures.small) known.sides known.are.first_walk
     (found_short c.in_ok-found.found (λ list. LeadsAtPeak mesh c.at.result.now list c.at-2.result.now) (IsWithin MOST_OPEN_STEPS)
     (moves.Homotopic mesh c.at.result.now c.at-2.result.now → ⊥) c.in_ok-found.ensures.moves c.in_ok-found.ensures.short)

@@ -13,11 +13,11 @@ returns-in-Some c =
         text_is = (list, list_convinces mesh first second list leads, within.moves, within.peak, refl);
       };
       none = λ mesh first second. tt;
-      short = λ mesh first second valid sides walk found. record {
+      short = λ mesh first second valid small sides walk found. record {
         list = list;
         within = found.1;
         text_is = refl;
-        short = text_short mesh first second list valid sides walk found.0 found.1;
+        short = text_short mesh first second list valid small sides walk found.0 found.1;
       };
     })
 
@@ -26,5 +26,5 @@ returns-in-None c =
     rw c.in-None.is (record {
       some = tt;
       none = λ mesh first second. c.different.ensures;
-      short = λ mesh first second valid sides walk found. no_list_short c.different.result c.different.ensures.status_is;
+      short = λ mesh first second valid small sides walk found. no_list_short c.different.result c.different.ensures.status_is;
     })

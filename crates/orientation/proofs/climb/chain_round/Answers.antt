@@ -43,7 +43,7 @@ link-requires-then-place-other_place-clause-side c =
     found.partners.first
 
 pub push-requires : goal.push-requires
-push-requires c = omega (arith, c.loop-face.invariant.size, few_faces c.args.faces.now c.requires.trees.mesh_is)
+push-requires c = omega (arith, c.loop-face.invariant.size, few_faces c.args.faces.now c.requires.trees.mesh_is c.requires.trees.small)
 
 pub link-requires-else-place-other_place-clause-side : goal.link-requires-else-place-other_place-clause-side
 link-requires-else-place-other_place-clause-side c =
@@ -56,7 +56,8 @@ link-requires-else-place-other_place-clause-side c =
     found.partners.first
 
 pub push_reversed-requires : goal.push_reversed-requires
-push_reversed-requires c = omega (arith, c.loop-face.invariant.size, few_faces c.args.faces.now c.requires.trees.mesh_is)
+push_reversed-requires c =
+    omega (arith, c.loop-face.invariant.size, few_faces c.args.faces.now c.requires.trees.mesh_is c.requires.trees.small)
 
 pub loop-face-smaller-then-place-other_place : goal.loop-face-smaller-then-place-other_place
 loop-face-smaller-then-place-other_place c =

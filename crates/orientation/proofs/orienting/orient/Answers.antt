@@ -6,11 +6,14 @@ use Rattle.orientation.proofs.TreeLemmas.{few_faces}
 use Rattle.orientation.proofs.orienting.orient.Goals as goal
 
 pub signs-requires : goal.signs-requires
-signs-requires c = omega (arith, c.in_ok-quick.ensures.trees.each_face, few_faces c.args.faces.now c.in_ok-quick.ensures.trees.mesh_is)
+signs-requires c =
+    let trees = c.in_ok-quick.ensures.trees in
+    omega (arith, trees.each_face, few_faces c.args.faces.now trees.mesh_is trees.small)
 
 pub signs-requires-in-None : goal.signs-requires-in-None
 signs-requires-in-None c =
-    omega (arith, c.in_ok-short.ensures.trees.each_face, few_faces c.args.faces.now c.in_ok-short.ensures.trees.mesh_is)
+    let trees = c.in_ok-short.ensures.trees in
+    omega (arith, trees.each_face, few_faces c.args.faces.now trees.mesh_is trees.small)
 
 pub returns-in-Some-clause-not_orientable : goal.returns-in-Some-clause-not_orientable
 returns-in-Some-clause-not_orientable c chain is signs =

@@ -14,8 +14,7 @@ overflow_add-place c =
       arith,
       ap (λ (p : Place). p.depth) c.place.ensures,
       c.requires.search.trees.shallow c.args.side.face.0 seen,
-      few_faces
-          c.args.faces.now c.requires.search.trees.mesh_is,
+      few_faces c.args.faces.now c.requires.search.trees.mesh_is c.requires.search.trees.small,
     )
 
 outcome : (c : goal.After-put)

@@ -7,7 +7,8 @@ use Rattle.orientation.proofs.search.search.Goals.{then-not-seen+in_ok-tear+in_d
 
 pub loop-face-init : goal.loop-face-init
 loop-face-init c =
-    through_none c.args.faces.now c.len.result c.in_ok-trees.trees c.new-waiting.result c.len.ensures.valid c.len.ensures.count
+    through_none c.args.faces.now c.len.result c.in_ok-trees.trees c.new-waiting.result c.len.ensures.valid c.len.ensures.small
+    c.len.ensures.count
     c.in_ok-trees.ensures c.new-waiting.ensures
 
 pub seen-requires : goal.seen-requires

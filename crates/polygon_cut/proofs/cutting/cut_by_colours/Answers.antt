@@ -40,7 +40,8 @@ places_by_turns-requires-clause-few c =
     let sides = c.in_ok-sides.field-0.sides.items in
     let walk = ring_walk s split c.in-Some.last.0 (dart_numbers sides) c.in_ok-sides.field-0.labels.items valid trees.trees last.0 last.2
     c.in_ok-sides.ensures in
-    let few = few_sides s split c.in-Some.last.0 (dart_numbers sides) c.in_ok-sides.field-0.labels.items valid walk in
+    let few = few_sides s split c.in-Some.last.0 (dart_numbers sides) c.in_ok-sides.field-0.labels.items
+    c.leftover_in_root.ensures.small walk in
     omega (arith, few, length-map sides (λ (d : DartName). d.0), ap (λ (xs : List DartName). length xs) c.deref.ensures.value)
 
 pub overflow_cast-result : goal.overflow_cast-result
@@ -54,7 +55,8 @@ overflow_cast-result c =
     let sides = c.in_ok-sides.field-0.sides.items in
     let walk = ring_walk s split c.in-Some.last.0 (dart_numbers sides) c.in_ok-sides.field-0.labels.items valid trees.trees last.0 last.2
     c.in_ok-sides.ensures in
-    let few = few_sides s split c.in-Some.last.0 (dart_numbers sides) c.in_ok-sides.field-0.labels.items valid walk in
+    let few = few_sides s split c.in-Some.last.0 (dart_numbers sides) c.in_ok-sides.field-0.labels.items
+    c.leftover_in_root.ensures.small walk in
     omega (arith, few, length-map sides (λ (d : DartName). d.0), c.len.ensures, c.in_ok-sides.field-0.sides.ok.0)
 
 pub returns : goal.returns

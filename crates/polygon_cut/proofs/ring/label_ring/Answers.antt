@@ -33,7 +33,7 @@ overflow_cast-len c =
       few,
       long,
       c.loop-step.invariant.walked.each_left,
-      c.darts.ensures.valid.faces.few_sides,
+      c.darts.ensures.small.few_sides,
       c.darts-step-end.ensures.count,
       c.loop-step-test.true,
       c.len.ensures,

@@ -57,7 +57,8 @@ loop-face-preserved c =
     c.deref_mut.ensures.value in
     let made = made_more s polygon k c.loop-face.signs.items c.loop-face.ends.items labels.items c.to_corners.new.labels
     c.flipped-flipped.result
-    c.first_dart-start.result.0 end c.faces.ensures.valid.faces (omega (arith, count, c.len-faces.type_inv)) c.requires.labels
+    c.first_dart-start.result.0 end c.faces.ensures.valid.faces c.faces.ensures.small
+    (omega (arith, count, c.len-faces.type_inv)) c.requires.labels
     c.loop-face.invariant
     (omega (arith, c.loop-face-test.true, count)) flip start (ap (λ n. c.first_dart-start.result.0 + n) sides) turned in
     let kept = with_items_is labels c.to_corners.new.labels (omega (arith, made.each_dart, c.loop-face.invariant.each_dart, labels.ok.0)) in

@@ -20,7 +20,7 @@ overflow_add-next c =
       c.loop-face.invariant.passed,
       c.loop-face-test.true,
       c.len-face-end.ensures.count,
-      c.len-face-end.ensures.valid.few_sides,
+      c.len-face-end.ensures.small.few_sides,
       c.loop-face.auto.next-fits,
     )
 

@@ -20,6 +20,7 @@ invariant_of-result c =
         };
         coherent = c.requires.coherent;
       };
+      small = c.in_ok-next.ensures.small;
       nexts = nexts_signed s (total_sides c.args.faces) c.in_ok-next.next.items c.in_ok-next.ensures.stored;
       origins_kept = origins_signed s (total_sides c.args.faces) c.in_ok-origins.origins c.in_ok-origins.ensures;
       used = c.used_vertices-vertices.ensures;
