@@ -12,4 +12,3 @@ pub mod Table
 pub mod Places
 pub mod Spokes
 pub mod Led
-pub mod NotesAlong

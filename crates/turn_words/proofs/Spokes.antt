@@ -1,21 +1,24 @@
--- A list of spokes leads to the canonical word of its turn word.
-use Rattle.std.proofs.Common.{◌≡◌, ℕ, ◌+◌, ◌%◌, ◌<◌, ◌⊎◌, arith, refl, sym, ◌∙◌, ap, ap₂, Bool, true, false, not, List, [], ◌∷◌, All, length, reverse, slice_index}
-use Rattle.std.proofs.lemmas.Bool.{eq-eqb, ne_eqb}
-use Rattle.std.proofs.lemmas.List.{reverse-reverse}
+-- A list of spokes leads to the canonical word of its turn word, and the steps that are noted along it lead there too.
+use Rattle.std.proofs.Common.{◌≡◌, ℕ, ◌+◌, ◌%◌, ◌==◌, ◌<◌, ◌⊎◌, inl, inr, arith, refl, sym, ◌∙◌, ap, ap₂, Bool, true, false, not, List, [], ◌∷◌, ◌++◌, All, length, reverse, slice_index, Some}
+use Rattle.std.proofs.lemmas.Bool.{cases_eq, eq-eqb, ne_eqb}
+use Rattle.std.proofs.lemmas.List.{append-nil}
 use Rattle.turn_words.specs.Modulo.{add, minus}
 use Rattle.turn_words.specs.PutTurns.{put}
+use Rattle.turn_words.specs.StepTable.{next_changed, after_steps}
 use Rattle.turn_words.specs.Canonical.{IsCanonicalOf, IsTurnWord}
 use Rattle.turn_words.specs.Wheels.{IsWheel}
-use Rattle.turn_words.specs.HyperStates.{HyperState, empty_state, value_at, turn_to, hyper_next, IsHyperWheel, BelongsTo}
-use Rattle.turn_words.specs.FormLaws.{led}
-use Rattle.turn_words.specs.SpokePaths.{place_round, turns_after, turn_word_of}
+use Rattle.turn_words.specs.HyperStates.{HyperState, empty_state, value_at, turn_to, put_spoke, hyper_next, IsHyperWheel, BelongsTo, LeadOn}
+use Rattle.turn_words.specs.FormLaws.{led, NotesAlong}
+use Rattle.turn_words.specs.SpokePaths.{place_round, turns_after, turn_word_of, turns_from}
+use Rattle.turn_words.specs.Private.PutSteps.{put_steps}
+use Rattle.turn_words.specs.declared.step.Step.{Step}
 use Rattle.turn_words.specs.Lemmas.Sums.{add-cases, minus-cases, add-lt, minus-lt}
 use Rattle.turn_words.specs.Lemmas.PutLaws.{put-good}
 use Rattle.turn_words.specs.Lemmas.Lists.{InRange}
-use Rattle.turn_words.proofs.Reading.{read, state}
 use Rattle.turn_words.specs.Lemmas.FromEnd.{in-range-from, all-from}
 use Rattle.turn_words.specs.Lemmas.HyperLaws.{good_word, turn_below, next_belongs, length-next, hyper_starts}
-use Rattle.turn_words.proofs.Unique.{left, left-is-canonical}
+use Rattle.turn_words.proofs.Reaching.{IsNextBelow, next-below, after_steps-append}
+use Rattle.turn_words.proofs.Acts.{puts-lead}
 
 place-below : (places : List ℕ) (at_vertex : Bool) (i : ℕ) → IsWheel places → i < length places
     → place_round places at_vertex i < length places
@@ -49,10 +52,20 @@ abbrev pub Stands : List ℕ → Bool → Type 0
 Stands word true = length word % 2 ≡ 0
 Stands word false = length word % 2 ≡ 1
 
+stands-is : (word : List ℕ) (at_vertex : Bool) → Stands word at_vertex → (length word % 2 == 0) ≡ at_vertex
+stands-is word true e = eq-eqb (length word % 2) 0 e
+stands-is word false e = ne_eqb (length word % 2) 0 (λ zero. absurd (omega arith))
+
+-- each word stands somewhere
+stands : (word : List ℕ) → Stands word (length word % 2 == 0)
+stands word = elim (cases_eq (length word % 2) 0) [
+  | inl e ↦ rw (eq-eqb (length word % 2) 0 e) e
+  | inr e ↦ rw (ne_eqb (length word % 2) 0 e) (omega arith)
+]
+
 stands-value : (places word : List ℕ) (at_vertex : Bool) (i : ℕ) → Stands word at_vertex
     → value_at places word i ≡ place_round places at_vertex i
-stands-value places word true i e = rw (eq-eqb (length word % 2) 0 e) refl
-stands-value places word false i e = rw (ne_eqb (length word % 2) 0 (λ zero. absurd (omega arith))) refl
+stands-value places word at_vertex i e = ap (λ a. place_round places a i) (stands-is word at_vertex e)
 
 stands-next : (w v : List ℕ) (at_vertex : Bool) → Stands w at_vertex → (length v ≡ length w + 1) ⊎ (length v + 1 ≡ length w)
     → Stands v (not at_vertex)
@@ -110,48 +123,83 @@ counts-turn places s at_vertex last n i c below =
     ∙ turned d (place_round places at_vertex i) (place_round places at_vertex last) n (place-below places at_vertex i wheel below)
     (place-below places at_vertex last wheel c.last_below) c.n_below)
 
-leads : (places : List ℕ) (s : HyperState) (at_vertex : Bool) (last n : ℕ) (spokes : List ℕ) → Counts places s at_vertex last n
+-- the turns after the last spoke, the first of them changed, are those from the state
+counts-from : (places : List ℕ) (s : HyperState) (at_vertex : Bool) (last n : ℕ) (spokes : List ℕ) → Counts places s at_vertex last n
     → InRange (length places) spokes →
-    (read (length places) (state (reverse s.word) n) (turns_after places at_vertex last spokes)).word ≡ reverse
-    (led hyper_next places s spokes).word
-leads places s at_vertex last n [] c s_in = refl
-leads places s at_vertex last n (i ∷ spokes) c s_in =
-    let d = length places in
-    let p = put d (reverse s.word) (turn_to places s i) in
-    let turn = counts-turn places s at_vertex last n i c s_in.0 in
-    let rest = leads places (hyper_next places s i) (not at_vertex) i p.change spokes
-    (counts-next places s at_vertex i c.belongs c.stands s_in.0) s_in.1 in
-    ap (λ t. (read d (put d (reverse s.word) t) (turns_after places (not at_vertex) i spokes)).word) turn
-    ∙ ap (λ w. (read d (state w p.change) (turns_after places (not at_vertex) i spokes)).word) (sym (reverse-reverse p.word))
-    ∙ rest
+    next_changed (length places) n (turns_after places at_vertex last spokes) ≡ turns_from places s spokes
+counts-from places s at_vertex last n [] c range = refl
+counts-from places s at_vertex last n (i ∷ spokes) c range =
+    ap₂ (λ t a. t ∷ turns_after places (not a) i spokes) (counts-turn places s at_vertex last n i c range.0)
+    (sym (stands-is s.word at_vertex c.stands))
 
-pub start-turn : (places : List ℕ) (i : ℕ) → IsHyperWheel places → i < length places
-    → add (length places) (slice_index places i) 0 ≡ turn_to places empty_state i
-start-turn places i own below =
+-- the steps of a spoke lead on, in front of the turns of those that come next
+lead-front : (places : List ℕ) (s : HyperState) (i : ℕ) (steps : List Step) (w : List ℕ) → LeadOn places s i steps
+    → IsNextBelow (length places) w →
+    after_steps (length places) steps (s.word ++ (turn_to places s i ∷ w)) ≡ Some ((hyper_next places s i).word
+    ++ next_changed (length places) (put_spoke places s i).change w)
+lead-front places s i steps [] l below = l.alone ∙ ap Some (sym (append-nil (put_spoke places s i).word))
+lead-front places s i steps (y ∷ w) l below = l.in_front y w below
+
+lead-to-next : (places : List ℕ) (s : HyperState) (i : ℕ) (spokes : List ℕ) (steps : List Step) → BelongsTo places s
+    → InRange (length places) (i ∷ spokes) → LeadOn places s i steps →
+    after_steps (length places) steps (s.word ++ turns_from places s (i ∷ spokes))
+    ≡ Some ((hyper_next places s i).word ++ turns_from places (hyper_next places s i) spokes)
+lead-to-next places s i spokes steps b range l =
     let d = length places in
-    let five = own.five in
-    let inside = own.wheel.inside i below in
+    let at_vertex = length s.word % 2 == 0 in
+    let later = turns_after places (not at_vertex) i spokes in
+    let below = next-below d later (turns-in-range places (not at_vertex) i spokes b.own.wheel range.0 range.1) in
+    let counts = counts-next places s at_vertex i b (stands s.word) range.0 in
+    lead-front places s i steps later l below
+    ∙ ap (λ w. Some ((hyper_next places s i).word ++ w))
+    (counts-from places (hyper_next places s i) (not at_vertex) i (put_spoke places s i).change spokes counts range.1)
+
+-- the steps that are noted along spokes lead from the state's word, with their turns behind it, to the word of the last state
+pub along : (places : List ℕ) (s : HyperState) (spokes : List ℕ) (steps : List Step) → BelongsTo places s
+    → InRange (length places) spokes → NotesAlong hyper_next LeadOn places s spokes steps →
+    after_steps (length places) steps (s.word ++ turns_from places s spokes) ≡ Some (led hyper_next places s spokes).word
+along places s [] steps b range notes = rw notes (ap Some (append-nil s.word))
+along places s (i ∷ spokes) steps b range notes =
+    let d = length places in
+    let whole = s.word ++ turns_from places s (i ∷ spokes) in
+    ap (λ z. after_steps d z whole) notes.2
+    ∙ after_steps-append d notes.0 notes.1 whole _ (lead-to-next places s i spokes notes.0 b range notes.3)
+    ∙ along places (hyper_next places s i) spokes notes.1 (next_belongs places s i b range.0) range.1 notes.4
+
+-- spokes lead each state to the canonical word of its word with their turns behind it
+pub leads : (places : List ℕ) (s : HyperState) (spokes : List ℕ) → BelongsTo places s → InRange (length places) spokes
+    → IsCanonicalOf (length places) (s.word ++ turns_from places s spokes) (led hyper_next places s spokes).word
+leads places s [] b range = record { is_canonical = b.canonical; reached = ([], ap Some (append-nil s.word)) }
+leads places s (i ∷ spokes) b range =
+    let steps = put_steps (length places) (reverse s.word) (turn_to places s i) in
+    let first = lead-to-next places s i spokes steps b range (puts-lead places s i b) in
+    let rest = leads places (hyper_next places s i) spokes (next_belongs places s i b range.0) range.1 in
+    record {
+      is_canonical = rest.is_canonical;
+      reached = (steps ++ rest.reached.0, after_steps-append (length places) steps rest.reached.0 _ _ first ∙ rest.reached.1);
+    }
+
+-- from the state of the empty word, the turns are the turn word
+turn-word-from : (places spokes : List ℕ) → IsHyperWheel places → InRange (length places) spokes
+    → turns_from places empty_state spokes ≡ turn_word_of places spokes
+turn-word-from places [] own range = refl
+turn-word-from places (i ∷ spokes) own range =
+    let d = length places in
+    let inside = own.wheel.inside i range.0 in
     let zero_below : 0 < d = omega arith in
-    omega (arith, minus-cases d 0 zero_below, add-cases d (slice_index places i) 0, add-cases d (slice_index places i) (minus d 0))
+    ap (λ t. t ∷ turns_after places false i spokes)
+    (omega (arith, minus-cases d 0 zero_below, add-cases d (slice_index places i) (minus d 0)))
 
-leads-start : (places spokes : List ℕ) → IsHyperWheel places → InRange (length places) spokes →
-    (read (length places) (state [] 0) (turn_word_of places spokes)).word ≡ reverse (led hyper_next places empty_state spokes).word
-leads-start places [] own s_in = refl
-leads-start places (i ∷ spokes) own s_in =
-    let d = length places in
-    let b = hyper_starts.belongs places own in
-    let p = put d [] (turn_to places empty_state i) in
-    let turn = start-turn places i own s_in.0 in
-    let rest = leads places (hyper_next places empty_state i) false i p.change spokes
-    (counts-next places empty_state true i b refl s_in.0) s_in.1 in
-    ap (λ t. (read d (put d [] t) (turns_after places false i spokes)).word) turn
-    ∙ ap (λ w. (read d (state w p.change) (turns_after places false i spokes)).word) (sym (reverse-reverse p.word))
-    ∙ rest
+pub notes-lead : (places spokes : List ℕ) (steps : List Step) → IsHyperWheel places → All (λ spoke. spoke < length places) spokes →
+    NotesAlong hyper_next LeadOn places empty_state spokes steps
+    → after_steps (length places) steps (turn_word_of places spokes) ≡ Some (led hyper_next places empty_state spokes).word
+notes-lead places spokes steps own all notes =
+    let range = in-range-from (length places) spokes all in
+    rw (← turn-word-from places spokes own range)
+    (along places empty_state spokes steps (hyper_starts.belongs places own) range notes)
 
 pub canonical : (places spokes : List ℕ) → IsHyperWheel places → All (λ spoke. spoke < length places) spokes →
     IsCanonicalOf (length places) (turn_word_of places spokes) (led hyper_next places empty_state spokes).word
-canonical places spokes own s =
-    let range = in-range-from (length places) spokes s in
-    let is : left (length places) (turn_word_of places spokes) ≡ (led hyper_next places empty_state spokes).word =
-    ap reverse (leads-start places spokes own range) ∙ reverse-reverse _ in
-    rw (← is) (left-is-canonical (length places) (turn_word_of places spokes) (turns places spokes own s))
+canonical places spokes own all =
+    let range = in-range-from (length places) spokes all in
+    rw (← turn-word-from places spokes own range) (leads places empty_state spokes (hyper_starts.belongs places own) range)

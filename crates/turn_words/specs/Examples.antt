@@ -4,9 +4,9 @@ use Rattle.turn_words.specs.Modulo.{add, minus}
 use Rattle.turn_words.specs.StepTable.{after_step, after_steps}
 use Rattle.turn_words.specs.Canonical.{closes_bracket}
 use Rattle.turn_words.specs.PutTurns.{Put, put_last}
-use Rattle.turn_words.specs.HyperStates.{empty_state, hyper_next}
+use Rattle.turn_words.specs.HyperStates.{HyperState, empty_state, hyper_next}
 use Rattle.turn_words.specs.FormLaws.{led}
-use Rattle.turn_words.specs.SpokePaths.{turn_word_of}
+use Rattle.turn_words.specs.SpokePaths.{turn_word_of, turns_from}
 use Rattle.turn_words.specs.declared.step.Step.{Step}
 use Rattle.turn_words.specs.declared.step.Step.TheVariants.{SpurIn, SpurOut, Push}
 
@@ -154,6 +154,18 @@ the_other_loop_first = refl
 pub the_turn_word : turn_word_of double_torus (3 ∷ 4 ∷ 4 ∷ 2 ∷ []) ≡ 7 ∷ 1 ∷ 0 ∷ 6 ∷ []
 unfolding add minus
 the_turn_word = refl
+
+-- from a state with another number only the first turn is another, and the word is too
+abbrev pub another_number : HyperState
+another_number = record { word = []; number = 1 }
+
+pub turns_from_another_number : turns_from double_torus another_number (3 ∷ 4 ∷ 4 ∷ 2 ∷ []) ≡ 6 ∷ 1 ∷ 0 ∷ 6 ∷ []
+unfolding add minus
+turns_from_another_number = refl
+
+pub word_from_another_number : (led hyper_next double_torus another_number (3 ∷ 4 ∷ 4 ∷ 2 ∷ [])).word ≡ 7 ∷ 1 ∷ []
+unfolding add minus
+word_from_another_number = refl
 
 -- the two sides of the quad on the spokes 0 and 2
 pub round_a_quad : led hyper_next double_torus empty_state (0 ∷ 1 ∷ []) ≡ led hyper_next double_torus empty_state (3 ∷ 2 ∷ [])

@@ -1,6 +1,7 @@
 -- The turn word of a list of spokes that starts at the vertex: a table over neighbouring spokes, with no reduction.
-use Rattle.std.specs.Prelude.{ℕ, Bool, false, not, if◌then◌else◌, List, [], ◌∷◌, length, slice_index}
+use Rattle.std.specs.Prelude.{ℕ, ◌%◌, ◌==◌, Bool, false, not, if◌then◌else◌, List, [], ◌∷◌, length, slice_index}
 use Rattle.turn_words.specs.Modulo.{add, minus}
+use Rattle.turn_words.specs.HyperStates.{HyperState, turn_to}
 
 -- where a spoke comes, round the vertex or round the middle
 abbrev pub place_round : List ℕ → Bool → ℕ → ℕ
@@ -18,3 +19,9 @@ turns_after places at_vertex last (spoke ∷ spokes) =
 abbrev pub turn_word_of : List ℕ → List ℕ → List ℕ
 turn_word_of places [] = []
 turn_word_of places (spoke ∷ spokes) = slice_index places spoke ∷ turns_after places false spoke spokes
+
+-- the turns of the spokes that come after a state: that of the first against the state's number, and then those after it
+abbrev pub turns_from : List ℕ → HyperState → List ℕ → List ℕ
+turns_from places state [] = []
+turns_from places state (spoke ∷ spokes) =
+    turn_to places state spoke ∷ turns_after places (not (length state.word % 2 == 0)) spoke spokes

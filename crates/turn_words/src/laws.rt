@@ -4,8 +4,8 @@ ghost use Rattle.std.specs.Prelude.{◌≡◌, ◌<◌, ◌≤◌, ◌↔◌, �
 ghost use Rattle.turn_words.specs.Canonical.{IsCanonical, IsCanonicalOf, IsTurnWord, StandsNowhere};
 ghost use Rattle.turn_words.specs.FiveCases.{FiveCases};
 ghost use Rattle.turn_words.specs.FormLaws.{led, NotesAlong};
-ghost use Rattle.turn_words.specs.HyperStates.{empty_state, hyper_next, IsHyperWheel, LeadOn};
-ghost use Rattle.turn_words.specs.SpokePaths.{turn_word_of};
+ghost use Rattle.turn_words.specs.HyperStates.{HyperState, empty_state, hyper_next, IsHyperWheel, BelongsTo, LeadOn};
+ghost use Rattle.turn_words.specs.SpokePaths.{turn_word_of, turns_from};
 ghost use Rattle.turn_words.specs.StepTable.{after_steps, Reaches};
 ghost use Rattle.turn_words.specs.declared.step.Step.{Step};
 
@@ -75,6 +75,21 @@ pub fn spokes_lead_on_to_the_canonical_word()
         All (λ spoke. spoke < length places) spokes →
         IsCanonicalOf (length places) (turn_word_of places (before ++ spokes))
         (led hyper_next places (led hyper_next places empty_state before) spokes).word }
+{}
+
+/// And so do spokes from any state of the wheel, whatever its number is: to the canonical word of the state's word
+/// with the turns of the spokes behind it, the first of which is counted from the number. The steps that are noted
+/// along them lead there too.
+pub fn spokes_lead_from_any_state_to_the_canonical_word()
+    ensures canonical { (places : List ℕ) (state : HyperState) (spokes : List ℕ) → BelongsTo places state →
+        All (λ spoke. spoke < length places) spokes →
+        IsCanonicalOf (length places) (state.word ++ turns_from places state spokes)
+        (led hyper_next places state spokes).word }
+    ensures noted { (places : List ℕ) (state : HyperState) (spokes : List ℕ) (steps : List Step) →
+        BelongsTo places state → All (λ spoke. spoke < length places) spokes →
+        NotesAlong hyper_next LeadOn places state spokes steps →
+        after_steps (length places) steps (state.word ++ turns_from places state spokes)
+        ≡ Some (led hyper_next places state spokes).word }
 {}
 
 /// The steps that are noted along a list of spokes, from the state of the empty word, lead from the turn word

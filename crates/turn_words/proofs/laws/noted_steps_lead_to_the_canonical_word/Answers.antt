@@ -1,4 +1,4 @@
-use Rattle.turn_words.proofs.NotesAlong.{notes-lead}
+use Rattle.turn_words.proofs.Spokes.{notes-lead}
 use Rattle.turn_words.proofs.laws.noted_steps_lead_to_the_canonical_word.Goals as goal
 
 pub returns : goal.returns
