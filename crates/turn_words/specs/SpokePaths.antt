@@ -1,4 +1,5 @@
--- The turn word of a list of spokes that starts at the vertex: a table over neighbouring spokes, with no reduction.
+-- The turn word of a list of spokes that starts at the vertex, and the turns of one that comes after a state: tables over
+-- neighbouring spokes, with no reduction.
 use Rattle.std.specs.Prelude.{ℕ, ◌%◌, ◌==◌, Bool, false, not, if◌then◌else◌, List, [], ◌∷◌, length, slice_index}
 use Rattle.turn_words.specs.Modulo.{add, minus}
 use Rattle.turn_words.specs.HyperStates.{HyperState, turn_to}
