@@ -1,5 +1,5 @@
 -- Where parts end of which the first have one size and are not listed.
-use Rattle.std.proofs.Common.{◌≡◌, ◌⊎◌, inl, inr, ℕ, zero, suc, ◌+◌, ◌-◌, ◌*◌, ◌<◌, ◌≤◌, List, [], ◌∷◌, ◌++◌, length, map, get_or, refl, ap, sym, ◌∙◌, add-one, arith, length-append}
+use Rattle.std.proofs.Common.{◌≡◌, ◌⊎◌, inl, inr, ℕ, zero, suc, ◌+◌, ◌-◌, ◌*◌, ◌<◌, ◌≤◌, List, [], ◌∷◌, ◌++◌, length, map, get_or, refl, ap, sym, ◌∙◌, subst, add-one, arith, length-append}
 use Rattle.std.proofs.Math.Seq.{get_or-append_right}
 use Rattle.std.proofs.lemmas.Bool.{cases_lt}
 use Rattle.std.proofs.lemmas.List.{append_assoc, append-nil, map-append, length-map, length_push, get_or-map, get_or_append_left, get_or_push}
@@ -28,6 +28,12 @@ end-equal s (suc c) k l =
 pub length-joined : (s c : ℕ) (rest : List ℕ) → length (joined_ends s c rest) ≡ c + length rest
 length-joined s c rest =
     omega (arith, length-append (equal_ends s c) (map (λ end. s * c + end) rest), length-equal s c, length-map rest (λ end. s * c + end))
+
+-- a part that is not below the first ones is a listed one
+pub listed_below : (s c : ℕ) (rest ends : List ℕ) (k : ℕ) → joined_ends s c rest ≡ ends → c ≤ k → k < length ends → k - c < length rest
+listed_below s c rest ends k seen behind l =
+    let below : k < length (joined_ends s c rest) = subst (λ (es : List ℕ). k < length es) (sym seen) l in
+    omega (arith, below, behind, length-joined s c rest)
 
 -- where a part ends and starts that is not listed, and one that is
 pub end-first : (s c : ℕ) (rest : List ℕ) (k : ℕ) → k < c → get_or (joined_ends s c rest) k 0 ≡ s * (k + 1)

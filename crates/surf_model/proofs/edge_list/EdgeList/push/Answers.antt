@@ -1,61 +1,49 @@
-use Rattle.std.proofs.Common.{◌≡◌, ◌+◌, ◌∷◌, [], ◌++◌, List, length, map, ap, ◌∙◌, arith, rules, length-append}
+use Rattle.std.proofs.Common.{◌≡◌, ◌+◌, ◌≤◌, ◌∷◌, [], ◌++◌, List, length, map, ap, ◌∙◌, arith, rules, length-append}
 use Rattle.std.proofs.lemmas.List.{length-map}
 use Rattle.surf_model.specs.EdgeLists.{DartEdge, dart_of}
 use Rattle.surf_model.specs.declared.edge_list.SideEntry.{SideEntry}
 use Rattle.surf_model.specs.declared.names.DartName.{DartName}
 use Rattle.surf_model.proofs.EdgeListLemmas.{edge_list-push, stored-push, dart_count-edges}
 use Rattle.surf_model.proofs.edge_list.EdgeList.push.Goals as goal
+use Rattle.surf_model.proofs.edge_list.EdgeList.push.Goals.{After-len}
+use Rattle.surf_model.specs.declared.limits.TheConstants.{MOST_SIDES}
 
-pub overflow_cast-len : goal.overflow_cast-len
-overflow_cast-len c =
-    let i = c.self.inside in
-    let new : List DartName = map (λ (side : SideEntry). side.dart) c.args.sides.now in
-    let size : length new ≡ length c.args.sides.now = length-map c.args.sides.now (λ (side : SideEntry). side.dart) in
-    let put : c.append.new.darts.items ≡ i.darts.items ++ new = c.in_ok-append.ensures.ok in
+-- the sides of the new edge end behind those that there were
+end : (c : After-len) → c.len.result ≡ length c.self.inside.darts.items + length c.args.sides.now
+end c =
     omega (
       arith,
       c.len.ensures,
       c.append.new.darts.ok.0,
-      ap (λ (ds : List DartName). length ds) put,
-      length-append i.darts.items new,
-      size,
-      c.requires.room,
-      dart_count-edges _ _ _ c.args.self.now c.self.invariant c.self.view_is,
+      ap (λ (ds : List DartName). length ds) c.in_ok-append.ensures.ok,
+      length-append c.self.inside.darts.items (map (λ (side : SideEntry). side.dart) c.args.sides.now),
+      length-map c.args.sides.now (λ (side : SideEntry). side.dart),
     )
+
+few : (c : After-len) → c.len.result ≤ MOST_SIDES
+few c = omega (arith, end c, c.requires.room, dart_count-edges _ _ _ c.args.self.now c.self.invariant c.self.view_is)
+
+pub overflow_cast-len : goal.overflow_cast-len
+overflow_cast-len c = omega (arith, few (goal.at.overflow_cast-len c).After-len)
 
 pub invariant_of-self-2 : goal.invariant_of-self-2
 invariant_of-self-2 c =
     let i = c.self.inside in
+    let len = (goal.at.invariant_of-self-2 c).After-len in
     let new : List DartName = map (λ (side : SideEntry). side.dart) c.args.sides.now in
     let size : length new ≡ length c.args.sides.now = length-map c.args.sides.now (λ (side : SideEntry). side.dart) in
-    let put : c.append.new.darts.items ≡ i.darts.items ++ new = c.in_ok-append.ensures.ok in
-    let end : c.len.result ≡ length i.darts.items + length new =
-    omega (arith, c.len.ensures, c.append.new.darts.ok.0, ap (λ (ds : List DartName). length ds) put, length-append i.darts.items new) in
     let pairs : c.push.new.self.items ≡ i.pairs.items ++ c.args.ends ∷ [] = search rules in
     let stops : c.push-2.new.self.items ≡ i.stops.items ++ c.len.result ∷ [] = search rules in
-    rw (pairs, stops, put) (edge_list-push i.pairs.items i.stops.items i.darts.items new c.args.ends c.len.result c.self.invariant
-    (omega (arith, size, c.requires.some)) end
-    (omega (arith, end, size, c.requires.room, dart_count-edges _ _ _ c.args.self.now c.self.invariant c.self.view_is)))
+    rw (pairs, stops, c.in_ok-append.ensures.ok) (edge_list-push i.pairs.items i.stops.items i.darts.items new c.args.ends c.len.result
+    c.self.invariant (omega (arith, size, c.requires.some)) (omega (arith, size, end len)) (few len))
 
 pub returns : goal.returns
 returns c =
     let i = c.self.inside in
-    let new : List DartName = map (λ (side : SideEntry). side.dart) c.args.sides.now in
-    let size : length new ≡ length c.args.sides.now = length-map c.args.sides.now (λ (side : SideEntry). side.dart) in
-    let put : c.append.new.darts.items ≡ i.darts.items ++ new = c.in_ok-append.ensures.ok in
-    let end : c.len.result ≡ length i.darts.items + length c.args.sides.now =
-    omega (
-      arith,
-      c.len.ensures,
-      c.append.new.darts.ok.0,
-      ap (λ (ds : List DartName). length ds) put,
-      length-append i.darts.items new,
-      size,
-    ) in
     let pairs : c.push.new.self.items ≡ i.pairs.items ++ c.args.ends ∷ [] = search rules in
     let stops : c.push-2.new.self.items ≡ i.stops.items ++ c.len.result ∷ [] = search rules in
-    rw (pairs, stops, put) (stored-push i.pairs.items i.stops.items i.darts.items c.args.sides.now c.args.ends c.len.result
-    c.self.invariant end
+    rw (pairs, stops, c.in_ok-append.ensures.ok) (stored-push i.pairs.items i.stops.items i.darts.items c.args.sides.now c.args.ends
+    c.len.result c.self.invariant (end (goal.at.returns c).After-len)
     ∙ ap (λ (edges : List DartEdge). let e : DartEdge =
     record { low = c.args.ends.low.0; high = c.args.ends.high.0; darts = map dart_of c.args.sides.now } in edges ++ e ∷ [])
     c.self.view_is)

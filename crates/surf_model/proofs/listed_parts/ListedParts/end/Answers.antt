@@ -1,25 +1,15 @@
-use Rattle.std.proofs.Common.{◌≡◌, ◌<◌, ◌≤◌, ◌∷◌, List, ℕ, length, get_or, subst, sym, arith}
+use Rattle.std.proofs.Common.{◌≡◌, ◌<◌, List, ℕ, length, get_or, subst, sym, arith}
 use Rattle.std.proofs.lemmas.List.{get_or_read}
 use Rattle.surf_model.specs.Parts.{last_end}
 use Rattle.surf_model.proofs.PartsLemmas.{IsPartWithin, part_within}
 use Rattle.surf_model.proofs.listed_parts.ListedParts.end.Goals as goal
 
-pub returns-clause-rises : goal.returns-clause-rises
-returns-clause-rises c =
+pub returns : goal.returns
+returns c =
     let i = c.self.inside in
     let k : ℕ = c.args.part in
     let few : k < length i.ends.items = subst (λ (ends : List ℕ). k < length ends) (sym c.self.view_is) c.requires in
     let here : IsPartWithin 0 i.ends.items (last_end i.ends.items) k =
     part_within 0 i.ends.items (last_end i.ends.items) k c.self.invariant.rising few in
     let read : c.index.result.now ≡ get_or i.ends.items k 0 = get_or_read i.ends.items k _ few c.index.ensures 0 in
-    subst (λ (ends : List ℕ). get_or (0 ∷ ends) k 0 ≤ c.index.result.now) c.self.view_is (omega (arith, here.rises, read))
-
-pub returns-clause-within : goal.returns-clause-within
-returns-clause-within c =
-    let i = c.self.inside in
-    let k : ℕ = c.args.part in
-    let few : k < length i.ends.items = subst (λ (ends : List ℕ). k < length ends) (sym c.self.view_is) c.requires in
-    let here : IsPartWithin 0 i.ends.items (last_end i.ends.items) k =
-    part_within 0 i.ends.items (last_end i.ends.items) k c.self.invariant.rising few in
-    let read : c.index.result.now ≡ get_or i.ends.items k 0 = get_or_read i.ends.items k _ few c.index.ensures 0 in
-    subst (λ (ends : List ℕ). c.index.result.now ≤ last_end ends) c.self.view_is (omega (arith, here.within, read))
+    rw (← c.self.view_is) (record { end = read; rises = omega (arith, here.rises, read); within = omega (arith, here.within, read) })
