@@ -53,8 +53,8 @@ pub fn fold<F: Form, R: Recorder>(
     Ok(())
 }
 
-/// Puts the spokes of one dart into a form.
-fn put_spokes<F: Form, R: Recorder>(
+/// Puts the spokes of one dart, if it has any, into a form.
+pub fn put_spokes<F: Form, R: Recorder>(
     wheel: &Wheel,
     form: &mut F,
     spokes: Option<(Spoke, Spoke)>,

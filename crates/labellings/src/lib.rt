@@ -28,7 +28,7 @@ mod word;
 pub use check::check_labelling;
 pub use denial::Denial;
 pub use fault::LabelFault;
-pub use folding::fold;
+pub use folding::{fold, put_spokes};
 pub use good::GoodLabelling;
 pub use labelling::Labelling;
 pub use verdict::{DenialVerdict, check_denial};

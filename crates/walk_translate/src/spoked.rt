@@ -1,10 +1,9 @@
 //! Deciding on walks whose darts are looked up once.
-ghost use Rattle.std.specs.Prelude.{◌≡◌, ◌↔◌, ℕ, ◌+◌, ◌-◌, ◌*◌, ◌^◌, ◌<◌, ◌≤◌, List, length, IsTrue, OnOk, IfOk, IfSome, MatchOption};
+ghost use Rattle.std.specs.Prelude.{◌≡◌, ◌↔◌, ℕ, ◌+◌, ◌-◌, ◌*◌, ◌^◌, ◌<◌, ◌≤◌, List, IsTrue, IfOk, MatchOption};
 ghost use Rattle.surf_model.specs.Walks.{darts, IsWalk};
 ghost use Rattle.surf_model.specs.Moves.{Homotopic};
 ghost use Rattle.turn_words.specs.FormLaws.{led};
 ghost use Rattle.labellings.specs.QuadPaths.{quad_path};
-ghost use Rattle.labellings.specs.Spokes.{spoke_list};
 ghost use Rattle.walk_translate.specs.WalkPairs.{AreWalkPair};
 
 use crate::dart_spokes::DartSpokes;
@@ -12,10 +11,10 @@ use crate::deciding::Answer;
 use crate::walks::have_common_ends;
 use flat_forms::Flat;
 use halfedge_map::Surface;
-use labellings::GoodLabelling;
+use labellings::{GoodLabelling, put_spokes};
 use std::alloc::AllocError;
-use surf_model::{Spoke, Walk};
-use turn_words::{Form, Hyper, Silent, Wheel};
+use surf_model::Walk;
+use turn_words::{Form, Hyper, Silent};
 
 /// A surface with its labels, and the spokes of its darts.
 #[derive(Clone, Copy)]
@@ -111,28 +110,13 @@ impl Spoked<'_> {
             let Some(edge) = self.kept.edge_between(sides, from, to) else {
                 return Ok(false);
             };
-            put_spokes(self.good.wheel(), form, self.kept.along(edge, from, to))?;
+            put_spokes(
+                self.good.wheel(),
+                form,
+                self.kept.along(edge, from, to),
+                &mut Silent,
+            )?;
         }
         Ok(true)
     }
-}
-
-/// Puts the spokes of one dart into a form.
-fn put_spokes<F: Form>(
-    wheel: &Wheel,
-    form: &mut F,
-    spokes: Option<(Spoke, Spoke)>,
-) -> Result<(), AllocError>
-    requires belongs { F.Belongs wheel.now (F.state form.old) }
-    requires below { IfSome spokes (λ pair. (pair.0.0 < length wheel.now) × (pair.1.0 < length wheel.now)) }
-    requires room { F.size (F.state form.old) + 2 ≤ F.limit }
-    ensures state { OnOk result (F.state form.new ≡ led F.next wheel.now (F.state form.old) (spoke_list spokes)) }
-    ensures belongs { OnOk result (F.Belongs wheel.now (F.state form.new)) }
-    ensures size { OnOk result (F.size (F.state form.new) ≤ F.size (F.state form.old) + 2) }
-{
-    let Some((there, back)) = spokes else {
-        return Ok(());
-    };
-    form.act(wheel, there, &mut Silent)?;
-    form.act(wheel, back, &mut Silent)
 }

@@ -35,9 +35,10 @@ good g c = cut_is_good c.args.self.now.surface.now c.args.self.now.good.now c.fa
 
 pub put_spokes-requires-clause-below : goal.put_spokes-requires-clause-below
 put_spokes-requires-clause-below g c =
+    let along = (goal.at.put_spokes-requires-clause-below g c).After-along in
     rw c.wheel.ensures
-    (spokes_below c.args.self.now.surface.now.mesh c.args.self.now.good.now c.at-from.result.0 c.at-to.result.0 c.along.result (good g c)
-    (found g c))
+    (spokes_below c.args.self.now.surface.now.mesh c.args.self.now.good.now c.at-from.result.0 c.at-to.result.0 c.along.result
+    (good g along) (found g along))
 
 pub loop-dart-preserved : goal.loop-dart-preserved
 loop-dart-preserved g c =
