@@ -1,11 +1,11 @@
 -- The two sides of a quad: a turn `t` and then 1, and a turn `t - 1` and then -1, leave the same word.
-use Rattle.std.proofs.Common.{◌≡◌, ◌≢◌, ℕ, ◌<◌, ◌≤◌, inl, inr, arith, refl, sym, ◌∙◌, ap, subst, true, false, List, [], ◌∷◌}
+use Rattle.std.proofs.Common.{◌≡◌, ◌≢◌, ℕ, ◌<◌, ◌≤◌, inl, inr, arith, refl, ◌∙◌, subst, true, false, List, [], ◌∷◌}
 use Rattle.std.proofs.lemmas.Bool.{cases_eq, cases_Bool}
 use Rattle.turn_words.specs.Modulo.{add, minus}
 use Rattle.turn_words.specs.PutTurns.{Put, is_open, flipped, closed, put}
 use Rattle.turn_words.specs.Lemmas.Sums.{add-cases, minus-one, minus-two, add-zero, zero-add, add_comm}
 use Rattle.turn_words.specs.Lemmas.WordEnds.{Follows, IsGood, IsCons, good-head, open-two, open-other, open-cases, flipped-run, flipped-end, flipped-cons, closed-two, closed-cons, put-flip, put-close, put-else}
-use Rattle.turn_words.specs.Lemmas.PutLaws.{up-down, follows-up, follows-two, follows-one, follows-minus-two}
+use Rattle.turn_words.specs.Lemmas.PutLaws.{follows-down, up-down, follows-up, follows-two, follows-one, follows-minus-two}
 
 -- the first side and the second side
 abbrev pub first_side : ℕ → List ℕ → ℕ → Put
@@ -105,26 +105,10 @@ module _ (d : ℕ) (five : 5 ≤ d) where
       (record { word = refl; change = two-up })
 
   -- a turn 1 that closes no bracket against a spur
-  follows-down : (x y : ℕ) (r : List ℕ) → IsGood d (x ∷ y ∷ r) → is_open (x ∷ y ∷ r) ≡ false → Follows d (y ∷ r) (add d x (minus d 1))
-  follows-down x y r g o =
-      let one = minus-one d five in
-      let sum = add-cases d x (minus d 1) in
-      let below : x < d = g.0 in
-      let not_zero : x ≢ 0 = g.1.no_spur in
-      let not_one : x ≢ 1 = λ e. let opened = ap (λ n. is_open (n ∷ y ∷ r)) (sym e) in absurd cc in
-      record {
-        no_spur = λ e. absurd (not_one (omega arith));
-        no_flip = λ e. absurd (not_zero (omega arith));
-        no_close = λ e. (
-            let was_two : 2 ≡ x = omega arith in
-            sym (open-two (y ∷ r) tt) ∙ ap (λ n. is_open (n ∷ y ∷ r)) was_two ∙ o
-            );
-      }
-
   put-down : (x : ℕ) (r : List ℕ) → IsGood d (x ∷ r) → is_open (x ∷ r) ≡ false
       → put d r (add d x (minus d 1)) ≡ record { word = add d x (minus d 1) ∷ r; change = 0 }
   put-down x [] g o = refl
-  put-down x (y ∷ r) g o = put-else d five (y ∷ r) (add d x (minus d 1)) tt (follows-down x y r g o)
+  put-down x (y ∷ r) g o = put-else d five (y ∷ r) (add d x (minus d 1)) tt (follows-down d five x y r g o)
 
   across-one-none : (x : ℕ) (r : List ℕ) → IsGood d (x ∷ r) → is_open (x ∷ r) ≡ false
       → Agree d (first_side d (x ∷ r) 1) (second_side d (x ∷ r) 0)

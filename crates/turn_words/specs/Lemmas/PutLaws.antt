@@ -112,6 +112,23 @@ module _ (d : ℕ) (five : 5 ≤ d) where
     | inr e ↦ rw (flipped-end d five x (y ∷ r) e) (let back = down-up x g.0 in rw back refl)
   ]
 
+  -- where an entry opens no bracket, one less can follow what is before it
+  pub follows-down : (x y : ℕ) (r : List ℕ) → IsGood d (x ∷ y ∷ r) → is_open (x ∷ y ∷ r) ≡ false → Follows d (y ∷ r) (add d x (minus d 1))
+  follows-down x y r g o =
+      let one = minus-one d five in
+      let sum = add-cases d x (minus d 1) in
+      let below : x < d = g.0 in
+      let not_zero : x ≢ 0 = g.1.no_spur in
+      let not_one : x ≢ 1 = λ e. let opened = ap (λ n. is_open (n ∷ y ∷ r)) (sym e) in absurd cc in
+      record {
+        no_spur = λ e. absurd (not_one (omega arith));
+        no_flip = λ e. absurd (not_zero (omega arith));
+        no_close = λ e. (
+            let was_two : 2 ≡ x = omega arith in
+            sym (open-two (y ∷ r) tt) ∙ ap (λ n. is_open (n ∷ y ∷ r)) was_two ∙ o
+            );
+      }
+
   -- what a close makes of an open word: canonical, and a flip takes it back
   closed-one-good : (x : ℕ) (r : List ℕ) → IsGood d (1 ∷ x ∷ r) → IsGood d (add d x (minus d 1) ∷ r)
   closed-one-good x [] g =
@@ -119,21 +136,9 @@ module _ (d : ℕ) (five : 5 ≤ d) where
       let below : x < d = g.2 in
       add-lt d x (minus d 1) below (omega arith)
   closed-one-good x (y ∷ r) g =
-      let one = minus-one d five in
-      let sum = add-cases d x (minus d 1) in
-      let below : x < d = g.2.0 in
-      let not_zero : x ≢ 0 = g.2.1.no_spur in
-      let not_open : is_open (x ∷ y ∷ r) ≡ false = g.1.no_close refl in
-      let not_one : x ≢ 1 = λ e. let opened = ap (λ n. is_open (n ∷ y ∷ r)) (sym e) in absurd cc in (
-        add-lt d x (minus d 1) below (omega arith),
-        record {
-          no_spur = λ e. absurd (not_one (omega arith));
-          no_flip = λ e. absurd (not_zero (omega arith));
-          no_close = λ e. (
-              let was_two : 2 ≡ x = omega arith in
-              sym (open-two (y ∷ r) tt) ∙ ap (λ n. is_open (n ∷ y ∷ r)) was_two ∙ not_open
-              );
-        },
+      let one = minus-one d five in (
+        add-lt d x (minus d 1) g.2.0 (omega arith),
+        follows-down x y r g.2 (g.1.no_close refl),
         g.2.2,
       )
 

@@ -6,40 +6,48 @@ use Rattle.turn_words.specs.Private.PutSteps.{put_steps, rewrite_steps}
 use Rattle.turn_words.specs.HyperStates.{HyperView, turn_to, value_at}
 use Rattle.turn_words.proofs.Acts.{notes-put, change-below, belongs-next}
 use Rattle.turn_words.proofs.hyper.HyperForm.act.Goals as goal
+use Rattle.turn_words.proofs.hyper.HyperForm.act.Goals.{After-sum_modulo-turn, After-put_uncounted-put}
+
+turn : (g : _) (c : After-sum_modulo-turn g) → c.sum_modulo-turn.result ≡ turn_to c.args.wheel.now c.args.self.now.state c.args.spoke.0
+turn g c =
+    let places = c.args.wheel.now in
+    let degree = c.degree-degree.ensures.degree in
+    let word = ap (λ (v : HyperView). v.state.word) c.self.view_is in
+    c.sum_modulo-turn.ensures.sum ∙ ap (λ d. add d c.value_of.result c.negative_modulo-before.result) degree
+    ∙ ap₂ (add (length places)) (c.value_of.ensures.value ∙ ap (λ w. value_at places w c.args.spoke.0) word)
+    (c.negative_modulo-before.ensures.negative ∙ ap₂ minus degree (ap (λ (v : HyperView). v.state.number) c.self.view_is))
+
+-- the word to which the turn is put
+before : (g : _) (c : After-put_uncounted-put g) → c.reserve.new.self.word ≡ c.args.self.now.state.word
+before g c = c.in_ok-reserve.ensures.word ∙ ap (λ (v : HyperView). v.state.word) c.self.view_is
+
+change : (g : _) (c : After-put_uncounted-put g) →
+    c.put_uncounted-put.result.change ≡ (put (length c.args.wheel.now) (reverse c.args.self.now.state.word) c.sum_modulo-turn.result).change
+change g c =
+    c.put_uncounted-put.ensures.change ∙ ap₂ (λ d w. (put d (reverse w) c.sum_modulo-turn.result).change) c.degree-degree.ensures.degree
+    (before g c)
 
 pub negative_modulo-requires : goal.negative_modulo-requires
 negative_modulo-requires g c =
-    let places = c.args.wheel.now in
-    let state = c.args.self.now.state in
+    let turned = turn g (goal.at.negative_modulo-requires g c).After-sum_modulo-turn in
+    let below = change-below c.args.wheel.now c.args.self.now.state c.args.spoke.0 c.sum_modulo-turn.result c.requires.belongs
+    c.requires.spoke turned in
     let degree = c.degree-degree.ensures.degree in
-    let word = ap (λ (v : HyperView). v.state.word) c.self.view_is in
-    let turn : c.sum_modulo-turn.result ≡ turn_to places state c.args.spoke.0 =
-    c.sum_modulo-turn.ensures.sum ∙ ap (λ d. add d c.value_of.result c.negative_modulo-before.result) degree
-    ∙ ap₂ (add (length places)) (c.value_of.ensures.value ∙ ap (λ w. value_at places w c.args.spoke.0) word)
-    (c.negative_modulo-before.ensures.negative ∙ ap₂ minus degree (ap (λ (v : HyperView). v.state.number) c.self.view_is)) in
-    let below = change-below places state c.args.spoke.0 c.sum_modulo-turn.result c.requires.belongs c.requires.spoke turn in
-    let change : c.put_uncounted-put.result.change ≡ (put (length places) (reverse state.word) c.sum_modulo-turn.result).change =
-    c.put_uncounted-put.ensures.change ∙ ap₂ (λ d w. (put d (reverse w) c.sum_modulo-turn.result).change) degree
-    (c.in_ok-reserve.ensures.word ∙ word) in
+    let changed = change g (goal.at.negative_modulo-requires g c).After-put_uncounted-put in
     omega arith
 
 pub returns-clause-notes : goal.returns-clause-notes
 returns-clause-notes g c =
     let places = c.args.wheel.now in
     let state = c.args.self.now.state in
-    let degree = c.degree-degree.ensures.degree in
-    let word = ap (λ (v : HyperView). v.state.word) c.self.view_is in
-    let turn : c.sum_modulo-turn.result ≡ turn_to places state c.args.spoke.0 =
-    c.sum_modulo-turn.ensures.sum ∙ ap (λ d. add d c.value_of.result c.negative_modulo-before.result) degree
-    ∙ ap₂ (add (length places)) (c.value_of.ensures.value ∙ ap (λ w. value_at places w c.args.spoke.0) word)
-    (c.negative_modulo-before.ensures.negative ∙ ap₂ minus degree (ap (λ (v : HyperView). v.state.number) c.self.view_is)) in
+    let turned = turn g (goal.at.returns-clause-notes g c).After-sum_modulo-turn in
     let steps : rewrite_steps c.len-len.result c.put_uncounted-put.result.rewrite ≡ put_steps (length places) (reverse state.word)
     c.sum_modulo-turn.result =
     ap (λ n. rewrite_steps n c.put_uncounted-put.result.rewrite) (c.len-len.ensures.length ∙ ap length (sym c.in_ok-reserve.ensures.word))
-    ∙ c.put_uncounted-put.ensures.rewrite ∙ ap₂ (λ d w. put_steps d (reverse w) c.sum_modulo-turn.result) degree
-    (c.in_ok-reserve.ensures.word ∙ word) in
+    ∙ c.put_uncounted-put.ensures.rewrite ∙ ap₂ (λ d w. put_steps d (reverse w) c.sum_modulo-turn.result) c.degree-degree.ensures.degree
+    (before g (goal.at.returns-clause-notes g c).After-put_uncounted-put) in
     notes-put places state c.args.spoke.0 c.sum_modulo-turn.result (g.R.Recorder.noted c.args.recorder.now)
-    (g.R.Recorder.noted c.note_rewrite.new.recorder) c.requires.belongs turn
+    (g.R.Recorder.noted c.note_rewrite.new.recorder) c.requires.belongs turned
     (c.in_ok-note_rewrite.ensures.noted ∙ ap (with_steps (g.R.Recorder.noted c.args.recorder.now)) steps)
 
 pub returns-clause-belongs : goal.returns-clause-belongs
@@ -47,20 +55,14 @@ returns-clause-belongs g c =
     let places = c.args.wheel.now in
     let state = c.args.self.now.state in
     let degree = c.degree-degree.ensures.degree in
-    let word = ap (λ (v : HyperView). v.state.word) c.self.view_is in
-    let turn : c.sum_modulo-turn.result ≡ turn_to places state c.args.spoke.0 =
-    c.sum_modulo-turn.ensures.sum ∙ ap (λ d. add d c.value_of.result c.negative_modulo-before.result) degree
-    ∙ ap₂ (add (length places)) (c.value_of.ensures.value ∙ ap (λ w. value_at places w c.args.spoke.0) word)
-    (c.negative_modulo-before.ensures.negative ∙ ap₂ minus degree (ap (λ (v : HyperView). v.state.number) c.self.view_is)) in
-    let before = c.in_ok-reserve.ensures.word ∙ word in
+    let is_put = (goal.at.returns-clause-belongs g c).After-put_uncounted-put in
+    let turned = turn g (goal.at.returns-clause-belongs g c).After-sum_modulo-turn in
     let left : reverse c.put_uncounted-put.new.word.word ≡ (put (length places) (reverse state.word) c.sum_modulo-turn.result).word =
-    c.put_uncounted-put.ensures.word ∙ ap₂ (λ d w. (put d (reverse w) c.sum_modulo-turn.result).word) degree before in
-    let change : c.put_uncounted-put.result.change ≡ (put (length places) (reverse state.word) c.sum_modulo-turn.result).change =
-    c.put_uncounted-put.ensures.change ∙ ap₂ (λ d w. (put d (reverse w) c.sum_modulo-turn.result).change) degree before in
+    c.put_uncounted-put.ensures.word ∙ ap₂ (λ d w. (put d (reverse w) c.sum_modulo-turn.result).word) degree (before g is_put) in
     let number : c.sum_modulo-self-inside.result ≡ add (length places)
     (value_at places c.put_uncounted-put.new.word.word c.args.spoke.0) (minus (length places) c.put_uncounted-put.result.change) =
     c.sum_modulo-self-inside.ensures.sum ∙ ap (λ d. add d c.value_of-value.result c.negative_modulo.result) degree
     ∙ ap₂ (add (length places)) c.value_of-value.ensures.value
     (c.negative_modulo.ensures.negative ∙ ap (λ d. minus d c.put_uncounted-put.result.change) degree) in
-    belongs-next places state c.args.spoke.0 c.sum_modulo-turn.result c.put_uncounted-put.new.word.word
-    c.put_uncounted-put.result.change c.sum_modulo-self-inside.result c.requires.belongs c.requires.spoke turn left change number
+    belongs-next places state c.args.spoke.0 c.sum_modulo-turn.result c.put_uncounted-put.new.word.word c.put_uncounted-put.result.change
+    c.sum_modulo-self-inside.result c.requires.belongs c.requires.spoke turned left (change g is_put) number
