@@ -21,6 +21,24 @@ empty_owned h o u stack e = subst (λ (n : ℕ). IsOwned h o u n stack.top) (sym
 empty_content : (h : Memory) (stack : Stack) → stack.len ≡ 0 → content_of h stack ≡ []
 empty_content h stack e = ap (λ (n : ℕ). values h n stack.top) e ∙ values-none h stack.top
 
+-- a stack on one side of a chain's place keeps its cells and its values, where one cell changes that is in no stack on that side
+module _ (h h' : Memory) (o o' : Owners) (x : ℕ) (keeps : Keeps h h' o o' x) (off : (k : ℕ) → k ≢ x → h' k ≡ h k) where
+  kept_side : (side : Option Cell → Stack) (u : Owner) (c : ℕ) → (side (h' x)).len ≡ 0 → (side (h x)).len ≡ 0
+      → IsLoose h o u (side (h c)).len x → IsOwnedStack h o u (side (h c))
+      → IsOwnedStack h' o' u (side (h' c)) × (content_of h' (side (h' c)) ≡ content_of h (side (h c)))
+  kept_side side u c none had loose own =
+      elim (cases_eq c x) [
+        | inl e ↦
+            let none_now : (side (h' c)).len ≡ 0 = ap (λ (k : ℕ). (side (h' k)).len) e ∙ none in
+            let had_then : (side (h c)).len ≡ 0 = ap (λ (k : ℕ). (side (h k)).len) e ∙ had in
+            (empty_owned h' o' u _ none_now, empty_content h' _ none_now ∙ sym (empty_content h _ had_then))
+        | inr ne ↦
+            let same : side (h' c) ≡ side (h c) = ap side (off c ne) in (
+              subst (λ (st : Stack). IsOwnedStack h' o' u st) (sym same) (IsOwned-kept h h' o o' x keeps u _ _ loose own),
+              ap (content_of h') same ∙ values-kept h h' o o' x keeps u _ _ loose own,
+            )
+      ]
+
 -- a cell that is no entry, and no head of a chain with entries, becomes a free one
 pub record Adds (h h' : Memory) (free free' : Stack) (x value : ℕ) : Type 0 where
   pub bare : (a b : ℕ) → h x ≡ Some (Entry a b) → ⊥
@@ -55,39 +73,14 @@ module _ (h h' : Memory) (free free' : Stack) (x value : ℕ) (adds : Adds h h' 
   added_left : (c : ℕ)
       → IsOwnedStack h' with_cell (Left c) (left_of (h' c)) × (content_of h' (left_of (h' c)) ≡ content_of h (left_of (h c)))
   added_left c =
-      elim (cases_eq c x) [
-        | inl e ↦
-            let none : (left_of (h' c)).len ≡ 0 = ap (λ (k : ℕ). (left_of (h' k)).len) e
-            ∙ ap (λ (cell : Option Cell). (left_of cell).len) adds.written in (
-              empty_owned h' with_cell (Left c) _ none,
-              empty_content h' _ none ∙ sym (empty_content h _ (ap (λ (k : ℕ). (left_of (h k)).len) e ∙ adds.no_left)),
-            )
-        | inr ne ↦
-            let same : left_of (h' c) ≡ left_of (h c) = ap left_of (adds.off c ne) in (
-              subst (λ (st : Stack). IsOwnedStack h' with_cell (Left c) st) (sym same)
-                  (IsOwned-kept h h' o with_cell x added_keeps (Left c) _ _ (added_loose (Left c) _) (owned (Left c))),
-              ap (content_of h') same ∙ values-kept h h' o with_cell x added_keeps (Left c) _ _ (added_loose (Left c) _) (owned (Left c)),
-            )
-      ]
+      kept_side h h' o with_cell x added_keeps adds.off left_of (Left c) c (ap (λ (cell : Option Cell). (left_of cell).len) adds.written)
+      adds.no_left (added_loose (Left c) _) (owned (Left c))
 
   added_right : (c : ℕ)
       → IsOwnedStack h' with_cell (Right c) (right_of (h' c)) × (content_of h' (right_of (h' c)) ≡ content_of h (right_of (h c)))
   added_right c =
-      elim (cases_eq c x) [
-        | inl e ↦
-            let none : (right_of (h' c)).len ≡ 0 = ap (λ (k : ℕ). (right_of (h' k)).len) e
-            ∙ ap (λ (cell : Option Cell). (right_of cell).len) adds.written in (
-              empty_owned h' with_cell (Right c) _ none,
-              empty_content h' _ none ∙ sym (empty_content h _ (ap (λ (k : ℕ). (right_of (h k)).len) e ∙ adds.no_right)),
-            )
-        | inr ne ↦
-            let same : right_of (h' c) ≡ right_of (h c) = ap right_of (adds.off c ne) in (
-              subst (λ (st : Stack). IsOwnedStack h' with_cell (Right c) st) (sym same)
-                  (IsOwned-kept h h' o with_cell x added_keeps (Right c) _ _ (added_loose (Right c) _) (owned (Right c))),
-              ap (content_of h') same
-                  ∙ values-kept h h' o with_cell x added_keeps (Right c) _ _ (added_loose (Right c) _) (owned (Right c)),
-            )
-      ]
+      kept_side h h' o with_cell x added_keeps adds.off right_of (Right c) c (ap (λ (cell : Option Cell). (right_of cell).len) adds.written)
+      adds.no_right (added_loose (Right c) _) (owned (Right c))
 
   added_stacks : AreOwned h' free' with_cell
   added_stacks Free = added_free
@@ -139,39 +132,13 @@ module _ (h h' : Memory) (free free' : Stack) (x next value : ℕ) (takes : Take
 
   taken_left : (c : ℕ) → IsOwnedStack h' o (Left c) (left_of (h' c)) × (content_of h' (left_of (h' c)) ≡ content_of h (left_of (h c)))
   taken_left c =
-      elim (cases_eq c x) [
-        | inl e ↦
-            let none : (left_of (h' c)).len ≡ 0 = ap (λ (k : ℕ). (left_of (h' k)).len) e
-            ∙ ap (λ (cell : Option Cell). (left_of cell).len) takes.written in
-            let had : (left_of (h c)).len ≡ 0 = ap (λ (k : ℕ). (left_of (h k)).len) e
-            ∙ ap (λ (cell : Option Cell). (left_of cell).len) takes.here in
-            (empty_owned h' o (Left c) _ none, empty_content h' _ none ∙ sym (empty_content h _ had))
-        | inr ne ↦
-            let same : left_of (h' c) ≡ left_of (h c) = ap left_of (takes.off c ne) in
-            let loose = loose_elsewhere (Left c) (left_of (h c)).len (λ e. cc) in (
-              subst (λ (st : Stack). IsOwnedStack h' o (Left c) st) (sym same) (IsOwned-kept h h' o o x taken_keeps (Left c) _ _ loose
-                  (owned (Left c))),
-              ap (content_of h') same ∙ values-kept h h' o o x taken_keeps (Left c) _ _ loose (owned (Left c)),
-            )
-      ]
+      kept_side h h' o o x taken_keeps takes.off left_of (Left c) c (ap (λ (cell : Option Cell). (left_of cell).len) takes.written)
+      (ap (λ (cell : Option Cell). (left_of cell).len) takes.here) (loose_elsewhere (Left c) _ (λ e. cc)) (owned (Left c))
 
   taken_right : (c : ℕ) → IsOwnedStack h' o (Right c) (right_of (h' c)) × (content_of h' (right_of (h' c)) ≡ content_of h (right_of (h c)))
   taken_right c =
-      elim (cases_eq c x) [
-        | inl e ↦
-            let none : (right_of (h' c)).len ≡ 0 = ap (λ (k : ℕ). (right_of (h' k)).len) e
-            ∙ ap (λ (cell : Option Cell). (right_of cell).len) takes.written in
-            let had : (right_of (h c)).len ≡ 0 = ap (λ (k : ℕ). (right_of (h k)).len) e
-            ∙ ap (λ (cell : Option Cell). (right_of cell).len) takes.here in
-            (empty_owned h' o (Right c) _ none, empty_content h' _ none ∙ sym (empty_content h _ had))
-        | inr ne ↦
-            let same : right_of (h' c) ≡ right_of (h c) = ap right_of (takes.off c ne) in
-            let loose = loose_elsewhere (Right c) (right_of (h c)).len (λ e. cc) in (
-              subst (λ (st : Stack). IsOwnedStack h' o (Right c) st) (sym same) (IsOwned-kept h h' o o x taken_keeps
-                  (Right c) _ _ loose (owned (Right c))),
-              ap (content_of h') same ∙ values-kept h h' o o x taken_keeps (Right c) _ _ loose (owned (Right c)),
-            )
-      ]
+      kept_side h h' o o x taken_keeps takes.off right_of (Right c) c (ap (λ (cell : Option Cell). (right_of cell).len) takes.written)
+      (ap (λ (cell : Option Cell). (right_of cell).len) takes.here) (loose_elsewhere (Right c) _ (λ e. cc)) (owned (Right c))
 
   taken_stacks : AreOwned h' free' o
   taken_stacks Free = taken_free

@@ -43,26 +43,17 @@ module _ (slots : List (Option Cell)) (capacity : ℕ) (free : Stack) (spare : �
   pub free_entry : 0 < free.len → IsEntry (under slots free.top)
   free_entry some = top_entry Free some
 
+  side_entry : (s : Owner) (st : Stack) → stack_of (memory_of slots) free s ≡ st → 0 < st.len → IsEntry (under slots st.top)
+  side_entry s st is some =
+      subst (λ (there : Stack). IsEntry (under slots there.top)) is
+      (top_entry s (omega (arith, some, ap (λ (there : Stack). there.len) is)))
+
   module _ (c : ℕ) (l r : Stack) (head : under slots c ≡ Some (Head l r)) where
     pub left_entry : 0 < l.len → IsEntry (under slots l.top)
-    left_entry some =
-        let same : left_of (under slots c) ≡ l = ap left_of head in
-        subst (λ (st : Stack). IsEntry (under slots st.top)) same (top_entry (Left c) (omega (
-          arith,
-          some,
-          ap (λ
-              (st : Stack). st.len) same,
-        )))
+    left_entry some = side_entry (Left c) l (ap left_of head) some
 
     pub right_entry : 0 < r.len → IsEntry (under slots r.top)
-    right_entry some =
-        let same : right_of (under slots c) ≡ r = ap right_of head in
-        subst (λ (st : Stack). IsEntry (under slots st.top)) same (top_entry (Right c) (omega (
-          arith,
-          some,
-          ap (λ
-              (st : Stack). st.len) same,
-        )))
+    right_entry some = side_entry (Right c) r (ap right_of head) some
 
     parted_here : (chains : List (Option Parted)) → chains_of slots ≡ chains
         → parted_under chains c

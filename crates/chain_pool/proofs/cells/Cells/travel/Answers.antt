@@ -1,7 +1,8 @@
-use Rattle.std.proofs.Common.{arith}
+use Rattle.std.proofs.Common.{◌<◌, arith}
 use Rattle.chain_pool.proofs.Going.{IsGoing-start, going_on, going_back, gone, right_top, left_top, both_now, few_now}
 use Rattle.chain_pool.proofs.Writes.{once_written}
 use Rattle.chain_pool.proofs.cells.Cells.travel.Goals as goal
+use Rattle.chain_pool.proofs.cells.Cells.travel.Goals.{At-on}
 
 pub on-init : goal.on-init
 on-init c =
@@ -9,18 +10,23 @@ on-init c =
     c.args.chain.0
     c.head.result.0 c.head.result.1 c.self.invariant c.self.view_is c.head.ensures c.requires.live
 
-pub relink-next-requires : goal.relink-next-requires
-relink-next-requires c =
-    right_top c.args.self.now c.on.self-inside.slots.slots c.on.self-inside.slots.capacity c.on.self-inside.free c.on.self-inside.spare
-    c.args.chain.0 c.on.left c.on.right c.on.invariant
-    (omega (
+-- while the place is too low, an entry is behind it
+behind : (c : At-on) → c.on.left.len < c.args.place → 0 < c.on.right.len
+behind c low =
+    omega (
       arith,
-      c.on-test.true,
+      low,
       c.requires.place,
       both_now c.args.self.now c.on.self-inside.slots.slots
           c.on.self-inside.slots.capacity c.on.self-inside.free c.on.self-inside.spare
           c.args.chain.0 c.on.left c.on.right c.on.invariant,
-    ))
+    )
+
+pub relink-next-requires : goal.relink-next-requires
+relink-next-requires c =
+    right_top c.args.self.now c.on.self-inside.slots.slots c.on.self-inside.slots.capacity c.on.self-inside.free c.on.self-inside.spare
+    c.args.chain.0 c.on.left c.on.right c.on.invariant
+    (behind (goal.at.relink-next-requires c).At-on c.on-test.true)
 
 pub overflow_add-left : goal.overflow_add-left
 overflow_add-left c = omega (
@@ -31,15 +37,7 @@ overflow_add-left c = omega (
 )
 
 pub overflow_sub-right : goal.overflow_sub-right
-overflow_sub-right c =
-    omega (
-      arith,
-      c.on-test.true,
-      c.requires.place,
-      both_now c.args.self.now c.on.self-inside.slots.slots
-          c.on.self-inside.slots.capacity c.on.self-inside.free c.on.self-inside.spare
-          c.args.chain.0 c.on.left c.on.right c.on.invariant,
-    )
+overflow_sub-right c = omega (arith, behind (goal.at.overflow_sub-right c).At-on c.on-test.true)
 
 pub on-preserved : goal.on-preserved
 on-preserved c =
@@ -48,14 +46,7 @@ on-preserved c =
     (going_on c.args.self.now c.on.self-inside.slots.slots c.on.self-inside.slots.capacity c.on.self-inside.free c.on.self-inside.spare
     c.args.chain.0 c.on.left c.on.right c.on.invariant
     c.relink-next.result c.relink-next.ensures.0 c.relink-next.ensures.1
-    (omega (
-      arith,
-      c.on-test.true,
-      c.requires.place,
-      both_now c.args.self.now c.on.self-inside.slots.slots
-          c.on.self-inside.slots.capacity c.on.self-inside.free c.on.self-inside.spare
-          c.args.chain.0 c.on.left c.on.right c.on.invariant,
-    )))
+    (behind (goal.at.on-preserved c).At-on c.on-test.true))
 
 pub relink-next-requires-in-back : goal.relink-next-requires-in-back
 relink-next-requires-in-back c =
