@@ -23,36 +23,30 @@ pub first_side-more : (mesh : FaceList) (f : ℕ) → f < length mesh.faces
     → first_side mesh (f + 1) ≡ first_side mesh f + length (face_at mesh f)
 first_side-more mesh f l = sum_by_more {X = List ℕ} length mesh.faces f [] l
 
--- one entry more at the end
+-- one entry more at the end of a list whose entries have, place by place, the numbers that a map gives
+entry_more : {X : Type 0} (number : X → ℕ) (map : ℕ → ℕ) (n : ℕ) (xs : List X) (x none : X) → length xs ≡ n
+    → ((d : ℕ) → d < n → number (get_or xs d none) ≡ map d) → number x ≡ map n
+    → (d : ℕ) → d < n + 1 → number (get_or (xs ++ x ∷ []) d none) ≡ map d
+entry_more number map n xs x none long before is d l = elim (cases_lt d n) [
+  | inl less ↦ ap number (get_or_append_left xs (x ∷ []) none d (omega (arith, less, long))) ∙ before d less
+  | inr more ↦
+      (let same : d ≡ n = omega arith in
+      ap number (get_or_push xs x none d (long ∙ sym same)) ∙ is ∙ ap map (sym same))
+]
+
 nexts_push : (s : OrientedMesh) (n : ℕ) (next : List DartName) (x : DartName)
     → ListNexts s n next → x.0 ≡ next_of s n → ListNexts s (n + 1) (next ++ x ∷ [])
-nexts_push s n next x h is =
-    record {
-      long = omega (arith, length_push next x, h.long);
-      nexts = λ d l. elim (cases_lt d n) [
-        | inl less ↦
-            ap (λ (y : DartName). y.0) (get_or_append_left next (x ∷ []) (record { 0 = 0 }) d (omega (arith, less, h.long)))
-            ∙ h.nexts d less
-        | inr more ↦
-            (let same : d ≡ n = omega arith in
-            ap (λ (y : DartName). y.0) (get_or_push next x (record { 0 = 0 }) d (h.long ∙ sym same)) ∙ is ∙ ap (next_of s) (sym same))
-      ];
-    }
+nexts_push s n next x h is = record {
+  long = omega (arith, length_push next x, h.long);
+  nexts = entry_more (λ (y : DartName). y.0) (next_of s) n next x (record { 0 = 0 }) h.long h.nexts is;
+}
 
 origins_push : (s : OrientedMesh) (n : ℕ) (origin : List VertexName) (v : VertexName)
     → ListOrigins s n origin → v.0 ≡ origin_of s n → ListOrigins s (n + 1) (origin ++ v ∷ [])
-origins_push s n origin v h is =
-    record {
-      long = omega (arith, length_push origin v, h.long);
-      origins = λ d l. elim (cases_lt d n) [
-        | inl less ↦
-            ap (λ (y : VertexName). y.0) (get_or_append_left origin (v ∷ []) (record { 0 = 0 }) d (omega (arith, less, h.long)))
-            ∙ h.origins d less
-        | inr more ↦
-            (let same : d ≡ n = omega arith in
-            ap (λ (y : VertexName). y.0) (get_or_push origin v (record { 0 = 0 }) d (h.long ∙ sym same)) ∙ is ∙ ap (origin_of s) (sym same))
-      ];
-    }
+origins_push s n origin v h is = record {
+  long = omega (arith, length_push origin v, h.long);
+  origins = entry_more (λ (y : VertexName). y.0) (origin_of s) n origin v (record { 0 = 0 }) h.long h.origins is;
+}
 
 -- the dart that follows side t of a face, put after those before it
 pub nexts_more : (s : OrientedMesh) (f t : ℕ) (next : List DartName) (x : DartName)

@@ -1,4 +1,4 @@
-use Rattle.std.proofs.Common.{◌≢◌, ◌<◌, ℕ, length, sym, ◌∙◌, subst}
+use Rattle.std.proofs.Common.{◌≢◌, ◌<◌, length, sym, ◌∙◌, subst}
 use Rattle.std.proofs.lemmas.Bool.{eqb-true, eq-eqb, both_ways}
 use Rattle.surf_model.specs.Edges.{HasEnds, edge_in}
 use Rattle.halfedge_map.specs.OrientedMeshes.{OrientedMesh, IsOrientedSurface}
@@ -6,31 +6,34 @@ use Rattle.halfedge_map.specs.DartMaps.{origin_of}
 use Rattle.halfedge_map.specs.RotationSystems.{rotations_of, IsDartFrom}
 use Rattle.halfedge_map.proofs.EdgeLemmas.{IsAtEdge, leads_on, leads_back}
 use Rattle.halfedge_map.proofs.surface.Surface.dart_between.Goals as goal
+use Rattle.halfedge_map.proofs.surface.Surface.dart_between.Goals.{After-dart_of-dart}
+
+oriented : (c : After-dart_of-dart) → IsOrientedSurface c.args.self.now
+oriented c = subst IsOrientedSurface c.self.view_is c.self.invariant.oriented
+
+-- the dart that was read is one of the edge that was found
+at_edge : (c : After-dart_of-dart) → IsAtEdge c.args.self.now c.dart_of-dart.result.0 c.in_ok-edge.edge.0
+at_edge c = record {
+  dart = c.dart_of-dart.ensures.within;
+  edge = subst (λ (t : OrientedMesh). c.in_ok-edge.edge.0 < length t.table) c.self.view_is c.in_ok-edge.ensures.found;
+  is = sym c.dart_of-dart.ensures.edge;
+}
+
+ends : (c : After-dart_of-dart) → HasEnds c.args.u.0 c.args.v.0 (edge_in c.args.self.now.table c.in_ok-edge.edge.0)
+ends c = subst (λ (t : OrientedMesh). HasEnds c.args.u.0 c.args.v.0 (edge_in t.table c.in_ok-edge.edge.0)) c.self.view_is
+    c.in_ok-edge.ensures.ends
 
 pub returns-then-eq-clause-leads : goal.returns-then-eq-clause-leads
 returns-then-eq-clause-leads c =
-    let s : OrientedMesh = c.args.self.now in
-    let d : ℕ = c.dart_of-dart.result.0 in
-    let k : ℕ = c.in_ok-edge.edge.0 in
-    let h : IsOrientedSurface s = subst IsOrientedSurface c.self.view_is c.self.invariant.oriented in
-    let edge : k < length s.table = subst (λ (t : OrientedMesh). k < length t.table) c.self.view_is c.in_ok-edge.ensures.found in
-    let ends : HasEnds c.args.u.0 c.args.v.0 (edge_in s.table k) =
-    subst (λ (t : OrientedMesh). HasEnds c.args.u.0 c.args.v.0 (edge_in t.table k)) c.self.view_is c.in_ok-edge.ensures.ends in
-    let at : IsAtEdge s d k = record { dart = c.dart_of-dart.ensures.within; edge = edge; is = sym c.dart_of-dart.ensures.edge } in
-    leads_on s h c.args.u.0 c.args.v.0 k d at ends
+    let at = (goal.at.returns-then-eq-clause-leads c).After-dart_of-dart in
+    leads_on c.args.self.now (oriented at) c.args.u.0 c.args.v.0 _ _ (at_edge at) (ends at)
     (sym c.origin.ensures ∙ eqb-true c.origin.result.0 c.args.u.0 (sym c.eq.ensures ∙ c.if-eq.true))
 
 pub returns-else-eq-clause-leads : goal.returns-else-eq-clause-leads
 returns-else-eq-clause-leads c =
     let s : OrientedMesh = c.args.self.now in
-    let d : ℕ = c.dart_of-dart.result.0 in
-    let k : ℕ = c.in_ok-edge.edge.0 in
-    let h : IsOrientedSurface s = subst IsOrientedSurface c.self.view_is c.self.invariant.oriented in
-    let edge : k < length s.table = subst (λ (t : OrientedMesh). k < length t.table) c.self.view_is c.in_ok-edge.ensures.found in
-    let ends : HasEnds c.args.u.0 c.args.v.0 (edge_in s.table k) =
-    subst (λ (t : OrientedMesh). HasEnds c.args.u.0 c.args.v.0 (edge_in t.table k)) c.self.view_is c.in_ok-edge.ensures.ends in
-    let at : IsAtEdge s d k = record { dart = c.dart_of-dart.ensures.within; edge = edge; is = sym c.dart_of-dart.ensures.edge } in
-    let other : origin_of s d ≢ c.args.u.0 =
+    let at = (goal.at.returns-else-eq-clause-leads c).After-dart_of-dart in
+    let other : origin_of s c.dart_of-dart.result.0 ≢ c.args.u.0 =
     λ same. both_ways c.eq.result c.if-eq.false (c.eq.ensures ∙ eq-eqb c.origin.result.0 c.args.u.0 (c.origin.ensures ∙ same)) in
     subst (IsDartFrom (rotations_of s) c.args.u.0 c.args.v.0) (sym c.twin.ensures.twin)
-    (leads_back s h c.args.u.0 c.args.v.0 k d at ends other)
+    (leads_back s (oriented at) c.args.u.0 c.args.v.0 _ _ (at_edge at) (ends at) other)
