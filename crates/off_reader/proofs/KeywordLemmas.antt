@@ -1,11 +1,12 @@
 -- Keywords.
-use Rattle.std.proofs.Common.{◌≡◌, ℕ, ◌+◌, ◌<◌, ◌≤◌, Bool, true, false, cond, eqb, ltb, ◌&&◌, ◌||◌, List, [], ◌∷◌, length, take, drop, Bor, length-take-le, refl, sym, ap, ◌∙◌, arith}
+use Rattle.std.proofs.Common.{◌≡◌, ℕ, ◌+◌, ◌<◌, Bool, true, false, cond, eqb, ltb, ◌&&◌, ◌||◌, List, [], ◌∷◌, length, take, drop, Bor, length-take-le, refl, sym, ap, ◌∙◌, arith}
 use Rattle.std.specs.Prelude.{Option, Some, None, MatchOption, IfSome, IfNone, position, bytes_eq, codes}
 use Rattle.std.specs.Cmp.Lexicographic.{pointwise}
 use Rattle.std.specs.List.{before_first, position_or_len}
 use Rattle.std.proofs.lemmas.List.{take_all}
-use Rattle.std.proofs.lemmas.Option.{cond_some, none-some}
-use Rattle.std.proofs.lemmas.Bool.{and_left, and_right, ltb-true, ltb-false}
+use Rattle.std.proofs.lemmas.Option.{cond_some}
+use Rattle.std.proofs.lemmas.Bool.{and_left, and_right, ltb-true}
+use Rattle.text_scan.proofs.ListLemmas.{nowhere}
 use Rattle.off_reader.specs.OffTexts.{Keyword, is_single_piece, are_pieces, keyword_of}
 
 -- ---- pieces
@@ -66,14 +67,6 @@ no_pieces_left pieces (a ∷ rest) e so_far = absurd (grind (arith, e))
 
 abbrev is_o : ℕ → Bool
 is_o byte = eqb byte 79
-
-nowhere : (p : ℕ → Bool) (xs : List ℕ) → position p xs ≡ None → length xs ≤ position_or_len p xs
-nowhere p xs e = by_test (ltb (position_or_len p xs) (length xs)) refl e
-  where
-    by_test : (b : Bool) → ltb (position_or_len p xs) (length xs) ≡ b → cond b (Some (position_or_len p xs)) None ≡ None
-        → length xs ≤ position_or_len p xs
-    by_test true is e = absurd (none-some (position_or_len p xs) (sym e))
-    by_test false is e = ltb-false _ _ is
 
 drop_length : (xs : List ℕ) → drop (length xs) xs ≡ []
 drop_length [] = refl

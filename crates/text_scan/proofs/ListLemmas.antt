@@ -1,8 +1,10 @@
--- Lists up to the first element that passes a test, element by element.
-use Rattle.std.proofs.Common.{◌≡◌, ℕ, suc, Bool, true, false, not, List, [], ◌∷◌, ◌++◌, refl, ap, ◌∙◌, one-add, add-one}
+-- Lists up to the first element that passes a test, and lists of which each passes one.
+use Rattle.std.proofs.Common.{◌≡◌, ℕ, suc, ◌≤◌, Bool, true, false, cond, not, ltb, List, [], ◌∷◌, ◌++◌, length, refl, sym, ap, ◌∙◌, one-add, add-one}
+use Rattle.std.specs.Prelude.{Some, None, position}
 use Rattle.std.specs.List.{before_first, after_first, position_or_len, list_all}
 use Rattle.text_scan.specs.Steps.{from_first}
-use Rattle.std.proofs.lemmas.Bool.{and_parts}
+use Rattle.std.proofs.lemmas.Bool.{and_parts, and_from, ltb-false}
+use Rattle.std.proofs.lemmas.Option.{none-some}
 
 pub before_first-yes : {A : Type 0} (p : A → Bool) (x : A) (xs : List A) → p x ≡ true → before_first p (x ∷ xs) ≡ []
 before_first-yes p x xs e = rw e refl
@@ -43,3 +45,19 @@ from_first-append p (x ∷ xs) ys none =
     no : (b : Bool) → not b ≡ true → b ≡ false
     no true e = cc
     no false e = refl
+
+-- where none is found, the place is behind the last one
+pub nowhere : (p : ℕ → Bool) (xs : List ℕ) → position p xs ≡ None → length xs ≤ position_or_len p xs
+nowhere p xs e = by_test (ltb (position_or_len p xs) (length xs)) refl e
+  where
+    by_test : (b : Bool) → ltb (position_or_len p xs) (length xs) ≡ b → cond b (Some (position_or_len p xs)) None ≡ None
+        → length xs ≤ position_or_len p xs
+    by_test true is e = absurd (none-some (position_or_len p xs) (sym e))
+    by_test false is e = ltb-false _ _ is
+
+-- what passes a test passes a weaker one
+pub all_weaker : (p q : ℕ → Bool) → ((x : ℕ) → p x ≡ true → q x ≡ true) → (xs : List ℕ) → list_all p xs ≡ true → list_all q xs ≡ true
+all_weaker p q weaker [] all = refl
+all_weaker p q weaker (x ∷ xs) all =
+    let both = and_parts (p x) (list_all p xs) all in
+    and_from _ _ (weaker x both.0) (all_weaker p q weaker xs both.1)

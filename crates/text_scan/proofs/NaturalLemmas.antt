@@ -5,11 +5,12 @@ use Rattle.std.specs.List.{list_all, list_any, before_first, after_first, positi
 use Rattle.std.proofs.lemmas.List.{take_more, take_all}
 use Rattle.std.proofs.lemmas.List.Sums.{fold-append}
 use Rattle.std.proofs.lemmas.List.Folds.{list_all-append}
-use Rattle.std.proofs.lemmas.Option.{cond_some, none-some}
-use Rattle.std.proofs.lemmas.Bool.{and_parts, and_left, and_right, ltb-false, ltb-true, leb-true}
+use Rattle.std.proofs.lemmas.Option.{cond_some}
+use Rattle.std.proofs.lemmas.Bool.{and_parts, and_left, and_right, ltb-true, leb-true}
 use Rattle.text_scan.specs.Lines.{is_filled}
 use Rattle.text_scan.specs.Numbers.{is_digit, is_natural, value_of, unsigned, is_exponent_mark, is_decimal, has_exponent_or_none, is_unsigned_text}
 use Rattle.text_scan.specs.Steps.{begins_with, IsPastDigits}
+use Rattle.text_scan.proofs.ListLemmas.{nowhere}
 use Rattle.text_scan.proofs.StepLemmas.{after_head, by_head}
 
 -- ---- past digits
@@ -144,14 +145,6 @@ is_first p xs i e =
       after = ap (λ n. drop (n + 1) xs) same
           ∙ sym (take_all (length xs - (i + 1)) (drop (i + 1) xs) (omega (arith, length-drop (i + 1) xs)));
     }
-
-nowhere : (p : ℕ → Bool) (xs : List ℕ) → position p xs ≡ None → length xs ≤ position_or_len p xs
-nowhere p xs e = by_test (ltb (position_or_len p xs) (length xs)) refl e
-  where
-    by_test : (b : Bool) → ltb (position_or_len p xs) (length xs) ≡ b → cond b (Some (position_or_len p xs)) None ≡ None
-        → length xs ≤ position_or_len p xs
-    by_test true is e = absurd (none-some (position_or_len p xs) (sym e))
-    by_test false is e = ltb-false _ _ is
 
 abbrev pub nan : List ℕ
 nan = codes "nan"

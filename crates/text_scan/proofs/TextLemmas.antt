@@ -8,7 +8,7 @@ use Rattle.text_scan.specs.Lines.{is_filled, is_blank}
 use Rattle.text_scan.specs.Numbers.{is_digit, is_natural, unsigned, is_point, is_exponent_mark, is_decimal, has_exponent_or_none, is_unsigned_text, is_number_text}
 use Rattle.text_scan.specs.Unread.{words_here, next_is_number_text}
 use Rattle.text_scan.specs.Steps.{ends_word, from_first, begins_with, begins_word, IsPast, IsPastDigits, IsPastDecimal}
-use Rattle.text_scan.proofs.ListLemmas.{before_first-append, after_first-no}
+use Rattle.text_scan.proofs.ListLemmas.{all_weaker, before_first-append, after_first-no}
 use Rattle.text_scan.proofs.PlaceLemmas.{words_here-word}
 use Rattle.text_scan.proofs.StepLemmas.{after_head, by_head, is_word, word_first, past_word, past_word_here, no_word}
 
@@ -17,30 +17,21 @@ is_plain byte = is_digit byte || is_point byte
 
 -- ---- digits with a point or none
 
+digit_no_point : (byte : ℕ) → is_digit byte ≡ true → is_point byte ≡ false
+digit_no_point byte e = grind (arith, e)
+
 digits_no_point : (digits : List ℕ) → list_all is_digit digits ≡ true → list_all (λ byte. not (is_point byte)) digits ≡ true
-digits_no_point [] all = refl
-digits_no_point (byte ∷ digits) all =
-    let both = and_parts (is_digit byte) (list_all is_digit digits) all in
-    and_from _ _ (no_point byte both.0) (digits_no_point digits both.1)
-  where
-    no_point : (byte : ℕ) → is_digit byte ≡ true → not (is_point byte) ≡ true
-    no_point byte e = grind (arith, e)
+digits_no_point = all_weaker is_digit (λ byte. not (is_point byte)) (λ byte e. not_from_false (is_point byte) (digit_no_point byte e))
 
 digits_plain : (digits : List ℕ) → list_all is_digit digits ≡ true → list_all is_plain digits ≡ true
-digits_plain [] all = refl
-digits_plain (byte ∷ digits) all =
-    let both = and_parts (is_digit byte) (list_all is_digit digits) all in
-    and_from _ _ (or_left (is_digit byte) (is_point byte) both.0) (digits_plain digits both.1)
+digits_plain = all_weaker is_digit is_plain (λ byte. or_left (is_digit byte) (is_point byte))
 
 after_first-append : (digits rest : List ℕ) → list_all is_digit digits ≡ true
     → after_first is_point (digits ++ rest) ≡ after_first is_point rest
 after_first-append [] rest all = refl
 after_first-append (byte ∷ digits) rest all =
     let both = and_parts (is_digit byte) (list_all is_digit digits) all in
-    after_first-no is_point byte (digits ++ rest) (no_point byte both.0) ∙ after_first-append digits rest both.1
-  where
-    no_point : (byte : ℕ) → is_digit byte ≡ true → is_point byte ≡ false
-    no_point byte e = grind (arith, e)
+    after_first-no is_point byte (digits ++ rest) (digit_no_point byte both.0) ∙ after_first-append digits rest both.1
 
 -- the digits at the front are some where there is one
 first_digits : (digits after : List ℕ) → begins_with is_digit (digits ++ after) ≡ true → begins_with is_digit after ≡ false
@@ -129,14 +120,11 @@ signed (byte ∷ rest) = signed_by byte rest (eqb byte 43 || eqb byte 45) refl
 
 -- ---- number texts of the plainest kind
 
+plain_in_word : (byte : ℕ) → is_plain byte ≡ true → not (ends_word byte) ≡ true
+plain_in_word byte e = grind (arith, e)
+
 plain_word : (text : List ℕ) → list_all is_plain text ≡ true → is_word text ≡ true
-plain_word [] all = refl
-plain_word (byte ∷ text) all =
-    let both = and_parts (is_plain byte) (list_all is_plain text) all in
-    and_from _ _ (in_word byte both.0) (plain_word text both.1)
-  where
-    in_word : (byte : ℕ) → is_plain byte ≡ true → not (ends_word byte) ≡ true
-    in_word byte e = grind (arith, e)
+plain_word = all_weaker is_plain (λ byte. not (ends_word byte)) plain_in_word
 
 plain_no_mark : (byte : ℕ) → is_plain byte ≡ true → is_exponent_mark byte ≡ false
 plain_no_mark byte e = grind (arith, e)

@@ -1,11 +1,12 @@
 -- Lines that were written are read again.
-use Rattle.std.proofs.Common.{◌≡◌, ℕ, suc, ◌==◌, ◌+◌, ◌-◌, ◌*◌, ◌%◌, ◌^◌, ◌<◌, ◌≤◌, Bool, true, false, not, List, [], ◌∷◌, ◌++◌, refl, ap, ◌∙◌, append_assoc, arith}
+use Rattle.std.proofs.Common.{◌≡◌, ℕ, suc, ◌==◌, ◌+◌, ◌-◌, ◌*◌, ◌%◌, ◌^◌, ◌<◌, ◌≤◌, true, false, not, List, [], ◌∷◌, ◌++◌, refl, ap, ◌∙◌, append_assoc, arith}
 use Rattle.std.specs.Prelude.{Some, nat_le, fold, decimal, flat_map, All, ℤ, pos, negsuc, map, option_map}
 use Rattle.std.specs.Fmt.{signed_decimal}
 use Rattle.std.specs.List.{list_all, join_with_byte}
 use Rattle.std.proofs.lemmas.Bool.{lt-ltb, le-leb, leb-true, and_parts, and_from}
 use Rattle.std.proofs.lemmas.Fmt.{decimal_by_steps}
 use Rattle.std.proofs.lemmas.List.{append-nil}
+use Rattle.std.proofs.lemmas.List.Folds.{list_all-append}
 use Rattle.std.proofs.lemmas.List.Elements.{All-head, All-tail, All-cons, All-nil}
 use Rattle.text_scan.specs.Lines.{Line, is_filled, cut, lines_from}
 use Rattle.text_scan.specs.Numbers.{is_digit, is_natural, value_of, natural_of, signed_of, fits_i64, number_below, number_of, integer_of}
@@ -13,7 +14,7 @@ use Rattle.text_scan.specs.Each.{each_some}
 use Rattle.text_scan.specs.Plain.{line_of}
 use Rattle.text_scan.specs.Unread.{is_line_feed, words_here, behind}
 use Rattle.text_scan.specs.Steps.{ends_word, begins_word, from_first}
-use Rattle.text_scan.proofs.ListLemmas.{before_first-append, before_first-yes, from_first-append, from_first-yes}
+use Rattle.text_scan.proofs.ListLemmas.{all_weaker, before_first-append, before_first-yes, from_first-append, from_first-yes}
 use Rattle.text_scan.proofs.PlaceLemmas.{words_here-word, words_here-blank, words_here-line_feed, behind-line_feed, behind-other, lines_from_here}
 
 -- ---- words that may be written: they have bytes, and none of them ends a word
@@ -113,12 +114,6 @@ is_digit-below : (n : ℕ) → n < 10 → is_digit (48 + n) ≡ true
 is_digit-below n less = and_from (nat_le 48 (48 + n)) (nat_le (48 + n) 57) (le-leb 48 (48 + n) (omega arith))
     (le-leb (48 + n) 57 (omega arith))
 
-list_all-push : (test : ℕ → Bool) (xs : List ℕ) (x : ℕ) → list_all test xs ≡ true → test x ≡ true → list_all test (xs ++ x ∷ []) ≡ true
-list_all-push test [] x all here = and_from (test x) true here refl
-list_all-push test (y ∷ xs) x all here =
-    let parts = and_parts (test y) (list_all test xs) all in
-    and_from (test y) (list_all test (xs ++ x ∷ [])) parts.0 (list_all-push test xs x parts.1 here)
-
 fold-push : (f : ℕ → ℕ → ℕ) (a : ℕ) (xs : List ℕ) (x : ℕ) → fold f a (xs ++ x ∷ []) ≡ f (fold f a xs) x
 fold-push f a [] x = refl
 fold-push f a (y ∷ xs) x = fold-push f (f a y) xs x
@@ -133,16 +128,13 @@ decimal_is = decimal_by_steps IsDecimal
     (λ n less. record { filled = refl; all = and_from (is_digit (48 + n)) true (is_digit-below n less) refl; value = omega arith })
     (λ n ds many so_far. record {
       filled = is_filled-push ds (48 + n % 10);
-      all = list_all-push is_digit ds (48 + n % 10) so_far.all (is_digit-below (n % 10) (omega arith));
+      all = list_all-append is_digit ds ((48 + n % 10) ∷ []) ∙ rw (so_far.all, is_digit-below (n % 10) (omega arith)) refl;
       value = fold-push (λ value digit. value * 10 + (digit - 48)) 0 ds (48 + n % 10)
           ∙ ap (λ v. v * 10 + (48 + n % 10 - 48)) so_far.value ∙ omega arith;
     })
 
 digits_inside : (ds : List ℕ) → list_all is_digit ds ≡ true → list_all (λ byte. not (ends_word byte)) ds ≡ true
-digits_inside [] all = refl
-digits_inside (d ∷ ds) all =
-    let parts = and_parts (is_digit d) (list_all is_digit ds) all in
-    and_from (not (ends_word d)) (list_all (λ b. not (ends_word b)) ds) (digit_inside d parts.0) (digits_inside ds parts.1)
+digits_inside = all_weaker is_digit (λ byte. not (ends_word byte)) digit_inside
   where
     digit_inside : (d : ℕ) → is_digit d ≡ true → not (ends_word d) ≡ true
     digit_inside d e =

@@ -1,4 +1,3 @@
-use Rattle.std.proofs.Common.{refl}
 use Rattle.text_scan.proofs.StepLemmas.{here}
 use Rattle.text_scan.proofs.ViewLemmas.{few_left}
 use Rattle.text_scan.proofs.cursor.Cursor.short_natural.Goals as goal
