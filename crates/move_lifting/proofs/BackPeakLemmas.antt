@@ -14,7 +14,7 @@ use Rattle.common_ends.proofs.TrimLemmas.{last_entry}
 use Rattle.move_lifting.specs.TurnPeaks.{RisesWithTurn}
 use Rattle.move_lifting.specs.Tracks.{last_of}
 use Rattle.move_lifting.proofs.BackLemmas.{backward_at, length-backward, last_joined, backward-append, backward_is, way_apart, way_of}
-use Rattle.move_lifting.proofs.TurnLemmas.{BeginAlike, turned_whole}
+use Rattle.move_lifting.proofs.TurnLemmas.{BeginAlike, turned_whole, length-turned_whole}
 
 -- a part at the end of a walk without spurs has none
 no_spur_back : (front rest : List ℕ) → HasNoSpur (front ++ rest) → HasNoSpur rest
@@ -195,19 +195,8 @@ turn_rises approach walk turn whole n behind around most moves peak old there tu
       no_spur = back_no_spur approach walk n a clean other apart;
       freely = λ mesh w. back_freely mesh approach walk n w a;
       peak =
-          let home : List ℕ = backward (last_of (take n approach)) (drop n approach) in
-          let long : length whole ≡ length approach + (length turn - 1 + (length approach - n + (length walk - n))) =
-          omega (
-            arith,
-            ap (λ (l : List ℕ). length l) is,
-            length-append approach (drop 1 turn ++ (home ++ drop n walk)),
-            length-append (drop 1 turn) (home ++ drop n walk),
-            length-append home (drop n walk),
-            length-backward (last_of (take n approach)) (drop n approach),
-            length-drop n approach,
-            length-drop 1 turn,
-            length-drop n walk,
-          ) in
+          let long : length whole + 1 ≡ length approach + (length turn + ((length approach - n) + (length walk - n))) =
+          ap (λ (l : List ℕ). length l + 1) is ∙ length-turned_whole approach turn walk n some in
           let rises : turned ≤ max there (around + most) = elim (cases_lt 0 moves) [
             | inl has ↦ omega (arith, more has, low)
             | inr hasnt ↦ (let nothing : moves ≡ 0 = omega (arith, hasnt) in omega (arith, none nothing))

@@ -2,10 +2,10 @@
 use Rattle.std.proofs.Common.{◌≡◌, inl, inr, ℕ, suc, ◌+◌, ◌-◌, ◌<◌, ◌≤◌, Bool, true, false, not, max, List, [], ◌∷◌, ◌++◌, length, take, drop, get_or, refl, ap, sym, ◌∙◌, subst, arith, append_assoc, length-append}
 use Rattle.std.specs.Prelude.{Some, reverse}
 use Rattle.std.proofs.lemmas.Bool.{cases_lt}
-use Rattle.std.proofs.lemmas.List.{map-append, length-map, drop_more, drop_all, length-drop, append-nil, reverse-append, length-reverse, get_or-append-add, get_or_append_left}
+use Rattle.std.proofs.lemmas.List.{map-append, length-map, drop_more, drop_all, length-drop, append-nil, reverse-append, length-reverse, get_or-map, get_or-append-add, get_or_append_left}
 use Rattle.surf_model.specs.FaceLists.{FaceList, face_at, next_corner, corners_from, is_edge, IsFaceList, IsFace}
 use Rattle.surf_model.specs.FreeWalks.{HasNoSpur}
-use Rattle.surf_model.specs.Walks.{darts}
+use Rattle.surf_model.specs.Walks.{IsWalk, darts}
 use Rattle.surf_model.specs.Moves.{PeakedMoves, apply}
 use Rattle.surf_model.specs.declared.moves.Move.TheVariants.{Across}
 use Rattle.surf_model.specs.Vertices.{numbers}
@@ -455,6 +455,15 @@ one_pending xs ys v is = ap numbers is ∙ map-append (λ (x : VertexName). x.0)
 
 pub length-numbers : (xs : List VertexName) → length (numbers xs) ≡ length xs
 length-numbers xs = length-map xs (λ (x : VertexName). x.0)
+
+-- each vertex of a walk is reached along an edge
+pub edge_to : (mesh : FaceList) (names : List VertexName) → IsWalk mesh (numbers names) → (n : ℕ) → 0 < n → n < length names
+    → (none : VertexName) → is_edge mesh (get_or (numbers names) (n - 1) 0) (get_or names n none).0 ≡ true
+edge_to mesh names walk n later within none =
+    let before : n - 1 < length (numbers names) - 1 = omega (arith, length-numbers names) in
+    let next : get_or (numbers names) (n - 1 + 1) 0 ≡ (get_or names n none).0 =
+    ap (λ (k : ℕ). get_or (numbers names) k 0) (omega arith) ∙ get_or-map (λ (x : VertexName). x.0) names n none 0 within in
+    ap (is_edge mesh (get_or (numbers names) (n - 1) 0)) (sym next) ∙ walk.edges (n - 1) before
 
 -- the next vertex is reached along an edge
 pub next_edge : (s : OrientedMesh) (split : SplitView) (behind to : ℕ) (begun track : TrackView) (pending rest : List ℕ) (v steps : ℕ)

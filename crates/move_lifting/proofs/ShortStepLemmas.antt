@@ -23,60 +23,20 @@ use Rattle.polygon_cut.proofs.ShortFrontLemmas.{short_behind, short_behind_one, 
 use Rattle.quad_system.proofs.PushPathLemmas.{IsQuadWheel}
 use Rattle.quad_system.proofs.PushWorthLemmas.{polygon_wheel}
 use Rattle.quad_system.proofs.SpokeProductLemmas.{spoke_at}
-use Rattle.spoke_paths.specs.PathSteps.{spur_goes, quad_turned, after_path_step}
+use Rattle.spoke_paths.specs.PathSteps.{quad_turned, after_path_step}
 use Rattle.spoke_paths.specs.PathTurns.{from_vertex}
 use Rattle.spoke_paths.specs.declared.step.PathStep.{PathStep}
-use Rattle.spoke_paths.specs.declared.step.PathStep.TheVariants.{Spur, Turn}
-use Rattle.spoke_paths.proofs.Placing.{AtPlace, at-place, take-front, old_way, new_way, IsTurned, is-turned}
-use Rattle.spoke_paths.proofs.StepsKeep.{spur-is}
+use Rattle.spoke_paths.specs.declared.step.PathStep.TheVariants.{Turn}
+use Rattle.spoke_paths.proofs.Placing.{AtPlace, at-place, take-front, IsTurned, is-turned}
 use Rattle.move_lifting.specs.LoopFronts.{spokes_in_front}
 use Rattle.move_lifting.proofs.ContractLemmas.{front_below}
 use Rattle.move_lifting.proofs.PathLemmas.{ends_at, quad_partner}
-
--- both ways round a quad have two spokes
-old_two : (rises : Bool) (d : ℕ) (b : Bool) (a c : ℕ) → length (old_way rises d b a c) ≡ 2
-old_two true d true a c = refl
-old_two true d false a c = refl
-old_two false d true a c = refl
-old_two false d false a c = refl
-
-new_two : (rises : Bool) (d : ℕ) (b : Bool) (a c : ℕ) → length (new_way rises d b a c) ≡ 2
-new_two true d true a c = refl
-new_two true d false a c = refl
-new_two false d true a c = refl
-new_two false d false a c = refl
+use Rattle.move_lifting.proofs.ReductionLemmas.{step_long}
 
 -- no step makes a path longer
 pub step_no_longer : (places : List ℕ) (step : PathStep) (path next : List ℕ) → after_path_step places step path ≡ Some next
     → length next ≤ length path
-step_no_longer places (Spur at) path next e =
-    let r : AtPlace (λ at_vertex. spur_goes) at path next = at-place (λ at_vertex. spur_goes) at path next e in
-    let goes = spur-is r.part r.instead r.does in
-    omega (
-      arith,
-      ap (λ (l : List ℕ). length l) r.path_is,
-      ap (λ (l : List ℕ). length l) r.next_is,
-      length-append r.before r.part,
-      length-append r.before r.instead,
-      ap (λ (l : List ℕ). length l) goes.is,
-    )
-step_no_longer places (Turn at a c rises) path next e =
-    let r : AtPlace (quad_turned places a c rises) at path next = at-place (quad_turned places a c rises) at path next e in
-    let flag : Bool = from_vertex at in
-    let turned : IsTurned places a c rises flag r.part r.instead = is-turned places a c rises flag r.part r.instead r.does in
-    omega (
-      arith,
-      ap (λ (l : List ℕ). length l) r.path_is,
-      ap (λ (l : List ℕ). length l) r.next_is,
-      length-append r.before r.part,
-      length-append r.before r.instead,
-      ap (λ (l : List ℕ). length l) turned.from,
-      ap (λ (l : List ℕ). length l) turned.to,
-      length-append (old_way rises (length places) flag a c) turned.after,
-      length-append (new_way rises (length places) flag a c) turned.after,
-      old_two rises (length places) flag a c,
-      new_two rises (length places) flag a c,
-    )
+step_no_longer places step path next e = omega (arith, step_long places step path next e)
 
 -- a dart has two spokes or none, so a walk has no more than two for each dart
 dart_two : (s : OrientedMesh) (polygon : PolygonView) (d : ℕ) (path : List ℕ) → HasFreeSpokes s polygon d path → length path ≤ 2

@@ -1,4 +1,4 @@
-use Rattle.std.proofs.Common.{◌≡◌, ◌⊎◌, inl, inr, ℕ, ◌+◌, ◌-◌, ◌<◌, List, length, ap, sym, ◌∙◌, subst, arith, Some}
+use Rattle.std.proofs.Common.{◌≡◌, ◌⊎◌, inl, inr, ℕ, ◌+◌, ◌-◌, ◌*◌, ◌<◌, ◌≤◌, List, length, ap, sym, ◌∙◌, subst, arith, Some}
 use Rattle.std.specs.Prelude.{All, slice_index}
 use Rattle.std.proofs.lemmas.Result.{IfOk-weaker}
 use Rattle.turn_words.specs.FormLaws.{IsQuad}
@@ -13,6 +13,7 @@ use Rattle.move_lifting.specs.declared.expanding.TheConstants.{MOST_LIFTED_DARTS
 use Rattle.move_lifting.proofs.ContractLemmas.{spur_follows, turn_follows, loop_starts, loop_follows, quad_below, front_below, both_ok}
 use Rattle.move_lifting.proofs.ShortStepLemmas.{front_short}
 use Rattle.move_lifting.proofs.contracting.follow.Goals as goal
+use Rattle.move_lifting.proofs.contracting.follow.Goals.{In-Turn, After-deref}
 
 pub returns-in_default-clause-spokes : goal.returns-in_default-clause-spokes
 returns-in_default-clause-spokes c = λ next e.
@@ -35,7 +36,7 @@ returns-then-partner-last-clause-spokes c = λ next e.
     (λ other. c.if-partner-last.true (other ∙ ap (λ n. n - 1) (sym c.degree-last.ensures.degree))) c.requires.spokes
 
 -- the turn is allowed, and so it is across a quad
-turn : (c : goal.After-front_of_loop-arg-1) → (c.in-Turn.at + 1 < length c.args.path.now)
+turn : (c : In-Turn) → (c.in-Turn.at + 1 < length c.args.path.now)
     × IsQuad c.args.looping.now.cut.now.polygon.now.places
     c.in-Turn.side c.in-Turn.partner
 turn c =
@@ -44,7 +45,7 @@ turn c =
     (subst (λ (step : PathStep). after_path_step c.args.looping.now.cut.now.polygon.now.places step c.args.path.now
     ≡ Some c.requires.allowed.0) c.in-Turn.is c.requires.allowed.1)
 
-below : (c : goal.After-front_of_loop-arg-1) → (c.in-Turn.side < c.args.looping.now.cut.now.polygon.now.degree)
+below : (c : In-Turn) → (c.in-Turn.side < c.args.looping.now.cut.now.polygon.now.degree)
     × (c.in-Turn.partner < c.args.looping.now.cut.now.polygon.now.degree)
 below c =
     quad_below c.args.looping.now.cut.now.on.surface.now c.args.looping.now.cut.now.on.split.now c.requires.looping.cut.valid
@@ -53,29 +54,53 @@ below c =
     c.in-Turn.partner (turn c).1
 
 pub front_of_loop-requires-clause-within : goal.front_of_loop-requires-clause-within
-front_of_loop-requires-clause-within c = omega (arith, (turn c).0)
+front_of_loop-requires-clause-within c = omega (arith, (turn (goal.at.front_of_loop-requires-clause-within c).In-Turn).0)
 
 pub front_of_loop-requires-clause-side : goal.front_of_loop-requires-clause-side
-front_of_loop-requires-clause-side c = omega (arith, (below c).0, c.degree-last.ensures.degree, c.degree-last.type_inv)
+front_of_loop-requires-clause-side c = omega (arith, (below (goal.at.front_of_loop-requires-clause-side c).In-Turn).0, c.degree-last.ensures.degree, c.degree-last.type_inv)
 
 pub front_of_loop-requires-clause-partner : goal.front_of_loop-requires-clause-partner
-front_of_loop-requires-clause-partner c = omega (arith, (below c).1, c.degree-last.ensures.degree, c.degree-last.type_inv)
+front_of_loop-requires-clause-partner c = omega (arith, (below (goal.at.front_of_loop-requires-clause-partner c).In-Turn).1, c.degree-last.ensures.degree, c.degree-last.type_inv)
+
+-- the spokes that are made stand in front of the loop
+front_is : (c : After-deref)
+    → c.deref.result.now ≡ spokes_in_front (c.args.looping.now.cut.now.polygon.now.degree - 1) c.args.path.now c.in-Turn.at c.in-Turn.side
+    c.in-Turn.partner
+front_is c =
+    c.deref.ensures.value ∙ c.in_ok-front.ensures
+    ∙ ap (λ n. spokes_in_front (n - 1) c.args.path.now c.in-Turn.at c.in-Turn.side c.in-Turn.partner) c.degree-last.ensures.degree
+
+-- the quad is at the last side
+which : (c : After-deref)
+    → (c.in-Turn.side ≡ c.args.looping.now.cut.now.polygon.now.degree - 1)
+    ⊎ (c.in-Turn.partner ≡ c.args.looping.now.cut.now.polygon.now.degree - 1)
+which c =
+    let last_is = ap (λ n. n - 1) c.degree-last.ensures.degree in
+    elim c.else-side-last.either [ inl other ↦ inr (other.1 ∙ last_is) | inr own ↦ inl (own ∙ last_is) ]
+
+-- the ways round them are short
+around : (c : After-deref) (pairs : ℕ) → length c.args.path.now ≤ 2 * pairs
+    → AreShortAround c.args.looping.now.cut.now.on.surface.now c.args.looping.now.cut.now.on.split.now
+    c.args.looping.now.cut.now.polygon.now c.deref.result.now c.args.path.now (pairs + 1)
+around c pairs few =
+    let s = c.args.looping.now.cut.now.on.surface.now in
+    let split = c.args.looping.now.cut.now.on.split.now in
+    let polygon = c.args.looping.now.cut.now.polygon.now in
+    let allowed = subst (λ (step : PathStep). after_path_step polygon.places step c.args.path.now ≡ Some c.requires.allowed.0) c.in-Turn.is
+    c.requires.allowed.1 in
+    subst (λ (l : List ℕ). AreShortAround s split polygon l c.args.path.now (pairs + 1)) (sym (front_is c))
+    (front_short s split c.requires.looping.cut.valid c.requires.looping.cut.on.split polygon c.requires.looping.cut.polygon
+    c.requires.looping.cut.some c.in-Turn.up c.in-Turn.at c.in-Turn.side c.in-Turn.partner c.args.path.now c.requires.allowed.0 pairs
+    allowed c.requires.below (which c) few)
 
 pub put_loop-requires-clause-front : goal.put_loop-requires-clause-front
 put_loop-requires-clause-front c =
-    let e = subst (λ (step : PathStep). after_path_step c.args.looping.now.cut.now.polygon.now.places step c.args.path.now
-    ≡ Some c.requires.allowed.0) c.in-Turn.is c.requires.allowed.1 in
-    let quad = some-turn c.args.looping.now.cut.now.polygon.now.places c.in-Turn.side c.in-Turn.partner c.in-Turn.up c.in-Turn.at
-    c.args.path.now c.requires.allowed.0 e in
-    let front_is : c.deref.result.now ≡ spokes_in_front (c.args.looping.now.cut.now.polygon.now.degree - 1) c.args.path.now c.in-Turn.at
-    c.in-Turn.side c.in-Turn.partner =
-    c.deref.ensures.value ∙ c.in_ok-front.ensures
-    ∙ ap (λ n. spokes_in_front (n - 1) c.args.path.now c.in-Turn.at c.in-Turn.side c.in-Turn.partner) c.degree-last.ensures.degree in
-    subst (λ (l : List ℕ). All (λ i. i < c.args.looping.now.cut.now.polygon.now.degree) l) (sym front_is)
+    let at = goal.at.put_loop-requires-clause-front c in
+    subst (λ (l : List ℕ). All (λ i. i < c.args.looping.now.cut.now.polygon.now.degree) l) (sym (front_is at.After-deref))
     (front_below c.args.looping.now.cut.now.on.surface.now c.args.looping.now.cut.now.on.split.now c.requires.looping.cut.valid
     c.requires.looping.cut.on.split c.args.looping.now.cut.now.polygon.now c.requires.looping.cut.polygon c.requires.looping.cut.some
     c.in-Turn.at c.in-Turn.side
-    c.in-Turn.partner c.args.path.now c.requires.below quad.1)
+    c.in-Turn.partner c.args.path.now c.requires.below (turn at.In-Turn).1)
 
 pub returns-clause-starts : goal.returns-clause-starts
 returns-clause-starts c =
@@ -92,14 +117,7 @@ returns-clause-starts c =
 
 pub returns-clause-spokes : goal.returns-clause-spokes
 returns-clause-spokes c =
-    let front_is : c.deref.result.now ≡ spokes_in_front (c.args.looping.now.cut.now.polygon.now.degree - 1) c.args.path.now c.in-Turn.at
-    c.in-Turn.side c.in-Turn.partner =
-    c.deref.ensures.value ∙ c.in_ok-front.ensures
-    ∙ ap (λ n. spokes_in_front (n - 1) c.args.path.now c.in-Turn.at c.in-Turn.side c.in-Turn.partner) c.degree-last.ensures.degree in
-    let last_is = ap (λ n. n - 1) c.degree-last.ensures.degree in
-    let which : (c.in-Turn.side ≡ c.args.looping.now.cut.now.polygon.now.degree - 1)
-    ⊎ (c.in-Turn.partner ≡ c.args.looping.now.cut.now.polygon.now.degree - 1) =
-    elim c.else-side-last.either [ inl other ↦ inr (other.1 ∙ last_is) | inr own ↦ inl (own ∙ last_is) ] in
+    let at = (goal.at.returns-clause-spokes c).After-deref in
     both_ok c.put_loop.result (λ (x : TrackView). 0 < length x.walk)
     (λ (x : TrackView). HasLoopIn c.args.looping.now.cut.now.on.surface.now c.args.looping.now.cut.now.on.split.now
     c.args.looping.now.cut.now.polygon.now c.deref.result.now c.in-Turn.up c.args.track.walk x.walk)
@@ -113,53 +131,23 @@ returns-clause-spokes c =
     c.in-Turn.at c.in-Turn.side
     c.in-Turn.partner c.in-Turn.up c.args.path.now next c.deref.result.now c.args.track.walk x.walk
     (subst (λ (step : PathStep). after_path_step c.args.looping.now.cut.now.polygon.now.places step c.args.path.now ≡ Some next)
-    c.in-Turn.is e) c.requires.walk c.requires.below which front_is
+    c.in-Turn.is e) c.requires.walk c.requires.below (which at) (front_is at)
     there puts c.requires.spokes)
     c.put_loop.ensures.some c.put_loop.ensures.freely
 
 -- where the loop goes in, the ways are short
 pub put_loop-requires-clause-short : goal.put_loop-requires-clause-short
-put_loop-requires-clause-short c =
-    let s = c.args.looping.now.cut.now.on.surface.now in
-    let split = c.args.looping.now.cut.now.on.split.now in
-    let polygon = c.args.looping.now.cut.now.polygon.now in
-    let front_is : c.deref.result.now ≡ spokes_in_front (polygon.degree - 1) c.args.path.now c.in-Turn.at c.in-Turn.side c.in-Turn.partner =
-    c.deref.ensures.value ∙ c.in_ok-front.ensures
-    ∙ ap (λ n. spokes_in_front (n - 1) c.args.path.now c.in-Turn.at c.in-Turn.side c.in-Turn.partner) c.degree-last.ensures.degree in
-    let last_is = ap (λ n. n - 1) c.degree-last.ensures.degree in
-    let which : (c.in-Turn.side ≡ polygon.degree - 1) ⊎ (c.in-Turn.partner ≡ polygon.degree - 1) =
-    elim c.else-side-last.either [ inl other ↦ inr (other.1 ∙ last_is) | inr own ↦ inl (own ∙ last_is) ] in
-    let allowed = subst (λ (step : PathStep). after_path_step polygon.places step c.args.path.now ≡ Some c.requires.allowed.0) c.in-Turn.is
-    c.requires.allowed.1 in
-    record {
-      path = c.args.path.now;
-      below = c.requires.below;
-      few = c.requires.few;
-      spokes = c.requires.spokes;
-      around = subst (λ (l : List ℕ). AreShortAround s split polygon l c.args.path.now (MOST_LIFTED_DARTS + 1)) (sym front_is)
-          (front_short s split c.requires.looping.cut.valid c.requires.looping.cut.on.split polygon c.requires.looping.cut.polygon
-          c.requires.looping.cut.some c.in-Turn.up c.in-Turn.at c.in-Turn.side c.in-Turn.partner c.args.path.now c.requires.allowed.0
-          MOST_LIFTED_DARTS allowed c.requires.below which c.requires.few);
-    }
+put_loop-requires-clause-short c = record {
+  path = c.args.path.now;
+  below = c.requires.below;
+  few = c.requires.few;
+  spokes = c.requires.spokes;
+  around = around (goal.at.put_loop-requires-clause-short c).After-deref MOST_LIFTED_DARTS c.requires.few;
+}
 
 pub returns-clause-peak : goal.returns-clause-peak
 returns-clause-peak c =
-    let s = c.args.looping.now.cut.now.on.surface.now in
-    let split = c.args.looping.now.cut.now.on.split.now in
-    let polygon = c.args.looping.now.cut.now.polygon.now in
-    let front_is : c.deref.result.now ≡ spokes_in_front (polygon.degree - 1) c.args.path.now c.in-Turn.at c.in-Turn.side c.in-Turn.partner =
-    c.deref.ensures.value ∙ c.in_ok-front.ensures
-    ∙ ap (λ n. spokes_in_front (n - 1) c.args.path.now c.in-Turn.at c.in-Turn.side c.in-Turn.partner) c.degree-last.ensures.degree in
-    let last_is = ap (λ n. n - 1) c.degree-last.ensures.degree in
-    let which : (c.in-Turn.side ≡ polygon.degree - 1) ⊎ (c.in-Turn.partner ≡ polygon.degree - 1) =
-    elim c.else-side-last.either [ inl other ↦ inr (other.1 ∙ last_is) | inr own ↦ inl (own ∙ last_is) ] in
-    let allowed = subst (λ (step : PathStep). after_path_step polygon.places step c.args.path.now ≡ Some c.requires.allowed.0) c.in-Turn.is
-    c.requires.allowed.1 in
     IfOk-weaker c.put_loop.result _ _
     (λ x keeps pairs few.
-    keeps c.args.path.now (pairs + 1) c.requires.spokes
-    (subst (λ (l : List ℕ). AreShortAround s split polygon l c.args.path.now (pairs + 1)) (sym front_is)
-    (front_short s split c.requires.looping.cut.valid c.requires.looping.cut.on.split polygon c.requires.looping.cut.polygon
-    c.requires.looping.cut.some c.in-Turn.up c.in-Turn.at c.in-Turn.side c.in-Turn.partner c.args.path.now c.requires.allowed.0 pairs
-    allowed c.requires.below which few)))
+    keeps c.args.path.now (pairs + 1) c.requires.spokes (around (goal.at.returns-clause-peak c).After-deref pairs few))
     c.put_loop.ensures.peak

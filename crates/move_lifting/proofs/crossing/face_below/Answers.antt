@@ -12,6 +12,14 @@ use Rattle.move_lifting.specs.Crossings.{GoesAlong, IsFaceBelow}
 use Rattle.move_lifting.specs.declared.crossing.FaceStep.{FaceStep}
 use Rattle.move_lifting.proofs.CrossingLemmas.{below_step, not_below}
 use Rattle.move_lifting.proofs.crossing.face_below.Goals as goal
+use Rattle.move_lifting.proofs.crossing.face_below.Goals.{After-unwrap-dart}
+
+-- the dart that is found leads from the one vertex to the other
+from : (c : After-unwrap-dart)
+    → IsDartFrom (rotations_of c.args.surface.now) c.args.from.0 c.args.to.0 c.unwrap-dart.result.0
+from c =
+    subst (λ (r : Option DartName). IfSome r (λ dart. IsDartFrom (rotations_of c.args.surface.now) c.args.from.0 c.args.to.0 dart.0))
+    c.unwrap-dart.ensures c.dart_between.ensures.leads
 
 pub returns-in_err-face : goal.returns-in_err-face
 returns-in_err-face c =
@@ -19,9 +27,6 @@ returns-in_err-face c =
     let u : ℕ = c.args.from.0 in
     let v : ℕ = c.args.to.0 in
     let d : ℕ = c.unwrap-dart.result.0 in
-    let from : IsDartFrom (rotations_of s) u v d =
-    subst (λ (r : Option DartName). IfSome r (λ dart. IsDartFrom (rotations_of s) u v dart.0)) c.unwrap-dart.ensures
-    c.dart_between.ensures.leads in
     let none : below_edge c.args.split.now (edge_of s d) ≡ None =
     ap (below_edge c.args.split.now) (sym c.edge_of.ensures.edge) ∙ sym c.child_face.ensures
     ∙ ap (λ (r : Option FaceName). option_map (λ face. face.0) r) c.in_err-face.was in
@@ -30,7 +35,8 @@ returns-in_err-face c =
     MatchOption r ((dart : ℕ) → IsDartFrom (rotations_of s) u v dart → in_cotree c.args.split.now (edge_of s dart) ≡ false)
     (IsFaceBelow s c.args.split.now u v))
     (sym c.from_residual.ensures)
-    (λ x other. not_below s c.args.split.now c.faces-faces.ensures.valid c.requires.split u v d x from none other)
+    (λ x other. not_below s c.args.split.now c.faces-faces.ensures.valid c.requires.split u v d x
+    (from (goal.at.returns-in_err-face c).After-unwrap-dart) none other)
 
 pub returns : goal.returns
 returns c =
@@ -38,9 +44,6 @@ returns c =
     let u : ℕ = c.args.from.0 in
     let v : ℕ = c.args.to.0 in
     let d : ℕ = c.unwrap-dart.result.0 in
-    let from : IsDartFrom (rotations_of s) u v d =
-    subst (λ (r : Option DartName). IfSome r (λ dart. IsDartFrom (rotations_of s) u v dart.0)) c.unwrap-dart.ensures
-    c.dart_between.ensures.leads in
     let face : below_edge c.args.split.now (edge_of s d) ≡ Some c.in_ok-face.face.0 =
     ap (below_edge c.args.split.now) (sym c.edge_of.ensures.edge) ∙ sym c.child_face.ensures
     ∙ ap (λ (r : Option FaceName). option_map (λ f. f.0) r) c.in_ok-face.was in
@@ -53,4 +56,4 @@ returns c =
     subst (λ (m : FaceList). GoesAlong m c.side_at-side.result u c.step_along.result) mesh c.step_along.ensures in
     below_step s c.args.split.now c.faces-faces.ensures.valid c.requires.split u v d c.in_ok-face.face.0 c.dart_in.result.0
     c.side_at-side.result
-    c.step_along.result from face c.dart_in.ensures in_mesh number along
+    c.step_along.result (from (goal.at.returns c).After-unwrap-dart) face c.dart_in.ensures in_mesh number along

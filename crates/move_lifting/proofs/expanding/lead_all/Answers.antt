@@ -1,12 +1,13 @@
-use Rattle.std.proofs.Common.{◌≡◌, ℕ, ◌+◌, ◌-◌, ◌<◌, true, List, length, get_or, ap, sym, ◌∙◌, subst, arith}
+use Rattle.std.proofs.Common.{◌≡◌, ℕ, ◌+◌, ◌-◌, ◌<◌, List, length, get_or, ap, sym, ◌∙◌, subst, arith}
 use Rattle.std.proofs.lemmas.List.{get_or-map}
 use Rattle.surf_model.specs.FaceLists.{is_edge}
 use Rattle.surf_model.specs.Vertices.{numbers}
 use Rattle.surf_model.specs.declared.names.VertexName.{VertexName}
 use Rattle.polygon_cut.specs.SpokeLoops.{IsOffCotree}
 use Rattle.move_lifting.specs.Tracks.{TrackView}
-use Rattle.move_lifting.proofs.ExpandLemmas.{led_first, led_more, led_all, led_all_within, length-numbers}
+use Rattle.move_lifting.proofs.ExpandLemmas.{edge_to, led_first, led_more, led_all, led_all_within, length-numbers}
 use Rattle.move_lifting.proofs.expanding.lead_all.Goals as goal
+use Rattle.move_lifting.proofs.expanding.lead_all.Goals.{After-loop-place}
 
 pub loop-place-init : goal.loop-place-init
 loop-place-init c =
@@ -24,20 +25,11 @@ loop-place-init c =
 
 pub lead_on-requires-clause-edge : goal.lead_on-requires-clause-edge
 lead_on-requires-clause-edge c =
-    let walk : List ℕ = numbers c.args.walk.now in
-    let n : ℕ = c.loop-place.place in
-    let long : length walk ≡ length c.args.walk.now = length-numbers c.args.walk.now in
-    let within : n < length c.args.walk.now = omega (arith, c.loop-place-test.true) in
-    let next : n - 1 + 1 ≡ n = omega (arith, c.loop-place.auto.place) in
-    let before : n - 1 < length walk - 1 = omega (arith, c.loop-place.auto.place) in
-    let edge : is_edge c.args.on.now.surface.now.mesh (get_or walk (n - 1) 0) (get_or walk n 0) ≡ true =
-    subst (λ (k : ℕ). is_edge c.args.on.now.surface.now.mesh (get_or walk (n - 1) 0) (get_or walk k 0) ≡ true) next
-    (c.requires.walk.edges (n - 1) before) in
     let none : VertexName = record { 0 = 0 } in
-    let next_is : get_or walk n 0 ≡ (get_or c.args.walk.now n none).0 =
-    get_or-map (λ (x : VertexName). x.0) c.args.walk.now n none 0 within in
-    ap (λ (x : ℕ). is_edge c.args.on.now.surface.now.mesh x (get_or c.args.walk.now n none).0) c.loop-place.invariant.led.last
-    ∙ ap (is_edge c.args.on.now.surface.now.mesh (get_or walk (n - 1) 0)) (sym next_is) ∙ edge
+    ap (λ (x : ℕ). is_edge c.args.on.now.surface.now.mesh x (get_or c.args.walk.now c.loop-place.place none).0)
+    c.loop-place.invariant.led.last
+    ∙ edge_to c.args.on.now.surface.now.mesh c.args.walk.now c.requires.walk c.loop-place.place (omega (arith, c.loop-place.auto.place))
+    (omega (arith, c.loop-place-test.true)) none
 
 pub loop-place-preserved : goal.loop-place-preserved
 loop-place-preserved c =
@@ -58,17 +50,17 @@ loop-place-preserved c =
       few = omega (arith, c.in_ok-lead_on.ensures.long, c.loop-place.invariant.few, c.requires.on.sides);
     }
 
+-- the whole walk is led
+all : (c : After-loop-place) → c.loop-place.place ≡ length (numbers c.args.walk.now)
+all c = omega (arith, c.loop-place-test.false, c.loop-place.auto.place-end, length-numbers c.args.walk.now, c.requires.walk.starts)
+
 pub returns-clause-leads : goal.returns-clause-leads
 returns-clause-leads c =
-    let all : c.loop-place.place ≡ length (numbers c.args.walk.now) =
-    omega (arith, c.loop-place-test.false, c.loop-place.auto.place-end, length-numbers c.args.walk.now, c.requires.walk.starts) in
     (led_all c.args.on.now.surface.now c.args.on.now.split.now c.args.behind (numbers c.args.walk.now) c.args.moves c.loop-place.track
     c.loop-place.place
-    c.loop-place.invariant.led all).0
+    c.loop-place.invariant.led (all (goal.at.returns-clause-leads c).After-loop-place)).0
 
 pub returns-clause-within : goal.returns-clause-within
 returns-clause-within c =
-    let all : c.loop-place.place ≡ length (numbers c.args.walk.now) =
-    omega (arith, c.loop-place-test.false, c.loop-place.auto.place-end, length-numbers c.args.walk.now, c.requires.walk.starts) in
     led_all_within c.args.on.now.surface.now c.args.on.now.split.now c.args.behind (numbers c.args.walk.now) c.args.moves c.loop-place.track
-    c.loop-place.place c.loop-place.invariant.led all
+    c.loop-place.place c.loop-place.invariant.led (all (goal.at.returns-clause-within c).After-loop-place)

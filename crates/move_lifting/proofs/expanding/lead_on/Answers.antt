@@ -9,7 +9,7 @@ use Rattle.move_lifting.specs.Tracks.{TrackView, last_of}
 use Rattle.move_lifting.specs.Crossings.{IsFaceBelow, IsCrossed}
 use Rattle.move_lifting.proofs.ExpandLemmas.{under_way, led_on, led_within, all_come, none_left, one_pending, length-numbers, next_edge, room_along, room_across, put_on_way, cross_on_way}
 use Rattle.move_lifting.proofs.expanding.lead_on.Goals as goal
-use Rattle.move_lifting.proofs.expanding.lead_on.Goals.{in-Some-face_below+in_ok-cross-in-Some-face_below, in-None+in_ok-put-in-None}
+use Rattle.move_lifting.proofs.expanding.lead_on.Goals.{in-Some-face_below+in_ok-cross-in-Some-face_below, in-None+in_ok-put-in-None, In_default, After-len}
 
 pub loop-step-init : goal.loop-step-init
 loop-step-init c =
@@ -27,6 +27,10 @@ loop-step-init c =
       );
     }
 
+-- nothing is pending any more
+none : (c : In_default) → c.loop-step.pending.items ≡ []
+none c = none_left c.loop-step.pending.items (omega (arith, c.in_default.ensures.cases.0))
+
 pub returns-in_default-clause-no_spur : goal.returns-in_default-clause-no_spur
 returns-in_default-clause-no_spur c = c.loop-step.invariant.under.no_spur
 
@@ -35,10 +39,9 @@ returns-in_default-clause-off_cotree c = c.loop-step.invariant.under.off_cotree
 
 pub returns-in_default-clause-last : goal.returns-in_default-clause-last
 returns-in_default-clause-last c =
-    let few : length c.loop-step.pending.items ≡ 0 = omega (arith, c.in_default.ensures.cases.0) in
     (led_on c.args.on.now.surface.now c.args.on.now.split.now c.args.behind c.args.to.0 c.args.track.now c.loop-step.track
     (numbers c.loop-step.pending.items)
-    c.loop-step._step c.loop-step.invariant.under (ap numbers (none_left c.loop-step.pending.items few))).1
+    c.loop-step._step c.loop-step.invariant.under (ap numbers (none (goal.at.returns-in_default-clause-last c).In_default))).1
 
 pub returns-in_default-clause-long : goal.returns-in_default-clause-long
 returns-in_default-clause-long c =
@@ -46,17 +49,15 @@ returns-in_default-clause-long c =
 
 pub returns-in_default-clause-leads : goal.returns-in_default-clause-leads
 returns-in_default-clause-leads c =
-    let few : length c.loop-step.pending.items ≡ 0 = omega (arith, c.in_default.ensures.cases.0) in
     (led_on c.args.on.now.surface.now c.args.on.now.split.now c.args.behind c.args.to.0 c.args.track.now c.loop-step.track
     (numbers c.loop-step.pending.items)
-    c.loop-step._step c.loop-step.invariant.under (ap numbers (none_left c.loop-step.pending.items few))).0
+    c.loop-step._step c.loop-step.invariant.under (ap numbers (none (goal.at.returns-in_default-clause-leads c).In_default))).0
 
 pub returns-in_default-clause-within : goal.returns-in_default-clause-within
 returns-in_default-clause-within c =
-    let few : length c.loop-step.pending.items ≡ 0 = omega (arith, c.in_default.ensures.cases.0) in
     led_within c.args.on.now.surface.now c.args.on.now.split.now c.args.behind c.args.to.0 c.args.track.now c.loop-step.track
     (numbers c.loop-step.pending.items)
-    c.loop-step._step c.loop-step.invariant.under (ap numbers (none_left c.loop-step.pending.items few))
+    c.loop-step._step c.loop-step.invariant.under (ap numbers (none (goal.at.returns-in_default-clause-within c).In_default))
 
 pub face_below-requires-clause-edge : goal.face_below-requires-clause-edge
 face_below-requires-clause-edge c =
@@ -83,35 +84,27 @@ cross-requires-clause-room c =
     ap (λ (m : FaceList). length (face_at m step.face.0)) c.faces.ensures.mesh in
     omega (arith, room, mesh, c.requires.room, length-numbers c.pop.new.self.items)
 
-pub overflow_cast-len : goal.overflow_cast-len
-overflow_cast-len c =
+-- along an edge there is room
+room : (c : After-len) → length c.loop-step.track.walk + c.len.result + 1 ≤ length c.args.track.now.walk + darts_of c.args.on.now.surface.now
+room c =
     let popped = one_pending c.loop-step.pending.items c.pop.new.self.items c.in-Some.next c.in-Some.ensures.items in
     let room = room_along c.args.on.now.surface.now c.args.on.now.split.now c.requires.on.split c.args.behind c.args.to.0 c.args.track.now
     c.loop-step.track
     (numbers c.loop-step.pending.items) (numbers c.pop.new.self.items) c.in-Some.next.0 c.loop-step._step
     c.loop-step.invariant.under popped in
-    omega (arith, room, c.requires.room, c.len.ensures, length-numbers c.pop.new.self.items)
+    omega (arith, room, c.len.ensures, length-numbers c.pop.new.self.items)
+
+pub overflow_cast-len : goal.overflow_cast-len
+overflow_cast-len c = omega (arith, room (goal.at.overflow_cast-len c).After-len, c.requires.room)
 
 pub overflow_add-len : goal.overflow_add-len
-overflow_add-len c =
-    let popped = one_pending c.loop-step.pending.items c.pop.new.self.items c.in-Some.next c.in-Some.ensures.items in
-    let room = room_along c.args.on.now.surface.now c.args.on.now.split.now c.requires.on.split c.args.behind c.args.to.0 c.args.track.now
-    c.loop-step.track
-    (numbers c.loop-step.pending.items) (numbers c.pop.new.self.items) c.in-Some.next.0 c.loop-step._step
-    c.loop-step.invariant.under popped in
-    omega (arith, room, c.requires.room, c.len.ensures, length-numbers c.pop.new.self.items)
+overflow_add-len c = omega (arith, room (goal.at.overflow_add-len c).After-len, c.requires.room)
 
 pub put-requires-clause-no_spur : goal.put-requires-clause-no_spur
 put-requires-clause-no_spur c = c.loop-step.invariant.under.no_spur
 
 pub put-requires-clause-room : goal.put-requires-clause-room
-put-requires-clause-room c =
-    let popped = one_pending c.loop-step.pending.items c.pop.new.self.items c.in-Some.next c.in-Some.ensures.items in
-    let room = room_along c.args.on.now.surface.now c.args.on.now.split.now c.requires.on.split c.args.behind c.args.to.0 c.args.track.now
-    c.loop-step.track
-    (numbers c.loop-step.pending.items) (numbers c.pop.new.self.items) c.in-Some.next.0 c.loop-step._step
-    c.loop-step.invariant.under popped in
-    omega (arith, room, c.requires.room, c.len.ensures, length-numbers c.pop.new.self.items)
+put-requires-clause-room c = omega (arith, room (goal.at.put-requires-clause-room c).After-len, c.requires.room)
 
 pub loop-step-preserved : goal.loop-step-preserved
 loop-step-preserved c =

@@ -5,6 +5,7 @@ use Rattle.surf_model.specs.declared.names.VertexName.{VertexName}
 use Rattle.move_lifting.proofs.ExpandLemmas.{length-numbers}
 use Rattle.move_lifting.proofs.SpurLemmas.{reduced_more, reduced_all}
 use Rattle.move_lifting.proofs.inserting.reduce_all.Goals as goal
+use Rattle.move_lifting.proofs.inserting.reduce_all.Goals.{After-loop-place}
 
 pub loop-place-preserved : goal.loop-place-preserved
 loop-place-preserved c =
@@ -25,16 +26,16 @@ loop-place-preserved c =
       cells = omega (arith, c.in_ok-put.ensures.cells, c.loop-place.invariant.cells);
     }
 
+-- the whole walk is put on
+all : (c : After-loop-place) → c.loop-place.place ≡ length (numbers c.args.walk.now)
+all c = omega (arith, c.loop-place-test.false, c.loop-place.auto.place-end, length-numbers c.args.walk.now, c.requires.some)
+
 pub returns-clause-leads : goal.returns-clause-leads
 returns-clause-leads c =
-    let all : c.loop-place.place ≡ length (numbers c.args.walk.now) =
-    omega (arith, c.loop-place-test.false, c.loop-place.auto.place-end, length-numbers c.args.walk.now, c.requires.some) in
     (reduced_all c.args.behind (numbers c.args.walk.now) c.args.moves c.loop-place.track c.loop-place.place
-    c.loop-place.invariant.so_far all).0
+    c.loop-place.invariant.so_far (all (goal.at.returns-clause-leads c).After-loop-place)).0
 
 pub returns-clause-freely : goal.returns-clause-freely
 returns-clause-freely c =
-    let all : c.loop-place.place ≡ length (numbers c.args.walk.now) =
-    omega (arith, c.loop-place-test.false, c.loop-place.auto.place-end, length-numbers c.args.walk.now, c.requires.some) in
     (reduced_all c.args.behind (numbers c.args.walk.now) c.args.moves c.loop-place.track c.loop-place.place
-    c.loop-place.invariant.so_far all).1
+    c.loop-place.invariant.so_far (all (goal.at.returns-clause-freely c).After-loop-place)).1

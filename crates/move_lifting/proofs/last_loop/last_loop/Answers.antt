@@ -22,13 +22,14 @@ use Rattle.move_lifting.proofs.BoundLemmas.{IsShort, short_within}
 use Rattle.move_lifting.proofs.ExpandLemmas.{length-numbers}
 use Rattle.move_lifting.proofs.LastLoopLemmas.{IsAllRound, round_leads, round_freely, gone_round, last_below, step_within, step_starts}
 use Rattle.move_lifting.proofs.last_loop.last_loop.Goals as goal
+use Rattle.move_lifting.proofs.last_loop.last_loop.Goals.{After-origin, In_ok-around}
 
 -- the last side is a dart of the surface
 last_is : (cut : Cut) (side count : ℕ) → side ≡ side_at cut.polygon.now (count - 1) → count ≡ cut.polygon.now.degree
     → side ≡ last_side cut.polygon.now
 last_is cut side count e f = e ∙ ap (λ (n : ℕ). side_at cut.polygon.now (n - 1)) f
 
-below : (c : goal.After-origin) → c.side-dart.result.0 < darts_of c.args.cut.now.on.surface.now
+below : (c : After-origin) → c.side-dart.result.0 < darts_of c.args.cut.now.on.surface.now
 below c =
     let cut : Cut = c.args.cut.now in
     subst (λ (x : ℕ). x < darts_of cut.on.surface.now)
@@ -49,10 +50,10 @@ all_round-requires-clause-start c =
     ∙ step_starts c.args.cut.now.on.surface.now c.side-dart.result.0 c.args.back step (below c) c.step_from-step.ensures.step)
 
 -- the walk goes all round the root face
-counted : (c : goal.After-len)
+all_round : (c : In_ok-around)
     → IsAllRound c.args.cut.now.on.surface.now c.args.cut.now.on.split.now c.args.cut.now.polygon.now c.args.back c.step_from-step.result
     (numbers c.in_ok-around.around.items)
-counted c =
+all_round c =
     gone_round c.args.cut.now.on.surface.now c.args.cut.now.on.split.now c.args.cut.now.polygon.now c.requires.valid c.requires.polygon
     c.requires.some c.args.back c.side-dart.result.0 c.step_from-step.result c.faces.result.now c.in_ok-around.around.items
     (last_is c.args.cut.now c.side-dart.result.0 c.degree.result c.side-dart.ensures c.degree.ensures.degree)
@@ -60,32 +61,24 @@ counted c =
 
 pub overflow_cast-len : goal.overflow_cast-len
 overflow_cast-len c =
-    let round = counted c in
+    let round = all_round (goal.at.overflow_cast-len c).In_ok-around in
     omega (arith, round.long, round.is_walk.starts, length-numbers c.in_ok-around.around.items, c.len.ensures, c.requires.on.sides)
 
 pub overflow_sub-len : goal.overflow_sub-len
 overflow_sub-len c =
-    let round = counted c in
+    let round = all_round (goal.at.overflow_sub-len c).In_ok-around in
     omega (arith, round.long, round.is_walk.starts, length-numbers c.in_ok-around.around.items, c.len.ensures, c.requires.on.sides)
-
-lent : (c : goal.After-deref)
-    → IsAllRound c.args.cut.now.on.surface.now c.args.cut.now.on.split.now c.args.cut.now.polygon.now c.args.back c.step_from-step.result
-    (numbers c.in_ok-around.around.items)
-lent c =
-    gone_round c.args.cut.now.on.surface.now c.args.cut.now.on.split.now c.args.cut.now.polygon.now c.requires.valid c.requires.polygon
-    c.requires.some c.args.back c.side-dart.result.0 c.step_from-step.result c.faces.result.now c.in_ok-around.around.items
-    (last_is c.args.cut.now c.side-dart.result.0 c.degree.result c.side-dart.ensures c.degree.ensures.degree)
-    c.step_from-step.ensures.step c.faces.ensures.mesh c.in_ok-around.ensures
 
 pub lead_all-requires-clause-walk : goal.lead_all-requires-clause-walk
 lead_all-requires-clause-walk c =
-    subst (λ (l : List VertexName). IsWalk c.args.cut.now.on.surface.now.mesh (numbers l)) (sym c.deref.ensures.value) (lent c).is_walk
+    subst (λ (l : List VertexName). IsWalk c.args.cut.now.on.surface.now.mesh (numbers l)) (sym c.deref.ensures.value)
+    (all_round (goal.at.lead_all-requires-clause-walk c).In_ok-around).is_walk
 
 pub lead_all-requires-clause-few : goal.lead_all-requires-clause-few
 lead_all-requires-clause-few c =
     omega (
       arith,
-      (lent c).long,
+      (all_round (goal.at.lead_all-requires-clause-few c).In_ok-around).long,
       length-numbers c.in_ok-around.around.items,
       ap (λ (l : List VertexName). length l) c.deref.ensures.value,
       c.requires.on.sides,
@@ -97,13 +90,7 @@ lead_all-requires-clause-on c = c.requires.on
 pub returns : goal.returns
 returns c =
     let s = c.args.cut.now.on.surface.now in
-    let round : IsAllRound c.args.cut.now.on.surface.now c.args.cut.now.on.split.now c.args.cut.now.polygon.now c.args.back
-    c.step_from-step.result
-    (numbers c.in_ok-around.around.items) =
-    gone_round c.args.cut.now.on.surface.now c.args.cut.now.on.split.now c.args.cut.now.polygon.now c.requires.valid c.requires.polygon
-    c.requires.some c.args.back c.side-dart.result.0 c.step_from-step.result c.faces.result.now c.in_ok-around.around.items
-    (last_is c.args.cut.now c.side-dart.result.0 c.degree.result c.side-dart.ensures c.degree.ensures.degree)
-    c.step_from-step.ensures.step c.faces.ensures.mesh c.in_ok-around.ensures in
+    let round = all_round (goal.at.returns c).In_ok-around in
     let v : ℕ = origin_of s (last_side c.args.cut.now.polygon.now) in
     let corners : List ℕ = numbers c.in_ok-around.around.items in
     let count : c.len.result - 1 ≡ darts corners = omega (arith, c.len.ensures, length-numbers c.in_ok-around.around.items) in

@@ -12,6 +12,7 @@ use Rattle.move_lifting.specs.declared.lifted.Lifted.{Lifted}
 use Rattle.move_lifting.proofs.ListLemmas.{one_no_spur}
 use Rattle.move_lifting.proofs.MoveLemmas.{starts_whole, ends_whole, goes_along, removals_peak, same_ends}
 use Rattle.move_lifting.proofs.lifted.reduce_free.Goals as goal
+use Rattle.move_lifting.proofs.lifted.reduce_free.Goals.{After-loop-place}
 
 pub loop-place-init : goal.loop-place-init
 loop-place-init c =
@@ -49,41 +50,41 @@ loop-place-preserved c =
           (sym c.at-in-loop-place.ensures) behind (c.loop-place.invariant.leads mesh);
     }
 
-finished : (walk : List ℕ) (track : TrackView) (n : ℕ) → 0 < length walk → length walk ≤ n → All IsRemoval track.list.moves
-    → ((mesh : FaceList) → LeadsAtPeak mesh walk track.list (track.walk ++ drop n walk))
-    → ((mesh : FaceList) → LeadsAtPeak mesh walk track.list track.walk) × (track.list.peak ≡ darts walk) × HaveCommonEnds walk track.walk
-finished walk track n some past removals h =
+-- at the end all of the walk is on the track
+finished : (c : After-loop-place)
+    → ((mesh : FaceList) → LeadsAtPeak mesh c.args.walk.now c.loop-place.track.list c.loop-place.track.walk)
+    × (c.loop-place.track.list.peak ≡ darts c.args.walk.now) × HaveCommonEnds c.args.walk.now c.loop-place.track.walk
+finished c =
     let none : FaceList = record { count = 0; faces = [] } in
+    let walk : List ℕ = c.args.walk.now in
+    let track : TrackView = c.loop-place.track in
+    let some : 0 < length walk = c.darts-darts.ensures.starts in
+    let past : length walk ≤ c.loop-place.place + 1 = omega (arith, c.darts-darts.ensures.count, c.loop-place-test.false) in
     let whole : (mesh : FaceList) → LeadsAtPeak mesh walk track.list track.walk =
-    λ mesh. ends_whole mesh walk track.walk track.list n past (h mesh) in (
+    λ mesh. ends_whole mesh walk track.walk track.list (c.loop-place.place + 1) past (c.loop-place.invariant.leads mesh) in (
       whole,
-      (whole none).peak ∙ removals_peak none track.list.moves walk track.walk some removals (whole none).leads,
+      (whole none).peak
+          ∙ removals_peak none track.list.moves walk track.walk some c.loop-place.invariant.removals (whole none).leads,
       same_ends walk track.walk track.list some whole,
     )
 
 pub returns-clause-leads : goal.returns-clause-leads
 returns-clause-leads c =
-    let walk : List ℕ = c.args.walk.now in
-    let end = finished walk c.loop-place.track (c.loop-place.place + 1) c.darts-darts.ensures.starts
-    (omega (arith, c.darts-darts.ensures.count, c.loop-place-test.false)) c.loop-place.invariant.removals c.loop-place.invariant.leads in
-    IfOk-weaker c.finish.result (λ (x : Lifted). x ≡ record { walk = c.loop-place.track.walk; moves = c.loop-place.track.list })
-    (λ (x : Lifted). (mesh : FaceList) → LeadsAtPeak mesh walk x.moves x.walk)
-    (λ x e. subst (λ (y : Lifted). (mesh : FaceList) → LeadsAtPeak mesh walk y.moves y.walk) (sym e) end.0) c.finish.ensures
+    IfOk-weaker c.finish.result _ _
+    (λ (x : Lifted) e. subst (λ (y : Lifted). (mesh : FaceList) → LeadsAtPeak mesh c.args.walk.now y.moves y.walk) (sym e)
+    (finished (goal.at.returns-clause-leads c).After-loop-place).0)
+    c.finish.ensures
 
 pub returns-clause-peak : goal.returns-clause-peak
 returns-clause-peak c =
-    let walk : List ℕ = c.args.walk.now in
-    let end = finished walk c.loop-place.track (c.loop-place.place + 1) c.darts-darts.ensures.starts
-    (omega (arith, c.darts-darts.ensures.count, c.loop-place-test.false)) c.loop-place.invariant.removals c.loop-place.invariant.leads in
-    IfOk-weaker c.finish.result (λ (x : Lifted). x ≡ record { walk = c.loop-place.track.walk; moves = c.loop-place.track.list })
-    (λ (x : Lifted). x.moves.peak ≡ darts walk)
-    (λ x e. subst (λ (y : Lifted). y.moves.peak ≡ darts walk) (sym e) end.1) c.finish.ensures
+    IfOk-weaker c.finish.result _ _
+    (λ (x : Lifted) e. subst (λ (y : Lifted). y.moves.peak ≡ darts c.args.walk.now) (sym e)
+    (finished (goal.at.returns-clause-peak c).After-loop-place).1)
+    c.finish.ensures
 
 pub returns-clause-ends : goal.returns-clause-ends
 returns-clause-ends c =
-    let walk : List ℕ = c.args.walk.now in
-    let end = finished walk c.loop-place.track (c.loop-place.place + 1) c.darts-darts.ensures.starts
-    (omega (arith, c.darts-darts.ensures.count, c.loop-place-test.false)) c.loop-place.invariant.removals c.loop-place.invariant.leads in
-    IfOk-weaker c.finish.result (λ (x : Lifted). x ≡ record { walk = c.loop-place.track.walk; moves = c.loop-place.track.list })
-    (λ (x : Lifted). HaveCommonEnds walk x.walk)
-    (λ x e. subst (λ (y : Lifted). HaveCommonEnds walk y.walk) (sym e) end.2) c.finish.ensures
+    IfOk-weaker c.finish.result _ _
+    (λ (x : Lifted) e. subst (λ (y : Lifted). HaveCommonEnds c.args.walk.now y.walk) (sym e)
+    (finished (goal.at.returns-clause-ends c).After-loop-place).2)
+    c.finish.ensures

@@ -9,47 +9,64 @@ use Rattle.surf_model.specs.Walks.{darts}
 use Rattle.halfedge_map.specs.DartMaps.{darts_of}
 use Rattle.common_ends.specs.Trimmed.{AreWalksTogether}
 use Rattle.common_ends.proofs.PeakLemmas.{places_within}
-use Rattle.common_ends.proofs.TrimLemmas.{fewer_darts, left_together, left_apart, left_leads}
+use Rattle.common_ends.proofs.TrimLemmas.{HaveFewerDarts, fewer_darts, left_together, left_apart, left_leads}
 use Rattle.move_lifting.specs.Lifts.{HasLowPeak, IsShortList, LeadsAtPeak}
 use Rattle.move_lifting.specs.declared.expanding.TheConstants.{MOST_LIFTED_DARTS}
 use Rattle.move_lifting.proofs.BoundLemmas.{three_darts, low_around, low_most}
 use Rattle.move_lifting.proofs.lifting.lift.Goals as goal
+use Rattle.move_lifting.proofs.lifting.lift.Goals.{In_ok-second, In-Some}
 
-pub lift_between-requires-clause-walks : goal.lift_between-requires-clause-walks
-lift_between-requires-clause-walks c =
+-- the trimmed walks go together, and have the fewer darts
+together : (c : In_ok-second) → AreWalksTogether c.args.surface.now.mesh c.in_ok-first.first c.in_ok-second.second
+together c =
     left_together c.args.surface.now.mesh c.args.first.now c.args.second.now c.of-common.result c.in_ok-first.first c.in_ok-second.second
     c.requires.first c.requires.second c.of-common.ensures
     (record { near_is = c.in_ok-first.ensures; far_is = c.in_ok-second.ensures })
 
+fewer : (c : In_ok-second)
+    → HaveFewerDarts c.args.first.now c.args.second.now c.in_ok-first.first c.in_ok-second.second c.of-common.result
+fewer c =
+    fewer_darts c.args.first.now c.args.second.now c.in_ok-first.first c.in_ok-second.second c.of-common.result
+    c.requires.first.starts c.requires.second.starts c.of-common.ensures
+    (record { near_is = c.in_ok-first.ensures; far_is = c.in_ok-second.ensures })
+
+pub lift_between-requires-clause-walks : goal.lift_between-requires-clause-walks
+lift_between-requires-clause-walks c = together (goal.at.lift_between-requires-clause-walks c).In_ok-second
+
+-- the list between leads from the one to the other, and its peak is low
+leads : (c : In-Some)
+    → LeadsAtPeak c.args.surface.now.mesh c.in_ok-first.first c.in-Some.list c.in_ok-second.second
+leads c =
+    subst (λ o. MatchOption o (Homotopic c.args.surface.now.mesh c.in_ok-first.first c.in_ok-second.second → ⊥)
+    (λ l. LeadsAtPeak c.args.surface.now.mesh c.in_ok-first.first l c.in_ok-second.second)) c.in-Some.is c.in_ok-list.ensures.list
+
+low : (c : In-Some)
+    → HasLowPeak (darts_of c.args.surface.now) (darts c.in_ok-first.first + darts c.in_ok-second.second) c.in-Some.list
+low c =
+    subst (λ o. IfSome o (HasLowPeak (darts_of c.args.surface.now) (darts c.in_ok-first.first + darts c.in_ok-second.second)))
+    c.in-Some.is c.in_ok-list.ensures.low
+
 pub put_back-requires-clause-places : goal.put_back-requires-clause-places
 put_back-requires-clause-places c =
     let mesh : FaceList = c.args.surface.now.mesh in
-    let together : AreWalksTogether mesh c.in_ok-first.first c.in_ok-second.second =
-    left_together mesh c.args.first.now c.args.second.now c.of-common.result c.in_ok-first.first c.in_ok-second.second c.requires.first
-    c.requires.second c.of-common.ensures (record { near_is = c.in_ok-first.ensures; far_is = c.in_ok-second.ensures }) in
-    let leads : LeadsAtPeak mesh c.in_ok-first.first c.in-Some.list c.in_ok-second.second =
-    subst (λ o. MatchOption o (Homotopic mesh c.in_ok-first.first c.in_ok-second.second → ⊥)
-    (λ l. LeadsAtPeak mesh c.in_ok-first.first l c.in_ok-second.second)) c.in-Some.is c.in_ok-list.ensures.list in
-    places_within mesh c.in_ok-first.first c.in_ok-second.second c.in-Some.list together.along.starts leads
+    let at = goal.at.put_back-requires-clause-places c in
+    places_within mesh c.in_ok-first.first c.in_ok-second.second c.in-Some.list (together at.In_ok-second).along.starts
+    (leads at.In-Some)
 
 -- the peak of the list between is low, and few darts stand around
 pub put_back-requires-clause-room : goal.put_back-requires-clause-room
 put_back-requires-clause-room c =
     let n : ℕ = darts_of c.args.surface.now in
     let near : ℕ = darts c.in_ok-first.first + darts c.in_ok-second.second in
-    let low : HasLowPeak n near c.in-Some.list = subst (λ o. IfSome o (HasLowPeak n near)) c.in-Some.is c.in_ok-list.ensures.low in
-    let fewer = fewer_darts c.args.first.now c.args.second.now c.in_ok-first.first c.in_ok-second.second c.of-common.result
-    c.requires.first.starts c.requires.second.starts c.of-common.ensures
-    (record { near_is = c.in_ok-first.ensures; far_is = c.in_ok-second.ensures }) in
+    let at = goal.at.put_back-requires-clause-room c in
+    let fewer = fewer at.In_ok-second in
     let few : near ≤ MOST_LIFTED_DARTS = omega (arith, fewer.in_near, fewer.in_far, c.requires.few) in
-    omega (arith, low_most n near c.in-Some.list.peak c.requires.sides few low, fewer.in_near, c.requires.few)
+    omega (arith, low_most n near c.in-Some.list.peak c.requires.sides few (low at.In-Some), fewer.in_near, c.requires.few)
 
 pub returns-in-Some-clause-list : goal.returns-in-Some-clause-list
 returns-in-Some-clause-list c =
     let mesh : FaceList = c.args.surface.now.mesh in
-    let leads : LeadsAtPeak mesh c.in_ok-first.first c.in-Some.list c.in_ok-second.second =
-    subst (λ o. MatchOption o (Homotopic mesh c.in_ok-first.first c.in_ok-second.second → ⊥)
-    (λ l. LeadsAtPeak mesh c.in_ok-first.first l c.in_ok-second.second)) c.in-Some.is c.in_ok-list.ensures.list in
+    let leads = leads (goal.at.returns-in-Some-clause-list c).In-Some in
     left_leads mesh c.args.first.now c.args.second.now c.of-common.result c.in_ok-first.first c.in_ok-second.second c.in-Some.list
     c.in_ok-put_back-in-Some.field-0 c.requires.first c.requires.second c.of-common.ensures
     (record { near_is = c.in_ok-first.ensures; far_is = c.in_ok-second.ensures }) leads c.in_ok-put_back-in-Some.ensures
@@ -69,17 +86,15 @@ returns-in-Some-clause-low c =
     let near : ℕ = darts c.in_ok-first.first + darts c.in_ok-second.second in
     let all : ℕ = darts c.args.first.now + darts c.args.second.now in
     let around : ℕ = c.of-common.result.front + c.of-common.result.back in
-    let low : HasLowPeak (darts_of s) near c.in-Some.list =
-    subst (λ o. IfSome o (HasLowPeak (darts_of s) near)) c.in-Some.is c.in_ok-list.ensures.low in
-    let fewer = fewer_darts c.args.first.now c.args.second.now c.in_ok-first.first c.in_ok-second.second c.of-common.result
-    c.requires.first.starts c.requires.second.starts c.of-common.ensures
-    (record { near_is = c.in_ok-first.ensures; far_is = c.in_ok-second.ensures }) in
+    let at = goal.at.returns-in-Some-clause-low c in
+    let fewer = fewer at.In_ok-second in
     let count : near + 2 * around ≡ all = omega (arith, fewer.in_near, fewer.in_far) in
     let peak : around + c.in-Some.list.peak ≡ c.in_ok-put_back-in-Some.field-0.peak =
     sym (ap (λ (l : PeakedMoves). l.peak) c.in_ok-put_back-in-Some.ensures) in
     subst (λ n. 2 * n ≤ (3 * all + 7) * darts_of s) peak
     (subst (λ n. 2 * (around + c.in-Some.list.peak) ≤ (3 * n + 7) * darts_of s) count
-    (low_around (darts_of s) near around c.in-Some.list.peak (three_darts s c.darts-sides.ensures.valid) low))
+    (low_around (darts_of s) near around c.in-Some.list.peak (three_darts s c.darts-sides.ensures.valid)
+    (low at.In-Some)))
 
 -- on a sphere the list is short
 pub returns-in-Some-clause-short : goal.returns-in-Some-clause-short
@@ -89,9 +104,7 @@ returns-in-Some-clause-short c sphere =
     let all : ℕ = darts c.args.first.now + darts c.args.second.now in
     let short : IsShortList (darts_of s) near c.in-Some.list =
     subst (λ o. MatchOption o ⊥ (IsShortList (darts_of s) near)) c.in-Some.is (c.in_ok-list.ensures.short sphere) in
-    let fewer = fewer_darts c.args.first.now c.args.second.now c.in_ok-first.first c.in_ok-second.second c.of-common.result
-    c.requires.first.starts c.requires.second.starts c.of-common.ensures
-    (record { near_is = c.in_ok-first.ensures; far_is = c.in_ok-second.ensures }) in
+    let fewer = fewer (goal.at.returns-in-Some-clause-short c).In_ok-second in
     let less : near ≤ all = omega (arith, fewer.in_near, fewer.in_far) in
     omega (
       arith,

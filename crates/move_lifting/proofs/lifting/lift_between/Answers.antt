@@ -9,74 +9,61 @@ use Rattle.halfedge_map.specs.DartMaps.{darts_of}
 use Rattle.polygon_cut.specs.SpokeLoops.{spokes_along}
 use Rattle.spoke_paths.specs.PathSteps.{PathLeads}
 use Rattle.move_lifting.specs.Contractions.{IsLedFrom}
-use Rattle.move_lifting.specs.Lifts.{LeadsAtPeak}
-use Rattle.move_lifting.specs.Tracks.{GoesOn}
+use Rattle.move_lifting.specs.Lifts.{LeadsAtPeak, HasLowPeak}
+use Rattle.move_lifting.specs.Loads.{StaysWithin}
+use Rattle.move_lifting.specs.Tracks.{GoesOn, TrackView}
 use Rattle.move_lifting.proofs.BoundLemmas.{IsShort, short_walk, three_darts, is_few, is_low}
 use Rattle.move_lifting.proofs.ExpandLemmas.{length-numbers}
 use Rattle.move_lifting.proofs.LiftLemmas.{IsClosed, closed_is, IsLedOff, off_cotree, second_left, second_stays, second_there, homotopic_leaves_nothing, steps_to_nothing, begun_freely}
 use Rattle.move_lifting.proofs.ShortStepLemmas.{walk_spokes}
 use Rattle.move_lifting.proofs.lifting.lift_between.Goals as goal
+use Rattle.move_lifting.proofs.lifting.lift_between.Goals.{In_ok-closed, In_ok-reduction, In_ok-track-3}
 
-pub lead_in_passes-requires-clause-led : goal.lead_in_passes-requires-clause-led
-lead_in_passes-requires-clause-led c =
-    let k : IsClosed c.args.on.now.surface.now.mesh c.args.first.now (numbers c.in_ok-closed.closed.items) c.args.second.now
-    c.in_ok-closed.moves =
+-- the closed walk leads on from the first walk, with the second behind it
+closed : (c : In_ok-closed)
+    → IsClosed c.args.on.now.surface.now.mesh c.args.first.now (numbers c.in_ok-closed.closed.items) c.args.second.now c.in_ok-closed.moves
+closed c =
     closed_is c.args.on.now.surface.now.mesh c.args.first.now c.args.second.now c.in_ok-closed.closed.items c.in_ok-closed.moves
     c.in_ok-track.track c.requires.walks c.in_ok-track.ensures.leads c.in_ok-track.ensures.some c.in_ok-track.ensures.last
-    c.in_ok-closed.ensures.vertices c.in_ok-closed.ensures.moves in
-    record {
-      first = c.args.first.now;
-      rest = drop 1 c.args.second.now;
-      starts = c.requires.walks.along;
-      long = length-drop 1 c.args.second.now ∙ sym c.darts-behind.ensures.count;
-      leads = k.led;
-      some = k.some;
-    }
+    c.in_ok-closed.ensures.vertices c.in_ok-closed.ensures.moves
+
+led : (c : In_ok-closed)
+    → IsLedFrom c.args.on.now.surface.now.mesh c.darts-behind.result
+    (record { walk = numbers c.in_ok-closed.closed.items; list = c.in_ok-closed.moves; spare = 0 })
+led c = record {
+  first = c.args.first.now;
+  rest = drop 1 c.args.second.now;
+  starts = c.requires.walks.along;
+  long = length-drop 1 c.args.second.now ∙ sym c.darts-behind.ensures.count;
+  leads = (closed c).led;
+  some = (closed c).some;
+}
+
+-- it has few darts
+few_darts : (c : In_ok-closed) → darts (numbers c.in_ok-closed.closed.items) ≤ darts c.args.first.now + darts c.args.second.now
+few_darts c = omega (arith, c.in_ok-track.ensures.long, ap (λ (l : List ℕ). length l) c.in_ok-closed.ensures.vertices)
+
+pub lead_in_passes-requires-clause-led : goal.lead_in_passes-requires-clause-led
+lead_in_passes-requires-clause-led c = led (goal.at.lead_in_passes-requires-clause-led c).In_ok-closed
 
 pub returns-then-len-eq1-clause-list : goal.returns-then-len-eq1-clause-list
 returns-then-len-eq1-clause-list c =
-    let k : IsClosed c.args.on.now.surface.now.mesh c.args.first.now (numbers c.in_ok-closed.closed.items) c.args.second.now
-    c.in_ok-closed.moves =
-    closed_is c.args.on.now.surface.now.mesh c.args.first.now c.args.second.now c.in_ok-closed.closed.items c.in_ok-closed.moves
-    c.in_ok-track.track c.requires.walks c.in_ok-track.ensures.leads c.in_ok-track.ensures.some c.in_ok-track.ensures.last
-    c.in_ok-closed.ensures.vertices c.in_ok-closed.ensures.moves in
     second_there c.args.on.now.surface.now.mesh c.args.first.now (numbers c.in_ok-closed.closed.items) c.args.second.now
-    c.in_ok-closed.moves k
+    c.in_ok-closed.moves (closed (goal.at.returns-then-len-eq1-clause-list c).In_ok-closed)
     (omega (arith, length-numbers c.in_ok-closed.closed.items, c.len.ensures, c.if-len-eq1.true, c.in_ok-closed.closed.ok.0))
     c.requires.walks.beside.starts
 
 pub of-requires-clause-walk : goal.of-requires-clause-walk
 of-requires-clause-walk c =
-    let k : IsClosed c.args.on.now.surface.now.mesh c.args.first.now (numbers c.in_ok-closed.closed.items) c.args.second.now
-    c.in_ok-closed.moves =
-    closed_is c.args.on.now.surface.now.mesh c.args.first.now c.args.second.now c.in_ok-closed.closed.items c.in_ok-closed.moves
-    c.in_ok-track.track c.requires.walks c.in_ok-track.ensures.leads c.in_ok-track.ensures.some c.in_ok-track.ensures.last
-    c.in_ok-closed.ensures.vertices c.in_ok-closed.ensures.moves in
-    subst (λ (l : List VertexName). IsWalk c.args.on.now.surface.now.mesh (numbers l)) (sym c.deref.ensures.value) k.walk
+    subst (λ (l : List VertexName). IsWalk c.args.on.now.surface.now.mesh (numbers l)) (sym c.deref.ensures.value)
+    (closed (goal.at.of-requires-clause-walk c).In_ok-closed).walk
 
 pub lead_in_passes-requires-2-clause-led : goal.lead_in_passes-requires-2-clause-led
-lead_in_passes-requires-2-clause-led c =
-    let k : IsClosed c.args.on.now.surface.now.mesh c.args.first.now (numbers c.in_ok-closed.closed.items) c.args.second.now
-    c.in_ok-closed.moves =
-    closed_is c.args.on.now.surface.now.mesh c.args.first.now c.args.second.now c.in_ok-closed.closed.items c.in_ok-closed.moves
-    c.in_ok-track.track c.requires.walks c.in_ok-track.ensures.leads c.in_ok-track.ensures.some c.in_ok-track.ensures.last
-    c.in_ok-closed.ensures.vertices c.in_ok-closed.ensures.moves in
-    record {
-      first = c.args.first.now;
-      rest = drop 1 c.args.second.now;
-      starts = c.requires.walks.along;
-      long = length-drop 1 c.args.second.now ∙ sym c.darts-behind.ensures.count;
-      leads = k.led;
-      some = k.some;
-    }
+lead_in_passes-requires-2-clause-led c = led (goal.at.lead_in_passes-requires-2-clause-led c).In_ok-closed
 
 pub returns-then-degree-eq0-clause-list : goal.returns-then-degree-eq0-clause-list
 returns-then-degree-eq0-clause-list c =
-    let k : IsClosed c.args.on.now.surface.now.mesh c.args.first.now (numbers c.in_ok-closed.closed.items) c.args.second.now
-    c.in_ok-closed.moves =
-    closed_is c.args.on.now.surface.now.mesh c.args.first.now c.args.second.now c.in_ok-closed.closed.items c.in_ok-closed.moves
-    c.in_ok-track.track c.requires.walks c.in_ok-track.ensures.leads c.in_ok-track.ensures.some c.in_ok-track.ensures.last
-    c.in_ok-closed.ensures.vertices c.in_ok-closed.ensures.moves in
+    let k = closed (goal.at.returns-then-degree-eq0-clause-list c).In_ok-closed in
     let off : IsLedOff c.args.on.now.surface.now c.args.on.now.split.now c.args.first.now (numbers c.in_ok-closed.closed.items)
     c.args.second.now c.in_ok-closed.moves c.in_ok-track-2.track =
     off_cotree c.args.on.now.surface.now c.args.on.now.split.now c.args.first.now c.args.second.now c.in_ok-closed.closed.items
@@ -91,110 +78,88 @@ returns-then-degree-eq0-clause-list c =
     c.requires.walks.along c.requires.walks.beside.starts c.requires.walks.ends.starts k.led off.goes c.in_ok-track-2.ensures.off_cotree
     c.in_ok-track-2.ensures.no_spur c.in_ok-track-2.ensures.some off.last)
 
+-- the steps of the reduction go round the wheel that it has
+round_wheel : (c : In_ok-reduction)
+    → PathLeads c.in_ok-reduction.reduction.wheel c.in_ok-reduction.reduction.spokes.items c.in_ok-reduction.reduction.steps.items
+    c.in_ok-reduction.ensures.reduction.end
+round_wheel c =
+    let red = c.in_ok-reduction.ensures.reduction in
+    subst (λ (places : List ℕ). PathLeads places c.in_ok-reduction.reduction.spokes.items c.in_ok-reduction.reduction.steps.items red.end)
+    (sym red.wheel) red.leads
+
+-- it begins with at most two spokes for each dart
+few_spokes : (c : In_ok-reduction)
+    → IsClosed c.args.on.now.surface.now.mesh c.args.first.now (numbers c.in_ok-closed.closed.items) c.args.second.now c.in_ok-closed.moves
+    → length c.in_ok-reduction.reduction.spokes.items ≤ 2 * darts (numbers c.in_ok-closed.closed.items)
+few_spokes c k =
+    let red = c.in_ok-reduction.ensures.reduction in
+    let read : numbers c.deref.result.now ≡ numbers c.in_ok-closed.closed.items = ap numbers c.deref.ensures.value in
+    omega (
+      arith,
+      ap (λ (l : List ℕ). length l) (red.spokes.path_is ∙ ap (spokes_along red.spokes.spokes) read),
+      walk_spokes c.args.on.now.surface.now c.requires.valid c.args.polygon.now red.spokes.spokes red.spokes.free
+          (numbers c.in_ok-closed.closed.items) k.walk,
+    )
+
 pub returns-then-not-leaves_nothing-clause-list : goal.returns-then-not-leaves_nothing-clause-list
 returns-then-not-leaves_nothing-clause-list c = λ homotopic.
-    let k : IsClosed c.args.on.now.surface.now.mesh c.args.first.now (numbers c.in_ok-closed.closed.items) c.args.second.now
-    c.in_ok-closed.moves =
-    closed_is c.args.on.now.surface.now.mesh c.args.first.now c.args.second.now c.in_ok-closed.closed.items c.in_ok-closed.moves
-    c.in_ok-track.track c.requires.walks c.in_ok-track.ensures.leads c.in_ok-track.ensures.some c.in_ok-track.ensures.last
-    c.in_ok-closed.ensures.vertices c.in_ok-closed.ensures.moves in
+    let at = goal.at.returns-then-not-leaves_nothing-clause-list c in
+    let k = closed at.In_ok-closed in
     let some_sides : 0 < c.args.polygon.now.degree = omega (arith, c.degree.ensures.degree, c.if-degree-eq0.false) in
     let red = c.in_ok-reduction.ensures.reduction in
-    let leads : PathLeads c.in_ok-reduction.reduction.wheel c.in_ok-reduction.reduction.spokes.items c.in_ok-reduction.reduction.steps.items
-    red.end =
-    subst (λ (places : List ℕ). PathLeads places c.in_ok-reduction.reduction.spokes.items c.in_ok-reduction.reduction.steps.items red.end)
-    (sym red.wheel) red.leads in
     let none : red.end ≡ [] =
     homotopic_leaves_nothing c.args.on.now.surface.now c.args.on.now.split.now c.args.polygon.now c.in_ok-reduction.ensures.valid
     c.requires.on.split c.requires.cut some_sides c.args.first.now (numbers c.in_ok-closed.closed.items) c.args.second.now
     (numbers c.deref.result.now) c.in_ok-closed.moves c.in_ok-reduction.reduction red (ap numbers c.deref.ensures.value)
     c.requires.walks.along k.some c.requires.walks.beside.starts k.meets k.led homotopic in
-    let yes : c.leaves_nothing.result ≡ true = (c.leaves_nothing.ensures red.end leads).1 none in
+    let yes : c.leaves_nothing.result ≡ true = (c.leaves_nothing.ensures red.end (round_wheel at.In_ok-reduction)).1 none in
     both_ways c.leaves_nothing.result c.if-not-leaves_nothing.true yes
 
 pub contract-requires-clause-reduction : goal.contract-requires-clause-reduction
 contract-requires-clause-reduction c =
-    let k : IsClosed c.args.on.now.surface.now.mesh c.args.first.now (numbers c.in_ok-closed.closed.items) c.args.second.now
-    c.in_ok-closed.moves =
-    closed_is c.args.on.now.surface.now.mesh c.args.first.now c.args.second.now c.in_ok-closed.closed.items c.in_ok-closed.moves
-    c.in_ok-track.track c.requires.walks c.in_ok-track.ensures.leads c.in_ok-track.ensures.some c.in_ok-track.ensures.last
-    c.in_ok-closed.ensures.vertices c.in_ok-closed.ensures.moves in
+    let at = goal.at.contract-requires-clause-reduction c in
     let some_sides : 0 < c.args.polygon.now.degree = omega (arith, c.degree.ensures.degree, c.if-degree-eq0.false) in
     let red = c.in_ok-reduction.ensures.reduction in
-    let leads : PathLeads c.in_ok-reduction.reduction.wheel c.in_ok-reduction.reduction.spokes.items c.in_ok-reduction.reduction.steps.items
-    red.end =
-    subst (λ (places : List ℕ). PathLeads places c.in_ok-reduction.reduction.spokes.items c.in_ok-reduction.reduction.steps.items red.end)
-    (sym red.wheel) red.leads in
-    let none : red.end ≡ [] = (c.leaves_nothing.ensures red.end leads).0 c.if-not-leaves_nothing.false in
+    let none : red.end ≡ [] = (c.leaves_nothing.ensures red.end (round_wheel at.In_ok-reduction)).0 c.if-not-leaves_nothing.false in
     steps_to_nothing c.args.on.now.surface.now c.args.on.now.split.now c.args.polygon.now c.in_ok-reduction.ensures.valid
     c.requires.on.split c.requires.cut some_sides (numbers c.in_ok-closed.closed.items) (numbers c.deref.result.now)
-    c.in_ok-reduction.reduction red (ap numbers c.deref.ensures.value) k.walk none
+    c.in_ok-reduction.reduction red (ap numbers c.deref.ensures.value) (closed at.In_ok-closed).walk none
 
 pub contract-requires-clause-few : goal.contract-requires-clause-few
 contract-requires-clause-few c =
-    let s = c.args.on.now.surface.now in
-    let closed : List ℕ = numbers c.in_ok-closed.closed.items in
-    let k : IsClosed s.mesh c.args.first.now closed c.args.second.now c.in_ok-closed.moves =
-    closed_is s.mesh c.args.first.now c.args.second.now c.in_ok-closed.closed.items c.in_ok-closed.moves
-    c.in_ok-track.track c.requires.walks c.in_ok-track.ensures.leads c.in_ok-track.ensures.some c.in_ok-track.ensures.last
-    c.in_ok-closed.ensures.vertices c.in_ok-closed.ensures.moves in
-    let red = c.in_ok-reduction.ensures.reduction in
-    let read : numbers c.deref.result.now ≡ closed = ap numbers c.deref.ensures.value in
-    omega (
-      arith,
-      c.requires.few,
-      c.in_ok-track.ensures.long,
-      ap (λ (l : List ℕ). length l) c.in_ok-closed.ensures.vertices,
-      ap (λ (l : List ℕ). length l) (red.spokes.path_is ∙ ap (spokes_along red.spokes.spokes) read),
-      walk_spokes s c.requires.valid c.args.polygon.now red.spokes.spokes red.spokes.free closed k.walk,
-    )
+    let at = goal.at.contract-requires-clause-few c in
+    omega (arith, c.requires.few, few_darts at.In_ok-closed, few_spokes at.In_ok-reduction (closed at.In_ok-closed))
 
 pub contract-requires-clause-behind : goal.contract-requires-clause-behind
 contract-requires-clause-behind c = omega (arith, c.requires.few, c.darts-behind.ensures.count)
 
-pub contract-requires-clause-led : goal.contract-requires-clause-led
-contract-requires-clause-led c =
-    let k : IsClosed c.args.on.now.surface.now.mesh c.args.first.now (numbers c.in_ok-closed.closed.items) c.args.second.now
-    c.in_ok-closed.moves =
-    closed_is c.args.on.now.surface.now.mesh c.args.first.now c.args.second.now c.in_ok-closed.closed.items c.in_ok-closed.moves
-    c.in_ok-track.track c.requires.walks c.in_ok-track.ensures.leads c.in_ok-track.ensures.some c.in_ok-track.ensures.last
-    c.in_ok-closed.ensures.vertices c.in_ok-closed.ensures.moves in
-    let off : IsLedOff c.args.on.now.surface.now c.args.on.now.split.now c.args.first.now (numbers c.in_ok-closed.closed.items)
-    c.args.second.now c.in_ok-closed.moves c.in_ok-track-3.track =
+-- the track that is contracted comes of the closed walk
+led_off : (c : In_ok-track-3)
+    → IsClosed c.args.on.now.surface.now.mesh c.args.first.now (numbers c.in_ok-closed.closed.items) c.args.second.now c.in_ok-closed.moves
+    → IsLedOff c.args.on.now.surface.now c.args.on.now.split.now c.args.first.now (numbers c.in_ok-closed.closed.items)
+    c.args.second.now c.in_ok-closed.moves c.in_ok-track-3.track
+led_off c k =
     off_cotree c.args.on.now.surface.now c.args.on.now.split.now c.args.first.now c.args.second.now c.in_ok-closed.closed.items
     c.in_ok-closed.closed.items c.in_ok-closed.moves c.in_ok-track-3.track c.darts-behind.result c.requires.walks k refl
     c.darts-behind.ensures.count c.in_ok-track-3.ensures.leads c.in_ok-track-3.ensures.leaves c.in_ok-track-3.ensures.some
-    c.in_ok-track-3.ensures.last in
-    subst (λ n. IsLedFrom c.args.on.now.surface.now.mesh n c.in_ok-track-3.track) (sym c.darts-behind.ensures.count) off.begun.led
+    c.in_ok-track-3.ensures.last
+
+pub contract-requires-clause-led : goal.contract-requires-clause-led
+contract-requires-clause-led c =
+    let at = goal.at.contract-requires-clause-led c in
+    subst (λ n. IsLedFrom c.args.on.now.surface.now.mesh n c.in_ok-track-3.track) (sym c.darts-behind.ensures.count)
+    (led_off at.In_ok-track-3 (closed at.In_ok-closed)).begun.led
 
 pub contract-requires-clause-closed : goal.contract-requires-clause-closed
 contract-requires-clause-closed c =
-    let k : IsClosed c.args.on.now.surface.now.mesh c.args.first.now (numbers c.in_ok-closed.closed.items) c.args.second.now
-    c.in_ok-closed.moves =
-    closed_is c.args.on.now.surface.now.mesh c.args.first.now c.args.second.now c.in_ok-closed.closed.items c.in_ok-closed.moves
-    c.in_ok-track.track c.requires.walks c.in_ok-track.ensures.leads c.in_ok-track.ensures.some c.in_ok-track.ensures.last
-    c.in_ok-closed.ensures.vertices c.in_ok-closed.ensures.moves in
-    let off : IsLedOff c.args.on.now.surface.now c.args.on.now.split.now c.args.first.now (numbers c.in_ok-closed.closed.items)
-    c.args.second.now c.in_ok-closed.moves c.in_ok-track-3.track =
-    off_cotree c.args.on.now.surface.now c.args.on.now.split.now c.args.first.now c.args.second.now c.in_ok-closed.closed.items
-    c.in_ok-closed.closed.items c.in_ok-closed.moves c.in_ok-track-3.track c.darts-behind.result c.requires.walks k refl
-    c.darts-behind.ensures.count c.in_ok-track-3.ensures.leads c.in_ok-track-3.ensures.leaves c.in_ok-track-3.ensures.some
-    c.in_ok-track-3.ensures.last in
-    off.begun.home
+    let at = goal.at.contract-requires-clause-closed c in
+    (led_off at.In_ok-track-3 (closed at.In_ok-closed)).begun.home
 
 pub contract-requires-clause-spokes : goal.contract-requires-clause-spokes
 contract-requires-clause-spokes c =
-    let k : IsClosed c.args.on.now.surface.now.mesh c.args.first.now (numbers c.in_ok-closed.closed.items) c.args.second.now
-    c.in_ok-closed.moves =
-    closed_is c.args.on.now.surface.now.mesh c.args.first.now c.args.second.now c.in_ok-closed.closed.items c.in_ok-closed.moves
-    c.in_ok-track.track c.requires.walks c.in_ok-track.ensures.leads c.in_ok-track.ensures.some c.in_ok-track.ensures.last
-    c.in_ok-closed.ensures.vertices c.in_ok-closed.ensures.moves in
-    let off : IsLedOff c.args.on.now.surface.now c.args.on.now.split.now c.args.first.now (numbers c.in_ok-closed.closed.items)
-    c.args.second.now c.in_ok-closed.moves c.in_ok-track-3.track =
-    off_cotree c.args.on.now.surface.now c.args.on.now.split.now c.args.first.now c.args.second.now c.in_ok-closed.closed.items
-    c.in_ok-closed.closed.items c.in_ok-closed.moves c.in_ok-track-3.track c.darts-behind.result c.requires.walks k refl
-    c.darts-behind.ensures.count c.in_ok-track-3.ensures.leads c.in_ok-track-3.ensures.leaves c.in_ok-track-3.ensures.some
-    c.in_ok-track-3.ensures.last in
+    let at = goal.at.contract-requires-clause-spokes c in
+    let k = closed at.In_ok-closed in
+    let off = led_off at.In_ok-track-3 k in
     let some_sides : 0 < c.args.polygon.now.degree = omega (arith, c.degree.ensures.degree, c.if-degree-eq0.false) in
     begun_freely c.args.on.now.surface.now c.args.on.now.split.now c.args.polygon.now c.in_ok-reduction.ensures.valid c.requires.on.split
     c.requires.cut some_sides c.args.first.now (numbers c.in_ok-closed.closed.items) c.args.second.now (numbers c.deref.result.now)
@@ -203,21 +168,12 @@ contract-requires-clause-spokes c =
 
 pub returns-clause-list : goal.returns-clause-list
 returns-clause-list c =
-    let k : IsClosed c.args.on.now.surface.now.mesh c.args.first.now (numbers c.in_ok-closed.closed.items) c.args.second.now
-    c.in_ok-closed.moves =
-    closed_is c.args.on.now.surface.now.mesh c.args.first.now c.args.second.now c.in_ok-closed.closed.items c.in_ok-closed.moves
-    c.in_ok-track.track c.requires.walks c.in_ok-track.ensures.leads c.in_ok-track.ensures.some c.in_ok-track.ensures.last
-    c.in_ok-closed.ensures.vertices c.in_ok-closed.ensures.moves in
-    let off : IsLedOff c.args.on.now.surface.now c.args.on.now.split.now c.args.first.now (numbers c.in_ok-closed.closed.items)
-    c.args.second.now c.in_ok-closed.moves c.in_ok-track-3.track =
-    off_cotree c.args.on.now.surface.now c.args.on.now.split.now c.args.first.now c.args.second.now c.in_ok-closed.closed.items
-    c.in_ok-closed.closed.items c.in_ok-closed.moves c.in_ok-track-3.track c.darts-behind.result c.requires.walks k refl
-    c.darts-behind.ensures.count c.in_ok-track-3.ensures.leads c.in_ok-track-3.ensures.leaves c.in_ok-track-3.ensures.some
-    c.in_ok-track-3.ensures.last in
+    let at = goal.at.returns-clause-list c in
     subst (λ (l : PeakedMoves). LeadsAtPeak c.args.on.now.surface.now.mesh c.args.first.now l c.args.second.now)
     (sym c.into_moves-2.ensures)
     (second_stays c.args.on.now.surface.now c.args.on.now.split.now c.args.first.now (numbers c.in_ok-closed.closed.items)
-    c.args.second.now c.in_ok-track-3.track c.in_ok-track-4.track off.begun c.requires.walks.beside.starts
+    c.args.second.now c.in_ok-track-3.track c.in_ok-track-4.track (led_off at.In_ok-track-3 (closed at.In_ok-closed)).begun
+    c.requires.walks.beside.starts
     (subst (λ (n : ℕ). GoesOn c.args.on.now.surface.now.mesh n c.in_ok-track-3.track.walk c.in_ok-track-3.track.list
     c.in_ok-track-4.track.walk c.in_ok-track-4.track.list) c.darts-behind.ensures.count c.in_ok-track-4.ensures.leads)
     c.in_ok-track-4.ensures.nothing)
@@ -229,67 +185,47 @@ returns-then-len-eq1-clause-low c =
     is_low (darts_of s) (darts c.args.first.now + darts c.args.second.now) 0 c.in_ok-closed.moves.peak (three_darts s c.requires.valid)
     (omega arith) (omega (arith, c.in_ok-track.ensures.peak, ap (λ (l : PeakedMoves). l.peak) c.in_ok-closed.ensures.moves))
 
-pub returns-then-degree-eq0-clause-low : goal.returns-then-degree-eq0-clause-low
-returns-then-degree-eq0-clause-low c =
-    let s = c.args.on.now.surface.now in
-    let k : IsClosed s.mesh c.args.first.now (numbers c.in_ok-closed.closed.items) c.args.second.now c.in_ok-closed.moves =
-    closed_is s.mesh c.args.first.now c.args.second.now c.in_ok-closed.closed.items c.in_ok-closed.moves
-    c.in_ok-track.track c.requires.walks c.in_ok-track.ensures.leads c.in_ok-track.ensures.some c.in_ok-track.ensures.last
-    c.in_ok-closed.ensures.vertices c.in_ok-closed.ensures.moves in
-    let track = c.in_ok-track-2.track in
-    let few : darts (numbers c.in_ok-closed.closed.items) ≤ darts c.args.first.now + darts c.args.second.now =
-    omega (arith, c.in_ok-track.ensures.long, ap (λ (l : List ℕ). length l) c.in_ok-closed.ensures.vertices) in
-    let short : IsShort (darts (numbers c.in_ok-closed.closed.items) * darts_of s) c.darts-behind.result track.walk c.in_ok-closed.moves
-    track.list =
-    short_walk s c.args.on.now.split.now c.requires.valid c.requires.on.split c.darts-behind.result
-    (numbers c.in_ok-closed.closed.items) track.walk c.in_ok-closed.moves track.list k.walk c.in_ok-track-2.ensures.within in
-    is_low (darts_of s) (darts c.args.first.now + darts c.args.second.now) (darts (numbers c.in_ok-closed.closed.items))
-    c.into_moves.result.peak (three_darts s c.requires.valid) few
+-- what is left of the closed walk off the cotree is short
+left_short : (c : In_ok-closed) (track : TrackView)
+    → StaysWithin c.args.on.now.surface.now c.args.on.now.split.now c.darts-behind.result (numbers c.in_ok-closed.closed.items)
+    c.in_ok-closed.moves track.walk track.list
+    → IsShort (darts (numbers c.in_ok-closed.closed.items) * darts_of c.args.on.now.surface.now) c.darts-behind.result track.walk
+    c.in_ok-closed.moves track.list
+left_short c track within =
+    short_walk c.args.on.now.surface.now c.args.on.now.split.now c.requires.valid c.requires.on.split c.darts-behind.result
+    (numbers c.in_ok-closed.closed.items) track.walk c.in_ok-closed.moves track.list (closed c).walk within
+
+-- and so its peak is low
+left_low : (c : In_ok-closed) (track : TrackView)
+    → StaysWithin c.args.on.now.surface.now c.args.on.now.split.now c.darts-behind.result (numbers c.in_ok-closed.closed.items)
+    c.in_ok-closed.moves track.walk track.list
+    → HasLowPeak (darts_of c.args.on.now.surface.now) (darts c.args.first.now + darts c.args.second.now) track.list
+left_low c track within =
+    is_low (darts_of c.args.on.now.surface.now) (darts c.args.first.now + darts c.args.second.now)
+    (darts (numbers c.in_ok-closed.closed.items)) track.list.peak (three_darts c.args.on.now.surface.now c.requires.valid) (few_darts c)
     (omega (
       arith,
-      short.peak,
+      (left_short c track within).peak,
       c.in_ok-track.ensures.peak,
       ap (λ (l : PeakedMoves). l.peak) c.in_ok-closed.ensures.moves,
-      ap (λ (l : PeakedMoves). l.peak) c.into_moves.ensures,
       c.darts-behind.ensures.count,
     ))
 
+pub returns-then-degree-eq0-clause-low : goal.returns-then-degree-eq0-clause-low
+returns-then-degree-eq0-clause-low c =
+    let at = (goal.at.returns-then-degree-eq0-clause-low c).In_ok-closed in
+    omega (arith, left_low at c.in_ok-track-2.track c.in_ok-track-2.ensures.within, ap (λ (l : PeakedMoves). l.peak) c.into_moves.ensures)
+
 pub returns-clause-low : goal.returns-clause-low
 returns-clause-low c =
-    let s = c.args.on.now.surface.now in
-    let n : ℕ = darts_of s in
+    let at = goal.at.returns-clause-low c in
+    let n : ℕ = darts_of c.args.on.now.surface.now in
     let all : ℕ = darts c.args.first.now + darts c.args.second.now in
-    let closed : List ℕ = numbers c.in_ok-closed.closed.items in
-    let k : IsClosed s.mesh c.args.first.now closed c.args.second.now c.in_ok-closed.moves =
-    closed_is s.mesh c.args.first.now c.args.second.now c.in_ok-closed.closed.items c.in_ok-closed.moves
-    c.in_ok-track.track c.requires.walks c.in_ok-track.ensures.leads c.in_ok-track.ensures.some c.in_ok-track.ensures.last
-    c.in_ok-closed.ensures.vertices c.in_ok-closed.ensures.moves in
-    let few : darts closed ≤ all =
-    omega (arith, c.in_ok-track.ensures.long, ap (λ (l : List ℕ). length l) c.in_ok-closed.ensures.vertices) in
-    let short : IsShort (darts closed * n) c.darts-behind.result c.in_ok-track-3.track.walk c.in_ok-closed.moves
-    c.in_ok-track-3.track.list =
-    short_walk s c.args.on.now.split.now c.requires.valid c.requires.on.split c.darts-behind.result closed c.in_ok-track-3.track.walk
-    c.in_ok-closed.moves c.in_ok-track-3.track.list k.walk c.in_ok-track-3.ensures.within in
-    let begun : 2 * c.in_ok-track-3.track.list.peak ≤ (3 * all + 7) * n =
-    is_low n all (darts closed) c.in_ok-track-3.track.list.peak (three_darts s c.requires.valid) few
-    (omega (
-      arith,
-      short.peak,
-      c.in_ok-track.ensures.peak,
-      ap (λ (l : PeakedMoves). l.peak) c.in_ok-closed.ensures.moves,
-      c.darts-behind.ensures.count,
-    )) in
-    let red = c.in_ok-reduction.ensures.reduction in
-    let read : numbers c.deref.result.now ≡ closed = ap numbers c.deref.ensures.value in
     let spokes : length c.in_ok-reduction.reduction.spokes.items ≤ 2 * all =
-    omega (
-      arith,
-      few,
-      ap (λ (l : List ℕ). length l) (red.spokes.path_is ∙ ap (spokes_along red.spokes.spokes) read),
-      walk_spokes s c.requires.valid c.args.polygon.now red.spokes.spokes red.spokes.free closed k.walk,
-    ) in
+    omega (arith, few_darts at.In_ok-closed, few_spokes at.In_ok-reduction (closed at.In_ok-closed)) in
     let low : 2 * c.in_ok-track-4.track.list.peak ≤ (3 * all + 7) * n =
-    c.in_ok-track-4.ensures.peak all spokes ((3 * all + 7) * n) begun
+    c.in_ok-track-4.ensures.peak all spokes ((3 * all + 7) * n)
+    (left_low at.In_ok-closed c.in_ok-track-3.track c.in_ok-track-3.ensures.within)
     (omega (arith, room_left all n, c.darts-behind.ensures.count)) in
     omega (arith, low, ap (λ (l : PeakedMoves). l.peak) c.into_moves-2.ensures)
   where
@@ -307,26 +243,17 @@ returns-then-len-eq1-clause-short c sphere =
 
 pub returns-then-degree-eq0-clause-short : goal.returns-then-degree-eq0-clause-short
 returns-then-degree-eq0-clause-short c sphere =
+    let at = (goal.at.returns-then-degree-eq0-clause-short c).In_ok-closed in
     let s = c.args.on.now.surface.now in
-    let k : IsClosed s.mesh c.args.first.now (numbers c.in_ok-closed.closed.items) c.args.second.now c.in_ok-closed.moves =
-    closed_is s.mesh c.args.first.now c.args.second.now c.in_ok-closed.closed.items c.in_ok-closed.moves
-    c.in_ok-track.track c.requires.walks c.in_ok-track.ensures.leads c.in_ok-track.ensures.some c.in_ok-track.ensures.last
-    c.in_ok-closed.ensures.vertices c.in_ok-closed.ensures.moves in
-    let track = c.in_ok-track-2.track in
-    let same : length (numbers c.in_ok-closed.closed.items) ≡ length c.in_ok-track.track.walk =
-    ap (λ (l : List ℕ). length l) c.in_ok-closed.ensures.vertices in
-    let short : IsShort (darts (numbers c.in_ok-closed.closed.items) * darts_of s) c.darts-behind.result track.walk c.in_ok-closed.moves
-    track.list =
-    short_walk s c.args.on.now.split.now c.requires.valid c.requires.on.split c.darts-behind.result
-    (numbers c.in_ok-closed.closed.items) track.walk c.in_ok-closed.moves track.list k.walk c.in_ok-track-2.ensures.within in
+    let short = left_short at c.in_ok-track-2.track c.in_ok-track-2.ensures.within in
     is_few (darts_of s) (darts c.args.first.now + darts c.args.second.now) (darts c.args.second.now)
     (darts (numbers c.in_ok-closed.closed.items))
     (length c.in_ok-closed.moves.moves) (length c.into_moves.result.moves)
-    (omega (arith, three_darts s c.requires.valid)) (omega arith) (omega (arith, c.in_ok-track.ensures.long, same))
+    (omega (arith, three_darts s c.requires.valid)) (omega arith) (few_darts at)
     (omega (
       arith,
       c.in_ok-track.ensures.count,
-      same,
+      ap (λ (l : List ℕ). length l) c.in_ok-closed.ensures.vertices,
       ap (λ (l : PeakedMoves). length l.moves) c.in_ok-closed.ensures.moves,
     ))
     (omega (arith, short.moves, ap (λ (l : PeakedMoves). length l.moves) c.into_moves.ensures))

@@ -8,6 +8,7 @@ use Rattle.move_lifting.proofs.ExpandLemmas.{one_pending}
 use Rattle.move_lifting.proofs.LayLemmas.{laid_three, behind_first}
 use Rattle.move_lifting.proofs.TreeUpLemmas.{way_some}
 use Rattle.move_lifting.proofs.looping.Looping.approach_of.Goals as goal
+use Rattle.move_lifting.proofs.looping.Looping.approach_of.Goals.{After-deref-2}
 
 pub back_along-requires : goal.back_along-requires
 back_along-requires c =
@@ -15,17 +16,18 @@ back_along-requires c =
     (way_some c.args.self.now.cut.now.on.surface.now c.args.self.now.cut.now.on.split.now c.requires.split c.args.end.0
     c.in_ok-way_up.field-0.items c.in_ok-way_up.ensures)
 
+-- the way up has a vertex
+some : (c : After-deref-2) → 0 < length c.deref-2.result.now
+some c =
+    subst (λ (l : List VertexName). 0 < length l) (sym c.deref-2.ensures.value)
+    (way_some c.args.self.now.cut.now.on.surface.now c.args.self.now.cut.now.on.split.now c.requires.split c.args.start.0
+    c.in_ok-up.up.items c.in_ok-up.ensures)
+
 pub slice_bounds-put_all-count : goal.slice_bounds-put_all-count
-slice_bounds-put_all-count c =
-    let some = way_some c.args.self.now.cut.now.on.surface.now c.args.self.now.cut.now.on.split.now c.requires.split c.args.start.0
-    c.in_ok-up.up.items c.in_ok-up.ensures in
-    omega (arith, some, ap (λ (l : List VertexName). length l) c.deref-2.ensures.value)
+slice_bounds-put_all-count c = omega (arith, some (goal.at.slice_bounds-put_all-count c).After-deref-2)
 
 pub slice_bounds-put_all-start : goal.slice_bounds-put_all-start
-slice_bounds-put_all-start c =
-    let some = way_some c.args.self.now.cut.now.on.surface.now c.args.self.now.cut.now.on.split.now c.requires.split c.args.start.0
-    c.in_ok-up.up.items c.in_ok-up.ensures in
-    omega (arith, some, ap (λ (l : List VertexName). length l) c.deref-2.ensures.value)
+slice_bounds-put_all-start c = omega (arith, some (goal.at.slice_bounds-put_all-start c).After-deref-2)
 
 pub returns-clause-freely : goal.returns-clause-freely
 returns-clause-freely c root ways h =
