@@ -173,28 +173,20 @@ module _ {X : Type 0} (Same : X → X → Type 0) (mul : X → X → X) (inv : X
       same : Same (product (before ++ upper)) (product (before ++ lower))
       same = quad_same before r.rest a c r.quad r.stands
 
+      stepped : (from to : List ℕ) → length from ≡ length to → Same (product (before ++ from)) (product (before ++ to))
+          → part ≡ from → instead ≡ to → Stepped (before ++ part) (before ++ instead)
+      stepped from to long equal part_is instead_is =
+          let told : length (before ++ from) % 2 ≡ 0 = subst (λ (l : List ℕ). length (before ++ l) % 2 ≡ 0) part_is even in
+          let there : Stepped (before ++ from) (before ++ to) = record {
+            even = omega (arith, length-append before from, length-append before to);
+            free = conjugacy.same (product (before ++ from)) (product (before ++ to)) equal;
+          } in
+          subst (λ (l : List ℕ). Stepped (before ++ l) (before ++ instead)) (sym part_is)
+          (subst (λ (l : List ℕ). Stepped (before ++ from) (before ++ l)) (sym instead_is) there)
+
       by : ((part ≡ upper) × (instead ≡ lower)) ⊎ ((part ≡ lower) × (instead ≡ upper)) → Stepped (before ++ part) (before ++ instead)
-      by (inl e) =
-          let long = length-append before upper in
-          let as_long = length-append before lower in
-          let told : length (before ++ upper) % 2 ≡ 0 = subst (λ (l : List ℕ). length (before ++ l) % 2 ≡ 0) e.0 even in
-          let there : Stepped (before ++ upper) (before ++ lower) = record {
-            even = omega arith;
-            free = conjugacy.same (product (before ++ upper)) (product (before ++ lower)) same;
-          } in
-          subst (λ (l : List ℕ). Stepped (before ++ l) (before ++ instead)) (sym e.0)
-          (subst (λ (l : List ℕ). Stepped (before ++ upper) (before ++ l)) (sym e.1) there)
-      by (inr e) =
-          let long = length-append before upper in
-          let as_long = length-append before lower in
-          let told : length (before ++ lower) % 2 ≡ 0 = subst (λ (l : List ℕ). length (before ++ l) % 2 ≡ 0) e.0 even in
-          let there : Stepped (before ++ lower) (before ++ upper) = record {
-            even = omega arith;
-            free = conjugacy.same (product (before ++ lower)) (product (before ++ upper))
-                (g.turn (product (before ++ upper)) (product (before ++ lower)) same);
-          } in
-          subst (λ (l : List ℕ). Stepped (before ++ l) (before ++ instead)) (sym e.0)
-          (subst (λ (l : List ℕ). Stepped (before ++ lower) (before ++ l)) (sym e.1) there)
+      by (inl e) = stepped upper lower refl same e.0 e.1
+      by (inr e) = stepped lower upper refl (g.turn (product (before ++ upper)) (product (before ++ lower)) same) e.0 e.1
 
   turn_free : (a b : List ℕ) → length a % 2 ≡ 0 → length (a ++ b) % 2 ≡ 0 → Stepped (a ++ b) (b ++ a)
   turn_free a b even whole =

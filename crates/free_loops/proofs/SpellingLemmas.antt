@@ -7,14 +7,14 @@ use Rattle.std.proofs.lemmas.List.Elements.{All-append, All-nil, All-cons}
 use Rattle.turn_words.specs.Modulo.{add, minus}
 use Rattle.turn_words.specs.SpokePaths.{place_round, turns_after, turn_word_of}
 use Rattle.spoke_rings.specs.CyclicWords.{IsFullWheel}
-use Rattle.free_loops.proofs.WordStepLemmas.{turns_from, below_from, taken, word_is}
+use Rattle.free_loops.proofs.WordStepLemmas.{turns_counted, below_from, taken, word_is}
 
 -- So many entries of a word are spelled out: whatever spokes come next, their turns come behind these entries.
 pub record Spelled (places word : List ℕ) (k from : ℕ) (at_vertex : Bool) (spokes : List ℕ) : Type 0 where
   pub from_in : from < length places
   pub below : All (λ spoke. spoke < length places) spokes
   pub turns : (rest : List ℕ)
-      → turns_from places 0 true (spokes ++ rest) ≡ take k word ++ turns_from places from at_vertex rest
+      → turns_counted places 0 true (spokes ++ rest) ≡ take k word ++ turns_counted places from at_vertex rest
 
 pub spelled_none : (places word : List ℕ) → IsFullWheel places → Spelled places word 0 0 true []
 spelled_none places word full = record {
@@ -39,19 +39,19 @@ spelled_more places word k from spoke next at_vertex spokes full h more entry be
       below = All-append (λ x. x < d) spokes (spoke ∷ []) h.below
           (All-cons (λ x. x < d) spoke [] below (All-nil (λ x. x < d)));
       turns = λ rest.
-          let tail : List ℕ = turns_from places (place_round places (not at_vertex) spoke) (not at_vertex) rest in
-          let here : turns_from places 0 true ((spokes ++ spoke ∷ []) ++ rest)
+          let tail : List ℕ = turns_counted places (place_round places (not at_vertex) spoke) (not at_vertex) rest in
+          let here : turns_counted places 0 true ((spokes ++ spoke ∷ []) ++ rest)
           ≡ take k word ++ (add d (place_round places at_vertex spoke) (minus d from) ∷ tail) =
-          ap (turns_from places 0 true) (append_assoc spokes (spoke ∷ []) rest) ∙ h.turns (spoke ∷ rest) in
+          ap (turns_counted places 0 true) (append_assoc spokes (spoke ∷ []) rest) ∙ h.turns (spoke ∷ rest) in
           here ∙ ap (λ x. take k word ++ (x ∷ tail)) turn ∙ sym (append_assoc (take k word) (get_or word k 0 ∷ []) tail)
           ∙ ap (λ (l : List ℕ). l ++ tail) (sym one_more)
-          ∙ ap (λ x. take (k + 1) word ++ turns_from places x (not at_vertex) rest) (sym next_is);
+          ∙ ap (λ x. take (k + 1) word ++ turns_counted places x (not at_vertex) rest) (sym next_is);
     }
 
 pub spelled_all : (places word : List ℕ) (from : ℕ) (at_vertex : Bool) (spokes : List ℕ) → IsFullWheel places
     → Spelled places word (length word) from at_vertex spokes → turn_word_of places spokes ≡ word
 spelled_all places word from at_vertex spokes full h =
-    word_is places full spokes (below_from (length places) spokes h.below) ∙ ap (turns_from places 0 true) (sym (append-nil spokes))
+    word_is places full spokes (below_from (length places) spokes h.below) ∙ ap (turns_counted places 0 true) (sym (append-nil spokes))
     ∙ h.turns [] ∙ append-nil (take (length word) word) ∙ take-length word
 
 -- a turn word has as many entries as spokes

@@ -66,14 +66,14 @@ below_from d [] h = tt
 below_from d (x ∷ xs) h = (h 0 x (omega arith), below_from d xs (λ k e l. h (suc k) e (omega arith)))
 
 -- the turns of a list of spokes, counted from a number, where it stands before the list as is told
-abbrev pub turns_from : List ℕ → ℕ → Bool → List ℕ → List ℕ
-turns_from places m at_vertex [] = []
-turns_from places m at_vertex (i ∷ path) =
+abbrev pub turns_counted : List ℕ → ℕ → Bool → List ℕ → List ℕ
+turns_counted places m at_vertex [] = []
+turns_counted places m at_vertex (i ∷ path) =
     add (length places) (place_round places at_vertex i) (minus (length places) m)
-    ∷ turns_from places (place_round places (not at_vertex) i) (not at_vertex) path
+    ∷ turns_counted places (place_round places (not at_vertex) i) (not at_vertex) path
 
 after_is : (places : List ℕ) (at_vertex : Bool) (i : ℕ) (path : List ℕ)
-    → turns_after places at_vertex i path ≡ turns_from places (place_round places at_vertex i) at_vertex path
+    → turns_after places at_vertex i path ≡ turns_counted places (place_round places at_vertex i) at_vertex path
 after_is places at_vertex i [] = refl
 after_is places at_vertex i (j ∷ path) = ap
     (λ (l : List ℕ). add (length places) (place_round places at_vertex j) (minus (length places) (place_round places at_vertex i)) ∷ l)
@@ -205,7 +205,7 @@ other_side places a c q = record { a_below = q.c_below; c_below = q.a_below; a_p
 record Lifted (places : List ℕ) (v : Bool) (m : ℕ) (path word : List ℕ) : Type 0 where
   other : List ℕ
   below : Below (length places) other
-  turns : turns_from places m v other ≡ word
+  turns : turns_counted places m v other ≡ word
   leads : LeadsBehind places v path other
 
 module _ (places : List ℕ) (full : IsFullWheel places) where
@@ -228,24 +228,24 @@ module _ (places : List ℕ) (full : IsFullWheel places) where
   -- the turns depend on where they are counted from, and on the first of them, by their sum alone
   rebased : (v : Bool) (m a x : ℕ) (path : List ℕ) → m < length places → a < length places → Below (length places) path
       → add (length places) a (minus (length places) m) ≡ x
-      → next_changed (length places) x (turns_from places a v path) ≡ turns_from places m v path
+      → next_changed (length places) x (turns_counted places a v path) ≡ turns_counted places m v path
   rebased v m a x [] l k h e = refl
   rebased v m a x (i ∷ path) l k h e =
-      ap (λ z. z ∷ turns_from places (place_round places (not v) i) (not v) path)
+      ap (λ z. z ∷ turns_counted places (place_round places (not v) i) (not v) path)
       (ap (add (length places) (add (length places) (place_round places v i) (minus (length places) a))) (sym e)
       ∙ over (length places) (place_round places v i) a m (value_in v i h.0) k l)
 
   -- the same two spokes further on
   rebased_on : (v : Bool) (m j x : ℕ) (path : List ℕ) → m < length places → j < length places → Below (length places) path
       → add (length places) (place_round places v j) (minus (length places) m) ≡ x
-      → next_changed (length places) x (turns_from places (place_round places (not (not v)) j) (not (not v)) path)
-      ≡ turns_from places m v path
+      → next_changed (length places) x (turns_counted places (place_round places (not (not v)) j) (not (not v)) path)
+      ≡ turns_counted places m v path
   rebased_on v m j x path l k h e =
-      subst (λ w. next_changed (length places) x (turns_from places (place_round places w j) w path) ≡ turns_from places m v path)
+      subst (λ w. next_changed (length places) x (turns_counted places (place_round places w j) w path) ≡ turns_counted places m v path)
       (sym (not_twice v)) (rebased v m (place_round places v j) x path l (value_in v j k) h e)
 
   spur_out_lifts : (v : Bool) (m : ℕ) (path word : List ℕ) → m < length places → Below (length places) path
-      → spur_out (length places) (turns_from places m v path) ≡ Some word → Lifted places v m path word
+      → spur_out (length places) (turns_counted places m v path) ≡ Some word → Lifted places v m path word
   spur_out_lifts v m [] word l h e = cc
   spur_out_lifts v m (i ∷ []) word l h e = cc
   spur_out_lifts v m (i ∷ j ∷ path) word l h e =
@@ -253,7 +253,7 @@ module _ (places : List ℕ) (full : IsFullWheel places) where
       let x : ℕ = add d (place_round places v i) (minus d m) in
       let turn : ℕ = add d (place_round places (not v) j) (minus d (place_round places (not v) i)) in
       let told =
-      some_is (eqb turn 0) (next_changed d x (turns_from places (place_round places (not (not v)) j) (not (not v)) path)) word e in
+      some_is (eqb turn 0) (next_changed d x (turns_counted places (place_round places (not (not v)) j) (not (not v)) path)) word e in
       let zero_is : turn ≡ 0 = eqb-true turn 0 told.0 in
       let pi : place_round places (not v) i < d = value_in (not v) i h.0 in
       let same : j ≡ i = once (not v) j i h.1.0 h.0
@@ -273,27 +273,27 @@ module _ (places : List ℕ) (full : IsFullWheel places) where
       → add (length places) (place_round places v k) (minus (length places) m) ≡ first
       → add (length places) (place_round places (not v) l) (minus (length places) (place_round places (not v) k)) ≡ second
       → add (length places) (place_round places v j) (minus (length places) (place_round places v l)) ≡ x
-      → first ∷ second ∷ next_changed (length places) x (turns_from places (place_round places (not (not v)) j) (not (not v)) rest) ≡ word
+      → first ∷ second ∷ next_changed (length places) x (turns_counted places (place_round places (not (not v)) j) (not (not v)) rest) ≡ word
       → LeadsBehind places v (i ∷ j ∷ rest) (k ∷ l ∷ rest) → Lifted places v m (i ∷ j ∷ rest) word
   replaced v m i j k l first second x rest word m_in h k_in l_in one two three is leads =
       let d : ℕ = length places in
-      let behind : turns_from places (place_round places (not (not v)) l) (not (not v)) rest
-      ≡ next_changed d x (turns_from places (place_round places (not (not v)) j) (not (not v)) rest) =
-      ap (λ w. turns_from places (place_round places w l) w rest) (not_twice v)
+      let behind : turns_counted places (place_round places (not (not v)) l) (not (not v)) rest
+      ≡ next_changed d x (turns_counted places (place_round places (not (not v)) j) (not (not v)) rest) =
+      ap (λ w. turns_counted places (place_round places w l) w rest) (not_twice v)
       ∙ sym (rebased_on v (place_round places v l) j x rest (value_in v l l_in) h.1.0 h.1.1 three) in
       record {
         other = k ∷ l ∷ rest;
         below = (k_in, (l_in, h.1.1));
         turns =
             ap (λ z. z ∷ add d (place_round places (not v) l) (minus d (place_round places (not v) k))
-            ∷ turns_from places (place_round places (not (not v)) l) (not (not v)) rest) one
-            ∙ ap (λ z. first ∷ z ∷ turns_from places (place_round places (not (not v)) l) (not (not v)) rest) two
+            ∷ turns_counted places (place_round places (not (not v)) l) (not (not v)) rest) one
+            ∙ ap (λ z. first ∷ z ∷ turns_counted places (place_round places (not (not v)) l) (not (not v)) rest) two
             ∙ ap (λ (z : List ℕ). first ∷ second ∷ z) behind ∙ is;
         leads = leads;
       }
 
   down_lifts : (v : Bool) (m : ℕ) (path word : List ℕ) → m < length places → Below (length places) path
-      → pushed (length places) false (turns_from places m v path) ≡ Some word → Lifted places v m path word
+      → pushed (length places) false (turns_counted places m v path) ≡ Some word → Lifted places v m path word
   down_lifts v m [] word l h e = cc
   down_lifts v m (i ∷ []) word l h e = cc
   down_lifts true m (i ∷ j ∷ rest) word l h e =
@@ -301,7 +301,7 @@ module _ (places : List ℕ) (full : IsFullWheel places) where
       let less : ℕ = minus d 1 in
       let x : ℕ = add d (get_or places i 0) (minus d m) in
       let told = some_is (eqb (add d j (minus d i)) 1)
-      (add d x less ∷ less ∷ next_changed d less (turns_from places (get_or places j 0) true rest)) word e in
+      (add d x less ∷ less ∷ next_changed d less (turns_counted places (get_or places j 0) true rest)) word e in
       let next : j ≡ add d i 1 = differs d j i 1 h.1.0 h.0 large (eqb-true (add d j (minus d i)) 1 told.0) in
       let p : Partner places i = full.full i h.0 in
       let c : ℕ = p.partner in
@@ -319,7 +319,7 @@ module _ (places : List ℕ) (full : IsFullWheel places) where
       let less : ℕ = minus d 1 in
       let x : ℕ = add d i (minus d m) in
       let told = some_is (eqb (add d (get_or places j 0) (minus d (get_or places i 0))) 1)
-      (add d x less ∷ less ∷ next_changed d less (turns_from places j false rest)) word e in
+      (add d x less ∷ less ∷ next_changed d less (turns_counted places j false rest)) word e in
       let i_in : get_or places i 0 < d = value_in true i h.0 in
       let next : get_or places j 0 ≡ add d (get_or places i 0) 1 =
       differs d (get_or places j 0) (get_or places i 0) 1 (value_in true j h.1.0) i_in large
@@ -340,7 +340,7 @@ module _ (places : List ℕ) (full : IsFullWheel places) where
       (subst (λ z. LeadsBehind places false (z ∷ j ∷ rest) (c ∷ add d j 1 ∷ rest)) (sym is) (goes_down places j c q large false rest))
 
   up_lifts : (v : Bool) (m : ℕ) (path word : List ℕ) → m < length places → Below (length places) path
-      → pushed (length places) true (turns_from places m v path) ≡ Some word → Lifted places v m path word
+      → pushed (length places) true (turns_counted places m v path) ≡ Some word → Lifted places v m path word
   up_lifts v m [] word l h e = cc
   up_lifts v m (i ∷ []) word l h e = cc
   up_lifts true m (i ∷ j ∷ rest) word l h e =
@@ -348,7 +348,7 @@ module _ (places : List ℕ) (full : IsFullWheel places) where
       let less : ℕ = minus d 1 in
       let x : ℕ = add d (get_or places i 0) (minus d m) in
       let told = some_is (eqb (add d j (minus d i)) less)
-      (add d x 1 ∷ 1 ∷ next_changed d 1 (turns_from places (get_or places j 0) true rest)) word e in
+      (add d x 1 ∷ 1 ∷ next_changed d 1 (turns_counted places (get_or places j 0) true rest)) word e in
       let before : j ≡ add d i less = differs d j i less h.1.0 h.0 less_in (eqb-true (add d j (minus d i)) less told.0) in
       let is : i ≡ add d j 1 = sym (back_add d i large h.0) ∙ ap (λ z. add d z 1) (sym before) in
       let p : Partner places j = full.full j h.1.0 in
@@ -369,7 +369,7 @@ module _ (places : List ℕ) (full : IsFullWheel places) where
       let less : ℕ = minus d 1 in
       let x : ℕ = add d i (minus d m) in
       let told = some_is (eqb (add d (get_or places j 0) (minus d (get_or places i 0))) less)
-      (add d x 1 ∷ 1 ∷ next_changed d 1 (turns_from places j false rest)) word e in
+      (add d x 1 ∷ 1 ∷ next_changed d 1 (turns_counted places j false rest)) word e in
       let before : get_or places j 0 ≡ add d (get_or places i 0) less =
       differs d (get_or places j 0) (get_or places i 0) less (value_in true j h.1.0) (value_in true i h.0) less_in
       (eqb-true (add d (get_or places j 0) (minus d (get_or places i 0))) less told.0) in
@@ -389,15 +389,15 @@ module _ (places : List ℕ) (full : IsFullWheel places) where
   -- a rule used further on in the word
   further_on : (rule : List ℕ → Option (List ℕ))
       → ((v : Bool) (m : ℕ) (path word : List ℕ) → m < length places → Below (length places) path
-      → rule (turns_from places m v path) ≡ Some word → Lifted places v m path word)
+      → rule (turns_counted places m v path) ≡ Some word → Lifted places v m path word)
       → (at : ℕ) (v : Bool) (m : ℕ) (path word : List ℕ) → m < length places → Below (length places) path
-      → from_place at rule (turns_from places m v path) ≡ Some word → Lifted places v m path word
+      → from_place at rule (turns_counted places m v path) ≡ Some word → Lifted places v m path word
   further_on rule lifts zero v m path word l h e = lifts v m path word l h e
   further_on rule lifts (suc at) v m [] word l h e = cc
   further_on rule lifts (suc at) v m (i ∷ path) word l h e =
       let d : ℕ = length places in
       let turn : ℕ = add d (place_round places v i) (minus d m) in
-      let told = mapped_is (from_place at rule (turns_from places (place_round places (not v) i) (not v) path)) turn word e in
+      let told = mapped_is (from_place at rule (turns_counted places (place_round places (not v) i) (not v) path)) turn word e in
       let rest = further_on rule lifts at (not v) (place_round places (not v) i) path told.0 (value_in (not v) i h.0) h.1 told.1 in
       record {
         other = i ∷ rest.other;
@@ -408,15 +408,15 @@ module _ (places : List ℕ) (full : IsFullWheel places) where
 
   -- spokes are told by their turns
   one_list : (v : Bool) (m : ℕ) (path other : List ℕ) → m < length places → Below (length places) path → Below (length places) other
-      → turns_from places m v path ≡ turns_from places m v other → path ≡ other
+      → turns_counted places m v path ≡ turns_counted places m v other → path ≡ other
   one_list v m [] [] l h k e = refl
   one_list v m [] (j ∷ other) l h k e = cc
   one_list v m (i ∷ path) [] l h k e = cc
   one_list v m (i ∷ path) (j ∷ other) l h k e =
       let d : ℕ = length places in
       let first : add d (place_round places v i) (minus d m) ≡ add d (place_round places v j) (minus d m) = cc in
-      let rest : turns_from places (place_round places (not v) i) (not v) path
-      ≡ turns_from places (place_round places (not v) j) (not v) other = cc in
+      let rest : turns_counted places (place_round places (not v) i) (not v) path
+      ≡ turns_counted places (place_round places (not v) j) (not v) other = cc in
       let i_in : place_round places v i < d = value_in v i h.0 in
       let j_in : place_round places v j < d = value_in v j k.0 in
       let turn_in : add d (place_round places v j) (minus d m) < d = add-lt d (place_round places v j) (minus d m) j_in (minus-lt d m l) in
@@ -426,10 +426,10 @@ module _ (places : List ℕ) (full : IsFullWheel places) where
       ∙ sym (differs d (place_round places v j) m (add d (place_round places v j) (minus d m)) j_in l turn_in refl)) in
       ap₂ (λ x (z : List ℕ). x ∷ z) same
       (one_list (not v) (place_round places (not v) j) path other (value_in (not v) j k.0) h.1 k.1
-      (subst (λ x. turns_from places (place_round places (not v) x) (not v) path
-      ≡ turns_from places (place_round places (not v) j) (not v) other) same rest))
+      (subst (λ x. turns_counted places (place_round places (not v) x) (not v) path
+      ≡ turns_counted places (place_round places (not v) j) (not v) other) same rest))
 
-  pub word_is : (path : List ℕ) → Below (length places) path → turn_word_of places path ≡ turns_from places 0 true path
+  pub word_is : (path : List ℕ) → Below (length places) path → turn_word_of places path ≡ turns_counted places 0 true path
   word_is [] h = refl
   word_is (i ∷ path) h =
       let d : ℕ = length places in
@@ -472,10 +472,10 @@ module _ (places : List ℕ) (full : IsFullWheel places) where
   spoke_there false x l = (x, l, refl)
 
   spur_in_lifts : (first : ℕ) (v : Bool) (m : ℕ) (path word : List ℕ) → m < length places → Below (length places) path
-      → spur_in (length places) first (turns_from places m v path) ≡ Some word → Lifted places v m path word
+      → spur_in (length places) first (turns_counted places m v path) ≡ Some word → Lifted places v m path word
   spur_in_lifts first v m path word l h e =
       let d : ℕ = length places in
-      let told = some_is (nat_lt first d) (first ∷ 0 ∷ next_changed d (minus d first) (turns_from places m v path)) word e in
+      let told = some_is (nat_lt first d) (first ∷ 0 ∷ next_changed d (minus d first) (turns_counted places m v path)) word e in
       let below : first < d = ltb-true first d told.0 in
       let y : ℕ = add d m first in
       let y_in : y < d = add-lt d m first l below in
@@ -486,24 +486,24 @@ module _ (places : List ℕ) (full : IsFullWheel places) where
       let one : add d (place_round places v p) (minus d m) ≡ first = ap (λ z. add d z (minus d m)) value ∙ taken d m first l below in
       let two : add d (place_round places (not v) p) (minus d (place_round places (not v) p)) ≡ 0 =
       add-minus d (place_round places (not v) p) (value_in (not v) p p_in) in
-      let three : next_changed d (minus d first) (turns_from places m v path) ≡ turns_from places (place_round places v p) v path =
+      let three : next_changed d (minus d first) (turns_counted places m v path) ≡ turns_counted places (place_round places v p) v path =
       rebased v (place_round places v p) m (minus d first) path (value_in v p p_in) l h
       (ap (λ z. add d m (minus d z)) value ∙ given d m first l below) in
-      let three_on : turns_from places (place_round places (not (not v)) p) (not (not v)) path
-      ≡ next_changed d (minus d first) (turns_from places m v path) =
-      ap (λ w. turns_from places (place_round places w p) w path) (not_twice v) ∙ sym three in
+      let three_on : turns_counted places (place_round places (not (not v)) p) (not (not v)) path
+      ≡ next_changed d (minus d first) (turns_counted places m v path) =
+      ap (λ w. turns_counted places (place_round places w p) w path) (not_twice v) ∙ sym three in
       record {
         other = p ∷ p ∷ path;
         below = (p_in, (p_in, h));
         turns = ap (λ z. z ∷ add d (place_round places (not v) p) (minus d (place_round places (not v) p))
-            ∷ turns_from places (place_round places (not (not v)) p) (not (not v)) path) one
-            ∙ ap (λ z. first ∷ z ∷ turns_from places (place_round places (not (not v)) p) (not (not v)) path) two
+            ∷ turns_counted places (place_round places (not (not v)) p) (not (not v)) path) one
+            ∙ ap (λ z. first ∷ z ∷ turns_counted places (place_round places (not (not v)) p) (not (not v)) path) two
             ∙ ap (λ (z : List ℕ). first ∷ 0 ∷ z) three_on ∙ told.1;
         leads = λ before ends. spur-enters places before path p p_in;
       }
 
   step_lifts : (step : Step) (path word : List ℕ) → Below (length places) path
-      → after_step (length places) step (turns_from places 0 true path) ≡ Some word → Lifted places true 0 path word
+      → after_step (length places) step (turns_counted places 0 true path) ≡ Some word → Lifted places true 0 path word
   step_lifts (SpurIn at first) path word h e =
       further_on (spur_in (length places) first) (spur_in_lifts first) at true 0 path word (omega (arith, large)) h e
   step_lifts (SpurOut at) path word h e =
@@ -514,14 +514,14 @@ module _ (places : List ℕ) (full : IsFullWheel places) where
       further_on (pushed (length places) false) (down_lifts) at true 0 path word (omega (arith, large)) h e
 
   steps_lead : (steps : List Step) (path other : List ℕ) → Below (length places) path → Below (length places) other
-      → after_steps (length places) steps (turns_from places 0 true path) ≡ Some (turns_from places 0 true other)
+      → after_steps (length places) steps (turns_counted places 0 true path) ≡ Some (turns_counted places 0 true other)
       → LoopLeads places path other
   steps_lead [] path other h k e =
-      let same : turns_from places 0 true path ≡ turns_from places 0 true other = cc in
+      let same : turns_counted places 0 true path ≡ turns_counted places 0 true other = cc in
       leads-same places path other (one_list true 0 path other (omega (arith, large)) h k same)
   steps_lead (step ∷ steps) path other h k e =
-      let told = first_answer (after_steps (length places) steps) (after_step (length places) step (turns_from places 0 true path))
-      (turns_from places 0 true other) e in
+      let told = first_answer (after_steps (length places) steps) (after_step (length places) step (turns_counted places 0 true path))
+      (turns_counted places 0 true other) e in
       let one = step_lifts step path told.0 h told.1 in
       leads-on places path one.other other (one.leads [] refl)
       (steps_lead steps one.other other one.below k
