@@ -1,5 +1,5 @@
 //! Whether the corners at each used vertex make one ring, or one fan where the vertex is on the boundary.
-ghost use Rattle.std.specs.Prelude.{◌≡◌, ◌<◌, ◌^◌, ℕ, length, slice_set, IfOk, IfSome, IfNone, MatchOption};
+ghost use Rattle.std.specs.Prelude.{◌≡◌, ◌<◌, ◌^◌, ℕ, length, slice_set, IfOk, IfSome, IfNone, MatchOption, OnOk};
 ghost use Rattle.surf_model.specs.FaceLists.{IsFaceList, total_sides};
 ghost use Rattle.surf_model.specs.Edges.{IsTableOf};
 ghost use Rattle.surf_model.specs.Darts.{IsSide, side_number, side_after};
@@ -40,7 +40,6 @@ pub fn pinched_vertex(
     faces: &Faces,
     sides: &Sides,
 ) -> Result<Option<VertexName>, AllocError>
-    requires valid { IsFaceList faces.now }
     requires table { IsTableOf faces.now sides.now }
     requires few { NoEdgeHasThreeSides faces.now }
     ensures { IfOk result (λ found.
@@ -53,7 +52,6 @@ pub fn pinched_vertex(
 
 /// For each corner the number of the least corner in its ring.
 fn rings(alloc: Global, faces: &Faces, sides: &Sides) -> Result<Vec<u32>, AllocError>
-    requires valid { IsFaceList faces.now }
     requires table { IsTableOf faces.now sides.now }
     requires few { NoEdgeHasThreeSides faces.now }
     ensures count { IfOk result (λ rings. length rings.items ≡ total_sides faces.now) }
@@ -79,7 +77,6 @@ fn rings(alloc: Global, faces: &Faces, sides: &Sides) -> Result<Vec<u32>, AllocE
 
 /// Joins the corners of a side with those of its partner: at each end of their edge the two that stand there.
 fn join_across(corners: &mut Classes, faces: &Faces, side: Side, partner: Side)
-    requires valid { IsFaceList faces.now }
     requires partners { ArePartners faces.now side partner }
     requires count { length corners.old ≡ total_sides faces.now }
     ensures count { length corners.new ≡ total_sides faces.now }
@@ -105,6 +102,8 @@ fn ends_of(faces: &Faces, side: Side) -> (u32, u32)
     ensures end { result.1 ≡ side_number faces.now (side_after faces.now side) }
     ensures start_below { result.0 < total_sides faces.now }
     ensures end_below { result.1 < total_sides faces.now }
+    // What holds of every face list.
+    ensures valid { IsFaceList faces.now }
 {
     let start = faces.dart(side).0;
     let end = faces.dart(faces.after(side)).0;
@@ -113,12 +112,13 @@ fn ends_of(faces: &Faces, side: Side) -> (u32, u32)
 
 /// The link of each vertex. Each ring is met at its least corner.
 fn links(alloc: Global, faces: &Faces, rings: &[u32]) -> Result<Vec<Link>, AllocError>
-    requires valid { IsFaceList faces.now }
     requires count { length rings.now ≡ total_sides faces.now }
     requires rings { AreRings faces.now rings.now }
     requires least { AreLeastMembers rings.now }
     ensures links { IfOk result (λ links. AreLinks faces.now rings.now links.items) }
     ensures few { IfOk result (λ links. length links.items < 2 ^ 32) }
+    // What holds of every face list.
+    ensures valid { OnOk result (IsFaceList faces.now) }
 {
     let mut links = vec![in alloc; Link::NoRing; faces.count() as usize]?;
     for corner in 0..faces.total() {

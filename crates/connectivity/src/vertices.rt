@@ -1,5 +1,5 @@
 //! Whether any two used vertices are joined by a walk.
-ghost use Rattle.std.specs.Prelude.{◌≡◌, ◌<◌, ℕ, length, slice_index, IsTrue, IfOk, IfSome, IfNone, MatchOption};
+ghost use Rattle.std.specs.Prelude.{◌≡◌, ◌<◌, ℕ, length, slice_index, IsTrue, IfOk, IfSome, IfNone, MatchOption, OnOk};
 ghost use Rattle.surf_model.specs.FaceLists.{FaceList, IsFaceList, is_used};
 ghost use Rattle.surf_model.specs.Edges.{IsTableOf};
 ghost use Rattle.surf_model.specs.Components.{EachTwoAreJoined};
@@ -17,7 +17,6 @@ pub fn vertices_apart(
     faces: &Faces,
     sides: &Sides,
 ) -> Result<Option<(VertexName, VertexName)>, AllocError>
-    requires valid { IsFaceList faces.now }
     requires table { IsTableOf faces.now sides.now }
     ensures { IfOk result (λ found.
         MatchOption found (EachTwoAreJoined faces.now) (λ pair. AreLeastApart faces.now pair.0.0 pair.1.0)) }
@@ -34,11 +33,12 @@ pub fn vertices_apart(
 
 /// For each vertex the least one that is joined to it by edges.
 pub fn components(alloc: Global, faces: &Faces, sides: &Sides) -> Result<Vec<u32>, AllocError>
-    requires valid { IsFaceList faces.now }
     requires table { IsTableOf faces.now sides.now }
     ensures count { IfOk result (λ least. length least.items ≡ faces.now.count) }
     ensures components { IfOk result (λ least. AreComponents faces.now least.items) }
     ensures members { IfOk result (λ least. AreLeastMembers least.items) }
+    // What holds of every face list.
+    ensures valid { OnOk result (IsFaceList faces.now) }
 {
     let mut vertices = Classes::new(alloc, faces.count())?;
     for edge in 0..sides.len() {
@@ -50,7 +50,6 @@ pub fn components(alloc: Global, faces: &Faces, sides: &Sides) -> Result<Vec<u32
 
 /// The least vertex that a face names.
 fn least_used(faces: &Faces, sides: &Sides) -> Option<VertexName>
-    requires valid { IsFaceList faces.now }
     requires table { IsTableOf faces.now sides.now }
     ensures some { IfSome result (λ vertex. IsLeastUsed faces.now vertex.0) }
     ensures none { IfNone result ((v : ℕ) → IsTrue (is_used faces.now v) → ⊥) }

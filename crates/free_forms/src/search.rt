@@ -1,6 +1,6 @@
 //! A parent for each face, by a search of the faces from all boundary edges, breadth first.
 ghost use Rattle.std.specs.Prelude.{◌≡◌, ◌<◌, length, slice_index, OnOk, IfOk};
-ghost use Rattle.surf_model.specs.FaceLists.{IsFaceList, face_at};
+ghost use Rattle.surf_model.specs.FaceLists.{face_at};
 ghost use Rattle.surf_model.specs.Edges.{IsTableOf};
 ghost use Rattle.connectivity.specs.Joined.{NoEdgeHasThreeSides};
 ghost use Rattle.free_forms.specs.OpenSurfaces.{IsOpenSurface};
@@ -28,7 +28,6 @@ pub(crate) fn parent_places(
     faces: &Faces,
     sides: &Sides,
 ) -> Result<Vec<u32>, AllocError>
-    requires valid { IsFaceList faces.now }
     requires table { IsTableOf faces.now sides.now }
     requires surface { IsOpenSurface faces.now }
     ensures { IfOk result (λ places. HasParents (record { mesh = faces.now; places = places.items })) }
@@ -61,7 +60,6 @@ fn start(search: &mut Search, faces: &Faces, sides: &Sides) -> Result<(), AllocE
 
 /// Reaches all faces that steps across edges lead to.
 fn spread(search: &mut Search, faces: &Faces, sides: &Sides) -> Result<(), AllocError>
-    requires valid { IsFaceList faces.now }
     requires table { IsTableOf faces.now sides.now }
     requires few { NoEdgeHasThreeSides faces.now }
     requires search { IsSearch faces.now (found_by search.old) }
@@ -85,7 +83,6 @@ fn spread_from(
     sides: &Sides,
     face: FaceName,
 ) -> Result<(), AllocError>
-    requires valid { IsFaceList faces.now }
     requires table { IsTableOf faces.now sides.now }
     requires few { NoEdgeHasThreeSides faces.now }
     requires search { IsSearch faces.now (found_by search.old) }

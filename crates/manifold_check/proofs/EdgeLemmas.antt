@@ -1,5 +1,5 @@
 -- Edges of a mesh that have not two sides, by its table.
-use Rattle.std.proofs.Common.{◌≡◌, ◌≢◌, ℕ, ◌<◌, List, length, sym, ◌∙◌, subst}
+use Rattle.std.proofs.Common.{◌≡◌, ℕ, ◌<◌, List, length, sym, ◌∙◌, subst}
 use Rattle.surf_model.specs.FaceLists.{FaceList}
 use Rattle.surf_model.specs.Edges.{Edge, IsTableOf, IsEdgeOf, IsPairBefore, edge_in}
 use Rattle.surf_model.specs.Surfaces.{EachEdgeHasTwoSides}

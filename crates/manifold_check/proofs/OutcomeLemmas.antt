@@ -1,5 +1,5 @@
 -- No face list is without the one or the other: it is a closed manifold, or it has a first fault. Nothing is decided for this.
-use Rattle.std.proofs.Common.{◌≡◌, ◌⊎◌, inl, inr, ℕ, zero, suc, ◌<◌, true, length, refl, sym, ◌∙◌, subst, arith}
+use Rattle.std.proofs.Common.{◌≡◌, inl, inr, ℕ, zero, suc, ◌<◌, true, length, refl, sym, ◌∙◌, subst, arith}
 use Rattle.std.proofs.lemmas.Bool.{cases_Bool, cases_lt, cases_eq, both_ways}
 use Rattle.surf_model.specs.FaceLists.{FaceList, IsFaceList, is_edge, is_used}
 use Rattle.surf_model.specs.Surfaces.{IsClosedManifold, EachEdgeHasTwoSides, HasOneRing, sides_between}

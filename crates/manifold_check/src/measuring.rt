@@ -57,8 +57,6 @@ fn count_vertices(
     ensures counted { IfOk result (λ counts. (k : ℕ) → k < length parts.now.components
         → slice_index counts.items k ≡ used_number (component_mesh faces.now parts.now k)) }
 {
-    // The proof reads what holds of every face list.
-    let _ = faces.len();
     let mut counts = vec![in alloc; 0u32; parts.len() as usize]?;
     for vertex in 0..faces.count() {
         if sides.used(VertexName(vertex)) {

@@ -1,6 +1,5 @@
 //! For each vertex the place of its component.
 ghost use Rattle.std.specs.Prelude.{◌≡◌, ◌≤◌, ℕ, length, IfOk};
-ghost use Rattle.surf_model.specs.FaceLists.{IsFaceList};
 ghost use Rattle.surf_model.specs.Edges.{IsTableOf};
 ghost use Rattle.surf_model.specs.Components.{ArePlacesOfComponents};
 ghost use Rattle.connectivity.specs.Classes.{AreLeastMembers};
@@ -24,7 +23,6 @@ pub fn number_components(
     faces: &Faces,
     sides: &Sides,
 ) -> Result<Numbered, AllocError>
-    requires valid { IsFaceList faces.now }
     requires table { IsTableOf faces.now sides.now }
     ensures places { IfOk result (λ numbered. ArePlacesOfComponents faces.now numbered.count numbered.places.items) }
     ensures few { IfOk result (λ numbered. numbered.count ≤ faces.now.count) }
@@ -40,7 +38,6 @@ fn number(
     sides: &Sides,
     least: &[u32],
 ) -> Result<Numbered, AllocError>
-    requires valid { IsFaceList faces.now }
     requires table { IsTableOf faces.now sides.now }
     requires count { length least.now ≡ faces.now.count }
     requires components { AreComponents faces.now least.now }

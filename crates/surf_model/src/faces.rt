@@ -75,7 +75,10 @@ impl Faces {
 
     /// The vertex count: every vertex number is below it.
     pub fn count(&self) -> u32
-        ensures { result ≡ self.now.count }
+        ensures count { result ≡ self.now.count }
+        // What holds of every face list.
+        ensures valid { IsFaceList self.now }
+        ensures small { HasFileSize self.now }
     {
         self.count
     }
@@ -120,7 +123,9 @@ impl Faces {
     /// The vertices at the corners of a face, in order.
     pub fn ring(&self, face: FaceName) -> &[VertexName]
         requires { face.0 < length self.now.faces }
-        ensures { numbers result.now ≡ face_at self.now face.0 }
+        ensures ring { numbers result.now ≡ face_at self.now face.0 }
+        // What holds of every face.
+        ensures polygon { IsFace self.now.count (face_at self.now face.0) }
     {
         let (start, end) = (self.parts.start(face.0), self.parts.end(face.0));
         &self.corners[start as usize..end as usize]
@@ -147,6 +152,8 @@ impl Faces {
         ensures number { result.0 ≡ side_number self.now side }
         // What holds of every side.
         ensures below { result.0 < total_sides self.now }
+        // What holds of every face list.
+        ensures valid { IsFaceList self.now }
     {
         DartName(self.parts.start(side.face.0) + side.at)
     }

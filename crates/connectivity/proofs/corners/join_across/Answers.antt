@@ -8,7 +8,7 @@ made_alike : (c : goal.After-join-then-eq) → AreMadeJoined c.args.faces.now c.
 made_alike c =
     joined_alike c.args.faces.now c.args.corners.now c.join.new.self c.join-then-eq.new.self c.args.side c.args.partner
     c.ends_of-start.result.0 c.ends_of-start.result.1 c.ends_of-partner_start.result.0 c.ends_of-partner_start.result.1
-    c.requires.valid c.requires.count c.requires.partners
+    c.ends_of-start.ensures.valid c.requires.count c.requires.partners
     (sym c.corner.ensures ∙ eqb-true c.corner.result.0 c.corner-2.result.0 (sym c.eq.ensures ∙ c.if-eq.true) ∙ c.corner-2.ensures)
     (record { start_is = c.ends_of-start.ensures.start; end_is = c.ends_of-start.ensures.end })
     (record { start_is = c.ends_of-partner_start.ensures.start; end_is = c.ends_of-partner_start.ensures.end })
@@ -19,7 +19,7 @@ made_opposite : (c : goal.After-join-else-eq-2) → AreMadeJoined c.args.faces.n
 made_opposite c =
     joined_opposite c.args.faces.now c.args.corners.now c.join-else-eq.new.self c.join-else-eq-2.new.self c.args.side c.args.partner
     c.ends_of-start.result.0 c.ends_of-start.result.1 c.ends_of-partner_start.result.0 c.ends_of-partner_start.result.1
-    c.requires.valid c.requires.count c.requires.partners
+    c.ends_of-start.ensures.valid c.requires.count c.requires.partners
     (λ same. both_ways _ (sym c.eq.ensures ∙ c.if-eq.false)
     (eq-eqb c.corner.result.0 c.corner-2.result.0 (c.corner.ensures ∙ same ∙ sym c.corner-2.ensures)))
     (record { start_is = c.ends_of-start.ensures.start; end_is = c.ends_of-start.ensures.end })

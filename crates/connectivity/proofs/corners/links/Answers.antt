@@ -18,7 +18,7 @@ add_ring-requires c =
       c.loop-corner.invariant.count,
       ap (λ (ls : List Link). length ls) c.deref_mut.ensures.value,
       c.corner-vertex.ensures,
-      corner_below mesh c.side_at-side.result c.requires.valid c.side_at-side.ensures.side,
+      corner_below mesh c.side_at-side.result c.count.ensures.valid c.side_at-side.ensures.side,
     )
 
 pub loop-corner-preserved : goal.loop-corner-preserved
@@ -38,7 +38,7 @@ loop-corner-preserved c =
           let within : v < mesh.count = omega (
             arith,
             w.corner-vertex.ensures,
-            corner_below mesh corner c.requires.valid w.side_at-side.ensures.side,
+            corner_below mesh corner c.count.ensures.valid w.side_at-side.ensures.side,
           ) in
           let new : List Link = w.add_ring.new.links in
           let is_new : new ≡ added links v = w.add_ring.ensures ∙ ap (λ (ls : List Link). added ls v) w.deref_mut.ensures.value in

@@ -34,8 +34,8 @@ overflow_add-index_mut c =
       c.loop-vertex.invariant.counted place inside,
       group_of_within (place_of_used mesh c.args.parts.now) place v,
       c.loop-vertex-test.true,
-      c.count-vertex-end.ensures,
-      c.len.ensures.small.few_vertices,
+      c.count-vertex-end.ensures.count,
+      c.count-vertex-end.ensures.small.few_vertices,
     )
 
 pub loop-vertex-preserved : goal.loop-vertex-preserved
@@ -70,6 +70,6 @@ returns-clause-counted c = λ k l.
     let parts = c.args.parts.now in
     let counts : List ℕ = c.loop-vertex.counts.items in
     let all : c.loop-vertex.vertex ≡ mesh.count =
-    omega (arith, c.loop-vertex-test.false, c.count-vertex-end.ensures, c.loop-vertex.auto.vertex-end) in
+    omega (arith, c.loop-vertex-test.false, c.count-vertex-end.ensures.count, c.loop-vertex.auto.vertex-end) in
     vertices_counted mesh parts counts k c.requires.parts l (omega (arith, l, c.loop-vertex.invariant.many))
     (subst (λ n. IsCounted (place_of_used mesh parts) n counts) all c.loop-vertex.invariant.counted)

@@ -13,7 +13,7 @@ overflow_add-count c =
       arith,
       c.loop-vertex.invariant.counted,
       rank_within (leads c.args.faces.now c.args.least.now) c.loop-vertex.vertex,
-      c.count-vertex-end.ensures,
+      c.count-vertex-end.ensures.count,
       c.count-vertex-end.type_inv,
       c.loop-vertex-test.true,
     )
@@ -25,9 +25,13 @@ loop-vertex-preserved c =
     let n : ℕ = c.loop-vertex.vertex in
     let first : ℕ = get_or least n 0 in
     let places : List ℕ = c.loop-vertex.places.items in
-    let leasts : AreLeasts mesh least =
-    record { valid = c.requires.valid; components = c.requires.components; members = c.requires.members; count = c.requires.count } in
-    let below : n < length least = omega (arith, c.loop-vertex-test.true, c.count-vertex-end.ensures, c.requires.count) in
+    let leasts : AreLeasts mesh least = record {
+      valid = c.count-vertex-end.ensures.valid;
+      components = c.requires.components;
+      members = c.requires.members;
+      count = c.requires.count;
+    } in
+    let below : n < length least = omega (arith, c.loop-vertex-test.true, c.count-vertex-end.ensures.count, c.requires.count) in
     elim c.if-not-used.branch [
       | then-not-used+in_ok-push w ↦
           rw (w.count-is, w.places-is, w.in_ok-push.ensures.items)
@@ -51,9 +55,14 @@ pub returns-clause-places : goal.returns-clause-places
 returns-clause-places c =
     let mesh = c.args.faces.now in
     let all : c.loop-vertex.vertex ≡ mesh.count =
-    omega (arith, c.loop-vertex-test.false, c.count-vertex-end.ensures, c.loop-vertex.auto.vertex-end) in
+    omega (arith, c.loop-vertex-test.false, c.count-vertex-end.ensures.count, c.loop-vertex.auto.vertex-end) in
     places_of_components mesh c.args.least.now c.loop-vertex.count c.loop-vertex.places.items
-    (record { valid = c.requires.valid; components = c.requires.components; members = c.requires.members; count = c.requires.count })
+    (record {
+      valid = c.count-vertex-end.ensures.valid;
+      components = c.requires.components;
+      members = c.requires.members;
+      count = c.requires.count;
+    })
     (subst (λ n. AreNumbered mesh c.args.least.now n c.loop-vertex.count c.loop-vertex.places.items) all c.loop-vertex.invariant)
 
 pub returns-clause-few : goal.returns-clause-few
@@ -62,6 +71,6 @@ returns-clause-few c =
       arith,
       c.loop-vertex.invariant.counted,
       rank_within (leads c.args.faces.now c.args.least.now) c.loop-vertex.vertex,
-      c.count-vertex-end.ensures,
+      c.count-vertex-end.ensures.count,
       c.loop-vertex.auto.vertex-end,
     )

@@ -56,5 +56,5 @@ returns c =
     absurd (way_ends c.args.surface.now c.args.split.now c.faces.ensures.valid c.requires.split c.args.start.0 c.loop-step.last.0
     c.loop-step._step
     (numbers c.loop-step.way.items) c.requires.used (length-numbers c.loop-step.way.items ∙ c.loop-step.invariant.long)
-    (omega (arith, c.loop-step-test.false, c.count-step-end.ensures, ap (λ (m : FaceList). m.count) c.faces.ensures.mesh))
+    (omega (arith, c.loop-step-test.false, c.count-step-end.ensures.count, ap (λ (m : FaceList). m.count) c.faces.ensures.mesh))
     c.loop-step.invariant.so_far)

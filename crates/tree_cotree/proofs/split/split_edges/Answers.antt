@@ -22,7 +22,8 @@ pub search_over-requires-clause-below : goal.search_over-requires-clause-below
 search_over-requires-clause-below c =
     let s : OrientedMesh = c.args.surface.now in
     let names : NamesAll s = names_all s c.faces.ensures.valid in
-    let count : c.count-vertices.result ≡ s.mesh.count = c.count-vertices.ensures ∙ ap (λ (m : FaceList). m.count) c.faces-2.ensures.mesh in
+    let count : c.count-vertices.result ≡ s.mesh.count =
+    c.count-vertices.ensures.count ∙ ap (λ (m : FaceList). m.count) c.faces-2.ensures.mesh in
     λ d l. subst (λ n. (rotations_of s).origin d < n) (sym count) (names.vertex_below d l)
 
 pub mark-requires-clause-apart : goal.mark-requires-clause-apart
@@ -71,7 +72,7 @@ turn_round-requires-clause-tree c =
     let q : List (Option ℕ) = c.in_ok-face_parents.face_parents.items in
     subst (HasRoot maps) (sym c.deref_mut.ensures.value)
     (cotree_has_root s c.faces.ensures.valid k0 k1 p q (search rules)
-    (rw (c.deref.ensures.value, c.count-vertices.ensures, c.faces-2.ensures.mesh) at c.in_ok-parents.ensures)
+    (rw (c.deref.ensures.value, c.count-vertices.ensures.count, c.faces-2.ensures.mesh) at c.in_ok-parents.ensures)
     (rw c.deref-2.ensures.value at c.mark.ensures)
     (rw (c.deref-3.ensures.value, c.len-faces.ensures.count, c.faces.ensures.mesh) at c.in_ok-face_parents.ensures))
 
@@ -94,7 +95,7 @@ faces_below-requires-clause-apart c =
     let rooted : HasRoot maps c.deref_mut.result.now =
     subst (HasRoot maps) (sym c.deref_mut.ensures.value)
     (cotree_has_root s c.faces.ensures.valid k0 k1 p q (search rules)
-    (rw (c.deref.ensures.value, c.count-vertices.ensures, c.faces-2.ensures.mesh) at c.in_ok-parents.ensures)
+    (rw (c.deref.ensures.value, c.count-vertices.ensures.count, c.faces-2.ensures.mesh) at c.in_ok-parents.ensures)
     (rw c.deref-2.ensures.value at c.mark.ensures)
     (rw (c.deref-3.ensures.value, c.len-faces.ensures.count, c.faces.ensures.mesh) at c.in_ok-face_parents.ensures)) in
     let turned = c.in_ok-turn_round.ensures (λ e. true) rooted.root rooted.finds in
@@ -120,7 +121,7 @@ returns c =
     let q : List (Option ℕ) = c.in_ok-face_parents.face_parents.items in
     let first : k0 ≡ replicate (length s.table) Left = search rules in
     let tree : IsSearched maps maps.origin (λ e. true) s.mesh.count (maps.origin 0) p =
-    rw (c.deref.ensures.value, c.count-vertices.ensures, c.faces-2.ensures.mesh) at c.in_ok-parents.ensures in
+    rw (c.deref.ensures.value, c.count-vertices.ensures.count, c.faces-2.ensures.mesh) at c.in_ok-parents.ensures in
     let marked : IsMarked maps p Tree k0 k1 (length p) = rw c.deref-2.ensures.value at c.mark.ensures in
     let cotree : IsSearched maps maps.face (has_kind k1 Left) (length s.mesh.faces) (maps.face 0) q =
     rw (c.deref-3.ensures.value, c.len-faces.ensures.count, c.faces.ensures.mesh) at c.in_ok-face_parents.ensures in

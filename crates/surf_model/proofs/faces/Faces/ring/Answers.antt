@@ -19,8 +19,8 @@ slice_bounds-result-end c =
       c.self.inside.corners.ok.0,
     )
 
-pub returns : goal.returns
-returns c =
+pub returns-clause-ring : goal.returns-clause-ring
+returns-clause-ring c =
     let s = c.start-start.result in
     let e = c.end-end.result in
     let here = lies_at _ _ _ c.args.self.now c.args.face.0 c.self.invariant c.self.view_is c.requires in
