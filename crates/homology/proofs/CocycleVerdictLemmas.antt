@@ -23,12 +23,12 @@ small_sent : (r : ℤ) → unsigned_abs r ≤ MOST_NUMBER → to_z w64 (of_z w64
 small_sent r h = sent r (omega (arith, h))
 
 -- a sum as the program forms it
-pub added : (s r : ℤ) (k : ℕ) → unsigned_abs s ≤ MOST_NUMBER * k → unsigned_abs r ≤ MOST_NUMBER → k < 2 ^ 31
+pub added : (s r : ℤ) (k : ℕ) → unsigned_abs s ≤ MOST_NUMBER * k → unsigned_abs r ≤ MOST_NUMBER → k < 2 ^ 32
     → to_z w64 (of_z w64 (s +ℤ to_z w64 (of_z w64 r))) ≡ s +ℤ r
 added s r k h l few =
     ap (λ z. to_z w64 (of_z w64 (s +ℤ z))) (small_sent r l) ∙ sent (s +ℤ r) (omega (arith, added_size s r k h l))
 
-pub added_fits : (s r : ℤ) (k : ℕ) → unsigned_abs s ≤ MOST_NUMBER * k → unsigned_abs r ≤ MOST_NUMBER → k < 2 ^ 31
+pub added_fits : (s r : ℤ) (k : ℕ) → unsigned_abs s ≤ MOST_NUMBER * k → unsigned_abs r ≤ MOST_NUMBER → k < 2 ^ 32
     → FitsSigned w64 (s +ℤ to_z w64 (of_z w64 r))
 added_fits s r k h l few =
     subst (λ z. FitsSigned w64 (s +ℤ z)) (sym (small_sent r l))

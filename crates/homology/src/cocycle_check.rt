@@ -70,8 +70,6 @@ fn sum_round(faces: &Faces, sides: &Sides, of_edge: &[i64], face: FaceName) -> i
     requires face { face.0 < length faces.now.faces }
     ensures { (number : ℕ → ℕ → ℤ) → AreNumbersOf sides.now of_edge.now number → result ≡ face_sum faces.now number face.0 }
 {
-    // The proof reads what holds of every mesh.
-    let _ = faces.len();
     let mut sum = 0i64;
     for at in 0..faces.sides(face) {
         let edge = sides.edge_at(Side { face, at });
@@ -88,8 +86,6 @@ fn sum_along(faces: &Faces, sides: &Sides, of_edge: &[i64], walk: &Walk) -> i64
     requires walk { IsWalk faces.now walk.now }
     ensures { (number : ℕ → ℕ → ℤ) → AreNumbersOf sides.now of_edge.now number → result ≡ along (dart_number number) walk.now }
 {
-    // The proof reads what holds of every mesh.
-    let _ = faces.len();
     let mut sum = 0i64;
     for dart in 0..walk.darts() {
         let from = walk.at(dart);

@@ -72,8 +72,6 @@ fn form_edge(faces: &Faces, sides: &Sides, u: VertexName, v: VertexName) -> bool
     requires { IsTableOf faces.now sides.now }
     ensures { result ≡ is_edge faces.now u.0 v.0 }
 {
-    // The proof reads what holds of every mesh.
-    let _ = faces.len();
     sides.between(u, v).is_some()
 }
 

@@ -148,8 +148,6 @@ fn as_face_listed(tree: &FaceTree<'_>, face: FaceName, height: i64) -> i64
     requires small { unsigned_abs height < 2 ^ 63 }
     ensures { result ≡ listed tree.now.surface.now face.0 height }
 {
-    // The proof reads what holds of every surface.
-    let _ = tree.surface.faces();
     if tree.surface.signs().flipped(face) {
         -height
     } else {

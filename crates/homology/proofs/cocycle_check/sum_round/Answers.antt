@@ -5,7 +5,6 @@ use Rattle.surf_model.proofs.OneTableLemmas.{sides_in_table}
 use Rattle.homology.specs.Cocycles.{dart_number}
 use Rattle.homology.specs.declared.certificate.TheConstants.{MOST_NUMBER}
 use Rattle.homology.proofs.AlongLemmas.{first_sides, round-sides}
-use Rattle.homology.proofs.TallyLemmas.{face_few}
 use Rattle.homology.proofs.CocycleVerdictLemmas.{added, added_fits, added_size, round_step}
 use Rattle.homology.proofs.cocycle_check.sum_round.Goals as goal
 
@@ -18,12 +17,7 @@ pub overflow_add-sum : goal.overflow_add-sum
 overflow_add-sum c =
     added_fits (to_z w64 c.loop-at.sum-bits) c.number_of_dart-sum.result c.loop-at.at c.loop-at.invariant.0
     c.number_of_dart-sum.ensures.small
-    (omega (
-      arith,
-      c.loop-at-test.true,
-      c.sides-at-end.ensures,
-      face_few c.args.faces.now c.args.face.0 c.len.ensures.small c.requires.face,
-    ))
+    (omega (arith, c.loop-at-test.true, c.sides-at-end.type_inv))
 
 pub loop-at-init : goal.loop-at-init
 loop-at-init c = (omega arith, λ number are. refl)
@@ -32,10 +26,9 @@ pub loop-at-preserved : goal.loop-at-preserved
 loop-at-preserved c =
     let s : ℤ = to_z w64 c.loop-at.sum-bits in
     let r : ℤ = c.number_of_dart-sum.result in
-    let few = face_few c.args.faces.now c.args.face.0 c.len.ensures.small c.requires.face in
     let is : to_z w64 (of_z w64 (s +ℤ to_z w64 (of_z w64 r))) ≡ s +ℤ r =
     added s r c.loop-at.at c.loop-at.invariant.0 c.number_of_dart-sum.ensures.small
-    (omega (arith, c.loop-at-test.true, c.sides-at-end.ensures, few)) in (
+    (omega (arith, c.loop-at-test.true, c.sides-at-end.type_inv)) in (
       subst (λ z. unsigned_abs z ≤ MOST_NUMBER * (c.loop-at.at + 1)) (sym is)
           (added_size s r c.loop-at.at c.loop-at.invariant.0 c.number_of_dart-sum.ensures.small),
       λ number are.
