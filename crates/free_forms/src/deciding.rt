@@ -1,9 +1,10 @@
 //! Normal walks, and the walks of one class.
-ghost use Rattle.std.specs.Prelude.{◌≡◌, ◌+◌, ◌≤◌, ◌↔◌, IsTrue, IfOk};
+ghost use Rattle.std.specs.Prelude.{◌≡◌, ◌+◌, ◌≤◌, ◌↔◌, IsTrue, IfOk, OnOk};
 ghost use Rattle.surf_model.specs.FaceLists.{total_sides};
 ghost use Rattle.surf_model.specs.Moves.{Homotopic};
 ghost use Rattle.surf_model.specs.Walks.{IsWalk, HaveCommonEnds, darts};
 ghost use Rattle.free_forms.specs.Normal.{IsNormalWalkOf};
+ghost use Rattle.free_forms.specs.Parents.{HasParents};
 ghost use Rattle.free_forms.specs.declared.limits.TheConstants.{MOST_OPEN_SIDES, MOST_OPEN_DARTS};
 
 use crate::open_mesh::OpenMesh;
@@ -16,7 +17,9 @@ pub fn normal(alloc: Global, mesh: &OpenMesh, walk: &Walk) -> Result<Walk, Alloc
     requires walk { IsWalk mesh.now.mesh walk.now }
     requires sides { total_sides mesh.now.mesh ≤ MOST_OPEN_SIDES }
     requires few { darts walk.now ≤ MOST_OPEN_DARTS }
-    ensures { IfOk result (λ other. IsNormalWalkOf mesh.now walk.now other) }
+    ensures normal { IfOk result (λ other. IsNormalWalkOf mesh.now walk.now other) }
+    // What holds of every open mesh.
+    ensures parents { OnOk result (HasParents mesh.now) }
 {
     let reduced = reduce(alloc, mesh, walk)?;
     reduced.into_walk(alloc)
@@ -38,8 +41,6 @@ pub fn same_class(
 {
     let one = normal(alloc, mesh, first)?;
     let two = normal(alloc, mesh, second)?;
-    // The proof reads what holds of every open mesh.
-    let _ = mesh.faces();
     Ok(are_equal(&one, &two))
 }
 

@@ -36,6 +36,8 @@ pub(crate) fn reduce(alloc: Global, mesh: &OpenMesh, walk: &Walk) -> Result<Redu
     ensures few { IfOk result (λ reduction. darts_in (state_of reduction) ≤ MOST_PEAK) }
     ensures short { IfOk result (λ reduction. IsWithin (darts walk.now * MOST_OPEN_SIDES) (state_of reduction).list) }
     ensures done { IfOk result (λ reduction. (state_of reduction).coming ≡ []) }
+    // What holds of every open mesh.
+    ensures parents { OnOk result (HasParents mesh.now) }
 {
     // The proof reads what holds of every open mesh.
     let _ = mesh.faces();

@@ -7,8 +7,8 @@ use Rattle.free_forms.proofs.deciding.same_class.Goals as goal
 pub returns : goal.returns
 returns c =
     let equal : Homotopic c.args.mesh.now.mesh c.args.first.now c.args.second.now ↔ (c.in_ok-one.one ≡ c.in_ok-two.two) =
-    by_normal_walks c.args.mesh.now c.args.first.now c.args.second.now c.in_ok-one.one c.in_ok-two.two c.faces.ensures.parents
-    c.requires.first c.requires.second c.in_ok-one.ensures c.in_ok-two.ensures in (
+    by_normal_walks c.args.mesh.now c.args.first.now c.args.second.now c.in_ok-one.one c.in_ok-two.two c.in_ok-two.ensures.parents
+    c.requires.first c.requires.second c.in_ok-one.ensures.normal c.in_ok-two.ensures.normal in (
       λ same. equal.1 (c.are_equal.ensures.0 same),
       λ joined. c.are_equal.ensures.1 (equal.0 joined),
     )
