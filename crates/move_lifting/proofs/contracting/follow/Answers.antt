@@ -57,10 +57,12 @@ pub front_of_loop-requires-clause-within : goal.front_of_loop-requires-clause-wi
 front_of_loop-requires-clause-within c = omega (arith, (turn (goal.at.front_of_loop-requires-clause-within c).In-Turn).0)
 
 pub front_of_loop-requires-clause-side : goal.front_of_loop-requires-clause-side
-front_of_loop-requires-clause-side c = omega (arith, (below (goal.at.front_of_loop-requires-clause-side c).In-Turn).0, c.degree-last.ensures.degree, c.degree-last.type_inv)
+front_of_loop-requires-clause-side c =
+    omega (arith, (below (goal.at.front_of_loop-requires-clause-side c).In-Turn).0, c.degree-last.ensures.degree, c.degree-last.type_inv)
 
 pub front_of_loop-requires-clause-partner : goal.front_of_loop-requires-clause-partner
-front_of_loop-requires-clause-partner c = omega (arith, (below (goal.at.front_of_loop-requires-clause-partner c).In-Turn).1, c.degree-last.ensures.degree, c.degree-last.type_inv)
+front_of_loop-requires-clause-partner c =
+    omega (arith, (below (goal.at.front_of_loop-requires-clause-partner c).In-Turn).1, c.degree-last.ensures.degree, c.degree-last.type_inv)
 
 -- the spokes that are made stand in front of the loop
 front_is : (c : After-deref)

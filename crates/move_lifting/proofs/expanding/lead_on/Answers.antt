@@ -85,7 +85,8 @@ cross-requires-clause-room c =
     omega (arith, room, mesh, c.requires.room, length-numbers c.pop.new.self.items)
 
 -- along an edge there is room
-room : (c : After-len) → length c.loop-step.track.walk + c.len.result + 1 ≤ length c.args.track.now.walk + darts_of c.args.on.now.surface.now
+room : (c : After-len)
+    → length c.loop-step.track.walk + c.len.result + 1 ≤ length c.args.track.now.walk + darts_of c.args.on.now.surface.now
 room c =
     let popped = one_pending c.loop-step.pending.items c.pop.new.self.items c.in-Some.next c.in-Some.ensures.items in
     let room = room_along c.args.on.now.surface.now c.args.on.now.split.now c.requires.on.split c.args.behind c.args.to.0 c.args.track.now

@@ -170,6 +170,6 @@ returns-clause-peak c =
     _ most (length c.args.turn.now.moves.moves) c.args.turn.now.moves.peak c.args.track.list.peak
     c.insert_there_and_back.new.moves.peak c.raise_moves.new.moves.peak track.list.peak (alike at) clean other apart
     (omega (arith, c.in_ok-insert_there_and_back.ensures.peak, begun, long, entries))
-    (omega (arith, c.len-3.ensures, back (goal.at.returns-clause-peak c).In_ok-back, entries, long)) c.in_ok-raise_moves.ensures.none c.in_ok-raise_moves.ensures.some low few
-    c.darts-around.ensures.starts (is_whole at) rises)
+    (omega (arith, c.len-3.ensures, back (goal.at.returns-clause-peak c).In_ok-back, entries, long))
+    c.in_ok-raise_moves.ensures.none c.in_ok-raise_moves.ensures.some low few c.darts-around.ensures.starts (is_whole at) rises)
     c.reduced.ensures.peak

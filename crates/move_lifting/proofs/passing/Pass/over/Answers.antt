@@ -26,8 +26,8 @@ step-requires-clause-edge c =
     let none : VertexName = record { 0 = 0 } in
     ap (λ (x : ℕ). is_edge c.args.self.now.on.now.surface.now.mesh x (get_or c.args.walk.now c.loop-place.place none).0)
     c.loop-place.invariant.led.last
-    ∙ edge_to c.args.self.now.on.now.surface.now.mesh c.args.walk.now c.requires.walk c.loop-place.place (omega (arith, c.loop-place.auto.place))
-    (omega (arith, c.loop-place-test.true)) none
+    ∙ edge_to c.args.self.now.on.now.surface.now.mesh c.args.walk.now c.requires.walk c.loop-place.place
+    (omega (arith, c.loop-place.auto.place)) (omega (arith, c.loop-place-test.true)) none
 
 pub loop-place-preserved : goal.loop-place-preserved
 loop-place-preserved c =

@@ -74,7 +74,8 @@ put_pending-requires-clause-spare c = omega (arith, spared (goal.at.put_pending-
 pub returns-in_ok-cross-in-Some-clause-spare : goal.returns-in_ok-cross-in-Some-clause-spare
 returns-in_ok-cross-in-Some-clause-spare c =
     let at = (goal.at.returns-in_ok-cross-in-Some-clause-spare c).In_ok-cross-in-Some in
-    on_both c.put_pending.result (λ long cells. omega (arith, long, cells, spared at)) c.put_pending.ensures.long c.put_pending.ensures.cells
+    on_both c.put_pending.result (λ long cells. omega (arith, long, cells, spared at)) c.put_pending.ensures.long
+    c.put_pending.ensures.cells
 
 pub returns-in_ok-cross-in-Some-clause-last : goal.returns-in_ok-cross-in-Some-clause-last
 returns-in_ok-cross-in-Some-clause-last c =
