@@ -3,40 +3,32 @@ use Rattle.turn_words.specs.Modulo.{add}
 use Rattle.turn_words.specs.SpokePaths.{place_round}
 use Rattle.spoke_rings.proofs.Places.{moved-on, moved-round}
 use Rattle.spoke_rings.proofs.ring.moved.Goals as goal
-use Rattle.spoke_rings.proofs.ring.moved.Goals.{then-place-room, else-place-room}
+use Rattle.spoke_rings.proofs.ring.moved.Goals.{then-place-room, else-place-room, Joined-place-room}
+
+-- the place behind is as far on, round the wheel
+is : (c : Joined-place-room)
+    → c.if-place-room.behind ≡ add (length c.args.wheel.now) (place_round c.args.wheel.now c.args.at_vertex c.args.spoke) c.args.by
+is c =
+    let d = length c.args.wheel.now in
+    let p = place_round c.args.wheel.now c.args.at_vertex c.args.spoke in
+    let place = c.place_of-place in
+    elim c.if-place-room.branch [
+      | then-place-room w ↦ w.behind-is
+          ∙ moved-on d p c.args.by place.result place.ensures.place (omega (arith, w.if-place-room.true, c.degree.ensures.degree))
+      | else-place-room w ↦ w.behind-is ∙ ap (λ n. place.result - (n - c.args.by)) c.degree.ensures.degree
+          ∙ moved-round d p c.args.by place.result place.ensures.place c.requires.by (omega (
+            arith,
+            w.if-place-room.false,
+            c.degree.ensures.degree,
+          ))
+    ]
 
 pub returns-then-at_vertex-clause-place : goal.returns-then-at_vertex-clause-place
 returns-then-at_vertex-clause-place c =
-    let places = c.args.wheel.now in
-    let d = length places in
-    let p = place_round places c.args.at_vertex c.args.spoke in
-    let place = c.place_of-place in
-    let is : c.if-place-room.behind ≡ add d p c.args.by = elim c.if-place-room.branch [
-      | then-place-room w ↦ w.behind-is
-          ∙ moved-on d p c.args.by place.result place.ensures.place (omega (arith, w.if-place-room.true, c.degree.ensures.degree))
-      | else-place-room w ↦ w.behind-is ∙ ap (λ n. place.result - (n - c.args.by)) c.degree.ensures.degree
-          ∙ moved-round d p c.args.by place.result place.ensures.place c.requires.by (omega (
-            arith,
-            w.if-place-room.false,
-            c.degree.ensures.degree,
-          ))
-    ] in
-    ap (λ b. place_round places b c.spoke_at.result.0) c.if-at_vertex.true ∙ c.spoke_at.ensures.place ∙ is
+    ap (λ b. place_round c.args.wheel.now b c.spoke_at.result.0) c.if-at_vertex.true ∙ c.spoke_at.ensures.place
+    ∙ is (goal.at.returns-then-at_vertex-clause-place c).Joined-place-room
 
 pub returns-else-at_vertex-clause-place : goal.returns-else-at_vertex-clause-place
 returns-else-at_vertex-clause-place c =
-    let places = c.args.wheel.now in
-    let d = length places in
-    let p = place_round places c.args.at_vertex c.args.spoke in
-    let place = c.place_of-place in
-    let is : c.if-place-room.behind ≡ add d p c.args.by = elim c.if-place-room.branch [
-      | then-place-room w ↦ w.behind-is
-          ∙ moved-on d p c.args.by place.result place.ensures.place (omega (arith, w.if-place-room.true, c.degree.ensures.degree))
-      | else-place-room w ↦ w.behind-is ∙ ap (λ n. place.result - (n - c.args.by)) c.degree.ensures.degree
-          ∙ moved-round d p c.args.by place.result place.ensures.place c.requires.by (omega (
-            arith,
-            w.if-place-room.false,
-            c.degree.ensures.degree,
-          ))
-    ] in
-    ap (λ b. place_round places b c.if-place-room.behind) c.if-at_vertex.false ∙ is
+    ap (λ b. place_round c.args.wheel.now b c.if-place-room.behind) c.if-at_vertex.false
+    ∙ is (goal.at.returns-else-at_vertex-clause-place c).Joined-place-room
