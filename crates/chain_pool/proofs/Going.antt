@@ -111,62 +111,47 @@ module _ (old : PartedChains) (slots : List (Option Cell)) (capacity : ℕ) (fre
     is = get_or-set_other slots x name (Some entry) None (λ e. ne (sym e)) ∙ going.head.is;
   }
 
-  moved_on : (new : List (Option Cell)) (l r : Stack) (parted : Parted)
-      → Edited (with_head slots name left right) (with_head new name l r) capacity free spare name parted
+  -- one entry goes over to the other side
+  goes : (x link value : ℕ) (l r : Stack) (parted : Parted) → x ≢ name
+      → Edited (with_head slots name left right)
+      (set (set (with_head slots name left right) x (Some (Entry link value))) name (Some (Head l r))) capacity free spare name parted
       → joined parted ≡ joined (parted_under (chains_of (with_head slots name left right)) name)
-      → length new ≡ length slots
-      → SameLists old (seen_with new name l r spare free.len) name
-  moved_on new l r parted edited list long =
-      SameLists-more old (seen_with slots name left right spare free.len) (seen_with new name l r spare free.len) name parted going.same
-      edited.edit list
-      (length-map (with_head new name l r) _ ∙ length-set new name _ ∙ long
-      ∙ sym (length-map (with_head slots name left right) _ ∙ length-set slots name _)) refl refl
+      → IsGoing old (set slots x (Some (Entry link value))) capacity free spare name l r
+  goes x link value l r parted ne edits list =
+      let new : List (Option Cell) = set slots x (Some (Entry link value)) in
+      let edited : Edited (with_head slots name left right) (with_head new name l r) capacity free spare name parted =
+      subst (λ (cells : List (Option Cell)). Edited (with_head slots name left right) cells capacity free spare name parted)
+      (head_last x (Entry link value) l r ne) edits in
+      record {
+        head = head_kept x (Entry link value) ne;
+        sound = edited.sound;
+        same = SameLists-more old (seen_with slots name left right spare free.len) (seen_with new name l r spare free.len) name parted
+            going.same edited.edit list
+            (length-map (with_head new name l r) _ ∙ length-set new name _ ∙ length-set slots x _
+            ∙ sym (length-map (with_head slots name left right) _ ∙ length-set slots name _)) refl refl;
+      }
 
   pub going_on : (next value : ℕ) → under slots right.top ≡ Some (Entry next value) → 0 < right.len
       → IsGoing old (set slots right.top (Some (Entry left.top value))) capacity free spare name
       (record { top = right.top; len = left.len + 1 }) (record { top = next; len = right.len - 1 })
   going_on next value here some =
-      let entry = right_entry (with_head slots name left right) capacity free spare going.sound name left right at_name some in
-      let ne = off_head right.top entry in
-      let l : Stack = record { top = right.top; len = left.len + 1 } in
-      let r : Stack = record { top = next; len = right.len - 1 } in
-      let edited : Edited (with_head slots name left right)
-      (with_head (set slots right.top (Some (Entry left.top value))) name l r) capacity free spare name
-      (advanced (parted_under (chains_of (with_head slots name left right)) name)) =
-      subst (λ (cells : List (Option Cell)). Edited (with_head slots name left right) cells capacity free spare name
-      (advanced (parted_under (chains_of (with_head slots name left right)) name)))
-      (head_last right.top (Entry left.top value) l r ne)
-      (advance_edits (with_head slots name left right) capacity free spare going.sound name left right at_name next value
-      (here_too right.top ne ∙ here) some) in
-      record {
-        head = head_kept right.top (Entry left.top value) ne;
-        sound = edited.sound;
-        same = moved_on (set slots right.top (Some (Entry left.top value))) l r _ edited
-            (joined-advanced (parted_under (chains_of (with_head slots name left right)) name)) (length-set slots right.top _);
-      }
+      let now : List (Option Cell) = with_head slots name left right in
+      let ne = off_head right.top (right_entry now capacity free spare going.sound name left right at_name some) in
+      goes right.top left.top value (record { top = right.top; len = left.len + 1 }) (record { top = next; len = right.len - 1 })
+      (advanced (parted_under (chains_of now) name)) ne
+      (advance_edits now capacity free spare going.sound name left right at_name next value (here_too right.top ne ∙ here) some)
+      (joined-advanced (parted_under (chains_of now) name))
 
   pub going_back : (next value : ℕ) → under slots left.top ≡ Some (Entry next value) → 0 < left.len
       → IsGoing old (set slots left.top (Some (Entry right.top value))) capacity free spare name
       (record { top = next; len = left.len - 1 }) (record { top = left.top; len = right.len + 1 })
   going_back next value here some =
-      let entry = left_entry (with_head slots name left right) capacity free spare going.sound name left right at_name some in
-      let ne = off_head left.top entry in
-      let l : Stack = record { top = next; len = left.len - 1 } in
-      let r : Stack = record { top = left.top; len = right.len + 1 } in
-      let edited : Edited (with_head slots name left right)
-      (with_head (set slots left.top (Some (Entry right.top value))) name l r) capacity free spare name
-      (retreated (parted_under (chains_of (with_head slots name left right)) name)) =
-      subst (λ (cells : List (Option Cell)). Edited (with_head slots name left right) cells capacity free spare name
-      (retreated (parted_under (chains_of (with_head slots name left right)) name)))
-      (head_last left.top (Entry right.top value) l r ne)
-      (retreat_edits (with_head slots name left right) capacity free spare going.sound name left right at_name next value
-      (here_too left.top ne ∙ here) some) in
-      record {
-        head = head_kept left.top (Entry right.top value) ne;
-        sound = edited.sound;
-        same = moved_on (set slots left.top (Some (Entry right.top value))) l r _ edited
-            (joined-retreated (parted_under (chains_of (with_head slots name left right)) name)) (length-set slots left.top _);
-      }
+      let now : List (Option Cell) = with_head slots name left right in
+      let ne = off_head left.top (left_entry now capacity free spare going.sound name left right at_name some) in
+      goes left.top right.top value (record { top = next; len = left.len - 1 }) (record { top = left.top; len = right.len + 1 })
+      (retreated (parted_under (chains_of now) name)) ne
+      (retreat_edits now capacity free spare going.sound name left right at_name next value (here_too left.top ne ∙ here) some)
+      (joined-retreated (parted_under (chains_of now) name))
 
   pub gone : (place : ℕ) → left.len ≡ place
       → IsEdit old.chains (chains_of (with_head slots name left right)) name (Some (parted_at (joined
