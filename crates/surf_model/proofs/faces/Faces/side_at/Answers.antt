@@ -19,6 +19,9 @@ returns c =
     (arith, c.part_at-face.ensures.there, length-faces _ _ _ c.args.self.now c.self.view_is) in
     let here = lies_at _ _ _ c.args.self.now f c.self.invariant c.self.view_is few in
     record {
-      side = record { face = few; place = omega (arith, here.size, c.part_at-face.ensures.to, c.part_at-face.ensures.from, c.start.ensures) };
+      side = record {
+        face = few;
+        place = omega (arith, here.size, c.part_at-face.ensures.to, c.part_at-face.ensures.from, c.start.ensures);
+      };
       number = omega (arith, here.first, c.part_at-face.ensures.from, c.start.ensures);
     }
