@@ -1,12 +1,11 @@
-use Rattle.std.proofs.Common.{◌≡◌, ◌++◌, List, ℕ, [], ◌∷◌, ap, sym, ◌∙◌, subst, arith}
-use Rattle.std.specs.Prelude.{All, codes, decimal, flat_map, map}
+use Rattle.std.proofs.Common.{subst, arith}
+use Rattle.std.specs.Prelude.{All, codes}
 use Rattle.std.proofs.lemmas.List.{take_all}
 use Rattle.std.proofs.lemmas.List.Elements.{All-nil}
 use Rattle.std.proofs.lemmas.Result.{err_from_is_err_and}
-use Rattle.text_scan.specs.Plain.{line_of}
-use Rattle.surf_io.proofs.Gathering.{only-none, gathers-none, gathers-put, puts-then, puts-same, each-none, each-more, each-stops, each-all}
+use Rattle.surf_io.proofs.Gathering.{gathers-put, each-none, each-more, each-stops, each-all}
 use Rattle.homology_files.specs.WrittenTexts.{edge_words, EdgeFits}
-use Rattle.homology_files.proofs.WritingLemmas.{edge_line, flat_map-lines, all-next}
+use Rattle.homology_files.proofs.WritingLemmas.{edge_line, puts_behind_head, all-next}
 use Rattle.homology_files.proofs.writing.put_cocycle.Goals as goal
 
 pub loop-k-init : goal.loop-k-init
@@ -14,15 +13,9 @@ loop-k-init g c = (each-none c.args.sink.now c.put_head.new.piece edge_line c.ar
 
 pub returns-in_err-make_room-clause-puts : goal.returns-in_err-make_room-clause-puts
 returns-in_err-make_room-clause-puts g c =
-    let head : List ℕ = line_of (codes "COCYCLE" ∷ decimal c.len.result ∷ []) in
-    let put : c.put_head.new.piece ≡ c.args.piece.now ++ head = c.put_head.ensures ∙ ap (λ p. p ++ head) (sym c.requires) in
     let failed = err_from_is_err_and c.from_residual.result c.from_residual.ensures.1 in
-    puts-same
-    (ap (λ t. head ++ t) (flat_map-lines edge_words c.args.numbers.now)
-    ∙ ap (λ n. line_of (codes "COCYCLE" ∷ decimal n ∷ []) ++ flat_map line_of (map edge_words c.args.numbers.now)) c.len.ensures.count)
-    (puts-then (gathers-put head (gathers-none c.args.sink.now c.args.piece.now) put)
-    (only-none g.K.Sink.settled g.K.Sink.faults c.args.sink.now)
-    (each-stops _ failed.1 c.loop-k.invariant.0 c.in_err-make_room.ensures.puts.failed c.in_err-make_room.ensures.puts.only_writes))
+    puts_behind_head (codes "COCYCLE") c.len.result edge_words c.args.numbers.now c.requires c.put_head.ensures c.len.ensures.count
+    (each-stops _ failed.1 c.loop-k.invariant.0 c.in_err-make_room.ensures.puts.failed c.in_err-make_room.ensures.puts.only_writes)
 
 pub loop-k-preserved : goal.loop-k-preserved
 loop-k-preserved g c = (
@@ -34,14 +27,8 @@ loop-k-preserved g c = (
 
 pub returns-clause-puts : goal.returns-clause-puts
 returns-clause-puts g c =
-    let head : List ℕ = line_of (codes "COCYCLE" ∷ decimal c.len.result ∷ []) in
-    let put : c.put_head.new.piece ≡ c.args.piece.now ++ head = c.put_head.ensures ∙ ap (λ p. p ++ head) (sym c.requires) in
-    puts-same
-    (ap (λ t. head ++ t) (flat_map-lines edge_words c.args.numbers.now)
-    ∙ ap (λ n. line_of (codes "COCYCLE" ∷ decimal n ∷ []) ++ flat_map line_of (map edge_words c.args.numbers.now)) c.len.ensures.count)
-    (puts-then (gathers-put head (gathers-none c.args.sink.now c.args.piece.now) put)
-    (only-none g.K.Sink.settled g.K.Sink.faults c.args.sink.now)
-    (each-all c.loop-k.invariant.0 (omega (arith, c.loop-k-test.false, c.len-k-end.ensures.count))))
+    puts_behind_head (codes "COCYCLE") c.len.result edge_words c.args.numbers.now c.requires c.put_head.ensures c.len.ensures.count
+    (each-all c.loop-k.invariant.0 (omega (arith, c.loop-k-test.false, c.len-k-end.ensures.count)))
 
 pub returns-clause-fits : goal.returns-clause-fits
 returns-clause-fits g c = (
