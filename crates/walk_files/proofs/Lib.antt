@@ -1,4 +1,5 @@
 pub mod EntryLemmas
+pub mod TwoWalkLemmas
 pub mod PairLemmas
 pub mod PairListLemmas
 pub mod ClosedPairLemmas

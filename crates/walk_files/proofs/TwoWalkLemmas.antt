@@ -1,0 +1,103 @@
+-- What is first wrong with two walks, of which something more is asked.
+use Rattle.std.proofs.Common.{◌≡◌, ℕ, ◌<◌, List, [], ◌∷◌, length, Bool, true, false, refl, sym, ap, subst, ◌∙◌, cond, arith}
+use Rattle.std.specs.Prelude.{Option, Some, None, Result, Ok, Err, IsOk, not, option_map, slice_get}
+use Rattle.std.specs.Option.{option_or}
+use Rattle.std.specs.Result.{result_err}
+use Rattle.surf_model.specs.FaceLists.{FaceList}
+use Rattle.surf_model.specs.Walks.{IsWalk}
+use Rattle.walk_files.specs.declared.entries.EntryFault.{EntryFault}
+use Rattle.walk_files.specs.Entries.{vertex_fault, edge_fault, first_fault, walks_fault}
+use Rattle.walk_files.proofs.EntryLemmas.{both_none, none_or, walk_of_none, no_vertex_fault, no_edge_fault}
+
+pub if_none : {A : Type 0} (b : Bool) (x : A) (o : Option A) → cond (not b) (Some x) o ≡ None → (b ≡ true) × (o ≡ None)
+if_none true x o e = (refl, e)
+if_none false x o e = cc
+
+pub two_are : (walks : List (List ℕ)) (a b : List ℕ) → length walks ≡ 2 → slice_get walks 0 ≡ Some a → slice_get walks 1 ≡ Some b
+    → walks ≡ a ∷ b ∷ []
+two_are [] a b e f g = absurd (omega arith)
+two_are (x ∷ []) a b e f g = absurd (omega arith)
+two_are (x ∷ y ∷ []) a b e f g = cc
+two_are (x ∷ y ∷ z ∷ rest) a b e f g = absurd (omega arith)
+
+no_fault : (fault : ℕ → List ℕ → Option EntryFault) (first second : List ℕ) → fault 1 first ≡ None → fault 2 second ≡ None
+    → first_fault fault 1 (first ∷ second ∷ []) ≡ None
+no_fault fault first second one two = none_or (fault 1 first) _ one ∙ none_or (fault 2 second) None two
+
+-- what is first wrong with two walks: an entry, or what is wrong with both of them
+abbrev pub fault_of_two : {F : Type 0} → (EntryFault → F) → (List ℕ → List ℕ → Option F) → FaceList → (a b : List ℕ) → Option F
+fault_of_two of_entry of_both mesh a b = option_or (option_map of_entry (walks_fault mesh (a ∷ b ∷ []))) (of_both a b)
+
+-- `fault_of` says what is first wrong with a list of walks, of two as above
+module _ {F : Type 0} (of_entry : EntryFault → F) (of_both : List ℕ → List ℕ → Option F)
+    (fault_of : FaceList → List (List ℕ) → Option F)
+    (of_two : (mesh : FaceList) (a b : List ℕ) → fault_of mesh (a ∷ b ∷ []) ≡ fault_of_two of_entry of_both mesh a b) where
+  no_entry : (o : Option EntryFault) → option_map of_entry o ≡ None → o ≡ None
+  no_entry None e = refl
+  no_entry (Some fault) e = cc
+
+  -- where nothing is wrong with two lists that have entries, they are walks, and nothing is wrong with both
+  pub walks_of_none : (mesh : FaceList) (first second : List ℕ) → 0 < length first → 0 < length second
+      → fault_of mesh (first ∷ second ∷ []) ≡ None
+      → IsWalk mesh first × IsWalk mesh second × (of_both first second ≡ None)
+  walks_of_none mesh first second some more none =
+      let entries = both_none (option_map of_entry (walks_fault mesh (first ∷ second ∷ []))) (of_both first second)
+      (sym (of_two mesh first second) ∙ none) in
+      let parts = both_none (first_fault (vertex_fault mesh) 1 (first ∷ second ∷ [])) _
+      (no_entry (walks_fault mesh (first ∷ second ∷ [])) entries.0) in
+      let vertices = both_none (vertex_fault mesh 1 first) _ parts.0 in
+      let edges = both_none (edge_fault mesh 1 first) _ parts.1 in (
+        walk_of_none mesh 1 first some vertices.0 edges.0,
+        walk_of_none mesh 2 second more (both_none (vertex_fault mesh 2 second) None vertices.1).0
+            (both_none (edge_fault mesh 2 second) None edges.1).0,
+        entries.1,
+      )
+
+  -- and nothing is wrong with two such walks
+  pub none_of_walks : (mesh : FaceList) (walks : List (List ℕ)) (first second : List ℕ) → walks ≡ first ∷ second ∷ [] → IsWalk mesh first
+      → IsWalk mesh second → of_both first second ≡ None → fault_of mesh walks ≡ None
+  none_of_walks mesh walks first second two one other none =
+      let used = no_fault (vertex_fault mesh) first second (no_vertex_fault mesh 1 first one) (no_vertex_fault mesh 2 second other) in
+      let joined = no_fault (edge_fault mesh) first second (no_edge_fault mesh 1 first one) (no_edge_fault mesh 2 second other) in
+      ap (fault_of mesh) two ∙ of_two mesh first second
+      ∙ ap (λ o. option_or (option_map of_entry o) (of_both first second)) (none_or _ _ used ∙ joined)
+      ∙ none
+
+  -- the fault of an entry is that of the two
+  pub two_fault-entry : (mesh : FaceList) (walks : List (List ℕ)) (fault : EntryFault) → length walks ≡ 2
+      → Some fault ≡ walks_fault mesh walks → Some (of_entry fault) ≡ fault_of mesh walks
+  two_fault-entry mesh [] fault two is = absurd (omega arith)
+  two_fault-entry mesh (a ∷ []) fault two is = absurd (omega arith)
+  two_fault-entry mesh (a ∷ b ∷ []) fault two is =
+      ap (λ o. option_or (option_map of_entry o) (of_both a b)) is ∙ sym (of_two mesh a b)
+  two_fault-entry mesh (a ∷ b ∷ c ∷ rest) fault two is = absurd (omega arith)
+
+  -- where no entry has one, what is wrong with both decides
+  pub two_fault-both : (mesh : FaceList) (walks : List (List ℕ)) (a b : List ℕ) → walks ≡ a ∷ b ∷ [] → None ≡ walks_fault mesh walks
+      → of_both a b ≡ fault_of mesh walks
+  two_fault-both mesh walks a b two is =
+      ap (λ o. option_or (option_map of_entry o) (of_both a b)) (is ∙ ap (walks_fault mesh) two) ∙ sym (of_two mesh a b)
+      ∙ ap (fault_of mesh) (sym two)
+
+  -- A result that says whether something is wrong says whether the walks are such a pair.
+  pub fails_two : (mesh : FaceList) (walks : List (List ℕ)) (ArePair : Type 0) (r : Result (Unit {0}) F) (fault : F) → r ≡ Err fault
+      → result_err r ≡ fault_of mesh walks → (ArePair → fault_of mesh walks ≡ None) → (IsOk r → ArePair) × (ArePair → IsOk r)
+  fails_two mesh walks ArePair r fault is says none_of =
+      let wrong : Some fault ≡ fault_of mesh walks = ap (result_err {T = Unit {0}} {E = F}) (sym is) ∙ says in
+      (λ ok. absurd (no_ok r fault is ok), λ pair. absurd (no_fault_of wrong (none_of pair)))
+    where
+      no_ok : (r : Result (Unit {0}) F) (fault : F) → r ≡ Err fault → IsOk r → ⊥
+      no_ok (Ok x) fault is ok = cc
+      no_ok (Err e) fault is ok = cc
+
+      no_fault_of : Some fault ≡ fault_of mesh walks → fault_of mesh walks ≡ None → ⊥
+      no_fault_of some none = cc
+
+  pub says_two : (mesh : FaceList) (walks : List (List ℕ)) (first second : List ℕ) (ArePair : List (List ℕ) → Type 0)
+      (r : Result (Unit {0}) F) → walks ≡ first ∷ second ∷ [] → result_err r ≡ fault_of mesh walks
+      → (fault_of mesh (first ∷ second ∷ []) ≡ None → ArePair (first ∷ second ∷ []))
+      → (ArePair walks → fault_of mesh walks ≡ None) → (IsOk r → ArePair walks) × (ArePair walks → IsOk r)
+  says_two mesh walks first second ArePair (Ok x) two says of_none none_of =
+      (λ _. subst ArePair (sym two) (of_none (ap (fault_of mesh) (sym two) ∙ sym says)), λ _. refl)
+  says_two mesh walks first second ArePair (Err fault) two says of_none none_of =
+      fails_two mesh walks (ArePair walks) (Err fault) fault (refl {A = Result (Unit {0}) F}) says none_of
