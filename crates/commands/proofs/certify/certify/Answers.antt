@@ -14,9 +14,10 @@ use Rattle.commands.specs.Stops.{Stops}
 use Rattle.commands.specs.declared.stop.Stop.TheVariants.{OutOfMemory}
 use Rattle.commands.proofs.Certifying.{walks_stop, limits_stop, allowed, certificate_found}
 use Rattle.commands.proofs.Checking.{two_walks}
-use Rattle.commands.proofs.Deciding.{walks_of_pair}
+use Rattle.commands.proofs.Deciding.{AreWalks, walks_of_pair}
 use Rattle.commands.proofs.Running.{memory_no_fault, only_then, runs_faulty, runs_replied, runs_stopped, tells_no_fault}
 use Rattle.commands.proofs.certify.certify.Goals as goal
+use Rattle.commands.proofs.certify.certify.Goals.{After-at-second}
 
 pub returns-in_err-pair : goal.returns-in_err-pair
 returns-in_err-pair g c =
@@ -45,17 +46,29 @@ at-second-requires g c =
     let table : IsTableOf surface.faces surface.sides = c.in_ok-surface.ensures.signed.table in
     omega (arith, two_walks _ _ surface.faces c.in_ok-pair.pair.walks (c.in_ok-pair.ensures.reads.end surface.faces table))
 
+-- the two walks are walks of the surface
+walks : (g : _) (c : After-at-second g) → AreWalks c.in_ok-surface.surface.faces c.at-first.result.now c.at-second.result.now
+walks g c =
+    let surface = c.in_ok-surface.surface in
+    let table : IsTableOf surface.faces surface.sides = c.in_ok-surface.ensures.signed.table in
+    walks_of_pair surface.faces c.in_ok-pair.pair.walks c.at-first.result.now c.at-second.result.now
+    (c.in_ok-pair.ensures.pair surface.faces table) c.at-first.ensures c.at-second.ensures
+
+-- their list passes, where the files are as they were at first
+passed : (g : _) (c : After-at-second g)
+    → Passes (pair_in (g.S.Shelf.held c.args.shelf.now) c.args.walks.now c.in_ok-surface.surface.faces) c.in_ok-pair.pair.walks
+passed g c =
+    let surface = c.in_ok-surface.surface in
+    let table : IsTableOf surface.faces surface.sides = c.in_ok-surface.ensures.signed.table in
+    subst (λ (files : Option Files). Passes (pair_in files c.args.walks.now surface.faces) c.in_ok-pair.pair.walks)
+    c.in_ok-surface.ensures.reads.only_reads.same_files (c.in_ok-pair.ensures.reads.end surface.faces table)
+
 pub returns-in_err-check_limits : goal.returns-in_err-check_limits
 returns-in_err-check_limits g c =
     let surface = c.in_ok-surface.surface in
     let pair = c.in_ok-pair.pair.walks in
     let stop = c.in_err-check_limits.field-0.0 in
     let limit = c.in_err-check_limits.ensures in
-    let table : IsTableOf surface.faces surface.sides = c.in_ok-surface.ensures.signed.table in
-    let passed : Passes (pair_in (g.S.Shelf.held c.args.shelf.now) c.args.walks.now surface.faces) pair =
-    subst (λ (files : Option Files). Passes (pair_in files c.args.walks.now surface.faces) pair)
-    c.in_ok-surface.ensures.reads.only_reads.same_files
-    (c.in_ok-pair.ensures.reads.end surface.faces table) in
     let p = err_from_is_err_and c.from_residual-in_err-check_limits.result c.from_residual-in_err-check_limits.ensures.1 in
     let first : walk_at pair 0 ≡ c.at-first.result.now = get_or_from_slice_get pair 0 c.at-first.result.now _ c.at-first.ensures in
     let second : walk_at pair 1 ≡ c.at-second.result.now = get_or_from_slice_get pair 1 c.at-second.result.now _ c.at-second.ensures in
@@ -68,34 +81,18 @@ returns-in_err-check_limits g c =
     (only_then g.S.Shelf.held g.S.Shelf.faults c.args.shelf.now c.read_surface.new.shelf c.read_pair.new.shelf
     c.in_ok-surface.ensures.reads.only_reads c.in_ok-pair.ensures.reads.only_reads) (tells_no_fault (Exactly limit.0) stop limit.2)
     (limits_stop (g.S.Shelf.held c.args.shelf.now) c.args.mesh.now c.args.walks.now surface.faces pair limit.0 stop
-    c.in_ok-surface.ensures.reads.end passed fault limit.2))
+    c.in_ok-surface.ensures.reads.end (passed g (goal.at.returns-in_err-check_limits g c).After-at-second) fault limit.2))
 
 pub find_certificate-requires-clause-first : goal.find_certificate-requires-clause-first
 find_certificate-requires-clause-first g c =
-    let surface = c.in_ok-surface.surface in
-    let pair = c.in_ok-pair.pair.walks in
-    let table : IsTableOf surface.faces surface.sides = c.in_ok-surface.ensures.signed.table in
-    (walks_of_pair surface.faces pair c.at-first.result.now c.at-second.result.now (c.in_ok-pair.ensures.pair surface.faces table)
-    c.at-first.ensures
-    c.at-second.ensures).first_walk
+    (walks g (goal.at.find_certificate-requires-clause-first g c).After-at-second).first_walk
 
 pub find_certificate-requires-clause-second : goal.find_certificate-requires-clause-second
 find_certificate-requires-clause-second g c =
-    let surface = c.in_ok-surface.surface in
-    let pair = c.in_ok-pair.pair.walks in
-    let table : IsTableOf surface.faces surface.sides = c.in_ok-surface.ensures.signed.table in
-    (walks_of_pair surface.faces pair c.at-first.result.now c.at-second.result.now (c.in_ok-pair.ensures.pair surface.faces table)
-    c.at-first.ensures
-    c.at-second.ensures).second_walk
+    (walks g (goal.at.find_certificate-requires-clause-second g c).After-at-second).second_walk
 
 pub find_certificate-requires-clause-ends : goal.find_certificate-requires-clause-ends
-find_certificate-requires-clause-ends g c =
-    let surface = c.in_ok-surface.surface in
-    let pair = c.in_ok-pair.pair.walks in
-    let table : IsTableOf surface.faces surface.sides = c.in_ok-surface.ensures.signed.table in
-    (walks_of_pair surface.faces pair c.at-first.result.now c.at-second.result.now (c.in_ok-pair.ensures.pair surface.faces table)
-    c.at-first.ensures
-    c.at-second.ensures).ends
+find_certificate-requires-clause-ends g c = (walks g (goal.at.find_certificate-requires-clause-ends g c).After-at-second).ends
 
 pub find_certificate-requires-clause-limits : goal.find_certificate-requires-clause-limits
 find_certificate-requires-clause-limits g c =
@@ -105,15 +102,7 @@ pub returns : goal.returns
 returns g c =
     let surface = c.in_ok-surface.surface in
     let pair = c.in_ok-pair.pair.walks in
-    let table : IsTableOf surface.faces surface.sides = c.in_ok-surface.ensures.signed.table in
-    let passed : Passes (pair_in (g.S.Shelf.held c.args.shelf.now) c.args.walks.now surface.faces) pair =
-    subst (λ (files : Option Files). Passes (pair_in files c.args.walks.now surface.faces) pair)
-    c.in_ok-surface.ensures.reads.only_reads.same_files
-    (c.in_ok-pair.ensures.reads.end surface.faces table) in
-    let known =
-    walks_of_pair surface.faces pair c.at-first.result.now c.at-second.result.now (c.in_ok-pair.ensures.pair surface.faces table)
-    c.at-first.ensures
-    c.at-second.ensures in
+    let at = (goal.at.returns g c).After-at-second in
     let first : walk_at pair 0 ≡ c.at-first.result.now = get_or_from_slice_get pair 0 c.at-first.result.now _ c.at-first.ensures in
     let second : walk_at pair 1 ≡ c.at-second.result.now = get_or_from_slice_get pair 1 c.at-second.result.now _ c.at-second.ensures in
     let shown = c.in_ok-shown.shown in
@@ -125,9 +114,8 @@ returns g c =
       answer = certificate_answer surface.faces c.at-first.result.now c.at-second.result.now (decision_of shown);
       passes =
           certificate_found (g.S.Shelf.held c.args.shelf.now) c.args.mesh.now c.args.walks.now surface.faces pair c.at-first.result.now
-          c.at-second.result.now shown c.in_ok-surface.ensures.signed.valid known.first_walk c.in_ok-surface.ensures.reads.end passed
-          first second
-          c.in_ok-check_limits.ensures c.in_ok-shown.ensures.0;
+          c.at-second.result.now shown c.in_ok-surface.ensures.signed.valid (walks g at).first_walk
+          c.in_ok-surface.ensures.reads.end (passed g at) first second c.in_ok-check_limits.ensures c.in_ok-shown.ensures.0;
       is_answer = c.reply_with.ensures surface.faces c.at-first.result.now c.at-second.result.now c.in_ok-shown.ensures;
     })
 
