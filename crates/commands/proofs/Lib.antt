@@ -1,6 +1,5 @@
 pub mod Checking
 pub mod Running
-pub mod Pieces
 pub mod Writing
 pub mod Sound
 pub mod MeshTexts
@@ -9,9 +8,7 @@ pub mod Surfaces
 pub mod Genera
 pub mod Measuring
 pub mod Deciding
-pub mod GatheredLemmas
-pub mod LineByLine
-pub mod WordLines
+pub mod GatheredLines
 pub mod Components
 pub mod Certifying
 pub mod Trying

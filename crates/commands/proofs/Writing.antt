@@ -1,12 +1,15 @@
 -- What is written piece by piece.
-use Rattle.std.proofs.Common.{◌≡◌, ℕ, suc, ◌+◌, ◌<◌, ◌≤◌, List, [], ◌∷◌, ◌++◌, length, get_or, take, drop, sym, ap, ◌∙◌, append_assoc, arith}
+use Rattle.std.proofs.Common.{◌≡◌, ℕ, suc, ◌+◌, ◌<◌, ◌≤◌, List, [], ◌∷◌, ◌++◌, length, get_or, take, drop, sym, ap, subst, ◌∙◌, append_assoc, arith}
 use Rattle.std.specs.Prelude.{Option, Result, Ok, Err, OnOk, OnErr, map, flat_map}
 use Rattle.std.proofs.Math.Seq.{split_at}
 use Rattle.std.proofs.lemmas.List.{take_all, take_more, map-append, append-nil}
 use Rattle.std.proofs.lemmas.Grind.{flat_map-append}
 use Rattle.surf_io.specs.Bytes.{append_told, Appends, AppendsPrefix}
 use Rattle.surf_io.specs.Calls.{OnlyWrites, WroteAll, WrotePart}
+use Rattle.surf_io.specs.Faults.{Rose}
+use Rattle.surf_io.specs.Gathered.{Gathers, Puts}
 use Rattle.surf_io.proofs.Appending.{appends_twice, on_err, part_after, part_first, part_last}
+use Rattle.surf_io.proofs.Gathering.{EachPut, all-written, on_ok, only-then, part-written}
 use Rattle.commands.specs.Lines.{line, behind_blank, in_lines, phrase_text}
 use Rattle.commands.specs.Writes.{Writes}
 use Rattle.commands.specs.declared.line.Phrase.{Phrase}
@@ -25,10 +28,6 @@ AppendsPrefix-whole a b bytes p =
 pub both_err : {X Y P Q R : Type 0} (result : Result X Y) → (P → Q → R) → OnErr result P → OnErr result Q → OnErr result R
 both_err (Ok x) f p q = tt
 both_err (Err e) f p q = f p q
-
-pub both_ok : {X Y P Q : Type 0} (result : Result X Y) → (P → Q) → OnOk result P → OnOk result Q
-both_ok (Ok x) f p = f p
-both_ok (Err e) f p = tt
 
 -- a first phrase, and others behind it
 abbrev pub so_far : Phrase → List Phrase → List ℕ
@@ -86,7 +85,7 @@ pub writes_then : {X V E : Type 0} (written : X → Option (List ℕ)) (settled 
     → Writes written settled faults old new (s ++ t) result
 writes_then written settled faults old mid new s t result first only h =
     record {
-      ok = both_ok result (appends_twice (written old) (written mid) (written new) s t first) h.ok;
+      ok = on_ok result (appends_twice (written old) (written mid) (written new) s t first) h.ok;
       failed = on_err result (part_last written faults old mid new s t first only.never_falls) h.failed;
       only_writes =
           record {
@@ -102,6 +101,57 @@ pub writes_stops : {X V W E F : Type 0} (written : X → Option (List ℕ)) (set
     → Writes {V = W} written settled faults old new whole (Err y)
 writes_stops written settled faults old new s rest whole x y is h =
     record { ok = tt; failed = part_first written faults old new s rest whole is h.failed; only_writes = h.only_writes }
+
+-- ---- a text behind a line
+
+-- the line was written, and the text is the end of the call
+pub writes_behind : {X V E : Type 0} {written : X → Option (List ℕ)} {settled faults : X → ℕ} {old mid new : X} {result : Result V E}
+    {line told : List ℕ} (text : List ℕ) → line ≡ told → WroteAll written old mid line → OnlyWrites settled faults old mid
+    → Writes written settled faults mid new text result → Writes written settled faults old new (told ++ text) result
+writes_behind {X} {V} {E} {written} {settled} {faults} {old} {mid} {new} {result} {line} text is first only h =
+    subst (λ (t : List ℕ). Writes written settled faults old new (t ++ text) result) is
+    (writes_then written settled faults old mid new line text result first only h)
+
+-- the line was not written whole
+pub writes_no_line : {X V W E F : Type 0} {written : X → Option (List ℕ)} {settled faults : X → ℕ} {old new : X} {x : E} {y : F}
+    {line told : List ℕ} (text : List ℕ) → line ≡ told → Writes {V = V} written settled faults old new line (Err x)
+    → Writes {V = W} written settled faults old new (told ++ text) (Err y)
+writes_no_line {X} {V} {W} {E} {F} {written} {settled} {faults} {old} {new} {x} {y} {line} text is h =
+    writes_stops written settled faults old new line text _ x y (ap (λ (t : List ℕ). t ++ text) (sym is)) h
+
+-- ---- a text that was put into a new piece
+
+-- the text was put, and what the piece holds of it is written in the end
+pub writes_put : {X V E : Type 0} {written : X → Option (List ℕ)} {settled faults : X → ℕ} {a b : X} {held left text : List ℕ} (c : X)
+    (result : Result V E) → held ≡ [] → Gathers written a b held left text → OnlyWrites settled faults a b
+    → OnOk result (WroteAll written b c left) → OnErr result (AppendsPrefix (written b) (written c) left)
+    → OnErr result (Rose (faults b) (faults c)) → OnlyWrites settled faults b c → Writes written settled faults a c text result
+writes_put {X} {V} {E} {written} {settled} {faults} {a} {b} {held} {left} {text} c result new gathers only out part fault then = record {
+  ok = all-written c result new gathers out;
+  failed = part-written faults c result new gathers only.never_falls part fault;
+  only_writes = only-then settled faults a b c only then;
+}
+
+-- each of some things was put
+pub writes_each : {X A V E : Type 0} {written : X → Option (List ℕ)} {settled faults : X → ℕ} {a b : X} {held left : List ℕ}
+    {put : A → List ℕ} {all : List A} {k : ℕ} (c : X) (result : Result V E) → held ≡ []
+    → EachPut written settled faults a b held left put all k → length all ≤ k → OnOk result (WroteAll written b c left)
+    → OnErr result (AppendsPrefix (written b) (written c) left) → OnErr result (Rose (faults b) (faults c)) → OnlyWrites settled faults b c
+    → Writes written settled faults a c (flat_map put all) result
+writes_each {X} {A} {V} {E} {written} {settled} {faults} {a} {b} {held} {left} {put} {all} {k} c result new each past out part fault then =
+    writes_put c result new
+    (subst (λ (xs : List A). Gathers written a b held left (flat_map put xs)) (take_all k all past) each.gathers) each.only out part fault
+    then
+
+-- the text could not be put
+pub writes_unput : {X V E : Type 0} {written : X → Option (List ℕ)} {settled faults : X → ℕ} {result : Result V E} {e : E} {a b : X}
+    {held left text : List ℕ} → result ≡ Err e → held ≡ [] → Puts written settled faults result a b held left text
+    → Writes written settled faults a b text result
+writes_unput {X} {V} {E} {written} {settled} {faults} {result} {e} {a} {b} {held} {left} {text} is new puts = record {
+  ok = subst (λ (r : Result V E). OnOk r (WroteAll written a b text)) (sym is) tt;
+  failed = on_err result (subst (WrotePart written faults a b) (ap (λ (h : List ℕ). h ++ text) new)) puts.failed;
+  only_writes = puts.only_writes;
+}
 
 -- one line more
 pub lines-more : (lines : List (List ℕ)) (i : ℕ) (d : List ℕ) → i < length lines

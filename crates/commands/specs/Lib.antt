@@ -17,7 +17,6 @@ pub mod WordTexts
 pub mod Trial
 pub mod Outcomes
 pub mod Statuses
-pub mod Gathered
 pub mod Writes
 pub mod Stops
 pub mod Replies

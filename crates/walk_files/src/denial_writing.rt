@@ -103,8 +103,8 @@ fn put_word<K: Sink>(word: &Word, piece: &mut Piece, sink: &mut K) -> Result<(),
     }
 }
 
-/// Puts the line of a turn word.
-fn put_turns<K: Sink>(word: &TurnWord, piece: &mut Piece, sink: &mut K) -> Result<(), Failed>
+/// Puts the line of a turn word into the piece. What has no room is written out.
+pub fn put_turns<K: Sink>(word: &TurnWord, piece: &mut Piece, sink: &mut K) -> Result<(), Failed>
     ensures puts { Puts K.written K.settled K.faults result sink.old sink.new piece.old piece.new (line_of (entry_words word.now)) }
     // What holds of every value, told as far as it was gone over.
     ensures numbers { OnOk result (AreNumbers word.now) }

@@ -39,7 +39,7 @@ mod words;
 mod write;
 
 pub use certificate::CertHead;
-pub use denial_writing::write_denial;
+pub use denial_writing::{put_turns, write_denial};
 pub use fault::{CertFault, WalkFault};
 pub use limits::{
     MOST_DARTS, MOST_ENTRIES, MOST_LINES, MOST_PEAK, MOST_POWER, MOST_WALK_DARTS,

@@ -1,33 +1,20 @@
-use Rattle.std.proofs.Common.{ℕ, List, ◌++◌, sym, ap, subst}
 use Rattle.std.proofs.lemmas.Result.{err_from_is_err_and}
 use Rattle.homology_files.specs.WrittenTexts.{cert_text}
-use Rattle.commands.specs.Writes.{Writes}
-use Rattle.commands.proofs.Writing.{both_err, writes_then, writes_stops}
+use Rattle.commands.proofs.Writing.{both_err, writes_behind, writes_no_line}
 use Rattle.commands.proofs.text.put_homology.Goals as goal
 
 pub returns-in_err-put_line : goal.returns-in_err-put_line
 returns-in_err-put_line g c =
     let p = err_from_is_err_and c.from_residual.result c.from_residual.ensures.1 in
-    let behind = cert_text c.args.shown.now in
-    rw p.1
-    (writes_stops g.K.Sink.written g.K.Sink.settled g.K.Sink.faults c.args.out.now c.put_line.new.out c.line_for.result behind _ _ _
-    (ap (λ (t : List ℕ). t ++ behind) (sym c.line_for.ensures)) c.in_err-put_line.ensures)
+    rw p.1 (writes_no_line (cert_text c.args.shown.now) c.line_for.ensures c.in_err-put_line.ensures)
 
 pub returns : goal.returns
 returns g c =
-    let behind = cert_text c.args.shown.now in
-    subst
-    (λ (t : List ℕ). Writes g.K.Sink.written g.K.Sink.settled g.K.Sink.faults c.args.out.now c.write_homology.new.sink (t ++ behind)
-    c.write_homology.result)
-    c.line_for.ensures
-    (writes_then g.K.Sink.written g.K.Sink.settled g.K.Sink.faults c.args.out.now c.put_line.new.out c.write_homology.new.sink
-    c.line_for.result behind
-    c.write_homology.result c.in_ok-put_line.ensures.ok c.in_ok-put_line.ensures.only_writes
+    writes_behind (cert_text c.args.shown.now) c.line_for.ensures c.in_ok-put_line.ensures.ok c.in_ok-put_line.ensures.only_writes
     (record {
       ok = c.write_homology.ensures.ok;
       failed =
           both_err c.write_homology.result (λ part fault. record { part = part; fault = fault }) c.write_homology.ensures.failed
           c.write_homology.ensures.failed_only_on_fault;
-      only_writes =
-          record { same_settled = c.write_homology.ensures.same_settled; never_falls = c.write_homology.ensures.never_falls };
-    }))
+      only_writes = record { same_settled = c.write_homology.ensures.same_settled; never_falls = c.write_homology.ensures.never_falls };
+    })

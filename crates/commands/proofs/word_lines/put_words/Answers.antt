@@ -1,74 +1,45 @@
-use Rattle.std.proofs.Common.{◌≡◌, ◌<◌, ◌≤◌, List, [], ℕ, length, get_or, subst, ◌∙◌, arith}
-use Rattle.std.proofs.lemmas.List.{take_all}
+use Rattle.std.proofs.Common.{◌≡◌, ◌<◌, ◌≤◌, List, [], ℕ, Some, length, get_or, refl, subst}
+use Rattle.std.specs.Prelude.{slice_get}
+use Rattle.std.proofs.lemmas.Option.{slice_get_read}
 use Rattle.std.proofs.lemmas.Result.{err_from_is_err_and}
-use Rattle.surf_io.proofs.Appending.{on_err}
-use Rattle.commands.specs.Gathered.{Gathers}
-use Rattle.commands.specs.WordTexts.{word_line, words_text}
-use Rattle.commands.proofs.GatheredLemmas.{gathers-all}
-use Rattle.commands.proofs.Writing.{both_ok}
-use Rattle.commands.proofs.LineByLine.{lines-more-put, lines-stop, lines-stop_last}
+use Rattle.surf_io.proofs.Gathering.{each-none, each-more, each-fails, puts-same}
+use Rattle.commands.specs.WordTexts.{word_line}
+use Rattle.commands.proofs.GatheredLines.{word_line-put}
+use Rattle.commands.proofs.Writing.{writes_each, writes_unput}
 use Rattle.commands.proofs.word_lines.put_words.Goals as goal
 
-pub returns-in_err-put_word : goal.returns-in_err-put_word
-returns-in_err-put_word g c =
-    let value : c.deref-word-items.result.now ≡ c.args.words.now.items = c.deref-word-items.ensures.value in
-    let p = err_from_is_err_and c.from_residual.result c.from_residual.ensures.1 in
-    let only = c.in_err-put_word.ensures.only_writes in
-    rw p.1 (record {
-      ok = tt;
-      failed =
-          lines-stop word_line g.K.Sink.written g.K.Sink.faults c.args.out.now c.loop-word.out c.put_word.new.out c.loop-word.piece
-          c.args.words.now.items
-          c.loop-word.word-index c.word-item.result (subst (λ (t : List (List ℕ)). c.loop-word.word-index < length t) value
-          c.loop-word-test.true)
-          (subst (λ (t : List (List ℕ)). c.word-item.result ≡ get_or t c.loop-word.word-index c.word-item.result) value c.word-item.is)
-          c.loop-word.invariant.gathers c.loop-word.invariant.never_falls c.in_err-put_word.ensures.failed;
-      only_writes =
-          record {
-            same_settled = only.same_settled ∙ c.loop-word.invariant.same_settled;
-            never_falls = omega (arith, c.loop-word.invariant.never_falls, only.never_falls);
-          };
-    })
+pub loop-word-init : goal.loop-word-init
+loop-word-init g c = each-none c.args.out.now c.new-piece.result word_line c.args.words.now.items
+
+pub returns-in_err-put_turns : goal.returns-in_err-put_turns
+returns-in_err-put_turns g c =
+    let items = c.args.words.now.items in
+    let word = c.word-item.result in
+    let value : c.deref-word-items.result.now ≡ items = c.deref-word-items.ensures.value in
+    let here : slice_get items c.loop-word.word-index ≡ Some word =
+    slice_get_read items (length items) c.loop-word.word-index word refl
+    (subst (λ (t : List (List ℕ)). c.loop-word.word-index < length t) value c.loop-word-test.true)
+    (subst (λ (t : List (List ℕ)). word ≡ get_or t c.loop-word.word-index word) value c.word-item.is) in
+    let failed = err_from_is_err_and c.from_residual.result c.from_residual.ensures.1 in
+    let puts = puts-same (word_line-put word) c.in_err-put_turns.ensures.puts in
+    writes_unput failed.1 c.new-piece.ensures (each-fails [] failed.1 c.loop-word.invariant here puts.failed puts.only_writes)
 
 pub loop-word-preserved : goal.loop-word-preserved
 loop-word-preserved g c =
-    let value : c.deref-word-items.result.now ≡ c.args.words.now.items = c.deref-word-items.ensures.value in
-    record {
-      gathers =
-          lines-more-put word_line g.K.Sink.written c.args.out.now c.loop-word.out c.put_word.new.out c.loop-word.piece c.put_word.new.piece
-          c.args.words.now.items
-          c.loop-word.word-index c.word-item.result (subst (λ (t : List (List ℕ)). c.loop-word.word-index < length t) value
-          c.loop-word-test.true)
-          (subst (λ (t : List (List ℕ)). c.word-item.result ≡ get_or t c.loop-word.word-index c.word-item.result) value c.word-item.is)
-          c.loop-word.invariant.gathers c.in_ok-put_word.ensures.ok;
-      never_falls = omega (arith, c.loop-word.invariant.never_falls, c.in_ok-put_word.ensures.only_writes.never_falls);
-      same_settled = c.in_ok-put_word.ensures.only_writes.same_settled ∙ c.loop-word.invariant.same_settled;
-    }
+    let items = c.args.words.now.items in
+    let word = c.word-item.result in
+    let value : c.deref-word-items.result.now ≡ items = c.deref-word-items.ensures.value in
+    let here : slice_get items c.loop-word.word-index ≡ Some word =
+    slice_get_read items (length items) c.loop-word.word-index word refl
+    (subst (λ (t : List (List ℕ)). c.loop-word.word-index < length t) value c.loop-word-test.true)
+    (subst (λ (t : List (List ℕ)). word ≡ get_or t c.loop-word.word-index word) value c.word-item.is) in
+    let puts = puts-same (word_line-put word) c.in_ok-put_turns.ensures.puts in
+    each-more c.loop-word.invariant here puts.ok puts.only_writes
 
 pub returns : goal.returns
 returns g c =
     let value : c.deref-word-items.result.now ≡ c.args.words.now.items = c.deref-word-items.ensures.value in
-    let past = subst (λ (t : List (List ℕ)). length t ≤ c.loop-word.word-index) value c.loop-word-test.false in
-    let all = take_all c.loop-word.word-index c.args.words.now.items past in
-    let only = c.write_piece.ensures.only_writes in
-    let gathers : Gathers g.K.Sink.written c.args.out.now c.loop-word.out [] c.loop-word.piece (words_text c.args.words.now.items) =
-    subst (λ (t : List (List ℕ)). Gathers g.K.Sink.written c.args.out.now c.loop-word.out [] c.loop-word.piece (words_text t)) all
-    c.loop-word.invariant.gathers in
-    record {
-      ok =
-          both_ok c.write_piece.result
-          (gathers-all g.K.Sink.written c.args.out.now c.loop-word.out c.write_piece.new.out c.loop-word.piece
-          (words_text c.args.words.now.items)
-          gathers) c.write_piece.ensures.ok;
-      failed =
-          on_err c.write_piece.result
-          (lines-stop_last word_line g.K.Sink.written g.K.Sink.faults c.args.out.now c.loop-word.out c.write_piece.new.out c.loop-word.piece
-          c.args.words.now.items
-          c.loop-word.word-index all c.loop-word.invariant.gathers c.loop-word.invariant.never_falls)
-          c.write_piece.ensures.failed;
-      only_writes =
-          record {
-            same_settled = only.same_settled ∙ c.loop-word.invariant.same_settled;
-            never_falls = omega (arith, c.loop-word.invariant.never_falls, only.never_falls);
-          };
-    }
+    let out = c.write_out.ensures in
+    writes_each c.write_out.new.sink c.write_out.result c.new-piece.ensures c.loop-word.invariant
+    (subst (λ (t : List (List ℕ)). length t ≤ c.loop-word.word-index) value c.loop-word-test.false) out.ok out.failed
+    out.failed_only_on_fault (record { same_settled = out.same_settled; never_falls = out.never_falls })

@@ -1,13 +1,9 @@
-use Rattle.std.proofs.Common.{◌≡◌, ◌≤◌, [], take}
-use Rattle.commands.specs.Gathered.{Gathers}
-use Rattle.commands.specs.WordTexts.{words_text}
+use Rattle.surf_io.proofs.Gathering.{EachPut}
+use Rattle.commands.specs.WordTexts.{word_line}
 use Rattle.commands.proofs.word_lines.put_words.Given as goal
 
 -- the lines of the words so far were put
 abbrev pub invariant-loop-word : goal.invariant-loop-word
 invariant-loop-word g l =
-    record {
-      gathers : Gathers g.K.Sink.written l.fn.out l.out [] l.piece (words_text (take l.word-index l.words.items));
-      never_falls : g.K.Sink.faults l.fn.out ≤ g.K.Sink.faults l.out;
-      same_settled : g.K.Sink.settled l.out ≡ g.K.Sink.settled l.fn.out;
-    }
+    EachPut g.K.Sink.written g.K.Sink.settled g.K.Sink.faults l.initial.out l.out l.initial.piece l.piece word_line l.words.items
+    l.word-index
