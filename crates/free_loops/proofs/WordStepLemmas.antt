@@ -273,8 +273,8 @@ module _ (places : List ℕ) (full : IsFullWheel places) where
       → add (length places) (place_round places v k) (minus (length places) m) ≡ first
       → add (length places) (place_round places (not v) l) (minus (length places) (place_round places (not v) k)) ≡ second
       → add (length places) (place_round places v j) (minus (length places) (place_round places v l)) ≡ x
-      → first ∷ second ∷ next_changed (length places) x (turns_counted places (place_round places (not (not v)) j) (not (not v)) rest) ≡ word
-      → LeadsBehind places v (i ∷ j ∷ rest) (k ∷ l ∷ rest) → Lifted places v m (i ∷ j ∷ rest) word
+      → first ∷ second ∷ next_changed (length places) x (turns_counted places (place_round places (not (not v)) j) (not (not v)) rest)
+      ≡ word → LeadsBehind places v (i ∷ j ∷ rest) (k ∷ l ∷ rest) → Lifted places v m (i ∷ j ∷ rest) word
   replaced v m i j k l first second x rest word m_in h k_in l_in one two three is leads =
       let d : ℕ = length places in
       let behind : turns_counted places (place_round places (not (not v)) l) (not (not v)) rest

@@ -9,8 +9,8 @@ cyclic_form-requires-clause-spokes c =
     rw c.in-Turns.is at c.in_ok-word.ensures in
     let spelled = rw c.wheel.ensures at c.in_ok-spokes.ensures in
     rw (c.wheel-2.ensures, c.deref.ensures.value)
-    (spelled_loop c.args.faces.now c.args.good.now c.requires.good c.requires.full c.args.walk.now c.in-Turns.word c.in_ok-spokes.spokes.items
-    word spelled.below spelled.word)
+    (spelled_loop c.args.faces.now c.args.good.now c.requires.good c.requires.full c.args.walk.now c.in-Turns.word
+    c.in_ok-spokes.spokes.items word spelled.below spelled.word)
 
 pub returns-clause-form : goal.returns-clause-form
 returns-clause-form c =
