@@ -1,4 +1,4 @@
-use Rattle.std.proofs.Common.{◌∷◌, [], sym, ◌∙◌, ap, subst, arith}
+use Rattle.std.proofs.Common.{◌<◌, ◌≤◌, ◌∷◌, [], sym, ◌∙◌, ap, subst, arith}
 use Rattle.surf_model.specs.declared.names.FaceName.{FaceName}
 use Rattle.orientation.specs.Chains.{IsOddChain}
 use Rattle.orientation.specs.Trees.{IsFoundFrom}
@@ -6,6 +6,7 @@ use Rattle.orientation.proofs.SearchLemmas.{seen_below}
 use Rattle.orientation.proofs.TreeLemmas.{few_faces}
 use Rattle.orientation.proofs.ClimbLemmas.{IsClimb, climb_first, climb_last, found_up, found_down, climbed_up, climbed_down, apart_from_test, same_from_test}
 use Rattle.orientation.proofs.climb.chain_round.Goals as goal
+use Rattle.orientation.proofs.climb.chain_round.Goals.{After-place-other_place}
 
 pub loop-face-init : goal.loop-face-init
 loop-face-init c =
@@ -32,28 +33,33 @@ place-other_place-requires c =
       c.requires.trees.each_face,
     )
 
+-- the place that is deeper was found from the next one
+up : (c : After-place-other_place) → c.place-other_place.result.depth ≤ c.place-place.result.depth
+    → IsFoundFrom c.args.faces.now c.args.trees.now c.loop-face.face.0 c.place-place.result.from
+up c deep =
+    found_up c.args.faces.now c.args.trees.now c.args.tear.other.face.0 c.loop-face.chain c.loop-face.down.items c.loop-face.face.0
+    c.loop-face.other.0 c.place-place.result c.place-other_place.result c.requires.trees c.loop-face.invariant
+    (apart_from_test c.loop-face.face.0 c.loop-face.other.0 (sym c.ne.ensures ∙ c.loop-face-test.true))
+    c.place-place.ensures c.place-other_place.ensures deep
+
+down : (c : After-place-other_place) → c.place-place.result.depth < c.place-other_place.result.depth
+    → IsFoundFrom c.args.faces.now c.args.trees.now c.loop-face.other.0 c.place-other_place.result.from
+down c deep =
+    found_down c.args.faces.now c.args.trees.now c.args.tear.other.face.0 c.loop-face.chain c.loop-face.down.items c.loop-face.face.0
+    c.loop-face.other.0 c.place-place.result c.place-other_place.result c.requires.trees c.loop-face.invariant
+    (apart_from_test c.loop-face.face.0 c.loop-face.other.0 (sym c.ne.ensures ∙ c.loop-face-test.true))
+    c.place-place.ensures c.place-other_place.ensures deep
+
 pub link-requires-then-place-other_place-clause-side : goal.link-requires-then-place-other_place-clause-side
 link-requires-then-place-other_place-clause-side c =
-    let found : IsFoundFrom c.args.faces.now c.args.trees.now c.loop-face.face.0 c.place-place.result.from =
-    found_up c.args.faces.now c.args.trees.now c.args.tear.other.face.0 c.loop-face.chain c.loop-face.down.items c.loop-face.face.0
-    c.loop-face.other.0 c.place-place.result c.place-other_place.result
-    c.requires.trees c.loop-face.invariant
-    (apart_from_test c.loop-face.face.0 c.loop-face.other.0 (sym c.ne.ensures ∙ c.loop-face-test.true))
-    c.place-place.ensures c.place-other_place.ensures c.if-place-other_place.true in
-    found.partners.first
+    (up (goal.at.link-requires-then-place-other_place-clause-side c).After-place-other_place c.if-place-other_place.true).partners.first
 
 pub push-requires : goal.push-requires
 push-requires c = omega (arith, c.loop-face.invariant.size, few_faces c.args.faces.now c.requires.trees.mesh_is c.requires.trees.small)
 
 pub link-requires-else-place-other_place-clause-side : goal.link-requires-else-place-other_place-clause-side
 link-requires-else-place-other_place-clause-side c =
-    let found : IsFoundFrom c.args.faces.now c.args.trees.now c.loop-face.other.0 c.place-other_place.result.from =
-    found_down c.args.faces.now c.args.trees.now c.args.tear.other.face.0 c.loop-face.chain c.loop-face.down.items c.loop-face.face.0
-    c.loop-face.other.0 c.place-place.result c.place-other_place.result
-    c.requires.trees c.loop-face.invariant
-    (apart_from_test c.loop-face.face.0 c.loop-face.other.0 (sym c.ne.ensures ∙ c.loop-face-test.true))
-    c.place-place.ensures c.place-other_place.ensures c.if-place-other_place.false in
-    found.partners.first
+    (down (goal.at.link-requires-else-place-other_place-clause-side c).After-place-other_place c.if-place-other_place.false).partners.first
 
 pub push_reversed-requires : goal.push_reversed-requires
 push_reversed-requires c =
@@ -61,50 +67,28 @@ push_reversed-requires c =
 
 pub loop-face-smaller-then-place-other_place : goal.loop-face-smaller-then-place-other_place
 loop-face-smaller-then-place-other_place c =
-    let found : IsFoundFrom c.args.faces.now c.args.trees.now c.loop-face.face.0 c.place-place.result.from =
-    found_up c.args.faces.now c.args.trees.now c.args.tear.other.face.0 c.loop-face.chain c.loop-face.down.items c.loop-face.face.0
-    c.loop-face.other.0 c.place-place.result c.place-other_place.result
-    c.requires.trees c.loop-face.invariant
-    (apart_from_test c.loop-face.face.0 c.loop-face.other.0 (sym c.ne.ensures ∙ c.loop-face-test.true))
-    c.place-place.ensures c.place-other_place.ensures c.if-place-other_place.true in
-    omega (arith, found.deeper)
+    omega (arith, (up (goal.at.loop-face-smaller-then-place-other_place c).After-place-other_place c.if-place-other_place.true).deeper)
 
 pub loop-face-preserved-then-place-other_place : goal.loop-face-preserved-then-place-other_place
 loop-face-preserved-then-place-other_place c =
-    let found : IsFoundFrom c.args.faces.now c.args.trees.now c.loop-face.face.0 c.place-place.result.from =
-    found_up c.args.faces.now c.args.trees.now c.args.tear.other.face.0 c.loop-face.chain c.loop-face.down.items c.loop-face.face.0
-    c.loop-face.other.0 c.place-place.result c.place-other_place.result
-    c.requires.trees c.loop-face.invariant
-    (apart_from_test c.loop-face.face.0 c.loop-face.other.0 (sym c.ne.ensures ∙ c.loop-face-test.true))
-    c.place-place.ensures c.place-other_place.ensures c.if-place-other_place.true in
     climbed_up c.args.faces.now c.args.trees.now c.args.tear.other.face.0 c.loop-face.chain c.loop-face.down.items c.loop-face.face.0
     c.loop-face.other.0 c.link-then-place-other_place.result
-    c.place-place.result c.push.new.self c.requires.two c.loop-face.invariant c.place-place.ensures found
+    c.place-place.result c.push.new.self c.requires.two c.loop-face.invariant c.place-place.ensures
+    (up (goal.at.loop-face-preserved-then-place-other_place c).After-place-other_place c.if-place-other_place.true)
     c.link-then-place-other_place.ensures.edge
     (ap (λ (f : FaceName). f.0) c.link-then-place-other_place.ensures.face) c.in_ok-push.ensures.ok
 
 pub loop-face-smaller : goal.loop-face-smaller
 loop-face-smaller c =
-    let found : IsFoundFrom c.args.faces.now c.args.trees.now c.loop-face.other.0 c.place-other_place.result.from =
-    found_down c.args.faces.now c.args.trees.now c.args.tear.other.face.0 c.loop-face.chain c.loop-face.down.items c.loop-face.face.0
-    c.loop-face.other.0 c.place-place.result c.place-other_place.result
-    c.requires.trees c.loop-face.invariant
-    (apart_from_test c.loop-face.face.0 c.loop-face.other.0 (sym c.ne.ensures ∙ c.loop-face-test.true))
-    c.place-place.ensures c.place-other_place.ensures c.if-place-other_place.false in
-    omega (arith, found.deeper)
+    omega (arith, (down (goal.at.loop-face-smaller c).After-place-other_place c.if-place-other_place.false).deeper)
 
 pub loop-face-preserved : goal.loop-face-preserved
 loop-face-preserved c =
-    let found : IsFoundFrom c.args.faces.now c.args.trees.now c.loop-face.other.0 c.place-other_place.result.from =
-    found_down c.args.faces.now c.args.trees.now c.args.tear.other.face.0 c.loop-face.chain c.loop-face.down.items c.loop-face.face.0
-    c.loop-face.other.0 c.place-place.result c.place-other_place.result
-    c.requires.trees c.loop-face.invariant
-    (apart_from_test c.loop-face.face.0 c.loop-face.other.0 (sym c.ne.ensures ∙ c.loop-face-test.true))
-    c.place-place.ensures c.place-other_place.ensures c.if-place-other_place.false in
     climbed_down c.args.faces.now c.args.trees.now c.args.tear.other.face.0 c.loop-face.chain c.loop-face.down.items c.loop-face.face.0
     c.loop-face.other.0 c.link-else-place-other_place.result
     c.place-other_place.result c.push-else-place-other_place.new.self.items c.requires.two c.loop-face.invariant
-    c.place-other_place.ensures found c.link-else-place-other_place.ensures.edge
+    c.place-other_place.ensures
+    (down (goal.at.loop-face-preserved c).After-place-other_place c.if-place-other_place.false) c.link-else-place-other_place.ensures.edge
     (ap (λ (f : FaceName). f.0) c.link-else-place-other_place.ensures.face) c.in_ok-push-2.ensures.items
 
 pub returns : goal.returns
