@@ -51,8 +51,6 @@ pub fn signed_mesh(alloc: Global, faces: Faces) -> Result<SignedMesh, Stop>
     ensures least_kept { IfOk result (λ surface. IsLeastKept surface.faces surface.signs) }
     ensures no_fault { result ≡ Err Stop.ReadFault → ⊥ }
 {
-    // The proof reads what holds of every face list.
-    let _ = faces.len();
     let sides = Sides::build(alloc, &faces)?;
     check_surface(alloc, &faces, &sides)?;
     let signs = find_signs(alloc, &faces, &sides)?;

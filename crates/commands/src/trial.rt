@@ -156,8 +156,6 @@ fn decide_pair(
     ensures end { Ends (pair_decided surface.now.mesh grid which) result }
     ensures no_fault { result ≡ Err Stop.ReadFault → ⊥ }
 {
-    // The proof reads what holds of every surface.
-    let _ = surface.faces();
     let WalkPair { first, second } = trial_pair(alloc, genus, grid, which)?;
     let pair = WalkList::pair(alloc, first, second)?;
     check_pair(surface.sides(), &pair)?;

@@ -84,7 +84,10 @@ impl Surface {
 
     /// The table of the edges.
     pub fn sides(&self) -> &Sides
-        ensures { result.now ≡ self.now.table }
+        ensures table { result.now ≡ self.now.table }
+        // What holds of every surface.
+        ensures valid { IsOrientedSurface self.now }
+        ensures small { HasFileSize self.now.mesh }
     {
         &self.sides
     }

@@ -111,8 +111,6 @@ fn list_edges(
     ensures lists { IfOk result (ListsEdges surface.now.table (number_at numbers.now) (length numbers.now)) }
     ensures valid { IfOk result AreEdgeNumbers }
 {
-    // The proof reads what holds of every surface.
-    let _ = surface.faces();
     let mut lines = CocycleNumbers::new(alloc);
     for edge in 0..numbers.len() {
         let number = numbers.at(edge);

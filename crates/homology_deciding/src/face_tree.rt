@@ -75,8 +75,6 @@ fn keep_darts(ups: &mut [Option<DartName>], surface: &Surface, split: &Split)
     requires none { (f : ℕ) → up_of ups.old f ≡ None }
     ensures { IsTreeOfFaces surface.now split.now.root_face ups.new }
 {
-    // The proof reads what holds of every surface.
-    let _ = surface.faces();
     for edge in 0..surface.sides().len() {
         keep_dart(ups, surface, split, EdgeName(edge));
     }

@@ -46,8 +46,6 @@ pub(crate) fn surface_of_arrays(alloc: Global, mesh: MeshArrays<'_>) -> Result<S
 fn surface_of(alloc: Global, faces: Faces) -> Result<SignedMesh, Fault>
     ensures { MatchResult result (IsSurfaceOf faces) (λ fault. (fault ≡ Fault.OutOfMemory) ⊎ IsSurfaceFault faces fault) }
 {
-    // The proof reads what holds of every face list.
-    let _ = faces.len();
     let sides = Sides::build(alloc, &faces)?;
     check_closed(alloc, &faces, &sides)?;
     let signs = find_signs(alloc, &faces, &sides)?;

@@ -116,8 +116,6 @@ fn verify_on(
     ensures { MatchResult result (JudgesWalks faces.now first.now second.now certificate.now)
         (IsFaultOfWalks faces.now first.now second.now certificate.now) }
 {
-    // The proof reads what holds of every face list.
-    let _ = faces.len();
     let sides = Sides::build(alloc, faces)?;
     let on = Tabled {
         faces,

@@ -30,8 +30,6 @@ pub fn walk_on(
 fn is_walk(surface: &Surface, vertices: &[u32]) -> bool
     ensures { IsTrue result ↔ IsWalk surface.now.mesh vertices.now }
 {
-    // The proof reads what holds of every surface.
-    let _ = surface.faces();
     for place in 0..vertices.len() {
         let vertex = VertexName(vertices[place]);
         if !surface.sides().used(vertex) {

@@ -78,8 +78,6 @@ impl Decider {
     pub fn sides(&self) -> &Sides
         ensures { IsTableOf self.now result.now }
     {
-        // The proof reads what holds of every surface.
-        let _ = self.surface.faces();
         self.surface.sides()
     }
 

@@ -99,8 +99,6 @@ impl Spoked<'_> {
             ≡ led F.next self.now.good.now.places (F.state form.old)
             (quad_path self.now.surface.now.mesh self.now.good.now walk.now)) }
     {
-        // The proof reads what holds of every surface.
-        let _ = self.surface.faces();
         let sides = self.surface.sides();
         if !sides.used(walk.at(0)) {
             return Ok(false);

@@ -18,7 +18,7 @@ returns-in_err-check_pair-clause-end c =
     let mesh = c.args.surface.now.mesh in
     let fault = c.in_err-check_pair.field-0.0 in
     let p = err_from_is_err_and c.from_residual-in_err-check_pair.result c.from_residual-in_err-check_pair.ensures.1 in
-    let table : IsTableOf mesh c.sides.result.now = rw c.sides.ensures c.faces.ensures.valid.table in
+    let table : IsTableOf mesh c.sides.result.now = rw c.sides.ensures.table c.sides.ensures.valid.table in
     let walks : c.in_ok-pair.pair.walks ≡ pair_walks c.args.grid c.args.which =
     ap (λ (list : WalkText). list.walks) c.in_ok-pair.ensures ∙ cc (c.in_ok-first.ensures.first, c.in_ok-first.ensures.second) in
     let found : Some fault ≡ pair_fault mesh c.in_ok-pair.pair.walks = c.in_err-check_pair.ensures.fault mesh table in
@@ -28,7 +28,7 @@ returns-in_err-check_pair-clause-end c =
 walks : (c : goal.After-at-2) → AreWalks c.args.surface.now.mesh c.at.result.now c.at-2.result.now
 walks c =
     let mesh = c.args.surface.now.mesh in
-    let table : IsTableOf mesh c.sides.result.now = rw c.sides.ensures c.faces.ensures.valid.table in
+    let table : IsTableOf mesh c.sides.result.now = rw c.sides.ensures.table c.sides.ensures.valid.table in
     walks_of_pair mesh c.in_ok-pair.pair.walks c.at.result.now c.at-2.result.now ((c.in_ok-check_pair.ensures.pair mesh table).0 refl)
     c.at.ensures c.at-2.ensures
 
@@ -45,7 +45,7 @@ pub returns-clause-end : goal.returns-clause-end
 returns-clause-end c =
     let mesh = c.args.surface.now.mesh in
     let decision = c.in_ok-decide.field-0 in
-    let table : IsTableOf mesh c.sides.result.now = rw c.sides.ensures c.faces.ensures.valid.table in
+    let table : IsTableOf mesh c.sides.result.now = rw c.sides.ensures.table c.sides.ensures.valid.table in
     let same : c.in_ok-pair.pair.walks ≡ pair_walks c.args.grid c.args.which =
     ap (λ (list : WalkText). list.walks) c.in_ok-pair.ensures ∙ cc (c.in_ok-first.ensures.first, c.in_ok-first.ensures.second) in
     let none : None ≡ pair_fault mesh c.in_ok-pair.pair.walks = c.in_ok-check_pair.ensures.fault mesh table in

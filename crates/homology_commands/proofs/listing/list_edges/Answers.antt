@@ -17,7 +17,7 @@ loop-edge-init c =
 
 pub ends-requires : goal.ends-requires
 ends-requires c =
-    subst (λ (t : List Edge). c.loop-edge.edge < length t) (sym c.sides.ensures)
+    subst (λ (t : List Edge). c.loop-edge.edge < length t) (sym c.sides.ensures.table)
     (omega (arith, c.loop-edge-test.true, c.len-edge-end.ensures, c.requires.each_edge))
 
 pub list_edge-requires-clause-above : goal.list_edge-requires-clause-above
@@ -26,13 +26,13 @@ list_edge-requires-clause-above c =
     let numbers : List ℤ = c.args.numbers.now in
     let edge : ℕ = c.loop-edge.edge in
     let low_is : c.ends.result.0.0 ≡ (edge_in table edge).low =
-    c.ends.ensures.low ∙ ap (λ (t : List Edge). (edge_in t edge).low) c.sides.ensures in
+    c.ends.ensures.low ∙ ap (λ (t : List Edge). (edge_in t edge).low) c.sides.ensures.table in
     let high_is : c.ends.result.1.0 ≡ (edge_in table edge).high =
-    c.ends.ensures.high ∙ ap (λ (t : List Edge). (edge_in t edge).high) c.sides.ensures in
+    c.ends.ensures.high ∙ ap (λ (t : List Edge). (edge_in t edge).high) c.sides.ensures.table in
     let rises : (j : ℕ) → j < edge
     → IsPairBefore (edge_in table j).low (edge_in table j).high (edge_in table edge).low (edge_in table edge).high =
     λ j less.
-    c.faces.ensures.valid.table.rising j edge _ less
+    c.sides.ensures.valid.table.rising j edge _ less
     (omega (arith, c.loop-edge-test.true, c.len-edge-end.ensures, c.requires.each_edge)) in
     subst (λ n. All (λ (other : EdgeNumber). IsPairBefore other.low.0 other.high.0 n c.ends.result.1.0) c.loop-edge.lines) (sym low_is)
     (subst (λ n. All (λ (other : EdgeNumber). IsPairBefore other.low.0 other.high.0 (edge_in table edge).low n) c.loop-edge.lines)
@@ -59,13 +59,13 @@ loop-edge-preserved c =
     let numbers : List ℤ = c.args.numbers.now in
     let edge : ℕ = c.loop-edge.edge in
     let low_is : c.ends.result.0.0 ≡ (edge_in table edge).low =
-    c.ends.ensures.low ∙ ap (λ (t : List Edge). (edge_in t edge).low) c.sides.ensures in
+    c.ends.ensures.low ∙ ap (λ (t : List Edge). (edge_in t edge).low) c.sides.ensures.table in
     let high_is : c.ends.result.1.0 ≡ (edge_in table edge).high =
-    c.ends.ensures.high ∙ ap (λ (t : List Edge). (edge_in t edge).high) c.sides.ensures in
+    c.ends.ensures.high ∙ ap (λ (t : List Edge). (edge_in t edge).high) c.sides.ensures.table in
     let rises : (j : ℕ) → j < edge
     → IsPairBefore (edge_in table j).low (edge_in table j).high (edge_in table edge).low (edge_in table edge).high =
     λ j less.
-    c.faces.ensures.valid.table.rising j edge _ less
+    c.sides.ensures.valid.table.rising j edge _ less
     (omega (arith, c.loop-edge-test.true, c.len-edge-end.ensures, c.requires.each_edge)) in
     let is : number_at numbers edge ≡ c.at-number.result =
     get_or_from_slice_get numbers edge c.at-number.result (pos 0) c.at-number.ensures in

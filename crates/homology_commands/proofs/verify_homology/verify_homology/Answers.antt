@@ -16,7 +16,7 @@ returns-in_err-pair g c =
     let faces = c.in_ok-faces.faces in
     let stop = c.in_err-pair.field-0.0 in
     let p = err_from_is_err_and c.from_residual-in_err-pair.result c.from_residual-in_err-pair.ensures.1 in
-    let stops = c.in_err-pair.ensures.reads.end faces c.in_ok-sides.ensures in
+    let stops = c.in_err-pair.ensures.reads.end faces c.in_ok-sides.ensures.table in
     rw (p.1, p.2)
     (runs_stopped g.S.Shelf.held g.S.Shelf.faults c.args.shelf.now c.read_pair.new.shelf
     (λ files. of_verify.verify_homology files c.args.mesh.now c.args.walks.now c.args.certificate.now) (λ none. none.0.0)
@@ -46,13 +46,13 @@ returns-in_err-shown g c =
     (certificate_stops (g.S.Shelf.held c.args.shelf.now) c.args.mesh.now c.args.walks.now c.args.certificate.now faces pair stop
     c.in_ok-faces.ensures.end
     (subst (λ (files : Option Files). Passes (pair_in files c.args.walks.now faces) pair) same
-    (c.in_ok-pair.ensures.reads.end faces c.in_ok-sides.ensures))
+    (c.in_ok-pair.ensures.reads.end faces c.in_ok-sides.ensures.table))
     (subst (λ (files : Option Files). Stops (certificate_in files c.args.certificate.now) stop)
     (c.in_ok-pair.ensures.reads.only_reads.same_files ∙ same)
     c.in_err-shown.ensures.end)))
 
 pub judge-requires-clause-pair : goal.judge-requires-clause-pair
-judge-requires-clause-pair g c = c.in_ok-pair.ensures.pair c.in_ok-faces.faces c.in_ok-sides.ensures
+judge-requires-clause-pair g c = c.in_ok-pair.ensures.pair c.in_ok-faces.faces c.in_ok-sides.ensures.table
 
 pub returns : goal.returns
 returns g c =
@@ -69,7 +69,7 @@ returns g c =
     (judged (g.S.Shelf.held c.args.shelf.now) c.args.mesh.now c.args.walks.now c.args.certificate.now faces pair shown c.judge.result
     c.in_ok-faces.ensures.end
     (subst (λ (files : Option Files). Passes (pair_in files c.args.walks.now faces) pair) same
-    (c.in_ok-pair.ensures.reads.end faces c.in_ok-sides.ensures))
+    (c.in_ok-pair.ensures.reads.end faces c.in_ok-sides.ensures.table))
     (subst (λ (files : Option Files). Passes (certificate_in files c.args.certificate.now) shown)
     (c.in_ok-pair.ensures.reads.only_reads.same_files ∙ same) c.in_ok-shown.ensures.end)
     c.judge.ensures)

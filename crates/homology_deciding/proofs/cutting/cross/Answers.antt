@@ -14,4 +14,4 @@ returns c =
     cross_step c.args.tree.now.surface.now c.requires.tree.valid c.args.amount c.args.dart.0 e u old c.add_dart.new.tally
     c.requires.dart c.edge_of-edge.ensures.edge c.origin.ensures c.requires.long
     (c.add_dart.ensures ∙ ap (λ z. set old e (number_at old e +ℤ turned z (edge_in c.sides.result.now e) u)) same
-    ∙ ap (λ (t : List Edge). set old e (number_at old e +ℤ turned c.args.amount (edge_in t e) u)) c.sides.ensures)
+    ∙ ap (λ (t : List Edge). set old e (number_at old e +ℤ turned c.args.amount (edge_in t e) u)) c.sides.ensures.table)

@@ -20,7 +20,7 @@ prove-requires-clause-walks c = (
         (subst (λ (xs : List ℤ). AreNumbersOf c.args.surface.now.table xs (count_difference c.args.first.now c.args.second.now))
         (sym c.deref_mut.ensures.value)
         (subst (λ (t : List Edge). AreNumbersOf t c.in_ok-counts.counts.items (count_difference c.args.first.now c.args.second.now))
-        c.sides.ensures c.in_ok-counts.ensures.counts));
+        c.sides.ensures.table c.in_ok-counts.ensures.counts));
     few = c.requires.few;
   },
 )
@@ -35,7 +35,7 @@ returns-clause-proof c =
           (subst (λ (xs : List ℤ). AreNumbersOf c.args.surface.now.table xs (count_difference c.args.first.now c.args.second.now))
           (sym c.deref_mut.ensures.value)
           (subst (λ (t : List Edge). AreNumbersOf t c.in_ok-counts.counts.items (count_difference c.args.first.now c.args.second.now))
-          c.sides.ensures c.in_ok-counts.ensures.counts));
+          c.sides.ensures.table c.in_ok-counts.ensures.counts));
       few = c.requires.few;
     }))
 
@@ -50,7 +50,7 @@ returns-clause-exact c =
           (subst (λ (xs : List ℤ). AreNumbersOf c.args.surface.now.table xs (count_difference c.args.first.now c.args.second.now))
           (sym c.deref_mut.ensures.value)
           (subst (λ (t : List Edge). AreNumbersOf t c.in_ok-counts.counts.items (count_difference c.args.first.now c.args.second.now))
-          c.sides.ensures c.in_ok-counts.ensures.counts));
+          c.sides.ensures.table c.in_ok-counts.ensures.counts));
       few = c.requires.few;
     })) in
     if_ok c.prove.result shown shown

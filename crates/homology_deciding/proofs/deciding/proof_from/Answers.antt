@@ -16,7 +16,7 @@ of-requires-in-Some c =
       c.in_ok-cut-in-Some.ensures.each_edge.long,
       c.len.ensures,
       c.len.type_inv,
-      ap (λ (t : List Edge). length t) c.sides-in-Some.ensures,
+      ap (λ (t : List Edge). length t) c.sides-in-Some.ensures.table,
     )
 
 pub returns-in-None : goal.returns-in-None
@@ -24,7 +24,7 @@ returns-in-None c = λ first second leaves.
     let s : OrientedMesh = c.args.tree.now.surface.now in
     subst (IsChainFor s first second) (sym c.of.ensures)
     (chain_proof c.args.tree.now c.requires.tree first second c.args.numbers.items c.args.rest.now leaves
-    (λ k l. c.in-None.ensures.none k (subst (λ (t : List Edge). k < length t) (sym c.sides.ensures) l)))
+    (λ k l. c.in-None.ensures.none k (subst (λ (t : List Edge). k < length t) (sym c.sides.ensures.table) l)))
 
 pub returns-in_ok-cut-in-Some : goal.returns-in_ok-cut-in-Some
 returns-in_ok-cut-in-Some c = λ first second leaves.
@@ -32,5 +32,5 @@ returns-in_ok-cut-in-Some c = λ first second leaves.
     let e : ℕ = c.in-Some.edge.0 in
     subst (IsCocycleFor s first second) (sym c.of-in-Some.ensures)
     (cocycle_proof c.args.tree.now c.requires.tree first second c.args.numbers.items c.args.rest.now leaves e c.rising_dart-dart.result.0
-    c.in_ok-cut-in-Some.field-0.items (subst (λ (t : List Edge). e < length t) c.sides.ensures c.in-Some.ensures.found)
+    c.in_ok-cut-in-Some.field-0.items (subst (λ (t : List Edge). e < length t) c.sides.ensures.table c.in-Some.ensures.found)
     c.in-Some.ensures.nonzero c.rising_dart-dart.ensures c.in_ok-cut-in-Some.ensures)

@@ -43,7 +43,7 @@ returns c = λ first second counted.
     (subst (λ (xs : List ℤ). GrewBy s.table (λ low high. neg_ℤ (boundary c.faces.result.now (number_at xs) low high)) old new)
     c.deref.ensures.value
     (subst (λ (t : List Edge). GrewBy t (λ low high. neg_ℤ (boundary c.faces.result.now (number_at c.deref.result.now) low high)) old new)
-    c.sides.ensures c.take_faces.ensures)) in
+    c.sides.ensures.table c.take_faces.ensures)) in
     c.proof_from.ensures first second (record {
       counts = old;
       are_counts = counted.are_counts;

@@ -16,7 +16,7 @@ returns-then-eq c =
     let at : IsAtEdge s d k = record { dart = c.dart_of-dart.ensures.within; edge = c.requires; is = sym c.dart_of-dart.ensures.edge } in
     leads_on s c.dart_of-dart.ensures.valid edge.low edge.high k d at (inl (refl, refl))
     (sym c.origin.ensures ∙ eqb-true c.origin.result.0 c.ends.result.0.0 (sym c.eq.ensures ∙ c.if-eq.true) ∙ c.ends.ensures.low
-    ∙ ap (λ (t : List Edge). (edge_in t k).low) c.sides.ensures)
+    ∙ ap (λ (t : List Edge). (edge_in t k).low) c.sides.ensures.table)
 
 pub returns-else-eq : goal.returns-else-eq
 returns-else-eq c =
@@ -28,6 +28,6 @@ returns-else-eq c =
     let other : origin_of s d ≢ edge.low =
     λ same. both_ways c.eq.result c.if-eq.false
     (c.eq.ensures ∙ eq-eqb c.origin.result.0 c.ends.result.0.0 (c.origin.ensures ∙ same
-    ∙ sym (c.ends.ensures.low ∙ ap (λ (t : List Edge). (edge_in t k).low) c.sides.ensures))) in
+    ∙ sym (c.ends.ensures.low ∙ ap (λ (t : List Edge). (edge_in t k).low) c.sides.ensures.table))) in
     subst (IsDartFrom (rotations_of s) edge.low edge.high) (sym c.twin.ensures.twin)
     (leads_back s c.dart_of-dart.ensures.valid edge.low edge.high k d at (inl (refl, refl)) other)

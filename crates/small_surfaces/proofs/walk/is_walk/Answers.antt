@@ -8,7 +8,7 @@ use Rattle.small_surfaces.proofs.walk.is_walk.Goals.{else-place-gt0-via-then-pla
 pub returns-then-not-used : goal.returns-then-not-used
 returns-then-not-used c =
     let unused : is_used c.args.surface.now.mesh (get_or c.args.vertices.now c.loop-place.place 0) ≡ false =
-    sym (c.used.ensures.mesh c.args.surface.now.mesh (rw c.sides.ensures c.faces.ensures.valid.table)) ∙ c.if-not-used.true in (
+    sym (c.used.ensures.mesh c.args.surface.now.mesh (rw c.sides.ensures.table c.sides.ensures.valid.table)) ∙ c.if-not-used.true in (
       λ no. cc no,
       λ is. absurd (unused_is_no_walk c.args.surface.now.mesh c.args.vertices.now c.loop-place.place c.loop-place-test.true
           unused is),
@@ -17,7 +17,7 @@ returns-then-not-used c =
 pub loop-place-preserved : goal.loop-place-preserved
 loop-place-preserved c =
     let used : is_used c.args.surface.now.mesh (get_or c.args.vertices.now c.loop-place.place 0) ≡ true =
-    sym (c.used.ensures.mesh c.args.surface.now.mesh (rw c.sides.ensures c.faces.ensures.valid.table)) ∙ c.if-not-used.false in
+    sym (c.used.ensures.mesh c.args.surface.now.mesh (rw c.sides.ensures.table c.sides.ensures.valid.table)) ∙ c.if-not-used.false in
     walk_goes_on c.args.surface.now.mesh c.args.vertices.now c.loop-place.place c.loop-place.invariant used
     (λ some. elim c.else-place-gt0.branch [
       | else-place-gt0-via-then-place-gt0+else-is_none w ↦ sym w.dart_between.ensures.edge ∙ w.is_none.ensures ∙ ap not w.if-is_none.false

@@ -19,7 +19,7 @@ loop-early-preserved c =
     let old : List Kind = c.args.kinds.now.items in
     let m : ℕ = c.loop-early.early in
     let within : m < length s.table =
-    subst (λ (t : List Edge). m < length t) c.sides.ensures
+    subst (λ (t : List Edge). m < length t) c.sides.ensures.table
     (omega (arith, c.loop-early-test.true, c.first_round-early-end.ensures, c.len-edges.ensures)) in
     let few : m < length c.loop-early.kinds.items = omega (arith, within, c.requires.kinds, c.loop-early.invariant.long) in
     elim c.if-begins_vertex.branch [
@@ -42,7 +42,7 @@ loop-edge-preserved c =
     let s : OrientedMesh = c.args.surface.now in
     let n : ℕ = c.loop-edge.edge in
     let within : n < length s.table =
-    subst (λ (t : List Edge). n < length t) c.sides.ensures (omega (arith, c.loop-edge-test.true, c.len-edges.ensures)) in
+    subst (λ (t : List Edge). n < length t) c.sides.ensures.table (omega (arith, c.loop-edge-test.true, c.len-edges.ensures)) in
     spanning_next s c.args.nodes kind c.args.kinds.now.items n c.loop-edge.classes c.try_edge-in-loop-edge.new.classes
     c.loop-edge.kinds.items c.try_edge-in-loop-edge.new.kinds.items c.requires.valid within
     (omega (arith, within, c.requires.kinds, c.loop-edge.invariant.long)) (kind_not_left c.args.nodes) c.try_edge-in-loop-edge.ensures
@@ -53,6 +53,6 @@ returns c =
     let kind : Kind = kind_over c.args.nodes in
     spanning_all c.args.surface.now c.args.nodes kind c.args.kinds.now.items c.loop-edge.edge c.loop-edge.classes
     c.loop-edge.kinds.items c.requires.valid c.requires.together
-    (subst (λ (t : List Edge). length t ≤ c.loop-edge.edge) c.sides.ensures
+    (subst (λ (t : List Edge). length t ≤ c.loop-edge.edge) c.sides.ensures.table
     (omega (arith, c.loop-edge-test.false, c.len-edges.ensures)))
     c.loop-edge.invariant

@@ -18,7 +18,7 @@ returns-in_err-walks g c =
     let faces = c.in_ok-faces.faces in
     let stop = c.in_err-walks.field-0.0 in
     let p = err_from_is_err_and c.from_residual-in_err-walks.result c.from_residual-in_err-walks.ensures.1 in
-    let stops = c.in_err-walks.ensures.reads.end faces c.in_ok-sides.ensures in
+    let stops = c.in_err-walks.ensures.reads.end faces c.in_ok-sides.ensures.table in
     rw (p.1, p.2)
     (runs_stopped g.S.Shelf.held g.S.Shelf.faults c.args.shelf.now c.read_pair.new.shelf
     (λ files. of_verify.verify files c.args.mesh.now c.args.walks.now c.args.certificate.now) (λ none. none.0.0) c.read_mesh.new.shelf _
@@ -31,12 +31,12 @@ returns-in_err-walks g c =
 
 pub at-requires : goal.at-requires
 at-requires g c =
-    let pair = c.in_ok-walks.ensures.pair c.in_ok-faces.faces c.in_ok-sides.ensures in
+    let pair = c.in_ok-walks.ensures.pair c.in_ok-faces.faces c.in_ok-sides.ensures.table in
     omega (arith, two_in_pair c.in_ok-faces.faces c.in_ok-walks.walks.walks pair)
 
 pub at-requires-2 : goal.at-requires-2
 at-requires-2 g c =
-    let pair = c.in_ok-walks.ensures.pair c.in_ok-faces.faces c.in_ok-sides.ensures in
+    let pair = c.in_ok-walks.ensures.pair c.in_ok-faces.faces c.in_ok-sides.ensures.table in
     omega (arith, two_in_pair c.in_ok-faces.faces c.in_ok-walks.walks.walks pair)
 
 pub returns : goal.returns
@@ -64,14 +64,14 @@ returns g c =
     c.in_ok-faces.ensures.only_reads c.in_ok-walks.ensures.reads.only_reads) c.judge-reply.ensures
     (concluded held c.args.mesh.now c.args.walks.now certificate faces walks c.judge-reply.result c.in_ok-faces.ensures.end
     (subst (λ (files : Option Files). Passes (pair_in files c.args.walks.now faces) walks) same
-    (c.in_ok-walks.ensures.reads.end faces c.in_ok-sides.ensures)) end)
+    (c.in_ok-walks.ensures.reads.end faces c.in_ok-sides.ensures.table)) end)
 
 pub judge-reply-requires-clause-first : goal.judge-reply-requires-clause-first
 judge-reply-requires-clause-first g c =
     first_walk c.in_ok-faces.faces c.in_ok-walks.walks.walks c.at.result.now
-    (c.in_ok-walks.ensures.pair c.in_ok-faces.faces c.in_ok-sides.ensures) c.at.ensures
+    (c.in_ok-walks.ensures.pair c.in_ok-faces.faces c.in_ok-sides.ensures.table) c.at.ensures
 
 pub judge-reply-requires-clause-second : goal.judge-reply-requires-clause-second
 judge-reply-requires-clause-second g c =
     second_walk c.in_ok-faces.faces c.in_ok-walks.walks.walks c.at-2.result.now
-    (c.in_ok-walks.ensures.pair c.in_ok-faces.faces c.in_ok-sides.ensures) c.at-2.ensures
+    (c.in_ok-walks.ensures.pair c.in_ok-faces.faces c.in_ok-sides.ensures.table) c.at-2.ensures

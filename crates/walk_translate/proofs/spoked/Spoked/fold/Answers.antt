@@ -14,7 +14,7 @@ use Rattle.walk_translate.proofs.spoked.Spoked.fold.Goals as goal
 pub returns-in_default-clause-walk : goal.returns-in_default-clause-walk
 returns-in_default-clause-walk g c =
     let mesh = c.args.self.now.surface.now.mesh in
-    let table : IsTableOf mesh c.sides-sides.result.now = rw c.sides-sides.ensures c.faces.ensures.valid.table in
+    let table : IsTableOf mesh c.sides-sides.result.now = rw c.sides-sides.ensures.table c.sides-sides.ensures.valid.table in
     told_no
     (no_walk mesh c.args.walk.now c.loop-dart.dart c.at-from.result.0 c.at-to.result.0
     (omega (arith, c.loop-dart-test.true, c.darts-dart-end.ensures.count)) (c.in_default.ensures.edge mesh table) c.at-from.ensures
@@ -26,12 +26,12 @@ found : (g : _) (c : After-along g)
 found g c =
     let surface = c.args.self.now.surface.now in
     kept_spokes surface.mesh c.args.self.now.good.now surface.table c.args.self.now.kept.now c.in-Some.edge.0 c.at-from.result.0
-    c.at-to.result.0 c.along.result c.faces.ensures.valid.table c.requires.spoked.kept
-    (rw (sym c.sides-sides.ensures) c.in-Some.ensures.found) (rw (sym c.sides-sides.ensures) c.in-Some.ensures.ends)
+    c.at-to.result.0 c.along.result c.sides-sides.ensures.valid.table c.requires.spoked.kept
+    (rw (sym c.sides-sides.ensures.table) c.in-Some.ensures.found) (rw (sym c.sides-sides.ensures.table) c.in-Some.ensures.ends)
     c.along.ensures.there c.along.ensures.back
 
 good : (g : _) (c : After-along g) → IsGood c.args.self.now.surface.now.mesh c.args.self.now.good.now
-good g c = cut_is_good c.args.self.now.surface.now c.args.self.now.good.now c.faces.ensures.valid c.requires.spoked.labelled
+good g c = cut_is_good c.args.self.now.surface.now c.args.self.now.good.now c.sides-sides.ensures.valid c.requires.spoked.labelled
 
 pub put_spokes-requires-clause-below : goal.put_spokes-requires-clause-below
 put_spokes-requires-clause-below g c =
@@ -66,7 +66,7 @@ loop-dart-preserved g c =
     c.in_ok-put_spokes.ensures.state ∙ ap (λ (l : List ℕ). led next l before (spoke_list c.along.result)) c.wheel.ensures in
     let edge : is_edge mesh (get_or walk k 0) (get_or walk (k + 1) 0) ≡ true =
     ap (λ n. is_edge mesh n (get_or walk (k + 1) 0)) (sym c.at-from.ensures) ∙ ap (is_edge mesh c.at-from.result.0) (sym c.at-to.ensures)
-    ∙ sym (c.in-Some.ensures.edge mesh (rw c.sides-sides.ensures c.faces.ensures.valid.table)) in
+    ∙ sym (c.in-Some.ensures.edge mesh (rw c.sides-sides.ensures.table c.sides-sides.ensures.valid.table)) in
     record {
       edges = λ j l. elim (before_or_last j k l) [
         | inl earlier ↦ c.loop-dart.invariant.edges j earlier
@@ -94,7 +94,7 @@ pub returns-clause-walk : goal.returns-clause-walk
 returns-clause-walk g c =
     let mesh = c.args.self.now.surface.now.mesh in
     let walk = c.args.walk.now in
-    let table : IsTableOf mesh c.sides-sides.result.now = rw c.sides-sides.ensures c.faces.ensures.valid.table in
+    let table : IsTableOf mesh c.sides-sides.result.now = rw c.sides-sides.ensures.table c.sides-sides.ensures.valid.table in
     let first : is_used mesh (get_or walk 0 0) ≡ true =
     ap (is_used mesh) (sym c.at.ensures) ∙ sym (c.if-not-used.ensures.mesh mesh table) in
     told_yes
