@@ -9,26 +9,19 @@ use Rattle.surf_model.specs.Walks.{darts}
 use Rattle.move_lifting.specs.declared.expanding.TheConstants.{MOST_LIFTED_SIDES, MOST_LIFTED_DARTS}
 use Rattle.walk_translate.specs.declared.deciding.Answer as deciding
 use Rattle.walk_translate.specs.declared.deciding.Answer.TheVariants as answers
-use Rattle.commands.proofs.Certifying.{after_surface, after_pair, after_limits, limited}
-use Rattle.commands.proofs.Deciding.{behind, refused_behind, differs}
-use Rattle.commands.proofs.Rows.{sound-pair, sound-surface_in, surface_told, pair_told, unless_told, spelled_pair, spelled_surface}
-use Rattle.commands.proofs.Sound.{held, sound-pass_unless}
+use Rattle.commands.proofs.Certifying.{after_pair, after_limits, limited}
+use Rattle.commands.proofs.Deciding.{behind, refused_behind, yes_or_no}
+use Rattle.commands.proofs.RightAnswers.{refused_so, yes_exactly}
+use Rattle.commands.proofs.Rows.{behind_input, sound-pair, pair_told, spelled_pair}
+use Rattle.commands.proofs.Sound.{held, sound-pass_unless, unless_told}
 use Rattle.commands.specs.Answers.{Answer, Exactly}
 use Rattle.commands.specs.Certificates.{decision_status}
 use Rattle.commands.specs.Certify.{certify, IsCertifyInput, IsWithinLimits, IsCertificatePrinted, IsCertified, limit_fault, certified, sides_line, certificate_answer, darts_line}
 use Rattle.commands.specs.Checks.{Refuse, Pass}
-use Rattle.commands.specs.Inputs.{pair_in, SpellsMesh, SpellsPair}
+use Rattle.commands.specs.Inputs.{pair_in, SpellsPair}
 use Rattle.commands.specs.Outcomes.{Outcome, AnswersTo, IsAnswerOf}
-use Rattle.commands.specs.SurfaceInput.{surface_in}
 use Rattle.commands.specs.declared.status.Status.{Status}
-use Rattle.commands.specs.declared.status.Status.TheVariants.{Yes, No, Refused}
-
--- a refusal that such an outcome is
-refused_so : (line : List ℕ) (outcome : Outcome) (status : Status) (text : List ℕ) → outcome ≡ Refuse (Exactly line)
-    → IsAnswerOf outcome status text → (status ≡ Refused) × (text ≡ line)
-refused_so line outcome status text e answer =
-    let a : IsAnswerOf (Refuse (Exactly line)) status text = subst (λ (o : Outcome). IsAnswerOf o status text) e answer in
-    (a.status_is, a.text_is)
+use Rattle.commands.specs.declared.status.Status.TheVariants.{Yes, Refused}
 
 -- the limits, as the check has them
 no_limit : (mesh : FaceList) (first second : List ℕ) → IsWithinLimits mesh first second → limit_fault mesh first second ≡ None
@@ -52,19 +45,9 @@ dart_limit mesh first second few many =
     rw (sides, long) refl
 
 -- what the end of the check tells
-no_and_yes : No ≡ Yes → ⊥
-no_and_yes e = cc
-
 pub record IsAnsweredSo (mesh : FaceList) (first second : List ℕ) (status : Status) (text : List ℕ) : Type 0 where
   pub answered : IsCertificatePrinted mesh first second status text
   pub exactly : (status ≡ Yes) ↔ Homotopic mesh first second
-
-status_tells : {P : Type 0} (decision : deciding.Answer) (status : Status) → status ≡ decision_status decision
-    → (decision ≡ answers.Homotopic) ↔ P
-    → (status ≡ Yes) ↔ P
-status_tells answers.Homotopic status e right = ((λ _. right.0 refl), (λ _. e))
-status_tells answers.Different status e right =
-    ((λ yes. absurd (no_and_yes (sym e ∙ yes))), (λ h. absurd (differs (right.1 h))))
 
 by_certified : (mesh : FaceList) (first second : List ℕ) (outcome : Outcome) (status : Status) (text : List ℕ)
     → (certified mesh first second).Ends outcome
@@ -84,7 +67,7 @@ by_certified mesh first second (Pass x) status text p answer =
             status_is = here.status_is ∙ ap decision_status (sym shown.2);
             text_is = shown.3;
           };
-      exactly = status_tells p.0 status here.status_is p.2;
+      exactly = yes_exactly yes_or_no decision_status refl refl p.0 status here.status_is p.2;
     }
 
 -- ---- such an input
@@ -99,13 +82,10 @@ module _ (files : Option Files) (words : List (List ℕ)) (mesh : FaceList) (fir
   behind_walks : (after_pair mesh two).Ends outcome
   unfolding two
   behind_walks =
-      let walks = behind files (surface_in files input.mesh_name) (after_surface files input.walks_name) mesh outcome
-      (sound-surface_in files input.mesh_name)
-      (surface_told files input.mesh_name (held files input.mesh_name (SpellsMesh mesh) input.mesh_file).told)
-      (spelled_surface files input.mesh_name mesh input.mesh_file input.is_surface) is in
-      behind files (pair_in files input.walks_name mesh) (after_pair mesh) two outcome (sound-pair files input.walks_name mesh)
-      (pair_told files input.walks_name mesh (held files input.walks_name (SpellsPair mesh first second) input.walks_file).told)
-      (spelled_pair files input.walks_name mesh first second input.walks_file) walks
+      let told = (held files input.walks_name (SpellsPair mesh first second) input.walks_file).told in
+      behind_input files input.mesh_name mesh two (pair_in files input.walks_name) after_pair outcome input.mesh_file input.is_surface
+      (sound-pair files input.walks_name mesh) (pair_told files input.walks_name mesh told)
+      (spelled_pair files input.walks_name mesh first second input.walks_file) is
 
   pub answers_input : IsWithinLimits mesh first second → IsAnsweredSo mesh first second status text
   unfolding two

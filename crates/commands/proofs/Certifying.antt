@@ -26,9 +26,9 @@ use Rattle.walk_translate.specs.declared.deciding.Answer.TheVariants as answers
 use Rattle.walk_translate.specs.declared.deciding.Answer.TheVariants.{Different}
 use Rattle.walk_translate.proofs.DecidingLemmas.{words_decide}
 use Rattle.move_lifting.specs.declared.expanding.TheConstants.{MOST_LIFTED_SIDES, MOST_LIFTED_DARTS}
-use Rattle.commands.proofs.Checking.{stops_first, stops_next, told_stops}
-use Rattle.commands.proofs.Deciding.{one_decision, differs}
-use Rattle.commands.proofs.Sound.{IsSound}
+use Rattle.commands.proofs.Checking.{stops_first, stops_next, stops_second, told_stops}
+use Rattle.commands.proofs.Deciding.{differs, yes_or_no}
+use Rattle.commands.proofs.Sound.{IsSound, sound-decided_by}
 use Rattle.commands.specs.Answers.{Answer, Exactly}
 use Rattle.commands.specs.Certificates.{Convinces, decision_of}
 use Rattle.commands.specs.Certify.{IsWithinLimits, limit_fault, certified, certify, sides_line, certificate_answer, darts_line}
@@ -96,30 +96,9 @@ convinces_decides mesh first second (Denial denial) valid walk h =
     ((λ e. absurd (differs e)), (λ homotopic. absurd (denial_excludes mesh first second denial valid walk h homotopic)))
 
 -- the check has an end, and one
-one_certified : (mesh : FaceList) (first second : List ℕ) (a b : End Answer) → (certified mesh first second).Ends a
-    → (certified mesh first second).Ends b → a ≡ b
-one_certified mesh first second (Refuse cause) b p q = absurd p
-one_certified mesh first second (Pass x) (Refuse cause) p q = absurd q
-one_certified mesh first second (Pass x) (Pass y) p q =
-    let same : p.0 ≡ q.0 = one_decision p.0 q.0 p.2 q.2 in
-    let answers : x ≡ y = p.1 ∙ ap (certificate_answer mesh first second) same ∙ sym q.1 in
-    cc
-
 pub sound-certified : (held : Option Files) (mesh : FaceList) (first second : List ℕ) → IsSound held (certified mesh first second)
 sound-certified held mesh first second =
-    record {
-      some = λ none.
-          none (Pass (certificate_answer mesh first second Different)) (
-            Different,
-            refl,
-            (
-              (λ e. absurd (differs e)),
-              (λ h. absurd (none (Pass (certificate_answer mesh first second answers.Homotopic))
-                  (answers.Homotopic, refl, ((λ _. h), (λ _. refl))))),
-            ),
-          );
-      one = λ _ a b p q. one_certified mesh first second a b p q;
-    }
+    sound-decided_by held yes_or_no (certificate_answer mesh first second) (Homotopic mesh first second)
 
 -- ---- how the checks of `certify` end
 
@@ -139,8 +118,7 @@ after_surface held walks surface = pair_in held walks surface >>= after_pair sur
 pub walks_stop : (held : Option Files) (mesh walks : List ℕ) (surface : FaceList) (stop : Stop) → Passes (surface_in held mesh) surface
     → Stops (pair_in held walks surface) stop → Stops (certify held mesh walks) stop
 walks_stop held mesh walks surface stop p h =
-    stops_next (surface_in held mesh) (after_surface held walks) surface stop p
-    (stops_first (pair_in held walks surface) (after_pair surface) stop h)
+    stops_second (surface_in held mesh) (pair_in held walks) after_pair surface stop p h
 
 -- what stops behind the walks stops all
 pair_stops : (held : Option Files) (mesh walks : List ℕ) (surface : FaceList) (pair : List (List ℕ)) (stop : Stop)

@@ -1,27 +1,12 @@
 -- How checks that follow one another end.
-use Rattle.std.proofs.Common.{◌≡◌, ◌⊎◌, inl, inr, ℕ, ◌+◌, ◌<◌, List, [], ◌∷◌, length, refl, ap, ◌∙◌, subst, arith}
+use Rattle.std.proofs.Common.{◌≡◌, ◌⊎◌, inl, inr, ℕ, ◌+◌, ◌<◌, List, length, refl, ap, ◌∙◌, subst, arith}
 use Rattle.std.specs.Prelude.{Option, Some, None, IfSome, Result, Ok, Err, replicate}
 use Rattle.std.proofs.lemmas.List.{length-replicate}
-use Rattle.surf_io.specs.Files.{Files}
-use Rattle.surf_model.specs.FaceLists.{FaceList}
-use Rattle.walk_files.specs.WalkLists.{WalkText}
-use Rattle.walk_files.specs.WalkTexts.{walk_text_of, walks_of, walks_in}
-use Rattle.walk_files.specs.Pairs.{pair_fault}
-use Rattle.walk_files.specs.declared.fault.WalkFault.{WalkFault}
-use Rattle.walk_files.specs.declared.pair.PairFault.{PairFault}
-use Rattle.commands.specs.declared.refusal.Input.TheVariants as inputs
 use Rattle.commands.specs.Answers.{Texts, NoText, IsText}
-use Rattle.commands.specs.Checks.{Check, Refuse, Pass, Passes, file, meant, pass_unless, ◌>>=◌}
-use Rattle.commands.specs.Inputs.{pair_in}
-use Rattle.commands.specs.Refusals.{numbers_line, pair_line}
+use Rattle.commands.specs.Checks.{Check, Refuse, Pass, Passes, meant, ◌>>=◌}
 use Rattle.commands.specs.Stops.{Ends, Stops, Tells, bytes_of}
 use Rattle.commands.specs.declared.stop.Stop.{Stop}
 use Rattle.commands.specs.declared.stop.Stop.TheVariants.{Refused, ReadFault, OutOfMemory}
-
--- what is looked at behind the bytes of a walk file
-abbrev after_bytes : FaceList → List ℕ → Check (List (List ℕ))
-after_bytes mesh bytes = meant (numbers_line inputs.Walks) (walks_of bytes) >>=
-    (λ walks. pass_unless pair_line (pair_fault mesh walks) walks)
 
 -- what stops the first check stops the sequence
 pub stops_first : {A B : Type 0} (first : Check A) (next : A → Check B) (stop : Stop) → Stops first stop → Stops (first >>= next) stop
@@ -42,6 +27,25 @@ pub next_end : {A B : Type 0} (first : Check A) (next : A → Check B) (thing : 
     → Ends (next thing) result → Ends (first >>= next) result
 next_end first next thing (Ok found) p h = inr (thing, p, h)
 next_end first next thing (Err stop) p h = stops_next first next thing stop p h
+
+-- what stops a sequence stops the first check, or the next one
+pub stopped_where : {A B : Type 0} (first : Check A) (next : A → Check B) (stop : Stop) → Stops (first >>= next) stop
+    → Stops first stop ⊎ ((thing : A) × first.Ends (Pass thing) × Stops (next thing) stop)
+stopped_where {A} {B} first next (Refused text) h = refused h.1
+  where
+    refused : (first >>= next).Ends (Refuse h.0)
+        → Stops first (Refused text) ⊎ ((thing : A) × first.Ends (Pass thing) × Stops (next thing) (Refused text))
+    refused (inl q) =
+        let same : h.0 ≡ q.0 = let e = q.2 in cc in inl (q.0, q.1, subst (λ (t : Texts). IsText t (bytes_of text)) same h.2)
+    refused (inr q) = inr (q.0, q.1, (h.0, q.2, h.2))
+stopped_where first next ReadFault h = inl tt
+stopped_where first next OutOfMemory h = inl tt
+
+-- what stops the second of three checks stops the sequence
+pub stops_second : {A B C : Type 0} (first : Check A) (second : A → Check B) (third : A → B → Check C) (thing : A) (stop : Stop)
+    → first.Ends (Pass thing) → Stops (second thing) stop → Stops (first >>= (λ x. second x >>= third x)) stop
+stops_second first second third thing stop p h =
+    stops_next first (λ x. second x >>= third x) thing stop p (stops_first (second thing) (third thing) stop h)
 
 -- ---- what a text is read as
 
@@ -72,75 +76,6 @@ read_stops {T} {F} line_of read fault wanting stop none (inl e) h =
 read_stops line_of read fault wanting stop none (inr e) h =
     let same : fault ≡ wanting = cc in
     memory_stops (meant line_of read) stop (subst (λ (t : Texts). Tells t stop) (ap line_of same ∙ none) h)
-
--- what a text stands for passes with its walks
-pub walks_pass : (line_of : WalkFault → Texts) (read : Result WalkText WalkFault) (text : WalkText) → Passes (meant line_of read) text
-    → Passes (meant line_of (walks_in read)) text.walks
-walks_pass line_of (Ok found) text h = let same : text ≡ found = cc in cc
-walks_pass line_of (Err fault) text h = cc
-
--- and what stops the one stops the other
-pub walks_stop : (line_of : WalkFault → Texts) (read : Result WalkText WalkFault) (stop : Stop) → Stops (meant line_of read) stop
-    → Stops (meant line_of (walks_in read)) stop
-walks_stop line_of (Ok found) (Refused text) h = let e = h.1 in cc
-walks_stop line_of (Err fault) (Refused text) h =
-    let e = h.1 in
-    let same : h.0 ≡ line_of fault = cc in (line_of fault, refl, subst (λ (t : Texts). IsText t (bytes_of text)) same h.2)
-walks_stop line_of read ReadFault h = tt
-walks_stop line_of read OutOfMemory h = tt
-
--- a walk file that is refused for its text
-pub walks_text_stops : (held : Option Files) (name : List ℕ) (mesh : FaceList) (bytes : List ℕ) (stop : Stop)
-    → Passes (file held name inputs.Walks) bytes
-    → Stops (meant (numbers_line inputs.Walks) (walk_text_of bytes)) stop → Stops (pair_in held name mesh) stop
-walks_text_stops held name mesh bytes stop p h =
-    stops_next (file held name inputs.Walks) (after_bytes mesh) bytes stop p
-    (stops_first (meant (numbers_line inputs.Walks) (walks_of bytes)) (λ walks. pass_unless pair_line (pair_fault mesh walks) walks) stop
-    (walks_stop (numbers_line inputs.Walks) (walk_text_of bytes) stop h))
-
--- a walk file whose walks are no pair
-pub pair_stops : (held : Option Files) (name : List ℕ) (mesh : FaceList) (bytes : List ℕ) (text : WalkText) (fault : PairFault)
-    (stop : Stop)
-    → Passes (file held name inputs.Walks) bytes → Passes (meant (numbers_line inputs.Walks) (walk_text_of bytes)) text
-    → pair_fault mesh text.walks ≡ Some fault → Tells (pair_line fault) stop → Stops (pair_in held name mesh) stop
-pair_stops held name mesh bytes text fault stop p q f h =
-    told_stops (pair_line fault) (pair_in held name mesh) stop
-    (inr (bytes, p, inr (text.walks, walks_pass (numbers_line inputs.Walks) (walk_text_of bytes) text q, rw f refl))) h
-
--- a walk file that passes
-pub pair_passes : (held : Option Files) (name : List ℕ) (mesh : FaceList) (bytes : List ℕ) (walks : List (List ℕ))
-    → Passes (file held name inputs.Walks) bytes → walks_of bytes ≡ Ok walks → pair_fault mesh walks ≡ None
-    → Passes (pair_in held name mesh) walks
-pair_passes held name mesh bytes walks p e f = inr (bytes, p, inr (walks, rw e refl, rw f refl))
-
--- and one that was read
-pub pair_read : (held : Option Files) (name : List ℕ) (mesh : FaceList) (bytes : List ℕ) (text : WalkText)
-    → Passes (file held name inputs.Walks) bytes → Passes (meant (numbers_line inputs.Walks) (walk_text_of bytes)) text
-    → pair_fault mesh text.walks ≡ None → Passes (pair_in held name mesh) text.walks
-pair_read held name mesh bytes text p q f =
-    inr (bytes, p, inr (text.walks, walks_pass (numbers_line inputs.Walks) (walk_text_of bytes) text q, rw f refl))
-
-counted : (mesh : FaceList) (xs : List (List ℕ)) → pair_fault mesh xs ≡ None → length xs ≡ 2
-counted mesh [] e = cc
-counted mesh (x ∷ []) e = cc
-counted mesh (x ∷ y ∷ []) e = refl
-counted mesh (x ∷ y ∷ z ∷ xs) e = cc
-
-two_passed : (mesh : FaceList) (xs walks : List (List ℕ)) (fault : Option PairFault) → pair_fault mesh xs ≡ fault
-    → Passes (pass_unless pair_line fault xs) walks → length walks ≡ 2
-two_passed mesh xs walks None e h = let same : walks ≡ xs = cc in ap (length {A = List ℕ}) same ∙ counted mesh xs e
-two_passed mesh xs walks (Some fault) e h = cc
-
-two_among : (mesh : FaceList) (read : Result (List (List ℕ)) WalkFault) (walks : List (List ℕ))
-    → Passes (meant (numbers_line inputs.Walks) read >>= (λ xs. pass_unless pair_line (pair_fault mesh xs) xs)) walks → length walks ≡ 2
-two_among mesh read walks (inl p) = let e = p.2 in cc
-two_among mesh read walks (inr p) = two_passed mesh p.0 walks (pair_fault mesh p.0) refl p.2
-
--- where a pair passes, there are two walks
-pub two_walks : (held : Option Files) (name : List ℕ) (mesh : FaceList) (walks : List (List ℕ)) → Passes (pair_in held name mesh) walks
-    → length walks ≡ 2
-two_walks held name mesh walks (inl p) = let e = p.2 in cc
-two_walks held name mesh walks (inr p) = two_among mesh (walks_of p.0) walks p.2
 
 some_longer : (n : ℕ) → (bytes : List ℕ) × (n < length bytes)
 some_longer n = (replicate (n + 1) 0, omega (arith, length-replicate {A = ℕ} (n + 1) 0))

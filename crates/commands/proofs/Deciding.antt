@@ -9,69 +9,43 @@ use Rattle.surf_model.specs.Moves as moves
 use Rattle.walk_files.specs.Pairs.{IsPair}
 use Rattle.walk_translate.specs.declared.deciding.Answer as deciding
 use Rattle.walk_translate.specs.declared.deciding.Answer.TheVariants.{Homotopic, Different}
-use Rattle.commands.proofs.Sound.{IsSound}
-use Rattle.commands.specs.Answers.{Answer, Texts}
+use Rattle.commands.proofs.RightAnswers.{IsRightLine, right_line}
+use Rattle.commands.proofs.Sound.{IsSound, IsYesOrNo, one_right, sound-decided_by}
+use Rattle.commands.specs.Answers.{Texts}
 use Rattle.commands.specs.Certificates.{decision_status, decision_line}
 use Rattle.commands.specs.Checks.{Check, End, Refuse, Pass, Passes, IsTold, ◌>>=◌}
 use Rattle.commands.specs.Decisions.{decided, decision_answer}
 use Rattle.commands.specs.Outcomes.{Outcome, IsAnswerOf}
 use Rattle.commands.specs.declared.status.Status.{Status}
-use Rattle.commands.specs.declared.status.Status.TheVariants.{Yes, No}
 
 -- ---- a decision
 
--- two decisions that are right are one
-pub one_decision : {P : Type 0} (a b : deciding.Answer) → (a ≡ Homotopic) ↔ P → (b ≡ Homotopic) ↔ P → a ≡ b
-one_decision Homotopic Homotopic p q = refl
-one_decision Homotopic Different p q = sym (q.1 (p.0 refl))
-one_decision Different Homotopic p q = p.1 (q.0 refl)
-one_decision Different Different p q = refl
-
-one_decided : (mesh : FaceList) (first second : List ℕ) (a b : End Answer) → (decided mesh first second).Ends a
-    → (decided mesh first second).Ends b → a ≡ b
-one_decided mesh first second (Refuse texts) b p q = absurd p
-one_decided mesh first second (Pass x) (Refuse texts) p q = absurd q
-one_decided mesh first second (Pass x) (Pass y) p q =
-    let same : p.0 ≡ q.0 = one_decision p.0 q.0 p.2 q.2 in
-    let answers : x ≡ y = p.1 ∙ ap decision_answer same ∙ sym q.1 in
-    cc
+either_decision : (decision : deciding.Answer) → (decision ≡ Homotopic) ⊎ (decision ≡ Different)
+either_decision Homotopic = inl refl
+either_decision Different = inr refl
 
 pub differs : Different ≡ Homotopic → ⊥
 differs e = cc
 
+pub yes_or_no : IsYesOrNo Homotopic Different
+yes_or_no = record { either = either_decision; differ = differs }
+
+-- two decisions that are right are one
+pub one_decision : {P : Type 0} (a b : deciding.Answer) → (a ≡ Homotopic) ↔ P → (b ≡ Homotopic) ↔ P → a ≡ b
+one_decision a b p q = one_right yes_or_no a b p q
+
 pub sound-decided : (held : Option Files) (mesh : FaceList) (first second : List ℕ) → IsSound held (decided mesh first second)
-sound-decided held mesh first second =
-    record {
-      some = λ none.
-          none (Pass (decision_answer Different)) (
-            Different,
-            refl,
-            ((λ e. absurd (differs e)), (λ h. absurd (none (Pass (decision_answer Homotopic)) (Homotopic, refl, ((λ _. h), (λ _. refl)))))),
-          );
-      one = λ _ a b p q. one_decided mesh first second a b p q;
-    }
+sound-decided held mesh first second = sound-decided_by held yes_or_no decision_answer (moves.Homotopic mesh first second)
 
 -- what is answered of a decision that is right
-pub record IsRightAnswer (mesh : FaceList) (first second : List ℕ) (status : Status) (text : List ℕ) : Type 0 where
-  pub answered : ((status ≡ Yes) × (text ≡ decision_line Homotopic)) ⊎ ((status ≡ No) × (text ≡ decision_line Different))
-  pub exactly : (status ≡ Yes) ↔ moves.Homotopic mesh first second
-
-no_yes : No ≡ Yes → ⊥
-no_yes e = cc
-
-right_by : (mesh : FaceList) (first second : List ℕ) (decision : deciding.Answer) (status : Status) (text : List ℕ)
-    → (decision ≡ Homotopic) ↔ moves.Homotopic mesh first second → status ≡ decision_status decision → text ≡ decision_line decision
-    → IsRightAnswer mesh first second status text
-right_by mesh first second Homotopic status text right e f = record { answered = inl (e, f); exactly = ((λ _. right.0 refl), (λ _. e)) }
-right_by mesh first second Different status text right e f =
-    record { answered = inr (e, f); exactly = ((λ yes. absurd (no_yes (sym e ∙ yes))), (λ h. absurd (differs (right.1 h)))) }
+abbrev pub IsRightAnswer : FaceList → (first second : List ℕ) → Status → List ℕ → Type 0
+IsRightAnswer mesh first second status text =
+    IsRightLine (decision_line Homotopic) (decision_line Different) (moves.Homotopic mesh first second) status text
 
 pub right_answer : (mesh : FaceList) (first second : List ℕ) (outcome : Outcome) (status : Status) (text : List ℕ)
     → (decided mesh first second).Ends outcome → IsAnswerOf outcome status text → IsRightAnswer mesh first second status text
-right_answer mesh first second (Refuse texts) status text p answer = absurd p
-right_answer mesh first second (Pass x) status text p answer =
-    let here : IsAnswerOf (Pass (decision_answer p.0)) status text = subst (λ (y : Answer). IsAnswerOf (Pass y) status text) p.1 answer in
-    right_by mesh first second p.0 status text p.2 here.status_is here.text_is
+right_answer mesh first second outcome status text p answer =
+    right_line yes_or_no decision_status refl refl decision_line (moves.Homotopic mesh first second) outcome status text p answer
 
 -- ---- a sequence of which the first thing is known
 

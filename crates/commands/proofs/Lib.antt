@@ -1,4 +1,5 @@
 pub mod Checking
+pub mod WalkInputs
 pub mod Running
 pub mod Writing
 pub mod Sound
@@ -7,12 +8,14 @@ pub mod SomeParts
 pub mod Surfaces
 pub mod Genera
 pub mod Measuring
+pub mod RightAnswers
 pub mod Deciding
 pub mod GatheredLines
 pub mod Components
 pub mod Certifying
 pub mod Trying
 pub mod Rows
+pub mod RunsOnWalks
 pub mod SurfaceOutcomes
 pub mod CertifyOutcomes
 pub mod ChainReading

@@ -1,25 +1,26 @@
 -- The files that commands look at, and the commands: the check of each has an end, and one where its files are told.
-use Rattle.std.proofs.Common.{inr, ℕ, List, [], ◌∷◌, refl, sym, subst}
-use Rattle.std.specs.Prelude.{Option, Some, None, Result, Ok, Err}
+use Rattle.std.proofs.Common.{◌≡◌, inr, ℕ, List, [], ◌∷◌, length, refl, sym, subst}
+use Rattle.std.specs.Prelude.{Option}
 use Rattle.surf_io.specs.Files.{Files}
 use Rattle.surf_model.specs.FaceLists.{FaceList}
 use Rattle.off_reader.specs.OffTexts.{meaning_of}
-use Rattle.walk_files.specs.WalkTexts.{walks_of}
-use Rattle.walk_files.specs.Pairs.{IsPair, pair_fault}
-use Rattle.walk_files.specs.declared.fault.WalkFault.{WalkFault}
+use Rattle.walk_files.specs.Pairs.{IsPair, ends_fault, of_entry, pair_fault}
+use Rattle.walk_files.specs.declared.pair.PairFault.TheVariants.{NotTwo}
 use Rattle.walk_files.proofs.PairLemmas.{none_of_pair}
+use Rattle.walk_files.proofs.TwoWalkLemmas.{two_fault-two}
 use Rattle.commands.specs.declared.refusal.Input.TheVariants as inputs
 use Rattle.commands.proofs.Certifying.{sound-certified}
-use Rattle.commands.proofs.Checking.{pair_passes}
+use Rattle.commands.proofs.Deciding.{behind}
 use Rattle.commands.proofs.Measuring.{with_few, sound-numbers, sound-genera, surface_passed, as_passes}
 use Rattle.commands.proofs.MeshTexts.{mesh_valid}
-use Rattle.commands.proofs.Sound.{IsSound, sound-then, sound-pass, sound-meant, sound-pass_unless, sound-file, held}
+use Rattle.commands.proofs.Sound.{IsSound, sound-then, sound-pass, sound-meant, sound-pass_unless, sound-file, meant_told, held}
 use Rattle.commands.proofs.Surfaces.{sound-as_surface, sound-few, few_passed}
-use Rattle.commands.specs.Answers.{Exactly, Texts}
+use Rattle.commands.proofs.WalkInputs.{no_fault_passes, sound-walks, walks_passed, walks_told}
+use Rattle.commands.specs.Answers.{Exactly}
 use Rattle.commands.specs.Certify.{certify, limit_fault}
-use Rattle.commands.specs.Checks.{Passes, Holds, IsTold, meant, pass_unless, ◌>>=◌}
+use Rattle.commands.specs.Checks.{Check, End, Passes, Holds, IsTold, ◌>>=◌}
 use Rattle.commands.specs.Inputs.{mesh_in, pair_in, walk_at, SpellsMesh, SpellsPair}
-use Rattle.commands.specs.Refusals.{numbers_line, off_line, pair_line}
+use Rattle.commands.specs.Refusals.{off_line, pair_line}
 use Rattle.commands.specs.ClosedSurfaces.{IsOrientableSurface}
 use Rattle.commands.specs.Surface.{surface}
 use Rattle.commands.specs.SurfaceInput.{surface_in}
@@ -31,10 +32,7 @@ pub sound-mesh : (held : Option Files) (name : List ℕ) → IsSound held (mesh_
 sound-mesh held name = sound-then held _ _ (sound-file held name inputs.Mesh) (λ bytes _. sound-meant held off_line (meaning_of bytes))
 
 pub sound-pair : (held : Option Files) (name : List ℕ) (mesh : FaceList) → IsSound held (pair_in held name mesh)
-sound-pair held name mesh =
-    sound-then held _ _ (sound-file held name inputs.Walks)
-    (λ bytes _. sound-then held _ _ (sound-meant held (numbers_line inputs.Walks) (walks_of bytes))
-    (λ walks _. sound-pass_unless held pair_line (pair_fault mesh walks) walks))
+sound-pair held name mesh = sound-walks pair_line (pair_fault mesh) held name
 
 -- ---- the commands
 
@@ -65,23 +63,6 @@ sound-certify held mesh walks =
 
 -- ---- files that are told
 
-pub meant_told : {T F : Type 0} (files : Option Files) (line_of : F → Texts) (read : Result T F)
-    → (meant line_of read).EachFile (IsTold files)
-meant_told files line_of (Ok thing) = tt
-meant_told files line_of (Err fault) = tt
-
-pub unless_told : {T F : Type 0} (files : Option Files) (line_of : F → Texts) (fault : Option F) (thing : T)
-    → (pass_unless line_of fault thing).EachFile (IsTold files)
-unless_told files line_of None thing = tt
-unless_told files line_of (Some fault) thing = tt
-
-pub walks_told : (files : Option Files) (mesh : FaceList) (read : Result (List (List ℕ)) WalkFault)
-    → (meant (numbers_line inputs.Walks) read >>= (λ walks. pass_unless pair_line (pair_fault mesh walks) walks)).EachFile (IsTold files)
-walks_told files mesh read = (
-  meant_told files (numbers_line inputs.Walks) read,
-  λ walks _. unless_told files pair_line (pair_fault mesh walks) walks,
-)
-
 pub mesh_told : (files : Option Files) (name : List ℕ) (mesh : FaceList) → Holds files name (SpellsMesh mesh)
     → (mesh_in files name).EachFile (IsTold files)
 mesh_told files name mesh h = ((held files name (SpellsMesh mesh) h).told, λ bytes _. meant_told files off_line (meaning_of bytes))
@@ -110,11 +91,12 @@ spelled_pair files name mesh first second h =
       second_walk = spelled.second_walk;
       ends = spelled.ends;
     } in
-    pair_passes files name mesh file.bytes pair (file.passes inputs.Walks) spelled.text (none_of_pair mesh pair is_pair)
+    walks_passed pair_line (pair_fault mesh) files name file.bytes pair (file.passes inputs.Walks) spelled.text
+    (none_of_pair mesh pair is_pair)
 
 pub pair_told : (files : Option Files) (name : List ℕ) (mesh : FaceList) → IsTold files name
     → (pair_in files name mesh).EachFile (IsTold files)
-pair_told files name mesh told = (told, λ bytes _. walks_told files mesh (walks_of bytes))
+pair_told files name mesh told = walks_told pair_line (pair_fault mesh) files name told
 
 pub surface_told : (files : Option Files) (name : List ℕ) → IsTold files name → (surface_in files name).EachFile (IsTold files)
 surface_told files name told = ((told, λ bytes _. meant_told files off_line (meaning_of bytes)), λ _ _. (tt, λ _ _. tt))
@@ -123,3 +105,33 @@ surface_told files name told = ((told, λ bytes _. meant_told files off_line (me
 pub spelled_surface : (files : Option Files) (name : List ℕ) (mesh : FaceList) → Holds files name (SpellsMesh mesh)
     → IsOrientableSurface mesh → Passes (surface_in files name) mesh
 spelled_surface files name mesh h is = inr (mesh, mesh_passes files name mesh h, as_passes mesh is)
+
+-- where a pair passes, there are two walks
+pub two_walks : (held : Option Files) (name : List ℕ) (mesh : FaceList) (walks : List (List ℕ)) → Passes (pair_in held name mesh) walks
+    → length walks ≡ 2
+two_walks held name mesh walks p =
+    two_fault-two NotTwo of_entry ends_fault mesh walks (no_fault_passes pair_line (pair_fault mesh) held name walks p)
+
+-- what comes behind a surface and what is read of its walks, which are known to pass
+pub behind_input : {A B : Type 0} (files : Option Files) (name : List ℕ) (mesh : FaceList) (walks : A) (walks_in : FaceList → Check A)
+    (next : FaceList → A → Check B) (end : End B) → Holds files name (SpellsMesh mesh) → IsOrientableSurface mesh
+    → IsSound files (walks_in mesh) → (walks_in mesh).EachFile (IsTold files) → Passes (walks_in mesh) walks
+    → (surface_in files name >>= (λ surface. walks_in surface >>= next surface)).Ends end → (next mesh walks).Ends end
+behind_input files name mesh walks walks_in next end mesh_file is_surface sound told passes is =
+    behind files (walks_in mesh) (next mesh) walks end sound told passes
+    (behind files (surface_in files name) (λ surface. walks_in surface >>= next surface) mesh end (sound-surface_in files name)
+    (surface_told files name (held files name (SpellsMesh mesh) mesh_file).told)
+    (spelled_surface files name mesh mesh_file is_surface) is)
+
+-- what comes behind a mesh and two walks of it, which their files spell
+pub behind_pair : {B : Type 0} (files : Option Files) (mesh_name walks_name : List ℕ) (mesh : FaceList) (first second : List ℕ)
+    (next : FaceList → List (List ℕ) → Check B) (end : End B) → Holds files mesh_name (SpellsMesh mesh)
+    → Holds files walks_name (SpellsPair mesh first second)
+    → (mesh_in files mesh_name >>= (λ faces. pair_in files walks_name faces >>= next faces)).Ends end
+    → (next mesh (first ∷ second ∷ [])).Ends end
+behind_pair files mesh_name walks_name mesh first second next end mesh_file walks_file is =
+    behind files (pair_in files walks_name mesh) (next mesh) (first ∷ second ∷ []) end (sound-pair files walks_name mesh)
+    (pair_told files walks_name mesh (held files walks_name (SpellsPair mesh first second) walks_file).told)
+    (spelled_pair files walks_name mesh first second walks_file)
+    (behind files (mesh_in files mesh_name) (λ faces. pair_in files walks_name faces >>= next faces) mesh end (sound-mesh files mesh_name)
+    (mesh_told files mesh_name mesh mesh_file) (mesh_passes files mesh_name mesh mesh_file) is)

@@ -1,14 +1,15 @@
 -- What holds of checks, part by part: no check is without an end, and it has one where the files that it looks at are told.
 use Rattle.std.proofs.Common.{◌≡◌, ◌⊎◌, inl, inr, ℕ, ◌<◌, ◌≤◌, List, [], length, refl, sym, ap, ◌∙◌, subst, arith}
-use Rattle.std.specs.Prelude.{Option, Some, None, Result, Ok, Err, IfSome, IsSome, IsSomeAnd, MatchOption}
+use Rattle.std.specs.Prelude.{◌↔◌, Option, Some, None, Result, Ok, Err, IfSome, IsSome, IsSomeAnd, MatchOption}
 use Rattle.std.proofs.lemmas.Bool.{cases_lt}
 use Rattle.surf_io.specs.Files.{Files, file_of}
 use Rattle.commands.specs.Answers.{Texts}
-use Rattle.commands.specs.Checks.{Check, End, Refuse, Pass, Passes, IsTold, Holds, pass, refuse, file, found_or, meant, pass_unless, where_told, ◌>>=◌}
+use Rattle.commands.specs.Checks.{Check, End, Refuse, Pass, Passes, IsTold, Holds, pass, refuse, file, found_or, decided_by, meant, pass_unless, where_told, ◌>>=◌}
 use Rattle.commands.specs.Refusals.{too_large}
 use Rattle.commands.specs.declared.inputs.TheConstants.{MOST_BYTES}
 use Rattle.commands.specs.declared.refusal.Input.{Input}
 
+-- the check has an end, and one where the files that it looks at are told
 pub record IsSound {T : Type 0} (held : Option Files) (check : Check T) : Type 0 where
   pub some : ((end : End T) → check.Ends end → ⊥) → ⊥
   pub one : check.EachFile (IsTold held) → (a b : End T) → check.Ends a → check.Ends b → a ≡ b
@@ -104,6 +105,52 @@ sound-file held name input =
         → (MOST_BYTES < length bytes) ⊎ (length bytes ≤ MOST_BYTES) → ⊥
     some_end none bytes agrees (inl large) = none (Refuse (too_large input)) (bytes, agrees, large, refl)
     some_end none bytes agrees (inr small) = none (Pass bytes) (agrees, small)
+
+-- ---- files that are told, of parts that look at none
+
+pub meant_told : {T F : Type 0} (files : Option Files) (line_of : F → Texts) (read : Result T F)
+    → (meant line_of read).EachFile (IsTold files)
+meant_told files line_of (Ok thing) = tt
+meant_told files line_of (Err fault) = tt
+
+pub unless_told : {T F : Type 0} (files : Option Files) (line_of : F → Texts) (fault : Option F) (thing : T)
+    → (pass_unless line_of fault thing).EachFile (IsTold files)
+unless_told files line_of None thing = tt
+unless_told files line_of (Some fault) thing = tt
+
+-- ---- a decision
+
+-- the two decisions that there are
+pub record IsYesOrNo {D : Type 0} (for_yes for_no : D) : Type 0 where
+  pub either : (decision : D) → (decision ≡ for_yes) ⊎ (decision ≡ for_no)
+  pub differ : for_no ≡ for_yes → ⊥
+
+-- two decisions that are right are one
+pub one_right : {D P : Type 0} {for_yes for_no : D} → IsYesOrNo for_yes for_no → (a b : D) → (a ≡ for_yes) ↔ P → (b ≡ for_yes) ↔ P → a ≡ b
+one_right two a b p q =
+    elim (two.either a) [
+      | inl first ↦ first ∙ sym (q.1 (p.0 first))
+      | inr first ↦ elim (two.either b) [ | inl second ↦ p.1 (q.0 second) ∙ sym second | inr second ↦ first ∙ sym second ]
+    ]
+
+one_decided : {D T : Type 0} {for_yes for_no : D} → IsYesOrNo for_yes for_no → (made : D → T) (P : Type 0) (a b : End T) → (decided_by for_yes made P).Ends a
+    → (decided_by for_yes made P).Ends b → a ≡ b
+one_decided two made P (Refuse texts) b p q = absurd p
+one_decided two made P (Pass x) (Refuse texts) p q = absurd q
+one_decided two made P (Pass x) (Pass y) p q =
+    let same : p.0 ≡ q.0 = one_right two p.0 q.0 p.2 q.2 in
+    let things : x ≡ y = p.1 ∙ ap made same ∙ sym q.1 in
+    cc
+
+pub sound-decided_by : {D T : Type 0} {for_yes for_no : D} (held : Option Files) → IsYesOrNo for_yes for_no → (made : D → T) (P : Type 0)
+    → IsSound held (decided_by for_yes made P)
+sound-decided_by {D} {T} {for_yes} {for_no} held two made P =
+    record {
+      some = λ none.
+          none (Pass (made for_no))
+          (for_no, refl, ((λ e. absurd (two.differ e)), (λ h. absurd (none (Pass (made for_yes)) (for_yes, refl, ((λ _. h), (λ _. refl)))))));
+      one = λ _ a b p q. one_decided two made P a b p q;
+    }
 
 -- ---- a file that is read in pieces
 

@@ -31,9 +31,8 @@ use Rattle.commands.specs.declared.trial.Decisions.{Decisions}
 use Rattle.commands.proofs.ChainReading.{chain_read}
 use Rattle.commands.proofs.Deciding.{behind, refused_behind}
 use Rattle.commands.proofs.Measuring.{as_passes}
-use Rattle.commands.proofs.Rows.{meant_told, unless_told}
 use Rattle.commands.proofs.SomeParts.{some_parts}
-use Rattle.commands.proofs.Sound.{sound-pass_unless}
+use Rattle.commands.proofs.Sound.{sound-pass_unless, meant_told, unless_told}
 use Rattle.commands.proofs.Surfaces.{sound-few, few_pass}
 use Rattle.manifold_check.proofs.PartPieces.{joined_few}
 use Rattle.commands.proofs.Trying.{spelled_passed, sound-spelled, sizes, within_bounds, with_surface, with_few, with_numbers, with_genera, with_decisions, with_cell, with_loops, in_order, on_pair}

@@ -9,7 +9,7 @@ use Rattle.walk_translate.specs.declared.deciding.Answer as deciding
 use Rattle.walk_translate.specs.declared.deciding.Answer.TheVariants.{Homotopic}
 use Rattle.commands.specs.Answers.{Answer, Exactly, OfCertificate}
 use Rattle.commands.specs.Certificates.{Convinces, IsPeakLow, IsShortOnSphere, decision_of, decision_status, certificate_text}
-use Rattle.commands.specs.Checks.{Check, End, Refuse, Pass, Holds, pass_unless, without_files, ◌>>=◌}
+use Rattle.commands.specs.Checks.{Check, Holds, decided_by, pass_unless, ◌>>=◌}
 use Rattle.commands.specs.ClosedSurfaces.{IsOrientableSurface}
 use Rattle.commands.specs.Inputs.{pair_in, walk_at, SpellsMesh, SpellsPair}
 use Rattle.commands.specs.Lines.{refused}
@@ -80,13 +80,7 @@ certificate_answer mesh first second decision =
 
 -- the decision on two walks of a mesh, for which a certificate is printed
 abbrev pub certified : FaceList → (first second : List ℕ) → Check Answer
-certified mesh first second = without_files ends
-  where
-    ends : End Answer → Type 0
-    ends (Refuse texts) = ⊥
-    ends (Pass answer) =
-        (decision : deciding.Answer) × (answer ≡ certificate_answer mesh first second decision)
-        × ((decision ≡ Homotopic) ↔ moves.Homotopic mesh first second)
+certified mesh first second = decided_by Homotopic (certificate_answer mesh first second) (moves.Homotopic mesh first second)
 
 abbrev pub certify : Option Files → (mesh walks : List ℕ) → Check Answer
 certify held mesh walks = do

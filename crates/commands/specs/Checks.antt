@@ -1,5 +1,5 @@
 -- Checks: what is looked at, one thing after another, up to the first refusal.
-use Rattle.std.specs.Prelude.{◌≡◌, ℕ, ◌<◌, ◌≤◌, ◌⊎◌, List, length, Option, None, Some, IfSome, IsSome, IsSomeAnd, MatchOption, Result, Ok, Err, ⊤}
+use Rattle.std.specs.Prelude.{◌≡◌, ◌↔◌, ℕ, ◌<◌, ◌≤◌, ◌⊎◌, List, length, Option, None, Some, IfSome, IsSome, IsSomeAnd, MatchOption, Result, Ok, Err, ⊤}
 use Rattle.surf_io.specs.Files.{Files, file_of}
 use Rattle.commands.specs.Answers.{Texts}
 use Rattle.commands.specs.Refusals.{too_large}
@@ -39,6 +39,14 @@ found_or {T} texts P = without_files ends
     ends : End T → Type 0
     ends (Refuse told) = ((thing : T) → P thing → ⊥) × (told ≡ texts)
     ends (Pass thing) = P thing
+
+-- What is made of the right decision passes: the decision for yes is right exactly where this holds.
+abbrev pub decided_by : {D T : Type 0} → D → (D → T) → Type 0 → Check T
+decided_by {D} {T} for_yes made P = without_files ends
+  where
+    ends : End T → Type 0
+    ends (Refuse texts) = ⊥
+    ends (Pass thing) = (decision : D) × (thing ≡ made decision) × ((decision ≡ for_yes) ↔ P)
 
 -- what is meant passes, and a fault in it is refused
 abbrev pub meant : {T F : Type 0} → (F → Texts) → Result T F → Check T

@@ -1,12 +1,12 @@
 -- The decision on two walks, and the answer that it is.
-use Rattle.std.specs.Prelude.{◌≡◌, ℕ, ◌↔◌, List}
+use Rattle.std.specs.Prelude.{ℕ, List}
 use Rattle.surf_model.specs.FaceLists.{FaceList}
 use Rattle.surf_model.specs.Moves as moves
 use Rattle.walk_translate.specs.declared.deciding.Answer as deciding
 use Rattle.walk_translate.specs.declared.deciding.Answer.TheVariants.{Homotopic}
 use Rattle.commands.specs.Answers.{Answer, Exactly}
 use Rattle.commands.specs.Certificates.{decision_status, decision_line}
-use Rattle.commands.specs.Checks.{Check, End, Refuse, Pass, without_files}
+use Rattle.commands.specs.Checks.{Check, decided_by}
 
 -- the answer that a decision is
 abbrev pub decision_answer : deciding.Answer → Answer
@@ -14,9 +14,4 @@ decision_answer decision = record { status = decision_status decision; texts = E
 
 -- the decision on two walks of a mesh
 abbrev pub decided : FaceList → List ℕ → List ℕ → Check Answer
-decided mesh first second = without_files ends
-  where
-    ends : End Answer → Type 0
-    ends (Refuse texts) = ⊥
-    ends (Pass answer) =
-        (decision : deciding.Answer) × (answer ≡ decision_answer decision) × ((decision ≡ Homotopic) ↔ moves.Homotopic mesh first second)
+decided mesh first second = decided_by Homotopic decision_answer (moves.Homotopic mesh first second)

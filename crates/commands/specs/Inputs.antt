@@ -6,11 +6,13 @@ use Rattle.surf_model.specs.Walks.{IsWalk, HaveCommonEnds}
 use Rattle.off_reader.specs.OffTexts.{meaning_of}
 use Rattle.walk_files.specs.Certificates.{head_of_text, moves_of_text, with_peak}
 use Rattle.walk_files.specs.Denials.{denial_of_lines}
-use Rattle.walk_files.specs.WalkTexts.{walks_of}
+use Rattle.walk_files.specs.WalkLists.{WalkText}
+use Rattle.walk_files.specs.WalkTexts.{walk_text_of, walks_of}
 use Rattle.walk_files.specs.Pairs.{pair_fault}
 use Rattle.walk_files.specs.declared.certificate.CertHead.{CertHead}
 use Rattle.walk_files.specs.declared.certificate.CertHead.TheVariants as heads
 use Rattle.walk_files.specs.declared.fault.CertFault.{CertFault}
+use Rattle.commands.specs.Answers.{Texts}
 use Rattle.commands.specs.Checks.{Check, End, Pass, Refuse, file, meant, pass_unless, where_told, ◌>>=◌}
 use Rattle.commands.specs.Refusals.{off_line, numbers_line, pair_line, certificate_line, too_large}
 use Rattle.commands.specs.declared.certificate.Certificate.{Certificate}
@@ -23,12 +25,22 @@ mesh_in held name = do
   bytes ← file held name inputs.Mesh
   meant off_line (meaning_of bytes)
 
--- the walks that the file spells, which are two walks of the mesh with common ends
-abbrev pub pair_in : Option Files → List ℕ → FaceList → Check (List (List ℕ))
-pair_in held name mesh = do
+-- the text of a walk file, of whose walks nothing else is asked
+abbrev pub text_in : Option Files → List ℕ → Check WalkText
+text_in held name = do
+  bytes ← file held name inputs.Walks
+  meant (numbers_line inputs.Walks) (walk_text_of bytes)
+
+-- the walks that the file spells, unless this finds a fault in them
+abbrev pub walks_unless : {F : Type 0} → (F → Texts) → (List (List ℕ) → Option F) → Option Files → List ℕ → Check (List (List ℕ))
+walks_unless line_of fault_in held name = do
   bytes ← file held name inputs.Walks
   walks ← meant (numbers_line inputs.Walks) (walks_of bytes)
-  pass_unless pair_line (pair_fault mesh walks) walks
+  pass_unless line_of (fault_in walks) walks
+
+-- the walks that the file spells, which are two walks of the mesh with common ends
+abbrev pub pair_in : Option Files → List ℕ → FaceList → Check (List (List ℕ))
+pair_in held name mesh = walks_unless pair_line (pair_fault mesh) held name
 
 -- walk k of some, counted from 0
 abbrev pub walk_at : List (List ℕ) → ℕ → List ℕ

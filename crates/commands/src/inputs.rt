@@ -4,7 +4,7 @@ ghost use Rattle.surf_model.specs.FaceLists.{FaceList};
 ghost use Rattle.surf_model.specs.Edges.{IsTableOf};
 ghost use Rattle.walk_files.specs.Pairs.{IsPair};
 ghost use Rattle.commands.specs.Checks.{file, meant, Passes};
-ghost use Rattle.commands.specs.Inputs.{mesh_in, pair_in};
+ghost use Rattle.commands.specs.Inputs.{mesh_in, pair_in, text_in};
 ghost use Rattle.commands.specs.Refusals.{numbers_line};
 ghost use Rattle.commands.specs.declared.refusal.Input.{Input};
 ghost use Rattle.commands.specs.declared.stop.Stop.{Stop};
@@ -48,6 +48,14 @@ pub fn read_mesh<S: Shelf>(alloc: Global, shelf: &mut S, name: &str) -> Result<F
     Ok(read_off(alloc, &bytes)?)
 }
 
+/// Reads walks, of which nothing else is asked yet.
+pub fn read_list<S: Shelf>(alloc: Global, shelf: &mut S, name: &str) -> Result<WalkList, Stop>
+    ensures { Reads S.held S.faults shelf.old shelf.new (λ files. Ends (text_in files name.now) result) result }
+{
+    let bytes = read_file(alloc, shelf, name, Input::Walks)?;
+    walks_of_bytes(alloc, &bytes)
+}
+
 /// Reads the two walks of the mesh with this table.
 pub fn read_pair<S: Shelf>(
     alloc: Global,
@@ -60,14 +68,13 @@ pub fn read_pair<S: Shelf>(
         → MatchResult result (λ list. Passes (pair_in files name.now mesh) list.walks) (Stops (pair_in files name.now mesh))) result }
     ensures pair { IfOk result (λ list. (mesh : FaceList) → IsTableOf mesh sides.now → IsPair mesh list.walks) }
 {
-    let bytes = read_file(alloc, shelf, name, Input::Walks)?;
-    let walks = walks_of_bytes(alloc, &bytes)?;
+    let walks = read_list(alloc, shelf, name)?;
     check_pair(sides, &walks)?;
     Ok(walks)
 }
 
 /// The walks that the bytes spell.
-pub fn walks_of_bytes(alloc: Global, bytes: &[u8]) -> Result<WalkList, Stop>
+fn walks_of_bytes(alloc: Global, bytes: &[u8]) -> Result<WalkList, Stop>
     ensures end { Ends (meant (numbers_line Input.Walks) (walk_text_of bytes.now)) result }
     ensures no_fault { result ≡ Err Stop.ReadFault → ⊥ }
 {

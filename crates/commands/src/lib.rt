@@ -7,7 +7,7 @@
 //! A command in another crate is written the same way. It takes from here:
 //!
 //! - `read_file`, `read_mesh`, `read_pair` and `read_surface`, each with the clause `Reads` of its check;
-//! - `walks_of_bytes`, for the walks of a file of which a command asks something else than that they are a pair;
+//! - `read_list`, for walks of which a command asks something else than that they are a pair;
 //! - `Component::of`, for a command that works on the component of a vertex;
 //! - `refused`, `refused_at` and `refused_at_place`, which make the `Stop` of a fault that this crate does not know, with the clause
 //!   `Tells`;
@@ -36,7 +36,7 @@ pub mod trial;
 mod word_lines;
 
 pub use certificate::Certificate;
-pub use inputs::{MOST_BYTES, read_file, read_mesh, read_pair, walks_of_bytes};
+pub use inputs::{MOST_BYTES, read_file, read_list, read_mesh, read_pair};
 pub use line::{Line, MOST_OTHERS, Phrase};
 pub use refusal::{Input, refused, refused_at, refused_at_place};
 pub use reply::{Reply, give};

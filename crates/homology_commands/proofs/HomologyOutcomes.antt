@@ -3,15 +3,13 @@ use Rattle.std.proofs.Common.{◌≡◌, ℕ, List, [], ◌∷◌, codes}
 use Rattle.std.specs.Prelude.{Option}
 use Rattle.surf_io.specs.Files.{Files}
 use Rattle.surf_model.specs.FaceLists.{FaceList}
-use Rattle.commands.proofs.Deciding.{behind}
-use Rattle.commands.proofs.Rows.{pair_told, sound-pair, sound-surface_in, spelled_pair, spelled_surface, surface_told}
+use Rattle.commands.proofs.Rows.{behind_input, pair_told, sound-pair, spelled_pair}
 use Rattle.commands.proofs.Sound.{held}
-use Rattle.commands.specs.Inputs.{pair_in, SpellsMesh, SpellsPair}
+use Rattle.commands.specs.Inputs.{pair_in, SpellsPair}
 use Rattle.commands.specs.Outcomes.{Outcome, AnswersTo, IsAnswerOf}
-use Rattle.commands.specs.SurfaceInput.{surface_in}
 use Rattle.commands.specs.declared.status.Status.{Status}
 use Rattle.homology_commands.specs.Homology.{homology, IsHomologyAnswered, IsHomologyInput}
-use Rattle.homology_commands.proofs.HomologyAnswers.{IsRightAnswer, right_answer, after_pair, after_surface}
+use Rattle.homology_commands.proofs.HomologyAnswers.{IsRightAnswer, right_answer, after_pair}
 
 -- what is answered of such an input
 answers : (files : Option Files) (words : List (List ℕ)) (outcome : Outcome) (status : Status) (text : List ℕ) (mesh : FaceList)
@@ -19,17 +17,10 @@ answers : (files : Option Files) (words : List (List ℕ)) (outcome : Outcome) (
     → (homology files input.mesh_name input.walks_name).Ends outcome → IsAnswerOf outcome status text
     → IsRightAnswer mesh first second status text
 answers files words outcome status text mesh first second input is answer =
-    let mesh_file = held files input.mesh_name (SpellsMesh mesh) input.mesh_file in
-    let walks_file = held files input.walks_name (SpellsPair mesh first second) input.walks_file in
-    let pair : List (List ℕ) = first ∷ second ∷ [] in
-    let passed = spelled_pair files input.walks_name mesh first second input.walks_file in
-    let surface = spelled_surface files input.mesh_name mesh input.mesh_file input.is_surface in
-    let walks = behind files (surface_in files input.mesh_name) (after_surface files input.walks_name) mesh outcome
-    (sound-surface_in files input.mesh_name)
-    (surface_told files input.mesh_name mesh_file.told) surface is in
-    let shown = behind files (pair_in files input.walks_name mesh) (after_pair mesh) pair outcome
-    (sound-pair files input.walks_name mesh)
-    (pair_told files input.walks_name mesh walks_file.told) passed walks in
+    let told = (held files input.walks_name (SpellsPair mesh first second) input.walks_file).told in
+    let shown = behind_input files input.mesh_name mesh (first ∷ second ∷ []) (pair_in files input.walks_name) after_pair outcome
+    input.mesh_file input.is_surface (sound-pair files input.walks_name mesh) (pair_told files input.walks_name mesh told)
+    (spelled_pair files input.walks_name mesh first second input.walks_file) is in
     right_answer mesh first second outcome status text shown answer
 
 -- what `homology` is for, where the words are answered by its check

@@ -13,18 +13,18 @@ use Rattle.homology.proofs.PairingLemmas.{refuted}
 use Rattle.homology_files.specs.HomologyTexts.{cert_of_text}
 use Rattle.commands.proofs.Deciding.{behind}
 use Rattle.commands.proofs.MeshTexts.{mesh_valid}
-use Rattle.commands.proofs.Rows.{sound-mesh, sound-pair, meant_told, pair_told, mesh_told, mesh_passes, spelled_pair}
-use Rattle.commands.proofs.Sound.{IsSound, sound-then, sound-meant, sound-file, held}
+use Rattle.commands.proofs.Rows.{behind_pair, sound-mesh, sound-pair, pair_told, mesh_told, mesh_passes, spelled_pair}
+use Rattle.commands.proofs.Sound.{IsSound, sound-then, sound-meant, sound-file, held, meant_told}
 use Rattle.commands.specs.Answers.{Answer}
 use Rattle.commands.specs.Checks.{Refuse, Pass, Passes, IsTold}
-use Rattle.commands.specs.Inputs.{mesh_in, pair_in, walk_at, SpellsPair}
+use Rattle.commands.specs.Inputs.{walk_at, SpellsPair}
 use Rattle.commands.specs.Outcomes.{Outcome, AnswersTo, IsAnswerOf}
 use Rattle.commands.specs.declared.refusal.Input.TheVariants as inputs
 use Rattle.commands.specs.declared.status.Status.{Status}
 use Rattle.commands.specs.declared.status.Status.TheVariants.{Yes}
 use Rattle.homology_commands.specs.VerifyHomology.{verify_homology, verdict_status, verdict_line, verdict_answer, fault_line, judgement, certificate_in, ShownBy, IsInput, IsHomologyVerified}
 use Rattle.homology_commands.proofs.SomeVerdicts.{sound-judgement}
-use Rattle.homology_commands.proofs.Verifying.{after_mesh, after_pair}
+use Rattle.homology_commands.proofs.Verifying.{after_pair}
 
 pub sound-certificate : (files : Option Files) (name : List ℕ) → IsSound files (certificate_in files name)
 sound-certificate files name =
@@ -82,17 +82,11 @@ behind_files : (files : Option Files) (words : List (List ℕ)) (mesh : FaceList
     → (verify_homology files input.mesh_name input.walks_name input.certificate_name).Ends outcome
     → (judgement mesh first second shown).Ends outcome
 behind_files files words mesh first second shown outcome input is =
-    let pair : List (List ℕ) = first ∷ second ∷ [] in
     let file = held files input.certificate_name (Spells shown) input.certificate_file in
     let passed : Passes (certificate_in files input.certificate_name) shown =
     inr (file.bytes, file.passes inputs.Certificate, rw file.holds refl) in
-    let walks = behind files (mesh_in files input.mesh_name) (after_mesh files input.walks_name input.certificate_name) mesh outcome
-    (sound-mesh files input.mesh_name) (mesh_told files input.mesh_name mesh input.mesh_file)
-    (mesh_passes files input.mesh_name mesh input.mesh_file) is in
-    let certificate = behind files (pair_in files input.walks_name mesh) (after_pair files input.certificate_name mesh) pair outcome
-    (sound-pair files input.walks_name mesh)
-    (pair_told files input.walks_name mesh (held files input.walks_name (SpellsPair mesh first second) input.walks_file).told)
-    (spelled_pair files input.walks_name mesh first second input.walks_file) walks in
+    let certificate = behind_pair files input.mesh_name input.walks_name mesh first second (after_pair files input.certificate_name) outcome
+    input.mesh_file input.walks_file is in
     behind files (certificate_in files input.certificate_name) (judgement mesh first second) shown outcome
     (sound-certificate files input.certificate_name) (file.told, λ bytes _. meant_told files fault_line (cert_of_text bytes)) passed
     certificate

@@ -6,7 +6,7 @@ use Rattle.surf_model.specs.FaceLists.{FaceList}
 use Rattle.homology.specs.Verdicts.{IsVerdict}
 use Rattle.homology.specs.declared.certificate.HomologyCert.{HomologyCert}
 use Rattle.homology.specs.declared.verdict.HomologyVerdict.{HomologyVerdict}
-use Rattle.commands.proofs.Checking.{stops_first, stops_next}
+use Rattle.commands.proofs.Checking.{stops_first, stops_next, stops_second}
 use Rattle.commands.specs.Answers.{Answer}
 use Rattle.commands.specs.Checks.{Check, Passes, ◌>>=◌}
 use Rattle.commands.specs.Inputs.{mesh_in, pair_in, walk_at}
@@ -27,8 +27,7 @@ after_mesh held walks certificate faces = pair_in held walks faces >>= after_pai
 pub walks_stop : (held : Option Files) (mesh walks certificate : List ℕ) (faces : FaceList) (stop : Stop) → Passes (mesh_in held mesh) faces
     → Stops (pair_in held walks faces) stop → Stops (verify_homology held mesh walks certificate) stop
 walks_stop held mesh walks certificate faces stop p h =
-    stops_next (mesh_in held mesh) (after_mesh held walks certificate) faces stop p
-    (stops_first (pair_in held walks faces) (after_pair held certificate faces) stop h)
+    stops_second (mesh_in held mesh) (pair_in held walks) (after_pair held certificate) faces stop p h
 
 pub certificate_stops : (held : Option Files) (mesh walks certificate : List ℕ) (faces : FaceList) (pair : List (List ℕ)) (stop : Stop)
     → Passes (mesh_in held mesh) faces → Passes (pair_in held walks faces) pair → Stops (certificate_in held certificate) stop

@@ -5,7 +5,7 @@ use Rattle.surf_model.specs.FaceLists.{FaceList}
 use Rattle.homology.specs.Chains.{AreHomologous}
 use Rattle.homology.specs.declared.certificate.HomologyCert.{HomologyCert}
 use Rattle.commands.specs.Answers.{Answer, OfHomology}
-use Rattle.commands.specs.Checks.{Check, End, Refuse, Pass, Holds, without_files, ◌>>=◌}
+use Rattle.commands.specs.Checks.{Check, Holds, decided_by, ◌>>=◌}
 use Rattle.commands.specs.ClosedSurfaces.{IsOrientableSurface}
 use Rattle.commands.specs.HomologyCertificates.{HomologyAnswer, Homologous, ShowsHomology, answer_in, homology_status, homology_text}
 use Rattle.commands.specs.Inputs.{pair_in, walk_at, SpellsMesh, SpellsPair}
@@ -46,13 +46,7 @@ homology_answer mesh first second found = record { status = homology_status foun
 
 -- whether two walks of a mesh are homologous, for which a certificate is printed
 abbrev pub homology_shown : FaceList → (first second : List ℕ) → Check Answer
-homology_shown mesh first second = without_files ends
-  where
-    ends : End Answer → Type 0
-    ends (Refuse texts) = ⊥
-    ends (Pass answer) =
-        (found : HomologyAnswer) × (answer ≡ homology_answer mesh first second found)
-        × ((found ≡ Homologous) ↔ AreHomologous mesh first second)
+homology_shown mesh first second = decided_by Homologous (homology_answer mesh first second) (AreHomologous mesh first second)
 
 abbrev pub homology : Option Files → (mesh walks : List ℕ) → Check Answer
 homology held mesh walks = do

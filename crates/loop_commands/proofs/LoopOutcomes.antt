@@ -3,15 +3,12 @@ use Rattle.std.proofs.Common.{◌≡◌, ℕ, List, [], ◌∷◌, codes}
 use Rattle.std.specs.Prelude.{Option}
 use Rattle.surf_io.specs.Files.{Files}
 use Rattle.surf_model.specs.FaceLists.{FaceList}
-use Rattle.commands.proofs.Deciding.{behind}
-use Rattle.loop_commands.proofs.LoopAnswers.{IsRightAnswer, right_answer, after_pair, after_surface}
+use Rattle.loop_commands.proofs.LoopAnswers.{IsRightAnswer, right_answer, after_pair}
 use Rattle.loop_commands.proofs.LoopChecks.{sound-loops_in, loops_in_told, spelled_loops}
-use Rattle.commands.proofs.Rows.{sound-surface_in, surface_told, spelled_surface}
+use Rattle.commands.proofs.Rows.{behind_input}
 use Rattle.commands.proofs.Sound.{held}
 use Rattle.loop_commands.specs.Loops.{loops, loops_in, IsLoopsAnswered, IsLoopsInput, SpellsLoops}
-use Rattle.commands.specs.Inputs.{SpellsMesh}
 use Rattle.commands.specs.Outcomes.{Outcome, AnswersTo, IsAnswerOf}
-use Rattle.commands.specs.SurfaceInput.{surface_in}
 use Rattle.commands.specs.declared.status.Status.{Status}
 
 -- what is answered of such an input
@@ -20,17 +17,10 @@ decides : (files : Option Files) (words : List (List ℕ)) (outcome : Outcome) (
     → (loops files input.mesh_name input.walks_name).Ends outcome → IsAnswerOf outcome status text
     → IsRightAnswer mesh first second status text
 decides files words outcome status text mesh first second input is answer =
-    let mesh_file = held files input.mesh_name (SpellsMesh mesh) input.mesh_file in
-    let walks_file = held files input.walks_name (SpellsLoops mesh first second) input.walks_file in
-    let pair : List (List ℕ) = first ∷ second ∷ [] in
-    let passed = spelled_loops files input.walks_name mesh first second input.walks_file in
-    let surface = spelled_surface files input.mesh_name mesh input.mesh_file input.is_surface in
-    let walks = behind files (surface_in files input.mesh_name) (after_surface files input.walks_name) mesh outcome
-    (sound-surface_in files input.mesh_name)
-    (surface_told files input.mesh_name mesh_file.told) surface is in
-    let decision = behind files (loops_in files input.walks_name mesh) (after_pair mesh) pair outcome
-    (sound-loops_in files input.walks_name mesh)
-    (loops_in_told files input.walks_name mesh walks_file.told) passed walks in
+    let walks_told = (held files input.walks_name (SpellsLoops mesh first second) input.walks_file).told in
+    let decision = behind_input files input.mesh_name mesh (first ∷ second ∷ []) (loops_in files input.walks_name) after_pair outcome
+    input.mesh_file input.is_surface (sound-loops_in files input.walks_name mesh) (loops_in_told files input.walks_name mesh walks_told)
+    (spelled_loops files input.walks_name mesh first second input.walks_file) is in
     right_answer mesh first second outcome status text decision answer
 
 -- what `loops` is for, where the words are answered by its check

@@ -10,13 +10,12 @@ use Rattle.walk_files.specs.declared.loops.LoopFault.TheVariants.{NotTwo, NoVert
 use Rattle.free_loops.specs.declared.deciding.FreeAnswer.{FreeAnswer}
 use Rattle.free_loops.specs.declared.deciding.FreeAnswer.TheVariants.{Freely, NotFreely}
 use Rattle.commands.specs.Answers.{Answer, Texts, Exactly}
-use Rattle.commands.specs.Checks.{Check, End, Refuse, Pass, Holds, file, meant, pass_unless, without_files, ◌>>=◌}
+use Rattle.commands.specs.Checks.{Check, Holds, decided_by, ◌>>=◌}
 use Rattle.commands.specs.ClosedSurfaces.{IsOrientableSurface}
-use Rattle.commands.specs.Inputs.{walk_at, SpellsMesh}
+use Rattle.commands.specs.Inputs.{walk_at, walks_unless, SpellsMesh}
 use Rattle.commands.specs.Lines.{line}
-use Rattle.commands.specs.Refusals.{numbers_line, told, told_at_place}
+use Rattle.commands.specs.Refusals.{told, told_at_place}
 use Rattle.commands.specs.SurfaceInput.{surface_in}
-use Rattle.commands.specs.declared.refusal.Input.TheVariants as inputs
 use Rattle.commands.specs.declared.status.Status.{Status}
 use Rattle.commands.specs.declared.status.Status.TheVariants.{Yes, No}
 
@@ -70,19 +69,11 @@ loops_line (NotClosed walk) = told (codes "walk" ∷ decimal walk ∷ codes "ope
 
 -- the walks that the file spells, which are two closed walks of the mesh
 abbrev pub loops_in : Option Files → List ℕ → FaceList → Check (List (List ℕ))
-loops_in held name mesh = do
-  bytes ← file held name inputs.Walks
-  walks ← meant (numbers_line inputs.Walks) (walks_of bytes)
-  pass_unless loops_line (loops_fault mesh walks) walks
+loops_in held name mesh = walks_unless loops_line (loops_fault mesh) held name
 
 -- the answer on two closed walks of a mesh
 abbrev pub freely_decided : FaceList → List ℕ → List ℕ → Check Answer
-freely_decided mesh first second = without_files ends
-  where
-    ends : End Answer → Type 0
-    ends (Refuse texts) = ⊥
-    ends (Pass answer) =
-        (found : FreeAnswer) × (answer ≡ free_answer found) × ((found ≡ Freely) ↔ FreelyHomotopic mesh first second)
+freely_decided mesh first second = decided_by Freely free_answer (FreelyHomotopic mesh first second)
 
 -- what is looked at, in order, and then the answer
 abbrev pub loops : Option Files → (mesh walks : List ℕ) → Check Answer

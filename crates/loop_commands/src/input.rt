@@ -7,7 +7,7 @@ ghost use Rattle.commands.specs.Checks.{Passes};
 ghost use Rattle.commands.specs.Stops.{Reads, Stops, Tells};
 ghost use Rattle.loop_commands.specs.Loops.{loops_in, loops_line};
 
-use commands::{Input, Phrase, Stop, read_file, refused, refused_at_place, walks_of_bytes};
+use commands::{Phrase, Stop, read_list, refused, refused_at_place};
 use std::alloc::Global;
 use surf_io::Shelf;
 use surf_model::Sides;
@@ -25,8 +25,7 @@ pub fn read_loops<S: Shelf>(
         → MatchResult result (λ list. Passes (loops_in files name.now mesh) list.walks) (Stops (loops_in files name.now mesh))) result }
     ensures loops { IfOk result (λ list. (mesh : FaceList) → IsTableOf mesh sides.now → IsClosedPair mesh list.walks) }
 {
-    let bytes = read_file(alloc, shelf, name, Input::Walks)?;
-    let walks = walks_of_bytes(alloc, &bytes)?;
+    let walks = read_list(alloc, shelf, name)?;
     match check_loops(sides, &walks) {
         Ok(()) => Ok(walks),
         Err(fault) => Err(stop_for(fault)),

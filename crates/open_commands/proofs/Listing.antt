@@ -9,8 +9,9 @@ use Rattle.free_forms.specs.PeakedLists.{IsWithin, LeadsAtPeak}
 use Rattle.free_forms.specs.declared.limits.TheConstants.{MOST_OPEN_STEPS}
 use Rattle.walk_translate.specs.declared.deciding.Answer as deciding
 use Rattle.walk_translate.specs.declared.deciding.Answer.TheVariants as answers
-use Rattle.commands.proofs.Deciding.{one_decision, differs}
-use Rattle.commands.proofs.Sound.{IsSound}
+use Rattle.commands.proofs.Deciding.{differs, yes_or_no}
+use Rattle.commands.proofs.RightAnswers.{no_yes}
+use Rattle.commands.proofs.Sound.{IsSound, sound-decided_by}
 use Rattle.commands.specs.Answers.{Answer}
 use Rattle.commands.specs.Certificates.{Convinces, decision_line}
 use Rattle.commands.specs.declared.certificate.Certificate.TheVariants.{Moves}
@@ -28,33 +29,8 @@ use Rattle.open_commands.specs.DecideOpen.{decide_open}
 use Rattle.open_commands.specs.OpenPairs.{asked, open_pair_in}
 use Rattle.open_commands.specs.declared.open_pair.OpenPair.{OpenPair}
 
-one_listed : (mesh : FaceList) (first second : List ℕ) (a b : End Answer) → (listed mesh first second).Ends a
-    → (listed mesh first second).Ends b → a ≡ b
-one_listed mesh first second (Refuse cause) b p q = absurd p
-one_listed mesh first second (Pass x) (Refuse cause) p q = absurd q
-one_listed mesh first second (Pass x) (Pass y) p q =
-    let same : p.0 ≡ q.0 = one_decision p.0 q.0 p.2 q.2 in
-    let answers : x ≡ y = p.1 ∙ ap (list_answer mesh first second) same ∙ sym q.1 in
-    cc
-
 pub sound-listed : (held : Option Files) (mesh : FaceList) (first second : List ℕ) → IsSound held (listed mesh first second)
-sound-listed held mesh first second =
-    record {
-      some = λ none.
-          none (Pass (list_answer mesh first second answers.Different)) (
-            answers.Different,
-            refl,
-            (
-              (λ e. absurd (differs e)),
-              (λ h. absurd (none (Pass (list_answer mesh first second answers.Homotopic))
-                  (answers.Homotopic, refl, ((λ _. h), (λ _. refl))))),
-            ),
-          );
-      one = λ _ a b p q. one_listed mesh first second a b p q;
-    }
-
-no_yes : No ≡ Yes → ⊥
-no_yes e = cc
+sound-listed held mesh first second = sound-decided_by held yes_or_no (list_answer mesh first second) (Homotopic mesh first second)
 
 -- what is answered with a list, where one is right
 pub record IsRightList (mesh : FaceList) (first second : List ℕ) (status : Status) (text : List ℕ) : Type 0 where

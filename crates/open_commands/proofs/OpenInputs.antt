@@ -18,11 +18,11 @@ use Rattle.free_forms.proofs.OutcomeLemmas.{open_or_fault}
 use Rattle.std.proofs.lemmas.Option.{get_or_from_slice_get}
 use Rattle.commands.proofs.Deciding.{AreWalks, walks_of_pair}
 use Rattle.open_commands.specs.declared.open_pair.OpenPair.{OpenPair}
-use Rattle.commands.proofs.Checking.{stops_first, stops_next, told_stops, memory_stops}
+use Rattle.commands.proofs.Checking.{stops_next, stops_second, told_stops, memory_stops}
 use Rattle.commands.proofs.MeshTexts.{mesh_valid}
-use Rattle.commands.proofs.Rows.{sound-mesh, sound-pair, mesh_passes, meant_told, unless_told, pair_told}
+use Rattle.commands.proofs.Rows.{sound-mesh, sound-pair, mesh_passes, pair_told}
 use Rattle.commands.proofs.Running.{only_then}
-use Rattle.commands.proofs.Sound.{IsSound, sound-then, sound-pass_unless}
+use Rattle.commands.proofs.Sound.{IsSound, sound-then, sound-pass_unless, meant_told, unless_told}
 use Rattle.commands.proofs.Surfaces.{sound-orientable}
 use Rattle.off_reader.specs.OffTexts.{meaning_of}
 use Rattle.commands.specs.Answers.{Answer, Exactly}
@@ -178,8 +178,7 @@ pair_files_told held mesh walks one other = (
 pub walks_stop : (held : Option Files) (mesh walks : List ℕ) (surface : FaceList) (stop : Stop) → Passes (open_surface_in held mesh) surface
     → Stops (pair_in held walks surface) stop → Stops (open_pair_in held mesh walks) stop
 walks_stop held mesh walks surface stop p h =
-    stops_next (open_surface_in held mesh) (after_surface held walks) surface stop p
-    (stops_first (pair_in held walks surface) (limited surface) stop h)
+    stops_second (open_surface_in held mesh) (pair_in held walks) limited surface stop p h
 
 pub limits_stop : (held : Option Files) (mesh walks : List ℕ) (surface : FaceList) (pair : List (List ℕ)) (line : List ℕ) (stop : Stop)
     → Passes (open_surface_in held mesh) surface → Passes (pair_in held walks surface) pair
@@ -199,21 +198,6 @@ pair_passes held mesh walks surface pair p q e = inr (surface, p, inr (pair, q, 
 pub built_passes : (check : Check Question) (surface made : FaceList) (walks : List (List ℕ)) → made ≡ surface
     → Passes check (question surface walks) → Passes check (question made walks)
 built_passes check surface made walks same h = subst (λ (m : FaceList). Passes check (question m walks)) (sym same) h
-
--- ---- a call that reads, behind one that did
-
-pub reads_stopped : {X V W : Type 0} (held : X → Option Files) (faults : X → ℕ) (old mid new : X) (IsEnd Other : Option Files → Type 0)
-    (stop : Stop) → OnlyReads held faults old mid → Reads {V = W} held faults mid new Other (Err stop) → IsEnd (held old)
-    → Reads {V = V} held faults old new IsEnd (Err stop)
-reads_stopped {X} {V} {W} held faults old mid new IsEnd Other stop first h end =
-    record {
-      end = end;
-      fault = λ e below.
-          let same : stop ≡ ReadFault = cc in
-          let rose : faults mid < faults new = h.fault (ap (λ (s : Stop). let r : Result W Stop = Err s in r) same) below in
-          omega (arith, first.never_falls, rose);
-      only_reads = only_then held faults old mid new first h.only_reads;
-    }
 
 -- ---- the two walks of a pair that was read
 
@@ -240,20 +224,3 @@ open_walks pair first second h f g =
 
 pub two_long : (pair : OpenPair) → IsOpenPair pair → length pair.walks.walks ≡ 2
 two_long pair h = ap (λ (w : List (List ℕ)). length w) h.walks.two
-
--- ---- a command whose files were read by one call
-
-module _ {X : Type 0} (held : X → Option Files) (faults : X → ℕ) (old new : X) (command : Option Files → Check Answer)
-    (looks : (command (held old)).EachFile (λ _. ⊥) → ⊥) where
-  -- that call stopped
-  pub runs_ended : {V : Type 0} (IsEnd : Option Files → Type 0) (stop : Stop) → Reads {V = V} held faults old new IsEnd (Err stop)
-      → Stops (command (held old)) stop → Runs held faults old new command (Err stop)
-  runs_ended {V} IsEnd stop h stops =
-      record {
-        end = stops;
-        fault = λ e.
-            let same : stop ≡ ReadFault = cc in
-            h.fault (ap (λ (s : Stop). let r : Result V Stop = Err s in r) same);
-        untouched = λ none. absurd (looks none);
-        only_reads = h.only_reads;
-      }

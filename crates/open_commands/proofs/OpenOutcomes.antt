@@ -7,6 +7,7 @@ use Rattle.commands.proofs.Checking.{stops_first}
 use Rattle.commands.specs.Stops.{Stops}
 use Rattle.commands.specs.declared.stop.Stop.{Stop}
 use Rattle.commands.proofs.Deciding.{IsRightAnswer, right_answer, behind, refused_behind, sound-decided}
+use Rattle.commands.proofs.RightAnswers.{refused_so}
 use Rattle.commands.proofs.Rows.{spelled_pair}
 use Rattle.commands.proofs.Sound.{IsSound, held, sound-then}
 use Rattle.commands.specs.Answers.{Answer, Exactly}
@@ -18,7 +19,7 @@ use Rattle.commands.specs.declared.status.Status.{Status}
 use Rattle.commands.specs.declared.status.Status.TheVariants.{Refused}
 use Rattle.open_commands.specs.CertifyOpen.{IsCertifiedOpen, listed, certify_open}
 use Rattle.open_commands.specs.DecideOpen.{IsDecidedOpen, decide_open}
-use Rattle.open_commands.specs.OpenPairs.{IsOpenInput, IsWithinLimits, Question, limit_fault, sides_line, darts_line, open_pair_in}
+use Rattle.open_commands.specs.OpenPairs.{IsOpenInput, IsRefusedBeyond, IsWithinLimits, Question, limit_fault, sides_line, darts_line, open_pair_in}
 use Rattle.open_commands.proofs.Listing.{IsRightList, right_list, sound-listed}
 use Rattle.open_commands.proofs.OpenInputs.{spelled_open, pair_files_told, pair_passes, none_over, side_limit, dart_limit, sound-open_pair_in}
 
@@ -30,12 +31,6 @@ sound-decide_open held mesh walks =
 pub sound-certify_open : (held : Option Files) (mesh walks : List ℕ) → IsSound held (certify_open held mesh walks)
 sound-certify_open held mesh walks =
     sound-then held _ _ (sound-open_pair_in held mesh walks) (λ asked _. sound-listed held asked.mesh asked.first asked.second)
-
-refused_so : (line : List ℕ) (outcome : Outcome) (status : Status) (text : List ℕ) → outcome ≡ Refuse (Exactly line)
-    → IsAnswerOf outcome status text → (status ≡ Refused) × (text ≡ line)
-refused_so line outcome status text e answer =
-    let a : IsAnswerOf (Refuse (Exactly line)) status text = subst (λ (o : Outcome). IsAnswerOf o status text) e answer in
-    (a.status_is, a.text_is)
 
 -- ---- such an input, for a command that makes its answer of the surface and the walks
 
@@ -78,6 +73,37 @@ module _ (next : Question → Check Answer) (keyword : List ℕ) (files : Option
         inr (first ∷ second ∷ [], passes, rw e refl),
       )) is) answer
 
+-- ---- all such inputs, where the words are answered by the check
+
+module _ (next : Question → Check Answer) (keyword : List ℕ) (files : Option Files) (words : List (List ℕ)) (status : Status)
+    (text : List ℕ)
+    (answered : (mesh walks : List ℕ) → words ≡ keyword ∷ mesh ∷ walks ∷ []
+    → AnswersTo files (open_pair_in files mesh walks >>= next) status text) where
+  -- within the limits it is an outcome of what is made
+  pub within_limits : (mesh : FaceList) (first second : List ℕ) → IsOpenInput keyword files words mesh first second
+      → IsWithinLimits mesh first second
+      → (outcome : Outcome) × (next (record { mesh = mesh; first = first; second = second })).Ends outcome
+      × IsAnswerOf outcome status text
+  within_limits mesh first second input within =
+      let a = answered input.mesh_name input.walks_name input.words_are in
+      (a.outcome, made next keyword files words mesh first second input a.outcome within a.is_outcome, a.is_answer)
+
+  refused_with : (mesh : FaceList) (first second : List ℕ) → IsOpenInput keyword files words mesh first second → (line : List ℕ)
+      → limit_fault mesh first second ≡ Some line → (status ≡ Refused) × (text ≡ line)
+  refused_with mesh first second input line e =
+      let a = answered input.mesh_name input.walks_name input.words_are in
+      refused next keyword files words mesh first second input a.outcome status text line e a.is_outcome a.is_answer
+
+  -- beyond them it is refused
+  pub beyond_limits : IsRefusedBeyond keyword files words status text
+  beyond_limits =
+      record {
+        many_sides = λ mesh first second input many.
+            refused_with mesh first second input (sides_line mesh) (side_limit mesh first second many);
+        many_darts = λ mesh first second input few many.
+            refused_with mesh first second input (darts_line first second) (dart_limit mesh first second few many);
+      }
+
 -- ---- the two commands
 
 pub decided_open_so : (files : Option Files) (words : List (List ℕ)) (status : Status) (text : List ℕ)
@@ -87,28 +113,15 @@ decided_open_so files words status text answered =
     record {
       answered = λ mesh first second input within. (right mesh first second input within).answered;
       exactly = λ mesh first second input within. (right mesh first second input within).exactly;
-      beyond = record {
-        many_sides = λ mesh first second input many.
-            beyond mesh first second input (sides_line mesh) (side_limit mesh first second many);
-        many_darts = λ mesh first second input few many.
-            beyond mesh first second input (darts_line first second) (dart_limit mesh first second few many);
-      };
+      beyond = beyond_limits (λ asked. decided asked.mesh asked.first asked.second) (codes "decide-open") files words status text answered;
     }
   where
     right : (mesh : FaceList) (first second : List ℕ) → IsOpenInput (codes "decide-open") files words mesh first second
         → IsWithinLimits mesh first second → IsRightAnswer mesh first second status text
     right mesh first second input within =
-        let a = answered input.mesh_name input.walks_name input.words_are in
-        right_answer mesh first second a.outcome status text
-        (made (λ asked. decided asked.mesh asked.first asked.second)
-        (codes "decide-open") files words mesh first second input a.outcome within a.is_outcome) a.is_answer
-
-    beyond : (mesh : FaceList) (first second : List ℕ) → IsOpenInput (codes "decide-open") files words mesh first second → (line : List ℕ)
-        → limit_fault mesh first second ≡ Some line → (status ≡ Refused) × (text ≡ line)
-    beyond mesh first second input line e =
-        let a = answered input.mesh_name input.walks_name input.words_are in
-        refused (λ asked. decided asked.mesh asked.first asked.second)
-        (codes "decide-open") files words mesh first second input a.outcome status text line e a.is_outcome a.is_answer
+        let made = within_limits (λ asked. decided asked.mesh asked.first asked.second) (codes "decide-open") files words status text answered
+        mesh first second input within in
+        right_answer mesh first second made.0 status text made.1 made.2
 
 pub certified_open_so : (files : Option Files) (words : List (List ℕ)) (status : Status) (text : List ℕ)
     → ((mesh walks : List ℕ) → words ≡ codes "certify-open" ∷ mesh ∷ walks ∷ []
@@ -118,28 +131,15 @@ certified_open_so files words status text answered =
     record {
       answered = λ mesh first second input within. (right mesh first second input within).answered;
       exactly = λ mesh first second input within. (right mesh first second input within).exactly;
-      beyond = record {
-        many_sides = λ mesh first second input many.
-            beyond mesh first second input (sides_line mesh) (side_limit mesh first second many);
-        many_darts = λ mesh first second input few many.
-            beyond mesh first second input (darts_line first second) (dart_limit mesh first second few many);
-      };
+      beyond = beyond_limits (λ asked. listed asked.mesh asked.first asked.second) (codes "certify-open") files words status text answered;
     }
   where
     right : (mesh : FaceList) (first second : List ℕ) → IsOpenInput (codes "certify-open") files words mesh first second
         → IsWithinLimits mesh first second → IsRightList mesh first second status text
     right mesh first second input within =
-        let a = answered input.mesh_name input.walks_name input.words_are in
-        right_list mesh first second a.outcome status text
-        (made (λ asked. listed asked.mesh asked.first asked.second)
-        (codes "certify-open") files words mesh first second input a.outcome within a.is_outcome) a.is_answer
-
-    beyond : (mesh : FaceList) (first second : List ℕ) → IsOpenInput (codes "certify-open") files words mesh first second → (line : List ℕ)
-        → limit_fault mesh first second ≡ Some line → (status ≡ Refused) × (text ≡ line)
-    beyond mesh first second input line e =
-        let a = answered input.mesh_name input.walks_name input.words_are in
-        refused (λ asked. listed asked.mesh asked.first asked.second)
-        (codes "certify-open") files words mesh first second input a.outcome status text line e a.is_outcome a.is_answer
+        let made = within_limits (λ asked. listed asked.mesh asked.first asked.second) (codes "certify-open") files words status text answered
+        mesh first second input within in
+        right_list mesh first second made.0 status text made.1 made.2
 
 -- ---- what stops the pair stops the command
 

@@ -10,7 +10,7 @@ use Rattle.free_forms.specs.PeakedLists.{IsWithin}
 use Rattle.free_forms.specs.declared.limits.TheConstants.{MOST_OPEN_STEPS}
 use Rattle.commands.specs.Answers.{Answer, OfShortList}
 use Rattle.commands.specs.Certificates.{Convinces, decision_line, certificate_text}
-use Rattle.commands.specs.Checks.{Check, End, Refuse, Pass, without_files, ◌>>=◌}
+use Rattle.commands.specs.Checks.{Check, decided_by, ◌>>=◌}
 use Rattle.commands.specs.Decisions.{decision_answer}
 use Rattle.commands.specs.Stops.{bytes_of}
 use Rattle.commands.specs.declared.certificate.Certificate.TheVariants.{Moves}
@@ -64,13 +64,7 @@ list_answer mesh first second Different = decision_answer Different
 
 -- the decision on two walks of a mesh, with a list of moves where there is one
 abbrev pub listed : FaceList → (first second : List ℕ) → Check Answer
-listed mesh first second = without_files ends
-  where
-    ends : End Answer → Type 0
-    ends (Refuse texts) = ⊥
-    ends (Pass answer) =
-        (decision : deciding.Answer) × (answer ≡ list_answer mesh first second decision)
-        × ((decision ≡ Homotopic) ↔ moves.Homotopic mesh first second)
+listed mesh first second = decided_by Homotopic (list_answer mesh first second) (moves.Homotopic mesh first second)
 
 abbrev pub certify_open : Option Files → (mesh walks : List ℕ) → Check Answer
 certify_open held mesh walks = do

@@ -6,13 +6,11 @@ use Rattle.surf_model.specs.FaceLists.{FaceList}
 use Rattle.walk_files.specs.PairLists.{WalkPair, in_pairs}
 use Rattle.walk_files.specs.WalkLists.{WalkText}
 use Rattle.walk_translate.specs.declared.deciding.Answer as deciding
-use Rattle.commands.proofs.Checking.{stops_first, stops_next}
-use Rattle.commands.proofs.Deciding.{behind}
-use Rattle.commands.proofs.Rows.{sound-surface_in, surface_told, spelled_surface}
+use Rattle.commands.proofs.Checking.{stops_second}
+use Rattle.commands.proofs.Rows.{behind_input, sound-surface_in}
 use Rattle.commands.proofs.Sound.{IsSound, sound-then, held}
 use Rattle.commands.specs.Answers.{Answer}
-use Rattle.commands.specs.Checks.{Check, Refuse, Pass, Passes, ◌>>=◌}
-use Rattle.commands.specs.Inputs.{SpellsMesh}
+use Rattle.commands.specs.Checks.{Check, Refuse, Pass, Passes}
 use Rattle.commands.specs.Outcomes.{Outcome, AnswersTo, IsAnswerOf}
 use Rattle.commands.specs.Stops.{Stops}
 use Rattle.commands.specs.SurfaceInput.{surface_in}
@@ -26,18 +24,14 @@ use Rattle.pair_commands.proofs.PairDecisions.{all_yes, sound-all_decided}
 
 -- ---- the parts of the command
 
--- what is looked at behind the walks, and behind the surface
+-- what is looked at behind the walks
 abbrev after_pairs : FaceList → WalkText → Check Answer
 after_pairs surface text = all_decided surface (in_pairs text.walks)
-
-abbrev after_surface : Option Files → List ℕ → FaceList → Check Answer
-after_surface held walks surface = pairs_in held walks surface >>= after_pairs surface
 
 pub walks_stop : (held : Option Files) (mesh walks : List ℕ) (surface : FaceList) (stop : Stop) → Passes (surface_in held mesh) surface
     → Stops (pairs_in held walks surface) stop → Stops (decide held mesh walks) stop
 walks_stop held mesh walks surface stop p h =
-    stops_next (surface_in held mesh) (after_surface held walks) surface stop p
-    (stops_first (pairs_in held walks surface) (after_pairs surface) stop h)
+    stops_second (surface_in held mesh) (pairs_in held walks) after_pairs surface stop p h
 
 pub decisions_pass : (held : Option Files) (mesh walks : List ℕ) (surface : FaceList) (text : WalkText) (decisions : List deciding.Answer)
     → Passes (surface_in held mesh) surface → Passes (pairs_in held walks surface) text
@@ -64,14 +58,11 @@ decides : (files : Option Files) (words : List (List ℕ)) (outcome : Outcome) (
     (pairs : List WalkPair) (input : IsDecideInput files words mesh pairs)
     → (decide files input.mesh_name input.walks_name).Ends outcome → IsAnswerOf outcome status text → AreDecided mesh pairs status text
 decides files words outcome status text mesh pairs input is answer =
-    let mesh_file = held files input.mesh_name (SpellsMesh mesh) input.mesh_file in
-    let walks_file = held files input.walks_name (SpellsPairs mesh pairs) input.walks_file in
+    let told = (held files input.walks_name (SpellsPairs mesh pairs) input.walks_file).told in
     let spelled = spelled_pairs files input.walks_name mesh pairs input.walks_file in
-    let surface = spelled_surface files input.mesh_name mesh input.mesh_file input.is_surface in
-    let walks = behind files (surface_in files input.mesh_name) (after_surface files input.walks_name) mesh outcome
-    (sound-surface_in files input.mesh_name) (surface_told files input.mesh_name mesh_file.told) surface is in
-    let decision = behind files (pairs_in files input.walks_name mesh) (after_pairs mesh) spelled.0 outcome
-    (sound-pairs_in files input.walks_name mesh) (pairs_in_told files input.walks_name mesh walks_file.told) spelled.1 walks in
+    let decision = behind_input files input.mesh_name mesh spelled.0 (pairs_in files input.walks_name) after_pairs outcome
+    input.mesh_file input.is_surface (sound-pairs_in files input.walks_name mesh) (pairs_in_told files input.walks_name mesh told)
+    spelled.1 is in
     subst (λ (ps : List WalkPair). AreDecided mesh ps status text) (sym spelled.2)
     (answered_right mesh (in_pairs spelled.0.walks) outcome status text decision answer)
 

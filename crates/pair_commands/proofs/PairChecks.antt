@@ -9,15 +9,16 @@ use Rattle.walk_files.specs.WalkTexts.{walk_text_of}
 use Rattle.walk_files.specs.declared.fault.WalkFault.{WalkFault}
 use Rattle.walk_files.proofs.PairListLemmas.{none_of_pairs}
 use Rattle.commands.proofs.Checking.{stops_next}
-use Rattle.commands.proofs.Rows.{meant_told, unless_told}
-use Rattle.commands.proofs.Sound.{IsSound, sound-file, sound-then, sound-meant, sound-pass_unless, held}
+use Rattle.commands.proofs.Sound.{IsSound, sound-file, sound-then, sound-meant, sound-pass_unless, held, meant_told, unless_told}
+use Rattle.commands.proofs.WalkInputs.{was_read}
 use Rattle.commands.specs.Checks.{Check, Refuse, Passes, Holds, IsTold, file, meant, ◌>>=◌}
+use Rattle.commands.specs.Inputs.{text_in}
 use Rattle.commands.specs.Refusals.{numbers_line}
 use Rattle.commands.specs.Stops.{Ends, Stops}
 use Rattle.commands.specs.declared.refusal.Input.TheVariants as inputs
 use Rattle.commands.specs.declared.stop.Stop.{Stop}
 use Rattle.commands.specs.declared.stop.Stop.TheVariants.{Refused, ReadFault, OutOfMemory}
-use Rattle.pair_commands.specs.PairInput.{SpellsPairs, come_in_pairs, pairs_line, pairs_in, text_in}
+use Rattle.pair_commands.specs.PairInput.{SpellsPairs, come_in_pairs, pairs_line, pairs_in}
 
 -- what is looked at of a text, and behind the bytes of a walk file
 abbrev after_text : FaceList → WalkText → Check WalkText
@@ -31,24 +32,6 @@ pub pairs_pass : (held : Option Files) (name : List ℕ) (mesh : FaceList) (byte
     → Passes (file held name inputs.Walks) bytes → Passes (meant (numbers_line inputs.Walks) (walk_text_of bytes)) text
     → pairs_fault mesh text ≡ None → Passes (pairs_in held name mesh) text
 pairs_pass held name mesh bytes text p q f = inr (bytes, p, inr (text, q, rw f refl))
-
--- a text that was read passes the file and its meaning
-record WasRead (held : Option Files) (name : List ℕ) (text : WalkText) : Type 0 where
-  bytes : List ℕ
-  file : Passes (file held name inputs.Walks) bytes
-  meaning : Passes (meant (numbers_line inputs.Walks) (walk_text_of bytes)) text
-
-was_read : (held : Option Files) (name : List ℕ) (text : WalkText) → Passes (text_in held name) text → WasRead held name text
-was_read held name text (inl refused) = absurd (let wrong = refused.2 in cc)
-was_read held name text (inr passed) = record { bytes = passed.0; file = passed.1; meaning = passed.2 }
-
--- what is read of a walk file
-pub text_ends : (held : Option Files) (name : List ℕ) (bytes : List ℕ) (result : Result WalkText Stop)
-    → Passes (file held name inputs.Walks) bytes → Ends (meant (numbers_line inputs.Walks) (walk_text_of bytes)) result
-    → Ends (text_in held name) result
-text_ends held name bytes (Ok text) p h = inr (bytes, p, h)
-text_ends held name bytes (Err stop) p h =
-    stops_next (file held name inputs.Walks) (λ read. meant (numbers_line inputs.Walks) (walk_text_of read)) bytes stop p h
 
 -- a walk file that is refused before its pairs are looked at
 pub text_stop : (held : Option Files) (name : List ℕ) (mesh : FaceList) (stop : Stop) → Stops (text_in held name) stop

@@ -35,12 +35,6 @@ pairs_line version (EndsDiffer pair false) = ends_line version pair (codes "end"
 abbrev pub come_in_pairs : FaceList → WalkText → Check WalkText
 come_in_pairs mesh text = pass_unless (pairs_line text.version) (pairs_fault mesh text) text
 
--- the text that the file spells, of whose walks nothing else is asked
-abbrev pub text_in : Option Files → List ℕ → Check WalkText
-text_in held name = do
-  bytes ← file held name inputs.Walks
-  meant (numbers_line inputs.Walks) (walk_text_of bytes)
-
 -- the text that the file spells, whose walks come in pairs of walks of the mesh with common ends
 abbrev pub pairs_in : Option Files → List ℕ → FaceList → Check WalkText
 pairs_in held name mesh = do

@@ -5,8 +5,7 @@ ghost use Rattle.pair_commands.specs.Decide as of_decide;
 ghost use Rattle.pair_commands.specs.Decide.{decisions_answer};
 
 use crate::deciding::decide_walks;
-use crate::pair_input::read_list;
-use commands::{Reply, Stop, Text, read_surface};
+use commands::{Reply, Stop, Text, read_list, read_surface};
 use std::alloc::Global;
 use surf_io::Shelf;
 use walk_translate::Answer;

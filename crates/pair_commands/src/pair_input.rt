@@ -1,28 +1,14 @@
-//! Reading the walks that the command is about, and whether they come in pairs.
+//! Whether the walks that the command is about come in pairs.
 ghost use Rattle.std.specs.Prelude.{◌≡◌, Err, MatchResult};
 ghost use Rattle.surf_model.specs.FaceLists.{FaceList};
 ghost use Rattle.surf_model.specs.Edges.{IsTableOf};
 ghost use Rattle.walk_files.specs.PairLists.{ArePairs};
-ghost use Rattle.commands.specs.Stops.{Ends, Reads, Stops, Tells};
-ghost use Rattle.pair_commands.specs.PairInput.{come_in_pairs, text_in, pairs_line, ends_line};
+ghost use Rattle.commands.specs.Stops.{Stops, Tells};
+ghost use Rattle.pair_commands.specs.PairInput.{come_in_pairs, pairs_line, ends_line};
 
-use commands::{Input, Phrase, Stop, read_file, refused, refused_at_place, walks_of_bytes};
-use std::alloc::Global;
-use surf_io::Shelf;
+use commands::{Phrase, Stop, refused, refused_at_place};
 use surf_model::Sides;
 use walk_files::{PairsFault, WalkList, check_pairs};
-
-/// Reads walks, of which nothing is asked yet.
-pub(crate) fn read_list<S: Shelf>(
-    alloc: Global,
-    shelf: &mut S,
-    name: &str,
-) -> Result<WalkList, Stop>
-    ensures { Reads S.held S.faults shelf.old shelf.new (λ files. Ends (text_in files name.now) result) result }
-{
-    let bytes = read_file(alloc, shelf, name, Input::Walks)?;
-    walks_of_bytes(alloc, &bytes)
-}
 
 /// Looks whether walks come in pairs of walks of the mesh with this table.
 pub(crate) fn check_list(sides: &Sides, walks: &WalkList) -> Result<(), Stop>

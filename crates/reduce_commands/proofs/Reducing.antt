@@ -16,7 +16,7 @@ use Rattle.commands.specs.declared.refusal.Input.TheVariants as inputs
 use Rattle.commands.specs.declared.stop.Stop.TheVariants as stops
 use Rattle.commands.proofs.Checking.{stops_first, told_stops, stops_next}
 use Rattle.commands.proofs.Running.{tells_no_fault}
-use Rattle.commands.proofs.Sound.{IsSound, sound-then, sound-pass, sound-meant, sound-pass_unless, sound-file, held}
+use Rattle.commands.proofs.Sound.{IsSound, sound-then, sound-pass, sound-meant, sound-pass_unless, sound-file, meant_told, unless_told, held}
 use Rattle.commands.specs.Answers.{Answer, Texts, NoText, yes_with}
 use Rattle.reduce_commands.specs.Canonised.{AreCanonised, IsNotCanonised, IsSoFar}
 use Rattle.commands.specs.Checks.{End, Refuse, Pass, Passes, IsTold, file, meant, pass_unless, Check, pass, ◌>>=◌}
@@ -359,15 +359,6 @@ pub words_no_fault : (degree : ℕ) (meaning : Result (List NumberLine) WalkFaul
 words_no_fault degree meaning stop (inl wanting) e = cc
 words_no_fault degree (Err fault) stop (inr told) e = tells_no_fault (numbers_line inputs.TurnWords fault) stop told e
 words_no_fault degree (Ok lines) stop (inr told) e = tells_no_fault (range_line told.0) stop told.2 e
-
-unless_told : {T F : Type 0} (files : Option Files) (line_of : F → Texts) (fault : Option F) (thing : T)
-    → (pass_unless line_of fault thing).EachFile (IsTold files)
-unless_told files line_of None thing = tt
-unless_told files line_of (Some fault) thing = tt
-
-meant_told : {T F : Type 0} (files : Option Files) (line_of : F → Texts) (read : Result T F) → (meant line_of read).EachFile (IsTold files)
-meant_told files line_of (Ok thing) = tt
-meant_told files line_of (Err fault) = tt
 
 -- the list is the one file that is looked at
 pub reduce_told : (files : Option Files) (degree : ℕ) (name : List ℕ) → IsTold files name

@@ -18,14 +18,14 @@ use Rattle.commands.specs.declared.certificate.Certificate.TheVariants as certif
 use Rattle.commands.specs.declared.refusal.Input.TheVariants as inputs
 use Rattle.commands.proofs.Deciding.{behind}
 use Rattle.commands.proofs.MeshTexts.{mesh_valid}
-use Rattle.commands.proofs.Rows.{sound-mesh, sound-pair, meant_told, pair_told, mesh_told, mesh_passes, spelled_pair}
-use Rattle.commands.proofs.Sound.{held}
+use Rattle.commands.proofs.Rows.{behind_pair, sound-mesh, sound-pair, pair_told, mesh_told, mesh_passes, spelled_pair}
+use Rattle.commands.proofs.Sound.{held, meant_told}
 use Rattle.verify_commands.proofs.Streaming.{where_told_ends}
 use Rattle.verify_commands.proofs.VerifyRows.{sound-certificate}
-use Rattle.verify_commands.proofs.Verifying.{after_mesh, after_pair}
+use Rattle.verify_commands.proofs.Verifying.{after_pair}
 use Rattle.commands.specs.Answers.{Answer, IsText}
 use Rattle.commands.specs.Checks.{Refuse, Pass, Passes, IsTold, Holds}
-use Rattle.commands.specs.Inputs.{mesh_in, pair_in, IsCertificateEnd, certificate_in, certificate_in_bytes, certificate_of, walk_at, SpellsPair, SpellsCertificate}
+use Rattle.commands.specs.Inputs.{IsCertificateEnd, certificate_in, certificate_in_bytes, certificate_of, walk_at, SpellsPair, SpellsCertificate}
 use Rattle.commands.specs.Outcomes.{Outcome, AnswersTo, IsAnswerOf}
 use Rattle.commands.specs.Refusals.{certificate_line}
 use Rattle.verify_commands.specs.Verify.{verify, verdict_status, denial_status, denial_line, judgement, IsVerifyInput, IsVerified, IsDenialVerified, verdict_answer, denial_answer}
@@ -120,17 +120,11 @@ behind_files : (files : Option Files) (words : List (List ℕ)) (mesh : FaceList
     → (verify files input.mesh_name input.walks_name input.certificate_name).Ends outcome
     → (judgement mesh first second shown).Ends outcome
 behind_files files words mesh first second shown outcome input is =
-    let pair : List (List ℕ) = first ∷ second ∷ [] in
     let file = held files input.certificate_name (SpellsCertificate shown) input.certificate_file in
     let passed : Passes (certificate_in files input.certificate_name) shown =
     certificate_spelled files input.certificate_name shown input.certificate_file in
-    let walks = behind files (mesh_in files input.mesh_name) (after_mesh files input.walks_name input.certificate_name) mesh outcome
-    (sound-mesh files input.mesh_name) (mesh_told files input.mesh_name mesh input.mesh_file)
-    (mesh_passes files input.mesh_name mesh input.mesh_file) is in
-    let certificate = behind files (pair_in files input.walks_name mesh) (after_pair files input.certificate_name mesh) pair outcome
-    (sound-pair files input.walks_name mesh)
-    (pair_told files input.walks_name mesh (held files input.walks_name (SpellsPair mesh first second) input.walks_file).told)
-    (spelled_pair files input.walks_name mesh first second input.walks_file) walks in
+    let certificate = behind_pair files input.mesh_name input.walks_name mesh first second (after_pair files input.certificate_name) outcome
+    input.mesh_file input.walks_file is in
     behind files (certificate_in files input.certificate_name) (judgement mesh first second) shown outcome
     (sound-certificate files input.certificate_name) (file.told, λ bytes _. meant_told files certificate_line (certificate_of bytes))
     passed certificate

@@ -10,7 +10,7 @@ use Rattle.move_checker.specs.declared.judge.Verdict.{Verdict}
 use Rattle.labellings.specs.DenialVerdicts.{IsVerdict}
 use Rattle.labellings.specs.declared.denial.Denial as denials
 use Rattle.labellings.specs.declared.verdict.DenialVerdict.{DenialVerdict}
-use Rattle.commands.proofs.Checking.{stops_first, stops_next}
+use Rattle.commands.proofs.Checking.{stops_next, stops_second}
 use Rattle.commands.specs.Answers.{Answer}
 use Rattle.commands.specs.Checks.{Check, Passes, ◌>>=◌}
 use Rattle.commands.specs.Inputs.{mesh_in, pair_in, certificate_in, walk_at}
@@ -34,8 +34,7 @@ after_mesh held walks certificate faces = pair_in held walks faces >>= after_pai
 pub walks_stop : (held : Option Files) (mesh walks certificate : List ℕ) (faces : FaceList) (stop : Stop) → Passes (mesh_in held mesh) faces
     → Stops (pair_in held walks faces) stop → Stops (verify held mesh walks certificate) stop
 walks_stop held mesh walks certificate faces stop p h =
-    stops_next (mesh_in held mesh) (after_mesh held walks certificate) faces stop p
-    (stops_first (pair_in held walks faces) (after_pair held certificate faces) stop h)
+    stops_second (mesh_in held mesh) (pair_in held walks) (after_pair held certificate) faces stop p h
 
 -- as the judgement on the file ends, the command does
 pub concluded : (held : Option Files) (mesh walks certificate : List ℕ) (faces : FaceList) (pair : List (List ℕ))

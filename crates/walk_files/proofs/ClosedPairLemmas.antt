@@ -4,7 +4,7 @@ use Rattle.std.specs.Prelude.{None, ◌==◌, slice_index}
 use Rattle.std.proofs.lemmas.Bool.{eqb-true}
 use Rattle.surf_model.specs.FaceLists.{FaceList}
 use Rattle.surf_model.specs.Walks.{darts}
-use Rattle.walk_files.specs.declared.loops.LoopFault.TheVariants.{NotClosed}
+use Rattle.walk_files.specs.declared.loops.LoopFault.TheVariants.{NotClosed, NotTwo}
 use Rattle.walk_files.specs.ClosedPairs.{IsClosedPair, of_entry, open_fault, loops_fault}
 use Rattle.walk_files.proofs.TwoWalkLemmas.{if_none, none_of_walks, walks_of_none}
 
@@ -30,7 +30,7 @@ pub loops_of_none : (mesh : FaceList) (first second : List ℕ) → 0 < length f
     → loops_fault mesh (first ∷ second ∷ []) ≡ None
     → IsClosedPair mesh (first ∷ second ∷ [])
 loops_of_none mesh first second some more none =
-    let walks = walks_of_none of_entry open_fault loops_fault (λ _ _ _. refl) mesh first second some more none in
+    let walks = walks_of_none NotTwo of_entry open_fault mesh first second some more none in
     let closed = closed_of_none first second walks.2 in
     record {
       first = first;
@@ -42,5 +42,5 @@ loops_of_none mesh first second some more none =
 
 pub none_of_loops : (mesh : FaceList) (walks : List (List ℕ)) → IsClosedPair mesh walks → loops_fault mesh walks ≡ None
 none_of_loops mesh walks pair =
-    none_of_walks of_entry open_fault loops_fault (λ _ _ _. refl) mesh walks pair.first pair.second pair.two pair.first_closed.is_walk
+    none_of_walks NotTwo of_entry open_fault mesh walks pair.first pair.second pair.two pair.first_closed.is_walk
     pair.second_closed.is_walk (no_open_fault pair.first pair.second pair.first_closed.closed pair.second_closed.closed)

@@ -4,7 +4,7 @@ use Rattle.std.specs.Prelude.{None, ◌==◌, slice_index}
 use Rattle.std.proofs.lemmas.Bool.{eqb-true}
 use Rattle.surf_model.specs.FaceLists.{FaceList}
 use Rattle.surf_model.specs.Walks.{darts, HaveCommonEnds}
-use Rattle.walk_files.specs.declared.pair.PairFault.TheVariants.{EndsDiffer}
+use Rattle.walk_files.specs.declared.pair.PairFault.TheVariants.{EndsDiffer, NotTwo}
 use Rattle.walk_files.specs.Pairs.{IsPair, of_entry, ends_fault, pair_fault}
 use Rattle.walk_files.proofs.TwoWalkLemmas.{if_none, none_of_walks, walks_of_none}
 
@@ -26,7 +26,7 @@ pub pair_of_none : (mesh : FaceList) (first second : List ℕ) → 0 < length fi
     → pair_fault mesh (first ∷ second ∷ []) ≡ None
     → IsPair mesh (first ∷ second ∷ [])
 pair_of_none mesh first second some more none =
-    let walks = walks_of_none of_entry ends_fault pair_fault (λ _ _ _. refl) mesh first second some more none in
+    let walks = walks_of_none NotTwo of_entry ends_fault mesh first second some more none in
     record {
       first = first;
       second = second;
@@ -38,5 +38,5 @@ pair_of_none mesh first second some more none =
 
 pub none_of_pair : (mesh : FaceList) (walks : List (List ℕ)) → IsPair mesh walks → pair_fault mesh walks ≡ None
 none_of_pair mesh walks pair =
-    none_of_walks of_entry ends_fault pair_fault (λ _ _ _. refl) mesh walks pair.first pair.second pair.two pair.first_walk pair.second_walk
+    none_of_walks NotTwo of_entry ends_fault mesh walks pair.first pair.second pair.two pair.first_walk pair.second_walk
     (no_ends_fault pair.first pair.second pair.ends)

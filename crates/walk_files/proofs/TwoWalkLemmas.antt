@@ -7,6 +7,7 @@ use Rattle.surf_model.specs.FaceLists.{FaceList}
 use Rattle.surf_model.specs.Walks.{IsWalk}
 use Rattle.walk_files.specs.declared.entries.EntryFault.{EntryFault}
 use Rattle.walk_files.specs.Entries.{vertex_fault, edge_fault, first_fault, walks_fault}
+use Rattle.walk_files.specs.TwoWalks.{two_fault}
 use Rattle.walk_files.proofs.EntryLemmas.{both_none, none_or, walk_of_none, no_vertex_fault, no_edge_fault}
 
 pub if_none : {A : Type 0} (b : Bool) (x : A) (o : Option A) → cond (not b) (Some x) o ≡ None → (b ≡ true) × (o ≡ None)
@@ -24,14 +25,10 @@ no_fault : (fault : ℕ → List ℕ → Option EntryFault) (first second : List
     → first_fault fault 1 (first ∷ second ∷ []) ≡ None
 no_fault fault first second one two = none_or (fault 1 first) _ one ∙ none_or (fault 2 second) None two
 
--- what is first wrong with two walks: an entry, or what is wrong with both of them
-abbrev pub fault_of_two : {F : Type 0} → (EntryFault → F) → (List ℕ → List ℕ → Option F) → FaceList → (a b : List ℕ) → Option F
-fault_of_two of_entry of_both mesh a b = option_or (option_map of_entry (walks_fault mesh (a ∷ b ∷ []))) (of_both a b)
+module _ {F : Type 0} (not_two : ℕ → F) (of_entry : EntryFault → F) (of_both : List ℕ → List ℕ → Option F) where
+  abbrev fault_of : FaceList → List (List ℕ) → Option F
+  fault_of mesh walks = two_fault not_two of_entry of_both mesh walks
 
--- `fault_of` says what is first wrong with a list of walks, of two as above
-module _ {F : Type 0} (of_entry : EntryFault → F) (of_both : List ℕ → List ℕ → Option F)
-    (fault_of : FaceList → List (List ℕ) → Option F)
-    (of_two : (mesh : FaceList) (a b : List ℕ) → fault_of mesh (a ∷ b ∷ []) ≡ fault_of_two of_entry of_both mesh a b) where
   no_entry : (o : Option EntryFault) → option_map of_entry o ≡ None → o ≡ None
   no_entry None e = refl
   no_entry (Some fault) e = cc
@@ -41,8 +38,7 @@ module _ {F : Type 0} (of_entry : EntryFault → F) (of_both : List ℕ → List
       → fault_of mesh (first ∷ second ∷ []) ≡ None
       → IsWalk mesh first × IsWalk mesh second × (of_both first second ≡ None)
   walks_of_none mesh first second some more none =
-      let entries = both_none (option_map of_entry (walks_fault mesh (first ∷ second ∷ []))) (of_both first second)
-      (sym (of_two mesh first second) ∙ none) in
+      let entries = both_none (option_map of_entry (walks_fault mesh (first ∷ second ∷ []))) (of_both first second) none in
       let parts = both_none (first_fault (vertex_fault mesh) 1 (first ∷ second ∷ [])) _
       (no_entry (walks_fault mesh (first ∷ second ∷ [])) entries.0) in
       let vertices = both_none (vertex_fault mesh 1 first) _ parts.0 in
@@ -59,7 +55,7 @@ module _ {F : Type 0} (of_entry : EntryFault → F) (of_both : List ℕ → List
   none_of_walks mesh walks first second two one other none =
       let used = no_fault (vertex_fault mesh) first second (no_vertex_fault mesh 1 first one) (no_vertex_fault mesh 2 second other) in
       let joined = no_fault (edge_fault mesh) first second (no_edge_fault mesh 1 first one) (no_edge_fault mesh 2 second other) in
-      ap (fault_of mesh) two ∙ of_two mesh first second
+      ap (fault_of mesh) two
       ∙ ap (λ o. option_or (option_map of_entry o) (of_both first second)) (none_or _ _ used ∙ joined)
       ∙ none
 
@@ -68,16 +64,21 @@ module _ {F : Type 0} (of_entry : EntryFault → F) (of_both : List ℕ → List
       → Some fault ≡ walks_fault mesh walks → Some (of_entry fault) ≡ fault_of mesh walks
   two_fault-entry mesh [] fault two is = absurd (omega arith)
   two_fault-entry mesh (a ∷ []) fault two is = absurd (omega arith)
-  two_fault-entry mesh (a ∷ b ∷ []) fault two is =
-      ap (λ o. option_or (option_map of_entry o) (of_both a b)) is ∙ sym (of_two mesh a b)
+  two_fault-entry mesh (a ∷ b ∷ []) fault two is = ap (λ o. option_or (option_map of_entry o) (of_both a b)) is
   two_fault-entry mesh (a ∷ b ∷ c ∷ rest) fault two is = absurd (omega arith)
 
   -- where no entry has one, what is wrong with both decides
   pub two_fault-both : (mesh : FaceList) (walks : List (List ℕ)) (a b : List ℕ) → walks ≡ a ∷ b ∷ [] → None ≡ walks_fault mesh walks
       → of_both a b ≡ fault_of mesh walks
   two_fault-both mesh walks a b two is =
-      ap (λ o. option_or (option_map of_entry o) (of_both a b)) (is ∙ ap (walks_fault mesh) two) ∙ sym (of_two mesh a b)
-      ∙ ap (fault_of mesh) (sym two)
+      ap (λ o. option_or (option_map of_entry o) (of_both a b)) (is ∙ ap (walks_fault mesh) two) ∙ ap (fault_of mesh) (sym two)
+
+  -- where nothing is wrong, there are two
+  pub two_fault-two : (mesh : FaceList) (walks : List (List ℕ)) → fault_of mesh walks ≡ None → length walks ≡ 2
+  two_fault-two mesh [] e = cc
+  two_fault-two mesh (a ∷ []) e = cc
+  two_fault-two mesh (a ∷ b ∷ []) e = refl
+  two_fault-two mesh (a ∷ b ∷ c ∷ rest) e = cc
 
   -- A result that says whether something is wrong says whether the walks are such a pair.
   pub fails_two : (mesh : FaceList) (walks : List (List ℕ)) (ArePair : Type 0) (r : Result (Unit {0}) F) (fault : F) → r ≡ Err fault

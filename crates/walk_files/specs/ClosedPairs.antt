@@ -1,10 +1,9 @@
 -- Two closed walks of a mesh, and what is first wrong with a list of walks that is no such pair.
-use Rattle.std.specs.Prelude.{◌≡◌, ℕ, ◌==◌, not, if◌then◌else◌, List, [], ◌∷◌, length, slice_index, Option, Some, None, option_map}
-use Rattle.std.specs.Option.{option_or}
+use Rattle.std.specs.Prelude.{◌≡◌, ℕ, ◌==◌, not, if◌then◌else◌, List, [], ◌∷◌, slice_index, Option, Some, None}
 use Rattle.surf_model.specs.FaceLists.{FaceList}
 use Rattle.surf_model.specs.Walks.{darts}
 use Rattle.closed_walks.specs.FreeHomotopy.{IsClosedWalk}
-use Rattle.walk_files.specs.Entries.{walks_fault}
+use Rattle.walk_files.specs.TwoWalks.{two_fault}
 use Rattle.walk_files.specs.declared.entries.EntryFault.{EntryFault}
 use Rattle.walk_files.specs.declared.entries.EntryFault.TheVariants as entry
 use Rattle.walk_files.specs.declared.loops.LoopFault.{LoopFault}
@@ -32,5 +31,4 @@ open_fault first second =
 
 -- what is first wrong with these walks
 abbrev pub loops_fault : FaceList → List (List ℕ) → Option LoopFault
-loops_fault mesh (first ∷ second ∷ []) = option_or (option_map of_entry (walks_fault mesh (first ∷ second ∷ []))) (open_fault first second)
-loops_fault mesh walks = Some (NotTwo (length walks))
+loops_fault mesh walks = two_fault NotTwo of_entry open_fault mesh walks

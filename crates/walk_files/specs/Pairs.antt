@@ -1,9 +1,8 @@
 -- Two walks of a mesh with common ends, and what is first wrong with a list of walks that is no such pair.
-use Rattle.std.specs.Prelude.{◌≡◌, ℕ, ◌==◌, not, true, false, if◌then◌else◌, List, [], ◌∷◌, length, slice_index, Option, Some, None, option_map}
-use Rattle.std.specs.Option.{option_or}
+use Rattle.std.specs.Prelude.{◌≡◌, ℕ, ◌==◌, not, true, false, if◌then◌else◌, List, [], ◌∷◌, slice_index, Option, Some, None}
 use Rattle.surf_model.specs.FaceLists.{FaceList}
 use Rattle.surf_model.specs.Walks.{darts, IsWalk, HaveCommonEnds}
-use Rattle.walk_files.specs.Entries.{walks_fault}
+use Rattle.walk_files.specs.TwoWalks.{two_fault}
 use Rattle.walk_files.specs.declared.entries.EntryFault.{EntryFault}
 use Rattle.walk_files.specs.declared.entries.EntryFault.TheVariants as entry
 use Rattle.walk_files.specs.declared.pair.PairFault.{PairFault}
@@ -32,5 +31,4 @@ ends_fault first second =
 
 -- what is first wrong with these walks
 abbrev pub pair_fault : FaceList → List (List ℕ) → Option PairFault
-pair_fault mesh (first ∷ second ∷ []) = option_or (option_map of_entry (walks_fault mesh (first ∷ second ∷ []))) (ends_fault first second)
-pair_fault mesh walks = Some (NotTwo (length walks))
+pair_fault mesh walks = two_fault NotTwo of_entry ends_fault mesh walks

@@ -13,7 +13,7 @@ use Rattle.commands.specs.Inputs.{pair_in, walk_at}
 use Rattle.commands.specs.Stops.{Stops}
 use Rattle.commands.specs.declared.stop.Stop.TheVariants.{OutOfMemory}
 use Rattle.commands.proofs.Certifying.{walks_stop, limits_stop, allowed, certificate_found}
-use Rattle.commands.proofs.Checking.{two_walks}
+use Rattle.commands.proofs.Rows.{two_walks}
 use Rattle.commands.proofs.Deciding.{AreWalks, walks_of_pair}
 use Rattle.commands.proofs.Running.{memory_no_fault, only_then, runs_faulty, runs_replied, runs_stopped, tells_no_fault}
 use Rattle.commands.proofs.certify.certify.Goals as goal

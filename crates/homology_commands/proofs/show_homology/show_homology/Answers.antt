@@ -1,59 +1,50 @@
-use Rattle.std.proofs.Common.{◌≡◌, ℕ, List, sym, ap₂, subst, arith, ◌+◌}
-use Rattle.std.specs.Prelude.{Option}
+use Rattle.std.proofs.Common.{◌≡◌, List, ℕ, ap, arith, refl}
 use Rattle.std.proofs.lemmas.Option.{get_or_from_slice_get}
 use Rattle.std.proofs.lemmas.Result.{err_from_is_err_and}
-use Rattle.surf_io.specs.Files.{Files}
-use Rattle.surf_model.specs.Edges.{IsTableOf}
-use Rattle.surf_model.specs.Walks.{IsWalk, darts}
-use Rattle.commands.specs.Checks.{Passes}
+use Rattle.surf_model.specs.Walks.{darts}
 use Rattle.commands.specs.HomologyCertificates.{ShowsHomology, answer_in}
 use Rattle.commands.specs.Inputs.{pair_in, walk_at}
-use Rattle.commands.specs.Stops.{Stops}
-use Rattle.commands.specs.declared.stop.Stop.TheVariants.{OutOfMemory}
-use Rattle.commands.proofs.Checking.{two_walks}
 use Rattle.commands.proofs.Deciding.{AreWalks, walks_of_pair}
-use Rattle.commands.proofs.Running.{memory_no_fault, only_then, runs_faulty, runs_replied, runs_stopped}
-use Rattle.homology_commands.specs.Homology as of_homology
+use Rattle.commands.proofs.Rows.{two_walks}
+use Rattle.commands.proofs.RunsOnWalks.{at_places, runs_asked, runs_refused_walks, runs_wanting}
 use Rattle.homology_commands.specs.Homology.{homology_answer}
-use Rattle.homology_commands.proofs.HomologyAnswers.{shown_passes, walks_stop}
+use Rattle.homology_commands.proofs.CertificateLemmas.{answer_decides}
+use Rattle.homology_commands.proofs.HomologyAnswers.{after_pair}
 use Rattle.homology_commands.proofs.ShortWalks.{few_darts}
 use Rattle.homology_commands.proofs.show_homology.show_homology.Goals as goal
 
 pub returns-in_err-pair : goal.returns-in_err-pair
 returns-in_err-pair g c =
-    let held = g.S.Shelf.held in
     let surface = c.in_ok-surface.surface in
     let read = c.in_ok-surface.ensures.reads in
-    let stop = c.in_err-pair.field-0.0 in
     let p = err_from_is_err_and c.from_residual-in_err-pair.result c.from_residual-in_err-pair.ensures.1 in
-    let table : IsTableOf surface.faces surface.sides = c.in_ok-surface.ensures.signed.table in
-    let stops = c.in_err-pair.ensures.reads.end surface.faces table in
     rw (p.1, p.2)
-    (runs_stopped held g.S.Shelf.faults c.args.shelf.now c.read_pair.new.shelf
-    (λ files. of_homology.homology files c.args.mesh.now c.args.walks.now) (λ none. none.0.0.0) c.read_surface.new.shelf _ stop
-    read.only_reads c.in_err-pair.ensures.reads
-    (walks_stop (held c.args.shelf.now) c.args.mesh.now c.args.walks.now surface.faces stop read.end
-    (subst (λ (files : Option Files). Stops (pair_in files c.args.walks.now surface.faces) stop) read.only_reads.same_files stops)))
+    (runs_refused_walks g.S.Shelf.held g.S.Shelf.faults c.args.shelf.now c.read_surface.new.shelf c.read_pair.new.shelf c.args.mesh.now
+    (λ files mesh. pair_in files c.args.walks.now mesh) after_pair surface.faces read.only_reads read.end _ c.in_err-pair.field-0.0
+    c.in_err-pair.ensures.reads (c.in_err-pair.ensures.reads.end surface.faces c.in_ok-surface.ensures.signed.table))
 
 pub at-requires : goal.at-requires
 at-requires g c =
-    let surface = c.in_ok-surface.surface in
-    let table : IsTableOf surface.faces surface.sides = c.in_ok-surface.ensures.signed.table in
-    omega (arith, two_walks _ _ surface.faces c.in_ok-pair.pair.walks (c.in_ok-pair.ensures.reads.end surface.faces table))
+    let surface = c.in_ok-surface.surface.faces in
+    omega (
+      arith,
+      two_walks _ _ surface c.in_ok-pair.pair.walks (c.in_ok-pair.ensures.reads.end surface c.in_ok-surface.ensures.signed.table),
+    )
 
 pub at-requires-2 : goal.at-requires-2
 at-requires-2 g c =
-    let surface = c.in_ok-surface.surface in
-    let table : IsTableOf surface.faces surface.sides = c.in_ok-surface.ensures.signed.table in
-    omega (arith, two_walks _ _ surface.faces c.in_ok-pair.pair.walks (c.in_ok-pair.ensures.reads.end surface.faces table))
+    let surface = c.in_ok-surface.surface.faces in
+    omega (
+      arith,
+      two_walks _ _ surface c.in_ok-pair.pair.walks (c.in_ok-pair.ensures.reads.end surface c.in_ok-surface.ensures.signed.table),
+    )
 
 -- what is known of the two walks
 walks : (g : _) (c : goal.After-at-2 g) → AreWalks c.in_ok-surface.surface.faces c.at.result.now c.at-2.result.now
 walks g c =
-    let surface = c.in_ok-surface.surface in
-    let table : IsTableOf surface.faces surface.sides = c.in_ok-surface.ensures.signed.table in
-    walks_of_pair surface.faces c.in_ok-pair.pair.walks c.at.result.now c.at-2.result.now (c.in_ok-pair.ensures.pair surface.faces table)
-    c.at.ensures c.at-2.ensures
+    let surface = c.in_ok-surface.surface.faces in
+    walks_of_pair surface c.in_ok-pair.pair.walks c.at.result.now c.at-2.result.now
+    (c.in_ok-pair.ensures.pair surface c.in_ok-surface.ensures.signed.table) c.at.ensures c.at-2.ensures
 
 pub find_certificate-requires-clause-first : goal.find_certificate-requires-clause-first
 find_certificate-requires-clause-first g c = (walks g c).first_walk
@@ -66,54 +57,42 @@ find_certificate-requires-clause-ends g c = (walks g c).ends
 
 pub find_certificate-requires-clause-few : goal.find_certificate-requires-clause-few
 find_certificate-requires-clause-few g c =
-    let surface = c.in_ok-surface.surface in
+    let surface = c.in_ok-surface.surface.faces in
     let pair = c.in_ok-pair.pair.walks in
-    let table : IsTableOf surface.faces surface.sides = c.in_ok-surface.ensures.signed.table in
-    let passed = c.in_ok-pair.ensures.reads.end surface.faces table in
-    let first : c.at.result.now ≡ walk_at pair 0 = sym (get_or_from_slice_get pair 0 c.at.result.now _ c.at.ensures) in
-    let second : c.at-2.result.now ≡ walk_at pair 1 = sym (get_or_from_slice_get pair 1 c.at-2.result.now _ c.at-2.ensures) in
-    let few = few_darts _ _ surface.faces pair passed (two_walks _ _ surface.faces pair passed) in
-    let same : darts c.at.result.now + darts c.at-2.result.now ≡ darts (walk_at pair 0) + darts (walk_at pair 1) =
-    ap₂ (λ (x y : List ℕ). darts x + darts y) first second in
-    omega (arith, few, same)
+    let passed = c.in_ok-pair.ensures.reads.end surface c.in_ok-surface.ensures.signed.table in
+    let first : walk_at pair 0 ≡ c.at.result.now = get_or_from_slice_get pair 0 c.at.result.now _ c.at.ensures in
+    let second : walk_at pair 1 ≡ c.at-2.result.now = get_or_from_slice_get pair 1 c.at-2.result.now _ c.at-2.ensures in
+    omega (arith, few_darts _ _ surface pair passed (two_walks _ _ surface pair passed), ap darts first, ap darts second)
 
 pub returns-in_err-shown : goal.returns-in_err-shown
 returns-in_err-shown g c =
-    let held = g.S.Shelf.held in
+    let surface = c.in_ok-surface.surface in
+    let read = c.in_ok-surface.ensures.reads in
     let p = err_from_is_err_and c.from_residual-in_err-shown.result c.from_residual-in_err-shown.ensures.1 in
     rw (p.1, p.2)
-    (runs_faulty held g.S.Shelf.faults c.args.shelf.now c.read_pair.new.shelf
-    (λ files. of_homology.homology files c.args.mesh.now c.args.walks.now) (λ none. none.0.0.0) OutOfMemory
-    (only_then held g.S.Shelf.faults c.args.shelf.now c.read_surface.new.shelf c.read_pair.new.shelf
-    c.in_ok-surface.ensures.reads.only_reads c.in_ok-pair.ensures.reads.only_reads) memory_no_fault tt)
+    (runs_wanting g.S.Shelf.held g.S.Shelf.faults c.args.shelf.now c.read_surface.new.shelf c.read_pair.new.shelf c.args.mesh.now
+    (λ files mesh. pair_in files c.args.walks.now mesh) after_pair surface.faces read.only_reads read.end
+    c.in_ok-pair.ensures.reads.only_reads)
 
 pub returns : goal.returns
 returns g c =
-    let held = g.S.Shelf.held in
     let surface = c.in_ok-surface.surface in
+    let read = c.in_ok-surface.ensures.reads in
     let pair = c.in_ok-pair.pair.walks in
     let shown = c.in_ok-shown.shown in
-    let read = c.in_ok-surface.ensures.reads in
-    let table : IsTableOf surface.faces surface.sides = c.in_ok-surface.ensures.signed.table in
-    let first : c.at.result.now ≡ walk_at pair 0 = sym (get_or_from_slice_get pair 0 c.at.result.now _ c.at.ensures) in
-    let second : c.at-2.result.now ≡ walk_at pair 1 = sym (get_or_from_slice_get pair 1 c.at-2.result.now _ c.at-2.ensures) in
-    let known : AreWalks surface.faces c.at.result.now c.at-2.result.now =
-    walks_of_pair surface.faces pair c.at.result.now c.at-2.result.now (c.in_ok-pair.ensures.pair surface.faces table) c.at.ensures
-    c.at-2.ensures in
-    let one : IsWalk surface.faces (walk_at pair 0) = subst (IsWalk surface.faces) first known.first_walk in
-    let two : IsWalk surface.faces (walk_at pair 1) = subst (IsWalk surface.faces) second known.second_walk in
-    let is : ShowsHomology surface.faces (walk_at pair 0) (walk_at pair 1) shown =
-    subst (λ (w : List ℕ). ShowsHomology surface.faces (walk_at pair 0) w shown) second
-    (subst (λ (w : List ℕ). ShowsHomology surface.faces w c.at-2.result.now shown) first c.in_ok-shown.ensures) in
-    runs_replied held g.S.Shelf.faults c.args.shelf.now c.read_pair.new.shelf
-    (λ files. of_homology.homology files c.args.mesh.now c.args.walks.now) (λ none. none.0.0.0) c.reply_with.result
-    (only_then held g.S.Shelf.faults c.args.shelf.now c.read_surface.new.shelf c.read_pair.new.shelf read.only_reads
-    c.in_ok-pair.ensures.reads.only_reads)
+    let known = at_places (AreWalks surface.faces) pair c.at.result.now c.at-2.result.now c.at.ensures c.at-2.ensures
+    (walks g (goal.at.returns g c).After-at-2) in
+    let shows = at_places (λ (a b : List ℕ). ShowsHomology surface.faces a b shown) pair c.at.result.now c.at-2.result.now c.at.ensures
+    c.at-2.ensures c.in_ok-shown.ensures in
+    runs_asked g.S.Shelf.held g.S.Shelf.faults c.args.shelf.now c.read_surface.new.shelf c.read_pair.new.shelf c.args.mesh.now
+    (λ files mesh. pair_in files c.args.walks.now mesh) after_pair surface.faces read.only_reads read.end pair c.reply_with.result
+    c.in_ok-pair.ensures.reads.only_reads (c.in_ok-pair.ensures.reads.end surface.faces c.in_ok-surface.ensures.signed.table)
     (record {
       answer = homology_answer surface.faces (walk_at pair 0) (walk_at pair 1) (answer_in shown);
-      passes =
-          shown_passes (held c.args.shelf.now) c.args.mesh.now c.args.walks.now surface.faces pair shown read.end
-          (subst (λ (files : Option Files). Passes (pair_in files c.args.walks.now surface.faces) pair) read.only_reads.same_files
-          (c.in_ok-pair.ensures.reads.end surface.faces table)) one two is;
-      is_answer = c.reply_with.ensures surface.faces (walk_at pair 0) (walk_at pair 1) is;
+      passes = (
+        answer_in shown,
+        refl,
+        answer_decides surface.faces (walk_at pair 0) (walk_at pair 1) shown known.first_walk known.second_walk shows,
+      );
+      is_answer = c.reply_with.ensures surface.faces (walk_at pair 0) (walk_at pair 1) shows;
     })

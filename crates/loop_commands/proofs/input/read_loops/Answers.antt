@@ -1,36 +1,39 @@
 use Rattle.std.proofs.Common.{sym}
 use Rattle.std.proofs.lemmas.Result.{err_from_is_err_and}
-use Rattle.commands.proofs.Running.{err_no_fault, reads_faulty, reads_made, tells_no_fault}
+use Rattle.walk_files.specs.ClosedPairs.{loops_fault}
+use Rattle.commands.proofs.Running.{only_self, reads_faulty, reads_made, reads_then, tells_no_fault}
+use Rattle.commands.proofs.WalkInputs.{fault_stops, text_passes, text_stops}
 use Rattle.loop_commands.specs.Loops.{loops_line}
-use Rattle.loop_commands.proofs.LoopChecks.{loops_read, loops_stop, loops_text_stop}
 use Rattle.loop_commands.proofs.input.read_loops.Goals as goal
 
 pub returns-in_err-walks-clause-reads : goal.returns-in_err-walks-clause-reads
 returns-in_err-walks-clause-reads g c =
+    let held = g.S.Shelf.held in
+    let shelf = c.args.shelf.now in
     let stop = c.in_err-walks.field-0.0 in
-    let p = err_from_is_err_and c.from_residual-in_err-walks.result c.from_residual-in_err-walks.ensures.1 in
+    let p = err_from_is_err_and c.from_residual.result c.from_residual.ensures.1 in
     rw (p.1, p.2)
-    (reads_faulty g.S.Shelf.held g.S.Shelf.faults c.args.shelf.now c.read_file.new.shelf _ stop c.in_ok-bytes.ensures.only_reads
-    (err_no_fault stop c.in_err-walks.ensures.no_fault)
-    (λ mesh table.
-    loops_text_stop (g.S.Shelf.held c.args.shelf.now) c.args.name.now mesh c.in_ok-bytes.bytes.items stop c.in_ok-bytes.ensures.end
-    (rw c.deref.ensures.value at c.in_err-walks.ensures.end)))
+    (reads_then held g.S.Shelf.faults shelf shelf c.read_list.new.shelf _ _ stop (only_self held g.S.Shelf.faults shelf)
+    c.in_err-walks.ensures
+    (λ mesh table. text_stops loops_line (loops_fault mesh) (held shelf) c.args.name.now stop c.in_err-walks.ensures.end))
 
 pub returns-in-Ok-clause-reads : goal.returns-in-Ok-clause-reads
 returns-in-Ok-clause-reads g c =
-    let walks = c.in_ok-walks.walks in
-    reads_made g.S.Shelf.held g.S.Shelf.faults c.args.shelf.now c.read_file.new.shelf _ _ c.in_ok-bytes.ensures.only_reads
+    let held = g.S.Shelf.held in
+    let shelf = c.args.shelf.now in
+    reads_made held g.S.Shelf.faults shelf c.read_list.new.shelf _ _ c.in_ok-walks.ensures.only_reads
     (λ mesh table.
-    loops_read (g.S.Shelf.held c.args.shelf.now) c.args.name.now mesh c.in_ok-bytes.bytes.items walks c.in_ok-bytes.ensures.end
-    (rw c.deref.ensures.value at c.in_ok-walks.ensures.end) (sym (c.in-Ok.ensures.fault mesh table)))
+    text_passes loops_line (loops_fault mesh) (held shelf) c.args.name.now c.in_ok-walks.walks c.in_ok-walks.ensures.end
+    (sym (c.in-Ok.ensures.fault mesh table)))
 
 pub returns-clause-reads : goal.returns-clause-reads
 returns-clause-reads g c =
+    let held = g.S.Shelf.held in
+    let shelf = c.args.shelf.now in
     let fault = c.in-Err.fault in
     let stop = c.stop_for.result in
-    reads_faulty g.S.Shelf.held g.S.Shelf.faults c.args.shelf.now c.read_file.new.shelf _ stop c.in_ok-bytes.ensures.only_reads
+    reads_faulty held g.S.Shelf.faults shelf c.read_list.new.shelf _ stop c.in_ok-walks.ensures.only_reads
     (tells_no_fault (loops_line fault) stop c.stop_for.ensures)
     (λ mesh table.
-    loops_stop (g.S.Shelf.held c.args.shelf.now) c.args.name.now mesh c.in_ok-bytes.bytes.items c.in_ok-walks.walks fault stop
-    c.in_ok-bytes.ensures.end (rw c.deref.ensures.value at c.in_ok-walks.ensures.end)
+    fault_stops loops_line (loops_fault mesh) (held shelf) c.args.name.now c.in_ok-walks.walks fault stop c.in_ok-walks.ensures.end
     (sym (c.in-Err.ensures.fault mesh table)) c.stop_for.ensures)

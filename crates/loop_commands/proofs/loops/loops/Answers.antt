@@ -1,57 +1,46 @@
-use Rattle.std.proofs.Common.{◌≡◌, ℕ, List, sym, subst, arith}
-use Rattle.std.specs.Prelude.{◌↔◌, Option}
-use Rattle.std.proofs.lemmas.Option.{get_or_from_slice_get}
+use Rattle.std.proofs.Common.{◌≡◌, ℕ, List, arith, refl}
+use Rattle.std.specs.Prelude.{◌↔◌}
 use Rattle.std.proofs.lemmas.Result.{err_from_is_err_and}
-use Rattle.surf_io.specs.Files.{Files}
-use Rattle.surf_model.specs.Edges.{IsTableOf}
 use Rattle.closed_walks.specs.FreeHomotopy.{FreelyHomotopic}
 use Rattle.free_loops.specs.declared.deciding.FreeAnswer.TheVariants.{Freely}
-use Rattle.commands.specs.Checks.{Passes}
-use Rattle.loop_commands.specs.Loops as of_loops
+use Rattle.commands.proofs.RunsOnWalks.{at_places, runs_asked, runs_refused_walks, runs_wanting}
 use Rattle.loop_commands.specs.Loops.{free_answer, loops_in}
-use Rattle.commands.specs.Inputs.{walk_at}
-use Rattle.commands.specs.Stops.{Stops}
-use Rattle.commands.specs.declared.stop.Stop.TheVariants.{OutOfMemory}
+use Rattle.loop_commands.proofs.LoopAnswers.{AreClosed, after_pair, walks_of_pair}
 use Rattle.loop_commands.proofs.LoopChecks.{two_walks}
-use Rattle.loop_commands.proofs.LoopAnswers.{AreClosed, walks_of_pair, walks_stop, decision_passes}
-use Rattle.commands.proofs.Running.{memory_no_fault, only_then, runs_faulty, runs_replied, runs_stopped}
 use Rattle.loop_commands.proofs.loops.loops.Goals as goal
 
 pub returns-in_err-pair : goal.returns-in_err-pair
 returns-in_err-pair g c =
-    let held = g.S.Shelf.held in
     let surface = c.in_ok-surface.surface in
     let read = c.in_ok-surface.ensures.reads in
-    let stop = c.in_err-pair.field-0.0 in
     let p = err_from_is_err_and c.from_residual-in_err-pair.result c.from_residual-in_err-pair.ensures.1 in
-    let table : IsTableOf surface.faces surface.sides = c.in_ok-surface.ensures.signed.table in
-    let stops = c.in_err-pair.ensures.reads.end surface.faces table in
     rw (p.1, p.2)
-    (runs_stopped held g.S.Shelf.faults c.args.shelf.now c.read_loops.new.shelf
-    (λ files. of_loops.loops files c.args.mesh.now c.args.walks.now) (λ none. none.0.0.0) c.read_surface.new.shelf _ stop
-    read.only_reads c.in_err-pair.ensures.reads
-    (walks_stop (held c.args.shelf.now) c.args.mesh.now c.args.walks.now surface.faces stop read.end
-    (subst (λ (files : Option Files). Stops (loops_in files c.args.walks.now surface.faces) stop) read.only_reads.same_files stops)))
+    (runs_refused_walks g.S.Shelf.held g.S.Shelf.faults c.args.shelf.now c.read_surface.new.shelf c.read_loops.new.shelf c.args.mesh.now
+    (λ files mesh. loops_in files c.args.walks.now mesh) after_pair surface.faces read.only_reads read.end _ c.in_err-pair.field-0.0
+    c.in_err-pair.ensures.reads (c.in_err-pair.ensures.reads.end surface.faces c.in_ok-surface.ensures.signed.table))
 
 pub at-requires : goal.at-requires
 at-requires g c =
-    let surface = c.in_ok-surface.surface in
-    let table : IsTableOf surface.faces surface.sides = c.in_ok-surface.ensures.signed.table in
-    omega (arith, two_walks _ _ surface.faces c.in_ok-pair.pair.walks (c.in_ok-pair.ensures.reads.end surface.faces table))
+    let surface = c.in_ok-surface.surface.faces in
+    omega (
+      arith,
+      two_walks _ _ surface c.in_ok-pair.pair.walks (c.in_ok-pair.ensures.reads.end surface c.in_ok-surface.ensures.signed.table),
+    )
 
 pub at-requires-2 : goal.at-requires-2
 at-requires-2 g c =
-    let surface = c.in_ok-surface.surface in
-    let table : IsTableOf surface.faces surface.sides = c.in_ok-surface.ensures.signed.table in
-    omega (arith, two_walks _ _ surface.faces c.in_ok-pair.pair.walks (c.in_ok-pair.ensures.reads.end surface.faces table))
+    let surface = c.in_ok-surface.surface.faces in
+    omega (
+      arith,
+      two_walks _ _ surface c.in_ok-pair.pair.walks (c.in_ok-pair.ensures.reads.end surface c.in_ok-surface.ensures.signed.table),
+    )
 
 -- what is known of the two walks
 walks : (g : _) (c : goal.After-at-2 g) → AreClosed c.in_ok-surface.surface.faces c.at.result.now c.at-2.result.now
 walks g c =
-    let surface = c.in_ok-surface.surface in
-    let table : IsTableOf surface.faces surface.sides = c.in_ok-surface.ensures.signed.table in
-    walks_of_pair surface.faces c.in_ok-pair.pair.walks c.at.result.now c.at-2.result.now (c.in_ok-pair.ensures.loops surface.faces table)
-    c.at.ensures c.at-2.ensures
+    let surface = c.in_ok-surface.surface.faces in
+    walks_of_pair surface c.in_ok-pair.pair.walks c.at.result.now c.at-2.result.now
+    (c.in_ok-pair.ensures.loops surface c.in_ok-surface.ensures.signed.table) c.at.ensures c.at-2.ensures
 
 pub decide_on-requires-clause-first : goal.decide_on-requires-clause-first
 decide_on-requires-clause-first g c = (walks g c).first_closed
@@ -61,36 +50,30 @@ decide_on-requires-clause-second g c = (walks g c).second_closed
 
 pub returns-in_err-decision : goal.returns-in_err-decision
 returns-in_err-decision g c =
-    let held = g.S.Shelf.held in
+    let surface = c.in_ok-surface.surface in
+    let read = c.in_ok-surface.ensures.reads in
     let p = err_from_is_err_and c.from_residual-in_err-decision.result c.from_residual-in_err-decision.ensures.1 in
     rw (p.1, p.2)
-    (runs_faulty held g.S.Shelf.faults c.args.shelf.now c.read_loops.new.shelf
-    (λ files. of_loops.loops files c.args.mesh.now c.args.walks.now) (λ none. none.0.0.0) OutOfMemory
-    (only_then held g.S.Shelf.faults c.args.shelf.now c.read_surface.new.shelf c.read_loops.new.shelf
-    c.in_ok-surface.ensures.reads.only_reads c.in_ok-pair.ensures.reads.only_reads) memory_no_fault tt)
+    (runs_wanting g.S.Shelf.held g.S.Shelf.faults c.args.shelf.now c.read_surface.new.shelf c.read_loops.new.shelf c.args.mesh.now
+    (λ files mesh. loops_in files c.args.walks.now mesh) after_pair surface.faces read.only_reads read.end
+    c.in_ok-pair.ensures.reads.only_reads)
 
 pub returns : goal.returns
 returns g c =
-    let held = g.S.Shelf.held in
     let surface = c.in_ok-surface.surface in
+    let read = c.in_ok-surface.ensures.reads in
     let pair = c.in_ok-pair.pair.walks in
     let decision = c.in_ok-decision.decision in
-    let read = c.in_ok-surface.ensures.reads in
-    let table : IsTableOf surface.faces surface.sides = c.in_ok-surface.ensures.signed.table in
-    let first : c.at.result.now ≡ walk_at pair 0 = sym (get_or_from_slice_get pair 0 c.at.result.now _ c.at.ensures) in
-    let second : c.at-2.result.now ≡ walk_at pair 1 = sym (get_or_from_slice_get pair 1 c.at-2.result.now _ c.at-2.ensures) in
-    let right : (decision ≡ Freely) ↔ FreelyHomotopic surface.faces (walk_at pair 0) (walk_at pair 1) =
-    subst (λ (w : List ℕ). (decision ≡ Freely) ↔ FreelyHomotopic surface.faces (walk_at pair 0) w) second
-    (subst (λ (w : List ℕ). (decision ≡ Freely) ↔ FreelyHomotopic surface.faces w c.at-2.result.now) first c.in_ok-decision.ensures) in
-    runs_replied held g.S.Shelf.faults c.args.shelf.now c.read_loops.new.shelf
-    (λ files. of_loops.loops files c.args.mesh.now c.args.walks.now) (λ none. none.0.0.0) c.reply_on.result
-    (only_then held g.S.Shelf.faults c.args.shelf.now c.read_surface.new.shelf c.read_loops.new.shelf read.only_reads
-    c.in_ok-pair.ensures.reads.only_reads)
+    runs_asked g.S.Shelf.held g.S.Shelf.faults c.args.shelf.now c.read_surface.new.shelf c.read_loops.new.shelf c.args.mesh.now
+    (λ files mesh. loops_in files c.args.walks.now mesh) after_pair surface.faces read.only_reads read.end pair c.reply_on.result
+    c.in_ok-pair.ensures.reads.only_reads (c.in_ok-pair.ensures.reads.end surface.faces c.in_ok-surface.ensures.signed.table)
     (record {
       answer = free_answer decision;
-      passes =
-          decision_passes (held c.args.shelf.now) c.args.mesh.now c.args.walks.now surface.faces pair decision read.end
-          (subst (λ (files : Option Files). Passes (loops_in files c.args.walks.now surface.faces) pair) read.only_reads.same_files
-          (c.in_ok-pair.ensures.reads.end surface.faces table)) right;
+      passes = (
+        decision,
+        refl,
+        at_places (λ (a b : List ℕ). (decision ≡ Freely) ↔ FreelyHomotopic surface.faces a b) pair c.at.result.now c.at-2.result.now
+            c.at.ensures c.at-2.ensures c.in_ok-decision.ensures,
+      );
       is_answer = c.reply_on.ensures;
     })

@@ -5,10 +5,10 @@ use Rattle.walk_translate.specs.declared.deciding.Answer as deciding
 use Rattle.walk_translate.specs.declared.deciding.Answer.TheVariants.{Homotopic, Different}
 use Rattle.commands.specs.Decisions.{decision_answer}
 use Rattle.commands.specs.declared.stop.Stop.TheVariants.{OutOfMemory}
-use Rattle.commands.proofs.Running.{memory_no_fault, runs_faulty, runs_replied}
+use Rattle.commands.proofs.Running.{memory_no_fault, only_self, runs_faulty, runs_replied, runs_stopped}
 use Rattle.open_commands.specs.DecideOpen as of_decide_open
 use Rattle.open_commands.proofs.Listing.{decision_passes}
-use Rattle.open_commands.proofs.OpenInputs.{AreOpenWalks, open_walks, two_long, runs_ended}
+use Rattle.open_commands.proofs.OpenInputs.{AreOpenWalks, open_walks, two_long}
 use Rattle.open_commands.proofs.OpenOutcomes.{decide_stops}
 use Rattle.open_commands.proofs.decide_open.decide_open.Goals as goal
 use Rattle.open_commands.proofs.decide_open.decide_open.Goals.{After-at-2}
@@ -18,9 +18,9 @@ returns-in_err-pair g c =
     let stop = c.in_err-pair.field-0.0 in
     let p = err_from_is_err_and c.from_residual.result c.from_residual.ensures.1 in
     rw (p.1, p.2)
-    (runs_ended g.S.Shelf.held g.S.Shelf.faults c.args.shelf.now c.read_open_pair.new.shelf
-    (λ files. of_decide_open.decide_open files c.args.mesh.now c.args.walks.now) (λ none. none.0.0.0.0) _ stop
-    c.in_err-pair.ensures.reads
+    (runs_stopped g.S.Shelf.held g.S.Shelf.faults c.args.shelf.now c.read_open_pair.new.shelf
+    (λ files. of_decide_open.decide_open files c.args.mesh.now c.args.walks.now) (λ none. none.0.0.0.0) c.args.shelf.now _ stop
+    (only_self g.S.Shelf.held g.S.Shelf.faults c.args.shelf.now) c.in_err-pair.ensures.reads
     (decide_stops (g.S.Shelf.held c.args.shelf.now) c.args.mesh.now c.args.walks.now stop c.in_err-pair.ensures.reads.end))
 
 pub at-requires : goal.at-requires

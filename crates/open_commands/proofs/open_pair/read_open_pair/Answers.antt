@@ -10,10 +10,10 @@ use Rattle.commands.specs.Checks.{Passes}
 use Rattle.commands.specs.Inputs.{pair_in, walk_at}
 use Rattle.commands.specs.Stops.{Stops}
 use Rattle.commands.specs.declared.stop.Stop.TheVariants.{OutOfMemory}
-use Rattle.commands.proofs.Checking.{two_walks}
-use Rattle.commands.proofs.Running.{memory_no_fault, only_then, reads_faulty, reads_made, tells_no_fault}
+use Rattle.commands.proofs.Rows.{two_walks}
+use Rattle.commands.proofs.Running.{memory_no_fault, only_then, reads_faulty, reads_made, reads_then, tells_no_fault}
 use Rattle.open_commands.specs.OpenPairs.{IsWithinLimits, limit_fault, open_pair_in}
-use Rattle.open_commands.proofs.OpenInputs.{walks_stop, limits_stop, pair_passes, built_passes, allowed, reads_stopped}
+use Rattle.open_commands.proofs.OpenInputs.{walks_stop, limits_stop, pair_passes, built_passes, allowed}
 use Rattle.open_commands.proofs.open_pair.read_open_pair.Goals as goal
 use Rattle.open_commands.proofs.open_pair.read_open_pair.Goals.{After-at-2}
 
@@ -24,7 +24,7 @@ returns-in_err-walks-clause-reads g c =
     let p = err_from_is_err_and c.from_residual-in_err-walks.result c.from_residual-in_err-walks.ensures.1 in
     let stops = c.in_err-walks.ensures.reads.end surface c.in_ok-faces.ensures.table in
     rw (p.1, p.2)
-    (reads_stopped g.S.Shelf.held g.S.Shelf.faults c.args.shelf.now c.read_open_surface.new.shelf c.read_pair.new.shelf _ _ stop
+    (reads_then g.S.Shelf.held g.S.Shelf.faults c.args.shelf.now c.read_open_surface.new.shelf c.read_pair.new.shelf _ _ stop
     c.in_ok-faces.ensures.reads.only_reads c.in_err-walks.ensures.reads
     (walks_stop (g.S.Shelf.held c.args.shelf.now) c.args.mesh.now c.args.walks.now surface stop c.in_ok-faces.ensures.reads.end
     (subst (λ (files : Option Files). Stops (pair_in files c.args.walks.now surface) stop)

@@ -3,11 +3,11 @@ use Rattle.std.specs.Prelude.{Option}
 use Rattle.std.proofs.lemmas.Result.{err_from_is_err_and}
 use Rattle.surf_io.specs.Files.{Files}
 use Rattle.commands.specs.Checks.{Passes}
+use Rattle.commands.specs.Inputs.{text_in}
 use Rattle.commands.specs.Stops.{Stops}
 use Rattle.commands.proofs.Running.{err_no_fault, only_then, runs_faulty, runs_replied, runs_stopped}
 use Rattle.pair_commands.specs.Decide as of_decide
 use Rattle.pair_commands.specs.Decide.{decisions_answer}
-use Rattle.pair_commands.specs.PairInput.{text_in}
 use Rattle.pair_commands.proofs.PairChecks.{list_pass, list_stop, text_stop}
 use Rattle.pair_commands.proofs.DecideOutcomes.{walks_stop, decisions_pass}
 use Rattle.pair_commands.proofs.decide.decide.Goals as goal
