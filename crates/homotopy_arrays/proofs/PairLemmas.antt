@@ -132,23 +132,27 @@ pub within : (sizes : List ℕ) (k at total : ℕ) → at ≡ sum (take (2 * k) 
 within sizes k at total place below all =
     omega (arith, all, pair_end sizes k at place below, sum_by-take-drop (λ x. x) sizes (2 * (k + 1)))
 
+-- what holds of each entry at its place still does with one entry more
+one_more : {X : Type 0} (Holds : ℕ → X → Type 0) (xs : List X) (k : ℕ) (x : X) → length xs ≡ k
+    → ((j : ℕ) (none : X) → j < length xs → Holds j (get_or xs j none)) → Holds k x
+    → (j : ℕ) (none : X) → j < length (xs ++ x ∷ []) → Holds j (get_or (xs ++ x ∷ []) j none)
+one_more Holds xs k x many so_far is j none below =
+    elim (cases_lt j (length xs)) [
+      | inl before ↦ subst (Holds j) (sym (get_or_append_left xs (x ∷ []) none j before)) (so_far j none before)
+      | inr last ↦
+          (let here : j ≡ length xs = omega (arith, last, below, length_push xs x) in
+          let there : k ≡ j = omega (arith, here, many) in
+          let found : x ≡ get_or (xs ++ x ∷ []) j none =
+          sym (ap (λ (n : ℕ). get_or (xs ++ x ∷ []) n none) here ∙ get_or-append_seam xs x [] none) in
+          subst (Holds j) found (subst (λ (n : ℕ). Holds n x) there is))
+    ]
+
 -- a pair more
 pub more_checked : (mesh : FaceList) (sizes vertices : List ℕ) (checked : List Checked) (k : ℕ) (pair : Checked) → length checked ≡ k
     → AreChecked mesh sizes vertices checked → IsChecked mesh (walk_at sizes vertices (2 * k)) (walk_at sizes vertices (2 * k + 1)) pair
     → AreChecked mesh sizes vertices (checked ++ pair ∷ [])
-more_checked mesh sizes vertices checked k pair many so_far is j none below =
-    elim (cases_lt j (length checked)) [
-      | inl before ↦
-          subst (IsChecked mesh (walk_at sizes vertices (2 * j)) (walk_at sizes vertices (2 * j + 1)))
-          (sym (get_or_append_left checked (pair ∷ []) none j before)) (so_far j none before)
-      | inr last ↦
-          (let here : j ≡ length checked = omega (arith, last, below, length_push checked pair) in
-          let there : k ≡ j = omega (arith, here, many) in
-          let found : pair ≡ get_or (checked ++ pair ∷ []) j none =
-          sym (ap (λ (n : ℕ). get_or (checked ++ pair ∷ []) n none) here ∙ get_or-append_seam checked pair [] none) in
-          subst (IsChecked mesh (walk_at sizes vertices (2 * j)) (walk_at sizes vertices (2 * j + 1))) found
-          (subst (λ (n : ℕ). IsChecked mesh (walk_at sizes vertices (2 * n)) (walk_at sizes vertices (2 * n + 1)) pair) there is))
-    ]
+more_checked mesh sizes vertices =
+    one_more (λ (j : ℕ). IsChecked mesh (walk_at sizes vertices (2 * j)) (walk_at sizes vertices (2 * j + 1)))
 
 -- ---- the answers on pairs
 
@@ -180,16 +184,5 @@ pub more_answered : (mesh : FaceList) (sizes vertices : List ℕ) (answers : Lis
     → length answers ≡ k → AreFirstAnswers mesh sizes vertices answers
     → IsAnswer mesh (walk_at sizes vertices (2 * k)) (walk_at sizes vertices (2 * k + 1)) answer
     → AreFirstAnswers mesh sizes vertices (answers ++ answer ∷ [])
-more_answered mesh sizes vertices answers k answer many so_far is j none below =
-    elim (cases_lt j (length answers)) [
-      | inl before ↦
-          subst (IsAnswer mesh (walk_at sizes vertices (2 * j)) (walk_at sizes vertices (2 * j + 1)))
-          (sym (get_or_append_left answers (answer ∷ []) none j before)) (so_far j none before)
-      | inr last ↦
-          (let here : j ≡ length answers = omega (arith, last, below, length_push answers answer) in
-          let there : k ≡ j = omega (arith, here, many) in
-          let found : answer ≡ get_or (answers ++ answer ∷ []) j none =
-          sym (ap (λ (n : ℕ). get_or (answers ++ answer ∷ []) n none) here ∙ get_or-append_seam answers answer [] none) in
-          subst (IsAnswer mesh (walk_at sizes vertices (2 * j)) (walk_at sizes vertices (2 * j + 1))) found
-          (subst (λ (n : ℕ). IsAnswer mesh (walk_at sizes vertices (2 * n)) (walk_at sizes vertices (2 * n + 1)) answer) there is))
-    ]
+more_answered mesh sizes vertices =
+    one_more (λ (j : ℕ). IsAnswer mesh (walk_at sizes vertices (2 * j)) (walk_at sizes vertices (2 * j + 1)))

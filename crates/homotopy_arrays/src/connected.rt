@@ -4,7 +4,7 @@ ghost use Rattle.surf_model.specs.Moves as moves;
 ghost use Rattle.homotopy_arrays.specs.Pairs.{AreAnswers, AreWalks, IsAnswer, are_pairs};
 
 use crate::decide::PairAnswer;
-use crate::pair::{Checked, check_walks, length_fault, walk_of};
+use crate::pair::{Checked, check_walks, length_fault, slices_of_pair, walk_of};
 use halfedge_map::Surface;
 use std::alloc::{AllocError, Global};
 use walk_translate::{Answer, Decider};
@@ -40,12 +40,9 @@ fn answer_all(
     let mut answers = Vec::with_capacity(alloc, count)?;
     let mut at = 0;
     for pair in 0..count {
-        let middle = at + sizes[2 * pair] as usize;
-        let end = middle + sizes[2 * pair + 1] as usize;
-        let first = &vertices[at..middle];
-        let second = &vertices[middle..end];
-        answers.push(answer_walks(alloc, decider, first, second)?)?;
-        at = end;
+        let two = slices_of_pair(sizes, vertices, pair, at);
+        answers.push(answer_walks(alloc, decider, two.first, two.second)?)?;
+        at = two.end;
     }
     Ok(answers)
 }

@@ -1,9 +1,9 @@
 //! Two walks that lie in arrays.
-ghost use Rattle.std.specs.Prelude.{◌≡◌, ◌≤◌, ◌<◌, ◌+◌, ◌*◌, ◌/◌, [], ◌∷◌, ℕ, length, slice_index_or, IfOk, IfSome, IsTrue};
+ghost use Rattle.std.specs.Prelude.{◌≡◌, ◌≤◌, ◌<◌, ◌+◌, ◌*◌, ◌/◌, [], ◌∷◌, ℕ, length, sum, take, slice_index_or, IfOk, IfSome, IsTrue};
 ghost use Rattle.surf_model.specs.FaceLists.{FaceList};
 ghost use Rattle.surf_model.specs.Edges.{IsTableOf};
 ghost use Rattle.homotopy_arrays.specs.CheckedPairs.{IsChecked, AreChecked};
-ghost use Rattle.homotopy_arrays.specs.Pairs.{are_pairs, length_fault};
+ghost use Rattle.homotopy_arrays.specs.Pairs.{are_pairs, length_fault, walk_at};
 
 use crate::mesh::add_up_to;
 use std::alloc::{AllocError, Global};
@@ -31,6 +31,14 @@ pub(crate) enum Checked {
     Pair(WalkList),
     /// What is first wrong with them.
     Faulty(WalkFault),
+}
+
+/// The two walks of a pair as they lie in an array, and the place behind them.
+#[derive(Clone, Copy)]
+pub(crate) struct PairSlices<'a> {
+    pub(crate) first: &'a [u32],
+    pub(crate) second: &'a [u32],
+    pub(crate) end: usize,
 }
 
 /// Compares two walks with the mesh that has this table.
@@ -90,6 +98,27 @@ pub(crate) fn are_pairs(sizes: &[u32], vertices: &[u32]) -> bool
     add_up_to(sizes, vertices.len()) && sizes.len() % 2 == 0
 }
 
+/// The two walks of a pair that starts at a place.
+pub(crate) fn slices_of_pair<'a>(
+    sizes: &[u32],
+    vertices: &'a [u32],
+    pair: usize,
+    start: usize,
+) -> PairSlices<'a>
+    requires pairs { IsTrue (are_pairs sizes.now vertices.now) }
+    requires pair { 2 * pair + 1 < length sizes.now }
+    requires start { start ≡ sum (take (2 * pair) sizes.now) }
+    ensures first { result.first.now ≡ walk_at sizes.now vertices.now (2 * pair) }
+    ensures second { result.second.now ≡ walk_at sizes.now vertices.now (2 * pair + 1) }
+    ensures end { result.end ≡ sum (take (2 * (pair + 1)) sizes.now) }
+{
+    let middle = start + sizes[2 * pair] as usize;
+    let end = middle + sizes[2 * pair + 1] as usize;
+    let first = &vertices[start..middle];
+    let second = &vertices[middle..end];
+    PairSlices { first, second, end }
+}
+
 /// Compares pairs of walks with the mesh that has this table.
 pub(crate) fn check_pairs(
     alloc: Global,
@@ -106,12 +135,9 @@ pub(crate) fn check_pairs(
     let mut checked = Vec::with_capacity(alloc, count)?;
     let mut at = 0;
     for pair in 0..count {
-        let middle = at + sizes[2 * pair] as usize;
-        let end = middle + sizes[2 * pair + 1] as usize;
-        let first = &vertices[at..middle];
-        let second = &vertices[middle..end];
-        checked.push(check_walks(alloc, sides, first, second)?)?;
-        at = end;
+        let two = slices_of_pair(sizes, vertices, pair, at);
+        checked.push(check_walks(alloc, sides, two.first, two.second)?)?;
+        at = two.end;
     }
     Ok(checked)
 }

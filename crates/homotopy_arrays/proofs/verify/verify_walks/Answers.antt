@@ -6,29 +6,29 @@ use Rattle.homotopy_arrays.specs.Judgements.{IsFaultOfText, JudgesText}
 use Rattle.homotopy_arrays.specs.declared.pair.Checked.TheVariants.{Pair, Faulty}
 use Rattle.homotopy_arrays.proofs.JudgementLemmas.{first_of, on_walks, second_of, two_walks}
 use Rattle.homotopy_arrays.proofs.verify.verify_walks.Goals as goal
+use Rattle.homotopy_arrays.proofs.verify.verify_walks.Goals.{In-Pair}
+
+are_checked : (c : In-Pair) → IsChecked c.args.on.faces.now c.args.first.now c.args.second.now (Pair c.in-Pair.walks)
+are_checked c =
+    subst (IsChecked c.args.on.faces.now c.args.first.now c.args.second.now) c.in-Pair.is
+    (c.in_ok-walks.ensures c.args.on.faces.now c.requires)
 
 pub at-requires : goal.at-requires
 at-requires c =
-    let first : List ℕ = c.args.first.now in
-    let second : List ℕ = c.args.second.now in
-    let checked : IsChecked c.args.on.faces.now first second (Pair c.in-Pair.walks) =
-    subst (IsChecked c.args.on.faces.now first second) c.in-Pair.is (c.in_ok-walks.ensures c.args.on.faces.now c.requires) in
-    omega (arith, two_walks c.in-Pair.walks.walks first second checked.1)
+    omega (
+      arith,
+      two_walks c.in-Pair.walks.walks c.args.first.now c.args.second.now (are_checked (goal.at.at-requires c).In-Pair).1,
+    )
 
 pub at-requires-in-Pair : goal.at-requires-in-Pair
 at-requires-in-Pair c =
-    let first : List ℕ = c.args.first.now in
-    let second : List ℕ = c.args.second.now in
-    let checked : IsChecked c.args.on.faces.now first second (Pair c.in-Pair.walks) =
-    subst (IsChecked c.args.on.faces.now first second) c.in-Pair.is (c.in_ok-walks.ensures c.args.on.faces.now c.requires) in
-    two_walks c.in-Pair.walks.walks first second checked.1
+    two_walks c.in-Pair.walks.walks c.args.first.now c.args.second.now (are_checked (goal.at.at-requires-in-Pair c).In-Pair).1
 
 pub judge-requires-clause-first : goal.judge-requires-clause-first
 judge-requires-clause-first c =
     let first : List ℕ = c.args.first.now in
     let second : List ℕ = c.args.second.now in
-    let checked : IsChecked c.args.on.faces.now first second (Pair c.in-Pair.walks) =
-    subst (IsChecked c.args.on.faces.now first second) c.in-Pair.is (c.in_ok-walks.ensures c.args.on.faces.now c.requires) in
+    let checked = are_checked (goal.at.judge-requires-clause-first c).In-Pair in
     subst (IsWalk c.args.on.faces.now) (first_of c.in-Pair.walks.walks first second c.at.result.now checked.1 c.at.ensures)
     checked.0.first_walk
 
@@ -36,8 +36,7 @@ pub judge-requires-clause-second : goal.judge-requires-clause-second
 judge-requires-clause-second c =
     let first : List ℕ = c.args.first.now in
     let second : List ℕ = c.args.second.now in
-    let checked : IsChecked c.args.on.faces.now first second (Pair c.in-Pair.walks) =
-    subst (IsChecked c.args.on.faces.now first second) c.in-Pair.is (c.in_ok-walks.ensures c.args.on.faces.now c.requires) in
+    let checked = are_checked (goal.at.judge-requires-clause-second c).In-Pair in
     subst (IsWalk c.args.on.faces.now) (second_of c.in-Pair.walks.walks first second c.at-in-Pair.result.now checked.1 c.at-in-Pair.ensures)
     checked.0.second_walk
 
@@ -48,8 +47,7 @@ returns-in-Pair c =
     let second : List ℕ = c.args.second.now in
     let text : List ℕ = c.args.certificate.now in
     let walks = c.in-Pair.walks.walks in
-    let checked : IsChecked faces first second (Pair c.in-Pair.walks) =
-    subst (IsChecked faces first second) c.in-Pair.is (c.in_ok-walks.ensures faces c.requires) in
+    let checked = are_checked (goal.at.returns-in-Pair c).In-Pair in
     let one : c.at.result.now ≡ first = sym (first_of walks first second c.at.result.now checked.1 c.at.ensures) in
     let other : c.at-in-Pair.result.now ≡ second =
     sym (second_of walks first second c.at-in-Pair.result.now checked.1 c.at-in-Pair.ensures) in
