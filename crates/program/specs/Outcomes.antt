@@ -30,3 +30,8 @@ LooksAtNone held words = (answer_of held words).EachFile (λ _. ⊥)
 -- What a command is for is said of this by the laws of src/laws.rt, the headline first.
 abbrev pub Answers : Option Files → List (List ℕ) → Status → List ℕ → Type 0
 Answers held words status text = AnswersTo held (answer_of held words) status text
+
+-- this holds of each answer, whatever the words and the files
+abbrev pub EachAnswer : (Option Files → List (List ℕ) → Status → List ℕ → Type 0) → Type 0
+EachAnswer Holds = (held : Option Files) (words : List (List ℕ)) (status : Status) (text : List ℕ)
+    → Answers held words status text → Holds held words status text

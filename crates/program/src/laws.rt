@@ -14,7 +14,7 @@ ghost use Rattle.commands.specs.Checks.{IsTold};
 ghost use Rattle.commands.specs.Genera.{LiesOnSphere};
 ghost use Rattle.commands.specs.Lines.{line};
 ghost use Rattle.commands.specs.Outcomes.{Outcome};
-ghost use Rattle.program.specs.Outcomes.{AllTold, Answers, IsOutcome};
+ghost use Rattle.program.specs.Outcomes.{AllTold, Answers, EachAnswer, IsOutcome};
 ghost use Rattle.program.specs.Premises.{HasPremises};
 ghost use Rattle.program.specs.PrintedCertificates.{IsAccepted};
 ghost use Rattle.reduce_commands.specs.Reduce.{IsReduced};
@@ -34,83 +34,69 @@ ghost use Rattle.commands.specs.declared.status.Status.{Status};
 
 /// The headline: on an orientable closed surface `decide` tells whether two walks are homotopic, and `certify` prints what shows it.
 pub fn headline()
-    ensures { (held : Option Files) (words : List (List ℕ)) (status : Status) (text : List ℕ)
-        → Answers held words status text → Headline held words status text }
+    ensures { EachAnswer Headline }
 {}
 
 /// The premises of the headline are met wherever an answer comes: where `decide` or `certify` does not refuse, and its files are told,
 /// these stand for an orientable closed surface and for walks of it with common ends, for `certify` within its limits.
 pub fn answers_have_their_premises()
-    ensures { (held : Option Files) (words : List (List ℕ)) (status : Status) (text : List ℕ)
-        → Answers held words status text → HasPremises held words status }
+    ensures { EachAnswer (λ held words status _. HasPremises held words status) }
 {}
 
 /// What `surface` answers of a mesh.
 pub fn surface_answers()
-    ensures { (held : Option Files) (words : List (List ℕ)) (status : Status) (text : List ℕ)
-        → Answers held words status text → IsMeasured held words status text }
+    ensures { EachAnswer IsMeasured }
 {}
 
 /// What `decide` answers of two walks of a surface.
 pub fn decide_answers()
-    ensures { (held : Option Files) (words : List (List ℕ)) (status : Status) (text : List ℕ)
-        → Answers held words status text → IsDecided held words status text }
+    ensures { EachAnswer IsDecided }
 {}
 
 /// What `certify` answers of two walks of a surface.
 pub fn certify_answers()
-    ensures { (held : Option Files) (words : List (List ℕ)) (status : Status) (text : List ℕ)
-        → Answers held words status text → IsCertified held words status text }
+    ensures { EachAnswer IsCertified }
 {}
 
 /// What `loops` answers of two closed walks of a surface.
 pub fn loops_answers()
-    ensures { (held : Option Files) (words : List (List ℕ)) (status : Status) (text : List ℕ)
-        → Answers held words status text → IsLoopsAnswered held words status text }
+    ensures { EachAnswer IsLoopsAnswered }
 {}
 
 /// What `decide-open` answers of two walks of a surface with boundary.
 pub fn decide_open_answers()
-    ensures { (held : Option Files) (words : List (List ℕ)) (status : Status) (text : List ℕ)
-        → Answers held words status text → IsDecidedOpen held words status text }
+    ensures { EachAnswer IsDecidedOpen }
 {}
 
 /// What `certify-open` answers of two walks of a surface with boundary.
 pub fn certify_open_answers()
-    ensures { (held : Option Files) (words : List (List ℕ)) (status : Status) (text : List ℕ)
-        → Answers held words status text → IsCertifiedOpen held words status text }
+    ensures { EachAnswer IsCertifiedOpen }
 {}
 
 /// What `homology` answers of two walks of a surface.
 pub fn homology_answers()
-    ensures { (held : Option Files) (words : List (List ℕ)) (status : Status) (text : List ℕ)
-        → Answers held words status text → IsHomologyAnswered held words status text }
+    ensures { EachAnswer IsHomologyAnswered }
 {}
 
 /// What `verify` answers of a list of moves, and of a denial.
 pub fn verify_answers()
-    ensures moves { (held : Option Files) (words : List (List ℕ)) (status : Status) (text : List ℕ)
-        → Answers held words status text → IsVerified held words status text }
-    ensures denial { (held : Option Files) (words : List (List ℕ)) (status : Status) (text : List ℕ)
-        → Answers held words status text → IsDenialVerified held words status text }
+    ensures moves { EachAnswer IsVerified }
+    ensures denial { EachAnswer IsDenialVerified }
 {}
 
 /// What `verify-homology` answers of a chain, and of a cocycle.
 pub fn verify_homology_answers()
-    ensures { (held : Option Files) (words : List (List ℕ)) (status : Status) (text : List ℕ)
-        → Answers held words status text → IsHomologyVerified held words status text }
+    ensures { EachAnswer IsHomologyVerified }
 {}
 
 /// What `reduce` answers of a list of turn words.
 pub fn reduce_answers()
-    ensures { (held : Option Files) (words : List (List ℕ)) (status : Status) (text : List ℕ)
-        → Answers held words status text → IsReduced held words status text }
+    ensures { EachAnswer IsReduced }
 {}
 
 /// What `trial` answers of a chain of tori.
 pub fn trial_answers()
-    ensures { (held : Option Files) (words : List (List ℕ)) (status : Status) (text : List ℕ)
-        → Answers held words status text → IsTried words status text }
+    ensures { EachAnswer (λ _. IsTried) }
 {}
 
 /// The text of a chain of tori is read as the chain.
