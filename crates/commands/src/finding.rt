@@ -130,20 +130,9 @@ fn rename_move(parts: &Parts, place: u32, mv: Move) -> Move
     requires face { IsOfFaces (length (component_at parts.now place)) mv }
     ensures { result ≡ renamed_move (component_at parts.now place) mv }
 {
-    match mv {
-        Move::Insert { .. } | Move::Remove { .. } => mv,
-        Move::Across {
-            at,
-            face,
-            corner,
-            forward,
-            taken,
-        } => Move::Across {
-            at,
-            face: parts.name(place, face),
-            corner,
-            forward,
-            taken,
-        },
+    let mut renamed = mv;
+    if let Move::Across { face, .. } = &mut renamed {
+        *face = parts.name(place, *face);
     }
+    renamed
 }
