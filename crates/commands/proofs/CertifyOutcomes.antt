@@ -1,48 +1,25 @@
 -- `certify` in the words of the mesh.
-use Rattle.std.proofs.Common.{◌≡◌, ℕ, ◌+◌, ◌<◌, ◌≤◌, true, false, List, [], ◌∷◌, codes, refl, sym, ap, ◌∙◌, subst, arith}
-use Rattle.std.specs.Prelude.{◌↔◌, nat_lt, Option, Some, None}
-use Rattle.std.proofs.lemmas.Bool.Decides.{nat_tests}
+use Rattle.std.proofs.Common.{◌≡◌, ℕ, List, [], ◌∷◌, codes, refl, sym, ap, ◌∙◌, subst}
+use Rattle.std.specs.Prelude.{◌↔◌, Option, Some}
 use Rattle.surf_io.specs.Files.{Files}
-use Rattle.surf_model.specs.FaceLists.{FaceList, total_sides}
+use Rattle.surf_model.specs.FaceLists.{FaceList}
 use Rattle.surf_model.specs.Moves.{Homotopic}
-use Rattle.surf_model.specs.Walks.{darts}
-use Rattle.move_lifting.specs.declared.expanding.TheConstants.{MOST_LIFTED_SIDES, MOST_LIFTED_DARTS}
 use Rattle.walk_translate.specs.declared.deciding.Answer as deciding
 use Rattle.walk_translate.specs.declared.deciding.Answer.TheVariants as answers
 use Rattle.commands.proofs.Certifying.{after_pair, after_limits, limited}
 use Rattle.commands.proofs.Deciding.{behind, refused_behind, yes_or_no}
+use Rattle.commands.proofs.LimitLemmas.{none_over, refused_beyond}
 use Rattle.commands.proofs.RightAnswers.{refused_so, yes_exactly}
 use Rattle.commands.proofs.Rows.{behind_input, sound-pair, pair_told, spelled_pair}
 use Rattle.commands.proofs.Sound.{held, sound-pass_unless, unless_told}
 use Rattle.commands.specs.Answers.{Answer, Exactly}
 use Rattle.commands.specs.Certificates.{decision_status}
-use Rattle.commands.specs.Certify.{certify, IsCertifyInput, IsWithinLimits, IsCertificatePrinted, IsCertified, limit_fault, certified, sides_line, certificate_answer, darts_line}
+use Rattle.commands.specs.Certify.{certify, IsCertifyInput, IsWithinLimits, IsCertificatePrinted, IsCertified, certify_limits, limit_fault, limit_word, certified, certificate_answer}
 use Rattle.commands.specs.Checks.{Refuse, Pass}
 use Rattle.commands.specs.Inputs.{pair_in, SpellsPair}
 use Rattle.commands.specs.Outcomes.{Outcome, AnswersTo, IsAnswerOf}
 use Rattle.commands.specs.declared.status.Status.{Status}
 use Rattle.commands.specs.declared.status.Status.TheVariants.{Yes, Refused}
-
--- the limits, as the check has them
-no_limit : (mesh : FaceList) (first second : List ℕ) → IsWithinLimits mesh first second → limit_fault mesh first second ≡ None
-no_limit mesh first second within =
-    let sides : nat_lt MOST_LIFTED_SIDES (total_sides mesh) ≡ false = let few = within.sides in grind (arith, nat_tests) in
-    let few : nat_lt MOST_LIFTED_DARTS (darts first + darts second) ≡ false = let few = within.few in grind (arith, nat_tests) in
-    rw (sides, few) refl
-
-side_limit : (mesh : FaceList) (first second : List ℕ) → MOST_LIFTED_SIDES < total_sides mesh
-    → limit_fault mesh first second ≡ Some (sides_line mesh)
-side_limit mesh first second many =
-    let sides : nat_lt MOST_LIFTED_SIDES (total_sides mesh) ≡ true = grind (arith, nat_tests) in
-    rw sides refl
-
-dart_limit : (mesh : FaceList) (first second : List ℕ) → total_sides mesh ≤ MOST_LIFTED_SIDES
-    → MOST_LIFTED_DARTS < darts first + darts second
-    → limit_fault mesh first second ≡ Some (darts_line first second)
-dart_limit mesh first second few many =
-    let sides : nat_lt MOST_LIFTED_SIDES (total_sides mesh) ≡ false = grind (arith, nat_tests) in
-    let long : nat_lt MOST_LIFTED_DARTS (darts first + darts second) ≡ true = grind (arith, nat_tests) in
-    rw (sides, long) refl
 
 -- what the end of the check tells
 pub record IsAnsweredSo (mesh : FaceList) (first second : List ℕ) (status : Status) (text : List ℕ) : Type 0 where
@@ -93,7 +70,7 @@ module _ (files : Option Files) (words : List (List ℕ)) (mesh : FaceList) (fir
       by_certified mesh first second outcome status text
       (behind files (limited mesh two) (after_limits mesh two) two outcome
       (sound-pass_unless files (λ line. Exactly line) (limit_fault mesh first second) two)
-      (unless_told files (λ line. Exactly line) (limit_fault mesh first second) two) (rw (no_limit mesh first second within) refl)
+      (unless_told files (λ line. Exactly line) (limit_fault mesh first second) two) (rw (none_over certify_limits limit_word mesh first second within.sides within.few) refl)
       behind_walks) answer
 
   pub refuses_input : (line : List ℕ) → limit_fault mesh first second ≡ Some line → (status ≡ Refused) × (text ≡ line)
@@ -112,10 +89,7 @@ certified_so files words status text answered =
     record {
       answered = λ mesh first second input within. (so mesh first second input within).answered;
       exactly = λ mesh first second input within. (so mesh first second input within).exactly;
-      many_sides = λ mesh first second input many.
-          refused mesh first second input (sides_line mesh) (side_limit mesh first second many);
-      many_darts = λ mesh first second input few many.
-          refused mesh first second input (darts_line first second) (dart_limit mesh first second few many);
+      beyond = refused_beyond certify_limits limit_word (IsCertifyInput files words) status text refused;
     }
   where
     so : (mesh : FaceList) (first second : List ℕ) → IsCertifyInput files words mesh first second → IsWithinLimits mesh first second

@@ -1,15 +1,14 @@
 -- What `certify` finds: a list of moves that leads, or a denial that holds.
-use Rattle.std.proofs.Common.{◌≡◌, inl, inr, ℕ, ◌+◌, ◌<◌, ◌≤◌, Bool, true, false, List, length, refl, sym, ap, ◌∙◌, subst, arith, codes, decimal, ◌∷◌, []}
-use Rattle.std.specs.Prelude.{◌↔◌, nat_lt, if◌then◌else◌, Option, Some, None}
+use Rattle.std.proofs.Common.{◌≡◌, inl, inr, ℕ, ◌<◌, false, List, length, refl, sym, ap, ◌∙◌, subst, arith}
+use Rattle.std.specs.Prelude.{◌↔◌, Option, Some, None}
 use Rattle.std.specs.List.{enumerate_from}
 use Rattle.std.proofs.lemmas.Bool.{cases_lt}
 use Rattle.std.proofs.lemmas.List.{ext_get_or, length-map}
 use Rattle.std.proofs.lemmas.List.FromFn.{length-enumerate_from}
-use Rattle.std.proofs.lemmas.Bool.Decides.{nat_tests}
 use Rattle.surf_io.specs.Files.{Files}
-use Rattle.surf_model.specs.FaceLists.{FaceList, IsFaceList, total_sides}
+use Rattle.surf_model.specs.FaceLists.{FaceList, IsFaceList}
 use Rattle.surf_model.specs.Moves.{Homotopic}
-use Rattle.surf_model.specs.Walks.{IsWalk, HaveCommonEnds, darts}
+use Rattle.surf_model.specs.Walks.{IsWalk, HaveCommonEnds}
 use Rattle.turn_words.specs.declared.word.Word.{Word}
 use Rattle.halfedge_map.specs.OrientedMeshes.{OrientedMesh, IsOrientedSurface}
 use Rattle.tree_cotree.specs.Splits.{SplitView, IsSplit}
@@ -23,18 +22,15 @@ use Rattle.quad_system.proofs.PolygonLabelLemmas.{flips_are}
 use Rattle.labellings.specs.WalkWords.{IsWordOf}
 use Rattle.labellings.proofs.WalkWordLemmas.{denial_excludes}
 use Rattle.walk_translate.specs.declared.deciding.Answer.TheVariants as answers
-use Rattle.walk_translate.specs.declared.deciding.Answer.TheVariants.{Different}
 use Rattle.walk_translate.proofs.DecidingLemmas.{words_decide}
-use Rattle.move_lifting.specs.declared.expanding.TheConstants.{MOST_LIFTED_SIDES, MOST_LIFTED_DARTS}
 use Rattle.commands.proofs.Checking.{stops_first, stops_next, stops_second, told_stops}
 use Rattle.commands.proofs.Deciding.{differs, yes_or_no}
 use Rattle.commands.proofs.Sound.{IsSound, sound-decided_by}
 use Rattle.commands.specs.Answers.{Answer, Exactly}
 use Rattle.commands.specs.Certificates.{Convinces, decision_of}
-use Rattle.commands.specs.Certify.{IsWithinLimits, limit_fault, certified, certify, sides_line, certificate_answer, darts_line}
-use Rattle.commands.specs.Checks.{Check, End, Refuse, Pass, Passes, pass_unless, ◌>>=◌}
+use Rattle.commands.specs.Certify.{limit_fault, certified, certify, certificate_answer}
+use Rattle.commands.specs.Checks.{Check, Pass, Passes, pass_unless, ◌>>=◌}
 use Rattle.commands.specs.Inputs.{pair_in, walk_at}
-use Rattle.commands.specs.Refusals.{told}
 use Rattle.commands.specs.Stops.{Stops, Tells}
 use Rattle.commands.specs.SurfaceInput.{surface_in}
 use Rattle.commands.specs.declared.certificate.Certificate.{Certificate}
@@ -135,46 +131,6 @@ limits_stop held mesh walks surface pair line stop p q e h =
     pair_stops held mesh walks surface pair stop p q
     (stops_first (limited surface pair) (after_limits surface pair) stop
     (told_stops (Exactly line) (limited surface pair) stop (rw e refl) h))
-
--- the refusals, by the numbers that were counted
-pub sides_over : (mesh : FaceList) (first second : List ℕ) (sides : ℕ) (stop : Stop) → sides ≡ total_sides mesh → MOST_LIFTED_SIDES < sides
-    → Tells (told (codes "certify sides" ∷ decimal sides ∷ [])) stop
-    → (line : List ℕ) × (limit_fault mesh first second ≡ Some line) × Tells (Exactly line) stop
-sides_over mesh first second sides stop is many h =
-    let test : nat_lt MOST_LIFTED_SIDES (total_sides mesh) ≡ true = grind (arith, nat_tests) in
-    (sides_line mesh, rw test refl, subst (λ (n : ℕ). Tells (told (codes "certify sides" ∷ decimal n ∷ [])) stop) is h)
-
-pub darts_over : (mesh : FaceList) (first second : List ℕ) (sides number : ℕ) (stop : Stop) → sides ≡ total_sides mesh
-    → sides ≤ MOST_LIFTED_SIDES → number ≡ darts first + darts second → MOST_LIFTED_DARTS < number
-    → Tells (told (codes "certify darts" ∷ decimal number ∷ [])) stop
-    → (line : List ℕ) × (limit_fault mesh first second ≡ Some line) × Tells (Exactly line) stop
-darts_over mesh first second sides number stop is few number_is many h =
-    let short : nat_lt MOST_LIFTED_SIDES (total_sides mesh) ≡ false = grind (arith, nat_tests) in
-    let test : nat_lt MOST_LIFTED_DARTS (darts first + darts second) ≡ true = grind (arith, nat_tests) in (
-      darts_line first second,
-      rw (short, test) refl,
-      subst (λ (n : ℕ). Tells (told (codes "certify darts" ∷ decimal n ∷ [])) stop) number_is h,
-    )
-
--- the limits of a pair that passes them
-pub allowed : (mesh : FaceList) (first second : List ℕ) → limit_fault mesh first second ≡ None → IsWithinLimits mesh first second
-allowed mesh first second e = by_sides (nat_lt MOST_LIFTED_SIDES (total_sides mesh)) refl e
-  where
-    by_darts : (b : Bool) → nat_lt MOST_LIFTED_DARTS (darts first + darts second) ≡ b
-        → (if b then Some (darts_line first second) else None) ≡ None → darts first + darts second ≤ MOST_LIFTED_DARTS
-    by_darts true t f = cc
-    by_darts false t f = grind (arith, nat_tests)
-
-    by_sides : (b : Bool) → nat_lt MOST_LIFTED_SIDES (total_sides mesh) ≡ b
-        → (if b then Some (sides_line mesh)
-        else if nat_lt MOST_LIFTED_DARTS (darts first + darts second) then Some (darts_line first second) else None) ≡ None
-        → IsWithinLimits mesh first second
-    by_sides true t f = cc
-    by_sides false t f =
-        record {
-          sides = grind (arith, nat_tests);
-          few = by_darts (nat_lt MOST_LIFTED_DARTS (darts first + darts second)) refl f;
-        }
 
 -- what is found behind the limits is what the command gives
 pub certificate_found : (held : Option Files) (mesh walks : List ℕ) (surface : FaceList) (pair : List (List ℕ)) (first second : List ℕ)

@@ -1,4 +1,5 @@
 pub mod Checking
+pub mod LimitLemmas
 pub mod WalkInputs
 pub mod Running
 pub mod Writing

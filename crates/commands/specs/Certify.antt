@@ -1,7 +1,7 @@
 -- The command `certify`.
-use Rattle.std.specs.Prelude.{◌≡◌, ℕ, ◌+◌, ◌<◌, ◌≤◌, ◌↔◌, nat_lt, if◌then◌else◌, List, [], ◌∷◌, codes, decimal, Option, Some, None}
+use Rattle.std.specs.Prelude.{◌≡◌, ℕ, ◌↔◌, if◌then◌else◌, List, [], ◌∷◌, codes, Option}
 use Rattle.surf_io.specs.Files.{Files}
-use Rattle.surf_model.specs.FaceLists.{FaceList, total_sides}
+use Rattle.surf_model.specs.FaceLists.{FaceList}
 use Rattle.surf_model.specs.Moves as moves
 use Rattle.surf_model.specs.Walks.{darts}
 use Rattle.move_lifting.specs.declared.expanding.TheConstants.{MOST_LIFTED_SIDES, MOST_LIFTED_DARTS}
@@ -12,11 +12,12 @@ use Rattle.commands.specs.Certificates.{Convinces, IsPeakLow, IsShortOnSphere, d
 use Rattle.commands.specs.Checks.{Check, Holds, decided_by, pass_unless, ◌>>=◌}
 use Rattle.commands.specs.ClosedSurfaces.{IsOrientableSurface}
 use Rattle.commands.specs.Inputs.{pair_in, walk_at, SpellsMesh, SpellsPair}
-use Rattle.commands.specs.Lines.{refused}
+use Rattle.commands.specs.Limits.{FitsLimits, IsRefusedBeyond, limit_line}
 use Rattle.commands.specs.SurfaceInput.{surface_in}
 use Rattle.commands.specs.declared.certificate.Certificate.{Certificate}
 use Rattle.commands.specs.declared.status.Status.{Status}
-use Rattle.commands.specs.declared.status.Status.TheVariants.{Yes, Refused}
+use Rattle.commands.specs.declared.limits.Limits.{Limits}
+use Rattle.commands.specs.declared.status.Status.TheVariants.{Yes}
 
 -- The words are those of `certify`, and the two files that they name are told and stand for an orientable closed surface and
 -- two walks of it with common ends.
@@ -28,17 +29,16 @@ pub record IsCertifyInput (held : Option Files) (words : List (List ℕ)) (mesh 
   pub is_surface : IsOrientableSurface mesh
   pub walks_file : Holds held walks_name (SpellsPair mesh first second)
 
--- the refusals of a surface with too many sides, and of walks with too many darts
-abbrev pub sides_line : FaceList → List ℕ
-sides_line mesh = refused (codes "certify sides" ∷ decimal (total_sides mesh) ∷ [])
+-- the limits: those of the lists that are made, and the word of a refusal
+abbrev pub certify_limits : Limits
+certify_limits = record { sides = MOST_LIFTED_SIDES; darts = MOST_LIFTED_DARTS }
 
-abbrev pub darts_line : (first second : List ℕ) → List ℕ
-darts_line first second = refused (codes "certify darts" ∷ decimal (darts first + darts second) ∷ [])
+abbrev pub limit_word : List ℕ
+limit_word = codes "certify"
 
 -- the surface and the walks are not too large
-pub record IsWithinLimits (mesh : FaceList) (first second : List ℕ) : Type 0 where
-  pub sides : total_sides mesh ≤ MOST_LIFTED_SIDES
-  pub few : darts first + darts second ≤ MOST_LIFTED_DARTS
+abbrev pub IsWithinLimits : FaceList → (first second : List ℕ) → Type 0
+IsWithinLimits mesh first second = FitsLimits certify_limits mesh first second
 
 -- A certificate that convinces, whose peak is low, and that is short on a sphere, is printed behind the decision that it is
 -- for, with the status of that decision. That `verify` accepts what is printed is said in `PrintedCertificates`.
@@ -58,20 +58,13 @@ pub record IsCertified (held : Option Files) (words : List (List ℕ)) (status :
       → IsCertificatePrinted mesh first second status text
   pub exactly : (mesh : FaceList) (first second : List ℕ) → IsCertifyInput held words mesh first second → IsWithinLimits mesh first second
       → (status ≡ Yes) ↔ moves.Homotopic mesh first second
-  pub many_sides : (mesh : FaceList) (first second : List ℕ) → IsCertifyInput held words mesh first second
-      → MOST_LIFTED_SIDES < total_sides mesh → (status ≡ Refused) × (text ≡ sides_line mesh)
-  pub many_darts : (mesh : FaceList) (first second : List ℕ) → IsCertifyInput held words mesh first second
-      → total_sides mesh ≤ MOST_LIFTED_SIDES → MOST_LIFTED_DARTS < darts first + darts second
-      → (status ≡ Refused) × (text ≡ darts_line first second)
+  pub beyond : IsRefusedBeyond certify_limits limit_word (IsCertifyInput held words) status text
 
 -- ---- what is looked at, in order
 
 -- the refusal of a surface or of walks that are too large
 abbrev pub limit_fault : FaceList → (first second : List ℕ) → Option (List ℕ)
-limit_fault mesh first second =
-    if nat_lt MOST_LIFTED_SIDES (total_sides mesh) then Some (sides_line mesh)
-    else if nat_lt MOST_LIFTED_DARTS (darts first + darts second) then Some (darts_line first second)
-    else None
+limit_fault mesh first second = limit_line certify_limits limit_word mesh first second
 
 -- the answer that a certificate for a decision gives
 abbrev pub certificate_answer : FaceList → (first second : List ℕ) → deciding.Answer → Answer

@@ -12,6 +12,7 @@ pub mod SurfaceInput
 pub mod Surface
 pub mod Decisions
 pub mod Findings
+pub mod Limits
 pub mod Certify
 pub mod WordTexts
 pub mod Trial

@@ -1,24 +1,21 @@
 //! The command `certify`: a certificate for what `decide` answers.
-ghost use Rattle.std.specs.Prelude.{◌≡◌, ℕ, List, slice_index, MatchResult, IfOk, Some, None};
+ghost use Rattle.std.specs.Prelude.{ℕ, List, slice_index, IfOk};
 ghost use Rattle.surf_model.specs.FaceLists.{FaceList};
 ghost use Rattle.surf_model.specs.Moves.{Homotopic};
 ghost use Rattle.surf_model.specs.Walks.{IsWalk, HaveCommonEnds};
 ghost use Rattle.polygon_cut.specs.Polygons.{IsPolygonOf};
-ghost use Rattle.commands.specs.Answers.{Exactly};
 ghost use Rattle.commands.specs.Certificates.{IsShown, decision_of};
-ghost use Rattle.commands.specs.Certify.{IsWithinLimits, certificate_answer, limit_fault};
+ghost use Rattle.commands.specs.Certify.{IsWithinLimits, certificate_answer};
 ghost use Rattle.commands.specs.Certify as of_certify;
 ghost use Rattle.commands.specs.ClosedSurfaces.{IsComponentOf, IsSigned, surface_of};
 ghost use Rattle.commands.specs.Findings.{IsFinding};
 ghost use Rattle.commands.specs.Replies.{IsReplyTo, Runs};
-ghost use Rattle.commands.specs.Stops.{Tells};
 
 use crate::certificate::Certificate;
 use crate::component::Component;
 use crate::finding::Finding;
 use crate::inputs::read_pair;
-use crate::line::Phrase;
-use crate::refusal::refused;
+use crate::limits::Limits;
 use crate::reply::Reply;
 use crate::stop::Stop;
 use crate::surface_input::{SignedMesh, read_surface};
@@ -30,7 +27,7 @@ use polygon_cut::{Polygon, cut};
 use quad_system::FromPolygon;
 use std::alloc::{AllocError, Global};
 use surf_io::Shelf;
-use surf_model::{Faces, Walk};
+use surf_model::Walk;
 use tree_cotree::split_edges;
 
 /// The most moves of a list between walks that lie on a sphere: 512 darts, and for each a move for each of 16,384 sides and one more.
@@ -38,6 +35,12 @@ pub const MOST_SPHERE_MOVES: u32 = 8_389_120;
 
 /// The greatest peak of a list between two walks: half of three for each of 512 darts and seven more, for each of 16,384 sides.
 pub const MOST_SHOWN_PEAK: u32 = 12_640_256;
+
+/// What lists of moves are made for.
+const LIMITS: Limits = Limits {
+    sides: MOST_LIFTED_SIDES,
+    darts: MOST_LIFTED_DARTS,
+};
 
 /// A certificate for the two walks in the file `walks` on the surface in the file `mesh`: moves that lead from the first to
 /// the second, or a denial that holds.
@@ -53,7 +56,7 @@ pub fn certify<S: Shelf>(
     let pair = read_pair(alloc, shelf, walks, &surface.sides)?;
     let first = pair.at(0);
     let second = pair.at(1);
-    check_limits(&surface.faces, first, second)?;
+    LIMITS.check("certify", &surface.faces, first, second)?;
     let shown = find_certificate(alloc, surface, first, second)?;
     Ok(reply_with(shown))
 }
@@ -67,22 +70,6 @@ fn reply_with(shown: Certificate) -> Reply
         Certificate::Moves(_) => Reply::Yes(Text::Certificate(shown)),
         Certificate::Denial(_) => Reply::No(Text::Certificate(shown)),
     }
-}
-
-/// Checks that lists of moves may be made on the surface and between the walks.
-fn check_limits(faces: &Faces, first: &Walk, second: &Walk) -> Result<(), Stop>
-    ensures { MatchResult result (λ _. limit_fault faces.now first.now second.now ≡ None)
-        (λ stop. (line : List ℕ) × (limit_fault faces.now first.now second.now ≡ Some line) × Tells (Exactly line) stop) }
-{
-    let sides = faces.total();
-    if sides > MOST_LIFTED_SIDES {
-        return Err(refused(&[Phrase::Text("certify sides"), Phrase::Number(sides as u64)]));
-    }
-    let darts = first.darts() + second.darts();
-    if darts > MOST_LIFTED_DARTS {
-        return Err(refused(&[Phrase::Text("certify darts"), Phrase::Number(darts as u64)]));
-    }
-    Ok(())
 }
 
 /// A certificate for two walks of a surface with common ends. It is found on the component in which they lie.

@@ -8,6 +8,7 @@
 //!
 //! - `read_file`, `read_mesh`, `read_pair` and `read_surface`, each with the clause `Reads` of its check;
 //! - `read_list`, for walks of which a command asks something else than that they are a pair;
+//! - `Limits`, for a command that makes lists of moves;
 //! - `Component::of`, for a command that works on the component of a vertex;
 //! - `refused`, `refused_at` and `refused_at_place`, which make the `Stop` of a fault that this crate does not know, with the clause
 //!   `Tells`;
@@ -23,6 +24,7 @@ mod decision;
 mod decision_lines;
 mod finding;
 mod inputs;
+mod limits;
 mod line;
 mod odd_chain_line;
 mod refusal;
@@ -37,6 +39,7 @@ mod word_lines;
 
 pub use certificate::Certificate;
 pub use inputs::{MOST_BYTES, read_file, read_list, read_mesh, read_pair};
+pub use limits::Limits;
 pub use line::{Line, MOST_OTHERS, Phrase};
 pub use refusal::{Input, refused, refused_at, refused_at_place};
 pub use reply::{Reply, give};

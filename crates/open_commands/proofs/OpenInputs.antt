@@ -1,8 +1,6 @@
 -- How the checks of an open surface and of walks of it end.
-use Rattle.std.proofs.Common.{◌≡◌, ◌⊎◌, inl, inr, ℕ, ◌+◌, ◌<◌, ◌≤◌, Bool, true, false, List, [], ◌∷◌, codes, decimal, length, refl, sym, ap, subst, arith}
-use Rattle.std.specs.Prelude.{Option, Some, None, Result, Ok, Err, IfOk, MatchResult, nat_lt, slice_get, if◌then◌else◌}
-use Rattle.std.proofs.lemmas.Bool.Decides.{nat_tests}
-use Rattle.surf_io.specs.Calls.{OnlyReads}
+use Rattle.std.proofs.Common.{◌≡◌, ◌⊎◌, inl, inr, ℕ, ◌+◌, ◌≤◌, List, length, refl, sym, ap, subst, arith}
+use Rattle.std.specs.Prelude.{Option, Some, None, Result, Ok, Err, IfOk, MatchResult, slice_get}
 use Rattle.surf_io.specs.Files.{Files}
 use Rattle.surf_model.specs.Edges.{Edge}
 use Rattle.surf_model.specs.FaceLists.{FaceList, IsFaceList, total_sides}
@@ -21,21 +19,18 @@ use Rattle.open_commands.specs.declared.open_pair.OpenPair.{OpenPair}
 use Rattle.commands.proofs.Checking.{stops_next, stops_second, told_stops, memory_stops}
 use Rattle.commands.proofs.MeshTexts.{mesh_valid}
 use Rattle.commands.proofs.Rows.{sound-mesh, sound-pair, mesh_passes, pair_told}
-use Rattle.commands.proofs.Running.{only_then}
 use Rattle.commands.proofs.Sound.{IsSound, sound-then, sound-pass_unless, meant_told, unless_told}
 use Rattle.commands.proofs.Surfaces.{sound-orientable}
 use Rattle.off_reader.specs.OffTexts.{meaning_of}
-use Rattle.commands.specs.Answers.{Answer, Exactly}
+use Rattle.commands.specs.Answers.{Exactly}
 use Rattle.commands.specs.Checks.{Check, End, Refuse, Pass, Passes, Holds, IsTold, pass_unless, ◌>>=◌}
 use Rattle.commands.specs.Inputs.{mesh_in, pair_in, walk_at, SpellsMesh}
 use Rattle.commands.specs.Refusals.{told, off_line}
-use Rattle.commands.specs.Replies.{Runs}
-use Rattle.commands.specs.Stops.{Reads, Stops, Tells}
+use Rattle.commands.specs.Stops.{Stops, Tells}
 use Rattle.commands.specs.SurfaceInput.{orientable}
 use Rattle.commands.specs.declared.stop.Stop.{Stop}
-use Rattle.commands.specs.declared.stop.Stop.TheVariants.{ReadFault}
 use Rattle.open_commands.specs.OpenInput.{open_line, open_surface, as_open_surface, open_surface_in}
-use Rattle.open_commands.specs.OpenPairs.{IsOpenPair, IsWithinLimits, Question, question, limit_fault, sides_line, darts_line, open_pair_in}
+use Rattle.open_commands.specs.OpenPairs.{IsOpenPair, Question, question, limit_fault, open_pair_in}
 
 -- ---- the surface
 
@@ -86,68 +81,6 @@ spelled_open files name mesh h is oriented =
 
 pub open_told : (files : Option Files) (name : List ℕ) → IsTold files name → (open_surface_in files name).EachFile (IsTold files)
 open_told files name told = ((told, λ bytes _. meant_told files off_line (meaning_of bytes)), λ _ _. (tt, λ _ _. tt))
-
--- ---- the limits
-
--- the refusals, by the numbers that were counted
-pub sides_over : (mesh : FaceList) (first second : List ℕ) (sides : ℕ) (stop : Stop) → sides ≡ total_sides mesh → MOST_OPEN_SIDES < sides
-    → Tells (told (codes "open sides" ∷ decimal sides ∷ [])) stop
-    → (line : List ℕ) × (limit_fault mesh first second ≡ Some line) × Tells (Exactly line) stop
-sides_over mesh first second sides stop is many h =
-    let test : nat_lt MOST_OPEN_SIDES (total_sides mesh) ≡ true = grind (arith, nat_tests) in
-    (sides_line mesh, rw test refl, subst (λ (n : ℕ). Tells (told (codes "open sides" ∷ decimal n ∷ [])) stop) is h)
-
-pub darts_over : (mesh : FaceList) (first second : List ℕ) (sides number : ℕ) (stop : Stop) → sides ≡ total_sides mesh
-    → sides ≤ MOST_OPEN_SIDES → number ≡ darts first + darts second → MOST_OPEN_DARTS < number
-    → Tells (told (codes "open darts" ∷ decimal number ∷ [])) stop
-    → (line : List ℕ) × (limit_fault mesh first second ≡ Some line) × Tells (Exactly line) stop
-darts_over mesh first second sides number stop is few number_is many h =
-    let short : nat_lt MOST_OPEN_SIDES (total_sides mesh) ≡ false = grind (arith, nat_tests) in
-    let test : nat_lt MOST_OPEN_DARTS (darts first + darts second) ≡ true = grind (arith, nat_tests) in (
-      darts_line first second,
-      rw (short, test) refl,
-      subst (λ (n : ℕ). Tells (told (codes "open darts" ∷ decimal n ∷ [])) stop) number_is h,
-    )
-
-pub none_over : (mesh : FaceList) (first second : List ℕ) → total_sides mesh ≤ MOST_OPEN_SIDES
-    → darts first + darts second ≤ MOST_OPEN_DARTS → limit_fault mesh first second ≡ None
-none_over mesh first second few short =
-    let sides : nat_lt MOST_OPEN_SIDES (total_sides mesh) ≡ false = grind (arith, nat_tests) in
-    let darts : nat_lt MOST_OPEN_DARTS (darts first + darts second) ≡ false = grind (arith, nat_tests) in
-    rw (sides, darts) refl
-
-pub side_limit : (mesh : FaceList) (first second : List ℕ) → MOST_OPEN_SIDES < total_sides mesh
-    → limit_fault mesh first second ≡ Some (sides_line mesh)
-side_limit mesh first second many =
-    let sides : nat_lt MOST_OPEN_SIDES (total_sides mesh) ≡ true = grind (arith, nat_tests) in
-    rw sides refl
-
-pub dart_limit : (mesh : FaceList) (first second : List ℕ) → total_sides mesh ≤ MOST_OPEN_SIDES
-    → MOST_OPEN_DARTS < darts first + darts second → limit_fault mesh first second ≡ Some (darts_line first second)
-dart_limit mesh first second few many =
-    let sides : nat_lt MOST_OPEN_SIDES (total_sides mesh) ≡ false = grind (arith, nat_tests) in
-    let long : nat_lt MOST_OPEN_DARTS (darts first + darts second) ≡ true = grind (arith, nat_tests) in
-    rw (sides, long) refl
-
--- the limits of a pair that passes them
-pub allowed : (mesh : FaceList) (first second : List ℕ) → limit_fault mesh first second ≡ None → IsWithinLimits mesh first second
-allowed mesh first second e = by_sides (nat_lt MOST_OPEN_SIDES (total_sides mesh)) refl e
-  where
-    by_darts : (b : Bool) → nat_lt MOST_OPEN_DARTS (darts first + darts second) ≡ b
-        → (if b then Some (darts_line first second) else None) ≡ None → darts first + darts second ≤ MOST_OPEN_DARTS
-    by_darts true t f = cc
-    by_darts false t f = grind (arith, nat_tests)
-
-    by_sides : (b : Bool) → nat_lt MOST_OPEN_SIDES (total_sides mesh) ≡ b
-        → (if b then Some (sides_line mesh)
-        else if nat_lt MOST_OPEN_DARTS (darts first + darts second) then Some (darts_line first second) else None) ≡ None
-        → IsWithinLimits mesh first second
-    by_sides true t f = cc
-    by_sides false t f =
-        record {
-          sides = grind (arith, nat_tests);
-          few = by_darts (nat_lt MOST_OPEN_DARTS (darts first + darts second)) refl f;
-        }
 
 -- ---- the surface and the walks
 

@@ -1,5 +1,5 @@
 -- `decide-open` and `certify-open` in the words of the mesh.
-use Rattle.std.proofs.Common.{◌≡◌, inr, ℕ, List, [], ◌∷◌, codes, refl, subst}
+use Rattle.std.proofs.Common.{◌≡◌, inr, ℕ, List, [], ◌∷◌, codes, refl}
 use Rattle.std.specs.Prelude.{Option, Some}
 use Rattle.surf_io.specs.Files.{Files}
 use Rattle.surf_model.specs.FaceLists.{FaceList}
@@ -11,7 +11,7 @@ use Rattle.commands.proofs.RightAnswers.{refused_so}
 use Rattle.commands.proofs.Rows.{spelled_pair}
 use Rattle.commands.proofs.Sound.{IsSound, held, sound-then}
 use Rattle.commands.specs.Answers.{Answer, Exactly}
-use Rattle.commands.specs.Checks.{Check, Refuse, Passes, IsTold, ◌>>=◌}
+use Rattle.commands.specs.Checks.{Check, Passes, IsTold, ◌>>=◌}
 use Rattle.commands.specs.Decisions.{decided}
 use Rattle.commands.specs.Inputs.{pair_in, SpellsMesh, SpellsPair}
 use Rattle.commands.specs.Outcomes.{Outcome, AnswersTo, IsAnswerOf}
@@ -19,9 +19,10 @@ use Rattle.commands.specs.declared.status.Status.{Status}
 use Rattle.commands.specs.declared.status.Status.TheVariants.{Refused}
 use Rattle.open_commands.specs.CertifyOpen.{IsCertifiedOpen, listed, certify_open}
 use Rattle.open_commands.specs.DecideOpen.{IsDecidedOpen, decide_open}
-use Rattle.open_commands.specs.OpenPairs.{IsOpenInput, IsRefusedBeyond, IsWithinLimits, Question, limit_fault, sides_line, darts_line, open_pair_in}
+use Rattle.commands.proofs.LimitLemmas.{none_over, refused_beyond}
+use Rattle.open_commands.specs.OpenPairs.{IsOpenInput, IsRefusedLarge, IsWithinLimits, Question, limit_fault, limit_word, open_limits, open_pair_in}
 use Rattle.open_commands.proofs.Listing.{IsRightList, right_list, sound-listed}
-use Rattle.open_commands.proofs.OpenInputs.{spelled_open, pair_files_told, pair_passes, none_over, side_limit, dart_limit, sound-open_pair_in}
+use Rattle.open_commands.proofs.OpenInputs.{spelled_open, pair_files_told, pair_passes, sound-open_pair_in}
 
 -- the checks of the two commands have an end, and one where their files are told
 pub sound-decide_open : (held : Option Files) (mesh walks : List ℕ) → IsSound held (decide_open held mesh walks)
@@ -57,7 +58,7 @@ module _ (next : Question → Check Answer) (keyword : List ℕ) (files : Option
       (sound-open_pair_in files input.mesh_name input.walks_name) told
       (pair_passes files input.mesh_name input.walks_name mesh (first ∷ second ∷ [])
       (spelled_open files input.mesh_name mesh input.mesh_file input.is_open input.is_orientable) passes
-      (none_over mesh first second within.sides within.few)) is
+      (none_over open_limits limit_word mesh first second within.sides within.few)) is
 
   -- beyond them it is refused
   pub refused : (outcome : Outcome) (status : Status) (text line : List ℕ) → limit_fault mesh first second ≡ Some line
@@ -95,14 +96,8 @@ module _ (next : Question → Check Answer) (keyword : List ℕ) (files : Option
       refused next keyword files words mesh first second input a.outcome status text line e a.is_outcome a.is_answer
 
   -- beyond them it is refused
-  pub beyond_limits : IsRefusedBeyond keyword files words status text
-  beyond_limits =
-      record {
-        many_sides = λ mesh first second input many.
-            refused_with mesh first second input (sides_line mesh) (side_limit mesh first second many);
-        many_darts = λ mesh first second input few many.
-            refused_with mesh first second input (darts_line first second) (dart_limit mesh first second few many);
-      }
+  pub beyond_limits : IsRefusedLarge keyword files words status text
+  beyond_limits = refused_beyond open_limits limit_word (IsOpenInput keyword files words) status text refused_with
 
 -- ---- the two commands
 

@@ -18,7 +18,7 @@ use Rattle.commands.specs.declared.reply.Reply.{Reply}
 use Rattle.commands.specs.declared.reply.Reply.TheVariants as replies
 use Rattle.commands.specs.declared.status.Status.{Status}
 use Rattle.commands.specs.declared.status.Status.TheVariants.{Yes, No}
-use Rattle.open_commands.specs.OpenPairs.{IsOpenInput, IsWithinLimits, IsRefusedBeyond, open_pair_in}
+use Rattle.open_commands.specs.OpenPairs.{IsOpenInput, IsWithinLimits, IsRefusedLarge, open_pair_in}
 use Rattle.open_commands.specs.declared.certify_open.TheConstants.{MOST_OPEN_BYTES}
 
 -- Behind the line `homotopic` a list was written, with status 0. It leads from the first walk to the second, its peak is the greatest
@@ -39,7 +39,7 @@ pub record IsCertifiedOpen (held : Option Files) (words : List (List ℕ)) (stat
       → IsListPrinted mesh first second status text ⊎ ((status ≡ No) × (text ≡ decision_line Different))
   pub exactly : (mesh : FaceList) (first second : List ℕ) → IsOpenInput (codes "certify-open") held words mesh first second
       → IsWithinLimits mesh first second → (status ≡ Yes) ↔ moves.Homotopic mesh first second
-  pub beyond : IsRefusedBeyond (codes "certify-open") held words status text
+  pub beyond : IsRefusedLarge (codes "certify-open") held words status text
 
 -- the text is that of a list behind its decision: neither its moves nor its peak are more than this, and the text is short enough for
 -- `verify`

@@ -1,7 +1,7 @@
 -- The check of an open surface and two walks of it, which both commands make before they answer.
-use Rattle.std.specs.Prelude.{◌≡◌, ℕ, ◌+◌, ◌<◌, ◌≤◌, nat_lt, if◌then◌else◌, List, [], ◌∷◌, codes, decimal, Option, Some, None}
+use Rattle.std.specs.Prelude.{◌≡◌, ℕ, List, [], ◌∷◌, codes, Option}
 use Rattle.surf_io.specs.Files.{Files}
-use Rattle.surf_model.specs.FaceLists.{FaceList, total_sides}
+use Rattle.surf_model.specs.FaceLists.{FaceList}
 use Rattle.surf_model.specs.Surfaces.{IsOrientable}
 use Rattle.surf_model.specs.Walks.{darts}
 use Rattle.walk_files.specs.Pairs.{IsPair}
@@ -10,9 +10,9 @@ use Rattle.free_forms.specs.declared.limits.TheConstants.{MOST_OPEN_SIDES, MOST_
 use Rattle.commands.specs.Answers.{Exactly}
 use Rattle.commands.specs.Checks.{Check, Holds, pass_unless, ◌>>=◌}
 use Rattle.commands.specs.Inputs.{pair_in, walk_at, SpellsMesh, SpellsPair}
-use Rattle.commands.specs.Lines.{refused}
+use Rattle.commands.specs.Limits.{FitsLimits, IsRefusedBeyond, limit_line}
 use Rattle.commands.specs.declared.status.Status.{Status}
-use Rattle.commands.specs.declared.status.Status.TheVariants.{Refused}
+use Rattle.commands.specs.declared.limits.Limits.{Limits}
 use Rattle.open_commands.specs.OpenInput.{open_surface_in}
 use Rattle.open_commands.specs.declared.open_pair.OpenPair.{OpenPair}
 
@@ -28,35 +28,26 @@ pub record IsOpenInput (keyword : List ℕ) (held : Option Files) (words : List 
   pub is_orientable : IsOrientable mesh
   pub walks_file : Holds held walks_name (SpellsPair mesh first second)
 
+-- the limits: those of the lists that are made, and the word of a refusal
+abbrev pub open_limits : Limits
+open_limits = record { sides = MOST_OPEN_SIDES; darts = MOST_OPEN_DARTS }
+
+abbrev pub limit_word : List ℕ
+limit_word = codes "open"
+
 -- the surface and the walks are not too large
-pub record IsWithinLimits (mesh : FaceList) (first second : List ℕ) : Type 0 where
-  pub sides : total_sides mesh ≤ MOST_OPEN_SIDES
-  pub few : darts first + darts second ≤ MOST_OPEN_DARTS
-
--- the refusals of a surface with too many sides, and of walks with too many darts
-abbrev pub sides_line : FaceList → List ℕ
-sides_line mesh = refused (codes "open sides" ∷ decimal (total_sides mesh) ∷ [])
-
-abbrev pub darts_line : (first second : List ℕ) → List ℕ
-darts_line first second = refused (codes "open darts" ∷ decimal (darts first + darts second) ∷ [])
+abbrev pub IsWithinLimits : FaceList → (first second : List ℕ) → Type 0
+IsWithinLimits mesh first second = FitsLimits open_limits mesh first second
 
 -- what is answered of such an input beyond the limits: it is refused for the sides, and then for the darts
-pub record IsRefusedBeyond (keyword : List ℕ) (held : Option Files) (words : List (List ℕ)) (status : Status) (text : List ℕ)
-    : Type 0 where
-  pub many_sides : (mesh : FaceList) (first second : List ℕ) → IsOpenInput keyword held words mesh first second
-      → MOST_OPEN_SIDES < total_sides mesh → (status ≡ Refused) × (text ≡ sides_line mesh)
-  pub many_darts : (mesh : FaceList) (first second : List ℕ) → IsOpenInput keyword held words mesh first second
-      → total_sides mesh ≤ MOST_OPEN_SIDES → MOST_OPEN_DARTS < darts first + darts second
-      → (status ≡ Refused) × (text ≡ darts_line first second)
+abbrev pub IsRefusedLarge : (keyword : List ℕ) → Option Files → (words : List (List ℕ)) → Status → List ℕ → Type 0
+IsRefusedLarge keyword held words status text = IsRefusedBeyond open_limits limit_word (IsOpenInput keyword held words) status text
 
 -- ---- what is looked at, in order
 
 -- the refusal of a surface or of walks that are too large
 abbrev pub limit_fault : FaceList → (first second : List ℕ) → Option (List ℕ)
-limit_fault mesh first second =
-    if nat_lt MOST_OPEN_SIDES (total_sides mesh) then Some (sides_line mesh)
-    else if nat_lt MOST_OPEN_DARTS (darts first + darts second) then Some (darts_line first second)
-    else None
+limit_fault mesh first second = limit_line open_limits limit_word mesh first second
 
 -- an open surface and two walks of it
 pub record Question : Type 0 where

@@ -1,17 +1,21 @@
 //! Reading an open surface and two walks of it.
-ghost use Rattle.std.specs.Prelude.{◌≡◌, ℕ, List, MatchResult, IfOk, Some, None};
-ghost use Rattle.commands.specs.Answers.{Exactly};
+ghost use Rattle.std.specs.Prelude.{MatchResult, IfOk};
 ghost use Rattle.commands.specs.Checks.{Passes};
-ghost use Rattle.commands.specs.Stops.{Reads, Stops, Tells};
-ghost use Rattle.open_commands.specs.OpenPairs.{IsOpenPair, asked, limit_fault, open_pair_in};
+ghost use Rattle.commands.specs.Stops.{Reads, Stops};
+ghost use Rattle.open_commands.specs.OpenPairs.{IsOpenPair, asked, open_pair_in};
 
 use crate::open_input::read_open_surface;
-use commands::{Phrase, Stop, read_pair, refused};
+use commands::{Limits, Stop, read_pair};
 use free_forms::{MOST_OPEN_DARTS, MOST_OPEN_SIDES, OpenMesh};
 use std::alloc::Global;
 use surf_io::Shelf;
-use surf_model::{Faces, Walk};
 use walk_files::WalkList;
+
+/// What lists of moves are made for.
+const LIMITS: Limits = Limits {
+    sides: MOST_OPEN_SIDES,
+    darts: MOST_OPEN_DARTS,
+};
 
 /// An open surface and two walks of it with common ends, within the limits.
 #[derive(Drop)]
@@ -34,23 +38,7 @@ pub(crate) fn read_open_pair<S: Shelf>(
 {
     let (faces, sides) = read_open_surface(alloc, shelf, mesh)?;
     let walks = read_pair(alloc, shelf, walks, &sides)?;
-    check_limits(&faces, walks.at(0), walks.at(1))?;
+    LIMITS.check("open", &faces, walks.at(0), walks.at(1))?;
     let surface = OpenMesh::build(alloc, faces, sides)?;
     Ok(OpenPair { surface, walks })
-}
-
-/// Checks that the surface and the walks are not too large.
-fn check_limits(faces: &Faces, first: &Walk, second: &Walk) -> Result<(), Stop>
-    ensures { MatchResult result (λ _. limit_fault faces.now first.now second.now ≡ None)
-        (λ stop. (line : List ℕ) × (limit_fault faces.now first.now second.now ≡ Some line) × Tells (Exactly line) stop) }
-{
-    let sides = faces.total();
-    if sides > MOST_OPEN_SIDES {
-        return Err(refused(&[Phrase::Text("open sides"), Phrase::Number(sides as u64)]));
-    }
-    let darts = first.darts() + second.darts();
-    if darts > MOST_OPEN_DARTS {
-        return Err(refused(&[Phrase::Text("open darts"), Phrase::Number(darts as u64)]));
-    }
-    Ok(())
 }

@@ -7,12 +7,13 @@ use Rattle.surf_model.specs.Edges.{IsTableOf}
 use Rattle.commands.specs.Answers.{Exactly}
 use Rattle.commands.specs.Certificates.{decision_of}
 use Rattle.commands.specs.Certify as of_certify
-use Rattle.commands.specs.Certify.{certificate_answer, limit_fault}
+use Rattle.commands.specs.Certify.{certificate_answer, certify_limits, limit_fault, limit_word}
 use Rattle.commands.specs.Checks.{Passes}
 use Rattle.commands.specs.Inputs.{pair_in, walk_at}
 use Rattle.commands.specs.Stops.{Stops}
 use Rattle.commands.specs.declared.stop.Stop.TheVariants.{OutOfMemory}
-use Rattle.commands.proofs.Certifying.{walks_stop, limits_stop, allowed, certificate_found}
+use Rattle.commands.proofs.Certifying.{walks_stop, limits_stop, certificate_found}
+use Rattle.commands.proofs.LimitLemmas.{fitting}
 use Rattle.commands.proofs.Rows.{two_walks}
 use Rattle.commands.proofs.Deciding.{AreWalks, walks_of_pair}
 use Rattle.commands.proofs.Running.{memory_no_fault, only_then, runs_faulty, runs_replied, runs_stopped, tells_no_fault}
@@ -63,13 +64,13 @@ passed g c =
     subst (λ (files : Option Files). Passes (pair_in files c.args.walks.now surface.faces) c.in_ok-pair.pair.walks)
     c.in_ok-surface.ensures.reads.only_reads.same_files (c.in_ok-pair.ensures.reads.end surface.faces table)
 
-pub returns-in_err-check_limits : goal.returns-in_err-check_limits
-returns-in_err-check_limits g c =
+pub returns-in_err-check : goal.returns-in_err-check
+returns-in_err-check g c =
     let surface = c.in_ok-surface.surface in
     let pair = c.in_ok-pair.pair.walks in
-    let stop = c.in_err-check_limits.field-0.0 in
-    let limit = c.in_err-check_limits.ensures in
-    let p = err_from_is_err_and c.from_residual-in_err-check_limits.result c.from_residual-in_err-check_limits.ensures.1 in
+    let stop = c.in_err-check.field-0.0 in
+    let limit = c.in_err-check.ensures in
+    let p = err_from_is_err_and c.from_residual-in_err-check.result c.from_residual-in_err-check.ensures.1 in
     let first : walk_at pair 0 ≡ c.at-first.result.now = get_or_from_slice_get pair 0 c.at-first.result.now _ c.at-first.ensures in
     let second : walk_at pair 1 ≡ c.at-second.result.now = get_or_from_slice_get pair 1 c.at-second.result.now _ c.at-second.ensures in
     let fault : limit_fault surface.faces (walk_at pair 0) (walk_at pair 1) ≡ Some limit.0 =
@@ -81,7 +82,7 @@ returns-in_err-check_limits g c =
     (only_then g.S.Shelf.held g.S.Shelf.faults c.args.shelf.now c.read_surface.new.shelf c.read_pair.new.shelf
     c.in_ok-surface.ensures.reads.only_reads c.in_ok-pair.ensures.reads.only_reads) (tells_no_fault (Exactly limit.0) stop limit.2)
     (limits_stop (g.S.Shelf.held c.args.shelf.now) c.args.mesh.now c.args.walks.now surface.faces pair limit.0 stop
-    c.in_ok-surface.ensures.reads.end (passed g (goal.at.returns-in_err-check_limits g c).After-at-second) fault limit.2))
+    c.in_ok-surface.ensures.reads.end (passed g (goal.at.returns-in_err-check g c).After-at-second) fault limit.2))
 
 pub find_certificate-requires-clause-first : goal.find_certificate-requires-clause-first
 find_certificate-requires-clause-first g c =
@@ -96,7 +97,7 @@ find_certificate-requires-clause-ends g c = (walks g (goal.at.find_certificate-r
 
 pub find_certificate-requires-clause-limits : goal.find_certificate-requires-clause-limits
 find_certificate-requires-clause-limits g c =
-    allowed c.in_ok-surface.surface.faces c.at-first.result.now c.at-second.result.now c.in_ok-check_limits.ensures
+    fitting certify_limits limit_word c.in_ok-surface.surface.faces c.at-first.result.now c.at-second.result.now c.in_ok-check.ensures
 
 pub returns : goal.returns
 returns g c =
@@ -115,7 +116,7 @@ returns g c =
       passes =
           certificate_found (g.S.Shelf.held c.args.shelf.now) c.args.mesh.now c.args.walks.now surface.faces pair c.at-first.result.now
           c.at-second.result.now shown c.in_ok-surface.ensures.signed.valid (walks g at).first_walk
-          c.in_ok-surface.ensures.reads.end (passed g at) first second c.in_ok-check_limits.ensures c.in_ok-shown.ensures.0;
+          c.in_ok-surface.ensures.reads.end (passed g at) first second c.in_ok-check.ensures c.in_ok-shown.ensures.0;
       is_answer = c.reply_with.ensures surface.faces c.at-first.result.now c.at-second.result.now c.in_ok-shown.ensures;
     })
 

@@ -12,8 +12,9 @@ use Rattle.commands.specs.Stops.{Stops}
 use Rattle.commands.specs.declared.stop.Stop.TheVariants.{OutOfMemory}
 use Rattle.commands.proofs.Rows.{two_walks}
 use Rattle.commands.proofs.Running.{memory_no_fault, only_then, reads_faulty, reads_made, reads_then, tells_no_fault}
-use Rattle.open_commands.specs.OpenPairs.{IsWithinLimits, limit_fault, open_pair_in}
-use Rattle.open_commands.proofs.OpenInputs.{walks_stop, limits_stop, pair_passes, built_passes, allowed}
+use Rattle.open_commands.specs.OpenPairs.{IsWithinLimits, limit_fault, limit_word, open_limits, open_pair_in}
+use Rattle.open_commands.proofs.OpenInputs.{walks_stop, limits_stop, pair_passes, built_passes}
+use Rattle.commands.proofs.LimitLemmas.{fitting}
 use Rattle.open_commands.proofs.open_pair.read_open_pair.Goals as goal
 use Rattle.open_commands.proofs.open_pair.read_open_pair.Goals.{After-at-2}
 
@@ -65,19 +66,19 @@ same_fault g c =
     let second : walk_at pair 1 ≡ c.at-2.result.now = get_or_from_slice_get pair 1 c.at-2.result.now _ c.at-2.ensures in
     ap (λ (w : List ℕ). limit_fault mesh w (walk_at pair 1)) first ∙ ap (limit_fault mesh c.at.result.now) second
 
-pub returns-in_err-check_limits-clause-reads : goal.returns-in_err-check_limits-clause-reads
-returns-in_err-check_limits-clause-reads g c =
+pub returns-in_err-check-clause-reads : goal.returns-in_err-check-clause-reads
+returns-in_err-check-clause-reads g c =
     let surface = c.in_ok-faces.faces in
-    let stop = c.in_err-check_limits.field-0.0 in
-    let limit = c.in_err-check_limits.ensures in
-    let p = err_from_is_err_and c.from_residual-in_err-check_limits.result c.from_residual-in_err-check_limits.ensures.1 in
+    let stop = c.in_err-check.field-0.0 in
+    let limit = c.in_err-check.ensures in
+    let p = err_from_is_err_and c.from_residual-in_err-check.result c.from_residual-in_err-check.ensures.1 in
     rw (p.1, p.2)
     (reads_faulty g.S.Shelf.held g.S.Shelf.faults c.args.shelf.now c.read_pair.new.shelf _ stop
     (only_then g.S.Shelf.held g.S.Shelf.faults c.args.shelf.now c.read_open_surface.new.shelf c.read_pair.new.shelf
     c.in_ok-faces.ensures.reads.only_reads c.in_ok-walks.ensures.reads.only_reads) (tells_no_fault (Exactly limit.0) stop limit.2)
     (limits_stop (g.S.Shelf.held c.args.shelf.now) c.args.mesh.now c.args.walks.now surface c.in_ok-walks.walks.walks limit.0 stop
-    c.in_ok-faces.ensures.reads.end (passed g (goal.at.returns-in_err-check_limits-clause-reads g c).After-at-2)
-    (same_fault g (goal.at.returns-in_err-check_limits-clause-reads g c).After-at-2 ∙ limit.1) limit.2))
+    c.in_ok-faces.ensures.reads.end (passed g (goal.at.returns-in_err-check-clause-reads g c).After-at-2)
+    (same_fault g (goal.at.returns-in_err-check-clause-reads g c).After-at-2 ∙ limit.1) limit.2))
 
 pub returns-in_err-surface-clause-reads : goal.returns-in_err-surface-clause-reads
 returns-in_err-surface-clause-reads g c =
@@ -98,7 +99,7 @@ returns-clause-reads g c =
     c.in_ok-surface.ensures.mesh
     (pair_passes (g.S.Shelf.held c.args.shelf.now) c.args.mesh.now c.args.walks.now mesh pair c.in_ok-faces.ensures.reads.end
     (passed g (goal.at.returns-clause-reads g c).After-at-2)
-    (same_fault g (goal.at.returns-clause-reads g c).After-at-2 ∙ c.in_ok-check_limits.ensures)))
+    (same_fault g (goal.at.returns-clause-reads g c).After-at-2 ∙ c.in_ok-check.ensures)))
 
 pub returns-clause-pair : goal.returns-clause-pair
 returns-clause-pair g c =
@@ -108,6 +109,6 @@ returns-clause-pair g c =
     record {
       walks = subst (λ (m : FaceList). IsPair m pair) made (c.in_ok-walks.ensures.pair mesh c.in_ok-faces.ensures.table);
       within = subst (λ (m : FaceList). IsWithinLimits m (walk_at pair 0) (walk_at pair 1)) made
-          (allowed mesh (walk_at pair 0) (walk_at pair 1)
-          (same_fault g (goal.at.returns-clause-pair g c).After-at-2 ∙ c.in_ok-check_limits.ensures));
+          (fitting open_limits limit_word mesh (walk_at pair 0) (walk_at pair 1)
+          (same_fault g (goal.at.returns-clause-pair g c).After-at-2 ∙ c.in_ok-check.ensures));
     }

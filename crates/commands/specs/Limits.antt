@@ -1,0 +1,36 @@
+-- How large a surface and two walks of it may be for a command that makes lists of moves, and the refusal of larger ones, which begins with
+-- a word of the command.
+use Rattle.std.specs.Prelude.{◌≡◌, ℕ, ◌+◌, ◌<◌, ◌≤◌, nat_lt, if◌then◌else◌, List, [], ◌∷◌, codes, decimal, Option, Some, None}
+use Rattle.surf_model.specs.FaceLists.{FaceList, total_sides}
+use Rattle.surf_model.specs.Walks.{darts}
+use Rattle.commands.specs.Lines.{refused}
+use Rattle.commands.specs.declared.limits.Limits.{Limits}
+use Rattle.commands.specs.declared.status.Status.{Status}
+use Rattle.commands.specs.declared.status.Status.TheVariants.{Refused}
+
+-- the surface and the walks are not too large
+pub record FitsLimits (limits : Limits) (mesh : FaceList) (first second : List ℕ) : Type 0 where
+  pub sides : total_sides mesh ≤ limits.sides
+  pub few : darts first + darts second ≤ limits.darts
+
+-- the refusals of a surface with too many sides, and of walks with too many darts
+abbrev pub sides_line : (word : List ℕ) → FaceList → List ℕ
+sides_line word mesh = refused (word ∷ codes "sides" ∷ decimal (total_sides mesh) ∷ [])
+
+abbrev pub darts_line : (word first second : List ℕ) → List ℕ
+darts_line word first second = refused (word ∷ codes "darts" ∷ decimal (darts first + darts second) ∷ [])
+
+-- the refusal of a surface or of walks that are too large: for the sides, and then for the darts
+abbrev pub limit_line : Limits → (word : List ℕ) → FaceList → (first second : List ℕ) → Option (List ℕ)
+limit_line limits word mesh first second =
+    if nat_lt limits.sides (total_sides mesh) then Some (sides_line word mesh)
+    else if nat_lt limits.darts (darts first + darts second) then Some (darts_line word first second)
+    else None
+
+-- what is answered of such an input beyond the limits
+pub record IsRefusedBeyond (limits : Limits) (word : List ℕ) (IsInput : FaceList → (first second : List ℕ) → Type 0) (status : Status)
+    (text : List ℕ) : Type 0 where
+  pub many_sides : (mesh : FaceList) (first second : List ℕ) → IsInput mesh first second → limits.sides < total_sides mesh
+      → (status ≡ Refused) × (text ≡ sides_line word mesh)
+  pub many_darts : (mesh : FaceList) (first second : List ℕ) → IsInput mesh first second → total_sides mesh ≤ limits.sides
+      → limits.darts < darts first + darts second → (status ≡ Refused) × (text ≡ darts_line word first second)
