@@ -4,7 +4,7 @@ use Rattle.std.specs.Prelude.{◌↔◌, Option, Some, slice_get}
 use Rattle.std.proofs.lemmas.Option.{get_or_from_slice_get}
 use Rattle.surf_io.specs.Files.{Files}
 use Rattle.surf_model.specs.FaceLists.{FaceList}
-use Rattle.surf_model.specs.Walks.{IsWalk, HaveCommonEnds}
+use Rattle.surf_model.specs.Walks.{IsWalk, HaveCommonEnds, AreWalkPair}
 use Rattle.surf_model.specs.Moves as moves
 use Rattle.walk_files.specs.Pairs.{IsPair}
 use Rattle.walk_translate.specs.declared.deciding.Answer as deciding
@@ -70,14 +70,9 @@ refused_behind held first next texts end sound told p (inr q) = let e = sound.on
 -- ---- walks
 
 -- the two walks of a pair
-pub record AreWalks (mesh : FaceList) (first second : List ℕ) : Type 0 where
-  pub first_walk : IsWalk mesh first
-  pub second_walk : IsWalk mesh second
-  pub ends : HaveCommonEnds first second
-
 pub walks_of_pair : (mesh : FaceList) (walks : List (List ℕ)) (a b : List ℕ) → IsPair mesh walks → slice_get walks 0 ≡ Some a
     → slice_get walks 1 ≡ Some b
-    → AreWalks mesh a b
+    → AreWalkPair mesh a b
 walks_of_pair mesh walks a b p f g =
     let one : p.first ≡ a = sym (ap (λ (w : List (List ℕ)). get_or w 0 []) p.two) ∙ get_or_from_slice_get walks 0 a [] f in
     let other : p.second ≡ b = sym (ap (λ (w : List (List ℕ)). get_or w 1 []) p.two) ∙ get_or_from_slice_get walks 1 b [] g in

@@ -5,14 +5,14 @@ use Rattle.std.proofs.lemmas.List.{append-nil, drop_more, drop-drop, get_or-appe
 use Rattle.surf_model.specs.FaceLists.{FaceList, is_edge, is_used}
 use Rattle.surf_model.specs.Moves.{Homotopic, PeakedMoves}
 use Rattle.surf_model.specs.Rewriting.{raised, all_raised}
-use Rattle.surf_model.specs.Walks.{IsWalk, darts}
+use Rattle.surf_model.specs.Walks.{IsWalk, darts, AreWalkPair}
 use Rattle.surf_model.specs.declared.moves.Move.{Move}
 use Rattle.surf_model.specs.declared.moves.Move.TheVariants.{Insert, Remove, Across}
 use Rattle.surf_model.specs.declared.names.VertexName.{VertexName}
 use Rattle.surf_model.proofs.ContextLemmas.{list_in_context, one_after_another}
 use Rattle.surf_model.proofs.EdgeLemmas.{edge_swap}
 use Rattle.common_ends.specs.PeakedLists.{LeadsAtPeak}
-use Rattle.common_ends.specs.Trimmed.{AreCommonDarts, AreWalksTogether, between, put_around}
+use Rattle.common_ends.specs.Trimmed.{AreCommonDarts, between, put_around}
 use Rattle.common_ends.specs.declared.common_darts.CommonDarts.{CommonDarts}
 use Rattle.common_ends.proofs.PeakLemmas.{greatest_raised, spur_comes, spur_goes}
 
@@ -258,10 +258,10 @@ walk_between mesh front walk back some w =
 -- what is left are walks with common ends
 pub still_together : (mesh : FaceList) (first second : List ℕ) (common : CommonDarts) → IsWalk mesh first → IsWalk mesh second
     → (p : AreParted mesh first second common)
-    → AreWalksTogether mesh (between common.front common.back first) (between common.front common.back second)
+    → AreWalkPair mesh (between common.front common.back first) (between common.front common.back second)
 still_together mesh first second common w z p = record {
-  along = walk_between mesh p.front (between common.front common.back first) p.back p.alike.some (subst (IsWalk mesh) p.first_is w);
-  beside = walk_between mesh p.front (between common.front common.back second) p.back p.alike.other_some
+  first_walk = walk_between mesh p.front (between common.front common.back first) p.back p.alike.some (subst (IsWalk mesh) p.first_is w);
+  second_walk = walk_between mesh p.front (between common.front common.back second) p.back p.alike.other_some
       (subst (IsWalk mesh) p.second_is z);
   ends = record { starts = p.alike.starts; ends = p.alike.ends };
 }
@@ -356,10 +356,10 @@ fewer_darts first second near far common some other_some c left = record {
 }
 
 pub left_together : (mesh : FaceList) (first second : List ℕ) (common : CommonDarts) (near far : List ℕ) → IsWalk mesh first
-    → IsWalk mesh second → AreCommonDarts first second common → AreLeft first second common near far → AreWalksTogether mesh near far
+    → IsWalk mesh second → AreCommonDarts first second common → AreLeft first second common near far → AreWalkPair mesh near far
 left_together mesh first second common near far w z c left =
-    subst (λ l. AreWalksTogether mesh l far) (sym left.near_is)
-    (subst (λ l. AreWalksTogether mesh (between common.front common.back first) l) (sym left.far_is)
+    subst (λ l. AreWalkPair mesh l far) (sym left.near_is)
+    (subst (λ l. AreWalkPair mesh (between common.front common.back first) l) (sym left.far_is)
     (still_together mesh first second common w z (parted mesh first second common w z c)))
 
 -- where no moves join what is left, none join the walks

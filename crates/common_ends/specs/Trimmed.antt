@@ -30,12 +30,6 @@ pub record AreCommonDarts (first second : List ℕ) (common : CommonDarts) : Typ
   pub no_more_behind : DifferBehind first second common.front
   pub no_more_before : DifferBefore first second common.front common.back
 
--- two walks of the mesh with common ends
-pub record AreWalksTogether (mesh : FaceList) (first second : List ℕ) : Type 0 where
-  pub along : IsWalk mesh first
-  pub beside : IsWalk mesh second
-  pub ends : HaveCommonEnds first second
-
 -- a list of moves where the common darts stand around the walk: so many entries in front of each move, and all of them on each walk
 abbrev pub put_around : CommonDarts → PeakedMoves → PeakedMoves
 put_around common list = record { moves = all_raised common.front list.moves; peak = common.front + common.back + list.peak }

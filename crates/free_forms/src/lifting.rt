@@ -3,8 +3,7 @@ ghost use Rattle.std.specs.Prelude.{◌≡◌, ◌+◌, ◌*◌, ◌<◌, ◌≤
 ghost use Rattle.surf_model.specs.FaceLists.{total_sides};
 ghost use Rattle.surf_model.specs.Moves.{Homotopic};
 ghost use Rattle.surf_model.specs.Rewriting.{sides_of_move, way_back};
-ghost use Rattle.surf_model.specs.Walks.{IsWalk, HaveCommonEnds, darts};
-ghost use Rattle.common_ends.specs.Trimmed.{AreWalksTogether};
+ghost use Rattle.surf_model.specs.Walks.{IsWalk, HaveCommonEnds, darts, AreWalkPair};
 ghost use Rattle.free_forms.specs.PeakedLists.{LeadsAtPeak, IsWithin, IsMoveOf};
 ghost use Rattle.free_forms.specs.declared.limits.TheConstants.{MOST_OPEN_SIDES, MOST_OPEN_DARTS, MOST_OPEN_STEPS};
 
@@ -52,7 +51,7 @@ fn lift_by_normal_walks(
     first: &Walk,
     second: &Walk,
 ) -> Result<Option<MoveList>, AllocError>
-    requires walks { AreWalksTogether mesh.now.mesh first.now second.now }
+    requires walks { AreWalkPair mesh.now.mesh first.now second.now }
     requires sides { total_sides mesh.now.mesh ≤ MOST_OPEN_SIDES }
     requires few { darts first.now + darts second.now ≤ MOST_OPEN_DARTS }
     ensures moves { IfOk result (λ found. MatchOption found

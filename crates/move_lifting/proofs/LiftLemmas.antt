@@ -5,7 +5,7 @@ use Rattle.std.proofs.lemmas.Option.{option_and_then_some}
 use Rattle.std.proofs.lemmas.List.{drop_more, length-drop, get_or_append_left}
 use Rattle.surf_model.specs.FaceLists.{FaceList}
 use Rattle.surf_model.specs.FreeWalks.{HasNoSpur}
-use Rattle.surf_model.specs.Walks.{IsWalk, HaveCommonEnds, darts}
+use Rattle.surf_model.specs.Walks.{IsWalk, HaveCommonEnds, darts, AreWalkPair}
 use Rattle.surf_model.specs.Moves.{PeakedMoves, Leads, Homotopic, apply, apply_all}
 use Rattle.surf_model.specs.Vertices.{numbers}
 use Rattle.surf_model.specs.declared.moves.Move.{Move}
@@ -28,7 +28,6 @@ use Rattle.move_lifting.proofs.HomeLemmas.{nothing_is_left}
 use Rattle.move_lifting.proofs.StartLemmas.{starts_freely}
 use Rattle.move_lifting.specs.Lifts.{LeadsAtPeak, MoreLeaveCotree}
 use Rattle.move_lifting.specs.Tracks.{TrackView, GoesOn, last_of}
-use Rattle.common_ends.specs.Trimmed.{AreWalksTogether}
 use Rattle.move_lifting.proofs.TreeLiftLemmas.{one_vertex}
 
 -- what is done to the vertices of the first walk, done from the first walk on
@@ -57,7 +56,7 @@ pub record IsClosed (mesh : FaceList) (first closed second : List ℕ) (list : P
   pub walk : IsWalk mesh closed
 
 pub closed_is : (mesh : FaceList) (first second : List ℕ) (names : List VertexName) (list : PeakedMoves) (track : TrackView)
-    → AreWalksTogether mesh first second
+    → AreWalkPair mesh first second
     → ((face_list : FaceList) → IsWalk face_list second → LeadsAtPeak face_list first track.list (track.walk ++ drop 1 second))
     → 0 < length track.walk → last_of track.walk ≡ get_or second 0 0 → numbers names ≡ track.walk → list ≡ track.list
     → IsClosed mesh first (numbers names) second list
@@ -65,10 +64,10 @@ closed_is mesh first second names list track walks leads some meets same noted =
     subst (λ (l : PeakedMoves). IsClosed mesh first (numbers names) second l) (sym noted)
     (subst (λ (l : List ℕ). IsClosed mesh first l second track.list) (sym same)
     (record {
-      led = leads mesh walks.beside;
+      led = leads mesh walks.second_walk;
       some = some;
       meets = meets;
-      walk = closed_walk mesh first track.walk (drop 1 second) track.list walks.along (leads mesh walks.beside) some;
+      walk = closed_walk mesh first track.walk (drop 1 second) track.list walks.first_walk (leads mesh walks.second_walk) some;
     }))
 
 -- where the closed walk is one vertex, the second walk is all that stands there
@@ -156,7 +155,7 @@ pub record IsLedOff (s : OrientedMesh) (split : SplitView) (first closed second 
 
 pub off_cotree : (s : OrientedMesh) (split : SplitView) (first second : List ℕ) (names read : List VertexName) (list : PeakedMoves)
     (track : TrackView) (behind : ℕ)
-    → AreWalksTogether s.mesh first second → IsClosed s.mesh first (numbers names) second list → read ≡ names → behind ≡ darts second
+    → AreWalkPair s.mesh first second → IsClosed s.mesh first (numbers names) second list → read ≡ names → behind ≡ darts second
     → GoesOn s.mesh behind (numbers read) list track.walk track.list → MoreLeaveCotree s split list.moves track.list.moves
     → 0 < length track.walk → last_of track.walk ≡ last_of (numbers read)
     → IsLedOff s split first (numbers names) second list track
@@ -168,7 +167,7 @@ off_cotree s split first second names read list track behind walks k same counte
     record {
       goes = on;
       last = ends;
-      begun = begun_from s split first (numbers names) second list track walks.along walks.beside walks.ends.starts k.led k.some on more
+      begun = begun_from s split first (numbers names) second list track walks.first_walk walks.second_walk walks.ends.starts k.led k.some on more
           some ends;
     }
 

@@ -3,7 +3,7 @@ ghost use Rattle.std.specs.Prelude.{◌≡◌, ◌+◌, ◌*◌, ◌<◌, ◌≤
 ghost use Rattle.surf_model.specs.FaceLists.{FaceList};
 ghost use Rattle.surf_model.specs.Moves.{Homotopic};
 ghost use Rattle.surf_model.specs.Vertices.{numbers};
-ghost use Rattle.surf_model.specs.Walks.{IsWalk, HaveCommonEnds, darts};
+ghost use Rattle.surf_model.specs.Walks.{IsWalk, HaveCommonEnds, darts, AreWalkPair};
 ghost use Rattle.halfedge_map.specs.DartMaps.{darts_of};
 ghost use Rattle.halfedge_map.specs.OrientedMeshes.{IsOrientedSurface};
 ghost use Rattle.tree_cotree.specs.Splits.{IsSplit};
@@ -11,7 +11,6 @@ ghost use Rattle.polygon_cut.specs.Polygons.{IsCutFrom};
 ghost use Rattle.surf_model.specs.FreeWalks.{HasNoSpur};
 ghost use Rattle.move_lifting.specs.Cuts.{IsSplitSurface};
 ghost use Rattle.move_lifting.specs.Lifts.{HasLowPeak, IsShortList, LeadsAtPeak};
-ghost use Rattle.common_ends.specs.Trimmed.{AreWalksTogether};
 ghost use Rattle.move_lifting.specs.Tracks.{last_of};
 ghost use Rattle.move_lifting.specs.declared.expanding.TheConstants.{MOST_LIFTED_SIDES, MOST_LIFTED_DARTS};
 
@@ -81,7 +80,7 @@ fn lift_between(
     requires valid { IsOrientedSurface on.now.surface.now }
     requires on { IsSplitSurface on.now }
     requires cut { IsCutFrom on.now.surface.now on.now.split.now polygon.now }
-    requires walks { AreWalksTogether on.now.surface.now.mesh first.now second.now }
+    requires walks { AreWalkPair on.now.surface.now.mesh first.now second.now }
     requires few { darts first.now + darts second.now ≤ MOST_LIFTED_DARTS }
     ensures list { IfOk result (λ found. MatchOption found
         (Homotopic on.now.surface.now.mesh first.now second.now → ⊥)

@@ -5,7 +5,7 @@ use Rattle.surf_io.specs.Files.{Files}
 use Rattle.surf_model.specs.Edges.{Edge}
 use Rattle.surf_model.specs.FaceLists.{FaceList, IsFaceList, total_sides}
 use Rattle.surf_model.specs.Surfaces.{IsOrientable}
-use Rattle.surf_model.specs.Walks.{darts}
+use Rattle.surf_model.specs.Walks.{darts, AreWalkPair}
 use Rattle.free_forms.specs.OpenFaults.{IsFirstFault}
 use Rattle.free_forms.specs.OpenSurfaces.{IsOpenSurface}
 use Rattle.free_forms.specs.declared.fault.OpenFault.{OpenFault}
@@ -14,7 +14,7 @@ use Rattle.free_forms.specs.declared.limits.TheConstants.{MOST_OPEN_SIDES, MOST_
 use Rattle.free_forms.proofs.FaultLemmas.{one_fault, no_fault}
 use Rattle.free_forms.proofs.OutcomeLemmas.{open_or_fault}
 use Rattle.std.proofs.lemmas.Option.{get_or_from_slice_get}
-use Rattle.commands.proofs.Deciding.{AreWalks, walks_of_pair}
+use Rattle.commands.proofs.Deciding.{walks_of_pair}
 use Rattle.open_commands.specs.declared.open_pair.OpenPair.{OpenPair}
 use Rattle.commands.proofs.Checking.{stops_next, stops_second, told_stops, memory_stops}
 use Rattle.commands.proofs.MeshTexts.{mesh_valid}
@@ -138,7 +138,7 @@ built_passes check surface made walks same h = subst (λ (m : FaceList). Passes 
 pub record AreOpenWalks (mesh : FaceList) (walks : List (List ℕ)) (first second : List ℕ) : Type 0 where
   pub first_is : walk_at walks 0 ≡ first
   pub second_is : walk_at walks 1 ≡ second
-  pub are : AreWalks mesh first second
+  pub are : AreWalkPair mesh first second
   pub sides : total_sides mesh ≤ MOST_OPEN_SIDES
   pub few : darts first + darts second ≤ MOST_OPEN_DARTS
 

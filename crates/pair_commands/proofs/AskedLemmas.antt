@@ -4,14 +4,13 @@ use Rattle.std.specs.Prelude.{Some, slice_get}
 use Rattle.std.proofs.lemmas.Option.{get_or_from_slice_get}
 use Rattle.surf_model.specs.FaceLists.{FaceList, is_used}
 use Rattle.surf_model.specs.Moves as moves
-use Rattle.surf_model.specs.Walks.{IsWalk}
+use Rattle.surf_model.specs.Walks.{IsWalk, AreWalkPair}
 use Rattle.surf_model.proofs.EdgeLemmas.{used_below}
 use Rattle.manifold_check.specs.ComponentParts.{PartsView, AreParts, component_at, component_mesh}
 use Rattle.manifold_check.proofs.PartPieces.{IsOfComponent, piece_of_parts, walk_alone}
 use Rattle.manifold_check.proofs.PieceMoves.{homotopic_alike}
 use Rattle.walk_translate.specs.declared.deciding.Answer as deciding
 use Rattle.walk_translate.specs.declared.deciding.Answer.TheVariants.{Homotopic}
-use Rattle.commands.proofs.Deciding.{AreWalks}
 use Rattle.pair_commands.specs.Asked.{AreDecisionsSoFar, IsAsked, LiesIn}
 use Rattle.pair_commands.specs.declared.asked.Asked.{Asked}
 use Rattle.pair_commands.proofs.PairDecisions.{all_at, walks_at, decision_more}
@@ -20,8 +19,8 @@ use Rattle.pair_commands.proofs.PairDecisions.{all_at, walks_at, decision_more}
 
 -- the walks of a pair in a component are walks of it
 walks_there : (mesh : FaceList) (parts : PartsView) (place : ℕ) (first second : List ℕ) → AreParts mesh parts
-    → place < length parts.components → AreWalks mesh first second → get_or parts.places (get_or first 0 0) 0 ≡ place
-    → AreWalks (component_mesh mesh parts place) first second
+    → place < length parts.components → AreWalkPair mesh first second → get_or parts.places (get_or first 0 0) 0 ≡ place
+    → AreWalkPair (component_mesh mesh parts place) first second
 walks_there mesh parts place first second is within walks at =
     record {
       first_walk = walk_alone mesh parts place first is within walks.first_walk at;
@@ -74,7 +73,7 @@ place_is asked k place walk e lies =
 -- the two walks of a pair that lies in a component
 pub pair_there : (asked : Asked) (k place : ℕ) (a b : List ℕ) → IsAsked asked → place < length asked.parts.now.components
     → LiesIn asked k place → slice_get asked.walks.now.walks (2 * k) ≡ Some a → slice_get asked.walks.now.walks (2 * k + 1) ≡ Some b
-    → AreWalks (component_mesh asked.mesh.now.faces asked.parts.now place) a b
+    → AreWalkPair (component_mesh asked.mesh.now.faces asked.parts.now place) a b
 pair_there asked k place a b is within lies e f =
     walks_there asked.mesh.now.faces asked.parts.now place a b is.parts within
     (walks_at asked.mesh.now.faces asked.walks.now k a b is.pairs e f) (place_is asked k place a e lies)

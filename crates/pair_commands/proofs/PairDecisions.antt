@@ -8,14 +8,13 @@ use Rattle.std.proofs.lemmas.List.Elements.{All-nil, All-cons, All-head, All-tai
 use Rattle.surf_io.specs.Files.{Files}
 use Rattle.surf_model.specs.FaceLists.{FaceList}
 use Rattle.surf_model.specs.Moves as moves
-use Rattle.surf_model.specs.Walks.{IsWalk, HaveCommonEnds}
+use Rattle.surf_model.specs.Walks.{IsWalk, HaveCommonEnds, AreWalkPair}
 use Rattle.walk_files.specs.PairLists.{WalkPair, ArePairs, are_paired, in_pairs}
 use Rattle.walk_files.specs.WalkLists.{WalkText}
-use Rattle.walk_translate.specs.WalkPairs.{AreWalkPair}
 use Rattle.walk_translate.proofs.SpokedLemmas.{before_or_last}
 use Rattle.walk_translate.specs.declared.deciding.Answer as deciding
 use Rattle.walk_translate.specs.declared.deciding.Answer.TheVariants.{Homotopic, Different}
-use Rattle.commands.proofs.Deciding.{AreWalks, differs, one_decision}
+use Rattle.commands.proofs.Deciding.{differs, one_decision}
 use Rattle.commands.proofs.Sound.{IsSound}
 use Rattle.commands.specs.Answers.{Answer}
 use Rattle.commands.specs.Certificates.{decisions_status}
@@ -63,7 +62,7 @@ all_at P (y ∷ xs) (suc k) x all e = all_at P xs k x (All-tail P y xs all) e
 
 -- the two walks of pair k
 pub walks_at : (mesh : FaceList) (text : WalkText) (k : ℕ) (a b : List ℕ) → ArePairs mesh text → slice_get text.walks (2 * k) ≡ Some a
-    → slice_get text.walks (2 * k + 1) ≡ Some b → AreWalks mesh a b
+    → slice_get text.walks (2 * k + 1) ≡ Some b → AreWalkPair mesh a b
 walks_at mesh text k a b pairs e f =
     record {
       first_walk = all_at (IsWalk mesh) text.walks (2 * k) a pairs.walks e;

@@ -16,3 +16,9 @@ pub record IsWalk (mesh : FaceList) (walk : List ℕ) : Type 0 where
 pub record HaveCommonEnds (first second : List ℕ) : Type 0 where
   pub starts : slice_index first 0 ≡ slice_index second 0
   pub ends : slice_index first (darts first) ≡ slice_index second (darts second)
+
+-- two walks of the mesh with common ends
+pub record AreWalkPair (mesh : FaceList) (first second : List ℕ) : Type 0 where
+  pub first_walk : IsWalk mesh first
+  pub second_walk : IsWalk mesh second
+  pub ends : HaveCommonEnds first second

@@ -5,7 +5,7 @@ use Rattle.std.proofs.lemmas.List.{append-nil, get_or_append_left, get_or_defaul
 use Rattle.std.proofs.Math.Seq.{get_or-append_seam}
 use Rattle.surf_model.specs.FaceLists.{FaceList, is_edge, is_used}
 use Rattle.surf_model.specs.Edges.{Edge, IsTableOf, HasEnds, edge_in}
-use Rattle.surf_model.specs.Walks.{darts, IsWalk}
+use Rattle.surf_model.specs.Walks.{darts, IsWalk, AreWalkPair}
 use Rattle.surf_model.specs.Moves.{Homotopic}
 use Rattle.surf_model.specs.declared.names.Spoke.{Spoke}
 use Rattle.surf_model.proofs.EdgeLemmas.{edge_swap, head_used}
@@ -32,7 +32,6 @@ use Rattle.labellings.proofs.WalkWordLemmas.{quad_path_below, hyper_wheel_of_goo
 use Rattle.quad_system.proofs.FlatWordLemmas.{one_sum}
 use Rattle.walk_translate.specs.DartSpokes.{AreSpokesBelow, AreSpokesOf, kept_at}
 use Rattle.walk_translate.specs.SurfaceLabels.{IsLabelledByCut}
-use Rattle.walk_translate.specs.WalkPairs.{AreWalkPair}
 use Rattle.walk_translate.proofs.LabelLemmas.{cut_is_good}
 use Rattle.walk_translate.proofs.DecidingLemmas.{words_decide}
 

@@ -1,4 +1,3 @@
 pub mod SurfaceLabels
 pub mod DartSpokes
-pub mod WalkPairs
 pub mod Spoked

@@ -1,11 +1,10 @@
 //! Deciding homotopy for many pairs of walks of one surface.
 ghost use Rattle.std.specs.Prelude.{◌≡◌, ◌↔◌, IfOk, IfSome, MatchOption};
 ghost use Rattle.surf_model.specs.Edges.{IsTableOf};
-ghost use Rattle.surf_model.specs.Walks.{IsWalk, HaveCommonEnds};
+ghost use Rattle.surf_model.specs.Walks.{IsWalk, HaveCommonEnds, AreWalkPair};
 ghost use Rattle.surf_model.specs.Moves.{Homotopic};
 ghost use Rattle.walk_translate.specs.DartSpokes.{AreSpokesOf};
 ghost use Rattle.walk_translate.specs.SurfaceLabels.{HasSphereSplit, IsLabelledByCut};
-ghost use Rattle.walk_translate.specs.WalkPairs.{AreWalkPair};
 
 use crate::dart_spokes::DartSpokes;
 use crate::deciding::{Answer, answer_by};

@@ -1,10 +1,9 @@
 //! Deciding on walks whose darts are looked up once.
 ghost use Rattle.std.specs.Prelude.{◌≡◌, ◌↔◌, ℕ, ◌+◌, ◌-◌, ◌*◌, ◌^◌, ◌<◌, ◌≤◌, List, IsTrue, IfOk, MatchOption};
-ghost use Rattle.surf_model.specs.Walks.{darts, IsWalk};
+ghost use Rattle.surf_model.specs.Walks.{darts, IsWalk, AreWalkPair};
 ghost use Rattle.surf_model.specs.Moves.{Homotopic};
 ghost use Rattle.turn_words.specs.FormLaws.{led};
 ghost use Rattle.labellings.specs.QuadPaths.{quad_path};
-ghost use Rattle.walk_translate.specs.WalkPairs.{AreWalkPair};
 
 use crate::dart_spokes::DartSpokes;
 use crate::deciding::Answer;

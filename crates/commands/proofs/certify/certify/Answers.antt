@@ -4,6 +4,7 @@ use Rattle.std.proofs.lemmas.Option.{get_or_from_slice_get}
 use Rattle.std.proofs.lemmas.Result.{err_from_is_err_and}
 use Rattle.surf_io.specs.Files.{Files}
 use Rattle.surf_model.specs.Edges.{IsTableOf}
+use Rattle.surf_model.specs.Walks.{AreWalkPair}
 use Rattle.commands.specs.Answers.{Exactly}
 use Rattle.commands.specs.Certificates.{decision_of}
 use Rattle.commands.specs.Certify as of_certify
@@ -15,7 +16,7 @@ use Rattle.commands.specs.declared.stop.Stop.TheVariants.{OutOfMemory}
 use Rattle.commands.proofs.Certifying.{walks_stop, limits_stop, certificate_found}
 use Rattle.commands.proofs.LimitLemmas.{fitting}
 use Rattle.commands.proofs.Rows.{two_walks}
-use Rattle.commands.proofs.Deciding.{AreWalks, walks_of_pair}
+use Rattle.commands.proofs.Deciding.{walks_of_pair}
 use Rattle.commands.proofs.Running.{memory_no_fault, only_then, runs_faulty, runs_replied, runs_stopped, tells_no_fault}
 use Rattle.commands.proofs.certify.certify.Goals as goal
 use Rattle.commands.proofs.certify.certify.Goals.{After-at-second}
@@ -48,7 +49,7 @@ at-second-requires g c =
     omega (arith, two_walks _ _ surface.faces c.in_ok-pair.pair.walks (c.in_ok-pair.ensures.reads.end surface.faces table))
 
 -- the two walks are walks of the surface
-walks : (g : _) (c : After-at-second g) → AreWalks c.in_ok-surface.surface.faces c.at-first.result.now c.at-second.result.now
+walks : (g : _) (c : After-at-second g) → AreWalkPair c.in_ok-surface.surface.faces c.at-first.result.now c.at-second.result.now
 walks g c =
     let surface = c.in_ok-surface.surface in
     let table : IsTableOf surface.faces surface.sides = c.in_ok-surface.ensures.signed.table in

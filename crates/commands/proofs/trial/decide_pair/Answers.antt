@@ -4,12 +4,13 @@ use Rattle.std.proofs.lemmas.Option.{get_or_from_slice_get}
 use Rattle.std.proofs.lemmas.Result.{err_from_is_err_and}
 use Rattle.surf_model.specs.Edges.{IsTableOf}
 use Rattle.surf_model.specs.Moves as moves
+use Rattle.surf_model.specs.Walks.{AreWalkPair}
 use Rattle.surf_gen.specs.TrialWalks.{first_walk, second_walk}
 use Rattle.walk_files.specs.Pairs.{pair_fault}
 use Rattle.walk_files.specs.WalkLists.{WalkText}
 use Rattle.walk_translate.specs.declared.deciding.Answer.TheVariants.{Homotopic}
 use Rattle.commands.specs.Trial.{pair_walks}
-use Rattle.commands.proofs.Deciding.{AreWalks, walks_of_pair}
+use Rattle.commands.proofs.Deciding.{walks_of_pair}
 use Rattle.commands.proofs.Trying.{pair_faulty, pair_answered}
 use Rattle.commands.proofs.trial.decide_pair.Goals as goal
 
@@ -25,7 +26,7 @@ returns-in_err-check_pair-clause-end c =
     rw p.1 (pair_faulty mesh c.args.grid c.args.which fault p.0 (ap (pair_fault mesh) (sym walks) ∙ sym found) p.2)
 
 -- what is known of the two walks
-walks : (c : goal.After-at-2) → AreWalks c.args.surface.now.mesh c.at.result.now c.at-2.result.now
+walks : (c : goal.After-at-2) → AreWalkPair c.args.surface.now.mesh c.at.result.now c.at-2.result.now
 walks c =
     let mesh = c.args.surface.now.mesh in
     let table : IsTableOf mesh c.sides.result.now = rw c.sides.ensures.table c.sides.ensures.valid.table in

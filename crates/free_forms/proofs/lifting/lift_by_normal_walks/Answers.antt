@@ -17,7 +17,7 @@ pub push_back-requires : goal.push_back-requires
 push_back-requires c =
     let mesh : FaceList = c.args.mesh.now.mesh in
     let all : All (IsMoveOf mesh) c.in_ok-two.two.moves.moves =
-    moves_of mesh c.in_ok-two.two.moves.moves c.args.second.now (whole (state_of c.in_ok-two.two)) c.requires.walks.beside.starts
+    moves_of mesh c.in_ok-two.two.moves.moves c.args.second.now (whole (state_of c.in_ok-two.two)) c.requires.walks.second_walk.starts
     c.in_ok-two.ensures.leads.leads in
     subst (λ (m : FaceList). All (IsMoveOf m) c.in_ok-far.others.moves) (sym c.faces-faces.ensures.mesh)
     (subst (λ (l : PeakedMoves). All (IsMoveOf mesh) l.moves) (sym c.in_ok-far.ensures.moves) all)
@@ -32,7 +32,7 @@ returns-then-are_equal-clause-moves c =
     subst (λ (l : PeakedMoves). LeadsAtPeak mesh c.args.second.now l c.in_ok-far.far) (sym c.in_ok-far.ensures.moves)
     (subst (LeadsAtPeak mesh c.args.second.now c.in_ok-two.two.moves) (sym c.in_ok-far.ensures.walk) c.in_ok-two.ensures.leads) in
     there_and_back_leads mesh c.args.first.now c.args.second.now c.in_ok-near.near c.in_ok-far.far c.in_ok-near.moves c.in_ok-far.others
-    c.push_back.new.moves c.requires.walks.beside one two (c.are_equal.ensures.0 c.if-are_equal.true)
+    c.push_back.new.moves c.requires.walks.second_walk one two (c.are_equal.ensures.0 c.if-are_equal.true)
     (c.in_ok-push_back.ensures.moves
     ∙ ap (λ (m : FaceList). c.in_ok-near.moves.moves ++ way_back m c.in_ok-far.others.moves) c.faces-faces.ensures.mesh)
     c.in_ok-push_back.ensures.none c.in_ok-push_back.ensures.some
@@ -42,7 +42,7 @@ returns-clause-moves c =
     let mesh : FaceList = c.args.mesh.now.mesh in
     let equal : Homotopic mesh c.args.first.now c.args.second.now ↔ (c.in_ok-near.near ≡ c.in_ok-far.far) =
     by_normal_walks c.args.mesh.now c.args.first.now c.args.second.now c.in_ok-near.near c.in_ok-far.far c.faces-faces.ensures.parents
-    c.requires.walks.along c.requires.walks.beside
+    c.requires.walks.first_walk c.requires.walks.second_walk
     (record {
       normal = subst (IsNormal c.args.mesh.now) (sym c.in_ok-near.ensures.walk) c.in_ok-one.ensures.normal;
       homotopic = (

@@ -2,8 +2,8 @@ use Rattle.std.proofs.Common.{ℕ, ◌+◌, ◌*◌, refl, subst, arith}
 use Rattle.std.specs.Prelude.{MatchOption, IfSome}
 use Rattle.surf_model.specs.FaceLists.{FaceList}
 use Rattle.surf_model.specs.Moves.{Homotopic}
-use Rattle.surf_model.specs.Walks.{darts}
-use Rattle.common_ends.specs.Trimmed.{AreWalksTogether, put_around}
+use Rattle.surf_model.specs.Walks.{darts, AreWalkPair}
+use Rattle.common_ends.specs.Trimmed.{put_around}
 use Rattle.common_ends.proofs.PeakLemmas.{places_within}
 use Rattle.common_ends.proofs.TrimLemmas.{AreLeft, fewer_darts, left_together, left_apart, left_leads}
 use Rattle.free_forms.specs.PeakedLists.{LeadsAtPeak, IsWithin}
@@ -27,13 +27,13 @@ lift_by_normal_walks-requires-clause-few c =
 pub put_back-requires-clause-places : goal.put_back-requires-clause-places
 put_back-requires-clause-places c =
     let mesh : FaceList = c.args.mesh.now.mesh in
-    let together : AreWalksTogether mesh c.in_ok-near.near c.in_ok-far.far =
+    let together : AreWalkPair mesh c.in_ok-near.near c.in_ok-far.far =
     left_together mesh c.args.first.now c.args.second.now c.of-common.result c.in_ok-near.near c.in_ok-far.far
     c.requires.first c.requires.second c.of-common.ensures (record { near_is = c.in_ok-near.ensures; far_is = c.in_ok-far.ensures }) in
     let leads : LeadsAtPeak mesh c.in_ok-near.near c.in-Some.list c.in_ok-far.far =
     subst (λ o. MatchOption o (Homotopic mesh c.in_ok-near.near c.in_ok-far.far → ⊥)
     (λ l. LeadsAtPeak mesh c.in_ok-near.near l c.in_ok-far.far)) c.in-Some.is c.in_ok-list.ensures.moves in
-    places_within mesh c.in_ok-near.near c.in_ok-far.far c.in-Some.list together.along.starts leads
+    places_within mesh c.in_ok-near.near c.in_ok-far.far c.in-Some.list together.first_walk.starts leads
 
 -- the list between is within the limits, and so it is with the common darts around
 pub put_back-requires-clause-room : goal.put_back-requires-clause-room

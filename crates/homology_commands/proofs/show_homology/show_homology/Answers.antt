@@ -1,10 +1,10 @@
 use Rattle.std.proofs.Common.{◌≡◌, List, ℕ, ap, arith, refl}
 use Rattle.std.proofs.lemmas.Option.{get_or_from_slice_get}
 use Rattle.std.proofs.lemmas.Result.{err_from_is_err_and}
-use Rattle.surf_model.specs.Walks.{darts}
+use Rattle.surf_model.specs.Walks.{darts, AreWalkPair}
 use Rattle.commands.specs.HomologyCertificates.{ShowsHomology, answer_in}
 use Rattle.commands.specs.Inputs.{pair_in, walk_at}
-use Rattle.commands.proofs.Deciding.{AreWalks, walks_of_pair}
+use Rattle.commands.proofs.Deciding.{walks_of_pair}
 use Rattle.commands.proofs.Rows.{two_walks}
 use Rattle.commands.proofs.RunsOnWalks.{at_places, runs_asked, runs_refused_walks, runs_wanting}
 use Rattle.homology_commands.specs.Homology.{homology_answer}
@@ -40,7 +40,7 @@ at-requires-2 g c =
     )
 
 -- what is known of the two walks
-walks : (g : _) (c : goal.After-at-2 g) → AreWalks c.in_ok-surface.surface.faces c.at.result.now c.at-2.result.now
+walks : (g : _) (c : goal.After-at-2 g) → AreWalkPair c.in_ok-surface.surface.faces c.at.result.now c.at-2.result.now
 walks g c =
     let surface = c.in_ok-surface.surface.faces in
     walks_of_pair surface c.in_ok-pair.pair.walks c.at.result.now c.at-2.result.now
@@ -80,7 +80,7 @@ returns g c =
     let read = c.in_ok-surface.ensures.reads in
     let pair = c.in_ok-pair.pair.walks in
     let shown = c.in_ok-shown.shown in
-    let known = at_places (AreWalks surface.faces) pair c.at.result.now c.at-2.result.now c.at.ensures c.at-2.ensures
+    let known = at_places (AreWalkPair surface.faces) pair c.at.result.now c.at-2.result.now c.at.ensures c.at-2.ensures
     (walks g (goal.at.returns g c).After-at-2) in
     let shows = at_places (λ (a b : List ℕ). ShowsHomology surface.faces a b shown) pair c.at.result.now c.at-2.result.now c.at.ensures
     c.at-2.ensures c.in_ok-shown.ensures in

@@ -5,9 +5,8 @@ use Rattle.std.proofs.lemmas.List.{length-map}
 use Rattle.surf_model.specs.FaceLists.{FaceList}
 use Rattle.surf_model.specs.Moves.{Homotopic, PeakedMoves}
 use Rattle.surf_model.specs.Rewriting.{raised}
-use Rattle.surf_model.specs.Walks.{darts}
+use Rattle.surf_model.specs.Walks.{darts, AreWalkPair}
 use Rattle.halfedge_map.specs.DartMaps.{darts_of}
-use Rattle.common_ends.specs.Trimmed.{AreWalksTogether}
 use Rattle.common_ends.proofs.PeakLemmas.{places_within}
 use Rattle.common_ends.proofs.TrimLemmas.{HaveFewerDarts, fewer_darts, left_together, left_apart, left_leads}
 use Rattle.move_lifting.specs.Lifts.{HasLowPeak, IsShortList, LeadsAtPeak}
@@ -17,7 +16,7 @@ use Rattle.move_lifting.proofs.lifting.lift.Goals as goal
 use Rattle.move_lifting.proofs.lifting.lift.Goals.{In_ok-second, In-Some}
 
 -- the trimmed walks go together, and have the fewer darts
-together : (c : In_ok-second) → AreWalksTogether c.args.surface.now.mesh c.in_ok-first.first c.in_ok-second.second
+together : (c : In_ok-second) → AreWalkPair c.args.surface.now.mesh c.in_ok-first.first c.in_ok-second.second
 together c =
     left_together c.args.surface.now.mesh c.args.first.now c.args.second.now c.of-common.result c.in_ok-first.first c.in_ok-second.second
     c.requires.first c.requires.second c.of-common.ensures
@@ -50,7 +49,7 @@ pub put_back-requires-clause-places : goal.put_back-requires-clause-places
 put_back-requires-clause-places c =
     let mesh : FaceList = c.args.surface.now.mesh in
     let at = goal.at.put_back-requires-clause-places c in
-    places_within mesh c.in_ok-first.first c.in_ok-second.second c.in-Some.list (together at.In_ok-second).along.starts
+    places_within mesh c.in_ok-first.first c.in_ok-second.second c.in-Some.list (together at.In_ok-second).first_walk.starts
     (leads at.In-Some)
 
 -- the peak of the list between is low, and few darts stand around

@@ -33,7 +33,7 @@ led : (c : In_ok-closed)
 led c = record {
   first = c.args.first.now;
   rest = drop 1 c.args.second.now;
-  starts = c.requires.walks.along;
+  starts = c.requires.walks.first_walk;
   long = length-drop 1 c.args.second.now ∙ sym c.darts-behind.ensures.count;
   leads = (closed c).led;
   some = (closed c).some;
@@ -51,7 +51,7 @@ returns-then-len-eq1-clause-list c =
     second_there c.args.on.now.surface.now.mesh c.args.first.now (numbers c.in_ok-closed.closed.items) c.args.second.now
     c.in_ok-closed.moves (closed (goal.at.returns-then-len-eq1-clause-list c).In_ok-closed)
     (omega (arith, length-numbers c.in_ok-closed.closed.items, c.len.ensures, c.if-len-eq1.true, c.in_ok-closed.closed.ok.0))
-    c.requires.walks.beside.starts
+    c.requires.walks.second_walk.starts
 
 pub of-requires-clause-walk : goal.of-requires-clause-walk
 of-requires-clause-walk c =
@@ -75,7 +75,7 @@ returns-then-degree-eq0-clause-list c =
     subst (λ (l : PeakedMoves). LeadsAtPeak c.args.on.now.surface.now.mesh c.args.first.now l c.args.second.now) (sym c.into_moves.ensures)
     (second_left c.args.on.now.surface.now c.args.on.now.split.now c.in_ok-track-2.ensures.valid c.requires.on.split sphere
     c.args.first.now (numbers c.in_ok-closed.closed.items) c.args.second.now c.in_ok-closed.moves c.in_ok-track-2.track
-    c.requires.walks.along c.requires.walks.beside.starts c.requires.walks.ends.starts k.led off.goes c.in_ok-track-2.ensures.off_cotree
+    c.requires.walks.first_walk c.requires.walks.second_walk.starts c.requires.walks.ends.starts k.led off.goes c.in_ok-track-2.ensures.off_cotree
     c.in_ok-track-2.ensures.no_spur c.in_ok-track-2.ensures.some off.last)
 
 -- the steps of the reduction go round the wheel that it has
@@ -111,7 +111,7 @@ returns-then-not-leaves_nothing-clause-list c = λ homotopic.
     homotopic_leaves_nothing c.args.on.now.surface.now c.args.on.now.split.now c.args.polygon.now c.in_ok-reduction.ensures.valid
     c.requires.on.split c.requires.cut some_sides c.args.first.now (numbers c.in_ok-closed.closed.items) c.args.second.now
     (numbers c.deref.result.now) c.in_ok-closed.moves c.in_ok-reduction.reduction red (ap numbers c.deref.ensures.value)
-    c.requires.walks.along k.some c.requires.walks.beside.starts k.meets k.led homotopic in
+    c.requires.walks.first_walk k.some c.requires.walks.second_walk.starts k.meets k.led homotopic in
     let yes : c.leaves_nothing.result ≡ true = (c.leaves_nothing.ensures red.end (round_wheel at.In_ok-reduction)).1 none in
     both_ways c.leaves_nothing.result c.if-not-leaves_nothing.true yes
 
@@ -164,7 +164,7 @@ contract-requires-clause-spokes c =
     begun_freely c.args.on.now.surface.now c.args.on.now.split.now c.args.polygon.now c.in_ok-reduction.ensures.valid c.requires.on.split
     c.requires.cut some_sides c.args.first.now (numbers c.in_ok-closed.closed.items) c.args.second.now (numbers c.deref.result.now)
     c.in_ok-closed.moves c.in_ok-track-3.track c.in_ok-reduction.reduction c.in_ok-reduction.ensures.reduction
-    (ap numbers c.deref.ensures.value) c.requires.walks.along k.some k.meets k.led off.begun c.in_ok-track-3.ensures.off_cotree off.last
+    (ap numbers c.deref.ensures.value) c.requires.walks.first_walk k.some k.meets k.led off.begun c.in_ok-track-3.ensures.off_cotree off.last
 
 pub returns-clause-list : goal.returns-clause-list
 returns-clause-list c =
@@ -173,7 +173,7 @@ returns-clause-list c =
     (sym c.into_moves-2.ensures)
     (second_stays c.args.on.now.surface.now c.args.on.now.split.now c.args.first.now (numbers c.in_ok-closed.closed.items)
     c.args.second.now c.in_ok-track-3.track c.in_ok-track-4.track (led_off at.In_ok-track-3 (closed at.In_ok-closed)).begun
-    c.requires.walks.beside.starts
+    c.requires.walks.second_walk.starts
     (subst (λ (n : ℕ). GoesOn c.args.on.now.surface.now.mesh n c.in_ok-track-3.track.walk c.in_ok-track-3.track.list
     c.in_ok-track-4.track.walk c.in_ok-track-4.track.list) c.darts-behind.ensures.count c.in_ok-track-4.ensures.leads)
     c.in_ok-track-4.ensures.nothing)

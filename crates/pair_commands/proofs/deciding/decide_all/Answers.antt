@@ -3,8 +3,8 @@ use Rattle.std.specs.Prelude.{◌↔◌, MatchOption}
 use Rattle.std.proofs.lemmas.Grind.{common_steps}
 use Rattle.surf_model.specs.FaceLists.{FaceList}
 use Rattle.surf_model.specs.Moves as moves
+use Rattle.surf_model.specs.Walks.{AreWalkPair}
 use Rattle.walk_files.specs.PairLists.{are_paired, in_pairs}
-use Rattle.walk_translate.specs.WalkPairs.{AreWalkPair}
 use Rattle.walk_translate.specs.declared.deciding.Answer.{Answer}
 use Rattle.walk_translate.specs.declared.deciding.Answer.TheVariants.{Homotopic}
 use Rattle.pair_commands.specs.Decide.{AreFirstDecisions}

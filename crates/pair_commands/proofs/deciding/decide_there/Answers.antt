@@ -2,16 +2,16 @@ use Rattle.std.proofs.Common.{◌≡◌, ◌↔◌, arith, sym, subst, ◌∙◌
 use Rattle.std.proofs.lemmas.Grind.{common_steps}
 use Rattle.surf_model.specs.FaceLists.{FaceList}
 use Rattle.surf_model.specs.Moves as moves
+use Rattle.surf_model.specs.Walks.{AreWalkPair}
 use Rattle.walk_translate.specs.declared.deciding.Answer.TheVariants.{Homotopic}
-use Rattle.commands.proofs.Deciding.{AreWalks}
 use Rattle.pair_commands.specs.Asked.{AreDecisionsSoFar}
 use Rattle.pair_commands.proofs.AskedLemmas.{pair_there, decided_there}
 use Rattle.pair_commands.proofs.deciding.decide_there.Goals as goal
 
 -- the two walks lie in the component
-walks : (c : goal.After-at-in-loop-k) → AreWalks c.args.decider.now c.at.result.now c.at-in-loop-k.result.now
+walks : (c : goal.After-at-in-loop-k) → AreWalkPair c.args.decider.now c.at.result.now c.at-in-loop-k.result.now
 walks c =
-    subst (λ (mesh : FaceList). AreWalks mesh c.at.result.now c.at-in-loop-k.result.now) (sym c.requires.there)
+    subst (λ (mesh : FaceList). AreWalkPair mesh c.at.result.now c.at-in-loop-k.result.now) (sym c.requires.there)
     (pair_there c.args.asked.now c.loop-k.k c.args.place c.at.result.now c.at-in-loop-k.result.now c.requires.asked c.requires.place
     (c.place_of.ensures.place ∙ c.if-place_of-place.false) c.at.ensures c.at-in-loop-k.ensures)
 
