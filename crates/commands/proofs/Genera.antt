@@ -20,7 +20,7 @@ use Rattle.manifold_check.proofs.PieceSides.{valid_alone}
 use Rattle.manifold_check.proofs.PieceSurfaces.{coherent_alone}
 use Rattle.manifold_check.specs.Submeshes.{signs_among, submesh}
 use Rattle.connectivity.proofs.CornerLemmas.{corner_used}
-use Rattle.halfedge_map.specs.Numbers.{count_below}
+use Rattle.surf_model.specs.Numbers.{count_below}
 use Rattle.halfedge_map.specs.DartMaps.{used_vertices}
 use Rattle.halfedge_map.specs.OrientedMeshes.{OrientedMesh, IsOrientedSurface}
 use Rattle.tree_cotree.specs.Splits.{SplitView, IsSplit}

@@ -3,7 +3,7 @@ use Rattle.std.specs.Prelude.{◌≡◌, ℕ, ◌*◌, List, length, slice_index
 use Rattle.surf_model.specs.FaceLists.{FaceList, is_used}
 use Rattle.surf_model.specs.Edges.{Edge, IsTableOf}
 use Rattle.manifold_check.specs.ComponentParts.{PartsView, AreParts, component_mesh}
-use Rattle.halfedge_map.specs.Numbers.{count_below}
+use Rattle.surf_model.specs.Numbers.{count_below}
 use Rattle.commands.specs.declared.surface.SurfaceNumbers.{SurfaceNumbers}
 
 -- The numbers of a mesh: how many vertices are used, how many edges and faces there are, and the Euler characteristic V - E + F.

@@ -2,7 +2,7 @@
 ghost use Rattle.std.specs.Prelude.{◌≡◌, [], ◌∷◌, ◌++◌, ℕ, map, decimal, IfOk, OnOk};
 ghost use Rattle.surf_model.specs.FaceLists.{is_used};
 ghost use Rattle.surf_model.specs.Edges.{IsTableOf};
-ghost use Rattle.halfedge_map.specs.Numbers.{count_below};
+ghost use Rattle.surf_model.specs.Numbers.{count_below};
 ghost use Rattle.manifold_check.specs.ComponentParts.{AreParts};
 ghost use Rattle.commands.specs.ClosedSurfaces.{IsSigned};
 ghost use Rattle.commands.specs.Lines.{in_lines, line};

@@ -5,7 +5,7 @@ use Rattle.std.specs.Prelude.{filter, find, Some, Contains}
 use Rattle.std.specs.List.{list_any, range_with_len}
 use Rattle.std.proofs.lemmas.List.Folds.{list_any_at}
 use Rattle.std.proofs.lemmas.List.FromFn.{length-range_with_len, get_or-range_with_len}
-use Rattle.halfedge_map.specs.Numbers.{first_below}
+use Rattle.surf_model.specs.Numbers.{first_below}
 use Rattle.std.proofs.lemmas.Bool.{cases_Bool, cond-true, cond-false, both_ways}
 
 -- the first element that passes, where one does

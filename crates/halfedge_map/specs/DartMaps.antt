@@ -7,7 +7,7 @@ use Rattle.surf_model.specs.Edges.{edge_in}
 use Rattle.surf_model.specs.Darts.{first_side, side_number, side_after}
 use Rattle.surf_model.specs.Surfaces.{is_flipped, start_under, end_under}
 use Rattle.surf_model.specs.declared.edges.Side.{Side}
-use Rattle.halfedge_map.specs.Numbers.{first_below, count_below}
+use Rattle.surf_model.specs.Numbers.{first_below, count_below}
 use Rattle.halfedge_map.specs.OrientedMeshes.{OrientedMesh}
 
 -- how many darts there are

@@ -1,5 +1,4 @@
 pub mod Orbits
-pub mod Numbers
 pub mod OrientedMeshes
 pub mod DartMaps
 pub mod RotationSystems

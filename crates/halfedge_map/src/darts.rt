@@ -4,7 +4,7 @@ ghost use Rattle.surf_model.specs.FaceLists.{IsFaceList, HasFileSize, is_used, t
 ghost use Rattle.surf_model.specs.Darts.{first_side};
 ghost use Rattle.surf_model.specs.Edges.{IsTableOf};
 ghost use Rattle.surf_model.specs.Surfaces.{is_flipped};
-ghost use Rattle.halfedge_map.specs.Numbers.{count_below};
+ghost use Rattle.surf_model.specs.Numbers.{count_below};
 ghost use Rattle.halfedge_map.specs.StoredDarts.{ListNexts, ListOrigins, KeepOrigins, signed};
 ghost use Rattle.surf_model.specs.declared.limits.TheConstants.{MOST_SIDES};
 

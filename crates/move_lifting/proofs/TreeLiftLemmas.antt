@@ -7,7 +7,7 @@ use Rattle.surf_model.specs.FaceLists.{is_used}
 use Rattle.surf_model.specs.Walks.{IsWalk}
 use Rattle.surf_model.specs.FreeWalks.{HasNoSpur, IsAlongTree, RankFalls}
 use Rattle.surf_model.proofs.TreeWalkLemmas.{one_tree_walk}
-use Rattle.halfedge_map.specs.Numbers.{count_below}
+use Rattle.surf_model.specs.Numbers.{count_below}
 use Rattle.halfedge_map.specs.OrientedMeshes.{OrientedMesh, IsOrientedSurface}
 use Rattle.halfedge_map.specs.DartMaps.{darts_of, edge_of, origin_of, twin_of}
 use Rattle.halfedge_map.specs.RotationSystems.{rotations_of, IsRotationSystem, IsDartFrom}

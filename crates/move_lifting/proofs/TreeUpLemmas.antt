@@ -8,7 +8,7 @@ use Rattle.surf_model.specs.Vertices.{numbers}
 use Rattle.surf_model.specs.declared.names.VertexName.{VertexName}
 use Rattle.halfedge_map.specs.OrientedMeshes.{OrientedMesh, IsOrientedSurface}
 use Rattle.halfedge_map.specs.DartMaps.{darts_of, origin_of, twin_of}
-use Rattle.halfedge_map.specs.Numbers.{count_below}
+use Rattle.surf_model.specs.Numbers.{count_below}
 use Rattle.halfedge_map.specs.RotationSystems.{rotations_of}
 use Rattle.halfedge_map.proofs.SystemLemmas.{rotation_system, names_all}
 use Rattle.tree_cotree.specs.Splits.{SplitView, IsSplit, StepsToParent, parent_dart}

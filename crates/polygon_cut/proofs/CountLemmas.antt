@@ -1,7 +1,7 @@
 -- Counting the numbers below a bound that pass a test: along a permutation, and over the darts of edges.
 use Rattle.std.proofs.Common.{◌≡◌, ◌≢◌, inl, inr, ℕ, zero, suc, ◌+◌, ◌*◌, ◌<◌, ◌≤◌, Bool, true, false, ◌&&◌, ◌||◌, cond, eqb, ltb, refl, ap, sym, ◌∙◌, subst, arith}
 use Rattle.std.proofs.lemmas.Bool.{cases_Bool, cases_eq, cases_lt, both_ways, eqb-true, eq-eqb, ltb-true, lt-ltb}
-use Rattle.halfedge_map.specs.Numbers.{count_below}
+use Rattle.surf_model.specs.Numbers.{count_below}
 use Rattle.halfedge_map.specs.RotationSystems.{Rotations, IsRotationSystem}
 use Rattle.tree_cotree.specs.RingCounts.{any_below}
 use Rattle.tree_cotree.proofs.ClassLemmas.{count_same, count_less, found_below, passes_below}

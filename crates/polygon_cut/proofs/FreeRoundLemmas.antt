@@ -5,7 +5,7 @@ use Rattle.std.proofs.lemmas.Bool.{eqb-true, eq-eqb, and_parts}
 use Rattle.surf_model.specs.FaceLists.{face_at, next_corner, corners_from}
 use Rattle.surf_model.proofs.RoundLemmas.{corner_after}
 use Rattle.surf_model.proofs.EdgeLemmas.{step_within}
-use Rattle.halfedge_map.specs.Numbers.{first_below}
+use Rattle.surf_model.specs.Numbers.{first_below}
 use Rattle.halfedge_map.specs.Orbits.{after_steps}
 use Rattle.halfedge_map.specs.OrientedMeshes.{OrientedMesh, IsOrientedSurface}
 use Rattle.halfedge_map.specs.DartMaps.{darts_of, next_of, twin_of, origin_of, target_of, face_of, edge_of}

@@ -4,7 +4,7 @@ use Rattle.std.specs.Prelude.{length, slice_index, if◌then◌else◌}
 use Rattle.std.proofs.lemmas.Bool.{cases_eq}
 use Rattle.surf_model.specs.Walks.{IsWalk, HaveCommonEnds}
 use Rattle.surf_model.specs.Moves.{Homotopic}
-use Rattle.halfedge_map.specs.Numbers.{count_below}
+use Rattle.surf_model.specs.Numbers.{count_below}
 use Rattle.halfedge_map.specs.OrientedMeshes.{OrientedMesh, IsOrientedSurface}
 use Rattle.halfedge_map.specs.DartMaps.{darts_of, edge_of}
 use Rattle.halfedge_map.proofs.EdgeLemmas.{dart_between}

@@ -4,7 +4,7 @@ use Rattle.std.specs.Prelude.{IsTrue, Option, Some, None}
 use Rattle.std.proofs.lemmas.Bool.{cases_Bool, both_ways, eqb-true, eq-eqb, or_right}
 use Rattle.surf_model.specs.FaceLists.{is_used, is_edge}
 use Rattle.surf_model.specs.Surfaces.{IsPath}
-use Rattle.halfedge_map.specs.Numbers.{count_below}
+use Rattle.surf_model.specs.Numbers.{count_below}
 use Rattle.halfedge_map.specs.OrientedMeshes.{OrientedMesh, IsOrientedSurface}
 use Rattle.halfedge_map.specs.DartMaps.{darts_of}
 use Rattle.halfedge_map.specs.RotationSystems.{Rotations, rotations_of, IsRotationSystem}

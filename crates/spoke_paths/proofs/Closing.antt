@@ -8,7 +8,7 @@ use Rattle.turn_words.specs.Modulo.{add, minus}
 use Rattle.turn_words.specs.Wheels.{IsWheel}
 use Rattle.turn_words.specs.SpokePaths.{place_round}
 use Rattle.turn_words.specs.Lemmas.Sums.{add-cases, minus-cases, add-lt, minus-lt, add-zero}
-use Rattle.spoke_paths.specs.PathTurns.{from_vertex, turn_of, Opens, IsTurnedOver, IsClosed}
+use Rattle.spoke_paths.specs.PathTurns.{from_vertex, turn_of, Opens, IsTurnedOver, IsBracketClosed}
 use Rattle.spoke_paths.proofs.Turning.{from-next, not-not}
 
 -- what is known while the quads are gone round: the turn at `at` still closes, or is 0 where the bracket opened
@@ -202,7 +202,7 @@ module _ (places : List ℕ) (wheel : IsWheel places) (start one back two run : 
       same-place places wheel b (get_or now (start - 1) 0) (get_or now start 0) y_in x_in (sym (places_same ∙ add-zero d _ y_round))
 
   pub closed-is : (old now : List ℕ) (at : ℕ) → at ≡ start → 1 ≤ start → start + 1 < length old → All (λ spoke. spoke < length places) now →
-      Closing places start one back run old now at → IsClosed places start back run old (remove (remove now start) (start - 1))
+      Closing places start one back run old now at → IsBracketClosed places start back run old (remove (remove now start) (start - 1))
   closed-is old now at at_is positive more below c =
       let d = length places in
       let as_long = c.as_long in

@@ -10,7 +10,7 @@ use Rattle.turn_words.specs.Wheels.{IsWheel}
 use Rattle.turn_words.specs.SpokePaths.{place_round, turns_after, turn_word_of}
 use Rattle.turn_words.specs.Lemmas.Sums.{add-cases, minus-cases, add-lt, minus-lt}
 use Rattle.spoke_paths.specs.ReducedWords.{closes, HasNoBracket, IsReduced}
-use Rattle.spoke_paths.specs.PathTurns.{from_vertex, turn_of, Opens, EndsNothing, IsShort, IsClosed}
+use Rattle.spoke_paths.specs.PathTurns.{from_vertex, turn_of, Opens, EndsNothing, IsShort, IsBracketClosed}
 use Rattle.spoke_paths.proofs.Turning.{from-next}
 use Rattle.spoke_paths.proofs.Closing.{Signs, signs-of}
 
@@ -55,7 +55,7 @@ turn-before : (places old new : List ℕ) (start one two back run at : ℕ) → 
     → 1 ≤ at → start + 1 < length old →
     turn_of places old at < length places → turn_of places old start ≡ one → ((s : ℕ) → ¬ Opens places old one two s start)
     → turn_of places old at ≢ 0 →
-    IsClosed places start back run old new → Ends places new one two back at
+    IsBracketClosed places start back run old new → Ends places new one two back at
 turn-before places old new start one two back run at signs at_is positive more x_in opening none not_zero c =
     let d = length places in
     let x = turn_of places old at in
@@ -129,7 +129,7 @@ pub short-closed : (places old new : List ℕ) (up : Bool) (start : ℕ) → 4 �
     ((at : ℕ) → 1 ≤ at → at < length old → turn_of places old at < length places) →
     ((at : ℕ) → 1 ≤ at → at + 1 < length old → EndsNothing places old at) →
     Opens places old (if up then minus (length places) 1 else 1) (if up then minus (length places) 2 else 2) start (length old - 1) →
-    IsClosed places start (if up then 1 else minus (length places) 1) (if up then 2 else minus (length places) 2) old new
+    IsBracketClosed places start (if up then 1 else minus (length places) 1) (if up then 2 else minus (length places) 2) old new
     → IsShort places new
 short-closed places old new up start four turns short opens c at positive at_in =
     let d = length places in

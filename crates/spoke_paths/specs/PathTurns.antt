@@ -59,7 +59,7 @@ pub record IsTurnedOver (places : List ℕ) (at one back : ℕ) (old new : List 
 
 -- what is known once a bracket is closed, which opened at a number and ended at the last spoke: the two spokes before
 -- it are gone, the turn there changed by `back`, and the turns behind are `run`
-pub record IsClosed (places : List ℕ) (start back run : ℕ) (old new : List ℕ) : Type 0 where
+pub record IsBracketClosed (places : List ℕ) (start back run : ℕ) (old new : List ℕ) : Type 0 where
   pub shorter : length new + 2 ≡ length old
   pub same : (k : ℕ) → k + 1 < start → slice_index new k ≡ slice_index old k
   pub turn : 2 ≤ start → turn_of places new (start - 1) ≡ add (length places) (turn_of places old (start - 1)) back

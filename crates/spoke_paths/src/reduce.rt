@@ -5,7 +5,7 @@ ghost use Rattle.turn_words.specs.Modulo.{minus};
 ghost use Rattle.turn_words.specs.Wheels.{IsWheel};
 ghost use Rattle.turn_words.specs.SpokePaths.{turn_word_of};
 ghost use Rattle.spoke_paths.specs.PathSteps.{PathLeads};
-ghost use Rattle.spoke_paths.specs.PathTurns.{turn_of, Opens, EndsNothing, IsShort, HasQuads, IsClosed, LeadsOn};
+ghost use Rattle.spoke_paths.specs.PathTurns.{turn_of, Opens, EndsNothing, IsShort, HasQuads, IsBracketClosed, LeadsOn};
 ghost use Rattle.spoke_paths.specs.ReducedWords.{IsReduced};
 
 use crate::step::PathStep;
@@ -97,7 +97,7 @@ fn close(
     requires closes { turn_of wheel.now front.old.items (length front.old.items - 1)
         ≡ (if up then minus (length wheel.now) 1 else 1) }
     ensures below { OnOk result (All (λ spoke. spoke < length wheel.now) front.new.items) }
-    ensures closed { OnOk result (IsClosed wheel.now start (if up then 1 else minus (length wheel.now) 1)
+    ensures closed { OnOk result (IsBracketClosed wheel.now start (if up then 1 else minus (length wheel.now) 1)
         (if up then 2 else minus (length wheel.now) 2) front.old.items front.new.items) }
     ensures leads { OnOk result (LeadsOn wheel.now steps.old.items front.old.items steps.new.items front.new.items) }
 {

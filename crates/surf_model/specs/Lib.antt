@@ -1,3 +1,4 @@
+pub mod Numbers
 pub mod Vertices
 pub mod Parts
 pub mod FaceLists

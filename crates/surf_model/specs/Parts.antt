@@ -40,7 +40,7 @@ abbrev pub joined_ends : ℕ → ℕ → List ℕ → List ℕ
 joined_ends size count rest = equal_ends size count ++ map (λ end. size * count + end) rest
 
 -- what holds of such parts
-pub record AreJoined (size count : ℕ) (rest : List ℕ) : Type 0 where
+pub record AreJoinedParts (size count : ℕ) (rest : List ℕ) : Type 0 where
   pub some : 0 < count → 0 < size
   pub few : count + length rest ≤ size * count + last_end rest
   pub room : size * count + last_end rest ≤ MOST_SIDES

@@ -23,13 +23,13 @@ pub(crate) struct Parts {
 
 impl Model for Parts {
     ghost use Rattle.std.specs.Prelude.{ℕ, List};
-    ghost use Rattle.surf_model.specs.Parts.{joined_ends, AreJoined};
+    ghost use Rattle.surf_model.specs.Parts.{joined_ends, AreJoinedParts};
 
     ghost Value = { List ℕ };
 
     ghost view = { λ a. joined_ends a.size a.count a.rest };
 
-    ghost invariant = { λ a. AreJoined a.size a.count a.rest };
+    ghost invariant = { λ a. AreJoinedParts a.size a.count a.rest };
 }
 
 impl Parts {

@@ -2,7 +2,7 @@
 -- one class less.
 use Rattle.std.proofs.Common.{◌≡◌, ◌≢◌, ◌⊎◌, inl, inr, ℕ, zero, suc, ◌<◌, ◌≤◌, Bool, true, false, not, refl, ap, sym, ◌∙◌, subst, arith}
 use Rattle.std.proofs.lemmas.Bool.{cases_Bool, cases_lt, cases_eq, or_cases, or_left, or_right, both_ways}
-use Rattle.halfedge_map.specs.Numbers.{count_below}
+use Rattle.surf_model.specs.Numbers.{count_below}
 use Rattle.tree_cotree.specs.RingCounts.{any_below, is_least, class_count}
 
 -- some number below n passes exactly where the test finds one

@@ -10,7 +10,7 @@ use Rattle.surf_model.specs.FaceLists.{is_used}
 use Rattle.surf_model.specs.Surfaces.{IsPath, AreJoined}
 use Rattle.connectivity.specs.Classes.{joined_at}
 use Rattle.connectivity.proofs.Joining.{joined_at_same, joined_at_ends, joined_refl, joined_step, joined_trans}
-use Rattle.halfedge_map.specs.Numbers.{count_below}
+use Rattle.surf_model.specs.Numbers.{count_below}
 use Rattle.halfedge_map.specs.OrientedMeshes.{OrientedMesh, IsOrientedSurface}
 use Rattle.halfedge_map.specs.RotationSystems.{Rotations, rotations_of, IsRotationSystem, IsDartStep, IsDartFrom}
 use Rattle.halfedge_map.proofs.SystemLemmas.{rotation_system, names_all}

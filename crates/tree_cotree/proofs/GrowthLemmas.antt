@@ -2,7 +2,7 @@
 -- the vertices, and each edge is put in; of the cotree they begin as the faces, and each edge is taken out.
 use Rattle.std.proofs.Common.{◌≡◌, ◌≢◌, ◌⊎◌, inl, inr, ℕ, zero, suc, ◌+◌, ◌-◌, ◌<◌, ◌≤◌, Bool, true, false, not, List, [], ◌∷◌, refl, ap, sym, ◌∙◌, subst, arith}
 use Rattle.std.proofs.lemmas.Bool.{cases_Bool, both_ways}
-use Rattle.halfedge_map.specs.Numbers.{count_below}
+use Rattle.surf_model.specs.Numbers.{count_below}
 use Rattle.surf_model.specs.Surfaces.{IsPath}
 use Rattle.halfedge_map.specs.Orbits.{IsReached}
 use Rattle.tree_cotree.specs.RingCounts.{exchanged}

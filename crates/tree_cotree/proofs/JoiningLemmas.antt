@@ -8,7 +8,7 @@ use Rattle.connectivity.specs.Classes.{joined_at, AreLeastMembers}
 use Rattle.connectivity.specs.Partitions.{JoinsOnlyBySteps}
 use Rattle.connectivity.proofs.Joining.{joined_keep, joins_only-alone, joins_only-joined_at, length-joined_at, joined_at_ends, joined_at_keeps}
 use Rattle.connectivity.proofs.Joining.{high_at, low_at, joined_at_high, joined_at_other, either_way, entries_own, least_range, least_joined_at, high_gone, others_own}
-use Rattle.halfedge_map.specs.Numbers.{count_below}
+use Rattle.surf_model.specs.Numbers.{count_below}
 use Rattle.halfedge_map.specs.RotationSystems.{Rotations, IsRotationSystem}
 use Rattle.tree_cotree.specs.SpanningTrees.{IsStepIn, StepsIn, IsSpanningTree}
 use Rattle.tree_cotree.specs.Joinings.{AreEnds, HangTogether}

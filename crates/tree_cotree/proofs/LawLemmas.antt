@@ -1,7 +1,7 @@
 -- The laws of splits, from those of rotation systems.
 use Rattle.std.proofs.Common.{◌≡◌, ℕ, zero, suc, ◌+◌, ◌*◌, ◌<◌, true, not, length, refl, arith}
 use Rattle.surf_model.specs.FaceLists.{is_used}
-use Rattle.halfedge_map.specs.Numbers.{count_below}
+use Rattle.surf_model.specs.Numbers.{count_below}
 use Rattle.halfedge_map.specs.OrientedMeshes.{OrientedMesh, IsOrientedSurface}
 use Rattle.halfedge_map.specs.DartMaps.{used_vertices}
 use Rattle.halfedge_map.specs.RotationSystems.{rotations_of, NamesAll}

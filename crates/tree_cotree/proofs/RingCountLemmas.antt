@@ -1,7 +1,7 @@
 -- The rings of the set without edges, and of the set of all edges: they are the vertices, and the faces.
 use Rattle.std.proofs.Common.{◌≡◌, ℕ, ◌<◌, Bool, true, false, length, slice_index, ap, sym, ◌∙◌}
 use Rattle.surf_model.specs.FaceLists.{is_used}
-use Rattle.halfedge_map.specs.Numbers.{count_below}
+use Rattle.surf_model.specs.Numbers.{count_below}
 use Rattle.halfedge_map.specs.Orbits.{IsReached}
 use Rattle.halfedge_map.specs.OrientedMeshes.{OrientedMesh, IsOrientedSurface}
 use Rattle.halfedge_map.specs.DartMaps.{used_vertices}

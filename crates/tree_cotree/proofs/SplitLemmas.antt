@@ -2,7 +2,7 @@
 -- are closed under crossing edges, and the number of leftover edges, which is even.
 use Rattle.std.proofs.Common.{◌≡◌, inl, inr, ℕ, zero, suc, ◌+◌, ◌<◌, ◌≤◌, Bool, true, false, not, eqb, cond, refl, ap, sym, ◌∙◌, subst, arith}
 use Rattle.std.proofs.lemmas.Bool.{cases_Bool, cases_eq}
-use Rattle.halfedge_map.specs.Numbers.{count_below}
+use Rattle.surf_model.specs.Numbers.{count_below}
 use Rattle.halfedge_map.specs.Orbits.{after_steps, IsReached}
 use Rattle.tree_cotree.specs.RingCounts.{any_below, meets, is_least, ring_count}
 use Rattle.halfedge_map.specs.RotationSystems.{Rotations, IsRotationSystem}

@@ -4,7 +4,7 @@ use Rattle.std.proofs.Math.ListN.{set}
 use Rattle.std.specs.Prelude.{Option, Some, None, is_some}
 use Rattle.std.proofs.lemmas.Bool.{cases_Bool, cases_eq, cases_lt, both_ways}
 use Rattle.surf_model.specs.Surfaces.{IsPath, AreJoined}
-use Rattle.halfedge_map.specs.Numbers.{count_below}
+use Rattle.surf_model.specs.Numbers.{count_below}
 use Rattle.halfedge_map.specs.RotationSystems.{Rotations, IsRotationSystem, IsDartStep, IsDartFrom}
 use Rattle.tree_cotree.specs.SpanningTrees.{StepsIn}
 use Rattle.std.proofs.lemmas.List.{get_or-set_same, get_or-set_other, length-set}

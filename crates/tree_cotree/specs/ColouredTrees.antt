@@ -1,6 +1,6 @@
 -- Edges that are coloured with no ways to a root: what a colouring by joined classes has before a split is known to which it belongs.
 use Rattle.std.specs.Prelude.{◌≡◌, ℕ, ◌*◌, ◌<◌, true, [], length}
-use Rattle.halfedge_map.specs.Numbers.{count_below}
+use Rattle.surf_model.specs.Numbers.{count_below}
 use Rattle.halfedge_map.specs.OrientedMeshes.{OrientedMesh}
 use Rattle.halfedge_map.specs.RotationSystems.{rotations_of}
 use Rattle.tree_cotree.specs.Splits.{SplitView, HasTrees, is_left}

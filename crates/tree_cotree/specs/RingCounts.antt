@@ -1,7 +1,7 @@
 -- The rings (orbits) of a permutation of the numbers below n, and how many they are.
 use Rattle.std.specs.Prelude.{ℕ, zero, suc, Bool, false, not, ◌==◌, ◌||◌, if◌then◌else◌}
 use Rattle.halfedge_map.specs.Orbits.{after_steps}
-use Rattle.halfedge_map.specs.Numbers.{count_below}
+use Rattle.surf_model.specs.Numbers.{count_below}
 
 -- whether some number below n passes
 abbrev pub any_below : (ℕ → Bool) → ℕ → Bool

@@ -1,7 +1,7 @@
 -- Sets of edges on a rotation system: the rings that they leave, and spanning trees and cotrees. A set is a test on the
 -- numbers of the edges.
 use Rattle.std.specs.Prelude.{◌≡◌, ℕ, ◌+◌, ◌<◌, Bool, true, if◌then◌else◌}
-use Rattle.halfedge_map.specs.Numbers.{count_below}
+use Rattle.surf_model.specs.Numbers.{count_below}
 use Rattle.halfedge_map.specs.Orbits.{IsReached}
 use Rattle.surf_model.specs.Surfaces.{AreJoined}
 use Rattle.halfedge_map.specs.RotationSystems.{Rotations}

@@ -4,7 +4,7 @@ ghost use Rattle.std.specs.Prelude.{◌≡◌, ◌≢◌, ◌↔◌, ℕ, ◌+�
 ghost use Rattle.surf_model.specs.FaceLists.{FaceList, IsFaceList, is_used};
 ghost use Rattle.surf_model.specs.Edges.{Edge, IsTableOf};
 ghost use Rattle.surf_model.specs.Surfaces.{IsSurface};
-ghost use Rattle.halfedge_map.specs.Numbers.{count_below};
+ghost use Rattle.surf_model.specs.Numbers.{count_below};
 ghost use Rattle.halfedge_map.specs.OrientedMeshes.{OrientedMesh, IsOrientedSurface};
 ghost use Rattle.halfedge_map.specs.DartMaps.{used_vertices};
 ghost use Rattle.halfedge_map.specs.RotationSystems.{rotations_of};

@@ -1,6 +1,6 @@
 //! Edges that are given a kind by the darts that a search keeps.
 ghost use Rattle.std.specs.Prelude.{◌≡◌, ◌<◌, ◌^◌, ℕ, true, false, length, Some};
-ghost use Rattle.halfedge_map.specs.Numbers.{count_below};
+ghost use Rattle.surf_model.specs.Numbers.{count_below};
 ghost use Rattle.halfedge_map.specs.OrientedMeshes.{IsOrientedSurface};
 ghost use Rattle.halfedge_map.specs.DartMaps.{darts_of, edge_of};
 ghost use Rattle.halfedge_map.specs.RotationSystems.{rotations_of};

@@ -9,7 +9,8 @@ use Rattle.surf_model.specs.Walks.{darts, IsWalk}
 use Rattle.walk_files.specs.declared.entries.EntryFault.{EntryFault}
 use Rattle.walk_files.specs.declared.entries.EntryFault.TheVariants.{NoVertex, NoEdge}
 use Rattle.std.specs.List.{find, range_with_len}
-use Rattle.walk_files.specs.Entries.{least_below, vertex_fault, edge_fault, first_fault}
+use Rattle.surf_model.specs.Numbers.{first_below}
+use Rattle.walk_files.specs.Entries.{vertex_fault, edge_fault, first_fault}
 
 none_from : (test : ℕ → Bool) (a n : ℕ) → ((k : ℕ) → a ≤ k → k < a + n → test k ≡ false) → find test (range_with_len a n) ≡ None
 none_from test a zero h = refl
@@ -17,8 +18,8 @@ none_from test a (suc n) h =
     ap (λ b. cond b (Some a) (find test (range_with_len (a + 1) n))) (h a (omega arith) (omega arith))
     ∙ none_from test (a + 1) n (λ k low high. h k (omega arith) (omega arith))
 
-pub least_below-none : (test : ℕ → Bool) (n : ℕ) → ((k : ℕ) → k < n → test k ≡ false) → least_below test n ≡ None
-least_below-none test n h = none_from test 0 n (λ k low high. h k (omega arith))
+pub first_below-none : (test : ℕ → Bool) (n : ℕ) → ((k : ℕ) → k < n → test k ≡ false) → first_below test n ≡ None
+first_below-none test n h = none_from test 0 n (λ k low high. h k (omega arith))
 
 some_from : (test : ℕ → Bool) (a n i : ℕ) → a ≤ i → i < a + n → test i ≡ true → ((k : ℕ) → a ≤ k → k < i → test k ≡ false)
     → find test (range_with_len a n) ≡ Some i
@@ -31,9 +32,9 @@ some_from test a (suc n) i low high here before =
           ∙ some_from test (a + 1) n i (omega arith) (omega arith) here (λ k above below. before k (omega arith) below)
     ]
 
-pub least_below-some : (test : ℕ → Bool) (n i : ℕ) → i < n → test i ≡ true → ((k : ℕ) → k < i → test k ≡ false)
-    → least_below test n ≡ Some i
-least_below-some test n i high here before = some_from test 0 n i (omega arith) (omega arith) here (λ k low less. before k less)
+pub first_below-some : (test : ℕ → Bool) (n i : ℕ) → i < n → test i ≡ true → ((k : ℕ) → k < i → test k ≡ false)
+    → first_below test n ≡ Some i
+first_below-some test n i high here before = some_from test 0 n i (omega arith) (omega arith) here (λ k low less. before k less)
 
 by_first : (b : Bool) (a : ℕ) (rest : Option ℕ) → cond b (Some a) rest ≡ None → (b ≡ false) × (rest ≡ None)
 by_first true a rest e = cc
@@ -49,21 +50,21 @@ all_false test a (suc n) none k low high =
     ]
 
 -- where no number below n passes the test, it is false at each
-pub least_below-false : (test : ℕ → Bool) (n : ℕ) → least_below test n ≡ None → (k : ℕ) → k < n → test k ≡ false
-least_below-false test n none k less = all_false test 0 n none k (omega arith) (omega arith)
+pub first_below-false : (test : ℕ → Bool) (n : ℕ) → first_below test n ≡ None → (k : ℕ) → k < n → test k ≡ false
+first_below-false test n none k less = all_false test 0 n none k (omega arith) (omega arith)
 
 map-none : (f : ℕ → EntryFault) (o : Option ℕ) → option_map f o ≡ None → o ≡ None
 map-none f None e = refl
 map-none f (Some x) e = cc
 
 -- where no place is at fault, the test is false at each
-no_fault_at : (test : ℕ → Bool) (n : ℕ) (f : ℕ → EntryFault) → option_map f (least_below test n) ≡ None → (k : ℕ) → k < n → test k ≡ false
-no_fault_at test n f e = least_below-false test n (map-none f (least_below test n) e)
+no_fault_at : (test : ℕ → Bool) (n : ℕ) (f : ℕ → EntryFault) → option_map f (first_below test n) ≡ None → (k : ℕ) → k < n → test k ≡ false
+no_fault_at test n f e = first_below-false test n (map-none f (first_below test n) e)
 
 -- where all places pass, none is at fault
 none_at_fault : (test : ℕ → Bool) (n : ℕ) (f : ℕ → EntryFault) → ((k : ℕ) → k < n → test k ≡ false)
-    → option_map f (least_below test n) ≡ None
-none_at_fault test n f h = ap (option_map f) (least_below-none test n h)
+    → option_map f (first_below test n) ≡ None
+none_at_fault test n f h = ap (option_map f) (first_below-none test n h)
 
 pub both_none : {A : Type 0} (a b : Option A) → option_or a b ≡ None → (a ≡ None) × (b ≡ None)
 both_none None b e = (refl, e)

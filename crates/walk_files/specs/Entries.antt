@@ -1,24 +1,20 @@
 -- Walks of a mesh, any number of them, and what is first wrong with a list of walks.
-use Rattle.std.specs.Prelude.{ℕ, ◌+◌, Bool, not, List, [], ◌∷◌, length, slice_index, Option, None, option_map}
+use Rattle.std.specs.Prelude.{ℕ, ◌+◌, not, List, [], ◌∷◌, length, slice_index, Option, None, option_map}
 use Rattle.std.specs.Option.{option_or}
-use Rattle.std.specs.List.{find, range_with_len}
 use Rattle.surf_model.specs.FaceLists.{FaceList, is_edge, is_used}
+use Rattle.surf_model.specs.Numbers.{first_below}
 use Rattle.surf_model.specs.Walks.{darts}
 use Rattle.walk_files.specs.declared.entries.EntryFault.{EntryFault}
 use Rattle.walk_files.specs.declared.entries.EntryFault.TheVariants.{NoVertex, NoEdge}
 
--- the least number below n that passes the test
-abbrev pub least_below : (ℕ → Bool) → ℕ → Option ℕ
-least_below test n = find test (range_with_len 0 n)
-
 -- the least place of the walk whose entry is not used; walks are counted from 1, places from 0
 abbrev pub vertex_fault : FaceList → ℕ → List ℕ → Option EntryFault
-vertex_fault mesh number walk = option_map (NoVertex number) (least_below (λ k. not (is_used mesh (slice_index walk k))) (length walk))
+vertex_fault mesh number walk = option_map (NoVertex number) (first_below (λ k. not (is_used mesh (slice_index walk k))) (length walk))
 
 -- the least place of the walk whose entry forms no edge with the next one
 abbrev pub edge_fault : FaceList → ℕ → List ℕ → Option EntryFault
 edge_fault mesh number walk =
-    option_map (NoEdge number) (least_below (λ k. not (is_edge mesh (slice_index walk k) (slice_index walk (k + 1)))) (darts walk))
+    option_map (NoEdge number) (first_below (λ k. not (is_edge mesh (slice_index walk k) (slice_index walk (k + 1)))) (darts walk))
 
 -- the fault of the first walk that has one, of walks that are numbered from `number` on
 abbrev pub first_fault : (ℕ → List ℕ → Option EntryFault) → ℕ → List (List ℕ) → Option EntryFault

@@ -1,6 +1,6 @@
 use Rattle.std.proofs.Common.{◌≡◌, ◌≤◌}
 use Rattle.surf_model.specs.FaceLists.{is_used}
-use Rattle.halfedge_map.specs.Numbers.{count_below}
+use Rattle.surf_model.specs.Numbers.{count_below}
 use Rattle.halfedge_map.proofs.darts.used_vertices.Given as goal
 
 abbrev pub invariant-loop-v : goal.invariant-loop-v

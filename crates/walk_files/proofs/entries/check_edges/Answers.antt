@@ -3,7 +3,7 @@ use Rattle.std.specs.Prelude.{not, slice_index, is_some, option_map}
 use Rattle.surf_model.specs.FaceLists.{is_edge}
 use Rattle.surf_model.specs.Walks.{darts}
 use Rattle.walk_files.specs.declared.entries.EntryFault.TheVariants.{NoEdge}
-use Rattle.walk_files.proofs.EntryLemmas.{least_below-some, least_below-none}
+use Rattle.walk_files.proofs.EntryLemmas.{first_below-some, first_below-none}
 use Rattle.walk_files.proofs.entries.check_edges.Goals as goal
 
 pub returns-then-is_none : goal.returns-then-is_none
@@ -17,7 +17,7 @@ returns-then-is_none c = λ mesh table.
     ∙ sym (c.between.ensures.edge mesh table) ∙ none in
     sym
     (ap (option_map (NoEdge c.args.number))
-    (least_below-some (λ k. not (is_edge mesh (slice_index walk k) (slice_index walk (k + 1)))) (darts walk) here (omega arith)
+    (first_below-some (λ k. not (is_edge mesh (slice_index walk k) (slice_index walk (k + 1)))) (darts walk) here (omega arith)
     (ap not no_edge)
     (λ k less. ap not (c.loop-place.invariant mesh table k less))))
 
@@ -26,5 +26,5 @@ returns c = λ mesh table.
     let walk = c.args.walk.now in
     sym
     (ap (option_map (NoEdge c.args.number))
-    (least_below-none (λ k. not (is_edge mesh (slice_index walk k) (slice_index walk (k + 1)))) (darts walk)
+    (first_below-none (λ k. not (is_edge mesh (slice_index walk k) (slice_index walk (k + 1)))) (darts walk)
     (λ k less. ap not (c.loop-place.invariant mesh table k (omega arith)))))

@@ -2,7 +2,7 @@ use Rattle.std.proofs.Common.{◌≡◌, ℕ, ◌+◌, ◌<◌, true, false, len
 use Rattle.std.specs.Prelude.{not, slice_index, option_map}
 use Rattle.surf_model.specs.FaceLists.{is_used}
 use Rattle.walk_files.specs.declared.entries.EntryFault.TheVariants.{NoVertex}
-use Rattle.walk_files.proofs.EntryLemmas.{least_below-some, least_below-none}
+use Rattle.walk_files.proofs.EntryLemmas.{first_below-some, first_below-none}
 use Rattle.walk_files.proofs.entries.check_vertices.Goals as goal
 
 pub returns-then-not-used : goal.returns-then-not-used
@@ -12,7 +12,7 @@ returns-then-not-used c = λ mesh table.
     ap (is_used mesh) (sym c.at.ensures) ∙ sym (c.used.ensures.mesh mesh table) ∙ c.if-not-used.true in
     sym
     (ap (option_map (NoVertex c.args.number))
-    (least_below-some (λ k. not (is_used mesh (slice_index walk k))) (length walk) c.loop-place.place (omega arith) (ap not unused)
+    (first_below-some (λ k. not (is_used mesh (slice_index walk k))) (length walk) c.loop-place.place (omega arith) (ap not unused)
     (λ k less. ap not (c.loop-place.invariant mesh table k less))))
 
 pub returns-else-not-used : goal.returns-else-not-used
@@ -24,4 +24,4 @@ returns-else-not-used c = λ mesh table.
     below_more (λ k. is_used mesh (slice_index walk k) ≡ true) c.loop-place.place (c.loop-place.invariant mesh table) used in
     sym
     (ap (option_map (NoVertex c.args.number))
-    (least_below-none (λ k. not (is_used mesh (slice_index walk k))) (length walk) (λ k less. ap not (all_used k (omega arith)))))
+    (first_below-none (λ k. not (is_used mesh (slice_index walk k))) (length walk) (λ k less. ap not (all_used k (omega arith)))))
