@@ -1,7 +1,7 @@
 -- The files that commands look at, and the commands: the check of each has an end, and one where its files are told.
-use Rattle.std.proofs.Common.{◌≡◌, inr, ℕ, List, [], ◌∷◌, length, refl, sym, subst}
-use Rattle.std.specs.Prelude.{Option}
-use Rattle.surf_io.specs.Files.{Files}
+use Rattle.std.proofs.Common.{◌≡◌, inr, ℕ, ◌≤◌, List, [], ◌∷◌, length, refl, sym, subst}
+use Rattle.std.specs.Prelude.{Option, Some, None, IsSomeAnd}
+use Rattle.surf_io.specs.Files.{Files, file_of}
 use Rattle.surf_model.specs.FaceLists.{FaceList}
 use Rattle.off_reader.specs.OffTexts.{meaning_of}
 use Rattle.walk_files.specs.Pairs.{IsPair, ends_fault, of_entry, pair_fault}
@@ -19,11 +19,12 @@ use Rattle.commands.proofs.WalkInputs.{no_fault_passes, sound-walks, walks_passe
 use Rattle.commands.specs.Answers.{Exactly}
 use Rattle.commands.specs.Certify.{certify, limit_fault}
 use Rattle.commands.specs.Checks.{Check, End, Passes, Holds, IsTold, ◌>>=◌}
-use Rattle.commands.specs.Inputs.{mesh_in, pair_in, walk_at, SpellsMesh, SpellsPair}
+use Rattle.commands.specs.Inputs.{IsInputWith, mesh_in, pair_in, walk_at, SpellsMesh, SpellsPair}
 use Rattle.commands.specs.Refusals.{off_line, pair_line}
 use Rattle.commands.specs.ClosedSurfaces.{IsOrientableSurface}
 use Rattle.commands.specs.Surface.{surface}
 use Rattle.commands.specs.SurfaceInput.{surface_in}
+use Rattle.commands.specs.declared.inputs.TheConstants.{MOST_BYTES}
 use Rattle.commands.specs.declared.surface.TheConstants.{MOST_COMPONENTS}
 
 -- ---- the files
@@ -33,6 +34,28 @@ sound-mesh held name = sound-then held _ _ (sound-file held name inputs.Mesh) (�
 
 pub sound-pair : (held : Option Files) (name : List ℕ) (mesh : FaceList) → IsSound held (pair_in held name mesh)
 sound-pair held name mesh = sound-walks pair_line (pair_fault mesh) held name
+
+some_and : {A : Type 0} (o : Option A) (P Q : A → Type 0) → ((x : A) → P x → Q x) → IsSomeAnd o P → IsSomeAnd o Q
+some_and None P Q more h = h
+some_and (Some x) P Q more h = more x h
+
+-- where such bytes are so, a certificate with such bytes is one with bytes that are so
+pub input_so : (keyword : List ℕ) (AreSuch AreSo : List ℕ → Type 0) (files : Option Files) (words : List (List ℕ)) (mesh : FaceList)
+    (first second : List ℕ)
+    → ((bytes : List ℕ) → AreSuch bytes → AreSo bytes) → IsInputWith keyword AreSuch files words mesh first second
+    → IsInputWith keyword AreSo files words mesh first second
+input_so keyword AreSuch AreSo files words mesh first second so h =
+    record {
+      mesh_name = h.mesh_name;
+      walks_name = h.walks_name;
+      certificate_name = h.certificate_name;
+      words_are = h.words_are;
+      mesh_file = h.mesh_file;
+      walks_file = h.walks_file;
+      certificate_file =
+          some_and (file_of files h.certificate_name) (λ bytes. (length bytes ≤ MOST_BYTES) × AreSuch bytes)
+          (λ bytes. (length bytes ≤ MOST_BYTES) × AreSo bytes) (λ bytes file. (file.0, so bytes file.1)) h.certificate_file;
+    }
 
 -- ---- the commands
 

@@ -13,7 +13,7 @@ use Rattle.walk_files.specs.declared.certificate.CertHead.{CertHead}
 use Rattle.walk_files.specs.declared.certificate.CertHead.TheVariants as heads
 use Rattle.walk_files.specs.declared.fault.CertFault.{CertFault}
 use Rattle.commands.specs.Answers.{Texts}
-use Rattle.commands.specs.Checks.{Check, End, Pass, Refuse, file, meant, pass_unless, where_told, ◌>>=◌}
+use Rattle.commands.specs.Checks.{Check, End, Holds, Pass, Refuse, file, meant, pass_unless, where_told, ◌>>=◌}
 use Rattle.commands.specs.Refusals.{off_line, numbers_line, pair_line, certificate_line, too_large}
 use Rattle.commands.specs.declared.certificate.Certificate.{Certificate}
 use Rattle.commands.specs.declared.certificate.Certificate.TheVariants.{Moves, Denial}
@@ -93,3 +93,17 @@ pub record SpellsPair (mesh : FaceList) (first second bytes : List ℕ) : Type 0
 -- a certificate
 abbrev pub SpellsCertificate : Certificate → List ℕ → Type 0
 SpellsCertificate certificate bytes = certificate_of bytes ≡ Ok certificate
+
+-- ---- what the words of a command name
+
+-- The words are this keyword and the names of three files, which are told: the first two stand for the mesh and for two walks of it with
+-- common ends, and the bytes of the third are such.
+pub record IsInputWith (keyword : List ℕ) (AreSuch : List ℕ → Type 0) (held : Option Files) (words : List (List ℕ)) (mesh : FaceList)
+    (first second : List ℕ) : Type 0 where
+  pub mesh_name : List ℕ
+  pub walks_name : List ℕ
+  pub certificate_name : List ℕ
+  pub words_are : words ≡ keyword ∷ mesh_name ∷ walks_name ∷ certificate_name ∷ []
+  pub mesh_file : Holds held mesh_name (SpellsMesh mesh)
+  pub walks_file : Holds held walks_name (SpellsPair mesh first second)
+  pub certificate_file : Holds held certificate_name AreSuch

@@ -1,7 +1,7 @@
 -- What `homology` prints spells its certificate again, and `verify-homology` accepts it.
-use Rattle.std.proofs.Common.{◌≡◌, ℕ, ◌≤◌, List, length, refl, ap, ◌∙◌}
-use Rattle.std.specs.Prelude.{◌++◌, Ok, Option, Some, None, IsSomeAnd}
-use Rattle.surf_io.specs.Files.{Files, file_of}
+use Rattle.std.proofs.Common.{◌≡◌, ℕ, List, refl, ap, ◌∙◌}
+use Rattle.std.specs.Prelude.{◌++◌, codes, Ok, Option}
+use Rattle.surf_io.specs.Files.{Files}
 use Rattle.surf_model.specs.FaceLists.{FaceList}
 use Rattle.text_scan.specs.Plain.{line_of}
 use Rattle.homology.specs.declared.certificate.HomologyCert.{HomologyCert}
@@ -10,8 +10,8 @@ use Rattle.homology.specs.declared.verdict.HomologyVerdict.TheVariants.{Accepted
 use Rattle.homology_files.specs.HomologyTexts.{answer_words, cert_of_text}
 use Rattle.homology_files.specs.WrittenTexts.{cert_text, kind_in}
 use Rattle.homology_files.proofs.RoundTrip.{reads_back_answered}
+use Rattle.commands.proofs.Rows.{input_so}
 use Rattle.commands.specs.HomologyCertificates.{ShowsHomology, answer_in, homology_line, homology_text}
-use Rattle.commands.specs.declared.inputs.TheConstants.{MOST_BYTES}
 use Rattle.commands.specs.declared.status.Status.{Status}
 use Rattle.homology_commands.specs.Homology.{IsHomologyPrinted}
 use Rattle.homology_commands.specs.PrintedHomology.{IsAccepted, IsVerifyOfText}
@@ -29,26 +29,12 @@ spelled mesh first second shown shows =
     ap (λ (answer : List ℕ). cert_of_text (answer ++ cert_text shown)) (answer_line shown)
     ∙ reads_back_answered shown shows.fits
 
-some_and : {A : Type 0} (o : Option A) (P Q : A → Type 0) → ((x : A) → P x → Q x) → IsSomeAnd o P → IsSomeAnd o Q
-some_and None P Q more h = h
-some_and (Some x) P Q more h = more x h
-
 -- a file of a text that spells the certificate
 verify_input : (files : Option Files) (words : List (List ℕ)) (mesh : FaceList) (first second text : List ℕ) (shown : HomologyCert)
     → cert_of_text text ≡ Ok shown → IsVerifyOfText files words mesh first second text → IsInput files words mesh first second shown
 verify_input files words mesh first second text shown spells h =
-    record {
-      mesh_name = h.mesh_name;
-      walks_name = h.walks_name;
-      certificate_name = h.certificate_name;
-      words_are = h.words_are;
-      mesh_file = h.mesh_file;
-      walks_file = h.walks_file;
-      certificate_file =
-          some_and (file_of files h.certificate_name) (λ bytes. (length bytes ≤ MOST_BYTES) × (bytes ≡ text))
-          (λ bytes. (length bytes ≤ MOST_BYTES) × (cert_of_text bytes ≡ Ok shown))
-          (λ bytes file. (file.0, ap cert_of_text file.1 ∙ spells)) h.certificate_file;
-    }
+    input_so (codes "verify-homology") (λ bytes. bytes ≡ text) (λ bytes. cert_of_text bytes ≡ Ok shown) files words mesh first second
+    (λ bytes is. ap cert_of_text is ∙ spells) h
 
 pub printed_accepted : (mesh : FaceList) (first second : List ℕ) (status : Status) (text : List ℕ)
     → (printed : IsHomologyPrinted mesh first second status text) → IsAccepted mesh first second printed.shown text

@@ -4,8 +4,7 @@ use Rattle.surf_io.specs.Files.{Files}
 use Rattle.surf_model.specs.FaceLists.{FaceList}
 use Rattle.homology.specs.declared.certificate.HomologyCert.{HomologyCert}
 use Rattle.homology_files.specs.HomologyTexts.{cert_of_text}
-use Rattle.commands.specs.Checks.{Holds}
-use Rattle.commands.specs.Inputs.{SpellsMesh, SpellsPair}
+use Rattle.commands.specs.Inputs.{IsInputWith}
 use Rattle.commands.specs.Lines.{line}
 use Rattle.commands.specs.Outcomes.{AnswersTo}
 use Rattle.commands.specs.declared.status.Status.{Status}
@@ -14,14 +13,9 @@ use Rattle.homology_commands.specs.VerifyHomology.{verify_homology}
 
 -- The words are those of `verify-homology`, and the three files that they name are told: the first two stand for the mesh and for two
 -- walks of it with common ends, and the third has this text.
-pub record IsVerifyOfText (held : Option Files) (words : List (List ℕ)) (mesh : FaceList) (first second text : List ℕ) : Type 0 where
-  pub mesh_name : List ℕ
-  pub walks_name : List ℕ
-  pub certificate_name : List ℕ
-  pub words_are : words ≡ codes "verify-homology" ∷ mesh_name ∷ walks_name ∷ certificate_name ∷ []
-  pub mesh_file : Holds held mesh_name (SpellsMesh mesh)
-  pub walks_file : Holds held walks_name (SpellsPair mesh first second)
-  pub certificate_file : Holds held certificate_name (λ bytes. bytes ≡ text)
+abbrev pub IsVerifyOfText : Option Files → (words : List (List ℕ)) → FaceList → (first second text : List ℕ) → Type 0
+IsVerifyOfText held words mesh first second text =
+    IsInputWith (codes "verify-homology") (λ bytes. bytes ≡ text) held words mesh first second
 
 -- The text spells the certificate; and what `verify-homology` answers of it, for the same mesh and walks, is `accepted` with status 0.
 pub record IsAccepted (mesh : FaceList) (first second : List ℕ) (shown : HomologyCert) (text : List ℕ) : Type 0 where

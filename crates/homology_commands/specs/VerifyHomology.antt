@@ -12,8 +12,8 @@ use Rattle.homology_files.specs.HomologyTexts.{cert_of_text}
 use Rattle.homology_files.specs.declared.fault.HomologyFault.{HomologyFault}
 use Rattle.homology_files.specs.declared.fault.HomologyFault.TheVariants as faults
 use Rattle.commands.specs.Answers.{Answer, Texts, NoText, Exactly}
-use Rattle.commands.specs.Checks.{Check, End, Refuse, Pass, Holds, file, meant, without_files, ◌>>=◌}
-use Rattle.commands.specs.Inputs.{mesh_in, pair_in, walk_at, SpellsMesh, SpellsPair}
+use Rattle.commands.specs.Checks.{Check, End, Refuse, Pass, file, meant, without_files, ◌>>=◌}
+use Rattle.commands.specs.Inputs.{IsInputWith, mesh_in, pair_in, walk_at}
 use Rattle.commands.specs.Lines.{line}
 use Rattle.commands.specs.Refusals.{told, told_at}
 use Rattle.commands.specs.declared.refusal.Input.TheVariants as inputs
@@ -54,15 +54,9 @@ fault_line faults.OutOfMemory = NoText
 
 -- The words are those of `verify-homology`, and the three files that they name are told and stand for a mesh, two walks of it with common
 -- ends, and a certificate: a chain, or a cocycle.
-pub record IsInput (held : Option Files) (words : List (List ℕ)) (mesh : FaceList) (first second : List ℕ) (certificate : HomologyCert)
-    : Type 0 where
-  pub mesh_name : List ℕ
-  pub walks_name : List ℕ
-  pub certificate_name : List ℕ
-  pub words_are : words ≡ codes "verify-homology" ∷ mesh_name ∷ walks_name ∷ certificate_name ∷ []
-  pub mesh_file : Holds held mesh_name (SpellsMesh mesh)
-  pub walks_file : Holds held walks_name (SpellsPair mesh first second)
-  pub certificate_file : Holds held certificate_name (λ bytes. cert_of_text bytes ≡ Ok certificate)
+abbrev pub IsInput : Option Files → (words : List (List ℕ)) → FaceList → (first second : List ℕ) → HomologyCert → Type 0
+IsInput held words mesh first second certificate =
+    IsInputWith (codes "verify-homology") (λ bytes. cert_of_text bytes ≡ Ok certificate) held words mesh first second
 
 -- what an accepted certificate shows: a chain that the walks are homologous, a cocycle that they are not
 abbrev pub ShownBy : FaceList → List ℕ → List ℕ → HomologyCert → Type 0

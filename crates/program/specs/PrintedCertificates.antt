@@ -2,9 +2,7 @@
 use Rattle.std.specs.Prelude.{◌≡◌, ℕ, List, [], codes, Option}
 use Rattle.surf_io.specs.Files.{Files}
 use Rattle.surf_model.specs.FaceLists.{FaceList}
-use Rattle.commands.specs.Checks.{Holds}
-use Rattle.program.specs.Commands.{IsRow, Verify}
-use Rattle.commands.specs.Inputs.{SpellsMesh, SpellsPair, SpellsCertificate}
+use Rattle.commands.specs.Inputs.{IsInputWith, SpellsCertificate}
 use Rattle.commands.specs.Lines.{line}
 use Rattle.commands.specs.Outcomes.{Outcome, IsAnswerOf}
 use Rattle.program.specs.Outcomes.{IsOutcome}
@@ -14,14 +12,8 @@ use Rattle.commands.specs.declared.status.Status.TheVariants.{Yes}
 
 -- The words are those of `verify`, and the three files that they name are told: the first two stand for the mesh and for two walks of it
 -- with common ends, and the third has this text.
-pub record IsVerifyOfText (held : Option Files) (words : List (List ℕ)) (mesh : FaceList) (first second text : List ℕ) : Type 0 where
-  pub mesh_name : List ℕ
-  pub walks_name : List ℕ
-  pub certificate_name : List ℕ
-  pub words_are : IsRow words (Verify mesh_name walks_name certificate_name)
-  pub mesh_file : Holds held mesh_name (SpellsMesh mesh)
-  pub walks_file : Holds held walks_name (SpellsPair mesh first second)
-  pub certificate_file : Holds held certificate_name (λ bytes. bytes ≡ text)
+abbrev pub IsVerifyOfText : Option Files → (words : List (List ℕ)) → FaceList → (first second text : List ℕ) → Type 0
+IsVerifyOfText held words mesh first second text = IsInputWith (codes "verify") (λ bytes. bytes ≡ text) held words mesh first second
 
 -- The text spells the certificate; and what `verify` answers of it, for the same mesh and walks, is `accepted` with status 0.
 pub record IsAccepted (mesh : FaceList) (first second : List ℕ) (shown : Certificate) (text : List ℕ) : Type 0 where

@@ -15,8 +15,8 @@ use Rattle.labellings.specs.DenialVerdicts.{IsVerdict}
 use Rattle.labellings.specs.declared.verdict.DenialVerdict.{DenialVerdict}
 use Rattle.labellings.specs.declared.verdict.DenialVerdict.TheVariants.{Accepted, Label, WordWrong, Equal}
 use Rattle.commands.specs.Answers.{Answer, Texts, NoText, Exactly, IsText}
-use Rattle.commands.specs.Checks.{Check, End, Refuse, Pass, Holds, pass, without_files, ◌>>=◌}
-use Rattle.commands.specs.Inputs.{mesh_in, pair_in, certificate_in, walk_at, SpellsMesh, SpellsPair, SpellsCertificate}
+use Rattle.commands.specs.Checks.{Check, End, Refuse, Pass, pass, without_files, ◌>>=◌}
+use Rattle.commands.specs.Inputs.{IsInputWith, mesh_in, pair_in, certificate_in, walk_at, SpellsCertificate}
 use Rattle.commands.specs.Lines.{line}
 use Rattle.commands.specs.declared.certificate.Certificate.{Certificate}
 use Rattle.commands.specs.declared.certificate.Certificate.TheVariants.{Moves, Denial}
@@ -76,15 +76,9 @@ denial_answer verdict = record { status = denial_status verdict; texts = denial_
 
 -- The words are those of `verify`, and the three files that they name are told and stand for a mesh, two walks of it
 -- with common ends, and a certificate: a list of moves, or a denial.
-pub record IsVerifyInput (held : Option Files) (words : List (List ℕ))
-    (mesh : FaceList) (first second : List ℕ) (certificate : Certificate) : Type 0 where
-  pub mesh_name : List ℕ
-  pub walks_name : List ℕ
-  pub certificate_name : List ℕ
-  pub words_are : words ≡ codes "verify" ∷ mesh_name ∷ walks_name ∷ certificate_name ∷ []
-  pub mesh_file : Holds held mesh_name (SpellsMesh mesh)
-  pub walks_file : Holds held walks_name (SpellsPair mesh first second)
-  pub certificate_file : Holds held certificate_name (SpellsCertificate certificate)
+abbrev pub IsVerifyInput : Option Files → (words : List (List ℕ)) → FaceList → (first second : List ℕ) → Certificate → Type 0
+IsVerifyInput held words mesh first second certificate =
+    IsInputWith (codes "verify") (SpellsCertificate certificate) held words mesh first second
 
 -- What `verify` answers of a list of moves: the first reason why it is rejected, with status 1; and `accepted`, with status 0,
 -- exactly where the moves lead from the first walk to the second within the declared peak.
