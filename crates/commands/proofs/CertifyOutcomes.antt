@@ -70,7 +70,8 @@ module _ (files : Option Files) (words : List (List ℕ)) (mesh : FaceList) (fir
       by_certified mesh first second outcome status text
       (behind files (limited mesh two) (after_limits mesh two) two outcome
       (sound-pass_unless files (λ line. Exactly line) (limit_fault mesh first second) two)
-      (unless_told files (λ line. Exactly line) (limit_fault mesh first second) two) (rw (none_over certify_limits limit_word mesh first second within.sides within.few) refl)
+      (unless_told files (λ line. Exactly line) (limit_fault mesh first second) two)
+      (rw (none_over certify_limits limit_word mesh first second within.sides within.few) refl)
       behind_walks) answer
 
   pub refuses_input : (line : List ℕ) → limit_fault mesh first second ≡ Some line → (status ≡ Refused) × (text ≡ line)

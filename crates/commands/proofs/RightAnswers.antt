@@ -19,7 +19,8 @@ refused_so line outcome status text e answer =
     (a.status_is, a.text_is)
 
 -- the status is yes exactly where this holds
-pub yes_exactly : {D P : Type 0} {for_yes for_no : D} → IsYesOrNo for_yes for_no → (status_of : D → Status) → status_of for_yes ≡ Yes → status_of for_no ≡ No
+pub yes_exactly : {D P : Type 0} {for_yes for_no : D} → IsYesOrNo for_yes for_no → (status_of : D → Status) → status_of for_yes ≡ Yes
+    → status_of for_no ≡ No
     → (decision : D) (status : Status) → status ≡ status_of decision → (decision ≡ for_yes) ↔ P → (status ≡ Yes) ↔ P
 yes_exactly two status_of yes_is no_is decision status e right =
     elim (two.either decision) [
@@ -39,7 +40,8 @@ pub record IsRightLine (yes_line no_line : List ℕ) (P : Type 0) (status : Stat
 abbrev pub line_answer : {D : Type 0} → (D → Status) → (D → List ℕ) → D → Answer
 line_answer status_of line_of decision = record { status = status_of decision; texts = Exactly (line_of decision) }
 
-right_by : {D P : Type 0} {for_yes for_no : D} → IsYesOrNo for_yes for_no → (status_of : D → Status) → status_of for_yes ≡ Yes → status_of for_no ≡ No
+right_by : {D P : Type 0} {for_yes for_no : D} → IsYesOrNo for_yes for_no → (status_of : D → Status) → status_of for_yes ≡ Yes
+    → status_of for_no ≡ No
     → (line_of : D → List ℕ) (decision : D) (status : Status) (text : List ℕ) → status ≡ status_of decision → text ≡ line_of decision
     → (decision ≡ for_yes) ↔ P → IsRightLine (line_of for_yes) (line_of for_no) P status text
 right_by {D} {P} {for_yes} {for_no} two status_of yes_is no_is line_of decision status text e f right =
@@ -53,7 +55,8 @@ right_by {D} {P} {for_yes} {for_no} two status_of yes_is no_is line_of decision 
     one_of (inl first) = inl (e ∙ ap status_of first ∙ yes_is, f ∙ ap line_of first)
     one_of (inr second) = inr (e ∙ ap status_of second ∙ no_is, f ∙ ap line_of second)
 
-pub right_line : {D : Type 0} {for_yes for_no : D} → IsYesOrNo for_yes for_no → (status_of : D → Status) → status_of for_yes ≡ Yes → status_of for_no ≡ No
+pub right_line : {D : Type 0} {for_yes for_no : D} → IsYesOrNo for_yes for_no → (status_of : D → Status) → status_of for_yes ≡ Yes
+    → status_of for_no ≡ No
     → (line_of : D → List ℕ) (P : Type 0) (outcome : Outcome) (status : Status) (text : List ℕ)
     → (decided_by for_yes (line_answer status_of line_of) P).Ends outcome → IsAnswerOf outcome status text
     → IsRightLine (line_of for_yes) (line_of for_no) P status text

@@ -133,7 +133,8 @@ one_right two a b p q =
       | inr first ↦ elim (two.either b) [ inl second ↦ p.1 (q.0 second) ∙ sym second | inr second ↦ first ∙ sym second ]
     ]
 
-one_decided : {D T : Type 0} {for_yes for_no : D} → IsYesOrNo for_yes for_no → (made : D → T) (P : Type 0) (a b : End T) → (decided_by for_yes made P).Ends a
+one_decided : {D T : Type 0} {for_yes for_no : D} → IsYesOrNo for_yes for_no → (made : D → T) (P : Type 0) (a b : End T)
+    → (decided_by for_yes made P).Ends a
     → (decided_by for_yes made P).Ends b → a ≡ b
 one_decided two made P (Refuse texts) b p q = absurd p
 one_decided two made P (Pass x) (Refuse texts) p q = absurd q
@@ -148,7 +149,8 @@ sound-decided_by {D} {T} {for_yes} {for_no} held two made P =
     record {
       some = λ none.
           none (Pass (made for_no))
-          (for_no, refl, ((λ e. absurd (two.differ e)), (λ h. absurd (none (Pass (made for_yes)) (for_yes, refl, ((λ _. h), (λ _. refl)))))));
+          (for_no, refl, ((λ e. absurd (two.differ e)),
+          (λ h. absurd (none (Pass (made for_yes)) (for_yes, refl, ((λ _. h), (λ _. refl)))))));
       one = λ _ a b p q. one_decided two made P a b p q;
     }
 

@@ -114,8 +114,8 @@ decided_open_so files words status text answered =
     right : (mesh : FaceList) (first second : List ℕ) → IsOpenInput (codes "decide-open") files words mesh first second
         → IsWithinLimits mesh first second → IsRightAnswer mesh first second status text
     right mesh first second input within =
-        let made = within_limits (λ asked. decided asked.mesh asked.first asked.second) (codes "decide-open") files words status text answered
-        mesh first second input within in
+        let made = within_limits (λ asked. decided asked.mesh asked.first asked.second) (codes "decide-open") files words status text
+        answered mesh first second input within in
         right_answer mesh first second made.0 status text made.1 made.2
 
 pub certified_open_so : (files : Option Files) (words : List (List ℕ)) (status : Status) (text : List ℕ)
@@ -132,8 +132,8 @@ certified_open_so files words status text answered =
     right : (mesh : FaceList) (first second : List ℕ) → IsOpenInput (codes "certify-open") files words mesh first second
         → IsWithinLimits mesh first second → IsRightList mesh first second status text
     right mesh first second input within =
-        let made = within_limits (λ asked. listed asked.mesh asked.first asked.second) (codes "certify-open") files words status text answered
-        mesh first second input within in
+        let made = within_limits (λ asked. listed asked.mesh asked.first asked.second) (codes "certify-open") files words status text
+        answered mesh first second input within in
         right_list mesh first second made.0 status text made.1 made.2
 
 -- ---- what stops the pair stops the command

@@ -75,8 +75,8 @@ returns-then-degree-eq0-clause-list c =
     subst (λ (l : PeakedMoves). LeadsAtPeak c.args.on.now.surface.now.mesh c.args.first.now l c.args.second.now) (sym c.into_moves.ensures)
     (second_left c.args.on.now.surface.now c.args.on.now.split.now c.in_ok-track-2.ensures.valid c.requires.on.split sphere
     c.args.first.now (numbers c.in_ok-closed.closed.items) c.args.second.now c.in_ok-closed.moves c.in_ok-track-2.track
-    c.requires.walks.first_walk c.requires.walks.second_walk.starts c.requires.walks.ends.starts k.led off.goes c.in_ok-track-2.ensures.off_cotree
-    c.in_ok-track-2.ensures.no_spur c.in_ok-track-2.ensures.some off.last)
+    c.requires.walks.first_walk c.requires.walks.second_walk.starts c.requires.walks.ends.starts k.led off.goes
+    c.in_ok-track-2.ensures.off_cotree c.in_ok-track-2.ensures.no_spur c.in_ok-track-2.ensures.some off.last)
 
 -- the steps of the reduction go round the wheel that it has
 round_wheel : (c : In_ok-reduction)
@@ -164,7 +164,8 @@ contract-requires-clause-spokes c =
     begun_freely c.args.on.now.surface.now c.args.on.now.split.now c.args.polygon.now c.in_ok-reduction.ensures.valid c.requires.on.split
     c.requires.cut some_sides c.args.first.now (numbers c.in_ok-closed.closed.items) c.args.second.now (numbers c.deref.result.now)
     c.in_ok-closed.moves c.in_ok-track-3.track c.in_ok-reduction.reduction c.in_ok-reduction.ensures.reduction
-    (ap numbers c.deref.ensures.value) c.requires.walks.first_walk k.some k.meets k.led off.begun c.in_ok-track-3.ensures.off_cotree off.last
+    (ap numbers c.deref.ensures.value) c.requires.walks.first_walk k.some k.meets k.led off.begun c.in_ok-track-3.ensures.off_cotree
+    off.last
 
 pub returns-clause-list : goal.returns-clause-list
 returns-clause-list c =

@@ -36,5 +36,6 @@ returns-clause-loops c = λ mesh table.
     let first = c.at.result.now in
     let second = c.at-2.result.now in
     let two = two_are walks first second (sym c.len-count.ensures.count ∙ c.if-count-ne2.false) c.at.ensures c.at-2.ensures in
-    says_two NotTwo of_entry open_fault mesh walks first second (IsClosedPair mesh) c.check_closed.result two (returns-clause-fault c mesh table)
+    says_two NotTwo of_entry open_fault mesh walks first second (IsClosedPair mesh) c.check_closed.result two
+    (returns-clause-fault c mesh table)
     (loops_of_none mesh first second c.check_closed.ensures.starts.0 c.check_closed.ensures.starts.1) (none_of_loops mesh walks)
