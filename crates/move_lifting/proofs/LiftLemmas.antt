@@ -167,8 +167,8 @@ off_cotree s split first second names read list track behind walks k same counte
     record {
       goes = on;
       last = ends;
-      begun = begun_from s split first (numbers names) second list track walks.first_walk walks.second_walk walks.ends.starts k.led k.some on
-          more some ends;
+      begun = begun_from s split first (numbers names) second list track walks.first_walk walks.second_walk walks.ends.starts k.led k.some
+          on more some ends;
     }
 
 -- and the second walk is left behind one vertex
