@@ -1,20 +1,11 @@
 -- Walks that go on through points of the first torus, one after the other.
-use Rattle.std.proofs.Common.{◌≡◌, ℕ, ◌+◌, List, [], ◌∷◌, ◌++◌, length, map, arith, sym, ap, ◌∙◌}
+use Rattle.std.proofs.Common.{◌≡◌, ℕ, ◌+◌, List, [], ◌∷◌, ◌++◌, map, arith, sym, ap, ◌∙◌}
 use Rattle.std.specs.List.{range_with_len}
-use Rattle.std.proofs.Math.ListN.{length-append, length-map}
 use Rattle.std.proofs.lemmas.List.{map-append}
-use Rattle.std.proofs.lemmas.List.FromFn.{length-map-range_with_len, map-range_with_len_more}
+use Rattle.std.proofs.lemmas.List.FromFn.{map-range_with_len_more}
 use mathlib.Core.List.{append_assoc}
 use Rattle.surf_gen.specs.declared.points.Point.{Point}
 use Rattle.surf_gen.specs.Chains.{number}
-
--- how long the walk is
-pub passed_length : (grid : ℕ) (f : ℕ → Point) (start now : List ℕ) (n : ℕ)
-    → now ≡ start ++ map (number grid) (map f (range_with_len 0 n)) → length now ≡ length start + n
-passed_length grid f start now n so_far =
-    ap length so_far
-    ∙ length-append start (map (number grid) (map f (range_with_len 0 n)))
-    ∙ ap (λ k. length start + k) (length-map (map f (range_with_len 0 n)) (number grid) ∙ length-map-range_with_len f 0 n)
 
 -- one point more
 pub passed_more : (grid : ℕ) (f : ℕ → Point) (start now : List ℕ) (n : ℕ)
