@@ -49,21 +49,17 @@ fn give_walks(counts: &mut [i64], faces: &Faces, sides: &Sides, first: &Walk, se
 /// At each edge the count of the first walk, less that of the second, less the boundary of the numbered faces.
 pub(crate) fn rest_of(
     alloc: Global,
-    faces: &Faces,
-    sides: &Sides,
     walks: WalkPair<'_>,
     of_face: &[i64],
 ) -> Result<Vec<i64>, AllocError>
-    requires table { IsTableOf faces.now sides.now }
-    requires first { IsWalk faces.now walks.first.now }
-    requires second { IsWalk faces.now walks.second.now }
-    requires each_face { length of_face.now ≡ length faces.now.faces }
+    requires table { IsTableOf walks.faces.now walks.sides.now }
+    requires each_face { length of_face.now ≡ length walks.faces.now.faces }
     requires small { AreWithin MOST_NUMBER of_face.now }
-    ensures { IfOk result (λ rest. IsLeft faces.now sides.now (number_at of_face.now) walks.entry.first.now walks.entry.second.now
-        rest.items) }
+    ensures { IfOk result (λ rest. IsLeft walks.entry.faces.now walks.entry.sides.now (number_at of_face.now) walks.entry.first.now
+        walks.entry.second.now rest.items) }
 {
-    let mut rest = count_differences(alloc, faces, sides, walks.first, walks.second)?;
-    take_faces(&mut rest, faces, sides, of_face);
+    let mut rest = count_differences(alloc, walks.faces, walks.sides, walks.first, walks.second)?;
+    take_faces(&mut rest, walks.faces, walks.sides, of_face);
     Ok(rest)
 }
 

@@ -1,4 +1,4 @@
-use Rattle.std.proofs.Common.{◌≡◌, ℕ, suc, ◌+◌, ◌*◌, ◌≤◌, ap, sym, ◌∙◌, subst, arith, ℤ, to_z, of_z, w64, ◌+ℤ◌}
+use Rattle.std.proofs.Common.{◌≡◌, suc, ◌+◌, ◌*◌, ◌≤◌, ap, sym, ◌∙◌, subst, arith, ℤ, to_z, of_z, w64, ◌+ℤ◌}
 use Rattle.std.specs.Prelude.{unsigned_abs}
 use Rattle.std.proofs.lemmas.List.{take_all}
 use Rattle.homology.specs.Sums.{along}

@@ -23,13 +23,13 @@ returns c =
     let first : List ℕ = c.args.walks.first.now in
     let second : List ℕ = c.args.walks.second.now in
     let new : List ℤ = c.take_faces.new.tally in
-    let left : IsLeft c.args.faces.now c.args.sides.now (number_at c.args.of_face.now) first second new =
-    left_over c.args.faces.now c.args.sides.now (number_at c.args.of_face.now) first second c.deref_mut.result.now new
-    (subst (λ (xs : List ℤ). AreNumbersOf c.args.sides.now xs (count_difference first second))
+    let left : IsLeft c.args.walks.faces.now c.args.walks.sides.now (number_at c.args.of_face.now) first second new =
+    left_over c.args.walks.faces.now c.args.walks.sides.now (number_at c.args.of_face.now) first second c.deref_mut.result.now new
+    (subst (λ (xs : List ℤ). AreNumbersOf c.args.walks.sides.now xs (count_difference first second))
     (sym c.deref_mut.ensures.value) c.in_ok-rest.ensures.counts) c.take_faces.ensures in
     let long : c.in_ok-rest.rest.len ≡ length new = omega (arith, c.deref_mut.ensures.len, c.take_faces.ensures.long) in
     let all : take c.in_ok-rest.rest.len (new ++ drop (length new) c.in_ok-rest.rest.items) ≡ new =
     ap (λ n. take n (new ++ drop (length new) c.in_ok-rest.rest.items)) long
     ∙ take-append_seam new (drop (length new) c.in_ok-rest.rest.items) in
-    subst (λ (xs : List ℤ). IsLeft c.args.faces.now c.args.sides.now (number_at c.args.of_face.now) first second xs)
+    subst (λ (xs : List ℤ). IsLeft c.args.walks.faces.now c.args.walks.sides.now (number_at c.args.of_face.now) first second xs)
     (sym all) left
