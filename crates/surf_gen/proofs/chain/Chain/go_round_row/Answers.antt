@@ -13,6 +13,6 @@ loop-column-preserved c =
       passed =
           pushed
           ∙ ap (λ n. step.walk ++ n ∷ []) c.first_torus.ensures
-          ∙ passed_more grid (λ column. point 0 (grid - 1) column) c.args.walk.now step.walk step.column step.invariant.passed;
+          ∙ passed_more grid (point 0 (grid - 1)) c.args.walk.now step.walk step.column step.invariant.passed;
       long = omega (arith, ap length pushed, length_push step.walk c.first_torus.result.0, step.invariant.long);
     }
