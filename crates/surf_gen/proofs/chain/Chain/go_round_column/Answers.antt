@@ -1,4 +1,4 @@
-use Rattle.std.proofs.Common.{◌-◌, ◌∙◌, ap, length, ◌++◌, ◌∷◌, [], arith}
+use Rattle.std.proofs.Common.{◌-◌, ap, length, arith}
 use Rattle.std.proofs.lemmas.List.{length_push}
 use Rattle.surf_gen.specs.Chains.{point}
 use Rattle.surf_gen.proofs.WalkLemmas.{passed_more}
@@ -7,12 +7,8 @@ use Rattle.surf_gen.proofs.chain.Chain.go_round_column.Goals as goal
 pub loop-row-preserved : goal.loop-row-preserved
 loop-row-preserved c =
     let step = c.loop-row in
-    let grid = c.args.self.grid in
-    let pushed = c.in_ok-push.ensures.ok in
     record {
-      passed =
-          pushed
-          ∙ ap (λ n. step.walk ++ n ∷ []) c.first_torus.ensures
-          ∙ passed_more grid (λ row. point 0 row (grid - 1)) c.args.walk.now step.walk step.row step.invariant.passed;
-      long = omega (arith, ap length pushed, length_push step.walk c.first_torus.result.0, step.invariant.long);
+      passed = passed_more c.args.self.grid (λ row. point 0 row (c.args.self.grid - 1)) _ step.walk _ step.row _ c.in_ok-push.ensures.ok
+          c.first_torus.ensures step.invariant.passed;
+      long = omega (arith, ap length c.in_ok-push.ensures.ok, length_push step.walk c.first_torus.result.0, step.invariant.long);
     }
