@@ -1,7 +1,6 @@
 //! Whether a chain tells two walks apart at every edge.
 ghost use Rattle.std.specs.Prelude.{IfOk};
 ghost use Rattle.surf_model.specs.Edges.{IsTableOf};
-ghost use Rattle.surf_model.specs.Walks.{IsWalk};
 ghost use Rattle.homology.specs.Verdicts.{IsVerdict};
 ghost use Rattle.homology.specs.declared.certificate.HomologyCert.TheVariants.{Chain};
 
@@ -11,28 +10,23 @@ use crate::tally::{first_nonzero, rest_of};
 use crate::verdict::HomologyVerdict;
 use crate::walk_pair::WalkPair;
 use std::alloc::{AllocError, Global};
-use surf_model::{Faces, Sides};
 
 /// Checks the numbers of a chain: that each listed face is there, and then each edge.
 pub(crate) fn check_chain(
     alloc: Global,
-    faces: &Faces,
-    sides: &Sides,
     walks: WalkPair<'_>,
     numbers: &ChainNumbers,
 ) -> Result<HomologyVerdict, AllocError>
-    requires table { IsTableOf faces.now sides.now }
-    requires first { IsWalk faces.now walks.first.now }
-    requires second { IsWalk faces.now walks.second.now }
-    ensures { IfOk result (IsVerdict faces.now walks.entry.first.now walks.entry.second.now (Chain numbers.now)) }
+    requires { IsTableOf walks.faces.now walks.sides.now }
+    ensures { IfOk result (IsVerdict walks.entry.faces.now walks.entry.first.now walks.entry.second.now (Chain numbers.now)) }
 {
-    if let Some(face) = first_missing(faces, numbers) {
+    if let Some(face) = first_missing(walks.faces, numbers) {
         return Ok(HomologyVerdict::Face(face));
     }
-    let of_face = numbers_by_face(alloc, faces, numbers)?;
-    let rest = rest_of(alloc, faces, sides, walks, &of_face)?;
-    if let Some(edge) = first_nonzero(&rest, sides) {
-        let (low, high) = sides.ends(edge);
+    let of_face = numbers_by_face(alloc, walks.faces, numbers)?;
+    let rest = rest_of(alloc, walks, &of_face)?;
+    if let Some(edge) = first_nonzero(&rest, walks.sides) {
+        let (low, high) = walks.sides.ends(edge);
         return Ok(HomologyVerdict::Edge(low, high));
     }
     Ok(HomologyVerdict::Accepted)

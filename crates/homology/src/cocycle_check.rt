@@ -21,16 +21,13 @@ use surf_model::{FaceName, Faces, Side, Sides, Walk};
 /// the two walks.
 pub(crate) fn check_cocycle(
     alloc: Global,
-    faces: &Faces,
-    sides: &Sides,
     walks: WalkPair<'_>,
     numbers: &CocycleNumbers,
 ) -> Result<HomologyVerdict, AllocError>
-    requires table { IsTableOf faces.now sides.now }
-    requires first { IsWalk faces.now walks.first.now }
-    requires second { IsWalk faces.now walks.second.now }
-    ensures { IfOk result (IsVerdict faces.now walks.entry.first.now walks.entry.second.now (Cocycle numbers.now)) }
+    requires { IsTableOf walks.faces.now walks.sides.now }
+    ensures { IfOk result (IsVerdict walks.entry.faces.now walks.entry.first.now walks.entry.second.now (Cocycle numbers.now)) }
 {
+    let (faces, sides) = (walks.faces, walks.sides);
     if let Some(line) = first_stray(faces, sides, numbers) {
         return Ok(HomologyVerdict::Edge(line.low, line.high));
     }

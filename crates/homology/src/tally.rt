@@ -1,5 +1,6 @@
 //! A tally of the edges: what the darts of walks and the sides of faces give to each.
 ghost use Rattle.std.specs.Prelude.{◌≡◌, ◌≢◌, ℕ, ◌+◌, ◌<◌, ◌≤◌, ◌^◌, length, slice_set, Any, IfSome, IfNone, IfOk, pos, ◌+ℤ◌, ◌-ℤ◌, neg_ℤ, unsigned_abs};
+ghost use Rattle.surf_model.specs.FaceLists.{HasFileSize};
 ghost use Rattle.surf_model.specs.Edges.{IsTableOf, HasEnds, edge_in};
 ghost use Rattle.surf_model.specs.Walks.{IsWalk, darts};
 ghost use Rattle.homology.specs.Sums.{along, share};
@@ -48,22 +49,17 @@ fn give_walks(counts: &mut [i64], faces: &Faces, sides: &Sides, first: &Walk, se
 /// At each edge the count of the first walk, less that of the second, less the boundary of the numbered faces.
 pub(crate) fn rest_of(
     alloc: Global,
-    faces: &Faces,
-    sides: &Sides,
     walks: WalkPair<'_>,
     of_face: &[i64],
 ) -> Result<Vec<i64>, AllocError>
-    requires table { IsTableOf faces.now sides.now }
-    requires first { IsWalk faces.now walks.first.now }
-    requires second { IsWalk faces.now walks.second.now }
-    requires each_face { length of_face.now ≡ length faces.now.faces }
+    requires table { IsTableOf walks.faces.now walks.sides.now }
+    requires each_face { length of_face.now ≡ length walks.faces.now.faces }
     requires small { AreWithin MOST_NUMBER of_face.now }
-    ensures long { IfOk result (λ rest. length rest.items ≡ length sides.now) }
-    ensures left { IfOk result (λ rest. IsLeft faces.now sides.now (number_at of_face.now) walks.entry.first.now walks.entry.second.now
-        rest.items) }
+    ensures { IfOk result (λ rest. IsLeft walks.entry.faces.now walks.entry.sides.now (number_at of_face.now) walks.entry.first.now
+        walks.entry.second.now rest.items) }
 {
-    let mut rest = count_differences(alloc, faces, sides, walks.first, walks.second)?;
-    take_faces(&mut rest, faces, sides, of_face);
+    let mut rest = count_differences(alloc, walks.faces, walks.sides, walks.first, walks.second)?;
+    take_faces(&mut rest, walks.faces, walks.sides, of_face);
     Ok(rest)
 }
 
@@ -140,14 +136,13 @@ pub fn take_faces(tally: &mut [i64], faces: &Faces, sides: &Sides, of_face: &[i6
 /// Gives the sides of a face to their edges, each side so much.
 fn add_face(tally: &mut [i64], faces: &Faces, sides: &Sides, face: FaceName, amount: i64)
     requires table { IsTableOf faces.now sides.now }
+    requires few { HasFileSize faces.now }
     requires face { face.0 < length faces.now.faces }
     requires long { length tally.old ≡ length sides.now }
     requires small { unsigned_abs amount ≤ MOST_NUMBER }
     requires room { AreWithin (2 ^ 60) tally.old }
     ensures { GrewBy sides.now (face_share faces.now amount face.0) tally.old tally.new }
 {
-    // The proof reads what holds of every mesh.
-    let _ = faces.len();
     for at in 0..faces.sides(face) {
         let edge = sides.edge_at(Side { face, at });
         add_dart(tally, sides, edge, faces.corner(face, at), amount);

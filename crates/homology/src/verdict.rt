@@ -47,9 +47,14 @@ pub fn check_homology(
     ensures exact { (verdict : HomologyVerdict) → IsVerdict faces.now first.now second.now certificate.now verdict
         → IfOk result (λ given. given ≡ verdict) }
 {
-    let walks = WalkPair { first, second };
+    let walks = WalkPair {
+        faces,
+        sides,
+        first,
+        second,
+    };
     match certificate {
-        HomologyCert::Chain(numbers) => check_chain(alloc, faces, sides, walks, numbers),
-        HomologyCert::Cocycle(numbers) => check_cocycle(alloc, faces, sides, walks, numbers),
+        HomologyCert::Chain(numbers) => check_chain(alloc, walks, numbers),
+        HomologyCert::Cocycle(numbers) => check_cocycle(alloc, walks, numbers),
     }
 }

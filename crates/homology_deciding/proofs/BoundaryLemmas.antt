@@ -15,29 +15,11 @@ use Rattle.homology.specs.Sums.{total, share, along as along_walk, round}
 use Rattle.homology.specs.Chains.{boundary}
 use Rattle.homology.proofs.RingLemmas.{one-times}
 use Rattle.homology.proofs.BoundaryLemmas.{only_at, one_face, boundary_is}
+use Rattle.homology.proofs.EdgeSumLemmas.{total_one}
 use Rattle.homology_deciding.specs.FaceTrees.{face_across, dart_share}
 use Rattle.homology_deciding.specs.Heights.{listed}
 
 -- ---- sums of which two terms count
-
-total_none : {X : Type 0} (g : X → ℤ) (xs : List X) (x : X) → ((k : ℕ) → k < length xs → g (get_or xs k x) ≡ pos 0)
-    → total (map g xs) ≡ pos 0
-total_none g [] x h = refl
-total_none g (y ∷ xs) x h =
-    let here = h 0 (omega arith) in
-    let more = total_none g xs x (λ k l. h (suc k) (omega arith)) in
-    omega (arith, ints, here, more)
-
-total_one : {X : Type 0} (g : X → ℤ) (xs : List X) (x : X) (i : ℕ) → i < length xs
-    → ((k : ℕ) → k < length xs → k ≢ i → g (get_or xs k x) ≡ pos 0) → total (map g xs) ≡ g (get_or xs i x)
-total_one g [] x i l h = absurd (omega arith)
-total_one g (y ∷ xs) x zero l h =
-    let more = total_none g xs x (λ k lk. h (suc k) (omega arith) (λ e. omega (arith, e))) in
-    omega (arith, ints, more)
-total_one g (y ∷ xs) x (suc i) l h =
-    let here = h 0 (omega arith) (λ e. omega (arith, e)) in
-    let more = total_one g xs x i (omega arith) (λ k lk other. h (suc k) (omega arith) (λ e. other (omega (arith, e)))) in
-    omega (arith, ints, here, more)
 
 total_two : {X : Type 0} (g : X → ℤ) (xs : List X) (x : X) (i j : ℕ) → i < length xs → j < length xs → i ≢ j
     → ((k : ℕ) → k < length xs → k ≢ i → k ≢ j → g (get_or xs k x) ≡ pos 0)

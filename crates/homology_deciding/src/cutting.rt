@@ -20,7 +20,8 @@ pub(crate) fn cut(
 ) -> Result<Vec<i64>, AllocError>
     requires tree { IsTree tree.now }
     requires dart { dart.0 < darts_of tree.now.surface.now }
-    ensures { IfOk result (λ numbers. IsCutAt tree.now dart.0 numbers.items) }
+    ensures cut { IfOk result (λ numbers. IsCutAt tree.now dart.0 numbers.items) }
+    ensures few { IfOk result (λ numbers. length numbers.items < 2 ^ 32) }
 {
     let edges = tree.surface.sides().len() as usize;
     let mut numbers = vec![in alloc; 0i64; edges]?;

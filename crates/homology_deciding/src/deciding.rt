@@ -102,8 +102,6 @@ fn proof_from(
     match first_nonzero(rest, tree.surface.sides()) {
         None => Ok(HomologyProof::Chain(Numbers::of(numbers))),
         Some(edge) => {
-            // The proof reads that there are few edges.
-            let _ = tree.surface.sides().len();
             let dart = rising_dart(tree.surface, edge);
             Ok(HomologyProof::Cocycle(Numbers::of(cut(alloc, tree, dart)?)))
         }

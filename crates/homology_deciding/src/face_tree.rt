@@ -1,5 +1,6 @@
 //! The cotree of a split as a tree over the faces.
 ghost use Rattle.std.specs.Prelude.{◌≡◌, ◌+◌, ◌<◌, ℕ, None, length, IfOk};
+ghost use Rattle.halfedge_map.specs.OrientedMeshes.{IsOrientedSurface};
 ghost use Rattle.halfedge_map.specs.DartMaps.{darts_of, edge_of, face_of};
 ghost use Rattle.tree_cotree.specs.Splits.{IsSplit};
 ghost use Rattle.homology_deciding.specs.FaceTrees.{IsTree, IsTreeOfFaces, AreUps, HasDartIn, up_of, face_across};
@@ -82,13 +83,12 @@ fn keep_darts(ups: &mut [Option<DartName>], surface: &Surface, split: &Split)
 
 /// Keeps for the face below an edge, if there is one, the dart in it.
 fn keep_dart(ups: &mut [Option<DartName>], surface: &Surface, split: &Split, edge: EdgeName)
+    requires surface { IsOrientedSurface surface.now }
     requires split { IsSplit surface.now split.now }
     requires edge { edge.0 < length surface.now.table }
     requires ups { AreUps surface.now split.now edge.0 ups.old }
     ensures { AreUps surface.now split.now (edge.0 + 1) ups.new }
 {
-    // The proof reads what holds of every surface.
-    let _ = surface.faces();
     if let Some(face) = split.child_face(edge) {
         ups[face.0 as usize] = Some(dart_in(surface, edge, face));
     }

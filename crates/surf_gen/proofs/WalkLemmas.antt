@@ -1,28 +1,21 @@
 -- Walks that go on through points of the first torus, one after the other.
-use Rattle.std.proofs.Common.{◌≡◌, ℕ, ◌+◌, List, [], ◌∷◌, ◌++◌, length, map, arith, sym, ap, ◌∙◌}
+use Rattle.std.proofs.Common.{◌≡◌, ℕ, ◌+◌, List, [], ◌∷◌, ◌++◌, map, arith, sym, ap, ◌∙◌}
 use Rattle.std.specs.List.{range_with_len}
-use Rattle.std.proofs.Math.ListN.{length-append, length-map}
 use Rattle.std.proofs.lemmas.List.{map-append}
-use Rattle.std.proofs.lemmas.List.FromFn.{length-map-range_with_len, map-range_with_len_more}
+use Rattle.std.proofs.lemmas.List.FromFn.{map-range_with_len_more}
 use mathlib.Core.List.{append_assoc}
 use Rattle.surf_gen.specs.declared.points.Point.{Point}
 use Rattle.surf_gen.specs.Chains.{number}
 
--- how long the walk is
-pub passed_length : (grid : ℕ) (f : ℕ → Point) (start now : List ℕ) (n : ℕ)
-    → now ≡ start ++ map (number grid) (map f (range_with_len 0 n)) → length now ≡ length start + n
-passed_length grid f start now n so_far =
-    ap length so_far
-    ∙ length-append start (map (number grid) (map f (range_with_len 0 n)))
-    ∙ ap (λ k. length start + k) (length-map (map f (range_with_len 0 n)) (number grid) ∙ length-map-range_with_len f 0 n)
-
 -- one point more
-pub passed_more : (grid : ℕ) (f : ℕ → Point) (start now : List ℕ) (n : ℕ)
-    → now ≡ start ++ map (number grid) (map f (range_with_len 0 n))
-    → now ++ number grid (f n) ∷ [] ≡ start ++ map (number grid) (map f (range_with_len 0 (n + 1)))
-passed_more grid f start now n so_far =
+pub passed_more : (grid : ℕ) (f : ℕ → Point) (start now next : List ℕ) (n vertex : ℕ) → next ≡ now ++ vertex ∷ []
+    → vertex ≡ number grid (f n) → now ≡ start ++ map (number grid) (map f (range_with_len 0 n))
+    → next ≡ start ++ map (number grid) (map f (range_with_len 0 (n + 1)))
+passed_more grid f start now next n vertex pushed is so_far =
     let before = map f (range_with_len 0 n) in
     let longer : map f (range_with_len 0 (n + 1)) ≡ before ++ f n ∷ [] = map-range_with_len_more f 0 n n (omega arith) in
-    ap (λ w. w ++ number grid (f n) ∷ []) so_far
+    pushed
+    ∙ ap (λ v. now ++ v ∷ []) is
+    ∙ ap (λ w. w ++ number grid (f n) ∷ []) so_far
     ∙ append_assoc start (map (number grid) before) (number grid (f n) ∷ [])
     ∙ ap (λ w. start ++ w) (sym (ap (map (number grid)) longer ∙ map-append (number grid) before (f n ∷ [])))

@@ -1,4 +1,4 @@
-use Rattle.std.proofs.Common.{◌≡◌, ℕ, suc, ◌+◌, ◌*◌, ◌≤◌, List, length, ap, sym, ◌∙◌, subst, arith, ℤ, to_z, of_z, w64, ◌+ℤ◌}
+use Rattle.std.proofs.Common.{◌≡◌, suc, ◌+◌, ◌*◌, ◌≤◌, ap, sym, ◌∙◌, subst, arith, ℤ, to_z, of_z, w64, ◌+ℤ◌}
 use Rattle.std.specs.Prelude.{unsigned_abs}
 use Rattle.std.proofs.lemmas.List.{take_all}
 use Rattle.homology.specs.Sums.{along}
@@ -40,11 +40,6 @@ loop-dart-preserved c =
 
 pub returns : goal.returns
 returns c = λ number are.
-    let walk : List ℕ = c.args.walk.now in
-    let long : length walk ≤ suc c.loop-dart.dart = omega (
-      arith,
-      c.loop-dart-test.false,
-      c.darts-dart-end.ensures.count,
-      c.requires.walk.starts,
-    ) in
-    c.loop-dart.invariant.1 number are ∙ ap (along (dart_number number)) (take_all (suc c.loop-dart.dart) walk long)
+    c.loop-dart.invariant.1 number are
+    ∙ ap (along (dart_number number)) (take_all (suc c.loop-dart.dart) c.args.walk.now
+    (omega (arith, c.loop-dart-test.false, c.darts-dart-end.ensures.count, c.requires.walk.starts)))

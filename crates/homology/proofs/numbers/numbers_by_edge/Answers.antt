@@ -13,16 +13,18 @@ use Rattle.homology.proofs.SizeLemmas.{sent}
 use Rattle.homology.proofs.ChainVerdictLemmas.{number_at-zeros}
 use Rattle.homology.proofs.NumbersLemmas.{edge_written, edges_small}
 use Rattle.homology.proofs.numbers.numbers_by_edge.Goals as goal
+use Rattle.homology.proofs.numbers.numbers_by_edge.Goals.{After-at-line}
+
+-- the line that was read
+read : (c : After-at-line) → get_or c.args.numbers.now c.loop-k.k c.at-line.result ≡ c.at-line.result
+read c = get_or_from_slice_get c.args.numbers.now c.loop-k.k c.at-line.result c.at-line.result c.at-line.ensures
 
 pub edge_between-edge-requires : goal.edge_between-edge-requires
 edge_between-edge-requires c =
-    let lines : List EdgeNumber = c.args.numbers.now in
     let line : EdgeNumber = c.at-line.result in
-    let k : ℕ = c.loop-k.k in
-    let within : k < length lines = omega arith in
-    let is : get_or lines k line ≡ line = get_or_from_slice_get lines k line line c.at-line.ensures in
     let edge : is_edge c.args.faces.now line.low.0 line.high.0 ≡ true =
-    subst (λ (x : EdgeNumber). is_edge c.args.faces.now x.low.0 x.high.0 ≡ true) is (c.requires.edges k line within) in
+    subst (λ (x : EdgeNumber). is_edge c.args.faces.now x.low.0 x.high.0 ≡ true)
+    (read (goal.at.edge_between-edge-requires c).After-at-line) (c.requires.edges c.loop-k.k line (omega arith)) in
     let found : IsEdgeBetween c.args.sides.now line.low.0 line.high.0 =
     edge_between c.args.faces.now c.args.sides.now line.low.0 line.high.0 c.requires.table edge in (
       found.edge,
@@ -46,9 +48,9 @@ loop-k-preserved c =
     let line : EdgeNumber = c.at-line.result in
     let k : ℕ = c.loop-k.k in
     let within : k < length lines = omega arith in
-    let is : get_or lines k line ≡ line = get_or_from_slice_get lines k line line c.at-line.ensures in
     let small : unsigned_abs line.number ≤ MOST_NUMBER =
-    subst (λ (x : EdgeNumber). unsigned_abs x.number ≤ MOST_NUMBER) is (c.len-k-end.ensures.valid.small k line within) in
+    subst (λ (x : EdgeNumber). unsigned_abs x.number ≤ MOST_NUMBER) (read (goal.at.loop-k-preserved c).After-at-line)
+    (c.len-k-end.ensures.valid.small k line within) in
     record {
       long = length-set c.loop-k.of_edge.items c.edge_between-edge.result.0 _ ∙ c.loop-k.invariant.long;
       each = λ f l. edge_written c.args.faces.now c.args.sides.now lines k c.edge_between-edge.result.0 f line c.loop-k.of_edge.items _
@@ -65,6 +67,4 @@ returns-clause-numbers c =
 
 pub returns-clause-small : goal.returns-clause-small
 returns-clause-small c =
-    edges_small c.args.sides.now c.args.numbers.now c.loop-k.of_edge.items c.len-k-end.ensures.valid
-    (subst (λ (xs : List EdgeNumber). AreNumbersOf c.args.sides.now c.loop-k.of_edge.items (edge_number xs))
-    (take_all c.loop-k.k c.args.numbers.now (omega arith)) c.loop-k.invariant)
+    edges_small c.args.sides.now c.args.numbers.now c.loop-k.of_edge.items c.len-k-end.ensures.valid (returns-clause-numbers c)

@@ -43,5 +43,4 @@ returns-clause-numbers c = λ f.
 
 pub returns-clause-small : goal.returns-clause-small
 returns-clause-small c =
-    faces_small c.args.numbers.now c.loop-k.of_face.items c.len-k-end.ensures.valid
-    (λ f. c.loop-k.invariant.1 f ∙ ap (λ (xs : List FaceNumber). face_number xs f) (take_all c.loop-k.k c.args.numbers.now (omega arith)))
+    faces_small c.args.numbers.now c.loop-k.of_face.items c.len-k-end.ensures.valid (returns-clause-numbers c)

@@ -26,7 +26,7 @@ add_dart-requires-clause-room c =
       arith,
       c.loop-at-test.true,
       c.sides-at-end.ensures,
-      face_few c.args.faces.now c.args.face.0 c.len.ensures.small c.requires.face,
+      face_few c.args.faces.now c.args.face.0 c.requires.few c.requires.face,
     ))
 
 pub loop-at-init : goal.loop-at-init

@@ -1,4 +1,4 @@
-use Rattle.std.proofs.Common.{◌≡◌, ℕ, suc, ◌≤◌, List, length, take, refl, subst, sym, ◌∙◌, arith, ℤ, to_z, of_z, w64}
+use Rattle.std.proofs.Common.{◌≡◌, ℕ, suc, ◌≤◌, List, take, refl, subst, sym, ◌∙◌, arith, ℤ, to_z, of_z, w64}
 use Rattle.std.specs.Prelude.{unsigned_abs}
 use Rattle.std.proofs.lemmas.Int.{to_z-of_z}
 use Rattle.std.proofs.lemmas.List.{take_all}
@@ -37,13 +37,8 @@ loop-dart-preserved c =
 pub returns-clause-grew : goal.returns-clause-grew
 returns-clause-grew c =
     let walk : List ℕ = c.args.walk.now in
-    let long : length walk ≤ suc c.loop-dart.dart = omega (
-      arith,
-      c.loop-dart-test.false,
-      c.darts-dart-end.ensures.count,
-      c.requires.walk.starts,
-    ) in
-    let whole : take (suc c.loop-dart.dart) walk ≡ walk = take_all (suc c.loop-dart.dart) walk long in
+    let whole : take (suc c.loop-dart.dart) walk ≡ walk = take_all (suc c.loop-dart.dart) walk
+    (omega (arith, c.loop-dart-test.false, c.darts-dart-end.ensures.count, c.requires.walk.starts)) in
     let all : GrewBy c.args.sides.now (λ low high. along (share (to_z w64 (of_z w64 c.args.amount)) low high) walk) c.args.tally.now
     c.loop-dart.tally =
     subst (λ (w : List ℕ). GrewBy c.args.sides.now (λ low high. along (share (to_z w64 (of_z w64 c.args.amount)) low high) w)

@@ -6,6 +6,7 @@ use Rattle.homology.specs.Chains.{count_difference}
 use Rattle.homology.specs.Tallies.{number_at, AreWithin, AreNumbersOf}
 use Rattle.homology.proofs.ChainVerdictLemmas.{number_at-zeros}
 use Rattle.homology.proofs.tally.count_differences.Goals as goal
+use Rattle.homology.proofs.tally.count_differences.Goals.{After-give_walks}
 
 pub give_walks-requires : goal.give_walks-requires
 give_walks-requires c =
@@ -19,23 +20,21 @@ give_walks-requires c =
       zeros = λ k. ap (λ (xs : List ℤ). number_at xs k) all ∙ number_at-zeros c.len.result k;
     }
 
-pub returns-clause-counts : goal.returns-clause-counts
-returns-clause-counts c =
+-- what is returned is the tally to which the walks were given
+all : (c : After-give_walks) → take c.in_ok-counts.counts.len (c.give_walks.new.counts
+    ++ drop (length c.give_walks.new.counts) c.in_ok-counts.counts.items) ≡ c.give_walks.new.counts
+all c =
     let new : List ℤ = c.give_walks.new.counts in
     let long : c.in_ok-counts.counts.len ≡ length new =
     omega (arith, c.in_ok-counts.ensures.len, c.len.ensures, c.give_walks.ensures.counts.long) in
-    let all : take c.in_ok-counts.counts.len (new ++ drop (length new) c.in_ok-counts.counts.items) ≡ new =
     ap (λ n. take n (new ++ drop (length new) c.in_ok-counts.counts.items)) long
-    ∙ take-append_seam new (drop (length new) c.in_ok-counts.counts.items) in
-    subst (λ (xs : List ℤ). AreNumbersOf c.args.sides.now xs (count_difference c.args.first.now c.args.second.now)) (sym all)
-    c.give_walks.ensures.counts
+    ∙ take-append_seam new (drop (length new) c.in_ok-counts.counts.items)
+
+pub returns-clause-counts : goal.returns-clause-counts
+returns-clause-counts c =
+    subst (λ (xs : List ℤ). AreNumbersOf c.args.sides.now xs (count_difference c.args.first.now c.args.second.now))
+    (sym (all (goal.at.returns-clause-counts c).After-give_walks)) c.give_walks.ensures.counts
 
 pub returns-clause-room : goal.returns-clause-room
 returns-clause-room c =
-    let new : List ℤ = c.give_walks.new.counts in
-    let long : c.in_ok-counts.counts.len ≡ length new =
-    omega (arith, c.in_ok-counts.ensures.len, c.len.ensures, c.give_walks.ensures.counts.long) in
-    let all : take c.in_ok-counts.counts.len (new ++ drop (length new) c.in_ok-counts.counts.items) ≡ new =
-    ap (λ n. take n (new ++ drop (length new) c.in_ok-counts.counts.items)) long
-    ∙ take-append_seam new (drop (length new) c.in_ok-counts.counts.items) in
-    subst (λ (xs : List ℤ). AreWithin (2 ^ 32) xs) (sym all) c.give_walks.ensures.room
+    subst (AreWithin (2 ^ 32)) (sym (all (goal.at.returns-clause-room c).After-give_walks)) c.give_walks.ensures.room

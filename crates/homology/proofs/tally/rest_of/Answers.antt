@@ -18,33 +18,18 @@ take_faces-requires c =
           (within_more (2 ^ 32) (2 ^ 33) c.in_ok-rest.rest.items c.in_ok-rest.ensures.room (omega arith));
     }
 
-pub returns-clause-left : goal.returns-clause-left
-returns-clause-left c =
+pub returns : goal.returns
+returns c =
     let first : List ℕ = c.args.walks.first.now in
     let second : List ℕ = c.args.walks.second.now in
     let new : List ℤ = c.take_faces.new.tally in
-    let left : IsLeft c.args.faces.now c.args.sides.now (number_at c.args.of_face.now) first second new =
-    left_over c.args.faces.now c.args.sides.now (number_at c.args.of_face.now) first second c.deref_mut.result.now new
-    (subst (λ (xs : List ℤ). AreNumbersOf c.args.sides.now xs (count_difference first second))
+    let left : IsLeft c.args.walks.faces.now c.args.walks.sides.now (number_at c.args.of_face.now) first second new =
+    left_over c.args.walks.faces.now c.args.walks.sides.now (number_at c.args.of_face.now) first second c.deref_mut.result.now new
+    (subst (λ (xs : List ℤ). AreNumbersOf c.args.walks.sides.now xs (count_difference first second))
     (sym c.deref_mut.ensures.value) c.in_ok-rest.ensures.counts) c.take_faces.ensures in
     let long : c.in_ok-rest.rest.len ≡ length new = omega (arith, c.deref_mut.ensures.len, c.take_faces.ensures.long) in
     let all : take c.in_ok-rest.rest.len (new ++ drop (length new) c.in_ok-rest.rest.items) ≡ new =
     ap (λ n. take n (new ++ drop (length new) c.in_ok-rest.rest.items)) long
     ∙ take-append_seam new (drop (length new) c.in_ok-rest.rest.items) in
-    subst (λ (xs : List ℤ). IsLeft c.args.faces.now c.args.sides.now (number_at c.args.of_face.now) first second xs)
+    subst (λ (xs : List ℤ). IsLeft c.args.walks.faces.now c.args.walks.sides.now (number_at c.args.of_face.now) first second xs)
     (sym all) left
-
-pub returns-clause-long : goal.returns-clause-long
-returns-clause-long c =
-    let first : List ℕ = c.args.walks.first.now in
-    let second : List ℕ = c.args.walks.second.now in
-    let new : List ℤ = c.take_faces.new.tally in
-    let left : IsLeft c.args.faces.now c.args.sides.now (number_at c.args.of_face.now) first second new =
-    left_over c.args.faces.now c.args.sides.now (number_at c.args.of_face.now) first second c.deref_mut.result.now new
-    (subst (λ (xs : List ℤ). AreNumbersOf c.args.sides.now xs (count_difference first second))
-    (sym c.deref_mut.ensures.value) c.in_ok-rest.ensures.counts) c.take_faces.ensures in
-    let long : c.in_ok-rest.rest.len ≡ length new = omega (arith, c.deref_mut.ensures.len, c.take_faces.ensures.long) in
-    let all : take c.in_ok-rest.rest.len (new ++ drop (length new) c.in_ok-rest.rest.items) ≡ new =
-    ap (λ n. take n (new ++ drop (length new) c.in_ok-rest.rest.items)) long
-    ∙ take-append_seam new (drop (length new) c.in_ok-rest.rest.items) in
-    ap (λ (xs : List ℤ). length xs) all ∙ left.long

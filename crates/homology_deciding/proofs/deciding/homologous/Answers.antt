@@ -4,54 +4,36 @@ use Rattle.halfedge_map.specs.OrientedMeshes.{OrientedMesh}
 use Rattle.homology.specs.Chains.{count_difference}
 use Rattle.homology.specs.Tallies.{AreNumbersOf}
 use Rattle.std.specs.Prelude.{IfOk}
-use Rattle.homology_deciding.specs.Proofs.{IsProofFor}
+use Rattle.homology_deciding.specs.Proofs.{CountsOf, IsProofFor}
 use Rattle.homology_deciding.proofs.LoopLemmas.{if_ok}
 use Rattle.homology_deciding.proofs.ProofLemmas.{exact_proof}
 use Rattle.homology_deciding.proofs.deciding.homologous.Goals as goal
+use Rattle.homology_deciding.proofs.deciding.homologous.Goals.{After-deref_mut}
+
+-- so much more is counted of the first walk than of the second
+counted : (c : After-deref_mut) → CountsOf c.in_ok-tree.tree c.args.first.now c.args.second.now c.deref_mut.result.now
+counted c = record {
+  are_counts =
+      subst (λ (s : OrientedMesh). AreNumbersOf s.table c.deref_mut.result.now (count_difference c.args.first.now c.args.second.now))
+      (sym c.in_ok-tree.ensures.surface)
+      (subst (λ (xs : List ℤ). AreNumbersOf c.args.surface.now.table xs (count_difference c.args.first.now c.args.second.now))
+      (sym c.deref_mut.ensures.value)
+      (subst (λ (t : List Edge). AreNumbersOf t c.in_ok-counts.counts.items (count_difference c.args.first.now c.args.second.now))
+      c.sides.ensures.table c.in_ok-counts.ensures.counts));
+  few = c.requires.few;
+}
 
 pub prove-requires-clause-walks : goal.prove-requires-clause-walks
-prove-requires-clause-walks c = (
-  c.args.first.now,
-  c.args.second.now,
-  record {
-    are_counts =
-        subst (λ (s : OrientedMesh). AreNumbersOf s.table c.deref_mut.result.now (count_difference c.args.first.now c.args.second.now))
-        (sym c.in_ok-tree.ensures.surface)
-        (subst (λ (xs : List ℤ). AreNumbersOf c.args.surface.now.table xs (count_difference c.args.first.now c.args.second.now))
-        (sym c.deref_mut.ensures.value)
-        (subst (λ (t : List Edge). AreNumbersOf t c.in_ok-counts.counts.items (count_difference c.args.first.now c.args.second.now))
-        c.sides.ensures.table c.in_ok-counts.ensures.counts));
-    few = c.requires.few;
-  },
-)
+prove-requires-clause-walks c =
+    (c.args.first.now, c.args.second.now, counted (goal.at.prove-requires-clause-walks c).After-deref_mut)
 
 pub returns-clause-proof : goal.returns-clause-proof
 returns-clause-proof c =
     subst (λ (s : OrientedMesh). IfOk c.prove.result (IsProofFor s c.args.first.now c.args.second.now)) c.in_ok-tree.ensures.surface
-    (c.prove.ensures c.args.first.now c.args.second.now (record {
-      are_counts =
-          subst (λ (s : OrientedMesh). AreNumbersOf s.table c.deref_mut.result.now (count_difference c.args.first.now c.args.second.now))
-          (sym c.in_ok-tree.ensures.surface)
-          (subst (λ (xs : List ℤ). AreNumbersOf c.args.surface.now.table xs (count_difference c.args.first.now c.args.second.now))
-          (sym c.deref_mut.ensures.value)
-          (subst (λ (t : List Edge). AreNumbersOf t c.in_ok-counts.counts.items (count_difference c.args.first.now c.args.second.now))
-          c.sides.ensures.table c.in_ok-counts.ensures.counts));
-      few = c.requires.few;
-    }))
+    (c.prove.ensures c.args.first.now c.args.second.now (counted (goal.at.returns-clause-proof c).After-deref_mut))
 
 pub returns-clause-exact : goal.returns-clause-exact
 returns-clause-exact c =
-    let shown : IfOk c.prove.result (IsProofFor c.args.surface.now c.args.first.now c.args.second.now) =
-    subst (λ (s : OrientedMesh). IfOk c.prove.result (IsProofFor s c.args.first.now c.args.second.now)) c.in_ok-tree.ensures.surface
-    (c.prove.ensures c.args.first.now c.args.second.now (record {
-      are_counts =
-          subst (λ (s : OrientedMesh). AreNumbersOf s.table c.deref_mut.result.now (count_difference c.args.first.now c.args.second.now))
-          (sym c.in_ok-tree.ensures.surface)
-          (subst (λ (xs : List ℤ). AreNumbersOf c.args.surface.now.table xs (count_difference c.args.first.now c.args.second.now))
-          (sym c.deref_mut.ensures.value)
-          (subst (λ (t : List Edge). AreNumbersOf t c.in_ok-counts.counts.items (count_difference c.args.first.now c.args.second.now))
-          c.sides.ensures.table c.in_ok-counts.ensures.counts));
-      few = c.requires.few;
-    })) in
+    let shown : IfOk c.prove.result (IsProofFor c.args.surface.now c.args.first.now c.args.second.now) = returns-clause-proof c in
     if_ok c.prove.result shown shown
     (λ proof a b. exact_proof c.args.surface.now c.args.first.now c.args.second.now proof c.requires.first c.requires.second a)

@@ -9,16 +9,6 @@ use Rattle.homology_deciding.proofs.deciding.proof_from.Goals as goal
 pub of-requires : goal.of-requires
 of-requires c = omega (arith, c.requires.numbers, few_faces c.args.tree.now.surface.now c.requires.tree.valid c.requires.tree.small)
 
-pub of-requires-in-Some : goal.of-requires-in-Some
-of-requires-in-Some c =
-    omega (
-      arith,
-      c.in_ok-cut-in-Some.ensures.each_edge.long,
-      c.len.ensures,
-      c.len.type_inv,
-      ap (λ (t : List Edge). length t) c.sides-in-Some.ensures.table,
-    )
-
 pub returns-in-None : goal.returns-in-None
 returns-in-None c = λ first second leaves.
     let s : OrientedMesh = c.args.tree.now.surface.now in
@@ -33,4 +23,4 @@ returns-in_ok-cut-in-Some c = λ first second leaves.
     subst (IsCocycleFor s first second) (sym c.of-in-Some.ensures)
     (cocycle_proof c.args.tree.now c.requires.tree first second c.args.numbers.items c.args.rest.now leaves e c.rising_dart-dart.result.0
     c.in_ok-cut-in-Some.field-0.items (subst (λ (t : List Edge). e < length t) c.sides.ensures.table c.in-Some.ensures.found)
-    c.in-Some.ensures.nonzero c.rising_dart-dart.ensures c.in_ok-cut-in-Some.ensures)
+    c.in-Some.ensures.nonzero c.rising_dart-dart.ensures c.in_ok-cut-in-Some.ensures.cut)

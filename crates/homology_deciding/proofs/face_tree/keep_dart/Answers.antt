@@ -13,14 +13,14 @@ bounds-ups-face c =
     let s : OrientedMesh = c.args.surface.now in
     subst (λ x. x < length c.args.ups.now) c.dart_in.ensures.face
     (subst (λ n. face_of s c.dart_in.result.0 < n) (sym c.requires.ups.each_face)
-    ((names_all s c.faces.ensures.valid).face_below c.dart_in.result.0 c.dart_in.ensures.within))
+    ((names_all s c.requires.surface).face_below c.dart_in.result.0 c.dart_in.ensures.within))
 
 pub returns-in-Some : goal.returns-in-Some
 returns-in-Some c =
-    ups_more c.args.surface.now c.args.split.now c.faces.ensures.valid c.args.edge.0 c.in-Some.face.0 c.dart_in.result c.args.ups.now
+    ups_more c.args.surface.now c.args.split.now c.requires.surface c.args.edge.0 c.in-Some.face.0 c.dart_in.result c.args.ups.now
     c.requires.ups (sym c.in-Some.ensures) c.dart_in.ensures.within c.dart_in.ensures.edge c.dart_in.ensures.face
 
 pub returns-in_default : goal.returns-in_default
 returns-in_default c =
-    ups_pass c.args.surface.now c.args.split.now c.faces.ensures.valid c.args.edge.0 c.args.ups.now c.requires.ups
+    ups_pass c.args.surface.now c.args.split.now c.requires.surface c.args.edge.0 c.args.ups.now c.requires.ups
     (sym c.in_default.ensures)

@@ -2,35 +2,32 @@ use Rattle.std.proofs.Common.{◌≡◌, ◌<◌, ℕ, ℤ, List, [], length, ap
 use Rattle.std.specs.Prelude.{is_some}
 use Rattle.surf_model.specs.declared.names.DartName.{DartName}
 use Rattle.halfedge_map.specs.OrientedMeshes.{OrientedMesh}
-use Rattle.halfedge_map.specs.DartMaps.{face_of}
+use Rattle.halfedge_map.specs.DartMaps.{darts_of, face_of}
 use Rattle.homology_deciding.specs.FaceTrees.{up_of, IsWayUp}
-use Rattle.homology_deciding.specs.Heights.{height_of, dart_count}
-use Rattle.homology_deciding.proofs.LoopLemmas.{top_known, known, height_small, height_more, height_kept, height_there, added_fits, added_is}
+use Rattle.homology_deciding.specs.Heights.{height_of, dart_count, EndsAtHeight}
+use Rattle.homology_deciding.proofs.LoopLemmas.{IsTopKnown, top_known, known, height_small, height_more, height_kept, height_there, added_fits, added_is}
 use Rattle.homology_deciding.proofs.heights.settle.Goals as goal
+use Rattle.homology_deciding.proofs.heights.settle.Goals.{In-Some}
+
+-- what holds of the dart at the upper end of the way
+top : (c : In-Some) (f : ℕ) → EndsAtHeight c.args.tree.now c.args.heights.now f c.args.way.now.items
+    → IsTopKnown c.args.tree.now c.requires.tree c.args.counts.now c.requires.small c.loop-up.heights f c.pop.new.self.items c.in-Some.up
+top c f ends =
+    top_known c.args.tree.now c.requires.tree c.args.counts.now c.requires.small c.loop-up.heights f c.loop-up.way.items
+    c.pop.new.self.items c.in-Some.up c.in-Some.ensures.items (c.loop-up.invariant.ends f ends)
+
+within : (c : In-Some) → c.in-Some.up.0 < darts_of c.args.tree.now.surface.now
+within c =
+    c.requires.tree.within (face_of c.args.tree.now.surface.now c.in-Some.up.0) c.in-Some.up (top c c.requires.way.0 c.requires.way.1).up
 
 pub above-requires : goal.above-requires
-above-requires c =
-    let tree = c.args.tree.now in
-    let w = c.requires.way in
-    let top = top_known tree c.requires.tree c.args.counts.now c.requires.small c.loop-up.heights w.0 c.loop-up.way.items
-    c.pop.new.self.items c.in-Some.up c.in-Some.ensures.items (c.loop-up.invariant.ends w.0 w.1) in
-    c.requires.tree.within (face_of tree.surface.now c.in-Some.up.0) c.in-Some.up top.up
+above-requires c = within (goal.at.above-requires c).In-Some
 
 pub face_of-face-requires : goal.face_of-face-requires
-face_of-face-requires c =
-    let tree = c.args.tree.now in
-    let w = c.requires.way in
-    let top = top_known tree c.requires.tree c.args.counts.now c.requires.small c.loop-up.heights w.0 c.loop-up.way.items
-    c.pop.new.self.items c.in-Some.up c.in-Some.ensures.items (c.loop-up.invariant.ends w.0 w.1) in
-    c.requires.tree.within (face_of tree.surface.now c.in-Some.up.0) c.in-Some.up top.up
+face_of-face-requires c = within (goal.at.face_of-face-requires c).In-Some
 
 pub count_at-requires-clause-dart : goal.count_at-requires-clause-dart
-count_at-requires-clause-dart c =
-    let tree = c.args.tree.now in
-    let w = c.requires.way in
-    let top = top_known tree c.requires.tree c.args.counts.now c.requires.small c.loop-up.heights w.0 c.loop-up.way.items
-    c.pop.new.self.items c.in-Some.up c.in-Some.ensures.items (c.loop-up.invariant.ends w.0 w.1) in
-    c.requires.tree.within (face_of tree.surface.now c.in-Some.up.0) c.in-Some.up top.up
+count_at-requires-clause-dart c = within (goal.at.count_at-requires-clause-dart c).In-Some
 
 pub overflow_add-heights : goal.overflow_add-heights
 overflow_add-heights c =
@@ -46,9 +43,7 @@ loop-up-preserved-in-Some-heights c =
     let counts : List ℤ = c.args.counts.now in
     let heights = c.loop-up.heights in
     let up : DartName = c.in-Some.up in
-    let w = c.requires.way in
-    let top = top_known tree c.requires.tree counts c.requires.small heights w.0 c.loop-up.way.items c.pop.new.self.items up
-    c.in-Some.ensures.items (c.loop-up.invariant.ends w.0 w.1) in
+    let at = (goal.at.loop-up-preserved-in-Some-heights c).In-Some in
     let f : ℕ = c.face_of-face.result.0 in
     let face : f ≡ face_of s up.0 = c.face_of-face.ensures.face in
     let height : ℤ = c.in-Some-heights.height in
@@ -61,28 +56,24 @@ loop-up-preserved-in-Some-heights c =
     let room : f < length heights = omega (arith, c.face_of-face.ensures.within, c.loop-up.invariant.heights.each_face) in
     record {
       heights = height_more tree c.requires.tree counts c.requires.small heights f up height sum c.loop-up.invariant.heights
-          (ap (up_of tree.ups.items) face ∙ top.up)
+          (ap (up_of tree.ups.items) face ∙ (top at c.requires.way.0 c.requires.way.1).up)
           (ap (height_of heights) (sym c.above.ensures.face) ∙ c.in-Some-heights.is) is c.face_of-face.ensures.within;
       kept = λ g is_known.
           height_kept tree c.requires.tree counts c.requires.small heights f g sum room (c.loop-up.invariant.kept g is_known);
-      ends = λ g ends.
-          let here = top_known tree c.requires.tree counts c.requires.small heights g c.loop-up.way.items c.pop.new.self.items up
-          c.in-Some.ensures.items (c.loop-up.invariant.ends g ends) in (
-            f,
-            subst (IsWayUp s tree.ups.items g c.pop.new.self.items) (sym face) here.below,
-            height_there tree c.requires.tree counts c.requires.small heights f sum room,
-          );
+      ends = λ g ends. (
+        f,
+        subst (IsWayUp s tree.ups.items g c.pop.new.self.items) (sym face) (top at g ends).below,
+        height_there tree c.requires.tree counts c.requires.small heights f sum room,
+      );
     }
 
 pub loop-up-preserved : goal.loop-up-preserved
 loop-up-preserved c =
     let tree = c.args.tree.now in
-    let w = c.requires.way in
-    let top = top_known tree c.requires.tree c.args.counts.now c.requires.small c.loop-up.heights w.0 c.loop-up.way.items
-    c.pop.new.self.items c.in-Some.up c.in-Some.ensures.items (c.loop-up.invariant.ends w.0 w.1) in
+    let at = (goal.at.loop-up-preserved c).In-Some in
     let height = known tree c.requires.tree c.args.counts.now c.requires.small c.loop-up.heights c.above.result.0
     (height_of c.loop-up.heights c.above.result.0) refl
-    (ap (λ g. is_some (height_of c.loop-up.heights g)) c.above.ensures.face ∙ top.known) in
+    (ap (λ g. is_some (height_of c.loop-up.heights g)) c.above.ensures.face ∙ (top at c.requires.way.0 c.requires.way.1).known) in
     absurd (c.in_default-heights.not-Some height.0 height.1)
 
 pub returns-clause-found : goal.returns-clause-found

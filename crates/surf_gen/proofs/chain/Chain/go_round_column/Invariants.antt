@@ -1,8 +1,12 @@
-use Rattle.std.proofs.Common.{◌≡◌, ◌-◌, ◌++◌, map}
+use Rattle.std.proofs.Common.{◌≡◌, ◌+◌, ◌-◌, ◌++◌, length, map}
 use Rattle.std.specs.List.{range_with_len}
 use Rattle.surf_gen.specs.Chains.{point, number}
 use Rattle.surf_gen.proofs.chain.Chain.go_round_column.Given as goal
 
 abbrev pub invariant-loop-row : goal.invariant-loop-row
 invariant-loop-row l =
-    l.walk ≡ l.initial.walk ++ map (number l.self.grid) (map (λ row. point 0 row (l.self.grid - 1)) (range_with_len 0 l.row))
+    record {
+      passed :
+          l.walk ≡ l.initial.walk ++ map (number l.self.grid) (map (λ row. point 0 row (l.self.grid - 1)) (range_with_len 0 l.row));
+      long : length l.walk ≡ length l.initial.walk + l.row;
+    }

@@ -1,8 +1,11 @@
-use Rattle.std.proofs.Common.{◌≡◌, ◌-◌, ◌++◌, map}
+use Rattle.std.proofs.Common.{◌≡◌, ◌+◌, ◌-◌, ◌++◌, length, map}
 use Rattle.std.specs.List.{range_with_len}
 use Rattle.surf_gen.specs.Chains.{point, number}
 use Rattle.surf_gen.proofs.chain.Chain.go_round_row.Given as goal
 
 abbrev pub invariant-loop-column : goal.invariant-loop-column
 invariant-loop-column l =
-    l.walk ≡ l.initial.walk ++ map (number l.self.grid) (map (λ column. point 0 (l.self.grid - 1) column) (range_with_len 0 l.column))
+    record {
+      passed : l.walk ≡ l.initial.walk ++ map (number l.self.grid) (map (point 0 (l.self.grid - 1)) (range_with_len 0 l.column));
+      long : length l.walk ≡ length l.initial.walk + l.column;
+    }
