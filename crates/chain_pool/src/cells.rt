@@ -22,6 +22,32 @@ pub struct Stack {
     pub len: u32,
 }
 
+impl Stack {
+    /// The stack with one cell more, on top.
+    #[inline(always)]
+    fn with_top(self, cell: u32) -> Stack
+        requires { self.len + 1 < 2 ^ 32 }
+        ensures { result ≡ record { top = cell; len = self.len + 1 } }
+    {
+        Stack {
+            top: cell,
+            len: self.len + 1,
+        }
+    }
+
+    /// The stack without its top cell, where this one lies below it.
+    #[inline(always)]
+    fn without_top(self, below: u32) -> Stack
+        requires { 0 < self.len }
+        ensures { result ≡ record { top = below; len = self.len - 1 } }
+    {
+        Stack {
+            top: below,
+            len: self.len - 1,
+        }
+    }
+}
+
 #[derive(Clone, Copy)]
 pub enum Cell {
     /// A chain: its entries before the place with the nearest on top, and those from the place on.
@@ -91,10 +117,7 @@ impl Cells {
             next: self.free.top,
             value: 0,
         });
-        self.free = Stack {
-            top: key as u32,
-            len: self.free.len + 1,
-        };
+        self.free = self.free.with_top(key as u32);
     }
 
     /// Makes all cells that can be taken.
@@ -159,10 +182,7 @@ impl Cells {
                 right: NO_CELLS,
             },
         );
-        self.free = Stack {
-            top: next,
-            len: self.free.len - 1,
-        };
+        self.free = self.free.without_top(next);
         self.spare -= 1;
         CellName(head)
     }
@@ -183,10 +203,7 @@ impl Cells {
                 value: 0,
             },
         );
-        self.free = Stack {
-            top: chain.0,
-            len: self.free.len + 1,
-        };
+        self.free = self.free.with_top(chain.0);
         self.spare += 1;
     }
 
@@ -262,25 +279,13 @@ impl Cells {
         let (mut left, mut right) = head(&self.slots, chain);
         'on: while left.len < place {
             let next = relink(&mut self.slots, right.top, left.top);
-            left = Stack {
-                top: right.top,
-                len: left.len + 1,
-            };
-            right = Stack {
-                top: next,
-                len: right.len - 1,
-            };
+            left = left.with_top(right.top);
+            right = right.without_top(next);
         }
         'back: while place < left.len {
             let next = relink(&mut self.slots, left.top, right.top);
-            right = Stack {
-                top: left.top,
-                len: right.len + 1,
-            };
-            left = Stack {
-                top: next,
-                len: left.len - 1,
-            };
+            right = right.with_top(left.top);
+            left = left.without_top(next);
         }
         write(&mut self.slots, chain.0, Cell::Head { left, right });
     }
@@ -304,15 +309,9 @@ impl Cells {
                 value,
             },
         );
-        let left = Stack {
-            top: cell,
-            len: left.len + 1,
-        };
+        let left = left.with_top(cell);
         write(&mut self.slots, chain.0, Cell::Head { left, right });
-        self.free = Stack {
-            top: next,
-            len: self.free.len - 1,
-        };
+        self.free = self.free.without_top(next);
         self.spare -= 1;
     }
 
@@ -328,14 +327,8 @@ impl Cells {
         let (left, right) = head(&self.slots, chain);
         let freed = right.top;
         let next = relink(&mut self.slots, freed, self.free.top);
-        self.free = Stack {
-            top: freed,
-            len: self.free.len + 1,
-        };
-        let right = Stack {
-            top: next,
-            len: right.len - 1,
-        };
+        self.free = self.free.with_top(freed);
+        let right = right.without_top(next);
         write(&mut self.slots, chain.0, Cell::Head { left, right });
         self.spare += 1;
     }

@@ -4,7 +4,7 @@ ghost use Rattle.surf_model.specs.Darts.{IsSide};
 ghost use Rattle.surf_model.specs.Surfaces.{start_under, end_under};
 ghost use Rattle.turn_words.specs.Modulo.{add, minus};
 ghost use Rattle.labellings.specs.Labellings.{labels_at, signs_of, tail_label, head_label};
-ghost use Rattle.labellings.specs.GoodLabellings.{HasShape, MeetsTreeRule, MeetsCotreeRule, MeetsLeftoverRule, MeetsSomeRule, SidesMeetRule};
+ghost use Rattle.labellings.specs.GoodLabellings.{HasShape, MeetsTreeRule, MeetsCotreeRule, MeetsLeftoverRule, SidesMeetRule};
 
 use crate::labelling::Labelling;
 use surf_model::{Faces, Side, VertexName};
@@ -60,21 +60,11 @@ pub(crate) fn sides_meet_rule(faces: &Faces, labelling: &Labelling, side: Side, 
 {
     let one = labelled(faces, labelling, side);
     let two = labelled(faces, labelling, other);
-    one.tail == two.head && one.head == two.tail && labels_meet_rule(labelling, one, two)
-}
-
-/// Whether the labels of two sides meet one of the rules.
-fn labels_meet_rule(labelling: &Labelling, one: LabelledSide, two: LabelledSide) -> bool
-    requires one_tail { one.tail_label < labelling.now.degree }
-    requires one_head { one.head_label < labelling.now.degree }
-    requires two_tail { two.tail_label < labelling.now.degree }
-    requires two_head { two.head_label < labelling.now.degree }
-    requires each_spoke { length labelling.now.places ≡ labelling.now.degree }
-    requires places { All (λ place. place < labelling.now.degree) labelling.now.places }
-    ensures { IsTrue result
-        ↔ MeetsSomeRule labelling.now.places one.tail_label one.head_label two.tail_label two.head_label }
-{
-    follows_tree(one, two) || follows_cotree(one, two) || follows_leftover(labelling, one, two)
+    one.tail == two.head
+        && one.head == two.tail
+        && (follows_tree(one, two)
+            || follows_cotree(one, two)
+            || follows_leftover(labelling, one, two))
 }
 
 /// Along the one side and along the other the label stays.

@@ -8,6 +8,7 @@ pub mod RingSets
 pub mod Searches
 pub mod Graphs
 pub mod Waiting
+pub mod Underway
 pub mod Ways
 pub mod Markings
 pub mod Joinings

@@ -2,10 +2,9 @@
 ghost use Rattle.std.specs.Prelude.{◌≡◌, ◌<◌, true, length, OnOk, IfOk};
 ghost use Rattle.halfedge_map.specs.OrientedMeshes.{IsOrientedSurface};
 ghost use Rattle.halfedge_map.specs.DartMaps.{darts_of};
-ghost use Rattle.tree_cotree.specs.RingViews.{dart_numbers};
 ghost use Rattle.tree_cotree.specs.Graphs.{maps_of, node_in, turn_in, crosses};
-ghost use Rattle.tree_cotree.specs.Waiting.{waiting_darts};
-ghost use Rattle.tree_cotree.specs.Searches.{same_kind, AreBelow, IsFound, IsOrder, IsCrossed, IsSearched, AreAdded};
+ghost use Rattle.tree_cotree.specs.Underway.{found_by, HasFound, IsOrdered, GoesOn};
+ghost use Rattle.tree_cotree.specs.Searches.{same_kind, AreBelow, IsCrossed, IsSearched};
 
 use crate::maybe_number::MaybeNumber;
 use crate::split::Kind;
@@ -123,18 +122,12 @@ fn cross(
     requires kinds { length graph.now.kinds.now ≡ length graph.now.surface.now.table }
     requires below { AreBelow (maps_of graph.now) (node_in graph.now) (length search.old.from.items) }
     requires dart { dart.0 < darts_of graph.now.surface.now }
-    requires found { IsFound (node_in graph.now) (dart_numbers search.old.order.items)
-        (node_in graph.now dart.0) }
-    requires order { IsOrder (maps_of graph.now) (node_in graph.now) (crosses graph.now)
-        (length search.old.from.items) root (dart_numbers search.old.order.items) search.old.from.items }
-    ensures order { OnOk result (IsOrder (maps_of graph.now) (node_in graph.now) (crosses graph.now)
-        (length search.old.from.items) root (dart_numbers search.new.order.items) search.new.from.items) }
-    ensures added { OnOk result (AreAdded (dart_numbers search.old.order.items)
-        (waiting_darts search.old.waiting.far.items search.old.waiting.near.items)
-        (dart_numbers search.new.order.items) (waiting_darts search.new.waiting.far.items search.new.waiting.near.items)) }
+    requires found { HasFound graph.now search.old (node_in graph.now dart.0) }
+    requires order { IsOrdered graph.now (length search.old.from.items) root search.old }
+    ensures order { OnOk result (IsOrdered graph.now (length search.old.from.items) root search.new) }
+    ensures added { OnOk result (GoesOn search.old search.new) }
     ensures crossed { OnOk result (crosses graph.now ((maps_of graph.now).edge dart.0) ≡ true
-        → IsFound (node_in graph.now) (dart_numbers search.new.order.items)
-        (node_in graph.now ((maps_of graph.now).twin dart.0))) }
+        → HasFound graph.now search.new (node_in graph.now ((maps_of graph.now).twin dart.0))) }
 {
     if !graph.may_cross(dart) {
         return Ok(());
@@ -160,17 +153,12 @@ fn visit(
     requires kinds { length graph.now.kinds.now ≡ length graph.now.surface.now.table }
     requires below { AreBelow (maps_of graph.now) (node_in graph.now) (length search.old.from.items) }
     requires dart { first.0 < darts_of graph.now.surface.now }
-    requires found { IsFound (node_in graph.now) (dart_numbers search.old.order.items)
-        (node_in graph.now first.0) }
-    requires order { IsOrder (maps_of graph.now) (node_in graph.now) (crosses graph.now)
-        (length search.old.from.items) root (dart_numbers search.old.order.items) search.old.from.items }
-    ensures order { OnOk result (IsOrder (maps_of graph.now) (node_in graph.now) (crosses graph.now)
-        (length search.old.from.items) root (dart_numbers search.new.order.items) search.new.from.items) }
-    ensures added { OnOk result (AreAdded (dart_numbers search.old.order.items)
-        (waiting_darts search.old.waiting.far.items search.old.waiting.near.items)
-        (dart_numbers search.new.order.items) (waiting_darts search.new.waiting.far.items search.new.waiting.near.items)) }
+    requires found { HasFound graph.now search.old (node_in graph.now first.0) }
+    requires order { IsOrdered graph.now (length search.old.from.items) root search.old }
+    ensures order { OnOk result (IsOrdered graph.now (length search.old.from.items) root search.new) }
+    ensures added { OnOk result (GoesOn search.old search.new) }
     ensures crossed { OnOk result (IsCrossed (maps_of graph.now) (node_in graph.now)
-        (crosses graph.now) (dart_numbers search.new.order.items) (node_in graph.now first.0)) }
+        (crosses graph.now) (found_by search.new) (node_in graph.now first.0)) }
 {
     let mut dart = first;
     for _turn in 0..graph.surface.darts() {

@@ -30,14 +30,14 @@ overflow_add-self c =
           c.args.chain.0 c.head.result.0 c.head.result.1 c.head.ensures,
     )
 
-pub overflow_sub-right : goal.overflow_sub-right
-overflow_sub-right c = omega (arith, some (goal.at.overflow_sub-right c).After-head)
+pub without_top-right-requires : goal.without_top-right-requires
+without_top-right-requires c = omega (arith, some (goal.at.without_top-right-requires c).After-head)
 
-pub overflow_add-self-2 : goal.overflow_add-self-2
-overflow_add-self-2 c =
+pub with_top-self-inside-requires : goal.with_top-self-inside-requires
+with_top-self-inside-requires c =
     omega (
       arith,
-      some (goal.at.overflow_add-self-2 c).After-head,
+      some (goal.at.with_top-self-inside-requires c).After-head,
       few c.self.inside.slots.slots c.self.inside.slots.capacity c.self.inside.free c.self.inside.spare c.self.invariant
           c.args.chain.0 c.head.result.0 c.head.result.1 c.head.ensures,
     )
@@ -46,7 +46,7 @@ pub invariant_of-self : goal.invariant_of-self
 invariant_of-self c =
     let written = twice_written c.self.inside.slots c.relink-next.new.slots c.write.new.slots _ _ _ _ c.relink-next.ensures.2
     c.write.ensures in
-    rw (written.slots, written.capacity)
+    rw (written.slots, written.capacity, c.with_top-self-inside.ensures, c.without_top-right.ensures)
     (cut_edits c.self.inside.slots.slots c.self.inside.slots.capacity c.self.inside.free c.self.inside.spare
     c.self.invariant c.args.chain.0 c.head.result.0 c.head.result.1 c.head.ensures c.relink-next.result c.relink-next.ensures.0
     c.relink-next.ensures.1 (some (goal.at.invariant_of-self c).After-head)).sound
@@ -56,6 +56,7 @@ returns-clause-chain c =
     let written = twice_written c.self.inside.slots c.relink-next.new.slots c.write.new.slots _ _ _ _ c.relink-next.ensures.2
     c.write.ensures in
     let same : chains_of c.self.inside.slots.slots ≡ c.args.self.now.chains = view (goal.at.returns-clause-chain c).After-head in
-    rw (written.slots, ← same) (cut_edits c.self.inside.slots.slots c.self.inside.slots.capacity c.self.inside.free c.self.inside.spare
+    rw (written.slots, c.without_top-right.ensures, ← same)
+    (cut_edits c.self.inside.slots.slots c.self.inside.slots.capacity c.self.inside.free c.self.inside.spare
     c.self.invariant c.args.chain.0 c.head.result.0 c.head.result.1 c.head.ensures c.relink-next.result c.relink-next.ensures.0
     c.relink-next.ensures.1 (some (goal.at.returns-clause-chain c).After-head)).edit

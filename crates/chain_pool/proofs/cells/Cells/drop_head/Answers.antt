@@ -41,9 +41,9 @@ overflow_add-self c =
           c.args.chain.0 (found at).left (found at).right (found at).is,
     )
 
-pub overflow_add-self-2 : goal.overflow_add-self-2
-overflow_add-self-2 c =
-    let at = (goal.at.overflow_add-self-2 c).After-write in
+pub with_top-self-inside-requires : goal.with_top-self-inside-requires
+with_top-self-inside-requires c =
+    let at = (goal.at.with_top-self-inside-requires c).After-write in
     omega (
       arith,
       few c.self.inside.slots.slots c.self.inside.slots.capacity c.self.inside.free c.self.inside.spare c.self.invariant
@@ -54,7 +54,7 @@ pub invariant_of-self : goal.invariant_of-self
 invariant_of-self c =
     let at = (goal.at.invariant_of-self c).After-write in
     let written = once_written c.self.inside.slots c.write.new.slots _ _ c.write.ensures in
-    rw (written.slots, written.capacity)
+    rw (written.slots, written.capacity, c.with_top-self-inside.ensures)
     (drop_sound c.self.inside.slots.slots c.self.inside.slots.capacity c.self.inside.free c.self.inside.spare c.self.invariant
     c.args.chain.0 (found at).left (found at).right (found at).is (no_left at) (no_right at)).sound
 

@@ -9,7 +9,7 @@ wanted c = omega (arith, c.requires, ap (λ (v : PartedChains). v.free) c.self.v
 
 pub invariant_of-self : goal.invariant_of-self
 invariant_of-self c =
-    rw c.insert_reserved-key.ensures.capacity
+    rw (c.insert_reserved-key.ensures.capacity, c.with_top-self-inside.ensures)
     (make_sound c.self.inside.slots.slots c.self.inside.slots.capacity c.self.inside.free c.self.inside.spare c.self.invariant
     c.insert_reserved-key.new.self.slots c.insert_reserved-key.result 0 c.insert_reserved-key.ensures.was_vacant
     c.insert_reserved-key.ensures.updates.changed c.insert_reserved-key.ensures.updates.others c.insert_reserved-key.ensures.len

@@ -16,7 +16,7 @@ some c = omega (arith, c.requires, ap (λ (v : PartedChains). v.free) c.self.vie
 pub invariant_of-self : goal.invariant_of-self
 invariant_of-self c =
     let written = once_written c.self.inside.slots c.write.new.slots _ _ c.write.ensures in
-    rw (written.slots, written.capacity)
+    rw (written.slots, written.capacity, c.without_top-self-inside.ensures)
     (start_sound c.self.inside.slots.slots c.self.inside.slots.capacity c.self.inside.free c.self.inside.spare c.self.invariant
     c.entry-next.result.0 c.entry-next.result.1 c.entry-next.ensures (some (goal.at.invariant_of-self c).After-write)).sound
 

@@ -28,21 +28,21 @@ relink-next-requires c =
     c.args.chain.0 c.on.left c.on.right c.on.invariant
     (behind (goal.at.relink-next-requires c).At-on c.on-test.true)
 
-pub overflow_add-left : goal.overflow_add-left
-overflow_add-left c = omega (
+pub with_top-left-requires : goal.with_top-left-requires
+with_top-left-requires c = omega (
   arith,
   few_now c.args.self.now c.on.self-inside.slots.slots c.on.self-inside.slots.capacity c.on.self-inside.free
       c.on.self-inside.spare
       c.args.chain.0 c.on.left c.on.right c.on.invariant,
 )
 
-pub overflow_sub-right : goal.overflow_sub-right
-overflow_sub-right c = omega (arith, behind (goal.at.overflow_sub-right c).At-on c.on-test.true)
+pub without_top-right-requires : goal.without_top-right-requires
+without_top-right-requires c = omega (arith, behind (goal.at.without_top-right-requires c).At-on c.on-test.true)
 
 pub on-preserved : goal.on-preserved
 on-preserved c =
     let written = once_written c.on.self-inside.slots c.relink-next.new.slots _ _ c.relink-next.ensures.2 in
-    rw (written.slots, written.capacity)
+    rw (written.slots, written.capacity, c.with_top-left.ensures, c.without_top-right.ensures)
     (going_on c.args.self.now c.on.self-inside.slots.slots c.on.self-inside.slots.capacity c.on.self-inside.free c.on.self-inside.spare
     c.args.chain.0 c.on.left c.on.right c.on.invariant
     c.relink-next.result c.relink-next.ensures.0 c.relink-next.ensures.1
@@ -55,8 +55,8 @@ relink-next-requires-in-back c =
     c.args.chain.0 c.back.left c.back.right c.back.invariant.0
     (omega (arith, c.back-test.true))
 
-pub overflow_add-right : goal.overflow_add-right
-overflow_add-right c = omega (
+pub with_top-right-requires : goal.with_top-right-requires
+with_top-right-requires c = omega (
   arith,
   few_now c.args.self.now c.back.self-inside.slots.slots c.back.self-inside.slots.capacity c.back.self-inside.free
       c.back.self-inside.spare
@@ -66,13 +66,13 @@ overflow_add-right c = omega (
 pub back-preserved : goal.back-preserved
 back-preserved c =
     let written = once_written c.back.self-inside.slots c.relink-next-in-back.new.slots _ _ c.relink-next-in-back.ensures.2 in (
-      rw (written.slots, written.capacity)
+      rw (written.slots, written.capacity, c.with_top-right.ensures, c.without_top-left.ensures)
           (going_back c.args.self.now c.back.self-inside.slots.slots c.back.self-inside.slots.capacity c.back.self-inside.free
           c.back.self-inside.spare
           c.args.chain.0 c.back.left c.back.right c.back.invariant.0
           c.relink-next-in-back.result c.relink-next-in-back.ensures.0 c.relink-next-in-back.ensures.1
           (omega (arith, c.back-test.true))),
-      omega (arith, c.back-test.true),
+      rw c.without_top-left.ensures (omega (arith, c.back-test.true)),
     )
 
 pub invariant_of-self : goal.invariant_of-self
