@@ -1,22 +1,8 @@
 //! Files in memory and of the system, with each read that fails.
-use std::alloc::{AllocError, Global};
+use crate::bytes::{byte_at, bytes_of};
 use std::test::Fail;
 use std::{env, fs, process};
 use surf_io::{Failed, FileShelf, MemoryShelf, QuietShelf, ReadEnd, Shelf, read_whole};
-
-/// The byte of a file at a place. Files of different letters have different bytes everywhere.
-fn byte_at(letter: u8, place: u64) -> u8 {
-    ((place % 241) as u8).wrapping_add(letter)
-}
-
-/// Bytes that repeat only every 241 places, so that a piece that is lost or read twice shows.
-fn bytes_of(alloc: Global, letter: u8, count: u64) -> Result<Vec<u8>, AllocError> {
-    let mut bytes = Vec::new(alloc);
-    for place in 0..count {
-        bytes.push(byte_at(letter, place))?;
-    }
-    Ok(bytes)
-}
 
 /// Three pieces of 65,536 bytes, the 3,392 that are left, and the end are five reads.
 #[test]

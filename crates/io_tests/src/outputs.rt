@@ -1,4 +1,5 @@
 //! Output in memory and of the system, with each write that fails.
+use crate::bytes::bytes_of;
 use std::cell::{Cell, RefCell};
 use std::fmt::Display;
 use std::io::{self, ErrorKind};
@@ -68,7 +69,7 @@ fn output_of_the_system(rt: HostRuntime) -> Result<(), Fail> {
         calls: Cell::new(0),
         fails: Cell::new(false),
     };
-    let bytes = vec![in rt.alloc(); 7; 100_000]?;
+    let bytes = bytes_of(rt.alloc(), b'a', 100_000)?;
     let mut sink = OutSink::new(&recorder);
     // Three bytes at once, so that some of them come in the next buffer.
     for piece in bytes.chunks(3) {
