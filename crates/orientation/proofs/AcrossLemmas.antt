@@ -11,7 +11,7 @@ use Rattle.surf_model.specs.Surfaces.{ArePartners}
 use Rattle.surf_model.specs.declared.edges.Side.{Side}
 use Rattle.surf_model.proofs.TableLemmas.{face_side_in, next_within}
 use Rattle.surf_model.proofs.SideNumberLemmas.{side_below}
-use Rattle.surf_model.specs.EdgeDarts.{IsNextInEdge}
+use Rattle.surf_model.specs.EdgeDarts.{IsNextInEdge, darts_of}
 use Rattle.surf_model.proofs.PartnerLemmas.{whole_side, IsSideOfEdge, side_of_edge, edge_has_side, table_edge, partners_of_edge}
 use Rattle.orientation.specs.Classes.{EachEdgeHasAtMostTwoSides}
 use Rattle.orientation.specs.Trees.{IsAcross, IsAlong}
@@ -88,6 +88,30 @@ one_number mesh a b is_a is_b same =
     ap side_name (sym at_a.2 ∙ get_or_default all at_a.0 (entry_of mesh a) (entry_of mesh b) at_a.1 ∙ ap
     (λ k. get_or all k (entry_of mesh b)) place ∙ at_b.2)
 
+abbrev IsAtPlace : List Side → ℕ → Side → Type 0
+IsAtPlace sides i side = (i < length sides) × (get_or sides i side ≡ side)
+
+-- the place of a side's number among those of edge k is that of the side
+at_place : (mesh : FaceList) (table : List Edge) (k i default : ℕ) (side : Side) (dart : ℕ) → IsTableOf mesh table → k < length table
+    → IsSide mesh side → dart ≡ side_number mesh side → i < length (darts_of mesh (edge_in table k))
+    → get_or (darts_of mesh (edge_in table k)) i default ≡ dart → IsAtPlace (edge_in table k).sides i side
+at_place mesh table k i default side dart is in_table in_mesh number in_edge here =
+    let sides : List Side = (edge_in table k).sides in
+    let few : i < length sides = omega (arith, in_edge, length-map sides (side_number mesh)) in
+    let at : side_number mesh (get_or sides i side) ≡ dart = sym (get_or-map (side_number mesh) sides i side default few) ∙ here in
+    let stands : IsSideOfEdge mesh (edge_in table k) (get_or sides i side) = side_of_edge mesh (edge_in table k) i
+    side (table_edge mesh table k is in_table) few in
+    (few, one_number mesh (get_or sides i side) side stands.side_of in_mesh (at ∙ number))
+
+-- an edge with a side's number has the side
+pub has_numbered : (mesh : FaceList) (table : List Edge) (k : ℕ) (side : Side) (dart : ℕ) → IsTableOf mesh table → k < length table
+    → IsSide mesh side → dart ≡ side_number mesh side → Contains (darts_of mesh (edge_in table k)) dart
+    → Contains (edge_in table k).sides side
+has_numbered mesh table k side dart is in_table in_mesh number has =
+    let at : IsAtPlace (edge_in table k).sides has.0 side =
+    at_place mesh table k has.0 dart side dart is in_table in_mesh number has.1 has.2 in
+    (has.0, at.0, at.1)
+
 -- a side at a place of edge k, and the next side there, by their numbers
 record IsBeside (mesh : FaceList) (table : List Edge) (k i : ℕ) (side : Side) (next : ℕ) : Type 0 where
   on : IsOnEdge mesh table k side
@@ -101,11 +125,9 @@ beside : (mesh : FaceList) (table : List Edge) (side : Side) (dart next : ℕ) �
 beside mesh table side dart next is two in_mesh number h =
     let sides : List Side = (edge_in table h.edge).sides in
     let size : length (map (side_number mesh) sides) ≡ length sides = length-map sides (side_number mesh) in
-    let few : h.place < length sides = omega (arith, h.in_edge, size) in
-    let at : side_number mesh (get_or sides h.place side) ≡ dart = sym (get_or-map (side_number mesh) sides h.place side 0 few) ∙ h.here in
-    let stands : IsSideOfEdge mesh (edge_in table h.edge) (get_or sides h.place side) = side_of_edge mesh (edge_in table h.edge) h.place
-    side (table_edge mesh table h.edge is h.in_table) few in
-    let same : get_or sides h.place side ≡ side = one_number mesh (get_or sides h.place side) side stands.side_of in_mesh (at ∙ number) in
+    let at : IsAtPlace sides h.place side = at_place mesh table h.edge h.place 0 side dart is h.in_table in_mesh number h.in_edge h.here in
+    let few : h.place < length sides = at.0 in
+    let same : get_or sides h.place side ≡ side = at.1 in
     let next_few : next_corner true (length sides) h.place < length sides = next_within (length sides) h.place few in
     record {
       on = record { table_of = is; few = two; in_table = h.in_table; has = (h.place, few, same) };

@@ -34,12 +34,12 @@ pub(crate) fn run_alike(faces: &Faces, side: Side, other: Side) -> bool
 }
 
 /// The link from a face across the edge of a side.
-pub(crate) fn link(_faces: &Faces, sides: &Sides, face: FaceName, side: Side) -> ChainLink
-    requires table { IsTableOf _faces.now sides.now }
-    requires side { IsSide _faces.now side }
+pub(crate) fn link(faces: &Faces, sides: &Sides, face: FaceName, side: Side) -> ChainLink
+    requires table { IsTableOf faces.now sides.now }
+    requires side { IsSide faces.now side }
     ensures face { result.face ≡ face }
-    ensures edge { IsAlong _faces.now side result.low.0 result.high.0 }
+    ensures edge { IsAlong faces.now side result.low.0 result.high.0 }
 {
-    let (low, high) = sides.ends(sides.edge_at(side));
+    let (low, high) = sides.ends(sides.edge_of(faces.dart(side)));
     ChainLink { face, low, high }
 }
