@@ -12,7 +12,7 @@ use Rattle.text_scan.specs.Unread.{is_line_feed, words_here, behind}
 use Rattle.text_scan.proofs.ListLemmas.{before_first-append, before_first-yes, before_first-no, from_first-append, from_first-yes}
 use Rattle.text_scan.proofs.PlaceLemmas.{is_hash, words_here-nil, words_here-line_feed, words_here-hash, words_here-blank, words_here-word, behind-nil, behind-other, lines_from_here}
 use Rattle.file_pieces.specs.SameLines.{SameWord, SameLine}
-use Rattle.file_pieces.specs.ShortLines.{ShortText, text_before, Stands, IsShort, is_lean}
+use Rattle.file_pieces.specs.ShortLines.{ShortText, text_before, Stands, IsShort, HasEnded, PutsByte, is_lean}
 use Rattle.file_pieces.proofs.SameLemmas.{ne_of_eqb, SameWord-refl, SameWord-zero, SameWord-long, SameWords-refl, SameLine-refl, SameLine-trans, SameLine-append, SameLine-many}
 
 abbrev pub is_word : List ℕ → Bool
@@ -61,12 +61,6 @@ word_ends word mark after some all ends =
 -- ---- a word that is kept
 
 -- what a byte makes of it
-pub record PutsByte (old new : List ℕ) (byte : ℕ) : Type 0 where
-  pub same : (rest : List ℕ) → SameWord (new ++ rest) (old ++ byte ∷ rest)
-  pub filled : is_filled new ≡ true
-  pub lean : is_lean new ≡ true
-  pub inside : is_word new ≡ true
-
 pub zero_replaced : (old new : List ℕ) (byte : ℕ) → is_digit byte ≡ true → bytes_eq old (48 ∷ []) ≡ true → new ≡ byte ∷ []
     → ends_word byte ≡ false → PutsByte old new byte
 zero_replaced [] new byte digit zero is goes_on = cc
@@ -77,6 +71,7 @@ zero_replaced (first ∷ []) new byte digit zero is goes_on =
     (subst (λ f. PutsByte (f ∷ []) (byte ∷ []) byte) (sym same) (record {
       same = λ rest. SameWord-zero byte rest digit;
       filled = refl;
+      short = omega arith;
       lean = refl;
       inside = and_from _ _ (not_from_false (ends_word byte) goes_on) refl;
     }))
@@ -102,11 +97,12 @@ inside_more old byte inside goes_on =
     ∙ and_from _ _ inside (and_from _ _ (not_from_false (ends_word byte) goes_on) refl)
 
 pub byte_put : (old new : List ℕ) (byte : ℕ) → is_lean old ≡ true → is_word old ≡ true → ends_word byte ≡ false
-    → (is_digit byte && bytes_eq old (48 ∷ [])) ≡ false → new ≡ old ++ byte ∷ [] → PutsByte old new byte
-byte_put old new byte lean inside goes_on no_zero is =
+    → (is_digit byte && bytes_eq old (48 ∷ [])) ≡ false → length old < 21 → new ≡ old ++ byte ∷ [] → PutsByte old new byte
+byte_put old new byte lean inside goes_on no_zero room is =
     subst (λ n. PutsByte old n byte) (sym is) (record {
       same = λ rest. subst (λ t. SameWord ((old ++ byte ∷ []) ++ rest) t) (append_assoc old (byte ∷ []) rest) (SameWord-refl _);
       filled = filled-last old byte;
+      short = omega (arith, length-append old (byte ∷ []), room);
       lean = lean_more old byte lean no_zero;
       inside = inside_more old byte inside goes_on;
     })
@@ -115,6 +111,7 @@ pub byte_left_out : (old : List ℕ) (byte : ℕ) → is_lean old ≡ true → i
 byte_left_out old byte lean inside long = record {
   same = λ rest. SameWord-long old rest byte lean long;
   filled = some old long;
+  short = omega (arith, long);
   lean = lean;
   inside = inside;
 }
@@ -195,15 +192,9 @@ ends line count short some =
     record { words = alone; closes = λ after. behind_it after ∙ ap (λ ws. ws ++ words_here after) (sym alone) }
 
 -- the word has ended
-pub record HasEnded (old new : ShortText) : Type 0 where
-  pub ended : (mark : ℕ) (after : List ℕ) → ends_word mark ≡ true
-      → words_here (old.done ++ (old.word ++ mark ∷ after)) ≡ words_here new.done ++ words_here (mark ∷ after)
-  pub closes : (after : List ℕ) → words_here (new.done ++ after) ≡ words_here new.done ++ words_here after
-  pub many : new.closed ≡ true → 7 ≤ length (words_here new.done)
-
 pub has_ended : (line : ShortText) (count : ℕ) (done : List ℕ) (closed : Bool) → IsShort line count → is_filled line.word ≡ true
     → done ≡ (line.done ++ line.word) ++ 32 ∷ [] → closed ≡ eqb (count + 1) 7
-    → HasEnded line (record { done = done; word = []; closed = closed; begun = line.begun })
+    → HasEnded line.done line.word (record { done = done; word = []; closed = closed; begun = line.begun })
 has_ended line count done closed short some is by_count =
     let left : Ends line done = subst (Ends line) (sym is) (ends line count short some) in
     record {
@@ -256,7 +247,7 @@ short_ended line count done closed short going some is by_count =
     fewer e = omega (arith, short.going_on going, ne_of_eqb (count + 1) 7 e)
 
 -- nothing has ended where no word has begun
-pub none_ended : (line : ShortText) (count : ℕ) → IsShort line count → line.closed ≡ false → length line.word ≡ 0 → HasEnded line line
+pub none_ended : (line : ShortText) (count : ℕ) → IsShort line count → line.closed ≡ false → length line.word ≡ 0 → HasEnded line.done line.word line
 none_ended line count short going none = record {
   ended = λ mark after e. ap (λ w. words_here (line.done ++ (w ++ mark ∷ after))) (empty line.word none) ∙ short.closes (mark ∷ after);
   closes = short.closes;
@@ -311,7 +302,7 @@ before_byte old bytes byte after going stands =
 
 -- a blank
 pub stands_blank : (old new : ShortText) (bytes : List ℕ) (byte : ℕ) → old.closed ≡ false → is_blank byte ≡ true
-    → HasEnded old new → new.word ≡ [] → new.begun ≡ true → Stands old bytes → Stands new (bytes ++ byte ∷ [])
+    → HasEnded old.done old.word new → new.word ≡ [] → new.begun ≡ true → Stands old bytes → Stands new (bytes ++ byte ∷ [])
 stands_blank old new bytes byte going blank ended none begun stands = record {
   same = λ after.
       SameLine-trans (words_here (text_before new after)) (words_here new.done ++ words_here (byte ∷ after)) _ (here after new.closed refl)
@@ -339,7 +330,7 @@ stands_blank old new bytes byte going blank ended none begun stands = record {
 
 -- the beginning of a comment
 pub stands_hash : (old mid new : ShortText) (bytes : List ℕ) → old.closed ≡ false
-    → HasEnded old mid → new ≡ record mid { closed = true } → mid.begun ≡ true → Stands old bytes → Stands new (bytes ++ 35 ∷ [])
+    → HasEnded old.done old.word mid → new ≡ record mid { closed = true } → mid.begun ≡ true → Stands old bytes → Stands new (bytes ++ 35 ∷ [])
 stands_hash old mid new bytes going ended is begun stands =
     subst (λ (l : ShortText). Stands l (bytes ++ 35 ∷ [])) (sym is) (record {
       same = λ after.
@@ -371,7 +362,7 @@ finish_closed line bytes closed stands =
     subst (λ t. SameLine (words_here line.done) (words_here t)) (append-nil bytes)
     (subst (λ t. SameLine (words_here t) (words_here (bytes ++ []))) text (stands.same []))
 
-pub finish_word : (old new : ShortText) (bytes : List ℕ) → old.closed ≡ false → HasEnded old new → Stands old bytes
+pub finish_word : (old new : ShortText) (bytes : List ℕ) → old.closed ≡ false → HasEnded old.done old.word new → Stands old bytes
     → SameLine (words_here new.done) (words_here bytes)
 finish_word old new bytes going ended stands =
     let text : text_before old (10 ∷ []) ≡ old.done ++ (old.word ++ 10 ∷ []) = rw going refl in

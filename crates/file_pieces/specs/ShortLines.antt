@@ -6,7 +6,7 @@ use Rattle.text_scan.specs.Numbers.{is_digit}
 use Rattle.text_scan.specs.Steps.{ends_word}
 use Rattle.text_scan.specs.Unread.{is_line_feed, words_here}
 use Rattle.file_pieces.specs.declared.short_line.TheConstants.{MOST_WORDS, MOST_BYTES}
-use Rattle.file_pieces.specs.SameLines.{SameLine}
+use Rattle.file_pieces.specs.SameLines.{SameWord, SameLine}
 
 -- a blank and the words that have ended, with a blank behind each; the word that has begun; whether no further byte counts; and
 -- whether the line has a byte
@@ -44,3 +44,18 @@ pub record IsShort (line : ShortText) (words : ℕ) : Type 0 where
   pub short : length line.word ≤ MOST_BYTES
   pub inside : list_all (λ byte. not (ends_word byte)) line.word ≡ true
   pub lean : is_lean line.word ≡ true
+
+-- The word that has begun, behind the text of those that have ended, has ended in the new line.
+pub record HasEnded (done word : List ℕ) (new : ShortText) : Type 0 where
+  pub ended : (mark : ℕ) (after : List ℕ) → ends_word mark ≡ true
+      → words_here (done ++ (word ++ mark ∷ after)) ≡ words_here new.done ++ words_here (mark ∷ after)
+  pub closes : (after : List ℕ) → words_here (new.done ++ after) ≡ words_here new.done ++ words_here after
+  pub many : new.closed ≡ true → MOST_WORDS ≤ length (words_here new.done)
+
+-- What is kept of a word says the same as what was kept of it before with the byte, whatever comes behind them.
+pub record PutsByte (old new : List ℕ) (byte : ℕ) : Type 0 where
+  pub same : (rest : List ℕ) → SameWord (new ++ rest) (old ++ byte ∷ rest)
+  pub filled : is_filled new ≡ true
+  pub short : length new ≤ MOST_BYTES
+  pub lean : is_lean new ≡ true
+  pub inside : list_all (λ b. not (ends_word b)) new ≡ true

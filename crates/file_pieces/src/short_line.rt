@@ -6,8 +6,8 @@ ghost use Rattle.text_scan.specs.Steps.{ends_word};
 ghost use Rattle.text_scan.specs.Unread.{words_here};
 ghost use Rattle.text_scan.specs.Numbers.{is_digit};
 ghost use Rattle.std.specs.Str.{bytes_eq};
-ghost use Rattle.file_pieces.specs.SameLines.{SameWord, SameLine};
-ghost use Rattle.file_pieces.specs.ShortLines.{is_lean};
+ghost use Rattle.file_pieces.specs.SameLines.{SameLine};
+ghost use Rattle.file_pieces.specs.ShortLines.{is_lean, PutsByte};
 
 use arrayvec::ArrayVec;
 use std::marker::Model;
@@ -49,7 +49,7 @@ impl Model for ShortLine {
 }
 
 impl ShortLine {
-    ghost use Rattle.file_pieces.specs.ShortLines.{Stands, text_before};
+    ghost use Rattle.file_pieces.specs.ShortLines.{Stands, HasEnded, text_before};
 
     /// A line that has no byte yet.
     pub fn new() -> ShortLine
@@ -114,10 +114,7 @@ impl ShortLine {
     #[inline(always)]
     fn end_word(&mut self)
         requires { self.old.closed ≡ false }
-        ensures ended { (mark : ℕ) (after : List ℕ) → ends_word mark ≡ true →
-            words_here (self.old.done ++ (self.old.word ++ mark ∷ after)) ≡ words_here self.new.done ++ words_here (mark ∷ after) }
-        ensures closes { (after : List ℕ) → words_here (self.new.done ++ after) ≡ words_here self.new.done ++ words_here after }
-        ensures many { self.new.closed ≡ true → MOST_WORDS ≤ length (words_here self.new.done) }
+        ensures ended { HasEnded self.old.done self.old.word self.new }
         ensures word { self.new.word ≡ [] }
         ensures begun { self.new.begun ≡ self.old.begun }
     {
@@ -172,18 +169,14 @@ fn is_blank(byte: u8) -> bool
     byte <= b' ' && matches!(byte, b' ' | b'\t' | 0x0B | 0x0C | b'\r')
 }
 
-/// Puts a byte behind a word that is kept, which then says the same as that word with the byte, whatever comes behind them.
+/// Puts a byte behind a word that is kept.
 #[inline(always)]
 fn push_byte(word: &mut ArrayVec<u8, MOST_BYTES>, byte: u8)
     requires short { length word.old.items ≤ MOST_BYTES }
     requires lean { is_lean word.old.items ≡ true }
     requires inside { list_all (λ b. not (ends_word b)) word.old.items ≡ true }
     requires goes_on { ends_word byte ≡ false }
-    ensures same { (rest : List ℕ) → SameWord (word.new.items ++ rest) (word.old.items ++ byte ∷ rest) }
-    ensures filled { is_filled word.new.items ≡ true }
-    ensures short { length word.new.items ≤ MOST_BYTES }
-    ensures lean { is_lean word.new.items ≡ true }
-    ensures inside { list_all (λ b. not (ends_word b)) word.new.items ≡ true }
+    ensures { PutsByte word.old.items word.new.items byte }
 {
     if is_zero_before(word.as_slice(), byte) {
         word.clear();

@@ -2,7 +2,7 @@ pub mod ListLemmas
 pub mod PlaceLemmas
 pub mod EachLemmas
 pub mod WrittenLemmas
-mod StepLemmas
+pub mod StepLemmas
 mod ViewLemmas
 mod NaturalLemmas
 mod TextLemmas

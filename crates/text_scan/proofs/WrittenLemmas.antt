@@ -133,7 +133,7 @@ decimal_is = decimal_by_steps IsDecimal
           ∙ ap (λ v. v * 10 + (48 + n % 10 - 48)) so_far.value ∙ omega arith;
     })
 
-digits_inside : (ds : List ℕ) → list_all is_digit ds ≡ true → list_all (λ byte. not (ends_word byte)) ds ≡ true
+pub digits_inside : (ds : List ℕ) → list_all is_digit ds ≡ true → list_all (λ byte. not (ends_word byte)) ds ≡ true
 digits_inside = all_weaker is_digit (λ byte. not (ends_word byte)) digit_inside
   where
     digit_inside : (d : ℕ) → is_digit d ≡ true → not (ends_word d) ≡ true
@@ -158,18 +158,34 @@ number_below-decimal bound n less fits = rw (natural-read n fits, lt-ltb n bound
 
 -- ---- lists of numbers
 
+pub number-writable : (n : ℕ) → n < 2 ^ 32 → IsWritable (decimal n)
+number-writable n fits = decimal-writable n (omega (arith, fits))
+
+-- each of some words is writable
+abbrev pub AreWritable : List (List ℕ) → Type 0
+AreWritable [] = Unit {0}
+AreWritable (word ∷ words) = IsWritable word × AreWritable words
+
+pub all_writable : (words : List (List ℕ)) → AreWritable words → All IsWritable words
+all_writable [] each = All-nil IsWritable
+all_writable (word ∷ words) each = All-cons IsWritable word words each.0 (all_writable words each.1)
+
 pub decimals-writable : (numbers : List ℕ) → All (λ n. n < 2 ^ 32) numbers → All IsWritable (map decimal numbers)
 decimals-writable [] small = All-nil IsWritable
 decimals-writable (n ∷ numbers) small =
-    let fits : n < 2 ^ 32 = All-head (λ m. m < 2 ^ 32) n numbers small in
-    All-cons IsWritable (decimal n) (map decimal numbers) (decimal-writable n (omega (arith, fits)))
+    All-cons IsWritable (decimal n) (map decimal numbers) (number-writable n (All-head (λ m. m < 2 ^ 32) n numbers small))
     (decimals-writable numbers (All-tail (λ m. m < 2 ^ 32) n numbers small))
+
+pub number-read : (n : ℕ) → n < 2 ^ 32 → number_of (decimal n) ≡ Some n
+number-read n fits = number_below-decimal (2 ^ 32) n fits (omega (arith, fits))
 
 pub numbers-read : (numbers : List ℕ) → All (λ n. n < 2 ^ 32) numbers → each_some number_of (map decimal numbers) ≡ Some numbers
 numbers-read [] small = refl
 numbers-read (n ∷ numbers) small =
-    let fits : n < 2 ^ 32 = All-head (λ m. m < 2 ^ 32) n numbers small in
-    rw (number_below-decimal (2 ^ 32) n fits (omega (arith, fits)), numbers-read numbers (All-tail (λ m. m < 2 ^ 32) n numbers small)) refl
+    rw (
+      number-read n (All-head (λ m. m < 2 ^ 32) n numbers small),
+      numbers-read numbers (All-tail (λ m. m < 2 ^ 32) n numbers small),
+    ) refl
 
 -- ---- integers that are written
 

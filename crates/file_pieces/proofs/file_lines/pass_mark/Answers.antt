@@ -1,4 +1,4 @@
-use Rattle.std.proofs.Common.{◌≡◌, ℕ, List, Option, true, false, Some, [], ◌∷◌, drop, ap, ◌∙◌, subst, sym, arith, rules}
+use Rattle.std.proofs.Common.{◌≡◌, ℕ, List, Bool, Option, true, false, Some, [], ◌∷◌, drop, ap, ◌∙◌, subst, sym, arith, rules}
 use Rattle.surf_io.specs.Files.{Files, file_of}
 use Rattle.text_scan.specs.Lines.{unmarked}
 use Rattle.file_pieces.specs.Reading.{Reads, left_of}
@@ -7,124 +7,114 @@ use Rattle.file_pieces.specs.FileLines.{IsOn, Passes}
 use Rattle.file_pieces.proofs.ReadingLemmas.{told}
 use Rattle.file_pieces.proofs.FileLineLemmas.{passes_told, put_told, no_mark_first, no_mark_second, no_mark_third, mark_passed}
 use Rattle.file_pieces.proofs.file_lines.pass_mark.Goals as goal
-use Rattle.file_pieces.proofs.file_lines.pass_mark.Goals.{After-pass_byte-2, After-pass_byte-3}
+use Rattle.file_pieces.proofs.file_lines.pass_mark.Goals.{After-pass_byte-2, After-pass_byte-3, In_ok-pass_byte, In_ok-pass_byte-2, In_ok-pass_byte-3}
+
+-- what is left of the file behind the place of the first byte of a mark, passed over or not
+first_left : (g : _) (c : In_ok-pass_byte g) (passed : Bool) → c.in_ok-pass_byte.field-0 ≡ passed → (f : List ℕ)
+    → file_of (g.S.Shelf.held c.args.shelf.now) c.args.name.now ≡ Some f → Reads c.args.pieces.now f
+    → Reads c.pass_byte.new.pieces f × Passes passed 239 f (left_of c.pass_byte.new.pieces f)
+first_left g c passed so f is reads =
+    let whole : f ≡ left_of c.args.pieces.now f = sym (ap (λ p. drop p f) c.requires.place) in
+    let left : Reads c.pass_byte.new.pieces f × Passes passed 239 (left_of c.args.pieces.now f) (left_of c.pass_byte.new.pieces f) =
+    passes_told (file_of (g.S.Shelf.held c.args.shelf.now) c.args.name.now) c.args.pieces.now c.pass_byte.new.pieces passed
+    c.in_ok-pass_byte.field-0 239 f is so c.in_ok-pass_byte.ensures.reads c.in_ok-pass_byte.ensures.passed reads in
+    (left.0, subst (λ t. Passes passed 239 t (left_of c.pass_byte.new.pieces f)) (sym whole) left.1)
+
+-- and of the second
+second_left : (g : _) (c : In_ok-pass_byte-2 g) (passed : Bool) → c.in_ok-pass_byte-2.field-0 ≡ passed → (f : List ℕ)
+    → file_of (g.S.Shelf.held c.args.shelf.now) c.args.name.now ≡ Some f → Reads c.pass_byte.new.pieces f
+    → Reads c.pass_byte-2.new.pieces f × Passes passed 187 (left_of c.pass_byte.new.pieces f) (left_of c.pass_byte-2.new.pieces f)
+second_left g c passed so f is reads =
+    let there = ap (λ (h : Option Files). file_of h c.args.name.now) c.pass_byte.ensures.only_reads.same_files ∙ is in
+    passes_told (file_of (g.S.Shelf.held c.pass_byte.new.shelf) c.args.name.now) c.pass_byte.new.pieces c.pass_byte-2.new.pieces passed
+    c.in_ok-pass_byte-2.field-0 187 f there so c.in_ok-pass_byte-2.ensures.reads c.in_ok-pass_byte-2.ensures.passed reads
+
+-- and of the third
+third_left : (g : _) (c : In_ok-pass_byte-3 g) (passed : Bool) → c.in_ok-pass_byte-3.field-0 ≡ passed → (f : List ℕ)
+    → file_of (g.S.Shelf.held c.args.shelf.now) c.args.name.now ≡ Some f → Reads c.pass_byte-2.new.pieces f
+    → Reads c.pass_byte-3.new.pieces f × Passes passed 191 (left_of c.pass_byte-2.new.pieces f) (left_of c.pass_byte-3.new.pieces f)
+third_left g c passed so f is reads =
+    let there = ap (λ (h : Option Files). file_of h c.args.name.now) (c.pass_byte-2.ensures.only_reads.same_files
+    ∙ c.pass_byte.ensures.only_reads.same_files) ∙ is in
+    passes_told (file_of (g.S.Shelf.held c.pass_byte-2.new.shelf) c.args.name.now) c.pass_byte-2.new.pieces c.pass_byte-3.new.pieces passed
+    c.in_ok-pass_byte-3.field-0 191 f there so c.in_ok-pass_byte-3.ensures.reads c.in_ok-pass_byte-3.ensures.passed reads
 
 pub returns-then-not-branch-clause-line : goal.returns-then-not-branch-clause-line
 returns-then-not-branch-clause-line g c =
-    let name : List ℕ = c.args.name.now in
-    let b0 : c.in_ok-pass_byte.field-0 ≡ false = search rules in
-    let t0 : Stands c.args.line.now [] = record { same = c.requires.line.same; begun = c.requires.line.begun } in
-    let t1 : Stands c.pass_byte.new.line ([]) =
-    put_told false c.in_ok-pass_byte.field-0 c.args.line.now c.pass_byte.new.line 239 ([]) b0 c.in_ok-pass_byte.ensures.line t0 in
+    let at = goal.at.returns-then-not-branch-clause-line g c in
+    let other : c.in_ok-pass_byte.field-0 ≡ false = search rules in
+    let line : Stands c.pass_byte.new.line [] =
+    put_told false c.in_ok-pass_byte.field-0 c.args.line.now c.pass_byte.new.line 239 [] other c.in_ok-pass_byte.ensures.line
+    (record { same = c.requires.line.same; begun = c.requires.line.begun }) in
     told (λ (f : List ℕ). Reads c.args.pieces.now f → IsOn 1 (unmarked f) c.pass_byte.new.line 1 (left_of c.pass_byte.new.pieces f))
-    (file_of (g.S.Shelf.held c.args.shelf.now) name) (λ f is reads.
-    let whole : f ≡ left_of c.args.pieces.now f = sym (ap (λ p. drop p f) c.requires.place) in
-    let p0 : Reads c.pass_byte.new.pieces f × Passes false 239 (left_of c.args.pieces.now f) (left_of c.pass_byte.new.pieces f) =
-    passes_told (file_of (g.S.Shelf.held c.args.shelf.now) name) c.args.pieces.now c.pass_byte.new.pieces false
-    c.in_ok-pass_byte.field-0 239 f is b0
-    c.in_ok-pass_byte.ensures.reads c.in_ok-pass_byte.ensures.passed reads in
+    (file_of (g.S.Shelf.held c.args.shelf.now) c.args.name.now) (λ f is reads.
     no_mark_first f (left_of c.pass_byte.new.pieces f) c.pass_byte.new.line
-    (subst (λ t. Passes false 239 t (left_of c.pass_byte.new.pieces f)) (sym whole) p0.1) t1)
+    (first_left g at.In_ok-pass_byte false other f is reads).1 line)
 
 pub returns-then-not-branch-clause-begun : goal.returns-then-not-branch-clause-begun
 returns-then-not-branch-clause-begun g c =
-    let name : List ℕ = c.args.name.now in
-    let b0 : c.in_ok-pass_byte.field-0 ≡ false = search rules in
-    let t0 : Stands c.args.line.now [] = record { same = c.requires.line.same; begun = c.requires.line.begun } in
-    let t1 : Stands c.pass_byte.new.line ([]) =
-    put_told false c.in_ok-pass_byte.field-0 c.args.line.now c.pass_byte.new.line 239 ([]) b0 c.in_ok-pass_byte.ensures.line t0 in
-    rw t1.begun (omega arith)
+    let other : c.in_ok-pass_byte.field-0 ≡ false = search rules in
+    let line : Stands c.pass_byte.new.line [] =
+    put_told false c.in_ok-pass_byte.field-0 c.args.line.now c.pass_byte.new.line 239 [] other c.in_ok-pass_byte.ensures.line
+    (record { same = c.requires.line.same; begun = c.requires.line.begun }) in
+    rw line.begun (omega arith)
 
--- the first byte of the mark was passed over: what the line holds, and what is left of the file
+-- the first byte of the mark was passed over, and the line holds it
+first_passed : (g : _) (c : After-pass_byte-2 g) → c.in_ok-pass_byte.field-0 ≡ true
+first_passed g c = search rules
+
 first_line : (g : _) (c : After-pass_byte-2 g) → Stands c.pass_byte.new.line (239 ∷ [])
 first_line g c =
-    let passed : c.in_ok-pass_byte.field-0 ≡ true = search rules in
-    put_told true c.in_ok-pass_byte.field-0 c.args.line.now c.pass_byte.new.line 239 ([]) passed c.in_ok-pass_byte.ensures.line
+    put_told true c.in_ok-pass_byte.field-0 c.args.line.now c.pass_byte.new.line 239 [] (first_passed g c) c.in_ok-pass_byte.ensures.line
     (record { same = c.requires.line.same; begun = c.requires.line.begun })
 
-first_left : (g : _) (c : After-pass_byte-2 g) (f : List ℕ) → file_of (g.S.Shelf.held c.args.shelf.now) c.args.name.now ≡ Some f
-    → Reads c.args.pieces.now f → Reads c.pass_byte.new.pieces f × (f ≡ 239 ∷ left_of c.pass_byte.new.pieces f)
-first_left g c f is reads =
-    let passed : c.in_ok-pass_byte.field-0 ≡ true = search rules in
-    let whole : f ≡ left_of c.args.pieces.now f = sym (ap (λ p. drop p f) c.requires.place) in
-    let left : Reads c.pass_byte.new.pieces f × Passes true 239 (left_of c.args.pieces.now f) (left_of c.pass_byte.new.pieces f) =
-    passes_told (file_of (g.S.Shelf.held c.args.shelf.now) c.args.name.now) c.args.pieces.now c.pass_byte.new.pieces true
-    c.in_ok-pass_byte.field-0 239 f is passed c.in_ok-pass_byte.ensures.reads c.in_ok-pass_byte.ensures.passed reads in
-    (left.0, whole ∙ left.1)
-
 -- and so was the second one
+second_passed : (g : _) (c : After-pass_byte-3 g) → c.in_ok-pass_byte-2.field-0 ≡ true
+second_passed g c = search rules
+
 second_line : (g : _) (c : After-pass_byte-3 g) → Stands c.pass_byte.new.line (239 ∷ [])
     → Stands c.pass_byte-2.new.line (239 ∷ 187 ∷ [])
 second_line g c first =
-    let passed : c.in_ok-pass_byte-2.field-0 ≡ true = search rules in
-    put_told true c.in_ok-pass_byte-2.field-0 c.pass_byte.new.line c.pass_byte-2.new.line 187 (239 ∷ []) passed
+    put_told true c.in_ok-pass_byte-2.field-0 c.pass_byte.new.line c.pass_byte-2.new.line 187 (239 ∷ []) (second_passed g c)
     c.in_ok-pass_byte-2.ensures.line first
-
-second_left : (g : _) (c : After-pass_byte-3 g) (f : List ℕ) → file_of (g.S.Shelf.held c.args.shelf.now) c.args.name.now ≡ Some f
-    → Reads c.pass_byte.new.pieces f
-    → Reads c.pass_byte-2.new.pieces f × (left_of c.pass_byte.new.pieces f ≡ 187 ∷ left_of c.pass_byte-2.new.pieces f)
-second_left g c f is reads =
-    let passed : c.in_ok-pass_byte-2.field-0 ≡ true = search rules in
-    let there = ap (λ (h : Option Files). file_of h c.args.name.now) c.pass_byte.ensures.only_reads.same_files ∙ is in
-    passes_told (file_of (g.S.Shelf.held c.pass_byte.new.shelf) c.args.name.now) c.pass_byte.new.pieces c.pass_byte-2.new.pieces true
-    c.in_ok-pass_byte-2.field-0 187 f there passed c.in_ok-pass_byte-2.ensures.reads c.in_ok-pass_byte-2.ensures.passed reads
 
 pub returns-then-not-branch-2-clause-line : goal.returns-then-not-branch-2-clause-line
 returns-then-not-branch-2-clause-line g c =
-    let name : List ℕ = c.args.name.now in
-    let at = (goal.at.returns-then-not-branch-2-clause-line g c).After-pass_byte-2 in
+    let at = goal.at.returns-then-not-branch-2-clause-line g c in
     let other : c.in_ok-pass_byte-2.field-0 ≡ false = search rules in
     let line : Stands c.pass_byte-2.new.line (239 ∷ []) =
     put_told false c.in_ok-pass_byte-2.field-0 c.pass_byte.new.line c.pass_byte-2.new.line 187 (239 ∷ []) other
-    c.in_ok-pass_byte-2.ensures.line (first_line g at) in
+    c.in_ok-pass_byte-2.ensures.line (first_line g at.After-pass_byte-2) in
     told (λ (f : List ℕ). Reads c.args.pieces.now f → IsOn 1 (unmarked f) c.pass_byte-2.new.line 1 (left_of c.pass_byte-2.new.pieces f))
-    (file_of (g.S.Shelf.held c.args.shelf.now) name) (λ f is reads.
-    let first = first_left g at f is reads in
-    let there : file_of (g.S.Shelf.held c.pass_byte.new.shelf) name ≡ Some f =
-    ap (λ (h : Option Files). file_of h name) c.pass_byte.ensures.only_reads.same_files ∙ is in
-    let last : Reads c.pass_byte-2.new.pieces f × Passes false 187 (left_of c.pass_byte.new.pieces f) (left_of c.pass_byte-2.new.pieces f) =
-    passes_told (file_of (g.S.Shelf.held c.pass_byte.new.shelf) name) c.pass_byte.new.pieces c.pass_byte-2.new.pieces false
-    c.in_ok-pass_byte-2.field-0 187 f there other c.in_ok-pass_byte-2.ensures.reads c.in_ok-pass_byte-2.ensures.passed first.0 in
+    (file_of (g.S.Shelf.held c.args.shelf.now) c.args.name.now) (λ f is reads.
+    let first = first_left g at.In_ok-pass_byte true (first_passed g at.After-pass_byte-2) f is reads in
+    let last = second_left g at.In_ok-pass_byte-2 false other f is first.0 in
     no_mark_second f (left_of c.pass_byte.new.pieces f) (left_of c.pass_byte-2.new.pieces f) c.pass_byte-2.new.line first.1 last.1 line)
 
 pub returns-then-not-branch-3-clause-line : goal.returns-then-not-branch-3-clause-line
 returns-then-not-branch-3-clause-line g c =
-    let name : List ℕ = c.args.name.now in
     let at = goal.at.returns-then-not-branch-3-clause-line g c in
     let other : c.in_ok-pass_byte-3.field-0 ≡ false = search rules in
     let line : Stands c.pass_byte-3.new.line (239 ∷ 187 ∷ []) =
     put_told false c.in_ok-pass_byte-3.field-0 c.pass_byte-2.new.line c.pass_byte-3.new.line 191 (239 ∷ 187 ∷ []) other
     c.in_ok-pass_byte-3.ensures.line (second_line g at.After-pass_byte-3 (first_line g at.After-pass_byte-2)) in
     told (λ (f : List ℕ). Reads c.args.pieces.now f → IsOn 1 (unmarked f) c.pass_byte-3.new.line 1 (left_of c.pass_byte-3.new.pieces f))
-    (file_of (g.S.Shelf.held c.args.shelf.now) name) (λ f is reads.
-    let first = first_left g at.After-pass_byte-2 f is reads in
-    let second = second_left g at.After-pass_byte-3 f is first.0 in
-    let there : file_of (g.S.Shelf.held c.pass_byte-2.new.shelf) name ≡ Some f =
-    ap (λ (h : Option Files). file_of h name) (c.pass_byte-2.ensures.only_reads.same_files
-    ∙ c.pass_byte.ensures.only_reads.same_files) ∙ is in
-    let last : Reads c.pass_byte-3.new.pieces f
-    × Passes false 191 (left_of c.pass_byte-2.new.pieces f) (left_of c.pass_byte-3.new.pieces f) =
-    passes_told (file_of (g.S.Shelf.held c.pass_byte-2.new.shelf) name) c.pass_byte-2.new.pieces c.pass_byte-3.new.pieces false
-    c.in_ok-pass_byte-3.field-0 191 f there other c.in_ok-pass_byte-3.ensures.reads c.in_ok-pass_byte-3.ensures.passed second.0 in
+    (file_of (g.S.Shelf.held c.args.shelf.now) c.args.name.now) (λ f is reads.
+    let first = first_left g at.In_ok-pass_byte true (first_passed g at.After-pass_byte-2) f is reads in
+    let second = second_left g at.In_ok-pass_byte-2 true (second_passed g at.After-pass_byte-3) f is first.0 in
+    let last = third_left g at.In_ok-pass_byte-3 false other f is second.0 in
     no_mark_third f (left_of c.pass_byte.new.pieces f) (left_of c.pass_byte-2.new.pieces f) (left_of c.pass_byte-3.new.pieces f)
     c.pass_byte-3.new.line first.1 second.1 last.1 line)
 
 pub returns-clause-line : goal.returns-clause-line
 returns-clause-line g c =
-    let name : List ℕ = c.args.name.now in
     let at = goal.at.returns-clause-line g c in
     let passed : c.in_ok-pass_byte-3.field-0 ≡ true = search rules in
     let anew : Stands c.clear.new.self [] = record { same = c.clear.ensures.same; begun = c.clear.ensures.begun } in
     told (λ (f : List ℕ). Reads c.args.pieces.now f → IsOn 1 (unmarked f) c.clear.new.self 1 (left_of c.pass_byte-3.new.pieces f))
-    (file_of (g.S.Shelf.held c.args.shelf.now) name) (λ f is reads.
-    let first = first_left g at.After-pass_byte-2 f is reads in
-    let second = second_left g at.After-pass_byte-3 f is first.0 in
-    let there : file_of (g.S.Shelf.held c.pass_byte-2.new.shelf) name ≡ Some f =
-    ap (λ (h : Option Files). file_of h name) (c.pass_byte-2.ensures.only_reads.same_files
-    ∙ c.pass_byte.ensures.only_reads.same_files) ∙ is in
-    let third : Reads c.pass_byte-3.new.pieces f
-    × Passes true 191 (left_of c.pass_byte-2.new.pieces f) (left_of c.pass_byte-3.new.pieces f) =
-    passes_told (file_of (g.S.Shelf.held c.pass_byte-2.new.shelf) name) c.pass_byte-2.new.pieces c.pass_byte-3.new.pieces true
-    c.in_ok-pass_byte-3.field-0 191 f there passed c.in_ok-pass_byte-3.ensures.reads c.in_ok-pass_byte-3.ensures.passed second.0 in
+    (file_of (g.S.Shelf.held c.args.shelf.now) c.args.name.now) (λ f is reads.
+    let first = first_left g at.In_ok-pass_byte true (first_passed g at.After-pass_byte-2) f is reads in
+    let second = second_left g at.In_ok-pass_byte-2 true (second_passed g at.After-pass_byte-3) f is first.0 in
+    let third = third_left g at.In_ok-pass_byte-3 true passed f is second.0 in
     mark_passed f (left_of c.pass_byte.new.pieces f) (left_of c.pass_byte-2.new.pieces f) (left_of c.pass_byte-3.new.pieces f)
     c.clear.new.self first.1 second.1 third.1 anew)

@@ -1,58 +1,27 @@
-use Rattle.std.proofs.Common.{◌≡◌, ◌&&◌, ℕ, List, false, [], ◌∷◌, ◌++◌, length, sym, ap, ◌∙◌, arith, length-append}
+use Rattle.std.proofs.Common.{◌≡◌, ◌&&◌, ℕ, List, false, [], ◌∷◌, ◌++◌, length, sym, ap, ◌∙◌, arith}
 use Rattle.std.specs.Str.{bytes_eq}
 use Rattle.std.proofs.lemmas.Bool.{and_parts}
 use Rattle.text_scan.specs.Numbers.{is_digit}
-use Rattle.file_pieces.proofs.ShortLemmas.{PutsByte, zero_replaced, byte_put, byte_left_out}
+use Rattle.file_pieces.proofs.ShortLemmas.{zero_replaced, byte_put, byte_left_out}
 use Rattle.file_pieces.proofs.short_line.push_byte.Goals as goal
 
 pub returns-then-is_zero_before : goal.returns-then-is_zero_before
 returns-then-is_zero_before c =
     let zero = and_parts (is_digit c.args.byte) (bytes_eq c.as_slice.result.now (48 ∷ []))
     (sym c.is_zero_before.ensures ∙ c.if-is_zero_before.true) in
-    let puts : PutsByte c.args.word.now.items c.push.new.self.items c.args.byte =
     zero_replaced c.args.word.now.items c.push.new.self.items c.args.byte zero.0
     (ap (λ (t : List ℕ). bytes_eq t (48 ∷ [])) (sym c.as_slice.ensures.value) ∙ zero.1)
-    (c.push.ensures.items ∙ ap (λ (t : List ℕ). t ++ c.args.byte ∷ []) c.clear.ensures) c.requires.goes_on in
-    record {
-      same = puts.same;
-      filled = puts.filled;
-      short =
-          omega (
-            arith,
-            ap (λ (t : List ℕ). length t) c.push.ensures.items,
-            ap (λ (t : List ℕ). length t) c.clear.ensures,
-            length-append c.clear.new.self.items (c.args.byte ∷ []),
-          );
-      lean = puts.lean;
-      inside = puts.inside;
-    }
+    (c.push.ensures.items ∙ ap (λ (t : List ℕ). t ++ c.args.byte ∷ []) c.clear.ensures) c.requires.goes_on
 
 pub returns-then-len-lt-MOST_BYTES : goal.returns-then-len-lt-MOST_BYTES
 returns-then-len-lt-MOST_BYTES c =
     let no_zero : (is_digit c.args.byte && bytes_eq c.args.word.now.items (48 ∷ [])) ≡ false =
     ap (λ (t : List ℕ). is_digit c.args.byte && bytes_eq t (48 ∷ [])) (sym c.as_slice.ensures.value) ∙ sym c.is_zero_before.ensures
     ∙ c.if-is_zero_before.false in
-    let puts : PutsByte c.args.word.now.items c.push-then-len-lt-MOST_BYTES.new.self.items c.args.byte =
     byte_put c.args.word.now.items c.push-then-len-lt-MOST_BYTES.new.self.items c.args.byte c.requires.lean c.requires.inside
-    c.requires.goes_on no_zero
-    c.push-then-len-lt-MOST_BYTES.ensures.items in
-    record {
-      same = puts.same;
-      filled = puts.filled;
-      short =
-          omega (
-            arith,
-            ap (λ (t : List ℕ). length t) c.push-then-len-lt-MOST_BYTES.ensures.items,
-            length-append c.args.word.now.items (c.args.byte ∷ []),
-            c.if-len-lt-MOST_BYTES.true,
-          );
-      lean = puts.lean;
-      inside = puts.inside;
-    }
+    c.requires.goes_on no_zero (omega (arith, c.if-len-lt-MOST_BYTES.true)) c.push-then-len-lt-MOST_BYTES.ensures.items
 
 pub returns-else-len-lt-MOST_BYTES : goal.returns-else-len-lt-MOST_BYTES
 returns-else-len-lt-MOST_BYTES c =
     let long : length c.args.word.now.items ≡ 21 = omega arith in
-    let puts : PutsByte c.args.word.now.items c.args.word.now.items c.args.byte =
-    byte_left_out c.args.word.now.items c.args.byte c.requires.lean c.requires.inside long in
-    record { same = puts.same; filled = puts.filled; short = c.requires.short; lean = puts.lean; inside = puts.inside }
+    byte_left_out c.args.word.now.items c.args.byte c.requires.lean c.requires.inside long

@@ -1,31 +1,21 @@
 use Rattle.std.proofs.Common.{◌≡◌, ◌+◌, ℕ, List, true, [], ◌∷◌, ◌++◌, length, eqb, refl, ap, ◌∙◌, subst, sym}
 use Rattle.std.proofs.lemmas.Bool.{eqb-true}
 use Rattle.text_scan.specs.Lines.{is_filled}
-use Rattle.file_pieces.specs.ShortLines.{ShortText}
-use Rattle.file_pieces.proofs.ShortLemmas.{HasEnded, has_ended, none_ended, short_ended, filled_word}
+use Rattle.file_pieces.specs.ShortLines.{ShortText, HasEnded}
+use Rattle.file_pieces.proofs.ShortLemmas.{has_ended, none_ended, short_ended, filled_word}
 use Rattle.file_pieces.proofs.short_line.ShortLine.end_word.Goals as goal
 
--- no word has begun
-none_begun : (c : goal.Then-is_empty) → HasEnded c.args.self.now c.args.self.now
-none_begun c =
+pub returns-then-is_empty-clause-ended : goal.returns-then-is_empty-clause-ended
+returns-then-is_empty-clause-ended c =
     let now : ShortText = record {
       done = c.self.inside.done.items;
       word = c.self.inside.word.items;
       closed = c.self.inside.closed;
       begun = c.self.inside.begun;
     } in
-    subst (λ (l : ShortText). HasEnded l l) c.self.view_is
+    subst (λ (l : ShortText). HasEnded l.done l.word l) c.self.view_is
     (none_ended now c.self.inside.words c.self.invariant (ap (λ (l : ShortText). l.closed) c.self.view_is ∙ c.requires)
     (eqb-true (length c.self.inside.word.items) 0 (sym c.is_empty.ensures ∙ c.if-is_empty.true)))
-
-pub returns-then-is_empty-clause-ended : goal.returns-then-is_empty-clause-ended
-returns-then-is_empty-clause-ended c = (none_begun c).ended
-
-pub returns-then-is_empty-clause-closes : goal.returns-then-is_empty-clause-closes
-returns-then-is_empty-clause-closes c = (none_begun c).closes
-
-pub returns-then-is_empty-clause-many : goal.returns-then-is_empty-clause-many
-returns-then-is_empty-clause-many c = (none_begun c).many
 
 -- the text behind the word that has ended
 text : (c : goal.After-self-2-1) → c.push.new.self.items ≡ (c.self.inside.done.items ++ c.self.inside.word.items) ++ 32 ∷ []
@@ -47,25 +37,19 @@ invariant_of-self c =
     }) c.self.inside.words c.push.new.self.items (eqb (c.self.inside.words + 1) 7) c.self.invariant
     (ap (λ (l : ShortText). l.closed) c.self.view_is ∙ c.requires) (some_begun c) (text c) refl)
 
-has : (c : goal.After-self-2-1)
-    → HasEnded c.args.self.now
-    (record { done = c.push.new.self.items; word = []; closed = eqb (c.self.inside.words + 1) 7; begun = c.self.inside.begun })
-has c =
-    let new : ShortText =
-    record { done = c.push.new.self.items; word = []; closed = eqb (c.self.inside.words + 1) 7; begun = c.self.inside.begun } in
-    subst (λ (l : ShortText). HasEnded l new) c.self.view_is
+pub returns-clause-ended : goal.returns-clause-ended
+returns-clause-ended c =
+    let new : ShortText = record {
+      done = c.push.new.self.items;
+      word = c.clear.new.self.items;
+      closed = eqb (c.self.inside.words + 1) 7;
+      begun = c.self.inside.begun;
+    } in
+    subst (λ (l : ShortText). HasEnded l.done l.word new) c.self.view_is
+    (rw c.clear.ensures
     (has_ended (record {
       done = c.self.inside.done.items;
       word = c.self.inside.word.items;
       closed = c.self.inside.closed;
       begun = c.self.inside.begun;
-    }) c.self.inside.words c.push.new.self.items (eqb (c.self.inside.words + 1) 7) c.self.invariant (some_begun c) (text c) refl)
-
-pub returns-clause-ended : goal.returns-clause-ended
-returns-clause-ended c = (has c).ended
-
-pub returns-clause-closes : goal.returns-clause-closes
-returns-clause-closes c = (has c).closes
-
-pub returns-clause-many : goal.returns-clause-many
-returns-clause-many c = (has c).many
+    }) c.self.inside.words c.push.new.self.items (eqb (c.self.inside.words + 1) 7) c.self.invariant (some_begun c) (text c) refl))

@@ -4,11 +4,7 @@ use Rattle.file_pieces.proofs.short_line.ShortLine.finish.Goals as goal
 
 pub returns-then-not-self-clause-words : goal.returns-then-not-self-clause-words
 returns-then-not-self-clause-words c = λ bytes stands.
-    finish_word c.args.self.now c.end_word.new.self bytes (search rules) (record {
-      ended = c.end_word.ensures.ended;
-      closes = c.end_word.ensures.closes;
-      many = c.end_word.ensures.many;
-    }) stands
+    finish_word c.args.self.now c.end_word.new.self bytes (search rules) c.end_word.ensures.ended stands
 
 pub returns-else-not-self-clause-words : goal.returns-else-not-self-clause-words
 returns-else-not-self-clause-words c = λ bytes stands. finish_closed c.args.self.now bytes (search rules) stands

@@ -3,7 +3,7 @@ use Rattle.std.proofs.lemmas.Bool.{both_ways}
 use Rattle.text_scan.specs.Unread.{words_here}
 use Rattle.file_pieces.specs.SameLines.{SameLine}
 use Rattle.file_pieces.specs.ShortLines.{ShortText}
-use Rattle.file_pieces.proofs.ShortLemmas.{PutsByte, goes_on}
+use Rattle.file_pieces.proofs.ShortLemmas.{goes_on}
 use Rattle.file_pieces.proofs.short_line.ShortLine.push_in_word.Goals as goal
 
 pub invariant_of-self : goal.invariant_of-self
@@ -26,13 +26,7 @@ invariant_of-self c =
 
 pub returns-clause-same : goal.returns-clause-same
 returns-clause-same c = λ after.
-    let puts : PutsByte c.self.inside.word.items c.push_byte.new.word.items c.args.byte = record {
-      same = c.push_byte.ensures.same;
-      filled = c.push_byte.ensures.filled;
-      lean = c.push_byte.ensures.lean;
-      inside = c.push_byte.ensures.inside;
-    } in
     subst (λ (l : ShortText). SameLine (words_here (c.self.inside.done.items ++ (c.push_byte.new.word.items ++ after)))
     (words_here (l.done ++ (l.word ++ c.args.byte ∷ after)))) c.self.view_is
     (goes_on c.self.inside.done.items c.self.inside.word.items c.push_byte.new.word.items c.args.byte c.self.invariant.closes
-    c.self.invariant.inside c.requires.inside puts after)
+    c.self.invariant.inside c.requires.inside c.push_byte.ensures after)
