@@ -247,7 +247,8 @@ short_ended line count done closed short going some is by_count =
     fewer e = omega (arith, short.going_on going, ne_of_eqb (count + 1) 7 e)
 
 -- nothing has ended where no word has begun
-pub none_ended : (line : ShortText) (count : ℕ) → IsShort line count → line.closed ≡ false → length line.word ≡ 0 → HasEnded line.done line.word line
+pub none_ended : (line : ShortText) (count : ℕ) → IsShort line count → line.closed ≡ false → length line.word ≡ 0
+    → HasEnded line.done line.word line
 none_ended line count short going none = record {
   ended = λ mark after e. ap (λ w. words_here (line.done ++ (w ++ mark ∷ after))) (empty line.word none) ∙ short.closes (mark ∷ after);
   closes = short.closes;
@@ -330,7 +331,8 @@ stands_blank old new bytes byte going blank ended none begun stands = record {
 
 -- the beginning of a comment
 pub stands_hash : (old mid new : ShortText) (bytes : List ℕ) → old.closed ≡ false
-    → HasEnded old.done old.word mid → new ≡ record mid { closed = true } → mid.begun ≡ true → Stands old bytes → Stands new (bytes ++ 35 ∷ [])
+    → HasEnded old.done old.word mid → new ≡ record mid { closed = true } → mid.begun ≡ true → Stands old bytes
+    → Stands new (bytes ++ 35 ∷ [])
 stands_hash old mid new bytes going ended is begun stands =
     subst (λ (l : ShortText). Stands l (bytes ++ 35 ∷ [])) (sym is) (record {
       same = λ after.

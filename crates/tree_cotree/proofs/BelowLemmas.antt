@@ -5,9 +5,9 @@ use Rattle.std.specs.Prelude.{Option, Some, None, is_some, replicate}
 use Rattle.std.proofs.lemmas.Bool.{cases_eq, cases_lt}
 use Rattle.std.proofs.lemmas.List.{length-replicate, get_or-replicate, get_or_past, length-set, get_or-set_same, get_or-set_other}
 use Rattle.halfedge_map.specs.RotationSystems.{Rotations}
-use Rattle.tree_cotree.specs.Searches.{back_at}
+use Rattle.tree_cotree.specs.Searches.{kept_at}
 use Rattle.tree_cotree.specs.Markings.{AreApart}
-use Rattle.tree_cotree.specs.EdgeFaces.{face_at, AreBelowEdges}
+use Rattle.tree_cotree.specs.EdgeFaces.{AreBelowEdges}
 use Rattle.tree_cotree.proofs.SetLemmas.{with_one, with_itself, with_other}
 use Rattle.tree_cotree.proofs.TreeLemmas.{marked_none, marked_skip, marked_more}
 
@@ -19,7 +19,7 @@ below_none maps from edges =
     record { sets = marked_none maps from edges (λ e. false); faces = λ e f k. cc; keeps = λ f x l e. absurd (omega arith) }
 
 below_skip : (maps : Rotations) (from : List (Option ℕ)) (edges n : ℕ) (below : ℕ → Option ℕ)
-    → AreBelowEdges maps from edges below n → back_at from n ≡ None
+    → AreBelowEdges maps from edges below n → kept_at from n ≡ None
     → AreBelowEdges maps from edges below (n + 1)
 below_skip maps from edges n below h none =
     record {
@@ -27,13 +27,13 @@ below_skip maps from edges n below h none =
       faces = λ e f k. let there = h.faces e f k in (there.0, omega (arith, there.1), there.2, there.3);
       keeps = λ f x l e. elim (cases_lt f n) [
         | inl less ↦ h.keeps f x less e
-        | inr more ↦ (let same : f ≡ n = omega arith in absurd (some_none (back_at from n) x (ap (back_at from) (sym same) ∙ e) none))
+        | inr more ↦ (let same : f ≡ n = omega arith in absurd (some_none (kept_at from n) x (ap (kept_at from) (sym same) ∙ e) none))
       ];
     }
 
 below_more : (maps : Rotations) (from : List (Option ℕ)) (edges n x : ℕ) (below more : ℕ → Option ℕ)
     → AreApart maps from → AreBelowEdges maps from edges below n
-    → back_at from n ≡ Some x → maps.edge x < edges → more (maps.edge x) ≡ Some n → ((e : ℕ) → e ≢ maps.edge x → more e ≡ below e)
+    → kept_at from n ≡ Some x → maps.edge x < edges → more (maps.edge x) ≡ Some n → ((e : ℕ) → e ≢ maps.edge x → more e ≡ below e)
     → AreBelowEdges maps from edges more (n + 1)
 below_more maps from edges n x below more apart h some l here other =
     let i : ℕ = maps.edge x in
@@ -49,14 +49,14 @@ below_more maps from edges n x below more apart h some l here other =
         | inl same ↦
             (let is : Some f ≡ Some n = sym k ∙ ap more same ∙ here in
             let f_is : f ≡ n = cc in
-            (x, omega (arith, f_is), ap (back_at from) f_is ∙ some, sym same))
+            (x, omega (arith, f_is), ap (kept_at from) f_is ∙ some, sym same))
         | inr ne ↦ (let there = h.faces e f (sym (other e ne) ∙ k) in (there.0, omega (arith, there.1), there.2, there.3))
       ];
       keeps = λ f y b e. elim (cases_lt f n) [
         | inl less ↦ other (maps.edge y) (apart.apart f n y x e some (λ same. omega (arith, less, same))) ∙ h.keeps f y less e
         | inr last ↦
             (let same : f ≡ n = omega (arith, b, last) in
-            let is : Some y ≡ Some x = sym e ∙ ap (back_at from) same ∙ some in
+            let is : Some y ≡ Some x = sym e ∙ ap (kept_at from) same ∙ some in
             let y_is : y ≡ x = cc in
             ap (λ k. more (maps.edge k)) y_is ∙ here ∙ ap Some (sym same))
       ];
@@ -64,11 +64,11 @@ below_more maps from edges n x below more apart h some l here other =
 
 -- kept in a list: none at first, then face by face
 pub faces_none : (maps : Rotations) (from : List (Option ℕ)) (edges : ℕ)
-    → AreBelowEdges maps from edges (face_at (replicate edges None)) 0
+    → AreBelowEdges maps from edges (kept_at (replicate edges None)) 0
 faces_none maps from edges =
     subst (λ (below : ℕ → Option ℕ). AreBelowEdges maps from edges below 0) (λ i e. sym (none_at e) i) (below_none maps from edges)
   where
-    none_at : (e : ℕ) → face_at (replicate edges None) e ≡ None
+    none_at : (e : ℕ) → kept_at (replicate edges None) e ≡ None
     none_at e = elim (cases_lt e edges) [
       | inl l ↦ get_or-replicate edges e None None l
       | inr past ↦
@@ -77,25 +77,25 @@ faces_none maps from edges =
     ]
 
 pub faces_skip : (maps : Rotations) (from : List (Option ℕ)) (edges n : ℕ) (faces : List (Option ℕ))
-    → AreBelowEdges maps from edges (face_at faces) n → back_at from n ≡ None
-    → AreBelowEdges maps from edges (face_at faces) (n + 1)
-faces_skip maps from edges n faces h none = below_skip maps from edges n (face_at faces) h none
+    → AreBelowEdges maps from edges (kept_at faces) n → kept_at from n ≡ None
+    → AreBelowEdges maps from edges (kept_at faces) (n + 1)
+faces_skip maps from edges n faces h none = below_skip maps from edges n (kept_at faces) h none
 
 pub faces_more : (maps : Rotations) (from : List (Option ℕ)) (edges n x : ℕ) (faces : List (Option ℕ))
-    → AreApart maps from → length faces ≡ edges → AreBelowEdges maps from edges (face_at faces) n
-    → back_at from n ≡ Some x → maps.edge x < edges
-    → AreBelowEdges maps from edges (face_at (set faces (maps.edge x) (Some n))) (n + 1)
+    → AreApart maps from → length faces ≡ edges → AreBelowEdges maps from edges (kept_at faces) n
+    → kept_at from n ≡ Some x → maps.edge x < edges
+    → AreBelowEdges maps from edges (kept_at (set faces (maps.edge x) (Some n))) (n + 1)
 faces_more maps from edges n x faces apart long h some l =
-    below_more maps from edges n x (face_at faces) (face_at (set faces (maps.edge x) (Some n))) apart h some l
+    below_more maps from edges n x (kept_at faces) (kept_at (set faces (maps.edge x) (Some n))) apart h some l
     (get_or-set_same faces (maps.edge x) (Some n) None (omega (arith, l, long)))
     (λ e ne. get_or-set_other faces (maps.edge x) e (Some n) None ne)
 
 -- such a list is there
 faces_next : (maps : Rotations) (from : List (Option ℕ)) (edges n : ℕ) → AreApart maps from
-    → ((v x : ℕ) → back_at from v ≡ Some x → maps.edge x < edges)
-    → (faces : List (Option ℕ)) → length faces ≡ edges → AreBelowEdges maps from edges (face_at faces) n
-    → (o : Option ℕ) → back_at from n ≡ o
-    → (more : List (Option ℕ)) × (length more ≡ edges) × AreBelowEdges maps from edges (face_at more) (n + 1)
+    → ((v x : ℕ) → kept_at from v ≡ Some x → maps.edge x < edges)
+    → (faces : List (Option ℕ)) → length faces ≡ edges → AreBelowEdges maps from edges (kept_at faces) n
+    → (o : Option ℕ) → kept_at from n ≡ o
+    → (more : List (Option ℕ)) × (length more ≡ edges) × AreBelowEdges maps from edges (kept_at more) (n + 1)
 faces_next maps from edges n apart within faces long h None is = (faces, long, faces_skip maps from edges n faces h is)
 faces_next maps from edges n apart within faces long h (Some x) is = (
   set faces (maps.edge x) (Some n),
@@ -104,13 +104,13 @@ faces_next maps from edges n apart within faces long h (Some x) is = (
 )
 
 pub faces_there : (maps : Rotations) (from : List (Option ℕ)) (edges : ℕ) → AreApart maps from
-    → ((v x : ℕ) → back_at from v ≡ Some x → maps.edge x < edges) → (n : ℕ)
-    → (faces : List (Option ℕ)) × (length faces ≡ edges) × AreBelowEdges maps from edges (face_at faces) n
+    → ((v x : ℕ) → kept_at from v ≡ Some x → maps.edge x < edges) → (n : ℕ)
+    → (faces : List (Option ℕ)) × (length faces ≡ edges) × AreBelowEdges maps from edges (kept_at faces) n
 faces_there maps from edges apart within zero =
     let no_face : Option ℕ = None in
     (replicate edges no_face, length-replicate edges no_face, faces_none maps from edges)
 faces_there maps from edges apart within (suc n) =
     let before = faces_there maps from edges apart within n in
-    let more = faces_next maps from edges n apart within before.0 before.1 before.2 (back_at from n) refl in
+    let more = faces_next maps from edges n apart within before.0 before.1 before.2 (kept_at from n) refl in
     let next : n + 1 ≡ suc n = omega arith in
-    (more.0, more.1, subst (AreBelowEdges maps from edges (face_at more.0)) next more.2)
+    (more.0, more.1, subst (AreBelowEdges maps from edges (kept_at more.0)) next more.2)

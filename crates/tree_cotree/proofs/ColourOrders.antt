@@ -8,7 +8,7 @@ use Rattle.std.proofs.lemmas.List.{length_push, get_or_push, get_or_append_left,
 use Rattle.surf_model.specs.Numbers.{count_below}
 use Rattle.halfedge_map.specs.RotationSystems.{Rotations, IsRotationSystem}
 use Rattle.tree_cotree.specs.SpanningTrees.{IsStepIn, IsSpanningTree}
-use Rattle.tree_cotree.specs.Searches.{back_at, IsFound, IsOrder, FindsAll}
+use Rattle.tree_cotree.specs.Searches.{kept_at, IsFound, IsOrder, FindsAll}
 use Rattle.tree_cotree.proofs.SetLemmas.{with_one, with_itself, with_keeps, with_cases, count_with, count_few, same_from_count, some_outside}
 use Rattle.tree_cotree.proofs.GrowthLemmas.{HasNodes, leaves}
 use Rattle.tree_cotree.proofs.SearchLemmas.{GoesOn, order_start, order_more, found_on, named_found}
@@ -22,7 +22,7 @@ record IsListed (maps : Rotations) (node : ℕ → ℕ) (is_node : ℕ → Bool)
   listed : (v : ℕ) → IsFound node order v → nodes v ≡ true
   are_nodes : (v : ℕ) → v < bound → nodes v ≡ true → is_node v ≡ true
 
-none_kept : (n v : ℕ) → back_at (replicate n None) v ≡ None
+none_kept : (n v : ℕ) → kept_at (replicate n None) v ≡ None
 none_kept zero v = refl
 none_kept (suc n) zero = refl
 none_kept (suc n) (suc v) = none_kept n v
@@ -72,7 +72,7 @@ one_more maps node is_node bound edges tree root order from nodes d r n h out =
         crosses = out.in_set;
         below = n.node_within twin twin_in;
         not_root = λ e. missed (record { place = 0; within = h.is_order.some; is = h.is_order.first ∙ sym e });
-        none_kept = elim (option_cases (back_at from v)) [
+        none_kept = elim (option_cases (kept_at from v)) [
           | inl none ↦ none
           | inr some ↦ absurd (missed (named_found node order v some.0 (h.is_order.only v some.0 some.1)))
         ];

@@ -16,7 +16,7 @@ use Rattle.tree_cotree.specs.declared.search.Nodes.{Nodes}
 use Rattle.tree_cotree.specs.declared.search.Nodes.TheVariants.{Vertices, Faces}
 use Rattle.halfedge_map.proofs.OrbitLemmas.{IsPermutationBelow, AreAlike, two_alike, steps_within, reached_keeps}
 use Rattle.tree_cotree.specs.RingViews.{dart_numbers}
-use Rattle.tree_cotree.specs.Searches.{node_of, turn_of, back_at, IsFound, IsNamed, LeadsBack, IsOrder, IsCrossed, AreAdded}
+use Rattle.tree_cotree.specs.Searches.{node_of, turn_of, kept_at, IsFound, IsNamed, LeadsBack, IsOrder, IsCrossed, AreAdded}
 use Rattle.tree_cotree.proofs.AfterLemmas.{twin_edge}
 use Rattle.tree_cotree.proofs.ExchangeLemmas.{reached_soon}
 
@@ -28,10 +28,10 @@ new_at : (order : List ℕ) (x j : ℕ) → j ≡ length order → get_or (order
 new_at order x j e = get_or_push order x 0 j (sym e)
 
 -- what is kept for a node, after another dart is kept
-kept_same : (from : List (Option ℕ)) (v x : ℕ) → v < length from → back_at (set from v (Some x)) v ≡ Some x
+kept_same : (from : List (Option ℕ)) (v x : ℕ) → v < length from → kept_at (set from v (Some x)) v ≡ Some x
 kept_same from v x l = get_or-set_same from v (Some x) None l
 
-kept_other : (from : List (Option ℕ)) (v w x : ℕ) → w ≢ v → back_at (set from v (Some x)) w ≡ back_at from w
+kept_other : (from : List (Option ℕ)) (v w x : ℕ) → w ≢ v → kept_at (set from v (Some x)) w ≡ kept_at from w
 kept_other from v w x ne = get_or-set_other from v w (Some x) None ne
 
 -- a dart with a new node across an allowed edge
@@ -42,7 +42,7 @@ pub record IsNewDart (maps : Rotations) (node : ℕ → ℕ) (allowed : ℕ → 
   pub crosses : allowed (maps.edge d) ≡ true
   pub below : node (maps.twin d) < bound
   pub not_root : node (maps.twin d) ≢ root
-  pub none_kept : back_at from (node (maps.twin d)) ≡ None
+  pub none_kept : kept_at from (node (maps.twin d)) ≡ None
 
 some_is_none : (o : Option ℕ) (x : ℕ) → o ≡ Some x → o ≡ None → ⊥
 some_is_none o x e k = cc
@@ -65,7 +65,7 @@ order_more maps node allowed bound root order from d x r h new is =
     let unlike : (i : ℕ) → i < n → node (get_or order i 0) ≢ v =
     λ i l e. elim (cases_eq i 0) [
       | inl at_root ↦ new.not_root (sym e ∙ ap (λ k. node (get_or order k 0)) at_root ∙ h.first)
-      | inr later ↦ some_is_none (back_at from v) (get_or order i 0) (ap (back_at from) (sym e) ∙ h.named i (omega (arith, later)) l)
+      | inr later ↦ some_is_none (kept_at from v) (get_or order i 0) (ap (kept_at from) (sym e) ∙ h.named i (omega (arith, later)) l)
           new.none_kept
     ] in
     record {
@@ -104,16 +104,16 @@ order_more maps node allowed bound root order from d x r h new is =
       ];
       named = λ j later l. elim (cases_lt j n) [
         | inl less ↦
-            ap (λ y. back_at kept (node y)) (old j less) ∙ kept_other from v (node (get_or order j 0)) x (unlike j less)
+            ap (λ y. kept_at kept (node y)) (old j less) ∙ kept_other from v (node (get_or order j 0)) x (unlike j less)
             ∙ h.named j later less
             ∙ ap Some (sym (old j less))
         | inr at_end ↦
             (let here : get_or more j 0 ≡ x = last j (omega (arith, l, long, at_end)) in
-            ap (λ y. back_at kept (node y)) here ∙ ap (back_at kept) x_node ∙ kept_same from v x v_in ∙ ap Some (sym here))
+            ap (λ y. kept_at kept (node y)) here ∙ ap (kept_at kept) x_node ∙ kept_same from v x v_in ∙ ap Some (sym here))
       ];
       only = λ w y k. elim (cases_eq w v) [
         | inl same ↦
-            (let own : Some y ≡ Some x = sym k ∙ ap (back_at kept) same ∙ kept_same from v x v_in in
+            (let own : Some y ≡ Some x = sym k ∙ ap (kept_at kept) same ∙ kept_same from v x v_in in
             let is_x : y ≡ x = cc in
             record {
               place = n;
@@ -136,7 +136,7 @@ order_more maps node allowed bound root order from d x r h new is =
 
 -- the order of a start
 pub order_start : (maps : Rotations) (node : ℕ → ℕ) (allowed : ℕ → Bool) (bound start : ℕ) (order : List ℕ) (from : List (Option ℕ))
-    → order ≡ start ∷ [] → start < maps.darts → length from ≡ bound → ((v : ℕ) → back_at from v ≡ None)
+    → order ≡ start ∷ [] → start < maps.darts → length from ≡ bound → ((v : ℕ) → kept_at from v ≡ None)
     → IsOrder maps node allowed bound (node start) order from
 order_start maps node allowed bound start order from is l long none =
     let one : length order ≡ 1 = ap (λ (xs : List ℕ). length xs) is in
@@ -151,7 +151,7 @@ order_start maps node allowed bound start order from is l long none =
       back = λ j later b. absurd (omega (arith, later, b, one));
       inside = λ j later b. absurd (omega (arith, later, b, one));
       named = λ j later b. absurd (omega (arith, later, b, one));
-      only = λ v x e. absurd (some_is_none (back_at from v) x e (none v));
+      only = λ v x e. absurd (some_is_none (kept_at from v) x e (none v));
     }
 
 -- an order goes on from another
@@ -277,7 +277,7 @@ kept_is from v o l e = sym (get_or_read from v o l e None)
 
 -- what is read from a list of kept darts
 pub kept_read : (from : List (Option ℕ)) (v : ℕ) (o : Option ℕ) (got x : Option DartName) → v < length from → o ≡ get_or from v o
-    → option_map (λ d. d.0) got ≡ o → got ≡ x → back_at from v ≡ option_map (λ d. d.0) x
+    → option_map (λ d. d.0) got ≡ o → got ≡ x → kept_at from v ≡ option_map (λ d. d.0) x
 kept_read from v o got x l e get is = kept_is from v o l e ∙ sym get ∙ ap (option_map (λ (d : DartName). d.0)) is
 
 pub kept_found : (maps : Rotations) (node : ℕ → ℕ) (allowed : ℕ → Bool) (bound root : ℕ) (order : List ℕ)
@@ -288,7 +288,7 @@ kept_found maps node allowed bound root order from v (Some x) h l e some =
     named_found node order v x (h.only v x (kept_is from v (Some x) l e))
 
 pub none_kept : (from : List (Option ℕ)) (v : ℕ) (o : Option ℕ) → v < length from → o ≡ get_or from v o
-    → is_some o ≡ false → back_at from v ≡ None
+    → is_some o ≡ false → kept_at from v ≡ None
 none_kept from v None l e none = kept_is from v None l e
 none_kept from v (Some x) l e none = cc
 

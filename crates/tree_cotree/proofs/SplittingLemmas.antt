@@ -13,11 +13,11 @@ use Rattle.halfedge_map.proofs.SystemLemmas.{rotation_system, names_all}
 use Rattle.tree_cotree.specs.declared.split.Kind.{Kind}
 use Rattle.tree_cotree.specs.declared.split.Kind.TheVariants.{Tree, Cotree, Left}
 use Rattle.tree_cotree.specs.SpanningTrees.{IsSpanningTree, HasOneRing}
-use Rattle.tree_cotree.specs.Searches.{same_kind, has_kind, back_at, IsFound, IsNamed, IsSearched, FindsAll}
+use Rattle.tree_cotree.specs.Searches.{same_kind, has_kind, kept_at, IsFound, IsNamed, IsSearched, FindsAll}
 use Rattle.tree_cotree.specs.Markings.{AreMarked, IsMarked}
 use Rattle.tree_cotree.specs.Splits.{SplitView, HasParents, HasChildFaces, HasTrees, IsSplit, StepsToParent, StepsUp, below_edge, in_tree, in_cotree, is_left, is_tree_kind, is_cotree_kind, is_left_kind}
 use Rattle.tree_cotree.specs.Ways.{HasRoot}
-use Rattle.tree_cotree.specs.EdgeFaces.{face_at, AreBelowEdges}
+use Rattle.tree_cotree.specs.EdgeFaces.{AreBelowEdges}
 use Rattle.tree_cotree.specs.StoredSplits.{made_split}
 use Rattle.tree_cotree.proofs.ClassLemmas.{count_same}
 use Rattle.tree_cotree.proofs.SetLemmas.{with_one, with_cases, with_keeps, count_with, same_from_count}
@@ -72,9 +72,9 @@ other_kind kinds kind other e differ is = ap (λ k. same_kind k other) (kind_is 
 -- the marked edges of a search that finds all nodes span them
 root_free : (maps : Rotations) (node : ℕ → ℕ) (allowed : ℕ → Bool) (bound root : ℕ) (from : List (Option ℕ))
     → FindsAll maps node allowed bound root from
-    → is_some (back_at from root) ≡ false
+    → is_some (kept_at from root) ≡ false
 root_free maps node allowed bound root from f =
-    elim (option_cases (back_at from root)) [
+    elim (option_cases (kept_at from root)) [
       | inl none ↦ ap is_some none
       | inr some ↦ absurd (root_not_kept maps node allowed bound root f.order from some.0 f.is_order some.1)
     ]
@@ -82,18 +82,18 @@ root_free maps node allowed bound root from f =
 count_nodes : (maps : Rotations) (node : ℕ → ℕ) (allowed : ℕ → Bool) (bound root edges : ℕ) (is_node : ℕ → Bool)
     (from : List (Option ℕ))
     → HasNodes maps node is_node bound edges → FindsAll maps node allowed bound root from → root < bound
-    → count_below is_node bound ≡ count_below (λ w. is_some (back_at from w)) (length from) + 1
+    → count_below is_node bound ≡ count_below (λ w. is_some (kept_at from w)) (length from) + 1
 count_nodes maps node allowed bound root edges is_node from n f l =
-    count_same is_node (with_one (λ w. is_some (back_at from w)) root) bound
+    count_same is_node (with_one (λ w. is_some (kept_at from w)) root) bound
     (λ v b. kept_nodes maps node allowed bound root edges is_node from n f v b)
-    ∙ count_with (λ w. is_some (back_at from w)) bound root l (root_free maps node allowed bound root from f)
-    ∙ ap (λ k. suc (count_below (λ w. is_some (back_at from w)) k)) (sym f.is_order.long)
-    ∙ (let e : suc (count_below (λ w. is_some (back_at from w)) (length from)) ≡ count_below (λ w. is_some (back_at from w))
+    ∙ count_with (λ w. is_some (kept_at from w)) bound root l (root_free maps node allowed bound root from f)
+    ∙ ap (λ k. suc (count_below (λ w. is_some (kept_at from w)) k)) (sym f.is_order.long)
+    ∙ (let e : suc (count_below (λ w. is_some (kept_at from w)) (length from)) ≡ count_below (λ w. is_some (kept_at from w))
     (length from) + 1 = omega arith in e)
 
 pub kept_below : (maps : Rotations) (node : ℕ → ℕ) (allowed : ℕ → Bool) (bound root edges : ℕ) (is_node : ℕ → Bool)
     (from : List (Option ℕ)) (v x : ℕ)
-    → HasNodes maps node is_node bound edges → FindsAll maps node allowed bound root from → back_at from v ≡ Some x → v < length from
+    → HasNodes maps node is_node bound edges → FindsAll maps node allowed bound root from → kept_at from v ≡ Some x → v < length from
 kept_below maps node allowed bound root edges is_node from v x n f e =
     let name : IsNamed node f.order v x = f.is_order.only v x e in
     let dart : x < maps.darts = subst (λ d. d < maps.darts) name.is (f.is_order.within name.place name.within) in
@@ -126,7 +126,7 @@ pub record IsMade (s : OrientedMesh) (k0 k1 k2 : List Kind) (p q t : List (Optio
       → has_kind k2 Left ((rotations_of s).edge start) ≡ true
   pub hanging : FindsAll (rotations_of s) (rotations_of s).face (has_kind k2 Cotree) (length s.mesh.faces) ((rotations_of s).face start) t
   pub each_edge : length b ≡ length s.table
-  pub below : AreBelowEdges (rotations_of s) t (length s.table) (face_at b) (length t)
+  pub below : AreBelowEdges (rotations_of s) t (length s.table) (kept_at b) (length t)
 
 -- the first search: all edges are allowed
 pub all_left : (s : OrientedMesh) (k0 : List Kind) (e : ℕ) → k0 ≡ replicate (length s.table) Left → e < length s.table
@@ -256,7 +256,7 @@ pub parents_from : (s : OrientedMesh) → IsOrientedSurface s
     → (kinds : List Kind) (p : List (Option ℕ)) (b : List (Option ℕ)) (start top genus : ℕ) (allowed : ℕ → Bool)
     → start < (rotations_of s).darts
     → FindsAll (rotations_of s) (rotations_of s).origin allowed s.mesh.count ((rotations_of s).origin start) p
-    → ((v x : ℕ) → back_at p v ≡ Some x → has_kind kinds Tree ((rotations_of s).edge x) ≡ true)
+    → ((v x : ℕ) → kept_at p v ≡ Some x → has_kind kinds Tree ((rotations_of s).edge x) ≡ true)
     → HasParents s (made_split kinds p b top genus)
 parents_from s h kinds p b start top genus allowed l f in_kind =
     let maps : Rotations = rotations_of s in
@@ -264,7 +264,7 @@ parents_from s h kinds p b start top genus allowed l f in_kind =
     let root : ℕ = maps.origin start in
     let n = vertex_nodes s names in
     let split : SplitView = made_split kinds p b top genus in
-    let kept : ℕ → Bool = λ w. is_some (back_at p w) in
+    let kept : ℕ → Bool = λ w. is_some (kept_at p w) in
     let used : (v : ℕ) → v < s.mesh.count → is_used s.mesh v ≡ with_one kept root v =
     kept_nodes maps maps.origin allowed s.mesh.count root (length s.table) (is_used s.mesh) p n f in
     record {
@@ -279,11 +279,11 @@ parents_from s h kinds p b start top genus allowed l f in_kind =
             | inr is_kept ↦ absurd (both_ways (kept v) (ap is_some none) is_kept)
           ]
         ],
-        λ either. elim (option_cases (back_at p v)) [
+        λ either. elim (option_cases (kept_at p v)) [
           | inl none ↦ none
           | inr some ↦ elim either [
             | inl at_root ↦ absurd (root_not_kept maps maps.origin allowed s.mesh.count root f.order p some.0 f.is_order
-                (ap (back_at p) (sym at_root) ∙ some.1))
+                (ap (kept_at p) (sym at_root) ∙ some.1))
             | inr out ↦ absurd (both_ways (is_used s.mesh v) out (used v l ∙ with_keeps kept root v (ap is_some some.1)))
           ]
         ],
@@ -323,7 +323,7 @@ below_is_cotree s h k2 t below start l span f b =
     let maps : Rotations = rotations_of s in
     let names : NamesAll s = names_all s h in
     let root : ℕ = maps.face start in
-    let faces : count_below (λ f. true) (length s.mesh.faces) ≡ count_below (λ w. is_some (back_at t w)) (length t) + 1 =
+    let faces : count_below (λ f. true) (length s.mesh.faces) ≡ count_below (λ w. is_some (kept_at t w)) (length t) + 1 =
     count_nodes maps maps.face (has_kind k2 Cotree) (length s.mesh.faces) root (length s.table) (λ f. true) t (face_nodes s names) f
     (names.face_below start l) in
     let counts : count_below (λ e. is_some (below e)) (length s.table) ≡ count_below (has_kind k2 Cotree) (length s.table) =
@@ -341,19 +341,19 @@ pub child_faces_from : (s : OrientedMesh) → IsOrientedSurface s
     → (kinds : List Kind) (p t : List (Option ℕ)) (b : List (Option ℕ)) (start genus : ℕ) → start < (rotations_of s).darts
     → IsSpanningTree (rotations_of s) (rotations_of s).face (λ f. true) (length s.mesh.faces) (length s.table) (has_kind kinds Cotree)
     → FindsAll (rotations_of s) (rotations_of s).face (has_kind kinds Cotree) (length s.mesh.faces) ((rotations_of s).face start) t
-    → length b ≡ length s.table → AreBelowEdges (rotations_of s) t (length s.table) (face_at b) (length t)
+    → length b ≡ length s.table → AreBelowEdges (rotations_of s) t (length s.table) (kept_at b) (length t)
     → HasChildFaces s (made_split kinds p b ((rotations_of s).face start) genus)
 child_faces_from s h kinds p t b start genus l span a long kept_faces =
     let maps : Rotations = rotations_of s in
     let names : NamesAll s = names_all s h in
     let root : ℕ = maps.face start in
     let split : SplitView = made_split kinds p b root genus in
-    let dart_in : (v x : ℕ) → back_at t v ≡ Some x → x < maps.darts =
+    let dart_in : (v x : ℕ) → kept_at t v ≡ Some x → x < maps.darts =
     λ v x e. let name : IsNamed maps.face a.order v x =
     a.is_order.only v x e in subst (λ d. d < maps.darts) name.is (a.is_order.within name.place name.within) in
     let up : ℕ → Option ℕ = below_edge split in
     let faces : AreBelowEdges maps t (length s.table) up (length t) = kept_faces in
-    let kept_in : (v x : ℕ) → back_at t v ≡ Some x → v < length t =
+    let kept_in : (v x : ℕ) → kept_at t v ≡ Some x → v < length t =
     λ v x e. kept_below maps maps.face (has_kind kinds Cotree) (length s.mesh.faces) root (length s.table) (λ f. true) t v x
     (face_nodes s names) a e in
     let is_cotree : (e : ℕ) → e < length s.table → is_some (up e) ≡ has_kind kinds Cotree e =

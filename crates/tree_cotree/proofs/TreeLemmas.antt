@@ -10,7 +10,7 @@ use Rattle.tree_cotree.specs.SpanningTrees.{StepsIn}
 use Rattle.std.proofs.lemmas.List.{get_or-set_same, get_or-set_other, length-set}
 use Rattle.tree_cotree.specs.declared.split.Kind.{Kind}
 use Rattle.tree_cotree.specs.declared.split.Kind.TheVariants.{Tree, Cotree, Left}
-use Rattle.tree_cotree.specs.Searches.{same_kind, has_kind, back_at, IsFound, IsNamed, LeadsBack, IsOrder, IsSearched, FindsAll}
+use Rattle.tree_cotree.specs.Searches.{same_kind, has_kind, kept_at, IsFound, IsNamed, LeadsBack, IsOrder, IsSearched, FindsAll}
 use Rattle.tree_cotree.specs.Markings.{AreApart, AreMarked, IsMarked}
 use Rattle.tree_cotree.proofs.SetLemmas.{with_one, with_itself, with_other, with_cases, with_keeps, count_with}
 use Rattle.tree_cotree.proofs.ClassLemmas.{count_same}
@@ -76,7 +76,7 @@ edges_differ maps node allowed bound root order from i j r h later less l same =
 -- the dart that is kept for a node, by its place in the order
 pub kept_differ : (maps : Rotations) (node : ℕ → ℕ) (allowed : ℕ → Bool) (bound root : ℕ) (order : List ℕ)
     (from : List (Option ℕ)) (v w x y : ℕ)
-    → IsRotationSystem maps → IsOrder maps node allowed bound root order from → back_at from v ≡ Some x → back_at from w ≡ Some y
+    → IsRotationSystem maps → IsOrder maps node allowed bound root order from → kept_at from v ≡ Some x → kept_at from w ≡ Some y
     → v ≢ w → maps.edge x ≢ maps.edge y
 kept_differ maps node allowed bound root order from v w x y r h a b ne same =
     let p : IsNamed node order v x = h.only v x a in
@@ -93,7 +93,7 @@ kept_differ maps node allowed bound root order from v w x y r h a b ne same =
 pub kept_nodes : (maps : Rotations) (node : ℕ → ℕ) (allowed : ℕ → Bool) (bound root edges : ℕ) (is_node : ℕ → Bool)
     (from : List (Option ℕ))
     → HasNodes maps node is_node bound edges → (f : FindsAll maps node allowed bound root from) → (v : ℕ) → v < bound
-    → is_node v ≡ with_one (λ w. is_some (back_at from w)) root v
+    → is_node v ≡ with_one (λ w. is_some (kept_at from w)) root v
 kept_nodes maps node allowed bound root edges is_node from n f v l =
     elim (cases_Bool (is_node v)) [
       | inl yes_node ↦ yes_node ∙ sym (here (n.has_dart v l yes_node))
@@ -104,7 +104,7 @@ kept_nodes maps node allowed bound root edges is_node from n f v l =
     ]
   where
     kept : ℕ → Bool
-    kept w = is_some (back_at from w)
+    kept w = is_some (kept_at from w)
 
     here : (d : ℕ) × (d < maps.darts) × (node d ≡ v) → with_one kept root v ≡ true
     here d =
@@ -114,8 +114,8 @@ kept_nodes maps node allowed bound root edges is_node from n f v l =
               (let at_root : v ≡ root = sym d.2 ∙ sym found.is ∙ ap (λ k. node (get_or f.order k 0)) first ∙ f.is_order.first in
               subst (λ w. with_one kept root w ≡ true) (sym at_root) (with_itself kept root))
           | inr later ↦
-              (let name : back_at from v ≡ Some (get_or f.order found.place 0) =
-              ap (back_at from) (sym d.2 ∙ sym found.is) ∙ f.is_order.named found.place (omega (arith, later)) found.within in
+              (let name : kept_at from v ≡ Some (get_or f.order found.place 0) =
+              ap (kept_at from) (sym d.2 ∙ sym found.is) ∙ f.is_order.named found.place (omega (arith, later)) found.within in
               with_keeps kept root v (ap is_some name))
         ]
 
@@ -128,14 +128,14 @@ kept_nodes maps node allowed bound root edges is_node from n f v l =
         subst (λ w. is_node w ≡ true) (f.is_order.first ∙ sym at_root)
         (n.is_of_dart (get_or f.order 0 0) (f.is_order.within 0 f.is_order.some))
     named (inr is_kept) =
-        let x = some_of (back_at from v) is_kept in
+        let x = some_of (kept_at from v) is_kept in
         let name : IsNamed node f.order v x.0 = f.is_order.only v x.0 x.1 in
         subst (λ w. is_node w ≡ true) name.of_node (n.is_of_dart x.0
         (subst (λ d. d < maps.darts) name.is (f.is_order.within name.place name.within)))
 
 pub root_not_kept : (maps : Rotations) (node : ℕ → ℕ) (allowed : ℕ → Bool) (bound root : ℕ) (order : List ℕ)
     (from : List (Option ℕ)) (x : ℕ)
-    → IsOrder maps node allowed bound root order from → back_at from root ≡ Some x → ⊥
+    → IsOrder maps node allowed bound root order from → kept_at from root ≡ Some x → ⊥
 root_not_kept maps node allowed bound root order from x h e =
     let name : IsNamed node order root x = h.only root x e in
     h.fresh 0 name.place name.later name.within (h.first ∙ sym name.of_node ∙ ap node (sym name.is))
@@ -144,7 +144,7 @@ root_not_kept maps node allowed bound root order from x h e =
 pub to_root : (step : ℕ → ℕ → Type 0) (maps : Rotations) (node : ℕ → ℕ) (allowed : ℕ → Bool) (bound root : ℕ) (order : List ℕ)
     (from : List (Option ℕ))
     → IsOrder maps node allowed bound root order from
-    → ((v x : ℕ) → back_at from v ≡ Some x → step v (node (maps.twin x)))
+    → ((v x : ℕ) → kept_at from v ≡ Some x → step v (node (maps.twin x)))
     → (fuel j : ℕ) → j < fuel → j < length order → AreJoined step (node (get_or order j 0)) root
 to_root step maps node allowed bound root order from h steps zero j b l = absurd (omega arith)
 to_root step maps node allowed bound root order from h steps (suc fuel) j b l =
@@ -163,7 +163,7 @@ to_root step maps node allowed bound root order from h steps (suc fuel) j b l =
 
 pub all_to_root : (step : ℕ → ℕ → Type 0) (maps : Rotations) (node : ℕ → ℕ) (allowed : ℕ → Bool) (bound root : ℕ)
     (from : List (Option ℕ))
-    → (f : FindsAll maps node allowed bound root from) → ((v x : ℕ) → back_at from v ≡ Some x → step v (node (maps.twin x)))
+    → (f : FindsAll maps node allowed bound root from) → ((v x : ℕ) → kept_at from v ≡ Some x → step v (node (maps.twin x)))
     → (d : ℕ) → d < maps.darts → AreJoined step (node d) root
 all_to_root step maps node allowed bound root from f steps d l =
     let found : IsFound node f.order (node d) = f.all d l in
@@ -174,7 +174,7 @@ all_to_root step maps node allowed bound root from f steps d l =
 from_root : (step : ℕ → ℕ → Type 0) (maps : Rotations) (node : ℕ → ℕ) (allowed : ℕ → Bool) (bound root : ℕ) (order : List ℕ)
     (from : List (Option ℕ))
     → IsOrder maps node allowed bound root order from
-    → ((v x : ℕ) → back_at from v ≡ Some x → step (node (maps.twin x)) v)
+    → ((v x : ℕ) → kept_at from v ≡ Some x → step (node (maps.twin x)) v)
     → (fuel j : ℕ) → j < fuel → j < length order → AreJoined step root (node (get_or order j 0))
 from_root step maps node allowed bound root order from h steps zero j b l = absurd (omega arith)
 from_root step maps node allowed bound root order from h steps (suc fuel) j b l =
@@ -194,7 +194,7 @@ from_root step maps node allowed bound root order from h steps (suc fuel) j b l 
 -- the kept darts and the set of their edges join any two nodes
 pub kept_join : (maps : Rotations) (node : ℕ → ℕ) (allowed inside : ℕ → Bool) (bound root : ℕ) (from : List (Option ℕ))
     → IsRotationSystem maps
-    → (f : FindsAll maps node allowed bound root from) → ((v x : ℕ) → back_at from v ≡ Some x → inside (maps.edge x) ≡ true)
+    → (f : FindsAll maps node allowed bound root from) → ((v x : ℕ) → kept_at from v ≡ Some x → inside (maps.edge x) ≡ true)
     → (d e : ℕ) → d < maps.darts → e < maps.darts → AreJoined (StepsIn maps node inside) (node d) (node e)
 kept_join maps node allowed inside bound root from r f marked d e l k =
     join (StepsIn maps node inside) (node d) root (node e)
@@ -206,14 +206,14 @@ kept_join maps node allowed inside bound root from r f marked d e l k =
     found : IsFound node f.order (node e)
     found = f.all e k
 
-    dart_in : (v x : ℕ) → back_at from v ≡ Some x → x < maps.darts
+    dart_in : (v x : ℕ) → kept_at from v ≡ Some x → x < maps.darts
     dart_in v x e = let name : IsNamed node f.order v x =
         f.is_order.only v x e in subst (λ d. d < maps.darts) name.is (f.is_order.within name.place name.within)
 
-    forth : (v x : ℕ) → back_at from v ≡ Some x → StepsIn maps node inside v (node (maps.twin x))
+    forth : (v x : ℕ) → kept_at from v ≡ Some x → StepsIn maps node inside v (node (maps.twin x))
     forth v x e = (x, record { within = dart_in v x e; in_set = marked v x e; starts = (f.is_order.only v x e).of_node; ends = refl })
 
-    back : (v x : ℕ) → back_at from v ≡ Some x → StepsIn maps node inside (node (maps.twin x)) v
+    back : (v x : ℕ) → kept_at from v ≡ Some x → StepsIn maps node inside (node (maps.twin x)) v
     back v x e =
         let l : x < maps.darts = dart_in v x e in (
           maps.twin x,
@@ -231,18 +231,18 @@ marked_none maps from edges old =
 
 -- no dart is kept for the next node
 pub marked_skip : (maps : Rotations) (from : List (Option ℕ)) (edges n : ℕ) (old new : ℕ → Bool)
-    → AreMarked maps from edges old new n → back_at from n ≡ None
+    → AreMarked maps from edges old new n → kept_at from n ≡ None
     → AreMarked maps from edges old new (n + 1)
 marked_skip maps from edges n old new h none =
-    let no_more : count_below (λ w. is_some (back_at from w)) (n + 1) ≡ count_below (λ w. is_some (back_at from w)) n =
-    ap (count_below (λ w. is_some (back_at from w))) (let e : n + 1 ≡ suc n = omega arith in e)
-    ∙ ap (λ o. count_below (λ w. is_some (back_at from w)) n + cond (is_some o) 1 0) none
-    ∙ (let e : count_below (λ w. is_some (back_at from w)) n + 0 ≡ count_below (λ w. is_some (back_at from w)) n = omega arith in e) in
+    let no_more : count_below (λ w. is_some (kept_at from w)) (n + 1) ≡ count_below (λ w. is_some (kept_at from w)) n =
+    ap (count_below (λ w. is_some (kept_at from w))) (let e : n + 1 ≡ suc n = omega arith in e)
+    ∙ ap (λ o. count_below (λ w. is_some (kept_at from w)) n + cond (is_some o) 1 0) none
+    ∙ (let e : count_below (λ w. is_some (kept_at from w)) n + 0 ≡ count_below (λ w. is_some (kept_at from w)) n = omega arith in e) in
     record {
       count = h.count ∙ ap (λ k. count_below old edges + k) (sym no_more);
       marked = λ v x l e. elim (cases_lt v n) [
         | inl less ↦ h.marked v x less e
-        | inr more ↦ (let same : v ≡ n = omega arith in absurd (some_none (back_at from n) x (ap (back_at from) (sym same) ∙ e) none))
+        | inr more ↦ (let same : v ≡ n = omega arith in absurd (some_none (kept_at from n) x (ap (kept_at from) (sym same) ∙ e) none))
       ];
       kept = h.kept;
       only = λ e k. elim (h.only e k) [
@@ -256,14 +256,14 @@ marked_skip maps from edges n old new h none =
 
 -- the edge of the dart that is kept for the next node is put in
 pub marked_more : (maps : Rotations) (from : List (Option ℕ)) (edges n x : ℕ) (old new others : ℕ → Bool)
-    → AreMarked maps from edges old new n → back_at from n ≡ Some x
-    → maps.edge x < edges → old (maps.edge x) ≡ false → ((v y : ℕ) → v ≢ n → back_at from v ≡ Some y → maps.edge y ≢ maps.edge x)
+    → AreMarked maps from edges old new n → kept_at from n ≡ Some x
+    → maps.edge x < edges → old (maps.edge x) ≡ false → ((v y : ℕ) → v ≢ n → kept_at from v ≡ Some y → maps.edge y ≢ maps.edge x)
     → ((e : ℕ) → others e ≡ with_one new (maps.edge x) e) → AreMarked maps from edges old others (n + 1)
 marked_more maps from edges n x old new others h some l free apart is =
     let e : ℕ = maps.edge x in
-    let one_more : count_below (λ w. is_some (back_at from w)) (n + 1) ≡ count_below (λ w. is_some (back_at from w)) n + 1 =
-    ap (count_below (λ w. is_some (back_at from w))) (let e : n + 1 ≡ suc n = omega arith in e)
-    ∙ ap (λ o. count_below (λ w. is_some (back_at from w)) n + cond (is_some o) 1 0) some in
+    let one_more : count_below (λ w. is_some (kept_at from w)) (n + 1) ≡ count_below (λ w. is_some (kept_at from w)) n + 1 =
+    ap (count_below (λ w. is_some (kept_at from w))) (let e : n + 1 ≡ suc n = omega arith in e)
+    ∙ ap (λ o. count_below (λ w. is_some (kept_at from w)) n + cond (is_some o) 1 0) some in
     let out : new e ≡ false = elim (cases_Bool (new e)) [
       | inl is_in ↦ elim (h.only e is_in) [
         | inl before ↦ absurd (both_ways (old e) free before)
@@ -280,7 +280,7 @@ marked_more maps from edges n x old new others h some l free apart is =
         | inl less ↦ is (maps.edge y) ∙ with_keeps new e (maps.edge y) (h.marked v y less k)
         | inr more ↦
             (let here : v ≡ n = omega arith in
-            let same : Some y ≡ Some x = sym k ∙ ap (back_at from) here ∙ some in
+            let same : Some y ≡ Some x = sym k ∙ ap (kept_at from) here ∙ some in
             let y_is : y ≡ x = cc in
             ap (λ z. others (maps.edge z)) y_is ∙ is e ∙ with_itself new e)
       ];
@@ -306,7 +306,7 @@ kept_apart maps node allowed bound root order from r h =
 
 pub kept_allowed : (maps : Rotations) (node : ℕ → ℕ) (allowed : ℕ → Bool) (bound root : ℕ) (order : List ℕ)
     (from : List (Option ℕ)) (v x : ℕ)
-    → IsOrder maps node allowed bound root order from → back_at from v ≡ Some x → allowed (maps.edge x) ≡ true
+    → IsOrder maps node allowed bound root order from → kept_at from v ≡ Some x → allowed (maps.edge x) ≡ true
 kept_allowed maps node allowed bound root order from v x h e =
     let name : IsNamed node order v x = h.only v x e in
     ap (λ d. allowed (maps.edge d)) (sym name.is) ∙ h.inside name.place name.later name.within
@@ -320,7 +320,7 @@ pub marks_none : (maps : Rotations) (from : List (Option ℕ)) (kind : Kind) (ol
 marks_none maps from kind old = record { long = refl; sets = marked_none maps from (length old) (has_kind old kind); others = λ e k. refl }
 
 pub marks_skip : (maps : Rotations) (from : List (Option ℕ)) (kind : Kind) (old new : List Kind) (n : ℕ)
-    → IsMarked maps from kind old new n → back_at from n ≡ None
+    → IsMarked maps from kind old new n → kept_at from n ≡ None
     → IsMarked maps from kind old new (n + 1)
 marks_skip maps from kind old new n h none =
     record {
@@ -332,7 +332,7 @@ marks_skip maps from kind old new n h none =
 
 pub marks_more : (maps : Rotations) (from : List (Option ℕ)) (kind : Kind) (old new : List Kind) (n x : ℕ) → AreApart maps from
     → IsMarked maps from kind old new n
-    → back_at from n ≡ Some x → maps.edge x < length old → has_kind old kind (maps.edge x) ≡ false
+    → kept_at from n ≡ Some x → maps.edge x < length old → has_kind old kind (maps.edge x) ≡ false
     → IsMarked maps from kind old (set new (maps.edge x) kind) (n + 1)
 marks_more maps from kind old new n x apart h some l free =
     let i : ℕ = maps.edge x in

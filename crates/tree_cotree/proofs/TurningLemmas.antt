@@ -6,7 +6,7 @@ use Rattle.std.specs.Prelude.{Option, Some, None}
 use Rattle.std.proofs.lemmas.Bool.{cases_eq, cases_lt}
 use Rattle.std.proofs.lemmas.List.{get_or-set_same, get_or-set_other, length-set, length_push, get_or_push, get_or_append_left}
 use Rattle.halfedge_map.specs.RotationSystems.{Rotations, IsRotationSystem}
-use Rattle.tree_cotree.specs.Searches.{back_at, IsFound, IsNamed, LeadsBack, IsOrder, FindsAll}
+use Rattle.tree_cotree.specs.Searches.{kept_at, IsFound, IsNamed, LeadsBack, IsOrder, FindsAll}
 use Rattle.tree_cotree.specs.Ways.{HasRoot, IsWay, IsWayUp}
 use Rattle.tree_cotree.proofs.AfterLemmas.{twin_edge}
 use Rattle.tree_cotree.proofs.SearchLemmas.{order_few}
@@ -174,13 +174,13 @@ one_place maps node allowed bound root order from i j h a b e =
     ]
 
 -- what is kept after two nodes are changed
-kept_root : (from : List (Option ℕ)) (v w x : ℕ) → v < length from → v ≢ w → back_at (set (set from v (Some x)) w None) v ≡ Some x
+kept_root : (from : List (Option ℕ)) (v w x : ℕ) → v < length from → v ≢ w → kept_at (set (set from v (Some x)) w None) v ≡ Some x
 kept_root from v w x l ne = get_or-set_other (set from v (Some x)) w v None None ne ∙ get_or-set_same from v (Some x) None l
 
-kept_none : (from : List (Option ℕ)) (v w x : ℕ) → w < length from → back_at (set (set from v (Some x)) w None) w ≡ None
+kept_none : (from : List (Option ℕ)) (v w x : ℕ) → w < length from → kept_at (set (set from v (Some x)) w None) w ≡ None
 kept_none from v w x l = get_or-set_same (set from v (Some x)) w None None (omega (arith, l, length-set from v (Some x)))
 
-kept_else : (from : List (Option ℕ)) (v w u x : ℕ) → u ≢ v → u ≢ w → back_at (set (set from v (Some x)) w None) u ≡ back_at from u
+kept_else : (from : List (Option ℕ)) (v w u x : ℕ) → u ≢ v → u ≢ w → kept_at (set (set from v (Some x)) w None) u ≡ kept_at from u
 kept_else from v w u x not_v not_w =
     get_or-set_other (set from v (Some x)) w u None None not_w ∙ get_or-set_other from v u (Some x) None not_v
 
@@ -266,7 +266,7 @@ still_later p q k later other low high =
 -- the dart d of a node that leads to the root is turned, and the node is the root
 pub rerooted : (maps : Rotations) (node : ℕ → ℕ) (allowed : ℕ → Bool) (bound root : ℕ) (from : List (Option ℕ)) (d x : ℕ)
     → IsRotationSystem maps → ((e : ℕ) → e < maps.darts → node e < length from) → FindsAll maps node allowed bound root from
-    → back_at from (node d) ≡ Some d → node (maps.twin d) ≡ root → x ≡ maps.twin d
+    → kept_at from (node d) ≡ Some d → node (maps.twin d) ≡ root → x ≡ maps.twin d
     → FindsAll maps node allowed bound (node d) (set (set from root (Some x)) (node d) None)
 rerooted maps node allowed bound root from d x r below f keeps leads twin =
     let order : List ℕ = f.order in
@@ -344,22 +344,22 @@ rerooted maps node allowed bound root from d x r below f keeps leads twin =
               ap (λ y. allowed (maps.edge y)) here.is ∙ h.inside here.place here.later here.within)
         ];
         named = λ j later l. elim (cases_eq j 1) [
-          | inl one ↦ ap (λ y. back_at kept (node y)) (second j one) ∙ ap (back_at kept) x_node
+          | inl one ↦ ap (λ y. kept_at kept (node y)) (second j one) ∙ ap (kept_at kept) x_node
               ∙ kept_root from root (node d) x root_in apart
               ∙ ap Some (sym (second j one))
           | inr more ↦
               (let here : IsSource order p d x j = from_where j later more l in
-              ap (λ y. back_at kept (node y)) here.is
+              ap (λ y. kept_at kept (node y)) here.is
               ∙ kept_else from root (node d) (node (get_or order here.place 0)) x (no_root here.place here.later here.within)
               (no_own here.place here.within here.other)
               ∙ h.named here.place here.later here.within ∙ ap Some (sym here.is))
         ];
         only = λ v y e. elim (cases_eq v (node d)) [
-          | inl at_top ↦ absurd (not_both (back_at kept v) y e (ap (back_at kept) at_top ∙ kept_none from root (node d) x own_in))
+          | inl at_top ↦ absurd (not_both (kept_at kept v) y e (ap (kept_at kept) at_top ∙ kept_none from root (node d) x own_in))
           | inr not_top ↦ elim (cases_eq v root) [
             | inl at_root ↦
-                (let is_x : y ≡ x = same_some (back_at kept v) y x e
-                (ap (back_at kept) at_root ∙ kept_root from root (node d) x root_in apart) in
+                (let is_x : y ≡ x = same_some (kept_at kept v) y x e
+                (ap (kept_at kept) at_root ∙ kept_root from root (node d) x root_in apart) in
                 record {
                   place = 1;
                   later = omega arith;
@@ -404,7 +404,7 @@ way_start maps from start = record {
 -- a way with a dart more
 pub way_more : (maps : Rotations) (from : List (Option ℕ)) (start top : ℕ) (way : List ℕ) (d : ℕ) → IsWay maps from start top way
     → d < maps.darts
-    → back_at from top ≡ Some d → maps.face d ≡ top
+    → kept_at from top ≡ Some d → maps.face d ≡ top
     → ((k : ℕ) → k < length way → maps.face (get_or way k 0) ≢ maps.face (maps.twin d)) → maps.face d ≢ maps.face (maps.twin d)
     → IsWay maps from start (maps.face (maps.twin d)) (way ++ d ∷ [])
 way_more maps from start top way d w d_in keeps own off not_back =
@@ -419,10 +419,10 @@ way_more maps from start top way d w d_in keeps own off not_back =
         | inr end ↦ subst (λ y. y < maps.darts) (sym (new k (omega (arith, end, l, long)))) d_in
       ];
       kept = λ k l. elim (cases_lt k n) [
-        | inl less ↦ ap (λ y. back_at from (maps.face y)) (old k less) ∙ w.kept k less ∙ ap Some (sym (old k less))
+        | inl less ↦ ap (λ y. kept_at from (maps.face y)) (old k less) ∙ w.kept k less ∙ ap Some (sym (old k less))
         | inr end ↦
             (let here : get_or more k 0 ≡ d = new k (omega (arith, end, l, long)) in
-            ap (λ y. back_at from (maps.face y)) here ∙ ap (back_at from) own ∙ keeps ∙ ap Some (sym here))
+            ap (λ y. kept_at from (maps.face y)) here ∙ ap (kept_at from) own ∙ keeps ∙ ap Some (sym here))
       ];
       none = λ e. absurd (omega (arith, e, long));
       first = λ l. elim (cases_eq n 0) [
@@ -464,7 +464,7 @@ way_less maps from start top way d x w =
       kept = λ k l.
           kept_else from top (maps.face d) (maps.face (get_or way k 0)) x (λ e. w.off k (in_more k l) (ap maps.face (old k l) ∙ e))
           (not_last k l)
-          ∙ ap (λ y. back_at from (maps.face y)) (sym (old k l)) ∙ w.kept k (in_more k l) ∙ ap Some (old k l);
+          ∙ ap (λ y. kept_at from (maps.face y)) (sym (old k l)) ∙ w.kept k (in_more k l) ∙ ap Some (old k l);
       none = λ e. ap maps.face (sym (new 0 (sym e))) ∙ w.first (omega (arith, long));
       first = λ l. ap maps.face (sym (old 0 l)) ∙ w.first (omega (arith, long));
       linked = λ k l. ap (λ y. maps.face (maps.twin y)) (sym (old k (omega (arith, l)))) ∙ w.linked k (in_more (k + 1) l)
@@ -506,14 +506,14 @@ climb_start maps from start t l =
 -- the face of the dart that is kept for a face is that face, and the dart is one
 pub climb_dart : (maps : Rotations) (from : List (Option ℕ)) (start face : ℕ) (way : List ℕ) (d : ℕ)
     → IsClimb maps from start face way
-    → back_at from face ≡ Some d → (d < maps.darts) × (maps.face d ≡ face)
+    → kept_at from face ≡ Some d → (d < maps.darts) × (maps.face d ≡ face)
 climb_dart maps from start face way d c keeps =
     let name : IsNamed maps.face c.finds.order face d = c.finds.is_order.only face d keeps in
     (subst (λ y. y < maps.darts) name.is (c.finds.is_order.within name.place name.within), name.of_node)
 
 pub climb_more : (maps : Rotations) (from : List (Option ℕ)) (start face : ℕ) (way : List ℕ) (d : ℕ)
     → IsClimb maps from start face way
-    → back_at from face ≡ Some d → IsClimb maps from start (maps.face (maps.twin d)) (way ++ d ∷ [])
+    → kept_at from face ≡ Some d → IsClimb maps from start (maps.face (maps.twin d)) (way ++ d ∷ [])
 climb_more maps from start face way d c keeps =
     let order : List ℕ = c.finds.order in
     let h : IsOrder maps maps.face (λ e. true) (length from) c.root order from = c.finds.is_order in
@@ -556,7 +556,7 @@ climb_within maps from start face way c below =
     subst (λ v. v < length from) c.is (below (get_or c.finds.order c.place 0) (c.finds.is_order.within c.place c.within))
 
 pub climb_done : (maps : Rotations) (from : List (Option ℕ)) (start face : ℕ) (way : List ℕ) → IsClimb maps from start face way
-    → ((e : ℕ) → e < maps.darts → maps.face e < length from) → back_at from face ≡ None → IsWayUp maps from start way
+    → ((e : ℕ) → e < maps.darts → maps.face e < length from) → kept_at from face ≡ None → IsWayUp maps from start way
 climb_done maps from start face way c below none = record {
   top = face;
   is_root = none;
@@ -575,13 +575,13 @@ pub record IsPartlyTurned (maps : Rotations) (old : List (Option ℕ)) (start : 
 
 -- a node for which nothing is kept is the root
 root_is : (maps : Rotations) (node : ℕ → ℕ) (allowed : ℕ → Bool) (bound root top e : ℕ) (from : List (Option ℕ))
-    → FindsAll maps node allowed bound root from → e < maps.darts → node e ≡ top → back_at from top ≡ None → top ≡ root
+    → FindsAll maps node allowed bound root from → e < maps.darts → node e ≡ top → kept_at from top ≡ None → top ≡ root
 root_is maps node allowed bound root top e from f l is none =
     let found : IsFound node f.order (node e) = f.all e l in
     elim (cases_eq found.place 0) [
       | inl front ↦ sym is ∙ sym found.is ∙ ap (λ k. node (get_or f.order k 0)) front ∙ f.is_order.first
-      | inr later ↦ absurd (not_both (back_at from (node (get_or f.order found.place 0))) (get_or f.order found.place 0)
-          (f.is_order.named found.place (omega (arith, later)) found.within) (ap (back_at from) (found.is ∙ is) ∙ none))
+      | inr later ↦ absurd (not_both (kept_at from (node (get_or f.order found.place 0))) (get_or f.order found.place 0)
+          (f.is_order.named found.place (omega (arith, later)) found.within) (ap (kept_at from) (found.is ∙ is) ∙ none))
     ]
 
 pub turning_start : (maps : Rotations) (from : List (Option ℕ)) (start : ℕ) (way : List ℕ) → (w : IsWayUp maps from start way)
@@ -604,8 +604,8 @@ turning_more maps old start from way d x r below t twin =
     let n : ℕ = length way in
     let long : length more ≡ n + 1 = length_push way d in
     let last : get_or more n 0 ≡ d = get_or_push way d 0 n refl in
-    let keeps : back_at from (maps.face d) ≡ Some d =
-    ap (λ y. back_at from (maps.face y)) (sym last) ∙ t.is_way.kept n (omega (arith, long)) ∙ ap Some last in
+    let keeps : kept_at from (maps.face d) ≡ Some d =
+    ap (λ y. kept_at from (maps.face y)) (sym last) ∙ t.is_way.kept n (omega (arith, long)) ∙ ap Some last in
     let leads : maps.face (maps.twin d) ≡ t.top = ap (λ y. maps.face (maps.twin y)) (sym last) ∙ t.is_way.last n (sym long) in
     let at_top : maps.face x ≡ t.top = ap maps.face twin ∙ leads in
     subst (λ v. IsPartlyTurned maps old start (set (set from v (Some x)) (maps.face d) None) way) (sym at_top) (record {
@@ -635,7 +635,7 @@ last_in maps old start from whole way d t is =
 
 -- the edges of the kept darts are all that a search has to be allowed
 pub allow : (maps : Rotations) (node : ℕ → ℕ) (allowed other : ℕ → Bool) (bound root : ℕ) (from : List (Option ℕ))
-    → FindsAll maps node allowed bound root from → ((v x : ℕ) → back_at from v ≡ Some x → other (maps.edge x) ≡ true)
+    → FindsAll maps node allowed bound root from → ((v x : ℕ) → kept_at from v ≡ Some x → other (maps.edge x) ≡ true)
     → FindsAll maps node other bound root from
 allow maps node allowed other bound root from f all =
     let h : IsOrder maps node allowed bound root f.order from = f.is_order in

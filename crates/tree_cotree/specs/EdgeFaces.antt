@@ -1,15 +1,11 @@
 -- Faces that are kept for the edges on which darts of theirs are kept.
-use Rattle.std.specs.Prelude.{◌≡◌, ℕ, ◌<◌, false, List, slice_index_or, Option, Some, None, is_some}
+use Rattle.std.specs.Prelude.{◌≡◌, ℕ, ◌<◌, false, List, Option, Some, None, is_some}
 use Rattle.halfedge_map.specs.RotationSystems.{Rotations}
-use Rattle.tree_cotree.specs.Searches.{back_at}
+use Rattle.tree_cotree.specs.Searches.{kept_at}
 use Rattle.tree_cotree.specs.Markings.{AreMarked}
-
--- the face that is kept for an edge, if one is
-abbrev pub face_at : List (Option ℕ) → ℕ → Option ℕ
-face_at faces e = slice_index_or faces e None
 
 -- for the edges of the darts that are kept for the first n faces, these faces, and none for other edges
 pub record AreBelowEdges (maps : Rotations) (from : List (Option ℕ)) (edges : ℕ) (below : ℕ → Option ℕ) (n : ℕ) : Type 0 where
   pub sets : AreMarked maps from edges (λ e. false) (λ e. is_some (below e)) n
-  pub faces : (e f : ℕ) → below e ≡ Some f → (x : ℕ) × (f < n) × (back_at from f ≡ Some x) × (maps.edge x ≡ e)
-  pub keeps : (f x : ℕ) → f < n → back_at from f ≡ Some x → below (maps.edge x) ≡ Some f
+  pub faces : (e f : ℕ) → below e ≡ Some f → (x : ℕ) × (f < n) × (kept_at from f ≡ Some x) × (maps.edge x ≡ e)
+  pub keeps : (f x : ℕ) → f < n → kept_at from f ≡ Some x → below (maps.edge x) ≡ Some f

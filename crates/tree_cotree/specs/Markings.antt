@@ -4,19 +4,19 @@ use Rattle.surf_model.specs.Numbers.{count_below}
 use Rattle.halfedge_map.specs.RotationSystems.{Rotations}
 use Rattle.tree_cotree.specs.declared.split.Kind.{Kind}
 use Rattle.tree_cotree.specs.declared.split.Kind.TheVariants.{Tree}
-use Rattle.tree_cotree.specs.Searches.{back_at, has_kind}
+use Rattle.tree_cotree.specs.Searches.{kept_at, has_kind}
 
 -- each kept dart is a dart, and no two of them lie on one edge
 pub record AreApart (maps : Rotations) (from : List (Option ℕ)) : Type 0 where
-  pub within : (v x : ℕ) → back_at from v ≡ Some x → x < maps.darts
-  pub apart : (v w x y : ℕ) → back_at from v ≡ Some x → back_at from w ≡ Some y → v ≢ w → maps.edge x ≢ maps.edge y
+  pub within : (v x : ℕ) → kept_at from v ≡ Some x → x < maps.darts
+  pub apart : (v w x y : ℕ) → kept_at from v ≡ Some x → kept_at from w ≡ Some y → v ≢ w → maps.edge x ≢ maps.edge y
 
 -- a set of edges, with those of the darts that are kept for the first n nodes put in
 pub record AreMarked (maps : Rotations) (from : List (Option ℕ)) (edges : ℕ) (old new : ℕ → Bool) (n : ℕ) : Type 0 where
-  pub count : count_below new edges ≡ count_below old edges + count_below (λ w. is_some (back_at from w)) n
-  pub marked : (v x : ℕ) → v < n → back_at from v ≡ Some x → new (maps.edge x) ≡ true
+  pub count : count_below new edges ≡ count_below old edges + count_below (λ w. is_some (kept_at from w)) n
+  pub marked : (v x : ℕ) → v < n → kept_at from v ≡ Some x → new (maps.edge x) ≡ true
   pub kept : (e : ℕ) → old e ≡ true → new e ≡ true
-  pub only : (e : ℕ) → new e ≡ true → (old e ≡ true) ⊎ ((v : ℕ) × (x : ℕ) × (v < n) × (back_at from v ≡ Some x) × (maps.edge x ≡ e))
+  pub only : (e : ℕ) → new e ≡ true → (old e ≡ true) ⊎ ((v : ℕ) × (x : ℕ) × (v < n) × (kept_at from v ≡ Some x) × (maps.edge x ≡ e))
 
 -- the kinds, with those edges given a kind
 pub record IsMarked (maps : Rotations) (from : List (Option ℕ)) (kind : Kind) (old new : List Kind) (n : ℕ) : Type 0 where

@@ -19,9 +19,9 @@ abbrev pub turn_of : Nodes → Rotations → ℕ → ℕ
 turn_of Vertices maps = around maps
 turn_of Faces maps = maps.next
 
--- the dart that is kept for a node, if one is
-abbrev pub back_at : List (Option ℕ) → ℕ → Option ℕ
-back_at from v = slice_index_or from v None
+-- what is kept for a number, if anything is: the dart for a node, or the face for an edge
+abbrev pub kept_at : List (Option ℕ) → ℕ → Option ℕ
+kept_at from v = slice_index_or from v None
 
 -- the node v is among those of an order
 pub record IsFound (node : ℕ → ℕ) (order : List ℕ) (v : ℕ) : Type 0 where
@@ -54,8 +54,8 @@ pub record IsOrder (maps : Rotations) (node : ℕ → ℕ) (allowed : ℕ → Bo
   pub fresh : (i j : ℕ) → i < j → j < length order → node (slice_index order i) ≢ node (slice_index order j)
   pub back : (j : ℕ) → 0 < j → j < length order → LeadsBack maps node order j
   pub inside : (j : ℕ) → 0 < j → j < length order → allowed (maps.edge (slice_index order j)) ≡ true
-  pub named : (j : ℕ) → 0 < j → j < length order → back_at from (node (slice_index order j)) ≡ Some (slice_index order j)
-  pub only : (v x : ℕ) → back_at from v ≡ Some x → IsNamed node order v x
+  pub named : (j : ℕ) → 0 < j → j < length order → kept_at from (node (slice_index order j)) ≡ Some (slice_index order j)
+  pub only : (v x : ℕ) → kept_at from v ≡ Some x → IsNamed node order v x
 
 -- across each allowed edge of a node the other node is found
 abbrev pub IsCrossed : Rotations → (ℕ → ℕ) → (ℕ → Bool) → List ℕ → ℕ → Type 0

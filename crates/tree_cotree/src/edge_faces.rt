@@ -2,7 +2,8 @@
 ghost use Rattle.std.specs.Prelude.{◌≡◌, length, IfOk};
 ghost use Rattle.halfedge_map.specs.RotationSystems.{rotations_of};
 ghost use Rattle.tree_cotree.specs.Markings.{AreApart};
-ghost use Rattle.tree_cotree.specs.EdgeFaces.{face_at, AreBelowEdges};
+ghost use Rattle.tree_cotree.specs.Searches.{kept_at};
+ghost use Rattle.tree_cotree.specs.EdgeFaces.{AreBelowEdges};
 
 use crate::maybe_number::MaybeNumber;
 use halfedge_map::Surface;
@@ -18,7 +19,7 @@ pub(crate) fn faces_below(
     requires apart { AreApart (rotations_of surface.now) from.now }
     ensures each_edge { IfOk result (λ below. length below.items ≡ length surface.now.table) }
     ensures below { IfOk result (λ below. AreBelowEdges (rotations_of surface.now) from.now (length surface.now.table)
-        (face_at below.items) (length from.now)) }
+        (kept_at below.items) (length from.now)) }
 {
     let mut below = vec![in alloc; MaybeNumber::none(); surface.sides().len() as usize]?;
     for face in 0..surface.faces().len() {

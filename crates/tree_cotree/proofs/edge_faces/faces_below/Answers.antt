@@ -6,8 +6,8 @@ use Rattle.surf_model.specs.FaceLists.{FaceList}
 use Rattle.halfedge_map.specs.DartMaps.{edge_of}
 use Rattle.halfedge_map.specs.OrientedMeshes.{OrientedMesh}
 use Rattle.halfedge_map.specs.RotationSystems.{Rotations, rotations_of}
-use Rattle.tree_cotree.specs.Searches.{back_at}
-use Rattle.tree_cotree.specs.EdgeFaces.{face_at, AreBelowEdges}
+use Rattle.tree_cotree.specs.Searches.{kept_at}
+use Rattle.tree_cotree.specs.EdgeFaces.{AreBelowEdges}
 use Rattle.tree_cotree.proofs.SearchLemmas.{kept_read}
 use Rattle.tree_cotree.proofs.BelowLemmas.{faces_skip, faces_more}
 use Rattle.tree_cotree.proofs.edge_faces.faces_below.Goals.{in-Some, in_default}
@@ -17,7 +17,7 @@ pub edge_of-requires : goal.edge_of-requires
 edge_of-requires c =
     let count = c.len-face-end.ensures.count ∙ ap (λ (m : FaceList). length m.faces) c.faces.ensures.mesh in
     let within : c.loop-face.face < length c.args.from.now = omega (arith, c.loop-face-test.true, count, c.requires.each_face) in
-    let some : back_at c.args.from.now c.loop-face.face ≡ Some c.in-Some.dart.0 =
+    let some : kept_at c.args.from.now c.loop-face.face ≡ Some c.in-Some.dart.0 =
     kept_read c.args.from.now c.loop-face.face c.index-from-face.result c.dart.result (Some c.in-Some.dart) within
     c.index-from-face.is c.dart.ensures c.in-Some.is in
     c.requires.apart.within c.loop-face.face c.in-Some.dart.0 some
@@ -35,7 +35,7 @@ loop-face-preserved c =
     elim c.match-dart.branch [
       | in-Some w ↦
           (let x : ℕ = w.in-Some.dart.0 in
-          let some : back_at from n ≡ Some x = kept_read from n c.index-from-face.result c.dart.result (Some w.in-Some.dart) within
+          let some : kept_at from n ≡ Some x = kept_read from n c.index-from-face.result c.dart.result (Some w.in-Some.dart) within
           c.index-from-face.is c.dart.ensures w.in-Some.is in
           let is : new ≡ set old (edge_of s x) (Some n) =
           ap (λ v. v.items) w.below-is ∙ ap (λ e. set old e w.some.result) w.edge_of.ensures.edge
@@ -43,7 +43,7 @@ loop-face-preserved c =
           record {
             long = ap (λ (fs : List (Option ℕ)). length fs) is ∙ length-set old (edge_of s x) (Some n)
                 ∙ c.loop-face.invariant.long;
-            kept = subst (λ fs. AreBelowEdges maps from (length s.table) (face_at fs) (n + 1)) (sym is)
+            kept = subst (λ fs. AreBelowEdges maps from (length s.table) (kept_at fs) (n + 1)) (sym is)
                 (faces_more maps from (length s.table) n x old c.requires.apart c.loop-face.invariant.long c.loop-face.invariant.kept
                 some (subst (λ e. e < length s.table) w.edge_of.ensures.edge w.edge_of.ensures.within));
           })
@@ -51,7 +51,7 @@ loop-face-preserved c =
           (let is : new ≡ old = ap (λ v. v.items) w.below-is in
           record {
             long = ap (λ (fs : List (Option ℕ)). length fs) is ∙ c.loop-face.invariant.long;
-            kept = subst (λ fs. AreBelowEdges maps from (length s.table) (face_at fs) (n + 1)) (sym is)
+            kept = subst (λ fs. AreBelowEdges maps from (length s.table) (kept_at fs) (n + 1)) (sym is)
                 (faces_skip maps from (length s.table) n old c.loop-face.invariant.kept
                 (kept_read from n c.index-from-face.result c.dart.result None within c.index-from-face.is c.dart.ensures w.in_default.is));
           })

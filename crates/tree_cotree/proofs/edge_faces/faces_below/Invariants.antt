@@ -1,10 +1,11 @@
 use Rattle.std.proofs.Common.{◌≡◌, length}
 use Rattle.halfedge_map.specs.RotationSystems.{rotations_of}
-use Rattle.tree_cotree.specs.EdgeFaces.{face_at, AreBelowEdges}
+use Rattle.tree_cotree.specs.Searches.{kept_at}
+use Rattle.tree_cotree.specs.EdgeFaces.{AreBelowEdges}
 use Rattle.tree_cotree.proofs.edge_faces.faces_below.Given as goal
 
 abbrev pub invariant-loop-face : goal.invariant-loop-face
 invariant-loop-face l = record {
   long : length l.below.items ≡ length l.surface.table;
-  kept : AreBelowEdges (rotations_of l.surface) l.from (length l.surface.table) (face_at l.below.items) l.face;
+  kept : AreBelowEdges (rotations_of l.surface) l.from (length l.surface.table) (kept_at l.below.items) l.face;
 }

@@ -3,7 +3,7 @@ use Rattle.std.specs.Prelude.{Some, None}
 use Rattle.std.proofs.Math.ListN.{set}
 use Rattle.halfedge_map.specs.DartMaps.{edge_of}
 use Rattle.halfedge_map.specs.RotationSystems.{Rotations, rotations_of}
-use Rattle.tree_cotree.specs.Searches.{back_at}
+use Rattle.tree_cotree.specs.Searches.{kept_at}
 use Rattle.tree_cotree.specs.Markings.{IsMarked}
 use Rattle.tree_cotree.proofs.SearchLemmas.{kept_read}
 use Rattle.tree_cotree.proofs.TreeLemmas.{marks_skip, marks_more}
@@ -12,7 +12,7 @@ use Rattle.tree_cotree.proofs.marking.mark.Goals as goal
 
 pub edge_of-requires : goal.edge_of-requires
 edge_of-requires c =
-    let some : back_at c.args.from.now c.loop-node.node ≡ Some c.in-Some.dart.0 =
+    let some : kept_at c.args.from.now c.loop-node.node ≡ Some c.in-Some.dart.0 =
     kept_read c.args.from.now c.loop-node.node c.index-from-node.result c.dart.result (Some c.in-Some.dart) (omega arith)
     c.index-from-node.is c.dart.ensures c.in-Some.is in
     c.requires.apart.within c.loop-node.node c.in-Some.dart.0 some
@@ -26,7 +26,7 @@ loop-node-preserved c =
     elim c.match-dart.branch [
       | in-Some w ↦
           (let x : ℕ = w.in-Some.dart.0 in
-          let some : back_at from n ≡ Some x = kept_read c.args.from.now c.loop-node.node c.index-from-node.result c.dart.result
+          let some : kept_at from n ≡ Some x = kept_read c.args.from.now c.loop-node.node c.index-from-node.result c.dart.result
           (Some w.in-Some.dart) (omega arith) c.index-from-node.is c.dart.ensures w.in-Some.is in
           let below : edge_of s x < length c.args.kinds.now.items =
           omega (arith, w.edge_of.ensures.within, w.edge_of.ensures.edge, c.requires.kinds) in

@@ -8,9 +8,9 @@ use Rattle.halfedge_map.specs.RotationSystems.{Rotations, rotations_of, NamesAll
 use Rattle.halfedge_map.proofs.SystemLemmas.{rotation_system, names_all}
 use Rattle.tree_cotree.specs.declared.split.Kind.{Kind}
 use Rattle.tree_cotree.specs.declared.split.Kind.TheVariants.{Tree, Cotree, Left}
-use Rattle.tree_cotree.specs.Searches.{same_kind, has_kind, back_at, IsSearched, FindsAll}
+use Rattle.tree_cotree.specs.Searches.{same_kind, has_kind, kept_at, IsSearched, FindsAll}
 use Rattle.tree_cotree.specs.Markings.{AreApart, IsMarked}
-use Rattle.tree_cotree.specs.EdgeFaces.{face_at, AreBelowEdges}
+use Rattle.tree_cotree.specs.EdgeFaces.{AreBelowEdges}
 use Rattle.tree_cotree.proofs.TreeLemmas.{kept_apart}
 use Rattle.tree_cotree.proofs.SplittingLemmas.{IsMade, all_left, tree_found, cotree_found, cotree_has_root, kept_below, split_is}
 use Rattle.tree_cotree.proofs.TurningLemmas.{allow}
@@ -129,7 +129,7 @@ returns c =
     cotree_found s c.faces.ensures.valid k0 k1 p q first (tree_found s c.faces.ensures.valid k0 p first tree) marked cotree in
     let t : List (Option ℕ) = c.turn_round.new.from in
     let crossed : IsMarked maps q Cotree k1 k2 (length q) = rw c.deref-4.ensures.value at c.mark-2.ensures in
-    let kept_in : (v x : ℕ) → back_at q v ≡ Some x → v < length q =
+    let kept_in : (v x : ℕ) → kept_at q v ≡ Some x → v < length q =
     λ v x e. kept_below maps maps.face (has_kind k1 Left) (length s.mesh.faces) (maps.face 0) (length s.table) (λ f. true) q v x
     (face_nodes s (names_all s c.faces.ensures.valid)) found e in
     let on_cotree : FindsAll maps maps.face (has_kind k2 Cotree) (length s.mesh.faces) (maps.face 0) q =
@@ -158,7 +158,7 @@ returns c =
       start_left = rw c.deref-5.ensures.value at c.leftover_dart-start.ensures.left;
       hanging = turned;
       each_edge = c.in_ok-children.ensures.each_edge;
-      below = subst (λ ds. AreBelowEdges maps ds (length s.table) (face_at c.in_ok-children.children.items) (length ds)) is_t
+      below = subst (λ ds. AreBelowEdges maps ds (length s.table) (kept_at c.in_ok-children.children.items) (length ds)) is_t
           c.in_ok-children.ensures.below;
     } in
     let long_2 : length k2 ≡ length s.table =

@@ -8,7 +8,8 @@ returns-then-is_blank c = λ bytes stands.
     let i = c.self.inside in
     let now : ShortText = record { done = i.done.items; word = i.word.items; closed = i.closed; begun = i.begun } in
     stands_blank now c.end_word.new.self bytes c.args.byte c.if-self.false (sym c.is_blank.ensures ∙ c.if-is_blank.true)
-    c.end_word.ensures.ended c.end_word.ensures.word c.end_word.ensures.begun (subst (λ (l : ShortText). Stands l bytes) (sym c.self.view_is) stands)
+    c.end_word.ensures.ended c.end_word.ensures.word c.end_word.ensures.begun
+    (subst (λ (l : ShortText). Stands l bytes) (sym c.self.view_is) stands)
 
 pub returns-then-byte-eq35 : goal.returns-then-byte-eq35
 returns-then-byte-eq35 c = λ bytes stands.
