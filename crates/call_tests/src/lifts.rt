@@ -4,19 +4,37 @@ use move_checker::{Verdict, check_moves};
 use move_lifting::{Lifted, MOST_LIFTED_SIDES, expand, reduce_free};
 use polygon_cut::cut;
 use quad_system::{FromPolygon, GoodLabelling};
-use small_meshes::TORUS;
+use small_meshes::{DOUBLE_TORUS, TORUS, Triangle};
 use small_surfaces::{surface_of, walk_on};
 use std::alloc::Global;
 use std::process::Abort;
-use surf_model::{MOST_PEAK, Walk};
+use surf_model::{FaceName, MOST_PEAK, Walk};
 use tree_cotree::split_edges;
 use walk_translate::label_surface;
 
 #[test]
 fn labels_of_the_torus(rt: HostRuntime) {
-    let surface = surface_of(rt.alloc(), 7, &TORUS).expect(&rt, "a surface");
-    let found = label_surface(rt.alloc(), &surface).expect(&rt, "memory");
-    assert!(rt; found.is_some());
+    check_signs(&rt, rt.alloc(), 7, &TORUS);
+}
+
+/// The last face of the double torus is flipped.
+#[test]
+fn labels_of_the_double_torus(rt: HostRuntime) {
+    check_signs(&rt, rt.alloc(), 11, &DOUBLE_TORUS);
+}
+
+/// A labelling of the surface of these triangles has the signs of the surface.
+fn check_signs(rt: &impl Abort, alloc: Global, vertices: u32, triangles: &[Triangle]) {
+    assert!(rt; vertices <= 100 && triangles.len() <= 100);
+    let surface = surface_of(alloc, vertices, triangles).expect(rt, "a surface");
+    let found = label_surface(alloc, &surface).expect(rt, "memory");
+    let good = found.expect(rt, "a labelling");
+    let (labelling, signs) = (good.labelling(), surface.signs());
+    assert_eq!(rt; labelling.faces(), signs.len());
+    for face in 0..signs.len() {
+        let face = FaceName(face);
+        assert_eq!(rt; labelling.flipped(face), signs.flipped(face));
+    }
 }
 
 #[test]

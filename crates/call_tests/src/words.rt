@@ -1,12 +1,14 @@
-//! How a word is rewritten, step by step, and what comes where a note of that is refused.
-ghost use Rattle.std.specs.Prelude.{◌≡◌};
+//! How a word is rewritten, step by step, what comes where a note of that is refused, and the stack of runs.
+ghost use Rattle.std.specs.Prelude.{◌≡◌, ◌<◌};
 ghost use Rattle.turn_words.specs.HyperStates.{empty_state};
 
-use std::alloc::AllocError;
+use std::alloc::{AllocError, Global};
+use std::marker::Brand;
 use std::process::Abort;
+use std::sync::ledger::{Blank, Ledger};
 use std::test::Fail;
 use surf_model::Spoke;
-use turn_words::{Form, Hyper, Kept, Recorder, Silent, Step, TurnWord, Wheel};
+use turn_words::{Form, Hyper, Kept, Recorder, RunStack, Silent, Step, Steps, TurnWord, Wheel};
 
 /// Over the degree 8 the spokes 0 and 7 make the turns 0 7, which a push makes 1 1.
 #[test]
@@ -104,4 +106,27 @@ fn is_word(word: &TurnWord, entries: &[u32]) -> bool {
         }
     }
     word.len() as usize == entries.len()
+}
+
+#[test]
+fn runs_are_pushed(rt: HostRuntime) -> Result<(), Fail> {
+    push_runs::<Brand>(&rt, rt.alloc(), Blank::new(1))?;
+    Ok(())
+}
+
+/// Pushes two runs, which then come off from the top.
+fn push_runs<L: Ledger>(rt: &impl Abort, alloc: Global, blank: Blank) -> Result<(), AllocError>
+    requires name { blank.name ≡ L.name }
+    requires parts { blank.parts ≡ L.parts }
+    requires some { 0 < L.parts }
+{
+    let mut steps: Steps<L> = Steps::new(blank);
+    let mut stack = RunStack::new(alloc);
+    stack.push(5, 2, &mut steps)?;
+    stack.push(3, 1, &mut steps)?;
+    assert_eq!(rt; stack.len(), 2);
+    assert_eq!(rt; stack.pop(&mut steps), Some((3, 1)));
+    assert_eq!(rt; stack.pop(&mut steps), Some((5, 2)));
+    assert_eq!(rt; stack.pop(&mut steps), None);
+    Ok(())
 }
