@@ -9,17 +9,16 @@ use Rattle.tree_cotree.specs.Searches.{AreBelow, IsSearched}
 use Rattle.tree_cotree.proofs.SearchLemmas.{order_few, rebound}
 use Rattle.tree_cotree.proofs.WaitingLemmas.{taken, none_waits, taken_dart, taken_found, underway_more, underway_done}
 use Rattle.tree_cotree.proofs.search.search_over.Goals as goal
+use Rattle.tree_cotree.proofs.search.search_over.Goals.{In-Some}
+
+-- the dart that is visited was one of those that wait
+first_taken : (c : In-Some) → IsTaken (waiting_darts c.loop-search.search.waiting.far.items c.loop-search.search.waiting.near.items)
+    (waiting_darts c.take.new.self.far.items c.take.new.self.near.items) c.in-Some.first.0
+first_taken c = taken c.in_ok-first.field-0 c.in-Some.first _ _ c.in-Some.is c.in_ok-first.ensures.some
 
 pub visit-requires-clause-dart : goal.visit-requires-clause-dart
 visit-requires-clause-dart c =
-    let maps : Rotations = maps_of c.args.graph.now in
-    taken_dart maps (node_in c.args.graph.now) (crosses c.args.graph.now) c.args.bound c.node-root.result
-    (dart_numbers c.loop-search.search.order.items)
-    (waiting_darts c.loop-search.search.waiting.far.items c.loop-search.search.waiting.near.items)
-    (waiting_darts c.take.new.self.far.items c.take.new.self.near.items) c.loop-search.search.from.items c.in-Some.first.0
-    c.loop-search.invariant (taken c.in_ok-first.field-0 c.in-Some.first
-    (waiting_darts c.loop-search.search.waiting.far.items c.loop-search.search.waiting.near.items)
-    (waiting_darts c.take.new.self.far.items c.take.new.self.near.items) c.in-Some.is c.in_ok-first.ensures.some)
+    taken_dart _ _ _ _ _ _ _ _ _ _ c.loop-search.invariant (first_taken (goal.at.visit-requires-clause-dart c).In-Some)
 
 pub visit-requires-clause-below : goal.visit-requires-clause-below
 visit-requires-clause-below c =
@@ -28,14 +27,7 @@ visit-requires-clause-below c =
 
 pub visit-requires-clause-found : goal.visit-requires-clause-found
 visit-requires-clause-found c =
-    let maps : Rotations = maps_of c.args.graph.now in
-    taken_found maps (node_in c.args.graph.now) (crosses c.args.graph.now) c.args.bound c.node-root.result
-    (dart_numbers c.loop-search.search.order.items)
-    (waiting_darts c.loop-search.search.waiting.far.items c.loop-search.search.waiting.near.items)
-    (waiting_darts c.take.new.self.far.items c.take.new.self.near.items) c.loop-search.search.from.items c.in-Some.first.0
-    c.loop-search.invariant (taken c.in_ok-first.field-0 c.in-Some.first
-    (waiting_darts c.loop-search.search.waiting.far.items c.loop-search.search.waiting.near.items)
-    (waiting_darts c.take.new.self.far.items c.take.new.self.near.items) c.in-Some.is c.in_ok-first.ensures.some)
+    taken_found _ _ _ _ _ _ _ _ _ _ c.loop-search.invariant (first_taken (goal.at.visit-requires-clause-found c).In-Some)
 
 pub visit-requires-clause-order : goal.visit-requires-clause-order
 visit-requires-clause-order c =
@@ -51,10 +43,7 @@ loop-search-smaller c =
     let xs : List DartName = c.loop-search.search.order.items in
     let ys : List DartName = c.visit.new.search.order.items in
     let rest : List ℕ = waiting_darts c.take.new.self.far.items c.take.new.self.near.items in
-    let taken_one : IsTaken (waiting_darts c.loop-search.search.waiting.far.items c.loop-search.search.waiting.near.items) rest
-    c.in-Some.first.0 = (taken c.in_ok-first.field-0 c.in-Some.first
-    (waiting_darts c.loop-search.search.waiting.far.items c.loop-search.search.waiting.near.items)
-    (waiting_darts c.take.new.self.far.items c.take.new.self.near.items) c.in-Some.is c.in_ok-first.ensures.some) in
+    let taken_one = first_taken (goal.at.loop-search-smaller c).In-Some in
     let few : length (dart_numbers ys) ≤ c.args.bound =
     order_few maps (node_in c.args.graph.now) (crosses c.args.graph.now) c.args.bound c.node-root.result (dart_numbers ys)
     c.visit.new.search.from.items (rebound maps (node_in c.args.graph.now) (crosses c.args.graph.now)
@@ -84,9 +73,7 @@ loop-search-preserved c =
     (dart_numbers c.visit.new.search.order.items) (waiting_darts c.visit.new.search.waiting.far.items
     c.visit.new.search.waiting.near.items) c.loop-search.search.from.items
     c.visit.new.search.from.items c.in-Some.first.0 c.loop-search.invariant
-    (taken c.in_ok-first.field-0 c.in-Some.first (waiting_darts c.loop-search.search.waiting.far.items
-    c.loop-search.search.waiting.near.items)
-    (waiting_darts c.take.new.self.far.items c.take.new.self.near.items) c.in-Some.is c.in_ok-first.ensures.some)
+    (first_taken (goal.at.loop-search-preserved c).In-Some)
     (rebound maps (node_in c.args.graph.now) (crosses c.args.graph.now) (length c.loop-search.search.from.items)
     c.args.bound
     c.node-root.result (dart_numbers c.visit.new.search.order.items) c.visit.new.search.from.items c.loop-search.invariant.is_order.long
