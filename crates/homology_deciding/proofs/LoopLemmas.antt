@@ -1,5 +1,5 @@
 -- What the loops over ways and faces do, step by step.
-use Rattle.std.proofs.Common.{◌≡◌, ◌≢◌, ◌⊎◌, inl, inr, ℕ, zero, suc, ◌+◌, ◌*◌, ◌^◌, ◌<◌, ◌≤◌, Bool, true, false, List, [], ◌∷◌, ◌++◌, length, get_or, set, refl, ap, ap₂, sym, ◌∙◌, subst, arith, ℤ, pos, ◌+ℤ◌, to_z, of_z, w64, negsuc}
+use Rattle.std.proofs.Common.{◌≡◌, ◌≢◌, ◌⊎◌, inl, inr, ℕ, ◌+◌, ◌*◌, ◌^◌, ◌<◌, ◌≤◌, true, List, [], ◌∷◌, ◌++◌, length, get_or, set, refl, ap, ap₂, sym, ◌∙◌, subst, arith, ℤ, pos, ◌+ℤ◌, to_z, of_z, w64, negsuc}
 use Rattle.std.specs.Prelude.{FitsSigned, Option, Some, None, is_some, unwrap_or, Result, Ok, Err, IfOk, neg_ℤ, unsigned_abs, All, sum_by}
 use Rattle.std.proofs.lemmas.List.Elements.{All-head, All-tail}
 use Rattle.std.proofs.lemmas.List.Sums.{sum_by-cons}
@@ -9,7 +9,7 @@ use Rattle.std.proofs.lemmas.Bool.Decides.{nat_tests}
 use Rattle.std.proofs.lemmas.List.{get_or-set_same, get_or-set_other, get_or_past, get_or_append_left, length-set}
 use Rattle.std.proofs.Math.Seq.{get_or-append_seam}
 use Rattle.std.proofs.Math.Nat.{mul-suc}
-use Rattle.surf_model.specs.FaceLists.{IsFaceList, HasFileSize, total_sides}
+use Rattle.surf_model.specs.FaceLists.{HasFileSize}
 use Rattle.surf_model.specs.Edges.{Edge, edge_in, HasEnds}
 use Rattle.surf_model.specs.declared.names.DartName.{DartName}
 use Rattle.surf_model.specs.declared.limits.TheConstants.{MOST_SIDES}
@@ -24,11 +24,11 @@ use Rattle.homology.specs.Tallies.{number_at, turned, GrewBy, AreWithin}
 use Rattle.homology.specs.declared.certificate.TheConstants.{MOST_NUMBER}
 use Rattle.homology.proofs.SizeLemmas.{size-sum, size-share, size-opposite, sent}
 use Rattle.homology.proofs.TallyLemmas.{grown, grown_size}
-use Rattle.homology_deciding.specs.FaceTrees.{up_of, face_across, AreUps, IsTreeOfFaces, IsTree, IsWayUp, dart_share, way_share}
+use Rattle.homology_deciding.specs.FaceTrees.{up_of, face_across, AreUps, IsTree, IsWayUp, dart_share, way_share}
 use Rattle.homology_deciding.specs.Heights.{height_of, dart_count, way_count, listed, AreHeights, EndsAtHeight, AreForced}
 use Rattle.homology_deciding.specs.Cuts.{IsCutAt}
 use Rattle.homology_deciding.specs.declared.face_tree.FaceTree.{FaceTree}
-use Rattle.homology_deciding.proofs.WayLemmas.{IsTop, way_pop, way_rank, way_small, way_share-push, across_within}
+use Rattle.homology_deciding.proofs.WayLemmas.{IsTop, way_pop, way_rank, way_share-push}
 
 -- an entry written, and the others
 written : {X : Type 0} (xs : List X) (i k : ℕ) (x d : X) → i < length xs

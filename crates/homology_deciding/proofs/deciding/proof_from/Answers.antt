@@ -1,4 +1,4 @@
-use Rattle.std.proofs.Common.{◌<◌, ℕ, List, length, ap, sym, subst, arith}
+use Rattle.std.proofs.Common.{◌<◌, ℕ, List, length, sym, subst, arith}
 use Rattle.surf_model.specs.Edges.{Edge}
 use Rattle.halfedge_map.specs.OrientedMeshes.{OrientedMesh}
 use Rattle.homology_deciding.specs.Proofs.{IsChainFor, IsCocycleFor}
