@@ -23,7 +23,7 @@ use Rattle.walk_files.specs.NumberTexts.{entries_of}
 use Rattle.walk_files.specs.Certificates.{head_of, head_among, behind_head, head_of_text, fitting_head}
 use Rattle.walk_files.specs.Denials.{sign_of, face_of, is_places, word_of, denial_in, unlabelled, denial_behind, denial_of_text}
 use Rattle.walk_files.specs.DenialTexts.{sign_word, face_words, places_words, entry_words, word_words, labels_head_words, lines_behind_faces, denial_lines, denial_text, AreNumbers, FitsDegree, ReadsBack}
-use Rattle.text_scan.proofs.WrittenLemmas.{IsWritable, IsLine, decimal_is, numbered, lines_from-written, decimal-writable, number_below-decimal, decimals-writable, numbers-read, integer-writable, integer-read}
+use Rattle.text_scan.proofs.WrittenLemmas.{IsWritable, IsLine, decimal_is, numbered, lines_from-written, number-writable, number-read, decimals-writable, numbers-read, integer-writable, integer-read}
 
 -- ---- the words that are written
 
@@ -143,11 +143,11 @@ head-line degree fits = record {
   filled = refl;
   writable =
       All-cons IsWritable (codes "LABELS") (decimal degree ∷ []) (record { filled = refl; inside = refl })
-      (All-cons IsWritable (decimal degree) [] (decimal-writable degree (omega (arith, fits))) (All-nil IsWritable));
+      (All-cons IsWritable (decimal degree) [] (number-writable degree fits) (All-nil IsWritable));
 }
 
 head-read : (degree : ℕ) → degree < 2 ^ 32 → head_of (labels_head_words degree) ≡ Some (Labels degree)
-head-read degree fits = rw (number_below-decimal (2 ^ 32) degree fits (omega (arith, fits))) refl
+head-read degree fits = rw (number-read degree fits) refl
 
 unmarked-denial_text : (denial : Denial) → unmarked (denial_text denial) ≡ denial_text denial
 unfolding unmarked

@@ -7,6 +7,7 @@ use Rattle.std.proofs.lemmas.List.Elements.{All-head, All-tail, All-cons, All-ni
 use Rattle.std.proofs.lemmas.List.Splits.{slice_split-cons_yes, slice_split-cons_no}
 use Rattle.text_scan.specs.Lines.{Line, is_filled, is_blank, unmarked, uncommented, cut, words, lines_from, full_lines}
 use Rattle.text_scan.proofs.ListLemmas.{before_first-yes, before_first-no}
+use Rattle.text_scan.proofs.StepLemmas.{few_lines}
 use Rattle.text_scan.specs.Unread.{Unread, lines_left, at_line}
 use Rattle.walk_files.specs.Certificates.{behind_head, answer_of}
 use Rattle.walk_files.specs.Denials.{AreFew}
@@ -40,17 +41,6 @@ cut-short (byte ∷ text) = by_test (byte == 10) (cut text) (cut-short text)
     by_test false pieces short =
         subst (λ n. All (λ piece. length piece ≤ n) (onto_first byte pieces)) (omega arith)
         (onto_first-short (length text) byte pieces short)
-
-few_pieces : (text : List ℕ) → length (cut text) ≤ length text
-unfolding cut
-few_pieces [] = omega arith
-few_pieces (byte ∷ text) = by_test (byte == 10) (cut text) (few_pieces text)
-  where
-    by_test : (b : Bool) (pieces : List (List ℕ)) → length pieces ≤ length text
-        → length (cond b ([] ∷ pieces) (onto_first byte pieces)) ≤ length (byte ∷ text)
-    by_test true pieces few = omega (arith, few)
-    by_test false [] few = omega (arith, few)
-    by_test false (piece ∷ pieces) few = omega (arith, few)
 
 -- ---- words
 
@@ -118,7 +108,7 @@ lines_from-few : (n : ℕ) (text : List ℕ) → AreAtMost (length text) (length
 unfolding lines_from
 lines_from-few n text =
     let few : AreAtMost (length (cut text)) (length text) (lines_from n text) = numbered-few n (length text) (cut text) (cut-short text) in
-    record { count = omega (arith, few.count, few_pieces text); words = few.words }
+    record { count = omega (arith, few.count, few_lines text); words = few.words }
 
 below : (m n : ℕ) (lines : List Line) → m < n → All (λ line. length line.words ≤ m) lines → All (λ line. length line.words < n) lines
 below m n [] less all = All-nil (λ (line : Line). length line.words < n)

@@ -10,44 +10,40 @@ use Rattle.surf_model.specs.declared.moves.Move.{Move}
 use Rattle.surf_model.specs.declared.moves.Move.TheVariants.{Insert, Remove, Across}
 use Rattle.walk_files.specs.declared.certificate.CertHead.TheVariants.{Moves}
 use Rattle.walk_files.specs.declared.certificate.Answer.TheVariants.{Homotopic}
-use Rattle.text_scan.specs.Numbers.{number_of}
 use Rattle.walk_files.specs.Certificates.{head_of, head_among, behind_head, direction_of, move_of, moves_in, head_of_text, fitting_head, moves_of_text, list_behind, list_of_text, with_peak}
 use Rattle.walk_files.specs.MoveTexts.{direction_word, move_words, head_words, list_lines, list_text, FitsFormat, MoveFits}
 use Rattle.walk_files.specs.declared.limits.TheConstants.{MOST_PEAK}
-use Rattle.text_scan.proofs.WrittenLemmas.{IsWritable, IsLine, numbered, lines_from-written, decimal-writable, number_below-decimal}
+use Rattle.text_scan.proofs.WrittenLemmas.{IsWritable, IsLine, numbered, lines_from-written, AreWritable, all_writable, decimal-writable, number-writable, number_below-decimal, number-read}
 
 -- ---- the words that are written
-
--- each of some words is writable
-abbrev AreWritable : List (List ℕ) → Type 0
-AreWritable [] = Unit {0}
-AreWritable (word ∷ words) = IsWritable word × AreWritable words
-
-all_writable : (words : List (List ℕ)) → AreWritable words → All IsWritable words
-all_writable [] each = All-nil IsWritable
-all_writable (word ∷ words) each = All-cons IsWritable word words each.0 (all_writable words each.1)
-
-small : (n : ℕ) → n < 2 ^ 32 → IsWritable (decimal n)
-small n fits = decimal-writable n (omega arith)
 
 direction-writable : (forward : Bool) → IsWritable (direction_word forward)
 direction-writable true = record { filled = refl; inside = refl }
 direction-writable false = record { filled = refl; inside = refl }
 
+spur-writable : (at via : ℕ) → at < 2 ^ 32 → via < 2 ^ 32 → AreWritable (decimal at ∷ decimal via ∷ [])
+spur-writable at via low small = (number-writable at low, (number-writable via small, tt))
+
 move-is_line : (move : Move) → MoveFits move → IsLine (move_words move)
 move-is_line (Insert at via) fits = record {
   filled = refl;
-  writable = all_writable (move_words (Insert at via)) (direction-writable true, (small at fits.0, (small via.0 fits.1, tt)));
+  writable = all_writable (move_words (Insert at via)) (direction-writable true, spur-writable at via.0 fits.0 fits.1);
 }
 move-is_line (Remove at via) fits = record {
   filled = refl;
-  writable = all_writable (move_words (Remove at via)) (direction-writable false, (small at fits.0, (small via.0 fits.1, tt)));
+  writable = all_writable (move_words (Remove at via)) (direction-writable false, spur-writable at via.0 fits.0 fits.1);
 }
 move-is_line (Across at face corner forward taken) fits = record {
   filled = refl;
   writable = all_writable (move_words (Across at face corner forward taken)) (
     record { filled = refl; inside = refl },
-    (small at fits.0, (small face.0 fits.1, (small corner fits.2, (direction-writable forward, (small taken fits.3, tt))))),
+    (
+      number-writable at fits.0,
+      (
+        number-writable face.0 fits.1,
+        (number-writable corner fits.2, (direction-writable forward, (number-writable taken fits.3, tt))),
+      ),
+    ),
   );
 }
 
@@ -68,22 +64,19 @@ head-is_line list fits = record {
 
 -- ---- what is read of them
 
-number : (n : ℕ) → n < 2 ^ 32 → number_of (decimal n) ≡ Some n
-number n fits = number_below-decimal (2 ^ 32) n fits (omega arith)
-
 direction : (forward : Bool) → direction_of (direction_word forward) ≡ Some forward
 direction true = refl
 direction false = refl
 
 move_of-move_words : (move : Move) → MoveFits move → move_of (move_words move) ≡ Some move
-move_of-move_words (Insert at via) fits = rw (number at fits.0, number via.0 fits.1) refl
-move_of-move_words (Remove at via) fits = rw (number at fits.0, number via.0 fits.1) refl
+move_of-move_words (Insert at via) fits = rw (number-read at fits.0, number-read via.0 fits.1) refl
+move_of-move_words (Remove at via) fits = rw (number-read at fits.0, number-read via.0 fits.1) refl
 move_of-move_words (Across at face corner forward taken) fits =
-    rw (number at fits.0, number face.0 fits.1, number corner fits.2, direction forward, number taken fits.3) refl
+    rw (number-read at fits.0, number-read face.0 fits.1, number-read corner fits.2, direction forward, number-read taken fits.3) refl
 
 head_of-head_words : (list : PeakedMoves) → FitsFormat list → head_of (head_words list) ≡ Some (Moves (length list.moves) list.peak)
 head_of-head_words list fits =
-    rw (number_below-decimal (2 ^ 64) (length list.moves) fits.count fits.count, number list.peak (omega (arith, fits.peak))) refl
+    rw (number_below-decimal (2 ^ 64) (length list.moves) fits.count fits.count, number-read list.peak (omega (arith, fits.peak))) refl
 
 moves_in-numbered : (end n : ℕ) (moves : List Move) → All MoveFits moves
     → moves_in end (length moves) (numbered n (map move_words moves)) ≡ Ok moves

@@ -26,11 +26,11 @@ use Rattle.walk_files.proofs.SameGrammar.{move_same, head_same}
 -- ---- the short line
 
 -- its words are those at a cursor that has found it
-pub at_own_line : (unread next : Unread) (words : List (List ℕ))
-    → lines_left unread ≡ cond (is_filled words) (record { number = 1; words = words } ∷ []) [] → is_filled words ≡ true
+pub short_words : (unread next : Unread) (own : List Line) (words : List (List ℕ)) → lines_left unread ≡ own
+    → own ≡ cond (is_filled words) (record { number = 1; words = words } ∷ []) [] → is_filled words ≡ true
     → next ≡ at_line unread (lines_left unread) → next.words ≡ words
-at_own_line unread next words left some found =
-    let one : lines_left unread ≡ record { number = 1; words = words } ∷ [] = left ∙ rw some refl in
+short_words unread next own words left is some found =
+    let one : lines_left unread ≡ record { number = 1; words = words } ∷ [] = left ∙ is ∙ rw some refl in
     ap (λ (u : Unread). u.words) (found ∙ ap (at_line unread) one)
 
 pub next_on-same : (left number : ℕ) (a b : List (List ℕ)) → SameLine a b
@@ -374,12 +374,6 @@ pub next_leaves : (file : Option (List ℕ)) (old next : LinesReading) (found : 
 next_leaves None old next found short finds = tt
 next_leaves (Some f) old next found short finds = λ reads.
     next_left old.number (left_of old.reading f) found short next.number (left_of next.reading f) (finds reads).0 (finds reads).1
-
--- the words of the short line, at the cursor that has found it
-pub short_words : (unread next : Unread) (own : List Line) (words : List (List ℕ)) → lines_left unread ≡ own
-    → own ≡ cond (is_filled words) (record { number = 1; words = words } ∷ []) [] → is_filled words ≡ true
-    → next ≡ at_line unread (lines_left unread) → next.words ≡ words
-short_words unread next own words left is some found = at_own_line unread next words (left ∙ is) some found
 
 pub head_in-same : (answer : Option Answer) (number : ℕ) (a b : List (List ℕ)) → SameLine a b
     → head_in answer (record { number = number; words = a }) ≡ head_in answer (record { number = number; words = b })

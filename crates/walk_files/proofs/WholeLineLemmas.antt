@@ -1,8 +1,8 @@
 -- Moves whose lines lie whole in the bytes that are at hand.
 use Rattle.std.proofs.Common.{◌≡◌, ◌≢◌, ℕ, ◌+◌, ◌-◌, ◌*◌, ◌^◌, ◌<◌, ◌≤◌, Bool, true, false, not, List, [], ◌∷◌, ◌++◌, length, take, drop, get_or, append_assoc, append-nil, length-append, refl, subst, sym, ap, ◌∙◌, arith}
-use Rattle.std.specs.Prelude.{Option, Some, None, Ok, IfSome, All, nat_le}
+use Rattle.std.specs.Prelude.{Option, Some, None, Ok, IfSome, All}
 use Rattle.std.specs.List.{before_first, list_all}
-use Rattle.std.proofs.lemmas.Bool.{and_parts, and_from, leb-true, lt-ltb, ne_eqb}
+use Rattle.std.proofs.lemmas.Bool.{and_parts, and_from, lt-ltb, ne_eqb}
 use Rattle.std.proofs.lemmas.List.{take_all}
 use Rattle.std.proofs.lemmas.List.Elements.{All-head, All-tail, All-cons, All-nil}
 use Rattle.std.proofs.lemmas.List.Sums.{fold-append}
@@ -13,6 +13,7 @@ use Rattle.text_scan.specs.Steps.{ends_word, from_first, begins_word}
 use Rattle.text_scan.specs.Unread.{is_line_feed, words_here}
 use Rattle.text_scan.proofs.ListLemmas.{before_first-append, before_first-yes, from_first-append, from_first-yes}
 use Rattle.text_scan.proofs.PlaceLemmas.{words_here-nil, words_here-blank, words_here-word}
+use Rattle.text_scan.proofs.WrittenLemmas.{digits_inside}
 use Rattle.file_pieces.specs.Reading.{Reads, left_of}
 use Rattle.file_pieces.specs.FileLines.{LinesReading, IsOneLine, ReadsLine}
 use Rattle.surf_model.specs.declared.moves.Move.{Move}
@@ -67,18 +68,6 @@ one_digit bytes rest value some digit so_far =
       same = fold-append (λ value digit. value * 10 + (digit - 48)) 0 so_far.digits (get_or rest 0 0 ∷ [])
           ∙ ap (λ v. v * 10 + (get_or rest 0 0 - 48)) so_far.same;
     }
-
-digits_inside : (ds : List ℕ) → list_all is_digit ds ≡ true → list_all (λ byte. not (ends_word byte)) ds ≡ true
-digits_inside [] all = refl
-digits_inside (d ∷ ds) all =
-    let parts = and_parts (is_digit d) (list_all is_digit ds) all in
-    and_from (not (ends_word d)) (list_all (λ b. not (ends_word b)) ds) (digit_inside d parts.0) (digits_inside ds parts.1)
-  where
-    digit_inside : (d : ℕ) → is_digit d ≡ true → not (ends_word d) ≡ true
-    digit_inside d e =
-        let bounds = and_parts (nat_le 48 d) (nat_le d 57) e in
-        let low : 48 ≤ d = leb-true 48 d bounds.0 in
-        grind (arith, low)
 
 some_digits : (digits rest bytes : List ℕ) → bytes ≡ digits ++ rest → length rest ≢ length bytes → is_filled digits ≡ true
 some_digits [] rest bytes parts shorter = absurd (shorter (sym (ap length parts)))

@@ -118,9 +118,17 @@ fn read_found(
     let Some(number) = found else {
         return read_no_line(end_line, to_come);
     };
+    read_line(&mut at_words(line), number, to_come)
+}
+
+/// A place before the first word of a line that has words.
+fn at_words(line: &ShortLine) -> Cursor<'_>
+    requires { is_filled (words_here line.now.done) ≡ true }
+    ensures { result.words ≡ words_here line.now.done }
+{
     let mut cursor = Cursor::new(line.bytes());
     let _ = cursor.find_line();
-    read_line(&mut cursor, number, to_come)
+    cursor
 }
 
 /// Passes over the rest of the file behind a fault of the certificate. A read that fails on the way, or a byte too many, goes before it.
@@ -198,9 +206,7 @@ fn answer_found(line: &ShortLine, found: Option<u64>) -> Option<Answer>
         → result ≡ answer_of words) }
 {
     found?;
-    let mut cursor = Cursor::new(line.bytes());
-    let _ = cursor.find_line();
-    pass_answer(&mut cursor)
+    pass_answer(&mut at_words(line))
 }
 
 /// The head that a line is, if one was found; else this fault.
@@ -218,7 +224,5 @@ fn head_found(
     let Some(number) = found else {
         return Err(none);
     };
-    let mut cursor = Cursor::new(line.bytes());
-    let _ = cursor.find_line();
-    read_head_line(&mut cursor, number, answer)
+    read_head_line(&mut at_words(line), number, answer)
 }

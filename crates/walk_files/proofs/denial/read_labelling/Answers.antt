@@ -5,21 +5,22 @@ use Rattle.text_scan.specs.Numbers.{number_of}
 use Rattle.walk_files.specs.declared.fault.CertFault.{CertFault}
 use Rattle.walk_files.proofs.DenialLines.{IsBehind, behind_keyword, few-behind, so_far-face, so_far-places, so_far-no_places, length-each_some}
 use Rattle.walk_files.proofs.denial.read_labelling.Goals as goal
+use Rattle.walk_files.proofs.denial.read_labelling.Goals.{After-unwrap-keyword}
+
+-- a line was found, and its first word is the keyword
+keyword : (c : After-unwrap-keyword) → IsBehind c.loop-cursor.cursor c.word.new.self c.unwrap-keyword.result.now
+keyword c =
+    behind_keyword c.loop-cursor.cursor c.find_line.new.self c.word.new.self c.unwrap-keyword.result.now
+    (sym c.find_line.ensures.found ∙ c.loop-cursor-test.true) c.find_line.ensures.place (search rules) c.word.ensures.place
 
 pub read_places-requires-clause-few : goal.read_places-requires-clause-few
 read_places-requires-clause-few c =
-    let behind : IsBehind c.loop-cursor.cursor c.word.new.self c.unwrap-keyword.result.now =
-    behind_keyword c.loop-cursor.cursor c.find_line.new.self c.word.new.self c.unwrap-keyword.result.now (sym c.find_line.ensures.found
-    ∙ c.loop-cursor-test.true)
-    c.find_line.ensures.place (search rules) c.word.ensures.place in
+    let behind = keyword (goal.at.read_places-requires-clause-few c).After-unwrap-keyword in
     few-behind c.loop-cursor.cursor c.word.new.self c.unwrap-keyword.result.now behind c.loop-cursor.invariant.words
 
 pub push_face-requires-clause-labels : goal.push_face-requires-clause-labels
 push_face-requires-clause-labels c =
-    let behind : IsBehind c.loop-cursor.cursor c.word.new.self c.unwrap-keyword.result.now =
-    behind_keyword c.loop-cursor.cursor c.find_line.new.self c.word.new.self c.unwrap-keyword.result.now (sym c.find_line.ensures.found
-    ∙ c.loop-cursor-test.true)
-    c.find_line.ensures.place (search rules) c.word.ensures.place in
+    let behind = keyword (goal.at.push_face-requires-clause-labels c).After-unwrap-keyword in
     let few = few-behind c.loop-cursor.cursor c.word.new.self c.unwrap-keyword.result.now behind c.loop-cursor.invariant.words in
     let all : length c.read_face.new.labels.items ≡ length c.word.new.self.words =
     length-each_some number_of c.word.new.self.words c.read_face.new.labels.items c.in_ok-flipped.ensures.face.1 in
@@ -28,10 +29,7 @@ push_face-requires-clause-labels c =
 
 pub loop-cursor-preserved : goal.loop-cursor-preserved
 loop-cursor-preserved c =
-    let behind : IsBehind c.loop-cursor.cursor c.word.new.self c.unwrap-keyword.result.now =
-    behind_keyword c.loop-cursor.cursor c.find_line.new.self c.word.new.self c.unwrap-keyword.result.now (sym c.find_line.ensures.found
-    ∙ c.loop-cursor-test.true)
-    c.find_line.ensures.place (search rules) c.word.ensures.place in
+    let behind = keyword (goal.at.loop-cursor-preserved c).After-unwrap-keyword in
     let no_places : bytes_eq c.unwrap-keyword.result.now (codes "places") ≡ false = search rules in
     let pushed : c.push_face.new.self
     ≡ record c.loop-cursor.labelling {
@@ -55,10 +53,7 @@ on_result (Err fault) h f g = g fault h
 
 pub returns-then-eq-clause-labelling : goal.returns-then-eq-clause-labelling
 returns-then-eq-clause-labelling c =
-    let behind : IsBehind c.loop-cursor.cursor c.word.new.self c.unwrap-keyword.result.now =
-    behind_keyword c.loop-cursor.cursor c.find_line.new.self c.word.new.self c.unwrap-keyword.result.now (sym c.find_line.ensures.found
-    ∙ c.loop-cursor-test.true)
-    c.find_line.ensures.place (search rules) c.word.ensures.place in
+    let behind = keyword (goal.at.returns-then-eq-clause-labelling c).After-unwrap-keyword in
     let is_places : bytes_eq c.unwrap-keyword.result.now (codes "places") ≡ true = search rules in
     on_result c.read_places.result c.read_places.ensures.places
     (λ ok read.
