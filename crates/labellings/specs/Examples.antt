@@ -8,11 +8,11 @@ use Rattle.labellings.specs.Labellings.{FaceLabels, LabellingView}
 use Rattle.labellings.specs.QuadPaths.{side_from, spokes, quad_path}
 use Rattle.labellings.specs.WalkWords.{IsWordOf}
 
-abbrev kept : List ℕ → FaceLabels
+abbrev pub kept : List ℕ → FaceLabels
 kept labels = record { flipped = false; labels = labels }
 
 -- no face is turned round
-abbrev square : LabellingView
+abbrev pub square : LabellingView
 square = record {
   degree = 4;
   faces =

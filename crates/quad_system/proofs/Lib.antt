@@ -11,3 +11,4 @@ mod ReadingLemmas
 mod PlaneGroupLemmas
 mod PolygonMakingLemmas
 mod ZeroLabelLemmas
+mod FullExamples

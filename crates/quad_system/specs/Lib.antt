@@ -1,1 +1,2 @@
 pub mod PolygonLabellings
+pub mod Examples
