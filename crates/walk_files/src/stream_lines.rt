@@ -58,40 +58,6 @@ pub(crate) fn read_next_move<S: Shelf>(
             return Ok(Some(found.mv));
         }
     }
-    read_any_move(lines, to_come, shelf, name)
-}
-
-/// The same, however the line is written, and wherever it lies.
-fn read_any_move<S: Shelf>(
-    lines: &mut FileLines,
-    to_come: u64,
-    shelf: &mut S,
-    name: &str,
-) -> Result<Option<Move>, StreamEnd>
-    ensures answer { IfSome (file_of (S.held shelf.old) name.now) (λ file. Reads lines.old.reading file →
-        IsAnswer result (next_of (end_behind lines.old.number (left_of lines.old.reading file)) to_come
-        (lines_from lines.old.number (left_of lines.old.reading file)))) }
-    ensures reads { OnOk result (IfSome (file_of (S.held shelf.old) name.now)
-        (λ file. Reads lines.old.reading file → Reads lines.new.reading file)) }
-    ensures left { OnOk result (IfSome (file_of (S.held shelf.old) name.now) (λ file. Reads lines.old.reading file →
-        (lines_from lines.new.number (left_of lines.new.reading file)
-        ≡ drop 1 (lines_from lines.old.number (left_of lines.old.reading file)))
-        × (end_behind lines.new.number (left_of lines.new.reading file) ≡ end_behind lines.old.number (left_of lines.old.reading file))
-        × (lines.old.number ≤ lines.new.number))) }
-    ensures some { IfOk result (λ mv. IsSome mv → 0 < to_come) }
-    ensures no_memory { result ≢ Err StreamEnd.OutOfMemory }
-    ensures fault { result ≡ Err StreamEnd.Fault → Rose (S.faults shelf.old) (S.faults shelf.new) }
-    ensures too_large { result ≡ Err StreamEnd.TooLarge → IfSome (file_of (S.held shelf.old) name.now)
-        (λ file. Reads lines.old.reading file → lines.old.reading.limit < length file) }
-    ensures within { IfSome (file_of (S.held shelf.old) name.now) (λ file. Reads lines.old.reading file →
-        MatchResult result (λ mv. IfNone mv (length file ≤ lines.old.reading.limit))
-        (λ end. IsWithin end (length file) lines.old.reading.limit)) }
-    ensures read_out { IfErr result (λ end. IsReadOut end lines.new) }
-    ensures lazy { IfOk result (λ mv. lines.new.reading.ended ≡ false → lines.new.reading.place ≤ read_so_far lines.old.reading
-        → shelf.new ≡ shelf.old) }
-    ensures limit { lines.new.reading.limit ≡ lines.old.reading.limit }
-    ensures only_reads { OnlyReads S.held S.faults shelf.old shelf.new }
-{
     let mut line = ShortLine::new();
     let found = lines.next_line(shelf, name, &mut line)?;
     match read_found(&line, found, lines.number(), to_come) {
