@@ -9,28 +9,11 @@ use Rattle.surf_model.specs.Edges.{Edge, IsPairBefore, edge_in}
 use Rattle.homology.specs.Certificates.{listed_number, face_number, edge_number}
 use Rattle.homology.specs.declared.certificate.EdgeNumber.{EdgeNumber}
 use Rattle.homology.specs.declared.certificate.FaceNumber.{FaceNumber}
+use Rattle.homology.proofs.NumbersLemmas.{listed_more}
 use Rattle.homology_files.specs.WrittenTexts.{FaceFits, EdgeFits}
 use Rattle.homology_commands.specs.Listings.{IsNamed, ListsFaces, IsAmong, ListsEdges}
 
 -- ---- one line more
-
--- it is the one that counts where it passes, and else those before it (LOCAL COPY)
-listed_more : {X : Type 0} (test : X → Bool) (number : X → ℤ) (xs : List X) (x : X)
-    → (test x ≡ true → All (λ y. test y ≡ false) xs)
-    → listed_number test number (xs ++ x ∷ []) ≡ if test x then number x else listed_number test number xs
-listed_more test number [] x h = refl
-listed_more test number (y ∷ ys) x h = elim (cases_Bool (test y)) [
-  | inr off ↦
-      let more = listed_more test number ys x (λ e k d l. h e (suc k) d (omega arith)) in
-      rw off more
-  | inl on ↦ elim (cases_Bool (test x)) [
-    | inr off ↦ rw (on, off) refl
-    | inl both ↦
-        let no : test y ≡ false = h both 0 y (omega arith) in
-        let clash : true ≡ false = sym on ∙ no in
-        cc
-  ]
-]
 
 -- a line that passes the test is the one that counts, where none before it does
 line_counts : {X : Type 0} (test : X → Bool) (number : X → ℤ) (lines : List X) (line : X) → test line ≡ true

@@ -13,6 +13,7 @@ use Rattle.manifold_check.specs.Submeshes.{submesh}
 use Rattle.homology.specs.Sums.{total, along, round, share}
 use Rattle.homology.specs.Chains.{IsChain, boundary, count_of}
 use Rattle.homology.proofs.BoundaryLemmas.{face_parts, by_faces, boundary_is}
+use Rattle.homology.proofs.ChainVerdictLemmas.{boundary_agrees}
 
 -- ---- sums over faces by their names
 
@@ -151,17 +152,6 @@ chain_widened mesh names test names_are wide narrow dropped agree first second o
             )
       ];
 }
-
-boundary_agrees : (mesh : FaceList) (one other : ℕ → ℤ) (low high : ℕ) → ((f : ℕ) → one f ≡ other f)
-    → boundary mesh one low high ≡ boundary mesh other low high
-boundary_agrees mesh one other low high same = along_sides (all_sides mesh)
-  where
-    along_sides : (sides : List FaceSide)
-        → total (map (λ (side : FaceSide). share (one side.face) low high side.tail side.head) sides)
-        ≡ total (map (λ (side : FaceSide). share (other side.face) low high side.tail side.head) sides)
-    along_sides [] = refl
-    along_sides (side ∷ sides) =
-        ap₂ (λ x y. x +ℤ y) (ap (λ z. share z low high side.tail side.head) (same side.face)) (along_sides sides)
 
 -- a chain with the same numbers
 pub chain_alike : (mesh : FaceList) (wide narrow : ℕ → ℤ) (first second : List ℕ) → ((f : ℕ) → wide f ≡ narrow f)

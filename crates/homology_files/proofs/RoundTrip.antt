@@ -9,9 +9,9 @@ use Rattle.std.proofs.lemmas.List.Elements.{All-head, All-tail, All-cons, All-ni
 use Rattle.std.proofs.lemmas.List.Sums.{list_all-from_AllPass}
 use Rattle.std.proofs.lemmas.Grind.{common_steps}
 use Rattle.text_scan.specs.Lines.{Line, unmarked, lines_from, full_lines, end_line}
-use Rattle.text_scan.specs.Numbers.{number_of, fits_i64}
+use Rattle.text_scan.specs.Numbers.{fits_i64}
 use Rattle.text_scan.specs.Plain.{line_of}
-use Rattle.text_scan.proofs.WrittenLemmas.{IsWritable, IsLine, numbered, lines_from-written, decimal-writable, number_below-decimal, integer-writable, integer-read}
+use Rattle.text_scan.proofs.WrittenLemmas.{IsWritable, IsLine, numbered, lines_from-written, all_writable, number-read, number-writable, integer-writable, integer-read}
 use Rattle.homology.specs.Certificates.{AreFaceNumbers, AreEdgeNumbers}
 use Rattle.homology.specs.declared.certificate.FaceNumber.{FaceNumber}
 use Rattle.homology.specs.declared.certificate.EdgeNumber.{EdgeNumber}
@@ -35,21 +35,6 @@ small-fits (negsuc n) h = lt-ltb n (2 ^ 63) (omega (arith, h))
 
 size-read : (z : ℤ) → unsigned_abs z ≤ MOST_NUMBER → size_of (signed_decimal z) ≡ Some z
 size-read z h = rw (integer-read z (small-fits z h), le-leb (unsigned_abs z) MOST_NUMBER h) refl
-
-number-read : (n : ℕ) → n < 2 ^ 32 → number_of (decimal n) ≡ Some n
-number-read n fits = number_below-decimal (2 ^ 32) n fits (omega arith)
-
--- each of some words is writable
-abbrev AreWritable : List (List ℕ) → Type 0
-AreWritable [] = Unit {0}
-AreWritable (word ∷ words) = IsWritable word × AreWritable words
-
-all_writable : (words : List (List ℕ)) → AreWritable words → All IsWritable words
-all_writable [] each = All-nil IsWritable
-all_writable (word ∷ words) each = All-cons IsWritable word words each.0 (all_writable words each.1)
-
-small : (n : ℕ) → n < 2 ^ 32 → IsWritable (decimal n)
-small n fits = decimal-writable n (omega arith)
 
 -- ---- the lines of numbers, from one on, behind those so far
 
@@ -120,14 +105,14 @@ size-writable z h = integer-writable z (small-fits z h)
 face-is_line : (line : FaceNumber) → FaceFits line → unsigned_abs line.number ≤ MOST_NUMBER → IsLine (face_words line)
 face-is_line line fits h = record {
   filled = refl;
-  writable = all_writable (face_words line) (small line.face.0 fits, (size-writable line.number h, tt));
+  writable = all_writable (face_words line) (number-writable line.face.0 fits, (size-writable line.number h, tt));
 }
 
 edge-is_line : (line : EdgeNumber) → EdgeFits line → unsigned_abs line.number ≤ MOST_NUMBER → IsLine (edge_words line)
 edge-is_line line fits h = record {
   filled = refl;
   writable =
-      all_writable (edge_words line) (small line.low.0 fits.0, (small line.high.0 fits.1, (size-writable line.number h, tt)));
+      all_writable (edge_words line) (number-writable line.low.0 fits.0, (number-writable line.high.0 fits.1, (size-writable line.number h, tt)));
 }
 
 each-is_line : {X : Type 0} (words : X → List (List ℕ)) (xs : List X) → All (λ x. IsLine (words x)) xs → All IsLine (map words xs)
@@ -151,7 +136,7 @@ keyword-writable OfEdges = record { filled = refl; inside = refl }
 head-is_line : (kind : Kind) (n : ℕ) → n < 2 ^ 32 → IsLine (head_words kind n)
 head-is_line kind n few = record {
   filled = refl;
-  writable = all_writable (head_words kind n) (keyword-writable kind, (small n few, tt));
+  writable = all_writable (head_words kind n) (keyword-writable kind, (number-writable n few, tt));
 }
 
 head-read : (kind : Kind) (n : ℕ) → n < 2 ^ 32 → head_of (head_words kind n) ≡ Some (record { kind = kind; count = n })
