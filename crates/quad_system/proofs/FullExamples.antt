@@ -1,12 +1,12 @@
 -- On the torus of seven vertices the labelling of the square is full, and one with a label on two sides is not. Each test is computed.
-use Rattle.std.proofs.Common.{◌≡◌, ◌⊎◌, inl, inr, ℕ, zero, suc, ◌<◌, Bool, true, false, List, [], ◌∷◌, refl, ap, sym, ◌∙◌, subst, arith, lit<}
-use Rattle.std.specs.Prelude.{◌==◌, ◌&&◌, if◌then◌else◌, slice_index, Contains}
+use Rattle.std.proofs.Common.{◌≡◌, ◌⊎◌, inr, ℕ, zero, suc, ◌<◌, Bool, true, false, [], ◌∷◌, refl, ap, sym, ◌∙◌, subst, arith, lit<}
+use Rattle.std.specs.Prelude.{◌==◌, ◌&&◌, if◌then◌else◌, slice_index}
 use Rattle.std.specs.List.{list_all}
 use Rattle.std.proofs.lemmas.Bool.{eqb-true, eq-eqb, false≢true}
 use Rattle.std.proofs.lemmas.Bool.Decides.{nat_tests}
 use Rattle.std.proofs.lemmas.List.Elements.{All-contains}
 use Rattle.std.proofs.lemmas.List.Sums.{AllPass-from_list_all}
-use Rattle.surf_model.specs.FaceLists.{FaceSide, all_sides, face_at, joins}
+use Rattle.surf_model.specs.FaceLists.{FaceSide, all_sides, joins}
 use Rattle.surf_model.specs.Darts.{IsSide, tail_of, head_of}
 use Rattle.surf_model.specs.Edges.{side_name}
 use Rattle.surf_model.specs.Meshes.{torus}

@@ -1,5 +1,5 @@
--- Full labellings at work on the torus of seven vertices, cut open into a square. That the labelling of the square is full, and that the one
--- below is not, is proved by computing in proofs/FullExamples.antt. That the label 0 at every corner is good and not full is a law,
+-- Full labellings at work on the torus of seven vertices, cut open into a square. That the labels of the square are full, and that those
+-- below are not, is proved by computing in proofs/FullExamples.antt. That the label 0 at every corner is good and not full is a law,
 -- `quad_system::laws::good_need_not_be_full`.
 use Rattle.std.specs.Prelude.{ℕ, [], ◌∷◌}
 use Rattle.surf_model.specs.declared.edges.Side.{Side}
