@@ -130,7 +130,7 @@ pub one_right : {D P : Type 0} {for_yes for_no : D} → IsYesOrNo for_yes for_no
 one_right two a b p q =
     elim (two.either a) [
       | inl first ↦ first ∙ sym (q.1 (p.0 first))
-      | inr first ↦ elim (two.either b) [ | inl second ↦ p.1 (q.0 second) ∙ sym second | inr second ↦ first ∙ sym second ]
+      | inr first ↦ elim (two.either b) [ inl second ↦ p.1 (q.0 second) ∙ sym second | inr second ↦ first ∙ sym second ]
     ]
 
 one_decided : {D T : Type 0} {for_yes for_no : D} → IsYesOrNo for_yes for_no → (made : D → T) (P : Type 0) (a b : End T) → (decided_by for_yes made P).Ends a

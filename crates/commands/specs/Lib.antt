@@ -20,3 +20,4 @@ pub mod Statuses
 pub mod Writes
 pub mod Stops
 pub mod Replies
+pub mod Examples
