@@ -21,3 +21,4 @@ pub mod Statuses
 pub mod Writes
 pub mod Stops
 pub mod Replies
+pub mod Examples

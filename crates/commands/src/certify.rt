@@ -30,11 +30,11 @@ use surf_io::Shelf;
 use surf_model::Walk;
 use tree_cotree::split_edges;
 
-/// The most moves of a list between walks that lie on a sphere: 512 darts, and for each a move for each of 16,384 sides and one more.
-pub const MOST_SPHERE_MOVES: u32 = 8_389_120;
+/// The most moves of a list between walks that lie on a sphere: those of a short list.
+pub const MOST_SPHERE_MOVES: u32 = move_lifting::MOST_SHORT_MOVES;
 
-/// The greatest peak of a list between two walks: half of three for each of 512 darts and seven more, for each of 16,384 sides.
-pub const MOST_SHOWN_PEAK: u32 = 12_640_256;
+/// The greatest peak of a list between two walks: that of low peaks.
+pub const MOST_SHOWN_PEAK: u32 = move_lifting::MOST_LOW_PEAK;
 
 /// What lists of moves are made for.
 const LIMITS: Limits = Limits {

@@ -10,7 +10,7 @@ use Rattle.halfedge_map.specs.DartMaps.{darts_of}
 use Rattle.halfedge_map.proofs.EdgeLemmas.{dart_between}
 use Rattle.tree_cotree.specs.Splits.{SplitView, IsSplit}
 use Rattle.move_lifting.specs.Loads.{load_of, AreWeights, StaysWithin}
-use Rattle.move_lifting.specs.declared.expanding.TheConstants.{MOST_LIFTED_SIDES, MOST_LIFTED_DARTS}
+use Rattle.move_lifting.specs.declared.expanding.TheConstants.{MOST_LIFTED_SIDES, MOST_LIFTED_DARTS, MOST_LOW_PEAK, MOST_SHORT_MOVES}
 use Rattle.move_lifting.proofs.ExpandLemmas.{IsRest, rest_of_step}
 use Rattle.move_lifting.proofs.RestLemmas.{pair_weight, pair_positive, pair_most, rest_falls}
 use Rattle.move_lifting.proofs.WithinLemmas.{darts_weigh, load_most}
@@ -98,13 +98,13 @@ is_few sides darts second few begun moves some part less start more =
 
 -- within the limits it is no greater than this
 pub low_most : (sides darts peak : ℕ) → sides ≤ MOST_LIFTED_SIDES → darts ≤ MOST_LIFTED_DARTS → 2 * peak ≤ (3 * darts + 7) * sides
-    → peak ≤ 12640256
+    → peak ≤ MOST_LOW_PEAK
 low_most sides darts peak few less low =
     omega (arith, low, mul-le (3 * darts + 7) sides 1543 MOST_LIFTED_SIDES (omega (arith, less)) few)
 
 -- within the limits a short list has no more moves than these
 pub few_most : (sides darts moves : ℕ) → sides ≤ MOST_LIFTED_SIDES → darts ≤ MOST_LIFTED_DARTS → moves ≤ darts * (sides + 1)
-    → moves ≤ 8389120
+    → moves ≤ MOST_SHORT_MOVES
 few_most sides darts moves few less short = omega (arith, short, mul-le darts (sides + 1) 512 16385 less (omega (arith, few)))
 
 -- a low peak stays low where the walks have so many darts more before and behind

@@ -30,6 +30,12 @@ pub const MOST_LIFTED_SIDES: u32 = 16_384;
 /// The most darts of the walks between which a list of moves is made, together.
 pub const MOST_LIFTED_DARTS: u32 = 512;
 
+/// The most moves of a short list within these limits: for each of 512 darts a move for each of 16,384 sides and one more.
+pub const MOST_SHORT_MOVES: u32 = 8_389_120;
+
+/// The greatest of low peaks within these limits: half of three for each of 512 darts and seven more, for each of 16,384 sides.
+pub const MOST_LOW_PEAK: u32 = 12_640_256;
+
 /// The most entries of a walk that is led off the cotree: no walk on the way has 2^31 entries then.
 pub(crate) const MOST_PASSED_ENTRIES: u32 = 131_071;
 

@@ -12,7 +12,7 @@ ghost use Rattle.tree_cotree.specs.Splits.{SplitView, IsSplit};
 ghost use Rattle.polygon_cut.specs.SpokeLoops.{way_round};
 ghost use Rattle.move_lifting.specs.Lifts.{HasLowPeak, IsShortList};
 ghost use Rattle.move_lifting.specs.WalksOff.{LeadsOffCotree};
-ghost use Rattle.move_lifting.specs.declared.expanding.TheConstants.{MOST_LIFTED_SIDES, MOST_LIFTED_DARTS};
+ghost use Rattle.move_lifting.specs.declared.expanding.TheConstants.{MOST_LIFTED_SIDES, MOST_LIFTED_DARTS, MOST_LOW_PEAK, MOST_SHORT_MOVES};
 
 /// Moves that go round the faces below cotree edges lead from each walk of a surface to one off the cotree, that has at most as many
 /// darts as the surface for each of its own. So a dart on a cotree edge leads to a walk off the cotree of at most as many darts as the
@@ -25,19 +25,19 @@ pub fn walks_lead_off_the_cotree()
         → LeadsOffCotree surface split (way_round surface split dart) (darts_of surface) }
 {}
 
-/// A low peak, within the limits of `lift`, is at most 12,640,256. So a file that has such a list is read: its peak is no greater than
+/// A low peak, within the limits of `lift`, is at most `MOST_LOW_PEAK`. So a file that has such a list is read: its peak is no greater than
 /// those that are read.
 pub fn low_peaks_are_read()
     ensures most { (sides darts : ℕ) (list : PeakedMoves) → sides ≤ MOST_LIFTED_SIDES → darts ≤ MOST_LIFTED_DARTS
-        → HasLowPeak sides darts list → list.peak ≤ 12640256 }
+        → HasLowPeak sides darts list → list.peak ≤ MOST_LOW_PEAK }
     ensures read { (sides darts : ℕ) (list : PeakedMoves) → sides ≤ MOST_LIFTED_SIDES → darts ≤ MOST_LIFTED_DARTS
         → HasLowPeak sides darts list → list.peak ≤ MOST_PEAK }
 {}
 
-/// A short list, within the limits of `lift`, has at most 8,389,120 moves.
+/// A short list, within the limits of `lift`, has at most `MOST_SHORT_MOVES` moves.
 pub fn short_lists_are_few()
     ensures { (sides darts : ℕ) (list : PeakedMoves) → sides ≤ MOST_LIFTED_SIDES → darts ≤ MOST_LIFTED_DARTS
-        → IsShortList sides darts list → length list.moves ≤ 8389120 }
+        → IsShortList sides darts list → length list.moves ≤ MOST_SHORT_MOVES }
 {}
 
 /// A walk is at least as long as one without spurs that spur moves alone lead to.

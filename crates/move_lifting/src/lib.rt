@@ -27,6 +27,8 @@ mod spoke_walks;
 mod track;
 mod tree_way;
 
-pub use expanding::{MOST_LIFTED_DARTS, MOST_LIFTED_SIDES, expand};
+pub use expanding::{
+    MOST_LIFTED_DARTS, MOST_LIFTED_SIDES, MOST_LOW_PEAK, MOST_SHORT_MOVES, expand,
+};
 pub use lifted::{Lifted, reduce_free};
 pub use lifting::lift;
