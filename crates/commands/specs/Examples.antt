@@ -120,7 +120,7 @@ long : numbers_line Walks (walks.TooLong 2) ≡ written (codes "refused: walks l
 unfolding digits
 long = refl
 
-too_many : numbers_line Walks (walks.TooMany 1000001) ≡ written (codes "refused: walks line 1000001 many")
+too_many : numbers_line Walks (walks.TooMany 4) ≡ written (codes "refused: walks line 4 many")
 unfolding digits
 too_many = refl
 
@@ -136,7 +136,7 @@ word_long : numbers_line TurnWords (walks.TooLong 2) ≡ written (codes "refused
 unfolding digits
 word_long = refl
 
-word_many : numbers_line TurnWords (walks.TooMany 1000001) ≡ written (codes "refused: list line 1000001 many")
+word_many : numbers_line TurnWords (walks.TooMany 4) ≡ written (codes "refused: list line 4 many")
 unfolding digits
 word_many = refl
 
