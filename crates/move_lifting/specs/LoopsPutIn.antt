@@ -1,10 +1,27 @@
 -- Walks with the loop of the last side put in.
-use Rattle.std.specs.Prelude.{ℕ, ◌<◌, Bool, true, if◌then◌else◌, List, slice_index, All}
+use Rattle.std.specs.Prelude.{◌≡◌, ℕ, ◌+◌, ◌*◌, ◌<◌, ◌≤◌, ◌^◌, Bool, true, if◌then◌else◌, List, length, slice_index, All}
 use Rattle.surf_model.specs.FreeWalks.{AreFreelyEqual}
+use Rattle.surf_model.specs.Replacements.{place_of}
+use Rattle.surf_model.specs.Vertices.{numbers}
+use Rattle.surf_model.specs.declared.moves.Move.{Move}
+use Rattle.surf_model.specs.declared.names.VertexName.{VertexName}
 use Rattle.halfedge_map.specs.OrientedMeshes.{OrientedMesh}
 use Rattle.tree_cotree.specs.Splits.{SplitView}
 use Rattle.polygon_cut.specs.Polygons.{PolygonView}
 use Rattle.polygon_cut.specs.SpokeLoops.{AreWaysUp, backward, by_loop, path_loop, last_side_loop, put_behind}
+use Rattle.move_lifting.specs.Tracks.{last_of}
+use Rattle.move_lifting.specs.declared.lifted.Lifted.{Lifted}
+
+-- The approach leads from where the walk starts to where the turn starts and ends; each move of the turn is within its walks; and no walk
+-- on the way, with so many entries behind it, has 2^31 entries.
+pub record IsApproach (walk : List ℕ) (turn : Lifted) (behind : ℕ) (approach : List VertexName) : Type 0 where
+  pub some : 0 < length walk
+  pub some_approach : 0 < length approach
+  pub starts : slice_index (numbers approach) 0 ≡ slice_index walk 0
+  pub meets : slice_index turn.walk 0 ≡ last_of (numbers approach)
+  pub closed : last_of turn.walk ≡ last_of (numbers approach)
+  pub places : All (λ (mv : Move). place_of mv ≤ turn.moves.peak) turn.moves.moves
+  pub room : 2 * length approach + length walk + length turn.walk + behind + turn.moves.peak < 2 ^ 31
 
 -- the loop of the last side, or the way back along it
 abbrev pub signed_loop : OrientedMesh → PolygonView → ℕ → (ℕ → List ℕ) → Bool → List ℕ

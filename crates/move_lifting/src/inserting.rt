@@ -1,12 +1,12 @@
 //! Turns put into walks: there, round, back, and on.
-ghost use Rattle.std.specs.Prelude.{◌≡◌, ◌≢◌, ◌+◌, ◌*◌, ◌-◌, ◌<◌, ◌≤◌, ◌^◌, ◌∷◌, [], ◌++◌, ℕ, List, length, max, take, drop, slice_index, IfOk, OnOk, All};
+ghost use Rattle.std.specs.Prelude.{◌≡◌, ◌≢◌, ◌+◌, ◌*◌, ◌-◌, ◌<◌, ◌≤◌, ◌^◌, ◌∷◌, [], ◌++◌, ℕ, List, length, max, take, drop, slice_index, IfOk, OnOk};
 ghost use Rattle.surf_model.specs.FaceLists.{FaceList};
 ghost use Rattle.surf_model.specs.FreeWalks.{AreFreelyEqual, HasNoSpur};
-ghost use Rattle.surf_model.specs.Replacements.{place_of};
 ghost use Rattle.surf_model.specs.Vertices.{numbers};
 ghost use Rattle.surf_model.specs.Walks.{IsWalk, darts};
 ghost use Rattle.polygon_cut.specs.SpokeLoops.{backward, put_behind};
 ghost use Rattle.move_lifting.specs.Lifts.{LeadsAtPeak};
+ghost use Rattle.move_lifting.specs.LoopsPutIn.{IsApproach};
 ghost use Rattle.move_lifting.specs.Tracks.{GoesOn, last_of};
 ghost use Rattle.move_lifting.specs.TurnPeaks.{RisesWithTurn};
 
@@ -28,13 +28,7 @@ pub(crate) fn put_turn(
     turn: &Lifted,
     behind: u32,
 ) -> Result<Track, AllocError>
-    requires some { 0 < length track.walk }
-    requires approach { 0 < length approach.now }
-    requires starts { slice_index (numbers approach.now) 0 ≡ slice_index track.walk 0 }
-    requires turn { slice_index turn.now.walk 0 ≡ last_of (numbers approach.now) }
-    requires closed { last_of turn.now.walk ≡ last_of (numbers approach.now) }
-    requires places { All (λ (mv : Move). place_of mv ≤ turn.now.moves.peak) turn.now.moves.moves }
-    requires room { 2 * length approach.now + length track.walk + length turn.now.walk + behind + turn.now.moves.peak < 2 ^ 31 }
+    requires { IsApproach track.walk turn.now behind approach.now }
     ensures leads { IfOk result (λ after. (mesh : FaceList) → IsWalk mesh (numbers approach.now)
         → LeadsAtPeak mesh (last_of (numbers approach.now) ∷ []) turn.now.moves turn.now.walk
         → GoesOn mesh behind track.walk track.list after.walk after.list) }

@@ -123,7 +123,7 @@ returns-clause-leads c =
     (λ first rest long h.
     c.in_ok-insert_there_and_back.ensures.leads mesh first rest w (long ∙ sym after)
     (subst (λ (l : PeakedMoves). LeadsAtPeak mesh first l (take n approach ++ rest)) (sym c.into_laid-laid.ensures.list) h))
-    leads c.darts-around.ensures.starts c.requires.turn moved c.in_ok-raise_moves.ensures.none c.in_ok-raise_moves.ensures.some counted
+    leads c.darts-around.ensures.starts c.requires.meets moved c.in_ok-raise_moves.ensures.none c.in_ok-raise_moves.ensures.some counted
     (is_whole at) (goes mesh))
     c.reduced.ensures.leads
 
@@ -133,7 +133,7 @@ returns-clause-freely c =
     IfOk-weaker c.reduced.result _ _
     (λ track free mesh w.
     turn_freely mesh (numbers c.args.approach.now) c.args.track.walk c.args.turn.now.walk c.put_in.new.self.walk track.walk
-    c.common_start-common.result w (alike at) c.darts-around.ensures.starts c.requires.turn c.requires.closed (is_whole at) (free mesh))
+    c.common_start-common.result w (alike at) c.darts-around.ensures.starts c.requires.meets c.requires.closed (is_whole at) (free mesh))
     c.reduced.ensures.freely
 
 pub returns-clause-last : goal.returns-clause-last
@@ -143,7 +143,7 @@ returns-clause-last c =
     (λ track last.
     last ∙ ap last_of (is_whole at)
     ∙ turn_last (numbers c.args.approach.now) c.args.track.walk c.args.turn.now.walk c.common_start-common.result (alike at)
-    c.darts-around.ensures.starts c.requires.turn c.requires.closed)
+    c.darts-around.ensures.starts c.requires.meets c.requires.closed)
     c.reduced.ensures.last
 
 pub returns-clause-few : goal.returns-clause-few

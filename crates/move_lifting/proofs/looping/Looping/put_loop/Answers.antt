@@ -113,54 +113,36 @@ ready c =
     c.turn.result.now c.args.up (turn c) c.args.front.now (made c) c.first.result.0 c.origin-end.result.0
     c.in_ok-approach.approach.items c.deref.result.now (ends c) x_used (used c) c.deref.ensures.value c.in_ok-approach.ensures.freely
 
-pub put_turn-requires-clause-approach : goal.put_turn-requires-clause-approach
-put_turn-requires-clause-approach c =
+pub put_turn-requires : goal.put_turn-requires
+put_turn-requires c =
     let r = ready c in
-    omega (
-      arith,
-      goes_some (surface_of c.args.self.now).mesh c.first.result.0 c.origin-end.result.0 (numbers c.deref.result.now) r.there,
-      length-numbers c.deref.result.now,
-    )
-
-pub put_turn-requires-clause-starts : goal.put_turn-requires-clause-starts
-put_turn-requires-clause-starts c =
-    let r = ready c in
-    goes_start (surface_of c.args.self.now).mesh c.first.result.0 c.origin-end.result.0 (numbers c.deref.result.now) r.there
-    ∙ c.first.ensures
-
-pub put_turn-requires-clause-turn : goal.put_turn-requires-clause-turn
-put_turn-requires-clause-turn c =
-    let r = ready c in
-    goes_start (surface_of c.args.self.now).mesh c.origin-end.result.0 c.origin-end.result.0 c.turn.result.now.walk r.round
-    ∙ sym (goes_end (surface_of c.args.self.now).mesh c.first.result.0 c.origin-end.result.0 (numbers c.deref.result.now) r.there)
-
-pub put_turn-requires-clause-closed : goal.put_turn-requires-clause-closed
-put_turn-requires-clause-closed c =
-    let r = ready c in
-    goes_end (surface_of c.args.self.now).mesh c.origin-end.result.0 c.origin-end.result.0 c.turn.result.now.walk r.round
-    ∙ sym (goes_end (surface_of c.args.self.now).mesh c.first.result.0 c.origin-end.result.0 (numbers c.deref.result.now) r.there)
-
-pub put_turn-requires-clause-places : goal.put_turn-requires-clause-places
-put_turn-requires-clause-places c =
-    let r = ready c in
-    places_below (surface_of c.args.self.now).mesh c.turn.result.now.moves.moves (last_of (numbers c.deref.result.now) ∷ [])
-    c.turn.result.now.walk c.turn.result.now.moves.peak (omega arith) r.leads.leads (omega (arith, r.leads.peak))
-
-pub put_turn-requires-clause-room : goal.put_turn-requires-clause-room
-put_turn-requires-clause-room c =
     let l : Looping = c.args.self.now in
     let s : OrientedMesh = surface_of l in
     let cut = c.requires.looping.cut in
     let goes = c.requires.short in
-    omega (
-      arith,
-      length-numbers c.deref.result.now,
-      loop_room s (split_of l) cut.valid cut.on.split (polygon_of l) cut.polygon cut.some c.take_turns.new.self.spokes (spokes c)
-          c.args.front.now (made c) goes.path c.args.track.walk (numbers c.deref.result.now) c.turn.result.now.walk
-          c.origin-end.result.0 l.behind c.turn.result.now.moves.peak MOST_LIFTED_DARTS (ends c) (used c) c.requires.walk
-          c.requires.closed (freely c) (no_spur c) c.requires.no_spur goes.spokes goes.around goes.below goes.few (omega arith)
-          (omega (arith, c.requires.looping.behind)) (omega (arith, cut.on.sides)) (turn c).short (turn c).low,
-    )
+    let start : ℕ = c.first.result.0 in
+    let end : ℕ = c.origin-end.result.0 in
+    let approach : List ℕ = numbers c.deref.result.now in
+    let arrives = goes_end s.mesh start end approach r.there in
+    record {
+      some = c.requires.walk.starts;
+      some_approach = omega (arith, goes_some s.mesh start end approach r.there, length-numbers c.deref.result.now);
+      starts = goes_start s.mesh start end approach r.there ∙ c.first.ensures;
+      meets = goes_start s.mesh end end c.turn.result.now.walk r.round ∙ sym arrives;
+      closed = goes_end s.mesh end end c.turn.result.now.walk r.round ∙ sym arrives;
+      places =
+          places_below s.mesh c.turn.result.now.moves.moves (last_of approach ∷ []) c.turn.result.now.walk c.turn.result.now.moves.peak
+          (omega arith) r.leads.leads (omega (arith, r.leads.peak));
+      room = omega (
+        arith,
+        length-numbers c.deref.result.now,
+        loop_room s (split_of l) cut.valid cut.on.split (polygon_of l) cut.polygon cut.some c.take_turns.new.self.spokes (spokes c)
+            c.args.front.now (made c) goes.path c.args.track.walk approach c.turn.result.now.walk end l.behind
+            c.turn.result.now.moves.peak MOST_LIFTED_DARTS (ends c) (used c) c.requires.walk c.requires.closed (freely c) (no_spur c)
+            c.requires.no_spur goes.spokes goes.around goes.below goes.few (omega arith)
+            (omega (arith, c.requires.looping.behind)) (omega (arith, cut.on.sides)) (turn c).short (turn c).low,
+      );
+    }
 
 -- where the approach is ready, the moves lead there and round and back
 pub returns-clause-leads : goal.returns-clause-leads
