@@ -148,9 +148,14 @@ pub sound-decided_by : {D T : Type 0} {for_yes for_no : D} (held : Option Files)
 sound-decided_by {D} {T} {for_yes} {for_no} held two made P =
     record {
       some = λ none.
-          none (Pass (made for_no))
-          (for_no, refl, ((λ e. absurd (two.differ e)),
-          (λ h. absurd (none (Pass (made for_yes)) (for_yes, refl, ((λ _. h), (λ _. refl)))))));
+          none (Pass (made for_no)) (
+            for_no,
+            refl,
+            (
+              (λ e. absurd (two.differ e)),
+              (λ h. absurd (none (Pass (made for_yes)) (for_yes, refl, ((λ _. h), (λ _. refl))))),
+            ),
+          );
       one = λ _ a b p q. one_decided two made P a b p q;
     }
 

@@ -113,7 +113,7 @@ edge-is_line line fits h = record {
   filled = refl;
   writable =
       all_writable (edge_words line)
-          (number-writable line.low.0 fits.0, (number-writable line.high.0 fits.1, (size-writable line.number h, tt)));
+      (number-writable line.low.0 fits.0, (number-writable line.high.0 fits.1, (size-writable line.number h, tt)));
 }
 
 each-is_line : {X : Type 0} (words : X → List (List ℕ)) (xs : List X) → All (λ x. IsLine (words x)) xs → All IsLine (map words xs)
