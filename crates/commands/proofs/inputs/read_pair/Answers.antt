@@ -11,7 +11,7 @@ returns-in_err-walks-clause-reads g c =
     let held = g.S.Shelf.held in
     let shelf = c.args.shelf.now in
     let stop = c.in_err-walks.field-0.0 in
-    let p = err_from_is_err_and c.from_residual-in_err-walks.result c.from_residual-in_err-walks.ensures.1 in
+    let p = err_from_is_err_and c.from_residual.result c.from_residual.ensures.1 in
     rw (p.1, p.2)
     (reads_then held g.S.Shelf.faults shelf shelf c.read_list.new.shelf _ _ stop (only_self held g.S.Shelf.faults shelf)
     c.in_err-walks.ensures
