@@ -26,8 +26,8 @@ returns-in-Ok-clause-reads g c =
     text_passes loops_line (loops_fault mesh) (held shelf) c.args.name.now c.in_ok-walks.walks c.in_ok-walks.ensures.end
     (sym (c.in-Ok.ensures.fault mesh table)))
 
-pub returns-clause-reads : goal.returns-clause-reads
-returns-clause-reads g c =
+pub returns-in-Err-clause-reads : goal.returns-in-Err-clause-reads
+returns-in-Err-clause-reads g c =
     let held = g.S.Shelf.held in
     let shelf = c.args.shelf.now in
     let fault = c.in-Err.fault in
