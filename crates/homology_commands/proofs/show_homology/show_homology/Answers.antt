@@ -12,6 +12,7 @@ use Rattle.homology_commands.proofs.CertificateLemmas.{answer_decides}
 use Rattle.homology_commands.proofs.HomologyAnswers.{after_pair}
 use Rattle.homology_commands.proofs.ShortWalks.{few_darts}
 use Rattle.homology_commands.proofs.show_homology.show_homology.Goals as goal
+use Rattle.homology_commands.proofs.show_homology.show_homology.Goals.{After-at-2}
 
 pub returns-in_err-pair : goal.returns-in_err-pair
 returns-in_err-pair g c =
