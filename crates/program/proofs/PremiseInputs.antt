@@ -15,7 +15,7 @@ use Rattle.walk_files.specs.WalkLists.{WalkText}
 use Rattle.walk_files.specs.WalkTexts.{walk_text_of, walks_in, walks_of}
 use Rattle.walk_files.specs.declared.fault.WalkFault.{WalkFault}
 use Rattle.commands.specs.Answers.{Answer, Exactly}
-use Rattle.commands.specs.Certify.{certified, certify, limit_fault}
+use Rattle.commands.specs.Certify.{certified, certify, certify_limits, limit_fault, limit_word}
 use Rattle.commands.specs.Checks.{Check, Refuse, Pass, Passes, IsTold, Holds, file, meant, pass_unless, ◌>>=◌}
 use Rattle.commands.specs.ClosedSurfaces.{IsOrientableSurface}
 use Rattle.commands.specs.Inputs.{mesh_in, pair_in, walk_at, SpellsMesh, SpellsPair}
@@ -25,7 +25,7 @@ use Rattle.commands.specs.SurfaceInput.{as_surface, closed, orientable, surface_
 use Rattle.commands.specs.declared.refusal.Input.TheVariants as inputs
 use Rattle.commands.specs.declared.status.Status.{Status}
 use Rattle.commands.specs.declared.status.Status.TheVariants.{Refused}
-use Rattle.commands.proofs.Certifying.{allowed}
+use Rattle.commands.proofs.LimitLemmas.{fitting}
 use Rattle.pair_commands.specs.Decide.{all_decided, decide}
 use Rattle.pair_commands.specs.PairInput.{SpellsPairs, pairs_in, pairs_line}
 use Rattle.walk_files.proofs.TextLemmas.{HasVertex, text_walks}
@@ -161,7 +161,7 @@ certify_answered held words names (Pass answer) status text ends is answered =
         is_surface = mesh.1;
         walks_file = pair_held held names.walks_name surface.0 walks.0 names.walks_told walks.1;
       };
-      within = allowed surface.0 (walk_at walks.0 0) (walk_at walks.0 1) within.0;
+      within = fitting certify_limits limit_word surface.0 (walk_at walks.0 0) (walk_at walks.0 1) within.0;
     }
 
 pub premises_met : (held : Option Files) (words : List (List ℕ)) (status : Status) (text : List ℕ) → Answers held words status text
