@@ -5,7 +5,7 @@ use Rattle.std.specs.Fmt.{signed_decimal}
 use Rattle.std.specs.List.{list_all}
 use Rattle.std.proofs.lemmas.Bool.{le-leb, lt-ltb}
 use Rattle.std.proofs.lemmas.List.{append-nil}
-use Rattle.std.proofs.lemmas.List.Elements.{All-head, All-tail, All-cons, All-nil}
+use Rattle.std.proofs.lemmas.List.Elements.{All-head, All-tail, All-cons, All-map}
 use Rattle.std.proofs.lemmas.List.Sums.{list_all-from_AllPass}
 use Rattle.std.proofs.lemmas.Grind.{common_steps}
 use Rattle.text_scan.specs.Lines.{Line, unmarked, lines_from, full_lines, end_line}
@@ -116,12 +116,6 @@ edge-is_line line fits h = record {
       (number-writable line.low.0 fits.0, (number-writable line.high.0 fits.1, (size-writable line.number h, tt)));
 }
 
-each-is_line : {X : Type 0} (words : X → List (List ℕ)) (xs : List X) → All (λ x. IsLine (words x)) xs → All IsLine (map words xs)
-each-is_line words [] all = All-nil IsLine
-each-is_line words (x ∷ xs) all =
-    All-cons IsLine (words x) (map words xs) (All-head (λ y. IsLine (words y)) x xs all)
-    (each-is_line words xs (All-tail (λ y. IsLine (words y)) x xs all))
-
 -- the word of a head
 abbrev keyword : Kind → List ℕ
 keyword OfFaces = codes "CHAIN"
@@ -173,7 +167,7 @@ has_lines (Chain xs) fits = record {
   few = fits.0.few;
   numbers = map face_words xs;
   lines = refl;
-  each = each-is_line face_words xs (λ k d l. face-is_line (get_or xs k d) (fits.1 k d l) (fits.0.small k d l));
+  each = All-map IsLine face_words xs (λ k d l. face-is_line (get_or xs k d) (fits.1 k d l) (fits.0.small k d l));
   read = λ end n.
       ap (λ r. ok_then r (λ numbers. Ok (Chain numbers)))
       (numbers-read face_number_of is_face_above face_words end n [] xs
@@ -184,7 +178,7 @@ has_lines (Cocycle xs) fits = record {
   few = fits.0.few;
   numbers = map edge_words xs;
   lines = refl;
-  each = each-is_line edge_words xs (λ k d l. edge-is_line (get_or xs k d) (fits.1 k d l) (fits.0.small k d l));
+  each = All-map IsLine edge_words xs (λ k d l. edge-is_line (get_or xs k d) (fits.1 k d l) (fits.0.small k d l));
   read = λ end n.
       ap (λ r. ok_then r (λ numbers. Ok (Cocycle numbers)))
       (numbers-read edge_number_of is_edge_above edge_words end n [] xs

@@ -1,9 +1,9 @@
 -- The lines of a certificate, written one by one.
-use Rattle.std.proofs.Common.{◌≡◌, ℕ, List, [], ◌∷◌, ◌++◌, ◌+◌, length, take, add-one, refl, sym, ap, subst, ◌∙◌, map}
+use Rattle.std.proofs.Common.{◌≡◌, ℕ, List, [], ◌∷◌, ◌++◌, ◌+◌, length, take, sym, ap, subst, ◌∙◌, map}
 use Rattle.std.specs.Prelude.{flat_map, All, Option, Some, Result, decimal, slice_get}
-use Rattle.std.proofs.lemmas.List.Elements.{All-head, All-tail, All-cons, All-nil}
+use Rattle.std.proofs.lemmas.List.Elements.{All-more}
+use Rattle.std.proofs.lemmas.List.Folds.{flat_map-map}
 use Rattle.std.proofs.lemmas.Option.{slice_get_within, get_or_from_slice_get}
-use Rattle.std.proofs.Math.Seq.{take-suc}
 use Rattle.surf_io.specs.Gathered.{Puts}
 use Rattle.surf_io.proofs.Gathering.{only-none, gathers-none, gathers-put, puts-then, puts-same}
 use Rattle.text_scan.specs.Plain.{line_of}
@@ -17,11 +17,6 @@ face_line line = line_of (face_words line)
 abbrev pub edge_line : EdgeNumber → List ℕ
 edge_line line = line_of (edge_words line)
 
-pub flat_map-lines : {X : Type 0} (words : X → List (List ℕ)) (xs : List X)
-    → flat_map (λ x. line_of (words x)) xs ≡ flat_map line_of (map words xs)
-flat_map-lines words [] = refl
-flat_map-lines words (x ∷ xs) = ap (λ rest. line_of (words x) ++ rest) (flat_map-lines words xs)
-
 -- the head was put into a piece that held nothing, and with the lines behind it the call ends so
 pub puts_behind_head : {X V E A : Type 0} {written : X → Option (List ℕ)} {settled faults : X → ℕ} {result : Result V E} {old new : X}
     {held begun last : List ℕ} (keyword : List ℕ) (count : ℕ) (words : A → List (List ℕ)) (lines : List A) → held ≡ []
@@ -34,19 +29,12 @@ puts_behind_head {X} {V} {E} {A} {written} {settled} {faults} {result} {old} {ne
     let head : List ℕ = line_of (keyword ∷ decimal count ∷ []) in
     let put_behind : begun ≡ held ++ head = put ∙ ap (λ p. p ++ head) (sym none) in
     puts-same
-    (ap (λ t. head ++ t) (flat_map-lines words lines)
+    (ap (λ t. head ++ t) (sym (flat_map-map line_of words lines))
     ∙ ap (λ n. line_of (keyword ∷ decimal n ∷ []) ++ flat_map line_of (map words lines)) counted)
     (puts-then (gathers-put head (gathers-none old held) put_behind) (only-none settled faults old) puts)
 
 -- what holds of the first ones and of the next one holds of one more
 pub all-next : {X : Type 0} (P : X → Type 0) (xs : List X) (k : ℕ) (x : X) → All P (take k xs) → slice_get xs k ≡ Some x → P x
     → All P (take (k + 1) xs)
-all-next {X} P xs k x so_far here holds =
-    let one_more : take (k + 1) xs ≡ take k xs ++ x ∷ [] =
-    ap (λ j. take j xs) (add-one k) ∙ take-suc xs k x (slice_get_within xs k x here)
-    ∙ ap (λ m. take k xs ++ m ∷ []) (get_or_from_slice_get xs k x x here) in
-    subst (All P) (sym one_more) (push (take k xs) so_far)
-  where
-    push : (first : List X) → All P first → All P (first ++ x ∷ [])
-    push [] all = All-cons P x [] holds (All-nil P)
-    push (y ∷ first) all = All-cons P y (first ++ x ∷ []) (All-head P y first all) (push first (All-tail P y first all))
+all-next P xs k x so_far here holds =
+    All-more P xs k x (slice_get_within xs k x here) so_far (subst P (sym (get_or_from_slice_get xs k x x here)) holds)
