@@ -1,12 +1,14 @@
 -- What is first wrong with two closed walks.
 use Rattle.std.proofs.Common.{◌≡◌, ℕ, ◌<◌, List, [], ◌∷◌, length, refl, eq-eqb}
-use Rattle.std.specs.Prelude.{None, ◌==◌, slice_index}
+use Rattle.std.specs.Prelude.{None, Result, IsOk, All, ◌==◌, slice_index}
+use Rattle.std.specs.Result.{result_err}
 use Rattle.std.proofs.lemmas.Bool.{eqb-true}
 use Rattle.surf_model.specs.FaceLists.{FaceList}
 use Rattle.surf_model.specs.Walks.{darts}
+use Rattle.walk_files.specs.declared.loops.LoopFault.{LoopFault}
 use Rattle.walk_files.specs.declared.loops.LoopFault.TheVariants.{NotClosed, NotTwo}
 use Rattle.walk_files.specs.ClosedPairs.{IsClosedPair, of_entry, open_fault, loops_fault}
-use Rattle.walk_files.proofs.TwoWalkLemmas.{if_none, none_of_walks, walks_of_none}
+use Rattle.walk_files.proofs.TwoWalkLemmas.{if_none, none_of_walks, walks_of_none, two_of_none, says}
 
 -- a list ends where it starts
 abbrev Closes : List ℕ → Type 0
@@ -44,3 +46,10 @@ pub none_of_loops : (mesh : FaceList) (walks : List (List ℕ)) → IsClosedPair
 none_of_loops mesh walks pair =
     none_of_walks NotTwo of_entry open_fault mesh walks pair.first pair.second pair.two pair.first_closed.is_walk
     pair.second_closed.is_walk (no_open_fault pair.first pair.second pair.first_closed.closed pair.second_closed.closed)
+
+-- a result that says what is wrong says whether the walks are such a pair
+pub says_loops : (mesh : FaceList) (walks : List (List ℕ)) (r : Result (Unit {0}) LoopFault) → All (λ walk. 0 < length walk) walks
+    → result_err r ≡ loops_fault mesh walks → (IsOk r → IsClosedPair mesh walks) × (IsClosedPair mesh walks → IsOk r)
+says_loops mesh walks r some =
+    says (IsClosedPair mesh walks) (loops_fault mesh walks) r
+    (two_of_none NotTwo of_entry open_fault mesh walks (IsClosedPair mesh) some (loops_of_none mesh)) (none_of_loops mesh walks)

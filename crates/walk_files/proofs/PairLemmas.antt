@@ -1,12 +1,14 @@
 -- What is first wrong with two walks.
 use Rattle.std.proofs.Common.{◌≡◌, ℕ, ◌<◌, List, [], ◌∷◌, length, true, false, refl, eq-eqb}
-use Rattle.std.specs.Prelude.{None, ◌==◌, slice_index}
+use Rattle.std.specs.Prelude.{None, Result, IsOk, All, ◌==◌, slice_index}
+use Rattle.std.specs.Result.{result_err}
 use Rattle.std.proofs.lemmas.Bool.{eqb-true}
 use Rattle.surf_model.specs.FaceLists.{FaceList}
 use Rattle.surf_model.specs.Walks.{darts, HaveCommonEnds}
+use Rattle.walk_files.specs.declared.pair.PairFault.{PairFault}
 use Rattle.walk_files.specs.declared.pair.PairFault.TheVariants.{EndsDiffer, NotTwo}
 use Rattle.walk_files.specs.Pairs.{IsPair, of_entry, ends_fault, pair_fault}
-use Rattle.walk_files.proofs.TwoWalkLemmas.{if_none, none_of_walks, walks_of_none}
+use Rattle.walk_files.proofs.TwoWalkLemmas.{if_none, none_of_walks, walks_of_none, two_of_none, says}
 
 no_ends_fault : (first second : List ℕ) → HaveCommonEnds first second → ends_fault first second ≡ None
 no_ends_fault first second ends =
@@ -40,3 +42,10 @@ pub none_of_pair : (mesh : FaceList) (walks : List (List ℕ)) → IsPair mesh w
 none_of_pair mesh walks pair =
     none_of_walks NotTwo of_entry ends_fault mesh walks pair.first pair.second pair.two pair.first_walk pair.second_walk
     (no_ends_fault pair.first pair.second pair.ends)
+
+-- a result that says what is wrong says whether the walks are a pair
+pub says_pair : (mesh : FaceList) (walks : List (List ℕ)) (r : Result (Unit {0}) PairFault) → All (λ walk. 0 < length walk) walks
+    → result_err r ≡ pair_fault mesh walks → (IsOk r → IsPair mesh walks) × (IsPair mesh walks → IsOk r)
+says_pair mesh walks r some =
+    says (IsPair mesh walks) (pair_fault mesh walks) r
+    (two_of_none NotTwo of_entry ends_fault mesh walks (IsPair mesh) some (pair_of_none mesh)) (none_of_pair mesh walks)

@@ -1,6 +1,6 @@
 -- What is first wrong with walks that should come in pairs.
 use Rattle.std.proofs.Common.{◌≡◌, ℕ, zero, suc, ◌+◌, ◌*◌, ◌<◌, ◌≤◌, List, [], ◌∷◌, length, drop, Bool, true, false, cond, refl, sym, ap, subst, ◌∙◌, eq-eqb, arith}
-use Rattle.std.specs.Prelude.{Option, Some, None, Result, Ok, Err, IsOk, All, ◌==◌, not, option_map, slice_index, slice_get, if◌then◌else◌}
+use Rattle.std.specs.Prelude.{Option, Some, None, Result, IsOk, All, ◌==◌, not, option_map, slice_index, slice_get, if◌then◌else◌}
 use Rattle.std.specs.Option.{option_or}
 use Rattle.std.specs.Result.{result_err}
 use Rattle.std.proofs.lemmas.Bool.{eqb-true}
@@ -13,6 +13,7 @@ use Rattle.walk_files.specs.declared.pairs.PairsFault.TheVariants.{NotPairs, End
 use Rattle.walk_files.specs.Entries.{vertex_fault, edge_fault, first_fault, walks_fault}
 use Rattle.walk_files.specs.PairLists.{WalkPair, in_pairs, are_paired, ArePairs, of_entry, ends_fault, pairs_ends_fault, pairs_fault}
 use Rattle.walk_files.specs.WalkLists.{WalkText}
+use Rattle.walk_files.proofs.TwoWalkLemmas.{says}
 use Rattle.walk_files.proofs.EntryLemmas.{both_none, none_or, some_or, walk_of_none, no_vertex_fault, no_edge_fault}
 
 -- ---- one pair more
@@ -159,9 +160,8 @@ none_of_pairs mesh text pairs =
 -- a result that says what is wrong says whether the walks come in pairs
 pub says_pairs : (mesh : FaceList) (text : WalkText) (r : Result (Unit {0}) PairsFault) → All (λ walk. 0 < length walk) text.walks
     → result_err r ≡ pairs_fault mesh text → (IsOk r → ArePairs mesh text) × (ArePairs mesh text → IsOk r)
-says_pairs mesh text (Ok x) some says = (λ _. pairs_of_none mesh text some (sym says), λ _. refl)
-says_pairs mesh text (Err fault) some says =
-    (λ ok. cc, λ pairs. absurd (let wrong : Some fault ≡ None = says ∙ none_of_pairs mesh text pairs in cc))
+says_pairs mesh text r some =
+    says (ArePairs mesh text) (pairs_fault mesh text) r (pairs_of_none mesh text some) (none_of_pairs mesh text)
 
 -- ---- the first of the checks that fails
 

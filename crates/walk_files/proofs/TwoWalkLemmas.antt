@@ -1,8 +1,9 @@
 -- What is first wrong with two walks, of which something more is asked.
-use Rattle.std.proofs.Common.{◌≡◌, ℕ, ◌<◌, List, [], ◌∷◌, length, Bool, true, false, refl, sym, ap, subst, ◌∙◌, cond, arith}
-use Rattle.std.specs.Prelude.{Option, Some, None, Result, Ok, Err, IsOk, not, option_map, slice_get}
+use Rattle.std.proofs.Common.{◌≡◌, ℕ, ◌<◌, List, [], ◌∷◌, length, Bool, true, false, refl, sym, ap, ◌∙◌, cond, arith}
+use Rattle.std.specs.Prelude.{Option, Some, None, Result, Ok, Err, IsOk, not, option_map, slice_get, All}
 use Rattle.std.specs.Option.{option_or}
 use Rattle.std.specs.Result.{result_err}
+use Rattle.std.proofs.lemmas.List.Elements.{All-head, All-tail}
 use Rattle.surf_model.specs.FaceLists.{FaceList}
 use Rattle.surf_model.specs.Walks.{IsWalk}
 use Rattle.walk_files.specs.declared.entries.EntryFault.{EntryFault}
@@ -80,25 +81,21 @@ module _ {F : Type 0} (not_two : ℕ → F) (of_entry : EntryFault → F) (of_bo
   two_fault-two mesh (a ∷ b ∷ []) e = refl
   two_fault-two mesh (a ∷ b ∷ c ∷ rest) e = cc
 
-  -- A result that says whether something is wrong says whether the walks are such a pair.
-  pub fails_two : (mesh : FaceList) (walks : List (List ℕ)) (ArePair : Type 0) (r : Result (Unit {0}) F) (fault : F) → r ≡ Err fault
-      → result_err r ≡ fault_of mesh walks → (ArePair → fault_of mesh walks ≡ None) → (IsOk r → ArePair) × (ArePair → IsOk r)
-  fails_two mesh walks ArePair r fault is says none_of =
-      let wrong : Some fault ≡ fault_of mesh walks = ap (result_err {T = Unit {0}} {E = F}) (sym is) ∙ says in
-      (λ ok. absurd (no_ok r fault is ok), λ pair. absurd (no_fault_of wrong (none_of pair)))
-    where
-      no_ok : (r : Result (Unit {0}) F) (fault : F) → r ≡ Err fault → IsOk r → ⊥
-      no_ok (Ok x) fault is ok = cc
-      no_ok (Err e) fault is ok = cc
+  -- and lists that have entries are such a pair then, if any two of them with which nothing is wrong are one
+  pub two_of_none : (mesh : FaceList) (walks : List (List ℕ)) (ArePair : List (List ℕ) → Type 0) → All (λ walk. 0 < length walk) walks
+      → ((first second : List ℕ) → 0 < length first → 0 < length second → fault_of mesh (first ∷ second ∷ []) ≡ None
+      → ArePair (first ∷ second ∷ []))
+      → fault_of mesh walks ≡ None → ArePair walks
+  two_of_none mesh [] ArePair some of_two none = cc
+  two_of_none mesh (a ∷ []) ArePair some of_two none = cc
+  two_of_none mesh (a ∷ b ∷ []) ArePair some of_two none =
+      of_two a b (All-head (λ walk. 0 < length walk) a (b ∷ []) some)
+      (All-head (λ walk. 0 < length walk) b [] (All-tail (λ walk. 0 < length walk) a (b ∷ []) some)) none
+  two_of_none mesh (a ∷ b ∷ c ∷ rest) ArePair some of_two none = cc
 
-      no_fault_of : Some fault ≡ fault_of mesh walks → fault_of mesh walks ≡ None → ⊥
-      no_fault_of some none = cc
-
-  pub says_two : (mesh : FaceList) (walks : List (List ℕ)) (first second : List ℕ) (ArePair : List (List ℕ) → Type 0)
-      (r : Result (Unit {0}) F) → walks ≡ first ∷ second ∷ [] → result_err r ≡ fault_of mesh walks
-      → (fault_of mesh (first ∷ second ∷ []) ≡ None → ArePair (first ∷ second ∷ []))
-      → (ArePair walks → fault_of mesh walks ≡ None) → (IsOk r → ArePair walks) × (ArePair walks → IsOk r)
-  says_two mesh walks first second ArePair (Ok x) two says of_none none_of =
-      (λ _. subst ArePair (sym two) (of_none (ap (fault_of mesh) (sym two) ∙ sym says)), λ _. refl)
-  says_two mesh walks first second ArePair (Err fault) two says of_none none_of =
-      fails_two mesh walks (ArePair walks) (Err fault) fault (refl {A = Result (Unit {0}) F}) says none_of
+-- a result that says what is wrong says whether that is so which is so where nothing is wrong, and nowhere else
+pub says : {F : Type 0} (IsSo : Type 0) (wrong : Option F) (r : Result (Unit {0}) F) → (wrong ≡ None → IsSo) → (IsSo → wrong ≡ None)
+    → result_err r ≡ wrong → (IsOk r → IsSo) × (IsSo → IsOk r)
+says IsSo wrong (Ok x) of_none none_of is = (λ _. of_none (sym is), λ _. refl)
+says IsSo wrong (Err fault) of_none none_of is =
+    (λ ok. cc, λ so. absurd (let some : Some fault ≡ None = is ∙ none_of so in cc))

@@ -1,5 +1,5 @@
 //! Comparing the closed walks of a file with the mesh.
-ghost use Rattle.std.specs.Prelude.{◌≡◌, ◌↔◌, ◌<◌, length, IsOk};
+ghost use Rattle.std.specs.Prelude.{◌≡◌, ◌↔◌, IsOk};
 ghost use Rattle.std.specs.Result.{result_err};
 ghost use Rattle.surf_model.specs.FaceLists.{FaceList};
 ghost use Rattle.surf_model.specs.Edges.{IsTableOf};
@@ -53,9 +53,7 @@ impl From<EntryFault> for LoopFault {
 
 /// Compares the end of each walk with its start.
 fn check_closed(first: &Walk, second: &Walk) -> Result<(), LoopFault>
-    ensures fault { result_err result ≡ open_fault first.now second.now }
-    // What holds of every walk.
-    ensures starts { (0 < length first.now) × (0 < length second.now) }
+    ensures { result_err result ≡ open_fault first.now second.now }
 {
     let (first_end, second_end) = (first.darts(), second.darts());
     if first.at(first_end) != first.at(0) {

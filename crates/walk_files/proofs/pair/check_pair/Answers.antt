@@ -3,9 +3,9 @@ use Rattle.std.specs.Prelude.{Some}
 use Rattle.std.specs.Result.{result_err}
 use Rattle.std.proofs.lemmas.Result.{err_from_is_err_and}
 use Rattle.walk_files.specs.declared.pair.PairFault.TheVariants.{NotTwo}
-use Rattle.walk_files.specs.Pairs.{IsPair, of_entry, ends_fault}
-use Rattle.walk_files.proofs.PairLemmas.{pair_of_none, none_of_pair}
-use Rattle.walk_files.proofs.TwoWalkLemmas.{two_are, two_fault-entry, two_fault-both, fails_two, says_two}
+use Rattle.walk_files.specs.Pairs.{of_entry, ends_fault}
+use Rattle.walk_files.proofs.PairLemmas.{says_pair}
+use Rattle.walk_files.proofs.TwoWalkLemmas.{two_are, two_fault-entry, two_fault-both}
 use Rattle.walk_files.proofs.pair.check_pair.Goals as goal
 
 pub returns-in_err-check_walks-clause-fault : goal.returns-in_err-check_walks-clause-fault
@@ -17,24 +17,17 @@ returns-in_err-check_walks-clause-fault c = λ mesh table.
 
 pub returns-in_err-check_walks-clause-pair : goal.returns-in_err-check_walks-clause-pair
 returns-in_err-check_walks-clause-pair c = λ mesh table.
-    let walks = c.args.walks.now.walks in
-    let failed = err_from_is_err_and c.from_residual.result c.from_residual.ensures.1 in
-    fails_two NotTwo of_entry ends_fault mesh walks (IsPair mesh walks) c.from_residual.result failed.0 failed.1
-    (returns-in_err-check_walks-clause-fault c mesh table) (none_of_pair mesh walks)
+    says_pair mesh c.args.walks.now.walks c.from_residual.result c.len-count.ensures.filled
+    (returns-in_err-check_walks-clause-fault c mesh table)
 
 pub returns-clause-fault : goal.returns-clause-fault
 returns-clause-fault c = λ mesh table.
     let walks = c.args.walks.now.walks in
     let two = two_are walks c.at.result.now c.at-2.result.now (sym c.len-count.ensures.count ∙ c.if-count-ne2.false) c.at.ensures
     c.at-2.ensures in
-    c.check_ends.ensures.fault
+    c.check_ends.ensures
     ∙ two_fault-both NotTwo of_entry ends_fault mesh walks c.at.result.now c.at-2.result.now two (c.in_ok-check_walks.ensures mesh table)
 
 pub returns-clause-pair : goal.returns-clause-pair
 returns-clause-pair c = λ mesh table.
-    let walks = c.args.walks.now.walks in
-    let first = c.at.result.now in
-    let second = c.at-2.result.now in
-    let two = two_are walks first second (sym c.len-count.ensures.count ∙ c.if-count-ne2.false) c.at.ensures c.at-2.ensures in
-    says_two NotTwo of_entry ends_fault mesh walks first second (IsPair mesh) c.check_ends.result two (returns-clause-fault c mesh table)
-    (pair_of_none mesh first second c.check_ends.ensures.starts.0 c.check_ends.ensures.starts.1) (none_of_pair mesh walks)
+    says_pair mesh c.args.walks.now.walks c.check_ends.result c.len-count.ensures.filled (returns-clause-fault c mesh table)
