@@ -94,6 +94,7 @@ impl<'a> CertReader<'a> {
             }
         }
     }
+
     /// The denial that all lines behind the head are, or the first fault among them. Memory is taken for what was read
     /// alone, and none by the degree in the head.
     pub fn denial(&mut self, alloc: Global) -> Result<Denial, CertFault>

@@ -56,7 +56,7 @@ impl<'a> Model for WordReader<'a> {
 }
 
 impl<'a> WordReader<'a> {
-    ghost use Rattle.std.specs.Prelude.{◌<◌, ◌≤◌, [], if◌then◌else◌, IfOk, length};
+    ghost use Rattle.std.specs.Prelude.{◌<◌, ◌≤◌, [], false, if◌then◌else◌, IfOk, length};
     ghost use Rattle.text_scan.specs.Each.{ok_first};
 
     /// The beginning of a text. It takes no memory.
@@ -71,12 +71,13 @@ impl<'a> WordReader<'a> {
         }
     }
 
-    /// Reads the next turn word. `false` where there is none.
+    /// Reads the next turn word. `false` where there is none, and then nothing changes. Behind a fault nothing is told of what comes.
     pub fn next_word(&mut self) -> Result<bool, WalkFault>
         ensures word { MatchResult result
             (λ more. self.old.left ≡ (if more then ok_first (Ok self.new.present) self.new.left else Ok []))
             (λ fault. (self.old.left ≡ Err fault) ⊎ (fault ≡ OutOfMemory)) }
         ensures fewer { IfOk result (λ more. IsTrue more → self.new.lines < self.old.lines) }
+        ensures end { IfOk result (λ more. more ≡ false → self.new ≡ self.old) }
     {
         if !self.cursor.find_line() {
             return Ok(false);
