@@ -30,22 +30,15 @@ answer_of-tests [] = refl
 answer_of-tests (word ∷ []) = one_word (bytes_eq word (codes "homotopic")) (bytes_eq word (codes "different"))
 answer_of-tests (word ∷ next ∷ line) = more_words (bytes_eq word (codes "homotopic")) (bytes_eq word (codes "different"))
 
--- the line is the first answer, the second, or none
+-- the line is the first answer
 pub homotopic-line : (line : List (List ℕ)) → true ≡ are_words line (words_here (codes "homotopic")) → Some Homotopic ≡ answer_of line
 homotopic-line line is = ap (λ b. by_tests b (are_words line (words_here (codes "different")))) is ∙ sym (answer_of-tests line)
 
-pub different-line : (old next : Unread) → false ≡ are_words old.words (words_here (codes "homotopic")) → next ≡ old
-    → true ≡ are_words next.words (words_here (codes "different")) → Some Different ≡ answer_of old.words
-different-line old next other same is =
-    ap (λ b. by_tests b true) other
-    ∙ ap (by_tests (are_words old.words (words_here (codes "homotopic"))))
-    (is ∙ ap (λ (u : Unread). are_words u.words (words_here (codes "different"))) same)
-    ∙ sym (answer_of-tests old.words)
-
-pub no_answer-line : (old next : Unread) → false ≡ are_words old.words (words_here (codes "homotopic")) → next ≡ old
-    → false ≡ are_words next.words (words_here (codes "different")) → None ≡ answer_of old.words
-no_answer-line old next other same is =
-    ap (λ b. by_tests b false) other
+-- or it is not, and the second one or none
+pub other-line : (old next : Unread) (b : Bool) → false ≡ are_words old.words (words_here (codes "homotopic")) → next ≡ old
+    → b ≡ are_words next.words (words_here (codes "different")) → by_tests false b ≡ answer_of old.words
+other-line old next b other same is =
+    ap (λ x. by_tests x b) other
     ∙ ap (by_tests (are_words old.words (words_here (codes "homotopic"))))
     (is ∙ ap (λ (u : Unread). are_words u.words (words_here (codes "different"))) same)
     ∙ sym (answer_of-tests old.words)

@@ -1,14 +1,14 @@
 -- The parts of a denial that are written one after another.
-use Rattle.std.proofs.Common.{◌≡◌, ℕ, zero, suc, ◌+◌, ◌-◌, ◌^◌, ◌<◌, ◌≤◌, false, get_or, List, [], ◌∷◌, ◌++◌, length, take, drop, add-one, refl, sym, ap, subst, ◌∙◌, append_assoc, inl, inr, arith}
-use Rattle.std.specs.Prelude.{Some, map, flat_map, slice_get, slice_index, decimal, All}
-use Rattle.std.proofs.lemmas.List.Elements.{All-head, All-tail, All-cons, All-nil}
-use Rattle.std.proofs.Math.Seq.{take-suc}
+use Rattle.std.proofs.Common.{◌≡◌, ℕ, zero, suc, ◌+◌, ◌-◌, ◌^◌, ◌<◌, ◌≤◌, false, get_or, List, [], ◌∷◌, ◌++◌, length, drop, refl, sym, ap, ◌∙◌, append_assoc, inl, inr, arith}
+use Rattle.std.specs.Prelude.{Some, map, flat_map, slice_get, slice_index, decimal}
+use Rattle.std.proofs.lemmas.List.Elements.{All-cons, All-nil}
 use Rattle.std.proofs.Math.Nat.{eq-or-lt_of_le}
 use Rattle.turn_words.specs.declared.word.Word.{Word}
 use Rattle.turn_words.specs.declared.word.Word.TheVariants.{Turns, Flat}
 use Rattle.std.proofs.lemmas.List.{append-nil}
 use Rattle.std.proofs.lemmas.List.Concat.{flat_map-append}
-use Rattle.std.proofs.lemmas.Option.{slice_get-get_or, slice_get_within, get_or_from_slice_get}
+use Rattle.std.proofs.lemmas.List.Folds.{flat_map-map}
+use Rattle.std.proofs.lemmas.Option.{slice_get-get_or}
 use Rattle.surf_model.specs.Surfaces.{is_flipped}
 use Rattle.labellings.specs.Labellings.{FaceLabels, LabellingView, labels_at, signs_of}
 use Rattle.labellings.specs.declared.denial.Denial.{Denial}
@@ -59,13 +59,8 @@ denial_text-parts denial =
     append_assoc head (faces ++ places) (first ++ second)
     ∙ ap (λ t. head ++ t)
     (append_assoc faces places (first ++ second) ∙ ap (λ t. faces ++ (places ++ (first ++ t))) (sym (append-nil second))
-    ∙ ap (λ t. t ++ (places ++ (first ++ (second ++ [])))) (sym (flat_map-faces denial.labelling.faces))
+    ∙ ap (λ t. t ++ (places ++ (first ++ (second ++ [])))) (sym (flat_map-map line_of face_words denial.labelling.faces))
     ∙ sym (flat_map-append line_of (map face_words denial.labelling.faces) (lines_behind_faces denial)))
-  where
-    flat_map-faces : (faces : List FaceLabels)
-        → flat_map line_of (map face_words faces) ≡ flat_map (λ (face : FaceLabels). line_of (face_words face)) faces
-    flat_map-faces [] = refl
-    flat_map-faces (face ∷ faces) = ap (λ t. line_of (face_words face) ++ t) (flat_map-faces faces)
 
 -- ---- numbers
 
@@ -90,23 +85,6 @@ pub small_at_each : (numbers : List ℕ) → ((j : ℕ) → j < length numbers �
 small_at_each [] small = All-nil (λ n. n < 2 ^ 32)
 small_at_each (n ∷ numbers) small =
     All-cons (λ m. m < 2 ^ 32) n numbers (small 0 (omega arith)) (small_at_each numbers (λ j less. small (suc j) (omega (arith, less))))
-
--- one face more has small labels
-pub faces_more : (faces : List FaceLabels) (k : ℕ) (face : FaceLabels) → All (λ f. AreNumbers f.labels) (take k faces) → slice_get faces k
-    ≡ Some face
-    → AreNumbers face.labels → All (λ f. AreNumbers f.labels) (take (k + 1) faces)
-faces_more faces k face so_far here small =
-    let one_more : take (k + 1) faces ≡ take k faces ++ face ∷ [] =
-    ap (λ j. take j faces) (add-one k) ∙ take-suc faces k face (slice_get_within faces k face here)
-    ∙ ap (λ f. take k faces ++ f ∷ []) (get_or_from_slice_get faces k face face here) in
-    subst (All (λ (f : FaceLabels). AreNumbers f.labels)) (sym one_more) (push (take k faces) so_far)
-  where
-    push : (first : List FaceLabels) → All (λ f. AreNumbers f.labels) first → All (λ f. AreNumbers f.labels) (first ++ face ∷ [])
-    push [] all = All-cons (λ (f : FaceLabels). AreNumbers f.labels) face [] small (All-nil (λ (f : FaceLabels). AreNumbers f.labels))
-    push (f ∷ first) all =
-        All-cons (λ (f : FaceLabels). AreNumbers f.labels) f (first ++ face ∷ [])
-        (All-head (λ (f : FaceLabels). AreNumbers f.labels) f first all)
-        (push first (All-tail (λ (f : FaceLabels). AreNumbers f.labels) f first all))
 
 -- one entry more is small
 pub below_next : (word : List ℕ) (k n : ℕ) → ((j : ℕ) → 0 < j → j < k → slice_index word j < 2 ^ 32) → n ≡ slice_index word k → n < 2 ^ 32

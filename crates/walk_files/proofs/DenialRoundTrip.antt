@@ -6,7 +6,7 @@ use Rattle.std.specs.Str.{bytes_eq}
 use Rattle.std.specs.List.{list_all}
 use Rattle.std.proofs.lemmas.Bool.{and_parts, ne_eqb}
 use Rattle.std.proofs.lemmas.List.{append-nil}
-use Rattle.std.proofs.lemmas.List.Elements.{All-head, All-tail, All-cons, All-nil}
+use Rattle.std.proofs.lemmas.List.Elements.{All-head, All-tail, All-cons, All-nil, All-append, All-map, All-weaker}
 use Rattle.text_scan.specs.Lines.{unmarked, lines_from, full_lines, end_line}
 use Rattle.text_scan.specs.Numbers.{is_digit}
 use Rattle.text_scan.specs.Plain.{line_of}
@@ -126,17 +126,17 @@ faces-read end n denial done (face ∷ faces) back small whole =
 
 -- ---- the whole text
 
-faces-lines : (denial : Denial) (faces : List FaceLabels) → ReadsBack denial → All (λ face. AreNumbers face.labels) faces
-    → All IsLine (map face_words faces ++ lines_behind_faces denial)
-faces-lines denial [] back small =
-    All-cons IsLine (places_words denial.labelling.places) (word_words denial.first ∷ word_words denial.second ∷ [])
+faces-lines : (denial : Denial) → ReadsBack denial → All IsLine (map face_words denial.labelling.faces ++ lines_behind_faces denial)
+faces-lines denial back =
+    let faces : List FaceLabels = denial.labelling.faces in
+    All-append IsLine (map face_words faces) (lines_behind_faces denial)
+    (All-map IsLine face_words faces
+    (All-weaker (λ (face : FaceLabels). AreNumbers face.labels) (λ (face : FaceLabels). IsLine (face_words face)) face-line faces
+    back.labels))
+    (All-cons IsLine (places_words denial.labelling.places) (word_words denial.first ∷ word_words denial.second ∷ [])
     (places-line denial.labelling.places back.places)
     (All-cons IsLine (word_words denial.first) (word_words denial.second ∷ []) (word-line denial.labelling.degree denial.first back.first)
-    (All-cons IsLine (word_words denial.second) [] (word-line denial.labelling.degree denial.second back.second) (All-nil IsLine)))
-faces-lines denial (face ∷ faces) back small =
-    All-cons IsLine (face_words face) (map face_words faces ++ lines_behind_faces denial)
-    (face-line face (All-head (λ (f : FaceLabels). AreNumbers f.labels) face faces small))
-    (faces-lines denial faces back (All-tail (λ (f : FaceLabels). AreNumbers f.labels) face faces small))
+    (All-cons IsLine (word_words denial.second) [] (word-line denial.labelling.degree denial.second back.second) (All-nil IsLine))))
 
 head-line : (degree : ℕ) → degree < 2 ^ 32 → IsLine (labels_head_words degree)
 head-line degree fits = record {
@@ -161,7 +161,7 @@ full_lines-denial_text denial back =
     ap (lines_from 1) (unmarked-denial_text denial)
     ∙ lines_from-written 1 (denial_lines denial)
     (All-cons IsLine (labels_head_words denial.labelling.degree) (map face_words denial.labelling.faces ++ lines_behind_faces denial)
-    (head-line denial.labelling.degree back.degree) (faces-lines denial denial.labelling.faces back back.labels))
+    (head-line denial.labelling.degree back.degree) (faces-lines denial back))
 
 pub denial_of_text-denial_text : (denial : Denial) → ReadsBack denial → denial_of_text (denial_text denial) ≡ Some (Ok denial)
 denial_of_text-denial_text denial back =
@@ -204,7 +204,7 @@ full_lines-answered denial back =
     ∙ lines_from-written 1 (answer_words ∷ denial_lines denial)
     (All-cons IsLine answer_words (denial_lines denial) answer-line
     (All-cons IsLine (labels_head_words denial.labelling.degree) behind (head-line denial.labelling.degree back.degree)
-    (faces-lines denial denial.labelling.faces back back.labels)))
+    (faces-lines denial back)))
 
 pub denial_of_text-answered : (denial : Denial) → ReadsBack denial → denial_of_text (answered_text denial) ≡ Some (Ok denial)
 denial_of_text-answered denial back =

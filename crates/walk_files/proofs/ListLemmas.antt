@@ -1,9 +1,17 @@
--- Lists of numbers that lie one after another.
-use Rattle.std.proofs.Common.{◌≡◌, ℕ, ◌-◌, ◌≤◌, List, [], ◌∷◌, ◌++◌, length, take, drop, refl, ap, ◌∙◌, arith}
+-- Lists: one element more, and lists of numbers that lie one after another.
+use Rattle.std.proofs.Common.{◌≡◌, ℕ, ◌+◌, ◌-◌, ◌≤◌, List, [], ◌∷◌, ◌++◌, length, take, drop, refl, sym, ap, subst, ◌∙◌, arith}
+use Rattle.std.specs.Prelude.{All, Some, slice_get}
 use Rattle.std.proofs.lemmas.List.{drop-append-le, take-append-le, length-drop}
-use Rattle.std.proofs.lemmas.List.Elements.{All-head, All-tail}
+use Rattle.std.proofs.lemmas.List.Elements.{All-head, All-tail, All-more}
+use Rattle.std.proofs.lemmas.Option.{slice_get_within, get_or_from_slice_get}
 use Rattle.walk_files.specs.declared.number_lines.Place.{Place}
 use Rattle.walk_files.specs.NumberLists.{list_at, stored_lists, AreWithin}
+
+-- what holds of the first ones and of the next one holds of one more
+pub all-next : {X : Type 0} (P : X → Type 0) (xs : List X) (k : ℕ) (x : X) → All P (take k xs) → slice_get xs k ≡ Some x → P x
+    → All P (take (k + 1) xs)
+all-next P xs k x so_far here holds =
+    All-more P xs k x (slice_get_within xs k x here) so_far (subst P (sym (get_or_from_slice_get xs k x x here)) holds)
 
 -- a place among the numbers
 abbrev IsWithin : List ℕ → Place → Type 0

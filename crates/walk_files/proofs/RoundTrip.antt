@@ -2,7 +2,7 @@
 use Rattle.std.proofs.Common.{◌≡◌, ℕ, ◌+◌, ◌-◌, ◌^◌, ◌<◌, eqb, Bool, true, false, List, [], ◌∷◌, ◌++◌, length, map, refl, ap, ◌∙◌, arith}
 use Rattle.std.specs.Prelude.{Some, None, Ok, decimal, codes, All}
 use Rattle.std.proofs.lemmas.Bool.{le-ltb, ne_eqb}
-use Rattle.std.proofs.lemmas.List.Elements.{All-head, All-tail, All-cons, All-nil}
+use Rattle.std.proofs.lemmas.List.Elements.{All-head, All-tail, All-cons, All-map, All-weaker}
 use Rattle.text_scan.specs.Lines.{unmarked, lines_from, full_lines, end_line}
 use Rattle.text_scan.specs.Plain.{line_of}
 use Rattle.surf_model.specs.Moves.{PeakedMoves}
@@ -48,10 +48,8 @@ move-is_line (Across at face corner forward taken) fits = record {
 }
 
 moves-are_lines : (moves : List Move) → All MoveFits moves → All IsLine (map move_words moves)
-moves-are_lines [] all = All-nil IsLine
-moves-are_lines (move ∷ moves) all =
-    All-cons IsLine (move_words move) (map move_words moves) (move-is_line move (All-head MoveFits move moves all))
-    (moves-are_lines moves (All-tail MoveFits move moves all))
+moves-are_lines moves all =
+    All-map IsLine move_words moves (All-weaker MoveFits (λ (move : Move). IsLine (move_words move)) move-is_line moves all)
 
 head-is_line : (list : PeakedMoves) → FitsFormat list → IsLine (head_words list)
 head-is_line list fits = record {

@@ -1,4 +1,5 @@
-use Rattle.walk_files.proofs.AnswerLines.{homotopic-line, different-line, no_answer-line}
+use Rattle.std.proofs.Common.{true, false}
+use Rattle.walk_files.proofs.AnswerLines.{homotopic-line, other-line}
 use Rattle.walk_files.proofs.certificate.pass_answer.Goals as goal
 
 pub returns-then-pass_words-clause-answer : goal.returns-then-pass_words-clause-answer
@@ -6,10 +7,10 @@ returns-then-pass_words-clause-answer c = homotopic-line c.args.cursor.now.words
 
 pub returns-then-pass_words-2-clause-answer : goal.returns-then-pass_words-2-clause-answer
 returns-then-pass_words-2-clause-answer c =
-    different-line c.args.cursor.now c.pass_words.new.self c.if-pass_words.ensures.answer c.if-pass_words.ensures.place
+    other-line c.args.cursor.now c.pass_words.new.self true c.if-pass_words.ensures.answer c.if-pass_words.ensures.place
     c.if-pass_words-2.ensures.answer
 
 pub returns-else-pass_words-2-clause-answer : goal.returns-else-pass_words-2-clause-answer
 returns-else-pass_words-2-clause-answer c =
-    no_answer-line c.args.cursor.now c.pass_words.new.self c.if-pass_words.ensures.answer c.if-pass_words.ensures.place
+    other-line c.args.cursor.now c.pass_words.new.self false c.if-pass_words.ensures.answer c.if-pass_words.ensures.place
     c.if-pass_words-2.ensures.answer

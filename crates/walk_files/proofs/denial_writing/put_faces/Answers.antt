@@ -9,7 +9,8 @@ use Rattle.labellings.specs.Labellings.{FaceLabels, signs_of}
 use Rattle.text_scan.specs.Plain.{line_of}
 use Rattle.surf_io.proofs.Gathering.{puts-same, each-none, each-more, each-fails, each-all}
 use Rattle.walk_files.specs.DenialTexts.{sign_word, face_words, AreNumbers}
-use Rattle.walk_files.proofs.DenialParts.{face_of_labelling, faces_more}
+use Rattle.walk_files.proofs.DenialParts.{face_of_labelling}
+use Rattle.walk_files.proofs.ListLemmas.{all-next}
 use Rattle.walk_files.proofs.denial_writing.put_faces.Goals as goal
 
 pub loop-k-init : goal.loop-k-init
@@ -37,7 +38,7 @@ loop-k-preserved g c =
     let puts = puts-same line c.in_ok-put_line.ensures.puts in
     let small = subst AreNumbers c.labels.ensures c.put_line.ensures.numbers in (
       each-more c.loop-k.invariant.0 here puts.ok puts.only_writes,
-      faces_more c.args.labelling.now.faces c.loop-k.k _ c.loop-k.invariant.1 here small,
+      all-next (λ (face : FaceLabels). AreNumbers face.labels) c.args.labelling.now.faces c.loop-k.k _ c.loop-k.invariant.1 here small,
     )
 
 pub returns-clause-puts : goal.returns-clause-puts
