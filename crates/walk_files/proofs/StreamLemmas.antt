@@ -1,7 +1,7 @@
 -- The lines of a certificate that is read in pieces.
 use Rattle.std.proofs.Common.{◌≡◌, ◌⊎◌, ℕ, ◌+◌, ◌-◌, ◌<◌, ◌≤◌, ◌==◌, Bool, true, false, cond, List, [], ◌∷◌, length, drop, inl, inr, refl, sym, ap, subst, ◌∙◌, arith, drop-drop}
 use Rattle.std.proofs.lemmas.List.{length-drop}
-use Rattle.std.specs.Prelude.{Option, Some, None, Result, Ok, Err, IfNone, IfSome, MatchOption, option_map}
+use Rattle.std.specs.Prelude.{Option, Some, None, Result, Ok, Err, OnOk, IfNone, IfSome, MatchOption, option_map}
 use Rattle.std.specs.Option.{ok_or}
 use Rattle.text_scan.specs.Lines.{Line, is_filled, cut, unmarked, lines_from, full_lines, end_line}
 use Rattle.text_scan.specs.Unread.{Unread, lines_left, at_line}
@@ -20,7 +20,7 @@ use Rattle.walk_files.specs.Readers.{count_in, next_of, next_on, next_answer, li
 use Rattle.walk_files.specs.declared.certificate.Answer.{Answer}
 use Rattle.walk_files.specs.declared.certificate.CertHead.{CertHead}
 use Rattle.walk_files.specs.StreamEnds.{end_of_piece}
-use Rattle.walk_files.specs.Streams.{Streamed, reader_at, streams_list, IsIn, Belongs, IsAnswer, IsWithin, end_behind}
+use Rattle.walk_files.specs.Streams.{Streamed, reader_at, streams_list, IsIn, Belongs, IsAnswer, IsWithin, end_behind, after_move}
 use Rattle.walk_files.proofs.SameGrammar.{move_same, head_same}
 
 -- ---- the short line
@@ -232,32 +232,22 @@ LeavesLines old next file = Reads old.reading file →
 abbrev pub Answers : Streamed → Streamed → Result (Option Move) StreamEnd → List ℕ → Type 0
 Answers old new result file = IsIn old file → IsAnswer result (next_answer (reader_at old file)) × Belongs new file
 
-pub gives_move : (file : Option (List ℕ)) (old : Streamed) (next : LinesReading) (to_come : ℕ) (mv : Move) → streams_list old ≡ true
-    → to_come ≡ count_in old.head - old.given → IfSome file (ReadsNext old next to_come (Ok (Some mv)))
-    → IfSome file (λ f. Reads old.lines.reading f → Reads next.reading f) → IfSome file (LeavesLines old.lines next)
-    → IfSome file (Answers old (record old { lines = next; given = old.given + 1 }) (Ok (Some mv)))
-gives_move None old next to_come mv moves count reads on leaves = tt
-gives_move (Some f) old next to_come mv moves count reads on leaves = λ is. (
+-- it is that of the reader, and the stream behind it belongs to the file
+pub gives_answer : (file : Option (List ℕ)) (old : Streamed) (next : LinesReading) (to_come : ℕ) (result : Result (Option Move) StreamEnd)
+    → streams_list old ≡ true → to_come ≡ count_in old.head - old.given → IfSome file (ReadsNext old next to_come result)
+    → OnOk result (IfSome file (λ f. Reads old.lines.reading f → Reads next.reading f)) → OnOk result (IfSome file (LeavesLines old.lines next))
+    → IfSome file (Answers old (record (after_move old result) { lines = next }) result)
+gives_answer None old next to_come result moves count reads on leaves = tt
+gives_answer (Some f) old next to_come (Ok (Some mv)) moves count reads on leaves = λ is. (
   sym (gives old f to_come is moves count) ∙ reads is.reads,
   λ none. is_in-more old f next is moves (on is.reads) (leaves is.reads).0 (leaves is.reads).1 (leaves is.reads).2,
 )
-
-pub gives_none : (file : Option (List ℕ)) (old : Streamed) (next : LinesReading) (to_come : ℕ) → streams_list old ≡ true
-    → to_come ≡ count_in old.head - old.given → IfSome file (ReadsNext old next to_come (Ok None))
-    → IfSome file (λ f. Reads old.lines.reading f → Reads next.reading f) → IfSome file (LeavesLines old.lines next)
-    → IfSome file (Answers old (record old { lines = next }) (Ok None))
-gives_none None old next to_come moves count reads on leaves = tt
-gives_none (Some f) old next to_come moves count reads on leaves = λ is.
+gives_answer (Some f) old next to_come (Ok None) moves count reads on leaves = λ is.
     let answer : next_answer (reader_at old f) ≡ Ok None = sym (gives old f to_come is moves count) ∙ reads is.reads in (
       answer,
       λ none. is_in-same old f next is moves (on is.reads) (leaves is.reads).0 (leaves is.reads).1 (leaves is.reads).2 answer,
     )
-
-pub gives_end : (file : Option (List ℕ)) (old : Streamed) (next : LinesReading) (to_come : ℕ) (end : StreamEnd) → streams_list old ≡ true
-    → to_come ≡ count_in old.head - old.given → IfSome file (ReadsNext old next to_come (Err end))
-    → IfSome file (Answers old (record old { lines = next; refusal = Some end }) (Err end))
-gives_end None old next to_come end moves count reads = tt
-gives_end (Some f) old next to_come end moves count reads = λ is. (
+gives_answer (Some f) old next to_come (Err end) moves count reads on leaves = λ is. (
   subst (IsAnswer (Err end)) (gives old f to_come is moves count) (reads is.reads),
   λ none. cc,
 )

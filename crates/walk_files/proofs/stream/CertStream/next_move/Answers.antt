@@ -1,71 +1,51 @@
-use Rattle.std.proofs.Common.{◌≡◌, ◌+◌, ◌-◌, ℕ, List, Option, true, sym, ap, subst, ◌∙◌}
-use Rattle.std.specs.Prelude.{Some, None, Result, Ok, Err, IfSome}
+use Rattle.std.proofs.Common.{◌≡◌, ◌-◌, ℕ, List, Option, true, sym, ap, subst, ◌∙◌}
+use Rattle.std.specs.Prelude.{Some, None, Result, Ok, Err, IfSome, OnOk}
 use Rattle.surf_io.specs.Files.{file_of}
 use Rattle.surf_model.specs.declared.moves.Move.{Move}
+use Rattle.file_pieces.specs.Reading.{Reads}
 use Rattle.walk_files.specs.declared.stream_end.StreamEnd.{StreamEnd}
+use Rattle.walk_files.specs.declared.stream.CertStream.TheInside.{Inside}
 use Rattle.walk_files.specs.Readers.{count_in}
-use Rattle.walk_files.specs.Streams.{Streamed, streams_list}
-use Rattle.walk_files.proofs.StreamLemmas.{ReadsNext, Answers, gives_move, gives_none, gives_end}
+use Rattle.walk_files.specs.Streams.{Streamed, streams_list, after_move}
+use Rattle.walk_files.proofs.StreamLemmas.{ReadsNext, LeavesLines, Answers, gives_answer}
 use Rattle.walk_files.proofs.stream.CertStream.next_move.Goals as goal
+use Rattle.walk_files.proofs.stream.CertStream.next_move.Goals.{After-read_next_move}
+
+-- what a caller sees of a stream
+abbrev seen : Inside → Streamed
+seen a = record { lines = a.lines; head = a.head; given = a.given; denied = a.denied; refusal = a.refusal }
+
+-- what the lines gave is the answer
+answered : (g : _) (c : After-read_next_move g) (result : Result (Option Move) StreamEnd) → c.read_next_move.result ≡ result
+    → IfSome (file_of (g.S.Shelf.held c.args.shelf.now) c.args.name.now)
+    (Answers c.args.self.now (record (after_move (seen c.self.inside) result) { lines = c.read_next_move.new.lines }) result)
+answered g c result is =
+    let old : Streamed = seen c.self.inside in
+    let file : Option (List ℕ) = file_of (g.S.Shelf.held c.args.shelf.now) c.args.name.now in
+    let to_come : ℕ = c.saturating_sub-to_come.result in
+    let count : to_come ≡ count_in old.head - old.given =
+    c.saturating_sub-to_come.ensures ∙ ap (λ n. n - old.given) c.count.ensures in
+    let moves : streams_list old ≡ true = subst (λ (s : Streamed). streams_list s ≡ true) (sym c.self.view_is) c.requires in
+    let Says : Result (Option Move) StreamEnd → Type 0 = λ r. IfSome file (ReadsNext old c.read_next_move.new.lines to_come r)
+    × OnOk r (IfSome file (λ (f : List ℕ). Reads old.lines.reading f → Reads c.read_next_move.new.lines.reading f))
+    × OnOk r (IfSome file (LeavesLines old.lines c.read_next_move.new.lines)) in
+    let says : Says result =
+    subst Says is (c.read_next_move.ensures.answer, c.read_next_move.ensures.reads, c.read_next_move.ensures.left) in
+    subst (λ (s : Streamed). IfSome file (Answers s (record (after_move old result) { lines = c.read_next_move.new.lines }) result))
+    c.self.view_is
+    (gives_answer file old c.read_next_move.new.lines to_come result moves count says.0 says.1 says.2)
 
 pub returns-in-Ok-Some-clause-answer : goal.returns-in-Ok-Some-clause-answer
 returns-in-Ok-Some-clause-answer g c = λ unrefused.
-    let i = c.self.inside in
-    let old : Streamed = record { lines = i.lines; head = i.head; given = i.given; denied = i.denied; refusal = i.refusal } in
-    let new : Streamed =
-    record { lines = c.read_next_move.new.lines; head = i.head; given = i.given + 1; denied = i.denied; refusal = i.refusal } in
-    let file : Option (List ℕ) = file_of (g.S.Shelf.held c.args.shelf.now) c.args.name.now in
-    let answer : Result (Option Move) StreamEnd = Ok (Some c.in-Ok-Some.mv) in
-    let same : c.read_next_move.result ≡ answer = c.in-Ok-Some.is ∙ ap Ok c.in-Ok-Some.field-0-is in
-    let count : c.saturating_sub-to_come.result ≡ count_in i.head - i.given =
-    c.saturating_sub-to_come.ensures ∙ ap (λ n. n - i.given) c.count.ensures in
-    let moves : streams_list old ≡ true = subst (λ (s : Streamed). streams_list s ≡ true) (sym c.self.view_is) c.requires in
-    let read : IfSome file (ReadsNext old c.read_next_move.new.lines c.saturating_sub-to_come.result answer) =
-    subst (λ (r : Result (Option Move) StreamEnd). IfSome file
-    (ReadsNext old c.read_next_move.new.lines c.saturating_sub-to_come.result r)) same
-    c.read_next_move.ensures.answer in
-    subst (λ (s : Streamed). IfSome file (Answers s new answer)) c.self.view_is
-    (gives_move file old c.read_next_move.new.lines c.saturating_sub-to_come.result c.in-Ok-Some.mv moves count
-    read c.in-Ok-Some.ensures.reads c.in-Ok-Some.ensures.left)
+    let at = goal.at.returns-in-Ok-Some-clause-answer g c in
+    answered g at.After-read_next_move (Ok (Some c.in-Ok-Some.mv)) (c.in-Ok-Some.is ∙ ap Ok c.in-Ok-Some.field-0-is)
 
 pub returns-in-Ok-None-clause-answer : goal.returns-in-Ok-None-clause-answer
 returns-in-Ok-None-clause-answer g c = λ unrefused.
-    let i = c.self.inside in
-    let old : Streamed = record { lines = i.lines; head = i.head; given = i.given; denied = i.denied; refusal = i.refusal } in
-    let new : Streamed =
-    record { lines = c.read_next_move.new.lines; head = i.head; given = i.given; denied = i.denied; refusal = i.refusal } in
-    let file : Option (List ℕ) = file_of (g.S.Shelf.held c.args.shelf.now) c.args.name.now in
-    let answer : Result (Option Move) StreamEnd = Ok None in
-    let same : c.read_next_move.result ≡ answer = c.in-Ok-None.is ∙ ap Ok c.in-Ok-None.field-0-is in
-    let count : c.saturating_sub-to_come.result ≡ count_in i.head - i.given =
-    c.saturating_sub-to_come.ensures ∙ ap (λ n. n - i.given) c.count.ensures in
-    let moves : streams_list old ≡ true = subst (λ (s : Streamed). streams_list s ≡ true) (sym c.self.view_is) c.requires in
-    let read : IfSome file (ReadsNext old c.read_next_move.new.lines c.saturating_sub-to_come.result answer) =
-    subst (λ (r : Result (Option Move) StreamEnd). IfSome file
-    (ReadsNext old c.read_next_move.new.lines c.saturating_sub-to_come.result r)) same
-    c.read_next_move.ensures.answer in
-    subst (λ (s : Streamed). IfSome file (Answers s new answer)) c.self.view_is
-    (gives_none file old c.read_next_move.new.lines c.saturating_sub-to_come.result moves count
-    read c.in-Ok-None.ensures.reads c.in-Ok-None.ensures.left)
+    let at = goal.at.returns-in-Ok-None-clause-answer g c in
+    answered g at.After-read_next_move (Ok None) (c.in-Ok-None.is ∙ ap Ok c.in-Ok-None.field-0-is)
 
 pub returns-in-Err-clause-answer : goal.returns-in-Err-clause-answer
 returns-in-Err-clause-answer g c = λ unrefused.
-    let i = c.self.inside in
-    let old : Streamed = record { lines = i.lines; head = i.head; given = i.given; denied = i.denied; refusal = i.refusal } in
-    let new : Streamed = record {
-      lines = c.read_next_move.new.lines;
-      head = i.head;
-      given = i.given;
-      denied = i.denied;
-      refusal = Some c.in-Err.«end»;
-    } in
-    let file : Option (List ℕ) = file_of (g.S.Shelf.held c.args.shelf.now) c.args.name.now in
-    let answer : Result (Option Move) StreamEnd = Err c.in-Err.«end» in
-    let count : c.saturating_sub-to_come.result ≡ count_in i.head - i.given =
-    c.saturating_sub-to_come.ensures ∙ ap (λ n. n - i.given) c.count.ensures in
-    let moves : streams_list old ≡ true = subst (λ (s : Streamed). streams_list s ≡ true) (sym c.self.view_is) c.requires in
-    let read : IfSome file (ReadsNext old c.read_next_move.new.lines c.saturating_sub-to_come.result answer) =
-    subst (λ (r : Result (Option Move) StreamEnd). IfSome file (ReadsNext old c.read_next_move.new.lines c.saturating_sub-to_come.result r))
-    c.in-Err.is c.read_next_move.ensures.answer in
-    subst (λ (s : Streamed). IfSome file (Answers s new answer)) c.self.view_is
-    (gives_end file old c.read_next_move.new.lines c.saturating_sub-to_come.result c.in-Err.«end» moves count read)
+    let at = goal.at.returns-in-Err-clause-answer g c in
+    answered g at.After-read_next_move (Err c.in-Err.«end») c.in-Err.is
