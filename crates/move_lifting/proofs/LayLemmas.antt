@@ -1,6 +1,6 @@
 -- Walks laid without spurs, up to spurs.
 use Rattle.std.proofs.Common.{◌≡◌, ◌≢◌, inr, ℕ, ◌+◌, ◌-◌, ◌<◌, List, [], ◌∷◌, ◌++◌, length, take, drop, get_or, ap, sym, ◌∙◌, subst, arith, append_assoc, length-append}
-use Rattle.std.proofs.lemmas.List.{append-nil, map-append, drop-map, get_or-map, get_or_append_left, take_all, take_more, take_rest}
+use Rattle.std.proofs.lemmas.List.{append-nil, map-append, drop-map, get_or_append_left, take_all, take_more, take_rest}
 use Rattle.surf_model.specs.FaceLists.{FaceList}
 use Rattle.surf_model.specs.FreeWalks.{AreFreelyEqual, HasNoSpur}
 use Rattle.surf_model.specs.Vertices.{numbers}
@@ -77,37 +77,23 @@ comes_in_clean old new next pushed other h =
     let at : k ≡ length old - 2 = omega arith in
     other (omega arith) (ap (λ (n : ℕ). get_or (numbers old) n 0) (sym at) ∙ same)))
 
--- three parts laid on one vertex
-pub laid_three : (mesh : FaceList) (x : ℕ) (start first second third down up rest : List ℕ) → start ≡ x ∷ []
-    → AreFreelyEqual mesh (start ++ down) first
-    → AreFreelyEqual mesh (first ++ up) second → AreFreelyEqual mesh (second ++ rest) third
-    → AreFreelyEqual mesh (x ∷ (down ++ (up ++ rest))) third
-laid_three mesh x start first second third down up rest is a b c =
-    let one : AreFreelyEqual mesh (x ∷ down) first = subst (λ (l : List ℕ). AreFreelyEqual mesh (l ++ down) first) is a in
-    let two : AreFreelyEqual mesh (x ∷ down ++ up) second = freely_further mesh (x ∷ down) first second up (omega arith) one b in
-    subst (λ (l : List ℕ). AreFreelyEqual mesh (x ∷ l) third) (append_assoc down up rest)
-    (freely_further mesh (x ∷ down ++ up) second third rest (omega arith) two c)
+-- two parts laid on a walk
+pub laid_two : (mesh : FaceList) (start first second one two : List ℕ) → 0 < length start → AreFreelyEqual mesh (start ++ one) first
+    → AreFreelyEqual mesh (first ++ two) second → AreFreelyEqual mesh (start ++ (one ++ two)) second
+laid_two mesh start first second one two some a b =
+    subst (λ (l : List ℕ). AreFreelyEqual mesh l second) (append_assoc start one two)
+    (freely_further mesh (start ++ one) first second two (omega (arith, some, length-append start one)) a b)
 
--- four parts laid on a walk
-pub laid_four : (mesh : FaceList) (start first second third fourth a b c d : List ℕ) → 0 < length start
-    → AreFreelyEqual mesh (start ++ a) first → AreFreelyEqual mesh (first ++ b) second → AreFreelyEqual mesh (second ++ c) third
-    → AreFreelyEqual mesh (third ++ d) fourth → AreFreelyEqual mesh (start ++ (a ++ ((b ++ c) ++ d))) fourth
-laid_four mesh start first second third fourth a b c d some one two three four =
-    let shape : start ++ (a ++ ((b ++ c) ++ d)) ≡ ((start ++ a) ++ b ++ c) ++ d = simp append_assoc in
-    let long : 0 < length (start ++ a) = omega (arith, some, length-append start a) in
-    let longer : 0 < length (start ++ a ++ b) = omega (arith, long, length-append (start ++ a) b) in
-    let longest : 0 < length (start ++ a ++ b ++ c) = omega (arith, longer, length-append (start ++ a ++ b) c) in
-    subst (λ (l : List ℕ). AreFreelyEqual mesh l fourth) (sym shape)
-    (freely_further mesh (start ++ a ++ b ++ c) third fourth d longest
-    (freely_further mesh (start ++ a ++ b) second third c longer (freely_further mesh (start ++ a) first second b long one two) three) four)
-
--- the first name alone
-pub first_alone : (none one names : List VertexName) (v d : VertexName) → none ≡ [] → one ≡ none ++ v ∷ [] → v ≡ get_or names 0 d
-    → 0 < length names
-    → numbers one ≡ get_or (numbers names) 0 0 ∷ []
-first_alone none one names v d nothing pushed is some =
-    one_pending one none v pushed ∙ ap (λ (l : List VertexName). numbers l ++ v.0 ∷ []) nothing
-    ∙ ap (λ (x : ℕ). x ∷ []) (ap (λ (y : VertexName). y.0) is ∙ sym (get_or-map (λ (y : VertexName). y.0) names 0 d 0 some))
+-- two ways laid on a walk, with a vertex between
+pub laid_round : (mesh : FaceList) (start first second third there down out back : List ℕ) (head : ℕ) → 0 < length start
+    → AreFreelyEqual mesh (start ++ (there ++ down)) first → AreFreelyEqual mesh (first ++ head ∷ []) second
+    → AreFreelyEqual mesh (second ++ (out ++ back)) third → AreFreelyEqual mesh (start ++ (there ++ ((down ++ head ∷ out) ++ back))) third
+laid_round mesh start first second third there down out back head some a b c =
+    let shape : start ++ (((there ++ down) ++ head ∷ []) ++ (out ++ back)) ≡ start ++ (there ++ ((down ++ head ∷ out) ++ back)) =
+    simp append_assoc in
+    subst (λ (l : List ℕ). AreFreelyEqual mesh l third) shape
+    (laid_two mesh start second third (there ++ down ++ head ∷ []) (out ++ back) some
+    (laid_two mesh start first second (there ++ down) (head ∷ []) some a b) c)
 
 -- the names behind the first one
 pub behind_first : (names part : List VertexName) → part ≡ take (length names - 1) (drop 1 names) → numbers part ≡ drop 1 (numbers names)

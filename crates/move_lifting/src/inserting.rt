@@ -48,16 +48,13 @@ pub(crate) fn put_turn(
     let back = back_to(alloc, approach, common)?;
     let around = turn.walk.darts();
     // The piece is the approach beyond what is in common, the turn, and the way back, and costs a cell for a while.
-    laid.reserve(around + 2 * back.len() as u32 + 1)?;
-    let after = laid.len() - common as u32 + behind;
+    let more = back.len() as u32;
+    laid.reserve(around + 2 * more + 1)?;
+    let entries = laid.len();
+    let after = entries - common as u32 + behind;
     insert_there_and_back(&mut moves, approach, common, after)?;
     let out = approach.len() as u32 - 1;
-    raise_moves(
-        &mut moves,
-        &turn.moves,
-        out,
-        out + back.len() as u32 + after,
-    )?;
+    raise_moves(&mut moves, &turn.moves, out, out + more + after)?;
     laid.put_in(common as u32, &approach[common..], &turn.walk, &back);
     Track::reduced(laid, behind, moves)
 }

@@ -12,6 +12,7 @@ ghost use Rattle.move_lifting.specs.SpokeWalks.{IsLastLoop};
 use crate::crossing::{FaceStep, push_rest};
 use crate::cut::Cut;
 use crate::expanding::lead_all;
+use crate::laying::walk_of_one;
 use crate::lifted::Lifted;
 use halfedge_map::Surface;
 use std::alloc::{AllocError, Global};
@@ -70,8 +71,7 @@ fn all_round(
     ensures { IfOk result (λ around. numbers around.items
         ≡ corners_from (face_at faces.now step.face.0) step.forward step.corner (length (face_at faces.now step.face.0))) }
 {
-    let mut around = Vec::new(alloc);
-    around.push(start)?;
+    let mut around = walk_of_one(alloc, start)?;
     push_rest(&mut around, faces, step)?;
     around.push(start)?;
     Ok(around)

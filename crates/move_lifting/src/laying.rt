@@ -1,11 +1,20 @@
 //! Walks without spurs that are laid vertex by vertex, with no moves noted.
-ghost use Rattle.std.specs.Prelude.{◌≡◌, ◌↔◌, ◌-◌, ◌<◌, ◌∷◌, [], ◌++◌, length, slice_index, OnOk, IsTrue};
+ghost use Rattle.std.specs.Prelude.{◌≡◌, ◌↔◌, ◌-◌, ◌<◌, ◌∷◌, [], ◌++◌, length, slice_index, IfOk, OnOk, IsTrue};
 ghost use Rattle.surf_model.specs.FaceLists.{FaceList};
 ghost use Rattle.surf_model.specs.FreeWalks.{AreFreelyEqual, HasNoSpur};
 ghost use Rattle.surf_model.specs.Vertices.{numbers};
 
-use std::alloc::AllocError;
+use std::alloc::{AllocError, Global};
 use surf_model::VertexName;
+
+/// The walk of one vertex.
+pub(crate) fn walk_of_one(alloc: Global, vertex: VertexName) -> Result<Vec<VertexName>, AllocError>
+    ensures { IfOk result (λ walk. numbers walk.items ≡ vertex.0 ∷ []) }
+{
+    let mut walk = Vec::new(alloc);
+    walk.push(vertex)?;
+    Ok(walk)
+}
 
 /// Goes on along more vertices. Where that leads straight back, the spur is taken out.
 pub(crate) fn put_all(walk: &mut Vec<VertexName>, vertices: &[VertexName]) -> Result<(), AllocError>
@@ -23,7 +32,7 @@ pub(crate) fn put_all(walk: &mut Vec<VertexName>, vertices: &[VertexName]) -> Re
 }
 
 /// Goes on to a vertex, or takes the last one out where that leads straight back.
-fn put_vertex(walk: &mut Vec<VertexName>, next: VertexName) -> Result<(), AllocError>
+pub(crate) fn put_vertex(walk: &mut Vec<VertexName>, next: VertexName) -> Result<(), AllocError>
     requires some { 0 < length walk.old.items }
     requires no_spur { HasNoSpur (numbers walk.old.items) }
     ensures some { OnOk result (0 < length walk.new.items) }

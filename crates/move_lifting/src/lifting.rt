@@ -64,7 +64,10 @@ pub fn lift(
     let second = common.between(alloc, second)?;
     let on = SplitSurface { surface, split };
     match lift_between(alloc, &on, polygon, &first, &second)? {
-        Some(list) => Ok(Some(common.put_back(alloc, list)?)),
+        Some(list) => {
+            let whole = common.put_back(alloc, list)?;
+            Ok(Some(whole))
+        }
         None => Ok(None),
     }
 }
@@ -91,23 +94,24 @@ fn lift_between(
         (IsShortList (darts_of on.now.surface.now) (darts first.now + darts second.now))) }
 {
     let behind = second.darts();
-    let track = close(alloc, first, second)?;
-    let (closed, moves) = track.into_parts(alloc)?;
+    let joined = close(alloc, first, second)?;
+    let (closed, moves) = joined.into_parts(alloc)?;
     if closed.len() == 1 {
         return Ok(Some(moves));
     }
     if polygon.degree() == 0 {
-        let track = lead_in_passes(alloc, on, closed, behind, moves)?;
-        return Ok(Some(track.into_moves()));
+        let tree = lead_in_passes(alloc, on, closed, behind, moves)?;
+        return Ok(Some(tree.into_moves()));
     }
     let reduction = Reduction::of(alloc, on.surface, polygon, &closed)?;
     if !reduction.leaves_nothing() {
         return Ok(None);
     }
-    let track = lead_in_passes(alloc, on, closed, behind, moves)?;
+    let begun = lead_in_passes(alloc, on, closed, behind, moves)?;
     let cut = Cut { on: *on, polygon };
-    let track = contract(alloc, &cut, reduction, track, behind)?;
-    Ok(Some(track.into_moves()))
+    let contracted = contract(alloc, &cut, reduction, begun, behind)?;
+    let list = contracted.into_moves();
+    Ok(Some(list))
 }
 
 /// The closed walk along the first walk and back along the second, without spurs, and the moves that lead from the first
@@ -125,10 +129,11 @@ fn close(alloc: Global, first: &Walk, second: &Walk) -> Result<Track, AllocError
     ensures peak { IfOk result (λ closed. closed.list.peak ≤ darts first.now + 2 * darts second.now) }
     ensures count { IfOk result (λ closed. length closed.list.moves + darts closed.walk ≤ darts first.now + 2 * darts second.now) }
 {
+    let behind = second.darts();
     let mut closed = vertices_of(alloc, first)?;
     let mut moves = MoveList::new(alloc, first.darts());
     append_back(&mut closed, &mut moves, second)?;
-    reduce_all(alloc, &closed, second.darts(), moves)
+    reduce_all(alloc, &closed, behind, moves)
 }
 
 /// Goes back along a walk from its end, which the vertices end at, so that all of the walk comes behind them, and notes

@@ -21,11 +21,11 @@ ghost use Rattle.move_lifting.specs.TurnPeaks.{GoesInShortly, KeepsBound};
 use crate::cut::Cut;
 use crate::inserting::{back_along, put_turn};
 use crate::last_loop::last_loop;
-use crate::laying::put_all;
+use crate::laying::{put_all, walk_of_one};
 use crate::lifted::Lifted;
 use crate::spoke_walks::SpokeWalks;
 use crate::track::Track;
-use crate::tree_way::way_up;
+use crate::tree_way::put_over;
 use std::alloc::{AllocError, Global};
 use surf_model::VertexName;
 
@@ -159,15 +159,9 @@ impl Looping<'_> {
             (numbers walk.items)) }
         ensures no_spur { IfOk result (λ walk. HasNoSpur (numbers walk.items)) }
     {
-        let (alloc, cut) = (self.alloc, self.cut);
-        let (surface, split) = (cut.on.surface, cut.on.split);
-        let up = way_up(alloc, surface, split, start)?;
-        let down = back_along(alloc, &way_up(alloc, surface, split, end)?)?;
-        let mut walk = Vec::new(alloc);
-        walk.push(start)?;
-        put_all(&mut walk, &up[1..])?;
-        put_all(&mut walk, &down)?;
-        put_spokes(alloc, &mut walk, spokes, front)?;
+        let mut walk = walk_of_one(self.alloc, start)?;
+        put_over(self.alloc, &self.cut.on, &mut walk, start, end)?;
+        put_spokes(self.alloc, &mut walk, spokes, front)?;
         Ok(walk)
     }
 }

@@ -206,7 +206,8 @@ fn pass_over(
     let mut moves = moves;
     let mut looked_at = 0;
     for _pass in 0..MOST_LOOKED_AT {
-        let depth = least_depth(on, &depths, &walk);
+        let vertices = walk.as_slice();
+        let depth = least_depth(on, &depths, vertices);
         looked_at += walk.len() as u64;
         if depth == DEEPEST || looked_at > MOST_LOOKED_AT {
             return Ok((walk, moves));
@@ -217,7 +218,7 @@ fn pass_over(
             depth,
             behind,
         };
-        let track = pass.over(alloc, &walk, moves)?;
+        let track = pass.over(alloc, vertices, moves)?;
         let (next, list) = track.into_parts(alloc)?;
         walk = next;
         moves = list;

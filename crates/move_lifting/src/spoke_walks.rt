@@ -9,9 +9,8 @@ ghost use Rattle.move_lifting.specs.Cuts.{IsCut};
 ghost use Rattle.move_lifting.specs.SpokeWalks.{AreSpokeWalks, HasWalk};
 
 use crate::cut::Cut;
-use crate::inserting::back_along;
-use crate::laying::put_all;
-use crate::tree_way::way_up;
+use crate::laying::{put_vertex, walk_of_one};
+use crate::tree_way::put_over;
 use std::alloc::{AllocError, Global};
 use std::marker::Model;
 use surf_model::{DartName, VertexName};
@@ -86,8 +85,7 @@ impl SpokeWalks {
         let start = cut.on.surface.origin(polygon.side(degree - 1));
         let mut walks = SpokeWalks::new(alloc);
         // The walk of the spoke at hand.
-        let mut walk = Vec::new(alloc);
-        walk.push(start)?;
+        let mut walk = walk_of_one(alloc, start)?;
         for spoke in 0..degree {
             walks.push_if(named[spoke as usize], &walk)?;
             go_round(alloc, cut, &mut walk, start, polygon.side(spoke))?;
@@ -182,14 +180,10 @@ fn go_round(
         (numbers walk.old.items ++ (ways start.0 ++ (dart_loop cut.now.on.surface.now ways dart.0 ++ backward start.0 (ways start.0))))
         (numbers walk.new.items)) }
 {
-    let (surface, split) = (cut.on.surface, cut.on.split);
-    let up = way_up(alloc, surface, split, start)?;
-    let tail = way_up(alloc, surface, split, surface.origin(dart))?;
-    let head = way_up(alloc, surface, split, surface.origin(surface.twin(dart)))?;
-    let down = back_along(alloc, &tail)?;
-    let home = back_along(alloc, &up)?;
-    put_all(walk, &up[1..])?;
-    put_all(walk, &down)?;
-    put_all(walk, &head)?;
-    put_all(walk, &home)
+    let surface = cut.on.surface;
+    let tail = surface.origin(dart);
+    let head = surface.origin(surface.twin(dart));
+    put_over(alloc, &cut.on, walk, start, tail)?;
+    put_vertex(walk, head)?;
+    put_over(alloc, &cut.on, walk, head, start)
 }

@@ -13,8 +13,9 @@ use Rattle.move_lifting.specs.declared.lifted.Lifted.{Lifted}
 use Rattle.move_lifting.proofs.BoundLemmas.{IsShort, short_walk, three_darts}
 use Rattle.move_lifting.proofs.ExpandLemmas.{led_whole}
 use Rattle.move_lifting.proofs.expanding.expand.Goals as goal
+use Rattle.move_lifting.proofs.expanding.expand.Goals.{In_ok-track}
 
-led : (c : goal.After-drop-vertices-2)
+led : (c : In_ok-track)
     → LeadsAtPeak c.args.surface.now.mesh c.args.walk.now c.in_ok-track.track.list c.in_ok-track.track.walk
 led c =
     let same : numbers c.deref.result.now ≡ c.args.walk.now = ap numbers c.deref.ensures.value ∙ c.in_ok-vertices.ensures in
@@ -27,7 +28,7 @@ pub returns-clause-leads : goal.returns-clause-leads
 returns-clause-leads c =
     IfOk-weaker c.finish.result (λ (x : Lifted). x ≡ record { walk = c.in_ok-track.track.walk; moves = c.in_ok-track.track.list })
     (λ (x : Lifted). LeadsAtPeak c.args.surface.now.mesh c.args.walk.now x.moves x.walk)
-    (λ x e. subst (λ (y : Lifted). LeadsAtPeak c.args.surface.now.mesh c.args.walk.now y.moves y.walk) (sym e) (led c)) c.finish.ensures
+    (λ x e. subst (λ (y : Lifted). LeadsAtPeak c.args.surface.now.mesh c.args.walk.now y.moves y.walk) (sym e) (led (goal.at.returns-clause-leads c).In_ok-track)) c.finish.ensures
 
 pub returns-clause-off_cotree : goal.returns-clause-off_cotree
 returns-clause-off_cotree c =
@@ -42,10 +43,10 @@ returns-clause-ends c =
     (λ (x : Lifted). HaveCommonEnds c.args.walk.now x.walk)
     (λ x e. subst (λ (y : Lifted). HaveCommonEnds c.args.walk.now y.walk) (sym e)
     (list_keeps_ends c.args.surface.now.mesh c.in_ok-track.track.list.moves c.args.walk.now c.in_ok-track.track.walk c.requires.walk.starts
-    (led c).leads))
+    (led (goal.at.returns-clause-ends c).In_ok-track).leads))
     c.finish.ensures
 
-short : (c : goal.After-drop-vertices-2)
+short : (c : In_ok-track)
     → IsShort (darts c.args.walk.now * darts_of c.args.surface.now) 0 c.in_ok-track.track.walk c.new-moves.result c.in_ok-track.track.list
 short c =
     let s = c.args.surface.now in
@@ -59,7 +60,7 @@ pub returns-clause-long : goal.returns-clause-long
 returns-clause-long c =
     IfOk-weaker c.finish.result (λ (x : Lifted). x ≡ record { walk = c.in_ok-track.track.walk; moves = c.in_ok-track.track.list })
     (λ (x : Lifted). darts x.walk ≤ darts c.args.walk.now * darts_of c.args.surface.now)
-    (λ x e. omega (arith, (short c).long, ap (λ (y : Lifted). length y.walk) e)) c.finish.ensures
+    (λ x e. omega (arith, (short (goal.at.returns-clause-long c).In_ok-track).long, ap (λ (y : Lifted). length y.walk) e)) c.finish.ensures
 
 pub returns-clause-low : goal.returns-clause-low
 returns-clause-low c =
@@ -69,7 +70,7 @@ returns-clause-low c =
     (λ (x : Lifted). x.moves.peak ≤ darts c.args.walk.now * darts_of s)
     (λ x e. omega (
       arith,
-      (short c).peak,
+      (short (goal.at.returns-clause-low c).In_ok-track).peak,
       mul-le-mul_left (darts c.args.walk.now) one,
       ap (λ (y : Lifted). y.moves.peak) e,
       ap (λ (l : PeakedMoves). l.peak) c.new-moves.ensures,

@@ -17,17 +17,17 @@ use Rattle.move_lifting.proofs.inserting.put_turn.Goals.{After-put_in, In_ok-bac
 back : (c : In_ok-back) → length c.in_ok-back.back.items ≡ length c.args.approach.now - c.common_start-common.result
 back c = back_long c.args.approach.now c.in_ok-back.back.items c.common_start-common.result c.in_ok-back.ensures
 
-pub overflow_cast-len : goal.overflow_cast-len
-overflow_cast-len c = omega (arith, c.requires.room, c.len.ensures, back (goal.at.overflow_cast-len c).In_ok-back)
+pub overflow_cast-more : goal.overflow_cast-more
+overflow_cast-more c = omega (arith, c.requires.room, c.len-more.ensures, back (goal.at.overflow_cast-more c).In_ok-back)
 
-pub overflow_mul-len : goal.overflow_mul-len
-overflow_mul-len c = omega (arith, c.requires.room, c.len.ensures, back (goal.at.overflow_mul-len c).In_ok-back)
+pub overflow_mul-more : goal.overflow_mul-more
+overflow_mul-more c = omega (arith, c.requires.room, c.len-more.ensures, back (goal.at.overflow_mul-more c).In_ok-back)
 
 pub overflow_add-around : goal.overflow_add-around
-overflow_add-around c = omega (arith, c.requires.room, c.len.ensures, back (goal.at.overflow_add-around c).In_ok-back)
+overflow_add-around c = omega (arith, c.requires.room, c.len-more.ensures, back (goal.at.overflow_add-around c).In_ok-back)
 
 pub overflow_add-around-2 : goal.overflow_add-around-2
-overflow_add-around-2 c = omega (arith, c.requires.room, c.len.ensures, back (goal.at.overflow_add-around-2 c).In_ok-back)
+overflow_add-around-2 c = omega (arith, c.requires.room, c.len-more.ensures, back (goal.at.overflow_add-around-2 c).In_ok-back)
 
 pub reserve-requires : goal.reserve-requires
 reserve-requires c =
@@ -36,7 +36,7 @@ reserve-requires c =
       c.requires.room,
       ap (λ (p : Pooled). length p.walk) (c.common_start-common.ensures.kept ∙ c.into_laid-laid.ensures.walk),
       c.darts-around.ensures.count,
-      c.len.ensures,
+      c.len-more.ensures,
       back (goal.at.reserve-requires c).In_ok-back,
     )
 
@@ -47,7 +47,7 @@ put_in-requires-clause-spare c =
       ap (λ (p : Pooled). p.spare) c.in_ok-reserve.ensures,
       c.darts-around.ensures.count,
       c.darts-around.ensures.starts,
-      c.len.ensures,
+      c.len-more.ensures,
       c.deref.ensures.len,
       back (goal.at.put_in-requires-clause-spare c).In_ok-back,
     )
@@ -105,12 +105,12 @@ returns-clause-leads c =
     let approach : List ℕ = numbers c.args.approach.now in
     let walk : List ℕ = c.args.track.walk in
     let whole : List ℕ = c.put_in.new.self.walk in
-    let entries : c.len-2.result ≡ length walk = c.len-2.ensures.count ∙ ap (λ (l : List ℕ). length l) (was at) in
-    let after : c.len-2.result - n + c.args.behind ≡ length walk - n + c.args.behind =
+    let entries : c.len-entries.result ≡ length walk = c.len-entries.ensures.count ∙ ap (λ (l : List ℕ). length l) (was at) in
+    let after : c.len-entries.result - n + c.args.behind ≡ length walk - n + c.args.behind =
     ap (λ (k : ℕ). k - n + c.args.behind) entries in
-    let counted : length c.args.approach.now - 1 + c.len-3.result + (c.len-2.result - n + c.args.behind)
+    let counted : length c.args.approach.now - 1 + c.len-more.result + (c.len-entries.result - n + c.args.behind)
     ≡ length approach - 1 + (length approach - n) + (length walk - n + c.args.behind) =
-    omega (arith, after, back (goal.at.returns-clause-leads c).In_ok-back, c.len-3.ensures, length-numbers c.args.approach.now) in
+    omega (arith, after, back (goal.at.returns-clause-leads c).In_ok-back, c.len-more.ensures, length-numbers c.args.approach.now) in
     let moved : c.raise_moves.new.moves.moves
     ≡ c.insert_there_and_back.new.moves.moves ++ all_raised (length approach - 1) c.args.turn.now.moves.moves =
     c.in_ok-raise_moves.ensures.moves
@@ -159,7 +159,7 @@ returns-clause-peak c =
     let walk : List ℕ = c.args.track.walk in
     let long : length approach ≡ length c.args.approach.now = length-numbers c.args.approach.now in
     let read : c.into_laid-laid.result.0.walk ≡ walk = ap (λ (p : Pooled). p.walk) c.into_laid-laid.ensures.walk in
-    let entries : c.len-2.result ≡ length walk = c.len-2.ensures.count ∙ ap (λ (l : List ℕ). length l) (was at) in
+    let entries : c.len-entries.result ≡ length walk = c.len-entries.ensures.count ∙ ap (λ (l : List ℕ). length l) (was at) in
     let begun : c.into_laid-laid.result.1.peak ≡ c.args.track.list.peak = ap (λ (l : PeakedMoves). l.peak) c.into_laid-laid.ensures.list in
     let apart : n < length approach → n < length walk → get_or approach n 0 ≢ get_or walk n 0 = λ l m.
     subst (λ (w : List ℕ). get_or approach n 0 ≢ get_or w n 0) read
@@ -170,6 +170,6 @@ returns-clause-peak c =
     _ most (length c.args.turn.now.moves.moves) c.args.turn.now.moves.peak c.args.track.list.peak
     c.insert_there_and_back.new.moves.peak c.raise_moves.new.moves.peak track.list.peak (alike at) clean other apart
     (omega (arith, c.in_ok-insert_there_and_back.ensures.peak, begun, long, entries))
-    (omega (arith, c.len-3.ensures, back (goal.at.returns-clause-peak c).In_ok-back, entries, long))
+    (omega (arith, c.len-more.ensures, back (goal.at.returns-clause-peak c).In_ok-back, entries, long))
     c.in_ok-raise_moves.ensures.none c.in_ok-raise_moves.ensures.some low few c.darts-around.ensures.starts (is_whole at) rises)
     c.reduced.ensures.peak

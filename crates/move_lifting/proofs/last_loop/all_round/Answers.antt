@@ -1,7 +1,5 @@
-use Rattle.std.proofs.Common.{◌≡◌, ℕ, ◌-◌, ◌++◌, ◌∷◌, [], List, length, ap, ◌∙◌}
+use Rattle.std.proofs.Common.{ℕ, ◌-◌, ◌++◌, ◌∷◌, [], List, length, ap, ◌∙◌}
 use Rattle.surf_model.specs.FaceLists.{face_at, next_corner}
-use Rattle.surf_model.specs.Vertices.{numbers}
-use Rattle.surf_model.specs.declared.names.VertexName.{VertexName}
 use Rattle.surf_model.proofs.RoundLemmas.{corners_before}
 use Rattle.move_lifting.proofs.ExpandLemmas.{one_pending}
 use Rattle.move_lifting.proofs.LastLoopLemmas.{all_round}
@@ -13,9 +11,6 @@ returns c =
     let rising = c.args.step.forward in
     let v : ℕ = c.args.start.0 in
     let inner : List ℕ = corners_before ring rising (next_corner rising (length ring) c.args.step.corner) (length ring - 1) in
-    let first : numbers c.push.new.self.items ≡ v ∷ [] =
-    one_pending c.push.new.self.items c.new-around.result.items c.args.start c.in_ok-push.ensures.items
-    ∙ ap (λ (l : List VertexName). numbers l ++ v ∷ []) c.new-around.ensures.items in
-    one_pending c.push-2.new.self.items c.push_rest.new.vertices.items c.args.start c.in_ok-push-2.ensures.items
-    ∙ ap (λ (l : List ℕ). l ++ v ∷ []) (c.in_ok-push_rest.ensures ∙ ap (λ (l : List ℕ). l ++ inner) first)
+    one_pending c.push.new.self.items c.push_rest.new.vertices.items c.args.start c.in_ok-push.ensures.items
+    ∙ ap (λ (l : List ℕ). l ++ v ∷ []) (c.in_ok-push_rest.ensures ∙ ap (λ (l : List ℕ). l ++ inner) c.in_ok-around.ensures)
     ∙ all_round ring rising c.args.step.corner v c.requires.step.corner c.requires.start

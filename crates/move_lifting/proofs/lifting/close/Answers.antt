@@ -14,7 +14,7 @@ pub returns-clause-leads : goal.returns-clause-leads
 returns-clause-leads c =
     IfOk-weaker c.reduce_all.result _ _
     (λ track goes mesh w.
-    goes mesh c.args.first.now (drop 1 c.args.second.now) (length-drop 1 c.args.second.now ∙ sym c.darts-2.ensures.count)
+    goes mesh c.args.first.now (drop 1 c.args.second.now) (length-drop 1 c.args.second.now ∙ sym c.darts-behind.ensures.count)
     (subst (λ (l : List VertexName). LeadsAtPeak mesh c.args.first.now c.append_back.new.moves (numbers l ++ drop 1 c.args.second.now))
     (sym c.deref.ensures.value)
     (closed_from mesh c.args.first.now c.args.second.now (numbers c.in_ok-closed.closed.items) (numbers c.append_back.new.vertices.items)
@@ -44,7 +44,7 @@ returns-clause-peak c =
       c.in_ok-append_back.ensures.peak,
       ap (λ (l : PeakedMoves). l.peak) c.new-moves.ensures,
       c.darts.ensures.count,
-      c.darts-2.ensures.count,
+      c.darts-behind.ensures.count,
       ap (λ (l : List VertexName). length l) c.deref.ensures.value,
       c.in_ok-append_back.ensures.long,
       length-numbers c.deref.result.now,
@@ -63,7 +63,7 @@ returns-clause-count c =
       c.in_ok-append_back.ensures.count,
       ap (λ (l : PeakedMoves). length l.moves) c.new-moves.ensures,
       c.darts.ensures.count,
-      c.darts-2.ensures.count,
+      c.darts-behind.ensures.count,
       ap (λ (l : List VertexName). length l) c.deref.ensures.value,
       c.in_ok-append_back.ensures.long,
       length-numbers c.in_ok-closed.closed.items,

@@ -67,8 +67,8 @@ returns-in-Some-clause-list c =
     let mesh : FaceList = c.args.surface.now.mesh in
     let leads = leads (goal.at.returns-in-Some-clause-list c).In-Some in
     left_leads mesh c.args.first.now c.args.second.now c.of-common.result c.in_ok-first.first c.in_ok-second.second c.in-Some.list
-    c.in_ok-put_back-in-Some.field-0 c.requires.first c.requires.second c.of-common.ensures
-    (record { near_is = c.in_ok-first.ensures; far_is = c.in_ok-second.ensures }) leads c.in_ok-put_back-in-Some.ensures
+    c.in_ok-whole-in-Some.whole c.requires.first c.requires.second c.of-common.ensures
+    (record { near_is = c.in_ok-first.ensures; far_is = c.in_ok-second.ensures }) leads c.in_ok-whole-in-Some.ensures
 
 pub returns-clause-list : goal.returns-clause-list
 returns-clause-list c =
@@ -88,8 +88,8 @@ returns-in-Some-clause-low c =
     let at = goal.at.returns-in-Some-clause-low c in
     let fewer = fewer at.In_ok-second in
     let count : near + 2 * around ≡ all = omega (arith, fewer.in_near, fewer.in_far) in
-    let peak : around + c.in-Some.list.peak ≡ c.in_ok-put_back-in-Some.field-0.peak =
-    sym (ap (λ (l : PeakedMoves). l.peak) c.in_ok-put_back-in-Some.ensures) in
+    let peak : around + c.in-Some.list.peak ≡ c.in_ok-whole-in-Some.whole.peak =
+    sym (ap (λ (l : PeakedMoves). l.peak) c.in_ok-whole-in-Some.ensures) in
     subst (λ n. 2 * n ≤ (3 * all + 7) * darts_of s) peak
     (subst (λ n. 2 * (around + c.in-Some.list.peak) ≤ (3 * n + 7) * darts_of s) count
     (low_around (darts_of s) near around c.in-Some.list.peak (three_darts s c.darts-sides.ensures.valid)
@@ -109,7 +109,7 @@ returns-in-Some-clause-short c sphere =
       arith,
       short,
       mul-le-mul_right (darts_of s + 1) less,
-      ap (λ (l : PeakedMoves). length l.moves) c.in_ok-put_back-in-Some.ensures,
+      ap (λ (l : PeakedMoves). length l.moves) c.in_ok-whole-in-Some.ensures,
       length-map c.in-Some.list.moves (raised c.of-common.result.front),
     )
 

@@ -17,14 +17,14 @@ use Rattle.move_lifting.proofs.ExpandLemmas.{length-numbers}
 use Rattle.move_lifting.proofs.LiftLemmas.{IsClosed, closed_is, IsLedOff, off_cotree, second_left, second_stays, second_there, homotopic_leaves_nothing, steps_to_nothing, begun_freely}
 use Rattle.move_lifting.proofs.ShortStepLemmas.{walk_spokes}
 use Rattle.move_lifting.proofs.lifting.lift_between.Goals as goal
-use Rattle.move_lifting.proofs.lifting.lift_between.Goals.{In_ok-closed, In_ok-reduction, In_ok-track-3}
+use Rattle.move_lifting.proofs.lifting.lift_between.Goals.{In_ok-begun, In_ok-closed, In_ok-reduction}
 
 -- the closed walk leads on from the first walk, with the second behind it
 closed : (c : In_ok-closed)
     → IsClosed c.args.on.now.surface.now.mesh c.args.first.now (numbers c.in_ok-closed.closed.items) c.args.second.now c.in_ok-closed.moves
 closed c =
     closed_is c.args.on.now.surface.now.mesh c.args.first.now c.args.second.now c.in_ok-closed.closed.items c.in_ok-closed.moves
-    c.in_ok-track.track c.requires.walks c.in_ok-track.ensures.leads c.in_ok-track.ensures.some c.in_ok-track.ensures.last
+    c.in_ok-joined.joined c.requires.walks c.in_ok-joined.ensures.leads c.in_ok-joined.ensures.some c.in_ok-joined.ensures.last
     c.in_ok-closed.ensures.vertices c.in_ok-closed.ensures.moves
 
 led : (c : In_ok-closed)
@@ -41,7 +41,7 @@ led c = record {
 
 -- it has few darts
 few_darts : (c : In_ok-closed) → darts (numbers c.in_ok-closed.closed.items) ≤ darts c.args.first.now + darts c.args.second.now
-few_darts c = omega (arith, c.in_ok-track.ensures.long, ap (λ (l : List ℕ). length l) c.in_ok-closed.ensures.vertices)
+few_darts c = omega (arith, c.in_ok-joined.ensures.long, ap (λ (l : List ℕ). length l) c.in_ok-closed.ensures.vertices)
 
 pub lead_in_passes-requires-clause-led : goal.lead_in_passes-requires-clause-led
 lead_in_passes-requires-clause-led c = led (goal.at.lead_in_passes-requires-clause-led c).In_ok-closed
@@ -65,18 +65,18 @@ pub returns-then-degree-eq0-clause-list : goal.returns-then-degree-eq0-clause-li
 returns-then-degree-eq0-clause-list c =
     let k = closed (goal.at.returns-then-degree-eq0-clause-list c).In_ok-closed in
     let off : IsLedOff c.args.on.now.surface.now c.args.on.now.split.now c.args.first.now (numbers c.in_ok-closed.closed.items)
-    c.args.second.now c.in_ok-closed.moves c.in_ok-track-2.track =
+    c.args.second.now c.in_ok-closed.moves c.in_ok-tree.tree =
     off_cotree c.args.on.now.surface.now c.args.on.now.split.now c.args.first.now c.args.second.now c.in_ok-closed.closed.items
-    c.in_ok-closed.closed.items c.in_ok-closed.moves c.in_ok-track-2.track c.darts-behind.result c.requires.walks k refl
-    c.darts-behind.ensures.count c.in_ok-track-2.ensures.leads c.in_ok-track-2.ensures.leaves c.in_ok-track-2.ensures.some
-    c.in_ok-track-2.ensures.last in
+    c.in_ok-closed.closed.items c.in_ok-closed.moves c.in_ok-tree.tree c.darts-behind.result c.requires.walks k refl
+    c.darts-behind.ensures.count c.in_ok-tree.ensures.leads c.in_ok-tree.ensures.leaves c.in_ok-tree.ensures.some
+    c.in_ok-tree.ensures.last in
     let sphere : c.args.on.now.split.now.genus ≡ 0 =
     omega (arith, c.requires.cut.degree, c.degree.ensures.degree, c.if-degree-eq0.true) in
     subst (λ (l : PeakedMoves). LeadsAtPeak c.args.on.now.surface.now.mesh c.args.first.now l c.args.second.now) (sym c.into_moves.ensures)
-    (second_left c.args.on.now.surface.now c.args.on.now.split.now c.in_ok-track-2.ensures.valid c.requires.on.split sphere
-    c.args.first.now (numbers c.in_ok-closed.closed.items) c.args.second.now c.in_ok-closed.moves c.in_ok-track-2.track
+    (second_left c.args.on.now.surface.now c.args.on.now.split.now c.in_ok-tree.ensures.valid c.requires.on.split sphere
+    c.args.first.now (numbers c.in_ok-closed.closed.items) c.args.second.now c.in_ok-closed.moves c.in_ok-tree.tree
     c.requires.walks.first_walk c.requires.walks.second_walk.starts c.requires.walks.ends.starts k.led off.goes
-    c.in_ok-track-2.ensures.off_cotree c.in_ok-track-2.ensures.no_spur c.in_ok-track-2.ensures.some off.last)
+    c.in_ok-tree.ensures.off_cotree c.in_ok-tree.ensures.no_spur c.in_ok-tree.ensures.some off.last)
 
 -- the steps of the reduction go round the wheel that it has
 round_wheel : (c : In_ok-reduction)
@@ -134,57 +134,57 @@ pub contract-requires-clause-behind : goal.contract-requires-clause-behind
 contract-requires-clause-behind c = omega (arith, c.requires.few, c.darts-behind.ensures.count)
 
 -- the track that is contracted comes of the closed walk
-led_off : (c : In_ok-track-3)
+led_off : (c : In_ok-begun)
     → IsClosed c.args.on.now.surface.now.mesh c.args.first.now (numbers c.in_ok-closed.closed.items) c.args.second.now c.in_ok-closed.moves
     → IsLedOff c.args.on.now.surface.now c.args.on.now.split.now c.args.first.now (numbers c.in_ok-closed.closed.items)
-    c.args.second.now c.in_ok-closed.moves c.in_ok-track-3.track
+    c.args.second.now c.in_ok-closed.moves c.in_ok-begun.begun
 led_off c k =
     off_cotree c.args.on.now.surface.now c.args.on.now.split.now c.args.first.now c.args.second.now c.in_ok-closed.closed.items
-    c.in_ok-closed.closed.items c.in_ok-closed.moves c.in_ok-track-3.track c.darts-behind.result c.requires.walks k refl
-    c.darts-behind.ensures.count c.in_ok-track-3.ensures.leads c.in_ok-track-3.ensures.leaves c.in_ok-track-3.ensures.some
-    c.in_ok-track-3.ensures.last
+    c.in_ok-closed.closed.items c.in_ok-closed.moves c.in_ok-begun.begun c.darts-behind.result c.requires.walks k refl
+    c.darts-behind.ensures.count c.in_ok-begun.ensures.leads c.in_ok-begun.ensures.leaves c.in_ok-begun.ensures.some
+    c.in_ok-begun.ensures.last
 
 pub contract-requires-clause-led : goal.contract-requires-clause-led
 contract-requires-clause-led c =
     let at = goal.at.contract-requires-clause-led c in
-    subst (λ n. IsLedFrom c.args.on.now.surface.now.mesh n c.in_ok-track-3.track) (sym c.darts-behind.ensures.count)
-    (led_off at.In_ok-track-3 (closed at.In_ok-closed)).begun.led
+    subst (λ n. IsLedFrom c.args.on.now.surface.now.mesh n c.in_ok-begun.begun) (sym c.darts-behind.ensures.count)
+    (led_off at.In_ok-begun (closed at.In_ok-closed)).begun.led
 
 pub contract-requires-clause-closed : goal.contract-requires-clause-closed
 contract-requires-clause-closed c =
     let at = goal.at.contract-requires-clause-closed c in
-    (led_off at.In_ok-track-3 (closed at.In_ok-closed)).begun.home
+    (led_off at.In_ok-begun (closed at.In_ok-closed)).begun.home
 
 pub contract-requires-clause-spokes : goal.contract-requires-clause-spokes
 contract-requires-clause-spokes c =
     let at = goal.at.contract-requires-clause-spokes c in
     let k = closed at.In_ok-closed in
-    let off = led_off at.In_ok-track-3 k in
+    let off = led_off at.In_ok-begun k in
     let some_sides : 0 < c.args.polygon.now.degree = omega (arith, c.degree.ensures.degree, c.if-degree-eq0.false) in
     begun_freely c.args.on.now.surface.now c.args.on.now.split.now c.args.polygon.now c.in_ok-reduction.ensures.valid c.requires.on.split
     c.requires.cut some_sides c.args.first.now (numbers c.in_ok-closed.closed.items) c.args.second.now (numbers c.deref.result.now)
-    c.in_ok-closed.moves c.in_ok-track-3.track c.in_ok-reduction.reduction c.in_ok-reduction.ensures.reduction
-    (ap numbers c.deref.ensures.value) c.requires.walks.first_walk k.some k.meets k.led off.begun c.in_ok-track-3.ensures.off_cotree
+    c.in_ok-closed.moves c.in_ok-begun.begun c.in_ok-reduction.reduction c.in_ok-reduction.ensures.reduction
+    (ap numbers c.deref.ensures.value) c.requires.walks.first_walk k.some k.meets k.led off.begun c.in_ok-begun.ensures.off_cotree
     off.last
 
 pub returns-clause-list : goal.returns-clause-list
 returns-clause-list c =
     let at = goal.at.returns-clause-list c in
     subst (λ (l : PeakedMoves). LeadsAtPeak c.args.on.now.surface.now.mesh c.args.first.now l c.args.second.now)
-    (sym c.into_moves-2.ensures)
+    (sym c.into_moves-list.ensures)
     (second_stays c.args.on.now.surface.now c.args.on.now.split.now c.args.first.now (numbers c.in_ok-closed.closed.items)
-    c.args.second.now c.in_ok-track-3.track c.in_ok-track-4.track (led_off at.In_ok-track-3 (closed at.In_ok-closed)).begun
+    c.args.second.now c.in_ok-begun.begun c.in_ok-contracted.contracted (led_off at.In_ok-begun (closed at.In_ok-closed)).begun
     c.requires.walks.second_walk.starts
-    (subst (λ (n : ℕ). GoesOn c.args.on.now.surface.now.mesh n c.in_ok-track-3.track.walk c.in_ok-track-3.track.list
-    c.in_ok-track-4.track.walk c.in_ok-track-4.track.list) c.darts-behind.ensures.count c.in_ok-track-4.ensures.leads)
-    c.in_ok-track-4.ensures.nothing)
+    (subst (λ (n : ℕ). GoesOn c.args.on.now.surface.now.mesh n c.in_ok-begun.begun.walk c.in_ok-begun.begun.list
+    c.in_ok-contracted.contracted.walk c.in_ok-contracted.contracted.list) c.darts-behind.ensures.count c.in_ok-contracted.ensures.leads)
+    c.in_ok-contracted.ensures.nothing)
 
 -- the peak is low
 pub returns-then-len-eq1-clause-low : goal.returns-then-len-eq1-clause-low
 returns-then-len-eq1-clause-low c =
     let s = c.args.on.now.surface.now in
     is_low (darts_of s) (darts c.args.first.now + darts c.args.second.now) 0 c.in_ok-closed.moves.peak (three_darts s c.requires.valid)
-    (omega arith) (omega (arith, c.in_ok-track.ensures.peak, ap (λ (l : PeakedMoves). l.peak) c.in_ok-closed.ensures.moves))
+    (omega arith) (omega (arith, c.in_ok-joined.ensures.peak, ap (λ (l : PeakedMoves). l.peak) c.in_ok-closed.ensures.moves))
 
 -- what is left of the closed walk off the cotree is short
 left_short : (c : In_ok-closed) (track : TrackView)
@@ -207,7 +207,7 @@ left_low c track within =
     (omega (
       arith,
       (left_short c track within).peak,
-      c.in_ok-track.ensures.peak,
+      c.in_ok-joined.ensures.peak,
       ap (λ (l : PeakedMoves). l.peak) c.in_ok-closed.ensures.moves,
       c.darts-behind.ensures.count,
     ))
@@ -215,7 +215,7 @@ left_low c track within =
 pub returns-then-degree-eq0-clause-low : goal.returns-then-degree-eq0-clause-low
 returns-then-degree-eq0-clause-low c =
     let at = (goal.at.returns-then-degree-eq0-clause-low c).In_ok-closed in
-    omega (arith, left_low at c.in_ok-track-2.track c.in_ok-track-2.ensures.within, ap (λ (l : PeakedMoves). l.peak) c.into_moves.ensures)
+    omega (arith, left_low at c.in_ok-tree.tree c.in_ok-tree.ensures.within, ap (λ (l : PeakedMoves). l.peak) c.into_moves.ensures)
 
 pub returns-clause-low : goal.returns-clause-low
 returns-clause-low c =
@@ -224,11 +224,11 @@ returns-clause-low c =
     let all : ℕ = darts c.args.first.now + darts c.args.second.now in
     let spokes : length c.in_ok-reduction.reduction.spokes.items ≤ 2 * all =
     omega (arith, few_darts at.In_ok-closed, few_spokes at.In_ok-reduction (closed at.In_ok-closed)) in
-    let low : 2 * c.in_ok-track-4.track.list.peak ≤ (3 * all + 7) * n =
-    c.in_ok-track-4.ensures.peak all spokes ((3 * all + 7) * n)
-    (left_low at.In_ok-closed c.in_ok-track-3.track c.in_ok-track-3.ensures.within)
+    let low : 2 * c.in_ok-contracted.contracted.list.peak ≤ (3 * all + 7) * n =
+    c.in_ok-contracted.ensures.peak all spokes ((3 * all + 7) * n)
+    (left_low at.In_ok-closed c.in_ok-begun.begun c.in_ok-begun.ensures.within)
     (omega (arith, room_left all n, c.darts-behind.ensures.count)) in
-    omega (arith, low, ap (λ (l : PeakedMoves). l.peak) c.into_moves-2.ensures)
+    omega (arith, low, ap (λ (l : PeakedMoves). l.peak) c.into_moves-list.ensures)
   where
     room_left : (k n : ℕ) → 3 * ((k + 1) * n) + 4 * n ≡ (3 * k + 7) * n
     room_left k n = omega arith
@@ -240,20 +240,20 @@ returns-then-len-eq1-clause-short c sphere =
     is_few (darts_of s) (darts c.args.first.now + darts c.args.second.now) (darts c.args.second.now) 0
     (length c.in_ok-closed.moves.moves) (length c.in_ok-closed.moves.moves)
     (omega (arith, three_darts s c.requires.valid)) (omega arith) (omega arith)
-    (omega (arith, c.in_ok-track.ensures.count, ap (λ (l : PeakedMoves). length l.moves) c.in_ok-closed.ensures.moves)) (omega arith)
+    (omega (arith, c.in_ok-joined.ensures.count, ap (λ (l : PeakedMoves). length l.moves) c.in_ok-closed.ensures.moves)) (omega arith)
 
 pub returns-then-degree-eq0-clause-short : goal.returns-then-degree-eq0-clause-short
 returns-then-degree-eq0-clause-short c sphere =
     let at = (goal.at.returns-then-degree-eq0-clause-short c).In_ok-closed in
     let s = c.args.on.now.surface.now in
-    let short = left_short at c.in_ok-track-2.track c.in_ok-track-2.ensures.within in
+    let short = left_short at c.in_ok-tree.tree c.in_ok-tree.ensures.within in
     is_few (darts_of s) (darts c.args.first.now + darts c.args.second.now) (darts c.args.second.now)
     (darts (numbers c.in_ok-closed.closed.items))
     (length c.in_ok-closed.moves.moves) (length c.into_moves.result.moves)
     (omega (arith, three_darts s c.requires.valid)) (omega arith) (few_darts at)
     (omega (
       arith,
-      c.in_ok-track.ensures.count,
+      c.in_ok-joined.ensures.count,
       ap (λ (l : List ℕ). length l) c.in_ok-closed.ensures.vertices,
       ap (λ (l : PeakedMoves). length l.moves) c.in_ok-closed.ensures.moves,
     ))

@@ -21,12 +21,12 @@ loop-pass-init c = record {
 
 pub least_depth-depth-requires-clause-walk : goal.least_depth-depth-requires-clause-walk
 least_depth-depth-requires-clause-walk c =
-    subst (λ (l : List VertexName). IsWalk c.args.on.now.surface.now.mesh (numbers l)) (sym c.deref-in-loop-pass.ensures.value)
+    subst (λ (l : List VertexName). IsWalk c.args.on.now.surface.now.mesh (numbers l)) (sym c.as_slice-vertices.ensures.value)
     (led_walk c.args.on.now.surface.now.mesh c.args.behind _ c.loop-pass.invariant.passed.led)
 
 pub over-requires-clause-walk : goal.over-requires-clause-walk
 over-requires-clause-walk c =
-    subst (λ (l : List VertexName). IsWalk c.args.on.now.surface.now.mesh (numbers l)) (sym c.deref-in-loop-pass-3.ensures.value)
+    subst (λ (l : List VertexName). IsWalk c.args.on.now.surface.now.mesh (numbers l)) (sym c.as_slice-vertices.ensures.value)
     (led_walk c.args.on.now.surface.now.mesh c.args.behind _ c.loop-pass.invariant.passed.led)
 
 pub loop-pass-preserved : goal.loop-pass-preserved
@@ -38,12 +38,12 @@ loop-pass-preserved c =
     let track : TrackView = c.in_ok-track.track in
     let goes : GoesOn s.mesh c.args.behind old.walk old.list track.walk track.list =
     subst (λ (l : List VertexName). GoesOn s.mesh c.args.behind (numbers l) c.loop-pass.moves track.walk track.list)
-    c.deref-in-loop-pass-3.ensures.value c.in_ok-track.ensures.leads in
+    c.as_slice-vertices.ensures.value c.in_ok-track.ensures.leads in
     let within : StaysWithin s split c.args.behind old.walk old.list track.walk track.list =
     subst (λ (l : List VertexName). StaysWithin s split c.args.behind (numbers l) c.loop-pass.moves track.walk track.list)
-    c.deref-in-loop-pass-3.ensures.value c.in_ok-track.ensures.within in
+    c.as_slice-vertices.ensures.value c.in_ok-track.ensures.within in
     let last : last_of track.walk ≡ last_of old.walk =
-    c.in_ok-track.ensures.last ∙ ap (λ (l : List VertexName). last_of (numbers l)) c.deref-in-loop-pass-3.ensures.value in
+    c.in_ok-track.ensures.last ∙ ap (λ (l : List VertexName). last_of (numbers l)) c.as_slice-vertices.ensures.value in
     let passed : IsPassedFrom s split c.args.behind begun track =
     passed_on s split c.args.behind begun old track c.loop-pass.invariant.passed goes last c.in_ok-track.ensures.some
     c.in_ok-track.ensures.leaves within in

@@ -9,7 +9,7 @@ use Rattle.halfedge_map.specs.DartMaps.{origin_of}
 use Rattle.polygon_cut.specs.Polygons.{PolygonView, side_at}
 use Rattle.polygon_cut.specs.SpokeLoops.{last_side}
 use Rattle.move_lifting.proofs.ApproachLemmas.{first_spoke, made_more, none_made, last_used, spoke_some}
-use Rattle.move_lifting.proofs.ExpandLemmas.{length-numbers, one_pending}
+use Rattle.move_lifting.proofs.ExpandLemmas.{length-numbers}
 use Rattle.move_lifting.proofs.spoke_walks.SpokeWalks.of.Goals as goal
 
 -- where the walks start
@@ -23,16 +23,15 @@ loop-spoke-init c =
     let s = c.args.cut.now.on.surface.now in
     let split = c.args.cut.now.on.split.now in
     let polygon = c.args.cut.now.polygon.now in
-    let alone : numbers c.push.new.self.items ≡ origin_of s (last_side polygon) ∷ [] =
-    one_pending c.push.new.self.items c.new-walk.result.items c.origin-start.result c.in_ok-push.ensures.items
-    ∙ ap (λ (l : List VertexName). numbers l ++ c.origin-start.result.0 ∷ []) c.new-walk.ensures.items
+    let alone : numbers c.in_ok-walk.walk.items ≡ origin_of s (last_side polygon) ∷ [] =
+    c.in_ok-walk.ensures
     ∙ ap (λ (x : ℕ). x ∷ [])
     (start_is c.args.cut.now.on.surface.now c.args.cut.now.polygon.now c.origin-start.result.0
     c.side.result.0 c.degree-degree.result
     c.origin-start.ensures c.side.ensures c.degree-degree.ensures.degree) in
-    none_made s split polygon c.args.named.now c.new-walks.result (numbers c.push.new.self.items) c.new-walks.ensures
+    none_made s split polygon c.args.named.now c.new-walks.result (numbers c.in_ok-walk.walk.items) c.new-walks.ensures
     (first_spoke s split c.requires.cut.valid c.requires.cut.on.split polygon c.requires.cut.polygon c.requires.cut.some
-    (numbers c.push.new.self.items) alone)
+    (numbers c.in_ok-walk.walk.items) alone)
 
 pub go_round-requires-clause-some : goal.go_round-requires-clause-some
 go_round-requires-clause-some c =
