@@ -69,15 +69,16 @@ module _ (s : OrientedMesh) (split : SplitView) (o : IsOrientedSurface s) (t : I
       let d : ℕ = polygon.degree in
       let a_in : a < d = omega (arith, number, q.a_below) in
       let b_in : b < d = omega (arith, number, q.c_below) in
-      let other : ℕ = h.partner a in
-      let other_in : other < d = h.partner_in a a_in in
+      let w = h.wheel in
+      let other : ℕ = across (rotations_of s) polygon a in
+      let other_in : other < d = w.partner_in a a_in in
       let a_place : place_of polygon (add d b 1) ≡ add d (place_of polygon a) (minus d 1) =
       subst (λ n. place_of polygon (add n b 1) ≡ add n (place_of polygon a) (minus n 1)) number q.a_place in
       let next : add d b 1 ≡ add d other 1 =
-      sym (h.spoke_of_place (add d b 1) (add-lt d b 1 b_in h.large)) ∙ ap (spoke_at polygon) (a_place ∙ sym (h.one_before a a_in))
-      ∙ h.spoke_of_place (add d other 1) (add-lt d other 1 other_in h.large) in
+      sym (w.spoke_of_place (add d b 1) (add-lt d b 1 b_in w.large)) ∙ ap (spoke_at polygon) (a_place ∙ sym (w.one_before a a_in))
+      ∙ w.spoke_of_place (add d other 1) (add-lt d other 1 other_in w.large) in
       let is : other ≡ b =
-      sym (add_back d other h.large other_in) ∙ ap (λ x. add d x (minus d 1)) (sym next) ∙ add_back d b h.large b_in in
+      sym (add_back d other w.large other_in) ∙ ap (λ x. add d x (minus d 1)) (sym next) ∙ add_back d b w.large b_in in
       subst (λ n. SameLoop (quotient loop_mul loop_inv (S a) (S (add n a 1))) (quotient loop_mul loop_inv (S (add n b 1)) (S b)))
       (sym number)
       (subst (λ x. SameLoop (quotient loop_mul loop_inv (S a) (S (add d a 1))) (quotient loop_mul loop_inv (S (add d x 1)) (S x))) is

@@ -30,11 +30,6 @@ degree_is : (surface : OrientedMesh) (labelling : LabellingView) (h : IsLabelled
     → labelling.degree ≡ h.polygon.degree
 degree_is surface labelling h = ap (λ (l : LabellingView). l.degree) h.labelling_is
 
--- four spokes for each handle: four, or five and more
-pub five_spokes : (surface : OrientedMesh) (labelling : LabellingView) → IsLabelledByCut surface labelling → labelling.degree ≢ 4
-    → 5 ≤ labelling.degree
-five_spokes surface labelling h other = omega (arith, degree_is surface labelling h, h.some, h.is_cut.degree)
-
 -- the wheel of the labelling is full
 pub labelled_wheel : (surface : OrientedMesh) (labelling : LabellingView) → IsOrientedSurface surface → IsLabelledByCut surface labelling
     → 5 ≤ labelling.degree → IsFullWheel labelling.places
@@ -126,7 +121,3 @@ sums_decide surface labelling first second one other same o h four first_closed 
 -- the answer that is given of what was found
 pub found_freely : {P : Type 0} (answer : FreeAnswer) → P → answer ≡ Freely → (answer ≡ Freely) ↔ P
 found_freely answer free e = ((λ _. free), (λ _. e))
-
-pub found_not : {P : Type 0} (answer : FreeAnswer) → ¬ P → answer ≡ NotFreely → (answer ≡ Freely) ↔ P
-found_not answer not_free e =
-    ((λ freely. absurd (let both : NotFreely ≡ Freely = sym e ∙ freely in cc)), (λ free. absurd (not_free free)))

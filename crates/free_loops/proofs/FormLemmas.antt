@@ -36,10 +36,6 @@ even_state places state (i ∷ j ∷ path) b e h even =
     (hyper_stays.at_vertex places state i j b e h.0 h.1.0) h.1.1 (omega arith)
 
 module _ (mesh : FaceList) (labelling : LabellingView) (good : IsGood mesh labelling) (full : IsFullWheel labelling.places) where
-  -- the degree of a full wheel is not 4
-  pub no_plane : (walk : List ℕ) (x y : ℤ) → IsWordOf mesh labelling walk (Flat x y) → ⊥
-  no_plane walk x y h = omega (arith, h.0, good.shape.each_spoke, full.own.five)
-
   word_over_places : (walk word : List ℕ) → IsWordOf mesh labelling walk (Turns word)
       → IsCanonicalOf (length labelling.places) (turn_word_of labelling.places (quad_path mesh labelling walk)) word
   word_over_places walk word h =

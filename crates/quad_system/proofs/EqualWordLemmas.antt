@@ -16,11 +16,12 @@ use Rattle.turn_words.specs.Canonical.{IsCanonicalOf}
 use Rattle.turn_words.specs.SpokePaths.{turn_word_of}
 use Rattle.turn_words.specs.FormLaws.{led}
 use Rattle.turn_words.specs.HyperStates.{HyperState, IsHyperWheel, BelongsTo, IsEven, empty_state, hyper_next}
+use Rattle.turn_words.specs.Lemmas.FromEnd.{in-range-from}
 use Rattle.turn_words.specs.Lemmas.HyperLaws.{hyper_starts, hyper_stays, hyper_there_and_back, hyper_across}
 use Rattle.turn_words.proofs.Unique.{unique}
 use Rattle.turn_words.proofs.Spokes.{turns, canonical}
 use Rattle.tree_cotree.specs.Splits.{SplitView, IsSplit}
-use Rattle.polygon_cut.specs.Polygons.{PolygonView, IsCutFrom, HasPlaces, label_of, place_of}
+use Rattle.polygon_cut.specs.Polygons.{PolygonView, IsCutFrom, HasPlaces, label_of, place_of, across}
 use Rattle.polygon_cut.proofs.GroupLemmas.{IsGroup}
 use Rattle.polygon_cut.proofs.RelatorLemmas.{spoke_product}
 use Rattle.polygon_cut.proofs.LoopLemmas.{IsWay, way_walk, SameLoop, loop_mul, loop_inv, loop_one, loop_of, from_loops}
@@ -33,7 +34,8 @@ use Rattle.quad_system.specs.PolygonLabellings.{labelling_from}
 use Rattle.labellings.proofs.FoldLemmas.{PutLaws}
 use Rattle.labellings.proofs.KeepingLemmas.{moves_keep}
 use Rattle.quad_system.proofs.PolygonLabelLemmas.{polygon_good}
-use Rattle.quad_system.proofs.ReadingLemmas.{HasQuads, within_from, read, reached_reads, spokes_read}
+use Rattle.quad_system.proofs.ReadingLemmas.{HasQuads, reached_reads}
+use Rattle.quad_system.proofs.PushPathLemmas.{path_of, word_path}
 use Rattle.quad_system.proofs.SpokeProductLemmas.{DartSpokes, dart_spokes, polygon_quads, spoke_at, walk_product}
 
 both_below : (n a b c d : ℕ) → a < n → b < n → All (λ i. i < n) (spokes_by_labels a b c d)
@@ -67,23 +69,25 @@ path_below s split polygon o t c some u v (w ∷ rest) way =
 
 -- lists of spokes whose turn words reach one canonical word have one product
 one_product : {X : Type 0} (Same : X → X → Type 0) (mul : X → X → X) (inv : X → X) (one : X) → IsGroup Same mul inv one
-    → (element : ℕ → X) (places : List ℕ) (spoke_at : ℕ → ℕ)
-    → HasQuads Same mul inv element (length places) (λ i. get_or places i 0) spoke_at → IsHyperWheel places
+    → (element : ℕ → X) (places : List ℕ) (spoke_at partner : ℕ → ℕ)
+    → HasQuads Same mul inv element (length places) (λ i. get_or places i 0) spoke_at partner → IsHyperWheel places
     → (first second canonical : List ℕ)
     → All (λ i. i < length places) first → All (λ i. i < length places) second
     → IsCanonicalOf (length places) (turn_word_of places first) canonical
     → IsCanonicalOf (length places) (turn_word_of places second) canonical
     → Same (spoke_product mul inv one element true first) (spoke_product mul inv one element true second)
-one_product Same mul inv one g element places spoke_at q own first second canonical f s to_first to_second =
+one_product {X = X} Same mul inv one g element places spoke_at partner q own first second canonical f s to_first to_second =
     let d : ℕ = length places in
     let five : 5 ≤ d = own.five in
-    let reading : List ℕ → _ = read mul inv one element d (λ i. get_or places i 0) spoke_at true 0 in
+    let reading : List ℕ → X = λ word.
+    spoke_product mul inv one element true (path_of d (λ i. get_or places i 0) spoke_at true 0 word) in
     let reads : (spokes : List ℕ) → All (λ i. i < d) spokes → IsCanonicalOf d (turn_word_of places spokes) canonical
     → Same (spoke_product mul inv one element true spokes) (reading canonical) =
     λ spokes h c.
-    subst (λ x. Same x (reading canonical)) (spokes_read mul inv one element places spoke_at q.place_in q.spoke_of_place spokes h)
-    (reached_reads Same mul inv one g element d (λ i. get_or places i 0) spoke_at q c.reached.0 (turn_word_of places spokes) canonical
-    (within_from d (turn_word_of places spokes) (turns places spokes own h).in_range) c.reached.1 true 0 (omega arith)) in
+    subst (λ (l : List ℕ). Same (spoke_product mul inv one element true l) (reading canonical))
+    (word_path places spoke_at q.wheel.place_in q.wheel.spoke_of_place spokes h)
+    (reached_reads Same mul inv one g element d (λ i. get_or places i 0) spoke_at partner q five c.reached.0 (turn_word_of places spokes)
+    canonical (in-range-from d (turn_word_of places spokes) (turns places spokes own h).in_range) c.reached.1) in
     g.on (spoke_product mul inv one element true first) (reading canonical) (spoke_product mul inv one element true second)
     (reads first f to_first) (g.turn (spoke_product mul inv one element true second) (reading canonical) (reads second s to_second))
 
@@ -141,11 +145,11 @@ equal_words s split polygon (u ∷ rest) (v ∷ others) canonical o t c five w z
         let a : Loops s split t = spoke_product loop_mul loop_inv one element true first in
         let b : Loops s split t = spoke_product loop_mul loop_inv one element true second in
         let quads : HasQuads {X = Loops s split t} SameLoop loop_mul loop_inv element (length polygon.places) (place_of polygon)
-        (spoke_at polygon) =
-        subst (λ n. HasQuads {X = Loops s split t} SameLoop loop_mul loop_inv element n (place_of polygon) (spoke_at polygon)) number
-        (polygon_quads s split o t polygon c some) in
+        (spoke_at polygon) (across (rotations_of s) polygon) =
+        subst (λ n. HasQuads {X = Loops s split t} SameLoop loop_mul loop_inv element n (place_of polygon) (spoke_at polygon)
+        (across (rotations_of s) polygon)) number (polygon_quads s split o t polygon c some) in
         let equal : SameLoop a b =
-        one_product SameLoop loop_mul loop_inv one group element polygon.places (spoke_at polygon) quads
+        one_product SameLoop loop_mul loop_inv one group element polygon.places (spoke_at polygon) (across (rotations_of s) polygon) quads
         (own_wheel (rotations_of s) polygon (c.places some) five) first second canonical
         (subst (λ n. All (λ i. i < n) first) number (path_below s split polygon o t c some u v rest way))
         (subst (λ n. All (λ i. i < n) second) number (path_below s split polygon o t c some u v others along))

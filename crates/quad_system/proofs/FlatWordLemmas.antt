@@ -7,6 +7,7 @@ use Rattle.surf_model.specs.Walks.{IsWalk, HaveCommonEnds}
 use Rattle.surf_model.specs.Moves.{Homotopic}
 use Rattle.halfedge_map.specs.OrientedMeshes.{OrientedMesh, IsOrientedSurface}
 use Rattle.halfedge_map.specs.DartMaps.{next_of, origin_of}
+use Rattle.halfedge_map.specs.RotationSystems.{rotations_of}
 use Rattle.halfedge_map.proofs.EdgeLemmas.{dart_between}
 use Rattle.turn_words.specs.Modulo.{add, minus}
 use Rattle.turn_words.specs.Lemmas.Sums.{add-cases, add-lt}
@@ -17,7 +18,7 @@ use Rattle.flat_forms.specs.Pairs.{spokes_of, sum_of_pairs}
 use Rattle.flat_forms.specs.Lemmas.FlatLaws.{flat_starts, flat_stays, flat_there_and_back, flat_across}
 use Rattle.flat_forms.proofs.SumsOfPairs.{leads-to-sum}
 use Rattle.tree_cotree.specs.Splits.{SplitView, IsSplit}
-use Rattle.polygon_cut.specs.Polygons.{PolygonView, IsCutFrom, label_of, place_of}
+use Rattle.polygon_cut.specs.Polygons.{PolygonView, IsCutFrom, label_of, place_of, across}
 use Rattle.polygon_cut.proofs.GroupLemmas.{IsGroup, quotient}
 use Rattle.polygon_cut.proofs.RelatorLemmas.{spoke_product}
 use Rattle.polygon_cut.proofs.LawLemmas.{four_places}
@@ -40,22 +41,22 @@ abbrev Rises : (ℕ → ℕ) → Type 0
 Rises place = (i : ℕ) → i < 4 → place (add 4 i 1) ≡ add 4 (place i) 1
 
 -- the side across is two on
-across_two : {X : Type 0} (Same : X → X → Type 0) (mul : X → X → X) (inv : X → X) (element : ℕ → X) (place spoke_at : ℕ → ℕ)
-    → (q : HasQuads Same mul inv element 4 place spoke_at) → Rises place → (a : ℕ) → a < 4 → q.partner a ≡ add 4 (add 4 a 1) 1
+across_two : {X : Type 0} (Same : X → X → Type 0) (mul : X → X → X) (inv : X → X) (element : ℕ → X) (place spoke_at partner : ℕ → ℕ)
+    → (q : HasQuads Same mul inv element 4 place spoke_at partner) → Rises place → (a : ℕ) → a < 4 → partner a ≡ add 4 (add 4 a 1) 1
 unfolding minus
-across_two Same mul inv element place spoke_at q rises a l =
-    let c : ℕ = q.partner a in
-    let c_in : c < 4 = q.partner_in a l in
+across_two Same mul inv element place spoke_at partner q rises a l =
+    let c : ℕ = partner a in
+    let c_in : c < 4 = q.wheel.partner_in a l in
     let near : ℕ = add 4 a 1 in
     let near_in : near < 4 = add-lt 4 a 1 l (omega arith) in
     let far : ℕ = add 4 near 1 in
     let far_in : far < 4 = add-lt 4 near 1 near_in (omega arith) in
-    let side : place (add 4 c 1) ≡ add 4 (place a) 3 = q.one_before a l in
+    let side : place (add 4 c 1) ≡ add 4 (place a) 3 = q.wheel.one_before a l in
     let up_c : place (add 4 c 1) ≡ add 4 (place c) 1 = rises c c_in in
     let up_a : place near ≡ add 4 (place a) 1 = rises a l in
     let up_far : place far ≡ add 4 (place near) 1 = rises near near_in in
-    let p_a : place a < 4 = q.place_in a l in
-    let p_c : place c < 4 = q.place_in c c_in in
+    let p_a : place a < 4 = q.wheel.place_in a l in
+    let p_c : place c < 4 = q.wheel.place_in c c_in in
     let same : place c ≡ place far = omega (
       arith,
       add-cases 4 (place c) 1,
@@ -63,19 +64,19 @@ across_two Same mul inv element place spoke_at q rises a l =
       add-cases 4 (place a) 3,
       add-cases 4 (place near) 1,
     ) in
-    sym (q.spoke_of_place c c_in) ∙ ap spoke_at same ∙ q.spoke_of_place far far_in
+    sym (q.wheel.spoke_of_place c c_in) ∙ ap spoke_at same ∙ q.wheel.spoke_of_place far far_in
 
 -- the quads of four spokes, one by one
 pub record Torus {X : Type 0} (Same : X → X → Type 0) (mul : X → X → X) (inv : X → X) (e : ℕ → X) : Type 0 where
   pub first : Same (quotient mul inv (e 0) (e 1)) (quotient mul inv (e 3) (e 2))
   pub second : Same (quotient mul inv (e 1) (e 2)) (quotient mul inv (e 0) (e 3))
 
-pub torus : {X : Type 0} (Same : X → X → Type 0) (mul : X → X → X) (inv : X → X) (element : ℕ → X) (place spoke_at : ℕ → ℕ)
-    → (q : HasQuads Same mul inv element 4 place spoke_at) → Rises place → Torus Same mul inv element
+pub torus : {X : Type 0} (Same : X → X → Type 0) (mul : X → X → X) (inv : X → X) (element : ℕ → X) (place spoke_at partner : ℕ → ℕ)
+    → (q : HasQuads Same mul inv element 4 place spoke_at partner) → Rises place → Torus Same mul inv element
 unfolding add
-torus Same mul inv element place spoke_at q rises =
-    let two : q.partner 0 ≡ 2 = across_two Same mul inv element place spoke_at q rises 0 (omega arith) in
-    let three : q.partner 1 ≡ 3 = across_two Same mul inv element place spoke_at q rises 1 (omega arith) in
+torus Same mul inv element place spoke_at partner q rises =
+    let two : partner 0 ≡ 2 = across_two Same mul inv element place spoke_at partner q rises 0 (omega arith) in
+    let three : partner 1 ≡ 3 = across_two Same mul inv element place spoke_at partner q rises 1 (omega arith) in
     record {
       first = subst (λ c. Same (quotient mul inv (element 0) (element 1)) (quotient mul inv (element (add 4 c 1)) (element c))) two
           (q.around_middle 0 (omega arith));
@@ -252,11 +253,14 @@ one_point s split polygon o t c four u v rest others way along same =
     let sums : sum_of_pairs p.0 ≡ sum_of_pairs q.0 =
     sym (leads-to-sum polygon.places p.0) ∙ ap (led flat_next polygon.places origin) (sym p.1) ∙ same
     ∙ ap (led flat_next polygon.places origin) q.1 ∙ leads-to-sum polygon.places q.0 in
-    let quads : HasQuads {X = Loops s split t} SameLoop loop_mul loop_inv element 4 (place_of polygon) (spoke_at polygon) =
-    subst (λ n. HasQuads {X = Loops s split t} SameLoop loop_mul loop_inv element n (place_of polygon) (spoke_at polygon)) four
+    let quads : HasQuads {X = Loops s split t} SameLoop loop_mul loop_inv element 4 (place_of polygon) (spoke_at polygon)
+    (across (rotations_of s) polygon) =
+    subst (λ n. HasQuads {X = Loops s split t} SameLoop loop_mul loop_inv element n (place_of polygon) (spoke_at polygon)
+    (across (rotations_of s) polygon)) four
     (polygon_quads s split o t polygon c some) in
     let four_quads : Torus {X = Loops s split t} SameLoop loop_mul loop_inv element =
-    torus SameLoop loop_mul loop_inv element (place_of polygon) (spoke_at polygon) quads (flat_wheel s split polygon o t c four).1 in
+    torus SameLoop loop_mul loop_inv element (place_of polygon) (spoke_at polygon) (across (rotations_of s) polygon) quads
+    (flat_wheel s split polygon o t c four).1 in
     let equal : SameLoop (product (spokes_of p.0)) (product (spokes_of q.0)) =
     same_product SameLoop loop_mul loop_inv nothing group element four_quads p.0 q.0 p_below q_below sums in
     let first : SameLoop x (product (spokes_of p.0)) =

@@ -1,14 +1,15 @@
 -- The spokes of a turn word, and what elementary steps do to them: a spur takes out two equal neighbours, and a push changes two
 -- neighbours across a quad.
 use Rattle.std.proofs.Common.{◌≡◌, ℕ, zero, suc, ◌<◌, Bool, true, false, not, eqb, List, [], ◌∷◌, ◌++◌, length, get_or, refl, ap, sym, ◌∙◌, subst, arith}
-use Rattle.std.specs.Prelude.{All, Option, Some, None, option_map, cond}
-use Rattle.std.proofs.lemmas.Bool.{eqb-true}
+use Rattle.std.specs.Prelude.{All, Option, Some, None, option_map, cond, nat_lt}
+use Rattle.std.proofs.lemmas.Bool.{eqb-true, ltb-true}
 use Rattle.turn_words.specs.Modulo.{add, minus}
+use Rattle.turn_words.specs.Lemmas.Lists.{InRange}
 use Rattle.turn_words.specs.Lemmas.Sums.{add-lt, minus-lt, add_comm, add_assoc, add-zero, zero-add, add-minus}
-use Rattle.turn_words.specs.StepTable.{next_changed, spur_out, pushed, from_place, after_step}
+use Rattle.turn_words.specs.StepTable.{next_changed, spur_in, spur_out, pushed, from_place, after_step}
 use Rattle.turn_words.specs.SpokePaths.{place_round, turns_after, turn_word_of}
-use Rattle.turn_words.specs.declared.step.Step.TheVariants.{SpurOut, Push}
-use Rattle.quad_system.proofs.ReadingLemmas.{Within, changed_within}
+use Rattle.turn_words.specs.declared.step.Step.TheVariants.{SpurIn, SpurOut, Push}
+use Rattle.polygon_cut.proofs.RelatorLemmas.{ends_at_vertex}
 
 -- a wheel of spokes with the quads of a polygon: places are undone by `spoke_at`, and each number has a partner with which it makes a quad
 pub record IsQuadWheel (degree : ℕ) (place spoke_at partner : ℕ → ℕ) : Type 0 where
@@ -28,9 +29,14 @@ path_of degree place spoke_at true m (y ∷ word) = spoke_at (add degree m y) �
     (spoke_at (add degree m y)) word
 path_of degree place spoke_at false m (y ∷ word) = add degree m y ∷ path_of degree place spoke_at true (place (add degree m y)) word
 
+changed_within : (degree amount : ℕ) (word : List ℕ) → amount < degree → InRange degree word
+    → InRange degree (next_changed degree amount word)
+changed_within degree amount [] l h = tt
+changed_within degree amount (y ∷ word) l h = (add-lt degree y amount h.0 l, h.1)
+
 -- they depend on where turns are counted from, and on the first entry, by their sum alone
 path_shifted : (degree : ℕ) (place spoke_at : ℕ → ℕ) (at_vertex : Bool) (m amount : ℕ) (word : List ℕ) → m < degree → amount < degree
-    → Within degree word
+    → InRange degree word
     → path_of degree place spoke_at at_vertex (add degree m amount) word ≡ path_of degree place spoke_at at_vertex m
     (next_changed degree amount word)
 path_shifted degree place spoke_at at_vertex m amount [] l k h = refl
@@ -54,7 +60,7 @@ pub record SpurGoes (at_vertex : Bool) (path other : List ℕ) : Type 0 where
 
 spur_path : (degree : ℕ) (place spoke_at partner : ℕ → ℕ) → IsQuadWheel degree place spoke_at partner
     → (at_vertex : Bool) (m x : ℕ) (word : List ℕ) → m < degree → x < degree
-    → Within degree word
+    → InRange degree word
     → SpurGoes at_vertex (path_of degree place spoke_at at_vertex m (x ∷ 0 ∷ word))
     (path_of degree place spoke_at at_vertex m (next_changed degree x word))
 spur_path degree place spoke_at partner q true m x word l k h =
@@ -100,7 +106,7 @@ pub record IsPushedDown (degree : ℕ) (partner : ℕ → ℕ) (at_vertex : Bool
 
 push_path : (degree : ℕ) (place spoke_at partner : ℕ → ℕ) → IsQuadWheel degree place spoke_at partner
     → (at_vertex : Bool) (m x : ℕ) (word : List ℕ) → m < degree → x < degree
-    → Within degree word
+    → InRange degree word
     → IsPushedDown degree partner at_vertex (path_of degree place spoke_at at_vertex m (x ∷ 1 ∷ word))
     (path_of degree place spoke_at at_vertex m (add degree x (minus degree 1) ∷ minus degree 1 ∷ next_changed degree (minus degree 1) word))
 push_path degree place spoke_at partner q true m x word l k h =
@@ -180,6 +186,11 @@ abbrev pub turned : ℕ → Bool → Bool
 turned zero at_vertex = at_vertex
 turned (suc n) at_vertex = turned n (not at_vertex)
 
+-- where so many spokes end
+pub ends_by_length : (at_vertex : Bool) (path : List ℕ) → ends_at_vertex at_vertex path ≡ turned (length path) at_vertex
+ends_by_length at_vertex [] = refl
+ends_by_length at_vertex (i ∷ path) = ends_by_length (not at_vertex) path
+
 -- A rule used further on in the word: the spokes before it stay.
 pub record IsChangedBehind (Changed : Bool → List ℕ → List ℕ → Type 0) (at_vertex : Bool) (at : ℕ) (path other : List ℕ) : Type 0 where
   pub before : List ℕ
@@ -195,7 +206,7 @@ pub record IsChangedBehind (Changed : Bool → List ℕ → List ℕ → Type 0)
 -- what a rule does to the spokes of the words that it fits
 abbrev pub ChangesPath : ℕ → (ℕ → ℕ) → (ℕ → ℕ) → (Bool → List ℕ → List ℕ → Type 0) → (List ℕ → Option (List ℕ)) → Type 0
 ChangesPath degree place spoke_at Changed rule =
-    (w v : List ℕ) → Within degree w → rule w ≡ Some v → (at_vertex : Bool) (m : ℕ) → m < degree
+    (w v : List ℕ) → InRange degree w → rule w ≡ Some v → (at_vertex : Bool) (m : ℕ) → m < degree
     → Changed at_vertex (path_of degree place spoke_at at_vertex m w) (path_of degree place spoke_at at_vertex m v)
 
 mapped_is : (o : Option (List ℕ)) (x : ℕ) (v : List ℕ) → option_map (λ changed. x ∷ changed) o ≡ Some v → (w : List ℕ) × (o ≡ Some w)
@@ -205,7 +216,7 @@ mapped_is (Some w) x v e = (w, refl, let same : x ∷ w ≡ v = cc in same)
 
 pub changed_behind : (degree : ℕ) (place spoke_at partner : ℕ → ℕ) → IsQuadWheel degree place spoke_at partner
     → (Changed : Bool → List ℕ → List ℕ → Type 0) (rule : List ℕ → Option (List ℕ))
-    → ChangesPath degree place spoke_at Changed rule → (at : ℕ) (w v : List ℕ) → Within degree w → from_place at rule w ≡ Some v
+    → ChangesPath degree place spoke_at Changed rule → (at : ℕ) (w v : List ℕ) → InRange degree w → from_place at rule w ≡ Some v
     → (at_vertex : Bool) (m : ℕ) → m < degree
     → IsChangedBehind Changed at_vertex at (path_of degree place spoke_at at_vertex m w) (path_of degree place spoke_at at_vertex m v)
 changed_behind degree place spoke_at partner q Changed rule ok zero w v h e at_vertex m l = record {
@@ -258,6 +269,28 @@ some_is : (test : Bool) (x v : List ℕ) → cond test (Some x) None ≡ Some v 
 some_is true x v e = (refl, let same : x ≡ v = cc in same)
 some_is false x v e = cc
 
+unchanged : (degree a b : ℕ) (word : List ℕ) → InRange degree word → a < degree → b < degree → add degree a b ≡ 0
+    → next_changed degree b (next_changed degree a word) ≡ word
+unchanged degree a b [] h l k e = refl
+unchanged degree a b (y ∷ word) h l k e = ap (λ x. x ∷ word) (add_assoc degree y a b h.0 l k ∙ ap (add degree y) e ∙ add-zero degree y h.0)
+
+-- a spur that comes in is one that goes out, the other way
+spur_in_path : (degree : ℕ) (place spoke_at partner : ℕ → ℕ) → IsQuadWheel degree place spoke_at partner → (first : ℕ)
+    → ChangesPath degree place spoke_at (λ at_vertex path other. SpurGoes at_vertex other path) (spur_in degree first)
+spur_in_path degree place spoke_at partner q first w v h e at_vertex m l =
+    let back : ℕ = minus degree first in
+    let told = some_is (nat_lt first degree) (first ∷ 0 ∷ next_changed degree back w) v e in
+    let first_in : first < degree = ltb-true first degree told.0 in
+    let back_in : back < degree = minus-lt degree first first_in in
+    let home : next_changed degree first (next_changed degree back w) ≡ w =
+    unchanged degree back first w h back_in first_in (add_comm degree back first ∙ add-minus degree first first_in) in
+    subst (λ (z : List ℕ). SpurGoes at_vertex (path_of degree place spoke_at at_vertex m z) (path_of degree place spoke_at at_vertex m w))
+    told.1
+    (subst (λ (z : List ℕ). SpurGoes at_vertex (path_of degree place spoke_at at_vertex m (first ∷ 0 ∷ next_changed degree back w))
+    (path_of degree place spoke_at at_vertex m z)) home
+    (spur_path degree place spoke_at partner q at_vertex m first (next_changed degree back w) l first_in
+    (changed_within degree back w back_in h)))
+
 spur_out_path : (degree : ℕ) (place spoke_at partner : ℕ → ℕ) → IsQuadWheel degree place spoke_at partner
     → ChangesPath degree place spoke_at SpurGoes (spur_out degree)
 spur_out_path degree place spoke_at partner q [] v h e at_vertex m l = cc
@@ -275,11 +308,6 @@ spur_out_path degree place spoke_at partner q (x ∷ turn ∷ w) v h e at_vertex
 abbrev pub PushedOneWay : ℕ → (ℕ → ℕ) → Bool → Bool → List ℕ → List ℕ → Type 0
 PushedOneWay degree partner false at_vertex path other = IsPushedDown degree partner at_vertex path other
 PushedOneWay degree partner true at_vertex path other = IsPushedDown degree partner at_vertex other path
-
-unchanged : (degree a b : ℕ) (word : List ℕ) → Within degree word → a < degree → b < degree → add degree a b ≡ 0
-    → next_changed degree b (next_changed degree a word) ≡ word
-unchanged degree a b [] h l k e = refl
-unchanged degree a b (y ∷ word) h l k e = ap (λ x. x ∷ word) (add_assoc degree y a b h.0 l k ∙ ap (add degree y) e ∙ add-zero degree y h.0)
 
 pushed_path : (degree : ℕ) (place spoke_at partner : ℕ → ℕ) → IsQuadWheel degree place spoke_at partner → (up : Bool)
     → ChangesPath degree place spoke_at (PushedOneWay degree partner up) (pushed degree up)
@@ -300,7 +328,7 @@ pushed_path degree place spoke_at partner q true (x ∷ turn ∷ w) v h e at_ver
     let told = some_is (eqb turn less) (add degree x 1 ∷ 1 ∷ next_changed degree 1 w) v e in
     let less_is : turn ≡ less = eqb-true turn less told.0 in
     let x_up : add degree x 1 < degree = add-lt degree x 1 h.0 q.large in
-    let changed : Within degree (next_changed degree 1 w) = changed_within degree 1 w q.large h.1.1 in
+    let changed : InRange degree (next_changed degree 1 w) = changed_within degree 1 w q.large h.1.1 in
     let home : next_changed degree less (next_changed degree 1 w) ≡ w =
     unchanged degree 1 less w h.1.1 q.large less_in (add-minus degree 1 q.large) in
     let x_home : add degree (add degree x 1) less ≡ x = add_back degree x q.large h.0 in
@@ -317,9 +345,19 @@ pushed_path degree place spoke_at partner q true (x ∷ turn ∷ w) v h e at_ver
     subst (λ (z : List ℕ). IsPushedDown degree partner at_vertex (path_of degree place spoke_at at_vertex m z)
     (path_of degree place spoke_at at_vertex m (x ∷ turn ∷ w))) told.1 to_word
 
--- What the steps of a reduction do to the spokes of a word that starts at the vertex.
+-- What elementary steps do to the spokes of a word that starts at the vertex.
+pub spur_in_changes : (degree : ℕ) (place spoke_at partner : ℕ → ℕ) → IsQuadWheel degree place spoke_at partner
+    → (at first : ℕ) (w v : List ℕ) → InRange degree w
+    → after_step degree (SpurIn at first) w ≡ Some v
+    → IsChangedBehind (λ at_vertex path other. SpurGoes at_vertex other path) true at (path_of degree place spoke_at true 0 w)
+    (path_of degree place spoke_at true 0 v)
+spur_in_changes degree place spoke_at partner q at first w v h e =
+    changed_behind degree place spoke_at partner q (λ at_vertex path other. SpurGoes at_vertex other path) (spur_in degree first)
+    (spur_in_path degree place spoke_at partner q first) at w v h e
+    true 0 (let large : 1 < degree = q.large in omega arith)
+
 pub spur_out_changes : (degree : ℕ) (place spoke_at partner : ℕ → ℕ) → IsQuadWheel degree place spoke_at partner
-    → (at : ℕ) (w v : List ℕ) → Within degree w
+    → (at : ℕ) (w v : List ℕ) → InRange degree w
     → after_step degree (SpurOut at) w ≡ Some v
     → IsChangedBehind SpurGoes true at (path_of degree place spoke_at true 0 w) (path_of degree place spoke_at true 0 v)
 spur_out_changes degree place spoke_at partner q at w v h e =
@@ -327,7 +365,7 @@ spur_out_changes degree place spoke_at partner q at w v h e =
     true 0 (let large : 1 < degree = q.large in omega arith)
 
 pub push_changes : (degree : ℕ) (place spoke_at partner : ℕ → ℕ) → IsQuadWheel degree place spoke_at partner
-    → (at : ℕ) (up : Bool) (w v : List ℕ) → Within degree w
+    → (at : ℕ) (up : Bool) (w v : List ℕ) → InRange degree w
     → after_step degree (Push at up) w ≡ Some v
     → IsChangedBehind (PushedOneWay degree partner up) true at (path_of degree place spoke_at true 0 w)
     (path_of degree place spoke_at true 0 v)

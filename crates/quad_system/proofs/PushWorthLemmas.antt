@@ -1,51 +1,31 @@
--- What a push on a turn word does to the loop of its spokes, up to spurs: nothing, but across the quad of the last side it puts the loop of
--- the last side in.
-use Rattle.std.proofs.Common.{◌≡◌, ◌≢◌, ℕ, suc, ◌+◌, ◌-◌, ◌<◌, Bool, true, false, not, List, [], ◌∷◌, ◌++◌, length, refl, ap, sym, ◌∙◌, subst, arith}
-use Rattle.std.specs.Prelude.{Some}
+-- What a push across a quad does to the loop of a list of spokes, up to spurs: nothing, but across the quad of the last side it puts the
+-- loop of the last side in.
+use Rattle.std.proofs.Common.{◌≡◌, ◌≢◌, ℕ, suc, ◌+◌, ◌-◌, ◌<◌, Bool, true, false, not, List, [], ◌∷◌, ◌++◌, ap, sym, ◌∙◌, subst, arith}
 use Rattle.std.proofs.lemmas.Bool.Decides.{nat_tests}
 use Rattle.halfedge_map.specs.OrientedMeshes.{OrientedMesh, IsOrientedSurface}
 use Rattle.halfedge_map.specs.RotationSystems.{rotations_of}
 use Rattle.halfedge_map.proofs.SystemLemmas.{rotation_system}
 use Rattle.turn_words.specs.Modulo.{add}
-use Rattle.turn_words.specs.StepTable.{after_step}
-use Rattle.turn_words.specs.declared.step.Step.TheVariants.{SpurOut, Push}
 use Rattle.tree_cotree.specs.SpanningTrees.{after_dart}
 use Rattle.tree_cotree.specs.Splits.{SplitView, IsSplit, in_cotree, is_left}
 use Rattle.polygon_cut.specs.Polygons.{PolygonView, IsCutFrom, place_of, across, one_up}
 use Rattle.polygon_cut.proofs.GroupLemmas.{IsGroup}
-use Rattle.polygon_cut.proofs.RelatorLemmas.{spoke_product, ends_at_vertex, loop_in, loop_out, free_push, free_spur}
+use Rattle.polygon_cut.proofs.RelatorLemmas.{spoke_product, ends_at_vertex, loop_in, free_push}
 use Rattle.polygon_cut.proofs.LoopLemmas.{loop_mul, loop_inv, loop_one}
 use Rattle.polygon_cut.proofs.FreeLoopLemmas.{SameFreely}
 use Rattle.polygon_cut.proofs.PlaceLemmas.{Crosses, sides_cross}
 use Rattle.polygon_cut.proofs.SpokeLemmas.{Loops, spoke, up_plain}
 use Rattle.polygon_cut.proofs.FreeSpokeLemmas.{free_group}
 use Rattle.polygon_cut.proofs.FreeQuadLemmas.{FreeQuads, free_quads, last_loop, last_pushes}
-use Rattle.quad_system.proofs.PolygonLabelLemmas.{up_is_add, down_is_add}
-use Rattle.quad_system.proofs.ReadingLemmas.{Within}
+use Rattle.quad_system.proofs.PolygonLabelLemmas.{up_is_add}
 use Rattle.quad_system.proofs.SpokeProductLemmas.{polygon_quads, spoke_at}
-use Rattle.quad_system.proofs.PushPathLemmas.{IsQuadWheel, path_of, upper_side, lower_side, turned, IsChangedBehind, IsPushedDown, PushedOneWay, spur_out_changes, push_changes}
+use Rattle.quad_system.proofs.PushPathLemmas.{IsQuadWheel, upper_side, lower_side}
 
 -- the wheel of a polygon
 pub polygon_wheel : (s : OrientedMesh) (split : SplitView) (o : IsOrientedSurface s) (t : IsSplit s split) (polygon : PolygonView)
     (c : IsCutFrom s split polygon) → 0 < polygon.degree
     → IsQuadWheel polygon.degree (place_of polygon) (spoke_at polygon) (across (rotations_of s) polygon)
-polygon_wheel s split o t polygon c some =
-    let q = polygon_quads s split o t polygon c some in
-    let cross : Crosses polygon.degree (across (rotations_of s) polygon) =
-    sides_cross (rotations_of s) (after_dart (rotations_of s) (λ e. not (in_cotree split e))) (is_left split) polygon
-    (rotation_system s o) (c.labels some) in
-    record {
-      large = q.large;
-      place_in = q.place_in;
-      spoke_in = q.spoke_in;
-      place_of_spoke = q.place_of_spoke;
-      spoke_of_place = q.spoke_of_place;
-      partner_in = cross.below;
-      partner_back = cross.back;
-      one_before = λ a l.
-          ap (place_of polygon) (up_is_add polygon.degree (across (rotations_of s) polygon a) (cross.below a l)) ∙ (c.places some).falls a l
-          ∙ sym (down_is_add polygon.degree (place_of polygon a) (q.place_in a l) q.large);
-    }
+polygon_wheel s split o t polygon c some = (polygon_quads s split o t polygon c some).wheel
 
 -- the loop of a list of spokes
 abbrev pub loop_of_path : (s : OrientedMesh) (split : SplitView) → IsOrientedSurface s → (t : IsSplit s split) → PolygonView → List ℕ
@@ -214,150 +194,8 @@ down_worth s split o t polygon c some at_vertex a before after l parity = record
             (free_push SameFreely loop_mul loop_inv nothing g (spoke s split o t polygon) false before after (suc b) a b (suc a) e
             (quads.round_vertex a l)))
 
--- where so many spokes end
-ends_by_length : (at_vertex : Bool) (path : List ℕ) → ends_at_vertex at_vertex path ≡ turned (length path) at_vertex
-ends_by_length at_vertex [] = refl
-ends_by_length at_vertex (i ∷ path) = ends_by_length (not at_vertex) path
-
 -- the loop put in, or its inverse
 abbrev pub signed_loop : (s : OrientedMesh) (split : SplitView) → IsOrientedSurface s → (t : IsSplit s split) → PolygonView → Bool
     → Loops s split t
 signed_loop s split o t polygon false = last_loop s split o t polygon
 signed_loop s split o t polygon true = loop_inv (last_loop s split o t polygon)
-
--- What a push at a place of a word does to the loop of its spokes: `side` is the side pushed over. A push down puts the loop of the last
--- side in, a push up its inverse, and only where the side is the last one or the one across from it.
-pub record PushWorth (s : OrientedMesh) (split : SplitView) (o : IsOrientedSurface s) (t : IsSplit s split) (polygon : PolygonView)
-    (up : Bool) (at : ℕ) (path other : List ℕ) : Type 0 where
-  pub side : ℕ
-  pub side_in : side < polygon.degree
-  pub before : List ℕ
-  pub after : List ℕ
-  pub long : length before ≡ at
-  pub down : up ≡ false → (path ≡ before ++ upper_side polygon.degree (across (rotations_of s) polygon) (turned at true) side after)
-      × (other ≡ before ++ lower_side polygon.degree (across (rotations_of s) polygon) (turned at true) side after)
-  pub rises : up ≡ true → (path ≡ before ++ lower_side polygon.degree (across (rotations_of s) polygon) (turned at true) side after)
-      × (other ≡ before ++ upper_side polygon.degree (across (rotations_of s) polygon) (turned at true) side after)
-  pub free : side ≢ polygon.degree - 1 → side ≢ across (rotations_of s) polygon (polygon.degree - 1)
-      → SameFreely (loop_of_path s split o t polygon path) (loop_of_path s split o t polygon other)
-  pub last : side ≡ polygon.degree - 1
-      → SameFreely (loop_of_path s split o t polygon other)
-      (loop_in loop_mul loop_inv (loop_of_path s split o t polygon
-      (before ++ front_of_last (across (rotations_of s) polygon (polygon.degree - 1)) (turned at true)))
-      (signed_loop s split o t polygon up) (loop_of_path s split o t polygon path))
-  pub opposite : side ≡ across (rotations_of s) polygon (polygon.degree - 1)
-      → SameFreely (loop_of_path s split o t polygon other)
-      (loop_in loop_mul loop_inv (loop_of_path s split o t polygon
-      (before ++ front_of_across (polygon.degree - 1) (across (rotations_of s) polygon (polygon.degree - 1)) (turned at true)))
-      (signed_loop s split o t polygon up) (loop_of_path s split o t polygon path))
-
-push_worth_of : (s : OrientedMesh) (split : SplitView) (o : IsOrientedSurface s) (t : IsSplit s split) (polygon : PolygonView)
-    → IsCutFrom s split polygon → 0 < polygon.degree
-    → (up : Bool) (at : ℕ) (path other : List ℕ) → IsChangedBehind (PushedOneWay polygon.degree (across (rotations_of s) polygon) up)
-    true at path other
-    → PushWorth s split o t polygon up at path other
-push_worth_of s split o t polygon c some false at path other h =
-    let flag : Bool = turned at true in
-    let parity : ends_at_vertex true h.before ≡ flag = ends_by_length true h.before ∙ ap (λ n. turned n true) h.long in
-    let push : IsPushedDown polygon.degree (across (rotations_of s) polygon) flag h.part h.instead =
-    subst (λ b. IsPushedDown polygon.degree (across (rotations_of s) polygon) b h.part h.instead) h.ends_is h.changed in
-    let worth : DownWorth s split o t polygon flag push.side h.before push.after =
-    down_worth s split o t polygon c some flag push.side h.before push.after push.side_in parity in
-    let from : path ≡ h.before ++ upper_side polygon.degree (across (rotations_of s) polygon) flag push.side push.after =
-    h.path_is ∙ ap (λ (l : List ℕ). h.before ++ l) push.from in
-    let to : other ≡ h.before ++ lower_side polygon.degree (across (rotations_of s) polygon) flag push.side push.after =
-    h.other_is ∙ ap (λ (l : List ℕ). h.before ++ l) push.to in
-    let I : List ℕ → Loops s split t = loop_of_path s split o t polygon in
-    let P : List ℕ = h.before ++ upper_side polygon.degree (across (rotations_of s) polygon) flag push.side push.after in
-    let loop : Loops s split t = last_loop s split o t polygon in
-    record {
-      side = push.side;
-      side_in = push.side_in;
-      before = h.before;
-      after = push.after;
-      long = h.long;
-      down = λ _. (from, to);
-      rises = λ e. cc;
-      free = λ ne nk. subst (λ (l : List ℕ). SameFreely (I l) (I other)) (sym from)
-          (subst (λ (l : List ℕ). SameFreely (I P) (I l)) (sym to) (worth.other ne nk));
-      last = λ e.
-          let front : Loops s split t = I (h.before ++ front_of_last (across (rotations_of s) polygon (polygon.degree - 1)) flag) in
-          subst (λ (l : List ℕ). SameFreely (I l) (loop_in loop_mul loop_inv front loop (I path))) (sym to)
-          (subst (λ (l : List ℕ). SameFreely (I (h.before ++ lower_side polygon.degree (across (rotations_of s) polygon) flag push.side
-          push.after)) (loop_in loop_mul loop_inv front loop (I l))) (sym from) (worth.last e));
-      opposite = λ e.
-          let front : Loops s split t = I (h.before ++ front_of_across (polygon.degree - 1)
-          (across (rotations_of s) polygon (polygon.degree - 1)) flag) in
-          subst (λ (l : List ℕ). SameFreely (I l) (loop_in loop_mul loop_inv front loop (I path))) (sym to)
-          (subst (λ (l : List ℕ). SameFreely (I (h.before ++ lower_side polygon.degree (across (rotations_of s) polygon) flag push.side
-          push.after)) (loop_in loop_mul loop_inv front loop (I l))) (sym from) (worth.opposite e));
-    }
-push_worth_of s split o t polygon c some true at path other h =
-    let g = free_group s split t in
-    let nothing : Loops s split t = loop_one s.mesh t.parents.root t.parents.root_used in
-    let flag : Bool = turned at true in
-    let parity : ends_at_vertex true h.before ≡ flag = ends_by_length true h.before ∙ ap (λ n. turned n true) h.long in
-    let push : IsPushedDown polygon.degree (across (rotations_of s) polygon) flag h.instead h.part =
-    subst (λ b. IsPushedDown polygon.degree (across (rotations_of s) polygon) b h.instead h.part) h.ends_is h.changed in
-    let worth : DownWorth s split o t polygon flag push.side h.before push.after =
-    down_worth s split o t polygon c some flag push.side h.before push.after push.side_in parity in
-    let to : other ≡ h.before ++ upper_side polygon.degree (across (rotations_of s) polygon) flag push.side push.after =
-    h.other_is ∙ ap (λ (l : List ℕ). h.before ++ l) push.from in
-    let from : path ≡ h.before ++ lower_side polygon.degree (across (rotations_of s) polygon) flag push.side push.after =
-    h.path_is ∙ ap (λ (l : List ℕ). h.before ++ l) push.to in
-    let I : List ℕ → Loops s split t = loop_of_path s split o t polygon in
-    let P : List ℕ = h.before ++ upper_side polygon.degree (across (rotations_of s) polygon) flag push.side push.after in
-    let Q : List ℕ = h.before ++ lower_side polygon.degree (across (rotations_of s) polygon) flag push.side push.after in
-    let loop : Loops s split t = last_loop s split o t polygon in
-    record {
-      side = push.side;
-      side_in = push.side_in;
-      before = h.before;
-      after = push.after;
-      long = h.long;
-      down = λ e. cc;
-      rises = λ _. (from, to);
-      free = λ ne nk.
-          subst (λ (l : List ℕ). SameFreely (I l) (I other)) (sym from)
-          (subst (λ (l : List ℕ). SameFreely (I Q) (I l)) (sym to) (g.turn (I P) (I Q) (worth.other ne nk)));
-      last = λ e.
-          let front : Loops s split t = I (h.before ++ front_of_last (across (rotations_of s) polygon (polygon.degree - 1)) flag) in
-          subst (λ (l : List ℕ). SameFreely (I l) (loop_in loop_mul loop_inv front (loop_inv loop) (I path))) (sym to)
-          (subst (λ (l : List ℕ). SameFreely (I P) (loop_in loop_mul loop_inv front (loop_inv loop) (I l))) (sym from)
-          (loop_out SameFreely loop_mul loop_inv nothing g front loop (I P) (I Q) (worth.last e)));
-      opposite = λ e.
-          let front : Loops s split t = I (h.before ++ front_of_across (polygon.degree - 1)
-          (across (rotations_of s) polygon (polygon.degree - 1)) flag) in
-          subst (λ (l : List ℕ). SameFreely (I l) (loop_in loop_mul loop_inv front (loop_inv loop) (I path))) (sym to)
-          (subst (λ (l : List ℕ). SameFreely (I P) (loop_in loop_mul loop_inv front (loop_inv loop) (I l))) (sym from)
-          (loop_out SameFreely loop_mul loop_inv nothing g front loop (I P) (I Q) (worth.opposite e)));
-    }
-
--- the spokes of a word under a polygon
-abbrev pub word_spokes : PolygonView → List ℕ → List ℕ
-word_spokes polygon word = path_of polygon.degree (place_of polygon) (spoke_at polygon) true 0 word
-
-pub push_worth : (s : OrientedMesh) (split : SplitView) (o : IsOrientedSurface s) (t : IsSplit s split) (polygon : PolygonView)
-    → IsCutFrom s split polygon → 0 < polygon.degree
-    → (up : Bool) (at : ℕ) (w v : List ℕ) → Within polygon.degree w → after_step polygon.degree (Push at up) w ≡ Some v
-    → PushWorth s split o t polygon up at (word_spokes polygon w) (word_spokes polygon v)
-push_worth s split o t polygon c some up at w v h e =
-    push_worth_of s split o t polygon c some up at (word_spokes polygon w) (word_spokes polygon v)
-    (push_changes polygon.degree (place_of polygon) (spoke_at polygon) (across (rotations_of s) polygon)
-    (polygon_wheel s split o t polygon c some) at up w v h e)
-
--- a spur that goes out costs nothing
-pub spur_out_worth : (s : OrientedMesh) (split : SplitView) (o : IsOrientedSurface s) (t : IsSplit s split) (polygon : PolygonView)
-    → IsCutFrom s split polygon → 0 < polygon.degree
-    → (at : ℕ) (w v : List ℕ) → Within polygon.degree w → after_step polygon.degree (SpurOut at) w ≡ Some v
-    → SameFreely (loop_of_path s split o t polygon (word_spokes polygon w)) (loop_of_path s split o t polygon (word_spokes polygon v))
-spur_out_worth s split o t polygon c some at w v h e =
-    let r = spur_out_changes polygon.degree (place_of polygon) (spoke_at polygon) (across (rotations_of s) polygon)
-    (polygon_wheel s split o t polygon c some) at w v h e in
-    let I : List ℕ → Loops s split t = loop_of_path s split o t polygon in
-    let p : ℕ = r.changed.spoke in
-    let from : word_spokes polygon w ≡ r.before ++ (p ∷ p ∷ r.instead) = r.path_is ∙ ap (λ (l : List ℕ). r.before ++ l) r.changed.is in
-    subst (λ (l : List ℕ). SameFreely (I l) (I (word_spokes polygon v))) (sym from)
-    (subst (λ (l : List ℕ). SameFreely (I (r.before ++ (p ∷ p ∷ r.instead))) (I l)) (sym r.other_is)
-    (free_spur SameFreely loop_mul loop_inv (loop_one s.mesh t.parents.root t.parents.root_used) (free_group s split t)
-    (spoke s split o t polygon) r.before r.instead p))

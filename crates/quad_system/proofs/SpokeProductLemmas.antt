@@ -139,21 +139,22 @@ all_places n f below once x l = elim (cases_Bool (any_below (λ i. eqb (f i) x) 
 pub polygon_quads : (s : OrientedMesh) (split : SplitView) (o : IsOrientedSurface s) (t : IsSplit s split) (polygon : PolygonView)
     (c : IsCutFrom s split polygon) → 0 < polygon.degree
     → HasQuads {X = Loops s split t} SameLoop loop_mul loop_inv (spoke s split o t polygon) polygon.degree (place_of polygon)
-    (spoke_at polygon)
+    (spoke_at polygon) (across (rotations_of s) polygon)
 polygon_quads s split o t polygon c some = record {
-  large = large;
-  place_in = place_in;
-  spoke_in = λ x l. (spoke_found polygon x (reached x l)).0;
-  place_of_spoke = λ x l. (spoke_found polygon x (reached x l)).1;
-  spoke_of_place = λ i l.
-      let found = spoke_found polygon (place_of polygon i) (reached (place_of polygon i) (place_in i l)) in
-      (c.places some).apart (spoke_at polygon (place_of polygon i)) i found.0 l found.1;
-  partner = across (rotations_of s) polygon;
-  partner_in = cross.below;
-  partner_back = cross.back;
-  one_before = λ a l.
-      ap (place_of polygon) (up_is_add polygon.degree (across (rotations_of s) polygon a) (cross.below a l)) ∙ (c.places some).falls a l
-      ∙ sym (down_is_add polygon.degree (place_of polygon a) (place_in a l) large);
+  wheel = record {
+    large = large;
+    place_in = place_in;
+    spoke_in = λ x l. (spoke_found polygon x (reached x l)).0;
+    place_of_spoke = λ x l. (spoke_found polygon x (reached x l)).1;
+    spoke_of_place = λ i l.
+        let found = spoke_found polygon (place_of polygon i) (reached (place_of polygon i) (place_in i l)) in
+        (c.places some).apart (spoke_at polygon (place_of polygon i)) i found.0 l found.1;
+    partner_in = cross.below;
+    partner_back = cross.back;
+    one_before = λ a l.
+        ap (place_of polygon) (up_is_add polygon.degree (across (rotations_of s) polygon a) (cross.below a l))
+        ∙ (c.places some).falls a l ∙ sym (down_is_add polygon.degree (place_of polygon a) (place_in a l) large);
+  };
   around_middle = middle_quad;
   around_vertex = λ a l.
       around SameLoop loop_mul loop_inv (loop_one s.mesh t.parents.root t.parents.root_used) (group_of s split t) (S a)
