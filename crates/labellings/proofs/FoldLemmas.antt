@@ -3,6 +3,7 @@
 use Rattle.std.proofs.Common.{◌≡◌, inl, inr, ℕ, zero, suc, ◌<◌, Bool, true, false, ◌&&◌, eqb, List, [], ◌∷◌, ◌++◌, length, get_or, refl, ap, sym, ◌∙◌, subst, arith, append_assoc}
 use Rattle.std.specs.Prelude.{cond}
 use Rattle.std.proofs.lemmas.Bool.{cases_Bool, eqb-true, and_parts}
+use Rattle.std.proofs.lemmas.List.{append-nil}
 use Rattle.surf_model.specs.FaceLists.{FaceList, IsFaceList, face_at, next_corner, corners_from}
 use Rattle.surf_model.specs.Darts.{IsSide, side_after, tail_of, head_of}
 use Rattle.surf_model.specs.Surfaces.{start_under, end_under, is_flipped}
@@ -162,10 +163,6 @@ pub record Darts {State : Type 0} (mesh : FaceList) (labelling : LabellingView) 
       run mesh labelling next s (end_under mesh (signs_of labelling) side ∷ start_under mesh (signs_of labelling) side ∷ [])
       ≡ pair labelling.places next s (head_label mesh labelling side) (tail_label mesh labelling side)
 
-append_none : (xs : List ℕ) → xs ++ [] ≡ xs
-append_none [] = refl
-append_none (y ∷ ys) = ap (λ (l : List ℕ). y ∷ l) (append_none ys)
-
 pub darts_of : {State : Type 0} (mesh : FaceList) (labelling : LabellingView) (next : List ℕ → State → ℕ → State)
     (Belongs IsAtVertex : State → Type 0)
     → PutLaws labelling.places next Belongs IsAtVertex → IsFaceList mesh → IsGood mesh labelling → (side : Side) → IsSide mesh side
@@ -180,12 +177,12 @@ darts_of mesh labelling next Belongs IsAtVertex laws valid good side h s b v =
     let d_in : head_label mesh labelling other < length places = head_within mesh labelling good other found.partner.partners.second in
     record {
       along =
-          ap (led next places s) (append_none _ ∙ found.along)
+          ap (led next places s) (append-nil _ ∙ found.along)
           ∙ labels_do places next Belongs IsAtVertex laws (tail_label mesh labelling side) (head_label mesh labelling side)
           (tail_label mesh labelling other)
           (head_label mesh labelling other) a_in s b;
       against =
-          ap (led next places s) (append_none _ ∙ found.against)
+          ap (led next places s) (append-nil _ ∙ found.against)
           ∙ labels_do places next Belongs IsAtVertex laws (tail_label mesh labelling other) (head_label mesh labelling other)
           (tail_label mesh labelling side)
           (head_label mesh labelling side) c_in s b

@@ -151,6 +151,20 @@ side_between mesh labelling u v e =
     turned side true f h = rw f (elim h [ inl p ↦ inr (p.1, p.0) | inr p ↦ inl (p.1, p.0) ])
     turned side false f h = rw f h
 
+-- a pair of spokes put forth and then back
+back_again : {State : Type 0} (mesh : FaceList) (labelling : LabellingView) (next : List ℕ → State → ℕ → State)
+    (Belongs IsAtVertex : State → Type 0)
+    → PutLaws labelling.places next Belongs IsAtVertex → (x y i j : ℕ) → i < length labelling.places → j < length labelling.places
+    → ((t : State) → IsReady Belongs IsAtVertex t → run mesh labelling next t (x ∷ y ∷ []) ≡ pair labelling.places next t i j)
+    → ((t : State) → IsReady Belongs IsAtVertex t → run mesh labelling next t (y ∷ x ∷ []) ≡ pair labelling.places next t j i)
+    → (s : State) → IsReady Belongs IsAtVertex s → run mesh labelling next s (x ∷ y ∷ x ∷ []) ≡ s
+back_again mesh labelling next Belongs IsAtVertex laws x y i j i_in j_in forth back s r =
+    run_on mesh labelling next s (x ∷ []) y (x ∷ [])
+    ∙ ap (λ t. run mesh labelling next t (y ∷ x ∷ [])) (forth s r)
+    ∙ back (pair labelling.places next s i j) (pair_ready labelling.places next Belongs IsAtVertex laws s i j r i_in j_in)
+    ∙ there labelling.places next Belongs IsAtVertex laws s i j i r.0 i_in j_in
+    ∙ laws.back s i r.0 i_in
+
 -- a spur leads back
 spur_leads_back : {State : Type 0} (mesh : FaceList) (labelling : LabellingView) (next : List ℕ → State → ℕ → State)
     (Belongs IsAtVertex : State → Type 0)
@@ -161,37 +175,21 @@ spur_leads_back {State = State} mesh labelling next Belongs IsAtVertex laws vali
     let side : Side = between.side in
     let a_in = tail_within mesh labelling good side between.side_of in
     let b_in = head_within mesh labelling good side between.side_of in
-    let a : ℕ = tail_label mesh labelling side in
-    let b : ℕ = head_label mesh labelling side in
-    let split : run mesh labelling next s (u ∷ v ∷ u ∷ []) ≡ run mesh labelling next (run mesh labelling next s (u ∷ v ∷ [])) (v ∷ u ∷ []) =
-    run_on mesh labelling next s (u ∷ []) v (u ∷ []) in
     let darts : (t : State) → IsReady Belongs IsAtVertex t → Darts mesh labelling next t side =
     λ t ready. darts_of mesh labelling next Belongs IsAtVertex laws valid good side between.side_of t ready.0 ready.1 in
-    split ∙ elim between.runs [
+    let turned : (x y : ℕ) → x ≡ u → y ≡ v → run mesh labelling next s (x ∷ y ∷ x ∷ []) ≡ s
+    → run mesh labelling next s (u ∷ v ∷ u ∷ []) ≡ s =
+    λ x y same too back.
+    subst (λ w. run mesh labelling next s (u ∷ w ∷ u ∷ []) ≡ s) too (subst (λ w. run mesh labelling next s (w ∷ y ∷ w ∷ []) ≡ s) same back) in
+    elim between.runs [
       | inl p ↦
-          let along : run mesh labelling next s (u ∷ v ∷ []) ≡ pair labelling.places next s a b =
-          ap (λ (x : ℕ). run mesh labelling next s (x ∷ v ∷ [])) (sym p.0)
-          ∙ ap (λ (y : ℕ). run mesh labelling next s (start_under mesh (signs_of labelling) side ∷ y ∷ [])) (sym p.1) ∙ (darts s r).along in
-          let t = pair labelling.places next s a b in
-          let ready : IsReady Belongs IsAtVertex t = pair_ready labelling.places next Belongs IsAtVertex laws s a b r a_in b_in in
-          let against : run mesh labelling next t (v ∷ u ∷ []) ≡ pair labelling.places next t b a =
-          ap (λ (y : ℕ). run mesh labelling next t (y ∷ u ∷ [])) (sym p.1)
-          ∙ ap (λ (x : ℕ). run mesh labelling next t (end_under mesh (signs_of labelling) side ∷ x ∷ [])) (sym p.0)
-          ∙ (darts t ready).against in
-          ap (λ x. run mesh labelling next x (v ∷ u ∷ [])) along ∙ against
-          ∙ there labelling.places next Belongs IsAtVertex laws s a b a r.0 a_in b_in ∙ laws.back s a r.0 a_in
+          turned _ _ p.0 p.1
+          (back_again mesh labelling next Belongs IsAtVertex laws _ _ _ _ a_in b_in (λ t ready. (darts t ready).along)
+          (λ t ready. (darts t ready).against) s r)
       | inr p ↦
-          let against : run mesh labelling next s (u ∷ v ∷ []) ≡ pair labelling.places next s b a =
-          ap (λ (x : ℕ). run mesh labelling next s (x ∷ v ∷ [])) (sym p.1)
-          ∙ ap (λ (y : ℕ). run mesh labelling next s (end_under mesh (signs_of labelling) side ∷ y ∷ [])) (sym p.0) ∙ (darts s r).against in
-          let t = pair labelling.places next s b a in
-          let ready : IsReady Belongs IsAtVertex t = pair_ready labelling.places next Belongs IsAtVertex laws s b a r b_in a_in in
-          let along : run mesh labelling next t (v ∷ u ∷ []) ≡ pair labelling.places next t a b =
-          ap (λ (y : ℕ). run mesh labelling next t (y ∷ u ∷ [])) (sym p.0)
-          ∙ ap (λ (x : ℕ). run mesh labelling next t (start_under mesh (signs_of labelling) side ∷ x ∷ [])) (sym p.1)
-          ∙ (darts t ready).along in
-          ap (λ x. run mesh labelling next x (v ∷ u ∷ [])) against ∙ along
-          ∙ there labelling.places next Belongs IsAtVertex laws s b a b r.0 b_in a_in ∙ laws.back s b r.0 b_in
+          turned _ _ p.1 p.0
+          (back_again mesh labelling next Belongs IsAtVertex laws _ _ _ _ b_in a_in (λ t ready. (darts t ready).against)
+          (λ t ready. (darts t ready).along) s r)
     ]
 
 -- a spur put in

@@ -1,9 +1,10 @@
 -- The spokes of a dart, by the two sides of its edge in the table of the mesh.
 use Rattle.std.proofs.Common.{◌≡◌, ◌≢◌, ◌⊎◌, inl, inr, ℕ, ◌<◌, Bool, true, false, List, length, get_or, refl, ap, sym, ◌∙◌, subst, arith}
-use Rattle.std.specs.Prelude.{Contains}
+use Rattle.std.specs.Prelude.{Contains, Some, slice_get}
+use Rattle.std.proofs.lemmas.Option.{get_or_from_slice_get}
 use Rattle.surf_model.specs.FaceLists.{FaceList, IsFaceList}
 use Rattle.surf_model.specs.Edges.{Edge, IsTableOf, IsEdgeOf, HasEnds, edge_in}
-use Rattle.surf_model.specs.Darts.{tail_of, head_of}
+use Rattle.surf_model.specs.Darts.{IsSide, tail_of, head_of}
 use Rattle.surf_model.specs.Surfaces.{ArePartners, is_flipped, start_under, end_under}
 use Rattle.surf_model.specs.declared.edges.Side.{Side}
 use Rattle.surf_model.proofs.PartnerLemmas.{HasSideEnds, side_of_edge, edge_has_side, partners_of_edge, ends_agree}
@@ -32,19 +33,29 @@ along-or-against : (s e t h low high u v : ℕ) → low < high → ((s ≡ t) ×
     ((low ≡ u) × (high ≡ v)) ⊎ ((low ≡ v) × (high ≡ u)) → ((s ≡ u) × (e ≡ v)) ⊎ ((s ≢ u) × (s ≡ v) × (e ≡ u))
 along-or-against s e t h low high u v less under ends pair = grind arith
 
-module _ (mesh : FaceList) (table : List Edge) (labelling : LabellingView) (k u v : ℕ) (a b d : Side) (valid : IsFaceList mesh)
+-- a side that is looked at where there is none
+none : Side
+none = record { face = record { 0 = 0 }; at = 0 }
+
+module _ (mesh : FaceList) (table : List Edge) (labelling : LabellingView) (k u v : ℕ) (a b : Side) (valid : IsFaceList mesh)
     (good : IsGood mesh labelling) (h : IsTableOf mesh table) (l : k < length table)
-    (pair : HasEnds u v (edge_in table k)) (first : get_or (edge_in table k).sides 0 d ≡ a)
-    (second : get_or (edge_in table k).sides 1 d ≡ b) where
+    (pair : HasEnds u v (edge_in table k)) (is_a : slice_get (edge_in table k).sides 0 ≡ Some a)
+    (is_b : slice_get (edge_in table k).sides 1 ≡ Some b) where
+  first : get_or (edge_in table k).sides 0 none ≡ a
+  first = get_or_from_slice_get (edge_in table k).sides 0 a none is_a
+
+  second : get_or (edge_in table k).sides 1 none ≡ b
+  second = get_or_from_slice_get (edge_in table k).sides 1 b none is_b
+
   two : length (edge_in table k).sides ≡ 2
   two =
       let edge : Edge = edge_in table k in
-      two-from-rule mesh table labelling k a b d h l first second (good.edges edge.low edge.high (table_pair mesh table k h l))
+      two-from-rule mesh table labelling k a b none h l first second (good.edges edge.low edge.high (table_pair mesh table k h l))
 
   partners : ArePartners mesh a b
   partners =
-      subst (λ x. ArePartners mesh x b) first (subst (λ x. ArePartners mesh (get_or (edge_in table k).sides 0 d) x) second
-      (partners_of_edge mesh table k 0 1 d h l (omega arith) (omega (arith, two))))
+      subst (λ x. ArePartners mesh x b) first (subst (λ x. ArePartners mesh (get_or (edge_in table k).sides 0 none) x) second
+      (partners_of_edge mesh table k 0 1 none h l (omega arith) (omega (arith, two))))
 
   of-a : SpokesOfSide mesh labelling a
   of-a = spokes_of_side mesh labelling a valid good partners.first
@@ -55,12 +66,12 @@ module _ (mesh : FaceList) (table : List Edge) (labelling : LabellingView) (k u 
       let edge : Edge = edge_in table k in
       let is : IsEdgeOf mesh edge = h.edges k _ l in
       let ends : HasSideEnds mesh edge.low edge.high a =
-      subst (HasSideEnds mesh edge.low edge.high) first (side_of_edge mesh edge 0 d is (omega (arith, two))).ends in
+      subst (HasSideEnds mesh edge.low edge.high) first (side_of_edge mesh edge 0 none is (omega (arith, two))).ends in
       let p = of-a.partner.partners in
       let here : Contains edge.sides a = edge_has_side mesh edge a is p.first ends in
       let there : Contains edge.sides of-a.partner.partner =
       edge_has_side mesh edge of-a.partner.partner is p.second (ends_agree _ _ _ _ edge.low edge.high ends p.one_edge) in
-      elim (two-of edge.sides d a of-a.partner.partner a b two first second here there p.different) [
+      elim (two-of edge.sides none a of-a.partner.partner a b two first second here there p.different) [
         | inl as_listed ↦ as_listed.1
         | inr turned ↦ absurd (partners.different turned.0)
       ]
@@ -72,7 +83,7 @@ module _ (mesh : FaceList) (table : List Edge) (labelling : LabellingView) (k u 
       let edge : Edge = edge_in table k in
       let is : IsEdgeOf mesh edge = h.edges k _ l in
       let ends : HasSideEnds mesh edge.low edge.high a =
-      subst (HasSideEnds mesh edge.low edge.high) first (side_of_edge mesh edge 0 d is (omega (arith, two))).ends in
+      subst (HasSideEnds mesh edge.low edge.high) first (side_of_edge mesh edge 0 none is (omega (arith, two))).ends in
       along-or-against _ _ _ _ edge.low edge.high u v is.ordered (ends-under mesh (signs_of labelling) a) ends pair
 
   -- where the first side starts at u, the dart runs along it, and else against it
@@ -104,6 +115,12 @@ module _ (mesh : FaceList) (table : List Edge) (labelling : LabellingView) (k u 
 pub two-sides : (mesh : FaceList) (table : List Edge) (labelling : LabellingView) (k : ℕ) → IsGood mesh labelling → IsTableOf mesh table
     → k < length table → length (edge_in table k).sides ≡ 2
 two-sides mesh table labelling k good h l =
-    let none : Side = record { face = record { 0 = 0 }; at = 0 } in
     two-from-rule mesh table labelling k (get_or (edge_in table k).sides 0 none) (get_or (edge_in table k).sides 1 none) none h l refl refl
     (good.edges (edge_in table k).low (edge_in table k).high (table_pair mesh table k h l))
+
+-- and each of these is a side of the mesh
+pub is-side : (mesh : FaceList) (table : List Edge) (labelling : LabellingView) (k j : ℕ) (a : Side) → IsGood mesh labelling
+    → IsTableOf mesh table → k < length table → j < 2 → slice_get (edge_in table k).sides j ≡ Some a → IsSide mesh a
+is-side mesh table labelling k j a good h l below is =
+    subst (IsSide mesh) (get_or_from_slice_get (edge_in table k).sides j a none is)
+    (side_of_edge mesh (edge_in table k) j none (h.edges k _ l) (omega (arith, two-sides mesh table labelling k good h l, below))).side_of
