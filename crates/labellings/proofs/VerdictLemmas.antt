@@ -66,16 +66,7 @@ least_edge mesh labelling a b c d f g = elim (compared a b c d) [
 ]
   where
     compared : (a b c d : ℕ) → (IsPairBefore a b c d ⊎ IsPairBefore c d a b) ⊎ ((a ≡ c) × (b ≡ d))
-    compared a b c d = elim (three_ways a c) [
-      | inl (inl less) ↦ inl (inl (inl less))
-      | inl (inr more) ↦ inl (inr (inl more))
-      | inr same ↦
-          elim (three_ways b d) [
-            | inl (inl less) ↦ inl (inl (inr (same, less)))
-            | inl (inr more) ↦ inl (inr (inr (sym same, more)))
-            | inr too ↦ inr (same, too)
-          ]
-    ]
+    compared a b c d = grind arith
 
 one_fault : (mesh : FaceList) (labelling : LabellingView) (f g : LabelFault) → IsFirstFault mesh labelling f
     → IsFirstFault mesh labelling g → f ≡ g
