@@ -1,5 +1,5 @@
 -- A certificate has one verdict.
-use Rattle.std.proofs.Common.{◌≡◌, ◌⊎◌, inl, inr, ℕ, ◌<◌, List, get_or, refl, ap, sym, ◌∙◌, subst, ℤ}
+use Rattle.std.proofs.Common.{◌≡◌, ◌⊎◌, inl, inr, ℕ, ◌<◌, List, get_or, refl, ap, sym, ◌∙◌, subst, ℤ, arith}
 use Rattle.std.specs.Prelude.{All, IfOk, Result, Ok, Err}
 use Rattle.std.proofs.lemmas.Bool.{cases_order}
 use Rattle.std.proofs.lemmas.List.{get_or_default}
@@ -37,13 +37,7 @@ one_first P xs x y p q = elim (cases_order p.place q.place) [
 
 -- of two pairs one comes before the other, or they are one
 order_of : (a b c d : ℕ) → ((a ≡ c) × (b ≡ d)) ⊎ (IsPairBefore a b c d ⊎ IsPairBefore c d a b)
-order_of a b c d = elim (cases_order a c) [
-  | inr apart ↦ elim apart [ inl less ↦ inr (inl (inl less)) | inr more ↦ inr (inr (inl more)) ]
-  | inl same ↦ elim (cases_order b d) [
-    | inl both ↦ inl (same, both)
-    | inr apart ↦ elim apart [ inl less ↦ inr (inl (inr (same, less))) | inr more ↦ inr (inr (inr (sym same, more))) ]
-  ]
-]
+order_of a b c d = grind arith
 
 vertex_is : (u v : VertexName) → u.0 ≡ v.0 → u ≡ v
 vertex_is u v e = λ i. record { 0 = e i }

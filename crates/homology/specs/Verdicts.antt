@@ -1,5 +1,5 @@
 -- What comes of checking a certificate: the first fault that it has, or that it holds.
-use Rattle.std.specs.Prelude.{◌≡◌, ◌≢◌, ℕ, ◌<◌, List, length, slice_index_or, All, IsTrue, ℤ, pos, ◌-ℤ◌}
+use Rattle.std.specs.Prelude.{◌≡◌, ◌≢◌, ℕ, ◌<◌, List, length, slice_index_or, All, IsTrue, ℤ, pos}
 use Rattle.surf_model.specs.FaceLists.{FaceList, is_edge}
 use Rattle.surf_model.specs.Edges.{IsPairBefore}
 use Rattle.homology.specs.Chains.{IsChain, count_difference, boundary}
