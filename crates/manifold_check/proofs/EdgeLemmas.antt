@@ -3,10 +3,12 @@ use Rattle.std.proofs.Common.{◌≡◌, ℕ, ◌<◌, List, length, sym, ◌∙
 use Rattle.surf_model.specs.FaceLists.{FaceList}
 use Rattle.surf_model.specs.Edges.{Edge, IsTableOf, IsEdgeOf, IsPairBefore, edge_in}
 use Rattle.surf_model.specs.Surfaces.{EachEdgeHasTwoSides}
+use Rattle.surf_model.specs.declared.names.VertexName.{VertexName}
 use Rattle.surf_model.proofs.TableEdgeLemmas.{IsEdgeBetween, edge_between, table_pair, sides_of_edge, same_pair, place_before}
 use Rattle.connectivity.proofs.EdgeCounts.{sides_by_table}
-use Rattle.manifold_check.specs.Faults.{IsLeastUnevenEdge}
+use Rattle.manifold_check.specs.Faults.{IsFirstFault, IsLeastUnevenEdge}
 use Rattle.manifold_check.specs.UnevenEdges.{IsFirstUneven}
+use Rattle.manifold_check.specs.declared.fault.SurfaceFault.TheVariants.{EdgeSides}
 
 pub two_sides_from_table : (mesh : FaceList) (table : List Edge) → IsTableOf mesh table
     → ((k : ℕ) → k < length table → length (edge_in table k).sides ≡ 2)
@@ -43,10 +45,14 @@ least_uneven mesh table k h first =
           (place_before mesh table found.edge k h found.in_table first.in_table there);
     }
 
-pub uneven_as_read : (mesh : FaceList) (table : List Edge) (k low high sides : ℕ) → IsTableOf mesh table → IsFirstUneven table k
-    → low ≡ (edge_in table k).low → high ≡ (edge_in table k).high → sides ≡ length (edge_in table k).sides
-    → IsLeastUnevenEdge mesh low high sides
-uneven_as_read mesh table k low high sides h first is_low is_high is_sides =
-    subst (λ a. IsLeastUnevenEdge mesh a high sides) (sym is_low)
-    (subst (λ b. IsLeastUnevenEdge mesh (edge_in table k).low b sides) (sym is_high)
-    (subst (IsLeastUnevenEdge mesh (edge_in table k).low (edge_in table k).high) (sym is_sides) (least_uneven mesh table k h first)))
+-- so it is the first fault, as it is read
+pub uneven_as_read : (mesh : FaceList) (table : List Edge) (k : ℕ) (low high : VertexName) (sides : ℕ) → 0 < length mesh.faces
+    → IsTableOf mesh table → IsFirstUneven table k → low.0 ≡ (edge_in table k).low → high.0 ≡ (edge_in table k).high
+    → sides ≡ length (edge_in table k).sides → IsFirstFault mesh (EdgeSides low high sides)
+uneven_as_read mesh table k low high sides some h first is_low is_high is_sides = record {
+  some_face = some;
+  edge =
+      subst (λ a. IsLeastUnevenEdge mesh a high.0 sides) (sym is_low)
+      (subst (λ b. IsLeastUnevenEdge mesh (edge_in table k).low b sides) (sym is_high)
+      (subst (IsLeastUnevenEdge mesh (edge_in table k).low (edge_in table k).high) (sym is_sides) (least_uneven mesh table k h first)));
+}

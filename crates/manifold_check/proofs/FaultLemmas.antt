@@ -1,6 +1,6 @@
 -- First faults exclude each other, and a closed manifold.
-use Rattle.std.proofs.Common.{◌≡◌, ◌⊎◌, inl, inr, ℕ, refl, ap, sym, ◌∙◌, arith}
-use Rattle.std.proofs.lemmas.Bool.{cases_lt, cases_eq}
+use Rattle.std.proofs.Common.{◌≡◌, ◌⊎◌, inl, inr, ℕ, ◌<◌, refl, ap, sym, ◌∙◌, arith}
+use Rattle.std.proofs.lemmas.Bool.{cases_order}
 use Rattle.surf_model.specs.FaceLists.{FaceList}
 use Rattle.surf_model.specs.Edges.{IsPairBefore}
 use Rattle.surf_model.specs.Surfaces.{IsClosedManifold, sides_between}
@@ -14,20 +14,7 @@ same_name : (v w : VertexName) → v.0 ≡ w.0 → v ≡ w
 same_name v w h = let name : ℕ → VertexName = λ x. record { 0 = x } in ap name h
 
 pair_cases : (a b c d : ℕ) → IsPairBefore a b c d ⊎ (IsPairBefore c d a b ⊎ ((a ≡ c) × (b ≡ d)))
-pair_cases a b c d =
-    elim (cases_eq a c) [
-      | inl same ↦ elim (cases_eq b d) [
-        | inl too ↦ inr (inr (same, too))
-        | inr other ↦ elim (cases_lt b d) [
-          | inl less ↦ inl (inr (same, less))
-          | inr more ↦ inr (inl (inr (sym same, omega arith)))
-        ]
-      ]
-      | inr other ↦ elim (cases_lt a c) [
-        | inl less ↦ inl (inl less)
-        | inr more ↦ inr (inl (inl (omega arith)))
-      ]
-    ]
+pair_cases a b c d = grind arith
 
 uneven_not_two : (mesh : FaceList) (low high sides : ℕ) → IsLeastUnevenEdge mesh low high sides → sides_between mesh low high ≡ 2 → ⊥
 uneven_not_two mesh low high sides h two = h.uneven (h.number ∙ two)
@@ -43,15 +30,15 @@ one_edge mesh a b s c d t h k =
       ]
     ]
 
-one_pinch : (mesh : FaceList) (v w : ℕ) → IsLeastPinch mesh v → IsLeastPinch mesh w → v ≡ w
-one_pinch mesh v w h k =
-    elim (cases_eq v w) [
+equal : (v w : ℕ) → (v < w → ⊥) → (w < v → ⊥) → v ≡ w
+equal v w not_less not_more =
+    elim (cases_order v w) [
       | inl same ↦ same
-      | inr other ↦ elim (cases_lt v w) [
-        | inl less ↦ absurd (h.pinched (k.least v less h.used))
-        | inr more ↦ absurd (k.pinched (h.least w (omega arith) k.used))
-      ]
+      | inr apart ↦ elim apart [ inl less ↦ absurd (not_less less) | inr more ↦ absurd (not_more more) ]
     ]
+
+one_pinch : (mesh : FaceList) (v w : ℕ) → IsLeastPinch mesh v → IsLeastPinch mesh w → v ≡ w
+one_pinch mesh v w h k = equal v w (λ less. h.pinched (k.least v less h.used)) (λ more. k.pinched (h.least w more k.used))
 
 -- there is at most one first fault
 pub one_fault : (mesh : FaceList) (fault other : SurfaceFault) → IsFirstFault mesh fault → IsFirstFault mesh other → fault ≡ other

@@ -10,33 +10,21 @@ use Rattle.manifold_check.proofs.check.check_closed.Goals as goal
 -- An edge has not two sides.
 pub returns-in-Some-clause-fault : goal.returns-in-Some-clause-fault
 returns-in-Some-clause-fault c =
-    inr (record {
-      some_face = omega arith;
-      edge = uneven_as_read c.args.faces.now c.args.sides.now c.in-Some.edge.0 c.ends.result.0.0 c.ends.result.1.0 c.sides_of.result
-          c.requires c.in-Some.ensures.some
-          c.ends.ensures.low c.ends.ensures.high c.sides_of.ensures;
-    })
+    inr (uneven_as_read c.args.faces.now c.args.sides.now c.in-Some.edge.0 c.ends.result.0 c.ends.result.1 c.sides_of.result
+    (omega arith) c.requires c.in-Some.ensures.some c.ends.ensures.low c.ends.ensures.high c.sides_of.ensures)
 
 pub returns-in-Some-clause-accepted : goal.returns-in-Some-clause-accepted
 returns-in-Some-clause-accepted c =
     let fault = EdgeSides c.ends.result.0 c.ends.result.1 c.sides_of.result in
-    let here : IsFirstFault c.args.faces.now fault = record {
-      some_face = omega arith;
-      edge = uneven_as_read c.args.faces.now c.args.sides.now c.in-Some.edge.0 c.ends.result.0.0 c.ends.result.1.0 c.sides_of.result
-          c.requires c.in-Some.ensures.some
-          c.ends.ensures.low c.ends.ensures.high c.sides_of.ensures;
-    } in
+    let here = uneven_as_read c.args.faces.now c.args.sides.now c.in-Some.edge.0 c.ends.result.0 c.ends.result.1 c.sides_of.result
+    (omega arith) c.requires c.in-Some.ensures.some c.ends.ensures.low c.ends.ensures.high c.sides_of.ensures in
     λ closed. absurd (no_fault c.args.faces.now fault closed here)
 
 pub returns-in-Some-clause-refused : goal.returns-in-Some-clause-refused
 returns-in-Some-clause-refused c =
     let fault = EdgeSides c.ends.result.0 c.ends.result.1 c.sides_of.result in
-    let here : IsFirstFault c.args.faces.now fault = record {
-      some_face = omega arith;
-      edge = uneven_as_read c.args.faces.now c.args.sides.now c.in-Some.edge.0 c.ends.result.0.0 c.ends.result.1.0 c.sides_of.result
-          c.requires c.in-Some.ensures.some
-          c.ends.ensures.low c.ends.ensures.high c.sides_of.ensures;
-    } in
+    let here = uneven_as_read c.args.faces.now c.args.sides.now c.in-Some.edge.0 c.ends.result.0 c.ends.result.1 c.sides_of.result
+    (omega arith) c.requires c.in-Some.ensures.some c.ends.ensures.low c.ends.ensures.high c.sides_of.ensures in
     λ other first. inl (ap Err (one_fault c.args.faces.now fault other here first))
 
 pub pinched_vertex-requires-clause-few : goal.pinched_vertex-requires-clause-few
