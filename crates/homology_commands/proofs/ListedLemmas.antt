@@ -1,17 +1,36 @@
 -- Listing the numbers that are not 0, one by one.
-use Rattle.std.proofs.Common.{◌≡◌, ◌≢◌, ◌⊎◌, inl, inr, ℕ, zero, suc, ◌+◌, ◌<◌, Bool, true, false, List, [], ◌∷◌, ◌++◌, length-append, get_or, refl, ap, sym, ◌∙◌, subst, arith, ℤ, pos, negsuc}
-use Rattle.std.specs.Prelude.{All, if◌then◌else◌, ◌==◌, ◌&&◌}
+use Rattle.std.proofs.Common.{◌≡◌, ◌≢◌, ◌⊎◌, inl, inr, ℕ, zero, suc, ◌+◌, ◌<◌, Bool, true, false, List, [], ◌∷◌, ◌++◌, length-append, get_or, refl, ap, sym, ◌∙◌, subst, arith, ℤ, pos, negsuc, to_z, of_z, w64, ◌≤◌}
+use Rattle.std.specs.Prelude.{All, Some, if◌then◌else◌, ◌==◌, ◌&&◌, slice_get, unsigned_abs}
 use Rattle.std.proofs.lemmas.Bool.{cases_Bool, cases_lt}
 use Rattle.std.proofs.lemmas.Bool.Decides.{nat_tests}
 use Rattle.std.proofs.lemmas.Int.{ints}
 use Rattle.std.proofs.lemmas.List.Elements.{All-nil, All-push}
+use Rattle.std.proofs.lemmas.Option.{get_or_from_slice_get}
 use Rattle.surf_model.specs.Edges.{Edge, IsPairBefore, edge_in}
 use Rattle.homology.specs.Certificates.{listed_number, face_number, edge_number}
 use Rattle.homology.specs.declared.certificate.EdgeNumber.{EdgeNumber}
 use Rattle.homology.specs.declared.certificate.FaceNumber.{FaceNumber}
+use Rattle.homology.specs.Tallies.{AreWithin, number_at}
+use Rattle.homology.specs.declared.certificate.TheConstants.{MOST_NUMBER}
 use Rattle.homology.proofs.NumbersLemmas.{listed_more}
+use Rattle.homology.proofs.SizeLemmas.{sent}
 use Rattle.homology_files.specs.WrittenTexts.{FaceFits, EdgeFits}
 use Rattle.homology_commands.specs.Listings.{IsNamed, ListsFaces, IsAmong, ListsEdges}
+
+-- ---- a number that is handed on
+
+-- the number is that at this place of the numbers, and small
+pub record IsNumberAt (numbers : List ℤ) (place : ℕ) (number : ℤ) : Type 0 where
+  pub is : number ≡ number_at numbers place
+  pub small : unsigned_abs number ≤ MOST_NUMBER
+
+pub number_sent : (numbers : List ℤ) (place : ℕ) (number : ℤ) → AreWithin MOST_NUMBER numbers → slice_get numbers place ≡ Some number
+    → IsNumberAt numbers place (to_z w64 (of_z w64 number))
+number_sent numbers place number within at =
+    let is : number_at numbers place ≡ number = get_or_from_slice_get numbers place number (pos 0) at in
+    let small : unsigned_abs number ≤ MOST_NUMBER = subst (λ z. unsigned_abs z ≤ MOST_NUMBER) is (within.each place) in
+    let passed : to_z w64 (of_z w64 number) ≡ number = sent number (omega (arith, small)) in
+    record { is = passed ∙ sym is; small = subst (λ z. unsigned_abs z ≤ MOST_NUMBER) (sym passed) small }
 
 -- ---- one line more
 

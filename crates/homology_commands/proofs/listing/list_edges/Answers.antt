@@ -1,13 +1,10 @@
-use Rattle.std.proofs.Common.{◌≡◌, ℕ, ◌<◌, ◌≤◌, List, length, sym, ap, ◌∙◌, subst, arith, ℤ, pos, to_z, of_z, w64}
-use Rattle.std.specs.Prelude.{All, unsigned_abs}
-use Rattle.std.proofs.lemmas.Option.{get_or_from_slice_get}
+use Rattle.std.proofs.Common.{◌≡◌, ℕ, ◌<◌, ◌≤◌, List, length, sym, ap, ◌∙◌, subst, arith, ℤ}
+use Rattle.std.specs.Prelude.{All}
 use Rattle.surf_model.specs.Edges.{Edge, IsPairBefore, edge_in}
 use Rattle.homology.specs.Tallies.{number_at}
 use Rattle.homology.specs.declared.certificate.EdgeNumber.{EdgeNumber}
-use Rattle.homology.specs.declared.certificate.TheConstants.{MOST_NUMBER}
-use Rattle.homology.proofs.SizeLemmas.{sent}
 use Rattle.homology_commands.specs.Listings.{ListsEdges}
-use Rattle.homology_commands.proofs.ListedLemmas.{edge_more, edges_before, no_edges}
+use Rattle.homology_commands.proofs.ListedLemmas.{edge_more, edges_before, no_edges, number_sent}
 use Rattle.homology_commands.proofs.listing.list_edges.Goals as goal
 
 pub loop-edge-init : goal.loop-edge-init
@@ -40,14 +37,7 @@ list_edge-requires-clause-above c =
 
 pub list_edge-requires-clause-small : goal.list_edge-requires-clause-small
 list_edge-requires-clause-small c =
-    let numbers : List ℤ = c.args.numbers.now in
-    let edge : ℕ = c.loop-edge.edge in
-    let is : number_at numbers edge ≡ c.at-number.result =
-    get_or_from_slice_get numbers edge c.at-number.result (pos 0) c.at-number.ensures in
-    let small : unsigned_abs c.at-number.result ≤ MOST_NUMBER =
-    subst (λ z. unsigned_abs z ≤ MOST_NUMBER) is (c.requires.small.each edge) in
-    let passed : to_z w64 (of_z w64 c.at-number.result) ≡ c.at-number.result = sent c.at-number.result (omega (arith, small)) in
-    subst (λ z. unsigned_abs z ≤ MOST_NUMBER) (sym passed) small
+    (number_sent c.args.numbers.now c.loop-edge.edge c.at-number.result c.requires.small c.at-number.ensures).small
 
 pub list_edge-requires-clause-few : goal.list_edge-requires-clause-few
 list_edge-requires-clause-few c =
@@ -67,11 +57,7 @@ loop-edge-preserved c =
     λ j less.
     c.sides.ensures.valid.table.rising j edge _ less
     (omega (arith, c.loop-edge-test.true, c.len-edge-end.ensures, c.requires.each_edge)) in
-    let is : number_at numbers edge ≡ c.at-number.result =
-    get_or_from_slice_get numbers edge c.at-number.result (pos 0) c.at-number.ensures in
-    let small : unsigned_abs c.at-number.result ≤ MOST_NUMBER =
-    subst (λ z. unsigned_abs z ≤ MOST_NUMBER) is (c.requires.small.each edge) in
-    let passed : to_z w64 (of_z w64 c.at-number.result) ≡ c.at-number.result = sent c.at-number.result (omega (arith, small)) in
+    let number = number_sent numbers edge c.at-number.result c.requires.small c.at-number.ensures in
     edge_more table (number_at numbers) edge c.loop-edge.lines c.loop-edge.invariant rises _ c.list_edge.new.lines
-    (sym low_is) (sym high_is) (passed ∙ sym is) c.list_edge.ensures.fits c.in_ok-list_edge.ensures.zero
+    (sym low_is) (sym high_is) number.is c.list_edge.ensures.fits c.in_ok-list_edge.ensures.zero
     c.in_ok-list_edge.ensures.listed

@@ -1,13 +1,10 @@
-use Rattle.std.proofs.Common.{◌≡◌, ℕ, ◌<◌, ◌≤◌, List, sym, ◌∙◌, subst, arith, ℤ, pos, to_z, of_z, w64}
-use Rattle.std.specs.Prelude.{All, unsigned_abs}
-use Rattle.std.proofs.lemmas.Option.{get_or_from_slice_get}
+use Rattle.std.proofs.Common.{◌≡◌, ℕ, ◌<◌, ◌≤◌, List, sym, ◌∙◌, subst, arith, ℤ}
+use Rattle.std.specs.Prelude.{All}
 use Rattle.homology.specs.Tallies.{number_at}
 use Rattle.homology.specs.declared.certificate.FaceNumber.{FaceNumber}
-use Rattle.homology.specs.declared.certificate.TheConstants.{MOST_NUMBER}
-use Rattle.homology.proofs.SizeLemmas.{sent}
 use Rattle.homology_commands.specs.Listings.{ListsFaces, name_in}
 use Rattle.homology_commands.proofs.CertificateLemmas.{names_rise}
-use Rattle.homology_commands.proofs.ListedLemmas.{face_more, faces_before, no_faces}
+use Rattle.homology_commands.proofs.ListedLemmas.{face_more, faces_before, no_faces, number_sent}
 use Rattle.homology_commands.proofs.listing.list_faces.Goals as goal
 
 pub loop-face-init : goal.loop-face-init
@@ -32,14 +29,7 @@ list_face-requires-clause-above c =
 
 pub list_face-requires-clause-small : goal.list_face-requires-clause-small
 list_face-requires-clause-small c =
-    let numbers : List ℤ = c.args.numbers.now in
-    let face : ℕ = c.loop-face.face in
-    let is : number_at numbers face ≡ c.at-number.result =
-    get_or_from_slice_get numbers face c.at-number.result (pos 0) c.at-number.ensures in
-    let small : unsigned_abs c.at-number.result ≤ MOST_NUMBER =
-    subst (λ z. unsigned_abs z ≤ MOST_NUMBER) is (c.requires.small.each face) in
-    let passed : to_z w64 (of_z w64 c.at-number.result) ≡ c.at-number.result = sent c.at-number.result (omega (arith, small)) in
-    subst (λ z. unsigned_abs z ≤ MOST_NUMBER) (sym passed) small
+    (number_sent c.args.numbers.now c.loop-face.face c.at-number.result c.requires.small c.at-number.ensures).small
 
 pub list_face-requires-clause-few : goal.list_face-requires-clause-few
 list_face-requires-clause-few c =
@@ -54,11 +44,7 @@ loop-face-preserved c =
     λ j less.
     names_rise c.requires.component.0 c.requires.component.1 component j face c.requires.component.2 less
     (omega (arith, c.loop-face-test.true, c.len-face-end.ensures, c.requires.each_face)) in
-    let is : number_at numbers face ≡ c.at-number.result =
-    get_or_from_slice_get numbers face c.at-number.result (pos 0) c.at-number.ensures in
-    let small : unsigned_abs c.at-number.result ≤ MOST_NUMBER =
-    subst (λ z. unsigned_abs z ≤ MOST_NUMBER) is (c.requires.small.each face) in
-    let passed : to_z w64 (of_z w64 c.at-number.result) ≡ c.at-number.result = sent c.at-number.result (omega (arith, small)) in
+    let number = number_sent numbers face c.at-number.result c.requires.small c.at-number.ensures in
     face_more (name_in component) (number_at numbers) face c.loop-face.lines c.loop-face.invariant rises _ c.list_face.new.lines
-    c.name_of-name.ensures (passed ∙ sym is) c.list_face.ensures.fits c.in_ok-list_face.ensures.zero
+    c.name_of-name.ensures number.is c.list_face.ensures.fits c.in_ok-list_face.ensures.zero
     c.in_ok-list_face.ensures.listed
