@@ -86,7 +86,7 @@ pub fn find_certificate(
     requires limits { IsWithinLimits surface.faces first.now second.now }
     ensures { IfOk result (IsShown surface.faces first.now second.now) }
 {
-    let component = Component::of(alloc, surface, first.at(0))?;
+    let component = Component::of_walk(alloc, surface, first)?;
     let shown = certificate_on(alloc, &component, first, second);
     // By a call, which is proved once, and not here again.
     drop(component);

@@ -1,7 +1,8 @@
 //! The component of a surface in which two walks lie, as a connected surface of its own.
-ghost use Rattle.std.specs.Prelude.{◌≡◌, ◌<◌, length, IsTrue, IfOk};
+ghost use Rattle.std.specs.Prelude.{◌≡◌, ◌<◌, length, slice_index, IsTrue, IfOk};
 ghost use Rattle.surf_model.specs.FaceLists.{is_used};
 ghost use Rattle.surf_model.specs.Components.{EachTwoAreJoined};
+ghost use Rattle.surf_model.specs.Walks.{IsWalk};
 ghost use Rattle.manifold_check.specs.ComponentParts.{AreParts, component_at, component_mesh};
 ghost use Rattle.manifold_check.specs.Submeshes.{signs_among};
 ghost use Rattle.commands.specs.ClosedSurfaces.{IsComponentOf, IsSigned, surface_of};
@@ -10,7 +11,7 @@ use crate::surface_input::SignedMesh;
 use halfedge_map::Surface;
 use manifold_check::Parts;
 use std::alloc::{AllocError, Global};
-use surf_model::{Sides, VertexName};
+use surf_model::{Sides, VertexName, Walk};
 
 /// A component of a surface.
 #[derive(Debug, Drop)]
@@ -55,6 +56,15 @@ impl Component {
             parts,
             place,
         }))
+    }
+
+    /// The component in which a walk lies.
+    pub fn of_walk(alloc: Global, mesh: SignedMesh, walk: &Walk) -> Result<Component, AllocError>
+        requires signed { IsSigned mesh }
+        requires walk { IsWalk mesh.faces walk.now }
+        ensures { IfOk result (IsComponentOf mesh.faces (slice_index walk.now 0)) }
+    {
+        Component::of(alloc, mesh, walk.at(0))
     }
 
     /// The component as a surface.

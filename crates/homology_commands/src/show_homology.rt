@@ -49,7 +49,7 @@ fn find_certificate(
     requires few { darts first.now + darts second.now ≤ MOST_NUMBER }
     ensures { IfOk result (ShowsHomology surface.faces first.now second.now) }
 {
-    let component = Component::of(alloc, surface, first.at(0))?;
+    let component = Component::of_walk(alloc, surface, first)?;
     let shown = certificate_on(alloc, &component, first, second);
     // By a call, which is proved once, and not here again.
     drop(component);

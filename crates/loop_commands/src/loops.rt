@@ -39,7 +39,7 @@ fn decide_on(
     requires second { IsClosedWalk surface.faces second.now }
     ensures { IfOk result (λ answer. (answer ≡ FreeAnswer.Freely) ↔ FreelyHomotopic surface.faces first.now second.now) }
 {
-    let component = Component::of(alloc, surface, first.at(0))?;
+    let component = Component::of_walk(alloc, surface, first)?;
     let answer = decide_within(alloc, &component, first, second);
     // By a call, which is proved once, and not here again.
     drop(component);
