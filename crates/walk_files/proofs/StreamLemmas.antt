@@ -235,7 +235,8 @@ Answers old new result file = IsIn old file → IsAnswer result (next_answer (re
 -- it is that of the reader, and the stream behind it belongs to the file
 pub gives_answer : (file : Option (List ℕ)) (old : Streamed) (next : LinesReading) (to_come : ℕ) (result : Result (Option Move) StreamEnd)
     → streams_list old ≡ true → to_come ≡ count_in old.head - old.given → IfSome file (ReadsNext old next to_come result)
-    → OnOk result (IfSome file (λ f. Reads old.lines.reading f → Reads next.reading f)) → OnOk result (IfSome file (LeavesLines old.lines next))
+    → OnOk result (IfSome file (λ f. Reads old.lines.reading f → Reads next.reading f))
+    → OnOk result (IfSome file (LeavesLines old.lines next))
     → IfSome file (Answers old (record (after_move old result) { lines = next }) result)
 gives_answer None old next to_come result moves count reads on leaves = tt
 gives_answer (Some f) old next to_come (Ok (Some mv)) moves count reads on leaves = λ is. (

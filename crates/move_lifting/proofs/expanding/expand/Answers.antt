@@ -28,7 +28,8 @@ pub returns-clause-leads : goal.returns-clause-leads
 returns-clause-leads c =
     IfOk-weaker c.finish.result (λ (x : Lifted). x ≡ record { walk = c.in_ok-track.track.walk; moves = c.in_ok-track.track.list })
     (λ (x : Lifted). LeadsAtPeak c.args.surface.now.mesh c.args.walk.now x.moves x.walk)
-    (λ x e. subst (λ (y : Lifted). LeadsAtPeak c.args.surface.now.mesh c.args.walk.now y.moves y.walk) (sym e) (led (goal.at.returns-clause-leads c).In_ok-track)) c.finish.ensures
+    (λ x e. subst (λ (y : Lifted). LeadsAtPeak c.args.surface.now.mesh c.args.walk.now y.moves y.walk) (sym e)
+    (led (goal.at.returns-clause-leads c).In_ok-track)) c.finish.ensures
 
 pub returns-clause-off_cotree : goal.returns-clause-off_cotree
 returns-clause-off_cotree c =

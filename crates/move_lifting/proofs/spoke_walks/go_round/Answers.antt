@@ -11,7 +11,8 @@ use Rattle.move_lifting.proofs.spoke_walks.go_round.Goals as goal
 
 pub put_over-requires-clause-to : goal.put_over-requires-clause-to
 put_over-requires-clause-to c =
-    origin_used c.args.cut.now.on.surface.now c.requires.cut.valid c.args.dart.0 c.origin-tail.result.0 c.requires.dart c.origin-tail.ensures
+    origin_used c.args.cut.now.on.surface.now c.requires.cut.valid c.args.dart.0 c.origin-tail.result.0 c.requires.dart
+    c.origin-tail.ensures
 
 pub put_over-requires-2-clause-from : goal.put_over-requires-2-clause-from
 put_over-requires-2-clause-from c =
@@ -29,7 +30,8 @@ returns-clause-freely c =
     let end : List ℕ = numbers c.put_over-2.new.walk.items in
     let round : AreFreelyEqual s.mesh (begun ++ (ways y ++ ((backward tail (ways tail) ++ head ∷ ways head) ++ backward y (ways y)))) end =
     laid_round s.mesh begun (numbers c.put_over.new.walk.items) (numbers c.put_vertex.new.walk.items) end (ways y)
-    (backward tail (ways tail)) (ways head) (backward y (ways y)) head (omega (arith, c.requires.some, length-numbers c.args.walk.now.items))
+    (backward tail (ways tail)) (ways head) (backward y (ways y)) head
+    (omega (arith, c.requires.some, length-numbers c.args.walk.now.items))
     (c.in_ok-put_over.ensures.freely root ways h) (c.in_ok-put_vertex.ensures.freely s.mesh) (free root ways h) in
     subst (λ (v : ℕ). AreFreelyEqual s.mesh
     (begun ++ (ways y ++ ((backward v (ways v) ++ origin_of s (twin_of s c.args.dart.0) ∷ ways (origin_of s (twin_of s c.args.dart.0)))
