@@ -3,10 +3,12 @@ use Rattle.std.proofs.Common.{◌≡◌, ◌≢◌, inl, inr, ℕ, ◌<◌, ◌�
 use Rattle.std.proofs.lemmas.Bool.{cases_Bool}
 use Rattle.surf_model.specs.FaceLists.{FaceList, is_edge}
 use Rattle.surf_model.specs.Edges.{Edge, IsTableOf, IsEdgeOf, IsPairBefore, edge_in}
+use Rattle.surf_model.specs.declared.names.VertexName.{VertexName}
 use Rattle.surf_model.proofs.TableEdgeLemmas.{IsEdgeBetween, edge_between, sides_of_edge, same_pair, place_before}
 use Rattle.connectivity.proofs.EdgeCounts.{between_by_table, no_edge_no_side, sides_by_table}
 use Rattle.free_forms.specs.OpenSurfaces.{HasBoundary}
-use Rattle.free_forms.specs.OpenFaults.{IsFirstCrowded, IsLeastCrowdedEdge, IsBoundaryEdge}
+use Rattle.free_forms.specs.OpenFaults.{IsFirstFault, IsFirstCrowded, IsLeastCrowdedEdge, IsBoundaryEdge}
+use Rattle.free_forms.specs.declared.fault.OpenFault.TheVariants.{EdgeSides}
 
 pub no_boundary_from_table : (mesh : FaceList) (table : List Edge) → IsTableOf mesh table
     → ((k : ℕ) → k < length table → length (edge_in table k).sides ≢ 1) → HasBoundary mesh → ⊥
@@ -42,10 +44,14 @@ least_crowded mesh table k h first =
       ];
     }
 
-pub crowded_as_read : (mesh : FaceList) (table : List Edge) (k low high sides : ℕ) → IsTableOf mesh table → IsFirstCrowded table k
-    → low ≡ (edge_in table k).low → high ≡ (edge_in table k).high → sides ≡ length (edge_in table k).sides
-    → IsLeastCrowdedEdge mesh low high sides
-crowded_as_read mesh table k low high sides h first is_low is_high is_sides =
-    subst (λ a. IsLeastCrowdedEdge mesh a high sides) (sym is_low)
-    (subst (λ b. IsLeastCrowdedEdge mesh (edge_in table k).low b sides) (sym is_high)
-    (subst (IsLeastCrowdedEdge mesh (edge_in table k).low (edge_in table k).high) (sym is_sides) (least_crowded mesh table k h first)))
+-- so it is the first fault, as it is read
+pub crowded_as_read : (mesh : FaceList) (table : List Edge) (k : ℕ) (low high : VertexName) (sides : ℕ) → 0 < length mesh.faces
+    → IsTableOf mesh table → IsFirstCrowded table k → low.0 ≡ (edge_in table k).low → high.0 ≡ (edge_in table k).high
+    → sides ≡ length (edge_in table k).sides → IsFirstFault mesh (EdgeSides low high sides)
+crowded_as_read mesh table k low high sides some h first is_low is_high is_sides = record {
+  some_face = some;
+  edge =
+      subst (λ a. IsLeastCrowdedEdge mesh a high.0 sides) (sym is_low)
+      (subst (λ b. IsLeastCrowdedEdge mesh (edge_in table k).low b sides) (sym is_high)
+      (subst (IsLeastCrowdedEdge mesh (edge_in table k).low (edge_in table k).high) (sym is_sides) (least_crowded mesh table k h first)));
+}

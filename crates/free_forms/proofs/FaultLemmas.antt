@@ -1,6 +1,6 @@
 -- First faults exclude each other, and an open surface.
-use Rattle.std.proofs.Common.{◌≡◌, ◌⊎◌, inl, inr, ℕ, refl, ap, sym, ◌∙◌, subst, arith}
-use Rattle.std.proofs.lemmas.Bool.{cases_lt, cases_eq}
+use Rattle.std.proofs.Common.{◌≡◌, ◌⊎◌, inl, inr, ℕ, ◌<◌, refl, ap, sym, ◌∙◌, subst, arith}
+use Rattle.std.proofs.lemmas.Bool.{cases_order}
 use Rattle.surf_model.specs.FaceLists.{FaceList}
 use Rattle.surf_model.specs.Edges.{IsPairBefore}
 use Rattle.surf_model.specs.Surfaces.{sides_between}
@@ -15,20 +15,7 @@ same_name : (v w : VertexName) → v.0 ≡ w.0 → v ≡ w
 same_name v w h = let name : ℕ → VertexName = λ x. record { 0 = x } in ap name h
 
 pair_cases : (a b c d : ℕ) → IsPairBefore a b c d ⊎ (IsPairBefore c d a b ⊎ ((a ≡ c) × (b ≡ d)))
-pair_cases a b c d =
-    elim (cases_eq a c) [
-      | inl same ↦ elim (cases_eq b d) [
-        | inl too ↦ inr (inr (same, too))
-        | inr other ↦ elim (cases_lt b d) [
-          | inl less ↦ inl (inr (same, less))
-          | inr more ↦ inr (inl (inr (sym same, omega arith)))
-        ]
-      ]
-      | inr other ↦ elim (cases_lt a c) [
-        | inl less ↦ inl (inl less)
-        | inr more ↦ inr (inl (inl (omega arith)))
-      ]
-    ]
+pair_cases a b c d = grind arith
 
 not_few : (mesh : FaceList) (low high sides : ℕ) → IsLeastCrowdedEdge mesh low high sides → NoEdgeHasThreeSides mesh → ⊥
 not_few mesh low high sides h few = omega (arith, h.number, h.crowded, few low high)
@@ -43,35 +30,21 @@ one_edge mesh a b s c d t h k =
       ]
     ]
 
-one_pinch : (mesh : FaceList) (v w : ℕ) → IsLeastPinch mesh v → IsLeastPinch mesh w → v ≡ w
-one_pinch mesh v w h k =
-    elim (cases_eq v w) [
+equal : (v w : ℕ) → (v < w → ⊥) → (w < v → ⊥) → v ≡ w
+equal v w not_less not_more =
+    elim (cases_order v w) [
       | inl same ↦ same
-      | inr other ↦ elim (cases_lt v w) [
-        | inl less ↦ absurd (h.pinched (k.least v less h.used))
-        | inr more ↦ absurd (k.pinched (h.least w (omega arith) k.used))
-      ]
+      | inr apart ↦ elim apart [ inl less ↦ absurd (not_less less) | inr more ↦ absurd (not_more more) ]
     ]
+
+one_pinch : (mesh : FaceList) (v w : ℕ) → IsLeastPinch mesh v → IsLeastPinch mesh w → v ≡ w
+one_pinch mesh v w h k = equal v w (λ less. h.pinched (k.least v less h.used)) (λ more. k.pinched (h.least w more k.used))
 
 one_least : (mesh : FaceList) (v w : ℕ) → IsLeastUsed mesh v → IsLeastUsed mesh w → v ≡ w
-one_least mesh v w h k =
-    elim (cases_eq v w) [
-      | inl same ↦ same
-      | inr other ↦ elim (cases_lt v w) [
-        | inl less ↦ absurd (k.least v less h.used)
-        | inr more ↦ absurd (h.least w (omega arith) k.used)
-      ]
-    ]
+one_least mesh v w h k = equal v w (λ less. k.least v less h.used) (λ more. h.least w more k.used)
 
 one_apart : (mesh : FaceList) (u v w : ℕ) → AreLeastApart mesh u v → AreLeastApart mesh u w → v ≡ w
-one_apart mesh u v w h k =
-    elim (cases_eq v w) [
-      | inl same ↦ same
-      | inr other ↦ elim (cases_lt v w) [
-        | inl less ↦ absurd (h.apart (k.least v less h.used))
-        | inr more ↦ absurd (k.apart (h.least w (omega arith) k.used))
-      ]
-    ]
+one_apart mesh u v w h k = equal v w (λ less. h.apart (k.least v less h.used)) (λ more. k.apart (h.least w more k.used))
 
 -- there is at most one first fault
 pub one_fault : (mesh : FaceList) (fault other : OpenFault) → IsFirstFault mesh fault → IsFirstFault mesh other → fault ≡ other

@@ -10,33 +10,21 @@ use Rattle.free_forms.proofs.check.check_open.Goals as goal
 -- An edge has three or more sides.
 pub returns-in-Some-clause-fault : goal.returns-in-Some-clause-fault
 returns-in-Some-clause-fault c =
-    inr (record {
-      some_face = omega arith;
-      edge = crowded_as_read c.args.faces.now c.args.sides.now c.in-Some.edge.0 c.ends.result.0.0 c.ends.result.1.0 c.sides_of.result
-          c.requires c.in-Some.ensures.some
-          c.ends.ensures.low c.ends.ensures.high c.sides_of.ensures;
-    })
+    inr (crowded_as_read c.args.faces.now c.args.sides.now c.in-Some.edge.0 c.ends.result.0 c.ends.result.1 c.sides_of.result
+    (omega arith) c.requires c.in-Some.ensures.some c.ends.ensures.low c.ends.ensures.high c.sides_of.ensures)
 
 pub returns-in-Some-clause-accepted : goal.returns-in-Some-clause-accepted
 returns-in-Some-clause-accepted c =
     let fault = EdgeSides c.ends.result.0 c.ends.result.1 c.sides_of.result in
-    let here : IsFirstFault c.args.faces.now fault = record {
-      some_face = omega arith;
-      edge = crowded_as_read c.args.faces.now c.args.sides.now c.in-Some.edge.0 c.ends.result.0.0 c.ends.result.1.0 c.sides_of.result
-          c.requires c.in-Some.ensures.some
-          c.ends.ensures.low c.ends.ensures.high c.sides_of.ensures;
-    } in
+    let here = crowded_as_read c.args.faces.now c.args.sides.now c.in-Some.edge.0 c.ends.result.0 c.ends.result.1 c.sides_of.result
+    (omega arith) c.requires c.in-Some.ensures.some c.ends.ensures.low c.ends.ensures.high c.sides_of.ensures in
     λ surface. absurd (no_fault c.args.faces.now fault surface here)
 
 pub returns-in-Some-clause-refused : goal.returns-in-Some-clause-refused
 returns-in-Some-clause-refused c =
     let fault = EdgeSides c.ends.result.0 c.ends.result.1 c.sides_of.result in
-    let here : IsFirstFault c.args.faces.now fault = record {
-      some_face = omega arith;
-      edge = crowded_as_read c.args.faces.now c.args.sides.now c.in-Some.edge.0 c.ends.result.0.0 c.ends.result.1.0 c.sides_of.result
-          c.requires c.in-Some.ensures.some
-          c.ends.ensures.low c.ends.ensures.high c.sides_of.ensures;
-    } in
+    let here = crowded_as_read c.args.faces.now c.args.sides.now c.in-Some.edge.0 c.ends.result.0 c.ends.result.1 c.sides_of.result
+    (omega arith) c.requires c.in-Some.ensures.some c.ends.ensures.low c.ends.ensures.high c.sides_of.ensures in
     λ other first. inl (ap Err (one_fault c.args.faces.now fault other here first))
 
 -- No edge has one side.
