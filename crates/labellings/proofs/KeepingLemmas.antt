@@ -180,7 +180,8 @@ spur_leads_back {State = State} mesh labelling next Belongs IsAtVertex laws vali
     let turned : (x y : ℕ) → x ≡ u → y ≡ v → run mesh labelling next s (x ∷ y ∷ x ∷ []) ≡ s
     → run mesh labelling next s (u ∷ v ∷ u ∷ []) ≡ s =
     λ x y same too back.
-    subst (λ w. run mesh labelling next s (u ∷ w ∷ u ∷ []) ≡ s) too (subst (λ w. run mesh labelling next s (w ∷ y ∷ w ∷ []) ≡ s) same back) in
+    subst (λ w. run mesh labelling next s (u ∷ w ∷ u ∷ []) ≡ s) too
+    (subst (λ w. run mesh labelling next s (w ∷ y ∷ w ∷ []) ≡ s) same back) in
     elim between.runs [
       | inl p ↦
           turned _ _ p.0 p.1
