@@ -77,32 +77,28 @@ module _ (places : List ℕ) (wheel : IsWheel places) (w : HasQuads places) wher
       upper_way (length places) true a c ≡ a ∷ second ∷ []
   upper-from-vertex a second c ha hs e = ap (λ n. a ∷ n ∷ []) (up-one (length places) w.four a second ha hs e)
 
+  -- the spoke after the one side of a quad stands one place before the other side
+  after-side : (side partner other : ℕ) → IsQuad places side partner → other < length places
+      → add (length places) (get_or places other 0) 1 ≡ get_or places partner 0 → add (length places) side 1 ≡ other
+  after-side side partner other q ho e =
+      let d = length places in
+      let four = w.four in
+      wheel.once (add d side 1) other (add-lt d side 1 q.a_below (omega arith)) ho
+      (q.c_place
+      ∙ sym (less-one d four (get_or places other 0) (get_or places partner 0) (wheel.inside other ho) (wheel.inside partner q.c_below) e))
+
   pub lower-from-middle : (c second a : ℕ) → IsQuad places a c → second < length places
       → turn_between places true c second ≡ minus (length places) 1 →
       lower_way (length places) false a c ≡ c ∷ second ∷ []
   lower-from-middle c second a q hs e =
-      let d = length places in
-      let four = w.four in
-      let pc = wheel.inside c q.c_below in
-      let ps = wheel.inside second hs in
-      let up_in = add-lt d a 1 q.a_below (omega arith) in
-      let same : get_or places (add d a 1) 0 ≡ get_or places second 0 =
-      q.c_place ∙ sym (less-one d four (get_or places second 0) (get_or places c 0) ps pc
-      (down-one d four (get_or places c 0) (get_or places second 0) pc ps e)) in
-      ap (λ n. c ∷ n ∷ []) (wheel.once (add d a 1) second up_in hs same)
+      ap (λ n. c ∷ n ∷ []) (after-side a c second q hs (down-one (length places) w.four (get_or places c 0) (get_or places second 0)
+      (wheel.inside c q.c_below) (wheel.inside second hs) e))
 
   pub upper-from-middle : (first a c : ℕ) → IsQuad places a c → first < length places → turn_between places true first a ≡ 1 →
       upper_way (length places) false a c ≡ first ∷ a ∷ []
   upper-from-middle first a c q hf e =
-      let d = length places in
-      let four = w.four in
-      let pa = wheel.inside a q.a_below in
-      let pf = wheel.inside first hf in
-      let up_in = add-lt d c 1 q.c_below (omega arith) in
-      let same : get_or places (add d c 1) 0 ≡ get_or places first 0 =
-      q.a_place ∙ sym (less-one d four (get_or places first 0) (get_or places a 0) pf pa
-      (up-one d four (get_or places first 0) (get_or places a 0) pf pa e)) in
-      ap (λ n. n ∷ a ∷ []) (wheel.once (add d c 1) first up_in hf same)
+      ap (λ n. n ∷ a ∷ []) (after-side c a first (other-side places a c q) hf (up-one (length places) w.four (get_or places first 0)
+      (get_or places a 0) (wheel.inside first hf) (wheel.inside a q.a_below) e))
 
   -- what a turn does to the places of the two neighbours
   pub record Changes (b : Bool) (one back x y v u : ℕ) : Type 0 where
