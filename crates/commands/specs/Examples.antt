@@ -35,170 +35,88 @@ named v = record { 0 = v }
 abbrev link : ℕ → ℕ → ℕ → ChainLink
 link face low high = record { face = record { 0 = face }; low = record { 0 = low }; high = record { 0 = high } }
 
+-- round the projective plane of six vertices
+abbrev chain : List ChainLink
+chain = link 8 4 5 ∷ link 3 0 5 ∷ link 4 0 1 ∷ link 0 1 2 ∷ link 5 2 4 ∷ []
+
 -- ---- words and files
 
-words : wrong_words ≡ written (codes "refused: words")
-words = refl
+words_and_files :
+    (wrong_words ≡ written (codes "refused: words"))
+    × (too_large Mesh ≡ written (codes "refused: off too large"))
+    × (too_large Walks ≡ written (codes "refused: walks too large"))
+    × (too_large Certificate ≡ written (codes "refused: certificate too large"))
+    × (too_large TurnWords ≡ written (codes "refused: list too large"))
+words_and_files = (refl, refl, refl, refl, refl)
 
-large_mesh : too_large Mesh ≡ written (codes "refused: off too large")
-large_mesh = refl
+-- ---- a mesh text; want of memory is no fault of it
 
-large_walks : too_large Walks ≡ written (codes "refused: walks too large")
-large_walks = refl
-
-large_certificate : too_large Certificate ≡ written (codes "refused: certificate too large")
-large_certificate = refl
-
-large_list : too_large TurnWords ≡ written (codes "refused: list too large")
-large_list = refl
-
--- ---- a mesh text
-
-no_counts : off_line off.NoCounts ≡ written (codes "refused: off no counts")
-no_counts = refl
-
-counts : off_line (off.BadCounts 1) ≡ written (codes "refused: off line 1 counts")
+mesh_texts :
+    (off_line off.NoCounts ≡ written (codes "refused: off no counts"))
+    × (off_line (off.BadCounts 1) ≡ written (codes "refused: off line 1 counts"))
+    × (off_line (off.UnreadForm 1) ≡ written (codes "refused: off line 1 form"))
+    × (off_line (off.BadVertex 3) ≡ written (codes "refused: off line 3 vertex"))
+    × (off_line (off.Ended 20) ≡ written (codes "refused: off line 20 ended"))
+    × (off_line (off.BadFace 11) ≡ written (codes "refused: off line 11 face"))
+    × (off_line (off.IndexRange 12) ≡ written (codes "refused: off line 12 index"))
+    × (off_line (off.EqualNeighbours 13) ≡ written (codes "refused: off line 13 neighbours"))
+    × (off_line (off.TooMany 2) ≡ written (codes "refused: off line 2 many"))
+    × (off_line off.OutOfMemory ≡ NoText)
 unfolding digits
-counts = refl
-
-form : off_line (off.UnreadForm 1) ≡ written (codes "refused: off line 1 form")
-unfolding digits
-form = refl
-
-vertex : off_line (off.BadVertex 3) ≡ written (codes "refused: off line 3 vertex")
-unfolding digits
-vertex = refl
-
-ended : off_line (off.Ended 20) ≡ written (codes "refused: off line 20 ended")
-unfolding digits
-ended = refl
-
-face : off_line (off.BadFace 11) ≡ written (codes "refused: off line 11 face")
-unfolding digits
-face = refl
-
-index : off_line (off.IndexRange 12) ≡ written (codes "refused: off line 12 index")
-unfolding digits
-index = refl
-
-neighbours : off_line (off.EqualNeighbours 13) ≡ written (codes "refused: off line 13 neighbours")
-unfolding digits
-neighbours = refl
-
-many : off_line (off.TooMany 2) ≡ written (codes "refused: off line 2 many")
-unfolding digits
-many = refl
-
--- Want of memory is no fault of the text.
-no_memory : off_line off.OutOfMemory ≡ NoText
-no_memory = refl
+mesh_texts = (refl, refl, refl, refl, refl, refl, refl, refl, refl, refl)
 
 -- ---- a mesh that is no surface
 
-no_face : surface_line surfaces.NoFace ≡ written (codes "refused: no face")
-no_face = refl
-
-edge_sides : surface_line (surfaces.EdgeSides (named 1) (named 2) 3) ≡ written (codes "refused: edge 1 2 sides 3")
+no_surfaces :
+    (surface_line surfaces.NoFace ≡ written (codes "refused: no face"))
+    × (surface_line (surfaces.EdgeSides (named 1) (named 2) 3) ≡ written (codes "refused: edge 1 2 sides 3"))
+    × (surface_line (surfaces.Pinched (named 4)) ≡ written (codes "refused: vertex 4 pinched"))
+    × (components_line 1025 ≡ written (codes "refused: surface components 1025"))
+    × (odd_chain_line chain ≡ as_line (codes "refused: not orientable 8 4 5 3 0 5 4 0 1 0 1 2 5 2 4"))
 unfolding digits
-edge_sides = refl
-
-pinched : surface_line (surfaces.Pinched (named 4)) ≡ written (codes "refused: vertex 4 pinched")
-unfolding digits
-pinched = refl
-
-components : components_line 1025 ≡ written (codes "refused: surface components 1025")
-unfolding digits
-components = refl
+no_surfaces = (refl, refl, refl, refl, refl)
 
 -- ---- walks and turn words
 
-number : numbers_line Walks (walks.BadNumber 1) ≡ written (codes "refused: walks line 1 number")
+numbers :
+    (numbers_line Walks (walks.BadNumber 1) ≡ written (codes "refused: walks line 1 number"))
+    × (numbers_line Walks (walks.TooLong 2) ≡ written (codes "refused: walks line 2 long"))
+    × (numbers_line Walks (walks.TooMany 4) ≡ written (codes "refused: walks line 4 many"))
+    × (numbers_line Walks (walks.BadGroup 3) ≡ written (codes "refused: walks line 3 group"))
+    × (numbers_line TurnWords (walks.BadNumber 1) ≡ written (codes "refused: list line 1 number"))
+    × (numbers_line TurnWords (walks.TooLong 2) ≡ written (codes "refused: list line 2 long"))
+    × (numbers_line TurnWords (walks.TooMany 4) ≡ written (codes "refused: list line 4 many"))
 unfolding digits
-number = refl
+numbers = (refl, refl, refl, refl, refl, refl, refl)
 
-long : numbers_line Walks (walks.TooLong 2) ≡ written (codes "refused: walks line 2 long")
+-- ---- two walks
+
+pairs :
+    (pair_line (NotTwo 3) ≡ written (codes "refused: walks count 3"))
+    × (pair_line (NoVertex 1 5) ≡ written (codes "refused: walk 1 place 5 vertex"))
+    × (pair_line (NoEdge 2 0) ≡ written (codes "refused: walk 2 place 0 edge"))
+    × (pair_line (EndsDiffer true) ≡ written (codes "refused: walks start"))
+    × (pair_line (EndsDiffer false) ≡ written (codes "refused: walks end"))
 unfolding digits
-long = refl
-
-too_many : numbers_line Walks (walks.TooMany 4) ≡ written (codes "refused: walks line 4 many")
-unfolding digits
-too_many = refl
-
-group : numbers_line Walks (walks.BadGroup 3) ≡ written (codes "refused: walks line 3 group")
-unfolding digits
-group = refl
-
-word_number : numbers_line TurnWords (walks.BadNumber 1) ≡ written (codes "refused: list line 1 number")
-unfolding digits
-word_number = refl
-
-word_long : numbers_line TurnWords (walks.TooLong 2) ≡ written (codes "refused: list line 2 long")
-unfolding digits
-word_long = refl
-
-word_many : numbers_line TurnWords (walks.TooMany 4) ≡ written (codes "refused: list line 4 many")
-unfolding digits
-word_many = refl
-
-count : pair_line (NotTwo 3) ≡ written (codes "refused: walks count 3")
-unfolding digits
-count = refl
-
-walk_vertex : pair_line (NoVertex 1 5) ≡ written (codes "refused: walk 1 place 5 vertex")
-unfolding digits
-walk_vertex = refl
-
-walk_edge : pair_line (NoEdge 2 0) ≡ written (codes "refused: walk 2 place 0 edge")
-unfolding digits
-walk_edge = refl
-
-other_starts : pair_line (EndsDiffer true) ≡ written (codes "refused: walks start")
-other_starts = refl
-
-other_ends : pair_line (EndsDiffer false) ≡ written (codes "refused: walks end")
-other_ends = refl
+pairs = (refl, refl, refl, refl, refl)
 
 -- ---- certificates
 
-no_head : certificate_line certificates.NoHead ≡ written (codes "refused: certificate no head")
-no_head = refl
-
-bad : certificate_line (certificates.Bad 1) ≡ written (codes "refused: certificate line 1 bad")
+certificate_texts :
+    (certificate_line certificates.NoHead ≡ written (codes "refused: certificate no head"))
+    × (certificate_line (certificates.Bad 1) ≡ written (codes "refused: certificate line 1 bad"))
+    × (certificate_line (certificates.Ended 4) ≡ written (codes "refused: certificate line 4 ended"))
+    × (certificate_line (certificates.Extra 5) ≡ written (codes "refused: certificate line 5 extra"))
+    × (certificate_line (certificates.Peak 1) ≡ written (codes "refused: certificate line 1 peak"))
 unfolding digits
-bad = refl
+certificate_texts = (refl, refl, refl, refl, refl)
 
-list_ended : certificate_line (certificates.Ended 4) ≡ written (codes "refused: certificate line 4 ended")
+-- ---- limits
+
+limits :
+    (sides_line limit_word tetrahedron ≡ as_line (codes "refused: certify sides 12"))
+    × (darts_line limit_word (0 ∷ 1 ∷ 2 ∷ []) (0 ∷ 2 ∷ []) ≡ as_line (codes "refused: certify darts 3"))
+    × (as_refused (size_fault 9 5) ≡ as_line (codes "refused: trial genus 9"))
+    × (as_refused (size_fault 1 4) ≡ as_line (codes "refused: trial grid 4"))
 unfolding digits
-list_ended = refl
-
-extra : certificate_line (certificates.Extra 5) ≡ written (codes "refused: certificate line 5 extra")
-unfolding digits
-extra = refl
-
-peak : certificate_line (certificates.Peak 1) ≡ written (codes "refused: certificate line 1 peak")
-unfolding digits
-peak = refl
-
--- ---- limits, and odd chains
-
-limit_of_sides : sides_line limit_word tetrahedron ≡ as_line (codes "refused: certify sides 12")
-unfolding digits
-limit_of_sides = refl
-
-limit_of_darts : darts_line limit_word (0 ∷ 1 ∷ 2 ∷ []) (0 ∷ 2 ∷ []) ≡ as_line (codes "refused: certify darts 3")
-unfolding digits
-limit_of_darts = refl
-
-trial_genus : as_refused (size_fault 9 5) ≡ as_line (codes "refused: trial genus 9")
-unfolding digits
-trial_genus = refl
-
-trial_grid : as_refused (size_fault 1 4) ≡ as_line (codes "refused: trial grid 4")
-unfolding digits
-trial_grid = refl
-
--- round the projective plane of six vertices
-not_orientable : odd_chain_line (link 8 4 5 ∷ link 3 0 5 ∷ link 4 0 1 ∷ link 0 1 2 ∷ link 5 2 4 ∷ [])
-    ≡ as_line (codes "refused: not orientable 8 4 5 3 0 5 4 0 1 0 1 2 5 2 4")
-unfolding digits
-not_orientable = refl
+limits = (refl, refl, refl, refl)
