@@ -10,13 +10,12 @@ use Rattle.commands.proofs.Certifying.{after_pair, after_limits, limited}
 use Rattle.commands.proofs.Deciding.{behind, refused_behind, yes_or_no}
 use Rattle.commands.proofs.LimitLemmas.{none_over, refused_beyond}
 use Rattle.commands.proofs.RightAnswers.{refused_so, yes_exactly}
-use Rattle.commands.proofs.Rows.{behind_input, sound-pair, pair_told, spelled_pair}
-use Rattle.commands.proofs.Sound.{held, sound-pass_unless, unless_told}
+use Rattle.commands.proofs.Rows.{IsOutcomeOf, outcome_of_pair}
+use Rattle.commands.proofs.Sound.{sound-pass_unless, unless_told}
 use Rattle.commands.specs.Answers.{Answer, Exactly}
 use Rattle.commands.specs.Certificates.{decision_status}
 use Rattle.commands.specs.Certify.{certify, IsCertifyInput, IsWithinLimits, IsCertificatePrinted, IsCertified, certify_limits, limit_fault, limit_word, certified, certificate_answer}
 use Rattle.commands.specs.Checks.{Refuse, Pass}
-use Rattle.commands.specs.Inputs.{pair_in, SpellsPair}
 use Rattle.commands.specs.Outcomes.{Outcome, AnswersTo, IsAnswerOf}
 use Rattle.commands.specs.declared.status.Status.{Status}
 use Rattle.commands.specs.declared.status.Status.TheVariants.{Yes, Refused}
@@ -47,40 +46,38 @@ by_certified mesh first second (Pass x) status text p answer =
       exactly = yes_exactly yes_or_no decision_status refl refl p.0 status here.status_is p.2;
     }
 
--- ---- such an input
+-- ---- such an input, where the words are answered by the check
 
-module _ (files : Option Files) (words : List (List ℕ)) (mesh : FaceList) (first second : List ℕ) (outcome : Outcome) (status : Status)
-    (text : List ℕ) (input : IsCertifyInput files words mesh first second)
-    (is : (certify files input.mesh_name input.walks_name).Ends outcome) (answer : IsAnswerOf outcome status text) where
+module _ (files : Option Files) (words : List (List ℕ)) (status : Status) (text : List ℕ)
+    (answered : (mesh walks : List ℕ) → words ≡ codes "certify" ∷ mesh ∷ walks ∷ [] → AnswersTo files (certify files mesh walks) status text)
+    (mesh : FaceList) (first second : List ℕ) (input : IsCertifyInput files words mesh first second) where
   two : List (List ℕ)
   two = first ∷ second ∷ []
 
-  -- as the command ends, the checks behind the walks do
-  behind_walks : (after_pair mesh two).Ends outcome
+  -- what is answered is an outcome of the checks behind the walks
+  behind_walks : IsOutcomeOf (after_pair mesh two) status text
   unfolding two
-  behind_walks =
-      let told = (held files input.walks_name (SpellsPair mesh first second) input.walks_file).told in
-      behind_input files input.mesh_name mesh two (pair_in files input.walks_name) after_pair outcome input.mesh_file input.is_surface
-      (sound-pair files input.walks_name mesh) (pair_told files input.walks_name mesh told)
-      (spelled_pair files input.walks_name mesh first second input.walks_file) is
+  behind_walks = outcome_of_pair (codes "certify") files words mesh first second status text after_pair answered input
 
-  pub answers_input : IsWithinLimits mesh first second → IsAnsweredSo mesh first second status text
+  answers_input : IsWithinLimits mesh first second → IsAnsweredSo mesh first second status text
   unfolding two
   answers_input within =
-      by_certified mesh first second outcome status text
-      (behind files (limited mesh two) (after_limits mesh two) two outcome
+      let a = behind_walks in
+      by_certified mesh first second a.outcome status text
+      (behind files (limited mesh two) (after_limits mesh two) two a.outcome
       (sound-pass_unless files (λ line. Exactly line) (limit_fault mesh first second) two)
       (unless_told files (λ line. Exactly line) (limit_fault mesh first second) two)
       (rw (none_over certify_limits limit_word mesh first second within.sides within.few) refl)
-      behind_walks) answer
+      a.is_outcome) a.is_answer
 
-  pub refuses_input : (line : List ℕ) → limit_fault mesh first second ≡ Some line → (status ≡ Refused) × (text ≡ line)
+  refuses_input : (line : List ℕ) → limit_fault mesh first second ≡ Some line → (status ≡ Refused) × (text ≡ line)
   unfolding two
   refuses_input line e =
-      refused_so line outcome status text
-      (refused_behind files (limited mesh two) (after_limits mesh two) (Exactly line) outcome
+      let a = behind_walks in
+      refused_so line a.outcome status text
+      (refused_behind files (limited mesh two) (after_limits mesh two) (Exactly line) a.outcome
       (sound-pass_unless files (λ line. Exactly line) (limit_fault mesh first second) two)
-      (unless_told files (λ line. Exactly line) (limit_fault mesh first second) two) (rw e refl) behind_walks) answer
+      (unless_told files (λ line. Exactly line) (limit_fault mesh first second) two) (rw e refl) a.is_outcome) a.is_answer
 
 -- what `certify` is for, where the words are answered by its check
 pub certified_so : (files : Option Files) (words : List (List ℕ)) (status : Status) (text : List ℕ)
@@ -90,17 +87,10 @@ certified_so files words status text answered =
     record {
       answered = λ mesh first second input within. (so mesh first second input within).answered;
       exactly = λ mesh first second input within. (so mesh first second input within).exactly;
-      beyond = refused_beyond certify_limits limit_word (IsCertifyInput files words) status text refused;
+      beyond = refused_beyond certify_limits limit_word (IsCertifyInput files words) status text
+          (refuses_input files words status text answered);
     }
   where
     so : (mesh : FaceList) (first second : List ℕ) → IsCertifyInput files words mesh first second → IsWithinLimits mesh first second
         → IsAnsweredSo mesh first second status text
-    so mesh first second input within =
-        let a = answered input.mesh_name input.walks_name input.words_are in
-        answers_input files words mesh first second a.outcome status text input a.is_outcome a.is_answer within
-
-    refused : (mesh : FaceList) (first second : List ℕ) → IsCertifyInput files words mesh first second → (line : List ℕ)
-        → limit_fault mesh first second ≡ Some line → (status ≡ Refused) × (text ≡ line)
-    refused mesh first second input line e =
-        let a = answered input.mesh_name input.walks_name input.words_are in
-        refuses_input files words mesh first second a.outcome status text input a.is_outcome a.is_answer line e
+    so = answers_input files words status text answered

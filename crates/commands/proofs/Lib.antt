@@ -17,6 +17,7 @@ pub mod Certifying
 pub mod Trying
 pub mod Rows
 pub mod RunsOnWalks
+pub mod Judgements
 pub mod SurfaceOutcomes
 pub mod CertifyOutcomes
 pub mod ChainReading

@@ -16,14 +16,16 @@ use Rattle.commands.proofs.MeshTexts.{mesh_valid}
 use Rattle.commands.proofs.Sound.{IsSound, sound-then, sound-pass, sound-meant, sound-pass_unless, sound-file, meant_told, held}
 use Rattle.commands.proofs.Surfaces.{sound-as_surface, sound-few, few_passed}
 use Rattle.commands.proofs.WalkInputs.{no_fault_passes, sound-walks, walks_passed, walks_told}
-use Rattle.commands.specs.Answers.{Exactly}
+use Rattle.commands.specs.Answers.{Answer, Exactly}
 use Rattle.commands.specs.Certify.{certify, limit_fault}
 use Rattle.commands.specs.Checks.{Check, End, Passes, Holds, IsTold, ◌>>=◌}
-use Rattle.commands.specs.Inputs.{IsInputWith, mesh_in, pair_in, walk_at, SpellsMesh, SpellsPair}
+use Rattle.commands.specs.Inputs.{IsInputOnSurface, IsInputWith, mesh_in, pair_in, walk_at, SpellsMesh, SpellsPair}
+use Rattle.commands.specs.Outcomes.{Outcome, AnswersTo, IsAnswerOf}
 use Rattle.commands.specs.Refusals.{off_line, pair_line}
 use Rattle.commands.specs.ClosedSurfaces.{IsOrientableSurface}
 use Rattle.commands.specs.Surface.{surface}
 use Rattle.commands.specs.SurfaceInput.{surface_in}
+use Rattle.commands.specs.declared.status.Status.{Status}
 use Rattle.commands.specs.declared.inputs.TheConstants.{MOST_BYTES}
 use Rattle.commands.specs.declared.surface.TheConstants.{MOST_COMPONENTS}
 
@@ -35,12 +37,12 @@ sound-mesh held name = sound-then held _ _ (sound-file held name inputs.Mesh) (�
 pub sound-pair : (held : Option Files) (name : List ℕ) (mesh : FaceList) → IsSound held (pair_in held name mesh)
 sound-pair held name mesh = sound-walks pair_line (pair_fault mesh) held name
 
-some_and : {A : Type 0} (o : Option A) (P Q : A → Type 0) → ((x : A) → P x → Q x) → IsSomeAnd o P → IsSomeAnd o Q
+pub some_and : {A : Type 0} (o : Option A) (P Q : A → Type 0) → ((x : A) → P x → Q x) → IsSomeAnd o P → IsSomeAnd o Q
 some_and None P Q more h = h
 some_and (Some x) P Q more h = more x h
 
 -- where such bytes are so, a certificate with such bytes is one with bytes that are so
-pub input_so : (keyword : List ℕ) (AreSuch AreSo : List ℕ → Type 0) (files : Option Files) (words : List (List ℕ)) (mesh : FaceList)
+unfoldable pub input_so : (keyword : List ℕ) (AreSuch AreSo : List ℕ → Type 0) (files : Option Files) (words : List (List ℕ)) (mesh : FaceList)
     (first second : List ℕ)
     → ((bytes : List ℕ) → AreSuch bytes → AreSo bytes) → IsInputWith keyword AreSuch files words mesh first second
     → IsInputWith keyword AreSo files words mesh first second
@@ -135,16 +137,46 @@ pub two_walks : (held : Option Files) (name : List ℕ) (mesh : FaceList) (walks
 two_walks held name mesh walks p =
     two_fault-two NotTwo of_entry ends_fault mesh walks (no_fault_passes pair_line (pair_fault mesh) held name walks p)
 
--- what comes behind a surface and what is read of its walks, which are known to pass
-pub behind_input : {A B : Type 0} (files : Option Files) (name : List ℕ) (mesh : FaceList) (walks : A) (walks_in : FaceList → Check A)
-    (next : FaceList → A → Check B) (end : End B) → Holds files name (SpellsMesh mesh) → IsOrientableSurface mesh
-    → IsSound files (walks_in mesh) → (walks_in mesh).EachFile (IsTold files) → Passes (walks_in mesh) walks
-    → (surface_in files name >>= (λ surface. walks_in surface >>= next surface)).Ends end → (next mesh walks).Ends end
-behind_input files name mesh walks walks_in next end mesh_file is_surface sound told passes is =
-    behind files (walks_in mesh) (next mesh) walks end sound told passes
-    (behind files (surface_in files name) (λ surface. walks_in surface >>= next surface) mesh end (sound-surface_in files name)
-    (surface_told files name (held files name (SpellsMesh mesh) mesh_file).told)
-    (spelled_surface files name mesh mesh_file is_surface) is)
+-- the status and the text are those of an outcome of the check
+pub record IsOutcomeOf (check : Check Answer) (status : Status) (text : List ℕ) : Type 0 where
+  pub outcome : Outcome
+  pub is_outcome : check.Ends outcome
+  pub is_answer : IsAnswerOf outcome status text
+
+-- where words that stand for a surface and walks of it are answered by their check, they are by what comes behind the walks
+pub outcome_behind : {A : Type 0} (keyword : List ℕ) (AreSuch : List ℕ → Type 0) (files : Option Files) (words : List (List ℕ))
+    (mesh : FaceList) (status : Status) (text : List ℕ) (walks_in : List ℕ → FaceList → Check A) (next : FaceList → A → Check Answer)
+    (walks : A)
+    → ((mesh_name walks_name : List ℕ) → words ≡ keyword ∷ mesh_name ∷ walks_name ∷ []
+    → AnswersTo files (surface_in files mesh_name >>= (λ surface. walks_in walks_name surface >>= next surface)) status text)
+    → (input : IsInputOnSurface keyword AreSuch files words mesh) → IsSound files (walks_in input.walks_name mesh)
+    → (IsTold files input.walks_name → (walks_in input.walks_name mesh).EachFile (IsTold files))
+    → Passes (walks_in input.walks_name mesh) walks → IsOutcomeOf (next mesh walks) status text
+outcome_behind keyword AreSuch files words mesh status text walks_in next walks answered input sound told passes =
+    let a = answered input.mesh_name input.walks_name input.words_are in
+    record {
+      outcome = a.outcome;
+      is_outcome =
+          behind files (walks_in input.walks_name mesh) (next mesh) walks a.outcome sound
+          (told (held files input.walks_name AreSuch input.walks_file).told) passes
+          (behind files (surface_in files input.mesh_name) (λ surface. walks_in input.walks_name surface >>= next surface) mesh a.outcome
+          (sound-surface_in files input.mesh_name)
+          (surface_told files input.mesh_name (held files input.mesh_name (SpellsMesh mesh) input.mesh_file).told)
+          (spelled_surface files input.mesh_name mesh input.mesh_file input.is_surface) a.is_outcome);
+      is_answer = a.is_answer;
+    }
+
+-- the same of two walks with common ends
+pub outcome_of_pair : (keyword : List ℕ) (files : Option Files) (words : List (List ℕ)) (mesh : FaceList) (first second : List ℕ)
+    (status : Status) (text : List ℕ) (next : FaceList → List (List ℕ) → Check Answer)
+    → ((mesh_name walks_name : List ℕ) → words ≡ keyword ∷ mesh_name ∷ walks_name ∷ []
+    → AnswersTo files (surface_in files mesh_name >>= (λ surface. pair_in files walks_name surface >>= next surface)) status text)
+    → IsInputOnSurface keyword (SpellsPair mesh first second) files words mesh
+    → IsOutcomeOf (next mesh (first ∷ second ∷ [])) status text
+outcome_of_pair keyword files words mesh first second status text next answered input =
+    outcome_behind keyword (SpellsPair mesh first second) files words mesh status text (pair_in files) next (first ∷ second ∷ []) answered
+    input (sound-pair files input.walks_name mesh) (pair_told files input.walks_name mesh)
+    (spelled_pair files input.walks_name mesh first second input.walks_file)
 
 -- what comes behind a mesh and two walks of it, which their files spell
 pub behind_pair : {B : Type 0} (files : Option Files) (mesh_name walks_name : List ℕ) (mesh : FaceList) (first second : List ℕ)

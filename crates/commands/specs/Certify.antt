@@ -9,9 +9,8 @@ use Rattle.walk_translate.specs.declared.deciding.Answer as deciding
 use Rattle.walk_translate.specs.declared.deciding.Answer.TheVariants.{Homotopic}
 use Rattle.commands.specs.Answers.{Answer, Exactly, OfCertificate}
 use Rattle.commands.specs.Certificates.{Convinces, IsPeakLow, IsShortOnSphere, decision_of, decision_status, certificate_text}
-use Rattle.commands.specs.Checks.{Check, Holds, decided_by, pass_unless, ◌>>=◌}
-use Rattle.commands.specs.ClosedSurfaces.{IsOrientableSurface}
-use Rattle.commands.specs.Inputs.{pair_in, walk_at, SpellsMesh, SpellsPair}
+use Rattle.commands.specs.Checks.{Check, decided_by, pass_unless, ◌>>=◌}
+use Rattle.commands.specs.Inputs.{IsInputOnSurface, pair_in, walk_at, SpellsPair}
 use Rattle.commands.specs.Limits.{FitsLimits, IsRefusedBeyond, limit_line}
 use Rattle.commands.specs.SurfaceInput.{surface_in}
 use Rattle.commands.specs.declared.certificate.Certificate.{Certificate}
@@ -21,13 +20,8 @@ use Rattle.commands.specs.declared.status.Status.TheVariants.{Yes}
 
 -- The words are those of `certify`, and the two files that they name are told and stand for an orientable closed surface and
 -- two walks of it with common ends.
-pub record IsCertifyInput (held : Option Files) (words : List (List ℕ)) (mesh : FaceList) (first second : List ℕ) : Type 0 where
-  pub mesh_name : List ℕ
-  pub walks_name : List ℕ
-  pub words_are : words ≡ codes "certify" ∷ mesh_name ∷ walks_name ∷ []
-  pub mesh_file : Holds held mesh_name (SpellsMesh mesh)
-  pub is_surface : IsOrientableSurface mesh
-  pub walks_file : Holds held walks_name (SpellsPair mesh first second)
+abbrev pub IsCertifyInput : Option Files → (words : List (List ℕ)) → FaceList → (first second : List ℕ) → Type 0
+IsCertifyInput held words mesh first second = IsInputOnSurface (codes "certify") (SpellsPair mesh first second) held words mesh
 
 -- the limits: those of the lists that are made, and the word of a refusal
 abbrev pub certify_limits : Limits

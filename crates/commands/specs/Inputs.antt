@@ -14,6 +14,7 @@ use Rattle.walk_files.specs.declared.certificate.CertHead.TheVariants as heads
 use Rattle.walk_files.specs.declared.fault.CertFault.{CertFault}
 use Rattle.commands.specs.Answers.{Texts}
 use Rattle.commands.specs.Checks.{Check, End, Holds, Pass, Refuse, file, meant, pass_unless, where_told, ◌>>=◌}
+use Rattle.commands.specs.ClosedSurfaces.{IsOrientableSurface}
 use Rattle.commands.specs.Refusals.{off_line, numbers_line, pair_line, certificate_line, too_large}
 use Rattle.commands.specs.declared.certificate.Certificate.{Certificate}
 use Rattle.commands.specs.declared.certificate.Certificate.TheVariants.{Moves, Denial}
@@ -95,6 +96,17 @@ abbrev pub SpellsCertificate : Certificate → List ℕ → Type 0
 SpellsCertificate certificate bytes = certificate_of bytes ≡ Ok certificate
 
 -- ---- what the words of a command name
+
+-- The words are this keyword and the names of two files, which are told: the first stands for an orientable closed surface, and the bytes of
+-- the second are such.
+pub record IsInputOnSurface (keyword : List ℕ) (AreSuch : List ℕ → Type 0) (held : Option Files) (words : List (List ℕ)) (mesh : FaceList)
+    : Type 0 where
+  pub mesh_name : List ℕ
+  pub walks_name : List ℕ
+  pub words_are : words ≡ keyword ∷ mesh_name ∷ walks_name ∷ []
+  pub mesh_file : Holds held mesh_name (SpellsMesh mesh)
+  pub is_surface : IsOrientableSurface mesh
+  pub walks_file : Holds held walks_name AreSuch
 
 -- The words are this keyword and the names of three files, which are told: the first two stand for the mesh and for two walks of it with
 -- common ends, and the bytes of the third are such.

@@ -11,9 +11,9 @@ use Rattle.homology.specs.declared.verdict.HomologyVerdict.{HomologyVerdict}
 use Rattle.homology.specs.declared.verdict.HomologyVerdict.TheVariants.{Face, Edge, Sum, Zero, Accepted}
 use Rattle.homology.proofs.PairingLemmas.{refuted}
 use Rattle.homology_files.specs.HomologyTexts.{cert_of_text}
-use Rattle.commands.proofs.Deciding.{behind}
+use Rattle.commands.proofs.Judgements.{IsJudgedBy, judged_by, judgement_answered}
 use Rattle.commands.proofs.MeshTexts.{mesh_valid}
-use Rattle.commands.proofs.Rows.{behind_pair, sound-mesh, sound-pair, pair_told, mesh_told, mesh_passes, spelled_pair}
+use Rattle.commands.proofs.Rows.{sound-mesh, sound-pair}
 use Rattle.commands.proofs.Sound.{IsSound, sound-then, sound-meant, sound-file, held, meant_told}
 use Rattle.commands.specs.Answers.{Answer}
 use Rattle.commands.specs.Checks.{Refuse, Pass, Passes, IsTold}
@@ -24,7 +24,6 @@ use Rattle.commands.specs.declared.status.Status.{Status}
 use Rattle.commands.specs.declared.status.Status.TheVariants.{Yes}
 use Rattle.homology_commands.specs.VerifyHomology.{verify_homology, verdict_status, verdict_line, verdict_answer, fault_line, judgement, certificate_in, ShownBy, IsInput, IsHomologyVerified}
 use Rattle.homology_commands.proofs.SomeVerdicts.{sound-judgement}
-use Rattle.homology_commands.proofs.Verifying.{after_pair}
 
 pub sound-certificate : (files : Option Files) (name : List ℕ) → IsSound files (certificate_in files name)
 sound-certificate files name =
@@ -42,54 +41,16 @@ sound-verify_homology files mesh walks certificate =
 abbrev Spells : HomologyCert → List ℕ → Type 0
 Spells certificate bytes = cert_of_text bytes ≡ Ok certificate
 
--- each file that is looked at is told
-told_input : (files : Option Files) (words : List (List ℕ)) (mesh : FaceList) (first second : List ℕ) (shown : HomologyCert)
-    (input : IsInput files words mesh first second shown)
-    → (verify_homology files input.mesh_name input.walks_name input.certificate_name).EachFile (IsTold files)
-told_input files words mesh first second shown input = (
-  mesh_told files input.mesh_name mesh input.mesh_file,
-  λ faces _. (
-    pair_told files input.walks_name faces (held files input.walks_name (SpellsPair mesh first second) input.walks_file).told,
-    λ pair _. (
-      (
-        (held files input.certificate_name (Spells shown) input.certificate_file).told,
-        λ bytes _. meant_told files fault_line (cert_of_text bytes),
-      ),
-      λ certificate _. tt,
-    ),
-  ),
-)
-
 -- as the judgement ends, the command does
-judgement_outcome : (files : Option Files) (words : List (List ℕ)) (mesh : FaceList) (first second : List ℕ) (shown : HomologyCert)
-    (outcome : Outcome) (input : IsInput files words mesh first second shown) → (judgement mesh first second shown).Ends outcome
-    → (verify_homology files input.mesh_name input.walks_name input.certificate_name).Ends outcome
-judgement_outcome files words mesh first second shown outcome input h =
-    let file = held files input.certificate_name (Spells shown) input.certificate_file in
-    inr (
-      mesh,
-      mesh_passes files input.mesh_name mesh input.mesh_file,
-      inr (
-        first ∷ second ∷ [],
-        spelled_pair files input.walks_name mesh first second input.walks_file,
-        inr (shown, inr (file.bytes, file.passes inputs.Certificate, rw file.holds refl), h),
-      ),
-    )
-
--- as the command ends, the judgement does
-behind_files : (files : Option Files) (words : List (List ℕ)) (mesh : FaceList) (first second : List ℕ) (shown : HomologyCert)
-    (outcome : Outcome) (input : IsInput files words mesh first second shown)
-    → (verify_homology files input.mesh_name input.walks_name input.certificate_name).Ends outcome
-    → (judgement mesh first second shown).Ends outcome
-behind_files files words mesh first second shown outcome input is =
-    let file = held files input.certificate_name (Spells shown) input.certificate_file in
-    let passed : Passes (certificate_in files input.certificate_name) shown =
-    inr (file.bytes, file.passes inputs.Certificate, rw file.holds refl) in
-    let certificate = behind_pair files input.mesh_name input.walks_name mesh first second (after_pair files input.certificate_name) outcome
-    input.mesh_file input.walks_file is in
-    behind files (certificate_in files input.certificate_name) (judgement mesh first second) shown outcome
-    (sound-certificate files input.certificate_name) (file.told, λ bytes _. meant_told files fault_line (cert_of_text bytes)) passed
-    certificate
+judged_input : (files : Option Files) (words : List (List ℕ)) (mesh : FaceList) (first second : List ℕ) (shown : HomologyCert)
+    (input : IsInput files words mesh first second shown)
+    → IsJudgedBy files (verify_homology files input.mesh_name input.walks_name input.certificate_name) (judgement mesh first second shown)
+judged_input files words mesh first second shown input =
+    judged_by (codes "verify-homology") Spells files (certificate_in files) judgement (sound-certificate files)
+    (λ name told. (told, λ bytes _. meant_told files fault_line (cert_of_text bytes)))
+    (λ name certificate h.
+    let file = held files name (Spells certificate) h in inr (file.bytes, file.passes inputs.Certificate, rw file.holds refl))
+    (λ _ _ _ _. tt) words mesh first second shown input
 
 -- a judgement is its verdict
 judged_end : (mesh : FaceList) (first second : List ℕ) (shown : HomologyCert) (outcome : Outcome) (status : Status) (text : List ℕ)
@@ -119,25 +80,30 @@ shown_by mesh first second bytes (certificates.Cocycle lines) pair is = λ homol
 module _ (files : Option Files) (words : List (List ℕ)) (status : Status) (text : List ℕ)
     (answered : (mesh walks certificate : List ℕ) → words ≡ codes "verify-homology" ∷ mesh ∷ walks ∷ certificate ∷ []
     → AnswersTo files (verify_homology files mesh walks certificate) status text) where
+  -- such an input is answered by the judgement on it
   judged_so : (mesh : FaceList) (first second : List ℕ) (shown : HomologyCert) → IsInput files words mesh first second shown
+      → AnswersTo files (judgement mesh first second shown) status text
+  judged_so mesh first second shown input =
+      judgement_answered files (verify_homology files input.mesh_name input.walks_name input.certificate_name)
+      (judgement mesh first second shown) status text (judged_input files words mesh first second shown input)
+      (answered input.mesh_name input.walks_name input.certificate_name input.words_are)
+
+  verdict_so : (mesh : FaceList) (first second : List ℕ) (shown : HomologyCert) → IsInput files words mesh first second shown
       → (verdict : HomologyVerdict) × IsVerdict mesh first second shown verdict × (status ≡ verdict_status verdict)
       × (text ≡ verdict_line verdict)
-  judged_so mesh first second shown input =
-      let a = answered input.mesh_name input.walks_name input.certificate_name input.words_are in
-      judged_end mesh first second shown a.outcome status text
-      (behind_files files words mesh first second shown a.outcome input a.is_outcome) a.is_answer
+  verdict_so mesh first second shown input =
+      let a = judged_so mesh first second shown input in
+      judged_end mesh first second shown a.outcome status text a.is_outcome a.is_answer
 
   -- what is answered, where the words are answered by the check
   pub homology_verified : IsHomologyVerified files words status text
   homology_verified = record {
     exactly = λ mesh first second shown verdict input is.
-        let a = (answered input.mesh_name input.walks_name input.certificate_name input.words_are).exact
-        (told_input files words mesh first second shown input) (Pass (verdict_answer verdict))
-        (judgement_outcome files words mesh first second shown (Pass (verdict_answer verdict)) input (verdict, refl, is)) in
+        let a = (judged_so mesh first second shown input).exact tt (Pass (verdict_answer verdict)) (verdict, refl, is) in
         (a.status_is, a.text_is);
-    judged = judged_so;
+    judged = verdict_so;
     homologous = λ mesh first second shown input yes.
-        let told = judged_so mesh first second shown input in
+        let told = verdict_so mesh first second shown input in
         let file = held files input.walks_name (SpellsPair mesh first second) input.walks_file in
         shown_by mesh first second file.bytes shown file.holds
         (subst (IsVerdict mesh first second shown) (yes_accepted told.0 (sym told.2 ∙ yes)) told.1);

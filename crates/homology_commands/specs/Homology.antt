@@ -1,27 +1,21 @@
 -- The command `homology`.
-use Rattle.std.specs.Prelude.{◌≡◌, ℕ, ◌↔◌, List, [], ◌∷◌, codes, Option}
+use Rattle.std.specs.Prelude.{◌≡◌, ℕ, ◌↔◌, List, codes, Option}
 use Rattle.surf_io.specs.Files.{Files}
 use Rattle.surf_model.specs.FaceLists.{FaceList}
 use Rattle.homology.specs.Chains.{AreHomologous}
 use Rattle.homology.specs.declared.certificate.HomologyCert.{HomologyCert}
 use Rattle.commands.specs.Answers.{Answer, OfHomology}
-use Rattle.commands.specs.Checks.{Check, Holds, decided_by, ◌>>=◌}
-use Rattle.commands.specs.ClosedSurfaces.{IsOrientableSurface}
+use Rattle.commands.specs.Checks.{Check, decided_by, ◌>>=◌}
 use Rattle.commands.specs.HomologyCertificates.{HomologyAnswer, Homologous, ShowsHomology, answer_in, homology_status, homology_text}
-use Rattle.commands.specs.Inputs.{pair_in, walk_at, SpellsMesh, SpellsPair}
+use Rattle.commands.specs.Inputs.{IsInputOnSurface, pair_in, walk_at, SpellsPair}
 use Rattle.commands.specs.SurfaceInput.{surface_in}
 use Rattle.commands.specs.declared.status.Status.{Status}
 use Rattle.commands.specs.declared.status.Status.TheVariants.{Yes}
 
 -- The words are those of `homology`, and the two files that they name are told and stand for an orientable closed surface and two walks
 -- of it with common ends.
-pub record IsHomologyInput (held : Option Files) (words : List (List ℕ)) (mesh : FaceList) (first second : List ℕ) : Type 0 where
-  pub mesh_name : List ℕ
-  pub walks_name : List ℕ
-  pub words_are : words ≡ codes "homology" ∷ mesh_name ∷ walks_name ∷ []
-  pub mesh_file : Holds held mesh_name (SpellsMesh mesh)
-  pub is_surface : IsOrientableSurface mesh
-  pub walks_file : Holds held walks_name (SpellsPair mesh first second)
+abbrev pub IsHomologyInput : Option Files → (words : List (List ℕ)) → FaceList → (first second : List ℕ) → Type 0
+IsHomologyInput held words mesh first second = IsInputOnSurface (codes "homology") (SpellsPair mesh first second) held words mesh
 
 -- A certificate that shows whether the walks are homologous is printed behind the answer that it is for, with the status of that answer.
 pub record IsHomologyPrinted (mesh : FaceList) (first second : List ℕ) (status : Status) (text : List ℕ) : Type 0 where

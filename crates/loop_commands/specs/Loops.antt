@@ -10,9 +10,8 @@ use Rattle.walk_files.specs.declared.loops.LoopFault.TheVariants.{NotTwo, NoVert
 use Rattle.free_loops.specs.declared.deciding.FreeAnswer.{FreeAnswer}
 use Rattle.free_loops.specs.declared.deciding.FreeAnswer.TheVariants.{Freely, NotFreely}
 use Rattle.commands.specs.Answers.{Answer, Texts, Exactly}
-use Rattle.commands.specs.Checks.{Check, Holds, decided_by, ◌>>=◌}
-use Rattle.commands.specs.ClosedSurfaces.{IsOrientableSurface}
-use Rattle.commands.specs.Inputs.{walk_at, walks_unless, SpellsMesh}
+use Rattle.commands.specs.Checks.{Check, decided_by, ◌>>=◌}
+use Rattle.commands.specs.Inputs.{IsInputOnSurface, walk_at, walks_unless}
 use Rattle.commands.specs.Lines.{line}
 use Rattle.commands.specs.Refusals.{told, told_at_place}
 use Rattle.commands.specs.SurfaceInput.{surface_in}
@@ -27,13 +26,8 @@ pub record SpellsLoops (mesh : FaceList) (first second bytes : List ℕ) : Type 
 
 -- The words are those of `loops`, and the two files that they name are told and stand for an orientable closed surface and two closed
 -- walks of it.
-pub record IsLoopsInput (held : Option Files) (words : List (List ℕ)) (mesh : FaceList) (first second : List ℕ) : Type 0 where
-  pub mesh_name : List ℕ
-  pub walks_name : List ℕ
-  pub words_are : words ≡ codes "loops" ∷ mesh_name ∷ walks_name ∷ []
-  pub mesh_file : Holds held mesh_name (SpellsMesh mesh)
-  pub is_surface : IsOrientableSurface mesh
-  pub walks_file : Holds held walks_name (SpellsLoops mesh first second)
+abbrev pub IsLoopsInput : Option Files → (words : List (List ℕ)) → FaceList → (first second : List ℕ) → Type 0
+IsLoopsInput held words mesh first second = IsInputOnSurface (codes "loops") (SpellsLoops mesh first second) held words mesh
 
 -- yes where the walks are freely homotopic
 abbrev pub free_status : FreeAnswer → Status

@@ -3,12 +3,9 @@ use Rattle.std.proofs.Common.{◌≡◌, inr, ℕ, List, [], ◌∷◌, codes, r
 use Rattle.std.specs.Prelude.{Option, Some}
 use Rattle.surf_io.specs.Files.{Files}
 use Rattle.surf_model.specs.FaceLists.{FaceList}
-use Rattle.commands.proofs.Checking.{stops_first}
-use Rattle.commands.specs.Stops.{Stops}
-use Rattle.commands.specs.declared.stop.Stop.{Stop}
 use Rattle.commands.proofs.Deciding.{IsRightAnswer, right_answer, behind, refused_behind, sound-decided}
 use Rattle.commands.proofs.RightAnswers.{refused_so}
-use Rattle.commands.proofs.Rows.{spelled_pair}
+use Rattle.commands.proofs.Rows.{IsOutcomeOf, spelled_pair}
 use Rattle.commands.proofs.Sound.{IsSound, held, sound-then}
 use Rattle.commands.specs.Answers.{Answer, Exactly}
 use Rattle.commands.specs.Checks.{Check, Passes, IsTold, ◌>>=◌}
@@ -83,11 +80,14 @@ module _ (next : Question → Check Answer) (keyword : List ℕ) (files : Option
   -- within the limits it is an outcome of what is made
   pub within_limits : (mesh : FaceList) (first second : List ℕ) → IsOpenInput keyword files words mesh first second
       → IsWithinLimits mesh first second
-      → (outcome : Outcome) × (next (record { mesh = mesh; first = first; second = second })).Ends outcome
-      × IsAnswerOf outcome status text
+      → IsOutcomeOf (next (record { mesh = mesh; first = first; second = second })) status text
   within_limits mesh first second input within =
       let a = answered input.mesh_name input.walks_name input.words_are in
-      (a.outcome, made next keyword files words mesh first second input a.outcome within a.is_outcome, a.is_answer)
+      record {
+        outcome = a.outcome;
+        is_outcome = made next keyword files words mesh first second input a.outcome within a.is_outcome;
+        is_answer = a.is_answer;
+      }
 
   refused_with : (mesh : FaceList) (first second : List ℕ) → IsOpenInput keyword files words mesh first second → (line : List ℕ)
       → limit_fault mesh first second ≡ Some line → (status ≡ Refused) × (text ≡ line)
@@ -101,6 +101,13 @@ module _ (next : Question → Check Answer) (keyword : List ℕ) (files : Option
 
 -- ---- the two commands
 
+-- what comes behind the pair
+abbrev pub then_decided : Question → Check Answer
+then_decided asked = decided asked.mesh asked.first asked.second
+
+abbrev pub then_listed : Question → Check Answer
+then_listed asked = listed asked.mesh asked.first asked.second
+
 pub decided_open_so : (files : Option Files) (words : List (List ℕ)) (status : Status) (text : List ℕ)
     → ((mesh walks : List ℕ) → words ≡ codes "decide-open" ∷ mesh ∷ walks ∷ [] → AnswersTo files (decide_open files mesh walks) status text)
     → IsDecidedOpen files words status text
@@ -108,15 +115,14 @@ decided_open_so files words status text answered =
     record {
       answered = λ mesh first second input within. (right mesh first second input within).answered;
       exactly = λ mesh first second input within. (right mesh first second input within).exactly;
-      beyond = beyond_limits (λ asked. decided asked.mesh asked.first asked.second) (codes "decide-open") files words status text answered;
+      beyond = beyond_limits then_decided (codes "decide-open") files words status text answered;
     }
   where
     right : (mesh : FaceList) (first second : List ℕ) → IsOpenInput (codes "decide-open") files words mesh first second
         → IsWithinLimits mesh first second → IsRightAnswer mesh first second status text
     right mesh first second input within =
-        let made = within_limits (λ asked. decided asked.mesh asked.first asked.second) (codes "decide-open") files words status text
-        answered mesh first second input within in
-        right_answer mesh first second made.0 status text made.1 made.2
+        let a = within_limits then_decided (codes "decide-open") files words status text answered mesh first second input within in
+        right_answer mesh first second a.outcome status text a.is_outcome a.is_answer
 
 pub certified_open_so : (files : Option Files) (words : List (List ℕ)) (status : Status) (text : List ℕ)
     → ((mesh walks : List ℕ) → words ≡ codes "certify-open" ∷ mesh ∷ walks ∷ []
@@ -126,24 +132,11 @@ certified_open_so files words status text answered =
     record {
       answered = λ mesh first second input within. (right mesh first second input within).answered;
       exactly = λ mesh first second input within. (right mesh first second input within).exactly;
-      beyond = beyond_limits (λ asked. listed asked.mesh asked.first asked.second) (codes "certify-open") files words status text answered;
+      beyond = beyond_limits then_listed (codes "certify-open") files words status text answered;
     }
   where
     right : (mesh : FaceList) (first second : List ℕ) → IsOpenInput (codes "certify-open") files words mesh first second
         → IsWithinLimits mesh first second → IsRightList mesh first second status text
     right mesh first second input within =
-        let made = within_limits (λ asked. listed asked.mesh asked.first asked.second) (codes "certify-open") files words status text
-        answered mesh first second input within in
-        right_list mesh first second made.0 status text made.1 made.2
-
--- ---- what stops the pair stops the command
-
-pub decide_stops : (held : Option Files) (mesh walks : List ℕ) (stop : Stop) → Stops (open_pair_in held mesh walks) stop
-    → Stops (decide_open held mesh walks) stop
-decide_stops held mesh walks stop h =
-    stops_first (open_pair_in held mesh walks) (λ asked. decided asked.mesh asked.first asked.second) stop h
-
-pub certify_stops : (held : Option Files) (mesh walks : List ℕ) (stop : Stop) → Stops (open_pair_in held mesh walks) stop
-    → Stops (certify_open held mesh walks) stop
-certify_stops held mesh walks stop h =
-    stops_first (open_pair_in held mesh walks) (λ asked. listed asked.mesh asked.first asked.second) stop h
+        let a = within_limits then_listed (codes "certify-open") files words status text answered mesh first second input within in
+        right_list mesh first second a.outcome status text a.is_outcome a.is_answer

@@ -7,8 +7,8 @@ use Rattle.walk_files.specs.PairLists.{WalkPair, in_pairs}
 use Rattle.walk_files.specs.WalkLists.{WalkText}
 use Rattle.walk_translate.specs.declared.deciding.Answer as deciding
 use Rattle.commands.proofs.Checking.{stops_second}
-use Rattle.commands.proofs.Rows.{behind_input, sound-surface_in}
-use Rattle.commands.proofs.Sound.{IsSound, sound-then, held}
+use Rattle.commands.proofs.Rows.{outcome_behind, sound-surface_in}
+use Rattle.commands.proofs.Sound.{IsSound, sound-then}
 use Rattle.commands.specs.Answers.{Answer}
 use Rattle.commands.specs.Checks.{Check, Refuse, Pass, Passes}
 use Rattle.commands.specs.Outcomes.{Outcome, AnswersTo, IsAnswerOf}
@@ -54,18 +54,6 @@ answered_right mesh pairs (Pass x) status text p answer =
     let here : IsAnswerOf (Pass (decisions_answer p.0)) status text = subst (λ (y : Answer). IsAnswerOf (Pass y) status text) p.1 answer in
     record { decisions = p.0; right = p.2; text_is = here.text_is; status_is = here.status_is }
 
-decides : (files : Option Files) (words : List (List ℕ)) (outcome : Outcome) (status : Status) (text : List ℕ) (mesh : FaceList)
-    (pairs : List WalkPair) (input : IsDecideInput files words mesh pairs)
-    → (decide files input.mesh_name input.walks_name).Ends outcome → IsAnswerOf outcome status text → AreDecided mesh pairs status text
-decides files words outcome status text mesh pairs input is answer =
-    let told = (held files input.walks_name (SpellsPairs mesh pairs) input.walks_file).told in
-    let spelled = spelled_pairs files input.walks_name mesh pairs input.walks_file in
-    let decision = behind_input files input.mesh_name mesh spelled.0 (pairs_in files input.walks_name) after_pairs outcome
-    input.mesh_file input.is_surface (sound-pairs_in files input.walks_name mesh) (pairs_in_told files input.walks_name mesh told)
-    spelled.1 is in
-    subst (λ (ps : List WalkPair). AreDecided mesh ps status text) (sym spelled.2)
-    (answered_right mesh (in_pairs spelled.0.walks) outcome status text decision answer)
-
 yes_all : (mesh : FaceList) (pairs : List WalkPair) (status : Status) (text : List ℕ) → AreDecided mesh pairs status text
     → (status ≡ Yes) ↔ All (IsHomotopic mesh) pairs
 yes_all mesh pairs status text h =
@@ -83,5 +71,8 @@ decided_so files words status text answered =
   where
     right : (mesh : FaceList) (pairs : List WalkPair) → IsDecideInput files words mesh pairs → AreDecided mesh pairs status text
     right mesh pairs input =
-        let a = answered input.mesh_name input.walks_name input.words_are in
-        decides files words a.outcome status text mesh pairs input a.is_outcome a.is_answer
+        let spelled = spelled_pairs files input.walks_name mesh pairs input.walks_file in
+        let a = outcome_behind (codes "decide") (SpellsPairs mesh pairs) files words mesh status text (pairs_in files) after_pairs spelled.0
+        answered input (sound-pairs_in files input.walks_name mesh) (pairs_in_told files input.walks_name mesh) spelled.1 in
+        subst (λ (ps : List WalkPair). AreDecided mesh ps status text) (sym spelled.2)
+        (answered_right mesh (in_pairs spelled.0.walks) a.outcome status text a.is_outcome a.is_answer)

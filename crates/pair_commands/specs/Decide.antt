@@ -1,5 +1,5 @@
 -- The command `decide`.
-use Rattle.std.specs.Prelude.{◌≡◌, ℕ, ◌↔◌, List, [], ◌∷◌, length, take, codes, Option, All}
+use Rattle.std.specs.Prelude.{◌≡◌, ℕ, ◌↔◌, List, length, take, codes, Option, All}
 use Rattle.std.specs.List.{AllZip}
 use Rattle.surf_io.specs.Files.{Files}
 use Rattle.surf_model.specs.FaceLists.{FaceList}
@@ -10,9 +10,8 @@ use Rattle.walk_translate.specs.declared.deciding.Answer as deciding
 use Rattle.walk_translate.specs.declared.deciding.Answer.TheVariants.{Homotopic}
 use Rattle.commands.specs.Answers.{Answer, Exactly}
 use Rattle.commands.specs.Certificates.{decision_lines, decisions_status}
-use Rattle.commands.specs.Checks.{Check, End, Refuse, Pass, Holds, without_files, ◌>>=◌}
-use Rattle.commands.specs.ClosedSurfaces.{IsOrientableSurface}
-use Rattle.commands.specs.Inputs.{SpellsMesh}
+use Rattle.commands.specs.Checks.{Check, End, Refuse, Pass, without_files, ◌>>=◌}
+use Rattle.commands.specs.Inputs.{IsInputOnSurface}
 use Rattle.commands.specs.SurfaceInput.{surface_in}
 use Rattle.commands.specs.declared.status.Status.{Status}
 use Rattle.commands.specs.declared.status.Status.TheVariants.{Yes}
@@ -20,13 +19,8 @@ use Rattle.pair_commands.specs.PairInput.{SpellsPairs, pairs_in}
 
 -- The words are those of `decide`, and the two files that they name are told and stand for an orientable closed surface and
 -- pairs of walks of it with common ends.
-pub record IsDecideInput (held : Option Files) (words : List (List ℕ)) (mesh : FaceList) (pairs : List WalkPair) : Type 0 where
-  pub mesh_name : List ℕ
-  pub walks_name : List ℕ
-  pub words_are : words ≡ codes "decide" ∷ mesh_name ∷ walks_name ∷ []
-  pub mesh_file : Holds held mesh_name (SpellsMesh mesh)
-  pub is_surface : IsOrientableSurface mesh
-  pub walks_file : Holds held walks_name (SpellsPairs mesh pairs)
+abbrev pub IsDecideInput : Option Files → (words : List (List ℕ)) → FaceList → (pairs : List WalkPair) → Type 0
+IsDecideInput held words mesh pairs = IsInputOnSurface (codes "decide") (SpellsPairs mesh pairs) held words mesh
 
 -- some list of moves leads from the first walk of the pair to the second
 abbrev pub IsHomotopic : FaceList → WalkPair → Type 0

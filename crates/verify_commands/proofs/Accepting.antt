@@ -24,7 +24,7 @@ use Rattle.walk_translate.specs.declared.deciding.Answer.TheVariants.{Homotopic,
 use Rattle.verify_commands.proofs.FittingDenials.{denial_fits}
 use Rattle.verify_commands.proofs.FittingMoves.{list_fits}
 use Rattle.verify_commands.proofs.VerifyRows.{sound-verify}
-use Rattle.verify_commands.proofs.VerifyOutcomes.{told_input, judgement_outcome}
+use Rattle.verify_commands.proofs.VerifyOutcomes.{judged_input}
 use Rattle.commands.specs.Certificates.{Convinces, IsPeakLow, decision_line, certificate_text}
 use Rattle.commands.specs.Checks.{Pass}
 use Rattle.commands.specs.Inputs.{as_certificate, certificate_behind, certificate_of, SpellsCertificate}
@@ -88,9 +88,8 @@ module _ (files : Option Files) (words : List (List ℕ)) (mesh : FaceList) (fir
       → (judgement mesh first second shown).Ends target
       → (verify files input.mesh_name input.walks_name input.certificate_name).Ends outcome → outcome ≡ target
   one_end shown outcome target input ends is =
-      (sound-verify files input.mesh_name input.walks_name input.certificate_name).one
-      (told_input files words mesh first second shown input) outcome target is
-      (judgement_outcome files words mesh first second shown target input ends)
+      let by = judged_input files words mesh first second shown input in
+      (sound-verify files input.mesh_name input.walks_name input.certificate_name).one by.told outcome target is (by.made target ends)
 
   -- a certificate that convinces is accepted
   pub accepted : (shown : Certificate) (outcome : Outcome) (status : Status) (answer : List ℕ) → Convinces mesh first second shown

@@ -16,16 +16,15 @@ use Rattle.labellings.specs.declared.verdict.DenialVerdict.{DenialVerdict}
 use Rattle.labellings.specs.declared.verdict.DenialVerdict.TheVariants as verdicts
 use Rattle.commands.specs.declared.certificate.Certificate.TheVariants as certificates
 use Rattle.commands.specs.declared.refusal.Input.TheVariants as inputs
-use Rattle.commands.proofs.Deciding.{behind}
+use Rattle.commands.proofs.Judgements.{IsJudgedBy, judged_by, judgement_answered}
 use Rattle.commands.proofs.MeshTexts.{mesh_valid}
-use Rattle.commands.proofs.Rows.{behind_pair, sound-mesh, sound-pair, pair_told, mesh_told, mesh_passes, spelled_pair}
+use Rattle.commands.proofs.Rows.{mesh_passes}
 use Rattle.commands.proofs.Sound.{held, meant_told}
 use Rattle.verify_commands.proofs.Streaming.{where_told_ends}
 use Rattle.verify_commands.proofs.VerifyRows.{sound-certificate}
-use Rattle.verify_commands.proofs.Verifying.{after_pair}
 use Rattle.commands.specs.Answers.{Answer, IsText}
 use Rattle.commands.specs.Checks.{Refuse, Pass, Passes, IsTold, Holds}
-use Rattle.commands.specs.Inputs.{IsCertificateEnd, certificate_in, certificate_in_bytes, certificate_of, walk_at, SpellsPair, SpellsCertificate}
+use Rattle.commands.specs.Inputs.{IsCertificateEnd, certificate_in, certificate_in_bytes, certificate_of, SpellsPair, SpellsCertificate}
 use Rattle.commands.specs.Outcomes.{Outcome, AnswersTo, IsAnswerOf}
 use Rattle.commands.specs.Refusals.{certificate_line}
 use Rattle.verify_commands.specs.Verify.{verify, verdict_status, denial_status, denial_line, judgement, IsVerifyInput, IsVerified, IsDenialVerified, verdict_answer, denial_answer}
@@ -54,24 +53,6 @@ judgement_told : (files : Option Files) (mesh : FaceList) (first second : List �
 judgement_told files mesh first second (certificates.Moves list) = tt
 judgement_told files mesh first second (certificates.Denial denial) = tt
 
--- each file that is looked at is told
-pub told_input : (files : Option Files) (words : List (List ℕ)) (mesh : FaceList) (first second : List ℕ) (shown : Certificate)
-    (input : IsVerifyInput files words mesh first second shown)
-    → (verify files input.mesh_name input.walks_name input.certificate_name).EachFile (IsTold files)
-told_input files words mesh first second shown input = (
-  mesh_told files input.mesh_name mesh input.mesh_file,
-  λ faces _. (
-    pair_told files input.walks_name faces (held files input.walks_name (SpellsPair mesh first second) input.walks_file).told,
-    λ pair _. (
-      (
-        (held files input.certificate_name (SpellsCertificate shown) input.certificate_file).told,
-        λ bytes _. meant_told files certificate_line (certificate_of bytes),
-      ),
-      λ certificate _. judgement_told files faces (walk_at pair 0) (walk_at pair 1) certificate,
-    ),
-  ),
-)
-
 -- a file that spells a certificate passes it
 certificate_spelled : (files : Option Files) (name : List ℕ) (shown : Certificate) → Holds files name (SpellsCertificate shown)
     → Passes (certificate_in files name) shown
@@ -81,19 +62,13 @@ certificate_spelled files name shown h =
     (inr (file.bytes, file.passes inputs.Certificate, rw file.holds refl))
 
 -- as the judgement ends, the command does
-pub judgement_outcome : (files : Option Files) (words : List (List ℕ)) (mesh : FaceList) (first second : List ℕ) (shown : Certificate)
-    (outcome : Outcome) (input : IsVerifyInput files words mesh first second shown) → (judgement mesh first second shown).Ends outcome
-    → (verify files input.mesh_name input.walks_name input.certificate_name).Ends outcome
-judgement_outcome files words mesh first second shown outcome input h =
-    inr (
-      mesh,
-      mesh_passes files input.mesh_name mesh input.mesh_file,
-      inr (
-        first ∷ second ∷ [],
-        spelled_pair files input.walks_name mesh first second input.walks_file,
-        inr (shown, certificate_spelled files input.certificate_name shown input.certificate_file, h),
-      ),
-    )
+pub judged_input : (files : Option Files) (words : List (List ℕ)) (mesh : FaceList) (first second : List ℕ) (shown : Certificate)
+    (input : IsVerifyInput files words mesh first second shown)
+    → IsJudgedBy files (verify files input.mesh_name input.walks_name input.certificate_name) (judgement mesh first second shown)
+judged_input files words mesh first second shown input =
+    judged_by (codes "verify") SpellsCertificate files (certificate_in files) judgement (sound-certificate files)
+    (λ name told. (told, λ bytes _. meant_told files certificate_line (certificate_of bytes))) (certificate_spelled files)
+    (judgement_told files) words mesh first second shown input
 
 -- a judgement on a denial is its verdict
 judged_end : (mesh : FaceList) (first second : List ℕ) (denial : Denial) (outcome : Outcome) (status : Status) (text : List ℕ)
@@ -114,38 +89,22 @@ holds_where_yes mesh first second denial (verdicts.WordWrong walk) is e = cc
 holds_where_yes mesh first second denial verdicts.Equal is e = cc
 holds_where_yes mesh first second denial verdicts.Accepted is e = is
 
--- as the command ends, the judgement does
-behind_files : (files : Option Files) (words : List (List ℕ)) (mesh : FaceList) (first second : List ℕ) (shown : Certificate)
-    (outcome : Outcome) (input : IsVerifyInput files words mesh first second shown)
-    → (verify files input.mesh_name input.walks_name input.certificate_name).Ends outcome
-    → (judgement mesh first second shown).Ends outcome
-behind_files files words mesh first second shown outcome input is =
-    let file = held files input.certificate_name (SpellsCertificate shown) input.certificate_file in
-    let passed : Passes (certificate_in files input.certificate_name) shown =
-    certificate_spelled files input.certificate_name shown input.certificate_file in
-    let certificate = behind_pair files input.mesh_name input.walks_name mesh first second (after_pair files input.certificate_name) outcome
-    input.mesh_file input.walks_file is in
-    behind files (certificate_in files input.certificate_name) (judgement mesh first second) shown outcome
-    (sound-certificate files input.certificate_name) (file.told, λ bytes _. meant_told files certificate_line (certificate_of bytes))
-    passed certificate
-
 module _ (files : Option Files) (words : List (List ℕ)) (status : Status) (text : List ℕ)
     (answered : (mesh walks certificate : List ℕ) → words ≡ codes "verify" ∷ mesh ∷ walks ∷ certificate ∷ []
     → AnswersTo files (verify files mesh walks certificate) status text) where
-  -- the answer to such an input, if the judgement on it ends so
-  judged_so : (mesh : FaceList) (first second : List ℕ) (shown : Certificate) (outcome : Outcome)
-      → IsVerifyInput files words mesh first second shown → (judgement mesh first second shown).Ends outcome
-      → IsAnswerOf outcome status text
-  judged_so mesh first second shown outcome input ends =
-      (answered input.mesh_name input.walks_name input.certificate_name input.words_are).exact
-      (told_input files words mesh first second shown input) outcome
-      (judgement_outcome files words mesh first second shown outcome input ends)
+  -- such an input is answered by the judgement on it
+  judged_so : (mesh : FaceList) (first second : List ℕ) (shown : Certificate) → IsVerifyInput files words mesh first second shown
+      → AnswersTo files (judgement mesh first second shown) status text
+  judged_so mesh first second shown input =
+      judgement_answered files (verify files input.mesh_name input.walks_name input.certificate_name) (judgement mesh first second shown)
+      status text (judged_input files words mesh first second shown input)
+      (answered input.mesh_name input.walks_name input.certificate_name input.words_are)
 
   judged_list : (mesh : FaceList) (first second : List ℕ) (list : PeakedMoves)
       → IsVerifyInput files words mesh first second (certificates.Moves list)
       → IsAnswerOf (Pass (verdict_answer (verdict_of mesh first second list))) status text
   judged_list mesh first second list input =
-      judged_so mesh first second (certificates.Moves list) (Pass (verdict_answer (verdict_of mesh first second list))) input refl
+      (judged_so mesh first second (certificates.Moves list) input).exact tt (Pass (verdict_answer (verdict_of mesh first second list))) refl
 
   -- what is answered of a list of moves, where the words are answered by the check
   pub verified : IsVerified files words status text
@@ -159,7 +118,7 @@ module _ (files : Option Files) (words : List (List ℕ)) (status : Status) (tex
       → IsVerifyInput files words mesh first second (certificates.Denial denial) → IsVerdict mesh first second denial verdict
       → (status ≡ denial_status verdict) × IsText (denial_line verdict) text
   judged_denial mesh first second denial verdict input is =
-      let a = judged_so mesh first second (certificates.Denial denial) (Pass (denial_answer verdict)) input (verdict, refl, is) in
+      let a = (judged_so mesh first second (certificates.Denial denial) input).exact tt (Pass (denial_answer verdict)) (verdict, refl, is) in
       (a.status_is, a.text_is)
 
   denial_told : (mesh : FaceList) (first second : List ℕ) (denial : Denial)
@@ -167,9 +126,8 @@ module _ (files : Option Files) (words : List (List ℕ)) (status : Status) (tex
       → (verdict : DenialVerdict) × IsVerdict mesh first second denial verdict × (status ≡ denial_status verdict)
       × IsText (denial_line verdict) text
   denial_told mesh first second denial input =
-      let a = answered input.mesh_name input.walks_name input.certificate_name input.words_are in
-      judged_end mesh first second denial a.outcome status text
-      (behind_files files words mesh first second (certificates.Denial denial) a.outcome input a.is_outcome) a.is_answer
+      let a = judged_so mesh first second (certificates.Denial denial) input in
+      judged_end mesh first second denial a.outcome status text a.is_outcome a.is_answer
 
   -- what is answered of a denial, where the words are answered by the check
   pub denial_verified : IsDenialVerified files words status text

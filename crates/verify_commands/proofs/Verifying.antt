@@ -1,10 +1,8 @@
 -- How the checks of `verify` end, by the place where the reading ends, and the verdicts on a denial.
-use Rattle.std.proofs.Common.{length, ap, ◌∙◌, inr, ℕ, List, refl, sym, subst, Ok, Err, Result, MatchResult, ◌≡◌}
-use Rattle.std.specs.Prelude.{Option, Some, slice_get}
+use Rattle.std.proofs.Common.{inr, ℕ, List, refl, sym, subst, Ok, Err, Result, MatchResult, ◌≡◌}
+use Rattle.std.specs.Prelude.{Option}
 use Rattle.surf_io.specs.Files.{Files}
 use Rattle.surf_model.specs.FaceLists.{FaceList}
-use Rattle.surf_model.specs.Walks.{IsWalk}
-use Rattle.walk_files.specs.Pairs.{IsPair}
 use Rattle.move_checker.specs.Verdicts.{verdict_of}
 use Rattle.move_checker.specs.declared.judge.Verdict.{Verdict}
 use Rattle.labellings.specs.DenialVerdicts.{IsVerdict}
@@ -65,24 +63,6 @@ moves_judged held name mesh first second verdict reply is h =
       passes = inr (Moves is.list, is.passes, refl);
       is_answer = subst (λ (v : Verdict). IsReplyTo (verdict_answer v) reply) is.is h;
     }
-
--- the walks of a pair are walks
-pub two_in_pair : (mesh : FaceList) (walks : List (List ℕ)) → IsPair mesh walks → length walks ≡ 2
-two_in_pair mesh walks pair = ap (length {A = List ℕ}) pair.two
-
-pub first_walk : (mesh : FaceList) (walks : List (List ℕ)) (walk : List ℕ) → IsPair mesh walks → slice_get walks 0 ≡ Some walk
-    → IsWalk mesh walk
-first_walk mesh walks walk pair e =
-    let here : Some pair.first ≡ Some walk = sym (ap (λ (ws : List (List ℕ)). slice_get ws 0) pair.two) ∙ e in
-    let same : pair.first ≡ walk = cc in
-    subst (IsWalk mesh) same pair.first_walk
-
-pub second_walk : (mesh : FaceList) (walks : List (List ℕ)) (walk : List ℕ) → IsPair mesh walks → slice_get walks 1 ≡ Some walk
-    → IsWalk mesh walk
-second_walk mesh walks walk pair e =
-    let here : Some pair.second ≡ Some walk = sym (ap (λ (ws : List (List ℕ)). slice_get ws 1) pair.two) ∙ e in
-    let same : pair.second ≡ walk = cc in
-    subst (IsWalk mesh) same pair.second_walk
 
 -- the reply to a verdict on a denial is one to the judgement
 pub denial_judged : (mesh : FaceList) (first second : List ℕ) (denial : denials.Denial) (verdict : DenialVerdict)

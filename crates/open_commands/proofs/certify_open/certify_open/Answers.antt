@@ -5,12 +5,14 @@ use Rattle.surf_model.specs.Moves as moves
 use Rattle.free_forms.specs.PeakedLists.{LeadsAtPeak, IsWithin}
 use Rattle.free_forms.specs.declared.limits.TheConstants.{MOST_OPEN_STEPS}
 use Rattle.commands.specs.declared.stop.Stop.TheVariants.{OutOfMemory}
+use Rattle.commands.proofs.Checking.{stops_first}
 use Rattle.commands.proofs.Running.{memory_no_fault, only_self, runs_faulty, runs_replied, runs_stopped}
 use Rattle.open_commands.specs.CertifyOpen as of_certify_open
 use Rattle.open_commands.specs.CertifyOpen.{list_answer}
+use Rattle.open_commands.specs.OpenPairs.{open_pair_in}
 use Rattle.open_commands.proofs.Listing.{list_passes, found_reply, found_short}
 use Rattle.open_commands.proofs.OpenInputs.{AreOpenWalks, open_walks, two_long}
-use Rattle.open_commands.proofs.OpenOutcomes.{certify_stops}
+use Rattle.open_commands.proofs.OpenOutcomes.{then_listed}
 use Rattle.open_commands.proofs.certify_open.certify_open.Goals as goal
 use Rattle.open_commands.proofs.certify_open.certify_open.Goals.{After-at-2}
 
@@ -22,7 +24,8 @@ returns-in_err-pair-clause-runs g c =
     (runs_stopped g.S.Shelf.held g.S.Shelf.faults c.args.shelf.now c.read_open_pair.new.shelf
     (λ files. of_certify_open.certify_open files c.args.mesh.now c.args.walks.now) (λ none. none.0.0.0.0) c.args.shelf.now _ stop
     (only_self g.S.Shelf.held g.S.Shelf.faults c.args.shelf.now) c.in_err-pair.ensures.reads
-    (certify_stops (g.S.Shelf.held c.args.shelf.now) c.args.mesh.now c.args.walks.now stop c.in_err-pair.ensures.reads.end))
+    (stops_first (open_pair_in (g.S.Shelf.held c.args.shelf.now) c.args.mesh.now c.args.walks.now) then_listed stop
+    c.in_err-pair.ensures.reads.end))
 
 pub at-requires : goal.at-requires
 at-requires g c = omega (arith, two_long c.in_ok-pair.pair c.in_ok-pair.ensures.pair)

@@ -5,11 +5,13 @@ use Rattle.walk_translate.specs.declared.deciding.Answer as deciding
 use Rattle.walk_translate.specs.declared.deciding.Answer.TheVariants.{Homotopic, Different}
 use Rattle.commands.specs.Decisions.{decision_answer}
 use Rattle.commands.specs.declared.stop.Stop.TheVariants.{OutOfMemory}
+use Rattle.commands.proofs.Checking.{stops_first}
 use Rattle.commands.proofs.Running.{memory_no_fault, only_self, runs_faulty, runs_replied, runs_stopped}
 use Rattle.open_commands.specs.DecideOpen as of_decide_open
+use Rattle.open_commands.specs.OpenPairs.{open_pair_in}
 use Rattle.open_commands.proofs.Listing.{decision_passes}
 use Rattle.open_commands.proofs.OpenInputs.{AreOpenWalks, open_walks, two_long}
-use Rattle.open_commands.proofs.OpenOutcomes.{decide_stops}
+use Rattle.open_commands.proofs.OpenOutcomes.{then_decided}
 use Rattle.open_commands.proofs.decide_open.decide_open.Goals as goal
 use Rattle.open_commands.proofs.decide_open.decide_open.Goals.{After-at-2}
 
@@ -21,7 +23,8 @@ returns-in_err-pair g c =
     (runs_stopped g.S.Shelf.held g.S.Shelf.faults c.args.shelf.now c.read_open_pair.new.shelf
     (λ files. of_decide_open.decide_open files c.args.mesh.now c.args.walks.now) (λ none. none.0.0.0.0) c.args.shelf.now _ stop
     (only_self g.S.Shelf.held g.S.Shelf.faults c.args.shelf.now) c.in_err-pair.ensures.reads
-    (decide_stops (g.S.Shelf.held c.args.shelf.now) c.args.mesh.now c.args.walks.now stop c.in_err-pair.ensures.reads.end))
+    (stops_first (open_pair_in (g.S.Shelf.held c.args.shelf.now) c.args.mesh.now c.args.walks.now) then_decided stop
+    c.in_err-pair.ensures.reads.end))
 
 pub at-requires : goal.at-requires
 at-requires g c = omega (arith, two_long c.in_ok-pair.pair c.in_ok-pair.ensures.pair)

@@ -1,17 +1,21 @@
-use Rattle.std.proofs.Common.{◌≡◌, ℕ, List, sym, subst, ◌∙◌, arith}
+use Rattle.std.proofs.Common.{ℕ, List, subst, ◌∙◌, arith}
 use Rattle.std.specs.Prelude.{Option}
-use Rattle.std.proofs.lemmas.Option.{get_or_from_slice_get}
 use Rattle.std.proofs.lemmas.Result.{err_from_is_err_and}
 use Rattle.surf_io.specs.Files.{Files}
+use Rattle.surf_model.specs.Walks.{AreWalkPair}
 use Rattle.commands.specs.Checks.{Passes}
 use Rattle.commands.specs.Inputs.{pair_in, walk_at}
 use Rattle.commands.specs.Replies.{Concludes}
 use Rattle.commands.specs.Stops.{Stops}
 use Rattle.verify_commands.specs.Verify as of_verify
 use Rattle.verify_commands.specs.Verify.{judged_file}
-use Rattle.verify_commands.proofs.Verifying.{concluded, first_walk, second_walk, two_in_pair, walks_stop}
+use Rattle.verify_commands.proofs.Verifying.{concluded, walks_stop}
+use Rattle.commands.proofs.Deciding.{walks_of_pair}
+use Rattle.commands.proofs.Rows.{two_walks}
 use Rattle.commands.proofs.Running.{only_then, runs_read, runs_stopped}
+use Rattle.commands.proofs.RunsOnWalks.{at_places}
 use Rattle.verify_commands.proofs.verify.verify.Goals as goal
+use Rattle.verify_commands.proofs.verify.verify.Goals.{After-at-2}
 
 pub returns-in_err-walks : goal.returns-in_err-walks
 returns-in_err-walks g c =
@@ -31,13 +35,13 @@ returns-in_err-walks g c =
 
 pub at-requires : goal.at-requires
 at-requires g c =
-    let pair = c.in_ok-walks.ensures.pair c.in_ok-faces.faces c.in_ok-sides.ensures.table in
-    omega (arith, two_in_pair c.in_ok-faces.faces c.in_ok-walks.walks.walks pair)
+    let faces = c.in_ok-faces.faces in
+    omega (arith, two_walks _ _ faces c.in_ok-walks.walks.walks (c.in_ok-walks.ensures.reads.end faces c.in_ok-sides.ensures.table))
 
 pub at-requires-2 : goal.at-requires-2
 at-requires-2 g c =
-    let pair = c.in_ok-walks.ensures.pair c.in_ok-faces.faces c.in_ok-sides.ensures.table in
-    omega (arith, two_in_pair c.in_ok-faces.faces c.in_ok-walks.walks.walks pair)
+    let faces = c.in_ok-faces.faces in
+    omega (arith, two_walks _ _ faces c.in_ok-walks.walks.walks (c.in_ok-walks.ensures.reads.end faces c.in_ok-sides.ensures.table))
 
 pub returns : goal.returns
 returns g c =
@@ -47,16 +51,11 @@ returns g c =
     let held : Option Files = g.S.Shelf.held c.args.shelf.now in
     let same = c.in_ok-faces.ensures.only_reads.same_files in
     let all_same = c.in_ok-walks.ensures.reads.only_reads.same_files ∙ same in
-    let first : c.at.result.now ≡ walk_at walks 0 = sym (get_or_from_slice_get walks 0 c.at.result.now _ c.at.ensures) in
-    let second : c.at-2.result.now ≡ walk_at walks 1 = sym (get_or_from_slice_get walks 1 c.at-2.result.now _ c.at-2.ensures) in
     let end : Concludes (judged_file held certificate faces (walk_at walks 0) (walk_at walks 1)) c.judge-reply.result =
-    subst (λ (files : Option Files). Concludes (judged_file files certificate faces (walk_at walks 0) (walk_at walks 1))
-    c.judge-reply.result)
-    all_same
-    (subst (λ (w : List ℕ). Concludes (judged_file (g.S.Shelf.held c.read_pair.new.shelf) certificate faces (walk_at walks 0) w)
-    c.judge-reply.result) second
-    (subst (λ (w : List ℕ). Concludes (judged_file (g.S.Shelf.held c.read_pair.new.shelf) certificate faces w c.at-2.result.now)
-    c.judge-reply.result) first c.judge-reply.ensures.end)) in
+    at_places (λ (a b : List ℕ). Concludes (judged_file held certificate faces a b) c.judge-reply.result) walks c.at.result.now
+    c.at-2.result.now c.at.ensures c.at-2.ensures
+    (subst (λ (files : Option Files). Concludes (judged_file files certificate faces c.at.result.now c.at-2.result.now)
+    c.judge-reply.result) all_same c.judge-reply.ensures.end) in
     runs_read g.S.Shelf.held g.S.Shelf.faults c.args.shelf.now c.judge-reply.new.shelf
     (λ files. of_verify.verify files c.args.mesh.now c.args.walks.now certificate) (λ none. none.0.0) c.read_pair.new.shelf _
     c.judge-reply.result
@@ -66,12 +65,14 @@ returns g c =
     (subst (λ (files : Option Files). Passes (pair_in files c.args.walks.now faces) walks) same
     (c.in_ok-walks.ensures.reads.end faces c.in_ok-sides.ensures.table)) end)
 
+-- what is known of the two walks
+walks : (g : _) (c : After-at-2 g) → AreWalkPair c.in_ok-faces.faces c.at.result.now c.at-2.result.now
+walks g c =
+    walks_of_pair c.in_ok-faces.faces c.in_ok-walks.walks.walks c.at.result.now c.at-2.result.now
+    (c.in_ok-walks.ensures.pair c.in_ok-faces.faces c.in_ok-sides.ensures.table) c.at.ensures c.at-2.ensures
+
 pub judge-reply-requires-clause-first : goal.judge-reply-requires-clause-first
-judge-reply-requires-clause-first g c =
-    first_walk c.in_ok-faces.faces c.in_ok-walks.walks.walks c.at.result.now
-    (c.in_ok-walks.ensures.pair c.in_ok-faces.faces c.in_ok-sides.ensures.table) c.at.ensures
+judge-reply-requires-clause-first g c = (walks g (goal.at.judge-reply-requires-clause-first g c).After-at-2).first_walk
 
 pub judge-reply-requires-clause-second : goal.judge-reply-requires-clause-second
-judge-reply-requires-clause-second g c =
-    second_walk c.in_ok-faces.faces c.in_ok-walks.walks.walks c.at-2.result.now
-    (c.in_ok-walks.ensures.pair c.in_ok-faces.faces c.in_ok-sides.ensures.table) c.at-2.ensures
+judge-reply-requires-clause-second g c = (walks g (goal.at.judge-reply-requires-clause-second g c).After-at-2).second_walk

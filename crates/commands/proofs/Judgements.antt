@@ -1,0 +1,73 @@
+-- Commands that read a mesh, two walks of it and a certificate: as the judgement on the certificate ends, the command does.
+use Rattle.std.proofs.Common.{inr, ℕ, List, [], ◌∷◌}
+use Rattle.std.specs.Prelude.{Option}
+use Rattle.surf_io.specs.Files.{Files}
+use Rattle.surf_model.specs.FaceLists.{FaceList}
+use Rattle.commands.proofs.Deciding.{behind}
+use Rattle.commands.proofs.Rows.{behind_pair, pair_told, mesh_told, mesh_passes, spelled_pair}
+use Rattle.commands.proofs.Sound.{IsSound, held}
+use Rattle.commands.specs.Answers.{Answer}
+use Rattle.commands.specs.Checks.{Check, Passes, IsTold, Holds, ◌>>=◌}
+use Rattle.commands.specs.Inputs.{IsInputWith, mesh_in, pair_in, walk_at, SpellsPair}
+use Rattle.commands.specs.Outcomes.{Outcome, AnswersTo}
+use Rattle.commands.specs.declared.status.Status.{Status}
+
+-- each file that the command looks at is told, and it ends as the judgement does
+pub record IsJudgedBy (files : Option Files) (command judgement : Check Answer) : Type 0 where
+  pub told : command.EachFile (IsTold files)
+  pub made : (outcome : Outcome) → judgement.Ends outcome → command.Ends outcome
+  pub behind : (outcome : Outcome) → command.Ends outcome → judgement.Ends outcome
+
+-- what answers the command answers the judgement
+pub judgement_answered : (files : Option Files) (command judgement : Check Answer) (status : Status) (text : List ℕ)
+    → IsJudgedBy files command judgement → AnswersTo files command status text → AnswersTo files judgement status text
+judgement_answered files command judgement status text by a =
+    record {
+      outcome = a.outcome;
+      is_outcome = by.behind a.outcome a.is_outcome;
+      is_answer = a.is_answer;
+      exact = λ _ other ends. a.exact by.told other (by.made other ends);
+    }
+
+module _ {C : Type 0} (keyword : List ℕ) (Spells : C → List ℕ → Type 0) (files : Option Files) (certificate_in : List ℕ → Check C)
+    (judgement : FaceList → (first second : List ℕ) → C → Check Answer) (sound : (name : List ℕ) → IsSound files (certificate_in name))
+    (told : (name : List ℕ) → IsTold files name → (certificate_in name).EachFile (IsTold files))
+    (spelled : (name : List ℕ) (shown : C) → Holds files name (Spells shown) → Passes (certificate_in name) shown)
+    (judged : (mesh : FaceList) (first second : List ℕ) (shown : C) → (judgement mesh first second shown).EachFile (IsTold files))
+    (words : List (List ℕ)) (mesh : FaceList) (first second : List ℕ) (shown : C)
+    (input : IsInputWith keyword (Spells shown) files words mesh first second) where
+  -- what is looked at behind the walks
+  abbrev after_pair : FaceList → List (List ℕ) → Check Answer
+  after_pair faces pair = certificate_in input.certificate_name >>= judgement faces (walk_at pair 0) (walk_at pair 1)
+
+  -- where the files spell them, the judgement on this certificate is the one
+  pub judged_by : IsJudgedBy files (mesh_in files input.mesh_name >>= (λ faces. pair_in files input.walks_name faces >>= after_pair faces))
+      (judgement mesh first second shown)
+  judged_by =
+      let walks_told = (held files input.walks_name (SpellsPair mesh first second) input.walks_file).told in
+      let certificate_told =
+      told input.certificate_name (held files input.certificate_name (Spells shown) input.certificate_file).told in
+      let passed = spelled input.certificate_name shown input.certificate_file in
+      record {
+        told = (
+          mesh_told files input.mesh_name mesh input.mesh_file,
+          λ faces _. (
+            pair_told files input.walks_name faces walks_told,
+            λ pair _. (certificate_told, λ other _. judged faces (walk_at pair 0) (walk_at pair 1) other),
+          ),
+        );
+        made = λ outcome h.
+            inr (
+              mesh,
+              mesh_passes files input.mesh_name mesh input.mesh_file,
+              inr (
+                first ∷ second ∷ [],
+                spelled_pair files input.walks_name mesh first second input.walks_file,
+                inr (shown, passed, h),
+              ),
+            );
+        behind = λ outcome is.
+            behind files (certificate_in input.certificate_name) (judgement mesh first second) shown outcome
+            (sound input.certificate_name) certificate_told passed
+            (behind_pair files input.mesh_name input.walks_name mesh first second after_pair outcome input.mesh_file input.walks_file is);
+      }
