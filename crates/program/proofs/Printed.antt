@@ -1,12 +1,13 @@
 -- What `certify` prints spells its certificate again, and `verify` accepts it.
 use Rattle.std.proofs.Common.{◌≡◌, ℕ, ◌≤◌, List, [], length, get_or, sym, subst, arith}
-use Rattle.std.specs.Prelude.{codes, Option, Some, None, IsSomeAnd}
-use Rattle.surf_io.specs.Files.{Files, file_of}
+use Rattle.std.specs.Prelude.{codes, Option}
+use Rattle.surf_io.specs.Files.{Files}
 use Rattle.surf_model.specs.FaceLists.{FaceList, IsFaceList, HasFileSize, total_sides}
 use Rattle.surf_model.specs.Walks.{IsWalk}
 use Rattle.move_lifting.specs.declared.expanding.TheConstants.{MOST_LIFTED_SIDES}
 use Rattle.verify_commands.proofs.Accepting.{accepted, spelled}
 use Rattle.commands.proofs.MeshTexts.{is_face_list, has_file_size}
+use Rattle.commands.proofs.Rows.{input_so}
 use Rattle.commands.proofs.Sound.{held}
 use Rattle.commands.specs.Certificates.{Convinces, IsPeakLow, IsShortOnSphere, certificate_text}
 use Rattle.commands.specs.Certify.{IsCertifyInput, IsWithinLimits, IsCertificatePrinted}
@@ -31,32 +32,18 @@ use Rattle.program.specs.Commands.{Verify, VerifyHomology}
 use Rattle.program.specs.Outcomes.{Answers}
 use Rattle.program.specs.PrintedCertificates.{IsVerifyOfText, IsAccepted}
 
-some_and : {A : Type 0} (o : Option A) (P Q : A → Type 0) → ((x : A) → P x → Q x) → IsSomeAnd o P → IsSomeAnd o Q
-some_and None P Q more h = h
-some_and (Some x) P Q more h = more x h
-
 -- a file of a text that spells the certificate
 verify_input : (files : Option Files) (words : List (List ℕ)) (mesh : FaceList) (first second text : List ℕ) (shown : Certificate)
     → SpellsCertificate shown text → IsVerifyOfText files words mesh first second text → IsVerifyInput files words mesh first second shown
 verify_input files words mesh first second text shown spells h =
-    record {
-      mesh_name = h.mesh_name;
-      walks_name = h.walks_name;
-      certificate_name = h.certificate_name;
-      words_are = h.words_are;
-      mesh_file = h.mesh_file;
-      walks_file = h.walks_file;
-      certificate_file =
-          some_and (file_of files h.certificate_name) (λ bytes. (length bytes ≤ MOST_BYTES) × (bytes ≡ text))
-          (λ bytes. (length bytes ≤ MOST_BYTES) × SpellsCertificate shown bytes)
-          (λ bytes file. (file.0, subst (SpellsCertificate shown) (sym file.1) spells)) h.certificate_file;
-    }
+    input_so (codes "verify") (λ bytes. bytes ≡ text) (SpellsCertificate shown) files words mesh first second
+    (λ bytes is. subst (SpellsCertificate shown) (sym is) spells) h
 
 pub printed_accepted : (files : Option Files) (words : List (List ℕ)) (mesh : FaceList) (first second : List ℕ) (status : Status)
     (text : List ℕ) → IsCertifyInput files words mesh first second → IsWithinLimits mesh first second
     → (printed : IsCertificatePrinted mesh first second status text)
     → length text ≤ MOST_BYTES → IsAccepted mesh first second printed.shown text
-unfolding verify_input
+unfolding verify_input input_so
 printed_accepted files words mesh first second status text input limits printed short =
     let off = held files input.mesh_name (SpellsMesh mesh) input.mesh_file in
     let pair = (held files input.walks_name (SpellsPair mesh first second) input.walks_file).holds in
@@ -98,7 +85,7 @@ printed_on_sphere_accepted files words mesh first second status text input limit
 pub printed_list_accepted : (files : Option Files) (words : List (List ℕ)) (mesh : FaceList) (first second : List ℕ) (status : Status)
     (text : List ℕ) → IsOpenInput (codes "certify-open") files words mesh first second → open_limits.IsWithinLimits mesh first second
     → (printed : IsListPrinted mesh first second status text) → IsAccepted mesh first second (Moves printed.list) text
-unfolding verify_input
+unfolding verify_input input_so
 printed_list_accepted files words mesh first second status text input limits printed =
     let within = printed.within in
     let off = held files input.mesh_name (SpellsMesh mesh) input.mesh_file in
