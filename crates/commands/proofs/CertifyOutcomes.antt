@@ -49,7 +49,8 @@ by_certified mesh first second (Pass x) status text p answer =
 -- ---- such an input, where the words are answered by the check
 
 module _ (files : Option Files) (words : List (List ℕ)) (status : Status) (text : List ℕ)
-    (answered : (mesh walks : List ℕ) → words ≡ codes "certify" ∷ mesh ∷ walks ∷ [] → AnswersTo files (certify files mesh walks) status text)
+    (answered : (mesh walks : List ℕ) → words ≡ codes "certify" ∷ mesh ∷ walks ∷ []
+    → AnswersTo files (certify files mesh walks) status text)
     (mesh : FaceList) (first second : List ℕ) (input : IsCertifyInput files words mesh first second) where
   two : List (List ℕ)
   two = first ∷ second ∷ []

@@ -42,8 +42,8 @@ some_and None P Q more h = h
 some_and (Some x) P Q more h = more x h
 
 -- where such bytes are so, a certificate with such bytes is one with bytes that are so
-unfoldable pub input_so : (keyword : List ℕ) (AreSuch AreSo : List ℕ → Type 0) (files : Option Files) (words : List (List ℕ)) (mesh : FaceList)
-    (first second : List ℕ)
+unfoldable pub input_so : (keyword : List ℕ) (AreSuch AreSo : List ℕ → Type 0) (files : Option Files) (words : List (List ℕ))
+    (mesh : FaceList) (first second : List ℕ)
     → ((bytes : List ℕ) → AreSuch bytes → AreSo bytes) → IsInputWith keyword AreSuch files words mesh first second
     → IsInputWith keyword AreSo files words mesh first second
 input_so keyword AreSuch AreSo files words mesh first second so h =

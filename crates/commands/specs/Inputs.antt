@@ -97,8 +97,8 @@ SpellsCertificate certificate bytes = certificate_of bytes ≡ Ok certificate
 
 -- ---- what the words of a command name
 
--- The words are this keyword and the names of two files, which are told: the first stands for an orientable closed surface, and the bytes of
--- the second are such.
+-- The words are this keyword and the names of two files, which are told: the first stands for an orientable closed surface, and the bytes
+-- of the second are such.
 pub record IsInputOnSurface (keyword : List ℕ) (AreSuch : List ℕ → Type 0) (held : Option Files) (words : List (List ℕ)) (mesh : FaceList)
     : Type 0 where
   pub mesh_name : List ℕ

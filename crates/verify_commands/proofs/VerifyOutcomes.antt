@@ -104,7 +104,8 @@ module _ (files : Option Files) (words : List (List ℕ)) (status : Status) (tex
       → IsVerifyInput files words mesh first second (certificates.Moves list)
       → IsAnswerOf (Pass (verdict_answer (verdict_of mesh first second list))) status text
   judged_list mesh first second list input =
-      (judged_so mesh first second (certificates.Moves list) input).exact tt (Pass (verdict_answer (verdict_of mesh first second list))) refl
+      (judged_so mesh first second (certificates.Moves list) input).exact tt
+      (Pass (verdict_answer (verdict_of mesh first second list))) refl
 
   -- what is answered of a list of moves, where the words are answered by the check
   pub verified : IsVerified files words status text
@@ -118,7 +119,8 @@ module _ (files : Option Files) (words : List (List ℕ)) (status : Status) (tex
       → IsVerifyInput files words mesh first second (certificates.Denial denial) → IsVerdict mesh first second denial verdict
       → (status ≡ denial_status verdict) × IsText (denial_line verdict) text
   judged_denial mesh first second denial verdict input is =
-      let a = (judged_so mesh first second (certificates.Denial denial) input).exact tt (Pass (denial_answer verdict)) (verdict, refl, is) in
+      let a = (judged_so mesh first second (certificates.Denial denial) input).exact tt
+      (Pass (denial_answer verdict)) (verdict, refl, is) in
       (a.status_is, a.text_is)
 
   denial_told : (mesh : FaceList) (first second : List ℕ) (denial : Denial)
