@@ -33,16 +33,6 @@ both_err (Err e) f p q = f p q
 abbrev pub so_far : Phrase → List Phrase → List ℕ
 so_far first others = phrase_text first ++ flat_map behind_blank (map phrase_text others)
 
--- one phrase more
-pub so_far-push : (first : Phrase) (before : List Phrase) (x : Phrase)
-    → so_far first (before ++ x ∷ []) ≡ so_far first before ++ behind_blank (phrase_text x)
-so_far-push first before x =
-    ap (λ (t : List (List ℕ)). phrase_text first ++ flat_map behind_blank t) (map-append phrase_text before (x ∷ []))
-    ∙ ap (λ (t : List ℕ). phrase_text first ++ t) (flat_map-append behind_blank (map phrase_text before) (phrase_text x ∷ []))
-    ∙ ap (λ (t : List ℕ). phrase_text first ++ (flat_map behind_blank (map phrase_text before) ++ t))
-    (append-nil (behind_blank (phrase_text x)))
-    ∙ sym (append_assoc (phrase_text first) (flat_map behind_blank (map phrase_text before)) (behind_blank (phrase_text x)))
-
 -- what is left of a line behind the phrases so far
 pub line-at : (first : Phrase) (before : List Phrase) (x : Phrase) (after : List Phrase)
     → line (phrase_text first) (map phrase_text (before ++ x ∷ after))

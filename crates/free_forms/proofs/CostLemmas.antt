@@ -5,7 +5,6 @@ use Rattle.surf_model.specs.declared.limits.TheConstants.{MOST_PEAK}
 use Rattle.surf_model.specs.declared.moves.Move.{Move}
 use Rattle.surf_model.specs.declared.moves.Move.TheVariants.{Remove, Across}
 use Rattle.free_forms.specs.Parents.{OpenView, HasParents, parent_of, expansion}
-use Rattle.free_forms.specs.PeakedLists.{IsWithin}
 use Rattle.free_forms.specs.Reductions.{ReductionView, darts_in, IsTaken, IsStep, HasRoom}
 use Rattle.free_forms.proofs.Expansions.{expansion_size}
 use Rattle.free_forms.proofs.StepLemmas.{HasStepped, weight, weight_parent}
@@ -20,9 +19,6 @@ pub record IsPaid (surface : OpenView) (most : ℕ) (state : ReductionView) : Ty
 -- so the walk is no longer either
 pub paid_darts : (surface : OpenView) (most : ℕ) (state : ReductionView) → IsPaid surface most state → darts_in state ≤ most
 paid_darts surface most state paid = omega (arith, paid.front, weight_long surface state.last state.coming)
-
-pub paid_within : (surface : OpenView) (most : ℕ) (state : ReductionView) → IsPaid surface most state → IsWithin most state.list
-paid_within surface most state paid = record { moves = omega (arith, paid.moves); peak = paid.peak }
 
 -- a step that notes a move
 noted_paid : (surface : OpenView) (most : ℕ) (old new : ReductionView) (move : Move) (next : ℕ)

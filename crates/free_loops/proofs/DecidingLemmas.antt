@@ -19,7 +19,7 @@ use Rattle.joined_loops.proofs.FlatWalks.{one_sum}
 use Rattle.joined_loops.proofs.FreeWalks.{one_cyclic_form}
 use Rattle.walk_translate.proofs.LabelLemmas.{cut_is_good}
 use Rattle.free_loops.specs.declared.deciding.FreeAnswer.{FreeAnswer}
-use Rattle.free_loops.specs.declared.deciding.FreeAnswer.TheVariants.{Freely, NotFreely}
+use Rattle.free_loops.specs.declared.deciding.FreeAnswer.TheVariants.{Freely}
 use Rattle.free_loops.specs.CyclicForms.{IsCyclicFormOf}
 use Rattle.free_loops.proofs.CutWheelLemmas.{full_wheel}
 use Rattle.free_loops.proofs.FreeWordLemmas.{closed_way, sphere_free, rotations_free}

@@ -9,7 +9,7 @@ use Rattle.turn_words.specs.SpokePaths.{turn_word_of}
 use Rattle.turn_words.specs.FormLaws.{led}
 use Rattle.turn_words.specs.HyperStates.{HyperState, BelongsTo, IsEven, empty_state, hyper_next}
 use Rattle.turn_words.specs.Lemmas.HyperLaws.{hyper_starts, hyper_stays}
-use Rattle.turn_words.specs.declared.word.Word.TheVariants.{Turns, Flat}
+use Rattle.turn_words.specs.declared.word.Word.TheVariants.{Turns}
 use Rattle.turn_words.proofs.Unique.{unique}
 use Rattle.turn_words.proofs.Spokes.{turns, canonical}
 use Rattle.labellings.specs.Labellings.{LabellingView}

@@ -16,7 +16,7 @@ use Rattle.commands.proofs.MeshTexts.{mesh_valid}
 use Rattle.commands.proofs.Rows.{sound-mesh, sound-pair}
 use Rattle.commands.proofs.Sound.{IsSound, sound-then, sound-meant, sound-file, held, meant_told}
 use Rattle.commands.specs.Answers.{Answer}
-use Rattle.commands.specs.Checks.{Refuse, Pass, Passes, IsTold}
+use Rattle.commands.specs.Checks.{Refuse, Pass}
 use Rattle.commands.specs.Inputs.{walk_at, SpellsPair}
 use Rattle.commands.specs.Outcomes.{Outcome, AnswersTo, IsAnswerOf}
 use Rattle.commands.specs.declared.refusal.Input.TheVariants as inputs

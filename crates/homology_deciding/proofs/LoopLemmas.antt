@@ -302,10 +302,6 @@ module _ (tree : FaceTree) (h : IsTree tree) (counts : List ℤ) (small : AreWit
       way_pop s tree.root.0 tree.ups.items h f way ends.0 dart (subst (λ w. IsWayUp s tree.ups.items f w ends.0) is ends.1) in
       record { below = top.below; up = top.up; known = ap (λ g. is_some (height_of heights g)) top.leads ∙ ends.2 }
 
-  pub up_within : (f : ℕ) (dart : DartName) → up_of tree.ups.items f ≡ Some dart → f < length s.mesh.faces
-  up_within f dart up =
-      subst (λ x. x < length s.mesh.faces) (h.inside f dart up) ((names_all s h.valid).face_below dart.0 (h.within f dart up))
-
   -- at the start only the root has a height
   pub first_height : (heights : List (Option ℤ)) → length heights ≡ length s.mesh.faces → ((f : ℕ) → height_of heights f ≡ None)
       → AreHeights tree counts (set heights tree.root.0 (Some (pos 0)))

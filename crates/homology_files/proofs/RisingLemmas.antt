@@ -75,9 +75,3 @@ pub all_below : (lines : List FaceNumber) (line : FaceNumber) → true ≡ is_fa
 all_below lines line h = λ k d l.
     ltb-true (get_or lines k d).face.0 line.face.0
     (AllPass-from_list_all (λ (other : FaceNumber). nat_lt other.face.0 line.face.0) lines (sym h) k d l)
-
-pub all_before : (lines : List EdgeNumber) (line : EdgeNumber) → true ≡ is_edge_above lines line
-    → All (λ (other : EdgeNumber). IsPairBefore other.low.0 other.high.0 line.low.0 line.high.0) lines
-all_before lines line h = λ k d l.
-    before_test (get_or lines k d) line
-    (AllPass-from_list_all (λ (other : EdgeNumber). is_edge_before other line) lines (sym h) k d l)

@@ -9,7 +9,7 @@ use Rattle.surf_model.specs.declared.moves.Move.{Move}
 use Rattle.labellings.specs.declared.denial.Denial.{Denial}
 use Rattle.walk_files.specs.Certificates.{answer_of, first_head, fits, fitting_head, head_among, head_in, head_of, head_of_text, move_of, moves_of_text, within_peak}
 use Rattle.walk_files.specs.Denials.{denial_of_lines}
-use Rattle.walk_files.specs.Readers.{Certificate, after_answer, answer_first, denial_left, lines_to_come, moves_left, moves_to_come, next_answer, next_of, started, unless_refused}
+use Rattle.walk_files.specs.Readers.{Certificate, answer_first, denial_left, lines_to_come, moves_left, moves_to_come, next_of, started, unless_refused}
 use Rattle.walk_files.specs.declared.certificate.CertHead.{CertHead}
 use Rattle.walk_files.specs.declared.certificate.CertHead.TheVariants.{Moves, Labels}
 use Rattle.walk_files.specs.declared.fault.CertFault.{CertFault}
@@ -41,11 +41,6 @@ some_to_come : (reader : Certificate) (refusal : Option CertFault) (move : Move)
     → 0 < moves_to_come reader
 some_to_come reader (Some fault) move e = cc
 some_to_come reader None move e = some_left (end_line reader.text) (moves_to_come reader) (lines_to_come reader) move e
-
--- behind a move fewer are to come
-pub fewer_to_come : (reader : Certificate) (move : Move) → next_answer reader ≡ Ok (Some move)
-    → moves_to_come (after_answer reader (Ok (Some move))) < moves_to_come reader
-fewer_to_come reader move e = omega (arith, some_to_come reader reader.refusal move e)
 
 -- the moves that were gathered are the first of those to come
 pub one_more : (all rest more : Result (List Move) CertFault) (moves : List Move) (move : Move) → all ≡ before_ok moves rest

@@ -93,11 +93,6 @@ next_place sizes k below =
     ∙ sum_by-append (λ x. x) (take k sizes) (get_or sizes k 0 ∷ [])
     ∙ ap (λ (n : ℕ). sum (take k sizes) + n) (sum_by-cons (λ x. x) (get_or sizes k 0) [] ∙ omega arith)
 
--- a walk ends within the vertices
-pub walk_end : (sizes : List ℕ) (total k : ℕ) → sum sizes ≡ total → k < length sizes → sum (take k sizes) + get_or sizes k 0 ≤ total
-walk_end sizes total k all below =
-    omega (arith, all, next_place sizes k below, sum_by-take-drop (λ x. x) sizes (k + 1))
-
 -- the two slices of a pair are its walks
 pub first_of_pair : (sizes vertices : List ℕ) (k at : ℕ) → at ≡ sum (take (2 * k) sizes)
     → take (at + get_or sizes (2 * k) 0 - at) (drop at vertices) ≡ walk_at sizes vertices (2 * k)

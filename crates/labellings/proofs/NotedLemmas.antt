@@ -4,7 +4,7 @@ use Rattle.turn_words.specs.FormLaws.{led, NotesAlong}
 use Rattle.turn_words.specs.Recorded.{TellsMore}
 use Rattle.turn_words.specs.declared.step.Step.{Step}
 use Rattle.turn_words.proofs.Led.{led-append, notes-append, notes-one}
-use Rattle.turn_words.proofs.Telling.{tells-both, tells-less}
+use Rattle.turn_words.proofs.Telling.{tells-both}
 
 module _ {State : Type 0} (next : List ℕ → State → ℕ → State) (Notes : List ℕ → State → ℕ → List Step → Type 0) (places : List ℕ) where
   -- two spokes
@@ -31,6 +31,3 @@ module _ {State : Type 0} (next : List ℕ → State → ℕ → State) (Notes :
 -- something is noted after something
 pub tells-some : (A B : List Step → Type 0) (o p q : Option (List Step)) → TellsMore A o p → TellsMore B p q → TellsMore (λ _. Unit {0}) o q
 tells-some A B o p q first second = tells-both A B (λ _. Unit {0}) o p q first second (λ _ _ _ _. tt)
-
-pub tells-any : (A : List Step → Type 0) (o p : Option (List Step)) → TellsMore A o p → TellsMore (λ _. Unit {0}) o p
-tells-any A o p h = tells-less A (λ _. Unit {0}) o p h (λ _ _. tt)

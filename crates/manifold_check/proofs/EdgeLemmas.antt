@@ -17,12 +17,6 @@ two_sides_from_table mesh table h two u v is =
     let found : IsEdgeBetween table u v = edge_between mesh table u v h is in
     sides_by_table mesh table u v h is ∙ two found.edge found.in_table
 
-pub table_from_two_sides : (mesh : FaceList) (table : List Edge) (k : ℕ) → IsTableOf mesh table → EachEdgeHasTwoSides mesh
-    → k < length table
-    → length (edge_in table k).sides ≡ 2
-table_from_two_sides mesh table k h two l =
-    sides_of_edge mesh (edge_in table k) (h.edges k _ l) ∙ two (edge_in table k).low (edge_in table k).high (table_pair mesh table k h l)
-
 least_uneven : (mesh : FaceList) (table : List Edge) (k : ℕ) → IsTableOf mesh table → IsFirstUneven table k
     → IsLeastUnevenEdge mesh (edge_in table k).low (edge_in table k).high (length (edge_in table k).sides)
 least_uneven mesh table k h first =

@@ -1,5 +1,5 @@
 -- A walk as the list of a chain that is alone in its pool.
-use Rattle.std.proofs.Common.{◌≡◌, ◌≢◌, inl, inr, refl, ℕ, zero, suc, ◌+◌, ◌<◌, ◌≤◌, ◌^◌, max, List, [], ◌∷◌, ◌++◌, length, take, drop, set, is_some, Option, Some, None, get_or, ap, sym, ◌∙◌, subst, arith, append_assoc, length-append}
+use Rattle.std.proofs.Common.{◌≡◌, ◌≢◌, inl, inr, refl, ℕ, zero, suc, ◌+◌, ◌<◌, ◌≤◌, ◌^◌, max, List, [], ◌∷◌, ◌++◌, length, take, drop, set, is_some, Option, Some, None, ap, sym, ◌∙◌, subst, arith, append_assoc, length-append}
 use mathlib.Core.Bool.{true≢false}
 use Rattle.std.specs.Prelude.{Result, Ok, Err, OnOk, OnErr}
 use Rattle.std.proofs.lemmas.List.{append-nil, drop_all, take_all, length-take-le, length-drop, get_or-set_other}
@@ -9,7 +9,6 @@ use Rattle.chain_pool.specs.declared.cells.CellName.{CellName}
 use Rattle.chain_pool.proofs.Lists.{list_under-is, list_is, edit_twice}
 use Rattle.chain_pool.proofs.Lookups.{cells_in-edit, cells_in-alike}
 use Rattle.move_lifting.specs.PooledWalks.{IsAlone, IsPushed}
-use Rattle.move_lifting.proofs.ListLemmas.{front_and_last}
 
 pub live_from : (lists : List (Option (List ℕ))) (name : ℕ) (list : List ℕ) → under lists name ≡ Some list → IsUnder lists name
 live_from lists name list e = ap (λ (o : Option (List ℕ)). is_some o) e
@@ -52,13 +51,6 @@ pub pushed_last : (list : List ℕ) (place value : ℕ) → place ≡ length lis
 pushed_last list place value e =
     ap (λ (l : List ℕ). l ++ value ∷ drop place list) (take_all place list (omega (arith, e)))
     ∙ ap (λ (l : List ℕ). list ++ value ∷ l) (drop_all place list (omega (arith, e)))
-
--- the last entry cut off
-pub cut_last : (list : List ℕ) (place : ℕ) → place + 1 ≡ length list → list ≡ cut list place (place + 1) ++ get_or list place 0 ∷ []
-cut_last list place e =
-    let short : cut list place (place + 1) ≡ take place list =
-    ap (λ (l : List ℕ). take place list ++ l) (drop_all (place + 1) list (omega (arith, e))) ∙ append-nil (take place list) in
-    front_and_last list place e ∙ ap (λ (l : List ℕ). l ++ get_or list place 0 ∷ []) (sym short)
 
 -- how long a list is without the entries between two places, and with one more
 pub length-cut : (list : List ℕ) (from to : ℕ) → from ≤ to → to ≤ length list → length (cut list from to) + to ≡ length list + from
@@ -135,24 +127,12 @@ pushed_both old mid new chain first second one two =
       spare = omega (arith, one.spare, two.spare, length-append first second);
     }
 
-pub pushed_live : (old new : Chains) (chain : CellName) (more : List ℕ) → IsPushed old new chain more → IsLive new chain.0
-pushed_live old new chain more one = live_from new.lists chain.0 (list_of old chain.0 ++ more) one.list.here
-
 pub alone_pushed : (old new : Chains) (chain : CellName) (more : List ℕ) → IsAlone old chain → IsPushed old new chain more
     → IsAlone new chain
 alone_pushed old new chain more was_alone pushed =
     let long = length-append (list_of old chain.0) more in
     alone_on old new chain (list_of old chain.0 ++ more) was_alone pushed.list (omega (arith, long, was_alone.starts))
     (omega (arith, long, pushed.spare))
-
--- the entry at the end of a list
-pub pushed_one : (old new : Chains) (chain : CellName) (place value : ℕ) → place ≡ length (list_of old chain.0)
-    → IsEdit old.lists new.lists chain.0 (Some (inserted (list_of old chain.0) place value)) → new.spare + 1 ≡ old.spare
-    → IsPushed old new chain (value ∷ [])
-pushed_one old new chain place value end edit spare = record {
-  list = subst (λ (l : List ℕ). IsEdit old.lists new.lists chain.0 (Some l)) (pushed_last (list_of old chain.0) place value end) edit;
-  spare = omega (arith, spare);
-}
 
 no_chain : (lists : List (Option (List ℕ))) (name : ℕ) → under (set lists name None) name ≡ None
 no_chain [] name = refl

@@ -1,6 +1,6 @@
 -- The second walk comes behind the first, backward and forward.
 use Rattle.std.proofs.Common.{◌≡◌, ℕ, ◌+◌, ◌-◌, ◌<◌, ◌≤◌, max, true, List, [], ◌∷◌, ◌++◌, length, drop, get_or, ap, sym, ◌∙◌, subst, arith}
-use Rattle.std.proofs.lemmas.List.{drop_more, drop_all, append-nil, length-drop}
+use Rattle.std.proofs.lemmas.List.{drop_more, length-drop}
 use Rattle.surf_model.specs.FaceLists.{FaceList, is_edge}
 use Rattle.surf_model.specs.Walks.{IsWalk}
 use Rattle.surf_model.specs.Moves.{PeakedMoves}
@@ -34,10 +34,3 @@ goes_on_back mesh first out second place via list more w within some ends read n
     subst (λ (l : List ℕ). LeadsAtPeak mesh first more (out ++ via.0 ∷ [] ++ l)) next
     (spur_in_last mesh first out rest via list more some edge
     (subst (λ (n : ℕ). more ≡ record { moves = list.moves ++ Insert (length out - 1) via ∷ []; peak = max list.peak n }) count noted) h)
-
--- at the start nothing of the walk stands behind yet
-pub nothing_behind : (mesh : FaceList) (first out second : List ℕ) (list : PeakedMoves) (n : ℕ) → length second ≤ n
-    → LeadsAtPeak mesh first list out
-    → LeadsAtPeak mesh first list (out ++ drop n second)
-nothing_behind mesh first out second list n past h =
-    subst (LeadsAtPeak mesh first list) (sym (ap (λ (l : List ℕ). out ++ l) (drop_all n second past) ∙ append-nil out)) h

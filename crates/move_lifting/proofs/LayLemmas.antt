@@ -8,7 +8,7 @@ use Rattle.surf_model.specs.declared.names.VertexName.{VertexName}
 use Rattle.polygon_cut.proofs.FreeLoopLemmas.{free_equality}
 use Rattle.move_lifting.specs.Tracks.{last_of}
 use Rattle.move_lifting.proofs.ExpandLemmas.{length-numbers, one_pending}
-use Rattle.move_lifting.proofs.ListLemmas.{no_spur_front, no_spur_on}
+use Rattle.move_lifting.proofs.ListLemmas.{no_spur_front}
 use Rattle.move_lifting.proofs.SpurLemmas.{put_freely, freely_further}
 
 -- what is laid so far, with one vertex more
@@ -59,23 +59,6 @@ goes_out mesh old new next via long came popped =
 pub goes_out_clean : (old new : List VertexName) (via : VertexName) → old ≡ new ++ via ∷ [] → HasNoSpur (numbers old)
     → HasNoSpur (numbers new)
 goes_out_clean old new via popped h = no_spur_front (numbers new) (via.0 ∷ []) (subst HasNoSpur (one_pending old new via popped) h)
-
--- one vertex comes
-pub comes_in : (mesh : FaceList) (old new : List VertexName) (next : VertexName) → new ≡ old ++ next ∷ []
-    → AreFreelyEqual mesh (numbers old ++ next.0 ∷ []) (numbers new)
-comes_in mesh old new next pushed =
-    subst (AreFreelyEqual mesh (numbers old ++ next.0 ∷ [])) (sym (one_pending new old next pushed))
-    ((free_equality mesh).itself (numbers old ++ next.0 ∷ []))
-
-pub comes_in_clean : (old new : List VertexName) (next : VertexName) → new ≡ old ++ next ∷ []
-    → (1 < length old → get_or (numbers old) (length old - 2) 0 ≢ next.0)
-    → HasNoSpur (numbers old) → HasNoSpur (numbers new)
-comes_in_clean old new next pushed other h =
-    subst HasNoSpur (sym (one_pending new old next pushed))
-    (no_spur_on (numbers old) next.0 h (λ k l same.
-    let long : length (numbers old) ≡ length old = length-numbers old in
-    let at : k ≡ length old - 2 = omega arith in
-    other (omega arith) (ap (λ (n : ℕ). get_or (numbers old) n 0) (sym at) ∙ same)))
 
 -- two parts laid on a walk
 pub laid_two : (mesh : FaceList) (start first second one two : List ℕ) → 0 < length start → AreFreelyEqual mesh (start ++ one) first

@@ -14,9 +14,6 @@ use Rattle.move_lifting.specs.Tracks.{TrackView, IsStepBack}
 use Rattle.move_lifting.specs.Crossings.{IsFaceBelow, IsCrossed}
 use Rattle.move_lifting.specs.declared.crossing.FaceStep.{FaceStep}
 
-pub no_more_removed : (moves : List Move) → MoreRemove moves moves
-no_more_removed moves = ([], sym (append-nil moves), All-nil IsRemoval)
-
 pub stepped_back : (behind : ℕ) (old new : TrackView) → IsStepBack behind old new → MoreRemove old.list.moves new.list.moves
 stepped_back behind old new back = (
   Remove (length old.walk - 2) back.via ∷ [],

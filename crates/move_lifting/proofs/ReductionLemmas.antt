@@ -5,9 +5,7 @@ use Rattle.std.proofs.lemmas.List.{append-nil, take_all}
 use Rattle.halfedge_map.specs.OrientedMeshes.{OrientedMesh, IsOrientedSurface}
 use Rattle.halfedge_map.specs.DartMaps.{next_of}
 use Rattle.halfedge_map.specs.RotationSystems.{rotations_of, IsDartFrom}
-use Rattle.turn_words.specs.Wheels.{IsWheel}
-use Rattle.tree_cotree.specs.Splits.{SplitView}
-use Rattle.polygon_cut.specs.Polygons.{PolygonView, IsCutFrom, label_of}
+use Rattle.polygon_cut.specs.Polygons.{PolygonView, label_of}
 use Rattle.polygon_cut.specs.SpokeLoops.{HasFreeSpokes, HaveFreeSpokes, spokes_along, last_side}
 use Rattle.polygon_cut.proofs.FreeRoundLemmas.{dart_from, from_is}
 use Rattle.spoke_paths.specs.PathSteps.{PathLeads, spur_goes, quad_turned, after_path_step}
@@ -107,17 +105,6 @@ all_spokes s polygon o walk n path all so_far = record {
   free = have_own s polygon o;
   path_is = so_far.is ∙ ap (spokes_along (own_spokes s polygon)) (take_all n walk all);
 }
-
--- the places of a polygon make a wheel
-pub places_make_wheel : (s : OrientedMesh) (split : SplitView) (polygon : PolygonView) → IsCutFrom s split polygon → 0 < polygon.degree
-    → IsWheel polygon.places
-places_make_wheel s split polygon cut some =
-    let places = cut.places some in
-    record {
-      inside = λ i l. subst (λ n. get_or polygon.places i 0 < n) (sym places.each_spoke)
-          (places.below i (subst (λ n. i < n) places.each_spoke l));
-      once = λ i j l k e. places.apart i j (subst (λ n. i < n) places.each_spoke l) (subst (λ n. j < n) places.each_spoke k) e;
-    }
 
 -- how many spurs are taken out
 spurs_on : (steps more : List PathStep) → spurs_of (steps ++ more) ≡ spurs_of steps + spurs_of more

@@ -15,8 +15,6 @@ use Rattle.tree_cotree.specs.Splits.{SplitView, IsSplit, StepsToParent, parent_d
 use Rattle.polygon_cut.specs.SpokeLoops.{AreWaysUp}
 use Rattle.polygon_cut.proofs.FreeLawLemmas.{root_is}
 use Rattle.polygon_cut.proofs.TreeWayLemmas.{up, up_path, one_path}
-use Rattle.move_lifting.specs.Tracks.{last_of}
-use Rattle.move_lifting.proofs.BackLemmas.{last_behind}
 use Rattle.move_lifting.proofs.ExpandLemmas.{length-numbers}
 use Rattle.move_lifting.proofs.CountLemmas.{sum_below, sum_same, disjoint_counts, count_most, count_one}
 
@@ -143,15 +141,6 @@ pub way_some : (s : OrientedMesh) (split : SplitView) → (t : IsSplit s split) 
 way_some s split t v names is =
     let whole : numbers names ≡ v ∷ up s split t v = is t.parents.root (up s split t) (λ x used. up_path s split t x used) in
     omega (arith, ap (λ (l : List ℕ). length l) whole, length-numbers names)
-
-pub way_top : (s : OrientedMesh) (split : SplitView) (root : ℕ) (ways : ℕ → List ℕ) → AreWaysUp s split root ways → (v : ℕ)
-    → is_used s.mesh v ≡ true
-    → last_of (v ∷ ways v) ≡ root
-way_top s split root ways h v used = by v (ways v) (h v used)
-  where
-    by : (x : ℕ) (path : List ℕ) → IsPath (StepsToParent (rotations_of s) split) x path root → last_of (x ∷ path) ≡ root
-    by x [] p = p
-    by x (w ∷ path) p = last_behind (x ∷ []) (w ∷ path) (omega arith) ∙ by w path p.1
 
 -- where a dart starts is a used vertex
 pub origin_used : (s : OrientedMesh) → IsOrientedSurface s → (d v : ℕ) → d < darts_of s → v ≡ origin_of s d → is_used s.mesh v ≡ true

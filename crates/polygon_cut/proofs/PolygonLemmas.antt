@@ -6,16 +6,13 @@ use Rattle.std.proofs.lemmas.Bool.Decides.{nat_tests}
 use Rattle.halfedge_map.specs.Orbits.{after_steps, IsReached}
 use Rattle.halfedge_map.specs.RotationSystems.{Rotations, IsRotationSystem}
 use Rattle.tree_cotree.specs.SpanningTrees.{after_dart, HasOneRing}
-use Rattle.polygon_cut.specs.Polygons.{one_up, one_down, PolygonView, side_at, label_of, turned, IsFirstLeft, IsLabelled, KindLabels}
+use Rattle.polygon_cut.specs.Polygons.{one_up, PolygonView, side_at, label_of, turned, IsFirstLeft, IsLabelled, KindLabels}
 use Rattle.halfedge_map.proofs.OrbitLemmas.{IsPermutationBelow, step_first, reached_step, reached_refl, reached_trans}
 use Rattle.tree_cotree.proofs.AfterLemmas.{after_permutes, go_on, turn, twin_edge}
 use Rattle.tree_cotree.proofs.SplitLemmas.{OneOfThree, tree_one, cotree_one, left_one}
 
 pub one_up_below : (degree i : ℕ) → i < degree → one_up degree i < degree
 one_up_below degree i l = grind (arith, nat_tests)
-
-pub one_down_below : (degree i : ℕ) → i < degree → one_down degree i < degree
-one_down_below degree i l = grind (arith, nat_tests)
 
 -- two first leftover darts at or after one dart are one
 first_unique : (maps : Rotations) (ring : ℕ → ℕ) (left : ℕ → Bool) (d x y : ℕ) → IsFirstLeft maps ring left d x

@@ -190,11 +190,6 @@ edge_up_is s split v e h = by (parent_dart split v) refl h
     by (Some d) is k = (let one : Some ((rotations_of s).edge d) ≡ Some e = rw is at k in let same : (rotations_of s).edge d
         ≡ e = cc in (d, is, same))
 
-edge_up_some : (s : OrientedMesh) (split : SplitView) (v d : ℕ) → parent_dart split v ≡ Some d
-    → edge_up s split v ≡ Some ((rotations_of s).edge d)
-unfolding edge_up
-edge_up_some s split v d is = rw is refl
-
 -- a dart to a parent leads from a vertex to its parent
 parent_step : (s : OrientedMesh) (split : SplitView) (v d : ℕ) → parent_dart split v ≡ Some d
     → StepsToParent (rotations_of s) split v ((rotations_of s).origin ((rotations_of s).twin d))

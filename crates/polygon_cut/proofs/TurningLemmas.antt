@@ -1,5 +1,5 @@
 -- Places given by turning round the one vertex, from side to side.
-use Rattle.std.proofs.Common.{◌≡◌, ◌≢◌, inl, inr, ℕ, suc, ◌+◌, ◌-◌, ◌<◌, List, length, get_or, refl, ap, sym, ◌∙◌, subst, arith}
+use Rattle.std.proofs.Common.{◌≡◌, ◌≢◌, inl, inr, ℕ, suc, ◌+◌, ◌-◌, ◌<◌, List, length, get_or, ap, sym, ◌∙◌, subst, arith}
 use Rattle.std.proofs.Math.ListN.{set}
 use Rattle.std.specs.Prelude.{slice_index}
 use Rattle.std.proofs.lemmas.Bool.{cases_eq}
@@ -31,14 +31,6 @@ pub record IsTurning (degree : ℕ) (f : ℕ → ℕ) (turns : ℕ) (places : Li
   pub at : spoke ≡ after_steps f turns 0
   pub first : turns ≡ 0 → place ≡ 0
   pub later : 0 < turns → place ≡ degree - turns
-
-pub turning_none : (degree : ℕ) (f : ℕ → ℕ) (places : List ℕ) → length places ≡ degree → IsTurning degree f 0 places 0 0
-turning_none degree f places long = record {
-  placed = record { each_spoke = long; first = λ l. absurd (omega arith); others = λ k l b. absurd (omega arith) };
-  at = refl;
-  first = λ e. refl;
-  later = λ l. absurd (omega arith);
-}
 
 pub place_below : (degree : ℕ) (f : ℕ → ℕ) (turns : ℕ) (places : List ℕ) (spoke place : ℕ) → turns < degree
     → IsTurning degree f turns places spoke place → place < degree

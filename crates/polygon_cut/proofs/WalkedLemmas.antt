@@ -14,16 +14,6 @@ use Rattle.polygon_cut.specs.StoredPolygons.{IsWalked, left_at, left_before}
 use Rattle.polygon_cut.proofs.CountLemmas.{IsCounted, count_rises, count_passes, count_selects}
 use Rattle.polygon_cut.proofs.RoundLemmas.{GoesRound, round_home, round_apart, round_reaches}
 
--- no dart is labelled yet
-pub walked_none : (maps : Rotations) (ring : ℕ → ℕ) (left : ℕ → Bool) (start : ℕ) (labels : List ℕ) → length labels ≡ maps.darts
-    → IsWalked maps ring left start 0 [] labels
-walked_none maps ring left start labels long = record {
-  each_dart = long;
-  each_left = refl;
-  sides_are = λ k l. absurd (omega arith);
-  labels_are = λ k l. absurd (omega arith);
-}
-
 -- one label more
 labels_more : (maps : Rotations) (ring : ℕ → ℕ) (left : ℕ → Bool) (start j : ℕ) (sides labels : List ℕ) → GoesRound maps.darts ring start
     → j < maps.darts → IsWalked maps ring left start j sides labels → (k : ℕ) → k < suc j

@@ -152,13 +152,6 @@ all_read : (meaning : Result (List NumberLine) WalkFault) (lines : List NumberLi
     → meaning ≡ before_ok lines left → left ≡ Ok [] → meaning ≡ Ok lines
 all_read meaning lines left e none = e ∙ rw none (ap Ok (append-nil lines))
 
-pub canonised-all : (degree : ℕ) (meaning : Result (List NumberLine) WalkFault) (lines : List NumberLine)
-    (left : Result (List NumberLine) WalkFault) (words : List (List ℕ)) (out : Option ℕ) → meaning ≡ before_ok lines left → left ≡ Ok []
-    → out ≡ None → IsSoFar degree lines words out → AreCanonised degree meaning words
-canonised-all degree meaning lines left words out e none sure h =
-    let here : IsSoFar degree lines words None = subst (IsSoFar degree lines words) sure h in
-    rw (all_read meaning lines left e none) here
-
 pub not_canonised-range : (degree : ℕ) (meaning : Result (List NumberLine) WalkFault) (lines : List NumberLine)
     (left : Result (List NumberLine) WalkFault) (words : List (List ℕ)) (out : Option ℕ) (number : ℕ) (stop : Stop)
     → meaning ≡ before_ok lines left → left ≡ Ok [] → out ≡ Some number → IsSoFar degree lines words out → Tells (range_line number) stop

@@ -1,5 +1,5 @@
 -- Where the comparison of two closed lists stands, and what its ends show.
-use Rattle.std.proofs.Common.{◌≡◌, ℕ, ◌+◌, ◌-◌, ◌*◌, ◌/◌, ◌%◌, ◌<◌, ◌≤◌, inl, inr, arith, refl, sym, ◌∙◌, ap, List, length}
+use Rattle.std.proofs.Common.{◌≡◌, ℕ, ◌+◌, ◌-◌, ◌*◌, ◌/◌, ◌%◌, ◌<◌, ◌≤◌, inl, inr, arith, sym, ◌∙◌, ap, List, length}
 use Rattle.std.proofs.lemmas.Bool.{cases_lt}
 use Rattle.std.proofs.lemmas.Grind.{same_number_lists}
 use Rattle.spoke_rings.specs.CyclicWords.{spoke_along}
@@ -15,30 +15,6 @@ pub record Compares (x y : List ℕ) (i j k : ℕ) : Type 0 where
   pub same : (t : ℕ) → t < k → spoke_along x (i + t) ≡ spoke_along y (j + t)
   pub first_gone : (a : ℕ) → 2 * a < i → (b : ℕ) × Greater (from (spoke_along x) (2 * a)) (from (spoke_along y) (2 * b))
   pub second_gone : (b : ℕ) → 2 * b < j → (a : ℕ) × Greater (from (spoke_along y) (2 * b)) (from (spoke_along x) (2 * a))
-
-pub compares-start : (x y : List ℕ) → Compares x y 0 0 0
-compares-start x y = record {
-  i_even = refl;
-  j_even = refl;
-  within = omega arith;
-  same = λ t below. absurd (omega arith);
-  first_gone = λ a below. absurd (omega arith);
-  second_gone = λ b below. absurd (omega arith);
-}
-
-pub compares-same : (x y : List ℕ) (i j k : ℕ) → Compares x y i j k → k < length x → spoke_along x (i + k) ≡ spoke_along y (j + k) →
-    Compares x y i j (k + 1)
-compares-same x y i j k c below e = record {
-  i_even = c.i_even;
-  j_even = c.j_even;
-  within = omega arith;
-  same = λ t before. elim (cases_lt t k) [
-    | inl earlier ↦ c.same t earlier
-    | inr last ↦ let is : t ≡ k = omega arith in ap (λ n. spoke_along x (i + n)) is ∙ e ∙ sym (ap (λ n. spoke_along y (j + n)) is)
-  ];
-  first_gone = c.first_gone;
-  second_gone = c.second_gone;
-}
 
 -- starts that agree so far and then differ are both followed by such starts
 gone : (f g : ℕ → ℕ) (i j k a : ℕ) → i % 2 ≡ 0 → j % 2 ≡ 0 → ((t : ℕ) → t < k → f (i + t) ≡ g (j + t)) → g (j + k) < f (i + k) →

@@ -126,14 +126,6 @@ module _ (places : List ℕ) (full : IsFullWheel places) where
     shorter = s.shorter ∙ c.as_long;
   }
 
-  pub reducing-start : (ring : RingView) → IsLoop places ring.spokes → Reducing places ring ring 0
-  reducing-start ring loop = record {
-    acts = acts-start places ring loop;
-    not_longer = omega arith;
-    within = omega arith;
-    fine = λ j below. absurd (omega arith);
-  }
-
   pub reducing-forward : (start ring new : RingView) (passed : ℕ) → Reducing places start ring passed → passed < length ring.spokes →
       IsFine (length places) (length ring.spokes) (ring_turn places ring) → WentOn places 1 ring new →
       Reducing places start new (passed + 1)

@@ -149,9 +149,6 @@ few-behind_head (line ∷ lines) few = by_test (is_some (answer_of line.words)) 
 
 -- ---- the first of few lines
 
-pub few-next : (old new : List Line) → new ≡ drop 1 old → AreFew old → AreFew new
-few-next old new is few = subst AreFew (sym is) (few-drop 1 old few)
-
 -- a line that was found
 pub found_line : (old new : Unread) → is_filled (lines_left old) ≡ true → new ≡ at_line old (lines_left old)
     → lines_left old ≡ record { number = new.line; words = new.words } ∷ new.lines

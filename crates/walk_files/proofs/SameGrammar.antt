@@ -125,11 +125,6 @@ pub move_same : (a b : List (List ℕ)) → SameLine a b → move_of a ≡ move_
 move_same a b same =
     seven move_of None long_move a ∙ move_words (take 7 a) (take 7 b) same ∙ sym (seven move_of None long_move b)
 
-pub answer_same : (a b : List (List ℕ)) → SameLine a b → answer_of a ≡ answer_of b
-answer_same a b same =
-    seven answer_of None (λ x x2 x3 x4 x5 x6 x7 others. refl) a ∙ answer_words (take 7 a) (take 7 b) same
-    ∙ sym (seven answer_of None (λ x x2 x3 x4 x5 x6 x7 others. refl) b)
-
 pub head_same : (a b : List (List ℕ)) → SameLine a b → head_of a ≡ head_of b
 head_same a b same =
     seven head_of None (λ x x2 x3 x4 x5 x6 x7 others. refl) a ∙ head_words (take 7 a) (take 7 b) same

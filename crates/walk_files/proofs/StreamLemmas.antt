@@ -74,9 +74,6 @@ next_left number bytes (Some n) short next left reads none =
 
 -- ---- answers
 
-pub answers_ok : {A : Type 0} (value : A) (read whole : Result A CertFault) → read ≡ Ok value → read ≡ whole → IsAnswer (Ok value) whole
-answers_ok value read whole is same = sym same ∙ is
-
 pub answers_refused : {A : Type 0} (end : StreamEnd) (fault : CertFault) (read whole : Result A CertFault)
     → (end ≡ Cert fault) ⊎ (end ≡ Fault) ⊎ (end ≡ TooLarge) → read ≡ Err fault → read ≡ whole → IsAnswer (Err end) whole
 answers_refused end fault read whole which is same = by_end end which

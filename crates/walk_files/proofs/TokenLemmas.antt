@@ -6,7 +6,7 @@ use Rattle.std.proofs.Math.Nat.{le-mul_of_pos_right, mul_comm, mul-le-mul_right}
 use Rattle.std.proofs.lemmas.Bool.{ltb-true, ltb-false}
 use Rattle.text_scan.specs.Lines.{Line}
 use Rattle.text_scan.specs.Each.{each_some, some_first}
-use Rattle.walk_files.specs.LineReads.{capped, put_before, rest_of, IsCountedTo, IsCount}
+use Rattle.walk_files.specs.LineReads.{capped, put_before, rest_of, IsCountedTo}
 use Rattle.walk_files.specs.WalkTexts.{token_of, times, ends_at, behind_vertex, written_out, read_tokens}
 use Rattle.walk_files.specs.declared.fault.WalkFault.{WalkFault}
 use Rattle.walk_files.specs.declared.fault.WalkFault.TheVariants.{BadGroup}
@@ -151,9 +151,6 @@ times-next power next group is = ap (λ n. times n group) (let more : next ≡ s
 pub capped-sum : (a b c : ℕ) → a ≡ capped b → min (a + c) (2 ^ 64 - 1) ≡ capped (b + c)
 capped-sum a b c is = omega (arith, is)
 
-pub capped-sums : (a b c d : ℕ) → a ≡ capped b → c ≡ capped d → min (a + c) (2 ^ 64 - 1) ≡ capped (b + d)
-capped-sums a b c d is are = omega (arith, is, are)
-
 pub capped-product : (a b power : ℕ) → a ≡ capped b → min (a * power) (2 ^ 64 - 1) ≡ capped (power * b)
 capped-product a b zero is = omega arith
 capped-product a b (suc power) is = by_size (nat_lt (2 ^ 64 - 1) b) refl
@@ -185,17 +182,6 @@ counted_on line vertex next old new count more total written so_far many rest is
       some = omega (arith, so_far.some, both);
       counted = is ∙ omega (arith, so_far.some, so_far.counted, many, both);
       rest = so_far.rest ∙ ap (put_before so_far.walk) rest ∙ put_before-twice so_far.walk written (rest_of line.number next None new);
-    }
-
-pub counted_all : (line : Line) (vertex : ℕ) (words : List (List ℕ)) (count : ℕ) → IsCountedTo line vertex words count → words ≡ []
-    → IsCount line count
-counted_all line vertex words count so_far none =
-    let both = length-append so_far.walk [] in
-    record {
-      walk = so_far.walk ++ [];
-      some = omega (arith, so_far.some, both);
-      counted = so_far.counted ∙ ap capped (omega (arith, both));
-      is_walk = so_far.rest ∙ ap (put_before so_far.walk) (ap (rest_of line.number vertex None) none);
     }
 
 pub counted_first : (line : Line) (first : ℕ) (new : List (List ℕ))

@@ -2,15 +2,14 @@
 use Rattle.std.proofs.Common.{◌≡◌, ℕ, ◌≤◌, Bool, true, false, List, [], ◌∷◌, length, refl, ap, ◌∙◌, subst, arith}
 use Rattle.std.specs.Prelude.{nat_lt, nat_le, if◌then◌else◌, Option, Some, None, Result, Ok, Err, All, codes}
 use Rattle.std.specs.Option.{ok_or}
-use Rattle.std.specs.List.{enumerate_from}
 use Rattle.std.specs.Str.{bytes_eq}
 use Rattle.std.proofs.lemmas.Bool.{ltb-false}
 use Rattle.std.proofs.lemmas.List.Elements.{All-nil, All-cons}
-use Rattle.text_scan.specs.Lines.{Line, full_lines}
+use Rattle.text_scan.specs.Lines.{Line}
 use Rattle.text_scan.specs.Each.{some_first, each_some, ok_first, each_ok}
 use Rattle.walk_files.specs.NumberLists.{NumberLine}
 use Rattle.text_scan.specs.Numbers.{number_of}
-use Rattle.walk_files.specs.NumberTexts.{entries_of, numbers_on, line_of_numbers, on_line, words_of}
+use Rattle.walk_files.specs.NumberTexts.{entries_of, numbers_on, line_of_numbers, on_line}
 use Rattle.walk_files.specs.declared.fault.WalkFault.TheVariants.{BadNumber, TooLong, TooMany}
 use Rattle.walk_files.specs.declared.limits.TheConstants.{MOST_LINES, MOST_ENTRIES}
 
@@ -72,10 +71,3 @@ on_line-short before line list e = by_many (nat_le MOST_LINES before) e
         → length list.numbers ≤ MOST_ENTRIES
     by_many true h = cc
     by_many false h = by_long (nat_lt MOST_ENTRIES (length line.words)) refl h
-
--- a turn word of a text has few entries
-pub words_of-short : (text : List ℕ) (lists : List NumberLine) → words_of text ≡ Ok lists
-    → All (λ list. length list.numbers ≤ MOST_ENTRIES) lists
-words_of-short text lists e =
-    each_ok-all (λ p. on_line p.1.number (line_of_numbers entries_of MOST_ENTRIES p.0 p.1)) (λ list. length list.numbers ≤ MOST_ENTRIES)
-    (λ p list f. on_line-short p.0 p.1 list f) (enumerate_from 0 (full_lines text)) lists e

@@ -23,22 +23,6 @@ pub record IsWidenedUpTo (mesh : FaceList) (signs : List Bool) (names : List ℕ
   pub labels : (f : ℕ) → f < next → labels_at wide (get_or names f 0) ≡ labels_at narrow f
   pub others : (f : ℕ) → f < n → (Contains names f → ⊥) → labels_at wide f ≡ replicate (length (face_at mesh f)) 0
 
-pub widened_none : (mesh : FaceList) (signs : List Bool) (names : List ℕ) (narrow wide : LabellingView)
-    → wide ≡ record { degree = narrow.degree; faces = []; places = [] } → IsWidenedUpTo mesh signs names narrow 0 0 wide
-widened_none mesh signs names narrow wide is =
-    subst (IsWidenedUpTo mesh signs names narrow 0 0) (sym is) (record {
-      degree = refl;
-      places = refl;
-      all_signs = refl;
-      each_face = refl;
-      few = omega arith;
-      passed = omega arith;
-      before = λ f l. absurd (omega arith);
-      behind = λ f le l. omega arith;
-      labels = λ f l. absurd (omega arith);
-      others = λ f l none. absurd (omega arith);
-    })
-
 -- the labelling with a face more
 abbrev pub with_face : LabellingView → Bool → List ℕ → LabellingView
 with_face wide flipped labels =
