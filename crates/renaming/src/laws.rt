@@ -1,0 +1,23 @@
+//! What goes over to a mesh whose vertices have other numbers, said of the definitions. A call of one of these functions does nothing;
+//! its contract is the law.
+ghost use Rattle.std.specs.Prelude.{◌≡◌, ℕ, IsTrue};
+ghost use Rattle.surf_model.specs.FaceLists.{FaceList, IsFaceList, total_sides, is_edge, is_used};
+ghost use Rattle.renaming.specs.Renamings.{IsRenamed};
+
+/// A renaming leads back: the first mesh is the other one, renamed by `back`. So what goes over by the laws here goes back by them too.
+pub fn renaming_leads_back()
+    ensures { (there back : ℕ → ℕ) (mesh other : FaceList) → IsFaceList mesh → IsRenamed there back mesh other
+        → IsRenamed back there other mesh }
+{}
+
+/// A renamed polygon mesh is one, with as many sides; used vertices and edges of the first are so there by their other numbers.
+pub fn renamed_mesh_is_a_mesh()
+    ensures valid { (there back : ℕ → ℕ) (mesh other : FaceList) → IsRenamed there back mesh other → IsFaceList mesh
+        → IsFaceList other }
+    ensures sides { (there back : ℕ → ℕ) (mesh other : FaceList) → IsRenamed there back mesh other
+        → total_sides other ≡ total_sides mesh }
+    ensures used { (there back : ℕ → ℕ) (mesh other : FaceList) (v : ℕ) → IsRenamed there back mesh other
+        → IsTrue (is_used mesh v) → IsTrue (is_used other (there v)) }
+    ensures edge { (there back : ℕ → ℕ) (mesh other : FaceList) (u v : ℕ) → IsRenamed there back mesh other
+        → IsTrue (is_edge mesh u v) → IsTrue (is_edge other (there u) (there v)) }
+{}
