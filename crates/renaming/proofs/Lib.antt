@@ -1,1 +1,2 @@
 pub mod RenamedSides
+pub mod RenamedWalks

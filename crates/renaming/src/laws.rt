@@ -1,7 +1,8 @@
 //! What goes over to a mesh whose vertices have other numbers, said of the definitions. A call of one of these functions does nothing;
 //! its contract is the law.
-ghost use Rattle.std.specs.Prelude.{◌≡◌, ℕ, IsTrue};
+ghost use Rattle.std.specs.Prelude.{◌≡◌, ℕ, List, map, IsTrue};
 ghost use Rattle.surf_model.specs.FaceLists.{FaceList, IsFaceList, total_sides, is_edge, is_used};
+ghost use Rattle.surf_model.specs.Walks.{IsWalk};
 ghost use Rattle.renaming.specs.Renamings.{IsRenamed};
 
 /// A renaming leads back: the first mesh is the other one, renamed by `back`. So what goes over by the laws here goes back by them too.
@@ -20,4 +21,12 @@ pub fn renamed_mesh_is_a_mesh()
         → IsTrue (is_used mesh v) → IsTrue (is_used other (there v)) }
     ensures edge { (there back : ℕ → ℕ) (mesh other : FaceList) (u v : ℕ) → IsRenamed there back mesh other
         → IsTrue (is_edge mesh u v) → IsTrue (is_edge other (there u) (there v)) }
+{}
+
+/// A renamed walk is a walk of the renamed mesh, and renamed by `back` it is the walk again.
+pub fn renamed_walks_are_walks()
+    ensures walk { (there back : ℕ → ℕ) (mesh other : FaceList) (walk : List ℕ) → IsRenamed there back mesh other
+        → IsWalk mesh walk → IsWalk other (map there walk) }
+    ensures restored { (there back : ℕ → ℕ) (mesh other : FaceList) (walk : List ℕ) → IsRenamed there back mesh other
+        → IsWalk mesh walk → map back (map there walk) ≡ walk }
 {}
