@@ -1,2 +1,3 @@
 pub mod RenamedSides
 pub mod RenamedWalks
+pub mod RenamedMoves

@@ -1,9 +1,11 @@
 //! What goes over to a mesh whose vertices have other numbers, said of the definitions. A call of one of these functions does nothing;
 //! its contract is the law.
-ghost use Rattle.std.specs.Prelude.{◌≡◌, ℕ, List, map, IsTrue};
+ghost use Rattle.std.specs.Prelude.{◌≡◌, ◌<◌, ◌↔◌, ℕ, List, length, map, IsTrue};
 ghost use Rattle.surf_model.specs.FaceLists.{FaceList, IsFaceList, total_sides, is_edge, is_used};
 ghost use Rattle.surf_model.specs.Walks.{IsWalk};
-ghost use Rattle.renaming.specs.Renamings.{IsRenamed};
+ghost use Rattle.surf_model.specs.Moves.{Leads, Homotopic, greatest_darts};
+ghost use Rattle.surf_model.specs.declared.moves.Move.{Move};
+ghost use Rattle.renaming.specs.Renamings.{IsRenamed, renamed_move};
 
 /// A renaming leads back: the first mesh is the other one, renamed by `back`. So what goes over by the laws here goes back by them too.
 pub fn renaming_leads_back()
@@ -29,4 +31,21 @@ pub fn renamed_walks_are_walks()
         → IsWalk mesh walk → IsWalk other (map there walk) }
     ensures restored { (there back : ℕ → ℕ) (mesh other : FaceList) (walk : List ℕ) → IsRenamed there back mesh other
         → IsWalk mesh walk → map back (map there walk) ≡ walk }
+{}
+
+/// A list of moves that leads from a walk to another leads, renamed, from the renamed walk to the renamed other, and passes as many darts.
+pub fn renamed_moves_lead()
+    ensures leads { (there back : ℕ → ℕ) (mesh other : FaceList) (moves : List Move) (first second : List ℕ)
+        → IsRenamed there back mesh other → 0 < length first → Leads mesh first moves second
+        → Leads other (map there first) (map (renamed_move there) moves) (map there second) }
+    ensures darts { (there back : ℕ → ℕ) (mesh other : FaceList) (moves : List Move) (first second : List ℕ)
+        → IsRenamed there back mesh other → 0 < length first → Leads mesh first moves second
+        → greatest_darts other (map there first) (map (renamed_move there) moves) ≡ greatest_darts mesh first moves }
+{}
+
+/// Walks are homotopic exactly where the renamed walks are.
+pub fn homotopy_of_renamed_walks()
+    ensures { (there back : ℕ → ℕ) (mesh other : FaceList) (first second : List ℕ) → IsFaceList mesh
+        → IsRenamed there back mesh other → IsWalk mesh first → IsWalk mesh second
+        → Homotopic mesh first second ↔ Homotopic other (map there first) (map there second) }
 {}
