@@ -1,9 +1,11 @@
 //! What goes over to a mesh whose vertices have other numbers, said of the definitions. A call of one of these functions does nothing;
 //! its contract is the law.
-ghost use Rattle.std.specs.Prelude.{◌≡◌, ◌<◌, ◌↔◌, ℕ, List, length, map, IsTrue};
+ghost use Rattle.std.specs.Prelude.{◌≡◌, ◌<◌, ◌↔◌, ℕ, Bool, List, length, map, IsTrue};
 ghost use Rattle.surf_model.specs.FaceLists.{FaceList, IsFaceList, total_sides, is_edge, is_used};
 ghost use Rattle.surf_model.specs.Walks.{IsWalk};
 ghost use Rattle.surf_model.specs.Moves.{Leads, Homotopic, greatest_darts};
+ghost use Rattle.surf_model.specs.Surfaces.{IsClosed, IsClosedManifold, IsCoherent};
+ghost use Rattle.surf_model.specs.Components.{EachTwoAreJoined};
 ghost use Rattle.surf_model.specs.declared.moves.Move.{Move};
 ghost use Rattle.renaming.specs.Renamings.{IsRenamed, renamed_move};
 
@@ -48,4 +50,16 @@ pub fn homotopy_of_renamed_walks()
     ensures { (there back : ℕ → ℕ) (mesh other : FaceList) (first second : List ℕ) → IsFaceList mesh
         → IsRenamed there back mesh other → IsWalk mesh first → IsWalk mesh second
         → Homotopic mesh first second ↔ Homotopic other (map there first) (map there second) }
+{}
+
+/// A renamed closed manifold is one, a connected mesh stays connected, and coherent signs stay coherent: a face keeps its sign.
+pub fn renamed_surfaces_are_surfaces()
+    ensures manifold { (there back : ℕ → ℕ) (mesh other : FaceList) → IsFaceList mesh → IsRenamed there back mesh other
+        → IsClosedManifold mesh → IsClosedManifold other }
+    ensures closed { (there back : ℕ → ℕ) (mesh other : FaceList) → IsFaceList mesh → IsRenamed there back mesh other
+        → IsClosed mesh → IsClosed other }
+    ensures connected { (there back : ℕ → ℕ) (mesh other : FaceList) → IsFaceList mesh → IsRenamed there back mesh other
+        → EachTwoAreJoined mesh → EachTwoAreJoined other }
+    ensures coherent { (there back : ℕ → ℕ) (mesh other : FaceList) (signs : List Bool) → IsFaceList mesh
+        → IsRenamed there back mesh other → IsCoherent mesh signs → IsCoherent other signs }
 {}
