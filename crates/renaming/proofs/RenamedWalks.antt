@@ -1,10 +1,10 @@
 -- Walks of a renamed mesh.
-use Rattle.std.proofs.Common.{◌≡◌, ℕ, ◌+◌, ◌-◌, ◌<◌, List, map, get_or, ap, ◌∙◌, subst, arith}
+use Rattle.std.proofs.Common.{◌≡◌, ℕ, ◌+◌, ◌-◌, ◌<◌, List, length, map, get_or, ap, sym, ◌∙◌, subst, arith}
 use Rattle.std.specs.Prelude.{IsTrue}
 use Rattle.std.proofs.lemmas.List.{length-map, get_or-map}
 use Rattle.std.proofs.lemmas.List.Elements.{All-weaker, All-map}
 use Rattle.surf_model.specs.FaceLists.{FaceList, IsFaceList, is_used}
-use Rattle.surf_model.specs.Walks.{IsWalk, darts}
+use Rattle.surf_model.specs.Walks.{IsWalk, HaveCommonEnds, darts}
 use Rattle.surf_model.specs.Surfaces.{IsWalkBetween, AreJoinedByWalk}
 use Rattle.surf_model.specs.Components.{EachTwoAreJoined}
 use Rattle.renaming.specs.Renamings.{IsRenamed}
@@ -34,6 +34,18 @@ restored there back mesh other walk h w =
     list_restored there back walk
     (All-weaker (λ v. IsTrue (is_used mesh v)) (λ v. back (there v) ≡ v) h.leads_back walk w.used)
 
+last_renamed : (there : ℕ → ℕ) (walk : List ℕ) → 0 < length walk
+    → get_or (map there walk) (darts (map there walk)) 0 ≡ there (get_or walk (darts walk) 0)
+last_renamed there walk some =
+    ap (λ k. get_or (map there walk) k 0) (darts_renamed there walk) ∙ get_or-map there walk (darts walk) 0 0 (omega arith)
+
+pub ends_renamed : (there : ℕ → ℕ) (first second : List ℕ) → 0 < length first → 0 < length second → HaveCommonEnds first second
+    → HaveCommonEnds (map there first) (map there second)
+ends_renamed there first second some others ends = record {
+  starts = get_or-map there first 0 0 0 some ∙ ap there ends.starts ∙ sym (get_or-map there second 0 0 0 others);
+  ends = last_renamed there first some ∙ ap there ends.ends ∙ sym (last_renamed there second others);
+}
+
 between_renamed : (there back : ℕ → ℕ) (mesh other : FaceList) (u v : ℕ) → IsRenamed there back mesh other → AreJoinedByWalk mesh u v
     → AreJoinedByWalk other (there u) (there v)
 between_renamed there back mesh other u v h joined =
@@ -43,8 +55,7 @@ between_renamed there back mesh other u v h joined =
       record {
         walk_of = walk_renamed there back mesh other walk h between.walk_of;
         starts = get_or-map there walk 0 0 0 between.walk_of.starts ∙ ap there between.starts;
-        ends = ap (λ k. get_or (map there walk) k 0) (darts_renamed there walk)
-            ∙ get_or-map there walk (darts walk) 0 0 (omega (arith, between.walk_of.starts)) ∙ ap there between.ends;
+        ends = last_renamed there walk between.walk_of.starts ∙ ap there between.ends;
       },
     )
 

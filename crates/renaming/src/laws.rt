@@ -2,7 +2,7 @@
 //! its contract is the law.
 ghost use Rattle.std.specs.Prelude.{◌≡◌, ◌<◌, ◌↔◌, ℕ, Bool, List, length, map, IsTrue};
 ghost use Rattle.surf_model.specs.FaceLists.{FaceList, IsFaceList, total_sides, is_edge, is_used};
-ghost use Rattle.surf_model.specs.Walks.{IsWalk};
+ghost use Rattle.surf_model.specs.Walks.{IsWalk, HaveCommonEnds};
 ghost use Rattle.surf_model.specs.Moves.{Leads, Homotopic, greatest_darts};
 ghost use Rattle.surf_model.specs.Surfaces.{IsClosed, IsClosedManifold, IsCoherent};
 ghost use Rattle.surf_model.specs.Components.{EachTwoAreJoined};
@@ -27,12 +27,14 @@ pub fn renamed_mesh_is_a_mesh()
         → IsTrue (is_edge mesh u v) → IsTrue (is_edge other (there u) (there v)) }
 {}
 
-/// A renamed walk is a walk of the renamed mesh, and renamed by `back` it is the walk again.
+/// A renamed walk is a walk of the renamed mesh, and renamed by `back` it is the walk again. Common ends stay common.
 pub fn renamed_walks_are_walks()
     ensures walk { (there back : ℕ → ℕ) (mesh other : FaceList) (walk : List ℕ) → IsRenamed there back mesh other
         → IsWalk mesh walk → IsWalk other (map there walk) }
     ensures restored { (there back : ℕ → ℕ) (mesh other : FaceList) (walk : List ℕ) → IsRenamed there back mesh other
         → IsWalk mesh walk → map back (map there walk) ≡ walk }
+    ensures ends { (there : ℕ → ℕ) (first second : List ℕ) → 0 < length first → 0 < length second → HaveCommonEnds first second
+        → HaveCommonEnds (map there first) (map there second) }
 {}
 
 /// A list of moves that leads from a walk to another leads, renamed, from the renamed walk to the renamed other, and passes as many darts.
