@@ -2,3 +2,4 @@ pub mod RenamedSides
 pub mod RenamedWalks
 pub mod RenamedMoves
 pub mod RenamedSurfaces
+pub mod RenamingExamples

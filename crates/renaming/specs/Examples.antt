@@ -7,13 +7,13 @@ use Rattle.surf_model.specs.Moves.{apply}
 use Rattle.renaming.specs.Renamings.{renamed_move}
 
 -- the tetrahedron on the vertices 3, 5, 7 and 9
-abbrev odd_tetrahedron : FaceList
+abbrev pub odd_tetrahedron : FaceList
 odd_tetrahedron = record { count = 10; faces = (3 ∷ 5 ∷ 7 ∷ []) ∷ (3 ∷ 9 ∷ 5 ∷ []) ∷ (3 ∷ 7 ∷ 9 ∷ []) ∷ (5 ∷ 9 ∷ 7 ∷ []) ∷ [] }
 
-abbrev there : ℕ → ℕ
+abbrev pub there : ℕ → ℕ
 there v = 2 * v + 3
 
-abbrev back : ℕ → ℕ
+abbrev pub back : ℕ → ℕ
 back v = (v - 3) / 2
 
 same_faces : odd_tetrahedron.faces ≡ map (map there) tetrahedron.faces

@@ -1,7 +1,7 @@
 //! A mesh whose vertices have other numbers is the same mesh: its walks, moves, homotopy, signs and conditions go over.
 //!
-//! It is a matter of definitions, on any mesh. So an answer about a mesh may be sought on one that is numbered anew, as a part of it
-//! whose own vertices alone are counted.
+//! It is a matter of definitions, on any mesh. So what is asked of a mesh can be answered on one with other numbers, such as that of a
+//! component whose own vertices alone are counted.
 //!
 //! docs/definitions/MESHES.md tells what a renamed mesh is.
 #![tactic(auto)]
