@@ -1,0 +1,4 @@
+pub mod OwnLemmas
+pub mod ComponentLemmas
+pub mod OwnSurfaces
+pub mod AnswerLemmas

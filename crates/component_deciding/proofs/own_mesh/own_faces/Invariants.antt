@@ -1,0 +1,9 @@
+use Rattle.std.proofs.Common.{◌≡◌, take}
+use Rattle.manifold_check.specs.ComponentParts.{component_mesh}
+use Rattle.component_deciding.specs.OwnVertices.{own_mesh}
+use Rattle.component_deciding.proofs.own_mesh.own_faces.Given as goal
+
+abbrev pub invariant-loop-face : goal.invariant-loop-face
+invariant-loop-face l =
+    let whole = own_mesh (component_mesh l.surface.faces.now l.surface.parts.now l.place) in
+    l.alone ≡ record { count = whole.count; faces = take l.face whole.faces }

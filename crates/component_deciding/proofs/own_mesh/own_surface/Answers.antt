@@ -1,0 +1,31 @@
+use Rattle.std.proofs.Common.{sym, subst, arith}
+use Rattle.surf_model.specs.FaceLists.{FaceList}
+use Rattle.surf_model.specs.Components.{EachTwoAreJoined}
+use Rattle.surf_model.specs.Surfaces.{IsClosedManifold, IsCoherent}
+use Rattle.manifold_check.proofs.PartPieces.{names_within}
+use Rattle.component_deciding.proofs.OwnSurfaces.{own_closed, own_joined, own_coherent}
+use Rattle.component_deciding.proofs.own_mesh.own_surface.Goals as goal
+
+pub signs-requires-clause-signs : goal.signs-requires-clause-signs
+signs-requires-clause-signs c = λ t d l.
+    let within = names_within c.args.surface.now.faces.now c.args.surface.now.parts.now c.args.place c.requires.surface.parts c.requires.place t d l in
+    omega (arith, within, c.requires.surface.coherent.each_face)
+
+pub build-requires-2-clause-closed : goal.build-requires-2-clause-closed
+build-requires-2-clause-closed c =
+    subst IsClosedManifold (sym c.in_ok-faces.ensures)
+    (own_closed c.args.surface.now.faces.now c.args.surface.now.parts.now c.args.own.now c.args.place
+    (record { parts_are = c.requires.surface.parts; numbers_are = c.requires.own; within = c.requires.place }) c.requires.surface.manifold)
+
+pub build-requires-2-clause-connected : goal.build-requires-2-clause-connected
+build-requires-2-clause-connected c =
+    subst EachTwoAreJoined (sym c.in_ok-faces.ensures)
+    (own_joined c.args.surface.now.faces.now c.args.surface.now.parts.now c.args.own.now c.args.place
+    (record { parts_are = c.requires.surface.parts; numbers_are = c.requires.own; within = c.requires.place }) c.requires.surface.manifold)
+
+pub build-requires-2-clause-coherent : goal.build-requires-2-clause-coherent
+build-requires-2-clause-coherent c =
+    subst (λ (m : FaceList). IsCoherent m c.in_ok-signs.signs) (sym c.in_ok-faces.ensures)
+    (rw c.in_ok-signs.ensures (own_coherent c.args.surface.now.faces.now c.args.surface.now.parts.now c.args.own.now
+    c.args.surface.now.signs.now c.args.place
+    (record { parts_are = c.requires.surface.parts; numbers_are = c.requires.own; within = c.requires.place }) c.requires.surface.coherent))

@@ -1,0 +1,4 @@
+pub mod AskedPairs
+pub mod OwnVertices
+pub mod Orders
+pub mod Asking

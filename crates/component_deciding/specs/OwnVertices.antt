@@ -1,0 +1,29 @@
+-- A mesh over the vertices that it uses, and the numbers of vertices in their components.
+use Rattle.std.specs.Prelude.{◌≡◌, ℕ, ◌<◌, List, length, map, filter, slice_index, IsTrue}
+use Rattle.std.specs.List.{range_with_len}
+use Rattle.surf_model.specs.FaceLists.{FaceList, IsFaceList, HasFileSize, is_used}
+use Rattle.manifold_check.specs.ComponentNumbers.{used_number}
+use Rattle.manifold_check.specs.ComponentParts.{PartsView, component_mesh}
+use Rattle.component_deciding.specs.declared.own_numbers.OwnNumbers.{OwnNumbers}
+
+-- the number of a vertex among those that a mesh uses: how many of them come before it
+unfoldable pub own_number : FaceList → ℕ → ℕ
+own_number mesh v = length (filter (is_used mesh) (range_with_len 0 v))
+
+-- a walk by these numbers
+abbrev pub own_walk : FaceList → List ℕ → List ℕ
+own_walk mesh walk = map (own_number mesh) walk
+
+-- the mesh over the vertices that it uses, by these numbers
+abbrev pub own_mesh : FaceList → FaceList
+own_mesh mesh = record { count = used_number mesh; faces = map (own_walk mesh) mesh.faces }
+
+-- for each used vertex its number in its component, and for each component how many vertices it has
+pub record AreOwnNumbers (mesh : FaceList) (parts : PartsView) (own : OwnNumbers) : Type 0 where
+  pub valid : IsFaceList mesh
+  pub small : HasFileSize mesh
+  pub each_vertex : length own.numbers.items ≡ mesh.count
+  pub each_component : length own.counts.items ≡ length parts.components
+  pub numbered : (v : ℕ) → IsTrue (is_used mesh v)
+      → slice_index own.numbers.items v ≡ own_number (component_mesh mesh parts (slice_index parts.places v)) v
+  pub counted : (k : ℕ) → k < length parts.components → slice_index own.counts.items k ≡ used_number (component_mesh mesh parts k)
