@@ -1,137 +1,86 @@
--- Pairs of walks by the components in which they lie.
-use Rattle.std.proofs.Common.{◌≡◌, ◌↔◌, ℕ, ◌+◌, ◌<◌, ◌≤◌, true, List, [], ◌∷◌, ◌++◌, length, get_or, refl, sym, ap, subst, ◌∙◌, inl, inr, arith}
-use Rattle.std.proofs.Math.Seq.{get_or-append_seam}
-use Rattle.std.proofs.lemmas.Bool.{cases_lt}
-use Rattle.std.proofs.lemmas.List.{get_or_append_left, length_push}
+-- What is asked of a surface of several components, and the answers that decisions make.
+use Rattle.std.proofs.Common.{◌≡◌, ℕ, zero, suc, ◌<◌, true, List, [], ◌∷◌, length, get_or, refl, sym, subst, arith}
+use Rattle.std.specs.Prelude.{All, IfOk, Result, Ok, Err}
 use Rattle.std.proofs.lemmas.List.Elements.{All-get_or}
 use Rattle.surf_model.specs.FaceLists.{FaceList, IsFace, IsFaceList, face_at, is_used}
 use Rattle.surf_model.specs.Moves as moves
-use Rattle.surf_model.proofs.EdgeLemmas.{corner_used, used_below}
-use Rattle.manifold_check.specs.ComponentParts.{PartsView, AreParts, component_at, component_mesh}
-use Rattle.manifold_check.proofs.PartPieces.{IsOfComponent, piece_of_parts, walk_alone}
-use Rattle.manifold_check.proofs.PieceMoves.{homotopic_alike}
-use Rattle.homotopy_arrays.specs.CheckedPairs.{IsAnswerTo, IsPairOf, place_of}
+use Rattle.surf_model.specs.Walks.{IsWalk, AreWalkPair}
+use Rattle.surf_model.proofs.EdgeLemmas.{corner_used}
+use Rattle.walk_translate.specs.declared.deciding.Answer.{Answer}
+use Rattle.walk_translate.specs.declared.deciding.Answer.TheVariants as decided
+use Rattle.component_deciding.specs.AskedPairs.{IsAnswerOn, IsPairOn}
+use Rattle.component_deciding.specs.declared.asked.AskedPair.{AskedPair}
+use Rattle.homotopy_arrays.specs.AskedPairs.{IsAnswerFor, IsAskedFor}
+use Rattle.homotopy_arrays.specs.CheckedPairs.{IsAnswerTo, IsPairOf}
 use Rattle.homotopy_arrays.specs.Pairs.{AreWalks, IsAnswer}
 use Rattle.homotopy_arrays.specs.declared.decide.PairAnswer.{PairAnswer}
-use Rattle.homotopy_arrays.specs.declared.decide.PairAnswer.TheVariants as answers
 use Rattle.homotopy_arrays.specs.declared.pair.Checked.{Checked}
 use Rattle.homotopy_arrays.specs.declared.pair.Checked.TheVariants.{Pair, Faulty}
 
--- ---- the place of a pair
-
-pub some_component : (mesh : FaceList) (parts : PartsView) → IsFaceList mesh → AreParts mesh parts → 0 < length mesh.faces
-    → 0 < length parts.components
-some_component mesh parts valid are some =
+-- a mesh with a face uses the first corner of the first one
+pub first_corner_used : (mesh : FaceList) → IsFaceList mesh → 0 < length mesh.faces
+    → (0 < length (face_at mesh 0)) × (is_used mesh (get_or (face_at mesh 0) 0 0) ≡ true)
+first_corner_used mesh valid some =
     let face : IsFace mesh.count (face_at mesh 0) = All-get_or (IsFace mesh.count) mesh.faces 0 [] some valid.faces in
-    let used : is_used mesh (get_or (face_at mesh 0) 0 0) ≡ true = corner_used mesh 0 0 some (omega (arith, face.polygon)) in
-    omega (arith, are.places.below (get_or (face_at mesh 0) 0 0) used)
+    (omega (arith, face.polygon), corner_used mesh 0 0 some (omega (arith, face.polygon)))
 
--- the first vertex of a pair is used
-first_used : (mesh : FaceList) (first second : List ℕ) → AreWalks mesh first second → is_used mesh (get_or first 0 0) ≡ true
-first_used mesh first second are = are.first_walk.used 0 0 are.first_walk.starts
-
--- the first walk of a pair
-pub first_is : (walks : List (List ℕ)) (first second : List ℕ) → walks ≡ first ∷ second ∷ [] → get_or walks 0 [] ≡ first
-first_is walks first second is = ap (λ (w : List (List ℕ)). get_or w 0 []) is
-
-pub place_within : (mesh : FaceList) (parts : PartsView) (walks : List (List ℕ)) (first second : List ℕ) → IsFaceList mesh
-    → AreParts mesh parts → AreWalks mesh first second → walks ≡ first ∷ second ∷ []
-    → get_or (get_or walks 0 []) 0 0 < length parts.places
-place_within mesh parts walks first second valid are pair is =
-    let below : get_or first 0 0 < mesh.count = used_below mesh (get_or first 0 0) valid (first_used mesh first second pair) in
-    omega (arith, below, are.places.each_vertex, ap (λ (w : List ℕ). get_or w 0 0) (first_is walks first second is))
-
-pub place_there : (mesh : FaceList) (parts : PartsView) (pair : Checked) → IsFaceList mesh → AreParts mesh parts
-    → 0 < length mesh.faces → IsPairOf mesh pair → place_of parts pair < length parts.components
-place_there mesh parts (Pair list) valid are some (first, second, pair, is) =
-    subst (λ (w : List ℕ). get_or parts.places (get_or w 0 0) 0 < length parts.components)
-    (sym (first_is list.walks first second is))
-    (are.places.below (get_or first 0 0) (first_used mesh first second pair))
-place_there mesh parts (Faulty fault) valid are some h = some_component mesh parts valid are some
-
--- so many places are those of the first pairs
-pub record AreAtTo (parts : PartsView) (checked : List Checked) (many : ℕ) (places : List ℕ) : Type 0 where
-  pub each : length places ≡ many
-  pub there : (k : ℕ) → k < length places → get_or places k 0 < length parts.components
-  pub place : (k : ℕ) (d : Checked) → k < length places → get_or places k 0 ≡ place_of parts (get_or checked k d)
-
-pub no_places : (parts : PartsView) (checked : List Checked) → AreAtTo parts checked 0 []
-no_places parts checked =
-    record { each = refl; there = λ k below. absurd (omega (arith, below)); place = λ k d below. absurd (omega (arith, below)) }
-
-pub more_places : (parts : PartsView) (checked : List Checked) (many place : ℕ) (places : List ℕ) → place < length parts.components
-    → ((d : Checked) → place ≡ place_of parts (get_or checked many d)) → AreAtTo parts checked many places
-    → AreAtTo parts checked (many + 1) (places ++ place ∷ [])
-more_places parts checked many place places within is h =
-    record { each = omega (arith, length_push places place, h.each); there = there; place = at }
+-- at a used vertex a walk may stand still
+pub still_walk : (mesh : FaceList) (v : ℕ) (walk : List ℕ) → is_used mesh v ≡ true → walk ≡ v ∷ [] → IsWalk mesh walk
+still_walk mesh v walk used is = subst (IsWalk mesh) (sym is) (record {
+  starts = omega arith;
+  used = at_start;
+  edges = λ k l. absurd (omega (arith, l));
+})
   where
-    last : (k : ℕ) → length places ≤ k → k < length (places ++ place ∷ []) → (k ≡ many) × (get_or (places ++ place ∷ []) k 0 ≡ place)
-    last k past below =
-        let here : k ≡ length places = omega (arith, past, below, length_push places place) in
-        (here ∙ h.each, ap (λ (n : ℕ). get_or (places ++ place ∷ []) n 0) here ∙ get_or-append_seam places place [] 0)
+    at_start : All (λ u. is_used mesh u ≡ true) (v ∷ [])
+    at_start zero d l = used
+    at_start (suc k) d l = absurd (omega (arith, l))
 
-    there : (k : ℕ) → k < length (places ++ place ∷ []) → get_or (places ++ place ∷ []) k 0 < length parts.components
-    there k below = elim (cases_lt k (length places)) [
-      | inl before ↦
-          subst (λ (n : ℕ). n < length parts.components) (sym (get_or_append_left places (place ∷ []) 0 k before)) (h.there k before)
-      | inr past ↦ subst (λ (n : ℕ). n < length parts.components) (sym (last k past below).1) within
-    ]
+twice : (mesh : FaceList) (walk : List ℕ) → IsWalk mesh walk → AreWalkPair mesh walk walk
+twice mesh walk is = record { first_walk = is; second_walk = is; ends = record { starts = refl; ends = refl } }
 
-    at : (k : ℕ) (d : Checked) → k < length (places ++ place ∷ [])
-        → get_or (places ++ place ∷ []) k 0 ≡ place_of parts (get_or checked k d)
-    at k d below = elim (cases_lt k (length places)) [
-      | inl before ↦ get_or_append_left places (place ∷ []) 0 k before ∙ h.place k d before
-      | inr past ↦ (last k past below).1 ∙ is d ∙ ap (λ (n : ℕ). place_of parts (get_or checked n d)) (sym (last k past below).0)
-    ]
+-- two walks of a list of two
+both_walks : (mesh : FaceList) (walks : List (List ℕ)) (a b first second : List ℕ) → AreWalks mesh first second
+    → walks ≡ first ∷ second ∷ [] → walks ≡ a ∷ b ∷ [] → AreWalks mesh a b
+both_walks mesh walks a b first second are is asked =
+    let one : first ≡ a = cc in
+    let other : second ≡ b = cc in
+    subst (λ (w : List ℕ). AreWalks mesh w b) one (subst (AreWalks mesh first) other are)
 
--- ---- on a component
+-- what is asked are two walks of the mesh with common ends
+pub asked_on : (mesh : FaceList) (still : List ℕ) (checked : Checked) (pair : AskedPair) → IsWalk mesh still → IsPairOf mesh checked
+    → IsAskedFor still checked pair → IsPairOn mesh pair
+asked_on mesh still (Pair list) pair stands (first, second, are, is) asked =
+    let walks = both_walks mesh list.walks pair.first.now pair.second.now first second are is asked in
+    record { first_walk = walks.first_walk; second_walk = walks.second_walk; ends = walks.ends }
+asked_on mesh still (Faulty fault) pair stands h asked =
+    subst (λ (w : List ℕ). AreWalkPair mesh w pair.second.now) (sym asked.0)
+    (subst (AreWalkPair mesh still) (sym asked.1) (twice mesh still stands))
 
--- two walks of the mesh are two walks of the component in which the first starts
-walks_there : (mesh : FaceList) (parts : PartsView) (part : ℕ) (first second : List ℕ) → AreParts mesh parts
-    → part < length parts.components → get_or parts.places (get_or first 0 0) 0 ≡ part → AreWalks mesh first second
-    → AreWalks (component_mesh mesh parts part) first second
-walks_there mesh parts part first second are within here pair =
-    record {
-      first_walk = walk_alone mesh parts part first are within pair.first_walk here;
-      second_walk = walk_alone mesh parts part second are within pair.second_walk
-          (ap (λ (v : ℕ). get_or parts.places v 0) (sym pair.ends.starts) ∙ here);
-      ends = pair.ends;
-      few = pair.few;
-    }
+-- the answer of a decision that is right is the one on the pair
+pub answer_right : (mesh : FaceList) (still : List ℕ) (checked : Checked) (pair : AskedPair) (decision : Answer) (answer : PairAnswer)
+    → IsAskedFor still checked pair → IsAnswerOn mesh pair decision → IsAnswerFor checked decision answer → IsAnswerTo mesh checked answer
+answer_right mesh still (Pair list) pair decided.Homotopic answer asked right is = λ first second are walks.
+    let one : pair.first.now ≡ first = cc in
+    let other : pair.second.now ≡ second = cc in
+    let leads : moves.Homotopic mesh first second =
+    subst (λ (w : List ℕ). moves.Homotopic mesh w second) one (subst (moves.Homotopic mesh pair.first.now) other (right.0 refl)) in
+    subst (IsAnswer mesh first second) (sym is) (are, leads)
+answer_right mesh still (Pair list) pair decided.Different answer asked right is = λ first second are walks.
+    let one : pair.first.now ≡ first = cc in
+    let other : pair.second.now ≡ second = cc in
+    let none : moves.Homotopic mesh first second → ⊥ = λ leads.
+    (let wrong = right.1 (subst (λ (w : List ℕ). moves.Homotopic mesh w pair.second.now) (sym one)
+    (subst (moves.Homotopic mesh first) (sym other) leads)) in cc) in
+    subst (IsAnswer mesh first second) (sym is) (are, none)
+answer_right mesh still (Faulty fault) pair decision answer asked right is = is
 
-pub pair_there : (mesh : FaceList) (parts : PartsView) (part : ℕ) (pair : Checked) → AreParts mesh parts
-    → part < length parts.components → place_of parts pair ≡ part → IsPairOf mesh pair → IsPairOf (component_mesh mesh parts part) pair
-pair_there mesh parts part (Pair list) are within here (first, second, pair, is) =
-    let start : get_or parts.places (get_or first 0 0) 0 ≡ part =
-    ap (λ (w : List ℕ). get_or parts.places (get_or w 0 0) 0) (sym (first_is list.walks first second is)) ∙ here in
-    (first, second, walks_there mesh parts part first second are within start pair, is)
-pair_there mesh parts part (Faulty fault) are within here h = tt
+-- both that hold of what is there
+pub both_ok : {X Y : Type 0} (r : Result X Y) (P Q R : X → Type 0) → ((x : X) → P x → Q x → R x) → IfOk r P → IfOk r Q → IfOk r R
+both_ok (Ok x) P Q R f p q = f x p q
+both_ok (Err e) P Q R f p q = p
 
-homotopic_there : (mesh : FaceList) (parts : PartsView) (part : ℕ) (first second : List ℕ) → AreParts mesh parts
-    → part < length parts.components → get_or parts.places (get_or first 0 0) 0 ≡ part → AreWalks mesh first second
-    → moves.Homotopic mesh first second ↔ moves.Homotopic (component_mesh mesh parts part) first second
-homotopic_there mesh parts part first second are within here pair =
-    homotopic_alike mesh (IsOfComponent parts.places part) (component_at parts part) first second
-    (piece_of_parts mesh parts part are within) pair.first_walk here
-
-answer_whole : (mesh : FaceList) (parts : PartsView) (part : ℕ) (first second : List ℕ) (answer : PairAnswer) → AreParts mesh parts
-    → part < length parts.components → get_or parts.places (get_or first 0 0) 0 ≡ part → AreWalks mesh first second
-    → IsAnswer (component_mesh mesh parts part) first second answer → IsAnswer mesh first second answer
-answer_whole mesh parts part first second answers.Homotopic are within here pair h =
-    (pair, (homotopic_there mesh parts part first second are within here pair).1 h.1)
-answer_whole mesh parts part first second answers.Different are within here pair h =
-    (pair, λ same. h.1 ((homotopic_there mesh parts part first second are within here pair).0 same))
-answer_whole mesh parts part first second (answers.Faulty fault) are within here pair h =
-    absurd (h.1 (walks_there mesh parts part first second are within here pair))
-
--- the answer on the component is the answer on the mesh
-pub answer_there : (mesh : FaceList) (parts : PartsView) (part : ℕ) (pair : Checked) (answer : PairAnswer) → AreParts mesh parts
-    → part < length parts.components → place_of parts pair ≡ part → IsAnswerTo (component_mesh mesh parts part) pair answer
-    → IsAnswerTo mesh pair answer
-answer_there mesh parts part (Pair list) answer are within here h =
-    λ first second pair is.
-    let start : get_or parts.places (get_or first 0 0) 0 ≡ part =
-    ap (λ (w : List ℕ). get_or parts.places (get_or w 0 0) 0) (sym (first_is list.walks first second is)) ∙ here in
-    answer_whole mesh parts part first second answer are within start pair
-    (h first second (walks_there mesh parts part first second are within start pair) is)
-answer_there mesh parts part (Faulty fault) answer are within here h = h
+-- some element of a list that has one
+pub some_of : {A : Type 0} (xs : List A) (k : ℕ) → k < length xs → A
+some_of [] k l = absurd (omega (arith, l))
+some_of (x ∷ xs) k l = x

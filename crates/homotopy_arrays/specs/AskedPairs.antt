@@ -1,28 +1,20 @@
--- What is asked of a surface of several components, and what is answered so far.
-use Rattle.std.specs.Prelude.{◌≡◌, ◌≢◌, ℕ, ◌<◌, List, length, slice_index, slice_index_or, All}
-use Rattle.surf_model.specs.FaceLists.{FaceList}
-use Rattle.manifold_check.specs.ComponentParts.{AreParts}
-use Rattle.commands.specs.ClosedSurfaces.{IsSigned}
-use Rattle.homotopy_arrays.specs.CheckedPairs.{AreAt, IsAnswerTo, IsPairOf}
-use Rattle.homotopy_arrays.specs.declared.by_parts.Asked.{Asked}
+-- What is asked of a surface of several components for each pair, and the answer that a decision makes.
+use Rattle.std.specs.Prelude.{◌≡◌, ℕ, List, [], ◌∷◌}
+use Rattle.walk_translate.specs.declared.deciding.Answer.{Answer}
+use Rattle.walk_translate.specs.declared.deciding.Answer.TheVariants as decided
+use Rattle.component_deciding.specs.declared.asked.AskedPair.{AskedPair}
 use Rattle.homotopy_arrays.specs.declared.decide.PairAnswer.{PairAnswer}
+use Rattle.homotopy_arrays.specs.declared.decide.PairAnswer.TheVariants.{Homotopic, Different, Faulty}
 use Rattle.homotopy_arrays.specs.declared.pair.Checked.{Checked}
+use Rattle.homotopy_arrays.specs.declared.pair.Checked.TheVariants as checked
 
--- the mesh is a signed surface, the parts are its components, and the pairs were compared with it
-pub record IsAsked (asked : Asked) : Type 0 where
-  pub signed : IsSigned asked.surface.now
-  pub parts : AreParts asked.surface.now.faces asked.parts.now
-  pub pairs : All (IsPairOf asked.surface.now.faces) asked.checked.now
-  pub places : AreAt asked.parts.now asked.checked.now asked.places.now
+-- its two walks; of a faulty pair a walk that stands still, twice
+abbrev pub IsAskedFor : (still : List ℕ) → Checked → AskedPair → Type 0
+IsAskedFor still (checked.Pair list) pair = list.walks ≡ pair.first.now ∷ pair.second.now ∷ []
+IsAskedFor still (checked.Faulty fault) pair = (pair.first.now ≡ still) × (pair.second.now ≡ still)
 
--- the pairs of one component have their answers on a mesh
-abbrev pub AreAnsweredAt : Asked → FaceList → (place : ℕ) → List PairAnswer → Type 0
-AreAnsweredAt asked mesh place given =
-    (k : ℕ) (d : Checked) (e : PairAnswer) → k < length asked.checked.now → slice_index asked.places.now k ≡ place
-    → IsAnswerTo mesh (slice_index_or asked.checked.now k d) (slice_index_or given k e)
-
--- the pairs of the other components have the same answers as before
-abbrev pub AreSameElsewhere : Asked → (place : ℕ) → (old new : List PairAnswer) → Type 0
-AreSameElsewhere asked place old new =
-    (k : ℕ) (e : PairAnswer) → k < length asked.checked.now → slice_index asked.places.now k ≢ place
-    → slice_index_or new k e ≡ slice_index_or old k e
+-- the decision as an answer; of a faulty pair its fault
+abbrev pub IsAnswerFor : Checked → Answer → PairAnswer → Type 0
+IsAnswerFor (checked.Pair list) decided.Homotopic answer = answer ≡ Homotopic
+IsAnswerFor (checked.Pair list) decided.Different answer = answer ≡ Different
+IsAnswerFor (checked.Faulty fault) decision answer = answer ≡ Faulty fault

@@ -1,7 +1,6 @@
 -- Pairs of walks that were compared with a mesh, and the answers on them.
-use Rattle.std.specs.Prelude.{◌≡◌, ℕ, ◌+◌, ◌*◌, ◌<◌, List, [], ◌∷◌, length, slice_index, slice_index_or, Some, ⊤}
+use Rattle.std.specs.Prelude.{◌≡◌, ℕ, ◌+◌, ◌*◌, ◌<◌, List, [], ◌∷◌, length, slice_index_or, Some, ⊤}
 use Rattle.surf_model.specs.FaceLists.{FaceList}
-use Rattle.manifold_check.specs.ComponentParts.{PartsView}
 use Rattle.homotopy_arrays.specs.Pairs.{AreWalks, IsAnswer, walks_fault, walk_at}
 use Rattle.homotopy_arrays.specs.declared.decide.PairAnswer.{PairAnswer}
 use Rattle.homotopy_arrays.specs.declared.decide.PairAnswer.TheVariants as answers
@@ -35,16 +34,3 @@ pub record AreAnswersTo (mesh : FaceList) (checked : List Checked) (given : List
   pub each : length given ≡ length checked
   pub answer : (k : ℕ) (d : Checked) (e : PairAnswer) → k < length checked
       → IsAnswerTo mesh (slice_index_or checked k d) (slice_index_or given k e)
-
--- ---- by components
-
--- the place of the component of the first walk's first vertex; the first place where the walks are faulty
-abbrev pub place_of : PartsView → Checked → ℕ
-place_of parts (Pair list) = slice_index parts.places (slice_index (slice_index_or list.walks 0 []) 0)
-place_of parts (Faulty fault) = 0
-
--- for each the place of its component
-pub record AreAt (parts : PartsView) (checked : List Checked) (places : List ℕ) : Type 0 where
-  pub each : length places ≡ length checked
-  pub there : (k : ℕ) → k < length places → slice_index places k < length parts.components
-  pub place : (k : ℕ) (d : Checked) → k < length places → slice_index places k ≡ place_of parts (slice_index_or checked k d)

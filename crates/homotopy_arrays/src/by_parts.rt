@@ -1,26 +1,19 @@
-//! Answers on a surface of several components, one component after another.
-ghost use Rattle.std.specs.Prelude.{◌≡◌, ◌<◌, All, length, slice_index_or, true, false, IfOk, OnOk};
+//! Answers on a surface of several components.
+ghost use Rattle.std.specs.Prelude.{◌≡◌, ◌<◌, ℕ, All, length, slice_index_or, IfOk};
 ghost use Rattle.commands.specs.ClosedSurfaces.{IsSigned};
-ghost use Rattle.manifold_check.specs.ComponentParts.{AreParts, component_mesh};
-ghost use Rattle.homotopy_arrays.specs.AskedPairs.{AreAnsweredAt, AreSameElsewhere, IsAsked};
-ghost use Rattle.homotopy_arrays.specs.CheckedPairs.{AreAnswersTo, AreAt, IsPairOf, place_of};
+ghost use Rattle.surf_model.specs.FaceLists.{FaceList};
+ghost use Rattle.manifold_check.specs.ComponentParts.{AreParts};
+ghost use Rattle.homotopy_arrays.specs.AskedPairs.{IsAnswerFor, IsAskedFor};
+ghost use Rattle.homotopy_arrays.specs.CheckedPairs.{AreAnswersTo, IsPairOf};
 
-use crate::decide::{PairAnswer, answer_on};
+use crate::decide::PairAnswer;
 use crate::pair::Checked;
 use commands::SignedMesh;
-use commands::component::surface_alone;
+use component_deciding::{AskedPair, SignedParts, decide_by_components};
 use manifold_check::Parts;
 use std::alloc::{AllocError, Global};
-use walk_translate::Decider;
-
-/// What is asked of a surface of several components: pairs that were compared with it, and for each the place of its component.
-#[derive(Clone, Copy)]
-struct Asked<'a> {
-    surface: &'a SignedMesh,
-    parts: &'a Parts,
-    checked: &'a [Checked],
-    places: &'a [u32],
-}
+use surf_model::{FaceName, Walk};
+use walk_translate::Answer;
 
 /// The answer on each pair. A component is labelled where a pair lies in it, and none is labelled twice.
 pub(crate) fn answer_by_parts(
@@ -34,118 +27,78 @@ pub(crate) fn answer_by_parts(
     requires pairs { All (IsPairOf surface.now.faces) checked.now }
     ensures { IfOk result (λ answers. AreAnswersTo surface.now.faces checked.now answers.items) }
 {
-    let places = places_of(alloc, surface, parts, checked)?;
-    let asked = Asked {
-        surface,
+    let still = Walk::new(alloc, surface.faces.corner(FaceName(0), 0))?;
+    let pairs = asked_pairs(alloc, checked, &still)?;
+    let signed = SignedParts {
+        faces: &surface.faces,
+        sides: &surface.sides,
+        signs: &surface.signs,
         parts,
-        checked,
-        places: &places,
     };
-    answer_asked(alloc, &asked)
+    let decided = decide_by_components(alloc, &signed, &pairs)?;
+    answers_for(alloc, checked, &decided)
 }
 
-/// The answer on each pair, component after component.
-fn answer_asked(alloc: Global, asked: &Asked<'_>) -> Result<Vec<PairAnswer>, AllocError>
-    requires { IsAsked asked.now }
-    ensures { IfOk result (λ answers. AreAnswersTo asked.now.surface.now.faces asked.now.checked.now answers.items) }
+/// For each pair what is asked. In place of a faulty one, whose answer is its fault, it is asked of a walk that stands still.
+fn asked_pairs<'a>(
+    alloc: Global,
+    checked: &'a [Checked],
+    still: &'a Walk,
+) -> Result<Vec<AskedPair<'a>>, AllocError>
+    requires { (mesh : FaceList) × All (IsPairOf mesh) checked.now }
+    ensures each { IfOk result (λ pairs. length pairs.items ≡ length checked.now) }
+    ensures asked { IfOk result (λ pairs. (k : ℕ) (d : Checked) (e : AskedPair) → k < length checked.now
+        → IsAskedFor still.now (slice_index_or checked.now k d) (slice_index_or pairs.items k e)) }
 {
-    let wanted = wanted_places(alloc, asked.parts.len(), asked.places)?;
-    let mut answers = vec![in alloc; PairAnswer::Different; asked.checked.len()]?;
-    for place in 0..asked.parts.len() {
-        if wanted[place as usize] {
-            answer_part(alloc, asked, place, &mut answers)?;
-        }
+    let mut pairs = Vec::with_capacity(alloc, checked.len())?;
+    for k in 0..checked.len() {
+        pairs.push(asked_pair(&checked[k], still))?;
+    }
+    Ok(pairs)
+}
+
+/// What is asked of a pair.
+fn asked_pair<'a>(pair: &'a Checked, still: &'a Walk) -> AskedPair<'a>
+    requires { (mesh : FaceList) × IsPairOf mesh pair.now }
+    ensures { IsAskedFor still.now pair.now result }
+{
+    match pair {
+        Checked::Pair(list) => AskedPair {
+            first: list.at(0),
+            second: list.at(1),
+        },
+        Checked::Faulty(_) => AskedPair {
+            first: still,
+            second: still,
+        },
+    }
+}
+
+/// For each pair its answer, from what was decided.
+fn answers_for(
+    alloc: Global,
+    checked: &[Checked],
+    decided: &[Answer],
+) -> Result<Vec<PairAnswer>, AllocError>
+    requires { length decided.now ≡ length checked.now }
+    ensures each { IfOk result (λ answers. length answers.items ≡ length checked.now) }
+    ensures answers { IfOk result (λ answers. (k : ℕ) (d : Checked) (e : PairAnswer) (f : Answer) → k < length checked.now
+        → IsAnswerFor (slice_index_or checked.now k d) (slice_index_or decided.now k f) (slice_index_or answers.items k e)) }
+{
+    let mut answers = Vec::with_capacity(alloc, checked.len())?;
+    for k in 0..checked.len() {
+        answers.push(answer_for(&checked[k], decided[k]))?;
     }
     Ok(answers)
 }
 
-/// Answers the pairs of one component, which is labelled for them; its memory is given back.
-fn answer_part(
-    alloc: Global,
-    asked: &Asked<'_>,
-    place: u32,
-    answers: &mut Vec<PairAnswer>,
-) -> Result<(), AllocError>
-    requires asked { IsAsked asked.now }
-    requires place { place < length asked.now.parts.now.components }
-    requires each { length answers.old.items ≡ length asked.now.checked.now }
-    ensures each { length answers.new.items ≡ length answers.old.items }
-    ensures there { OnOk result (AreAnsweredAt asked.now asked.now.surface.now.faces place answers.new.items) }
-    ensures elsewhere { OnOk result (AreSameElsewhere asked.now place answers.old.items answers.new.items) }
+/// The answer on a pair of which this was decided; a faulty one keeps its fault.
+fn answer_for(pair: &Checked, decided: Answer) -> PairAnswer
+    ensures { IsAnswerFor pair.now decided result }
 {
-    let alone = surface_alone(alloc, asked.surface, asked.parts, place)?;
-    let decider = Decider::start(alloc, alone)?;
-    let answered = answer_there(&decider, asked, place, answers);
-    // By a call, which is proved once, and not here again.
-    drop(decider);
-    answered
-}
-
-/// Answers the pairs of the component that a decider has.
-fn answer_there(
-    decider: &Decider,
-    asked: &Asked<'_>,
-    place: u32,
-    answers: &mut Vec<PairAnswer>,
-) -> Result<(), AllocError>
-    requires asked { IsAsked asked.now }
-    requires place { place < length asked.now.parts.now.components }
-    requires there { decider.now ≡ component_mesh asked.now.surface.now.faces asked.now.parts.now place }
-    requires each { length answers.old.items ≡ length asked.now.checked.now }
-    ensures each { length answers.new.items ≡ length answers.old.items }
-    ensures there { OnOk result (AreAnsweredAt asked.now decider.now place answers.new.items) }
-    ensures elsewhere { OnOk result (AreSameElsewhere asked.now place answers.old.items answers.new.items) }
-{
-    for k in 0..asked.places.len() {
-        if asked.places[k] == place {
-            answers[k] = answer_on(decider, &asked.checked[k])?;
-        }
+    match (pair, decided) {
+        (Checked::Faulty(fault), _) => PairAnswer::Faulty(*fault),
+        (Checked::Pair(_), Answer::Homotopic) => PairAnswer::Homotopic,
+        (Checked::Pair(_), Answer::Different) => PairAnswer::Different,
     }
-    Ok(())
-}
-
-/// For each pair the place of its component.
-fn places_of(
-    alloc: Global,
-    surface: &SignedMesh,
-    parts: &Parts,
-    checked: &[Checked],
-) -> Result<Vec<u32>, AllocError>
-    requires signed { IsSigned surface.now }
-    requires parts { AreParts surface.now.faces parts.now }
-    requires pairs { All (IsPairOf surface.now.faces) checked.now }
-    ensures { IfOk result (λ places. AreAt parts.now checked.now places.items) }
-{
-    let mut places = Vec::with_capacity(alloc, checked.len())?;
-    for k in 0..checked.len() {
-        places.push(place_of(surface, parts, &checked[k]))?;
-    }
-    Ok(places)
-}
-
-/// The place of the component of a pair; the first where the pair is faulty.
-fn place_of(surface: &SignedMesh, parts: &Parts, pair: &Checked) -> u32
-    requires signed { IsSigned surface.now }
-    requires parts { AreParts surface.now.faces parts.now }
-    requires pair { IsPairOf surface.now.faces pair.now }
-    ensures place { result ≡ place_of parts.now pair.now }
-    ensures there { result < length parts.now.components }
-{
-    match pair {
-        Checked::Pair(list) => parts.part_of(list.at(0).at(0)),
-        Checked::Faulty(_) => 0,
-    }
-}
-
-/// For each of `count` components whether a pair lies in it.
-fn wanted_places(alloc: Global, count: u32, places: &[u32]) -> Result<Vec<bool>, AllocError>
-    requires { All (λ place. place < count) places.now }
-    ensures each { IfOk result (λ wanted. length wanted.items ≡ count) }
-    ensures wanted { IfOk result (λ wanted. All (λ place. slice_index_or wanted.items place false ≡ true) places.now) }
-{
-    let mut wanted = vec![in alloc; false; count as usize]?;
-    for place in places {
-        wanted[*place as usize] = true;
-    }
-    Ok(wanted)
 }

@@ -1,6 +1,5 @@
 //! Whether walks that lie in arrays are homotopic, pair by pair.
 ghost use Rattle.std.specs.Prelude.{IfOk, IsTrue};
-ghost use Rattle.homotopy_arrays.specs.CheckedPairs.{IsAnswerTo, IsPairOf};
 ghost use Rattle.homotopy_arrays.specs.Decisions.{AreDecided, IsDecideFault};
 ghost use Rattle.homotopy_arrays.specs.MeshArrays.{mesh_in};
 ghost use Rattle.homotopy_arrays.specs.Pairs.{AreAnswers, are_pairs};
@@ -12,13 +11,12 @@ use crate::by_parts::answer_by_parts;
 use crate::connected::answer_connected;
 use crate::fault::Fault;
 use crate::mesh::MeshArrays;
-use crate::pair::{Checked, WalkFault, are_pairs, check_pairs};
+use crate::pair::{WalkFault, are_pairs, check_pairs};
 use crate::surface::surface_of_arrays;
 use commands::SignedMesh;
 use commands::component::connected;
 use manifold_check::Parts;
 use std::alloc::{AllocError, Global};
-use walk_translate::{Answer, Decider};
 
 /// What is answered of a pair of walks.
 #[derive(Clone, Copy, Debug, PartialEq, Eq)]
@@ -89,18 +87,4 @@ fn answer_apart(
     // By a call, which is proved once, and not here again.
     drop(checked);
     Ok(answers?)
-}
-
-/// The answer on a pair, on a connected surface.
-pub(crate) fn answer_on(decider: &Decider, pair: &Checked) -> Result<PairAnswer, AllocError>
-    requires { IsPairOf decider.now pair.now }
-    ensures { IfOk result (IsAnswerTo decider.now pair.now) }
-{
-    match pair {
-        Checked::Pair(list) => match decider.answer(list.at(0), list.at(1))? {
-            Answer::Homotopic => Ok(PairAnswer::Homotopic),
-            Answer::Different => Ok(PairAnswer::Different),
-        },
-        Checked::Faulty(fault) => Ok(PairAnswer::Faulty(*fault)),
-    }
 }

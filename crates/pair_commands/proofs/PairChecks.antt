@@ -1,6 +1,6 @@
 -- How the check of pairs of walks ends.
 use Rattle.std.proofs.Common.{◌≡◌, inl, inr, ℕ, List, refl}
-use Rattle.std.specs.Prelude.{Option, None, Result, Ok, Err}
+use Rattle.std.specs.Prelude.{Option, None, Result}
 use Rattle.surf_io.specs.Files.{Files}
 use Rattle.surf_model.specs.FaceLists.{FaceList}
 use Rattle.walk_files.specs.PairLists.{WalkPair, ArePairs, in_pairs, pairs_fault}
@@ -14,7 +14,7 @@ use Rattle.commands.proofs.WalkInputs.{was_read}
 use Rattle.commands.specs.Checks.{Check, Refuse, Passes, Holds, IsTold, file, meant, ◌>>=◌}
 use Rattle.commands.specs.Inputs.{text_in}
 use Rattle.commands.specs.Refusals.{numbers_line}
-use Rattle.commands.specs.Stops.{Ends, Stops}
+use Rattle.commands.specs.Stops.{Stops}
 use Rattle.commands.specs.declared.refusal.Input.TheVariants as inputs
 use Rattle.commands.specs.declared.stop.Stop.{Stop}
 use Rattle.commands.specs.declared.stop.Stop.TheVariants.{Refused, ReadFault, OutOfMemory}

@@ -28,7 +28,7 @@ abbrev pair_of : (a b : List ℕ) → Option WalkPair
 pair_of a b = Some (record { first = a; second = b })
 
 -- pair k has the walks 2 k and 2 k + 1
-pair_at : (walks : List (List ℕ)) (k : ℕ) (a b : List ℕ) → slice_get walks (2 * k) ≡ Some a → slice_get walks (2 * k + 1) ≡ Some b
+pub pair_at : (walks : List (List ℕ)) (k : ℕ) (a b : List ℕ) → slice_get walks (2 * k) ≡ Some a → slice_get walks (2 * k + 1) ≡ Some b
     → slice_get (in_pairs walks) k ≡ Some (record { first = a; second = b })
 pair_at [] zero a b e f = cc
 pair_at [] (suc k) a b e f = cc
@@ -48,12 +48,19 @@ pair_at (x ∷ y ∷ walks) (suc k) a b e f =
     (subst (λ n. slice_get (x ∷ y ∷ walks) n ≡ Some b) last f)
 
 -- there are half as many
-few_pairs : (walks : List (List ℕ)) (k : ℕ) → length walks ≤ 2 * k + 1 → length (in_pairs walks) ≤ k
+pub few_pairs : (walks : List (List ℕ)) (k : ℕ) → length walks ≤ 2 * k + 1 → length (in_pairs walks) ≤ k
 few_pairs [] k few = omega arith
 few_pairs (x ∷ []) k few = omega arith
 few_pairs (x ∷ y ∷ walks) zero few = absurd (omega (arith, few))
 few_pairs (x ∷ y ∷ walks) (suc k) few =
     let rest : length (in_pairs walks) ≤ k = few_pairs walks k (omega (arith, few)) in omega (arith, rest)
+
+pub many_pairs : (walks : List (List ℕ)) (k : ℕ) → 2 * k + 1 < length walks → k < length (in_pairs walks)
+many_pairs [] k many = absurd (omega (arith, many))
+many_pairs (x ∷ []) k many = absurd (omega (arith, many))
+many_pairs (x ∷ y ∷ walks) zero many = omega arith
+many_pairs (x ∷ y ∷ walks) (suc k) many =
+    let rest : k < length (in_pairs walks) = many_pairs walks k (omega (arith, many)) in omega (arith, rest)
 
 pub all_at : {A : Type 0} (P : A → Type 0) (xs : List A) (k : ℕ) (x : A) → All P xs → slice_get xs k ≡ Some x → P x
 all_at P [] k x all e = cc
@@ -70,6 +77,30 @@ walks_at mesh text k a b pairs e f =
       ends = all_at (λ (pair : WalkPair). HaveCommonEnds pair.first pair.second) (in_pairs text.walks) k
           (record { first = a; second = b }) pairs.ends (pair_at text.walks k a b e f);
     }
+
+-- each pair is one of walks of the mesh with common ends
+abbrev IsPairOf : FaceList → WalkPair → Type 0
+IsPairOf mesh pair = AreWalkPair mesh pair.first pair.second
+
+each_pair : (mesh : FaceList) (walks : List (List ℕ)) → All (IsWalk mesh) walks
+    → All (λ (pair : WalkPair). HaveCommonEnds pair.first pair.second) (in_pairs walks) → All (IsPairOf mesh) (in_pairs walks)
+each_pair mesh [] walk ends = All-nil (IsPairOf mesh)
+each_pair mesh (x ∷ []) walk ends = All-nil (IsPairOf mesh)
+each_pair mesh (x ∷ y ∷ walks) walk ends =
+    let two : WalkPair = record { first = x; second = y } in
+    let later = All-tail (IsWalk mesh) x (y ∷ walks) walk in
+    All-cons (IsPairOf mesh) two (in_pairs walks)
+    (record {
+      first_walk = All-head (IsWalk mesh) x (y ∷ walks) walk;
+      second_walk = All-head (IsWalk mesh) y walks later;
+      ends = All-head (λ (pair : WalkPair). HaveCommonEnds pair.first pair.second) two (in_pairs walks) ends;
+    })
+    (each_pair mesh walks (All-tail (IsWalk mesh) y walks later)
+    (All-tail (λ (pair : WalkPair). HaveCommonEnds pair.first pair.second) two (in_pairs walks) ends))
+
+pub pairs_are_walks : (mesh : FaceList) (text : WalkText) → ArePairs mesh text
+    → All (λ (pair : WalkPair). AreWalkPair mesh pair.first pair.second) (in_pairs text.walks)
+pairs_are_walks mesh text are = each_pair mesh text.walks are.walks are.ends
 
 -- ---- walks that come in pairs
 

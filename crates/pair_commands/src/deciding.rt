@@ -1,17 +1,17 @@
 //! Deciding on many pairs of walks of a surface, of one component or of several.
-ghost use Rattle.std.specs.Prelude.{◌≡◌, ◌+◌, ◌*◌, ◌<◌, length, Err, IfOk, OnOk, MatchOption, MatchResult};
-ghost use Rattle.manifold_check.specs.ComponentParts.{AreParts, component_mesh};
+ghost use Rattle.std.specs.Prelude.{◌≡◌, length, Err, IfOk, MatchOption, MatchResult};
+ghost use Rattle.manifold_check.specs.ComponentParts.{AreParts};
 ghost use Rattle.walk_files.specs.PairLists.{ArePairs, are_paired, in_pairs};
 ghost use Rattle.commands.specs.ClosedSurfaces.{IsSigned};
 ghost use Rattle.commands.specs.Stops.{Stops};
-ghost use Rattle.pair_commands.specs.Asked.{AreDecisionsSoFar, IsAsked, LiesIn};
+ghost use Rattle.pair_commands.specs.Asked.{walk_pairs};
 ghost use Rattle.pair_commands.specs.Decide.{AreDecisions, ArePairsDecided};
 ghost use Rattle.pair_commands.specs.PairInput.{come_in_pairs};
 
-use crate::asked::Asked;
 use crate::pair_input::check_list;
 use commands::component::connected;
 use commands::{SignedMesh, Stop};
+use component_deciding::{AskedPair, SignedParts, decide_by_components};
 use halfedge_map::Surface;
 use manifold_check::Parts;
 use std::alloc::{AllocError, Global};
@@ -54,8 +54,7 @@ fn decide_apart(
     ensures no_fault { result ≡ Err Stop.ReadFault → ⊥ }
 {
     check_list(&mesh.sides, walks)?;
-    let asked = Asked { mesh, parts, walks };
-    Ok(decide_in_several(alloc, &asked)?)
+    Ok(decide_in_several(alloc, mesh, parts, walks)?)
 }
 
 /// The decisions on the walks of a connected surface, pair by pair, or what is first wrong with the walks.
@@ -135,62 +134,38 @@ fn are_paired(walks: &WalkList) -> bool
 }
 
 /// The decisions on the pairs of walks of a surface of several components.
-fn decide_in_several(alloc: Global, asked: &Asked<'_>) -> Result<Vec<Answer>, AllocError>
-    requires { IsAsked asked.now }
-    ensures { IfOk result (λ decisions. AreDecisions asked.now.mesh.now.faces (in_pairs asked.now.walks.now.walks) decisions.items) }
-{
-    let count = asked.count() as usize;
-    let mut decisions = Vec::with_capacity(alloc, count)?;
-    'runs: while decisions.len() < count {
-        decide_run(alloc, asked, &mut decisions)?;
-    }
-    Ok(decisions)
-}
-
-/// Puts the decisions on the pairs that come next, as long as they lie in one component, behind those on the pairs before them. The
-/// component is labelled once for them, and its memory given back.
-fn decide_run(
+fn decide_in_several(
     alloc: Global,
-    asked: &Asked<'_>,
-    decisions: &mut Vec<Answer>,
-) -> Result<(), AllocError>
-    requires asked { IsAsked asked.now }
-    requires first { AreDecisionsSoFar asked.now decisions.old.items }
-    requires next { 2 * length decisions.old.items + 1 < length asked.now.walks.now.walks }
-    ensures first { OnOk result (AreDecisionsSoFar asked.now decisions.new.items) }
-    ensures more { OnOk result (length decisions.old.items < length decisions.new.items) }
+    mesh: &SignedMesh,
+    parts: &Parts,
+    walks: &WalkList,
+) -> Result<Vec<Answer>, AllocError>
+    requires signed { IsSigned mesh.now }
+    requires parts { AreParts mesh.now.faces parts.now }
+    requires pairs { ArePairs mesh.now.faces walks.now }
+    ensures { IfOk result (λ decisions. AreDecisions mesh.now.faces (in_pairs walks.now.walks) decisions.items) }
 {
-    let place = asked.place_of(decisions.len() as u64);
-    let decider = asked.decider_at(alloc, place)?;
-    let ended = decide_there(asked, &decider, place, decisions);
-    drop(decider);
-    ended
+    let pairs = asked_pairs(alloc, walks)?;
+    let surface = SignedParts {
+        faces: &mesh.faces,
+        sides: &mesh.sides,
+        signs: &mesh.signs,
+        parts,
+    };
+    decide_by_components(alloc, &surface, &pairs)
 }
 
-/// Puts the decisions on the pairs that come next, as long as they lie in the component of a decider, behind those on the pairs before
-/// them.
-fn decide_there(
-    asked: &Asked<'_>,
-    decider: &Decider,
-    place: u32,
-    decisions: &mut Vec<Answer>,
-) -> Result<(), AllocError>
-    requires asked { IsAsked asked.now }
-    requires place { place < length asked.now.parts.now.components }
-    requires there { decider.now ≡ component_mesh asked.now.mesh.now.faces asked.now.parts.now place }
-    requires first { AreDecisionsSoFar asked.now decisions.old.items }
-    requires next { 2 * length decisions.old.items + 1 < length asked.now.walks.now.walks }
-    requires next_there { LiesIn asked.now (length decisions.old.items) place }
-    ensures first { OnOk result (AreDecisionsSoFar asked.now decisions.new.items) }
-    ensures more { OnOk result (length decisions.old.items < length decisions.new.items) }
+/// The pairs that the walks come in.
+fn asked_pairs<'a>(alloc: Global, walks: &'a WalkList) -> Result<Vec<AskedPair<'a>>, AllocError>
+    ensures { IfOk result (λ pairs. walk_pairs pairs.items ≡ in_pairs walks.now.walks) }
 {
-    let start = decisions.len() as u64;
-    for k in start..asked.count() {
-        if asked.place_of(k) != place {
-            return Ok(());
-        }
-        let decision = decider.answer(asked.walks.at(2 * k), asked.walks.at(2 * k + 1))?;
-        decisions.push(decision)?;
+    let count = walks.len() / 2;
+    let mut pairs = Vec::with_capacity(alloc, count as usize)?;
+    for k in 0..count {
+        pairs.push(AskedPair {
+            first: walks.at(2 * k),
+            second: walks.at(2 * k + 1),
+        })?;
     }
-    Ok(())
+    Ok(pairs)
 }

@@ -1,6 +1,5 @@
-use Rattle.std.proofs.Common.{◌≡◌, ℕ, ◌+◌, ◌*◌, ◌<◌, true, List, length, get_or, sym, subst, ◌∙◌, inl}
+use Rattle.std.proofs.Common.{◌≡◌, ℕ, true, List, sym, ◌∙◌, inl}
 use Rattle.std.proofs.lemmas.Result.{err_from_is_err_and}
-use Rattle.homotopy_arrays.specs.CheckedPairs.{AreAnswersTo, IsPairOf}
 use Rattle.homotopy_arrays.specs.Decisions.{IsDecideFault}
 use Rattle.homotopy_arrays.specs.MeshArrays.{mesh_in}
 use Rattle.homotopy_arrays.specs.Pairs.{are_pairs}

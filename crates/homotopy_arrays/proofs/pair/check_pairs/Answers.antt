@@ -1,8 +1,6 @@
-use Rattle.std.proofs.Common.{◌+◌, ◌-◌, ◌*◌, ◌<◌, ◌%◌, true, eqb, List, ℕ, length, take, drop, get_or, sum, sym, ap, subst, arith}
-use Rattle.std.proofs.lemmas.Bool.{and_parts, eqb-true}
+use Rattle.std.proofs.Common.{List, ℕ, length, sym, ap, subst, arith}
 use Rattle.std.proofs.lemmas.List.{length_push}
-use Rattle.homotopy_arrays.specs.CheckedPairs.{AreChecked, IsChecked}
-use Rattle.homotopy_arrays.specs.Pairs.{walk_at}
+use Rattle.homotopy_arrays.specs.CheckedPairs.{AreChecked}
 use Rattle.homotopy_arrays.specs.declared.pair.Checked.{Checked}
 use Rattle.homotopy_arrays.proofs.PairLemmas.{more_checked}
 use Rattle.homotopy_arrays.proofs.pair.check_pairs.Goals as goal
