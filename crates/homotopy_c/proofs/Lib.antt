@@ -1,1 +1,4 @@
 pub mod RoomLemmas
+pub mod CodeLemmas
+pub mod TellingLemmas
+pub mod ShowingLemmas

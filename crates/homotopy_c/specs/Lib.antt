@@ -2,3 +2,4 @@ pub mod Outcomes
 pub mod Told
 pub mod Judged
 pub mod Certified
+pub mod Meanings

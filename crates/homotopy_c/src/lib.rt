@@ -8,6 +8,7 @@
 mod certify;
 pub mod codes;
 mod decide;
+pub mod laws;
 pub mod outcome;
 mod room;
 pub mod surface;

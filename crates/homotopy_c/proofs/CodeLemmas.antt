@@ -1,0 +1,70 @@
+-- What is told of a fault is no answer.
+use Rattle.std.proofs.Common.{◌≡◌, ◌≢◌, ◌<◌, ℕ, true, false, sym, ◌∙◌, arith}
+use Rattle.walk_files.specs.declared.fault.CertFault.TheVariants as certificates
+use Rattle.walk_files.specs.declared.fault.CertFault.{CertFault}
+use Rattle.walk_files.specs.declared.pair.PairFault.TheVariants.{NotTwo, NoVertex, NoEdge, EndsDiffer}
+use Rattle.homotopy_arrays.specs.declared.certify.CertifyFault.{CertifyFault}
+use Rattle.homotopy_arrays.specs.declared.certify.CertifyFault.TheVariants as certify
+use Rattle.homotopy_arrays.specs.declared.fault.Fault.{Fault}
+use Rattle.homotopy_arrays.specs.declared.fault.Fault.TheVariants as faults
+use Rattle.homotopy_arrays.specs.declared.pair.WalkFault.{WalkFault}
+use Rattle.homotopy_arrays.specs.declared.pair.WalkFault.TheVariants.{Empty, Long, Pair}
+use Rattle.homotopy_arrays.specs.declared.verify.VerifyFault.{VerifyFault}
+use Rattle.homotopy_arrays.specs.declared.verify.VerifyFault.TheVariants as verify
+use Rattle.homotopy_c.specs.Certified.{told_certify}
+use Rattle.homotopy_c.specs.Judged.{told_certificate, told_verify}
+use Rattle.homotopy_c.specs.Outcomes.{told, told_walks, walk_code}
+use Rattle.homotopy_c.specs.declared.codes.TheConstants as codes
+
+-- the codes of answers are at most that of acceptance, and those of faults are greater
+pub fault_code : (fault : Fault) → codes.ACCEPTED < (told fault).code
+fault_code faults.ManyVertices = omega arith
+fault_code faults.CornerCount = omega arith
+fault_code faults.ManySides = omega arith
+fault_code (faults.FewCorners face) = omega arith
+fault_code (faults.NoVertex face) = omega arith
+fault_code (faults.EqualNeighbours face) = omega arith
+fault_code faults.NoFace = omega arith
+fault_code (faults.EdgeSides low high sides) = omega arith
+fault_code (faults.Pinched vertex) = omega arith
+fault_code faults.NotOrientable = omega arith
+fault_code faults.WalkCount = omega arith
+fault_code faults.OutOfMemory = omega arith
+
+pub byte_code : (fault : WalkFault) → codes.ACCEPTED < walk_code fault
+byte_code (Empty walk) = omega arith
+byte_code (Long walk) = omega arith
+byte_code (Pair (NotTwo count)) = omega arith
+byte_code (Pair (NoVertex walk place)) = omega arith
+byte_code (Pair (NoEdge walk place)) = omega arith
+byte_code (Pair (EndsDiffer true)) = omega arith
+byte_code (Pair (EndsDiffer false)) = omega arith
+
+pub walks_code : (fault : WalkFault) → codes.ACCEPTED < (told_walks fault).code
+walks_code (Empty walk) = omega arith
+walks_code (Long walk) = omega arith
+walks_code (Pair (NotTwo count)) = omega arith
+walks_code (Pair (NoVertex walk place)) = omega arith
+walks_code (Pair (NoEdge walk place)) = omega arith
+walks_code (Pair (EndsDiffer true)) = omega arith
+walks_code (Pair (EndsDiffer false)) = omega arith
+
+pub certify_code : (fault : CertifyFault) → codes.ACCEPTED < (told_certify fault).code
+certify_code (certify.Mesh fault) = fault_code fault
+certify_code (certify.Walks fault) = walks_code fault
+certify_code (certify.Sides sides) = omega arith
+certify_code (certify.Darts darts) = omega arith
+
+pub certificate_code : (fault : CertFault) → codes.ACCEPTED < (told_certificate fault).code
+certificate_code certificates.NoHead = omega arith
+certificate_code (certificates.Bad line) = omega arith
+certificate_code (certificates.Ended line) = omega arith
+certificate_code (certificates.Extra line) = omega arith
+certificate_code (certificates.Peak line) = omega arith
+certificate_code certificates.OutOfMemory = omega arith
+
+pub verify_code : (fault : VerifyFault) → codes.ACCEPTED < (told_verify fault).code
+verify_code (verify.Mesh fault) = fault_code fault
+verify_code (verify.Walks fault) = walks_code fault
+verify_code verify.Long = omega arith
+verify_code (verify.Certificate fault) = certificate_code fault

@@ -1,0 +1,78 @@
+//! What the calls tell, said of their definitions. A call of one of these functions does nothing; its contract is the law. Each of
+//! `homotopy_surface`, `homotopy_decide`, `homotopy_certify` and `homotopy_verify` ensures the record that its law takes as a premise;
+//! `Ok mesh` there says that the arrays are a mesh.
+ghost use Rattle.std.specs.Prelude.{◌≡◌, ◌≢◌, ◌⊎◌, ◌↔◌, ◌*◌, ◌+◌, ◌/◌, ◌<◌, ◌≤◌, ℕ, List, length, take, slice_index, IsTrue, Ok};
+ghost use Rattle.surf_model.specs.FaceLists.{FaceList, IsFaceList, HasFileSize};
+ghost use Rattle.commands.specs.ClosedSurfaces.{IsOrientableSurface};
+ghost use Rattle.commands.specs.Inputs.{SpellsCertificate};
+ghost use Rattle.commands.specs.declared.certificate.Certificate.{Certificate};
+ghost use Rattle.commands.specs.declared.inputs.TheConstants.{MOST_BYTES};
+ghost use Rattle.homotopy_arrays.specs.Pairs.{AreWalks, walk_at};
+ghost use Rattle.homotopy_c.specs.Certified.{IsCertifyCall};
+ghost use Rattle.homotopy_c.specs.Judged.{IsVerifyCall};
+ghost use Rattle.homotopy_c.specs.Meanings.{DoesAnswer, DoesMeasure, IsAccepted, ShowsDifferent, ShowsHomotopic, are_distinct, all_codes};
+ghost use Rattle.homotopy_c.specs.Told.{IsDecideCall, IsSurfaceTold};
+ghost use Rattle.homotopy_c.specs.declared.codes.TheConstants as codes;
+ghost use Rattle.homotopy_c.specs.declared.outcome.Outcome.{Outcome};
+ghost use Rattle.homotopy_c.specs.declared.surface.SurfaceNumbers.{SurfaceNumbers};
+
+/// No two codes are one number.
+pub fn codes_differ()
+    ensures { IsTrue (are_distinct all_codes) }
+{}
+
+/// `homotopy_surface` answers of orientable closed surfaces alone, with their numbers and genera; where it does not answer, no genus is
+/// written.
+pub fn surface_tells_the_numbers()
+    ensures answers { (mesh : FaceList) (before numbers : SurfaceNumbers) (old genera : List ℕ) (outcome : Outcome)
+        → IsSurfaceTold (Ok mesh) before numbers old genera outcome → outcome.code ≡ codes.DONE → DoesMeasure mesh numbers old genera }
+    ensures else_nothing { (mesh : FaceList) (before numbers : SurfaceNumbers) (old genera : List ℕ) (outcome : Outcome)
+        → IsSurfaceTold (Ok mesh) before numbers old genera outcome → outcome.code ≢ codes.DONE → genera ≡ old }
+{}
+
+/// `homotopy_decide` answers of orientable closed surfaces alone. The byte of a pair is `HOMOTOPIC` exactly where it is two walks of the
+/// surface with common ends of which some list of moves leads from the first to the second, and `DIFFERENT` exactly where it is such walks
+/// and none does; where it does not answer, nothing is written.
+pub fn decide_tells_what_is_homotopic()
+    ensures answers { (mesh : FaceList) (sizes vertices old answers : List ℕ) (outcome : Outcome)
+        → IsDecideCall (Ok mesh) sizes vertices old answers outcome → outcome.code ≡ codes.DONE
+        → IsOrientableSurface mesh × ((k : ℕ) → k < length sizes / 2
+        → DoesAnswer mesh (walk_at sizes vertices (2 * k)) (walk_at sizes vertices (2 * k + 1)) (slice_index answers k)) }
+    ensures else_nothing { (mesh : FaceList) (sizes vertices old answers : List ℕ) (outcome : Outcome)
+        → IsDecideCall (Ok mesh) sizes vertices old answers outcome → outcome.code ≢ codes.DONE → answers ≡ old }
+{}
+
+/// `homotopy_certify` tells `HOMOTOPIC` where some list of moves leads from the first walk to the second, `DIFFERENT` where none does, and
+/// writes a text that shows it; where it does not answer, nothing is written.
+pub fn certify_shows_what_is_homotopic()
+    ensures homotopic { (mesh : FaceList) (first second old text : List ℕ) (outcome : Outcome)
+        → IsCertifyCall (Ok mesh) first second old text outcome → outcome.code ≡ codes.HOMOTOPIC
+        → ShowsHomotopic mesh first second old text outcome }
+    ensures different { (mesh : FaceList) (first second old text : List ℕ) (outcome : Outcome)
+        → IsCertifyCall (Ok mesh) first second old text outcome → outcome.code ≡ codes.DIFFERENT
+        → ShowsDifferent mesh first second old text outcome }
+    ensures else_nothing { (mesh : FaceList) (first second old text : List ℕ) (outcome : Outcome)
+        → IsCertifyCall (Ok mesh) first second old text outcome → outcome.code ≢ codes.HOMOTOPIC → outcome.code ≢ codes.DIFFERENT
+        → text ≡ old }
+{}
+
+/// `homotopy_verify` tells `ACCEPTED` exactly where the text spells a certificate that convinces, between two walks of the mesh with common
+/// ends: a list of moves that leads within its peak, or a denial that holds. Memory may be wanting for it.
+pub fn verify_accepts_what_convinces()
+    ensures convinces { (mesh : FaceList) (first second text : List ℕ) (outcome : Outcome)
+        → IsVerifyCall (Ok mesh) first second text outcome → outcome.code ≡ codes.ACCEPTED
+        → AreWalks mesh first second × (shown : Certificate) × SpellsCertificate shown text × IsAccepted mesh first second shown }
+    ensures accepted { (mesh : FaceList) (first second text : List ℕ) (outcome : Outcome) (shown : Certificate)
+        → IsVerifyCall (Ok mesh) first second text outcome → AreWalks mesh first second → length text ≤ MOST_BYTES
+        → SpellsCertificate shown text → IsAccepted mesh first second shown
+        → (outcome.code ≡ codes.ACCEPTED) ⊎ (outcome.code ≡ codes.NO_MEMORY) }
+{}
+
+/// What `homotopy_certify` writes `homotopy_verify` accepts, of the same mesh and walks, where it is no more bytes than are read.
+pub fn written_texts_are_accepted()
+    ensures { (mesh : FaceList) (first second old text : List ℕ) (written judged : Outcome) → IsFaceList mesh → HasFileSize mesh
+        → IsCertifyCall (Ok mesh) first second old text written
+        → (written.code ≡ codes.HOMOTOPIC) ⊎ (written.code ≡ codes.DIFFERENT) → slice_index written.numbers 0 ≤ MOST_BYTES
+        → IsVerifyCall (Ok mesh) first second (take (slice_index written.numbers 0) text) judged
+        → (judged.code ≡ codes.ACCEPTED) ⊎ (judged.code ≡ codes.NO_MEMORY) }
+{}
