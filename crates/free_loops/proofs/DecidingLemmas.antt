@@ -1,11 +1,12 @@
 -- What the forms of two closed walks decide, on the surface from which the polygon of the labelling was cut.
-use Rattle.std.proofs.Common.{◌≡◌, ◌≢◌, ◌↔◌, ℕ, Bool, ◌<◌, ◌≤◌, List, [], ◌∷◌, ap, sym, ◌∙◌, subst, arith, ℤ}
+use Rattle.std.proofs.Common.{◌≡◌, ◌↔◌, ℕ, Bool, ◌<◌, ◌≤◌, List, [], ◌∷◌, ap, sym, ◌∙◌, subst, arith, ℤ}
 use Rattle.std.specs.Prelude.{IsTrue}
 use Rattle.turn_words.specs.FormLaws.{led}
 use Rattle.turn_words.specs.declared.word.Word.{Word}
 use Rattle.turn_words.specs.declared.word.Word.TheVariants.{Turns, Flat}
 use Rattle.flat_forms.specs.Vectors.{Vector, origin}
 use Rattle.flat_forms.specs.FlatStates.{flat_next}
+use Rattle.surf_model.specs.FaceLists.{FaceList}
 use Rattle.halfedge_map.specs.OrientedMeshes.{OrientedMesh, IsOrientedSurface}
 use Rattle.labellings.specs.Labellings.{LabellingView}
 use Rattle.labellings.specs.QuadPaths.{quad_path}
@@ -70,31 +71,60 @@ vector x y = record { x = x; y = y }
 same_point : (a b c d : ℤ) → Flat a b ≡ Flat c d → vector a b ≡ vector c d
 same_point a b c d e = cc
 
+-- the point of the plane to which the quad path of a walk leads
+abbrev point_of : FaceList → LabellingView → List ℕ → Vector
+point_of mesh labelling walk = led flat_next labelling.places origin (quad_path mesh labelling walk)
+
+-- points that are one, with four spokes
+pub points_free : (surface : OrientedMesh) (labelling : LabellingView) (first second : List ℕ) → IsOrientedSurface surface
+    → IsLabelledByCut surface labelling → labelling.degree ≡ 4 → IsClosedWalk surface.mesh first → IsClosedWalk surface.mesh second
+    → point_of surface.mesh labelling first ≡ point_of surface.mesh labelling second → FreelyHomotopic surface.mesh first second
+points_free surface labelling [] second o h four first_closed second_closed same =
+    let none : 0 < 0 = first_closed.is_walk.starts in
+    absurd (omega arith)
+points_free surface labelling (u ∷ rest) [] o h four first_closed second_closed same =
+    let none : 0 < 0 = second_closed.is_walk.starts in
+    absurd (omega arith)
+points_free surface labelling (u ∷ rest) (v ∷ others) o h four first_closed second_closed same =
+    sums_free surface h.split h.polygon o h.is_split h.is_cut (sym (degree_is surface labelling h) ∙ four) u v rest others
+    (closed_way surface u rest first_closed) (closed_way surface v others second_closed)
+    (subst (λ (l : LabellingView). point_of surface.mesh l (u ∷ rest) ≡ point_of surface.mesh l (v ∷ others)) h.labelling_is same)
+
+-- and closed walks that are freely homotopic have one point
+pub free_points : (surface : OrientedMesh) (labelling : LabellingView) (first second : List ℕ) → IsOrientedSurface surface
+    → IsLabelledByCut surface labelling → labelling.degree ≡ 4 → IsClosedWalk surface.mesh first
+    → FreelyHomotopic surface.mesh first second → point_of surface.mesh labelling first ≡ point_of surface.mesh labelling second
+free_points surface labelling first second o h four closed free =
+    let one : Vector = point_of surface.mesh labelling first in
+    let other : Vector = point_of surface.mesh labelling second in
+    same_point one.x one.y other.x other.y
+    (one_sum surface.mesh labelling first second (Flat one.x one.y) (Flat other.x other.y) o.faces (cut_is_good surface labelling o h) four
+    closed free (four, quad_path_leads_to_sum surface.mesh labelling first) (four, quad_path_leads_to_sum surface.mesh labelling second))
+
 -- words that are one, with four spokes
 pub sums_agree : (surface : OrientedMesh) (labelling : LabellingView) (first second : List ℕ) (one other : Word) → IsOrientedSurface surface
     → IsLabelledByCut surface labelling → labelling.degree ≡ 4 → IsClosedWalk surface.mesh first → IsClosedWalk surface.mesh second
     → IsWordOf surface.mesh labelling first one → IsWordOf surface.mesh labelling second other → one ≡ other
     → FreelyHomotopic surface.mesh first second
-sums_agree surface labelling [] second one other o h four first_closed second_closed f g same =
-    let none : 0 < 0 = first_closed.is_walk.starts in
-    absurd (omega arith)
-sums_agree surface labelling (u ∷ rest) [] one other o h four first_closed second_closed f g same =
-    let none : 0 < 0 = second_closed.is_walk.starts in
-    absurd (omega arith)
-sums_agree surface labelling (u ∷ rest) (v ∷ others) (Turns one) other o h four first_closed second_closed f g same =
-    absurd (omega (arith, f.0))
-sums_agree surface labelling (u ∷ rest) (v ∷ others) (Flat x y) (Turns other) o h four first_closed second_closed f g same =
+sums_agree surface labelling first second (Turns one) other o h four first_closed second_closed f g same = absurd (omega (arith, f.0))
+sums_agree surface labelling first second (Flat x y) (Turns other) o h four first_closed second_closed f g same =
     absurd (omega (arith, g.0))
-sums_agree surface labelling (u ∷ rest) (v ∷ others) (Flat x y) (Flat right up) o h four first_closed second_closed f g same =
-    let sum : List ℕ → Vector = λ walk. led flat_next labelling.places origin (quad_path surface.mesh labelling walk) in
-    let one_point : vector x y ≡ sum (u ∷ rest) = f.1 ∙ sym (quad_path_leads_to_sum surface.mesh labelling (u ∷ rest)) in
-    let other_point : vector right up ≡ sum (v ∷ others) =
-    g.1 ∙ sym (quad_path_leads_to_sum surface.mesh labelling (v ∷ others)) in
-    let sums : sum (u ∷ rest) ≡ sum (v ∷ others) = sym one_point ∙ same_point x y right up same ∙ other_point in
-    sums_free surface h.split h.polygon o h.is_split h.is_cut (sym (degree_is surface labelling h) ∙ four) u v rest others
-    (closed_way surface u rest first_closed) (closed_way surface v others second_closed)
-    (subst (λ (l : LabellingView). led flat_next l.places origin (quad_path surface.mesh l (u ∷ rest))
-    ≡ led flat_next l.places origin (quad_path surface.mesh l (v ∷ others))) h.labelling_is sums)
+sums_agree surface labelling first second (Flat x y) (Flat right up) o h four first_closed second_closed f g same =
+    let one_point : vector x y ≡ point_of surface.mesh labelling first =
+    f.1 ∙ sym (quad_path_leads_to_sum surface.mesh labelling first) in
+    let other_point : vector right up ≡ point_of surface.mesh labelling second =
+    g.1 ∙ sym (quad_path_leads_to_sum surface.mesh labelling second) in
+    points_free surface labelling first second o h four first_closed second_closed
+    (sym one_point ∙ same_point x y right up same ∙ other_point)
+
+-- forms of freely homotopic walks
+pub free_forms : (surface : OrientedMesh) (labelling : LabellingView) (first second one other : List ℕ) → IsOrientedSurface surface
+    → IsLabelledByCut surface labelling → 5 ≤ labelling.degree → IsClosedWalk surface.mesh first
+    → IsCyclicFormOf surface.mesh labelling first one → IsCyclicFormOf surface.mesh labelling second other
+    → FreelyHomotopic surface.mesh first second → IsRotation one other
+free_forms surface labelling first second one other o h five closed f g free =
+    one_cyclic_form surface.mesh labelling first second one other o.faces (cut_is_good surface labelling o h)
+    (labelled_wheel surface labelling o h five) closed free f.leads g.leads f.canonical g.canonical
 
 -- so the forms decide, and so do the sums
 pub forms_decide : (surface : OrientedMesh) (labelling : LabellingView) (first second one other : List ℕ) (same : Bool)
@@ -104,8 +134,7 @@ pub forms_decide : (surface : OrientedMesh) (labelling : LabellingView) (first s
     → IsTrue same ↔ FreelyHomotopic surface.mesh first second
 forms_decide surface labelling first second one other same o h five first_closed second_closed f g told = (
   (λ yes. forms_free surface labelling first second one other o h first_closed second_closed f g (told.0 yes)),
-  (λ free. told.1 (one_cyclic_form surface.mesh labelling first second one other o.faces (cut_is_good surface labelling o h)
-      (labelled_wheel surface labelling o h five) first_closed free f.leads g.leads f.canonical g.canonical)),
+  (λ free. told.1 (free_forms surface labelling first second one other o h five first_closed f g free)),
 )
 
 pub sums_decide : (surface : OrientedMesh) (labelling : LabellingView) (first second : List ℕ) (one other : Word) (same : Bool)

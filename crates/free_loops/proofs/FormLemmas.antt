@@ -1,6 +1,6 @@
 -- The cyclic form of a closed walk, by way of its canonical word: elementary steps lead from the turn word of the quad path to that
 -- word, so loop steps lead from the quad path to the word's spokes.
-use Rattle.std.proofs.Common.{◌≡◌, ℕ, ◌%◌, ◌<◌, List, [], ◌∷◌, length, ap, sym, ◌∙◌, subst, arith, ℤ}
+use Rattle.std.proofs.Common.{◌≡◌, ℕ, ◌%◌, ◌<◌, List, [], ◌∷◌, length, ap, sym, ◌∙◌, subst, arith}
 use Rattle.std.specs.Prelude.{All}
 use Rattle.surf_model.specs.FaceLists.{FaceList}
 use Rattle.turn_words.specs.Canonical.{IsCanonicalOf}

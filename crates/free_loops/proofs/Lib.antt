@@ -7,3 +7,4 @@ pub mod FreeWordLemmas
 pub mod SpellingLemmas
 pub mod FormLemmas
 pub mod DecidingLemmas
+pub mod LawLemmas

@@ -5,11 +5,13 @@
 //!
 //!     let answer = decide_free(alloc, &surface, &first, &second)?;
 //!
+//! What decides stands in `laws`, said of the definitions: on a torus the points of the plane, and where there are more handles the forms.
 //! docs/definitions/LOOPS.md tells what free homotopy and a cyclic form are.
 #![tactic(auto)]
 
 mod deciding;
 mod form;
+pub mod laws;
 mod spelling;
 
 pub use deciding::{FreeAnswer, decide_free};
