@@ -3,3 +3,4 @@ pub mod Premises
 pub mod Commands
 pub mod Outcomes
 pub mod PrintedCertificates
+pub mod Examples

@@ -1,37 +1,64 @@
--- The premises of the headline: where an answer comes, the files that the words name stand for what it asks of them.
-use Rattle.std.specs.Prelude.{◌≡◌, ◌≢◌, ℕ, List, [], ◌∷◌, codes, Option}
+-- The premises of the laws: where an answer comes that is no refusal, the words and the files that they name are an input of the command.
+use Rattle.std.specs.Prelude.{◌≢◌, ℕ, List, codes, Option}
 use Rattle.surf_io.specs.Files.{Files}
 use Rattle.surf_model.specs.FaceLists.{FaceList}
+use Rattle.homology.specs.declared.certificate.HomologyCert.{HomologyCert}
 use Rattle.walk_files.specs.PairLists.{WalkPair}
 use Rattle.commands.specs.Certify.{IsCertifyInput, IsWithinLimits}
 use Rattle.commands.specs.Checks.{IsTold}
+use Rattle.commands.specs.ClosedSurfaces.{IsOrientableSurface}
+use Rattle.commands.specs.Surface.{IsSurfaceInput, HasFewComponents}
+use Rattle.commands.specs.declared.certificate.Certificate.{Certificate}
 use Rattle.commands.specs.declared.status.Status.{Status}
 use Rattle.commands.specs.declared.status.Status.TheVariants.{Refused}
 use Rattle.pair_commands.specs.Decide.{IsDecideInput}
+use Rattle.homology_commands.specs.Homology.{IsHomologyInput}
+use Rattle.homology_commands.specs.PrintedHomology.{IsVerifyOfText as IsHomologyVerifyOfText}
+use Rattle.homology_commands.specs.VerifyHomology.{IsInput as IsHomologyVerifyInput}
+use Rattle.loop_commands.specs.Loops.{IsLoopsInput}
+use Rattle.open_commands.specs.OpenPairs.{IsOpenInput, IsWithinLimits as IsWithinOpenLimits}
+use Rattle.reduce_commands.specs.Reduce.{IsReduceInput}
+use Rattle.verify_commands.specs.Verify.{IsVerifyInput}
+use Rattle.program.specs.Commands.{IsRow, Surface, Decide, Certify, Loops, DecideOpen, CertifyOpen, Homology, Verify, VerifyHomology, Reduce}
+use Rattle.program.specs.PrintedCertificates.{IsVerifyOfText}
 
--- The words are a command with a mesh and walks, and both files are told.
-pub record NamesTold (held : Option Files) (words : List (List ℕ)) (command : List ℕ) : Type 0 where
-  pub mesh_name : List ℕ
-  pub walks_name : List ℕ
-  pub words_are : words ≡ command ∷ mesh_name ∷ walks_name ∷ []
-  pub mesh_told : IsTold held mesh_name
-  pub walks_told : IsTold held walks_name
-
--- the words are an input of `decide`, for some surface and some pairs of its walks
-pub record HasDecideInput (held : Option Files) (words : List (List ℕ)) : Type 0 where
-  pub mesh : FaceList
-  pub pairs : List WalkPair
-  pub input : IsDecideInput held words mesh pairs
-
--- the words are an input of `certify` within its limits, for some surface and two of its walks
-pub record HasCertifyInput (held : Option Files) (words : List (List ℕ)) : Type 0 where
+-- it is so of some mesh and two walks
+pub record OfSomeWalks (IsSo : FaceList → (first second : List ℕ) → Type 0) : Type 0 where
   pub mesh : FaceList
   pub first : List ℕ
   pub second : List ℕ
-  pub input : IsCertifyInput held words mesh first second
-  pub within : IsWithinLimits mesh first second
+  pub is_so : IsSo mesh first second
 
--- An answer of `decide` or of `certify` that is no refusal comes of such an input alone, where the files are told.
+-- the words are an input of that open command, within its limits
+abbrev pub HasOpenInput : (keyword : List ℕ) → Option Files → (words : List (List ℕ)) → Type 0
+HasOpenInput keyword held words =
+    OfSomeWalks (λ mesh first second. IsOpenInput keyword held words mesh first second × IsWithinOpenLimits mesh first second)
+
+-- Where the words are a row and each file of it is told, an answer with this status, if it is no refusal, comes of an input of the command
+-- alone: of some mesh, walks and certificate, as the command asks of them, and within its limits. So no law of src/laws.rt that speaks of
+-- such an input says nothing.
 pub record HasPremises (held : Option Files) (words : List (List ℕ)) (status : Status) : Type 0 where
-  pub decide : NamesTold held words (codes "decide") → status ≢ Refused → HasDecideInput held words
-  pub certify : NamesTold held words (codes "certify") → status ≢ Refused → HasCertifyInput held words
+  pub surface : (mesh : List ℕ) → IsRow words (Surface mesh) → IsTold held mesh → status ≢ Refused
+      → (faces : FaceList) × IsSurfaceInput held words faces × IsOrientableSurface faces × HasFewComponents faces
+  pub decide : (mesh walks : List ℕ) → IsRow words (Decide mesh walks) → IsTold held mesh → IsTold held walks → status ≢ Refused
+      → (faces : FaceList) × (pairs : List WalkPair) × IsDecideInput held words faces pairs
+  pub certify : (mesh walks : List ℕ) → IsRow words (Certify mesh walks) → IsTold held mesh → IsTold held walks → status ≢ Refused
+      → OfSomeWalks (λ faces first second. IsCertifyInput held words faces first second × IsWithinLimits faces first second)
+  pub loops : (mesh walks : List ℕ) → IsRow words (Loops mesh walks) → IsTold held mesh → IsTold held walks → status ≢ Refused
+      → OfSomeWalks (IsLoopsInput held words)
+  pub decide_open : (mesh walks : List ℕ) → IsRow words (DecideOpen mesh walks) → IsTold held mesh → IsTold held walks
+      → status ≢ Refused → HasOpenInput (codes "decide-open") held words
+  pub certify_open : (mesh walks : List ℕ) → IsRow words (CertifyOpen mesh walks) → IsTold held mesh → IsTold held walks
+      → status ≢ Refused → HasOpenInput (codes "certify-open") held words
+  pub homology : (mesh walks : List ℕ) → IsRow words (Homology mesh walks) → IsTold held mesh → IsTold held walks → status ≢ Refused
+      → OfSomeWalks (IsHomologyInput held words)
+  pub verify : (mesh walks certificate : List ℕ) → IsRow words (Verify mesh walks certificate) → IsTold held mesh → IsTold held walks
+      → IsTold held certificate → status ≢ Refused
+      → OfSomeWalks (λ faces first second. (text : List ℕ) × IsVerifyOfText held words faces first second text
+      × (shown : Certificate) × IsVerifyInput held words faces first second shown)
+  pub verify_homology : (mesh walks certificate : List ℕ) → IsRow words (VerifyHomology mesh walks certificate) → IsTold held mesh
+      → IsTold held walks → IsTold held certificate → status ≢ Refused
+      → OfSomeWalks (λ faces first second. (text : List ℕ) × IsHomologyVerifyOfText held words faces first second text
+      × (shown : HomologyCert) × IsHomologyVerifyInput held words faces first second shown)
+  pub reduce : (degree : ℕ) (list : List ℕ) → IsRow words (Reduce degree list) → IsTold held list → status ≢ Refused
+      → (turns : List (List ℕ)) × IsReduceInput held degree list turns

@@ -37,8 +37,8 @@ pub fn headline()
     ensures { EachAnswer Headline }
 {}
 
-/// The premises of the headline are met wherever an answer comes: where `decide` or `certify` does not refuse, and its files are told,
-/// these stand for an orientable closed surface and for walks of it with common ends, for `certify` within its limits.
+/// The premises of the laws on answers are met wherever an answer comes: where a command does not refuse, and its files are told, the words
+/// are an input of that command, within its limits.
 pub fn answers_have_their_premises()
     ensures { EachAnswer (λ held words status _. HasPremises held words status) }
 {}
