@@ -12,9 +12,12 @@ mod files;
 #[cfg(test)]
 mod limits;
 #[cfg(test)]
+mod rows;
+#[cfg(test)]
 mod tests;
 
 use program::{Status, run};
+use std::env::FillError;
 use std::process::ExitCode;
 use std::rt::Env;
 use std::{env, io};
@@ -37,5 +40,23 @@ fn main(rt: HostRuntime) -> ExitCode {
 
 /// The words behind the program's name.
 fn read_words<R: Env + AllocGlobal>(rt: &R) -> io::Result<Vec<String>> {
-    Ok(env::args(rt)?.skip(1).collect(rt.alloc())?)
+    Ok(env::args(&(BehindName(rt), rt.alloc()))?.collect(rt.alloc())?)
+}
+
+/// The arguments behind the program's name, which is never read, since it may be no text.
+#[derive(Drop)]
+struct BehindName<'a, R>(&'a R);
+
+impl<R: Env> Env for BehindName<'_, R> {
+    fn arg(&self, i: usize, buf: &mut [u8]) -> Result<usize, FillError> {
+        self.0.arg(i.saturating_add(1), buf)
+    }
+
+    fn var(&self, name: &str, buf: &mut [u8]) -> Result<usize, FillError> {
+        self.0.var(name, buf)
+    }
+
+    fn var_at(&self, i: usize, buf: &mut [u8]) -> Result<usize, FillError> {
+        self.0.var_at(i, buf)
+    }
 }
