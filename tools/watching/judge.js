@@ -81,16 +81,16 @@ function putTurn(word, turn, D) {
   const end = word.length, run = turn === D - 1 ? D - 2 : 2;
   let k = 0;
   while ((turn === 1 || turn === D - 1) && k + 1 < end && word[end - 1 - k] === run) k++;
-  if (end && turn === 0) return -word.pop();
-  if (end && turn === D - 1) {
+  if (end && turn === 0) return -word.pop(); // spur
+  if (end && turn === D - 1) { // flip
     word.splice(end - 1 - k, k + 1, (word[end - 1 - k] + 1) % D, 1, ...Array(k).fill(2));
     return -1;
   }
-  if (turn === 1 && k + 1 < end && word[end - 1 - k] === 1) {
+  if (turn === 1 && k + 1 < end && word[end - 1 - k] === 1) { // close
     word.splice(end - 2 - k, k + 2, (word[end - 2 - k] + D - 1) % D, ...Array(k).fill(D - 2));
     return 1;
   }
-  word.push(turn);
+  word.push(turn); // start, else
   return 0;
 }
 
@@ -108,7 +108,7 @@ function wordAlong(walk, darts, p) {
   }
   const word = [];
   let less = 0;
-  for (const spoke of spokes) {
+  for (const spoke of spokes) { // from the vertex to the middle where an even number is put, and else back
     const [here, there] = word.length % 2 ? [spoke, p[spoke]] : [p[spoke], spoke];
     less = there + putTurn(word, (((here - less) % D) + D) % D, D);
   }
