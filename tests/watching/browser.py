@@ -36,7 +36,11 @@ class Browser:
         target = next(page["targetId"] for page in pages if page["type"] == "page")
         self.session = self.ask("Target.attachToTarget", targetId=target, flatten=True)["sessionId"]
         self.ask("Page.enable")
-        self.ask("Emulation.setDeviceMetricsOverride", width=1280, height=800, deviceScaleFactor=1, mobile=False)
+        self.show_as(1280, 800)
+
+    def show_as(self, width, height, mobile=False):
+        """Gives the page another size."""
+        self.ask("Emulation.setDeviceMetricsOverride", width=width, height=height, deviceScaleFactor=1, mobile=mobile)
 
     def message(self):
         while b"\0" not in self.rest:

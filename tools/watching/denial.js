@@ -3,9 +3,8 @@
 class DenialFilm {
   constructor(data) {
     Object.assign(this, data);
-    this.judge = new DenialJudge(data);
-    this.fault = this.judge.fault();
-    this.found = this.fault ? [] : data.walks.map((walk) => this.judge.words(walk));
+    this.judgeLabels();
+    this.found = this.fault ? [] : data.walks.map((walk) => wordAlong(walk, this.labels, data.places));
     this.darts = data.walks.flatMap((walk, w) => walk.slice(1).map((head, k) => ({ w, k, u: walk[k], v: head })));
     Object.assign(this, { frames: this.fault ? 0 : this.darts.length, unit: "darts", pace: 0.7, drawn: "" });
     this.steps = [...document.querySelectorAll("svg .step")].map((step) => this.stepOf(step));
@@ -15,7 +14,24 @@ class DenialFilm {
     this.space.listen();
     for (const id of ["open", "inspace"]) document.getElementById(id).addEventListener("click", () => this.look(id));
     this.list();
-    this.look("open");
+    const open = document.getElementById("open");
+    open.hidden = !document.querySelector("#surface > svg");
+    this.look(open.hidden ? "inspace" : "open");
+  }
+
+  // The labels of the darts; or the rule of a good labelling that fails.
+  judgeLabels() {
+    const { faces, degree, rows, places } = this;
+    try {
+      this.labels = checkLabelling(faces, edgesOf(faces), degree, rows, places);
+    } catch (fault) {
+      if (!(fault instanceof Fault)) throw fault;
+      this.fault = labelFaultInWords(fault.message);
+    }
+  }
+
+  spokes(u, v) {
+    return this.fault ? [] : spokesOf(this.labels, this.places, u, v);
   }
 
   // A part of a picture, and the frame behind which it is whole.
@@ -37,7 +53,7 @@ class DenialFilm {
       const line = document.getElementById(`walk${w}`);
       this.darts.forEach((dart, k) => {
         if (dart.w !== w) return;
-        const chip = document.createElement("span"), spokes = this.fault ? [] : this.judge.spokes(dart.u, dart.v);
+        const chip = document.createElement("span"), spokes = this.spokes(dart.u, dart.v);
         chip.className = "chip";
         chip.dataset.frame = k + 1;
         chip.innerHTML = `<b>${dart.u} → ${dart.v}</b><i>${spokes.join(", ") || "–"}</i>`;
@@ -73,7 +89,7 @@ class DenialFilm {
   }
 
   isPrinted(w) {
-    return String(this.found[w][this.walks[w].length - 1]) === String(this.words[w]);
+    return String(this.found[w]) === String(this.words[w]);
   }
 
   verdict(place) {
@@ -96,7 +112,7 @@ class DenialFilm {
     put("saying", dart ? this.inWords(dart) : "Both walks start at one vertex, with no spokes yet.");
     for (const w of [0, 1]) {
       const before = w ? this.walks[0].length - 1 : 0, k = Math.min(this.walks[w].length - 1, Math.max(0, Math.floor(place) - before));
-      put(`word${w}`, this.fault ? "" : this.name(this.found[w][k]));
+      put(`word${w}`, this.fault ? "" : this.name(wordAlong(this.walks[w].slice(0, k + 1), this.labels, this.places)));
     }
     const [state, verdict] = this.verdict(place), box = document.getElementById("verdict");
     put("verdict", verdict);
@@ -113,7 +129,7 @@ class DenialFilm {
   }
 
   inWords({ w, u, v }) {
-    const rule = this.judge.rule(u, v), spokes = this.judge.spokes(u, v), walk = ["first", "second"][w];
+    const rule = ruleOf(this.labels, this.places, u, v), spokes = this.spokes(u, v), walk = ["first", "second"][w];
     if (!spokes.length) return `The ${walk} walk goes from ${u} to ${v} along a tree edge: no spokes.`;
     return `The ${walk} walk goes from ${u} to ${v} along a ${rule} edge: in along spoke ${spokes[0]}, out along spoke ${spokes[1]}.`;
   }

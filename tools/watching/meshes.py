@@ -24,6 +24,18 @@ def neighbours_of(sides, vertices):
     return around
 
 
+def component_of(sides, vertex):
+    """The sides of the edges to which walks from a vertex lead."""
+    around, reached, queue = {}, {vertex}, [vertex]
+    for u, v in sides:
+        around.setdefault(u, []).append(v)
+        around.setdefault(v, []).append(u)
+    for u in queue:
+        queue += [v for v in dict.fromkeys(around[u]) if v not in reached]
+        reached.update(around[u])
+    return {e: both for e, both in sides.items() if e[0] in reached}
+
+
 def vertices_of(mesh):
     """One more than the greatest vertex that a face names."""
     return 1 + max(map(max, mesh.faces))

@@ -4,9 +4,15 @@ const MOST_FRAMES = 2000, MOST_TOLD = 120, BUDGET = 12;
 const COLOURS = { first: "#1c6dd0", second: "#e07b00", wrong: "#c92a2a", glow: "#ffd43b" };
 const MOVING = Ribbon.blend("#0b1a30", "#0fbf8f", 16);
 
+// The move that leads back.
+function inverse(faces, move) {
+  if (move.kind === "f") return { ...move, step: -move.step, taken: faces[move.face].length - move.taken };
+  return { ...move, kind: move.kind === "+" ? "-" : "+" };
+}
+
 class MovesFilm {
   constructor(data) {
-    this.mesh = { faces: data.faces, isEdge: (u, v) => this.space.curves.has(u < v ? `${u} ${v}` : `${v} ${u}`) };
+    Object.assign(this, { faces: data.faces, edges: edgesOf(data.faces) });
     this.space = new Space(document.getElementById("space"), data);
     this.ribbon = new Ribbon(this.space);
     this.space.paintOver = (pen) => this.paintBands(pen);
@@ -36,8 +42,14 @@ class MovesFilm {
     return this.refused ? Math.min(place, (this.done * this.frames) / this.lines.length || 0) : place;
   }
 
+  // What a move makes of the walk; or why it is refused.
   judged(move) {
-    return afterMove(this.mesh, this.walk, moveOfLine(this.lines[move]), this.peak);
+    try {
+      return make(this.faces, this.edges, this.walk, this.peak, moveOfLine(this.lines[move]));
+    } catch (fault) {
+      if (fault instanceof Fault) return { refused: fault.message };
+      throw fault;
+    }
   }
 
   // Makes moves, or takes them back, as far as there is time.
@@ -45,7 +57,7 @@ class MovesFilm {
     const until = performance.now() + BUDGET;
     if (wanted < this.done - wanted) Object.assign(this, { walk: this.first, done: 0 });
     while (this.done > wanted && performance.now() < until) {
-      this.walk = afterMove(this.mesh, this.walk, inverse(this.mesh, moveOfLine(this.lines[--this.done])), Infinity).walk;
+      this.walk = make(this.faces, this.edges, this.walk, Infinity, inverse(this.faces, moveOfLine(this.lines[--this.done]))).walk;
     }
     while (this.done < wanted && performance.now() < until) {
       const after = this.judged(this.done);
@@ -54,7 +66,7 @@ class MovesFilm {
         this.refused = { move: this.done + 1, reason: after.refused };
         return;
       }
-      [this.walk, this.change] = [after.walk, after.change];
+      this.walk = after.walk;
       this.done++;
     }
   }
@@ -86,7 +98,7 @@ class MovesFilm {
     const telling = [this.done, share > 0, state].join();
     if (telling === this.told) return;
     this.told = telling;
-    this.tell(move, share > 0 ? next.change : null);
+    this.tell(move, share > 0 ? next : null);
   }
 
   // Both walks as bands on the mesh.
@@ -105,7 +117,7 @@ class MovesFilm {
     if (shown?.kind === "f") space.glow(pen, shown.face, stopped ? "#ff8787" : COLOURS.glow);
     const slides = share > 0 && Math.max(this.walk.length, next.walk.length) <= MOST_DARTS_IN_LANES;
     const smooth = share * share * (3 - 2 * share);
-    const places = slides ? ribbon.between(this.walk, next.walk, next.change, smooth) : ribbon.atRest(this.walk);
+    const places = slides ? ribbon.between(this.walk, next.walk, next, smooth) : ribbon.atRest(this.walk);
     const colours = stopped === null ? MOVING : [COLOURS.wrong], last = this.walk.length - 1;
     ribbon.stroke(pen, places, { width: 4.5, colours, hidden: 0.55, dash: true });
     if (last < MOST_DARTS_IN_LANES) ribbon.heads(pen, places, colours);

@@ -13,13 +13,12 @@ from watching.unfold import Outline
 
 HERE = os.path.dirname(os.path.realpath(__file__))
 MOST_FRAMES = 2000
-NOT_PROVED = ("This page was made beside the proved program and is no part of what is proved. It judges by a table of moves of "
-              "its own, which stands at the head of its script; <code>homotopy_cli verify</code> judges the same files, proved.")
+NOT_PROVED = ("This page was made beside the proved program and is no part of what is proved. Its judge stands at the head of its "
+              "script, and does what <code>tools/judge</code> does; <code>homotopy_cli verify</code> judges the same files, proved.")
 CUT_OPEN = ("The surface is cut along a tree and along the sides in colours, and so it is one polygon. The ringed numbers are its %d "
             "spokes. %s A dart goes in along the spoke at its tail, and out along the spoke at its head.")
 FEW_LABELS = "The number in the corner of a face is its label: the spoke to which it belongs."
 MANY_LABELS = "The corners between two coloured sides have the label of the spoke there."
-NOT_PROVED_OF_DENIALS = NOT_PROVED.replace("a table of moves of its own, which stands", "rules of its own, which stand")
 
 
 def read(name):
@@ -78,7 +77,7 @@ def plane_of(labels, walks, words):
 def denial_page(job, walks, denial):
     """The film of a denial."""
     labels, scene = Labels(job.mesh, job.sides, denial), scene_of(job.mesh, job.sides)
-    outline = Outline(labels)
+    outline = Outline(labels, walks[0][0])
     cut = svg(polygon.BOX, polygon.polygon_picture(outline, walks), "The surface cut open") if outline.is_whole else ""
     picture, caption = plane_of(labels, walks, denial.words)
     data = {**data_of(job, scene, walks), "degree": denial.degree, "rows": denial.rows, "places": denial.places,
@@ -89,8 +88,8 @@ def denial_page(job, walks, denial):
     summary = "The claim: no list of moves leads from <code>%s</code> to <code>%s</code>." % tuple(map(in_short, walks))
     return filled("denial.html", title=html.escape(job.title or "Two walks that are different"), style=STYLE + read("film.css"),
                   summary=summary, polygon=cut, plane=picture, caption=caption, data=packed(data),
-                  notes=paragraphs(told, scene.told, NOT_PROVED_OF_DENIALS),
-                  script="\n".join(map(read, ("judge-denial.js", "words.js", "space.js", "ribbon.js", "player.js", "denial.js"))))
+                  notes=paragraphs(told, scene.told, NOT_PROVED),
+                  script="\n".join(map(read, ("judge.js", "words.js", "space.js", "ribbon.js", "player.js", "denial.js"))))
 
 
 def moves_picture(job, walks, moves):
@@ -106,7 +105,7 @@ def moves_picture(job, walks, moves):
 def denial_picture(job, walks, denial):
     """A picture of a denial: the surface cut open, and beside it the plane."""
     labels = Labels(job.mesh, job.sides, denial)
-    outline, (plane_svg, _) = Outline(labels), plane_of(labels, walks, denial.words)
+    outline, (plane_svg, _) = Outline(labels, walks[0][0]), plane_of(labels, walks, denial.words)
     cut = svg(polygon.BOX, polygon.polygon_picture(outline, walks), "", width=300, height=300) if outline.is_whole else ""
     beside = plane_svg.replace("<svg ", '<svg x="320" y="0" width="300" height="300" ', 1)
     return alone((0, 0, 620, 300), cut + beside, html.escape(job.title or "Two walks that are different"))

@@ -28,10 +28,10 @@ def has_labels(outline):
 
 
 def faces(outline):
-    rings = [[on_circle(turns, RADIUS) for turns in outline.corners(face)] for face in range(len(outline.labels.mesh.faces))]
-    parts = [tag("path", d="".join(path_through(ring, closed=True) for ring in rings), class_="face")]
+    rings = {face: [on_circle(turns, RADIUS) for turns in outline.corners(face)] for face in outline.faces}
+    parts = [tag("path", d="".join(path_through(ring, closed=True) for ring in rings.values()), class_="face")]
     if has_labels(outline):
-        parts += [mark for face, ring in enumerate(rings) for mark in corner_labels(outline, face, ring)]
+        parts += [mark for face, ring in rings.items() for mark in corner_labels(outline, face, ring)]
     return parts
 
 

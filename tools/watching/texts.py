@@ -3,12 +3,23 @@
 Whatever is wrong with a text is a Fault, whose message is the one line that is printed.
 """
 import math
+import os
 import re
+import runpy
 from collections import namedtuple
 
+JUDGE = runpy.run_path(os.path.join(os.path.dirname(os.path.realpath(__file__)), "..", "judge"), run_name="judge")
 NUMBER = re.compile(r"[+-]?([0-9]+\.?[0-9]*|\.[0-9]+)([eE][+-]?[0-9]+)?|[+-]?(nan|inf)")
 KEYWORD = re.compile(r"((?:ST|C|N|4|n)*)OFF(.*)")
 MOST_NUMBER = 2**32 - 1
+
+# What is wrong with a line of a file of walks, by the word that the judge has for it.
+WALK_FAULTS = {
+    "number": "has a word that is no number of a vertex",
+    "group": "has a group that does not lead back to where it begins, or is no group",
+    "long": "has more darts than a walk may have",
+    "many": "is one walk too many",
+}
 
 Mesh = namedtuple("Mesh", "name points faces")
 Moves = namedtuple("Moves", "name peak lines")
@@ -19,16 +30,19 @@ class Fault(Exception):
     """A text, or a pair of them, of which no page can be made."""
 
 
+def bytes_of(path):
+    try:
+        with open(path, "rb") as file:
+            return file.read()
+    except OSError as fault:
+        raise Fault("%s: %s" % (path, fault.strerror or fault)) from None
+
+
 class Lines:
     """The lines of a file that have words, with their numbers, taken one by one."""
 
     def __init__(self, path, kind):
-        self.name, self.kind = path, kind
-        try:
-            with open(path, "rb") as file:
-                text = file.read()
-        except OSError as fault:
-            raise Fault("%s: %s" % (path, fault.strerror or fault)) from None
+        self.name, self.kind, text = path, kind, bytes_of(path)
         text = text[3:] if text.startswith(b"\xef\xbb\xbf") else text
         rows = text.decode("latin-1").split("\n")
         self.end = len(rows) if rows[-1] == "" else len(rows) + 1
@@ -122,13 +136,13 @@ def read_mesh(path):
 
 
 def read_walks(path):
-    """The two walks of a file."""
-    lines, walks = Lines(path, "a file of walks"), []
-    while lines.peek():
-        number, words = lines.take("a walk")
-        walks.append(naturals(words))
-        if walks[-1] is None:
-            raise lines.fault(number, "has a word that is no number of a vertex")
+    """The two walks of a file, of either version."""
+    try:
+        walks = JUDGE["read_walks"](bytes_of(path))
+    except JUDGE["Fault"] as fault:
+        line, what = str(fault).split()[-2:]
+        told = "line %s %s" % (line, WALK_FAULTS[what]) if what in WALK_FAULTS else "it is too large"
+        raise Fault("%s is not a file of walks: %s" % (path, told)) from None
     if len(walks) != 2:
         raise Fault("%s has %d walks, and a certificate is of two" % (path, len(walks)))
     return walks

@@ -4,21 +4,22 @@ Edges whose four labels are one meet two rules. Which of them the cut goes along
 """
 import math
 
-from watching.meshes import edge
+from watching.meshes import component_of, edge
 
 SIDE, TREE = 1.7, 1.0
 
 
 class Outline:
-    """The darts round the polygon as sides of faces, from the one behind the polygon's last side on. It is whole where these are all
-    darts of the cut and the polygon's sides come by their numbers, as with the labels that `certify` prints. Angles are in turns
-    from the right on, counterclockwise."""
+    """The darts round the polygon as sides of faces, from the one behind the polygon's last side on, of the component in which a vertex
+    lies. It is whole where these are all darts of the cut and the polygon's sides come by their numbers, as with the labels that
+    `certify` prints. Angles are in turns from the right on, counterclockwise."""
 
-    def __init__(self, labels):
-        self.labels = labels
-        self.cut = {e for e, rule in labels.rules.items() if rule == "leftover"} | tree_edges(labels)
+    def __init__(self, labels, vertex):
+        self.labels, self.sides = labels, component_of(labels.sides, vertex)
+        self.faces = sorted({side[0] for both in self.sides.values() for side in both})
+        self.cut = {e for e in self.sides if labels.rules[e] == "leftover"} | tree_edges(labels, self.sides)
         self.starts = {}
-        for both in labels.sides.values():
+        for both in self.sides.values():
             for side in both:
                 self.starts[side[0], self.corner_at_tail(side)] = side
         self.ring = self.walk_round()
@@ -45,7 +46,7 @@ class Outline:
     def walk_round(self):
         """All sides on the outline, from the one behind the last side of the polygon on."""
         degree = self.labels.degree
-        first = [side for both in self.labels.sides.values() for side in both if edge(*side[2:]) in self.cut]
+        first = [side for both in self.sides.values() for side in both if edge(*side[2:]) in self.cut]
         last = [side for side in first if self.is_side(side) and self.label(side) == degree - 1]
         start = side = self.onward(last[0]) if last else first[0]
         ring = []
@@ -101,8 +102,8 @@ class Outline:
         return self.angles[side][0]
 
 
-def tree_edges(labels):
-    """Edges of the tree rule that join all vertices: first those that meet no other rule."""
+def tree_edges(labels, sides):
+    """Edges of the tree rule among some, which join all their vertices: first those that meet no other rule."""
     def meets_cotree(e):
         (a, b), (c, d) = (tuple(label for _, label in labels.ends(side)) for side in labels.sides[e])
         return a == d and b == c
@@ -114,7 +115,7 @@ def tree_edges(labels):
             u = root[u]
         return u
 
-    for e in sorted((e for e, rule in labels.rules.items() if rule == "tree"), key=lambda e: (meets_cotree(e), e)):
+    for e in sorted((e for e in sides if labels.rules[e] == "tree"), key=lambda e: (meets_cotree(e), e)):
         u, v = map(top, e)
         if u != v:
             root[u] = v

@@ -32,3 +32,15 @@ const REFUSALS = {
   face: "the walk does not go round the face so",
   peak: "the walk would have more darts than the peak of the list",
 };
+
+// The first word of a fault of a labelling, and what follows the whole of it.
+const LABEL_FAULTS = {
+  shape: "the labels and places are not those of this mesh",
+  degree: "no surface gives so many spokes with such places",
+  place: "two spokes have it",
+  edge: "it keeps none of the three rules",
+};
+
+function labelFaultInWords(fault) {
+  return `${fault}, since ${LABEL_FAULTS[fault.split(" ")[0]]}`;
+}
