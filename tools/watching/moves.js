@@ -7,7 +7,7 @@ const MOVING = Ribbon.blend("#0b1a30", "#0fbf8f", 16);
 class MovesFilm {
   constructor(data) {
     this.mesh = { faces: data.faces, isEdge: (u, v) => this.space.curves.has(u < v ? `${u} ${v}` : `${v} ${u}`) };
-    this.space = new Space(document.getElementById("space"), data);
+    this.space = new Space(document.getElementById("space"), Shape.of(data), data.view);
     this.ribbon = new Ribbon(this.space);
     this.space.paintOver = (pen) => this.paintBands(pen);
     [this.first, this.second] = data.walks;
