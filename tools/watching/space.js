@@ -2,7 +2,7 @@
 // walks lies. A coarse map of the canvas has the patch that is in front at each place, and how far away it is: by it the walks
 // know where they are hidden, and a large mesh is painted while it is turned.
 
-const EYE = 4.2, DEPTH_CELL = 3, MOST_NUMBERED = 60, MOST_QUICK = 1500, MOST_FINE = 60000, REST = 300;
+const EYE = 4.2, DEPTH_CELL = 3, MOST_NUMBERED = 60, MOST_QUICK = 1500, MOST_FINE = 60000, MOST_NEAR = 12000, REST = 300;
 
 // A turn about the upright axis, and then a tilt towards the eye.
 function turned(azimuth, elevation) {
@@ -245,7 +245,7 @@ class Space {
 }
 
 // Paints a mesh by the pen of a canvas: patch by patch from the back to the front, or a square for each cell of the map while the mesh
-// is turned, and always where it is very large.
+// is turned. Where it is very large, it is squares always, unless few patches are in front.
 class PenPainter {
   start(space) {
     this.pen = space.still.getContext("2d");
@@ -254,12 +254,24 @@ class PenPainter {
   paint(space, moves) {
     const { pen } = this;
     pen.clearRect(0, 0, space.still.width, space.still.height);
-    if (moves || space.shape.size > MOST_FINE) this.paintRoughly(space);
+    if (moves) this.paintRoughly(space);
+    else if (space.shape.size > MOST_FINE) this.paintNear(space);
     else {
-      this.paintPatches(space);
+      this.paintPatches(space, Uint32Array.from({ length: space.shape.size }, (_, k) => k));
       this.paintEdges(space);
     }
     space.paintOver(pen);
+  }
+
+  // Of a very large mesh what is in front: its patches with their outlines where these are few.
+  paintNear(space) {
+    const near = new Set(space.front);
+    near.delete(-1);
+    if (near.size > MOST_NEAR) return this.paintRoughly(space);
+    this.paintPatches(space, Uint32Array.from(near));
+    this.pen.beginPath();
+    for (const k of near) space.trace(this.pen, space.shape.patch(k));
+    return this.strokeEdges(space, true, true);
   }
 
   // The patches in front, a square for each cell of the map.
@@ -299,10 +311,11 @@ class PenPainter {
     return sum.map((part) => part / size);
   }
 
-  paintPatches(space) {
+  // Paints some patches, the farthest first.
+  paintPatches(space, chosen) {
     const { pen } = this, { z, shape } = space, far = new Float32Array(shape.size);
-    for (let k = 0; k < shape.size; k++) far[k] = shape.patch(k).reduce((sum, point) => sum + z[point], 0) / shape.patch(k).length;
-    const order = Uint32Array.from(far.keys()).sort((p, q) => far[q] - far[p]);
+    for (const k of chosen) far[k] = shape.patch(k).reduce((sum, point) => sum + z[point], 0) / shape.patch(k).length;
+    const order = chosen.sort((p, q) => far[q] - far[p]);
     pen.lineWidth = 0.8;
     for (const k of order) {
       pen.fillStyle = pen.strokeStyle = `rgb(${this.shade(space, k)})`;
@@ -323,9 +336,13 @@ class PenPainter {
         pen.moveTo(x[from], y[from]);
         pen.lineTo(x[to], y[to]);
       }
-      pen.strokeStyle = `rgba(60, 75, 92, ${seen ? (crowded ? 0.28 : 0.62) : 0.1})`;
-      pen.lineWidth = (crowded ? 0.7 : 1.2) * space.scale;
-      pen.stroke();
+      this.strokeEdges(space, seen, crowded);
     }
+  }
+
+  strokeEdges(space, seen, crowded) {
+    this.pen.strokeStyle = `rgba(60, 75, 92, ${seen ? (crowded ? 0.28 : 0.62) : 0.1})`;
+    this.pen.lineWidth = (crowded ? 0.7 : 1.2) * space.scale;
+    this.pen.stroke();
   }
 }
