@@ -12,12 +12,11 @@ class Picker {
   at(x, y) {
     const { space, mesh } = this;
     space.paint();
-    if (!space.depth) space.mapDepth();
     const few = this.used.length <= MOST_LOOKED_AT || mesh.isLaidOut ? this.used : this.corners(x, y);
     let [best, least] = [null, CLICK_REACH * space.scale];
     for (const vertex of few) {
       const away = Math.hypot(space.x[vertex] - x, space.y[vertex] - y);
-      if (away < least && space.isSeen(space.x[vertex], space.y[vertex], space.z[vertex])) [best, least] = [vertex, away];
+      if (away < least && this.sees(vertex)) [best, least] = [vertex, away];
     }
     return best;
   }
@@ -25,6 +24,7 @@ class Picker {
   // The corners of the faces that are in front about a place.
   corners(x, y) {
     const { space } = this, found = new Set(), [column, row] = [x, y].map((place) => Math.round(place / DEPTH_CELL));
+    if (!space.depth) space.mapDepth();
     for (let r = Math.max(0, row - 2); r <= Math.min(space.down - 1, row + 2); r++) {
       for (let c = Math.max(0, column - 2); c <= Math.min(space.across - 1, column + 2); c++) {
         const face = space.front[r * space.across + c];
@@ -38,7 +38,8 @@ class Picker {
   stopAt(x, y, { walks, current }) {
     const { space } = this;
     for (const walk of [current, 1 - current]) {
-      const stop = walks[walk].stops.findLastIndex((vertex) => Math.hypot(space.x[vertex] - x, space.y[vertex] - y) < STOP_REACH * space.scale);
+      const isHere = (vertex) => Math.hypot(space.x[vertex] - x, space.y[vertex] - y) < STOP_REACH * space.scale;
+      const stop = walks[walk].stops.findLastIndex(isHere);
       if (stop >= 0) return { walk, stop, vertex: walks[walk].stops[stop] };
     }
     return null;
@@ -58,17 +59,20 @@ class Picker {
 
   // Turns the mesh so that a vertex is seen, where that can be.
   lookAt(vertex) {
-    const { space } = this, seen = () => (space.paint(), space.depth ?? space.mapDepth(), space.isSeen(space.x[vertex], space.y[vertex], space.z[vertex]));
-    if (seen()) return;
-    const view = [space.azimuth, space.elevation], [x, y, z] = space.shape.points.subarray(3 * vertex, 3 * vertex + 3);
-    const [round, up] = [Math.atan2(x, -y), Math.asin(Math.max(-1, Math.min(1, z / (Math.hypot(x, y, z) || 1))))];
-    for (const [azimuth, elevation] of [[round, up], [round, 0.6], [round, -0.6], [round + Math.PI, 0.8], [round + Math.PI, -0.8], [round, 1.4]]) {
-      Object.assign(space, { azimuth, elevation });
+    const { space } = this, before = [space.azimuth, space.elevation], [x, y, z] = space.shape.points.subarray(3 * vertex, 3 * vertex + 3);
+    const round = Math.atan2(x, -y), up = Math.asin(Math.max(-1, Math.min(1, z / (Math.hypot(x, y, z) || 1)))), back = round + Math.PI;
+    const views = [[round, up], [round, 0.6], [round, -0.6], [back, 0.8], [back, -0.8], [round, 1.4], before];
+    for (let k = 0; !this.sees(vertex) && k < views.length; k++) {
+      [space.azimuth, space.elevation] = views[k];
       space.change();
-      if (seen()) return;
     }
-    Object.assign(space, { azimuth: view[0], elevation: view[1] });
-    space.change();
+  }
+
+  sees(vertex) {
+    const { space } = this;
+    space.paint();
+    if (!space.depth) space.mapDepth();
+    return space.isSeen(space.x[vertex], space.y[vertex], space.z[vertex]);
   }
 }
 
@@ -102,8 +106,8 @@ class Hands {
   press(event) {
     this.space.canvas.setPointerCapture(event.pointerId);
     this.pointers.set(event.pointerId, event);
-    const isOne = this.pointers.size === 1;
-    this.held = { from: event, moved: !isOne, stop: isOne && event.button === 0 ? this.picker.stopAt(...this.place(event), this.deeds.drawing) : null };
+    const isOne = this.pointers.size === 1, mayDrag = isOne && event.button === 0;
+    this.held = { from: event, moved: !isOne, stop: mayDrag ? this.picker.stopAt(...this.place(event), this.deeds.drawing) : null };
   }
 
   move(event) {
@@ -143,9 +147,12 @@ class Hands {
 
   key(event) {
     if (event.metaKey || event.altKey || (event.ctrlKey && event.key !== "z")) return;
-    const ways = { ArrowLeft: [-1, 0], ArrowRight: [1, 0], ArrowUp: [0, -1], ArrowDown: [0, 1] }, way = ways[event.key], { deeds, space } = this;
-    const keys = { "+": () => space.magnify(1.2), "=": () => space.magnify(1.2), "-": () => space.magnify(1 / 1.2), Enter: deeds.set, " ": deeds.set,
-      Backspace: deeds.undo, Delete: deeds.undo, z: deeds.undo, c: deeds.close, 1: () => deeds.choose(0), 2: () => deeds.choose(1) };
+    const { deeds, space } = this, nearer = () => space.magnify(1.2), away = () => space.magnify(1 / 1.2);
+    const way = { ArrowLeft: [-1, 0], ArrowRight: [1, 0], ArrowUp: [0, -1], ArrowDown: [0, 1] }[event.key];
+    const keys = {
+      "+": nearer, "=": nearer, "-": away, Enter: deeds.set, " ": deeds.set, Backspace: deeds.undo, Delete: deeds.undo, z: deeds.undo,
+      c: deeds.close, 1: () => deeds.choose(0), 2: () => deeds.choose(1),
+    };
     const deed = way ? () => (event.shiftKey ? space.turn(0.12 * way[0], 0.12 * way[1]) : deeds.step(...way)) : keys[event.key];
     if (!deed) return;
     event.preventDefault();

@@ -148,7 +148,8 @@ class Page {
   drop(isUp) {
     const { walk, stop, vertex } = this.picture.dragged ?? {};
     this.picture.dragged = null;
-    if (isUp && walk !== undefined && vertex !== this.drawing.walks[walk].stops[stop]) this.change(() => this.drawing.move(walk, stop, vertex));
+    const isElsewhere = walk !== undefined && vertex !== this.drawing.walks[walk].stops[stop];
+    if (isUp && isElsewhere) this.change(() => this.drawing.move(walk, stop, vertex));
   }
 
   undo() {
@@ -182,8 +183,8 @@ class Page {
 
   // The keys go to the neighbour in a direction, and say what is there.
   step(right, down) {
-    const { picture, picker, space } = this, at = picture.cursor;
-    const first = () => this.drawing.walk.end ?? picker.at(space.canvas.width / 2, space.canvas.height / 2) ?? this.mesh.used.values().next().value;
+    const { picture, picker, space: { canvas } } = this, at = picture.cursor;
+    const first = () => this.drawing.walk.end ?? picker.at(canvas.width / 2, canvas.height / 2) ?? picker.used[0];
     picture.cursor = at === null ? first() : picker.towards(at, right, down) ?? at;
     picker.lookAt(picture.cursor);
     const around = [...this.mesh.neighbours(picture.cursor)].slice(0, 12).join(", ");
@@ -265,7 +266,7 @@ class Page {
     byId("saved").hidden = true;
     byId("answer").hidden = false;
     byId("answer").scrollIntoView({ block: "nearest" });
-    this.mark({ ...this.marksOf(answer) });
+    this.mark(this.marksOf(answer));
   }
 
   noFilm({ question, tone }) {
@@ -275,10 +276,11 @@ class Page {
   // What a chain or a cocycle counts.
   tellShown(shown) {
     if (!shown) return "";
-    const { kind, count, entries } = shown, rest = count > entries.length ? ` The first ${entries.length.toLocaleString("en")} are shown.` : "";
+    const { kind, count, entries } = shown, isCut = count > entries.length;
+    const rest = isCut ? ` The first ${entries.length.toLocaleString("en")} are shown.` : "";
+    if (kind === "chain" && !count) return "The chain is empty: the walks run along each edge equally often.";
     if (kind === "chain") {
-      const least = "green above 0, rose below, and darker for more.";
-      return count ? `The chain: ${numberOf(count, "face")} with a number that is not 0; ${least}${rest}` : "The chain is empty: the walks pass each edge equally often.";
+      return `The chain: ${numberOf(count, "face")} with a number that is not 0; green above 0, rose below, and darker for more.${rest}`;
     }
     const sums = this.drawing.walks.map((walk) => this.sum(entries, walk.vertices()));
     return `The cocycle: ${numberOf(count, "edge")} with a number that is not 0.` +

@@ -7,7 +7,8 @@ const NO_MARKS = { vertices: [], edges: [], chain: [], faces: [], numbers: [] };
 
 class Picture {
   constructor(space) {
-    Object.assign(this, { space, ribbon: new Ribbon(space), marks: NO_MARKS, cursor: null, hover: null, dragged: null, version: 0, drawn: "" });
+    Object.assign(this, { space, ribbon: new Ribbon(space), marks: NO_MARKS, version: 0, drawn: "" });
+    Object.assign(this, { cursor: null, hover: null, dragged: null });
   }
 
   // Marks vertices, edges, the faces of a chain and the edges of a cocycle with their numbers, or an odd chain of faces.
@@ -18,9 +19,10 @@ class Picture {
 
   // Paints what has changed.
   paint(drawing) {
-    const { space } = this, state = [drawing.version, drawing.current, this.cursor, this.hover, this.dragged?.vertex, this.version].join();
-    if (state === this.drawn && !space.isStale() && space.canvas.clientWidth === this.width && space.canvas.clientHeight === this.height) return;
-    [this.drawn, this.width, this.height] = [state, space.canvas.clientWidth, space.canvas.clientHeight];
+    const { space, cursor, hover, dragged } = this, { clientWidth, clientHeight } = space.canvas;
+    const state = [drawing.version, drawing.current, cursor, hover, dragged?.vertex, this.version, clientWidth, clientHeight].join();
+    if (state === this.drawn && !space.isStale()) return;
+    this.drawn = state;
     space.paint();
     const pen = space.canvas.getContext("2d");
     pen.clearRect(0, 0, space.canvas.width, space.canvas.height);
@@ -54,7 +56,7 @@ class Picture {
       ribbon.dot(pen, vertex, FAULT, 9);
       this.name(pen, vertex, FAULT);
     }
-    for (const [x, y, text] of marks.numbers.map(([place, text]) => [...this.middle(place), text])) this.text(pen, x, y, text, "#1d2733");
+    for (const [place, number] of marks.numbers) this.text(pen, ...this.middle(place), number, "#1d2733");
   }
 
   // The faces of an odd chain, from green to red, and a line through the middles of its edges.
@@ -72,10 +74,11 @@ class Picture {
     pen.stroke();
   }
 
-  // Where the middle of some vertices is on the canvas.
-  middle(vertices) {
-    const { x, y } = this.space;
-    return [x, y].map((list) => vertices.reduce((sum, vertex) => sum + list[vertex], 0) / vertices.length);
+  // Where the middle of some points is on the canvas; of two, that of the edge between them.
+  middle(points) {
+    const { x, y, shape } = this.space, curve = points.length === 2 ? shape.curve(...points) : points, half = curve.length / 2;
+    const ends = points.length === 2 ? [curve[Math.ceil(half) - 1], curve[Math.floor(half)]] : points;
+    return [x, y].map((list) => ends.reduce((sum, point) => sum + list[point], 0) / ends.length);
   }
 
   edge(pen, u, v, colour, width) {

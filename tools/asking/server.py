@@ -133,9 +133,16 @@ class Handler(BaseHTTPRequestHandler):
         elif name == "alive":
             self.stay()
         elif name.startswith("film/"):
-            self.give(session.film(self.number(name[5:])).encode("utf-8", "replace"), PAGE, policy=ALONE)
+            self.give_film(self.number(name[5:]))
         else:
             raise Refused(404, "there is nothing here")
+
+    def give_film(self, number):
+        """The page of a certificate, or a line that says why there is none."""
+        try:
+            self.give(self.server.session.film(number).encode("utf-8", "replace"), PAGE, policy=ALONE)
+        except Fault as fault:
+            self.give(("There is no film: %s\n" % fault).encode(), "text/plain; charset=utf-8", policy=ALONE)
 
     def give_mesh(self, path):
         """The mesh file as it is, piece by piece."""

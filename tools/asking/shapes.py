@@ -89,12 +89,16 @@ def boundary_of(cubes):
     return Shape(list(names), faces)
 
 
-def double_torus():
-    """A plate with two holes, with its corners rounded off."""
+def double_torus_cubes():
+    """A plate with two holes."""
     plan = ("XXXXX", "X.X.X", "XXXXX")
-    cubes = {(2 * column + i, 2 * row + j, k) for row, line in enumerate(plan) for column, sign in enumerate(line) if sign == "X"
-             for i in (0, 1) for j in (0, 1) for k in (0, 1)}
-    return smoothed(boundary_of(cubes), 5)
+    return {(2 * column + i, 2 * row + j, k) for row, line in enumerate(plan) for column, sign in enumerate(line) if sign == "X"
+            for i in (0, 1) for j in (0, 1) for k in (0, 1)}
+
+
+def double_torus():
+    """The surface of the plate, with its corners rounded off."""
+    return smoothed(boundary_of(double_torus_cubes()), 5)
 
 
 def cup_rings():

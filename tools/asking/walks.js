@@ -82,7 +82,8 @@ class Drawing {
   // Moves a stop of a walk to another vertex. Both ways beside it are found anew; nothing changes where there are none.
   async move(number, stop, vertex) {
     const walk = this.walks[number], { stops, ways } = walk, last = stops.length - 1;
-    const before = stop > 0 ? await this.join(stops[stop - 1], vertex) : [], behind = stop < last ? await this.join(vertex, stops[stop + 1]) : [];
+    const before = stop > 0 ? await this.join(stops[stop - 1], vertex) : [];
+    const behind = stop < last ? await this.join(vertex, stops[stop + 1]) : [];
     if (!before || !behind || this.walks[number] !== walk) return `Vertex ${vertex} lies in another component.`;
     const news = [stops.slice(), ways.slice()];
     news[0][stop] = vertex;
@@ -106,7 +107,8 @@ class Drawing {
       joined += way.length > 2 ? 1 : 0;
       ways.push(way);
     }
-    const stops = vertices.filter((vertex, k) => !k || vertex !== vertices[k - 1]), walk = new Walk(stops, ways.filter((way) => way.length > 1));
+    const stops = vertices.filter((vertex, k) => !k || vertex !== vertices[k - 1]);
+    const walk = new Walk(stops, ways.filter((way) => way.length > 1));
     this.set(number, walk.stops.length > MOST_STOPS ? Walk.of(walk.vertices()) : walk);
     const gaps = joined ? ` Where no edge joins two vertices that stand side by side, a shortest way was put (${joined} times).` : "";
     return `The ${["first", "second"][number]} walk has ${numberOf(walk.darts, "dart")}.${gaps}`;

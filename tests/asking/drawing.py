@@ -1,0 +1,158 @@
+"""Faults of a mesh, shown where they are; walks drawn with the mouse and by keys alone; and how the page looks."""
+import os
+
+from pages import ROOT, Page
+
+EXAMPLES = os.path.join(ROOT, "examples")
+RED = (201, 42, 42)
+# Three triangles at one edge, and two tetrahedra apart.
+BOOK = "OFF\n5 3 0\n0 0 0\n0 0 1\n1 0 0\n-1 1 0\n-1 -1 0\n3 0 1 2\n3 0 1 3\n3 0 1 4\n"
+FOUR = ((0, 2, 1), (0, 1, 3), (1, 2, 3), (0, 3, 2))
+APART = ("OFF\n8 8 0\n0 0 0\n1 0 0\n0 1 0\n0 0 1\n3 0 0\n4 0 0\n3 1 0\n3 0 1\n"
+         + "".join("3 %d %d %d\n" % tuple(k + 4 * part for k in face) for part in (0, 1) for face in FOUR))
+OPEN_APART = "OFF\n6 2 0\n0 0 0\n1 0 0\n0 1 0\n3 0 0\n4 0 0\n3 1 0\n3 0 1 2\n3 3 4 5\n"
+
+# How red, green and blue the picture of the walks is in the middle of some vertices.
+COLOUR = """new Promise((done) => setTimeout(() => {
+  const [x, y] = page.picture.middle(%s), pen = page.space.canvas.getContext("2d");
+  done([...pen.getImageData(Math.round(x) + %d, Math.round(y), 1, 1).data].slice(0, 3));
+}, 150))"""
+
+
+def is_red(page, vertices, aside=0):
+    colour = page.value(COLOUR % (vertices, aside))
+    return all(abs(one - two) < 40 for one, two in zip(colour, RED))
+
+
+def faults(tests, browser):
+    """The pinched vertex, the edge with three sides, the odd chain and vertices that are apart are marked, and said."""
+    rows = ((os.path.join(EXAMPLES, "tetra-pinched.off"), "pinched at vertex 0", [0], 6),
+            (tests.file("book.off", BOOK), "0 and 1 has 3 sides", [0, 1], 0),
+            (tests.file("open-apart.off", OPEN_APART), "the vertices 0 and 3", [3], 6))
+    for mesh, said, vertices, aside in rows:
+        with Page(tests, browser, mesh) as page:
+            tests.expect(said in page.text("what"), "of %s it says %r" % (mesh, page.text("what")))
+            page.value("page.picker.lookAt(%d)" % vertices[0])
+            tests.expect(is_red(page, vertices, aside), "%s: the fault at %r is not marked" % (mesh, vertices))
+            if "pinched" in mesh:
+                tests.picture(page, "ask-pinched")
+    with Page(tests, browser, os.path.join(EXAMPLES, "plane6.off")) as page:
+        links = page.value("page.picture.marks.chain")
+        edges = [set(link[1:]) for link in links]
+        tests.expect(len(links) > 1 and all(len(edge) == 2 for edge in edges), "the odd chain that is shown is %r" % links)
+        tests.expect(is_red(page, links[0][1:]), "the odd chain is not marked")
+        tests.picture(page, "ask-odd-chain")
+    with Page(tests, browser, os.path.join(EXAMPLES, "annulus.off")) as page:
+        marked = sorted(tuple(edge[:2]) for edge in page.value("page.picture.marks.edges"))
+        wanted = [(0, 1), (0, 3), (1, 2), (2, 3), (4, 5), (4, 7), (5, 6), (6, 7)]
+        tests.expect(marked == wanted, "the boundary that is marked is %r" % marked)
+
+
+def walks(tests, browser):
+    """Clicks, drags, numbers, undo; and what cannot be done is said."""
+    with Page(tests, browser, os.path.join(EXAMPLES, "ring.off")) as page:
+        page.draw(0, 0, 5)
+        tests.expect(len(page.walks()[0]) == 6, "from 0 to 5 it went %r" % page.walks()[0])
+        page.set(5)
+        tests.expect(page.text("said").endswith("stands at vertex 5 already."), "a second click says %r" % page.text("said"))
+        page.browser.drag([page.where(5), middle(page.where(5), page.where(14)), page.where(14)])
+        page.rested()
+        tests.expect(page.walks()[0][-1] == 14, "the stop at 5 was dragged to 14, and the walk is %r" % page.walks()[0])
+        page.press("undo")
+        page.rested()
+        tests.expect(page.walks()[0][-1] == 5, "a drag that is taken back leaves %r" % page.walks()[0])
+        page.set(0)
+        tests.expect("is closed, at vertex 0" in page.text("said"), "a click on the start says %r" % page.text("said"))
+        page.press("decide")
+        tests.expect(page.text("said") == "The second walk has no vertex yet.", "without a second walk it says %r" % page.text("said"))
+        typed(tests, page)
+        box = page.value("(({ left, top }) => [left, top])(page.space.canvas.getBoundingClientRect())")
+        page.browser.click(box[0] + 5, box[1] + 5)
+        page.rested()
+        tests.expect("no vertex there" in page.text("said"), "a click beside the mesh says %r" % page.text("said"))
+    with Page(tests, browser, tests.file("apart.off", APART)) as page:
+        page.draw(0, 0, 5)
+        tests.expect("they lie in two components" in page.text("said") and page.walks()[0] == [0], "two components: %r" % page.text("said"))
+        page.draw(1, 5)
+        tone, sentence = page.ask("decide")
+        tests.expect(tone == "refused" and "start at different vertices" in sentence, "walks in two components: %r" % sentence)
+
+
+def typed(tests, page):
+    """Walks by their numbers, with a gap that a way fills, and with what is no number."""
+    rows = (("0 1 2", [0, 1, 2], "two darts"), ("0, 3", [0, 1, 2, 3], "a shortest way was put"), ("0 x", None, "is no number"),
+            ("0 99", None, "No face names"))
+    for text, wanted, said in rows:
+        page.value("document.getElementById('numbers1').value = ''")
+        page.press("numbers1")
+        page.browser.write(text)
+        page.browser.key("Enter")
+        page.rested()
+        tests.expect(said in page.text("said"), "%r typed says %r" % (text, page.text("said")))
+        tests.expect(wanted is None or page.walks()[1] == wanted, "%r typed is the walk %r" % (text, page.walks()[1]))
+
+
+def middle(one, two):
+    return [(a + b) / 2 for a, b in zip(one, two)]
+
+
+def keys(tests, browser):
+    """By keys alone: two walks on the cube, a question, the film to its end, and what is said of it all."""
+    with Page(tests, browser, os.path.join(EXAMPLES, "cube.off")) as page:
+        focus(page, "space")
+        for walk in (1, 2):
+            page.browser.key(str(walk))
+            page.value("page.picture.cursor = 0")
+            for name in ("Enter", "ArrowRight", "Enter", "ArrowDown", "ArrowLeft", "Enter", "c"):
+                page.browser.key(name)
+                page.rested()
+        page.browser.key("ArrowUp")
+        tests.expect("with the neighbours" in page.text("said"), "the keys say %r" % page.text("said"))
+        walks_drawn = page.walks()
+        tests.expect(all(len(walk) > 2 and walk[0] == walk[-1] == 0 for walk in walks_drawn), "the keys drew %r" % walks_drawn)
+        page.browser.key("Backspace")
+        page.rested()
+        tests.expect(page.walks() != walks_drawn, "Backspace took nothing back")
+        page.browser.key("c")
+        turn = page.value("page.space.azimuth")
+        page.browser.key("ArrowLeft", shift=True)
+        tests.expect(page.value("page.space.azimuth") < turn, "Shift with an arrow did not turn the mesh")
+        focus(page, "decide")
+        page.browser.key("Enter")
+        page.wait("page.answer")
+        tests.expect(page.text("sentence").startswith("Homotopic"), "by keys it says %r" % page.text("sentence"))
+        focus(page, "play")
+        page.browser.key("Enter")
+        page.wait("document.getElementById('film').contentDocument?.getElementById('end')")
+        page.browser.key("Escape")
+        page.wait("!document.getElementById('theatre').open")
+        labelled = page.value("""[...document.querySelectorAll("button, input, canvas, iframe, a")].every((one) => one.textContent.trim() ||
+          one.ariaLabel || one.title || one.labels?.length)""")
+        tests.expect(labelled, "something on the page has no words for a screen reader")
+
+
+def focus(page, name):
+    """Goes with Tab to an element."""
+    for _ in range(40):
+        if page.value("document.activeElement.id") == name:
+            return
+        page.browser.key("Tab")
+    raise RuntimeError("Tab never comes to %s" % name)
+
+
+def looks(tests, browser):
+    """In the dark the ground is dark and the words light; at a phone's width nothing is wider than the window."""
+    with Page(tests, browser, "--exercise", "5") as page:
+        browser.ask("Emulation.setEmulatedMedia", features=[{"name": "prefers-color-scheme", "value": "dark"}])
+        ground, ink = page.value("""["backgroundColor", "color"].map((name) =>
+          getComputedStyle(document.body)[name].match(/[0-9]+/g).reduce((sum, part) => sum + Number(part), 0) / 3)""")
+        tests.expect(ground < 60 and ink > 190, "in the dark the ground is %d and the ink %d" % (ground, ink))
+        tests.picture(page, "ask-dark")
+        browser.ask("Emulation.setEmulatedMedia", features=[{"name": "prefers-color-scheme", "value": "light"}])
+        browser.ask("Emulation.setDeviceMetricsOverride", width=390, height=844, deviceScaleFactor=2, mobile=True)
+        page.value("new Promise((done) => setTimeout(done, 300))")
+        wide = page.value("document.documentElement.scrollWidth")
+        tests.expect(wide <= 390, "at a phone's width the page is %d wide" % wide)
+        small = page.value("[...document.querySelectorAll('button')].filter((one) => one.offsetHeight && one.offsetHeight < 30).length")
+        tests.expect(small == 0, "%d buttons are too small for a finger" % small)
+        browser.ask("Emulation.setDeviceMetricsOverride", width=1280, height=800, deviceScaleFactor=1, mobile=False)
