@@ -140,6 +140,51 @@ def focus(page, name):
     raise RuntimeError("Tab never comes to %s" % name)
 
 
+# How far the picture by WebGL and that by the pen are apart, each colour of each point on the average, and how much there is to see.
+APART_PAINTED = """(() => {
+  GlPainter.prototype.takes = () => 0;
+  page.space.canvas.width = 0;
+  page.show(page.space.shape);
+  const { space } = page, painted = () => {
+    const pen = Object.assign(document.createElement("canvas"), { width: 120, height: 80 }).getContext("2d");
+    pen.drawImage(space.still, 0, 0, 120, 80);
+    return pen.getImageData(0, 0, 120, 80).data;
+  };
+  const name = space.painter.constructor.name;
+  space.paint();
+  space.painter.paint(space, false);
+  const one = painted();
+  space.painter.giveUp?.(space);
+  Object.assign(space, { stale: true, turnedAt: -1e6 });
+  space.paint();
+  const two = painted(), sum = (of) => one.reduce((all, _, k) => all + of(k), 0) / one.length;
+  return [name, space.painter.constructor.name, sum((k) => Math.abs(one[k] - two[k])), sum((k) => two[k])];
+})()"""
+
+
+def painters(tests, browser):
+    """WebGL and the pen paint alike; and where WebGL is lost the pen goes on."""
+    with Page(tests, browser, os.path.join(EXAMPLES, "exercises", "mug.off")) as page:
+        first, second, apart, whole = page.value(APART_PAINTED)
+        if first == "PenPainter":
+            print("tests/ask: the painters were not compared, since the browser has no WebGL")
+        tests.expect(second == "PenPainter" and whole > 20 and apart < 4, "WebGL and the pen are %.1f apart, of %.1f" % (apart, whole))
+
+
+def changed(tests, browser):
+    """Where the mesh file changes behind the page, nothing is answered of the new one."""
+    with open(os.path.join(EXAMPLES, "cube.off"), encoding="ascii") as file:
+        path = tests.file("changing.off", file.read())
+    with Page(tests, browser, path) as page:
+        for walk in (0, 1):
+            page.draw(walk, 0, 1)
+        with open(path, "a", encoding="ascii") as file:
+            file.write("# another line\n")
+        page.press("decide")
+        page.wait("document.getElementById('said').textContent.includes('answer')")
+        tests.expect("has changed since" in page.text("said"), "of a mesh that has changed it says %r" % page.text("said"))
+
+
 def looks(tests, browser):
     """In the dark the ground is dark and the words light; at a phone's width nothing is wider than the window."""
     with Page(tests, browser, "--exercise", "5") as page:

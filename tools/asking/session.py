@@ -44,6 +44,15 @@ class Session:
         self.mesh, self.program, self.folder, self.view = mesh, program, folder, list(view)
         self.scratch = tempfile.TemporaryDirectory(prefix="ask-")
         self.lock, self.count, self.answers, self.running = threading.Lock(), 0, {}, {}
+        self.stamp = self.mesh_stamp()
+
+    def mesh_stamp(self):
+        """What changes when the mesh file does; nothing where it is gone."""
+        try:
+            found = os.stat(self.mesh)
+        except OSError:
+            return None
+        return found.st_mtime_ns, found.st_size
 
     def path(self, number, kind):
         return os.path.join(self.scratch.name, "%d.%s" % (number, kind))
@@ -97,6 +106,8 @@ class Session:
 
     def ask(self, question, walks, ticket):
         """What the page shows of a question about two walks."""
+        if self.mesh_stamp() != self.stamp:
+            raise Fault("the mesh file has changed since the page was opened, so start tools/ask anew")
         answer = self.run([question, self.mesh], walks, ticket)
         number = int(os.path.basename(answer.printed).split(".")[0])
         lines = first_lines(answer.printed)
