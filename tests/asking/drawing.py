@@ -36,6 +36,8 @@ def faults(tests, browser):
             tests.expect(is_red(page, vertices, aside), "%s: the fault at %r is not marked" % (mesh, vertices))
             if "pinched" in mesh:
                 tests.picture(page, "ask-pinched")
+    with Page(tests, browser, os.path.join(EXAMPLES, "tetra-pinched.off"), os.path.join(EXAMPLES, "cube.walks")) as page:
+        tests.expect("are left out" in page.text("said") and page.walks() == [[], []], "of other walks it says %r" % page.text("said"))
     with Page(tests, browser, os.path.join(EXAMPLES, "plane6.off")) as page:
         links = page.value("page.picture.marks.chain")
         edges = [set(link[1:]) for link in links]

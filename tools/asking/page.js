@@ -19,6 +19,10 @@ class Mesh {
     return this.next.subarray(this.first[vertex], this.first[vertex + 1]);
   }
 
+  hasWalk(walk) {
+    return walk.every((vertex, k) => this.used.has(vertex) && (!k || this.neighbours(vertex).includes(walk[k - 1])));
+  }
+
   // The edges with another number of sides than two: on the boundary, or on more than two faces. At most as many as are marked.
   uneven(isWanted) {
     const found = [];
@@ -109,7 +113,8 @@ class Page {
   }
 
   async begin() {
-    for (const [w, walk] of this.start.walks.entries()) this.drawing.walks[w] = Walk.of(walk);
+    if (!this.start.walks.every((walk) => this.mesh.hasWalk(walk))) this.say("The walks of the file are not of this mesh, and are left out.");
+    else for (const [w, walk] of this.start.walks.entries()) this.drawing.walks[w] = Walk.of(walk);
     this.drawing.version++;
     this.tell();
     document.body.dataset.ready = "yes";
