@@ -35,7 +35,7 @@ class Mesh {
 
 class Page {
   constructor(start) {
-    Object.assign(this, { start, helper: new Helper(), tickets: 0, own: {}, answer: null });
+    Object.assign(this, { start, helper: new Helper(), own: {}, answer: null });
     this.drawing = new Drawing(async (from, to) => {
       const { way, milliseconds } = await this.helper.ask("way", { from, to });
       this.wayTook = milliseconds;
@@ -113,8 +113,9 @@ class Page {
   }
 
   async begin() {
-    if (!this.start.walks.every((walk) => this.mesh.hasWalk(walk))) this.say("The walks of the file are not of this mesh, and are left out.");
-    else for (const [w, walk] of this.start.walks.entries()) this.drawing.walks[w] = Walk.of(walk);
+    const { walks } = this.start;
+    if (!walks.every((walk) => this.mesh.hasWalk(walk))) this.say("The walks of the file are not of this mesh, and are left out.");
+    else for (const [w, walk] of walks.entries()) this.drawing.walks[w] = Walk.of(walk);
     this.drawing.version++;
     this.tell();
     document.body.dataset.ready = "yes";
@@ -252,8 +253,9 @@ class Page {
   }
 
   run(question, walks) {
-    this.ticket = `${++this.tickets}`;
-    const asked = post("ask", { question, walks: walks.map((walk) => walk.vertices()), ticket: this.ticket });
+    this.ticket = crypto.randomUUID();
+    const view = this.space ? [this.space.azimuth, this.space.elevation].map((angle) => Math.round((angle * 180) / Math.PI)) : null;
+    const asked = post("ask", { question, walks: walks.map((walk) => walk.vertices()), ticket: this.ticket, view });
     return this.busy(`The program is at work (${question}).`, asked, true);
   }
 

@@ -10,12 +10,12 @@ import threading
 import time
 from http.server import BaseHTTPRequestHandler, ThreadingHTTPServer
 
-from asking.session import QUESTIONS
+from asking.session import QUESTIONS, Asked
 from watching.texts import Fault
 
 HERE = os.path.dirname(os.path.realpath(__file__))
 WATCHING = os.path.join(os.path.dirname(HERE), "watching")
-MOST_BYTES, MOST_VERTEX, LINGER, BEAT, PIECE = 24_000_000, 2**32 - 1, 4.0, 0.5, 1 << 18
+MOST_BYTES, MOST_VERTEX, MOST_DEGREES, LINGER, BEAT, PIECE = 24_000_000, 2**32 - 1, 1_000_000, 4.0, 0.5, 1 << 18
 
 SCRIPT, STYLE, PAGE, DATA = "text/javascript", "text/css", "text/html", "application/json"
 FILES = {
@@ -182,7 +182,7 @@ class Handler(BaseHTTPRequestHandler):
     def post(self, name):
         session, asked = self.server.session, self.body()
         if name == "ask":
-            self.give_data(session.ask(*question_of(asked)))
+            self.give_data(session.ask(question_of(asked)))
         elif name == "stop":
             session.stop(asked.get("ticket"))
             self.give_data({})
@@ -216,13 +216,19 @@ class Handler(BaseHTTPRequestHandler):
 
 
 def question_of(asked):
-    """A question, two walks, and the name by which it can be stopped."""
-    question, walks = asked.get("question"), asked.get("walks")
+    """A question, two walks, the name by which it can be stopped, and from where the mesh is seen."""
+    question, walks, view = asked.get("question"), asked.get("walks"), asked.get("view")
     fits = question in QUESTIONS and isinstance(walks, list) and len(walks) == 2
     if not fits or not all(isinstance(walk, list) and walk and all(map(is_vertex, walk)) for walk in walks):
         raise Refused(400, "a question is one of %s, of two walks" % ", ".join(QUESTIONS))
-    return question, walks, str(asked.get("ticket"))
+    if view is not None and not (isinstance(view, list) and len(view) == 2 and all(map(is_angle, view))):
+        raise Refused(400, "a view is two angles")
+    return Asked(question, walks, str(asked.get("ticket")), view)
 
 
 def is_vertex(entry):
     return type(entry) is int and 0 <= entry <= MOST_VERTEX
+
+
+def is_angle(entry):
+    return type(entry) in (int, float) and abs(entry) <= MOST_DEGREES

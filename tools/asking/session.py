@@ -23,7 +23,8 @@ BUILT = os.path.join(os.path.dirname(os.path.dirname(HERE)), "crates", "homotopy
 LEFT_OUT = ("The mesh file has no coordinates, and a mesh of more than {:,} vertices is not laid out: there is no picture. Walks can be "
             "given by their numbers, and all questions asked.")
 
-Answer = namedtuple("Answer", "question walks printed status told")
+Answer = namedtuple("Answer", "number question walks printed status told view")
+Asked = namedtuple("Asked", "question walks ticket view")
 Job = namedtuple("Job", "mesh sides view title at")
 
 
@@ -66,8 +67,9 @@ class Session:
         stays = self.run(["decide-open", self.mesh], [edge[0][:1]] * 2)
         return told, stays.told
 
-    def run(self, words, walks=None, ticket=None):
-        """Runs the program, and keeps what it printed; `ticket` is the name by which it can be stopped."""
+    def run(self, words, walks=None, ticket=None, view=None):
+        """Runs the program, and keeps what it printed; `ticket` is the name by which it can be stopped, and `view` from where the mesh
+        was seen."""
         with self.lock:
             self.count += 1
             number = self.count
@@ -81,7 +83,7 @@ class Session:
             with self.lock:
                 self.running[number] = process, ticket
             status = process.wait()
-        answer = Answer(words[0], words[-1], printed, status, told_of(status, first_lines(printed)))
+        answer = Answer(number, words[0], words[-1], printed, status, told_of(status, first_lines(printed)), view or self.view)
         with self.lock:
             del self.running[number]
             self.answers[number] = answer
@@ -104,16 +106,15 @@ class Session:
                 if ticket is None or name == ticket:
                     process.kill()
 
-    def ask(self, question, walks, ticket):
+    def ask(self, asked):
         """What the page shows of a question about two walks."""
         if self.mesh_stamp() != self.stamp:
             raise Fault("the mesh file has changed since the page was opened, so start tools/ask anew")
-        answer = self.run([question, self.mesh], walks, ticket)
-        number = int(os.path.basename(answer.printed).split(".")[0])
+        answer = self.run([asked.question, self.mesh], asked.walks, asked.ticket, asked.view)
         lines = first_lines(answer.printed)
-        has_film = question in ("certify", "certify-open") and len(lines) > 1 and answer.status in (0, 1)
-        return {"number": number, "question": question, "status": answer.status, **answer.told._asdict(), "film": has_film,
-                "shown": shown_of(lines, MOST_SHOWN), "command": self.command(question)}
+        has_film = asked.question in ("certify", "certify-open") and len(lines) > 1 and answer.status in (0, 1)
+        return {"number": answer.number, "question": asked.question, "status": answer.status, **answer.told._asdict(), "film": has_film,
+                "shown": shown_of(lines, MOST_SHOWN), "command": self.command(asked.question)}
 
     def command(self, question, walks="WALKS"):
         return " ".join(map(shlex.quote, ("homotopy_cli", question, self.mesh, walks)))
@@ -137,7 +138,7 @@ class Session:
         mesh, certificate = read_mesh(self.mesh), read_certificate(answer.printed)
         with open(answer.walks, encoding="ascii") as file:
             walks = [list(map(int, line.split())) for line in file]
-        job = Job(mesh, sides_of(mesh.faces), self.view, None, None)
+        job = Job(mesh, sides_of(mesh.faces), answer.view, None, None)
         check_walks(mesh, job.sides, walks, answer.walks)
         if not isinstance(certificate, Moves):
             return denial_page(job, walks, certificate)
@@ -174,6 +175,3 @@ class Session:
     def close(self):
         self.stop()
         self.scratch.cleanup()
-
-
-__all__ = ["BUILT", "Fault", "QUESTIONS", "Session"]
