@@ -24,6 +24,21 @@ def torus_text(rows, columns, is_cut):
     return "\n".join(lines) + "\n"
 
 
+def left_out(tests, browser):
+    """A mesh without coordinates that is too large to be laid out has no picture, and is asked about by numbers all the same."""
+    lines = torus_text(100, 70, False).split("\n")
+    lines[2:7002] = ["0 0 0"] * 7000
+    with Page(tests, browser, tests.file("flat.off", "\n".join(lines))) as page:
+        tests.expect("more than 6,000 vertices is not laid out" in page.text("nothing"), "it says %r" % page.text("nothing"))
+        for name in ("numbers0", "numbers1"):
+            page.press(name)
+            page.browser.write("0 3 70")
+            page.browser.key("Enter")
+            page.rested()
+        tone, sentence = page.ask("decide")
+        tests.expect(tone == "yes" and len(page.walks()[0]) == 8, "by numbers it says %r of %r" % (sentence, page.walks()))
+
+
 TURN = """new Promise((done) => {
   const start = performance.now();
   let frames = 0;

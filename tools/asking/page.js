@@ -82,12 +82,19 @@ class Page {
     const read = await this.busy("The mesh is made ready.", this.helper.ask("read", { bytes }, [bytes]));
     const scene = read.isPlaced ? null : await this.busy("The file has no coordinates: the mesh is laid out.", get("scene"));
     this.mesh = new Mesh(read, Boolean(scene?.pieces));
-    if (scene?.left_out) return this.withoutPicture(scene.left_out, read);
-    const shape = scene ? Shape.of(scene) : new Shape({ ...read, numbered: read.corners.length < 1000 ? read.corners : [] });
+    if (scene?.left_out) return this.withoutPicture(scene.left_out);
+    const shape = scene ? Shape.of(scene) : Page.shapeOf(read);
     if (scene) this.helper.ask("place", { points: shape.points });
     this.show(shape);
     if (scene) this.say(scene.told);
     return this.begin();
+  }
+
+  // The shape of a mesh with coordinates.
+  static shapeOf(read) {
+    const coarse = read.coarse && new Shape({ ...read.coarse, points: read.points });
+    const { points, corners, starts, edges } = read;
+    return new Shape({ points, corners, starts, edges, coarse, numbered: read.corners.length < 1000 ? read.corners : [] });
   }
 
   show(shape) {
@@ -181,6 +188,7 @@ class Page {
 
   // A walk by its numbers.
   type(number) {
+    if (!this.mesh) return this.say("The mesh is not read yet.");
     const words = byId(`numbers${number}`).value.trim().split(/[\s,]+/).filter(Boolean), vertices = words.map(Number);
     const wrong = words.find((word, k) => !/^[0-9]+$/.test(word) || !this.mesh.used.has(vertices[k]));
     if (wrong) return this.say(/^[0-9]+$/.test(wrong) ? `No face names the vertex ${wrong}.` : `"${wrong}" is no number of a vertex.`);

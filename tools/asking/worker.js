@@ -3,6 +3,9 @@ importScripts("off.js", "ways.js");
 
 let ways = null;
 
+// From so many faces on a mesh is shown roughly while it is turned by the pen.
+const LARGE = 60000;
+
 const DEEDS = {
   // The mesh of a text: where its coordinates put it, its edges, and its neighbours.
   read({ bytes }) {
@@ -10,7 +13,8 @@ const DEEDS = {
     const isPlaced = areApart(points, corners), placed = isPlaced ? centred(points, corners) : new Float32Array(points.length);
     const { edges, sides } = edgesOf({ corners, starts }, vertices), { first, next } = neighboursOf(edges, vertices);
     ways = new Ways(first, next, placed);
-    return { isPlaced, points: placed, corners, starts, edges, sides, first, next };
+    const coarse = isPlaced && starts.length > LARGE ? coarsened(placed, { corners, starts }) : null;
+    return { isPlaced, points: placed, corners, starts, edges, sides, first, next, coarse };
   },
 
   // The mesh stands elsewhere than its file says.

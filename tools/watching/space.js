@@ -12,10 +12,11 @@ function turned(azimuth, elevation) {
 
 // A mesh as it is painted. Its points are three numbers each, and its patches rings of points, all in one row; patch k begins at
 // starts[k]. Its edges are straight pieces, two points each. Where patch k is not face k, `pieces` has the patches of each face as rings;
-// where edges are bent, `curves` has the points of each.
+// where edges are bent, `curves` has the points of each. `coarse` is a shape of fewer patches on the same points, if there is one.
 class Shape {
-  constructor({ points, corners, starts, edges, edgeCount = edges.length / 2, numbered = [], pieces = null, curves = null }) {
-    Object.assign(this, { points, corners, starts, edges, edgeCount, pieces, curves, numbered: new Set(numbered) });
+  constructor({ points, corners, starts, edges = [], edgeCount = edges.length / 2, numbered = [], ...others }) {
+    Object.assign(this, { points, corners, starts, edges, edgeCount, pieces: null, curves: null, coarse: null, ...others });
+    this.numbered = new Set(numbered);
     this.size = starts.length - 1;
   }
 
@@ -137,11 +138,10 @@ class Space {
     this.fit();
     const moves = performance.now() < this.turnedAt + REST && this.shape.size > MOST_QUICK;
     if (!this.stale && (!this.rough || moves)) return;
-    if (this.stale) {
-      this.project();
-      this.depth = null;
-    }
-    if (!this.depth && !(moves && this.painter.hidesByItself)) this.mapDepth();
+    if (this.stale) this.project();
+    const mapped = (moves && this.shape.coarse) || this.shape;
+    if (this.stale || this.mapped !== mapped) this.depth = null;
+    if (!this.depth && !(moves && this.painter.hidesByItself)) this.mapDepth(mapped);
     this.painter.paint(this, moves);
     [this.stale, this.rough] = [false, moves];
   }
@@ -161,12 +161,13 @@ class Space {
   }
 
   // For each cell of the canvas the patch that is nearest to the eye there, and how far away it is.
-  mapDepth() {
+  mapDepth(shape = this.shape) {
+    this.mapped = shape;
     this.across = Math.ceil(this.canvas.width / DEPTH_CELL) + 2;
     this.down = Math.ceil(this.canvas.height / DEPTH_CELL) + 2;
     this.depth = new Float32Array(this.across * this.down).fill(Infinity);
     this.front = new Int32Array(this.across * this.down).fill(-1);
-    const { corners, starts, size } = this.shape;
+    const { corners, starts, size } = shape;
     for (let k = 0; k < size; k++) {
       for (let j = starts[k] + 2; j < starts[k + 1]; j++) this.mapTriangle(k, corners[starts[k]], corners[j - 1], corners[j]);
     }
@@ -279,7 +280,7 @@ class PenPainter {
     const image = new ImageData(space.across, space.down), words = new Uint32Array(image.data.buffer), { front } = space;
     for (let cell = 0; cell < words.length; cell++) {
       if (front[cell] < 0) continue;
-      const [red, green, blue] = this.shade(space, front[cell]);
+      const [red, green, blue] = this.shade(space.mapped, space.light, front[cell]);
       words[cell] = (255 << 24) | (blue << 16) | (green << 8) | red;
     }
     this.draft ??= document.createElement("canvas");
@@ -288,10 +289,9 @@ class PenPainter {
     this.pen.drawImage(this.draft, -DEPTH_CELL / 2, -DEPTH_CELL / 2, space.across * DEPTH_CELL, space.down * DEPTH_CELL);
   }
 
-  // How red, green and blue a patch is, by the direction in which it looks.
-  shade({ shape, light }, k) {
-    this.normals ??= new Float32Array(3 * shape.size);
-    const { normals } = this;
+  // How red, green and blue a patch is, by the direction in which it looks. Directions are kept, once they are found.
+  shade(shape, light, k) {
+    const normals = (shape.normals ??= new Float32Array(3 * shape.size));
     if (!normals[3 * k] && !normals[3 * k + 1] && !normals[3 * k + 2]) normals.set(this.normal(shape, k), 3 * k);
     const bright = Math.abs(normals[3 * k] * light[0] + normals[3 * k + 1] * light[1] + normals[3 * k + 2] * light[2]);
     return [172 + 70 * bright, 186 + 60 * bright, 201 + 50 * bright];
@@ -318,7 +318,7 @@ class PenPainter {
     const order = chosen.sort((p, q) => far[q] - far[p]);
     pen.lineWidth = 0.8;
     for (const k of order) {
-      pen.fillStyle = pen.strokeStyle = `rgb(${this.shade(space, k)})`;
+      pen.fillStyle = pen.strokeStyle = `rgb(${this.shade(shape, space.light, k)})`;
       pen.beginPath();
       space.trace(pen, shape.patch(k));
       pen.fill();
