@@ -1,6 +1,7 @@
 """Starts tools/ask, and works its page with the hands of a browser."""
 import json
 import os
+import signal
 import subprocess
 import sys
 
@@ -25,7 +26,9 @@ def start(*words):
 
 
 class Page:
-    """The page of one start of tools/ask. It is closed at the end, and tools/ask has to end with it."""
+    """The page of one start of tools/ask, which is ended with it: by Ctrl-C, or, where it is to end by itself, by nothing."""
+
+    ends_by_itself = False
 
     def __init__(self, tests, browser, *words):
         self.tests, self.browser = tests, browser
@@ -40,6 +43,8 @@ class Page:
 
     def __exit__(self, *_):
         self.browser.visit("about:blank")
+        if not self.ends_by_itself:
+            self.process.send_signal(signal.SIGINT)
         self.tests.expect(self.process.wait(timeout=30) == 0, "tools/ask ended with %r behind its page" % self.process.returncode)
         self.process.stdout.close()
         self.process.stderr.close()
