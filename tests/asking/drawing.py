@@ -85,11 +85,7 @@ def typed(tests, page):
     rows = (("0 1 2", [0, 1, 2], "two darts"), ("0, 3", [0, 1, 2, 3], "a shortest way was put"), ("0 x", None, "is no number"),
             ("0 99", None, "No face names"))
     for text, wanted, said in rows:
-        page.value("document.getElementById('numbers1').value = ''")
-        page.press("numbers1")
-        page.browser.write(text)
-        page.browser.key("Enter")
-        page.rested()
+        page.type(1, text)
         tests.expect(said in page.text("said"), "%r typed says %r" % (text, page.text("said")))
         tests.expect(wanted is None or page.walks()[1] == wanted, "%r typed is the walk %r" % (text, page.walks()[1]))
 

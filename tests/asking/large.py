@@ -30,11 +30,8 @@ def left_out(tests, browser):
     lines[2:7002] = ["0 0 0"] * 7000
     with Page(tests, browser, tests.file("flat.off", "\n".join(lines))) as page:
         tests.expect("more than 6,000 vertices is not laid out" in page.text("nothing"), "it says %r" % page.text("nothing"))
-        for name in ("numbers0", "numbers1"):
-            page.press(name)
-            page.browser.write("0 3 70")
-            page.browser.key("Enter")
-            page.rested()
+        for walk in (0, 1):
+            page.type(walk, "0 3 70")
         tone, sentence = page.ask("decide")
         tests.expect(tone == "yes" and len(page.walks()[0]) == 8, "by numbers it says %r of %r" % (sentence, page.walks()))
 
@@ -71,12 +68,12 @@ def opened(tests, browser):
 
 def asked(tests, page, far, what):
     """The mesh is too large for a certificate, and is answered of all the same."""
-    page.draw(0, far, far + 3, far)
-    page.draw(1, far)
+    page.type(0, "%d %d %d" % (far, far + 3, far))
+    page.type(1, str(far))
     tone, sentence = page.ask("decide")
     said = "of %s it answers %r, and %r" % (what, sentence, page.text("why"))
     tests.expect(tone == "yes" and "16,384 are the most" in page.text("why"), said)
-    page.draw(1, far + 1)
+    page.type(1, str(far + 1))
     tone, sentence = page.ask("decide")
     tests.expect(tone == "refused" and "start at different" in sentence, "of %s it answers %r" % (what, sentence))
 

@@ -91,6 +91,14 @@ class Page:
         self.rested()
         self.set(*vertices)
 
+    def type(self, walk, text):
+        """Writes the numbers of a walk into its field."""
+        self.value("document.getElementById('numbers%d').value = ''" % walk)
+        self.press("numbers%d" % walk)
+        self.browser.write(text)
+        self.browser.key("Enter")
+        self.rested()
+
     def ask(self, question):
         """Presses the button of a question, and gives the sentence and how it is told."""
         self.press(question)

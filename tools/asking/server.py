@@ -2,6 +2,7 @@
 
 It ends with the page: the page holds a connection open, and when the last one has been gone for a while, nobody looks any more.
 """
+import contextlib
 import hmac
 import json
 import os
@@ -196,7 +197,9 @@ class Handler(BaseHTTPRequestHandler):
             saved = self.server.session.save(number)
         except OSError as fault:
             raise Fault("nothing was saved: %s" % (fault.strerror or fault)) from None
-        print("\n".join("ask: " + line for line in ["saved " + " ".join(saved["files"])] + saved["commands"]), flush=True)
+        lines = ["saved " + " ".join(saved["files"])] + saved["commands"]
+        with contextlib.suppress(OSError):
+            print("\n".join("ask: " + line for line in lines), flush=True)
         return saved
 
     def body(self):
