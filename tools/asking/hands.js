@@ -23,7 +23,7 @@ class Picker {
 
   // The corners of the faces that are in front about a place.
   corners(x, y) {
-    const { space } = this, found = new Set(), [column, row] = [x, y].map((place) => Math.round(place / DEPTH_CELL));
+    const { space } = this, found = new Set(), [column, row] = [x, y].map((place) => Math.round(place / space.cell));
     if (!space.depth || space.mapped !== space.shape) space.mapDepth();
     for (let r = Math.max(0, row - 2); r <= Math.min(space.down - 1, row + 2); r++) {
       for (let c = Math.max(0, column - 2); c <= Math.min(space.across - 1, column + 2); c++) {

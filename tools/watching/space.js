@@ -54,7 +54,8 @@ class Shape {
 class Space {
   // The painter paints faces and edges on the canvas below; without one they are painted by a pen.
   constructor(canvas, shape, view, painter = new PenPainter()) {
-    Object.assign(this, { canvas, shape, painter, curves: shape.curves, zoom: 1, mostZoom: 8, aside: [0, 0], depth: null });
+    Object.assign(this, { canvas, shape, painter, curves: shape.curves, zoom: 1, mostZoom: 8, aside: [0, 0] });
+    Object.assign(this, { depth: null, cell: DEPTH_CELL });
     [this.azimuth, this.elevation] = view.map((degrees) => (degrees * Math.PI) / 180);
     const count = shape.points.length / 3;
     [this.x, this.y, this.z] = [new Float32Array(count), new Float32Array(count), new Float32Array(count)];
@@ -139,11 +140,18 @@ class Space {
     const moves = performance.now() < this.turnedAt + REST && this.shape.size > MOST_QUICK;
     if (!this.stale && (!this.rough || moves)) return;
     if (this.stale) this.project();
-    const mapped = (moves && this.shape.coarse) || this.shape;
-    if (this.stale || this.mapped !== mapped) this.depth = null;
+    const mapped = (moves && this.shape.coarse) || this.shape, cell = this.cellAt(moves);
+    if (this.stale || this.mapped !== mapped || this.cell !== cell) this.depth = null;
+    this.cell = cell;
     if (!this.depth && !(moves && this.painter.hidesByItself)) this.mapDepth(mapped);
     this.painter.paint(this, moves);
     [this.stale, this.rough] = [false, moves];
+  }
+
+  // How wide a cell of the map is: a very large mesh that is painted by cells has fine ones when it is at rest.
+  cellAt(moves) {
+    const isFine = !moves && this.shape.size > MOST_FINE && !this.painter.hidesByItself;
+    return isFine ? Math.max(1, Math.round(this.scale)) : DEPTH_CELL;
   }
 
   // What a film paints on the mesh whenever that is painted.
@@ -162,9 +170,10 @@ class Space {
 
   // For each cell of the canvas the patch that is nearest to the eye there, and how far away it is.
   mapDepth(shape = this.shape) {
+    const { cell } = this;
     this.mapped = shape;
-    this.across = Math.ceil(this.canvas.width / DEPTH_CELL) + 2;
-    this.down = Math.ceil(this.canvas.height / DEPTH_CELL) + 2;
+    this.across = Math.ceil(this.canvas.width / cell) + 2;
+    this.down = Math.ceil(this.canvas.height / cell) + 2;
     this.depth = new Float32Array(this.across * this.down).fill(Infinity);
     this.front = new Int32Array(this.across * this.down).fill(-1);
     const { corners, starts, size } = shape;
@@ -174,8 +183,9 @@ class Space {
   }
 
   mapTriangle(patch, a, b, c) {
-    const ax = this.x[a] / DEPTH_CELL, ay = this.y[a] / DEPTH_CELL, bx = this.x[b] / DEPTH_CELL, by = this.y[b] / DEPTH_CELL;
-    const cx = this.x[c] / DEPTH_CELL, cy = this.y[c] / DEPTH_CELL, area = (bx - ax) * (cy - ay) - (by - ay) * (cx - ax);
+    const { cell } = this;
+    const ax = this.x[a] / cell, ay = this.y[a] / cell, bx = this.x[b] / cell, by = this.y[b] / cell;
+    const cx = this.x[c] / cell, cy = this.y[c] / cell, area = (bx - ax) * (cy - ay) - (by - ay) * (cx - ax);
     if (area === 0) return;
     const left = Math.max(0, Math.ceil(Math.min(ax, bx, cx))), right = Math.min(this.across - 1, Math.floor(Math.max(ax, bx, cx)));
     const top = Math.max(0, Math.ceil(Math.min(ay, by, cy))), bottom = Math.min(this.down - 1, Math.floor(Math.max(ay, by, cy)));
@@ -184,8 +194,8 @@ class Space {
       for (let x = left; x <= right; x++) {
         const toB = ((x - ax) * (cy - ay) - (y - ay) * (cx - ax)) / area, toC = ((bx - ax) * (y - ay) - (by - ay) * (x - ax)) / area;
         if (toB < 0 || toC < 0 || toB + toC > 1) continue;
-        const here = z[a] + toB * rise + toC * slope, cell = y * this.across + x;
-        if (here < depth[cell]) [depth[cell], front[cell]] = [here, patch];
+        const here = z[a] + toB * rise + toC * slope, place = y * this.across + x;
+        if (here < depth[place]) [depth[place], front[place]] = [here, patch];
       }
     }
   }
@@ -194,7 +204,7 @@ class Space {
   // is no map all counts as seen.
   isSeen(x, y, depth) {
     if (!this.depth) return true;
-    const column = Math.round(x / DEPTH_CELL), row = Math.round(y / DEPTH_CELL);
+    const column = Math.round(x / this.cell), row = Math.round(y / this.cell);
     if (column < 1 || row < 1 || column >= this.across - 1 || row >= this.down - 1) return true;
     for (let r = row - 1; r <= row + 1; r++) {
       for (let c = column - 1; c <= column + 1; c++) if (this.depth[r * this.across + c] > depth - 0.03) return true;
@@ -277,16 +287,16 @@ class PenPainter {
 
   // The patches in front, a square for each cell of the map.
   paintRoughly(space) {
-    const image = new ImageData(space.across, space.down), words = new Uint32Array(image.data.buffer), { front } = space;
-    for (let cell = 0; cell < words.length; cell++) {
-      if (front[cell] < 0) continue;
-      const [red, green, blue] = this.shade(space.mapped, space.light, front[cell]);
-      words[cell] = (255 << 24) | (blue << 16) | (green << 8) | red;
+    const image = new ImageData(space.across, space.down), words = new Uint32Array(image.data.buffer), { front, cell } = space;
+    for (let k = 0; k < words.length; k++) {
+      if (front[k] < 0) continue;
+      const [red, green, blue] = this.shade(space.mapped, space.light, front[k]);
+      words[k] = (255 << 24) | (blue << 16) | (green << 8) | red;
     }
     this.draft ??= document.createElement("canvas");
     Object.assign(this.draft, { width: space.across, height: space.down });
     this.draft.getContext("2d").putImageData(image, 0, 0);
-    this.pen.drawImage(this.draft, -DEPTH_CELL / 2, -DEPTH_CELL / 2, space.across * DEPTH_CELL, space.down * DEPTH_CELL);
+    this.pen.drawImage(this.draft, -cell / 2, -cell / 2, space.across * cell, space.down * cell);
   }
 
   // How red, green and blue a patch is, by the direction in which it looks. Directions are kept, once they are found.
