@@ -25,6 +25,7 @@ def torus(tests, page):
     page.draw(1, at(0, 0), *about, *along)
     darts = shapes.RING_PARTS + shapes.TUBE_PARTS
     tests.expect([len(walk) - 1 for walk in page.walks()] == [darts, darts], "the loops have not %d darts" % darts)
+    page.look(20, 48)
     homotopic(tests, page, "decide")
     page.draw(1, at(0, 0), *about)
     different(tests, page, "decide")
@@ -97,6 +98,7 @@ def moebius(tests, page):
     chain = page.value("page.picture.marks.chain.length")
     tests.expect(chain >= shapes.BAND_PARTS, "the odd chain that is shown has %r faces" % chain)
     tests.expect("not orientable" in page.text("what"), "of the band it says %r" % page.text("what"))
+    tests.picture(page)
     page.draw(0, 0, 5)
     page.draw(1, 0, 5)
     tone, sentence = page.ask("decide-open")

@@ -79,6 +79,13 @@ class Page:
     def where(self, vertex):
         return self.value(WHERE % (vertex, vertex, vertex))
 
+    def look(self, around, up):
+        """Turns the mesh so that it is seen from a side, in degrees."""
+        self.value("""(([azimuth, elevation]) => {
+          Object.assign(page.space, { azimuth, elevation });
+          page.space.change();
+        })([%d, %d].map((angle) => (angle * Math.PI) / 180))""" % (around, up))
+
     def set(self, *vertices):
         """Clicks vertices on the mesh, one behind the other."""
         for vertex in vertices:
