@@ -125,7 +125,7 @@ def keys(tests, browser):
         page.browser.key("Escape")
         page.wait("!document.getElementById('theatre').open")
         labelled = page.value("""[...document.querySelectorAll("button, input, canvas, iframe, a")].every((one) => one.textContent.trim() ||
-          one.ariaLabel || one.title || one.labels?.length)""")
+          one.ariaLabel || one.title || one.labels?.length || one.ariaHidden === "true")""")
         tests.expect(labelled, "something on the page has no words for a screen reader")
 
 

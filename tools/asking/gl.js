@@ -73,6 +73,7 @@ class GlPainter {
   giveUp(space) {
     if (space.painter !== this) return;
     const canvas = document.createElement("canvas");
+    canvas.setAttribute("aria-hidden", "true");
     Object.assign(canvas, { width: space.still.width, height: space.still.height });
     space.still.replaceWith(canvas);
     Object.assign(space, { still: canvas, painter: new PenPainter() });

@@ -60,6 +60,7 @@ class Space {
     const count = shape.points.length / 3;
     [this.x, this.y, this.z] = [new Float32Array(count), new Float32Array(count), new Float32Array(count)];
     this.still = canvas.parentElement.insertBefore(document.createElement("canvas"), canvas);
+    this.still.setAttribute("aria-hidden", "true");
     this.painter.start(this);
     this.stale = true;
     this.turnedAt = -REST;
