@@ -68,6 +68,7 @@ def opened(tests, browser):
 
 def asked(tests, page, far, what):
     """The mesh is too large for a certificate, and is answered of all the same."""
+    page.draw(0)
     page.type(0, "%d %d %d" % (far, far + 3, far))
     page.type(1, str(far))
     tone, sentence = page.ask("decide")

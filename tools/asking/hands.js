@@ -1,6 +1,7 @@
 // What the mouse, a finger and the keys do to the mesh and the walks.
 
 const CLICK_REACH = 40, STOP_REACH = 13, STILL = 5, MOST_LOOKED_AT = 20000;
+const LOOKS_UP = [0, 0.6, -0.6, 1.2, -1.2], LOOKS_ROUND = 16;
 
 // Which vertex of a mesh a place of the canvas means.
 class Picker {
@@ -59,13 +60,22 @@ class Picker {
 
   // Turns the mesh so that a vertex is seen, where that can be.
   lookAt(vertex) {
-    const { space } = this, before = [space.azimuth, space.elevation], [x, y, z] = space.shape.points.subarray(3 * vertex, 3 * vertex + 3);
-    const round = Math.atan2(x, -y), up = Math.asin(Math.max(-1, Math.min(1, z / (Math.hypot(x, y, z) || 1)))), back = round + Math.PI;
-    const views = [[round, up], [round, 0.6], [round, -0.6], [back, 0.8], [back, -0.8], [round, 1.4], before];
+    const { space } = this, views = [...this.views(vertex), [space.azimuth, space.elevation]];
     for (let k = 0; !this.sees(vertex) && k < views.length; k++) {
       [space.azimuth, space.elevation] = views[k];
       space.change();
     }
+  }
+
+  // From where a vertex may be seen: from straight outside, and then from all around, the sides that are near first. Of a large mesh, which
+  // takes long to be mapped, a few alone.
+  views(vertex) {
+    const { space } = this, [x, y, z] = space.shape.points.subarray(3 * vertex, 3 * vertex + 3);
+    const outside = [Math.atan2(x, -y), Math.asin(Math.max(-1, Math.min(1, z / (Math.hypot(x, y, z) || 1))))];
+    const around = LOOKS_UP.flatMap((up) => Array.from({ length: LOOKS_ROUND }, (_, k) => [(2 * Math.PI * k) / LOOKS_ROUND, up]));
+    const away = ([azimuth, elevation]) => (1 - Math.cos(azimuth - space.azimuth)) + (elevation - space.elevation) ** 2;
+    around.sort((one, two) => away(one) - away(two));
+    return [outside, ...around.slice(0, space.shape.size > MOST_FINE ? 6 : around.length)];
   }
 
   sees(vertex) {
