@@ -1,10 +1,11 @@
 """Faults of a mesh, shown where they are; walks drawn with the mouse and by keys alone; and how the page looks."""
 import os
+import time
 
 from pages import ROOT, Page
 
 EXAMPLES = os.path.join(ROOT, "examples")
-RED = (201, 42, 42)
+RED, SECONDS_TO_A_FILM = (201, 42, 42), 60
 # Three triangles at one edge, and two tetrahedra apart.
 BOOK = "OFF\n5 3 0\n0 0 0\n0 0 1\n1 0 0\n-1 1 0\n-1 -1 0\n3 0 1 2\n3 0 1 3\n3 0 1 4\n"
 FOUR = ((0, 2, 1), (0, 1, 3), (1, 2, 3), (0, 3, 2))
@@ -48,6 +49,26 @@ def faults(tests, browser):
         marked = sorted(tuple(edge[:2]) for edge in page.value("page.picture.marks.edges"))
         wanted = [(0, 1), (0, 3), (1, 2), (2, 3), (4, 5), (4, 7), (5, 6), (6, 7)]
         tests.expect(marked == wanted, "the boundary that is marked is %r" % marked)
+
+
+def in_a_minute(tests, browser):
+    """The steps of docs/ASKING.md, from the start of tools/ask to the end of a film that is played."""
+    began = time.monotonic()
+    with Page(tests, browser, os.path.join(EXAMPLES, "torus7.off")) as page:
+        page.set(0, 1, 3)
+        page.press("walk1")
+        page.set(0, 2, 3)
+        tests.expect(page.walks() == [[0, 1, 3], [0, 2, 3]], "the clicks made %r" % page.walks())
+        tone, _ = page.ask("decide")
+        tests.expect(tone == "yes" and page.film_to_its_end("play") == "right", "the film that is played does not end well")
+        took = time.monotonic() - began
+        tests.expect(took < SECONDS_TO_A_FILM, "from the start to the end of a film it took %.0f s" % took)
+        print("tests/ask: from the start of tools/ask to the end of a film %.1f s (load %.1f)" % (took, os.getloadavg()[0]))
+        page.leave_film()
+        for walk, text in ((0, "0 1 2 3"), (1, "0 3")):
+            page.type(walk, text)
+        tone, sentence = page.ask("decide")
+        tests.expect(tone == "no" and sentence.startswith("Different"), "0 1 2 3 and 0 3 are told %r" % sentence)
 
 
 def walks(tests, browser):

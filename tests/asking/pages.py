@@ -112,15 +112,15 @@ class Page:
         self.wait("page.answer && page.answer.question === '%s' && !document.getElementById('%s').disabled" % (question, question))
         return self.value("page.answer.tone"), self.text("sentence")
 
-    def film_to_its_end(self):
-        """Opens the film, clicks its last button, and gives what it says at its end."""
+    def film_to_its_end(self, button="end"):
+        """Opens the film, clicks a button of it, by which it goes to its end or plays, and gives what it says at its end."""
         self.press("play")
         inside = "document.getElementById('film').contentDocument"
         self.wait("%s && %s.readyState === 'complete' && %s.getElementById('end')" % (inside, inside, inside))
         place = self.value("""(() => {
-          const frame = document.getElementById("film").getBoundingClientRect(), box = %s.getElementById("end").getBoundingClientRect();
+          const frame = document.getElementById("film").getBoundingClientRect(), box = %s.getElementById("%s").getBoundingClientRect();
           return [frame.left + box.left + box.width / 2, frame.top + box.top + box.height / 2];
-        })()""" % inside)
+        })()""" % (inside, button))
         self.browser.click(*place)
         self.wait("['right', 'wrong'].includes(%s.getElementById('verdict').className)" % inside)
         return self.value("%s.getElementById('verdict').className" % inside)

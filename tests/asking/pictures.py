@@ -3,7 +3,7 @@ import struct
 import zlib
 from collections import Counter
 
-SIGNATURE, MOST_COLOURS = b"\x89PNG\r\n\x1a\n", 256
+SIGNATURE, MOST_COLOURS, MOST_KINDS, KIND = b"\x89PNG\r\n\x1a\n", 256, 160, 40
 
 
 def chunks_of(png):
@@ -44,9 +44,12 @@ def rounded(colour):
 
 
 def palette_of(rows):
-    """The colours that are most often seen, and for each colour the number of the nearest one."""
-    counts = Counter(rounded(colour) for row in rows for colour in row)
-    chosen = [colour for colour, _ in counts.most_common(MOST_COLOURS)]
+    """The colours that are most often seen, first one of each kind, so that a rare one is not lost; and for each colour the number of the
+    nearest of them."""
+    counts, kinds = Counter(rounded(colour) for row in rows for colour in row), {}
+    for colour, _ in counts.most_common():
+        kinds.setdefault(tuple(part // KIND for part in colour), colour)
+    chosen = list(dict.fromkeys([*kinds.values()][:MOST_KINDS] + [colour for colour, _ in counts.most_common(MOST_COLOURS)]))[:MOST_COLOURS]
     near = {colour: k for k, colour in enumerate(chosen)}
     for colour in counts:
         if colour not in near:
