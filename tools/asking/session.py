@@ -17,11 +17,11 @@ from watching.scene import scene_of
 from watching.texts import Fault, Moves, read_certificate, read_mesh
 
 QUESTIONS = ("decide", "certify", "loops", "homology", "decide-open", "certify-open")
-MOST_SHOWN, MOST_KEPT, FIRST_LINES, MOST_LAID_OUT, MOST_FACES_READ = 20_000, 20, 1100, 6_000, 40_000
+MOST_SHOWN, MOST_KEPT, FIRST_LINES, MOST_LAID_OUT, MOST_LINES = 20_000, 20, 1100, 6_000, 40_000
 HERE = os.path.dirname(os.path.realpath(__file__))
 BUILT = os.path.join(os.path.dirname(os.path.dirname(HERE)), "crates", "homotopy_cli", "out", "homotopy_cli")
-LEFT_OUT = ("The mesh file has no coordinates, and a mesh of more than {:,} vertices is not laid out: there is no picture. Walks can be "
-            "given by their numbers, and all questions asked.")
+LEFT_OUT = ("The mesh file has no coordinates, and a mesh of more than {:,} vertices, or {:,} lines, is not laid out: there is no picture. "
+            "Walks can be given by their numbers, and all questions asked.").format(MOST_LAID_OUT, MOST_LINES)
 
 Answer = namedtuple("Answer", "number question walks printed status told view")
 Asked = namedtuple("Asked", "question walks ticket view")
@@ -123,11 +123,11 @@ class Session:
         """Where the vertices of a mesh without coordinates are put; or why there is no picture."""
         with open(self.mesh, "rb") as file:
             size = sum(1 for line in file)
-        if size > MOST_FACES_READ:
-            return {"left_out": LEFT_OUT.format(MOST_LAID_OUT)}
+        if size > MOST_LINES:
+            return {"left_out": LEFT_OUT}
         mesh = read_mesh(self.mesh)
         if len({vertex for face in mesh.faces for vertex in face}) > MOST_LAID_OUT:
-            return {"left_out": LEFT_OUT.format(MOST_LAID_OUT)}
+            return {"left_out": LEFT_OUT}
         scene = scene_of(mesh, sides_of(mesh.faces))
         return {"points": scene.points, "curves": scene.curves, "surface": scene.surface if scene.pieces else None,
                 "pieces": scene.pieces, "faces": mesh.faces, "told": scene.told}
