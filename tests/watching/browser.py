@@ -1,4 +1,5 @@
-"""A headless Chromium, told what to do through two pipes: one JSON message after another, each ended by a zero byte."""
+"""A headless Chromium, told what to do through two pipes: one JSON message after another, each ended by a zero byte. Its mouse and keys are
+those of a hand: the page cannot tell them apart."""
 import base64
 import json
 import os
@@ -8,6 +9,9 @@ import subprocess
 import tempfile
 
 SECONDS_TO_ANSWER = 60
+KEYS = {"Tab": 9, "Enter": 13, "Escape": 27, " ": 32, "End": 35, "Home": 36, "ArrowLeft": 37, "ArrowUp": 38, "ArrowRight": 39,
+        "ArrowDown": 40, "Backspace": 8}
+TEXTS = {"Enter": "\r"}
 NAMES = ("chromium", "chromium-browser", "google-chrome", "google-chrome-stable", "chrome")
 
 
@@ -31,7 +35,7 @@ class Browser:
                                         stdin=subprocess.DEVNULL, stdout=subprocess.DEVNULL, stderr=subprocess.DEVNULL)
         os.close(to_browser)
         os.close(from_browser)
-        self.last, self.rest, self.session = 0, b"", None
+        self.last, self.rest, self.session, self.heard = 0, b"", None, []
         pages = self.ask("Target.getTargets")["targetInfos"]
         target = next(page["targetId"] for page in pages if page["type"] == "page")
         self.session = self.ask("Target.attachToTarget", targetId=target, flatten=True)["sessionId"]
@@ -50,7 +54,10 @@ class Browser:
                 raise RuntimeError("the browser says nothing more")
             self.rest += more
         text, self.rest = self.rest.split(b"\0", 1)
-        return json.loads(text)
+        message = json.loads(text)
+        if "method" in message:
+            self.heard.append((message["method"], message.get("params", {})))
+        return message
 
     def send(self, message):
         try:
@@ -78,8 +85,36 @@ class Browser:
             pass
 
     def open(self, path):
-        self.ask("Page.navigate", url="file://" + os.path.realpath(path))
+        self.visit("file://" + os.path.realpath(path))
+
+    def visit(self, address):
+        self.heard.clear()
+        self.ask("Page.navigate", url=address)
         self.wait_for("Page.loadEventFired")
+
+    def mouse(self, kind, x, y, **more):
+        self.ask("Input.dispatchMouseEvent", type="mouse" + kind, x=x, y=y, **more)
+
+    def click(self, x, y):
+        self.drag([(x, y)])
+
+    def drag(self, places):
+        """Presses at the first place, goes to the others, and lets go at the last one."""
+        self.mouse("Moved", *places[0])
+        self.mouse("Pressed", *places[0], button="left", buttons=1, clickCount=1)
+        for x, y in places[1:]:
+            self.mouse("Moved", x, y, button="left", buttons=1)
+        self.mouse("Released", *places[-1], button="left", buttons=0, clickCount=1)
+
+    def key(self, name, shift=False):
+        """Presses a key: one of KEYS, or a sign."""
+        code, text = KEYS.get(name, ord(name[0].upper())), TEXTS.get(name, name if len(name) == 1 else "")
+        for kind in ("keyDown", "keyUp"):
+            words = {"text": text} if kind == "keyDown" and text else {}
+            self.ask("Input.dispatchKeyEvent", type=kind, key=name, windowsVirtualKeyCode=code, modifiers=8 if shift else 0, **words)
+
+    def write(self, text):
+        self.ask("Input.insertText", text=text)
 
     def value(self, script):
         """The value of a script on the page, waited for where it is a promise."""
@@ -88,9 +123,10 @@ class Browser:
             raise RuntimeError(result["exceptionDetails"].get("exception", {}).get("description", "a script failed"))
         return result["result"].get("value")
 
-    def picture(self, path):
+    def picture(self, path, scale=1):
+        clip = {"x": 0, "y": 0, "width": 1280, "height": 800, "scale": scale}
         with open(path, "wb") as file:
-            file.write(base64.b64decode(self.ask("Page.captureScreenshot")["data"]))
+            file.write(base64.b64decode(self.ask("Page.captureScreenshot", **({} if scale == 1 else {"clip": clip}))["data"]))
 
     def close(self):
         os.close(self.written)

@@ -9,7 +9,7 @@ class DenialFilm {
     Object.assign(this, { frames: this.fault ? 0 : this.darts.length, unit: "darts", pace: 0.7, drawn: "" });
     this.steps = [...document.querySelectorAll("svg .step")].map((step) => this.stepOf(step));
     this.ends = [...document.querySelectorAll("svg .end")];
-    this.space = new Space(document.getElementById("space"), data);
+    this.space = new Space(document.getElementById("space"), Shape.of(data), data.view);
     this.ribbon = new Ribbon(this.space);
     this.space.listen();
     for (const id of ["open", "inspace"]) document.getElementById(id).addEventListener("click", () => this.look(id));

@@ -13,7 +13,7 @@ function inverse(faces, move) {
 class MovesFilm {
   constructor(data) {
     Object.assign(this, { faces: data.faces, edges: edgesOf(data.faces) });
-    this.space = new Space(document.getElementById("space"), data);
+    this.space = new Space(document.getElementById("space"), Shape.of(data), data.view);
     this.ribbon = new Ribbon(this.space);
     this.space.paintOver = (pen) => this.paintBands(pen);
     [this.first, this.second] = data.walks;

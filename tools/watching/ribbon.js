@@ -9,12 +9,6 @@ class Ribbon {
     this.space = space;
   }
 
-  // The points of the edge from one vertex to another.
-  curve(u, v) {
-    const [low, high, ...inner] = this.space.curves.get(u < v ? `${u} ${v}` : `${v} ${u}`);
-    return u < v ? [low, ...inner, high] : [high, ...inner.reverse(), low];
-  }
-
   // For each dart of some walks how far it runs to the right of its edge, in lanes.
   lanes(...walks) {
     const passes = new Map(), lanes = walks.map((walk) => new Float32Array(walk.length));
@@ -35,7 +29,7 @@ class Ribbon {
 
   // The places along a dart, moved to the right by some lanes: those inside, its ends drawn in, and the ends themselves.
   along(u, v, lane) {
-    const { space } = this, curve = this.curve(u, v), spots = [];
+    const { space } = this, curve = space.shape.curve(u, v), spots = [];
     for (let k = 0; k + 1 < curve.length; k++) {
       const [x0, y0] = space.spot(curve[k], curve[k + 1], 0), [x1, y1] = space.spot(curve[k], curve[k + 1], 1);
       const length = Math.hypot(x1 - x0, y1 - y0) || 1, aside = (lane * LANE * space.scale) / length;
