@@ -176,7 +176,8 @@ MESH = "the mesh: an OFF file, or PLY, OBJ, STL, VTK, GMSH and others by meshio;
 WALKS = "two walks, each a line of vertex numbers, counted from 0"
 
 COMMANDS = (
-    (surface, "count vertices, edges and faces, and the genus of each piece; or say why it is no such surface", "homotopy surface torus7.off"),
+    (surface, "count vertices, edges and faces, and the genus of each piece; or say why it is no such surface",
+     "homotopy surface torus7.off"),
     (decide, "can the first walk be moved over the surface to the second, its ends held fast?", "homotopy decide torus7.off torus7.walks"),
     (certify, "the same, with a list of moves or a denial that shows it", "homotopy certify torus7.off torus7.walks -o torus7.cert"),
     (verify, "does a certificate show what it says?", "homotopy verify torus7.off torus7.walks torus7.moves"),

@@ -1,4 +1,6 @@
 """Meshes of other formats than OFF, by meshio; and the faces of a mesh, for the words of a fault."""
+import contextlib
+import io
 import os
 import re
 from collections import namedtuple
@@ -27,10 +29,14 @@ def off_text(name):
         import meshio
     except ImportError:
         raise Fault("%s is no OFF file, and meshio, which reads others, is not installed: pip install meshio" % name, 3) from None
+    told = io.StringIO()
     try:
-        mesh = meshio.read(name)
+        # It prints what it notices, and ends the process where it can read nothing.
+        with contextlib.redirect_stdout(told), contextlib.redirect_stderr(told):
+            mesh = meshio.read(name)
     except (Exception, SystemExit) as error:
-        raise Fault("%s is no mesh that meshio reads: %s" % (name, " ".join(str(error).split()) or type(error).__name__)) from None
+        told.write("" if isinstance(error, SystemExit) else " %s" % error)
+        raise Fault("%s is no mesh that meshio reads: %s" % (name, " ".join(told.getvalue().split()))) from None
     faces = []
     for block in mesh.cells:
         if block.type in NO_FACES:

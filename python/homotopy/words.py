@@ -63,7 +63,7 @@ NEXT = {
 
 # Lines that say something else of a certificate of homology.
 OF_HOMOLOGY = {
-    "rejected: edge {0} {1}": "at the edge {0} {1}: the boundary of the chain is not the difference of the walks, or the cocycle lists no edge",
+    "rejected: edge {0} {1}": "at the edge {0} {1} the boundary of the chain is not the difference of the walks, or it is no edge",
 }
 
 ONE_SIDE = "the mesh has a boundary there: `homotopy decide --open` takes such a mesh"

@@ -52,10 +52,18 @@ def copyright_of(kit):
     return "".join(told).encode("utf-8")
 
 
+# Why lintian is to pass over what it would refuse.
+OVERRIDES = {"homotopy-tester": """# The program is byte for byte the one that the gate built, so that its checksum can be compared.
+homotopy-tester: unstripped-binary-or-object [usr/bin/homotopy_cli]
+"""}
+
+
 def package(name, tree, fields, kit, releases, scripts=None):
     """A package, with what each has: its changelog, what is known of rights, and checksums."""
     doc = "share/doc/%s/" % name
     tree = {**tree, doc + "changelog.gz": File(gz_of(changelog(name, releases))), doc + "copyright": File(copyright_of(kit))}
+    if name in OVERRIDES:
+        tree["share/lintian/overrides/" + name] = File(OVERRIDES[name].encode("ascii"))
     tree = below(tree, "usr")
     size = sum(-(-len(file.data) // 1024) for file in tree.values()) + len(folders_of(tree))
     sums = "".join("%s  %s\n" % (hashlib.md5(tree[path].data).hexdigest(), path) for path in sorted(tree) if not tree[path].link)
