@@ -1,6 +1,7 @@
 """Meshes of other formats than OFF, by meshio; and the faces of a mesh, for the words of a fault."""
 import contextlib
 import io
+import itertools
 import os
 import re
 from collections import namedtuple
@@ -48,38 +49,63 @@ def off_text(name):
     return "\n".join(["OFF", "%d %d 0" % (len(points), len(faces)), *points, *faces, ""]).encode("ascii")
 
 
-def faces_of(mesh):
-    """The faces of a mesh that the program has read, and so found in order. They are read once more here for words alone."""
-    with open(mesh.path, "rb") as file:
-        text = file.read().decode("latin-1").replace("\xef\xbb\xbf", "", 1)
-    rows = [words for words in (row.split("#")[0].split() for row in text.split("\n")) if words]
-    keyword = re.fullmatch("(?:ST|C|N|4|n)*OFF(.*)", rows[0][0])
+def rows_of(path):
+    """The lines of a mesh file that have words, without comments."""
+    with open(path, encoding="latin-1", newline="\n") as file:
+        for number, row in enumerate(file):
+            if number == 0:
+                row = row.replace("\xef\xbb\xbf", "", 1)
+            if "#" in row:
+                row = row.split("#")[0]
+            if row and not row.isspace():
+                yield row
+
+
+def face_rows(mesh):
+    """The words of each face of a mesh that the program has read, and so found in order: how many corners, and then the corners."""
+    rows = rows_of(mesh.path)
+    words = next(rows).split()
+    keyword = re.fullmatch("(?:ST|C|N|4|n)*OFF(.*)", words[0])
     if keyword:
-        rows[0][:1] = [keyword[1]] if keyword[1] else []
-        rows = rows if rows[0] else rows[1:]
-    vertices, faces = int(rows[0][0]), int(rows[0][1])
-    return [[int(word) for word in words[1:int(words[0]) + 1]] for words in rows[1 + vertices:1 + vertices + faces]]
+        words[:1] = [keyword[1]] if keyword[1] else []
+    vertices, faces = map(int, (words or next(rows).split())[:2])
+    for row in itertools.islice(rows, vertices, vertices + faces):
+        yield row.split()
 
 
-def faces_at_edge(faces, low, high):
-    """The numbers of the faces that have an edge, once for each side."""
+def faces_with(mesh, *vertices):
+    """The faces that have all these vertices as corners, each with its number. The mesh is read once more here, for words alone."""
     found = []
-    for number, face in enumerate(faces):
-        for here, there in zip(face, face[1:] + face[:1]):
-            if {here, there} == {low, high}:
-                found.append(number)
+    for number, words in enumerate(face_rows(mesh)):
+        # A number may have zeros before it; most faces are passed over without a look at each of their numbers.
+        if all(str(vertex) in words or any(word[0] == "0" for word in words) for vertex in vertices):
+            face = [int(word) for word in words[1:int(words[0]) + 1]]
+            if set(vertices) <= set(face):
+                found.append((number, face))
     return found
 
 
-def faces_at_vertex(faces, vertex):
-    return [number for number, face in enumerate(faces) if vertex in face]
+def faces_at_edge(mesh, low, high):
+    """The numbers of the faces that have an edge, once for each side."""
+    return [number for number, face in faces_with(mesh, low, high)
+            for here, there in zip(face, face[1:] + face[:1]) if {here, there} == {low, high}]
 
 
-def neighbours(faces, vertex):
+def faces_at_vertex(mesh, vertex):
+    return [number for number, _ in faces_with(mesh, vertex)]
+
+
+def neighbours(mesh, vertex):
     """The vertices that an edge joins to this one, in order."""
     found = set()
-    for face in faces:
+    for _, face in faces_with(mesh, vertex):
         for here, there in zip(face, face[1:] + face[:1]):
             if vertex in (here, there):
                 found.add(there if here == vertex else here)
     return sorted(found)
+
+
+def used_range(mesh):
+    """The least and the greatest vertex that a face names."""
+    ends = [(min(face), max(face)) for face in ([int(word) for word in words[1:int(words[0]) + 1]] for words in face_rows(mesh))]
+    return min(least for least, _ in ends), max(greatest for _, greatest in ends)

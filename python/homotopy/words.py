@@ -102,14 +102,14 @@ def several(numbers, most=8):
 
 def edge_sides(numbers, _rest, mesh, _walks):
     low, high, _sides = numbers
-    found = meshes.faces_at_edge(meshes.faces_of(mesh), low, high)
+    found = meshes.faces_at_edge(mesh, low, high)
     if len(found) == 1:
         return Told("edge %d-%d stands in one face: %d" % (low, high, found[0]), ONE_SIDE)
     return Told("edge %d-%d stands in %d faces: %s" % (low, high, len(found), several(found)), MANY_SIDES)
 
 
 def pinched(numbers, _rest, mesh, _walks):
-    found = meshes.faces_at_vertex(meshes.faces_of(mesh), numbers[0])
+    found = meshes.faces_at_vertex(mesh, numbers[0])
     return Told("vertex %d is pinched: its %d faces do not make one ring: %s" % (numbers[0], len(found), several(found)),
                 NEXT["refused: vertex {0} pinched"])
 
@@ -122,15 +122,14 @@ def not_orientable(_numbers, rest, _mesh, _walks):
 def no_vertex(numbers, _rest, mesh, walks):
     walk, place = numbers
     vertex = vertices_of(lines_of(walks)[walk - 1], place + 1)[place]
-    used = {corner for face in meshes.faces_of(mesh) for corner in face}
     return Told("walk %d passes vertex %d (at place %d), which no face names: the faces name %d to %d"
-                % (walk, vertex, place, min(used), max(used)), NEXT["refused: walk {0} place {1} vertex"])
+                % (walk, vertex, place, *meshes.used_range(mesh)), NEXT["refused: walk {0} place {1} vertex"])
 
 
 def no_edge(numbers, _rest, mesh, walks):
     walk, place = numbers
     here, there = vertices_of(lines_of(walks)[walk - 1], place + 2)[place:]
-    around = meshes.neighbours(meshes.faces_of(mesh), here)
+    around = meshes.neighbours(mesh, here)
     return Told("walk %d goes from %d to %d (at place %d), which is no edge" % (walk, here, there, place),
                 "edges lead from %d to %s" % (here, several(around)))
 
