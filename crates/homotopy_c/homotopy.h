@@ -7,16 +7,30 @@
  * A WALK is an array of the numbers of the vertices that it passes, one after another joined by edges. A walk of one vertex stays there.
  * Two walks with the same first and the same last vertex are homotopic where one can be moved over the surface to the other.
  *
- * What a caller must ensure: each pointer leads to as many numbers as the length behind it says; an array of none has any aligned pointer
- * that is not null; no array that is written overlaps another; malloc, realloc and free are of one allocator; and no call comes from a
- * signal handler, or from the forked child of a process with threads. Everything else is looked at, and what is wrong is answered. Calls
- * share nothing, so any number of threads may make them at once. No array that is read is written.
+ * A DART is an edge with a direction, one step of a walk: a walk of n vertices has n - 1 darts. A SPUR is a dart and the same edge
+ * straight back. A MOVE puts a spur into a walk, takes one out, or goes round a face the other way. The PEAK of a list of moves is the
+ * most darts that a walk has while they are done; a list declares one, and a move that leads to a longer walk is refused.
+ *
+ * What a caller must ensure. Each pointer is aligned and leads to as many numbers as the length behind it says. No pointer is null, also
+ * where the length is 0: to the code that was proved each array is a slice, a slice lies somewhere, and the compiler may make use of that;
+ * an array of none has any aligned pointer. No array that is written overlaps another. No array that is read changes during the
+ * call, by another thread or by a signal handler: a size that was looked at is taken for what it was, and one that grows meanwhile leads
+ * behind the array's end. malloc, realloc and free are of one allocator. No call comes from a signal handler, or from the forked child of a
+ * process with threads. Everything else is looked at, and what is wrong is answered.
+ *
+ * Calls keep and share nothing, so any number of threads may make them at once, of the same arrays too; no array that is read is written.
+ * A call takes at most 24 KiB of its thread's stack, whatever the mesh (measured, not proved). The library is made for Linux on x86-64
+ * processors of level 2 (since 2009), by the usual convention of calls there, and takes malloc, realloc, free, memcpy, memmove and memset
+ * from the C library, and nothing else.
  */
 #ifndef HOMOTOPY_H
 #define HOMOTOPY_H
 
 #include <stddef.h>
 #include <stdint.h>
+
+/* The version of this header and of its library. The first number changes where a program made with an earlier one would no longer do. */
+#define HOMOTOPY_VERSION "1.0.0"
 
 #ifdef __cplusplus
 extern "C" {
@@ -96,8 +110,8 @@ typedef struct homotopy_numbers {
 } homotopy_numbers;
 
 /* The numbers of an orientable closed surface, in one piece or in several, and the genus of each piece, in the order of their least
- * vertices. Code DONE; or SHORT_ROOM where `genera` has too little room: it is left as it was then, and the numbers are written all the
- * same; or what is first wrong, with nothing else written. */
+ * vertices. The mesh is looked at first, and then the room. Code DONE; or what is first wrong with the mesh, with nothing else written; or
+ * SHORT_ROOM where `genera` has too little room: it is left as it was then, and the numbers are written all the same. */
 void homotopy_surface(
     uint32_t vertices, const uint32_t *sizes, size_t face_count, const uint32_t *corners, size_t corner_count,
     homotopy_numbers *numbers, uint32_t *genera, size_t genera_room, homotopy_outcome *outcome);
@@ -105,7 +119,13 @@ void homotopy_surface(
 /* Whether the walks of each pair are homotopic on an orientable closed surface. `walk_sizes` has the number of vertices of each walk, two
  * walks for each pair, and `walk_vertices` the vertices of all walks, walk after walk. A byte of `answers` for each pair is HOMOTOPIC,
  * DIFFERENT, or the code 31 to 36 of what is first wrong with its walks. The outcome's code is DONE where each pair has its byte; else
- * `answers` is left as it was. The mesh is read once, and the time for a pair is that of its walks. */
+ * `answers` is left as it was.
+ *
+ * The room is looked at first: where it is too small for half as many answers as there are walks, the code is SHORT_ROOM, and nothing else
+ * is looked at; then the mesh, then the sizes of the walks. The mesh is read once, and where it is in one piece the time for a pair is that
+ * of its walks. Where it is in several, each piece in which some pair lies is made a surface of its own, which takes a time that grows
+ * with the number of all vertices, and goes over all pairs once. A thousand pairs in a thousand pieces took 0.04 s among 4,000 vertices,
+ * and 20 s among 1,000,000: give a mesh of many pieces no more vertices than its faces name, or ask of each piece by itself. */
 void homotopy_decide(
     uint32_t vertices, const uint32_t *sizes, size_t face_count, const uint32_t *corners, size_t corner_count,
     const uint32_t *walk_sizes, size_t walk_count, const uint32_t *walk_vertices, size_t walk_vertex_count,
@@ -114,8 +134,8 @@ void homotopy_decide(
 /* Whether two walks on an orientable closed surface are homotopic, with the text that shows it, as the program's `certify` prints it: a
  * list of moves, or a denial. Code HOMOTOPIC or DIFFERENT, and the length of the text, which stands in front of `text`; or SHORT_ROOM,
  * where it has too little room, with the length that is wanted and the code of the answer; or what is first wrong with the mesh or the
- * walks, or what is too large. `text` is left as it was then. The text is made in memory first: a call with no room costs what one with
- * room does. */
+ * walks, or what is too large. `text` is left as it was then. The room is looked at last, when the text is made in memory: a call with no
+ * room costs what one with room does. */
 void homotopy_certify(
     uint32_t vertices, const uint32_t *sizes, size_t face_count, const uint32_t *corners, size_t corner_count,
     const uint32_t *first, size_t first_count, const uint32_t *second, size_t second_count,
@@ -128,6 +148,95 @@ void homotopy_verify(
     uint32_t vertices, const uint32_t *sizes, size_t face_count, const uint32_t *corners, size_t corner_count,
     const uint32_t *first, size_t first_count, const uint32_t *second, size_t second_count,
     const uint8_t *certificate, size_t certificate_bytes, homotopy_outcome *outcome);
+
+/* What the codes say: the line that the program prints for it, which docs/FORMATS.md explains ("" where the program has none), and a
+ * sentence. {0}, {1} and {2} stand for the numbers of the outcome. This is the one table of these texts. */
+#define HOMOTOPY_TEXTS(ROW) \
+    ROW(DONE, "", "the question is answered") \
+    ROW(HOMOTOPIC, "homotopic", "the walks are homotopic") \
+    ROW(DIFFERENT, "different", "the walks are not homotopic") \
+    ROW(ACCEPTED, "accepted", "the certificate is accepted") \
+    ROW(SHORT_ROOM, "", "the array for the answer is too short: {0} are wanted") \
+    ROW(NO_MEMORY, "", "memory was wanting") \
+    ROW(MANY_VERTICES, "", "the mesh has more than 1,000,000 vertices") \
+    ROW(CORNER_COUNT, "", "the sizes of the faces together are not the number of corners") \
+    ROW(MANY_SIDES, "", "the mesh has more than 4,000,000 corners") \
+    ROW(FEW_CORNERS, "", "face {0} has fewer than three corners") \
+    ROW(CORNER_RANGE, "", "face {0} has a corner that is no vertex of the mesh") \
+    ROW(EQUAL_NEIGHBOURS, "", "face {0} has the same vertex twice in a row") \
+    ROW(NO_FACE, "refused: no face", "the mesh has no face") \
+    ROW(EDGE_SIDES, "refused: edge {0} {1} sides {2}", "the edge {0} {1} should be in two sides of faces, and is in {2}") \
+    ROW(PINCHED, "refused: vertex {0} pinched", "vertex {0} is pinched: its corners do not make one ring") \
+    ROW(NOT_ORIENTABLE, "refused: not orientable", "the mesh is not orientable") \
+    ROW(WALK_COUNT, "", "the sizes of the walks do not fit their vertices, or a walk has no partner") \
+    ROW(EMPTY_WALK, "", "walk {0} has no vertex") \
+    ROW(LONG_WALK, "", "walk {0} has more than 2,147,483,648 vertices") \
+    ROW(NO_VERTEX, "refused: walk {0} place {1} vertex", "walk {0} has at place {1} no vertex of a face") \
+    ROW(NO_EDGE, "refused: walk {0} place {1} edge", "walk {0} has no edge from place {1} to the next") \
+    ROW(STARTS_DIFFER, "refused: walks start", "the walks start at different vertices") \
+    ROW(ENDS_DIFFER, "refused: walks end", "the walks end at different vertices") \
+    ROW(LONG_CERTIFICATE, "refused: certificate too large", "the certificate has more than 268,435,456 bytes") \
+    ROW(NO_HEAD, "refused: certificate no head", "the certificate has no line with words") \
+    ROW(BAD_LINE, "refused: certificate line {0} bad", "line {0} of the certificate is not of the form that its place asks for") \
+    ROW(ENDED_EARLY, "refused: certificate line {0} ended", "the certificate ends before line {0}, and lines are missing") \
+    ROW(EXTRA_LINE, "refused: certificate line {0} extra", "line {0} of the certificate stands behind its last one") \
+    ROW(LARGE_PEAK, "refused: certificate line {0} peak", "the peak on line {0} of the certificate is more than 16,000,000") \
+    ROW(REJECTED_PEAK, "rejected: peak", "the first walk has more darts than the peak") \
+    ROW(REJECTED_MOVE_PLACE, "rejected: move {0} place", "at move {0} the walk does not reach so far") \
+    ROW(REJECTED_MOVE_EDGE, "rejected: move {0} edge", "move {0} goes along no edge") \
+    ROW(REJECTED_MOVE_SPUR, "rejected: move {0} spur", "at move {0} there is no such spur in the walk") \
+    ROW(REJECTED_MOVE_FACE, "rejected: move {0} face", "at move {0} the walk does not go round the face so") \
+    ROW(REJECTED_MOVE_PEAK, "rejected: move {0} peak", "move {0} makes the walk longer than the peak") \
+    ROW(REJECTED_END, "rejected: end", "the moves lead to another walk than the second") \
+    ROW(REJECTED_SHAPE, "rejected: shape", "the labels or the places do not fit the mesh") \
+    ROW(REJECTED_DEGREE, "rejected: degree {0}", "a labelling of degree {0} is not good") \
+    ROW(REJECTED_PLACE, "rejected: place {0}", "two spokes have the place {0}") \
+    ROW(REJECTED_EDGE, "rejected: edge {0} {1}", "the labels at the edge {0} {1} meet no rule") \
+    ROW(REJECTED_WORD, "rejected: word {0}", "the word of walk {0} is another one") \
+    ROW(REJECTED_EQUAL, "rejected: equal", "both words are right, and are equal") \
+    ROW(CERTIFY_SIDES, "refused: certify sides {0}", "the surface has {0} sides, and a certificate is made on at most 16,384") \
+    ROW(CERTIFY_DARTS, "refused: certify darts {0}", "the walks have {0} darts together, and a certificate is made for at most 512")
+
+/* The program's line for a code, and the sentence; "" for what is no code. Neither is written to. The merged archive and the shared library
+ * have both functions as symbols too, homotopy_line_of and homotopy_text_of, for languages that read no header. */
+static inline const char *homotopy_line(uint32_t code) {
+#define HOMOTOPY_ROW(name, line, text) case HOMOTOPY_##name: return line;
+    switch (code) {
+        HOMOTOPY_TEXTS(HOMOTOPY_ROW)
+        default: return "";
+    }
+#undef HOMOTOPY_ROW
+}
+
+static inline const char *homotopy_text(uint32_t code) {
+#define HOMOTOPY_ROW(name, line, text) case HOMOTOPY_##name: return text;
+    switch (code) {
+        HOMOTOPY_TEXTS(HOMOTOPY_ROW)
+        default: return "";
+    }
+#undef HOMOTOPY_ROW
+}
+
+/* Writes the sentence of an outcome with its numbers into `room`, as snprintf does: at most `length` bytes with the 0 at the end. Returns
+ * how many bytes the whole sentence has without it. */
+static inline size_t homotopy_tell(const homotopy_outcome *outcome, char *room, size_t length) {
+    size_t bytes = 0;
+    for (const char *at = homotopy_text(outcome->code); *at != 0; at++) {
+        char digits[20];
+        size_t first = sizeof digits;
+        if (*at == '{') {
+            uint64_t number = outcome->numbers[at[1] - '0'];
+            do digits[--first] = (char)('0' + number % 10); while ((number /= 10) != 0);
+            at += 2;
+        } else {
+            digits[--first] = *at;
+        }
+        for (; first < sizeof digits; first++, bytes++)
+            if (bytes + 1 < length) room[bytes] = digits[first];
+    }
+    if (length > 0) room[bytes < length ? bytes : length - 1] = 0;
+    return bytes;
+}
 
 #ifdef __cplusplus
 }

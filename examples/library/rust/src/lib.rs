@@ -1,8 +1,9 @@
 //! Whether walks along the edges of a polygon mesh are homotopic.
 //!
-//! A safe wrapper of the library homotopy_c, whose header `homotopy.h` says more. A slice is never null, its length is true, and a `&mut`
-//! overlaps nothing, so no call can go wrong that this file lets through.
+//! A safe wrapper of the library homotopy_c, whose header `homotopy.h` says more. A slice is never null, its length is true, what it has
+//! does not change while it is borrowed, and a `&mut` overlaps nothing, so no call can go wrong that this file lets through.
 
+use std::ffi::CStr;
 use std::fmt;
 
 /// A mesh: a vertex count, the size of each face, and the corners of all faces, face after face.
@@ -28,11 +29,39 @@ pub struct Surface {
 pub enum Answer {
     Homotopic,
     Different,
-    /// They are no two walks of the surface with common ends, for the reason that has this code in `homotopy.h`.
-    NoPair(u8),
+    /// They are no two walks of the surface with common ends: what is first wrong with them.
+    NoPair(NoPair),
 }
 
-/// Why a question has no answer: a code of `homotopy.h`, with its numbers.
+/// What is first wrong with two walks.
+#[derive(Clone, Copy, Debug, PartialEq, Eq)]
+pub enum NoPair {
+    EmptyWalk,
+    LongWalk,
+    NoVertex,
+    NoEdge,
+    StartsDiffer,
+    EndsDiffer,
+}
+
+/// What two walks are, with the text that shows it.
+#[derive(Clone, Debug, PartialEq, Eq)]
+pub enum Certificate {
+    /// Homotopic, by this list of moves.
+    Moves(Vec<u8>),
+    /// Different, by this denial.
+    Denial(Vec<u8>),
+}
+
+/// What comes of a certificate.
+#[derive(Clone, Debug, PartialEq, Eq)]
+pub enum Verdict {
+    Accepted,
+    /// The first reason against it, in words.
+    Rejected(String),
+}
+
+/// Why a question has no answer: a code of `homotopy.h`, with its numbers. Shown, it is a sentence.
 #[derive(Clone, Copy, Debug, PartialEq, Eq)]
 pub struct Refused {
     pub code: u32,
@@ -41,14 +70,18 @@ pub struct Refused {
 
 impl fmt::Display for Refused {
     fn fmt(&self, out: &mut fmt::Formatter<'_>) -> fmt::Result {
-        write!(out, "code {} with {:?}", self.code, self.numbers)
+        out.write_str(&told(self.code, &self.numbers))
     }
 }
 
 impl std::error::Error for Refused {}
 
 const DONE: u32 = 0;
+const HOMOTOPIC: u32 = 1;
+const DIFFERENT: u32 = 2;
+const ACCEPTED: u32 = 3;
 const SHORT_ROOM: u32 = 4;
+const REJECTED: std::ops::Range<u32> = 50..70;
 
 #[repr(C)]
 #[derive(Default)]
@@ -77,14 +110,32 @@ extern "C" {
         walk_sizes: *const u32, walk_count: usize, walk_vertices: *const u32, walk_vertex_count: usize,
         answers: *mut u8, answer_room: usize, outcome: *mut Outcome,
     );
+    fn homotopy_certify(
+        vertices: u32, sizes: *const u32, face_count: usize, corners: *const u32, corner_count: usize,
+        first: *const u32, first_count: usize, second: *const u32, second_count: usize,
+        text: *mut u8, text_room: usize, outcome: *mut Outcome,
+    );
+    fn homotopy_verify(
+        vertices: u32, sizes: *const u32, face_count: usize, corners: *const u32, corner_count: usize,
+        first: *const u32, first_count: usize, second: *const u32, second_count: usize,
+        certificate: *const u8, certificate_bytes: usize, outcome: *mut Outcome,
+    );
+    fn homotopy_text_of(code: u32) -> *const std::ffi::c_char;
+}
+
+/// The sentence of a code, with its numbers.
+fn told(code: u32, numbers: &[u64; 3]) -> String {
+    // SAFETY: what is returned is a text that ends, and is never written or given back.
+    let mut text = unsafe { CStr::from_ptr(homotopy_text_of(code)) }.to_string_lossy().into_owned();
+    for (place, number) in numbers.iter().enumerate() {
+        text = text.replace(&format!("{{{place}}}"), &number.to_string());
+    }
+    text
 }
 
 impl Outcome {
-    fn check(&self) -> Result<(), Refused> {
-        match self.code {
-            DONE => Ok(()),
-            code => Err(Refused { code, numbers: self.numbers }),
-        }
+    fn refused(&self) -> Refused {
+        Refused { code: self.code, numbers: self.numbers }
     }
 }
 
@@ -100,39 +151,85 @@ impl Mesh<'_> {
                     &mut numbers, genera.as_mut_ptr(), genera.len(), &mut outcome,
                 );
             }
-            if outcome.code != SHORT_ROOM {
-                break;
+            match outcome.code {
+                DONE => break,
+                SHORT_ROOM => genera.resize(outcome.numbers[0] as usize, 0),
+                _ => return Err(outcome.refused()),
             }
-            genera.resize(outcome.numbers[0] as usize, 0);
         }
-        outcome.check()?;
         genera.truncate(numbers.components as usize);
         let Numbers { vertices, edges, faces, euler, .. } = numbers;
         Ok(Surface { vertices, edges, faces, euler, genera })
     }
 
-    /// The answer on each pair of walks.
+    /// The answer on each pair of walks, on an orientable closed surface.
     pub fn decide(&self, pairs: &[(&[u32], &[u32])]) -> Result<Vec<Answer>, Refused> {
         let walks = || pairs.iter().flat_map(|pair| [pair.0, pair.1]);
         let sizes: Vec<u32> = walks().map(|walk| u32::try_from(walk.len()).unwrap_or(u32::MAX)).collect();
         let vertices: Vec<u32> = walks().flatten().copied().collect();
         let (mut answers, mut outcome) = (vec![0u8; pairs.len()], Outcome::default());
-        // SAFETY: the pointers and lengths are those of slices, and what is written is borrowed here alone.
+        // SAFETY: as above.
         unsafe {
             homotopy_decide(
                 self.vertices, self.sizes.as_ptr(), self.sizes.len(), self.corners.as_ptr(), self.corners.len(),
                 sizes.as_ptr(), sizes.len(), vertices.as_ptr(), vertices.len(), answers.as_mut_ptr(), answers.len(), &mut outcome,
             );
         }
-        outcome.check()?;
-        Ok(answers.into_iter().map(answer_of).collect())
+        match outcome.code {
+            DONE => Ok(answers.into_iter().map(answer_of).collect()),
+            _ => Err(outcome.refused()),
+        }
+    }
+
+    /// What two walks on an orientable closed surface are, with the text that shows it.
+    pub fn certify(&self, first: &[u32], second: &[u32]) -> Result<Certificate, Refused> {
+        let (mut outcome, mut text) = (Outcome::default(), vec![0u8; 65536]);
+        loop {
+            // SAFETY: as above.
+            unsafe {
+                homotopy_certify(
+                    self.vertices, self.sizes.as_ptr(), self.sizes.len(), self.corners.as_ptr(), self.corners.len(),
+                    first.as_ptr(), first.len(), second.as_ptr(), second.len(), text.as_mut_ptr(), text.len(), &mut outcome,
+                );
+            }
+            let bytes = outcome.numbers[0] as usize;
+            match outcome.code {
+                SHORT_ROOM => text.resize(bytes, 0),
+                HOMOTOPIC => return Ok(Certificate::Moves(text[..bytes].to_vec())),
+                DIFFERENT => return Ok(Certificate::Denial(text[..bytes].to_vec())),
+                _ => return Err(outcome.refused()),
+            }
+        }
+    }
+
+    /// What comes of a certificate between two walks of the mesh, which need be no surface.
+    pub fn verify(&self, first: &[u32], second: &[u32], certificate: &[u8]) -> Result<Verdict, Refused> {
+        let mut outcome = Outcome::default();
+        // SAFETY: as above.
+        unsafe {
+            homotopy_verify(
+                self.vertices, self.sizes.as_ptr(), self.sizes.len(), self.corners.as_ptr(), self.corners.len(),
+                first.as_ptr(), first.len(), second.as_ptr(), second.len(), certificate.as_ptr(), certificate.len(), &mut outcome,
+            );
+        }
+        match outcome.code {
+            ACCEPTED => Ok(Verdict::Accepted),
+            code if REJECTED.contains(&code) => Ok(Verdict::Rejected(told(code, &outcome.numbers))),
+            _ => Err(outcome.refused()),
+        }
     }
 }
 
+/// The answer that a byte is. Besides the first two there are the codes 31 to 36 alone.
 fn answer_of(code: u8) -> Answer {
     match code {
         1 => Answer::Homotopic,
         2 => Answer::Different,
-        code => Answer::NoPair(code),
+        31 => Answer::NoPair(NoPair::EmptyWalk),
+        32 => Answer::NoPair(NoPair::LongWalk),
+        33 => Answer::NoPair(NoPair::NoVertex),
+        34 => Answer::NoPair(NoPair::NoEdge),
+        35 => Answer::NoPair(NoPair::StartsDiffer),
+        _ => Answer::NoPair(NoPair::EndsDiffer),
     }
 }

@@ -1,11 +1,18 @@
 //! Walks on a tetrahedron, and on what is no surface.
-use homotopy::Mesh;
+use homotopy::{Certificate, Mesh};
 
 fn main() -> Result<(), homotopy::Refused> {
     let corners = [0, 1, 2, 0, 3, 1, 0, 2, 3, 1, 3, 2];
     let tetrahedron = Mesh { vertices: 4, sizes: &[3; 4], corners: &corners };
     println!("{:?}", tetrahedron.surface()?);
     println!("{:?}", tetrahedron.decide(&[(&[0, 1, 2], &[0, 2]), (&[0, 1], &[0]), (&[], &[0])])?);
+    match tetrahedron.certify(&[0, 1, 2], &[0, 2])? {
+        Certificate::Moves(text) => println!("{:?}", tetrahedron.verify(&[0, 1, 2], &[0, 2], &text)?),
+        Certificate::Denial(_) => println!("different"),
+    }
+    println!("{:?}", tetrahedron.verify(&[0, 1, 2], &[0, 2], b"MOVES 0 2\n")?);
+    println!("{}", tetrahedron.verify(&[0, 1, 2], &[0, 2], b"MOVES 1 2\n").unwrap_err());
+    println!("{}", tetrahedron.certify(&[0, 1, 1], &[0, 1]).unwrap_err());
     let open = Mesh { vertices: 4, sizes: &[3; 3], corners: &corners[..9] };
     println!("{}", open.surface().unwrap_err());
     let none = Mesh { vertices: 0, sizes: &[], corners: &[] };

@@ -1,0 +1,256 @@
+"""Whether walks on polygon meshes are homotopic: the library homotopy_c, by ctypes alone.
+
+A mesh is a vertex count and its faces: a sequence of faces, each the numbers of its corners; or an array of numpy of shape (n, k), n faces
+of k corners; or `Faces`, which has the sizes and the corners in two arrays. A walk is a sequence or an array of vertex numbers.
+
+Numbers are whole, from 0 to 4,294,967,295; anything else is refused by name (TypeError, ValueError, OverflowError). An array of numpy of
+32 bits without a sign, contiguous and aligned, is lent to the library as it is, and must not be changed by another thread during the call;
+all else is copied, once. Calls let other threads run. Where memory is wanting a call raises MemoryError.
+
+The shared library is the one that the variable LIBHOMOTOPY names, or else the one of this package, of the system, or of the repository.
+"""
+import array
+import collections
+import ctypes
+import enum
+import itertools
+import operator
+
+from ._library import Numbers, Outcome, call, line_of, text_of
+
+try:
+    import numpy
+except ImportError:
+    numpy = None
+
+__version__ = "1.0.0"
+__all__ = ["Answer", "Faces", "Refused", "Surface", "Verdict", "certify", "decide", "surface", "verify"]
+
+_SHORT_ROOM, _NO_MEMORY, _ACCEPTED = 4, 5, 3
+_REJECTED = range(50, 70)
+# What Python takes for a number, and is none.
+_BOOLEANS = {bool} if numpy is None else {bool, numpy.bool_}
+
+Faces = collections.namedtuple("Faces", "sizes corners")
+Faces.__doc__ = "The faces of a mesh in two arrays: the number of corners of each face, and the corners of all faces, face after face."
+
+Surface = collections.namedtuple("Surface", "vertices edges faces euler genera")
+Surface.__doc__ = """The numbers of an orientable closed surface: of the vertices that some face names, of edges and faces, the Euler
+characteristic, and the genus of each piece, in the order of their least vertices."""
+
+
+class Answer(enum.IntEnum):
+    """What is answered of a pair of walks: one of the first two, or what is first wrong with them."""
+
+    HOMOTOPIC = 1
+    DIFFERENT = 2
+    EMPTY_WALK = 31
+    LONG_WALK = 32
+    NO_VERTEX = 33
+    NO_EDGE = 34
+    STARTS_DIFFER = 35
+    ENDS_DIFFER = 36
+
+    def __str__(self):
+        return self.name.lower().replace("_", " ")
+
+
+class Verdict(collections.namedtuple("Verdict", "accepted reason")):
+    """What comes of a certificate: true where it is accepted. Else `reason` says what is first against it."""
+
+    __slots__ = ()
+
+    def __bool__(self):
+        return self.accepted
+
+
+class Refused(ValueError):
+    """The mesh, the walks or the certificate are none of which the question can be asked, for the reason that the message tells.
+
+    `code` and `numbers` are those of homotopy.h, and `line` is what the program prints, empty where it has no words for it.
+    """
+
+    def __init__(self, outcome):
+        self.code, self.numbers = outcome.code, tuple(outcome.numbers)
+        self.line = line_of(self.code).format(*self.numbers)
+        super().__init__(text_of(self.code).format(*self.numbers) or "code %d" % self.code)
+
+
+def _check(outcome):
+    if outcome.code == _NO_MEMORY:
+        raise MemoryError("homotopy: " + text_of(_NO_MEMORY))
+    if outcome.code:
+        raise Refused(outcome)
+
+
+def _is_whole(item):
+    return hasattr(item, "__index__") and type(item) not in _BOOLEANS
+
+
+def _refuse(item, place, what):
+    """Raises what is wrong with a number."""
+    where = "%s: place %d" % (what, place)
+    if not _is_whole(item):
+        raise TypeError("%s has %r, which is no whole number" % (where, item))
+    number = operator.index(item)
+    raise OverflowError("%s has %d, which is %s" % (where, number, "below 0" if number < 0 else "more than 4,294,967,295"))
+
+
+def _copied(items, what):
+    """The numbers of a sequence, 32 bits each."""
+    if isinstance(items, (str, bytes, bytearray, dict, set, frozenset)):
+        raise TypeError("%s is of the type %s, and not a sequence of numbers" % (what, type(items).__name__))
+    try:
+        items = list(items)
+    except TypeError:
+        raise TypeError("%s is of the type %s, and not a sequence of numbers" % (what, type(items).__name__)) from None
+    try:
+        if not _BOOLEANS.isdisjoint(map(type, items)):
+            raise TypeError
+        return array.array("I", items)
+    except (TypeError, OverflowError):
+        for place, item in enumerate(items):
+            if not _is_whole(item) or not 0 <= operator.index(item) < 2**32:
+                _refuse(item, place, what)
+        raise
+
+
+def _is_array(items):
+    return numpy is not None and isinstance(items, numpy.ndarray)
+
+
+def _of_numpy(items, dimensions, what):
+    """An array of numpy as one of 32 bits without a sign, contiguous and aligned; itself where it is that."""
+    if isinstance(items, numpy.ma.MaskedArray):
+        raise TypeError("%s is a masked array: fill or compress it first" % what)
+    if items.dtype.kind not in "iu":
+        raise TypeError("%s is an array of %s, and not of whole numbers" % (what, items.dtype))
+    if items.ndim != dimensions:
+        raise ValueError("%s is an array of %d dimensions, and not of %d" % (what, items.ndim, dimensions))
+    if items.size and items.dtype != numpy.uint32:
+        for number in (items.min(), items.max()):
+            if not 0 <= int(number) < 2**32:
+                _refuse(int(number), int((items == number).argmax()), what)
+    return numpy.require(items, dtype=numpy.uint32, requirements="CA")
+
+
+class _Lent:
+    """An array as the library takes it: `address` and `length`, valid as long as this object is there. It is never empty."""
+
+    def __init__(self, held, address, length):
+        self.held, self.words = held, (address, length)
+
+    @classmethod
+    def of(cls, items, what, dimensions=1):
+        if _is_array(items):
+            numbers = _of_numpy(items, dimensions, what)
+            if numbers.size:
+                return cls(numbers, numbers.ctypes.data, numbers.size)
+            items = ()
+        numbers = items if isinstance(items, array.array) and items.typecode == "I" else _copied(items, what)
+        length = len(numbers)
+        held = numbers if length else array.array("I", [0])
+        return cls(held, held.buffer_info()[0], length)
+
+
+def _mesh(vertices, faces):
+    """The words of a call for a mesh, and what is to be kept meanwhile."""
+    if not _is_whole(vertices):
+        raise TypeError("the vertex count is %r, which is no whole number" % (vertices,))
+    count = operator.index(vertices)
+    if not 0 <= count < 2**32:
+        raise OverflowError("the vertex count is %d, which is %s" % (count, "below 0" if count < 0 else "more than 4,294,967,295"))
+    sizes, corners = _faces(faces)
+    return (count, *sizes.words, *corners.words), (sizes, corners)
+
+
+def _faces(faces):
+    if isinstance(faces, Faces):
+        return _Lent.of(faces.sizes, "the array of sizes"), _Lent.of(faces.corners, "the array of corners")
+    if _is_array(faces):
+        corners = _Lent.of(faces, "the array of faces", 2)
+        return _Lent.of(numpy.full(faces.shape[0], faces.shape[1], dtype=numpy.uint32), "the array of sizes"), corners
+    if isinstance(faces, (str, bytes)) or not hasattr(faces, "__iter__"):
+        raise TypeError("the faces are of the type %s, and not a sequence of faces" % type(faces).__name__)
+    faces = list(faces)
+    try:
+        corners = _Lent.of(_copied(itertools.chain.from_iterable(faces), "the faces"), "the faces")
+    except (TypeError, OverflowError):
+        for number, face in enumerate(faces):
+            _Lent.of(face, "face %d" % number)
+        raise
+    return _Lent.of(array.array("I", map(len, faces)), "the sizes"), corners
+
+
+def _walks(pairs):
+    """The sizes and the vertices of the walks of all pairs."""
+    sizes, vertices = array.array("I"), array.array("I")
+    for number, pair in enumerate(pairs):
+        if isinstance(pair, (str, bytes)) or not hasattr(pair, "__len__"):
+            raise TypeError("pair %d is of the type %s, and not a sequence of two walks" % (number, type(pair).__name__))
+        if len(pair) != 2:
+            raise ValueError("pair %d has %d walks, and not 2" % (number, len(pair)))
+        for place, walk in enumerate(pair, 1):
+            what = "walk %d of pair %d" % (place, number)
+            lent = _of_numpy(walk, 1, what).tobytes() if _is_array(walk) else _copied(walk, what).tobytes()
+            sizes.append(len(lent) // 4)
+            vertices.frombytes(lent)
+    return _Lent.of(sizes, "the sizes"), _Lent.of(vertices, "the walks")
+
+
+def surface(vertices, faces):
+    """The numbers of an orientable closed surface, and the genus of each of its pieces. Refused where the mesh is none."""
+    mesh, _kept = _mesh(vertices, faces)
+    numbers, outcome, room = Numbers(), Outcome(), 16
+    while True:
+        genera = (ctypes.c_uint32 * room)()
+        call("homotopy_surface", *mesh, numbers, ctypes.addressof(genera), room, outcome)
+        if outcome.code != _SHORT_ROOM:
+            break
+        room = outcome.numbers[0]
+    _check(outcome)
+    return Surface(numbers.vertices, numbers.edges, numbers.faces, numbers.euler, genera[:numbers.components])
+
+
+def decide(vertices, faces, pairs):
+    """The `Answer` on each pair of walks, in order, on an orientable closed surface. Refused where the mesh is none."""
+    mesh, _kept = _mesh(vertices, faces)
+    sizes, entries = _walks(pairs)
+    count, outcome = sizes.words[1] // 2, Outcome()
+    answers = ctypes.create_string_buffer(max(count, 1))
+    call("homotopy_decide", *mesh, *sizes.words, *entries.words, ctypes.addressof(answers), count, outcome)
+    _check(outcome)
+    return [Answer(code) for code in answers.raw[:count]]
+
+
+def certify(vertices, faces, first, second):
+    """HOMOTOPIC or DIFFERENT, with the text (bytes) that shows it: a list of moves, or a denial.
+
+    Refused where the mesh is no orientable closed surface, the walks are none of it with common ends, or there are more than 16,384
+    corners or 512 darts of both walks.
+    """
+    mesh, _kept = _mesh(vertices, faces)
+    one, other, outcome, room = _Lent.of(first, "the first walk"), _Lent.of(second, "the second walk"), Outcome(), 65536
+    while True:
+        text = ctypes.create_string_buffer(room)
+        call("homotopy_certify", *mesh, *one.words, *other.words, ctypes.addressof(text), room, outcome)
+        if outcome.code != _SHORT_ROOM:
+            break
+        room = outcome.numbers[0]
+    if outcome.code in (Answer.HOMOTOPIC, Answer.DIFFERENT):
+        return Answer(outcome.code), ctypes.string_at(text, outcome.numbers[0])
+    return _check(outcome)
+
+
+def verify(vertices, faces, first, second, certificate):
+    """The `Verdict` on a certificate (bytes) between two walks of a mesh, which need be no surface."""
+    if not isinstance(certificate, (bytes, bytearray, memoryview)):
+        raise TypeError("the certificate is of the type %s, and not bytes" % type(certificate).__name__)
+    mesh, _kept = _mesh(vertices, faces)
+    one, other, outcome, text = _Lent.of(first, "the first walk"), _Lent.of(second, "the second walk"), Outcome(), bytes(certificate)
+    call("homotopy_verify", *mesh, *one.words, *other.words, text, len(text), outcome)
+    if outcome.code == _ACCEPTED:
+        return Verdict(True, None)
+    if outcome.code in _REJECTED:
+        return Verdict(False, text_of(outcome.code).format(*outcome.numbers))
+    return _check(outcome)

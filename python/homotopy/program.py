@@ -1,0 +1,104 @@
+"""The proved program, and the files that it is given."""
+import os
+import shutil
+import subprocess
+import sys
+import tempfile
+from collections import namedtuple
+
+HERE = os.path.dirname(os.path.realpath(__file__))
+REPOSITORY = os.path.dirname(os.path.dirname(HERE))
+
+Ended = namedtuple("Ended", "status text")
+Ended.__doc__ = "How the program ended, and what it printed."
+
+
+class Fault(Exception):
+    """What keeps a question from being asked. Its message is the line that is printed, and `status` that with which the command ends."""
+
+    def __init__(self, message, status=2):
+        self.status = status
+        super().__init__(message)
+
+
+def program_path():
+    """The program homotopy_cli: which the variable HOMOTOPY_CLI names, or else of this package, on the PATH, or of the repository."""
+    named = os.environ.get("HOMOTOPY_CLI")
+    built = os.path.join(REPOSITORY, "crates", "homotopy_cli", "out", "homotopy_cli")
+    places = [named] if named else [os.path.join(HERE, "homotopy_cli"), "homotopy_cli", built]
+    for place in places:
+        found = shutil.which(place)
+        if found:
+            return found
+    raise Fault("the program %s is not there: install homotopy-tester, or let HOMOTOPY_CLI name it" % (named or "homotopy_cli"), 3)
+
+
+class Files:
+    """Files that are made for the program, in a folder that goes with the question."""
+
+    def __init__(self):
+        self.folder = tempfile.TemporaryDirectory(prefix="homotopy-")
+        self.input_is_read = False
+
+    def write(self, name, text):
+        path = os.path.join(self.folder.name, name)
+        with open(path, "wb") as file:
+            file.write(text)
+        return path
+
+    def taken(self, name):
+        """A file that the program can read, more than once: itself, or for `-` what stands on standard input."""
+        if name != "-":
+            if not os.path.exists(name):
+                raise Fault("there is no file %s" % name, 3)
+            if os.path.isdir(name):
+                raise Fault("%s is a folder" % name, 3)
+            # A pipe is read once, and not by the program, which has no such file open.
+            return name if os.path.isfile(name) else self.copied(open(name, "rb"))
+        if self.input_is_read:
+            raise Fault("- stands for standard input, and can be one file alone")
+        self.input_is_read = True
+        return self.copied(sys.stdin.buffer)
+
+    def copied(self, stream):
+        with stream:
+            return self.write("copy-%d" % len(os.listdir(self.folder.name)), stream.read())
+
+
+def ask(command, *words):
+    """Runs the program, and tells on a terminal that it is at work, where that takes longer than a second."""
+    with tempfile.TemporaryFile() as printed:
+        process = subprocess.Popen([program_path(), command, *words], stdin=subprocess.DEVNULL, stdout=printed)
+        watch(process, command)
+        printed.seek(0)
+        text = printed.read().decode("ascii", "replace")
+    if process.returncode == 3:
+        raise Fault("a file could not be read: %s" % ", ".join(words), 3)
+    if process.returncode == 4:
+        raise Fault("the answer could not be written", 4)
+    if process.returncode == 5:
+        raise Fault("there is too little memory for this question", 5)
+    if process.returncode not in (0, 1, 2):
+        raise Fault("the program was stopped (%d)" % process.returncode, 5)
+    return Ended(process.returncode, text)
+
+
+def watch(process, what):
+    """Waits for a process; the line on a terminal goes when it ends."""
+    try:
+        seconds, told = 1, False
+        while True:
+            try:
+                process.wait(timeout=1)
+                break
+            except subprocess.TimeoutExpired:
+                if sys.stderr.isatty():
+                    print("\r%s: %d s" % (what, seconds), end="", file=sys.stderr, flush=True)
+                    told = True
+                seconds += 1
+        if told:
+            print("\r\033[K", end="", file=sys.stderr, flush=True)
+    except BaseException:
+        process.kill()
+        process.wait()
+        raise

@@ -1,0 +1,39 @@
+"""Walk files, read for words and for pairs alone: the program is the judge of each."""
+import re
+from collections import namedtuple
+
+from .program import Fault
+
+Line = namedtuple("Line", "number text")
+
+
+def lines_of(path):
+    """The lines of walks, without comments, blank lines and the header."""
+    with open(path, "rb") as file:
+        text = file.read().decode("latin-1")
+    rows = [Line(number, row.split("#")[0].strip()) for number, row in enumerate(text.replace("\xef\xbb\xbf", "", 1).split("\n"), 1)]
+    rows = [row for row in rows if row.text]
+    return rows[1:] if rows and rows[0].text.split() == ["WALKS", "2"] else rows
+
+
+def ends_of(line):
+    """The first and the last vertex of a walk. A group leads back to where it begins."""
+    words = re.sub(r"\)\s+[0-9]+", ")", line.text).replace("(", " ").replace(")", " ").split()
+    if not words or not all(re.fullmatch("[0-9]+", word) for word in words):
+        raise Fault("line %d is no walk: %s" % (line.number, line.text[:60]))
+    return int(words[0]), int(words[-1])
+
+
+def vertices_of(line, most):
+    """The first `most` vertices of a walk that the program has read."""
+    walk, words = [], line.text.split()
+    while words and len(walk) < most:
+        word = words.pop(0)
+        if word == "(":
+            end = words.index(")")
+            group = [int(vertex) for vertex in words[:end]]
+            walk += group * min(int(words[end + 1]), most // len(group) + 1)
+            del words[:end + 2]
+        else:
+            walk.append(int(word))
+    return walk[:most]

@@ -1,0 +1,144 @@
+"""Tries the Python module on what it is to take and on what it is to refuse by name, with arrays of numpy where numpy is installed.
+
+What is wanted was worked out by hand. LIBHOMOTOPY may name a shared library; else it is that of the repository.
+"""
+import array
+import os
+import subprocess
+import sys
+
+HERE = os.path.dirname(os.path.realpath(__file__))
+TOP = os.path.dirname(os.path.dirname(HERE))
+PYTHON = os.path.join(TOP, "python")
+sys.path.insert(0, PYTHON)
+os.environ.setdefault("LIBHOMOTOPY", os.path.join(TOP, "crates/homotopy_c/out/libhomotopy.so"))
+
+import homotopy  # noqa: E402
+from homotopy import Answer, Faces, Surface, certify, decide, surface, verify  # noqa: E402
+
+numpy = homotopy.numpy
+TETRA = [[0, 1, 2], [0, 3, 1], [0, 2, 3], [1, 3, 2]]
+SPHERE = Surface(4, 6, 4, 2, [0])
+LIST = b"MOVES 1 2\nf 0 0 0 + 2\n"
+failures = []
+
+
+def expect(told, wanted, what):
+    if told != wanted or type(told) is not type(wanted):
+        failures.append("%s gives %r, and not %r" % (what, told, wanted))
+
+
+def refuse(kind, words, function, *arguments):
+    """The call ends with this kind of error, and its message has these words."""
+    try:
+        told = function(*arguments)
+    except Exception as error:
+        if type(error) is not kind or words not in str(error):
+            failures.append("%s%r raises %r, and %s with %r is wanted" % (function.__name__, arguments, error, kind.__name__, words))
+    else:
+        failures.append("%s%r gives %r, and %s is wanted" % (function.__name__, arguments, told, kind.__name__))
+
+
+def take():
+    for faces in (TETRA, tuple(map(tuple, TETRA)), iter(TETRA), Faces([3] * 4, sum(TETRA, [])), [array.array("I", face) for face in TETRA]):
+        expect(surface(4, faces), SPHERE, "a tetrahedron")
+    pairs = [([0, 1, 2], [0, 2]), ((0, 1), [0]), ([], [0]), ([0, 4], [0]), ([0, 0], [0]), ([0], [1])]
+    wanted = [Answer.HOMOTOPIC, Answer.ENDS_DIFFER, Answer.EMPTY_WALK, Answer.NO_VERTEX, Answer.NO_EDGE, Answer.STARTS_DIFFER]
+    expect(decide(5, TETRA, pairs), wanted, "pairs")
+    expect(decide(4, TETRA, []), [], "no pairs")
+    expect(certify(4, TETRA, [0, 1, 2], [0, 2])[0], Answer.HOMOTOPIC, "certify")
+    for text in (LIST, bytearray(LIST), memoryview(LIST)):
+        expect(bool(verify(4, TETRA, [0, 1, 2], [0, 2], text)), True, "a list that leads")
+    verdict = verify(4, TETRA, [0, 1, 2], [0, 2], LIST.replace(b"+", b"-"))
+    expect((bool(verdict), verdict.reason), (False, "at move 1 the walk does not go round the face so"), "a list that does not")
+    refuse(homotopy.Refused, "the edge 1 2 should be in two sides of faces, and is in 1", surface, 4, TETRA[:3])
+    refuse(homotopy.Refused, "the mesh has no face", surface, 4, [])
+    refuse(homotopy.Refused, "the certificate has no line with words", verify, 4, TETRA, [0, 1], [0, 1], b"")
+    refuse(homotopy.Refused, "the sizes of the faces together", surface, 4, Faces([3, 3], [0, 1, 2]))
+
+
+def refuse_sequences():
+    refuse(TypeError, "walk 1 of pair 0: place 0 has 0.9, which is no whole number", decide, 4, TETRA, [([0.9, 1.9, 2.9], [0, 2])])
+    refuse(TypeError, "walk 2 of pair 1: place 1 has 2.0", decide, 4, TETRA, [([0], [0]), ([0, 2], [0, 2.0])])
+    refuse(TypeError, "the first walk: place 1 has True", certify, 4, TETRA, [0, True], [0, 1])
+    refuse(TypeError, "place 1 has (1+0j)", certify, 4, TETRA, [0, 1 + 0j], [0, 1])
+    refuse(TypeError, "the second walk: place 0 has '0'", verify, 4, TETRA, [0, 1], ["0", 1], LIST)
+    refuse(TypeError, "the first walk is of the type str", certify, 4, TETRA, "01", [0, 1])
+    refuse(TypeError, "the first walk is of the type int", certify, 4, TETRA, 1, [0, 1])
+    refuse(OverflowError, "face 2: place 1 has -2, which is below 0", surface, 4, [TETRA[0], TETRA[1], [0, -2, 3], TETRA[3]])
+    refuse(OverflowError, "face 0: place 2 has 4294967296, which is more than 4,294,967,295", surface, 4, [[0, 1, 2**32]])
+    refuse(TypeError, "face 1: place 2 has None", surface, 4, [TETRA[0], [0, 1, None]])
+    refuse(TypeError, "face 0 is of the type int", surface, 4, [0, 1, 2])
+    refuse(TypeError, "the faces are of the type str", surface, 4, "faces")
+    refuse(ValueError, "pair 0 has 3 walks, and not 2", decide, 4, TETRA, [([0], [0], [0]), ([0], [0], [0])])
+    refuse(ValueError, "pair 1 has 1 walks", decide, 4, TETRA, [([0], [0]), ([0],)])
+    refuse(TypeError, "pair 0 is of the type str", decide, 4, TETRA, ["01"])
+    refuse(TypeError, "walk 1 of pair 0 is of the type int", decide, 4, TETRA, ([0, 1], [0, 2]))
+    refuse(TypeError, "the vertex count is 4.0", surface, 4.0, TETRA)
+    refuse(OverflowError, "the vertex count is -4, which is below 0", surface, -4, TETRA)
+    refuse(TypeError, "the certificate is of the type str", verify, 4, TETRA, [0, 1], [0, 1], "MOVES 0 1\n")
+
+
+def take_arrays():
+    for kind in ("uint32", "int64", "int8", "uint64", ">u4", "<i2"):
+        faces = numpy.array(TETRA, dtype=kind)
+        expect(surface(4, faces), SPHERE, "faces of " + kind)
+        expect(surface(4, numpy.asfortranarray(faces)), SPHERE, "columns of " + kind)
+        expect(surface(4, list(faces)), SPHERE, "a list of arrays of " + kind)
+        expect(decide(4, faces, [(faces[0], faces[0, ::2])]), [Answer.HOMOTOPIC], "walks of " + kind)
+        expect(bool(verify(4, faces[:, ::-1], faces[0], faces[0, ::2], b"MOVES 1 2\nf 0 0 2 - 2\n")), True, "turned faces of " + kind)
+    block = bytearray(49)
+    unaligned = numpy.frombuffer(block, dtype=numpy.uint32, offset=1).reshape(4, 3)
+    unaligned[:] = TETRA
+    expect(unaligned.flags.aligned, False, "an array at an odd address is aligned")
+    expect(surface(numpy.int64(4), unaligned), SPHERE, "an array that is not aligned")
+    lent = numpy.array(TETRA, dtype=numpy.uint32)
+    expect(homotopy._Lent.of(lent, "lent", 2).words[0], lent.ctypes.data, "an array of 32 bits: its address")
+    expect(surface(4, Faces(numpy.full(4, 3), lent.reshape(-1))), SPHERE, "sizes and corners")
+    refuse(homotopy.Refused, "the mesh has no face", surface, 4, numpy.zeros((0, 3), dtype=int))
+
+
+def refuse_arrays():
+    faces = numpy.array(TETRA)
+    refuse(TypeError, "the array of faces is an array of float64, and not of whole numbers", surface, 4, faces.astype(float))
+    refuse(TypeError, "the array of faces is an array of complex128", surface, 4, faces.astype(complex))
+    refuse(TypeError, "the array of faces is an array of bool", surface, 4, faces.astype(bool))
+    refuse(TypeError, "the array of faces is an array of object", surface, 4, faces.astype(object))
+    refuse(TypeError, "the array of faces is a masked array", surface, 4, numpy.ma.masked_equal(faces, 3))
+    refuse(ValueError, "the array of faces is an array of 1 dimensions, and not of 2", surface, 4, faces.reshape(-1))
+    refuse(ValueError, "the first walk is an array of 2 dimensions, and not of 1", certify, 4, faces, faces, faces[0])
+    refuse(TypeError, "walk 1 of pair 0 is an array of float32", decide, 4, faces, [(faces[0].astype("f4"), [0, 2])])
+    refuse(TypeError, "face 0 is an array of float64", surface, 4, list(faces.astype(float)))
+    refuse(OverflowError, "the array of faces: place 3 has -1, which is below 0", surface, 4, numpy.array([[0, 1, 2], [-1, 1, 2]]))
+    refuse(OverflowError, "place 2 has 4294967296, which is more than", surface, 4, numpy.array([[0, 1, 2**32]], dtype="u8"))
+    refuse(TypeError, "the first walk: place 0 has", certify, 4, faces, [numpy.float64(0)], [0])
+    refuse(TypeError, "the first walk: place 0 has", certify, 4, faces, [numpy.bool_(False)], [0])
+
+
+def import_without_a_library():
+    for place in ("/absent/libhomotopy.so", os.path.join(HERE, "calls.c"), "libm.so.6"):
+        done = subprocess.run([sys.executable, "-B", "-c", "import homotopy"], stderr=subprocess.PIPE, text=True,
+                              env=dict(os.environ, PYTHONPATH=PYTHON, LIBHOMOTOPY=place))
+        if not done.returncode or not done.stderr.strip().split("\n")[-1].startswith("ImportError: homotopy: "):
+            failures.append("the import with %s ends with %s" % (place, done.stderr))
+
+
+def compare_with_header():
+    header = open(os.path.join(TOP, "crates/homotopy_c/homotopy.h")).read()
+    for answer in Answer:
+        if "HOMOTOPY_%s = %d," % (answer.name, answer) not in header:
+            failures.append("homotopy.h has no code %s = %d" % (answer.name, answer))
+
+
+compare_with_header()
+take()
+refuse_sequences()
+import_without_a_library()
+if numpy is None:
+    print("tests/library: arrays of numpy were left out, since there is no numpy for %s" % sys.executable)
+else:
+    take_arrays()
+    refuse_arrays()
+for failure in failures:
+    print("tests/library: modules.py: " + failure)
+sys.exit(1 if failures else 0)

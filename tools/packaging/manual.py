@@ -1,0 +1,193 @@
+"""Manual pages (man macros) made of the pages in docs/, of the examples, and of what the command `homotopy` says of itself."""
+import re
+
+SYMBOLS = {"\u2192": "->", "\u2013": "-", "\u2026": "..", "\u00b7": "*"}
+
+
+def escaped(text):
+    """A text as the man macros take it: backslashes, and what would begin a request."""
+    for symbol, plain in SYMBOLS.items():
+        text = text.replace(symbol, plain)
+    text = text.replace("\\", "\\e").replace("-", "\\-").replace("~", "\\(ti").replace("^", "\\(ha").replace("`", "\\(ga")
+    return re.sub(r"^([.'])", r"\\&\1", text, flags=re.M)
+
+
+def inline(text):
+    """Markdown within a line: code and what is strong become bold, what is stressed italic, and a link its words."""
+    text = re.sub(r"\[([^\]]*)\]\([^)]*\)", r"\1", text)
+    parts = re.split(r"(`[^`]*`|\*\*.+?\*\*|\*[^*\s][^*]*\*)", text)
+    made = []
+    for part in parts:
+        if part.startswith("`"):
+            made.append("\\fB" + escaped(part.strip("`")) + "\\fR")
+        elif part.startswith("**"):
+            made.append("\\fB" + inline(part[2:-2]) + "\\fR")
+        elif part.startswith("*") and part.endswith("*") and len(part) > 2:
+            made.append("\\fI" + escaped(part[1:-1]) + "\\fR")
+        else:
+            made.append(escaped(part))
+    text = "".join(made)
+    return "\\&" + text if text.startswith((".", "'")) else text
+
+
+def code(lines):
+    """Lines as they are."""
+    return [".PP", ".RS 4", ".nf"] + [escaped(line) or "\\&" for line in lines] + [".fi", ".RE"]
+
+
+def cells_of(row):
+    return [cell.strip().replace("\\|", "|") for cell in re.split(r"(?<!\\)\|", row.strip().strip("|"))]
+
+
+def table(rows):
+    """A table as a list of terms: the first column, and behind it the others, each with its head where they are more than one."""
+    heads, *body = [cells_of(row) for row in rows if not re.fullmatch(r"[|\s:-]+", row)]
+    made = []
+    for cells in body:
+        others = [cell for cell in cells[1:] if cell]
+        told = others[0] if others else ""
+        for head, cell in list(zip(heads, cells))[2:]:
+            told += ". *%s*: %s" % (head[:1].upper() + head[1:], cell) if cell else ""
+        made += [".TP", inline(cells[0]) or "\\&", inline(told or "-")]
+    return made
+
+
+def blocks_of(text):
+    """The blocks of a page: each a kind and its lines."""
+    blocks, kind = [], None
+    for line in text.split("\n"):
+        if not line.strip():
+            if kind == "code":
+                blocks[-1][1].append("")
+            else:
+                kind = None
+            continue
+        here = kind_of(line, kind)
+        if here != kind or here in ("head", "item"):
+            blocks.append((here, []))
+        kind = "item" if here == "item" else here
+        blocks[-1][1].append(line[4:] if here == "code" else line.strip())
+    return [(kind, lines) for kind, lines in blocks if any(lines)]
+
+
+def kind_of(line, before):
+    if line.startswith("#"):
+        return "head"
+    if line.startswith("|"):
+        return "table"
+    if line.startswith("- "):
+        return "item"
+    if line.startswith("    "):
+        return "code"
+    return "more" if before in ("item", "more") and line.startswith("  ") else "text"
+
+
+def page_body(text, depth=2):
+    """A page in Markdown as man macros. Its title is left out; headings of `depth` become sections."""
+    made = []
+    for kind, lines in blocks_of(text):
+        if kind == "head":
+            level, words = re.match(r"(#+)\s*(.*)", lines[0]).groups()
+            if len(level) >= depth:
+                made.append(".SH %s" % escaped(words).upper() if len(level) == depth else ".SS %s" % escaped(words))
+        elif kind == "code":
+            while lines and not lines[-1]:
+                lines.pop()
+            made += code(lines)
+        elif kind == "table":
+            made += table(lines)
+        elif kind == "item":
+            made += [".IP \\(bu 2", inline(" ".join(lines)[2:])]
+        elif kind == "more":
+            made.append(inline(" ".join(lines)))
+        else:
+            made += [".PP", inline(" ".join(lines))]
+    return made
+
+
+def headed(name, section, version, says, body):
+    """A whole page."""
+    head = [".TH %s %s \"\" \"homotopy\\-tester %s\" \"Homotopy tester\"" % (name.upper(), section, version),
+            ".SH NAME", "%s \\- %s" % (escaped(name), escaped(says))]
+    return ("\n".join(head + body) + "\n").encode("utf-8")
+
+
+# ---- the program
+
+def section_of(page, title):
+    """What stands below a heading, up to the next one of its depth."""
+    found = re.search(r"^(#+) %s\n(.*?)(?=^#{1,2} |\Z)" % re.escape(title), page, re.M | re.S)
+    return found[2]
+
+
+def synopsis_of(commands):
+    """The words of each command, and what it answers, from the page of commands."""
+    rows = re.findall(r"^    homotopy_cli (([a-z-]+).*?) {2,}(.*)$", commands, re.M)
+    return [(name, words, says) for words, name, says in rows]
+
+
+def example_of(examples, name):
+    """The first example of a command, with what it prints, from the page of examples, where each is run."""
+    found = re.search(r"(?:^    (?!\$).*\n)*^    (\$ (?:[^\n|]*\| )?homotopy_cli %s .*\n(?:^    (?!\$).*\n)*)" % name, examples, re.M)
+    return [line[4:] if line.startswith("    ") else line for line in found[1].rstrip("\n").split("\n")]
+
+
+def is_about(where, status, name):
+    """Whether a row of the table of what is printed is about a command, by the names before its first colon. Verdicts name none."""
+    head = where.split(":")[0]
+    if head.startswith("all but"):
+        return "`%s`" % name not in head
+    return "`%s`" % name in head or (name == "verify" and "`" not in head and status in "01")
+
+
+def printed_by(formats, name):
+    """The rows of that table that are about a command."""
+    rows = [cells_of(row) for row in section_of(formats, "What is printed").split("\n") if row.startswith("| ")][1:]
+    mine = ["| %s | status %s | %s |" % tuple(cells[:3]) for cells in rows if is_about(cells[2], cells[1], name)]
+    return ["| line | status | where |", "|---|---|---|"] + mine
+
+
+def program_page(version, pages):
+    commands, formats, examples = pages["docs/COMMANDS.md"], pages["docs/FORMATS.md"], pages["examples/README.md"]
+    body = [".SH SYNOPSIS"]
+    for _, words, _ in synopsis_of(commands):
+        body += [".B homotopy_cli", inline(words), ".br"]
+    body += [".SH DESCRIPTION", "Decides whether walks along the edges of a polygon mesh can be moved over the surface to one another, and",
+             "shows it. The program is proved; what is claimed of it stands in docs/CLAIMS.md, and what its files look like in",
+             ".BR homotopy_files (5).", ".SH COMMANDS"]
+    for name, words, says in synopsis_of(commands):
+        body += [".SS " + escaped(words), inline(says[0].upper() + says[1:] + ".")]
+        body += table(printed_by(formats, name)) + [".PP", "Example:"] + code(example_of(examples, name))
+    body += [".SH EXIT STATUS"] + table([row for row in section_of(commands, "Statuses").split("\n") if row.startswith("|")])
+    body += [".SH FILES"] + page_body(section_of(formats, "Command line"), 9)
+    body += [".SH VERSION", "The words of the program are fixed, and it has no word for its version: this page is of version %s, and" % version,
+             ".B homotopy \\-\\-version", "tells that of the command beside it.",
+             ".SH SEE ALSO", ".BR homotopy (1),", ".BR homotopy_files (5)"]
+    return headed("homotopy_cli", 1, version, "decide whether walks on polygon meshes are homotopic", body)
+
+
+def files_page(version, pages):
+    body = page_body(pages["docs/FORMATS.md"])
+    return headed("homotopy_files", 5, version, "the files that homotopy_cli reads and prints", [".SH DESCRIPTION"] + body
+                  + [".SH SEE ALSO", ".BR homotopy_cli (1),", ".BR homotopy (1)"])
+
+
+# ---- the command for people
+
+def command_page(version, parser):
+    """From what the command says of itself."""
+    below = next(action for action in parser._actions if hasattr(action, "choices") and isinstance(action.choices, dict))
+    body = [".SH SYNOPSIS", ".B homotopy", ".I COMMAND", ".RI [ options ]", ".SH DESCRIPTION", escaped(parser.description),
+            "It decides nothing itself: it asks the proved program", ".BR homotopy_cli (1).", ".SH COMMANDS"]
+    for name, command in below.choices.items():
+        body += [".SS " + escaped(command.format_usage().split(None, 1)[1].replace("\n", " ").strip()), escaped(command.description)]
+        for action in command._actions:
+            if action.help and action.dest != "help":
+                shown = ", ".join(action.option_strings) or action.metavar
+                body += [".TP", "\\fB%s\\fR" % escaped(shown), escaped(action.help % vars(action) if "%" in action.help else action.help)]
+        body += [".PP", "Example:"] + code(["$ " + command.epilog.split("\n")[1].strip()])
+    body += [".SH EXIT STATUS"] + page_body(parser.epilog.replace("status:\n  ", ""), 9)
+    body += [".SH ENVIRONMENT", ".TP", "\\fBHOMOTOPY_CLI\\fR", "the program that is asked", ".TP", "\\fBLIBHOMOTOPY\\fR",
+             "the shared library of the Python module", ".TP", "\\fBNO_COLOR\\fR", "where it is set, no colours are used on a terminal",
+             ".SH SEE ALSO", ".BR homotopy_cli (1),", ".BR homotopy_files (5)"]
+    return headed("homotopy", 1, version, "ask whether walks on polygon meshes are homotopic", body)
