@@ -1,11 +1,12 @@
 /* Times of calls: on a tetrahedron; on a torus of 1000 times 1000 squares, of 4,000,000 sides, with one pair and with 100,000 pairs of
- * walks of 20 darts each pair. Prints seconds of the processor, the least of some runs. */
+ * walks of 20 darts each pair; on 50,000 tetrahedra apart, with one pair and with a pair in each, in order and mixed; and on two tori of
+ * 100 times 100 squares, with one pair and with 10,000 that alternate between them. Prints seconds of the processor, the least of some runs. */
 #include <homotopy.h>
 #include <stdio.h>
 #include <stdlib.h>
 #include <time.h>
 
-enum { GRID = 1000, FACES = GRID * GRID, PAIRS = 100000, DARTS = 10 };
+enum { GRID = 1000, FACES = GRID * GRID, PAIRS = 100000, DARTS = 10, PIECES = 50000, SMALL = 100, ALTERNATING = 10000 };
 
 static uint32_t sizes[FACES], corners[4 * FACES], walk_sizes[2 * PAIRS], walk_vertices[2 * PAIRS * (DARTS + 1)];
 static uint8_t answers[PAIRS];
@@ -39,6 +40,72 @@ static double torus(size_t pairs) {
     for (size_t k = 0; k < pairs; k++)
         if (answers[k] != HOMOTOPY_HOMOTOPIC) exit(1);
     return took;
+}
+
+/* Seconds for pairs on a mesh in the arrays, each of which is homotopic; the least of some runs. */
+static double asked(uint32_t vertices, size_t faces, size_t sides, size_t pairs, int runs) {
+    size_t entries = 0;
+    for (size_t walk = 0; walk < 2 * pairs; walk++) entries += walk_sizes[walk];
+    double least = 1e9;
+    for (int run = 0; run < runs; run++) {
+        homotopy_outcome outcome;
+        const double began = seconds();
+        homotopy_decide(vertices, sizes, faces, corners, sides, walk_sizes, 2 * pairs, walk_vertices, entries, answers, pairs, &outcome);
+        const double took = seconds() - began;
+        if (outcome.code != HOMOTOPY_DONE) exit(1);
+        for (size_t k = 0; k < pairs; k++)
+            if (answers[k] != HOMOTOPY_HOMOTOPIC) exit(1);
+        if (took < least) least = took;
+    }
+    return least;
+}
+
+/* For each piece by its turn a walk along two sides of its first face, and one along the third. */
+static void put_pieces(const uint32_t *turns) {
+    for (size_t k = 0; k < PIECES; k++) {
+        const uint32_t start = 4 * turns[k], vertices[5] = {start, start + 1, start + 2, start, start + 2};
+        walk_sizes[2 * k] = 3, walk_sizes[2 * k + 1] = 2;
+        for (int j = 0; j < 5; j++) walk_vertices[5 * k + j] = vertices[j];
+    }
+}
+
+static void tetrahedra(int runs) {
+    static const uint32_t faces[12] = {0, 1, 2, 0, 3, 1, 0, 2, 3, 1, 3, 2};
+    static uint32_t turns[PIECES];
+    for (uint32_t piece = 0; piece < PIECES; piece++) {
+        for (int k = 0; k < 12; k++) corners[12 * piece + k] = 4 * piece + faces[k];
+        for (int k = 0; k < 4; k++) sizes[4 * piece + k] = 3;
+        turns[piece] = piece;
+    }
+    put_pieces(turns);
+    const double one = asked(4 * PIECES, 4 * PIECES, 12 * PIECES, 1, runs), ordered = asked(4 * PIECES, 4 * PIECES, 12 * PIECES, PIECES, runs);
+    for (uint32_t k = PIECES - 1; k > 0; k--) {
+        const uint32_t other = (uint32_t)rand() % (k + 1), turn = turns[k];
+        turns[k] = turns[other], turns[other] = turn;
+    }
+    put_pieces(turns);
+    const double mixed = asked(4 * PIECES, 4 * PIECES, 12 * PIECES, PIECES, runs);
+    printf("50,000 tetrahedra and a pair: %.3f seconds; a pair in each, in order: %.3f; mixed: %.3f\n", one, ordered, mixed);
+}
+
+static void two_tori(int runs) {
+    for (uint32_t k = 0; k < 2 * SMALL * SMALL; k++) {
+        const uint32_t torus_start = k / (SMALL * SMALL) * SMALL * SMALL, x = k % SMALL, y = k / SMALL % SMALL;
+        const uint32_t right = (x + 1) % SMALL, up = (y + 1) % SMALL;
+        const uint32_t ring[4] = {y * SMALL + x, y * SMALL + right, up * SMALL + right, up * SMALL + x};
+        for (int j = 0; j < 4; j++) corners[4 * k + j] = torus_start + ring[j];
+        sizes[k] = 4;
+    }
+    for (uint32_t pair = 0; pair < ALTERNATING; pair++) {
+        const uint32_t at_face = 4 * ((uint32_t)rand() % (SMALL * SMALL) + pair % 2 * SMALL * SMALL);
+        const uint32_t around[6] = {corners[at_face], corners[at_face + 1], corners[at_face + 2],
+                                    corners[at_face], corners[at_face + 3], corners[at_face + 2]};
+        walk_sizes[2 * pair] = walk_sizes[2 * pair + 1] = 3;
+        for (int j = 0; j < 6; j++) walk_vertices[6 * pair + j] = around[j];
+    }
+    const uint32_t faces = 2 * SMALL * SMALL;
+    printf("two tori and a pair: %.3f seconds; 10,000 pairs that alternate: %.3f\n", asked(faces, faces, 4 * faces, 1, runs),
+           asked(faces, faces, 4 * faces, ALTERNATING, runs));
 }
 
 int main(int count, char **words) {
@@ -75,5 +142,7 @@ int main(int count, char **words) {
     }
     printf("4,000,000 sides and a pair: %.3f seconds\n", one);
     printf("4,000,000 sides and 100,000 pairs: %.3f seconds more\n", many - one);
+    tetrahedra(runs);
+    two_tori(runs);
     return 0;
 }
