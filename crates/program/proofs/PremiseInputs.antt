@@ -264,8 +264,8 @@ premises_met held words status text answers =
       verify_homology = λ mesh walks certificate is one two three answered.
           let p = passed held words status text answers answered (VerifyHomology mesh walks certificate) is in
           on_files (codes "verify-homology") (λ shown bytes. cert_of_text bytes ≡ Ok shown) (homology.certificate_in held certificate)
-          (λ faces pair shown. homology.judgement faces (walk_at pair 0) (walk_at pair 1) shown) held words mesh walks certificate p.0 is one
-          two (λ shown. homology_held held certificate shown three) p.1;
+          (λ faces pair shown. homology.judgement faces (walk_at pair 0) (walk_at pair 1) shown) held words mesh walks certificate p.0
+          is one two (λ shown. homology_held held certificate shown three) p.1;
       reduce = λ degree list is told answered.
           let p = passed held words status text answers answered (Reduce degree list) is in
           ((reduced held words status text
