@@ -15,13 +15,15 @@ use Rattle.component_deciding.specs.declared.ordering.Placed.{Placed}
 -- what an entry of the order says: where its pair starts, and that this is a place
 pub entry_place : (asked : Asked) (order : List Placed) (j : ℕ) (d : Placed) (e : AskedPair) → IsAsked asked
     → AreInOrder asked.surface.parts.now asked.pairs.now order → j < length order
-    → (get_or order j d).place ≡ get_or asked.surface.parts.now.places (get_or (get_or asked.pairs.now (get_or order j d).pair e).first.now 0 0) 0
+    → (get_or order j d).place
+    ≡ get_or asked.surface.parts.now.places (get_or (get_or asked.pairs.now (get_or order j d).pair e).first.now 0 0) 0
 entry_place asked order j d e is in_order l =
     let entry : Placed = get_or order j d in
     let pairs : List AskedPair = asked.pairs.now in
     let said = in_order.each_placed j d l in
     ap (λ (p : Placed). p.place) said.1
-    ∙ ap (λ (v : ℕ). get_or asked.surface.parts.now.places v 0) (get_or-map (λ (p : AskedPair). get_or p.first.now 0 0) pairs entry.pair e 0 said.0)
+    ∙ ap (λ (v : ℕ). get_or asked.surface.parts.now.places v 0)
+    (get_or-map (λ (p : AskedPair). get_or p.first.now 0 0) pairs entry.pair e 0 said.0)
 
 -- where a pair starts, as the pair of the list at hand
 abbrev pair_at : (pairs : List AskedPair) (k : ℕ) → k < length pairs → AskedPair
@@ -50,7 +52,8 @@ entry_within asked order j d is in_order l =
     let said = in_order.each_placed j d l in
     let start : ℕ = get_or (starts pairs) entry.pair 0 in
     let used : is_used asked.surface.faces.now start ≡ true =
-    subst (λ (v : ℕ). is_used asked.surface.faces.now v ≡ true) (sym (starts_at pairs entry.pair said.0)) (start_used asked entry.pair is said.0) in
+    subst (λ (v : ℕ). is_used asked.surface.faces.now v ≡ true) (sym (starts_at pairs entry.pair said.0))
+    (start_used asked entry.pair is said.0) in
     omega (arith, ap (λ (p : Placed). p.place) said.1, is.surface.parts.places.below start used)
 
 -- an answer more
@@ -83,7 +86,8 @@ right_more asked order n answers d a pair l each few right before j d2 less d3 e
 
 -- and all
 pub all_right : (asked : Asked) (order : List Placed) (answers : List Answer) (n : ℕ) → length order ≡ n
-    → AreInOrder asked.surface.parts.now asked.pairs.now order → length answers ≡ length asked.pairs.now → AreRightUpTo asked order n answers
+    → AreInOrder asked.surface.parts.now asked.pairs.now order → length answers ≡ length asked.pairs.now
+    → AreRightUpTo asked order n answers
     → AreAnswers asked.surface.faces.now asked.pairs.now answers
 all_right asked order answers n all in_order each right = record {
   each = each;

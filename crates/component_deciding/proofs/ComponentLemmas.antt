@@ -140,12 +140,16 @@ pub own_face_valid : (mesh : FaceList) (parts : PartsView) (own : OwnNumbers) (k
 own_face_valid mesh parts own k f h l =
     let alone : FaceList = component_mesh mesh parts k in
     let whole : IsFaceList (own_mesh alone) =
-    valid_renamed _ _ alone (own_mesh alone) (own_renamed alone (component_valid mesh parts own k h)) (component_valid mesh parts own k h) in
+    valid_renamed _ _ alone (own_mesh alone) (own_renamed alone (component_valid mesh parts own k h))
+    (component_valid mesh parts own k h) in
     whole.faces f [] (omega (arith, l, length-submesh mesh (component_at parts k), length-map alone.faces (own_walk alone)))
 
 pub own_room : (mesh : FaceList) (parts : PartsView) (own : OwnNumbers) (k f : ℕ) → IsNumbered mesh parts own k
     → f < length (component_at parts k)
-    → total_sides (record { count = used_number (component_mesh mesh parts k); faces = take f (own_mesh (component_mesh mesh parts k)).faces })
+    → total_sides (record {
+      count = used_number (component_mesh mesh parts k);
+      faces = take f (own_mesh (component_mesh mesh parts k)).faces;
+    })
     + length (face_at (own_mesh (component_mesh mesh parts k)) f) ≤ MOST_SIDES
 own_room mesh parts own k f h l =
     let alone : FaceList = component_mesh mesh parts k in

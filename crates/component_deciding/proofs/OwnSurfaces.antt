@@ -44,7 +44,8 @@ own_coherent mesh parts own signs k h coherent =
     let alone : FaceList = component_mesh mesh parts k in
     let valid : IsFaceList alone = component_valid mesh parts own k h in
     coherent_renamed _ _ alone (own_mesh alone) (signs_among signs (component_at parts k)) valid (own_renamed alone valid)
-    (coherent_alone mesh (IsOfComponent parts.places k) (component_at parts k) signs (piece_of_parts mesh parts k h.parts_are h.within) coherent)
+    (coherent_alone mesh (IsOfComponent parts.places k) (component_at parts k) signs (piece_of_parts mesh parts k h.parts_are h.within)
+    coherent)
 
 -- the walks of a pair in a component are walks of it, and over its own vertices
 pub own_pair : (mesh : FaceList) (parts : PartsView) (own : OwnNumbers) (k : ℕ) (first second : List ℕ) → IsNumbered mesh parts own k

@@ -226,7 +226,8 @@ pub convinces_accepted : (mesh : FaceList) (first second text : List ℕ) (outco
     → IsVerifyCall (Ok mesh) first second text outcome → AreWalks mesh first second → length text ≤ MOST_BYTES
     → SpellsCertificate shown text → IsAccepted mesh first second shown
     → (outcome.code ≡ codes.ACCEPTED) ⊎ (outcome.code ≡ codes.NO_MEMORY)
-convinces_accepted mesh first second text outcome shown h walks few spells holds = by_end h.end h.right (ap (λ (o : Outcome). o.code) h.tells)
+convinces_accepted mesh first second text outcome shown h walks few spells holds =
+    by_end h.end h.right (ap (λ (o : Outcome). o.code) h.tells)
   where
     by_end : (end : Result Judgement VerifyFault)
         → MatchResult end (Judges (Ok mesh) first second text) (IsVerifyFault (Ok mesh) first second text)

@@ -33,9 +33,11 @@ asked_more walks pairs next k pair l e f before is =
 -- they are pairs of walks of the mesh
 pub asked_on : (mesh : FaceList) (text : WalkText) (pairs : List AskedPair) → ArePairs mesh text → walk_pairs pairs ≡ in_pairs text.walks
     → All (IsPairOn mesh) pairs
-asked_on mesh text pairs are e = on_each pairs (subst (All (λ (p : WalkPair). AreWalkPair mesh p.first p.second)) (sym e) (pairs_are_walks mesh text are))
+asked_on mesh text pairs are e =
+    on_each pairs (subst (All (λ (p : WalkPair). AreWalkPair mesh p.first p.second)) (sym e) (pairs_are_walks mesh text are))
   where
-    on_each : (pairs : List AskedPair) → All (λ (p : WalkPair). AreWalkPair mesh p.first p.second) (walk_pairs pairs) → All (IsPairOn mesh) pairs
+    on_each : (pairs : List AskedPair) → All (λ (p : WalkPair). AreWalkPair mesh p.first p.second) (walk_pairs pairs)
+        → All (IsPairOn mesh) pairs
     on_each pairs all k d l =
         subst (λ (p : WalkPair). AreWalkPair mesh p.first p.second) (get_or-map two_walks pairs k d (two_walks d) l)
         (all k (two_walks d) (omega (arith, l, length-map pairs two_walks)))

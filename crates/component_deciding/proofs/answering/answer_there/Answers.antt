@@ -13,8 +13,8 @@ loop-at-preserved c =
     let said = c.requires.order.each_placed at none few in
     record {
       each = length-set c.loop-at.answers.items (get_or c.args.order.now at none).pair c.in_ok-answers.field-0 ∙ c.loop-at.invariant.each;
-      right = right_more c.args.asked.now c.args.order.now at c.loop-at.answers.items none c.in_ok-answers.field-0 c.index-asked-entry.result
-          said.0 c.loop-at.invariant.each few c.in_ok-answers.ensures c.loop-at.invariant.right;
+      right = right_more c.args.asked.now c.args.order.now at c.loop-at.answers.items none c.in_ok-answers.field-0
+          c.index-asked-entry.result said.0 c.loop-at.invariant.each few c.in_ok-answers.ensures c.loop-at.invariant.right;
     }
 
 pub returns-clause-right : goal.returns-clause-right

@@ -42,7 +42,8 @@ ring-requires c =
     omega (
       arith,
       c.name-name.ensures,
-      named_within c.args.surface.now.faces.now parts c.args.own.now c.args.place f h (omega (arith, c.loop-face-test.true, c.size-face-end.ensures)),
+      named_within c.args.surface.now.faces.now parts c.args.own.now c.args.place f h
+          (omega (arith, c.loop-face-test.true, c.size-face-end.ensures)),
     )
 
 pub renumber-requires : goal.renumber-requires

@@ -8,7 +8,8 @@ use Rattle.component_deciding.proofs.own_mesh.own_surface.Goals as goal
 
 pub signs-requires-clause-signs : goal.signs-requires-clause-signs
 signs-requires-clause-signs c = λ t d l.
-    let within = names_within c.args.surface.now.faces.now c.args.surface.now.parts.now c.args.place c.requires.surface.parts c.requires.place t d l in
+    let within = names_within c.args.surface.now.faces.now c.args.surface.now.parts.now c.args.place c.requires.surface.parts
+    c.requires.place t d l in
     omega (arith, within, c.requires.surface.coherent.each_face)
 
 pub build-requires-2-clause-closed : goal.build-requires-2-clause-closed

@@ -37,7 +37,8 @@ returns c =
     let walk : List ℕ = c.args.walk.now in
     let all : length walk ≤ at = omega (arith, c.loop-at-test.false, c.darts-entries.ensures.count, c.darts-entries.ensures.starts) in
     let vertices : numbers c.deref.result.now ≡ map (λ x. get_or c.args.own.now.numbers.items x 0) walk =
-    ap numbers c.deref.ensures.value ∙ c.loop-at.invariant ∙ ap (map (λ x. get_or c.args.own.now.numbers.items x 0)) (take_all at walk all) in
+    ap numbers c.deref.ensures.value ∙ c.loop-at.invariant
+    ∙ ap (map (λ x. get_or c.args.own.now.numbers.items x 0)) (take_all at walk all) in
     IfOk-weaker c.of.result _ _ (λ alone e.
     e ∙ vertices ∙ own_walk_is c.args.surface.now.faces.now c.args.surface.now.parts.now c.args.own.now walk c.requires.surface.parts
     c.requires.own c.requires.walk) c.of.ensures

@@ -78,12 +78,13 @@ loop-vertex-preserved c =
           ∙ count_is_number mesh parts counts place v c.requires.parts (omega (arith, w.part_of-place.ensures, below)) inside inv.counted
           ∙ ap (λ (j : ℕ). own_number (component_mesh mesh parts j) v) w.part_of-place.ensures in
           record {
-            each_component = ap (λ (x : Vec ℕ Global). length x.items) w.counts-is ∙ length-set counts place (w.index_mut.result.now + 1) ∙ inv.each_component;
+            each_component = ap (λ (x : Vec ℕ Global). length x.items) w.counts-is
+                ∙ length-set counts place (w.index_mut.result.now + 1) ∙ inv.each_component;
             each_vertex = long;
             counted = rw w.counts-is (subst (λ x. IsCounted (place_of_used mesh parts) (v + 1) (set counts place (x + 1))) (sym read)
                 (used_counted mesh parts v place counts used w.part_of-place.ensures inside inv.counted));
-            numbered = rw c.in_ok-push.ensures.items (numbered_more mesh parts v c.if-used.number c.loop-vertex.numbers.items inv.each_vertex
-                (λ _. number) inv.numbered);
+            numbered = rw c.in_ok-push.ensures.items (numbered_more mesh parts v c.if-used.number c.loop-vertex.numbers.items
+                inv.each_vertex (λ _. number) inv.numbered);
           })
       | else-used w ↦
           (let unused : is_used mesh v ≡ false = sym (w.if-used.ensures.mesh mesh c.requires.table) in
@@ -91,8 +92,8 @@ loop-vertex-preserved c =
             each_component = ap (λ (x : Vec ℕ Global). length x.items) w.counts-is ∙ inv.each_component;
             each_vertex = long;
             counted = rw w.counts-is (unused_counted mesh parts v counts unused inv.each_component inv.counted);
-            numbered = rw c.in_ok-push.ensures.items (numbered_more mesh parts v c.if-used.number c.loop-vertex.numbers.items inv.each_vertex
-                (λ used. absurd (both_ways (is_used mesh v) unused used)) inv.numbered);
+            numbered = rw c.in_ok-push.ensures.items (numbered_more mesh parts v c.if-used.number c.loop-vertex.numbers.items
+                inv.each_vertex (λ used. absurd (both_ways (is_used mesh v) unused used)) inv.numbered);
           })
     ]
 

@@ -40,8 +40,10 @@ returns c =
       answer = λ k d e l.
           let few : k < length pairs = omega (arith, l, c.in_ok-pairs.ensures.each) in
           let two : AskedPair = some_of pairs k few in
-          answer_right mesh still (get_or c.args.checked.now k d) (get_or pairs k two) (get_or c.in_ok-decided.decided.items k decided.Different)
-          (get_or given.items k e) (c.in_ok-pairs.ensures.asked k d two l) (right.right k two decided.Different few)
-          (subst (λ (ds : List Answer). IsAnswerFor (get_or c.args.checked.now k d) (get_or ds k decided.Different) (get_or given.items k e))
+          answer_right mesh still (get_or c.args.checked.now k d) (get_or pairs k two)
+          (get_or c.in_ok-decided.decided.items k decided.Different) (get_or given.items k e)
+          (c.in_ok-pairs.ensures.asked k d two l) (right.right k two decided.Different few)
+          (subst (λ (ds : List Answer).
+          IsAnswerFor (get_or c.args.checked.now k d) (get_or ds k decided.Different) (get_or given.items k e))
           c.deref-2.ensures.value (answered k d e decided.Different l));
     }) c.answers_for.ensures.each c.answers_for.ensures.answers

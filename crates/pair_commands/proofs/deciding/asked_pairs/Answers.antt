@@ -12,7 +12,8 @@ loop-k-preserved c =
     let k : ℕ = c.loop-k.k in
     let pair : AskedPair = record { first = c.at.result; second = c.at-in-loop-k.result } in
     asked_more walks c.loop-k.pairs.items c.push.new.self.items k pair
-    (many_pairs walks k (omega (arith, c.loop-k-test.true, c.len-count.ensures.count))) c.at.ensures c.at-in-loop-k.ensures c.loop-k.invariant
+    (many_pairs walks k (omega (arith, c.loop-k-test.true, c.len-count.ensures.count))) c.at.ensures c.at-in-loop-k.ensures
+    c.loop-k.invariant
     c.in_ok-push.ensures.items
 
 pub returns : goal.returns
