@@ -1,5 +1,6 @@
 // The page: a mesh, two walks that are drawn on it, and what the proved program says of them. Nothing here decides anything.
 
+const QUESTIONS = ["decide", "loops", "homology", "decide-open"];
 const SHOWS = { decide: "certify", "decide-open": "certify-open" }, MOST_TOLD = 300, MOST_MARKED = 20000, MOST_NUMBERS = 80;
 const BOUNDARY = "#0b7285", COCYCLE = "#9c36b5", PATIENCE = 700;
 const NO_FILM = {
@@ -69,7 +70,7 @@ class Page {
     on("undo", () => this.undo());
     on("close", () => this.close());
     on("clear", () => this.clear());
-    for (const question of ["decide", "loops", "homology", "decide-open"]) on(question, () => this.ask(question));
+    for (const question of QUESTIONS) on(question, () => this.ask(question));
     on("play", () => this.play());
     on("save", () => this.save());
     on("stop", () => post("stop", { ticket: this.ticket }));
@@ -177,13 +178,13 @@ class Page {
 
   clear() {
     const { current } = this.drawing;
-    return this.change(() => (this.drawing.set(current, new Walk()), `The ${["first", "second"][current]} walk is empty.`));
+    return this.change(() => (this.drawing.set(current, new Walk()), `The ${NAMES[current]} walk is empty.`));
   }
 
   choose(walk) {
     this.drawing.current = walk;
     byId(`walk${walk}`).checked = true;
-    this.say(`Clicks go to the ${["first", "second"][walk]} walk.`);
+    this.say(`Clicks go to the ${NAMES[walk]} walk.`);
   }
 
   // A walk by its numbers.
@@ -244,19 +245,22 @@ class Page {
 
   async ask(question) {
     const { walks, version } = this.drawing, empty = walks.findIndex((walk) => !walk.stops.length);
-    if (empty >= 0) return this.say(`The ${["first", "second"][empty]} walk has no vertex yet.`);
-    for (const id of ["decide", "loops", "homology", "decide-open"]) byId(id).disabled = true;
+    if (empty >= 0) return this.say(`The ${NAMES[empty]} walk has no vertex yet.`);
+    for (const id of QUESTIONS) byId(id).disabled = true;
     byId("answer").hidden = true;
     this.mark({});
     try {
       const answer = await this.run(question, walks), isAnswered = answer.tone !== "refused" && SHOWS[question];
       const shows = isAnswered ? await this.run(SHOWS[question], walks) : null;
-      this.answer = { ...answer, shows, version };
-      this.tellAnswer();
+      if (this.drawing.version !== version) this.say("The walks were changed meanwhile: ask again.");
+      else {
+        this.answer = { ...answer, shows, version };
+        this.tellAnswer();
+      }
     } catch (fault) {
       this.say(`There is no answer: ${fault.message}.`);
     }
-    for (const id of ["decide", "loops", "homology", "decide-open"]) byId(id).disabled = false;
+    for (const id of QUESTIONS) byId(id).disabled = false;
     return byId(question).focus();
   }
 
@@ -272,7 +276,7 @@ class Page {
     put("sentence", answer.sentence);
     byId("sentence").className = answer.tone;
     put("more", this.tellShown(answer.shown));
-    put("why", film ? "" : shows?.tone === "refused" ? shows.sentence : answer.tone === "refused" ? "" : this.noFilm(answer));
+    put("why", film || answer.tone === "refused" ? "" : this.noFilm(answer));
     put("line", answer.line);
     put("command", answer.command);
     byId("play").hidden = byId("tab").hidden = !film;
@@ -284,8 +288,10 @@ class Page {
     this.mark(this.marksOf(answer));
   }
 
-  noFilm({ question, tone }) {
-    return question === "decide-open" && tone === "yes" ? "" : NO_FILM[question] ?? "";
+  // Why an answer has no film.
+  noFilm({ question, shows }) {
+    if (shows?.tone !== "refused") return NO_FILM[question] ?? "";
+    return shows.line ? shows.sentence : `There is no film, and the answer stands. ${shows.sentence}`;
   }
 
   // What a chain or a cocycle counts.
@@ -298,7 +304,7 @@ class Page {
       return `The chain: ${numberOf(count, "face")} with a number that is not 0; green above 0, rose below, and darker for more.${rest}`;
     }
     const sums = this.drawing.walks.map((walk) => this.sum(entries, walk.vertices()));
-    return `The cocycle: ${numberOf(count, "edge")} with a number that is not 0.` +
+    return `The cocycle: ${numberOf(count, "edge")} with a number that is not 0, each from the lower vertex to the higher.` +
       (rest || ` They add up to ${sums[0]} along the first walk, and to ${sums[1]} along the second.`);
   }
 

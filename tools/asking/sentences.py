@@ -18,7 +18,7 @@ ANSWERS = {
     "not homologous": "Not homologous: the numbers of the edges add up to 0 round every face, and to different sums along the two walks.",
 }
 OTHER_ENDS = {3: "A file could not be read.", 4: "The answer could not be written.", 5: "The program had too little memory for this."}
-STOPPED = "The program was stopped, and there is no answer."
+STOPPED = "The program was stopped before it answered."
 HAS_BOUNDARY = "The edge of {} and {} has one side, so the mesh has a boundary."
 ODD_CHAIN = ("The mesh is not orientable: along the chain of {} faces that is marked, each joined to the next across an edge, a sign "
              "comes back turned over.")

@@ -1,6 +1,6 @@
 // Two walks while they are drawn. A walk is the vertices that were set, its stops, with a way along edges from each to the next.
 
-const MOST_STOPS = 60;
+const MOST_STOPS = 60, NAMES = ["first", "second"];
 
 class Walk {
   constructor(stops = [], ways = []) {
@@ -65,7 +65,7 @@ class Drawing {
 
   // Sets a vertex behind the end of the current walk. Gives what is to be said of it.
   async extend(vertex) {
-    const number = this.current, walk = this.walks[number], name = ["first", "second"][number];
+    const number = this.current, walk = this.walks[number], name = NAMES[number];
     if (!walk.stops.length) {
       this.set(number, new Walk([vertex]));
       return `The ${name} walk starts at vertex ${vertex}.`;
@@ -90,7 +90,7 @@ class Drawing {
     if (stop > 0) news[1][stop - 1] = before;
     if (stop < last) news[1][stop] = behind;
     this.set(number, new Walk(...news));
-    return `A stop of the ${["first", "second"][number]} walk is at vertex ${vertex} now.`;
+    return `A stop of the ${NAMES[number]} walk is at vertex ${vertex} now.`;
   }
 
   async join(u, v) {
@@ -111,6 +111,6 @@ class Drawing {
     const walk = new Walk(stops, ways.filter((way) => way.length > 1));
     this.set(number, walk.stops.length > MOST_STOPS ? Walk.of(walk.vertices()) : walk);
     const gaps = joined ? ` Where no edge joins two vertices that stand side by side, a shortest way was put (${joined} times).` : "";
-    return `The ${["first", "second"][number]} walk has ${numberOf(walk.darts, "dart")}.${gaps}`;
+    return `The ${NAMES[number]} walk has ${numberOf(walk.darts, "dart")}.${gaps}`;
   }
 }
