@@ -1,5 +1,6 @@
 """Faults of a mesh, shown where they are; walks drawn with the mouse and by keys alone; and how the page looks."""
 import os
+import runpy
 import time
 
 from pages import ROOT, Page
@@ -49,6 +50,24 @@ def faults(tests, browser):
         marked = sorted(tuple(edge[:2]) for edge in page.value("page.picture.marks.edges"))
         wanted = [(0, 1), (0, 3), (1, 2), (2, 3), (4, 5), (4, 7), (5, 6), (6, 7)]
         tests.expect(marked == wanted, "the boundary that is marked is %r" % marked)
+
+
+def counted(tests, browser):
+    """The faces of a chain and the edges of a cocycle are shown with numbers that the judge of tests/homology accepts."""
+    judged = runpy.run_path(os.path.join(ROOT, "tests", "homology"), run_name="judge")["judged"]
+    path = os.path.join(EXAMPLES, "torus7.off")
+    faces = [list(map(int, line.split()[1:])) for line in open(path, encoding="ascii") if line.startswith("3 ")]
+    for name, head, kind in (("torus7-round", "CHAIN", "faces"), ("torus7-loop", "COCYCLE", "edges")):
+        with Page(tests, browser, path, os.path.join(EXAMPLES, name + ".walks")) as page:
+            walks = page.walks()
+            page.ask("homology")
+            shown, marked = page.value("page.answer.shown.entries"), page.value("page.picture.marks.%s" % kind)
+            text = "%s %d\n%s" % (head, len(shown), "".join(" ".join(map(str, entry)) + "\n" for entry in shown))
+            tests.expect(judged(faces, walks, text) == "accepted", "%s: what is shown is no certificate: %r" % (name, shown))
+            named = [mark[0] if kind == "faces" else mark[:2] for mark in marked]
+            tests.expect(named == [entry[0] if kind == "faces" else entry[:2] for entry in shown], "%s: marked are %r" % (name, named))
+            tests.expect(page.value("page.picture.marks.numbers.length") == len(shown), "%s: not all numbers are shown" % name)
+            tests.picture(page, "ask-%s" % head.lower())
 
 
 def in_a_minute(tests, browser):

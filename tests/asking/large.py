@@ -29,7 +29,8 @@ def left_out(tests, browser):
     lines = torus_text(100, 70, False).split("\n")
     lines[2:7002] = ["0 0 0"] * 7000
     with Page(tests, browser, tests.file("flat.off", "\n".join(lines))) as page:
-        tests.expect("more than 6,000 vertices, or 40,000 lines, is not laid out" in page.text("nothing"), "it says %r" % page.text("nothing"))
+        said = page.text("nothing")
+        tests.expect("more than 6,000 vertices, or 40,000 lines, is not laid out" in said, "it says %r" % said)
         for walk in (0, 1):
             page.type(walk, "0 3 70")
         tone, sentence = page.ask("decide")

@@ -18,9 +18,10 @@ WHERE = """(() => {
 
 
 def start(*words):
-    """tools/ask with some words, which opens no browser; and the address that it prints, or nothing."""
-    command = [sys.executable, ASK, "--no-browser", *words]
-    process = subprocess.Popen(command, stdout=subprocess.PIPE, stderr=subprocess.PIPE, text=True)
+    """tools/ask with some words, started in the top folder, which opens no browser; and the address that it prints, or nothing."""
+    near = [os.path.relpath(word, ROOT) if word.startswith(ROOT + os.sep) else word for word in words]
+    command = [sys.executable, ASK, "--no-browser", *near]
+    process = subprocess.Popen(command, stdout=subprocess.PIPE, stderr=subprocess.PIPE, text=True, cwd=ROOT)
     line = process.stdout.readline().split()
     return process, line[1] if len(line) > 1 else None
 
