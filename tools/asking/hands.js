@@ -35,12 +35,12 @@ class Picker {
     return found;
   }
 
-  // The stop of a walk at a place: of the current walk first.
+  // The stop of a walk that is seen at a place: of the current walk first.
   stopAt(x, y, { walks, current }) {
     const { space } = this;
     for (const walk of [current, 1 - current]) {
       const isHere = (vertex) => Math.hypot(space.x[vertex] - x, space.y[vertex] - y) < STOP_REACH * space.scale;
-      const stop = walks[walk].stops.findLastIndex(isHere);
+      const stop = walks[walk].stops.findLastIndex((vertex) => isHere(vertex) && this.sees(vertex));
       if (stop >= 0) return { walk, stop, vertex: walks[walk].stops[stop] };
     }
     return null;
@@ -58,13 +58,15 @@ class Picker {
     return best;
   }
 
-  // Turns the mesh so that a vertex is seen, where that can be.
+  // Turns the mesh so that a vertex is seen, where that can be, and moves it where the vertex lies beside the canvas.
   lookAt(vertex) {
-    const { space } = this, views = [...this.views(vertex), [space.azimuth, space.elevation]];
+    const { space } = this, { canvas, scale, x, y } = space, views = [...this.views(vertex), [space.azimuth, space.elevation]];
     for (let k = 0; !this.sees(vertex) && k < views.length; k++) {
       [space.azimuth, space.elevation] = views[k];
       space.change();
     }
+    const isInside = x[vertex] > 0 && y[vertex] > 0 && x[vertex] < canvas.width && y[vertex] < canvas.height;
+    if (!isInside) space.shift((canvas.width / 2 - x[vertex]) / scale, (canvas.height / 2 - y[vertex]) / scale);
   }
 
   // From where a vertex may be seen: from straight outside, and then from all around, the sides that are near first. Of a large mesh, which
@@ -155,13 +157,18 @@ class Hands {
     this.space.magnify(Math.exp(-event.deltaY * 0.001), ...this.fromMiddle(event));
   }
 
+  showWhole() {
+    Object.assign(this.space, { zoom: 1, aside: [0, 0] });
+    this.space.change();
+  }
+
   key(event) {
     if (event.metaKey || event.altKey || (event.ctrlKey && event.key !== "z")) return;
     const { deeds, space } = this, nearer = () => space.magnify(1.2), away = () => space.magnify(1 / 1.2);
     const way = { ArrowLeft: [-1, 0], ArrowRight: [1, 0], ArrowUp: [0, -1], ArrowDown: [0, 1] }[event.key];
     const keys = {
       "+": nearer, "=": nearer, "-": away, Enter: deeds.set, " ": deeds.set, Backspace: deeds.undo, Delete: deeds.undo, z: deeds.undo,
-      c: deeds.close, 1: () => deeds.choose(0), 2: () => deeds.choose(1),
+      c: deeds.close, 0: () => this.showWhole(), 1: () => deeds.choose(0), 2: () => deeds.choose(1),
     };
     const deed = way ? () => (event.shiftKey ? space.turn(0.12 * way[0], 0.12 * way[1]) : deeds.step(...way)) : keys[event.key];
     if (!deed) return;
