@@ -8,8 +8,8 @@ Exercise = namedtuple("Exercise", "number name title view shape text")
 EXERCISES = (
     Exercise(1, "tetrahedron", "two ways over a tetrahedron", (20, 25), shapes.tetrahedron, (
         "First walk: click the vertices 0, 1 and 2. Second walk: 0, 3 and 2.",
-        "How many moves does it take at least? Ask \"Same ends\" and play the film. Then find two walks with the same ends that need no "
-        "move at all.")),
+        "How many triangles have to be crossed at least? Ask \"Same ends\", play the film, and count. Then find two other walks with the "
+        "same ends for which none has to be crossed.")),
     Exercise(2, "torus", "two loops on a torus", (20, 48), shapes.torus, (
         "Start somewhere and go once round the hole, with some clicks, back to the start; from there once round the tube, back to the "
         "start. The second walk starts at the same vertex and takes the two loops in the other order.",
@@ -22,8 +22,8 @@ EXERCISES = (
     Exercise(4, "mug", "two rubber bands on a mug", (-35, 22), shapes.mug, (
         "First walk: a rubber band round the mug, between the two ends of its handle. Second walk: a rubber band round the handle.",
         "Can the one be slid over the mug to where the other is? Ask \"Freely\", with the second band laid the one way round and the "
-        "other. Then lay a band along the rim, and for the second walk click one vertex of it alone, and ask \"Same ends\": where does the "
-        "film pull the band?")),
+        "other. Then lay a band along the rim, and for the second walk click one vertex of it alone, and ask \"Same ends\": can the "
+        "band be drawn together to a point?")),
     Exercise(5, "shirt", "across a shirt with holes", (-15, 12), shapes.shirt, (
         "Go across the front of the shirt from the one armpit to the other, once above the moth hole and once below it. Ask \"With "
         "boundary\".",
