@@ -190,7 +190,7 @@ COMMANDS = (
     (loops, "the same as decide of two closed walks, with no vertex held fast", "homotopy loops double11.off double11-different.walks"),
     (homology, "are the walks together the outline of faces? With a chain or a cocycle that shows it",
      "homotopy homology torus7.off torus7-round.walks"),
-    (classes, "group walks: those with the same ends that can be moved to one another", "homotopy classes torus7.off many.walks"),
+    (classes, "group walks: those with the same ends that can be moved to one another", "homotopy classes torus7.off torus7-many.walks"),
     (film, "a page that plays a certificate in a browser", "homotopy film cube.off cube.walks -o cube.html"),
 )
 
