@@ -123,9 +123,9 @@ void homotopy_surface(
  *
  * The room is looked at first: where it is too small for half as many answers as there are walks, the code is SHORT_ROOM, and nothing else
  * is looked at; then the mesh, then the sizes of the walks. The mesh is read once, and where it is in one piece the time for a pair is that
- * of its walks. Where it is in several, each piece in which some pair lies is made a surface of its own, which takes a time that grows
- * with the number of all vertices, and goes over all pairs once. A thousand pairs in a thousand pieces took 0.04 s among 4,000 vertices,
- * and 20 s among 1,000,000: give a mesh of many pieces no more vertices than its faces name, or ask of each piece by itself. */
+ * of its walks. Where it is in several, pairs may lie in them in any order: each piece in which some pair lies is made a surface of its own
+ * once, over its own vertices, so what it costs hangs on its own size; all walks are looked at first, and the pairs are sorted by their
+ * pieces. (What is said of time is not proved.) */
 void homotopy_decide(
     uint32_t vertices, const uint32_t *sizes, size_t face_count, const uint32_t *corners, size_t corner_count,
     const uint32_t *walk_sizes, size_t walk_count, const uint32_t *walk_vertices, size_t walk_vertex_count,

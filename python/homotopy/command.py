@@ -15,7 +15,7 @@ SAYS = {
     "homotopic": "moves lead from the first walk to the second",
     "different": "no moves lead from the first walk to the second",
     "freely homotopic": "moves and changes of the starting vertex lead from the one closed walk to the other",
-    "not freely homotopic": "none lead from the one closed walk to the other",
+    "not freely homotopic": "no moves and changes of the starting vertex lead from the one closed walk to the other",
     "homologous": "the walks are together the outline of faces, counted as the chain says",
     "not homologous": "the walks are together the outline of no faces, as the cocycle shows",
     "accepted": "the certificate shows what it says",
@@ -28,6 +28,8 @@ class Result:
     def __init__(self, asked, ended, mesh=None, walks=None, other=None):
         self.asked, self.status = asked, ended.status
         self.lines = ended.text.splitlines()
+        # Where there is one answer, its line.
+        self.answer = self.lines[0] if self.lines else None
         self.more, self.certificate, self.says, self.next = {}, None, None, None
         if self.lines and self.lines[0].startswith(("refused:", "rejected:")):
             self.says, self.next = words.tell(self.lines[0], mesh, walks, other)
@@ -37,7 +39,7 @@ class Result:
         return self.status == 2
 
     def object(self):
-        told = {"command": self.asked.command, "status": self.status, "answer": self.lines[0] if self.lines else None, "says": self.says}
+        told = {"command": self.asked.command, "status": self.status, "answer": self.answer, "says": self.says}
         if self.next:
             told["next"] = self.next
         if self.certificate is not None:
@@ -74,6 +76,7 @@ def surface(asked, files):
         names = {"V": "vertices", "E": "edges", "F": "faces", "chi": "euler"}
         result.more = {names[name]: int(number) for name, number in counts if name in names}
         result.more["genera"] = [int(number) for name, number in counts if name == "genus"]
+        result.answer = None
         result.says = "an orientable closed surface in %d piece%s" % (len(counts) - 4, "" if len(counts) == 5 else "s")
     return result
 
@@ -83,7 +86,10 @@ def decide(asked, files):
     result = Result(asked, program.ask("decide-open" if asked.open else "decide", mesh.path, walks), mesh, walks)
     if not result.refused:
         result.more = {"answers": result.lines}
-        result.says = SAYS[result.lines[0]] if len(result.lines) == 1 else None
+        if len(result.lines) == 1:
+            result.says = SAYS[result.answer]
+        else:
+            result.answer = None
     return result
 
 
@@ -138,7 +144,7 @@ def classes(asked, files):
         return result
     lines = ["class %d: %s" % (number, " ".join(map(str, members))) for number, members in enumerate(found, 1)]
     result = Result(asked, program.Ended(0, "\n".join(lines)))
-    result.more = {"classes": found}
+    result.answer, result.more = None, {"classes": found}
     return result
 
 
@@ -184,7 +190,7 @@ COMMANDS = (
     (loops, "the same as decide of two closed walks, with no vertex held fast", "homotopy loops double11.off double11-different.walks"),
     (homology, "are the walks together the outline of faces? With a chain or a cocycle that shows it",
      "homotopy homology torus7.off torus7-round.walks"),
-    (classes, "group walks: those with the same ends that can be moved to one another", "homotopy classes torus7.off many.walks"),
+    (classes, "group walks: those with the same ends that can be moved to one another", "homotopy classes torus7.off torus7-many.walks"),
     (film, "a page that plays a certificate in a browser", "homotopy film cube.off cube.walks -o cube.html"),
 )
 

@@ -52,9 +52,10 @@ def release_time(found):
 
 
 def pages():
-    """The pages, pictures, films and examples, under their own names."""
+    """The pages, pictures, films and examples, and the judge in Python, under their own names."""
     tree = {}
-    for pattern in ("README.md", "CHANGELOG.md", "docs/*.md", "docs/*/*", "examples/*", "examples/many/*", "examples/library/**/*"):
+    for pattern in ("README.md", "CHANGELOG.md", "docs/*.md", "docs/*/*", "examples/*", "examples/many/*", "examples/library/**/*",
+                    "tools/judge"):
         for path in sorted(glob.glob(os.path.join(TOP, pattern), recursive=True)):
             if os.path.isfile(path):
                 tree[os.path.relpath(path, TOP)] = file_of(path)
@@ -100,7 +101,9 @@ def module_tree():
     tree = {}
     for path in sorted(glob.glob(path_of("python/homotopy/*.py"))):
         tree["homotopy/" + os.path.basename(path)] = file_of(path, False)
-    tree["homotopy/films/watch"] = file_of(path_of("tools/watch"), True)
+    # What makes films stands on the judge in Python.
+    for name in ("watch", "judge"):
+        tree["homotopy/films/" + name] = file_of(path_of("tools/" + name), True)
     for path in sorted(glob.glob(path_of("tools/watching/*"))):
         if os.path.isfile(path):
             tree["homotopy/films/watching/" + os.path.basename(path)] = file_of(path, False)

@@ -88,7 +88,8 @@ def packages(glibc, kit, releases):
     made = {
         "homotopy-tester": package("homotopy-tester", contents.command_tree(), control(
             "homotopy-tester", "math", c_library, "decide whether walks on polygon meshes are homotopic",
-            " This package has the program homotopy_cli, its manual, the pages, examples\n and films.\n"), kit, releases),
+            " This package has the program homotopy_cli, its manual, the pages, examples\n and films.\n",
+            "Suggests: python3-homotopy\n"), kit, releases),
         "libhomotopy-dev": package("libhomotopy-dev", library, control(
             "libhomotopy-dev", "libdevel", c_library, "library for walks on polygon meshes (development)",
             " This package has the headers for C and C++, the static and the shared\n library.\n"), kit, releases, {
