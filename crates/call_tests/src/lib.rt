@@ -21,4 +21,6 @@ mod rings;
 #[cfg(test)]
 mod splits;
 #[cfg(test)]
+mod tapes;
+#[cfg(test)]
 mod words;
