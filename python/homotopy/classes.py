@@ -17,7 +17,10 @@ class Refused(Exception):
         self.ended, self.path, self.walks = ended, path, walks
 
     def renumbered(self, says):
-        """A sentence about the file of pairs as one about the file of walks. That has a header, and no blank lines."""
+        """A sentence about the file of pairs as one about the file of walks. That has a header, and no blank lines. One about the mesh
+        stays."""
+        if not self.ended.text.startswith("refused: walk"):
+            return says
         says = re.sub(r"\bwalk ([0-9]+)", lambda found: "walk %d" % self.walks[int(found[1]) - 1][0], says)
         return re.sub(r"\bline ([0-9]+)", lambda found: "line %d" % self.walks[int(found[1]) - 2][1].number, says)
 

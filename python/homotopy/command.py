@@ -1,15 +1,17 @@
 """The command `homotopy`: the questions of the proved program, with words for people. It decides nothing itself."""
 import argparse
+import contextlib
 import json
 import os
 import subprocess
 import sys
+import traceback
 
 from . import __version__, program, words
 from .classes import Refused as ClassesRefused
 from .classes import classes_of
 from .meshes import mesh_of
-from .program import HERE, REPOSITORY, Fault, Files
+from .program import HERE, REPOSITORY, Fault, Files, check_file
 
 SAYS = {
     "homotopic": "moves lead from the first walk to the second",
@@ -61,9 +63,11 @@ def print_answer(line, says=None, before=""):
 
 
 def complain(says, advice=None):
-    print("homotopy: " + coloured(says, "31", sys.stderr), file=sys.stderr)
-    if advice:
-        print("          " + advice, file=sys.stderr)
+    # The status tells of a fault too, where nobody reads what is said of it.
+    with contextlib.suppress(OSError):
+        print("homotopy: " + coloured(says, "31", sys.stderr), file=sys.stderr)
+        if advice:
+            print("          " + advice, file=sys.stderr)
 
 
 # ---- the questions
@@ -117,9 +121,11 @@ homology = with_certificate(lambda asked: "homology")
 
 def is_of_homology(path):
     """Whether a certificate is a chain or a cocycle, by the first line that is no answer."""
+    if not os.path.isfile(path):
+        return False
     with open(path, "rb") as file:
         for line in file:
-            first = line.split(b"#")[0].split()
+            first = line.removeprefix(b"\xef\xbb\xbf").split(b"#")[0].split()
             if first and first[0] not in (b"homologous", b"not"):
                 return first[0] in (b"CHAIN", b"COCYCLE")
     return False
@@ -136,6 +142,7 @@ def verify(asked, files):
 
 def classes(asked, files):
     mesh, walks = mesh_of(asked.mesh, files), files.taken(asked.walks)
+    check_file(walks)
     try:
         found = classes_of(mesh.path, walks, files)
     except ClassesRefused as refused:
@@ -160,6 +167,8 @@ def film(asked, files):
     mesh, walks = mesh_of(asked.mesh, files), files.taken(asked.walks)
     if asked.certificate:
         certificate = files.taken(asked.certificate)
+        for path in (mesh.path, walks, certificate):
+            check_file(path)
     else:
         ended = program.ask("certify", mesh.path, walks)
         if ended.status == 2:
@@ -195,10 +204,13 @@ COMMANDS = (
 )
 
 EPILOG = """status:
-  0 yes; 1 no; 2 a refusal, with one line that says why; 3 a file cannot be read, or a program is missing; 4 the answer cannot be written;
-  5 want of memory.
+  0 yes; 1 no; 2 a refusal, with one line that says why; 3 a file cannot be
+  read, or a program is missing; 4 the answer cannot be written; 5 want of
+  memory; 70 a fault of this command itself.
 
-A command decides nothing itself: it asks the proved program homotopy_cli. `homotopy COMMAND --help` has an example of each.
+A command decides nothing itself: it asks the proved program homotopy_cli.
+`homotopy COMMAND --help` has an example of each, `man homotopy_files` (the
+page docs/FORMATS.md) what the files look like.
 """
 
 
@@ -232,7 +244,7 @@ def add_words(command, name):
     if name == "verify":
         command.add_argument("certificate", metavar="CERT", help="a list of moves, a denial, a chain or a cocycle")
     if name == "film":
-        command.add_argument("certificate", metavar="CERT", nargs="?", help="a list of moves or a denial; left away, it is made")
+        command.add_argument("certificate", metavar="CERT", nargs="?", help="a list of moves or a denial; left out, it is made")
         command.add_argument("-o", "--output", metavar="FILE", default="film.html", help="the page (film.html)")
         command.add_argument("--title", help="the line at the head of the page")
     if name in ("certify", "homology"):
@@ -275,8 +287,13 @@ def answer(asked):
     return result.status
 
 
-def main(arguments=None):
-    asked = parser().parse_args(arguments)
+def ended(arguments):
+    try:
+        asked = parser().parse_args(arguments)
+    except SystemExit:
+        # What --help and --version print is written here, so that it is known whether it could be.
+        sys.stdout.flush()
+        raise
     try:
         return answer(asked)
     except Fault as fault:
@@ -285,11 +302,35 @@ def main(arguments=None):
         else:
             complain(str(fault))
         return fault.status
-    except BrokenPipeError:
-        os.dup2(os.open(os.devnull, os.O_WRONLY), sys.stdout.fileno())
-        return 4
-    except OSError as error:
-        complain("%s: %s" % (error.filename or "the answer", error.strerror))
-        return 4
     except KeyboardInterrupt:
         return 130
+
+
+def give_up(stream):
+    """What a stream did not take is not tried again when Python ends, which would end with a status of its own."""
+    try:
+        stream.flush()
+    except OSError:
+        os.dup2(os.open(os.devnull, os.O_WRONLY), stream.fileno())
+
+
+def main(arguments=None):
+    """The status. Nothing but the answer `no` ends with 1."""
+    # Streams that the caller closed: what is said goes nowhere, and an answer cannot be written.
+    sys.stderr = sys.stderr or open(os.devnull, "w")
+    sys.stdout = sys.stdout or open(os.devnull)
+    try:
+        return ended(arguments)
+    except OSError as error:
+        if not isinstance(error, BrokenPipeError):
+            complain("%s: %s" % (error.filename or "the answer", error.strerror or error))
+        return 4
+    except MemoryError:
+        complain("there is too little memory for this question")
+        return 5
+    except Exception:
+        traceback.print_exc()
+        return 70
+    finally:
+        for stream in (sys.stdout, sys.stderr):
+            give_up(stream)

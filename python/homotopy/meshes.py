@@ -6,7 +6,8 @@ import os
 import re
 from collections import namedtuple
 
-from .program import Fault
+from .program import Fault, check_file
+from .walks import value
 
 OTHERS = (".ply", ".obj", ".stl", ".vtk", ".vtu", ".msh", ".inp", ".xdmf", ".med", ".cgns", ".mesh", ".wkt", ".nas", ".bdf")
 # Cells of meshio that are no faces, and are passed over.
@@ -20,7 +21,7 @@ def mesh_of(name, files):
     """A mesh file as one in the format OFF."""
     if os.path.splitext(name)[1].lower() not in OTHERS:
         return Mesh(name, files.taken(name))
-    files.taken(name)
+    check_file(name)
     return Mesh(name, files.write("mesh.off", off_text(name)))
 
 
@@ -68,7 +69,7 @@ def face_rows(mesh):
     keyword = re.fullmatch("(?:ST|C|N|4|n)*OFF(.*)", words[0])
     if keyword:
         words[:1] = [keyword[1]] if keyword[1] else []
-    vertices, faces = map(int, (words or next(rows).split())[:2])
+    vertices, faces = map(value, (words or next(rows).split())[:2])
     for row in itertools.islice(rows, vertices, vertices + faces):
         yield row.split()
 
@@ -79,7 +80,7 @@ def faces_with(mesh, *vertices):
     for number, words in enumerate(face_rows(mesh)):
         # A number may have zeros before it; most faces are passed over without a look at each of their numbers.
         if all(str(vertex) in words or any(word[0] == "0" for word in words) for vertex in vertices):
-            face = [int(word) for word in words[1:int(words[0]) + 1]]
+            face = [value(word) for word in words[1:value(words[0]) + 1]]
             if set(vertices) <= set(face):
                 found.append((number, face))
     return found
@@ -106,6 +107,6 @@ def neighbours(mesh, vertex):
 
 
 def used_range(mesh):
-    """The least and the greatest vertex that a face names."""
-    ends = [(min(face), max(face)) for face in ([int(word) for word in words[1:int(words[0]) + 1]] for words in face_rows(mesh))]
-    return min(least for least, _ in ends), max(greatest for _, greatest in ends)
+    """The least and the greatest vertex that a face names, or nothing where there is no face."""
+    ends = [(min(face), max(face)) for face in ([value(word) for word in words[1:value(words[0]) + 1]] for words in face_rows(mesh))]
+    return (min(least for least, _ in ends), max(greatest for _, greatest in ends)) if ends else None

@@ -33,6 +33,27 @@ def program_path():
     raise Fault("the program %s is not there: install homotopy-tester, or let HOMOTOPY_CLI name it" % (named or "homotopy_cli"), 3)
 
 
+def is_text(name):
+    """Whether the bytes of a name are UTF-8."""
+    return not any("\udc80" <= letter <= "\udcff" for letter in name)
+
+
+def unread(names):
+    """Why the program did not read one of these files."""
+    for name in names:
+        if not os.path.exists(name):
+            return "there is no file %s" % name
+        if os.path.isdir(name):
+            return "%s is a folder" % name
+    return "a file could not be read: %s" % ", ".join(names)
+
+
+def check_file(name):
+    """For a file that is read here, and not by the program."""
+    if not os.path.isfile(name):
+        raise Fault(unread([name]), 3)
+
+
 class Files:
     """Files that are made for the program, in a folder that goes with the question."""
 
@@ -47,16 +68,21 @@ class Files:
         return path
 
     def taken(self, name):
-        """A file that the program can read, more than once: itself, or for `-` what stands on standard input."""
+        """A file that the program can read, more than once: itself, or for `-` what stands on standard input. Of one that is not there, or
+        is a folder, the program tells in its turn."""
         if name != "-":
-            if not os.path.exists(name):
-                raise Fault("there is no file %s" % name, 3)
-            if os.path.isdir(name):
-                raise Fault("%s is a folder" % name, 3)
-            # A pipe is read once, and not by the program, which has no such file open.
-            return name if os.path.isfile(name) else self.copied(open(name, "rb"))
+            # A pipe is read once, and not by the program, which has no such file open; and it takes no name that is no text.
+            is_pipe = os.path.exists(name) and not os.path.isfile(name) and not os.path.isdir(name)
+            if is_text(name) and not is_pipe:
+                return name
+            try:
+                return self.copied(open(name, "rb"))
+            except OSError:
+                raise Fault(unread([name]), 3) from None
         if self.input_is_read:
             raise Fault("- stands for standard input, and can be one file alone")
+        if sys.stdin is None:
+            raise Fault("standard input is closed", 3)
         self.input_is_read = True
         return self.copied(sys.stdin.buffer)
 
@@ -73,7 +99,7 @@ def ask(command, *words):
         printed.seek(0)
         text = printed.read().decode("ascii", "replace")
     if process.returncode == 3:
-        raise Fault("a file could not be read: %s" % ", ".join(words), 3)
+        raise Fault(unread(words), 3)
     if process.returncode == 4:
         raise Fault("the answer could not be written", 4)
     if process.returncode == 5:

@@ -7,6 +7,11 @@ from .program import Fault
 Line = namedtuple("Line", "number text")
 
 
+def value(word):
+    """The value of digits, however many zeros stand before them. Of a longer number 21 digits are enough: they are past every limit."""
+    return int(word.lstrip("0")[:21] or "0")
+
+
 def lines_of(path):
     """The lines of walks, without comments, blank lines and the header."""
     with open(path, "rb") as file:
@@ -21,7 +26,7 @@ def ends_of(line):
     words = re.sub(r"\)\s+[0-9]+", ")", line.text).replace("(", " ").replace(")", " ").split()
     if not words or not all(re.fullmatch("[0-9]+", word) for word in words):
         raise Fault("line %d is no walk: %s" % (line.number, line.text[:60]))
-    return int(words[0]), int(words[-1])
+    return value(words[0]), value(words[-1])
 
 
 def vertices_of(line, most):
@@ -31,9 +36,9 @@ def vertices_of(line, most):
         word = words.pop(0)
         if word == "(":
             end = words.index(")")
-            group = [int(vertex) for vertex in words[:end]]
-            walk += group * min(int(words[end + 1]), most // len(group) + 1)
+            group = [value(vertex) for vertex in words[:end]]
+            walk += group * min(value(words[end + 1]), most // len(group) + 1)
             del words[:end + 2]
         else:
-            walk.append(int(word))
+            walk.append(value(word))
     return walk[:most]

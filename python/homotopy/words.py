@@ -122,8 +122,11 @@ def not_orientable(_numbers, rest, _mesh, _walks):
 def no_vertex(numbers, _rest, mesh, walks):
     walk, place = numbers
     vertex = vertices_of(lines_of(walks)[walk - 1], place + 1)[place]
-    return Told("walk %d passes vertex %d (at place %d), which no face names: the faces name %d to %d"
-                % (walk, vertex, place, *meshes.used_range(mesh)), NEXT["refused: walk {0} place {1} vertex"])
+    named = meshes.used_range(mesh)
+    if named is None:
+        return Told("walk %d passes vertex %d (at place %d), and the mesh has no face" % (walk, vertex, place), None)
+    return Told("walk %d passes vertex %d (at place %d), which no face names: the faces name %d to %d" % (walk, vertex, place, *named),
+                NEXT["refused: walk {0} place {1} vertex"])
 
 
 def no_edge(numbers, _rest, mesh, walks):

@@ -6,7 +6,7 @@ import time
 from pages import ROOT, Page
 
 EXAMPLES = os.path.join(ROOT, "examples")
-RED, SECONDS_TO_A_FILM = (201, 42, 42), 60
+RED, SECONDS_TO_A_FILM, PHONE = (201, 42, 42), 60, (390, 844)
 # Three triangles at one edge, and two tetrahedra apart.
 BOOK = "OFF\n5 3 0\n0 0 0\n0 0 1\n1 0 0\n-1 1 0\n-1 -1 0\n3 0 1 2\n3 0 1 3\n3 0 1 4\n"
 FOUR = ((0, 2, 1), (0, 1, 3), (1, 2, 3), (0, 3, 2))
@@ -28,16 +28,15 @@ def is_red(page, vertices, aside=0):
 
 def faults(tests, browser):
     """The pinched vertex, the edge with three sides, the odd chain and vertices that are apart are marked, and said."""
-    rows = ((os.path.join(EXAMPLES, "tetra-pinched.off"), "pinched at vertex 0", [0], 6),
-            (tests.file("book.off", BOOK), "0 and 1 has 3 sides", [0, 1], 0),
-            (tests.file("open-apart.off", OPEN_APART), "the vertices 0 and 3", [3], 6))
-    for mesh, said, vertices, aside in rows:
+    rows = ((os.path.join(EXAMPLES, "tetra-pinched.off"), "pinched at vertex 0", [0], 6, "ask-pinched"),
+            (tests.file("book.off", BOOK), "0 and 1 has 3 sides", [0, 1], 0, "ask-three-sides"),
+            (tests.file("open-apart.off", OPEN_APART), "the vertices 0 and 3", [3], 6, "ask-apart"))
+    for mesh, said, vertices, aside, picture in rows:
         with Page(tests, browser, mesh) as page:
             tests.expect(said in page.text("what"), "of %s it says %r" % (mesh, page.text("what")))
             page.value("page.picker.lookAt(%d)" % vertices[0])
             tests.expect(is_red(page, vertices, aside), "%s: the fault at %r is not marked" % (mesh, vertices))
-            if "pinched" in mesh:
-                tests.picture(page, "ask-pinched")
+            tests.picture(page, picture)
     with Page(tests, browser, os.path.join(EXAMPLES, "tetra-pinched.off"), os.path.join(EXAMPLES, "cube.walks")) as page:
         tests.expect("are left out" in page.text("said") and page.walks() == [[], []], "of other walks it says %r" % page.text("said"))
     with Page(tests, browser, os.path.join(EXAMPLES, "plane6.off")) as page:
@@ -71,15 +70,19 @@ def counted(tests, browser):
 
 
 def in_a_minute(tests, browser):
-    """The steps of docs/ASKING.md, from the start of tools/ask to the end of a film that is played."""
+    """The steps of README.md, from the start of tools/ask to the end of a film that is played; no vertex of them is behind."""
     began = time.monotonic()
     with Page(tests, browser, os.path.join(EXAMPLES, "torus7.off")) as page:
-        page.set(0, 1, 3)
+        turned = page.value("[page.space.azimuth, page.space.elevation]")
+        page.set(0, 4, 5)
         page.press("walk1")
-        page.set(0, 2, 3)
-        tests.expect(page.walks() == [[0, 1, 3], [0, 2, 3]], "the clicks made %r" % page.walks())
+        page.set(0, 1, 5)
+        tests.expect(page.value("[page.space.azimuth, page.space.elevation]") == turned, "the mesh had to be turned for the steps")
+        tests.expect(page.walks() == [[0, 4, 5], [0, 1, 5]], "the clicks made %r" % page.walks())
         tone, _ = page.ask("decide")
+        tests.picture(page, "ask-page", scale=0.7)
         tests.expect(tone == "yes" and page.film_to_its_end("play") == "right", "the film that is played does not end well")
+        tests.picture(page, "ask-film")
         took = time.monotonic() - began
         tests.expect(took < SECONDS_TO_A_FILM, "from the start to the end of a film it took %.0f s" % took)
         print("tests/ask: from the start of tools/ask to the end of a film %.1f s (load %.1f)" % (took, os.getloadavg()[0]))
@@ -106,8 +109,10 @@ def walks(tests, browser):
         page.set(0)
         tests.expect("is closed, at vertex 0" in page.text("said"), "a click on the start says %r" % page.text("said"))
         page.press("decide")
+        page.rested()
         tests.expect(page.text("said") == "The second walk has no vertex yet.", "without a second walk it says %r" % page.text("said"))
         typed(tests, page)
+        asked_at_once(tests, page)
         box = page.value("(({ left, top }) => [left, top])(page.space.canvas.getBoundingClientRect())")
         page.browser.click(box[0] + 5, box[1] + 5)
         page.rested()
@@ -130,6 +135,44 @@ def typed(tests, page):
         tests.expect(wanted is None or page.walks()[1] == wanted, "%r typed is the walk %r" % (text, page.walks()[1]))
 
 
+def asked_at_once(tests, page):
+    """A question right behind the last number is about what was typed, and is not asked where that is no walk."""
+    page.write(1, "0 6")
+    tone, _ = page.ask("decide")
+    tests.expect(page.walks()[1][-1] == 6 and tone == "refused", "asked at once it says %r of %r" % (page.text("sentence"), page.walks()))
+    page.write(1, "0 99")
+    page.press("decide")
+    page.rested()
+    said = page.text("said")
+    tests.expect("No face names the vertex 99" in said, "asked of no walk it says %r" % said)
+    tests.expect(page.value("document.getElementById('numbers1').ariaInvalid") == "true", "what is no walk is not marked")
+
+
+def hidden(tests, browser):
+    """A click on the number of a vertex that is behind sets nothing, and says so."""
+    with Page(tests, browser, os.path.join(EXAMPLES, "torus7.off")) as page:
+        behind = page.value("[...page.mesh.used].filter((vertex) => !page.picker.sees(vertex))")
+        said = []
+        for vertex in behind:
+            box = page.value("(({ left, top }) => [left, top])(page.space.canvas.getBoundingClientRect())")
+            place = page.value("[page.space.x[%d] / page.space.scale, page.space.y[%d] / page.space.scale]" % (vertex, vertex))
+            page.browser.click(box[0] + place[0], box[1] + place[1])
+            page.rested()
+            said.append(page.text("said"))
+        tests.expect("Vertex 6 is behind: turn the mesh." in said, "clicks on the vertices %r, which are behind, said %r" % (behind, said))
+
+
+def coordinates(tests, browser):
+    """Very large and very small coordinates put the vertices where others do, and are not squared as they are."""
+    text = open(os.path.join(EXAMPLES, "exercises", "torus.off"), encoding="ascii").read().split("\n")
+    seen = []
+    for scale in (1, 1e-200, 1e200):
+        points = [" ".join("%r" % (scale * float(word)) for word in line.split()) for line in text[2:202]]
+        with Page(tests, browser, tests.file("scaled.off", "\n".join(text[:2] + points + text[202:]))) as page:
+            seen.append(page.value("[...page.space.shape.points].map((x) => Math.round(1000 * x))"))
+    tests.expect(seen[0] == seen[1] == seen[2] and max(seen[0]) > 900, "where the vertices stand depends on the scale")
+
+
 def middle(one, two):
     return [(a + b) / 2 for a, b in zip(one, two)]
 
@@ -138,16 +181,16 @@ def keys(tests, browser):
     """By keys alone: two walks on the cube, a question, the film to its end, and what is said of it all."""
     with Page(tests, browser, os.path.join(EXAMPLES, "cube.off")) as page:
         focus(page, "space")
-        for walk in (1, 2):
-            page.browser.key(str(walk))
-            page.value("page.picture.cursor = 0")
-            for name in ("Enter", "ArrowRight", "Enter", "ArrowDown", "ArrowLeft", "Enter", "c"):
-                page.browser.key(name)
-                page.rested()
-        page.browser.key("ArrowUp")
+        keys_pressed(page, "Enter", "Enter", "ArrowRight", "Enter", "ArrowDown", "ArrowLeft", "Enter", "c")
+        keys_pressed(page, "2", "Home", "Enter", "ArrowLeft", "Enter", "ArrowDown", "Enter", "c")
+        tests.expect("is closed" in page.text("said"), "the keys say %r" % page.text("said"))
+        keys_pressed(page, "End", "ArrowUp")
         tests.expect("with the neighbours" in page.text("said"), "the keys say %r" % page.text("said"))
         walks_drawn = page.walks()
-        tests.expect(all(len(walk) > 2 and walk[0] == walk[-1] == 0 for walk in walks_drawn), "the keys drew %r" % walks_drawn)
+        ends = {walk[place] for walk in walks_drawn for place in (0, -1)}
+        are_apart = min(map(len, walks_drawn)) > 2 and walks_drawn[0] != walks_drawn[1]
+        tests.expect(len(ends) == 1 and are_apart, "the keys drew %r" % walks_drawn)
+        tests.picture(page, "ask-keys")
         page.browser.key("Backspace")
         page.rested()
         tests.expect(page.walks() != walks_drawn, "Backspace took nothing back")
@@ -167,12 +210,30 @@ def keys(tests, browser):
         tests.expect(page.text("sentence").startswith("Homotopic"), "by keys it says %r" % page.text("sentence"))
         focus(page, "play")
         page.browser.key("Enter")
-        page.wait("document.getElementById('film').contentDocument?.getElementById('end')")
+        inside = "document.getElementById('film').contentDocument"
+        page.wait("%s?.activeElement?.id === 'play'" % inside)
+        page.browser.key("End")
+        page.wait("['right', 'wrong'].includes(%s.getElementById('verdict').className)" % inside)
+        tests.expect(page.value("%s.getElementById('verdict').className" % inside) == "right", "by keys the film does not end well")
         page.browser.key("Escape")
         page.wait("!document.getElementById('theatre').open")
+        tests.expect(page.value("document.activeElement.id") == "play", "behind the film the keys are elsewhere")
         labelled = page.value("""[...document.querySelectorAll("button, input, canvas, iframe, a")].every((one) => one.textContent.trim() ||
           one.ariaLabel || one.title || one.labels?.length || one.ariaHidden === "true")""")
         tests.expect(labelled, "something on the page has no words for a screen reader")
+        # What is to be read out when it appears stands in a part of the page that is always there.
+        heard = page.value("""["answer", "busy"].every((id) =>
+          document.getElementById(id).parentElement.matches("[aria-live], [role=status]"))""")
+        tests.expect(heard, "an answer, or what takes long, is not read out")
+        nodes = page.browser.ask("Accessibility.getFullAXTree")["nodes"]
+        told = [node["description"]["value"] for node in nodes if node.get("role", {}).get("value") == "application"]
+        tests.expect(len(told) == 1 and "arrow keys" in told[0], "of the mesh a screen reader says %r" % told)
+
+
+def keys_pressed(page, *names):
+    for name in names:
+        page.browser.key(name)
+        page.rested()
 
 
 def focus(page, name):
@@ -238,10 +299,11 @@ def looks(tests, browser):
         tests.expect(ground < 60 and ink > 190, "in the dark the ground is %d and the ink %d" % (ground, ink))
         tests.picture(page, "ask-dark")
         browser.ask("Emulation.setEmulatedMedia", features=[{"name": "prefers-color-scheme", "value": "light"}])
-        browser.ask("Emulation.setDeviceMetricsOverride", width=390, height=844, deviceScaleFactor=2, mobile=True)
+        browser.ask("Emulation.setDeviceMetricsOverride", width=PHONE[0], height=PHONE[1], deviceScaleFactor=2, mobile=True)
         page.value("new Promise((done) => setTimeout(done, 300))")
+        tests.picture(page, "ask-phone", PHONE)
         wide = page.value("document.documentElement.scrollWidth")
-        tests.expect(wide <= 390, "at a phone's width the page is %d wide" % wide)
+        tests.expect(wide <= PHONE[0], "at a phone's width the page is %d wide" % wide)
         small = page.value("[...document.querySelectorAll('button')].filter((one) => one.offsetHeight && one.offsetHeight < 30).length")
         tests.expect(small == 0, "%d buttons are too small for a finger" % small)
         browser.ask("Emulation.setDeviceMetricsOverride", width=1280, height=800, deviceScaleFactor=1, mobile=False)

@@ -37,6 +37,21 @@ def left_out(tests, browser):
         tests.expect(tone == "yes" and len(page.walks()[0]) == 8, "by numbers it says %r of %r" % (sentence, page.walks()))
 
 
+def film_made(tests, browser):
+    """A film that takes seconds to be made, since its mesh is laid out by it, is told meanwhile."""
+    lines = torus_text(64, 64, False).split("\n")
+    lines[2:4098] = ["0 0 0"] * 4096
+    with Page(tests, browser, tests.file("flat.off", "\n".join(lines))) as page:
+        for walk, text in ((0, "0 1 65"), (1, "0 64 65")):
+            page.type(walk, text)
+        tone, sentence = page.ask("decide")
+        tests.expect(tone == "yes", "across a quad it says %r" % sentence)
+        page.press("play")
+        page.wait("document.getElementById('filming').textContent.startsWith('The film is made.')")
+        page.wait("document.getElementById('film').contentDocument?.getElementById('end')")
+        page.wait("!document.getElementById('filming').textContent")
+
+
 TURN = """new Promise((done) => {
   const start = performance.now();
   let frames = 0;
@@ -62,9 +77,36 @@ def opened(tests, browser):
             frames, painter = page.value(TURN), page.value("page.space.painter.constructor.name")
             print("tests/ask: %s: open in %.1f s, a way over half of it in %.3f s, %.1f frames a second by %s (load %.1f)"
                   % (what, took, min(ways), frames, painter, os.getloadavg()[0]))
-            tests.expect(min(ways) <= SECONDS_FOR_A_WAY, "on %s a way took %.3f s" % (what, min(ways)))
+            tests.expect(not is_cut or min(ways) <= SECONDS_FOR_A_WAY, "on %s a way took %.3f s" % (what, min(ways)))
             asked(tests, page, far, what)
+            stopped(tests, page, far)
         os.remove(path)
+
+
+def stopped(tests, page, far):
+    """Ways that take long to be found are told, and can be stopped."""
+    page.type(0, "0 1")
+    page.value("document.getElementById('numbers0').value = '%s'; page.type(0), 0" % (" 0 %d" % far * 2000))
+    page.wait("!document.getElementById('busy').hidden")
+    tests.expect("Ways are searched" in page.text("doing"), "of ways that take long it says %r" % page.text("doing"))
+    page.press("stop")
+    page.rested()
+    tests.expect("was stopped" in page.text("said") and page.walks()[0] == [0, 1], "behind a stop it says %r" % page.text("said"))
+
+
+def long_walk(tests, browser):
+    """A walk of 1,000,000 darts, row by row over the mesh, is shown and asked about."""
+    mesh, darts = tests.file("triangles.off", torus_text(1000, 500, True)), 1_000_000
+    walk = [k // 501 % 1000 * 500 + (k // 501 + k % 501) % 500 for k in range(darts + 1)]
+    walks = tests.file("long.walks", "%s\n%d %d\n" % (" ".join(map(str, walk)), walk[0], walk[1]))
+    with Page(tests, browser, mesh, walks) as page:
+        tests.expect(page.text("darts0") == "1,000,000 darts", "of a walk of 1,000,000 darts it says %r" % page.text("darts0"))
+        frames, began = page.value(TURN), time.monotonic()
+        tone, sentence = page.ask("homology")
+        print("tests/ask: a walk of 1,000,000 darts: %.1f frames a second, an answer in %.1f s (load %.1f)"
+              % (frames, time.monotonic() - began, os.getloadavg()[0]))
+        tests.expect(tone == "refused" and "end at different vertices" in sentence, "of a walk of 1,000,000 darts it says %r" % sentence)
+    os.remove(mesh)
 
 
 def asked(tests, page, far, what):

@@ -57,6 +57,12 @@ class Page:
         """Waits till a condition holds on the page."""
         self.value("new Promise((done) => { const look = () => (%s ? done() : setTimeout(look, 20)); look(); })" % condition)
 
+    def load_anew(self):
+        heard = len(self.browser.heard)
+        self.browser.ask("Page.reload")
+        self.browser.wait_for("Page.loadEventFired", heard)
+        self.wait(IS_READY)
+
     def rested(self):
         """Waits till the walks are as they were asked for, and painted."""
         self.value("Promise.resolve(page.changing).then(() => new Promise((done) => setTimeout(done, 60)))")
@@ -68,7 +74,8 @@ class Page:
         return json.loads(self.value("JSON.stringify(page.drawing.walks.map((walk) => walk.vertices()))"))
 
     def press(self, name):
-        """Clicks the middle of an element."""
+        """Clicks the middle of an element, once it is seen."""
+        self.wait("document.getElementById('%s').checkVisibility()" % name)
         place = self.value("""(() => {
           const element = document.getElementById('%s');
           element.scrollIntoView({ block: "nearest" });
@@ -99,11 +106,15 @@ class Page:
         self.rested()
         self.set(*vertices)
 
-    def type(self, walk, text):
-        """Writes the numbers of a walk into its field."""
+    def write(self, walk, text):
+        """Writes into the field of a walk, and stays there."""
         self.value("document.getElementById('numbers%d').value = ''" % walk)
         self.press("numbers%d" % walk)
         self.browser.write(text)
+
+    def type(self, walk, text):
+        """Writes the numbers of a walk into its field."""
+        self.write(walk, text)
         self.browser.key("Enter")
         self.rested()
 

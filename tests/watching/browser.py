@@ -7,8 +7,9 @@ import select
 import shutil
 import subprocess
 import tempfile
+import time
 
-SECONDS_TO_ANSWER = 60
+SECONDS_TO_ANSWER = 180
 KEYS = {"Tab": 9, "Enter": 13, "Escape": 27, " ": 32, "End": 35, "Home": 36, "ArrowLeft": 37, "ArrowUp": 38, "ArrowRight": 39,
         "ArrowDown": 40, "Backspace": 8}
 TEXTS = {"Enter": "\r"}
@@ -46,12 +47,13 @@ class Browser:
         """Gives the page another size."""
         self.ask("Emulation.setDeviceMetricsOverride", width=width, height=height, deviceScaleFactor=1, mobile=mobile)
 
-    def message(self):
+    def message(self, until):
+        """The next message. What a page tells of itself may come again and again, so that there is an end by the clock."""
         while b"\0" not in self.rest:
-            ready, _, _ = select.select([self.read], [], [], SECONDS_TO_ANSWER)
-            more = os.read(self.read, 1 << 16) if ready else b""
+            left = until - time.monotonic()
+            more = os.read(self.read, 1 << 16) if left > 0 and select.select([self.read], [], [], left)[0] else b""
             if not more:
-                raise RuntimeError("the browser says nothing more")
+                raise RuntimeError("the browser does not answer")
             self.rest += more
         text, self.rest = self.rest.split(b"\0", 1)
         message = json.loads(text)
@@ -73,16 +75,19 @@ class Browser:
         if self.session:
             command["sessionId"] = self.session
         self.send(json.dumps(command).encode() + b"\0")
+        until = time.monotonic() + SECONDS_TO_ANSWER
         while True:
-            answer = self.message()
+            answer = self.message(until)
             if answer.get("id") == self.last:
                 if "error" in answer:
                     raise RuntimeError("%s: %s" % (method, answer["error"]["message"]))
                 return answer["result"]
 
-    def wait_for(self, event):
-        while self.message().get("method") != event:
-            pass
+    def wait_for(self, event, since=0):
+        """Waits till an event was heard, behind so many others."""
+        until = time.monotonic() + SECONDS_TO_ANSWER
+        while all(kind != event for kind, _ in self.heard[since:]):
+            self.message(until)
 
     def open(self, path):
         self.visit("file://" + os.path.realpath(path))
@@ -123,8 +128,8 @@ class Browser:
             raise RuntimeError(result["exceptionDetails"].get("exception", {}).get("description", "a script failed"))
         return result["result"].get("value")
 
-    def picture(self, path, scale=1):
-        clip = {"x": 0, "y": 0, "width": 1280, "height": 800, "scale": scale}
+    def picture(self, path, scale=1, size=(1280, 800)):
+        clip = {"x": 0, "y": 0, "width": size[0], "height": size[1], "scale": scale}
         with open(path, "wb") as file:
             file.write(base64.b64decode(self.ask("Page.captureScreenshot", **({} if scale == 1 else {"clip": clip}))["data"]))
 

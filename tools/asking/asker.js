@@ -18,6 +18,7 @@ async function post(name, data) {
 // The bytes of the mesh file, with a share of 1 told as they come.
 async function meshBytes(tell) {
   const response = await fetch("mesh"), size = Number(response.headers.get("Content-Length"));
+  if (!response.ok) throw new Error((await response.text()).trim());
   const bytes = new Uint8Array(size), reader = response.body.getReader();
   let put = 0;
   for (let piece = await reader.read(); !piece.done; piece = await reader.read()) {

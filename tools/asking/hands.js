@@ -22,6 +22,13 @@ class Picker {
     return best;
   }
 
+  // The vertex with a number that is hidden behind a place, or nothing.
+  behind(x, y) {
+    const { space } = this, away = (vertex) => Math.hypot(space.x[vertex] - x, space.y[vertex] - y);
+    const named = space.shape.numbered.size <= MOST_NUMBERED ? [...space.shape.numbered] : [];
+    return named.find((vertex) => away(vertex) < 2 * STOP_REACH * space.scale && !this.sees(vertex)) ?? null;
+  }
+
   // The corners of the faces that are in front about a place.
   corners(x, y) {
     const { space } = this, found = new Set(), [column, row] = [x, y].map((place) => Math.round(place / space.cell));
@@ -149,7 +156,7 @@ class Hands {
     if (!held || this.pointers.size) return;
     this.held = null;
     if (held.stop && held.moved) this.deeds.drop(isUp);
-    else if (isUp && !held.moved && held.from.button === 0) this.deeds.click(this.picker.at(...this.place(event)));
+    else if (isUp && !held.moved && held.from.button === 0) this.deeds.click(...this.place(event));
   }
 
   roll(event) {
@@ -168,7 +175,8 @@ class Hands {
     const way = { ArrowLeft: [-1, 0], ArrowRight: [1, 0], ArrowUp: [0, -1], ArrowDown: [0, 1] }[event.key];
     const keys = {
       "+": nearer, "=": nearer, "-": away, Enter: deeds.set, " ": deeds.set, Backspace: deeds.undo, Delete: deeds.undo, z: deeds.undo,
-      c: deeds.close, 0: () => this.showWhole(), 1: () => deeds.choose(0), 2: () => deeds.choose(1),
+      c: deeds.close, Home: () => deeds.seek("start"), End: () => deeds.seek("end"), 0: () => this.showWhole(),
+      1: () => deeds.choose(0), 2: () => deeds.choose(1),
     };
     const deed = way ? () => (event.shiftKey ? space.turn(0.12 * way[0], 0.12 * way[1]) : deeds.step(...way)) : keys[event.key];
     if (!deed) return;

@@ -134,10 +134,15 @@ function areApart(points, corners) {
 }
 
 // The points moved and scaled so that those of faces fill a ball of radius 1 about 0: its middle is drawn to the farthest point again and
-// again, each time less far.
+// again, each time less far. Squares of the coordinates as they are may be too large or too small for a number, so they are scaled first.
 function centred(points, corners) {
   const used = new Uint8Array(points.length / 3), middle = [0, 0, 0], moved = new Float32Array(points.length);
-  for (const corner of corners) used[corner] = 1;
+  let largest = 0;
+  for (const corner of corners) {
+    used[corner] = 1;
+    for (let axis = 0; axis < 3; axis++) largest = Math.max(largest, Math.abs(points[3 * corner + axis]));
+  }
+  for (let k = 0; k < points.length; k++) points[k] /= largest;
   let far = corners[0], reach = 0;
   for (let round = 1; round < 24; round++) {
     for (let axis = 0; axis < 3; axis++) middle[axis] += (points[3 * far + axis] - middle[axis]) / round;

@@ -20,8 +20,21 @@ class Mesh {
     return this.next.subarray(this.first[vertex], this.first[vertex + 1]);
   }
 
+  // Whether an edge joins two vertices. Neighbours stand in order.
+  areJoined(u, v) {
+    const { next } = this;
+    let [from, to] = [this.first[u], this.first[u + 1]];
+    while (from < to) {
+      const middle = (from + to) >> 1;
+      if (next[middle] === v) return true;
+      if (next[middle] < v) from = middle + 1;
+      else to = middle;
+    }
+    return false;
+  }
+
   hasWalk(walk) {
-    return walk.every((vertex, k) => this.used.has(vertex) && (!k || this.neighbours(vertex).includes(walk[k - 1])));
+    return walk.every((vertex, k) => this.used.has(vertex) && (!k || this.areJoined(vertex, walk[k - 1])));
   }
 
   // The edges with another number of sides than two: on the boundary, or on more than two faces. At most as many as are marked.
@@ -36,8 +49,9 @@ class Mesh {
 
 class Page {
   constructor(start) {
-    Object.assign(this, { start, helper: new Helper(), own: {}, answer: null });
+    Object.assign(this, { start, helper: new Helper(), own: {}, answer: null, jobs: [], changing: Promise.resolve() });
     this.drawing = new Drawing(async (from, to) => {
+      if (this.mesh.areJoined(from, to)) return [from, to];
       const { way, milliseconds } = await this.helper.ask("way", { from, to });
       this.wayTook = milliseconds;
       return way;
@@ -73,7 +87,8 @@ class Page {
     for (const question of QUESTIONS) on(question, () => this.ask(question));
     on("play", () => this.play());
     on("save", () => this.save());
-    on("stop", () => post("stop", { ticket: this.ticket }));
+    on("stop", () => this.job()?.stop());
+    on("film", () => this.filmIsThere(), "load");
     on("theatre", () => byId("film").removeAttribute("src"), "close");
   }
 
@@ -134,11 +149,12 @@ class Page {
     const { drawing, picture } = this;
     return {
       drawing,
-      click: (vertex) => (vertex === null ? this.say("There is no vertex there: click nearer to one.") : this.extend(vertex)),
+      click: (x, y) => this.click(x, y),
       hover: (vertex) => (picture.hover = vertex),
       drag: (stop) => (picture.dragged = stop),
       drop: (isUp) => this.drop(isUp),
       step: (right, down) => this.step(right, down),
+      seek: (end) => this.seek(end),
       set: () => (picture.cursor === null ? this.step(0, 0) : this.extend(picture.cursor)),
       undo: () => this.undo(),
       close: () => this.close(),
@@ -146,13 +162,19 @@ class Page {
     };
   }
 
-  // One change of a walk after another, each said and shown.
-  change(deed) {
-    this.changing = (this.changing ?? Promise.resolve()).then(deed).then((said) => {
+  // One change of a walk after another, each said and shown. `stop` ends one that takes long.
+  change(deed, stop = null) {
+    this.changing = this.changing.then(() => this.busy("Ways are searched.", deed(), stop)).then((said) => {
       this.say(said);
       this.tell();
     }, (fault) => this.say(`That did not work: ${fault.message}.`));
     return this.changing;
+  }
+
+  click(x, y) {
+    const vertex = this.picker.at(x, y), behind = vertex === null ? this.picker.behind(x, y) : null;
+    if (vertex !== null) return this.extend(vertex);
+    return this.say(behind === null ? "There is no vertex there: click nearer to one." : `Vertex ${behind} is behind: turn the mesh.`);
   }
 
   extend(vertex) {
@@ -192,18 +214,31 @@ class Page {
     if (!this.mesh) return this.say("The mesh is not read yet.");
     const words = byId(`numbers${number}`).value.trim().split(/[\s,]+/).filter(Boolean), vertices = words.map(Number);
     const wrong = words.find((word, k) => !/^[0-9]+$/.test(word) || !this.mesh.used.has(vertices[k]));
+    byId(`numbers${number}`).ariaInvalid = Boolean(wrong);
     if (wrong) return this.say(/^[0-9]+$/.test(wrong) ? `No face names the vertex ${wrong}.` : `"${wrong}" is no number of a vertex.`);
-    return this.change(() => this.drawing.type(number, vertices));
+    let isStopped = false;
+    return this.change(() => this.drawing.type(number, vertices, () => isStopped), () => (isStopped = true));
   }
 
   // The keys go to the neighbour in a direction, and say what is there.
   step(right, down) {
     const { picture, picker, space: { canvas } } = this, at = picture.cursor;
     const first = () => this.drawing.walk.end ?? picker.at(canvas.width / 2, canvas.height / 2) ?? picker.used[0];
-    picture.cursor = at === null ? first() : picker.towards(at, right, down) ?? at;
-    picker.lookAt(picture.cursor);
-    const around = [...this.mesh.neighbours(picture.cursor)].slice(0, 12).join(", ");
-    this.say(`Vertex ${picture.cursor}, with the neighbours ${around}. Enter sets it.`);
+    this.stand(at === null ? first() : picker.towards(at, right, down) ?? at);
+  }
+
+  // The keys go to an end of the first walk, where the second one is to start or to end.
+  seek(end) {
+    const vertex = this.drawing.walks[0][end];
+    if (vertex === undefined) this.say("The first walk has no vertex yet.");
+    else this.stand(vertex);
+  }
+
+  stand(vertex) {
+    this.picture.cursor = vertex;
+    this.picker.lookAt(vertex);
+    const around = [...this.mesh.neighbours(vertex)].slice(0, 12).join(", ");
+    this.say(`Vertex ${vertex}, with the neighbours ${around}. Enter sets it.`);
   }
 
   say(text) {
@@ -216,6 +251,8 @@ class Page {
       const vertices = walk.vertices();
       byId(`numbers${w}`).value = vertices.length > MOST_TOLD ? `${vertices.slice(0, MOST_TOLD).join(" ")} ..` : vertices.join(" ");
       byId(`numbers${w}`).readOnly = vertices.length > MOST_TOLD;
+      byId(`numbers${w}`).title = vertices.length > MOST_TOLD ? "The walk is too long to be told here. Clear it to type another." : "";
+      byId(`numbers${w}`).ariaInvalid = false;
       put(`darts${w}`, vertices.length ? `${walk.darts.toLocaleString("en")} dart${walk.darts === 1 ? "" : "s"}` : "");
     });
     if (!this.answer || this.answer.version === this.drawing.version) return;
@@ -224,26 +261,38 @@ class Page {
     this.mark({});
   }
 
-  // What takes longer is told, with the seconds, and can be stopped where the program is at work.
-  async busy(doing, promise, canStop = false) {
-    const start = performance.now(), box = byId("busy");
+  // What takes longer is told, with the seconds, and can be stopped where there is a way to.
+  async busy(doing, promise, stop = null) {
+    const job = { doing, stop, since: performance.now() }, timer = setInterval(() => this.tellJob(), 200);
+    this.jobs.push(job);
     byId("progress").removeAttribute("value");
-    byId("stop").hidden = !canStop;
-    const tell = () => {
-      const passed = performance.now() - start;
-      box.hidden = passed < PATIENCE;
-      put("doing", `${doing} ${Math.floor(passed / 1000)} s`);
-    };
-    const timer = setInterval(tell, 200);
     try {
       return await promise;
     } finally {
       clearInterval(timer);
-      box.hidden = true;
+      this.jobs.splice(this.jobs.indexOf(job), 1);
+      this.tellJob();
     }
   }
 
+  // The job that is told: one that can be stopped, if there is one.
+  job() {
+    return this.jobs.find(({ stop }) => stop) ?? this.jobs[0];
+  }
+
+  tellJob() {
+    const job = this.job(), passed = job ? performance.now() - job.since : 0;
+    byId("busy").hidden = passed < PATIENCE;
+    if (!job) return;
+    put("doing", job.doing);
+    put("seconds", `${Math.floor(passed / 1000)} s`);
+    byId("stop").hidden = !job.stop;
+  }
+
   async ask(question) {
+    await this.changing;
+    const wrong = [0, 1].find((w) => byId(`numbers${w}`).ariaInvalid === "true");
+    if (wrong !== undefined) return this.type(wrong);
     const { walks, version } = this.drawing, empty = walks.findIndex((walk) => !walk.stops.length);
     if (empty >= 0) return this.say(`The ${NAMES[empty]} walk has no vertex yet.`);
     for (const id of QUESTIONS) byId(id).disabled = true;
@@ -265,10 +314,10 @@ class Page {
   }
 
   run(question, walks) {
-    this.ticket = crypto.randomUUID();
+    const ticket = crypto.randomUUID();
     const view = this.space ? [this.space.azimuth, this.space.elevation].map((angle) => Math.round((angle * 180) / Math.PI)) : null;
-    const asked = post("ask", { question, walks: walks.map((walk) => walk.vertices()), ticket: this.ticket, view });
-    return this.busy(`The program is at work (${question}).`, asked, true);
+    const asked = post("ask", { question, walks: walks.map((walk) => walk.vertices()), ticket, view });
+    return this.busy(`The program is at work (${question}).`, asked, () => post("stop", { ticket }));
   }
 
   tellAnswer() {
@@ -348,9 +397,26 @@ class Page {
     this.picture?.mark({ ...this.own, ...marks, edges: both("edges"), vertices: both("vertices") });
   }
 
+  // Opens the film. Till it is made, that is told.
   play() {
+    const since = performance.now();
     byId("film").src = `film/${this.answer.shows.number}`;
     byId("theatre").showModal();
+    clearInterval(this.filming);
+    this.filming = setInterval(() => {
+      const passed = performance.now() - since;
+      if (passed >= PATIENCE) put("filming", `The film is made. ${Math.floor(passed / 1000)} s`);
+    }, 200);
+  }
+
+  // The keys go to the film, and Escape closes it from there too.
+  filmIsThere() {
+    clearInterval(this.filming);
+    put("filming", "");
+    if (!byId("theatre").open) return;
+    const { contentWindow, contentDocument } = byId("film");
+    contentDocument.getElementById("play")?.focus();
+    contentWindow.addEventListener("keydown", ({ key }) => key === "Escape" && byId("theatre").close());
   }
 
   async save() {
@@ -362,6 +428,7 @@ class Page {
       put("saved", `${fault.message}`);
     }
     byId("saved").hidden = false;
+    byId("saved").scrollIntoView({ block: "nearest" });
   }
 }
 

@@ -3,6 +3,8 @@
 const WALK_COLOURS = ["#1c6dd0", "#e07b00"], FAULT = "#c92a2a", CURSOR = "#9c36b5";
 // The faces of a chain by their numbers, below 0 and above, each from 1 to more.
 const CHAIN_COLOURS = { above: ["#b2f2bb", "#51cf66", "#2b8a3e"], below: ["#fcc2d7", "#f06595", "#a61e4d"] };
+// A longer walk is drawn by some of its vertices, while a large mesh is turned by fewer.
+const MOST_DRAWN = 30000, MOST_DRAWN_ROUGHLY = 2000;
 const NO_MARKS = { vertices: [], edges: [], chain: [], faces: [], numbers: [] };
 
 class Picture {
@@ -35,16 +37,24 @@ class Picture {
   paintWalks(pen, { walks, current, version }) {
     const { ribbon } = this;
     if (this.walksVersion !== version) {
-      [this.walksVersion, this.parts] = [version, walks.map((walk) => walk.vertices())];
+      [this.walksVersion, this.parts] = [version, walks.map((walk) => Picture.thinned(walk.vertices(), MOST_DRAWN))];
+      this.roughParts = this.parts.map((part) => Picture.thinned(part, MOST_DRAWN_ROUGHLY));
       this.lanes = this.parts.every((part) => part.length <= MOST_DARTS_IN_LANES) ? ribbon.lanes(...this.parts) : [];
     }
+    const parts = this.space.rough ? this.roughParts : this.parts;
     for (const w of [1 - current, current]) {
       if (!walks[w].stops.length) continue;
-      const colours = [WALK_COLOURS[w]], places = ribbon.atRest(this.parts[w], this.lanes[w]);
-      ribbon.stroke(pen, places, { width: w === current ? 5 : 3.5, colours, hidden: 0.5, dash: true });
-      if (this.parts[w].length <= MOST_DARTS_IN_LANES) ribbon.heads(pen, places, colours);
+      const colours = [WALK_COLOURS[w]], places = ribbon.atRest(parts[w], this.lanes[w]), isShort = parts[w].length <= MOST_DARTS_IN_LANES;
+      ribbon.stroke(pen, places, { width: w === current ? 5 : 3.5, colours, hidden: 0.5, dash: isShort });
+      if (isShort) ribbon.heads(pen, places, colours);
       walks[w].stops.forEach((vertex, k) => this.dot(pen, vertex, WALK_COLOURS[w], k ? 5 : 7));
     }
+  }
+
+  // A long walk by so many of its vertices, evenly.
+  static thinned(walk, most) {
+    const step = Math.ceil(walk.length / most);
+    return step > 1 ? walk.filter((_, k) => k % step === 0 || k === walk.length - 1) : walk;
   }
 
   paintMarks(pen) {

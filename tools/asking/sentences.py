@@ -90,7 +90,7 @@ def told_of(status, lines):
         return Told("refused", "", OTHER_ENDS.get(status, "The program ended with status %d and printed nothing." % status), {})
     if lines[0].startswith("refused: "):
         return refusal_told(lines[0])
-    if lines[0].startswith("V "):
+    if lines[0].startswith("V ") and lines[-1].startswith("genus "):
         return surface_told(lines)
     return Told(("yes", "no")[min(status, 1)], lines[0], ANSWERS.get(lines[0], lines[0]), {})
 

@@ -7,6 +7,8 @@ import hmac
 import json
 import os
 import secrets
+import select
+import socket
 import threading
 import time
 from http.server import BaseHTTPRequestHandler, ThreadingHTTPServer
@@ -89,13 +91,15 @@ class Handler(BaseHTTPRequestHandler):
             status, why = refusal.args
             self.give((why + "\n").encode(), "text/plain; charset=utf-8", status)
         except Fault as fault:
-            self.give(json.dumps({"fault": str(fault)}).encode(), DATA)
-        except (BrokenPipeError, ConnectionResetError):
+            self.give_data({"fault": str(fault)})
+        except (BrokenPipeError, ConnectionResetError, TimeoutError):
             self.close_connection = True
+        except OSError as fault:
+            self.give_data({"fault": "a file could not be read or written: %s" % (fault.strerror or fault)})
 
     def name_asked(self):
         """What stands behind the secret in the address."""
-        if self.headers.get("Host") != self.server.host:
+        if self.headers.get_all("Host") != [self.server.host]:
             raise Refused(403, "this is no server of that host")
         parts = self.path.split("/", 2)
         if len(parts) < 3 or parts[0] or not hmac.compare_digest(parts[1].encode(), self.server.secret.encode()):
@@ -147,6 +151,8 @@ class Handler(BaseHTTPRequestHandler):
 
     def give_mesh(self, path):
         """The mesh file as it is, piece by piece."""
+        if not os.path.isfile(path):
+            raise Refused(404, "the mesh file is gone")
         with open(path, "rb") as file:
             size = os.fstat(file.fileno()).st_size
             self.send_response(200)
@@ -183,7 +189,7 @@ class Handler(BaseHTTPRequestHandler):
     def post(self, name):
         session, asked = self.server.session, self.body()
         if name == "ask":
-            self.give_data(session.ask(question_of(asked)))
+            self.give_data(session.ask(question_of(asked), self.is_left))
         elif name == "stop":
             session.stop(asked.get("ticket"))
             self.give_data({})
@@ -191,6 +197,13 @@ class Handler(BaseHTTPRequestHandler):
             self.give_data(self.saved(self.number(str(asked.get("number")))))
         else:
             raise Refused(404, "there is nothing here")
+
+    def is_left(self):
+        """Whether the page that asked is gone, or was loaded anew: its connection is at its end."""
+        try:
+            return bool(select.select([self.connection], [], [], 0)[0]) and not self.connection.recv(1, socket.MSG_PEEK)
+        except OSError:
+            return True
 
     def saved(self, number):
         try:
@@ -207,11 +220,11 @@ class Handler(BaseHTTPRequestHandler):
         length = self.headers.get("Content-Length", "")
         if not length.isascii() or not length.isdigit() or self.headers.get("Content-Type") != DATA:
             raise Refused(400, "a request has a length and is " + DATA)
-        if int(length) > MOST_BYTES:
+        if len(length) > 9 or int(length) > MOST_BYTES:
             raise Refused(413, "a request has at most %d bytes" % MOST_BYTES)
         try:
             asked = json.loads(self.rfile.read(int(length)))
-        except ValueError:
+        except (ValueError, RecursionError):
             raise Refused(400, "a request is one object") from None
         if not isinstance(asked, dict):
             raise Refused(400, "a request is one object")

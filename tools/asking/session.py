@@ -17,6 +17,7 @@ from watching.scene import scene_of
 from watching.texts import Fault, Moves, read_certificate, read_mesh
 
 QUESTIONS = ("decide", "certify", "loops", "homology", "decide-open", "certify-open")
+GLANCE = 0.5
 MOST_SHOWN, MOST_KEPT, FIRST_LINES, MOST_LAID_OUT, MOST_LINES = 20_000, 20, 1100, 6_000, 40_000
 HERE = os.path.dirname(os.path.realpath(__file__))
 BUILT = os.path.join(os.path.dirname(os.path.dirname(HERE)), "crates", "homotopy_cli", "out", "homotopy_cli")
@@ -38,11 +39,27 @@ def first_lines(path):
         return [line.rstrip("\n") for line, _ in zip(file, range(MOST_SHOWN + FIRST_LINES))]
 
 
+def judge_of(answer):
+    """The command that judges what an answer printed; nothing where no certificate was printed."""
+    has_text = answer.status in (0, 1) and len(first_lines(answer.printed)) > 1
+    return {"homology": "verify-homology", "certify": "verify", "certify-open": "verify"}.get(answer.question) if has_text else None
+
+
+def ended(process, is_left):
+    """The status of a process, once it has ended; one whose asker has left is killed."""
+    while True:
+        try:
+            return process.wait(timeout=GLANCE)
+        except subprocess.TimeoutExpired:
+            if is_left():
+                process.kill()
+
+
 class Session:
     """Questions are asked from many threads; what is kept of them is changed under a lock."""
 
     def __init__(self, mesh, program=BUILT, folder=".", view=(30, 35)):
-        self.mesh, self.program, self.folder, self.view = mesh, program, folder, list(view)
+        self.mesh, self.program, self.folder, self.view = mesh, os.path.abspath(program), folder, list(view)
         self.scratch = tempfile.TemporaryDirectory(prefix="ask-")
         self.lock, self.count, self.answers, self.running = threading.Lock(), 0, {}, {}
         self.stamp = self.mesh_stamp()
@@ -67,9 +84,9 @@ class Session:
         stays = self.run(["decide-open", self.mesh], [edge[0][:1]] * 2)
         return told, stays.told
 
-    def run(self, words, walks=None, ticket=None, view=None):
+    def run(self, words, walks=None, ticket=None, view=None, is_left=lambda: False):
         """Runs the program, and keeps what it printed; `ticket` is the name by which it can be stopped, and `view` from where the mesh
-        was seen."""
+        was seen. Where who asked has left, it is ended."""
         with self.lock:
             self.count += 1
             number = self.count
@@ -79,16 +96,24 @@ class Session:
             with open(words[-1], "w", encoding="ascii") as file:
                 file.write(walks_text(walks))
         with open(printed, "wb") as output:
-            process = subprocess.Popen([self.program, *words], stdin=subprocess.DEVNULL, stdout=output, stderr=subprocess.DEVNULL)
+            process = self.started([self.program, *words], output)
             with self.lock:
                 self.running[number] = process, ticket
-            status = process.wait()
+            status = ended(process, is_left)
         answer = Answer(number, words[0], words[-1], printed, status, told_of(status, first_lines(printed)), view or self.view)
         with self.lock:
             del self.running[number]
-            self.answers[number] = answer
+            if walks is not None:
+                self.answers[number] = answer
             self.forget()
         return answer
+
+    def started(self, command, output):
+        """The process of the program. What is no program of this machine, or was one when the page was opened, is said."""
+        try:
+            return subprocess.Popen(command, stdin=subprocess.DEVNULL, stdout=output, stderr=subprocess.DEVNULL)
+        except OSError as fault:
+            raise Fault("the program %s does not start: %s" % (self.program, fault.strerror or fault)) from None
 
     def forget(self):
         """Only the last answers are kept."""
@@ -106,15 +131,17 @@ class Session:
                 if ticket is None or name == ticket:
                     process.kill()
 
-    def ask(self, asked):
-        """What the page shows of a question about two walks."""
+    def check_mesh(self):
         if self.mesh_stamp() != self.stamp:
             raise Fault("the mesh file has changed since the page was opened, so start tools/ask anew")
-        answer = self.run([asked.question, self.mesh], asked.walks, asked.ticket, asked.view)
-        lines = first_lines(answer.printed)
-        has_film = asked.question in ("certify", "certify-open") and len(lines) > 1 and answer.status in (0, 1)
+
+    def ask(self, asked, is_left=lambda: False):
+        """What the page shows of a question about two walks."""
+        self.check_mesh()
+        answer = self.run([asked.question, self.mesh], asked.walks, asked.ticket, asked.view, is_left)
+        has_film = judge_of(answer) == "verify"
         return {"number": answer.number, "question": asked.question, "status": answer.status, **answer.told._asdict(), "film": has_film,
-                "shown": shown_of(lines, MOST_SHOWN), "command": self.command(asked.question)}
+                "shown": shown_of(first_lines(answer.printed), MOST_SHOWN), "command": self.command(asked.question)}
 
     def command(self, question, walks="WALKS"):
         return " ".join(map(shlex.quote, ("homotopy_cli", question, self.mesh, walks)))
@@ -134,7 +161,10 @@ class Session:
 
     def film(self, number):
         """The page of a certificate, made by what makes the films."""
+        self.check_mesh()
         answer = self.answers[number]
+        if judge_of(answer) != "verify":
+            raise Fault("the program printed no certificate that has one")
         mesh, certificate = read_mesh(self.mesh), read_certificate(answer.printed)
         with open(answer.walks, encoding="ascii") as file:
             walks = [list(map(int, line.split())) for line in file]
@@ -155,22 +185,34 @@ class Session:
 
     def save(self, number):
         """Writes walks, certificate and film beside one another. Gives the files, and the lines that ask the same again."""
+        self.check_mesh()
         answer, stem = self.answers[number], self.stem()
-        shows = {"homology": "verify-homology", "certify": "verify", "certify-open": "verify"}.get(answer.question)
-        has_text = shows and answer.status in (0, 1) and len(first_lines(answer.printed)) > 1
+        judge = judge_of(answer)
         with open(answer.walks, "rb") as file:
             texts = {stem + ".walks": file.read()}
         lines = [self.command(answer.question, stem + ".walks")]
-        if has_text:
+        if judge:
             with open(answer.printed, "rb") as file:
                 texts[stem + ".cert"] = file.read()
-            lines.append(self.command(shows, stem + ".walks") + " " + shlex.quote(stem + ".cert"))
-        if has_text and shows == "verify":
+            lines.append(self.command(judge, stem + ".walks") + " " + shlex.quote(stem + ".cert"))
+        if judge == "verify":
             texts[stem + ".html"] = self.film(number).encode("utf-8", "replace")
-        for path, text in texts.items():
-            with open(path, "xb") as file:
-                file.write(text)
+        self.write(texts)
         return {"files": list(texts), "commands": lines}
+
+    @staticmethod
+    def write(texts):
+        """Writes files that are not there yet: all of them, or none."""
+        made = []
+        try:
+            for path, text in texts.items():
+                with open(path, "xb") as file:
+                    made.append(path)
+                    file.write(text)
+        except OSError:
+            for path in made:
+                os.remove(path)
+            raise
 
     def close(self):
         self.stop()

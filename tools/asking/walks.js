@@ -97,11 +97,13 @@ class Drawing {
     return u === v ? [u] : this.find(u, v);
   }
 
-  // A walk by numbers that were typed: neighbours that no edge joins are joined by a way. Gives what is to be said of it.
-  async type(number, vertices) {
+  // A walk by numbers that were typed: neighbours that no edge joins are joined by a way. Gives what is to be said of it; nothing changes
+  // where it is stopped before all ways are found.
+  async type(number, vertices, isStopped = () => false) {
     const ways = [];
     let joined = 0;
     for (let k = 0; k + 1 < vertices.length; k++) {
+      if (isStopped()) return "It was stopped, and the walk is as it was.";
       const way = await this.join(vertices[k], vertices[k + 1]);
       if (!way) return `No way along edges leads from vertex ${vertices[k]} to vertex ${vertices[k + 1]}: they lie in two components.`;
       joined += way.length > 2 ? 1 : 0;

@@ -132,19 +132,36 @@ def example_of(examples, name):
     return [line[4:] if line.startswith("    ") else line for line in found[1].rstrip("\n").split("\n")]
 
 
+# How a row of the table of what is printed begins, where it is about some commands alone.
+NAMES = re.compile(r"(all but )?(`[a-z-]+`(?:(?:, | and )`[a-z-]+`)*)[:,] ")
+
+
 def is_about(where, status, name):
-    """Whether a row of the table of what is printed is about a command, by the names before its first colon. Verdicts name none."""
-    head = where.split(":")[0]
-    if head.startswith("all but"):
-        return "`%s`" % name not in head
-    return "`%s`" % name in head or (name == "verify" and "`" not in head and status in "01")
+    """Whether a row is about a command, by the names that it begins with. Verdicts name none, and are of `verify`."""
+    found = NAMES.match(where)
+    if found is None:
+        return name == "verify" and status in "01"
+    return ("`%s`" % name in found[2]) != bool(found[1])
+
+
+def printed_rows(formats):
+    """The line, the status and the meaning of each row of that table."""
+    return [cells_of(row)[:3] for row in section_of(formats, "What is printed").split("\n") if row.startswith("| ")][1:]
 
 
 def printed_by(formats, name):
-    """The rows of that table that are about a command."""
-    rows = [cells_of(row) for row in section_of(formats, "What is printed").split("\n") if row.startswith("| ")][1:]
-    mine = ["| %s | status %s | %s |" % tuple(cells[:3]) for cells in rows if is_about(cells[2], cells[1], name)]
-    return ["| line | status | where |", "|---|---|---|"] + mine
+    """The rows of that table that are about a command, without the names before them."""
+    rows = [row for row in printed_rows(formats) if is_about(row[2], row[1], name)]
+    return ["| line | meaning |", "|---|---|"] + ["| %s | status %s: %s |" % (line, status, NAMES.sub("", where, 1))
+                                                for line, status, where in rows]
+
+
+def refusals_of_all(formats):
+    """The rows about refusals that are of no one command."""
+    rows = [(line, where) for line, status, where in printed_rows(formats) if status == "2" and NAMES.match(where) is None]
+    told = "\n".join(["| line | meaning |", "|---|---|"] + ["| %s | %s |" % row for row in rows])
+    told = told.replace("row of the command table", "line of the synopsis").replace("tables above", "tables of homotopy_files(5)")
+    return told.split("\n")
 
 
 def program_page(version, pages):
@@ -153,13 +170,15 @@ def program_page(version, pages):
     for _, words, _ in synopsis_of(commands):
         body += [".B homotopy_cli", inline(words), ".br"]
     body += [".SH DESCRIPTION", "Decides whether walks along the edges of a polygon mesh can be moved over the surface to one another, and",
-             "shows it. The program is proved; what is claimed of it stands in docs/CLAIMS.md, and what its files look like in",
-             ".BR homotopy_files (5).", ".SH COMMANDS"]
+             "shows it. FILE is a mesh, WALKS two walks or more, CERT what another command printed; what they look like stands in",
+             ".BR homotopy_files (5).", "The program is proved; the page docs/CLAIMS.md beside the examples says what is claimed of it.",
+             ".SH COMMANDS"]
     for name, words, says in synopsis_of(commands):
         body += [".SS " + escaped(words), inline(says[0].upper() + says[1:] + ".")]
         body += table(printed_by(formats, name)) + [".PP", "Example:"] + code(example_of(examples, name))
     body += [".SH EXIT STATUS"] + table([row for row in section_of(commands, "Statuses").split("\n") if row.startswith("|")])
-    body += [".SH FILES"] + page_body(section_of(formats, "Command line"), 9)
+    body += [".SH REFUSALS", "Beside those of each command there are these, with the status 2:"] + table(refusals_of_all(formats))
+    body += [".PP", ".BR homotopy_files (5)", "names each fault of a file, and has the limits."]
     body += [".SH VERSION", "The words of the program are fixed, and it has no word for its version: this page is of version %s, and" % version,
              ".B homotopy \\-\\-version", "tells that of the command beside it.",
              ".SH SEE ALSO", ".BR homotopy (1),", ".BR homotopy_files (5)"]

@@ -4,7 +4,7 @@ class DenialFilm {
   constructor(data) {
     Object.assign(this, data);
     this.judgeLabels();
-    this.found = this.fault ? [] : data.walks.map((walk) => wordAlong(walk, this.labels, data.places));
+    this.found = this.fault ? [] : data.walks.map((walk) => wordAlong(walk, this.spokesOf, data.places));
     this.darts = data.walks.flatMap((walk, w) => walk.slice(1).map((head, k) => ({ w, k, u: walk[k], v: head })));
     Object.assign(this, { frames: this.fault ? 0 : this.darts.length, unit: "darts", pace: 0.7, drawn: "" });
     this.steps = [...document.querySelectorAll("svg .step")].map((step) => this.stepOf(step));
@@ -19,11 +19,11 @@ class DenialFilm {
     this.look(open.hidden ? "inspace" : "open");
   }
 
-  // The labels of the darts; or the rule of a good labelling that fails.
+  // The spokes of the darts; or the rule of a good labelling that fails.
   judgeLabels() {
     const { faces, degree, rows, places } = this;
     try {
-      this.labels = checkLabelling(faces, edgesOf(faces), degree, rows, places);
+      this.spokesOf = checkLabelling(faces, edgesOf(faces), degree, rows, places);
     } catch (fault) {
       if (!(fault instanceof Fault)) throw fault;
       this.fault = labelFaultInWords(fault.message);
@@ -31,7 +31,7 @@ class DenialFilm {
   }
 
   spokes(u, v) {
-    return this.fault ? [] : spokesOf(this.labels, this.places, u, v);
+    return this.fault ? [] : this.spokesOf.get(`${u} ${v}`);
   }
 
   // A part of a picture, and the frame behind which it is whole.
@@ -112,7 +112,7 @@ class DenialFilm {
     put("saying", dart ? this.inWords(dart) : "Both walks start at one vertex, with no spokes yet.");
     for (const w of [0, 1]) {
       const before = w ? this.walks[0].length - 1 : 0, k = Math.min(this.walks[w].length - 1, Math.max(0, Math.floor(place) - before));
-      put(`word${w}`, this.fault ? "" : this.name(wordAlong(this.walks[w].slice(0, k + 1), this.labels, this.places)));
+      put(`word${w}`, this.fault ? "" : this.name(wordAlong(this.walks[w].slice(0, k + 1), this.spokesOf, this.places)));
     }
     const [state, verdict] = this.verdict(place), box = document.getElementById("verdict");
     put("verdict", verdict);
@@ -129,8 +129,9 @@ class DenialFilm {
   }
 
   inWords({ w, u, v }) {
-    const rule = ruleOf(this.labels, this.places, u, v), spokes = this.spokes(u, v), walk = ["first", "second"][w];
+    const spokes = this.spokes(u, v), walk = ["first", "second"][w];
     if (!spokes.length) return `The ${walk} walk goes from ${u} to ${v} along a tree edge: no spokes.`;
+    const rule = ruleOf(...spokes, ...this.spokes(v, u), this.places, this.degree);
     return `The ${walk} walk goes from ${u} to ${v} along a ${rule} edge: in along spoke ${spokes[0]}, out along spoke ${spokes[1]}.`;
   }
 

@@ -19,6 +19,8 @@ mod pools;
 #[cfg(test)]
 mod rings;
 #[cfg(test)]
+mod segment_edits;
+#[cfg(test)]
 mod splits;
 #[cfg(test)]
 mod tapes;

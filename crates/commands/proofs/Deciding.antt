@@ -7,13 +7,14 @@ use Rattle.surf_model.specs.FaceLists.{FaceList}
 use Rattle.surf_model.specs.Walks.{IsWalk, HaveCommonEnds, AreWalkPair}
 use Rattle.surf_model.specs.Moves as moves
 use Rattle.walk_files.specs.Pairs.{IsPair}
-use Rattle.walk_translate.specs.declared.deciding.Answer as deciding
-use Rattle.walk_translate.specs.declared.deciding.Answer.TheVariants.{Homotopic, Different}
+use Rattle.surf_model.specs.declared.decisions.Answer as deciding
+use Rattle.surf_model.specs.declared.decisions.Answer.TheVariants.{Homotopic, Different}
 use Rattle.commands.proofs.RightAnswers.{IsRightLine, right_line}
 use Rattle.commands.proofs.Sound.{IsSound, IsYesOrNo, one_right, sound-decided_by}
 use Rattle.commands.specs.Answers.{Texts}
 use Rattle.commands.specs.Certificates.{decision_status, decision_line}
 use Rattle.commands.specs.Checks.{Check, End, Refuse, Pass, Passes, IsTold, ◌>>=◌}
+use Rattle.commands.specs.Inputs.{walk_at}
 use Rattle.commands.specs.Decisions.{decided, decision_answer}
 use Rattle.commands.specs.Outcomes.{Outcome, IsAnswerOf}
 use Rattle.commands.specs.declared.status.Status.{Status}
@@ -81,3 +82,10 @@ walks_of_pair mesh walks a b p f g =
       second_walk = subst (IsWalk mesh) other p.second_walk;
       ends = subst (λ (w : List ℕ). HaveCommonEnds w b) one (subst (HaveCommonEnds p.first) other p.ends);
     }
+
+-- what holds of the two walks that were read holds of those at the places of their list
+pub at_places : (P : List ℕ → List ℕ → Type 0) (pair : List (List ℕ)) (first second : List ℕ) → slice_get pair 0 ≡ Some first
+    → slice_get pair 1 ≡ Some second → P first second → P (walk_at pair 0) (walk_at pair 1)
+at_places P pair first second f g h =
+    subst (λ (w : List ℕ). P (walk_at pair 0) w) (sym (get_or_from_slice_get pair 1 second [] g))
+    (subst (λ (w : List ℕ). P w second) (sym (get_or_from_slice_get pair 0 first [] f)) h)

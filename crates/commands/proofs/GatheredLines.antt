@@ -8,8 +8,8 @@ use Rattle.surf_io.proofs.Gathering.{line_of-numbers}
 use Rattle.surf_model.specs.declared.chains.ChainLink.{ChainLink}
 use Rattle.text_scan.specs.Plain.{line_of}
 use Rattle.walk_files.specs.DenialTexts.{entry_words}
-use Rattle.walk_translate.specs.declared.deciding.Answer as deciding
-use Rattle.walk_translate.specs.declared.deciding.Answer.TheVariants.{Homotopic, Different}
+use Rattle.surf_model.specs.declared.decisions.Answer as deciding
+use Rattle.surf_model.specs.declared.decisions.Answer.TheVariants.{Homotopic, Different}
 use Rattle.commands.specs.Certificates.{decision_line, decision_word}
 use Rattle.commands.specs.Lines.{behind_blank, link_phrases, odd_chain_line}
 use Rattle.commands.specs.WordTexts.{word_line}

@@ -12,11 +12,13 @@ use Rattle.off_reader.specs.OffTexts.{◌>>=◌, Header, Keyword, coordinates_of
 use Rattle.off_reader.specs.declared.off_fault.OffFault.{OffFault}
 use Rattle.off_reader.specs.declared.off_fault.OffFault.TheVariants.{TooMany, UnreadForm}
 use Rattle.off_reader.proofs.RingLemmas.{ring_face, ring_room}
-use Rattle.commands.specs.Checks.{Passes, meant}
-use Rattle.commands.specs.Inputs.{mesh_in}
+use Rattle.commands.specs.Checks.{Passes, meant, End, Refuse, Pass}
+use Rattle.commands.specs.Inputs.{mesh_in, orientable}
 use Rattle.commands.specs.Refusals.{off_line}
 use Rattle.surf_model.specs.declared.limits.TheConstants.{MOST_VERTICES, MOST_SIDES}
 use Rattle.off_reader.specs.declared.header.TheConstants.{MOST_FACES}
+use Rattle.commands.proofs.Sound.{IsSound}
+use Rattle.commands.specs.Answers.{OfOddChain}
 
 -- ---- a header has few vertices
 
@@ -197,3 +199,18 @@ by_meaning mesh text (Ok other) is h = let same : other ≡ mesh = cc in is_face
 pub mesh_valid : (held : Option Files) (name : List ℕ) (mesh : FaceList) → Passes (mesh_in held name) mesh → IsFaceList mesh
 mesh_valid held name mesh (inl p) = let e = p.2 in cc
 mesh_valid held name mesh (inr p) = by_meaning mesh p.0 (meaning_of p.0) refl p.2
+
+-- ---- orientable meshes
+
+one_orientable : (mesh : FaceList) (a b : End FaceList) → (orientable mesh).Ends a → (orientable mesh).Ends b → a ≡ b
+one_orientable mesh (Refuse r) (Refuse s) p q = cc (p.1, q.1)
+one_orientable mesh (Refuse r) (Pass y) p q = absurd (p.0 q.0)
+one_orientable mesh (Pass x) (Refuse s) p q = absurd (q.0 p.0)
+one_orientable mesh (Pass x) (Pass y) p q = cc (p.1, q.1)
+
+pub sound-orientable : (held : Option Files) (mesh : FaceList) → IsSound held (orientable mesh)
+sound-orientable held mesh =
+    record {
+      some = λ none. none (Refuse (OfOddChain mesh)) (λ is. none (Pass mesh) (is, refl), refl);
+      one = λ _ a b p q. one_orientable mesh a b p q;
+    }

@@ -3,8 +3,8 @@ use Rattle.std.specs.Prelude.{◌≡◌, ℕ, ◌≤◌, List, length}
 use Rattle.surf_model.specs.FaceLists.{FaceList}
 use Rattle.surf_model.specs.Moves.{PeakedMoves}
 use Rattle.surf_model.specs.declared.chains.ChainLink.{ChainLink}
-use Rattle.orientation.specs.Chains.{IsOddChain}
-use Rattle.walk_translate.specs.declared.deciding.Answer as deciding
+use Rattle.surf_model.specs.OddChains.{IsOddChain}
+use Rattle.surf_model.specs.declared.decisions.Answer as deciding
 use Rattle.homology.specs.declared.certificate.HomologyCert.{HomologyCert}
 use Rattle.commands.specs.Certificates.{Convinces, IsShown, decision_of, certificate_text}
 use Rattle.commands.specs.HomologyCertificates.{HomologyAnswer, ShowsHomology, answer_in, homology_text}

@@ -1,17 +1,17 @@
 -- What a certificate shows, and how it is written.
 use Rattle.std.specs.Prelude.{ℕ, ◌≤◌, List, [], ◌∷◌, ◌++◌, length, slice_index, flat_map, codes}
 use Rattle.surf_model.specs.FaceLists.{FaceList}
-use Rattle.move_lifting.specs.Lifts.{LeadsAtPeak}
+use Rattle.surf_model.specs.PeakedLists.{LeadsAtPeak}
 use Rattle.labellings.specs.Denials.{DenialHolds}
 use Rattle.walk_files.specs.DenialTexts.{denial_text}
 use Rattle.walk_files.specs.MoveTexts.{list_text}
-use Rattle.walk_translate.specs.declared.deciding.Answer as deciding
-use Rattle.walk_translate.specs.declared.deciding.Answer.TheVariants.{Homotopic, Different}
-use Rattle.commands.specs.Genera.{LiesOnSphere}
+use Rattle.surf_model.specs.declared.decisions.Answer as deciding
+use Rattle.surf_model.specs.declared.decisions.Answer.TheVariants.{Homotopic, Different}
+use Rattle.surf_model.specs.Genera.{LiesOnSphere}
 use Rattle.commands.specs.Lines.{line}
 use Rattle.commands.specs.declared.certificate.Certificate.{Certificate}
 use Rattle.commands.specs.declared.certificate.Certificate.TheVariants.{Moves, Denial}
-use Rattle.commands.specs.declared.certify.TheConstants.{MOST_SHOWN_PEAK, MOST_SPHERE_MOVES}
+use Rattle.commands.specs.declared.certificate.TheConstants.{MOST_SHOWN_PEAK, MOST_SPHERE_MOVES}
 use Rattle.commands.specs.declared.status.Status.{Status}
 use Rattle.commands.specs.declared.status.Status.TheVariants.{Yes, No}
 

@@ -2,8 +2,8 @@
 use Rattle.std.specs.Prelude.{ℕ, List}
 use Rattle.surf_model.specs.FaceLists.{FaceList}
 use Rattle.surf_model.specs.Moves as moves
-use Rattle.walk_translate.specs.declared.deciding.Answer as deciding
-use Rattle.walk_translate.specs.declared.deciding.Answer.TheVariants.{Homotopic}
+use Rattle.surf_model.specs.declared.decisions.Answer as deciding
+use Rattle.surf_model.specs.declared.decisions.Answer.TheVariants.{Homotopic}
 use Rattle.commands.specs.Answers.{Answer, Exactly}
 use Rattle.commands.specs.Certificates.{decision_status, decision_line}
 use Rattle.commands.specs.Checks.{Check, decided_by}

@@ -1,20 +1,14 @@
 -- The lines of refusals, as docs/FORMATS.md lists them. Each is proved by computing.
-use Rattle.std.specs.Prelude.{◌≡◌, ℕ, true, false, List, [], ◌∷◌, ◌++◌, codes, Option, Some, None, refl}
+use Rattle.std.specs.Prelude.{◌≡◌, ℕ, true, false, List, [], ◌∷◌, ◌++◌, codes, refl}
 use Rattle.std.specs.Fmt.{digits}
-use Rattle.manifold_check.specs.declared.fault.SurfaceFault.TheVariants as surfaces
 use Rattle.off_reader.specs.declared.off_fault.OffFault.TheVariants as off
-use Rattle.surf_model.specs.Meshes.{tetrahedron}
 use Rattle.surf_model.specs.declared.chains.ChainLink.{ChainLink}
-use Rattle.surf_model.specs.declared.names.VertexName.{VertexName}
 use Rattle.walk_files.specs.declared.fault.CertFault.TheVariants as certificates
 use Rattle.walk_files.specs.declared.fault.WalkFault.TheVariants as walks
 use Rattle.walk_files.specs.declared.pair.PairFault.TheVariants.{NotTwo, NoVertex, NoEdge, EndsDiffer}
 use Rattle.commands.specs.Answers.{Texts, NoText, Exactly}
-use Rattle.commands.specs.Certify.{limit_word}
-use Rattle.commands.specs.Limits.{sides_line, darts_line}
-use Rattle.commands.specs.Lines.{odd_chain_line, refused}
-use Rattle.commands.specs.Refusals.{wrong_words, too_large, off_line, surface_line, components_line, numbers_line, pair_line, certificate_line}
-use Rattle.commands.specs.Trial.{size_fault}
+use Rattle.commands.specs.Lines.{odd_chain_line}
+use Rattle.commands.specs.Refusals.{wrong_words, too_large, off_line, numbers_line, pair_line, certificate_line}
 use Rattle.commands.specs.declared.refusal.Input.TheVariants.{Mesh, Walks, Certificate, TurnWords}
 
 -- a text, and the end of its line
@@ -23,14 +17,6 @@ as_line text = text ++ 10 ∷ []
 
 abbrev written : List ℕ → Texts
 written text = Exactly (as_line text)
-
--- the line of some phrases, or none
-abbrev as_refused : Option (List (List ℕ)) → List ℕ
-as_refused None = []
-as_refused (Some phrases) = refused phrases
-
-abbrev named : ℕ → VertexName
-named v = record { 0 = v }
 
 abbrev link : ℕ → ℕ → ℕ → ChainLink
 link face low high = record { face = record { 0 = face }; low = record { 0 = low }; high = record { 0 = high } }
@@ -64,17 +50,6 @@ mesh_texts :
     × (off_line off.OutOfMemory ≡ NoText)
 unfolding digits
 mesh_texts = (refl, refl, refl, refl, refl, refl, refl, refl, refl, refl)
-
--- ---- a mesh that is no surface
-
-no_surfaces :
-    (surface_line surfaces.NoFace ≡ written (codes "refused: no face"))
-    × (surface_line (surfaces.EdgeSides (named 1) (named 2) 3) ≡ written (codes "refused: edge 1 2 sides 3"))
-    × (surface_line (surfaces.Pinched (named 4)) ≡ written (codes "refused: vertex 4 pinched"))
-    × (components_line 1025 ≡ written (codes "refused: surface components 1025"))
-    × (odd_chain_line chain ≡ as_line (codes "refused: not orientable 8 4 5 3 0 5 4 0 1 0 1 2 5 2 4"))
-unfolding digits
-no_surfaces = (refl, refl, refl, refl, refl)
 
 -- ---- walks and turn words
 
@@ -111,12 +86,8 @@ certificate_texts :
 unfolding digits
 certificate_texts = (refl, refl, refl, refl, refl)
 
--- ---- limits
+-- ---- a mesh whose faces cannot be signed
 
-limits :
-    (sides_line limit_word tetrahedron ≡ as_line (codes "refused: certify sides 12"))
-    × (darts_line limit_word (0 ∷ 1 ∷ 2 ∷ []) (0 ∷ 2 ∷ []) ≡ as_line (codes "refused: certify darts 3"))
-    × (as_refused (size_fault 9 5) ≡ as_line (codes "refused: trial genus 9"))
-    × (as_refused (size_fault 1 4) ≡ as_line (codes "refused: trial grid 4"))
+turned : odd_chain_line chain ≡ as_line (codes "refused: not orientable 8 4 5 3 0 5 4 0 1 0 1 2 5 2 4")
 unfolding digits
-limits = (refl, refl, refl, refl)
+turned = refl

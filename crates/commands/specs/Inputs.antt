@@ -2,6 +2,7 @@
 use Rattle.std.specs.Prelude.{◌≡◌, ◌⊎◌, ℕ, List, [], ◌∷◌, slice_index_or, Option, Result, Ok, Err}
 use Rattle.surf_io.specs.Files.{Files}
 use Rattle.surf_model.specs.FaceLists.{FaceList}
+use Rattle.surf_model.specs.Surfaces.{IsOrientable}
 use Rattle.surf_model.specs.Walks.{IsWalk, HaveCommonEnds}
 use Rattle.off_reader.specs.OffTexts.{meaning_of}
 use Rattle.walk_files.specs.Certificates.{head_of_text, moves_of_text, with_peak}
@@ -12,9 +13,9 @@ use Rattle.walk_files.specs.Pairs.{pair_fault}
 use Rattle.walk_files.specs.declared.certificate.CertHead.{CertHead}
 use Rattle.walk_files.specs.declared.certificate.CertHead.TheVariants as heads
 use Rattle.walk_files.specs.declared.fault.CertFault.{CertFault}
-use Rattle.commands.specs.Answers.{Texts}
-use Rattle.commands.specs.Checks.{Check, End, Holds, Pass, Refuse, file, meant, pass_unless, where_told, ◌>>=◌}
-use Rattle.commands.specs.ClosedSurfaces.{IsOrientableSurface}
+use Rattle.commands.specs.Answers.{OfOddChain, Texts}
+use Rattle.commands.specs.Checks.{Check, End, Holds, Pass, Refuse, file, meant, pass_unless, where_told, without_files, ◌>>=◌}
+use Rattle.surf_model.specs.OrientableSurfaces.{IsOrientableSurface}
 use Rattle.commands.specs.Refusals.{off_line, numbers_line, pair_line, certificate_line, too_large}
 use Rattle.commands.specs.declared.certificate.Certificate.{Certificate}
 use Rattle.commands.specs.declared.certificate.Certificate.TheVariants.{Moves, Denial}
@@ -25,6 +26,14 @@ abbrev pub mesh_in : Option Files → List ℕ → Check FaceList
 mesh_in held name = do
   bytes ← file held name inputs.Mesh
   meant off_line (meaning_of bytes)
+
+-- an orientable mesh passes, and any other is refused by an odd chain
+abbrev pub orientable : FaceList → Check FaceList
+orientable mesh = without_files ends
+  where
+    ends : End FaceList → Type 0
+    ends (Refuse texts) = (IsOrientable mesh → ⊥) × (texts ≡ OfOddChain mesh)
+    ends (Pass surface) = IsOrientable mesh × (surface ≡ mesh)
 
 -- the text of a walk file, of whose walks nothing else is asked
 abbrev pub text_in : Option Files → List ℕ → Check WalkText

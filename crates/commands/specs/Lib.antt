@@ -1,5 +1,4 @@
 pub mod Lines
-pub mod Genera
 pub mod Certificates
 pub mod HomologyCertificates
 pub mod Answers
@@ -7,15 +6,9 @@ pub mod Refusals
 pub mod Checks
 pub mod Words
 pub mod Inputs
-pub mod ClosedSurfaces
-pub mod SurfaceInput
-pub mod Surface
 pub mod Decisions
-pub mod Findings
 pub mod Limits
-pub mod Certify
 pub mod WordTexts
-pub mod Trial
 pub mod Outcomes
 pub mod Statuses
 pub mod Writes

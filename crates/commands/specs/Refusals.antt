@@ -1,7 +1,5 @@
 -- Why an input is refused: the line for each fault. A fault that stands for want of memory has none.
-use Rattle.std.specs.Prelude.{ℕ, true, false, List, [], ◌∷◌, codes, decimal}
-use Rattle.manifold_check.specs.declared.fault.SurfaceFault.{SurfaceFault}
-use Rattle.manifold_check.specs.declared.fault.SurfaceFault.TheVariants as surfaces
+use Rattle.std.specs.Prelude.{ℕ, true, false, List, ◌∷◌, codes, decimal, []}
 use Rattle.off_reader.specs.declared.off_fault.OffFault.{OffFault}
 use Rattle.off_reader.specs.declared.off_fault.OffFault.TheVariants as off
 use Rattle.walk_files.specs.declared.fault.CertFault.{CertFault}
@@ -54,18 +52,6 @@ off_line (off.IndexRange number) = told_at (codes "off") number (codes "index")
 off_line (off.EqualNeighbours number) = told_at (codes "off") number (codes "neighbours")
 off_line (off.TooMany number) = told_at (codes "off") number (codes "many")
 off_line off.OutOfMemory = NoText
-
--- the first condition of a closed manifold that fails, with its least element
-abbrev pub surface_line : SurfaceFault → Texts
-surface_line surfaces.NoFace = told (codes "no face" ∷ [])
-surface_line (surfaces.EdgeSides low high sides) =
-    told (codes "edge" ∷ decimal low.0 ∷ decimal high.0 ∷ codes "sides" ∷ decimal sides ∷ [])
-surface_line (surfaces.Pinched vertex) = told (codes "vertex" ∷ decimal vertex.0 ∷ codes "pinched" ∷ [])
-surface_line surfaces.OutOfMemory = NoText
-
--- a surface of more components than a command takes, with their number
-abbrev pub components_line : ℕ → Texts
-components_line count = told (codes "surface components" ∷ decimal count ∷ [])
 
 -- the fault of a text of which each line is a list of numbers
 abbrev pub numbers_line : Input → WalkFault → Texts

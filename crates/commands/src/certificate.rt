@@ -2,6 +2,12 @@
 use labellings::Denial;
 use surf_model::MoveList;
 
+/// The most moves of a list that is shown between walks that lie on a sphere.
+pub const MOST_SPHERE_MOVES: u32 = 8_389_120;
+
+/// The greatest peak of a list that is shown between two walks.
+pub const MOST_SHOWN_PEAK: u32 = 12_640_256;
+
 /// What is to show whether one walk may take the place of another.
 #[derive(Debug, Drop)]
 pub enum Certificate {

@@ -3,7 +3,7 @@ ghost use Rattle.std.specs.Prelude.{◌≡◌};
 ghost use Rattle.commands.specs.Certificates.{decision_line, decision_word};
 
 use crate::line::{Line, Phrase};
-use walk_translate::Answer;
+use surf_model::Answer;
 
 /// The line of a decision.
 pub fn line_of(decision: Answer) -> Line

@@ -4,7 +4,7 @@ ghost use Rattle.commands.specs.Writes.{Writes};
 
 use crate::decision::word_of;
 use surf_io::{Failed, Piece, Sink};
-use walk_translate::Answer;
+use surf_model::Answer;
 
 /// Writes a line for each decision. It takes no memory.
 pub fn put_decisions<K: Sink>(out: &mut K, decisions: &[Answer]) -> Result<(), Failed>

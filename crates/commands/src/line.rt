@@ -2,10 +2,9 @@
 ghost use Rattle.std.specs.Prelude.{◌≡◌, ◌≤◌, length, map};
 ghost use Rattle.commands.specs.Lines.{behind_blank, in_lines, line, phrase_text};
 ghost use Rattle.commands.specs.Writes.{Writes};
-ghost use Rattle.commands.specs.declared.line.Phrase.{Phrase};
 
 use std::marker::Model;
-use surf_io::{Failed, Piece, Sink, put_natural, write_whole};
+use surf_io::{Failed, Sink, put_natural, put_signed, write_whole};
 
 /// A part of a line.
 #[derive(Clone, Copy, Debug, PartialEq, Eq)]
@@ -102,15 +101,4 @@ fn put_phrase<K: Sink>(out: &mut K, phrase: Phrase) -> Result<(), Failed>
         Phrase::Number(number) => put_natural(out, number),
         Phrase::Signed(number) => put_signed(out, number),
     }
-}
-
-fn put_signed<K: Sink>(out: &mut K, number: i64) -> Result<(), Failed>
-    ensures { Writes K.written K.settled K.faults out.old out.new (phrase_text (Phrase.Signed number)) result }
-{
-    let mut piece = Piece::new();
-    if number < 0 {
-        piece.put(b"-");
-    }
-    piece.put_natural(number.unsigned_abs());
-    piece.write_out(out)
 }

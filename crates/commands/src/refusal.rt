@@ -7,7 +7,6 @@ ghost use Rattle.commands.specs.Stops.{Tells};
 use crate::line::{Line, MOST_OTHERS, Phrase};
 use crate::stop::Stop;
 use crate::text::Text;
-use manifold_check::SurfaceFault;
 use off_reader::OffFault;
 use walk_files::{CertFault, PairFault, StreamEnd, WalkFault};
 
@@ -109,32 +108,6 @@ impl From<OffFault> for Stop {
             OffFault::EqualNeighbours { line } => refused_at("off", line, "neighbours"),
             OffFault::TooMany { line } => refused_at("off", line, "many"),
             OffFault::OutOfMemory => Stop::OutOfMemory,
-        }
-    }
-}
-
-impl From<SurfaceFault> for Stop {
-    ghost use Rattle.commands.specs.Refusals.{surface_line};
-    ghost use Rattle.commands.specs.Stops.{Tells};
-
-    ghost from_gives = { λ fault stop. Tells (surface_line fault) stop };
-
-    fn from(fault: SurfaceFault) -> Stop {
-        match fault {
-            SurfaceFault::NoFace => refused(&[Phrase::Text("no face")]),
-            SurfaceFault::EdgeSides { low, high, sides } => refused(&[
-                Phrase::Text("edge"),
-                Phrase::Number(low.0 as u64),
-                Phrase::Number(high.0 as u64),
-                Phrase::Text("sides"),
-                Phrase::Number(sides as u64),
-            ]),
-            SurfaceFault::Pinched { vertex } => refused(&[
-                Phrase::Text("vertex"),
-                Phrase::Number(vertex.0 as u64),
-                Phrase::Text("pinched"),
-            ]),
-            SurfaceFault::OutOfMemory => Stop::OutOfMemory,
         }
     }
 }

@@ -16,10 +16,9 @@ use homology::HomologyCert;
 use homology_files::write_homology;
 use labellings::Denial;
 use surf_io::{Failed, Sink};
-use surf_model::{MoveList, OddChain};
+use surf_model::{Answer, MoveList, OddChain};
 use turn_words::TurnWord;
 use walk_files::{write_denial, write_moves};
-use walk_translate::Answer;
 
 /// What is written.
 #[derive(Debug, Drop)]

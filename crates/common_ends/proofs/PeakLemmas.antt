@@ -15,7 +15,7 @@ use Rattle.surf_model.specs.declared.names.VertexName.{VertexName}
 use Rattle.surf_model.proofs.ReplacementLemmas.{by_replacing}
 use Rattle.surf_model.proofs.WayBackLemmas.{alike}
 use Rattle.surf_model.proofs.ContextLemmas.{first_answer, in_context, one_after_another, stays_walk}
-use Rattle.common_ends.specs.PeakedLists.{LeadsAtPeak}
+use Rattle.surf_model.specs.PeakedLists.{LeadsAtPeak}
 
 -- the darts that a list of moves passes, the first move taken off
 pub greatest_darts-more : (mesh : FaceList) (walk next : List ℕ) (move : Move) (moves : List Move) → apply mesh walk move ≡ Some next

@@ -11,7 +11,7 @@ use Rattle.surf_model.specs.declared.moves.Move.TheVariants.{Insert, Remove, Acr
 use Rattle.surf_model.specs.declared.names.VertexName.{VertexName}
 use Rattle.surf_model.proofs.ContextLemmas.{list_in_context, one_after_another}
 use Rattle.surf_model.proofs.EdgeLemmas.{edge_swap}
-use Rattle.common_ends.specs.PeakedLists.{LeadsAtPeak}
+use Rattle.surf_model.specs.PeakedLists.{LeadsAtPeak}
 use Rattle.common_ends.specs.Trimmed.{AreCommonDarts, between, put_around}
 use Rattle.common_ends.specs.declared.common_darts.CommonDarts.{CommonDarts}
 use Rattle.common_ends.proofs.PeakLemmas.{greatest_raised, spur_comes, spur_goes}

@@ -1,3 +1,2 @@
-pub mod PeakedLists
 pub mod Trimmed
 pub mod Examples

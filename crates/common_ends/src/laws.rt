@@ -3,7 +3,7 @@ ghost use Rattle.std.specs.Prelude.{◌↔◌, List, ℕ};
 ghost use Rattle.surf_model.specs.FaceLists.{FaceList};
 ghost use Rattle.surf_model.specs.Moves.{PeakedMoves, Homotopic};
 ghost use Rattle.surf_model.specs.Walks.{IsWalk};
-ghost use Rattle.common_ends.specs.PeakedLists.{LeadsAtPeak};
+ghost use Rattle.surf_model.specs.PeakedLists.{LeadsAtPeak};
 ghost use Rattle.common_ends.specs.Trimmed.{AreCommonDarts, between, put_around};
 ghost use Rattle.common_ends.specs.declared.common_darts.CommonDarts.{CommonDarts};
 

@@ -4,7 +4,7 @@ use Rattle.std.specs.Prelude.{All}
 use Rattle.std.proofs.lemmas.Bool.{cases_Bool, cases_lt, eqb-true, eq-eqb, both_ways}
 use Rattle.std.proofs.lemmas.List.{get_or_default, get_or-map}
 use Rattle.surf_model.specs.FaceLists.{FaceList, is_used}
-use Rattle.walk_translate.specs.declared.deciding.Answer.{Answer}
+use Rattle.surf_model.specs.declared.decisions.Answer.{Answer}
 use Rattle.component_deciding.specs.AskedPairs.{AreAnswers, IsAnswerOn, IsPairOn}
 use Rattle.component_deciding.specs.Asking.{AreRightUpTo, IsAsked}
 use Rattle.component_deciding.specs.Orders.{AreInOrder, placed, starts}

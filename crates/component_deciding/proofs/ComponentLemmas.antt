@@ -15,7 +15,7 @@ use Rattle.surf_model.specs.declared.names.VertexName.{VertexName}
 use Rattle.surf_model.proofs.FilterLemmas.{map_agree}
 use Rattle.surf_model.proofs.EdgeLemmas.{corner_used}
 use Rattle.manifold_check.specs.ComponentNumbers.{used_number}
-use Rattle.manifold_check.specs.ComponentParts.{PartsView, AreParts, component_at, component_mesh}
+use Rattle.surf_model.specs.ComponentParts.{PartsView, AreParts, component_at, component_mesh}
 use Rattle.manifold_check.proofs.MeasureLemmas.{place_of_used}
 use Rattle.manifold_check.proofs.PartPieces.{IsOfComponent, piece_of_parts}
 use Rattle.manifold_check.proofs.PieceLemmas.{IsPiece, face-submesh, length-submesh, used_up, used_down}

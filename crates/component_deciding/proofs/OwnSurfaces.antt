@@ -8,8 +8,8 @@ use Rattle.surf_model.specs.Surfaces.{IsClosedManifold, IsClosed, IsCoherent}
 use Rattle.surf_model.specs.Walks.{IsWalk, AreWalkPair}
 use Rattle.surf_model.proofs.EdgeLemmas.{used_below}
 use Rattle.surf_model.proofs.FilterLemmas.{map_agree}
-use Rattle.manifold_check.specs.ComponentParts.{PartsView, AreParts, component_at, component_mesh}
-use Rattle.manifold_check.specs.Submeshes.{signs_among}
+use Rattle.surf_model.specs.ComponentParts.{PartsView, AreParts, component_at, component_mesh}
+use Rattle.surf_model.specs.Submeshes.{signs_among}
 use Rattle.manifold_check.proofs.PartPieces.{IsOfComponent, closed_alone, piece_of_parts, walk_alone, walk_same_place}
 use Rattle.manifold_check.proofs.PieceMoves.{homotopic_alike}
 use Rattle.manifold_check.proofs.PieceSurfaces.{coherent_alone}

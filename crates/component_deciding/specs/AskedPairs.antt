@@ -5,9 +5,9 @@ use Rattle.surf_model.specs.Edges.{IsTableOf}
 use Rattle.surf_model.specs.Walks.{AreWalkPair}
 use Rattle.surf_model.specs.Moves as moves
 use Rattle.surf_model.specs.Surfaces.{IsClosedManifold, IsCoherent}
-use Rattle.manifold_check.specs.ComponentParts.{AreParts}
-use Rattle.walk_translate.specs.declared.deciding.Answer.{Answer}
-use Rattle.walk_translate.specs.declared.deciding.Answer.TheVariants.{Homotopic}
+use Rattle.surf_model.specs.ComponentParts.{AreParts}
+use Rattle.surf_model.specs.declared.decisions.Answer.{Answer}
+use Rattle.surf_model.specs.declared.decisions.Answer.TheVariants.{Homotopic}
 use Rattle.component_deciding.specs.declared.asked.AskedPair.{AskedPair}
 use Rattle.component_deciding.specs.declared.asked.SignedParts.{SignedParts}
 

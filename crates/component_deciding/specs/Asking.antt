@@ -1,6 +1,6 @@
 -- What is asked of a surface with its components, and what is answered so far.
 use Rattle.std.specs.Prelude.{ℕ, ◌<◌, List, slice_index_or, All}
-use Rattle.walk_translate.specs.declared.deciding.Answer.{Answer}
+use Rattle.surf_model.specs.declared.decisions.Answer.{Answer}
 use Rattle.component_deciding.specs.AskedPairs.{IsAnswerOn, IsPairOn, IsSignedParts}
 use Rattle.component_deciding.specs.OwnVertices.{AreOwnNumbers}
 use Rattle.component_deciding.specs.declared.answering.Asked.{Asked}

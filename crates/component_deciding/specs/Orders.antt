@@ -1,6 +1,6 @@
 -- Pairs in the order of their components.
 use Rattle.std.specs.Prelude.{◌≡◌, ℕ, ◌<◌, List, length, map, slice_index, All, Contains}
-use Rattle.manifold_check.specs.ComponentParts.{PartsView}
+use Rattle.surf_model.specs.ComponentParts.{PartsView}
 use Rattle.component_deciding.specs.declared.asked.AskedPair.{AskedPair}
 use Rattle.component_deciding.specs.declared.ordering.Placed.{Placed}
 

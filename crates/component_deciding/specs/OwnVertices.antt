@@ -3,7 +3,7 @@ use Rattle.std.specs.Prelude.{◌≡◌, ℕ, ◌<◌, List, length, map, filter
 use Rattle.std.specs.List.{range_with_len}
 use Rattle.surf_model.specs.FaceLists.{FaceList, IsFaceList, HasFileSize, is_used}
 use Rattle.manifold_check.specs.ComponentNumbers.{used_number}
-use Rattle.manifold_check.specs.ComponentParts.{PartsView, component_mesh}
+use Rattle.surf_model.specs.ComponentParts.{PartsView, component_mesh}
 use Rattle.component_deciding.specs.declared.own_numbers.OwnNumbers.{OwnNumbers}
 
 -- the number of a vertex among those that a mesh uses: how many of them come before it

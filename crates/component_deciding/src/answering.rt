@@ -2,7 +2,7 @@
 ghost use Rattle.std.specs.Prelude.{◌≡◌, ◌<◌, ◌≤◌, All, length, slice_index, slice_index_or, IfOk, OnOk};
 ghost use Rattle.component_deciding.specs.AskedPairs.{AreAnswers, IsAnswerOn, IsPairOn};
 ghost use Rattle.component_deciding.specs.Orders.{AreInOrder};
-ghost use Rattle.manifold_check.specs.ComponentParts.{component_mesh};
+ghost use Rattle.surf_model.specs.ComponentParts.{component_mesh};
 ghost use Rattle.component_deciding.specs.OwnVertices.{own_mesh};
 ghost use Rattle.component_deciding.specs.Asking.{AreRightUpTo, IsAsked};
 

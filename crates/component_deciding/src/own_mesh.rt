@@ -3,7 +3,7 @@ ghost use Rattle.std.specs.Prelude.{◌≡◌, ◌<◌, All, length, map, slice_
 ghost use Rattle.surf_model.specs.FaceLists.{face_at};
 ghost use Rattle.surf_model.specs.Vertices.{numbers};
 ghost use Rattle.surf_model.specs.Walks.{IsWalk};
-ghost use Rattle.manifold_check.specs.ComponentParts.{component_at, component_mesh};
+ghost use Rattle.surf_model.specs.ComponentParts.{component_at, component_mesh};
 ghost use Rattle.component_deciding.specs.AskedPairs.{IsSignedParts};
 ghost use Rattle.component_deciding.specs.OwnVertices.{AreOwnNumbers, own_mesh, own_walk};
 

@@ -1,5 +1,5 @@
 -- Lists of moves that lead from a walk to a walk, with their peaks; lists that are no longer than so much, and moves that fit a mesh.
-pub use Rattle.common_ends.specs.PeakedLists.{LeadsAtPeak}
+pub use Rattle.surf_model.specs.PeakedLists.{LeadsAtPeak}
 use Rattle.std.specs.Prelude.{ℕ, ◌<◌, ◌≤◌, length}
 use Rattle.surf_model.specs.FaceLists.{FaceList, face_at}
 use Rattle.surf_model.specs.Moves.{PeakedMoves}

@@ -4,7 +4,7 @@
 //! crossing parents ends at the boundary. A walk is normal where it has no spur and no dart along a parent edge. Proved: the check names
 //! the first condition that fails, but for want of memory; each walk leads to exactly one normal walk; two walks are homotopic exactly
 //! where their normal walks are equal; and a list of moves is made exactly where one leads, with its exact peak, and never a longer one
-//! than a certificate may be.
+//! than a certificate may be: up to 16,384 sides and 512 darts no list has more than 8,388,608 moves or passes a longer walk.
 //!
 //!     check_open(alloc, &faces, &sides)?;
 //!     let mesh = OpenMesh::build(alloc, faces, sides)?;

@@ -158,6 +158,7 @@ pub enum HomologyCert {
 
 impl HomologyCert {
     ghost use Rattle.std.specs.Prelude.{◌≡◌, [], if◌then◌else◌};
+    ghost use Rattle.homology.specs.MadeCertificates.{TakesEdge, TakesFace, with_edge, with_face};
     ghost use Rattle.homology.specs.declared.certificate.HomologyCert.TheVariants.{Chain, Cocycle};
 
     /// A chain or a cocycle with no numbers. It takes no memory.
@@ -168,6 +169,40 @@ impl HomologyCert {
             HomologyCert::Chain(ChainNumbers::new(alloc))
         } else {
             HomologyCert::Cocycle(CocycleNumbers::new(alloc))
+        }
+    }
+
+    /// Puts the number of a face last in a chain. Where memory runs out everything stays.
+    pub fn push_face(&mut self, face: u32, number: i64) -> Result<(), AllocError>
+        requires chain { TakesFace self.old face }
+        requires small { unsigned_abs number ≤ MOST_NUMBER }
+        ensures ok { OnOk result (self.new ≡ with_face self.old face number) }
+        ensures err { OnErr result (self.new ≡ self.old) }
+    {
+        match self {
+            HomologyCert::Chain(numbers) => numbers.push(FaceNumber {
+                face: FaceName(face),
+                number,
+            }),
+            HomologyCert::Cocycle(_) => unreachable!(),
+        }
+    }
+
+    /// Puts the number of the edge of two vertices last in a cocycle. Where memory runs out everything stays.
+    pub fn push_edge(&mut self, low: u32, high: u32, number: i64) -> Result<(), AllocError>
+        requires cocycle { TakesEdge self.old low high }
+        requires ordered { low < high }
+        requires small { unsigned_abs number ≤ MOST_NUMBER }
+        ensures ok { OnOk result (self.new ≡ with_edge self.old low high number) }
+        ensures err { OnErr result (self.new ≡ self.old) }
+    {
+        match self {
+            HomologyCert::Chain(_) => unreachable!(),
+            HomologyCert::Cocycle(numbers) => numbers.push(EdgeNumber {
+                low: VertexName(low),
+                high: VertexName(high),
+                number,
+            }),
         }
     }
 }

@@ -10,7 +10,7 @@ use Rattle.surf_model.specs.Edges.{IsTableOf, edge_in}
 use Rattle.surf_model.specs.Walks.{IsWalk}
 use Rattle.surf_model.proofs.LinkLemmas.{Linked, links}
 use Rattle.surf_model.proofs.TableEdgeLemmas.{IsEdgeBetween, edge_between, same_pair, table_pair}
-use Rattle.manifold_check.specs.ComponentParts.{component_at}
+use Rattle.surf_model.specs.ComponentParts.{component_at}
 use Rattle.manifold_check.proofs.PartPieces.{IsOfComponent, piece_of_parts}
 use Rattle.manifold_check.proofs.PieceLemmas.{IsPiece, edge_up, length-submesh}
 use Rattle.halfedge_map.specs.OrientedMeshes.{OrientedMesh}
@@ -25,11 +25,11 @@ use Rattle.homology.specs.declared.certificate.HomologyCert.{HomologyCert}
 use Rattle.homology.specs.declared.certificate.HomologyCert.TheVariants as certificates
 use Rattle.homology.proofs.PairingLemmas.{refuted}
 use Rattle.homology_deciding.specs.Proofs.{IsChainFor, IsCocycleFor}
-use Rattle.commands.proofs.Components.{walk_there}
-use Rattle.commands.specs.ClosedSurfaces.{IsComponentOf, IsPart, surface_of}
+use Rattle.closed_surfaces.proofs.Components.{walk_there}
+use Rattle.closed_surfaces.specs.SignedSurfaces.{IsComponentOf, IsPart, surface_of}
 use Rattle.commands.specs.HomologyCertificates.{Homologous, NotHomologous, ShowsHomology, answer_in}
-use Rattle.commands.specs.declared.component.Component.{Component}
-use Rattle.commands.specs.declared.component.Component.TheVariants.{Whole, Alone}
+use Rattle.closed_surfaces.specs.declared.component.Component.{Component}
+use Rattle.closed_surfaces.specs.declared.component.Component.TheVariants.{Whole, Alone}
 use Rattle.homology_commands.specs.Listings.{IsNamed, ListsFaces, IsAmong, ListsEdges, name_in}
 use Rattle.homology_commands.proofs.PieceChains.{chain_alike, chain_widened}
 use Rattle.homology_commands.proofs.PieceCocycles.{IsWidened, cocycle_alike, cocycle_widened, separates_widened}

@@ -5,14 +5,15 @@ use Rattle.surf_io.specs.Files.{Files}
 use Rattle.surf_model.specs.FaceLists.{FaceList}
 use Rattle.homology.specs.Chains.{AreHomologous}
 use Rattle.commands.proofs.RightAnswers.{yes_exactly}
-use Rattle.commands.proofs.Rows.{sound-pair, sound-surface_in}
+use Rattle.commands.proofs.Rows.{sound-pair}
+use Rattle.surface_commands.proofs.SurfaceRows.{sound-surface_in}
 use Rattle.commands.proofs.Sound.{IsSound, IsYesOrNo, sound-decided_by, sound-then}
 use Rattle.commands.specs.Answers.{Answer}
 use Rattle.commands.specs.Checks.{Check, Refuse, Pass}
 use Rattle.commands.specs.HomologyCertificates.{HomologyAnswer, Homologous, NotHomologous, homology_status}
 use Rattle.commands.specs.Inputs.{pair_in, walk_at}
 use Rattle.commands.specs.Outcomes.{Outcome, IsAnswerOf}
-use Rattle.commands.specs.SurfaceInput.{surface_in}
+use Rattle.surface_commands.specs.SurfaceInput.{surface_in}
 use Rattle.commands.specs.declared.status.Status.{Status}
 use Rattle.commands.specs.declared.status.Status.TheVariants.{Yes}
 use Rattle.homology_commands.specs.Homology.{homology, homology_answer, homology_shown, IsHomologyPrinted}

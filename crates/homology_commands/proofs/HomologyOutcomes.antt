@@ -3,7 +3,7 @@ use Rattle.std.proofs.Common.{◌≡◌, ℕ, List, [], ◌∷◌, codes}
 use Rattle.std.specs.Prelude.{Option}
 use Rattle.surf_io.specs.Files.{Files}
 use Rattle.surf_model.specs.FaceLists.{FaceList}
-use Rattle.commands.proofs.Rows.{outcome_of_pair}
+use Rattle.surface_commands.proofs.SurfaceRows.{outcome_of_pair}
 use Rattle.commands.specs.Outcomes.{AnswersTo}
 use Rattle.commands.specs.declared.status.Status.{Status}
 use Rattle.homology_commands.specs.Homology.{homology, IsHomologyAnswered, IsHomologyInput}

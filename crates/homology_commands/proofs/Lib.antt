@@ -1,6 +1,3 @@
-pub mod Verifying
-pub mod SomeVerdicts
-pub mod VerifyHomologyOutcomes
 pub mod ShortWalks
 pub mod PieceChains
 pub mod PieceCocycles

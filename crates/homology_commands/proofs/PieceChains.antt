@@ -9,7 +9,7 @@ use Rattle.std.proofs.Math.IntN.{zero-*ℤ}
 use Rattle.surf_model.specs.FaceLists.{FaceList, FaceSide, all_sides, face_at, is_edge, joins}
 use Rattle.surf_model.proofs.EdgeLemmas.{edge_swap}
 use Rattle.surf_model.proofs.LinkLemmas.{Linked}
-use Rattle.manifold_check.specs.Submeshes.{submesh}
+use Rattle.surf_model.specs.Submeshes.{submesh}
 use Rattle.homology.specs.Sums.{total, along, round, share}
 use Rattle.homology.specs.Chains.{IsChain, boundary, count_of}
 use Rattle.homology.proofs.BoundaryLemmas.{face_parts, by_faces, boundary_is}

@@ -7,7 +7,7 @@ use Rattle.std.proofs.lemmas.Int.{ints}
 use Rattle.surf_model.specs.FaceLists.{FaceList, corners_from, face_at, is_edge, next_corner}
 use Rattle.surf_model.proofs.EdgeLemmas.{edge_swap, step_within, tail_used}
 use Rattle.surf_model.proofs.LinkLemmas.{Linked, round_linked}
-use Rattle.manifold_check.specs.ComponentParts.{PartsView, AreParts, component_at, component_mesh}
+use Rattle.surf_model.specs.ComponentParts.{PartsView, AreParts, component_at, component_mesh}
 use Rattle.manifold_check.proofs.PartPieces.{IsOfComponent, face_same_place, piece_of_parts}
 use Rattle.manifold_check.proofs.PieceLemmas.{HasPlaceAmong, IsPiece, face-submesh, length-submesh, used_up}
 use Rattle.homology.specs.Sums.{along, round}

@@ -15,8 +15,8 @@ use Rattle.commands.specs.HomologyCertificates.{ShowsHomology, answer_in, homolo
 use Rattle.commands.specs.declared.status.Status.{Status}
 use Rattle.homology_commands.specs.Homology.{IsHomologyPrinted}
 use Rattle.homology_commands.specs.PrintedHomology.{IsAccepted, IsVerifyOfText}
-use Rattle.homology_commands.specs.VerifyHomology.{IsInput}
-use Rattle.homology_commands.proofs.VerifyHomologyOutcomes.{homology_verified}
+use Rattle.verify_homology_commands.specs.VerifyHomology.{IsInput}
+use Rattle.verify_homology_commands.proofs.VerifyHomologyOutcomes.{homology_verified}
 
 -- the line of an answer in the words of the format
 answer_line : (shown : HomologyCert) → homology_line (answer_in shown) ≡ line_of (answer_words (kind_in shown))

@@ -1,4 +1,3 @@
-pub mod VerifyHomology
 pub mod Listings
 pub mod Homology
 pub mod PrintedHomology

@@ -5,9 +5,9 @@ use Rattle.homology.specs.Certificates.{face_number, edge_number}
 use Rattle.homology.specs.declared.certificate.EdgeNumber.{EdgeNumber}
 use Rattle.homology.specs.declared.certificate.FaceNumber.{FaceNumber}
 use Rattle.homology_files.specs.WrittenTexts.{FaceFits, EdgeFits}
-use Rattle.manifold_check.specs.ComponentParts.{component_at}
-use Rattle.commands.specs.declared.component.Component.{Component}
-use Rattle.commands.specs.declared.component.Component.TheVariants.{Whole, Alone}
+use Rattle.surf_model.specs.ComponentParts.{component_at}
+use Rattle.closed_surfaces.specs.declared.component.Component.{Component}
+use Rattle.closed_surfaces.specs.declared.component.Component.TheVariants.{Whole, Alone}
 
 -- the name that a face of a component has in the mesh
 abbrev pub name_in : Component → ℕ → ℕ

@@ -9,7 +9,7 @@ use Rattle.commands.specs.Lines.{line}
 use Rattle.commands.specs.Outcomes.{AnswersTo}
 use Rattle.commands.specs.declared.status.Status.{Status}
 use Rattle.commands.specs.declared.status.Status.TheVariants.{Yes}
-use Rattle.homology_commands.specs.VerifyHomology.{verify_homology}
+use Rattle.verify_homology_commands.specs.VerifyHomology.{verify_homology}
 
 -- The words are those of `verify-homology`, and the three files that they name are told: the first two stand for the mesh and for two
 -- walks of it with common ends, and the third has this text.

@@ -6,21 +6,12 @@ ghost use Rattle.commands.specs.Outcomes.{AnswersTo};
 ghost use Rattle.commands.specs.declared.status.Status.{Status};
 ghost use Rattle.homology_commands.specs.Homology.{homology, IsHomologyAnswered, IsHomologyPrinted};
 ghost use Rattle.homology_commands.specs.PrintedHomology.{IsAccepted};
-ghost use Rattle.homology_commands.specs.VerifyHomology.{verify_homology, IsHomologyVerified};
 
 /// What `homology` answers of two walks of a surface, wherever its words are answered by its check.
 pub fn homology_answers()
     ensures { (held : Option Files) (words : List (List ℕ)) (status : Status) (text : List ℕ)
         → ((mesh walks : List ℕ) → words ≡ codes "homology" ∷ mesh ∷ walks ∷ [] → AnswersTo held (homology held mesh walks) status text)
         → IsHomologyAnswered held words status text }
-{}
-
-/// What `verify-homology` answers of a certificate, wherever its words are answered by its check.
-pub fn verify_homology_answers()
-    ensures { (held : Option Files) (words : List (List ℕ)) (status : Status) (text : List ℕ)
-        → ((mesh walks certificate : List ℕ) → words ≡ codes "verify-homology" ∷ mesh ∷ walks ∷ certificate ∷ []
-        → AnswersTo held (verify_homology held mesh walks certificate) status text)
-        → IsHomologyVerified held words status text }
 {}
 
 /// What `homology` prints is, as it is, a certificate that `verify-homology` accepts on the same mesh and walks.

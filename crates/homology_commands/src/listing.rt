@@ -10,11 +10,11 @@ ghost use Rattle.homology.specs.declared.certificate.FaceNumber.{FaceNumber};
 ghost use Rattle.homology.specs.declared.certificate.TheConstants.{MOST_NUMBER};
 ghost use Rattle.homology_deciding.specs.Proofs.{IsProofFor};
 ghost use Rattle.homology_files.specs.WrittenTexts.{EdgeFits, FaceFits};
-ghost use Rattle.commands.specs.ClosedSurfaces.{IsComponentOf, surface_of};
+ghost use Rattle.closed_surfaces.specs.SignedSurfaces.{IsComponentOf, surface_of};
 ghost use Rattle.commands.specs.HomologyCertificates.{ShowsHomology};
 ghost use Rattle.homology_commands.specs.Listings.{ListsEdges, ListsFaces, name_in};
 
-use commands::component::Component;
+use closed_surfaces::Component;
 use halfedge_map::Surface;
 use homology::{ChainNumbers, CocycleNumbers, EdgeNumber, FaceNumber, HomologyCert};
 use homology_deciding::{HomologyProof, Numbers};

@@ -3,20 +3,21 @@ ghost use Rattle.std.specs.Prelude.{◌+◌, ◌≤◌, ℕ, List, slice_index, 
 ghost use Rattle.surf_model.specs.FaceLists.{FaceList};
 ghost use Rattle.surf_model.specs.Walks.{HaveCommonEnds, IsWalk, darts};
 ghost use Rattle.homology.specs.declared.certificate.TheConstants.{MOST_NUMBER};
-ghost use Rattle.commands.specs.ClosedSurfaces.{IsComponentOf, IsSigned, surface_of};
+ghost use Rattle.closed_surfaces.specs.SignedSurfaces.{IsComponentOf, IsSigned, surface_of};
 ghost use Rattle.commands.specs.HomologyCertificates.{ShowsHomology, answer_in};
 ghost use Rattle.commands.specs.Replies.{IsReplyTo, Runs};
 ghost use Rattle.homology_commands.specs.Homology as of_homology;
 ghost use Rattle.homology_commands.specs.Homology.{homology_answer};
 
 use crate::listing::certificate_of;
-use commands::component::Component;
-use commands::{Reply, SignedMesh, Stop, Text, read_pair, read_surface};
+use closed_surfaces::{Component, SignedMesh};
+use commands::{Reply, Stop, Text, read_pair};
 use homology::HomologyCert;
 use homology_deciding::homologous;
 use std::alloc::{AllocError, Global};
 use surf_io::Shelf;
 use surf_model::Walk;
+use surface_commands::read_surface;
 use tree_cotree::split_edges;
 
 /// A certificate that shows whether the two walks in the file `walks` are homologous on the surface in the file `mesh`: a chain, or a

@@ -44,7 +44,8 @@ along-same one other [] h = refl
 along-same one other (u ∷ []) h = refl
 along-same one other (u ∷ v ∷ walk) h = ap₂ (λ x y. x +ℤ y) (h u v) (along-same one other (v ∷ walk) h)
 
-along-back : (one other : ℕ → ℕ → ℤ) (walk : List ℕ) → ((u v : ℕ) → one u v ≡ neg_ℤ (other u v)) → along one walk ≡ neg_ℤ (along other walk)
+pub along-back : (one other : ℕ → ℕ → ℤ) (walk : List ℕ) → ((u v : ℕ) → one u v ≡ neg_ℤ (other u v))
+    → along one walk ≡ neg_ℤ (along other walk)
 along-back one other [] h = refl
 along-back one other (u ∷ []) h = refl
 along-back one other (u ∷ v ∷ walk) h =

@@ -1,16 +1,18 @@
 -- What the forced numbers prove.
 use Rattle.std.proofs.Common.{◌≡◌, ◌≢◌, ◌↔◌, inl, inr, ℕ, ◌+◌, ◌<◌, ◌≤◌, true, false, List, length, refl, ap, ap₂, sym, ◌∙◌, subst, arith, ℤ, pos, ◌+ℤ◌, ◌-ℤ◌}
-use Rattle.std.specs.Prelude.{neg_ℤ, unsigned_abs}
+use Rattle.std.specs.Prelude.{◌==◌, neg_ℤ, unsigned_abs}
 use Rattle.std.proofs.lemmas.Int.{ints}
-use Rattle.std.proofs.lemmas.Bool.{cases_lt, cases_Bool, both_ways}
+use Rattle.std.proofs.lemmas.Bool.{cases_lt, cases_Bool, both_ways, eqb-true, eq-eqb}
+use Rattle.std.proofs.lemmas.Bool.Decides.{nat_tests}
 use Rattle.std.proofs.lemmas.List.{get_or_past}
 use Rattle.surf_model.specs.Edges.{Edge, edge_in}
 use Rattle.surf_model.specs.Surfaces.{is_flipped}
 use Rattle.surf_model.specs.Walks.{IsWalk, darts}
 use Rattle.surf_model.specs.declared.names.DartName.{DartName}
 use Rattle.halfedge_map.specs.OrientedMeshes.{OrientedMesh}
-use Rattle.halfedge_map.specs.DartMaps.{face_of, twin_of}
+use Rattle.halfedge_map.specs.DartMaps.{darts_of, face_of, origin_of, twin_of}
 use Rattle.halfedge_map.specs.RotationSystems.{rotations_of, IsDartFrom}
+use Rattle.halfedge_map.proofs.EdgeLemmas.{IsAtEdge, leads_on, leads_back}
 use Rattle.halfedge_map.proofs.SystemLemmas.{rotation_system, names_all}
 use Rattle.homology.specs.Sums.{share, along}
 use Rattle.homology.specs.Chains.{AreHomologous, count_difference, boundary}
@@ -28,7 +30,7 @@ use Rattle.homology_deciding.specs.declared.deciding.HomologyProof.{HomologyProo
 use Rattle.homology_deciding.specs.declared.deciding.HomologyProof.TheVariants.{Chain, Cocycle}
 use Rattle.homology_deciding.proofs.BoundaryLemmas.{boundary_at}
 use Rattle.homology_deciding.proofs.WayLemmas.{one_way}
-use Rattle.homology_deciding.proofs.CycleLemmas.{along_darts, is_cocycle, separation_is, way_count_is, height_small}
+use Rattle.homology_deciding.proofs.CycleLemmas.{along-back, along_darts, is_cocycle, separation_is, way_count_is, height_small}
 
 -- a number as it is listed has the same size, and listed twice it is itself
 pub listed_size : (s : OrientedMesh) (f : ℕ) (z : ℤ) → unsigned_abs (listed s f z) ≡ unsigned_abs z
@@ -61,6 +63,9 @@ counts_small table counts first second are = record {
         subst (λ z. unsigned_abs z ≤ darts first + darts second) (sym none) (omega arith)
   ];
 }
+
+share-swapped : (a b u v : ℕ) → a ≢ b → share (pos 1) b a u v ≡ neg_ℤ (share (pos 1) a b u v)
+share-swapped a b u v apart = grind (arith, nat_tests, ints)
 
 module _ (tree : FaceTree) (h : IsTree tree) (first second : List ℕ) (numbers : List ℤ) where
   abbrev s : OrientedMesh
@@ -103,34 +108,78 @@ module _ (tree : FaceTree) (h : IsTree tree) (first second : List ℕ) (numbers 
         ∙ ap (way_count s leaves.counts) same
         ∙ way_count_is s tree.root.0 tree.ups.items h leaves.counts first second leaves.are_counts f way tree.root.0 w
 
-    module _ (e d : ℕ) (cut : List ℤ) (l : e < length s.table) (differ : number_at rest e ≢ pos 0)
-        (from : IsDartFrom (rotations_of s) (edge_in s.table e).low (edge_in s.table e).high d) (is_cut : IsCutAt tree d cut) where
+    -- what is left at the edge of a dart, by the faces on its two sides
+    left_at : ℕ → ℤ
+    left_at d =
+        along (dart_share s (pos 1) d) first -ℤ along (dart_share s (pos 1) d) second
+        -ℤ (listed s (face_of s d) (number_at numbers (face_of s d)) -ℤ listed s (face_across s d) (number_at numbers (face_across s d)))
+
+    left_from : (e d : ℕ) → e < length s.table → IsDartFrom (rotations_of s) (edge_in s.table e).low (edge_in s.table e).high d
+        → number_at rest e ≡ left_at d
+    unfolding left_at
+    left_from e d l from =
+        let low : ℕ = (edge_in s.table e).low in
+        let high : ℕ = (edge_in s.table e).high in
+        let number : ℕ → ℤ = number_at numbers in
+        let left = leaves.left.each e l in
+        let counted : count_difference first second low high
+        ≡ along (dart_share s (pos 1) d) first -ℤ along (dart_share s (pos 1) d) second =
+        ap₂ (λ a b. along (share (pos 1) a b) first -ℤ along (share (pos 1) a b) second) (sym from.starts) (sym from.ends) in
+        let bounded : boundary s.mesh number low high
+        ≡ listed s (face_of s d) (number (face_of s d)) -ℤ listed s (face_across s d) (number (face_across s d)) =
+        ap₂ (boundary s.mesh number) (sym from.starts) (sym from.ends) ∙ boundary_at s h.valid number d from.within in
+        omega (arith, ints, left, counted, bounded)
+
+    -- the other dart of the edge sees it with the other sign
+    left_turned : (d : ℕ) → d < darts_of s → left_at (twin_of s d) ≡ neg_ℤ (left_at d)
+    unfolding left_at
+    left_turned d l =
+        let back : twin_of s (twin_of s d) ≡ d = (rotation_system s h.valid).twin_back d l in
+        let turned : (u v : ℕ) → dart_share s (pos 1) (twin_of s d) u v ≡ neg_ℤ (dart_share s (pos 1) d u v) =
+        λ u v. ap (λ k. share (pos 1) (origin_of s (twin_of s d)) (origin_of s k) u v) back
+        ∙ share-swapped (origin_of s d) (origin_of s (twin_of s d)) u v (λ q. (rotation_system s h.valid).no_loop d l (sym q)) in
+        let one = along-back (dart_share s (pos 1) (twin_of s d)) (dart_share s (pos 1) d) first turned in
+        let two = along-back (dart_share s (pos 1) (twin_of s d)) (dart_share s (pos 1) d) second turned in
+        let across : listed s (face_across s (twin_of s d)) (number_at numbers (face_across s (twin_of s d)))
+        ≡ listed s (face_of s d) (number_at numbers (face_of s d)) =
+        ap (λ k. listed s (face_of s k) (number_at numbers (face_of s k))) back in
+        omega (arith, ints, one, two, across)
+
+    -- so of either dart of an edge
+    left_of_dart : (e d : ℕ) → IsAtEdge s d e → number_at rest e ≢ pos 0 → left_at d ≢ pos 0
+    left_of_dart e d at differ none =
+        let edge : Edge = edge_in s.table e in
+        elim (cases_Bool (origin_of s d == edge.low)) [
+          | inl same ↦
+              let from = leads_on s h.valid edge.low edge.high e d at (inl (refl, refl)) (eqb-true (origin_of s d) edge.low same) in
+              differ (left_from e d at.edge from ∙ none)
+          | inr other ↦
+              let apart : origin_of s d ≢ edge.low =
+              λ same. both_ways (origin_of s d == edge.low) other (eq-eqb (origin_of s d) edge.low same) in
+              let from = leads_back s h.valid edge.low edge.high e d at (inl (refl, refl)) apart in
+              let left = left_from e (twin_of s d) at.edge from in
+              let turned = left_turned d at.dart in
+              differ (omega (arith, ints, left, turned, none))
+        ]
+
+    module _ (e d : ℕ) (cut : List ℤ) (at : IsAtEdge s d e) (differ : number_at rest e ≢ pos 0) (is_cut : IsCutAt tree d cut) where
       separates : Separates (cycle_share s d is_cut.up is_cut.down) first second
+      unfolding left_at
       separates none =
-          let low : ℕ = (edge_in s.table e).low in
-          let high : ℕ = (edge_in s.table e).high in
-          let number : ℕ → ℤ = number_at numbers in
-          let here : face_of s d < length s.mesh.faces = (names_all s h.valid).face_below d from.within in
+          let here : face_of s d < length s.mesh.faces = (names_all s h.valid).face_below d at.dart in
           let there : face_across s d < length s.mesh.faces =
-          (names_all s h.valid).face_below (twin_of s d) ((rotation_system s h.valid).twin_within d from.within) in
-          let left = leaves.left.each e l in
-          let counted : count_difference first second low high
-          ≡ along (dart_share s (pos 1) d) first -ℤ along (dart_share s (pos 1) d) second =
-          ap₂ (λ a b. along (share (pos 1) a b) first -ℤ along (share (pos 1) a b) second) (sym from.starts) (sym from.ends) in
-          let bounded : boundary s.mesh number low high
-          ≡ listed s (face_of s d) (number (face_of s d)) -ℤ listed s (face_across s d) (number (face_across s d)) =
-          ap₂ (boundary s.mesh number) (sym from.starts) (sym from.ends) ∙ boundary_at s h.valid number d from.within in
+          (names_all s h.valid).face_below (twin_of s d) ((rotation_system s h.valid).twin_within d at.dart) in
           let down = face_value (face_of s d) is_cut.down here is_cut.comes_down in
           let up = face_value (face_across s d) is_cut.up there is_cut.goes_up in
-          let all = separation_is s tree.root.0 tree.ups.items h d is_cut.up is_cut.down from.within is_cut.goes_up is_cut.comes_down first
+          let all = separation_is s tree.root.0 tree.ups.items h d is_cut.up is_cut.down at.dart is_cut.goes_up is_cut.comes_down first
           second in
-          differ (omega (arith, ints, left, counted, bounded, down, up, all, none))
+          left_of_dart e d at differ (omega (arith, ints, down, up, all, none))
 
       pub cocycle_proof : IsCocycleFor s first second cut
       cocycle_proof = record {
         of_edge = cycle_share s d is_cut.up is_cut.down;
         each_edge = is_cut.each_edge;
-        cocycle = is_cocycle s tree.root.0 tree.ups.items h d is_cut.up is_cut.down from.within is_cut.goes_up is_cut.comes_down;
+        cocycle = is_cocycle s tree.root.0 tree.ups.items h d is_cut.up is_cut.down at.dart is_cut.goes_up is_cut.comes_down;
         separates = separates;
         small = is_cut.small;
       }

@@ -1,8 +1,6 @@
 //! Whether two walks are homologous.
 ghost use Rattle.std.specs.Prelude.{◌≡◌, ◌+◌, ◌<◌, ◌≤◌, ◌↔◌, ℕ, true, List, length, IfOk};
-ghost use Rattle.surf_model.specs.Edges.{edge_in};
 ghost use Rattle.surf_model.specs.Walks.{IsWalk, darts};
-ghost use Rattle.halfedge_map.specs.RotationSystems.{rotations_of, IsDartFrom};
 ghost use Rattle.tree_cotree.specs.Splits.{IsSplit};
 ghost use Rattle.homology.specs.Chains.{AreHomologous};
 ghost use Rattle.homology.specs.Tallies.{AreWithin};
@@ -18,7 +16,7 @@ use crate::numbers::Numbers;
 use halfedge_map::Surface;
 use homology::tally::{count_differences, first_nonzero, take_faces};
 use std::alloc::{AllocError, Global};
-use surf_model::{DartName, EdgeName, Walk};
+use surf_model::Walk;
 use tree_cotree::Split;
 
 /// What shows whether two walks are homologous.
@@ -102,23 +100,8 @@ fn proof_from(
     match first_nonzero(rest, tree.surface.sides()) {
         None => Ok(HomologyProof::Chain(Numbers::of(numbers))),
         Some(edge) => {
-            let dart = rising_dart(tree.surface, edge);
+            let dart = tree.surface.dart_of(edge);
             Ok(HomologyProof::Cocycle(Numbers::of(cut(alloc, tree, dart)?)))
         }
-    }
-}
-
-/// The dart of an edge that starts at its lower vertex.
-fn rising_dart(surface: &Surface, edge: EdgeName) -> DartName
-    requires { edge.0 < length surface.now.table }
-    ensures { IsDartFrom (rotations_of surface.now) (edge_in surface.now.table edge.0).low (edge_in surface.now.table edge.0).high
-        result.0 }
-{
-    let dart = surface.dart_of(edge);
-    let (low, _) = surface.sides().ends(edge);
-    if surface.origin(dart) == low {
-        dart
-    } else {
-        surface.twin(dart)
     }
 }

@@ -4,13 +4,13 @@ use Rattle.std.specs.Prelude.{MatchResult, Result, Ok, Err}
 use Rattle.surf_model.specs.FaceLists.{FaceList, total_sides}
 use Rattle.surf_model.specs.Walks.{darts}
 use Rattle.move_lifting.specs.declared.expanding.TheConstants.{MOST_LIFTED_SIDES, MOST_LIFTED_DARTS}
-use Rattle.commands.proofs.Certifying.{convinces_decides}
-use Rattle.commands.proofs.Components.{signed_surface}
+use Rattle.certify_commands.proofs.Certifying.{convinces_decides}
+use Rattle.closed_surfaces.proofs.Components.{signed_surface}
 use Rattle.commands.specs.Certificates.{IsShown}
-use Rattle.commands.specs.Certify.{IsWithinLimits}
-use Rattle.commands.specs.ClosedSurfaces.{IsSigned}
+use Rattle.certify_commands.specs.Certify.{IsWithinLimits}
+use Rattle.closed_surfaces.specs.SignedSurfaces.{IsSigned}
 use Rattle.commands.specs.declared.certificate.Certificate.{Certificate}
-use Rattle.commands.specs.declared.surface_input.SignedMesh.{SignedMesh}
+use Rattle.closed_surfaces.specs.declared.signed_mesh.SignedMesh.{SignedMesh}
 use Rattle.homotopy_arrays.specs.Certifications.{Certifies, IsCertified, IsCertifyFault, IsFaultOfPair, IsLimitFault, no_memory}
 use Rattle.homotopy_arrays.specs.Pairs.{AreWalks}
 use Rattle.homotopy_arrays.specs.Surfaces.{IsSurfaceFault, IsSurfaceOf, OfMesh}

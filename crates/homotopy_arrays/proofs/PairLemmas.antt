@@ -9,8 +9,8 @@ use Rattle.std.proofs.lemmas.List.Sums.{sum_by-append, sum_by-take-drop, sum_by-
 use Rattle.surf_model.specs.FaceLists.{FaceList}
 use Rattle.surf_model.specs.Walks.{IsWalk, HaveCommonEnds, AreWalkPair}
 use Rattle.surf_model.specs.Moves as moves
-use Rattle.walk_translate.specs.declared.deciding.Answer as deciding
-use Rattle.walk_translate.specs.declared.deciding.Answer.TheVariants.{Homotopic}
+use Rattle.surf_model.specs.declared.decisions.Answer as deciding
+use Rattle.surf_model.specs.declared.decisions.Answer.TheVariants.{Homotopic}
 use Rattle.walk_files.specs.Pairs.{IsPair, pair_fault}
 use Rattle.walk_files.specs.declared.pair.PairFault.{PairFault}
 use Rattle.homotopy_arrays.specs.CheckedPairs.{AreChecked, IsChecked}

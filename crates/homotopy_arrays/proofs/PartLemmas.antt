@@ -6,8 +6,8 @@ use Rattle.surf_model.specs.FaceLists.{FaceList, IsFace, IsFaceList, face_at, is
 use Rattle.surf_model.specs.Moves as moves
 use Rattle.surf_model.specs.Walks.{IsWalk, AreWalkPair}
 use Rattle.surf_model.proofs.EdgeLemmas.{corner_used}
-use Rattle.walk_translate.specs.declared.deciding.Answer.{Answer}
-use Rattle.walk_translate.specs.declared.deciding.Answer.TheVariants as decided
+use Rattle.surf_model.specs.declared.decisions.Answer.{Answer}
+use Rattle.surf_model.specs.declared.decisions.Answer.TheVariants as decided
 use Rattle.component_deciding.specs.AskedPairs.{IsAnswerOn, IsPairOn}
 use Rattle.component_deciding.specs.declared.asked.AskedPair.{AskedPair}
 use Rattle.homotopy_arrays.specs.AskedPairs.{IsAnswerFor, IsAskedFor}

@@ -1,7 +1,7 @@
 -- What is asked of a surface of several components for each pair, and the answer that a decision makes.
 use Rattle.std.specs.Prelude.{◌≡◌, ℕ, List, [], ◌∷◌}
-use Rattle.walk_translate.specs.declared.deciding.Answer.{Answer}
-use Rattle.walk_translate.specs.declared.deciding.Answer.TheVariants as decided
+use Rattle.surf_model.specs.declared.decisions.Answer.{Answer}
+use Rattle.surf_model.specs.declared.decisions.Answer.TheVariants as decided
 use Rattle.component_deciding.specs.declared.asked.AskedPair.{AskedPair}
 use Rattle.homotopy_arrays.specs.declared.decide.PairAnswer.{PairAnswer}
 use Rattle.homotopy_arrays.specs.declared.decide.PairAnswer.TheVariants.{Homotopic, Different, Faulty}

@@ -4,10 +4,10 @@ use Rattle.surf_model.specs.FaceLists.{FaceList, total_sides}
 use Rattle.surf_model.specs.Moves as moves
 use Rattle.surf_model.specs.Walks.{darts}
 use Rattle.move_lifting.specs.declared.expanding.TheConstants.{MOST_LIFTED_SIDES, MOST_LIFTED_DARTS}
-use Rattle.walk_translate.specs.declared.deciding.Answer.TheVariants as deciding
+use Rattle.surf_model.specs.declared.decisions.Answer.TheVariants as deciding
 use Rattle.commands.specs.Certificates.{Convinces, IsPeakLow, IsShortOnSphere, decision_of}
-use Rattle.commands.specs.Certify.{IsWithinLimits}
-use Rattle.commands.specs.ClosedSurfaces.{IsOrientableSurface}
+use Rattle.certify_commands.specs.Certify.{IsWithinLimits}
+use Rattle.surf_model.specs.OrientableSurfaces.{IsOrientableSurface}
 use Rattle.commands.specs.declared.certificate.Certificate.{Certificate}
 use Rattle.homotopy_arrays.specs.Pairs.{AreWalks, walks_fault}
 use Rattle.homotopy_arrays.specs.Surfaces.{IsSurfaceFault, OfMesh}

@@ -1,7 +1,7 @@
 -- How the question ends whether the walks of pairs are homotopic.
 use Rattle.std.specs.Prelude.{◌≡◌, ◌⊎◌, ℕ, List, false, IsTrue}
 use Rattle.surf_model.specs.FaceLists.{FaceList}
-use Rattle.commands.specs.ClosedSurfaces.{IsOrientableSurface}
+use Rattle.surf_model.specs.OrientableSurfaces.{IsOrientableSurface}
 use Rattle.homotopy_arrays.specs.Pairs.{AreAnswers, are_pairs}
 use Rattle.homotopy_arrays.specs.Surfaces.{IsSurfaceFault}
 use Rattle.homotopy_arrays.specs.declared.decide.PairAnswer.{PairAnswer}

@@ -5,9 +5,13 @@ use Rattle.surf_model.specs.Surfaces.{IsClosedManifold, IsOrientable}
 use Rattle.manifold_check.specs.Faults.{IsFirstFault}
 use Rattle.manifold_check.specs.declared.fault.SurfaceFault.{SurfaceFault}
 use Rattle.manifold_check.specs.declared.fault.SurfaceFault.TheVariants as closed
-use Rattle.commands.specs.ClosedSurfaces.{IsOrientableSurface, IsSigned}
-use Rattle.commands.specs.Surface.{AreNumbersOf, AreGeneraOf}
-use Rattle.commands.specs.declared.surface_input.SignedMesh.{SignedMesh}
+use Rattle.closed_surfaces.specs.declared.signed_mesh.NoSurface.{NoSurface}
+use Rattle.closed_surfaces.specs.declared.signed_mesh.NoSurface.TheVariants as none
+use Rattle.surf_model.specs.OrientableSurfaces.{IsOrientableSurface}
+use Rattle.closed_surfaces.specs.SignedSurfaces.{IsSigned}
+use Rattle.surf_model.specs.Genera.{AreNumbersOf}
+use Rattle.closed_surfaces.specs.ComponentGenera.{AreGeneraOf}
+use Rattle.closed_surfaces.specs.declared.signed_mesh.SignedMesh.{SignedMesh}
 use Rattle.homotopy_arrays.specs.declared.fault.Fault.{Fault}
 use Rattle.homotopy_arrays.specs.declared.fault.Fault.TheVariants.{NoFace, EdgeSides, Pinched, NotOrientable, OutOfMemory}
 use Rattle.homotopy_arrays.specs.declared.surface.Measured.{Measured}
@@ -33,6 +37,11 @@ of_surface_fault closed.NoFace = NoFace
 of_surface_fault (closed.EdgeSides low high sides) = EdgeSides low high sides
 of_surface_fault (closed.Pinched vertex) = Pinched vertex
 of_surface_fault closed.OutOfMemory = OutOfMemory
+
+-- why a mesh is no orientable closed surface, as a fault
+abbrev pub of_no_surface : NoSurface → Fault
+of_no_surface (none.Fault fault) = of_surface_fault fault
+of_no_surface (none.NotOrientable chain) = NotOrientable
 
 -- what is first wrong with a mesh that is no orientable closed surface
 abbrev pub IsSurfaceFault : FaceList → Fault → Type 0

@@ -1,14 +1,14 @@
 //! Answers on a surface of several components.
 ghost use Rattle.std.specs.Prelude.{◌≡◌, ◌<◌, ℕ, All, length, slice_index_or, IfOk};
-ghost use Rattle.commands.specs.ClosedSurfaces.{IsSigned};
+ghost use Rattle.closed_surfaces.specs.SignedSurfaces.{IsSigned};
 ghost use Rattle.surf_model.specs.FaceLists.{FaceList};
-ghost use Rattle.manifold_check.specs.ComponentParts.{AreParts};
+ghost use Rattle.surf_model.specs.ComponentParts.{AreParts};
 ghost use Rattle.homotopy_arrays.specs.AskedPairs.{IsAnswerFor, IsAskedFor};
 ghost use Rattle.homotopy_arrays.specs.CheckedPairs.{AreAnswersTo, IsPairOf};
 
 use crate::decide::PairAnswer;
 use crate::pair::Checked;
-use commands::SignedMesh;
+use closed_surfaces::SignedMesh;
 use component_deciding::{AskedPair, SignedParts, decide_by_components};
 use manifold_check::Parts;
 use std::alloc::{AllocError, Global};

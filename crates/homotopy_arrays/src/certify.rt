@@ -1,8 +1,8 @@
 //! Certificates for walks that lie in arrays.
 ghost use Rattle.std.specs.Prelude.{◌≡◌, ◌⊎◌, MatchResult, IfOk};
 ghost use Rattle.commands.specs.Certificates.{certificate_text};
-ghost use Rattle.commands.specs.Certify.{IsWithinLimits};
-ghost use Rattle.commands.specs.ClosedSurfaces.{IsSigned};
+ghost use Rattle.certify_commands.specs.Certify.{IsWithinLimits};
+ghost use Rattle.closed_surfaces.specs.SignedSurfaces.{IsSigned};
 ghost use Rattle.homotopy_arrays.specs.Certifications.{Certifies, IsCertified, IsCertifyFault, IsFaultOfPair, IsLimitFault, no_memory};
 ghost use Rattle.homotopy_arrays.specs.MeshArrays.{mesh_in};
 ghost use Rattle.homotopy_arrays.specs.Pairs.{AreWalks};
@@ -11,8 +11,9 @@ use crate::fault::Fault;
 use crate::mesh::MeshArrays;
 use crate::pair::{Checked, WalkFault, check_walks};
 use crate::surface::surface_of_arrays;
-use commands::certify::find_certificate;
-use commands::{Certificate, SignedMesh, Text, put_text};
+use certify_commands::find_certificate;
+use closed_surfaces::SignedMesh;
+use commands::{Certificate, Text, put_text};
 use move_lifting::{MOST_LIFTED_DARTS, MOST_LIFTED_SIDES};
 use std::alloc::{AllocError, Global};
 use surf_io::MemorySink;

@@ -3,9 +3,9 @@ ghost use Rattle.std.specs.Prelude.{IfOk, IsTrue};
 ghost use Rattle.homotopy_arrays.specs.Decisions.{AreDecided, IsDecideFault};
 ghost use Rattle.homotopy_arrays.specs.MeshArrays.{mesh_in};
 ghost use Rattle.homotopy_arrays.specs.Pairs.{AreAnswers, are_pairs};
-ghost use Rattle.manifold_check.specs.ComponentParts.{AreParts};
+ghost use Rattle.surf_model.specs.ComponentParts.{AreParts};
 ghost use Rattle.homotopy_arrays.specs.Surfaces.{EndsOn};
-ghost use Rattle.commands.specs.ClosedSurfaces.{IsSigned};
+ghost use Rattle.closed_surfaces.specs.SignedSurfaces.{IsSigned};
 
 use crate::by_parts::answer_by_parts;
 use crate::connected::answer_connected;
@@ -13,8 +13,7 @@ use crate::fault::Fault;
 use crate::mesh::MeshArrays;
 use crate::pair::{WalkFault, are_pairs, check_pairs};
 use crate::surface::surface_of_arrays;
-use commands::SignedMesh;
-use commands::component::connected;
+use closed_surfaces::{SignedMesh, connected};
 use manifold_check::Parts;
 use std::alloc::{AllocError, Global};
 

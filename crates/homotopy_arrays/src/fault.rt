@@ -2,6 +2,7 @@
 ghost use Rattle.std.specs.Prelude.{◌≡◌};
 ghost use Rattle.homotopy_arrays.specs.declared.fault.Fault.TheVariants.{OutOfMemory};
 
+use closed_surfaces::NoSurface;
 use manifold_check::SurfaceFault;
 use std::alloc::AllocError;
 use surf_model::{FaceName, VertexName};
@@ -55,17 +56,20 @@ impl From<AllocError> for Fault {
     }
 }
 
-impl From<SurfaceFault> for Fault {
-    ghost use Rattle.homotopy_arrays.specs.Surfaces.{of_surface_fault};
+impl From<NoSurface> for Fault {
+    ghost use Rattle.homotopy_arrays.specs.Surfaces.{of_no_surface};
 
-    ghost from_gives = { λ first fault. fault ≡ of_surface_fault first };
+    ghost from_gives = { λ none fault. fault ≡ of_no_surface none };
 
-    fn from(fault: SurfaceFault) -> Fault {
-        match fault {
-            SurfaceFault::NoFace => Fault::NoFace,
-            SurfaceFault::EdgeSides { low, high, sides } => Fault::EdgeSides { low, high, sides },
-            SurfaceFault::Pinched { vertex } => Fault::Pinched { vertex },
-            SurfaceFault::OutOfMemory => Fault::OutOfMemory,
+    fn from(none: NoSurface) -> Fault {
+        match none {
+            NoSurface::Fault(SurfaceFault::NoFace) => Fault::NoFace,
+            NoSurface::Fault(SurfaceFault::EdgeSides { low, high, sides }) => {
+                Fault::EdgeSides { low, high, sides }
+            }
+            NoSurface::Fault(SurfaceFault::Pinched { vertex }) => Fault::Pinched { vertex },
+            NoSurface::Fault(SurfaceFault::OutOfMemory) => Fault::OutOfMemory,
+            NoSurface::NotOrientable(_) => Fault::NotOrientable,
         }
     }
 }

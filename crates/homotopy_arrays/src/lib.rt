@@ -1,4 +1,9 @@
 //! The questions of the program, asked of meshes and walks that lie in arrays.
+//!
+//! `measure_arrays` has what `surface` prints, `decide_arrays` what `decide` answers of any number of pairs, `certify_arrays` with
+//! `text_of` what `certify` prints, and `verify_arrays` what `verify` judges, of a certificate in bytes. Proved: the answer is that of
+//! the mesh that the arrays are, or what is first wrong with them is named, or memory is wanting; and arrays are read as the mesh whose
+//! arrays they are (`laws`).
 #![tactic(auto)]
 
 mod by_parts;

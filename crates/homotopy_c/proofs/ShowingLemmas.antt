@@ -18,9 +18,9 @@ use Rattle.move_checker.specs.declared.fault.MoveFault.TheVariants.{Place, NoEdg
 use Rattle.move_checker.specs.declared.judge.Verdict.{Verdict}
 use Rattle.move_checker.specs.declared.judge.Verdict.TheVariants as verdicts
 use Rattle.move_checker.proofs.Judgement.{accepted_exactly}
-use Rattle.walk_translate.specs.declared.deciding.Answer.TheVariants as decisions
+use Rattle.surf_model.specs.declared.decisions.Answer.TheVariants as decisions
 use Rattle.commands.specs.Certificates.{Convinces, certificate_text, decision_of}
-use Rattle.commands.specs.ClosedSurfaces.{IsOrientableSurface}
+use Rattle.surf_model.specs.OrientableSurfaces.{IsOrientableSurface}
 use Rattle.commands.specs.Inputs.{SpellsCertificate, certificate_of}
 use Rattle.commands.specs.declared.certificate.Certificate.{Certificate}
 use Rattle.commands.specs.declared.certificate.Certificate.TheVariants.{Moves, Denial}

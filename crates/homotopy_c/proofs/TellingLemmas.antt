@@ -6,7 +6,7 @@ use Rattle.std.proofs.lemmas.Bool.{cases_lt}
 use Rattle.std.proofs.lemmas.List.{get_or_append_left, get_or-map, length-map}
 use Rattle.surf_model.specs.FaceLists.{FaceList}
 use Rattle.surf_model.specs.Moves as moves
-use Rattle.commands.specs.ClosedSurfaces.{IsOrientableSurface}
+use Rattle.surf_model.specs.OrientableSurfaces.{IsOrientableSurface}
 use Rattle.homotopy_arrays.specs.Decisions.{AreDecided, IsDecideFault}
 use Rattle.homotopy_arrays.specs.Pairs.{AreWalks, IsAnswer, walk_at}
 use Rattle.homotopy_arrays.specs.Surfaces.{EndsOn, IsMeasured, IsSurfaceFault, OfMesh}

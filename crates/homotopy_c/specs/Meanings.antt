@@ -6,9 +6,10 @@ use Rattle.surf_model.specs.Moves as moves
 use Rattle.labellings.specs.Denials.{DenialHolds}
 use Rattle.move_checker.specs.Verdicts.{LeadsWithin}
 use Rattle.commands.specs.Certificates.{Convinces, certificate_text}
-use Rattle.commands.specs.ClosedSurfaces.{IsOrientableSurface}
-use Rattle.commands.specs.Surface.{AreGeneraOf, AreNumbersOf}
-use Rattle.commands.specs.declared.surface.SurfaceNumbers as counted
+use Rattle.surf_model.specs.OrientableSurfaces.{IsOrientableSurface}
+use Rattle.closed_surfaces.specs.ComponentGenera.{AreGeneraOf}
+use Rattle.surf_model.specs.Genera.{AreNumbersOf}
+use Rattle.surf_model.specs.declared.numbers.SurfaceNumbers as counted
 use Rattle.commands.specs.declared.certificate.Certificate.{Certificate}
 use Rattle.commands.specs.declared.certificate.Certificate.TheVariants as shown
 use Rattle.homotopy_arrays.specs.Pairs.{AreWalks}

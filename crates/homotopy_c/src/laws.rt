@@ -3,7 +3,7 @@
 //! `Ok mesh` there says that the arrays are a mesh.
 ghost use Rattle.std.specs.Prelude.{◌≡◌, ◌≢◌, ◌⊎◌, ◌↔◌, ◌*◌, ◌+◌, ◌/◌, ◌<◌, ◌≤◌, ℕ, List, length, take, slice_index, IsTrue, Ok};
 ghost use Rattle.surf_model.specs.FaceLists.{FaceList, IsFaceList, HasFileSize};
-ghost use Rattle.commands.specs.ClosedSurfaces.{IsOrientableSurface};
+ghost use Rattle.surf_model.specs.OrientableSurfaces.{IsOrientableSurface};
 ghost use Rattle.commands.specs.Inputs.{SpellsCertificate};
 ghost use Rattle.commands.specs.declared.certificate.Certificate.{Certificate};
 ghost use Rattle.commands.specs.declared.inputs.TheConstants.{MOST_BYTES};

@@ -1,5 +1,5 @@
-//! Every limit, met and passed by one. The long texts are made here, of pieces that stand many times. The wanted texts are what
-//! docs/FORMATS.md says of them.
+//! Limits of files and of `certify`, met and passed. The long texts are made here, of pieces that stand many times. The wanted texts are
+//! what docs/FORMATS.md says of them.
 use crate::files::{Case, check, check_printed, shelf_of_files, status_of};
 use program::Status;
 use std::alloc::{AllocError, Global};

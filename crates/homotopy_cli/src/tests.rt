@@ -4,7 +4,7 @@ use crate::files::{Case, check, check_printed, shelf_of_files};
 use program::Status;
 use std::alloc::AllocError;
 
-const CASES: [Case; 24] = [
+const CASES: [Case; 32] = [
     (
         "surface torus",
         "V 7\nE 21\nF 14\nchi 0\ngenus 1\n",
@@ -58,6 +58,7 @@ const CASES: [Case; 24] = [
     ),
     ("trial 9 5", "refused: trial genus 9\n", Status::Refused),
     ("trial 1 4", "refused: trial grid 4\n", Status::Refused),
+    ("trial 1 201", "refused: trial grid 201\n", Status::Refused),
     ("verify absent", "refused: words\n", Status::Refused),
     // The files behind a refusal are absent.
     (
@@ -71,13 +72,48 @@ const CASES: [Case; 24] = [
         Status::Refused,
     ),
     (
+        "loops pinched absent",
+        "refused: vertex 0 pinched\n",
+        Status::Refused,
+    ),
+    (
+        "homology pinched absent",
+        "refused: vertex 0 pinched\n",
+        Status::Refused,
+    ),
+    (
+        "decide-open torus absent",
+        "refused: no boundary\n",
+        Status::Refused,
+    ),
+    (
+        "certify-open torus absent",
+        "refused: no boundary\n",
+        Status::Refused,
+    ),
+    (
         "verify sides absent absent",
+        "refused: off line 2 face\n",
+        Status::Refused,
+    ),
+    (
+        "verify-homology sides absent absent",
         "refused: off line 2 face\n",
         Status::Refused,
     ),
     (
         "verify torus moves absent",
         "refused: walks line 1 number\n",
+        Status::Refused,
+    ),
+    (
+        "verify-homology torus moves absent",
+        "refused: walks line 1 number\n",
+        Status::Refused,
+    ),
+    (
+        "verify-homology torus astray absent",
+        "refused: walks count 4\n",
         Status::Refused,
     ),
     ("reduce 4 absent", "refused: degree 4\n", Status::Refused),

@@ -6,13 +6,13 @@ use Rattle.surf_model.specs.Moves.{Homotopic}
 use Rattle.surf_model.specs.Walks.{HaveCommonEnds}
 use Rattle.surf_model.proofs.ContextLemmas.{first_answer}
 use Rattle.surf_model.proofs.WayBackLemmas.{keeps_ends}
-use Rattle.manifold_check.specs.ComponentParts.{PartsView, AreParts, component_at, component_mesh}
+use Rattle.surf_model.specs.ComponentParts.{PartsView, AreParts, component_at, component_mesh}
 use Rattle.manifold_check.proofs.PartPieces.{IsOfComponent, piece_of_parts, walk_alone, walk_whole, walk_same_place}
 use Rattle.manifold_check.proofs.PieceMoves.{homotopic_alike}
-use Rattle.commands.specs.ClosedSurfaces.{IsPart, IsComponentOf, surface_of}
-use Rattle.commands.specs.declared.component.Component.{Component}
-use Rattle.commands.specs.declared.component.Component.TheVariants.{Whole, Alone}
-use Rattle.commands.specs.declared.component.Part.{Part}
+use Rattle.closed_surfaces.specs.SignedSurfaces.{IsPart, IsComponentOf, surface_of}
+use Rattle.closed_surfaces.specs.declared.component.Component.{Component}
+use Rattle.closed_surfaces.specs.declared.component.Component.TheVariants.{Whole, Alone}
+use Rattle.closed_surfaces.specs.declared.component.Part.{Part}
 use Rattle.closed_walks.specs.FreeHomotopy.{IsClosedWalk, FreeStep, Moved, Rotated, after_free, after_all_free, FreelyLeads, FreelyHomotopic}
 use Rattle.closed_walks.proofs.FreeStepLemmas.{on, step_keeps}
 use Rattle.closed_walks.proofs.MovedSteps.{freely}

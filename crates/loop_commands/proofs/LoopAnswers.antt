@@ -8,14 +8,14 @@ use Rattle.closed_walks.specs.FreeHomotopy.{IsClosedWalk, FreelyHomotopic}
 use Rattle.walk_files.specs.ClosedPairs.{IsClosedPair}
 use Rattle.free_loops.specs.declared.deciding.FreeAnswer.{FreeAnswer}
 use Rattle.free_loops.specs.declared.deciding.FreeAnswer.TheVariants.{Freely, NotFreely}
-use Rattle.commands.proofs.Rows.{sound-surface_in}
+use Rattle.surface_commands.proofs.SurfaceRows.{sound-surface_in}
 use Rattle.commands.proofs.RightAnswers.{IsRightLine, right_line}
 use Rattle.commands.proofs.Sound.{IsSound, IsYesOrNo, sound-decided_by, sound-then}
 use Rattle.commands.specs.Answers.{Answer}
 use Rattle.commands.specs.Checks.{Check, Passes}
 use Rattle.commands.specs.Inputs.{walk_at}
 use Rattle.commands.specs.Outcomes.{Outcome, IsAnswerOf}
-use Rattle.commands.specs.SurfaceInput.{surface_in}
+use Rattle.surface_commands.specs.SurfaceInput.{surface_in}
 use Rattle.commands.specs.declared.status.Status.{Status}
 use Rattle.loop_commands.specs.Loops.{free_status, free_line, free_answer, freely_decided, loops_in, loops}
 use Rattle.loop_commands.proofs.LoopChecks.{sound-loops_in}

@@ -5,7 +5,7 @@ use Rattle.surf_io.specs.Files.{Files}
 use Rattle.surf_model.specs.FaceLists.{FaceList}
 use Rattle.loop_commands.proofs.LoopAnswers.{IsRightAnswer, right_answer, after_pair}
 use Rattle.loop_commands.proofs.LoopChecks.{sound-loops_in, loops_in_told, spelled_loops}
-use Rattle.commands.proofs.Rows.{outcome_behind}
+use Rattle.surface_commands.proofs.SurfaceRows.{outcome_behind}
 use Rattle.loop_commands.specs.Loops.{loops, loops_in, IsLoopsAnswered, IsLoopsInput, SpellsLoops}
 use Rattle.commands.specs.Outcomes.{AnswersTo}
 use Rattle.commands.specs.declared.status.Status.{Status}

@@ -14,7 +14,7 @@ use Rattle.commands.specs.Checks.{Check, decided_by, ◌>>=◌}
 use Rattle.commands.specs.Inputs.{IsInputOnSurface, walk_at, walks_unless}
 use Rattle.commands.specs.Lines.{line}
 use Rattle.commands.specs.Refusals.{told, told_at_place}
-use Rattle.commands.specs.SurfaceInput.{surface_in}
+use Rattle.surface_commands.specs.SurfaceInput.{surface_in}
 use Rattle.commands.specs.declared.status.Status.{Status}
 use Rattle.commands.specs.declared.status.Status.TheVariants.{Yes, No}
 

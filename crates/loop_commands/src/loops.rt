@@ -2,18 +2,19 @@
 ghost use Rattle.std.specs.Prelude.{◌≡◌, ◌↔◌, ◌<◌, ℕ, slice_index, IsTrue, IfOk};
 ghost use Rattle.surf_model.specs.FaceLists.{FaceList, IsFaceList};
 ghost use Rattle.closed_walks.specs.FreeHomotopy.{IsClosedWalk, FreelyHomotopic};
-ghost use Rattle.commands.specs.ClosedSurfaces.{IsSigned, IsComponentOf};
+ghost use Rattle.closed_surfaces.specs.SignedSurfaces.{IsSigned, IsComponentOf};
 ghost use Rattle.commands.specs.Replies.{IsReplyTo, Runs};
 ghost use Rattle.loop_commands.specs.Loops as of_loops;
 ghost use Rattle.loop_commands.specs.Loops.{free_answer, free_line, free_phrase};
 
 use crate::input::read_loops;
-use commands::component::Component;
-use commands::{Line, Phrase, Reply, SignedMesh, Stop, Text, read_surface};
+use closed_surfaces::{Component, SignedMesh};
+use commands::{Line, Phrase, Reply, Stop, Text};
 use free_loops::{FreeAnswer, decide_free};
 use std::alloc::{AllocError, Global};
 use surf_io::Shelf;
 use surf_model::{VertexName, Walk};
+use surface_commands::read_surface;
 
 /// Whether the two closed walks in the file `walks` are freely homotopic on the surface in the file `mesh`. The walks are read
 /// only where the surface is in order.

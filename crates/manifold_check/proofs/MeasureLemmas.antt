@@ -20,8 +20,8 @@ use Rattle.surf_model.proofs.TableEdgeLemmas.{IsEdgeBetween, edge_between, table
 use Rattle.surf_model.proofs.TableLemmas.{Contains-filter}
 use Rattle.surf_model.proofs.TallyLemmas.{counted_more, group_of-other}
 use Rattle.manifold_check.specs.ComponentNumbers.{used_number}
-use Rattle.manifold_check.specs.ComponentParts.{PartsView, AreParts, component_at, component_mesh}
-use Rattle.manifold_check.specs.Submeshes.{submesh}
+use Rattle.surf_model.specs.ComponentParts.{PartsView, AreParts, component_at, component_mesh}
+use Rattle.surf_model.specs.Submeshes.{submesh}
 use Rattle.manifold_check.proofs.PieceLemmas.{IsPiece, edge_of_side, edge_up, used_up, used_down}
 use Rattle.manifold_check.proofs.PieceSides.{sides_alike}
 use Rattle.manifold_check.proofs.PartPieces.{IsOfComponent, piece_of_parts}

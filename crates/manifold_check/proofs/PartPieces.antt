@@ -9,9 +9,9 @@ use Rattle.surf_model.specs.Components.{ArePlacesOfComponents, HasLeastVertex, E
 use Rattle.surf_model.specs.Surfaces.{AreJoinedByWalk, IsWalkBetween, IsClosedManifold, IsClosed}
 use Rattle.surf_model.specs.Walks.{IsWalk}
 use Rattle.surf_model.proofs.EdgeLemmas.{step_edge, corner_used, tail_used, head_used}
-use Rattle.manifold_check.specs.ComponentParts.{PartsView, AreParts, component_at, component_mesh}
+use Rattle.surf_model.specs.ComponentParts.{PartsView, AreParts, component_at, component_mesh}
 use Rattle.connectivity.specs.Partitions.{IsEdgeStep}
-use Rattle.manifold_check.specs.Submeshes.{submesh}
+use Rattle.surf_model.specs.Submeshes.{submesh}
 use Rattle.connectivity.proofs.Joining.{joined_step}
 use Rattle.connectivity.proofs.WalkLemmas.{walk_from_joined}
 use Rattle.connectivity.proofs.CornerLemmas.{used_corner}

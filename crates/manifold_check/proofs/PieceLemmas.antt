@@ -13,7 +13,7 @@ use Rattle.surf_model.specs.Darts.{IsSide, side_after, tail_of, head_of}
 use Rattle.surf_model.specs.declared.edges.Side.{Side}
 use Rattle.surf_model.proofs.EdgeLemmas.{edge_swap, step_edge}
 use Rattle.surf_model.proofs.TableLemmas.{Contains-filter}
-use Rattle.manifold_check.specs.Submeshes.{submesh}
+use Rattle.surf_model.specs.Submeshes.{submesh}
 use Rattle.connectivity.proofs.CornerLemmas.{after_in_mesh, corner_used, used_corner}
 use Rattle.connectivity.proofs.EdgeLemmas.{HasSideBetween, side_between}
 

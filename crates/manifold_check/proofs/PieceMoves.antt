@@ -12,7 +12,7 @@ use Rattle.surf_model.proofs.ContextLemmas.{first_answer, stays_walk}
 use Rattle.surf_model.proofs.RoundLemmas.{first_corner}
 use Rattle.surf_model.proofs.WayBackLemmas.{keeps_walk, keeps_ends}
 use Rattle.std.proofs.lemmas.List.{get_or-append-add}
-use Rattle.manifold_check.specs.Submeshes.{submesh, renamed_move, renamed_moves}
+use Rattle.surf_model.specs.Submeshes.{submesh, renamed_move, renamed_moves}
 use Rattle.manifold_check.proofs.PieceLemmas.{IsPiece, HasPlaceAmong, length-submesh, face-submesh, edge_up, edge_down, walk_inside}
 
 place_renamed : (names : List ℕ) (move : Move) → place_of (renamed_move names move) ≡ place_of move

@@ -14,7 +14,7 @@ use Rattle.surf_model.specs.Surfaces.{sides_between}
 use Rattle.surf_model.proofs.FilterLemmas.{filter-map, filter_none}
 use Rattle.surf_model.proofs.NumberLemmas.{face_side}
 use Rattle.surf_model.proofs.TableLemmas.{next_within}
-use Rattle.manifold_check.specs.Submeshes.{submesh}
+use Rattle.surf_model.specs.Submeshes.{submesh}
 use Rattle.manifold_check.proofs.PieceLemmas.{IsPiece, length-submesh}
 
 -- how many sides of a ring join the two vertices

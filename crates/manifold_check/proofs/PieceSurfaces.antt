@@ -6,7 +6,7 @@ use Rattle.surf_model.specs.Darts.{IsSide, side_after, tail_of, head_of}
 use Rattle.surf_model.specs.Surfaces.{IsPath, AreJoined, EachEdgeHasTwoSides, ArePartners, IsCornerOfSide, IsStepAround, HasOneRing, IsClosedManifold, IsCoherent, RunOppositely, is_flipped, start_under, end_under}
 use Rattle.surf_model.specs.declared.edges.Side.{Side}
 use Rattle.surf_model.proofs.EdgeLemmas.{tail_used}
-use Rattle.manifold_check.specs.Submeshes.{submesh, signs_among}
+use Rattle.surf_model.specs.Submeshes.{submesh, signs_among}
 use Rattle.connectivity.proofs.CornerLemmas.{corner_end, corner_in_mesh}
 use Rattle.manifold_check.proofs.PieceLemmas.{IsPiece, IsRenamed, ComesFrom, renamed_side, named_once, renamed, comes_from_end, edge_up, used_up, length-submesh}
 use Rattle.manifold_check.proofs.PieceSides.{sides_alike}

@@ -1,6 +1,5 @@
 pub mod UnevenEdges
 pub mod Faults
-pub mod Submeshes
-pub mod ComponentParts
+pub mod StoredParts
 pub mod ComponentNumbers
 pub mod Examples

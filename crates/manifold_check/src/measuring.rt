@@ -1,7 +1,7 @@
 //! How many vertices, edges and faces each component has.
 ghost use Rattle.std.specs.Prelude.{◌≡◌, ◌<◌, ℕ, List, length, slice_index, slice_index_or, IfOk};
 ghost use Rattle.surf_model.specs.Edges.{Edge, IsTableOf};
-ghost use Rattle.manifold_check.specs.ComponentParts.{AreParts, component_mesh};
+ghost use Rattle.surf_model.specs.ComponentParts.{AreParts, component_mesh};
 ghost use Rattle.manifold_check.specs.ComponentNumbers.{AreNumbersOf, used_number};
 ghost use Rattle.manifold_check.specs.declared.measuring.PartNumbers.{PartNumbers};
 

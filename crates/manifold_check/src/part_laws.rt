@@ -7,8 +7,8 @@ ghost use Rattle.surf_model.specs.Moves.{Leads, Homotopic, greatest_darts};
 ghost use Rattle.surf_model.specs.Surfaces.{IsClosed, IsClosedManifold, IsCoherent};
 ghost use Rattle.surf_model.specs.Components.{EachTwoAreJoined, place_of_face};
 ghost use Rattle.surf_model.specs.declared.moves.Move.{Move};
-ghost use Rattle.manifold_check.specs.Submeshes.{signs_among, renamed_moves};
-ghost use Rattle.manifold_check.specs.ComponentParts.{PartsView, AreParts, component_at, component_mesh};
+ghost use Rattle.surf_model.specs.Submeshes.{signs_among, renamed_moves};
+ghost use Rattle.surf_model.specs.ComponentParts.{PartsView, AreParts, component_at, component_mesh};
 
 /// A walk stays in the component of its first vertex, and a face in that of its first corner.
 pub fn walks_and_faces_stay_in_a_component()

@@ -5,7 +5,8 @@ ghost use Rattle.surf_model.specs.FaceLists.{FaceList, face_at, corners_from, is
 ghost use Rattle.surf_model.specs.Edges.{IsTableOf};
 ghost use Rattle.surf_model.specs.Moves.{replaced, same_walk};
 
-use chain_pool::{CellName, Pool};
+use chain_pool::CellName;
+use segmented_pool::Pool;
 use surf_model::faces::corner_after;
 use surf_model::{FaceName, Faces, Sides, VertexName};
 

@@ -11,11 +11,15 @@ ghost use Rattle.surf_model.specs.declared.limits.TheConstants.{MOST_PEAK};
 
 use crate::edits::{Spot, Way, form_edge, is_on_face, read, replace_sides};
 use crate::fault::MoveFault;
-use crate::sides::{are_before, are_behind};
-use chain_pool::{CellName, Pool};
+use crate::sides::are_sides;
+use chain_pool::CellName;
+use segmented_pool::{CHAIN, Pool};
 use std::alloc::{AllocError, Global};
 use std::marker::Model;
 use surf_model::{Faces, Move, Sides, VertexName, Walk};
+
+/// The number of entries that a segment of the walk does not pass: a far place costs as much as it and the number of segments.
+const SEGMENT: u32 = 1_024;
 
 /// Why a tape cannot start.
 #[derive(Clone, Copy, Debug, PartialEq, Eq)]
@@ -60,12 +64,11 @@ impl Tape {
         if peak < darts {
             return Err(TapeFault::OverPeak);
         }
-        let mut pool = Pool::new(alloc);
-        // The chain costs a cell, and its walk one more than it has darts.
-        if pool.reserve(peak + 2).is_err() {
+        let chain = CHAIN;
+        // A walk has one entry more than it has darts.
+        let Ok(mut pool) = Pool::start(alloc, peak + 1, SEGMENT) else {
             return Err(TapeFault::OutOfMemory);
-        }
-        let chain = pool.start_chain();
+        };
         for place in 0..=darts {
             pool.push_after(chain, place, walk.at(place).0);
         }
@@ -73,7 +76,7 @@ impl Tape {
     }
 
     /// Does a move on the walk. The peak stays, and a refused move leaves the tape as it was. No
-    /// memory is taken. It costs the way from the place of the last move, and the entries that go in or out.
+    /// memory is taken. It costs the way from the last place near by, and the entries that go in or out.
     pub fn step(&mut self, faces: &Faces, sides: &Sides, mv: Move) -> Result<(), MoveFault>
         requires { IsTableOf faces.now sides.now }
         ensures step { MatchResult result
@@ -121,12 +124,19 @@ impl Tape {
     pub fn equals(&self, walk: &Walk) -> bool
         ensures { IsTrue result ↔ (self.now.walk ≡ walk.now) }
     {
-        if self.darts() != walk.darts() {
+        let darts = walk.darts();
+        if self.darts() != darts {
             return false;
         }
-        let halves = self.pool.halves(self.chain);
-        let place = halves.before.len();
-        are_before(halves.before, walk, place) && are_behind(halves.behind, walk, place)
+        let mut place = 0;
+        while place <= darts {
+            let (start, halves) = self.pool.around(self.chain, place);
+            place = start + (halves.before.len() + halves.behind.len());
+            if !are_sides(halves, walk, start) {
+                return false;
+            }
+        }
+        true
     }
 
     /// The pool of cells that keeps the walk.

@@ -1,5 +1,5 @@
 -- Lists of moves that lead from a walk to a walk, with their peaks.
-pub use Rattle.common_ends.specs.PeakedLists.{LeadsAtPeak}
+pub use Rattle.surf_model.specs.PeakedLists.{LeadsAtPeak}
 use Rattle.std.specs.Prelude.{◌≡◌, ℕ, ◌+◌, ◌*◌, ◌≤◌, List, ◌++◌, length, All}
 use Rattle.surf_model.specs.Moves.{PeakedMoves}
 use Rattle.surf_model.specs.declared.moves.Move.{Move}

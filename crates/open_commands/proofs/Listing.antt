@@ -7,8 +7,8 @@ use Rattle.surf_model.specs.FaceLists.{FaceList}
 use Rattle.surf_model.specs.Moves.{PeakedMoves, Homotopic}
 use Rattle.free_forms.specs.PeakedLists.{IsWithin, LeadsAtPeak}
 use Rattle.free_forms.specs.declared.limits.TheConstants.{MOST_OPEN_STEPS}
-use Rattle.walk_translate.specs.declared.deciding.Answer as deciding
-use Rattle.walk_translate.specs.declared.deciding.Answer.TheVariants as answers
+use Rattle.surf_model.specs.declared.decisions.Answer as deciding
+use Rattle.surf_model.specs.declared.decisions.Answer.TheVariants as answers
 use Rattle.commands.proofs.Deciding.{differs, yes_or_no}
 use Rattle.commands.proofs.RightAnswers.{no_yes}
 use Rattle.commands.proofs.Sound.{IsSound, sound-decided_by}

@@ -17,17 +17,15 @@ use Rattle.std.proofs.lemmas.Option.{get_or_from_slice_get}
 use Rattle.commands.proofs.Deciding.{walks_of_pair}
 use Rattle.open_commands.specs.declared.open_pair.OpenPair.{OpenPair}
 use Rattle.commands.proofs.Checking.{stops_next, stops_second, told_stops, memory_stops}
-use Rattle.commands.proofs.MeshTexts.{mesh_valid}
+use Rattle.commands.proofs.MeshTexts.{mesh_valid, sound-orientable}
 use Rattle.commands.proofs.Rows.{sound-mesh, sound-pair, mesh_passes, pair_told}
 use Rattle.commands.proofs.Sound.{IsSound, sound-then, sound-pass_unless, meant_told, unless_told}
-use Rattle.commands.proofs.Surfaces.{sound-orientable}
 use Rattle.off_reader.specs.OffTexts.{meaning_of}
 use Rattle.commands.specs.Answers.{Exactly}
 use Rattle.commands.specs.Checks.{Check, End, Refuse, Pass, Passes, Holds, IsTold, pass_unless, ◌>>=◌}
-use Rattle.commands.specs.Inputs.{mesh_in, pair_in, walk_at, SpellsMesh}
+use Rattle.commands.specs.Inputs.{mesh_in, pair_in, walk_at, SpellsMesh, orientable}
 use Rattle.commands.specs.Refusals.{told, off_line}
 use Rattle.commands.specs.Stops.{Stops, Tells}
-use Rattle.commands.specs.SurfaceInput.{orientable}
 use Rattle.commands.specs.declared.stop.Stop.{Stop}
 use Rattle.open_commands.specs.OpenInput.{open_line, open_surface, as_open_surface, open_surface_in}
 use Rattle.open_commands.specs.OpenPairs.{IsOpenPair, Question, question, limit_fault, open_pair_in}

@@ -21,10 +21,10 @@ use Rattle.common_ends.proofs.PeakLemmas.{greatest_darts-more}
 use Rattle.free_forms.specs.declared.limits.TheConstants.{MOST_OPEN_SIDES, MOST_OPEN_STEPS}
 use Rattle.walk_files.specs.declared.limits.TheConstants.{MOST_PEAK}
 use Rattle.walk_files.specs.MoveTexts.{direction_word, move_words, head_words, list_text}
-use Rattle.walk_translate.specs.declared.deciding.Answer.TheVariants.{Homotopic}
+use Rattle.surf_model.specs.declared.decisions.Answer.TheVariants.{Homotopic}
 use Rattle.commands.specs.Certificates.{certificate_text, decision_line}
 use Rattle.commands.specs.declared.certificate.Certificate.TheVariants.{Moves}
-use Rattle.commands.specs.declared.certify.TheConstants.{MOST_SPHERE_MOVES}
+use Rattle.commands.specs.declared.certificate.TheConstants.{MOST_SPHERE_MOVES}
 use Rattle.commands.specs.declared.inputs.TheConstants.{MOST_BYTES}
 use Rattle.open_commands.specs.declared.certify_open.TheConstants.{MOST_OPEN_BYTES}
 use Rattle.surf_model.specs.declared.limits.TheConstants.{MOST_VERTICES}

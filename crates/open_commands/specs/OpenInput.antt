@@ -9,9 +9,8 @@ use Rattle.free_forms.specs.declared.fault.OpenFault.{OpenFault}
 use Rattle.free_forms.specs.declared.fault.OpenFault.TheVariants as faults
 use Rattle.commands.specs.Answers.{Texts, NoText}
 use Rattle.commands.specs.Checks.{Check, End, Refuse, Pass, without_files, ◌>>=◌}
-use Rattle.commands.specs.Inputs.{mesh_in}
+use Rattle.commands.specs.Inputs.{mesh_in, orientable}
 use Rattle.commands.specs.Refusals.{told}
-use Rattle.commands.specs.SurfaceInput.{orientable}
 
 -- the first condition of an open surface that fails, with its least element
 abbrev pub open_line : OpenFault → Texts

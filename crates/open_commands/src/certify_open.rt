@@ -2,7 +2,7 @@
 ghost use Rattle.std.specs.Prelude.{◌≤◌, ℕ, List, IfOk, IfSome, IfNone};
 ghost use Rattle.surf_model.specs.FaceLists.{FaceList, IsFaceList, HasFileSize, total_sides};
 ghost use Rattle.surf_model.specs.Walks.{IsWalk};
-ghost use Rattle.walk_translate.specs.declared.deciding.Answer.TheVariants.{Homotopic, Different};
+ghost use Rattle.surf_model.specs.declared.decisions.Answer.TheVariants.{Homotopic, Different};
 ghost use Rattle.free_forms.specs.PeakedLists.{LeadsAtPeak, IsWithin};
 ghost use Rattle.free_forms.specs.declared.limits.TheConstants.{MOST_OPEN_SIDES, MOST_OPEN_STEPS};
 ghost use Rattle.commands.specs.Replies.{IsReplyTo, Runs};

@@ -1,6 +1,6 @@
 //! The command `decide-open`: whether two walks of a surface with boundary are homotopic.
 ghost use Rattle.std.specs.Prelude.{if◌then◌else◌};
-ghost use Rattle.walk_translate.specs.declared.deciding.Answer.TheVariants.{Homotopic, Different};
+ghost use Rattle.surf_model.specs.declared.decisions.Answer.TheVariants.{Homotopic, Different};
 ghost use Rattle.commands.specs.Decisions.{decision_answer};
 ghost use Rattle.commands.specs.Replies.{IsReplyTo, Runs};
 ghost use Rattle.open_commands.specs.DecideOpen as of_decide_open;

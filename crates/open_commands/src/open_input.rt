@@ -3,7 +3,7 @@ ghost use Rattle.std.specs.Prelude.{◌≡◌, MatchResult, IfOk, Err};
 ghost use Rattle.surf_model.specs.Edges.{IsTableOf};
 ghost use Rattle.commands.specs.Checks.{Passes};
 ghost use Rattle.commands.specs.Stops.{Reads, Stops};
-ghost use Rattle.commands.specs.SurfaceInput.{orientable};
+ghost use Rattle.commands.specs.Inputs.{orientable};
 ghost use Rattle.commands.specs.declared.stop.Stop.{Stop};
 ghost use Rattle.free_forms.specs.OpenSurfaces.{IsOpenSurface};
 ghost use Rattle.open_commands.specs.OpenInput.{as_open_surface, open_surface, open_surface_in};

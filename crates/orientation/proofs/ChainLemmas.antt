@@ -7,7 +7,7 @@ use Rattle.surf_model.specs.Edges.{side_name}
 use Rattle.surf_model.specs.Darts.{tail_of}
 use Rattle.surf_model.specs.Surfaces.{ArePartners, IsCoherent, is_flipped}
 use Rattle.surf_model.specs.declared.chains.ChainLink.{ChainLink}
-use Rattle.orientation.specs.Chains.{LeadsTo, LeadOnTo, IsOddChain, first_face, run_alike, is_turned}
+use Rattle.surf_model.specs.OddChains.{LeadsTo, LeadOnTo, IsOddChain, first_face, run_alike, is_turned}
 use Rattle.orientation.specs.Trees.{differ, runs_alike}
 use Rattle.surf_model.proofs.ListedLemmas.{Joins, joining, partners_listed}
 use Rattle.orientation.proofs.Fitting.{fit_if_opposite, eqb_swap, one_test}

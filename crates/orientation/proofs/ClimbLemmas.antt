@@ -8,7 +8,7 @@ use Rattle.surf_model.specs.FaceLists.{FaceList}
 use Rattle.surf_model.specs.Surfaces.{is_flipped}
 use Rattle.surf_model.specs.declared.edges.Side.{Side}
 use Rattle.surf_model.specs.declared.chains.ChainLink.{ChainLink}
-use Rattle.orientation.specs.Chains.{LeadsTo, LeadOnTo, IsOddChain, first_face, is_turned}
+use Rattle.surf_model.specs.OddChains.{LeadsTo, LeadOnTo, IsOddChain, first_face, is_turned}
 use Rattle.orientation.specs.Classes.{EachEdgeHasAtMostTwoSides, IsFaceStep, AreOfOneClass}
 use Rattle.orientation.specs.Trees.{Growth, IsAlong, AreTrees, IsFoundFrom, differ, is_seen, place_of}
 use Rattle.orientation.specs.Searches.{IsTear}

@@ -8,7 +8,7 @@ use Rattle.surf_model.specs.Darts.{tail_of, head_of}
 use Rattle.surf_model.specs.Surfaces.{IsPath, ArePartners, IsCoherent, is_flipped}
 use Rattle.surf_model.specs.declared.edges.Side.{Side}
 use Rattle.surf_model.specs.declared.chains.ChainLink.{ChainLink}
-use Rattle.orientation.specs.Chains.{LeadOnTo, IsOddChain, first_face, is_turned}
+use Rattle.surf_model.specs.OddChains.{LeadOnTo, IsOddChain, first_face, is_turned}
 use Rattle.orientation.specs.Classes.{EachEdgeHasAtMostTwoSides, IsFaceStep, AreOfOneClass, IsLeastOfClass, IsLeastKept}
 use Rattle.orientation.specs.Trees.{IsAlong, differ, runs_alike, Fit}
 use Rattle.orientation.proofs.Partners.{partners_swap}

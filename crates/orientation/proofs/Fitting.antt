@@ -7,7 +7,7 @@ use Rattle.surf_model.specs.Darts.{IsSide, tail_of, head_of}
 use Rattle.surf_model.specs.Surfaces.{ArePartners, RunOppositely, is_flipped}
 use Rattle.surf_model.specs.declared.edges.Side.{Side}
 use Rattle.surf_model.specs.declared.chains.ChainLink.{ChainLink}
-use Rattle.orientation.specs.Chains.{LeadsTo, run_alike, is_turned}
+use Rattle.surf_model.specs.OddChains.{LeadsTo, run_alike, is_turned}
 use Rattle.orientation.specs.Classes.{EachEdgeHasAtMostTwoSides}
 use Rattle.orientation.specs.Trees.{IsAlong, differ, runs_alike, Fit}
 use Rattle.orientation.proofs.Partners.{entry_of, are_all}

@@ -4,7 +4,7 @@ use Rattle.std.proofs.Common.{inl, inr, lit<}
 use Rattle.surf_model.specs.FaceLists.{FaceList, all_sides}
 use Rattle.surf_model.specs.Meshes.{projective_plane, moebius_band}
 use Rattle.surf_model.specs.declared.chains.ChainLink.{ChainLink}
-use Rattle.orientation.specs.Chains.{LeadsTo, IsOddChain, is_turned}
+use Rattle.surf_model.specs.OddChains.{LeadsTo, IsOddChain, is_turned}
 
 abbrev link : ℕ → ℕ → ℕ → ChainLink
 link face low high = record { face = record { 0 = face }; low = record { 0 = low }; high = record { 0 = high } }

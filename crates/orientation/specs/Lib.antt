@@ -1,4 +1,3 @@
-pub mod Chains
 pub mod Classes
 pub mod Trees
 pub mod Searches

@@ -1,7 +1,7 @@
 //! The odd chain round a tear.
 ghost use Rattle.std.specs.Prelude.{◌≡◌, ◌+◌, ◌<◌, ◌^◌, ◌++◌, length, reverse, OnOk, IfOk};
 ghost use Rattle.surf_model.specs.Edges.{IsTableOf};
-ghost use Rattle.orientation.specs.Chains.{IsOddChain};
+ghost use Rattle.surf_model.specs.OddChains.{IsOddChain};
 ghost use Rattle.orientation.specs.Classes.{EachEdgeHasAtMostTwoSides};
 ghost use Rattle.orientation.specs.Trees.{AreTrees};
 ghost use Rattle.orientation.specs.Searches.{IsTear};

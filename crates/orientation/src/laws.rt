@@ -4,7 +4,7 @@ ghost use Rattle.std.specs.Prelude.{◌≡◌, ◌<◌, ◌↔◌, ℕ, Bool, Li
 ghost use Rattle.surf_model.specs.FaceLists.{FaceList, IsFaceList, face_at};
 ghost use Rattle.surf_model.specs.Surfaces.{AreJoinedByWalk, IsClosedManifold, IsCoherent, IsOrientable};
 ghost use Rattle.surf_model.specs.declared.chains.ChainLink.{ChainLink};
-ghost use Rattle.orientation.specs.Chains.{IsOddChain};
+ghost use Rattle.surf_model.specs.OddChains.{IsOddChain};
 ghost use Rattle.orientation.specs.Classes.{AreOfOneClass, EachEdgeHasAtMostTwoSides, IsLeastKept};
 
 /// A mesh with an odd chain has no coherent signs.

@@ -3,7 +3,7 @@ ghost use Rattle.std.specs.Prelude.{◌≡◌, List, Err, IfOk};
 ghost use Rattle.surf_model.specs.Edges.{IsTableOf};
 ghost use Rattle.surf_model.specs.Surfaces.{IsCoherent, IsOrientable};
 ghost use Rattle.surf_model.specs.declared.chains.ChainLink.{ChainLink};
-ghost use Rattle.orientation.specs.Chains.{IsOddChain};
+ghost use Rattle.surf_model.specs.OddChains.{IsOddChain};
 ghost use Rattle.orientation.specs.Classes.{EachEdgeHasAtMostTwoSides, IsLeastKept};
 
 use crate::climb::chain_round;

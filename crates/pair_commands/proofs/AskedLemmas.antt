@@ -7,7 +7,7 @@ use Rattle.surf_model.specs.FaceLists.{FaceList}
 use Rattle.surf_model.specs.Walks.{AreWalkPair}
 use Rattle.walk_files.specs.PairLists.{WalkPair, ArePairs, in_pairs}
 use Rattle.walk_files.specs.WalkLists.{WalkText}
-use Rattle.walk_translate.specs.declared.deciding.Answer as deciding
+use Rattle.surf_model.specs.declared.decisions.Answer as deciding
 use Rattle.component_deciding.specs.AskedPairs.{AreAnswers, IsPairOn}
 use Rattle.component_deciding.specs.declared.asked.AskedPair.{AskedPair}
 use Rattle.pair_commands.specs.Asked.{walk_pairs}

@@ -5,15 +5,15 @@ use Rattle.surf_io.specs.Files.{Files}
 use Rattle.surf_model.specs.FaceLists.{FaceList}
 use Rattle.walk_files.specs.PairLists.{WalkPair, in_pairs}
 use Rattle.walk_files.specs.WalkLists.{WalkText}
-use Rattle.walk_translate.specs.declared.deciding.Answer as deciding
+use Rattle.surf_model.specs.declared.decisions.Answer as deciding
 use Rattle.commands.proofs.Checking.{stops_second}
-use Rattle.commands.proofs.Rows.{outcome_behind, sound-surface_in}
+use Rattle.surface_commands.proofs.SurfaceRows.{outcome_behind, sound-surface_in}
 use Rattle.commands.proofs.Sound.{IsSound, sound-then}
 use Rattle.commands.specs.Answers.{Answer}
 use Rattle.commands.specs.Checks.{Check, Refuse, Pass, Passes}
 use Rattle.commands.specs.Outcomes.{Outcome, AnswersTo, IsAnswerOf}
 use Rattle.commands.specs.Stops.{Stops}
-use Rattle.commands.specs.SurfaceInput.{surface_in}
+use Rattle.surface_commands.specs.SurfaceInput.{surface_in}
 use Rattle.commands.specs.declared.status.Status.{Status}
 use Rattle.commands.specs.declared.status.Status.TheVariants.{Yes}
 use Rattle.commands.specs.declared.stop.Stop.{Stop}

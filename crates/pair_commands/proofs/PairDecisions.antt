@@ -12,8 +12,8 @@ use Rattle.surf_model.specs.Walks.{IsWalk, HaveCommonEnds, AreWalkPair}
 use Rattle.walk_files.specs.PairLists.{WalkPair, ArePairs, are_paired, in_pairs}
 use Rattle.walk_files.specs.WalkLists.{WalkText}
 use Rattle.walk_translate.proofs.SpokedLemmas.{before_or_last}
-use Rattle.walk_translate.specs.declared.deciding.Answer as deciding
-use Rattle.walk_translate.specs.declared.deciding.Answer.TheVariants.{Homotopic, Different}
+use Rattle.surf_model.specs.declared.decisions.Answer as deciding
+use Rattle.surf_model.specs.declared.decisions.Answer.TheVariants.{Homotopic, Different}
 use Rattle.commands.proofs.Deciding.{differs, one_decision}
 use Rattle.commands.proofs.Sound.{IsSound}
 use Rattle.commands.specs.Answers.{Answer}

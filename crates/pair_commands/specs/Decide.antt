@@ -6,13 +6,13 @@ use Rattle.surf_model.specs.FaceLists.{FaceList}
 use Rattle.surf_model.specs.Moves as moves
 use Rattle.walk_files.specs.PairLists.{WalkPair, ArePairs, in_pairs}
 use Rattle.walk_files.specs.WalkLists.{WalkText}
-use Rattle.walk_translate.specs.declared.deciding.Answer as deciding
-use Rattle.walk_translate.specs.declared.deciding.Answer.TheVariants.{Homotopic}
+use Rattle.surf_model.specs.declared.decisions.Answer as deciding
+use Rattle.surf_model.specs.declared.decisions.Answer.TheVariants.{Homotopic}
 use Rattle.commands.specs.Answers.{Answer, Exactly}
 use Rattle.commands.specs.Certificates.{decision_lines, decisions_status}
 use Rattle.commands.specs.Checks.{Check, End, Refuse, Pass, without_files, ◌>>=◌}
 use Rattle.commands.specs.Inputs.{IsInputOnSurface}
-use Rattle.commands.specs.SurfaceInput.{surface_in}
+use Rattle.surface_commands.specs.SurfaceInput.{surface_in}
 use Rattle.commands.specs.declared.status.Status.{Status}
 use Rattle.commands.specs.declared.status.Status.TheVariants.{Yes}
 use Rattle.pair_commands.specs.PairInput.{SpellsPairs, pairs_in}

@@ -5,9 +5,10 @@ ghost use Rattle.pair_commands.specs.Decide as of_decide;
 ghost use Rattle.pair_commands.specs.Decide.{decisions_answer};
 
 use crate::deciding::decide_walks;
-use commands::{Reply, Stop, Text, read_list, read_surface};
+use commands::{Reply, Stop, Text, read_list};
 use std::alloc::Global;
 use surf_io::Shelf;
+use surface_commands::read_surface;
 use walk_translate::Answer;
 
 /// For each pair of walks in the file `walks` whether they are homotopic on the surface in the file `mesh`. The walks are read only

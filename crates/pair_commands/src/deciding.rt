@@ -1,16 +1,16 @@
 //! Deciding on many pairs of walks of a surface, of one component or of several.
 ghost use Rattle.std.specs.Prelude.{◌≡◌, length, Err, IfOk, MatchOption, MatchResult};
-ghost use Rattle.manifold_check.specs.ComponentParts.{AreParts};
+ghost use Rattle.surf_model.specs.ComponentParts.{AreParts};
 ghost use Rattle.walk_files.specs.PairLists.{ArePairs, are_paired, in_pairs};
-ghost use Rattle.commands.specs.ClosedSurfaces.{IsSigned};
+ghost use Rattle.closed_surfaces.specs.SignedSurfaces.{IsSigned};
 ghost use Rattle.commands.specs.Stops.{Stops};
 ghost use Rattle.pair_commands.specs.Asked.{walk_pairs};
 ghost use Rattle.pair_commands.specs.Decide.{AreDecisions, ArePairsDecided};
 ghost use Rattle.pair_commands.specs.PairInput.{come_in_pairs};
 
 use crate::pair_input::check_list;
-use commands::component::connected;
-use commands::{SignedMesh, Stop};
+use closed_surfaces::{SignedMesh, connected};
+use commands::Stop;
 use component_deciding::{AskedPair, SignedParts, decide_by_components};
 use halfedge_map::Surface;
 use manifold_check::Parts;

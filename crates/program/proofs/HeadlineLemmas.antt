@@ -5,7 +5,7 @@ use Rattle.surf_io.specs.Files.{Files}
 use Rattle.surf_model.specs.FaceLists.{FaceList}
 use Rattle.surf_model.specs.Moves as moves
 use Rattle.commands.specs.Certificates.{Convinces, decision_of, decision_status, certificate_text}
-use Rattle.commands.specs.Certify.{IsCertified}
+use Rattle.certify_commands.specs.Certify.{IsCertified}
 use Rattle.pair_commands.specs.Decide.{IsDecided}
 use Rattle.program.specs.Headline.{PrintsList, PrintsDenial, Headline}
 use Rattle.commands.specs.declared.certificate.Certificate.{Certificate}

@@ -14,10 +14,10 @@ use Rattle.surf_model.specs.Walks.{darts}
 use Rattle.walk_files.specs.WalkTexts.{times, token_of, walk_of_line, within_limits, written_out}
 use Rattle.walk_files.specs.declared.fault.WalkFault.TheVariants.{TooLong, TooMany}
 use Rattle.walk_files.specs.declared.limits.TheConstants.{MOST_DARTS, MOST_ENTRIES, MOST_LINES, MOST_POWER, MOST_WALK_DARTS, MOST_WALK_VERTICES}
-use Rattle.commands.specs.ClosedSurfaces.{HasComponents}
-use Rattle.commands.specs.Surface.{HasFewComponents}
+use Rattle.surf_model.specs.OrientableSurfaces.{HasComponents}
+use Rattle.surface_commands.specs.Surface.{HasFewComponents}
 use Rattle.commands.specs.declared.inputs.TheConstants.{MOST_BYTES}
-use Rattle.commands.specs.declared.surface.TheConstants.{MOST_COMPONENTS}
+use Rattle.surface_commands.specs.declared.surface.TheConstants.{MOST_COMPONENTS}
 use Rattle.reduce_commands.specs.declared.reduce.TheConstants.{LEAST_DEGREE}
 
 -- ---- each limit

@@ -23,14 +23,14 @@ use Rattle.walk_files.specs.WalkTexts.{walk_text_of, walks_in, walks_of}
 use Rattle.walk_files.specs.declared.fault.WalkFault.{WalkFault}
 use Rattle.commands.specs.Answers.{Texts}
 use Rattle.commands.specs.Checks.{Pass, Passes, IsTold, Holds, file, meant, pass_unless, ◌>>=◌}
-use Rattle.commands.specs.ClosedSurfaces.{IsOrientableSurface}
-use Rattle.commands.specs.Inputs.{IsCertificateEnd, SpellsCertificate, SpellsMesh, SpellsPair, certificate_in, certificate_in_bytes, certificate_of, mesh_in, pair_in, walk_at, walks_unless}
+use Rattle.surf_model.specs.OrientableSurfaces.{IsOrientableSurface}
+use Rattle.commands.specs.Inputs.{IsCertificateEnd, SpellsCertificate, SpellsMesh, SpellsPair, certificate_in, certificate_in_bytes, certificate_of, mesh_in, pair_in, walk_at, walks_unless, orientable}
 use Rattle.commands.specs.Refusals.{certificate_line, numbers_line, off_line, pair_line}
-use Rattle.commands.specs.SurfaceInput.{as_surface, closed, orientable, surface_in}
+use Rattle.surface_commands.specs.SurfaceInput.{as_surface, closed, surface_in}
 use Rattle.commands.specs.declared.certificate.Certificate.{Certificate}
 use Rattle.commands.specs.declared.refusal.Input.{Input}
 use Rattle.commands.specs.declared.refusal.Input.TheVariants as inputs
-use Rattle.homology_commands.specs.VerifyHomology as homology
+use Rattle.verify_homology_commands.specs.VerifyHomology as homology
 use Rattle.loop_commands.specs.Loops.{SpellsLoops, loops_in, loops_line}
 use Rattle.open_commands.specs.OpenInput.{as_open_surface, open_surface, open_surface_in}
 use Rattle.pair_commands.specs.PairInput.{SpellsPairs, pairs_in, pairs_line}

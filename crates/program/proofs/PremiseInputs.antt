@@ -7,20 +7,20 @@ use Rattle.walk_files.specs.PairLists.{WalkPair, in_pairs}
 use Rattle.walk_files.specs.NumberLists.{NumberLine}
 use Rattle.walk_files.specs.WalkLists.{WalkText}
 use Rattle.commands.specs.Answers.{Answer, Exactly, yes_with}
-use Rattle.commands.specs.Certify.{IsCertifyInput, IsWithinLimits, certified, certify_limits, limit_fault, limit_word}
+use Rattle.certify_commands.specs.Certify.{IsCertifyInput, IsWithinLimits, certified, certify_limits, limit_fault, limit_word}
 use Rattle.commands.specs.Checks.{Check, Passes, IsTold, Holds, pass, pass_unless, ◌>>=◌}
-use Rattle.commands.specs.ClosedSurfaces.{IsOrientableSurface}
+use Rattle.surf_model.specs.OrientableSurfaces.{IsOrientableSurface}
 use Rattle.commands.specs.Decisions.{decided}
 use Rattle.commands.specs.Inputs.{IsInputOnSurface, IsInputWith, certificate_in, mesh_in, pair_in, walk_at, SpellsCertificate, SpellsPair}
-use Rattle.commands.specs.Surface.{HasFewComponents, IsSurfaceInput, genera_of, numbers_of, numbers_text}
-use Rattle.commands.specs.SurfaceInput.{of_few_components, surface_in}
+use Rattle.surface_commands.specs.Surface.{HasFewComponents, IsSurfaceInput, genera_of, numbers_of, numbers_text}
+use Rattle.surface_commands.specs.SurfaceInput.{of_few_components, surface_in}
 use Rattle.commands.specs.declared.status.Status.{Status}
 use Rattle.commands.specs.declared.status.Status.TheVariants.{Refused, Yes}
 use Rattle.commands.specs.WordTexts.{words_text}
-use Rattle.commands.specs.declared.surface.TheConstants.{MOST_COMPONENTS}
+use Rattle.surface_commands.specs.declared.surface.TheConstants.{MOST_COMPONENTS}
 use Rattle.commands.proofs.LimitLemmas.{fitting}
 use Rattle.homology_commands.specs.Homology.{IsHomologyInput, homology_shown}
-use Rattle.homology_commands.specs.VerifyHomology as homology
+use Rattle.verify_homology_commands.specs.VerifyHomology as homology
 use Rattle.homology_files.specs.HomologyTexts.{cert_of_text}
 use Rattle.loop_commands.specs.Loops.{IsLoopsInput, SpellsLoops, freely_decided, loops_in}
 use Rattle.open_commands.specs.CertifyOpen.{listed}

@@ -10,8 +10,8 @@ use Rattle.commands.proofs.MeshTexts.{is_face_list, has_file_size}
 use Rattle.commands.proofs.Rows.{input_so}
 use Rattle.commands.proofs.Sound.{held}
 use Rattle.commands.specs.Certificates.{Convinces, IsPeakLow, IsShortOnSphere, certificate_text}
-use Rattle.commands.specs.Certify.{IsCertifyInput, IsWithinLimits, IsCertificatePrinted}
-use Rattle.commands.specs.Genera.{LiesOnSphere}
+use Rattle.certify_commands.specs.Certify.{IsCertifyInput, IsWithinLimits, IsCertificatePrinted}
+use Rattle.surf_model.specs.Genera.{LiesOnSphere}
 use Rattle.commands.specs.Lines.{line}
 use Rattle.commands.specs.Inputs.{SpellsMesh, SpellsPair, SpellsCertificate}
 use Rattle.verify_commands.specs.Verify.{IsVerifyInput}

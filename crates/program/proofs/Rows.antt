@@ -3,14 +3,15 @@ use Rattle.std.proofs.Common.{◌≡◌, inr, ℕ, List, [], ◌∷◌, ap, arit
 use Rattle.std.specs.Prelude.{Option, slice_index_or}
 use Rattle.surf_io.specs.Files.{Files}
 use Rattle.commands.proofs.Deciding.{behind}
-use Rattle.commands.proofs.Rows.{sound-surface, sound-certify}
+use Rattle.surface_commands.proofs.SurfaceRows.{sound-surface}
+use Rattle.certify_commands.proofs.CertifyOutcomes.{sound-certify}
 use Rattle.pair_commands.proofs.DecideOutcomes.{sound-decide}
 use Rattle.reduce_commands.proofs.Reducing.{sound-reduce}
-use Rattle.homology_commands.proofs.VerifyHomologyOutcomes.{sound-verify_homology}
+use Rattle.verify_homology_commands.proofs.VerifyHomologyOutcomes.{sound-verify_homology}
 use Rattle.homology_commands.proofs.HomologyAnswers.{sound-homology}
 use Rattle.loop_commands.proofs.LoopAnswers.{sound-loops}
 use Rattle.commands.proofs.Sound.{IsSound, sound-then, sound-found}
-use Rattle.commands.proofs.Trying.{sound-trial}
+use Rattle.trial_commands.proofs.Trying.{sound-trial}
 use Rattle.commands.specs.Checks.{IsTold, found_or}
 use Rattle.commands.specs.Outcomes.{Outcome, AnswersTo}
 use Rattle.commands.specs.Refusals.{wrong_words}

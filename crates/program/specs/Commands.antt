@@ -3,13 +3,13 @@ use Rattle.std.specs.Prelude.{◌≡◌, ℕ, List, [], ◌∷◌, codes, Option
 use Rattle.surf_io.specs.Files.{Files}
 use Rattle.commands.specs.Answers.{Answer}
 use Rattle.commands.specs.Checks.{Check}
-use Rattle.commands.specs.Certify.{certify}
+use Rattle.certify_commands.specs.Certify.{certify}
 use Rattle.pair_commands.specs.Decide.{decide}
 use Rattle.reduce_commands.specs.Reduce.{reduce, IsReduceRow}
-use Rattle.commands.specs.Surface.{surface}
-use Rattle.commands.specs.Trial.{trial, IsTrialRow}
+use Rattle.surface_commands.specs.Surface.{surface}
+use Rattle.trial_commands.specs.Trial.{trial, IsTrialRow}
 use Rattle.verify_commands.specs.Verify.{verify}
-use Rattle.homology_commands.specs.VerifyHomology.{verify_homology}
+use Rattle.verify_homology_commands.specs.VerifyHomology.{verify_homology}
 use Rattle.homology_commands.specs.Homology.{homology}
 use Rattle.loop_commands.specs.Loops.{loops}
 use Rattle.open_commands.specs.CertifyOpen.{certify_open}

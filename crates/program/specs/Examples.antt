@@ -15,18 +15,18 @@ use Rattle.homology.specs.declared.verdict.HomologyVerdict.TheVariants as homolo
 use Rattle.homology_files.specs.declared.fault.HomologyFault.TheVariants as homology_faults
 use Rattle.free_forms.specs.declared.fault.OpenFault.TheVariants as open_faults
 use Rattle.free_loops.specs.declared.deciding.FreeAnswer.TheVariants.{Freely, NotFreely}
-use Rattle.walk_translate.specs.declared.deciding.Answer.TheVariants.{Homotopic, Different}
+use Rattle.surf_model.specs.declared.decisions.Answer.TheVariants.{Homotopic, Different}
 use Rattle.commands.specs.Answers.{Answer, Exactly, NoText, Texts}
 use Rattle.commands.specs.Certificates.{decision_lines, decisions_status}
 use Rattle.commands.specs.Decisions.{decision_answer}
 use Rattle.commands.specs.HomologyCertificates.{Homologous, NotHomologous, homology_line, homology_status}
 use Rattle.commands.specs.Limits.{darts_line, sides_line}
-use Rattle.commands.specs.Surface.{numbers_text}
-use Rattle.commands.specs.Trial.{trial_text}
+use Rattle.surface_commands.specs.Surface.{numbers_text}
+use Rattle.trial_commands.specs.Trial.{trial_text}
 use Rattle.commands.specs.declared.status.Status.{Status}
 use Rattle.commands.specs.declared.status.Status.TheVariants.{No, Yes}
-use Rattle.commands.specs.declared.surface.SurfaceNumbers.{SurfaceNumbers}
-use Rattle.homology_commands.specs.VerifyHomology as homology
+use Rattle.surf_model.specs.declared.numbers.SurfaceNumbers.{SurfaceNumbers}
+use Rattle.verify_homology_commands.specs.VerifyHomology as homology
 use Rattle.loop_commands.specs.Loops.{free_answer, loops_line}
 use Rattle.open_commands.specs.OpenInput.{open_line}
 use Rattle.open_commands.specs.OpenPairs.{limit_word}

@@ -20,8 +20,8 @@ use Rattle.labellings.specs.declared.denial.Denial.{Denial}
 use Rattle.walk_files.specs.DenialTexts.{denial_text}
 use Rattle.walk_files.specs.MoveTexts.{list_text}
 use Rattle.walk_files.specs.PairLists.{WalkPair}
-use Rattle.walk_translate.specs.declared.deciding.Answer.TheVariants.{Homotopic, Different}
-use Rattle.commands.specs.Certify.{IsCertifyInput, IsWithinLimits}
+use Rattle.surf_model.specs.declared.decisions.Answer.TheVariants.{Homotopic, Different}
+use Rattle.certify_commands.specs.Certify.{IsCertifyInput, IsWithinLimits}
 use Rattle.pair_commands.specs.Decide.{AreDecided, IsDecideInput, IsHomotopic}
 use Rattle.commands.specs.Certificates.{decision_line}
 use Rattle.commands.specs.declared.status.Status.{Status}

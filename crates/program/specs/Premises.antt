@@ -4,17 +4,17 @@ use Rattle.surf_io.specs.Files.{Files}
 use Rattle.surf_model.specs.FaceLists.{FaceList}
 use Rattle.homology.specs.declared.certificate.HomologyCert.{HomologyCert}
 use Rattle.walk_files.specs.PairLists.{WalkPair}
-use Rattle.commands.specs.Certify.{IsCertifyInput, IsWithinLimits}
+use Rattle.certify_commands.specs.Certify.{IsCertifyInput, IsWithinLimits}
 use Rattle.commands.specs.Checks.{IsTold}
-use Rattle.commands.specs.ClosedSurfaces.{IsOrientableSurface}
-use Rattle.commands.specs.Surface.{IsSurfaceInput, HasFewComponents}
+use Rattle.surf_model.specs.OrientableSurfaces.{IsOrientableSurface}
+use Rattle.surface_commands.specs.Surface.{IsSurfaceInput, HasFewComponents}
 use Rattle.commands.specs.declared.certificate.Certificate.{Certificate}
 use Rattle.commands.specs.declared.status.Status.{Status}
 use Rattle.commands.specs.declared.status.Status.TheVariants.{Refused}
 use Rattle.pair_commands.specs.Decide.{IsDecideInput}
 use Rattle.homology_commands.specs.Homology.{IsHomologyInput}
 use Rattle.homology_commands.specs.PrintedHomology.{IsVerifyOfText as IsHomologyVerifyOfText}
-use Rattle.homology_commands.specs.VerifyHomology.{IsInput as IsHomologyVerifyInput}
+use Rattle.verify_homology_commands.specs.VerifyHomology.{IsInput as IsHomologyVerifyInput}
 use Rattle.loop_commands.specs.Loops.{IsLoopsInput}
 use Rattle.open_commands.specs.OpenPairs.{IsOpenInput, IsWithinLimits as IsWithinOpenLimits}
 use Rattle.reduce_commands.specs.Reduce.{IsReduceInput}

@@ -4,12 +4,9 @@ ghost use Rattle.program.specs.Commands.{Row, IsRow, answer_to, row_of};
 ghost use Rattle.commands.specs.Replies.{Runs};
 ghost use Rattle.commands.specs.Words.{IsNatural, texts};
 
-use commands::certify::certify;
-use commands::surface::measure;
-use commands::trial::trial;
+use certify_commands::certify::certify;
 use commands::{Reply, Stop};
 use homology_commands::show_homology::show_homology;
-use homology_commands::verify_homology::verify_homology;
 use loop_commands::loops::loops;
 use open_commands::certify_open::certify_open;
 use open_commands::decide_open::decide_open;
@@ -17,7 +14,10 @@ use pair_commands::decide::decide;
 use reduce_commands::reduce::reduce;
 use std::alloc::Global;
 use surf_io::Shelf;
+use surface_commands::surface::measure;
+use trial_commands::trial::trial;
 use verify_commands::verify::verify;
+use verify_homology_commands::verify_homology::verify_homology;
 
 /// What the words ask for, with the names of the files.
 #[derive(Clone, Copy, Debug, PartialEq, Eq)]

@@ -7,24 +7,24 @@ ghost use Rattle.off_reader.specs.OffTexts.{meaning_of};
 ghost use Rattle.surf_gen.specs.Chains.{chain_mesh};
 ghost use Rattle.surf_gen.specs.ChainTexts.{chain_text};
 ghost use Rattle.surf_gen.specs.Sizes.{IsChain};
-ghost use Rattle.commands.specs.Certify.{IsCertified, IsCertifyInput, IsWithinLimits, IsCertificatePrinted};
+ghost use Rattle.certify_commands.specs.Certify.{IsCertified, IsCertifyInput, IsWithinLimits, IsCertificatePrinted};
 ghost use Rattle.pair_commands.specs.Decide.{IsDecided};
 ghost use Rattle.program.specs.Headline.{Headline};
 ghost use Rattle.commands.specs.Checks.{IsTold};
-ghost use Rattle.commands.specs.Genera.{LiesOnSphere};
+ghost use Rattle.surf_model.specs.Genera.{LiesOnSphere};
 ghost use Rattle.commands.specs.Lines.{line};
 ghost use Rattle.commands.specs.Outcomes.{Outcome};
 ghost use Rattle.program.specs.Outcomes.{AllTold, Answers, EachAnswer, IsOutcome};
 ghost use Rattle.program.specs.Premises.{HasPremises};
 ghost use Rattle.program.specs.PrintedCertificates.{IsAccepted};
 ghost use Rattle.reduce_commands.specs.Reduce.{IsReduced};
-ghost use Rattle.commands.specs.Surface.{IsMeasured};
-ghost use Rattle.commands.specs.Trial.{IsTried};
+ghost use Rattle.surface_commands.specs.Surface.{IsMeasured};
+ghost use Rattle.trial_commands.specs.Trial.{IsTried};
 ghost use Rattle.open_commands.specs.CertifyOpen.{IsCertifiedOpen, IsListPrinted};
 ghost use Rattle.open_commands.specs.DecideOpen.{IsDecidedOpen};
 ghost use Rattle.open_commands.specs.OpenPairs.{IsOpenInput, IsWithinLimits as IsWithinOpenLimits};
 ghost use Rattle.verify_commands.specs.Verify.{IsVerified, IsDenialVerified};
-ghost use Rattle.homology_commands.specs.VerifyHomology.{IsHomologyVerified};
+ghost use Rattle.verify_homology_commands.specs.VerifyHomology.{IsHomologyVerified};
 ghost use Rattle.homology_commands.specs.Homology.{IsHomologyAnswered, IsHomologyPrinted};
 ghost use Rattle.homology_commands.specs.PrintedHomology.{IsVerifyOfText as IsHomologyVerifyOfText};
 ghost use Rattle.loop_commands.specs.Loops.{IsLoopsAnswered};
@@ -32,7 +32,8 @@ ghost use Rattle.commands.specs.declared.certificate.Certificate.{Certificate};
 ghost use Rattle.commands.specs.declared.inputs.TheConstants.{MOST_BYTES};
 ghost use Rattle.commands.specs.declared.status.Status.{Status};
 
-/// The headline: on an orientable closed surface `decide` tells whether two walks are homotopic, and `certify` prints what shows it.
+/// The headline: on an orientable closed surface `decide` tells of each pair of walks whether they are homotopic, and `certify` prints what
+/// shows it.
 pub fn headline()
     ensures { EachAnswer Headline }
 {}
@@ -48,7 +49,7 @@ pub fn surface_answers()
     ensures { EachAnswer IsMeasured }
 {}
 
-/// What `decide` answers of two walks of a surface.
+/// What `decide` answers of pairs of walks of a surface.
 pub fn decide_answers()
     ensures { EachAnswer IsDecided }
 {}

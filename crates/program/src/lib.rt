@@ -12,5 +12,6 @@ mod command;
 pub mod laws;
 mod top;
 
+pub use command::{Command, read_command};
 pub use commands::Status;
 pub use top::run;

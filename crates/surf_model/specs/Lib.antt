@@ -12,6 +12,12 @@ pub mod Edges
 pub mod Darts
 pub mod Surfaces
 pub mod Components
+pub mod Submeshes
+pub mod ComponentParts
+pub mod OrientableSurfaces
+pub mod OddChains
+pub mod Genera
+pub mod PeakedLists
 pub mod EdgeDarts
 pub mod EdgeLists
 pub mod Building

@@ -20,7 +20,7 @@ use Rattle.walk_files.specs.declared.fault.CertFault.{CertFault}
 use Rattle.walk_files.proofs.RoundTrip.{list_of_text-answered}
 use Rattle.walk_files.proofs.DenialRoundTrip.{denial_of_text-answered}
 use Rattle.labellings.specs.declared.verdict.DenialVerdict.TheVariants as verdicts
-use Rattle.walk_translate.specs.declared.deciding.Answer.TheVariants.{Homotopic, Different}
+use Rattle.surf_model.specs.declared.decisions.Answer.TheVariants.{Homotopic, Different}
 use Rattle.verify_commands.proofs.FittingDenials.{denial_fits}
 use Rattle.verify_commands.proofs.FittingMoves.{list_fits}
 use Rattle.verify_commands.proofs.VerifyRows.{sound-verify}

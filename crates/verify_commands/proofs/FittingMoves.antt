@@ -11,11 +11,10 @@ use Rattle.surf_model.specs.Moves.{PeakedMoves, apply, apply_all, Leads, greates
 use Rattle.surf_model.specs.declared.limits.TheConstants.{MOST_PEAK}
 use Rattle.surf_model.specs.declared.moves.Move.{Move}
 use Rattle.surf_model.specs.declared.moves.Move.TheVariants.{Insert, Remove, Across}
-use Rattle.surf_model.proofs.EdgeLemmas.{head_used}
+use Rattle.surf_model.proofs.EdgeLemmas.{head_used, used_below}
 use Rattle.surf_model.proofs.WayBackLemmas.{keeps_walk}
-use Rattle.surf_model.proofs.EdgeLemmas.{used_below}
 use Rattle.move_checker.proofs.Judgement.{greatest_darts-more, greatest_darts-first}
-use Rattle.common_ends.specs.PeakedLists.{LeadsAtPeak}
+use Rattle.surf_model.specs.PeakedLists.{LeadsAtPeak}
 use Rattle.walk_files.specs.MoveTexts.{MoveFits, FitsFormat, list_text}
 use Rattle.verify_commands.proofs.TextLengths.{moves_below}
 

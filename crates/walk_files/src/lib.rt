@@ -1,11 +1,11 @@
 //! The texts beside a mesh: walks, turn words and lists of moves, read and written.
 //!
-//! A caller sees walks and turn words as lists of lists of numbers, walks with the version of their text, and a reader of a certificate as
-//! its text, its head, how many moves it gave and the refusal that it keeps. Proved: a reader gives
-//! what the lines of its text mean, or the first fault with its line, or wants memory; a list of
-//! moves is written in its one spelling, and reads back; and `check_pair` finds two walks of the mesh
-//! with common ends, `check_pairs` one or more such pairs, and `check_loops` two closed walks, or what
-//! is first wrong.
+//! A caller sees walks and turn words as lists of lists of numbers, walks with the version of their text, and a reader of a certificate
+//! as its text, its head, how many moves it gave and the refusal that it keeps. Proved: a reader gives what the lines of its text mean,
+//! or the first fault with its line, or wants memory; a list of moves is written in its one spelling, and reads back; and `check_pair`
+//! finds two walks of the mesh with common ends, `check_pairs` one or more such pairs, and `check_loops` two closed walks, or what is
+//! first wrong. `CertStream` gives of a certificate on a shelf, read in pieces, what `CertReader` gives on the whole text, and no move
+//! takes memory. What is written reads back, also behind the line of its decision (`laws`).
 //!
 //!     let walks = read_walks(alloc, b"0 1 2\n0 2 # the short way\n")?;
 //!     check_pair(&sides, &walks)?;

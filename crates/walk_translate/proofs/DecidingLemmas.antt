@@ -19,8 +19,8 @@ use Rattle.quad_system.proofs.EqualWordLemmas.{one_word}
 use Rattle.quad_system.proofs.FlatWordLemmas.{one_sum}
 use Rattle.labellings.specs.WalkWords.{IsWordOf}
 use Rattle.walk_translate.specs.SurfaceLabels.{HasSphereSplit, IsLabelledByCut}
-use Rattle.walk_translate.specs.declared.deciding.Answer.{Answer}
-use Rattle.walk_translate.specs.declared.deciding.Answer.TheVariants as answers
+use Rattle.surf_model.specs.declared.decisions.Answer.{Answer}
+use Rattle.surf_model.specs.declared.decisions.Answer.TheVariants as answers
 use Rattle.labellings.proofs.WalkWordLemmas.{quad_path_leads_to_sum}
 
 abbrev pub vector : ℤ → ℤ → Vector

@@ -7,7 +7,7 @@ ghost use Rattle.walk_translate.specs.DartSpokes.{AreSpokesOf};
 ghost use Rattle.walk_translate.specs.SurfaceLabels.{HasSphereSplit, IsLabelledByCut};
 
 use crate::dart_spokes::DartSpokes;
-use crate::deciding::{Answer, answer_by};
+use crate::deciding::answer_by;
 use crate::labels::label_by_cut;
 use crate::spoked::Spoked;
 use crate::walks::{have_common_ends, is_walk};
@@ -15,7 +15,7 @@ use halfedge_map::Surface;
 use quad_system::GoodLabelling;
 use std::alloc::{AllocError, Global};
 use std::marker::Model;
-use surf_model::{Sides, Walk};
+use surf_model::{Answer, Sides, Walk};
 use turn_words::Hyper;
 
 /// A surface with its labels, of which many pairs of walks may be asked. Contracts see its mesh.

@@ -9,16 +9,7 @@ use halfedge_map::Surface;
 use labellings::{are_same_words, word_of};
 use quad_system::GoodLabelling;
 use std::alloc::{AllocError, Global};
-use surf_model::Walk;
-
-/// Whether one walk may take the place of another.
-#[derive(Clone, Copy, Debug, PartialEq, Eq)]
-pub enum Answer {
-    /// Some list of moves leads from the first walk to the second.
-    Homotopic,
-    /// No list of moves does.
-    Different,
-}
+use surf_model::{Answer, Walk};
 
 /// Decides whether two walks of a surface with common ends are homotopic.
 ///

@@ -16,6 +16,7 @@ mod spoked;
 mod walks;
 
 pub use decider::Decider;
-pub use deciding::{Answer, decide};
+pub use deciding::decide;
 pub use labellings::{DenialVerdict, check_denial, fold, word_of};
 pub use labels::{label_by_cut, label_surface};
+pub use surf_model::Answer;

@@ -6,13 +6,12 @@ ghost use Rattle.turn_words.specs.FormLaws.{led};
 ghost use Rattle.labellings.specs.QuadPaths.{quad_path};
 
 use crate::dart_spokes::DartSpokes;
-use crate::deciding::Answer;
 use crate::walks::have_common_ends;
 use flat_forms::Flat;
 use halfedge_map::Surface;
 use labellings::{GoodLabelling, put_spokes};
 use std::alloc::AllocError;
-use surf_model::Walk;
+use surf_model::{Answer, Walk};
 use turn_words::{Form, Hyper, Silent};
 
 /// A surface with its labels, and the spokes of its darts.

@@ -9,8 +9,8 @@ use Rattle.surf_model.specs.Surfaces.{ArePartners, IsClosedManifold, IsCoherent,
 use Rattle.surf_model.specs.Components.{place_of_face}
 use Rattle.surf_model.specs.declared.edges.Side.{Side}
 use Rattle.turn_words.specs.Modulo.{add}
-use Rattle.manifold_check.specs.ComponentParts.{PartsView, AreParts, component_at, component_mesh}
-use Rattle.manifold_check.specs.Submeshes.{submesh, signs_among}
+use Rattle.surf_model.specs.ComponentParts.{PartsView, AreParts, component_at, component_mesh}
+use Rattle.surf_model.specs.Submeshes.{submesh, signs_among}
 use Rattle.connectivity.proofs.CornerLemmas.{after_in_mesh}
 use Rattle.manifold_check.proofs.PieceLemmas.{IsPiece, IsRenamed, ComesFrom, HasPlaceAmong, renamed_side, renamed, comes_from, edge_of_side, face-submesh, length-submesh}
 use Rattle.manifold_check.proofs.PieceSurfaces.{partners_down, flipped_alike}

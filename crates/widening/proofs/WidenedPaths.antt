@@ -11,8 +11,8 @@ use Rattle.turn_words.specs.SpokePaths.{turn_word_of}
 use Rattle.turn_words.specs.declared.word.Word.{Word}
 use Rattle.turn_words.specs.declared.word.Word.TheVariants.{Turns, Flat}
 use Rattle.flat_forms.specs.Pairs.{sum_of_pairs}
-use Rattle.manifold_check.specs.ComponentParts.{PartsView, component_at, component_mesh}
-use Rattle.manifold_check.specs.Submeshes.{submesh}
+use Rattle.surf_model.specs.ComponentParts.{PartsView, component_at, component_mesh}
+use Rattle.surf_model.specs.Submeshes.{submesh}
 use Rattle.connectivity.proofs.EdgeLemmas.{HasSideBetween, side_between}
 use Rattle.manifold_check.proofs.PieceLemmas.{IsRenamed, renamed_side, renamed}
 use Rattle.manifold_check.proofs.PieceSides.{valid_alone}

@@ -3,8 +3,8 @@ ghost use Rattle.std.specs.Prelude.{◌≡◌, ◌≤◌, ◌<◌, ◌↔◌, �
 ghost use Rattle.surf_model.specs.FaceLists.{face_at};
 ghost use Rattle.surf_model.specs.Walks.{IsWalk};
 ghost use Rattle.surf_model.specs.Surfaces.{IsClosedManifold, IsCoherent};
-ghost use Rattle.manifold_check.specs.ComponentParts.{AreParts, component_at, component_mesh};
-ghost use Rattle.manifold_check.specs.Submeshes.{signs_among};
+ghost use Rattle.surf_model.specs.ComponentParts.{AreParts, component_at, component_mesh};
+ghost use Rattle.surf_model.specs.Submeshes.{signs_among};
 ghost use Rattle.labellings.specs.Labellings.{signs_of};
 ghost use Rattle.labellings.specs.GoodLabellings.{IsGood};
 ghost use Rattle.labellings.specs.QuadPaths.{quad_path};

@@ -4,8 +4,8 @@ ghost use Rattle.std.specs.Prelude.{◌≡◌, ◌<◌, ◌↔◌, ℕ, Bool, Li
 ghost use Rattle.surf_model.specs.FaceLists.{FaceList, IsFaceList};
 ghost use Rattle.surf_model.specs.Walks.{IsWalk};
 ghost use Rattle.surf_model.specs.Surfaces.{IsClosedManifold, IsCoherent};
-ghost use Rattle.manifold_check.specs.ComponentParts.{PartsView, AreParts, component_at, component_mesh};
-ghost use Rattle.manifold_check.specs.Submeshes.{signs_among};
+ghost use Rattle.surf_model.specs.ComponentParts.{PartsView, AreParts, component_at, component_mesh};
+ghost use Rattle.surf_model.specs.Submeshes.{signs_among};
 ghost use Rattle.turn_words.specs.declared.word.Word.{Word};
 ghost use Rattle.labellings.specs.Labellings.{LabellingView, signs_of};
 ghost use Rattle.labellings.specs.GoodLabellings.{IsGood};

@@ -1,7 +1,7 @@
 use Rattle.std.proofs.Common.{◌≡◌, ◌<◌, ℕ, List, length, get_or, arith}
 use Rattle.std.proofs.lemmas.Result.{IfOk-weaker}
 use Rattle.surf_model.specs.FaceLists.{FaceList}
-use Rattle.manifold_check.specs.ComponentParts.{PartsView, component_mesh}
+use Rattle.surf_model.specs.ComponentParts.{PartsView, component_mesh}
 use Rattle.component_deciding.specs.Asking.{IsAsked}
 use Rattle.component_deciding.specs.AskedPairs.{IsPairOn}
 use Rattle.component_deciding.specs.OwnVertices.{own_mesh, own_walk}

@@ -4,7 +4,7 @@ use Rattle.std.proofs.lemmas.List.{get_or_read, length-map, take_all}
 use Rattle.surf_model.specs.FaceLists.{FaceList, face_at, total_sides}
 use Rattle.surf_model.specs.Vertices.{numbers}
 use Rattle.surf_model.specs.declared.names.VertexName.{VertexName}
-use Rattle.manifold_check.specs.ComponentParts.{PartsView, AreParts, component_at, component_mesh}
+use Rattle.surf_model.specs.ComponentParts.{PartsView, AreParts, component_at, component_mesh}
 use Rattle.component_deciding.specs.OwnVertices.{AreOwnNumbers, own_mesh}
 use Rattle.component_deciding.specs.declared.own_numbers.OwnNumbers.{OwnNumbers}
 use Rattle.component_deciding.proofs.OwnLemmas.{own_within}

@@ -2,7 +2,7 @@ use Rattle.std.proofs.Common.{Vec, Global, ◌≡◌, ◌+◌, ◌<◌, ℕ, tru
 use Rattle.std.proofs.lemmas.Bool.{both_ways}
 use Rattle.std.proofs.lemmas.List.{get_or_read, length-set, length_push}
 use Rattle.surf_model.specs.Building.{IsCounted}
-use Rattle.manifold_check.specs.ComponentParts.{component_mesh}
+use Rattle.surf_model.specs.ComponentParts.{component_mesh}
 use Rattle.component_deciding.specs.OwnVertices.{own_number}
 use Rattle.surf_model.specs.FaceLists.{is_used}
 use Rattle.surf_model.proofs.EdgeLemmas.{used_below}

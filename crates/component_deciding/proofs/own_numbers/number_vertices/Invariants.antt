@@ -1,7 +1,7 @@
 use Rattle.std.proofs.Common.{◌≡◌, ◌<◌, ℕ, true, length, get_or}
 use Rattle.surf_model.specs.Building.{IsCounted}
 use Rattle.surf_model.specs.FaceLists.{is_used}
-use Rattle.manifold_check.specs.ComponentParts.{component_mesh}
+use Rattle.surf_model.specs.ComponentParts.{component_mesh}
 use Rattle.manifold_check.proofs.MeasureLemmas.{place_of_used}
 use Rattle.component_deciding.specs.OwnVertices.{own_number}
 use Rattle.component_deciding.proofs.own_numbers.number_vertices.Given as goal

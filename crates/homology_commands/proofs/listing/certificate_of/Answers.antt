@@ -5,7 +5,7 @@ use Rattle.homology.specs.Tallies.{number_at}
 use Rattle.homology.specs.declared.certificate.TheConstants.{MOST_NUMBER}
 use Rattle.homology.proofs.ChainVerdictLemmas.{within_more}
 use Rattle.homology_deciding.specs.Proofs.{IsChainFor, IsCocycleFor, IsProofFor}
-use Rattle.commands.specs.ClosedSurfaces.{surface_of}
+use Rattle.closed_surfaces.specs.SignedSurfaces.{surface_of}
 use Rattle.homology_commands.specs.Listings.{ListsEdges}
 use Rattle.homology_commands.proofs.CertificateLemmas.{shows_chain, shows_cocycle}
 use Rattle.homology_commands.proofs.listing.certificate_of.Goals as goal

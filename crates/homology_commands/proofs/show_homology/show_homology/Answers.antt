@@ -4,9 +4,9 @@ use Rattle.std.proofs.lemmas.Result.{err_from_is_err_and}
 use Rattle.surf_model.specs.Walks.{darts, AreWalkPair}
 use Rattle.commands.specs.HomologyCertificates.{ShowsHomology, answer_in}
 use Rattle.commands.specs.Inputs.{pair_in, walk_at}
-use Rattle.commands.proofs.Deciding.{walks_of_pair}
+use Rattle.commands.proofs.Deciding.{walks_of_pair, at_places}
 use Rattle.commands.proofs.Rows.{two_walks}
-use Rattle.commands.proofs.RunsOnWalks.{at_places, runs_asked, runs_refused_walks, runs_wanting}
+use Rattle.surface_commands.proofs.RunsOnWalks.{runs_asked, runs_refused_walks, runs_wanting}
 use Rattle.homology_commands.specs.Homology.{homology_answer}
 use Rattle.homology_commands.proofs.CertificateLemmas.{answer_decides}
 use Rattle.homology_commands.proofs.HomologyAnswers.{after_pair}

@@ -20,7 +20,8 @@ pub returns-in_ok-cut-in-Some : goal.returns-in_ok-cut-in-Some
 returns-in_ok-cut-in-Some c = λ first second leaves.
     let s : OrientedMesh = c.args.tree.now.surface.now in
     let e : ℕ = c.in-Some.edge.0 in
+    let l : e < length s.table = subst (λ (t : List Edge). e < length t) c.sides.ensures.table c.in-Some.ensures.found in
     subst (IsCocycleFor s first second) (sym c.of-in-Some.ensures)
-    (cocycle_proof c.args.tree.now c.requires.tree first second c.args.numbers.items c.args.rest.now leaves e c.rising_dart-dart.result.0
-    c.in_ok-cut-in-Some.field-0.items (subst (λ (t : List Edge). e < length t) c.sides.ensures.table c.in-Some.ensures.found)
-    c.in-Some.ensures.nonzero c.rising_dart-dart.ensures c.in_ok-cut-in-Some.ensures.cut)
+    (cocycle_proof c.args.tree.now c.requires.tree first second c.args.numbers.items c.args.rest.now leaves e c.dart_of-dart.result.0
+    c.in_ok-cut-in-Some.field-0.items (record { dart = c.dart_of-dart.ensures.within; edge = l; is = sym c.dart_of-dart.ensures.edge })
+    c.in-Some.ensures.nonzero c.in_ok-cut-in-Some.ensures.cut)

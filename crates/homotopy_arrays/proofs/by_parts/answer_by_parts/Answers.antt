@@ -2,8 +2,8 @@ use Rattle.std.proofs.Common.{◌≡◌, ◌<◌, ℕ, true, List, length, get_o
 use Rattle.std.specs.Prelude.{All}
 use Rattle.surf_model.specs.FaceLists.{FaceList, is_used}
 use Rattle.surf_model.specs.Walks.{IsWalk}
-use Rattle.walk_translate.specs.declared.deciding.Answer.{Answer}
-use Rattle.walk_translate.specs.declared.deciding.Answer.TheVariants as decided
+use Rattle.surf_model.specs.declared.decisions.Answer.{Answer}
+use Rattle.surf_model.specs.declared.decisions.Answer.TheVariants as decided
 use Rattle.component_deciding.specs.AskedPairs.{AreAnswers, IsPairOn}
 use Rattle.component_deciding.specs.declared.asked.AskedPair.{AskedPair}
 use Rattle.homotopy_arrays.specs.AskedPairs.{IsAnswerFor}

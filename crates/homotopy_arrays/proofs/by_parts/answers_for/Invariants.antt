@@ -1,5 +1,5 @@
 use Rattle.std.proofs.Common.{◌≡◌, ◌<◌, ℕ, length, get_or}
-use Rattle.walk_translate.specs.declared.deciding.Answer.{Answer}
+use Rattle.surf_model.specs.declared.decisions.Answer.{Answer}
 use Rattle.homotopy_arrays.specs.AskedPairs.{IsAnswerFor}
 use Rattle.homotopy_arrays.specs.declared.decide.PairAnswer.{PairAnswer}
 use Rattle.homotopy_arrays.specs.declared.pair.Checked.{Checked}

@@ -4,8 +4,8 @@ use Rattle.surf_model.specs.FaceLists.{is_used}
 use Rattle.surf_model.proofs.EdgeLemmas.{used_below}
 use Rattle.halfedge_map.specs.OrientedMeshes.{OrientedMesh}
 use Rattle.closed_walks.specs.FreeHomotopy.{IsClosedWalk, FreelyHomotopic}
-use Rattle.commands.specs.ClosedSurfaces.{IsComponentOf}
-use Rattle.commands.proofs.Components.{if_ok}
+use Rattle.closed_surfaces.specs.SignedSurfaces.{IsComponentOf}
+use Rattle.closed_surfaces.proofs.Components.{if_ok}
 use Rattle.loop_commands.proofs.ComponentLoops.{closed_there, free_there, free_within}
 use Rattle.loop_commands.proofs.LoopAnswers.{differs}
 use Rattle.loop_commands.proofs.loops.decide_within.Goals as goal

@@ -3,7 +3,8 @@ use Rattle.std.specs.Prelude.{◌↔◌}
 use Rattle.std.proofs.lemmas.Result.{err_from_is_err_and}
 use Rattle.closed_walks.specs.FreeHomotopy.{FreelyHomotopic}
 use Rattle.free_loops.specs.declared.deciding.FreeAnswer.TheVariants.{Freely}
-use Rattle.commands.proofs.RunsOnWalks.{at_places, runs_asked, runs_refused_walks, runs_wanting}
+use Rattle.commands.proofs.Deciding.{at_places}
+use Rattle.surface_commands.proofs.RunsOnWalks.{runs_asked, runs_refused_walks, runs_wanting}
 use Rattle.loop_commands.specs.Loops.{free_answer, loops_in}
 use Rattle.loop_commands.proofs.LoopAnswers.{AreClosed, after_pair, walks_of_pair}
 use Rattle.loop_commands.proofs.LoopChecks.{two_walks}

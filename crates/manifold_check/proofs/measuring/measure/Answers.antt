@@ -2,7 +2,7 @@ use Rattle.std.proofs.Common.{◌≡◌, inl, inr, ◌+◌, ◌<◌, ℕ, List, 
 use Rattle.std.proofs.lemmas.Bool.{cases_lt}
 use Rattle.std.proofs.lemmas.List.{get_or_append_left, get_or_push, get_or_read, length_push}
 use Rattle.manifold_check.specs.ComponentNumbers.{AreNumbersOf}
-use Rattle.manifold_check.specs.ComponentParts.{component_at, component_mesh}
+use Rattle.surf_model.specs.ComponentParts.{component_at, component_mesh}
 use Rattle.manifold_check.specs.declared.measuring.PartNumbers.{PartNumbers}
 use Rattle.manifold_check.proofs.PieceLemmas.{length-submesh}
 use Rattle.manifold_check.proofs.measuring.measure.Goals as goal

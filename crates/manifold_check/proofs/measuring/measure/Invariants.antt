@@ -1,6 +1,6 @@
 use Rattle.std.proofs.Common.{◌≡◌, ◌<◌, ℕ, get_or, length}
 use Rattle.manifold_check.specs.ComponentNumbers.{AreNumbersOf}
-use Rattle.manifold_check.specs.ComponentParts.{component_mesh}
+use Rattle.surf_model.specs.ComponentParts.{component_mesh}
 use Rattle.manifold_check.specs.declared.measuring.PartNumbers.{PartNumbers}
 use Rattle.manifold_check.proofs.measuring.measure.Given as goal
 

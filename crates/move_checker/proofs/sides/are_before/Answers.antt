@@ -15,7 +15,7 @@ loop-k-preserved c =
 pub returns-then-ne : goal.returns-then-ne
 returns-then-ne c = (
   λ t. absurd (cc),
-  λ same. absurd (before_other c.args.entries c.args.walk.now c.args.place c.loop-k.k c.requires.len (omega arith)
+  λ same. absurd (before_other c.args.entries c.args.walk.now c.args.place c.loop-k.k c.requires.len (omega (arith, c.len-k-end.ensures))
       (λ e. other_vertex _ _ (sym c.if-ne.ensures)
       (sym (AreRead-next c.args.entries c.loop-k.entries c.args.walk.now (λ j. c.args.place - 1 - j) c.loop-k.k c.unwrap-value.result
       c.loop-k.invariant
@@ -26,6 +26,6 @@ returns-then-ne c = (
 pub returns : goal.returns
 returns c = (
   λ t. before_same c.args.entries c.loop-k.entries c.args.walk.now c.args.place c.loop-k.k c.requires.len c.requires.within
-      c.loop-k.invariant (omega arith),
+      c.loop-k.invariant (omega (arith, c.len-k-end.ensures)),
   λ e. refl,
 )

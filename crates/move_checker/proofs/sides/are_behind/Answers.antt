@@ -14,7 +14,7 @@ loop-k-preserved c =
 pub returns-then-ne : goal.returns-then-ne
 returns-then-ne c = (
   λ t. absurd (cc),
-  λ same. absurd (behind_other c.args.entries c.args.walk.now c.args.place c.loop-k.k
+  λ same. absurd (behind_other c.args.entries c.args.walk.now c.args.place c.loop-k.k (omega (arith, c.len-k-end.ensures))
       (λ e. other_vertex _ _ (sym c.if-ne.ensures)
       (sym (AreRead-next c.args.entries c.loop-k.entries c.args.walk.now (λ j. c.args.place + j) c.loop-k.k c.unwrap-value.result
       c.loop-k.invariant

@@ -5,8 +5,8 @@ use Rattle.surf_model.specs.FaceLists.{FaceList}
 use Rattle.surf_model.specs.Moves as moves
 use Rattle.surf_model.specs.Walks.{AreWalkPair}
 use Rattle.walk_files.specs.PairLists.{are_paired, in_pairs}
-use Rattle.walk_translate.specs.declared.deciding.Answer.{Answer}
-use Rattle.walk_translate.specs.declared.deciding.Answer.TheVariants.{Homotopic}
+use Rattle.surf_model.specs.declared.decisions.Answer.{Answer}
+use Rattle.surf_model.specs.declared.decisions.Answer.TheVariants.{Homotopic}
 use Rattle.pair_commands.specs.Decide.{AreFirstDecisions}
 use Rattle.pair_commands.proofs.PairDecisions.{all_pairs, decision_more, decisions_all, no_pairs, paired_even, pairs_more}
 use Rattle.pair_commands.proofs.deciding.decide_all.Goals as goal

@@ -1,4 +1,4 @@
-use Rattle.commands.specs.Trial.{trial}
+use Rattle.trial_commands.specs.Trial.{trial}
 use Rattle.commands.proofs.Running.{runs_unread}
 use Rattle.program.proofs.command.answer.Goals as goal
 

@@ -1,4 +1,4 @@
-use Rattle.commands.proofs.ChainReading.{chain_read}
+use Rattle.trial_commands.proofs.ChainReading.{chain_read}
 use Rattle.program.proofs.laws.chain_texts_are_read.Goals as goal
 
 pub returns : goal.returns

@@ -1,4 +1,4 @@
-use Rattle.commands.proofs.CertifyOutcomes.{certified_so}
+use Rattle.certify_commands.proofs.CertifyOutcomes.{certified_so}
 use Rattle.pair_commands.proofs.DecideOutcomes.{decided_so}
 use Rattle.program.specs.Commands.{Decide, Certify}
 use Rattle.program.proofs.HeadlineLemmas.{headline}

@@ -10,10 +10,9 @@ use Rattle.commands.specs.Stops.{Stops}
 use Rattle.verify_commands.specs.Verify as of_verify
 use Rattle.verify_commands.specs.Verify.{judged_file}
 use Rattle.verify_commands.proofs.Verifying.{concluded, walks_stop}
-use Rattle.commands.proofs.Deciding.{walks_of_pair}
+use Rattle.commands.proofs.Deciding.{walks_of_pair, at_places}
 use Rattle.commands.proofs.Rows.{two_walks}
 use Rattle.commands.proofs.Running.{only_then, runs_read, runs_stopped}
-use Rattle.commands.proofs.RunsOnWalks.{at_places}
 use Rattle.verify_commands.proofs.verify.verify.Goals as goal
 use Rattle.verify_commands.proofs.verify.verify.Goals.{After-at-2}
 

@@ -2,7 +2,7 @@ use Rattle.std.proofs.Common.{◌≡◌, ◌<◌, ℕ, List, length, take, repli
 use Rattle.std.proofs.lemmas.Bool.{both_ways}
 use Rattle.std.proofs.lemmas.List.{take-replicate}
 use Rattle.surf_model.specs.FaceLists.{face_at}
-use Rattle.manifold_check.specs.ComponentParts.{component_at}
+use Rattle.surf_model.specs.ComponentParts.{component_at}
 use Rattle.manifold_check.proofs.PieceLemmas.{IsPiece}
 use Rattle.manifold_check.proofs.PartPieces.{IsOfComponent, piece_of_parts}
 use Rattle.labellings.specs.Labellings.{LabellingView, labels_at}

@@ -1,0 +1,147 @@
+-- What `certify` finds: a list of moves that leads, or a denial that holds.
+use Rattle.std.proofs.Common.{◌≡◌, inl, inr, ℕ, ◌<◌, false, List, length, refl, sym, ap, ◌∙◌, subst, arith}
+use Rattle.std.specs.Prelude.{◌↔◌, Option, Some, None}
+use Rattle.std.specs.List.{enumerate_from}
+use Rattle.std.proofs.lemmas.Bool.{cases_lt}
+use Rattle.std.proofs.lemmas.List.{ext_get_or, length-map}
+use Rattle.std.proofs.lemmas.List.FromFn.{length-enumerate_from}
+use Rattle.surf_io.specs.Files.{Files}
+use Rattle.surf_model.specs.FaceLists.{FaceList, IsFaceList}
+use Rattle.surf_model.specs.Moves.{Homotopic}
+use Rattle.surf_model.specs.Walks.{IsWalk, HaveCommonEnds}
+use Rattle.turn_words.specs.declared.word.Word.{Word}
+use Rattle.halfedge_map.specs.OrientedMeshes.{OrientedMesh, IsOrientedSurface}
+use Rattle.tree_cotree.specs.Splits.{SplitView, IsSplit}
+use Rattle.polygon_cut.specs.Polygons.{PolygonView, IsCutFrom}
+use Rattle.polygon_cut.proofs.SphereLemmas.{all_homotopic}
+use Rattle.labellings.specs.Denials.{DenialHolds}
+use Rattle.labellings.specs.GoodLabellings.{IsGood}
+use Rattle.labellings.specs.Labellings.{FaceLabels, LabellingView, signs_of}
+use Rattle.quad_system.specs.PolygonLabellings.{face_labels, labelling_from}
+use Rattle.quad_system.proofs.PolygonLabelLemmas.{flips_are}
+use Rattle.labellings.specs.WalkWords.{IsWordOf}
+use Rattle.labellings.proofs.WalkWordLemmas.{denial_excludes}
+use Rattle.surf_model.specs.declared.decisions.Answer.TheVariants as answers
+use Rattle.walk_translate.proofs.DecidingLemmas.{words_decide}
+use Rattle.commands.proofs.Checking.{stops_first, stops_next, stops_second, told_stops}
+use Rattle.commands.proofs.Deciding.{differs, yes_or_no}
+use Rattle.commands.proofs.Sound.{IsSound, sound-decided_by}
+use Rattle.commands.specs.Answers.{Answer, Exactly}
+use Rattle.commands.specs.Certificates.{Convinces, decision_of}
+use Rattle.certify_commands.specs.Certify.{limit_fault, certified, certify, certificate_answer}
+use Rattle.commands.specs.Checks.{Check, Pass, Passes, pass_unless, ◌>>=◌}
+use Rattle.commands.specs.Inputs.{pair_in, walk_at}
+use Rattle.commands.specs.Stops.{Stops, Tells}
+use Rattle.surface_commands.specs.SurfaceInput.{surface_in}
+use Rattle.commands.specs.declared.certificate.Certificate.{Certificate}
+use Rattle.commands.specs.declared.certificate.Certificate.TheVariants.{Moves, Denial}
+use Rattle.commands.specs.declared.stop.Stop.{Stop}
+
+-- ---- denials
+
+-- where no list of moves leads, the polygon has some sides
+pub some_sides : (surface : OrientedMesh) (split : SplitView) (polygon : PolygonView) (first second : List ℕ) → IsOrientedSurface surface
+    → IsSplit surface split → IsCutFrom surface split polygon → IsWalk surface.mesh first → IsWalk surface.mesh second
+    → HaveCommonEnds first second
+    → (Homotopic surface.mesh first second → ⊥) → 0 < polygon.degree
+some_sides surface split polygon first second o is_split is_cut w z ends apart = elim (cases_lt 0 polygon.degree) [
+  | inl some ↦ some
+  | inr none ↦
+      absurd (apart (all_homotopic surface split first second o is_split (omega (arith, is_cut.degree, none)) w z ends))
+]
+
+-- and the words of the walks differ
+pub denial_holds : (surface : OrientedMesh) (split : SplitView) (polygon : PolygonView) (first second : List ℕ) (good : LabellingView)
+    (one other : Word)
+    → IsOrientedSurface surface → IsSplit surface split → IsCutFrom surface split polygon → 0 < polygon.degree → IsWalk surface.mesh first
+    → IsWalk surface.mesh second → HaveCommonEnds first second → (Homotopic surface.mesh first second → ⊥)
+    → good ≡ labelling_from surface polygon
+    → IsGood surface.mesh (labelling_from surface polygon) → IsWordOf surface.mesh good first one → IsWordOf surface.mesh good second other
+    → DenialHolds surface.mesh first second (record { labelling = good; first = one; second = other })
+denial_holds surface split polygon first second good one other o is_split is_cut some w z ends apart is_good meets f g =
+    record {
+      good = subst (IsGood surface.mesh) (sym is_good) meets;
+      first_word = f;
+      second_word = g;
+      differ = λ same.
+          apart
+          ((words_decide surface good first second one other o
+          (record { split = split; polygon = polygon; is_split = is_split; is_cut = is_cut; some = some; labelling_is = is_good }) w z
+          ends f g).1 same);
+    }
+
+-- the labelling has the signs of the surface
+pub signs_are : (surface : OrientedMesh) (polygon : PolygonView) (good : LabellingView) → IsOrientedSurface surface
+    → good ≡ labelling_from surface polygon → signs_of good ≡ surface.signs
+signs_are surface polygon good o is =
+    let made : LabellingView = labelling_from surface polygon in
+    let many : length (signs_of made) ≡ length surface.mesh.faces =
+    length-map made.faces (λ (f : FaceLabels). f.flipped)
+    ∙ length-map (enumerate_from 0 surface.mesh.faces) (λ (p : ℕ × List ℕ). face_labels surface polygon p.0 (length p.1))
+    ∙ length-enumerate_from 0 surface.mesh.faces in
+    ap signs_of is
+    ∙ ext_get_or false (signs_of made) surface.signs (many ∙ sym o.coherent.each_face)
+    (λ f l. flips_are surface polygon f (omega (arith, l, many)))
+
+-- ---- a certificate is for the right decision
+
+pub convinces_decides : (mesh : FaceList) (first second : List ℕ) (shown : Certificate) → IsFaceList mesh → IsWalk mesh first
+    → Convinces mesh first second shown → (decision_of shown ≡ answers.Homotopic) ↔ Homotopic mesh first second
+convinces_decides mesh first second (Moves list) valid walk h = ((λ _. (list.moves, h.leads)), (λ _. refl))
+convinces_decides mesh first second (Denial denial) valid walk h =
+    ((λ e. absurd (differs e)), (λ homotopic. absurd (denial_excludes mesh first second denial valid walk h homotopic)))
+
+-- the check has an end, and one
+pub sound-certified : (held : Option Files) (mesh : FaceList) (first second : List ℕ) → IsSound held (certified mesh first second)
+sound-certified held mesh first second =
+    sound-decided_by held yes_or_no (certificate_answer mesh first second) (Homotopic mesh first second)
+
+-- ---- how the checks of `certify` end
+
+-- what is looked at behind the limits, behind the walks, and behind the surface
+abbrev pub after_limits : FaceList → List (List ℕ) → List (List ℕ) → Check Answer
+after_limits surface pair allowed = certified surface (walk_at pair 0) (walk_at pair 1)
+
+abbrev pub limited : FaceList → List (List ℕ) → Check (List (List ℕ))
+limited surface pair = pass_unless (λ line. Exactly line) (limit_fault surface (walk_at pair 0) (walk_at pair 1)) pair
+
+abbrev pub after_pair : FaceList → List (List ℕ) → Check Answer
+after_pair surface pair = limited surface pair >>= after_limits surface pair
+
+abbrev pub after_surface : Option Files → List ℕ → FaceList → Check Answer
+after_surface held walks surface = pair_in held walks surface >>= after_pair surface
+
+pub walks_stop : (held : Option Files) (mesh walks : List ℕ) (surface : FaceList) (stop : Stop) → Passes (surface_in held mesh) surface
+    → Stops (pair_in held walks surface) stop → Stops (certify held mesh walks) stop
+walks_stop held mesh walks surface stop p h =
+    stops_second (surface_in held mesh) (pair_in held walks) after_pair surface stop p h
+
+-- what stops behind the walks stops all
+pair_stops : (held : Option Files) (mesh walks : List ℕ) (surface : FaceList) (pair : List (List ℕ)) (stop : Stop)
+    → Passes (surface_in held mesh) surface
+    → Passes (pair_in held walks surface) pair → Stops (after_pair surface pair) stop → Stops (certify held mesh walks) stop
+pair_stops held mesh walks surface pair stop p q h =
+    stops_next (surface_in held mesh) (after_surface held walks) surface stop p
+    (stops_next (pair_in held walks surface) (after_pair surface) pair stop q h)
+
+pub limits_stop : (held : Option Files) (mesh walks : List ℕ) (surface : FaceList) (pair : List (List ℕ)) (line : List ℕ) (stop : Stop)
+    → Passes (surface_in held mesh) surface → Passes (pair_in held walks surface) pair
+    → limit_fault surface (walk_at pair 0) (walk_at pair 1) ≡ Some line → Tells (Exactly line) stop → Stops (certify held mesh walks) stop
+limits_stop held mesh walks surface pair line stop p q e h =
+    pair_stops held mesh walks surface pair stop p q
+    (stops_first (limited surface pair) (after_limits surface pair) stop
+    (told_stops (Exactly line) (limited surface pair) stop (rw e refl) h))
+
+-- what is found behind the limits is what the command gives
+pub certificate_found : (held : Option Files) (mesh walks : List ℕ) (surface : FaceList) (pair : List (List ℕ)) (first second : List ℕ)
+    (shown : Certificate) → IsFaceList surface → IsWalk surface first → Passes (surface_in held mesh) surface
+    → Passes (pair_in held walks surface) pair → walk_at pair 0 ≡ first → walk_at pair 1 ≡ second → limit_fault surface first second ≡ None
+    → Convinces surface first second shown → Passes (certify held mesh walks) (certificate_answer surface first second (decision_of shown))
+certificate_found held mesh walks surface pair first second shown valid walk p q f g few h =
+    let answer : Answer = certificate_answer surface first second (decision_of shown) in
+    let here : (certified surface first second).Ends (Pass answer) =
+    (decision_of shown, refl, convinces_decides surface first second shown valid walk h) in
+    let there : (certified surface (walk_at pair 0) (walk_at pair 1)).Ends (Pass answer) =
+    subst (λ (w : List ℕ). (certified surface (walk_at pair 0) w).Ends (Pass answer)) (sym g)
+    (subst (λ (w : List ℕ). (certified surface w second).Ends (Pass answer)) (sym f) here) in
+    inr (surface, p, inr (pair, q, inr (pair, rw (f, g, few) refl, there)))

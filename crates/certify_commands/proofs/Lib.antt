@@ -1,0 +1,4 @@
+pub mod FoundLemmas
+pub mod SplitGenera
+pub mod Certifying
+pub mod CertifyOutcomes

@@ -1,0 +1,39 @@
+-- The component in which a walk lies.
+use Rattle.std.proofs.Common.{◌≡◌, ℕ, List, length, get_or, sym, ap, ◌∙◌, subst, arith, []}
+use Rattle.std.specs.Prelude.{map, Result, Ok, Err, IfOk}
+use Rattle.std.specs.List.{range_with_len}
+use Rattle.std.proofs.lemmas.List.{ext_get_or}
+use Rattle.std.proofs.lemmas.List.FromFn.{length-map-range_with_len, get_or-map-range_with_len}
+use Rattle.surf_model.specs.FaceLists.{FaceList, face_at}
+use Rattle.surf_model.specs.Walks.{IsWalk}
+use Rattle.manifold_check.proofs.PartPieces.{walk_alone}
+use Rattle.surf_model.specs.OrientableSurfaces.{IsOrientableSurface}
+use Rattle.closed_surfaces.specs.SignedSurfaces.{IsSigned, IsPart, IsComponentOf, surface_of}
+use Rattle.closed_surfaces.specs.declared.component.Component.{Component}
+use Rattle.closed_surfaces.specs.declared.component.Component.TheVariants.{Whole, Alone}
+use Rattle.closed_surfaces.specs.declared.signed_mesh.SignedMesh.{SignedMesh}
+
+-- what a call ends with, by what it ends with besides
+pub if_ok : {V E : Type 0} {P Q : V → Type 0} (result : Result V E) → ((x : V) → P x → Q x) → IfOk result P → IfOk result Q
+if_ok (Ok x) more h = more x h
+if_ok (Err e) more h = tt
+
+-- a signed mesh is an orientable closed surface
+pub signed_surface : (signed : SignedMesh) → IsSigned signed → IsOrientableSurface signed.faces
+signed_surface signed is = record { manifold = is.manifold; orientable = (signed.signs, is.coherent) }
+
+pub walk_there : (mesh : FaceList) (v : ℕ) (component : Component) (walk : List ℕ) → IsComponentOf mesh v component → IsWalk mesh walk
+    → get_or walk 0 0 ≡ v → IsWalk (surface_of component).mesh walk
+walk_there mesh v (Whole surface) walk h w start = subst (λ (m : FaceList). IsWalk m walk) (sym h) w
+walk_there mesh v (Alone part) walk h w start =
+    let is : IsPart part = h.0 in
+    subst (λ (m : FaceList). IsWalk m walk) (sym is.mesh)
+    (walk_alone part.whole.faces part.parts part.place walk is.parts is.within (subst (λ (m : FaceList). IsWalk m walk) (sym h.1) w)
+    (ap (λ (n : ℕ). get_or part.parts.places n 0) start ∙ h.2))
+
+pub faces_by_name : (mesh : FaceList) → map (face_at mesh) (range_with_len 0 (length mesh.faces)) ≡ mesh.faces
+faces_by_name mesh =
+    let n : ℕ = length mesh.faces in
+    let size : length (map (face_at mesh) (range_with_len 0 n)) ≡ n = length-map-range_with_len (face_at mesh) 0 n in
+    ext_get_or [] (map (face_at mesh) (range_with_len 0 n)) mesh.faces size
+    (λ i l. get_or-map-range_with_len (face_at mesh) 0 n i i [] (omega (arith, l, size)) (omega arith))

@@ -1,0 +1,17 @@
+-- The genera of the components of a mesh.
+use Rattle.surf_model.specs.Genera.{HasGenus}
+use Rattle.std.specs.Prelude.{◌≡◌, ℕ, ◌+◌, ◌*◌, ◌<◌, List, length, slice_index}
+use Rattle.surf_model.specs.FaceLists.{FaceList}
+use Rattle.surf_model.specs.ComponentParts.{PartsView, AreParts, component_mesh}
+use Rattle.manifold_check.specs.declared.measuring.PartNumbers.{PartNumbers}
+
+-- the counts are those of a connected surface of this genus: V + F + 2 g is E + 2
+abbrev pub IsGenusOf : PartNumbers → ℕ → Type 0
+IsGenusOf numbers genus = numbers.vertices + numbers.faces + 2 * genus ≡ numbers.edges + 2
+
+-- the genus of each component, in the order of the components
+pub record AreGeneraOf (mesh : FaceList) (genera : List ℕ) : Type 0 where
+  pub parts : PartsView
+  pub are_parts : AreParts mesh parts
+  pub each : length genera ≡ length parts.components
+  pub genus : (k : ℕ) → k < length genera → HasGenus (component_mesh mesh parts k) (slice_index genera k)

@@ -1,0 +1,2 @@
+pub mod SignedSurfaces
+pub mod ComponentGenera

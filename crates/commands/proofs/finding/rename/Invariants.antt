@@ -1,8 +1,0 @@
-use Rattle.std.proofs.Common.{◌≡◌, take}
-use Rattle.manifold_check.specs.ComponentParts.{component_at}
-use Rattle.manifold_check.specs.Submeshes.{renamed_moves}
-use Rattle.commands.proofs.finding.rename.Given as goal
-
-abbrev pub invariant-loop-k : goal.invariant-loop-k
-invariant-loop-k l =
-    l.renamed ≡ record { moves = renamed_moves (component_at l.parts l.place) (take l.k l.list.moves); peak = l.list.peak }

@@ -1,7 +1,0 @@
-use Rattle.std.proofs.Common.{◌≡◌, ◌++◌, take}
-use Rattle.std.specs.Prelude.{map}
-use Rattle.commands.specs.Surface.{genus_line}
-use Rattle.commands.proofs.surface.put_genera.Given as goal
-
-abbrev pub invariant-loop-genus : goal.invariant-loop-genus
-invariant-loop-genus l = l.lines.items ≡ l.initial.lines.items ++ map genus_line (take l.genus-index l.genera)

@@ -1,0 +1,10 @@
+use Rattle.std.proofs.Common.{◌≡◌, ◌+◌, ◌-◌, ◌≤◌, length, take}
+use Rattle.chain_pool.specs.Chains.{list_of}
+use Rattle.move_checker.proofs.tape.Tape.equals.Given as goal
+
+abbrev pub invariant-loop-place : goal.invariant-loop-place
+invariant-loop-place l =
+    (take l.place (list_of l.self-inside.pool l.self-inside.chain.0) ≡ take l.place l.walk) × (l.place ≤ length l.walk)
+
+abbrev pub decreases-loop-place : goal.decreases-loop-place
+decreases-loop-place l = length l.walk - l.place

@@ -1,0 +1,58 @@
+-- Entries of a chain that go, some at a time.
+use Rattle.std.proofs.Common.{◌≡◌, ◌≢◌, ℕ, ◌+◌, ◌≤◌, List, length, Some, refl, sym, ap, ◌∙◌, arith}
+use Rattle.std.proofs.lemmas.List.{take-append-drop}
+use Rattle.chain_pool.specs.Chains.{Chains, under, IsUnder, IsEdit, list_under, cut}
+use Rattle.chain_pool.proofs.Lists.{list_is, list_under-is}
+use Rattle.segmented_pool.proofs.Lists.{cut_again, length-cut}
+use Rattle.segmented_pool.proofs.Moved.{live_from}
+
+-- but for so many, the entries of a chain between two places are gone
+pub record IsCutSome (old new : Chains) (name from to left : ℕ) : Type 0 where
+  pub live : IsUnder new.lists name
+  pub within : from + left ≤ length (list_under new.lists name)
+  pub list : cut (list_under new.lists name) from (from + left) ≡ cut (list_under old.lists name) from to
+  pub others : (other : ℕ) → other ≢ name → under new.lists other ≡ under old.lists other
+  pub spare : new.spare + from + left ≡ old.spare + to
+
+pub cut_nothing : (old : Chains) (name from to left : ℕ) → IsUnder old.lists name → from + left ≡ to
+    → to ≤ length (list_under old.lists name)
+    → IsCutSome old old name from to left
+cut_nothing old name from to left live e le =
+    record {
+      live = live;
+      within = omega arith;
+      list = ap (λ (k : ℕ). cut (list_under old.lists name) from k) e;
+      others = λ other ne. refl;
+      spare = omega arith;
+    }
+
+module _ (old new : Chains) (name from to left : ℕ) (is : IsCutSome old new name from to left) where
+  pub cut_some : (after : Chains) (gone rest : ℕ) → gone + rest ≡ left
+      → IsEdit new.lists after.lists name (Some (cut (list_under new.lists name) from (from + gone)))
+      → after.spare ≡ new.spare + gone → IsCutSome old after name from to rest
+  cut_some after gone rest e edit spare =
+      let list : List ℕ = list_under new.lists name in
+      let now : list_under after.lists name ≡ cut list from (from + gone) = list_under-is after.lists name _ edit.here in
+      let sum : from + gone + rest ≡ from + left = omega (arith, e) in
+      record {
+        live = live_from after.lists name _ edit.here;
+        within = omega (
+          arith,
+          is.within,
+          ap (λ (l : List ℕ). length l) now,
+          length-cut list from (from + gone) (omega arith) (omega (arith, is.within)),
+        );
+        list = ap (λ (l : List ℕ). cut l from (from + rest)) now ∙ cut_again list from (omega (arith, is.within)) (from + gone) rest
+            ∙ ap (λ (k : ℕ). cut list from k) sum ∙ is.list;
+        others = λ other ne. edit.others other ne ∙ is.others other ne;
+        spare = omega (arith, is.spare, spare, e);
+      }
+
+  pub cut_done : left ≡ 0 → IsEdit old.lists new.lists name (Some (cut (list_under old.lists name) from to))
+  cut_done none =
+      let here : from + left ≡ from = omega (arith, none) in
+      record {
+        here = list_is new.lists name is.live ∙ ap (λ (l : List ℕ). Some l) (sym (take-append-drop from (list_under new.lists name)))
+            ∙ ap (λ (k : ℕ). Some (cut (list_under new.lists name) from k)) (sym here) ∙ ap (λ (l : List ℕ). Some l) is.list;
+        others = is.others;
+      }

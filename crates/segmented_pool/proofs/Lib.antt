@@ -1,0 +1,9 @@
+pub mod Lists
+pub mod Rows
+pub mod Joined
+pub mod Marks
+pub mod Moved
+pub mod RowEdits
+pub mod Only
+pub mod Kept
+pub mod Cuts

@@ -1,0 +1,106 @@
+-- Entries that go from one chain of a pool to another.
+use Rattle.std.proofs.Common.{◌≡◌, ◌≢◌, ℕ, ◌+◌, ◌-◌, ◌<◌, ◌≤◌, List, [], ◌++◌, length, take, drop, get_or, Option, Some, None, is_some, sym, ap, ◌∙◌, arith}
+use Rattle.std.proofs.lemmas.List.{length-take-le, length-drop, get_or-drop, take_all, take-append-drop, drop_all, append-nil}
+use Rattle.std.proofs.Math.ListN.{length-append}
+use Rattle.chain_pool.specs.Chains.{Chains, under, IsUnder, IsEdit, list_under, inserted, cut}
+use Rattle.chain_pool.proofs.Lists.{list_is, list_under-is}
+use Rattle.segmented_pool.proofs.Lists.{entry_behind_cut, cut_again, inserted_last}
+
+-- so many entries from a place of a chain on lie in another chain, which was none before
+pub record IsMoved (old new : Chains) (name taken place moved : ℕ) : Type 0 where
+  pub was : under old.lists taken ≡ None
+  pub apart : name ≢ taken
+  pub here : under new.lists name ≡ Some (cut (list_under old.lists name) place (place + moved))
+  pub there : under new.lists taken ≡ Some (take moved (drop place (list_under old.lists name)))
+  pub others : (other : ℕ) → other ≢ name → other ≢ taken → under new.lists other ≡ under old.lists other
+  pub spare : new.spare + 1 ≡ old.spare
+
+pub live_from : (lists : List (Option (List ℕ))) (name : ℕ) (list : List ℕ) → under lists name ≡ Some list → IsUnder lists name
+live_from lists name list e = ap (λ (o : Option (List ℕ)). is_some o) e
+
+pub moved_none : (old new : Chains) (name taken place : ℕ) → IsUnder old.lists name → under old.lists taken ≡ None
+    → IsEdit old.lists new.lists taken (Some []) → new.spare + 1 ≡ old.spare → IsMoved old new name taken place 0
+moved_none old new name taken place is_live none edit spare =
+    let list = list_under old.lists name in
+    let has : under old.lists name ≡ Some list = list_is old.lists name is_live in
+    let ne : name ≢ taken = λ e. let both = sym none ∙ ap (λ (k : ℕ). under old.lists k) (sym e) ∙ has in cc in
+    let same : place + 0 ≡ place = omega arith in
+    let all : take place list ++ drop (place + 0) list ≡ list = ap (λ (k : ℕ). take place list ++ drop k list) same
+    ∙ take-append-drop place list in
+    record {
+      was = none;
+      apart = ne;
+      here = edit.others name ne ∙ has ∙ ap (λ (l : List ℕ). Some l) (sym all);
+      there = edit.here;
+      others = λ other a b. edit.others other b;
+      spare = spare;
+    }
+
+module _ (old new : Chains) (name taken place moved : ℕ) (is : IsMoved old new name taken place moved) where
+  abbrev list : List ℕ
+  list = list_under old.lists name
+
+  pub left_len : length (list_under new.lists name) ≡ length (cut list place (place + moved))
+  left_len = ap (λ (l : List ℕ). length l) (list_under-is new.lists name _ is.here)
+
+  pub some_left : place ≤ length list → moved < length list - place → place < length (list_under new.lists name)
+  some_left within lt =
+      omega (
+        arith,
+        left_len,
+        length-append (take place list) (drop (place + moved) list),
+        length-take-le place list within,
+        length-drop (place + moved) list,
+      )
+
+  -- where the entry at the place goes, the other chain stays
+  pub taken_stays : (read mid : Chains) → read ≡ new
+      → IsEdit read.lists mid.lists name (Some (cut (list_under read.lists name) place (place + 1)))
+      → moved ≤ length list - place → moved ≤ length (list_under mid.lists taken)
+  taken_stays read mid same edit le =
+      let other : taken ≢ name = λ e. is.apart (sym e) in
+      let stays : under mid.lists taken ≡ Some (take moved (drop place list)) =
+      edit.others taken other ∙ ap (λ (v : Chains). under v.lists taken) same ∙ is.there in
+      omega (
+        arith,
+        ap (λ (l : List ℕ). length l) (list_under-is mid.lists taken _ stays),
+        length-take-le moved (drop place list) (omega (arith, length-drop place list)),
+      )
+
+  pub moved_more : (read mid after : Chains) (value : ℕ) → read ≡ new → place ≤ length list → moved < length list - place
+      → value ≡ get_or (list_under new.lists name) place 0
+      → IsEdit read.lists mid.lists name (Some (cut (list_under read.lists name) place (place + 1)))
+      → mid.spare + place ≡ read.spare + (place + 1)
+      → IsEdit mid.lists after.lists taken (Some (inserted (list_under mid.lists taken) moved value))
+      → after.spare + 1 ≡ mid.spare
+      → IsMoved old after name taken place (moved + 1)
+  moved_more read mid after value same within lt reads first spare second spare' =
+      let other : taken ≢ name = λ e. is.apart (sym e) in
+      let mid_taken : under mid.lists taken ≡ Some (take moved (drop place list)) = first.others taken other
+      ∙ ap (λ (v : Chains). under v.lists taken) same ∙ is.there in
+      let mid_name : under mid.lists name ≡ Some (cut list place (place + moved + 1)) =
+      first.here ∙ ap (λ (v : Chains). Some (cut (list_under v.lists name) place (place + 1))) same
+      ∙ ap (λ (l : List ℕ). Some (cut l place (place + 1))) (list_under-is new.lists name _ is.here)
+      ∙ ap (λ (l : List ℕ). Some l) (cut_again list place within (place + moved) 1) in
+      let entry : get_or (drop place list) moved 0 ≡ value =
+      sym (reads ∙ ap (λ (l : List ℕ). get_or l place 0) (list_under-is new.lists name _ is.here)
+      ∙ entry_behind_cut list place within (place + moved) ∙ sym (get_or-drop place list moved 0)) in
+      let sum : place + moved + 1 ≡ place + (moved + 1) = omega arith in
+      record {
+        was = is.was;
+        apart = is.apart;
+        here = second.others name is.apart ∙ mid_name ∙ ap (λ (k : ℕ). Some (cut list place k)) sum;
+        there = second.here ∙ ap (λ (l : List ℕ). Some (inserted l moved value)) (list_under-is mid.lists taken _ mid_taken)
+            ∙ ap (λ (l : List ℕ). Some l) (inserted_last (drop place list) moved value (omega (arith, length-drop place list)) entry);
+        others = λ k a b. second.others k b ∙ first.others k a ∙ ap (λ (v : Chains). under v.lists k) same ∙ is.others k a b;
+        spare = omega (arith, is.spare, ap (λ (v : Chains). v.spare) same);
+      }
+
+  pub moved_all : length list - place ≤ moved → place ≤ length list
+      → (under new.lists name ≡ Some (take place list)) × (under new.lists taken ≡ Some (drop place list))
+  moved_all all within =
+      let gone : take place list ++ drop (place + moved) list ≡ take place list =
+      ap (λ (l : List ℕ). take place list ++ l) (drop_all (place + moved) list (omega arith)) ∙ append-nil (take place list) in (
+        is.here ∙ ap (λ (l : List ℕ). Some l) gone,
+        is.there ∙ ap (λ (l : List ℕ). Some l) (take_all moved (drop place list) (omega (arith, length-drop place list))),
+      )

@@ -1,0 +1,5 @@
+pub mod Surfaces
+pub mod Measuring
+pub mod SurfaceRows
+pub mod RunsOnWalks
+pub mod SurfaceOutcomes

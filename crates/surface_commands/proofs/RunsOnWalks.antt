@@ -1,0 +1,54 @@
+-- Commands that read a surface, then walks of it, and answer what is asked of these.
+use Rattle.std.proofs.Common.{ℕ, List, inr, subst}
+use Rattle.std.specs.Prelude.{Option, Ok, Err}
+use Rattle.surf_io.specs.Calls.{OnlyReads}
+use Rattle.surf_io.specs.Files.{Files}
+use Rattle.surf_model.specs.FaceLists.{FaceList}
+use Rattle.commands.proofs.Checking.{stops_second}
+use Rattle.commands.proofs.Running.{memory_no_fault, only_then, runs_faulty, runs_replied, runs_stopped}
+use Rattle.commands.specs.Answers.{Answer}
+use Rattle.commands.specs.Checks.{Check, Passes, ◌>>=◌}
+use Rattle.commands.specs.Replies.{Replies, Runs}
+use Rattle.commands.specs.Stops.{Reads, Stops}
+use Rattle.surface_commands.specs.SurfaceInput.{surface_in}
+use Rattle.commands.specs.declared.reply.Reply.{Reply}
+use Rattle.commands.specs.declared.stop.Stop.{Stop}
+use Rattle.commands.specs.declared.stop.Stop.TheVariants.{OutOfMemory}
+
+module _ {X A : Type 0} (held : X → Option Files) (faults : X → ℕ) (old mid new : X) (name : List ℕ)
+    (walks_in : Option Files → FaceList → Check A) (next : FaceList → A → Check Answer) (surface : FaceList)
+    (read : OnlyReads held faults old mid) (passes : Passes (surface_in (held old) name) surface) where
+  abbrev pub command : Option Files → Check Answer
+  command files = surface_in files name >>= (λ mesh. walks_in files mesh >>= next mesh)
+
+  looks : (command (held old)).EachFile (λ _. ⊥) → ⊥
+  looks none = none.0.0.0
+
+  -- the walks are refused
+  pub runs_refused_walks : {V : Type 0} (IsEnd : Option Files → Type 0) (stop : Stop) → Reads {V = V} held faults mid new IsEnd (Err stop)
+      → Stops (walks_in (held mid) surface) stop → Runs held faults old new command (Err stop)
+  runs_refused_walks IsEnd stop h stops =
+      runs_stopped held faults old new command looks mid IsEnd stop read h
+      (stops_second (surface_in (held old) name) (walks_in (held old)) next surface stop passes
+      (subst (λ (files : Option Files). Stops (walks_in files surface) stop) read.same_files stops))
+
+  -- memory is wanting behind them
+  pub runs_wanting : OnlyReads held faults mid new → Runs held faults old new command (Err OutOfMemory)
+  runs_wanting more =
+      runs_faulty held faults old new command looks OutOfMemory (only_then held faults old mid new read more) memory_no_fault tt
+
+  -- there is a reply to what is asked of them
+  pub runs_asked : (walks : A) (reply : Reply) → OnlyReads held faults mid new → Passes (walks_in (held mid) surface) walks
+      → Replies (next surface walks) reply → Runs held faults old new command (Ok reply)
+  runs_asked walks reply more q h =
+      runs_replied held faults old new command looks reply (only_then held faults old mid new read more)
+      (record {
+        answer = h.answer;
+        passes =
+            inr (
+              surface,
+              passes,
+              inr (walks, subst (λ (files : Option Files). Passes (walks_in files surface) walks) read.same_files q, h.passes),
+            );
+        is_answer = h.is_answer;
+      })

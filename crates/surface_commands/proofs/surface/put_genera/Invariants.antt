@@ -1,0 +1,7 @@
+use Rattle.std.proofs.Common.{◌≡◌, ◌++◌, take}
+use Rattle.std.specs.Prelude.{map}
+use Rattle.surface_commands.specs.Surface.{genus_line}
+use Rattle.surface_commands.proofs.surface.put_genera.Given as goal
+
+abbrev pub invariant-loop-genus : goal.invariant-loop-genus
+invariant-loop-genus l = l.lines.items ≡ l.initial.lines.items ++ map genus_line (take l.genus-index l.genera)

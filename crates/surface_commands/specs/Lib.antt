@@ -1,0 +1,4 @@
+pub mod SurfaceRefusals
+pub mod SurfaceInput
+pub mod Surface
+pub mod Examples

@@ -1,0 +1,3 @@
+pub mod Trying
+pub mod ChainReading
+pub mod TrialOutcomes

@@ -1,0 +1,115 @@
+-- Each certificate of homology has a verdict, and one.
+use Rattle.std.proofs.Common.{◌≡◌, inl, inr, ℕ, zero, suc, ◌<◌, List, [], ◌∷◌, length, get_or, map, refl, sym, ap, ◌∙◌, subst, arith, ℤ, pos, ◌-ℤ◌}
+use Rattle.std.specs.Prelude.{All, Option}
+use Rattle.std.proofs.lemmas.Bool.{cases_lt}
+use Rattle.std.proofs.lemmas.List.{get_or-map, get_or_default, length-map}
+use Rattle.std.proofs.lemmas.List.Elements.{All-nil, All-from_get_or}
+use Rattle.surf_io.specs.Files.{Files}
+use Rattle.surf_model.specs.Edges.{Edge, edge_in}
+use Rattle.surf_model.specs.FaceLists.{FaceList, IsFaceList}
+use Rattle.surf_model.proofs.EdgeTables.{some_table}
+use Rattle.homology.specs.Certificates.{face_number, edge_number}
+use Rattle.homology.specs.Chains.{boundary, count_difference}
+use Rattle.homology.specs.Cocycles.{face_sum}
+use Rattle.homology.specs.Tallies.{IsLeft, number_at}
+use Rattle.homology.specs.Verdicts.{HasEdge, HasFace, IsFirstAgainst, IsVerdict}
+use Rattle.homology.specs.declared.certificate.EdgeNumber.{EdgeNumber}
+use Rattle.homology.specs.declared.certificate.FaceNumber.{FaceNumber}
+use Rattle.homology.specs.declared.certificate.HomologyCert.{HomologyCert}
+use Rattle.homology.specs.declared.certificate.HomologyCert.TheVariants.{Chain, Cocycle}
+use Rattle.homology.specs.declared.verdict.HomologyVerdict.{HomologyVerdict}
+use Rattle.homology.specs.declared.verdict.HomologyVerdict.TheVariants as verdicts
+use Rattle.homology.proofs.ChainVerdictLemmas.{chain_fails, chain_holds}
+use Rattle.homology.proofs.VerdictLemmas.{one_verdict}
+use Rattle.commands.proofs.Sound.{IsSound}
+use Rattle.commands.specs.Answers.{Answer}
+use Rattle.commands.specs.Checks.{End, Refuse, Pass}
+use Rattle.verify_homology_commands.specs.VerifyHomology.{judgement, verdict_answer}
+
+-- below a bound there is a least number of which something fails, or it holds of all
+first_failing : (n : ℕ) (P : ℕ → Type 0) → ((k : ℕ) → k < n → (P k → ⊥) → ((j : ℕ) → j < k → P j) → ⊥)
+    → (((j : ℕ) → j < n → P j) → ⊥) → ⊥
+first_failing zero P none some = some (λ j l. absurd (omega arith))
+first_failing (suc n) P none some =
+    first_failing n P (λ k l fails before. none k (omega arith) fails before)
+    (λ all. none n (omega arith) (λ here. some (λ j l. elim (cases_lt j n) [
+      | inl below ↦ all j below
+      | inr end ↦ let same : n ≡ j = omega arith in subst P same here
+    ])) all)
+
+-- the same of the elements of a list
+first_against : {X : Type 0} (P : X → Type 0) (xs : List X) → ((x : X) → IsFirstAgainst P xs x → ⊥) → (All P xs → ⊥) → ⊥
+first_against P [] none some = some (All-nil P)
+first_against {X} P (x ∷ xs) none some =
+    let all : List X = x ∷ xs in
+    first_failing (length all) (λ k. P (get_or all k x))
+    (λ k l fails before.
+    none (get_or all k x) (record {
+      place = k;
+      in_list = l;
+      is = get_or_default all k (get_or all k x) x l;
+      against = fails;
+      before = λ j less. subst P (get_or_default all j x (get_or all k x) (omega (arith, l, less))) (before j less);
+    }))
+    (λ each. some (All-from_get_or P all x each))
+
+-- what a chain leaves at each edge of a table
+left_by : (mesh : FaceList) (table : List Edge) (of_face : ℕ → ℤ) (first second : List ℕ) → (rest : List ℤ)
+    × IsLeft mesh table of_face first second rest
+left_by mesh table of_face first second =
+    let left : Edge → ℤ = λ edge. count_difference first second edge.low edge.high -ℤ boundary mesh of_face edge.low edge.high in (
+      map left table,
+      record {
+        long = length-map table left;
+        each = λ k l. get_or-map left table k (record { low = 0; high = 0; sides = [] }) (pos 0) l;
+      },
+    )
+
+some_of_chain : (mesh : FaceList) (first second : List ℕ) (lines : List FaceNumber) → IsFaceList mesh
+    → ((verdict : HomologyVerdict) → IsVerdict mesh first second (Chain lines) verdict → ⊥) → ⊥
+some_of_chain mesh first second lines valid none =
+    first_against (HasFace mesh) lines (λ line is. none (verdicts.Face line.face) (line, is, refl)) (λ there.
+    let found = some_table mesh valid in
+    let table : List Edge = found.0 in
+    let of_face : ℕ → ℤ = face_number lines in
+    let left = left_by mesh table of_face first second in
+    first_failing (length table) (λ k. number_at left.0 k ≡ pos 0)
+    (λ k l fails before.
+    none (verdicts.Edge (record { 0 = (edge_in table k).low }) (record { 0 = (edge_in table k).high }))
+    (there, chain_fails mesh table of_face of_face first second left.0 found.1 (λ f. refl) left.1 k l fails before))
+    (λ all.
+    none verdicts.Accepted
+    (there, chain_holds mesh table of_face of_face first second left.0 found.1 (λ f. refl) left.1 all)))
+
+some_of_cocycle : (mesh : FaceList) (first second : List ℕ) (lines : List EdgeNumber)
+    → ((verdict : HomologyVerdict) → IsVerdict mesh first second (Cocycle lines) verdict → ⊥) → ⊥
+some_of_cocycle mesh first second lines none =
+    first_against (HasEdge mesh) lines (λ line is. none (verdicts.Edge line.low line.high) (line, is, refl, refl)) (λ there.
+    first_failing (length mesh.faces) (λ f. face_sum mesh (edge_number lines) f ≡ pos 0)
+    (λ f l fails before.
+    none (verdicts.Sum (record { 0 = f })) (there, record { in_mesh = l; against = fails; least = before }))
+    (λ all.
+    none verdicts.Accepted
+    (there, record { closed = all }, λ same. none verdicts.Zero (there, record { closed = all }, same))))
+
+-- some verdict is the first that holds
+some_verdict : (mesh : FaceList) (first second : List ℕ) (shown : HomologyCert) → IsFaceList mesh
+    → ((verdict : HomologyVerdict) → IsVerdict mesh first second shown verdict → ⊥) → ⊥
+some_verdict mesh first second (Chain lines) valid none = some_of_chain mesh first second lines valid none
+some_verdict mesh first second (Cocycle lines) valid none = some_of_cocycle mesh first second lines none
+
+one_judged : (mesh : FaceList) (first second : List ℕ) (shown : HomologyCert) (a b : End Answer)
+    → (judgement mesh first second shown).Ends a → (judgement mesh first second shown).Ends b → a ≡ b
+one_judged mesh first second shown (Refuse texts) b p q = absurd p
+one_judged mesh first second shown (Pass x) (Refuse texts) p q = absurd q
+one_judged mesh first second shown (Pass x) (Pass y) p q =
+    let same : p.0 ≡ q.0 = one_verdict mesh first second shown p.0 q.0 p.2 q.2 in
+    let answers : x ≡ y = p.1 ∙ ap verdict_answer same ∙ sym q.1 in
+    cc
+
+pub sound-judgement : (held : Option Files) (mesh : FaceList) (first second : List ℕ) (shown : HomologyCert) → IsFaceList mesh
+    → IsSound held (judgement mesh first second shown)
+sound-judgement held mesh first second shown valid = record {
+  some = λ none. some_verdict mesh first second shown valid (λ verdict is. none (Pass (verdict_answer verdict)) (verdict, refl, is));
+  one = λ _ a b p q. one_judged mesh first second shown a b p q;
+}

@@ -1,0 +1,15 @@
+use Rattle.commands.specs.Checks.{file, meant}
+use Rattle.homology_files.specs.HomologyTexts.{cert_of_text}
+use Rattle.verify_homology_commands.specs.VerifyHomology.{fault_line}
+use Rattle.commands.specs.declared.refusal.Input.TheVariants.{Certificate}
+use Rattle.commands.proofs.Checking.{next_end}
+use Rattle.commands.proofs.Running.{reads_ended}
+use Rattle.verify_homology_commands.proofs.verify_homology.read_shown.Goals as goal
+
+pub returns : goal.returns
+returns g c =
+    reads_ended g.S.Shelf.held g.S.Shelf.faults c.args.shelf.now c.read_file.new.shelf _ c.certificate_of_bytes.result
+    c.in_ok-bytes.ensures.only_reads c.certificate_of_bytes.ensures.no_fault
+    (next_end (file (g.S.Shelf.held c.args.shelf.now) c.args.name.now Certificate) (λ bytes. meant fault_line (cert_of_text bytes))
+    c.in_ok-bytes.bytes.items c.certificate_of_bytes.result c.in_ok-bytes.ensures.end
+    (rw c.deref.ensures.value at c.certificate_of_bytes.ensures.end))
