@@ -159,7 +159,6 @@ module _ (slots : List (Option Cell)) (capacity : ℕ) (free : Stack) (spare : �
             (λ _ _. refl) (λ _ ne. absurd (ne refl)) (λ ne _. absurd (ne refl));
       } in
       let done = moved (memory_of slots) (memory_of new) free free' (Right c) (Left c) r.top next v v moves sound.owners sound.stacks in
-      let now_left : List ℕ = content (memory_of new) free' (Left c) in
       let now_right : List ℕ = content (memory_of new) free' (Right c) in
       edited slots r.top c next v l.top v l r l' r' here head capacity free spare sound free' spare (Right c) (Left c)
       (λ k ne. (λ e. cc, λ e. ne (cc), λ e. ne (cc), λ e. cc)) done
@@ -205,7 +204,6 @@ module _ (slots : List (Option Cell)) (capacity : ℕ) (free : Stack) (spare : �
       } in
       let done = moved (memory_of slots) (memory_of new) free free' (Left c) (Right c) l.top next v v moves sound.owners sound.stacks in
       let now_left : List ℕ = content (memory_of new) free' (Left c) in
-      let now_right : List ℕ = content (memory_of new) free' (Right c) in
       edited slots l.top c next v r.top v l r l' r' here head capacity free spare sound free' spare (Left c) (Right c)
       (λ k ne. (λ e. ne (cc), λ e. cc, λ e. cc, λ e. ne (cc))) done
       (retreated (parted_at c))
@@ -248,7 +246,6 @@ module _ (slots : List (Option Cell)) (capacity : ℕ) (free : Stack) (spare : �
             (λ ne _. absurd (ne refl)) (λ _ ne. absurd (ne refl)) (λ _ _. refl);
       } in
       let done = moved (memory_of slots) (memory_of new) free free' Free (Left c) free.top next v value moves sound.owners sound.stacks in
-      let now_left : List ℕ = content (memory_of new) free' (Left c) in
       let now_right : List ℕ = content (memory_of new) free' (Right c) in
       let right_same = done.others (Right c) (λ e. cc) (λ e. cc) in
       edited slots free.top c next v l.top value l r l' r' here head capacity free spare sound free' (spare - 1) Free (Left c)
@@ -294,7 +291,6 @@ module _ (slots : List (Option Cell)) (capacity : ℕ) (free : Stack) (spare : �
             (λ _ ne. absurd (ne refl)) (λ _ _. refl) (λ ne _. absurd (ne refl));
       } in
       let done = moved (memory_of slots) (memory_of new) free free' (Right c) Free r.top next v v moves sound.owners sound.stacks in
-      let now_left : List ℕ = content (memory_of new) free' (Left c) in
       let now_right : List ℕ = content (memory_of new) free' (Right c) in
       let left_same = done.others (Left c) (λ e. cc) (λ e. cc) in
       edited slots r.top c next v free.top v l r l' r' here head capacity free spare sound free' (spare + 1) (Right c) Free

@@ -37,17 +37,6 @@ pub list_in : (chains : List (Option Parted)) (lists : List (Option (List ℕ)))
     → list_under lists name ≡ joined (parted_under chains name)
 list_in chains lists name e = ap (λ (now : List (Option (List ℕ))). list_under now name) (sym e) ∙ list_under-joined chains name
 
-joined_some : (found : Option Parted) → IsSome (joined_option found) → IsSome found
-joined_some None live = live
-joined_some (Some parted) live = refl
-
-pub live_in : (chains : List (Option Parted)) (lists : List (Option (List ℕ))) (name : ℕ) → joined_lists chains ≡ lists
-    → IsUnder lists name → IsUnder chains name
-live_in chains lists name e live =
-    joined_some (under chains name)
-    (subst (λ (found : Option (List ℕ)). IsSome found) (under-joined chains name)
-    (subst (λ (now : List (Option (List ℕ))). IsUnder now name) (sym e) live))
-
 pub edit_then_alike : {A : Type 0} (old mid new : List (Option A)) (name : ℕ) (thing : Option A) → IsEdit old mid name thing
     → IsAlike mid new → IsEdit old new name thing
 edit_then_alike old mid new name thing edit alike =

@@ -60,9 +60,6 @@ module _ (slots : List (Option Cell)) (x c next v link v' : ℕ) (l r l' r' : St
   pub apart : x ≢ c
   apart e = let same = sym here ∙ ap (under slots) e ∙ head in cc
 
-  pub length-rewritten : length rewritten ≡ length slots
-  length-rewritten = length-set (set slots x (Some (Entry link v'))) c (Some (Head l' r')) ∙ length-set slots x (Some (Entry link v'))
-
   pub at_entry : under rewritten x ≡ Some (Entry link v')
   at_entry =
       get_or-set_other (set slots x (Some (Entry link v'))) c x (Some (Head l' r')) None apart

@@ -1,21 +1,17 @@
 -- Chains that go: given back, or moved into another.
 use Rattle.std.proofs.Common.{◌≡◌, ◌≢◌, ℕ, ◌+◌, ◌-◌, ◌<◌, ◌≤◌, List, [], ◌∷◌, ◌++◌, length, reverse, take, drop, get_or, Option, Some, None, refl, sym, ap, ◌∙◌, arith, append_assoc, zero-add}
-use Rattle.std.proofs.lemmas.List.{reverse-append, reverse-reverse, append-nil, take_all, drop_all, drop-drop, length-drop, take_more, get_or-drop}
+use Rattle.std.proofs.lemmas.List.{reverse-append, reverse-reverse, append-nil, take_all, drop_all, drop-drop, length-drop, take_more, get_or-drop, nil_from_length}
 use Rattle.chain_pool.specs.Chains.{Chains, under, IsEdit, list_under, cut, spliced}
 use Rattle.chain_pool.specs.Memory.{Parted, PartedChains, joined, joined_option, joined_lists, parted_under, parted_at, pushed, cut_here}
 use Rattle.chain_pool.proofs.Lists.{list_in}
 use Rattle.chain_pool.proofs.Soundness.{parted_under-is, under-joined, length-joined}
 
-no_entries : (list : List ℕ) → length list ≡ 0 → list ≡ []
-no_entries [] e = refl
-no_entries (x ∷ rest) e = absurd (omega arith)
-
 -- a chain with an empty list has nothing on either side
 pub joined-none : (parted : Parted) → joined parted ≡ [] → parted ≡ record { before = []; behind = [] }
 joined-none parted e =
     let none : length parted.before + length parted.behind ≡ 0 = sym (length-joined parted) ∙ ap (λ (l : List ℕ). length l) e in
-    let first : parted.before ≡ [] = no_entries parted.before (omega (arith, none)) in
-    let second : parted.behind ≡ [] = no_entries parted.behind (omega (arith, none)) in
+    let first : parted.before ≡ [] = nil_from_length parted.before (omega (arith, none)) in
+    let second : parted.behind ≡ [] = nil_from_length parted.behind (omega (arith, none)) in
     ap (λ (l : List ℕ). record { before = l; behind = parted.behind }) first
     ∙ ap (λ (l : List ℕ). record { before = []; behind = l }) second
 
@@ -44,7 +40,6 @@ pub IsSplicedTo-none : (pool : Chains) (old mid new : PartedChains) (name place 
     → IsSplicedTo pool new name place other 0
 IsSplicedTo-none pool old mid new name place other ne lists spare first second same same2 =
     let list = list_under pool.lists name in
-    let rest = list_under pool.lists other in
     let kept : parted_under mid.chains other ≡ parted_under old.chains other =
     same_parted old.chains mid.chains other (first.others other (λ e. ne (sym e))) in
     record {

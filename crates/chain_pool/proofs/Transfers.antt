@@ -37,9 +37,6 @@ pub record Moved (h h' : Memory) (free free' : Stack) (s t : Owner) (v v' : ℕ)
 
 module _ (h h' : Memory) (free free' : Stack) (s t : Owner) (x next v v' : ℕ) (moves : Moves h h' free free' s t x next v v')
     (o : Owners) (owned : AreOwned h free o) where
-  left_over : ℕ
-  left_over = (stack_of h free s).len - 1
-
   abbrev after : Owners
   after = owners_with o x (t, (stack_of h free t).len)
 

@@ -133,9 +133,6 @@ lifted_roots parents x h l =
       roots = λ y b. label_is_root after (root_of parents) y (lifted_forest parents x h l) names (omega (arith, b, long));
     }
 
-pub same_roots_refl : (parents : List ℕ) → HasSameRoots parents parents
-same_roots_refl parents = record { count = refl; roots = λ x l. refl }
-
 pub same_roots_trans : (parents others more : List ℕ) → HasSameRoots parents others → HasSameRoots others more → HasSameRoots parents more
 same_roots_trans parents others more h k = record {
   count = k.count ∙ h.count;
@@ -152,10 +149,10 @@ linked_forest parents low high h o l = record {
   ];
 }
 
-renamed_old : (old new x : ℕ) → x ≡ old → renamed old new x ≡ new
+pub renamed_old : (old new x : ℕ) → x ≡ old → renamed old new x ≡ new
 renamed_old old new x h = grind (arith, nat_tests)
 
-renamed_other : (old new x : ℕ) → x ≢ old → renamed old new x ≡ x
+pub renamed_other : (old new x : ℕ) → x ≢ old → renamed old new x ≡ x
 renamed_other old new x h = grind (arith, nat_tests)
 
 pub root-linked : (parents : List ℕ) (low high x : ℕ) → IsForest parents → low ≤ high → high < length parents

@@ -8,6 +8,7 @@ use Rattle.std.proofs.lemmas.List.FromFn.{length-range_with_len, get_or-range_wi
 use Rattle.surf_model.specs.Surfaces.{IsPath, AreJoined}
 use Rattle.connectivity.specs.Classes.{renamed, joined_at, AreLeastMembers}
 use Rattle.connectivity.specs.Partitions.{JoinsOnlyBySteps}
+use Rattle.connectivity.proofs.Forests.{renamed_old, renamed_other}
 
 path-append : {X : Type 0} (step : X → X → Type 0) (x : X) (path : List X) (y : X) (more : List X) (z : X) → IsPath step x path y
     → IsPath step y more z
@@ -82,13 +83,6 @@ joined_at_same least x y same =
     (λ z l.
     get_or-joined_at least x y z (omega (arith, l, length-joined_at least x y))
     ∙ renamed_same (get_or least x 0) (get_or least y 0) (get_or least z 0) same)
-
--- an entry becomes the lesser of the two where it was the greater, and else stays
-renamed_old : (old new x : ℕ) → x ≡ old → renamed old new x ≡ new
-renamed_old old new x h = grind (arith, nat_tests)
-
-renamed_other : (old new x : ℕ) → x ≢ old → renamed old new x ≡ x
-renamed_other old new x h = grind (arith, nat_tests)
 
 pub joined_at_high : (least : List ℕ) (x y z : ℕ) → z < length least → get_or least z 0 ≡ high_at least x y
     → get_or (joined_at least x y) z 0 ≡ low_at least x y

@@ -1,8 +1,8 @@
 -- Links of vertices, as the corners are gone through by their numbers.
-use Rattle.std.proofs.Common.{◌≡◌, ◌⊎◌, inl, inr, ℕ, ◌+◌, ◌<◌, List, length, get_or, set, replicate, refl, ap, sym, ◌∙◌, subst, arith}
+use Rattle.std.proofs.Common.{◌≡◌, ◌⊎◌, inl, inr, ℕ, ◌+◌, ◌<◌, List, length, get_or, set, refl, ap, sym, ◌∙◌, subst, arith}
 use Rattle.std.specs.Prelude.{Option, Some, None, IfSome, IfNone, MatchOption}
 use Rattle.std.proofs.lemmas.Bool.{cases_lt, cases_eq}
-use Rattle.std.proofs.lemmas.List.{length-set, length-replicate, get_or-set_same, get_or-set_other, get_or-replicate}
+use Rattle.std.proofs.lemmas.List.{length-set, get_or-set_same, get_or-set_other}
 use Rattle.surf_model.specs.FaceLists.{FaceList, FaceSide, IsFaceList, all_sides, total_sides}
 use Rattle.surf_model.specs.Edges.{side_name}
 use Rattle.surf_model.specs.Darts.{IsSide, side_number, tail_of}
@@ -99,15 +99,6 @@ link_more mesh rings n v corner Pinched is at number least h = record {
   is_first = corner_stays mesh rings n v h.first h.is_first;
   is_second = corner_stays mesh rings n v h.second h.is_second;
   different = h.different;
-}
-
-pub links_none : (mesh : FaceList) (rings : List ℕ) (links : List Link) → links ≡ replicate mesh.count NoRing
-    → AreLinksUpTo mesh rings 0 links
-links_none mesh rings links is = record {
-  count = ap (λ (l : List Link). length l) is ∙ length-replicate mesh.count NoRing;
-  true_ones = λ v l.
-      subst (IsTrueLink mesh rings 0 v) (sym (ap (λ (ls : List Link). link_at ls v) is ∙ get_or-replicate mesh.count v NoRing NoRing l))
-      (λ c h. absurd (omega (arith, h.below)));
 }
 
 -- a ring is put to the link of a vertex

@@ -15,11 +15,6 @@ use Rattle.file_pieces.specs.FileLines.{IsOneLine, ReadsLine, IsOn, StandsBehind
 use Rattle.file_pieces.proofs.ReadingLemmas.{at_told}
 use Rattle.file_pieces.proofs.ShortLemmas.{words_here-cut, no_lines, none_behind}
 
-pub starts_on : (number : ℕ) (bytes left : List ℕ) (line : ShortText) → Stands line bytes → IsOneLine bytes
-    → IsOn number (bytes ++ left) line number left
-starts_on number bytes left line stands alone =
-    record { so_far = bytes; stands = stands; alone = alone; lines = refl; count = refl; later = omega arith }
-
 -- a byte is put behind the line
 pub puts_on : (first : ℕ) (all : List ℕ) (old new : ShortText) (number byte : ℕ) (left : List ℕ) → (byte ≡ 10 → ⊥)
     → ((bytes : List ℕ) → Stands old bytes → Stands new (bytes ++ byte ∷ []))

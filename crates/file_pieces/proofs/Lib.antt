@@ -1,5 +1,5 @@
 mod ReadingLemmas
 mod SameLemmas
-mod ShortLemmas
+pub mod ShortLemmas
 mod FileLineLemmas
 mod KeptLines

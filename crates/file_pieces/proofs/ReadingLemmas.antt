@@ -1,6 +1,6 @@
 -- Bytes of a file that come one by one, or piece by piece.
-use Rattle.std.proofs.Common.{◌≡◌, ℕ, suc, ◌+◌, ◌≤◌, true, List, [], ◌∷◌, ◌++◌, length, take, drop, Option, None, Some, IfSome, MatchOption, refl, sym, ap, subst, ◌∙◌, arith, append_assoc, drop-drop, take-append-drop}
-use Rattle.std.proofs.lemmas.List.{length-drop}
+use Rattle.std.proofs.Common.{◌≡◌, ℕ, suc, ◌+◌, true, List, [], ◌∷◌, ◌++◌, length, take, drop, Option, None, Some, IfSome, MatchOption, refl, sym, ap, subst, ◌∙◌, arith, append_assoc, drop-drop, take-append-drop}
+use Rattle.std.proofs.lemmas.List.{drop_all}
 use Rattle.std.specs.Prelude.{IsTrue, ◌<◌}
 use Rattle.text_scan.specs.Lines.{is_filled}
 use Rattle.file_pieces.specs.Reading.{Reading, Reads, left_of, read_so_far}
@@ -12,13 +12,6 @@ told P (Some x) holds = holds x refl
 
 pub at_told : {A : Type 0} (P : A → Type 0) (o : Option A) (x : A) → o ≡ Some x → IfSome o P → P x
 at_told P o x is holds = subst (λ p. IfSome p P) is holds
-
-none_left : (n : ℕ) (xs : List ℕ) → length xs ≤ n → drop n xs ≡ []
-none_left n xs past = by_cases (drop n xs) (omega (arith, length-drop n xs))
-  where
-    by_cases : (ys : List ℕ) → length ys ≤ 0 → ys ≡ []
-    by_cases [] none = refl
-    by_cases (y ∷ ys) none = absurd (omega (arith, none))
 
 -- the first byte that is kept is the first that is left
 front : (xs : List ℕ) (byte : ℕ) (kept : List ℕ) → byte ∷ kept ≡ take (suc (length kept)) xs
@@ -65,7 +58,7 @@ pub next_byte : (old mid new : Reading) (file : List ℕ) (byte : Option ℕ) �
     → Reads new file × MatchOption byte (left_of old file ≡ []) (λ b. left_of old file ≡ b ∷ left_of new file)
 next_byte old mid new file None same reads ends took = (
   subst (λ (r : Reading). Reads r file) (sym took.1) reads,
-  ap (λ p. drop p file) (sym same) ∙ none_left mid.place file (reads.whole (ends took.0)),
+  ap (λ p. drop p file) (sym same) ∙ drop_all mid.place file (reads.whole (ends took.0)),
 )
 next_byte old mid new file (Some b) same reads ends took =
     let takes : TakesByte mid (record mid { place = mid.place + 1; kept = new.kept }) file b =

@@ -166,9 +166,3 @@ SameLine-append words a b same = SameWords-take 7 (words ++ a) (words ++ b) (Sam
 pub SameLine-many : (words more : List (List ℕ)) → 7 ≤ length words → SameLine words (words ++ more)
 SameLine-many words more many =
     subst (λ ws. SameWords (take 7 words) ws) (sym (take-append-le 7 words more many)) (SameWords-refl (take 7 words))
-
--- both lines have words, or none has
-pub SameLine-filled : (a b : List (List ℕ)) → SameLine a b → length a ≡ 0 → length b ≡ 0
-SameLine-filled [] [] same none = refl
-SameLine-filled [] (y ∷ b) same none = absurd same
-SameLine-filled (x ∷ a) b same none = absurd (omega (arith, none))

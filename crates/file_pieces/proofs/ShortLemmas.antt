@@ -3,7 +3,7 @@ use Rattle.std.proofs.Common.{◌≡◌, ℕ, ◌+◌, ◌<◌, ◌≤◌, Bool,
 use Rattle.std.specs.Prelude.{cond}
 use Rattle.std.specs.List.{list_all, before_first}
 use Rattle.std.specs.Str.{bytes_eq}
-use Rattle.std.proofs.lemmas.Bool.{and_parts, and_from, or_parts, not-true, not_from_false, ne_eqb, both_ways, eqb-true}
+use Rattle.std.proofs.lemmas.Bool.{and_parts, and_from, or_parts, not-true, not_from_false, both_ways, eqb-true}
 use Rattle.std.proofs.lemmas.List.Folds.{list_all-append}
 use Rattle.text_scan.specs.Lines.{Line, is_filled, is_blank, words, cut, unmarked, lines_from, full_lines}
 use Rattle.text_scan.specs.Numbers.{is_digit}
@@ -279,20 +279,6 @@ goes_on done old new byte closes inside goes puts after =
 
 -- ---- a line stands for what was put
 
--- a byte that does not count
-pub stands_closed : (old new : ShortText) (bytes : List ℕ) (byte : ℕ) → old.closed ≡ true → new ≡ record old { begun = true }
-    → Stands old bytes → Stands new (bytes ++ byte ∷ [])
-stands_closed old new bytes byte closed is stands =
-    subst (λ (l : ShortText). Stands l (bytes ++ byte ∷ [])) (sym is) (record {
-      same = λ after.
-          let here : SameLine (words_here (text_before old (byte ∷ after))) (words_here (bytes ++ byte ∷ after)) =
-          stands.same (byte ∷ after) in
-          let same_text : text_before old (byte ∷ after) ≡ text_before old after = rw closed refl in
-          subst (λ t. SameLine (words_here (text_before old after)) (words_here t)) (sym (append_assoc bytes (byte ∷ []) after))
-          (subst (λ t. SameLine (words_here t) (words_here (bytes ++ byte ∷ after))) same_text here);
-      begun = sym (filled-last bytes byte);
-    })
-
 -- what the line is before a byte that counts
 before_byte : (old : ShortText) (bytes : List ℕ) (byte : ℕ) (after : List ℕ) → old.closed ≡ false → Stands old bytes
     → SameLine (words_here (old.done ++ (old.word ++ byte ∷ after))) (words_here ((bytes ++ byte ∷ []) ++ after))
@@ -399,13 +385,6 @@ own_line line count short =
     ∙ lines_from_here 1 line.done
     ∙ ap (λ (ls : List Line). cond (is_filled (words_here line.done)) (record { number = 1; words = words_here line.done } ∷ ls) ls)
     (ap (lines_from (1 + 1)) (none_behind line.done short.alone) ∙ no_lines (1 + 1))
-
-pub filled_by_count : (line : ShortText) (count : ℕ) → IsShort line count → is_filled (words_here line.done) ≡ not (eqb count 0)
-filled_by_count line count short = by_cases (words_here line.done) short.count
-  where
-    by_cases : (ws : List (List ℕ)) → length ws ≡ count → is_filled ws ≡ not (eqb count 0)
-    by_cases [] e = ap (λ n. not (eqb n 0)) e
-    by_cases (w ∷ ws) e = sym (not_from_false (eqb count 0) (ne_eqb count 0 (λ none. omega (arith, e, none))))
 
 pub filled_word : (word : List ℕ) → eqb (length word) 0 ≡ false → is_filled word ≡ true
 filled_word [] some = cc

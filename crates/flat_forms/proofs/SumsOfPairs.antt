@@ -20,7 +20,7 @@ plus-origin s = ap₂ vector (omega (arith, ints)) (omega (arith, ints))
 origin-plus : (s : Vector) → plus origin s ≡ s
 origin-plus s = ap₂ vector (omega (arith, ints)) (omega (arith, ints))
 
-leads-by : (places : List ℕ) (s : Vector) (pairs : List (ℕ × ℕ)) → IsEven s
+pub leads-by : (places : List ℕ) (s : Vector) (pairs : List (ℕ × ℕ)) → IsEven s
     → led flat_next places s (spokes_of pairs) ≡ plus s (sum_of_pairs pairs)
 leads-by places s [] even = plus-origin s
 leads-by places s (pair ∷ pairs) even =

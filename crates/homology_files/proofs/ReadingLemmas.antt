@@ -1,9 +1,8 @@
 -- The lines of a certificate, one by one.
 use Rattle.std.proofs.Common.{◌≡◌, ℕ, ◌-◌, ◌<◌, eqb, Bool, true, false, List, [], ◌∷◌, ◌++◌, refl, arith}
-use Rattle.std.specs.Prelude.{Option, Some, None, Err}
+use Rattle.std.specs.Prelude.{Option, Some}
 use Rattle.std.proofs.lemmas.Bool.{ne_eqb}
 use Rattle.text_scan.specs.Lines.{Line}
-use Rattle.homology_files.specs.declared.fault.HomologyFault.TheVariants.{Bad, Ended}
 use Rattle.homology_files.specs.HomologyTexts.{numbers_in}
 
 module _ {X : Type 0} (read : List (List ℕ) → Option X) (is_above : List X → X → Bool) where
@@ -15,14 +14,3 @@ module _ {X : Type 0} (read : List (List ℕ) → Option X) (is_above : List X �
       → is_above so_far x ≡ true
       → numbers_in read is_above end left so_far (line ∷ lines) ≡ numbers_in read is_above end (left - 1) (so_far ++ x ∷ []) lines
   good_line end left so_far line lines x h is above = rw (some left h, is, above) refl
-
-  pub no_number : (end left : ℕ) (so_far : List X) (line : Line) (lines : List Line) → 0 < left → read line.words ≡ None
-      → numbers_in read is_above end left so_far (line ∷ lines) ≡ Err (Bad line.number)
-  no_number end left so_far line lines h is = rw (some left h, is) refl
-
-  pub no_rise : (end left : ℕ) (so_far : List X) (line : Line) (lines : List Line) (x : X) → 0 < left → read line.words ≡ Some x
-      → is_above so_far x ≡ false → numbers_in read is_above end left so_far (line ∷ lines) ≡ Err (Bad line.number)
-  no_rise end left so_far line lines x h is above = rw (some left h, is, above) refl
-
-  pub no_line : (end left : ℕ) (so_far : List X) → 0 < left → numbers_in read is_above end left so_far [] ≡ Err (Ended end)
-  no_line end left so_far h = rw (some left h) refl

@@ -1,13 +1,14 @@
 -- Lines whose keys rise: what is above the last one is above all.
 use Rattle.std.proofs.Common.{◌≡◌, inl, inr, ℕ, ◌-◌, ◌<◌, Bool, true, List, length, get_or, sym, ap, ◌∙◌, subst, arith}
-use Rattle.std.specs.Prelude.{All, Some, slice_get, nat_lt}
+use Rattle.std.specs.Prelude.{Some, slice_get, nat_lt}
 use Rattle.std.specs.List.{list_all}
 use Rattle.std.proofs.lemmas.Bool.{cases_Bool, cases_lt, lt-ltb, ltb-true}
 use Rattle.std.proofs.lemmas.Bool.Decides.{nat_tests}
 use Rattle.std.proofs.lemmas.List.Folds.{list_all_at}
-use Rattle.std.proofs.lemmas.List.Sums.{list_all-from_AllPass, AllPass-from_list_all}
+use Rattle.std.proofs.lemmas.List.Sums.{list_all-from_AllPass}
 use Rattle.std.proofs.lemmas.Option.{get_or_from_slice_get, slice_get_within}
 use Rattle.surf_model.specs.Edges.{IsPairBefore}
+use Rattle.surf_model.proofs.SearchLemmas.{pair_trans}
 use Rattle.homology.specs.Certificates.{AreFaceNumbers, AreEdgeNumbers}
 use Rattle.homology.specs.declared.certificate.FaceNumber.{FaceNumber}
 use Rattle.homology.specs.declared.certificate.EdgeNumber.{EdgeNumber}
@@ -50,12 +51,6 @@ pub before_passes : (one other : EdgeNumber) → IsPairBefore one.low.0 one.high
 before_passes one other (inl less) = grind (arith, nat_tests)
 before_passes one other (inr p) = let e = p.0 in let l = p.1 in grind (arith, nat_tests)
 
-pair_chain : (a b c d e f : ℕ) → IsPairBefore a b c d → IsPairBefore c d e f → IsPairBefore a b e f
-pair_chain a b c d e f (inl l) (inl m) = inl (omega (arith, l, m))
-pair_chain a b c d e f (inl l) (inr m) = inl (omega (arith, l, m.0))
-pair_chain a b c d e f (inr l) (inl m) = inl (omega (arith, l.0, m))
-pair_chain a b c d e f (inr l) (inr m) = inr (l.0 ∙ m.0, omega (arith, l.1, m.1))
-
 pub edge_above : (lines : List EdgeNumber) (last line : EdgeNumber) → AreEdgeNumbers lines
     → slice_get lines (length lines - 1) ≡ Some last → is_edge_before last line ≡ is_edge_above lines line
 edge_above lines last line valid here =
@@ -67,11 +62,4 @@ edge_above lines last line valid here =
     subst (λ (y : EdgeNumber). IsPairBefore x.low.0 x.high.0 y.low.0 y.high.0)
     (get_or_from_slice_get lines (length lines - 1) last d here) (valid.rising j (length lines - 1) d less l) in
     before_passes x line
-    (pair_chain x.low.0 x.high.0 last.low.0 last.high.0 line.low.0 line.high.0 up (before_test last line on)))
-
--- what is above others by the test
-pub all_below : (lines : List FaceNumber) (line : FaceNumber) → true ≡ is_face_above lines line
-    → All (λ (other : FaceNumber). other.face.0 < line.face.0) lines
-all_below lines line h = λ k d l.
-    ltb-true (get_or lines k d).face.0 line.face.0
-    (AllPass-from_list_all (λ (other : FaceNumber). nat_lt other.face.0 line.face.0) lines (sym h) k d l)
+    (pair_trans x.low.0 x.high.0 last.low.0 last.high.0 line.low.0 line.high.0 up (before_test last line on)))

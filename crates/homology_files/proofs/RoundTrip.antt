@@ -22,7 +22,7 @@ use Rattle.homology_files.specs.declared.fault.HomologyFault.{HomologyFault}
 use Rattle.homology_files.specs.declared.head.Kind.{Kind}
 use Rattle.homology_files.specs.declared.head.Kind.TheVariants.{OfFaces, OfEdges}
 use Rattle.homology_files.specs.declared.head.Head.{Head}
-use Rattle.homology_files.specs.HomologyTexts.{head_of, answer_words, head_among, behind_head, size_of, face_number_of, edge_number_of, is_face_above, is_edge_before, is_edge_above, numbers_in, ok_then, cert_in, cert_of_text}
+use Rattle.homology_files.specs.HomologyTexts.{answer_words, head_among, behind_head, size_of, face_number_of, edge_number_of, is_face_above, is_edge_before, is_edge_above, numbers_in, ok_then, cert_in, cert_of_text}
 use Rattle.homology_files.specs.WrittenTexts.{kind_in, face_words, edge_words, cert_lines, cert_text, FaceFits, EdgeFits, FitsFormat}
 use Rattle.homology_files.proofs.RisingLemmas.{before_passes}
 use Rattle.homology_files.proofs.ReadingLemmas.{good_line}
@@ -133,10 +133,6 @@ head-is_line kind n few = record {
   filled = refl;
   writable = all_writable (head_words kind n) (keyword-writable kind, (number-writable n few, tt));
 }
-
-head-read : (kind : Kind) (n : ℕ) → n < 2 ^ 32 → head_of (head_words kind n) ≡ Some (record { kind = kind; count = n })
-head-read OfFaces n few = rw (number-read n few) refl
-head-read OfEdges n few = rw (number-read n few) refl
 
 answer-is_line : (kind : Kind) → IsLine (answer_words kind)
 answer-is_line OfFaces = record {

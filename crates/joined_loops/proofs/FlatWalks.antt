@@ -19,7 +19,8 @@ use Rattle.labellings.proofs.FoldLemmas.{PutLaws}
 use Rattle.labellings.proofs.KeepingLemmas.{moves_keep}
 use Rattle.labellings.proofs.WalkWordLemmas.{quad_path_in_pairs, quad_path_leads_to_sum, flat_wheel_of_good}
 use Rattle.closed_walks.specs.FreeHomotopy.{IsClosedWalk, FreeStep, Moved, Rotated, after_free, after_all_free, FreelyHomotopic}
-use Rattle.joined_loops.proofs.ClosedPaths.{goes-last, step-closed}
+use Rattle.closed_walks.proofs.FreeStepLemmas.{step_keeps}
+use Rattle.joined_loops.proofs.ClosedPaths.{goes-last}
 
 abbrev vector : ℤ → ℤ → Vector
 vector x y = record { x = x; y = y }
@@ -80,7 +81,7 @@ module _ (mesh : FaceList) (labelling : LabellingView) (valid : IsFaceList mesh)
   steps-sum (step ∷ steps) walk next closed e =
       let told = first_answer (λ w. after_all_free mesh w steps) (after_free mesh walk step) next e in
       step-sum step walk told.0 closed told.1
-      ∙ steps-sum steps told.0 next (step-closed mesh step walk told.0 closed told.1) told.2
+      ∙ steps-sum steps told.0 next (step_keeps mesh step walk told.0 closed told.1) told.2
 
 pub one_sum : (mesh : FaceList) (labelling : LabellingView) (first second : List ℕ) (one other : Word) → IsFaceList mesh →
     IsGood mesh labelling → labelling.degree ≡ 4 → IsClosedWalk mesh first → FreelyHomotopic mesh first second →

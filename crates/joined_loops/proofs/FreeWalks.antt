@@ -16,11 +16,12 @@ use Rattle.spoke_rings.specs.CyclicWords.{IsFullWheel, IsCyclicallyCanonical}
 use Rattle.spoke_rings.specs.LoopSteps.{LoopLeads}
 use Rattle.spoke_rings.specs.Rotations.{IsRotation}
 use Rattle.closed_walks.specs.FreeHomotopy.{IsClosedWalk, FreeStep, Moved, Rotated, after_free, after_all_free, FreelyHomotopic}
+use Rattle.closed_walks.proofs.FreeStepLemmas.{step_keeps}
 use Rattle.joined_loops.specs.JoinedLists.{Joined}
 use Rattle.joined_loops.proofs.Joining.{same-joined, joined-itself, joined-back, joined-on}
 use Rattle.joined_loops.proofs.Stepping.{leads-loop, leads-joined}
 use Rattle.joined_loops.proofs.Rotating.{joined-rotations}
-use Rattle.joined_loops.proofs.ClosedPaths.{quad-loop, goes-last, step-closed}
+use Rattle.joined_loops.proofs.ClosedPaths.{quad-loop, goes-last}
 
 -- spokes put on one wheel meet the two laws
 hyper-laws : (places : List ℕ) → PutLaws places hyper_next (BelongsTo places) IsEven
@@ -60,7 +61,7 @@ module _ (mesh : FaceList) (labelling : LabellingView) (valid : IsFaceList mesh)
   steps-joined (step ∷ steps) walk next closed e =
       let told = first_answer (λ w. after_all_free mesh w steps) (after_free mesh walk step) next e in
       joined-on labelling.places (path walk) (path told.0) (path next) (step-joined step walk told.0 closed told.1)
-      (steps-joined steps told.0 next (step-closed mesh step walk told.0 closed told.1) told.2)
+      (steps-joined steps told.0 next (step_keeps mesh step walk told.0 closed told.1) told.2)
 
 -- freely homotopic closed walks have joined quad paths
 pub free-joined : (mesh : FaceList) (labelling : LabellingView) (first second : List ℕ) → IsFaceList mesh → IsGood mesh labelling →

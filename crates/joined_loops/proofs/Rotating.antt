@@ -4,7 +4,7 @@ use Rattle.std.specs.Prelude.{◌==◌, if◌then◌else◌}
 use Rattle.std.proofs.Math.Seq.{drop-append_seam, take-append_seam}
 use Rattle.std.proofs.lemmas.Grind.{same_number_lists}
 use Rattle.std.proofs.lemmas.Bool.{cases_lt, cases_eq}
-use Rattle.std.proofs.lemmas.List.{reverse-reverse, length-reverse, length-append, length-drop, take-append-drop}
+use Rattle.std.proofs.lemmas.List.{reverse-reverse, length-reverse, length-append, length-drop, take-append-drop, nil_from_length}
 use Rattle.turn_words.specs.Modulo.{add, minus}
 use Rattle.turn_words.specs.SpokePaths.{place_round}
 use Rattle.turn_words.specs.FormLaws.{led}
@@ -338,10 +338,6 @@ rotation-back a b even r =
           ∙ take-append-drop c a);
     }
 
-no-spokes : (a : List ℕ) → length a ≡ 0 → a ≡ []
-no-spokes [] e = refl
-no-spokes (x ∷ a) e = absurd (omega arith)
-
 -- the turns of a list with spokes
 turns-of : (places a : List ℕ) → IsCyclicallyCanonical places a → 0 < length a →
     IsCanonicalRow (length places) (length a) (cyclic_turn places a)
@@ -378,8 +374,8 @@ module _ (places : List ℕ) (full : IsFullWheel places) where
       Joined places a b → length b ≤ length a → IsRotation a b
   longer-first a b a_loop b_loop a_canonical b_canonical joined longer = elim (cases_eq (length a) 0) [
     | inl none ↦
-        let a_none = no-spokes a none in
-        let b_none = no-spokes b (omega arith) in
+        let a_none = nil_from_length a none in
+        let b_none = nil_from_length b (omega arith) in
         record { count = 0; even = refl; within = omega arith; is = b_none ∙ sym (ap (rotated 0) a_none) }
     | inr some ↦
         let a_some : 0 < length a = omega arith in

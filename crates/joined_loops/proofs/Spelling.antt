@@ -1,6 +1,7 @@
 -- The spokes that a word spells, both read from their end, and what a push at the end of the list makes of it.
 use Rattle.std.proofs.Common.{◌≡◌, ◌≢◌, ℕ, ◌<◌, ◌≤◌, inl, inr, arith, refl, sym, ◌∙◌, ap, subst, Bool, true, false, not, List, [], ◌∷◌, length, get_or}
 use Rattle.std.proofs.lemmas.Bool.{cases_eq}
+use Rattle.std.proofs.Math.Bool.{not-not}
 use Rattle.turn_words.specs.Modulo.{add, minus}
 use Rattle.turn_words.specs.PutTurns.{is_open, flipped, closed}
 use Rattle.turn_words.specs.SpokePaths.{place_round}
@@ -17,10 +18,6 @@ Spells places at_vertex (spoke ∷ []) (x ∷ []) = (at_vertex ≡ false) × (sp
 Spells places at_vertex (spoke ∷ last ∷ spokes) (x ∷ y ∷ word) =
     (spoke < length places) × (x ≡ turn_at places (not at_vertex) last spoke) × Spells places (not at_vertex) (last ∷ spokes) (y ∷ word)
 Spells places at_vertex spokes word = ⊥
-
-pub not-not : (v : Bool) → not (not v) ≡ v
-not-not true = refl
-not-not false = refl
 
 -- sums round a point
 module _ (d : ℕ) (five : 5 ≤ d) where

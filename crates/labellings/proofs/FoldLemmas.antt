@@ -65,7 +65,7 @@ pub led-append : {State : Type 0} (next : List ℕ → State → ℕ → State) 
 led-append next places s [] ys = refl
 led-append next places s (x ∷ xs) ys = led-append next places (next places s x) xs ys
 
-quad_path-append : (mesh : FaceList) (labelling : LabellingView) (front : List ℕ) (x : ℕ) (rest : List ℕ)
+pub quad_path-append : (mesh : FaceList) (labelling : LabellingView) (front : List ℕ) (x : ℕ) (rest : List ℕ)
     → quad_path mesh labelling (front ++ x ∷ rest) ≡ quad_path mesh labelling (front ++ x ∷ []) ++ quad_path mesh labelling (x ∷ rest)
 quad_path-append mesh labelling [] x rest = refl
 quad_path-append mesh labelling (a ∷ []) x rest = ap (λ (l : List ℕ). l ++ quad_path mesh labelling (x ∷ rest))

@@ -6,6 +6,6 @@ pub mod EdgeRuleLemmas
 pub mod WalkWordLemmas
 pub mod VerdictLemmas
 mod SpokeLemmas
-mod PathLemmas
+pub mod PathLemmas
 mod WordLemmas
 mod NotedLemmas

@@ -1,10 +1,10 @@
 -- Under a good labelling each dart of the mesh runs along one side, and its edge's other side runs against it.
-use Rattle.std.proofs.Common.{◌≡◌, ◌≢◌, ◌⊎◌, inl, inr, ℕ, zero, suc, ◌<◌, Bool, true, false, ◌&&◌, eqb, List, [], ◌∷◌, length, get_or, refl, ap, sym, ◌∙◌, subst, arith}
+use Rattle.std.proofs.Common.{◌≡◌, ◌≢◌, ◌⊎◌, inl, inr, ℕ, zero, suc, Bool, true, false, ◌&&◌, eqb, List, [], ◌∷◌, length, refl, ap, sym, ◌∙◌, subst, arith}
 use Rattle.std.specs.Prelude.{IsTrue, Contains, Some, find, filter}
 use Rattle.std.proofs.lemmas.Bool.{cases_Bool, cases_eq, eqb-true, eq-eqb, and_parts}
 use Rattle.std.proofs.lemmas.Bool.Decides.{nat_tests}
 use Rattle.std.proofs.lemmas.List.Folds.{list_any-from_Any}
-use Rattle.surf_model.specs.FaceLists.{FaceList, FaceSide, IsFaceList, face_at, all_sides, joins, is_edge, next_corner}
+use Rattle.surf_model.specs.FaceLists.{FaceList, FaceSide, IsFaceList, face_at, all_sides, joins, is_edge}
 use Rattle.surf_model.specs.Edges.{side_name}
 use Rattle.surf_model.specs.Darts.{IsSide, tail_of, head_of}
 use Rattle.surf_model.specs.Surfaces.{ArePartners, start_under, end_under, is_flipped}
@@ -12,6 +12,7 @@ use Rattle.surf_model.specs.declared.edges.Side.{Side}
 use Rattle.surf_model.proofs.NumberLemmas.{face_side}
 use Rattle.surf_model.proofs.TableLemmas.{Contains-filter, face_side_in}
 use Rattle.surf_model.proofs.ListedLemmas.{IsListed, all_listed, partners_listed}
+use Rattle.surf_model.proofs.EdgeLemmas.{ends_differ}
 use Rattle.labellings.specs.Labellings.{LabellingView, signs_of, tail_label, head_label}
 use Rattle.labellings.specs.GoodLabellings.{IsGood, EdgeMeetsRule, SidesMeetRule}
 use Rattle.labellings.specs.QuadPaths.{side_from, spokes, spokes_of_sides, spokes_by_labels}
@@ -46,12 +47,6 @@ entry_named mesh s h =
 
 listed : (mesh : FaceList) (s : FaceSide) → Contains (all_sides mesh) s → IsListed mesh s
 listed mesh s has = subst (IsListed mesh) has.2 (all_listed mesh has.0 s has.1)
-
--- the ends of a side differ
-pub ends_differ : (mesh : FaceList) (side : Side) → IsFaceList mesh → IsSide mesh side → tail_of mesh side ≢ head_of mesh side
-ends_differ mesh side valid h =
-    (subst (λ (face : List ℕ). (t : ℕ) → t < length face → get_or face t 0 ≢ get_or face (next_corner true (length face) t) 0) refl
-    (valid.faces side.face.0 [] h.face).neighbours) side.at h.place
 
 -- two sides with other names, or one
 same_or_other : (side other : Side) → (side ≡ other) ⊎ (side ≢ other)

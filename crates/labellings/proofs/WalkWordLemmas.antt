@@ -35,7 +35,7 @@ use Rattle.labellings.proofs.KeepingLemmas.{found_side, moves_keep}
 
 -- ---- the spokes of a walk are spokes of the wheel
 
-both_below : (n a b c d : ℕ) → a < n → b < n → All (λ i. i < n) (spokes_by_labels a b c d)
+pub both_below : (n a b c d : ℕ) → a < n → b < n → All (λ i. i < n) (spokes_by_labels a b c d)
 both_below n a b c d l k = elim (cases_Bool (eqb a b && eqb c d)) [
   | inl tree ↦ rw tree (All-nil (λ i. i < n))
   | inr other ↦ rw other (All-cons (λ i. i < n) a (b ∷ []) l (All-cons (λ i. i < n) b [] k (All-nil (λ i. i < n))))

@@ -1,5 +1,5 @@
 -- The word of a walk, from the state to which the spokes of the walk lead.
-use Rattle.std.proofs.Common.{◌≡◌, inl, inr, ℕ, ◌≤◌, List, sym, ◌∙◌, subst}
+use Rattle.std.proofs.Common.{◌≡◌, ℕ, ◌≤◌, List, sym, ◌∙◌, subst}
 use Rattle.std.specs.Prelude.{ℤ}
 use Rattle.surf_model.specs.FaceLists.{FaceList}
 use Rattle.turn_words.specs.FormLaws.{led}
@@ -15,10 +15,6 @@ use Rattle.labellings.specs.GoodLabellings.{IsGood}
 use Rattle.labellings.specs.QuadPaths.{quad_path}
 use Rattle.labellings.specs.WalkWords.{IsWordOf}
 use Rattle.labellings.proofs.WalkWordLemmas.{quad_path_below, quad_path_leads_to_sum, hyper_wheel_of_good}
-
--- a degree that is not four is larger
-pub five_then : (mesh : FaceList) (labelling : LabellingView) → IsGood mesh labelling → (labelling.degree ≡ 4 → ⊥) → 5 ≤ labelling.degree
-five_then mesh labelling good other = elim good.degree [ inl five ↦ five | inr flat ↦ absurd (other flat.0) ]
 
 -- for five spokes or more, the state to which the spokes lead has the word
 pub turns_word : (mesh : FaceList) (labelling : LabellingView) (walk word : List ℕ) → IsGood mesh labelling → 5 ≤ labelling.degree

@@ -13,9 +13,6 @@ use Rattle.off_reader.specs.declared.off_fault.OffFault.TheVariants.{NoCounts, B
 use Rattle.surf_model.specs.declared.limits.TheConstants.{MOST_VERTICES}
 use Rattle.off_reader.specs.declared.header.TheConstants.{MOST_FACES}
 
-abbrev cap : ℕ
-cap = 2 ^ 64 - 1
-
 pub no_cap : (o : Option ℕ) → None ≡ option_map (λ n. min n (2 ^ 64 - 1)) o → o ≡ None
 no_cap None e = refl
 no_cap (Some n) e = absurd (none-some (min n (2 ^ 64 - 1)) e)

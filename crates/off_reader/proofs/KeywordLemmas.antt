@@ -1,11 +1,13 @@
 -- Keywords.
-use Rattle.std.proofs.Common.{◌≡◌, ℕ, ◌+◌, ◌<◌, Bool, true, false, cond, eqb, ltb, ◌&&◌, ◌||◌, List, [], ◌∷◌, length, take, drop, Bor, length-take-le, refl, sym, ap, ◌∙◌, arith}
+use Rattle.std.proofs.Common.{◌≡◌, ℕ, ◌+◌, ◌<◌, Bool, true, false, cond, eqb, ltb, ◌&&◌, List, [], ◌∷◌, length, take, drop, Bor, length-take-le, refl, sym, ap, ◌∙◌, arith}
 use Rattle.std.specs.Prelude.{Option, Some, None, MatchOption, IfSome, IfNone, position, bytes_eq, codes}
 use Rattle.std.specs.Cmp.Lexicographic.{pointwise}
 use Rattle.std.specs.List.{before_first, position_or_len}
 use Rattle.std.proofs.lemmas.List.{take_all}
 use Rattle.std.proofs.lemmas.Option.{cond_some}
 use Rattle.std.proofs.lemmas.Bool.{and_left, and_right, ltb-true}
+use Rattle.std.proofs.Math.Bool.{or-false}
+use Rattle.std.proofs.Math.Seq.{drop-length}
 use Rattle.text_scan.proofs.ListLemmas.{nowhere}
 use Rattle.off_reader.specs.OffTexts.{Keyword, is_single_piece, are_pieces, keyword_of}
 
@@ -13,10 +15,6 @@ use Rattle.off_reader.specs.OffTexts.{Keyword, is_single_piece, are_pieces, keyw
 
 no_pair : (a b : ℕ) → is_single_piece a ≡ true → bytes_eq (a ∷ b ∷ []) (codes "ST") ≡ false
 no_pair a b e = and_left (eqb a 83) (eqb b 84 && true) (grind (arith, e))
-
-or-false : (b : Bool) → (b || false) ≡ b
-or-false true = refl
-or-false false = refl
 
 pub single_piece : (bytes after : List ℕ) (a : ℕ) → bytes ≡ a ∷ after → is_single_piece a ≡ true → are_pieces bytes ≡ are_pieces after
 unfolding are_pieces
@@ -68,15 +66,11 @@ no_pieces_left pieces (a ∷ rest) e so_far = absurd (grind (arith, e))
 abbrev is_o : ℕ → Bool
 is_o byte = eqb byte 79
 
-drop_length : (xs : List ℕ) → drop (length xs) xs ≡ []
-drop_length [] = refl
-drop_length (x ∷ xs) = drop_length xs
-
 pub without_o : (word : List ℕ) → position is_o word ≡ None → keyword_of word ≡ None
 unfolding keyword_of
 without_o word e =
     let all : before_first is_o word ≡ word = take_all (position_or_len is_o word) word (nowhere is_o word e) in
-    let nothing : drop (length word) word ≡ [] = drop_length word in
+    let nothing : drop (length word) word ≡ [] = drop-length word in
     let other : (are_pieces word && false) ≡ false = and_right (are_pieces word) false refl in
     rw (all, nothing, other) refl
 

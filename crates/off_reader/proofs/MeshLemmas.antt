@@ -54,10 +54,6 @@ pub record IsPointsTo (coordinates count : ℕ) (old : Unread) (n : ℕ) (new : 
       ≡ taken (point_fault coordinates) old.end_line [] count old.lines
   pub end : new.end_line ≡ old.end_line
 
-pub no_points : (coordinates count : ℕ) (u : Unread) → IsPointsTo coordinates count u 0 u
-no_points coordinates count u =
-    record { before = []; same = ap (λ k. taken (point_fault coordinates) u.end_line [] k u.lines) (omega arith); end = refl }
-
 -- the next line, and what stands in it
 pub one_point : (coordinates count : ℕ) (old mid line new : Unread) (n : ℕ) → n < count → mid.lines ≡ line_at line ∷ line.lines
     → line.end_line ≡ mid.end_line
@@ -102,18 +98,6 @@ pub record IsFacesTo (vertices count : ℕ) (old : Unread) (n : ℕ) (new : Unre
   pub end : new.end_line ≡ old.end_line
   pub mesh : faces ≡ record { count = vertices; faces = rings_of before }
   pub few : total_sides faces ≤ MOST_SIDES
-
-pub no_faces : (vertices count : ℕ) (u : Unread) (faces : FaceList) → faces ≡ record { count = vertices; faces = [] }
-    → IsFacesTo vertices count u 0 u faces
-no_faces vertices count u faces is =
-    record {
-      before = [];
-      same = ap (λ k. taken (face_fault vertices) u.end_line [] k u.lines) (omega arith);
-      end = refl;
-      mesh = is;
-      few =
-          omega (arith, ap total_sides is);
-    }
 
 rings_of-append : (before : List Line) (line : Line) (ring : List ℕ) → corners_of line.words ≡ Some ring
     → rings_of (before ++ line ∷ []) ≡ rings_of before ++ ring ∷ []

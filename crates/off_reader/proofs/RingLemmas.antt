@@ -8,7 +8,7 @@ use Rattle.std.proofs.lemmas.List.Folds.{list_all-append, list_any_at, list_any_
 use Rattle.std.proofs.lemmas.List.{map-append, length-map, take_all}
 use Rattle.std.proofs.lemmas.List.Elements.{All-nil, All-cons}
 use Rattle.std.proofs.lemmas.List.FromFn.{length-range_with_len, get_or-range_with_len}
-use Rattle.std.proofs.lemmas.Bool.{both_ways, eq-eqb, ne_eqb, cases_lt, and_parts, and_from, and_left, and_right, and_cases, le-leb, lt-leb, lt-ltb, le-ltb, leb-true, leb-false, ltb-true, ltb-false}
+use Rattle.std.proofs.lemmas.Bool.{both_ways, eq-eqb, ne_eqb, cases_lt, and_parts, and_left, and_right, and_cases, le-leb, lt-leb, lt-ltb, le-ltb, leb-true, leb-false, ltb-true, ltb-false}
 use Rattle.text_scan.specs.Numbers.{is_natural, value_of, natural_of, is_number_text}
 use Rattle.text_scan.specs.Unread.{Unread, past_word, next_natural, next_is_number_text}
 use Rattle.surf_model.specs.FaceLists.{IsFace, next_corner}
@@ -34,12 +34,6 @@ pub record IsReadTo (test : List ℕ → Bool) (old : Unread) (n : ℕ) (new : U
   pub left : new.words ≡ drop n old.words
   pub passes : list_all test (take n old.words) ≡ true
   pub line : IsSameLine old new
-
-pub same_line : (u : Unread) → IsSameLine u u
-same_line u = record { line = refl; lines = refl; end_line = refl }
-
-pub none_read : (test : List ℕ → Bool) (u : Unread) → IsReadTo test u 0 u
-none_read test u = record { fits = omega arith; left = refl; passes = refl; line = same_line u }
 
 -- one word more
 record IsNext (test : List ℕ → Bool) (words : List (List ℕ)) (n : ℕ) : Type 0 where
@@ -83,9 +77,6 @@ one_read test old mid new n e is h =
 abbrev pub pass_to : (List ℕ → Bool) → ℕ → List (List ℕ) → Bool
 pass_to test n words = leb n (length words) && list_all test (take n words)
 
-pub all_read : (test : List ℕ → Bool) (old new : Unread) (n : ℕ) → IsReadTo test old n new → pass_to test n old.words ≡ true
-all_read test old new n h = and_from _ _ (le-leb _ _ h.fits) h.passes
-
 not_all : (test : List ℕ → Bool) (words : List (List ℕ)) (n count : ℕ) → n < count → next_passes test (drop n words) ≡ false
     → pass_to test count words ≡ false
 not_all test words n zero below e = absurd (omega (arith, below))
@@ -112,9 +103,6 @@ not_read test old mid n count below e h = not_all test old.words n count below (
 pub next_text : (words : List (List ℕ)) → next_is_number_text words ≡ next_passes is_number_text words
 next_text [] = refl
 next_text (word ∷ words) = refl
-
-pub good_point : (c : ℕ) (old new : Unread) → IsReadTo is_number_text old c new → None ≡ point_fault c [] (line_at old)
-good_point c old new h = sym (rw (all_read is_number_text old new c h) refl)
 
 pub bad_point : (c n line : ℕ) (old mid : Unread) → n < c → false ≡ next_is_number_text mid.words → line ≡ mid.line
     → IsReadTo is_number_text old n mid
@@ -158,9 +146,6 @@ pub record IsCornersTo (vertices : ℕ) (old : Unread) (n : ℕ) (new : Unread) 
   pub range : in_range ≡ list_all (λ v. ltb v vertices) (map value_of (take n old.words))
   pub corners : in_range ≡ true → ring ≡ map value_of (take n old.words)
 
-pub no_corners : (vertices : ℕ) (u : Unread) (ring : List ℕ) → ring ≡ [] → IsCornersTo vertices u 0 u true ring
-no_corners vertices u ring none = record { read = none_read is_natural u; range = refl; corners = λ e. none }
-
 pub corner_in : (vertices : ℕ) (old mid new : Unread) (n v : ℕ) (in_range : Bool) (ring : List ℕ) → vertices ≤ MOST_VERTICES
     → Some v ≡ option_map (λ n. min n (2 ^ 64 - 1)) (next_natural mid.words)
     → new ≡ past_word mid → v < vertices → IsCornersTo vertices old n mid in_range ring
@@ -199,12 +184,6 @@ among : (words : List (List ℕ)) (sides : ℕ) → 3 ≤ sides
 among words sides three =
     let polygon : leb 3 sides ≡ true = le-leb _ _ three in
     rw polygon refl
-
-pub all_corners : (vertices sides : ℕ) (old new : Unread) (in_range : Bool) (ring : List ℕ) → 3 ≤ sides
-    → IsCornersTo vertices old sides new in_range ring → ReadsCorners vertices sides old (Ok in_range) ring
-all_corners vertices sides old new in_range ring three h =
-    let all = all_read is_natural old new sides h.read in
-    (among old.words sides three ∙ rw all refl, h.range, h.corners)
 
 pub missing_corner : (vertices sides n line : ℕ) (old mid : Unread) (in_range : Bool) (ring later : List ℕ) → 3 ≤ sides → n < sides
     → None ≡ option_map (λ n. min n (2 ^ 64 - 1)) (next_natural mid.words)
@@ -471,11 +450,11 @@ by_last ring n d some same so_far = by_test (eqb (get_or ring (length ring - 1) 
 
 -- ---- a ring without a fault is a face
 
-differ_at : (ring : List ℕ) → has_equal_neighbours ring ≡ false → (t : ℕ) → t < length ring
+pub differ_at : (ring : List ℕ) → has_equal_neighbours ring ≡ false → (t : ℕ) → t < length ring
     → get_or ring t 0 ≢ get_or ring (next_corner true (length ring) t) 0
 differ_at ring none t below same = both_ways (has_equal_neighbours ring) none (sym (equal_found ring t below (eq-eqb _ _ same)))
 
-all_below : (vertices : ℕ) (ring : List ℕ) → list_all (λ v. ltb v vertices) ring ≡ true → All (λ v. v < vertices) ring
+pub all_below : (vertices : ℕ) (ring : List ℕ) → list_all (λ v. ltb v vertices) ring ≡ true → All (λ v. v < vertices) ring
 all_below vertices [] e = All-nil (λ v. v < vertices)
 all_below vertices (v ∷ ring) e =
     let both = and_parts (ltb v vertices) (list_all (λ v. ltb v vertices) ring) e in

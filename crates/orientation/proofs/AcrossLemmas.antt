@@ -3,8 +3,8 @@ use Rattle.std.proofs.Common.{map, ◌≡◌, ◌≢◌, ◌⊎◌, inl, inr, �
 use Rattle.std.specs.Prelude.{Contains, Some, None, filter}
 use Rattle.std.proofs.lemmas.Bool.{cases_lt}
 use Rattle.std.proofs.lemmas.Bool.Decides.{nat_tests}
-use Rattle.std.proofs.lemmas.List.{length-map, get_or-map, get_or_default}
-use Rattle.surf_model.specs.FaceLists.{FaceList, FaceSide, all_sides, joins, next_corner, total_sides}
+use Rattle.std.proofs.lemmas.List.{length-map, get_or-map}
+use Rattle.surf_model.specs.FaceLists.{FaceList, all_sides, joins, next_corner, total_sides}
 use Rattle.surf_model.specs.Edges.{Edge, IsTableOf, IsEdgeOf, edge_in, side_name}
 use Rattle.surf_model.specs.Darts.{IsSide, side_number, tail_of, head_of}
 use Rattle.surf_model.specs.Surfaces.{ArePartners}
@@ -12,10 +12,11 @@ use Rattle.surf_model.specs.declared.edges.Side.{Side}
 use Rattle.surf_model.proofs.TableLemmas.{face_side_in, next_within}
 use Rattle.surf_model.proofs.SideNumberLemmas.{side_below}
 use Rattle.surf_model.specs.EdgeDarts.{IsNextInEdge, darts_of}
-use Rattle.surf_model.proofs.PartnerLemmas.{whole_side, IsSideOfEdge, side_of_edge, edge_has_side, table_edge, partners_of_edge}
+use Rattle.surf_model.proofs.PartnerLemmas.{IsSideOfEdge, side_of_edge, edge_has_side, table_edge, partners_of_edge, ends_agree}
 use Rattle.orientation.specs.Classes.{EachEdgeHasAtMostTwoSides}
 use Rattle.orientation.specs.Trees.{IsAcross, IsAlong}
-use Rattle.orientation.proofs.Partners.{entry_of, partners_swap, two_of, joined_edge, one_partner}
+use Rattle.orientation.proofs.Partners.{entry_of, two_of, joined_edge, one_partner}
+use Rattle.connectivity.proofs.CornerLemmas.{partners_swap, number_once}
 
 -- the side stands at a place of edge k of the table
 pub record IsOnEdge (mesh : FaceList) (table : List Edge) (k : ℕ) (side : Side) : Type 0 where
@@ -40,10 +41,6 @@ ends_join : (mesh : FaceList) (side : Side) (low high : ℕ)
     → ((tail_of mesh side ≡ low) × (head_of mesh side ≡ high)) ⊎ ((tail_of mesh side ≡ high) × (head_of mesh side ≡ low))
     → joins low high (entry_of mesh side) ≡ true
 ends_join mesh side low high e = grind (arith, nat_tests)
-
-other_ends : (t h u v low high : ℕ) → ((t ≡ low) × (h ≡ high)) ⊎ ((t ≡ high) × (h ≡ low)) → ((t ≡ u) × (h ≡ v)) ⊎ ((t ≡ v) × (h ≡ u))
-    → ((u ≡ low) × (v ≡ high)) ⊎ ((u ≡ high) × (v ≡ low))
-other_ends t h u v low high e o = grind arith
 
 at_most_two : (mesh : FaceList) (table : List Edge) (k : ℕ) (side : Side) → IsOnEdge mesh table k side → length (edge_in table k).sides ≤ 2
 at_most_two mesh table k side h =
@@ -70,23 +67,11 @@ none_across mesh table k side h one = λ partner partners.
     let is : IsEdgeOf mesh edge = table_edge mesh table k h.table_of h.in_table in
     let on : IsSideOfEdge mesh edge side = on_edge mesh table k side h.table_of h.in_table h.has in
     let has : Contains edge.sides partner = edge_has_side mesh edge partner is partners.second
-    (other_ends _ _ _ _ edge.low edge.high on.ends partners.one_edge) in
+    (ends_agree _ _ _ _ edge.low edge.high on.ends partners.one_edge) in
     elim (two_of edge.sides side partner (omega arith) h.has has partners.different) [
       | inl two ↦ omega (arith, ap (λ (xs : List Side). length xs) two)
       | inr two ↦ omega (arith, ap (λ (xs : List Side). length xs) two)
     ]
-
--- sides with one number are one
-pub one_number : (mesh : FaceList) (a b : Side) → IsSide mesh a → IsSide mesh b → side_number mesh a ≡ side_number mesh b → a ≡ b
-one_number mesh a b is_a is_b same =
-    let all : List FaceSide = all_sides mesh in
-    let at_a : Contains all (entry_of mesh a) = face_side_in mesh a.face.0 a.at is_a.face is_a.place in
-    let at_b : Contains all (entry_of mesh b) = face_side_in mesh b.face.0 b.at is_b.face is_b.place in
-    let number : (s : Side) (at : Contains all (entry_of mesh s)) → side_number mesh s ≡ at.0 =
-    λ s at. ap (λ (x : FaceSide). side_number mesh (side_name x)) (sym at.2) ∙ (whole_side mesh at.0 (entry_of mesh s) at.1).number in
-    let place : at_a.0 ≡ at_b.0 = sym (number a at_a) ∙ same ∙ number b at_b in
-    ap side_name (sym at_a.2 ∙ get_or_default all at_a.0 (entry_of mesh a) (entry_of mesh b) at_a.1 ∙ ap
-    (λ k. get_or all k (entry_of mesh b)) place ∙ at_b.2)
 
 abbrev IsAtPlace : List Side → ℕ → Side → Type 0
 IsAtPlace sides i side = (i < length sides) × (get_or sides i side ≡ side)
@@ -101,7 +86,7 @@ at_place mesh table k i default side dart is in_table in_mesh number in_edge her
     let at : side_number mesh (get_or sides i side) ≡ dart = sym (get_or-map (side_number mesh) sides i side default few) ∙ here in
     let stands : IsSideOfEdge mesh (edge_in table k) (get_or sides i side) = side_of_edge mesh (edge_in table k) i
     side (table_edge mesh table k is in_table) few in
-    (few, one_number mesh (get_or sides i side) side stands.side_of in_mesh (at ∙ number))
+    (few, number_once mesh (get_or sides i side) side stands.side_of in_mesh (at ∙ number))
 
 -- an edge with a side's number has the side
 pub has_numbered : (mesh : FaceList) (table : List Edge) (k : ℕ) (side : Side) (dart : ℕ) → IsTableOf mesh table → k < length table
@@ -180,7 +165,7 @@ alone mesh table side dart next is two in_mesh number h same =
       | inl one ↦ none_across mesh table h.edge side b.on one
       | inr more ↦
           (let o : IsOther mesh side next = other_of_two mesh table h.edge h.place side next b more in
-          absurd (o.partners.different (one_number mesh side o.other in_mesh o.partners.second (sym number ∙ sym same ∙ sym o.number))))
+          absurd (o.partners.different (number_once mesh side o.other in_mesh o.partners.second (sym number ∙ sym same ∙ sym o.number))))
     ]
 
 one_next : (m i : ℕ) → i < m → m < 2 → next_corner true m i ≡ i
@@ -209,6 +194,6 @@ pub other_across : (mesh : FaceList) (side : Side) (next : ℕ) (result : Side) 
     → IsSide mesh result → side_number mesh result ≡ next
     → IsAcross mesh side (Some result)
 other_across mesh side next result two o is number =
-    let same : o.other ≡ result = one_number mesh o.other result o.partners.second is (o.number ∙ sym number) in
+    let same : o.other ≡ result = number_once mesh o.other result o.partners.second is (o.number ∙ sym number) in
     let partners : ArePartners mesh side result = subst (ArePartners mesh side) same o.partners in
     (partners, λ partner more. one_partner mesh side result partner two partners more)

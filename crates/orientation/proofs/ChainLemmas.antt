@@ -2,6 +2,7 @@
 use Rattle.std.proofs.Common.{◌≡◌, inl, inr, ℕ, ◌+◌, ◌%◌, ◌<◌, Bool, true, false, cond, eqb, List, [], ◌∷◌, length, map, get_or, refl, ap, sym, ◌∙◌, subst, arith}
 use Rattle.std.specs.Prelude.{filter, count_by}
 use Rattle.std.proofs.lemmas.List.Sums.{sum_by-cons}
+use Rattle.std.proofs.Math.Bool.{and-true}
 use Rattle.surf_model.specs.FaceLists.{FaceList, FaceSide, IsFaceList, all_sides, joins}
 use Rattle.surf_model.specs.Edges.{side_name}
 use Rattle.surf_model.specs.Darts.{tail_of}
@@ -10,7 +11,7 @@ use Rattle.surf_model.specs.declared.chains.ChainLink.{ChainLink}
 use Rattle.surf_model.specs.OddChains.{LeadsTo, LeadOnTo, IsOddChain, first_face, run_alike, is_turned}
 use Rattle.orientation.specs.Trees.{differ, runs_alike}
 use Rattle.surf_model.proofs.ListedLemmas.{Joins, joining, partners_listed}
-use Rattle.orientation.proofs.Fitting.{fit_if_opposite, eqb_swap, one_test}
+use Rattle.orientation.proofs.Fitting.{fit_if_opposite, eqb_swap}
 
 -- 1 for a sign that is flipped
 abbrev pub bit : Bool → ℕ
@@ -90,7 +91,7 @@ turned_if mesh signs link a b is h faces =
     (all 1 s (omega arith)).listed.tail in
     ap (λ n. differ (is_flipped signs n) (is_flipped signs b)) (sym two.is_a) ∙ ap
     (λ n. differ (is_flipped signs s.face) (is_flipped signs n)) (sym two.is_b)
-    ∙ fit ∙ sym tails ∙ sym (one_test (eqb t.tail s.tail)) ∙ sym (ap run_alike two.are)
+    ∙ fit ∙ sym tails ∙ sym (and-true (eqb t.tail s.tail)) ∙ sym (ap run_alike two.are)
 
 pub differ_swap : (a b : Bool) → differ a b ≡ differ b a
 differ_swap true true = refl

@@ -1,28 +1,18 @@
 -- Classes of faces, and that coherent signs that keep the least face of each are unique.
-use Rattle.std.proofs.Common.{◌≡◌, ◌≢◌, ◌⊎◌, inl, inr, ℕ, zero, suc, ◌+◌, ◌<◌, Bool, true, false, List, [], ◌∷◌, ◌++◌, length, refl, sym, ◌∙◌, subst, arith}
+use Rattle.std.proofs.Common.{◌≡◌, ◌≢◌, ◌⊎◌, inl, inr, ℕ, zero, suc, ◌+◌, ◌<◌, Bool, true, false, List, [], ◌∷◌, length, refl, sym, ◌∙◌, subst, arith}
 use Rattle.std.proofs.lemmas.Bool.{cases_lt}
 use Rattle.std.proofs.lemmas.List.{ext_get_or}
 use Rattle.surf_model.specs.FaceLists.{FaceList, IsFaceList}
 use Rattle.surf_model.specs.Surfaces.{IsPath, AreJoined, IsCoherent, is_flipped}
 use Rattle.orientation.specs.Classes.{IsFaceStep, IsLeastOfClass, IsLeastKept}
 use Rattle.orientation.specs.Trees.{differ, Fit}
-use Rattle.orientation.proofs.Partners.{partners_swap}
 use Rattle.orientation.proofs.Fitting.{fit_if_opposite}
+use Rattle.connectivity.proofs.CornerLemmas.{partners_swap}
+use Rattle.connectivity.proofs.Joining.{joined_step, joined_trans}
 
 pub step_back : (mesh : FaceList) (f g : ℕ) → IsFaceStep mesh f g → IsFaceStep mesh g f
 step_back mesh f g h =
     record { side = h.partner; partner = h.side; partners = partners_swap mesh h.side h.partner h.partners; from = h.to; to = h.from }
-
-pub path-append : {A : Type 0} (step : A → A → Type 0) (x y z : A) (path more : List A) → IsPath step x path y → IsPath step y more z
-    → IsPath step x (path ++ more) z
-path-append step x y z [] more h k = subst (λ w. IsPath step w more z) (sym h) k
-path-append step x y z (w ∷ path) more h k = (h.0, path-append step w y z path more h.1 k)
-
-pub joined_more : {A : Type 0} (step : A → A → Type 0) (x y z : A) → AreJoined step x y → AreJoined step y z → AreJoined step x z
-joined_more step x y z h k = (h.0 ++ k.0, path-append step x y z h.0 k.0 h.1 k.1)
-
-pub joined_step : {A : Type 0} (step : A → A → Type 0) (x y : A) → step x y → AreJoined step x y
-joined_step step x y h = (y ∷ [], (h, refl))
 
 pub joined_back : {A : Type 0} (step : A → A → Type 0) → ((a b : A) → step a b → step b a) → (x y : A) → AreJoined step x y
     → AreJoined step y x
@@ -30,7 +20,7 @@ joined_back {A} step back x y h = turned x h.0 h.1
   where
     turned : (x : A) (path : List A) → IsPath step x path y → AreJoined step y x
     turned x [] h = ([], sym h)
-    turned x (w ∷ path) h = joined_more step y w x (turned w path h.1) (joined_step step w x (back x w h.0))
+    turned x (w ∷ path) h = joined_trans step y w x (turned w path h.1) (joined_step step w x (back x w h.0))
 
 -- two choices of coherent signs that agree at the end of a step agree at its start
 agree_before : (a b c d : Bool) → differ a b ≡ differ c d → b ≡ d → a ≡ c

@@ -1,5 +1,5 @@
 -- The chain round a tear.
-use Rattle.std.proofs.Common.{◌≡◌, ◌≢◌, ℕ, ◌+◌, ◌*◌, ◌%◌, ◌<◌, ◌≤◌, Bool, true, false, not, cond, eqb, List, [], ◌∷◌, ◌++◌, length, reverse, refl, ap, sym, ◌∙◌, subst, arith, length-append, append_assoc}
+use Rattle.std.proofs.Common.{◌≡◌, ◌≢◌, ℕ, ◌+◌, ◌*◌, ◌%◌, ◌<◌, ◌≤◌, Bool, true, false, not, cond, eqb, List, [], ◌∷◌, ◌++◌, length, reverse, refl, ap, sym, ◌∙◌, subst, arith, length-append}
 use Rattle.std.specs.Prelude.{count_by}
 use Rattle.std.proofs.lemmas.Bool.Decides.{nat_tests}
 use Rattle.std.proofs.lemmas.List.{length_push, reverse-append, length-reverse}
@@ -16,8 +16,9 @@ use Rattle.orientation.specs.declared.search.Tear.{Tear}
 use Rattle.orientation.specs.declared.trees.Place.{Place}
 use Rattle.orientation.proofs.Fitting.{link_leads, link_leads_back, link_turned}
 use Rattle.orientation.proofs.ChainLemmas.{bit, bit_differ, differ_swap}
-use Rattle.orientation.proofs.ClassLemmas.{step_back, joined_more, joined_step, joined_back}
+use Rattle.orientation.proofs.ClassLemmas.{step_back, joined_back}
 use Rattle.orientation.proofs.TreeLemmas.{deeper_found, up_joined}
+use Rattle.connectivity.proofs.Joining.{joined_step, joined_trans}
 
 -- links from one face to another, and the parity of the turned ones with the signs of the two faces
 pub record IsWay (mesh : FaceList) (signs : List Bool) (parity : ℕ) (from : ℕ) (links : List ChainLink) (to : ℕ) : Type 0 where
@@ -157,7 +158,7 @@ climb_up mesh growth last chain down face other link two h found along is = reco
       (way_up mesh growth face link two found along is);
   back = h.back;
   joined =
-      joined_more (IsFaceStep mesh) (place_of growth face).from.face.0 face other
+      joined_trans (IsFaceStep mesh) (place_of growth face).from.face.0 face other
       (joined_back (IsFaceStep mesh) (step_back mesh) face (place_of growth face).from.face.0 (up_joined mesh growth face found)) h.joined;
   seen = found.seen;
   other_seen = h.other_seen;
@@ -175,7 +176,7 @@ climb_down mesh growth last chain down face other link two h found along is = re
       subst (λ links. IsWay mesh growth.flipped 0 (place_of growth other).from.face.0 links last) (sym (reverse-append down (link ∷ [])))
       (way-append mesh growth.flipped 0 (place_of growth other).from.face.0 other last (link ∷ []) (reverse down)
       (way_down mesh growth other link two found along is) h.back);
-  joined = joined_more (IsFaceStep mesh) face other (place_of growth other).from.face.0 h.joined (up_joined mesh growth other found);
+  joined = joined_trans (IsFaceStep mesh) face other (place_of growth other).from.face.0 h.joined (up_joined mesh growth other found);
   seen = h.seen;
   other_seen = found.seen;
   size = omega (arith, h.size, found.deeper, length_push down link);
@@ -216,11 +217,6 @@ length-reversed a b c d h =
       length-reverse b,
       length-reverse d,
     )
-
-pub reversed_more : (a b rest : List ChainLink) (link : ChainLink) → b ≡ rest ++ link ∷ []
-    → (a ++ link ∷ []) ++ reverse rest ≡ a ++ reverse b
-reversed_more a b rest link h =
-    append_assoc a (link ∷ []) (reverse rest) ∙ ap (λ xs. a ++ xs) (sym (ap reverse h ∙ reverse-append rest (link ∷ [])))
 
 -- the places as they were read
 pub found_up : (mesh : FaceList) (growth : Growth) (last : ℕ) (chain down : List ChainLink) (face other : ℕ) (p q : Place)

@@ -9,13 +9,15 @@ use Rattle.surf_model.specs.Surfaces.{IsPath, ArePartners, IsCoherent, is_flippe
 use Rattle.surf_model.specs.declared.edges.Side.{Side}
 use Rattle.surf_model.specs.declared.chains.ChainLink.{ChainLink}
 use Rattle.surf_model.specs.OddChains.{LeadOnTo, IsOddChain, first_face, is_turned}
+use Rattle.surf_model.proofs.EdgeLemmas.{ends_differ}
 use Rattle.orientation.specs.Classes.{EachEdgeHasAtMostTwoSides, IsFaceStep, AreOfOneClass, IsLeastOfClass, IsLeastKept}
 use Rattle.orientation.specs.Trees.{IsAlong, differ, runs_alike, Fit}
-use Rattle.orientation.proofs.Partners.{partners_swap}
-use Rattle.orientation.proofs.Fitting.{ends_differ, link_leads, link_turned, eqb_swap, opposite_if_fit}
+use Rattle.orientation.proofs.Fitting.{link_leads, link_turned, eqb_swap, opposite_if_fit}
 use Rattle.orientation.proofs.ChainLemmas.{bit, differ_swap}
-use Rattle.orientation.proofs.ClassLemmas.{step_back, joined_more, joined_step, joined_back}
+use Rattle.orientation.proofs.ClassLemmas.{step_back, joined_back}
 use Rattle.orientation.proofs.ClimbLemmas.{first_face-append, LeadOnTo-append, count-append, count-one}
+use Rattle.connectivity.proofs.CornerLemmas.{partners_swap}
+use Rattle.connectivity.proofs.Joining.{joined_step, joined_trans}
 
 -- some links lead from one face to another, an odd number of them turned exactly if `odd`
 record HasBand (mesh : FaceList) (odd : Bool) (from to : ℕ) : Type 0 where
@@ -142,7 +144,7 @@ signed_face mesh (suc n) f is two below none =
           none (differ bands.0 sign) (record {
             root = h.root;
             least = h.least;
-            joined = joined_more (IsFaceStep mesh) f g h.root joined h.joined;
+            joined = joined_trans (IsFaceStep mesh) f g h.root joined h.joined;
             bands = record {
               to = band-append mesh bands.0 sign f g h.root bands.1.to h.bands.to;
               back = subst (λ b. HasBand mesh b h.root f) (differ_swap sign bands.0)
@@ -197,8 +199,8 @@ signs_fit mesh signs side other is two h none partners =
     let step : AreOfOneClass mesh f g = joined_step (IsFaceStep mesh) f g
     (record { side = side; partner = other; partners = partners; from = refl; to = refl }) in
     let back : (x y : ℕ) → AreOfOneClass mesh x y → AreOfOneClass mesh y x = joined_back (IsFaceStep mesh) (step_back mesh) in
-    let roots : AreOfOneClass mesh a.root b.root = joined_more (IsFaceStep mesh) a.root f b.root (back f a.root a.joined)
-    (joined_more (IsFaceStep mesh) f g b.root step b.joined) in
+    let roots : AreOfOneClass mesh a.root b.root = joined_trans (IsFaceStep mesh) a.root f b.root (back f a.root a.joined)
+    (joined_trans (IsFaceStep mesh) f g b.root step b.joined) in
     let below : a.root ≤ b.root = a.least b.root roots in
     let above : b.root ≤ a.root = b.least a.root (back a.root b.root roots) in
     let one : b.root ≡ a.root = omega arith in

@@ -1,19 +1,18 @@
 -- Two sides of one edge run oppositely under signs exactly where the signs of their faces fit.
-use Rattle.std.proofs.Common.{◌≡◌, ◌≢◌, ◌⊎◌, inl, inr, ℕ, Bool, true, false, eqb, ◌&&◌, List, [], ◌∷◌, map, refl, ap, sym, ◌∙◌, arith}
+use Rattle.std.proofs.Common.{◌≡◌, ◌≢◌, ◌⊎◌, inl, inr, ℕ, Bool, true, false, eqb, List, [], ◌∷◌, map, ap, sym, ◌∙◌, arith}
 use Rattle.std.specs.Prelude.{if◌then◌else◌}
 use Rattle.std.proofs.lemmas.Bool.Decides.{nat_tests}
+use Rattle.std.proofs.Math.Bool.{and-true}
 use Rattle.surf_model.specs.FaceLists.{FaceList, FaceSide, IsFaceList, joins}
-use Rattle.surf_model.specs.Darts.{IsSide, tail_of, head_of}
+use Rattle.surf_model.specs.Darts.{tail_of, head_of}
 use Rattle.surf_model.specs.Surfaces.{ArePartners, RunOppositely, is_flipped}
 use Rattle.surf_model.specs.declared.edges.Side.{Side}
 use Rattle.surf_model.specs.declared.chains.ChainLink.{ChainLink}
 use Rattle.surf_model.specs.OddChains.{LeadsTo, run_alike, is_turned}
+use Rattle.surf_model.proofs.EdgeLemmas.{ends_differ}
 use Rattle.orientation.specs.Classes.{EachEdgeHasAtMostTwoSides}
 use Rattle.orientation.specs.Trees.{IsAlong, differ, runs_alike, Fit}
 use Rattle.orientation.proofs.Partners.{entry_of, are_all}
-
-pub ends_differ : (mesh : FaceList) (side : Side) → IsFaceList mesh → IsSide mesh side → tail_of mesh side ≢ head_of mesh side
-ends_differ mesh side h is = (h.faces side.face.0 [] is.face).neighbours side.at is.place
 
 fit_from : (t h u k : ℕ) (f g : Bool) → ((t ≡ u) × (h ≡ k)) ⊎ ((t ≡ k) × (h ≡ u)) → t ≢ h
     → ((if f then h else t) ≡ (if g then u else k)) × ((if f then t else h) ≡ (if g then k else u)) → differ f g ≡ eqb t u
@@ -50,10 +49,6 @@ joined_along mesh side low high h = let ends = h.ends in grind (arith, nat_tests
 pub eqb_swap : (m n : ℕ) → eqb m n ≡ eqb n m
 eqb_swap m n = grind (arith, nat_tests)
 
-pub one_test : (b : Bool) → (b && true) ≡ b
-one_test true = refl
-one_test false = refl
-
 pub link_leads : (mesh : FaceList) (side other : Side) (link : ChainLink) → EachEdgeHasAtMostTwoSides mesh → ArePartners mesh side other
     → IsAlong mesh side link.low.0 link.high.0 → link.face.0 ≡ side.face.0 → LeadsTo mesh link other.face.0
 link_leads mesh side other link few h along face = record {
@@ -79,6 +74,6 @@ pub link_turned : (mesh : FaceList) (side other : Side) (link : ChainLink) → E
     → IsAlong mesh side link.low.0 link.high.0 → is_turned mesh link ≡ runs_alike mesh side other
 link_turned mesh side other link few h along =
     elim (are_all mesh link.low.0 link.high.0 side other few h (joined_along mesh side link.low.0 link.high.0 along)) [
-      | inl a ↦ ap run_alike a ∙ one_test _ ∙ eqb_swap _ _
-      | inr a ↦ ap run_alike a ∙ one_test _
+      | inl a ↦ ap run_alike a ∙ and-true _ ∙ eqb_swap _ _
+      | inr a ↦ ap run_alike a ∙ and-true _
     ]

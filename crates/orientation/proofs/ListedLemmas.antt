@@ -8,20 +8,18 @@ use Rattle.surf_model.specs.Darts.{IsSide, side_number}
 use Rattle.surf_model.specs.Surfaces.{ArePartners, IsCoherent, is_flipped}
 use Rattle.surf_model.specs.declared.edges.Side.{Side}
 use Rattle.surf_model.proofs.SideNumberLemmas.{side_below}
-use Rattle.orientation.specs.Classes.{EachEdgeHasAtMostTwoSides, IsLeastKept}
+use Rattle.orientation.specs.Classes.{EachEdgeHasAtMostTwoSides}
 use Rattle.orientation.specs.Trees.{differ, runs_alike, AreListedCoherently}
-use Rattle.orientation.proofs.AcrossLemmas.{one_number, IsOther}
+use Rattle.orientation.proofs.AcrossLemmas.{IsOther}
 use Rattle.orientation.proofs.Fitting.{eqb_swap, opposite_if_fit}
-use Rattle.orientation.proofs.Partners.{partners_swap, one_partner}
+use Rattle.orientation.proofs.Partners.{one_partner}
+use Rattle.connectivity.proofs.CornerLemmas.{partners_swap, number_once}
 
 -- no side with a number below n runs like a partner that comes before it
 abbrev pub FitUpTo : FaceList → ℕ → Type 0
 FitUpTo mesh n =
     (side other : Side) → ArePartners mesh side other → side_number mesh side < n → side_number mesh other < side_number mesh side
     → runs_alike mesh side other ≡ false
-
-pub fit_none : (mesh : FaceList) → FitUpTo mesh 0
-fit_none mesh side other partners l before = absurd (omega (arith, l))
 
 pub fit_fewer : (mesh : FaceList) (m n : ℕ) → m ≤ n → FitUpTo mesh n → FitUpTo mesh m
 fit_fewer mesh m n few h side other partners l before = h side other partners (omega (arith, l, few)) before
@@ -35,7 +33,7 @@ fit_passed mesh side n next number is h here one other partners l before =
       | inl less ↦ h one other partners less before
       | inr last ↦
           (let at : side_number mesh one ≡ n = omega (arith, l, last) in
-          let same : side ≡ one = one_number mesh side one is partners.first (number ∙ sym at) in
+          let same : side ≡ one = number_once mesh side one is partners.first (number ∙ sym at) in
           subst (λ s. runs_alike mesh s other ≡ false) same
           (here other (subst (λ s. ArePartners mesh s other) (sym same) partners) (omega (arith, at, before))))
     ]
@@ -44,7 +42,7 @@ fit_passed mesh side n next number is h here one other partners l before =
 pub other_partner : (mesh : FaceList) (side other : Side) (next : ℕ) → EachEdgeHasAtMostTwoSides mesh → IsOther mesh side next
     → IsSide mesh other → side_number mesh other ≡ next → ArePartners mesh side other
 other_partner mesh side other next two o is number =
-    subst (ArePartners mesh side) (one_number mesh o.other other o.partners.second is (o.number ∙ sym number)) o.partners
+    subst (ArePartners mesh side) (number_once mesh o.other other o.partners.second is (o.number ∙ sym number)) o.partners
 
 pub only_partner : (mesh : FaceList) (side other partner : Side) (next : ℕ) → EachEdgeHasAtMostTwoSides mesh → IsOther mesh side next
     → IsSide mesh other → side_number mesh other ≡ next → ArePartners mesh side partner → other ≡ partner
@@ -63,7 +61,7 @@ fit_all mesh n all h side other partners =
     elim (cases_lt (side_number mesh other) (side_number mesh side)) [
       | inl before ↦ h side other partners (below side partners.first) before
       | inr behind ↦ elim (cases_eq (side_number mesh side) (side_number mesh other)) [
-        | inl same ↦ absurd (partners.different (one_number mesh side other partners.first partners.second same))
+        | inl same ↦ absurd (partners.different (number_once mesh side other partners.first partners.second same))
         | inr apart ↦ eqb_swap _ _ ∙ h other side (partners_swap mesh side other partners) (below other partners.second)
             (omega (arith, behind, apart))
       ]
@@ -86,6 +84,3 @@ kept_coherent mesh signs is all listed = record {
   where
     kept_is : (f : ℕ) → is_flipped signs f ≡ false
     kept_is f = ap (λ ss. is_flipped ss f) all ∙ kept (length mesh.faces) f
-
-pub all_are_kept : (mesh : FaceList) (signs : List Bool) (n : ℕ) → signs ≡ replicate n false → IsLeastKept mesh signs
-all_are_kept mesh signs n all face l least = ap (λ ss. is_flipped ss face) all ∙ kept n face

@@ -15,14 +15,6 @@ use Rattle.orientation.specs.Classes.{EachEdgeHasAtMostTwoSides}
 abbrev pub entry_of : FaceList → Side → FaceSide
 entry_of mesh side = face_side side.face.0 (face_at mesh side.face.0) side.at
 
-pub partners_swap : (mesh : FaceList) (side other : Side) → ArePartners mesh side other → ArePartners mesh other side
-partners_swap mesh side other h = record {
-  first = h.second;
-  second = h.first;
-  different = λ same. h.different (sym same);
-  one_edge = elim h.one_edge [ inl same ↦ inl (sym same.0, sym same.1) | inr turned ↦ inr (sym turned.1, sym turned.0) ];
-}
-
 -- a list of at most two elements that has two different ones
 pub two_of : {A : Type 0} (xs : List A) (a b : A) → length xs ≤ 2 → Contains xs a → Contains xs b → a ≢ b
     → (xs ≡ a ∷ b ∷ []) ⊎ (xs ≡ b ∷ a ∷ [])

@@ -11,7 +11,7 @@ use Rattle.orientation.specs.Trees.{Growth, differ, runs_alike, Fit, is_seen, pl
 use Rattle.orientation.specs.Classes.{IsLeastKept}
 use Rattle.orientation.specs.Searches.{IsSearch, GoesOn, Extends}
 use Rattle.orientation.specs.declared.trees.Place.{Place}
-use Rattle.orientation.proofs.TreeLemmas.{found, fits_then, frontier_put, fitting, with_face_extends, count-with_face, extends_more, extends_itself, explored_none, explored_more, explored_up_to_kept, explored_all, frontier_done, frontier_last, planted, all_coherent, all_kept}
+use Rattle.orientation.proofs.TreeLemmas.{found, fits_then, frontier_put, fitting, with_face_extends, count-with_face, extends_more, explored_more, explored_up_to_kept, explored_all, frontier_done, frontier_last, planted, all_coherent, all_kept}
 
 -- what crossing an edge to a new face gives
 pub record Crossed (mesh : FaceList) (old : Growth) (waited : List FaceName) (side other : Side) (new : Growth)
@@ -68,14 +68,6 @@ pub record IsExploring (mesh : FaceList) (start : Growth) (waited : List FaceNam
   pub search : IsSearch mesh growth (face ∷ waiting)
   pub up_to : IsExploredUpTo mesh growth face.0 at
   pub goes_on : GoesOn start waited growth waiting
-
-pub exploring_first : (mesh : FaceList) (growth : Growth) (waiting : List FaceName) (face : FaceName)
-    → IsSearch mesh growth (face ∷ waiting) → IsExploring mesh growth waiting growth waiting face 0
-exploring_first mesh growth waiting face h = record {
-  search = h;
-  up_to = explored_none mesh growth face.0;
-  goes_on = record { extends = extends_itself growth; count = refl };
-}
 
 -- a side with nothing across it
 pub exploring_past : (mesh : FaceList) (start : Growth) (waited : List FaceName) (growth : Growth) (waiting : List FaceName) (side : Side)

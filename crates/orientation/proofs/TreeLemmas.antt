@@ -15,13 +15,11 @@ use Rattle.orientation.specs.Classes.{IsFaceStep, AreOfOneClass, IsLeastOfClass,
 use Rattle.orientation.specs.Trees.{Growth, differ, runs_alike, Fit, is_seen, place_of, with_face, count_unseen, IsFirst, IsFoundFrom, AreTrees, IsExplored, IsExploredUpTo, IsFrontier}
 use Rattle.orientation.specs.Searches.{IsKept, Extends}
 use Rattle.orientation.specs.declared.trees.Place.{Place}
-use Rattle.orientation.proofs.Partners.{partners_swap}
 use Rattle.orientation.proofs.Fitting.{opposite_if_fit}
-use Rattle.orientation.proofs.ClassLemmas.{step_back, joined_more, joined_step, joined_back}
+use Rattle.orientation.proofs.ClassLemmas.{step_back, joined_back}
 use Rattle.surf_model.specs.declared.limits.TheConstants.{MOST_SIDES}
-
-pub extends_itself : (growth : Growth) → Extends growth growth
-extends_itself growth = record { kept = λ f seen. record { seen = seen; sign = refl; place = refl } }
+use Rattle.connectivity.proofs.CornerLemmas.{partners_swap}
+use Rattle.connectivity.proofs.Joining.{joined_step, joined_trans}
 
 pub extends_more : (old new newer : Growth) → Extends old new → Extends new newer → Extends old newer
 extends_more old new newer h k = record {
@@ -316,9 +314,6 @@ explored_more mesh growth f at here is_face is_at h one side other partners face
           (one other (subst (λ s. ArePartners mesh s other) (sym same) partners)))
     ]
 
-pub explored_none : (mesh : FaceList) (growth : Growth) (f : ℕ) → IsExploredUpTo mesh growth f 0
-explored_none mesh growth f side other partners here below = absurd (omega arith)
-
 pub explored_all : (mesh : FaceList) (growth : Growth) (f at : ℕ) → length (face_at mesh f) ≤ at → IsExploredUpTo mesh growth f at
     → IsExplored mesh growth f
 explored_all mesh growth f at long h side other partners here =
@@ -367,7 +362,7 @@ first_above mesh growth (suc n) f h seen depth =
           record {
             first = next.first;
             is_first = next.is_first;
-            joined = joined_more (IsFaceStep mesh) f parent next.first
+            joined = joined_trans (IsFaceStep mesh) f parent next.first
                 (up_joined mesh growth f from) next.joined;
           })
     ]

@@ -2,10 +2,11 @@
 -- of the loops of their darts, where a way leads from each vertex to the root.
 use Rattle.std.proofs.Common.{◌≡◌, ℕ, ◌<◌, List, [], ◌∷◌, ◌++◌, length, ap, sym, ◌∙◌, subst, arith, append_assoc}
 use Rattle.std.specs.Prelude.{IsTrue}
+use Rattle.std.proofs.lemmas.List.{append-nil}
 use Rattle.surf_model.specs.FaceLists.{FaceList, is_used}
 use Rattle.surf_model.specs.Walks.{IsWalk}
 use Rattle.polygon_cut.proofs.GroupLemmas.{IsGroup}
-use Rattle.polygon_cut.proofs.WayLemmas.{IsWay, back, way_walk, start_used, end_used, way_on, way_home, back-append, back_back, append_none, Loop, loop_mul, loop_inv, loop_one, loop_start, HasWays, loop_of}
+use Rattle.polygon_cut.proofs.WayLemmas.{IsWay, back, way_walk, start_used, end_used, way_on, way_home, back-append, back_back, Loop, loop_mul, loop_inv, loop_one, loop_start, HasWays, loop_of}
 
 -- A congruence of walks: an equivalence in which a part may be replaced, and in which a spur is nothing.
 pub record IsWalkCongruence (mesh : FaceList) (Same : List ℕ → List ℕ → Type 0) : Type 0 where
@@ -25,7 +26,7 @@ module _ {mesh : FaceList} {Same : List ℕ → List ℕ → Type 0} (congruence
       → Same (u ∷ (rest ++ more)) (u ∷ (rest ++ others))
   behind u v [] more others h k = subst (λ x. Same (x ∷ more) (x ∷ others)) (sym h.0) k
   behind u v (w ∷ rest) more others h k =
-      simp append_none at (congruence.within (u ∷ []) (w ∷ (rest ++ more)) (w ∷ (rest ++ others)) [] (omega arith)
+      simp append-nil at (congruence.within (u ∷ []) (w ∷ (rest ++ more)) (w ∷ (rest ++ others)) [] (omega arith)
       (behind w v rest more others h.1 k))
 
   -- and what stands before
@@ -59,7 +60,7 @@ module _ {mesh : FaceList} {Same : List ℕ → List ℕ → Type 0} (congruence
     inv_same = inv_same;
     associates = λ x y z. rw append_assoc (congruence.itself (root ∷ (x.rest ++ (y.rest ++ z.rest))));
     one_left = λ x. congruence.itself (root ∷ x.rest);
-    one_right = λ x. rw append_none (congruence.itself (root ∷ x.rest));
+    one_right = λ x. rw append-nil (congruence.itself (root ∷ x.rest));
     cancels = λ x. there_and_home root root x.rest x.is_way;
     cancels_back = λ x. home_and_there root root x.rest x.is_way;
   }
@@ -75,7 +76,7 @@ module _ {mesh : FaceList} {Same : List ℕ → List ℕ → Type 0} (congruence
           (there_and_home root root y.rest y.is_way) in
           let turned : Same (root ∷ y.rest) (root ∷ x.rest) = congruence.turn _ _ (loop_start mesh root x) h in
           let start : Same (root ∷ back root x.rest) (root ∷ (back root x.rest ++ (y.rest ++ back root y.rest))) =
-          simp append_none at (behind root root (back root x.rest) [] (y.rest ++ back root y.rest) (home x) turn_back) in
+          simp append-nil at (behind root root (back root x.rest) [] (y.rest ++ back root y.rest) (home x) turn_back) in
           let change : Same (root ∷ (back root x.rest ++ (y.rest ++ back root y.rest)))
           (root ∷ (back root x.rest ++ (x.rest ++ back root y.rest))) =
           behind root root (back root x.rest) _ _ (home x) (before root y.rest x.rest (back root y.rest) turned) in
@@ -101,7 +102,7 @@ module _ {mesh : FaceList} {Same : List ℕ → List ℕ → Type 0} (congruence
       let front : Same (u ∷ ((up u ++ back u (up u)) ++ (rest ++ (up v ++ back v (up v))))) (u ∷ (rest ++ (up v ++ back v (up v)))) =
       before congruence u (up u ++ back u (up u)) [] (rest ++ (up v ++ back v (up v))) (there_and_home congruence u root (up u) u_way) in
       let end : Same (u ∷ (rest ++ (up v ++ back v (up v)))) (u ∷ rest) =
-      subst (λ (l : List ℕ). Same (u ∷ (rest ++ (up v ++ back v (up v)))) (u ∷ l)) (append_none rest)
+      subst (λ (l : List ℕ). Same (u ∷ (rest ++ (up v ++ back v (up v)))) (u ∷ l)) (append-nil rest)
       (behind congruence u v rest (up v ++ back v (up v)) [] h (there_and_home congruence v root (up v) v_way)) in
       congruence.turn _ _ (way_walk mesh u v whole whole_way)
       (subst (λ (l : List ℕ). Same (u ∷ l) (u ∷ rest)) (sym shape) (congruence.on _ _ _ front end))

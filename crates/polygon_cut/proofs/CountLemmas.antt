@@ -1,6 +1,6 @@
 -- Counting the numbers below a bound that pass a test: along a permutation, and over the darts of edges.
 use Rattle.std.proofs.Common.{◌≡◌, ◌≢◌, inl, inr, ℕ, zero, suc, ◌+◌, ◌*◌, ◌<◌, ◌≤◌, Bool, true, false, ◌&&◌, ◌||◌, cond, eqb, ltb, refl, ap, sym, ◌∙◌, subst, arith}
-use Rattle.std.proofs.lemmas.Bool.{cases_Bool, cases_eq, cases_lt, both_ways, eqb-true, eq-eqb, ltb-true, lt-ltb}
+use Rattle.std.proofs.lemmas.Bool.{cases_Bool, cases_eq, cases_lt, eqb-true, eq-eqb, ltb-true, lt-ltb, and_right, and_left}
 use Rattle.surf_model.specs.Numbers.{count_below}
 use Rattle.halfedge_map.specs.RotationSystems.{Rotations, IsRotationSystem}
 use Rattle.tree_cotree.specs.RingCounts.{any_below}
@@ -64,14 +64,6 @@ and_true : (a b : Bool) → b ≡ true → (a && b) ≡ a
 and_true true b h = h
 and_true false b h = refl
 
-and_false : (a b : Bool) → b ≡ false → (a && b) ≡ false
-and_false true b h = h
-and_false false b h = refl
-
-and_left : (a b : Bool) → a ≡ false → (a && b) ≡ false
-and_left true b h = absurd (both_ways true h refl)
-and_left false b h = refl
-
 or_false : (a b : Bool) → b ≡ false → (a || b) ≡ a
 or_false true b h = refl
 or_false false b h = h
@@ -83,7 +75,7 @@ one_more_among p at n j within apart = elim (cases_Bool (p (at j))) [
   | inl passes ↦
       let more : count_below (λ x. p x && among at (suc j) x) n ≡ suc (count_below (λ x. p x && among at j x) n) =
       count_less (λ x. p x && among at (suc j) x) (λ x. p x && among at j x) n (at j) within
-      (and_true (p (at j)) (among at (suc j) (at j)) here ∙ passes) (and_false (p (at j)) (among at j (at j)) fresh)
+      (and_true (p (at j)) (among at (suc j) (at j)) here ∙ passes) (and_right (p (at j)) (among at j (at j)) fresh)
       (λ x x_in ne. elsewhere x ne) in
       rw passes (omega (arith, more))
   | inr fails ↦
@@ -124,7 +116,7 @@ counted_among p at n within apart zero l = none n
     none : (m : ℕ) → count_below (λ x. p x && false) m ≡ 0
     none zero = refl
     none (suc m) =
-        let out : (p m && false) ≡ false = and_false (p m) false refl in
+        let out : (p m && false) ≡ false = and_right (p m) false refl in
         rw (out, none m) refl
 counted_among p at n within apart (suc j) l =
     one_more_among p at n j (within j (omega arith)) (λ k b. apart k j b (omega arith))
@@ -180,7 +172,7 @@ two_more maps set m d r l on is =
         and_true (set (maps.edge x)) (ltb (maps.edge x) (suc m)) (lt-ltb (maps.edge x) (suc m) (omega (arith, here))) ∙ ap set here ∙ is
 
     not_yet : (x : ℕ) → maps.edge x ≡ m → darts_below maps set m x ≡ false
-    not_yet x here = and_false (set (maps.edge x)) (ltb (maps.edge x) m) (ap (λ (e : ℕ). ltb e m) here ∙ not_less m)
+    not_yet x here = and_right (set (maps.edge x)) (ltb (maps.edge x) m) (ap (λ (e : ℕ). ltb e m) here ∙ not_less m)
 
     elsewhere : (x : ℕ) → x < maps.darts → x ≢ t → darts_below maps set (suc m) x ≡ with_one (darts_below maps set m) d x
     elsewhere x k ne = elim (cases_eq x d) [
@@ -210,7 +202,7 @@ count_darts maps edges set r edge_in dart_of =
           | inl less ↦ absurd (let lower : maps.edge n < 0 = ltb-true (maps.edge n) 0 less in omega arith)
           | inr other ↦ other
         ] in
-        let outside : (set (maps.edge n) && ltb (maps.edge n) 0) ≡ false = and_false (set (maps.edge n)) (ltb (maps.edge n) 0) out in
+        let outside : (set (maps.edge n) && ltb (maps.edge n) 0) ≡ false = and_right (set (maps.edge n)) (ltb (maps.edge n) 0) out in
         rw (outside, none n) refl
 
     go : (m : ℕ) → m ≤ edges → count_below (darts_below maps set m) maps.darts ≡ 2 * count_below set m

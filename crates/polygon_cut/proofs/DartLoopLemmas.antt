@@ -116,7 +116,6 @@ module _ {s : OrientedMesh} {Same : List ℕ → List ℕ → Type 0} (congruenc
   pub value_of_tree : (d : ℕ) → d < darts_of s → in_tree split (edge_of s d) ≡ true
       → SameLoops Same (value s split o t d) (one_of s split t)
   value_of_tree d l is =
-      let r : IsRotationSystem (rotations_of s) = rotation_system s o in
       let ways : HasWays s.mesh t.parents.root (up s split t) = tree_ways s split o t in
       let u : ℕ = origin_of s d in
       let w : ℕ = origin_of s (twin_of s d) in

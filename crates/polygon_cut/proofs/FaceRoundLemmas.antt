@@ -30,7 +30,7 @@ corner_apart false m t k h some l same = elim (cases_lt t k) [
   | inr within ↦ (let is : corner_after false m t k ≡ t - k = falls m t k h within in omega arith)
 ]
 
-corner_home : (rising : Bool) (m t : ℕ) → t < m → corner_after rising m t m ≡ t
+pub corner_home : (rising : Bool) (m t : ℕ) → t < m → corner_after rising m t m ≡ t
 corner_home true m t h = rises_past m t m h (omega arith) (omega arith) ∙ omega arith
 corner_home false m t h = falls_past m t m h (omega arith) h ∙ omega arith
 

@@ -3,6 +3,7 @@ use Rattle.std.proofs.Common.{◌≡◌, inl, inr, ℕ, zero, suc, ◌+◌, ◌-
 use Rattle.std.specs.Prelude.{All, slice_index}
 use Rattle.std.proofs.lemmas.Bool.{cases_lt}
 use Rattle.std.proofs.Math.ListN.{get_or-eq_default}
+use Rattle.std.proofs.lemmas.List.{append-nil}
 use Rattle.surf_model.specs.FaceLists.{FaceList, face_at, corners_from, is_used}
 use Rattle.surf_model.specs.Surfaces.{IsPath, is_flipped}
 use Rattle.surf_model.specs.Walks.{IsWalk}
@@ -20,7 +21,7 @@ use Rattle.polygon_cut.specs.SpokeLoops.{AreWaysUp, way_round, way_back_round, b
 use Rattle.polygon_cut.proofs.RelatorLemmas.{spoke_product, ends_at_vertex, loop_in, free_push}
 use Rattle.polygon_cut.proofs.GroupWordLemmas.{Var, One, Mul, Inv, by_words}
 use Rattle.polygon_cut.proofs.FreeProductLemmas.{way_end, product_back}
-use Rattle.polygon_cut.proofs.WayLemmas.{IsWay, way_walk, start_used, end_used, way_home, append_none, back, HasWays, Loop, loop_mul, loop_inv, loop_of}
+use Rattle.polygon_cut.proofs.WayLemmas.{IsWay, way_walk, start_used, end_used, way_home, back, HasWays, Loop, loop_mul, loop_inv, loop_of}
 use Rattle.polygon_cut.proofs.CongruenceLemmas as Congruence
 use Rattle.polygon_cut.proofs.FreeLoopLemmas.{SameFreely, free_equality}
 use Rattle.polygon_cut.proofs.FreeSpokeLemmas.{free_group}
@@ -114,7 +115,7 @@ path_list s split o t polygon c some ups h false (i ∷ path) =
     (backward_is root (spoke_loop s polygon root ups i) ∙ ap (back root) (spoke_list s split o t polygon c some ups h i))
     ∙ ap (λ (x : List ℕ). back root (spoke s split o t polygon i).rest ++ x) (path_list s split o t polygon c some ups h true path)
 
-turned_parity : (at_vertex : Bool) (path : List ℕ) → ends_at_vertex (not at_vertex) path ≡ not (ends_at_vertex at_vertex path)
+pub turned_parity : (at_vertex : Bool) (path : List ℕ) → ends_at_vertex (not at_vertex) path ≡ not (ends_at_vertex at_vertex path)
 turned_parity at_vertex [] = refl
 turned_parity at_vertex (i ∷ path) = turned_parity (not at_vertex) path
 
@@ -222,7 +223,6 @@ pub last_list : (s : OrientedMesh) (split : SplitView) (o : IsOrientedSurface s)
 unfolding last_loop_as
 last_list s split o t polygon c some ups h =
     let path : List ℕ = 0 ∷ (polygon.degree - 1) ∷ [] in
-    let nothing : Loops s split t = one_of s split t in
     sym
     (ap (λ (l : List ℕ). l ++ path_loop s polygon t.parents.root ups true path)
     (loop_list s split o t ups h (last_side polygon) (side_in s split polygon c some (polygon.degree - 1)))
@@ -463,7 +463,7 @@ pushes_with_loop s split polygon root ups o t c some h =
       from_last = λ before after even.
           subst (λ n. PutBehind s polygon root ups before (before ++ z ∷ 0 ∷ after) (before ++ n ∷ k ∷ after)) up_k
           (subst (λ (l : List ℕ). PutBehind s polygon root ups l (before ++ z ∷ 0 ∷ after) (before ++ suc k ∷ k ∷ after))
-          (append_none before)
+          (append-nil before)
           (words.with_loop (before ++ suc k ∷ k ∷ after) (before ++ []) (before ++ z ∷ 0 ∷ after)
           (pushes.from_last before after (parity before ∙ even))));
       to_last = λ before after even.

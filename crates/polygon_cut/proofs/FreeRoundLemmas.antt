@@ -28,7 +28,7 @@ use Rattle.polygon_cut.proofs.DartLoopLemmas.{Loops, spoke, one_of}
 use Rattle.polygon_cut.proofs.FreeSpokeLemmas.{free_group, free_value, of_cotree_dart, free_twin, free_is_two_spokes}
 
 -- as many steps back lead back to the corner
-round_trip : (rising : Bool) (m t k : ℕ) → t < m → corner_after (not rising) m (corner_after rising m t k) k ≡ t
+pub round_trip : (rising : Bool) (m t k : ℕ) → t < m → corner_after (not rising) m (corner_after rising m t k) k ≡ t
 round_trip rising m t zero l = refl
 round_trip rising m t (suc k) l =
     corner_after_suc (not rising) m (corner_after rising m (next_corner rising m t) k) k

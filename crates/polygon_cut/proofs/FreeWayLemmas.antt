@@ -4,8 +4,7 @@ use Rattle.std.proofs.Common.{◌≡◌, inl, inr, ℕ, suc, ◌+◌, ◌-◌, �
 use Rattle.std.proofs.lemmas.Bool.{cases_eq, both_ways}
 use Rattle.std.proofs.lemmas.Bool.Decides.{nat_tests}
 use Rattle.surf_model.specs.FaceLists.{FaceList, face_at}
-use Rattle.surf_model.specs.FreeWalks.{AreFreelyEqual, HasNoSpur}
-use Rattle.surf_model.proofs.FreeWalkLemmas.{one_reduced_walk}
+use Rattle.surf_model.specs.FreeWalks.{AreFreelyEqual}
 use Rattle.halfedge_map.specs.OrientedMeshes.{OrientedMesh, IsOrientedSurface}
 use Rattle.halfedge_map.specs.DartMaps.{darts_of, next_of, origin_of, face_of, edge_of}
 use Rattle.halfedge_map.specs.RotationSystems.{rotations_of, IsDartFrom}
@@ -19,7 +18,7 @@ use Rattle.polygon_cut.proofs.GroupLemmas.{IsGroup, quotient, inverse_unique}
 use Rattle.polygon_cut.proofs.GroupWordLemmas.{Var, Mul, Inv, by_words, by_relation}
 use Rattle.polygon_cut.proofs.RelatorLemmas.{spoke_product, loop_in}
 use Rattle.polygon_cut.proofs.WayLemmas.{IsWay, back, start_used, way_on, way_home, HasWays, Loop, loop_mul, loop_inv, loop_one, loop_of, back_back}
-use Rattle.polygon_cut.proofs.CongruenceLemmas.{before, behind, first_dart, from_loops, no_dart, there_and_home, to_loops}
+use Rattle.polygon_cut.proofs.CongruenceLemmas.{before, behind, first_dart, no_dart, there_and_home, to_loops}
 use Rattle.polygon_cut.proofs.FreeLoopLemmas.{SameFreely, loops_make_a_free_group, free_equality}
 use Rattle.polygon_cut.proofs.LawLemmas.{labels_ride}
 use Rattle.polygon_cut.proofs.TreeWayLemmas.{up, tree_ways}
@@ -109,23 +108,6 @@ put_in mesh root up ways u v w there turn more h r k whole =
     g.on all (loop_mul a from_turn) (loop_in loop_mul loop_inv a l x)
     (loop_on mesh root up ways u v w there (turn ++ (back u there ++ more)) h turn_way whole)
     (g.mul_same a a from_turn (loop_mul l (loop_mul (loop_inv a) x)) (g.itself a) turn_is)
-
--- A closed walk without spurs that is worth nothing goes nowhere.
-pub nothing_left : (mesh : FaceList) (root : ℕ) (up : ℕ → List ℕ) (ways : HasWays mesh root up) (u : ℕ) (rest : List ℕ)
-    (h : IsWay mesh u u rest) → HasNoSpur (u ∷ rest)
-    → SameFreely (loop_of mesh root up ways u u rest h) (loop_one mesh root ways.root_used) → rest ≡ []
-nothing_left mesh root up ways u rest h clean same =
-    let g = loops_make_a_free_group mesh root ways.root_used in
-    let stay : IsWay mesh u u [] = (refl, start_used mesh u u rest h) in
-    let a : Loop mesh root = loop_of mesh root up ways u u rest h in
-    let still : Loop mesh root = loop_of mesh root up ways u u [] stay in
-    let nothing : Loop mesh root = loop_one mesh root ways.root_used in
-    let free : AreFreelyEqual mesh (u ∷ rest) (u ∷ []) =
-    from_loops (free_equality mesh) ways u u rest [] h stay
-    (g.on a nothing still same (g.turn still nothing (no_dart (free_equality mesh) ways u u stay))) in
-    let one_vertex : HasNoSpur (u ∷ []) = λ k l. absurd (omega arith) in
-    let walks : u ∷ rest ≡ u ∷ [] = one_reduced_walk mesh (u ∷ rest) (u ∷ []) (omega arith) free clean one_vertex in
-    (let same_rest : rest ≡ [] = cc in same_rest)
 
 -- a walk behind its first dart is off the cotree where the walk is
 off_behind : (s : OrientedMesh) (split : SplitView) (u w : ℕ) (rest : List ℕ) → IsOffCotree s split (u ∷ w ∷ rest)

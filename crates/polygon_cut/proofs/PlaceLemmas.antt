@@ -1,5 +1,5 @@
 -- Places round the one vertex: the numbers of the sides, taken as they come by turning, get falling places.
-use Rattle.std.proofs.Common.{◌≡◌, ◌≢◌, ◌⊎◌, inl, inr, ℕ, suc, ◌+◌, ◌-◌, ◌<◌, Bool, refl, ap, sym, ◌∙◌, subst, arith}
+use Rattle.std.proofs.Common.{◌≡◌, ◌≢◌, ◌⊎◌, inl, inr, ℕ, suc, ◌+◌, ◌-◌, ◌<◌, Bool, ap, sym, ◌∙◌, subst, arith}
 use Rattle.std.proofs.lemmas.Bool.{cases_eq}
 use Rattle.std.proofs.lemmas.Bool.Decides.{nat_tests}
 use Rattle.halfedge_map.specs.Orbits.{after_steps, IsReached}
@@ -105,9 +105,6 @@ falling degree f place p some all h = record {
         | inr w ↦ omega (arith, v.0, v.1, w.0, w.1)
       ]
     ]
-
-    down_zero : one_down degree 0 ≡ degree - 1
-    down_zero = refl
 
     down_more : (x : ℕ) → 0 < x → one_down degree x ≡ x - 1
     down_more x l = grind (arith, nat_tests)

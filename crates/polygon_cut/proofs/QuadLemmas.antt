@@ -1,12 +1,10 @@
 -- The leftover rule of the places, the order of the places for degree 4, and how many darts have an edge of a set.
-use Rattle.std.proofs.Common.{◌≡◌, ◌≢◌, ◌⊎◌, inl, inr, ℕ, zero, suc, ◌+◌, ◌*◌, ◌<◌, ◌≤◌, Bool, true, false, ◌&&◌, ltb, eqb, cond, refl, ap, sym, ◌∙◌, subst, arith}
-use Rattle.std.proofs.lemmas.Bool.{cases_Bool, cases_eq, cases_lt, eqb-true, eq-eqb, and_parts, ltb-true, lt-ltb}
-use Rattle.surf_model.specs.Numbers.{count_below}
+use Rattle.std.proofs.Common.{◌≡◌, ◌⊎◌, inl, inr, ℕ, zero, suc, ◌<◌, Bool, true, refl, ap, sym, ◌∙◌, subst, arith}
+use Rattle.std.proofs.lemmas.Bool.{cases_lt}
 use Rattle.halfedge_map.specs.Orbits.{after_steps, IsReached}
 use Rattle.halfedge_map.specs.RotationSystems.{Rotations, IsRotationSystem}
 use Rattle.polygon_cut.specs.Polygons.{one_up, one_down, PolygonView, label_of, place_of, IsLabelled, HasPlaces}
 use Rattle.halfedge_map.proofs.OrbitLemmas.{reached_back}
-use Rattle.tree_cotree.proofs.ClassLemmas.{count_same, count_less}
 use Rattle.polygon_cut.proofs.PolygonLemmas.{is_own_side}
 use Rattle.polygon_cut.proofs.PlaceLemmas.{Crosses, turning_permutes}
 
@@ -125,116 +123,3 @@ places_rise t place c all below falls i l =
     let back : one_up 4 (t next) ≡ i = opposite_sides t c all next next_in ∙ up_down i l in
     let fall : place i ≡ one_down 4 (place next) = ap place (sym back) ∙ falls next next_in in
     sym (ap (one_up 4) fall ∙ down_up (place next) (below next next_in))
-
--- each edge of a set has two darts
-pub darts_of_edges : (maps : Rotations) (set : ℕ → Bool) (edges : ℕ) → IsRotationSystem maps
-    → ((d : ℕ) → d < maps.darts → maps.edge d < edges)
-    → ((e : ℕ) → e < edges → (d : ℕ) × (d < maps.darts) × (maps.edge d ≡ e))
-    → count_below (λ d. set (maps.edge d)) maps.darts ≡ 2 * count_below set edges
-darts_of_edges maps set edges r edge_in darts =
-    count_same (λ d. set (maps.edge d)) (up_to edges) n (λ d l. sym (whole d l)) ∙ go edges (omega arith)
-  where
-    n : ℕ
-    n = maps.darts
-
-    up_to : ℕ → ℕ → Bool
-    up_to k d = set (maps.edge d) && ltb (maps.edge d) k
-
-    whole : (d : ℕ) → d < maps.darts → up_to edges d ≡ set (maps.edge d)
-    whole d l = rw (lt-ltb (maps.edge d) edges (edge_in d l)) (last (set (maps.edge d)))
-      where
-        last : (b : Bool) → (b && true) ≡ b
-        last true = refl
-        last false = refl
-
-    below_none : (d : ℕ) → up_to 0 d ≡ false
-    below_none d = elim (cases_Bool (up_to 0 d)) [
-      | inl is ↦ absurd (let lower : maps.edge d < 0 = ltb-true (maps.edge d) 0
-          (and_parts (set (maps.edge d)) (ltb (maps.edge d) 0) is).1 in omega arith)
-      | inr none ↦ none
-    ]
-
-    count_zero : (m : ℕ) → count_below (up_to 0) m ≡ 0
-    count_zero zero = refl
-    count_zero (suc m) = rw (count_zero m, below_none m) refl
-
-    -- below suc k and not below k is k itself
-    other_edge : (k d : ℕ) → maps.edge d ≢ k → up_to (suc k) d ≡ up_to k d
-    other_edge k d ne = ap (λ (b : Bool). set (maps.edge d) && b) same
-      where
-        same : ltb (maps.edge d) (suc k) ≡ ltb (maps.edge d) k
-        same = elim (cases_lt (maps.edge d) k) [
-          | inl less ↦ lt-ltb (maps.edge d) (suc k) (omega arith) ∙ sym (lt-ltb (maps.edge d) k less)
-          | inr more ↦ elim (cases_Bool (ltb (maps.edge d) (suc k))) [
-            | inl here ↦ absurd (let lower : maps.edge d < suc k = ltb-true (maps.edge d) (suc k) here in omega arith)
-            | inr far ↦ elim (cases_Bool (ltb (maps.edge d) k)) [
-              | inl near ↦ absurd (let lower : maps.edge d < k = ltb-true (maps.edge d) k near in omega arith)
-              | inr none ↦ far ∙ sym none
-            ]
-          ]
-        ]
-
-    here_now : (k d : ℕ) → maps.edge d ≡ k → set k ≡ true → up_to (suc k) d ≡ true
-    here_now k d e is =
-        let in_set : set (maps.edge d) ≡ true = ap set e ∙ is in
-        let less : ltb (maps.edge d) (suc k) ≡ true = lt-ltb (maps.edge d) (suc k) (omega arith) in
-        rw (in_set, less) refl
-
-    not_before : (k d : ℕ) → maps.edge d ≡ k → up_to k d ≡ false
-    not_before k d e = elim (cases_Bool (up_to k d)) [
-      | inl is ↦ absurd (let lower : maps.edge d < k = ltb-true (maps.edge d) k
-          (and_parts (set (maps.edge d)) (ltb (maps.edge d) k) is).1 in omega arith)
-      | inr none ↦ none
-    ]
-
-    out_of_set : (k d : ℕ) → set k ≡ false → up_to (suc k) d ≡ up_to k d
-    out_of_set k d out = elim (cases_eq (maps.edge d) k) [
-      | inr other ↦ other_edge k d other
-      | inl same ↦ (let none : set (maps.edge d) ≡ false = ap set same ∙ out in rw none refl)
-    ]
-
-    go : (k : ℕ) → k ≤ edges → count_below (up_to k) n ≡ 2 * count_below set k
-    go zero l = count_zero n
-    go (suc k) l = elim (cases_Bool (set k)) [
-      | inr out ↦
-          let same : count_below (up_to (suc k)) n ≡ count_below (up_to k) n =
-          count_same (up_to (suc k)) (up_to k) n (λ d _. out_of_set k d out) in
-          let count : count_below set (suc k) ≡ count_below set k + 0 = rw out refl in
-          omega (arith, same, count, go k (omega arith))
-      | inl is ↦
-          let found = darts k (omega arith) in
-          let d : ℕ = found.0 in
-          let twin : ℕ = maps.twin d in
-          let twin_in : twin < n = r.twin_within d found.1 in
-          let twin_is : maps.edge twin ≡ k = sym ((r.edges d twin found.1 twin_in).1 (inr refl)) ∙ found.2 in
-          let between : ℕ → Bool = λ x. cond (eqb x d) false (up_to (suc k) x) in
-          let first : count_below (up_to (suc k)) n ≡ suc (count_below between n) =
-          count_less (up_to (suc k)) between n d found.1 (here_now k d found.2 is) (at_itself d)
-          (λ x x_in ne. sym (at_other d x ne)) in
-          let twin_still : between twin ≡ true = at_other d twin (r.twin_other d found.1) ∙ here_now k twin twin_is is in
-          let second : count_below between n ≡ suc (count_below (up_to k) n) =
-          count_less between (up_to k) n twin twin_in twin_still (not_before k twin twin_is)
-          (λ x x_in ne. rest d twin refl found.1 found.2 x x_in ne) in
-          let count : count_below set (suc k) ≡ count_below set k + 1 = rw is refl in
-          omega (arith, first, second, count, go k (omega arith))
-    ]
-      where
-        at_itself : (d : ℕ) → cond (eqb d d) false (up_to (suc k) d) ≡ false
-        at_itself d = rw (eq-eqb d d refl) refl
-
-        at_other : (d x : ℕ) → x ≢ d → cond (eqb x d) false (up_to (suc k) x) ≡ up_to (suc k) x
-        at_other d x ne = elim (cases_Bool (eqb x d)) [ inl same ↦ absurd (ne (eqb-true x d same)) | inr other ↦ rw other refl ]
-
-        rest : (d twin : ℕ) → twin ≡ maps.twin d → d < n → maps.edge d ≡ k → (x : ℕ) → x < n → x ≢ twin
-            → cond (eqb x d) false (up_to (suc k) x) ≡ up_to k x
-        rest d twin t d_in d_is x x_in ne = elim (cases_eq x d) [
-          | inl same ↦
-              subst (λ (y : ℕ). cond (eqb y d) false (up_to (suc k) y) ≡ up_to k y) (sym same) (at_itself d ∙ sym (not_before k d d_is))
-          | inr other ↦
-              let apart : maps.edge x ≢ k = λ e. elim ((r.edges d x d_in x_in).0 (d_is ∙ sym e)) [
-                | inl a ↦ other a
-                | inr b ↦
-                    ne (b ∙ sym t)
-              ] in
-              at_other d x other ∙ other_edge k x apart
-        ]

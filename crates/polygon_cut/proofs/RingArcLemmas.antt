@@ -3,6 +3,7 @@
 use Rattle.std.proofs.Common.{◌≡◌, ◌≢◌, ◌⊎◌, inl, inr, ℕ, zero, suc, ◌+◌, ◌-◌, ◌<◌, ◌≤◌, true, false, not, List, [], ◌∷◌, ◌++◌, length, refl, ap, sym, ◌∙◌, subst, arith, length-append}
 use Rattle.std.specs.Prelude.{if◌then◌else◌}
 use Rattle.std.proofs.lemmas.Bool.{cases_Bool, cases_lt}
+use Rattle.std.proofs.lemmas.List.{append-nil}
 use Rattle.surf_model.specs.FreeWalks.{AreFreelyEqual}
 use Rattle.halfedge_map.specs.Orbits.{after_steps}
 use Rattle.halfedge_map.specs.OrientedMeshes.{OrientedMesh, IsOrientedSurface}
@@ -19,7 +20,7 @@ use Rattle.polygon_cut.specs.SpokeLoops.{AreWaysUp, by_loop, last_side, path_loo
 use Rattle.polygon_cut.proofs.GroupLemmas.{quotient, middle, inverse_of_quotient}
 use Rattle.polygon_cut.proofs.RoundLemmas.{GoesRound, round_reaches, round_apart}
 use Rattle.polygon_cut.proofs.RelatorLemmas.{spoke_product}
-use Rattle.polygon_cut.proofs.WayLemmas.{IsWay, start_used, end_used, append_none, back, way_on, way_home, HasWays, loop_mul, loop_inv, loop_of}
+use Rattle.polygon_cut.proofs.WayLemmas.{IsWay, start_used, end_used, back, way_on, way_home, HasWays, loop_mul, loop_inv, loop_of}
 use Rattle.polygon_cut.proofs.CongruenceLemmas.{no_dart}
 use Rattle.polygon_cut.proofs.FreeLoopLemmas.{SameFreely, free_equality}
 use Rattle.polygon_cut.proofs.LawLemmas.{labels_ride}
@@ -166,7 +167,7 @@ arc s split o t polygon c some d l (suc k) other =
           let label : label_of polygon (next_of s (twin_of s e)) ≡ label_of polygon e =
           (labels_ride s split polygon e o t c some e_in).of_cotree crossed in
           let stays : walk ≡ ring_walk s split (suc k) d =
-          sym (append_none walk) ∙ ap (λ b. walk ++ (if b then [] else w ∷ [])) (sym crossed) in
+          sym (append-nil walk) ∙ ap (λ b. walk ++ (if b then [] else w ∷ [])) (sym crossed) in
           subst (IsArc s split o t polygon d (outer_ring s split e) (suc k)) stays
           (arc_turned s split o t polygon d e (outer_ring s split e) k (suc k) walk (omega arith) (ap (origin_of s) on ∙ at)
           (ap (label_of polygon) on ∙ label) before)

@@ -2,6 +2,7 @@
 -- cancel, and the two spokes of the side across from the last one are that side.
 use Rattle.std.proofs.Common.{◌≡◌, ℕ, suc, ◌+◌, ◌*◌, ◌-◌, ◌<◌, ◌≤◌, Bool, true, false, List, [], ◌∷◌, ◌++◌, length, refl, ap, sym, ◌∙◌, subst, arith, length-append}
 use Rattle.std.specs.Prelude.{All}
+use Rattle.std.proofs.lemmas.List.{append-nil}
 use Rattle.surf_model.specs.FaceLists.{is_used}
 use Rattle.halfedge_map.specs.OrientedMeshes.{OrientedMesh, IsOrientedSurface}
 use Rattle.halfedge_map.specs.DartMaps.{darts_of, twin_of, origin_of}
@@ -12,7 +13,7 @@ use Rattle.polygon_cut.specs.SpokeLoops.{AreWaysUp, backward, by_loop, path_loop
 use Rattle.polygon_cut.specs.ShortWalks.{IsFreelyShort, AreShortAround}
 use Rattle.polygon_cut.proofs.GroupWordLemmas.{Var, One, Mul, Inv, by_words, by_relation}
 use Rattle.polygon_cut.proofs.RelatorLemmas.{spoke_product, ends_at_vertex, spokes_on}
-use Rattle.polygon_cut.proofs.WayLemmas.{IsWay, append_none, back, way_on, way_home, HasWays, loop_mul, loop_inv, loop_of}
+use Rattle.polygon_cut.proofs.WayLemmas.{IsWay, back, way_on, way_home, HasWays, loop_mul, loop_inv, loop_of}
 use Rattle.polygon_cut.proofs.FreeLoopLemmas.{SameFreely, free_equality}
 use Rattle.polygon_cut.proofs.TreeWayLemmas.{up, tree_ways}
 use Rattle.polygon_cut.proofs.DartLoopLemmas.{Loops, dart_way, value, value_along, spoke, one_of}
@@ -158,7 +159,7 @@ short_behind s split polygon before after there home pairs o t c some even below
           (product_of s split o t polygon (before ++ after)) in
           let same : SameFreely whole a =
           subst (λ (l : List ℕ). SameFreely (loop_mul (loop_inv (product_of s split o t polygon l))
-          (product_of s split o t polygon (before ++ after))) a) (append_none before)
+          (product_of s split o t polygon (before ++ after))) a) (append-nil before)
           (g.on (loop_mul (loop_inv (product_of s split o t polygon (before ++ []))) (product_of s split o t polygon (before ++ after)))
           (loop_mul (loop_inv none) a) a (back_over s split o t polygon true before [] after (parity before ∙ even))
           (by_words SameFreely loop_mul loop_inv none g (a ∷ []) (Mul (Inv One) (Var 0)) (Var 0) refl)) in

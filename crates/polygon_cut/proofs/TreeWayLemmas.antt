@@ -2,6 +2,7 @@
 use Rattle.std.proofs.Common.{◌≡◌, ◌≢◌, ◌⊎◌, inl, inr, ℕ, zero, suc, ◌+◌, ◌<◌, Bool, true, false, ◌||◌, eqb, cond, List, [], ◌∷◌, length, refl, ap, sym, ◌∙◌, subst, arith}
 use Rattle.std.specs.Prelude.{IsTrue, Option, Some, None}
 use Rattle.std.proofs.lemmas.Bool.{cases_Bool, both_ways, eqb-true, eq-eqb, or_right}
+use Rattle.std.proofs.Math.Bool.{or-false}
 use Rattle.surf_model.specs.FaceLists.{is_used, is_edge}
 use Rattle.surf_model.specs.Surfaces.{IsPath}
 use Rattle.surf_model.specs.Numbers.{count_below}
@@ -12,7 +13,7 @@ use Rattle.halfedge_map.proofs.SystemLemmas.{rotation_system, names_all}
 use Rattle.halfedge_map.proofs.EdgeLemmas.{edge_of_dart}
 use Rattle.tree_cotree.specs.RingCounts.{any_below}
 use Rattle.tree_cotree.specs.Splits.{SplitView, IsSplit, in_tree, parent_dart, StepsToParent}
-use Rattle.tree_cotree.proofs.ClassLemmas.{found_below, count_same, count_less}
+use Rattle.tree_cotree.proofs.ClassLemmas.{found_below, count_same, count_less, count_none}
 use Rattle.tree_cotree.proofs.SetLemmas.{same_from_count}
 use Rattle.polygon_cut.proofs.WayLemmas.{IsWay, HasWays}
 
@@ -116,20 +117,12 @@ unfolding hits
 is_hit None e h = cc
 is_hit (Some x) e h = eq-eqb x e (let same : x ≡ e = cc in same)
 
-or_false : (b : Bool) → (b || false) ≡ b
-or_false true = refl
-or_false false = refl
-
-count_nothing : (m : ℕ) → count_below (λ e. false) m ≡ 0
-count_nothing zero = refl
-count_nothing (suc m) = rw (count_nothing m) refl
-
 -- a map that takes no two numbers to one has as many values as there are numbers at which it has any
 image_count : (f : ℕ → Option ℕ) (bound : ℕ) → ((v e : ℕ) → f v ≡ Some e → e < bound) → (n : ℕ)
     → ((v w e : ℕ) → v < n → w < n → f v ≡ Some e → f w ≡ Some e → v ≡ w)
     → count_below (λ e. any_below (λ v. hits (f v) e) n) bound ≡ count_below (λ v. is_some (f v)) n
 unfolding is_some hits
-image_count f bound below zero once = count_nothing bound
+image_count f bound below zero once = count_none bound
 image_count f bound below (suc n) once =
     go (f n) refl (image_count f bound below n (λ v w e l k. once v w e (omega arith) (omega arith)))
   where
@@ -145,7 +138,7 @@ image_count f bound below (suc n) once =
         let count : count_below (λ v. is_some (f v)) (suc n) ≡ count_below (λ v. is_some (f v)) n + 0 =
         ap (λ o. count_below (λ v. is_some (f v)) n + cond (is_some o) 1 0) is in
         let same : count_below new bound ≡ count_below old bound =
-        count_same new old bound (λ e l. ap (λ o. old e || hits o e) is ∙ or_false (old e)) in
+        count_same new old bound (λ e l. ap (λ o. old e || hits o e) is ∙ or-false (old e)) in
         omega (arith, count, same, before)
     go (Some x) is before =
         let count : count_below (λ v. is_some (f v)) (suc n) ≡ count_below (λ v. is_some (f v)) n + 1 =
@@ -163,7 +156,7 @@ image_count f bound below (suc n) once =
           | inr none ↦ none
           | inl hit ↦ absurd (ne (let both : Some x ≡ Some e = sym is ∙ hit_is (f n) e hit in let same : x ≡ e = cc in sym same))
         ] in
-        ap (λ b. old e || b) off ∙ or_false (old e) in
+        ap (λ b. old e || b) off ∙ or-false (old e) in
         let more : count_below new bound ≡ suc (count_below old bound) = count_less new old bound x (below n x is) here fresh other in
         omega (arith, count, more, before)
 
@@ -180,10 +173,6 @@ edge_up_is : (s : OrientedMesh) (split : SplitView) (v e : ℕ) → edge_up s sp
 unfolding edge_up
 edge_up_is s split v e h = by (parent_dart split v) refl h
   where
-    lift : Option ℕ → Option ℕ
-    lift None = None
-    lift (Some d) = Some ((rotations_of s).edge d)
-
     by : (o : Option ℕ) → parent_dart split v ≡ o → edge_up s split v ≡ Some e
         → (d : ℕ) × (parent_dart split v ≡ Some d) × ((rotations_of s).edge d ≡ e)
     by None is k = (let none : None ≡ Some e = rw is at k in cc)

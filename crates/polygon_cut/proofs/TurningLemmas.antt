@@ -32,13 +32,6 @@ pub record IsTurning (degree : ℕ) (f : ℕ → ℕ) (turns : ℕ) (places : Li
   pub first : turns ≡ 0 → place ≡ 0
   pub later : 0 < turns → place ≡ degree - turns
 
-pub place_below : (degree : ℕ) (f : ℕ → ℕ) (turns : ℕ) (places : List ℕ) (spoke place : ℕ) → turns < degree
-    → IsTurning degree f turns places spoke place → place < degree
-place_below degree f turns places spoke place l h = elim (cases_eq turns 0) [
-  | inl none ↦ omega (arith, h.first none)
-  | inr some ↦ omega (arith, h.later (omega arith), l)
-]
-
 pub spoke_below : (degree : ℕ) (f : ℕ → ℕ) (turns : ℕ) (places : List ℕ) (spoke place : ℕ) → GoesRound degree f 0
     → IsTurning degree f turns places spoke place → spoke < degree
 spoke_below degree f turns places spoke place g h =

@@ -119,12 +119,6 @@ last_is maps ring left last sides labels h =
     ap (slice_index sides) before ∙ h.walked.sides_are (n - 1) (omega (arith, h.last_in)) (last_passes maps ring left last sides labels h)
     ∙ last_at maps ring left last sides labels h
 
--- there is a side
-pub some_side : (maps : Rotations) (ring : ℕ → ℕ) (left : ℕ → Bool) (last : ℕ) (sides labels : List ℕ)
-    → IsWholeWalk maps ring left last sides labels
-    → 0 < length sides
-some_side maps ring left last sides labels h = omega (arith, few_before maps ring left last sides labels h 0 (omega (arith, h.last_in)))
-
 pub walk_labels : (maps : Rotations) (ring : ℕ → ℕ) (left : ℕ → Bool) (last : ℕ) (sides labels places : List ℕ)
     → IsWholeWalk maps ring left last sides labels
     → IsLabelled maps ring left (record { degree = length sides; sides = sides; labels = labels; places = places })

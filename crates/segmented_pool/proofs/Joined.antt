@@ -54,9 +54,3 @@ pub join_before : (ps : List (List ℕ)) (k : ℕ) → suc k < length ps → tak
 join_before [] k lt = absurd (omega arith)
 join_before (p ∷ ps) zero lt = refl
 join_before (p ∷ ps) (suc k) lt = ap (λ (l : List (List ℕ)). p ∷ l) (join_before ps k (omega arith))
-
-pub join_count : (ps : List (List ℕ)) (k : ℕ) → suc k < length ps → k < length (joined_at ps k)
-join_count [] k lt = absurd (omega arith)
-join_count (p ∷ []) zero lt = absurd (omega arith)
-join_count (p ∷ q ∷ ps) zero lt = omega arith
-join_count (p ∷ ps) (suc k) lt = let more = join_count ps k (omega arith) in omega arith

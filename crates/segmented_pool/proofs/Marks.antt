@@ -20,9 +20,6 @@ length_more (p ∷ ps) (suc k) lt =
       length-append p (concat (take k ps)),
     )
 
-pub first_mark : (ps : List (List ℕ)) (mark : Mark) → 0 < length ps → mark.index ≡ 0 → mark.start ≡ 0 → IsMark ps mark
-first_mark ps mark lt i s = record { within = omega arith; start = rw i s }
-
 -- the mark of the segment behind another
 pub mark_behind : (ps : List (List ℕ)) (mark next : Mark) → IsMark ps mark → next.index ≡ mark.index + 1 → next.index < length ps
     → next.start ≡ mark.start + length (part ps mark.index) → IsMark ps next
@@ -146,7 +143,3 @@ found_last ps mark place is from within last =
     let ends : mark.start + length (part ps mark.index) ≡ length (concat ps) =
     omega (arith, is.start, end_of_last ps mark.index (omega (arith, is.within))) in
     record { from = from; to = omega arith; below = λ lt. omega arith }
-
-pub found_here : (ps : List (List ℕ)) (mark : Mark) (place : ℕ) → mark.start ≤ place → place < mark.start + length (part ps mark.index)
-    → IsIn ps mark place
-found_here ps mark place from lt = record { from = from; to = omega arith; below = λ within. lt }

@@ -1,7 +1,6 @@
 -- Entries that go from one chain of a pool to another.
 use Rattle.std.proofs.Common.{◌≡◌, ◌≢◌, ℕ, ◌+◌, ◌-◌, ◌<◌, ◌≤◌, List, [], ◌++◌, length, take, drop, get_or, Option, Some, None, is_some, sym, ap, ◌∙◌, arith}
-use Rattle.std.proofs.lemmas.List.{length-take-le, length-drop, get_or-drop, take_all, take-append-drop, drop_all, append-nil}
-use Rattle.std.proofs.Math.ListN.{length-append}
+use Rattle.std.proofs.lemmas.List.{length-take-le, length-drop, get_or-drop, take-append-drop}
 use Rattle.chain_pool.specs.Chains.{Chains, under, IsUnder, IsEdit, list_under, inserted, cut}
 use Rattle.chain_pool.proofs.Lists.{list_is, list_under-is}
 use Rattle.segmented_pool.proofs.Lists.{entry_behind_cut, cut_again, inserted_last}
@@ -39,19 +38,6 @@ moved_none old new name taken place is_live none edit spare =
 module _ (old new : Chains) (name taken place moved : ℕ) (is : IsMoved old new name taken place moved) where
   abbrev list : List ℕ
   list = list_under old.lists name
-
-  pub left_len : length (list_under new.lists name) ≡ length (cut list place (place + moved))
-  left_len = ap (λ (l : List ℕ). length l) (list_under-is new.lists name _ is.here)
-
-  pub some_left : place ≤ length list → moved < length list - place → place < length (list_under new.lists name)
-  some_left within lt =
-      omega (
-        arith,
-        left_len,
-        length-append (take place list) (drop (place + moved) list),
-        length-take-le place list within,
-        length-drop (place + moved) list,
-      )
 
   -- where the entry at the place goes, the other chain stays
   pub taken_stays : (read mid : Chains) → read ≡ new
@@ -95,12 +81,3 @@ module _ (old new : Chains) (name taken place moved : ℕ) (is : IsMoved old new
         others = λ k a b. second.others k b ∙ first.others k a ∙ ap (λ (v : Chains). under v.lists k) same ∙ is.others k a b;
         spare = omega (arith, is.spare, ap (λ (v : Chains). v.spare) same);
       }
-
-  pub moved_all : length list - place ≤ moved → place ≤ length list
-      → (under new.lists name ≡ Some (take place list)) × (under new.lists taken ≡ Some (drop place list))
-  moved_all all within =
-      let gone : take place list ++ drop (place + moved) list ≡ take place list =
-      ap (λ (l : List ℕ). take place list ++ l) (drop_all (place + moved) list (omega arith)) ∙ append-nil (take place list) in (
-        is.here ∙ ap (λ (l : List ℕ). Some l) gone,
-        is.there ∙ ap (λ (l : List ℕ). Some l) (take_all moved (drop place list) (omega (arith, length-drop place list))),
-      )

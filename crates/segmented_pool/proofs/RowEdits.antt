@@ -29,11 +29,6 @@ removed_count (s ∷ []) zero lt = absurd (omega arith)
 removed_count (s ∷ t ∷ ss) zero lt = omega arith
 removed_count (s ∷ ss) (suc k) lt = let more : k < length (remove ss (suc k)) = removed_count ss k (omega arith) in omega (arith, more)
 
-part_removed : (ps : List (List ℕ)) (k : ℕ) → suc k < length ps → part (remove ps (suc k)) k ≡ part ps k
-part_removed [] k lt = absurd (omega arith)
-part_removed (p ∷ ps) zero lt = refl
-part_removed (p ∷ ps) (suc k) lt = part_removed ps k (omega arith)
-
 module _ (lists : List (Option (List ℕ))) (ss : List Segment) (parts : List (List ℕ)) (row : AreSegments lists ss (lists_of lists ss))
     (view : lists_of lists ss ≡ parts) where
   pub seen : AreSegments lists ss parts

@@ -7,7 +7,7 @@ use Rattle.turn_words.specs.Lemmas.Sums.{add-cases, minus-one, minus-two}
 use Rattle.turn_words.specs.Lemmas.Lists.{reverse-next}
 use Rattle.turn_words.specs.Lemmas.WordEnds.{IsCons, open-cases, put-flip, put-close, put-else}
 use Rattle.turn_words.specs.Lemmas.PutLaws.{cases, spur, flip, close, other}
-use Rattle.turn_words.proofs.Reading.{IsSound, state, put-sound}
+use Rattle.turn_words.proofs.Reading.{state}
 use Rattle.settling.specs.TurnRows.{entries, put_along}
 
 -- the words along a row, read from their end
@@ -27,11 +27,6 @@ upto-cons row m zero rest c = c
 upto-cons row m (suc k) rest c = tt
 
 module _ (d : ℕ) (five : 5 ≤ d) where
-  pub along-sound : (p : Put) (row : ℕ → ℕ) (j : ℕ) → IsSound d p → ((i : ℕ) → row i < d) → IsSound d (along d p row j)
-  along-sound p row zero s below = s
-  along-sound p row (suc j) s below =
-      put-sound d five (along d p row j) (row j) (along-sound p row j s below) (below j)
-
   -- a close makes a word shorter
   shorter-closed : (x : ℕ) (r : List ℕ) → is_open (x ∷ r) ≡ true → length (closed d (x ∷ r)) + 1 ≡ length (x ∷ r)
   shorter-closed x [] o = absurd cc

@@ -4,12 +4,13 @@ use Rattle.std.specs.Prelude.{if◌then◌else◌}
 use Rattle.std.specs.List.{remove}
 use Rattle.std.proofs.lemmas.Bool.{cases_eq, cases_lt}
 use Rattle.std.proofs.lemmas.List.Edits.{get_or-remove_below, get_or-remove_above, length-remove}
+use Rattle.std.proofs.Math.Bool.{not-not}
 use Rattle.turn_words.specs.Modulo.{add, minus}
 use Rattle.turn_words.specs.Wheels.{IsWheel}
 use Rattle.turn_words.specs.SpokePaths.{place_round}
 use Rattle.turn_words.specs.Lemmas.Sums.{add-cases, minus-cases, add-lt, minus-lt, add-zero}
 use Rattle.spoke_paths.specs.PathTurns.{from_vertex, turn_of, Opens, IsTurnedOver, IsBracketClosed}
-use Rattle.spoke_paths.proofs.Turning.{from-next, not-not}
+use Rattle.spoke_paths.proofs.Turning.{from-next}
 
 -- what is known while the quads are gone round: the turn at `at` still closes, or is 0 where the bracket opened
 pub record Closing (places : List ℕ) (start one back run : ℕ) (old now : List ℕ) (at : ℕ) : Type 0 where

@@ -22,10 +22,6 @@ abbrev pub turned : ℕ → Bool → Bool
 turned zero b = b
 turned (suc n) b = turned n (not b)
 
-pub not-not : (b : Bool) → not (not b) ≡ b
-not-not true = refl
-not-not false = refl
-
 turned-not : (n : ℕ) (b : Bool) → turned n (not b) ≡ not (turned n b)
 turned-not zero b = refl
 turned-not (suc n) b = turned-not n (not b)

@@ -1,7 +1,8 @@
 -- A ring that was reduced, and taken across all quads beside it if its turns are all -2, is cyclically canonical.
-use Rattle.std.proofs.Common.{◌≡◌, ℕ, ◌<◌, ◌≤◌, inl, inr, arith, refl, sym, ◌∙◌, ap, subst, true, List, [], ◌∷◌, length}
+use Rattle.std.proofs.Common.{◌≡◌, ℕ, ◌<◌, ◌≤◌, inl, inr, arith, refl, sym, ◌∙◌, ap, subst, true, List, [], length}
 use Rattle.std.specs.Prelude.{if◌then◌else◌}
 use Rattle.std.proofs.lemmas.Bool.{cases_eq}
+use Rattle.std.proofs.lemmas.List.{nil_from_length}
 use Rattle.turn_words.specs.Modulo.{minus}
 use Rattle.spoke_rings.specs.CyclicWords.{IsLoop, IsFullWheel, IsCyclicallyCanonical, turn_along, cyclic_turn}
 use Rattle.spoke_rings.specs.LoopSteps.{LoopLeads}
@@ -24,10 +25,6 @@ abbrev pub OnToVertex : RingView → RingView → Type 0
 OnToVertex old new =
     (new.spokes ≡ (if old.at_vertex then old.spokes else rotated 1 old.spokes)) × (new.at_vertex ≡ true)
 
-no-spokes : (s : List ℕ) → length s ≡ 0 → s ≡ []
-no-spokes [] e = refl
-no-spokes (x ∷ s) e = absurd (omega arith)
-
 module _ (places : List ℕ) (full : IsFullWheel places) where
   vertex-turn : (ring : RingView) → ring.at_vertex ≡ true → (k : ℕ) → cyclic_turn places ring.spokes k ≡ ring_turn places ring k
   vertex-turn ring v k = ap (λ b. turn_along places b ring.spokes k) (sym v)
@@ -44,7 +41,7 @@ module _ (places : List ℕ) (full : IsFullWheel places) where
         acts = acts-on places start reduced now acts here.acts;
         at_vertex = on.1;
         canonical = elim (cases_eq (length now.spokes) 0) [
-          | inl none ↦ inl (no-spokes now.spokes none)
+          | inl none ↦ inl (nil_from_length now.spokes none)
           | inr more ↦
               let some : 0 < length now.spokes = omega arith in
               inr (canonical-turns places full now.spokes here.acts.loop some

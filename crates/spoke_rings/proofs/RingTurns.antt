@@ -5,6 +5,7 @@ use Rattle.turn_words.specs.Modulo.{add, minus}
 use Rattle.turn_words.specs.Wheels.{IsWheel}
 use Rattle.turn_words.specs.SpokePaths.{place_round}
 use Rattle.std.proofs.lemmas.List.Elements.{All-append, All-take, All-drop, All-get_or}
+use Rattle.std.proofs.Math.Bool.{not-not}
 use Rattle.spoke_rings.specs.CyclicWords.{spoke_along, stands_before, turn_along, IsLoop}
 use Rattle.spoke_rings.proofs.Along.{along-first, along-round, rotated, rotated-along, rotated-length}
 
@@ -14,10 +15,6 @@ stands-even v k e = rw (eq-eqb (k % 2) 0 e) refl
 
 pub stands-odd : (v : Bool) (k : ℕ) → k % 2 ≡ 1 → stands_before v k ≡ not v
 stands-odd v k e = rw (ne_eqb (k % 2) 0 (λ z. absurd (omega arith))) refl
-
-not-not : (v : Bool) → not (not v) ≡ v
-not-not true = refl
-not-not false = refl
 
 -- an odd number of places further
 pub stands-turned : (v : Bool) (k c : ℕ) → c % 2 ≡ 1 → stands_before (not v) k ≡ stands_before v (k + c)

@@ -10,6 +10,7 @@ use Rattle.surf_model.specs.declared.edge_list.SideEntry.{SideEntry}
 use Rattle.surf_model.specs.declared.names.DartName.{DartName}
 use Rattle.surf_model.proofs.PartsLemmas.{length-parts, get_or-parts, part_within, parts-push, EndsRise-push, sum_by-parts}
 use Rattle.surf_model.specs.declared.limits.TheConstants.{MOST_SIDES}
+use Rattle.surf_model.proofs.FilterLemmas.{map-map}
 
 -- the edge with these ends whose sides are these
 abbrev pub edge_of_part : EdgeEnds → List DartName → DartEdge
@@ -107,10 +108,6 @@ pub lies_as_edge : (pairs : List EdgeEnds) (stops : List ℕ) (darts : List Dart
 lies_as_edge pairs stops darts edges k h seen l =
     subst (λ (es : List DartEdge). LiesAsEdge es pairs stops darts k) seen
     (lies_stored pairs stops darts k h (omega (arith, l, length-edges pairs stops darts edges h seen)))
-
-map-map : {A B C : Type 0} (f : B → C) (g : A → B) (xs : List A) → map f (map g xs) ≡ map (λ x. f (g x)) xs
-map-map f g [] = refl
-map-map f g (x ∷ xs) = ap (λ ys. f (g x) ∷ ys) (map-map f g xs)
 
 -- one more edge at the end
 pub edge_list-push : (pairs : List EdgeEnds) (stops : List ℕ) (darts new : List DartName) (ends : EdgeEnds) (m : ℕ)

@@ -41,7 +41,7 @@ spur_move_same mesh walk next (Remove at via) start spur e stack n =
     ap (all_put stack) from ∙ spur_inside r.before r.after here via.0 stack n ∙ sym (ap (all_put stack) to)
 spur_move_same mesh walk next (Across at face corner forward taken) start spur e stack n = absurd spur
 
-spur_list_same : (mesh : FaceList) (moves : List Move) (walk next : List ℕ) → 0 < length walk → All IsSpurMove moves
+pub spur_list_same : (mesh : FaceList) (moves : List Move) (walk next : List ℕ) → 0 < length walk → All IsSpurMove moves
     → apply_all mesh walk moves ≡ Some next → AreSame walk next
 spur_list_same mesh [] walk next start spurs e stack n =
     let same : walk ≡ next = cc in

@@ -2,7 +2,7 @@
 use Rattle.std.proofs.Common.{◌≡◌, ◌⊎◌, inl, inr, ℕ, zero, suc, ◌+◌, ◌-◌, ◌*◌, ◌<◌, ◌≤◌, List, [], ◌∷◌, ◌++◌, length, map, get_or, refl, ap, sym, ◌∙◌, subst, add-one, arith, length-append}
 use Rattle.std.proofs.Math.Seq.{get_or-append_right}
 use Rattle.std.proofs.lemmas.Bool.{cases_lt}
-use Rattle.std.proofs.lemmas.List.{append_assoc, append-nil, map-append, length-map, length_push, get_or-map, get_or_append_left, get_or_push}
+use Rattle.std.proofs.lemmas.List.{append_assoc, append-nil, map-append, length-map, length_push, get_or-map, get_or_append_left, get_or_push, nil_from_length}
 use Rattle.surf_model.specs.Parts.{last_end, IsInPart, equal_ends, joined_ends}
 
 pub times_rises : (s m n : ℕ) → m ≤ n → s * m ≤ s * n
@@ -105,10 +105,6 @@ joined-push s c rest size =
     ∙ sym (append_assoc (equal_ends s c) (map f rest) ((s * c + (last_end rest + size)) ∷ []))
     ∙ ap (λ m. joined_ends s c rest ++ m ∷ []) last
 
-none_listed : (rest : List ℕ) → length rest ≡ 0 → rest ≡ []
-none_listed [] h = refl
-none_listed (x ∷ rest) h = absurd (omega (arith, h))
-
 same_ends : (s old c : ℕ) → (c ≡ 0) ⊎ (s ≡ old) → equal_ends s c ≡ equal_ends old c
 same_ends s old c (inl none) = ap (equal_ends s) none ∙ sym (ap (equal_ends old) none)
 same_ends s old c (inr same) = ap (λ n. equal_ends n c) same
@@ -121,10 +117,10 @@ pub equal-push : (s old c : ℕ) (rest : List ℕ) → length rest ≡ 0 → (c 
     → joined_ends s (c + 1) rest ≡ joined_ends old c rest ++ (last_end (joined_ends old c rest) + s) ∷ []
 equal-push s old c rest none h =
     let last : s * suc c ≡ last_end (joined_ends old c rest) + s =
-    omega (arith, same_end s old c h, last_end-joined old c rest, ap last_end (none_listed rest none)) in
+    omega (arith, same_end s old c h, last_end-joined old c rest, ap last_end (nil_from_length rest none)) in
     ap (λ n. joined_ends s n rest) (add-one c)
-    ∙ ap (λ xs. joined_ends s (suc c) xs) (none_listed rest none)
+    ∙ ap (λ xs. joined_ends s (suc c) xs) (nil_from_length rest none)
     ∙ append-nil (equal_ends s (suc c))
     ∙ ap (λ ends. ends ++ (s * suc c) ∷ []) (same_ends s old c h ∙ sym (append-nil (equal_ends old c))
-    ∙ ap (λ xs. joined_ends old c xs) (sym (none_listed rest none)))
+    ∙ ap (λ xs. joined_ends old c xs) (sym (nil_from_length rest none)))
     ∙ ap (λ m. joined_ends old c rest ++ m ∷ []) last

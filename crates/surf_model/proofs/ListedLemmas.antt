@@ -78,7 +78,7 @@ all_listed mesh =
 abbrev IsBefore : FaceSide → FaceSide → Type 0
 IsBefore s t = (s.face < t.face) ⊎ ((s.face ≡ t.face) × (s.at < t.at))
 
-AllPairs-append : {A : Type 0} (R : A → A → Type 0) (xs ys : List A) → AllPairs R xs → AllPairs R ys → All (λ x. All (R x) ys) xs
+pub AllPairs-append : {A : Type 0} (R : A → A → Type 0) (xs ys : List A) → AllPairs R xs → AllPairs R ys → All (λ x. All (R x) ys) xs
     → AllPairs R (xs ++ ys)
 AllPairs-append R [] ys h k between = k
 AllPairs-append R (x ∷ xs) ys h k between =

@@ -208,23 +208,3 @@ partners_of_edge mesh table k i j d h l less few =
       different = λ same. omega (arith, ap (side_number mesh) same);
       one_edge = ends_same _ _ _ _ edge.low edge.high first.ends second.ends;
     }
-
--- partners are sides of one edge of the table
-pub record AreInOneEdge (table : List Edge) (side other : Side) : Type 0 where
-  pub edge : ℕ
-  pub in_table : edge < length table
-  pub first : Contains (edge_in table edge).sides side
-  pub second : Contains (edge_in table edge).sides other
-
-pub edge_of_partners : (mesh : FaceList) (table : List Edge) (side other : Side) → IsTableOf mesh table → ArePartners mesh side other
-    → AreInOneEdge table side other
-edge_of_partners mesh table side other h partners =
-    let found : IsEdgeOfSide mesh table side = edge_of_side mesh table side h partners.first in
-    let edge : Edge = edge_in table found.edge in
-    let is : IsEdgeOf mesh edge = table_edge mesh table found.edge h found.in_table in
-    record {
-      edge = found.edge;
-      in_table = found.in_table;
-      first = edge_has_side mesh edge side is partners.first found.ends;
-      second = edge_has_side mesh edge other is partners.second (ends_agree _ _ _ _ edge.low edge.high found.ends partners.one_edge);
-    }

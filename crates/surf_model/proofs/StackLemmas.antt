@@ -4,6 +4,7 @@ use Rattle.std.proofs.Common.{◌≡◌, ◌≢◌, inl, inr, ℕ, zero, suc, �
 use Rattle.std.specs.Prelude.{if◌then◌else◌, ◌==◌}
 use Rattle.std.proofs.lemmas.Bool.{cases_eq, eq-eqb}
 use Rattle.std.proofs.lemmas.Bool.Decides.{nat_tests}
+use Rattle.std.proofs.lemmas.List.{append-nil}
 use Rattle.surf_model.specs.FreeWalks.{HasNoSpur}
 
 -- a vertex put on a stack, whose top stands first
@@ -24,7 +25,7 @@ put_other : (u x v : ℕ) (rest : List ℕ) → x ≢ v → put_on (u ∷ x ∷ 
 put_other u x v rest n = grind (arith, nat_tests)
 
 -- the new top is the vertex
-top_put : (stack : List ℕ) (v : ℕ) → (rest : List ℕ) × (put_on stack v ≡ v ∷ rest)
+pub top_put : (stack : List ℕ) (v : ℕ) → (rest : List ℕ) × (put_on stack v ≡ v ∷ rest)
 top_put [] v = ([], refl)
 top_put (u ∷ []) v = (u ∷ [], refl)
 top_put (u ∷ x ∷ rest) v = elim (cases_eq x v) [
@@ -60,7 +61,7 @@ all_put_keeps [] stack h = h
 all_put_keeps (v ∷ vs) stack h = all_put_keeps vs (put_on stack v) (put_keeps stack v h)
 
 -- the one law: there and back leaves the stack as it was
-there_and_back : (u v : ℕ) (below : List ℕ) → HasNoSpur (u ∷ below) → put_on (put_on (u ∷ below) v) u ≡ u ∷ below
+pub there_and_back : (u v : ℕ) (below : List ℕ) → HasNoSpur (u ∷ below) → put_on (put_on (u ∷ below) v) u ≡ u ∷ below
 there_and_back u v [] h = put_same v u u [] refl
 there_and_back u v (x ∷ []) h = elim (cases_eq x v) [
   | inl e ↦ ap (λ (s : List ℕ). put_on s u) (put_same u x v [] e)
@@ -121,12 +122,8 @@ turned-onto : (vs stack rest : List ℕ) → turned_onto (turned_onto vs stack) 
 turned-onto [] stack rest = refl
 turned-onto (v ∷ vs) stack rest = turned-onto vs (v ∷ stack) rest
 
-append_nothing : (xs : List ℕ) → xs ++ [] ≡ xs
-append_nothing [] = refl
-append_nothing (x ∷ xs) = ap (λ (l : List ℕ). x ∷ l) (append_nothing xs)
-
 pub turned_twice : (vs : List ℕ) → turned_onto (turned_onto vs []) [] ≡ vs
-turned_twice vs = turned-onto vs [] [] ∙ append_nothing vs
+turned_twice vs = turned-onto vs [] [] ∙ append-nil vs
 
 length-turned_onto : (vs stack : List ℕ) → length (turned_onto vs stack) ≡ length vs + length stack
 length-turned_onto [] stack = omega arith

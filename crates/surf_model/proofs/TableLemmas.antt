@@ -1,18 +1,17 @@
 -- What the table of a mesh says of its edges and of its vertices.
 use Rattle.std.proofs.Common.{◌≡◌, ◌⊎◌, inl, inr, ℕ, zero, suc, ◌+◌, ◌<◌, Bool, true, false, ◌||◌, eqb, List, [], ◌∷◌, length, map, get_or, refl, ap, sym, ◌∙◌, subst, arith}
-use Rattle.std.specs.Prelude.{All, Any, Contains, Some, filter, flat_map, slice_get}
+use Rattle.std.specs.Prelude.{All, Any, Contains, filter, flat_map}
 use Rattle.std.specs.List.{list_any, enumerate_from, range_with_len}
 use Rattle.std.proofs.lemmas.Bool.{false_from_ne_true, cases_Bool, cond-true, cond-false, or_cases, or_left, or_right}
 use Rattle.std.proofs.lemmas.Bool.Decides.{nat_tests, same_from_decides}
 use Rattle.std.proofs.lemmas.List.{length-map, get_or-map, get_or_default}
-use Rattle.std.proofs.lemmas.Option.{slice_get_within, get_or_from_slice_get}
 use Rattle.std.proofs.lemmas.List.Elements.{Contains-append_left, Contains-append_right}
 use Rattle.surf_model.specs.declared.edges.Side.{Side}
 use Rattle.surf_model.proofs.NumberLemmas.{face_side, length-sides_of_face, get_or-sides_of_face}
 use Rattle.std.proofs.lemmas.List.Folds.{Any-from_list_any, list_any-from_Any, list_any_at, list_any-append}
 use Rattle.std.proofs.lemmas.List.FromFn.{get_or-map-range_with_len, length-range_with_len}
 use Rattle.surf_model.specs.FaceLists.{FaceList, FaceSide, face_at, all_sides, sides_of_face, next_corner, joins, is_edge, is_used}
-use Rattle.surf_model.specs.Edges.{Edge, IsTableOf, IsEdgeOf, HasEnds, IsEndOf, side_name, edge_in}
+use Rattle.surf_model.specs.Edges.{Edge, IsTableOf, IsEdgeOf, HasEnds, IsEndOf, side_name}
 
 -- a side has the vertex at one of its ends
 abbrev pub names : ℕ → FaceSide → Bool
@@ -168,17 +167,6 @@ face_side_in mesh f t l b =
     let at : 0 + f ≡ f = omega arith in
     subst (λ k. Contains (flat_map (λ (p : ℕ × List ℕ). sides_of_face p.0 p.1) (enumerate_from 0 mesh.faces))
     (face_side k (get_or mesh.faces f []) t)) at (face_side_from 0 mesh.faces f t l b)
-
--- a side that was read from an edge is a side of the table
-pub known_side : (table : List Edge) (k t : ℕ) (side : Side) → k < length table → slice_get (edge_in table k).sides t ≡ Some side
-    → Any (λ (edge : Edge). Contains edge.sides side) table
-known_side table k t side l is = (
-  k,
-  edge_in table k,
-  l,
-  get_or_default table k _ _ l,
-  (t, slice_get_within (edge_in table k).sides t side is, get_or_from_slice_get (edge_in table k).sides t side side is),
-)
 
 -- each side of a face of the mesh is a side of its table
 pub has_side : (mesh : FaceList) (table : List Edge) (f t : ℕ) → IsTableOf mesh table → f < length mesh.faces → t < length (face_at mesh f)

@@ -1,8 +1,9 @@
 -- What a move leaves: a walk with the same ends, from which the move back leads home.
-use Rattle.std.proofs.Common.{◌≡◌, ℕ, ◌+◌, ◌-◌, ◌<◌, Bool, true, false, not, List, [], ◌∷◌, ◌++◌, length, get_or, refl, ap, sym, ◌∙◌, subst, arith, append_assoc, length-append}
+use Rattle.std.proofs.Common.{◌≡◌, ℕ, ◌+◌, ◌-◌, ◌<◌, Bool, not, List, [], ◌∷◌, ◌++◌, length, get_or, refl, ap, sym, ◌∙◌, subst, arith, append_assoc, length-append}
 use Rattle.std.specs.Prelude.{IsTrue, All, Some}
 use Rattle.std.proofs.lemmas.List.{get_or-append-add, get_or_append_left}
 use Rattle.std.proofs.lemmas.List.Elements.{All-append}
+use Rattle.std.proofs.Math.Bool.{not-not}
 use Rattle.surf_model.specs.FaceLists.{FaceList, face_at, corners_from, is_used}
 use Rattle.surf_model.specs.Walks.{IsWalk, HaveCommonEnds}
 use Rattle.surf_model.specs.Moves.{apply, apply_all}
@@ -182,10 +183,6 @@ place_back sides (Insert at via) = refl
 place_back sides (Remove at via) = refl
 place_back sides (Across at face corner forward taken) = refl
 
-not_twice : (b : Bool) → not (not b) ≡ b
-not_twice true = refl
-not_twice false = refl
-
 -- the move back replaces the new part by the old one
 replaces_back : (mesh : FaceList) (move : Move) (before part other after : List ℕ) → Linked mesh (before ++ part ++ after)
     → Replaces mesh move part other
@@ -203,7 +200,7 @@ replaces_back mesh (Across at face corner forward taken) before part other after
       h.1,
       omega arith,
       h.4,
-      h.3 ∙ ap (λ (b : Bool). corners_from ring b corner taken) (sym (not_twice forward))
+      h.3 ∙ ap (λ (b : Bool). corners_from ring b corner taken) (sym (not-not forward))
           ∙ ap (λ (k : ℕ). corners_from ring (not (not forward)) corner k) (sym left),
     )
 

@@ -1,8 +1,7 @@
 -- Reading one thing after another.
-use Rattle.std.proofs.Common.{◌≡◌, ℕ, suc, List, [], ◌∷◌, ◌++◌, length, refl, sym, ap, append_assoc, length-append, add-one}
-use Rattle.std.specs.List.{enumerate_from}
+use Rattle.std.proofs.Common.{◌≡◌, List, [], ◌∷◌, ◌++◌, refl, sym, ap, append_assoc}
 use Rattle.std.specs.Prelude.{Option, Some, None, Result, Ok, Err}
-use Rattle.text_scan.specs.Each.{ok_first, each_ok}
+use Rattle.text_scan.specs.Each.{ok_first}
 
 -- what was read before the rest
 abbrev pub before_some : {B : Type 0} → List B → Option (List B) → Option (List B)
@@ -18,10 +17,3 @@ pub before_ok-more : {B E : Type 0} (ys : List B) (y : B) (r : Result (List B) E
     → before_ok ys (ok_first (Ok y) r) ≡ before_ok (ys ++ y ∷ []) r
 before_ok-more ys y (Err fault) = refl
 before_ok-more ys y (Ok zs) = ap Ok (sym (append_assoc ys (y ∷ []) zs))
-
--- one more is read, of things that are numbered
-pub before_ok-next : {A B E : Type 0} (read : ℕ × A → Result B E) (ys : List B) (y : B) (x : A) (xs : List A) → read (length ys, x) ≡ Ok y
-    → before_ok ys (each_ok read (enumerate_from (length ys) (x ∷ xs)))
-    ≡ before_ok (ys ++ y ∷ []) (each_ok read (enumerate_from (length (ys ++ y ∷ [])) xs))
-before_ok-next read ys y x xs e =
-    rw (e, length-append ys (y ∷ []), add-one (length ys)) (before_ok-more ys y (each_ok read (enumerate_from (suc (length ys)) xs)))

@@ -15,9 +15,6 @@ use Rattle.text_scan.proofs.StepLemmas.{after_head, by_head}
 
 -- ---- past digits
 
-pub at_front : (bytes : List ℕ) → IsPastDigits bytes bytes
-at_front bytes = record { digits = []; parts = refl; all = refl }
-
 pub past_digit : (bytes rest : List ℕ) → 1 ≤ length rest → is_digit (get_or rest 0 0) ≡ true → IsPastDigits bytes rest
     → IsPastDigits bytes (after_head rest)
 past_digit bytes =

@@ -4,14 +4,14 @@ use Rattle.std.specs.Prelude.{Some, None, option_map}
 use Rattle.std.specs.List.{list_all, before_first, position_or_len, onto_first}
 use Rattle.std.proofs.lemmas.List.{take_all, drop-drop, get_or-drop}
 use Rattle.std.proofs.lemmas.Grind.{pow_more}
-use Rattle.std.proofs.lemmas.Bool.{cases_Bool, not-true, not-false, not_from_false, ne_eqb, eq-eqb, and_parts, and_from, and_left, and_right, or_parts, or_cases, both_ways, cases_lt}
+use Rattle.std.proofs.lemmas.Bool.{cases_Bool, not-true, not-false, ne_eqb, eq-eqb, and_parts, and_from, and_left, and_right, or_parts, or_cases, both_ways, cases_lt}
 use Rattle.std.proofs.lemmas.List.Sums.{fold-append}
 use Rattle.std.proofs.lemmas.List.Folds.{list_all-append}
 use Rattle.std.proofs.Math.Nat.{min-eq_left, min-eq_right, pow-le-pow_right}
 use Rattle.text_scan.specs.Lines.{is_filled, is_blank, cut, lines_from}
 use Rattle.text_scan.specs.Numbers.{is_digit, is_natural, value_of, natural_of}
 use Rattle.text_scan.specs.Unread.{is_line_feed, words_here, behind, next_natural}
-use Rattle.text_scan.specs.Steps.{ends_word, from_first, begins_with, begins_word, IsPast, IsFirstWord, ArePastDigits, IsLineEnd}
+use Rattle.text_scan.specs.Steps.{ends_word, from_first, begins_with, begins_word, IsPast, ArePastDigits, IsLineEnd}
 use Rattle.text_scan.proofs.ListLemmas.{before_first-yes, before_first-no, from_first-yes, from_first-no, before_first-append, from_first-append}
 use Rattle.text_scan.proofs.PlaceLemmas.{is_hash, words_here-nil, words_here-line_feed, words_here-hash, words_here-blank, words_here-word, behind-nil, behind-line_feed, behind-other, cut_first, lines_from_here}
 
@@ -121,17 +121,6 @@ pass_comment n m bytes rest after =
       so_far.2,
     ))
     rest
-
-pub at_word : (n m : ℕ) (bytes rest : List ℕ) → 1 ≤ length rest → is_blank (get_or rest 0 0) ≡ false → get_or rest 0 0 ≢ 10
-    → get_or rest 0 0 ≢ 35
-    → SoFar n bytes m rest → IsFirstWord n bytes m rest
-at_word n m bytes =
-    by_head (λ first rest after. is_blank first ≡ false → first ≢ 10 → first ≢ 35 → SoFar n bytes m rest → IsFirstWord n bytes m rest)
-    (λ byte rest no_blank no_feed no_hash so_far.
-    let feed : is_line_feed byte ≡ false = ne_eqb byte 10 no_feed in
-    let hash : is_hash byte ≡ false = ne_eqb byte 35 no_hash in
-    let ends : ends_word byte ≡ false = rw (no_blank, feed, hash) refl in
-    record { lines = so_far.0; word = not_from_false (ends_word byte) ends; shorter = so_far.1; later = so_far.2 })
 
 pub no_more : (n m : ℕ) (bytes rest : List ℕ) → length rest < 1 → SoFar n bytes m rest → lines_from n bytes ≡ []
 unfolding lines_from cut

@@ -79,8 +79,7 @@ pub moved : (text : List ℕ) (n : ℕ) (rest after : List ℕ) (unread : Unread
     → unread_at text n after ≡ past_word unread
 moved text n rest after unread is h =
     subst (λ u. unread_at text n after ≡ past_word u) is
-    (let new : Unread = unread_at text n rest in
-    let words : words_here after ≡ drop 1 (words_here rest) = h.words in
+    (let words : words_here after ≡ drop 1 (words_here rest) = h.words in
     let lines : lines_from (n + 1) (behind after) ≡ lines_from (n + 1) (behind rest) = ap (lines_from (n + 1)) h.behind in
     rw (words, lines) refl)
 
@@ -162,10 +161,6 @@ pub few_here : (text : List ℕ) (n : ℕ) (rest : List ℕ) (unread : Unread) �
 few_here text n rest unread is some fits = omega (arith, some, fits, few_words rest, ap (λ (u : Unread). length u.words) is)
 
 -- ---- line by line
-
-pub no_line : (n : ℕ) (rest : List ℕ) (left : LinesLeft) (text : List ℕ)
-    → record { lines = lines_from n rest; count = length (cut text) } ≡ left → lines_from n rest ≡ [] → left.lines ≡ []
-no_line n rest left text is none = sym (ap (λ (l : LinesLeft). l.lines) is) ∙ none
 
 pub a_line : (n m : ℕ) (rest found after text : List ℕ) (left : LinesLeft)
     → record { lines = lines_from n rest; count = length (cut text) } ≡ left → IsFirstWord n rest m found

@@ -1,7 +1,7 @@
 -- Classes of an equivalence of the numbers below n, counted at their least members: where two classes become one, there is
 -- one class less.
 use Rattle.std.proofs.Common.{◌≡◌, ◌≢◌, ◌⊎◌, inl, inr, ℕ, zero, suc, ◌<◌, ◌≤◌, Bool, true, false, not, refl, ap, sym, ◌∙◌, subst, arith}
-use Rattle.std.proofs.lemmas.Bool.{cases_Bool, cases_lt, cases_eq, or_cases, or_left, or_right, both_ways}
+use Rattle.std.proofs.lemmas.Bool.{cases_Bool, cases_lt, cases_eq, or_cases, or_left, or_right, both_ways, not_from_false, not_from_true}
 use Rattle.surf_model.specs.Numbers.{count_below}
 use Rattle.tree_cotree.specs.RingCounts.{any_below, is_least, class_count}
 
@@ -25,6 +25,10 @@ none_below p n h = elim (cases_Bool (any_below p n)) [
   | inl some ↦ (let found = found_below p n some in absurd (h found.0 found.1 found.2))
   | inr none ↦ none
 ]
+
+pub count_none : (n : ℕ) → count_below (λ _. false) n ≡ 0
+count_none zero = refl
+count_none (suc n) = rw (count_none n) refl
 
 -- the count where one number passes no longer
 pub count_same : (p q : ℕ → Bool) (n : ℕ) → ((x : ℕ) → x < n → p x ≡ q x) → count_below p n ≡ count_below q n
@@ -72,14 +76,6 @@ record LeastOf (n : ℕ) (e : ℕ → ℕ → Bool) (a : ℕ) : Type 0 where
   related : e least a ≡ true
   first : is_least e least ≡ true
 
-not_false : (b : Bool) → b ≡ false → not b ≡ true
-not_false true e = absurd (both_ways true e refl)
-not_false false e = refl
-
-not_true : (b : Bool) → b ≡ true → not b ≡ false
-not_true true e = refl
-not_true false e = absurd (both_ways false refl e)
-
 least_within : (n : ℕ) (e : ℕ → ℕ → Bool) → IsEquivalenceBelow n e → (fuel a : ℕ) → a < n → a < fuel → LeastOf n e a
 least_within n e h zero a l k = absurd (omega arith)
 least_within n e h (suc fuel) a l k = elim (cases_Bool (any_below (λ y. e y a) a)) [
@@ -92,13 +88,13 @@ least_within n e h (suc fuel) a l k = elim (cases_Bool (any_below (λ y. e y a) 
         related = h.on lower.least found.0 a (omega (arith, lower.within, found.1)) (omega (arith, found.1)) l lower.related found.2;
         first = lower.first;
       }
-  | inr none ↦ record { least = a; within = omega arith; related = h.itself a l; first = not_false (any_below (λ y. e y a) a) none }
+  | inr none ↦ record { least = a; within = omega arith; related = h.itself a l; first = not_from_false (any_below (λ y. e y a) a) none }
 ]
 
 -- below a least number of a class none is related to it
 none_lower : (e : ℕ → ℕ → Bool) (x y : ℕ) → is_least e x ≡ true → y < x → e y x ≡ true → ⊥
 none_lower e x y first less related =
-    both_ways (is_least e x) (not_true (any_below (λ z. e z x) x) (passes_below (λ z. e z x) x y less related)) first
+    both_ways (is_least e x) (not_from_true (any_below (λ z. e z x) x) (passes_below (λ z. e z x) x y less related)) first
 
 -- two least numbers of one class are equal
 one_least : (n : ℕ) (e : ℕ → ℕ → Bool) → IsEquivalenceBelow n e → (x y : ℕ) → x < n → y < n → is_least e x ≡ true → is_least e y ≡ true
@@ -119,7 +115,7 @@ one_less_ordered n e merged a b la lb h m a_in b_in la_in lb_in to_a to_b first_
     count_less (is_least e) (is_least merged) n lb lb_in first_b gone same
   where
     gone : is_least merged lb ≡ false
-    gone = not_true (any_below (λ y. merged y lb) lb) (passes_below (λ y. merged y lb) lb la less
+    gone = not_from_true (any_below (λ y. merged y lb) lb) (passes_below (λ y. merged y lb) lb la less
         (m.all la lb la_in lb_in (inr (inl (to_a, to_b)))))
 
     taken_in : (x y : ℕ) → x < n → y < x → x ≢ lb → is_least e x ≡ true → merged y x ≡ true → ⊥
@@ -141,7 +137,7 @@ one_less_ordered n e merged a b la lb h m a_in b_in la_in lb_in to_a to_b first_
           passes_below (λ y. merged y x) x found.0 found.1 (m.all found.0 x (omega (arith, found.1)) l (inl found.2)) in
           ap not (some ∙ sym more)
       | inr none ↦
-          let first : is_least e x ≡ true = not_false (any_below (λ y. e y x) x) none in
+          let first : is_least e x ≡ true = not_from_false (any_below (λ y. e y x) x) none in
           let still : any_below (λ y. merged y x) x ≡ false = none_below (λ y. merged y x) x (λ y k is. taken_in x y l k ne first is) in
           ap not (none ∙ sym still)
     ]

@@ -190,7 +190,6 @@ stays_merged : (n : ℕ) (f : ℕ → ℕ) (a b : ℕ) → IsPermutationBelow n 
     → IsOnMerged f a b x (exchanged f a b y)
 stays_merged n f a b p a_in b_in ne x y l k h =
     let before : (z : ℕ) → z < n → IsReached f (f z) z = λ z z_in. reached_back n f p z (f z) z_in (reached_step f z) in
-    let g : ℕ → ℕ = exchanged f a b in
     elim (exchange_of f a b y ne).is [
       | inl first ↦
           let at_a : IsOnMerged f a b x a → IsOnMerged f a b x (f b) = λ m. elim m [

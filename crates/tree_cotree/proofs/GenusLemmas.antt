@@ -13,14 +13,14 @@ use Rattle.halfedge_map.proofs.SystemLemmas.{rotation_system, names_all}
 use Rattle.tree_cotree.specs.RingCounts.{any_below}
 use Rattle.tree_cotree.specs.SpanningTrees.{IsStepIn, StepsIn, IsSpanningTree, HasOneRing}
 use Rattle.tree_cotree.proofs.AfterLemmas.{twin_edge}
-use Rattle.tree_cotree.proofs.ClassLemmas.{found_below, passes_below}
+use Rattle.tree_cotree.proofs.ClassLemmas.{found_below, passes_below, count_none}
 use Rattle.surf_model.proofs.EdgeTables.{some_table}
 use Rattle.tree_cotree.proofs.SetLemmas.{with_one, with_itself, with_keeps, with_cases, count_with, count_few, same_from_count, some_outside}
 use Rattle.tree_cotree.proofs.GrowthLemmas.{HasNodes}
 use Rattle.tree_cotree.proofs.SplitLemmas.{OneOfThree, tree_one, cotree_one, left_one, tree_ring, cotree_ring, closed_holds_all, count_three}
 use Rattle.tree_cotree.proofs.LeftoverLemmas.{even_left}
 use Rattle.tree_cotree.proofs.LawLemmas.{vertex_nodes, face_nodes, some_dart, count_all}
-use Rattle.tree_cotree.proofs.TreeLemmas.{join}
+use Rattle.connectivity.proofs.Joining.{joined_trans}
 
 -- ---- steps in a larger set
 
@@ -49,10 +49,6 @@ record IsGrown (maps : Rotations) (node : ℕ → ℕ) (is_node : ℕ → Bool) 
   count : count_below set edges + 1 ≡ count_below nodes bound
   to_root : (d : ℕ) → d < maps.darts → nodes (node d) ≡ true → AreJoined (StepsIn maps node set) (node d) (node root)
   from_root : (d : ℕ) → d < maps.darts → nodes (node d) ≡ true → AreJoined (StepsIn maps node set) (node root) (node d)
-
-pub count_none : (n : ℕ) → count_below (λ _. false) n ≡ 0
-count_none zero = refl
-count_none (suc n) = rw (count_none n) refl
 
 seed : (maps : Rotations) (node : ℕ → ℕ) (is_node : ℕ → Bool) (bound edges : ℕ) (allowed : ℕ → Bool) (root : ℕ)
     → HasNodes maps node is_node bound edges → root < maps.darts
@@ -109,12 +105,13 @@ grow maps node is_node bound edges allowed root set nodes r h g d out =
           omega (arith, g.count, one, two);
       to_root = λ x l is. elim (with_cases nodes (node d) (node x) is) [
         | inl same ↦ subst (λ (v : ℕ). AreJoined steps v (node root)) (sym same)
-            (join steps (node d) (node twin) (node root) outward (wider (node twin) (node root) (g.to_root twin twin_in out.inner)))
+            (joined_trans steps (node d) (node twin) (node root) outward (wider (node twin) (node root) (g.to_root twin twin_in out.inner)))
         | inr old ↦ wider (node x) (node root) (g.to_root x l old)
       ];
       from_root = λ x l is. elim (with_cases nodes (node d) (node x) is) [
         | inl same ↦ subst (λ (v : ℕ). AreJoined steps (node root) v) (sym same)
-            (join steps (node root) (node twin) (node d) (wider (node root) (node twin) (g.from_root twin twin_in out.inner)) inward)
+            (joined_trans steps (node root) (node twin) (node d) (wider (node root) (node twin) (g.from_root twin twin_in out.inner))
+            inward)
         | inr old ↦ wider (node root) (node x) (g.from_root x l old)
       ];
     }
@@ -225,7 +222,7 @@ grow_all maps node is_node bound edges allowed root r h holds root_in zero set n
       record {
         within = g.within;
         spans = record {
-          joins = λ d e l k. join (StepsIn maps node set) (node d) (node root) (node e) (g.to_root d l (met d l))
+          joins = λ d e l k. joined_trans (StepsIn maps node set) (node d) (node root) (node e) (g.to_root d l (met d l))
               (g.from_root e k (met e k));
           count = omega (arith, g.count, count);
         };

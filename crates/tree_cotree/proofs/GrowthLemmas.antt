@@ -12,6 +12,7 @@ use Rattle.halfedge_map.proofs.OrbitLemmas.{IsPermutationBelow}
 use Rattle.tree_cotree.proofs.ExchangeLemmas.{IsOnMerged, joins_rings, exchanged_permutes}
 use Rattle.tree_cotree.proofs.SetLemmas.{with_one, with_itself, with_other, with_keeps, with_cases, count_with, count_few, same_from_count, some_outside}
 use Rattle.tree_cotree.proofs.AfterLemmas.{after_permutes, after_agrees, after_exchanges, DifferAt, reached_same}
+use Rattle.tree_cotree.proofs.ClassLemmas.{count_none}
 
 -- the nodes of the darts, and the edges, as numbers below bounds
 pub record HasNodes (maps : Rotations) (node : ℕ → ℕ) (is_node : ℕ → Bool) (bound edges : ℕ) : Type 0 where
@@ -227,10 +228,6 @@ grown_up maps node is_node bound edges shape tree r h turned t root root_in (suc
           (with_keeps nodes (node d) (node root) rooted) (omega (arith, count, more))
           (grow maps node is_node bound edges shape tree set nodes r h turned g d d_in chosen outer inner) x y x_in y_in
     ]
-
-count_none : (n : ℕ) → count_below (λ _. false) n ≡ 0
-count_none zero = refl
-count_none (suc n) = rw (count_none n) refl
 
 -- before the first edge each node makes a ring of its own
 seed : (maps : Rotations) (node : ℕ → ℕ) (is_node : ℕ → Bool) (bound edges : ℕ) (shape : Bool → Bool) (tree : ℕ → Bool)

@@ -2,8 +2,9 @@
 -- set is a spanning tree.
 use Rattle.std.proofs.Common.{◌≡◌, ◌≢◌, ◌⊎◌, inl, inr, ℕ, suc, ◌+◌, ◌<◌, ◌≤◌, Bool, true, false, ◌&&◌, eqb, List, length, get_or, refl, ap, sym, ◌∙◌, subst, arith}
 use Rattle.std.specs.List.{range_with_len}
-use Rattle.std.proofs.lemmas.Bool.{cases_Bool, cases_eq, both_ways, and_parts, and_from, eqb-true, eq-eqb}
+use Rattle.std.proofs.lemmas.Bool.{cases_Bool, cases_eq, both_ways, and_parts, and_from, eqb-true, eq-eqb, and_right}
 use Rattle.std.proofs.lemmas.List.FromFn.{length-range_with_len, get_or-range_with_len}
+use Rattle.std.specs.Cmp.Derive.{one_truth}
 use Rattle.connectivity.specs.Classes.{joined_at, AreLeastMembers}
 use Rattle.connectivity.specs.Partitions.{JoinsOnlyBySteps}
 use Rattle.connectivity.proofs.Joining.{joined_keep, joins_only-alone, joins_only-joined_at, length-joined_at, joined_at_ends, joined_at_keeps}
@@ -13,10 +14,10 @@ use Rattle.halfedge_map.specs.RotationSystems.{Rotations, IsRotationSystem}
 use Rattle.tree_cotree.specs.SpanningTrees.{IsStepIn, StepsIn, IsSpanningTree}
 use Rattle.tree_cotree.specs.Joinings.{AreEnds, HangTogether}
 use Rattle.tree_cotree.proofs.AfterLemmas.{twin_edge}
-use Rattle.tree_cotree.proofs.ClassLemmas.{count_same, count_less}
+use Rattle.tree_cotree.proofs.ClassLemmas.{count_same, count_less, count_none}
 use Rattle.tree_cotree.proofs.SetLemmas.{with_one, with_itself, with_keeps, with_cases, count_with}
 use Rattle.tree_cotree.proofs.GrowthLemmas.{HasNodes}
-use Rattle.tree_cotree.proofs.GenusLemmas.{widen, count_none}
+use Rattle.tree_cotree.proofs.GenusLemmas.{widen}
 
 -- the nodes that are their own entries: one for each class of nodes
 abbrev pub is_root : (ℕ → Bool) → List ℕ → ℕ → Bool
@@ -39,15 +40,6 @@ pub record IsJoining (maps : Rotations) (node : ℕ → ℕ) (is_node : ℕ → 
 and_true : (a b : Bool) → b ≡ true → (a && b) ≡ a
 and_true true b h = h
 and_true false b h = refl
-
-and_false : (a b : Bool) → b ≡ false → (a && b) ≡ false
-and_false true b h = h
-and_false false b h = refl
-
-same_test : (a b : Bool) → (a ≡ true → b ≡ true) → (b ≡ true → a ≡ true) → a ≡ b
-same_test true b h k = sym (h refl)
-same_test false true h k = k refl
-same_test false false h k = refl
 
 -- at first each number is a class
 pub joining_none : (maps : Rotations) (node : ℕ → ℕ) (is_node : ℕ → Bool) (bound edges : ℕ) (allowed set : ℕ → Bool)
@@ -247,7 +239,7 @@ joining_apart maps node is_node bound edges allowed n m least set x y r hn m_in 
     )
 
     gone : is_root is_node (joined_at least x y) high ≡ false
-    gone = and_false (is_node high) (eqb (get_or (joined_at least x y) high 0) high)
+    gone = and_right (is_node high) (eqb (get_or (joined_at least x y) high 0) high)
         (elim (cases_Bool (eqb (get_or (joined_at least x y) high 0) high)) [
           | inl is ↦ absurd (high_gone least x y h.members x_in y_in apart (eqb-true (get_or (joined_at least x y) high 0) high is))
           | inr is ↦ is
@@ -256,7 +248,7 @@ joining_apart maps node is_node bound edges allowed n m least set x y r hn m_in 
     others : (v : ℕ) → v < bound → v ≢ high → is_root is_node least v ≡ is_root is_node (joined_at least x y) v
     others v l ne =
         let either = others_own least x y v h.members x_in y_in (omega (arith, l, h.long)) ne in
-        ap (λ b. is_node v && b) (same_test (eqb (get_or least v 0) v) (eqb (get_or (joined_at least x y) v 0) v)
+        ap (λ b. is_node v && b) (one_truth (eqb (get_or least v 0) v) (eqb (get_or (joined_at least x y) v 0) v)
         (λ is. eq-eqb (get_or (joined_at least x y) v 0) v (either.0 (eqb-true (get_or least v 0) v is)))
         (λ is. eq-eqb (get_or least v 0) v (either.1 (eqb-true (get_or (joined_at least x y) v 0) v is))))
 

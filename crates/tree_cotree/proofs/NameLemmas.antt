@@ -1,6 +1,7 @@
 -- Classes that bear names: where two numbers are related exactly if they have one name, there are as many classes as names.
 use Rattle.std.proofs.Common.{◌≡◌, ◌≢◌, inl, inr, ℕ, zero, suc, ◌<◌, ◌≤◌, Bool, true, false, not, eqb, refl, ap, sym, ◌∙◌, subst, arith}
 use Rattle.std.proofs.lemmas.Bool.{cases_Bool, or_cases, or_left, or_right, both_ways, eqb-true, eq-eqb}
+use Rattle.std.specs.Cmp.Derive.{one_truth}
 use Rattle.surf_model.specs.Numbers.{count_below}
 use Rattle.tree_cotree.specs.RingCounts.{any_below, is_least, class_count}
 use Rattle.tree_cotree.proofs.ClassLemmas.{found_below, passes_below, count_same, count_less}
@@ -25,16 +26,10 @@ bearer name m v h =
     let found = found_below (λ y. eqb (name y) v) m h in
     (found.0, found.1, eqb-true (name found.0) v found.2)
 
--- two truths that follow from each other are one
-same_truth : (a b : Bool) → (a ≡ true → b ≡ true) → (b ≡ true → a ≡ true) → a ≡ b
-same_truth true b onward back = sym (onward refl)
-same_truth false true onward back = back refl
-same_truth false false onward back = refl
-
 -- one number more bears no new name, or just its own
 other_name : (name : ℕ → ℕ) (m v : ℕ) → v ≢ name m → is_borne name (suc m) v ≡ is_borne name m v
 other_name name m v ne =
-    same_truth (is_borne name (suc m) v) (is_borne name m v)
+    one_truth (is_borne name (suc m) v) (is_borne name m v)
     (λ h. elim (or_cases (is_borne name m v) (eqb (name m) v) h) [
       | inl before ↦ before
       | inr here ↦ absurd (ne (sym (eqb-true (name m) v here)))
@@ -58,7 +53,7 @@ least_are_borne n bound related name is_name h (suc m) l =
           let again : is_borne name m (name m) ≡ true =
           borne_by name m found.0 (name m) found.1 (h.one_name found.0 m (omega (arith, found.1, l)) (omega (arith, l)) found.2) in
           let same : count_below (is_borne name (suc m)) bound ≡ count_below (is_borne name m) bound =
-          count_same (is_borne name (suc m)) (is_borne name m) bound (λ v _. same_truth (is_borne name (suc m) v) (is_borne name m v)
+          count_same (is_borne name (suc m)) (is_borne name m) bound (λ v _. one_truth (is_borne name (suc m) v) (is_borne name m v)
           (λ is. elim (or_cases (is_borne name m v) (eqb (name m) v) is) [
             | inl earlier ↦ earlier
             | inr here ↦ subst (λ (z : ℕ). is_borne name m z ≡ true) (eqb-true (name m) v here) again
@@ -87,6 +82,6 @@ pub classes_are_names : (n bound : ℕ) (related : ℕ → ℕ → Bool) (name :
     → AreNamed n bound related name is_name → class_count related n ≡ count_below is_name bound
 classes_are_names n bound related name is_name h =
     least_are_borne n bound related name is_name h n (omega arith)
-    ∙ count_same (is_borne name n) is_name bound (λ v l. same_truth (is_borne name n v) (is_name v)
+    ∙ count_same (is_borne name n) is_name bound (λ v l. one_truth (is_borne name n v) (is_name v)
     (λ is. let by = bearer name n v is in subst (λ (z : ℕ). is_name z ≡ true) by.2 (h.is by.0 by.1))
     (λ is. let by = h.each v l is in borne_by name n by.0 v by.1 by.2))

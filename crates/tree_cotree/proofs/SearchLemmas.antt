@@ -237,10 +237,6 @@ crossed_more maps node allowed turn old new first k h crossed here i l passes =
           (here (ap (λ j. allowed (maps.edge (after_steps turn j first))) (sym same) ∙ passes)))
     ]
 
-pub goes_on_on : (first second third : List ℕ) → GoesOn first second → GoesOn second third → GoesOn first third
-goes_on_on first second third h k =
-    record { longer = omega (arith, h.longer, k.longer); same = λ j l. k.same j (omega (arith, l, h.longer)) ∙ h.same j l }
-
 pub crossed_on : (maps : Rotations) (node : ℕ → ℕ) (allowed : ℕ → Bool) (old new : List ℕ) (v : ℕ) → GoesOn old new
     → IsCrossed maps node allowed old v → IsCrossed maps node allowed new v
 crossed_on maps node allowed old new v h crossed d l is passes = found_on node old new (node (maps.twin d)) h (crossed d l is passes)

@@ -99,9 +99,6 @@ pub one_ring_counted : (n : ℕ) (f : ℕ → ℕ) → IsPermutationBelow n f �
     → ring_count f n ≡ 1
 one_ring_counted n f p some all = count_first n some (omega arith)
   where
-    zero_least : is_least (meets f n) 0 ≡ true
-    zero_least = refl
-
     no_other : (x : ℕ) → x < n → 0 < x → is_least (meets f n) x ≡ false
     no_other x l k = ap not (passes_below (λ y. meets f n y x) x 0 k (meets_from n f p 0 x some (all 0 x some l)))
 

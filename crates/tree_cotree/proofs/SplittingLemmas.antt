@@ -1,6 +1,6 @@
 -- A split, made by two searches: over the vertices, and over the faces across the edges outside the tree. The tree of the second is then
 -- turned round, so that its root is a face that has a leftover dart.
-use Rattle.std.proofs.Common.{◌≡◌, ◌⊎◌, inl, inr, ℕ, zero, suc, ◌+◌, ◌/◌, ◌<◌, Bool, true, false, List, length, get_or, refl, ap, sym, ◌∙◌, subst, arith}
+use Rattle.std.proofs.Common.{◌≡◌, ◌⊎◌, inl, inr, ℕ, suc, ◌+◌, ◌/◌, ◌<◌, Bool, true, false, List, length, get_or, refl, ap, sym, ◌∙◌, subst, arith}
 use Rattle.std.specs.Prelude.{Option, Some, None, is_some, replicate}
 use Rattle.std.proofs.lemmas.Bool.{cases_Bool, both_ways}
 use Rattle.std.proofs.lemmas.List.{length-replicate, get_or-replicate}
@@ -19,7 +19,7 @@ use Rattle.tree_cotree.specs.Splits.{SplitView, HasParents, HasChildFaces, HasTr
 use Rattle.tree_cotree.specs.Ways.{HasRoot}
 use Rattle.tree_cotree.specs.EdgeFaces.{AreBelowEdges}
 use Rattle.tree_cotree.specs.StoredSplits.{made_split}
-use Rattle.tree_cotree.proofs.ClassLemmas.{count_same}
+use Rattle.tree_cotree.proofs.ClassLemmas.{count_same, count_none}
 use Rattle.tree_cotree.proofs.SetLemmas.{with_one, with_cases, with_keeps, count_with, same_from_count}
 use Rattle.tree_cotree.proofs.GrowthLemmas.{HasNodes}
 use Rattle.tree_cotree.proofs.SplitLemmas.{tree_ring, closed_holds_all}
@@ -30,13 +30,6 @@ use Rattle.tree_cotree.proofs.TurningLemmas.{allow}
 pub option_cases : (o : Option ℕ) → (o ≡ None) ⊎ ((x : ℕ) × (o ≡ Some x))
 option_cases None = inl refl
 option_cases (Some x) = inr (x, refl)
-
-not_both : (o : Option ℕ) (x : ℕ) → o ≡ Some x → o ≡ None → ⊥
-not_both o x e k = cc
-
-count_none : (n : ℕ) → count_below (λ e. false) n ≡ 0
-count_none zero = refl
-count_none (suc n) = rw (count_none n) (omega arith)
 
 -- kinds
 kind_is : (kind other : Kind) → same_kind kind other ≡ true → kind ≡ other

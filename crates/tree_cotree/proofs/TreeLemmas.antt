@@ -1,5 +1,5 @@
 -- The tree that a search makes: a node's dart leads back to a node found before, so following the darts ends at the root.
-use Rattle.std.proofs.Common.{◌≡◌, ◌≢◌, ◌⊎◌, inl, inr, ℕ, zero, suc, ◌+◌, ◌<◌, Bool, true, false, cond, List, [], ◌∷◌, ◌++◌, length, get_or, refl, ap, sym, ◌∙◌, subst, arith}
+use Rattle.std.proofs.Common.{◌≡◌, ◌≢◌, ◌⊎◌, inl, inr, ℕ, zero, suc, ◌+◌, ◌<◌, Bool, true, false, cond, List, [], ◌∷◌, length, get_or, refl, ap, sym, ◌∙◌, subst, arith}
 use Rattle.std.proofs.Math.ListN.{set}
 use Rattle.std.specs.Prelude.{Option, Some, None, is_some}
 use Rattle.std.proofs.lemmas.Bool.{cases_Bool, cases_eq, cases_lt, both_ways}
@@ -16,15 +16,7 @@ use Rattle.tree_cotree.proofs.SetLemmas.{with_one, with_itself, with_other, with
 use Rattle.tree_cotree.proofs.ClassLemmas.{count_same}
 use Rattle.tree_cotree.proofs.AfterLemmas.{twin_edge}
 use Rattle.tree_cotree.proofs.GrowthLemmas.{HasNodes}
-
--- steps one after another
-joined_more : (step : ℕ → ℕ → Type 0) (u v w : ℕ) (path more : List ℕ) → IsPath step u path v → IsPath step v more w
-    → IsPath step u (path ++ more) w
-joined_more step u v w [] more h k = subst (λ x. IsPath step x more w) (sym h) k
-joined_more step u v w (x ∷ path) more h k = (h.0, joined_more step x v w path more h.1 k)
-
-pub join : (step : ℕ → ℕ → Type 0) (u v w : ℕ) → AreJoined step u v → AreJoined step v w → AreJoined step u w
-join step u v w h k = (h.0 ++ k.0, joined_more step u v w h.0 k.0 h.1 k.1)
+use Rattle.connectivity.proofs.Joining.{joined_trans}
 
 pub crossed_from : (maps : Rotations) (node : ℕ → ℕ) (allowed : ℕ → Bool) (bound root : ℕ) (from : List (Option ℕ))
     (s : IsSearched maps node allowed bound root from)
@@ -188,7 +180,7 @@ from_root step maps node allowed bound root order from h steps (suc fuel) j b l 
           from_root step maps node allowed bound root order from h steps fuel d.place (omega (arith, d.before, b))
           (omega (arith, d.before, l)) in
           let last : step (node (get_or order d.place 0)) v = subst (λ u. step u v) d.is (steps v (get_or order j 0) (h.named j later l)) in
-          join step root (node (get_or order d.place 0)) v rest (v ∷ [], (last, refl)))
+          joined_trans step root (node (get_or order d.place 0)) v rest (v ∷ [], (last, refl)))
     ]
 
 -- the kept darts and the set of their edges join any two nodes
@@ -197,7 +189,7 @@ pub kept_join : (maps : Rotations) (node : ℕ → ℕ) (allowed inside : ℕ �
     → (f : FindsAll maps node allowed bound root from) → ((v x : ℕ) → kept_at from v ≡ Some x → inside (maps.edge x) ≡ true)
     → (d e : ℕ) → d < maps.darts → e < maps.darts → AreJoined (StepsIn maps node inside) (node d) (node e)
 kept_join maps node allowed inside bound root from r f marked d e l k =
-    join (StepsIn maps node inside) (node d) root (node e)
+    joined_trans (StepsIn maps node inside) (node d) root (node e)
     (all_to_root (StepsIn maps node inside) maps node allowed bound root from f forth d l)
     (subst (AreJoined (StepsIn maps node inside) root) found.is
     (from_root (StepsIn maps node inside) maps node allowed bound root f.order from f.is_order back (suc found.place) found.place
@@ -315,9 +307,6 @@ pub same_itself : (kind : Kind) → same_kind kind kind ≡ true
 same_itself Tree = refl
 same_itself Cotree = refl
 same_itself Left = refl
-
-pub marks_none : (maps : Rotations) (from : List (Option ℕ)) (kind : Kind) (old : List Kind) → IsMarked maps from kind old old 0
-marks_none maps from kind old = record { long = refl; sets = marked_none maps from (length old) (has_kind old kind); others = λ e k. refl }
 
 pub marks_skip : (maps : Rotations) (from : List (Option ℕ)) (kind : Kind) (old new : List Kind) (n : ℕ)
     → IsMarked maps from kind old new n → kept_at from n ≡ None

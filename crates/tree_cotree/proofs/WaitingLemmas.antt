@@ -172,18 +172,6 @@ pub record IsUnderway (maps : Rotations) (node : ℕ → ℕ) (allowed : ℕ →
   pub known : (x : ℕ) → IsAmong waiting x → IsAmong order x
   pub either : (j : ℕ) → j < length order → IsCrossed maps node allowed order (node (get_or order j 0)) ⊎ IsAmong waiting (get_or order j 0)
 
-pub underway_start : (maps : Rotations) (node : ℕ → ℕ) (allowed : ℕ → Bool) (bound root start : ℕ) (order waiting : List ℕ)
-    (from : List (Option ℕ))
-    → IsOrder maps node allowed bound root order from → order ≡ start ∷ [] → waiting ≡ start ∷ []
-    → IsUnderway maps node allowed bound root order waiting from
-underway_start maps node allowed bound root start order waiting from h one waits =
-    let same : waiting ≡ order = waits ∙ sym one in
-    record {
-      is_order = h;
-      known = λ x among. subst (λ ws. IsAmong ws x) same among;
-      either = λ j l. inr (subst (λ ws. IsAmong ws (get_or order j 0)) (sym same) (record { place = j; within = l; is = refl }));
-    }
-
 -- the dart that is taken is one, of a node that was found
 pub taken_dart : (maps : Rotations) (node : ℕ → ℕ) (allowed : ℕ → Bool) (bound root : ℕ) (order waiting rest : List ℕ)
     (from : List (Option ℕ)) (x : ℕ)

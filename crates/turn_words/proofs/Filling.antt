@@ -1,10 +1,10 @@
 -- The loop that finds the spoke of each place.
 use Rattle.std.proofs.Common.{◌≡◌, ◌≢◌, ℕ, ◌+◌, ◌<◌, ◌≤◌, inl, inr, arith, refl, sym, ◌∙◌, ap, zero, suc, cond, ltb, List, [], ◌∷◌, length, get_or, set}
 use Rattle.std.specs.List.{sum_by}
-use Rattle.std.proofs.lemmas.Bool.{cases_eq, cases_lt, cases_order, lt-ltb, le-ltb}
+use Rattle.std.proofs.lemmas.Bool.{cases_eq, cases_lt, lt-ltb, le-ltb}
 use Rattle.std.proofs.lemmas.List.{length-set, get_or-set_same, get_or-set_other}
 use Rattle.std.proofs.lemmas.List.Sums.{sum_by-set, sum_by-cons}
-use Rattle.turn_words.specs.Wheels.{IsInside, StandsTwice, IsFirstTwice, IsWheel}
+use Rattle.turn_words.specs.Wheels.{IsInside, StandsTwice}
 use Rattle.turn_words.specs.Private.StoredWheels.{IsInverse}
 
 -- 1 for a place that has a spoke
@@ -140,17 +140,6 @@ module _ (places : List ℕ) (inside : IsInside places) where
       let within : twice < length places = omega arith in
       filling-next i spokes twice twice lt f full (omega arith) higher within (f.stands within)
 
-  -- the least place that stands twice was found
-  pub filled-twice : (spokes : List ℕ) (twice : ℕ) → Filling places (length places) spokes twice → twice < length places
-      → IsFirstTwice places twice
-  filled-twice spokes twice f lower = record {
-    twice = f.stands lower;
-    first = λ less less_below stands. (
-        let low = f.least stands.one stands.other stands.apart stands.below (stands.one_place ∙ sym stands.other_place) in
-        absurd (omega (arith, stands.one_place))
-        );
-  }
-
   filled-le : (n x : ℕ) → filled n x ≤ 1
   filled-le n x = elim (cases_lt x n) [
     | inl lt ↦ let e : filled n x ≡ 1 = ap (λ b. cond b 1 0) (lt-ltb x n lt) in omega arith
@@ -185,29 +174,3 @@ module _ (places : List ℕ) (inside : IsInside places) where
         inside = λ place below. each place (omega (arith, f.as_long));
         back = λ place below. (f.back place below (each place (omega (arith, f.as_long)))).1;
       }
-
-  pub filled-wheel : (spokes : List ℕ) (twice : ℕ) → Filling places (length places) spokes twice → length places ≤ twice → IsWheel places
-  filled-wheel spokes twice f none = record {
-    inside = inside;
-    once = λ i j i_below j_below e. elim (cases_order i j) [
-      | inl same ↦ same
-      | inr apart ↦ elim apart [
-        | inl before ↦ let low = f.least i j before j_below e in let in' = inside i i_below in absurd (omega arith)
-        | inr after ↦ let low = f.least j i after i_below (sym e) in let in' = inside j j_below in absurd (omega arith)
-      ]
-    ];
-  }
-
-  pub filling-start : (spokes : List ℕ) → length spokes ≡ length places
-      → ((k : ℕ) → k < length places → get_or spokes k 0 ≡ length places) → sum_by (filled (length places)) spokes ≡ 0
-      → Filling places 0 spokes (length places)
-  filling-start spokes as_long each none = record {
-    as_long = as_long;
-    within = omega arith;
-    small = λ k k_below. let is = each k k_below in omega arith;
-    back = λ k k_below filled. let is = each k k_below in absurd (omega arith);
-    seen = λ j j_below. absurd (omega arith);
-    stands = λ lt. absurd (omega arith);
-    least = λ a b ab b_below e. absurd (omega arith);
-    count = λ _. none;
-  }

@@ -20,10 +20,6 @@ pub with_steps-append : (o : Option (List Step)) (a b : List Step) → with_step
 with_steps-append None a b = refl
 with_steps-append (Some s) a b = ap Some (append_assoc s a b)
 
-pub with_steps-none : (o : Option (List Step)) → with_steps o [] ≡ o
-with_steps-none None = refl
-with_steps-none (Some s) = ap Some (append-nil s)
-
 -- the first of some pushes is noted
 pub pushes-next : (o p : Option (List Step)) (up : Bool) (at count : ℕ) → 0 < count → p ≡ with_steps o (Push at up ∷ [])
     → with_steps o (pushes up at count) ≡ with_steps p (pushes up (at - 1) (count - 1))
@@ -65,10 +61,6 @@ length-behind c v x r =
     let copies = length-replicate c v in
     let tail : length (x ∷ r) ≡ length r + 1 = omega arith in
     length-append (replicate c v) (x ∷ r) ∙ ap₂ ◌+◌ copies tail
-
-not-nil : (r : List ℕ) → r ≢ [] → IsCons r
-not-nil [] h = absurd (h refl)
-not-nil (x ∷ r) h = tt
 
 ends-whole : (v x : ℕ) (r : List ℕ) → EndsOtherwise v (x ∷ r) → r ≢ [] → x ≢ v
 ends-whole v x [] ends some = absurd (some refl)

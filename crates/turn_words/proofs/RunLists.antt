@@ -31,11 +31,6 @@ written-append (r ∷ rs) ss = ap (λ z. replicate r.1 r.0 ++ z) (written-append
 pub written-push : (rs : List (ℕ × ℕ)) (r : ℕ × ℕ) → written (rs ++ r ∷ []) ≡ written rs ++ replicate r.1 r.0
 written-push rs r = written-append rs (r ∷ []) ∙ ap (λ z. written rs ++ z) (append-nil (replicate r.1 r.0))
 
-pub length-push : (rs : List (ℕ × ℕ)) (r : ℕ × ℕ) → length (written (rs ++ r ∷ [])) ≡ length (written rs) + r.1
-length-push rs r =
-    let copies = length-replicate r.1 r.0 in
-    ap length (written-push rs r) ∙ length-append (written rs) (replicate r.1 r.0) ∙ ap (λ n. length (written rs) + n) copies
-
 pub filled-push : (rs : List (ℕ × ℕ)) (r : ℕ × ℕ) → AreFilled rs → 0 < r.1 → AreFilled (rs ++ r ∷ [])
 filled-push [] r f p = (p, tt)
 filled-push (s ∷ rs) r f p = (f.0, filled-push rs r f.1 p)

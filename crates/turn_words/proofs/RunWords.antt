@@ -81,44 +81,6 @@ taken-off len start v c old new i some e a =
           ∙ ap (λ z. replicate c v ++ z) (sym (reverse-some (len - c) start new (omega arith)));
     }
 
--- the start direction alone is taken off
-pub record StartOff (len start : ℕ) (old new : List (ℕ × ℕ)) : Type 0 where
-  pub stored : IsStoredWord (len - 1) new
-  pub word : reverse (word_of len start old) ≡ start ∷ reverse (word_of (len - 1) start new)
-
-pub start-off : (len start : ℕ) (old new : List (ℕ × ℕ)) → IsStoredWord len old → 0 < len → old ≡ [] → new ≡ [] → StartOff len start old new
-start-off len start old new i some none gone =
-    let long = i.some some in
-    let nothing : length (written old) ≡ 0 = ap (λ z. length (written z)) none in
-    let zero_left : len - 1 ≡ 0 = omega arith in
-    let empty : word_of (len - 1) start new ≡ [] = rw (eq-eqb (len - 1) 0 zero_left) refl in
-    record {
-      stored = record {
-        few = omega arith;
-        none = λ _. gone;
-        some = λ h. absurd (omega arith);
-        apart = rw gone tt;
-      };
-      word = reverse-some len start old some ∙ ap (back start) none ∙ ap (λ z. start ∷ reverse z) (sym empty);
-    }
-
--- entries of one value were put on
-pub record PutOn (len start v c : ℕ) (old new : List (ℕ × ℕ)) : Type 0 where
-  pub stored : IsStoredWord (len + c) new
-  pub word : reverse (word_of (len + c) start new) ≡ replicate c v ++ reverse (word_of len start old)
-
-pub put-on : (len start v c : ℕ) (old new : List (ℕ × ℕ)) → IsStoredWord len old → 0 < len → len + c < 2 ^ 32
-    → written new ≡ written old ++ replicate c v → AreApart new → PutOn len start v c old new
-put-on len start v c old new i some few e a =
-    let long = i.some some in
-    let more = length-written old new v c e in
-    record {
-      stored = stored-made (len + c) new (omega arith) few (omega arith) a;
-      word =
-          reverse-some (len + c) start new (omega arith) ∙ back-written start old new v c e
-          ∙ ap (λ z. replicate c v ++ z) (sym (reverse-some len start old some));
-    }
-
 -- the last entry, and what is before it
 pub last-of : (len start v c : ℕ) (old mid : List (ℕ × ℕ)) → IsStoredWord len old → old ≡ mid ++ (v, c) ∷ [] → 0 < c
     → reverse (word_of len start old) ≡ v ∷ replicate (c - 1) v ++ back start mid

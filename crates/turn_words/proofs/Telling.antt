@@ -1,13 +1,7 @@
 -- What a recorder tells after more steps were noted, one after another.
-use Rattle.std.proofs.Common.{◌≡◌, refl, sym, ◌∙◌, ap, subst, List, [], ◌++◌, Option, Some, None, append_assoc}
-use Rattle.std.proofs.lemmas.List.{append-nil}
+use Rattle.std.proofs.Common.{◌≡◌, sym, ◌∙◌, ap, subst, List, [], ◌++◌, Option, Some, None, append_assoc}
 use Rattle.turn_words.specs.Recorded.{with_steps, TellsMore}
 use Rattle.turn_words.specs.declared.step.Step.{Step}
-
--- nothing is noted
-pub tells-nothing : (Such : List Step → Type 0) (o : Option (List Step)) → Such [] → TellsMore Such o o
-tells-nothing Such None h = refl
-tells-nothing Such (Some before) h = ([], ap Some (sym (append-nil before)), h)
 
 -- steps are noted
 pub tells-steps : (Such : List Step → Type 0) (o p : Option (List Step)) (steps : List Step) → p ≡ with_steps o steps → Such steps
@@ -27,11 +21,6 @@ tells-both A B C (Some s) (Some t) q first second h = (
       ∙ ap Some (append_assoc s first.0 second.0),
   h first.0 second.0 first.2 second.2,
 )
-
--- the same steps, of which less is said
-pub tells-less : (A B : List Step → Type 0) (o p : Option (List Step)) → TellsMore A o p → ((a : List Step) → A a → B a) → TellsMore B o p
-tells-less A B None p t h = t
-tells-less A B (Some s) p t h = (t.0, t.1, h t.0 t.2)
 
 -- steps are noted by `with_steps` after others
 pub tells-on : (o p q : Option (List Step)) (steps : List Step) → TellsMore (λ _. Unit {0}) o p → q ≡ with_steps p steps

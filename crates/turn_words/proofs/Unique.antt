@@ -10,7 +10,7 @@ use Rattle.turn_words.specs.Lemmas.Lists.{InRange}
 use Rattle.turn_words.proofs.Reading.{read, IsSound, state}
 use Rattle.turn_words.proofs.Backward.{both-ways}
 use Rattle.turn_words.proofs.Reaching.{reached-good, left-reached, read-sound, start-sound, after_steps-append, read-append}
-use Rattle.turn_words.specs.Lemmas.FromEnd.{canonical-from, good-from-canonical, in-range-from, all-from}
+use Rattle.turn_words.specs.Lemmas.FromEnd.{canonical-from, good-from-canonical, in-range-from}
 
 -- what is left of a word
 abbrev pub left : ℕ → List ℕ → List ℕ
@@ -65,14 +65,6 @@ pub record ReadsTo (d : ℕ) (w : List ℕ) (i : ℕ) (items : List ℕ) (change
   pub size : length items ≤ i
   pub in_range : All (λ entry. entry < d) items
   pub change_below : change < d
-
-pub reads-start : (d : ℕ) (w : List ℕ) → 5 ≤ d → ReadsTo d w 0 [] 0
-reads-start d w five = record {
-  left_is = refl;
-  size = omega arith;
-  in_range = all-from d [] tt;
-  change_below = omega arith;
-}
 
 in-range-take : (d n : ℕ) (w : List ℕ) → InRange d w → InRange d (take n w)
 in-range-take d zero w i = tt

@@ -113,13 +113,6 @@ first_fault-step fault n walks k walk here =
         let same : first ≡ walk = cc in ap (λ (w : List ℕ). option_or (fault n w) (first_fault fault (n + 1) walks)) same
     next (first ∷ walks) (suc k) here = next walks k here
 
-pub first_fault-end : (fault : ℕ → List ℕ → Option EntryFault) (n : ℕ) (walks : List (List ℕ)) (k : ℕ) → length walks ≤ k
-    → first_fault fault n (drop k walks) ≡ None
-first_fault-end fault n [] zero all = refl
-first_fault-end fault n [] (suc k) all = refl
-first_fault-end fault n (walk ∷ walks) zero all = absurd (omega arith)
-first_fault-end fault n (walk ∷ walks) (suc k) all = first_fault-end fault n walks k (omega (arith, all))
-
 -- what is wrong with one walk or another
 pub some_or : {A : Type 0} (o : Option A) (x : A) (rest : Option A) → o ≡ Some x → option_or o rest ≡ Some x
 some_or o x rest is = ap (λ p. option_or p rest) is

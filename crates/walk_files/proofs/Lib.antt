@@ -6,7 +6,6 @@ pub mod ClosedPairLemmas
 pub mod MoveLines
 pub mod EachLemmas
 pub mod ListLemmas
-pub mod WordLists
 pub mod ReaderLemmas
 pub mod RoundTrip
 pub mod FewLemmas

@@ -1,6 +1,6 @@
 -- What is first wrong with walks that should come in pairs.
-use Rattle.std.proofs.Common.{◌≡◌, ℕ, zero, suc, ◌+◌, ◌*◌, ◌<◌, ◌≤◌, List, [], ◌∷◌, length, drop, Bool, true, false, cond, refl, sym, ap, subst, ◌∙◌, eq-eqb, arith}
-use Rattle.std.specs.Prelude.{Option, Some, None, Result, IsOk, All, ◌==◌, not, option_map, slice_index, slice_get, if◌then◌else◌}
+use Rattle.std.proofs.Common.{◌≡◌, ℕ, zero, suc, ◌+◌, ◌*◌, ◌<◌, ◌≤◌, List, [], ◌∷◌, length, drop, Bool, true, false, refl, sym, ap, ◌∙◌, eq-eqb, arith}
+use Rattle.std.specs.Prelude.{Option, Some, None, Result, IsOk, All, ◌==◌, option_map, slice_index, slice_get, if◌then◌else◌}
 use Rattle.std.specs.Option.{option_or}
 use Rattle.std.specs.Result.{result_err}
 use Rattle.std.proofs.lemmas.Bool.{eqb-true}
@@ -13,7 +13,7 @@ use Rattle.walk_files.specs.declared.pairs.PairsFault.TheVariants.{NotPairs, End
 use Rattle.walk_files.specs.Entries.{vertex_fault, edge_fault, first_fault, walks_fault}
 use Rattle.walk_files.specs.PairLists.{WalkPair, in_pairs, are_paired, ArePairs, of_entry, ends_fault, pairs_ends_fault, pairs_fault}
 use Rattle.walk_files.specs.WalkLists.{WalkText}
-use Rattle.walk_files.proofs.TwoWalkLemmas.{says}
+use Rattle.walk_files.proofs.TwoWalkLemmas.{says, if_none}
 use Rattle.walk_files.proofs.EntryLemmas.{both_none, none_or, some_or, walk_of_none, no_vertex_fault, no_edge_fault}
 
 -- ---- one pair more
@@ -94,10 +94,6 @@ no_walks_fault mesh walks all =
     (no_fault mesh (vertex_fault mesh) (λ n walk is. no_vertex_fault mesh n walk is) 1 walks all)
     ∙ no_fault mesh (edge_fault mesh) (λ n walk is. no_edge_fault mesh n walk is) 1 walks all
 
-if_none : {A : Type 0} (b : Bool) (x : A) (o : Option A) → cond (not b) (Some x) o ≡ None → (b ≡ true) × (o ≡ None)
-if_none true x o e = (refl, e)
-if_none false x o e = cc
-
 ends_of_none : (number : ℕ) (pair : WalkPair) → ends_fault number pair ≡ None → HaveCommonEnds pair.first pair.second
 ends_of_none number pair none =
     let starts = if_none (slice_index pair.first 0 == slice_index pair.second 0) (EndsDiffer number true) _ none in
@@ -164,12 +160,6 @@ says_pairs mesh text r some =
     says (ArePairs mesh text) (pairs_fault mesh text) r (pairs_of_none mesh text some) (none_of_pairs mesh text)
 
 -- ---- the first of the checks that fails
-
-pub count_fails : (mesh : FaceList) (text : WalkText) (count : ℕ) → count ≡ length text.walks
-    → are_paired text.version count ≡ false → Some (NotPairs count) ≡ pairs_fault mesh text
-count_fails mesh text count is not_paired =
-    let unpaired : are_paired text.version (length text.walks) ≡ false = subst (λ n. are_paired text.version n ≡ false) is not_paired in
-    ap (λ n. Some (NotPairs n)) is ∙ sym (rw unpaired refl)
 
 pub entry_fails : (mesh : FaceList) (text : WalkText) (fault : EntryFault) → are_paired text.version (length text.walks) ≡ true
     → Some fault ≡ walks_fault mesh text.walks → Some (of_entry fault) ≡ pairs_fault mesh text

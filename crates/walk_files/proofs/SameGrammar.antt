@@ -4,7 +4,7 @@ use Rattle.std.specs.Prelude.{codes, None}
 use Rattle.std.specs.Str.{bytes_eq}
 use Rattle.text_scan.specs.Numbers.{number_of, number_below}
 use Rattle.file_pieces.specs.SameLines.{SameWord, SameWords, SameLine}
-use Rattle.walk_files.specs.Certificates.{head_of, answer_of, direction_of, spur_of, across_of, move_of}
+use Rattle.walk_files.specs.Certificates.{head_of, direction_of, spur_of, across_of, move_of}
 
 number_same : (a b : List ℕ) → SameWord a b → number_of a ≡ number_of b
 number_same a b same = same.number (2 ^ 32) (lit≤ tt)
@@ -69,15 +69,6 @@ move_words (x ∷ a) (y ∷ b) same =
       spur_same a b same.1,
       across_same a b same.1,
     ) refl
-
-answer_words : (a b : List (List ℕ)) → SameWords a b → answer_of a ≡ answer_of b
-answer_words [] [] same = refl
-answer_words [] (y ∷ b) same = absurd same
-answer_words (x ∷ a) [] same = absurd same
-answer_words (x ∷ []) (y ∷ []) same = rw (same.0.keyword (codes "homotopic") refl, same.0.keyword (codes "different") refl) refl
-answer_words (x ∷ []) (y ∷ y2 ∷ b) same = absurd same.1
-answer_words (x ∷ x2 ∷ a) (y ∷ []) same = absurd same.1
-answer_words (x ∷ x2 ∷ a) (y ∷ y2 ∷ b) same = refl
 
 head_words : (a b : List (List ℕ)) → SameWords a b → head_of a ≡ head_of b
 head_words [] [] same = refl

@@ -1,5 +1,5 @@
 -- The denial of a certificate that is read in pieces: its lines behind as many line feeds as lines came before.
-use Rattle.std.proofs.Common.{inl, inr, ◌≡◌, ◌⊎◌, ℕ, zero, suc, ◌+◌, ◌-◌, ◌<◌, Bool, true, false, cond, List, ◌∷◌, ◌++◌, length, refl, sym, ap, subst, ◌∙◌, arith}
+use Rattle.std.proofs.Common.{inl, inr, ◌≡◌, ◌⊎◌, ℕ, zero, suc, ◌+◌, ◌-◌, ◌<◌, cond, List, ◌∷◌, ◌++◌, length, refl, sym, ap, subst, ◌∙◌, arith}
 use Rattle.std.specs.Prelude.{Option, Some, None, Result, Ok, Err, IfSome, replicate}
 use Rattle.text_scan.specs.Lines.{Line, is_filled, cut, unmarked, lines_from, full_lines, end_line}
 use Rattle.text_scan.specs.Unread.{behind}
@@ -8,9 +8,8 @@ use Rattle.file_pieces.specs.Reading.{Reads, left_of}
 use Rattle.file_pieces.specs.FileLines.{LinesReading}
 use Rattle.labellings.specs.declared.denial.Denial.{Denial}
 use Rattle.walk_files.specs.Denials.{denial_in, unlabelled}
-use Rattle.walk_files.specs.Readers.{denial_left, degree_in, lines_to_come}
 use Rattle.walk_files.specs.StreamEnds.{end_of_text}
-use Rattle.walk_files.specs.Streams.{Streamed, reader_at, streams_list, IsIn, Belongs, IsAnswer, end_behind}
+use Rattle.walk_files.specs.Streams.{IsAnswer, end_behind}
 use Rattle.walk_files.specs.declared.fault.CertFault.{CertFault}
 use Rattle.walk_files.specs.declared.fault.CertFault.TheVariants.{NoHead, Bad, Ended, Extra, Peak, OutOfMemory}
 use Rattle.walk_files.specs.declared.stream_end.StreamEnd.{StreamEnd}
@@ -101,32 +100,3 @@ pub answers_wrong : (fault : CertFault) (whole : Result Denial CertFault)
 answers_wrong fault whole e = answers_text fault whole e
 
 -- ---- a stream behind its denial
-
--- what a stream says of its denial, at a file
-abbrev pub Denies : Streamed → Streamed → Result Denial StreamEnd → List ℕ → Type 0
-Denies old new result file = IsIn old file → IsAnswer result (denial_left (reader_at old file)) × Belongs new file
-
-pub gives_denial : (file : Option (List ℕ)) (old : Streamed) (next : LinesReading) (degree : ℕ) (result : Result Denial StreamEnd)
-    (denied : Bool) (refusal : Option StreamEnd) → old.denied ≡ false → degree ≡ degree_in old.head → next.number ≡ old.lines.number
-    → streams_list old ≡ false
-    → IfSome file (λ f. Reads old.lines.reading f → 1 < old.lines.number → IsAnswer result
-    (denial_in (end_behind old.lines.number (left_of old.lines.reading f)) (unlabelled degree)
-    (lines_from old.lines.number (left_of old.lines.reading f))))
-    → (refusal ≡ None → denied ≡ true) → (refusal ≡ None → IfSome file (λ f. Reads old.lines.reading f → Reads next.reading f))
-    → IfSome file (Denies old (record old { lines = next; denied = denied; refusal = refusal }) result)
-gives_denial None old next degree result denied refusal undenied head number no_list answer behind reads = tt
-gives_denial (Some f) old next degree result denied refusal undenied head number no_list answer behind reads = λ is. (
-  subst (IsAnswer result)
-      (ap (λ n. denial_in n (unlabelled degree) (lines_from old.lines.number (left_of old.lines.reading f))) (is.end undenied)
-      ∙ ap (denial_in (end_line f) (unlabelled degree)) (is.lines undenied)
-      ∙ ap (λ d. denial_in (end_line f) (unlabelled d) (lines_to_come (reader_at old f))) head)
-      (answer is.reads is.behind),
-  λ none. record {
-    reads = reads none is.reads;
-    head = is.head;
-    lines = λ d. cc (behind none, d);
-    end = λ d. cc (behind none, d);
-    behind = omega (arith, is.behind, number);
-    denial = λ list. cc (no_list, list);
-  },
-)

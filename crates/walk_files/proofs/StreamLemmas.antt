@@ -1,16 +1,14 @@
 -- The lines of a certificate that is read in pieces.
 use Rattle.std.proofs.Common.{◌≡◌, ◌⊎◌, ℕ, ◌+◌, ◌-◌, ◌<◌, ◌≤◌, ◌==◌, Bool, true, false, cond, List, [], ◌∷◌, length, drop, inl, inr, refl, sym, ap, subst, ◌∙◌, arith, drop-drop}
-use Rattle.std.proofs.lemmas.List.{length-drop}
 use Rattle.std.specs.Prelude.{Option, Some, None, Result, Ok, Err, OnOk, IfNone, IfSome, MatchOption, option_map}
 use Rattle.std.specs.Option.{ok_or}
 use Rattle.text_scan.specs.Lines.{Line, is_filled, cut, unmarked, lines_from, full_lines, end_line}
 use Rattle.text_scan.specs.Unread.{Unread, lines_left, at_line}
 use Rattle.surf_model.specs.declared.moves.Move.{Move}
-use Rattle.file_pieces.specs.Reading.{Reading, Reads, left_of, read_so_far}
+use Rattle.file_pieces.specs.Reading.{Reads, left_of}
 use Rattle.file_pieces.specs.SameLines.{SameLine}
 use Rattle.file_pieces.specs.FileLines.{ReadsLine, LinesReading}
-use Rattle.file_pieces.specs.declared.fault.PieceFault.{PieceFault}
-use Rattle.file_pieces.specs.declared.fault.PieceFault.TheVariants.{Failed, TooLarge as TooManyBytes}
+use Rattle.file_pieces.proofs.ShortLemmas.{no_lines}
 use Rattle.walk_files.specs.declared.fault.CertFault.{CertFault}
 use Rattle.walk_files.specs.declared.fault.CertFault.TheVariants.{NoHead, Bad, Ended, Extra}
 use Rattle.walk_files.specs.declared.stream_end.StreamEnd.{StreamEnd}
@@ -19,8 +17,7 @@ use Rattle.walk_files.specs.Certificates.{move_of, answer_of, fitting_head, head
 use Rattle.walk_files.specs.Readers.{count_in, next_of, next_on, next_answer, lines_to_come}
 use Rattle.walk_files.specs.declared.certificate.Answer.{Answer}
 use Rattle.walk_files.specs.declared.certificate.CertHead.{CertHead}
-use Rattle.walk_files.specs.StreamEnds.{end_of_piece}
-use Rattle.walk_files.specs.Streams.{Streamed, reader_at, streams_list, IsIn, Belongs, IsAnswer, IsWithin, end_behind, after_move}
+use Rattle.walk_files.specs.Streams.{Streamed, reader_at, streams_list, IsIn, Belongs, IsAnswer, end_behind, after_move}
 use Rattle.walk_files.proofs.SameGrammar.{move_same, head_same}
 
 -- ---- the short line
@@ -41,10 +38,6 @@ next_on-same left number a b same =
 
 -- ---- a line of the file
 
-no_line_left : (n : ℕ) → lines_from n [] ≡ []
-unfolding lines_from cut
-no_line_left n = refl
-
 none_cut : length (cut []) ≡ 0
 unfolding cut
 none_cut = refl
@@ -56,7 +49,7 @@ pub next_read : (number : ℕ) (bytes : List ℕ) (found : Option ℕ) (short : 
     (λ n. (words : List (List ℕ)) → SameLine short words → read ≡ next_on to_come (record { number = n; words = words }))
     → read ≡ next_of (end_behind number bytes) to_come (lines_from number bytes)
 next_read number bytes None short next left to_come read reads none is =
-    let lines : lines_from number bytes ≡ [] = reads.lines ∙ ap (lines_from next) none ∙ no_line_left next in
+    let lines : lines_from number bytes ≡ [] = reads.lines ∙ ap (lines_from next) none ∙ no_lines next in
     let last : next ≡ end_behind number bytes = omega (arith, reads.count, ap (λ t. length (cut t)) none, none_cut) in
     is ∙ ap (λ n. next_of n to_come []) last ∙ ap (next_of (end_behind number bytes) to_come) (sym lines)
 next_read number bytes (Some n) short next left to_come read reads none is =
@@ -67,7 +60,7 @@ pub next_left : (number : ℕ) (bytes : List ℕ) (found : Option ℕ) (short : 
     → ReadsLine number bytes found short next left → IfNone found (left ≡ [])
     → (lines_from next left ≡ drop 1 (lines_from number bytes)) × (end_behind next left ≡ end_behind number bytes) × (number ≤ next)
 next_left number bytes None short next left reads none =
-    let rest : lines_from next left ≡ [] = ap (lines_from next) none ∙ no_line_left next in
+    let rest : lines_from next left ≡ [] = ap (lines_from next) none ∙ no_lines next in
     (rest ∙ ap (drop 1) (sym rest ∙ sym reads.lines), sym reads.count, reads.later)
 next_left number bytes (Some n) short next left reads none =
     (ap (drop 1) (sym reads.lines.first), sym reads.count, omega (arith, reads.later))
@@ -90,10 +83,6 @@ answers_refused end fault read whole which is same = by_end end which
       ]
     ]
 
-pub answers_piece : {A : Type 0} (fault : PieceFault) (whole : Result A CertFault) → IsAnswer (Err (end_of_piece fault)) whole
-answers_piece Failed whole = tt
-answers_piece TooManyBytes whole = tt
-
 -- ---- the next line
 
 -- what the next line is, where the file is told
@@ -103,60 +92,6 @@ FindsLine old next found short file = Reads old.reading file →
     × IfNone found (left_of next.reading file ≡ [])
 
 -- ---- the limit
-
-pub within_read : (end : StreamEnd) (file : List ℕ) (reading : Reading) → Reads reading file → reading.ended ≡ true
-    → reading.place ≤ reading.limit → IsWithin end (length file) reading.limit
-within_read (Cert fault) file reading reads ended within = omega (arith, reads.whole ended, within)
-within_read Fault file reading reads ended within = tt
-within_read TooLarge file reading reads ended within = tt
-within_read OutOfMemory file reading reads ended within = tt
-
--- the rest was passed over
-pub within_passed : (file : Option (List ℕ)) (old new : Reading) (end : StreamEnd) → IfSome file (λ f. Reads old f → Reads new f)
-    → new.ended ≡ true → new.place ≤ new.limit → new.limit ≡ old.limit
-    → IfSome file (λ f. Reads old f → IsWithin end (length f) old.limit)
-within_passed None old new end reads ended within limit = tt
-within_passed (Some f) old new end reads ended within limit = λ r.
-    subst (λ n. IsWithin end (length f) n) limit (within_read end f new (reads r) ended within)
-
-pub within_piece : (fault : PieceFault) (size limit : ℕ) → IsWithin (end_of_piece fault) size limit
-within_piece Failed size limit = tt
-within_piece TooManyBytes size limit = tt
-
--- no call but that of a piece was made
-pub within_stopped : (file : Option (List ℕ)) (old : Reading) (fault : PieceFault)
-    → IfSome file (λ f. Reads old f → IsWithin (end_of_piece fault) (length f) old.limit)
-within_stopped None old fault = tt
-within_stopped (Some f) old fault = λ reads. within_piece fault (length f) old.limit
-
--- the file is read on before
-pub within_behind : (file now : Option (List ℕ)) (old mid : Reading) (end : StreamEnd) → now ≡ file
-    → IfSome file (λ f. Reads old f → Reads mid f) → mid.limit ≡ old.limit
-    → IfSome now (λ f. Reads mid f → IsWithin end (length f) mid.limit)
-    → IfSome file (λ f. Reads old f → IsWithin end (length f) old.limit)
-within_behind None now old mid end same reads limit within = tt
-within_behind (Some f) now old mid end same reads limit within =
-    let then : Reads mid f → IsWithin end (length f) mid.limit =
-    subst (λ o. IfSome o (λ g. Reads mid g → IsWithin end (length g) mid.limit)) same within in
-    λ r. subst (λ n. IsWithin end (length f) n) limit (then (reads r))
-
--- and before that
-pub reads_behind : (file now : Option (List ℕ)) (old mid next : Reading) → now ≡ file
-    → IfSome file (λ f. Reads old f → Reads mid f) → IfSome now (λ f. Reads mid f → Reads next f)
-    → IfSome file (λ f. Reads old f → Reads next f)
-reads_behind None now old mid next same first second = tt
-reads_behind (Some f) now old mid next same first second =
-    let then : Reads mid f → Reads next f = subst (λ o. IfSome o (λ g. Reads mid g → Reads next g)) same second in
-    λ r. then (first r)
-
--- no line was left
-pub within_none : (file : Option (List ℕ)) (old : LinesReading) (next : LinesReading) (found : Option ℕ) (short : List (List ℕ))
-    → IfSome file (FindsLine old next found short) → found ≡ None → read_so_far next.reading ≤ next.reading.limit
-    → next.reading.limit ≡ old.reading.limit → IfSome file (λ f. Reads old.reading f → length f ≤ old.reading.limit)
-within_none None old next found short finds none within limit = tt
-within_none (Some f) old next found short finds none within limit = λ reads.
-    let last : left_of next.reading f ≡ [] = subst (λ o. IfNone o (left_of next.reading f ≡ [])) none (finds reads).1 in
-    omega (arith, within, limit, length-drop next.reading.place f, ap (λ (t : List ℕ). length t) last)
 
 -- ---- a stream behind an answer
 
@@ -268,10 +203,10 @@ pub head_first : (file : List ℕ) (found : Option ℕ) (short : List (List ℕ)
     → MatchOption found (answer ≡ None) (λ n. (words : List (List ℕ)) → SameLine short words → answer ≡ answer_of words)
     → IsHeadRead file read next left
 head_first file None short next left read reads none is answer other answers =
-    let lines : full_lines file ≡ [] = reads.lines ∙ ap (lines_from next) none ∙ no_line_left next in
+    let lines : full_lines file ≡ [] = reads.lines ∙ ap (lines_from next) none ∙ no_lines next in
     record {
       head = is ∙ ap (head_among (end_line file)) (sym lines);
-      lines = ap (lines_from next) none ∙ no_line_left next ∙ ap behind_head (sym lines);
+      lines = ap (lines_from next) none ∙ no_lines next ∙ ap behind_head (sym lines);
       end = omega (arith, reads.count);
       behind = λ head ok. cc (is, ok);
     }
@@ -318,7 +253,7 @@ head_second file (Some n) found short other middle next between left answer read
         (λ n. (words : List (List ℕ)) → SameLine other words → read ≡ head_in (Some answer) (record { number = n; words = words }))
         → IsHeadRead file read next left
     by_found None two none reads =
-        let rest : lines_from next left ≡ [] = ap (lines_from next) none ∙ no_line_left next in
+        let rest : lines_from next left ≡ [] = ap (lines_from next) none ∙ no_lines next in
         let ls : lines_from middle between ≡ [] = two.lines ∙ rest in
         let last : next ≡ end_line file = omega (arith, one.count, two.count, ap (λ t. length (cut t)) none, none_cut) in
         record {
@@ -413,38 +348,3 @@ second_answered (Some f) now old middle next first found short other read result
     (head_second f first found short other middle.number next.number (left_of middle.reading f) (left_of next.reading f) answer read
     (one r).0
     answers (finds now_reads).0 (finds now_reads).1 head).head holds
-
--- a file of which nothing was read
-pub reads_new : (file : List ℕ) (reading : Reading) (limit : ℕ) → reading ≡ record { limit = limit; place = 0; kept = []; ended = false }
-    → Reads reading file
-reads_new file reading limit is =
-    subst (λ (r : Reading). Reads r file) (sym is) (record { within = omega arith; kept = refl; whole = λ ended. cc })
-
--- the stream that begins behind the head
-pub starts_told : (file : Option (List ℕ)) (old : LinesReading) (stream : Streamed) (limit : ℕ)
-    → old.reading ≡ record { limit = limit; place = 0; kept = []; ended = false }
-    → stream.given ≡ 0 → stream.denied ≡ false
-    → IfSome file (λ f. Reads old.reading f → head_of_text f ≡ Ok stream.head)
-    → IfSome file (λ f. Reads old.reading f → Reads stream.lines.reading f)
-    → IfSome file (λ f. Reads old.reading f → (lines_from stream.lines.number (left_of stream.lines.reading f) ≡ behind_head (full_lines f))
-    × (end_behind stream.lines.number (left_of stream.lines.reading f) ≡ end_line f) × (1 < stream.lines.number))
-    → IfSome file (IsIn stream)
-starts_told None old stream limit new none undenied head reads left = tt
-starts_told (Some f) old stream limit new none undenied head reads left =
-    let begun : Reads old.reading f = reads_new f old.reading limit new in
-    record {
-      reads = reads begun;
-      head = head begun;
-      lines = λ d. (left begun).0 ∙ ap (λ n. drop n (behind_head (full_lines f))) (sym none);
-      end = λ d. (left begun).1;
-      behind = (left begun).2;
-      denial = λ m. undenied;
-    }
-
--- or the refusal
-pub stops_told : (file : Option (List ℕ)) (old : LinesReading) (limit : ℕ) (end : StreamEnd)
-    → old.reading ≡ record { limit = limit; place = 0; kept = []; ended = false }
-    → IfSome file (λ f. Reads old.reading f → IsAnswer {A = CertHead} (Err end) (head_of_text f))
-    → IfSome file (λ f. IsAnswer {A = CertHead} (Err end) (head_of_text f))
-stops_told None old limit end new holds = tt
-stops_told (Some f) old limit end new holds = holds (reads_new f old.reading limit new)

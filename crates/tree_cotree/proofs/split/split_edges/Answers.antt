@@ -78,7 +78,6 @@ turn_round-requires-clause-tree c =
 
 pub turn_round-requires-clause-each_face : goal.turn_round-requires-clause-each_face
 turn_round-requires-clause-each_face c =
-    let s : OrientedMesh = c.args.surface.now in
     let searched = c.in_ok-face_parents.ensures in
     ap (λ (ds : List (Option ℕ)). length ds) c.deref_mut.ensures.value ∙ searched.is_order.long ∙ c.len-faces.ensures.count
     ∙ ap (λ (m : FaceList). length m.faces) c.faces.ensures.mesh
