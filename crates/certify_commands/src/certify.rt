@@ -26,7 +26,7 @@ use surface_commands::read_surface;
 use tree_cotree::split_edges;
 
 /// What lists of moves are made for.
-const LIMITS: Limits = Limits {
+pub const CERTIFY_LIMITS: Limits = Limits {
     sides: MOST_LIFTED_SIDES,
     darts: MOST_LIFTED_DARTS,
 };
@@ -45,7 +45,7 @@ pub fn certify<S: Shelf>(
     let pair = read_pair(alloc, shelf, walks, &surface.sides)?;
     let first = pair.at(0);
     let second = pair.at(1);
-    LIMITS.check("certify", &surface.faces, first, second)?;
+    CERTIFY_LIMITS.check("certify", &surface.faces, first, second)?;
     let shown = find_certificate(alloc, surface, first, second)?;
     Ok(reply_with(shown))
 }

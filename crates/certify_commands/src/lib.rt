@@ -9,4 +9,4 @@
 pub mod certify;
 mod finding;
 
-pub use certify::find_certificate;
+pub use certify::{CERTIFY_LIMITS, find_certificate};

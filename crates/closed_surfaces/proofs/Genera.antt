@@ -12,9 +12,7 @@ use Rattle.surf_model.specs.Components.{EachTwoAreJoined, place_of_face}
 use Rattle.surf_model.specs.Edges.{Edge, IsTableOf}
 use Rattle.surf_model.specs.Surfaces.{IsSurface}
 use Rattle.surf_model.proofs.OneTableLemmas.{one_table}
-use Rattle.manifold_check.specs.ComponentNumbers as counts
 use Rattle.surf_model.specs.ComponentParts.{PartsView, AreParts, component_at, component_mesh}
-use Rattle.manifold_check.specs.declared.measuring.PartNumbers.{PartNumbers}
 use Rattle.manifold_check.proofs.PartPieces.{IsOfComponent, piece_of_parts, closed_alone}
 use Rattle.manifold_check.proofs.PieceSides.{valid_alone}
 use Rattle.manifold_check.proofs.PieceSurfaces.{coherent_alone}
@@ -33,29 +31,6 @@ use Rattle.closed_surfaces.specs.declared.component.Part.{Part}
 use Rattle.surf_model.specs.declared.numbers.SurfaceNumbers.{SurfaceNumbers}
 
 -- ---- numbers
-
-same_map : (xs : List ℕ) → map (λ (x : ℕ). x) xs ≡ xs
-same_map [] = refl
-same_map (x ∷ xs) = ap (λ (ys : List ℕ). x ∷ ys) (same_map xs)
-
--- how many numbers pass is the length of the list of those that do
-pub counted : (test : ℕ → Bool) (n : ℕ) → count_below test n ≡ length (filter test (range_with_len 0 n))
-counted test zero = refl
-counted test (suc n) =
-    let passing : List ℕ = filter test (range_with_len 0 n) in
-    let more : filter test (range_with_len 0 (n + 1)) ≡ passing ++ cond (test n) (n ∷ []) [] =
-    ap (filter test) (sym (same_map (range_with_len 0 (n + 1))))
-    ∙ filter_of_map_range_with_len_more test (λ (x : ℕ). x) 0 n n (omega arith)
-    ∙ ap (λ (ys : List ℕ). filter test ys ++ cond (test n) (n ∷ []) []) (same_map (range_with_len 0 n)) in
-    let size : length (filter test (range_with_len 0 (n + 1))) ≡ length passing + cond (test n) 1 0 =
-    ap (λ (ys : List ℕ). length ys) more ∙ length-append passing (cond (test n) (n ∷ []) [])
-    ∙ ap (λ (k : ℕ). length passing + k) (last (test n)) in
-    ap (λ (k : ℕ). k + cond (test n) 1 0) (counted test n) ∙ sym size
-    ∙ ap (λ (m : ℕ). length (filter test (range_with_len 0 m))) (add-one n)
-  where
-    last : (b : Bool) → length (cond b (n ∷ []) []) ≡ cond b 1 0
-    last true = refl
-    last false = refl
 
 -- the numbers of a mesh, by its table
 abbrev pub numbers_with : FaceList → List Edge → SurfaceNumbers
@@ -103,25 +78,19 @@ one_genus mesh g h p q =
     one_half g h (p.2 ∙ ap (λ (n : SurfaceNumbers). n.euler) (one_numbers mesh p.0 q.0 p.1 q.1) ∙ sym q.2)
 
 -- counts of a mesh that give a genus
-pub counts_give : (mesh : FaceList) (numbers : PartNumbers) (g : ℕ) → IsFaceList mesh → counts.AreNumbersOf mesh numbers
-    → IsGenusOf numbers g → HasGenus mesh g
-counts_give mesh numbers g valid are is =
-    let table = some_table mesh valid in
-    let count : count_below (is_used mesh) mesh.count + length mesh.faces + 2 * g ≡ length table.0 + 2 =
-    omega (arith, is, are.vertices, counted (is_used mesh) mesh.count, are.edges table.0 table.1, are.faces) in (
-      numbers_with mesh table.0,
-      are_numbers mesh table.0 table.1,
-      genus_from (count_below (is_used mesh) mesh.count) (length table.0) (length mesh.faces) g count,
-    )
+pub counts_give : (mesh : FaceList) (numbers : SurfaceNumbers) (g : ℕ) → AreNumbersOf mesh numbers → IsGenusOf numbers g
+    → HasGenus mesh g
+counts_give mesh numbers g are is =
+    (numbers, are, genus_from numbers.vertices numbers.edges numbers.faces g is ∙ sym are.euler)
 
 -- the counts of a connected surface do
-pub genus_by_counts : (mesh : FaceList) (numbers : PartNumbers) → IsFaceList mesh → IsSurface mesh → counts.AreNumbersOf mesh numbers
+pub genus_by_counts : (mesh : FaceList) (numbers : SurfaceNumbers) → IsFaceList mesh → IsSurface mesh → AreNumbersOf mesh numbers
     → (g : ℕ) × IsGenusOf numbers g
 genus_by_counts mesh numbers valid is are =
-    let found = table_and_genus mesh valid is in (
-      found.2,
-      omega (arith, found.3, are.vertices, counted (is_used mesh) mesh.count, are.edges found.0 found.1, are.faces),
-    )
+    let found = table_and_genus mesh valid is in
+    let edges : numbers.edges ≡ length found.0 =
+    are.edges ∙ ap (λ (t : List Edge). length t) (one_table mesh are.table found.0 are.is_table found.1) in
+    (found.2, omega (arith, found.3, are.vertices, edges, are.faces))
 
 some_genus : (mesh : FaceList) → IsFaceList mesh → IsSurface mesh → (g : ℕ) × HasGenus mesh g
 some_genus mesh valid is =

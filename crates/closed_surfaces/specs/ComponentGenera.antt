@@ -3,10 +3,10 @@ use Rattle.surf_model.specs.Genera.{HasGenus}
 use Rattle.std.specs.Prelude.{◌≡◌, ℕ, ◌+◌, ◌*◌, ◌<◌, List, length, slice_index}
 use Rattle.surf_model.specs.FaceLists.{FaceList}
 use Rattle.surf_model.specs.ComponentParts.{PartsView, AreParts, component_mesh}
-use Rattle.manifold_check.specs.declared.measuring.PartNumbers.{PartNumbers}
+use Rattle.surf_model.specs.declared.numbers.SurfaceNumbers.{SurfaceNumbers}
 
 -- the counts are those of a connected surface of this genus: V + F + 2 g is E + 2
-abbrev pub IsGenusOf : PartNumbers → ℕ → Type 0
+abbrev pub IsGenusOf : SurfaceNumbers → ℕ → Type 0
 IsGenusOf numbers genus = numbers.vertices + numbers.faces + 2 * genus ≡ numbers.edges + 2
 
 -- the genus of each component, in the order of the components

@@ -1,46 +1,23 @@
 //! How many vertices, edges and faces a mesh has, and the genus of each component of a surface.
-ghost use Rattle.std.specs.Prelude.{◌≡◌, ℕ, IfOk};
-ghost use Rattle.surf_model.specs.FaceLists.{is_used};
+ghost use Rattle.std.specs.Prelude.{ℕ, IfOk};
 ghost use Rattle.surf_model.specs.ComponentParts.{AreParts};
 ghost use Rattle.surf_model.specs.Edges.{IsTableOf};
 ghost use Rattle.surf_model.specs.Genera.{AreNumbersOf};
-ghost use Rattle.surf_model.specs.Numbers.{count_below};
 ghost use Rattle.closed_surfaces.specs.ComponentGenera.{AreGeneraOf, IsGenusOf};
 ghost use Rattle.closed_surfaces.specs.SignedSurfaces.{IsSigned};
 
 use crate::signed_mesh::SignedMesh;
-use manifold_check::{PartNumbers, Parts};
+use halfedge_map::used_vertices;
+use manifold_check::Parts;
 use std::alloc::{AllocError, Global};
-use surf_model::{Faces, Sides, SurfaceNumbers, VertexName};
+use surf_model::{Faces, Sides, SurfaceNumbers};
 
 /// The numbers of a mesh with this table.
 pub fn numbers_of(faces: &Faces, sides: &Sides) -> SurfaceNumbers
     requires { IsTableOf faces.now sides.now }
     ensures { AreNumbersOf faces.now result }
 {
-    let vertices = used_vertices(faces, sides);
-    let edges = sides.len();
-    let faces = faces.len();
-    SurfaceNumbers {
-        vertices,
-        edges,
-        faces,
-        euler: i64::from(vertices) - i64::from(edges) + i64::from(faces),
-    }
-}
-
-/// How many vertices some face names.
-fn used_vertices(faces: &Faces, sides: &Sides) -> u32
-    requires { IsTableOf faces.now sides.now }
-    ensures { result ≡ count_below (is_used faces.now) faces.now.count }
-{
-    let mut used = 0;
-    for vertex in 0..faces.count() {
-        if sides.used(VertexName(vertex)) {
-            used += 1;
-        }
-    }
-    used
+    SurfaceNumbers::of(used_vertices(faces, sides), sides.len(), faces.len())
 }
 
 /// The genus of each component of a surface, from numbers that are counted for all components at once.
@@ -59,7 +36,7 @@ pub fn genera_of(alloc: Global, surface: &SignedMesh, parts: &Parts) -> Result<V
 }
 
 /// The genus of a component: half of 2 less its Euler characteristic.
-fn genus_of(numbers: PartNumbers) -> u32
+fn genus_of(numbers: SurfaceNumbers) -> u32
     requires { (genus : ℕ) × IsGenusOf numbers genus }
     ensures { IsGenusOf numbers result }
 {

@@ -1,38 +1,40 @@
 -- How the limits of a command that makes lists of moves are kept, and what is refused beyond them.
-use Rattle.std.proofs.Common.{◌≡◌, ℕ, ◌+◌, ◌<◌, ◌≤◌, Bool, true, false, List, [], ◌∷◌, codes, decimal, refl, subst, arith}
+use Rattle.std.proofs.Common.{◌≡◌, ℕ, ◌+◌, ◌<◌, ◌≤◌, Bool, true, false, List, refl, ap, arith}
 use Rattle.std.specs.Prelude.{nat_lt, if◌then◌else◌, Option, Some, None}
+use Rattle.std.specs.Option.{option_map}
 use Rattle.std.proofs.lemmas.Bool.Decides.{nat_tests}
 use Rattle.surf_model.specs.FaceLists.{FaceList, total_sides}
 use Rattle.surf_model.specs.Walks.{darts}
-use Rattle.commands.specs.Answers.{Exactly}
-use Rattle.commands.specs.Limits.{FitsLimits, IsRefusedBeyond, sides_line, darts_line, limit_line}
-use Rattle.commands.specs.Refusals.{told}
-use Rattle.commands.specs.Stops.{Tells}
+use Rattle.commands.specs.Limits.{FitsLimits, IsRefusedBeyond, first_over, over_line, sides_line, darts_line, limit_line}
 use Rattle.commands.specs.declared.limits.Limits.{Limits}
+use Rattle.commands.specs.declared.limits.OverLimit.TheVariants.{Sides, Darts}
 use Rattle.commands.specs.declared.status.Status.{Status}
 use Rattle.commands.specs.declared.status.Status.TheVariants.{Refused}
-use Rattle.commands.specs.declared.stop.Stop.{Stop}
+
+module _ (limits : Limits) (mesh : FaceList) (first second : List ℕ) where
+  -- what is over its limit, by the numbers that were counted
+  pub sides_over : (sides : ℕ) → sides ≡ total_sides mesh → limits.sides < sides
+      → Some (Sides sides) ≡ first_over limits mesh first second
+  sides_over sides is many =
+      let test : nat_lt limits.sides (total_sides mesh) ≡ true = grind (arith, nat_tests) in
+      rw test (ap (λ (n : ℕ). Some (Sides n)) is)
+
+  pub darts_over : (sides number : ℕ) → sides ≡ total_sides mesh → sides ≤ limits.sides → number ≡ darts first + darts second
+      → limits.darts < number → Some (Darts number) ≡ first_over limits mesh first second
+  darts_over sides number is few number_is many =
+      let short : nat_lt limits.sides (total_sides mesh) ≡ false = grind (arith, nat_tests) in
+      let test : nat_lt limits.darts (darts first + darts second) ≡ true = grind (arith, nat_tests) in
+      rw (short, test) (ap (λ (n : ℕ). Some (Darts n)) number_is)
+
+  -- nothing is, by the two facts
+  pub nothing_over : (sides number : ℕ) → sides ≡ total_sides mesh → sides ≤ limits.sides → number ≡ darts first + darts second
+      → number ≤ limits.darts → None ≡ first_over limits mesh first second
+  nothing_over sides number is few number_is short =
+      let sides : nat_lt limits.sides (total_sides mesh) ≡ false = grind (arith, nat_tests) in
+      let darts : nat_lt limits.darts (darts first + darts second) ≡ false = grind (arith, nat_tests) in
+      rw (sides, darts) refl
 
 module _ (limits : Limits) (word : List ℕ) (mesh : FaceList) (first second : List ℕ) where
-  -- the refusals, by the numbers that were counted
-  pub sides_over : (sides : ℕ) (stop : Stop) → sides ≡ total_sides mesh → limits.sides < sides
-      → Tells (told (word ∷ codes "sides" ∷ decimal sides ∷ [])) stop
-      → (line : List ℕ) × (limit_line limits word mesh first second ≡ Some line) × Tells (Exactly line) stop
-  sides_over sides stop is many h =
-      let test : nat_lt limits.sides (total_sides mesh) ≡ true = grind (arith, nat_tests) in
-      (sides_line word mesh, rw test refl, subst (λ (n : ℕ). Tells (told (word ∷ codes "sides" ∷ decimal n ∷ [])) stop) is h)
-
-  pub darts_over : (sides number : ℕ) (stop : Stop) → sides ≡ total_sides mesh → sides ≤ limits.sides
-      → number ≡ darts first + darts second → limits.darts < number → Tells (told (word ∷ codes "darts" ∷ decimal number ∷ [])) stop
-      → (line : List ℕ) × (limit_line limits word mesh first second ≡ Some line) × Tells (Exactly line) stop
-  darts_over sides number stop is few number_is many h =
-      let short : nat_lt limits.sides (total_sides mesh) ≡ false = grind (arith, nat_tests) in
-      let test : nat_lt limits.darts (darts first + darts second) ≡ true = grind (arith, nat_tests) in (
-        darts_line word first second,
-        rw (short, test) refl,
-        subst (λ (n : ℕ). Tells (told (word ∷ codes "darts" ∷ decimal n ∷ [])) stop) number_is h,
-      )
-
   -- what fits passes, by the two facts
   pub none_over : total_sides mesh ≤ limits.sides → darts first + darts second ≤ limits.darts
       → limit_line limits word mesh first second ≡ None
@@ -46,13 +48,14 @@ module _ (limits : Limits) (word : List ℕ) (mesh : FaceList) (first second : L
   fitting e = by_sides (nat_lt limits.sides (total_sides mesh)) refl e
     where
       by_darts : (b : Bool) → nat_lt limits.darts (darts first + darts second) ≡ b
-          → (if b then Some (darts_line word first second) else None) ≡ None → darts first + darts second ≤ limits.darts
+          → option_map (over_line word) (if b then Some (Darts (darts first + darts second)) else None) ≡ None
+          → darts first + darts second ≤ limits.darts
       by_darts true t f = cc
       by_darts false t f = grind (arith, nat_tests)
 
       by_sides : (b : Bool) → nat_lt limits.sides (total_sides mesh) ≡ b
-          → (if b then Some (sides_line word mesh)
-          else if nat_lt limits.darts (darts first + darts second) then Some (darts_line word first second) else None) ≡ None
+          → option_map (over_line word) (if b then Some (Sides (total_sides mesh))
+          else if nat_lt limits.darts (darts first + darts second) then Some (Darts (darts first + darts second)) else None) ≡ None
           → FitsLimits limits mesh first second
       by_sides true t f = cc
       by_sides false t f =

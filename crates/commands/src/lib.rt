@@ -35,7 +35,7 @@ mod word_lines;
 
 pub use certificate::{Certificate, MOST_SHOWN_PEAK, MOST_SPHERE_MOVES};
 pub use inputs::{MOST_BYTES, read_file, read_list, read_mesh, read_pair};
-pub use limits::Limits;
+pub use limits::{Limits, OverLimit};
 pub use line::{Line, MOST_OTHERS, Phrase};
 pub use refusal::{Input, refused, refused_at, refused_at_place};
 pub use reply::{Reply, give};

@@ -1,8 +1,7 @@
 //! How large a surface and two walks of it may be, for a command that makes lists of moves.
-ghost use Rattle.std.specs.Prelude.{◌≡◌, ℕ, List, [], ◌∷◌, decimal, Some, None, MatchResult};
+ghost use Rattle.std.specs.Prelude.{◌≡◌, ℕ, List, Some, None, MatchResult};
 ghost use Rattle.commands.specs.Answers.{Exactly};
-ghost use Rattle.commands.specs.Limits.{limit_line};
-ghost use Rattle.commands.specs.Refusals.{told};
+ghost use Rattle.commands.specs.Limits.{first_over, limit_line, over_line};
 ghost use Rattle.commands.specs.Stops.{Tells};
 
 use crate::line::Phrase;
@@ -17,8 +16,32 @@ pub struct Limits {
     pub darts: u32,
 }
 
+/// What is over its limit, and its number.
+#[derive(Clone, Copy, Debug, PartialEq, Eq)]
+pub enum OverLimit {
+    /// The surface has so many sides.
+    Sides(u32),
+    /// The two walks together have so many darts.
+    Darts(u32),
+}
+
 impl Limits {
-    /// Checks that a surface and two walks of it are not too large: the sides first, and then the darts. A refusal begins with the word.
+    /// What of a surface and two walks of it is first over its limit: the sides, and then the darts.
+    pub fn first_over(self, faces: &Faces, first: &Walk, second: &Walk) -> Option<OverLimit>
+        ensures { result ≡ first_over self faces.now first.now second.now }
+    {
+        let sides = faces.total();
+        if sides > self.sides {
+            return Some(OverLimit::Sides(sides));
+        }
+        let darts = first.darts() + second.darts();
+        if darts > self.darts {
+            return Some(OverLimit::Darts(darts));
+        }
+        None
+    }
+
+    /// Checks that a surface and two walks of it are not too large. A refusal begins with the word.
     pub fn check(
         self,
         word: &'static str,
@@ -29,25 +52,26 @@ impl Limits {
         ensures { MatchResult result (λ _. limit_line self word.now faces.now first.now second.now ≡ None)
             (λ stop. (line : List ℕ) × (limit_line self word.now faces.now first.now second.now ≡ Some line) × Tells (Exactly line) stop) }
     {
-        let sides = faces.total();
-        if sides > self.sides {
-            return Err(over(word, "sides", sides));
+        match self.first_over(faces, first, second) {
+            None => Ok(()),
+            Some(over) => Err(over.refusal(word)),
         }
-        let darts = first.darts() + second.darts();
-        if darts > self.darts {
-            return Err(over(word, "darts", darts));
-        }
-        Ok(())
     }
 }
 
-/// A refusal for a number that is over its limit.
-fn over(word: &'static str, what: &'static str, number: u32) -> Stop
-    ensures { Tells (told (word.now ∷ what.now ∷ decimal number ∷ [])) result }
-{
-    refused(&[
-        Phrase::Text(word),
-        Phrase::Text(what),
-        Phrase::Number(number as u64),
-    ])
+impl OverLimit {
+    /// The refusal for it, which begins with the word.
+    fn refusal(self, word: &'static str) -> Stop
+        ensures { Tells (Exactly (over_line word.now self)) result }
+    {
+        let (what, number) = match self {
+            OverLimit::Sides(sides) => ("sides", sides),
+            OverLimit::Darts(darts) => ("darts", darts),
+        };
+        refused(&[
+            Phrase::Text(word),
+            Phrase::Text(what),
+            Phrase::Number(number as u64),
+        ])
+    }
 }

@@ -14,13 +14,12 @@ use Rattle.surf_model.specs.declared.limits.TheConstants.{MOST_SIDES}
 use Rattle.surf_model.specs.declared.names.VertexName.{VertexName}
 use Rattle.surf_model.proofs.FilterLemmas.{map_agree}
 use Rattle.surf_model.proofs.EdgeLemmas.{corner_used}
-use Rattle.manifold_check.specs.ComponentNumbers.{used_number}
 use Rattle.surf_model.specs.ComponentParts.{PartsView, AreParts, component_at, component_mesh}
 use Rattle.manifold_check.proofs.MeasureLemmas.{place_of_used}
 use Rattle.manifold_check.proofs.PartPieces.{IsOfComponent, piece_of_parts}
 use Rattle.manifold_check.proofs.PieceLemmas.{IsPiece, face-submesh, length-submesh, used_up, used_down}
 use Rattle.manifold_check.proofs.PieceSides.{valid_alone, small_alone}
-use Rattle.component_deciding.specs.OwnVertices.{AreOwnNumbers, own_mesh, own_number, own_walk}
+use Rattle.component_deciding.specs.OwnVertices.{AreOwnNumbers, own_mesh, own_number, own_walk, used_number}
 use Rattle.component_deciding.specs.declared.own_numbers.OwnNumbers.{OwnNumbers}
 use Rattle.component_deciding.proofs.OwnLemmas.{own_renamed}
 use Rattle.renaming.proofs.RenamedSides.{total_renamed, valid_renamed}

@@ -10,8 +10,7 @@ use Rattle.std.proofs.lemmas.List.Sums.{length-filter, count_by-le-length}
 use Rattle.surf_model.specs.FaceLists.{FaceList, IsFaceList, is_used}
 use Rattle.surf_model.proofs.EdgeLemmas.{used_below}
 use Rattle.connectivity.proofs.Forests.{range_more}
-use Rattle.manifold_check.specs.ComponentNumbers.{used_number}
-use Rattle.component_deciding.specs.OwnVertices.{own_number, own_mesh}
+use Rattle.component_deciding.specs.OwnVertices.{own_number, own_mesh, used_number}
 use Rattle.renaming.specs.Renamings.{IsRenamed}
 
 -- the numbers below n that pass

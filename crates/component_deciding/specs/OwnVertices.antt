@@ -2,13 +2,16 @@
 use Rattle.std.specs.Prelude.{◌≡◌, ℕ, ◌<◌, List, length, map, filter, slice_index, IsTrue}
 use Rattle.std.specs.List.{range_with_len}
 use Rattle.surf_model.specs.FaceLists.{FaceList, IsFaceList, HasFileSize, is_used}
-use Rattle.manifold_check.specs.ComponentNumbers.{used_number}
 use Rattle.surf_model.specs.ComponentParts.{PartsView, component_mesh}
 use Rattle.component_deciding.specs.declared.own_numbers.OwnNumbers.{OwnNumbers}
 
 -- the number of a vertex among those that a mesh uses: how many of them come before it
 unfoldable pub own_number : FaceList → ℕ → ℕ
 own_number mesh v = length (filter (is_used mesh) (range_with_len 0 v))
+
+-- how many vertices a mesh uses
+abbrev pub used_number : FaceList → ℕ
+used_number mesh = length (filter (is_used mesh) (range_with_len 0 mesh.count))
 
 -- a walk by these numbers
 abbrev pub own_walk : FaceList → List ℕ → List ℕ

@@ -132,8 +132,8 @@ fn push_starts(
     Ok(())
 }
 
-/// The number of used vertices.
-pub(crate) fn used_vertices(faces: &Faces, sides: &Sides) -> u32
+/// How many vertices some face of the mesh with this table names.
+pub fn used_vertices(faces: &Faces, sides: &Sides) -> u32
     requires { IsTableOf faces.now sides.now }
     ensures { result ≡ count_below (is_used faces.now) faces.now.count }
 {

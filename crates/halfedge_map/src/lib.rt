@@ -11,4 +11,5 @@ mod darts;
 pub mod laws;
 pub mod surface;
 
+pub use darts::used_vertices;
 pub use surface::Surface;

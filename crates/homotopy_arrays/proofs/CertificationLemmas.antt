@@ -1,13 +1,14 @@
 -- Certificates, from their parts.
-use Rattle.std.proofs.Common.{◌≡◌, ◌⊎◌, ◌+◌, ◌<◌, ◌≤◌, ℕ, List, sym, ap, subst, ◌∙◌, inl, inr}
-use Rattle.std.specs.Prelude.{MatchResult, Result, Ok, Err}
-use Rattle.surf_model.specs.FaceLists.{FaceList, total_sides}
-use Rattle.surf_model.specs.Walks.{darts}
-use Rattle.move_lifting.specs.declared.expanding.TheConstants.{MOST_LIFTED_SIDES, MOST_LIFTED_DARTS}
+use Rattle.std.proofs.Common.{◌≡◌, ◌⊎◌, ℕ, List, sym, ap, ◌∙◌, inl, inr}
+use Rattle.std.specs.Option.{option_map}
+use Rattle.std.specs.Prelude.{MatchResult, Option, None, Result, Ok, Err}
+use Rattle.surf_model.specs.FaceLists.{FaceList}
 use Rattle.certify_commands.proofs.Certifying.{convinces_decides}
 use Rattle.closed_surfaces.proofs.Components.{signed_surface}
 use Rattle.commands.specs.Certificates.{IsShown}
-use Rattle.certify_commands.specs.Certify.{IsWithinLimits}
+use Rattle.certify_commands.specs.Certify.{IsWithinLimits, certify_limits, limit_word}
+use Rattle.commands.proofs.LimitLemmas.{fitting}
+use Rattle.commands.specs.Limits.{first_over, over_line}
 use Rattle.closed_surfaces.specs.SignedSurfaces.{IsSigned}
 use Rattle.commands.specs.declared.certificate.Certificate.{Certificate}
 use Rattle.closed_surfaces.specs.declared.signed_mesh.SignedMesh.{SignedMesh}
@@ -15,20 +16,16 @@ use Rattle.homotopy_arrays.specs.Certifications.{Certifies, IsCertified, IsCerti
 use Rattle.homotopy_arrays.specs.Pairs.{AreWalks}
 use Rattle.homotopy_arrays.specs.Surfaces.{IsSurfaceFault, IsSurfaceOf, OfMesh}
 use Rattle.homotopy_arrays.specs.declared.certify.CertifyFault.{CertifyFault}
-use Rattle.homotopy_arrays.specs.declared.certify.CertifyFault.TheVariants.{Darts, Mesh, Sides}
+use Rattle.homotopy_arrays.specs.declared.certify.CertifyFault.TheVariants.{Mesh}
 use Rattle.homotopy_arrays.specs.declared.fault.Fault.{Fault}
 use Rattle.homotopy_arrays.specs.declared.fault.Fault.TheVariants.{OutOfMemory}
 
 -- ---- limits
 
-pub many_sides : (mesh : FaceList) (first second : List ℕ) (sides : ℕ) → sides ≡ total_sides mesh → MOST_LIFTED_SIDES < sides
-    → IsLimitFault mesh first second (Sides sides)
-many_sides mesh first second sides is many = inl (subst (λ (n : ℕ). MOST_LIFTED_SIDES < n) is many, ap Sides is)
-
-pub many_darts : (mesh : FaceList) (first second : List ℕ) (sides count : ℕ) → sides ≡ total_sides mesh → sides ≤ MOST_LIFTED_SIDES
-    → count ≡ darts first + darts second → MOST_LIFTED_DARTS < count → IsLimitFault mesh first second (Darts count)
-many_darts mesh first second sides count is few are many =
-    inr (subst (λ (n : ℕ). n ≤ MOST_LIFTED_SIDES) is few, subst (λ (n : ℕ). MOST_LIFTED_DARTS < n) are many, ap Darts are)
+-- what is within the limits, and what is not
+pub within : (mesh : FaceList) (first second : List ℕ) → None ≡ first_over certify_limits mesh first second
+    → IsWithinLimits mesh first second
+within mesh first second e = fitting certify_limits limit_word mesh first second (ap (option_map (over_line limit_word)) (sym e))
 
 -- ---- certificates
 

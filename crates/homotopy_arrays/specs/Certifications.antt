@@ -1,18 +1,18 @@
 -- How the question ends for a certificate of two walks.
-use Rattle.std.specs.Prelude.{◌≡◌, ◌⊎◌, ◌↔◌, ℕ, ◌+◌, ◌<◌, ◌≤◌, List, Some, Result, Err}
-use Rattle.surf_model.specs.FaceLists.{FaceList, total_sides}
+use Rattle.std.specs.Prelude.{◌≡◌, ◌⊎◌, ◌↔◌, ℕ, List, Some, Result, Err}
+use Rattle.surf_model.specs.FaceLists.{FaceList}
 use Rattle.surf_model.specs.Moves as moves
-use Rattle.surf_model.specs.Walks.{darts}
-use Rattle.move_lifting.specs.declared.expanding.TheConstants.{MOST_LIFTED_SIDES, MOST_LIFTED_DARTS}
 use Rattle.surf_model.specs.declared.decisions.Answer.TheVariants as deciding
 use Rattle.commands.specs.Certificates.{Convinces, IsPeakLow, IsShortOnSphere, decision_of}
-use Rattle.certify_commands.specs.Certify.{IsWithinLimits}
+use Rattle.certify_commands.specs.Certify.{IsWithinLimits, certify_limits}
 use Rattle.surf_model.specs.OrientableSurfaces.{IsOrientableSurface}
+use Rattle.commands.specs.Limits.{first_over}
 use Rattle.commands.specs.declared.certificate.Certificate.{Certificate}
+use Rattle.commands.specs.declared.limits.OverLimit.{OverLimit}
 use Rattle.homotopy_arrays.specs.Pairs.{AreWalks, walks_fault}
 use Rattle.homotopy_arrays.specs.Surfaces.{IsSurfaceFault, OfMesh}
 use Rattle.homotopy_arrays.specs.declared.certify.CertifyFault.{CertifyFault}
-use Rattle.homotopy_arrays.specs.declared.certify.CertifyFault.TheVariants.{Mesh, Walks, Sides, Darts}
+use Rattle.homotopy_arrays.specs.declared.certify.CertifyFault.TheVariants.{Mesh, Walks, Over}
 use Rattle.homotopy_arrays.specs.declared.fault.Fault.{Fault}
 use Rattle.homotopy_arrays.specs.declared.fault.Fault.TheVariants.{OutOfMemory}
 use Rattle.homotopy_arrays.specs.declared.pair.WalkFault.{WalkFault}
@@ -37,12 +37,10 @@ Certifies read first second shown = OfMesh read (λ mesh. IsOrientableSurface me
 abbrev pub no_memory : CertifyFault
 no_memory = Mesh OutOfMemory
 
--- the surface has too many sides; or it has not, and the walks have too many darts
+-- the surface or the walks are too large for lists of moves, and this is what is first over its limit
 abbrev pub IsLimitFault : FaceList → (first second : List ℕ) → CertifyFault → Type 0
 IsLimitFault mesh first second fault =
-    ((MOST_LIFTED_SIDES < total_sides mesh) × (fault ≡ Sides (total_sides mesh)))
-    ⊎ ((total_sides mesh ≤ MOST_LIFTED_SIDES) × (MOST_LIFTED_DARTS < darts first + darts second)
-    × (fault ≡ Darts (darts first + darts second)))
+    (over : OverLimit) × (first_over certify_limits mesh first second ≡ Some over) × (fault ≡ Over over)
 
 -- memory is wanting; or these are not two walks of the mesh with common ends; or they are, and something is too large
 abbrev pub IsFaultOfPair : FaceList → (first second : List ℕ) → CertifyFault → Type 0

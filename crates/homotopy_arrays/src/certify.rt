@@ -1,7 +1,6 @@
 //! Certificates for walks that lie in arrays.
 ghost use Rattle.std.specs.Prelude.{◌≡◌, ◌⊎◌, MatchResult, IfOk};
 ghost use Rattle.commands.specs.Certificates.{certificate_text};
-ghost use Rattle.certify_commands.specs.Certify.{IsWithinLimits};
 ghost use Rattle.closed_surfaces.specs.SignedSurfaces.{IsSigned};
 ghost use Rattle.homotopy_arrays.specs.Certifications.{Certifies, IsCertified, IsCertifyFault, IsFaultOfPair, IsLimitFault, no_memory};
 ghost use Rattle.homotopy_arrays.specs.MeshArrays.{mesh_in};
@@ -11,13 +10,12 @@ use crate::fault::Fault;
 use crate::mesh::MeshArrays;
 use crate::pair::{Checked, WalkFault, check_walks};
 use crate::surface::surface_of_arrays;
-use certify_commands::find_certificate;
+use certify_commands::{CERTIFY_LIMITS, find_certificate};
 use closed_surfaces::SignedMesh;
-use commands::{Certificate, Text, put_text};
-use move_lifting::{MOST_LIFTED_DARTS, MOST_LIFTED_SIDES};
+use commands::{Certificate, OverLimit, Text, put_text};
 use std::alloc::{AllocError, Global};
 use surf_io::MemorySink;
-use surf_model::{Faces, Walk};
+use surf_model::Walk;
 
 /// Why two walks have no certificate.
 #[derive(Clone, Copy, Debug, PartialEq, Eq)]
@@ -26,10 +24,8 @@ pub enum CertifyFault {
     Mesh(Fault),
     /// The two walks are no walks of the surface with common ends, for this fault.
     Walks(WalkFault),
-    /// The surface has so many sides, and lists of moves are made on fewer alone.
-    Sides { sides: u32 },
-    /// The walks together have so many darts, and lists of moves are made between fewer alone.
-    Darts { darts: u32 },
+    /// The surface or the walks are too large for lists of moves.
+    Over(OverLimit),
 }
 
 impl From<Fault> for CertifyFault {
@@ -95,23 +91,10 @@ fn certify_walks(
     ensures { MatchResult result (IsCertified surface.faces first.now second.now)
         (λ fault. (fault ≡ no_memory) ⊎ IsLimitFault surface.faces first.now second.now fault) }
 {
-    check_limits(&surface.faces, first, second)?;
-    Ok(find_certificate(alloc, surface, first, second)?)
-}
-
-/// Checks that lists of moves may be made on the surface and between the walks.
-fn check_limits(faces: &Faces, first: &Walk, second: &Walk) -> Result<(), CertifyFault>
-    ensures { MatchResult result (λ _. IsWithinLimits faces.now first.now second.now) (IsLimitFault faces.now first.now second.now) }
-{
-    let sides = faces.total();
-    if sides > MOST_LIFTED_SIDES {
-        return Err(CertifyFault::Sides { sides });
+    match CERTIFY_LIMITS.first_over(&surface.faces, first, second) {
+        None => Ok(find_certificate(alloc, surface, first, second)?),
+        Some(over) => Err(CertifyFault::Over(over)),
     }
-    let darts = first.darts() + second.darts();
-    if darts > MOST_LIFTED_DARTS {
-        return Err(CertifyFault::Darts { darts });
-    }
-    Ok(())
 }
 
 /// The text that the command `certify` prints of a certificate.

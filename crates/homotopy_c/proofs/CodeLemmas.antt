@@ -3,6 +3,7 @@ use Rattle.std.proofs.Common.{◌≡◌, ◌≢◌, ◌<◌, ℕ, true, false, s
 use Rattle.walk_files.specs.declared.fault.CertFault.TheVariants as certificates
 use Rattle.walk_files.specs.declared.fault.CertFault.{CertFault}
 use Rattle.walk_files.specs.declared.pair.PairFault.TheVariants.{NotTwo, NoVertex, NoEdge, EndsDiffer}
+use Rattle.commands.specs.declared.limits.OverLimit.TheVariants as limits
 use Rattle.homotopy_arrays.specs.declared.certify.CertifyFault.{CertifyFault}
 use Rattle.homotopy_arrays.specs.declared.certify.CertifyFault.TheVariants as certify
 use Rattle.homotopy_arrays.specs.declared.fault.Fault.{Fault}
@@ -52,8 +53,8 @@ walks_code (Pair (EndsDiffer false)) = omega arith
 pub certify_code : (fault : CertifyFault) → codes.ACCEPTED < (told_certify fault).code
 certify_code (certify.Mesh fault) = fault_code fault
 certify_code (certify.Walks fault) = walks_code fault
-certify_code (certify.Sides sides) = omega arith
-certify_code (certify.Darts darts) = omega arith
+certify_code (certify.Over (limits.Sides sides)) = omega arith
+certify_code (certify.Over (limits.Darts darts)) = omega arith
 
 pub certificate_code : (fault : CertFault) → codes.ACCEPTED < (told_certificate fault).code
 certificate_code certificates.NoHead = omega arith

@@ -4,9 +4,10 @@ use Rattle.surf_model.specs.FaceLists.{FaceList}
 use Rattle.commands.specs.Certificates.{certificate_text}
 use Rattle.commands.specs.declared.certificate.Certificate.{Certificate}
 use Rattle.commands.specs.declared.certificate.Certificate.TheVariants.{Moves, Denial}
+use Rattle.commands.specs.declared.limits.OverLimit.TheVariants.{Sides, Darts}
 use Rattle.homotopy_arrays.specs.Certifications.{Certifies, IsCertifyFault}
 use Rattle.homotopy_arrays.specs.declared.certify.CertifyFault.{CertifyFault}
-use Rattle.homotopy_arrays.specs.declared.certify.CertifyFault.TheVariants.{Mesh, Walks, Sides, Darts}
+use Rattle.homotopy_arrays.specs.declared.certify.CertifyFault.TheVariants.{Mesh, Walks, Over}
 use Rattle.homotopy_arrays.specs.declared.fault.Fault.{Fault}
 use Rattle.homotopy_c.specs.Outcomes.{coded, told, told_walks}
 use Rattle.homotopy_c.specs.Told.{in_front}
@@ -22,8 +23,8 @@ code_of (Denial denial) = codes.DIFFERENT
 abbrev pub told_certify : CertifyFault → Outcome
 told_certify (Mesh fault) = told fault
 told_certify (Walks fault) = told_walks fault
-told_certify (Sides sides) = coded codes.CERTIFY_SIDES sides 0 0
-told_certify (Darts darts) = coded codes.CERTIFY_DARTS darts 0 0
+told_certify (Over (Sides sides)) = coded codes.CERTIFY_SIDES sides 0 0
+told_certify (Over (Darts darts)) = coded codes.CERTIFY_DARTS darts 0 0
 
 -- The text stands in front of the array, and its answer is told with its length; where there is too little room the array is as it was, and
 -- the length that is wanted is told, with the answer.

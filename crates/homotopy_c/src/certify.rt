@@ -5,7 +5,7 @@ ghost use Rattle.homotopy_c.specs.Certified.{IsCertifyCall, IsShownPut, IsTextPu
 
 use crate::codes;
 use crate::outcome::{Outcome, coded, told, told_walks};
-use commands::Certificate;
+use commands::{Certificate, OverLimit};
 use homotopy_arrays::{CertifyFault, MeshArrays, certify_arrays, text_of};
 use std::alloc::Global;
 
@@ -78,7 +78,11 @@ fn told_certify(fault: CertifyFault) -> Outcome
     match fault {
         CertifyFault::Mesh(fault) => told(fault),
         CertifyFault::Walks(fault) => told_walks(fault),
-        CertifyFault::Sides { sides } => coded(codes::CERTIFY_SIDES, u64::from(sides), 0, 0),
-        CertifyFault::Darts { darts } => coded(codes::CERTIFY_DARTS, u64::from(darts), 0, 0),
+        CertifyFault::Over(OverLimit::Sides(sides)) => {
+            coded(codes::CERTIFY_SIDES, u64::from(sides), 0, 0)
+        }
+        CertifyFault::Over(OverLimit::Darts(darts)) => {
+            coded(codes::CERTIFY_DARTS, u64::from(darts), 0, 0)
+        }
     }
 }

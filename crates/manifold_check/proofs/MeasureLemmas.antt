@@ -1,11 +1,11 @@
 -- The vertices and the edges of each component, counted as those of the whole mesh are gone through.
-use Rattle.std.proofs.Common.{◌≡◌, ◌≢◌, ◌⊎◌, inl, inr, ℕ, ◌+◌, ◌<◌, Bool, true, false, eqb, cond, List, [], length, get_or, set, refl, ap, sym, ◌∙◌, subst, arith}
+use Rattle.std.proofs.Common.{◌≡◌, ◌≢◌, ◌⊎◌, inl, inr, ℕ, zero, suc, ◌+◌, ◌<◌, Bool, true, false, eqb, cond, List, [], ◌∷◌, length, get_or, set, refl, ap, sym, ◌∙◌, subst, arith, add-one, length-append}
 use Rattle.std.specs.Prelude.{Contains, filter, map}
 use Rattle.std.specs.List.{range_with_len}
 use Rattle.std.proofs.lemmas.Bool.{cases_Bool, both_ways, eq-eqb, eqb-true}
 use Rattle.std.proofs.lemmas.Bool.Decides.{nat_tests}
 use Rattle.std.proofs.lemmas.List.{ext_get_or, length-map, get_or-map, get_or_default}
-use Rattle.std.proofs.lemmas.List.Elements.{All-filter, All-map, filter_agree, filter_passes}
+use Rattle.std.proofs.lemmas.List.Elements.{All-filter, All-map, filter-append, filter_agree, filter_passes}
 use Rattle.std.proofs.lemmas.List.Kept.{AllPairs-filter}
 use Rattle.std.proofs.lemmas.List.FromFn.{length-map-range_with_len, get_or-map-range_with_len}
 use Rattle.surf_model.specs.FaceLists.{FaceList, FaceSide, all_sides, joins, is_edge, is_used}
@@ -19,12 +19,30 @@ use Rattle.surf_model.proofs.OneTableLemmas.{one_table}
 use Rattle.surf_model.proofs.TableEdgeLemmas.{IsEdgeBetween, edge_between, table_pair, sides_of_edge}
 use Rattle.surf_model.proofs.TableLemmas.{Contains-filter}
 use Rattle.surf_model.proofs.TallyLemmas.{counted_more, group_of-other}
-use Rattle.manifold_check.specs.ComponentNumbers.{used_number}
+use Rattle.surf_model.specs.Numbers.{count_below}
 use Rattle.surf_model.specs.ComponentParts.{PartsView, AreParts, component_at, component_mesh}
 use Rattle.surf_model.specs.Submeshes.{submesh}
+use Rattle.connectivity.proofs.Forests.{range_more}
 use Rattle.manifold_check.proofs.PieceLemmas.{IsPiece, edge_of_side, edge_up, used_up, used_down}
 use Rattle.manifold_check.proofs.PieceSides.{sides_alike}
 use Rattle.manifold_check.proofs.PartPieces.{IsOfComponent, piece_of_parts}
+
+-- how many numbers pass is the length of the list of those that do
+pub count_of_passing : (test : ℕ → Bool) (n : ℕ) → count_below test n ≡ length (filter test (range_with_len 0 n))
+count_of_passing test zero = refl
+count_of_passing test (suc n) =
+    let passing : List ℕ = filter test (range_with_len 0 n) in
+    let size : length (filter test (range_with_len 0 (n + 1))) ≡ length passing + length (cond (test n) (n ∷ []) []) =
+    ap (λ (xs : List ℕ). length (filter test xs)) (range_more n)
+    ∙ ap (λ (xs : List ℕ). length xs) (filter-append test (range_with_len 0 n) (n ∷ []))
+    ∙ length-append passing (cond (test n) (n ∷ []) []) in
+    let one_more : count_below test (suc n) ≡ length (filter test (range_with_len 0 (n + 1))) =
+    omega (arith, count_of_passing test n, size, last (test n)) in
+    one_more ∙ ap (λ (m : ℕ). length (filter test (range_with_len 0 m))) (add-one n)
+  where
+    last : (b : Bool) → length (cond b (n ∷ []) []) ≡ cond b 1 0
+    last true = refl
+    last false = refl
 
 -- the component of a used vertex; for another one a place that no component has
 abbrev pub place_of_used : FaceList → PartsView → ℕ → ℕ
@@ -79,11 +97,12 @@ used_alike mesh parts k v h l =
 
 pub vertices_counted : (mesh : FaceList) (parts : PartsView) (counts : List ℕ) (k : ℕ) → AreParts mesh parts
     → k < length parts.components → k < length counts → IsCounted (place_of_used mesh parts) mesh.count counts
-    → get_or counts k 0 ≡ used_number (component_mesh mesh parts k)
+    → get_or counts k 0 ≡ count_below (is_used (component_mesh mesh parts k)) mesh.count
 vertices_counted mesh parts counts k h l b counted =
     counted k b
     ∙ ap (λ (xs : List ℕ). length xs) (filter_agree (λ v. eqb (place_of_used mesh parts v) k) (is_used (component_mesh mesh parts k))
     (λ v. used_alike mesh parts k v h l) (range_with_len 0 mesh.count))
+    ∙ sym (count_of_passing (is_used (component_mesh mesh parts k)) mesh.count)
 
 -- the component of an edge, by its place in the table
 abbrev pub place_of_edge : List Edge → PartsView → ℕ → ℕ
@@ -116,11 +135,11 @@ narrowed_is_edge mesh Inside names edge piece inside is = record {
 }
 
 -- the table of a component's mesh: the edges of the component
-component_table : (mesh : FaceList) (table : List Edge) (parts : PartsView) (k : ℕ) → IsTableOf mesh table → AreParts mesh parts
+edges_alone : (mesh : FaceList) (table : List Edge) (parts : PartsView) (k : ℕ) → IsTableOf mesh table → AreParts mesh parts
     → k < length parts.components
     → IsTableOf (component_mesh mesh parts k) (map (narrowed_edge (component_mesh mesh parts k)) (filter (in_component parts k) table))
 unfolding narrowed_edge in_component
-component_table mesh table parts k h parted l =
+edges_alone mesh table parts k h parted l =
     let Inside : ℕ → Type 0 = IsOfComponent parts.places k in
     let names : List ℕ = component_at parts k in
     let alone : FaceList = component_mesh mesh parts k in
@@ -167,6 +186,11 @@ component_table mesh table parts k h parted l =
           );
     }
 
+pub component_table : (mesh : FaceList) (table : List Edge) (parts : PartsView) (k : ℕ) → IsTableOf mesh table → AreParts mesh parts
+    → k < length parts.components → (alone : List Edge) × IsTableOf (component_mesh mesh parts k) alone
+component_table mesh table parts k h parted l =
+    (map (narrowed_edge (component_mesh mesh parts k)) (filter (in_component parts k) table), edges_alone mesh table parts k h parted l)
+
 -- the edges one by one
 edges_by_place : (table : List Edge) → map (edge_in table) (range_with_len 0 (length table)) ≡ table
 edges_by_place table =
@@ -191,7 +215,7 @@ edges_counted mesh table parts counts k alone h parted l b counted is =
     ∙ ap (λ (es : List Edge). length (filter (in_component parts k) es)) (edges_by_place table)
     ∙ sym (length-map kept (narrowed_edge (component_mesh mesh parts k)))
     ∙ ap (λ (es : List Edge). length es) (one_table (component_mesh mesh parts k) narrow alone
-    (component_table mesh table parts k h parted l) is)
+    (edges_alone mesh table parts k h parted l) is)
 
 -- the lower end of an edge is a vertex of the mesh, of some component
 pub low_placed : (mesh : FaceList) (table : List Edge) (parts : PartsView) (e : ℕ) → IsTableOf mesh table → AreParts mesh parts

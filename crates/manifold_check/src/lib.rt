@@ -21,5 +21,5 @@ pub mod parts;
 
 pub use check::check_closed;
 pub use fault::SurfaceFault;
-pub use measuring::{PartNumbers, measure};
+pub use measuring::measure;
 pub use parts::Parts;

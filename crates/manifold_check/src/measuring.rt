@@ -1,21 +1,15 @@
 //! How many vertices, edges and faces each component has.
 ghost use Rattle.std.specs.Prelude.{◌≡◌, ◌<◌, ℕ, List, length, slice_index, slice_index_or, IfOk};
+ghost use Rattle.surf_model.specs.FaceLists.{is_used};
 ghost use Rattle.surf_model.specs.Edges.{Edge, IsTableOf};
 ghost use Rattle.surf_model.specs.ComponentParts.{AreParts, component_mesh};
-ghost use Rattle.manifold_check.specs.ComponentNumbers.{AreNumbersOf, used_number};
-ghost use Rattle.manifold_check.specs.declared.measuring.PartNumbers.{PartNumbers};
+ghost use Rattle.surf_model.specs.Genera.{AreNumbersOf};
+ghost use Rattle.surf_model.specs.Numbers.{count_below};
+ghost use Rattle.surf_model.specs.declared.numbers.SurfaceNumbers.{SurfaceNumbers};
 
 use crate::parts::Parts;
 use std::alloc::{AllocError, Global};
-use surf_model::{EdgeName, Faces, Sides, VertexName};
-
-/// How many used vertices, edges and faces a component has.
-#[derive(Clone, Copy, Debug, PartialEq, Eq)]
-pub struct PartNumbers {
-    pub vertices: u32,
-    pub edges: u32,
-    pub faces: u32,
-}
+use surf_model::{EdgeName, Faces, Sides, SurfaceNumbers, VertexName};
 
 /// The numbers of each component, in order. It looks once at each vertex and once at each edge of the mesh, however many
 /// components there are.
@@ -24,22 +18,22 @@ pub fn measure(
     faces: &Faces,
     sides: &Sides,
     parts: &Parts,
-) -> Result<Vec<PartNumbers>, AllocError>
+) -> Result<Vec<SurfaceNumbers>, AllocError>
     requires table { IsTableOf faces.now sides.now }
     requires parts { AreParts faces.now parts.now }
     ensures count { IfOk result (λ all. length all.items ≡ length parts.now.components) }
-    ensures numbers { IfOk result (λ all. (k : ℕ) (d : PartNumbers) → k < length parts.now.components
+    ensures numbers { IfOk result (λ all. (k : ℕ) (d : SurfaceNumbers) → k < length parts.now.components
         → AreNumbersOf (component_mesh faces.now parts.now k) (slice_index_or all.items k d)) }
 {
     let vertices = count_vertices(alloc, faces, sides, parts)?;
     let edges = count_edges(alloc, faces, sides, parts)?;
     let mut all = Vec::with_capacity(alloc, parts.len() as usize)?;
     for part in 0..parts.len() {
-        all.push(PartNumbers {
-            vertices: vertices[part as usize],
-            edges: edges[part as usize],
-            faces: parts.size(part),
-        })?;
+        all.push(SurfaceNumbers::of(
+            vertices[part as usize],
+            edges[part as usize],
+            parts.size(part),
+        ))?;
     }
     Ok(all)
 }
@@ -55,7 +49,7 @@ fn count_vertices(
     requires parts { AreParts faces.now parts.now }
     ensures len { IfOk result (λ counts. length counts.items ≡ length parts.now.components) }
     ensures counted { IfOk result (λ counts. (k : ℕ) → k < length parts.now.components
-        → slice_index counts.items k ≡ used_number (component_mesh faces.now parts.now k)) }
+        → slice_index counts.items k ≡ count_below (is_used (component_mesh faces.now parts.now k)) faces.now.count) }
 {
     let mut counts = vec![in alloc; 0u32; parts.len() as usize]?;
     for vertex in 0..faces.count() {

@@ -1,9 +1,8 @@
 use Rattle.std.proofs.Common.{◌≡◌, ◌+◌, ◌<◌, ℕ, List, get_or, length, sym, subst, arith}
 use Rattle.std.proofs.lemmas.List.{get_or_read}
-use Rattle.manifold_check.specs.ComponentNumbers.{AreNumbersOf}
 use Rattle.surf_model.specs.ComponentParts.{component_mesh}
-use Rattle.manifold_check.specs.declared.measuring.PartNumbers.{PartNumbers}
-use Rattle.surf_model.specs.Genera.{HasGenus}
+use Rattle.surf_model.specs.Genera.{AreNumbersOf, HasGenus}
+use Rattle.surf_model.specs.declared.numbers.SurfaceNumbers.{SurfaceNumbers}
 use Rattle.closed_surfaces.proofs.Components.{signed_surface}
 use Rattle.closed_surfaces.proofs.Genera.{AreGeneraUpTo, IsComponentSurface, component_surface, counts_give, genera_all, genera_more, genera_none, genus_by_counts}
 use Rattle.closed_surfaces.proofs.measuring.genera_of.Goals as goal
@@ -18,8 +17,8 @@ genus_of-requires c =
     let mesh = c.args.surface.now.faces in
     let parts = c.args.parts.now in
     let part : ℕ = c.loop-part.part in
-    let all : List PartNumbers = c.in_ok-all.all.items in
-    let numbers : PartNumbers = c.index-numbers.result.now in
+    let all : List SurfaceNumbers = c.in_ok-all.all.items in
+    let numbers : SurfaceNumbers = c.index-numbers.result.now in
     let there : part < length parts.components = omega (arith, c.loop-part-test.true, c.len-part-end.ensures) in
     let read : numbers ≡ get_or all part numbers =
     get_or_read all part _ (omega (arith, there, c.in_ok-all.ensures.count)) c.index-numbers.ensures numbers in
@@ -34,16 +33,13 @@ loop-part-preserved c =
     let mesh = c.args.surface.now.faces in
     let parts = c.args.parts.now in
     let part : ℕ = c.loop-part.part in
-    let all : List PartNumbers = c.in_ok-all.all.items in
-    let numbers : PartNumbers = c.index-numbers.result.now in
+    let all : List SurfaceNumbers = c.in_ok-all.all.items in
+    let numbers : SurfaceNumbers = c.index-numbers.result.now in
     let there : part < length parts.components = omega (arith, c.loop-part-test.true, c.len-part-end.ensures) in
     let read : numbers ≡ get_or all part numbers =
     get_or_read all part _ (omega (arith, there, c.in_ok-all.ensures.count)) c.index-numbers.ensures numbers in
-    let alone : IsComponentSurface (component_mesh mesh parts part) =
-    component_surface mesh parts part c.requires.signed.valid (signed_surface c.args.surface.now c.requires.signed) c.requires.parts
-    there in
     let genus : HasGenus (component_mesh mesh parts part) c.genus_of.result =
-    counts_give (component_mesh mesh parts part) numbers c.genus_of.result alone.valid
+    counts_give (component_mesh mesh parts part) numbers c.genus_of.result
     (subst (AreNumbersOf (component_mesh mesh parts part)) (sym read) (c.in_ok-all.ensures.numbers part numbers there))
     c.genus_of.ensures in
     subst (λ (l : List ℕ). AreGeneraUpTo mesh parts l (part + 1)) (sym c.in_ok-push.ensures.items)

@@ -7,7 +7,7 @@ use Rattle.component_deciding.specs.OwnVertices.{own_number}
 use Rattle.surf_model.specs.FaceLists.{is_used}
 use Rattle.surf_model.proofs.EdgeLemmas.{used_below}
 use Rattle.surf_model.proofs.TallyLemmas.{group_of_within}
-use Rattle.manifold_check.proofs.MeasureLemmas.{place_of_used, used_counted, unused_counted, vertices_counted}
+use Rattle.manifold_check.proofs.MeasureLemmas.{count_of_passing, place_of_used, used_counted, unused_counted, vertices_counted}
 use Rattle.component_deciding.proofs.ComponentLemmas.{count_is_number, numbered_more}
 use Rattle.component_deciding.proofs.own_numbers.number_vertices.Goals as goal
 use Rattle.component_deciding.proofs.own_numbers.number_vertices.Goals.{then-used, else-used}
@@ -111,5 +111,6 @@ returns c =
       each_component = inv.each_component;
       numbered = λ v used. inv.numbered v (omega (arith, all, used_below mesh v c.count-count.ensures.valid used)) used;
       counted = λ k l. vertices_counted mesh parts c.loop-vertex.counts.items k c.requires.parts l (omega (arith, l, inv.each_component))
-          (subst (λ n. IsCounted (place_of_used mesh parts) n c.loop-vertex.counts.items) all inv.counted);
+          (subst (λ n. IsCounted (place_of_used mesh parts) n c.loop-vertex.counts.items) all inv.counted)
+          ∙ count_of_passing (is_used (component_mesh mesh parts k)) mesh.count;
     }

@@ -1,6 +1,6 @@
-use Rattle.std.proofs.Common.{inr}
+use Rattle.std.proofs.Common.{inl, inr, sym, refl}
 use Rattle.std.proofs.lemmas.Result.{err_from_is_err_and}
-use Rattle.homotopy_arrays.proofs.CertificationLemmas.{found}
+use Rattle.homotopy_arrays.proofs.CertificationLemmas.{found, within}
 use Rattle.homotopy_arrays.proofs.certify.certify_walks.Goals as goal
 
 pub returns-in_err-check_limits : goal.returns-in_err-check_limits

@@ -1,14 +1,12 @@
-use Rattle.std.proofs.Common.{◌+◌, arith}
-use Rattle.commands.proofs.LimitLemmas.{darts_over, sides_over}
+use Rattle.std.proofs.Common.{sym, ◌∙◌, ap}
+use Rattle.std.specs.Option.{option_map}
+use Rattle.commands.specs.Limits.{over_line}
 use Rattle.commands.proofs.limits.Limits.check.Goals as goal
 
-pub returns-then-sides-self : goal.returns-then-sides-self
-returns-then-sides-self c =
-    sides_over c.args.self c.args.word.now c.args.faces.now c.args.first.now c.args.second.now c.total-sides.result c.over.result
-    c.total-sides.ensures c.if-sides-self.true c.over.ensures
+pub returns-in-None : goal.returns-in-None
+returns-in-None c = ap (option_map (over_line c.args.word.now)) (sym c.first_over.ensures ∙ c.in-None.is)
 
-pub returns-then-darts-self : goal.returns-then-darts-self
-returns-then-darts-self c =
-    darts_over c.args.self c.args.word.now c.args.faces.now c.args.first.now c.args.second.now c.total-sides.result
-    (c.darts.result + c.darts-2.result) c.over-then-darts-self.result c.total-sides.ensures c.if-sides-self.false
-    (omega (arith, c.darts.ensures.count, c.darts-2.ensures.count)) c.if-darts-self.true c.over-then-darts-self.ensures
+pub returns-in-Some : goal.returns-in-Some
+returns-in-Some c =
+    let line = over_line c.args.word.now in
+    (line c.in-Some.over, ap (option_map line) (sym c.first_over.ensures ∙ c.in-Some.is), c.refusal.ensures)
