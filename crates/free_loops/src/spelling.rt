@@ -1,11 +1,10 @@
 //! Turn words, spelled out as spokes.
 ghost use Rattle.std.specs.Prelude.{◌≡◌, ◌<◌, ◌^◌, All, length, IfOk};
 ghost use Rattle.turn_words.specs.Modulo.{add};
-ghost use Rattle.turn_words.specs.SpokePaths.{place_round, turn_word_of};
+ghost use Rattle.turn_words.specs.SpokePaths.{turn_word_of};
 ghost use Rattle.spoke_rings.specs.CyclicWords.{IsFullWheel};
 
 use std::alloc::{AllocError, Global};
-use surf_model::Spoke;
 use turn_words::{TurnWord, Wheel};
 
 /// The spokes of a turn word, from the vertex on.
@@ -25,11 +24,11 @@ pub(crate) fn spokes_of(
     let mut at_vertex = true;
     for k in 0..word.len() {
         let place = round_sum(wheel.degree(), from, word.at(k));
-        let spoke = spoke_with(wheel, at_vertex, place);
+        let spoke = wheel.spoke_round(at_vertex, place);
         spokes.push(spoke)?;
         // The next turn is counted round the point to which this spoke leads.
         at_vertex = !at_vertex;
-        from = place_of(wheel, at_vertex, spoke);
+        from = wheel.place_round(at_vertex, spoke);
     }
     Ok(spokes)
 }
@@ -42,29 +41,4 @@ fn round_sum(degree: u32, from: u32, by: u32) -> u32
 {
     let room = degree - by;
     if from < room { from + by } else { from - room }
-}
-
-/// The spoke that has a place, round the vertex or round the middle.
-fn spoke_with(wheel: &Wheel, at_vertex: bool, place: u32) -> u32
-    requires { place < length wheel.now }
-    ensures below { result < length wheel.now }
-    ensures place { place_round wheel.now at_vertex result ≡ place }
-{
-    if at_vertex {
-        wheel.spoke_at(place).0
-    } else {
-        place
-    }
-}
-
-/// Where a spoke comes, round the vertex or round the middle.
-fn place_of(wheel: &Wheel, at_vertex: bool, spoke: u32) -> u32
-    requires { spoke < length wheel.now }
-    ensures { result ≡ place_round wheel.now at_vertex spoke }
-{
-    if at_vertex {
-        wheel.place(Spoke(spoke))
-    } else {
-        spoke
-    }
 }

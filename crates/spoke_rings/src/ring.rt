@@ -9,7 +9,6 @@ ghost use Rattle.spoke_rings.specs.Private.Seams.{IsSeam};
 use std::alloc::{AllocError, Global};
 use std::collections::VecDeque;
 use std::marker::Model;
-use surf_model::Spoke;
 use turn_words::Wheel;
 
 /// A closed list of spokes, which may start anywhere. It is seen as the list of its spokes from the seam on, and whether
@@ -344,25 +343,12 @@ fn turn_between(wheel: &Wheel, at_vertex: bool, before: u32, spoke: u32) -> u32
     ensures { result ≡ add (length wheel.now) (place_round wheel.now at_vertex spoke)
         (minus (length wheel.now) (place_round wheel.now at_vertex before)) }
 {
-    let from = place_of(wheel, at_vertex, before);
-    let to = place_of(wheel, at_vertex, spoke);
+    let from = wheel.place_round(at_vertex, before);
+    let to = wheel.place_round(at_vertex, spoke);
     if from <= to {
         to - from
     } else {
         wheel.degree() - from + to
-    }
-}
-
-/// Where a spoke comes, round the vertex or round the middle.
-fn place_of(wheel: &Wheel, at_vertex: bool, spoke: u32) -> u32
-    requires { spoke < length wheel.now }
-    ensures place { result ≡ place_round wheel.now at_vertex spoke }
-    ensures below { result < length wheel.now }
-{
-    if at_vertex {
-        wheel.place(Spoke(spoke))
-    } else {
-        spoke
     }
 }
 
@@ -373,16 +359,12 @@ fn moved(wheel: &Wheel, at_vertex: bool, spoke: u32, by: u32) -> u32
     ensures below { result < length wheel.now }
     ensures place { place_round wheel.now at_vertex result ≡ add (length wheel.now) (place_round wheel.now at_vertex spoke) by }
 {
-    let place = place_of(wheel, at_vertex, spoke);
+    let place = wheel.place_round(at_vertex, spoke);
     let room = wheel.degree() - by;
     let behind = if place < room {
         place + by
     } else {
         place - room
     };
-    if at_vertex {
-        wheel.spoke_at(behind).0
-    } else {
-        behind
-    }
+    wheel.spoke_round(at_vertex, behind)
 }

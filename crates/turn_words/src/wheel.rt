@@ -1,5 +1,6 @@
 //! The order of the spokes round the one vertex.
 ghost use Rattle.std.specs.Prelude.{◌≡◌, ◌<◌, ◌≤◌, ◌^◌, ◌↔◌, length, slice_index, IfOk, MatchResult, MatchOption};
+ghost use Rattle.turn_words.specs.SpokePaths.{place_round};
 ghost use Rattle.turn_words.specs.Wheels.{IsWheel, IsInside, IsFirstOutside};
 ghost use Rattle.turn_words.specs.Private.StoredWheels.{IsInverse};
 ghost use Rattle.turn_words.specs.Faults.{IsFaultOf};
@@ -91,6 +92,32 @@ impl Wheel {
         ensures place { slice_index self.now result.0 ≡ place }
     {
         Spoke(self.spokes[place as usize])
+    }
+
+    /// Where a spoke comes round the vertex, which is its place, or round the middle, which is its number.
+    pub fn place_round(&self, at_vertex: bool, spoke: u32) -> u32
+        requires { spoke < length self.now }
+        ensures place { result ≡ place_round self.now at_vertex spoke }
+        ensures below { result < length self.now }
+    {
+        if at_vertex {
+            self.place(Spoke(spoke))
+        } else {
+            spoke
+        }
+    }
+
+    /// The spoke that comes at a place round the vertex, or round the middle.
+    pub fn spoke_round(&self, at_vertex: bool, place: u32) -> u32
+        requires { place < length self.now }
+        ensures below { result < length self.now }
+        ensures place { place_round self.now at_vertex result ≡ place }
+    {
+        if at_vertex {
+            self.spoke_at(place).0
+        } else {
+            place
+        }
     }
 }
 

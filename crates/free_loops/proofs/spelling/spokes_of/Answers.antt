@@ -10,8 +10,8 @@ loop-k-init c =
     subst (Spelled c.args.wheel.now c.args.word.now 0 0 _) (sym c.in_ok-spokes.ensures.items)
     (spelled_none c.args.wheel.now c.args.word.now c.requires.full)
 
-pub spoke_with-spoke-requires : goal.spoke_with-spoke-requires
-spoke_with-spoke-requires c =
+pub spoke_round-spoke-requires : goal.spoke_round-spoke-requires
+spoke_round-spoke-requires c =
     let places = c.args.wheel.now in
     let word = c.args.word.now in
     let k = c.loop-k.k in
@@ -28,18 +28,18 @@ loop-k-preserved c =
     let word = c.args.word.now in
     let k = c.loop-k.k in
     let from = c.loop-k.from in
-    let spoke = c.spoke_with-spoke.result in
+    let spoke = c.spoke_round-spoke.result in
     let v = c.loop-k.at_vertex in
     let more : k < length word = omega (arith, c.loop-k-test.true, c.len-k-end.ensures) in
     let entry : get_or word k 0 < length places = c.requires.entries k 0 more in
     let sum : c.round_sum-place.result ≡ add (length places) from (get_or word k 0) =
     c.round_sum-place.ensures ∙ ap₂ (λ (n x : ℕ). add n from x) c.degree.ensures.degree c.at.ensures in
-    subst (Spelled places word (k + 1) c.place_of-from.result _) (sym c.in_ok-push.ensures.items)
-    (spelled_more places word k from spoke c.place_of-from.result v c.loop-k.spokes.items c.requires.full c.loop-k.invariant more entry
-    c.spoke_with-spoke.ensures.below (c.spoke_with-spoke.ensures.place ∙ sum)
-    (subst (λ x. x < length places) (sym c.place_of-from.ensures)
-    (value_in places c.requires.full _ spoke c.spoke_with-spoke.ensures.below))
-    c.place_of-from.ensures)
+    subst (Spelled places word (k + 1) c.place_round-from.result _) (sym c.in_ok-push.ensures.items)
+    (spelled_more places word k from spoke c.place_round-from.result v c.loop-k.spokes.items c.requires.full c.loop-k.invariant more entry
+    c.spoke_round-spoke.ensures.below (c.spoke_round-spoke.ensures.place ∙ sum)
+    (subst (λ x. x < length places) (sym c.place_round-from.ensures.place)
+    (value_in places c.requires.full _ spoke c.spoke_round-spoke.ensures.below))
+    c.place_round-from.ensures.place)
 
 pub returns-clause-word : goal.returns-clause-word
 returns-clause-word c =

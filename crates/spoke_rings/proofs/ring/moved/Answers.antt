@@ -11,7 +11,7 @@ is : (c : Joined-place-room)
 is c =
     let d = length c.args.wheel.now in
     let p = place_round c.args.wheel.now c.args.at_vertex c.args.spoke in
-    let place = c.place_of-place in
+    let place = c.place_round-place in
     elim c.if-place-room.branch [
       | then-place-room w ↦ w.behind-is
           ∙ moved-on d p c.args.by place.result place.ensures.place (omega (arith, w.if-place-room.true, c.degree.ensures.degree))
@@ -23,12 +23,5 @@ is c =
           ))
     ]
 
-pub returns-then-at_vertex-clause-place : goal.returns-then-at_vertex-clause-place
-returns-then-at_vertex-clause-place c =
-    ap (λ b. place_round c.args.wheel.now b c.spoke_at.result.0) c.if-at_vertex.true ∙ c.spoke_at.ensures.place
-    ∙ is (goal.at.returns-then-at_vertex-clause-place c).Joined-place-room
-
-pub returns-else-at_vertex-clause-place : goal.returns-else-at_vertex-clause-place
-returns-else-at_vertex-clause-place c =
-    ap (λ b. place_round c.args.wheel.now b c.if-place-room.behind) c.if-at_vertex.false
-    ∙ is (goal.at.returns-else-at_vertex-clause-place c).Joined-place-room
+pub returns-clause-place : goal.returns-clause-place
+returns-clause-place c = c.spoke_round.ensures.place ∙ is (goal.at.returns-clause-place c).Joined-place-room
