@@ -7,7 +7,7 @@ ghost use Rattle.free_forms.specs.Parents.{HasParents, IsParentEdge, Joins, pare
 use crate::search::parent_places;
 use std::alloc::{AllocError, Global};
 use std::marker::Model;
-use surf_model::{Faces, Side, Sides, VertexName};
+use surf_model::{FaceName, Faces, Side, Sides, VertexName};
 
 /// An open surface, with a parent for each face: one of its sides, so that crossing parents from any face ends at an edge of
 /// one side. It is seen as the face list and the place of each face's parent.
@@ -45,6 +45,19 @@ impl OpenMesh {
             sides,
             places,
         })
+    }
+
+    /// The parent of a face. It takes no memory.
+    pub fn parent(&self, face: FaceName) -> Side
+        requires { face.0 < length self.now.mesh.faces }
+        ensures parent { result ≡ parent_of self.now face.0 }
+        // What holds of every open mesh: crossing parents ends outside.
+        ensures parents { HasParents self.now }
+    {
+        Side {
+            face,
+            at: self.places[face.0 as usize],
+        }
     }
 
     /// The face list.
