@@ -28,6 +28,7 @@ abbrev pub over_line : (word : List ℕ) → OverLimit → List ℕ
 over_line word (Sides sides) = refused (word ∷ codes "sides" ∷ decimal sides ∷ [])
 over_line word (Darts darts) = refused (word ∷ codes "darts" ∷ decimal darts ∷ [])
 
+-- the refusals of a surface with too many sides, and of walks with too many darts
 abbrev pub sides_line : (word : List ℕ) → FaceList → List ℕ
 sides_line word mesh = over_line word (Sides (total_sides mesh))
 
