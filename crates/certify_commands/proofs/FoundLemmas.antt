@@ -1,13 +1,10 @@
 -- What is found of two walks on the component in which they lie, and what it tells of the whole mesh.
-use Rattle.std.proofs.Common.{◌≡◌, inl, inr, ℕ, ◌+◌, ◌<◌, ◌≤◌, Bool, List, ◌∷◌, ◌++◌, length, get_or, take, refl, sym, ap, ◌∙◌, subst, arith, []}
-use Rattle.std.specs.Prelude.{All, Some, filter, map, max, sum_by}
-use Rattle.std.specs.List.{range_with_len}
-use Rattle.std.proofs.lemmas.Bool.{cases_Bool, cond-true, cond-false}
+use Rattle.std.proofs.Common.{◌≡◌, ℕ, ◌+◌, ◌<◌, List, ◌∷◌, ◌++◌, length, get_or, take, sym, ap, ◌∙◌, subst, arith, []}
+use Rattle.std.specs.Prelude.{All, Some, max}
 use Rattle.std.proofs.lemmas.Bool.Decides.{nat_tests}
 use Rattle.std.proofs.lemmas.List.{map-append, take_more}
 use Rattle.std.proofs.lemmas.List.Elements.{All-nil, All-cons}
-use Rattle.std.proofs.lemmas.List.Sums.{sum_by-cons}
-use Rattle.surf_model.specs.FaceLists.{FaceList, face_at, total_sides}
+use Rattle.surf_model.specs.FaceLists.{FaceList, total_sides}
 use Rattle.surf_model.specs.Moves.{apply, apply_all, Leads, PeakedMoves}
 use Rattle.surf_model.specs.Walks.{IsWalk}
 use Rattle.surf_model.specs.declared.moves.Move.{Move}
@@ -17,8 +14,9 @@ use Rattle.surf_model.proofs.ReplacementLemmas.{by_replacing}
 use Rattle.surf_model.specs.ComponentParts.{component_at, component_mesh}
 use Rattle.surf_model.specs.Submeshes.{submesh, renamed_move, renamed_moves, signs_among}
 use Rattle.manifold_check.proofs.PartPieces.{IsOfComponent, piece_of_parts}
-use Rattle.manifold_check.proofs.PieceLemmas.{IsPiece, length-submesh}
+use Rattle.manifold_check.proofs.PieceLemmas.{length-submesh}
 use Rattle.manifold_check.proofs.PieceMoves.{moves_up, greatest_alike}
+use Rattle.manifold_check.proofs.PieceSides.{total_alone}
 use Rattle.labellings.specs.Denials.{DenialHolds}
 use Rattle.labellings.specs.GoodLabellings.{IsGood}
 use Rattle.labellings.specs.Labellings.{LabellingView, signs_of}
@@ -34,51 +32,17 @@ use Rattle.certify_commands.specs.declared.finding.Finding.TheVariants.{Words}
 use Rattle.closed_surfaces.specs.declared.component.Component.{Component}
 use Rattle.closed_surfaces.specs.declared.component.Component.TheVariants.{Whole, Alone}
 use Rattle.closed_surfaces.specs.declared.component.Part.{Part}
-use Rattle.closed_surfaces.proofs.Components.{faces_by_name}
 
 -- ---- the walks
 
 -- ---- a component has no more sides than the whole
-
-sum_of_map : (c : List ℕ → ℕ) (g : ℕ → List ℕ) (xs : List ℕ) → sum_by c (map g xs) ≡ sum_by (λ (x : ℕ). c (g x)) xs
-sum_of_map c g [] = refl
-sum_of_map c g (x ∷ xs) =
-    sum_by-cons c (g x) (map g xs) ∙ ap (λ (n : ℕ). c (g x) + n) (sum_of_map c g xs) ∙ sym (sum_by-cons (λ (y : ℕ). c (g y)) x xs)
-
-sum_of_fewer : (c : ℕ → ℕ) (test : ℕ → Bool) (xs : List ℕ) → sum_by c (filter test xs) ≤ sum_by c xs
-sum_of_fewer c test [] = omega arith
-sum_of_fewer c test (x ∷ xs) =
-    elim (cases_Bool (test x)) [
-      | inl passes ↦
-          (let is : filter test (x ∷ xs) ≡ x ∷ filter test xs = cond-true (test x) (x ∷ filter test xs) (filter test xs) passes in
-          omega (arith, ap (sum_by c) is, sum_by-cons c x (filter test xs), sum_by-cons c x xs, sum_of_fewer c test xs))
-      | inr fails ↦
-          (let is : filter test (x ∷ xs) ≡ filter test xs = cond-false (test x) (x ∷ filter test xs) (filter test xs) fails in
-          omega (arith, ap (sum_by c) is, sum_by-cons c x xs, sum_of_fewer c test xs))
-    ]
-
-fewer_sides : (mesh : FaceList) (Inside : ℕ → Type 0) (names : List ℕ) → IsPiece mesh Inside names
-    → total_sides (submesh mesh names) ≤ total_sides mesh
-fewer_sides mesh Inside names h =
-    let all : List ℕ = range_with_len 0 (length mesh.faces) in
-    let size : ℕ → ℕ = λ (x : ℕ). length (face_at mesh x) in
-    let whole : sum_by size all ≡ total_sides mesh =
-    sym (sum_of_map (λ (r : List ℕ). length r) (face_at mesh) all)
-    ∙ ap (λ (fs : List (List ℕ)). sum_by (λ (r : List ℕ). length r) fs) (faces_by_name mesh) in
-    omega (
-      arith,
-      sum_of_map (λ (r : List ℕ). length r) (face_at mesh) names,
-      ap (sum_by size) h.names_are,
-      sum_of_fewer size h.test all,
-      whole,
-    )
 
 pub limits_there : (mesh : FaceList) (v : ℕ) (component : Component) (first second : List ℕ) → IsComponentOf mesh v component
     → IsWithinLimits mesh first second → IsWithinLimits (surface_of component).mesh first second
 limits_there mesh v (Whole surface) first second h within = subst (λ (m : FaceList). IsWithinLimits m first second) (sym h) within
 limits_there mesh v (Alone part) first second h within =
     let is : IsPart part = h.0 in
-    let fewer = fewer_sides part.whole.faces (IsOfComponent part.parts.places part.place) (component_at part.parts part.place)
+    let fewer = total_alone part.whole.faces (IsOfComponent part.parts.places part.place) (component_at part.parts part.place)
     (piece_of_parts part.whole.faces part.parts part.place is.parts is.within) in
     record {
       sides = omega (arith, fewer, ap total_sides is.mesh, ap total_sides h.1, within.sides);

@@ -1,10 +1,7 @@
 -- The component in which a walk lies.
-use Rattle.std.proofs.Common.{◌≡◌, ℕ, List, length, get_or, sym, ap, ◌∙◌, subst, arith, []}
-use Rattle.std.specs.Prelude.{map, Result, Ok, Err, IfOk}
-use Rattle.std.specs.List.{range_with_len}
-use Rattle.std.proofs.lemmas.List.{ext_get_or}
-use Rattle.std.proofs.lemmas.List.FromFn.{length-map-range_with_len, get_or-map-range_with_len}
-use Rattle.surf_model.specs.FaceLists.{FaceList, face_at}
+use Rattle.std.proofs.Common.{◌≡◌, ℕ, List, get_or, sym, ap, ◌∙◌, subst, []}
+use Rattle.std.specs.Prelude.{Result, Ok, Err, IfOk}
+use Rattle.surf_model.specs.FaceLists.{FaceList}
 use Rattle.surf_model.specs.Walks.{IsWalk}
 use Rattle.manifold_check.proofs.PartPieces.{walk_alone}
 use Rattle.surf_model.specs.OrientableSurfaces.{IsOrientableSurface}
@@ -30,10 +27,3 @@ walk_there mesh v (Alone part) walk h w start =
     subst (λ (m : FaceList). IsWalk m walk) (sym is.mesh)
     (walk_alone part.whole.faces part.parts part.place walk is.parts is.within (subst (λ (m : FaceList). IsWalk m walk) (sym h.1) w)
     (ap (λ (n : ℕ). get_or part.parts.places n 0) start ∙ h.2))
-
-pub faces_by_name : (mesh : FaceList) → map (face_at mesh) (range_with_len 0 (length mesh.faces)) ≡ mesh.faces
-faces_by_name mesh =
-    let n : ℕ = length mesh.faces in
-    let size : length (map (face_at mesh) (range_with_len 0 n)) ≡ n = length-map-range_with_len (face_at mesh) 0 n in
-    ext_get_or [] (map (face_at mesh) (range_with_len 0 n)) mesh.faces size
-    (λ i l. get_or-map-range_with_len (face_at mesh) 0 n i i [] (omega (arith, l, size)) (omega arith))

@@ -14,14 +14,13 @@ use Rattle.surf_model.specs.Surfaces.{IsSurface}
 use Rattle.surf_model.proofs.OneTableLemmas.{one_table}
 use Rattle.surf_model.specs.ComponentParts.{PartsView, AreParts, component_at, component_mesh}
 use Rattle.manifold_check.proofs.PartPieces.{IsOfComponent, piece_of_parts, closed_alone}
-use Rattle.manifold_check.proofs.PieceSides.{valid_alone}
+use Rattle.manifold_check.proofs.PieceSides.{valid_alone, faces_by_name}
 use Rattle.manifold_check.proofs.PieceSurfaces.{coherent_alone}
 use Rattle.surf_model.specs.Submeshes.{signs_among, submesh}
 use Rattle.connectivity.proofs.CornerLemmas.{corner_used}
 use Rattle.surf_model.specs.Numbers.{count_below}
 use Rattle.surf_model.proofs.EdgeTables.{some_table}
 use Rattle.tree_cotree.proofs.GenusLemmas.{table_and_genus}
-use Rattle.closed_surfaces.proofs.Components.{faces_by_name}
 use Rattle.closed_surfaces.proofs.SomeParts.{some_parts, same_count, same_places, same_meshes}
 use Rattle.surf_model.specs.OrientableSurfaces.{IsOrientableSurface}
 use Rattle.closed_surfaces.specs.SignedSurfaces.{IsPart}

@@ -16,6 +16,7 @@ use Rattle.surf_model.specs.Submeshes.{submesh}
 use Rattle.connectivity.proofs.ComponentLemmas.{JoinsEdgesUpTo, edges_none, edges_more, edges_all}
 use Rattle.connectivity.proofs.CornerLemmas.{corner_used}
 use Rattle.connectivity.proofs.EdgeLemmas.{ends_below}
+use Rattle.connectivity.proofs.Joining.{least_range}
 use Rattle.manifold_check.proofs.NumberLemmas.{AreLeasts, AreNumbered, numbered_none, numbered_first, numbered_later, numbered_unused, places_of_components}
 use Rattle.surf_model.proofs.EdgeTables.{some_table}
 
@@ -75,16 +76,6 @@ members_joined least x y l k h =
       ]
     ]
 
-members_alone : (n : ℕ) → AreLeastMembers (range_with_len 0 n)
-members_alone n =
-    record {
-      lesser = λ x l. omega (arith, at x (omega (arith, l, length-range_with_len 0 n)));
-      itself = λ x l. ap (λ y. get_or (range_with_len 0 n) y 0) (at x (omega (arith, l, length-range_with_len 0 n)));
-    }
-  where
-    at : (x : ℕ) → x < n → get_or (range_with_len 0 n) x 0 ≡ x
-    at x l = get_or-range_with_len 0 n x 0 l ∙ (let e : 0 + x ≡ x = omega arith in e)
-
 -- for each vertex its least, along the first k edges
 record HasLeasts (mesh : FaceList) (table : List Edge) (k : ℕ) : Type 0 where
   least : List ℕ
@@ -97,7 +88,7 @@ leasts_upto mesh table valid h zero l =
     record {
       least = range_with_len 0 mesh.count;
       upto = edges_none mesh table (range_with_len 0 mesh.count) refl;
-      members = members_alone mesh.count;
+      members = least_range mesh.count;
     }
 leasts_upto mesh table valid h (suc k) l =
     let before : HasLeasts mesh table k = leasts_upto mesh table valid h k (omega arith) in

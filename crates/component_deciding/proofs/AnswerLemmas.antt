@@ -3,7 +3,7 @@ use Rattle.std.proofs.Common.{◌≡◌, ◌≢◌, inl, inr, ℕ, ◌+◌, ◌<
 use Rattle.std.specs.Prelude.{All}
 use Rattle.std.proofs.lemmas.Bool.{cases_Bool, cases_lt, eqb-true, eq-eqb, both_ways}
 use Rattle.std.proofs.lemmas.List.{get_or_default, get_or-map}
-use Rattle.surf_model.specs.FaceLists.{FaceList, is_used}
+use Rattle.surf_model.specs.FaceLists.{is_used}
 use Rattle.surf_model.specs.declared.decisions.Answer.{Answer}
 use Rattle.component_deciding.specs.AskedPairs.{AreAnswers, IsAnswerOn, IsPairOn}
 use Rattle.component_deciding.specs.Asking.{AreRightUpTo, IsAsked}
@@ -11,19 +11,6 @@ use Rattle.component_deciding.specs.Orders.{AreInOrder, placed, starts}
 use Rattle.component_deciding.specs.declared.answering.Asked.{Asked}
 use Rattle.component_deciding.specs.declared.asked.AskedPair.{AskedPair}
 use Rattle.component_deciding.specs.declared.ordering.Placed.{Placed}
-
--- what an entry of the order says: where its pair starts, and that this is a place
-pub entry_place : (asked : Asked) (order : List Placed) (j : ℕ) (d : Placed) (e : AskedPair) → IsAsked asked
-    → AreInOrder asked.surface.parts.now asked.pairs.now order → j < length order
-    → (get_or order j d).place
-    ≡ get_or asked.surface.parts.now.places (get_or (get_or asked.pairs.now (get_or order j d).pair e).first.now 0 0) 0
-entry_place asked order j d e is in_order l =
-    let entry : Placed = get_or order j d in
-    let pairs : List AskedPair = asked.pairs.now in
-    let said = in_order.each_placed j d l in
-    ap (λ (p : Placed). p.place) said.1
-    ∙ ap (λ (v : ℕ). get_or asked.surface.parts.now.places v 0)
-    (get_or-map (λ (p : AskedPair). get_or p.first.now 0 0) pairs entry.pair e 0 said.0)
 
 -- where a pair starts, as the pair of the list at hand
 abbrev pair_at : (pairs : List AskedPair) (k : ℕ) → k < length pairs → AskedPair
@@ -64,7 +51,6 @@ pub right_more : (asked : Asked) (order : List Placed) (n : ℕ) (answers : List
 right_more asked order n answers d a pair l each few right before j d2 less d3 e =
     let p : ℕ = (get_or order n d).pair in
     let k : ℕ = (get_or order j d2).pair in
-    let mesh : FaceList = asked.surface.faces.now in
     elim (cases_Bool (eqb k p)) [
       | inl same ↦
           (let e1 : k ≡ p = eqb-true k p same in

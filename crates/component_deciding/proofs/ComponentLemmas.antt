@@ -1,9 +1,8 @@
 -- The vertices of components by their own numbers, the faces of a component, and the walks there.
-use Rattle.std.proofs.Common.{◌≡◌, inl, inr, ℕ, ◌+◌, ◌<◌, ◌≤◌, true, eqb, cond, List, [], ◌∷◌, ◌++◌, length, get_or, take, ap, sym, ◌∙◌, subst, arith}
+use Rattle.std.proofs.Common.{◌≡◌, inl, inr, ℕ, ◌+◌, ◌<◌, ◌≤◌, true, eqb, List, [], ◌∷◌, ◌++◌, length, get_or, take, ap, sym, ◌∙◌, subst, arith}
 use Rattle.std.specs.Prelude.{map}
-use Rattle.std.specs.Cmp.{both_ways}
 use Rattle.std.specs.List.{range_with_len}
-use Rattle.std.proofs.lemmas.Bool.{cases_Bool, cases_lt, eq-eqb, eqb-true}
+use Rattle.std.proofs.lemmas.Bool.{cases_lt}
 use Rattle.std.proofs.lemmas.List.{map-append, map_more, get_or_default, get_or-map, get_or_append_left, get_or_push, length-map, take_more}
 use Rattle.std.proofs.lemmas.List.Elements.{filter_agree}
 use Rattle.std.proofs.lemmas.List.Sums.{sum_by_more_le}
@@ -15,9 +14,9 @@ use Rattle.surf_model.specs.declared.names.VertexName.{VertexName}
 use Rattle.surf_model.proofs.FilterLemmas.{map_agree}
 use Rattle.surf_model.proofs.EdgeLemmas.{corner_used}
 use Rattle.surf_model.specs.ComponentParts.{PartsView, AreParts, component_at, component_mesh}
-use Rattle.manifold_check.proofs.MeasureLemmas.{place_of_used}
+use Rattle.manifold_check.proofs.MeasureLemmas.{place_of_used, used_alike}
 use Rattle.manifold_check.proofs.PartPieces.{IsOfComponent, piece_of_parts}
-use Rattle.manifold_check.proofs.PieceLemmas.{IsPiece, face-submesh, length-submesh, used_up, used_down}
+use Rattle.manifold_check.proofs.PieceLemmas.{IsPiece, face-submesh, length-submesh}
 use Rattle.manifold_check.proofs.PieceSides.{valid_alone, small_alone}
 use Rattle.component_deciding.specs.OwnVertices.{AreOwnNumbers, own_mesh, own_number, own_walk, used_number}
 use Rattle.component_deciding.specs.declared.own_numbers.OwnNumbers.{OwnNumbers}
@@ -25,28 +24,6 @@ use Rattle.component_deciding.proofs.OwnLemmas.{own_renamed}
 use Rattle.renaming.proofs.RenamedSides.{total_renamed, valid_renamed}
 
 -- ---- the numbers of vertices
-
--- the vertices that a component's mesh uses are those with its place
-used_there : (mesh : FaceList) (parts : PartsView) (k v : ℕ) → AreParts mesh parts → k < length parts.components
-    → eqb (place_of_used mesh parts v) k ≡ is_used (component_mesh mesh parts k) v
-used_there mesh parts k v h l =
-    let Inside : ℕ → Type 0 = IsOfComponent parts.places k in
-    let names : List ℕ = component_at parts k in
-    let piece : IsPiece mesh Inside names = piece_of_parts mesh parts k h l in
-    let place : is_used mesh v ≡ true → place_of_used mesh parts v ≡ get_or parts.places v 0 =
-    ap (λ b. cond b (get_or parts.places v 0) (length parts.components)) in
-    both_ways (eqb (place_of_used mesh parts v) k) (is_used (component_mesh mesh parts k) v)
-    (λ e. elim (cases_Bool (is_used mesh v)) [
-      | inl used ↦ used_down mesh Inside names v piece (sym (place used) ∙ eqb-true (place_of_used mesh parts v) k e) used
-      | inr unused ↦ absurd (omega (
-        arith,
-        l,
-        eqb-true (place_of_used mesh parts v) k e,
-        ap (λ b. cond b (get_or parts.places v 0) (length parts.components)) unused,
-      ))
-    ])
-    (λ e. (let up = used_up mesh Inside names v piece e in
-    eq-eqb (place_of_used mesh parts v) k (place up.0 ∙ up.1)))
 
 -- so the count of a component, as far as its vertices were gone through, is the own number of the next one
 pub count_is_number : (mesh : FaceList) (parts : PartsView) (counts : List ℕ) (k v : ℕ) → AreParts mesh parts
@@ -56,7 +33,7 @@ unfolding own_number
 count_is_number mesh parts counts k v h l b counted =
     counted k b
     ∙ ap (λ (xs : List ℕ). length xs) (filter_agree (λ u. eqb (place_of_used mesh parts u) k) (is_used (component_mesh mesh parts k))
-    (λ u. used_there mesh parts k u h l) (range_with_len 0 v))
+    (λ u. used_alike mesh parts k u h l) (range_with_len 0 v))
 
 -- the first vertices have their own numbers
 abbrev pub AreNumberedUpTo : FaceList → PartsView → ℕ → List ℕ → Type 0

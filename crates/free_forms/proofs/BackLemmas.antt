@@ -7,7 +7,7 @@ use Rattle.std.proofs.lemmas.Option.{get_or_from_slice_get}
 use Rattle.surf_model.specs.FaceLists.{FaceList}
 use Rattle.surf_model.specs.Walks.{IsWalk, darts}
 use Rattle.surf_model.specs.Moves.{PeakedMoves, apply, apply_all, greatest_darts}
-use Rattle.surf_model.specs.Rewriting.{TakesAtMost, inverse_of, sides_of_move, way_back}
+use Rattle.surf_model.specs.Rewriting.{inverse_of, sides_of_move, way_back}
 use Rattle.surf_model.specs.declared.moves.Move.{Move}
 use Rattle.surf_model.specs.declared.moves.Move.TheVariants.{Insert, Remove, Across}
 use Rattle.surf_model.proofs.ReplacementLemmas.{by_replacing}
@@ -47,11 +47,6 @@ moves_of mesh (move ∷ moves) walk next start e zero d l =
 moves_of mesh (move ∷ moves) walk next start e (suc k) d l =
     let told = first_answer (λ x. apply_all mesh x moves) (apply mesh walk move) next e in
     moves_of mesh moves told.0 next (stays_walk mesh walk told.0 move start told.1) told.2 k d (omega arith)
-
-pub takes_at_most : (mesh : FaceList) (move : Move) → IsMoveOf mesh move → TakesAtMost (sides_of_move mesh move) move
-takes_at_most mesh (Insert at via) h = tt
-takes_at_most mesh (Remove at via) h = tt
-takes_at_most mesh (Across at face corner forward taken) h = h.1
 
 -- the way back along the last moves, one move more
 pub back_more : (mesh : FaceList) (moves : List Move) (k : ℕ) (move : Move) → k < length moves → slice_get moves k ≡ Some move

@@ -1,15 +1,13 @@
 -- Homotopic walks have one normal walk.
-use Rattle.std.proofs.Common.{◌≡◌, ◌≢◌, inl, inr, ℕ, suc, ◌+◌, ◌<◌, List, [], ◌∷◌, ◌++◌, length, get_or, refl, ap, sym, ◌∙◌, subst, arith}
+use Rattle.std.proofs.Common.{◌≡◌, ℕ, suc, ◌+◌, ◌<◌, List, [], ◌∷◌, ◌++◌, length, get_or, refl, ap, sym, ◌∙◌, subst, arith}
 use Rattle.std.specs.Prelude.{◌↔◌}
-use Rattle.std.proofs.lemmas.Bool.Decides.{nat_tests}
-use Rattle.std.proofs.lemmas.Bool.{cases_eq, eq-eqb}
 use Rattle.surf_model.specs.FaceLists.{FaceList}
 use Rattle.surf_model.specs.FreeWalks.{HasNoSpur}
 use Rattle.surf_model.specs.Moves.{apply, apply_all, Leads, Homotopic}
 use Rattle.surf_model.specs.Rewriting.{way_back}
 use Rattle.surf_model.specs.Walks.{IsWalk}
 use Rattle.surf_model.specs.declared.moves.Move.{Move}
-use Rattle.surf_model.proofs.StackLemmas.{put_on, all_put, put_keeps, spur_same, same_equal}
+use Rattle.surf_model.proofs.StackLemmas.{put_on, all_put, put_keeps, same_equal, there_and_back, top_put}
 use Rattle.surf_model.proofs.ContextLemmas.{first_answer, stays_walk, one_after_another}
 use Rattle.surf_model.proofs.WayBackLemmas.{list_keeps_ends, list_undone}
 use Rattle.free_forms.specs.Parents.{OpenView, HasParents, IsParentEdge}
@@ -26,48 +24,16 @@ pub record IsStackAt (v : ℕ) (stack : List ℕ) : Type 0 where
 abbrev pub put : List ℕ → ℕ → ℕ → List ℕ
 put stack u v = put_on stack v
 
-put_same : (u x v : ℕ) (rest : List ℕ) → x ≡ v → put_on (u ∷ x ∷ rest) v ≡ x ∷ rest
-put_same u x v rest e = rw (eq-eqb x v e) refl
-
-put_other : (u x v : ℕ) (rest : List ℕ) → x ≢ v → put_on (u ∷ x ∷ rest) v ≡ v ∷ u ∷ x ∷ rest
-put_other u x v rest n = grind (arith, nat_tests)
-
--- the vertex becomes the top
-top_put : (stack : List ℕ) (v : ℕ) → (rest : List ℕ) × (put_on stack v ≡ v ∷ rest)
-top_put [] v = ([], refl)
-top_put (u ∷ []) v = (u ∷ [], refl)
-top_put (u ∷ x ∷ rest) v =
-    elim (cases_eq x v) [
-      | inl e ↦ (rest, put_same u x v rest e ∙ ap (λ (y : ℕ). y ∷ rest) e)
-      | inr n ↦ (u ∷ x ∷ rest, put_other u x v rest n)
-    ]
-
 pub put_at : (stack : List ℕ) (v : ℕ) → HasNoSpur stack → IsStackAt v (put_on stack v)
 put_at stack v clean =
     let top = top_put stack v in
     record { below = top.0; top = top.1; no_spur = put_keeps stack v clean }
 
-put_whole : (u : ℕ) (below : List ℕ) → HasNoSpur (u ∷ below) → put_on below u ≡ u ∷ below
-put_whole u [] h = refl
-put_whole u (x ∷ []) h = refl
-put_whole u (x ∷ y ∷ rest) h = put_other x y u rest (λ same. h 0 (omega arith) (sym same))
-
-no_spur_below : (x : ℕ) (stack : List ℕ) → HasNoSpur (x ∷ stack) → HasNoSpur stack
-no_spur_below x stack h k l =
-    let up : suc k + 2 ≡ suc (k + 2) = omega arith in
-    subst (λ (n : ℕ). get_or (x ∷ stack) (suc k) 0 ≢ get_or (x ∷ stack) n 0) up (h (suc k) (omega arith))
-
--- there and back leaves a stack as it was
-put_back : (u v : ℕ) (below : List ℕ) → HasNoSpur (u ∷ below) → put_on (put_on (u ∷ below) v) u ≡ u ∷ below
-put_back u v below h =
-    let whole : put_on below u ≡ u ∷ below = put_whole u below h in
-    ap (λ (s : List ℕ). put_on (put_on s v) u) (sym whole) ∙ spur_same u v [] below (no_spur_below u below h) ∙ whole
-
 pub puts_act : Acts put IsStackAt
 puts_act = record {
   stays = λ s u v at. put_at s v at.no_spur;
   back = λ s u v at.
-      subst (λ (x : List ℕ). put_on (put_on x v) u ≡ x) (sym at.top) (put_back u v at.below (subst HasNoSpur at.top at.no_spur));
+      subst (λ (x : List ℕ). put_on (put_on x v) u ≡ x) (sym at.top) (there_and_back u v at.below (subst HasNoSpur at.top at.no_spur));
 }
 
 -- off the parent edges each vertex is put on

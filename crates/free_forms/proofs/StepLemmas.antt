@@ -288,7 +288,6 @@ face_crossed : (surface : OpenView) (f u v corner : ℕ) (forward : Bool) (front
     ≡ Some (front ++ u ∷ (expansion surface.mesh (parent_of surface f) u ++ rest))
 face_crossed surface f u v corner forward front rest has found way =
     let w : IsWay surface f u v corner forward = way_along surface f u v corner forward has found way in
-    let ring : List ℕ = face_at surface.mesh f in
     let exp : List ℕ = expansion surface.mesh (parent_of surface f) u in
     let some : 0 < length (front ++ u ∷ v ∷ rest) = rw length-append (omega arith) in
     (by_replacing surface.mesh (front ++ u ∷ v ∷ rest) (front ++ u ∷ (exp ++ rest))

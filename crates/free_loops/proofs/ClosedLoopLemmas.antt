@@ -1,8 +1,8 @@
 -- A closed walk is freely homotopic to its loop at the root of the tree, and so to the product of the spokes of its quad path.
-use Rattle.std.proofs.Common.{◌≡◌, inl, inr, ℕ, ◌%◌, ◌<◌, true, ◌&&◌, eqb, List, [], ◌∷◌, ◌++◌, length, get_or, refl, ap, sym, ◌∙◌, subst, arith, append_assoc}
+use Rattle.std.proofs.Common.{◌≡◌, inl, inr, ℕ, ◌%◌, ◌<◌, ◌&&◌, eqb, List, [], ◌∷◌, ◌++◌, length, get_or, refl, ap, sym, ◌∙◌, subst, arith, append_assoc}
 use Rattle.std.specs.Prelude.{Option, Some, None}
-use Rattle.std.proofs.lemmas.Bool.{cases_Bool, eqb-true, and_parts}
-use Rattle.std.proofs.lemmas.List.{length-append}
+use Rattle.std.proofs.lemmas.Bool.{cases_Bool}
+use Rattle.std.proofs.lemmas.List.{length-append, append-nil}
 use Rattle.surf_model.specs.FaceLists.{FaceList, FaceSide}
 use Rattle.surf_model.specs.Edges.{side_name}
 use Rattle.surf_model.specs.Walks.{HaveCommonEnds, darts}
@@ -14,16 +14,15 @@ use Rattle.halfedge_map.proofs.EdgeLemmas.{dart_between}
 use Rattle.tree_cotree.specs.Splits.{SplitView, IsSplit}
 use Rattle.polygon_cut.specs.Polygons.{PolygonView, IsCutFrom, label_of}
 use Rattle.polygon_cut.proofs.GroupLemmas.{IsGroup, quotient}
-use Rattle.polygon_cut.proofs.RelatorLemmas.{spoke_product}
 use Rattle.polygon_cut.proofs.CongruenceLemmas.{behind, there_and_home}
-use Rattle.polygon_cut.proofs.LoopLemmas.{back, homotopy, IsWay, way_walk, way_on, way_home, append_none, Loop, HasWays, SameLoop, loop_mul, loop_inv, loop_one, loop_of, no_dart, first_dart, start_used}
+use Rattle.polygon_cut.proofs.LoopLemmas.{back, homotopy, IsWay, way_walk, way_on, way_home, Loop, HasWays, SameLoop, loop_mul, loop_inv, loop_one, loop_of, no_dart, first_dart, start_used}
 use Rattle.polygon_cut.proofs.TreeWayLemmas.{up, tree_ways}
 use Rattle.polygon_cut.proofs.SpokeLemmas.{Loops, value, spoke, group_of, dart_is_two_spokes}
 use Rattle.polygon_cut.proofs.DartLoopLemmas.{value_along}
 use Rattle.labellings.specs.Labellings.{LabellingView, tail_label, head_label}
 use Rattle.labellings.specs.QuadPaths.{side_from, spokes, spokes_by_labels, spokes_of_sides, quad_path}
 use Rattle.quad_system.specs.PolygonLabellings.{labelling_from}
-use Rattle.quad_system.proofs.SpokeProductLemmas.{DartSpokes, dart_spokes}
+use Rattle.quad_system.proofs.SpokeProductLemmas.{DartSpokes, dart_spokes, labels_product}
 use Rattle.quad_system.proofs.PushWorthLemmas.{loop_of_path}
 use Rattle.closed_walks.specs.FreeHomotopy.{FreelyHomotopic}
 use Rattle.closed_walks.proofs.MovedSteps.{freely}
@@ -87,33 +86,13 @@ free_loop mesh root up ways u rest way =
     let long : IsWay mesh u u (rest ++ (up u ++ back u (up u))) =
     way_on mesh u u u rest (up u ++ back u (up u)) way (way_on mesh u root u (up u) (back u (up u)) u_way home) in
     let short : Homotopic mesh (u ∷ (rest ++ (up u ++ back u (up u)))) (u ∷ rest) =
-    subst (λ (l : List ℕ). Homotopic mesh (u ∷ (rest ++ (up u ++ back u (up u)))) (u ∷ l)) (append_none rest)
+    subst (λ (l : List ℕ). Homotopic mesh (u ∷ (rest ++ (up u ++ back u (up u)))) (u ∷ l)) (append-nil rest)
     (behind (homotopy mesh) u u rest (up u ++ back u (up u)) [] way (there_and_home (homotopy mesh) u root (up u) u_way)) in
     let out : Homotopic mesh (u ∷ rest) (u ∷ ((rest ++ up u) ++ back u (up u))) =
     subst (λ (l : List ℕ). Homotopic mesh (u ∷ rest) (u ∷ l)) (sym (append_assoc rest (up u) (back u (up u))))
     ((homotopy mesh).turn _ _ (way_walk mesh u u _ long) short) in
     on mesh (u ∷ rest) (u ∷ ((rest ++ up u) ++ back u (up u))) (root ∷ (back u (up u) ++ (rest ++ up u)))
     (freely mesh _ _ out) (parts_turn mesh u root (rest ++ up u) (back u (up u)) (way_ends mesh u root (rest ++ up u) there))
-
--- two spokes by the labels of an edge are what the two labels are, and nothing where these are one
-labels_product : {X : Type 0} (Same : X → X → Type 0) (mul : X → X → X) (inv : X → X) (one : X) → IsGroup Same mul inv one
-    → (element : ℕ → X) (a b c d : ℕ) (more : List ℕ)
-    → Same (spoke_product mul inv one element true (spokes_by_labels a b c d ++ more))
-    (mul (quotient mul inv (element a) (element b)) (spoke_product mul inv one element true more))
-labels_product {X = X} Same mul inv one g element a b c d more = elim (cases_Bool (eqb a b && eqb c d)) [
-  | inl tree ↦
-      let same : a ≡ b = eqb-true a b (and_parts (eqb a b) (eqb c d) tree).0 in
-      let rest : X = spoke_product mul inv one element true more in
-      let still : X = quotient mul inv (element a) (element a) in
-      let nothing : Same (mul still rest) rest =
-      g.on (mul still rest) (mul one rest) rest (g.mul_same still one rest rest (g.cancels (element a)) (g.itself rest))
-      (g.one_left rest) in
-      rw tree (subst (λ x. Same rest (mul (quotient mul inv (element a) (element x)) rest)) same (g.turn (mul still rest) rest nothing))
-  | inr other ↦
-      let rest : X = spoke_product mul inv one element true more in
-      rw other (g.turn (mul (mul (element a) (inv (element b))) rest) (mul (element a) (mul (inv (element b)) rest))
-      (g.associates (element a) (inv (element b)) rest))
-]
 
 module _ (s : OrientedMesh) (split : SplitView) (o : IsOrientedSurface s) (t : IsSplit s split) (polygon : PolygonView)
     (cut : IsCutFrom s split polygon) (some : 0 < polygon.degree) where

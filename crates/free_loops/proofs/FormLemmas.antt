@@ -41,10 +41,6 @@ module _ (mesh : FaceList) (labelling : LabellingView) (good : IsGood mesh label
   word_over_places walk word h =
       subst (λ n. IsCanonicalOf n (turn_word_of labelling.places (quad_path mesh labelling walk)) word) (sym good.shape.each_spoke) h.1
 
-  pub entries_below : (walk word : List ℕ) → IsWordOf mesh labelling walk (Turns word)
-      → All (λ entry. entry < length labelling.places) word
-  entries_below walk word h = (word_over_places walk word h).is_canonical.in_range
-
   even_word : (walk word : List ℕ) → IsWordOf mesh labelling walk (Turns word) → length word % 2 ≡ 0
   even_word walk word h =
       let places : List ℕ = labelling.places in

@@ -1,14 +1,16 @@
 -- What loop steps do to the product of a closed list of spokes: spurs and quads change nothing, and a rotation turns two factors round.
-use Rattle.std.proofs.Common.{◌≡◌, ◌⊎◌, inl, inr, ℕ, zero, suc, ◌+◌, ◌%◌, Bool, true, false, not, ◌&&◌, eqb, cond, List, [], ◌∷◌, ◌++◌, length, take, drop, refl, ap, sym, ◌∙◌, subst, arith}
-use Rattle.std.specs.Prelude.{Option, Some, None, option_map, nat_lt}
+use Rattle.std.proofs.Common.{◌≡◌, ◌⊎◌, inl, inr, ℕ, zero, suc, ◌+◌, ◌%◌, Bool, true, false, not, ◌&&◌, eqb, List, [], ◌∷◌, ◌++◌, length, take, drop, refl, ap, sym, ◌∙◌, subst, arith}
+use Rattle.std.specs.Prelude.{Option, Some, None, nat_lt}
 use Rattle.std.proofs.lemmas.Bool.{cases_Bool, eqb-true, ltb-true, and_parts}
 use Rattle.std.proofs.lemmas.List.{length-append, length-take, take-append-drop}
+use Rattle.std.proofs.lemmas.Option.{cond_some}
 use Rattle.turn_words.specs.Modulo.{add}
 use Rattle.turn_words.specs.FormLaws.{IsQuad}
 use Rattle.polygon_cut.proofs.GroupLemmas.{IsGroup, quotient}
 use Rattle.polygon_cut.proofs.RelatorLemmas.{spoke_product, ends_at_vertex, spokes_on, free_push, free_spur}
 use Rattle.surf_model.proofs.ContextLemmas.{first_answer}
 use Rattle.spoke_paths.specs.PathSteps.{is_quad, from_spoke, spur_goes, quad_turned, two_become}
+use Rattle.spoke_paths.proofs.StepsKeep.{mapped-is, quad-is}
 use Rattle.spoke_rings.specs.LoopSteps.{LoopStep, spur_out, spur_in, across, rotate, spur_comes, across_quad, after_loop_step, after_loop_steps}
 
 -- a rule was used behind some spokes
@@ -19,11 +21,6 @@ record ChangedBehind (rule : Bool → List ℕ → Option (List ℕ)) (at_vertex
   path_is : path ≡ before ++ part
   other_is : other ≡ before ++ instead
   ruled : rule (ends_at_vertex at_vertex before) part ≡ Some instead
-
-mapped_is : (o : Option (List ℕ)) (x : ℕ) (v : List ℕ) → option_map (λ changed. x ∷ changed) o ≡ Some v → (w : List ℕ) × (o ≡ Some w)
-    × (x ∷ w ≡ v)
-mapped_is None x v e = cc
-mapped_is (Some w) x v e = (w, refl, let same : x ∷ w ≡ v = cc in same)
 
 changed_behind : (rule : Bool → List ℕ → Option (List ℕ)) (at : ℕ) (at_vertex : Bool) (path other : List ℕ)
     → from_spoke at at_vertex rule path ≡ Some other → ChangedBehind rule at_vertex path other
@@ -37,7 +34,7 @@ changed_behind rule zero at_vertex path other e = record {
 }
 changed_behind rule (suc at) at_vertex [] other e = cc
 changed_behind rule (suc at) at_vertex (x ∷ path) other e =
-    let told = mapped_is (from_spoke at (not at_vertex) rule path) x other e in
+    let told = mapped-is (from_spoke at (not at_vertex) rule path) x other e in
     let rest = changed_behind rule at (not at_vertex) path told.0 told.1 in
     record {
       before = x ∷ rest.before;
@@ -48,15 +45,11 @@ changed_behind rule (suc at) at_vertex (x ∷ path) other e =
       ruled = rest.ruled;
     }
 
-some_is : (test : Bool) (x v : List ℕ) → cond test (Some x) None ≡ Some v → (test ≡ true) × (x ≡ v)
-some_is true x v e = (refl, let same : x ≡ v = cc in same)
-some_is false x v e = cc
-
 spur_is : (path other : List ℕ) → spur_goes path ≡ Some other → (x : ℕ) × (path ≡ x ∷ x ∷ other)
 spur_is [] other e = cc
 spur_is (x ∷ []) other e = cc
 spur_is (x ∷ y ∷ rest) other e =
-    let told = some_is (eqb x y) rest other e in
+    let told = cond_some (eqb x y) rest other e in
     let same : x ≡ y = eqb-true x y told.0 in
     (x, ap (λ z. x ∷ z ∷ rest) (sym same) ∙ ap (λ (l : List ℕ). x ∷ x ∷ l) told.1)
 
@@ -65,21 +58,9 @@ become_is : (x y v w : ℕ) (path other : List ℕ) → two_become (x ∷ y ∷ 
 become_is x y v w [] other e = cc
 become_is x y v w (a ∷ []) other e = cc
 become_is x y v w (a ∷ b ∷ rest) other e =
-    let told = some_is (eqb a x && eqb b y) (v ∷ w ∷ rest) other e in
+    let told = cond_some (eqb a x && eqb b y) (v ∷ w ∷ rest) other e in
     let both = and_parts (eqb a x) (eqb b y) told.0 in
     (rest, ap (λ z. z ∷ b ∷ rest) (eqb-true a x both.0) ∙ ap (λ z. x ∷ z ∷ rest) (eqb-true b y both.1), sym told.1)
-
-quad_from : (places : List ℕ) (a c : ℕ) → is_quad places a c ≡ true → IsQuad places a c
-quad_from places a c e =
-    let first = and_parts _ _ e in
-    let second = and_parts _ _ first.0 in
-    let third = and_parts _ _ second.0 in
-    record {
-      a_below = ltb-true a (length places) third.0;
-      c_below = ltb-true c (length places) third.1;
-      a_place = eqb-true _ _ second.1;
-      c_place = eqb-true _ _ first.1;
-    }
 
 -- the two ways round a quad, from the vertex
 record GoesRound (places : List ℕ) (at_vertex : Bool) (side partner : ℕ) (part instead : List ℕ) : Type 0 where
@@ -100,10 +81,10 @@ turned_is places side partner up part instead e = by (cases_Bool (is_quad places
         cc
     by (inl is) true k =
         let told = become_is (add (length places) partner 1) partner side (add (length places) side 1) part instead (rw is at k) in
-        record { stands = refl; quad = quad_from places side partner is; rest = told.0; ways = inr (told.1, told.2) }
+        record { stands = refl; quad = quad-is places side partner is; rest = told.0; ways = inr (told.1, told.2) }
     by (inl is) false k =
         let told = become_is side (add (length places) side 1) (add (length places) partner 1) partner part instead (rw is at k) in
-        record { stands = refl; quad = quad_from places side partner is; rest = told.0; ways = inl (told.1, told.2) }
+        record { stands = refl; quad = quad-is places side partner is; rest = told.0; ways = inl (told.1, told.2) }
 
 across_is : (places : List ℕ) (side partner : ℕ) (up at_vertex : Bool) (part instead : List ℕ)
     → across_quad places side partner up at_vertex part ≡ Some instead → GoesRound places at_vertex side partner part instead
@@ -218,7 +199,7 @@ module _ {X : Type 0} (Same : X → X → Type 0) (mul : X → X → X) (inv : X
       (spur_goes_free b.before b.instead x.0 (subst (λ (l : List ℕ). length l % 2 ≡ 0) from even)))
   step_free (spur_in at x) path other even e =
       let b = changed_behind (λ at_vertex. spur_comes places x) at true path other e in
-      let told = some_is (nat_lt x (length places)) (x ∷ x ∷ b.part) b.instead b.ruled in
+      let told = cond_some (nat_lt x (length places)) (x ∷ x ∷ b.part) b.instead b.ruled in
       let to : other ≡ b.before ++ (x ∷ x ∷ b.part) = b.other_is ∙ ap (λ (l : List ℕ). b.before ++ l) (sym told.1) in
       subst (λ (l : List ℕ). Stepped l other) (sym b.path_is)
       (subst (λ (l : List ℕ). Stepped (b.before ++ b.part) l) (sym to)
@@ -230,7 +211,7 @@ module _ {X : Type 0} (Same : X → X → Type 0) (mul : X → X → X) (inv : X
       (subst (λ (l : List ℕ). Stepped (b.before ++ b.part) l) (sym b.other_is)
       (quad_free b.before b.part b.instead side partner r (subst (λ (l : List ℕ). length l % 2 ≡ 0) b.path_is even)))
   step_free (rotate count) path other even e =
-      let told = some_is (eqb (count % 2) 0 && nat_lt count (length path + 1)) (drop count path ++ take count path) other e in
+      let told = cond_some (eqb (count % 2) 0 && nat_lt count (length path + 1)) (drop count path ++ take count path) other e in
       let both = and_parts (eqb (count % 2) 0) (nat_lt count (length path + 1)) told.0 in
       let count_even : count % 2 ≡ 0 = eqb-true (count % 2) 0 both.0 in
       let within = ltb-true count (length path + 1) both.1 in

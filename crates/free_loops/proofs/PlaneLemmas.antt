@@ -1,6 +1,7 @@
 -- On a torus closed walks with one sum are freely homotopic: the second one is made a walk from the start of the first, along a way
 -- there and back, which changes no sum.
 use Rattle.std.proofs.Common.{◌≡◌, ℕ, List, [], ◌∷◌, ◌++◌, refl, ap, ap₂, sym, ◌∙◌, subst, arith, append_assoc, ℤ}
+use Rattle.std.proofs.lemmas.List.{append-nil}
 use Rattle.std.proofs.lemmas.Int.{ints}
 use Rattle.surf_model.specs.FaceLists.{FaceList, IsFaceList}
 use Rattle.surf_model.specs.Moves.{Homotopic}
@@ -11,10 +12,11 @@ use Rattle.flat_forms.specs.FlatStates.{IsEven, IsFlatWheel, flat_next}
 use Rattle.flat_forms.specs.Pairs.{spokes_of, sum_of_pairs}
 use Rattle.flat_forms.specs.Lemmas.FlatLaws.{flat_stays, flat_there_and_back, flat_across}
 use Rattle.flat_forms.specs.Lemmas.StepsInThePlane.{next-next, vertex-again}
+use Rattle.flat_forms.proofs.SumsOfPairs.{leads-by}
 use Rattle.tree_cotree.specs.Splits.{SplitView, IsSplit}
 use Rattle.polygon_cut.specs.Polygons.{PolygonView, IsCutFrom}
 use Rattle.polygon_cut.proofs.CongruenceLemmas.{behind, there_and_home, home_and_there}
-use Rattle.polygon_cut.proofs.LoopLemmas.{back, homotopy, IsWay, way_walk, way_on, way_home, append_none, start_used}
+use Rattle.polygon_cut.proofs.LoopLemmas.{back, homotopy, IsWay, way_walk, way_on, way_home, start_used}
 use Rattle.polygon_cut.proofs.TreeWayLemmas.{up, tree_ways}
 use Rattle.labellings.specs.Labellings.{LabellingView}
 use Rattle.labellings.specs.GoodLabellings.{IsGood}
@@ -31,16 +33,6 @@ use Rattle.closed_walks.proofs.MovedSteps.{freely}
 use Rattle.closed_walks.proofs.FreeStepLemmas.{on, parts_turn}
 use Rattle.free_loops.proofs.ClosedLoopLemmas.{way_ends, common_ends}
 
--- pairs of spokes lead on by their sum
-leads_by : (places : List ℕ) (s : Vector) (pairs : List (ℕ × ℕ)) → IsEven s
-    → led flat_next places s (spokes_of pairs) ≡ plus s (sum_of_pairs pairs)
-leads_by places s [] even = ap₂ (λ (x y : ℤ). record { x = x; y = y }) (omega (arith, ints)) (omega (arith, ints))
-leads_by places s (pair ∷ pairs) even =
-    let there : Vector = less (plus s (unit_step pair.0)) (unit_step pair.1) in
-    ap (λ z. led flat_next places z (spokes_of pairs)) (next-next places s pair.0 pair.1 even)
-    ∙ leads_by places there pairs (vertex-again s pair.0 pair.1 even)
-    ∙ ap₂ (λ (x y : ℤ). record { x = x; y = y }) (omega (arith, ints)) (omega (arith, ints))
-
 even_after : (places : List ℕ) (s : Vector) (pairs : List (ℕ × ℕ)) → IsEven s → IsEven (led flat_next places s (spokes_of pairs))
 even_after places s [] even = even
 even_after places s (pair ∷ pairs) even =
@@ -54,10 +46,10 @@ pairs_turned : (places : List ℕ) (s : Vector) (pairs others : List (ℕ × ℕ
     → led flat_next places (led flat_next places s (spokes_of pairs)) (spokes_of others)
     ≡ led flat_next places (led flat_next places s (spokes_of others)) (spokes_of pairs)
 pairs_turned places s pairs others even =
-    leads_by places (led flat_next places s (spokes_of pairs)) others (even_after places s pairs even)
-    ∙ ap (λ z. plus z (sum_of_pairs others)) (leads_by places s pairs even) ∙ plus_turned s (sum_of_pairs pairs) (sum_of_pairs others)
-    ∙ ap (λ z. plus z (sum_of_pairs pairs)) (sym (leads_by places s others even))
-    ∙ sym (leads_by places (led flat_next places s (spokes_of others)) pairs (even_after places s others even))
+    leads-by places (led flat_next places s (spokes_of pairs)) others (even_after places s pairs even)
+    ∙ ap (λ z. plus z (sum_of_pairs others)) (leads-by places s pairs even) ∙ plus_turned s (sum_of_pairs pairs) (sum_of_pairs others)
+    ∙ ap (λ z. plus z (sum_of_pairs pairs)) (sym (leads-by places s others even))
+    ∙ sym (leads-by places (led flat_next places s (spokes_of others)) pairs (even_after places s others even))
 
 -- the quad path of a walk that is put together of two
 path_on : (mesh : FaceList) (labelling : LabellingView) (u v : ℕ) (rest more : List ℕ) → IsWay mesh u v rest
@@ -127,7 +119,7 @@ taken_along : (mesh : FaceList) (u v : ℕ) (rest others : List ℕ) → IsWay m
     → FreelyHomotopic mesh (u ∷ (rest ++ (others ++ back u rest))) (v ∷ others)
 taken_along mesh u v rest others way round =
     let home : Homotopic mesh (v ∷ (others ++ (back u rest ++ rest))) (v ∷ others) =
-    subst (λ (l : List ℕ). Homotopic mesh (v ∷ (others ++ (back u rest ++ rest))) (v ∷ l)) (append_none others)
+    subst (λ (l : List ℕ). Homotopic mesh (v ∷ (others ++ (back u rest ++ rest))) (v ∷ l)) (append-nil others)
     (behind (homotopy mesh) v v others (back u rest ++ rest) [] round (home_and_there (homotopy mesh) u v rest way)) in
     on mesh (u ∷ (rest ++ (others ++ back u rest))) (v ∷ ((others ++ back u rest) ++ rest)) (v ∷ others)
     (parts_turn mesh u v rest (others ++ back u rest) (way_ends mesh u v rest way))

@@ -1,8 +1,10 @@
 -- A step on the turn word of a list of spokes is made of loop steps on the list: a spur is one, and a push takes the list the other way
 -- round a quad, for which round the vertex a spur comes and one goes.
-use Rattle.std.proofs.Common.{◌≡◌, ℕ, zero, suc, ◌+◌, ◌-◌, ◌<◌, Bool, true, false, not, eqb, cond, List, [], ◌∷◌, ◌++◌, length, get_or, refl, ap, ap₂, sym, ◌∙◌, subst, arith, append_assoc}
-use Rattle.std.specs.Prelude.{All, Option, Some, None, option_map, option_and_then, nat_lt}
+use Rattle.std.proofs.Common.{◌≡◌, ℕ, zero, suc, ◌+◌, ◌-◌, ◌<◌, Bool, true, false, not, eqb, List, [], ◌∷◌, ◌++◌, length, get_or, refl, ap, ap₂, sym, ◌∙◌, subst, arith, append_assoc}
+use Rattle.std.specs.Prelude.{All, Option, Some, option_map, option_and_then, nat_lt}
 use Rattle.std.proofs.lemmas.Bool.{eqb-true, ltb-true, eq-eqb, lt-ltb, and_from}
+use Rattle.std.proofs.lemmas.Option.{cond_some}
+use Rattle.std.proofs.Math.Bool.{not-not}
 use Rattle.surf_model.proofs.ContextLemmas.{first_answer}
 use Rattle.turn_words.specs.Modulo.{add, minus}
 use Rattle.turn_words.specs.Lemmas.Sums.{add-cases, minus-cases, add-lt, minus-lt, add_comm, add_assoc, add-zero, zero-add, add-minus}
@@ -14,6 +16,7 @@ use Rattle.turn_words.specs.declared.step.Step.TheVariants.{SpurIn, SpurOut, Pus
 use Rattle.polygon_cut.proofs.RelatorLemmas.{ends_at_vertex}
 use Rattle.quad_system.proofs.PushPathLemmas.{add_back}
 use Rattle.spoke_paths.specs.PathSteps.{is_quad, from_spoke}
+use Rattle.spoke_paths.proofs.StepsKeep.{mapped-is}
 use Rattle.spoke_rings.specs.CyclicWords.{Partner, IsFullWheel}
 use Rattle.spoke_rings.specs.LoopSteps.{LoopStep, across, across_quad, after_loop_step, after_loop_steps, LoopLeads}
 use Rattle.spoke_rings.proofs.Leading.{leads-same, leads-on, spur-leaves, spur-enters}
@@ -78,19 +81,6 @@ after_is places at_vertex i [] = refl
 after_is places at_vertex i (j ∷ path) = ap
     (λ (l : List ℕ). add (length places) (place_round places at_vertex j) (minus (length places) (place_round places at_vertex i)) ∷ l)
     (after_is places (not at_vertex) j path)
-
-not_twice : (v : Bool) → not (not v) ≡ v
-not_twice true = refl
-not_twice false = refl
-
-mapped_is : (o : Option (List ℕ)) (x : ℕ) (v : List ℕ) → option_map (λ changed. x ∷ changed) o ≡ Some v → (w : List ℕ) × (o ≡ Some w)
-    × (x ∷ w ≡ v)
-mapped_is None x v e = cc
-mapped_is (Some w) x v e = (w, refl, let same : x ∷ w ≡ v = cc in same)
-
-some_is : (test : Bool) (x v : List ℕ) → cond test (Some x) None ≡ Some v → (test ≡ true) × (x ≡ v)
-some_is true x v e = (refl, let same : x ≡ v = cc in same)
-some_is false x v e = cc
 
 -- the two ways round a quad, where the list stands as is told
 abbrev upper : ℕ → Bool → ℕ → ℕ → List ℕ → List ℕ
@@ -242,7 +232,7 @@ module _ (places : List ℕ) (full : IsFullWheel places) where
       ≡ turns_counted places m v path
   rebased_on v m j x path l k h e =
       subst (λ w. next_changed (length places) x (turns_counted places (place_round places w j) w path) ≡ turns_counted places m v path)
-      (sym (not_twice v)) (rebased v m (place_round places v j) x path l (value_in v j k) h e)
+      (sym (not-not v)) (rebased v m (place_round places v j) x path l (value_in v j k) h e)
 
   spur_out_lifts : (v : Bool) (m : ℕ) (path word : List ℕ) → m < length places → Below (length places) path
       → spur_out (length places) (turns_counted places m v path) ≡ Some word → Lifted places v m path word
@@ -253,7 +243,7 @@ module _ (places : List ℕ) (full : IsFullWheel places) where
       let x : ℕ = add d (place_round places v i) (minus d m) in
       let turn : ℕ = add d (place_round places (not v) j) (minus d (place_round places (not v) i)) in
       let told =
-      some_is (eqb turn 0) (next_changed d x (turns_counted places (place_round places (not (not v)) j) (not (not v)) path)) word e in
+      cond_some (eqb turn 0) (next_changed d x (turns_counted places (place_round places (not (not v)) j) (not (not v)) path)) word e in
       let zero_is : turn ≡ 0 = eqb-true turn 0 told.0 in
       let pi : place_round places (not v) i < d = value_in (not v) i h.0 in
       let same : j ≡ i = once (not v) j i h.1.0 h.0
@@ -279,7 +269,7 @@ module _ (places : List ℕ) (full : IsFullWheel places) where
       let d : ℕ = length places in
       let behind : turns_counted places (place_round places (not (not v)) l) (not (not v)) rest
       ≡ next_changed d x (turns_counted places (place_round places (not (not v)) j) (not (not v)) rest) =
-      ap (λ w. turns_counted places (place_round places w l) w rest) (not_twice v)
+      ap (λ w. turns_counted places (place_round places w l) w rest) (not-not v)
       ∙ sym (rebased_on v (place_round places v l) j x rest (value_in v l l_in) h.1.0 h.1.1 three) in
       record {
         other = k ∷ l ∷ rest;
@@ -300,7 +290,7 @@ module _ (places : List ℕ) (full : IsFullWheel places) where
       let d : ℕ = length places in
       let less : ℕ = minus d 1 in
       let x : ℕ = add d (get_or places i 0) (minus d m) in
-      let told = some_is (eqb (add d j (minus d i)) 1)
+      let told = cond_some (eqb (add d j (minus d i)) 1)
       (add d x less ∷ less ∷ next_changed d less (turns_counted places (get_or places j 0) true rest)) word e in
       let next : j ≡ add d i 1 = differs d j i 1 h.1.0 h.0 large (eqb-true (add d j (minus d i)) 1 told.0) in
       let p : Partner places i = full.full i h.0 in
@@ -318,7 +308,7 @@ module _ (places : List ℕ) (full : IsFullWheel places) where
       let d : ℕ = length places in
       let less : ℕ = minus d 1 in
       let x : ℕ = add d i (minus d m) in
-      let told = some_is (eqb (add d (get_or places j 0) (minus d (get_or places i 0))) 1)
+      let told = cond_some (eqb (add d (get_or places j 0) (minus d (get_or places i 0))) 1)
       (add d x less ∷ less ∷ next_changed d less (turns_counted places j false rest)) word e in
       let i_in : get_or places i 0 < d = value_in true i h.0 in
       let next : get_or places j 0 ≡ add d (get_or places i 0) 1 =
@@ -347,7 +337,7 @@ module _ (places : List ℕ) (full : IsFullWheel places) where
       let d : ℕ = length places in
       let less : ℕ = minus d 1 in
       let x : ℕ = add d (get_or places i 0) (minus d m) in
-      let told = some_is (eqb (add d j (minus d i)) less)
+      let told = cond_some (eqb (add d j (minus d i)) less)
       (add d x 1 ∷ 1 ∷ next_changed d 1 (turns_counted places (get_or places j 0) true rest)) word e in
       let before : j ≡ add d i less = differs d j i less h.1.0 h.0 less_in (eqb-true (add d j (minus d i)) less told.0) in
       let is : i ≡ add d j 1 = sym (back_add d i large h.0) ∙ ap (λ z. add d z 1) (sym before) in
@@ -368,7 +358,7 @@ module _ (places : List ℕ) (full : IsFullWheel places) where
       let d : ℕ = length places in
       let less : ℕ = minus d 1 in
       let x : ℕ = add d i (minus d m) in
-      let told = some_is (eqb (add d (get_or places j 0) (minus d (get_or places i 0))) less)
+      let told = cond_some (eqb (add d (get_or places j 0) (minus d (get_or places i 0))) less)
       (add d x 1 ∷ 1 ∷ next_changed d 1 (turns_counted places j false rest)) word e in
       let before : get_or places j 0 ≡ add d (get_or places i 0) less =
       differs d (get_or places j 0) (get_or places i 0) less (value_in true j h.1.0) (value_in true i h.0) less_in
@@ -397,7 +387,7 @@ module _ (places : List ℕ) (full : IsFullWheel places) where
   further_on rule lifts (suc at) v m (i ∷ path) word l h e =
       let d : ℕ = length places in
       let turn : ℕ = add d (place_round places v i) (minus d m) in
-      let told = mapped_is (from_place at rule (turns_counted places (place_round places (not v) i) (not v) path)) turn word e in
+      let told = mapped-is (from_place at rule (turns_counted places (place_round places (not v) i) (not v) path)) turn word e in
       let rest = further_on rule lifts at (not v) (place_round places (not v) i) path told.0 (value_in (not v) i h.0) h.1 told.1 in
       record {
         other = i ∷ rest.other;
@@ -475,7 +465,7 @@ module _ (places : List ℕ) (full : IsFullWheel places) where
       → spur_in (length places) first (turns_counted places m v path) ≡ Some word → Lifted places v m path word
   spur_in_lifts first v m path word l h e =
       let d : ℕ = length places in
-      let told = some_is (nat_lt first d) (first ∷ 0 ∷ next_changed d (minus d first) (turns_counted places m v path)) word e in
+      let told = cond_some (nat_lt first d) (first ∷ 0 ∷ next_changed d (minus d first) (turns_counted places m v path)) word e in
       let below : first < d = ltb-true first d told.0 in
       let y : ℕ = add d m first in
       let y_in : y < d = add-lt d m first l below in
@@ -491,7 +481,7 @@ module _ (places : List ℕ) (full : IsFullWheel places) where
       (ap (λ z. add d m (minus d z)) value ∙ given d m first l below) in
       let three_on : turns_counted places (place_round places (not (not v)) p) (not (not v)) path
       ≡ next_changed d (minus d first) (turns_counted places m v path) =
-      ap (λ w. turns_counted places (place_round places w p) w path) (not_twice v) ∙ sym three in
+      ap (λ w. turns_counted places (place_round places w p) w path) (not-not v) ∙ sym three in
       record {
         other = p ∷ p ∷ path;
         below = (p_in, (p_in, h));

@@ -13,12 +13,6 @@ use Rattle.homology.proofs.RingLemmas.{times-sum, sum-times, times-one, times-mi
 use Rattle.homology.proofs.AlongLemmas.{IsOpposite, first_sides, side_number_at, round-sides}
 use Rattle.std.proofs.Math.IntN.{*ℤ-zero, zero-*ℤ}
 
-pub total-append : (xs ys : List ℤ) → total (xs ++ ys) ≡ total xs +ℤ total ys
-total-append [] ys = omega (arith, ints)
-total-append (x ∷ xs) ys =
-    let more = total-append xs ys in
-    omega (arith, ints, more)
-
 -- what a side gives: the number of its face times that of its dart
 abbrev pub side_part : (ℕ → ℤ) → (ℕ → ℕ → ℤ) → FaceSide → ℤ
 side_part of_face number side = of_face side.face *ℤ number side.tail side.head

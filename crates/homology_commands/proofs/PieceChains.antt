@@ -1,8 +1,8 @@
 -- A chain on some faces of a mesh is one on the whole mesh, with the number 0 for all other faces.
 use Rattle.std.proofs.Common.{◌≡◌, ◌⊎◌, inl, inr, ℕ, suc, ◌+◌, ◌<◌, Bool, true, false, List, [], ◌∷◌, length, get_or, refl, ap, ap₂, sym, ◌∙◌, arith, ℤ, pos, ◌+ℤ◌}
-use Rattle.std.specs.Prelude.{◌*ℤ◌, ◌||◌, filter, map}
+use Rattle.std.specs.Prelude.{◌*ℤ◌, filter, map}
 use Rattle.std.specs.List.{list_any, range_with_len}
-use Rattle.std.proofs.lemmas.Bool.{cases_Bool, cond-true, cond-false}
+use Rattle.std.proofs.lemmas.Bool.{cases_Bool, cond-true, cond-false, or_parts}
 use Rattle.std.proofs.lemmas.Bool.Decides.{nat_tests}
 use Rattle.std.proofs.lemmas.Int.{ints}
 use Rattle.std.proofs.Math.IntN.{zero-*ℤ}
@@ -85,15 +85,11 @@ joined_ends : (low high : ℕ) (side : FaceSide) → joins low high side ≡ tru
     → ((side.tail ≡ low) × (side.head ≡ high)) ⊎ ((side.tail ≡ high) × (side.head ≡ low))
 joined_ends low high side h = grind (arith, nat_tests)
 
-neither : (a b : Bool) → (a || b) ≡ false → (a ≡ false) × (b ≡ false)
-neither true b h = cc
-neither false b h = (refl, h)
-
 sides_off : (of_face : ℕ → ℤ) (low high : ℕ) (sides : List FaceSide) → list_any (joins low high) sides ≡ false
     → total (map (λ (side : FaceSide). share (of_face side.face) low high side.tail side.head) sides) ≡ pos 0
 sides_off of_face low high [] h = refl
 sides_off of_face low high (side ∷ sides) h =
-    let none = neither (joins low high side) (list_any (joins low high) sides) h in
+    let none = or_parts (joins low high side) (list_any (joins low high) sides) h in
     let here = share_off (of_face side.face) low high side none.0 in
     let more = sides_off of_face low high sides none.1 in
     omega (arith, ints, here, more)

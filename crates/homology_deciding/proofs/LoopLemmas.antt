@@ -123,9 +123,6 @@ cross_step s o amount d e u old new l edge from long is =
     omega (arith, ints, swap))
     is
 
-pub grew_none : (table : List Edge) (old : List ℤ) → GrewBy table (λ low high. pos 0) old old
-grew_none table old = record { long = refl; each = λ k l. omega (arith, ints) }
-
 pub grew_then : (table : List Edge) (one two both : ℕ → ℕ → ℤ) (old now new : List ℤ) → GrewBy table one old now → GrewBy table two now new
     → ((low high : ℕ) → both low high ≡ one low high +ℤ two low high) → GrewBy table both old new
 grew_then table one two both old now new g h sum = record {
@@ -149,9 +146,6 @@ within_grown table given old new bound more within grew long small = record {
         subst (λ z. unsigned_abs z ≤ bound + more) (sym none) (omega arith)
   ];
 }
-
-pub within_more : (a b : ℕ) (numbers : List ℤ) → AreWithin a numbers → a ≤ b → AreWithin b numbers
-within_more a b numbers h l = record { each = λ k. omega (arith, h.each k, l) }
 
 pub way_grown : (s : OrientedMesh) (amount : ℤ) (way : List DartName) (dart : DartName) (old now new : List ℤ)
     → GrewBy s.table (way_share s amount way) old now → GrewBy s.table (dart_share s amount dart.0) now new
@@ -301,25 +295,6 @@ module _ (tree : FaceTree) (h : IsTree tree) (counts : List ℤ) (small : AreWit
       let top : IsTop s tree.root.0 tree.ups.items h f way ends.0 dart =
       way_pop s tree.root.0 tree.ups.items h f way ends.0 dart (subst (λ w. IsWayUp s tree.ups.items f w ends.0) is ends.1) in
       record { below = top.below; up = top.up; known = ap (λ g. is_some (height_of heights g)) top.leads ∙ ends.2 }
-
-  -- at the start only the root has a height
-  pub first_height : (heights : List (Option ℤ)) → length heights ≡ length s.mesh.faces → ((f : ℕ) → height_of heights f ≡ None)
-      → AreHeights tree counts (set heights tree.root.0 (Some (pos 0)))
-  first_height heights long none =
-      let room : tree.root.0 < length heights = omega (arith, long, h.root_below) in
-      record {
-        each_face = length-set heights tree.root.0 (Some (pos 0)) ∙ long;
-        root = height_there heights tree.root.0 (pos 0) room;
-        each = λ f value at. elim (written heights tree.root.0 f (Some (pos 0)) None room) [
-          | inr old ↦
-              let clash : None ≡ Some value = sym (none f) ∙ sym old.1 ∙ at in
-              cc
-          | inl new ↦
-              let same : Some (pos 0) ≡ Some value = sym new.1 ∙ at in
-              let values : pos 0 ≡ value = cc in
-              ([], new.0, sym values)
-        ];
-      }
 
 -- a climb goes on, or ends
 module _ (tree : FaceTree) (h : IsTree tree) where

@@ -8,7 +8,7 @@ use Rattle.surf_model.specs.declared.names.DartName.{DartName}
 use Rattle.halfedge_map.specs.OrientedMeshes.{OrientedMesh}
 use Rattle.halfedge_map.specs.DartMaps.{darts_of, face_of, origin_of, twin_of}
 use Rattle.halfedge_map.specs.RotationSystems.{rotations_of, IsRotationSystem}
-use Rattle.halfedge_map.proofs.SystemLemmas.{rotation_system, names_all}
+use Rattle.halfedge_map.proofs.SystemLemmas.{rotation_system}
 use Rattle.homology.specs.Sums.{share}
 use Rattle.homology.proofs.SizeLemmas.{size-share}
 use Rattle.homology_deciding.specs.FaceTrees.{up_of, face_across, IsTreeOfFaces, IsWayUp, dart_share, way_share}
@@ -16,14 +16,6 @@ use Rattle.homology_deciding.specs.FaceTrees.{up_of, face_across, IsTreeOfFaces,
 module _ (s : OrientedMesh) (root : ℕ) (ups : List (Option DartName)) (h : IsTreeOfFaces s root ups) where
   abbrev r : IsRotationSystem (rotations_of s)
   r = rotation_system s h.valid
-
-  pub across_within : (f : ℕ) (dart : DartName) → up_of ups f ≡ Some dart → face_across s dart.0 < length s.mesh.faces
-  across_within f dart up =
-      (names_all s h.valid).face_below (twin_of s dart.0) (r.twin_within dart.0 (h.within f dart up))
-
-  pub way_within : (f : ℕ) (way : List DartName) (g : ℕ) → f < length s.mesh.faces → IsWayUp s ups f way g → g < length s.mesh.faces
-  way_within f [] g l w = subst (λ x. x < length s.mesh.faces) w l
-  way_within f (dart ∷ way) g l w = way_within (face_across s dart.0) way g (across_within f dart w.0) w.1
 
   pub way_rank : (f : ℕ) (way : List DartName) (g : ℕ) → IsWayUp s ups f way g → h.rank f ≡ length way + h.rank g
   way_rank f [] g w = let same : h.rank f ≡ h.rank g = ap h.rank w in omega (arith, same)

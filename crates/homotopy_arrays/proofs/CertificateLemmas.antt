@@ -1,19 +1,17 @@
 -- Certificates in bytes, read move by move or whole.
-use Rattle.std.proofs.Common.{◌≡◌, ◌⊎◌, inl, inr, ℕ, ◌<◌, ◌≤◌, Bool, true, false, List, [], ◌∷◌, ◌++◌, refl, ap, sym, ◌∙◌, subst, arith}
-use Rattle.std.specs.Prelude.{◌==◌, nat_lt, if◌then◌else◌, Option, Some, None, Result, Ok, Err, option_map, is_some}
-use Rattle.std.specs.Option.{ok_or}
+use Rattle.std.proofs.Common.{◌≡◌, ◌⊎◌, inl, inr, ℕ, ◌≤◌, Bool, true, false, List, [], ◌∷◌, ◌++◌, refl, ap, sym, ◌∙◌, subst, arith}
+use Rattle.std.specs.Prelude.{nat_lt, if◌then◌else◌, Option, Some, None, Result, Ok, Err, is_some}
 use Rattle.std.proofs.lemmas.Bool.Decides.{nat_tests}
-use Rattle.std.proofs.lemmas.List.{append-nil}
 use Rattle.text_scan.specs.Lines.{Line, full_lines, end_line}
 use Rattle.surf_model.specs.declared.moves.Move.{Move}
 use Rattle.labellings.specs.declared.denial.Denial.{Denial}
-use Rattle.walk_files.specs.Certificates.{answer_of, first_head, fits, fitting_head, head_among, head_in, head_of, head_of_text, move_of, moves_of_text, within_peak}
+use Rattle.walk_files.specs.Certificates.{answer_of, first_head, fits, fitting_head, head_among, head_in, head_of, head_of_text, moves_of_text, within_peak}
 use Rattle.walk_files.specs.Denials.{denial_of_lines}
-use Rattle.walk_files.specs.Readers.{Certificate, answer_first, denial_left, lines_to_come, moves_left, moves_to_come, next_of, started, unless_refused}
+use Rattle.walk_files.specs.Readers.{Certificate, answer_first, denial_left, moves_left, started}
 use Rattle.walk_files.specs.declared.certificate.CertHead.{CertHead}
 use Rattle.walk_files.specs.declared.certificate.CertHead.TheVariants.{Moves, Labels}
 use Rattle.walk_files.specs.declared.fault.CertFault.{CertFault}
-use Rattle.walk_files.specs.declared.fault.CertFault.TheVariants.{Bad, Ended, Extra, Peak, OutOfMemory}
+use Rattle.walk_files.specs.declared.fault.CertFault.TheVariants.{Bad, Peak, OutOfMemory}
 use Rattle.walk_files.specs.declared.limits.TheConstants.{MOST_PEAK}
 use Rattle.walk_files.proofs.EachLemmas.{before_ok, before_ok-more}
 use Rattle.walk_files.proofs.ReaderLemmas.{moves_left-started}
@@ -22,38 +20,10 @@ use Rattle.commands.specs.declared.certificate.Certificate.TheVariants as certif
 
 -- ---- moves one after another
 
-some_left : (end left : ℕ) (lines : List Line) (move : Move) → next_of end left lines ≡ Ok (Some move) → 0 < left
-some_left end left [] move e = absurd (by_test (left == 0) e)
-  where
-    by_test : (b : Bool) → (if b then Ok None else Err (Ended end)) ≡ Ok (Some move) → ⊥
-    by_test true e = cc
-    by_test false e = cc
-some_left end left (line ∷ lines) move e = by_test (left == 0) refl e
-  where
-    by_test : (b : Bool) → (left == 0) ≡ b
-        → (if b then Err (Extra line.number) else ok_or (option_map Some (move_of line.words)) (Bad line.number)) ≡ Ok (Some move)
-        → 0 < left
-    by_test true t e = cc
-    by_test false t e = grind (arith, nat_tests)
-
-some_to_come : (reader : Certificate) (refusal : Option CertFault) (move : Move)
-    → unless_refused refusal (next_of (end_line reader.text) (moves_to_come reader) (lines_to_come reader)) ≡ Ok (Some move)
-    → 0 < moves_to_come reader
-some_to_come reader (Some fault) move e = cc
-some_to_come reader None move e = some_left (end_line reader.text) (moves_to_come reader) (lines_to_come reader) move e
-
 -- the moves that were gathered are the first of those to come
 pub one_more : (all rest more : Result (List Move) CertFault) (moves : List Move) (move : Move) → all ≡ before_ok moves rest
     → rest ≡ answer_first (Ok (Some move)) more → all ≡ before_ok (moves ++ move ∷ []) more
 one_more all rest more moves move e f = e ∙ ap (before_ok moves) f ∙ before_ok-more moves move more
-
-pub none_more : (all rest : Result (List Move) CertFault) (moves : List Move) → all ≡ before_ok moves rest → rest ≡ Ok [] → all ≡ Ok moves
-none_more all rest moves e f = e ∙ ap (before_ok moves) f
-    ∙ ap (λ (xs : List Move). let r : Result (List Move) CertFault = Ok xs in r) (append-nil moves)
-
-pub wrong_line : (all rest : Result (List Move) CertFault) (moves : List Move) (fault : CertFault) → all ≡ before_ok moves rest
-    → rest ≡ Err fault → all ≡ Err fault
-wrong_line all rest moves fault e f = e ∙ ap (before_ok moves) f
 
 -- ---- the text
 

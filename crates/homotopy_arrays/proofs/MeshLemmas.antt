@@ -1,16 +1,15 @@
 -- Meshes from arrays, face by face.
-use Rattle.std.proofs.Common.{◌≡◌, ◌≢◌, ℕ, ◌+◌, ◌*◌, ◌<◌, ◌≤◌, Bool, true, false, cond, not, eqb, ltb, List, [], ◌∷◌, ◌++◌, length, take, drop, get_or, length-take-le, refl, sym, ap, subst, ◌∙◌, arith}
-use Rattle.std.specs.Prelude.{All, Option, Some, None, Ok, Err, sum, sum_by}
+use Rattle.std.proofs.Common.{◌≡◌, ℕ, ◌+◌, ◌*◌, ◌<◌, ◌≤◌, Bool, true, false, cond, not, eqb, ltb, List, [], ◌∷◌, ◌++◌, length, take, drop, get_or, length-take-le, refl, sym, ap, subst, ◌∙◌, arith}
+use Rattle.std.specs.Prelude.{Option, Some, None, Ok, Err, sum, sum_by}
 use Rattle.std.specs.List.{list_all}
-use Rattle.std.proofs.lemmas.Bool.{both_ways, eq-eqb, and_parts, lt-ltb, le-ltb, ltb-true, ltb-false}
+use Rattle.std.proofs.lemmas.Bool.{eq-eqb, lt-ltb, le-ltb, ltb-false}
 use Rattle.std.proofs.lemmas.List.{drop-drop, drop_more, drop_all, length-drop, take_more, length_push}
-use Rattle.std.proofs.lemmas.List.Elements.{All-nil, All-cons}
 use Rattle.std.proofs.lemmas.List.Sums.{sum_by-append, sum_by-take-drop, sum_by-cons}
 use Rattle.std.proofs.lemmas.Option.{none-some}
-use Rattle.surf_model.specs.FaceLists.{PendingFace, IsFace, next_corner, total_sides}
+use Rattle.surf_model.specs.FaceLists.{PendingFace, IsFace, total_sides}
 use Rattle.surf_model.specs.declared.limits.TheConstants.{MOST_VERTICES, MOST_SIDES}
 use Rattle.off_reader.specs.OffTexts.{has_equal_neighbours}
-use Rattle.off_reader.proofs.RingLemmas.{equal_found}
+use Rattle.off_reader.proofs.RingLemmas.{all_below, differ_at}
 use Rattle.homotopy_arrays.specs.MeshArrays.{face_fault, faces_behind, mesh_of, unless}
 use Rattle.homotopy_arrays.specs.declared.fault.Fault.{Fault}
 use Rattle.homotopy_arrays.specs.declared.fault.Fault.TheVariants.{ManyVertices, CornerCount, ManySides, FewCorners, NoVertex, EqualNeighbours}
@@ -36,19 +35,9 @@ good_face vertices number face e =
     by_tests false true true p q r e = absurd (none-some (EqualNeighbours (record { 0 = number })) (sym e))
     by_tests false true false p q r e = record { polygon = ltb-false (length face) 3 p; below = q; apart = r }
 
-all_below : (vertices : ℕ) (face : List ℕ) → list_all (λ v. ltb v vertices) face ≡ true → All (λ v. v < vertices) face
-all_below vertices [] e = All-nil (λ v. v < vertices)
-all_below vertices (v ∷ face) e =
-    let both = and_parts (ltb v vertices) (list_all (λ v. ltb v vertices) face) e in
-    All-cons (λ v. v < vertices) v face (ltb-true v vertices both.0) (all_below vertices face both.1)
-
-apart_at : (face : List ℕ) → has_equal_neighbours face ≡ false → (t : ℕ) → t < length face
-    → get_or face t 0 ≢ get_or face (next_corner true (length face) t) 0
-apart_at face none t below same = both_ways (has_equal_neighbours face) none (sym (equal_found face t below (eq-eqb _ _ same)))
-
 pub is_face : (vertices : ℕ) (face : List ℕ) → IsGoodFace vertices face → IsFace vertices face
 is_face vertices face good =
-    record { polygon = good.polygon; in_range = all_below vertices face good.below; neighbours = apart_at face good.apart }
+    record { polygon = good.polygon; in_range = all_below vertices face good.below; neighbours = differ_at face good.apart }
 
 -- ---- the faces so far
 
@@ -61,12 +50,6 @@ pub record AreFacesTo (vertices : ℕ) (sizes corners : List ℕ) (face at : ℕ
   pub number : length so_far.mesh.faces ≡ face
   pub many : 3 * face ≤ at
   pub same : faces_behind vertices so_far.mesh.faces (drop face sizes) (drop at corners) ≡ faces_behind vertices [] sizes corners
-
-pub no_faces : (vertices : ℕ) (sizes corners : List ℕ) (so_far : PendingFace)
-    → so_far ≡ record { mesh = record { count = vertices; faces = [] }; pending = [] } → AreFacesTo vertices sizes corners 0 0 so_far
-no_faces vertices sizes corners so_far is =
-    subst (AreFacesTo vertices sizes corners 0 0) (sym is)
-    (record { place = refl; sides = refl; count = refl; none = refl; number = refl; many = omega arith; same = refl })
 
 -- where the face ends is within the corners
 pub face_end : (sizes corners : List ℕ) (face at : ℕ) → sum sizes ≡ length corners → at ≡ sum (take face sizes) → face < length sizes

@@ -69,7 +69,7 @@ is_other : (a b : ℕ) → a ≢ b → eqb a b ≡ false
 is_other a b h = grind (arith, nat_tests)
 
 -- a vertex is counted for the component whose mesh uses it
-used_alike : (mesh : FaceList) (parts : PartsView) (k v : ℕ) → AreParts mesh parts → k < length parts.components
+pub used_alike : (mesh : FaceList) (parts : PartsView) (k v : ℕ) → AreParts mesh parts → k < length parts.components
     → eqb (place_of_used mesh parts v) k ≡ is_used (component_mesh mesh parts k) v
 used_alike mesh parts k v h l =
     let Inside : ℕ → Type 0 = IsOfComponent parts.places k in

@@ -73,7 +73,7 @@ sum_of_fewer c test (x ∷ xs) =
     ]
 
 -- the faces one by one
-faces_by_name : (mesh : FaceList) → map (face_at mesh) (range_with_len 0 (length mesh.faces)) ≡ mesh.faces
+pub faces_by_name : (mesh : FaceList) → map (face_at mesh) (range_with_len 0 (length mesh.faces)) ≡ mesh.faces
 faces_by_name mesh =
     let n : ℕ = length mesh.faces in
     let size : length (map (face_at mesh) (range_with_len 0 n)) ≡ n = length-map-range_with_len (face_at mesh) 0 n in
@@ -144,7 +144,7 @@ room_for_face mesh Inside names f h l =
     )
 
 -- all together have no more sides either
-total_alone : (mesh : FaceList) (Inside : ℕ → Type 0) (names : List ℕ) → IsPiece mesh Inside names
+pub total_alone : (mesh : FaceList) (Inside : ℕ → Type 0) (names : List ℕ) → IsPiece mesh Inside names
     → total_sides (submesh mesh names) ≤ total_sides mesh
 total_alone mesh Inside names h =
     let all : List ℕ = range_with_len 0 (length mesh.faces) in

@@ -1,6 +1,6 @@
 -- A list with some entries replaced by others, by cuts and pushes.
 use Rattle.std.proofs.Common.{◌≡◌, ℕ, ◌+◌, ◌<◌, ◌≤◌, List, [], ◌∷◌, ◌++◌, length, take, drop, get_or, ap, sym, ◌∙◌, arith, append_assoc, length-append, append-nil}
-use Rattle.std.proofs.lemmas.List.{length-take-le, length-drop, take_all, drop_all, take-append-le, drop-append-le, take_more, drop_more}
+use Rattle.std.proofs.lemmas.List.{length-take-le, length-drop, take_more, drop_more, drop_at, take_at}
 use Rattle.chain_pool.specs.Chains.{inserted, cut}
 use Rattle.surf_model.specs.Moves.{replaced}
 
@@ -15,19 +15,12 @@ length-replaced at n others walk h =
       length-drop (at + n) walk,
     )
 
-pub take-append : (front back : List ℕ) (n : ℕ) → length front ≡ n → take n (front ++ back) ≡ front
-take-append front back n e = take-append-le n front back (omega (arith, e)) ∙ take_all n front (omega (arith, e))
-
-pub drop-append : (front back : List ℕ) (n : ℕ) → length front ≡ n → drop n (front ++ back) ≡ back
-drop-append front back n e =
-    drop-append-le n front back (omega (arith, e)) ∙ ap (λ (l : List ℕ). l ++ back) (drop_all n front (omega (arith, e)))
-
 -- an entry pushed where two parts meet
 pub inserted-append : (front back : List ℕ) (place value : ℕ) → length front ≡ place
     → inserted (front ++ back) place value ≡ front ++ value ∷ back
 inserted-append front back place value e =
-    ap (λ (l : List ℕ). l ++ value ∷ drop place (front ++ back)) (take-append front back place e)
-    ∙ ap (λ (l : List ℕ). front ++ value ∷ l) (drop-append front back place e)
+    ap (λ (l : List ℕ). l ++ value ∷ drop place (front ++ back)) (take_at front back place e)
+    ∙ ap (λ (l : List ℕ). front ++ value ∷ l) (drop_at front back place e)
 
 -- two entries pushed before entry `at`, the first of them equal to it
 pub pushed_spur : (walk : List ℕ) (at via here : ℕ) → at < length walk → here ≡ get_or walk at 0
@@ -57,8 +50,8 @@ pub cut_replaced : (walk others : List ℕ) (at n to : ℕ) → at + n ≡ to �
     → take at (cut walk at to) ++ others ++ drop at (cut walk at to) ≡ replaced at n others walk
 cut_replaced walk others at n to e le =
     let long : length (take at walk) ≡ at = length-take-le at walk (omega (arith, e, le)) in
-    ap (λ (l : List ℕ). l ++ others ++ drop at (cut walk at to)) (take-append (take at walk) (drop to walk) at long)
-    ∙ ap (λ (l : List ℕ). take at walk ++ others ++ l) (drop-append (take at walk) (drop to walk) at long)
+    ap (λ (l : List ℕ). l ++ others ++ drop at (cut walk at to)) (take_at (take at walk) (drop to walk) at long)
+    ∙ ap (λ (l : List ℕ). take at walk ++ others ++ l) (drop_at (take at walk) (drop to walk) at long)
     ∙ ap (λ (k : ℕ). take at walk ++ others ++ drop k walk) (sym e)
 
 -- an entry pushed at the end

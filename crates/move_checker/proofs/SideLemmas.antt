@@ -1,16 +1,12 @@
 -- The two sides of a chain, entry by entry against a walk.
-use Rattle.std.proofs.Common.{◌≡◌, ◌≢◌, ℕ, ◌+◌, ◌-◌, ◌<◌, ◌≤◌, List, ◌++◌, length, reverse, take, drop, get_or, refl, ap, sym, ◌∙◌, arith, below_more}
-use Rattle.std.proofs.lemmas.List.{ext_get_or, get_or-reverse, get_or-take, get_or-drop, length-reverse, length-take-le, length-drop, drop-drop, drop-take, take-take, take_all}
+use Rattle.std.proofs.Common.{◌≡◌, ◌≢◌, ℕ, ◌+◌, ◌-◌, ◌<◌, ◌≤◌, List, ◌++◌, length, reverse, take, drop, get_or, ap, sym, ◌∙◌, arith, below_more}
+use Rattle.std.proofs.lemmas.List.{ext_get_or, get_or-reverse, get_or-take, get_or-drop, length-reverse, length-take-le, length-drop, drop-drop, drop-take, take-take, drop_at, take_at}
 use Rattle.std.proofs.Math.Seq.{take-add}
-use Rattle.move_checker.proofs.Replacements.{take-append, drop-append}
 
 -- so many entries were looked at, and are the walk's
 pub record AreRead (entries rest walk : List ℕ) (spot : ℕ → ℕ) (k : ℕ) : Type 0 where
   pub left : rest ≡ drop k entries
   pub same : (j : ℕ) → j < k → get_or entries j 0 ≡ get_or walk (spot j) 0
-
-pub AreRead-none : (entries walk : List ℕ) (spot : ℕ → ℕ) → AreRead entries entries walk spot 0
-AreRead-none entries walk spot = record { left = refl; same = λ j lt. absurd (omega arith) }
 
 pub AreRead-more : (entries old new walk : List ℕ) (spot : ℕ → ℕ) (k value : ℕ) → AreRead entries old walk spot k → new ≡ drop 1 old
     → get_or old 0 0 ≡ value → value ≡ get_or walk (spot k) 0
@@ -30,11 +26,6 @@ pub AreRead-next : (entries rest walk : List ℕ) (spot : ℕ → ℕ) (k value 
 AreRead-next entries rest walk spot k value read first =
     let place : k + 0 ≡ k = omega arith in
     sym (ap (λ (l : List ℕ). get_or l 0 0) read.left ∙ get_or-drop k entries 0 0 ∙ ap (λ (j : ℕ). get_or entries j 0) place) ∙ first
-
-pub AreRead-some : (entries rest walk : List ℕ) (spot : ℕ → ℕ) (k : ℕ) → AreRead entries rest walk spot k → k < length entries
-    → 0 < length rest
-AreRead-some entries rest walk spot k read lt =
-    omega (arith, lt, ap (λ (l : List ℕ). length l) read.left, length-drop k entries)
 
 -- the side before a place, turned round, is the walk's up to it
 pub before_same : (entries rest walk : List ℕ) (place k : ℕ) → length entries ≤ place → place ≤ length walk
@@ -87,13 +78,13 @@ module _ (before behind walk : List ℕ) (start : ℕ) where
 
   pub same_before : whole → reverse before ≡ take (length before) (drop start walk)
   same_before read =
-      sym (take-append (reverse before) behind (length before) (length-reverse before))
+      sym (take_at (reverse before) behind (length before) (length-reverse before))
       ∙ ap (λ (l : List ℕ). take (length before) l) read
       ∙ take-take (length before) (length before + length behind) (drop start walk) (omega arith)
 
   pub same_behind : whole → behind ≡ take (length behind) (drop (start + length before) walk)
   same_behind read =
-      sym (drop-append (reverse before) behind (length before) (length-reverse before))
+      sym (drop_at (reverse before) behind (length before) (length-reverse before))
       ∙ ap (λ (l : List ℕ). drop (length before) l) read
       ∙ drop-take (length before) (length behind) (drop start walk)
       ∙ ap (λ (l : List ℕ). take (length behind) l) (drop-drop (length before) start walk)
@@ -115,8 +106,3 @@ one_more list walk start place n so_far le same =
     ∙ ap (λ (l : List ℕ). l ++ take n (drop start list))
     (sym (take-take start place list le) ∙ ap (λ (l : List ℕ). take start l) so_far ∙ take-take start place walk le)
     ∙ ap (λ (l : List ℕ). take start walk ++ l) same ∙ sym (take-add start n walk)
-
--- as far as both go, the list is the walk
-pub all_same : (list walk : List ℕ) (place : ℕ) → take place list ≡ take place walk → length list ≤ place → length walk ≤ place
-    → list ≡ walk
-all_same list walk place so_far le le' = sym (take_all place list le) ∙ so_far ∙ take_all place walk le'

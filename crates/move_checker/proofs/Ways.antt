@@ -2,6 +2,7 @@
 use Rattle.std.proofs.Common.{◌≡◌, ℕ, zero, suc, ◌+◌, ◌-◌, ◌<◌, ◌≤◌, ◌≢◌, Bool, List, length, get_or, refl, ap, sym, ◌∙◌, arith, below_more, add-one}
 use Rattle.std.proofs.lemmas.List.{ext_get_or}
 use Rattle.surf_model.specs.FaceLists.{next_corner, corners_from}
+use Rattle.surf_model.proofs.ReplacementLemmas.{length-corners_from}
 
 -- a step, so many times
 abbrev pub repeated : (ℕ → ℕ) → ℕ → ℕ → ℕ
@@ -22,10 +23,6 @@ corner_after rising m t k = repeated (next_corner rising m) t k
 pub corner_after-more : (rising : Bool) (m t k : ℕ) → corner_after rising m t (k + 1) ≡ next_corner rising m (corner_after rising m t k)
 corner_after-more rising m t k = repeated-more (next_corner rising m) t k
 
-pub length-corners_from : (face : List ℕ) (rising : Bool) (t k : ℕ) → length (corners_from face rising t k) ≡ k + 1
-length-corners_from face rising t zero = refl
-length-corners_from face rising t (suc k) = omega (arith, length-corners_from face rising (next_corner rising (length face) t) k)
-
 pub get_or-corners_from : (face : List ℕ) (rising : Bool) (t k i : ℕ) → i ≤ k
     → get_or (corners_from face rising t k) i 0 ≡ get_or face (corner_after rising (length face) t i) 0
 get_or-corners_from face rising t zero zero h = refl
@@ -38,10 +35,6 @@ pub record IsOnWay (face : List ℕ) (rising : Bool) (start : ℕ) (entries : Li
   pub reached : corner ≡ corner_after rising (length face) start i
   pub within : corner < length face
   pub read : (k : ℕ) → k < i → get_or entries k 0 ≡ get_or face (corner_after rising (length face) start k) 0
-
-pub on_way_none : (face : List ℕ) (rising : Bool) (start : ℕ) (entries : List ℕ) → start < length face
-    → IsOnWay face rising start entries 0 start
-on_way_none face rising start entries h = record { reached = refl; within = h; read = λ k l. absurd (omega arith) }
 
 -- one entry more
 pub on_way_more : (face : List ℕ) (rising : Bool) (start : ℕ) (entries after : List ℕ) (i corner next : ℕ)

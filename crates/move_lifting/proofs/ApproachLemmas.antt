@@ -15,7 +15,7 @@ use Rattle.halfedge_map.proofs.SystemLemmas.{names_all}
 use Rattle.tree_cotree.specs.Splits.{SplitView, IsSplit}
 use Rattle.polygon_cut.specs.Polygons.{PolygonView, IsCutFrom, side_at}
 use Rattle.polygon_cut.specs.SpokeLoops.{AreWaysUp, backward, by_loop, dart_loop, last_side, spoke_loop, path_loop}
-use Rattle.polygon_cut.proofs.FreeLawLemmas.{root_is, up_is, loop_list, side_in, spoke_list, path_list}
+use Rattle.polygon_cut.proofs.FreeLawLemmas.{root_is, up_is, loop_list, side_in, spoke_list, path_list, backward_is}
 use Rattle.polygon_cut.proofs.CongruenceLemmas.{before, behind, home_and_there, there_and_home}
 use Rattle.polygon_cut.proofs.FreeLoopLemmas.{free_equality}
 use Rattle.polygon_cut.proofs.FreeProductLemmas.{way_end}
@@ -26,7 +26,7 @@ use Rattle.polygon_cut.proofs.TreeWayLemmas.{up, up_path, tree_ways}
 use Rattle.polygon_cut.proofs.WalkLemmas.{walk_way, other_way}
 use Rattle.move_lifting.specs.SpokeWalks.{IsSpokeWalk, AreSpokeWalks, HasWalk}
 use Rattle.move_lifting.specs.Tracks.{last_of}
-use Rattle.move_lifting.proofs.BackLemmas.{backward_is, way_of}
+use Rattle.move_lifting.proofs.BackLemmas.{way_of}
 use Rattle.move_lifting.proofs.ListLemmas.{one_no_spur}
 use Rattle.move_lifting.proofs.TreeUpLemmas.{own_ways}
 
@@ -212,9 +212,6 @@ pub spoke_after : (s : OrientedMesh) (split : SplitView) → IsOrientedSurface s
     → IsSpokeWalk s split polygon (suc i) next
 spoke_after s split o t polygon c some i d y walk next side y_is is no_spur free = record { no_spur = no_spur; freely = at_any }
   where
-    l : d < darts_of s
-    l = subst (λ (x : ℕ). x < darts_of s) (sym side) (side_in s split polygon c some i)
-
     -- the loop backward goes on by that of the side
     turned : (ways : ℕ → List ℕ) → AreWaysUp s split t.parents.root ways
         → backward t.parents.root (spoke_loop s polygon t.parents.root ways (suc i))

@@ -88,11 +88,6 @@ pub last_back : (u : ℕ) (xs : List ℕ) → last_of (last_of (u ∷ xs) ∷ ba
 last_back u [] = refl
 last_back u (w ∷ xs) = last_behind (last_of (u ∷ w ∷ xs) ∷ backward w xs) (u ∷ []) (omega arith)
 
--- the same as the way back of the loops
-pub backward_is : (u : ℕ) (rest : List ℕ) → backward u rest ≡ back u rest
-backward_is u [] = refl
-backward_is u (v ∷ rest) = ap (λ (l : List ℕ). l ++ u ∷ []) (backward_is v rest)
-
 -- a way taken apart
 pub way_apart : (mesh : FaceList) (u v : ℕ) (rest more : List ℕ) → IsWay mesh u v (rest ++ more)
     → IsWay mesh u (last_of (u ∷ rest)) rest × IsWay mesh (last_of (u ∷ rest)) v more

@@ -10,10 +10,11 @@ use Rattle.polygon_cut.specs.SpokeLoops.{backward}
 use Rattle.polygon_cut.proofs.WayLemmas.{IsWay, way_home}
 use Rattle.polygon_cut.proofs.CongruenceLemmas.{before, behind, home_and_there}
 use Rattle.polygon_cut.proofs.FreeLoopLemmas.{free_equality}
+use Rattle.polygon_cut.proofs.FreeLawLemmas.{backward_is}
 use Rattle.common_ends.proofs.TrimLemmas.{last_entry}
 use Rattle.move_lifting.specs.TurnPeaks.{RisesWithTurn}
 use Rattle.move_lifting.specs.Tracks.{last_of}
-use Rattle.move_lifting.proofs.BackLemmas.{backward_at, length-backward, last_joined, backward-append, backward_is, way_apart, way_of}
+use Rattle.move_lifting.proofs.BackLemmas.{backward_at, length-backward, last_joined, backward-append, way_apart, way_of}
 use Rattle.move_lifting.proofs.TurnLemmas.{BeginAlike, turned_whole, length-turned_whole}
 
 -- a part at the end of a walk without spurs has none

@@ -2,9 +2,9 @@
 use Rattle.std.proofs.Common.{◌≡◌, ◌≢◌, inl, inr, refl, ℕ, zero, suc, ◌+◌, ◌<◌, ◌≤◌, ◌^◌, max, List, [], ◌∷◌, ◌++◌, length, take, drop, set, is_some, Option, Some, None, ap, sym, ◌∙◌, subst, arith, append_assoc, length-append}
 use mathlib.Core.Bool.{true≢false}
 use Rattle.std.specs.Prelude.{Result, Ok, Err, OnOk, OnErr}
-use Rattle.std.proofs.lemmas.List.{append-nil, drop_all, take_all, length-take-le, length-drop, get_or-set_other}
+use Rattle.std.proofs.lemmas.List.{length-take-le, length-drop, get_or-set_other}
 use Rattle.std.proofs.lemmas.Bool.{cases_eq}
-use Rattle.chain_pool.specs.Chains.{Chains, under, IsUnder, IsLive, IsEdit, IsAlike, list_of, cells_of, cells_in, inserted, cut, spliced}
+use Rattle.chain_pool.specs.Chains.{Chains, under, IsUnder, IsEdit, IsAlike, list_of, cells_of, cells_in, inserted, cut, spliced}
 use Rattle.chain_pool.specs.declared.cells.CellName.{CellName}
 use Rattle.chain_pool.proofs.Lists.{list_under-is, list_is, edit_twice}
 use Rattle.chain_pool.proofs.Lookups.{cells_in-edit, cells_in-alike}
@@ -46,12 +46,6 @@ alone_alike old new chain was_alone alike fits =
       },
     )
 
--- an entry pushed last
-pub pushed_last : (list : List ℕ) (place value : ℕ) → place ≡ length list → inserted list place value ≡ list ++ value ∷ []
-pushed_last list place value e =
-    ap (λ (l : List ℕ). l ++ value ∷ drop place list) (take_all place list (omega (arith, e)))
-    ∙ ap (λ (l : List ℕ). list ++ value ∷ l) (drop_all place list (omega (arith, e)))
-
 -- how long a list is without the entries between two places, and with one more
 pub length-cut : (list : List ℕ) (from to : ℕ) → from ≤ to → to ≤ length list → length (cut list from to) + to ≡ length list + from
 length-cut list from to order within =
@@ -62,15 +56,6 @@ length-cut list from to order within =
       length-append (take from list) (drop to list),
       length-take-le from list (omega (arith, order, within)),
       length-drop to list,
-    )
-
-pub length-inserted : (list : List ℕ) (place value : ℕ) → place ≤ length list → length (inserted list place value) ≡ length list + 1
-length-inserted list place value within =
-    omega (
-      arith,
-      length-append (take place list) (value ∷ drop place list),
-      length-take-le place list within,
-      length-drop place list,
     )
 
 -- a chain with its first entry, in a pool that had none
@@ -101,16 +86,6 @@ pub reserved_fits : {T E : Type 0} (r : Result T E) (entries more spare new : �
     → entries + more + 1 < 2 ^ 32 → entries + 1 + spare < 2 ^ 32 → entries + 1 + new < 2 ^ 32
 reserved_fits (Ok x) entries more spare new given refused room fits = omega (arith, given, room, fits)
 reserved_fits (Err y) entries more spare new given refused room fits = omega (arith, refused, fits)
-
--- nothing is pushed
-pub pushed_none : (pool : Chains) (chain : CellName) → IsLive pool chain.0 → IsPushed pool pool chain []
-pushed_none pool chain live = record {
-  list = record {
-    here = list_is pool.lists chain.0 live ∙ ap (λ (l : List ℕ). Some l) (sym (append-nil (list_of pool chain.0)));
-    others = λ name ne. refl;
-  };
-  spare = omega arith;
-}
 
 -- some entries, and then others
 pub pushed_both : (old mid new : Chains) (chain : CellName) (first second : List ℕ) → IsPushed old mid chain first

@@ -96,14 +96,6 @@ disjoint_counts_less p q k n h l passes inside left_out apart =
     off : (z h : ℕ) → z ≢ h → eqb z h ≡ false
     off z h ne = elim (cases_Bool (eqb z h)) [ inl same ↦ absurd (ne (eqb-true z h same)) | inr other ↦ other ]
 
--- bounds of a count
-pub count_most : (p : ℕ → Bool) (n : ℕ) → count_below p n ≤ n
-count_most p zero = omega arith
-count_most p (suc n) = elim (cases_Bool (p n)) [
-  | inl passes ↦ (let before : count_below p n ≤ n = count_most p n in rw passes (omega arith))
-  | inr fails ↦ (let before : count_below p n ≤ n = count_most p n in rw fails (omega arith))
-]
-
 pub count_some : (p : ℕ → Bool) (n i : ℕ) → i < n → p i ≡ true → 0 < count_below p n
 count_some p zero i l h = absurd (omega arith)
 count_some p (suc n) i l h = elim (cases_eq i n) [

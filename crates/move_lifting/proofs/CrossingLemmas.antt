@@ -8,11 +8,13 @@ use Rattle.surf_model.specs.Vertices.{numbers}
 use Rattle.surf_model.specs.declared.edges.Side.{Side}
 use Rattle.surf_model.specs.declared.names.VertexName.{VertexName}
 use Rattle.surf_model.proofs.RoundLemmas.{corner_after, corners_before}
+use Rattle.surf_model.proofs.EdgeLemmas.{step_within}
+use Rattle.surf_model.proofs.PartnerLemmas.{ends_agree}
 use Rattle.halfedge_map.specs.OrientedMeshes.{OrientedMesh, IsOrientedSurface}
 use Rattle.halfedge_map.specs.DartMaps.{darts_of, twin_of, origin_of, target_of, edge_of, face_of}
 use Rattle.halfedge_map.specs.RotationSystems.{rotations_of, IsRotationSystem, IsDartFrom}
 use Rattle.halfedge_map.proofs.NumberLemmas.{IsNumberOf}
-use Rattle.halfedge_map.proofs.CornerLemmas.{corner_within, corner_back}
+use Rattle.halfedge_map.proofs.CornerLemmas.{corner_back}
 use Rattle.halfedge_map.proofs.DartLemmas.{face_at_number, vertex_at}
 use Rattle.halfedge_map.proofs.TwinLemmas.{origin-twin}
 use Rattle.halfedge_map.proofs.SystemLemmas.{rotation_system, names_all}
@@ -20,7 +22,7 @@ use Rattle.tree_cotree.specs.Splits.{SplitView, IsSplit, below_edge, in_cotree}
 use Rattle.move_lifting.specs.Crossings.{beyond, GoesAlong, IsOneIn, IsFaceBelow}
 use Rattle.move_lifting.specs.declared.crossing.FaceStep.{FaceStep}
 use Rattle.move_lifting.proofs.RestLemmas.{side_ends}
-use Rattle.move_lifting.proofs.RoundLemmas.{corner_after_suc}
+use Rattle.polygon_cut.proofs.FaceRoundLemmas.{corner_after_suc}
 
 -- one corner more before the last
 pub before-suc : (ring : List ℕ) (rising : Bool) (t k : ℕ)
@@ -59,14 +61,6 @@ ends_of_chosen s o u v d face x from one = elim one.either [
       )
 ]
 
--- the two ends of a side, in one order or the other
-either_end : (a b u v p q : ℕ) → ((p ≡ u) × (q ≡ v)) ⊎ ((p ≡ v) × (q ≡ u)) → ((p ≡ a) × (q ≡ b)) ⊎ ((p ≡ b) × (q ≡ a))
-    → ((a ≡ u) × (b ≡ v)) ⊎ ((a ≡ v) × (b ≡ u))
-either_end a b u v p q (inl x) (inl y) = inl (sym y.0 ∙ x.0, sym y.1 ∙ x.1)
-either_end a b u v p q (inl x) (inr y) = inr (sym y.1 ∙ x.1, sym y.0 ∙ x.0)
-either_end a b u v p q (inr x) (inl y) = inr (sym y.0 ∙ x.0, sym y.1 ∙ x.1)
-either_end a b u v p q (inr x) (inr y) = inl (sym y.1 ∙ x.1, sym y.0 ∙ x.0)
-
 -- the step goes from u to v in the face f
 record IsPlaced (s : OrientedMesh) (u v f : ℕ) (step : FaceStep) : Type 0 where
   corner : step.corner < length (face_at s.mesh f)
@@ -86,7 +80,7 @@ below_step s split o t u v d face x side step from is one in_mesh number along =
     let n : IsNumberOf s.mesh f side.at x = record { face = in_mesh.face; place = in_mesh.place; is = number } in
     let face_is : face ≡ f = sym (chosen_in s split o t d face x from.within is one) ∙ face_at_number s f side.at x n in
     let ends : ((a ≡ u) × (b ≡ v)) ⊎ ((a ≡ v) × (b ≡ u)) =
-    either_end a b u v (origin_of s x) (target_of s x) (ends_of_chosen s o u v d face x from one) (side_ends s f side.at x n).ends in
+    ends_agree (origin_of s x) (target_of s x) a b u v (ends_of_chosen s o u v d face x from one) (side_ends s f side.at x n).ends in
     let step_face : f ≡ step.face.0 = ap (λ y. y.0) (sym along.face) in
     let below : below_edge split (edge_of s d) ≡ Some step.face.0 = is ∙ ap Some (face_is ∙ step_face) in
     let placed : IsPlaced s u v f step = elim along.way [
@@ -101,7 +95,7 @@ below_step s split o t u v d face x side step from is one in_mesh number along =
       | inr back ↦
           let crossed : (a ≡ v) × (b ≡ u) = elim ends [ inl straight ↦ absurd (back.0 straight.0) | inr two ↦ two ] in
           record {
-            corner = subst (λ (c : ℕ). c < m) (sym back.1) (corner_within true m side.at in_mesh.place);
+            corner = subst (λ (c : ℕ). c < m) (sym back.1) (step_within true m side.at in_mesh.place);
             starts = ap (vertex_at s f) back.1 ∙ crossed.1;
             ends = ap (λ (r : Bool). vertex_at s f (next_corner r m step.corner)) back.2
                 ∙ ap (λ (c : ℕ). vertex_at s f (next_corner false m c)) back.1

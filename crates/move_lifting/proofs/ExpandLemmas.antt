@@ -445,11 +445,6 @@ led_within s split behind to begun track pending steps on none =
     (subst (λ (l : List ℕ). StaysWithin s split behind (begun.walk ++ to ∷ []) begun.list (track.walk ++ reverse l) track.list) none
     on.within)
 
--- the numbers of what is pending
-pub none_left : (xs : List VertexName) → length xs ≡ 0 → xs ≡ []
-none_left [] h = refl
-none_left (x ∷ xs) h = absurd (omega arith)
-
 pub one_pending : (xs ys : List VertexName) (v : VertexName) → xs ≡ ys ++ v ∷ [] → numbers xs ≡ numbers ys ++ v.0 ∷ []
 one_pending xs ys v is = ap numbers is ∙ map-append (λ (x : VertexName). x.0) ys (v ∷ [])
 

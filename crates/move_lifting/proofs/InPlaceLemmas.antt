@@ -1,5 +1,5 @@
 -- Spurs that are taken out of a walk in place: what stands in front has none, and the rest is as it was.
-use Rattle.std.proofs.Common.{◌≡◌, ◌≢◌, inl, inr, refl, ℕ, ◌+◌, ◌-◌, ◌<◌, ◌≤◌, max, List, [], ◌∷◌, ◌++◌, length, take, drop, get_or, ap, sym, ◌∙◌, subst, arith, length-append}
+use Rattle.std.proofs.Common.{◌≡◌, inr, refl, ℕ, ◌+◌, ◌-◌, ◌<◌, ◌≤◌, max, List, [], ◌∷◌, ◌++◌, length, take, drop, get_or, ap, sym, ◌∙◌, subst, arith, length-append}
 use Rattle.std.proofs.lemmas.List.{take_more, take_all, drop_all, length-take-le, length-drop, get_or-take, get_or-drop, take-append-le, drop-append-le, drop-drop}
 use Rattle.chain_pool.specs.Chains.{cut}
 use Rattle.surf_model.specs.FaceLists.{FaceList}
@@ -8,38 +8,13 @@ use Rattle.surf_model.specs.Moves.{PeakedMoves}
 use Rattle.surf_model.specs.Walks.{darts}
 use Rattle.surf_model.specs.declared.moves.Move.TheVariants.{Remove}
 use Rattle.surf_model.specs.declared.names.VertexName.{VertexName}
-use Rattle.move_lifting.specs.Lifts.{LeadsAtPeak}
 use Rattle.move_lifting.specs.Tracks.{TrackView, GoesOn, IsStepBack, IsNextPut, last_of}
-use Rattle.move_lifting.proofs.ExpandLemmas.{last-push}
-use Rattle.move_lifting.proofs.ListLemmas.{no_spur_on}
 use Rattle.move_lifting.proofs.MoveLemmas.{step_back_goes, step_back_no_spur}
 use Rattle.move_lifting.proofs.SpurLemmas.{IsReducedSoFar, reduced_first, reduced_more, reduced_all}
 
 -- the first entries of a walk, as a track of their own
 abbrev pub front_of : TrackView → ℕ → TrackView
 front_of track front = record { walk = take front track.walk; list = track.list; spare = 0 }
-
--- the next entry comes to those in front
-pub next_on : (behind : ℕ) (track : TrackView) (front : ℕ) → front < length track.walk → HasNoSpur (take front track.walk)
-    → ((k : ℕ) → k + 2 ≡ front → get_or track.walk k 0 ≢ get_or track.walk front 0) → IsNextPut behind track front track (front + 1)
-next_on behind track front l no_spur other =
-    let next : ℕ = get_or track.walk front 0 in
-    let laid : List ℕ = take front track.walk in
-    let more : take (front + 1) track.walk ≡ laid ++ next ∷ [] = take_more track.walk front 0 l in
-    let long : length laid ≡ front = length-take-le front track.walk (omega arith) in
-    record {
-      within = omega arith;
-      rest = refl;
-      leads = λ mesh first rest count h. subst (λ (w : List ℕ). LeadsAtPeak mesh first track.list (w ++ rest)) (sym more) h;
-      some = omega arith;
-      no_spur = subst HasNoSpur (sym more)
-          (no_spur_on laid next no_spur (λ k e same.
-          other k (omega (arith, e, long)) (sym (get_or-take front track.walk k 0 (omega (arith, e, long))) ∙ same)));
-      last = ap last_of more ∙ last-push laid next;
-      long = omega arith;
-      peak = omega arith;
-      shape = inl more;
-    }
 
 -- the next entry leads straight back, and the last one in front goes with it
 pub next_back : (behind : ℕ) (old new : TrackView) (front : ℕ) (via : VertexName) → 1 < front → front < length old.walk

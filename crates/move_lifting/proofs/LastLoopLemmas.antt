@@ -19,7 +19,7 @@ use Rattle.surf_model.specs.declared.names.VertexName.{VertexName}
 use Rattle.surf_model.proofs.ContextLemmas.{first_answer}
 use Rattle.surf_model.proofs.LinkLemmas.{walk_from, all_more, none_yet}
 use Rattle.surf_model.proofs.ReplacementLemmas.{by_replacing, length-corners_from}
-use Rattle.surf_model.proofs.RoundLemmas.{corner_after, corners_before, last_corner, meet}
+use Rattle.surf_model.proofs.RoundLemmas.{corner_after, corners_before, last_corner}
 use Rattle.surf_model.proofs.WayBackLemmas.{keeps_walk}
 use Rattle.halfedge_map.specs.OrientedMeshes.{OrientedMesh, IsOrientedSurface}
 use Rattle.halfedge_map.specs.DartMaps.{darts_of, face_of, origin_of, start_corner_of}
@@ -29,7 +29,7 @@ use Rattle.halfedge_map.proofs.SystemLemmas.{names_all}
 use Rattle.tree_cotree.specs.Splits.{SplitView, IsSplit}
 use Rattle.polygon_cut.specs.Polygons.{PolygonView, IsCutFrom}
 use Rattle.polygon_cut.specs.SpokeLoops.{AreWaysUp, backward, by_loop, last_side, way_round, way_back_round, IsOffCotree}
-use Rattle.polygon_cut.proofs.FaceRoundLemmas.{at_face}
+use Rattle.polygon_cut.proofs.FaceRoundLemmas.{at_face, corner_home}
 use Rattle.polygon_cut.proofs.FreeLawLemmas.{backward_is, side_in, led_round, led_back_round}
 use Rattle.polygon_cut.proofs.FreeProductLemmas.{end_of}
 use Rattle.polygon_cut.proofs.FreeRoundLemmas.{read_back}
@@ -69,12 +69,6 @@ step_is_from s d side back flipped step in_mesh number same_face flips corner fo
     either false true = refl
     either false false = refl
 
--- so many steps round come back
-comes_home : (rising : Bool) (m t : ℕ) → t < m → corner_after rising m t m ≡ t
-comes_home rising m t l =
-    let none : m - m ≡ 0 = omega arith in
-    meet rising m t m l (omega arith) ∙ ap (corner_after (not rising) m t) none
-
 -- the vertices beyond the start, between the start and the start
 pub all_round : (ring : List ℕ) (rising : Bool) (t v : ℕ) → t < length ring → v ≡ get_or ring t 0
     → v ∷ (corners_before ring rising (next_corner rising (length ring) t) (length ring - 1) ++ v ∷ []) ≡ corners_from ring rising t
@@ -83,7 +77,7 @@ all_round ring rising t v l is =
     let m : ℕ = length ring in
     let next : ℕ = next_corner rising m t in
     let count : suc (m - 1) ≡ m = omega arith in
-    let home : corner_after rising m next (m - 1) ≡ t = ap (corner_after rising m t) count ∙ comes_home rising m t l in
+    let home : corner_after rising m next (m - 1) ≡ t = ap (corner_after rising m t) count ∙ corner_home rising m t l in
     let end : get_or ring (corner_after rising m next (m - 1)) 0 ≡ v = ap (λ (c : ℕ). get_or ring c 0) home ∙ sym is in
     sym
     (ap (corners_from ring rising t) (sym count)
@@ -140,7 +134,7 @@ round_back : (face : List ℕ) (rising : Bool) (t v : ℕ) (rest : List ℕ) →
 round_back face rising t v rest l is round =
     let m : ℕ = length face in
     let read : corners_from face (not rising) t m ≡ end_of v rest ∷ back v rest =
-    ap (λ (c : ℕ). corners_from face (not rising) c m) (sym (comes_home rising m t l)) ∙ read_back face rising t m v rest l round in
+    ap (λ (c : ℕ). corners_from face (not rising) c m) (sym (corner_home rising m t l)) ∙ read_back face rising t m v rest l round in
     let count : suc (m - 1) ≡ m = omega arith in
     let first : corners_from face (not rising) t m ≡ get_or face t 0 ∷ corners_from face (not rising) (next_corner (not rising) m t) (m - 1)
     =

@@ -1,6 +1,5 @@
 -- Moves that come to a list of moves: removals, and moves that lead off the cotree.
-use Rattle.std.proofs.Common.{◌≡◌, ℕ, ◌-◌, List, [], ◌∷◌, ◌++◌, length, refl, ap, sym, ◌∙◌, subst, append_assoc}
-use Rattle.std.specs.Prelude.{All}
+use Rattle.std.proofs.Common.{ℕ, ◌-◌, List, [], ◌∷◌, ◌++◌, refl, ap, sym, ◌∙◌, append_assoc}
 use Rattle.std.proofs.lemmas.List.{append-nil}
 use Rattle.std.proofs.lemmas.List.Elements.{All-append, All-nil, All-cons}
 use Rattle.surf_model.specs.Walks.{darts}
@@ -10,17 +9,9 @@ use Rattle.halfedge_map.specs.OrientedMeshes.{OrientedMesh}
 use Rattle.tree_cotree.specs.Splits.{SplitView}
 use Rattle.polygon_cut.specs.SpokeLoops.{LeavesCotree}
 use Rattle.move_lifting.specs.Lifts.{IsRemoval, MoreRemove, MoreLeaveCotree}
-use Rattle.move_lifting.specs.Tracks.{TrackView, IsStepBack}
+use Rattle.move_lifting.specs.Tracks.{TrackView}
 use Rattle.move_lifting.specs.Crossings.{IsFaceBelow, IsCrossed}
 use Rattle.move_lifting.specs.declared.crossing.FaceStep.{FaceStep}
-
-pub stepped_back : (behind : ℕ) (old new : TrackView) → IsStepBack behind old new → MoreRemove old.list.moves new.list.moves
-stepped_back behind old new back = (
-  Remove (length old.walk - 2) back.via ∷ [],
-  ap (λ l. l.moves) back.list,
-  All-cons IsRemoval (Remove (length old.walk - 2) back.via) []
-      tt (All-nil IsRemoval),
-)
 
 pub none_leave : (s : OrientedMesh) (split : SplitView) (moves : List Move) → MoreLeaveCotree s split moves moves
 none_leave s split moves = ([], sym (append-nil moves), All-nil (LeavesCotree s split))
@@ -65,8 +56,3 @@ crossed_leaves s split u v behind step old new pending left under crossed = (
       (step_leaves s split u v (darts old.walk) step under)
       (All-nil (LeavesCotree s split)),
 )
-
--- all moves, where there were none before
-pub all_leave : (s : OrientedMesh) (split : SplitView) (old new : List Move) → old ≡ [] → MoreLeaveCotree s split old new
-    → All (LeavesCotree s split) new
-all_leave s split old new none more = subst (All (LeavesCotree s split)) (sym (more.1 ∙ ap (λ (l : List Move). l ++ more.0) none)) more.2

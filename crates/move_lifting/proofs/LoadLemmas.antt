@@ -1,6 +1,6 @@
 -- The load of a walk: for each dart on a cotree edge the number of darts that hang below the edge, and one for each other dart. Where a
 -- dart is replaced by the rest of the face below it, the load falls.
-use Rattle.std.proofs.Common.{◌≡◌, ◌≢◌, ◌⊎◌, inl, inr, ℕ, ◌+◌, ◌<◌, ◌≤◌, Bool, true, eqb, refl, ap, sym, ◌∙◌, subst, arith}
+use Rattle.std.proofs.Common.{◌≡◌, ◌≢◌, inl, inr, ℕ, ◌+◌, ◌<◌, ◌≤◌, Bool, true, eqb, refl, ap, sym, ◌∙◌, subst, arith}
 use Rattle.std.specs.Prelude.{Option, Some, None}
 use Rattle.std.proofs.lemmas.Bool.{eqb-true}
 use Rattle.surf_model.specs.Numbers.{count_below}
@@ -9,8 +9,10 @@ use Rattle.halfedge_map.specs.DartMaps.{darts_of}
 use Rattle.halfedge_map.specs.RotationSystems.{Rotations, rotations_of, IsRotationSystem}
 use Rattle.halfedge_map.proofs.SystemLemmas.{rotation_system, names_all}
 use Rattle.tree_cotree.specs.Splits.{SplitView, IsSplit, below_edge, StepsUp}
-use Rattle.move_lifting.proofs.CountLemmas.{sum_below, sum_same, disjoint_counts, disjoint_counts_less, count_most, count_some, count_one}
+use Rattle.tree_cotree.proofs.SplittingLemmas.{option_cases}
+use Rattle.move_lifting.proofs.CountLemmas.{sum_below, sum_same, disjoint_counts, disjoint_counts_less, count_some, count_one}
 use Rattle.move_lifting.proofs.FaceTreeLemmas.{below, below_itself, below_higher, below_once, not_above, not_itself}
+use Rattle.polygon_cut.proofs.CountLemmas.{count_at_most}
 
 -- whether a dart hangs below the edge of a dart; below an edge that is not of the cotree hangs the dart alone
 hangs_at : (s : OrientedMesh) (split : SplitView) → IsSplit s split → Option ℕ → ℕ → ℕ → Bool
@@ -45,12 +47,8 @@ weight_some : (s : OrientedMesh) (split : SplitView) (t : IsSplit s split) (e c 
 unfolding weight weight_at
 weight_some s split t e c is = ap (weight_at s split t) is
 
-cases_child : (o : Option ℕ) → (o ≡ None) ⊎ ((c : ℕ) × (o ≡ Some c))
-cases_child None = inl refl
-cases_child (Some c) = inr (c, refl)
-
 pub weight_positive : (s : OrientedMesh) (split : SplitView) (t : IsSplit s split) (e : ℕ) → 0 < weight s split t e
-weight_positive s split t e = elim (cases_child (below_edge split e)) [
+weight_positive s split t e = elim (option_cases (below_edge split e)) [
   | inl none ↦ (let one : weight s split t e ≡ 1 = weight_none s split t e none in omega arith)
   | inr some ↦
       let c : ℕ = some.0 in
@@ -62,12 +60,12 @@ weight_positive s split t e = elim (cases_child (below_edge split e)) [
 ]
 
 pub weight_most : (s : OrientedMesh) (split : SplitView) (t : IsSplit s split) (e : ℕ) → 0 < darts_of s → weight s split t e ≤ darts_of s
-weight_most s split t e l = elim (cases_child (below_edge split e)) [
+weight_most s split t e l = elim (option_cases (below_edge split e)) [
   | inl none ↦ (let one : weight s split t e ≡ 1 = weight_none s split t e none in omega arith)
   | inr some ↦ omega (
     arith,
     weight_some s split t e some.0 some.1,
-    count_most (λ z. below s split t some.0 ((rotations_of s).face z))
+    count_at_most (λ z. below s split t some.0 ((rotations_of s).face z))
         (darts_of s),
   )
 ]
@@ -176,7 +174,7 @@ root_weights s split o t f k x root are =
     let most : sum_below (λ j. count_below (p j) n) k ≤ count_below (λ z. true) n =
     disjoint_counts p (λ z. true) k n (λ j z m z_in hit. refl)
     (λ i j z i_j m z_in. hang_apart s split o t f k x are up i j z i_j m z_in) in
-    omega (arith, counted s split t k x are.within, most, count_most (λ z. true) n)
+    omega (arith, counted s split t k x are.within, most, count_at_most (λ z. true) n)
 
 -- darts of a face f besides the one on the edge above f
 pub record AreBeside (s : OrientedMesh) (f h k : ℕ) (x : ℕ → ℕ) : Type 0 where

@@ -1,6 +1,7 @@
 -- The loop of the last side, put into a walk behind the spokes in front, by way of the tree.
 use Rattle.std.proofs.Common.{◌≡◌, ℕ, suc, ◌-◌, ◌<◌, Bool, true, false, List, [], ◌∷◌, ◌++◌, drop, get_or, ap, sym, ◌∙◌, subst, arith, append_assoc}
 use Rattle.std.specs.Prelude.{IsTrue, All, Some, if◌then◌else◌}
+use Rattle.std.proofs.lemmas.List.{append-nil}
 use Rattle.surf_model.specs.FaceLists.{FaceList, is_used}
 use Rattle.surf_model.specs.Vertices.{numbers}
 use Rattle.surf_model.specs.Walks.{IsWalk}
@@ -12,11 +13,11 @@ use Rattle.halfedge_map.specs.DartMaps.{origin_of}
 use Rattle.tree_cotree.specs.Splits.{SplitView, IsSplit}
 use Rattle.polygon_cut.specs.Polygons.{PolygonView, IsCutFrom}
 use Rattle.polygon_cut.specs.SpokeLoops.{AreWaysUp, backward, by_loop, dart_loop, last_side, last_side_loop, path_loop, put_behind, spoke_loop}
-use Rattle.polygon_cut.proofs.FreeLawLemmas.{by_own_loop, root_is, side_in}
+use Rattle.polygon_cut.proofs.FreeLawLemmas.{by_own_loop, root_is, side_in, backward_is}
 use Rattle.polygon_cut.proofs.CongruenceLemmas.{before, behind, home_and_there, to_loops}
 use Rattle.polygon_cut.proofs.FreeLoopLemmas.{SameFreely, loops_make_a_free_group, free_equality}
 use Rattle.polygon_cut.proofs.FreeWayLemmas.{put_in}
-use Rattle.polygon_cut.proofs.WayLemmas.{IsWay, HasWays, Loop, loop_mul, loop_inv, loop_of, append_none, back, start_used, end_used, way_home, way_on, way_walk}
+use Rattle.polygon_cut.proofs.WayLemmas.{IsWay, HasWays, Loop, loop_mul, loop_inv, loop_of, back, start_used, end_used, way_home, way_on, way_walk}
 use Rattle.polygon_cut.proofs.RelatorLemmas.{loop_in}
 use Rattle.polygon_cut.proofs.TreeWayLemmas.{up, up_path}
 use Rattle.move_lifting.specs.Lifts.{LeadsAtPeak}
@@ -26,7 +27,6 @@ use Rattle.move_lifting.specs.Tracks.{last_of}
 use Rattle.move_lifting.specs.declared.lifted.Lifted.{Lifted}
 use Rattle.move_lifting.specs.declared.looping.Turns.{Turns}
 use Rattle.move_lifting.proofs.ApproachLemmas.{GoesFrom, free_way, goes_end, goes_walk, walk_goes, turn_goes_home, has_ways, dart_loop_way, spoke_way, path_way, spoke_walk, home_way, closed_way, down_and_up, joined_loops, no_loop, back_by_loop, last_used}
-use Rattle.move_lifting.proofs.BackLemmas.{backward_is}
 use Rattle.move_lifting.proofs.TreeUpLemmas.{own_ways}
 
 -- The walks of spokes go the way of their loops, up to spurs.
@@ -127,7 +127,7 @@ own_loop mesh root ways w u v loop k =
     before (free_equality mesh) root (down ++ ways u) [] (loop.rest ++ (home ++ ways v))
     (home_and_there (free_equality mesh) u root (ways u) u_way) in
     let end : AreFreelyEqual mesh (root ∷ (loop.rest ++ (home ++ ways v))) (root ∷ loop.rest) =
-    subst (λ (l : List ℕ). AreFreelyEqual mesh (root ∷ (loop.rest ++ (home ++ ways v))) (root ∷ l)) (append_none loop.rest)
+    subst (λ (l : List ℕ). AreFreelyEqual mesh (root ∷ (loop.rest ++ (home ++ ways v))) (root ∷ l)) (append-nil loop.rest)
     (behind (free_equality mesh) root root loop.rest (home ++ ways v) [] loop.is_way
     (home_and_there (free_equality mesh) v root (ways v) v_way)) in
     subst (λ (l : List ℕ). AreFreelyEqual mesh (root ∷ l) (root ∷ loop.rest)) (sym shape)

@@ -13,7 +13,7 @@ use Rattle.tree_cotree.specs.Splits.{SplitView, IsSplit}
 use Rattle.polygon_cut.specs.Polygons.{PolygonView, IsCutFrom}
 use Rattle.polygon_cut.specs.ShortWalks.{IsFreelyShort, AreShortAround}
 use Rattle.polygon_cut.specs.SpokeLoops.{AreWaysUp, backward, by_loop, last_side, path_loop}
-use Rattle.polygon_cut.proofs.FreeLawLemmas.{by_own_loop}
+use Rattle.polygon_cut.proofs.FreeLawLemmas.{by_own_loop, backward_is}
 use Rattle.polygon_cut.proofs.FreeLoopLemmas.{SameFreely, loops_make_a_free_group, free_equality}
 use Rattle.polygon_cut.proofs.FreeWayLemmas.{loop_on, loop_home}
 use Rattle.polygon_cut.proofs.ShortWalkLemmas.{spokes_short}
@@ -26,7 +26,6 @@ use Rattle.move_lifting.specs.Tracks.{last_of}
 use Rattle.move_lifting.specs.TurnPeaks.{RisesWithTurn, KeepsBound}
 use Rattle.move_lifting.specs.declared.expanding.TheConstants.{MOST_LIFTED_SIDES, MOST_LIFTED_DARTS}
 use Rattle.move_lifting.proofs.ApproachLemmas.{GoesFrom, goes_end, goes_walk, has_ways, path_way, walk_goes}
-use Rattle.move_lifting.proofs.BackLemmas.{backward_is}
 use Rattle.move_lifting.proofs.LoopInLemmas.{approach_by, approach_free, approach_goes, loop_by, whole_way}
 use Rattle.move_lifting.proofs.ShortestLemmas.{reduced_is_shortest}
 

@@ -1,6 +1,6 @@
 -- Each walk leads off the cotree: dart by dart the rest of the face below takes the place of a dart on a cotree edge.
 use Rattle.std.proofs.Common.{Bool, ◌≡◌, ◌⊎◌, inl, inr, ℕ, zero, suc, ◌+◌, ◌*◌, ◌-◌, ◌<◌, ◌≤◌, true, false, not, List, [], ◌∷◌, ◌++◌, length, get_or, refl, ap, sym, ◌∙◌, subst, arith, append_assoc}
-use Rattle.std.specs.Prelude.{IsTrue, Option, Some, None, option_and_then, reverse}
+use Rattle.std.specs.Prelude.{IsTrue, Some, option_and_then, reverse}
 use Rattle.std.proofs.lemmas.Bool.{cases_eq}
 use Rattle.std.proofs.lemmas.List.Elements.{All-nil, All-cons}
 use Rattle.surf_model.specs.FaceLists.{is_used, face_at, next_corner, corners_from, is_edge}
@@ -20,6 +20,7 @@ use Rattle.halfedge_map.proofs.EdgeLemmas.{dart_between}
 use Rattle.halfedge_map.proofs.NumberLemmas.{HasPlace, placed}
 use Rattle.halfedge_map.proofs.SystemLemmas.{names_all, rotation_system}
 use Rattle.tree_cotree.specs.Splits.{SplitView, IsSplit, below_edge, in_cotree}
+use Rattle.tree_cotree.proofs.SplittingLemmas.{option_cases}
 use Rattle.polygon_cut.specs.SpokeLoops.{LeavesCotree, way_round, IsOffCotree}
 use Rattle.polygon_cut.proofs.FaceRoundLemmas.{at_face}
 use Rattle.move_lifting.specs.Crossings.{beyond, IsFaceBelow, IsOneIn, GoesAlong}
@@ -71,10 +72,6 @@ record HasCotreeDart (s : OrientedMesh) (split : SplitView) (walk : List ℕ) : 
   pub step : FaceStep
   pub under : IsFaceBelow s split u v step
 
-either_way : (o : Option ℕ) → (o ≡ None) ⊎ ((c : ℕ) × (o ≡ Some c))
-either_way None = inl refl
-either_way (Some c) = inr (c, refl)
-
 avoids_more : (s : OrientedMesh) (split : SplitView) (u v : ℕ) (rest : List ℕ)
     → ((d : ℕ) → IsDartFrom (rotations_of s) u v d → in_cotree split (edge_of s d) ≡ false) → IsOffCotree s split (v ∷ rest)
     → IsOffCotree s split (u ∷ v ∷ rest)
@@ -95,7 +92,7 @@ find_dart s split o t (u ∷ v ∷ rest) edges =
     let later : (k : ℕ) → k + 1 < length (v ∷ rest) → is_edge s.mesh (get_or (v ∷ rest) k 0) (get_or (v ∷ rest) (k + 1) 0) ≡ true =
     λ k l. (let up : suc k + 1 ≡ suc (k + 1) = omega arith in
     subst (λ (n : ℕ). is_edge s.mesh (get_or (v ∷ rest) k 0) (get_or (u ∷ v ∷ rest) n 0) ≡ true) up (edges (suc k) (omega arith))) in
-    elim (either_way (below_edge split (edge_of s d))) [
+    elim (option_cases (below_edge split (edge_of s d))) [
       | inr below ↦
           let step = step_below s split o t u v d below.0 found.1 below.1 in
           inr (record { front = []; u = u; v = v; rest = rest; is = refl; step = step.0; under = step.1 })

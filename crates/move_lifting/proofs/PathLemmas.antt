@@ -1,5 +1,5 @@
 -- Where a path of spokes ends, and that the places of a polygon make quads.
-use Rattle.std.proofs.Common.{◌≡◌, ℕ, ◌<◌, Bool, true, not, List, [], ◌∷◌, length, get_or, refl, ap, sym, ◌∙◌, arith}
+use Rattle.std.proofs.Common.{◌≡◌, ℕ, ◌<◌, true, not, List, [], ◌∷◌, length, get_or, refl, ap, sym, ◌∙◌, arith}
 use Rattle.halfedge_map.specs.OrientedMeshes.{OrientedMesh, IsOrientedSurface}
 use Rattle.halfedge_map.specs.RotationSystems.{rotations_of}
 use Rattle.tree_cotree.specs.Splits.{SplitView, IsSplit}
@@ -8,20 +8,16 @@ use Rattle.turn_words.specs.FormLaws.{IsQuad}
 use Rattle.turn_words.specs.Lemmas.Sums.{add-lt}
 use Rattle.polygon_cut.specs.Polygons.{PolygonView, IsCutFrom, place_of, across}
 use Rattle.polygon_cut.proofs.RelatorLemmas.{ends_at_vertex}
+use Rattle.polygon_cut.proofs.FreeLawLemmas.{turned_parity}
 use Rattle.quad_system.proofs.PushPathLemmas.{IsQuadWheel, add_back}
 use Rattle.quad_system.proofs.FreePathLemmas.{places_wheel}
 use Rattle.quad_system.proofs.SpokeProductLemmas.{spoke_at}
 use Rattle.spoke_paths.specs.PathTurns.{from_vertex, HasQuads}
 use Rattle.spoke_paths.proofs.Turning.{from-next}
 
--- the end of so many spokes
-ends_turned : (b : Bool) (path : List ℕ) → ends_at_vertex (not b) path ≡ not (ends_at_vertex b path)
-ends_turned b [] = refl
-ends_turned b (i ∷ path) = ends_turned (not b) path
-
 pub ends_at : (path : List ℕ) → ends_at_vertex true path ≡ from_vertex (length path)
 ends_at [] = refl
-ends_at (i ∷ path) = ends_turned true path ∙ ap not (ends_at path) ∙ sym (from-next (length path))
+ends_at (i ∷ path) = turned_parity true path ∙ ap not (ends_at path) ∙ sym (from-next (length path))
 
 -- the half of a quad tells the partner
 half_quad : (places : List ℕ) (spoke_at partner : ℕ → ℕ) → IsQuadWheel (length places) (λ i. get_or places i 0) spoke_at partner → (a c : ℕ)

@@ -68,10 +68,6 @@ pub record AreSpokesSoFar (s : OrientedMesh) (polygon : PolygonView) (walk : Lis
   pub is : path ≡ spokes_along (own_spokes s polygon) (take n walk)
   pub few : length path ≤ 2 * n
 
-pub none_so_far : (s : OrientedMesh) (polygon : PolygonView) (walk : List ℕ) → AreSpokesSoFar s polygon walk 1 []
-none_so_far s polygon [] = record { is = refl; few = omega arith }
-none_so_far s polygon (u ∷ walk) = record { is = refl; few = omega arith }
-
 pub more_so_far : (s : OrientedMesh) (polygon : PolygonView) → IsOrientedSurface s → (walk : List ℕ) (n u v : ℕ) (old new : List ℕ) → 1 ≤ n
     → n < length walk
     → get_or walk (n - 1) 0 ≡ u → get_or walk n 0 ≡ v → AreSpokesSoFar s polygon walk n old → HasSpokesMore s polygon u v old new

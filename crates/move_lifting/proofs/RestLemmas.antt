@@ -1,16 +1,16 @@
 -- The rest of a face below a cotree edge weighs less than the edge, and all round the root face there is no more than all darts.
-use Rattle.std.proofs.Common.{◌≡◌, ◌≢◌, ◌⊎◌, inl, inr, ℕ, zero, suc, ◌+◌, ◌-◌, ◌<◌, ◌≤◌, Bool, true, false, not, ◌&&◌, eqb, cond, List, [], ◌∷◌, ◌++◌, length, get_or, refl, ap, sym, ◌∙◌, subst, arith, append_assoc}
+use Rattle.std.proofs.Common.{◌≡◌, ◌≢◌, ◌⊎◌, inl, inr, ℕ, zero, suc, ◌+◌, ◌-◌, ◌<◌, ◌≤◌, Bool, true, false, not, List, [], ◌∷◌, ◌++◌, length, get_or, refl, ap, sym, ◌∙◌, subst, arith, append_assoc}
 use Rattle.std.specs.Prelude.{Some}
-use Rattle.std.proofs.lemmas.Bool.{cases_Bool, cases_eq, eqb-true, eq-eqb, and_parts}
 use Rattle.surf_model.specs.FaceLists.{face_at, next_corner, corners_from}
 use Rattle.surf_model.specs.Darts.{first_side}
 use Rattle.surf_model.specs.Surfaces.{is_flipped}
 use Rattle.surf_model.proofs.RoundLemmas.{corner_after, corners_before, last_corner, meet}
+use Rattle.surf_model.proofs.EdgeLemmas.{step_within}
 use Rattle.halfedge_map.specs.OrientedMeshes.{OrientedMesh, IsOrientedSurface}
 use Rattle.halfedge_map.specs.DartMaps.{darts_of, twin_of, origin_of, target_of, edge_of}
 use Rattle.halfedge_map.specs.RotationSystems.{rotations_of, IsRotationSystem, IsDartFrom}
 use Rattle.halfedge_map.proofs.NumberLemmas.{IsNumberOf, number_below}
-use Rattle.halfedge_map.proofs.CornerLemmas.{corner_within, corner_back}
+use Rattle.halfedge_map.proofs.CornerLemmas.{corner_back}
 use Rattle.halfedge_map.proofs.DartLemmas.{face_at_number, origin_at, target_at, vertex_at, start_kept, start_flipped, end_kept, end_flipped}
 use Rattle.halfedge_map.proofs.TwinLemmas.{origin-twin}
 use Rattle.halfedge_map.proofs.EdgeLemmas.{edge-twin}
@@ -19,46 +19,10 @@ use Rattle.tree_cotree.specs.Splits.{SplitView, IsSplit, below_edge}
 use Rattle.move_lifting.specs.Loads.{load_of}
 use Rattle.move_lifting.proofs.CountLemmas.{sum_below}
 use Rattle.move_lifting.proofs.LoadLemmas.{weight, weight_positive, weight_most, AreBeside, AreInFace, weights_fall, root_weights}
-use Rattle.move_lifting.proofs.RoundLemmas.{corner_after_suc, corner_in, corners_apart, corners_more}
+use Rattle.move_lifting.proofs.RoundLemmas.{corner_in, corners_apart, corners_more}
 use Rattle.move_lifting.proofs.WithinLemmas.{load-joined, darts_weigh}
-
--- the dart from one vertex to another
-pick_below : (ℕ → Bool) → ℕ → ℕ
-pick_below p zero = 0
-pick_below p (suc n) = cond (p n) n (pick_below p n)
-
-pick_passes : (p : ℕ → Bool) (n i : ℕ) → i < n → p i ≡ true → (pick_below p n < n) × (p (pick_below p n) ≡ true)
-unfolding pick_below
-pick_passes p zero i l h = absurd (omega arith)
-pick_passes p (suc n) i l h = elim (cases_Bool (p n)) [
-  | inl here ↦
-      let is : pick_below p (suc n) ≡ n = ap (λ (b : Bool). cond b n (pick_below p n)) here in
-      (omega arith, ap p is ∙ here)
-  | inr other ↦
-      let is : pick_below p (suc n) ≡ pick_below p n = ap (λ (b : Bool). cond b n (pick_below p n)) other in
-      let less : i < n = elim (cases_eq i n) [ inl same ↦ absurd (no (p n) other (sym (ap p same) ∙ h)) | inr apart ↦ omega arith ] in
-      let before = pick_passes p n i less h in
-      (omega (arith, is, before.0), ap p is ∙ before.1)
-]
-  where
-    no : (b : Bool) → b ≡ false → b ≡ true → ⊥
-    no b off on = (let both : false ≡ true = sym off ∙ on in cc)
-
-pub dart_from : OrientedMesh → ℕ → ℕ → ℕ
-dart_from s u v = pick_below (λ d. eqb (origin_of s d) u && eqb (origin_of s (twin_of s d)) v) (darts_of s)
-
-pub found_is : (s : OrientedMesh) → IsOrientedSurface s → (u v d : ℕ) → IsDartFrom (rotations_of s) u v d → dart_from s u v ≡ d
-unfolding dart_from
-found_is s o u v d from =
-    let p : ℕ → Bool = λ x. eqb (origin_of s x) u && eqb (origin_of s (twin_of s x)) v in
-    let one : eqb (origin_of s d) u ≡ true = eq-eqb (origin_of s d) u from.starts in
-    let two : eqb (origin_of s (twin_of s d)) v ≡ true = eq-eqb (origin_of s (twin_of s d)) v from.ends in
-    let passes : p d ≡ true = ap (λ (b : Bool). b && eqb (origin_of s (twin_of s d)) v) one ∙ two in
-    let picked = pick_passes p (darts_of s) d from.within passes in
-    let x : ℕ = pick_below p (darts_of s) in
-    let parts = and_parts (eqb (origin_of s x) u) (eqb (origin_of s (twin_of s x)) v) picked.1 in
-    (rotation_system s o).one_dart x d picked.0 from.within (eqb-true (origin_of s x) u parts.0 ∙ sym from.starts)
-    (eqb-true (origin_of s (twin_of s x)) v parts.1 ∙ sym from.ends)
+use Rattle.polygon_cut.proofs.FaceRoundLemmas.{corner_after_suc}
+use Rattle.polygon_cut.proofs.FreeRoundLemmas.{dart_from, from_is}
 
 -- the edge between two vertices is that of each dart with these ends
 pub record HasTheseEnds (s : OrientedMesh) (x u v : ℕ) : Type 0 where
@@ -68,10 +32,10 @@ pub record HasTheseEnds (s : OrientedMesh) (x u v : ℕ) : Type 0 where
 edge_between : (s : OrientedMesh) → IsOrientedSurface s → (u v x : ℕ) → HasTheseEnds s x u v → edge_of s (dart_from s u v) ≡ edge_of s x
 edge_between s o u v x has = elim has.ends [
   | inl on ↦
-      ap (edge_of s) (found_is s o u v x (record { within = has.within; starts = on.0; ends = origin-twin s o x has.within ∙ on.1 }))
+      ap (edge_of s) (from_is s o u v x (record { within = has.within; starts = on.0; ends = origin-twin s o x has.within ∙ on.1 }))
   | inr back ↦
       let r : IsRotationSystem (rotations_of s) = rotation_system s o in
-      ap (edge_of s) (found_is s o u v (twin_of s x) (record {
+      ap (edge_of s) (from_is s o u v (twin_of s x) (record {
         within = r.twin_within x has.within;
         starts = origin-twin s o x has.within ∙ back.1;
         ends = ap (origin_of s) (r.twin_back x has.within) ∙ back.0;
@@ -107,7 +71,7 @@ side_place false m t = next_corner false m t
 
 side_in : (rising : Bool) (m t : ℕ) → t < m → side_place rising m t < m
 side_in true m t l = l
-side_in false m t l = corner_within false m t l
+side_in false m t l = step_within false m t l
 
 numbered : (s : OrientedMesh) (f t : ℕ) → f < length s.mesh.faces → t < length (face_at s.mesh f)
     → IsNumberOf s.mesh f t (first_side s.mesh f + t)
@@ -130,7 +94,7 @@ step_edge s o f false t l k =
     let back : next_corner true m p ≡ t = corner_back false m t k in
     let ends : HasTheseEnds s x (vertex_at s f p) (vertex_at s f t) =
     subst (λ (c : ℕ). HasTheseEnds s x (vertex_at s f p) (vertex_at s f c)) back
-    (side_ends s f p x (numbered s f p l (corner_within false m t k))) in
+    (side_ends s f p x (numbered s f p l (step_within false m t k))) in
     edge_between s o (vertex_at s f t) (vertex_at s f p) x (swapped s x (vertex_at s f p) (vertex_at s f t) ends)
 
 -- the load of a walk
@@ -254,7 +218,7 @@ rest_falls s split o t f c rising u v d l b starts ends from under =
     let h_edge : edge_of s (dart_from s u v) ≡ edge_of s h =
     subst (λ (x : ℕ). edge_of s (dart_from s x v) ≡ edge_of s h) starts
     (subst (λ (x : ℕ). edge_of s (dart_from s (vertex_at s f c) x) ≡ edge_of s h) ends (step_edge s o f rising c l b)) in
-    let d_edge : edge_of s (dart_from s u v) ≡ edge_of s d = ap (edge_of s) (found_is s o u v d from) in
+    let d_edge : edge_of s (dart_from s u v) ≡ edge_of s d = ap (edge_of s) (from_is s o u v d from) in
     let below_h : below_edge split (edge_of s h) ≡ Some f = ap (below_edge split) (sym h_edge ∙ d_edge)
     ∙ under in
     let fall = weights_fall s split o t f h (m - 1) (λ j. first_side s.mesh f + side_place (not rising) m (corner_after (not rising) m c j))

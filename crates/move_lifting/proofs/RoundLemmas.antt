@@ -6,15 +6,14 @@ use Rattle.std.proofs.lemmas.Bool.Decides.{nat_tests}
 use Rattle.std.proofs.lemmas.List.{reverse-append}
 use Rattle.surf_model.specs.FaceLists.{next_corner, corners_from}
 use Rattle.surf_model.proofs.RoundLemmas.{corner_after, corners_before, last_corner, meet}
-use Rattle.halfedge_map.proofs.CornerLemmas.{corner_within, corner_back}
-
-pub corner_after_suc : (rising : Bool) (m t k : ℕ) → corner_after rising m t (suc k) ≡ next_corner rising m (corner_after rising m t k)
-corner_after_suc rising m t zero = refl
-corner_after_suc rising m t (suc k) = corner_after_suc rising m (next_corner rising m t) k
+use Rattle.surf_model.proofs.EdgeLemmas.{step_within}
+use Rattle.halfedge_map.proofs.CornerLemmas.{corner_back}
+use Rattle.polygon_cut.proofs.FreeRoundLemmas.{round_trip}
+use Rattle.polygon_cut.proofs.FaceRoundLemmas.{corner_after_suc}
 
 pub corner_in : (rising : Bool) (m t k : ℕ) → t < m → corner_after rising m t k < m
 corner_in rising m t zero l = l
-corner_in rising m t (suc k) l = corner_in rising m (next_corner rising m t) k (corner_within rising m t l)
+corner_in rising m t (suc k) l = corner_in rising m (next_corner rising m t) k (step_within rising m t l)
 
 -- where rising steps lead: on, or past the last corner
 record RisesTo (m t k c : ℕ) : Type 0 where
@@ -67,14 +66,6 @@ corners_apart false m t p q l less few most same =
     rising_apart m t (m - q) (m - p) l (omega arith) (omega arith) (omega arith)
     (sym (sym (meet false m t p l (omega arith)) ∙ same ∙ meet false m t q l most))
 
--- as many steps back
-back_after : (rising : Bool) (m t k : ℕ) → t < m → corner_after (not rising) m (corner_after rising m t k) k ≡ t
-back_after rising m t zero l = refl
-back_after rising m t (suc k) l =
-    let next : ℕ = next_corner rising m t in
-    corner_after_suc (not rising) m (corner_after rising m next k) k
-    ∙ ap (next_corner (not rising) m) (back_after rising m next k (corner_within rising m t l)) ∙ corner_back rising m t l
-
 pub before-from : (ring : List ℕ) (rising : Bool) (t k : ℕ) → corners_before ring rising t (suc k) ≡ corners_from ring rising t k
 before-from ring rising t zero = refl
 before-from ring rising t (suc k) =
@@ -96,10 +87,10 @@ corners_turned ring rising t (suc k) l =
     let next : ℕ = next_corner rising m t in
     let end : ℕ = corner_after rising m next k in
     let home : corner_after (not rising) m end (suc k) ≡ t =
-    corner_after_suc (not rising) m end k ∙ ap (next_corner (not rising) m) (back_after rising m next k (corner_within rising m t l))
+    corner_after_suc (not rising) m end k ∙ ap (next_corner (not rising) m) (round_trip rising m next k (step_within rising m t l))
     ∙ corner_back rising m t l in
     reverse-append (get_or ring t 0 ∷ []) (corners_from ring rising next k)
-    ∙ ap (λ (w : List ℕ). w ++ get_or ring t 0 ∷ []) (corners_turned ring rising next k (corner_within rising m t l))
+    ∙ ap (λ (w : List ℕ). w ++ get_or ring t 0 ∷ []) (corners_turned ring rising next k (step_within rising m t l))
     ∙ sym (corners_more ring (not rising) end k ∙ ap (λ (c : ℕ). corners_from ring (not rising) end k ++ get_or ring c 0 ∷ []) home)
 
 -- the rest of a face beyond the step from a corner: read from the step's end, and turned round, it is read the other way from the corner
@@ -112,7 +103,7 @@ rest_turned ring rising t k l all =
     let left : m - suc k ≡ 1 = omega arith in
     let end : corner_after rising m next k ≡ next_corner (not rising) m t =
     meet rising m t (suc k) l (omega arith) ∙ ap (corner_after (not rising) m t) left in
-    corners_turned ring rising next k (corner_within rising m t l) ∙ ap (λ (c : ℕ). corners_from ring (not rising) c k) end
+    corners_turned ring rising next k (step_within rising m t l) ∙ ap (λ (c : ℕ). corners_from ring (not rising) c k) end
 
 -- the last corner of the rest is where the step ends
 pub rest_ends : (rising : Bool) (m t : ℕ) → t < m → corner_after (not rising) m t (m - 1) ≡ next_corner rising m t

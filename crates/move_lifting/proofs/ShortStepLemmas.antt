@@ -5,6 +5,7 @@ use Rattle.std.specs.Prelude.{All, if◌then◌else◌, ◌==◌}
 use Rattle.std.proofs.lemmas.Bool.{cases_Bool, cases_eq, eq-eqb, ne_eqb}
 use Rattle.std.proofs.lemmas.List.{get_or-append-add, get_or_append_left}
 use Rattle.std.proofs.lemmas.List.Elements.{All-cons}
+use Rattle.std.proofs.Math.Seq.{take-append_seam}
 use Rattle.surf_model.specs.Walks.{IsWalk, darts}
 use Rattle.halfedge_map.specs.OrientedMeshes.{OrientedMesh, IsOrientedSurface}
 use Rattle.halfedge_map.specs.RotationSystems.{rotations_of}
@@ -27,7 +28,7 @@ use Rattle.spoke_paths.specs.PathSteps.{quad_turned, after_path_step}
 use Rattle.spoke_paths.specs.PathTurns.{from_vertex}
 use Rattle.spoke_paths.specs.declared.step.PathStep.{PathStep}
 use Rattle.spoke_paths.specs.declared.step.PathStep.TheVariants.{Turn}
-use Rattle.spoke_paths.proofs.Placing.{AtPlace, at-place, take-front, IsTurned, is-turned}
+use Rattle.spoke_paths.proofs.Placing.{AtPlace, at-place, IsTurned, is-turned}
 use Rattle.move_lifting.specs.LoopFronts.{spokes_in_front}
 use Rattle.move_lifting.proofs.ContractLemmas.{front_below}
 use Rattle.move_lifting.proofs.PathLemmas.{ends_at, quad_partner}
@@ -180,7 +181,7 @@ module _ (s : OrientedMesh) (split : SplitView) (o : IsOrientedSurface s) (t : I
           (rotation_system s o) (cut.labels some)).other z (omega arith)
 
       front_is : take at path ≡ r.before
-      front_is = ap (take at) r.path_is ∙ ap (λ n. take n (r.before ++ r.part)) (sym r.long) ∙ take-front r.before r.part
+      front_is = ap (take at) r.path_is ∙ ap (λ n. take n (r.before ++ r.part)) (sym r.long) ∙ take-append_seam r.before r.part
 
       own : List ℕ
       own = spokes_in_front z path at a c

@@ -1,64 +1,20 @@
 -- A walk without spurs is the shortest of those that are equal to it up to spurs.
-use Rattle.std.proofs.Common.{◌≡◌, ◌≢◌, inr, inl, ℕ, suc, ◌+◌, ◌-◌, ◌<◌, ◌≤◌, List, [], ◌∷◌, ◌++◌, length, take, get_or, refl, ap, sym, ◌∙◌, subst, arith, append_assoc, length-append}
-use Rattle.std.specs.Prelude.{All, Some}
+use Rattle.std.proofs.Common.{◌≡◌, ◌≢◌, inr, inl, ℕ, ◌+◌, ◌-◌, ◌<◌, ◌≤◌, List, [], ◌∷◌, ◌++◌, length, take, get_or, refl, ap, sym, ◌∙◌, subst, arith, append_assoc, length-append}
 use Rattle.std.proofs.lemmas.Bool.{cases_lt, cases_eq}
 use Rattle.std.proofs.lemmas.List.{append-nil, get_or_append_left, length-take-le}
 use Rattle.surf_model.specs.FaceLists.{FaceList}
-use Rattle.surf_model.specs.FreeWalks.{AreFreelyEqual, HasNoSpur, IsSpurMove}
-use Rattle.surf_model.specs.Moves.{apply, apply_all}
-use Rattle.surf_model.specs.declared.moves.Move.{Move}
-use Rattle.surf_model.specs.declared.moves.Move.TheVariants.{Insert, Remove, Across}
-use Rattle.surf_model.proofs.ReplacementLemmas.{by_replacing}
-use Rattle.surf_model.proofs.ContextLemmas.{first_answer, stays_walk}
+use Rattle.surf_model.specs.FreeWalks.{AreFreelyEqual, HasNoSpur}
 use Rattle.surf_model.proofs.StackLemmas.{AreSame, same_after, same_before, spur_same, same_equal}
+use Rattle.surf_model.proofs.FreeWalkLemmas.{spur_list_same}
 use Rattle.common_ends.proofs.TrimLemmas.{last_entry}
 use Rattle.move_lifting.specs.Tracks.{last_of}
 use Rattle.move_lifting.proofs.ListLemmas.{front_and_last, no_spur_front, no_spur_on, one_no_spur}
-
--- up to spurs a walk stays the same where one comes in or goes out
-spur_within : (before after : List ℕ) (here via : ℕ) → AreSame (before ++ (here ∷ via ∷ here ∷ []) ++ after) (before ++ here ∷ [] ++ after)
-spur_within before after here via =
-    same_before (before ++ here ∷ via ∷ here ∷ []) (before ++ here ∷ []) after
-    (same_after before (here ∷ via ∷ here ∷ []) (here ∷ []) (spur_same here via []))
 
 turned_same : (a b : List ℕ) → AreSame a b → AreSame b a
 turned_same a b h stack clean = sym (h stack clean)
 
 same_on : (a b c : List ℕ) → AreSame a b → AreSame b c → AreSame a c
 same_on a b c h k stack clean = h stack clean ∙ k stack clean
-
-move_same : (mesh : FaceList) (walk next : List ℕ) (move : Move) → 0 < length walk → IsSpurMove move → apply mesh walk move ≡ Some next
-    → AreSame walk next
-move_same mesh walk next (Insert at via) some spur e =
-    let r = (by_replacing mesh walk next (Insert at via) some).0 e in
-    let here : ℕ = r.replaces.0 in
-    let from : walk ≡ r.before ++ here ∷ [] ++ r.after = r.walk_is ∙ ap (λ (l : List ℕ). r.before ++ l ++ r.after) r.replaces.2 in
-    let to : next ≡ r.before ++ (here ∷ via.0 ∷ here ∷ []) ++ r.after =
-    r.next_is ∙ ap (λ (l : List ℕ). r.before ++ l ++ r.after) r.replaces.3 in
-    subst (λ (l : List ℕ). AreSame l next) (sym from)
-    (subst (AreSame (r.before ++ here ∷ [] ++ r.after)) (sym to)
-    (turned_same (r.before ++ (here ∷ via.0 ∷ here ∷ []) ++ r.after) (r.before ++ here ∷ [] ++ r.after)
-    (spur_within r.before r.after here via.0)))
-move_same mesh walk next (Remove at via) some spur e =
-    let r = (by_replacing mesh walk next (Remove at via) some).0 e in
-    let here : ℕ = r.replaces.0 in
-    let from : walk ≡ r.before ++ (here ∷ via.0 ∷ here ∷ []) ++ r.after =
-    r.walk_is ∙ ap (λ (l : List ℕ). r.before ++ l ++ r.after) r.replaces.1 in
-    let to : next ≡ r.before ++ here ∷ [] ++ r.after = r.next_is ∙ ap (λ (l : List ℕ). r.before ++ l ++ r.after) r.replaces.2 in
-    subst (λ (l : List ℕ). AreSame l next) (sym from)
-    (subst (AreSame (r.before ++ (here ∷ via.0 ∷ here ∷ []) ++ r.after)) (sym to) (spur_within r.before r.after here via.0))
-move_same mesh walk next (Across at face corner forward taken) some spur e = absurd spur
-
-moves_same : (mesh : FaceList) (moves : List Move) (walk next : List ℕ) → 0 < length walk → All IsSpurMove moves
-    → apply_all mesh walk moves ≡ Some next → AreSame walk next
-moves_same mesh [] walk next some spurs e stack clean =
-    let same : walk ≡ next = cc in
-    rw same refl
-moves_same mesh (move ∷ moves) walk next some spurs e stack clean =
-    let told = first_answer (λ x. apply_all mesh x moves) (apply mesh walk move) next e in
-    same_on walk told.0 next (move_same mesh walk told.0 move some (spurs 0 move (omega arith)) told.1)
-    (moves_same mesh moves told.0 next (stays_walk mesh walk told.0 move some told.1) (λ k d l. spurs (suc k) d (omega arith)) told.2) stack
-    clean
 
 -- a walk without spurs, no longer than the walk, and the same up to spurs
 record HasReduced (walk : List ℕ) : Type 0 where
@@ -160,5 +116,5 @@ reduced_is_shortest mesh walk reduced some free clean =
     let equal : found.reduced ≡ reduced =
     same_equal found.reduced reduced found.no_spur clean
     (same_on found.reduced walk reduced (turned_same walk found.reduced found.same)
-    (moves_same mesh free.0 walk reduced some free.1 free.2)) in
+    (spur_list_same mesh free.0 walk reduced some free.1 free.2)) in
     omega (arith, found.long, ap (λ (l : List ℕ). length l) equal)

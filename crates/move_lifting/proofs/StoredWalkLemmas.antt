@@ -1,9 +1,7 @@
 -- Walks that lie one after another, and marks for their numbers.
-use Rattle.std.proofs.Common.{◌≡◌, inl, inr, ℕ, ◌+◌, ◌-◌, ◌<◌, ◌≤◌, Bool, true, false, List, [], ◌∷◌, ◌++◌, length, take, drop, set, get_or, refl, ap, sym, ◌∙◌, subst, arith}
-use Rattle.std.specs.Prelude.{All}
-use Rattle.std.proofs.lemmas.Bool.{cases_eq}
-use Rattle.std.proofs.lemmas.List.{drop-append-le, drop_all, get_or-set_same, get_or-set_other, length-drop, map-append, take-append-le, take_all}
-use Rattle.std.proofs.lemmas.List.Elements.{All-head, All-more, All-tail}
+use Rattle.std.proofs.Common.{◌≡◌, ℕ, ◌+◌, ◌-◌, ◌≤◌, List, [], ◌∷◌, ◌++◌, length, take, drop, refl, ap, ◌∙◌, arith}
+use Rattle.std.proofs.lemmas.List.{drop-append-le, drop_all, length-drop, map-append, take-append-le, take_all}
+use Rattle.std.proofs.lemmas.List.Elements.{All-head, All-tail}
 use Rattle.surf_model.specs.Vertices.{numbers}
 use Rattle.surf_model.specs.declared.names.VertexName.{VertexName}
 use Rattle.move_lifting.specs.declared.spoke_walks.Place.{Place}
@@ -44,18 +42,3 @@ stored-push places vertices walk place within start end =
     map-append (walk_at (vertices ++ walk)) places (place ∷ [])
     ∙ ap (λ (l : List (List ℕ)). l ++ walk_at (vertices ++ walk) place ∷ []) (stored-append places vertices walk within)
     ∙ ap (λ (w : List ℕ). stored_walks places vertices ++ w ∷ []) own
-
--- one mark more leaves the others
-pub marked_more : (marks : List Bool) (xs : List ℕ) (k : ℕ) (d : ℕ) → k < length xs → get_or xs k d < length marks
-    → All (λ x. get_or marks x false ≡ true) (take k xs)
-    → All (λ x. get_or (set marks (get_or xs k d) true) x false ≡ true) (take (k + 1) xs)
-marked_more marks xs k d l within all =
-    let own : ℕ = get_or xs k d in
-    let same : get_or (set marks own true) own false ≡ true = get_or-set_same marks own true false within in
-    All-more (λ x. get_or (set marks own true) x false ≡ true) xs k d l
-    (λ j e below.
-    let x : ℕ = get_or (take k xs) j e in
-    elim (cases_eq x own) [
-      | inl is ↦ subst (λ (y : ℕ). get_or (set marks own true) y false ≡ true) (sym is) same
-      | inr other ↦ get_or-set_other marks own x true false other ∙ all j e below
-    ]) same

@@ -15,8 +15,9 @@ use Rattle.tree_cotree.specs.Splits.{SplitView, IsSplit, StepsToParent, parent_d
 use Rattle.polygon_cut.specs.SpokeLoops.{AreWaysUp}
 use Rattle.polygon_cut.proofs.FreeLawLemmas.{root_is}
 use Rattle.polygon_cut.proofs.TreeWayLemmas.{up, up_path, one_path}
+use Rattle.polygon_cut.proofs.CountLemmas.{count_at_most}
 use Rattle.move_lifting.proofs.ExpandLemmas.{length-numbers}
-use Rattle.move_lifting.proofs.CountLemmas.{sum_below, sum_same, disjoint_counts, count_most, count_one}
+use Rattle.move_lifting.proofs.CountLemmas.{sum_below, sum_same, disjoint_counts, count_one}
 
 -- the dart to the parent leads to a vertex that is used, from which the way up goes on
 pub used_parent : (s : OrientedMesh) (split : SplitView) → IsOrientedSurface s → (t : IsSplit s split) → (v d : ℕ)
@@ -76,7 +77,7 @@ few_numbers f k n below apart =
     let most : sum_below (λ j. count_below (λ z. eqb z (f j)) n) k ≤ count_below (λ z. true) n =
     disjoint_counts (λ j z. eqb z (f j)) (λ z. true) k n (λ j z l m is. refl)
     (λ i j z l m z_in x y. apart i j l m (sym (eqb-true z (f i) x) ∙ eqb-true z (f j) y)) in
-    omega (arith, ones, most, count_most (λ z. true) n, as_many k)
+    omega (arith, ones, most, count_at_most (λ z. true) n, as_many k)
   where
     as_many : (k : ℕ) → sum_below (λ j. 1) k ≡ k
     as_many zero = refl

@@ -14,11 +14,12 @@ use Rattle.polygon_cut.specs.SpokeLoops.{backward, put_behind}
 use Rattle.polygon_cut.proofs.WayLemmas.{IsWay, back}
 use Rattle.polygon_cut.proofs.CongruenceLemmas.{home_and_there}
 use Rattle.polygon_cut.proofs.FreeLoopLemmas.{free_equality}
+use Rattle.polygon_cut.proofs.FreeLawLemmas.{backward_is}
 use Rattle.common_ends.proofs.TrimLemmas.{last_entry}
 use Rattle.move_lifting.specs.Lifts.{LeadsAtPeak}
 use Rattle.move_lifting.specs.Tracks.{TrackView, GoesOn, last_of}
 use Rattle.move_lifting.proofs.ExpandLemmas.{length-numbers}
-use Rattle.move_lifting.proofs.BackLemmas.{back_more, length-backward, last_joined, last_back, backward-append, backward_is, way_apart, way_of}
+use Rattle.move_lifting.proofs.BackLemmas.{back_more, length-backward, last_joined, last_back, backward-append, way_apart, way_of}
 use Rattle.move_lifting.proofs.InsertLemmas.{spur_in_last, leads_further_on}
 
 -- the way back along a walk from its entry k to its entry n, both counted from 1

@@ -3,6 +3,7 @@
 use Rattle.std.proofs.Common.{◌≡◌, ◌≢◌, ◌⊎◌, inl, inr, ℕ, suc, ◌+◌, ◌-◌, ◌<◌, Bool, true, false, not, List, [], ◌∷◌, ◌++◌, length, take, refl, ap, sym, ◌∙◌, subst, arith, Some}
 use Rattle.std.specs.Prelude.{if◌then◌else◌, ◌==◌, slice_index, All}
 use Rattle.std.proofs.lemmas.Bool.{eq-eqb, ne_eqb}
+use Rattle.std.proofs.Math.Seq.{take-append_seam}
 use Rattle.surf_model.specs.FaceLists.{is_used}
 use Rattle.surf_model.specs.FreeWalks.{AreFreelyEqual}
 use Rattle.surf_model.specs.Walks.{IsWalk}
@@ -31,7 +32,7 @@ use Rattle.quad_system.proofs.SpokeProductLemmas.{spoke_at}
 use Rattle.turn_words.specs.Modulo.{add}
 use Rattle.spoke_paths.specs.PathSteps.{upper_way, lower_way, spur_goes, quad_turned, from_spoke}
 use Rattle.spoke_paths.specs.PathTurns.{from_vertex}
-use Rattle.spoke_paths.proofs.Placing.{AtPlace, at-place, take-front, old_way, new_way, IsTurned, is-turned}
+use Rattle.spoke_paths.proofs.Placing.{AtPlace, at-place, old_way, new_way, IsTurned, is-turned}
 use Rattle.spoke_paths.proofs.StepsKeep.{spur-is}
 use Rattle.move_lifting.specs.LoopsPutIn.{signed_loop, IsFreelyPath, HasLoopIn}
 use Rattle.move_lifting.specs.LoopFronts.{spokes_in_front}
@@ -181,7 +182,7 @@ module _ (s : OrientedMesh) (split : SplitView) (o : IsOrientedSurface s) (t : I
           ∙ new_is rises (length polygon.places) polygon.degree (across (rotations_of s) polygon) flag a c r.before turned.after same is
 
       front_is : take at path ≡ r.before
-      front_is = ap (take at) r.path_is ∙ ap (λ n. take n (r.before ++ r.part)) (sym r.long) ∙ take-front r.before r.part
+      front_is = ap (take at) r.path_is ∙ ap (λ n. take n (r.before ++ r.part)) (sym r.long) ∙ take-append_seam r.before r.part
 
       spokes_are : (extra : List ℕ)
           → (if a == z then (if flag then [] else (c + 1) ∷ []) else (if flag then a ∷ (a + 1) ∷ [] else z ∷ [])) ≡ extra

@@ -15,7 +15,7 @@ use Rattle.surf_model.specs.declared.moves.Move.TheVariants.{Insert, Remove, Acr
 use Rattle.surf_model.proofs.ContextLemmas.{first_answer}
 use Rattle.surf_model.proofs.ReplacementLemmas.{by_replacing}
 use Rattle.surf_model.proofs.WayBackLemmas.{keeps_walk}
-use Rattle.connectivity.proofs.EdgeLemmas.{edge_used, used_below}
+use Rattle.connectivity.proofs.EdgeLemmas.{used_below}
 use Rattle.free_forms.specs.PeakedLists.{LeadsAtPeak, IsWithin}
 use Rattle.common_ends.proofs.PeakLemmas.{greatest_darts-more}
 use Rattle.free_forms.specs.declared.limits.TheConstants.{MOST_OPEN_SIDES, MOST_OPEN_STEPS}
@@ -28,6 +28,7 @@ use Rattle.commands.specs.declared.certificate.TheConstants.{MOST_SPHERE_MOVES}
 use Rattle.commands.specs.declared.inputs.TheConstants.{MOST_BYTES}
 use Rattle.open_commands.specs.declared.certify_open.TheConstants.{MOST_OPEN_BYTES}
 use Rattle.surf_model.specs.declared.limits.TheConstants.{MOST_VERTICES}
+use Rattle.surf_model.proofs.EdgeLemmas.{head_used}
 
 -- ---- the moves of such a list have small numbers
 
@@ -49,7 +50,6 @@ spur_used : (mesh : FaceList) (walk before after : List ℕ) (here via : ℕ) �
     → walk ≡ before ++ (here ∷ via ∷ here ∷ []) ++ after → is_used mesh via ≡ true
 spur_used mesh walk before after here via w is =
     let part : List ℕ = here ∷ via ∷ here ∷ [] in
-    let all : List ℕ = (before ++ part) ++ after in
     let front : length (before ++ part) ≡ length before + 3 = length-append before part in
     let long : length walk ≡ length before + 3 + length after =
     omega (arith, ap (λ (l : List ℕ). length l) is, length-append (before ++ part) after, front) in
@@ -83,7 +83,7 @@ module _ (mesh : FaceList) (most : ℕ) (valid : IsFaceList mesh) (small : HasFi
     move_small walk next (Insert at via) w short e =
         let r = (by_replacing mesh walk next (Insert at via) w.starts).0 e in
         let some : 0 < length r.part = omega (arith, ap (λ (l : List ℕ). length l) r.replaces.2) in
-        let used : is_used mesh via.0 ≡ true = edge_used mesh r.replaces.0 via.0 r.replaces.1 in (
+        let used : is_used mesh via.0 ≡ true = head_used mesh r.replaces.0 via.0 r.replaces.1 in (
           omega (arith, place_within walk r.before r.part r.after at r.walk_is r.place some, short),
           omega (arith, used_below mesh via.0 valid used, small.few_vertices),
         )
@@ -119,9 +119,6 @@ module _ (mesh : FaceList) (most : ℕ) (valid : IsFaceList mesh) (small : HasFi
 
 -- ---- their lines
 
-digits : (k n : ℕ) → 0 < k → n < 10 ^ k → n < 2 ^ 64 → length (decimal n) ≤ k
-digits k n some few wide = length-decimal-le k n some few wide
-
 -- a line has a byte behind each word
 line_length : (word : List ℕ) (words : List (List ℕ))
     → length (line_of (word ∷ words)) ≡ sum_by (λ (w : List ℕ). length w + 1) (word ∷ words)
@@ -149,24 +146,24 @@ move_line k most (Insert at via) some few wide small =
     omega (
       arith,
       line_length (codes "+") (decimal at ∷ decimal via.0 ∷ []),
-      digits k at some (omega (arith, small.0, few)) (omega (arith, small.0, wide)),
-      digits 6 via.0 (omega arith) (omega (arith, small.1)) (omega (arith, small.1)),
+      length-decimal-le k at some (omega (arith, small.0, few)) (omega (arith, small.0, wide)),
+      length-decimal-le 6 via.0 (omega arith) (omega (arith, small.1)) (omega (arith, small.1)),
     )
 move_line k most (Remove at via) some few wide small =
     omega (
       arith,
       line_length (codes "-") (decimal at ∷ decimal via.0 ∷ []),
-      digits k at some (omega (arith, small.0, few)) (omega (arith, small.0, wide)),
-      digits 6 via.0 (omega arith) (omega (arith, small.1)) (omega (arith, small.1)),
+      length-decimal-le k at some (omega (arith, small.0, few)) (omega (arith, small.0, wide)),
+      length-decimal-le 6 via.0 (omega arith) (omega (arith, small.1)) (omega (arith, small.1)),
     )
 move_line k most (Across at face corner forward taken) some few wide small =
     omega (
       arith,
       line_length (codes "f") (decimal at ∷ decimal face.0 ∷ decimal corner ∷ direction_word forward ∷ decimal taken ∷ []),
-      digits k at some (omega (arith, small.0, few)) (omega (arith, small.0, wide)),
-      digits 4 face.0 (omega arith) (omega (arith, small.1)) (omega (arith, small.1)),
-      digits 5 corner (omega arith) (omega (arith, small.2)) (omega (arith, small.2)),
-      digits 5 taken (omega arith) (omega (arith, small.3)) (omega (arith, small.3)),
+      length-decimal-le k at some (omega (arith, small.0, few)) (omega (arith, small.0, wide)),
+      length-decimal-le 4 face.0 (omega arith) (omega (arith, small.1)) (omega (arith, small.1)),
+      length-decimal-le 5 corner (omega arith) (omega (arith, small.2)) (omega (arith, small.2)),
+      length-decimal-le 5 taken (omega arith) (omega (arith, small.3)) (omega (arith, small.3)),
       direction_one forward,
     )
 
@@ -191,8 +188,8 @@ head_short k list some few peak wide high =
     omega (
       arith,
       line_length (codes "MOVES") (decimal (length list.moves) ∷ decimal list.peak ∷ []),
-      digits k (length list.moves) some few wide,
-      digits k list.peak some peak high,
+      length-decimal-le k (length list.moves) some few wide,
+      length-decimal-le k list.peak some peak high,
     )
 
 -- the numbers of a list have so many digits at most, and its moves are no more than so many

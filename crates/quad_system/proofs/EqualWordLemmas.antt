@@ -1,10 +1,9 @@
 -- Walks with common ends are homotopic exactly where they have one canonical word.
 -- From one word to moves: their turn words reach one another, so they read to the same product
 -- of spokes, and the walks are these products.
-use Rattle.std.proofs.Common.{◌≡◌, ◌↔◌, inl, inr, ℕ, ◌<◌, ◌≤◌, true, ◌&&◌, eqb, List, [], ◌∷◌, length, get_or, ap, sym, ◌∙◌, subst, arith}
+use Rattle.std.proofs.Common.{◌≡◌, ◌↔◌, ℕ, ◌<◌, ◌≤◌, true, List, [], ◌∷◌, length, get_or, ap, sym, ◌∙◌, subst, arith}
 use Rattle.std.specs.Prelude.{All, slice_index}
-use Rattle.std.proofs.lemmas.Bool.{cases_Bool}
-use Rattle.std.proofs.lemmas.List.Elements.{All-append, All-nil, All-cons}
+use Rattle.std.proofs.lemmas.List.Elements.{All-append, All-nil}
 use Rattle.surf_model.specs.Walks.{IsWalk, HaveCommonEnds}
 use Rattle.surf_model.specs.Moves.{Homotopic}
 use Rattle.halfedge_map.specs.OrientedMeshes.{OrientedMesh, IsOrientedSurface}
@@ -29,20 +28,15 @@ use Rattle.polygon_cut.proofs.WalkLemmas.{walk_way, other_way}
 use Rattle.polygon_cut.proofs.TreeWayLemmas.{up, tree_ways}
 use Rattle.polygon_cut.proofs.SpokeLemmas.{Loops, spoke, group_of}
 use Rattle.labellings.specs.Labellings.{LabellingView}
-use Rattle.labellings.specs.QuadPaths.{spokes, spokes_by_labels, quad_path}
+use Rattle.labellings.specs.QuadPaths.{spokes, quad_path}
 use Rattle.quad_system.specs.PolygonLabellings.{labelling_from}
 use Rattle.labellings.proofs.FoldLemmas.{PutLaws}
 use Rattle.labellings.proofs.KeepingLemmas.{moves_keep}
+use Rattle.labellings.proofs.WalkWordLemmas.{both_below}
 use Rattle.quad_system.proofs.PolygonLabelLemmas.{polygon_good}
 use Rattle.quad_system.proofs.ReadingLemmas.{HasQuads, reached_reads}
 use Rattle.quad_system.proofs.PushPathLemmas.{path_of, word_path}
 use Rattle.quad_system.proofs.SpokeProductLemmas.{DartSpokes, dart_spokes, polygon_quads, spoke_at, walk_product}
-
-both_below : (n a b c d : ℕ) → a < n → b < n → All (λ i. i < n) (spokes_by_labels a b c d)
-both_below n a b c d l k = elim (cases_Bool (eqb a b && eqb c d)) [
-  | inl tree ↦ rw tree (All-nil (λ i. i < n))
-  | inr other ↦ rw other (All-cons (λ i. i < n) a (b ∷ []) l (All-cons (λ i. i < n) b [] k (All-nil (λ i. i < n))))
-]
 
 -- the spokes of a walk are spokes of the wheel
 pub path_below : (s : OrientedMesh) (split : SplitView) (polygon : PolygonView) → IsOrientedSurface s → IsSplit s split

@@ -107,14 +107,6 @@ last_quad s split polygon o t c some = record {
     goes_round : (n : ℕ) → 0 < n → one_up n (n - 1) ≡ 0
     goes_round n m = grind (arith, nat_tests)
 
--- The spokes of a dart that it may have up to spurs are below the degree, and lead a form as its two labels do.
-record AreLike {State : Type 0} (s : OrientedMesh) (polygon : PolygonView) (next : List ℕ → State → ℕ → State)
-    (Belongs IsAtVertex : State → Type 0) (d : ℕ) (path : List ℕ) : Type 0 where
-  tail_in : label_of polygon d < length polygon.places
-  head_in : label_of polygon (next_of s d) < length polygon.places
-  lead : (x : State) → Belongs x → IsAtVertex x
-      → led next polygon.places x path ≡ pair polygon.places next x (label_of polygon d) (label_of polygon (next_of s d))
-
 labels_in : (s : OrientedMesh) (split : SplitView) (polygon : PolygonView) → IsOrientedSurface s → IsCutFrom s split polygon
     → 0 < polygon.degree
     → (d : ℕ) → d < darts_of s → (label_of polygon d < length polygon.places) × (label_of polygon (next_of s d) < length polygon.places)

@@ -119,7 +119,6 @@ leftover_sides s split polygon o t c some side h = record { rule = rule; kind = 
             → is_left split edge ≡ true
         go a b l left_one p q r = r
         go a b l tree_one p q r =
-            let other : Side = found.0 in
             let rises : head_label s.mesh labelling side ≡ one_up degree (tail_label s.mesh labelling side) =
             found.2.rises ∙ ap (λ n. add n (tail_label s.mesh labelling side) 1) size
             ∙ up_is_add degree (tail_label s.mesh labelling side) below in

@@ -1,8 +1,9 @@
 -- The spokes of a turn word, and what elementary steps do to them: a spur takes out two equal neighbours, and a push changes two
 -- neighbours across a quad.
 use Rattle.std.proofs.Common.{◌≡◌, ℕ, zero, suc, ◌<◌, Bool, true, false, not, eqb, List, [], ◌∷◌, ◌++◌, length, get_or, refl, ap, sym, ◌∙◌, subst, arith}
-use Rattle.std.specs.Prelude.{All, Option, Some, None, option_map, cond, nat_lt}
+use Rattle.std.specs.Prelude.{All, Option, Some, None, option_map, nat_lt}
 use Rattle.std.proofs.lemmas.Bool.{eqb-true, ltb-true}
+use Rattle.std.proofs.lemmas.Option.{cond_some}
 use Rattle.turn_words.specs.Modulo.{add, minus}
 use Rattle.turn_words.specs.Lemmas.Lists.{InRange}
 use Rattle.turn_words.specs.Lemmas.Sums.{add-lt, minus-lt, add_comm, add_assoc, add-zero, zero-add, add-minus}
@@ -264,11 +265,6 @@ changed_behind degree place spoke_at partner q Changed rule ok (suc at) (x ∷ w
       changed = rest.changed;
     }
 
--- the rules of the table
-some_is : (test : Bool) (x v : List ℕ) → cond test (Some x) None ≡ Some v → (test ≡ true) × (x ≡ v)
-some_is true x v e = (refl, let same : x ≡ v = cc in same)
-some_is false x v e = cc
-
 unchanged : (degree a b : ℕ) (word : List ℕ) → InRange degree word → a < degree → b < degree → add degree a b ≡ 0
     → next_changed degree b (next_changed degree a word) ≡ word
 unchanged degree a b [] h l k e = refl
@@ -279,7 +275,7 @@ spur_in_path : (degree : ℕ) (place spoke_at partner : ℕ → ℕ) → IsQuadW
     → ChangesPath degree place spoke_at (λ at_vertex path other. SpurGoes at_vertex other path) (spur_in degree first)
 spur_in_path degree place spoke_at partner q first w v h e at_vertex m l =
     let back : ℕ = minus degree first in
-    let told = some_is (nat_lt first degree) (first ∷ 0 ∷ next_changed degree back w) v e in
+    let told = cond_some (nat_lt first degree) (first ∷ 0 ∷ next_changed degree back w) v e in
     let first_in : first < degree = ltb-true first degree told.0 in
     let back_in : back < degree = minus-lt degree first first_in in
     let home : next_changed degree first (next_changed degree back w) ≡ w =
@@ -296,7 +292,7 @@ spur_out_path : (degree : ℕ) (place spoke_at partner : ℕ → ℕ) → IsQuad
 spur_out_path degree place spoke_at partner q [] v h e at_vertex m l = cc
 spur_out_path degree place spoke_at partner q (x ∷ []) v h e at_vertex m l = cc
 spur_out_path degree place spoke_at partner q (x ∷ turn ∷ w) v h e at_vertex m l =
-    let told = some_is (eqb turn 0) (next_changed degree x w) v e in
+    let told = cond_some (eqb turn 0) (next_changed degree x w) v e in
     let zero_is : turn ≡ 0 = eqb-true turn 0 told.0 in
     subst (λ (z : List ℕ). SpurGoes at_vertex (path_of degree place spoke_at at_vertex m (x ∷ turn ∷ w))
     (path_of degree place spoke_at at_vertex m z)) told.1
@@ -315,7 +311,7 @@ pushed_path degree place spoke_at partner q up [] v h e at_vertex m l = cc
 pushed_path degree place spoke_at partner q up (x ∷ []) v h e at_vertex m l = cc
 pushed_path degree place spoke_at partner q false (x ∷ turn ∷ w) v h e at_vertex m l =
     let less : ℕ = minus degree 1 in
-    let told = some_is (eqb turn 1) (add degree x less ∷ less ∷ next_changed degree less w) v e in
+    let told = cond_some (eqb turn 1) (add degree x less ∷ less ∷ next_changed degree less w) v e in
     let one_is : turn ≡ 1 = eqb-true turn 1 told.0 in
     subst (λ (z : List ℕ). IsPushedDown degree partner at_vertex (path_of degree place spoke_at at_vertex m (x ∷ turn ∷ w))
     (path_of degree place spoke_at at_vertex m z)) told.1
@@ -325,7 +321,7 @@ pushed_path degree place spoke_at partner q false (x ∷ turn ∷ w) v h e at_ve
 pushed_path degree place spoke_at partner q true (x ∷ turn ∷ w) v h e at_vertex m l =
     let less : ℕ = minus degree 1 in
     let less_in : less < degree = minus-lt degree 1 q.large in
-    let told = some_is (eqb turn less) (add degree x 1 ∷ 1 ∷ next_changed degree 1 w) v e in
+    let told = cond_some (eqb turn less) (add degree x 1 ∷ 1 ∷ next_changed degree 1 w) v e in
     let less_is : turn ≡ less = eqb-true turn less told.0 in
     let x_up : add degree x 1 < degree = add-lt degree x 1 h.0 q.large in
     let changed : InRange degree (next_changed degree 1 w) = changed_within degree 1 w q.large h.1.1 in

@@ -1,7 +1,7 @@
 -- Turn words read as products in a group: each spoke of the word puts its element at the vertex, and takes it away in the middle. Where
 -- the quads hold in the group, elementary steps change nothing, so words that reach one another read alike.
 use Rattle.std.proofs.Common.{◌≡◌, ℕ, ◌<◌, ◌≤◌, Bool, true, false, List, [], ◌∷◌, ◌++◌, refl, ap, sym, ◌∙◌, subst}
-use Rattle.std.specs.Prelude.{Option, Some, None, option_and_then}
+use Rattle.std.specs.Prelude.{Some}
 use Rattle.turn_words.specs.Modulo.{add}
 use Rattle.turn_words.specs.StepTable.{after_step, after_steps}
 use Rattle.turn_words.specs.Lemmas.Lists.{InRange}
@@ -13,6 +13,7 @@ use Rattle.polygon_cut.proofs.GroupLemmas.{IsGroup, quotient}
 use Rattle.polygon_cut.proofs.GroupWordLemmas.{Var, Mul, Inv, by_words}
 use Rattle.polygon_cut.proofs.RelatorLemmas.{spoke_product, part_same}
 use Rattle.quad_system.proofs.PushPathLemmas.{IsQuadWheel, path_of, turned, upper_side, SpurGoes, IsPushedDown, PushedOneWay, IsChangedBehind, ends_by_length, spur_in_changes, spur_out_changes, push_changes}
+use Rattle.surf_model.proofs.ContextLemmas.{first_answer}
 
 -- the spokes of a wheel as elements of a group in which the two ways round each quad are one
 pub record HasQuads {X : Type 0} (Same : X → X → Type 0) (mul : X → X → X) (inv : X → X) (element : ℕ → X) (degree : ℕ)
@@ -23,11 +24,6 @@ pub record HasQuads {X : Type 0} (Same : X → X → Type 0) (mul : X → X → 
       (quotient mul inv (element (add degree (partner a) 1)) (element (partner a)))
   pub around_vertex : (a : ℕ) → a < degree
       → Same (mul (inv (element (add degree (partner a) 1))) (element a)) (mul (inv (element (partner a))) (element (add degree a 1)))
-
-then_is : (f : List ℕ → Option (List ℕ)) (o : Option (List ℕ)) (v : List ℕ) → option_and_then f o ≡ Some v → (w : List ℕ) × (o ≡ Some w)
-    × (f w ≡ Some v)
-then_is f None v e = cc
-then_is f (Some w) v e = (w, refl, e)
 
 module _ {X : Type 0} (Same : X → X → Type 0) (mul : X → X → X) (inv : X → X) (one : X) (g : IsGroup Same mul inv one) (element : ℕ → X)
     (degree : ℕ) (place spoke_at partner : ℕ → ℕ) (q : HasQuads Same mul inv element degree place spoke_at partner) where
@@ -107,7 +103,7 @@ module _ {X : Type 0} (Same : X → X → Type 0) (mul : X → X → X) (inv : X
       let same : w ≡ v = cc in
       subst (λ (z : List ℕ). Same (product true (path w)) (product true (path z))) same (g.itself (product true (path w)))
   reached_reads five (step ∷ steps) w v h e =
-      let told = then_is (after_steps degree steps) (after_step degree step w) v e in
+      let told = first_answer (after_steps degree steps) (after_step degree step w) v e in
       let kept = keeps-step degree five step (state [] 0) w told.0 (start-sound degree five) h told.1 in
       g.on (product true (path w)) (product true (path told.0)) (product true (path v)) (step_reads step w told.0 h told.1)
       (reached_reads five steps told.0 v kept.0 told.2)

@@ -222,7 +222,7 @@ polygon_quads s split o t polygon c some = record {
         g.on p v r (g.turn v p (side_value a l)) (g.on v (loop_inv q) r v_is turned)
 
 -- two spokes by the labels of an edge are what the two labels are, and nothing where they are one
-labels_product : {X : Type 0} (Same : X → X → Type 0) (mul : X → X → X) (inv : X → X) (one : X) → IsGroup Same mul inv one
+pub labels_product : {X : Type 0} (Same : X → X → Type 0) (mul : X → X → X) (inv : X → X) (one : X) → IsGroup Same mul inv one
     → (element : ℕ → X) (a b c d : ℕ) (more : List ℕ)
     → Same (spoke_product mul inv one element true (spokes_by_labels a b c d ++ more))
     (mul (quotient mul inv (element a) (element b)) (spoke_product mul inv one element true more))

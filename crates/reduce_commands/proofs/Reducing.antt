@@ -1,11 +1,10 @@
 -- How the checks of `reduce` end.
-use Rattle.std.proofs.Common.{◌≡◌, ◌⊎◌, inl, inr, ℕ, ◌<◌, ◌≤◌, Bool, true, false, List, [], ◌∷◌, ◌++◌, length, refl, sym, ap, ◌∙◌, subst, append-nil, arith}
+use Rattle.std.proofs.Common.{◌≡◌, ◌⊎◌, inl, inr, ℕ, ◌<◌, ◌≤◌, Bool, true, false, List, [], ◌∷◌, ◌++◌, length, refl, sym, ap, ◌∙◌, subst, arith}
 use Rattle.std.specs.Prelude.{nat_lt, if◌then◌else◌, Option, Some, None, Result, Ok, Err, is_some, IfSome, IsSome, IsSomeAnd, All}
 use Rattle.std.specs.List.{list_all}
 use Rattle.std.proofs.lemmas.Bool.{and_parts, ltb-true, ltb-false}
 use Rattle.std.proofs.lemmas.List.Elements.{All-nil, All-cons, All-head, All-tail}
 use Rattle.surf_io.specs.Files.{Files, file_of}
-use Rattle.text_scan.proofs.EachLemmas.{before_ok}
 use Rattle.turn_words.specs.Canonical.{IsTurnWord, IsCanonicalOf}
 use Rattle.turn_words.proofs.Unique.{left, left-is-canonical, unique}
 use Rattle.walk_files.specs.NumberLists.{NumberLine}
@@ -146,35 +145,6 @@ pub so_far-fault : (degree : ℕ) (lines : List NumberLine) (line : NumberLine) 
     → IsSoFar degree (lines ++ line ∷ []) words (Some line.line)
 so_far-fault degree lines line words None none here h = range_behind degree lines line h.0 ∙ rw here refl
 so_far-fault degree lines line words (Some number) none here h = cc
-
--- the lines that were read are all
-all_read : (meaning : Result (List NumberLine) WalkFault) (lines : List NumberLine) (left : Result (List NumberLine) WalkFault)
-    → meaning ≡ before_ok lines left → left ≡ Ok [] → meaning ≡ Ok lines
-all_read meaning lines left e none = e ∙ rw none (ap Ok (append-nil lines))
-
-pub not_canonised-range : (degree : ℕ) (meaning : Result (List NumberLine) WalkFault) (lines : List NumberLine)
-    (left : Result (List NumberLine) WalkFault) (words : List (List ℕ)) (out : Option ℕ) (number : ℕ) (stop : Stop)
-    → meaning ≡ before_ok lines left → left ≡ Ok [] → out ≡ Some number → IsSoFar degree lines words out → Tells (range_line number) stop
-    → IsNotCanonised degree meaning stop
-not_canonised-range degree meaning lines left words out number stop e none is h told =
-    let here : IsSoFar degree lines words (Some number) = subst (IsSoFar degree lines words) is h in
-    rw (all_read meaning lines left e none) (number, here, told)
-
-pub not_canonised-fault : (degree : ℕ) (meaning : Result (List NumberLine) WalkFault) (lines : List NumberLine)
-    (left : Result (List NumberLine) WalkFault) (fault : WalkFault) (stop : Stop)
-    → meaning ≡ before_ok lines left → left ≡ Err fault → Tells (numbers_line inputs.TurnWords fault) stop
-    → IsNotCanonised degree meaning stop
-not_canonised-fault degree meaning lines left fault stop e is told =
-    let whole : meaning ≡ Err fault = e ∙ rw is refl in
-    rw whole told
-
--- what stops the reading of a line stops the canonising
-pub not_read : (degree : ℕ) (meaning : Result (List NumberLine) WalkFault) (lines : List NumberLine)
-    (left : Result (List NumberLine) WalkFault) (stop : Stop) → meaning ≡ before_ok lines left
-    → (stop ≡ stops.OutOfMemory) ⊎ ((fault : WalkFault) × (left ≡ Err fault) × Tells (numbers_line inputs.TurnWords fault) stop)
-    → (stop ≡ stops.OutOfMemory) ⊎ IsNotCanonised degree meaning stop
-not_read degree meaning lines left stop e (inl wanting) = inl wanting
-not_read degree meaning lines left stop e (inr h) = inr (not_canonised-fault degree meaning lines left h.0 stop e h.1 h.2)
 
 -- want of memory in reading has no text
 pub wanting_stop : (stop : Stop) → Tells NoText stop → stop ≡ stops.OutOfMemory

@@ -11,9 +11,6 @@ pub record IsWalkSoFar (mesh : FaceList) (walk : List ℕ) (count : ℕ) : Type 
   pub used : (k : ℕ) → k < count → IsTrue (is_used mesh (get_or walk k 0))
   pub edges : (k : ℕ) → k + 1 < count → IsTrue (is_edge mesh (get_or walk k 0) (get_or walk (k + 1) 0))
 
-pub walk_starts : (mesh : FaceList) (walk : List ℕ) → IsWalkSoFar mesh walk 0
-walk_starts mesh walk = record { used = λ k l. absurd (omega (arith, l)); edges = λ k l. absurd (omega (arith, l)) }
-
 pub walk_goes_on : (mesh : FaceList) (walk : List ℕ) (count : ℕ) → IsWalkSoFar mesh walk count → IsTrue (is_used mesh (get_or walk count 0))
     → (0 < count → IsTrue (is_edge mesh (get_or walk (count - 1) 0) (get_or walk count 0))) → IsWalkSoFar mesh walk (count + 1)
 walk_goes_on mesh walk count so used edge =
@@ -50,11 +47,3 @@ pub unused_is_no_walk : (mesh : FaceList) (walk : List ℕ) (k : ℕ) → k < le
     → IsWalk mesh walk → ⊥
 unused_is_no_walk mesh walk k l unused is =
     cc (unused, All-get_or (λ v. IsTrue (is_used mesh v)) walk k 0 l is.used)
-
-pub no_edge_is_no_walk : (mesh : FaceList) (walk : List ℕ) (k : ℕ) → 0 < k → k < length walk
-    → is_edge mesh (get_or walk (k - 1) 0) (get_or walk k 0) ≡ false → IsWalk mesh walk → ⊥
-no_edge_is_no_walk mesh walk k some l none is =
-    let at : k - 1 + 1 ≡ k = omega (arith, some) in
-    let edge = subst (λ n. IsTrue (is_edge mesh (get_or walk (k - 1) 0) (get_or walk n 0))) at
-    (is.edges (k - 1) (omega (arith, some, l))) in
-    cc (none, edge)

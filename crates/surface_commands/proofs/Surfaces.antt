@@ -1,22 +1,19 @@
 -- How the checks of a surface end.
-use Rattle.std.proofs.Common.{◌≡◌, inl, inr, ◌⊎◌, ℕ, ◌<◌, ◌≤◌, List, refl, sym, ap, subst, arith}
+use Rattle.std.proofs.Common.{◌≡◌, inl, inr, ℕ, ◌<◌, ◌≤◌, List, refl, sym, ap, subst, arith}
 use Rattle.std.specs.Prelude.{Option, Result, Ok, Err, IfOk, MatchResult, length}
 use Rattle.std.proofs.lemmas.Bool.{cases_lt}
 use Rattle.surf_io.specs.Files.{Files}
 use Rattle.surf_model.specs.FaceLists.{FaceList, IsFaceList}
 use Rattle.surf_model.specs.ComponentParts.{PartsView, AreParts}
-use Rattle.manifold_check.specs.Faults.{IsFirstFault}
-use Rattle.manifold_check.specs.declared.fault.SurfaceFault.{SurfaceFault}
-use Rattle.manifold_check.specs.declared.fault.SurfaceFault.TheVariants.{OutOfMemory}
 use Rattle.manifold_check.proofs.FaultLemmas.{one_fault, no_fault}
 use Rattle.manifold_check.proofs.OutcomeLemmas.{closed_or_fault}
-use Rattle.commands.proofs.Checking.{stops_first, stops_next, told_stops, memory_stops}
+use Rattle.commands.proofs.Checking.{stops_next, told_stops}
 use Rattle.closed_surfaces.proofs.SomeParts.{some_parts, same_count}
 use Rattle.commands.proofs.Sound.{IsSound, sound-then}
 use Rattle.commands.specs.Answers.{OfOddChain}
 use Rattle.commands.specs.Checks.{End, Refuse, Pass, Passes}
 use Rattle.surf_model.specs.OrientableSurfaces.{HasComponents}
-use Rattle.commands.specs.Inputs.{mesh_in, orientable}
+use Rattle.commands.specs.Inputs.{mesh_in}
 use Rattle.surface_commands.specs.SurfaceRefusals.{surface_line, components_line}
 use Rattle.commands.specs.Stops.{Stops, Tells}
 use Rattle.surface_commands.specs.SurfaceInput.{as_surface, closed, surface_in, of_few_components}
@@ -90,17 +87,6 @@ many_stop most mesh parts count stop h is many tells =
 pub few_pass : (most : ℕ) (mesh : FaceList) (parts : PartsView) (count : ℕ) → AreParts mesh parts → count ≡ length parts.components
     → count ≤ most → Passes (of_few_components most mesh) mesh
 few_pass most mesh parts count h is few = (count, subst (HasComponents mesh) (sym is) (has_components mesh parts h), few, refl)
-
--- a fault of the mesh, or want of memory
-fault_stops : (mesh : FaceList) (fault : SurfaceFault) (stop : Stop) → (fault ≡ OutOfMemory) ⊎ IsFirstFault mesh fault
-    → Tells (surface_line fault) stop → Stops (closed mesh) stop
-fault_stops mesh fault stop (inl wanting) h = memory_stops (closed mesh) stop
-    (subst (λ (f : SurfaceFault). Tells (surface_line f) stop) wanting h)
-fault_stops mesh fault stop (inr is) h = told_stops (surface_line fault) (closed mesh) stop (fault, is, refl) h
-
-pub none_stops : (mesh : FaceList) (fault : SurfaceFault) (stop : Stop) → (fault ≡ OutOfMemory) ⊎ IsFirstFault mesh fault
-    → Tells (surface_line fault) stop → Stops (as_surface mesh) stop
-none_stops mesh fault stop why h = stops_first (closed mesh) orientable stop (fault_stops mesh fault stop why h)
 
 -- a closed manifold with an odd chain
 pub turned_stops : (mesh : FaceList) (none : NoSurface) (chain : List ChainLink) → none ≡ NotOrientable chain → IsNoSurface mesh none

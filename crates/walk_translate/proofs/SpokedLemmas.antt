@@ -1,6 +1,6 @@
 -- Walks whose darts are looked up once: the spokes of their darts, and the states to which they lead.
-use Rattle.std.proofs.Common.{◌≡◌, ◌⊎◌, inl, inr, ℕ, zero, suc, ◌+◌, ◌*◌, ◌<◌, ◌≤◌, true, false, List, [], ◌∷◌, ◌++◌, length, get_or, take, refl, ap, sym, ◌∙◌, subst, arith, append_assoc, add-one}
-use Rattle.std.specs.Prelude.{◌↔◌, All, IsTrue, Option, Some, None, IfSome, MatchOption}
+use Rattle.std.proofs.Common.{◌≡◌, ◌⊎◌, inl, inr, ℕ, zero, suc, ◌+◌, ◌*◌, ◌<◌, ◌≤◌, true, false, List, [], ◌∷◌, ◌++◌, length, get_or, refl, ap, sym, ◌∙◌, subst, arith, add-one}
+use Rattle.std.specs.Prelude.{◌↔◌, All, IsTrue, Option, Some, None, IfSome}
 use Rattle.std.proofs.lemmas.List.{append-nil, get_or_append_left, get_or_default, length-append}
 use Rattle.std.proofs.Math.Seq.{get_or-append_seam}
 use Rattle.surf_model.specs.FaceLists.{FaceList, is_edge, is_used}
@@ -37,29 +37,11 @@ use Rattle.walk_translate.proofs.DecidingLemmas.{words_decide}
 
 -- ---- the spokes of a walk's darts
 
--- one dart more
-pub path_next : (mesh : FaceList) (labelling : LabellingView) (walk : List ℕ) (k : ℕ) → k + 1 < length walk
-    → quad_path mesh labelling (take (suc (suc k)) walk)
-    ≡ quad_path mesh labelling (take (suc k) walk) ++ spokes mesh labelling (get_or walk k 0) (get_or walk (suc k) 0)
-path_next mesh labelling [] k l = absurd (omega arith)
-path_next mesh labelling (u ∷ []) k l = absurd (omega arith)
-path_next mesh labelling (u ∷ v ∷ walk) zero l = append-nil (spokes mesh labelling u v)
-path_next mesh labelling (u ∷ v ∷ walk) (suc k) l =
-    ap (λ (rest : List ℕ). spokes mesh labelling u v ++ rest) (path_next mesh labelling (v ∷ walk) k (omega arith))
-    ∙ sym (append_assoc (spokes mesh labelling u v) (quad_path mesh labelling (take (suc k) (v ∷ walk)))
-    (spokes mesh labelling (get_or (v ∷ walk) k 0) (get_or walk k 0)))
-
 -- where one dart more leads
 pub led_on : {State : Type 0} (next : List ℕ → State → ℕ → State) (places : List ℕ) (s t u : State) (first second : List ℕ)
     → t ≡ led next places s first → u ≡ led next places t second → u ≡ led next places s (first ++ second)
 led_on {State} next places s t u first second e f =
     f ∙ ap (λ (v : State). led next places v second) e ∙ sym (led-append next places s first second)
-
--- the spokes that a dart was found to have
-pub listed : (found : Option (Spoke × Spoke)) (xs : List ℕ) → MatchOption found (xs ≡ []) (λ pair. xs ≡ pair.0.0 ∷ pair.1.0 ∷ [])
-    → xs ≡ spoke_list found
-listed None xs h = h
-listed (Some pair) xs h = h
 
 pub before_or_last : (k n : ℕ) → k < n + 1 → (k < n) ⊎ (k ≡ n)
 before_or_last k n l = grind arith

@@ -4,8 +4,9 @@ use Rattle.surf_model.specs.declared.names.DartName.{DartName}
 use Rattle.halfedge_map.specs.OrientedMeshes.{OrientedMesh}
 use Rattle.homology.specs.Tallies.{GrewBy, AreWithin}
 use Rattle.homology.proofs.SizeLemmas.{sent}
+use Rattle.homology.proofs.ChainVerdictLemmas.{within_more}
 use Rattle.homology_deciding.specs.FaceTrees.{IsWayUp, way_share}
-use Rattle.homology_deciding.proofs.LoopLemmas.{within_grown, within_more, way_grown, is_root, way_short}
+use Rattle.homology_deciding.proofs.LoopLemmas.{within_grown, way_grown, is_root, way_short}
 use Rattle.homology_deciding.proofs.WayLemmas.{way_push, way_small}
 use Rattle.homology_deciding.proofs.cutting.cross_up.Goals as goal
 use Rattle.homology_deciding.proofs.cutting.cross_up.Goals.{In-loop-step, After-loop-step}

@@ -7,8 +7,7 @@ use Rattle.halfedge_map.specs.OrientedMeshes.{OrientedMesh}
 use Rattle.homology.specs.Chains.{boundary}
 use Rattle.homology.specs.Tallies.{number_at, GrewBy, AreWithin}
 use Rattle.homology.specs.declared.certificate.TheConstants.{MOST_NUMBER}
-use Rattle.homology.proofs.ChainVerdictLemmas.{left_over}
-use Rattle.homology_deciding.proofs.LoopLemmas.{within_more}
+use Rattle.homology.proofs.ChainVerdictLemmas.{left_over, within_more}
 use Rattle.homology_deciding.proofs.ProofLemmas.{counts_small, forced_small}
 use Rattle.homology_deciding.proofs.deciding.prove.Goals as goal
 

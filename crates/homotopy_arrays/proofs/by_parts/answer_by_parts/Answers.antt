@@ -33,7 +33,6 @@ returns c =
     let pairs : List AskedPair = c.in_ok-pairs.pairs.items in
     let right : AreAnswers mesh pairs c.in_ok-decided.decided.items =
     subst (λ (ps : List AskedPair). AreAnswers mesh ps c.in_ok-decided.decided.items) c.deref.ensures.value c.in_ok-decided.ensures in
-    let none : Checked = Faulty (Empty 0) in
     both_ok c.answers_for.result _ _ _
     (λ given each answered. record {
       each = each;

@@ -3,8 +3,9 @@ use Rattle.std.proofs.lemmas.List.{length-take-le, length-drop, take_all, get_or
 use Rattle.chain_pool.specs.Chains.{list_of}
 use Rattle.chain_pool.proofs.Lists.{list_under-is}
 use Rattle.surf_model.specs.FaceLists.{face_at, next_corner, corners_from}
+use Rattle.surf_model.proofs.ReplacementLemmas.{length-corners_from}
 use Rattle.move_checker.proofs.Replacements.{pushed_more}
-use Rattle.move_checker.proofs.Ways.{corner_after, corner_after-more, get_or-corners_from, length-corners_from}
+use Rattle.move_checker.proofs.Ways.{corner_after, corner_after-more, get_or-corners_from}
 use Rattle.move_checker.proofs.edits.push_face.Goals as goal
 use Rattle.move_checker.proofs.edits.push_face.Goals.{After-push_after}
 

@@ -1,4 +1,5 @@
 use Rattle.std.proofs.Common.{◌≡◌, ℕ, ◌+◌, ◌≤◌, false, List, [], ◌∷◌, ◌++◌, length, sym, ap, ◌∙◌, subst, arith}
+use Rattle.std.proofs.lemmas.List.{nil_from_length}
 use Rattle.surf_model.specs.FaceLists.{FaceList, face_at, is_edge}
 use Rattle.surf_model.specs.Vertices.{numbers}
 use Rattle.surf_model.specs.declared.names.VertexName.{VertexName}
@@ -7,7 +8,7 @@ use Rattle.halfedge_map.specs.RotationSystems.{rotations_of, IsDartFrom}
 use Rattle.tree_cotree.specs.Splits.{in_cotree}
 use Rattle.move_lifting.specs.Tracks.{TrackView, last_of}
 use Rattle.move_lifting.specs.Crossings.{IsFaceBelow, IsCrossed}
-use Rattle.move_lifting.proofs.ExpandLemmas.{under_way, led_on, led_within, all_come, none_left, one_pending, length-numbers, next_edge, room_along, room_across, put_on_way, cross_on_way}
+use Rattle.move_lifting.proofs.ExpandLemmas.{under_way, led_on, led_within, all_come, one_pending, length-numbers, next_edge, room_along, room_across, put_on_way, cross_on_way}
 use Rattle.move_lifting.proofs.expanding.lead_on.Goals as goal
 use Rattle.move_lifting.proofs.expanding.lead_on.Goals.{in-Some-face_below+in_ok-cross-in-Some-face_below, in-None+in_ok-put-in-None, In_default, After-len}
 
@@ -29,7 +30,7 @@ loop-step-init c =
 
 -- nothing is pending any more
 none : (c : In_default) → c.loop-step.pending.items ≡ []
-none c = none_left c.loop-step.pending.items (omega (arith, c.in_default.ensures.cases.0))
+none c = nil_from_length c.loop-step.pending.items (omega (arith, c.in_default.ensures.cases.0))
 
 pub returns-in_default-clause-no_spur : goal.returns-in_default-clause-no_spur
 returns-in_default-clause-no_spur c = c.loop-step.invariant.under.no_spur
@@ -159,7 +160,7 @@ pub returns-clause-pending : goal.returns-clause-pending
 returns-clause-pending c =
     let done : darts_of c.args.on.now.surface.now ≤ c.loop-step._step =
     omega (arith, c.darts-step-end.ensures.count, c.loop-step-test.false) in
-    none_left c.loop-step.pending.items
+    nil_from_length c.loop-step.pending.items
     (sym (length-numbers c.loop-step.pending.items)
     ∙ all_come c.args.on.now.surface.now c.args.on.now.split.now c.requires.on.split c.args.behind c.args.to.0 c.args.track.now
     c.loop-step.track

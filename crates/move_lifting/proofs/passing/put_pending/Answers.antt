@@ -1,11 +1,10 @@
 use Rattle.std.proofs.Common.{◌≡◌, ℕ, ◌+◌, ◌++◌, List, length, subst, arith}
 use Rattle.std.specs.Prelude.{reverse}
-use Rattle.std.proofs.lemmas.List.{append-nil}
+use Rattle.std.proofs.lemmas.List.{append-nil, nil_from_length}
 use Rattle.surf_model.specs.Vertices.{numbers}
 use Rattle.surf_model.specs.declared.names.VertexName.{VertexName}
 use Rattle.move_lifting.specs.Loads.{StaysWithin}
 use Rattle.move_lifting.specs.Tracks.{GoesOn}
-use Rattle.move_lifting.proofs.ExpandLemmas.{none_left}
 use Rattle.move_lifting.proofs.PassLemmas.{put_more}
 use Rattle.move_lifting.proofs.passing.put_pending.Goals as goal
 
@@ -29,7 +28,7 @@ returns-clause-leads c = λ mesh.
     subst (λ (l : List ℕ). GoesOn mesh c.args.behind begun c.args.track.now.list l c.loop-next.track.list)
     (append-nil c.loop-next.track.walk)
     (subst (λ (l : List VertexName). GoesOn mesh c.args.behind begun c.args.track.now.list (c.loop-next.track.walk ++ reverse (numbers l))
-    c.loop-next.track.list) (none_left c.loop-next.pending.items few) (c.loop-next.invariant.so_far.leads mesh))
+    c.loop-next.track.list) (nil_from_length c.loop-next.pending.items few) (c.loop-next.invariant.so_far.leads mesh))
 
 pub returns-clause-within : goal.returns-clause-within
 returns-clause-within c = λ s split.
@@ -38,5 +37,5 @@ returns-clause-within c = λ s split.
     subst (λ (l : List ℕ). StaysWithin s split c.args.behind begun c.args.track.now.list l c.loop-next.track.list)
     (append-nil c.loop-next.track.walk)
     (subst (λ (l : List VertexName). StaysWithin s split c.args.behind begun c.args.track.now.list
-    (c.loop-next.track.walk ++ reverse (numbers l)) c.loop-next.track.list) (none_left c.loop-next.pending.items few)
+    (c.loop-next.track.walk ++ reverse (numbers l)) c.loop-next.track.list) (nil_from_length c.loop-next.pending.items few)
     (c.loop-next.invariant.so_far.within s split))

@@ -6,11 +6,11 @@ use Rattle.chain_pool.proofs.Lists.{list_under-is}
 use Rattle.surf_model.specs.FaceLists.{face_at, corners_from}
 use Rattle.surf_model.specs.Moves.{replaced}
 use Rattle.surf_model.specs.declared.moves.Move.TheVariants.{Across}
+use Rattle.surf_model.proofs.ReplacementLemmas.{length-corners_from}
 use Rattle.move_checker.specs.Refusals.{step_of}
 use Rattle.move_checker.specs.Tapes.{PeakedWalk}
 use Rattle.move_checker.specs.declared.fault.MoveFault.TheVariants.{Place, NotOnFace, OverPeak}
 use Rattle.move_checker.proofs.Laid.{live_from}
-use Rattle.move_checker.proofs.Ways.{length-corners_from}
 use Rattle.move_checker.proofs.Replacements.{length-replaced}
 use Rattle.move_checker.proofs.Steps.{across_misplaced, across_off_face, across_allowed, within_peak, over_peak}
 use Rattle.move_checker.proofs.tape.Tape.go_across.Goals as goal

@@ -1,12 +1,9 @@
-use Rattle.std.proofs.Common.{◌≡◌, ℕ, ◌/◌, ◌%◌, List, [], ◌∷◌, length, refl, ap, ◌∙◌, arith}
+use Rattle.std.proofs.Common.{◌≡◌, ℕ, ◌/◌, ◌%◌, List, [], length, ap, ◌∙◌, arith}
 use Rattle.std.proofs.lemmas.Bool.{eq-eqb, eqb-true}
+use Rattle.std.proofs.lemmas.List.{nil_from_length}
 use Rattle.move_lifting.specs.Reductions.{spurs_of}
 use Rattle.move_lifting.proofs.ReductionLemmas.{steps_long}
 use Rattle.move_lifting.proofs.reducing.Reduction.leaves_nothing.Goals as goal
-
-none_long : (xs : List ℕ) → length xs ≡ 0 → xs ≡ []
-none_long [] e = refl
-none_long (x ∷ xs) e = absurd (omega arith)
 
 pub returns-then-spokes-eq0 : goal.returns-then-spokes-eq0
 returns-then-spokes-eq0 c = λ end leads.
@@ -14,7 +11,7 @@ returns-then-spokes-eq0 c = λ end leads.
     let spurs : c.spurs_in.result ≡ spurs_of c.args.self.now.steps.items = c.spurs_in.ensures ∙ ap spurs_of c.deref.ensures.value in (
       (λ half.
           let same : c.spurs_in.result ≡ c.len-spokes.result / 2 = eqb-true c.spurs_in.result (c.len-spokes.result / 2) half in
-          none_long end (omega (arith, long, spurs, same, c.len-spokes.ensures, c.if-spokes-eq0.true))),
+          nil_from_length end (omega (arith, long, spurs, same, c.len-spokes.ensures, c.if-spokes-eq0.true))),
       (λ none.
           eq-eqb c.spurs_in.result (c.len-spokes.result / 2)
           (omega (arith, long, spurs, ap (λ (l : List ℕ). length l) none, c.len-spokes.ensures))),

@@ -6,8 +6,9 @@ use Rattle.turn_words.specs.FormLaws.{led}
 use Rattle.labellings.specs.QuadPaths.{spokes, quad_path}
 use Rattle.labellings.specs.Spokes.{spoke_list}
 use Rattle.labellings.specs.GoodLabellings.{IsGood}
+use Rattle.labellings.proofs.PathLemmas.{path-next}
 use Rattle.walk_translate.proofs.LabelLemmas.{cut_is_good}
-use Rattle.walk_translate.proofs.SpokedLemmas.{before_or_last, kept_spokes, led_on, no_walk, path_next, spokes_below, told_no, told_yes, walk_of_edges}
+use Rattle.walk_translate.proofs.SpokedLemmas.{before_or_last, kept_spokes, led_on, no_walk, spokes_below, told_no, told_yes, walk_of_edges}
 use Rattle.walk_translate.proofs.spoked.Spoked.fold.Goals.{After-along}
 use Rattle.walk_translate.proofs.spoked.Spoked.fold.Goals as goal
 
@@ -60,7 +61,7 @@ loop-dart-preserved g c =
     ∙ ap (spokes mesh labelling c.at-from.result.0) (sym head)
     ∙ found g (goal.at.loop-dart-preserved g c).After-along in
     let more : quad_path mesh labelling (take (suc (k + 1)) walk) ≡ so_far ++ spoke_list c.along.result =
-    ap (λ n. quad_path mesh labelling (take (suc n) walk)) higher ∙ path_next mesh labelling walk k few
+    ap (λ n. quad_path mesh labelling (take (suc n) walk)) higher ∙ path-next mesh labelling walk k few
     ∙ ap (λ (l : List ℕ). so_far ++ l) dart in
     let here : after ≡ led next places before (spoke_list c.along.result) =
     c.in_ok-put_spokes.ensures.state ∙ ap (λ (l : List ℕ). led next l before (spoke_list c.along.result)) c.wheel.ensures in
