@@ -1,0 +1,54 @@
+-- The corners of a face: as many steps back, once round, and the steps that lead from one to another.
+use Rattle.std.proofs.Common.{◌≡◌, inl, inr, ℕ, zero, suc, ◌+◌, ◌-◌, ◌<◌, Bool, true, false, not, List, [], ◌∷◌, ◌++◌, length, get_or, refl, ap, ◌∙◌, arith}
+use Rattle.std.proofs.lemmas.Bool.{cases_lt}
+use Rattle.std.proofs.lemmas.Bool.Decides.{nat_tests}
+use Rattle.surf_model.specs.FaceLists.{next_corner, corners_from}
+use Rattle.surf_model.proofs.EdgeLemmas.{step_within}
+use Rattle.surf_model.proofs.RoundLemmas.{corner_after, rises, rises_past, meet}
+use Rattle.walk_actions.specs.Actions.{beyond}
+
+pub next_back : (rising : Bool) (m t : ℕ) → t < m → next_corner (not rising) m (next_corner rising m t) ≡ t
+next_back true m t l = grind (arith, nat_tests)
+next_back false m t l = grind (arith, nat_tests)
+
+pub after_within : (rising : Bool) (m t k : ℕ) → t < m → corner_after rising m t k < m
+after_within rising m t zero l = l
+after_within rising m t (suc k) l = after_within rising m (next_corner rising m t) k (step_within rising m t l)
+
+-- the last of the steps
+pub after_more : (rising : Bool) (m t k : ℕ) → corner_after rising m t (suc k) ≡ next_corner rising m (corner_after rising m t k)
+after_more rising m t zero = refl
+after_more rising m t (suc k) = after_more rising m (next_corner rising m t) k
+
+-- as many steps back
+pub after_back : (rising : Bool) (m t k : ℕ) → t < m → corner_after (not rising) m (corner_after rising m t k) k ≡ t
+after_back rising m t zero l = refl
+after_back rising m t (suc k) l =
+    let next : ℕ = next_corner rising m t in
+    after_more (not rising) m (corner_after rising m next k) k
+    ∙ ap (next_corner (not rising) m) (after_back rising m next k (step_within rising m t l)) ∙ next_back rising m t l
+
+pub once_round : (rising : Bool) (m t : ℕ) → t < m → corner_after rising m t m ≡ t
+once_round rising m t l =
+    let none : m - m ≡ 0 = omega arith in
+    meet rising m t m l (omega arith) ∙ ap (corner_after (not rising) m t) none
+
+-- so many steps lead from a corner to another
+pub steps_to : (m t to : ℕ) → t < m → to < m → (k : ℕ) × (corner_after true m t k ≡ to)
+steps_to m t to l b =
+    elim (cases_lt to t) [
+      | inl less ↦ (to + m - t, rises_past m t (to + m - t) l (omega arith) (omega arith) ∙ omega arith)
+      | inr more ↦ (to - t, rises m t (to - t) l (omega arith) ∙ omega arith)
+    ]
+
+pub corners_beyond : (ring : List ℕ) (rising : Bool) (t k : ℕ) → corners_from ring rising t k ≡ get_or ring t 0 ∷ beyond ring rising t k
+corners_beyond ring rising t zero = refl
+corners_beyond ring rising t (suc k) =
+    ap (λ (l : List ℕ). get_or ring t 0 ∷ l) (corners_beyond ring rising (next_corner rising (length ring) t) k)
+
+pub beyond_more : (ring : List ℕ) (rising : Bool) (t k : ℕ)
+    → beyond ring rising t (suc k) ≡ beyond ring rising t k ++ get_or ring (corner_after rising (length ring) t (suc k)) 0 ∷ []
+beyond_more ring rising t zero = refl
+beyond_more ring rising t (suc k) =
+    let next : ℕ = next_corner rising (length ring) t in
+    ap (λ (l : List ℕ). get_or ring next 0 ∷ l) (beyond_more ring rising next k)
